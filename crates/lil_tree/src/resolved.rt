@@ -1,0 +1,28 @@
+use crate::TwoOp;
+use lil_base::{Items, Name};
+
+/// An expression with each name replaced by its thing, and each constant expression by its value.
+/// A variable is its number among the module's.
+#[derive(Drop)]
+pub enum RExpr {
+    Number(u16),
+    Character(u8),
+    Variable(u16),
+    Two(TwoOp, Box<RExpr>, Box<RExpr>),
+    Chr(Box<RExpr>),
+}
+
+/// A resolved statement.
+#[derive(Drop)]
+pub enum RStmt {
+    Assign(u16, RExpr),
+    Write(RExpr),
+}
+
+/// A resolved program module.
+#[derive(Drop)]
+pub struct RModule {
+    pub name: Name,
+    pub variables: Items<Name>,
+    pub body: Items<RStmt>,
+}

@@ -1,0 +1,46 @@
+use lil_base::{Items, Name};
+
+/// An operator with two operands.
+#[derive(Clone, Copy, Debug, PartialEq, Eq)]
+pub enum TwoOp {
+    Plus,
+    Minus,
+}
+
+/// An operand of a sum.
+#[derive(Debug, Drop)]
+pub enum Operand {
+    Number(u16),
+    Named(Name),
+}
+
+/// An operator and the operand behind it.
+#[derive(Debug, Drop)]
+pub struct More {
+    pub operator: TwoOp,
+    pub operand: Operand,
+}
+
+/// A sum of operands, from left to right.
+#[derive(Debug, Drop)]
+pub struct Sum {
+    pub first: Operand,
+    pub rest: Items<More>,
+}
+
+/// A statement: an assignment to a variable, or `Write(CHR(sum))`.
+#[derive(Debug, Drop)]
+pub enum Stmt {
+    Assign(Name, Sum),
+    Write(Sum),
+}
+
+/// A straight program module as it is written. No variables means no VAR part, and no statements no BEGIN.
+#[derive(Debug, Drop)]
+pub struct StraightUnit {
+    pub name: Name,
+    pub imports_write: bool,
+    pub variables: Items<Name>,
+    pub body: Items<Stmt>,
+    pub end_name: Name,
+}
