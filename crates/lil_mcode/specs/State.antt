@@ -1,0 +1,55 @@
+-- The state of the machine, without its count of steps.
+use Rattle.std.specs.Prelude.{ℕ, zero, suc, ◌+◌, ◌-◌, List, [], ◌∷◌, ◌++◌, length, take, drop, replicate, Bool, Option, None, Some, slice_get}
+
+-- A module that is loaded. The first of its procedures is the body, which has no name; each has its entry in the code.
+-- Its data frame has so many words from the base on.
+pub record Module : Type 0 where
+  pub name : List ℕ
+  pub procedures : List (ℕ × Option (List ℕ))
+  pub code : List ℕ
+  pub base : ℕ
+  pub words : ℕ
+
+pub record State : Type 0 where
+  -- the k-th has number k, from 1
+  pub modules : List Module
+  -- the number of the running module, and the place of the next instruction in its code
+  pub running : ℕ
+  pub place : ℕ
+  -- the expression stack, its top first
+  pub stack : List ℕ
+  pub store : List ℕ
+  -- the running frame, the first free word of the stack of frames, its base and its limit
+  pub frame : ℕ
+  pub top : ℕ
+  pub base : ℕ
+  pub limit : ℕ
+  -- the bodies of the level that are to run behind the one at hand
+  pub bodies : List ℕ
+  -- whether the first body has its mark
+  pub marked : Bool
+
+-- the module with this number
+abbrev pub module_at : List Module → ℕ → Option Module
+module_at modules zero = None
+module_at modules (suc k) = slice_get modules k
+
+-- words come to a place of the store
+unfoldable pub spliced : List ℕ → ℕ → List ℕ → List ℕ
+spliced store a words = take a store ++ (words ++ drop (a + length words) store)
+
+-- So many zeros. It doesn't unfold, since its number may be large.
+unfoldable pub zeros : ℕ → List ℕ
+zeros n = replicate n 0
+
+-- the words from one place to another become zero
+abbrev pub cleared : List ℕ → ℕ → ℕ → List ℕ
+cleared store from to = spliced store from (zeros (to - from))
+
+-- the entry of the body of a module
+abbrev pub first_entry : List (ℕ × Option (List ℕ)) → ℕ
+first_entry [] = 0
+first_entry (p ∷ ps) = p.0
+
+abbrev pub body_entry : Module → ℕ
+body_entry m = first_entry m.procedures

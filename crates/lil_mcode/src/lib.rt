@@ -1,0 +1,8 @@
+//! The M-code processor: its store, its code, its instructions and its steps.
+#![tactic(auto)]
+
+mod instr;
+mod machine;
+
+pub use instr::Instr;
+pub use machine::Event;
