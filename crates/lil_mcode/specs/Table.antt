@@ -2,8 +2,7 @@
 use Rattle.std.specs.Prelude.{ℕ, ◌+◌, pos, List, [], ◌∷◌, length, Option, Some, None, Result, Ok, Err, Bool, true, false, ◌&&◌, nat_lt, nat_le, ◌==◌, if◌then◌else◌, slice_index, slice_set, is_some}
 use Rattle.lil_base.specs.Words.{Whole, Cardinal, sum, difference, number_of, word_of}
 use Rattle.lil_base.specs.declared.fault.ArithFault.{ArithFault}
-use Rattle.lil_base.specs.declared.fault.ArithFault.TheVariants as arith_fault
-use Rattle.lil_base.specs.declared.fault.TrapKind.{TrapKind}
+use Rattle.lil_base.specs.Traps.{arith_trap}
 use Rattle.lil_base.specs.declared.fault.TrapKind.TheVariants as trap
 use Rattle.lil_base.specs.declared.fault.LimitKind.TheVariants as limit
 use Rattle.lil_mcode.specs.declared.instr.Instr.{Instr}
@@ -29,10 +28,6 @@ push_row w q s = if nat_lt (length s.stack) 16 then (Went, going s q (w ∷ s.st
 abbrev pub on_one : State → List ℕ → (ℕ → List ℕ → Event × State) → Event × State
 on_one s [] f = bad s
 on_one s (x ∷ rest) f = f x rest
-
-abbrev pub arith_trap : ArithFault → TrapKind
-arith_trap arith_fault.Overflow = trap.Overflow
-arith_trap arith_fault.DivZero = trap.Divisor
 
 -- the result of an operator in place of its two words, or its trap
 abbrev pub result_row : State → ℕ → List ℕ → Result ℤ ArithFault → Event × State

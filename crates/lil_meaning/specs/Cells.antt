@@ -1,0 +1,69 @@
+-- Cells: what each variable and object holds, by its root and the fields and positions from there.
+use Rattle.std.specs.Prelude.{ℕ, zero, suc, ◌==◌, Bool, true, false, ◌&&◌, List, [], ◌∷◌, ◌++◌, Option, Some, None, slice_get, if◌then◌else◌}
+use Rattle.lil_tree.specs.Kinds.{Kind}
+use Rattle.lil_tree.specs.Scalars.{Scalar, Nothing, zero_of}
+use Rattle.lil_tree.specs.Resolved.{Resolved}
+
+-- a variable of a module that is loaded, a variable of an activation, or an object
+pub data Root : Type 0 where
+  Global : (m x : ℕ) → Root
+  Local : (a x : ℕ) → Root
+  Object : (o : ℕ) → Root
+
+pub record Place : Type 0 where
+  pub root : Root
+  pub path : List ℕ
+
+abbrev pub Cells : Type 0
+Cells = Root → List ℕ → Scalar
+
+-- all scalars under a place, by the rest of their paths
+abbrev pub Under : Type 0
+Under = List ℕ → Scalar
+
+abbrev pub same_root : Root → Root → Bool
+same_root (Global m x) (Global n y) = (m == n) && (x == y)
+same_root (Local a x) (Local b y) = (a == b) && (x == y)
+same_root (Object m) (Object n) = m == n
+same_root _ _ = false
+
+-- what is left of a path behind another
+abbrev pub rest_behind : List ℕ → List ℕ → Option (List ℕ)
+rest_behind [] q = Some q
+rest_behind (x ∷ p) [] = None
+rest_behind (x ∷ p) (y ∷ q) = if x == y then rest_behind p q else None
+
+abbrev pub at_rest : Under → Scalar → Option (List ℕ) → Scalar
+at_rest u old None = old
+at_rest u old (Some rest) = u rest
+
+-- all scalars under a place become new ones
+abbrev pub stored : Cells → Place → Under → Cells
+stored cells p u r q = if same_root p.root r then at_rest u (cells r q) (rest_behind p.path q) else cells r q
+
+-- the scalar at a place
+abbrev pub got : Cells → Place → Scalar
+got cells p = cells p.root p.path
+
+-- one scalar as all that is under its place
+abbrev pub alone : Scalar → Under
+alone v q = v
+
+abbrev pub zero_by : Option Kind → Scalar
+zero_by None = Nothing
+zero_by (Some k) = zero_of k
+
+-- the module that is loaded with this number, from 1
+abbrev pub loaded_at : List Resolved → ℕ → Option Resolved
+loaded_at modules zero = None
+loaded_at modules (suc n) = slice_get modules n
+
+abbrev pub variables_of : Option Resolved → List Kind
+variables_of None = []
+variables_of (Some m) = m.variables
+
+-- fresh cells: zero of its kind in each variable
+abbrev pub fresh_cells : List Resolved → Cells
+fresh_cells modules (Global m x) q = zero_by (slice_get (variables_of (loaded_at modules m)) x)
+fresh_cells modules (Local a x) q = Nothing
+fresh_cells modules (Object o) q = Nothing

@@ -1,0 +1,85 @@
+-- What is left to do. Where an item has a hole, it stands as · here.
+use Rattle.std.specs.Prelude.{ℕ, List, Option, Bool}
+use Rattle.lil_base.specs.Words.{Whole}
+use Rattle.lil_base.specs.declared.fault.TrapAt.{TrapAt}
+use Rattle.lil_tree.specs.declared.syntax.TwoOp.{TwoOp}
+use Rattle.lil_tree.specs.Kinds.{Kind}
+use Rattle.lil_tree.specs.Scalars.{Scalar}
+use Rattle.lil_tree.specs.Resolved.{Designator, Function, Expression, Argument, Statement}
+use Rattle.lil_meaning.specs.Cells.{Cells, Place}
+use Rattle.lil_meaning.specs.World.{World}
+
+-- what stands in a hole: a scalar or a place
+pub data Datum : Type 0 where
+  Scalars : (v : Scalar) → Datum
+  Places : (p : Place) → Datum
+
+-- the items with a hole
+pub data Hole : Type 0 where
+  -- the scalar at ·
+  Get : Hole
+  -- e goes to the place ·, of this kind
+  SetTo : (k : Kind) (e : Expression) → Hole
+  -- · goes to the place
+  StoreAt : (p : Place) (k : Kind) → Hole
+  -- · op f
+  LeftOf : (o : TwoOp) (t : Whole) (f : Expression) → Hole
+  -- v op ·
+  RightOf : (o : TwoOp) (t : Whole) (v : Scalar) → Hole
+  -- a standard function of ·
+  ApplyTo : (f : Function) → Hole
+  -- · is the next argument of the request
+  Pass : (r : ℕ) (k : Kind) (done : List Scalar) (left : List Argument) → Hole
+
+-- the items without one
+pub data Task : Type 0 where
+  Do : (s : Statement) → Task
+  -- the arguments of a request that are done, and those that are left
+  Passing : (r : ℕ) (done : List Scalar) (left : List Argument) → Task
+  -- closes the items of an activation
+  End : (a : ℕ) → Task
+
+pub data Item : Type 0 where
+  Value : (d : Datum) → Item
+  Evaluate : (e : Expression) → Item
+  PlaceOf : (d : Designator) → Item
+  Fill : (h : Hole) → Item
+  Perform : (t : Task) → Item
+
+-- a running procedure: its module's number, its own number, and the activation that surrounds it
+pub record Activation : Type 0 where
+  pub owner : ℕ
+  pub procedure : ℕ
+  pub outer : Option ℕ
+
+-- a workspace's words, and the words that NEWPROCESS gave to the coroutine that it carries
+pub record Workspace : Type 0 where
+  pub size : ℕ
+  pub carries : Option ℕ
+
+-- a coroutine that doesn't run
+pub record Parked : Type 0 where
+  pub number : ℕ
+  pub level : ℕ
+  pub items : List Item
+
+pub data Phase : Type 0 where
+  Going : Phase
+  -- level 1 has trapped, and is to be closed
+  Closing : (t : TrapAt) → Phase
+  Ended : Phase
+  Trapped : (t : TrapAt) → Phase
+
+pub record Source : Type 0 where
+  pub cells : Cells
+  -- by their numbers
+  pub activations : List Activation
+  pub objects : ℕ
+  pub workspaces : List Workspace
+  -- the running coroutine: its number and its items
+  pub running : ℕ
+  pub items : List Item
+  pub parked : List Parked
+  pub level : ℕ
+  pub world : World
+  pub phase : Phase

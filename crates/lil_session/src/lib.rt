@@ -1,0 +1,2 @@
+//! The top call: reading, translating and running programs.
+#![tactic(auto)]
