@@ -1,3 +1,6 @@
 pub mod Sizes
 pub mod Rows
 pub mod Emitting
+pub mod Running
+pub mod Words
+pub mod Outcome

@@ -1,0 +1,212 @@
+-- How an answer, what the devices hold and their counts go together.
+use Rattle.std.specs.Prelude.{◌≡◌, ◌≢◌, ◌⊎◌, ℕ, ◌≤◌, Bool, true, false, List, [], ◌∷◌, ◌++◌, Option, Some, None, ⊤}
+use Rattle.std.specs.FinMap.{get}
+use Rattle.lil_base.specs.declared.fault.SourceFault.{SourceFault}
+use Rattle.lil_tree.specs.Resolved.{Resolved}
+use Rattle.lil_tree.specs.Straight.{IsStraight}
+use Rattle.lil_meaning.specs.World.{World}
+use Rattle.lil_meaning.specs.Items.{Source, Phase, Going, Closing, Ended, Trapped}
+use Rattle.lil_meaning.specs.Runs.{src}
+use Rattle.lil_volume.specs.Causes.{Rose}
+use Rattle.lil_volume.specs.Told.{Files, with_file, followed_by, FollowedByPrefix}
+use Rattle.lil_session.specs.declared.status.Status.{Status}
+use Rattle.lil_session.specs.declared.status.Status.TheVariants as a
+use Rattle.lil_session.specs.Words.{mod_file}
+
+-- the exit status of an answer
+abbrev pub code_of : Status → ℕ
+code_of a.Done = 0
+code_of a.Usage = 1
+code_of (a.NoFile _) = 2
+code_of (a.SourceFault _) = 3
+code_of (a.LoadRefused _) = 4
+code_of (a.Trapped _) = 5
+code_of (a.Limit _) = 6
+code_of a.StepsSpent = 7
+code_of a.VolumeFault = 8
+code_of a.KeyFault = 9
+code_of a.ScreenFault = 10
+code_of a.ChannelFault = 11
+code_of a.ReportFault = 12
+code_of a.Memory = 13
+code_of (a.BadCode _) = 14
+
+-- a device's fault or want of memory
+abbrev pub gives_way : Status → Bool
+gives_way a.VolumeFault = true
+gives_way a.KeyFault = true
+gives_way a.ScreenFault = true
+gives_way a.ChannelFault = true
+gives_way a.Memory = true
+gives_way _ = false
+
+-- an answer that is none of these, nor the report's fault
+abbrev pub settled : Status → Bool
+settled a.VolumeFault = false
+settled a.KeyFault = false
+settled a.ScreenFault = false
+settled a.ChannelFault = false
+settled a.ReportFault = false
+settled a.Memory = false
+settled _ = true
+
+-- the fault of a text whose form isn't built yet: number 90 at the text's start
+abbrev pub not_built : SourceFault
+not_built = record { number = 90; place = record { line = 1; column = 1; offset = 0 }; about = None; first = 0; second = 0 }
+
+-- This fault is answered only where the count rose, and the count rises only where the answer is this fault or want of memory.
+pub record Blames (fault : Status) (before now : ℕ) (status : Status) : Type 0 where
+  pub later : before ≤ now
+  pub rose : status ≡ fault → Rose before now
+  pub quiet : (now ≡ before) ⊎ ((status ≡ fault) ⊎ (status ≡ a.Memory))
+
+-- The report's count rises only where the answer is its fault or gives way.
+pub record ReportBlames (before now : ℕ) (status : Status) : Type 0 where
+  pub later : before ≤ now
+  pub rose : status ≡ a.ReportFault → Rose before now
+  pub quiet : settled status ≡ true → now ≡ before
+
+-- what the devices hold where they tell, and how often each failed
+pub record Devices : Type 0 where
+  pub files : Option Files
+  pub volume_faults : ℕ
+  pub keys : Option (List ℕ)
+  pub key_faults : ℕ
+  pub shown : Option (List ℕ)
+  pub screen_faults : ℕ
+
+abbrev pub devices : {V K S : Type 0} → (V → Option Files) → (V → ℕ) → (K → Option (List ℕ)) → (K → ℕ) → (S → Option (List ℕ)) → (S → ℕ) → V → K → S → Devices
+devices files volume_faults left key_faults written screen_faults volume keys screen = record {
+  files = files volume;
+  volume_faults = volume_faults volume;
+  keys = left keys;
+  key_faults = key_faults keys;
+  shown = written screen;
+  screen_faults = screen_faults screen;
+}
+
+-- the world as a run finds it: the keys and files that are told, and nothing shown or written yet
+pub record Finds (files : Option Files) (keys : Option (List ℕ)) (w : World) : Type 0 where
+  pub files_told : files ≡ Some w.files
+  pub keys_told : keys ≡ Some w.keys
+  pub nothing_shown : w.screen ≡ []
+  pub nothing_written : w.writes ≡ []
+  pub no_stream : w.streams ≡ []
+  pub no_channel : w.channels ≡ []
+
+-- the state of the meaning of a program module after n steps
+abbrev pub state_of : Resolved → World → ℕ → Source
+state_of p w n = src (p ∷ []) w n
+
+-- The answer that the end of a meaning is: Done where it ended, and the trap where it trapped.
+abbrev pub EndsSo : Phase → Status → Type 0
+EndsSo Going s = ⊥
+EndsSo (Closing t) s = ⊥
+EndsSo Ended s = s ≡ a.Done
+EndsSo (Trapped t) s = s ≡ a.Trapped t
+
+-- some state of the meaning has this end
+pub record MeansAnswer (p : Resolved) (w : World) (s : Status) : Type 0 where
+  pub steps : ℕ
+  pub ends : EndsSo (state_of p w steps).phase s
+
+-- the answer of a text: its meaning's where it is straight, else fault 90
+abbrev pub TextAnswers : List ℕ → List ℕ → World → Status → Type 0
+TextAnswers file text w s =
+    (((p : Resolved) → IsStraight file text p → ⊥) × (s ≡ a.SourceFault not_built))
+    ⊎ ((p : Resolved) × IsStraight file text p × MeansAnswer p w s)
+
+abbrev pub SourceAnswers : List ℕ → World → Option (List ℕ) → Status → Type 0
+SourceAnswers file w None s = s ≡ a.NoFile (mod_file file)
+SourceAnswers file w (Some text) s = TextAnswers file text w s
+
+-- The answer of the command in a world, by the name of the module that it runs: Usage where the words name none.
+abbrev pub Answers : Option (List ℕ) → World → Status → Type 0
+Answers None w s = s ≡ a.Usage
+Answers (Some file) w s = SourceAnswers file w (get w.files (mod_file file)) s
+
+-- the source of the module is there, straight, and means p
+pub record Runs (name : Option (List ℕ)) (w : World) (p : Resolved) : Type 0 where
+  pub file : List ℕ
+  pub named : name ≡ Some file
+  pub text : List ℕ
+  pub there : get w.files (mod_file file) ≡ Some text
+  pub straight : IsStraight file text p
+
+-- files after a list of writes
+abbrev pub with_writes : Option Files → List (List ℕ × List ℕ) → Option Files
+with_writes files [] = files
+with_writes files (x ∷ xs) = with_writes (with_file files x.0 x.1) xs
+
+-- an answer that says how a run ended agrees with the state of the meaning
+abbrev pub Allowed : Status → Phase → Type 0
+Allowed a.Done e = e ≡ Ended
+Allowed (a.Trapped t) e = e ≡ Trapped t
+Allowed _ e = Unit {0}
+
+-- THE HEADLINE. What was shown is what a state of the meaning has shown; where the screen failed, a prefix of the piece that the
+-- meaning adds next may stand behind it. The keys and the files are that state's. The answer Done comes only where that state has
+-- ended, and a trap only where it has trapped with it.
+pub record Headline (p : Resolved) (w : World) (before after : Devices) (status : Status) : Type 0 where
+  pub n : ℕ
+  pub piece : List ℕ
+  pub later : ℕ
+  pub adds : (state_of p w later).world.screen ≡ (state_of p w n).world.screen ++ piece
+  pub prefix : FollowedByPrefix (followed_by before.shown (state_of p w n).world.screen) piece after.shown
+  pub whole : status ≢ a.ScreenFault → after.shown ≡ followed_by before.shown (state_of p w n).world.screen
+  pub keys : after.keys ≡ Some (state_of p w n).world.keys
+  pub files : after.files ≡ with_writes before.files (state_of p w n).world.writes
+  pub ends : Allowed status (state_of p w n).phase
+
+-- the same of the screen alone
+pub record Shows (p : Resolved) (w : World) (old new : Option (List ℕ)) (status : Status) : Type 0 where
+  pub n : ℕ
+  pub piece : List ℕ
+  pub later : ℕ
+  pub adds : (state_of p w later).world.screen ≡ (state_of p w n).world.screen ++ piece
+  pub prefix : FollowedByPrefix (followed_by old (state_of p w n).world.screen) piece new
+  pub whole : status ≢ a.ScreenFault → new ≡ followed_by old (state_of p w n).world.screen
+  pub keys : (state_of p w n).world.keys ≡ w.keys
+  pub writes : (state_of p w n).world.writes ≡ w.writes
+  pub ends : Allowed status (state_of p w n).phase
+
+-- the answers of a run within a budget of steps
+abbrev pub IsRunAnswer : Status → Type 0
+IsRunAnswer a.Done = ⊤
+IsRunAnswer (a.Trapped t) = ⊤
+IsRunAnswer a.ScreenFault = ⊤
+IsRunAnswer a.StepsSpent = ⊤
+IsRunAnswer a.Memory = ⊤
+IsRunAnswer _ = ⊥
+
+-- A command was done as far as the devices go, and its lines are still to be written.
+pub record Ran (name : Option (List ℕ)) (steps : ℕ) (before after : Devices) (status : Status) : Type 0 where
+  -- unless a device failed, memory was refused or the steps were spent, the answer is the command's
+  pub answer : (w : World) → Finds before.files before.keys w → settled status ≡ true → (status ≡ a.StepsSpent) ⊎ Answers name w status
+  -- the steps are spent only where they are fewer than the bytes of the longest code
+  pub spent : status ≡ a.StepsSpent → steps ≤ 32767
+  -- usage comes exactly where the words name no module
+  pub usage_only : status ≡ a.Usage → name ≡ None
+  pub usage_where : name ≡ None → gives_way status ≡ false → status ≡ a.Usage
+  -- a file is missed exactly where the source isn't there
+  pub no_file_only : (m : Files) (file : List ℕ) → before.files ≡ Some m → status ≡ a.NoFile file → (x : List ℕ) × (name ≡ Some x) × (file ≡ mod_file x) × (get m file ≡ None)
+  pub no_file_where : (m : Files) (x : List ℕ) → before.files ≡ Some m → name ≡ Some x → get m (mod_file x) ≡ None → gives_way status ≡ false → status ≡ a.NoFile (mod_file x)
+  -- fault 90 comes exactly where the text isn't straight, and no other fault comes
+  pub fault_only : (m : Files) (f : SourceFault) → before.files ≡ Some m → status ≡ a.SourceFault f
+      → (f ≡ not_built) × ((x : List ℕ) × (name ≡ Some x) × ((text : List ℕ) × (get m (mod_file x) ≡ Some text) × ((p : Resolved) → IsStraight x text p → ⊥)))
+  pub fault_where : (m : Files) (x text : List ℕ) → before.files ≡ Some m → name ≡ Some x → get m (mod_file x) ≡ Some text → ((p : Resolved) → IsStraight x text p → ⊥)
+      → gives_way status ≡ false → status ≡ a.SourceFault not_built
+  -- no other status comes
+  pub settles : (settled status ≡ true) ⊎ ((status ≡ a.VolumeFault) ⊎ ((status ≡ a.ScreenFault) ⊎ (status ≡ a.Memory)))
+  pub no_refusal : (status ≡ a.Usage) ⊎ (((file : List ℕ) × (status ≡ a.NoFile file)) ⊎ (((f : SourceFault) × (status ≡ a.SourceFault f)) ⊎ ((status ≡ a.VolumeFault) ⊎ IsRunAnswer status)))
+  -- what a straight text shows
+  pub headline : (w : World) (p : Resolved) → Finds before.files before.keys w → Runs name w p → Headline p w before after status
+  -- nothing is shown where nothing was run
+  pub nothing : ((status ≡ a.Usage) ⊎ (((file : List ℕ) × (status ≡ a.NoFile file)) ⊎ (((f : SourceFault) × (status ≡ a.SourceFault f)) ⊎ (status ≡ a.VolumeFault)))) → after.shown ≡ before.shown
+  pub files : after.files ≡ before.files
+  pub keys : after.keys ≡ before.keys
+  -- each fault has its cause, and at most one of the counts rises
+  pub volume_cause : Blames a.VolumeFault before.volume_faults after.volume_faults status
+  pub screen_cause : Blames a.ScreenFault before.screen_faults after.screen_faults status
+  pub keys_cause : after.key_faults ≡ before.key_faults
+  pub one : (after.volume_faults ≡ before.volume_faults) ⊎ (after.screen_faults ≡ before.screen_faults)
