@@ -1,1 +1,14 @@
 pub mod Shown
+pub mod Decoding
+pub mod Generating
+pub mod Homes
+pub mod Matched
+pub mod Steps
+pub mod Arithmetic
+pub mod Closing
+pub mod Expressions
+pub mod Tasks
+pub mod Each
+pub mod Whole
+pub mod Splices
+pub mod Start

@@ -1,0 +1,228 @@
+-- From a loaded program.
+use Rattle.std.proofs.Common.{◌≡◌, ℕ, zero, suc, ◌+◌, ◌-◌, ◌*◌, ◌<◌, ◌≤◌, Bool, true, false, ◌&&◌, cond, eqb, Option, Some, None, List, [], ◌∷◌, ◌++◌, length, get_or, refl, sym, ap, ◌∙◌, subst, ◌⊎◌, inl, inr, ⊎_elim, arith}
+use Rattle.std.specs.Prelude.{slice_get, nat_lt, nat_le}
+use Rattle.std.proofs.lemmas.Bool.{le-leb, le-ltb, lt-ltb, cases_Bool, and_parts, eqb-true}
+use Rattle.std.proofs.lemmas.Option.{slice_get_within}
+use Rattle.lil_base.specs.Words.{Whole, Cardinal, Integer}
+use Rattle.lil_tree.specs.Kinds.{Kind, OfWhole, OfCharacter}
+use Rattle.lil_tree.specs.Scalars.{Scalar, within, scalar_word, zero_of}
+use Rattle.lil_tree.specs.Resolved.{Statement, Resolved}
+use Rattle.lil_meaning.specs.Cells.{Root, Global, Local, Object, Cells, zero_by, fresh_cells}
+use Rattle.lil_meaning.specs.World.{World}
+use Rattle.lil_meaning.specs.Items.{Item, Perform, End, Phase, Going, Source}
+use Rattle.lil_meaning.specs.Runs.{doing, begun}
+use Rattle.lil_mcode.specs.declared.instr.Instr.TheVariants.{Ent}
+use Rattle.lil_mcode.specs.declared.machine.Event.TheVariants.{Went}
+use Rattle.lil_mcode.specs.State.{Module, State, spliced, zeros, cleared}
+use Rattle.lil_mcode.specs.Table.{begun_body}
+use Rattle.lil_session.specs.Sizes.{IsSmall}
+use Rattle.lil_session.specs.Rows.{Layout, BodyAt, offsets_from, layout_of, Translates}
+use Rattle.lil_session.specs.Running.{Run, mrun, running, advanced}
+use Rattle.lil_session.specs.Loaded.{body_alone, loaded}
+use Rattle.lil_session.specs.Outcome.{state_of}
+use Rattle.lil_session.proofs.Homes.{yes, no, Type', Absent, Word, Owner, Of, Own, Free, Home, Mem, IsWord}
+use Rattle.lil_session.proofs.Matched.{Quiet, Rows, Ahead, Shared, IsVariable, IsStill}
+use Rattle.lil_session.proofs.Steps.{advances, at_step, rows_ahead}
+use Rattle.lil_session.proofs.Splices.{spliced_length, spliced_before, spliced_there, zeros_length, zeros_word, cleared_none}
+use Rattle.lil_session.proofs.Whole.{Agrees, still_agrees, follows}
+
+abbrev typed_by : Option Kind → Type'
+typed_by None = Absent
+typed_by (Some k) = Word k
+
+-- the home of a program module whose data begin at word 1
+abbrev type_of : List Kind → Root → Type'
+type_of kinds (Global zero x) = Absent
+type_of kinds (Global (suc zero) x) = typed_by (slice_get kinds x)
+type_of kinds (Global (suc (suc m)) x) = Absent
+type_of kinds (Local a x) = Absent
+type_of kinds (Object o) = Absent
+
+abbrev base_of : Root → ℕ
+base_of (Global m x) = 1 + x
+base_of (Local a x) = 0
+base_of (Object o) = 0
+
+-- data, then the mark of the body, then room
+abbrev owner_at : ℕ → ℕ → Owner
+owner_at n a =
+    cond (nat_lt a 1) (Free (1 + n))
+    (cond (nat_lt a (1 + n)) (Of (Global 1 (a - 1)))
+    (cond (nat_lt a (5 + n)) Own (Free (1 + n))))
+
+typed_some : (o : Option Kind) (k : Kind) → typed_by o ≡ Word k → o ≡ Some k
+typed_some None k e = cc
+typed_some (Some j) k e = let same : j ≡ k = cc in ap Some same
+
+-- which roots live
+pub record Lives (kinds : List Kind) (r : Root) (k : Kind) : Type 0 where
+  pub x : ℕ
+  pub is : r ≡ Global 1 x
+  pub typed : slice_get kinds x ≡ Some k
+
+lives : (kinds : List Kind) (r : Root) (k : Kind) → type_of kinds r ≡ Word k → Lives kinds r k
+lives kinds (Global zero x) k e = cc
+lives kinds (Global (suc zero) x) k e = record { x = x; is = refl; typed = typed_some (slice_get kinds x) k e }
+lives kinds (Global (suc (suc m)) x) k e = cc
+lives kinds (Local a x) k e = cc
+lives kinds (Object o) k e = cc
+
+zero_word : (k : Kind) → scalar_word (zero_of k) ≡ 0
+zero_word (OfWhole t) = refl
+zero_word OfCharacter = refl
+
+zero_fits : (k : Kind) → within k (zero_of k) ≡ true
+zero_fits (OfWhole Cardinal) = refl
+zero_fits (OfWhole Integer) = refl
+zero_fits OfCharacter = refl
+
+offset_is : (ks : List Kind) (n x o : ℕ) → slice_get (offsets_from n ks) x ≡ Some o → o ≡ n + x
+offset_is [] n x o e = cc
+offset_is (k ∷ ks) n zero o e = let same : n ≡ o = cc in omega arith
+offset_is (k ∷ ks) n (suc x) o e = omega (arith, offset_is ks (suc n) x o e)
+
+-- rows of statements, and then of what is behind them
+body_rows : (l : Layout) (table : List Module) (own : Module) (number : ℕ) (h : Home) (ss : List Statement) (k : List Item) (p q : ℕ) → BodyAt l own.code ss p q → Rows l table own number h k Quiet q [] → Rows l table own number h (doing ss k) Quiet p []
+body_rows l table own number h [] k p q e rest = subst (λ (x : ℕ). Rows l table own number h k Quiet x []) (sym e) rest
+body_rows l table own number h (s ∷ ss) k p q row rest = record {
+  quiet = refl;
+  empty = refl;
+  end = row.middle;
+  here = row.here;
+  then = body_rows l table own number h ss k row.middle q row.then rest;
+}
+
+module _ (p : Resolved) (code : List ℕ) (small : IsSmall p) (t : Translates p code) where
+  abbrev count : ℕ
+  count = length p.variables
+
+  abbrev own : Module
+  own = record { name = p.name; procedures = body_alone; code = code; base = 1; words = count }
+
+  abbrev table : List Module
+  table = own ∷ []
+
+  -- the store with the mark of the body
+  pub store : List ℕ
+  store = spliced (cleared (zeros 65536) 1 (1 + count)) (1 + count) (0 ∷ 0 ∷ 0 ∷ 1 ∷ [])
+
+  abbrev begun_at : ℕ → State
+  begun_at place = record {
+    modules = table;
+    running = 1;
+    place = place;
+    stack = [];
+    store = store;
+    frame = 1 + count;
+    top = 1 + count + 4;
+    base = 1 + count;
+    limit = 65535;
+    bodies = [];
+    marked = true
+  }
+
+  -- what was loaded
+  pub loaded_state : (loaded p code).state ≡ begun_at 0
+  unfolding store
+  loaded_state =
+      let room : nat_le (1 + count + 4) 65535 ≡ true = le-leb (1 + count + 4) 65535 (omega (arith, small.variables)) in
+      yes _ _ _ room
+
+  cleared_length : length (cleared (zeros 65536) 1 (1 + count)) ≡ 65536
+  cleared_length =
+      let n : length (zeros (1 + count - 1)) ≡ 1 + count - 1 = zeros_length (1 + count - 1) in
+      spliced_length (zeros 65536) 1 (zeros (1 + count - 1)) (omega (arith, n, zeros_length 65536, small.variables)) ∙ zeros_length 65536
+
+  store_length : length store ≡ 65536
+  unfolding store
+  store_length = spliced_length (cleared (zeros 65536) 1 (1 + count)) (1 + count) (0 ∷ 0 ∷ 0 ∷ 1 ∷ []) (omega (arith, cleared_length, small.variables)) ∙ cleared_length
+
+  data_zero : (x : ℕ) → x < count → get_or store (1 + x) 0 ≡ 0
+  unfolding store
+  data_zero x less =
+      let n : length (zeros (1 + count - 1)) ≡ 1 + count - 1 = zeros_length (1 + count - 1) in
+      spliced_before (cleared (zeros 65536) 1 (1 + count)) (1 + count) (0 ∷ 0 ∷ 0 ∷ 1 ∷ []) (1 + x) (omega (arith, cleared_length, small.variables)) (omega arith)
+      ∙ spliced_there (zeros 65536) 1 (zeros (1 + count - 1)) x (omega (arith, n, zeros_length 65536, small.variables)) (omega (arith, n, less))
+      ∙ zeros_word (1 + count - 1) x (omega (arith, less))
+
+  home : Home
+  home = record { base = base_of; type = type_of p.variables; owner = owner_at count; shadow = λ a. get_or store a 0 }
+
+  owner_data : (x : ℕ) → x < count → owner_at count (1 + x) ≡ Of (Global 1 x)
+  owner_data x less =
+      no (nat_lt (1 + x) 1) _ _ (le-ltb (1 + x) 1 (omega arith))
+      ∙ yes (nat_lt (1 + x) (1 + count)) _ _ (lt-ltb (1 + x) (1 + count) (omega arith))
+      ∙ ap (λ (n : ℕ). Of (Global 1 n)) (let e : 1 + x - 1 ≡ x = omega arith in e)
+
+  mem : Mem home (fresh_cells (p ∷ [])) store
+  unfolding home
+  mem = record {
+    owned = λ r k e.
+        let a = lives p.variables r k e in
+        let less : a.x < count = slice_get_within p.variables a.x k a.typed in
+        ap (λ (z : Root). owner_at count (base_of z)) a.is ∙ owner_data a.x less ∙ ap Of (sym a.is);
+    inside = λ r k e.
+        let a = lives p.variables r k e in
+        let less : a.x < count = slice_get_within p.variables a.x k a.typed in
+        let at : base_of r ≡ 1 + a.x = ap base_of a.is in
+        omega (arith, small.variables);
+    holds = λ r k e.
+        let a = lives p.variables r k e in
+        let less : a.x < count = slice_get_within p.variables a.x k a.typed in
+        let cell : fresh_cells (p ∷ []) r [] ≡ zero_of k = ap (λ (z : Root). fresh_cells (p ∷ []) z []) a.is ∙ ap zero_by a.typed in
+        record {
+          word = ap (λ (z : Root). get_or store (base_of z) 0) a.is ∙ data_zero a.x less ∙ sym (zero_word k) ∙ ap scalar_word (sym cell);
+          fits = ap (within k) cell ∙ zero_fits k;
+        };
+    kept = λ a e. refl;
+    long = store_length;
+  }
+
+  shared : (w : World) → Shared (layout_of p) table own 1 home (begun (p ∷ []) w) (begun_at t.start)
+  unfolding home
+  shared w = record {
+    mem = mem;
+    laid = record {
+      variables = λ x o k offset kind. record {
+        path = refl;
+        living = ap typed_by kind;
+        at = omega (arith, offset_is p.variables 0 x o offset);
+      };
+    };
+    program = record { table_is = refl; known = refl; running_is = refl; marked = refl; body = refl; last = refl };
+    owner = refl;
+    parked = tt;
+  }
+
+  -- the body is entered
+  enters : (w : World) → advanced (running (begun_at 0) w) ≡ running (begun_at t.start) w
+  enters w =
+      let top : 1 + count + 4 ≡ 1 + count + 4 = refl in
+      advances (begun_at 0) w (Went, begun_at t.start) (
+        ap (Rattle.lil_mcode.specs.Table.performed (begun_at 0) own) t.enter
+        ∙ no _ _ _ (le-ltb (1 + count + 4) (1 + count + 4) (omega arith))
+        ∙ no _ _ _ (le-ltb 65535 (1 + count + 4) (omega (arith, small.variables)))
+        ∙ ap (λ (x : List ℕ). let r : Rattle.lil_mcode.specs.declared.machine.Event.Event × State = (Went, record (begun_at t.start) { store = x }) in r) (cleared_none store (1 + count + 4))
+      )
+
+  ahead : Ahead (layout_of p) table own 1 home (doing p.body (Perform (End 0) ∷ [])) Quiet t.start []
+  ahead =
+      rows_ahead (p ∷ []) (layout_of p) table own 1 home (doing p.body (Perform (End 0) ∷ [])) t.start []
+      (body_rows (layout_of p) table own 1 home p.body (Perform (End 0) ∷ []) t.start t.end t.body
+      (record { quiet = refl; empty = refl; activation = refl; last = refl; end = length code; leave = t.leave }))
+
+  -- after any number of steps the run of a loaded program agrees with some state of the meaning
+  pub record Correct (w : World) (steps : ℕ) : Type 0 where
+    pub n : ℕ
+    pub agrees : Agrees p.name (state_of p w n) (mrun steps (running (begun_at 0) w))
+    pub far : steps < 32 * n + 33
+
+  pub correct : (w : World) (steps : ℕ) → Correct w steps
+  correct w zero = record { n = 0; agrees = still_agrees p.name (begun (p ∷ []) w) (doing p.body (Perform (End 0) ∷ [])) (running (begun_at 0) w) (record { world = refl; finish = refl }); far = omega arith }
+  correct w (suc steps) =
+      let f = follows (p ∷ []) (layout_of p) table own 1 home (begun (p ∷ []) w) (doing p.body (Perform (End 0) ∷ [])) (begun_at t.start) steps (shared w) ahead in
+      record {
+        n = f.n;
+        agrees = subst (λ (r : Run). Agrees p.name (state_of p w f.n) (mrun steps r)) (sym (enters w)) f.agrees;
+        far = omega (arith, f.far);
+      }
