@@ -12,3 +12,4 @@ pub mod Each
 pub mod Whole
 pub mod Splices
 pub mod Start
+pub mod Alone

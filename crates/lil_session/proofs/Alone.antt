@@ -1,0 +1,187 @@
+-- Steps of a body that runs alone: the place rises at each step that goes on, and the tables stay.
+use Rattle.std.proofs.Common.{◌≡◌, ℕ, ◌+◌, ◌*◌, ◌<◌, ◌≤◌, Bool, true, false, cond, Option, Some, None, Result, Ok, Err, List, [], ◌∷◌, length, refl, sym, ap, ◌∙◌, subst, ◌⊎◌, inl, inr, arith, eq-eqb}
+use Rattle.std.specs.Prelude.{ℤ, slice_get, slice_index, slice_set, nat_lt, nat_le, ◌==◌, option_and_then}
+use Rattle.std.proofs.lemmas.Bool.{cases_Bool, leb-true, eqb-true}
+use Rattle.std.proofs.lemmas.Option.{slice_get_within, option_and_then_some}
+use Rattle.lil_base.specs.Words.{Cardinal, sum, difference}
+use Rattle.lil_base.specs.declared.fault.ArithFault.{ArithFault}
+use Rattle.lil_base.specs.declared.fault.LimitKind.TheVariants as limit
+use Rattle.lil_mcode.specs.declared.instr.Instr.{Instr}
+use Rattle.lil_mcode.specs.declared.instr.Instr.TheVariants.{Liw, Lgw, Sgw, Rgc, Adc, Sbc, Ent, Rtn, Svc}
+use Rattle.lil_mcode.specs.declared.machine.Event.{Event}
+use Rattle.lil_mcode.specs.declared.machine.Event.TheVariants.{Went, Request, LevelEnded, Trap, Limit, BadCode}
+use Rattle.lil_mcode.specs.Bytes.{decoded, row, word_at, with_byte, with_word, with_two_words}
+use Rattle.lil_mcode.specs.State.{Module, State, module_at}
+use Rattle.lil_mcode.specs.Table.{mstep, act, fetched, performed, result_row, two_row, on_one, range_row, store_row, request_row, request_words, leave_row, end_row, return_row}
+use Rattle.lil_session.proofs.Homes.{yes}
+
+-- a body that runs as the last of its level
+pub record IsAlone (s : State) : Type 0 where
+  pub body : s.frame ≡ s.base
+  pub last : s.bodies ≡ []
+  pub marked : s.marked ≡ true
+
+abbrev pub goes_on : Event → Bool
+goes_on Went = true
+goes_on (Request r) = true
+goes_on LevelEnded = false
+goes_on (Trap k) = false
+goes_on (Limit k) = false
+goes_on BadCode = false
+
+-- what a step gives
+pub record Moves (s : State) (r : Event × State) : Type 0 where
+  pub modules : r.1.modules ≡ s.modules
+  pub running : r.1.running ≡ s.running
+  pub alone : IsAlone r.1
+  pub rises : goes_on r.0 ≡ true → s.place < r.1.place
+  pub asks : (q : ℕ) → r.0 ≡ Request q → (q ≡ 2) × (1 ≤ length r.1.stack)
+
+module _ (s : State) (a : IsAlone s) where
+  moves_if : (b : Bool) (x y : Event × State) → Moves s x → Moves s y → Moves s (cond b x y)
+  moves_if true x y m n = m
+  moves_if false x y m n = n
+
+  moves_bad : Moves s (BadCode, s)
+  moves_bad = record { modules = refl; running = refl; alone = a; rises = λ e. cc; asks = λ q e. cc }
+
+  moves_trap : (k : _) → Moves s (Trap k, s)
+  moves_trap k = record { modules = refl; running = refl; alone = a; rises = λ e. cc; asks = λ q e. cc }
+
+  moves_limit : (k : _) → Moves s (Limit k, s)
+  moves_limit k = record { modules = refl; running = refl; alone = a; rises = λ e. cc; asks = λ q e. cc }
+
+  moves_end : Moves s (LevelEnded, s)
+  moves_end = record { modules = refl; running = refl; alone = a; rises = λ e. cc; asks = λ q e. cc }
+
+  module _ (q : ℕ) (up : s.place < q) where
+    moves_to : (stack store : List ℕ) (top : ℕ) → Moves s (Went, record s { place = q; stack = stack; store = store; top = top })
+    moves_to stack store top = record {
+      modules = refl;
+      running = refl;
+      alone = record { body = a.body; last = a.last; marked = a.marked };
+      rises = λ e. up;
+      asks = λ r e. cc;
+    }
+
+    result_moves : (rest : List ℕ) (r : Result ℤ ArithFault) → Moves s (result_row s q rest r)
+    result_moves rest (Ok z) = moves_to _ s.store s.top
+    result_moves rest (Err e) = moves_trap _
+
+    two_moves : (f : _) (t : _) (stack : List ℕ) → Moves s (two_row f t q s stack)
+    two_moves f t [] = moves_bad
+    two_moves f t (y ∷ []) = moves_bad
+    two_moves f t (y ∷ x ∷ rest) = result_moves rest _
+
+    one_moves : (stack : List ℕ) (f : ℕ → List ℕ → Event × State) → ((x : ℕ) (rest : List ℕ) → Moves s (f x rest)) → Moves s (on_one s stack f)
+    one_moves [] f m = moves_bad
+    one_moves (x ∷ rest) f m = m x rest
+
+    request_moves : (r : ℕ) → Moves s (request_row r q s (request_words r))
+    request_moves r = by (r == 2) refl
+      where
+        asked : r ≡ 2 → (b : Bool) → nat_le 1 (length s.stack) ≡ b → Moves s (cond b (Request r, record s { place = q; stack = s.stack }) (BadCode, s))
+        asked two true some = record {
+          modules = refl;
+          running = refl;
+          alone = record { body = a.body; last = a.last; marked = a.marked };
+          rises = λ e. up;
+          asks = λ n e. (let same : r ≡ n = cc in sym same ∙ two, leb-true 1 (length s.stack) some);
+        }
+        asked two false some = moves_bad
+
+        by : (b : Bool) → (r == 2) ≡ b → Moves s (request_row r q s (cond b (Some 1) None))
+        by true e = asked (eqb-true r 2 e) (nat_le 1 (length s.stack)) refl
+        by false e = moves_bad
+
+    leave_moves : Moves s (leave_row s)
+    leave_moves =
+        let ends : leave_row s ≡ (LevelEnded, s) = yes _ _ _ (eq-eqb s.frame s.base a.body) ∙ ap (end_row s) a.last in
+        subst (λ (r : Event × State). Moves s r) (sym ends) moves_end
+
+    act_moves : (i : Instr) (m : Module) → Moves s (act i q m s)
+    act_moves (Liw w) m = moves_if _ _ _ (moves_to _ s.store s.top) moves_bad
+    act_moves (Lgw w) m = moves_if _ _ _ (moves_if _ _ _ (moves_to _ s.store s.top) moves_bad) moves_bad
+    act_moves (Sgw w) m = one_moves s.stack (store_row (m.base + w) q s) (λ x rest. moves_if _ _ _ (moves_to rest _ s.top) moves_bad)
+    act_moves (Rgc low high) m = one_moves s.stack (range_row low high q s) (λ x rest. moves_if _ _ _ (moves_to s.stack s.store s.top) (moves_trap _))
+    act_moves Adc m = two_moves sum Cardinal s.stack
+    act_moves Sbc m = two_moves difference Cardinal s.stack
+    act_moves (Ent w) m = moves_if _ _ _ moves_bad (moves_if _ _ _ (moves_limit _) (moves_to s.stack _ _))
+    act_moves Rtn m = leave_moves
+    act_moves (Svc r) m = request_moves r
+
+-- an instruction ends behind its place
+record IsLater (p : ℕ) (o : Option (Instr × ℕ)) : Type 0 where
+  later : (d : Instr × ℕ) → o ≡ Some d → p < d.1
+
+later_if : (p : ℕ) (b : Bool) (x y : Option (Instr × ℕ)) → IsLater p x → IsLater p y → IsLater p (cond b x y)
+later_if p true x y h k = h
+later_if p false x y h k = k
+
+later_then : {A : Type 0} (p : ℕ) (o : Option A) (f : A → Option (Instr × ℕ)) → ((x : A) → IsLater p (f x)) → IsLater p (option_and_then f o)
+later_then p None f h = record { later = λ d e. cc }
+later_then p (Some x) f h = h x
+
+later_some : (p q : ℕ) (i : Instr) → p < q → IsLater p (Some (i, q))
+later_some p q i less = record { later = λ d e. let same : (i, q) ≡ d = cc in subst (λ (x : Instr × ℕ). p < x.1) same less }
+
+later_none : (p : ℕ) → IsLater p None
+later_none p = record { later = λ d e. cc }
+
+byte_later : (make : ℕ → Instr) (code : List ℕ) (p : ℕ) → IsLater p (with_byte make code p)
+byte_later make code p = later_then p (slice_get code (p + 1)) (λ (b : ℕ). let r : Option (Instr × ℕ) = Some (make b, p + 2) in r) (λ b. later_some p (p + 2) (make b) (omega arith))
+
+word_later : (make : ℕ → Instr) (code : List ℕ) (p : ℕ) → IsLater p (with_word make code p)
+word_later make code p = later_then p (word_at code (p + 1)) (λ (w : ℕ). let r : Option (Instr × ℕ) = Some (make w, p + 3) in r) (λ w. later_some p (p + 3) (make w) (omega arith))
+
+two_words_later : (make : ℕ → ℕ → Instr) (code : List ℕ) (p : ℕ) → IsLater p (with_two_words make code p)
+two_words_later make code p =
+    later_then p (word_at code (p + 1)) (λ (v : ℕ). option_and_then (λ (w : ℕ). let r : Option (Instr × ℕ) = Some (make v w, p + 5) in r) (word_at code (p + 3)))
+    (λ v. later_then p (word_at code (p + 3)) (λ (w : ℕ). let r : Option (Instr × ℕ) = Some (make v w, p + 5) in r) (λ w. later_some p (p + 5) (make v w) (omega arith)))
+
+one_later : (i : Instr) (p : ℕ) → IsLater p (Some (i, p + 1))
+one_later i p = later_some p (p + 1) i (omega arith)
+
+row_later : (b : ℕ) (code : List ℕ) (p : ℕ) → IsLater p (row b code p)
+row_later b code p =
+    later_if p _ _ _ (word_later Liw code p)
+    (later_if p _ _ _ (word_later Lgw code p)
+    (later_if p _ _ _ (word_later Sgw code p)
+    (later_if p _ _ _ (two_words_later Rgc code p)
+    (later_if p _ _ _ (one_later Adc p)
+    (later_if p _ _ _ (one_later Sbc p)
+    (later_if p _ _ _ (word_later Ent code p)
+    (later_if p _ _ _ (one_later Rtn p)
+    (later_if p _ _ _ (byte_later Svc code p) (later_none p)))))))))
+
+decoded_later : (code : List ℕ) (p : ℕ) → IsLater p (decoded code p)
+unfolding decoded
+decoded_later code p = later_then p (slice_get code p) _ (λ b. row_later b code p)
+
+decoded_within : (code : List ℕ) (p : ℕ) (d : Instr × ℕ) → decoded code p ≡ Some d → p < length code
+unfolding decoded
+decoded_within code p d e = option_and_then_some (λ b. row b code p) (slice_get code p) d e (λ b at r. slice_get_within code p b at)
+
+performed_moves : (s : State) → IsAlone s → (m : Module) (o : Option (Instr × ℕ)) → IsLater s.place o → Moves s (performed s m o)
+performed_moves s a m None h = moves_bad s a
+performed_moves s a m (Some d) h = act_moves s a d.1 (h.later d refl) d.0 m
+
+fetched_moves : (s : State) → IsAlone s → (o : Option Module) → Moves s (fetched s o)
+fetched_moves s a None = moves_bad s a
+fetched_moves s a (Some m) = performed_moves s a m (decoded m.code s.place) (decoded_later m.code s.place)
+
+mstep_fetches : (s : State) → IsAlone s → mstep s ≡ fetched s (module_at s.modules s.running)
+mstep_fetches s a = yes s.marked (fetched s (module_at s.modules s.running)) (Limit limit.Stack, s) a.marked
+
+pub mstep_moves : (s : State) → IsAlone s → Moves s (mstep s)
+mstep_moves s a = subst (λ (r : Event × State). Moves s r) (sym (mstep_fetches s a)) (fetched_moves s a (module_at s.modules s.running))
+
+-- a step that goes on stands within the code
+pub mstep_within : (s : State) → IsAlone s → (m : Module) → module_at s.modules s.running ≡ Some m → goes_on (mstep s).0 ≡ true → s.place < length m.code
+mstep_within s a m known on =
+    let e : mstep s ≡ performed s m (decoded m.code s.place) = mstep_fetches s a ∙ ap (fetched s) known in
+    by (decoded m.code s.place) refl (ap (λ (r : Event × State). goes_on r.0) (sym e) ∙ on)
+  where
+    by : (o : Option (Instr × ℕ)) → decoded m.code s.place ≡ o → goes_on (performed s m o).0 ≡ true → s.place < length m.code
+    by None d h = cc
+    by (Some d) at h = decoded_within m.code s.place d at
