@@ -5,6 +5,7 @@ mod fault;
 mod items;
 mod memory;
 mod name;
+mod words;
 
 pub use fault::{
     ArithFault, CodePlace, FormatStop, Key, LimitKind, LoadRefusal, Place, SourceFault, TrapAt,
@@ -13,6 +14,10 @@ pub use fault::{
 pub use items::{Items, same_bytes};
 pub use memory::Memory;
 pub use name::{FileName, Name};
+pub use words::{
+    abs_int, add_card, add_int, div_card, div_int, mod_card, mod_int, mul_card, mul_int, neg_int,
+    sub_card, sub_int,
+};
 
 /// A list of bytes.
 pub type Bytes = Items<u8>;
