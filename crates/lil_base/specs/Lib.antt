@@ -1,2 +1,4 @@
+pub mod Fields
 pub mod Names
+pub mod Sets
 pub mod Words
