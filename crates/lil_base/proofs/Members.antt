@@ -1,10 +1,10 @@
 -- What is in a set that was made by one operation on words.
-use Rattle.std.proofs.Common.{◌≡◌, ℕ, ◌+◌, ◌-◌, ◌*◌, ◌/◌, ◌%◌, ◌^◌, ◌<◌, ◌≤◌, min, max, Bool, true, false, cond, not, ◌||◌, ◌&&◌, nat_le, ◌==◌, bit_and, bit_or, bit_xor, refl, ap, ◌∙◌, sym, arith, ⊎_elim}
-use Rattle.std.specs.Int.{bit_at, bit_not, w16}
+use Rattle.std.proofs.Common.{◌≡◌, ℕ, ◌+◌, ◌-◌, ◌*◌, ◌%◌, ◌^◌, ◌<◌, ◌≤◌, min, max, Bool, true, false, cond, not, ◌||◌, ◌&&◌, nat_le, ◌==◌, bit_and, bit_or, bit_xor, refl, ap, ◌∙◌, sym, arith, ⊎_elim}
+use Rattle.std.specs.Int.{bit_at, w16}
 use Rattle.std.proofs.lemmas.Bool.{cases_lt, eq-eqb}
-use Rattle.std.proofs.lemmas.Nat.{one_shl, shl_whole, pow_below, pow-add}
+use Rattle.std.proofs.lemmas.Nat.{one_shl, pow_below, pow-add}
 use Rattle.std.proofs.lemmas.Bool.Decides.{nat_tests}
-use Rattle.std.proofs.lemmas.Nat.Bits.{bit_at_and, bit_at_or, bit_at_xor, bit_at_not, bit_at-lt, bit_at_above, bit_at_mask_inside, bit_at_mask_below, bit_at_mask_above, bit_at-zero}
+use Rattle.std.proofs.lemmas.Nat.Bits.{bit_at_and, bit_at_or, bit_at_xor, bit_at_not, bit_at-lt, bit_at_above, bit_at_mask_inside, bit_at_mask_below, bit_at_mask_above}
 use Rattle.lil_base.specs.Sets.{has, either}
 
 one_of : (x y : ℕ) → x < 2 → y < 2 → (max x y == 1) ≡ ((x == 1) || (y == 1))

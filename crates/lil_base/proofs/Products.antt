@@ -1,5 +1,5 @@
 -- Products and what a quotient leaves, as 64 bits have them.
-use Rattle.std.proofs.Common.{◌≡◌, ℕ, ◌≤◌, ◌<◌, ℤ, pos, negsuc, ◌+ℤ◌, ◌-ℤ◌, ◌*ℤ◌, int_div, int_rem, unsigned_abs, FitsSigned, to_z, of_z, false, arith, lit<, refl}
+use Rattle.std.proofs.Common.{◌≡◌, ◌≤◌, ℤ, pos, negsuc, ◌*ℤ◌, int_rem, unsigned_abs, FitsSigned, to_z, of_z, false, arith, lit<, refl}
 use Rattle.std.specs.Int.{w16, w64}
 use Rattle.std.proofs.lemmas.Int.{ints, fits_signed_mul, fits_signed_from_abs, quot-rem}
 use Rattle.std.proofs.lemmas.Bool.{ne_eqb}

@@ -1,4 +1,4 @@
-ghost use Rattle.std.specs.Prelude.{◌≡◌, ◌++◌, OnOk, OnErr};
+ghost use Rattle.std.specs.Prelude.{◌≡◌, ◌++◌, length, OnOk, OnErr};
 ghost use Rattle.lil_base.specs.Fields.{bytes16, bytes32, first16, first32, field16, field32};
 
 use crate::{Bytes, Memory};
@@ -44,16 +44,20 @@ pub fn get32(b: &Bytes, at: u32) -> Option<u32>
 }
 
 /// Appends a number of two bytes. After a refusal the list is as before.
+#[tactic(auto, using(crate::proofs::FieldLaws::last_field16))]
 pub fn put16(b: &mut Bytes, v: u16) -> Result<(), Memory>
     ensures ok { OnOk result (b.new ≡ b.old ++ bytes16 v) }
+    ensures back { OnOk result (field16 b.new (length b.old) ≡ Some v) }
     ensures err { OnErr result (b.new ≡ b.old) }
 {
     b.extend(&[(v / 256) as u8, (v % 256) as u8])
 }
 
 /// Appends a number of four bytes. After a refusal the list is as before.
+#[tactic(auto, using(crate::proofs::FieldLaws::last_field32))]
 pub fn put32(b: &mut Bytes, v: u32) -> Result<(), Memory>
     ensures ok { OnOk result (b.new ≡ b.old ++ bytes32 v) }
+    ensures back { OnOk result (field32 b.new (length b.old) ≡ Some v) }
     ensures err { OnErr result (b.new ≡ b.old) }
 {
     let high = v / 65536;

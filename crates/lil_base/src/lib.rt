@@ -7,6 +7,8 @@ mod items;
 mod memory;
 mod name;
 mod sets;
+#[cfg(test)]
+mod tests;
 mod words;
 
 pub use fault::{

@@ -1,7 +1,5 @@
-use Rattle.std.proofs.Common.{◌≡◌, ℤ, FitsSigned, ◌∙◌, sym, ap, int_rem}
 use Rattle.std.specs.Int.{w64}
 use Rattle.std.proofs.lemmas.Int.{rem_is}
-use Rattle.lil_base.specs.Words.{Integer, kept}
 use Rattle.lil_base.proofs.Products.{rest_is, same_width, wide, not_zero}
 use Rattle.lil_base.proofs.words.mod_int.Goals as goal
 
