@@ -35,6 +35,23 @@ fn names(rt: HostRuntime) -> Result<(), Fail> {
 }
 
 #[test]
+fn copies(rt: HostRuntime) -> Result<(), Fail> {
+    let alloc = rt.alloc();
+    let mut text = Text::new(alloc);
+    text.push(77)?;
+    text.push(50)?;
+    let made = Name::new(alloc, &text)?;
+    assert!(rt; made.is_some());
+    if let Some(name) = made {
+        let file = name.copy(alloc)?.mod_file(alloc)?.copy(alloc)?;
+        assert!(rt; same_bytes(file.text().as_slice(), b"M2.MOD"));
+    }
+    assert_eq!(rt; text.take_first(), Some(77));
+    assert_eq!(rt; text.len(), 1);
+    Ok(())
+}
+
+#[test]
 fn cardinals(rt: HostRuntime) {
     assert_eq!(rt; add_card(65535, 0), Ok(65535));
     assert_eq!(rt; add_card(65535, 1), Err(ArithFault::Overflow));
