@@ -1,3 +1,5 @@
+pub mod Fields
 pub mod Names
+pub mod Sets
 pub mod Words
 pub mod Traps

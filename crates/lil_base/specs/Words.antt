@@ -1,5 +1,5 @@
 -- Arithmetic in whole numbers: results are defined where they lie in the range of their type.
-use Rattle.std.specs.Prelude.{ℕ, ◌-◌, ℤ, pos, negsuc, ◌+ℤ◌, ◌-ℤ◌, Bool, true, false, not, ◌&&◌, int_lt, nat_lt, Result, Ok, Err, if◌then◌else◌}
+use Rattle.std.specs.Prelude.{ℕ, ◌-◌, ℤ, pos, negsuc, ◌+ℤ◌, ◌-ℤ◌, ◌*ℤ◌, neg_ℤ, nat_abs, int_div, nat_eq, Bool, false, not, ◌&&◌, int_lt, nat_lt, Result, Ok, Err, if◌then◌else◌}
 use Rattle.lil_base.specs.declared.fault.ArithFault.{ArithFault}
 use Rattle.lil_base.specs.declared.fault.ArithFault.TheVariants.{Overflow, DivZero}
 
@@ -32,6 +32,39 @@ sum t x y = kept t (x +ℤ y)
 
 abbrev pub difference : Whole → ℤ → ℤ → Result ℤ ArithFault
 difference t x y = kept t (x -ℤ y)
+
+abbrev pub product : Whole → ℤ → ℤ → Result ℤ ArithFault
+product t x y = kept t (x *ℤ y)
+
+-- whether a divisor is zero
+abbrev pub is_zero : ℤ → Bool
+is_zero (pos n) = nat_eq n 0
+is_zero (negsuc n) = false
+
+-- the quotient in whole numbers, rounded toward zero
+abbrev pub whole_quotient : ℤ → ℤ → ℤ
+whole_quotient x y = int_div x y
+
+-- what that quotient leaves, in whole numbers
+abbrev pub whole_rest : ℤ → ℤ → ℤ
+whole_rest x y = x -ℤ whole_quotient x y *ℤ y
+
+abbrev pub quotient : Whole → ℤ → ℤ → Result ℤ ArithFault
+quotient t x y = if is_zero y then Err DivZero else kept t (whole_quotient x y)
+
+abbrev pub remainder : Whole → ℤ → ℤ → Result ℤ ArithFault
+remainder t x y = if is_zero y then Err DivZero else kept t (whole_rest x y)
+
+abbrev pub negation : Whole → ℤ → Result ℤ ArithFault
+negation t x = kept t (neg_ℤ x)
+
+abbrev pub absolute : Whole → ℤ → Result ℤ ArithFault
+absolute t x = kept t (pos (nat_abs x))
+
+-- an answer in natural numbers, as one in whole numbers
+abbrev pub cardinal_result : Result ℕ ArithFault → Result ℤ ArithFault
+cardinal_result (Ok n) = Ok (pos n)
+cardinal_result (Err e) = Err e
 
 -- the number that a word says
 abbrev pub number_of : Whole → ℕ → ℤ

@@ -2,17 +2,28 @@
 #![tactic(auto)]
 
 mod fault;
+mod fields;
 mod items;
 mod memory;
 mod name;
+mod sets;
+#[cfg(test)]
+mod tests;
+mod words;
 
 pub use fault::{
     ArithFault, CodePlace, FormatStop, Key, LimitKind, LoadRefusal, Place, SourceFault, TrapAt,
     TrapKind,
 };
+pub use fields::{get16, get32, put16, put32};
 pub use items::{Items, same_bytes};
 pub use memory::Memory;
 pub use name::{FileName, Name};
+pub use sets::{set_either, set_has, set_meet, set_minus, set_span, set_union};
+pub use words::{
+    abs_int, add_card, add_int, div_card, div_int, mod_card, mod_int, mul_card, mul_int, neg_int,
+    sub_card, sub_int,
+};
 
 /// A list of bytes.
 pub type Bytes = Items<u8>;

@@ -1,5 +1,4 @@
-use Rattle.std.proofs.Common.{rules, ◌≡◌, true, codes, ◌++◌, sym, ◌∙◌, ap}
-use Rattle.lil_base.specs.Names.{is_file_name}
+use Rattle.std.proofs.Common.{rules}
 use Rattle.lil_base.proofs.Files.{mod_is_file}
 use Rattle.lil_base.proofs.name.Name.mod_file.Goals as goal
 

@@ -1,0 +1,73 @@
+-- What is in a set that was made by one operation on words.
+use Rattle.std.proofs.Common.{◌≡◌, ℕ, ◌+◌, ◌-◌, ◌*◌, ◌%◌, ◌^◌, ◌<◌, ◌≤◌, min, max, Bool, true, false, cond, not, ◌||◌, ◌&&◌, nat_le, ◌==◌, bit_and, bit_or, bit_xor, refl, ap, ◌∙◌, sym, arith, ⊎_elim}
+use Rattle.std.specs.Int.{bit_at, w16}
+use Rattle.std.proofs.lemmas.Bool.{cases_lt, eq-eqb}
+use Rattle.std.proofs.lemmas.Nat.{one_shl, pow_below, pow-add}
+use Rattle.std.proofs.lemmas.Bool.Decides.{nat_tests}
+use Rattle.std.proofs.lemmas.Nat.Bits.{bit_at_and, bit_at_or, bit_at_xor, bit_at_not, bit_at-lt, bit_at_above, bit_at_mask_inside, bit_at_mask_below, bit_at_mask_above}
+use Rattle.lil_base.specs.Sets.{has, either}
+
+one_of : (x y : ℕ) → x < 2 → y < 2 → (max x y == 1) ≡ ((x == 1) || (y == 1))
+one_of x y p q = grind (arith, nat_tests)
+
+both_of : (x y : ℕ) → x < 2 → y < 2 → (min x y == 1) ≡ ((x == 1) && (y == 1))
+both_of x y p q = grind (arith, nat_tests)
+
+just_one : (x y : ℕ) → x < 2 → y < 2 → ((x + y) % 2 == 1) ≡ either (x == 1) (y == 1)
+just_one x y p q = grind (arith, nat_tests)
+
+not_one : (x : ℕ) → x < 2 → (1 - x == 1) ≡ not (x == 1)
+not_one x p = grind (arith, nat_tests)
+
+pub has_or : (s t i : ℕ) → has (bit_or s t) i ≡ (has s i || has t i)
+has_or s t i = rw (bit_at_or s t i) (one_of (bit_at s i) (bit_at t i) (bit_at-lt s i) (bit_at-lt t i))
+
+pub has_and : (s t i : ℕ) → has (bit_and s t) i ≡ (has s i && has t i)
+has_and s t i = rw (bit_at_and s t i) (both_of (bit_at s i) (bit_at t i) (bit_at-lt s i) (bit_at-lt t i))
+
+pub has_xor : (s t i : ℕ) → has (bit_xor s t) i ≡ either (has s i) (has t i)
+has_xor s t i = rw (bit_at_xor s t i) (just_one (bit_at s i) (bit_at t i) (bit_at-lt s i) (bit_at-lt t i))
+
+-- a word has no bit past its sixteen
+pub has_above : (s i : ℕ) → s < 2 ^ 16 → 16 ≤ i → has s i ≡ false
+has_above s i h k = rw (bit_at_above s 16 i h k) refl
+
+has_not : (t i : ℕ) → t < 2 ^ 16 → i < 16 → has (65535 - t) i ≡ not (has t i)
+has_not t i h k = rw (bit_at_not w16 t i h k) (not_one (bit_at t i) (bit_at-lt t i))
+
+-- `65535 - t` is t with each of its sixteen bits turned
+pub has_and_not : (s t i : ℕ) → s < 2 ^ 16 → t < 2 ^ 16 → has (bit_and s (65535 - t)) i ≡ (has s i && not (has t i))
+has_and_not s t i h k =
+    ⊎_elim
+    (λ (p : i < 16). has_and s (65535 - t) i ∙ ap (λ (b : Bool). has s i && b) (has_not t i k p))
+    (λ (p : 16 ≤ i). has_and s (65535 - t) i ∙ (ap (λ (b : Bool). b && has (65535 - t) i) (has_above s i h p) ∙ sym (ap (λ (b : Bool). b && not (has t i)) (has_above s i h p))))
+    (cases_lt i 16)
+
+pub none_above : (s i : ℕ) → s < 2 ^ 16 → 16 ≤ i → false ≡ has s i
+none_above s i h k = sym (has_above s i h k)
+
+bit_of : (x : ℕ) (b : Bool) → x ≡ cond b 1 0 → (x == 1) ≡ b
+bit_of x true h = eq-eqb x 1 h
+bit_of x false h = rw h refl
+
+mask_bit : (lo hi i : ℕ) → bit_at (2 ^ (hi + 1) - 2 ^ lo) i ≡ cond (nat_le lo i && nat_le i hi) 1 0
+mask_bit lo hi i =
+    ⊎_elim
+    (λ (p : i < lo). bit_at_mask_below lo (hi + 1) i p ∙ grind (arith, nat_tests))
+    (λ (p : lo ≤ i). ⊎_elim
+    (λ (q : i < hi + 1). bit_at_mask_inside lo (hi + 1) i p q ∙ grind (arith, nat_tests))
+    (λ (q : hi + 1 ≤ i). bit_at_mask_above lo (hi + 1) i q ∙ grind (arith, nat_tests))
+    (cases_lt i (hi + 1)))
+    (cases_lt i lo)
+
+double : (hi : ℕ) → hi ≤ 15 → 2 * 2 ^ hi % 4294967296 ≡ 2 ^ (hi + 1)
+double hi h = omega (arith, pow-add 2 hi 1, pow_below hi 16 (omega arith))
+
+single : (lo : ℕ) → lo ≤ 15 → 1 * 2 ^ lo % 4294967296 ≡ 2 ^ lo
+single lo h = one_shl lo 32 (omega arith)
+
+pub span_room : (lo hi : ℕ) → lo ≤ hi → hi ≤ 15 → 1 * 2 ^ lo % 4294967296 ≤ 2 * 2 ^ hi % 4294967296
+span_room lo hi h k = rw (double hi k, single lo (omega arith)) (omega (arith, pow_below lo (hi + 1) (omega arith)))
+
+pub has_span : (lo hi i : ℕ) → lo ≤ hi → hi ≤ 15 → has (2 * 2 ^ hi % 4294967296 - 1 * 2 ^ lo % 4294967296) i ≡ (nat_le lo i && nat_le i hi)
+has_span lo hi i h k = rw (double hi k, single lo (omega arith)) (bit_of (bit_at (2 ^ (hi + 1) - 2 ^ lo) i) (nat_le lo i && nat_le i hi) (mask_bit lo hi i))
