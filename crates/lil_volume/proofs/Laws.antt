@@ -1,0 +1,20 @@
+-- What a sink holds after several pieces.
+use Rattle.std.proofs.Common.{◌≡◌, ℕ, List, [], ◌++◌, length, take, Option, None, Some, refl, sym, ◌∙◌, ap, arith, append_assoc}
+use Rattle.std.proofs.lemmas.List.{append-nil, take_all}
+use Rattle.std.specs.Option.{option_map}
+use Rattle.lil_volume.specs.Told.{followed_by, FollowedByPrefix}
+
+-- two pieces are one
+pub followed_twice : (old : Option (List ℕ)) (a b : List ℕ) → followed_by (followed_by old a) b ≡ followed_by old (a ++ b)
+followed_twice None a b = refl
+followed_twice (Some bytes) a b = ap (λ (held : List ℕ). Some held) (append_assoc bytes a b)
+
+-- an empty piece adds nothing
+pub followed_nothing : (old : Option (List ℕ)) → followed_by old [] ≡ old
+followed_nothing None = refl
+followed_nothing (Some bytes) = ap (λ (held : List ℕ). Some held) (append-nil bytes)
+
+-- the whole piece is a prefix of it
+pub all_taken : (old new : Option (List ℕ)) (piece : List ℕ) → new ≡ followed_by old piece → FollowedByPrefix old piece new
+all_taken old new piece whole =
+    (length piece, whole ∙ ap (λ (taken : List ℕ). followed_by old taken) (sym (take_all (length piece) piece (omega arith))))

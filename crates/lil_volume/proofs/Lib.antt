@@ -1,0 +1,3 @@
+mod Entries
+mod Known
+pub mod Laws

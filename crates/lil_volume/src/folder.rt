@@ -1,0 +1,126 @@
+ghost use Rattle.std.specs.Prelude.{◌≡◌, ◌≤◌, None, IfOk, IfSome, length};
+
+use crate::schedule::one_more;
+use crate::streams::write_whole;
+use crate::{Volume, VolumeError};
+use lil_base::{Bytes, FileName};
+use std::alloc::Global;
+use std::fs::File;
+use std::io::{ErrorKind, Read};
+use std::rt::Files;
+use std::{fs, str};
+
+/// The most bytes of a file.
+const MOST_BYTES: usize = 16_777_216;
+
+/// A file is written under this name first and then renamed. It is no `FileName`.
+const BESIDE: &str = "lilith-new";
+
+/// The files of the current folder, of at most 16,777,216 bytes each. A file that was refused is as
+/// before. The file `lilith-new` there is used for writing.
+#[derive(Drop)]
+pub struct FolderVolume<R: Files + Drop> {
+    runtime: R,
+    faults: u64,
+}
+
+impl<R: Files + Drop> FolderVolume<R> {
+    /// The current folder, without faults so far.
+    pub fn new(runtime: R) -> FolderVolume<R>
+        ensures { result.faults ≡ 0 }
+    {
+        FolderVolume { runtime, faults: 0 }
+    }
+}
+
+/// All bytes of a reader that has at most `MOST_BYTES`.
+fn read_whole<F: Read + Drop>(alloc: Global, file: F) -> Result<Bytes, VolumeError>
+    ensures within { IfOk result (λ bytes. length bytes ≤ MOST_BYTES) }
+    ensures whole { IfOk result (λ bytes. IfSome (F.remaining file) (λ all. bytes ≡ all)) }
+{
+    let mut bytes = Vec::new(alloc);
+    let mut limited = file.take(16_777_217);
+    match limited.read_to_end(&mut bytes) {
+        Ok(_) => {
+            let bytes = Bytes::of_vec(bytes);
+            if bytes.len() > MOST_BYTES {
+                return Err(VolumeError::Failed);
+            }
+            Ok(bytes)
+        }
+        Err(error) => {
+            if error.kind() == ErrorKind::OutOfMemory {
+                return Err(VolumeError::Memory);
+            }
+            Err(VolumeError::Failed)
+        }
+    }
+}
+
+fn read_file<R: Files>(
+    runtime: &R,
+    alloc: Global,
+    name: &FileName,
+) -> Result<Option<Bytes>, VolumeError> {
+    let Ok(path) = str::from_utf8(name.text().as_slice()) else {
+        return Err(VolumeError::Failed);
+    };
+    match File::open(runtime, path) {
+        Ok(file) => Ok(Some(read_whole(alloc, file)?)),
+        Err(error) => {
+            if error.kind() == ErrorKind::NotFound {
+                return Ok(None);
+            }
+            Err(VolumeError::Failed)
+        }
+    }
+}
+
+fn write_beside<R: Files>(runtime: &R, content: &[u8]) -> bool {
+    match File::create(runtime, BESIDE) {
+        Ok(mut file) => write_whole(&mut file, content),
+        Err(_) => false,
+    }
+}
+
+/// Whether a file now has these bytes under its name.
+fn write_file<R: Files>(runtime: &R, name: &FileName, content: &[u8]) -> bool {
+    let Ok(path) = str::from_utf8(name.text().as_slice()) else {
+        return false;
+    };
+    if content.len() > MOST_BYTES {
+        return false;
+    }
+    if write_beside(runtime, content) && fs::rename(runtime, BESIDE, path).is_ok() {
+        return true;
+    }
+    let _ = fs::remove_file(runtime, BESIDE);
+    false
+}
+
+impl<R: Files + Drop> Volume for FolderVolume<R> {
+    ghost files = { λ _. None };
+
+    ghost faults = { λ v. v.faults };
+
+    fn read(&mut self, alloc: Global, name: &FileName) -> Result<Option<Bytes>, VolumeError> {
+        let found = read_file(&self.runtime, alloc, name);
+        if let Err(VolumeError::Failed) = found {
+            self.faults = one_more(self.faults);
+        }
+        found
+    }
+
+    fn write(
+        &mut self,
+        _alloc: Global,
+        name: &FileName,
+        content: &Bytes,
+    ) -> Result<(), VolumeError> {
+        if write_file(&self.runtime, name, content.as_slice()) {
+            return Ok(());
+        }
+        self.faults = one_more(self.faults);
+        Err(VolumeError::Failed)
+    }
+}
