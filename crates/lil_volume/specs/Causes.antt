@@ -1,5 +1,6 @@
 -- Counts of faults, and what an answer says of them.
-use Rattle.std.specs.Prelude.{◌≡◌, ℕ, ◌+◌, ◌-◌, ◌^◌, ◌≤◌, min, Bool, true, false, Result, OnOk, OnErr, IsErrOf}
+use Rattle.std.specs.Prelude.{◌≡◌, ℕ, ◌+◌, ◌-◌, ◌^◌, ◌≤◌, min, Bool, true, false, Contains, Result, OnOk, OnErr, IsErr, IsErrOf}
+use Rattle.lil_volume.specs.declared.schedule.Schedule.{Schedule}
 use Rattle.lil_volume.specs.declared.outside.VolumeError.{VolumeError}
 use Rattle.lil_volume.specs.declared.outside.VolumeError.TheVariants.{Failed}
 
@@ -28,3 +29,9 @@ pub record Counted (before now : ℕ) (failed : Bool) : Type 0 where
   pub later : before ≤ now
   pub rose : failed ≡ true → Rose before now
   pub quiet : failed ≡ false → now ≡ before
+
+-- a call of an object in memory: it counts, it fails where its number is listed, and the list stays
+pub record Scheduled {T E : Type 0} (before now : Schedule) (result : Result T E) : Type 0 where
+  pub counted : now.calls ≡ next_count before.calls
+  pub listed : Contains before.failing.items (next_count before.calls) → IsErr result
+  pub kept : now.failing.items ≡ before.failing.items

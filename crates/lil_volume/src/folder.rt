@@ -1,4 +1,5 @@
-ghost use Rattle.std.specs.Prelude.{◌≡◌, ◌≤◌, None, IfOk, IfSome, length};
+ghost use Rattle.std.specs.Prelude.{◌≡◌, ◌≤◌, None, IfOk, IfSome, OnOk, IsTrue, length};
+ghost use Rattle.lil_volume.specs.Causes.{VolumeCause};
 
 use crate::schedule::one_more;
 use crate::streams::write_whole;
@@ -61,7 +62,9 @@ fn read_file<R: Files>(
     runtime: &R,
     alloc: Global,
     name: &FileName,
-) -> Result<Option<Bytes>, VolumeError> {
+) -> Result<Option<Bytes>, VolumeError>
+    ensures { IfOk result (λ found. IfSome found (λ bytes. length bytes ≤ MOST_BYTES)) }
+{
     let Ok(path) = str::from_utf8(name.text().as_slice()) else {
         return Err(VolumeError::Failed);
     };
@@ -84,7 +87,9 @@ fn write_beside<R: Files>(runtime: &R, content: &[u8]) -> bool {
 }
 
 /// Whether a file now has these bytes under its name.
-fn write_file<R: Files>(runtime: &R, name: &FileName, content: &[u8]) -> bool {
+fn write_file<R: Files>(runtime: &R, name: &FileName, content: &[u8]) -> bool
+    ensures { IsTrue result → length content.now ≤ MOST_BYTES }
+{
     let Ok(path) = str::from_utf8(name.text().as_slice()) else {
         return false;
     };
@@ -103,7 +108,10 @@ impl<R: Files + Drop> Volume for FolderVolume<R> {
 
     ghost faults = { λ v. v.faults };
 
-    fn read(&mut self, alloc: Global, name: &FileName) -> Result<Option<Bytes>, VolumeError> {
+    fn read(&mut self, alloc: Global, name: &FileName) -> Result<Option<Bytes>, VolumeError>
+        ensures cause { VolumeCause self.old.faults self.new.faults result }
+        ensures limit { IfOk result (λ found. IfSome found (λ bytes. length bytes ≤ MOST_BYTES)) }
+    {
         let found = read_file(&self.runtime, alloc, name);
         if let Err(VolumeError::Failed) = found {
             self.faults = one_more(self.faults);
@@ -111,12 +119,10 @@ impl<R: Files + Drop> Volume for FolderVolume<R> {
         found
     }
 
-    fn write(
-        &mut self,
-        _alloc: Global,
-        name: &FileName,
-        content: &Bytes,
-    ) -> Result<(), VolumeError> {
+    fn write(&mut self, _alloc: Global, name: &FileName, content: &Bytes) -> Result<(), VolumeError>
+        ensures cause { VolumeCause self.old.faults self.new.faults result }
+        ensures limit { OnOk result (length content.now ≤ MOST_BYTES) }
+    {
         if write_file(&self.runtime, name, content.as_slice()) {
             return Ok(());
         }

@@ -1,5 +1,5 @@
 ghost use Rattle.std.specs.Prelude.{◌≡◌, Some, IfOk, OnErr};
-ghost use Rattle.lil_volume.specs.Causes.{next_count, HasCause};
+ghost use Rattle.lil_volume.specs.Causes.{HasCause, Scheduled};
 ghost use Rattle.lil_volume.specs.Told.{KeyTaken};
 
 use crate::schedule::Schedule;
@@ -23,7 +23,7 @@ impl Keyboard for RamKeys {
         ensures ok { IfOk result (λ key. KeyTaken (Some self.old.left) (Some self.new.left) key) }
         ensures err { OnErr result (self.new.left ≡ self.old.left) }
         ensures cause { HasCause self.old.schedule.faults self.new.schedule.faults result }
-        ensures counted { self.new.schedule.calls ≡ next_count self.old.schedule.calls }
+        ensures schedule { Scheduled self.old.schedule self.new.schedule result }
     {
         if self.schedule.next_fails() {
             return Err(KeyFailed);

@@ -1,5 +1,5 @@
 ghost use Rattle.std.specs.Prelude.{◌≡◌, ◌++◌, Some, IfOk, OnOk, OnErr};
-ghost use Rattle.lil_volume.specs.Causes.{next_count, HasCause};
+ghost use Rattle.lil_volume.specs.Causes.{HasCause, Scheduled};
 ghost use Rattle.lil_volume.specs.Told.{FollowedByPrefix};
 
 use crate::schedule::Schedule;
@@ -23,7 +23,7 @@ impl Sink for RamSink {
         ensures ok { OnOk result (self.new.written ≡ self.old.written ++ piece.now) }
         ensures err { OnErr result (FollowedByPrefix (Some self.old.written) piece.now (Some self.new.written)) }
         ensures cause { HasCause self.old.schedule.faults self.new.schedule.faults result }
-        ensures counted { self.new.schedule.calls ≡ next_count self.old.schedule.calls }
+        ensures schedule { Scheduled self.old.schedule self.new.schedule result }
     {
         if self.schedule.next_fails() {
             return Err(SinkFailed);

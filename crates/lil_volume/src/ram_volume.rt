@@ -3,7 +3,7 @@ ghost use Rattle.std.specs.Ordering.{nat_cmp};
 ghost use Rattle.std.specs.Cmp.Lexicographic.{slice_cmp};
 ghost use Rattle.std.specs.Option.{option_copied};
 ghost use Rattle.std.specs.FinMap.{from_entries, find, get};
-ghost use Rattle.lil_volume.specs.Causes.{next_count, VolumeCause};
+ghost use Rattle.lil_volume.specs.Causes.{VolumeCause, Scheduled};
 ghost use Rattle.lil_volume.specs.Told.{FileIs, with_file};
 
 use crate::schedule::Schedule;
@@ -50,7 +50,7 @@ impl Volume for RamVolume {
         ensures found { IfOk result (λ found. FileIs (Some (from_entries self.old.entries.items)) name.now found) }
         ensures same { self.new.entries.items ≡ self.old.entries.items }
         ensures cause { VolumeCause self.old.schedule.faults self.new.schedule.faults result }
-        ensures counted { self.new.schedule.calls ≡ next_count self.old.schedule.calls }
+        ensures schedule { Scheduled self.old.schedule self.new.schedule result }
     {
         if self.schedule.next_fails() {
             return Err(VolumeError::Failed);
@@ -65,7 +65,7 @@ impl Volume for RamVolume {
         ensures ok { OnOk result (Some (from_entries self.new.entries.items) ≡ with_file (Some (from_entries self.old.entries.items)) name.now content.now) }
         ensures err { OnErr result (self.new.entries.items ≡ self.old.entries.items) }
         ensures cause { VolumeCause self.old.schedule.faults self.new.schedule.faults result }
-        ensures counted { self.new.schedule.calls ≡ next_count self.old.schedule.calls }
+        ensures schedule { Scheduled self.old.schedule self.new.schedule result }
     {
         if self.schedule.next_fails() {
             return Err(VolumeError::Failed);

@@ -1,7 +1,6 @@
-ghost use Rattle.std.specs.Prelude.{◌≡◌, None, [], ◌∷◌, Option, IfOk, OnOk, OnErr, IsTrue, MatchOption};
+ghost use Rattle.std.specs.Prelude.{◌≡◌, None, [], ◌∷◌, Option, IfOk, OnOk, IsTrue, MatchOption};
 ghost use Rattle.std.specs.Io.KnownBytes.{Appends, Consumes, IsAtEnd};
 ghost use Rattle.lil_volume.specs.Causes.{HasCause};
-ghost use Rattle.lil_volume.specs.Told.{followed_by, FollowedByPrefix, KeyTaken};
 
 use crate::schedule::one_more;
 use crate::{KeyFailed, Keyboard, Sink, SinkFailed};
@@ -50,7 +49,7 @@ pub struct OutputSink<W: Write + Drop> {
 /// The report: a sink over a writer of the host.
 #[derive(Drop)]
 pub struct ErrorSink<W: Write + Drop> {
-    output: W,
+    report: W,
     faults: u64,
 }
 
@@ -74,10 +73,10 @@ impl<W: Write + Drop> OutputSink<W> {
 
 impl<W: Write + Drop> ErrorSink<W> {
     /// What is put goes to the writer. There are no faults so far.
-    pub fn new(output: W) -> ErrorSink<W>
+    pub fn new(report: W) -> ErrorSink<W>
         ensures { result.faults ≡ 0 }
     {
-        ErrorSink { output, faults: 0 }
+        ErrorSink { report, faults: 0 }
     }
 }
 
@@ -87,7 +86,6 @@ impl<R: Read + Drop> Keyboard for InputKeys<R> {
     ghost faults = { λ k. k.faults };
 
     fn key(&mut self) -> Result<Option<u8>, KeyFailed>
-        ensures ok { IfOk result (λ key. KeyTaken None None key) }
         ensures cause { HasCause self.old.faults self.new.faults result }
         ensures bytes { IfOk result (λ key. MatchOption key (IsAtEnd (R.remaining self.new.input)) (λ byte. Consumes (R.remaining self.old.input) (R.remaining self.new.input) (byte ∷ []))) }
     {
@@ -107,8 +105,6 @@ impl<W: Write + Drop> Sink for OutputSink<W> {
     ghost faults = { λ s. s.faults };
 
     fn put(&mut self, piece: &[u8]) -> Result<(), SinkFailed>
-        ensures ok { OnOk result (None ≡ followed_by None piece.now) }
-        ensures err { OnErr result (FollowedByPrefix None piece.now None) }
         ensures cause { HasCause self.old.faults self.new.faults result }
         ensures bytes { OnOk result (Appends (W.contents self.old.output) (W.contents self.new.output) piece.now) }
     {
@@ -126,12 +122,10 @@ impl<W: Write + Drop> Sink for ErrorSink<W> {
     ghost faults = { λ s. s.faults };
 
     fn put(&mut self, piece: &[u8]) -> Result<(), SinkFailed>
-        ensures ok { OnOk result (None ≡ followed_by None piece.now) }
-        ensures err { OnErr result (FollowedByPrefix None piece.now None) }
         ensures cause { HasCause self.old.faults self.new.faults result }
-        ensures bytes { OnOk result (Appends (W.contents self.old.output) (W.contents self.new.output) piece.now) }
+        ensures bytes { OnOk result (Appends (W.contents self.old.report) (W.contents self.new.report) piece.now) }
     {
-        if write_whole(&mut self.output, piece) {
+        if write_whole(&mut self.report, piece) {
             return Ok(());
         }
         self.faults = one_more(self.faults);

@@ -4,6 +4,7 @@ use crate::{
 };
 use lil_base::{Bytes, FileName, Text};
 use std::alloc::Global;
+use std::fs;
 use std::process::Abort;
 use std::test::Fail;
 
@@ -132,5 +133,14 @@ fn a_folder(rt: HostRuntime) -> Result<(), Fail> {
     assert!(rt; write_file(alloc, &mut volume, b"FOUND.TXT", b"first")?);
     assert!(rt; write_file(alloc, &mut volume, b"FOUND.TXT", b"again")?);
     expect_file(&rt, alloc, &mut volume, b"FOUND.TXT", Some(b"again"))?;
+    fs::remove_file(&rt, "FOUND.TXT")?;
+    expect_file(&rt, alloc, &mut volume, b"FOUND.TXT", None)?;
+    fs::create_dir(&rt, "FOUND.TXT")?;
+    let written = write_file(alloc, &mut volume, b"FOUND.TXT", b"first")?;
+    let unread = volume.read(alloc, &file_name(alloc, b"FOUND.TXT")?);
+    fs::remove_dir(&rt, "FOUND.TXT")?;
+    assert!(rt; !written);
+    assert!(rt; matches!(unread, Err(VolumeError::Failed)));
+    assert!(rt; !fs::exists(&rt, "lilith-new")?);
     Ok(())
 }
