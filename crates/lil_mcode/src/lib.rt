@@ -4,5 +4,5 @@
 mod instr;
 mod machine;
 
-pub use instr::Instr;
+pub use instr::{Instr, decode};
 pub use machine::Event;
