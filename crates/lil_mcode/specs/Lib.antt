@@ -2,3 +2,5 @@ pub mod Bytes
 pub mod State
 pub mod Table
 pub mod Calls
+pub mod Loaded
+pub mod Fetch

@@ -1,0 +1,4 @@
+pub mod WordLaws
+mod Lists
+pub mod Decoding
+mod Steps
