@@ -2,3 +2,5 @@ pub mod WordLaws
 mod Lists
 pub mod Decoding
 mod Steps
+mod Running
+mod Loading

@@ -1,5 +1,5 @@
 -- A step is the row of the instruction that was fetched.
-use Rattle.std.proofs.Common.{◌≡◌, ℕ, zero, suc, ◌+◌, ◌≤◌, Bool, ◌&&◌, nat_lt, nat_le, List, [], ◌∷◌, length, map, Option, None, Some, slice_get, option_map, is_some, refl, ap, ◌∙◌, subst, arith}
+use Rattle.std.proofs.Common.{◌≡◌, ℕ, zero, suc, ◌+◌, ◌≤◌, Bool, ◌&&◌, nat_lt, nat_le, List, [], ◌∷◌, length, map, Option, None, Some, slice_get, option_map, is_some, refl, sym, ap, ◌∙◌, subst, arith}
 use Rattle.std.proofs.lemmas.Bool.Decides.{nat_tests}
 use Rattle.std.proofs.lemmas.List.{length-map}
 use Rattle.std.proofs.lemmas.Option.{slice_get-map}
@@ -52,7 +52,7 @@ pub record Fits_in (l : LoadedModule) (end : ℕ) : Type 0 where
   pub within : l.start + l.size ≤ end
   pub few : length l.procedures.items ≤ 251
 
-lies_up : (loaded : List LoadedModule) (from end : ℕ) → Lies from loaded end → from ≤ end
+pub lies_up : (loaded : List LoadedModule) (from end : ℕ) → Lies from loaded end → from ≤ end
 lies_up [] from end h = omega arith
 lies_up (l ∷ loaded) from end h = let u : from + l.size ≤ end = lies_up loaded (from + l.size) end h.2 in omega arith
 
@@ -68,3 +68,13 @@ lies_at (x ∷ loaded) from end (suc k) l h e = lies_at loaded (from + x.size) e
 pub lies_loaded : (loaded : List LoadedModule) (end n : ℕ) (l : LoadedModule) → Lies 0 loaded end → loaded_at loaded n ≡ Some l → Fits_in l end
 lies_loaded loaded end zero l h e = cc
 lies_loaded loaded end (suc k) l h e = lies_at loaded 0 end k l h e
+
+pub loaded_is : (code : List ℕ) (loaded : List LoadedModule) (n : ℕ) (l : LoadedModule) (m : Module) → loaded_at loaded n ≡ Some l → module_at (map (module_of code) loaded) n ≡ Some m → module_of code l ≡ m
+loaded_is code loaded n l m h e =
+    let s : Some (module_of code l) ≡ Some m = sym (ap (option_map (module_of code)) h) ∙ (sym (module_at_loaded code loaded n) ∙ e) in
+    cc
+
+pub not_loaded : (code : List ℕ) (loaded : List LoadedModule) (n : ℕ) (m : Module) → loaded_at loaded n ≡ None → module_at (map (module_of code) loaded) n ≡ Some m → ⊥
+not_loaded code loaded n m h e =
+    let n' : None ≡ Some m = sym (ap (option_map (module_of code)) h) ∙ (sym (module_at_loaded code loaded n) ∙ e) in
+    cc

@@ -4,3 +4,4 @@ pub mod Table
 pub mod Calls
 pub mod Loaded
 pub mod Fetch
+pub mod Kept

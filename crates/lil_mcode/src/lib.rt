@@ -6,4 +6,4 @@ mod machine;
 mod processor;
 
 pub use instr::{Instr, decode};
-pub use machine::Event;
+pub use machine::{CodeAt, Event, Machine};

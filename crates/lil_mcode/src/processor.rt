@@ -1,6 +1,8 @@
-ghost use Rattle.std.specs.Prelude.{◌≡◌, ℕ, pos, ◌+◌, ◌<◌, ◌≤◌, ◌^◌, ◌∷◌, length, drop, take, slice_get, option_map, IfOk, IfSome, IfNone, MatchOption, []};
+ghost use Rattle.std.specs.Prelude.{◌≡◌, ℕ, pos, ◌+◌, ◌<◌, ◌≤◌, ◌^◌, ◌∷◌, ◌++◌, length, vec_len, vec_capacity, false, drop, take, slice_get, option_map, IfOk, IfSome, IfNone, MatchOption, []};
 ghost use Rattle.std.specs.Option.{option_copied};
 ghost use Rattle.lil_base.specs.Words.{Cardinal, sum, difference};
+ghost use Rattle.lil_mcode.specs.Calls.{IsRunning, names_of, code_used, fresh};
+ghost use Rattle.lil_mcode.specs.Kept.{with_loaded, with_first, is_better};
 ghost use Rattle.lil_mcode.specs.Fetch.{found, based};
 ghost use Rattle.lil_mcode.specs.Loaded.{loaded_at};
 ghost use Rattle.lil_mcode.specs.State.{Module, zeros, cleared, spliced, module_at, first_entry, body_entry};
@@ -9,7 +11,8 @@ ghost use Rattle.lil_mcode.specs.Table.{mstep, act, going, push_row, load_row, s
 use crate::instr::{Instr, decode};
 use crate::machine::Event;
 use arrayvec::ArrayVec;
-use lil_base::{Bytes, LimitKind, Name, TrapKind};
+use lil_base::{Bytes, LimitKind, Memory, Name, TrapKind};
+use std::alloc::Global;
 use std::marker::Model;
 
 /// A module that is loaded: its part of the code store, in bytes, and its data frame, in words.
@@ -94,7 +97,175 @@ fn body_place(procedures: &[(u16, Option<Name>)]) -> u16
     }
 }
 
+fn is_nearer(place: u16, found: Option<u16>, entry: u16) -> bool
+    ensures { result ≡ is_better place found entry }
+{
+    match found {
+        None => entry <= place,
+        Some(before) => entry <= place && before < entry,
+    }
+}
+
+fn running_procedure(procedures: &[(u16, Option<Name>)], place: u16) -> u8
+    requires { length procedures.now ≤ 251 }
+    ensures { IsRunning procedures.now place result }
+{
+    let mut number: u8 = 0;
+    let mut found: Option<u16> = None;
+    for (k, procedure) in procedures.iter().enumerate() {
+        let entry = procedure.0;
+        if is_nearer(place, found, entry) {
+            number = k as u8;
+            found = Some(entry);
+        }
+    }
+    number
+}
+
 impl Processor {
+    /// A processor without modules.
+    pub fn new(alloc: Global) -> Result<Processor, Memory>
+        ensures { IfOk result (λ p. p ≡ fresh.state) }
+    {
+        let modules = Vec::with_capacity(alloc, 63)?;
+        let code = zero_bytes(alloc, 131072)?;
+        let store = zero_words(alloc, 65536)?;
+        Ok(Processor {
+            modules,
+            code,
+            code_end: 0,
+            running: 0,
+            place: 0,
+            stack: ArrayVec::new(),
+            store,
+            frame: 0,
+            top: 0,
+            base: 0,
+            limit: 65535,
+            bodies: Bytes::new(alloc),
+            marked: false,
+        })
+    }
+
+    /// The number of the running module.
+    pub fn running(&self) -> u8
+        ensures { result ≡ self.now.running }
+    {
+        self.running
+    }
+
+    /// The place of the next instruction.
+    pub fn place(&self) -> u16
+        ensures { result ≡ self.now.place }
+    {
+        self.place
+    }
+
+    /// The k-th word of the expression stack, from its top.
+    pub fn argument(&self, k: u8) -> u16
+        requires { k < length self.now.stack }
+        ensures { slice_get self.now.stack k ≡ Some result }
+    {
+        let count = self.stack.len();
+        self.stack[count - 1 - usize::from(k)]
+    }
+
+    /// Takes the upper n words from the expression stack.
+    pub fn drop_arguments(&mut self, n: u8)
+        requires { n ≤ length self.old.stack }
+        ensures { self.new ≡ record self.old { stack = drop n self.old.stack } }
+    {
+        let count = self.stack.len();
+        self.stack.truncate(count - usize::from(n));
+    }
+
+    /// The procedure of a module that runs at a place.
+    pub fn procedure_at(&self, number: u8, place: u16) -> u8
+        ensures { (m : Module) → module_at self.now.modules number ≡ Some m → IsRunning m.procedures place result }
+    {
+        match loaded(self.modules.as_slice(), number) {
+            None => 0,
+            Some(entry) => running_procedure(entry.procedures.as_slice(), place),
+        }
+    }
+
+    /// The names of a module and of one of its procedures.
+    pub fn names(&self, number: u8, procedure: u8) -> Option<(&Name, Option<&Name>)>
+        ensures some { IfSome result (λ n. names_of self.now.modules number procedure ≡ Some (n.0.now, option_copied n.1)) }
+        ensures none { IfNone result (names_of self.now.modules number procedure ≡ None) }
+    {
+        let entry = loaded(self.modules.as_slice(), number)?;
+        let procedure = entry.procedures.get(usize::from(procedure))?;
+        Some((&entry.name, procedure.1.as_ref()))
+    }
+
+    /// One more module behind the others, whose data frame begins at a base.
+    pub fn load_module(
+        &mut self,
+        name: Name,
+        procedures: Vec<(u16, Option<Name>)>,
+        code: &[u8],
+        base: u16,
+        words: u16,
+    ) -> u8
+        requires table { length self.old.modules < 63 }
+        requires code_room { code_used self.old.modules + length code.now ≤ 131072 }
+        requires code_few { length code.now ≤ 32767 }
+        requires few { length procedures.items ≤ 251 }
+        requires room { base + words ≤ 65535 }
+        ensures new { self.new ≡ with_loaded self.old (record { name = name; procedures = procedures.items; code = code.now; base = base; words = words }) }
+        ensures number { result ≡ length self.new.modules }
+    {
+        let start = self.code_end;
+        let size = code.len() as u16;
+        put_code(&mut self.code, start, code);
+        clear_words(&mut self.store, base, words);
+        self.code_end = start + u32::from(size);
+        let entry = LoadedModule {
+            name,
+            procedures,
+            start,
+            size,
+            base,
+            words,
+        };
+        put_entry(&mut self.modules, entry);
+        self.modules.len() as u8
+    }
+
+    /// The first of the bodies begins, over a base of the main stack.
+    pub fn begin(&mut self, bodies: Vec<u8>, base: u16)
+        ensures { self.new ≡ with_first (record self.old { base = base; limit = 65535 }) bodies.items }
+    {
+        self.base = base;
+        self.limit = 65535;
+        let mut bodies = Bytes::of_vec(bodies);
+        let Some(number) = bodies.take_first() else {
+            return;
+        };
+        let Some(place) = self.entry(number) else {
+            return;
+        };
+        self.bodies = bodies;
+        if base <= 65531 {
+            self.start_body(number, place);
+            self.marked = true;
+        } else {
+            self.start_unmarked(number, place);
+        }
+    }
+
+    fn start_unmarked(&mut self, number: u8, place: u16)
+        ensures { self.new ≡ record self.old { running = number; place = place; stack = []; frame = self.old.base; top = self.old.base; marked = false } }
+    {
+        self.running = number;
+        self.place = place;
+        self.stack.clear();
+        self.frame = self.base;
+        self.top = self.base;
+        self.marked = false;
+    }
+
     /// One step of the table.
     #[tactic(auto, using(crate::proofs::Steps::fetched_done))]
     pub fn row(&mut self) -> Event
@@ -353,4 +524,57 @@ fn write_mark(store: &mut [u16], at: usize, number: u8)
 {
     let mark = [0, 0, 0, u16::from(number)];
     store[at..at + 4].copy_from_slice(&mark);
+}
+
+fn put_bytes(store: &mut [u8], at: usize, code: &[u8])
+    requires { at + length code.now ≤ length store.old }
+    ensures { store.new ≡ spliced store.old at code.now }
+{
+    let end = at + code.len();
+    store[at..end].copy_from_slice(code);
+}
+
+fn put_code(store: &mut Vec<u8>, at: u32, code: &[u8])
+    requires { at + length code.now ≤ length store.old.items }
+    ensures { store.new.items ≡ spliced store.old.items at code.now }
+{
+    put_bytes(store, at as usize, code);
+}
+
+fn clear_words(store: &mut Vec<u16>, from: u16, words: u16)
+    requires { from + words ≤ length store.old.items }
+    ensures { store.new.items ≡ cleared store.old.items from (from + words) }
+{
+    clear(
+        store,
+        usize::from(from),
+        usize::from(from) + usize::from(words),
+    );
+}
+
+fn put_entry(modules: &mut Vec<LoadedModule>, entry: LoadedModule)
+    requires { vec_len modules.old < vec_capacity modules.old }
+    ensures items { modules.new.items ≡ modules.old.items ++ entry ∷ [] }
+    ensures capacity { vec_capacity modules.old ≤ vec_capacity modules.new }
+{
+    match modules.push(entry) {
+        Ok(()) => (),
+        Err(_) => unreachable!(),
+    }
+}
+
+#[tactic(auto, unfolding(crate::specs::State::zeros))]
+fn zero_words(alloc: Global, count: usize) -> Result<Vec<u16>, Memory>
+    ensures zeros { IfOk result (λ words. words.items ≡ zeros count) }
+    ensures long { IfOk result (λ words. length words.items ≡ count) }
+{
+    let words = vec![in alloc; 0u16; count]?;
+    Ok(words)
+}
+
+fn zero_bytes(alloc: Global, count: usize) -> Result<Vec<u8>, Memory>
+    ensures { IfOk result (λ bytes. length bytes.items ≡ count) }
+{
+    let bytes = vec![in alloc; 0u8; count]?;
+    Ok(bytes)
 }
