@@ -3,6 +3,7 @@
 
 mod instr;
 mod machine;
+mod processor;
 
-pub use instr::Instr;
-pub use machine::Event;
+pub use instr::{Instr, decode};
+pub use machine::{CodeAt, Event, Machine};

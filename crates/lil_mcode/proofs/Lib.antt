@@ -1,0 +1,6 @@
+pub mod WordLaws
+mod Lists
+pub mod Decoding
+mod Steps
+mod Running
+mod Loading

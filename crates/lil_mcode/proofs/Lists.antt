@@ -1,0 +1,52 @@
+-- Reversed lists, and words that come to a place of a list.
+use Rattle.std.proofs.Common.{◌≡◌, ℕ, ◌+◌, ◌-◌, ◌<◌, ◌≤◌, List, [], ◌∷◌, ◌++◌, length, take, drop, replicate, reverse, refl, sym, ap, ◌∙◌, arith, length-take, length-drop}
+use Rattle.std.proofs.lemmas.List.{reverse-append, length-reverse, take-append-drop, drop-drop, length-replicate, length-append, length-take-le, drop-append-le, take-append-le, drop-take, take-take, take_at, drop_at}
+use Rattle.std.proofs.Math.Seq.{drop-append_seam}
+use borrow.Rule.Slice.PartMut.{put_mid}
+use Rattle.lil_mcode.specs.State.{spliced, zeros}
+
+pub drop_reverse : (k : ℕ) (xs : List ℕ) → k ≤ length xs → drop k (reverse xs) ≡ reverse (take (length xs - k) xs)
+drop_reverse k xs h =
+    let n : ℕ = length xs - k in
+    let parts : reverse xs ≡ reverse (drop n xs) ++ reverse (take n xs) = ap reverse (sym (take-append-drop n xs)) ∙ reverse-append (take n xs) (drop n xs) in
+    let long : length (reverse (drop n xs)) ≡ k = simp (length-reverse, length-drop) (omega arith) in
+    ap (drop k) parts ∙ ap (λ j. drop j (reverse (drop n xs) ++ reverse (take n xs))) (sym long) ∙ drop-append_seam (reverse (drop n xs)) (reverse (take n xs))
+
+pub length-zeros : (n : ℕ) → length (zeros n) ≡ n
+unfolding zeros
+length-zeros n = length-replicate n 0
+
+pub put_mid-spliced : (from n : ℕ) (store words : List ℕ) → length words ≡ n → put_mid from n store words ≡ spliced store from words
+unfolding spliced
+put_mid-spliced from n store words h =
+    ap (λ t. take from store ++ (words ++ t)) (drop-drop n from store ∙ ap (λ k. drop (from + k) store) (sym h))
+
+pub two_replaced : (xs : List ℕ) (w : ℕ) → 2 ≤ length xs → reverse (take (length xs - 2) xs ++ w ∷ []) ≡ w ∷ drop 2 (reverse xs)
+two_replaced xs w h = reverse-append (take (length xs - 2) xs) (w ∷ []) ∙ ap (λ t. w ∷ t) (sym (drop_reverse 2 xs h))
+
+-- the words before a place stay
+pub before_spliced : (store words : List ℕ) (at start size : ℕ) → start + size ≤ at → at ≤ length store → take size (drop start (spliced store at words)) ≡ take size (drop start store)
+unfolding spliced
+before_spliced store words at start size h room =
+    let front = take at store in
+    let rest = words ++ drop (at + length words) store in
+    let long : length front ≡ at = length-take-le at store room in
+    let a : drop start (front ++ rest) ≡ drop start front ++ rest = drop-append-le start front rest (omega arith) in
+    let b : length (drop start front) ≡ at - start = simp length-drop (omega arith) in
+    let d : take size (drop start front ++ rest) ≡ take size (drop start front) = take-append-le size (drop start front) rest (omega arith) in
+    let k : ℕ = at - start in
+    let e : take at store ≡ take (start + k) store = ap (λ (n : ℕ). take n store) (omega arith) in
+    let t : drop start front ≡ take k (drop start store) = ap (drop start) e ∙ drop-take start k store in
+    ap (take size) a ∙ (d ∙ (ap (take size) t ∙ take-take size k (drop start store) (omega arith)))
+
+-- the words that came stand at their place
+pub at_spliced : (store words : List ℕ) (at n : ℕ) → at ≤ length store → length words ≡ n → take n (drop at (spliced store at words)) ≡ words
+unfolding spliced
+at_spliced store words at n room h =
+    let front = take at store in
+    let rest = drop (at + length words) store in
+    ap (take n) (drop_at front (words ++ rest) at (length-take-le at store room)) ∙ take_at words rest n h
+
+pub length_spliced : (store words : List ℕ) (at : ℕ) → at + length words ≤ length store → length (spliced store at words) ≡ length store
+unfolding spliced
+length_spliced store words at h = simp (length-append, length-take, length-drop) (omega arith)

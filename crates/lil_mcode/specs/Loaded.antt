@@ -1,0 +1,21 @@
+-- How the tables of the machine make the modules that are loaded.
+use Rattle.std.specs.Prelude.{◌≡◌, ℕ, zero, suc, ◌+◌, ◌≤◌, List, [], ◌∷◌, length, take, drop, Option, None, slice_get}
+use Rattle.lil_mcode.specs.declared.processor.LoadedModule.{LoadedModule}
+use Rattle.lil_mcode.specs.State.{Module}
+
+-- the part of the code store that is a module's code
+abbrev pub part_of : List ℕ → LoadedModule → List ℕ
+part_of code l = take l.size (drop l.start code)
+
+abbrev pub module_of : List ℕ → LoadedModule → Module
+module_of code l = record { name = l.name; procedures = l.procedures.items; code = part_of code l; base = l.base; words = l.words }
+
+-- the entry of the table with this number, from 1
+abbrev pub loaded_at : List LoadedModule → ℕ → Option LoadedModule
+loaded_at loaded zero = None
+loaded_at loaded (suc k) = slice_get loaded k
+
+-- the parts of the code store lie one behind another, from one place to another
+abbrev pub Lies : ℕ → List LoadedModule → ℕ → Type 0
+Lies from [] end = from ≡ end
+Lies from (l ∷ loaded) end = (l.start ≡ from) × (length l.procedures.items ≤ 251) × Lies (from + l.size) loaded end
