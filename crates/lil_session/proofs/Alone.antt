@@ -13,13 +13,8 @@ use Rattle.lil_mcode.specs.declared.machine.Event.TheVariants.{Went, Request, Le
 use Rattle.lil_mcode.specs.Bytes.{decoded, row, word_at, with_byte, with_word, with_two_words}
 use Rattle.lil_mcode.specs.State.{Module, State, module_at}
 use Rattle.lil_mcode.specs.Table.{mstep, act, fetched, performed, result_row, two_row, on_one, range_row, store_row, request_row, request_words, leave_row, end_row, return_row}
+use Rattle.lil_session.specs.Running.{IsAlone}
 use Rattle.lil_session.proofs.Homes.{yes}
-
--- a body that runs as the last of its level
-pub record IsAlone (s : State) : Type 0 where
-  pub body : s.frame ≡ s.base
-  pub last : s.bodies ≡ []
-  pub marked : s.marked ≡ true
 
 abbrev pub goes_on : Event → Bool
 goes_on Went = true

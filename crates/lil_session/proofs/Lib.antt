@@ -13,3 +13,5 @@ pub mod Whole
 pub mod Splices
 pub mod Start
 pub mod Alone
+pub mod Advancing
+pub mod Turns

@@ -1,5 +1,5 @@
 -- A run of the machine, with its world.
-use Rattle.std.specs.Prelude.{◌≡◌, ℕ, zero, suc, List, [], ◌∷◌, take, drop, reverse, Option, Some, None}
+use Rattle.std.specs.Prelude.{◌≡◌, ℕ, zero, suc, ◌<◌, ◌≤◌, true, List, [], ◌∷◌, ◌++◌, length, take, drop, reverse, Option, Some, None}
 use Rattle.lil_base.specs.declared.fault.TrapKind.{TrapKind}
 use Rattle.lil_base.specs.declared.fault.LimitKind.{LimitKind}
 use Rattle.lil_mcode.specs.declared.machine.Event.{Event}
@@ -7,6 +7,9 @@ use Rattle.lil_mcode.specs.declared.machine.Event.TheVariants.{Went, Request, Le
 use Rattle.lil_mcode.specs.State.{State, Module, zeros, spliced, cleared}
 use Rattle.lil_mcode.specs.Table.{mstep, request_words}
 use Rattle.lil_meaning.specs.World.{World, serve}
+use Rattle.lil_volume.specs.Told.{followed_by, FollowedByPrefix}
+use Rattle.lil_session.specs.declared.run.Ending.{Ending}
+use Rattle.lil_session.specs.declared.run.Ending.TheVariants as ending
 
 -- how far a run has come
 pub data Finish : Type 0 where
@@ -64,3 +67,47 @@ mrun (suc n) run = mrun n (advanced run)
 -- a machine that runs in a world
 abbrev pub running : State → World → Run
 running s w = record { machine = s; world = w; finish = Running }
+
+-- a body that runs as the last of its level, with its mark
+pub record IsAlone (s : State) : Type 0 where
+  pub body : s.frame ≡ s.base
+  pub last : s.bodies ≡ []
+  pub marked : s.marked ≡ true
+
+-- how far a run has come, by its ending
+abbrev pub finish_of : Ending → Finish
+finish_of ending.Done = Finished
+finish_of (ending.Trapped k) = TrappedBy k
+finish_of (ending.Limited k) = Limited k
+finish_of ending.Broken = Broken
+finish_of ending.Spent = Running
+
+abbrev pub finish_by : Option Ending → Finish
+finish_by None = Running
+finish_by (Some e) = finish_of e
+
+-- one step from s to t, in any world: what it adds to the screen was shown
+pub record IsStep (s t : State) (f : Finish) (old new : Option (List ℕ)) (w : World) : Type 0 where
+  pub world : World
+  pub run : advanced (running s w) ≡ record { machine = t; world = world; finish = f }
+  pub piece : List ℕ
+  pub adds : world.screen ≡ w.screen ++ piece
+  pub shown : new ≡ followed_by old piece
+
+-- one step whose piece the screen refused: a prefix of it may have been shown
+pub record IsRefused (s : State) (old new : Option (List ℕ)) (w : World) : Type 0 where
+  pub piece : List ℕ
+  pub adds : (advanced (running s w)).world.screen ≡ w.screen ++ piece
+  pub prefix : FollowedByPrefix old piece new
+
+-- at most so many steps, from s on: what they add to the screen was shown
+pub record HasRun (s : State) (steps : ℕ) (f : Finish) (old new : Option (List ℕ)) (w : World) : Type 0 where
+  pub finish : f ≡ (mrun steps (running s w)).finish
+  pub shown : new ≡ followed_by old (mrun steps (running s w)).world.screen
+
+-- a run that the screen stopped: what the steps before had added was shown, and a prefix of the piece of the next one
+pub record IsCut (s : State) (old new : Option (List ℕ)) (w : World) : Type 0 where
+  pub done : ℕ
+  pub piece : List ℕ
+  pub adds : (mrun (suc done) (running s w)).world.screen ≡ (mrun done (running s w)).world.screen ++ piece
+  pub prefix : FollowedByPrefix (followed_by old (mrun done (running s w)).world.screen) piece new

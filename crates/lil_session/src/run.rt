@@ -1,32 +1,118 @@
-ghost use Rattle.std.specs.Prelude.{◌≡◌, ◌⊎◌, ◌≤◌, [], true, length};
+ghost use Rattle.std.specs.Prelude.{◌≡◌, ◌≢◌, ◌⊎◌, ◌+◌, ◌%◌, ◌<◌, ◌≤◌, [], ◌∷◌, true, length, IfOk, OnOk, OnErr, Some, None};
 ghost use Rattle.lil_tree.specs.Views.{module_of};
-ghost use Rattle.lil_meaning.specs.World.{World};
+ghost use Rattle.lil_meaning.specs.World.{World, byte_of, piece_of};
+ghost use Rattle.lil_mcode.specs.State.{Module, module_at};
+ghost use Rattle.lil_volume.specs.Causes.{HasCause};
+ghost use Rattle.lil_volume.specs.Told.{followed_by, FollowedByPrefix};
+ghost use Rattle.lil_base.specs.declared.fault.TrapKind.{TrapKind};
+ghost use Rattle.lil_session.specs.declared.run.Ending.TheVariants as ending;
 ghost use Rattle.lil_session.specs.Sizes.{IsSmall, code_size};
 ghost use Rattle.lil_session.specs.Rows.{Translates};
+ghost use Rattle.lil_session.specs.Running.{arguments, taken, IsAlone, finish_of, finish_by, IsStep, IsRefused, HasRun, IsCut};
 ghost use Rattle.lil_session.specs.Outcome.{settled, Blames, Shows, MeansAnswer, IsRunAnswer};
+ghost use Rattle.lil_session.specs.Loaded.{loaded};
 
 use crate::Status;
-use lil_base::Bytes;
+use lil_base::{Bytes, LimitKind, Memory, TrapAt, TrapKind};
+use lil_mcode::{Event, Machine};
 use lil_tree::RModule;
-use lil_volume::Sink;
+use lil_volume::{Sink, SinkFailed};
 use std::alloc::Global;
 
-/// Runs the code of a program module from its beginning, for at most so many steps.
-pub(crate) fn run_program<S: Sink>(
-    _alloc: Global,
-    _m: &RModule,
-    _code: &Bytes,
-    _steps: u64,
-    _screen: &mut S,
-) -> Status
-    requires translates { Translates (module_of _m.now) _code.now }
-    requires small { IsSmall (module_of _m.now) }
-    requires long { length _code.now ≡ code_size (module_of _m.now) }
-    ensures shows { (w : World) → w.screen ≡ [] → Shows (module_of _m.now) w (S.written _screen.old) (S.written _screen.new) result }
-    ensures answer { (w : World) → w.screen ≡ [] → settled result ≡ true → (result ≡ Status.StepsSpent) ⊎ MeansAnswer (module_of _m.now) w result }
-    ensures kinds { IsRunAnswer result }
-    ensures spent { result ≡ Status.StepsSpent → _steps ≤ 32767 }
-    ensures cause { Blames Status.ScreenFault (S.faults _screen.old) (S.faults _screen.new) result }
+/// How a run of the machine ended.
+#[derive(Clone, Copy, Debug, PartialEq, Eq)]
+pub(crate) enum Ending {
+    Done,
+    Trapped(TrapKind),
+    Limited(LimitKind),
+    Broken,
+    Spent,
+}
+
+fn shown_byte(word: u16) -> u8
+    ensures { result ≡ byte_of (word % 256) }
 {
-    Status::Memory
+    let character = (word % 256) as u8;
+    if character == 30 { 10 } else { character }
+}
+
+/// Serves request 2, Write: takes the topmost word, and shows its character.
+fn write_character<S: Sink>(machine: &mut Machine, screen: &mut S) -> Result<(), SinkFailed>
+    requires { 1 ≤ length machine.old.state.stack }
+    ensures machine { machine.new ≡ record machine.old { state = taken 1 machine.old.state } }
+    ensures ok { OnOk result (S.written screen.new ≡ followed_by (S.written screen.old) (piece_of 2 (arguments 1 machine.old.state))) }
+    ensures err { OnErr result (FollowedByPrefix (S.written screen.old) (piece_of 2 (arguments 1 machine.old.state)) (S.written screen.new)) }
+    ensures cause { HasCause (S.faults screen.old) (S.faults screen.new) result }
+{
+    let byte = shown_byte(machine.argument(0));
+    machine.drop_arguments(1);
+    screen.put(&[byte])
+}
+
+/// Serves a request.
+fn serve<S: Sink>(
+    number: u8,
+    machine: &mut Machine,
+    screen: &mut S,
+) -> Result<(), SinkFailed>
+    requires known { number ≡ 2 }
+    requires words { 1 ≤ length machine.old.state.stack }
+    ensures machine { machine.new ≡ record machine.old { state = taken 1 machine.old.state } }
+    ensures ok { OnOk result (S.written screen.new ≡ followed_by (S.written screen.old) (piece_of number (arguments 1 machine.old.state))) }
+    ensures err { OnErr result (FollowedByPrefix (S.written screen.old) (piece_of number (arguments 1 machine.old.state)) (S.written screen.new)) }
+    ensures cause { HasCause (S.faults screen.old) (S.faults screen.new) result }
+{
+    match number {
+        2 => write_character(machine, screen),
+        _ => unreachable!(),
+    }
+}
+
+/// One step, with what its request shows. None where the run goes on.
+fn advance<S: Sink>(machine: &mut Machine, screen: &mut S) -> Result<Option<Ending>, SinkFailed>
+    requires { IsAlone machine.old.state }
+    ensures step { IfOk result (λ o. (w : World) → IsStep machine.old.state machine.new.state (finish_by o) (S.written screen.old) (S.written screen.new) w) }
+    ensures refused { OnErr result ((w : World) → IsRefused machine.old.state (S.written screen.old) (S.written screen.new) w) }
+    ensures unspent { IfOk result (λ o. o ≢ Some ending.Spent) }
+    ensures modules { machine.new.state.modules ≡ machine.old.state.modules }
+    ensures running { machine.new.state.running ≡ machine.old.state.running }
+    ensures alone { IsAlone machine.new.state }
+    ensures at { machine.new.at_module ≡ machine.old.state.running }
+    ensures rises { IfOk result (λ o. o ≡ None → machine.old.state.place < machine.new.state.place) }
+    ensures within { IfOk result (λ o. o ≡ None → (m : Module) → module_at machine.old.state.modules machine.old.state.running ≡ Some m → machine.old.state.place < length m.code) }
+    ensures cause { HasCause (S.faults screen.old) (S.faults screen.new) result }
+{
+    match machine.step() {
+        Event::Went => Ok(None),
+        Event::Request(number) => {
+            serve(number, machine, screen)?;
+            Ok(None)
+        }
+        Event::LevelEnded => Ok(Some(Ending::Done)),
+        Event::Trap(kind) => Ok(Some(Ending::Trapped(kind))),
+        Event::Limit(kind) => Ok(Some(Ending::Limited(kind))),
+        Event::BadCode => Ok(Some(Ending::Broken)),
+    }
+}
+
+/// Steps until the run ends, for at most so many steps.
+fn run_machine<S: Sink>(
+    machine: &mut Machine,
+    steps: u64,
+    screen: &mut S,
+) -> Result<Ending, SinkFailed>
+    requires { IsAlone machine.old.state }
+    ensures ran { IfOk result (λ e. (w : World) → w.screen ≡ [] → HasRun machine.old.state steps (finish_of e) (S.written screen.old) (S.written screen.new) w) }
+    ensures cut { OnErr result ((w : World) → w.screen ≡ [] → IsCut machine.old.state (S.written screen.old) (S.written screen.new) w) }
+    ensures modules { machine.new.state.modules ≡ machine.old.state.modules }
+    ensures at { IfOk result (λ e. (k : TrapKind) → e ≡ ending.Trapped k → machine.new.at_module ≡ machine.old.state.running) }
+    ensures spent { IfOk result (λ e. e ≡ ending.Spent → (m : Module) → module_at machine.old.state.modules machine.old.state.running ≡ Some m → steps ≤ length m.code) }
+    ensures cause { HasCause (S.faults screen.old) (S.faults screen.new) result }
+{
+    for _ in 0..steps {
+        if let Some(end) = advance(machine, screen)? {
+            return Ok(end);
+        }
+    }
+    Ok(Ending::Spent)
 }

@@ -1,0 +1,60 @@
+-- One step of a run, as it is shown.
+use Rattle.std.proofs.Common.{◌≡◌, ℕ, ◌+◌, ◌<◌, ◌≤◌, true, Option, Some, None, List, [], ◌∷◌, ◌++◌, length, refl, sym, ap, ◌∙◌, subst}
+use Rattle.std.proofs.lemmas.List.{append-nil}
+use Rattle.lil_meaning.specs.World.{World, serve, piece_of}
+use Rattle.lil_volume.specs.Told.{followed_by, FollowedByPrefix}
+use Rattle.lil_volume.proofs.Laws.{followed_nothing}
+use Rattle.lil_mcode.specs.declared.machine.Event.{Event}
+use Rattle.lil_mcode.specs.declared.machine.Event.TheVariants.{Went, Request}
+use Rattle.lil_mcode.specs.State.{Module, State, module_at}
+use Rattle.lil_mcode.specs.Table.{mstep, request_words}
+use Rattle.lil_session.specs.Running.{Finish, Running, Run, running, react, requested, words_taken, arguments, taken, IsAlone, IsStep, IsRefused}
+use Rattle.lil_session.proofs.Steps.{advances}
+use Rattle.lil_session.proofs.Alone.{Moves, goes_on, mstep_moves, mstep_within}
+
+-- a step that shows nothing
+pub step_quiet : (s t : State) (e : Event) (f : Finish) (old : Option (List ℕ)) → mstep s ≡ (e, t) → ((w : World) → react e t (running s w) ≡ record { machine = t; world = w; finish = f }) → (w : World) → IsStep s t f old old w
+step_quiet s t e f old step reacts w = record {
+  world = w;
+  run = advances s w (e, t) step ∙ reacts w;
+  piece = [];
+  adds = sym (append-nil w.screen);
+  shown = sym (followed_nothing old);
+}
+
+one_word : (q : ℕ) → q ≡ 2 → words_taken (request_words q) ≡ 1
+one_word q two = ap (λ (n : ℕ). words_taken (request_words n)) two
+
+-- a step that writes a character
+pub step_writes : (s t t' : State) (q : ℕ) (old new : Option (List ℕ)) → mstep s ≡ (Request q, t) → q ≡ 2 → t' ≡ taken 1 t → new ≡ followed_by old (piece_of q (arguments 1 t)) → (w : World) → IsStep s t' Running old new w
+step_writes s t t' q old new step two is shown w =
+    let at : (n : ℕ) → Run = λ n. requested q n t (running s w) in
+    let after : (x : State) → Run = λ x. record { machine = x; world = serve q (arguments 1 t) w; finish = Running } in
+    record {
+      world = serve q (arguments 1 t) w;
+      run = advances s w (Request q, t) step ∙ ap at (one_word q two) ∙ ap after (sym is);
+      piece = piece_of q (arguments 1 t);
+      adds = refl;
+      shown = shown;
+    }
+
+-- a step whose character was refused
+pub step_refused : (s t : State) (q : ℕ) (old new : Option (List ℕ)) → mstep s ≡ (Request q, t) → q ≡ 2 → FollowedByPrefix old (piece_of q (arguments 1 t)) new → (w : World) → IsRefused s old new w
+step_refused s t q old new step two prefix w =
+    let at : (n : ℕ) → Run = λ n. requested q n t (running s w) in
+    let run = advances s w (Request q, t) step ∙ ap at (one_word q two) in
+    record {
+      piece = piece_of q (arguments 1 t);
+      adds = ap (λ (r : Run). r.world.screen) run;
+      prefix = prefix;
+    }
+
+-- what a step gives, by its equation
+pub moves_at : (s t : State) (e : Event) → IsAlone s → mstep s ≡ (e, t) → Moves s (e, t)
+moves_at s t e a step = subst (λ (r : Event × State). Moves s r) step (mstep_moves s a)
+
+pub within_at : (s t : State) (e : Event) → IsAlone s → mstep s ≡ (e, t) → goes_on e ≡ true → (m : Module) → module_at s.modules s.running ≡ Some m → s.place < length m.code
+within_at s t e a step on m known = mstep_within s a m known (ap (λ (r : Event × State). goes_on r.0) step ∙ on)
+
+pub alone_taken : (s : State) (n : ℕ) → IsAlone s → IsAlone (taken n s)
+alone_taken s n a = record { body = a.body; last = a.last; marked = a.marked }

@@ -1,0 +1,56 @@
+use Rattle.std.proofs.Common.{◌≡◌, ◌≢◌, ℕ, ◌+◌, ◌<◌, ◌≤◌, List, Some, None, Ok, refl, sym, ap, ◌∙◌, arith}
+use Rattle.lil_mcode.specs.State.{Module, module_at}
+use Rattle.lil_session.specs.declared.run.Ending.TheVariants as ending
+use Rattle.lil_session.specs.Running.{finish_of}
+use Rattle.lil_session.proofs.Turns.{on_err, come_first, come_next, run_ends, run_spent, run_cut, ending_over, ap_some, step_as, step_goes, is_none}
+use Rattle.lil_session.proofs.run.run_machine.Goals as goal
+
+pub loop-init : goal.loop-init
+loop-init g c = record {
+  same_modules = refl;
+  same_module = refl;
+  alone = c.requires;
+  rises = omega arith;
+  within = λ m known. omega arith;
+  quiet = refl;
+  come = λ w e. come_first c.args.machine.now.state (g.S.Sink.written c.args.screen.now) w e;
+}
+
+pub returns-in_err-end-clause-cut : goal.returns-in_err-end-clause-cut
+returns-in_err-end-clause-cut g c =
+    on_err c.from_residual.result
+    (λ w e.
+      run_cut c.args.machine.now.state c.loop.machine.state c.loop.counter (g.S.Sink.written c.args.screen.now) (g.S.Sink.written c.loop.screen) (g.S.Sink.written c.advance.new.screen) w (c.loop.invariant.come w e) c.in_err-end.ensures.refused)
+
+pub returns-in-Some-clause-ran : goal.returns-in-Some-clause-ran
+returns-in-Some-clause-ran g c =
+    λ w e.
+    let differs : Some c.in-Some.end ≢ Some ending.Spent = ap_some c.in_ok-end.field-0 c.in-Some.end c.in-Some.is c.in_ok-end.ensures.unspent in
+    run_ends c.args.machine.now.state c.loop.machine.state c.advance.new.machine.state c.loop.counter c.args.steps (finish_of c.in-Some.end) (g.S.Sink.written c.args.screen.now) (g.S.Sink.written c.loop.screen) (g.S.Sink.written c.advance.new.screen) w
+    (omega arith) (ending_over c.in-Some.end differs) (c.loop.invariant.come w e)
+    (step_as c.in_ok-end.field-0 c.in-Some.end c.in-Some.is c.loop.machine.state c.advance.new.machine.state (g.S.Sink.written c.loop.screen) (g.S.Sink.written c.advance.new.screen) c.in_ok-end.ensures.step)
+
+pub loop-preserved : goal.loop-preserved
+loop-preserved g c =
+    let none : c.in_ok-end.field-0 ≡ None = is_none c.in_ok-end.field-0 c.in_default.not-Some in
+    record {
+      same_modules = c.in_ok-end.ensures.modules ∙ c.loop.invariant.same_modules;
+      same_module = c.in_ok-end.ensures.running ∙ c.loop.invariant.same_module;
+      alone = c.in_ok-end.ensures.alone;
+      rises = (let up = c.in_ok-end.ensures.rises none in omega (arith, c.loop.invariant.rises, up));
+      within = λ m known.
+        (let here : module_at c.loop.machine.state.modules c.loop.machine.state.running ≡ Some m =
+          ap (λ (x : List Module). module_at x c.loop.machine.state.running) c.loop.invariant.same_modules ∙ ap (module_at c.args.machine.now.state.modules) c.loop.invariant.same_module ∙ known in
+        let less = c.in_ok-end.ensures.within none m here in
+        omega (arith, c.loop.invariant.rises, less));
+      quiet = c.in_ok-end.ensures.cause.quiet ∙ c.loop.invariant.quiet;
+      come = λ w e.
+        come_next c.args.machine.now.state c.loop.machine.state c.advance.new.machine.state c.loop.counter (g.S.Sink.written c.args.screen.now) (g.S.Sink.written c.loop.screen) (g.S.Sink.written c.advance.new.screen) w (c.loop.invariant.come w e)
+        (step_goes c.in_ok-end.field-0 none c.loop.machine.state c.advance.new.machine.state (g.S.Sink.written c.loop.screen) (g.S.Sink.written c.advance.new.screen) c.in_ok-end.ensures.step);
+    }
+
+pub returns-clause-ran : goal.returns-clause-ran
+returns-clause-ran g c =
+    λ w e.
+    run_spent c.args.machine.now.state c.loop.machine.state c.loop.counter c.args.steps (g.S.Sink.written c.args.screen.now) (g.S.Sink.written c.loop.screen) w
+    (omega arith) (c.loop.invariant.come w e)

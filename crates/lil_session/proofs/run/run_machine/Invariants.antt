@@ -1,0 +1,18 @@
+use Rattle.std.proofs.Common.{◌≡◌, ◌≤◌, ◌<◌, ℕ, [], length, Some}
+use Rattle.lil_meaning.specs.World.{World}
+use Rattle.lil_mcode.specs.State.{Module, module_at}
+use Rattle.lil_volume.specs.Told.{followed_by}
+use Rattle.lil_session.specs.Running.{Run, mrun, running, IsAlone}
+use Rattle.lil_session.proofs.run.run_machine.Given as goal
+
+-- the machine has come so far, and what its steps added is shown
+abbrev pub invariant-loop : goal.invariant-loop
+invariant-loop g l = record {
+  same_modules : l.machine.state.modules ≡ l.fn.machine.state.modules;
+  same_module : l.machine.state.running ≡ l.fn.machine.state.running;
+  alone : IsAlone l.machine.state;
+  rises : l.counter ≤ l.machine.state.place;
+  within : (m : Module) → module_at l.fn.machine.state.modules l.fn.machine.state.running ≡ Some m → l.counter ≤ length m.code;
+  quiet : g.S.Sink.faults l.screen ≡ g.S.Sink.faults l.fn.screen;
+  come : (w : World) → w.screen ≡ [] → (v : World) × (mrun l.counter (running l.fn.machine.state w) ≡ running l.machine.state v) × (g.S.Sink.written l.screen ≡ followed_by (g.S.Sink.written l.fn.screen) v.screen);
+}
