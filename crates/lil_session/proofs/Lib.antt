@@ -15,3 +15,4 @@ pub mod Start
 pub mod Alone
 pub mod Advancing
 pub mod Turns
+pub mod Endings

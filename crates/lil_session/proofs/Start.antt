@@ -93,20 +93,20 @@ body_rows l table own number h (s ∷ ss) k p q row rest = record {
 }
 
 module _ (p : Resolved) (code : List ℕ) (small : IsSmall p) (t : Translates p code) where
-  abbrev count : ℕ
+  abbrev pub count : ℕ
   count = length p.variables
 
-  abbrev own : Module
+  abbrev pub own : Module
   own = record { name = p.name; procedures = body_alone; code = code; base = 1; words = count }
 
-  abbrev table : List Module
+  abbrev pub table : List Module
   table = own ∷ []
 
   -- the store with the mark of the body
   pub store : List ℕ
   store = spliced (cleared (zeros 65536) 1 (1 + count)) (1 + count) (0 ∷ 0 ∷ 0 ∷ 1 ∷ [])
 
-  abbrev begun_at : ℕ → State
+  abbrev pub begun_at : ℕ → State
   begun_at place = record {
     modules = table;
     running = 1;

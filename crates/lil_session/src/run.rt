@@ -10,10 +10,11 @@ ghost use Rattle.lil_session.specs.Sizes.{IsSmall, code_size};
 ghost use Rattle.lil_session.specs.Rows.{Translates};
 ghost use Rattle.lil_session.specs.Running.{arguments, taken, IsAlone, finish_of, finish_by, IsStep, IsRefused, HasRun, IsCut};
 ghost use Rattle.lil_session.specs.Outcome.{settled, Blames, Shows, MeansAnswer, IsRunAnswer};
-ghost use Rattle.lil_session.specs.Loaded.{loaded};
+ghost use Rattle.std.specs.Option.{option_copied};
+ghost use Rattle.lil_session.specs.Loaded.{loaded, IsAtBody, body_trap, EndingAnswers, IsPossible};
 
 use crate::Status;
-use lil_base::{Bytes, LimitKind, Memory, TrapAt, TrapKind};
+use lil_base::{Bytes, LimitKind, Memory, Name, TrapAt, TrapKind};
 use lil_mcode::{Event, Machine};
 use lil_tree::RModule;
 use lil_volume::{Sink, SinkFailed};
@@ -115,4 +116,88 @@ fn run_machine<S: Sink>(
         }
     }
     Ok(Ending::Spent)
+}
+
+/// A machine in which the module is loaded alone and begun.
+fn load(alloc: Global, m: &RModule, code: &Bytes) -> Result<Machine, Memory>
+    requires small { IsSmall (module_of m.now) }
+    requires long { length code.now ≡ code_size (module_of m.now) }
+    ensures { IfOk result (λ machine. machine ≡ loaded (module_of m.now) code.now) }
+{
+    let mut machine = Machine::new(alloc)?;
+    let name = m.name.copy(alloc)?;
+    let mut procedures = Vec::new(alloc);
+    procedures.push((0, None))?;
+    let mut bodies = Vec::new(alloc);
+    bodies.push(1)?;
+    machine.open_level();
+    machine.add_module(name, procedures, code, m.variables.len() as u16);
+    machine.begin(bodies);
+    Ok(machine)
+}
+
+fn copied(alloc: Global, name: Option<&Name>) -> Result<Option<Name>, Memory>
+    ensures { IfOk result (λ copy. copy ≡ option_copied name.entry) }
+{
+    match name {
+        None => Ok(None),
+        Some(name) => Ok(Some(name.copy(alloc)?)),
+    }
+}
+
+/// The trap of the body that the machine runs.
+fn trap_of(alloc: Global, machine: &Machine, kind: TrapKind) -> Result<TrapAt, Memory>
+    requires { (m : Module) × IsAtBody machine.now m }
+    ensures { IfOk result (λ t. (m : Module) → IsAtBody machine.now m → t ≡ body_trap m kind) }
+{
+    match machine.names(machine.place()) {
+        None => unreachable!(),
+        Some((module, procedure)) => Ok(TrapAt {
+            kind,
+            module: module.copy(alloc)?,
+            procedure: copied(alloc, procedure)?,
+        }),
+    }
+}
+
+fn answer(alloc: Global, machine: &Machine, end: Ending) -> Status
+    requires { IsPossible machine.now end }
+    ensures { EndingAnswers machine.now end result }
+{
+    match end {
+        Ending::Done => Status::Done,
+        Ending::Trapped(kind) => match trap_of(alloc, machine, kind) {
+            Ok(trap) => Status::Trapped(trap),
+            Err(_) => Status::Memory,
+        },
+        Ending::Limited(_) => unreachable!(),
+        Ending::Broken => unreachable!(),
+        Ending::Spent => Status::StepsSpent,
+    }
+}
+
+/// Runs the code of a program module from its beginning, for at most so many steps.
+pub(crate) fn run_program<S: Sink>(
+    alloc: Global,
+    m: &RModule,
+    code: &Bytes,
+    steps: u64,
+    screen: &mut S,
+) -> Status
+    requires translates { Translates (module_of m.now) code.now }
+    requires small { IsSmall (module_of m.now) }
+    requires long { length code.now ≡ code_size (module_of m.now) }
+    ensures shows { (w : World) → w.screen ≡ [] → Shows (module_of m.now) w (S.written screen.old) (S.written screen.new) result }
+    ensures answer { (w : World) → w.screen ≡ [] → settled result ≡ true → (result ≡ Status.StepsSpent) ⊎ MeansAnswer (module_of m.now) w result }
+    ensures kinds { IsRunAnswer result }
+    ensures spent { result ≡ Status.StepsSpent → steps ≤ 32767 }
+    ensures cause { Blames Status.ScreenFault (S.faults screen.old) (S.faults screen.new) result }
+{
+    let Ok(mut machine) = load(alloc, m, code) else {
+        return Status::Memory;
+    };
+    match run_machine(&mut machine, steps, screen) {
+        Err(_) => Status::ScreenFault,
+        Ok(end) => answer(alloc, &machine, end),
+    }
 }

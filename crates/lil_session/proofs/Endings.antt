@@ -1,0 +1,194 @@
+-- What the run of a translation shows, and how it ends.
+use Rattle.std.proofs.Common.{◌≡◌, ◌≢◌, ℕ, zero, suc, ◌+◌, ◌<◌, ◌≤◌, true, Option, Some, None, List, [], ◌∷◌, ◌++◌, length, refl, sym, ap, ◌∙◌, subst, ◌⊎◌, inl, inr, ⊎_elim, arith}
+use Rattle.std.proofs.lemmas.List.{append-nil}
+use Rattle.std.specs.Ordering.{nat_cmp}
+use Rattle.std.specs.Cmp.Lexicographic.{slice_cmp}
+use Rattle.std.specs.FinMap.{from_entries}
+use Rattle.lil_base.specs.declared.fault.TrapKind.{TrapKind}
+use Rattle.lil_tree.specs.Resolved.{Resolved}
+use Rattle.lil_meaning.specs.World.{World}
+use Rattle.lil_meaning.specs.Items.{Phase, Going, Closing, Ended, Trapped, Source}
+use Rattle.lil_volume.specs.Causes.{Rose}
+use Rattle.lil_volume.specs.Told.{followed_by, FollowedByPrefix}
+use Rattle.lil_volume.proofs.Laws.{all_taken, followed_nothing}
+use Rattle.lil_mcode.specs.declared.machine.Event.{Event}
+use Rattle.lil_mcode.specs.declared.machine.Event.TheVariants.{Went, Request, LevelEnded, Trap, Limit, BadCode}
+use Rattle.lil_mcode.specs.State.{Module, State, module_at}
+use Rattle.lil_mcode.specs.Table.{mstep}
+use Rattle.std.specs.Prelude.{slice_get, option_and_then}
+use Rattle.lil_mcode.specs.Calls.{Machine, IsRunning, names_of}
+use Rattle.lil_session.specs.declared.run.Ending.{Ending}
+use Rattle.lil_session.specs.declared.run.Ending.TheVariants as ending
+use Rattle.lil_session.specs.declared.status.Status.{Status}
+use Rattle.lil_session.specs.declared.status.Status.TheVariants as a
+use Rattle.lil_session.specs.Sizes.{IsSmall, code_size}
+use Rattle.lil_session.specs.Rows.{Translates}
+use Rattle.lil_session.specs.Running.{Finish, Running, Finished, TrappedBy, Limited, Broken, Run, mrun, running, react, advanced, unless_over, IsAlone, finish_of, HasRun, IsCut}
+use Rattle.lil_session.specs.Loaded.{body_alone, loaded, IsAtBody, body_trap, EndingAnswers, IsPossible}
+use Rattle.lil_session.specs.Outcome.{settled, Shows, Allowed, EndsSo, MeansAnswer, IsRunAnswer, Blames, state_of}
+use Rattle.lil_session.proofs.Whole.{Agrees}
+use Rattle.lil_session.proofs.Start.{own, begun_at, loaded_state, correct}
+
+-- a run keeps the keys and the writes: no request reads or writes them yet
+record Keeps (old new : World) : Type 0 where
+  keys : new.keys ≡ old.keys
+  writes : new.writes ≡ old.writes
+
+react_keeps : (e : Event) (s : State) (run : Run) → Keeps run.world (react e s run).world
+react_keeps Went s run = record { keys = refl; writes = refl }
+react_keeps (Request r) s run = record { keys = refl; writes = refl }
+react_keeps LevelEnded s run = record { keys = refl; writes = refl }
+react_keeps (Trap k) s run = record { keys = refl; writes = refl }
+react_keeps (Limit k) s run = record { keys = refl; writes = refl }
+react_keeps BadCode s run = record { keys = refl; writes = refl }
+
+over_keeps : (f : Finish) (old new : Run) → Keeps old.world new.world → Keeps old.world (unless_over f old new).world
+over_keeps Running old new h = h
+over_keeps Finished old new h = record { keys = refl; writes = refl }
+over_keeps (TrappedBy k) old new h = record { keys = refl; writes = refl }
+over_keeps (Limited k) old new h = record { keys = refl; writes = refl }
+over_keeps Broken old new h = record { keys = refl; writes = refl }
+
+run_keeps : (n : ℕ) (run : Run) → Keeps run.world (mrun n run).world
+run_keeps zero run = record { keys = refl; writes = refl }
+run_keeps (suc n) run =
+    let one = over_keeps run.finish run (react (mstep run.machine).0 (mstep run.machine).1 run) (react_keeps (mstep run.machine).0 (mstep run.machine).1 run) in
+    let rest = run_keeps n (advanced run) in
+    record { keys = rest.keys ∙ one.keys; writes = rest.writes ∙ one.writes }
+
+-- some world in which nothing was shown
+some_world : World
+some_world = record { keys = []; screen = []; files = from_entries {R = slice_cmp nat_cmp} []; writes = []; streams = []; channels = [] }
+
+some_blank : some_world.screen ≡ []
+unfolding some_world
+some_blank = refl
+
+module _ (p : Resolved) (code : List ℕ) (small : IsSmall p) (t : Translates p code) where
+  abbrev start : State
+  start = begun_at p code small t 0
+
+  pub start_alone : IsAlone start
+  start_alone = record { body = refl; last = refl; marked = refl }
+
+  -- where the machine is after a trap
+  pub at_body : (machine : Machine) → machine.state.modules ≡ own p code small t ∷ [] → machine.at_module ≡ 1 → IsAtBody machine (own p code small t)
+  at_body machine modules at = record {
+    known = ap (λ (x : List Module). module_at x machine.at_module) modules ∙ ap (module_at (own p code small t ∷ [])) at;
+    alone = refl;
+  }
+
+  module _ (steps : ℕ) (old new : Option (List ℕ)) (machine : Machine) where
+    -- a limit and bad code never come
+    pub possible : (e : Ending) → ((w : World) → w.screen ≡ [] → HasRun start steps (finish_of e) old new w) → ((k : TrapKind) → e ≡ ending.Trapped k → IsAtBody machine (own p code small t)) → IsPossible machine e
+    possible ending.Done ran at = tt
+    possible (ending.Trapped k) ran at = (own p code small t, at k refl)
+    possible (ending.Limited k) ran at = absurd ((correct p code small t some_world steps).agrees.never_limited k (sym (ran some_world some_blank).finish))
+    possible ending.Broken ran at = absurd ((correct p code small t some_world steps).agrees.never_broken (sym (ran some_world some_blank).finish))
+    possible ending.Spent ran at = tt
+
+    allowed : (e : Ending) (s : Status) (x : Source) (run : Run) → EndingAnswers machine e s → ((k : TrapKind) → e ≡ ending.Trapped k → IsAtBody machine (own p code small t)) → Agrees p.name x run → finish_of e ≡ run.finish → Allowed s x.phase
+    allowed ending.Done s x run is at agrees f = subst (λ (y : Status). Allowed y x.phase) (sym is) (agrees.ends (sym f))
+    allowed (ending.Trapped k) s x run (inl memory) at agrees f = subst (λ (y : Status). Allowed y x.phase) (sym memory) tt
+    allowed (ending.Trapped k) s x run (inr is) at agrees f =
+        subst (λ (y : Status). Allowed y x.phase) (sym (is (own p code small t) (at k refl))) (agrees.traps k (sym f))
+    allowed (ending.Limited k) s x run is at agrees f = absurd is
+    allowed ending.Broken s x run is at agrees f = absurd is
+    allowed ending.Spent s x run is at agrees f = subst (λ (y : Status). Allowed y x.phase) (sym is) tt
+
+    -- what is shown is what a state of the meaning has shown, and the answer is that state's
+    pub shows_end : (e : Ending) (s : Status) (w : World) → HasRun start steps (finish_of e) old new w → EndingAnswers machine e s → ((k : TrapKind) → e ≡ ending.Trapped k → IsAtBody machine (own p code small t)) → Shows p w old new s
+    shows_end e s w ran is at =
+        let c = correct p code small t w steps in
+        let kept = run_keeps steps (running start w) in
+        let whole : new ≡ followed_by old (state_of p w c.n).world.screen = ran.shown ∙ ap (λ (x : World). followed_by old x.screen) c.agrees.world in
+        record {
+          n = c.n;
+          piece = [];
+          later = c.n;
+          adds = sym (append-nil (state_of p w c.n).world.screen);
+          prefix = all_taken (followed_by old (state_of p w c.n).world.screen) new [] (whole ∙ sym (followed_nothing (followed_by old (state_of p w c.n).world.screen)));
+          whole = λ _. whole;
+          keys = ap (λ (x : World). x.keys) (sym c.agrees.world) ∙ kept.keys;
+          writes = ap (λ (x : World). x.writes) (sym c.agrees.world) ∙ kept.writes;
+          ends = allowed e s (state_of p w c.n) (mrun steps (running start w)) is at c.agrees ran.finish;
+        }
+
+    -- a settled answer is the end of the meaning, unless the steps were spent
+    pub means_end : (e : Ending) (s : Status) (w : World) → HasRun start steps (finish_of e) old new w → EndingAnswers machine e s → ((k : TrapKind) → e ≡ ending.Trapped k → IsAtBody machine (own p code small t)) → settled s ≡ true → (s ≡ a.StepsSpent) ⊎ MeansAnswer p w s
+    means_end ending.Done s w ran is at ok =
+        let c = correct p code small t w steps in
+        inr (record { steps = c.n; ends = subst (λ (x : Phase). EndsSo x s) (sym (c.agrees.ends (sym ran.finish))) is })
+    means_end (ending.Trapped k) s w ran (inl memory) at ok = absurd (let e = ap settled memory in cc)
+    means_end (ending.Trapped k) s w ran (inr is) at ok =
+        let c = correct p code small t w steps in
+        inr (record { steps = c.n; ends = subst (λ (x : Phase). EndsSo x s) (sym (c.agrees.traps k (sym ran.finish))) (is (own p code small t) (at k refl)) })
+    means_end (ending.Limited k) s w ran is at ok = absurd is
+    means_end ending.Broken s w ran is at ok = absurd is
+    means_end ending.Spent s w ran is at ok = inl is
+
+    pub kind_end : (e : Ending) (s : Status) → EndingAnswers machine e s → ((k : TrapKind) → e ≡ ending.Trapped k → IsAtBody machine (own p code small t)) → IsRunAnswer s
+    kind_end ending.Done s is at = subst IsRunAnswer (sym is) tt
+    kind_end (ending.Trapped k) s (inl memory) at = subst IsRunAnswer (sym memory) tt
+    kind_end (ending.Trapped k) s (inr is) at = subst IsRunAnswer (sym (is (own p code small t) (at k refl))) tt
+    kind_end (ending.Limited k) s is at = absurd is
+    kind_end ending.Broken s is at = absurd is
+    kind_end ending.Spent s is at = subst IsRunAnswer (sym is) tt
+
+    pub spent_end : (e : Ending) (s : Status) → EndingAnswers machine e s → ((k : TrapKind) → e ≡ ending.Trapped k → IsAtBody machine (own p code small t)) → s ≡ a.StepsSpent → e ≡ ending.Spent
+    spent_end ending.Done s is at spent = absurd (let e = sym is ∙ spent in cc)
+    spent_end (ending.Trapped k) s (inl memory) at spent = absurd (let e = sym memory ∙ spent in cc)
+    spent_end (ending.Trapped k) s (inr is) at spent = absurd (let e = sym (is (own p code small t) (at k refl)) ∙ spent in cc)
+    spent_end (ending.Limited k) s is at spent = absurd is
+    spent_end ending.Broken s is at spent = absurd is
+    spent_end ending.Spent s is at spent = refl
+
+    no_fault : (e : Ending) (s : Status) → EndingAnswers machine e s → ((k : TrapKind) → e ≡ ending.Trapped k → IsAtBody machine (own p code small t)) → s ≢ a.ScreenFault
+    no_fault ending.Done s is at f = let e = sym is ∙ f in cc
+    no_fault (ending.Trapped k) s (inl memory) at f = let e = sym memory ∙ f in cc
+    no_fault (ending.Trapped k) s (inr is) at f = let e = sym (is (own p code small t) (at k refl)) ∙ f in cc
+    no_fault (ending.Limited k) s is at f = is
+    no_fault ending.Broken s is at f = is
+    no_fault ending.Spent s is at f = let e = sym is ∙ f in cc
+
+    pub blames_end : (e : Ending) (s : Status) (before now : ℕ) → EndingAnswers machine e s → ((k : TrapKind) → e ≡ ending.Trapped k → IsAtBody machine (own p code small t)) → now ≡ before → Blames a.ScreenFault before now s
+    blames_end e s before now is at same = record {
+      later = omega (arith, same);
+      rose = λ f. absurd (no_fault e s is at f);
+      quiet = inl same;
+    }
+
+  -- what is shown where the screen failed
+  pub shows_cut : (old new : Option (List ℕ)) (w : World) → IsCut start old new w → Shows p w old new a.ScreenFault
+  shows_cut old new w cut =
+      let c = correct p code small t w cut.done in
+      let d = correct p code small t w (suc cut.done) in
+      let kept = run_keeps cut.done (running start w) in
+      let screen : (mrun cut.done (running start w)).world.screen ≡ (state_of p w c.n).world.screen = ap (λ (x : World). x.screen) c.agrees.world in
+      record {
+        n = c.n;
+        piece = cut.piece;
+        later = d.n;
+        adds = ap (λ (x : World). x.screen) (sym d.agrees.world) ∙ cut.adds ∙ ap (λ (x : List ℕ). x ++ cut.piece) screen;
+        prefix = subst (λ (x : List ℕ). FollowedByPrefix (followed_by old x) cut.piece new) screen cut.prefix;
+        whole = λ differs. absurd (differs refl);
+        keys = ap (λ (x : World). x.keys) (sym c.agrees.world) ∙ kept.keys;
+        writes = ap (λ (x : World). x.writes) (sym c.agrees.world) ∙ kept.writes;
+        ends = tt;
+      }
+
+-- the one procedure of a body alone runs at each place
+alone_runs : (place q : ℕ) → IsRunning body_alone place q → q ≡ 0
+alone_runs place zero r = refl
+alone_runs place (suc q) r =
+    let found = r.some 0 0 None refl (omega arith) in
+    let none : None ≡ Some (found.0, found.1) = found.2 in
+    cc
+
+pub body_names : (machine : Machine) (m : Module) (q : ℕ) → IsAtBody machine m → ((x : Module) → module_at machine.state.modules machine.at_module ≡ Some x → IsRunning x.procedures machine.at_place q) → names_of machine.state.modules machine.at_module q ≡ Some (m.name, None)
+body_names machine m q at runs =
+    let here : IsRunning body_alone machine.at_place q = subst (λ (x : List (ℕ × Option (List ℕ))). IsRunning x machine.at_place q) at.alone (runs m at.known) in
+    let zero_th : q ≡ 0 = alone_runs machine.at_place q here in
+    ap (λ (o : Option Module). option_and_then (λ (x : Module). option_and_then (λ (e : ℕ × Option (List ℕ)). Some (x.name, e.1)) (slice_get x.procedures q)) o) at.known
+    ∙ ap (λ (x : List (ℕ × Option (List ℕ))). option_and_then (λ (e : ℕ × Option (List ℕ)). Some (m.name, e.1)) (slice_get x q)) at.alone
+    ∙ ap (λ (n : ℕ). option_and_then (λ (e : ℕ × Option (List ℕ)). Some (m.name, e.1)) (slice_get body_alone n)) zero_th
