@@ -4,3 +4,4 @@ pub mod Decoding
 mod Steps
 mod Running
 mod Loading
+pub mod Rising
