@@ -5,3 +5,4 @@ mod Steps
 mod Running
 mod Loading
 pub mod Rising
+pub mod Requests
