@@ -4,3 +4,5 @@ pub mod Decoding
 mod Steps
 mod Running
 mod Loading
+pub mod Rising
+pub mod Requests

@@ -1,5 +1,5 @@
 -- Reversed lists, and words that come to a place of a list.
-use Rattle.std.proofs.Common.{◌≡◌, ℕ, ◌+◌, ◌-◌, ◌<◌, ◌≤◌, List, [], ◌∷◌, ◌++◌, length, take, drop, replicate, reverse, refl, sym, ap, ◌∙◌, arith, length-take, length-drop}
+use Rattle.std.proofs.Common.{◌≡◌, ℕ, ◌+◌, ◌-◌, ◌≤◌, List, [], ◌∷◌, ◌++◌, length, take, drop, reverse, sym, ap, ◌∙◌, arith, length-take, length-drop}
 use Rattle.std.proofs.lemmas.List.{reverse-append, length-reverse, take-append-drop, drop-drop, length-replicate, length-append, length-take-le, drop-append-le, take-append-le, drop-take, take-take, take_at, drop_at}
 use Rattle.std.proofs.Math.Seq.{drop-append_seam}
 use borrow.Rule.Slice.PartMut.{put_mid}

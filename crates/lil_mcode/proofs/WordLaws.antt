@@ -1,11 +1,9 @@
 -- CARDINAL's sums and differences, in the words of natural numbers.
-use Rattle.std.proofs.Common.{◌≡◌, ℕ, ◌+◌, ◌-◌, ◌<◌, ◌≤◌, nat_lt, pos, Ok, Err, Result, if◌then◌else◌, refl, arith, rules}
+use Rattle.std.proofs.Common.{◌≡◌, ℕ, ◌+◌, ◌-◌, ◌<◌, nat_lt, pos, Ok, Err, if◌then◌else◌, arith}
 use Rattle.std.proofs.lemmas.Bool.Decides.{nat_tests}
 use Rattle.std.proofs.lemmas.Int.{ints}
-use Rattle.std.specs.Prelude.{ℤ}
-use Rattle.lil_base.specs.declared.fault.ArithFault.{ArithFault}
 use Rattle.lil_base.specs.declared.fault.ArithFault.TheVariants.{Overflow}
-use Rattle.lil_base.specs.Words.{Whole, Cardinal, sum, difference}
+use Rattle.lil_base.specs.Words.{Cardinal, sum, difference}
 
 pub sum_card : (a b : ℕ) → sum Cardinal (pos a) (pos b) ≡ (if nat_lt (a + b) 65536 then Ok (pos (a + b)) else Err Overflow)
 sum_card a b = grind (arith, nat_tests)

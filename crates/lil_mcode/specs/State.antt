@@ -1,5 +1,5 @@
 -- The state of the machine, without its count of steps.
-use Rattle.std.specs.Prelude.{ℕ, zero, suc, ◌+◌, ◌-◌, List, [], ◌∷◌, ◌++◌, length, take, drop, replicate, Bool, Option, None, Some, slice_get}
+use Rattle.std.specs.Prelude.{ℕ, zero, suc, ◌+◌, ◌-◌, List, [], ◌∷◌, ◌++◌, length, take, drop, replicate, Bool, Option, None, slice_get}
 
 -- A module that is loaded. The first of its procedures is the body, which has no name; each has its entry in the code.
 -- Its data frame has so many words from the base on.

@@ -4,6 +4,8 @@
 mod instr;
 mod machine;
 mod processor;
+#[cfg(test)]
+mod tests;
 
 pub use instr::{Instr, decode};
 pub use machine::{CodeAt, Event, Machine};

@@ -1,5 +1,5 @@
-use Rattle.std.proofs.Common.{◌≡◌, ◌-◌, ◌++◌, length, take, drop, ap, ◌∙◌, arith, length-take, length-drop}
-use Rattle.lil_mcode.specs.State.{zeros, cleared}
+use Rattle.std.proofs.Common.{◌≡◌, ◌-◌, length, take, drop, ap, ◌∙◌, arith, length-take, length-drop}
+use Rattle.lil_mcode.specs.State.{zeros}
 use Rattle.lil_mcode.proofs.Lists.{length-zeros, put_mid-spliced}
 use Rattle.lil_mcode.proofs.processor.clear.Goals as goal
 

@@ -1,4 +1,4 @@
-use Rattle.std.proofs.Common.{◌+◌, ◌-◌, ◌<◌, length, drop, arith, length-take}
+use Rattle.std.proofs.Common.{◌+◌, ◌-◌, drop, arith, length-take}
 use Rattle.lil_mcode.proofs.processor.code_part.Goals as goal
 
 pub returns-clause-short : goal.returns-clause-short

@@ -1,5 +1,4 @@
 use Rattle.std.proofs.Common.{◌≡◌, ℕ, ◌+◌, ◌-◌, [], ◌∷◌, ap, ◌∙◌, arith}
-use Rattle.lil_mcode.specs.State.{spliced}
 use Rattle.lil_mcode.proofs.Lists.{put_mid-spliced}
 use Rattle.lil_mcode.proofs.processor.write_mark.Goals as goal
 

@@ -1,4 +1,4 @@
-use Rattle.std.proofs.Common.{◌≡◌, ◌<◌, ◌≤◌, Some, length, sym, subst, List, arith}
+use Rattle.std.proofs.Common.{sym, subst, List, arith}
 use Rattle.lil_mcode.specs.declared.processor.LoadedModule.{LoadedModule}
 use Rattle.lil_mcode.specs.Loaded.{Lies}
 use Rattle.lil_mcode.proofs.Steps.{lies_loaded}

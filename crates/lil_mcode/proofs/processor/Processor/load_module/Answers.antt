@@ -1,8 +1,8 @@
-use Rattle.std.proofs.Common.{◌≡◌, ℕ, ◌+◌, ◌≤◌, List, [], ◌∷◌, ◌++◌, length, map, sym, ap, ◌∙◌, subst, refl, arith}
+use Rattle.std.proofs.Common.{◌≡◌, ℕ, ◌+◌, List, [], ◌∷◌, ◌++◌, length, map, sym, ap, ◌∙◌, subst, refl, arith}
 use Rattle.std.proofs.lemmas.List.{length-map, length-append}
 use Rattle.lil_mcode.specs.declared.processor.LoadedModule.{LoadedModule}
-use Rattle.lil_mcode.specs.State.{Module, State, module_at, spliced, cleared}
-use Rattle.lil_mcode.specs.Loaded.{module_of, Lies, loaded_at}
+use Rattle.lil_mcode.specs.State.{State, spliced, cleared}
+use Rattle.lil_mcode.specs.Loaded.{module_of, Lies}
 use Rattle.lil_mcode.specs.Calls.{code_used}
 use Rattle.lil_mcode.proofs.Lists.{length_spliced}
 use Rattle.lil_mcode.proofs.Loading.{used, loaded_more, lies_more, length_cleared}

@@ -1,7 +1,7 @@
-use Rattle.std.proofs.Common.{◌≡◌, ℕ, ◌≤◌, List, Option, Some, None, length, map, sym, ap, ◌∙◌, subst, arith}
+use Rattle.std.proofs.Common.{◌≡◌, ℕ, List, Option, Some, None, length, sym, ap, ◌∙◌, subst, arith}
 use Rattle.lil_mcode.specs.declared.processor.LoadedModule.{LoadedModule}
 use Rattle.lil_mcode.specs.State.{Module, State, module_at}
-use Rattle.lil_mcode.specs.Loaded.{module_of, Lies, loaded_at}
+use Rattle.lil_mcode.specs.Loaded.{Lies, loaded_at}
 use Rattle.lil_mcode.specs.Calls.{IsRunning}
 use Rattle.lil_mcode.proofs.Steps.{lies_loaded, loaded_is, not_loaded}
 use Rattle.lil_mcode.proofs.processor.Processor.procedure_at.Goals as goal

@@ -1,0 +1,101 @@
+-- A request has its words on the expression stack.
+use Rattle.std.proofs.Common.{◌≡◌, ℕ, ◌+◌, ◌≤◌, List, [], ◌∷◌, length, Bool, true, false, ◌&&◌, nat_lt, nat_le, ◌==◌, if◌then◌else◌, Option, None, Some, Result, Ok, Err, slice_index, is_some, refl, subst, arith}
+use Rattle.std.specs.Prelude.{ℤ}
+use Rattle.std.proofs.lemmas.Bool.{leb-true}
+use Rattle.lil_base.specs.Words.{Whole, Cardinal, sum, difference}
+use Rattle.lil_base.specs.declared.fault.ArithFault.{ArithFault}
+use Rattle.lil_mcode.specs.declared.instr.Instr.{Instr}
+use Rattle.lil_mcode.specs.declared.instr.Instr.TheVariants.{Liw, Lgw, Sgw, Rgc, Adc, Sbc, Ent, Rtn, Svc}
+use Rattle.lil_mcode.specs.declared.machine.Event.{Event}
+use Rattle.lil_mcode.specs.declared.machine.Event.TheVariants.{Went, Request, LevelEnded, Trap, Limit, BadCode}
+use Rattle.lil_mcode.specs.Bytes.{decoded}
+use Rattle.lil_mcode.specs.State.{Module, State, module_at}
+use Rattle.lil_mcode.specs.Table.{mstep, act, performed, fetched, bad, on_one, two_row, result_row, body_row, end_row, return_row, request_row, request_words}
+
+-- where an event is a request, its number has words, and so many stand on the stack of t
+abbrev pub Asks : Event → State → Type 0
+Asks (Request r) t = (n : ℕ) × (request_words r ≡ Some n) × (n ≤ length t.stack)
+Asks Went t = Unit {0}
+Asks LevelEnded t = Unit {0}
+Asks (Trap k) t = Unit {0}
+Asks (Limit k) t = Unit {0}
+Asks BadCode t = Unit {0}
+
+abbrev Row : Event × State → Type 0
+Row r = Asks r.0 r.1
+
+choice_row : (test : Bool) (x y : Event × State) → Row x → Row y → Row (if test then x else y)
+choice_row true x y f g = f
+choice_row false x y f g = g
+
+one_row : (s : State) (stack : List ℕ) (f : ℕ → List ℕ → Event × State) → ((x : ℕ) (rest : List ℕ) → Row (f x rest)) → Row (on_one s stack f)
+one_row s [] f h = tt
+one_row s (x ∷ rest) f h = h x rest
+
+result_asks : (s : State) (q : ℕ) (rest : List ℕ) (r : Result ℤ ArithFault) → Row (result_row s q rest r)
+result_asks s q rest (Ok z) = tt
+result_asks s q rest (Err e) = tt
+
+two_asks : (f : Whole → ℤ → ℤ → Result ℤ ArithFault) (t : Whole) (q : ℕ) (s : State) (stack : List ℕ) → Row (two_row f t q s stack)
+two_asks f t q s [] = tt
+two_asks f t q s (y ∷ []) = tt
+two_asks f t q s (y ∷ x ∷ rest) = result_asks s q rest _
+
+body_asks : (s : State) (b : ℕ) (bodies : List ℕ) (m : Option Module) → Row (body_row s b bodies m)
+body_asks s b bodies None = tt
+body_asks s b bodies (Some m) = choice_row (nat_lt s.limit (s.base + 4)) _ _ tt tt
+
+end_asks : (s : State) (bodies : List ℕ) → Row (end_row s bodies)
+end_asks s [] = tt
+end_asks s (b ∷ bodies) = body_asks s b bodies (module_at s.modules b)
+
+return_asks : (s : State) (frame place number : ℕ) → Row (return_row s frame place number)
+return_asks s frame place number =
+    choice_row (nat_lt (s.frame + 3) 65536 && (nat_le s.base frame && (nat_le (frame + 4) s.frame && is_some (module_at s.modules number)))) _ _ tt tt
+
+words_asks : (r n q : ℕ) (s : State) (there : Bool) → nat_le n (length s.stack) ≡ there → request_words r ≡ Some n
+    → Row (if there then (Request r, record s { place = q; stack = s.stack }) else bad s)
+words_asks r n q s true h e = (n, e, leb-true n (length s.stack) h)
+words_asks r n q s false h e = tt
+
+request_asks : (r q : ℕ) (s : State) (words : Option ℕ) → request_words r ≡ words → Row (request_row r q s words)
+request_asks r q s None e = tt
+request_asks r q s (Some n) e = words_asks r n q s (nat_le n (length s.stack)) refl e
+
+act_asks : (i : Instr) (q : ℕ) (m : Module) (s : State) → Row (act i q m s)
+act_asks (Liw w) q m s = choice_row (nat_lt (length s.stack) 16) _ _ tt tt
+act_asks (Lgw w) q m s = choice_row (nat_lt (m.base + w) 65536) _ _ (choice_row (nat_lt (length s.stack) 16) _ _ tt tt) tt
+act_asks (Sgw w) q m s = one_row s s.stack _ (λ x rest. choice_row (nat_lt (m.base + w) 65536) _ _ tt tt)
+act_asks (Rgc low high) q m s = one_row s s.stack _ (λ x rest. choice_row (nat_le low x && nat_le x high) _ _ tt tt)
+act_asks Adc q m s = two_asks sum Cardinal q s s.stack
+act_asks Sbc q m s = two_asks difference Cardinal q s s.stack
+act_asks (Ent w) q m s = choice_row (nat_lt (s.frame + w) s.top) _ _ tt (choice_row (nat_lt s.limit (s.frame + w)) _ _ tt tt)
+act_asks Rtn q m s = choice_row (s.frame == s.base) _ _ (end_asks s s.bodies) (return_asks s (slice_index s.store (s.frame + 1)) (slice_index s.store (s.frame + 2)) (slice_index s.store (s.frame + 3)))
+act_asks (Svc r) q m s = request_asks r q s (request_words r) refl
+
+performed_asks : (s : State) (m : Module) (d : Option (Instr × ℕ)) → Row (performed s m d)
+performed_asks s m None = tt
+performed_asks s m (Some d) = act_asks d.0 d.1 m s
+
+fetched_asks : (s : State) (m : Option Module) → Row (fetched s m)
+fetched_asks s None = tt
+fetched_asks s (Some m) = performed_asks s m (decoded m.code s.place)
+
+step_asks : (s : State) → Row (mstep s)
+step_asks s = choice_row s.marked _ _ (fetched_asks s (module_at s.modules s.running)) tt
+
+-- after a request its words stand on the stack
+pub request_has : (s t : State) (r : ℕ) → mstep s ≡ (Request r, t) → (n : ℕ) × (request_words r ≡ Some n) × (n ≤ length t.stack)
+request_has s t r h = let P : Event × State → Type 0 = λ x. Asks x.0 x.1 in subst P h (step_asks s)
+
+one_word : (r n : ℕ) (two : Bool) → (r == 2) ≡ two → (if two then Some 1 else None) ≡ Some n → n ≡ 1
+one_word r n true h e = cc
+one_word r n false h e = cc
+
+-- each request of this machine has one word
+pub request_has_one : (s t : State) (r : ℕ) → mstep s ≡ (Request r, t) → 1 ≤ length t.stack
+request_has_one s t r h =
+    let a = request_has s t r h in
+    let one : a.0 ≡ 1 = one_word r a.0 (r == 2) refl a.1 in
+    let there : a.0 ≤ length t.stack = a.2 in
+    omega arith
