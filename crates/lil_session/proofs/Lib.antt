@@ -1,0 +1,4 @@
+pub mod Reserved
+pub mod Digits
+pub mod Turns
+pub mod CutSteps

@@ -1,0 +1,4 @@
+//! Sessions.
+#![tactic(auto)]
+
+mod lexer;
