@@ -66,9 +66,9 @@ name_found b bs y is e = go (is_name (b ∷ take n bs)) refl (subst (λ (k : ℕ
     whole = ap (λ (t : Bool). cond (t || is_digit b) (1 + n) 0) is ∙ one-add n
 
     go : (t : Bool) → is_name (b ∷ take n bs) ≡ t → cond t (Some (Some (name_token (b ∷ take n bs)), length (b ∷ take n bs))) None ≡ Some y → Found (b ∷ bs) y
-    go false no e = absurd (cc)
-    go true yes e =
-        let p = and_parts (is_letter b) (nat_le (length (take n bs)) 63 && list_all is_name_byte (take n bs)) yes in
+    go false nopair e = absurd (cc)
+    go true holds e =
+        let p = and_parts (is_letter b) (nat_le (length (take n bs)) 63 && list_all is_name_byte (take n bs)) holds in
         let q = and_parts (nat_le (length (take n bs)) 63) (list_all is_name_byte (take n bs)) p.1 in
         subst (λ (y : Piece). Found (b ∷ bs) y) (some_same e) (record {
           front = b ∷ take n bs;
@@ -108,8 +108,8 @@ number_found d bs y is e =
         })
 
 one_mark : (b : ℕ) (bs : List ℕ) (y : Piece) → NoPair b bs → (o : Option Mark) → mark_of b ≡ o → mark_by o ≡ Some y → Found (b ∷ bs) y
-one_mark b bs y no None is e = absurd (cc)
-one_mark b bs y no (Some x) is e = subst (λ (y : Piece). Found (b ∷ bs) y) (some_same e) (record { front = b ∷ []; rest = bs; cut = refl; len = refl; is = mark is no })
+one_mark b bs y nopair None is e = absurd (cc)
+one_mark b bs y nopair (Some x) is e = subst (λ (y : Piece). Found (b ∷ bs) y) (some_same e) (record { front = b ∷ []; rest = bs; cut = refl; len = refl; is = mark is nopair })
 
 two_bytes : (b c n m : ℕ) (bs : List ℕ) → ((b == n) && (c == m)) ≡ true → (b ∷ c ∷ bs) ≡ (n ∷ m ∷ bs)
 two_bytes b c n m bs h =
@@ -246,20 +246,20 @@ first_false false y h = refl
 
 mark_again : (b : ℕ) (rest : List ℕ) (x : Mark) → mark_of b ≡ Some x → NoPair b rest → mark_piece b rest ≡ Some (Some (k.Mark x), 1)
 unfolding mark_piece
-mark_again b [] x is no = ap (λ (o : Option Mark). mark_by o) is
-mark_again b (c ∷ cs) x is no =
-    ap (λ (t : Bool). cond t (Some (Some (k.Mark m.Becomes), 2)) (cond (is_pair b c) None (mark_by (mark_of b)))) (first_false ((b == 58) && (c == 61)) _ no)
-    ∙ (ap (λ (t : Bool). cond t None (mark_by (mark_of b))) no ∙ ap (λ (o : Option Mark). mark_by o) is)
+mark_again b [] x is nopair = ap (λ (o : Option Mark). mark_by o) is
+mark_again b (c ∷ cs) x is nopair =
+    ap (λ (t : Bool). cond t (Some (Some (k.Mark m.Becomes), 2)) (cond (is_pair b c) None (mark_by (mark_of b)))) (first_false ((b == 58) && (c == 61)) _ nopair)
+    ∙ (ap (λ (t : Bool). cond t None (mark_by (mark_of b))) nopair ∙ ap (λ (o : Option Mark). mark_by o) is)
 
 abbrev Plain : ℕ → Type 0
 Plain b = (is_blank b ≡ false) × (is_letter b ≡ false) × (is_digit b ≡ false)
 
 either_mark : (b n : ℕ) (y x : Mark) (o : Option Mark) → Plain n → (o ≡ Some x → Plain b) → cond (b == n) (Some y) o ≡ Some x → Plain b
-either_mark b n y x o yes no e = go (b == n) refl e
+either_mark b n y x o holds nopair e = go (b == n) refl e
   where
     go : (t : Bool) → (b == n) ≡ t → cond t (Some y) o ≡ Some x → Plain b
-    go true is e = subst (λ (b : ℕ). Plain b) (sym (eqb-true b n is)) yes
-    go false is e = no e
+    go true is e = subst (λ (b : ℕ). Plain b) (sym (eqb-true b n is)) holds
+    go false is e = nopair e
 
 mark_plain : (b : ℕ) (x : Mark) → mark_of b ≡ Some x → Plain b
 mark_plain b x e =
@@ -289,9 +289,9 @@ piece_again {rest = rest} (number {d = d} {ds = ds} is all stops fits) =
     stops_sooner [] h = tt
     stops_sooner (c ∷ cs) h = first_false (is_digit c) _ h
 piece_again (becomes) = refl
-piece_again {rest = rest} (mark {b = b} {x = x} is no) =
+piece_again {rest = rest} (mark {b = b} {x = x} is nopair) =
     let p = mark_plain b x is in
-    piece_is b rest false false false p.0 p.1 p.2 ∙ mark_again b rest x is no
+    piece_is b rest false false false p.0 p.1 p.2 ∙ mark_again b rest x is nopair
 
 cut_next : (n : ℕ) (text : List ℕ) (p : Piece) → piece text ≡ Some p → cut_in (suc n) text ≡ with_token p.0 (cut_in n (drop p.1 text))
 unfolding cut_in piece

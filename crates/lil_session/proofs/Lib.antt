@@ -2,3 +2,4 @@ pub mod Reserved
 pub mod Digits
 pub mod Turns
 pub mod CutSteps
+pub mod CutLaws
