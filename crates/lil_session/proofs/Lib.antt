@@ -3,3 +3,5 @@ pub mod Digits
 pub mod Turns
 pub mod CutSteps
 pub mod CutLaws
+pub mod Standing
+pub mod ParseSound
