@@ -5,3 +5,4 @@ pub mod CutSteps
 pub mod CutLaws
 pub mod Standing
 pub mod ParseSound
+pub mod Folds

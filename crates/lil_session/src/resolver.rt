@@ -121,8 +121,8 @@ fn between(low: i32, z: i32, high: i32) -> bool
 }
 
 fn whole_result(operator: TwoOp, a: i32, b: i32) -> i32
-    requires left { (negsuc 99999 ≤ℤ a) × (a ≤ℤ pos 100000) }
-    requires right { (negsuc 99999 ≤ℤ b) × (b ≤ℤ pos 100000) }
+    requires left { (negsuc 199999 ≤ℤ a) × (a ≤ℤ pos 200000) }
+    requires right { (negsuc 199999 ≤ℤ b) × (b ≤ℤ pos 200000) }
     ensures value { result ≡ rules.whole_result operator a b }
 {
     match operator {
@@ -147,7 +147,7 @@ fn all_known(variables: &[Name], rest: &[More]) -> bool
 }
 
 fn longer(operator: TwoOp, z: i32, next: Option<i32>) -> Option<i32>
-    requires left { (negsuc 99999 ≤ℤ z) × (z ≤ℤ pos 100000) }
+    requires left { (negsuc 199999 ≤ℤ z) × (z ≤ℤ pos 200000) }
     requires right { IfSome next (λ n. (pos 0 ≤ℤ n) × (n ≤ℤ pos 65535)) }
     ensures { result ≡ rules.longer operator z next }
 {
@@ -166,14 +166,14 @@ fn prefix_fits(z: i32, next: Option<i32>) -> bool
     }
 }
 
-fn prefixes_fit(most: i32, value: Option<i32>, rest: &[More]) -> bool
-    requires { IfSome value (λ z. (negsuc 99999 ≤ℤ z) × (z ≤ℤ pos 100000)) }
-    ensures { result ≡ rules.prefixes_fit most value rest.now }
+fn prefixes_fit(most: u16, value: Option<i32>, rest: &[More]) -> bool
+    requires { IfSome value (λ z. (negsuc 199999 ≤ℤ z) × (z ≤ℤ pos 200000)) }
+    ensures { result ≡ rules.prefixes_fit (pos most) value rest.now }
 {
     match value {
         None => true,
         Some(z) => match rest {
-            [] => between(0, z, most),
+            [] => between(0, z, i32::from(most)),
             [x, more @ ..] => {
                 let next = constant_of(&x.operand);
                 prefix_fits(z, next) && prefixes_fit(most, longer(x.operator, z, next), more)
@@ -182,8 +182,8 @@ fn prefixes_fit(most: i32, value: Option<i32>, rest: &[More]) -> bool
     }
 }
 
-fn sum_keeps(variables: &[Name], most: i32, sum: &Sum) -> bool
-    ensures { result ≡ rules.sum_keeps variables.now most sum.now }
+fn sum_keeps(variables: &[Name], most: u16, sum: &Sum) -> bool
+    ensures { result ≡ rules.sum_keeps variables.now (pos most) sum.now }
 {
     is_known(variables, &sum.first)
         && (all_known(variables, sum.rest.as_slice())
@@ -303,6 +303,25 @@ fn summed(alloc: Global, variables: &[Name], sum: &Sum) -> Result<RExpr, Memory>
     }
 }
 
+#[tactic(auto, using(crate::proofs::Folds::summed_is))]
+fn sum_expression(alloc: Global, variables: &[Name], sum: &Sum) -> Result<RExpr, Memory>
+    requires few { length variables.now ≤ 65536 }
+    requires fits { spec.sum_fits (pos 65535) sum.now ≡ true }
+    ensures { IfOk result (λ e. view.expression_of e ≡ rules.sum_means variables.now sum.now) }
+{
+    summed(alloc, variables, sum)
+}
+
+#[tactic(auto, using(crate::proofs::Folds::wider_sum))]
+fn written(alloc: Global, variables: &[Name], sum: &Sum) -> Result<RStmt, Memory>
+    requires few { length variables.now ≤ 65536 }
+    requires fits { spec.sum_fits (pos 255) sum.now ≡ true }
+    ensures { IfOk result (λ s. view.statement_of s ≡ view.write_of (rules.chr_of (rules.sum_means variables.now sum.now))) }
+{
+    let value = sum_expression(alloc, variables, sum)?;
+    Ok(RStmt::Write(character(alloc, value)?))
+}
+
 fn character(alloc: Global, e: RExpr) -> Result<RExpr, Memory>
     requires { IfSome (rules.constant_value (view.expression_of e)) (λ z. z ≤ℤ pos 255) }
     ensures { IfOk result (λ c. view.expression_of c ≡ rules.chr_of (view.expression_of e)) }
@@ -320,13 +339,10 @@ fn statement(alloc: Global, variables: &[Name], statement: &Stmt) -> Result<RStm
 {
     match statement {
         Stmt::Assign(x, sum) => {
-            let value = summed(alloc, variables, sum)?;
+            let value = sum_expression(alloc, variables, sum)?;
             Ok(RStmt::Assign(number_among(variables, x.as_slice()), value))
         }
-        Stmt::Write(sum) => {
-            let value = summed(alloc, variables, sum)?;
-            Ok(RStmt::Write(character(alloc, value)?))
-        }
+        Stmt::Write(sum) => written(alloc, variables, sum),
     }
 }
 
