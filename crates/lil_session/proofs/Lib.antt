@@ -6,3 +6,4 @@ pub mod CutLaws
 pub mod Standing
 pub mod ParseSound
 pub mod Folds
+pub mod ParseComplete
