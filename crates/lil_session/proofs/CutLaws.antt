@@ -298,7 +298,7 @@ unfolding cut_in piece
 cut_next n [] p e = absurd (cc)
 cut_next n (b ∷ bs) p e = ap (λ (o : Option Piece). cut_by (cut_in n) (b ∷ bs) o) e
 
-some_bytes : {front rest : List ℕ} {t : TokenKind} → IsToken front rest t → 0 < length front
+pub some_bytes : {front rest : List ℕ} {t : TokenKind} → IsToken front rest t → 0 < length front
 some_bytes (word _ _ _ _) = omega arith
 some_bytes (number _ _ _ _) = omega arith
 some_bytes becomes = omega arith

@@ -7,3 +7,6 @@ pub mod Standing
 pub mod ParseSound
 pub mod Folds
 pub mod ParseComplete
+pub mod Smallness
+pub mod Soundness
+pub mod Straightness

@@ -1,3 +1,4 @@
 pub mod Cutting
 pub mod Parsing
 pub mod Folding
+pub mod Sizes

@@ -3,4 +3,5 @@
 
 mod lexer;
 mod parser;
+mod reading;
 mod resolver;
