@@ -1,12 +1,10 @@
 -- Sums of numbers and variables: the value of the numbers that they begin with, and what they mean.
-use Rattle.std.proofs.Common.{◌≡◌, ℕ, ℤ, pos, negsuc, ◌+ℤ◌, ◌-ℤ◌, ◌≤ℤ◌, ◌-◌, ◌<◌, Bool, true, false, not, cond, ◌&&◌, List, [], ◌∷◌, ◌++◌, length, take, drop, get_or, Option, Some, None, IfSome, refl, subst, sym, ◌∙◌, ap, arith}
+use Rattle.std.proofs.Common.{◌≡◌, ℕ, ℤ, pos, negsuc, ◌≤ℤ◌, ◌-◌, ◌<◌, true, ◌&&◌, List, [], ◌∷◌, length, take, drop, get_or, Option, Some, None, IfSome, refl, subst, sym, ◌∙◌, ap, arith}
 use Rattle.std.proofs.lemmas.Bool.{and_parts, and_from}
 use Rattle.std.proofs.lemmas.Int.{ints}
 use Rattle.std.proofs.lemmas.List.{take_all}
 use Rattle.lil_base.specs.Words.{Cardinal, between}
-use Rattle.lil_tree.specs.Scalars as v
-use Rattle.lil_tree.specs.Kinds.{OfWhole}
-use Rattle.lil_tree.specs.Resolved.{Expression, Constant, Taken, Two, Apply}
+use Rattle.lil_tree.specs.Resolved.{Expression, Two}
 use Rattle.lil_tree.specs.Resolving.{whole_result, constant_of, longer, prefix_fits, prefixes_fit, operand_means, constant_value, whole_constant, joined_by, joined, more_means, sum_means}
 use Rattle.lil_tree.specs.declared.syntax.TwoOp.{TwoOp}
 use Rattle.lil_tree.specs.declared.syntax.TwoOp.TheVariants.{Plus, Minus}

@@ -1,7 +1,5 @@
 -- What a unit's spelling is read as: the unit.
-use Rattle.std.proofs.Common.{◌≡◌, ℕ, zero, suc, ◌+◌, ◌≤◌, Bool, true, false, cond, List, [], ◌∷◌, ◌++◌, length, length-append, append_assoc, append-nil, codes, Option, Some, None, refl, subst, sym, ◌∙◌, ap, arith}
-use Rattle.std.specs.Str.{bytes_eq}
-use denote.Enum.Bare.{sameb}
+use Rattle.std.proofs.Common.{◌≡◌, ℕ, zero, suc, ◌≤◌, Bool, true, false, cond, List, [], ◌∷◌, ◌++◌, length, length-append, append_assoc, append-nil, codes, Option, Some, None, refl, subst, sym, ◌∙◌, ap, arith}
 use Rattle.lil_tree.specs.declared.token.TokenKind.{TokenKind}
 use Rattle.lil_tree.specs.declared.token.TokenKind.TheVariants as k
 use Rattle.lil_tree.specs.declared.token.Word.TheVariants as w

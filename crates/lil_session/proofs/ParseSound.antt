@@ -4,7 +4,7 @@ use Rattle.std.proofs.lemmas.Slice.Eq.{bytes_eq-Decides}
 use Rattle.std.proofs.lemmas.Bool.{eqb-true}
 use Rattle.std.specs.Prelude.{◌==◌}
 use Rattle.std.specs.Str.{bytes_eq}
-use denote.Enum.Bare.{sameb, same_true}
+use denote.Enum.Bare.{same_true}
 use Rattle.lil_tree.specs.declared.token.TokenKind.{TokenKind}
 use Rattle.lil_tree.specs.declared.token.TokenKind.TheVariants as k
 use Rattle.lil_tree.specs.declared.token.Word.{Word}
@@ -14,15 +14,13 @@ use Rattle.lil_tree.specs.declared.token.Mark.TheVariants as m
 use Rattle.lil_tree.specs.contracts.token.Mark as mark
 use Rattle.lil_tree.specs.contracts.token.Word as word
 use Rattle.lil_tree.specs.declared.syntax.TwoOp.{TwoOp}
-use Rattle.lil_tree.specs.declared.syntax.TwoOp.TheVariants.{Plus, Minus}
 use Rattle.lil_tree.specs.declared.syntax.Operand.{Operand}
-use Rattle.lil_tree.specs.declared.syntax.Operand.TheVariants.{Number, Named}
 use Rattle.lil_tree.specs.declared.syntax.More.{More}
 use Rattle.lil_tree.specs.declared.syntax.Sum.{Sum}
 use Rattle.lil_tree.specs.declared.syntax.Stmt.{Stmt}
 use Rattle.lil_tree.specs.declared.syntax.Stmt.TheVariants.{Assign, Write}
 use Rattle.lil_tree.specs.declared.syntax.StraightUnit.{StraightUnit}
-use Rattle.lil_tree.specs.Grammar.{spell_operand, spell_operator, spell_more, spell_sum, spell_statement, spell_statements, spell_names, spell_import, spell_variables, spell_body, spell_end, spell}
+use Rattle.lil_tree.specs.Grammar.{spell_operand, spell_operator, spell_more, spell_sum, spell_statement, spell_statements, spell_names, spell_import, spell_variables, spell_body, spell}
 use Rattle.lil_session.specs.Parsing as p
 use Rattle.lil_session.specs.Parsing.{Parsed, Parser, and_then, first, next, same_mark, same_word, is_mark, is_word, is_ident, is_finish, sees, expect, ident, ident_by, operand, operand_by, operator_of, many_by, many, behind, led, more_by, one_more, sum, written, named_statement, statement, imported, import_part, names, declared, variables, statements, body, end_part, heading, straight, whole, parse}
 

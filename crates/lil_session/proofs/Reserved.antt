@@ -1,5 +1,5 @@
 -- The groups of reserved words are all of them.
-use Rattle.std.proofs.Common.{◌≡◌, ℕ, Bool, true, false, cond, List, [], ◌∷◌, ◌++◌, Option, Some, None, refl, sym, ◌∙◌, ap}
+use Rattle.std.proofs.Common.{◌≡◌, ℕ, Bool, true, false, cond, List, [], ◌∷◌, ◌++◌, Option, Some, refl, ◌∙◌, ap}
 use Rattle.std.specs.Str.{bytes_eq}
 use Rattle.lil_tree.specs.declared.token.Word.{Word}
 use Rattle.lil_tree.specs.Cuts.{spelling, word_among, all_words}

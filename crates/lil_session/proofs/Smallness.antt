@@ -1,10 +1,9 @@
 -- A module takes no more code than its text has room for.
-use Rattle.std.proofs.Common.{◌≡◌, ℕ, ℤ, suc, ◌+◌, ◌*◌, ◌≤◌, ◌<◌, Bool, true, false, List, [], ◌∷◌, ◌++◌, codes, length, map, length-append, Option, Some, None, refl, subst, sym, ◌∙◌, ap, arith}
+use Rattle.std.proofs.Common.{◌≡◌, ℕ, ℤ, ◌+◌, ◌*◌, ◌≤◌, List, [], ◌∷◌, ◌++◌, codes, length, map, length-append, Option, Some, None, refl, ap, arith}
 use Rattle.std.proofs.lemmas.List.{length-map}
-use Rattle.lil_base.specs.Words.{Cardinal}
-use Rattle.lil_tree.specs.Resolved.{Expression, Constant, Taken, Two, Apply, Statement}
+use Rattle.lil_tree.specs.Resolved.{Expression}
 use Rattle.lil_tree.specs.Views.{cardinal}
-use Rattle.lil_tree.specs.Resolving.{operand_means, constant_value, joined_by, joined, more_means, sum_means, chr_by, chr_of, statement_means, unit_means}
+use Rattle.lil_tree.specs.Resolving.{operand_means, constant_value, joined_by, joined, more_means, sum_means, chr_by, statement_means, unit_means}
 use Rattle.lil_tree.specs.declared.token.TokenKind.{TokenKind}
 use Rattle.lil_tree.specs.declared.token.TokenKind.TheVariants as k
 use Rattle.lil_tree.specs.declared.token.Mark.TheVariants as m
@@ -16,9 +15,9 @@ use Rattle.lil_tree.specs.declared.syntax.Sum.{Sum}
 use Rattle.lil_tree.specs.declared.syntax.Stmt.{Stmt}
 use Rattle.lil_tree.specs.declared.syntax.Stmt.TheVariants.{Assign, Write}
 use Rattle.lil_tree.specs.declared.syntax.StraightUnit.{StraightUnit}
-use Rattle.lil_tree.specs.Cuts.{IsToken, IsCut, finish, blank, token}
+use Rattle.lil_tree.specs.Cuts.{IsCut, finish, blank, token}
 use Rattle.lil_tree.specs.Grammar.{spell_more, spell_sum, spell_statement, spell_statements, spell_names, spell_import, spell_variables, spell_body, spell_end, spell}
-use Rattle.lil_session.specs.Sizes.{size, statement_size, body_size, code_size, IsSmall}
+use Rattle.lil_session.specs.Sizes.{size, statement_size, body_size, IsSmall}
 use Rattle.lil_session.proofs.CutLaws.{some_bytes}
 
 -- each token but Finish takes a byte
@@ -44,8 +43,11 @@ module _ (vs : List (List ℕ)) where
   more_size : (e : Expression) (xs : List More) → size (more_means vs e xs) ≤ size e + 4 * length xs
   more_size e [] = omega arith
   more_size e (x ∷ xs) =
-      omega (arith, more_size (joined x.operator e (operand_means vs x.operand)) xs,
-        joined_by_size x.operator e (operand_means vs x.operand) (constant_value e) (constant_value (operand_means vs x.operand)) (operand_size x.operand))
+      omega (
+        arith,
+        more_size (joined x.operator e (operand_means vs x.operand)) xs,
+        joined_by_size x.operator e (operand_means vs x.operand) (constant_value e) (constant_value (operand_means vs x.operand)) (operand_size x.operand),
+      )
 
   sum_size : (s : Sum) → size (sum_means vs s) ≤ 3 + 4 * length s.rest
   sum_size s = omega (arith, more_size (operand_means vs s.first) s.rest, operand_size s.first)
@@ -78,8 +80,12 @@ variables_tokens (x ∷ xs) = omega (arith, names_tokens xs, length-append (spel
 -- the tokens of the parts
 parts : (u : StraightUnit) → 7 + length (spell_variables u.variables) + length (spell_body u.body) ≤ length (spell u)
 parts u =
-    omega (arith, length-append (spell_import u.imports_write) (spell_variables u.variables ++ (spell_body u.body ++ spell_end u.end_name)),
-      length-append (spell_variables u.variables) (spell_body u.body ++ spell_end u.end_name), length-append (spell_body u.body) (spell_end u.end_name))
+    omega (
+      arith,
+      length-append (spell_import u.imports_write) (spell_variables u.variables ++ (spell_body u.body ++ spell_end u.end_name)),
+      length-append (spell_variables u.variables) (spell_body u.body ++ spell_end u.end_name),
+      length-append (spell_body u.body) (spell_end u.end_name),
+    )
 
 pub few_variables : (u : StraightUnit) → length u.variables + 7 ≤ length (spell u)
 few_variables u = omega (arith, parts u, variables_tokens u.variables)
@@ -87,4 +93,5 @@ few_variables u = omega (arith, parts u, variables_tokens u.variables)
 pub unit_small : (u : StraightUnit) → length (spell u) ≤ 8193 → IsSmall (unit_means u)
 unit_small u h = record {
   code = omega (arith, parts u, body_small u.variables u.body, h);
-  variables = omega (arith, few_variables u, length-map u.variables cardinal, h) }
+  variables = omega (arith, few_variables u, length-map u.variables cardinal, h);
+}

@@ -1,18 +1,14 @@
 -- Each resolved module that is read is sound.
-use Rattle.std.proofs.Common.{◌≡◌, ℕ, ℤ, pos, suc, ◌+◌, ◌≤◌, ◌<◌, ◌≤ℤ◌, max, Bool, true, false, not, cond, ◌&&◌, ◌||◌, List, [], ◌∷◌, ◌++◌, length, map, Option, Some, None, IfSome, refl, subst, sym, ◌∙◌, ap, arith}
+use Rattle.std.proofs.Common.{◌≡◌, ℕ, ℤ, pos, ◌+◌, ◌≤◌, ◌<◌, ◌≤ℤ◌, Bool, true, false, not, cond, ◌&&◌, ◌||◌, List, [], ◌∷◌, ◌++◌, length, map, Option, Some, None, IfSome, refl, subst, sym, ◌∙◌, arith}
 use Rattle.std.proofs.lemmas.Bool.{and_parts, and_from, leb-true, le-leb, ltb-false}
 use Rattle.std.proofs.lemmas.Int.{ints}
-use Rattle.std.proofs.lemmas.List.{length-map}
 use Rattle.std.proofs.lemmas.List.Folds.{list_all-append}
 use Rattle.std.specs.Prelude.{nat_le, nat_lt, unwrap_or}
-use Rattle.std.specs.List.{list_any, list_all, position_or_len}
+use Rattle.std.specs.List.{list_all, position_or_len}
 use Rattle.std.specs.Str.{bytes_eq}
-use Rattle.lil_base.specs.Words.{Cardinal, between, word_of}
+use Rattle.lil_base.specs.Words.{Cardinal}
 use Rattle.lil_tree.specs.Kinds.{OfWhole, OfCharacter}
-use Rattle.lil_tree.specs.Scalars as v
-use Rattle.lil_tree.specs.Scalars.{within}
-use Rattle.lil_tree.specs.Resolved.{Expression, Constant, Taken, Two, Apply, Chr, kind_of}
-use Rattle.lil_tree.specs.Views.{cardinal}
+use Rattle.lil_tree.specs.Resolved.{Expression, Two, kind_of}
 use Rattle.lil_tree.specs.Resolving.{listed, number_among, constant_of, whole_result, longer, prefix_fits, prefixes_fit, is_known, is_known_more, sum_keeps, statement_keeps, operand_means, constant_value, whole_constant, sum_means, chr_by, chr_of, statement_means}
 use Rattle.lil_tree.specs.declared.token.TokenKind.{TokenKind}
 use Rattle.lil_tree.specs.declared.token.TokenKind.TheVariants as k
@@ -26,7 +22,7 @@ use Rattle.lil_tree.specs.declared.syntax.Stmt.{Stmt}
 use Rattle.lil_tree.specs.declared.syntax.Stmt.TheVariants.{Assign, Write}
 use Rattle.lil_tree.specs.declared.syntax.StraightUnit.{StraightUnit}
 use Rattle.lil_tree.specs.Cuts.{all_words, word_among, word_or_name, name_token, IsToken, word, number, becomes, mark, IsCut, finish, blank, token}
-use Rattle.lil_tree.specs.Grammar.{spell_operand, spell_operator, spell_more, spell_sum, spell_statement, spell_statements, spell_names, spell_import, spell_variables, spell_body, spell_end, spell}
+use Rattle.lil_tree.specs.Grammar.{spell_operand, spell_operator, spell_more, spell_sum, spell_statement, spell_statements, spell_import, spell_variables, spell_body, spell_end, spell}
 use Rattle.lil_session.specs.Folding.{prefix_by, prefix, chained, summed_by, summed, sum_fits, statement_fits}
 use Rattle.lil_session.specs.Sizes.{depth, IsSoundExpression, IsSoundStatement, IsSoundBody}
 use Rattle.lil_session.proofs.Folds.{between_so, between_from, summed_is, sum_constant_fits, wider_sum}
@@ -94,6 +90,7 @@ number_below vs x h = go (nat_lt at (length vs)) refl
   where
     at : ℕ
     at = position_or_len (bytes_eq x) vs
+
     go : (t : Bool) → nat_lt at (length vs) ≡ t → unwrap_or (cond t (Some at) None) 0 < length vs
     go true is = first_below vs x h
     go false is = absurd (omega (arith, ltb-false at (length vs) is, first_below vs x h))
@@ -124,7 +121,7 @@ module _ (vs : List (List ℕ)) where
   chained_sound e (x ∷ xs) s g =
       let b = operand_sound x.operand g.0 in
       chained_sound (Two x.operator Cardinal e (operand_means vs x.operand)) xs
-        (record { kind = refl; flat = omega (arith, s.flat, operand_depth x.operand); sound = (refl, s.kind, b.kind, s.sound, b.sound) }) g.1
+      (record { kind = refl; flat = omega (arith, s.flat, operand_depth x.operand); sound = (refl, s.kind, b.kind, s.sound, b.sound) }) g.1
 
   prefix_word : (xs : List More) (z : ℤ) → prefixes_fit (pos 65535) (Some z) xs ≡ true → AreGood vs xs → (pos 0 ≤ℤ (prefix xs z).0) × ((prefix xs z).0 ≤ℤ pos 65535) × AreGood vs (prefix xs z).1
   prefix_word [] z h g = let b = between_so (pos 0) z (pos 65535) h in (b.0, b.1, tt)

@@ -1,5 +1,5 @@
 -- The groups of standard names are all of them.
-use Rattle.std.proofs.Common.{◌≡◌, ℕ, Bool, true, false, ◌||◌, List, [], ◌∷◌, ◌++◌, refl, sym, ◌∙◌, ap}
+use Rattle.std.proofs.Common.{◌≡◌, ℕ, Bool, true, false, ◌||◌, List, [], ◌∷◌, ◌++◌, refl, ◌∙◌, ap}
 use Rattle.std.specs.Str.{bytes_eq}
 use Rattle.lil_tree.specs.Resolving.{listed, standard_names}
 use Rattle.lil_session.specs.Folding.{types_and_values, functions, procedures, is_standard}

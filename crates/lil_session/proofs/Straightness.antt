@@ -1,12 +1,11 @@
 -- What is read is straight, and a straight text has one meaning.
-use Rattle.std.proofs.Common.{◌≡◌, ℕ, ◌+◌, ◌≤◌, ◌<◌, Bool, true, false, ◌&&◌, not, List, [], ◌∷◌, length, map, Option, Some, None, refl, subst, sym, ◌∙◌, ap, arith}
+use Rattle.std.proofs.Common.{◌≡◌, ℕ, ◌≤◌, ◌<◌, Bool, true, false, ◌&&◌, not, List, length, map, Option, Some, None, subst, sym, ◌∙◌, ap, arith}
 use Rattle.std.proofs.lemmas.Bool.{and_parts}
 use Rattle.std.proofs.lemmas.List.{length-map}
 use Rattle.std.specs.List.{list_all}
 use Rattle.std.specs.Str.{bytes_eq}
 use Rattle.lil_tree.specs.declared.token.TokenKind.{TokenKind}
 use Rattle.lil_tree.specs.declared.syntax.StraightUnit.{StraightUnit}
-use Rattle.lil_tree.specs.Cuts.{IsCut}
 use Rattle.lil_tree.specs.Grammar.{spell}
 use Rattle.lil_tree.specs.Resolved.{Resolved}
 use Rattle.lil_tree.specs.Resolving.{listed, resident_names, all_differ, is_free, statement_keeps, keeps, statement_means, unit_means}
@@ -72,7 +71,8 @@ straight_from file text ts u m short e e' kept means = record {
   unit = u;
   derives = parse_sound ts u (sym e');
   keeping = kept;
-  meaning = means }
+  meaning = means;
+}
 
 bodies_keep : (file : List ℕ) (u : StraightUnit) → keeps file u ≡ true → list_all (statement_keeps u.imports_write u.variables) u.body ≡ true
 bodies_keep file u h =

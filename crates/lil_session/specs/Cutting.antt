@@ -1,8 +1,8 @@
 -- The cutting of a text into tokens, step by step.
-use Rattle.std.specs.Prelude.{ℕ, zero, suc, ◌==◌, nat_le, Bool, true, false, ◌&&◌, if◌then◌else◌, List, [], ◌∷◌, ◌++◌, length, take, drop, Option, Some, None}
+use Rattle.std.specs.Prelude.{ℕ, zero, suc, ◌==◌, nat_le, Bool, false, ◌&&◌, if◌then◌else◌, List, [], ◌∷◌, ◌++◌, length, take, drop, Option, Some, None}
 use Rattle.std.specs.List.{prefix_len}
 use Rattle.lil_base.specs.Names.{is_letter, is_digit, is_name_byte, is_name}
-use Rattle.lil_tree.specs.Cuts.{is_blank, is_number_byte, decimal_behind, word_or_name, name_token, mark_of, is_pair, word_among}
+use Rattle.lil_tree.specs.Cuts.{is_blank, is_number_byte, decimal_behind, name_token, mark_of, is_pair, word_among}
 use Rattle.lil_tree.specs.declared.token.TokenKind.{TokenKind}
 use Rattle.lil_tree.specs.declared.token.TokenKind.TheVariants as k
 use Rattle.lil_tree.specs.declared.token.Word.{Word}

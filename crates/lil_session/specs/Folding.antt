@@ -1,5 +1,5 @@
 -- The building of a resolved module, step by step: first the value of the numbers that a sum begins with, then the rest.
-use Rattle.std.specs.Prelude.{ℕ, ℤ, pos, Bool, true, false, ◌||◌, List, [], ◌∷◌, codes, Option, Some, None}
+use Rattle.std.specs.Prelude.{ℕ, ℤ, pos, Bool, ◌||◌, List, [], ◌∷◌, codes, Option, Some, None}
 use Rattle.lil_base.specs.Words.{Cardinal}
 use Rattle.lil_tree.specs.Resolved.{Expression, Two}
 use Rattle.lil_tree.specs.Resolving.{listed, whole_result, constant_of, prefixes_fit, operand_means, whole_constant}

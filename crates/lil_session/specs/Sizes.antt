@@ -1,9 +1,9 @@
 -- What is known of each resolved module that is read: its kinds, and how much it takes.
 use Rattle.std.specs.Prelude.{◌≡◌, ℕ, ◌+◌, ◌<◌, ◌≤◌, max, true, List, [], ◌∷◌, length}
-use Rattle.lil_base.specs.Words.{Whole, Cardinal}
-use Rattle.lil_tree.specs.Kinds.{Kind, OfWhole, OfCharacter}
+use Rattle.lil_base.specs.Words.{Cardinal}
+use Rattle.lil_tree.specs.Kinds.{OfWhole, OfCharacter}
 use Rattle.lil_tree.specs.Scalars.{within}
-use Rattle.lil_tree.specs.Resolved.{Designator, Variable, Chr, Expression, Constant, Taken, Two, Apply, Argument, Statement, Assign, Request, Resolved, kind_of}
+use Rattle.lil_tree.specs.Resolved.{Variable, Chr, Expression, Constant, Taken, Two, Apply, Argument, Statement, Assign, Request, Resolved, kind_of}
 
 -- an expression takes at most so many words of the expression stack
 abbrev pub depth : Expression → ℕ

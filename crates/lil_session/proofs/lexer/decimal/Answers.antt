@@ -1,4 +1,4 @@
-use Rattle.std.proofs.Common.{arith, sym, ◌∙◌, ◌+◌, ◌-◌, ◌*◌, drop}
+use Rattle.std.proofs.Common.{sym, ◌∙◌, ◌+◌, ◌*◌, drop}
 use Rattle.lil_session.proofs.Digits.{leaves, one_more}
 use Rattle.lil_session.proofs.lexer.decimal.Goals as goal
 

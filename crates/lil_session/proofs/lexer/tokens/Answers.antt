@@ -2,7 +2,7 @@ use Rattle.std.proofs.Common.{rules, arith, ◌≡◌, ◌<◌, ◌-◌, ◌+◌
 use Rattle.std.proofs.lemmas.Bool.{eqb-true, eqb-false}
 use Rattle.std.proofs.lemmas.Grind.{common_steps}
 use Rattle.lil_session.specs.Cutting as spec
-use Rattle.lil_session.proofs.Turns.{turn_left, none_left}
+use Rattle.lil_session.proofs.Turns.{turn_left}
 use Rattle.lil_session.proofs.CutSteps.{cut_start, cut_end, cut_stop, cut_more}
 use Rattle.lil_session.proofs.lexer.tokens.Goals as goal
 

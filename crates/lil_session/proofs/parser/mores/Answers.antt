@@ -1,6 +1,5 @@
 use Rattle.std.proofs.Common.{rules, arith}
 use Rattle.std.proofs.lemmas.Grind.{common_steps}
-use Rattle.lil_tree.specs.declared.token.Mark.TheVariants as m
 use Rattle.lil_session.specs.Parsing as spec
 use Rattle.lil_session.specs.Parsing.{many}
 use Rattle.lil_session.proofs.Turns.{turn_left}

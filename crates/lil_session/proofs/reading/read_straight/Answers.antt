@@ -1,6 +1,5 @@
-use Rattle.std.proofs.Common.{arith, ◌≡◌, ◌≤◌, ◌∙◌, sym, ap, true, false, length, Some, None}
+use Rattle.std.proofs.Common.{arith, ◌≡◌, ◌∙◌, sym, ap, true, false, Some, None}
 use Rattle.lil_tree.specs.Resolving.{keeps}
-use Rattle.lil_tree.specs.Straight.{IsStraight}
 use Rattle.lil_tree.specs.Views.{module_of}
 use Rattle.lil_session.specs.Cutting.{cut}
 use Rattle.lil_session.specs.Parsing.{parse}
@@ -47,7 +46,7 @@ returns-clause-sound c =
     let u : Some c.in-Some-2.unit ≡ parse c.in-Some.tokens = sym c.in-Some-2.is ∙ (c.in_ok-unit.ensures ∙ ap parse c.as_slice.ensures) in
     let kept : keeps c.args.file.now c.in-Some-2.unit ≡ true = sym c.keeps.ensures ∙ c.if-not-keeps.false in
     straight_sound c.args.file.now c.args.text.now (module_of c.in_ok-resolve.field-0)
-      (straight_from c.args.file.now c.args.text.now c.in-Some.tokens c.in-Some-2.unit (module_of c.in_ok-resolve.field-0) (omega arith) ts u kept c.in_ok-resolve.ensures)
+    (straight_from c.args.file.now c.args.text.now c.in-Some.tokens c.in-Some-2.unit (module_of c.in_ok-resolve.field-0) (omega arith) ts u kept c.in_ok-resolve.ensures)
 
 pub returns-clause-small : goal.returns-clause-small
 returns-clause-small c =
@@ -55,4 +54,4 @@ returns-clause-small c =
     let u : Some c.in-Some-2.unit ≡ parse c.in-Some.tokens = sym c.in-Some-2.is ∙ (c.in_ok-unit.ensures ∙ ap parse c.as_slice.ensures) in
     let kept : keeps c.args.file.now c.in-Some-2.unit ≡ true = sym c.keeps.ensures ∙ c.if-not-keeps.false in
     straight_small c.args.file.now c.args.text.now (module_of c.in_ok-resolve.field-0)
-      (straight_from c.args.file.now c.args.text.now c.in-Some.tokens c.in-Some-2.unit (module_of c.in_ok-resolve.field-0) (omega arith) ts u kept c.in_ok-resolve.ensures)
+    (straight_from c.args.file.now c.args.text.now c.in-Some.tokens c.in-Some-2.unit (module_of c.in_ok-resolve.field-0) (omega arith) ts u kept c.in_ok-resolve.ensures)

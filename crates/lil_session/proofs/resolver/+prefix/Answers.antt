@@ -1,4 +1,4 @@
-use Rattle.std.proofs.Common.{rules, arith, ◌≡◌, ◌∙◌, ◌-◌, sym, ap, w32, to_z, of_z, pos, length, take, drop, ℤ, List}
+use Rattle.std.proofs.Common.{rules, arith, ◌≡◌, ◌∙◌, sym, ap, w32, to_z, of_z, pos, ℤ, List}
 use Rattle.std.proofs.lemmas.Int.{to_z-of_z}
 use mir.Val.{SFits}
 use Rattle.lil_tree.specs.declared.syntax.More.{More}
