@@ -1,3 +1,6 @@
+pub mod Cutting
+pub mod Parsing
+pub mod Folding
 pub mod Sizes
 pub mod Rows
 pub mod Emitting

@@ -2,7 +2,10 @@
 #![tactic(auto)]
 
 mod generator;
+mod lexer;
+mod parser;
 mod reading;
+mod resolver;
 mod run;
 mod status;
 
