@@ -1,1 +1,7 @@
-pub mod Shown
+mod Shown
+mod Pieces
+mod Unique
+mod Stays
+mod Agree
+mod Doing
+mod Telling

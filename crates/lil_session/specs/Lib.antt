@@ -4,3 +4,5 @@ pub mod Emitting
 pub mod Running
 pub mod Words
 pub mod Outcome
+pub mod Report
+pub mod Answered
