@@ -3,13 +3,13 @@
 
 mod generator;
 mod lines;
-mod once;
 mod options;
 mod rack;
 mod reading;
 mod report;
 mod run;
 mod status;
+mod text_run;
 mod top;
 mod words;
 
@@ -17,8 +17,8 @@ pub use lil_volume::{
     ErrorSink, FolderVolume, InputKeys, KeyFailed, Keyboard, OutputSink, RamKeys, RamSink,
     RamVolume, Sink, SinkFailed, Volume, VolumeError,
 };
-pub use once::once;
 pub use options::Options;
 pub use rack::{Channel, ChannelFailed, Rack};
 pub use status::Status;
+pub use text_run::once;
 pub use top::lilith;

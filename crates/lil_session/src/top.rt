@@ -12,8 +12,8 @@ ghost use Rattle.lil_session.specs.Outcome.{gives_way, settled, not_built, devic
 ghost use Rattle.lil_session.specs.Report.{file_of, status_lines};
 ghost use Rattle.lil_session.specs.Answered.{IsAnswer, Call, Told};
 
-use crate::once::told;
 use crate::report::tell;
+use crate::text_run::told;
 use crate::words::word_of_once;
 use crate::{Channel, Rack, Status};
 use lil_base::Text;
@@ -34,15 +34,15 @@ fn commanded<V: Volume, K: Keyboard, S: Sink, R: Sink>(
 ) -> Status
     ensures { let at = devices V.files V.faults K.left K.faults S.written S.faults in
         Told (record {
-            name = source_name words.now;
-            steps = STEPS;
-            file = file_of words.now;
-            before = at volume.old keys.old screen.old;
-            after = at volume.new keys.new screen.new;
-            old = R.written report.old;
-            old_faults = R.faults report.old;
-            new = R.written report.new;
-            new_faults = R.faults report.new;
+          name = source_name words.now;
+          steps = STEPS;
+          file = file_of words.now;
+          before = at volume.old keys.old screen.old;
+          after = at volume.new keys.new screen.new;
+          old = R.written report.old;
+          old_faults = R.faults report.old;
+          new = R.written report.new;
+          new_faults = R.faults report.new;
         }) result }
 {
     match word_of_once(words) {

@@ -54,13 +54,7 @@ fn run_module<S: Sink>(alloc: Global, m: &RModule, steps: u64, screen: &mut S) -
 }
 
 /// Runs the text of the file of this name where it is straight.
-fn run_text<S: Sink>(
-    alloc: Global,
-    name: &Name,
-    text: &[u8],
-    steps: u64,
-    screen: &mut S,
-) -> Status
+fn run_text<S: Sink>(alloc: Global, name: &Name, text: &[u8], steps: u64, screen: &mut S) -> Status
     ensures { TextRan name.now text.now steps (S.written screen.old) (S.faults screen.old) (S.written screen.new) (S.faults screen.new) result }
 {
     match read_straight(alloc, name, text) {
@@ -124,15 +118,15 @@ pub(crate) fn told<V: Volume, K: Keyboard, S: Sink, R: Sink>(
 ) -> Status
     ensures { let at = devices V.files V.faults K.left K.faults S.written S.faults in
         Told (record {
-            name = name_of_word word.now;
-            steps = steps;
-            file = word.now;
-            before = at volume.old keys.old screen.old;
-            after = at volume.new keys.new screen.new;
-            old = R.written report.old;
-            old_faults = R.faults report.old;
-            new = R.written report.new;
-            new_faults = R.faults report.new;
+          name = name_of_word word.now;
+          steps = steps;
+          file = word.now;
+          before = at volume.old keys.old screen.old;
+          after = at volume.new keys.new screen.new;
+          old = R.written report.old;
+          old_faults = R.faults report.old;
+          new = R.written report.new;
+          new_faults = R.faults report.new;
         }) result }
 {
     let status = ran(alloc, word, steps, volume, keys, screen);
@@ -158,15 +152,15 @@ pub fn once<V: Volume, K: Keyboard, S: Sink, R: Sink, C: Channel>(
     // The command was done with some answer, whose lines were then written.
     ensures told { let at = devices V.files V.faults K.left K.faults S.written S.faults in
         Told (record {
-            name = name_of_word word.now;
-            steps = o.steps;
-            file = word.now;
-            before = at volume.old keys.old screen.old;
-            after = at volume.new keys.new screen.new;
-            old = R.written report.old;
-            old_faults = R.faults report.old;
-            new = R.written report.new;
-            new_faults = R.faults report.new;
+          name = name_of_word word.now;
+          steps = o.steps;
+          file = word.now;
+          before = at volume.old keys.old screen.old;
+          after = at volume.new keys.new screen.new;
+          old = R.written report.old;
+          old_faults = R.faults report.old;
+          new = R.written report.new;
+          new_faults = R.faults report.new;
         }) result }
 
     // What a straight text shows, and how it ends, is what its meaning says.

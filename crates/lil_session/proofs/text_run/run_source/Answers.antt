@@ -3,7 +3,7 @@ use Rattle.lil_session.specs.declared.status.Status.TheVariants.{Memory, VolumeF
 use Rattle.lil_session.specs.Words.{mod_file}
 use Rattle.lil_session.specs.Outcome.{devices}
 use Rattle.lil_session.proofs.Doing.{ran_not, source_ran, file_read, failed_rises, quiet_of}
-use Rattle.lil_session.proofs.once.run_source.Goals as goal
+use Rattle.lil_session.proofs.text_run.run_source.Goals as goal
 
 pub returns-in-Err-Failed : goal.returns-in-Err-Failed
 returns-in-Err-Failed g c =

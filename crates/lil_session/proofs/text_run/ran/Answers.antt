@@ -3,7 +3,7 @@ use Rattle.lil_session.specs.declared.status.Status.TheVariants.{Memory}
 use Rattle.lil_session.specs.Words.{name_of_word}
 use Rattle.lil_session.specs.Outcome.{devices}
 use Rattle.lil_session.proofs.Doing.{ran_not}
-use Rattle.lil_session.proofs.once.ran.Goals as goal
+use Rattle.lil_session.proofs.text_run.ran.Goals as goal
 
 pub returns-in-Err : goal.returns-in-Err
 returns-in-Err g c =

@@ -1,6 +1,6 @@
 use Rattle.std.proofs.Common.{◌≡◌, refl}
 use Rattle.lil_session.proofs.Telling.{headline_told, answer_or_spent, inner_is, volume_told, screen_told, lines_told}
-use Rattle.lil_session.proofs.once.once.Goals as goal
+use Rattle.lil_session.proofs.text_run.once.Goals as goal
 
 pub returns-clause-headline : goal.returns-clause-headline
 returns-clause-headline g c = headline_told c.told.ensures
