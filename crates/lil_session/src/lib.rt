@@ -22,3 +22,6 @@ pub use rack::{Channel, ChannelFailed, Rack};
 pub use status::Status;
 pub use text_run::once;
 pub use top::lilith;
+
+#[cfg(test)]
+mod tests;
