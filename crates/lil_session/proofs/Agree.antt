@@ -1,5 +1,5 @@
 -- Two answers of one command in one world are the same, where a straight text means one module.
-use Rattle.std.proofs.Common.{◌≡◌, ◌⊎◌, inl, inr, ℕ, List, [], ◌∷◌, Option, None, Some, refl, sym, ◌∙◌, subst}
+use Rattle.std.proofs.Common.{◌≡◌, inl, inr, ℕ, List, [], ◌∷◌, Option, None, Some, sym, ◌∙◌, subst}
 use Rattle.std.specs.FinMap.{get}
 use Rattle.lil_tree.specs.Resolved.{Resolved}
 use Rattle.lil_tree.specs.Straight.{IsStraight}

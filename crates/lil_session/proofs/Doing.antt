@@ -1,5 +1,5 @@
 -- What a command that was done says of its answer and its devices.
-use Rattle.std.proofs.Common.{◌≡◌, ◌≢◌, ◌⊎◌, inl, inr, ℕ, ◌≤◌, Bool, true, false, List, [], ◌∷◌, ◌++◌, take, Option, None, Some, MatchOption, Result, Ok, Err, refl, sym, ◌∙◌, ap, subst, arith}
+use Rattle.std.proofs.Common.{◌≡◌, ◌⊎◌, inl, inr, ℕ, ◌≤◌, true, false, List, [], ◌++◌, Option, None, Some, MatchOption, Result, Ok, Err, refl, sym, ◌∙◌, ap, subst, arith}
 use Rattle.std.specs.FinMap.{get}
 use Rattle.std.proofs.lemmas.Bool.{both_ways}
 use Rattle.std.proofs.lemmas.List.{append-nil}
@@ -7,15 +7,15 @@ use Rattle.lil_base.specs.declared.fault.SourceFault.{SourceFault}
 use Rattle.lil_tree.specs.Resolved.{Resolved}
 use Rattle.lil_tree.specs.Straight.{IsStraight}
 use Rattle.lil_meaning.specs.World.{World}
-use Rattle.lil_meaning.specs.Items.{Phase, Going}
+use Rattle.lil_meaning.specs.Items.{Going}
 use Rattle.lil_volume.specs.Causes.{Rose, VolumeCause}
 use Rattle.lil_volume.specs.declared.outside.VolumeError.{VolumeError}
 use Rattle.lil_volume.specs.declared.outside.VolumeError.TheVariants.{Failed}
-use Rattle.lil_volume.specs.Told.{Files, FileIs, followed_by, FollowedByPrefix}
+use Rattle.lil_volume.specs.Told.{Files, FileIs, followed_by}
 use Rattle.lil_session.specs.declared.status.Status.{Status}
 use Rattle.lil_session.specs.declared.status.Status.TheVariants as a
 use Rattle.lil_session.specs.Words.{mod_file}
-use Rattle.lil_session.specs.Outcome.{settled, gives_way, not_built, with_writes, state_of, Allowed, Answers, SourceAnswers, TextAnswers, Blames, Devices, Finds, Headline, IsRunAnswer, MeansAnswer, Ran, Runs, Shows}
+use Rattle.lil_session.specs.Outcome.{settled, gives_way, with_writes, Allowed, Answers, SourceAnswers, TextAnswers, Blames, Devices, Finds, Headline, IsRunAnswer, MeansAnswer, Ran, Runs, Shows}
 use Rattle.lil_session.specs.Answered.{TextRan}
 use Rattle.lil_session.proofs.Unique.{straight_unique}
 

@@ -1,5 +1,5 @@
 -- A piece that was put whole or was cut short.
-use Rattle.std.proofs.Common.{◌≡◌, ℕ, List, take, length, Option, Result, Ok, Err, OnOk, OnErr, sym, ◌∙◌, ap, arith}
+use Rattle.std.proofs.Common.{◌≡◌, ℕ, List, length, Option, Result, Ok, Err, OnOk, OnErr, sym, ◌∙◌, ap, arith}
 use Rattle.std.proofs.lemmas.List.{take_all}
 use Rattle.lil_volume.specs.Told.{followed_by, FollowedByPrefix}
 

@@ -1,20 +1,16 @@
 -- What holds of a command's answer once its lines were written.
-use Rattle.std.proofs.Common.{◌≡◌, ◌≢◌, ◌⊎◌, inl, inr, ℕ, ◌<◌, ◌≤◌, Bool, true, false, List, Option, None, Some, refl, sym, ◌∙◌, ap, subst, arith}
-use Rattle.std.specs.FinMap.{get}
+use Rattle.std.proofs.Common.{◌≡◌, ◌⊎◌, inl, inr, ℕ, ◌<◌, ◌≤◌, true, false, List, Option, refl, sym, ◌∙◌, ap, subst, arith}
 use Rattle.std.proofs.lemmas.Bool.{both_ways}
 use Rattle.lil_base.specs.declared.fault.SourceFault.{SourceFault}
 use Rattle.lil_base.specs.declared.fault.TrapAt.{TrapAt}
 use Rattle.lil_tree.specs.Resolved.{Resolved}
-use Rattle.lil_tree.specs.Straight.{IsStraight}
 use Rattle.lil_meaning.specs.World.{World}
 use Rattle.lil_meaning.specs.Items.{Phase, Ended, Trapped}
-use Rattle.lil_volume.specs.Causes.{Rose}
-use Rattle.lil_volume.specs.Told.{Files, followed_by, FollowedByPrefix}
+use Rattle.lil_volume.specs.Told.{followed_by, FollowedByPrefix}
 use Rattle.lil_session.specs.declared.status.Status.{Status}
 use Rattle.lil_session.specs.declared.status.Status.TheVariants as a
-use Rattle.lil_session.specs.Words.{mod_file}
-use Rattle.lil_session.specs.Outcome.{settled, gives_way, not_built, state_of, Allowed, Answers, SourceAnswers, Blames, EndsSo, Finds, Headline, IsRunAnswer, MeansAnswer, Ran, Runs}
-use Rattle.lil_session.specs.Report.{status_lines, Reported}
+use Rattle.lil_session.specs.Outcome.{settled, gives_way, state_of, Allowed, Answers, SourceAnswers, Blames, EndsSo, Finds, Headline, IsRunAnswer, Runs}
+use Rattle.lil_session.specs.Report.{status_lines}
 use Rattle.lil_session.specs.Answered.{IsAnswer, Call, Told}
 use Rattle.lil_session.proofs.Unique.{straight_unique}
 use Rattle.lil_session.proofs.Agree.{answers_agree}

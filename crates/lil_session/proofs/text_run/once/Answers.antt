@@ -1,4 +1,4 @@
-use Rattle.std.proofs.Common.{◌≡◌, refl}
+use Rattle.std.proofs.Common.{refl}
 use Rattle.lil_session.proofs.Telling.{headline_told, answer_or_spent, inner_is, volume_told, screen_told, lines_told}
 use Rattle.lil_session.proofs.text_run.once.Goals as goal
 

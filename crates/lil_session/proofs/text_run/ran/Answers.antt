@@ -1,4 +1,4 @@
-use Rattle.std.proofs.Common.{◌≡◌, inl, refl, arith}
+use Rattle.std.proofs.Common.{inl, refl, arith}
 use Rattle.lil_session.specs.declared.status.Status.TheVariants.{Memory}
 use Rattle.lil_session.specs.Words.{name_of_word}
 use Rattle.lil_session.specs.Outcome.{devices}

@@ -1,4 +1,4 @@
-use Rattle.std.proofs.Common.{◌≡◌, inl, inr, Some, refl}
+use Rattle.std.proofs.Common.{inl, inr, Some, refl}
 use Rattle.lil_session.specs.declared.status.Status.TheVariants.{Memory, VolumeFault}
 use Rattle.lil_session.specs.Words.{mod_file}
 use Rattle.lil_session.specs.Outcome.{devices}

@@ -1,4 +1,3 @@
-use Rattle.std.proofs.Common.{◌≡◌}
 use Rattle.lil_tree.specs.Resolved.{Resolved}
 use Rattle.lil_tree.specs.Straight.{IsStraight}
 use Rattle.lil_tree.specs.Views.{module_of}

@@ -1,4 +1,4 @@
-use Rattle.std.proofs.Common.{◌≡◌, ◌<◌, refl, lit<}
+use Rattle.std.proofs.Common.{◌<◌, refl, lit<}
 use Rattle.lil_session.proofs.Telling.{headline_told, answer_told, inner_is, result_is, done_only, done_where, trapped_only, trapped_where, settles_told, no_other, nothing_told, volume_told, screen_told, lines_told, cut_told}
 use Rattle.lil_session.proofs.top.lilith.Goals as goal
 
