@@ -110,8 +110,8 @@ module _ (modules : List Resolved) (l : Layout) (table : List Module) (own : Mod
         let now : Place = record { root = Global (owner_of (slice_get s.activations (current k))) x; path = [] } in
         let here : owner_of (slice_get s.activations (current k)) ≡ number = ap (λ (a : ℕ). owner_of (slice_get s.activations a)) (closed l table own number h k _ _ _ row.then) ∙ shared.owner in
         let known : IsVariable l table own number h now row.offset kind =
-          subst (λ (n : ℕ). let place : Place = record { root = Global n x; path = [] } in IsVariable l table own number h place row.offset kind) (sym here)
-          (shared.laid.variables x row.offset kind row.known row.typed) in
+        subst (λ (n : ℕ). let place : Place = record { root = Global n x; path = [] } in IsVariable l table own number h place row.offset kind) (sym here)
+        (shared.laid.variables x row.offset kind row.known row.typed) in
         goes_none modules l table own number h s (PlaceOf (Variable x kind) ∷ k) m
         (lands_on modules l table own number h s m shared (Value (Places now) ∷ k) m.place m.stack
         (record { quiet = refl; kind = kind; offset = row.offset; variable = known; then = row.then }))
@@ -128,13 +128,13 @@ module _ (modules : List Resolved) (l : Layout) (table : List Module) (own : Mod
         let inside : own.base + row.then.offset < 65536 = omega (arith, shared.mem.inside place.root row.kind row.variable.living, row.variable.at, offset) in
         let address : own.base + row.then.offset ≡ h.base place.root = omega (arith, row.variable.at, offset) in
         let loaded : get_or m.store (own.base + row.then.offset) 0 ≡ scalar_word value =
-          ap (λ (a : ℕ). get_or m.store a 0) address ∙ word.word ∙ ap scalar_word (sym cell) in
+        ap (λ (a : ℕ). get_or m.store a 0) address ∙ word.word ∙ ap scalar_word (sym cell) in
         goes_one modules l table own number h s (Value (Places place) ∷ Fill Get ∷ k) m (running (going m row.then.end (scalar_word value ∷ m.stack)) s.world)
         (advances m s.world _ (
-          at_step modules l table own number h m shared.program (Lgw row.then.offset) row.then.end row.then.load
-          ∙ yes _ _ _ (lt-ltb (own.base + row.then.offset) 65536 inside)
-          ∙ ap (λ (w : ℕ). push_row w row.then.end m) loaded
-          ∙ pushes (scalar_word value) row.then.end m (omega (arith, row.then.shallow))
+        at_step modules l table own number h m shared.program (Lgw row.then.offset) row.then.end row.then.load
+        ∙ yes _ _ _ (lt-ltb (own.base + row.then.offset) 65536 inside)
+        ∙ ap (λ (w : ℕ). push_row w row.then.end m) loaded
+        ∙ pushes (scalar_word value) row.then.end m (omega (arith, row.then.shallow))
         ))
         (lands_on modules l table own number h s m shared (Value (Scalars value) ∷ k) row.then.end (scalar_word value ∷ m.stack)
         (record {
@@ -186,13 +186,13 @@ module _ (modules : List Resolved) (l : Layout) (table : List Module) (own : Mod
         let fits : within (OfWhole w) v ≡ true = ap (λ (j : Kind). within j v) (sym kind) ∙ row.fits in
         let two : m.stack ≡ scalar_word v ∷ scalar_word u ∷ row.then.below = row.is ∙ ap (λ (x : List ℕ). scalar_word v ∷ x) row.then.is in
         let words : operation o w (number_of w (scalar_word u)) (number_of w (scalar_word v)) ≡ operation o w (whole_of u) (whole_of v) =
-          ap (λ (z : ℤ). operation o w z (number_of w (scalar_word v))) (reads w u row.then.fits) ∙ ap (operation o w (whole_of u)) (reads w v fits) in
+        ap (λ (z : ℤ). operation o w z (number_of w (scalar_word v))) (reads w u row.then.fits) ∙ ap (operation o w (whole_of u)) (reads w v fits) in
         goes_one modules l table own number h s (Value (Scalars v) ∷ Fill (RightOf o w u) ∷ k) m _
         (advances m s.world _ (
-          at_step modules l table own number h m shared.program row.then.instr row.then.end row.then.by
-          ∙ act_operation o w row.then.instr row.then.has row.then.end own m
-          ∙ ap (two_row (operation o) w row.then.end m) two
-          ∙ ap (result_row m row.then.end row.then.below) words
+        at_step modules l table own number h m shared.program row.then.instr row.then.end row.then.by
+        ∙ act_operation o w row.then.instr row.then.has row.then.end own m
+        ∙ ap (two_row (operation o) w row.then.end m) two
+        ∙ ap (result_row m row.then.end row.then.below) words
         ))
         (result_lands (Value (Scalars v) ∷ Fill (RightOf o w u) ∷ k) (closed l table own number h k _ _ _ row.then.then) w (operation o w (whole_of u) (whole_of v)) (operation_fits o w (whole_of u) (whole_of v)) row.then.end row.then.below row.then.then)
 

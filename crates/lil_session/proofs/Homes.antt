@@ -109,9 +109,9 @@ mem_stored h cells store r k v mem living fits = record {
     by s j e (inr is) =
         let value : stored cells (whole_root r) (alone v) s [] ≡ cells s [] = no (same_root r s) v (cells s []) is in
         let apart : h.base s ≡ h.base r → ⊥ = λ at.
-          let one : r ≡ s = of_same r s (sym (mem.owned r k living) ∙ ap h.owner (sym at) ∙ mem.owned s j e) in
-          let two : same_root r s ≡ true = ap (same_root r) (sym one) ∙ same_root_refl r in
-          (let clash : true ≡ false = sym two ∙ is in cc) in
+        let one : r ≡ s = of_same r s (sym (mem.owned r k living) ∙ ap h.owner (sym at) ∙ mem.owned s j e) in
+        let two : same_root r s ≡ true = ap (same_root r) (sym one) ∙ same_root_refl r in
+        (let clash : true ≡ false = sym two ∙ is in cc) in
         let old = mem.holds s j e in
         record {
           word = get_or-set_other store (h.base r) (h.base s) (scalar_word v) 0 apart ∙ old.word ∙ ap scalar_word (sym value);

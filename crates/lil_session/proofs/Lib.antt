@@ -28,3 +28,8 @@ pub mod Alone
 pub mod Advancing
 pub mod Turns
 pub mod Endings
+pub mod Pieces
+pub mod Stays
+pub mod Agree
+pub mod Doing
+pub mod Telling

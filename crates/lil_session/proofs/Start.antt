@@ -118,7 +118,7 @@ module _ (p : Resolved) (code : List ℕ) (small : IsSmall p) (t : Translates p 
     base = 1 + count;
     limit = 65535;
     bodies = [];
-    marked = true
+    marked = true;
   }
 
   -- what was loaded
@@ -199,10 +199,10 @@ module _ (p : Resolved) (code : List ℕ) (small : IsSmall p) (t : Translates p 
   enters w =
       let top : 1 + count + 4 ≡ 1 + count + 4 = refl in
       advances (begun_at 0) w (Went, begun_at t.start) (
-        ap (Rattle.lil_mcode.specs.Table.performed (begun_at 0) own) t.enter
-        ∙ no _ _ _ (le-ltb (1 + count + 4) (1 + count + 4) (omega arith))
-        ∙ no _ _ _ (le-ltb 65535 (1 + count + 4) (omega (arith, small.variables)))
-        ∙ ap (λ (x : List ℕ). let r : Rattle.lil_mcode.specs.declared.machine.Event.Event × State = (Went, record (begun_at t.start) { store = x }) in r) (cleared_none store (1 + count + 4))
+      ap (Rattle.lil_mcode.specs.Table.performed (begun_at 0) own) t.enter
+      ∙ no _ _ _ (le-ltb (1 + count + 4) (1 + count + 4) (omega arith))
+      ∙ no _ _ _ (le-ltb 65535 (1 + count + 4) (omega (arith, small.variables)))
+      ∙ ap (λ (x : List ℕ). let r : Rattle.lil_mcode.specs.declared.machine.Event.Event × State = (Went, record (begun_at t.start) { store = x }) in r) (cleared_none store (1 + count + 4))
       )
 
   ahead : Ahead (layout_of p) table own 1 home (doing p.body (Perform (End 0) ∷ [])) Quiet t.start []

@@ -99,19 +99,19 @@ module _ (modules : List Resolved) (l : Layout) (table : List Module) (own : Mod
       let store : List ℕ = set m.store (own.base + row.then.offset) (scalar_word v) in
       let entire : place ≡ whole_root place.root = ap (λ (p : List ℕ). let x : Place = record { root = place.root; path = p } in x) row.then.variable.path in
       let mem_there : Mem h (stored s.cells (whole_root place.root) (alone v)) (set m.store (h.base place.root) (scalar_word v)) =
-        mem_stored h s.cells m.store place.root kind v shared.mem row.then.variable.living fits in
+      mem_stored h s.cells m.store place.root kind v shared.mem row.then.variable.living fits in
       let mem_at : Mem h (stored s.cells (whole_root place.root) (alone v)) store =
-        subst (λ (a : ℕ). Mem h (stored s.cells (whole_root place.root) (alone v)) (set m.store a (scalar_word v))) row.then.variable.at mem_there in
+      subst (λ (a : ℕ). Mem h (stored s.cells (whole_root place.root) (alone v)) (set m.store a (scalar_word v))) row.then.variable.at mem_there in
       let mem : Mem h (stored s.cells place (alone v)) store =
-        subst (λ (p : Place). Mem h (stored s.cells p (alone v)) store) (sym entire) mem_at in
+      subst (λ (p : Place). Mem h (stored s.cells p (alone v)) store) (sym entire) mem_at in
       let after : Source = record s { items = k; cells = stored s.cells place (alone v); phase = Going } in
       let machine : State = record m { place = row.then.end; stack = row.below; store = store } in
       let here : Source = record s { items = Value (Scalars v) ∷ Fill (StoreAt place kind) ∷ k; phase = Going } in
       goes_one modules l table own number h s (Value (Scalars v) ∷ Fill (StoreAt place kind) ∷ k) m (running machine s.world)
       (advances m s.world _ (
-        at_step modules l table own number h m shared.program (Sgw row.then.offset) row.then.end row.then.store
-        ∙ ap (λ (x : List ℕ). on_one m x (store_row (own.base + row.then.offset) row.then.end m)) row.is
-        ∙ yes _ _ _ (lt-ltb (own.base + row.then.offset) 65536 inside)
+      at_step modules l table own number h m shared.program (Sgw row.then.offset) row.then.end row.then.store
+      ∙ ap (λ (x : List ℕ). on_one m x (store_row (own.base + row.then.offset) row.then.end m)) row.is
+      ∙ yes _ _ _ (lt-ltb (own.base + row.then.offset) 65536 inside)
       ))
       (subst (λ (b : Bool). Lands l table own number h modules (cond b after (trapped modules here trap.Range)).phase (cond b after (trapped modules here trap.Range)) (running machine s.world)) (sym fits)
       (record {
@@ -213,14 +213,14 @@ module _ (modules : List Resolved) (l : Layout) (table : List Module) (own : Mod
       let enough : nat_le count (length m.stack) ≡ true = le-leb count (length m.stack) (omega (arith, room)) in
       let none_left : drop count m.stack ≡ [] = drop_all count m.stack (omega (arith, room)) in
       let words : reverse (take count m.stack) ≡ map scalar_word done =
-        ap reverse (take_all count m.stack (omega (arith, room)) ∙ row.is) ∙ reverse-reverse (map scalar_word done) in
+      ap reverse (take_all count m.stack (omega (arith, room)) ∙ row.is) ∙ reverse-reverse (map scalar_word done) in
       let machine : State = record m { place = row.serve.end; stack = [] } in
       let w : World = serve r (map scalar_word done) s.world in
       goes_one modules l table own number h s (Perform (Passing r done []) ∷ k) m (running machine w)
       (advances m s.world _ (
-        at_step modules l table own number h m shared.program (Svc r) row.serve.end by
-        ∙ ap (request_row r row.serve.end m) row.serve.words
-        ∙ yes _ _ _ enough
+      at_step modules l table own number h m shared.program (Svc r) row.serve.end by
+      ∙ ap (request_row r row.serve.end m) row.serve.words
+      ∙ yes _ _ _ enough
       )
       ∙ ap (λ (o : Option ℕ). requested r (words_taken o) (going m row.serve.end m.stack) (running m s.world)) row.serve.words
       ∙ ap (λ (x : List ℕ). let run : Run = record { machine = record m { place = row.serve.end; stack = x }; world = serve r (reverse (take count m.stack)) s.world; finish = Running } in run) none_left
@@ -259,8 +259,8 @@ module _ (modules : List Resolved) (l : Layout) (table : List Module) (own : Mod
   ended_goes row =
       goes_one modules l table own number h s [] m (record { machine = m; world = s.world; finish = Finished })
       (advances m s.world (LevelEnded, m) (
-        at_step modules l table own number h m shared.program Rtn row.end row.leave
-        ∙ yes _ _ _ (eq-eqb m.frame m.base shared.program.body)
-        ∙ ap (end_row m) shared.program.last
+      at_step modules l table own number h m shared.program Rtn row.end row.leave
+      ∙ yes _ _ _ (eq-eqb m.frame m.base shared.program.body)
+      ∙ ap (end_row m) shared.program.last
       ))
       (record { finish = refl; world = refl })

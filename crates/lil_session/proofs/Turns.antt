@@ -29,8 +29,7 @@ more_shown old mid new v v' piece before adds shown =
 
 pub come_next : (from s t : State) (k : ℕ) (old mid new : Option (List ℕ)) (w : World) → Come from s k old mid w → ((v : World) → IsStep s t Running mid new v) → Come from t (k + 1) old new w
 come_next from s t k old mid new w come step =
-    let one = step come.0 in
-    (
+    let one = step come.0 in (
       one.world,
       turned from s k w come.0 (running t one.world) come.1 one.run,
       more_shown old mid new come.0 one.world one.piece come.2 one.adds one.shown,
@@ -42,7 +41,7 @@ run_ends from s t k steps f old mid new w less over come step =
     let r : Run = record { machine = t; world = one.world; finish = f } in
     let there : mrun (k + 1) (running from w) ≡ r = turned from s k w come.0 r come.1 one.run in
     let all : mrun steps (running from w) ≡ r =
-      mrun_add (k + 1) steps (steps - (k + 1)) (running from w) (omega arith) ∙ ap (mrun (steps - (k + 1))) there ∙ run_rests (steps - (k + 1)) r (run_over r f refl over) in
+    mrun_add (k + 1) steps (steps - (k + 1)) (running from w) (omega arith) ∙ ap (mrun (steps - (k + 1))) there ∙ run_rests (steps - (k + 1)) r (run_over r f refl over) in
     record {
       finish = sym (ap (λ (x : Run). x.finish) all);
       shown = more_shown old mid new come.0 one.world one.piece come.2 one.adds one.shown ∙ sym (ap (λ (x : Run). followed_by old x.world.screen) all);
@@ -62,7 +61,7 @@ run_cut from s k old mid new w come refused =
     let before : (mrun k (running from w)).world.screen ≡ come.0.screen = ap (λ (r : Run). r.world.screen) come.1 in
     let e : suc k ≡ k + 1 = omega arith in
     let next : mrun (suc k) (running from w) ≡ advanced (running s come.0) =
-      ap (λ (n : ℕ). mrun n (running from w)) e ∙ turned from s k w come.0 (advanced (running s come.0)) come.1 refl in
+    ap (λ (n : ℕ). mrun n (running from w)) e ∙ turned from s k w come.0 (advanced (running s come.0)) come.1 refl in
     record {
       done = k;
       piece = one.piece;

@@ -9,3 +9,5 @@ pub mod Running
 pub mod Loaded
 pub mod Words
 pub mod Outcome
+pub mod Report
+pub mod Answered

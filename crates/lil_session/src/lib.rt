@@ -3,10 +3,28 @@
 
 mod generator;
 mod lexer;
+mod lines;
+mod options;
 mod parser;
+mod rack;
 mod reading;
+mod report;
 mod resolver;
 mod run;
 mod status;
+mod text_run;
+mod top;
+mod words;
 
+pub use lil_volume::{
+    ErrorSink, FolderVolume, InputKeys, KeyFailed, Keyboard, OutputSink, RamKeys, RamSink,
+    RamVolume, Sink, SinkFailed, Volume, VolumeError,
+};
+pub use options::Options;
+pub use rack::{Channel, ChannelFailed, Rack};
 pub use status::Status;
+pub use text_run::once;
+pub use top::lilith;
+
+#[cfg(test)]
+mod tests;

@@ -51,11 +51,7 @@ fn write_character<S: Sink>(machine: &mut Machine, screen: &mut S) -> Result<(),
 }
 
 /// Serves a request.
-fn serve<S: Sink>(
-    number: u8,
-    machine: &mut Machine,
-    screen: &mut S,
-) -> Result<(), SinkFailed>
+fn serve<S: Sink>(number: u8, machine: &mut Machine, screen: &mut S) -> Result<(), SinkFailed>
     requires known { number ≡ 2 }
     requires words { 1 ≤ length machine.old.state.stack }
     ensures machine { machine.new ≡ record machine.old { state = taken 1 machine.old.state } }

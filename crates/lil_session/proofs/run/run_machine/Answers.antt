@@ -20,7 +20,7 @@ pub returns-in_err-end-clause-cut : goal.returns-in_err-end-clause-cut
 returns-in_err-end-clause-cut g c =
     on_err c.from_residual.result
     (λ w e.
-      run_cut c.args.machine.now.state c.loop.machine.state c.loop.counter (g.S.Sink.written c.args.screen.now) (g.S.Sink.written c.loop.screen) (g.S.Sink.written c.advance.new.screen) w (c.loop.invariant.come w e) c.in_err-end.ensures.refused)
+    run_cut c.args.machine.now.state c.loop.machine.state c.loop.counter (g.S.Sink.written c.args.screen.now) (g.S.Sink.written c.loop.screen) (g.S.Sink.written c.advance.new.screen) w (c.loop.invariant.come w e) c.in_err-end.ensures.refused)
 
 pub returns-in-Some-clause-ran : goal.returns-in-Some-clause-ran
 returns-in-Some-clause-ran g c =
@@ -39,14 +39,14 @@ loop-preserved g c =
       alone = c.in_ok-end.ensures.alone;
       rises = (let up = c.in_ok-end.ensures.rises none in omega (arith, c.loop.invariant.rises, up));
       within = λ m known.
-        (let here : module_at c.loop.machine.state.modules c.loop.machine.state.running ≡ Some m =
+          (let here : module_at c.loop.machine.state.modules c.loop.machine.state.running ≡ Some m =
           ap (λ (x : List Module). module_at x c.loop.machine.state.running) c.loop.invariant.same_modules ∙ ap (module_at c.args.machine.now.state.modules) c.loop.invariant.same_module ∙ known in
-        let less = c.in_ok-end.ensures.within none m here in
-        omega (arith, c.loop.invariant.rises, less));
+          let less = c.in_ok-end.ensures.within none m here in
+          omega (arith, c.loop.invariant.rises, less));
       quiet = c.in_ok-end.ensures.cause.quiet ∙ c.loop.invariant.quiet;
       come = λ w e.
-        come_next c.args.machine.now.state c.loop.machine.state c.advance.new.machine.state c.loop.counter (g.S.Sink.written c.args.screen.now) (g.S.Sink.written c.loop.screen) (g.S.Sink.written c.advance.new.screen) w (c.loop.invariant.come w e)
-        (step_goes c.in_ok-end.field-0 none c.loop.machine.state c.advance.new.machine.state (g.S.Sink.written c.loop.screen) (g.S.Sink.written c.advance.new.screen) c.in_ok-end.ensures.step);
+          come_next c.args.machine.now.state c.loop.machine.state c.advance.new.machine.state c.loop.counter (g.S.Sink.written c.args.screen.now) (g.S.Sink.written c.loop.screen) (g.S.Sink.written c.advance.new.screen) w (c.loop.invariant.come w e)
+          (step_goes c.in_ok-end.field-0 none c.loop.machine.state c.advance.new.machine.state (g.S.Sink.written c.loop.screen) (g.S.Sink.written c.advance.new.screen) c.in_ok-end.ensures.step);
     }
 
 pub returns-clause-ran : goal.returns-clause-ran

@@ -26,7 +26,7 @@ returns-in-Err-clause-shows g c =
     let p = module_of c.args.m.now in
     let is : c.in-Ok.machine.state ≡ begun_at p c.args.code.now c.requires.small c.requires.translates 0 = ap (λ (m : Machine). m.state) c.in-Ok.ensures ∙ loaded_state p c.args.code.now c.requires.small c.requires.translates in
     λ w e. shows_cut p c.args.code.now c.requires.small c.requires.translates (g.S.Sink.written c.args.screen.now) (g.S.Sink.written c.run_machine.new.screen) w
-      (subst (λ (s : State). IsCut s (g.S.Sink.written c.args.screen.now) (g.S.Sink.written c.run_machine.new.screen) w) is (c.in-Err.ensures.cut w e))
+    (subst (λ (s : State). IsCut s (g.S.Sink.written c.args.screen.now) (g.S.Sink.written c.run_machine.new.screen) w) is (c.in-Err.ensures.cut w e))
 
 pub answer-requires : goal.answer-requires
 answer-requires g c =
@@ -39,9 +39,9 @@ answer-requires g c =
     let end = c.in-Ok-run_machine.end in
     let is : c.in-Ok.machine.state ≡ begun_at p code small t 0 = ap (λ (m : Machine). m.state) c.in-Ok.ensures ∙ loaded_state p code small t in
     let ran : (w : World) → w.screen ≡ [] → HasRun (begun_at p code small t 0) c.args.steps (finish_of end) old new w =
-      λ w e. subst (λ (s : State). HasRun s c.args.steps (finish_of end) old new w) is (c.in-Ok-run_machine.ensures.ran w e) in
+    λ w e. subst (λ (s : State). HasRun s c.args.steps (finish_of end) old new w) is (c.in-Ok-run_machine.ensures.ran w e) in
     let at : (k : TrapKind) → end ≡ ending.Trapped k → IsAtBody c.run_machine.new.machine (own p code small t) =
-      λ k e. at_body p code small t c.run_machine.new.machine (c.in-Ok-run_machine.ensures.modules ∙ ap (λ (s : State). s.modules) is) (c.in-Ok-run_machine.ensures.at k e ∙ ap (λ (s : State). s.running) is) in
+    λ k e. at_body p code small t c.run_machine.new.machine (c.in-Ok-run_machine.ensures.modules ∙ ap (λ (s : State). s.modules) is) (c.in-Ok-run_machine.ensures.at k e ∙ ap (λ (s : State). s.running) is) in
     possible p code small t c.args.steps old new c.run_machine.new.machine end ran at
 
 pub returns-clause-shows : goal.returns-clause-shows
@@ -55,9 +55,9 @@ returns-clause-shows g c =
     let end = c.in-Ok-run_machine.end in
     let is : c.in-Ok.machine.state ≡ begun_at p code small t 0 = ap (λ (m : Machine). m.state) c.in-Ok.ensures ∙ loaded_state p code small t in
     let ran : (w : World) → w.screen ≡ [] → HasRun (begun_at p code small t 0) c.args.steps (finish_of end) old new w =
-      λ w e. subst (λ (s : State). HasRun s c.args.steps (finish_of end) old new w) is (c.in-Ok-run_machine.ensures.ran w e) in
+    λ w e. subst (λ (s : State). HasRun s c.args.steps (finish_of end) old new w) is (c.in-Ok-run_machine.ensures.ran w e) in
     let at : (k : TrapKind) → end ≡ ending.Trapped k → IsAtBody c.run_machine.new.machine (own p code small t) =
-      λ k e. at_body p code small t c.run_machine.new.machine (c.in-Ok-run_machine.ensures.modules ∙ ap (λ (s : State). s.modules) is) (c.in-Ok-run_machine.ensures.at k e ∙ ap (λ (s : State). s.running) is) in
+    λ k e. at_body p code small t c.run_machine.new.machine (c.in-Ok-run_machine.ensures.modules ∙ ap (λ (s : State). s.modules) is) (c.in-Ok-run_machine.ensures.at k e ∙ ap (λ (s : State). s.running) is) in
     λ w e. shows_end p code small t c.args.steps old new c.run_machine.new.machine end c.answer.result w (ran w e) c.answer.ensures at
 
 pub returns-clause-answer : goal.returns-clause-answer
@@ -71,9 +71,9 @@ returns-clause-answer g c =
     let end = c.in-Ok-run_machine.end in
     let is : c.in-Ok.machine.state ≡ begun_at p code small t 0 = ap (λ (m : Machine). m.state) c.in-Ok.ensures ∙ loaded_state p code small t in
     let ran : (w : World) → w.screen ≡ [] → HasRun (begun_at p code small t 0) c.args.steps (finish_of end) old new w =
-      λ w e. subst (λ (s : State). HasRun s c.args.steps (finish_of end) old new w) is (c.in-Ok-run_machine.ensures.ran w e) in
+    λ w e. subst (λ (s : State). HasRun s c.args.steps (finish_of end) old new w) is (c.in-Ok-run_machine.ensures.ran w e) in
     let at : (k : TrapKind) → end ≡ ending.Trapped k → IsAtBody c.run_machine.new.machine (own p code small t) =
-      λ k e. at_body p code small t c.run_machine.new.machine (c.in-Ok-run_machine.ensures.modules ∙ ap (λ (s : State). s.modules) is) (c.in-Ok-run_machine.ensures.at k e ∙ ap (λ (s : State). s.running) is) in
+    λ k e. at_body p code small t c.run_machine.new.machine (c.in-Ok-run_machine.ensures.modules ∙ ap (λ (s : State). s.modules) is) (c.in-Ok-run_machine.ensures.at k e ∙ ap (λ (s : State). s.running) is) in
     λ w e ok. means_end p code small t c.args.steps old new c.run_machine.new.machine end c.answer.result w (ran w e) c.answer.ensures at ok
 
 pub returns-clause-kinds : goal.returns-clause-kinds
@@ -87,9 +87,9 @@ returns-clause-kinds g c =
     let end = c.in-Ok-run_machine.end in
     let is : c.in-Ok.machine.state ≡ begun_at p code small t 0 = ap (λ (m : Machine). m.state) c.in-Ok.ensures ∙ loaded_state p code small t in
     let ran : (w : World) → w.screen ≡ [] → HasRun (begun_at p code small t 0) c.args.steps (finish_of end) old new w =
-      λ w e. subst (λ (s : State). HasRun s c.args.steps (finish_of end) old new w) is (c.in-Ok-run_machine.ensures.ran w e) in
+    λ w e. subst (λ (s : State). HasRun s c.args.steps (finish_of end) old new w) is (c.in-Ok-run_machine.ensures.ran w e) in
     let at : (k : TrapKind) → end ≡ ending.Trapped k → IsAtBody c.run_machine.new.machine (own p code small t) =
-      λ k e. at_body p code small t c.run_machine.new.machine (c.in-Ok-run_machine.ensures.modules ∙ ap (λ (s : State). s.modules) is) (c.in-Ok-run_machine.ensures.at k e ∙ ap (λ (s : State). s.running) is) in
+    λ k e. at_body p code small t c.run_machine.new.machine (c.in-Ok-run_machine.ensures.modules ∙ ap (λ (s : State). s.modules) is) (c.in-Ok-run_machine.ensures.at k e ∙ ap (λ (s : State). s.running) is) in
     kind_end p code small t c.args.steps old new c.run_machine.new.machine end c.answer.result c.answer.ensures at
 
 pub returns-clause-spent : goal.returns-clause-spent
@@ -103,9 +103,9 @@ returns-clause-spent g c =
     let end = c.in-Ok-run_machine.end in
     let is : c.in-Ok.machine.state ≡ begun_at p code small t 0 = ap (λ (m : Machine). m.state) c.in-Ok.ensures ∙ loaded_state p code small t in
     let ran : (w : World) → w.screen ≡ [] → HasRun (begun_at p code small t 0) c.args.steps (finish_of end) old new w =
-      λ w e. subst (λ (s : State). HasRun s c.args.steps (finish_of end) old new w) is (c.in-Ok-run_machine.ensures.ran w e) in
+    λ w e. subst (λ (s : State). HasRun s c.args.steps (finish_of end) old new w) is (c.in-Ok-run_machine.ensures.ran w e) in
     let at : (k : TrapKind) → end ≡ ending.Trapped k → IsAtBody c.run_machine.new.machine (own p code small t) =
-      λ k e. at_body p code small t c.run_machine.new.machine (c.in-Ok-run_machine.ensures.modules ∙ ap (λ (s : State). s.modules) is) (c.in-Ok-run_machine.ensures.at k e ∙ ap (λ (s : State). s.running) is) in
+    λ k e. at_body p code small t c.run_machine.new.machine (c.in-Ok-run_machine.ensures.modules ∙ ap (λ (s : State). s.modules) is) (c.in-Ok-run_machine.ensures.at k e ∙ ap (λ (s : State). s.running) is) in
     λ spent.
     let kind : end ≡ ending.Spent = spent_end p code small t c.args.steps old new c.run_machine.new.machine end c.answer.result c.answer.ensures at spent in
     let known : module_at c.in-Ok.machine.state.modules c.in-Ok.machine.state.running ≡ Some (own p code small t) = ap (λ (s : State). module_at s.modules s.running) is in
@@ -123,7 +123,7 @@ returns-clause-cause g c =
     let end = c.in-Ok-run_machine.end in
     let is : c.in-Ok.machine.state ≡ begun_at p code small t 0 = ap (λ (m : Machine). m.state) c.in-Ok.ensures ∙ loaded_state p code small t in
     let ran : (w : World) → w.screen ≡ [] → HasRun (begun_at p code small t 0) c.args.steps (finish_of end) old new w =
-      λ w e. subst (λ (s : State). HasRun s c.args.steps (finish_of end) old new w) is (c.in-Ok-run_machine.ensures.ran w e) in
+    λ w e. subst (λ (s : State). HasRun s c.args.steps (finish_of end) old new w) is (c.in-Ok-run_machine.ensures.ran w e) in
     let at : (k : TrapKind) → end ≡ ending.Trapped k → IsAtBody c.run_machine.new.machine (own p code small t) =
-      λ k e. at_body p code small t c.run_machine.new.machine (c.in-Ok-run_machine.ensures.modules ∙ ap (λ (s : State). s.modules) is) (c.in-Ok-run_machine.ensures.at k e ∙ ap (λ (s : State). s.running) is) in
+    λ k e. at_body p code small t c.run_machine.new.machine (c.in-Ok-run_machine.ensures.modules ∙ ap (λ (s : State). s.modules) is) (c.in-Ok-run_machine.ensures.at k e ∙ ap (λ (s : State). s.running) is) in
     blames_end p code small t c.args.steps old new c.run_machine.new.machine end c.answer.result (g.S.Sink.faults c.args.screen.now) (g.S.Sink.faults c.run_machine.new.screen) c.answer.ensures at c.in-Ok-run_machine.ensures.cause.quiet

@@ -1,0 +1,259 @@
+-- What a command that was done says of its answer and its devices.
+use Rattle.std.proofs.Common.{◌≡◌, ◌⊎◌, inl, inr, ℕ, ◌≤◌, true, false, List, [], ◌++◌, Option, None, Some, MatchOption, Result, Ok, Err, refl, sym, ◌∙◌, ap, subst, arith}
+use Rattle.std.specs.FinMap.{get}
+use Rattle.std.proofs.lemmas.Bool.{both_ways}
+use Rattle.std.proofs.lemmas.List.{append-nil}
+use Rattle.lil_base.specs.declared.fault.SourceFault.{SourceFault}
+use Rattle.lil_tree.specs.Resolved.{Resolved}
+use Rattle.lil_tree.specs.Straight.{IsStraight}
+use Rattle.lil_meaning.specs.World.{World}
+use Rattle.lil_meaning.specs.Items.{Going}
+use Rattle.lil_volume.specs.Causes.{Rose, VolumeCause}
+use Rattle.lil_volume.specs.declared.outside.VolumeError.{VolumeError}
+use Rattle.lil_volume.specs.declared.outside.VolumeError.TheVariants.{Failed}
+use Rattle.lil_volume.specs.Told.{Files, FileIs, followed_by}
+use Rattle.lil_session.specs.declared.status.Status.{Status}
+use Rattle.lil_session.specs.declared.status.Status.TheVariants as a
+use Rattle.lil_session.specs.Words.{mod_file}
+use Rattle.lil_session.specs.Outcome.{settled, gives_way, with_writes, Allowed, Answers, SourceAnswers, TextAnswers, Blames, Devices, Finds, Headline, IsRunAnswer, MeansAnswer, Ran, Runs, Shows}
+use Rattle.lil_session.specs.Answered.{TextRan}
+use Rattle.lil_session.proofs.Straightness.{straight_unique}
+
+followed_none : (old : Option (List ℕ)) (more : List ℕ) → more ≡ [] → old ≡ followed_by old more
+followed_none None more none = refl
+followed_none (Some xs) more none = ap (λ (l : List ℕ). Some l) (sym (ap (λ (l : List ℕ). xs ++ l) none ∙ append-nil xs))
+
+-- before the first step
+pub shows_none : (p : Resolved) (w : World) (old : Option (List ℕ)) (s : Status) → w.screen ≡ [] → Allowed s Going → Shows p w old old s
+shows_none p w old s none ends =
+    let whole : old ≡ followed_by old w.screen = followed_none old w.screen none in
+    record {
+      n = 0;
+      piece = [];
+      later = 0;
+      adds = sym (append-nil w.screen);
+      prefix = (0, whole ∙ followed_none (followed_by old w.screen) [] refl);
+      whole = λ _. whole;
+      keys = refl;
+      writes = refl;
+      ends = ends;
+    }
+
+-- a run that shows so, and takes no keys and writes no files
+pub headline_of : (p : Resolved) (w : World) (before after : Devices) (s : Status) → Finds before.files before.keys w → Shows p w before.shown after.shown s → after.keys ≡ before.keys → after.files ≡ before.files → Headline p w before after s
+headline_of p w before after s finds shows same_keys same_files = record {
+  n = shows.n;
+  piece = shows.piece;
+  later = shows.later;
+  adds = shows.adds;
+  prefix = shows.prefix;
+  whole = shows.whole;
+  keys = same_keys ∙ finds.keys_told ∙ ap (λ (l : List ℕ). Some l) (sym shows.keys);
+  files = same_files ∙ ap (λ (l : List (List ℕ × List ℕ)). with_writes before.files l) (sym (shows.writes ∙ finds.nothing_written));
+  ends = shows.ends;
+}
+
+some_same : {A : Type 0} (x y : A) → Some x ≡ Some y → x ≡ y
+some_same x y same = cc
+
+-- the volume's file, in the world that is found
+found_in : (files : Option Files) (keys : Option (List ℕ)) (w : World) (name : List ℕ) (found : Option (List ℕ)) → Finds files keys w → FileIs files name found → found ≡ get w.files name
+found_in files keys w name found finds is = subst (λ (f : Option Files). FileIs f name found) finds.files_told is
+
+found_as : (files : Option Files) (m : Files) (name : List ℕ) (found : Option (List ℕ)) → files ≡ Some m → FileIs files name found → found ≡ get m name
+found_as files m name found told is = subst (λ (f : Option Files). FileIs f name found) told is
+
+-- want of memory, or a fault of the volume, before anything was run
+pub ran_not : (name : Option (List ℕ)) (steps : ℕ) (before : Devices) (files : Option Files) (faults : ℕ) (s : Status) → (s ≡ a.Memory) ⊎ ((s ≡ a.VolumeFault) × Rose before.volume_faults faults)
+    → files ≡ before.files → before.volume_faults ≤ faults → Ran name steps before (record before { files = files; volume_faults = faults }) s
+ran_not name steps before files faults s cause same later = record {
+  answer = λ w finds is. absurd (not_settled is);
+  spent = λ is. absurd (no is refl);
+  usage_only = λ is. absurd (no is refl);
+  usage_where = λ none stays. absurd (not_stays stays);
+  no_file_only = λ m file told is. absurd (no is refl);
+  no_file_where = λ m x told named none stays. absurd (not_stays stays);
+  fault_only = λ m f told is. absurd (no is refl);
+  fault_where = λ m x text told named there none stays. absurd (not_stays stays);
+  settles = inr settles;
+  no_refusal = inr (inr (inr refusal));
+  headline = λ w p finds runs. headline_of p w before (record before { files = files; volume_faults = faults }) s finds (shows_none p w before.shown s finds.nothing_shown allowed) refl same;
+  nothing = λ _. refl;
+  files = same;
+  keys = refl;
+  volume_cause = record { later = later; rose = rose; quiet = inr blamed };
+  screen_cause = record { later = omega arith; rose = λ is. absurd (no_screen is); quiet = inl refl };
+  keys_cause = refl;
+  one = inr refl;
+}
+  where
+    memory_or_screen : a.Memory ≡ a.ScreenFault → ⊥
+    memory_or_screen is = cc
+
+    volume_or_screen : a.VolumeFault ≡ a.ScreenFault → ⊥
+    volume_or_screen is = cc
+
+    memory_or_volume : a.Memory ≡ a.VolumeFault → ⊥
+    memory_or_volume is = cc
+
+    gave : gives_way s ≡ true
+    gave = elim cause [ inl is ↦ ap gives_way is | inr is ↦ ap gives_way is.0 ]
+
+    not_settled : settled s ≡ true → ⊥
+    not_settled is = elim cause [ inl memory ↦ both_ways (settled s) (ap settled memory) is | inr fault ↦ both_ways (settled s) (ap settled fault.0) is ]
+
+    not_stays : gives_way s ≡ false → ⊥
+    not_stays is = both_ways (gives_way s) is gave
+
+    no : {t : Status} → s ≡ t → gives_way t ≡ false → ⊥
+    no {t} is stays = both_ways (gives_way t) stays (ap gives_way (sym is) ∙ gave)
+
+    no_screen : s ≡ a.ScreenFault → ⊥
+    no_screen is = elim cause [ inl memory ↦ memory_or_screen (sym memory ∙ is) | inr fault ↦ volume_or_screen (sym fault.0 ∙ is) ]
+
+    settles : (s ≡ a.VolumeFault) ⊎ ((s ≡ a.ScreenFault) ⊎ (s ≡ a.Memory))
+    settles = elim cause [ inl memory ↦ inr (inr memory) | inr fault ↦ inl fault.0 ]
+
+    refusal : (s ≡ a.VolumeFault) ⊎ IsRunAnswer s
+    refusal = elim cause [ inl memory ↦ inr (subst (λ (t : Status). IsRunAnswer t) (sym memory) tt) | inr fault ↦ inl fault.0 ]
+
+    allowed : Allowed s Going
+    allowed = elim cause [ inl memory ↦ subst (λ (t : Status). Allowed t Going) (sym memory) tt | inr fault ↦ subst (λ (t : Status). Allowed t Going) (sym fault.0) tt ]
+
+    rose : s ≡ a.VolumeFault → Rose before.volume_faults faults
+    rose is = elim cause [ inl memory ↦ absurd (memory_or_volume (sym memory ∙ is)) | inr fault ↦ fault.1 ]
+
+    blamed : (s ≡ a.VolumeFault) ⊎ (s ≡ a.Memory)
+    blamed = elim cause [ inl memory ↦ inr memory | inr fault ↦ inl fault.0 ]
+
+pub some_of : {M : Type 0} (P : Type 0) (Q : M → Type 0) (o : Option M) (m : M) → o ≡ Some m → MatchOption o P Q → Q m
+some_of {M} P Q o m is holds = subst (λ (x : Option M). MatchOption x P Q) is holds
+
+-- a text that is straight was run
+pub text_ran : (file text : List ℕ) (m : Resolved) (steps : ℕ) (old : Option (List ℕ)) (old_faults : ℕ) (new : Option (List ℕ)) (new_faults : ℕ) (s : Status) → IsStraight file text m
+    → ((w : World) → w.screen ≡ [] → Shows m w old new s)
+    → ((w : World) → w.screen ≡ [] → settled s ≡ true → (s ≡ a.StepsSpent) ⊎ MeansAnswer m w s)
+    → IsRunAnswer s → (s ≡ a.StepsSpent → steps ≤ 32767) → Blames a.ScreenFault old_faults new_faults s
+    → TextRan file text steps old old_faults new new_faults s
+text_ran file text m steps old old_faults new new_faults s straight shows answer kinds spent cause = record {
+  answer = λ w none is. either (answer w none is);
+  spent = spent;
+  fault_only = λ f is. absurd (no_fault f is);
+  fault_where = λ none stays. absurd (none m straight);
+  kinds = inr kinds;
+  shows = λ w p none also. subst (λ (r : Resolved). Shows r w old new s) (straight_unique file text m p straight also) (shows w none);
+  nothing = λ f is. absurd (no_fault f is);
+  cause = cause;
+}
+  where
+    either : {w : World} → (s ≡ a.StepsSpent) ⊎ MeansAnswer m w s → (s ≡ a.StepsSpent) ⊎ TextAnswers file text w s
+    either (inl is) = inl is
+    either (inr means) = inr (inr (m, straight, means))
+
+    no_fault : (f : SourceFault) → s ≡ a.SourceFault f → ⊥
+    no_fault f is = subst (λ (t : Status). IsRunAnswer t) is kinds
+
+-- the source was there, and its text was run
+pub source_ran : (file text : List ℕ) (steps : ℕ) (before : Devices) (files : Option Files) (faults : ℕ) (shown : Option (List ℕ)) (screen_faults : ℕ) (s : Status)
+    → FileIs before.files (mod_file file) (Some text) → files ≡ before.files → faults ≡ before.volume_faults
+    → TextRan file text steps before.shown before.screen_faults shown screen_faults s
+    → Ran (Some file) steps before (record before { files = files; volume_faults = faults; shown = shown; screen_faults = screen_faults }) s
+source_ran file text steps before files faults shown screen_faults s is same quiet ran = record {
+  answer = λ w finds settles. either w (found_in before.files before.keys w (mod_file file) (Some text) finds is) (ran.answer w finds.nothing_shown settles);
+  spent = ran.spent;
+  usage_only = λ usage. absurd (no usage (λ f e. cc) (λ h. h));
+  usage_where = λ none stays. cc;
+  no_file_only = λ m x told missed. absurd (no missed (λ f e. cc) (λ h. h));
+  no_file_where = λ m x told named none stays. absurd (there_not m x told named none);
+  fault_only = λ m f told fault. ((ran.fault_only f fault).0, (file, refl, (text, sym (found_as before.files m (mod_file file) (Some text) told is), (ran.fault_only f fault).1)));
+  fault_where = λ m x t told named there none stays. ran.fault_where (none_here m x t told named there none) stays;
+  settles = settles ran.kinds;
+  no_refusal = inr (inr (refusal ran.kinds));
+  headline = λ w p finds runs. headline_of p w before (record before { files = files; volume_faults = faults; shown = shown; screen_faults = screen_faults }) s finds (ran.shows w p finds.nothing_shown (straight_here w p finds runs)) refl same;
+  nothing = quietly;
+  files = same;
+  keys = refl;
+  volume_cause = record { later = omega arith; rose = λ fault. absurd (no fault (λ f e. cc) (λ h. h)); quiet = inl quiet };
+  screen_cause = ran.cause;
+  keys_cause = refl;
+  one = inl quiet;
+}
+  where
+    no : {t : Status} → s ≡ t → ((f : SourceFault) → t ≡ a.SourceFault f → ⊥) → (IsRunAnswer t → ⊥) → ⊥
+    no {t} here fault run =
+        elim ran.kinds [ inl (f, is) ↦ fault f (sym here ∙ is) | inr kind ↦ run (subst (λ (u : Status). IsRunAnswer u) here kind) ]
+
+    either : (w : World) → Some text ≡ get w.files (mod_file file) → (s ≡ a.StepsSpent) ⊎ TextAnswers file text w s → (s ≡ a.StepsSpent) ⊎ Answers (Some file) w s
+    either w there (inl spent) = inl spent
+    either w there (inr answers) = inr (subst (λ (o : Option (List ℕ)). SourceAnswers file w o s) there answers)
+
+    there_not : (m : Files) (x : List ℕ) → before.files ≡ Some m → Some file ≡ Some x → get m (mod_file x) ≡ None → ⊥
+    there_not m x told named none =
+        let here : Some text ≡ get m (mod_file file) = found_as before.files m (mod_file file) (Some text) told is in
+        let same_name : file ≡ x = some_same file x named in
+        cc
+
+    none_here : (m : Files) (x t : List ℕ) → before.files ≡ Some m → Some file ≡ Some x → get m (mod_file x) ≡ Some t → ((p : Resolved) → IsStraight x t p → ⊥) → (p : Resolved) → IsStraight file text p → ⊥
+    none_here m x t told named there none p straight =
+        let here : Some text ≡ get m (mod_file file) = found_as before.files m (mod_file file) (Some text) told is in
+        let same_name : file ≡ x = some_same file x named in
+        let same_text : text ≡ t = some_same text t (here ∙ ap (λ (n : List ℕ). get m (mod_file n)) same_name ∙ there) in
+        none p (subst (λ (u : List ℕ). IsStraight x u p) same_text (subst (λ (n : List ℕ). IsStraight n text p) same_name straight))
+
+    straight_here : (w : World) (p : Resolved) → Finds before.files before.keys w → Runs (Some file) w p → IsStraight file text p
+    straight_here w p finds runs =
+        let here : Some text ≡ get w.files (mod_file file) = found_in before.files before.keys w (mod_file file) (Some text) finds is in
+        let same_name : file ≡ runs.file = some_same file runs.file runs.named in
+        let same_text : text ≡ runs.text = some_same text runs.text (here ∙ ap (λ (n : List ℕ). get w.files (mod_file n)) same_name ∙ runs.there) in
+        subst (λ (u : List ℕ). IsStraight file u p) (sym same_text) (subst (λ (n : List ℕ). IsStraight n runs.text p) (sym same_name) runs.straight)
+
+    settles_run : (t : Status) → IsRunAnswer t → (settled t ≡ true) ⊎ ((t ≡ a.VolumeFault) ⊎ ((t ≡ a.ScreenFault) ⊎ (t ≡ a.Memory)))
+    settles_run a.Done kind = inl refl
+    settles_run (a.Trapped t) kind = inl refl
+    settles_run a.StepsSpent kind = inl refl
+    settles_run a.ScreenFault kind = inr (inr (inl refl))
+    settles_run a.Memory kind = inr (inr (inr refl))
+    settles_run a.Usage kind = absurd kind
+    settles_run (a.NoFile n) kind = absurd kind
+    settles_run (a.SourceFault f) kind = absurd kind
+    settles_run (a.LoadRefused r) kind = absurd kind
+    settles_run (a.Limit k) kind = absurd kind
+    settles_run a.VolumeFault kind = absurd kind
+    settles_run a.KeyFault kind = absurd kind
+    settles_run a.ChannelFault kind = absurd kind
+    settles_run a.ReportFault kind = absurd kind
+    settles_run (a.BadCode p) kind = absurd kind
+
+    settles : ((f : SourceFault) × (s ≡ a.SourceFault f)) ⊎ IsRunAnswer s → (settled s ≡ true) ⊎ ((s ≡ a.VolumeFault) ⊎ ((s ≡ a.ScreenFault) ⊎ (s ≡ a.Memory)))
+    settles (inl (f, fault)) = inl (ap settled fault)
+    settles (inr kind) = settles_run s kind
+
+    refusal : ((f : SourceFault) × (s ≡ a.SourceFault f)) ⊎ IsRunAnswer s → ((f : SourceFault) × (s ≡ a.SourceFault f)) ⊎ ((s ≡ a.VolumeFault) ⊎ IsRunAnswer s)
+    refusal (inl fault) = inl fault
+    refusal (inr kind) = inr (inr kind)
+
+    quietly : (s ≡ a.Usage) ⊎ (((x : List ℕ) × (s ≡ a.NoFile x)) ⊎ (((f : SourceFault) × (s ≡ a.SourceFault f)) ⊎ (s ≡ a.VolumeFault))) → shown ≡ before.shown
+    quietly (inl usage) = absurd (no usage (λ f e. cc) (λ h. h))
+    quietly (inr (inl (x, missed))) = absurd (no missed (λ f e. cc) (λ h. h))
+    quietly (inr (inr (inl (f, fault)))) = ran.nothing f fault
+    quietly (inr (inr (inr fault))) = absurd (no fault (λ f e. cc) (λ h. h))
+
+-- the file that a read gave, by its name and its bytes
+pub file_read : (files : Option Files) (file name : List ℕ) (found : Option (List ℕ)) (text bytes : List ℕ) → file ≡ name → found ≡ Some text → bytes ≡ text → FileIs files file found → FileIs files name (Some bytes)
+file_read files file name found text bytes named is same held =
+    subst (λ (n : List ℕ). FileIs files n (Some bytes)) named
+    (subst (λ (o : Option (List ℕ)). FileIs files file o) (is ∙ ap (λ (l : List ℕ). Some l) (sym same)) held)
+
+-- a read that failed raised the count
+pub failed_rises : {T : Type 0} {before now : ℕ} {result : Result T VolumeError} {e : VolumeError} → result ≡ Err e → e ≡ Failed → VolumeCause before now result → Rose before now
+failed_rises {T} {before} {now} {result} {e} is failed cause =
+    let r : Result T VolumeError = Err Failed in
+    let here : VolumeCause before now r = subst (λ (x : Result T VolumeError). VolumeCause before now x) (is ∙ ap (λ (x : VolumeError). Err x) failed) cause in
+    here.failed refl
+
+-- one that didn't left it
+pub quiet_of : {T : Type 0} {before now : ℕ} {result : Result T VolumeError} {x : T} → result ≡ Ok x → VolumeCause before now result → now ≡ before
+quiet_of {T} {before} {now} {result} {x} is cause =
+    let r : Result T VolumeError = Ok x in
+    let here : VolumeCause before now r = subst (λ (y : Result T VolumeError). VolumeCause before now y) is cause in
+    here.quiet

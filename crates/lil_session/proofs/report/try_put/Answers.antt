@@ -1,0 +1,5 @@
+use Rattle.lil_session.proofs.Pieces.{put_or_cut}
+use Rattle.lil_session.proofs.report.try_put.Goals as goal
+
+pub returns-clause-prefix : goal.returns-clause-prefix
+returns-clause-prefix g c = put_or_cut (g.R.Sink.written c.args.report.now) (g.R.Sink.written c.put.new.self) c.args.piece.now c.put.result c.put.ensures.ok c.put.ensures.err

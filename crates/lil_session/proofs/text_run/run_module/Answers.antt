@@ -1,0 +1,7 @@
+use Rattle.lil_tree.specs.Views.{module_of}
+use Rattle.lil_session.specs.declared.status.Status.TheVariants.{Memory}
+use Rattle.lil_session.proofs.Doing.{shows_none}
+use Rattle.lil_session.proofs.text_run.run_module.Goals as goal
+
+pub returns-in-Err-clause-shows : goal.returns-in-Err-clause-shows
+returns-in-Err-clause-shows g c = λ w none. shows_none (module_of c.args.m.now) w (g.S.Sink.written c.args.screen.now) Memory none tt
