@@ -17,7 +17,7 @@ use Rattle.lil_session.specs.declared.status.Status.TheVariants as a
 use Rattle.lil_session.specs.Words.{mod_file}
 use Rattle.lil_session.specs.Outcome.{settled, gives_way, with_writes, Allowed, Answers, SourceAnswers, TextAnswers, Blames, Devices, Finds, Headline, IsRunAnswer, MeansAnswer, Ran, Runs, Shows}
 use Rattle.lil_session.specs.Answered.{TextRan}
-use Rattle.lil_session.proofs.Straightness.{straight_unique}
+use Rattle.lil_straight.proofs.Straightness.{straight_unique}
 
 followed_none : (old : Option (List ℕ)) (more : List ℕ) → more ≡ [] → old ≡ followed_by old more
 followed_none None more none = refl

@@ -21,7 +21,7 @@ use Rattle.lil_session.specs.declared.run.Ending.{Ending}
 use Rattle.lil_session.specs.declared.run.Ending.TheVariants as ending
 use Rattle.lil_session.specs.declared.status.Status.{Status}
 use Rattle.lil_session.specs.declared.status.Status.TheVariants as a
-use Rattle.lil_session.specs.Sizes.{IsSmall, code_size}
+use Rattle.lil_tree.specs.Sizes.{IsSmall, code_size}
 use Rattle.lil_session.specs.Rows.{Translates}
 use Rattle.lil_session.specs.Running.{Finish, Running, Finished, TrappedBy, Limited, Broken, Run, mrun, running, react, advanced, unless_over, IsAlone, finish_of, HasRun, IsCut}
 use Rattle.lil_session.specs.Loaded.{body_alone, loaded, IsAtBody, body_trap, EndingAnswers, IsPossible}

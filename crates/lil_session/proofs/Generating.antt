@@ -13,7 +13,7 @@ use Rattle.lil_tree.specs.declared.resolved.RStmt.{RStmt}
 use Rattle.lil_tree.specs.declared.resolved.RModule.{RModule}
 use Rattle.lil_mcode.specs.declared.instr.Instr.{Instr}
 use Rattle.lil_mcode.specs.declared.instr.Instr.TheVariants.{Liw, Lgw, Sgw, Rgc, Ent, Rtn, Svc}
-use Rattle.lil_session.specs.Sizes.{size, depth, statement_size, body_size, code_size, IsSound, IsSoundExpression, IsSoundStatement, IsSoundBody}
+use Rattle.lil_tree.specs.Sizes.{size, depth, statement_size, body_size, code_size, IsSound, IsSoundExpression, IsSoundStatement, IsSoundBody}
 use Rattle.lil_session.specs.Rows.{Span, Layout, offsets_from, layout_of, IsAt, operation_code, StatementAt, BodyAt, Translates}
 use Rattle.lil_session.specs.Emitting.{Emits, bytes_of}
 use Rattle.lil_session.specs.Generating.{IsPlain, EmitsExpression, EmitsStatement, EmitsBody, operation_of}

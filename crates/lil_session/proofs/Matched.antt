@@ -17,7 +17,7 @@ use Rattle.lil_mcode.specs.declared.instr.Instr.{Instr}
 use Rattle.lil_mcode.specs.declared.instr.Instr.TheVariants.{Lgw, Sgw, Rgc, Rtn, Svc}
 use Rattle.lil_mcode.specs.State.{Module, State, module_at}
 use Rattle.lil_mcode.specs.Table.{request_words}
-use Rattle.lil_session.specs.Sizes.{depth}
+use Rattle.lil_tree.specs.Sizes.{depth}
 use Rattle.lil_session.specs.Rows.{Layout, IsAt, ExpressionAt, ArgumentsAt, StatementAt, operation_code}
 use Rattle.lil_session.specs.Running.{Finish, Running, Finished, TrappedBy, Run, mrun, running}
 use Rattle.lil_session.proofs.Homes.{Home, Mem, Word}

@@ -15,7 +15,7 @@ use Rattle.lil_mcode.specs.declared.instr.Instr.TheVariants.{Ent}
 use Rattle.lil_mcode.specs.declared.machine.Event.TheVariants.{Went}
 use Rattle.lil_mcode.specs.State.{Module, State, spliced, zeros, cleared}
 use Rattle.lil_mcode.specs.Table.{begun_body}
-use Rattle.lil_session.specs.Sizes.{IsSmall}
+use Rattle.lil_tree.specs.Sizes.{IsSmall}
 use Rattle.lil_session.specs.Rows.{Layout, BodyAt, offsets_from, layout_of, Translates}
 use Rattle.lil_session.specs.Running.{Run, mrun, running, advanced}
 use Rattle.lil_session.specs.Loaded.{body_alone, loaded}

@@ -12,7 +12,7 @@ use Rattle.lil_session.specs.declared.status.Status.TheVariants as a
 use Rattle.lil_session.specs.Outcome.{settled, gives_way, state_of, Allowed, Answers, SourceAnswers, Blames, EndsSo, Finds, Headline, IsRunAnswer, Runs}
 use Rattle.lil_session.specs.Report.{status_lines}
 use Rattle.lil_session.specs.Answered.{IsAnswer, Call, Told}
-use Rattle.lil_session.proofs.Straightness.{straight_unique}
+use Rattle.lil_straight.proofs.Straightness.{straight_unique}
 use Rattle.lil_session.proofs.Agree.{answers_agree}
 
 settled_stays : (s : Status) → settled s ≡ true → gives_way s ≡ false

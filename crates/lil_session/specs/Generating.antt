@@ -7,7 +7,7 @@ use Rattle.lil_tree.specs.Kinds.{OfWhole}
 use Rattle.lil_tree.specs.Resolved.{Expression, Statement}
 use Rattle.lil_mcode.specs.declared.instr.Instr.{Instr}
 use Rattle.lil_mcode.specs.declared.instr.Instr.TheVariants.{Adc, Sbc}
-use Rattle.lil_session.specs.Sizes.{size, statement_size, body_size, IsSoundExpression, IsSoundStatement, IsSoundBody}
+use Rattle.lil_tree.specs.Sizes.{size, statement_size, body_size, IsSoundExpression, IsSoundStatement, IsSoundBody}
 use Rattle.lil_session.specs.Rows.{Layout, ExpressionAt, StatementAt, BodyAt}
 use Rattle.lil_session.specs.Emitting.{Emits}
 

@@ -1,7 +1,3 @@
-pub mod Cutting
-pub mod Parsing
-pub mod Folding
-pub mod Sizes
 pub mod Rows
 pub mod Emitting
 pub mod Generating

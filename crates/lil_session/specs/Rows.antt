@@ -10,7 +10,7 @@ use Rattle.lil_mcode.specs.declared.instr.Instr.{Instr}
 use Rattle.lil_mcode.specs.declared.instr.Instr.TheVariants.{Liw, Lgw, Sgw, Rgc, Adc, Sbc, Ent, Rtn, Svc}
 use Rattle.lil_mcode.specs.Bytes.{decoded}
 use Rattle.lil_mcode.specs.Table.{request_words}
-use Rattle.lil_session.specs.Sizes.{depth}
+use Rattle.lil_tree.specs.Sizes.{depth}
 
 -- where the variables of a module lie in its data frame, by their numbers, and their kinds
 pub record Layout : Type 0 where

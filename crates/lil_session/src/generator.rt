@@ -2,7 +2,7 @@
 
 ghost use Rattle.std.specs.Prelude.{◌≡◌, ◌++◌, length, map, OnOk, IfOk};
 ghost use Rattle.lil_tree.specs.Views.{expression_of, statement_of, module_of};
-ghost use Rattle.lil_session.specs.Sizes.{IsSound, IsSmall, code_size};
+ghost use Rattle.lil_tree.specs.Sizes.{IsSound, IsSmall, code_size};
 ghost use Rattle.lil_session.specs.Rows.{Translates};
 ghost use Rattle.lil_session.specs.Emitting.{bytes_of, word_bytes};
 ghost use Rattle.lil_session.specs.Generating.{EmitsExpression, EmitsStatement, EmitsBody, operation_of};

@@ -2,14 +2,10 @@
 #![tactic(auto)]
 
 mod generator;
-mod lexer;
 mod lines;
 mod options;
-mod parser;
 mod rack;
-mod reading;
 mod report;
-mod resolver;
 mod run;
 mod status;
 mod text_run;

@@ -6,7 +6,7 @@ ghost use Rattle.lil_volume.specs.Causes.{HasCause};
 ghost use Rattle.lil_volume.specs.Told.{followed_by, FollowedByPrefix};
 ghost use Rattle.lil_base.specs.declared.fault.TrapKind.{TrapKind};
 ghost use Rattle.lil_session.specs.declared.run.Ending.TheVariants as ending;
-ghost use Rattle.lil_session.specs.Sizes.{IsSmall, code_size};
+ghost use Rattle.lil_tree.specs.Sizes.{IsSmall, code_size};
 ghost use Rattle.lil_session.specs.Rows.{Translates};
 ghost use Rattle.lil_session.specs.Running.{arguments, taken, IsAlone, finish_of, finish_by, IsStep, IsRefused, HasRun, IsCut};
 ghost use Rattle.lil_session.specs.Outcome.{settled, Blames, Shows, MeansAnswer, IsRunAnswer};

@@ -2,7 +2,7 @@ ghost use Rattle.std.specs.Prelude.{◌≡◌, ◌⊎◌, ℕ, ◌≤◌, [], So
 ghost use Rattle.lil_tree.specs.Resolved.{Resolved};
 ghost use Rattle.lil_tree.specs.Views.{module_of};
 ghost use Rattle.lil_meaning.specs.World.{World};
-ghost use Rattle.lil_session.specs.Sizes.{IsSound, IsSmall};
+ghost use Rattle.lil_tree.specs.Sizes.{IsSound, IsSmall};
 ghost use Rattle.lil_session.specs.Words.{name_of_word};
 ghost use Rattle.lil_session.specs.Outcome.{settled, gives_way, devices, not_built, Answers, Blames, Finds, Headline, IsRunAnswer, MeansAnswer, Ran, ReportBlames, Runs, Shows};
 ghost use Rattle.lil_volume.specs.Told.{followed_by, FollowedByPrefix};
@@ -10,12 +10,12 @@ ghost use Rattle.lil_session.specs.Report.{status_lines};
 ghost use Rattle.lil_session.specs.Answered.{TextRan, Call, Told};
 
 use crate::generator::generate;
-use crate::reading::read_straight;
 use crate::report::tell;
 use crate::run::run_program;
 use crate::words::named;
 use crate::{Channel, Options, Rack, Status};
 use lil_base::{Name, Place, SourceFault, Text};
+use lil_straight::read_straight;
 use lil_tree::RModule;
 use lil_volume::{Keyboard, Sink, Volume, VolumeError};
 use std::alloc::Global;

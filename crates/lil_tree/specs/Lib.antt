@@ -6,3 +6,4 @@ pub mod Cuts
 pub mod Grammar
 pub mod Resolving
 pub mod Straight
+pub mod Sizes

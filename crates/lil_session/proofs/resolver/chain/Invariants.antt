@@ -1,7 +1,0 @@
-use Rattle.std.proofs.Common.{◌≡◌, drop}
-use Rattle.lil_tree.specs.Views as view
-use Rattle.lil_session.specs.Folding as spec
-use Rattle.lil_session.proofs.resolver.chain.Given as goal
-
-abbrev pub invariant-loop-x : goal.invariant-loop-x
-invariant-loop-x l = spec.chained l.variables (view.expression_of l.left) (drop l.x-index l.rest) ≡ spec.chained l.variables (view.expression_of l.fn.first) l.rest

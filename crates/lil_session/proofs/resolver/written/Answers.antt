@@ -1,5 +1,0 @@
-use Rattle.lil_session.proofs.Folds.{character_fits}
-use Rattle.lil_session.proofs.resolver.written.Goals as goal
-
-pub character-requires : goal.character-requires
-character-requires c = character_fits c.args.variables.now c.args.sum.now _ c.in_ok-value.ensures c.requires.fits

@@ -1,0 +1,12 @@
+pub mod Reserved
+pub mod Digits
+pub mod Measures
+pub mod CutSteps
+pub mod CutLaws
+pub mod Standing
+pub mod ParseSound
+pub mod Folds
+pub mod ParseComplete
+pub mod Smallness
+pub mod Soundness
+pub mod Straightness
