@@ -4,5 +4,4 @@ pub mod Decoding
 mod Steps
 mod Running
 mod Loading
-pub mod Rising
 pub mod Requests

@@ -1,5 +1,5 @@
 -- Cells: what each variable and object holds, by its root and the fields and positions from there.
-use Rattle.std.specs.Prelude.{ℕ, zero, suc, ◌==◌, Bool, true, false, ◌&&◌, List, [], ◌∷◌, ◌++◌, Option, Some, None, slice_get, if◌then◌else◌}
+use Rattle.std.specs.Prelude.{ℕ, zero, suc, ◌==◌, Bool, false, ◌&&◌, List, [], ◌∷◌, Option, Some, None, slice_get, if◌then◌else◌}
 use Rattle.lil_tree.specs.Kinds.{Kind}
 use Rattle.lil_tree.specs.Scalars.{Scalar, Nothing, zero_of}
 use Rattle.lil_tree.specs.Resolved.{Resolved}

@@ -1,5 +1,5 @@
 -- What is left to do. Where an item has a hole, it stands as · here.
-use Rattle.std.specs.Prelude.{ℕ, List, Option, Bool}
+use Rattle.std.specs.Prelude.{ℕ, List, Option}
 use Rattle.lil_base.specs.Words.{Whole}
 use Rattle.lil_base.specs.declared.fault.TrapAt.{TrapAt}
 use Rattle.lil_tree.specs.declared.syntax.TwoOp.{TwoOp}

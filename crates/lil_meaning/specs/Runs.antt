@@ -1,5 +1,5 @@
 -- Runs of loaded modules: the state after n steps.
-use Rattle.std.specs.Prelude.{ℕ, zero, suc, List, [], ◌∷◌, Option, None}
+use Rattle.std.specs.Prelude.{ℕ, zero, suc, List, [], ◌∷◌, None}
 use Rattle.lil_tree.specs.Resolved.{Statement, Resolved}
 use Rattle.lil_meaning.specs.Cells.{fresh_cells}
 use Rattle.lil_meaning.specs.World.{World, Output, world_output}

@@ -1,6 +1,6 @@
 -- One step: the first item becomes what its row shows, or a value goes into the hole of the next item.
-use Rattle.std.specs.Prelude.{ℕ, zero, suc, ℤ, pos, Bool, true, false, List, [], ◌∷◌, ◌++◌, map, Option, Some, None, Result, Ok, Err, slice_get, if◌then◌else◌}
-use Rattle.lil_base.specs.Words.{Whole, Cardinal, sum, difference, between, word_of}
+use Rattle.std.specs.Prelude.{ℕ, ℤ, pos, List, [], ◌∷◌, ◌++◌, map, Option, Some, None, Result, Ok, Err, slice_get, if◌then◌else◌}
+use Rattle.lil_base.specs.Words.{Whole, sum, difference, between, word_of}
 use Rattle.lil_base.specs.Traps.{arith_trap}
 use Rattle.lil_base.specs.declared.fault.ArithFault.{ArithFault}
 use Rattle.lil_base.specs.declared.fault.TrapKind.{TrapKind}
@@ -8,9 +8,8 @@ use Rattle.lil_base.specs.declared.fault.TrapKind.TheVariants as trap
 use Rattle.lil_base.specs.declared.fault.TrapAt.{TrapAt}
 use Rattle.lil_tree.specs.declared.syntax.TwoOp.{TwoOp}
 use Rattle.lil_tree.specs.declared.syntax.TwoOp.TheVariants.{Plus, Minus}
-use Rattle.lil_tree.specs.Kinds.{Kind}
 use Rattle.lil_tree.specs.Scalars.{Scalar, Number, Character, within, scalar_word}
-use Rattle.lil_tree.specs.Resolved.{Designator, Variable, Function, Chr, Expression, Constant, Taken, Two, Apply, Argument, Statement, Assign, Request, Resolved, kind_of_place}
+use Rattle.lil_tree.specs.Resolved.{Designator, Variable, Function, Chr, Expression, Constant, Taken, Two, Apply, Statement, Assign, Request, Resolved, kind_of_place}
 use Rattle.lil_meaning.specs.Cells.{Global, Place, stored, got, alone, loaded_at}
 use Rattle.lil_meaning.specs.World.{serve}
 use Rattle.lil_meaning.specs.Items.{Datum, Scalars, Places, Hole, Get, SetTo, StoreAt, LeftOf, RightOf, ApplyTo, Pass, Task, Do, Passing, End, Item, Value, Evaluate, PlaceOf, Fill, Perform, Activation, Phase, Going, Closing, Ended, Trapped, Source}

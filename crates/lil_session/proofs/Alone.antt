@@ -10,9 +10,10 @@ use Rattle.lil_mcode.specs.declared.instr.Instr.{Instr}
 use Rattle.lil_mcode.specs.declared.instr.Instr.TheVariants.{Liw, Lgw, Sgw, Rgc, Adc, Sbc, Ent, Rtn, Svc}
 use Rattle.lil_mcode.specs.declared.machine.Event.{Event}
 use Rattle.lil_mcode.specs.declared.machine.Event.TheVariants.{Went, Request, LevelEnded, Trap, Limit, BadCode}
-use Rattle.lil_mcode.specs.Bytes.{decoded, row, word_at, with_byte, with_word, with_two_words}
+use Rattle.lil_mcode.specs.Bytes.{decoded}
 use Rattle.lil_mcode.specs.State.{Module, State, module_at}
 use Rattle.lil_mcode.specs.Table.{mstep, act, fetched, performed, result_row, two_row, on_one, range_row, store_row, request_row, request_words, leave_row, end_row, return_row}
+use Rattle.lil_mcode.proofs.Decoding.{Stands, decoded_stands}
 use Rattle.lil_session.specs.Running.{IsAlone}
 use Rattle.lil_session.proofs.Homes.{yes}
 
@@ -30,7 +31,6 @@ pub record Moves (s : State) (r : Event × State) : Type 0 where
   pub running : r.1.running ≡ s.running
   pub alone : IsAlone r.1
   pub rises : goes_on r.0 ≡ true → s.place < r.1.place
-  pub asks : (q : ℕ) → r.0 ≡ Request q → (q ≡ 2) × (1 ≤ length r.1.stack)
 
 module _ (s : State) (a : IsAlone s) where
   moves_if : (b : Bool) (x y : Event × State) → Moves s x → Moves s y → Moves s (cond b x y)
@@ -38,16 +38,16 @@ module _ (s : State) (a : IsAlone s) where
   moves_if false x y m n = n
 
   moves_bad : Moves s (BadCode, s)
-  moves_bad = record { modules = refl; running = refl; alone = a; rises = λ e. cc; asks = λ q e. cc }
+  moves_bad = record { modules = refl; running = refl; alone = a; rises = λ e. cc }
 
   moves_trap : (k : _) → Moves s (Trap k, s)
-  moves_trap k = record { modules = refl; running = refl; alone = a; rises = λ e. cc; asks = λ q e. cc }
+  moves_trap k = record { modules = refl; running = refl; alone = a; rises = λ e. cc }
 
   moves_limit : (k : _) → Moves s (Limit k, s)
-  moves_limit k = record { modules = refl; running = refl; alone = a; rises = λ e. cc; asks = λ q e. cc }
+  moves_limit k = record { modules = refl; running = refl; alone = a; rises = λ e. cc }
 
   moves_end : Moves s (LevelEnded, s)
-  moves_end = record { modules = refl; running = refl; alone = a; rises = λ e. cc; asks = λ q e. cc }
+  moves_end = record { modules = refl; running = refl; alone = a; rises = λ e. cc }
 
   module _ (q : ℕ) (up : s.place < q) where
     moves_to : (stack store : List ℕ) (top : ℕ) → Moves s (Went, record s { place = q; stack = stack; store = store; top = top })
@@ -56,7 +56,6 @@ module _ (s : State) (a : IsAlone s) where
       running = refl;
       alone = record { body = a.body; last = a.last; marked = a.marked };
       rises = λ e. up;
-      asks = λ r e. cc;
     }
 
     result_moves : (rest : List ℕ) (r : Result ℤ ArithFault) → Moves s (result_row s q rest r)
@@ -72,22 +71,17 @@ module _ (s : State) (a : IsAlone s) where
     one_moves [] f m = moves_bad
     one_moves (x ∷ rest) f m = m x rest
 
-    request_moves : (r : ℕ) → Moves s (request_row r q s (request_words r))
-    request_moves r = by (r == 2) refl
+    request_moves : (r : ℕ) (words : Option ℕ) → Moves s (request_row r q s words)
+    request_moves r None = moves_bad
+    request_moves r (Some n) = moves_if _ _ _ asked moves_bad
       where
-        asked : r ≡ 2 → (b : Bool) → nat_le 1 (length s.stack) ≡ b → Moves s (cond b (Request r, record s { place = q; stack = s.stack }) (BadCode, s))
-        asked two true some = record {
+        asked : Moves s (Request r, record s { place = q; stack = s.stack })
+        asked = record {
           modules = refl;
           running = refl;
           alone = record { body = a.body; last = a.last; marked = a.marked };
           rises = λ e. up;
-          asks = λ n e. (let same : r ≡ n = cc in sym same ∙ two, leb-true 1 (length s.stack) some);
         }
-        asked two false some = moves_bad
-
-        by : (b : Bool) → (r == 2) ≡ b → Moves s (request_row r q s (cond b (Some 1) None))
-        by true e = asked (eqb-true r 2 e) (nat_le 1 (length s.stack)) refl
-        by false e = moves_bad
 
     leave_moves : Moves s (leave_row s)
     leave_moves =
@@ -103,73 +97,27 @@ module _ (s : State) (a : IsAlone s) where
     act_moves Sbc m = two_moves difference Cardinal s.stack
     act_moves (Ent w) m = moves_if _ _ _ moves_bad (moves_if _ _ _ (moves_limit _) (moves_to s.stack _ _))
     act_moves Rtn m = leave_moves
-    act_moves (Svc r) m = request_moves r
+    act_moves (Svc r) m = request_moves r (request_words r)
 
--- an instruction ends behind its place
-record IsLater (p : ℕ) (o : Option (Instr × ℕ)) : Type 0 where
-  later : (d : Instr × ℕ) → o ≡ Some d → p < d.1
-
-later_if : (p : ℕ) (b : Bool) (x y : Option (Instr × ℕ)) → IsLater p x → IsLater p y → IsLater p (cond b x y)
-later_if p true x y h k = h
-later_if p false x y h k = k
-
-later_then : {A : Type 0} (p : ℕ) (o : Option A) (f : A → Option (Instr × ℕ)) → ((x : A) → IsLater p (f x)) → IsLater p (option_and_then f o)
-later_then p None f h = record { later = λ d e. cc }
-later_then p (Some x) f h = h x
-
-later_some : (p q : ℕ) (i : Instr) → p < q → IsLater p (Some (i, q))
-later_some p q i less = record { later = λ d e. let same : (i, q) ≡ d = cc in subst (λ (x : Instr × ℕ). p < x.1) same less }
-
-later_none : (p : ℕ) → IsLater p None
-later_none p = record { later = λ d e. cc }
-
-byte_later : (make : ℕ → Instr) (code : List ℕ) (p : ℕ) → IsLater p (with_byte make code p)
-byte_later make code p = later_then p (slice_get code (p + 1)) (λ (b : ℕ). let r : Option (Instr × ℕ) = Some (make b, p + 2) in r) (λ b. later_some p (p + 2) (make b) (omega arith))
-
-word_later : (make : ℕ → Instr) (code : List ℕ) (p : ℕ) → IsLater p (with_word make code p)
-word_later make code p = later_then p (word_at code (p + 1)) (λ (w : ℕ). let r : Option (Instr × ℕ) = Some (make w, p + 3) in r) (λ w. later_some p (p + 3) (make w) (omega arith))
-
-two_words_later : (make : ℕ → ℕ → Instr) (code : List ℕ) (p : ℕ) → IsLater p (with_two_words make code p)
-two_words_later make code p =
-    later_then p (word_at code (p + 1)) (λ (v : ℕ). option_and_then (λ (w : ℕ). let r : Option (Instr × ℕ) = Some (make v w, p + 5) in r) (word_at code (p + 3)))
-    (λ v. later_then p (word_at code (p + 3)) (λ (w : ℕ). let r : Option (Instr × ℕ) = Some (make v w, p + 5) in r) (λ w. later_some p (p + 5) (make v w) (omega arith)))
-
-one_later : (i : Instr) (p : ℕ) → IsLater p (Some (i, p + 1))
-one_later i p = later_some p (p + 1) i (omega arith)
-
-row_later : (b : ℕ) (code : List ℕ) (p : ℕ) → IsLater p (row b code p)
-row_later b code p =
-    later_if p _ _ _ (word_later Liw code p)
-    (later_if p _ _ _ (word_later Lgw code p)
-    (later_if p _ _ _ (word_later Sgw code p)
-    (later_if p _ _ _ (two_words_later Rgc code p)
-    (later_if p _ _ _ (one_later Adc p)
-    (later_if p _ _ _ (one_later Sbc p)
-    (later_if p _ _ _ (word_later Ent code p)
-    (later_if p _ _ _ (one_later Rtn p)
-    (later_if p _ _ _ (byte_later Svc code p) (later_none p)))))))))
-
-decoded_later : (code : List ℕ) (p : ℕ) → IsLater p (decoded code p)
-unfolding decoded
-decoded_later code p = later_then p (slice_get code p) _ (λ b. row_later b code p)
-
-decoded_within : (code : List ℕ) (p : ℕ) (d : Instr × ℕ) → decoded code p ≡ Some d → p < length code
-unfolding decoded
-decoded_within code p d e = option_and_then_some (λ b. row b code p) (slice_get code p) d e (λ b at r. slice_get_within code p b at)
-
-performed_moves : (s : State) → IsAlone s → (m : Module) (o : Option (Instr × ℕ)) → IsLater s.place o → Moves s (performed s m o)
+performed_moves : (s : State) → IsAlone s → (m : Module) (o : Option (Instr × ℕ)) → decoded m.code s.place ≡ o → Moves s (performed s m o)
 performed_moves s a m None h = moves_bad s a
-performed_moves s a m (Some d) h = act_moves s a d.1 (h.later d refl) d.0 m
+performed_moves s a m (Some d) h = act_moves s a d.1 (decoded_stands m.code s.place d h).later d.0 m
 
 fetched_moves : (s : State) → IsAlone s → (o : Option Module) → Moves s (fetched s o)
 fetched_moves s a None = moves_bad s a
-fetched_moves s a (Some m) = performed_moves s a m (decoded m.code s.place) (decoded_later m.code s.place)
+fetched_moves s a (Some m) = performed_moves s a m (decoded m.code s.place) refl
 
 mstep_fetches : (s : State) → IsAlone s → mstep s ≡ fetched s (module_at s.modules s.running)
 mstep_fetches s a = yes s.marked (fetched s (module_at s.modules s.running)) (Limit limit.Stack, s) a.marked
 
 pub mstep_moves : (s : State) → IsAlone s → Moves s (mstep s)
 mstep_moves s a = subst (λ (r : Event × State). Moves s r) (sym (mstep_fetches s a)) (fetched_moves s a (module_at s.modules s.running))
+
+starts : (code : List ℕ) (p : ℕ) (d : Instr × ℕ) → Stands code p d.1 → p < length code
+starts code p d stands =
+    let later : p < d.1 = stands.later in
+    let within : d.1 ≤ length code = stands.within in
+    omega arith
 
 -- a step that goes on stands within the code
 pub mstep_within : (s : State) → IsAlone s → (m : Module) → module_at s.modules s.running ≡ Some m → goes_on (mstep s).0 ≡ true → s.place < length m.code
@@ -179,4 +127,4 @@ mstep_within s a m known on =
   where
     by : (o : Option (Instr × ℕ)) → decoded m.code s.place ≡ o → goes_on (performed s m o).0 ≡ true → s.place < length m.code
     by None d h = cc
-    by (Some d) at h = decoded_within m.code s.place d at
+    by (Some d) at h = starts m.code s.place d (decoded_stands m.code s.place d at)

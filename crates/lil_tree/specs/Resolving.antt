@@ -1,5 +1,5 @@
 -- The rules that a straight unit keeps, and the resolved module that it means.
-use Rattle.std.specs.Prelude.{ℕ, ℤ, pos, negsuc, ◌+ℤ◌, ◌-ℤ◌, Bool, true, false, not, ◌&&◌, List, [], ◌∷◌, codes, map, Option, Some, None, position, unwrap_or}
+use Rattle.std.specs.Prelude.{ℕ, ℤ, pos, negsuc, ◌+ℤ◌, ◌-ℤ◌, Bool, true, not, ◌&&◌, List, [], ◌∷◌, codes, map, Option, Some, None, position, unwrap_or}
 use Rattle.std.specs.List.{list_any, list_all}
 use Rattle.std.specs.Str.{bytes_eq}
 use Rattle.lil_base.specs.Words.{Cardinal, between, word_of}

@@ -1,6 +1,6 @@
 -- Scalars: the values of cells and of expressions.
-use Rattle.std.specs.Prelude.{ℕ, ℤ, pos, negsuc, Bool, true, false, nat_le}
-use Rattle.lil_base.specs.Words.{Whole, Cardinal, Integer, in_type, word_of}
+use Rattle.std.specs.Prelude.{ℕ, ℤ, pos, Bool, false, nat_le}
+use Rattle.lil_base.specs.Words.{in_type, word_of}
 use Rattle.lil_tree.specs.Kinds.{Kind, OfWhole, OfCharacter}
 
 -- a whole number, a truth value, a character, a set of numbers up to 15, a reference, or none

@@ -1,9 +1,9 @@
 -- Sound resolved modules, the words that expressions take, and the bytes that code takes.
 use Rattle.std.specs.Prelude.{◌≡◌, ℕ, ◌+◌, ◌<◌, ◌≤◌, max, true, List, [], ◌∷◌, length}
-use Rattle.lil_base.specs.Words.{Whole, Cardinal}
-use Rattle.lil_tree.specs.Kinds.{Kind, OfWhole, OfCharacter}
+use Rattle.lil_base.specs.Words.{Cardinal}
+use Rattle.lil_tree.specs.Kinds.{OfWhole, OfCharacter}
 use Rattle.lil_tree.specs.Scalars.{within}
-use Rattle.lil_tree.specs.Resolved.{Designator, Variable, Function, Chr, Expression, Constant, Taken, Two, Apply, Argument, Statement, Assign, Request, Resolved, kind_of}
+use Rattle.lil_tree.specs.Resolved.{Designator, Variable, Chr, Expression, Constant, Taken, Two, Apply, Argument, Statement, Assign, Request, Resolved, kind_of}
 
 -- how many words of the expression stack an expression takes
 abbrev pub depth : Expression → ℕ

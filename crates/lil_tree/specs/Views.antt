@@ -3,7 +3,7 @@ use Rattle.std.specs.Prelude.{ℕ, pos, List, [], ◌∷◌, map}
 use Rattle.lil_base.specs.Words.{Cardinal}
 use Rattle.lil_tree.specs.Kinds.{Kind, OfWhole, OfCharacter}
 use Rattle.lil_tree.specs.Scalars.{Number, Character}
-use Rattle.lil_tree.specs.Resolved.{Designator, Variable, Chr, Expression, Constant, Taken, Two, Apply, Argument, Statement, Assign, Request, Resolved}
+use Rattle.lil_tree.specs.Resolved.{Designator, Variable, Chr, Expression, Constant, Taken, Two, Apply, Statement, Assign, Request, Resolved}
 use Rattle.lil_tree.specs.declared.resolved.RExpr.{RExpr}
 use Rattle.lil_tree.specs.declared.resolved.RExpr.TheVariants as x
 use Rattle.lil_tree.specs.declared.resolved.RStmt.{RStmt}

@@ -4,15 +4,16 @@ use Rattle.lil_mcode.specs.State.{State}
 use Rattle.lil_mcode.specs.Calls.{Machine}
 use Rattle.lil_session.specs.Running.{Running, Finished, TrappedBy, Limited, Broken, taken, IsAlone}
 use Rattle.lil_session.proofs.Advancing.{step_quiet, step_writes, step_refused, moves_at, within_at, alone_taken}
+use Rattle.lil_mcode.proofs.Requests.{request_is_two}
 use Rattle.lil_session.proofs.run.advance.Goals as goal
 
 pub serve-requires-clause-known : goal.serve-requires-clause-known
 serve-requires-clause-known g c =
-    ((moves_at c.args.machine.now.state c.step.new.self.state (Request c.in-Request.number) c.requires c.in-Request.ensures.row).asks _ refl).0
+    (request_is_two c.args.machine.now.state c.step.new.self.state c.in-Request.number c.in-Request.ensures.row).0
 
 pub serve-requires-clause-words : goal.serve-requires-clause-words
 serve-requires-clause-words g c =
-    ((moves_at c.args.machine.now.state c.step.new.self.state (Request c.in-Request.number) c.requires c.in-Request.ensures.row).asks _ refl).1
+    (request_is_two c.args.machine.now.state c.step.new.self.state c.in-Request.number c.in-Request.ensures.row).1
 
 pub returns-in-Went-clause-step : goal.returns-in-Went-clause-step
 returns-in-Went-clause-step g c = step_quiet c.args.machine.now.state c.step.new.self.state Went Running (g.S.Sink.written c.args.screen.now) c.in-Went.ensures.row (λ w. refl)
@@ -47,7 +48,7 @@ returns-in-Trap-clause-alone g c = (moves_at c.args.machine.now.state c.step.new
 pub returns-in_ok-serve-in-Request-clause-step : goal.returns-in_ok-serve-in-Request-clause-step
 returns-in_ok-serve-in-Request-clause-step g c =
     step_writes c.args.machine.now.state c.step.new.self.state c.serve.new.machine.state c.in-Request.number (g.S.Sink.written c.args.screen.now) (g.S.Sink.written c.serve.new.screen) c.in-Request.ensures.row
-    ((moves_at c.args.machine.now.state c.step.new.self.state (Request c.in-Request.number) c.requires c.in-Request.ensures.row).asks _ refl).0
+    (request_is_two c.args.machine.now.state c.step.new.self.state c.in-Request.number c.in-Request.ensures.row).0
     (ap (λ (m : Machine). m.state) c.serve.ensures.machine) c.in_ok-serve-in-Request.ensures.ok
 
 pub returns-in_ok-serve-in-Request-clause-alone : goal.returns-in_ok-serve-in-Request-clause-alone
