@@ -15,7 +15,7 @@ use Rattle.lil_volume.specs.Told.{Files, FileIs, followed_by}
 use Rattle.lil_session.specs.declared.status.Status.{Status}
 use Rattle.lil_session.specs.declared.status.Status.TheVariants as a
 use Rattle.lil_session.specs.Words.{mod_file}
-use Rattle.lil_session.specs.Outcome.{settled, gives_way, with_writes, Allowed, Answers, SourceAnswers, TextAnswers, Blames, Devices, Finds, Headline, IsRunAnswer, MeansAnswer, Ran, Runs, Shows}
+use Rattle.lil_session.specs.Outcome.{settled, gives_way, with_writes, Allowed, Answers, SourceAnswers, TextAnswers, Blames, Devices, Finds, Headline, IsRunAnswer, IsRunnable, MeansAnswer, Ran, Runs, Shows}
 use Rattle.lil_session.specs.Answered.{TextRan}
 use Rattle.lil_straight.proofs.Straightness.{straight_unique}
 
@@ -65,8 +65,8 @@ found_as files m name found told is = subst (λ (f : Option Files). FileIs f nam
 
 -- want of memory, or a fault of the volume, before anything was run
 pub ran_not : (name : Option (List ℕ)) (steps : ℕ) (before : Devices) (files : Option Files) (faults : ℕ) (s : Status) → (s ≡ a.Memory) ⊎ ((s ≡ a.VolumeFault) × Rose before.volume_faults faults)
-    → files ≡ before.files → before.volume_faults ≤ faults → Ran name steps before (record before { files = files; volume_faults = faults }) s
-ran_not name steps before files faults s cause same later = record {
+    → files ≡ before.files → before.volume_faults ≤ faults → (faults ≡ before.volume_faults) ⊎ ((x : List ℕ) × (name ≡ Some x)) → Ran name steps before (record before { files = files; volume_faults = faults }) s
+ran_not name steps before files faults s cause same later asked = record {
   answer = λ w finds is. absurd (not_settled is);
   spent = λ is. absurd (no is refl);
   usage_only = λ is. absurd (no is refl);
@@ -75,14 +75,19 @@ ran_not name steps before files faults s cause same later = record {
   no_file_where = λ m x told named none stays. absurd (not_stays stays);
   fault_only = λ m f told is. absurd (no is refl);
   fault_where = λ m x text told named there none stays. absurd (not_stays stays);
+  missed_is = λ file is. absurd (no is refl);
+  fault_is = λ f is. absurd (no is refl);
   settles = inr settles;
   no_refusal = inr (inr (inr refusal));
   headline = λ w p finds runs. headline_of p w before (record before { files = files; volume_faults = faults }) s finds (shows_none p w before.shown s finds.nothing_shown allowed) refl same;
   nothing = λ _. refl;
+  called = inl (refl, refl);
+  asked = asked;
   files = same;
   keys = refl;
   volume_cause = record { later = later; rose = rose; quiet = inr blamed };
   screen_cause = record { later = omega arith; rose = λ is. absurd (no_screen is); quiet = inl refl };
+  screen_told = inr refl;
   keys_cause = refl;
   one = inr refl;
 }
@@ -133,9 +138,9 @@ some_of {M} P Q o m is holds = subst (λ (x : Option M). MatchOption x P Q) is h
 pub text_ran : (file text : List ℕ) (m : Resolved) (steps : ℕ) (old : Option (List ℕ)) (old_faults : ℕ) (new : Option (List ℕ)) (new_faults : ℕ) (s : Status) → IsStraight file text m
     → ((w : World) → w.screen ≡ [] → Shows m w old new s)
     → ((w : World) → w.screen ≡ [] → settled s ≡ true → (s ≡ a.StepsSpent) ⊎ MeansAnswer m w s)
-    → IsRunAnswer s → (s ≡ a.StepsSpent → steps ≤ 32767) → Blames a.ScreenFault old_faults new_faults s
+    → IsRunAnswer s → (s ≡ a.StepsSpent → steps ≤ 32767) → Blames a.ScreenFault old_faults new_faults s → (s ≡ a.ScreenFault) ⊎ (new_faults ≡ old_faults)
     → TextRan file text steps old old_faults new new_faults s
-text_ran file text m steps old old_faults new new_faults s straight shows answer kinds spent cause = record {
+text_ran file text m steps old old_faults new new_faults s straight shows answer kinds spent cause told = record {
   answer = λ w none is. either (answer w none is);
   spent = spent;
   fault_only = λ f is. absurd (no_fault f is);
@@ -143,7 +148,9 @@ text_ran file text m steps old old_faults new new_faults s straight shows answer
   kinds = inr kinds;
   shows = λ w p none also. subst (λ (r : Resolved). Shows r w old new s) (straight_unique file text m p straight also) (shows w none);
   nothing = λ f is. absurd (no_fault f is);
+  called = inr (m, straight);
   cause = cause;
+  told = told;
 }
   where
     either : {w : World} → (s ≡ a.StepsSpent) ⊎ MeansAnswer m w s → (s ≡ a.StepsSpent) ⊎ TextAnswers file text w s
@@ -167,14 +174,19 @@ source_ran file text steps before files faults shown screen_faults s is same qui
   no_file_where = λ m x told named none stays. absurd (there_not m x told named none);
   fault_only = λ m f told fault. ((ran.fault_only f fault).0, (file, refl, (text, sym (found_as before.files m (mod_file file) (Some text) told is), (ran.fault_only f fault).1)));
   fault_where = λ m x t told named there none stays. ran.fault_where (none_here m x t told named there none) stays;
+  missed_is = λ x missed. absurd (no missed (λ f e. cc) (λ h. h));
+  fault_is = λ f fault. (ran.fault_only f fault).0;
   settles = settles ran.kinds;
   no_refusal = inr (inr (refusal ran.kinds));
   headline = λ w p finds runs. headline_of p w before (record before { files = files; volume_faults = faults; shown = shown; screen_faults = screen_faults }) s finds (ran.shows w p finds.nothing_shown (straight_here w p finds runs)) refl same;
   nothing = quietly;
+  called = called ran.called;
+  asked = inl quiet;
   files = same;
   keys = refl;
   volume_cause = record { later = omega arith; rose = λ fault. absurd (no fault (λ f e. cc) (λ h. h)); quiet = inl quiet };
   screen_cause = ran.cause;
+  screen_told = ran.told;
   keys_cause = refl;
   one = inl quiet;
 }
@@ -186,6 +198,11 @@ source_ran file text steps before files faults shown screen_faults s is same qui
     either : (w : World) → Some text ≡ get w.files (mod_file file) → (s ≡ a.StepsSpent) ⊎ TextAnswers file text w s → (s ≡ a.StepsSpent) ⊎ Answers (Some file) w s
     either w there (inl spent) = inl spent
     either w there (inr answers) = inr (subst (λ (o : Option (List ℕ)). SourceAnswers file w o s) there answers)
+
+    called : ((shown ≡ before.shown) × (screen_faults ≡ before.screen_faults)) ⊎ ((p : Resolved) × IsStraight file text p)
+        → ((shown ≡ before.shown) × (screen_faults ≡ before.screen_faults)) ⊎ IsRunnable (Some file) before.files
+    called (inl still) = inl still
+    called (inr (p, straight)) = inr (record { file = file; named = refl; text = text; there = is; means = p; straight = straight })
 
     there_not : (m : Files) (x : List ℕ) → before.files ≡ Some m → Some file ≡ Some x → get m (mod_file x) ≡ None → ⊥
     there_not m x told named none =

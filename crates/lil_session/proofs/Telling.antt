@@ -161,8 +161,8 @@ run_answers a.ChannelFault spent kind = absurd kind
 run_answers a.ReportFault spent kind = absurd kind
 run_answers (a.BadCode p) spent kind = absurd kind
 
-pub no_other : {call : Call} {result : Status} → Told call result → 32767 < call.steps → IsAnswer result
-no_other {call} {result} told many = by_cases told.reported.answer
+inner_answers : {call : Call} {result : Status} → (told : Told call result) → 32767 < call.steps → IsAnswer told.inner
+inner_answers {call} told many = inner told.ran.no_refusal
   where
     inner : (told.inner ≡ a.Usage) ⊎ (((file : List ℕ) × (told.inner ≡ a.NoFile file)) ⊎ (((f : SourceFault) × (told.inner ≡ a.SourceFault f)) ⊎ ((told.inner ≡ a.VolumeFault) ⊎ IsRunAnswer told.inner))) → IsAnswer told.inner
     inner (inl usage) = subst (λ (s : Status). IsAnswer s) (sym usage) tt
@@ -171,8 +171,11 @@ no_other {call} {result} told many = by_cases told.reported.answer
     inner (inr (inr (inr (inl fault)))) = subst (λ (s : Status). IsAnswer s) (sym fault) tt
     inner (inr (inr (inr (inr kind)))) = run_answers told.inner (never_spent told many) kind
 
+pub no_other : {call : Call} {result : Status} → Told call result → 32767 < call.steps → IsAnswer result
+no_other {call} {result} told many = by_cases told.reported.answer
+  where
     by_cases : (result ≡ told.inner) ⊎ ((gives_way told.inner ≡ false) × ((result ≡ a.ReportFault) ⊎ (result ≡ a.Memory))) → IsAnswer result
-    by_cases (inl same) = subst (λ (s : Status). IsAnswer s) (sym same) (inner told.ran.no_refusal)
+    by_cases (inl same) = subst (λ (s : Status). IsAnswer s) (sym same) (inner_answers told many)
     by_cases (inr (stays, inl fault)) = subst (λ (s : Status). IsAnswer s) (sym fault) tt
     by_cases (inr (stays, inr memory)) = subst (λ (s : Status). IsAnswer s) (sym memory) tt
 
@@ -211,3 +214,15 @@ cut_told {call} told many w finds cut =
     answers : (told.inner ≡ a.StepsSpent) ⊎ Answers call.name w told.inner → Answers call.name w told.inner
     answers (inl spent) = absurd (never_spent told many spent)
     answers (inr is) = is
+
+-- whatever the devices tell
+pub prefix_told : {call : Call} {result : Status} → Told call result → 32767 < call.steps → result ≡ a.ReportFault
+    → (s : Status) × (settled s ≡ true) × IsAnswer s × FollowedByPrefix call.old (status_lines call.file s) call.new
+prefix_told {call} told many cut = (told.inner, cut_settled told cut, inner_answers told many, told.reported.cut cut)
+
+pub screen_fault_told : {call : Call} {result : Status} → Told call result → (result ≡ a.ScreenFault) ⊎ (call.after.screen_faults ≡ call.before.screen_faults)
+screen_fault_told {call} {result} told = by_cases told.ran.screen_told
+  where
+    by_cases : (told.inner ≡ a.ScreenFault) ⊎ (call.after.screen_faults ≡ call.before.screen_faults) → (result ≡ a.ScreenFault) ⊎ (call.after.screen_faults ≡ call.before.screen_faults)
+    by_cases (inl is) = inl (told.reported.passes (ap gives_way is) ∙ is)
+    by_cases (inr same) = inr same

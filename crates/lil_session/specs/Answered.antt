@@ -36,7 +36,9 @@ pub record TextRan (file text : List ℕ) (steps : ℕ) (old : Option (List ℕ)
   pub kinds : ((f : SourceFault) × (status ≡ a.SourceFault f)) ⊎ IsRunAnswer status
   pub shows : (w : World) (p : Resolved) → w.screen ≡ [] → IsStraight file text p → Shows p w old new status
   pub nothing : (f : SourceFault) → status ≡ a.SourceFault f → new ≡ old
+  pub called : ((new ≡ old) × (new_faults ≡ old_faults)) ⊎ ((p : Resolved) × IsStraight file text p)
   pub cause : Blames a.ScreenFault old_faults new_faults status
+  pub told : (status ≡ a.ScreenFault) ⊎ (new_faults ≡ old_faults)
 
 -- a command: the name of the module that it runs, its budget and the file at hand, and what the devices and the report hold
 pub record Call : Type 0 where

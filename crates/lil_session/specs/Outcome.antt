@@ -8,7 +8,7 @@ use Rattle.lil_meaning.specs.World.{World}
 use Rattle.lil_meaning.specs.Items.{Source, Phase, Going, Closing, Ended, Trapped}
 use Rattle.lil_meaning.specs.Runs.{src}
 use Rattle.lil_volume.specs.Causes.{Rose}
-use Rattle.lil_volume.specs.Told.{Files, with_file, followed_by, FollowedByPrefix}
+use Rattle.lil_volume.specs.Told.{Files, FileIs, with_file, followed_by, FollowedByPrefix}
 use Rattle.lil_session.specs.declared.status.Status.{Status}
 use Rattle.lil_session.specs.declared.status.Status.TheVariants as a
 use Rattle.lil_session.specs.Words.{mod_file}
@@ -133,6 +133,15 @@ pub record Runs (name : Option (List ℕ)) (w : World) (p : Resolved) : Type 0 w
   pub there : get w.files (mod_file file) ≡ Some text
   pub straight : IsStraight file text p
 
+-- the source of the module is there as far as the volume tells, and straight
+pub record IsRunnable (name : Option (List ℕ)) (files : Option Files) : Type 0 where
+  pub file : List ℕ
+  pub named : name ≡ Some file
+  pub text : List ℕ
+  pub there : FileIs files (mod_file file) (Some text)
+  pub means : Resolved
+  pub straight : IsStraight file text means
+
 -- files after a list of writes
 abbrev pub with_writes : Option Files → List (List ℕ × List ℕ) → Option Files
 with_writes files [] = files
@@ -196,6 +205,9 @@ pub record Ran (name : Option (List ℕ)) (steps : ℕ) (before after : Devices)
       → (f ≡ not_built) × ((x : List ℕ) × (name ≡ Some x) × ((text : List ℕ) × (get m (mod_file x) ≡ Some text) × ((p : Resolved) → IsStraight x text p → ⊥)))
   pub fault_where : (m : Files) (x text : List ℕ) → before.files ≡ Some m → name ≡ Some x → get m (mod_file x) ≡ Some text → ((p : Resolved) → IsStraight x text p → ⊥)
       → gives_way status ≡ false → status ≡ a.SourceFault not_built
+  -- a missed file is the source of the module that the words name, and a fault is fault 90, whatever the volume tells
+  pub missed_is : (file : List ℕ) → status ≡ a.NoFile file → (x : List ℕ) × (name ≡ Some x) × (file ≡ mod_file x)
+  pub fault_is : (f : SourceFault) → status ≡ a.SourceFault f → f ≡ not_built
   -- no other status comes
   pub settles : (settled status ≡ true) ⊎ ((status ≡ a.VolumeFault) ⊎ ((status ≡ a.ScreenFault) ⊎ (status ≡ a.Memory)))
   pub no_refusal : (status ≡ a.Usage) ⊎ (((file : List ℕ) × (status ≡ a.NoFile file)) ⊎ (((f : SourceFault) × (status ≡ a.SourceFault f)) ⊎ ((status ≡ a.VolumeFault) ⊎ IsRunAnswer status)))
@@ -203,10 +215,15 @@ pub record Ran (name : Option (List ℕ)) (steps : ℕ) (before after : Devices)
   pub headline : (w : World) (p : Resolved) → Finds before.files before.keys w → Runs name w p → Headline p w before after status
   -- nothing is shown where nothing was run
   pub nothing : ((status ≡ a.Usage) ⊎ (((file : List ℕ) × (status ≡ a.NoFile file)) ⊎ (((f : SourceFault) × (status ≡ a.SourceFault f)) ⊎ (status ≡ a.VolumeFault)))) → after.shown ≡ before.shown
+  -- the screen is called only where a straight text was found, and the volume only where the words name a module
+  pub called : ((after.shown ≡ before.shown) × (after.screen_faults ≡ before.screen_faults)) ⊎ IsRunnable name before.files
+  pub asked : (after.volume_faults ≡ before.volume_faults) ⊎ ((x : List ℕ) × (name ≡ Some x))
   pub files : after.files ≡ before.files
   pub keys : after.keys ≡ before.keys
   -- each fault has its cause, and at most one of the counts rises
   pub volume_cause : Blames a.VolumeFault before.volume_faults after.volume_faults status
   pub screen_cause : Blames a.ScreenFault before.screen_faults after.screen_faults status
+  -- a fault of the screen is never answered otherwise
+  pub screen_told : (status ≡ a.ScreenFault) ⊎ (after.screen_faults ≡ before.screen_faults)
   pub keys_cause : after.key_faults ≡ before.key_faults
   pub one : (after.volume_faults ≡ before.volume_faults) ⊎ (after.screen_faults ≡ before.screen_faults)

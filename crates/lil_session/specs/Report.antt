@@ -9,6 +9,7 @@ use Rattle.lil_base.specs.declared.fault.LimitKind.{LimitKind}
 use Rattle.lil_base.specs.declared.fault.LimitKind.TheVariants as limit
 use Rattle.lil_base.specs.declared.fault.LoadRefusal.{LoadRefusal}
 use Rattle.lil_base.specs.declared.fault.LoadRefusal.TheVariants as load
+use Rattle.lil_volume.specs.Causes.{Rose}
 use Rattle.lil_volume.specs.Told.{followed_by, FollowedByPrefix}
 use Rattle.lil_session.specs.declared.status.Status.{Status}
 use Rattle.lil_session.specs.declared.status.Status.TheVariants as a
@@ -96,11 +97,12 @@ abbrev pub file_of : List (List ℕ) → List ℕ
 file_of words = bytes_or_none (once_word words)
 
 -- The lines of an answer were written, and this is the answer now. An answer that gives way stays, whether its line was written or
--- not. Another stays where its lines were written whole.
+-- not; but its line was tried, so it stands whole or the report failed. Another stays where its lines were written whole.
 pub record Reported (file : List ℕ) (status : Status) (old : Option (List ℕ)) (old_faults : ℕ) (new : Option (List ℕ)) (new_faults : ℕ) (result : Status) : Type 0 where
   pub passes : gives_way status ≡ true → result ≡ status
   pub answer : (result ≡ status) ⊎ ((gives_way status ≡ false) × ((result ≡ a.ReportFault) ⊎ (result ≡ a.Memory)))
   pub whole : settled result ≡ true → new ≡ followed_by old (status_lines file status)
   pub cut : result ≡ a.ReportFault → FollowedByPrefix old (status_lines file status) new
   pub still : gives_way result ≡ true → FollowedByPrefix old (status_lines [] result) new
+  pub tried : gives_way result ≡ true → (new ≡ followed_by old (status_lines [] result)) ⊎ Rose old_faults new_faults
   pub cause : ReportBlames old_faults new_faults result

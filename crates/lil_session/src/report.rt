@@ -1,5 +1,6 @@
-ghost use Rattle.std.specs.Prelude.{◌≡◌, ◌≢◌, ◌≤◌, true, []};
-ghost use Rattle.lil_volume.specs.Told.{FollowedByPrefix};
+ghost use Rattle.std.specs.Prelude.{◌≡◌, ◌≢◌, ◌⊎◌, ◌≤◌, true, []};
+ghost use Rattle.lil_volume.specs.Causes.{Rose};
+ghost use Rattle.lil_volume.specs.Told.{followed_by, FollowedByPrefix};
 ghost use Rattle.lil_session.specs.Outcome.{gives_way};
 ghost use Rattle.lil_session.specs.Report.{status_lines, Reported};
 
@@ -38,6 +39,7 @@ fn fixed_line(status: &Status) -> &'static [u8]
 /// Puts a piece, and doesn't look whether that failed.
 fn try_put<R: Sink>(report: &mut R, piece: &[u8])
     ensures prefix { FollowedByPrefix (R.written report.old) piece.now (R.written report.new) }
+    ensures tried { (R.written report.new ≡ followed_by (R.written report.old) piece.now) ⊎ Rose (R.faults report.old) (R.faults report.new) }
     ensures later { R.faults report.old ≤ R.faults report.new }
 {
     let _ = report.put(piece);

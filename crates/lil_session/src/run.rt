@@ -188,6 +188,7 @@ pub(crate) fn run_program<S: Sink>(
     ensures kinds { IsRunAnswer result }
     ensures spent { result ≡ Status.StepsSpent → steps ≤ 32767 }
     ensures cause { Blames Status.ScreenFault (S.faults screen.old) (S.faults screen.new) result }
+    ensures told { (result ≡ Status.ScreenFault) ⊎ (S.faults screen.new ≡ S.faults screen.old) }
 {
     let Ok(mut machine) = load(alloc, m, code) else {
         return Status::Memory;

@@ -1,10 +1,12 @@
-ghost use Rattle.std.specs.Prelude.{◌≡◌, ◌⊎◌, ℕ, ◌≤◌, [], Some, None, true, false};
+ghost use Rattle.std.specs.Prelude.{◌≡◌, ◌⊎◌, ℕ, List, ◌≤◌, [], Some, None, true, false};
 ghost use Rattle.lil_tree.specs.Resolved.{Resolved};
 ghost use Rattle.lil_tree.specs.Views.{module_of};
 ghost use Rattle.lil_meaning.specs.World.{World};
 ghost use Rattle.lil_tree.specs.Sizes.{IsSound, IsSmall};
-ghost use Rattle.lil_session.specs.Words.{name_of_word};
-ghost use Rattle.lil_session.specs.Outcome.{settled, gives_way, devices, not_built, Answers, Blames, Finds, Headline, IsRunAnswer, MeansAnswer, Ran, ReportBlames, Runs, Shows};
+ghost use Rattle.lil_session.specs.Words.{mod_file, name_of_word};
+ghost use Rattle.lil_base.specs.declared.fault.SourceFault.{SourceFault as Fault};
+ghost use Rattle.lil_session.specs.Outcome.{settled, gives_way, devices, not_built, Answers, Blames, Finds, Headline, IsRunAnswer, IsRunnable, MeansAnswer, Ran, ReportBlames, Runs, Shows};
+ghost use Rattle.lil_volume.specs.Causes.{Rose};
 ghost use Rattle.lil_volume.specs.Told.{followed_by, FollowedByPrefix};
 ghost use Rattle.lil_session.specs.Report.{status_lines};
 ghost use Rattle.lil_session.specs.Answered.{TextRan, Call, Told};
@@ -46,6 +48,7 @@ fn run_module<S: Sink>(alloc: Global, m: &RModule, steps: u64, screen: &mut S) -
     ensures kinds { IsRunAnswer result }
     ensures spent { result ≡ Status.StepsSpent → steps ≤ 32767 }
     ensures cause { Blames Status.ScreenFault (S.faults screen.old) (S.faults screen.new) result }
+    ensures told { (result ≡ Status.ScreenFault) ⊎ (S.faults screen.new ≡ S.faults screen.old) }
 {
     match generate(alloc, m) {
         Err(_) => Status::Memory,
@@ -171,9 +174,18 @@ pub fn once<V: Volume, K: Keyboard, S: Sink, R: Sink, C: Channel>(
     ensures answer { (w : World) → Finds (V.files volume.old) (K.left keys.old) w → settled result ≡ true → (result ≡ Status.StepsSpent) ⊎ Answers (name_of_word word.now) w result }
     ensures spent { result ≡ Status.StepsSpent → o.steps ≤ 32767 }
 
+    // The screen is called only where a straight text was found, and the volume only where the words name a module.
+    ensures called { ((S.written screen.new ≡ S.written screen.old) × (S.faults screen.new ≡ S.faults screen.old)) ⊎ IsRunnable (name_of_word word.now) (V.files volume.old) }
+    ensures asked { (V.faults volume.new ≡ V.faults volume.old) ⊎ ((x : List ℕ) × (name_of_word word.now ≡ Some x)) }
+
+    // A missed file is the module's source, and a fault is number 90 at the text's start, whatever the volume tells.
+    ensures missed_is { (file : List ℕ) → result ≡ Status.NoFile file → (x : List ℕ) × (name_of_word word.now ≡ Some x) × (file ≡ mod_file x) }
+    ensures fault_is { (f : Fault) → result ≡ Status.SourceFault f → f ≡ not_built }
+
     // Each fault has its cause, and at most one of the counts of the volume and the screen rises.
     ensures volume_cause { Blames Status.VolumeFault (V.faults volume.old) (V.faults volume.new) result }
     ensures screen_cause { Blames Status.ScreenFault (S.faults screen.old) (S.faults screen.new) result }
+    ensures screen_told { (result ≡ Status.ScreenFault) ⊎ (S.faults screen.new ≡ S.faults screen.old) }
     ensures keys_cause { K.faults keys.new ≡ K.faults keys.old }
     ensures one { (V.faults volume.new ≡ V.faults volume.old) ⊎ (S.faults screen.new ≡ S.faults screen.old) }
     ensures report_cause { ReportBlames (R.faults report.old) (R.faults report.new) result }
@@ -186,6 +198,8 @@ pub fn once<V: Volume, K: Keyboard, S: Sink, R: Sink, C: Channel>(
     // The report gets the answer's lines.
     ensures lines { settled result ≡ true → R.written report.new ≡ followed_by (R.written report.old) (status_lines word.now result) }
     ensures fault_line { gives_way result ≡ true → FollowedByPrefix (R.written report.old) (status_lines [] result) (R.written report.new) }
+    // The line of a fault, or of want of memory, was tried: it stands whole, or the report failed.
+    ensures line_tried { gives_way result ≡ true → (R.written report.new ≡ followed_by (R.written report.old) (status_lines [] result)) ⊎ Rose (R.faults report.old) (R.faults report.new) }
 {
     told(alloc, word, o.steps, volume, keys, screen, report)
 }

@@ -6,9 +6,10 @@ ghost use Rattle.lil_tree.specs.Resolved.{Resolved};
 ghost use Rattle.lil_tree.specs.Straight.{IsStraight};
 ghost use Rattle.lil_meaning.specs.World.{World};
 ghost use Rattle.lil_meaning.specs.Items.{Ended, Trapped};
+ghost use Rattle.lil_volume.specs.Causes.{Rose};
 ghost use Rattle.lil_volume.specs.Told.{Files, followed_by, FollowedByPrefix};
 ghost use Rattle.lil_session.specs.Words.{mod_file, source_name};
-ghost use Rattle.lil_session.specs.Outcome.{gives_way, settled, not_built, devices, state_of, Answers, Blames, Finds, Headline, ReportBlames, Runs};
+ghost use Rattle.lil_session.specs.Outcome.{gives_way, settled, not_built, devices, state_of, Answers, Blames, Finds, Headline, IsRunnable, ReportBlames, Runs};
 ghost use Rattle.lil_session.specs.Report.{file_of, status_lines};
 ghost use Rattle.lil_session.specs.Answered.{IsAnswer, Call, Told};
 
@@ -97,9 +98,18 @@ pub fn lilith<V: Volume, K: Keyboard, S: Sink, R: Sink, C: Channel>(
     // Nothing is shown where nothing was run.
     ensures nothing { ((result ≡ Status.Usage) ⊎ (((file : List ℕ) × (result ≡ Status.NoFile file)) ⊎ (((f : Fault) × (result ≡ Status.SourceFault f)) ⊎ (result ≡ Status.VolumeFault)))) → S.written screen.new ≡ S.written screen.old }
 
+    // The screen is called only where a straight text was found, and the volume only where the words name a module.
+    ensures called { ((S.written screen.new ≡ S.written screen.old) × (S.faults screen.new ≡ S.faults screen.old)) ⊎ IsRunnable (source_name words.now) (V.files volume.old) }
+    ensures asked { (V.faults volume.new ≡ V.faults volume.old) ⊎ ((x : List ℕ) × (source_name words.now ≡ Some x)) }
+
+    // A missed file is the module's source, and a fault is number 90 at the text's start, whatever the volume tells.
+    ensures missed_is { (file : List ℕ) → result ≡ Status.NoFile file → (x : List ℕ) × (source_name words.now ≡ Some x) × (file ≡ mod_file x) }
+    ensures fault_is { (f : Fault) → result ≡ Status.SourceFault f → f ≡ not_built }
+
     // Each fault has its cause, and at most one of the counts of the volume and the screen rises.
     ensures volume_cause { Blames Status.VolumeFault (V.faults volume.old) (V.faults volume.new) result }
     ensures screen_cause { Blames Status.ScreenFault (S.faults screen.old) (S.faults screen.new) result }
+    ensures screen_told { (result ≡ Status.ScreenFault) ⊎ (S.faults screen.new ≡ S.faults screen.old) }
     ensures keys_cause { K.faults keys.new ≡ K.faults keys.old }
     ensures one { (V.faults volume.new ≡ V.faults volume.old) ⊎ (S.faults screen.new ≡ S.faults screen.old) }
     ensures report_cause { ReportBlames (R.faults report.old) (R.faults report.new) result }
@@ -112,6 +122,9 @@ pub fn lilith<V: Volume, K: Keyboard, S: Sink, R: Sink, C: Channel>(
     // The report gets the answer's lines, and at its fault a prefix of the lines of the answer that all else is as at.
     ensures lines { settled result ≡ true → R.written report.new ≡ followed_by (R.written report.old) (status_lines (file_of words.now) result) }
     ensures fault_line { gives_way result ≡ true → FollowedByPrefix (R.written report.old) (status_lines [] result) (R.written report.new) }
+    // The line of a fault, or of want of memory, was tried: it stands whole, or the report failed.
+    ensures line_tried { gives_way result ≡ true → (R.written report.new ≡ followed_by (R.written report.old) (status_lines [] result)) ⊎ Rose (R.faults report.old) (R.faults report.new) }
+    ensures report_prefix { result ≡ Status.ReportFault → (a : Status) × (settled a ≡ true) × IsAnswer a × FollowedByPrefix (R.written report.old) (status_lines (file_of words.now) a) (R.written report.new) }
     ensures report_fault { let at = devices V.files V.faults K.left K.faults S.written S.faults in
         (w : World) → Finds (V.files volume.old) (K.left keys.old) w → result ≡ Status.ReportFault →
         (a : Status) × (settled a ≡ true) × Answers (source_name words.now) w a × FollowedByPrefix (R.written report.old) (status_lines (file_of words.now) a) (R.written report.new)

@@ -9,13 +9,13 @@ pub returns-in-Err-Failed : goal.returns-in-Err-Failed
 returns-in-Err-Failed g c =
     let before = devices g.V.Volume.files g.V.Volume.faults g.K.Keyboard.left g.K.Keyboard.faults g.S.Sink.written g.S.Sink.faults c.args.volume.now c.args.keys.now c.args.screen.now in
     ran_not (Some c.args.name.now) c.args.steps before (g.V.Volume.files c.read.new.self) (g.V.Volume.faults c.read.new.self) VolumeFault
-    (inr (refl, failed_rises c.in-Err-Failed.is c.in-Err-Failed.field-0-is c.read.ensures.cause)) c.read.ensures.same c.read.ensures.cause.later
+    (inr (refl, failed_rises c.in-Err-Failed.is c.in-Err-Failed.field-0-is c.read.ensures.cause)) c.read.ensures.same c.read.ensures.cause.later (inr (c.args.name.now, refl))
 
 pub returns-in-Err-Memory : goal.returns-in-Err-Memory
 returns-in-Err-Memory g c =
     let before = devices g.V.Volume.files g.V.Volume.faults g.K.Keyboard.left g.K.Keyboard.faults g.S.Sink.written g.S.Sink.faults c.args.volume.now c.args.keys.now c.args.screen.now in
     ran_not (Some c.args.name.now) c.args.steps before (g.V.Volume.files c.read.new.self) (g.V.Volume.faults c.read.new.self) Memory
-    (inl refl) c.read.ensures.same c.read.ensures.cause.later
+    (inl refl) c.read.ensures.same c.read.ensures.cause.later (inr (c.args.name.now, refl))
 
 pub returns : goal.returns
 returns g c =

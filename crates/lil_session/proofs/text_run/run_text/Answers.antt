@@ -9,4 +9,4 @@ returns-in-Ok-Some g c =
     let straight : IsStraight c.args.name.now c.args.text.now (module_of c.in-Ok-Some.m) =
     some_of ((m : Resolved) → IsStraight c.args.name.now c.args.text.now m → ⊥) (λ m. IsStraight c.args.name.now c.args.text.now (module_of m)) c.in-Ok-Some.field-0 c.in-Ok-Some.m c.in-Ok-Some.field-0-is c.in-Ok-Some.ensures.found in
     text_ran c.args.name.now c.args.text.now (module_of c.in-Ok-Some.m) c.args.steps (g.S.Sink.written c.args.screen.now) (g.S.Sink.faults c.args.screen.now) (g.S.Sink.written c.run_module.new.screen) (g.S.Sink.faults c.run_module.new.screen) c.run_module.result
-    straight c.run_module.ensures.shows c.run_module.ensures.answer c.run_module.ensures.kinds c.run_module.ensures.spent c.run_module.ensures.cause
+    straight c.run_module.ensures.shows c.run_module.ensures.answer c.run_module.ensures.kinds c.run_module.ensures.spent c.run_module.ensures.cause c.run_module.ensures.told

@@ -1,5 +1,5 @@
 use Rattle.std.proofs.Common.{◌<◌, refl, lit<}
-use Rattle.lil_session.proofs.Telling.{headline_told, answer_told, inner_is, result_is, done_only, done_where, trapped_only, trapped_where, settles_told, no_other, nothing_told, volume_told, screen_told, lines_told, cut_told}
+use Rattle.lil_session.proofs.Telling.{headline_told, answer_told, inner_is, result_is, done_only, done_where, trapped_only, trapped_where, settles_told, no_other, nothing_told, volume_told, screen_told, lines_told, screen_fault_told, prefix_told, cut_told}
 use Rattle.lil_session.proofs.top.lilith.Goals as goal
 
 many : 32767 < 10000000
@@ -61,3 +61,15 @@ returns-clause-lines g c = lines_told c.commanded.ensures
 
 pub returns-clause-report_fault : goal.returns-clause-report_fault
 returns-clause-report_fault g c = cut_told c.commanded.ensures many
+
+pub returns-clause-screen_told : goal.returns-clause-screen_told
+returns-clause-screen_told g c = screen_fault_told c.commanded.ensures
+
+pub returns-clause-missed_is : goal.returns-clause-missed_is
+returns-clause-missed_is g c = λ file missed. c.commanded.ensures.ran.missed_is file (inner_is c.commanded.ensures refl missed)
+
+pub returns-clause-fault_is : goal.returns-clause-fault_is
+returns-clause-fault_is g c = λ f fault. c.commanded.ensures.ran.fault_is f (inner_is c.commanded.ensures refl fault)
+
+pub returns-clause-report_prefix : goal.returns-clause-report_prefix
+returns-clause-report_prefix g c = prefix_told c.commanded.ensures many
