@@ -1,11 +1,11 @@
 -- One step of a run, as it is shown.
-use Rattle.std.proofs.Common.{◌≡◌, ℕ, ◌+◌, ◌<◌, ◌≤◌, true, Option, Some, None, List, [], ◌∷◌, ◌++◌, length, refl, sym, ap, ◌∙◌, subst}
+use Rattle.std.proofs.Common.{◌≡◌, ℕ, ◌<◌, true, Option, Some, List, [], length, refl, sym, ap, ◌∙◌, subst}
 use Rattle.std.proofs.lemmas.List.{append-nil}
 use Rattle.lil_meaning.specs.World.{World, serve, piece_of}
 use Rattle.lil_volume.specs.Told.{followed_by, FollowedByPrefix}
 use Rattle.lil_volume.proofs.Laws.{followed_nothing}
 use Rattle.lil_mcode.specs.declared.machine.Event.{Event}
-use Rattle.lil_mcode.specs.declared.machine.Event.TheVariants.{Went, Request}
+use Rattle.lil_mcode.specs.declared.machine.Event.TheVariants.{Request}
 use Rattle.lil_mcode.specs.State.{Module, State, module_at}
 use Rattle.lil_mcode.specs.Table.{mstep, request_words}
 use Rattle.lil_session.specs.Running.{Finish, Running, Run, running, react, requested, words_taken, arguments, taken, IsAlone, IsStep, IsRefused}

@@ -1,8 +1,6 @@
 -- Steps of a body that runs alone: the place rises at each step that goes on, and the tables stay.
-use Rattle.std.proofs.Common.{◌≡◌, ℕ, ◌+◌, ◌*◌, ◌<◌, ◌≤◌, Bool, true, false, cond, Option, Some, None, Result, Ok, Err, List, [], ◌∷◌, length, refl, sym, ap, ◌∙◌, subst, ◌⊎◌, inl, inr, arith, eq-eqb}
-use Rattle.std.specs.Prelude.{ℤ, slice_get, slice_index, slice_set, nat_lt, nat_le, ◌==◌, option_and_then}
-use Rattle.std.proofs.lemmas.Bool.{cases_Bool, leb-true, eqb-true}
-use Rattle.std.proofs.lemmas.Option.{slice_get_within, option_and_then_some}
+use Rattle.std.proofs.Common.{◌≡◌, ℕ, ◌+◌, ◌<◌, ◌≤◌, Bool, true, false, cond, Option, Some, None, Result, Ok, Err, List, [], ◌∷◌, length, refl, sym, ap, ◌∙◌, subst, arith, eq-eqb}
+use Rattle.std.specs.Prelude.{ℤ}
 use Rattle.lil_base.specs.Words.{Cardinal, sum, difference}
 use Rattle.lil_base.specs.declared.fault.ArithFault.{ArithFault}
 use Rattle.lil_base.specs.declared.fault.LimitKind.TheVariants as limit
@@ -12,7 +10,7 @@ use Rattle.lil_mcode.specs.declared.machine.Event.{Event}
 use Rattle.lil_mcode.specs.declared.machine.Event.TheVariants.{Went, Request, LevelEnded, Trap, Limit, BadCode}
 use Rattle.lil_mcode.specs.Bytes.{decoded}
 use Rattle.lil_mcode.specs.State.{Module, State, module_at}
-use Rattle.lil_mcode.specs.Table.{mstep, act, fetched, performed, result_row, two_row, on_one, range_row, store_row, request_row, request_words, leave_row, end_row, return_row}
+use Rattle.lil_mcode.specs.Table.{mstep, act, fetched, performed, result_row, two_row, on_one, range_row, store_row, request_row, request_words, leave_row, end_row}
 use Rattle.lil_mcode.proofs.Decoding.{Stands, decoded_stands}
 use Rattle.lil_session.specs.Running.{IsAlone}
 use Rattle.lil_session.proofs.Homes.{yes}

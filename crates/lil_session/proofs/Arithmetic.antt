@@ -1,17 +1,16 @@
 -- The machine's operators on words are the meaning's on scalars.
-use Rattle.std.proofs.Common.{◌≡◌, ℕ, zero, suc, ◌+◌, ◌-◌, ◌<◌, ◌≤◌, Bool, true, false, cond, not, ◌&&◌, List, [], ◌∷◌, Option, Some, None, Result, Ok, Err, refl, sym, ap, ◌∙◌, subst, ◌⊎◌, inl, inr, ⊎_elim, arith}
+use Rattle.std.proofs.Common.{◌≡◌, ℕ, ◌-◌, ◌<◌, ◌≤◌, Bool, true, false, cond, not, ◌&&◌, Some, Ok, Err, refl, ap, ◌∙◌, subst, ◌⊎◌, inl, inr, arith}
 use Rattle.std.specs.Prelude.{ℤ, pos, negsuc, int_lt, nat_lt, nat_le}
-use Rattle.std.proofs.lemmas.Bool.{lt-ltb, le-ltb, cases_Bool, and_parts, ltb-true, le-leb, leb-true}
+use Rattle.std.proofs.lemmas.Bool.{lt-ltb, le-ltb, cases_Bool, and_parts}
 use Rattle.lil_base.specs.declared.fault.ArithFault.{ArithFault}
-use Rattle.lil_base.specs.Words.{Whole, Cardinal, Integer, between, in_type, kept, sum, difference, number_of, word_of}
+use Rattle.lil_base.specs.Words.{Whole, Cardinal, Integer, between, in_type, kept, number_of, word_of}
 use Rattle.lil_tree.specs.declared.syntax.TwoOp.{TwoOp}
 use Rattle.lil_tree.specs.declared.syntax.TwoOp.TheVariants.{Plus, Minus}
-use Rattle.lil_tree.specs.Kinds.{Kind, OfWhole, OfCharacter}
+use Rattle.lil_tree.specs.Kinds.{OfWhole}
 use Rattle.lil_tree.specs.Scalars.{Scalar, Number, Truth, Character, SetOf, ToObject, ToWorkspace, ToProcedure, ToCoroutine, Nothing, within, scalar_word}
 use Rattle.lil_meaning.specs.Steps.{whole_of, operation}
 use Rattle.lil_mcode.specs.declared.instr.Instr.{Instr}
 use Rattle.lil_mcode.specs.declared.instr.Instr.TheVariants.{Adc, Sbc}
-use Rattle.lil_mcode.specs.declared.machine.Event.{Event}
 use Rattle.lil_mcode.specs.State.{Module, State}
 use Rattle.lil_mcode.specs.Table.{act, two_row}
 use Rattle.lil_session.specs.Rows.{operation_code}

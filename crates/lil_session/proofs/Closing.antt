@@ -1,7 +1,7 @@
 -- The activation at hand, from any row.
-use Rattle.std.proofs.Common.{◌≡◌, ℕ, List, [], ◌∷◌, refl}
-use Rattle.lil_tree.specs.Resolved.{Designator, Variable, Function, Chr}
-use Rattle.lil_meaning.specs.Items.{Datum, Scalars, Places, Get, SetTo, StoreAt, LeftOf, RightOf, ApplyTo, Pass, Do, Passing, End, Item, Value, Evaluate, PlaceOf, Fill, Perform}
+use Rattle.std.proofs.Common.{◌≡◌, ℕ, List, [], ◌∷◌}
+use Rattle.lil_tree.specs.Resolved.{Variable, Chr}
+use Rattle.lil_meaning.specs.Items.{Scalars, Places, Get, SetTo, StoreAt, LeftOf, RightOf, ApplyTo, Pass, Do, Passing, End, Item, Value, Evaluate, PlaceOf, Fill, Perform}
 use Rattle.lil_meaning.specs.Steps.{current}
 use Rattle.lil_mcode.specs.State.{Module}
 use Rattle.lil_session.specs.Rows.{Layout}

@@ -1,15 +1,14 @@
 -- One step of the source, from any matched state.
-use Rattle.std.proofs.Common.{◌≡◌, ℕ, List, [], ◌∷◌, refl}
-use Rattle.lil_base.specs.Words.{Whole}
+use Rattle.std.proofs.Common.{◌≡◌, ℕ, List, [], ◌∷◌}
 use Rattle.lil_tree.specs.Kinds.{Kind}
 use Rattle.lil_tree.specs.Scalars.{Scalar}
-use Rattle.lil_tree.specs.Resolved.{Designator, Variable, Function, Chr, Expression, Constant, Taken, Two, Apply, Argument, Statement, Assign, Request, Resolved}
+use Rattle.lil_tree.specs.Resolved.{Variable, Chr, Expression, Constant, Taken, Two, Apply, Assign, Request, Resolved}
 use Rattle.lil_meaning.specs.Cells.{Place}
-use Rattle.lil_meaning.specs.Items.{Datum, Scalars, Places, Hole, Get, SetTo, StoreAt, LeftOf, RightOf, ApplyTo, Pass, Task, Do, Passing, End, Item, Value, Evaluate, PlaceOf, Fill, Perform, Source}
+use Rattle.lil_meaning.specs.Items.{Scalars, Places, Hole, Get, SetTo, StoreAt, LeftOf, RightOf, ApplyTo, Pass, Task, Do, Passing, End, Item, Value, Evaluate, PlaceOf, Fill, Perform, Source}
 use Rattle.lil_mcode.specs.State.{Module, State}
 use Rattle.lil_session.specs.Rows.{Layout}
 use Rattle.lil_session.proofs.Homes.{Home}
-use Rattle.lil_session.proofs.Matched.{Mode, Quiet, ValueOf, Direct, Rows, Ahead, Shared, Goes}
+use Rattle.lil_session.proofs.Matched.{Quiet, ValueOf, Direct, Ahead, Shared, Goes}
 use Rattle.lil_session.proofs.Expressions.{constant_goes, taken_goes, two_goes, apply_goes, place_goes, get_goes, left_goes, right_goes, chr_goes}
 use Rattle.lil_session.proofs.Tasks.{assign_goes, set_goes, store_goes, request_goes, passing_goes, pass_goes, serve_goes, end_goes, ended_goes}
 

@@ -1,5 +1,5 @@
 -- What the run of a translation shows, and how it ends.
-use Rattle.std.proofs.Common.{◌≡◌, ◌≢◌, ℕ, zero, suc, ◌+◌, ◌<◌, ◌≤◌, true, Option, Some, None, List, [], ◌∷◌, ◌++◌, length, refl, sym, ap, ◌∙◌, subst, ◌⊎◌, inl, inr, ⊎_elim, arith}
+use Rattle.std.proofs.Common.{◌≡◌, ◌≢◌, ℕ, zero, suc, true, Option, Some, None, List, [], ◌∷◌, ◌++◌, refl, sym, ap, ◌∙◌, subst, ◌⊎◌, inl, inr, arith}
 use Rattle.std.proofs.lemmas.List.{append-nil}
 use Rattle.std.specs.Ordering.{nat_cmp}
 use Rattle.std.specs.Cmp.Lexicographic.{slice_cmp}
@@ -7,8 +7,7 @@ use Rattle.std.specs.FinMap.{from_entries}
 use Rattle.lil_base.specs.declared.fault.TrapKind.{TrapKind}
 use Rattle.lil_tree.specs.Resolved.{Resolved}
 use Rattle.lil_meaning.specs.World.{World}
-use Rattle.lil_meaning.specs.Items.{Phase, Going, Closing, Ended, Trapped, Source}
-use Rattle.lil_volume.specs.Causes.{Rose}
+use Rattle.lil_meaning.specs.Items.{Phase, Source}
 use Rattle.lil_volume.specs.Told.{followed_by, FollowedByPrefix}
 use Rattle.lil_volume.proofs.Laws.{all_taken, followed_nothing}
 use Rattle.lil_mcode.specs.declared.machine.Event.{Event}
@@ -21,13 +20,13 @@ use Rattle.lil_session.specs.declared.run.Ending.{Ending}
 use Rattle.lil_session.specs.declared.run.Ending.TheVariants as ending
 use Rattle.lil_session.specs.declared.status.Status.{Status}
 use Rattle.lil_session.specs.declared.status.Status.TheVariants as a
-use Rattle.lil_tree.specs.Sizes.{IsSmall, code_size}
+use Rattle.lil_tree.specs.Sizes.{IsSmall}
 use Rattle.lil_session.specs.Rows.{Translates}
 use Rattle.lil_session.specs.Running.{Finish, Running, Finished, TrappedBy, Limited, Broken, Run, mrun, running, react, advanced, unless_over, IsAlone, finish_of, HasRun, IsCut}
-use Rattle.lil_session.specs.Loaded.{body_alone, loaded, IsAtBody, body_trap, EndingAnswers, IsPossible}
+use Rattle.lil_session.specs.Loaded.{body_alone, IsAtBody, EndingAnswers, IsPossible}
 use Rattle.lil_session.specs.Outcome.{settled, Shows, Allowed, EndsSo, MeansAnswer, IsRunAnswer, Blames, state_of}
 use Rattle.lil_session.proofs.Whole.{Agrees}
-use Rattle.lil_session.proofs.Start.{own, begun_at, loaded_state, correct}
+use Rattle.lil_session.proofs.Start.{own, begun_at, correct}
 
 -- a run keeps the keys and the writes: no request reads or writes them yet
 record Keeps (old new : World) : Type 0 where

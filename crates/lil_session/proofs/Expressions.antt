@@ -1,5 +1,5 @@
 -- The rows of expressions: from a matched state the machine comes to a matched state.
-use Rattle.std.proofs.Common.{◌≡◌, ℕ, zero, suc, ◌+◌, ◌<◌, ◌≤◌, Bool, true, false, ◌&&◌, cond, Option, Some, None, Result, Ok, Err, List, [], ◌∷◌, length, get_or, refl, sym, ap, ◌∙◌, subst, ◌⊎◌, inl, inr, ⊎_elim, arith}
+use Rattle.std.proofs.Common.{◌≡◌, ℕ, ◌+◌, ◌<◌, Bool, true, false, ◌&&◌, cond, Result, Ok, Err, List, [], ◌∷◌, length, get_or, refl, sym, ap, ◌∙◌, subst, ⊎_elim, arith}
 use Rattle.std.specs.Prelude.{ℤ, pos, nat_le, slice_get}
 use Rattle.std.proofs.lemmas.Bool.{lt-ltb}
 use Rattle.lil_base.specs.Words.{Whole, Cardinal, in_type, number_of, between, word_of}
@@ -7,26 +7,23 @@ use Rattle.lil_base.specs.Traps.{arith_trap}
 use Rattle.lil_base.specs.declared.fault.ArithFault.{ArithFault}
 use Rattle.lil_base.specs.declared.fault.TrapKind.{TrapKind}
 use Rattle.lil_base.specs.declared.fault.TrapKind.TheVariants as trap
-use Rattle.lil_base.specs.declared.fault.TrapAt.{TrapAt}
 use Rattle.lil_tree.specs.declared.syntax.TwoOp.{TwoOp}
 use Rattle.lil_tree.specs.Kinds.{Kind, OfWhole, OfCharacter}
 use Rattle.lil_tree.specs.Scalars.{Scalar, Number, Character, within, scalar_word}
-use Rattle.lil_tree.specs.Resolved.{Designator, Variable, Function, Chr, Expression, Constant, Taken, Two, Apply, Argument, Resolved, kind_of}
+use Rattle.lil_tree.specs.Resolved.{Variable, Chr, Expression, Constant, Taken, Two, Apply, Resolved, kind_of}
 use Rattle.lil_meaning.specs.Cells.{Global, Place, got, loaded_at}
-use Rattle.lil_meaning.specs.World.{World}
-use Rattle.lil_meaning.specs.Items.{Datum, Scalars, Places, Get, LeftOf, RightOf, ApplyTo, Item, Value, Evaluate, PlaceOf, Fill, Phase, Going, Source}
-use Rattle.lil_meaning.specs.Steps.{next, answered, operation, outcome, whole_of, function_value, current, owner_of, module_now, name_of, trapped, trap_at}
-use Rattle.lil_mcode.specs.declared.instr.Instr.{Instr}
+use Rattle.lil_meaning.specs.Items.{Scalars, Places, Get, LeftOf, RightOf, ApplyTo, Item, Value, Evaluate, PlaceOf, Fill, Going, Source}
+use Rattle.lil_meaning.specs.Steps.{answered, operation, outcome, whole_of, function_value, current, owner_of, name_of, trapped, trap_at}
 use Rattle.lil_mcode.specs.declared.instr.Instr.TheVariants.{Liw, Lgw, Rgc}
 use Rattle.lil_mcode.specs.declared.machine.Event.{Event}
 use Rattle.lil_mcode.specs.declared.machine.Event.TheVariants.{Went, Trap}
 use Rattle.lil_mcode.specs.State.{Module, State}
-use Rattle.lil_mcode.specs.Table.{mstep, act, going, push_row, load_row, on_one, range_row, two_row, result_row}
+use Rattle.lil_mcode.specs.Table.{mstep, going, push_row, on_one, range_row, two_row, result_row}
 use Rattle.lil_session.specs.Rows.{Layout}
 use Rattle.lil_session.specs.Running.{running, react}
 use Rattle.lil_session.proofs.Homes.{yes, no, Home}
-use Rattle.lil_session.proofs.Matched.{Mode, Quiet, ValueOf, Direct, Rows, Ahead, Shared, EvaluateRow, ScalarRow, LeftRow, RightRow, ChrRow, PlaceRow, GetRow, DirectRow, IsVariable, Goes, IsTrapped, Lands, weight}
-use Rattle.lil_session.proofs.Steps.{advances, pushes, at_step, shared_there, lands_on, LandsAt, goes_none, goes_one}
+use Rattle.lil_session.proofs.Matched.{Mode, Quiet, ValueOf, Direct, Rows, Shared, EvaluateRow, ScalarRow, PlaceRow, DirectRow, IsVariable, Goes, IsTrapped, Lands}
+use Rattle.lil_session.proofs.Steps.{advances, pushes, at_step, lands_on, goes_none, goes_one}
 use Rattle.lil_session.proofs.Closing.{closed}
 use Rattle.lil_session.proofs.Arithmetic.{reads, act_operation, operation_fits, chr_cases}
 

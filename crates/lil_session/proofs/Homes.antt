@@ -1,5 +1,5 @@
 -- Where the meaning's cells lie in the store.
-use Rattle.std.proofs.Common.{◌≡◌, ℕ, ◌+◌, ◌<◌, ◌≤◌, Bool, true, false, ◌&&◌, cond, eqb, List, [], ◌∷◌, length, get_or, set, refl, sym, ap, ◌∙◌, subst, ◌⊎◌, inl, inr, arith, length-set}
+use Rattle.std.proofs.Common.{◌≡◌, ℕ, ◌<◌, Bool, true, false, cond, eqb, List, [], length, get_or, set, refl, sym, ap, ◌∙◌, ◌⊎◌, inl, inr, arith, length-set}
 use Rattle.std.proofs.lemmas.Bool.{eq-eqb, cases_Bool, eqb-true, and_parts, and_from}
 use Rattle.std.proofs.lemmas.List.{get_or-set_same, get_or-set_other}
 use Rattle.lil_tree.specs.Kinds.{Kind}

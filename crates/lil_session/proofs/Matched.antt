@@ -1,17 +1,16 @@
 -- Matched states: the code at hand does the items that are left. The rows of items speak of homes and of the expression stack, and
 -- never of the store or of the cells.
-use Rattle.std.proofs.Common.{◌≡◌, ℕ, zero, suc, ◌+◌, ◌<◌, ◌≤◌, true, Option, Some, None, List, [], ◌∷◌, length, map, reverse}
+use Rattle.std.proofs.Common.{◌≡◌, ℕ, suc, ◌+◌, ◌<◌, ◌≤◌, true, Some, None, List, [], ◌∷◌, length, map, reverse}
 use Rattle.std.specs.Prelude.{slice_get}
 use Rattle.lil_base.specs.Words.{Whole, Cardinal}
 use Rattle.lil_base.specs.declared.fault.TrapAt.{TrapAt}
-use Rattle.lil_base.specs.declared.fault.TrapKind.{TrapKind}
 use Rattle.lil_tree.specs.declared.syntax.TwoOp.{TwoOp}
 use Rattle.lil_tree.specs.Kinds.{Kind, OfWhole, OfCharacter}
 use Rattle.lil_tree.specs.Scalars.{Scalar, within, scalar_word}
 use Rattle.lil_tree.specs.Resolved.{Designator, Variable, Function, Chr, Expression, Constant, Taken, Two, Apply, Argument, Statement, Assign, Request, Resolved, kind_of}
-use Rattle.lil_meaning.specs.Cells.{Global, Place, Cells, loaded_at}
+use Rattle.lil_meaning.specs.Cells.{Global, Place, loaded_at}
 use Rattle.lil_meaning.specs.World.{World}
-use Rattle.lil_meaning.specs.Items.{Datum, Scalars, Places, Hole, Get, SetTo, StoreAt, LeftOf, RightOf, ApplyTo, Pass, Task, Do, Passing, End, Item, Value, Evaluate, PlaceOf, Fill, Perform, Activation, Parked, Phase, Going, Closing, Ended, Trapped, Source}
+use Rattle.lil_meaning.specs.Items.{Datum, Scalars, Places, Hole, Get, SetTo, StoreAt, LeftOf, RightOf, ApplyTo, Pass, Task, Do, Passing, End, Item, Value, Evaluate, PlaceOf, Fill, Perform, Parked, Phase, Going, Closing, Ended, Trapped, Source}
 use Rattle.lil_meaning.specs.Steps.{next, owner_of, name_of}
 use Rattle.lil_mcode.specs.declared.instr.Instr.{Instr}
 use Rattle.lil_mcode.specs.declared.instr.Instr.TheVariants.{Lgw, Sgw, Rgc, Rtn, Svc}

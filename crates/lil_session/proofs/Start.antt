@@ -1,17 +1,16 @@
 -- From a loaded program.
-use Rattle.std.proofs.Common.{◌≡◌, ℕ, zero, suc, ◌+◌, ◌-◌, ◌*◌, ◌<◌, ◌≤◌, Bool, true, false, ◌&&◌, cond, eqb, Option, Some, None, List, [], ◌∷◌, ◌++◌, length, get_or, refl, sym, ap, ◌∙◌, subst, ◌⊎◌, inl, inr, ⊎_elim, arith}
+use Rattle.std.proofs.Common.{◌≡◌, ℕ, zero, suc, ◌+◌, ◌-◌, ◌*◌, ◌<◌, true, cond, Option, Some, None, List, [], ◌∷◌, length, get_or, refl, sym, ap, ◌∙◌, subst, arith}
 use Rattle.std.specs.Prelude.{slice_get, nat_lt, nat_le}
-use Rattle.std.proofs.lemmas.Bool.{le-leb, le-ltb, lt-ltb, cases_Bool, and_parts, eqb-true}
+use Rattle.std.proofs.lemmas.Bool.{le-leb, le-ltb, lt-ltb}
 use Rattle.std.proofs.lemmas.Option.{slice_get_within}
-use Rattle.lil_base.specs.Words.{Whole, Cardinal, Integer}
+use Rattle.lil_base.specs.Words.{Cardinal, Integer}
 use Rattle.lil_tree.specs.Kinds.{Kind, OfWhole, OfCharacter}
-use Rattle.lil_tree.specs.Scalars.{Scalar, within, scalar_word, zero_of}
+use Rattle.lil_tree.specs.Scalars.{within, scalar_word, zero_of}
 use Rattle.lil_tree.specs.Resolved.{Statement, Resolved}
-use Rattle.lil_meaning.specs.Cells.{Root, Global, Local, Object, Cells, zero_by, fresh_cells}
+use Rattle.lil_meaning.specs.Cells.{Root, Global, Local, Object, zero_by, fresh_cells}
 use Rattle.lil_meaning.specs.World.{World}
-use Rattle.lil_meaning.specs.Items.{Item, Perform, End, Phase, Going, Source}
+use Rattle.lil_meaning.specs.Items.{Item, Perform, End}
 use Rattle.lil_meaning.specs.Runs.{doing, begun}
-use Rattle.lil_mcode.specs.declared.instr.Instr.TheVariants.{Ent}
 use Rattle.lil_mcode.specs.declared.machine.Event.TheVariants.{Went}
 use Rattle.lil_mcode.specs.State.{Module, State, spliced, zeros, cleared}
 use Rattle.lil_mcode.specs.Table.{begun_body}
@@ -20,9 +19,9 @@ use Rattle.lil_session.specs.Rows.{Layout, BodyAt, offsets_from, layout_of, Tran
 use Rattle.lil_session.specs.Running.{Run, mrun, running, advanced}
 use Rattle.lil_session.specs.Loaded.{body_alone, loaded}
 use Rattle.lil_session.specs.Outcome.{state_of}
-use Rattle.lil_session.proofs.Homes.{yes, no, Type', Absent, Word, Owner, Of, Own, Free, Home, Mem, IsWord}
-use Rattle.lil_session.proofs.Matched.{Quiet, Rows, Ahead, Shared, IsVariable, IsStill}
-use Rattle.lil_session.proofs.Steps.{advances, at_step, rows_ahead}
+use Rattle.lil_session.proofs.Homes.{yes, no, Type', Absent, Word, Owner, Of, Own, Free, Home, Mem}
+use Rattle.lil_session.proofs.Matched.{Quiet, Rows, Ahead, Shared}
+use Rattle.lil_session.proofs.Steps.{advances, rows_ahead}
 use Rattle.lil_session.proofs.Splices.{spliced_length, spliced_before, spliced_there, zeros_length, zeros_word, cleared_none}
 use Rattle.lil_session.proofs.Whole.{Agrees, still_agrees, follows}
 

@@ -1,10 +1,10 @@
 -- One step of the source from steps of the machine.
-use Rattle.std.proofs.Common.{◌≡◌, ℕ, zero, suc, ◌+◌, ◌<◌, ◌≤◌, Bool, true, false, cond, List, [], ◌∷◌, length, refl, sym, ap, ◌∙◌, subst, arith}
+use Rattle.std.proofs.Common.{◌≡◌, ℕ, zero, suc, ◌<◌, List, [], ◌∷◌, length, refl, sym, ap, ◌∙◌, subst, arith}
 use Rattle.std.proofs.lemmas.Bool.{lt-ltb}
 use Rattle.lil_base.specs.declared.fault.LimitKind.TheVariants as limit
 use Rattle.lil_tree.specs.Resolved.{Resolved}
 use Rattle.lil_meaning.specs.World.{World}
-use Rattle.lil_meaning.specs.Items.{Item, Phase, Going, Source}
+use Rattle.lil_meaning.specs.Items.{Item, Going, Source}
 use Rattle.lil_meaning.specs.Steps.{next}
 use Rattle.lil_mcode.specs.declared.instr.Instr.{Instr}
 use Rattle.lil_mcode.specs.declared.machine.Event.{Event}
@@ -12,9 +12,9 @@ use Rattle.lil_mcode.specs.declared.machine.Event.TheVariants.{Went, Limit}
 use Rattle.lil_mcode.specs.State.{Module, State, module_at}
 use Rattle.lil_mcode.specs.Table.{mstep, act, fetched, performed, going, push_row}
 use Rattle.lil_session.specs.Rows.{Layout, IsAt}
-use Rattle.lil_session.specs.Running.{Running, Run, mrun, running, react, advanced}
+use Rattle.lil_session.specs.Running.{Run, mrun, running, react, advanced}
 use Rattle.lil_session.proofs.Homes.{yes, Home}
-use Rattle.lil_session.proofs.Matched.{Mode, Quiet, Rows, Ahead, IsProgram, Shared, IsMatched, GoesOn, Lands, weight, IsStill, Goes}
+use Rattle.lil_session.proofs.Matched.{Quiet, Rows, Ahead, IsProgram, Shared, GoesOn, Lands, weight, IsStill, Goes}
 
 -- a step of the machine, as its row says
 pub advances : (m : State) (w : World) (r : Event × State) → mstep m ≡ r → advanced (running m w) ≡ react r.0 r.1 (running m w)

@@ -1,25 +1,24 @@
 -- The rows of statements, arguments and requests, of a store, and of the end of the last body.
-use Rattle.std.proofs.Common.{◌≡◌, ℕ, zero, suc, ◌+◌, ◌<◌, ◌≤◌, Bool, true, false, cond, Option, Some, None, List, [], ◌∷◌, ◌++◌, length, map, reverse, take, drop, get_or, set, refl, sym, ap, ◌∙◌, subst, arith, eq-eqb}
-use Rattle.std.specs.Prelude.{slice_get, nat_lt, nat_le, ◌==◌}
+use Rattle.std.proofs.Common.{◌≡◌, ℕ, suc, ◌+◌, ◌<◌, Bool, true, cond, Option, Some, List, [], ◌∷◌, ◌++◌, length, map, reverse, take, drop, set, refl, sym, ap, ◌∙◌, subst, arith, eq-eqb}
+use Rattle.std.specs.Prelude.{nat_le}
 use Rattle.std.proofs.lemmas.Bool.{lt-ltb, le-leb}
 use Rattle.std.proofs.lemmas.List.{reverse-append, reverse-reverse, length-reverse, map-append, length-map, take_all, drop_all}
 use Rattle.std.proofs.Common.{length-append}
 use Rattle.lil_base.specs.declared.fault.TrapKind.TheVariants as trap
 use Rattle.lil_tree.specs.Kinds.{Kind}
 use Rattle.lil_tree.specs.Scalars.{Scalar, within, scalar_word}
-use Rattle.lil_tree.specs.Resolved.{Variable, Expression, Argument, Assign, Request, Resolved, kind_of}
-use Rattle.lil_meaning.specs.Cells.{Place, Cells, stored, alone}
+use Rattle.lil_tree.specs.Resolved.{Variable, Expression, Argument, Assign, Request, Resolved}
+use Rattle.lil_meaning.specs.Cells.{Place, stored, alone}
 use Rattle.lil_meaning.specs.World.{World, serve}
-use Rattle.lil_meaning.specs.Items.{Scalars, Places, SetTo, StoreAt, Pass, Do, Passing, End, Item, Value, Evaluate, PlaceOf, Fill, Perform, Phase, Going, Source}
+use Rattle.lil_meaning.specs.Items.{Scalars, Places, SetTo, StoreAt, Pass, Do, Passing, End, Item, Value, Evaluate, PlaceOf, Fill, Perform, Going, Source}
 use Rattle.lil_meaning.specs.Steps.{trapped, with_items}
 use Rattle.lil_mcode.specs.declared.instr.Instr.TheVariants.{Sgw, Rtn, Svc}
-use Rattle.lil_mcode.specs.declared.machine.Event.{Event}
-use Rattle.lil_mcode.specs.declared.machine.Event.TheVariants.{Went, LevelEnded, Request as Asks}
+use Rattle.lil_mcode.specs.declared.machine.Event.TheVariants.{LevelEnded}
 use Rattle.lil_mcode.specs.State.{Module, State}
-use Rattle.lil_mcode.specs.Table.{going, on_one, store_row, request_row, request_words, end_row, return_row}
+use Rattle.lil_mcode.specs.Table.{going, on_one, store_row, request_row, end_row}
 use Rattle.lil_session.specs.Rows.{Layout, StatementAt}
-use Rattle.lil_session.specs.Running.{Running, Finished, Run, running, requested, words_taken, arguments}
-use Rattle.lil_session.proofs.Homes.{yes, no, Home, Word, Mem, whole_root, mem_stored}
+use Rattle.lil_session.specs.Running.{Running, Finished, Run, running, requested, words_taken}
+use Rattle.lil_session.proofs.Homes.{yes, Home, Word, Mem, whole_root, mem_stored}
 use Rattle.lil_session.proofs.Matched.{Mode, Quiet, ValueOf, Direct, Rows, Ahead, Shared, IsMatched, words_on, DoRow, ScalarRow, SetRow, DirectRow, StoreRow, PassRow, PassingRow, ServeRow, EndRow, EndedRow, IsVariable, Goes, Lands}
 use Rattle.lil_session.proofs.Steps.{advances, at_step, rows_ahead, lands_on, goes_none, goes_one}
 

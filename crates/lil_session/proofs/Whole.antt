@@ -1,12 +1,11 @@
 -- Whole runs: after any number of steps, the machine has shown what some state of the meaning has.
-use Rattle.std.proofs.Common.{◌≡◌, ◌≢◌, ℕ, zero, suc, ◌+◌, ◌-◌, ◌*◌, ◌<◌, ◌≤◌, List, [], ◌∷◌, Option, Some, None, refl, sym, ap, ◌∙◌, subst, ⊎_elim, arith}
+use Rattle.std.proofs.Common.{◌≡◌, ◌≢◌, ℕ, zero, suc, ◌+◌, ◌-◌, ◌*◌, ◌<◌, ◌≤◌, List, Option, None, refl, sym, ap, ◌∙◌, subst, ⊎_elim, arith}
 use Rattle.std.proofs.lemmas.Bool.{cases_lt}
 use Rattle.lil_base.specs.declared.fault.TrapKind.{TrapKind}
 use Rattle.lil_base.specs.declared.fault.LimitKind.{LimitKind}
 use Rattle.lil_base.specs.declared.fault.TrapAt.{TrapAt}
 use Rattle.lil_tree.specs.Resolved.{Resolved}
 use Rattle.lil_meaning.specs.Cells.{loaded_at}
-use Rattle.lil_meaning.specs.World.{World}
 use Rattle.lil_meaning.specs.Items.{Item, Phase, Going, Closing, Ended, Trapped, Source}
 use Rattle.lil_meaning.specs.Steps.{next, by_phase, name_of}
 use Rattle.lil_meaning.specs.Runs.{after}
@@ -15,7 +14,7 @@ use Rattle.lil_mcode.specs.Table.{mstep}
 use Rattle.lil_session.specs.Rows.{Layout}
 use Rattle.lil_session.specs.Running.{Finish, Running, Finished, TrappedBy, Limited, Broken, Run, mrun, running, react, advanced, unless_over}
 use Rattle.lil_session.proofs.Homes.{Home}
-use Rattle.lil_session.proofs.Matched.{Quiet, Ahead, Shared, IsMatched, GoesOn, IsOver, IsTrapped, Lands, weight, IsStill, Goes}
+use Rattle.lil_session.proofs.Matched.{Quiet, Ahead, Shared, Lands, weight, IsStill, Goes}
 use Rattle.lil_session.proofs.Each.{each_step}
 
 -- The run has the world of the source's state, and is over only where the source is, in the same way: a trap is in the body of a module.

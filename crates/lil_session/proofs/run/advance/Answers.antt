@@ -1,9 +1,9 @@
-use Rattle.std.proofs.Common.{◌≡◌, ℕ, ◌<◌, true, refl, sym, ap, ◌∙◌, subst}
+use Rattle.std.proofs.Common.{ℕ, ◌<◌, refl, sym, ap, subst}
 use Rattle.lil_mcode.specs.declared.machine.Event.TheVariants.{Went, Request, LevelEnded, Trap, Limit, BadCode}
 use Rattle.lil_mcode.specs.State.{State}
 use Rattle.lil_mcode.specs.Calls.{Machine}
-use Rattle.lil_session.specs.Running.{Running, Finished, TrappedBy, Limited, Broken, taken, IsAlone}
-use Rattle.lil_session.proofs.Advancing.{step_quiet, step_writes, step_refused, moves_at, within_at, alone_taken}
+use Rattle.lil_session.specs.Running.{Running, Finished, TrappedBy, Limited, Broken, IsAlone}
+use Rattle.lil_session.proofs.Advancing.{step_quiet, step_writes, moves_at, within_at, alone_taken}
 use Rattle.lil_mcode.proofs.Requests.{request_is_two}
 use Rattle.lil_session.proofs.run.advance.Goals as goal
 

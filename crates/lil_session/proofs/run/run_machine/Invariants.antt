@@ -1,8 +1,8 @@
-use Rattle.std.proofs.Common.{◌≡◌, ◌≤◌, ◌<◌, ℕ, [], length, Some}
+use Rattle.std.proofs.Common.{◌≡◌, ◌≤◌, [], length, Some}
 use Rattle.lil_meaning.specs.World.{World}
 use Rattle.lil_mcode.specs.State.{Module, module_at}
 use Rattle.lil_volume.specs.Told.{followed_by}
-use Rattle.lil_session.specs.Running.{Run, mrun, running, IsAlone}
+use Rattle.lil_session.specs.Running.{mrun, running, IsAlone}
 use Rattle.lil_session.proofs.run.run_machine.Given as goal
 
 -- the machine has come so far, and what its steps added is shown

@@ -1,4 +1,4 @@
-use Rattle.std.proofs.Common.{◌≡◌, ℕ, List, Option, Some, None, refl, sym, ap, ◌∙◌}
+use Rattle.std.proofs.Common.{◌≡◌, ℕ, Some, None, sym, ap, ◌∙◌}
 use Rattle.lil_mcode.specs.Calls.{names_of}
 use Rattle.lil_session.proofs.Endings.{body_names}
 use Rattle.lil_session.proofs.run.trap_of.Goals as goal
