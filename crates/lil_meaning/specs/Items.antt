@@ -2,7 +2,7 @@
 use Rattle.std.specs.Prelude.{ℕ, List, Option}
 use Rattle.lil_base.specs.Words.{Whole}
 use Rattle.lil_base.specs.declared.fault.TrapAt.{TrapAt}
-use Rattle.lil_tree.specs.declared.syntax.TwoOp.{TwoOp}
+use Rattle.lil_tree.specs.declared.operator.TwoOp.{TwoOp}
 use Rattle.lil_tree.specs.Kinds.{Kind}
 use Rattle.lil_tree.specs.Scalars.{Scalar}
 use Rattle.lil_tree.specs.Resolved.{Designator, Function, Expression, Argument, Statement}

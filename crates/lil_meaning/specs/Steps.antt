@@ -6,8 +6,8 @@ use Rattle.lil_base.specs.declared.fault.ArithFault.{ArithFault}
 use Rattle.lil_base.specs.declared.fault.TrapKind.{TrapKind}
 use Rattle.lil_base.specs.declared.fault.TrapKind.TheVariants as trap
 use Rattle.lil_base.specs.declared.fault.TrapAt.{TrapAt}
-use Rattle.lil_tree.specs.declared.syntax.TwoOp.{TwoOp}
-use Rattle.lil_tree.specs.declared.syntax.TwoOp.TheVariants.{Plus, Minus}
+use Rattle.lil_tree.specs.declared.operator.TwoOp.{TwoOp}
+use Rattle.lil_tree.specs.declared.operator.TwoOp.TheVariants.{Plus, Minus}
 use Rattle.lil_tree.specs.Scalars.{Scalar, Number, Character, within, scalar_word}
 use Rattle.lil_tree.specs.Resolved.{Designator, Variable, Function, Chr, Expression, Constant, Taken, Two, Apply, Statement, Assign, Request, Resolved, kind_of_place}
 use Rattle.lil_meaning.specs.Cells.{Global, Place, stored, got, alone, loaded_at}

@@ -7,7 +7,7 @@ use Rattle.lil_base.specs.Traps.{arith_trap}
 use Rattle.lil_base.specs.declared.fault.ArithFault.{ArithFault}
 use Rattle.lil_base.specs.declared.fault.TrapKind.{TrapKind}
 use Rattle.lil_base.specs.declared.fault.TrapKind.TheVariants as trap
-use Rattle.lil_tree.specs.declared.syntax.TwoOp.{TwoOp}
+use Rattle.lil_tree.specs.declared.operator.TwoOp.{TwoOp}
 use Rattle.lil_tree.specs.Kinds.{Kind, OfWhole, OfCharacter}
 use Rattle.lil_tree.specs.Scalars.{Scalar, Number, Character, within, scalar_word}
 use Rattle.lil_tree.specs.Resolved.{Variable, Chr, Expression, Constant, Taken, Two, Apply, Resolved, kind_of}

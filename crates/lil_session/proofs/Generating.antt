@@ -3,8 +3,8 @@ use Rattle.std.proofs.Common.{◌≡◌, ℕ, zero, suc, ◌+◌, ◌<◌, ◌�
 use Rattle.std.specs.Prelude.{slice_get}
 use Rattle.std.proofs.lemmas.List.{take_more, map-append}
 use Rattle.lil_base.specs.Words.{Cardinal}
-use Rattle.lil_tree.specs.declared.syntax.TwoOp.{TwoOp}
-use Rattle.lil_tree.specs.declared.syntax.TwoOp.TheVariants.{Plus, Minus}
+use Rattle.lil_tree.specs.declared.operator.TwoOp.{TwoOp}
+use Rattle.lil_tree.specs.declared.operator.TwoOp.TheVariants.{Plus, Minus}
 use Rattle.lil_tree.specs.Kinds.{Kind, OfWhole, OfCharacter}
 use Rattle.lil_tree.specs.Scalars.{Scalar, scalar_word}
 use Rattle.lil_tree.specs.Resolved.{Expression, Constant, Taken, Two, Apply, Chr, Argument, Statement, Assign, kind_of}

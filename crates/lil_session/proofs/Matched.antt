@@ -4,7 +4,7 @@ use Rattle.std.proofs.Common.{◌≡◌, ℕ, suc, ◌+◌, ◌<◌, ◌≤◌, 
 use Rattle.std.specs.Prelude.{slice_get}
 use Rattle.lil_base.specs.Words.{Whole, Cardinal}
 use Rattle.lil_base.specs.declared.fault.TrapAt.{TrapAt}
-use Rattle.lil_tree.specs.declared.syntax.TwoOp.{TwoOp}
+use Rattle.lil_tree.specs.declared.operator.TwoOp.{TwoOp}
 use Rattle.lil_tree.specs.Kinds.{Kind, OfWhole, OfCharacter}
 use Rattle.lil_tree.specs.Scalars.{Scalar, within, scalar_word}
 use Rattle.lil_tree.specs.Resolved.{Designator, Variable, Function, Chr, Expression, Constant, Taken, Two, Apply, Argument, Statement, Assign, Request, Resolved, kind_of}

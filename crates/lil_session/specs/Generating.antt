@@ -1,8 +1,8 @@
 -- What the functions of the code generator add to a code.
 use Rattle.std.specs.Prelude.{◌≡◌, ℕ, ◌<◌, List, Some, slice_get}
 use Rattle.lil_base.specs.Words.{Cardinal}
-use Rattle.lil_tree.specs.declared.syntax.TwoOp.{TwoOp}
-use Rattle.lil_tree.specs.declared.syntax.TwoOp.TheVariants.{Plus, Minus}
+use Rattle.lil_tree.specs.declared.operator.TwoOp.{TwoOp}
+use Rattle.lil_tree.specs.declared.operator.TwoOp.TheVariants.{Plus, Minus}
 use Rattle.lil_tree.specs.Kinds.{OfWhole}
 use Rattle.lil_tree.specs.Resolved.{Expression, Statement}
 use Rattle.lil_mcode.specs.declared.instr.Instr.{Instr}

@@ -1,8 +1,8 @@
 -- The translation table: which bytes from one place to another are a translation of a part. It has one row for each construct.
 use Rattle.std.specs.Prelude.{◌≡◌, ℕ, suc, ◌+◌, ◌≤◌, true, List, [], ◌∷◌, length, Option, Some, None, slice_get}
 use Rattle.lil_base.specs.Words.{Whole, Cardinal, Integer}
-use Rattle.lil_tree.specs.declared.syntax.TwoOp.{TwoOp}
-use Rattle.lil_tree.specs.declared.syntax.TwoOp.TheVariants.{Plus, Minus}
+use Rattle.lil_tree.specs.declared.operator.TwoOp.{TwoOp}
+use Rattle.lil_tree.specs.declared.operator.TwoOp.TheVariants.{Plus, Minus}
 use Rattle.lil_tree.specs.Kinds.{Kind, OfWhole}
 use Rattle.lil_tree.specs.Scalars.{Scalar, within, scalar_word}
 use Rattle.lil_tree.specs.Resolved.{Designator, Variable, Chr, Expression, Constant, Taken, Two, Apply, Argument, Statement, Assign, Request, Resolved, kind_of}

@@ -6,10 +6,10 @@ use Rattle.std.proofs.Math.Numerals.{one-add}
 use Rattle.std.specs.Prelude.{nat_le, ◌==◌}
 use Rattle.std.specs.List.{list_all, prefix_len}
 use Rattle.lil_base.specs.Names.{is_letter, is_digit, is_name_byte, is_name}
-use Rattle.lil_tree.specs.declared.token.TokenKind.{TokenKind}
-use Rattle.lil_tree.specs.declared.token.TokenKind.TheVariants as k
-use Rattle.lil_tree.specs.declared.token.Mark.{Mark}
-use Rattle.lil_tree.specs.declared.token.Mark.TheVariants as m
+use Rattle.lil_tree.specs.declared.straight_token.StraightKind.{StraightKind}
+use Rattle.lil_tree.specs.declared.straight_token.StraightKind.TheVariants as k
+use Rattle.lil_tree.specs.declared.straight_token.StraightMark.{StraightMark}
+use Rattle.lil_tree.specs.declared.straight_token.StraightMark.TheVariants as m
 use Rattle.lil_tree.specs.Cuts.{is_blank, is_number_byte, Stops, decimal_behind, name_token, mark_of, is_pair, NoPair, IsToken, word, number, becomes, mark, IsCut, finish, blank, token}
 use Rattle.lil_straight.specs.Cutting.{Piece, name_piece, goes_on, decimal, number_by, number_piece, mark_by, mark_piece, piece, before, with_token, cut_by, cut_in, cut}
 
@@ -41,7 +41,7 @@ stops_so test [] h = refl
 stops_so test (b ∷ bs) h = h
 
 -- ---- what is found is a token
-abbrev IsFront : List ℕ → List ℕ → Option TokenKind → Type 0
+abbrev IsFront : List ℕ → List ℕ → Option StraightKind → Type 0
 IsFront front rest None = (b : ℕ) × (front ≡ b ∷ []) × (is_blank b ≡ true)
 IsFront front rest (Some t) = IsToken front rest t
 
@@ -107,7 +107,7 @@ number_found d bs y is e =
           is = number is (run_found is_digit bs).0 (stops_from is_number_byte (drop n bs) on) (leb-true (decimal_behind 0 ds) 65535 fits);
         })
 
-one_mark : (b : ℕ) (bs : List ℕ) (y : Piece) → NoPair b bs → (o : Option Mark) → mark_of b ≡ o → mark_by o ≡ Some y → Found (b ∷ bs) y
+one_mark : (b : ℕ) (bs : List ℕ) (y : Piece) → NoPair b bs → (o : Option StraightMark) → mark_of b ≡ o → mark_by o ≡ Some y → Found (b ∷ bs) y
 one_mark b bs y nopair None is e = absurd (cc)
 one_mark b bs y nopair (Some x) is e = subst (λ (y : Piece). Found (b ∷ bs) y) (some_same e) (record { front = b ∷ []; rest = bs; cut = refl; len = refl; is = mark is nopair })
 
@@ -145,33 +145,33 @@ piece_found (b ∷ bs) y e = go (is_blank b) (is_letter b) (is_digit b) refl ref
     go false false true is is' is'' e = number_found b bs y is'' e
     go false false false is is' is'' e = mark_found b bs y e
 
-one_found : (text : List ℕ) (t : Option TokenKind) (n : ℕ) (us : List TokenKind) → Found text (t, n) → IsCut (drop n text) us → IsCut text (before t us)
+one_found : (text : List ℕ) (t : Option StraightKind) (n : ℕ) (us : List StraightKind) → Found text (t, n) → IsCut (drop n text) us → IsCut text (before t us)
 one_found text t n us x deeper =
     let back = ap (λ (text : List ℕ). drop n text) x.cut ∙ drop_at x.front x.rest n (sym x.len) in
     by t x.is (subst (λ (r : List ℕ). IsCut r us) back deeper)
   where
-    by : (t : Option TokenKind) → IsFront x.front x.rest t → IsCut x.rest us → IsCut text (before t us)
+    by : (t : Option StraightKind) → IsFront x.front x.rest t → IsCut x.rest us → IsCut text (before t us)
     by (Some w) is d = token x.cut is d
     by None is d = subst (λ (text : List ℕ). IsCut text us) (sym (x.cut ∙ ap (λ (f : List ℕ). f ++ x.rest) is.1)) (blank is.2 d)
 
-pub cut_in_sound : (n : ℕ) (text : List ℕ) (ts : List TokenKind) → cut_in n text ≡ Some ts → IsCut text ts
+pub cut_in_sound : (n : ℕ) (text : List ℕ) (ts : List StraightKind) → cut_in n text ≡ Some ts → IsCut text ts
 unfolding cut_in
-cut_in_sound n [] ts e = subst (λ (ts : List TokenKind). IsCut [] ts) (some_same e) finish
+cut_in_sound n [] ts e = subst (λ (ts : List StraightKind). IsCut [] ts) (some_same e) finish
 cut_in_sound zero (b ∷ bs) ts e = absurd (cc)
 cut_in_sound (suc n) (b ∷ bs) ts e = go (piece (b ∷ bs)) refl e (λ r us h. cut_in_sound n r us h)
   where
-    all : (p : Piece) (o : Option (List TokenKind)) → piece (b ∷ bs) ≡ Some p → cut_in n (drop p.1 (b ∷ bs)) ≡ o → with_token p.0 o ≡ Some ts
-        → ((r : List ℕ) (us : List TokenKind) → cut_in n r ≡ Some us → IsCut r us) → IsCut (b ∷ bs) ts
+    all : (p : Piece) (o : Option (List StraightKind)) → piece (b ∷ bs) ≡ Some p → cut_in n (drop p.1 (b ∷ bs)) ≡ o → with_token p.0 o ≡ Some ts
+        → ((r : List ℕ) (us : List StraightKind) → cut_in n r ≡ Some us → IsCut r us) → IsCut (b ∷ bs) ts
     all p None is so e deeper = absurd (cc)
     all p (Some us) is so e deeper =
-        subst (λ (ts : List TokenKind). IsCut (b ∷ bs) ts) (some_same e) (one_found (b ∷ bs) p.0 p.1 us (piece_found (b ∷ bs) p is) (deeper (drop p.1 (b ∷ bs)) us so))
+        subst (λ (ts : List StraightKind). IsCut (b ∷ bs) ts) (some_same e) (one_found (b ∷ bs) p.0 p.1 us (piece_found (b ∷ bs) p is) (deeper (drop p.1 (b ∷ bs)) us so))
 
     go : (o : Option Piece) → piece (b ∷ bs) ≡ o → cut_by (cut_in n) (b ∷ bs) o ≡ Some ts
-        → ((r : List ℕ) (us : List TokenKind) → cut_in n r ≡ Some us → IsCut r us) → IsCut (b ∷ bs) ts
+        → ((r : List ℕ) (us : List StraightKind) → cut_in n r ≡ Some us → IsCut r us) → IsCut (b ∷ bs) ts
     go None is e deeper = absurd (cc)
     go (Some p) is e deeper = all p (cut_in n (drop p.1 (b ∷ bs))) is refl e deeper
 
-pub cut_sound : (text : List ℕ) (ts : List TokenKind) → cut text ≡ Some ts → IsCut text ts
+pub cut_sound : (text : List ℕ) (ts : List StraightKind) → cut text ≡ Some ts → IsCut text ts
 unfolding cut
 cut_sound text ts e = cut_in_sound (length text) text ts e
 
@@ -244,24 +244,24 @@ first_false : (x y : Bool) → (x || y) ≡ false → x ≡ false
 first_false true y h = absurd (cc)
 first_false false y h = refl
 
-mark_again : (b : ℕ) (rest : List ℕ) (x : Mark) → mark_of b ≡ Some x → NoPair b rest → mark_piece b rest ≡ Some (Some (k.Mark x), 1)
+mark_again : (b : ℕ) (rest : List ℕ) (x : StraightMark) → mark_of b ≡ Some x → NoPair b rest → mark_piece b rest ≡ Some (Some (k.Mark x), 1)
 unfolding mark_piece
-mark_again b [] x is nopair = ap (λ (o : Option Mark). mark_by o) is
+mark_again b [] x is nopair = ap (λ (o : Option StraightMark). mark_by o) is
 mark_again b (c ∷ cs) x is nopair =
     ap (λ (t : Bool). cond t (Some (Some (k.Mark m.Becomes), 2)) (cond (is_pair b c) None (mark_by (mark_of b)))) (first_false ((b == 58) && (c == 61)) _ nopair)
-    ∙ (ap (λ (t : Bool). cond t None (mark_by (mark_of b))) nopair ∙ ap (λ (o : Option Mark). mark_by o) is)
+    ∙ (ap (λ (t : Bool). cond t None (mark_by (mark_of b))) nopair ∙ ap (λ (o : Option StraightMark). mark_by o) is)
 
 abbrev Plain : ℕ → Type 0
 Plain b = (is_blank b ≡ false) × (is_letter b ≡ false) × (is_digit b ≡ false)
 
-either_mark : (b n : ℕ) (y x : Mark) (o : Option Mark) → Plain n → (o ≡ Some x → Plain b) → cond (b == n) (Some y) o ≡ Some x → Plain b
+either_mark : (b n : ℕ) (y x : StraightMark) (o : Option StraightMark) → Plain n → (o ≡ Some x → Plain b) → cond (b == n) (Some y) o ≡ Some x → Plain b
 either_mark b n y x o holds nopair e = go (b == n) refl e
   where
     go : (t : Bool) → (b == n) ≡ t → cond t (Some y) o ≡ Some x → Plain b
     go true is e = subst (λ (b : ℕ). Plain b) (sym (eqb-true b n is)) holds
     go false is e = nopair e
 
-mark_plain : (b : ℕ) (x : Mark) → mark_of b ≡ Some x → Plain b
+mark_plain : (b : ℕ) (x : StraightMark) → mark_of b ≡ Some x → Plain b
 mark_plain b x e =
     either_mark b 43 m.Plus x _ (refl, refl, refl) (λ e. either_mark b 45 m.Minus x _ (refl, refl, refl) (λ e. either_mark b 46 m.Dot x _ (refl, refl, refl)
     (λ e. either_mark b 44 m.Comma x _ (refl, refl, refl) (λ e. either_mark b 59 m.Semicolon x _ (refl, refl, refl) (λ e. either_mark b 58 m.Colon x _ (refl, refl, refl)
@@ -270,7 +270,7 @@ mark_plain b x e =
 name_byte_from : (b : ℕ) → is_letter b ≡ true → is_name_byte b ≡ true
 name_byte_from b h = ap (λ (t : Bool). t || is_digit b) h
 
-piece_again : {front rest : List ℕ} {t : TokenKind} → IsToken front rest t → piece (front ++ rest) ≡ Some (Some t, length front)
+piece_again : {front rest : List ℕ} {t : StraightKind} → IsToken front rest t → piece (front ++ rest) ≡ Some (Some t, length front)
 unfolding piece mark_piece
 piece_again {rest = rest} (word {b = b} {bs = bs} is all stops short) =
     let whole = run_length is_name_byte (b ∷ bs) rest (and_from (is_name_byte b) (list_all is_name_byte bs) (name_byte_from b is) all) stops in
@@ -298,32 +298,32 @@ unfolding cut_in piece
 cut_next n [] p e = absurd (cc)
 cut_next n (b ∷ bs) p e = ap (λ (o : Option Piece). cut_by (cut_in n) (b ∷ bs) o) e
 
-pub some_bytes : {front rest : List ℕ} {t : TokenKind} → IsToken front rest t → 0 < length front
+pub some_bytes : {front rest : List ℕ} {t : StraightKind} → IsToken front rest t → 0 < length front
 some_bytes (word _ _ _ _) = omega arith
 some_bytes (number _ _ _ _) = omega arith
 some_bytes becomes = omega arith
 some_bytes (mark _ _) = omega arith
 
-next_token : (n : ℕ) (front rest : List ℕ) (t : TokenKind) (ts : List TokenKind) → IsToken front rest t → cut_in n rest ≡ Some ts → cut_in (suc n) (front ++ rest) ≡ Some (t ∷ ts)
+next_token : (n : ℕ) (front rest : List ℕ) (t : StraightKind) (ts : List StraightKind) → IsToken front rest t → cut_in n rest ≡ Some ts → cut_in (suc n) (front ++ rest) ≡ Some (t ∷ ts)
 next_token n front rest t ts is e =
     cut_next n (front ++ rest) (Some t, length front) (piece_again is)
-    ∙ (ap (λ (r : List ℕ). with_token (Some t) (cut_in n r)) (drop_at front rest (length front) refl) ∙ ap (λ (o : Option (List TokenKind)). with_token (Some t) o) e)
+    ∙ (ap (λ (r : List ℕ). with_token (Some t) (cut_in n r)) (drop_at front rest (length front) refl) ∙ ap (λ (o : Option (List StraightKind)). with_token (Some t) o) e)
 
-pub cut_in_complete : {text : List ℕ} {ts : List TokenKind} → IsCut text ts → (n : ℕ) → length text ≤ n → cut_in n text ≡ Some ts
+pub cut_in_complete : {text : List ℕ} {ts : List StraightKind} → IsCut text ts → (n : ℕ) → length text ≤ n → cut_in n text ≡ Some ts
 unfolding cut_in
 cut_in_complete finish n h = refl
 cut_in_complete (blank is d) zero h = absurd (omega arith)
 cut_in_complete (blank {b = b} {bs = bs} is d) (suc n) h =
     cut_next n (b ∷ bs) (None, 1) (piece_is b bs true (is_letter b) (is_digit b) is refl refl)
-    ∙ ap (λ (o : Option (List TokenKind)). with_token None o) (cut_in_complete d n (omega arith))
+    ∙ ap (λ (o : Option (List StraightKind)). with_token None o) (cut_in_complete d n (omega arith))
 cut_in_complete (token {front = front} {rest = rest} cut is d) zero h = absurd (omega (arith, some_bytes is, length-append front rest, ap length cut, h))
 cut_in_complete (token {front = front} {rest = rest} {t = t} {ts = ts} cut is d) (suc n) h =
     subst (λ (text : List ℕ). cut_in (suc n) text ≡ Some (t ∷ ts)) (sym cut)
     (next_token n front rest t ts is (cut_in_complete d n (omega (arith, some_bytes is, length-append front rest, ap length cut, h))))
 
-pub cut_complete : (text : List ℕ) (ts : List TokenKind) → IsCut text ts → cut text ≡ Some ts
+pub cut_complete : (text : List ℕ) (ts : List StraightKind) → IsCut text ts → cut text ≡ Some ts
 unfolding cut
 cut_complete text ts h = cut_in_complete h (length text) (omega arith)
 
-pub cut_one : (text : List ℕ) (ts us : List TokenKind) → IsCut text ts → IsCut text us → ts ≡ us
+pub cut_one : (text : List ℕ) (ts us : List StraightKind) → IsCut text ts → IsCut text us → ts ≡ us
 cut_one text ts us h h' = let e = sym (cut_complete text ts h) ∙ cut_complete text us h' in some_same e

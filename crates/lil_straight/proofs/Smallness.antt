@@ -4,24 +4,24 @@ use Rattle.std.proofs.lemmas.List.{length-map}
 use Rattle.lil_tree.specs.Resolved.{Expression}
 use Rattle.lil_tree.specs.Views.{cardinal}
 use Rattle.lil_tree.specs.Resolving.{operand_means, constant_value, joined_by, joined, more_means, sum_means, chr_by, statement_means, unit_means}
-use Rattle.lil_tree.specs.declared.token.TokenKind.{TokenKind}
-use Rattle.lil_tree.specs.declared.token.TokenKind.TheVariants as k
-use Rattle.lil_tree.specs.declared.token.Mark.TheVariants as m
-use Rattle.lil_tree.specs.declared.syntax.TwoOp.{TwoOp}
-use Rattle.lil_tree.specs.declared.syntax.Operand.{Operand}
-use Rattle.lil_tree.specs.declared.syntax.Operand.TheVariants.{Number, Named}
-use Rattle.lil_tree.specs.declared.syntax.More.{More}
-use Rattle.lil_tree.specs.declared.syntax.Sum.{Sum}
-use Rattle.lil_tree.specs.declared.syntax.Stmt.{Stmt}
-use Rattle.lil_tree.specs.declared.syntax.Stmt.TheVariants.{Assign, Write}
-use Rattle.lil_tree.specs.declared.syntax.StraightUnit.{StraightUnit}
+use Rattle.lil_tree.specs.declared.straight_token.StraightKind.{StraightKind}
+use Rattle.lil_tree.specs.declared.straight_token.StraightKind.TheVariants as k
+use Rattle.lil_tree.specs.declared.straight_token.StraightMark.TheVariants as m
+use Rattle.lil_tree.specs.declared.straight_syntax.SumOp.{SumOp}
+use Rattle.lil_tree.specs.declared.straight_syntax.Operand.{Operand}
+use Rattle.lil_tree.specs.declared.straight_syntax.Operand.TheVariants.{Number, Named}
+use Rattle.lil_tree.specs.declared.straight_syntax.More.{More}
+use Rattle.lil_tree.specs.declared.straight_syntax.Sum.{Sum}
+use Rattle.lil_tree.specs.declared.straight_syntax.StraightStmt.{StraightStmt}
+use Rattle.lil_tree.specs.declared.straight_syntax.StraightStmt.TheVariants.{Assign, Write}
+use Rattle.lil_tree.specs.declared.straight_syntax.StraightUnit.{StraightUnit}
 use Rattle.lil_tree.specs.Cuts.{IsCut, finish, blank, token}
 use Rattle.lil_tree.specs.Grammar.{spell_more, spell_sum, spell_statement, spell_statements, spell_names, spell_import, spell_variables, spell_body, spell_end, spell}
 use Rattle.lil_tree.specs.Sizes.{size, statement_size, body_size, IsSmall}
 use Rattle.lil_straight.proofs.CutLaws.{some_bytes}
 
 -- each token but Finish takes a byte
-pub few_tokens : {text : List ℕ} {ts : List TokenKind} → IsCut text ts → length ts ≤ length text + 1
+pub few_tokens : {text : List ℕ} {ts : List StraightKind} → IsCut text ts → length ts ≤ length text + 1
 few_tokens finish = omega arith
 few_tokens (blank is d) = omega (arith, few_tokens d)
 few_tokens (token {front = front} {rest = rest} cut is d) = omega (arith, few_tokens d, some_bytes is, length-append front rest, ap length cut)
@@ -35,7 +35,7 @@ module _ (vs : List (List ℕ)) where
   operand_size (Number n) = refl
   operand_size (Named x) = refl
 
-  joined_by_size : (o : TwoOp) (a b : Expression) (x y : Option ℤ) → size b ≡ 3 → size (joined_by o a b x y) ≤ size a + 4
+  joined_by_size : (o : SumOp) (a b : Expression) (x y : Option ℤ) → size b ≡ 3 → size (joined_by o a b x y) ≤ size a + 4
   joined_by_size o a b (Some x) (Some y) h = omega arith
   joined_by_size o a b None y h = omega (arith, h)
   joined_by_size o a b (Some x) None h = omega (arith, h)
@@ -56,16 +56,16 @@ module _ (vs : List (List ℕ)) where
   chr_size e None = omega arith
   chr_size e (Some z) = omega arith
 
-  one_size : (s : Stmt) → statement_size (statement_means vs s) ≤ 2 * length (spell_statement s)
+  one_size : (s : StraightStmt) → statement_size (statement_means vs s) ≤ 2 * length (spell_statement s)
   one_size (Assign x e) = omega (arith, sum_size e, more_tokens e.rest)
   one_size (Write e) =
       omega (arith, sum_size e, more_tokens e.rest, chr_size (sum_means vs e) (constant_value (sum_means vs e)), length-append (spell_sum e) (k.Mark m.Close ∷ k.Mark m.Close ∷ []))
 
-  more_bodies : (ss : List Stmt) → body_size (map (statement_means vs) ss) ≤ 2 * length (spell_statements ss)
+  more_bodies : (ss : List StraightStmt) → body_size (map (statement_means vs) ss) ≤ 2 * length (spell_statements ss)
   more_bodies [] = omega arith
   more_bodies (s ∷ ss) = omega (arith, one_size s, more_bodies ss, length-append (spell_statement s) (spell_statements ss))
 
-  body_small : (ss : List Stmt) → body_size (map (statement_means vs) ss) ≤ 2 * length (spell_body ss)
+  body_small : (ss : List StraightStmt) → body_size (map (statement_means vs) ss) ≤ 2 * length (spell_body ss)
   body_small [] = omega arith
   body_small (s ∷ ss) = omega (arith, one_size s, more_bodies ss, length-append (spell_statement s) (spell_statements ss))
 

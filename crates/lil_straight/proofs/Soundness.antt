@@ -9,18 +9,18 @@ use Rattle.std.specs.Str.{bytes_eq}
 use Rattle.lil_base.specs.Words.{Cardinal}
 use Rattle.lil_tree.specs.Kinds.{OfWhole, OfCharacter}
 use Rattle.lil_tree.specs.Resolved.{Expression, Two, kind_of}
-use Rattle.lil_tree.specs.Resolving.{listed, number_among, constant_of, whole_result, longer, prefix_fits, prefixes_fit, is_known, is_known_more, sum_keeps, statement_keeps, operand_means, constant_value, whole_constant, sum_means, chr_by, chr_of, statement_means}
-use Rattle.lil_tree.specs.declared.token.TokenKind.{TokenKind}
-use Rattle.lil_tree.specs.declared.token.TokenKind.TheVariants as k
-use Rattle.lil_tree.specs.declared.token.Mark.TheVariants as m
+use Rattle.lil_tree.specs.Resolving.{operator_of, listed, number_among, constant_of, whole_result, longer, prefix_fits, prefixes_fit, is_known, is_known_more, sum_keeps, statement_keeps, operand_means, constant_value, whole_constant, sum_means, chr_by, chr_of, statement_means}
+use Rattle.lil_tree.specs.declared.straight_token.StraightKind.{StraightKind}
+use Rattle.lil_tree.specs.declared.straight_token.StraightKind.TheVariants as k
+use Rattle.lil_tree.specs.declared.straight_token.StraightMark.TheVariants as m
 use Rattle.lil_tree.specs.declared.token.Word.{Word}
-use Rattle.lil_tree.specs.declared.syntax.Operand.{Operand}
-use Rattle.lil_tree.specs.declared.syntax.Operand.TheVariants.{Number, Named}
-use Rattle.lil_tree.specs.declared.syntax.More.{More}
-use Rattle.lil_tree.specs.declared.syntax.Sum.{Sum}
-use Rattle.lil_tree.specs.declared.syntax.Stmt.{Stmt}
-use Rattle.lil_tree.specs.declared.syntax.Stmt.TheVariants.{Assign, Write}
-use Rattle.lil_tree.specs.declared.syntax.StraightUnit.{StraightUnit}
+use Rattle.lil_tree.specs.declared.straight_syntax.Operand.{Operand}
+use Rattle.lil_tree.specs.declared.straight_syntax.Operand.TheVariants.{Number, Named}
+use Rattle.lil_tree.specs.declared.straight_syntax.More.{More}
+use Rattle.lil_tree.specs.declared.straight_syntax.Sum.{Sum}
+use Rattle.lil_tree.specs.declared.straight_syntax.StraightStmt.{StraightStmt}
+use Rattle.lil_tree.specs.declared.straight_syntax.StraightStmt.TheVariants.{Assign, Write}
+use Rattle.lil_tree.specs.declared.straight_syntax.StraightUnit.{StraightUnit}
 use Rattle.lil_tree.specs.Cuts.{all_words, word_among, word_or_name, name_token, IsToken, word, number, becomes, mark, IsCut, finish, blank, token}
 use Rattle.lil_tree.specs.Grammar.{spell_operand, spell_operator, spell_more, spell_sum, spell_statement, spell_statements, spell_import, spell_variables, spell_body, spell_end, spell}
 use Rattle.lil_straight.specs.Folding.{prefix_by, prefix, chained, summed_by, summed, sum_fits, statement_fits}
@@ -28,7 +28,7 @@ use Rattle.lil_tree.specs.Sizes.{depth, IsSoundExpression, IsSoundStatement, IsS
 use Rattle.lil_straight.proofs.Folds.{between_so, between_from, summed_is, sum_constant_fits, wider_sum}
 
 -- ---- numbers in tokens are words
-abbrev pub fits : TokenKind → Bool
+abbrev pub fits : StraightKind → Bool
 fits (k.Number n) = nat_le n 65535
 fits _ = true
 
@@ -36,22 +36,22 @@ name_fits : (name : List ℕ) (o : Option Word) → fits (word_or_name name o) �
 name_fits name None = refl
 name_fits name (Some w) = refl
 
-token_fits : {front rest : List ℕ} {t : TokenKind} → IsToken front rest t → fits t ≡ true
+token_fits : {front rest : List ℕ} {t : StraightKind} → IsToken front rest t → fits t ≡ true
 unfolding name_token
 token_fits (word {b = b} {bs = bs} _ _ _ _) = name_fits (b ∷ bs) (word_among all_words (b ∷ bs))
 token_fits (number {d = d} {ds = ds} _ _ _ h) = le-leb _ 65535 h
 token_fits becomes = refl
 token_fits (mark _ _) = refl
 
-pub all_fit : {text : List ℕ} {ts : List TokenKind} → IsCut text ts → list_all fits ts ≡ true
+pub all_fit : {text : List ℕ} {ts : List StraightKind} → IsCut text ts → list_all fits ts ≡ true
 all_fit finish = refl
 all_fit (blank is d) = all_fit d
 all_fit (token {t = t} {ts = ts} cut is d) = and_from (fits t) (list_all fits ts) (token_fits is) (all_fit d)
 
-abbrev pub Fit : List TokenKind → Type 0
+abbrev pub Fit : List StraightKind → Type 0
 Fit ts = list_all fits ts ≡ true
 
-fit_parts : (xs ys : List TokenKind) → Fit (xs ++ ys) → Fit xs × Fit ys
+fit_parts : (xs ys : List StraightKind) → Fit (xs ++ ys) → Fit xs × Fit ys
 fit_parts xs ys h = and_parts (list_all fits xs) (list_all fits ys) (sym (list_all-append fits xs ys) ∙ h)
 
 -- ---- operands
@@ -120,7 +120,7 @@ module _ (vs : List (List ℕ)) where
   chained_sound e [] s g = s
   chained_sound e (x ∷ xs) s g =
       let b = operand_sound x.operand g.0 in
-      chained_sound (Two x.operator Cardinal e (operand_means vs x.operand)) xs
+      chained_sound (Two (operator_of x.operator) Cardinal e (operand_means vs x.operand)) xs
       (record { kind = refl; flat = omega (arith, s.flat, operand_depth x.operand); sound = (refl, s.kind, b.kind, s.sound, b.sound) }) g.1
 
   prefix_word : (xs : List More) (z : ℤ) → prefixes_fit (pos 65535) (Some z) xs ≡ true → AreGood vs xs → (pos 0 ≤ℤ (prefix xs z).0) × ((prefix xs z).0 ≤ℤ pos 65535) × AreGood vs (prefix xs z).1
@@ -165,7 +165,7 @@ module _ (vs : List (List ℕ)) where
   character_sound e (Some (pos n)) is s h = record { kind = refl; flat = omega arith; sound = le-leb n 255 (omega (arith, ints, h.1)) }
   character_sound e (Some z) is s h = absurd (omega (arith, ints, h.0))
 
-  statement_sound : (imported : Bool) (s : Stmt) → Fit (spell_statement s) → statement_keeps imported vs s ≡ true → IsSoundStatement count (statement_means vs s)
+  statement_sound : (imported : Bool) (s : StraightStmt) → Fit (spell_statement s) → statement_keeps imported vs s ≡ true → IsSoundStatement count (statement_means vs s)
   statement_sound imported (Assign x e) f h =
       let p = and_parts (listed vs x) (sum_keeps vs (pos 65535) e) h in
       let s = sum_sound e f (pos 65535) p.1 (keeps_fit (pos 65535) e p.1) in
@@ -181,14 +181,14 @@ module _ (vs : List (List ℕ)) where
       value_in None is low = tt
       value_in (Some z) is low = let b = between_so (pos 0) z (pos 255) (sum_constant_fits vs (pos 255) e z low is) in (b.0, b.1)
 
-  rest_sound : (imported : Bool) (ss : List Stmt) → Fit (spell_statements ss) → list_all (statement_keeps imported vs) ss ≡ true → IsSoundBody count (map (statement_means vs) ss)
+  rest_sound : (imported : Bool) (ss : List StraightStmt) → Fit (spell_statements ss) → list_all (statement_keeps imported vs) ss ≡ true → IsSoundBody count (map (statement_means vs) ss)
   rest_sound imported [] f h = tt
   rest_sound imported (s ∷ ss) f h =
       let p = and_parts (statement_keeps imported vs s) (list_all (statement_keeps imported vs) ss) h in
       let q = fit_parts (spell_statement s) (spell_statements ss) f in
       (statement_sound imported s q.0 p.0, rest_sound imported ss q.1 p.1)
 
-  pub body_sound : (imported : Bool) (ss : List Stmt) → Fit (spell_body ss) → list_all (statement_keeps imported vs) ss ≡ true → IsSoundBody count (map (statement_means vs) ss)
+  pub body_sound : (imported : Bool) (ss : List StraightStmt) → Fit (spell_body ss) → list_all (statement_keeps imported vs) ss ≡ true → IsSoundBody count (map (statement_means vs) ss)
   body_sound imported [] f h = tt
   body_sound imported (s ∷ ss) f h = rest_sound imported (s ∷ ss) f h
 
@@ -200,12 +200,12 @@ body_fits u f =
     (fit_parts (spell_body u.body) (spell_end u.end_name) b.1).0
 
 -- ---- statements that keep their rules have constants that fit
-pub statements_fit : (imported : Bool) (vs : List (List ℕ)) (ss : List Stmt) → list_all (statement_keeps imported vs) ss ≡ true → list_all statement_fits ss ≡ true
+pub statements_fit : (imported : Bool) (vs : List (List ℕ)) (ss : List StraightStmt) → list_all (statement_keeps imported vs) ss ≡ true → list_all statement_fits ss ≡ true
 statements_fit imported vs [] h = refl
 statements_fit imported vs (s ∷ ss) h =
     let p = and_parts (statement_keeps imported vs s) (list_all (statement_keeps imported vs) ss) h in
     and_from (statement_fits s) (list_all statement_fits ss) (one s p.0) (statements_fit imported vs ss p.1)
   where
-    one : (s : Stmt) → statement_keeps imported vs s ≡ true → statement_fits s ≡ true
+    one : (s : StraightStmt) → statement_keeps imported vs s ≡ true → statement_fits s ≡ true
     one (Assign x e) h = keeps_fit vs (pos 65535) e (and_parts (listed vs x) (sum_keeps vs (pos 65535) e) h).1
     one (Write e) h = keeps_fit vs (pos 255) e (and_parts imported (sum_keeps vs (pos 255) e) h).1

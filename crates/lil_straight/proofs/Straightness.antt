@@ -4,8 +4,8 @@ use Rattle.std.proofs.lemmas.Bool.{and_parts}
 use Rattle.std.proofs.lemmas.List.{length-map}
 use Rattle.std.specs.List.{list_all}
 use Rattle.std.specs.Str.{bytes_eq}
-use Rattle.lil_tree.specs.declared.token.TokenKind.{TokenKind}
-use Rattle.lil_tree.specs.declared.syntax.StraightUnit.{StraightUnit}
+use Rattle.lil_tree.specs.declared.straight_token.StraightKind.{StraightKind}
+use Rattle.lil_tree.specs.declared.straight_syntax.StraightUnit.{StraightUnit}
 use Rattle.lil_tree.specs.Grammar.{spell}
 use Rattle.lil_tree.specs.Resolved.{Resolved}
 use Rattle.lil_tree.specs.Resolving.{listed, resident_names, all_differ, is_free, statement_keeps, keeps, statement_means, unit_means}
@@ -47,7 +47,7 @@ not_long file text long m h = absurd (omega (arith, h.short))
 pub not_cut : (file text : List ℕ) → None ≡ cut text → (m : Resolved) → IsStraight file text m → ⊥
 not_cut file text none m h = none_some none (tokens_are file text m h)
 
-pub not_parsed : (file text : List ℕ) (ts : List TokenKind) → Some ts ≡ cut text → None ≡ parse ts → (m : Resolved) → IsStraight file text m → ⊥
+pub not_parsed : (file text : List ℕ) (ts : List StraightKind) → Some ts ≡ cut text → None ≡ parse ts → (m : Resolved) → IsStraight file text m → ⊥
 not_parsed file text ts e none m h =
     let same = some_same (e ∙ tokens_are file text m h) in
     none_some none (ap parse same ∙ unit_is file text m h)
@@ -55,14 +55,14 @@ not_parsed file text ts e none m h =
 true_false : {b : Bool} → b ≡ true → b ≡ false → ⊥
 true_false e e' = absurd (cc)
 
-pub not_kept : (file text : List ℕ) (ts : List TokenKind) (u : StraightUnit) → Some ts ≡ cut text → Some u ≡ parse ts → keeps file u ≡ false → (m : Resolved) → IsStraight file text m → ⊥
+pub not_kept : (file text : List ℕ) (ts : List StraightKind) (u : StraightUnit) → Some ts ≡ cut text → Some u ≡ parse ts → keeps file u ≡ false → (m : Resolved) → IsStraight file text m → ⊥
 not_kept file text ts u e e' broken m h =
     let same = some_same (e ∙ tokens_are file text m h) in
     let unit = some_same (e' ∙ (ap parse same ∙ unit_is file text m h)) in
     true_false (ap (keeps file) unit ∙ h.keeping) broken
 
 -- ---- where one is read
-pub straight_from : (file text : List ℕ) (ts : List TokenKind) (u : StraightUnit) (m : Resolved)
+pub straight_from : (file text : List ℕ) (ts : List StraightKind) (u : StraightUnit) (m : Resolved)
     → length text ≤ 8192 → Some ts ≡ cut text → Some u ≡ parse ts → keeps file u ≡ true → m ≡ unit_means u → IsStraight file text m
 straight_from file text ts u m short e e' kept means = record {
   short = short;
@@ -88,7 +88,7 @@ bodies_fit file u h = statements_fit u.imports_write u.variables u.body (bodies_
 spelling_short : (file text : List ℕ) (m : Resolved) (h : IsStraight file text m) → length (spell h.unit) ≤ 8193
 spelling_short file text m h = omega (arith, few_tokens h.cut, h.short, ap length h.derives)
 
-pub few_enough : (text : List ℕ) (ts : List TokenKind) (u : StraightUnit) → length text ≤ 8192 → Some ts ≡ cut text → Some u ≡ parse ts → length u.variables ≤ 65536
+pub few_enough : (text : List ℕ) (ts : List StraightKind) (u : StraightUnit) → length text ≤ 8192 → Some ts ≡ cut text → Some u ≡ parse ts → length u.variables ≤ 65536
 few_enough text ts u short e e' =
     omega (arith, few_tokens (cut_sound text ts (sym e)), ap length (parse_sound ts u (sym e')), few_variables u, short)
 
@@ -98,7 +98,7 @@ straight_small file text m h = subst (λ (m : Resolved). IsSmall m) (sym h.meani
 pub straight_sound : (file text : List ℕ) (m : Resolved) → IsStraight file text m → IsSound m
 straight_sound file text m h =
     let u = h.unit in
-    let fit = subst (λ (ts : List TokenKind). list_all fits ts ≡ true) h.derives (all_fit h.cut) in
+    let fit = subst (λ (ts : List StraightKind). list_all fits ts ≡ true) h.derives (all_fit h.cut) in
     let body = body_sound u.variables u.imports_write u.body (body_fits u fit) (bodies_keep file u h.keeping) in
     let count = sym (length-map u.variables cardinal) in
     subst (λ (m : Resolved). IsSound m) (sym h.meaning) (subst (λ (n : ℕ). IsSoundBody n (map (statement_means u.variables) u.body)) count body)

@@ -3,12 +3,12 @@ use Rattle.std.specs.Prelude.{ℕ, zero, suc, ◌==◌, nat_le, Bool, false, ◌
 use Rattle.std.specs.List.{prefix_len}
 use Rattle.lil_base.specs.Names.{is_letter, is_digit, is_name_byte, is_name}
 use Rattle.lil_tree.specs.Cuts.{is_blank, is_number_byte, decimal_behind, name_token, mark_of, is_pair, word_among}
-use Rattle.lil_tree.specs.declared.token.TokenKind.{TokenKind}
-use Rattle.lil_tree.specs.declared.token.TokenKind.TheVariants as k
+use Rattle.lil_tree.specs.declared.straight_token.StraightKind.{StraightKind}
+use Rattle.lil_tree.specs.declared.straight_token.StraightKind.TheVariants as k
 use Rattle.lil_tree.specs.declared.token.Word.{Word}
 use Rattle.lil_tree.specs.declared.token.Word.TheVariants as w
-use Rattle.lil_tree.specs.declared.token.Mark.{Mark}
-use Rattle.lil_tree.specs.declared.token.Mark.TheVariants as m
+use Rattle.lil_tree.specs.declared.straight_token.StraightMark.{StraightMark}
+use Rattle.lil_tree.specs.declared.straight_token.StraightMark.TheVariants as m
 
 -- the reserved words, ten at a time
 abbrev pub words_to_div : List Word
@@ -35,7 +35,7 @@ word_in_groups name =
 
 -- what a text begins with: a token, or none for a blank, and how many bytes it takes
 abbrev pub Piece : Type 0
-Piece = Option TokenKind × ℕ
+Piece = Option StraightKind × ℕ
 
 unfoldable pub name_piece : List ℕ → Option Piece
 name_piece name = if is_name name then Some (Some (name_token name), length name) else None
@@ -56,7 +56,7 @@ number_by n (Some value) = Some (Some (k.Number value), n)
 unfoldable pub number_piece : List ℕ → List ℕ → Option Piece
 number_piece digits rest = if goes_on is_number_byte rest then None else number_by (length digits) (decimal digits)
 
-abbrev pub mark_by : Option Mark → Option Piece
+abbrev pub mark_by : Option StraightMark → Option Piece
 mark_by None = None
 mark_by (Some mark) = Some (Some (k.Mark mark), 1)
 
@@ -75,28 +75,28 @@ piece (b ∷ bs) =
     else mark_piece b bs))
 
 -- a token before others
-abbrev pub before : Option TokenKind → List TokenKind → List TokenKind
+abbrev pub before : Option StraightKind → List StraightKind → List StraightKind
 before None ts = ts
 before (Some t) ts = t ∷ ts
 
-abbrev pub with_token : Option TokenKind → Option (List TokenKind) → Option (List TokenKind)
+abbrev pub with_token : Option StraightKind → Option (List StraightKind) → Option (List StraightKind)
 with_token t None = None
 with_token t (Some ts) = Some (before t ts)
 
-abbrev pub cut_by : (List ℕ → Option (List TokenKind)) → List ℕ → Option Piece → Option (List TokenKind)
+abbrev pub cut_by : (List ℕ → Option (List StraightKind)) → List ℕ → Option Piece → Option (List StraightKind)
 cut_by go text None = None
 cut_by go text (Some p) = with_token p.0 (go (drop p.1 text))
 
 -- in so many steps
-unfoldable pub cut_in : ℕ → List ℕ → Option (List TokenKind)
+unfoldable pub cut_in : ℕ → List ℕ → Option (List StraightKind)
 cut_in n [] = Some (k.Finish ∷ [])
 cut_in zero (b ∷ bs) = None
 cut_in (suc n) (b ∷ bs) = cut_by (cut_in n) (b ∷ bs) (piece (b ∷ bs))
 
-unfoldable pub cut : List ℕ → Option (List TokenKind)
+unfoldable pub cut : List ℕ → Option (List StraightKind)
 cut text = cut_in (length text) text
 
 -- tokens that were found before those of the rest
-abbrev pub behind : List TokenKind → Option (List TokenKind) → Option (List TokenKind)
+abbrev pub behind : List StraightKind → Option (List StraightKind) → Option (List StraightKind)
 behind found None = None
 behind found (Some ts) = Some (found ++ ts)

@@ -2,11 +2,11 @@
 use Rattle.std.specs.Prelude.{ℕ, ℤ, pos, Bool, ◌||◌, List, [], ◌∷◌, codes, Option, Some, None}
 use Rattle.lil_base.specs.Words.{Cardinal}
 use Rattle.lil_tree.specs.Resolved.{Expression, Two}
-use Rattle.lil_tree.specs.Resolving.{listed, whole_result, constant_of, prefixes_fit, operand_means, whole_constant}
-use Rattle.lil_tree.specs.declared.syntax.More.{More}
-use Rattle.lil_tree.specs.declared.syntax.Sum.{Sum}
-use Rattle.lil_tree.specs.declared.syntax.Stmt.{Stmt}
-use Rattle.lil_tree.specs.declared.syntax.Stmt.TheVariants as s
+use Rattle.lil_tree.specs.Resolving.{operator_of, listed, whole_result, constant_of, prefixes_fit, operand_means, whole_constant}
+use Rattle.lil_tree.specs.declared.straight_syntax.More.{More}
+use Rattle.lil_tree.specs.declared.straight_syntax.Sum.{Sum}
+use Rattle.lil_tree.specs.declared.straight_syntax.StraightStmt.{StraightStmt}
+use Rattle.lil_tree.specs.declared.straight_syntax.StraightStmt.TheVariants as s
 
 -- the standard names, by what they name
 abbrev pub types_and_values : List (List ℕ)
@@ -35,7 +35,7 @@ prefix (x ∷ xs) z = prefix_by (prefix xs) z x xs (constant_of x.operand)
 -- what is added to an expression, none of it folded
 abbrev pub chained : List (List ℕ) → Expression → List More → Expression
 chained variables e [] = e
-chained variables e (x ∷ xs) = chained variables (Two x.operator Cardinal e (operand_means variables x.operand)) xs
+chained variables e (x ∷ xs) = chained variables (Two (operator_of x.operator) Cardinal e (operand_means variables x.operand)) xs
 
 abbrev pub summed_by : List (List ℕ) → Sum → Option ℤ → Expression
 summed_by variables s None = chained variables (operand_means variables s.first) s.rest
@@ -48,6 +48,6 @@ summed variables s = summed_by variables s (constant_of s.first)
 abbrev pub sum_fits : ℤ → Sum → Bool
 sum_fits most s = prefixes_fit most (constant_of s.first) s.rest
 
-abbrev pub statement_fits : Stmt → Bool
+abbrev pub statement_fits : StraightStmt → Bool
 statement_fits (s.Assign x e) = sum_fits (pos 65535) e
 statement_fits (s.Write e) = sum_fits (pos 255) e

@@ -2,32 +2,32 @@
 use Rattle.std.specs.Prelude.{◌≡◌, ℕ, zero, suc, Bool, true, false, if◌then◌else◌, List, [], ◌∷◌, ◌++◌, length, ◌==◌, codes, Option, Some, None, Result, Ok, Err}
 use Rattle.std.specs.Str.{bytes_eq}
 use denote.Enum.Bare.{sameb}
-use Rattle.lil_tree.specs.declared.token.TokenKind.{TokenKind}
-use Rattle.lil_tree.specs.declared.token.TokenKind.TheVariants as k
+use Rattle.lil_tree.specs.declared.straight_token.StraightKind.{StraightKind}
+use Rattle.lil_tree.specs.declared.straight_token.StraightKind.TheVariants as k
 use Rattle.lil_tree.specs.declared.token.Word.{Word}
 use Rattle.lil_tree.specs.declared.token.Word.TheVariants as w
-use Rattle.lil_tree.specs.declared.token.Mark.{Mark}
-use Rattle.lil_tree.specs.declared.token.Mark.TheVariants as m
-use Rattle.lil_tree.specs.contracts.token.Mark as mark
+use Rattle.lil_tree.specs.declared.straight_token.StraightMark.{StraightMark}
+use Rattle.lil_tree.specs.declared.straight_token.StraightMark.TheVariants as m
+use Rattle.lil_tree.specs.contracts.straight_token.StraightMark as mark
 use Rattle.lil_tree.specs.contracts.token.Word as word
-use Rattle.lil_tree.specs.declared.syntax.TwoOp.{TwoOp}
-use Rattle.lil_tree.specs.declared.syntax.TwoOp.TheVariants.{Plus, Minus}
-use Rattle.lil_tree.specs.declared.syntax.Operand.{Operand}
-use Rattle.lil_tree.specs.declared.syntax.Operand.TheVariants.{Number, Named}
-use Rattle.lil_tree.specs.declared.syntax.More.{More}
-use Rattle.lil_tree.specs.declared.syntax.Sum.{Sum}
-use Rattle.lil_tree.specs.declared.syntax.Stmt.{Stmt}
-use Rattle.lil_tree.specs.declared.syntax.Stmt.TheVariants.{Assign, Write}
-use Rattle.lil_tree.specs.declared.syntax.StraightUnit.{StraightUnit}
+use Rattle.lil_tree.specs.declared.straight_syntax.SumOp.{SumOp}
+use Rattle.lil_tree.specs.declared.straight_syntax.SumOp.TheVariants.{Plus, Minus}
+use Rattle.lil_tree.specs.declared.straight_syntax.Operand.{Operand}
+use Rattle.lil_tree.specs.declared.straight_syntax.Operand.TheVariants.{Number, Named}
+use Rattle.lil_tree.specs.declared.straight_syntax.More.{More}
+use Rattle.lil_tree.specs.declared.straight_syntax.Sum.{Sum}
+use Rattle.lil_tree.specs.declared.straight_syntax.StraightStmt.{StraightStmt}
+use Rattle.lil_tree.specs.declared.straight_syntax.StraightStmt.TheVariants.{Assign, Write}
+use Rattle.lil_tree.specs.declared.straight_syntax.StraightUnit.{StraightUnit}
 use Rattle.lil_straight.specs.declared.parser.ParseStop.{ParseStop}
 use Rattle.lil_straight.specs.declared.parser.ParseStop.TheVariants.{Syntax, Memory}
 
 -- a phrase and the tokens behind it
 abbrev pub Parsed : Type 0 → Type 0
-Parsed A = Option (A × List TokenKind)
+Parsed A = Option (A × List StraightKind)
 
 abbrev pub Parser : Type 0 → Type 0
-Parser A = List TokenKind → Parsed A
+Parser A = List StraightKind → Parsed A
 
 abbrev pub and_then : {A B : Type 0} → Parsed A → (A → Parser B) → Parsed B
 and_then None f = None
@@ -45,58 +45,58 @@ abbrev pub pure : {A : Type 0} → A → Parser A
 pure a = λ ts. Some (a, ts)
 
 -- what a function that parses gives, unless memory fails
-abbrev pub Reads : {A : Type 0} → Parsed A → Result A ParseStop → List TokenKind → Type 0
+abbrev pub Reads : {A : Type 0} → Parsed A → Result A ParseStop → List StraightKind → Type 0
 Reads outcome (Ok a) new = outcome ≡ Some (a, new)
 Reads outcome (Err Syntax) new = outcome ≡ None
 Reads outcome (Err Memory) new = Unit {0}
 
 -- ---- one token
-unfoldable pub next : List TokenKind → List TokenKind
+unfoldable pub next : List StraightKind → List StraightKind
 next [] = []
 next (t ∷ ts) = ts
 
-abbrev pub first : List TokenKind → Option TokenKind
+abbrev pub first : List StraightKind → Option StraightKind
 first [] = None
 first (t ∷ ts) = Some t
 
-unfoldable pub same_mark : Mark → Mark → Bool
+unfoldable pub same_mark : StraightMark → StraightMark → Bool
 same_mark = sameb mark.the_type
 
 unfoldable pub same_word : Word → Word → Bool
 same_word = sameb word.the_type
 
-abbrev pub is_mark : Mark → TokenKind → Bool
+abbrev pub is_mark : StraightMark → StraightKind → Bool
 is_mark m (k.Mark x) = same_mark x m
 is_mark m _ = false
 
-abbrev pub is_word : Word → TokenKind → Bool
+abbrev pub is_word : Word → StraightKind → Bool
 is_word w (k.Word x) = same_word x w
 is_word w _ = false
 
-abbrev pub is_ident : List ℕ → TokenKind → Bool
+abbrev pub is_ident : List ℕ → StraightKind → Bool
 is_ident name (k.Ident x) = bytes_eq x name
 is_ident name _ = false
 
-abbrev pub is_finish : TokenKind → Bool
+abbrev pub is_finish : StraightKind → Bool
 is_finish k.Finish = true
 is_finish _ = false
 
 -- the first token passes
-unfoldable pub sees : (TokenKind → Bool) → List TokenKind → Bool
+unfoldable pub sees : (StraightKind → Bool) → List StraightKind → Bool
 sees test [] = false
 sees test (t ∷ ts) = test t
 
-unfoldable pub expect : (TokenKind → Bool) → Parser (Unit {0})
+unfoldable pub expect : (StraightKind → Bool) → Parser (Unit {0})
 expect test = λ ts. if sees test ts then Some (tt, next ts) else None
 
-abbrev pub ident_by : Option TokenKind → Parser (List ℕ)
+abbrev pub ident_by : Option StraightKind → Parser (List ℕ)
 ident_by (Some (k.Ident name)) = λ ts. Some (name, next ts)
 ident_by _ = λ ts. None
 
 unfoldable pub ident : Parser (List ℕ)
 ident = λ ts. ident_by (first ts) ts
 
-abbrev pub operand_by : Option TokenKind → Parser Operand
+abbrev pub operand_by : Option StraightKind → Parser Operand
 operand_by (Some (k.Ident name)) = λ ts. Some (Named name, next ts)
 operand_by (Some (k.Number n)) = λ ts. Some (Number n, next ts)
 operand_by _ = λ ts. None
@@ -104,7 +104,7 @@ operand_by _ = λ ts. None
 unfoldable pub operand : Parser Operand
 operand = λ ts. operand_by (first ts) ts
 
-abbrev pub operator_of : Option TokenKind → Option TwoOp
+abbrev pub operator_of : Option StraightKind → Option SumOp
 operator_of (Some (k.Mark m.Plus)) = Some Plus
 operator_of (Some (k.Mark m.Minus)) = Some Minus
 operator_of _ = None
@@ -122,11 +122,11 @@ unfoldable pub behind : {A : Type 0} → Parser (Option A) → List A → Parser
 behind one xs = λ ts. many one (length ts) xs ts
 
 -- an item behind a token of its own, if that token stands first
-unfoldable pub led : {A : Type 0} → (TokenKind → Bool) → Parser A → Parser (Option A)
+unfoldable pub led : {A : Type 0} → (StraightKind → Bool) → Parser A → Parser (Option A)
 led test item = λ ts. if sees test ts then and_then (item (next ts)) (λ a. pure (Some a)) else Some (None, ts)
 
 -- ---- phrases
-abbrev pub more_by : Option TwoOp → Parser (Option More)
+abbrev pub more_by : Option SumOp → Parser (Option More)
 more_by None = λ ts. Some (None, ts)
 more_by (Some o) = λ ts. and_then (operand (next ts)) (λ x. pure (Some (record { operator = o; operand = x })))
 
@@ -136,17 +136,17 @@ one_more = λ ts. more_by (operator_of (first ts)) ts
 unfoldable pub sum : Parser Sum
 sum = operand >>= (λ x. behind one_more [] >>= (λ xs. pure (record { first = x; rest = xs })))
 
-unfoldable pub written : Parser Stmt
+unfoldable pub written : Parser StraightStmt
 written =
     expect (is_mark m.Open) >> (expect (is_ident (codes "CHR")) >> (expect (is_mark m.Open)
     >> (sum >>= (λ s. expect (is_mark m.Close) >> (expect (is_mark m.Close) >> pure (Write s))))))
 
-unfoldable pub named_statement : List ℕ → Parser Stmt
+unfoldable pub named_statement : List ℕ → Parser StraightStmt
 named_statement name = λ ts.
     if sees (is_mark m.Becomes) ts then and_then (sum (next ts)) (λ s. pure (Assign name s))
     else (if bytes_eq name (codes "Write") then written ts else None)
 
-unfoldable pub statement : Parser Stmt
+unfoldable pub statement : Parser StraightStmt
 statement = ident >>= named_statement
 
 unfoldable pub imported : Parser Bool
@@ -164,10 +164,10 @@ declared = names >>= (λ xs. expect (is_mark m.Colon) >> (expect (is_ident (code
 unfoldable pub variables : Parser (List (List ℕ))
 variables = λ ts. if sees (is_word w.Var) ts then declared (next ts) else Some ([], ts)
 
-unfoldable pub statements : Parser (List Stmt)
+unfoldable pub statements : Parser (List StraightStmt)
 statements = statement >>= (λ x. behind (led (is_mark m.Semicolon) statement) (x ∷ []))
 
-unfoldable pub body : Parser (List Stmt)
+unfoldable pub body : Parser (List StraightStmt)
 body = λ ts. if sees (is_word w.Begin) ts then statements (next ts) else Some ([], ts)
 
 unfoldable pub end_part : Parser (List ℕ)
@@ -186,5 +186,5 @@ abbrev pub whole : Parsed StraightUnit → Option StraightUnit
 whole None = None
 whole (Some p) = if length p.1 == 0 then Some p.0 else None
 
-unfoldable pub parse : List TokenKind → Option StraightUnit
+unfoldable pub parse : List StraightKind → Option StraightUnit
 parse ts = whole (straight ts)

@@ -5,7 +5,7 @@ ghost use Rattle.lil_tree.specs.Cuts as cuts;
 ghost use Rattle.lil_straight.specs.Cutting as spec;
 
 use lil_base::{Items, Memory, Name};
-use lil_tree::{Mark, TokenKind, Word};
+use lil_tree::{StraightMark, StraightKind, Word};
 use std::alloc::Global;
 
 fn is_blank(b: u8) -> bool
@@ -182,14 +182,14 @@ fn word_of(name: &[u8]) -> Option<Word>
 }
 
 #[tactic(auto, unfolding(crate::specs::Cutting::name_piece, lil_tree::specs::Cuts::name_token))]
-fn name_piece(alloc: Global, name: &[u8]) -> Result<Option<(Option<TokenKind>, usize)>, Memory>
+fn name_piece(alloc: Global, name: &[u8]) -> Result<Option<(Option<StraightKind>, usize)>, Memory>
     ensures { IfOk result (λ o. o ≡ spec.name_piece name.now) }
 {
     match Name::of_slice(alloc, name)? {
         None => Ok(None),
         Some(ident) => match word_of(name) {
-            Some(word) => Ok(Some((Some(TokenKind::Word(word)), name.len()))),
-            None => Ok(Some((Some(TokenKind::Ident(ident)), name.len()))),
+            Some(word) => Ok(Some((Some(StraightKind::Word(word)), name.len()))),
+            None => Ok(Some((Some(StraightKind::Ident(ident)), name.len()))),
         },
     }
 }
@@ -218,7 +218,7 @@ fn decimal(digits: &[u8]) -> Option<u16>
 }
 
 #[tactic(auto, unfolding(crate::specs::Cutting::number_piece))]
-fn number_piece(digits: &[u8], rest: &[u8]) -> Option<(Option<TokenKind>, usize)>
+fn number_piece(digits: &[u8], rest: &[u8]) -> Option<(Option<StraightKind>, usize)>
     ensures { result ≡ spec.number_piece digits.now rest.now }
 {
     if goes_on(rest) {
@@ -226,22 +226,22 @@ fn number_piece(digits: &[u8], rest: &[u8]) -> Option<(Option<TokenKind>, usize)
     }
     match decimal(digits) {
         None => None,
-        Some(value) => Some((Some(TokenKind::Number(value)), digits.len())),
+        Some(value) => Some((Some(StraightKind::Number(value)), digits.len())),
     }
 }
 
-fn mark_of(b: u8) -> Option<Mark>
+fn mark_of(b: u8) -> Option<StraightMark>
     ensures { result ≡ cuts.mark_of b }
 {
     match b {
-        b'+' => Some(Mark::Plus),
-        b'-' => Some(Mark::Minus),
-        b'.' => Some(Mark::Dot),
-        b',' => Some(Mark::Comma),
-        b';' => Some(Mark::Semicolon),
-        b':' => Some(Mark::Colon),
-        b'(' => Some(Mark::Open),
-        b')' => Some(Mark::Close),
+        b'+' => Some(StraightMark::Plus),
+        b'-' => Some(StraightMark::Minus),
+        b'.' => Some(StraightMark::Dot),
+        b',' => Some(StraightMark::Comma),
+        b';' => Some(StraightMark::Semicolon),
+        b':' => Some(StraightMark::Colon),
+        b'(' => Some(StraightMark::Open),
+        b')' => Some(StraightMark::Close),
         _ => None,
     }
 }
@@ -252,24 +252,24 @@ fn is_pair(b: u8, c: u8) -> bool
     (b == b':' && c == b'=') || ((b == b'.' && c == b'.') || (b == b'(' && c == b'*'))
 }
 
-fn one_byte(b: u8) -> Option<(Option<TokenKind>, usize)>
+fn one_byte(b: u8) -> Option<(Option<StraightKind>, usize)>
     ensures { result ≡ spec.mark_by (cuts.mark_of b) }
 {
     match mark_of(b) {
         None => None,
-        Some(mark) => Some((Some(TokenKind::Mark(mark)), 1)),
+        Some(mark) => Some((Some(StraightKind::Mark(mark)), 1)),
     }
 }
 
 #[tactic(auto, unfolding(crate::specs::Cutting::mark_piece))]
-fn mark_piece(b: u8, rest: &[u8]) -> Option<(Option<TokenKind>, usize)>
+fn mark_piece(b: u8, rest: &[u8]) -> Option<(Option<StraightKind>, usize)>
     ensures { result ≡ spec.mark_piece b rest.now }
 {
     match rest {
         [] => one_byte(b),
         [c, ..] => {
             if b == b':' && *c == b'=' {
-                Some((Some(TokenKind::Mark(Mark::Becomes)), 2))
+                Some((Some(StraightKind::Mark(StraightMark::Becomes)), 2))
             } else if is_pair(b, *c) {
                 None
             } else {
@@ -281,7 +281,7 @@ fn mark_piece(b: u8, rest: &[u8]) -> Option<(Option<TokenKind>, usize)>
 
 /// What the text begins with, and how many bytes it takes; no token for a blank.
 #[tactic(auto, unfolding(crate::specs::Cutting::piece))]
-fn piece(alloc: Global, text: &[u8]) -> Result<Option<(Option<TokenKind>, usize)>, Memory>
+fn piece(alloc: Global, text: &[u8]) -> Result<Option<(Option<StraightKind>, usize)>, Memory>
     ensures { IfOk result (λ o. o ≡ spec.piece text.now) }
 {
     match text {
@@ -311,7 +311,7 @@ fn after(text: &[u8], len: usize) -> &[u8]
     }
 }
 
-fn with_token(found: Items<TokenKind>, token: Option<TokenKind>) -> Result<Items<TokenKind>, Memory>
+fn with_token(found: Items<StraightKind>, token: Option<StraightKind>) -> Result<Items<StraightKind>, Memory>
     ensures { IfOk result (λ all. all ≡ found ++ spec.before token []) }
 {
     let mut all = found;
@@ -325,13 +325,13 @@ fn with_token(found: Items<TokenKind>, token: Option<TokenKind>) -> Result<Items
 }
 
 #[tactic(auto, unfolding(crate::specs::Cutting::cut_in))]
-fn finished(found: Items<TokenKind>, rest: &[u8]) -> Result<Option<Items<TokenKind>>, Memory>
+fn finished(found: Items<StraightKind>, rest: &[u8]) -> Result<Option<Items<StraightKind>>, Memory>
     ensures { IfOk result (λ o. o ≡ spec.behind found (spec.cut_in 0 rest.now)) }
 {
     match rest {
         [] => {
             let mut all = found;
-            all.push(TokenKind::Finish)?;
+            all.push(StraightKind::Finish)?;
             Ok(Some(all))
         }
         [_, ..] => Ok(None),
@@ -339,7 +339,7 @@ fn finished(found: Items<TokenKind>, rest: &[u8]) -> Result<Option<Items<TokenKi
 }
 
 /// The tokens of a text, Finish behind the last, or None where the text isn't made of tokens.
-pub(crate) fn tokens(alloc: Global, text: &[u8]) -> Result<Option<Items<TokenKind>>, Memory>
+pub(crate) fn tokens(alloc: Global, text: &[u8]) -> Result<Option<Items<StraightKind>>, Memory>
     ensures { IfOk result (λ o. o ≡ spec.cut text.now) }
 {
     let mut found = Items::new(alloc);

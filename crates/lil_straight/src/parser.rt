@@ -1,13 +1,13 @@
 ghost use Rattle.std.specs.Prelude.{◌≡◌, ◌≢◌, [], ◌∷◌, length, IfOk, codes};
 ghost use Rattle.std.specs.Option.{option_copied};
-ghost use Rattle.lil_tree.specs.declared.token.Mark.TheVariants as m;
+ghost use Rattle.lil_tree.specs.declared.straight_token.StraightMark.TheVariants as m;
 ghost use Rattle.lil_tree.specs.declared.token.Word.TheVariants as w;
 ghost use Rattle.lil_straight.specs.declared.parser.ParseStop.TheVariants.{Memory};
 ghost use Rattle.lil_straight.specs.Parsing as spec;
 ghost use Rattle.lil_straight.specs.Parsing.{Reads};
 
 use lil_base::{Items, Name};
-use lil_tree::{Mark, More, Operand, Stmt, StraightUnit, Sum, TokenKind, TwoOp, Word};
+use lil_tree::{StraightMark, More, Operand, StraightStmt, StraightUnit, Sum, StraightKind, SumOp, Word};
 use std::alloc::Global;
 use std::marker::Model;
 
@@ -29,58 +29,58 @@ impl From<lil_base::Memory> for ParseStop {
 /// The tokens that are left.
 #[derive(Drop)]
 struct Cursor<'a> {
-    rest: &'a [TokenKind],
+    rest: &'a [StraightKind],
 }
 
 impl<'a> Model for Cursor<'a> {
     ghost use Rattle.std.specs.Prelude.{List};
-    ghost use Rattle.lil_tree.specs.declared.token.TokenKind.{TokenKind};
+    ghost use Rattle.lil_tree.specs.declared.straight_token.StraightKind.{StraightKind};
 
-    ghost Value = { List TokenKind };
+    ghost Value = { List StraightKind };
 
     ghost view = { λ c. c.rest.now };
 }
 
 #[tactic(auto, unfolding(crate::specs::Parsing::same_mark))]
-fn is_mark(mark: Mark, token: &TokenKind) -> bool
+fn is_mark(mark: StraightMark, token: &StraightKind) -> bool
     ensures { result ≡ spec.is_mark mark token.now }
 {
     match token {
-        TokenKind::Mark(x) => *x == mark,
+        StraightKind::Mark(x) => *x == mark,
         _ => false,
     }
 }
 
 #[tactic(auto, unfolding(crate::specs::Parsing::same_word))]
-fn is_word(word: Word, token: &TokenKind) -> bool
+fn is_word(word: Word, token: &StraightKind) -> bool
     ensures { result ≡ spec.is_word word token.now }
 {
     match token {
-        TokenKind::Word(x) => *x == word,
+        StraightKind::Word(x) => *x == word,
         _ => false,
     }
 }
 
-fn is_ident(name: &[u8], token: &TokenKind) -> bool
+fn is_ident(name: &[u8], token: &StraightKind) -> bool
     ensures { result ≡ spec.is_ident name.now token.now }
 {
     match token {
-        TokenKind::Ident(x) => x.as_slice() == name,
+        StraightKind::Ident(x) => x.as_slice() == name,
         _ => false,
     }
 }
 
-fn is_finish(token: &TokenKind) -> bool
+fn is_finish(token: &StraightKind) -> bool
     ensures { result ≡ spec.is_finish token.now }
 {
     match token {
-        TokenKind::Finish => true,
+        StraightKind::Finish => true,
         _ => false,
     }
 }
 
 impl<'a> Cursor<'a> {
-    fn new(rest: &'a [TokenKind]) -> Cursor<'a>
+    fn new(rest: &'a [StraightKind]) -> Cursor<'a>
         ensures { result ≡ rest.now }
     {
         Cursor { rest }
@@ -101,14 +101,14 @@ impl<'a> Cursor<'a> {
         }
     }
 
-    fn first(&self) -> Option<&'a TokenKind>
+    fn first(&self) -> Option<&'a StraightKind>
         ensures { option_copied result ≡ spec.first self.now }
     {
         self.rest.first()
     }
 
     #[tactic(auto, unfolding(crate::specs::Parsing::sees))]
-    fn sees_mark(&self, mark: Mark) -> bool
+    fn sees_mark(&self, mark: StraightMark) -> bool
         ensures { result ≡ spec.sees (spec.is_mark mark) self.now }
     {
         match self.rest {
@@ -148,7 +148,7 @@ impl<'a> Cursor<'a> {
     }
 
     #[tactic(auto, unfolding(crate::specs::Parsing::expect))]
-    fn expect_mark(&mut self, mark: Mark) -> Result<(), ParseStop>
+    fn expect_mark(&mut self, mark: StraightMark) -> Result<(), ParseStop>
         ensures { Reads (spec.expect (spec.is_mark mark) self.old) result self.new }
     {
         if self.sees_mark(mark) {
@@ -201,7 +201,7 @@ fn ident(alloc: Global, cursor: &mut Cursor<'_>) -> Result<Name, ParseStop>
     ensures { Reads (spec.ident cursor.old) result cursor.new }
 {
     match cursor.first() {
-        Some(TokenKind::Ident(name)) => {
+        Some(StraightKind::Ident(name)) => {
             cursor.skip();
             Ok(name.copy(alloc)?)
         }
@@ -214,11 +214,11 @@ fn operand(alloc: Global, cursor: &mut Cursor<'_>) -> Result<Operand, ParseStop>
     ensures { Reads (spec.operand cursor.old) result cursor.new }
 {
     match cursor.first() {
-        Some(TokenKind::Ident(name)) => {
+        Some(StraightKind::Ident(name)) => {
             cursor.skip();
             Ok(Operand::Named(name.copy(alloc)?))
         }
-        Some(TokenKind::Number(value)) => {
+        Some(StraightKind::Number(value)) => {
             cursor.skip();
             Ok(Operand::Number(*value))
         }
@@ -226,12 +226,12 @@ fn operand(alloc: Global, cursor: &mut Cursor<'_>) -> Result<Operand, ParseStop>
     }
 }
 
-fn operator(cursor: &Cursor<'_>) -> Option<TwoOp>
+fn operator(cursor: &Cursor<'_>) -> Option<SumOp>
     ensures { result ≡ spec.operator_of (spec.first cursor.now) }
 {
     match cursor.first() {
-        Some(TokenKind::Mark(Mark::Plus)) => Some(TwoOp::Plus),
-        Some(TokenKind::Mark(Mark::Minus)) => Some(TwoOp::Minus),
+        Some(StraightKind::Mark(StraightMark::Plus)) => Some(SumOp::Plus),
+        Some(StraightKind::Mark(StraightMark::Minus)) => Some(SumOp::Minus),
         _ => None,
     }
 }
@@ -274,26 +274,26 @@ fn sum(alloc: Global, cursor: &mut Cursor<'_>) -> Result<Sum, ParseStop>
 }
 
 #[tactic(auto, unfolding(crate::specs::Parsing::written))]
-fn written(alloc: Global, cursor: &mut Cursor<'_>) -> Result<Stmt, ParseStop>
+fn written(alloc: Global, cursor: &mut Cursor<'_>) -> Result<StraightStmt, ParseStop>
     ensures { Reads (spec.written cursor.old) result cursor.new }
 {
-    cursor.expect_mark(Mark::Open)?;
+    cursor.expect_mark(StraightMark::Open)?;
     cursor.expect_ident(b"CHR")?;
-    cursor.expect_mark(Mark::Open)?;
+    cursor.expect_mark(StraightMark::Open)?;
     let character = sum(alloc, cursor)?;
-    cursor.expect_mark(Mark::Close)?;
-    cursor.expect_mark(Mark::Close)?;
-    Ok(Stmt::Write(character))
+    cursor.expect_mark(StraightMark::Close)?;
+    cursor.expect_mark(StraightMark::Close)?;
+    Ok(StraightStmt::Write(character))
 }
 
 #[tactic(auto, unfolding(crate::specs::Parsing::named_statement))]
-fn named_statement(alloc: Global, cursor: &mut Cursor<'_>, name: Name) -> Result<Stmt, ParseStop>
+fn named_statement(alloc: Global, cursor: &mut Cursor<'_>, name: Name) -> Result<StraightStmt, ParseStop>
     ensures { Reads (spec.named_statement name cursor.old) result cursor.new }
 {
-    if cursor.sees_mark(Mark::Becomes) {
+    if cursor.sees_mark(StraightMark::Becomes) {
         cursor.skip();
         let value = sum(alloc, cursor)?;
-        Ok(Stmt::Assign(name, value))
+        Ok(StraightStmt::Assign(name, value))
     } else if name.as_slice() == b"Write".as_slice() {
         written(alloc, cursor)
     } else {
@@ -302,7 +302,7 @@ fn named_statement(alloc: Global, cursor: &mut Cursor<'_>, name: Name) -> Result
 }
 
 #[tactic(auto, unfolding(crate::specs::Parsing::statement))]
-fn statement(alloc: Global, cursor: &mut Cursor<'_>) -> Result<Stmt, ParseStop>
+fn statement(alloc: Global, cursor: &mut Cursor<'_>) -> Result<StraightStmt, ParseStop>
     ensures { Reads (spec.statement cursor.old) result cursor.new }
 {
     let name = ident(alloc, cursor)?;
@@ -310,10 +310,10 @@ fn statement(alloc: Global, cursor: &mut Cursor<'_>) -> Result<Stmt, ParseStop>
 }
 
 #[tactic(auto, unfolding(crate::specs::Parsing::led))]
-fn next_statement(alloc: Global, cursor: &mut Cursor<'_>) -> Result<Option<Stmt>, ParseStop>
+fn next_statement(alloc: Global, cursor: &mut Cursor<'_>) -> Result<Option<StraightStmt>, ParseStop>
     ensures { Reads (spec.led (spec.is_mark m.Semicolon) spec.statement cursor.old) result cursor.new }
 {
-    if cursor.sees_mark(Mark::Semicolon) {
+    if cursor.sees_mark(StraightMark::Semicolon) {
         cursor.skip();
         let next = statement(alloc, cursor)?;
         Ok(Some(next))
@@ -323,7 +323,7 @@ fn next_statement(alloc: Global, cursor: &mut Cursor<'_>) -> Result<Option<Stmt>
 }
 
 #[tactic(auto, unfolding(crate::specs::Parsing::statements, crate::specs::Parsing::behind, crate::specs::Parsing::many))]
-fn statements(alloc: Global, cursor: &mut Cursor<'_>) -> Result<Items<Stmt>, ParseStop>
+fn statements(alloc: Global, cursor: &mut Cursor<'_>) -> Result<Items<StraightStmt>, ParseStop>
     ensures { Reads (spec.statements cursor.old) result cursor.new }
 {
     let mut found = Items::new(alloc);
@@ -341,7 +341,7 @@ fn statements(alloc: Global, cursor: &mut Cursor<'_>) -> Result<Items<Stmt>, Par
 fn next_name(alloc: Global, cursor: &mut Cursor<'_>) -> Result<Option<Name>, ParseStop>
     ensures { Reads (spec.led (spec.is_mark m.Comma) spec.ident cursor.old) result cursor.new }
 {
-    if cursor.sees_mark(Mark::Comma) {
+    if cursor.sees_mark(StraightMark::Comma) {
         cursor.skip();
         let next = ident(alloc, cursor)?;
         Ok(Some(next))
@@ -372,7 +372,7 @@ fn imported(cursor: &mut Cursor<'_>) -> Result<bool, ParseStop>
     cursor.expect_ident(b"Terminal")?;
     cursor.expect_word(Word::Import)?;
     cursor.expect_ident(b"Write")?;
-    cursor.expect_mark(Mark::Semicolon)?;
+    cursor.expect_mark(StraightMark::Semicolon)?;
     Ok(true)
 }
 
@@ -393,9 +393,9 @@ fn declared(alloc: Global, cursor: &mut Cursor<'_>) -> Result<Items<Name>, Parse
     ensures { Reads (spec.declared cursor.old) result cursor.new }
 {
     let found = names(alloc, cursor)?;
-    cursor.expect_mark(Mark::Colon)?;
+    cursor.expect_mark(StraightMark::Colon)?;
     cursor.expect_ident(b"CARDINAL")?;
-    cursor.expect_mark(Mark::Semicolon)?;
+    cursor.expect_mark(StraightMark::Semicolon)?;
     Ok(found)
 }
 
@@ -412,7 +412,7 @@ fn variables(alloc: Global, cursor: &mut Cursor<'_>) -> Result<Items<Name>, Pars
 }
 
 #[tactic(auto, unfolding(crate::specs::Parsing::body))]
-fn body(alloc: Global, cursor: &mut Cursor<'_>) -> Result<Items<Stmt>, ParseStop>
+fn body(alloc: Global, cursor: &mut Cursor<'_>) -> Result<Items<StraightStmt>, ParseStop>
     ensures { Reads (spec.body cursor.old) result cursor.new }
 {
     if cursor.sees_word(Word::Begin) {
@@ -429,7 +429,7 @@ fn heading(alloc: Global, cursor: &mut Cursor<'_>) -> Result<Name, ParseStop>
 {
     cursor.expect_word(Word::Module)?;
     let name = ident(alloc, cursor)?;
-    cursor.expect_mark(Mark::Semicolon)?;
+    cursor.expect_mark(StraightMark::Semicolon)?;
     Ok(name)
 }
 
@@ -439,7 +439,7 @@ fn end_part(alloc: Global, cursor: &mut Cursor<'_>) -> Result<Name, ParseStop>
 {
     cursor.expect_word(Word::End)?;
     let name = ident(alloc, cursor)?;
-    cursor.expect_mark(Mark::Dot)?;
+    cursor.expect_mark(StraightMark::Dot)?;
     cursor.expect_finish()?;
     Ok(name)
 }
@@ -466,7 +466,7 @@ fn straight(alloc: Global, cursor: &mut Cursor<'_>) -> Result<StraightUnit, Pars
 #[tactic(auto, unfolding(crate::specs::Parsing::parse))]
 pub(crate) fn unit(
     alloc: Global,
-    tokens: &[TokenKind],
+    tokens: &[StraightKind],
 ) -> Result<Option<StraightUnit>, lil_base::Memory>
     ensures { IfOk result (λ o. o ≡ spec.parse tokens.now) }
 {

@@ -9,7 +9,7 @@ ghost use Rattle.lil_tree.specs.Resolving as rules;
 ghost use Rattle.lil_tree.specs.Views as view;
 
 use lil_base::{Items, Memory, Name};
-use lil_tree::{More, Operand, RExpr, RModule, RStmt, Stmt, StraightUnit, Sum, TwoOp};
+use lil_tree::{More, Operand, RExpr, RModule, RStmt, StraightStmt, StraightUnit, Sum, SumOp, TwoOp};
 use std::alloc::Global;
 
 fn same(name: &[u8], other: &[u8]) -> bool
@@ -120,14 +120,14 @@ fn between(low: i32, z: i32, high: i32) -> bool
     !(z < low) && !(high < z)
 }
 
-fn whole_result(operator: TwoOp, a: i32, b: i32) -> i32
+fn whole_result(operator: SumOp, a: i32, b: i32) -> i32
     requires left { (negsuc 199999 ≤ℤ a) × (a ≤ℤ pos 200000) }
     requires right { (negsuc 199999 ≤ℤ b) × (b ≤ℤ pos 200000) }
     ensures value { result ≡ rules.whole_result operator a b }
 {
     match operator {
-        TwoOp::Plus => a + b,
-        TwoOp::Minus => a - b,
+        SumOp::Plus => a + b,
+        SumOp::Minus => a - b,
     }
 }
 
@@ -146,7 +146,7 @@ fn all_known(variables: &[Name], rest: &[More]) -> bool
     rest.iter().all(|x| is_known(variables, &x.operand))
 }
 
-fn longer(operator: TwoOp, z: i32, next: Option<i32>) -> Option<i32>
+fn longer(operator: SumOp, z: i32, next: Option<i32>) -> Option<i32>
     requires left { (negsuc 199999 ≤ℤ z) × (z ≤ℤ pos 200000) }
     requires right { IfSome next (λ n. (pos 0 ≤ℤ n) × (n ≤ℤ pos 65535)) }
     ensures { result ≡ rules.longer operator z next }
@@ -190,18 +190,18 @@ fn sum_keeps(variables: &[Name], most: u16, sum: &Sum) -> bool
             && prefixes_fit(most, constant_of(&sum.first), sum.rest.as_slice()))
 }
 
-fn statement_keeps(imported: bool, variables: &[Name], statement: &Stmt) -> bool
+fn statement_keeps(imported: bool, variables: &[Name], statement: &StraightStmt) -> bool
     ensures { result ≡ rules.statement_keeps imported variables.now statement.now }
 {
     match statement {
-        Stmt::Assign(x, sum) => {
+        StraightStmt::Assign(x, sum) => {
             listed(variables, x.as_slice()) && sum_keeps(variables, 65535, sum)
         }
-        Stmt::Write(sum) => imported && sum_keeps(variables, 255, sum),
+        StraightStmt::Write(sum) => imported && sum_keeps(variables, 255, sum),
     }
 }
 
-fn all_keep(imported: bool, variables: &[Name], statements: &[Stmt]) -> bool
+fn all_keep(imported: bool, variables: &[Name], statements: &[StraightStmt]) -> bool
     ensures { result ≡ list_all (rules.statement_keeps imported variables.now) statements.now }
 {
     statements.iter().all(|statement| statement_keeps(imported, variables, statement))
@@ -247,12 +247,21 @@ fn operand(variables: &[Name], operand: &Operand) -> RExpr
     }
 }
 
-fn two(alloc: Global, operator: TwoOp, left: RExpr, right: RExpr) -> Result<RExpr, Memory>
-    ensures { IfOk result (λ e. view.expression_of e ≡ Two operator Cardinal (view.expression_of left) (view.expression_of right)) }
+fn operator_of(operator: SumOp) -> TwoOp
+    ensures { result ≡ rules.operator_of operator }
+{
+    match operator {
+        SumOp::Plus => TwoOp::Plus,
+        SumOp::Minus => TwoOp::Minus,
+    }
+}
+
+fn two(alloc: Global, operator: SumOp, left: RExpr, right: RExpr) -> Result<RExpr, Memory>
+    ensures { IfOk result (λ e. view.expression_of e ≡ Two (rules.operator_of operator) Cardinal (view.expression_of left) (view.expression_of right)) }
 {
     let left = Box::new(alloc, left)?;
     let right = Box::new(alloc, right)?;
-    Ok(RExpr::Two(operator, left, right))
+    Ok(RExpr::Two(operator_of(operator), left, right))
 }
 
 /// The value of the numbers that the rest begins with, behind a value, and the rest of the rest.
@@ -332,21 +341,21 @@ fn character(alloc: Global, e: RExpr) -> Result<RExpr, Memory>
     }
 }
 
-fn statement(alloc: Global, variables: &[Name], statement: &Stmt) -> Result<RStmt, Memory>
+fn statement(alloc: Global, variables: &[Name], statement: &StraightStmt) -> Result<RStmt, Memory>
     requires few { length variables.now ≤ 65536 }
     requires fits { spec.statement_fits statement.now ≡ true }
     ensures { IfOk result (λ s. view.statement_of s ≡ rules.statement_means variables.now statement.now) }
 {
     match statement {
-        Stmt::Assign(x, sum) => {
+        StraightStmt::Assign(x, sum) => {
             let value = sum_expression(alloc, variables, sum)?;
             Ok(RStmt::Assign(number_among(variables, x.as_slice()), value))
         }
-        Stmt::Write(sum) => written(alloc, variables, sum),
+        StraightStmt::Write(sum) => written(alloc, variables, sum),
     }
 }
 
-fn body(alloc: Global, variables: &[Name], statements: &[Stmt]) -> Result<Items<RStmt>, Memory>
+fn body(alloc: Global, variables: &[Name], statements: &[StraightStmt]) -> Result<Items<RStmt>, Memory>
     requires few { length variables.now ≤ 65536 }
     requires fits { list_all spec.statement_fits statements.now ≡ true }
     ensures { IfOk result (λ ss. map view.statement_of ss ≡ map (rules.statement_means variables.now) statements.now) }

@@ -3,12 +3,12 @@ use Rattle.std.specs.Prelude.{◌≡◌, ℕ, ◌+◌, ◌-◌, ◌*◌, ◌≤�
 use Rattle.std.specs.List.{list_all}
 use Rattle.std.specs.Str.{bytes_eq}
 use Rattle.lil_base.specs.Names.{is_letter, is_digit, is_name_byte}
-use Rattle.lil_tree.specs.declared.token.TokenKind.{TokenKind}
-use Rattle.lil_tree.specs.declared.token.TokenKind.TheVariants as k
+use Rattle.lil_tree.specs.declared.straight_token.StraightKind.{StraightKind}
+use Rattle.lil_tree.specs.declared.straight_token.StraightKind.TheVariants as k
 use Rattle.lil_tree.specs.declared.token.Word.{Word}
 use Rattle.lil_tree.specs.declared.token.Word.TheVariants as w
-use Rattle.lil_tree.specs.declared.token.Mark.{Mark}
-use Rattle.lil_tree.specs.declared.token.Mark.TheVariants as m
+use Rattle.lil_tree.specs.declared.straight_token.StraightMark.{StraightMark}
+use Rattle.lil_tree.specs.declared.straight_token.StraightMark.TheVariants as m
 
 abbrev pub is_blank : ℕ → Bool
 is_blank b = (b == 9) || ((b == 10) || ((b == 12) || ((b == 13) || (b == 32))))
@@ -79,15 +79,15 @@ word_among [] name = None
 word_among (word ∷ words) name = if bytes_eq name (spelling word) then Some word else word_among words name
 
 -- a reserved word, or a name
-abbrev pub word_or_name : List ℕ → Option Word → TokenKind
+abbrev pub word_or_name : List ℕ → Option Word → StraightKind
 word_or_name name None = k.Ident name
 word_or_name name (Some word) = k.Word word
 
-unfoldable pub name_token : List ℕ → TokenKind
+unfoldable pub name_token : List ℕ → StraightKind
 name_token name = word_or_name name (word_among all_words name)
 
 -- a mark of one byte
-abbrev pub mark_of : ℕ → Option Mark
+abbrev pub mark_of : ℕ → Option StraightMark
 mark_of b =
     if b == 43 then Some m.Plus
     else (if b == 45 then Some m.Minus
@@ -108,16 +108,16 @@ NoPair b [] = Unit {0}
 NoPair b (c ∷ cs) = is_pair b c ≡ false
 
 -- these bytes, before the rest of a text, are one token
-pub data IsToken : List ℕ → List ℕ → TokenKind → Type 0 where
+pub data IsToken : List ℕ → List ℕ → StraightKind → Type 0 where
   word : {b : ℕ} {bs rest : List ℕ} → is_letter b ≡ true → list_all is_name_byte bs ≡ true → Stops is_name_byte rest → length bs ≤ 63
       → IsToken (b ∷ bs) rest (name_token (b ∷ bs))
   number : {d : ℕ} {ds rest : List ℕ} → is_digit d ≡ true → list_all is_digit ds ≡ true → Stops is_number_byte rest → decimal_behind 0 (d ∷ ds) ≤ 65535
       → IsToken (d ∷ ds) rest (k.Number (decimal_behind 0 (d ∷ ds)))
   becomes : {rest : List ℕ} → IsToken (58 ∷ 61 ∷ []) rest (k.Mark m.Becomes)
-  mark : {b : ℕ} {rest : List ℕ} {x : Mark} → mark_of b ≡ Some x → NoPair b rest → IsToken (b ∷ []) rest (k.Mark x)
+  mark : {b : ℕ} {rest : List ℕ} {x : StraightMark} → mark_of b ≡ Some x → NoPair b rest → IsToken (b ∷ []) rest (k.Mark x)
 
 -- the whole text is cut into these tokens, with Finish behind the last
-pub data IsCut : List ℕ → List TokenKind → Type 0 where
+pub data IsCut : List ℕ → List StraightKind → Type 0 where
   finish : IsCut [] (k.Finish ∷ [])
-  blank : {b : ℕ} {bs : List ℕ} {ts : List TokenKind} → is_blank b ≡ true → IsCut bs ts → IsCut (b ∷ bs) ts
-  token : {text front rest : List ℕ} {t : TokenKind} {ts : List TokenKind} → text ≡ front ++ rest → IsToken front rest t → IsCut rest ts → IsCut text (t ∷ ts)
+  blank : {b : ℕ} {bs : List ℕ} {ts : List StraightKind} → is_blank b ≡ true → IsCut bs ts → IsCut (b ∷ bs) ts
+  token : {text front rest : List ℕ} {t : StraightKind} {ts : List StraightKind} → text ≡ front ++ rest → IsToken front rest t → IsCut rest ts → IsCut text (t ∷ ts)

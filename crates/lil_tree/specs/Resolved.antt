@@ -1,7 +1,7 @@
 -- Resolved modules: each name is replaced by the thing that it means, and each constant expression by its value.
 use Rattle.std.specs.Prelude.{ℕ, List}
 use Rattle.lil_base.specs.Words.{Whole}
-use Rattle.lil_tree.specs.declared.syntax.TwoOp.{TwoOp}
+use Rattle.lil_tree.specs.declared.operator.TwoOp.{TwoOp}
 use Rattle.lil_tree.specs.Kinds.{Kind, OfWhole, OfCharacter}
 use Rattle.lil_tree.specs.Scalars.{Scalar}
 

@@ -7,15 +7,17 @@ use Rattle.lil_tree.specs.Kinds.{OfWhole, OfCharacter}
 use Rattle.lil_tree.specs.Scalars as v
 use Rattle.lil_tree.specs.Resolved.{Chr, Expression, Constant, Taken, Two, Apply, Statement, Assign, Resolved}
 use Rattle.lil_tree.specs.Views.{cardinal, cardinal_variable, write_of}
-use Rattle.lil_tree.specs.declared.syntax.TwoOp.{TwoOp}
-use Rattle.lil_tree.specs.declared.syntax.TwoOp.TheVariants.{Plus, Minus}
-use Rattle.lil_tree.specs.declared.syntax.Operand.{Operand}
-use Rattle.lil_tree.specs.declared.syntax.Operand.TheVariants.{Number, Named}
-use Rattle.lil_tree.specs.declared.syntax.More.{More}
-use Rattle.lil_tree.specs.declared.syntax.Sum.{Sum}
-use Rattle.lil_tree.specs.declared.syntax.Stmt.{Stmt}
-use Rattle.lil_tree.specs.declared.syntax.Stmt.TheVariants as s
-use Rattle.lil_tree.specs.declared.syntax.StraightUnit.{StraightUnit}
+use Rattle.lil_tree.specs.declared.operator.TwoOp.{TwoOp}
+use Rattle.lil_tree.specs.declared.operator.TwoOp.TheVariants as two
+use Rattle.lil_tree.specs.declared.straight_syntax.SumOp.{SumOp}
+use Rattle.lil_tree.specs.declared.straight_syntax.SumOp.TheVariants.{Plus, Minus}
+use Rattle.lil_tree.specs.declared.straight_syntax.Operand.{Operand}
+use Rattle.lil_tree.specs.declared.straight_syntax.Operand.TheVariants.{Number, Named}
+use Rattle.lil_tree.specs.declared.straight_syntax.More.{More}
+use Rattle.lil_tree.specs.declared.straight_syntax.Sum.{Sum}
+use Rattle.lil_tree.specs.declared.straight_syntax.StraightStmt.{StraightStmt}
+use Rattle.lil_tree.specs.declared.straight_syntax.StraightStmt.TheVariants as s
+use Rattle.lil_tree.specs.declared.straight_syntax.StraightUnit.{StraightUnit}
 
 -- the names of the block around each module
 abbrev pub standard_names : List (List ℕ)
@@ -44,7 +46,7 @@ is_taken own x = listed (own ∷ codes "Write" ∷ standard_names) x
 abbrev pub is_free : List ℕ → List ℕ → Bool
 is_free own x = not (is_taken own x)
 
-abbrev pub whole_result : TwoOp → ℤ → ℤ → ℤ
+abbrev pub whole_result : SumOp → ℤ → ℤ → ℤ
 whole_result Plus a b = a +ℤ b
 whole_result Minus a b = a -ℤ b
 
@@ -54,7 +56,7 @@ constant_of (Number n) = Some (pos n)
 constant_of (Named x) = None
 
 -- the value of a longer prefix, where the operand that is added is a number
-abbrev pub longer : TwoOp → ℤ → Option ℤ → Option ℤ
+abbrev pub longer : SumOp → ℤ → Option ℤ → Option ℤ
 longer o z None = None
 longer o z (Some n) = Some (whole_result o z n)
 
@@ -82,7 +84,7 @@ sum_keeps variables most s =
     is_known variables s.first && (list_all (is_known_more variables) s.rest && prefixes_fit most (constant_of s.first) s.rest)
 
 -- a variable is assigned to; Write is used only where it is imported, with a sum that is a character where it is constant
-abbrev pub statement_keeps : Bool → List (List ℕ) → Stmt → Bool
+abbrev pub statement_keeps : Bool → List (List ℕ) → StraightStmt → Bool
 statement_keeps imported variables (s.Assign x e) = listed variables x && sum_keeps variables (pos 65535) e
 statement_keeps imported variables (s.Write e) = imported && sum_keeps variables (pos 255) e
 
@@ -113,13 +115,17 @@ constant_value _ = None
 abbrev pub whole_constant : ℤ → Expression
 whole_constant z = Constant (OfWhole Cardinal) (v.Number z)
 
--- an operator over two expressions, whose value stands for it where both are constant
-abbrev pub joined_by : TwoOp → Expression → Expression → Option ℤ → Option ℤ → Expression
-joined_by o a b (Some x) (Some y) = whole_constant (whole_result o x y)
-joined_by o a b None y = Two o Cardinal a b
-joined_by o a b (Some x) None = Two o Cardinal a b
+abbrev pub operator_of : SumOp → TwoOp
+operator_of Plus = two.Plus
+operator_of Minus = two.Minus
 
-abbrev pub joined : TwoOp → Expression → Expression → Expression
+-- an operator over two expressions, whose value stands for it where both are constant
+abbrev pub joined_by : SumOp → Expression → Expression → Option ℤ → Option ℤ → Expression
+joined_by o a b (Some x) (Some y) = whole_constant (whole_result o x y)
+joined_by o a b None y = Two (operator_of o) Cardinal a b
+joined_by o a b (Some x) None = Two (operator_of o) Cardinal a b
+
+abbrev pub joined : SumOp → Expression → Expression → Expression
 joined o a b = joined_by o a b (constant_value a) (constant_value b)
 
 -- an expression and what is added to it, from left to right
@@ -138,7 +144,7 @@ chr_by e (Some z) = Constant OfCharacter (v.Character (word_of z))
 abbrev pub chr_of : Expression → Expression
 chr_of e = chr_by e (constant_value e)
 
-abbrev pub statement_means : List (List ℕ) → Stmt → Statement
+abbrev pub statement_means : List (List ℕ) → StraightStmt → Statement
 statement_means variables (s.Assign x e) = Assign (cardinal_variable (number_among variables x)) (sum_means variables e)
 statement_means variables (s.Write e) = write_of (chr_of (sum_means variables e))
 

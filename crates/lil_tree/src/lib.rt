@@ -1,10 +1,16 @@
 //! Tokens and trees.
 #![tactic(auto)]
 
+mod operator;
 mod resolved;
-mod syntax;
+mod stop;
+mod straight_syntax;
+mod straight_token;
 mod token;
 
+pub use operator::{OneOp, TwoOp};
 pub use resolved::{RExpr, RModule, RStmt};
-pub use syntax::{More, Operand, Stmt, StraightUnit, Sum, TwoOp};
-pub use token::{Mark, TokenKind, Word};
+pub use stop::ReadStop;
+pub use straight_syntax::{More, Operand, StraightStmt, StraightUnit, Sum, SumOp};
+pub use straight_token::{StraightKind, StraightMark};
+pub use token::{Mark, Token, TokenKind, Tokens, Word};

@@ -1,6 +1,6 @@
 use Rattle.std.proofs.Common.{rules, arith}
 use Rattle.std.proofs.lemmas.Grind.{common_steps}
-use Rattle.lil_tree.specs.declared.token.Mark.TheVariants as m
+use Rattle.lil_tree.specs.declared.straight_token.StraightMark.TheVariants as m
 use Rattle.lil_straight.specs.Parsing as spec
 use Rattle.lil_straight.specs.Parsing.{many}
 use Rattle.lil_straight.proofs.Measures.{turn_left}

@@ -1,7 +1,7 @@
 use Rattle.std.proofs.Common.{rules, arith, ◌≡◌, ◌∙◌, sym, ap, w32, to_z, of_z, pos, ℤ, List}
 use Rattle.std.proofs.lemmas.Int.{to_z-of_z}
 use mir.Val.{SFits}
-use Rattle.lil_tree.specs.declared.syntax.More.{More}
+use Rattle.lil_tree.specs.declared.straight_syntax.More.{More}
 use Rattle.lil_tree.specs.Resolving.{whole_result}
 use Rattle.lil_straight.proofs.Folds.{first_is, tail_fits, prefix_more}
 use Rattle.lil_straight.proofs.resolver.+prefix.Goals as goal

@@ -1,8 +1,8 @@
 use lil_base::{Items, Name};
 
-/// An operator with two operands.
+/// An operator of a sum.
 #[derive(Clone, Copy, Debug, PartialEq, Eq)]
-pub enum TwoOp {
+pub enum SumOp {
     Plus,
     Minus,
 }
@@ -17,7 +17,7 @@ pub enum Operand {
 /// An operator and the operand behind it.
 #[derive(Debug, Drop)]
 pub struct More {
-    pub operator: TwoOp,
+    pub operator: SumOp,
     pub operand: Operand,
 }
 
@@ -28,9 +28,9 @@ pub struct Sum {
     pub rest: Items<More>,
 }
 
-/// A statement: an assignment to a variable, or `Write(CHR(sum))`.
+/// A statement of a straight text: an assignment to a variable, or `Write(CHR(sum))`.
 #[derive(Debug, Drop)]
-pub enum Stmt {
+pub enum StraightStmt {
     Assign(Name, Sum),
     Write(Sum),
 }
@@ -41,6 +41,6 @@ pub struct StraightUnit {
     pub name: Name,
     pub imports_write: bool,
     pub variables: Items<Name>,
-    pub body: Items<Stmt>,
+    pub body: Items<StraightStmt>,
     pub end_name: Name,
 }
