@@ -1,11 +1,11 @@
 -- What is left to do. Where an item has a hole, it stands as · here.
-use Rattle.std.specs.Prelude.{ℕ, List, Option}
-use Rattle.lil_base.specs.Words.{Whole}
+use Rattle.std.specs.Prelude.{ℕ, ℤ, List, ◌∷◌, Option}
 use Rattle.lil_base.specs.declared.fault.TrapAt.{TrapAt}
+use Rattle.lil_tree.specs.declared.operator.OneOp.{OneOp}
 use Rattle.lil_tree.specs.declared.operator.TwoOp.{TwoOp}
 use Rattle.lil_tree.specs.Kinds.{Kind}
 use Rattle.lil_tree.specs.Scalars.{Scalar}
-use Rattle.lil_tree.specs.Resolved.{Designator, Function, Expression, Argument, Statement}
+use Rattle.lil_tree.specs.Resolved.{Designator, Function, Expression, Argument, Statement, Statements, Empty, Then, Arms}
 use Rattle.lil_meaning.specs.Cells.{Cells, Place}
 use Rattle.lil_meaning.specs.World.{World}
 
@@ -22,20 +22,43 @@ pub data Hole : Type 0 where
   SetTo : (k : Kind) (e : Expression) → Hole
   -- · goes to the place
   StoreAt : (p : Place) (k : Kind) → Hole
+  -- op ·
+  OneOf : (o : OneOp) (k : Kind) → Hole
   -- · op f
-  LeftOf : (o : TwoOp) (t : Whole) (f : Expression) → Hole
+  LeftOf : (o : TwoOp) (k : Kind) (f : Expression) → Hole
   -- v op ·
-  RightOf : (o : TwoOp) (t : Whole) (v : Scalar) → Hole
+  RightOf : (o : TwoOp) (k : Kind) (v : Scalar) → Hole
+  -- · AND f, · OR f
+  BothOf : (f : Expression) → Hole
+  EitherOf : (f : Expression) → Hole
   -- a standard function of ·
   ApplyTo : (f : Function) → Hole
   -- · is the next argument of the request
   Pass : (r : ℕ) (k : Kind) (done : List Scalar) (left : List Argument) → Hole
+  -- the first statements where · is TRUE, else the second
+  Choose : (a b : Statements) → Hole
+  -- the body and the whole WHILE again where · is TRUE
+  Turn : (c : Expression) (body : Statements) → Hole
+  -- the whole REPEAT again where · is FALSE
+  Again : (body : Statements) (c : Expression) → Hole
+  -- the arm with the label ·
+  Pick : (arms : Arms) → Hole
+  -- FOR d := · TO b BY step DO body END
+  StartOf : (d : Designator) (b : Expression) (step : ℤ) (body : Statements) → Hole
+  -- FOR d := v TO · BY step DO body END
+  LimitOf : (d : Designator) (v : Scalar) (step : ℤ) (body : Statements) → Hole
 
 -- the items without one
 pub data Task : Type 0 where
   Do : (s : Statement) → Task
   -- the arguments of a request that are done, and those that are left
   Passing : (r : ℕ) (done : List Scalar) (left : List Argument) → Task
+  -- the condition of a REPEAT, behind its body
+  Until : (body : Statements) (c : Expression) → Task
+  -- the end of a LOOP's body, which begins again
+  Looping : (body : Statements) → Task
+  -- so many turns of a FOR, the next one with this value
+  Turns : (d : Designator) (x step : ℤ) (left : ℕ) (body : Statements) → Task
   -- closes the items of an activation
   End : (a : ℕ) → Task
 
@@ -45,6 +68,11 @@ pub data Item : Type 0 where
   PlaceOf : (d : Designator) → Item
   Fill : (h : Hole) → Item
   Perform : (t : Task) → Item
+
+-- statements, and what is left behind them
+abbrev pub doing : Statements → List Item → List Item
+doing Empty k = k
+doing (Then s ss) k = Perform (Do s) ∷ doing ss k
 
 -- a running procedure: its module's number, its own number, and the activation that surrounds it
 pub record Activation : Type 0 where

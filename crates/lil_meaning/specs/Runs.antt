@@ -1,15 +1,10 @@
 -- Runs of loaded modules: the state after n steps.
 use Rattle.std.specs.Prelude.{ℕ, zero, suc, List, [], ◌∷◌, None}
-use Rattle.lil_tree.specs.Resolved.{Statement, Resolved}
+use Rattle.lil_tree.specs.Resolved.{Resolved}
 use Rattle.lil_meaning.specs.Cells.{fresh_cells}
 use Rattle.lil_meaning.specs.World.{World, Output, world_output}
-use Rattle.lil_meaning.specs.Items.{Do, End, Item, Perform, Activation, Going, Source}
+use Rattle.lil_meaning.specs.Items.{doing, End, Item, Perform, Activation, Going, Source}
 use Rattle.lil_meaning.specs.Steps.{next}
-
--- statements, and what is left behind them
-abbrev pub doing : List Statement → List Item → List Item
-doing [] k = k
-doing (s ∷ ss) k = Perform (Do s) ∷ doing ss k
 
 -- the bodies of modules in the order in which they run, each with its end; the activations have numbers from a on
 abbrev pub bodies : ℕ → List Resolved → List Item

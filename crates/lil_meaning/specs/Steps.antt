@@ -1,18 +1,22 @@
 -- One step: the first item becomes what its row shows, or a value goes into the hole of the next item.
-use Rattle.std.specs.Prelude.{ℕ, ℤ, pos, List, [], ◌∷◌, ◌++◌, map, Option, Some, None, Result, Ok, Err, slice_get, if◌then◌else◌}
-use Rattle.lil_base.specs.Words.{Whole, sum, difference, between, word_of}
+use Rattle.std.specs.Prelude.{ℕ, zero, suc, ◌+◌, ◌-◌, ◌/◌, ◌==◌, ℤ, pos, negsuc, ◌+ℤ◌, ◌-ℤ◌, int_lt, int_div, nat_abs, Bool, true, false, not, ◌&&◌, ◌||◌, nat_le, nat_lt, List, [], ◌∷◌, ◌++◌, map, Option, Some, None, Result, Ok, Err, slice_get, if◌then◌else◌}
+use Rattle.std.specs.List.{list_any}
+use Rattle.lil_base.specs.Words.{Whole, Cardinal, sum, difference, product, quotient, remainder, negation, absolute, whole_rest, is_zero, between, word_of}
 use Rattle.lil_base.specs.Traps.{arith_trap}
 use Rattle.lil_base.specs.declared.fault.ArithFault.{ArithFault}
 use Rattle.lil_base.specs.declared.fault.TrapKind.{TrapKind}
 use Rattle.lil_base.specs.declared.fault.TrapKind.TheVariants as trap
 use Rattle.lil_base.specs.declared.fault.TrapAt.{TrapAt}
+use Rattle.lil_tree.specs.declared.operator.OneOp.{OneOp}
+use Rattle.lil_tree.specs.declared.operator.OneOp.TheVariants as one
 use Rattle.lil_tree.specs.declared.operator.TwoOp.{TwoOp}
-use Rattle.lil_tree.specs.declared.operator.TwoOp.TheVariants.{Plus, Minus}
-use Rattle.lil_tree.specs.Scalars.{Scalar, Number, Character, within, scalar_word}
-use Rattle.lil_tree.specs.Resolved.{Designator, Variable, Function, Chr, Expression, Constant, Taken, Two, Apply, Statement, Assign, Request, Resolved, kind_of_place}
+use Rattle.lil_tree.specs.declared.operator.TwoOp.TheVariants.{Equal, Unequal, Less, AtMost, Greater, AtLeast, In, Plus, Minus, Or, Times, Slash, Div, Mod, And}
+use Rattle.lil_tree.specs.Kinds.{Kind, OfWhole, OfTruth, OfCharacter, OfEnumeration, OfRange}
+use Rattle.lil_tree.specs.Scalars.{Scalar, Number, Truth, Character, Nothing, within, scalar_word, scalar_of, ordinal_of, truth_of}
+use Rattle.lil_tree.specs.Resolved.{Designator, Variable, Function, Abs, Cap, Chr, Odd, Ord, Val, Expression, Constant, Taken, One, Two, Both, Either, Apply, Label, Statement, Assign, Request, If, Case, While, Repeat, Loop, Exit, For, Statements, Arms, NoElse, Else, Arm, Resolved, kind_of_place}
 use Rattle.lil_meaning.specs.Cells.{Global, Place, stored, got, alone, loaded_at}
 use Rattle.lil_meaning.specs.World.{serve}
-use Rattle.lil_meaning.specs.Items.{Datum, Scalars, Places, Hole, Get, SetTo, StoreAt, LeftOf, RightOf, ApplyTo, Pass, Task, Do, Passing, End, Item, Value, Evaluate, PlaceOf, Fill, Perform, Activation, Phase, Going, Closing, Ended, Trapped, Source}
+use Rattle.lil_meaning.specs.Items.{Datum, Scalars, Places, Hole, Get, SetTo, StoreAt, OneOf, LeftOf, RightOf, BothOf, EitherOf, ApplyTo, Pass, Choose, Turn, Again, Pick, StartOf, LimitOf, Task, Do, Passing, Until, Looping, Turns, End, Item, Value, Evaluate, PlaceOf, Fill, Perform, doing, Activation, Phase, Going, Closing, Ended, Trapped, Source}
 
 -- the activation at hand: that of the nearest end
 abbrev pub current : List Item → ℕ
@@ -47,21 +51,112 @@ abbrev pub whole_of : Scalar → ℤ
 whole_of (Number z) = z
 whole_of _ = pos 0
 
-abbrev pub operation : TwoOp → Whole → ℤ → ℤ → Result ℤ ArithFault
-operation Plus = sum
-operation Minus = difference
+-- the relations of numbers
+abbrev pub is_same : ℤ → ℤ → Bool
+is_same x y = not (int_lt x y) && not (int_lt y x)
+
+abbrev pub is_other : ℤ → ℤ → Bool
+is_other x y = int_lt x y || int_lt y x
+
+abbrev pub is_at_most : ℤ → ℤ → Bool
+is_at_most x y = not (int_lt y x)
+
+abbrev pub is_greater : ℤ → ℤ → Bool
+is_greater x y = int_lt y x
+
+abbrev pub is_at_least : ℤ → ℤ → Bool
+is_at_least x y = not (int_lt x y)
+
+-- the relation of an operator that compares two numbers
+abbrev pub relation_of : TwoOp → Option (ℤ → ℤ → Bool)
+relation_of Equal = Some is_same
+relation_of Unequal = Some is_other
+relation_of Less = Some int_lt
+relation_of AtMost = Some is_at_most
+relation_of Greater = Some is_greater
+relation_of AtLeast = Some is_at_least
+relation_of _ = None
+
+-- the operation of an operator on two whole numbers of a type
+abbrev pub operation_of : TwoOp → Option (Whole → ℤ → ℤ → Result ℤ ArithFault)
+operation_of Plus = Some sum
+operation_of Minus = Some difference
+operation_of Times = Some product
+operation_of Div = Some quotient
+operation_of Mod = Some remainder
+operation_of _ = None
 
 abbrev pub outcome : Result ℤ ArithFault → Result Scalar TrapKind
 outcome (Ok z) = Ok (Number z)
 outcome (Err e) = Err (arith_trap e)
 
--- an operator on two scalars: its value or its trap
-abbrev pub applied : TwoOp → Whole → Scalar → Scalar → Result Scalar TrapKind
-applied o t u v = outcome (operation o t (whole_of u) (whole_of v))
+-- an operator that takes no such operands has no value
+abbrev pub operated : Option (Whole → ℤ → ℤ → Result ℤ ArithFault) → Kind → Scalar → Scalar → Result Scalar TrapKind
+operated (Some f) (OfWhole t) u v = outcome (f t (whole_of u) (whole_of v))
+operated _ _ u v = Ok Nothing
 
--- a standard function of a scalar: its value or its trap
+abbrev pub compared : Option (ℤ → ℤ → Bool) → TwoOp → Kind → Scalar → Scalar → Result Scalar TrapKind
+compared (Some r) o k u v = Ok (Truth (r (ordinal_of u) (ordinal_of v)))
+compared None o k u v = operated (operation_of o) k u v
+
+-- an operator on two values of a kind: its value or its trap
+abbrev pub applied : TwoOp → Kind → Scalar → Scalar → Result Scalar TrapKind
+applied o k u v = compared (relation_of o) o k u v
+
+abbrev pub negated : Kind → Scalar → Result Scalar TrapKind
+negated (OfWhole t) v = outcome (negation t (whole_of v))
+negated _ v = Ok Nothing
+
+-- an operator on one value of a kind
+abbrev pub one_applied : OneOp → Kind → Scalar → Result Scalar TrapKind
+one_applied one.Plus k v = Ok v
+one_applied one.Minus k v = negated k v
+one_applied one.Not k v = Ok (Truth (not (truth_of v)))
+
+-- a small letter's code becomes its capital's
+abbrev pub capital : ℕ → ℕ
+capital c = if nat_le 97 c && nat_le c 122 then c - 32 else c
+
+abbrev pub character_of : Scalar → ℕ
+character_of (Character c) = c
+character_of _ = 0
+
+-- the value of a kind with a number, if the kind has it
+abbrev pub ranged : Kind → ℤ → Result Scalar TrapKind
+ranged k z = if within k (scalar_of k z) then Ok (scalar_of k z) else Err trap.Range
+
+-- a standard function of a value: its value or its trap
 abbrev pub function_value : Function → Scalar → Result Scalar TrapKind
+function_value (Abs t) v = outcome (absolute t (whole_of v))
+function_value Cap v = Ok (Character (capital (character_of v)))
 function_value Chr v = if between (pos 0) (whole_of v) (pos 255) then Ok (Character (word_of (whole_of v))) else Err trap.Range
+function_value Odd v = Ok (Truth (not (is_zero (whole_rest (whole_of v) (pos 2)))))
+function_value Ord v = ranged (OfWhole Cardinal) (ordinal_of v)
+function_value (Val k) v = ranged k (ordinal_of v)
+
+-- a number is among labels
+abbrev pub is_label : ℤ → Label → Bool
+is_label z l = between l.low z l.high
+
+abbrev pub among : List Label → ℤ → Bool
+among labels z = list_any (is_label z) labels
+
+-- the first arm with the label, else what stands behind ELSE
+abbrev pub chosen : Arms → ℤ → Option Statements
+chosen NoElse z = None
+chosen (Else body) z = Some body
+chosen (Arm labels body rest) z = if among labels z then Some body else chosen rest z
+
+-- the turns of a FOR from a to b
+abbrev pub turns : ℤ → ℤ → ℤ → ℕ
+turns a b (pos n) = if int_lt b a then 0 else nat_abs (b -ℤ a) / n + 1
+turns a b (negsuc n) = if int_lt a b then 0 else nat_abs (a -ℤ b) / (n + 1) + 1
+
+-- EXIT: all items up to and with the first LOOP's end go
+abbrev pub exited : List Item → List Item
+exited [] = []
+exited (Perform (Looping body) ∷ k) = k
+exited (i ∷ k) = exited k
 
 abbrev pub answered : List Resolved → Result Scalar TrapKind → List Item → Source → Source
 answered modules (Ok v) k s = with_items s (Value (Scalars v) ∷ k)
@@ -77,16 +172,44 @@ placed (Variable x kind) k s = with_items s (Value (Places (variable_place s x))
 abbrev pub evaluated : Expression → List Item → Source → Source
 evaluated (Constant kind v) k s = with_items s (Value (Scalars v) ∷ k)
 evaluated (Taken d) k s = with_items s (PlaceOf d ∷ Fill Get ∷ k)
-evaluated (Two o t a b) k s = with_items s (Evaluate a ∷ Fill (LeftOf o t b) ∷ k)
+evaluated (One o kind a) k s = with_items s (Evaluate a ∷ Fill (OneOf o kind) ∷ k)
+evaluated (Two o kind a b) k s = with_items s (Evaluate a ∷ Fill (LeftOf o kind b) ∷ k)
+evaluated (Both a b) k s = with_items s (Evaluate a ∷ Fill (BothOf b) ∷ k)
+evaluated (Either a b) k s = with_items s (Evaluate a ∷ Fill (EitherOf b) ∷ k)
 evaluated (Apply f a) k s = with_items s (Evaluate a ∷ Fill (ApplyTo f) ∷ k)
+
+-- the chosen arm is done, or there is none
+abbrev pub picked : List Resolved → Option Statements → List Item → Source → Source
+picked modules None k s = trapped modules s trap.Case
+picked modules (Some body) k s = with_items s (doing body k)
+
+-- a turn of a FOR: its value is stored as by an assignment, then comes the body
+abbrev pub turned : List Resolved → Designator → ℤ → ℤ → ℕ → Statements → List Item → Source → Source
+turned modules (Variable x kind) z step left body k s =
+    if within kind (scalar_of kind z)
+    then record s { items = doing body (Perform (Turns (Variable x kind) (z +ℤ step) step left body) ∷ k); cells = stored s.cells (variable_place s x) (alone (scalar_of kind z)) }
+    else trapped modules s trap.Range
+
+abbrev pub turned_on : List Resolved → Designator → ℤ → ℤ → ℕ → Statements → List Item → Source → Source
+turned_on modules d z step zero body k s = with_items s k
+turned_on modules d z step (suc left) body k s = turned modules d z step left body k s
 
 -- a scalar goes into a hole
 abbrev pub filled : List Resolved → Hole → Scalar → List Item → Source → Source
 filled modules (StoreAt p kind) v k s = if within kind v then record s { items = k; cells = stored s.cells p (alone v) } else trapped modules s trap.Range
-filled modules (LeftOf o t f) v k s = with_items s (Evaluate f ∷ Fill (RightOf o t v) ∷ k)
-filled modules (RightOf o t u) v k s = answered modules (applied o t u v) k s
+filled modules (OneOf o kind) v k s = answered modules (one_applied o kind v) k s
+filled modules (LeftOf o kind f) v k s = with_items s (Evaluate f ∷ Fill (RightOf o kind v) ∷ k)
+filled modules (RightOf o kind u) v k s = answered modules (applied o kind u v) k s
+filled modules (BothOf f) v k s = with_items s (if truth_of v then Evaluate f ∷ k else Value (Scalars v) ∷ k)
+filled modules (EitherOf f) v k s = with_items s (if truth_of v then Value (Scalars v) ∷ k else Evaluate f ∷ k)
 filled modules (ApplyTo f) v k s = answered modules (function_value f v) k s
 filled modules (Pass r kind done left) v k s = if within kind v then with_items s (Perform (Passing r (done ++ v ∷ []) left) ∷ k) else trapped modules s trap.Range
+filled modules (Choose a b) v k s = with_items s (if truth_of v then doing a k else doing b k)
+filled modules (Turn c body) v k s = with_items s (if truth_of v then doing body (Perform (Do (While c body)) ∷ k) else k)
+filled modules (Again body c) v k s = with_items s (if truth_of v then k else Perform (Do (Repeat body c)) ∷ k)
+filled modules (Pick arms) v k s = picked modules (chosen arms (ordinal_of v)) k s
+filled modules (StartOf d b step body) v k s = with_items s (Evaluate b ∷ Fill (LimitOf d v step body) ∷ k)
+filled modules (LimitOf d u step body) v k s = with_items s (Perform (Turns d (ordinal_of u) step (turns (ordinal_of u) (ordinal_of v) step) body) ∷ k)
 filled modules Get v k s = s
 filled modules (SetTo kind e) v k s = s
 
@@ -95,8 +218,17 @@ abbrev pub filled_place : Hole → Place → List Item → Source → Source
 filled_place Get p k s = with_items s (Value (Scalars (got s.cells p)) ∷ k)
 filled_place (SetTo kind e) p k s = with_items s (Evaluate e ∷ Fill (StoreAt p kind) ∷ k)
 filled_place (StoreAt q kind) p k s = s
-filled_place (LeftOf o t f) p k s = s
-filled_place (RightOf o t u) p k s = s
+filled_place (OneOf o kind) p k s = s
+filled_place (LeftOf o kind f) p k s = s
+filled_place (RightOf o kind u) p k s = s
+filled_place (BothOf f) p k s = s
+filled_place (EitherOf f) p k s = s
+filled_place (Choose a b) p k s = s
+filled_place (Turn c body) p k s = s
+filled_place (Again body c) p k s = s
+filled_place (Pick arms) p k s = s
+filled_place (StartOf d b step body) p k s = s
+filled_place (LimitOf d u step body) p k s = s
 filled_place (ApplyTo f) p k s = s
 filled_place (Pass r kind done left) p k s = s
 
@@ -107,12 +239,22 @@ fill modules (Places p) h k s = filled_place h p k s
 abbrev pub did : Statement → List Item → Source → Source
 did (Assign d e) k s = with_items s (PlaceOf d ∷ Fill (SetTo (kind_of_place d) e) ∷ k)
 did (Request r given) k s = with_items s (Perform (Passing r [] given) ∷ k)
+did (If c a b) k s = with_items s (Evaluate c ∷ Fill (Choose a b) ∷ k)
+did (Case e arms) k s = with_items s (Evaluate e ∷ Fill (Pick arms) ∷ k)
+did (While c body) k s = with_items s (Evaluate c ∷ Fill (Turn c body) ∷ k)
+did (Repeat body c) k s = with_items s (doing body (Perform (Until body c) ∷ k))
+did (Loop body) k s = with_items s (doing body (Perform (Looping body) ∷ k))
+did Exit k s = with_items s (exited k)
+did (For d a b step body) k s = with_items s (Evaluate a ∷ Fill (StartOf d b step body) ∷ k)
 
-abbrev pub performed : Task → List Item → Source → Source
-performed (Do t) k s = did t k s
-performed (Passing r done []) k s = record s { items = k; world = serve r (map scalar_word done) s.world }
-performed (Passing r done (a ∷ left)) k s = with_items s (Evaluate a.value ∷ Fill (Pass r a.kind done left) ∷ k)
-performed (End a) k s = with_items s k
+abbrev pub performed : List Resolved → Task → List Item → Source → Source
+performed modules (Do t) k s = did t k s
+performed modules (Passing r done []) k s = record s { items = k; world = serve r (map scalar_word done) s.world }
+performed modules (Passing r done (a ∷ left)) k s = with_items s (Evaluate a.value ∷ Fill (Pass r a.kind done left) ∷ k)
+performed modules (Until body c) k s = with_items s (Evaluate c ∷ Fill (Again body c) ∷ k)
+performed modules (Looping body) k s = with_items s (doing body (Perform (Looping body) ∷ k))
+performed modules (Turns d x step left body) k s = turned_on modules d x step left body k s
+performed modules (End a) k s = with_items s k
 
 -- a value goes into the next item
 abbrev pub given : List Resolved → Datum → Item → List Item → Source → Source
@@ -130,7 +272,7 @@ first modules (Value d ∷ i ∷ k) s = given modules d i k s
 first modules (Evaluate e ∷ k) s = evaluated e k s
 first modules (PlaceOf d ∷ k) s = placed d k s
 first modules (Fill h ∷ k) s = s
-first modules (Perform t ∷ k) s = performed t k s
+first modules (Perform t ∷ k) s = performed modules t k s
 
 -- a level that trapped is closed; after its end a state stays
 abbrev pub by_phase : List Resolved → Phase → Source → Source

@@ -5,7 +5,7 @@ use Rattle.std.specs.Str.{bytes_eq}
 use Rattle.lil_base.specs.Words.{Cardinal, between, word_of}
 use Rattle.lil_tree.specs.Kinds.{OfWhole, OfCharacter}
 use Rattle.lil_tree.specs.Scalars as v
-use Rattle.lil_tree.specs.Resolved.{Chr, Expression, Constant, Taken, Two, Apply, Statement, Assign, Resolved}
+use Rattle.lil_tree.specs.Resolved.{Chr, Expression, Constant, Taken, Two, Apply, Statement, Assign, Resolved, in_order}
 use Rattle.lil_tree.specs.Views.{cardinal, cardinal_variable, write_of}
 use Rattle.lil_tree.specs.declared.operator.TwoOp.{TwoOp}
 use Rattle.lil_tree.specs.declared.operator.TwoOp.TheVariants as two
@@ -122,8 +122,8 @@ operator_of Minus = two.Minus
 -- an operator over two expressions, whose value stands for it where both are constant
 abbrev pub joined_by : SumOp → Expression → Expression → Option ℤ → Option ℤ → Expression
 joined_by o a b (Some x) (Some y) = whole_constant (whole_result o x y)
-joined_by o a b None y = Two (operator_of o) Cardinal a b
-joined_by o a b (Some x) None = Two (operator_of o) Cardinal a b
+joined_by o a b None y = Two (operator_of o) (OfWhole Cardinal) a b
+joined_by o a b (Some x) None = Two (operator_of o) (OfWhole Cardinal) a b
 
 abbrev pub joined : SumOp → Expression → Expression → Expression
 joined o a b = joined_by o a b (constant_value a) (constant_value b)
@@ -149,4 +149,4 @@ statement_means variables (s.Assign x e) = Assign (cardinal_variable (number_amo
 statement_means variables (s.Write e) = write_of (chr_of (sum_means variables e))
 
 abbrev pub unit_means : StraightUnit → Resolved
-unit_means u = record { name = u.name; variables = map cardinal u.variables; body = map (statement_means u.variables) u.body }
+unit_means u = record { name = u.name; variables = map cardinal u.variables; body = in_order (map (statement_means u.variables) u.body) }

@@ -1,13 +1,16 @@
-use crate::TwoOp;
+use crate::{OneOp, TwoOp};
 use lil_base::{Items, Name};
 
 /// An expression with each name replaced by its thing, and each constant expression by its value.
-/// A variable is its number among the module's.
+/// A number is a CARDINAL, an integer an INTEGER, and a variable is its number among the module's.
 #[derive(Drop)]
 pub enum RExpr {
     Number(u16),
+    Integer(i16),
+    Truth(bool),
     Character(u8),
     Variable(u16),
+    One(OneOp, Box<RExpr>),
     Two(TwoOp, Box<RExpr>, Box<RExpr>),
     Chr(Box<RExpr>),
 }
