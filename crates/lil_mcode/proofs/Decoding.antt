@@ -1,9 +1,9 @@
 -- An instruction stands whole in the code.
-use Rattle.std.proofs.Common.{◌≡◌, ℕ, ◌+◌, ◌*◌, ◌<◌, ◌≤◌, List, Option, Some, None, Bool, true, false, ◌==◌, if◌then◌else◌, option_and_then, slice_get, length, refl, ap, arith}
+use Rattle.std.proofs.Common.{◌≡◌, ℕ, ◌+◌, ◌*◌, ◌/◌, ◌%◌, ◌<◌, ◌≤◌, List, Option, Some, None, Bool, true, false, ◌==◌, if◌then◌else◌, option_and_then, slice_get, length, refl, ap, arith}
 use Rattle.std.proofs.lemmas.Option.{slice_get_within}
 use Rattle.lil_mcode.specs.declared.instr.Instr.{Instr}
-use Rattle.lil_mcode.specs.declared.instr.Instr.TheVariants.{Liw, Lgw, Sgw, Rgc, Adc, Sbc, Ent, Rtn, Svc}
-use Rattle.lil_mcode.specs.Bytes.{word_at, with_byte, with_word, with_two_words, row, decoded}
+use Rattle.lil_mcode.specs.declared.instr.Instr.TheVariants.{Liw, Lib, Dup, Drp, Swp, Lis, Llw, Lgw, Sgw, Rgc, Rgi, Cap, Adc, Sbc, Mlc, Dvc, Mdc, Adi, Sbi, Mli, Dvi, Mdi, Ngi, Abi, Not, Equ, Neq, Lsc, Lec, Lsi, Lei, Ent, Rtn, Jmp, Jpf, Jan, Jor, Jms, Jfs, Cas, Fri, Frn, Trp, Svc}
+use Rattle.lil_mcode.specs.Bytes.{word_at, with_byte, with_word, with_two_words, with_loop, row, row_0, row_2, row_3, row_4, row_5, row_6, row_7, decoded}
 
 -- it begins at a place and lies within the code
 pub record Stands (code : List ℕ) (p q : ℕ) : Type 0 where
@@ -55,18 +55,105 @@ choice : (test : Bool) (x y : Option (Instr × ℕ)) (d : Instr × ℕ) (P : Typ
 choice true x y d P f g h = f h
 choice false x y d P f g h = g h
 
+loop_stands : (code : List ℕ) (p : ℕ) (d : Instr × ℕ) → with_loop code p ≡ Some d → Stands code p d.1
+loop_stands code p d h =
+    let x = bound (word_at code (p + 1)) (λ (o : ℕ). option_and_then (λ (s : ℕ). option_and_then (λ (t : ℕ). Some (Fri o s t, p + 6)) (word_at code (p + 4))) (slice_get code (p + 3))) d h in
+    let y = bound (slice_get code (p + 3)) (λ (s : ℕ). option_and_then (λ (t : ℕ). Some (Fri x.0 s t, p + 6)) (word_at code (p + 4))) d x.2 in
+    let z = bound (word_at code (p + 4)) (λ (t : ℕ). Some (Fri x.0 y.0 t, p + 6)) d y.2 in
+    let l : p + 4 + 1 < length code = word_within code (p + 4) z.0 z.1 in
+    let e : (Fri x.0 y.0 z.0, p + 6) ≡ d = cc in
+    let f : p + 6 ≡ d.1 = ap (λ (z : Instr × ℕ). z.1) e in
+    record { later = omega arith; within = omega arith }
+
+row_0_stands : (b : ℕ) (code : List ℕ) (p : ℕ) (d : Instr × ℕ) → p < length code → row_0 b code p ≡ Some d → Stands code p d.1
+unfolding row_0
+row_0_stands b code p d l =
+    let S : Type 0 = Stands code p d.1 in
+    choice (b == 0x01) _ _ d S (word_stands Liw code p d)
+    (choice (b == 0x02) _ _ d S (byte_stands Lib code p d)
+    (choice (b == 0x03) _ _ d S (one_stands Dup code p d l)
+    (choice (b == 0x04) _ _ d S (one_stands Drp code p d l)
+    (choice (b == 0x05) _ _ d S (one_stands Swp code p d l) (λ h. cc)))))
+
+row_2_stands : (b : ℕ) (code : List ℕ) (p : ℕ) (d : Instr × ℕ) → p < length code → row_2 b code p ≡ Some d → Stands code p d.1
+unfolding row_2
+row_2_stands b code p d l =
+    let S : Type 0 = Stands code p d.1 in
+    choice (b == 0x20) _ _ d S (word_stands Llw code p d)
+    (choice (b == 0x24) _ _ d S (word_stands Lgw code p d)
+    (choice (b == 0x26) _ _ d S (word_stands Sgw code p d) (λ h. cc)))
+
+row_3_stands : (b : ℕ) (code : List ℕ) (p : ℕ) (d : Instr × ℕ) → p < length code → row_3 b code p ≡ Some d → Stands code p d.1
+unfolding row_3
+row_3_stands b code p d l =
+    let S : Type 0 = Stands code p d.1 in
+    choice (b == 0x39) _ _ d S (two_stand Rgc code p d)
+    (choice (b == 0x3a) _ _ d S (two_stand Rgi code p d)
+    (choice (b == 0x3b) _ _ d S (one_stands Cap code p d l) (λ h. cc)))
+
+row_4_stands : (b : ℕ) (code : List ℕ) (p : ℕ) (d : Instr × ℕ) → p < length code → row_4 b p ≡ Some d → Stands code p d.1
+unfolding row_4
+row_4_stands b code p d l =
+    let S : Type 0 = Stands code p d.1 in
+    choice (b == 0x40) _ _ d S (one_stands Adc code p d l)
+    (choice (b == 0x41) _ _ d S (one_stands Sbc code p d l)
+    (choice (b == 0x42) _ _ d S (one_stands Mlc code p d l)
+    (choice (b == 0x43) _ _ d S (one_stands Dvc code p d l)
+    (choice (b == 0x44) _ _ d S (one_stands Mdc code p d l)
+    (choice (b == 0x45) _ _ d S (one_stands Adi code p d l)
+    (choice (b == 0x46) _ _ d S (one_stands Sbi code p d l)
+    (choice (b == 0x47) _ _ d S (one_stands Mli code p d l)
+    (choice (b == 0x48) _ _ d S (one_stands Dvi code p d l)
+    (choice (b == 0x49) _ _ d S (one_stands Mdi code p d l)
+    (choice (b == 0x4a) _ _ d S (one_stands Ngi code p d l)
+    (choice (b == 0x4b) _ _ d S (one_stands Abi code p d l) (λ h. cc))))))))))))
+
+row_5_stands : (b : ℕ) (code : List ℕ) (p : ℕ) (d : Instr × ℕ) → p < length code → row_5 b p ≡ Some d → Stands code p d.1
+unfolding row_5
+row_5_stands b code p d l =
+    let S : Type 0 = Stands code p d.1 in
+    choice (b == 0x59) _ _ d S (one_stands Not code p d l)
+    (choice (b == 0x5a) _ _ d S (one_stands Equ code p d l)
+    (choice (b == 0x5b) _ _ d S (one_stands Neq code p d l)
+    (choice (b == 0x5c) _ _ d S (one_stands Lsc code p d l)
+    (choice (b == 0x5d) _ _ d S (one_stands Lec code p d l)
+    (choice (b == 0x5e) _ _ d S (one_stands Lsi code p d l)
+    (choice (b == 0x5f) _ _ d S (one_stands Lei code p d l) (λ h. cc)))))))
+
+row_6_stands : (b : ℕ) (code : List ℕ) (p : ℕ) (d : Instr × ℕ) → p < length code → row_6 b code p ≡ Some d → Stands code p d.1
+unfolding row_6
+row_6_stands b code p d l =
+    let S : Type 0 = Stands code p d.1 in
+    choice (b == 0x68) _ _ d S (word_stands Ent code p d)
+    (choice (b == 0x6a) _ _ d S (one_stands Rtn code p d l) (λ h. cc))
+
+row_7_stands : (b : ℕ) (code : List ℕ) (p : ℕ) (d : Instr × ℕ) → p < length code → row_7 b code p ≡ Some d → Stands code p d.1
+unfolding row_7
+row_7_stands b code p d l =
+    let S : Type 0 = Stands code p d.1 in
+    choice (b == 0x70) _ _ d S (word_stands Jmp code p d)
+    (choice (b == 0x71) _ _ d S (word_stands Jpf code p d)
+    (choice (b == 0x72) _ _ d S (word_stands Jan code p d)
+    (choice (b == 0x73) _ _ d S (word_stands Jor code p d)
+    (choice (b == 0x74) _ _ d S (byte_stands Jms code p d)
+    (choice (b == 0x75) _ _ d S (byte_stands Jfs code p d)
+    (choice (b == 0x76) _ _ d S (two_stand Cas code p d)
+    (choice (b == 0x77) _ _ d S (loop_stands code p d)
+    (choice (b == 0x78) _ _ d S (two_stand Frn code p d)
+    (choice (b == 0x79) _ _ d S (byte_stands Trp code p d)
+    (choice (b == 0x7d) _ _ d S (byte_stands Svc code p d) (λ h. cc)))))))))))
+
 row_stands : (b : ℕ) (code : List ℕ) (p : ℕ) (d : Instr × ℕ) → p < length code → row b code p ≡ Some d → Stands code p d.1
 row_stands b code p d l =
     let S : Type 0 = Stands code p d.1 in
-    choice (b == 0x01) _ _ d S (word_stands Liw code p d)
-    (choice (b == 0x24) _ _ d S (word_stands Lgw code p d)
-    (choice (b == 0x26) _ _ d S (word_stands Sgw code p d)
-    (choice (b == 0x39) _ _ d S (two_stand Rgc code p d)
-    (choice (b == 0x40) _ _ d S (one_stands Adc code p d l)
-    (choice (b == 0x41) _ _ d S (one_stands Sbc code p d l)
-    (choice (b == 0x68) _ _ d S (word_stands Ent code p d)
-    (choice (b == 0x6a) _ _ d S (one_stands Rtn code p d l)
-    (choice (b == 0x7d) _ _ d S (byte_stands Svc code p d) (λ h. cc)))))))))
+    choice (b / 16 == 0) _ _ d S (row_0_stands b code p d l)
+    (choice (b / 16 == 1) _ _ d S (one_stands (Lis (b % 16)) code p d l)
+    (choice (b / 16 == 2) _ _ d S (row_2_stands b code p d l)
+    (choice (b / 16 == 3) _ _ d S (row_3_stands b code p d l)
+    (choice (b / 16 == 4) _ _ d S (row_4_stands b code p d l)
+    (choice (b / 16 == 5) _ _ d S (row_5_stands b code p d l)
+    (choice (b / 16 == 6) _ _ d S (row_6_stands b code p d l)
+    (choice (b / 16 == 7) _ _ d S (row_7_stands b code p d l) (λ h. cc))))))))
 
 pub decoded_stands : (code : List ℕ) (p : ℕ) (d : Instr × ℕ) → decoded code p ≡ Some d → Stands code p d.1
 unfolding decoded

@@ -21,8 +21,8 @@ unfolding spliced
 put_mid-spliced from n store words h =
     ap (λ t. take from store ++ (words ++ t)) (drop-drop n from store ∙ ap (λ k. drop (from + k) store) (sym h))
 
-pub two_replaced : (xs : List ℕ) (w : ℕ) → 2 ≤ length xs → reverse (take (length xs - 2) xs ++ w ∷ []) ≡ w ∷ drop 2 (reverse xs)
-two_replaced xs w h = reverse-append (take (length xs - 2) xs) (w ∷ []) ∙ ap (λ t. w ∷ t) (sym (drop_reverse 2 xs h))
+pub replaced : (n : ℕ) (xs : List ℕ) (w : ℕ) → n ≤ length xs → reverse (take (length xs - n) xs ++ w ∷ []) ≡ w ∷ drop n (reverse xs)
+replaced n xs w h = reverse-append (take (length xs - n) xs) (w ∷ []) ∙ ap (λ t. w ∷ t) (sym (drop_reverse n xs h))
 
 -- the words before a place stay
 pub before_spliced : (store words : List ℕ) (at start size : ℕ) → start + size ≤ at → at ≤ length store → take size (drop start (spliced store at words)) ≡ take size (drop start store)

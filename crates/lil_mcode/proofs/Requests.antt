@@ -1,16 +1,18 @@
 -- A request has its words on the expression stack.
-use Rattle.std.proofs.Common.{◌≡◌, ℕ, ◌+◌, ◌≤◌, List, [], ◌∷◌, length, Bool, true, false, ◌&&◌, nat_lt, nat_le, ◌==◌, if◌then◌else◌, Option, None, Some, Result, Ok, Err, slice_index, is_some, refl, subst, arith}
+use Rattle.std.proofs.Common.{◌≡◌, ℕ, ◌+◌, ◌*◌, ◌≤◌, not, List, [], ◌∷◌, length, Bool, true, false, ◌&&◌, nat_lt, nat_le, ◌==◌, if◌then◌else◌, Option, None, Some, Result, Ok, Err, slice_index, is_some, refl, subst, arith}
 use Rattle.std.specs.Prelude.{ℤ}
 use Rattle.std.proofs.lemmas.Bool.{leb-true, eqb-true}
-use Rattle.lil_base.specs.Words.{Whole, Cardinal, sum, difference}
+use Rattle.lil_base.specs.Words.{Whole, Cardinal, Integer, sum, difference, product, quotient, remainder, between}
 use Rattle.lil_base.specs.declared.fault.ArithFault.{ArithFault}
+use Rattle.lil_base.specs.declared.fault.TrapKind.{TrapKind}
 use Rattle.lil_mcode.specs.declared.instr.Instr.{Instr}
-use Rattle.lil_mcode.specs.declared.instr.Instr.TheVariants.{Liw, Lgw, Sgw, Rgc, Adc, Sbc, Ent, Rtn, Svc}
+use Rattle.lil_mcode.specs.declared.instr.Instr.TheVariants.{Liw, Lib, Dup, Drp, Swp, Lis, Llw, Lgw, Sgw, Rgc, Rgi, Cap, Adc, Sbc, Mlc, Dvc, Mdc, Adi, Sbi, Mli, Dvi, Mdi, Ngi, Abi, Not, Equ, Neq, Lsc, Lec, Lsi, Lei, Ent, Rtn, Jmp, Jpf, Jan, Jor, Jms, Jfs, Cas, Fri, Frn, Trp, Svc}
 use Rattle.lil_mcode.specs.declared.machine.Event.{Event}
 use Rattle.lil_mcode.specs.declared.machine.Event.TheVariants.{Went, Request, LevelEnded, Trap, Limit, BadCode}
 use Rattle.lil_mcode.specs.Bytes.{decoded}
+use Rattle.lil_mcode.specs.Control.{chosen}
 use Rattle.lil_mcode.specs.State.{Module, State, module_at}
-use Rattle.lil_mcode.specs.Table.{mstep, act, performed, fetched, bad, on_one, two_row, result_row, body_row, end_row, return_row, request_row, request_words}
+use Rattle.lil_mcode.specs.Table.{mstep, act, performed, fetched, bad, push_row, load_row, on_one, on_two, on_three, two_row, result_row, jump, chosen_row, begun_row, called_trap, trap_row, body_row, end_row, return_row, request_row, request_words}
 
 -- where an event is a request, its number has words, and so many stand on the stack of t
 abbrev pub Asks : Event → State → Type 0
@@ -36,10 +38,40 @@ result_asks : (s : State) (q : ℕ) (rest : List ℕ) (r : Result ℤ ArithFault
 result_asks s q rest (Ok z) = tt
 result_asks s q rest (Err e) = tt
 
+two_rows : (s : State) (stack : List ℕ) (f : ℕ → ℕ → List ℕ → Event × State) → ((x y : ℕ) (rest : List ℕ) → Row (f x y rest)) → Row (on_two s stack f)
+two_rows s [] f h = tt
+two_rows s (y ∷ []) f h = tt
+two_rows s (y ∷ x ∷ rest) f h = h x y rest
+
+three_rows : (s : State) (stack : List ℕ) (f : ℕ → ℕ → ℕ → List ℕ → Event × State) → ((x y z : ℕ) (rest : List ℕ) → Row (f x y z rest)) → Row (on_three s stack f)
+three_rows s [] f h = tt
+three_rows s (z ∷ []) f h = tt
+three_rows s (z ∷ y ∷ []) f h = tt
+three_rows s (z ∷ y ∷ x ∷ rest) f h = h x y z rest
+
 two_asks : (f : Whole → ℤ → ℤ → Result ℤ ArithFault) (t : Whole) (q : ℕ) (s : State) (stack : List ℕ) → Row (two_row f t q s stack)
-two_asks f t q s [] = tt
-two_asks f t q s (y ∷ []) = tt
-two_asks f t q s (y ∷ x ∷ rest) = result_asks s q rest _
+two_asks f t q s stack = two_rows s stack _ (λ x y rest. result_asks s q rest _)
+
+push_asks : (w q : ℕ) (s : State) → Row (push_row w q s)
+push_asks w q s = choice_row (nat_lt (length s.stack) 16) _ _ tt tt
+
+load_asks : (a q : ℕ) (s : State) → Row (load_row a q s)
+load_asks a q s = choice_row (nat_lt a 65536) _ _ (push_asks (slice_index s.store a) q s) tt
+
+jump_asks : (m : Module) (t : ℕ) (s r : State) → Row (jump m t s r)
+jump_asks m t s r = choice_row (nat_lt t (length m.code)) _ _ tt tt
+
+chosen_asks : (m : Module) (s : State) (rest : List ℕ) (t : Option ℕ) → Row (chosen_row m s rest t)
+chosen_asks m s rest None = tt
+chosen_asks m s rest (Some t) = jump_asks m t s (record s { stack = rest })
+
+begun_asks : (m : Module) (at t q : ℕ) (s : State) (a k : ℕ) (rest : List ℕ) (n : Option ℕ) → Row (begun_row m at t q s a k rest n)
+begun_asks m at t q s a k rest None = jump_asks m t s (record s { stack = rest })
+begun_asks m at t q s a k rest (Some n) = tt
+
+trap_asks : (s : State) (k : Option TrapKind) → Row (trap_row s k)
+trap_asks s None = tt
+trap_asks s (Some k) = tt
 
 body_asks : (s : State) (b : ℕ) (bodies : List ℕ) (m : Option Module) → Row (body_row s b bodies m)
 body_asks s b bodies None = tt
@@ -63,15 +95,50 @@ request_asks r q s None e = tt
 request_asks r q s (Some n) e = words_asks r n q s (nat_le n (length s.stack)) refl e
 
 act_asks : (i : Instr) (q : ℕ) (m : Module) (s : State) → Row (act i q m s)
-act_asks (Liw w) q m s = choice_row (nat_lt (length s.stack) 16) _ _ tt tt
-act_asks (Lgw w) q m s = choice_row (nat_lt (m.base + w) 65536) _ _ (choice_row (nat_lt (length s.stack) 16) _ _ tt tt) tt
+act_asks (Liw w) q m s = push_asks w q s
+act_asks (Lib w) q m s = push_asks w q s
+act_asks Dup q m s = one_row s s.stack _ (λ x rest. push_asks x q s)
+act_asks Drp q m s = one_row s s.stack _ (λ x rest. tt)
+act_asks Swp q m s = two_rows s s.stack _ (λ x y rest. tt)
+act_asks (Lis w) q m s = push_asks w q s
+act_asks (Llw w) q m s = load_asks (s.frame + w) q s
+act_asks (Lgw w) q m s = load_asks (m.base + w) q s
 act_asks (Sgw w) q m s = one_row s s.stack _ (λ x rest. choice_row (nat_lt (m.base + w) 65536) _ _ tt tt)
-act_asks (Rgc low high) q m s = one_row s s.stack _ (λ x rest. choice_row (nat_le low x && nat_le x high) _ _ tt tt)
+act_asks (Rgc v w) q m s = one_row s s.stack _ (λ x rest. choice_row (between _ _ _) _ _ tt tt)
+act_asks (Rgi v w) q m s = one_row s s.stack _ (λ x rest. choice_row (between _ _ _) _ _ tt tt)
+act_asks Cap q m s = one_row s s.stack _ (λ x rest. tt)
 act_asks Adc q m s = two_asks sum Cardinal q s s.stack
 act_asks Sbc q m s = two_asks difference Cardinal q s s.stack
+act_asks Mlc q m s = two_asks product Cardinal q s s.stack
+act_asks Dvc q m s = two_asks quotient Cardinal q s s.stack
+act_asks Mdc q m s = two_asks remainder Cardinal q s s.stack
+act_asks Adi q m s = two_asks sum Integer q s s.stack
+act_asks Sbi q m s = two_asks difference Integer q s s.stack
+act_asks Mli q m s = two_asks product Integer q s s.stack
+act_asks Dvi q m s = two_asks quotient Integer q s s.stack
+act_asks Mdi q m s = two_asks remainder Integer q s s.stack
+act_asks Ngi q m s = one_row s s.stack _ (λ x rest. result_asks s q rest _)
+act_asks Abi q m s = one_row s s.stack _ (λ x rest. result_asks s q rest _)
+act_asks Not q m s = one_row s s.stack _ (λ x rest. tt)
+act_asks Equ q m s = two_rows s s.stack _ (λ x y rest. tt)
+act_asks Neq q m s = two_rows s s.stack _ (λ x y rest. tt)
+act_asks Lsc q m s = two_rows s s.stack _ (λ x y rest. tt)
+act_asks Lec q m s = two_rows s s.stack _ (λ x y rest. tt)
+act_asks Lsi q m s = two_rows s s.stack _ (λ x y rest. tt)
+act_asks Lei q m s = two_rows s s.stack _ (λ x y rest. tt)
 act_asks (Ent w) q m s = choice_row (nat_lt (s.frame + w) s.top) _ _ tt (choice_row (nat_lt s.limit (s.frame + w)) _ _ tt tt)
 act_asks Rtn q m s = choice_row (s.frame == s.base) _ _ (end_asks s s.bodies) (return_asks s (slice_index s.store (s.frame + 1)) (slice_index s.store (s.frame + 2)) (slice_index s.store (s.frame + 3)))
-act_asks (Svc r) q m s = request_asks r q s (request_words r) refl
+act_asks (Jmp w) q m s = jump_asks m w s s
+act_asks (Jpf w) q m s = one_row s s.stack _ (λ x rest. choice_row (x == 0) _ _ (jump_asks m w s (record s { stack = rest })) tt)
+act_asks (Jan w) q m s = one_row s s.stack _ (λ x rest. choice_row (x == 0) _ _ (jump_asks m w s s) tt)
+act_asks (Jor w) q m s = one_row s s.stack _ (λ x rest. choice_row (x == 0) _ _ tt (jump_asks m w s s))
+act_asks (Jms w) q m s = jump_asks m (q + w) s s
+act_asks (Jfs w) q m s = one_row s s.stack _ (λ x rest. choice_row (x == 0) _ _ (jump_asks m (q + w) s (record s { stack = rest })) tt)
+act_asks (Cas v w) q m s = one_row s s.stack _ (λ x rest. choice_row (nat_le (q + 6 * v) (length m.code)) _ _ (chosen_asks m s rest (chosen m.code v q x w)) tt)
+act_asks (Fri o f t) q m s = three_rows s s.stack _ (λ a b k rest. choice_row (nat_lt (s.frame + o + 2) 65536 && (nat_lt f 2 && not (k == 0))) _ _ (begun_asks m (s.frame + o) t q s a k rest _) tt)
+act_asks (Frn v w) q m s = choice_row (nat_lt (s.frame + v + 2) 65536) _ _ (choice_row (slice_index s.store (s.frame + v + 1) == 0) _ _ tt (jump_asks m w s _)) tt
+act_asks (Trp w) q m s = trap_asks s (called_trap w)
+act_asks (Svc w) q m s = request_asks w q s (request_words w) refl
 
 performed_asks : (s : State) (m : Module) (d : Option (Instr × ℕ)) → Row (performed s m d)
 performed_asks s m None = tt

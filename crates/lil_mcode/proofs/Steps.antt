@@ -4,32 +4,70 @@ use Rattle.std.proofs.lemmas.Bool.Decides.{nat_tests}
 use Rattle.std.proofs.lemmas.List.{length-map}
 use Rattle.std.proofs.lemmas.Option.{slice_get-map}
 use Rattle.lil_mcode.specs.declared.instr.Instr.{Instr}
-use Rattle.lil_mcode.specs.declared.instr.Instr.TheVariants.{Liw, Lgw, Sgw, Rgc, Adc, Sbc, Ent, Rtn, Svc}
+use Rattle.lil_mcode.specs.declared.instr.Instr.TheVariants.{Liw, Lib, Dup, Drp, Swp, Lis, Llw, Lgw, Sgw, Rgc, Rgi, Cap, Adc, Sbc, Mlc, Dvc, Mdc, Adi, Sbi, Mli, Dvi, Mdi, Ngi, Abi, Not, Equ, Neq, Lsc, Lec, Lsi, Lei, Ent, Rtn, Jmp, Jpf, Jan, Jor, Jms, Jfs, Cas, Fri, Frn, Trp, Svc}
 use Rattle.lil_mcode.specs.declared.processor.LoadedModule.{LoadedModule}
 use Rattle.lil_mcode.specs.Bytes.{decoded}
 use Rattle.lil_mcode.specs.State.{Module, State, module_at}
 use Rattle.lil_mcode.specs.Table.{act, performed, fetched}
 use Rattle.lil_mcode.specs.Loaded.{module_of, loaded_at, Lies}
-use Rattle.lil_mcode.specs.Fetch.{with_base, found_in, based, done}
+use Rattle.lil_mcode.specs.Fetch.{with_base, found_in, found, code_in, running_code, based, done}
 
-based_acts : (i : Instr) (q : ℕ) (m : Module) (s : State) → act i q m s ≡ act i q (based m.base) s
+based_acts : (i : Instr) (q : ℕ) (m : Module) (s : State) → act i q m s ≡ act i q (based m.base m.code) s
 based_acts (Liw w) q m s = refl
+based_acts (Lib w) q m s = refl
+based_acts Dup q m s = refl
+based_acts Drp q m s = refl
+based_acts Swp q m s = refl
+based_acts (Lis w) q m s = refl
+based_acts (Llw w) q m s = refl
 based_acts (Lgw w) q m s = refl
 based_acts (Sgw w) q m s = refl
-based_acts (Rgc low high) q m s = refl
+based_acts (Rgc v w) q m s = refl
+based_acts (Rgi v w) q m s = refl
+based_acts Cap q m s = refl
 based_acts Adc q m s = refl
 based_acts Sbc q m s = refl
+based_acts Mlc q m s = refl
+based_acts Dvc q m s = refl
+based_acts Mdc q m s = refl
+based_acts Adi q m s = refl
+based_acts Sbi q m s = refl
+based_acts Mli q m s = refl
+based_acts Dvi q m s = refl
+based_acts Mdi q m s = refl
+based_acts Ngi q m s = refl
+based_acts Abi q m s = refl
+based_acts Not q m s = refl
+based_acts Equ q m s = refl
+based_acts Neq q m s = refl
+based_acts Lsc q m s = refl
+based_acts Lec q m s = refl
+based_acts Lsi q m s = refl
+based_acts Lei q m s = refl
 based_acts (Ent w) q m s = refl
 based_acts Rtn q m s = refl
-based_acts (Svc r) q m s = refl
+based_acts (Jmp w) q m s = refl
+based_acts (Jpf w) q m s = refl
+based_acts (Jan w) q m s = refl
+based_acts (Jor w) q m s = refl
+based_acts (Jms w) q m s = refl
+based_acts (Jfs w) q m s = refl
+based_acts (Cas v w) q m s = refl
+based_acts (Fri o f t) q m s = refl
+based_acts (Frn v w) q m s = refl
+based_acts (Trp w) q m s = refl
+based_acts (Svc w) q m s = refl
 
-performed_done : (s : State) (m : Module) (d : Option (Instr × ℕ)) → performed s m d ≡ done s (with_base m d)
-performed_done s m None = refl
-performed_done s m (Some d) = based_acts d.0 d.1 m s
+performed_done : (s : State) (m : Module) (d : Option (Instr × ℕ)) → running_code s ≡ m.code → performed s m d ≡ done s (with_base m d)
+performed_done s m None e = refl
+performed_done s m (Some d) e = based_acts d.0 d.1 m s ∙ ap (λ (code : List ℕ). act d.0 d.1 (based m.base code) s) (sym e)
 
-pub fetched_done : (s : State) (m : Option Module) → fetched s m ≡ done s (found_in s m)
-fetched_done s None = refl
-fetched_done s (Some m) = performed_done s m (decoded m.code s.place)
+found_done : (s : State) (m : Option Module) → running_code s ≡ code_in m → fetched s m ≡ done s (found_in s m)
+found_done s None e = refl
+found_done s (Some m) e = performed_done s m (decoded m.code s.place) e
+
+pub fetched_done : (s : State) → fetched s (module_at s.modules s.running) ≡ done s (found s)
+fetched_done s = found_done s (module_at s.modules s.running) refl
 
 pub module_at_loaded : (code : List ℕ) (loaded : List LoadedModule) (n : ℕ) → module_at (map (module_of code) loaded) n ≡ option_map (module_of code) (loaded_at loaded n)
 module_at_loaded code loaded zero = refl

@@ -1,5 +1,5 @@
 -- A step in two parts: the fetch of an instruction, and its row.
-use Rattle.std.specs.Prelude.{ℕ, [], Option, None, Some}
+use Rattle.std.specs.Prelude.{ℕ, List, [], Option, None, Some}
 use Rattle.lil_mcode.specs.declared.instr.Instr.{Instr}
 use Rattle.lil_mcode.specs.declared.machine.Event.{Event}
 use Rattle.lil_mcode.specs.Bytes.{decoded}
@@ -18,10 +18,22 @@ found_in s (Some m) = with_base m (decoded m.code s.place)
 abbrev pub found : State → Option (Instr × ℕ × ℕ)
 found s = found_in s (module_at s.modules s.running)
 
--- a row looks at no more of a module than the base of its data
-abbrev pub based : ℕ → Module
-based base = record { name = []; procedures = []; code = []; base = base; words = 0 }
+-- the code of the running module
+abbrev pub code_in : Option Module → List ℕ
+code_in None = []
+code_in (Some m) = m.code
+
+abbrev pub running_code : State → List ℕ
+running_code s = code_in (module_at s.modules s.running)
+
+-- a row looks at no more of a module than its code and the base of its data
+abbrev pub based : ℕ → List ℕ → Module
+based base code = record { name = []; procedures = []; code = code; base = base; words = 0 }
+
+-- the running module for rows that look at its code alone
+abbrev pub own : State → Module
+own s = based 0 (running_code s)
 
 abbrev pub done : State → Option (Instr × ℕ × ℕ) → Event × State
 done s None = bad s
-done s (Some d) = act d.0 d.1 (based d.2) s
+done s (Some d) = act d.0 d.1 (based d.2 (running_code s)) s

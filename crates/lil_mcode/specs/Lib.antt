@@ -1,7 +1,9 @@
 pub mod Bytes
 pub mod State
+pub mod Control
 pub mod Table
 pub mod Calls
 pub mod Loaded
 pub mod Fetch
+pub mod Operators
 pub mod Kept

@@ -1,17 +1,18 @@
 -- The instruction table: what each instruction does. Bad code is tested before traps, and traps before limits; none of them changes the state.
-use Rattle.std.specs.Prelude.{ℕ, ◌+◌, List, [], ◌∷◌, length, Option, Some, None, Result, Ok, Err, ◌&&◌, nat_lt, nat_le, ◌==◌, if◌then◌else◌, slice_index, slice_set, is_some}
-use Rattle.lil_base.specs.Words.{Whole, Cardinal, sum, difference, number_of, word_of}
+use Rattle.std.specs.Prelude.{ℕ, zero, suc, ◌+◌, ◌-◌, ◌*◌, ◌%◌, ℤ, Bool, not, List, [], ◌∷◌, length, Option, Some, None, Result, Ok, Err, ◌&&◌, nat_lt, nat_le, ◌==◌, if◌then◌else◌, slice_index, slice_set, is_some, int_lt}
+use Rattle.lil_base.specs.Words.{Whole, Cardinal, Integer, sum, difference, product, quotient, remainder, negation, absolute, between, number_of, word_of}
 use Rattle.lil_base.specs.declared.fault.ArithFault.{ArithFault}
 use Rattle.lil_base.specs.Traps.{arith_trap}
+use Rattle.lil_base.specs.declared.fault.TrapKind.{TrapKind}
 use Rattle.lil_base.specs.declared.fault.TrapKind.TheVariants as trap
 use Rattle.lil_base.specs.declared.fault.LimitKind.TheVariants as limit
 use Rattle.lil_mcode.specs.declared.instr.Instr.{Instr}
-use Rattle.lil_mcode.specs.declared.instr.Instr.TheVariants.{Liw, Lgw, Sgw, Rgc, Adc, Sbc, Ent, Rtn, Svc}
+use Rattle.lil_mcode.specs.declared.instr.Instr.TheVariants.{Liw, Lib, Dup, Drp, Swp, Lis, Llw, Lgw, Sgw, Rgc, Rgi, Cap, Adc, Sbc, Mlc, Dvc, Mdc, Adi, Sbi, Mli, Dvi, Mdi, Ngi, Abi, Not, Equ, Neq, Lsc, Lec, Lsi, Lei, Ent, Rtn, Jmp, Jpf, Jan, Jor, Jms, Jfs, Cas, Fri, Frn, Trp, Svc}
 use Rattle.lil_mcode.specs.declared.machine.Event.{Event}
 use Rattle.lil_mcode.specs.declared.machine.Event.TheVariants.{Went, Request, LevelEnded, Trap, Limit, BadCode}
 use Rattle.lil_mcode.specs.Bytes.{decoded}
+use Rattle.lil_mcode.specs.Control.{chosen, loop_type, loop_words, turns, after_first}
 use Rattle.lil_mcode.specs.State.{Module, State, module_at, spliced, cleared, body_entry}
-use Rattle.std.specs.Prelude.{ℤ}
 
 -- the same but for the place and the expression stack
 abbrev pub going : State → ℕ → List ℕ → State
@@ -34,21 +35,141 @@ abbrev pub result_row : State → ℕ → List ℕ → Result ℤ ArithFault →
 result_row s q rest (Ok z) = (Went, going s q (word_of z ∷ rest))
 result_row s q rest (Err e) = (Trap (arith_trap e), s)
 
--- an operator of a type on the two topmost words, x below y
-abbrev pub two_row : (Whole → ℤ → ℤ → Result ℤ ArithFault) → Whole → ℕ → State → List ℕ → Event × State
-two_row f t q s [] = bad s
-two_row f t q s (y ∷ []) = bad s
-two_row f t q s (y ∷ x ∷ rest) = result_row s q rest (f t (number_of t x) (number_of t y))
+-- a row that looks at the two topmost words, x below y, with the words below them
+abbrev pub on_two : State → List ℕ → (ℕ → ℕ → List ℕ → Event × State) → Event × State
+on_two s [] f = bad s
+on_two s (y ∷ []) f = bad s
+on_two s (y ∷ x ∷ rest) f = f x y rest
 
--- a word of the running module's data
+-- a row that looks at the three topmost words, x below y below z
+abbrev pub on_three : State → List ℕ → (ℕ → ℕ → ℕ → List ℕ → Event × State) → Event × State
+on_three s [] f = bad s
+on_three s (z ∷ []) f = bad s
+on_three s (z ∷ y ∷ []) f = bad s
+on_three s (z ∷ y ∷ x ∷ rest) f = f x y z rest
+
+-- an operator of a type on two words
+abbrev pub operator_row : (Whole → ℤ → ℤ → Result ℤ ArithFault) → Whole → ℕ → State → ℕ → ℕ → List ℕ → Event × State
+operator_row f t q s x y rest = result_row s q rest (f t (number_of t x) (number_of t y))
+
+abbrev pub two_row : (Whole → ℤ → ℤ → Result ℤ ArithFault) → Whole → ℕ → State → List ℕ → Event × State
+two_row f t q s stack = on_two s stack (operator_row f t q s)
+
+-- an operator on one INTEGER
+abbrev pub sign_row : (Whole → ℤ → Result ℤ ArithFault) → ℕ → State → ℕ → List ℕ → Event × State
+sign_row f q s x rest = result_row s q rest (f Integer (number_of Integer x))
+
+-- the word of a truth value
+abbrev pub truth : Bool → ℕ
+truth b = if b then 1 else 0
+
+-- what the comparisons ask of two words
+abbrev pub equal : ℕ → ℕ → Bool
+equal x y = x == y
+
+abbrev pub unequal : ℕ → ℕ → Bool
+unequal x y = not (x == y)
+
+abbrev pub less : Whole → ℕ → ℕ → Bool
+less t x y = int_lt (number_of t x) (number_of t y)
+
+abbrev pub at_most : Whole → ℕ → ℕ → Bool
+at_most t x y = not (int_lt (number_of t y) (number_of t x))
+
+-- the word of a comparison in place of its two words
+abbrev pub truth_row : (ℕ → ℕ → Bool) → ℕ → State → ℕ → ℕ → List ℕ → Event × State
+truth_row f q s x y rest = (Went, going s q (truth (f x y) ∷ rest))
+
+abbrev pub compare_row : (ℕ → ℕ → Bool) → ℕ → State → List ℕ → Event × State
+compare_row f q s stack = on_two s stack (truth_row f q s)
+
+-- another word in place of the topmost one
+abbrev pub change_row : (ℕ → ℕ) → ℕ → State → ℕ → List ℕ → Event × State
+change_row f q s x rest = (Went, going s q (f x ∷ rest))
+
+-- the code of a capital for that of a small letter, all others as they are
+abbrev pub capital : ℕ → ℕ
+capital x = if nat_le 97 x && nat_le x 122 then x - 32 else x
+
+abbrev pub denied : ℕ → ℕ
+denied x = truth (x == 0)
+
+abbrev pub double_row : ℕ → State → ℕ → List ℕ → Event × State
+double_row q s x rest = push_row x q s
+
+abbrev pub drop_row : ℕ → State → ℕ → List ℕ → Event × State
+drop_row q s x rest = (Went, going s q rest)
+
+abbrev pub swap_row : ℕ → State → ℕ → ℕ → List ℕ → Event × State
+swap_row q s x y rest = (Went, going s q (x ∷ y ∷ rest))
+
+-- a word of the store
 abbrev pub load_row : ℕ → ℕ → State → Event × State
 load_row a q s = if nat_lt a 65536 then push_row (slice_index s.store a) q s else bad s
 
 abbrev pub store_row : ℕ → ℕ → State → ℕ → List ℕ → Event × State
 store_row a q s x rest = if nat_lt a 65536 then (Went, record s { place = q; stack = rest; store = slice_set s.store a x }) else bad s
 
-abbrev pub range_row : ℕ → ℕ → ℕ → State → ℕ → List ℕ → Event × State
-range_row low high q s x rest = if nat_le low x && nat_le x high then (Went, going s q s.stack) else (Trap trap.Range, s)
+-- the topmost word lies in a range of a type, its ends included
+abbrev pub range_row : Whole → ℕ → ℕ → ℕ → State → ℕ → List ℕ → Event × State
+range_row t low high q s x rest =
+    if between (number_of t low) (number_of t x) (number_of t high) then (Went, going s q s.stack) else (Trap trap.Range, s)
+
+-- A jump to place t of the running module's code, in a state r where all that isn't the place is as the row makes it.
+abbrev pub jump : Module → ℕ → State → State → Event × State
+jump m t s r = if nat_lt t (length m.code) then (Went, record r { place = t }) else bad s
+
+-- a jump where the topmost word is 0; the word goes
+abbrev pub false_row : Module → ℕ → ℕ → State → ℕ → List ℕ → Event × State
+false_row m t q s x rest = if x == 0 then jump m t s (record s { stack = rest }) else (Went, going s q rest)
+
+-- a jump where the topmost word is 0, which then stays; else it goes
+abbrev pub and_row : Module → ℕ → ℕ → State → ℕ → List ℕ → Event × State
+and_row m t q s x rest = if x == 0 then jump m t s s else (Went, going s q rest)
+
+-- a jump where the topmost word isn't 0, which then stays; else it goes
+abbrev pub or_row : Module → ℕ → ℕ → State → ℕ → List ℕ → Event × State
+or_row m t q s x rest = if x == 0 then (Went, going s q rest) else jump m t s s
+
+-- CASE: the topmost word goes, and the place is that of the first entry whose range has it, else the other one
+abbrev pub chosen_row : Module → State → List ℕ → Option ℕ → Event × State
+chosen_row m s rest None = bad s
+chosen_row m s rest (Some t) = jump m t s (record s { stack = rest })
+
+abbrev pub case_row : Module → ℕ → ℕ → ℕ → State → ℕ → List ℕ → Event × State
+case_row m n other q s x rest =
+    if nat_le (q + 6 * n) (length m.code) then chosen_row m s rest (chosen m.code n q x other) else bad s
+
+-- a loop that begins: with its three words, where there is a turn, else at the place behind it
+abbrev pub begun_row : Module → ℕ → ℕ → ℕ → State → ℕ → ℕ → List ℕ → Option ℕ → Event × State
+begun_row m at t q s a k rest None = jump m t s (record s { stack = rest })
+begun_row m at t q s a k rest (Some n) = (Went, record s { place = q; stack = rest; store = loop_words s.store at a n k })
+
+abbrev pub loop_row : Module → ℕ → ℕ → ℕ → ℕ → State → ℕ → ℕ → ℕ → List ℕ → Event × State
+loop_row m at f t q s a b k rest =
+    if nat_lt (at + 2) 65536 && (nat_lt f 2 && not (k == 0))
+    then begun_row m at t q s a k rest (after_first (turns (number_of (loop_type f) a) (number_of (loop_type f) b) (number_of Integer k)))
+    else bad s
+
+-- a loop's next turn, where one is left
+abbrev pub turn_row : Module → ℕ → ℕ → ℕ → State → ℕ → ℕ → ℕ → Event × State
+turn_row m at t q s x n k =
+    if n == 0 then (Went, going s q s.stack)
+    else jump m t s (record s { store = slice_set (slice_set s.store (at + 1) (n - 1)) at ((x + k) % 65536) })
+
+abbrev pub again_row : Module → ℕ → ℕ → ℕ → State → Event × State
+again_row m at t q s =
+    if nat_lt (at + 2) 65536
+    then turn_row m at t q s (slice_index s.store at) (slice_index s.store (at + 1)) (slice_index s.store (at + 2))
+    else bad s
+
+-- the traps that an instruction calls by their numbers
+abbrev pub called_trap : ℕ → Option TrapKind
+called_trap k = if k == 7 then Some trap.Case else (if k == 8 then Some trap.Function else (if k == 9 then Some trap.Halted else None))
+
+abbrev pub trap_row : State → Option TrapKind → Event × State
+trap_row s None = bad s
+trap_row s (Some k) = (Trap k, s)
 
 abbrev pub enter_row : ℕ → ℕ → State → Event × State
 enter_row w q s =
@@ -100,13 +221,48 @@ request_row r q s (Some n) = if nat_le n (length s.stack) then (Request r, going
 -- the row of an instruction of module m, where q is the place behind it
 abbrev pub act : Instr → ℕ → Module → State → Event × State
 act (Liw w) q m s = push_row w q s
+act (Lib b) q m s = push_row b q s
+act Dup q m s = on_one s s.stack (double_row q s)
+act Drp q m s = on_one s s.stack (drop_row q s)
+act Swp q m s = on_two s s.stack (swap_row q s)
+act (Lis b) q m s = push_row b q s
+act (Llw w) q m s = load_row (s.frame + w) q s
 act (Lgw w) q m s = load_row (m.base + w) q s
 act (Sgw w) q m s = on_one s s.stack (store_row (m.base + w) q s)
-act (Rgc low high) q m s = on_one s s.stack (range_row low high q s)
+act (Rgc low high) q m s = on_one s s.stack (range_row Cardinal low high q s)
+act (Rgi low high) q m s = on_one s s.stack (range_row Integer low high q s)
+act Cap q m s = on_one s s.stack (change_row capital q s)
 act Adc q m s = two_row sum Cardinal q s s.stack
 act Sbc q m s = two_row difference Cardinal q s s.stack
+act Mlc q m s = two_row product Cardinal q s s.stack
+act Dvc q m s = two_row quotient Cardinal q s s.stack
+act Mdc q m s = two_row remainder Cardinal q s s.stack
+act Adi q m s = two_row sum Integer q s s.stack
+act Sbi q m s = two_row difference Integer q s s.stack
+act Mli q m s = two_row product Integer q s s.stack
+act Dvi q m s = two_row quotient Integer q s s.stack
+act Mdi q m s = two_row remainder Integer q s s.stack
+act Ngi q m s = on_one s s.stack (sign_row negation q s)
+act Abi q m s = on_one s s.stack (sign_row absolute q s)
+act Not q m s = on_one s s.stack (change_row denied q s)
+act Equ q m s = compare_row equal q s s.stack
+act Neq q m s = compare_row unequal q s s.stack
+act Lsc q m s = compare_row (less Cardinal) q s s.stack
+act Lec q m s = compare_row (at_most Cardinal) q s s.stack
+act Lsi q m s = compare_row (less Integer) q s s.stack
+act Lei q m s = compare_row (at_most Integer) q s s.stack
 act (Ent w) q m s = enter_row w q s
 act Rtn q m s = leave_row s
+act (Jmp t) q m s = jump m t s s
+act (Jpf t) q m s = on_one s s.stack (false_row m t q s)
+act (Jan t) q m s = on_one s s.stack (and_row m t q s)
+act (Jor t) q m s = on_one s s.stack (or_row m t q s)
+act (Jms b) q m s = jump m (q + b) s s
+act (Jfs b) q m s = on_one s s.stack (false_row m (q + b) q s)
+act (Cas n t) q m s = on_one s s.stack (case_row m n t q s)
+act (Fri o f t) q m s = on_three s s.stack (loop_row m (s.frame + o) f t q s)
+act (Frn o t) q m s = again_row m (s.frame + o) t q s
+act (Trp k) q m s = trap_row s (called_trap k)
 act (Svc r) q m s = request_row r q s (request_words r)
 
 abbrev pub performed : State → Module → Option (Instr × ℕ) → Event × State

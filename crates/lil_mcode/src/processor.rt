@@ -1,19 +1,26 @@
 ghost use Rattle.std.specs.Prelude.{◌≡◌, ℕ, pos, ◌+◌, ◌<◌, ◌≤◌, ◌^◌, ◌∷◌, ◌++◌, length, vec_len, vec_capacity, false, drop, take, slice_get, option_map, IfOk, IfSome, IfNone, MatchOption, []};
 ghost use Rattle.std.specs.Option.{option_copied};
-ghost use Rattle.lil_base.specs.Words.{Cardinal, sum, difference};
+ghost use Rattle.lil_base.specs.Words.{Cardinal, Integer, negation, absolute};
 ghost use Rattle.lil_mcode.specs.Calls.{IsRunning, names_of, code_used, fresh};
 ghost use Rattle.lil_mcode.specs.Kept.{with_loaded, with_first, is_better};
-ghost use Rattle.lil_mcode.specs.Fetch.{found, based};
+ghost use Rattle.lil_mcode.specs.Fetch.{found, based, running_code};
+ghost use Rattle.lil_mcode.specs.Operators.{operator_of, comparison_of, settled};
 ghost use Rattle.lil_mcode.specs.Loaded.{loaded_at};
 ghost use Rattle.lil_mcode.specs.State.{Module, zeros, cleared, spliced, module_at, first_entry, body_entry};
-ghost use Rattle.lil_mcode.specs.Table.{mstep, act, going, push_row, load_row, store_row, range_row, on_one, two_row, enter_row, leave_row, end_row, return_row, request_row, request_words};
+ghost use Rattle.lil_mcode.specs.Table.{mstep, act, going, push_row, load_row, store_row, range_row, double_row, drop_row, swap_row, sign_row, change_row, capital, denied, on_one, on_two, two_row, compare_row, enter_row, leave_row, end_row, return_row, request_row, request_words};
 
+use crate::arithmetic::{
+    Comparison, Operator, as_word, capital_of, compares, integer, on_cardinals, on_integers,
+    trap_of, truth_word,
+};
 use crate::instr::{Instr, decode};
 use crate::machine::Event;
 use arrayvec::ArrayVec;
-use lil_base::{Bytes, LimitKind, Memory, Name, TrapKind};
+use lil_base::{ArithFault, Bytes, LimitKind, Memory, Name, TrapKind, abs_int, neg_int};
 use std::alloc::Global;
 use std::marker::Model;
+
+mod control;
 
 /// A module that is loaded: its part of the code store, in bytes, and its data frame, in words.
 #[derive(Drop)]
@@ -290,18 +297,68 @@ impl Processor {
         Some((instr, next as u16, module.base))
     }
 
+    /// The code of the running module.
+    fn running_code(&self) -> &[u8]
+        ensures value { result.now ≡ running_code self.now }
+        ensures short { length result.now < 65536 }
+    {
+        match loaded(self.modules.as_slice(), self.running) {
+            None => &[],
+            Some(module) => code_part(self.code.as_slice(), module.start, module.size),
+        }
+    }
+
     fn perform(&mut self, instr: Instr, next: u16, base: u16) -> Event
-        ensures { act instr next (based base) self.old ≡ (result, self.new) }
+        ensures { act instr next (based base (running_code self.old)) self.old ≡ (result, self.new) }
     {
         match instr {
             Instr::Liw(w) => self.push(w, next),
+            Instr::Lib(b) => self.push(u16::from(b), next),
+            Instr::Dup => self.double(next),
+            Instr::Drp => self.drop_word(next),
+            Instr::Swp => self.swap(next),
+            Instr::Lis(b) => self.push(u16::from(b), next),
+            Instr::Llw(w) => self.load(u32::from(self.frame) + u32::from(w), next),
             Instr::Lgw(w) => self.load(u32::from(base) + u32::from(w), next),
             Instr::Sgw(w) => self.store(u32::from(base) + u32::from(w), next),
-            Instr::Rgc(low, high) => self.test_range(low, high, next),
-            Instr::Adc => self.add(next),
-            Instr::Sbc => self.subtract(next),
+            Instr::Rgc(low, high) => self.test_cardinal(low, high, next),
+            Instr::Rgi(low, high) => self.test_integer(low, high, next),
+            Instr::Cap => self.make_capital(next),
+            Instr::Adc => self.cardinals(Operator::Sum, next),
+            Instr::Sbc => self.cardinals(Operator::Difference, next),
+            Instr::Mlc => self.cardinals(Operator::Product, next),
+            Instr::Dvc => self.cardinals(Operator::Quotient, next),
+            Instr::Mdc => self.cardinals(Operator::Remainder, next),
+            Instr::Adi => self.integers(Operator::Sum, next),
+            Instr::Sbi => self.integers(Operator::Difference, next),
+            Instr::Mli => self.integers(Operator::Product, next),
+            Instr::Dvi => self.integers(Operator::Quotient, next),
+            Instr::Mdi => self.integers(Operator::Remainder, next),
+            Instr::Ngi => self.negate(next),
+            Instr::Abi => self.take_sign(next),
+            Instr::Not => self.deny(next),
+            Instr::Equ => self.compare(Comparison::Equal, next),
+            Instr::Neq => self.compare(Comparison::Unequal, next),
+            Instr::Lsc => self.compare(Comparison::LessCardinal, next),
+            Instr::Lec => self.compare(Comparison::AtMostCardinal, next),
+            Instr::Lsi => self.compare(Comparison::LessInteger, next),
+            Instr::Lei => self.compare(Comparison::AtMostInteger, next),
             Instr::Ent(w) => self.enter(w, next),
             Instr::Rtn => self.leave(),
+            Instr::Jmp(to) => self.jump(usize::from(to), 0),
+            Instr::Jpf(to) => self.jump_false(usize::from(to), next),
+            Instr::Jan(to) => self.jump_and(usize::from(to), next),
+            Instr::Jor(to) => self.jump_or(usize::from(to), next),
+            Instr::Jms(b) => self.jump(usize::from(next) + usize::from(b), 0),
+            Instr::Jfs(b) => self.jump_false(usize::from(next) + usize::from(b), next),
+            Instr::Cas(count, other) => self.choose(count, other, next),
+            Instr::Fri(offset, kind, to) => {
+                self.begin_loop(u32::from(self.frame) + u32::from(offset), kind, to, next)
+            }
+            Instr::Frn(offset, to) => {
+                self.turn(u32::from(self.frame) + u32::from(offset), to, next)
+            }
+            Instr::Trp(number) => self.call_trap(number),
             Instr::Svc(number) => self.request(number, next),
         }
     }
@@ -351,8 +408,8 @@ impl Processor {
         Some(self.stack[count - 1])
     }
 
-    fn test_range(&mut self, low: u16, high: u16, next: u16) -> Event
-        ensures { on_one self.old self.old.stack (range_row low high next self.old) ≡ (result, self.new) }
+    fn test_cardinal(&mut self, low: u16, high: u16, next: u16) -> Event
+        ensures { on_one self.old self.old.stack (range_row Cardinal low high next self.old) ≡ (result, self.new) }
     {
         let Some(word) = self.topmost() else {
             return Event::BadCode;
@@ -361,6 +418,50 @@ impl Processor {
             return Event::Trap(TrapKind::Range);
         }
         self.place = next;
+        Event::Went
+    }
+
+    fn test_integer(&mut self, low: u16, high: u16, next: u16) -> Event
+        ensures { on_one self.old self.old.stack (range_row Integer low high next self.old) ≡ (result, self.new) }
+    {
+        let Some(word) = self.topmost() else {
+            return Event::BadCode;
+        };
+        let number = integer(word);
+        if number < integer(low) || integer(high) < number {
+            return Event::Trap(TrapKind::Range);
+        }
+        self.place = next;
+        Event::Went
+    }
+
+    fn double(&mut self, next: u16) -> Event
+        ensures { on_one self.old self.old.stack (double_row next self.old) ≡ (result, self.new) }
+    {
+        let Some(word) = self.topmost() else {
+            return Event::BadCode;
+        };
+        self.push(word, next)
+    }
+
+    fn drop_word(&mut self, next: u16) -> Event
+        ensures { on_one self.old self.old.stack (drop_row next self.old) ≡ (result, self.new) }
+    {
+        let Some(_) = self.stack.pop() else {
+            return Event::BadCode;
+        };
+        self.place = next;
+        Event::Went
+    }
+
+    fn swap(&mut self, next: u16) -> Event
+        ensures { on_two self.old self.old.stack (swap_row next self.old) ≡ (result, self.new) }
+    {
+        let Some((x, y)) = self.two() else {
+            return Event::BadCode;
+        };
+        self.replace(2, y, next);
+        self.stack.push(x);
         Event::Went
     }
 
@@ -374,41 +475,99 @@ impl Processor {
         Some((self.stack[count - 2], self.stack[count - 1]))
     }
 
-    fn replace_two(&mut self, word: u16, next: u16)
-        requires { 2 ≤ length self.old.stack }
-        ensures { self.new ≡ going self.old next (word ∷ drop 2 self.old.stack) }
+    /// A word in place of so many others at the top.
+    fn replace(&mut self, dropped: u8, word: u16, next: u16)
+        requires some { 1 ≤ dropped }
+        requires there { dropped ≤ length self.old.stack }
+        ensures { self.new ≡ going self.old next (word ∷ drop dropped self.old.stack) }
     {
         let count = self.stack.len();
-        self.stack.truncate(count - 2);
+        self.stack.truncate(count - usize::from(dropped));
         self.stack.push(word);
         self.place = next;
     }
 
-    fn add(&mut self, next: u16) -> Event
-        ensures { two_row sum Cardinal next self.old self.old.stack ≡ (result, self.new) }
+    fn settle(&mut self, dropped: u8, outcome: Result<u16, ArithFault>, next: u16) -> Event
+        requires some { 1 ≤ dropped }
+        requires there { dropped ≤ length self.old.stack }
+        ensures { settled self.old next (drop dropped self.old.stack) outcome ≡ (result, self.new) }
     {
-        let Some((x, y)) = self.two() else {
-            return Event::BadCode;
-        };
-        match x.checked_add(y) {
-            None => Event::Trap(TrapKind::Overflow),
-            Some(word) => {
-                self.replace_two(word, next);
+        match outcome {
+            Ok(word) => {
+                self.replace(dropped, word, next);
                 Event::Went
             }
+            Err(fault) => Event::Trap(trap_of(fault)),
         }
     }
 
-    fn subtract(&mut self, next: u16) -> Event
-        ensures { two_row difference Cardinal next self.old self.old.stack ≡ (result, self.new) }
+    #[tactic(auto, using(crate::proofs::Rows::result_settled))]
+    fn cardinals(&mut self, operator: Operator, next: u16) -> Event
+        ensures { two_row (operator_of operator) Cardinal next self.old self.old.stack ≡ (result, self.new) }
     {
         let Some((x, y)) = self.two() else {
             return Event::BadCode;
         };
-        if x < y {
-            return Event::Trap(TrapKind::Overflow);
-        }
-        self.replace_two(x - y, next);
+        self.settle(2, on_cardinals(operator, x, y), next)
+    }
+
+    #[tactic(auto, using(crate::proofs::Rows::result_settled))]
+    fn integers(&mut self, operator: Operator, next: u16) -> Event
+        ensures { two_row (operator_of operator) Integer next self.old self.old.stack ≡ (result, self.new) }
+    {
+        let Some((x, y)) = self.two() else {
+            return Event::BadCode;
+        };
+        self.settle(2, on_integers(operator, x, y), next)
+    }
+
+    #[tactic(auto, using(crate::proofs::Rows::result_settled))]
+    fn negate(&mut self, next: u16) -> Event
+        ensures { on_one self.old self.old.stack (sign_row negation next self.old) ≡ (result, self.new) }
+    {
+        let Some(word) = self.topmost() else {
+            return Event::BadCode;
+        };
+        self.settle(1, as_word(neg_int(integer(word))), next)
+    }
+
+    #[tactic(auto, using(crate::proofs::Rows::result_settled))]
+    fn take_sign(&mut self, next: u16) -> Event
+        ensures { on_one self.old self.old.stack (sign_row absolute next self.old) ≡ (result, self.new) }
+    {
+        let Some(word) = self.topmost() else {
+            return Event::BadCode;
+        };
+        self.settle(1, as_word(abs_int(integer(word))), next)
+    }
+
+    fn compare(&mut self, comparison: Comparison, next: u16) -> Event
+        ensures { compare_row (comparison_of comparison) next self.old self.old.stack ≡ (result, self.new) }
+    {
+        let Some((x, y)) = self.two() else {
+            return Event::BadCode;
+        };
+        self.replace(2, truth_word(compares(comparison, x, y)), next);
+        Event::Went
+    }
+
+    fn make_capital(&mut self, next: u16) -> Event
+        ensures { on_one self.old self.old.stack (change_row capital next self.old) ≡ (result, self.new) }
+    {
+        let Some(word) = self.topmost() else {
+            return Event::BadCode;
+        };
+        self.replace(1, capital_of(word), next);
+        Event::Went
+    }
+
+    fn deny(&mut self, next: u16) -> Event
+        ensures { on_one self.old self.old.stack (change_row denied next self.old) ≡ (result, self.new) }
+    {
+        let Some(word) = self.topmost() else {
+            return Event::BadCode;
+        };
+        self.replace(1, truth_word(word == 0), next);
         Event::Went
     }
 

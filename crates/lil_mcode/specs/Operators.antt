@@ -1,0 +1,38 @@
+-- What the operators and comparisons of the processor compute.
+use Rattle.std.specs.Prelude.{ℕ, ℤ, Bool, List, ◌∷◌, Option, None, Some, Result, Ok, Err}
+use Rattle.lil_base.specs.Words.{Whole, Cardinal, Integer, sum, difference, product, quotient, remainder, word_of}
+use Rattle.lil_base.specs.Traps.{arith_trap}
+use Rattle.lil_base.specs.declared.fault.ArithFault.{ArithFault}
+use Rattle.lil_mcode.specs.declared.arithmetic.Operator.{Operator}
+use Rattle.lil_mcode.specs.declared.arithmetic.Operator.TheVariants.{Sum, Difference, Product, Quotient, Remainder}
+use Rattle.lil_mcode.specs.declared.arithmetic.Comparison.{Comparison}
+use Rattle.lil_mcode.specs.declared.arithmetic.Comparison.TheVariants.{Equal, Unequal, LessCardinal, AtMostCardinal, LessInteger, AtMostInteger}
+use Rattle.lil_mcode.specs.declared.machine.Event.{Event}
+use Rattle.lil_mcode.specs.declared.machine.Event.TheVariants.{Went, Trap}
+use Rattle.lil_mcode.specs.State.{State}
+use Rattle.lil_mcode.specs.Table.{equal, unequal, less, at_most, going}
+
+abbrev pub operator_of : Operator → Whole → ℤ → ℤ → Result ℤ ArithFault
+operator_of Sum = sum
+operator_of Difference = difference
+operator_of Product = product
+operator_of Quotient = quotient
+operator_of Remainder = remainder
+
+abbrev pub comparison_of : Comparison → ℕ → ℕ → Bool
+comparison_of Equal = equal
+comparison_of Unequal = unequal
+comparison_of LessCardinal = less Cardinal
+comparison_of AtMostCardinal = at_most Cardinal
+comparison_of LessInteger = less Integer
+comparison_of AtMostInteger = at_most Integer
+
+-- a result as the word that says it
+abbrev pub word_result : Result ℤ ArithFault → Result ℕ ArithFault
+word_result (Ok z) = Ok (word_of z)
+word_result (Err e) = Err e
+
+-- a word in place of the operands, or a trap
+abbrev pub settled : State → ℕ → List ℕ → Result ℕ ArithFault → Event × State
+settled s q rest (Ok w) = (Went, going s q (w ∷ rest))
+settled s q rest (Err e) = (Trap (arith_trap e), s)
