@@ -3,3 +3,4 @@ pub mod Names
 pub mod Sets
 pub mod Words
 pub mod Traps
+pub mod formers

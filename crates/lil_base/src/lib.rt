@@ -1,6 +1,7 @@
 //! Words, names, lists and the values that answers carry.
 #![tactic(auto)]
 
+mod boxed;
 mod fault;
 mod fields;
 mod items;
@@ -11,6 +12,7 @@ mod sets;
 mod tests;
 mod words;
 
+pub use boxed::Boxed;
 pub use fault::{
     ArithFault, CodePlace, FormatStop, Key, LimitKind, LoadRefusal, Place, SourceFault, TrapAt,
     TrapKind,

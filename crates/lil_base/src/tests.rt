@@ -1,6 +1,6 @@
 use crate::{
-    ArithFault, Bytes, FileName, Memory, Name, Text, abs_int, add_card, add_int, div_card, div_int,
-    get16, get32, mod_card, mod_int, mul_card, mul_int, neg_int, put16, put32, same_bytes,
+    ArithFault, Boxed, Bytes, FileName, Memory, Name, Text, abs_int, add_card, add_int, div_card,
+    div_int, get16, get32, mod_card, mod_int, mul_card, mul_int, neg_int, put16, put32, same_bytes,
     set_either, set_has, set_meet, set_minus, set_span, set_union, sub_card, sub_int,
 };
 use std::alloc::Global;
@@ -99,5 +99,14 @@ fn fields(rt: HostRuntime) -> Result<(), Fail> {
     assert_eq!(rt; get32(&bytes, 2), Some(0x89ab_cdef));
     assert_eq!(rt; get16(&bytes, 5), None);
     assert_eq!(rt; get32(&bytes, 7), None);
+    Ok(())
+}
+
+#[test]
+fn boxes(rt: HostRuntime) -> Result<(), Fail> {
+    let alloc = rt.alloc();
+    let b = Boxed::new(alloc, 7u16)?;
+    assert!(rt; *b.get() == 7);
+    assert!(rt; b.into_inner() == 7);
     Ok(())
 }

@@ -7,6 +7,8 @@ mod stop;
 mod straight_syntax;
 mod straight_token;
 mod token;
+mod tree;
+mod unit;
 
 pub use operator::{OneOp, TwoOp};
 pub use resolved::{RExpr, RModule, RStmt};
@@ -14,3 +16,8 @@ pub use stop::ReadStop;
 pub use straight_syntax::{More, Operand, StraightStmt, StraightUnit, Sum, SumOp};
 pub use straight_token::{StraightKind, StraightMark};
 pub use token::{Mark, Token, TokenKind, Tokens, Word};
+pub use tree::{Arm, Designator, Expr, ForHead, Guard, Ident, Qualident, Range, Selector, Stmt};
+pub use unit::{
+    Block, Decl, FieldList, Formal, Heading, Import, Section, Simple, Sort, Unit, UnitKind,
+    Variant, weight,
+};

@@ -1,0 +1,3 @@
+-- How the containers of this crate hold their values.
+pub mod items
+pub mod boxed

@@ -1,0 +1,2 @@
+-- The list.
+pub mod Items
