@@ -56,13 +56,13 @@ fits_first most xs tail d z is = ap (λ (xs : List More). prefixes_fit most (Som
 
 -- ---- what a sum means
 module _ (vs : List (List ℕ)) where
-  joined_two : (o : SumOp) (a b : Expression) → constant_value a ≡ None → joined o a b ≡ Two (operator_of o) Cardinal a b
+  joined_two : (o : SumOp) (a b : Expression) → constant_value a ≡ None → joined o a b ≡ Two (operator_of o) (OfWhole Cardinal) a b
   joined_two o a b h = ap (λ (x : Option ℤ). joined_by o a b x (constant_value b)) h
 
   chained_is : (e : Expression) (xs : List More) → constant_value e ≡ None → chained vs e xs ≡ more_means vs e xs
   chained_is e [] h = refl
   chained_is e (x ∷ xs) h =
-      chained_is (Two (operator_of x.operator) Cardinal e (operand_means vs x.operand)) xs refl
+      chained_is (Two (operator_of x.operator) (OfWhole Cardinal) e (operand_means vs x.operand)) xs refl
       ∙ ap (λ (e : Expression). more_means vs e xs) (sym (joined_two x.operator e (operand_means vs x.operand) h))
 
   prefix_is : (xs : List More) (z : ℤ) → chained vs (whole_constant (prefix xs z).0) (prefix xs z).1 ≡ more_means vs (whole_constant z) xs
@@ -74,8 +74,8 @@ module _ (vs : List (List ℕ)) where
           ≡ more_means vs (joined x.operator (whole_constant z) (operand_means vs d)) xs
       go (Number n) is deeper = deeper (whole_result x.operator z (pos n))
       go (Named y) is deeper =
-          ap (λ (d : Operand). chained vs (Two (operator_of x.operator) Cardinal (whole_constant z) (operand_means vs d)) xs) is
-          ∙ chained_is (Two (operator_of x.operator) Cardinal (whole_constant z) (operand_means vs (Named y))) xs refl
+          ap (λ (d : Operand). chained vs (Two (operator_of x.operator) (OfWhole Cardinal) (whole_constant z) (operand_means vs d)) xs) is
+          ∙ chained_is (Two (operator_of x.operator) (OfWhole Cardinal) (whole_constant z) (operand_means vs (Named y))) xs refl
 
   pub summed_is : (s : Sum) → summed vs s ≡ sum_means vs s
   unfolding summed
@@ -90,7 +90,7 @@ module _ (vs : List (List ℕ)) where
   never_constant e [] h = h
   never_constant e (x ∷ xs) h =
       ap (λ (e : Expression). constant_value (more_means vs e xs)) (joined_two x.operator e (operand_means vs x.operand) h)
-      ∙ never_constant (Two (operator_of x.operator) Cardinal e (operand_means vs x.operand)) xs refl
+      ∙ never_constant (Two (operator_of x.operator) (OfWhole Cardinal) e (operand_means vs x.operand)) xs refl
 
   none_some : {A : Type 0} {x : A} {o : Option A} → o ≡ None → o ≡ Some x → ⊥
   none_some e e' = absurd (cc)
@@ -103,7 +103,7 @@ module _ (vs : List (List ℕ)) where
           → ((z : ℤ) → prefixes_fit most (Some z) xs ≡ true → constant_value (more_means vs (whole_constant z) xs) ≡ Some v → between (pos 0) v most ≡ true)
           → between (pos 0) v most ≡ true
       go (Number n) h e deeper = deeper (whole_result x.operator z (pos n)) h e
-      go (Named y) h e deeper = absurd (none_some (never_constant (Two (operator_of x.operator) Cardinal (whole_constant z) (operand_means vs (Named y))) xs refl) e)
+      go (Named y) h e deeper = absurd (none_some (never_constant (Two (operator_of x.operator) (OfWhole Cardinal) (whole_constant z) (operand_means vs (Named y))) xs refl) e)
 
   pub sum_constant_fits : (most : ℤ) (s : Sum) (v : ℤ) → sum_fits most s ≡ true → constant_value (sum_means vs s) ≡ Some v → between (pos 0) v most ≡ true
   sum_constant_fits most s v h e = go s.first h e

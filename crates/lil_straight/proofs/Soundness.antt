@@ -120,7 +120,7 @@ module _ (vs : List (List ℕ)) where
   chained_sound e [] s g = s
   chained_sound e (x ∷ xs) s g =
       let b = operand_sound x.operand g.0 in
-      chained_sound (Two (operator_of x.operator) Cardinal e (operand_means vs x.operand)) xs
+      chained_sound (Two (operator_of x.operator) (OfWhole Cardinal) e (operand_means vs x.operand)) xs
       (record { kind = refl; flat = omega (arith, s.flat, operand_depth x.operand); sound = (refl, s.kind, b.kind, s.sound, b.sound) }) g.1
 
   prefix_word : (xs : List More) (z : ℤ) → prefixes_fit (pos 65535) (Some z) xs ≡ true → AreGood vs xs → (pos 0 ≤ℤ (prefix xs z).0) × ((prefix xs z).0 ≤ℤ pos 65535) × AreGood vs (prefix xs z).1

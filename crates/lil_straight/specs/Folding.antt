@@ -35,7 +35,7 @@ prefix (x ∷ xs) z = prefix_by (prefix xs) z x xs (constant_of x.operand)
 -- what is added to an expression, none of it folded
 abbrev pub chained : List (List ℕ) → Expression → List More → Expression
 chained variables e [] = e
-chained variables e (x ∷ xs) = chained variables (Two (operator_of x.operator) Cardinal e (operand_means variables x.operand)) xs
+chained variables e (x ∷ xs) = chained variables (Two (operator_of x.operator) (OfWhole Cardinal) e (operand_means variables x.operand)) xs
 
 abbrev pub summed_by : List (List ℕ) → Sum → Option ℤ → Expression
 summed_by variables s None = chained variables (operand_means variables s.first) s.rest
