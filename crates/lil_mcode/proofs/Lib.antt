@@ -3,6 +3,7 @@ mod Lists
 pub mod Decoding
 mod Steps
 mod Rows
+pub mod Search
 mod Running
 mod Loading
 pub mod Requests
