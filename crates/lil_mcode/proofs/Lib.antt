@@ -1,6 +1,7 @@
 pub mod WordLaws
 mod Lists
 pub mod Decoding
+pub mod Standing
 mod Steps
 mod Rows
 pub mod Search
