@@ -7,3 +7,8 @@ pub mod Grammar
 pub mod Resolving
 pub mod Straight
 pub mod Sizes
+pub mod Nesting
+pub mod Trees
+pub mod Operators
+pub mod Expressions
+pub mod Statements
