@@ -269,15 +269,15 @@ module _ (l : Layout) (table : List Module) (own : Module) (number : ℕ) where
     pub empty : stack ≡ []
     pub exit : ℕ
     pub start : ℕ
-    pub table : ℕ
+    pub choices : ℕ
     pub entries : ℕ
     pub count : ℕ
     pub other : ℕ
     pub end : ℕ
-    pub dispatch : IsAt own.code p (Jmp table) exit
+    pub dispatch : IsAt own.code p (Jmp choices) exit
     pub leave : IsAt own.code exit (Jmp end) start
     pub bodies : ArmsAt l own.code (length a.loops) a.exit kind arms exit other start entries count
-    pub choice : IsAt own.code table (Cas count other) entries
+    pub choice : IsAt own.code choices (Cas count other) entries
     pub whole : end ≡ entries + 6 * count
     pub within : end < length own.code
     pub then : rest Quiet end [] c a
