@@ -1,8 +1,8 @@
 -- A request has its words on the expression stack.
-use Rattle.std.proofs.Common.{◌≡◌, ℕ, ◌+◌, ◌*◌, ◌≤◌, not, List, [], ◌∷◌, length, Bool, true, false, ◌&&◌, nat_lt, nat_le, ◌==◌, if◌then◌else◌, Option, None, Some, Result, Ok, Err, slice_index, is_some, refl, subst, arith}
+use Rattle.std.proofs.Common.{◌≡◌, ℕ, ◌+◌, ◌-◌, ◌*◌, ◌%◌, ◌≤◌, not, List, [], ◌∷◌, length, Bool, true, false, ◌&&◌, nat_lt, nat_le, ◌==◌, if◌then◌else◌, Option, None, Some, Result, Ok, Err, slice_index, slice_set, is_some, refl, subst, arith}
 use Rattle.std.specs.Prelude.{ℤ}
 use Rattle.std.proofs.lemmas.Bool.{leb-true, eqb-true}
-use Rattle.lil_base.specs.Words.{Whole, Cardinal, Integer, sum, difference, product, quotient, remainder, between}
+use Rattle.lil_base.specs.Words.{Whole, Cardinal, Integer, sum, difference, product, quotient, remainder, between, number_of}
 use Rattle.lil_base.specs.declared.fault.ArithFault.{ArithFault}
 use Rattle.lil_base.specs.declared.fault.TrapKind.{TrapKind}
 use Rattle.lil_mcode.specs.declared.instr.Instr.{Instr}
@@ -12,7 +12,7 @@ use Rattle.lil_mcode.specs.declared.machine.Event.TheVariants.{Went, Request, Le
 use Rattle.lil_mcode.specs.Bytes.{decoded}
 use Rattle.lil_mcode.specs.Control.{chosen}
 use Rattle.lil_mcode.specs.State.{Module, State, module_at}
-use Rattle.lil_mcode.specs.Table.{mstep, act, performed, fetched, bad, push_row, load_row, on_one, on_two, on_three, two_row, result_row, jump, chosen_row, begun_row, called_trap, trap_row, body_row, end_row, return_row, request_row, request_words}
+use Rattle.lil_mcode.specs.Table.{mstep, act, performed, fetched, bad, push_row, load_row, range_row, turn_row, on_one, on_two, on_three, two_row, result_row, jump, chosen_row, begun_row, called_trap, trap_row, body_row, end_row, return_row, request_row, request_words}
 
 -- where an event is a request, its number has words, and so many stand on the stack of t
 abbrev pub Asks : Event → State → Type 0
@@ -58,12 +58,18 @@ push_asks w q s = choice_row (nat_lt (length s.stack) 16) _ _ tt tt
 load_asks : (a q : ℕ) (s : State) → Row (load_row a q s)
 load_asks a q s = choice_row (nat_lt a 65536) _ _ (push_asks (slice_index s.store a) q s) tt
 
+range_asks : (t : Whole) (low high q : ℕ) (s : State) (x : ℕ) (rest : List ℕ) → Row (range_row t low high q s x rest)
+range_asks t low high q s x rest = choice_row (between (number_of t low) (number_of t x) (number_of t high)) _ _ tt tt
+
 jump_asks : (m : Module) (t : ℕ) (s r : State) → Row (jump m t s r)
 jump_asks m t s r = choice_row (nat_lt t (length m.code)) _ _ tt tt
 
 chosen_asks : (m : Module) (s : State) (rest : List ℕ) (t : Option ℕ) → Row (chosen_row m s rest t)
 chosen_asks m s rest None = tt
 chosen_asks m s rest (Some t) = jump_asks m t s (record s { stack = rest })
+
+turn_asks : (m : Module) (at t q : ℕ) (s : State) (x n k : ℕ) → Row (turn_row m at t q s x n k)
+turn_asks m at t q s x n k = choice_row (n == 0) _ _ tt (jump_asks m t s (record s { store = slice_set (slice_set s.store (at + 1) (n - 1)) at ((x + k) % 65536) }))
 
 begun_asks : (m : Module) (at t q : ℕ) (s : State) (a k : ℕ) (rest : List ℕ) (n : Option ℕ) → Row (begun_row m at t q s a k rest n)
 begun_asks m at t q s a k rest None = jump_asks m t s (record s { stack = rest })
@@ -104,8 +110,8 @@ act_asks (Lis w) q m s = push_asks w q s
 act_asks (Llw w) q m s = load_asks (s.frame + w) q s
 act_asks (Lgw w) q m s = load_asks (m.base + w) q s
 act_asks (Sgw w) q m s = one_row s s.stack _ (λ x rest. choice_row (nat_lt (m.base + w) 65536) _ _ tt tt)
-act_asks (Rgc v w) q m s = one_row s s.stack _ (λ x rest. choice_row (between _ _ _) _ _ tt tt)
-act_asks (Rgi v w) q m s = one_row s s.stack _ (λ x rest. choice_row (between _ _ _) _ _ tt tt)
+act_asks (Rgc v w) q m s = one_row s s.stack _ (λ x rest. range_asks Cardinal v w q s x rest)
+act_asks (Rgi v w) q m s = one_row s s.stack _ (λ x rest. range_asks Integer v w q s x rest)
 act_asks Cap q m s = one_row s s.stack _ (λ x rest. tt)
 act_asks Adc q m s = two_asks sum Cardinal q s s.stack
 act_asks Sbc q m s = two_asks difference Cardinal q s s.stack
@@ -136,7 +142,7 @@ act_asks (Jms w) q m s = jump_asks m (q + w) s s
 act_asks (Jfs w) q m s = one_row s s.stack _ (λ x rest. choice_row (x == 0) _ _ (jump_asks m (q + w) s (record s { stack = rest })) tt)
 act_asks (Cas v w) q m s = one_row s s.stack _ (λ x rest. choice_row (nat_le (q + 6 * v) (length m.code)) _ _ (chosen_asks m s rest (chosen m.code v q x w)) tt)
 act_asks (Fri o f t) q m s = three_rows s s.stack _ (λ a b k rest. choice_row (nat_lt (s.frame + o + 2) 65536 && (nat_lt f 2 && not (k == 0))) _ _ (begun_asks m (s.frame + o) t q s a k rest _) tt)
-act_asks (Frn v w) q m s = choice_row (nat_lt (s.frame + v + 2) 65536) _ _ (choice_row (slice_index s.store (s.frame + v + 1) == 0) _ _ tt (jump_asks m w s _)) tt
+act_asks (Frn v w) q m s = choice_row (nat_lt (s.frame + v + 2) 65536) _ _ (turn_asks m (s.frame + v) w q s (slice_index s.store (s.frame + v)) (slice_index s.store (s.frame + v + 1)) (slice_index s.store (s.frame + v + 2))) tt
 act_asks (Trp w) q m s = trap_asks s (called_trap w)
 act_asks (Svc w) q m s = request_asks w q s (request_words w) refl
 

@@ -28,9 +28,9 @@ loop_type f = if f == 0 then Cardinal else Integer
 abbrev pub turns_up : ℤ → ℤ → ℤ → ℕ
 turns_up a b k = if int_lt b a then 0 else nat_abs (whole_quotient (b -ℤ a) k) + 1
 
--- the same by a step of either sign
+-- The same by a step of either sign: a loop that goes down turns as often as the one that goes back up.
 abbrev pub turns : ℤ → ℤ → ℤ → ℕ
-turns a b k = if int_lt k (pos 0) then turns_up (neg_ℤ a) (neg_ℤ b) (neg_ℤ k) else turns_up a b k
+turns a b k = if int_lt k (pos 0) then turns_up b a (neg_ℤ k) else turns_up a b k
 
 -- the turns that are left in the first one, where there is one
 abbrev pub after_first : ℕ → Option ℕ

@@ -171,7 +171,7 @@ pub(crate) fn turns_left(kind: u8, from: u16, to: u16, by: u16) -> Option<u16>
     let to = bound(kind, to);
     let by = i32::from(integer(by));
     if by < 0 {
-        left_up(-from, -to, -by)
+        left_up(to, from, -by)
     } else {
         left_up(from, to, by)
     }

@@ -460,6 +460,7 @@ impl Processor {
         let Some((x, y)) = self.two() else {
             return Event::BadCode;
         };
+        let _count = self.stack.len();
         self.replace(2, y, next);
         self.stack.push(x);
         Event::Went

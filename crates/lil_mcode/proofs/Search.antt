@@ -1,0 +1,27 @@
+-- The search of the entries of CASE, one by one.
+use Rattle.std.proofs.Common.{◌≡◌, ℕ, zero, suc, ◌+◌, ◌-◌, ◌≤◌, true, false, List, Some, refl, ap, ◌∙◌, arith}
+use Rattle.lil_mcode.specs.Bytes.{word_at}
+use Rattle.lil_mcode.specs.Control.{chosen, is_in}
+
+-- what stands in an entry
+pub record Entry (code : List ℕ) (p low high target : ℕ) : Type 0 where
+  pub low_at : word_at code p ≡ Some low
+  pub high_at : word_at code (p + 2) ≡ Some high
+  pub target_at : word_at code (p + 4) ≡ Some target
+
+pub chosen_here : (code : List ℕ) (n p x other low high target : ℕ) → Entry code p low high target → is_in low high x ≡ true → chosen code (suc n) p x other ≡ Some target
+chosen_here code n p x other low high target e h = rw (e.low_at, e.high_at, e.target_at, h) refl
+
+pub chosen_later : (code : List ℕ) (n p x other low high target : ℕ) → Entry code p low high target → is_in low high x ≡ false → chosen code (suc n) p x other ≡ chosen code n (p + 6) x other
+chosen_later code n p x other low high target e h = rw (e.low_at, e.high_at, e.target_at, h) refl
+
+-- the same where the count is known as a number that isn't 0
+pub found_here : (code : List ℕ) (n p x other low high target : ℕ) → 1 ≤ n → Entry code p low high target → is_in low high x ≡ true → chosen code n p x other ≡ Some target
+found_here code zero p x other low high target some e h = absurd (omega arith)
+found_here code (suc n) p x other low high target some e h = chosen_here code n p x other low high target e h
+
+pub found_later : (code : List ℕ) (n p x other low high target : ℕ) → 1 ≤ n → Entry code p low high target → is_in low high x ≡ false → chosen code n p x other ≡ chosen code (n - 1) (p + 6) x other
+found_later code zero p x other low high target some e h = absurd (omega arith)
+found_later code (suc n) p x other low high target some e h =
+    let back : n ≡ suc n - 1 = omega arith in
+    chosen_later code n p x other low high target e h ∙ ap (λ (k : ℕ). chosen code k (p + 6) x other) back
