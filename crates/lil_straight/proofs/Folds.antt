@@ -4,7 +4,9 @@ use Rattle.std.proofs.lemmas.Bool.{and_parts, and_from}
 use Rattle.std.proofs.lemmas.Int.{ints}
 use Rattle.std.proofs.lemmas.List.{take_all}
 use Rattle.lil_base.specs.Words.{Cardinal, between}
-use Rattle.lil_tree.specs.Resolved.{Expression, Two}
+use Rattle.lil_tree.specs.Kinds.{OfWhole}
+use Rattle.lil_tree.specs.Resolved.{Expression, Two, kind_of}
+use Rattle.lil_tree.specs.Views.{two_of}
 use Rattle.lil_tree.specs.Resolving.{operator_of, whole_result, constant_of, longer, prefix_fits, prefixes_fit, operand_means, constant_value, whole_constant, joined_by, joined, more_means, sum_means}
 use Rattle.lil_tree.specs.declared.straight_syntax.SumOp.{SumOp}
 use Rattle.lil_tree.specs.declared.straight_syntax.SumOp.TheVariants.{Plus, Minus}
@@ -53,6 +55,33 @@ longer_reach Minus z (Some n) h w = let b = between_so (negsuc 32767) z (pos 655
 pub fits_first : (most : ℤ) (xs tail : List More) (d : More) (z : ℤ) → xs ≡ d ∷ tail
     → prefixes_fit most (Some z) xs ≡ (prefix_fits z (constant_of d.operand) && prefixes_fit most (longer d.operator z (constant_of d.operand)) tail)
 fits_first most xs tail d z is = ap (λ (xs : List More). prefixes_fit most (Some z) xs) is
+
+-- ---- an operator on CARDINALs
+pub sum_kind : (o : SumOp) (a b : Expression) → kind_of (Two (operator_of o) (OfWhole Cardinal) a b) ≡ OfWhole Cardinal
+sum_kind Plus a b = refl
+sum_kind Minus a b = refl
+
+pub sum_two : (o : SumOp) (a b : Expression) → kind_of a ≡ OfWhole Cardinal → two_of (operator_of o) a b ≡ Two (operator_of o) (OfWhole Cardinal) a b
+sum_two Plus a b h = rw h refl
+sum_two Minus a b h = rw h refl
+
+pub operand_kind : (vs : List (List ℕ)) (d : Operand) → kind_of (operand_means vs d) ≡ OfWhole Cardinal
+operand_kind vs (Number n) = refl
+operand_kind vs (Named x) = refl
+
+joined_by_kind : (o : SumOp) (a b : Expression) (x y : Option ℤ) → kind_of (joined_by o a b x y) ≡ OfWhole Cardinal
+joined_by_kind o a b (Some x) (Some y) = refl
+joined_by_kind o a b None y = sum_kind o a b
+joined_by_kind o a b (Some x) None = sum_kind o a b
+
+more_kind : (vs : List (List ℕ)) (e : Expression) (xs : List More) → kind_of e ≡ OfWhole Cardinal → kind_of (more_means vs e xs) ≡ OfWhole Cardinal
+more_kind vs e [] h = h
+more_kind vs e (x ∷ xs) h =
+    more_kind vs (joined x.operator e (operand_means vs x.operand)) xs
+    (joined_by_kind x.operator e (operand_means vs x.operand) (constant_value e) (constant_value (operand_means vs x.operand)))
+
+pub sum_means_kind : (vs : List (List ℕ)) (s : Sum) → kind_of (sum_means vs s) ≡ OfWhole Cardinal
+sum_means_kind vs s = more_kind vs (operand_means vs s.first) s.rest (operand_kind vs s.first)
 
 -- ---- what a sum means
 module _ (vs : List (List ℕ)) where

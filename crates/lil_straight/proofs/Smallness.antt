@@ -1,13 +1,14 @@
 -- A module takes no more code than its text has room for.
 use Rattle.std.proofs.Common.{◌≡◌, ℕ, ℤ, ◌+◌, ◌*◌, ◌≤◌, List, [], ◌∷◌, ◌++◌, codes, length, map, length-append, Option, Some, None, refl, ap, arith}
 use Rattle.std.proofs.lemmas.List.{length-map}
-use Rattle.lil_tree.specs.Resolved.{Expression}
+use Rattle.lil_tree.specs.Resolved.{Expression, in_order}
 use Rattle.lil_tree.specs.Views.{cardinal}
-use Rattle.lil_tree.specs.Resolving.{operand_means, constant_value, joined_by, joined, more_means, sum_means, chr_by, statement_means, unit_means}
+use Rattle.lil_tree.specs.Resolving.{operator_of, operand_means, constant_value, joined_by, joined, more_means, sum_means, chr_by, statement_means, unit_means}
 use Rattle.lil_tree.specs.declared.straight_token.StraightKind.{StraightKind}
 use Rattle.lil_tree.specs.declared.straight_token.StraightKind.TheVariants as k
 use Rattle.lil_tree.specs.declared.straight_token.StraightMark.TheVariants as m
 use Rattle.lil_tree.specs.declared.straight_syntax.SumOp.{SumOp}
+use Rattle.lil_tree.specs.declared.straight_syntax.SumOp.TheVariants.{Plus, Minus}
 use Rattle.lil_tree.specs.declared.straight_syntax.Operand.{Operand}
 use Rattle.lil_tree.specs.declared.straight_syntax.Operand.TheVariants.{Number, Named}
 use Rattle.lil_tree.specs.declared.straight_syntax.More.{More}
@@ -17,7 +18,7 @@ use Rattle.lil_tree.specs.declared.straight_syntax.StraightStmt.TheVariants.{Ass
 use Rattle.lil_tree.specs.declared.straight_syntax.StraightUnit.{StraightUnit}
 use Rattle.lil_tree.specs.Cuts.{IsCut, finish, blank, token}
 use Rattle.lil_tree.specs.Grammar.{spell_more, spell_sum, spell_statement, spell_statements, spell_names, spell_import, spell_variables, spell_body, spell_end, spell}
-use Rattle.lil_tree.specs.Sizes.{size, statement_size, body_size, IsSmall}
+use Rattle.lil_tree.specs.Sizes.{size, two_size, statement_size, body_size, IsSmall}
 use Rattle.lil_straight.proofs.CutLaws.{some_bytes}
 
 -- each token but Finish takes a byte
@@ -30,6 +31,10 @@ more_tokens : (xs : List More) → length (spell_more xs) ≡ 2 * length xs
 more_tokens [] = refl
 more_tokens (x ∷ xs) = omega (arith, more_tokens xs)
 
+operator_size : (o : SumOp) → two_size (operator_of o) ≡ 1
+operator_size Plus = refl
+operator_size Minus = refl
+
 module _ (vs : List (List ℕ)) where
   operand_size : (d : Operand) → size (operand_means vs d) ≡ 3
   operand_size (Number n) = refl
@@ -37,8 +42,8 @@ module _ (vs : List (List ℕ)) where
 
   joined_by_size : (o : SumOp) (a b : Expression) (x y : Option ℤ) → size b ≡ 3 → size (joined_by o a b x y) ≤ size a + 4
   joined_by_size o a b (Some x) (Some y) h = omega arith
-  joined_by_size o a b None y h = omega (arith, h)
-  joined_by_size o a b (Some x) None h = omega (arith, h)
+  joined_by_size o a b None y h = omega (arith, h, operator_size o)
+  joined_by_size o a b (Some x) None h = omega (arith, h, operator_size o)
 
   more_size : (e : Expression) (xs : List More) → size (more_means vs e xs) ≤ size e + 4 * length xs
   more_size e [] = omega arith
@@ -61,11 +66,11 @@ module _ (vs : List (List ℕ)) where
   one_size (Write e) =
       omega (arith, sum_size e, more_tokens e.rest, chr_size (sum_means vs e) (constant_value (sum_means vs e)), length-append (spell_sum e) (k.Mark m.Close ∷ k.Mark m.Close ∷ []))
 
-  more_bodies : (ss : List StraightStmt) → body_size (map (statement_means vs) ss) ≤ 2 * length (spell_statements ss)
+  more_bodies : (ss : List StraightStmt) → body_size (in_order (map (statement_means vs) ss)) ≤ 2 * length (spell_statements ss)
   more_bodies [] = omega arith
   more_bodies (s ∷ ss) = omega (arith, one_size s, more_bodies ss, length-append (spell_statement s) (spell_statements ss))
 
-  body_small : (ss : List StraightStmt) → body_size (map (statement_means vs) ss) ≤ 2 * length (spell_body ss)
+  body_small : (ss : List StraightStmt) → body_size (in_order (map (statement_means vs) ss)) ≤ 2 * length (spell_body ss)
   body_small [] = omega arith
   body_small (s ∷ ss) = omega (arith, one_size s, more_bodies ss, length-append (spell_statement s) (spell_statements ss))
 

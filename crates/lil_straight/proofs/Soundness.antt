@@ -8,12 +8,14 @@ use Rattle.std.specs.List.{list_all, position_or_len}
 use Rattle.std.specs.Str.{bytes_eq}
 use Rattle.lil_base.specs.Words.{Cardinal}
 use Rattle.lil_tree.specs.Kinds.{OfWhole, OfCharacter}
-use Rattle.lil_tree.specs.Resolved.{Expression, Two, kind_of}
+use Rattle.lil_tree.specs.Resolved.{Expression, Two, kind_of, in_order}
 use Rattle.lil_tree.specs.Resolving.{operator_of, listed, number_among, constant_of, whole_result, longer, prefix_fits, prefixes_fit, is_known, is_known_more, sum_keeps, statement_keeps, operand_means, constant_value, whole_constant, sum_means, chr_by, chr_of, statement_means}
 use Rattle.lil_tree.specs.declared.straight_token.StraightKind.{StraightKind}
 use Rattle.lil_tree.specs.declared.straight_token.StraightKind.TheVariants as k
 use Rattle.lil_tree.specs.declared.straight_token.StraightMark.TheVariants as m
 use Rattle.lil_tree.specs.declared.token.Word.{Word}
+use Rattle.lil_tree.specs.declared.straight_syntax.SumOp.{SumOp}
+use Rattle.lil_tree.specs.declared.straight_syntax.SumOp.TheVariants.{Plus, Minus}
 use Rattle.lil_tree.specs.declared.straight_syntax.Operand.{Operand}
 use Rattle.lil_tree.specs.declared.straight_syntax.Operand.TheVariants.{Number, Named}
 use Rattle.lil_tree.specs.declared.straight_syntax.More.{More}
@@ -24,8 +26,8 @@ use Rattle.lil_tree.specs.declared.straight_syntax.StraightUnit.{StraightUnit}
 use Rattle.lil_tree.specs.Cuts.{all_words, word_among, word_or_name, name_token, IsToken, word, number, becomes, mark, IsCut, finish, blank, token}
 use Rattle.lil_tree.specs.Grammar.{spell_operand, spell_operator, spell_more, spell_sum, spell_statement, spell_statements, spell_import, spell_variables, spell_body, spell_end, spell}
 use Rattle.lil_straight.specs.Folding.{prefix_by, prefix, chained, summed_by, summed, sum_fits, statement_fits}
-use Rattle.lil_tree.specs.Sizes.{depth, IsSoundExpression, IsSoundStatement, IsSoundBody}
-use Rattle.lil_straight.proofs.Folds.{between_so, between_from, summed_is, sum_constant_fits, wider_sum}
+use Rattle.lil_tree.specs.Sizes.{depth, takes_two, IsSoundExpression, IsSoundWhole, IsSoundStatement, IsSoundBody}
+use Rattle.lil_straight.proofs.Folds.{sum_kind, between_so, between_from, summed_is, sum_constant_fits, wider_sum}
 
 -- ---- numbers in tokens are words
 abbrev pub fits : StraightKind → Bool
@@ -116,12 +118,16 @@ module _ (vs : List (List ℕ)) where
   operand_depth (Number n) = refl
   operand_depth (Named x) = refl
 
+  sum_taken : (o : SumOp) → takes_two (operator_of o) (OfWhole Cardinal) ≡ true
+  sum_taken Plus = refl
+  sum_taken Minus = refl
+
   chained_sound : (e : Expression) (xs : List More) → Sound count e → AreGood vs xs → Sound count (chained vs e xs)
   chained_sound e [] s g = s
   chained_sound e (x ∷ xs) s g =
       let b = operand_sound x.operand g.0 in
       chained_sound (Two (operator_of x.operator) (OfWhole Cardinal) e (operand_means vs x.operand)) xs
-      (record { kind = refl; flat = omega (arith, s.flat, operand_depth x.operand); sound = (refl, s.kind, b.kind, s.sound, b.sound) }) g.1
+      (record { kind = sum_kind x.operator e (operand_means vs x.operand); flat = omega (arith, s.flat, operand_depth x.operand); sound = (sum_taken x.operator, s.kind, b.kind, s.sound, b.sound) }) g.1
 
   prefix_word : (xs : List More) (z : ℤ) → prefixes_fit (pos 65535) (Some z) xs ≡ true → AreGood vs xs → (pos 0 ≤ℤ (prefix xs z).0) × ((prefix xs z).0 ≤ℤ pos 65535) × AreGood vs (prefix xs z).1
   prefix_word [] z h g = let b = between_so (pos 0) z (pos 65535) h in (b.0, b.1, tt)
@@ -155,40 +161,35 @@ module _ (vs : List (List ℕ)) where
       let p = and_parts (is_known vs s.first) (list_all (is_known_more vs) s.rest && sum_fits most s) h in
       (and_parts (list_all (is_known_more vs) s.rest) (sum_fits most s) p.1).1
 
-  record IsCharacter (e : Expression) : Type 0 where
-    kind : kind_of e ≡ OfCharacter
-    flat : depth e ≤ 12
-    sound : IsSoundExpression count e
-
-  character_sound : (e : Expression) (o : Option ℤ) → constant_value e ≡ o → Sound count e → IfSome o (λ z. (pos 0 ≤ℤ z) × (z ≤ℤ pos 255)) → IsCharacter (chr_by e o)
-  character_sound e None is s h = record { kind = refl; flat = omega (arith, s.flat); sound = (s.kind, s.sound) }
-  character_sound e (Some (pos n)) is s h = record { kind = refl; flat = omega arith; sound = le-leb n 255 (omega (arith, ints, h.1)) }
+  character_sound : (e : Expression) (o : Option ℤ) → constant_value e ≡ o → Sound count e → IfSome o (λ z. (pos 0 ≤ℤ z) × (z ≤ℤ pos 255)) → IsSoundWhole count (chr_by e o) OfCharacter
+  character_sound e None is s h = record { kind = refl; shallow = omega (arith, s.flat); sound = (s.kind, s.sound) }
+  character_sound e (Some (pos n)) is s h = record { kind = refl; shallow = omega arith; sound = le-leb n 255 (omega (arith, ints, h.1)) }
   character_sound e (Some z) is s h = absurd (omega (arith, ints, h.0))
 
-  statement_sound : (imported : Bool) (s : StraightStmt) → Fit (spell_statement s) → statement_keeps imported vs s ≡ true → IsSoundStatement count (statement_means vs s)
+  statement_sound : (imported : Bool) (s : StraightStmt) → Fit (spell_statement s) → statement_keeps imported vs s ≡ true → IsSoundStatement count false (statement_means vs s)
   statement_sound imported (Assign x e) f h =
       let p = and_parts (listed vs x) (sum_keeps vs (pos 65535) e) h in
       let s = sum_sound e f (pos 65535) p.1 (keeps_fit (pos 65535) e p.1) in
-      (number_below vs x p.0, refl, s.kind, omega (arith, s.flat), s.sound)
+      (number_below vs x p.0, refl, record { kind = s.kind; shallow = omega (arith, s.flat); sound = s.sound })
   statement_sound imported (Write e) f h =
       let p = and_parts imported (sum_keeps vs (pos 255) e) h in
       let low = keeps_fit (pos 255) e p.1 in
       let s = sum_sound e (fit_parts (spell_sum e) (k.Mark m.Close ∷ k.Mark m.Close ∷ []) f).0 (pos 255) p.1 (wider_sum e low) in
       let c = character_sound (sum_means vs e) (constant_value (sum_means vs e)) refl s (value_in (constant_value (sum_means vs e)) refl low) in
-      (refl, chr_of (sum_means vs e), refl, c.kind, c.flat, c.sound)
+      (refl, chr_of (sum_means vs e), refl, c)
     where
       value_in : (o : Option ℤ) → constant_value (sum_means vs e) ≡ o → sum_fits (pos 255) e ≡ true → IfSome o (λ z. (pos 0 ≤ℤ z) × (z ≤ℤ pos 255))
       value_in None is low = tt
       value_in (Some z) is low = let b = between_so (pos 0) z (pos 255) (sum_constant_fits vs (pos 255) e z low is) in (b.0, b.1)
 
-  rest_sound : (imported : Bool) (ss : List StraightStmt) → Fit (spell_statements ss) → list_all (statement_keeps imported vs) ss ≡ true → IsSoundBody count (map (statement_means vs) ss)
+  rest_sound : (imported : Bool) (ss : List StraightStmt) → Fit (spell_statements ss) → list_all (statement_keeps imported vs) ss ≡ true → IsSoundBody count false (in_order (map (statement_means vs) ss))
   rest_sound imported [] f h = tt
   rest_sound imported (s ∷ ss) f h =
       let p = and_parts (statement_keeps imported vs s) (list_all (statement_keeps imported vs) ss) h in
       let q = fit_parts (spell_statement s) (spell_statements ss) f in
       (statement_sound imported s q.0 p.0, rest_sound imported ss q.1 p.1)
 
-  pub body_sound : (imported : Bool) (ss : List StraightStmt) → Fit (spell_body ss) → list_all (statement_keeps imported vs) ss ≡ true → IsSoundBody count (map (statement_means vs) ss)
+  pub body_sound : (imported : Bool) (ss : List StraightStmt) → Fit (spell_body ss) → list_all (statement_keeps imported vs) ss ≡ true → IsSoundBody count false (in_order (map (statement_means vs) ss))
   body_sound imported [] f h = tt
   body_sound imported (s ∷ ss) f h = rest_sound imported (s ∷ ss) f h
 

@@ -7,7 +7,7 @@ use Rattle.std.specs.Str.{bytes_eq}
 use Rattle.lil_tree.specs.declared.straight_token.StraightKind.{StraightKind}
 use Rattle.lil_tree.specs.declared.straight_syntax.StraightUnit.{StraightUnit}
 use Rattle.lil_tree.specs.Grammar.{spell}
-use Rattle.lil_tree.specs.Resolved.{Resolved}
+use Rattle.lil_tree.specs.Resolved.{Resolved, in_order}
 use Rattle.lil_tree.specs.Resolving.{listed, resident_names, all_differ, is_free, statement_keeps, keeps, statement_means, unit_means}
 use Rattle.lil_tree.specs.Straight.{IsStraight}
 use Rattle.lil_tree.specs.Views.{cardinal}
@@ -101,4 +101,4 @@ straight_sound file text m h =
     let fit = subst (λ (ts : List StraightKind). list_all fits ts ≡ true) h.derives (all_fit h.cut) in
     let body = body_sound u.variables u.imports_write u.body (body_fits u fit) (bodies_keep file u h.keeping) in
     let count = sym (length-map u.variables cardinal) in
-    subst (λ (m : Resolved). IsSound m) (sym h.meaning) (subst (λ (n : ℕ). IsSoundBody n (map (statement_means u.variables) u.body)) count body)
+    subst (λ (m : Resolved). IsSound m) (sym h.meaning) (subst (λ (n : ℕ). IsSoundBody n false (in_order (map (statement_means u.variables) u.body))) count body)

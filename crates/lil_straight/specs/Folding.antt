@@ -1,6 +1,7 @@
 -- The building of a resolved module, step by step: first the value of the numbers that a sum begins with, then the rest.
 use Rattle.std.specs.Prelude.{ℕ, ℤ, pos, Bool, ◌||◌, List, [], ◌∷◌, codes, Option, Some, None}
 use Rattle.lil_base.specs.Words.{Cardinal}
+use Rattle.lil_tree.specs.Kinds.{OfWhole}
 use Rattle.lil_tree.specs.Resolved.{Expression, Two}
 use Rattle.lil_tree.specs.Resolving.{operator_of, listed, whole_result, constant_of, prefixes_fit, operand_means, whole_constant}
 use Rattle.lil_tree.specs.declared.straight_syntax.More.{More}

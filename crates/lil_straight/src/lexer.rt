@@ -5,7 +5,7 @@ ghost use Rattle.lil_tree.specs.Cuts as cuts;
 ghost use Rattle.lil_straight.specs.Cutting as spec;
 
 use lil_base::{Items, Memory, Name};
-use lil_tree::{StraightMark, StraightKind, Word};
+use lil_tree::{StraightKind, StraightMark, Word};
 use std::alloc::Global;
 
 fn is_blank(b: u8) -> bool
@@ -311,7 +311,10 @@ fn after(text: &[u8], len: usize) -> &[u8]
     }
 }
 
-fn with_token(found: Items<StraightKind>, token: Option<StraightKind>) -> Result<Items<StraightKind>, Memory>
+fn with_token(
+    found: Items<StraightKind>,
+    token: Option<StraightKind>,
+) -> Result<Items<StraightKind>, Memory>
     ensures { IfOk result (λ all. all ≡ found ++ spec.before token []) }
 {
     let mut all = found;

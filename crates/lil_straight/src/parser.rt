@@ -7,7 +7,9 @@ ghost use Rattle.lil_straight.specs.Parsing as spec;
 ghost use Rattle.lil_straight.specs.Parsing.{Reads};
 
 use lil_base::{Items, Name};
-use lil_tree::{StraightMark, More, Operand, StraightStmt, StraightUnit, Sum, StraightKind, SumOp, Word};
+use lil_tree::{
+    More, Operand, StraightKind, StraightMark, StraightStmt, StraightUnit, Sum, SumOp, Word,
+};
 use std::alloc::Global;
 use std::marker::Model;
 
@@ -287,7 +289,11 @@ fn written(alloc: Global, cursor: &mut Cursor<'_>) -> Result<StraightStmt, Parse
 }
 
 #[tactic(auto, unfolding(crate::specs::Parsing::named_statement))]
-fn named_statement(alloc: Global, cursor: &mut Cursor<'_>, name: Name) -> Result<StraightStmt, ParseStop>
+fn named_statement(
+    alloc: Global,
+    cursor: &mut Cursor<'_>,
+    name: Name,
+) -> Result<StraightStmt, ParseStop>
     ensures { Reads (spec.named_statement name cursor.old) result cursor.new }
 {
     if cursor.sees_mark(StraightMark::Becomes) {

@@ -2,14 +2,17 @@ ghost use Rattle.std.specs.Prelude.{◌≡◌, ◌<◌, ◌≤◌, position, pos
 ghost use Rattle.std.specs.Str.{bytes_eq};
 ghost use Rattle.lil_base.specs.Words as words;
 ghost use Rattle.lil_base.specs.Words.{Cardinal};
-ghost use Rattle.lil_tree.specs.Resolved.{Two};
+ghost use Rattle.lil_tree.specs.Kinds.{OfWhole};
+ghost use Rattle.lil_tree.specs.Resolved.{Two, kind_of};
 ghost use Rattle.lil_straight.specs.Folding as spec;
 ghost use Rattle.std.specs.List.{list_all};
 ghost use Rattle.lil_tree.specs.Resolving as rules;
 ghost use Rattle.lil_tree.specs.Views as view;
 
 use lil_base::{Items, Memory, Name};
-use lil_tree::{More, Operand, RExpr, RModule, RStmt, StraightStmt, StraightUnit, Sum, SumOp, TwoOp};
+use lil_tree::{
+    More, Operand, RExpr, RModule, RStmt, StraightStmt, StraightUnit, Sum, SumOp, TwoOp,
+};
 use std::alloc::Global;
 
 fn same(name: &[u8], other: &[u8]) -> bool
@@ -256,8 +259,10 @@ fn operator_of(operator: SumOp) -> TwoOp
     }
 }
 
+#[tactic(auto, using(crate::proofs::Folds::sum_two))]
 fn two(alloc: Global, operator: SumOp, left: RExpr, right: RExpr) -> Result<RExpr, Memory>
-    ensures { IfOk result (λ e. view.expression_of e ≡ Two (rules.operator_of operator) Cardinal (view.expression_of left) (view.expression_of right)) }
+    requires { kind_of (view.expression_of left) ≡ OfWhole Cardinal }
+    ensures { IfOk result (λ e. view.expression_of e ≡ Two (rules.operator_of operator) (OfWhole Cardinal) (view.expression_of left) (view.expression_of right)) }
 {
     let left = Box::new(alloc, left)?;
     let right = Box::new(alloc, right)?;
@@ -280,8 +285,10 @@ fn prefix(z: i32, rest: &[More]) -> (i32, &[More])
     }
 }
 
+#[tactic(auto, using(crate::proofs::Folds::sum_kind))]
 fn chain(alloc: Global, variables: &[Name], first: RExpr, rest: &[More]) -> Result<RExpr, Memory>
-    requires { length variables.now ≤ 65536 }
+    requires few { length variables.now ≤ 65536 }
+    requires cardinal { kind_of (view.expression_of first) ≡ OfWhole Cardinal }
     ensures { IfOk result (λ e. view.expression_of e ≡ spec.chained variables.now (view.expression_of first) rest.now) }
 {
     let mut left = first;
@@ -292,7 +299,7 @@ fn chain(alloc: Global, variables: &[Name], first: RExpr, rest: &[More]) -> Resu
     Ok(left)
 }
 
-#[tactic(auto, unfolding(crate::specs::Folding::summed))]
+#[tactic(auto, using(crate::proofs::Folds::operand_kind), unfolding(crate::specs::Folding::summed))]
 fn summed(alloc: Global, variables: &[Name], sum: &Sum) -> Result<RExpr, Memory>
     requires few { length variables.now ≤ 65536 }
     requires fits { spec.sum_fits (pos 65535) sum.now ≡ true }
@@ -321,7 +328,7 @@ fn sum_expression(alloc: Global, variables: &[Name], sum: &Sum) -> Result<RExpr,
     summed(alloc, variables, sum)
 }
 
-#[tactic(auto, using(crate::proofs::Folds::wider_sum))]
+#[tactic(auto, using(crate::proofs::Folds::wider_sum, crate::proofs::Folds::sum_means_kind))]
 fn written(alloc: Global, variables: &[Name], sum: &Sum) -> Result<RStmt, Memory>
     requires few { length variables.now ≤ 65536 }
     requires fits { spec.sum_fits (pos 255) sum.now ≡ true }
@@ -332,7 +339,8 @@ fn written(alloc: Global, variables: &[Name], sum: &Sum) -> Result<RStmt, Memory
 }
 
 fn character(alloc: Global, e: RExpr) -> Result<RExpr, Memory>
-    requires { IfSome (rules.constant_value (view.expression_of e)) (λ z. z ≤ℤ pos 255) }
+    requires cardinal { kind_of (view.expression_of e) ≡ OfWhole Cardinal }
+    requires fits { IfSome (rules.constant_value (view.expression_of e)) (λ z. z ≤ℤ pos 255) }
     ensures { IfOk result (λ c. view.expression_of c ≡ rules.chr_of (view.expression_of e)) }
 {
     match e {
@@ -355,7 +363,11 @@ fn statement(alloc: Global, variables: &[Name], statement: &StraightStmt) -> Res
     }
 }
 
-fn body(alloc: Global, variables: &[Name], statements: &[StraightStmt]) -> Result<Items<RStmt>, Memory>
+fn body(
+    alloc: Global,
+    variables: &[Name],
+    statements: &[StraightStmt],
+) -> Result<Items<RStmt>, Memory>
     requires few { length variables.now ≤ 65536 }
     requires fits { list_all spec.statement_fits statements.now ≡ true }
     ensures { IfOk result (λ ss. map view.statement_of ss ≡ map (rules.statement_means variables.now) statements.now) }
