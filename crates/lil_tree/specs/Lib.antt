@@ -12,3 +12,6 @@ pub mod Trees
 pub mod Operators
 pub mod Expressions
 pub mod Statements
+pub mod Program
+pub mod Lexical
+pub mod Structured
