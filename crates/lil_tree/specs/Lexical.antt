@@ -74,14 +74,14 @@ value base ds = value_behind base 0 ds
 -- the longest run of digits and A to F that begins with a digit, with an H that follows it
 pub data IsRun : List ℕ → List ℕ → Type 0 where
   plain : {d : ℕ} {ds rest : List ℕ} → is_digit d ≡ true → list_all is_hex_digit ds ≡ true → Stops is_number_byte rest → IsRun (d ∷ ds) rest
-  with_h : {d : ℕ} {ds rest : List ℕ} → is_digit d ≡ true → list_all is_hex_digit ds ≡ true → IsRun (d ∷ (ds ++ 72 ∷ [])) rest
+  with_h : {d : ℕ} (ds : List ℕ) {rest : List ℕ} → is_digit d ≡ true → list_all is_hex_digit ds ≡ true → IsRun (d ∷ (ds ++ 72 ∷ [])) rest
 
 -- what a run says: digits alone, octal digits with B or C, digits to base 16 with H
 pub data Says : List ℕ → TokenKind → Type 0 where
   decimal : {ds : List ℕ} → list_all is_digit ds ≡ true → Says ds (k.Number (value 10 ds))
-  octal : {ds : List ℕ} → list_all is_octal_digit ds ≡ true → Says (ds ++ 66 ∷ []) (k.Number (value 8 ds))
-  code : {ds : List ℕ} → list_all is_octal_digit ds ≡ true → Says (ds ++ 67 ∷ []) (k.CharCode (value 8 ds))
-  hexadecimal : {ds : List ℕ} → list_all is_hex_digit ds ≡ true → Says (ds ++ 72 ∷ []) (k.Number (value 16 ds))
+  octal : (ds : List ℕ) → list_all is_octal_digit ds ≡ true → Says (ds ++ 66 ∷ []) (k.Number (value 8 ds))
+  code : (ds : List ℕ) → list_all is_octal_digit ds ≡ true → Says (ds ++ 67 ∷ []) (k.CharCode (value 8 ds))
+  hexadecimal : (ds : List ℕ) → list_all is_hex_digit ds ≡ true → Says (ds ++ 72 ∷ []) (k.Number (value 16 ds))
 
 -- a number fits a word, a code a byte
 abbrev pub fits : TokenKind → Bool
@@ -163,30 +163,32 @@ abbrev pub BeginsNone : ℕ → Type 0
 BeginsNone b = (is_blank b ≡ false) × (is_letter b ≡ false) × (is_digit b ≡ false) × (is_quote b ≡ false) × (single b ≡ None)
 
 abbrev pub fault : ℕ → Place → SourceFault
-fault number place = record { number = number; place = place; about = None; first = 0; second = 0 }
+fault n p = record { number = n; place = p; about = None; first = 0; second = 0 }
 
 -- no piece stands at the place before this text, but a fault
 pub data IsFault : Place → List ℕ → SourceFault → Type 0 where
   bad_char : {p : Place} {b : ℕ} {bs : List ℕ} → BeginsNone b → IsFault p (b ∷ bs) (fault 1 p)
   open_comment : {p : Place} {bs : List ℕ} → ((rest : List ℕ) → IsInside bs rest → ⊥) → IsFault p (40 ∷ 42 ∷ bs) (fault 2 p)
-  open_string : {p : Place} {q : ℕ} {bs rest : List ℕ} → is_quote q ≡ true → list_all (goes_on q) bs ≡ true → EndsLine rest → IsFault p (q ∷ (bs ++ rest)) (fault 3 p)
-  bad_in_string : {p : Place} {q b : ℕ} {bs more rest : List ℕ} → is_quote q ≡ true → list_all (is_string_byte q) bs ≡ true
+  open_string : {p : Place} {q : ℕ} (bs rest : List ℕ) → is_quote q ≡ true → list_all (goes_on q) bs ≡ true → EndsLine rest → IsFault p (q ∷ (bs ++ rest)) (fault 3 p)
+  bad_in_string : {p : Place} {q : ℕ} (bs : List ℕ) (b : ℕ) (more rest : List ℕ) → is_quote q ≡ true → list_all (is_string_byte q) bs ≡ true
       → is_string_byte q b ≡ false → list_all (goes_on q) (b ∷ more) ≡ true
       → IsFault p (q ∷ (bs ++ b ∷ (more ++ q ∷ rest))) (fault 1 (behind p (q ∷ bs)))
   bad_number : {p : Place} {run rest : List ℕ} → IsRun run rest → ((what : TokenKind) → Says run what → ⊥) → IsFault p (run ++ rest) (fault 4 p)
   too_large : {p : Place} {run rest : List ℕ} {what : TokenKind} → IsRun run rest → Says run what → fits what ≡ false → IsFault p (run ++ rest) (fault 5 p)
-  long_name : {p : Place} {b : ℕ} {bs rest : List ℕ} → is_letter b ≡ true → list_all is_name_byte bs ≡ true → Stops is_name_byte rest → 64 < length (b ∷ bs)
+  long_name : {p : Place} {b : ℕ} (bs rest : List ℕ) → is_letter b ≡ true → list_all is_name_byte bs ≡ true → Stops is_name_byte rest → 64 < length (b ∷ bs)
       → IsFault p (b ∷ (bs ++ rest)) (fault 6 p)
 
 -- ---- whole texts
+-- the token that a piece at a place is, before others
+abbrev pub before : Place → Option TokenKind → List Token → List Token
+before p None ts = ts
+before p (Some what) ts = record { what = what; place = p } ∷ ts
+
 -- the text at a place is cut into these tokens, up to a place and the text that is left there
 pub data CutsTo : Place → List ℕ → List Token → Place → List ℕ → Type 0 where
   here : {p : Place} {text : List ℕ} → CutsTo p text [] p text
-  skips : {p q : Place} {text front rest left : List ℕ} {ts : List Token}
-      → text ≡ front ++ rest → IsPiece front rest None → CutsTo (behind p front) rest ts q left → CutsTo p text ts q left
-  takes : {p q : Place} {text front rest left : List ℕ} {what : TokenKind} {ts : List Token}
-      → text ≡ front ++ rest → IsPiece front rest (Some what) → CutsTo (behind p front) rest ts q left
-      → CutsTo p text (record { what = what; place = p } ∷ ts) q left
+  piece : {p q : Place} {text front rest left : List ℕ} {what : Option TokenKind} {ts : List Token}
+      → text ≡ front ++ rest → IsPiece front rest what → CutsTo (behind p front) rest ts q left → CutsTo p text (before p what ts) q left
 
 -- the tokens, with Finish behind the last byte
 abbrev pub finished : List Token → Place → List Token
