@@ -1,5 +1,6 @@
 ghost use Rattle.std.specs.Prelude.{◌≡◌};
 ghost use Rattle.lil_tree.specs.Cuts as cuts;
+ghost use Rattle.lil_lexer.specs.Spellings as spec;
 
 use lil_tree::Word;
 
@@ -46,14 +47,20 @@ const WORDS: [(&str, Word); 40] = [
     ("WITH", Word::With),
 ];
 
-/// The reserved word with this spelling.
-pub(crate) fn word_of(name: &[u8]) -> Option<Word>
-    ensures { result ≡ cuts.word_among cuts.all_words name.now }
+fn look_up(table: &[(&str, Word)], name: &[u8]) -> Option<Word>
+    ensures { result ≡ spec.look_up table.now name.now }
 {
-    for (spelling, word) in &WORDS {
+    for (spelling, word) in table {
         if name == spelling.as_bytes() {
             return Some(*word);
         }
     }
     None
+}
+
+/// The reserved word with this spelling.
+pub(crate) fn word_of(name: &[u8]) -> Option<Word>
+    ensures { result ≡ cuts.word_among cuts.all_words name.now }
+{
+    look_up(&WORDS, name)
 }
