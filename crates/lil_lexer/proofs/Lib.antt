@@ -1,2 +1,4 @@
 mod Values
 mod Comments
+mod Runs
+mod Numerals
