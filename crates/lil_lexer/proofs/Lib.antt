@@ -2,3 +2,4 @@ mod Values
 mod Comments
 mod Runs
 mod Numerals
+mod Beginnings
