@@ -45,6 +45,9 @@ quote_plain b h =
     ⊎_elim (λ e. subst (λ (b : ℕ). Other b) (sym (eqb-true b 34 e)) (refl, refl, refl)) (λ e. subst (λ (b : ℕ). Other b) (sym (eqb-true b 39 e)) (refl, refl, refl))
     (or_cases (b == 34) (b == 39) h)
 
+pub quote_above : (b : ℕ) → is_quote b ≡ true → 34 ≤ b
+quote_above b h = ⊎_elim (λ e. omega (arith, eqb-true b 34 e)) (λ e. omega (arith, eqb-true b 39 e)) (or_cases (b == 34) (b == 39) h)
+
 -- the byte of a mark
 abbrev pub Plain : ℕ → Type 0
 Plain b = (is_blank b ≡ false) × (is_letter b ≡ false) × (is_digit b ≡ false) × (is_quote b ≡ false)

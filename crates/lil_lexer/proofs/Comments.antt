@@ -6,7 +6,7 @@ use Rattle.lil_tree.specs.Lexical.{opens, closes, IsAlone, IsInside, close, nest
 use Rattle.lil_lexer.specs.Pieces.{after_comment, len_before, comment_len}
 
 -- what a comment's end leaves, inside so many others
-abbrev closed : ℕ → List ℕ → Option (List ℕ)
+abbrev pub closed : ℕ → List ℕ → Option (List ℕ)
 closed depth rest = elim depth [ zero ↦ Some rest | suc d ↦ after_comment 0 d rest ]
 
 -- ---- in a loop over the bytes

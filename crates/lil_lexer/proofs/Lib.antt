@@ -3,3 +3,5 @@ mod Comments
 mod Runs
 mod Numerals
 mod Beginnings
+mod PieceLaws
+mod PieceAgain

@@ -62,5 +62,8 @@ module _ (test : ℕ → Bool) where
   pub run_left : (bs rest : List ℕ) → list_all test bs ≡ true → Stops test rest → drop (prefix_len test (bs ++ rest)) (bs ++ rest) ≡ rest
   run_left bs rest h s = drop_at bs rest (prefix_len test (bs ++ rest)) (sym (run_length bs rest h s))
 
+  pub run_whole : (bs : List ℕ) → list_all test bs ≡ true → prefix_len test bs ≡ length bs
+  run_whole bs h = let P : List ℕ → Type 0 = λ text. prefix_len test text ≡ length bs in subst P (append-nil bs) (run_length bs [] h tt)
+
   pub whole_left : (bs : List ℕ) → list_all test bs ≡ true → drop (prefix_len test bs) bs ≡ []
   whole_left bs h = let P : List ℕ → Type 0 = λ text. drop (prefix_len test text) text ≡ [] in subst P (append-nil bs) (run_left bs [] h tt)
