@@ -3,6 +3,7 @@ pub mod Scalars
 pub mod Resolved
 pub mod Views
 pub mod Cuts
+pub mod Lexical
 pub mod Grammar
 pub mod Resolving
 pub mod Straight
