@@ -14,5 +14,4 @@ pub mod Operators
 pub mod Expressions
 pub mod Statements
 pub mod Program
-pub mod Lexical
 pub mod Structured
