@@ -19,7 +19,7 @@ use Rattle.lil_session.specs.Rows.{Layout, IsAt, ArgumentsAt, loop_place}
 use Rattle.lil_session.specs.Running.{Running, Finished, Run, running, requested, words_taken}
 use Rattle.lil_session.proofs.Homes.{yes, Home, Of, Free, Word, Mem, whole_root, mem_stored}
 use Rattle.lil_session.proofs.Matched.{Mode, Quiet, ValueOf, Direct, LoopWords, Around, Reach, ItemRow, Rows, Ahead, HasFrame, HasLoops, Shared, words_on, DoRow, SetRow, StoreRow, PassRow, PassingRow, EndRow, EndedRow, IsVariable, Goes, Lands, weight}
-use Rattle.lil_session.proofs.Orders.{instr_order, expression_order}
+use Rattle.lil_session.proofs.Orders.{instr_within, arguments_within}
 use Rattle.lil_session.proofs.Steps.{advances, at_step, at_once, rows_ahead, lands_on, goes_none, goes_one}
 
 -- one more word on the expression stack
@@ -34,11 +34,6 @@ done_length done v = omega (arith, length-append done (v ∷ []))
 
 of_free : (r : Root) (b : ℕ) → Of r ≡ Free b → ⊥
 of_free r b e = cc
-
-arguments_order : (l : Layout) (code : List ℕ) (n : ℕ) (given : List Argument) (p q : ℕ) → ArgumentsAt l code n given p q → p ≤ q
-arguments_order l code n [] p q row = omega (arith, row)
-arguments_order l code n (x ∷ given) p q row =
-    omega (arith, expression_order l code x.value p row.middle row.value.value, arguments_order l code (suc n) given row.middle q row.then)
 
 module _ (l : Layout) (table : List Module) (own : Module) (number : ℕ) (h : Home) (m : State) (frame : HasFrame l table own number h m) (r : Root) (owned : h.owner (h.base r) ≡ Of r) (x : ℕ) where
   -- a word of the frame behind its mark is no root's
@@ -116,7 +111,7 @@ module _ (modules : List Resolved) (l : Layout) (table : List Module) (own : Mod
           end = row.middle;
           here = row.value.value;
           shallow = omega (arith, row.value.shallow, ap length row.empty);
-          within = (let at = instr_order own.code row.middle (Sgw row.offset) row.end row.store in omega (arith, at.0, at.1));
+          within = instr_within own.code row.middle (Sgw row.offset) row.end row.store;
           then = now (Fill (StoreAt place to)) k _ row.middle m.stack
               (record {
                 mode = ap ValueOf row.value.typed;
@@ -219,10 +214,7 @@ module _ (modules : List Resolved) (l : Layout) (table : List Module) (own : Mod
           end = row.given.middle;
           here = row.given.value.value;
           shallow = omega (arith, row.given.value.shallow, ap length row.is, words_length done);
-          within = (
-            let at = instr_order own.code row.middle (Svc r) row.serve.end row.serve.by in
-            omega (arith, at.0, at.1, arguments_order l own.code (suc (length done)) left row.given.middle row.middle row.given.then)
-          );
+          within = arguments_within l own.code (suc (length done)) left row.given.middle row.middle row.given.then (instr_within own.code row.middle (Svc r) row.serve.end row.serve.by);
           then = now (Fill (Pass r x.kind done left)) k _ row.given.middle m.stack
               (record {
                 mode = ap ValueOf row.given.value.typed;
