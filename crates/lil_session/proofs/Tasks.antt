@@ -18,7 +18,7 @@ use Rattle.lil_mcode.specs.Table.{going, on_one, store_row, request_row, end_row
 use Rattle.lil_session.specs.Rows.{Layout, IsAt, ArgumentsAt, loop_place}
 use Rattle.lil_session.specs.Running.{Running, Finished, Run, running, requested, words_taken}
 use Rattle.lil_session.proofs.Homes.{yes, Home, Of, Free, Word, Mem, whole_root, mem_stored}
-use Rattle.lil_session.proofs.Matched.{Mode, Quiet, ValueOf, Direct, LoopWords, Around, Reach, ItemRow, Rows, Ahead, HasFrame, HasLoops, Shared, words_on, DoRow, SetRow, StoreRow, PassRow, PassingRow, EndRow, EndedRow, IsVariable, Goes, Lands, weight}
+use Rattle.lil_session.proofs.Matched.{Quiet, ValueOf, Direct, LoopWords, Around, Reach, Rows, Ahead, HasFrame, HasLoops, Shared, words_on, DoRow, SetRow, StoreRow, PassRow, PassingRow, EndRow, EndedRow, IsVariable, Goes, Lands, weight}
 use Rattle.lil_session.proofs.Orders.{instr_within, arguments_within}
 use Rattle.lil_session.proofs.Steps.{advances, at_step, at_once, rows_ahead, lands_on, goes_none, goes_one}
 
@@ -61,22 +61,18 @@ module _ (modules : List Resolved) (l : Layout) (table : List Module) (own : Mod
     abbrev Rest : Reach
     Rest = Rows l table own number h k
 
-    -- the row of an item to which no jump leads
-    now : (i : Item) (is : List Item) (t : Mode) (p : ℕ) (stack : List ℕ) → ItemRow l table own number h i is (Rows l table own number h is) t p stack c a → Rows l table own number h (i ∷ is) t p stack c a
-    now i is t p stack r = at_once modules l table own number h (ItemRow l table own number h i is (Rows l table own number h is)) t p stack c a r
-
     pub assign_goes : (x : ℕ) (kind : Kind) (e : Expression) → DoRow l table own number (Assign (Variable x kind) e) Rest Quiet m.place m.stack c a
         → Goes modules l table own number h s (Perform (Do (Assign (Variable x kind) e)) ∷ k) m (c + 32)
     assign_goes x kind e row =
         goes_none modules l table own number h s (Perform (Do (Assign (Variable x kind) e)) ∷ k) m (c + 32) c
         (lands_on modules l table own number h s m shared (PlaceOf (Variable x kind) ∷ Fill (SetTo kind e) ∷ k) m.place m.stack c a loops
-        (now (PlaceOf (Variable x kind)) (Fill (SetTo kind e) ∷ k) Quiet m.place m.stack
+        (at_once modules l table own number h _ Quiet m.place m.stack c a
         (record {
           quiet = refl;
           offset = row.here.offset;
           known = row.here.known;
           typed = row.here.typed;
-          then = now (Fill (SetTo kind e)) k (Direct row.here.offset kind) m.place m.stack
+          then = at_once modules l table own number h _ (Direct row.here.offset kind) m.place m.stack c a
               (record {
                 offset = row.here.offset;
                 mode = refl;
@@ -105,14 +101,14 @@ module _ (modules : List Resolved) (l : Layout) (table : List Module) (own : Mod
         } in
         goes_none modules l table own number h s (Value (Places place) ∷ Fill (SetTo to e) ∷ k) m (c + 32) c
         (lands_on modules l table own number h s m shared (Evaluate e ∷ Fill (StoreAt place to) ∷ k) m.place m.stack c a loops
-        (now (Evaluate e) (Fill (StoreAt place to) ∷ k) Quiet m.place m.stack
+        (at_once modules l table own number h _ Quiet m.place m.stack c a
         (record {
           quiet = refl;
           end = row.middle;
           here = row.value.value;
           shallow = omega (arith, row.value.shallow, ap length row.empty);
           within = instr_within own.code row.middle (Sgw row.offset) row.end row.store;
-          then = now (Fill (StoreAt place to)) k _ row.middle m.stack
+          then = at_once modules l table own number h _ _ row.middle m.stack c a
               (record {
                 mode = ap ValueOf row.value.typed;
                 empty = row.empty;
@@ -186,7 +182,7 @@ module _ (modules : List Resolved) (l : Layout) (table : List Module) (own : Mod
     request_goes r given row =
         goes_none modules l table own number h s (Perform (Do (Request r given)) ∷ k) m (c + 32) c
         (lands_on modules l table own number h s m shared (Perform (Passing r [] given) ∷ k) m.place m.stack c a loops
-        (now (Perform (Passing r [] given)) k Quiet m.place m.stack
+        (at_once modules l table own number h _ Quiet m.place m.stack c a
         (record {
           quiet = refl;
           is = row.empty;
@@ -208,14 +204,14 @@ module _ (modules : List Resolved) (l : Layout) (table : List Module) (own : Mod
     passing_goes r done x left row =
         goes_none modules l table own number h s (Perform (Passing r done (x ∷ left)) ∷ k) m (c + 32) c
         (lands_on modules l table own number h s m shared (Evaluate x.value ∷ Fill (Pass r x.kind done left) ∷ k) m.place m.stack c a loops
-        (now (Evaluate x.value) (Fill (Pass r x.kind done left) ∷ k) Quiet m.place m.stack
+        (at_once modules l table own number h _ Quiet m.place m.stack c a
         (record {
           quiet = refl;
           end = row.given.middle;
           here = row.given.value.value;
           shallow = omega (arith, row.given.value.shallow, ap length row.is, words_length done);
           within = arguments_within l own.code (suc (length done)) left row.given.middle row.middle row.given.then (instr_within own.code row.middle (Svc r) row.serve.end row.serve.by);
-          then = now (Fill (Pass r x.kind done left)) k _ row.given.middle m.stack
+          then = at_once modules l table own number h _ _ row.given.middle m.stack c a
               (record {
                 mode = ap ValueOf row.given.value.typed;
                 is = row.is;
@@ -246,7 +242,7 @@ module _ (modules : List Resolved) (l : Layout) (table : List Module) (own : Mod
         goes_none modules l table own number h s (Value (Scalars v) ∷ Fill (Pass r to done left) ∷ k) m (c + 32) c
         (subst (λ (b : Bool). Lands l table own number h modules (cond b (with_items here after) (trapped modules here trap.Range)).phase (cond b (with_items here after) (trapped modules here trap.Range)) (running m s.world) c) (sym fits)
         (lands_on modules l table own number h s m shared after m.place m.stack c a loops
-        (now (Perform (Passing r (done ++ v ∷ []) left)) k Quiet m.place m.stack
+        (at_once modules l table own number h _ Quiet m.place m.stack c a
         (record {
           quiet = refl;
           is = is ∙ ap (λ (x : List ℕ). scalar_word v ∷ x) row.is ∙ words_more done v;
