@@ -46,7 +46,7 @@ module _ (modules : List Resolved) (l : Layout) (table : List Module) (own : Mod
   out : (k : List Item) (to c end : ℕ) (outer a : Around) → a ≡ record { exit = Some end; loops = outer.loops } → a.exit ≡ Some to → end < length own.code
       → Rows l table own number h k Quiet end [] c outer → Leaves k to c a
   out k to c end outer a is known inside rows =
-      let same : end ≡ to = some_same end to (sym (ap (λ (x : Around). x.exit) is) ∙ known) in
+      let same : end ≡ to = some_same end to (sym (ap (λ (o : Around). o.exit) is) ∙ known) in
       record {
         outer = outer;
         later = c;
@@ -87,11 +87,11 @@ module _ (modules : List Resolved) (l : Layout) (table : List Module) (own : Mod
       → Leaving k (TurnsTask l table own number (Variable x kind) z step left body rest)
   turns_leave x kind z step left body k rest f t p stack c a (inl r) to known = f _ _ _ c a r.then to known
   turns_leave x kind z step left body k rest f t p stack c a (inr r) to known =
-      deeper k to c r.outer a r.words r.around (f _ _ _ c r.outer r.then to (sym (ap (λ (x : Around). x.exit) r.around) ∙ known))
+      deeper k to c r.outer a r.words r.around (f _ _ _ c r.outer r.then to (sym (ap (λ (o : Around). o.exit) r.around) ∙ known))
 
   -- no LOOP is around the end of a body
   never_none : (a : Around) (to : ℕ) → a ≡ record { exit = None; loops = [] } → a.exit ≡ Some to → ⊥
-  never_none a to is known = let none : None ≡ Some to = sym (ap (λ (x : Around). x.exit) is) ∙ known in cc
+  never_none a to is known = let none : None ≡ Some to = sym (ap (λ (o : Around). o.exit) is) ∙ known in cc
 
   item_leaves : (i : Item) (k : List Item) → Leaving (exited k) (Rows l table own number h k) → Leaving (exited (i ∷ k)) (ItemRow l table own number h i k (Rows l table own number h k))
   item_leaves (Value (Scalars v)) k f t p stack c a r to known = f _ _ _ c a r.then to known
