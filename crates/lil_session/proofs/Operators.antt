@@ -1,5 +1,5 @@
 -- The machine's operators on words are the meaning's on scalars.
-use Rattle.std.proofs.Common.{◌≡◌, ℕ, ◌==◌, ◌≢◌, Bool, true, false, cond, not, Result, Ok, Err, List, [], ◌∷◌, refl, sym, ap, ◌∙◌}
+use Rattle.std.proofs.Common.{◌≡◌, ℕ, ◌==◌, ◌≢◌, ◌<◌, ◌≤◌, length, arith, Bool, true, false, cond, not, Result, Ok, Err, List, [], ◌∷◌, refl, sym, ap, ◌∙◌}
 use Rattle.std.specs.Prelude.{ℤ, pos, int_lt}
 use Rattle.lil_base.specs.Words.{Whole, Cardinal, Integer, between, sum, difference, product, quotient, remainder, negation, number_of, word_of}
 use Rattle.lil_base.specs.declared.fault.ArithFault.{ArithFault}
@@ -179,6 +179,26 @@ module _ (own : Module) (m : State) (below : List ℕ) (u v : Scalar) (is : m.st
   two_gives Mod (OfWhole Cardinal) takes left right = operation_gives own m below u v is remainder Cardinal Mdc (λ q. refl) left right
   two_gives Mod (OfWhole Integer) takes left right = operation_gives own m below u v is remainder Integer Mdi (λ q. refl) left right
   two_gives o k takes left right = cc
+
+-- an operator on two values has one or two instructions
+pub two_length : (o : TwoOp) (k : Kind) → takes_two o k ≡ true → (0 < length (two_code o k)) × (length (two_code o k) ≤ 2)
+two_length Equal k takes = (omega arith, omega arith)
+two_length Unequal k takes = (omega arith, omega arith)
+two_length Less k takes = (omega arith, omega arith)
+two_length AtMost k takes = (omega arith, omega arith)
+two_length Greater k takes = (omega arith, omega arith)
+two_length AtLeast k takes = (omega arith, omega arith)
+two_length Plus (OfWhole Cardinal) takes = (omega arith, omega arith)
+two_length Plus (OfWhole Integer) takes = (omega arith, omega arith)
+two_length Minus (OfWhole Cardinal) takes = (omega arith, omega arith)
+two_length Minus (OfWhole Integer) takes = (omega arith, omega arith)
+two_length Times (OfWhole Cardinal) takes = (omega arith, omega arith)
+two_length Times (OfWhole Integer) takes = (omega arith, omega arith)
+two_length Div (OfWhole Cardinal) takes = (omega arith, omega arith)
+two_length Div (OfWhole Integer) takes = (omega arith, omega arith)
+two_length Mod (OfWhole Cardinal) takes = (omega arith, omega arith)
+two_length Mod (OfWhole Integer) takes = (omega arith, omega arith)
+two_length o k takes = cc
 
 -- what an operator gives is a value of its kind
 pub one_fits : (o : OneOp) (k : Kind) (v : Scalar) → takes_one o k ≡ true → within k v ≡ true → Fits k (one_applied o k v)

@@ -66,7 +66,12 @@ instr_within code p i q h =
     let s = instr_order code p i q h in
     omega (arith, s.0, s.1)
 
--- so does that where arguments begin, where what follows them does
+-- so does that where instructions begin, if there are any
+pub instrs_within : (code : List ℕ) (is : List Instr) (p q : ℕ) → 0 < length is → InstrsAt code is p q → p < length code
+instrs_within code [] p q some h = absurd (omega (arith, some))
+instrs_within code (i ∷ is) p q some h = instr_within code p i h.0 h.1
+
+-- and that where arguments begin, where what follows them does
 pub arguments_within : (l : Layout) (code : List ℕ) (n : ℕ) (given : List Argument) (p q : ℕ) → ArgumentsAt l code n given p q → q < length code → p < length code
 arguments_within l code n [] p q h inside = omega (arith, h, inside)
 arguments_within l code n (a ∷ given) p q h inside = expression_within l code a.value p h.middle h.value.value
