@@ -1,5 +1,5 @@
 -- The rows of expressions: from a matched state the machine comes to a matched state.
-use Rattle.std.proofs.Common.{◌≡◌, ◌≢◌, ℕ, suc, ◌+◌, ◌<◌, ◌≤◌, Bool, true, false, cond, Result, Ok, Err, List, [], ◌∷◌, length, get_or, refl, sym, ap, ◌∙◌, subst, arith}
+use Rattle.std.proofs.Common.{◌≡◌, ◌≢◌, ℕ, ◌+◌, ◌<◌, ◌≤◌, Bool, true, false, cond, Result, Ok, Err, List, [], ◌∷◌, length, get_or, refl, sym, ap, ◌∙◌, subst, arith}
 use Rattle.std.specs.Prelude.{slice_get}
 use Rattle.std.proofs.lemmas.Bool.{lt-ltb}
 use Rattle.lil_base.specs.Words.{Cardinal}
@@ -9,7 +9,7 @@ use Rattle.lil_tree.specs.declared.operator.OneOp.TheVariants as one
 use Rattle.lil_tree.specs.declared.operator.TwoOp.{TwoOp}
 use Rattle.lil_tree.specs.Kinds.{Kind, OfWhole, OfTruth, OfCharacter, base_of}
 use Rattle.lil_tree.specs.Scalars.{Scalar, Truth, within, scalar_word}
-use Rattle.lil_tree.specs.Resolved.{Variable, Function, Abs, Cap, Chr, Odd, Ord, Val, Expression, Constant, Taken, One, Two, Both, Either, Apply, Resolved, kind_of, is_relation, result_kind}
+use Rattle.lil_tree.specs.Resolved.{Variable, Function, Abs, Cap, Chr, Odd, Ord, Val, Expression, Constant, Taken, One, Two, Both, Either, Apply, Resolved, is_relation, result_kind}
 use Rattle.lil_meaning.specs.Cells.{Global, Place, got, loaded_at}
 use Rattle.lil_meaning.specs.Items.{Scalars, Places, Get, OneOf, LeftOf, RightOf, BothOf, EitherOf, ApplyTo, Item, Value, Evaluate, PlaceOf, Fill, Going, Source}
 use Rattle.lil_meaning.specs.Steps.{next, answered, with_items, applied, one_applied, function_value, current, owner_of, name_of, trapped, trap_at}
@@ -18,11 +18,11 @@ use Rattle.lil_mcode.specs.declared.instr.Instr.TheVariants.{Liw, Lgw, Rgc, Jan,
 use Rattle.lil_mcode.specs.declared.machine.Event.{Event}
 use Rattle.lil_mcode.specs.declared.machine.Event.TheVariants.{Went, Trap}
 use Rattle.lil_mcode.specs.State.{Module, State}
-use Rattle.lil_mcode.specs.Table.{mstep, going, push_row, on_one, and_row, or_row}
+use Rattle.lil_mcode.specs.Table.{mstep, act, going, jump, push_row, on_one, and_row, or_row}
 use Rattle.lil_session.specs.Rows.{Layout, InstrsAt, one_code, two_code}
 use Rattle.lil_session.specs.Running.{running, react}
 use Rattle.lil_session.proofs.Homes.{yes, Home}
-use Rattle.lil_session.proofs.Matched.{Mode, Quiet, ValueOf, Direct, Around, Reach, AfterJumps, Rows, HasLoops, Shared, EvaluateRow, PlaceRow, OneRow, LeftRow, RightRow, ShortRow, ChrRow, ApplyRow, GetRow, IsVariable, weight, Goes, IsTrapped, Lands}
+use Rattle.lil_session.proofs.Matched.{Mode, Quiet, ValueOf, Direct, Around, Reach, AfterJumps, Rows, HasLoops, Shared, EvaluateRow, PlaceRow, OneRow, LeftRow, RightRow, ShortRow, ChrRow, ApplyRow, GetRow, IsVariable, Goes, IsTrapped, Lands}
 use Rattle.lil_session.proofs.Steps.{advances, pushes, at_step, at_once, shared_there, lands_on, goes_none, goes_one, goes_after}
 use Rattle.lil_session.proofs.Orders.{instr_within, instrs_order, instrs_within, expression_stands, expression_within}
 use Rattle.lil_session.proofs.Closing.{closed}
@@ -58,7 +58,7 @@ module _ (modules : List Resolved) (l : Layout) (table : List Module) (own : Mod
     -- the value that instructions give, or their trap
     answer_lands : (items : List Item) → current items ≡ 0 → (r : Result Scalar TrapKind) (kind : Kind) → Fits kind r → (p : ℕ) (stack : List ℕ) (end : ℕ) (below : List ℕ) → Rest (ValueOf kind) end below c a
         → Lands l table own number h modules (answered modules r k (Now items)).phase (answered modules r k (Now items))
-            (react (answer_row (going m p stack) end below r).0 (answer_row (going m p stack) end below r).1 (running (going m p stack) s.world)) c
+        (react (answer_row (going m p stack) end below r).0 (answer_row (going m p stack) end below r).1 (running (going m p stack) s.world)) c
     answer_lands items close (Ok v) kind fits p stack end below rest =
         lands_on modules l table own number h s m shared (Value (Scalars v) ∷ k) end (scalar_word v ∷ below) c a loops
         (once (record { quiet = refl; kind = kind; fits = fits; below = below; is = refl; then = rest }))
@@ -327,3 +327,109 @@ module _ (modules : List Resolved) (l : Layout) (table : List Module) (own : Mod
     apply_to_goes Odd v kind fits below is row = absurd row
     apply_to_goes Ord v kind fits below is row = absurd row
     apply_to_goes (Val j) v kind fits below is row = absurd row
+
+    -- the code of an operator on one value that has some
+    coded_goes : (o : OneOp) (j : Kind) → o ≢ one.Plus → length (one_code o j) ≤ 32 → (v : Scalar) (kind : Kind) → within kind v ≡ true → (below : List ℕ) → m.stack ≡ scalar_word v ∷ below
+        → OneRow l table own number o j Rest (ValueOf kind) m.place below c a → Goes modules l table own number h s (Value (Scalars v) ∷ Fill (OneOf o j) ∷ k) m (c + 32)
+    coded_goes o j some short v kind fits below is row =
+        let same : ValueOf kind ≡ ValueOf j = row.mode in
+        let kinds : kind ≡ j = cc in
+        let good : within j v ≡ true = ap (λ (i : Kind). within i v) (sym kinds) ∙ fits in
+        let items : List Item = Value (Scalars v) ∷ Fill (OneOf o j) ∷ k in
+        widened items m (c + length (one_code o j)) (c + 32)
+        (instrs_go items (closed l table own number h k _ _ _ _ _ row.then) (one_applied o j v) refl j (one_fits o j v row.takes good)
+        row.end below row.then (one_code o j) m.place m.stack row.by
+        (one_gives own m below v is o j row.takes some good))
+        (omega (arith, short))
+
+    pub one_of_goes : (o : OneOp) (j : Kind) (v : Scalar) (kind : Kind) → within kind v ≡ true → (below : List ℕ) → m.stack ≡ scalar_word v ∷ below → OneRow l table own number o j Rest (ValueOf kind) m.place below c a
+        → Goes modules l table own number h s (Value (Scalars v) ∷ Fill (OneOf o j) ∷ k) m (c + 32)
+    one_of_goes one.Plus j v kind fits below is row =
+        let same : ValueOf kind ≡ ValueOf j = row.mode in
+        let kinds : kind ≡ j = cc in
+        goes_none modules l table own number h s (Value (Scalars v) ∷ Fill (OneOf one.Plus j) ∷ k) m (c + 32) c
+        (lands_on modules l table own number h s m shared (Value (Scalars v) ∷ k) m.place m.stack c a loops
+        (once (record {
+          quiet = refl;
+          kind = j;
+          fits = ap (λ (i : Kind). within i v) (sym kinds) ∙ fits;
+          below = below;
+          is = is;
+          then = subst (λ (q : ℕ). Rest (ValueOf j) q below c a) (sym row.by) row.then;
+        })))
+        (omega arith)
+        (omega arith)
+    one_of_goes one.Minus j v kind fits below is row = coded_goes one.Minus j (λ e. cc) (omega arith) v kind fits below is row
+    one_of_goes one.Not j v kind fits below is row = coded_goes one.Not j (λ e. cc) (omega arith) v kind fits below is row
+
+    -- A short circuit: where the left operand decides, it stays, and a jump leads over the right one; else the right one is to come.
+    short_goes : (o : ℕ → Instr) (f : Expression) (items : List Item) (v : Scalar) (decides : Bool) → next modules (Now items) ≡ with_items (Now items) (cond decides (Value (Scalars v) ∷ k) (Evaluate f ∷ k))
+        → within OfTruth v ≡ true → (kind : Kind) (below : List ℕ) → m.stack ≡ scalar_word v ∷ below → (row : ShortRow l table own number o f Rest (ValueOf kind) m.place below c a)
+        → mstep m ≡ cond decides (Went, going m row.end m.stack) (Went, going m row.start below) → Goes modules l table own number h s items m (c + 32)
+    short_goes o f items v true becomes fits kind below is row step =
+        goes_one modules l table own number h s items m (c + 32) c (running (going m row.end m.stack) s.world)
+        (advances m s.world _ step)
+        (subst (λ (x : Source). Lands l table own number h modules x.phase x (running (going m row.end m.stack) s.world) c) (sym becomes)
+        (lands_on modules l table own number h s m shared (Value (Scalars v) ∷ k) row.end m.stack c a loops
+        (once (record { quiet = refl; kind = OfTruth; fits = fits; below = below; is = is; then = row.then }))))
+        (omega arith)
+    short_goes o f items v false becomes fits kind below is row step =
+        goes_one modules l table own number h s items m (c + 32) c (running (going m row.start below) s.world)
+        (advances m s.world _ step)
+        (subst (λ (x : Source). Lands l table own number h modules x.phase x (running (going m row.start below) s.world) c) (sym becomes)
+        (lands_on modules l table own number h s m shared (Evaluate f ∷ k) row.start below c a loops
+        (once (record {
+          quiet = refl;
+          end = row.end;
+          here = row.here;
+          shallow = row.shallow;
+          within = row.within;
+          then = subst (λ (j : Kind). Rest (ValueOf j) row.end below c a) (sym row.typed) row.then;
+        }))))
+        (omega arith)
+
+    -- the test of a short circuit finds the word of the left operand
+    tests : (o : ℕ → Instr) (f : Expression) (v : Scalar) (kind : Kind) (below : List ℕ) → m.stack ≡ scalar_word v ∷ below → (row : ShortRow l table own number o f Rest (ValueOf kind) m.place below c a)
+        → (look : ℕ → List ℕ → Event × State) → act (o row.end) row.start own m ≡ on_one m m.stack look → mstep m ≡ look (scalar_word v) below
+    tests o f v kind below is row look does =
+        at_step modules l table own number h m shared.program (o row.end) row.start row.by
+        ∙ does
+        ∙ ap (λ (x : List ℕ). on_one m x look) is
+
+    -- the jump stays within the code
+    jumps : (q : ℕ) → q < length own.code → (let r : Event × State = jump own q m m in r) ≡ (Went, going m q m.stack)
+    jumps q inside = yes _ _ _ (lt-ltb q (length own.code) inside)
+
+    both_of_truth : (f : Expression) (v : Scalar) → within OfTruth v ≡ true → (kind : Kind) (below : List ℕ) → m.stack ≡ scalar_word v ∷ below → ShortRow l table own number Jan f Rest (ValueOf kind) m.place below c a
+        → Goes modules l table own number h s (Value (Scalars v) ∷ Fill (BothOf f) ∷ k) m (c + 32)
+    both_of_truth f (Truth true) fits kind below is row =
+        short_goes Jan f (Value (Scalars (Truth true)) ∷ Fill (BothOf f) ∷ k) (Truth true) false refl fits kind below is row
+        (tests Jan f (Truth true) kind below is row (and_row own row.end row.start m) refl)
+    both_of_truth f (Truth false) fits kind below is row =
+        short_goes Jan f (Value (Scalars (Truth false)) ∷ Fill (BothOf f) ∷ k) (Truth false) true refl fits kind below is row
+        (tests Jan f (Truth false) kind below is row (and_row own row.end row.start m) refl ∙ jumps row.end row.within)
+    both_of_truth f v fits kind below is row = cc
+
+    either_of_truth : (f : Expression) (v : Scalar) → within OfTruth v ≡ true → (kind : Kind) (below : List ℕ) → m.stack ≡ scalar_word v ∷ below → ShortRow l table own number Jor f Rest (ValueOf kind) m.place below c a
+        → Goes modules l table own number h s (Value (Scalars v) ∷ Fill (EitherOf f) ∷ k) m (c + 32)
+    either_of_truth f (Truth true) fits kind below is row =
+        short_goes Jor f (Value (Scalars (Truth true)) ∷ Fill (EitherOf f) ∷ k) (Truth true) true refl fits kind below is row
+        (tests Jor f (Truth true) kind below is row (or_row own row.end row.start m) refl ∙ jumps row.end row.within)
+    either_of_truth f (Truth false) fits kind below is row =
+        short_goes Jor f (Value (Scalars (Truth false)) ∷ Fill (EitherOf f) ∷ k) (Truth false) false refl fits kind below is row
+        (tests Jor f (Truth false) kind below is row (or_row own row.end row.start m) refl)
+    either_of_truth f v fits kind below is row = cc
+
+    truths : (o : ℕ → Instr) (f : Expression) (v : Scalar) (kind : Kind) → within kind v ≡ true → (below : List ℕ) → ShortRow l table own number o f Rest (ValueOf kind) m.place below c a → within OfTruth v ≡ true
+    truths o f v kind fits below row =
+        let same : ValueOf kind ≡ ValueOf OfTruth = row.mode in
+        let kinds : kind ≡ OfTruth = cc in
+        ap (λ (i : Kind). within i v) (sym kinds) ∙ fits
+
+    pub both_of_goes : (f : Expression) (v : Scalar) (kind : Kind) → within kind v ≡ true → (below : List ℕ) → m.stack ≡ scalar_word v ∷ below → ShortRow l table own number Jan f Rest (ValueOf kind) m.place below c a
+        → Goes modules l table own number h s (Value (Scalars v) ∷ Fill (BothOf f) ∷ k) m (c + 32)
+    both_of_goes f v kind fits below is row = both_of_truth f v (truths Jan f v kind fits below row) kind below is row
+
+    pub either_of_goes : (f : Expression) (v : Scalar) (kind : Kind) → within kind v ≡ true → (below : List ℕ) → m.stack ≡ scalar_word v ∷ below → ShortRow l table own number Jor f Rest (ValueOf kind) m.place below c a
+        → Goes modules l table own number h s (Value (Scalars v) ∷ Fill (EitherOf f) ∷ k) m (c + 32)
+    either_of_goes f v kind fits below is row = either_of_truth f v (truths Jor f v kind fits below row) kind below is row

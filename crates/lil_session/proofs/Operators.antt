@@ -15,14 +15,13 @@ use Rattle.lil_tree.specs.Resolved.{Chr, is_relation, result_kind}
 use Rattle.lil_tree.specs.Sizes.{is_base, takes_one, takes_two}
 use Rattle.lil_meaning.specs.Steps.{whole_of, outcome, applied, one_applied, function_value, is_same, is_other, is_at_most}
 use Rattle.lil_mcode.specs.declared.instr.Instr.{Instr}
-use Rattle.lil_mcode.specs.declared.instr.Instr.TheVariants.{Swp, Rgc, Adc, Sbc, Mlc, Dvc, Mdc, Adi, Sbi, Mli, Dvi, Mdi, Ngi, Not, Equ, Neq, Lsc, Lec, Lsi, Lei}
+use Rattle.lil_mcode.specs.declared.instr.Instr.TheVariants.{Swp, Rgc, Adc, Sbc, Mlc, Dvc, Mdc, Adi, Sbi, Mli, Dvi, Mdi, Ngi, Not, Equ, Neq}
 use Rattle.lil_mcode.specs.declared.machine.Event.{Event}
 use Rattle.lil_mcode.specs.declared.machine.Event.TheVariants.{Went, Trap}
 use Rattle.lil_mcode.specs.State.{Module, State}
 use Rattle.lil_mcode.specs.Table.{act, going, on_one, on_two, swap_row, result_row, two_row, sign_row, change_row, denied, range_row, compare_row, truth, equal, unequal, less, at_most}
 use Rattle.lil_session.specs.Rows.{compared_as, less_code, at_most_code, one_code, two_code}
-use Rattle.lil_session.proofs.Homes.{yes, no}
-use Rattle.lil_session.proofs.Arithmetic.{word_is, whole_word, reads_ordinal, reads, same_words, other_is, Fitting, sum_fits, difference_fits, product_fits, quotient_fits, remainder_fits, negation_fits, chr_fits}
+use Rattle.lil_session.proofs.Arithmetic.{word_is, whole_word, reads_ordinal, reads, same_words, other_is, sum_fits, difference_fits, product_fits, quotient_fits, remainder_fits, negation_fits, chr_fits}
 
 -- the word of a value in place of its operands, which stood above others, or its trap
 abbrev pub answer_row : State → ℕ → List ℕ → Result Scalar TrapKind → Event × State
@@ -147,10 +146,11 @@ module _ (own : Module) (m : State) (below : List ℕ) (u v : Scalar) (is : m.st
 
   -- both operands the other way round
   swapped_gives : (i : Instr) (r : Result Scalar TrapKind) → ((n : State) → n.stack ≡ scalar_word u ∷ scalar_word v ∷ below → Gives own (i ∷ []) n below r) → Gives own (Swp ∷ i ∷ []) m below r
-  swapped_gives i r gives =
-      (scalar_word u ∷ scalar_word v ∷ below,
-      λ q. ap (λ (x : List ℕ). on_two m x (swap_row q m)) is,
-      λ q. gives (going m q (scalar_word u ∷ scalar_word v ∷ below)) refl)
+  swapped_gives i r gives = (
+    scalar_word u ∷ scalar_word v ∷ below,
+    λ q. ap (λ (x : List ℕ). on_two m x (swap_row q m)) is,
+    λ q. gives (going m q (scalar_word u ∷ scalar_word v ∷ below)) refl,
+  )
 
 -- an operator's code does what the operator means
 module _ (own : Module) (m : State) (below : List ℕ) (u v : Scalar) (is : m.stack ≡ scalar_word v ∷ scalar_word u ∷ below) where

@@ -1,11 +1,10 @@
 -- Where parts stand: behind their start, and within the code.
-use Rattle.std.proofs.Common.{◌≡◌, ℕ, suc, ◌+◌, ◌<◌, ◌≤◌, List, [], ◌∷◌, length, Option, Some, arith}
-use Rattle.lil_tree.specs.declared.operator.OneOp.{OneOp}
-use Rattle.lil_tree.specs.Resolved.{Variable, Function, Abs, Cap, Chr, Odd, Ord, Val, Expression, Constant, Taken, One, Two, Both, Either, Apply, Argument, Statement, Assign, Request, If, Case, While, Repeat, Loop, Exit, For, Statements, Empty, Then}
+use Rattle.std.proofs.Common.{ℕ, ◌<◌, ◌≤◌, List, [], ◌∷◌, length, Option, Some, arith}
+use Rattle.lil_tree.specs.Resolved.{Variable, Abs, Cap, Chr, Odd, Ord, Val, Expression, Constant, Taken, One, Two, Both, Either, Apply, Argument, Statement, Assign, Request, If, Case, While, Repeat, Loop, Exit, For, Statements, Empty, Then}
 use Rattle.lil_mcode.specs.declared.instr.Instr.{Instr}
-use Rattle.lil_mcode.specs.declared.instr.Instr.TheVariants.{Liw, Lgw, Rgc, Jmp, Jpf, Jan, Jor, Svc}
+use Rattle.lil_mcode.specs.declared.instr.Instr.TheVariants.{Rgc, Jmp, Jan, Jor, Svc}
 use Rattle.lil_mcode.proofs.Decoding.{decoded_stands}
-use Rattle.lil_session.specs.Rows.{Layout, IsAt, InstrsAt, Span, one_code, two_code, ApplyAt, ExpressionAt, WholeRow, ArgumentsAt, StatementAt, BodyAt}
+use Rattle.lil_session.specs.Rows.{Layout, IsAt, InstrsAt, one_code, two_code, ExpressionAt, ArgumentsAt, StatementAt, BodyAt}
 
 pub instr_order : (code : List ℕ) (p : ℕ) (i : Instr) (q : ℕ) → IsAt code p i q → (p < q) × (q ≤ length code)
 instr_order code p i q h =
