@@ -1,0 +1,226 @@
+-- The rows of FOR.
+use Rattle.std.proofs.Common.{◌≡◌, ℕ, zero, suc, ◌+◌, ◌-◌, ◌*◌, ◌%◌, ◌<◌, ◌≤◌, ℤ, ◌+ℤ◌, Bool, true, false, not, ◌&&◌, ◌==◌, cond, Option, List, [], ◌∷◌, length, get_or, set, refl, sym, ap, ◌∙◌, subst, ◌⊎◌, inl, inr, arith, length-set}
+use Rattle.std.specs.Prelude.{nat_lt, slice_get}
+use Rattle.std.proofs.lemmas.Bool.{lt-ltb, ne_eqb, and_from}
+use Rattle.std.proofs.lemmas.List.{get_or-set_same, get_or-set_other}
+use Rattle.lil_base.specs.Words.{Whole, Cardinal, Integer, in_type, word_of}
+use Rattle.lil_base.specs.declared.fault.TrapKind.TheVariants as trap
+use Rattle.lil_tree.specs.Kinds.{Kind, OfWhole}
+use Rattle.lil_tree.specs.Scalars.{Scalar, Number, Truth, Character, SetOf, ToObject, ToWorkspace, ToProcedure, ToCoroutine, Nothing, within, scalar_word, scalar_of, ordinal_of}
+use Rattle.lil_tree.specs.Resolved.{Variable, Expression, For, Statements, Empty, Then, Resolved}
+use Rattle.lil_meaning.specs.Cells.{Root, Global, Place, Cells, stored, alone}
+use Rattle.lil_meaning.specs.Items.{Scalars, StartOf, LimitOf, Do, Turns, Item, Value, Evaluate, Fill, Perform, doing, Going, Source}
+use Rattle.lil_meaning.specs.Steps.{current, owner_of, trapped, turns, turned_on}
+use Rattle.lil_mcode.specs.declared.instr.Instr.TheVariants.{Liw, Llw, Sgw, Fri, Frn}
+use Rattle.lil_mcode.specs.declared.machine.Event.{Event}
+use Rattle.lil_mcode.specs.declared.machine.Event.TheVariants.{Went}
+use Rattle.lil_mcode.specs.Control.{after_first, loop_words}
+use Rattle.lil_mcode.specs.State.{Module, State}
+use Rattle.lil_mcode.specs.Table.{mstep, going, push_row, on_three, loop_row, begun_row, turn_row, again_row}
+use Rattle.lil_session.specs.Rows.{Layout, IsAt, WholeRow, BodyAt, TurnsRow, RoundRow, loop_place, loop_sign}
+use Rattle.lil_session.specs.Running.{Run, running, advanced}
+use Rattle.lil_session.proofs.Homes.{yes, no, Home, Of, Own, Free, Owner, Word, Mem, whole_root, mem_stored}
+use Rattle.lil_session.proofs.Matched.{Mode, Quiet, ValueOf, LoopWords, Around, Reach, TurnsFit, ItemRow, Rows, Ahead, HasFrame, HasLoops, Shared, DoRow, StartRow, LimitRow, BeginRow, NextRow, IsVariable, Goes, Lands}
+use Rattle.lil_session.proofs.Orders.{instr_within, expression_within, body_within}
+use Rattle.lil_session.proofs.Closing.{closed}
+use Rattle.lil_session.proofs.Steps.{advances, pushes, at_step, at_once, rows_ahead, lands_on, goes_none, goes_one, goes_after}
+use Rattle.lil_session.proofs.Tasks.{loops_stored}
+use Rattle.lil_session.proofs.LoopWords.{word_small, next_word, step_some, turns_read, turns_few}
+
+-- a value of a whole type is the number that it has
+number_is : (t : Whole) (v : Scalar) → within (OfWhole t) v ≡ true → v ≡ Number (ordinal_of v)
+number_is t (Number z) h = refl
+number_is t (Truth b) h = cc
+number_is t (Character c) h = cc
+number_is t (SetOf f) h = cc
+number_is t (ToObject o) h = cc
+number_is t (ToWorkspace w) h = cc
+number_is t (ToProcedure n p) h = cc
+number_is t (ToCoroutine c) h = cc
+number_is t Nothing h = cc
+
+of_free : (r : Root) (b : ℕ) → Of r ≡ Free b → ⊥
+of_free r b e = cc
+
+own_free : (b : ℕ) → Own ≡ Free b → ⊥
+own_free b e = cc
+
+-- a word in no use changes no cell
+mem_free : (h : Home) (cells : Cells) (store : List ℕ) (p b x : ℕ) → h.owner p ≡ Free b → Mem h cells store → Mem h cells (set store p x)
+mem_free h cells store p b x free mem = record {
+  owned = mem.owned;
+  inside = mem.inside;
+  holds = λ r k living.
+      let old = mem.holds r k living in
+      let other : h.base r ≡ p → ⊥ = λ e. of_free r b (sym (mem.owned r k living) ∙ ap h.owner e ∙ free) in
+      record { word = get_or-set_other store p (h.base r) x 0 other ∙ old.word; fits = old.fits };
+  kept = λ q own.
+      let other : q ≡ p → ⊥ = λ e. own_free b (sym own ∙ ap h.owner e ∙ free) in
+      get_or-set_other store p q x 0 other ∙ mem.kept q own;
+  long = length-set store p x ∙ mem.long;
+}
+
+module _ (l : Layout) (table : List Module) (own : Module) (number : ℕ) (h : Home) where
+  -- a word above those of the FORs at hand
+  loops_above : (ws : List LoopWords) (frame p x : ℕ) (store : List ℕ) → frame + loop_place (length ws) ≤ p → HasLoops l table own number h frame store ws → HasLoops l table own number h frame (set store p x) ws
+  loops_above [] frame p x store above has = tt
+  loops_above (w ∷ ws) frame p x store above has =
+      let q : ℕ = frame + loop_place (length ws) in
+      let first : q ≡ p → ⊥ = λ e. omega (arith, above, e) in
+      let second : q + 1 ≡ p → ⊥ = λ e. omega (arith, above, e) in
+      let third : q + 2 ≡ p → ⊥ = λ e. omega (arith, above, e) in
+      (
+        has.0,
+        get_or-set_other store p q x 0 first ∙ has.1,
+        get_or-set_other store p (q + 1) x 0 second ∙ has.2,
+        get_or-set_other store p (q + 2) x 0 third ∙ has.3,
+        loops_above ws frame p x store (omega (arith, above)) has.4,
+      )
+
+  -- words of the frame, above those of the FORs at hand
+  pub record Kept (s : Source) (m : State) (ws : List LoopWords) (store : List ℕ) : Type 0 where
+    pub mem : Mem h s.cells store
+    pub loops : HasLoops l table own number h m.frame store ws
+
+  keeps : (s : Source) (m : State) (ws : List LoopWords) (store : List ℕ) (i p x : ℕ) → HasFrame l table own number h m → p ≡ m.frame + i → loop_place (length ws) ≤ i → i < l.frame → Kept s m ws store → Kept s m ws (set store p x)
+  keeps s m ws store i p x frame at low high kept = record {
+    mem = mem_free h s.cells store p m.base x (ap h.owner at ∙ frame.free i (omega (arith, low)) high) kept.mem;
+    loops = loops_above ws m.frame p x store (omega (arith, low, at)) kept.loops;
+  }
+
+  -- the same but for the place, the expression stack and the store
+  shared_stored : (s : Source) (m : State) → Shared l table own number h s m → (q : ℕ) (stack store : List ℕ) → Mem h s.cells store → Shared l table own number h s (record m { place = q; stack = stack; store = store })
+  shared_stored s m shared q stack store mem = record {
+    mem = mem;
+    laid = shared.laid;
+    program = record {
+      table_is = shared.program.table_is;
+      known = shared.program.known;
+      running_is = shared.program.running_is;
+      marked = shared.program.marked;
+      body = shared.program.body;
+      last = shared.program.last;
+    };
+    frame = record { room = shared.frame.room; free = shared.frame.free };
+    owner = shared.owner;
+    parked = shared.parked;
+  }
+
+module _ (modules : List Resolved) (l : Layout) (table : List Module) (own : Module) (number : ℕ) (h : Home) where
+  -- the rows of a body
+  rows_body : (ss : Statements) (k : List Item) (p q c : ℕ) (a : Around) → BodyAt l own.code (length a.loops) a.exit ss p q → q < length own.code → Rows l table own number h k Quiet q [] c a → Rows l table own number h (doing ss k) Quiet p [] c a
+  rows_body Empty k p q c a here within rows = subst (λ (r : ℕ). Rows l table own number h k Quiet r [] c a) (sym here) rows
+  rows_body (Then t ss) k p q c a here within rows =
+      at_once modules l table own number h (ItemRow l table own number h (Perform (Do t)) (doing ss k) (Rows l table own number h (doing ss k))) Quiet p [] c a
+      (record {
+        quiet = refl;
+        empty = refl;
+        end = here.middle;
+        here = here.here;
+        within = body_within l own.code (length a.loops) a.exit ss here.middle q here.then within;
+        then = rows_body ss k here.middle q c a here.then within rows;
+      })
+
+  module _ (s : Source) (k : List Item) (m : State) (c : ℕ) (a : Around) (shared : Shared l table own number h s m) where
+    abbrev Rest : Reach
+    Rest = Rows l table own number h k
+
+    abbrev pub Turning : ℕ → Kind → ℤ → ℤ → ℕ → Statements → List Item
+    Turning x kind z step left body = Perform (Turns (Variable x kind) z step left body) ∷ k
+
+    -- a turn: the store of its value, and then the body
+    turn_goes : (x : ℕ) (kind : Kind) (type : Whole) → kind ≡ OfWhole type → (z step : ℤ) (left : ℕ) (body : Statements)
+        → HasLoops l table own number h m.frame m.store (record { now = word_of z; left = left; step = word_of step } ∷ a.loops) → m.stack ≡ []
+        → TurnsFit kind z step (suc left) → left < 65536 → (end : ℕ)
+        → RoundRow l own.code (length a.loops) x kind step (BodyAt l own.code (suc (length a.loops)) a.exit body) m.place end → end < length own.code
+        → Rest Quiet end [] c a → Goes modules l table own number h s (Turning x kind z step (suc left) body) m (c + 28)
+    turn_goes x kind type is z step left body loops empty fit small end round within' then =
+        let items : List Item = Turning x kind z step (suc left) body in
+        let v : Scalar = scalar_of kind z in
+        let words : LoopWords = record { now = word_of z; left = left; step = word_of step } in
+        let inner : Around = record { exit = a.exit; loops = words ∷ a.loops } in
+        let at : ℕ = m.frame + loop_place (length a.loops) in
+        let first : State = going m round.loaded (word_of z ∷ m.stack) in
+        let store : List ℕ = set m.store (own.base + round.offset) (word_of z) in
+        let machine : State = record m { place = round.start; store = store } in
+        let value : scalar_word v ≡ word_of z = ap (λ (j : Kind). scalar_word (scalar_of j z)) is in
+        let number_fits : in_type type z ≡ true = ap (λ (j : Kind). within j (scalar_of j z)) (sym is) ∙ fit.0 in
+        let place : Place = record { root = Global (owner_of (slice_get s.activations (current k))) x; path = [] } in
+        let here : owner_of (slice_get s.activations (current k)) ≡ number = ap (λ (n : ℕ). owner_of (slice_get s.activations n)) (closed l table own number h k Quiet end [] c a then) ∙ shared.owner in
+        let variable : IsVariable l table own number h place round.offset kind =
+        subst (λ (n : ℕ). let p : Place = record { root = Global n x; path = [] } in IsVariable l table own number h p round.offset kind) (sym here)
+        (shared.laid.variables x round.offset kind round.known round.typed) in
+        let inside : own.base + round.offset < 65536 = omega (arith, shared.mem.inside place.root kind variable.living, variable.at) in
+        let stored_at : set m.store (h.base place.root) (scalar_word v) ≡ store =
+        ap (λ (b : ℕ). set m.store b (scalar_word v)) variable.at ∙ ap (set m.store (own.base + round.offset)) value in
+        let mem : Mem h (stored s.cells place (alone v)) store =
+        subst (λ (st : List ℕ). Mem h (stored s.cells place (alone v)) st) stored_at (mem_stored h s.cells m.store place.root kind v shared.mem variable.living fit.0) in
+        let loops_there : HasLoops l table own number h m.frame store (words ∷ a.loops) =
+        subst (λ (st : List ℕ). HasLoops l table own number h m.frame st (words ∷ a.loops)) stored_at
+        (loops_stored l table own number h m shared.frame place.root (shared.mem.owned place.root kind variable.living) (scalar_word v) (words ∷ a.loops) loops) in
+        let after : List Item = doing body (Turning x kind (z +ℤ step) step left body) in
+        let turned_there : Source = record s { items = after; cells = stored s.cells place (alone v); phase = Going } in
+        let out : Source = trapped modules (record s { items = items; phase = Going }) trap.Range in
+        let rows : Rows l table own number h after Quiet round.start [] c inner =
+        rows_body body (Turning x kind (z +ℤ step) step left body) round.start round.end c inner round.here (instr_within own.code round.end (Frn (loop_place (length a.loops)) m.place) end round.next)
+        (at_once modules l table own number h _ Quiet round.end [] c inner
+        (inr (record {
+          quiet = refl;
+          empty = refl;
+          type = type;
+          is = is;
+          outer = a;
+          words = words;
+          around = refl;
+          left_is = refl;
+          small = small;
+          step_is = refl;
+          next_is = next_word type z step number_fits round.is_step;
+          fit = fit.1;
+          turn = m.place;
+          end = end;
+          round = round;
+          at = refl;
+          within = within';
+          then = then;
+        }))) in
+        goes_after modules l table own number h s items m first (c + 28) (c + 27)
+        (advances m s.world _ (
+        at_step modules l table own number h m shared.program (Llw (loop_place (length a.loops))) round.loaded round.load
+        ∙ yes _ _ _ (lt-ltb at 65536 (omega (arith, shared.frame.room, round.room)))
+        ∙ ap (λ (w : ℕ). push_row w round.loaded m) loops.1
+        ∙ pushes (word_of z) round.loaded m (omega (arith, ap length empty))
+        ))
+        (goes_one modules l table own number h s items first (c + 27) c (running machine s.world)
+        (advances first s.world _ (
+        at_step modules l table own number h first (shared_stored l table own number h s m shared round.loaded (word_of z ∷ m.stack) m.store shared.mem).program (Sgw round.offset) round.start round.store
+        ∙ yes _ _ _ (lt-ltb (own.base + round.offset) 65536 inside)
+        ))
+        (subst (λ (b : Bool). Lands l table own number h modules (cond b turned_there out).phase (cond b turned_there out) (running machine s.world) c) (sym fit.0)
+        (record {
+          machine = machine;
+          is = refl;
+          met = record {
+            shared = record {
+              mem = mem;
+              laid = shared.laid;
+              program = record {
+                table_is = shared.program.table_is;
+                known = shared.program.known;
+                running_is = shared.program.running_is;
+                marked = shared.program.marked;
+                body = shared.program.body;
+                last = shared.program.last;
+              };
+              frame = record { room = shared.frame.room; free = shared.frame.free };
+              owner = shared.owner;
+              parked = shared.parked;
+            };
+            around = inner;
+            loops = loops_there;
+            ahead = rows_ahead modules l table own number h after round.start m.stack c inner
+                (subst (λ (st : List ℕ). Rows l table own number h after Quiet round.start st c inner) (sym empty) rows);
+          };
+        }))
+        (omega arith))
+        (omega arith)
