@@ -39,6 +39,18 @@ number_is t (ToProcedure n p) h = cc
 number_is t (ToCoroutine c) h = cc
 number_is t Nothing h = cc
 
+kind_number : (k : Kind) (t : Whole) → k ≡ OfWhole t → (v : Scalar) → within k v ≡ true → scalar_of k (ordinal_of v) ≡ v
+kind_number k t is v h =
+    ap (λ (j : Kind). scalar_of j (ordinal_of v)) is
+    ∙ sym (number_is t v (ap (λ (j : Kind). within j v) (sym is) ∙ h))
+
+kind_word : (k : Kind) (t : Whole) → k ≡ OfWhole t → (v : Scalar) → within k v ≡ true → scalar_word v ≡ word_of (ordinal_of v)
+kind_word k t is v h = ap scalar_word (number_is t v (ap (λ (j : Kind). within j v) (sym is) ∙ h))
+
+sign_small : (t : Whole) → nat_lt (loop_sign t) 2 ≡ true
+sign_small Cardinal = refl
+sign_small Integer = refl
+
 of_free : (r : Root) (b : ℕ) → Of r ≡ Free b → ⊥
 of_free r b e = cc
 
@@ -224,3 +236,144 @@ module _ (modules : List Resolved) (l : Layout) (table : List Module) (own : Mod
         }))
         (omega arith))
         (omega arith)
+
+  module _ (s : Source) (k : List Item) (m : State) (c : ℕ) (a : Around) (shared : Shared l table own number h s m) (loops : HasLoops l table own number h m.frame m.store a.loops) where
+    abbrev Left : Reach
+    Left = Rows l table own number h k
+
+    pub for_goes : (x : ℕ) (kind : Kind) (first limit : Expression) (step : ℤ) (body : Statements) → DoRow l table own number (For (Variable x kind) first limit step body) Left Quiet m.place m.stack c a
+        → Goes modules l table own number h s (Perform (Do (For (Variable x kind) first limit step body)) ∷ k) m (c + 32)
+    for_goes x kind first limit step body row =
+        goes_none modules l table own number h s (Perform (Do (For (Variable x kind) first limit step body)) ∷ k) m (c + 32) c
+        (lands_on modules l table own number h s m shared (Evaluate first ∷ Fill (StartOf (Variable x kind) limit step body) ∷ k) m.place m.stack c a loops
+        (at_once modules l table own number h _ Quiet m.place m.stack c a
+        (record {
+          quiet = refl;
+          end = row.here.middle;
+          here = row.here.first.value;
+          shallow = omega (arith, row.here.first.shallow, ap length row.empty);
+          within = expression_within l own.code limit row.here.middle row.here.last row.here.limit.value;
+          then = at_once modules l table own number h _ _ row.here.middle m.stack c a
+              (record {
+                type = row.here.type;
+                is = row.here.is;
+                mode = ap ValueOf row.here.first.typed;
+                empty = row.empty;
+                last = row.here.last;
+                end = row.end;
+                limit = row.here.limit;
+                turns = row.here.turns;
+                within = row.within;
+                then = row.then;
+              });
+        })))
+        (omega arith)
+        (omega arith)
+
+    pub start_goes : (x : ℕ) (to : Kind) (limit : Expression) (step : ℤ) (body : Statements) (v : Scalar) (kind : Kind) → within kind v ≡ true → (below : List ℕ) → m.stack ≡ scalar_word v ∷ below
+        → StartRow l table own number x to limit step body Left (ValueOf kind) m.place below c a → Goes modules l table own number h s (Value (Scalars v) ∷ Fill (StartOf (Variable x to) limit step body) ∷ k) m (c + 32)
+    start_goes x to limit step body v kind fit below is row =
+        let one : ValueOf kind ≡ ValueOf to = row.mode in
+        let same_kind : kind ≡ to = cc in
+        let fits : within to v ≡ true = ap (λ (j : Kind). within j v) (sym same_kind) ∙ fit in
+        let stack : m.stack ≡ scalar_word v ∷ [] = is ∙ ap (λ (st : List ℕ). scalar_word v ∷ st) row.empty in
+        goes_none modules l table own number h s (Value (Scalars v) ∷ Fill (StartOf (Variable x to) limit step body) ∷ k) m (c + 32) c
+        (lands_on modules l table own number h s m shared (Evaluate limit ∷ Fill (LimitOf (Variable x to) v step body) ∷ k) m.place m.stack c a loops
+        (at_once modules l table own number h _ Quiet m.place m.stack c a
+        (record {
+          quiet = refl;
+          end = row.last;
+          here = row.limit.value;
+          shallow = omega (arith, row.limit.shallow, ap length stack);
+          within = instr_within own.code row.last (Liw (word_of step)) row.turns.stepped row.turns.load;
+          then = at_once modules l table own number h _ _ row.last m.stack c a
+              (record {
+                type = row.type;
+                is = row.is;
+                mode = ap ValueOf row.limit.typed;
+                fits = fits;
+                stack_is = stack;
+                end = row.end;
+                turns = row.turns;
+                within = row.within;
+                then = row.then;
+              });
+        })))
+        (omega arith)
+        (omega arith)
+
+    pub limit_goes : (x : ℕ) (to : Kind) (u : Scalar) (step : ℤ) (body : Statements) (v : Scalar) (kind : Kind) → within kind v ≡ true → (below : List ℕ) → m.stack ≡ scalar_word v ∷ below
+        → LimitRow l table own number x to u step body Left (ValueOf kind) m.place below c a → Goes modules l table own number h s (Value (Scalars v) ∷ Fill (LimitOf (Variable x to) u step body) ∷ k) m (c + 32)
+    limit_goes x to u step body v kind fit below is row =
+        let one : ValueOf kind ≡ ValueOf to = row.mode in
+        let same_kind : kind ≡ to = cc in
+        let fits : within to v ≡ true = ap (λ (j : Kind). within j v) (sym same_kind) ∙ fit in
+        let first_is : scalar_of to (ordinal_of u) ≡ u = kind_number to row.type row.is u row.fits in
+        let limit_is : scalar_of to (ordinal_of v) ≡ v = kind_number to row.type row.is v fits in
+        goes_none modules l table own number h s (Value (Scalars v) ∷ Fill (LimitOf (Variable x to) u step body) ∷ k) m (c + 32) c
+        (lands_on modules l table own number h s m shared (Perform (Turns (Variable x to) (ordinal_of u) step (turns (ordinal_of u) (ordinal_of v) step) body) ∷ k) m.place m.stack c a loops
+        (at_once modules l table own number h _ Quiet m.place m.stack c a
+        (inl (record {
+          quiet = refl;
+          type = row.type;
+          is = row.is;
+          limit = ordinal_of v;
+          fits = ap (within to) first_is ∙ row.fits;
+          limit_fits = ap (within to) limit_is ∙ fits;
+          stack_is = is ∙ ap (λ (st : List ℕ). scalar_word v ∷ st) row.stack_is ∙ ap (λ (w : ℕ). w ∷ scalar_word u ∷ []) (kind_word to row.type row.is v fits) ∙ ap (λ (w : ℕ). word_of (ordinal_of v) ∷ w ∷ []) (kind_word to row.type row.is u row.fits);
+          count = refl;
+          end = row.end;
+          turns = row.turns;
+          within = row.within;
+          then = row.then;
+        }))))
+        (omega arith)
+        (omega arith)
+
+    pub begin_goes : (x : ℕ) (kind : Kind) (first step : ℤ) (left : ℕ) (body : Statements) → BeginRow l table own number x kind first step left body Left Quiet m.place m.stack c a
+        → Goes modules l table own number h s (Perform (Turns (Variable x kind) first step left body) ∷ k) m (c + 32)
+    begin_goes x kind first step left body row = by_left left (sym row.count)
+      where
+        at : ℕ
+        at = m.frame + loop_place (length a.loops)
+
+        n : ℕ
+        n = loop_place (length a.loops)
+
+        stepped : State
+        stepped = going m row.turns.stepped (word_of step ∷ m.stack)
+
+        room : n + 3 ≤ l.frame
+        room = row.turns.round.room
+
+        deep : m.frame + n + 2 < 65536
+        deep = omega (arith, shared.frame.room, room)
+
+        first_in : in_type row.type first ≡ true
+        first_in = ap (λ (j : Kind). within j (scalar_of j first)) (sym row.is) ∙ row.fits
+
+        limit_in : in_type row.type row.limit ≡ true
+        limit_in = ap (λ (j : Kind). within j (scalar_of j row.limit)) (sym row.is) ∙ row.limit_fits
+
+        pushed : advanced (running m s.world) ≡ running (going m row.turns.stepped (word_of step ∷ m.stack)) s.world
+        pushed =
+            advances m s.world _ (
+            at_step modules l table own number h m shared.program (Liw (word_of step)) row.turns.stepped row.turns.load
+            ∙ pushes (word_of step) row.turns.stepped m (omega (arith, ap length row.stack_is))
+            )
+
+        enters : (u : ℕ) → turns first row.limit step ≡ u
+            → mstep (going m row.turns.stepped (word_of step ∷ m.stack)) ≡ begun_row own (m.frame + loop_place (length a.loops)) row.end row.turns.turn (going m row.turns.stepped (word_of step ∷ m.stack)) (word_of first) (word_of step) [] (after_first u)
+        enters u e =
+            at_step modules l table own number h stepped (shared_stored l table own number h s m shared row.turns.stepped (word_of step ∷ m.stack) m.store shared.mem).program (Fri n (loop_sign row.type) row.end) row.turns.turn row.turns.enter
+            ∙ ap (λ (st : List ℕ). on_three stepped (word_of step ∷ st) (loop_row own at (loop_sign row.type) row.end row.turns.turn stepped)) row.stack_is
+            ∙ yes _ _ _ (and_from _ _ (lt-ltb (at + 2) 65536 deep) (and_from _ _ (sign_small row.type) (ap not (step_some step row.turns.round.is_step))))
+            ∙ ap (λ (u : ℕ). begun_row own at row.end row.turns.turn stepped (word_of first) (word_of step) [] (after_first u)) (turns_read row.type first row.limit step first_in limit_in row.turns.round.is_step ∙ e)
+
+        by_left : (u : ℕ) → turns first row.limit step ≡ u → Goes modules l table own number h s (Perform (Turns (Variable x kind) first step u body) ∷ k) m (c + 32)
+        by_left zero e = ?
+        by_left (suc u) e = ?
+
+    pub next_goes : (x : ℕ) (kind : Kind) (z step : ℤ) (left : ℕ) (body : Statements) → NextRow l table own number x kind z step left body Left Quiet m.place m.stack c a
+        → Goes modules l table own number h s (Perform (Turns (Variable x kind) z step left body) ∷ k) m (c + 32)
+    next_goes x kind z step left body row = ?
