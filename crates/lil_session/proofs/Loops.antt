@@ -371,9 +371,114 @@ module _ (modules : List Resolved) (l : Layout) (table : List Module) (own : Mod
             ∙ ap (λ (u : ℕ). begun_row own at row.end row.turns.turn stepped (word_of first) (word_of step) [] (after_first u)) (turns_read row.type first row.limit step first_in limit_in row.turns.round.is_step ∙ e)
 
         by_left : (u : ℕ) → turns first row.limit step ≡ u → Goes modules l table own number h s (Perform (Turns (Variable x kind) first step u body) ∷ k) m (c + 32)
-        by_left zero e = ?
-        by_left (suc u) e = ?
+        by_left zero e =
+            goes_after modules l table own number h s (Perform (Turns (Variable x kind) first step zero body) ∷ k) m stepped (c + 32) (c + 31) pushed
+            (goes_one modules l table own number h s (Perform (Turns (Variable x kind) first step zero body) ∷ k) stepped (c + 31) c (running (going m row.end []) s.world)
+            (advances stepped s.world _ (enters zero e ∙ yes _ _ _ (lt-ltb row.end (length own.code) row.within)))
+            (lands_on modules l table own number h s m shared k row.end [] c a loops (rows_ahead modules l table own number h k row.end [] c a row.then))
+            (omega arith))
+            (omega arith)
+        by_left (suc u) e =
+            let words : LoopWords = record { now = word_of first; left = u; step = word_of step } in
+            let one : List ℕ = set m.store at (word_of first) in
+            let two : List ℕ = set one (at + 1) u in
+            let three : List ℕ = set two (at + 2) (word_of step) in
+            let begun : State = record m { place = row.turns.turn; stack = []; store = three } in
+            let long_one : length one ≡ 65536 = length-set m.store at (word_of first) ∙ shared.mem.long in
+            let long_two : length two ≡ 65536 = length-set one (at + 1) u ∙ long_one in
+            let first_second : at ≡ at + 1 → ⊥ = λ d. omega (arith, d) in
+            let first_third : at ≡ at + 2 → ⊥ = λ d. omega (arith, d) in
+            let second_third : at + 1 ≡ at + 2 → ⊥ = λ d. omega (arith, d) in
+            let kept : Kept l table own number h s m a.loops three =
+            keeps l table own number h s m a.loops two (n + 2) (at + 2) (word_of step) shared.frame (omega arith) (omega arith) (omega (arith, room))
+            (keeps l table own number h s m a.loops one (n + 1) (at + 1) u shared.frame (omega arith) (omega arith) (omega (arith, room))
+            (keeps l table own number h s m a.loops m.store n at (word_of first) shared.frame refl (omega arith) (omega (arith, room))
+            (record { mem = shared.mem; loops = loops }))) in
+            let few = turns_few row.type first row.limit step u first_in limit_in e in
+            goes_after modules l table own number h s (Perform (Turns (Variable x kind) first step (suc u) body) ∷ k) m stepped (c + 32) (c + 31) pushed
+            (goes_after modules l table own number h s (Perform (Turns (Variable x kind) first step (suc u) body) ∷ k) stepped begun (c + 31) (c + 28)
+            (advances stepped s.world _ (enters (suc u) e))
+            (turn_goes s k begun c a (shared_stored l table own number h s m shared row.turns.turn [] three kept.mem) x kind row.type row.is first step u body
+            (
+              room,
+              get_or-set_other two (at + 2) at (word_of step) 0 first_third ∙ get_or-set_other one (at + 1) at u 0 first_second ∙ get_or-set_same m.store at (word_of first) 0 (omega (arith, deep, shared.mem.long)),
+              get_or-set_other two (at + 2) (at + 1) (word_of step) 0 second_third ∙ get_or-set_same one (at + 1) u 0 (omega (arith, deep, long_one)),
+              get_or-set_same two (at + 2) (word_of step) 0 (omega (arith, deep, long_two)),
+              kept.loops,
+            )
+            refl
+            (row.fits, subst (λ (j : Kind). TurnsFit j (first +ℤ step) step u) (sym row.is) few.0) few.1 row.end
+            (subst (λ (j : Kind). RoundRow l own.code (length a.loops) x j step (BodyAt l own.code (suc (length a.loops)) a.exit body) row.turns.turn row.end) (sym row.is) row.turns.round)
+            row.within row.then)
+            (omega arith))
+            (omega arith)
 
     pub next_goes : (x : ℕ) (kind : Kind) (z step : ℤ) (left : ℕ) (body : Statements) → NextRow l table own number x kind z step left body Left Quiet m.place m.stack c a
         → Goes modules l table own number h s (Perform (Turns (Variable x kind) z step left body) ∷ k) m (c + 32)
-    next_goes x kind z step left body row = ?
+    next_goes x kind z step left body row = by_left left row.left_is row.fit row.small
+      where
+        n : ℕ
+        n = loop_place (length row.outer.loops)
+
+        at : ℕ
+        at = m.frame + loop_place (length row.outer.loops)
+
+        room : n + 3 ≤ l.frame
+        room = row.round.room
+
+        deep : m.frame + loop_place (length row.outer.loops) + 2 < 65536
+        deep = omega (arith, shared.frame.room, room)
+
+        inner : HasLoops l table own number h m.frame m.store (row.words ∷ row.outer.loops)
+        inner = subst (λ (b : Around). HasLoops l table own number h m.frame m.store b.loops) row.around loops
+
+        again : (u : ℕ) → row.words.left ≡ u → mstep m ≡ turn_row own (m.frame + loop_place (length row.outer.loops)) row.turn row.end m row.words.now u (word_of step)
+        again u e =
+            at_step modules l table own number h m shared.program (Frn n row.turn) row.end (subst (λ (p : ℕ). IsAt own.code p (Frn n row.turn) row.end) (sym row.at) row.round.next)
+            ∙ yes _ _ _ (lt-ltb (at + 2) 65536 deep)
+            ∙ ap (λ (w : ℕ). turn_row own at row.turn row.end m w (get_or m.store (at + 1) 0) (get_or m.store (at + 2) 0)) inner.1
+            ∙ ap (λ (w : ℕ). turn_row own at row.turn row.end m row.words.now w (get_or m.store (at + 2) 0)) (inner.2 ∙ e)
+            ∙ ap (λ (w : ℕ). turn_row own at row.turn row.end m row.words.now u w) (inner.3 ∙ row.step_is)
+
+        by_left : (u : ℕ) → row.words.left ≡ u → TurnsFit kind z step u → u < 65536 → Goes modules l table own number h s (Perform (Turns (Variable x kind) z step u body) ∷ k) m (c + 32)
+        by_left zero e fit small =
+            goes_one modules l table own number h s (Perform (Turns (Variable x kind) z step zero body) ∷ k) m (c + 32) c (running (going m row.end m.stack) s.world)
+            (advances m s.world _ (again zero e))
+            (lands_on modules l table own number h s m shared k row.end m.stack c row.outer inner.4
+            (rows_ahead modules l table own number h k row.end m.stack c row.outer
+            (subst (λ (st : List ℕ). Left Quiet row.end st c row.outer) (sym row.empty) row.then)))
+            (omega arith)
+        by_left (suc u) e fit small =
+            let words : LoopWords = record { now = word_of z; left = u; step = word_of step } in
+            let z_in : in_type row.type z ≡ true = ap (λ (j : Kind). within j (scalar_of j z)) (sym row.is) ∙ fit.0 in
+            let sum : (row.words.now + word_of step) % 65536 ≡ word_of z = row.next_is ∙ omega (arith, word_small row.type z z_in) in
+            let fewer : suc u - 1 ≡ u = omega arith in
+            let one : List ℕ = set m.store (at + 1) u in
+            let two : List ℕ = set one at (word_of z) in
+            let turning : State = record m { place = row.turn; store = two } in
+            let long_one : length one ≡ 65536 = length-set m.store (at + 1) u ∙ shared.mem.long in
+            let second_first : at + 1 ≡ at → ⊥ = λ d. omega (arith, d) in
+            let third_first : at + 2 ≡ at → ⊥ = λ d. omega (arith, d) in
+            let third_second : at + 2 ≡ at + 1 → ⊥ = λ d. omega (arith, d) in
+            let kept : Kept l table own number h s m row.outer.loops two =
+            keeps l table own number h s m row.outer.loops one n at (word_of z) shared.frame refl (omega arith) (omega (arith, room))
+            (keeps l table own number h s m row.outer.loops m.store (n + 1) (at + 1) u shared.frame (omega arith) (omega arith) (omega (arith, room))
+            (record { mem = shared.mem; loops = inner.4 })) in
+            goes_after modules l table own number h s (Perform (Turns (Variable x kind) z step (suc u) body) ∷ k) m turning (c + 32) (c + 28)
+            (advances m s.world _ (
+            again (suc u) e
+            ∙ no _ _ _ (ne_eqb (suc u) 0 (λ d. omega (arith, d)))
+            ∙ yes _ _ _ (lt-ltb row.turn (length own.code) (instr_within own.code row.turn (Llw n) row.round.loaded row.round.load))
+            ∙ ap (λ (st : List ℕ). let r : Event × State = (Went, record m { place = row.turn; store = st }) in r)
+            (ap (λ (w : ℕ). set (set m.store (at + 1) w) at ((row.words.now + word_of step) % 65536)) fewer ∙ ap (set one at) sum)
+            ))
+            (turn_goes s k turning c row.outer (shared_stored l table own number h s m shared row.turn m.stack two kept.mem) x kind row.type row.is z step u body
+            (
+              room,
+              get_or-set_same one at (word_of z) 0 (omega (arith, deep, long_one)),
+              get_or-set_other one at (at + 1) (word_of z) 0 second_first ∙ get_or-set_same m.store (at + 1) u 0 (omega (arith, deep, shared.mem.long)),
+              get_or-set_other one at (at + 2) (word_of z) 0 third_first ∙ get_or-set_other m.store (at + 1) (at + 2) u 0 third_second ∙ inner.3 ∙ row.step_is,
+              kept.loops,
+            )
+            row.empty fit (omega (arith, small)) row.end row.round row.within row.then)
+            (omega arith)
