@@ -3,6 +3,7 @@ pub mod Scalars
 pub mod Resolved
 pub mod Views
 pub mod Cuts
+pub mod Lexical
 pub mod Grammar
 pub mod Resolving
 pub mod Straight
@@ -12,3 +13,5 @@ pub mod Trees
 pub mod Operators
 pub mod Expressions
 pub mod Statements
+pub mod Program
+pub mod Structured

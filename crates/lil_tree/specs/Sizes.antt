@@ -6,7 +6,7 @@ use Rattle.lil_tree.specs.declared.operator.OneOp.TheVariants as one
 use Rattle.lil_tree.specs.declared.operator.TwoOp.{TwoOp}
 use Rattle.lil_tree.specs.declared.operator.TwoOp.TheVariants.{Equal, Unequal, Less, AtMost, Greater, AtLeast, In, Plus, Minus, Or, Times, Slash, Div, Mod, And}
 use Rattle.lil_tree.specs.Kinds.{Kind, OfWhole, OfTruth, OfCharacter, OfEnumeration, OfRange}
-use Rattle.lil_tree.specs.Scalars.{within, scalar_of}
+use Rattle.lil_tree.specs.Scalars.{within, scalar_of, ordinal_of}
 use Rattle.lil_tree.specs.Resolved.{Designator, Variable, Function, Abs, Cap, Chr, Odd, Ord, Val, Expression, Constant, Taken, One, Two, Both, Either, Apply, Argument, Label, Statement, Assign, Request, If, Case, While, Repeat, Loop, Exit, For, Statements, Empty, Then, Arms, NoElse, Else, Arm, Resolved, kind_of}
 
 -- how many words of the expression stack an expression takes
@@ -105,11 +105,13 @@ pub record IsSoundWhole (n : ℕ) (e : Expression) (k : Kind) : Type 0 where
   pub shallow : depth e ≤ 12
   pub sound : IsSoundExpression n e
 
--- a range of labels isn't empty, and its ends are values of the kind
+-- a range of labels isn't empty, and its ends are numbers of values of the kind
 pub record IsSoundLabel (k : Kind) (l : Label) : Type 0 where
   pub order : l.low ≤ℤ l.high
   pub lower : within k (scalar_of k l.low) ≡ true
   pub upper : within k (scalar_of k l.high) ≡ true
+  pub lower_number : ordinal_of (scalar_of k l.low) ≡ l.low
+  pub upper_number : ordinal_of (scalar_of k l.high) ≡ l.high
 
 abbrev pub AreSoundLabels : Kind → List Label → Type 0
 AreSoundLabels k [] = Unit {0}

@@ -1,0 +1,7 @@
+mod Values
+mod Comments
+mod Runs
+mod Numerals
+mod Beginnings
+mod PieceLaws
+mod PieceAgain
