@@ -1,5 +1,5 @@
 -- The rows of FOR.
-use Rattle.std.proofs.Common.{◌≡◌, ℕ, zero, suc, ◌+◌, ◌-◌, ◌*◌, ◌%◌, ◌<◌, ◌≤◌, ℤ, ◌+ℤ◌, Bool, true, false, not, ◌&&◌, ◌==◌, cond, Option, List, [], ◌∷◌, length, get_or, set, refl, sym, ap, ◌∙◌, subst, ◌⊎◌, inl, inr, arith, length-set}
+use Rattle.std.proofs.Common.{◌≡◌, ℕ, zero, suc, ◌+◌, ◌-◌, ◌%◌, ◌<◌, ◌≤◌, ℤ, ◌+ℤ◌, Bool, true, not, cond, List, [], ◌∷◌, length, get_or, set, refl, sym, ap, ◌∙◌, subst, inl, inr, arith, length-set}
 use Rattle.std.specs.Prelude.{nat_lt, slice_get}
 use Rattle.std.proofs.lemmas.Bool.{lt-ltb, ne_eqb, and_from}
 use Rattle.std.proofs.lemmas.List.{get_or-set_same, get_or-set_other}
@@ -7,24 +7,25 @@ use Rattle.lil_base.specs.Words.{Whole, Cardinal, Integer, in_type, word_of}
 use Rattle.lil_base.specs.declared.fault.TrapKind.TheVariants as trap
 use Rattle.lil_tree.specs.Kinds.{Kind, OfWhole}
 use Rattle.lil_tree.specs.Scalars.{Scalar, Number, Truth, Character, SetOf, ToObject, ToWorkspace, ToProcedure, ToCoroutine, Nothing, within, scalar_word, scalar_of, ordinal_of}
-use Rattle.lil_tree.specs.Resolved.{Variable, Expression, For, Statements, Empty, Then, Resolved}
+use Rattle.lil_tree.specs.Resolved.{Variable, Expression, For, Statements, Resolved}
 use Rattle.lil_meaning.specs.Cells.{Root, Global, Place, Cells, stored, alone}
 use Rattle.lil_meaning.specs.Items.{Scalars, StartOf, LimitOf, Do, Turns, Item, Value, Evaluate, Fill, Perform, doing, Going, Source}
-use Rattle.lil_meaning.specs.Steps.{current, owner_of, trapped, turns, turned_on}
+use Rattle.lil_meaning.specs.Steps.{current, owner_of, trapped, turns}
 use Rattle.lil_mcode.specs.declared.instr.Instr.TheVariants.{Liw, Llw, Sgw, Fri, Frn}
 use Rattle.lil_mcode.specs.declared.machine.Event.{Event}
 use Rattle.lil_mcode.specs.declared.machine.Event.TheVariants.{Went}
-use Rattle.lil_mcode.specs.Control.{after_first, loop_words}
+use Rattle.lil_mcode.specs.Control.{after_first}
 use Rattle.lil_mcode.specs.State.{Module, State}
-use Rattle.lil_mcode.specs.Table.{mstep, going, push_row, on_three, loop_row, begun_row, turn_row, again_row}
-use Rattle.lil_session.specs.Rows.{Layout, IsAt, WholeRow, BodyAt, TurnsRow, RoundRow, loop_place, loop_sign}
-use Rattle.lil_session.specs.Running.{Run, running, advanced}
-use Rattle.lil_session.proofs.Homes.{yes, no, Home, Of, Own, Free, Owner, Word, Mem, whole_root, mem_stored}
-use Rattle.lil_session.proofs.Matched.{Mode, Quiet, ValueOf, LoopWords, Around, Reach, TurnsFit, ItemRow, Rows, Ahead, HasFrame, HasLoops, Shared, DoRow, StartRow, LimitRow, BeginRow, NextRow, IsVariable, Goes, Lands}
-use Rattle.lil_session.proofs.Orders.{instr_within, expression_within, body_within}
+use Rattle.lil_mcode.specs.Table.{mstep, going, push_row, on_three, loop_row, begun_row, turn_row}
+use Rattle.lil_session.specs.Rows.{Layout, IsAt, BodyAt, RoundRow, loop_place, loop_sign}
+use Rattle.lil_session.specs.Running.{running, advanced}
+use Rattle.lil_session.proofs.Homes.{yes, no, Home, Of, Own, Free, Mem, mem_stored}
+use Rattle.lil_session.proofs.Matched.{Quiet, ValueOf, LoopWords, Around, Reach, TurnsFit, Rows, HasFrame, HasLoops, Shared, DoRow, StartRow, LimitRow, BeginRow, NextRow, IsVariable, Goes, Lands}
+use Rattle.lil_session.proofs.Orders.{instr_within, expression_within}
 use Rattle.lil_session.proofs.Closing.{closed}
 use Rattle.lil_session.proofs.Steps.{advances, pushes, at_step, at_once, rows_ahead, lands_on, goes_none, goes_one, goes_after}
 use Rattle.lil_session.proofs.Tasks.{loops_stored}
+use Rattle.lil_session.proofs.Control.{body_rows}
 use Rattle.lil_session.proofs.LoopWords.{word_small, next_word, step_some, turns_read, turns_few}
 
 -- a value of a whole type is the number that it has
@@ -119,20 +120,6 @@ module _ (l : Layout) (table : List Module) (own : Module) (number : ℕ) (h : H
   }
 
 module _ (modules : List Resolved) (l : Layout) (table : List Module) (own : Module) (number : ℕ) (h : Home) where
-  -- the rows of a body
-  rows_body : (ss : Statements) (k : List Item) (p q c : ℕ) (a : Around) → BodyAt l own.code (length a.loops) a.exit ss p q → q < length own.code → Rows l table own number h k Quiet q [] c a → Rows l table own number h (doing ss k) Quiet p [] c a
-  rows_body Empty k p q c a here within rows = subst (λ (r : ℕ). Rows l table own number h k Quiet r [] c a) (sym here) rows
-  rows_body (Then t ss) k p q c a here within rows =
-      at_once modules l table own number h (ItemRow l table own number h (Perform (Do t)) (doing ss k) (Rows l table own number h (doing ss k))) Quiet p [] c a
-      (record {
-        quiet = refl;
-        empty = refl;
-        end = here.middle;
-        here = here.here;
-        within = body_within l own.code (length a.loops) a.exit ss here.middle q here.then within;
-        then = rows_body ss k here.middle q c a here.then within rows;
-      })
-
   module _ (s : Source) (k : List Item) (m : State) (c : ℕ) (a : Around) (shared : Shared l table own number h s m) where
     abbrev Rest : Reach
     Rest = Rows l table own number h k
@@ -174,7 +161,7 @@ module _ (modules : List Resolved) (l : Layout) (table : List Module) (own : Mod
         let turned_there : Source = record s { items = after; cells = stored s.cells place (alone v); phase = Going } in
         let out : Source = trapped modules (record s { items = items; phase = Going }) trap.Range in
         let rows : Rows l table own number h after Quiet round.start [] c inner =
-        rows_body body (Turning x kind (z +ℤ step) step left body) round.start round.end c inner round.here (instr_within own.code round.end (Frn (loop_place (length a.loops)) m.place) end round.next)
+        body_rows modules l table own number h body (Turning x kind (z +ℤ step) step left body) round.start round.end c inner round.here (instr_within own.code round.end (Frn (loop_place (length a.loops)) m.place) end round.next)
         (at_once modules l table own number h _ Quiet round.end [] c inner
         (inr (record {
           quiet = refl;
