@@ -1,5 +1,5 @@
 -- The machine's operators on words are the meaning's on scalars.
-use Rattle.std.proofs.Common.{◌≡◌, ℕ, ◌==◌, ◌≢◌, Bool, true, false, cond, not, Result, Ok, Err, List, [], ◌∷◌, refl, sym, ap, ◌∙◌}
+use Rattle.std.proofs.Common.{◌≡◌, ℕ, ◌==◌, ◌≢◌, ◌<◌, ◌≤◌, length, arith, Bool, true, false, cond, not, Result, Ok, Err, List, [], ◌∷◌, refl, sym, ap, ◌∙◌}
 use Rattle.std.specs.Prelude.{ℤ, pos, int_lt}
 use Rattle.lil_base.specs.Words.{Whole, Cardinal, Integer, between, sum, difference, product, quotient, remainder, negation, number_of, word_of}
 use Rattle.lil_base.specs.declared.fault.ArithFault.{ArithFault}
@@ -15,14 +15,13 @@ use Rattle.lil_tree.specs.Resolved.{Chr, is_relation, result_kind}
 use Rattle.lil_tree.specs.Sizes.{is_base, takes_one, takes_two}
 use Rattle.lil_meaning.specs.Steps.{whole_of, outcome, applied, one_applied, function_value, is_same, is_other, is_at_most}
 use Rattle.lil_mcode.specs.declared.instr.Instr.{Instr}
-use Rattle.lil_mcode.specs.declared.instr.Instr.TheVariants.{Swp, Rgc, Adc, Sbc, Mlc, Dvc, Mdc, Adi, Sbi, Mli, Dvi, Mdi, Ngi, Not, Equ, Neq, Lsc, Lec, Lsi, Lei}
+use Rattle.lil_mcode.specs.declared.instr.Instr.TheVariants.{Swp, Rgc, Adc, Sbc, Mlc, Dvc, Mdc, Adi, Sbi, Mli, Dvi, Mdi, Ngi, Not, Equ, Neq}
 use Rattle.lil_mcode.specs.declared.machine.Event.{Event}
 use Rattle.lil_mcode.specs.declared.machine.Event.TheVariants.{Went, Trap}
 use Rattle.lil_mcode.specs.State.{Module, State}
 use Rattle.lil_mcode.specs.Table.{act, going, on_one, on_two, swap_row, result_row, two_row, sign_row, change_row, denied, range_row, compare_row, truth, equal, unequal, less, at_most}
 use Rattle.lil_session.specs.Rows.{compared_as, less_code, at_most_code, one_code, two_code}
-use Rattle.lil_session.proofs.Homes.{yes, no}
-use Rattle.lil_session.proofs.Arithmetic.{word_is, whole_word, reads_ordinal, reads, same_words, other_is, Fitting, sum_fits, difference_fits, product_fits, quotient_fits, remainder_fits, negation_fits, chr_fits}
+use Rattle.lil_session.proofs.Arithmetic.{word_is, whole_word, reads_ordinal, reads, same_words, other_is, sum_fits, difference_fits, product_fits, quotient_fits, remainder_fits, negation_fits, chr_fits}
 
 -- the word of a value in place of its operands, which stood above others, or its trap
 abbrev pub answer_row : State → ℕ → List ℕ → Result Scalar TrapKind → Event × State
@@ -147,10 +146,11 @@ module _ (own : Module) (m : State) (below : List ℕ) (u v : Scalar) (is : m.st
 
   -- both operands the other way round
   swapped_gives : (i : Instr) (r : Result Scalar TrapKind) → ((n : State) → n.stack ≡ scalar_word u ∷ scalar_word v ∷ below → Gives own (i ∷ []) n below r) → Gives own (Swp ∷ i ∷ []) m below r
-  swapped_gives i r gives =
-      (scalar_word u ∷ scalar_word v ∷ below,
-      λ q. ap (λ (x : List ℕ). on_two m x (swap_row q m)) is,
-      λ q. gives (going m q (scalar_word u ∷ scalar_word v ∷ below)) refl)
+  swapped_gives i r gives = (
+    scalar_word u ∷ scalar_word v ∷ below,
+    λ q. ap (λ (x : List ℕ). on_two m x (swap_row q m)) is,
+    λ q. gives (going m q (scalar_word u ∷ scalar_word v ∷ below)) refl,
+  )
 
 -- an operator's code does what the operator means
 module _ (own : Module) (m : State) (below : List ℕ) (u v : Scalar) (is : m.stack ≡ scalar_word v ∷ scalar_word u ∷ below) where
@@ -179,6 +179,26 @@ module _ (own : Module) (m : State) (below : List ℕ) (u v : Scalar) (is : m.st
   two_gives Mod (OfWhole Cardinal) takes left right = operation_gives own m below u v is remainder Cardinal Mdc (λ q. refl) left right
   two_gives Mod (OfWhole Integer) takes left right = operation_gives own m below u v is remainder Integer Mdi (λ q. refl) left right
   two_gives o k takes left right = cc
+
+-- an operator on two values has one or two instructions
+pub two_length : (o : TwoOp) (k : Kind) → takes_two o k ≡ true → (0 < length (two_code o k)) × (length (two_code o k) ≤ 2)
+two_length Equal k takes = (omega arith, omega arith)
+two_length Unequal k takes = (omega arith, omega arith)
+two_length Less k takes = (omega arith, omega arith)
+two_length AtMost k takes = (omega arith, omega arith)
+two_length Greater k takes = (omega arith, omega arith)
+two_length AtLeast k takes = (omega arith, omega arith)
+two_length Plus (OfWhole Cardinal) takes = (omega arith, omega arith)
+two_length Plus (OfWhole Integer) takes = (omega arith, omega arith)
+two_length Minus (OfWhole Cardinal) takes = (omega arith, omega arith)
+two_length Minus (OfWhole Integer) takes = (omega arith, omega arith)
+two_length Times (OfWhole Cardinal) takes = (omega arith, omega arith)
+two_length Times (OfWhole Integer) takes = (omega arith, omega arith)
+two_length Div (OfWhole Cardinal) takes = (omega arith, omega arith)
+two_length Div (OfWhole Integer) takes = (omega arith, omega arith)
+two_length Mod (OfWhole Cardinal) takes = (omega arith, omega arith)
+two_length Mod (OfWhole Integer) takes = (omega arith, omega arith)
+two_length o k takes = cc
 
 -- what an operator gives is a value of its kind
 pub one_fits : (o : OneOp) (k : Kind) (v : Scalar) → takes_one o k ≡ true → within k v ≡ true → Fits k (one_applied o k v)

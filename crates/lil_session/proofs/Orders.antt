@@ -1,11 +1,10 @@
 -- Where parts stand: behind their start, and within the code.
-use Rattle.std.proofs.Common.{◌≡◌, ℕ, suc, ◌+◌, ◌<◌, ◌≤◌, List, [], ◌∷◌, length, Option, Some, arith}
-use Rattle.lil_tree.specs.declared.operator.OneOp.{OneOp}
-use Rattle.lil_tree.specs.Resolved.{Variable, Function, Abs, Cap, Chr, Odd, Ord, Val, Expression, Constant, Taken, One, Two, Both, Either, Apply, Argument, Statement, Assign, Request, If, Case, While, Repeat, Loop, Exit, For, Statements, Empty, Then}
+use Rattle.std.proofs.Common.{ℕ, ◌<◌, ◌≤◌, List, [], ◌∷◌, length, Option, Some, arith}
+use Rattle.lil_tree.specs.Resolved.{Variable, Abs, Cap, Chr, Odd, Ord, Val, Expression, Constant, Taken, One, Two, Both, Either, Apply, Argument, Statement, Assign, Request, If, Case, While, Repeat, Loop, Exit, For, Statements, Empty, Then}
 use Rattle.lil_mcode.specs.declared.instr.Instr.{Instr}
-use Rattle.lil_mcode.specs.declared.instr.Instr.TheVariants.{Liw, Lgw, Rgc, Jmp, Jpf, Jan, Jor, Svc}
+use Rattle.lil_mcode.specs.declared.instr.Instr.TheVariants.{Rgc, Jmp, Jan, Jor, Svc}
 use Rattle.lil_mcode.proofs.Decoding.{decoded_stands}
-use Rattle.lil_session.specs.Rows.{Layout, IsAt, InstrsAt, Span, one_code, two_code, ApplyAt, ExpressionAt, WholeRow, ArgumentsAt, StatementAt, BodyAt}
+use Rattle.lil_session.specs.Rows.{Layout, IsAt, InstrsAt, one_code, two_code, ExpressionAt, ArgumentsAt, StatementAt, BodyAt}
 
 pub instr_order : (code : List ℕ) (p : ℕ) (i : Instr) (q : ℕ) → IsAt code p i q → (p < q) × (q ≤ length code)
 instr_order code p i q h =
@@ -66,7 +65,12 @@ instr_within code p i q h =
     let s = instr_order code p i q h in
     omega (arith, s.0, s.1)
 
--- so does that where arguments begin, where what follows them does
+-- so does that where instructions begin, if there are any
+pub instrs_within : (code : List ℕ) (is : List Instr) (p q : ℕ) → 0 < length is → InstrsAt code is p q → p < length code
+instrs_within code [] p q some h = absurd (omega (arith, some))
+instrs_within code (i ∷ is) p q some h = instr_within code p i h.0 h.1
+
+-- and that where arguments begin, where what follows them does
 pub arguments_within : (l : Layout) (code : List ℕ) (n : ℕ) (given : List Argument) (p q : ℕ) → ArgumentsAt l code n given p q → q < length code → p < length code
 arguments_within l code n [] p q h inside = omega (arith, h, inside)
 arguments_within l code n (a ∷ given) p q h inside = expression_within l code a.value p h.middle h.value.value
