@@ -121,7 +121,7 @@ module _ (modules : List Resolved) (l : Layout) (table : List Module) (own : Mod
     expression_step (Two o kind e f) r = two_goes modules l table own number h s k m c a shared loops o kind e f r
     expression_step (Both e f) r = both_goes modules l table own number h s k m c a shared loops e f r
     expression_step (Either e f) r = either_goes modules l table own number h s k m c a shared loops e f r
-    expression_step (Apply Chr e) r = apply_goes modules l table own number h s k m c a shared loops e r
+    expression_step (Apply Chr e) r = apply_goes modules l table own number h s k m c a shared loops Chr e r
     expression_step (Apply (Abs w) e) r = absurd r.here
     expression_step (Apply Cap e) r = absurd r.here
     expression_step (Apply Odd e) r = absurd r.here
