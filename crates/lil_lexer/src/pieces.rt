@@ -1,8 +1,10 @@
-ghost use Rattle.std.specs.Prelude.{◌≡◌, ◌≤◌, ◌<◌, ◌+◌, length, IfSome, Ok};
+ghost use Rattle.std.specs.Prelude.{◌≡◌, ◌≤◌, ◌<◌, ◌+◌, length, IfSome, IfOk};
+ghost use Rattle.lil_base.specs.declared.fault.SourceFault.{SourceFault};
 ghost use Rattle.lil_tree.specs.Lexical as lexical;
+ghost use Rattle.lil_tree.specs.Lexical.{IsFault};
 ghost use Rattle.lil_tree.specs.declared.stop.ReadStop.TheVariants as why;
 ghost use Rattle.lil_lexer.specs.Pieces as spec;
-ghost use Rattle.lil_lexer.specs.Pieces.{Reads, HasRoom};
+ghost use Rattle.lil_lexer.specs.Pieces.{Reads, HasRoom, Begins};
 
 use crate::bytes::{
     begins_with, closes, is_blank, is_digit, is_letter, is_quote, line_len, name_len, opens,
@@ -239,9 +241,8 @@ fn mark_piece(b: u8, rest: &[u8], place: Place) -> Result<Piece, ReadStop>
     }
 }
 
-/// What the text at a place begins with, or the fault that stands there.
 #[tactic(auto, unfolding(crate::specs::Pieces::piece))]
-pub(crate) fn piece_at(alloc: Global, text: &[u8], place: Place) -> Result<Piece, ReadStop>
+fn piece_at(alloc: Global, text: &[u8], place: Place) -> Result<Piece, ReadStop>
     requires { HasRoom place (length text.now) }
     ensures { Reads (spec.piece text.now place) result }
 {
@@ -261,4 +262,16 @@ pub(crate) fn piece_at(alloc: Global, text: &[u8], place: Place) -> Result<Piece
             }
         }
     }
+}
+
+/// What the text at a place begins with, or the fault that stands there.
+pub(crate) fn next_piece(alloc: Global, text: &[u8], place: Place) -> Result<Piece, ReadStop>
+    requires some { 0 < length text.now }
+    requires room { HasRoom place (length text.now) }
+    ensures found { IfOk result (λ y. Begins text.now y) }
+    ensures fault { (f : SourceFault) → result ≡ Err (ReadStop.Fault f) → IsFault place text.now f }
+    ensures goes_on { IfOk result (λ y. 0 < y.len) }
+    ensures within { IfOk result (λ y. y.len ≤ length text.now) }
+{
+    piece_at(alloc, text, place)
 }
