@@ -1,0 +1,7 @@
+//! The parser of expressions and statements.
+#![tactic(auto)]
+
+mod fault;
+mod kinds;
+mod operand;
+mod reader;
