@@ -87,6 +87,28 @@ unfoldable pub qualified : Ident → List Selector → Qualident
 qualified name [] = qualident None name
 qualified name (s ∷ ss) = owned_by name (out-Selector s)
 
+-- ---- parts without expressions of their own
+unfoldable pub no_elements : Parser (List Range)
+no_elements = token (mark_at m.CloseBrace) >> pure []
+
+unfoldable pub no_actuals : Parser (List Expr)
+no_actuals = token (mark_at m.Close) >> pure []
+
+unfoldable pub field : Parser Selector
+field = do
+  p ← token (mark_at m.Dot)
+  name ← token ident_at
+  pure (s.Field p name)
+
+unfoldable pub follow : Parser Selector
+follow = token (mark_at m.Arrow) >>= (λ p. pure (s.Follow p))
+
+unfoldable pub negated : Parser Expr → Parser Expr
+negated operand = do
+  p ← token (word_at w.Not)
+  x ← operand
+  pure (e.One p one.Not p x)
+
 -- ---- by what stands for the expressions inside
 module _ (expr : Parser Expr) where
   unfoldable pub through : Expr → Parser Range
@@ -117,9 +139,6 @@ module _ (expr : Parser Expr) where
   unfoldable pub exprs : Parser (List Expr)
   exprs = expr >>= (λ x. many (is_mark m.Comma) exprs_turn (x ∷ []))
 
-  unfoldable pub no_elements : Parser (List Range)
-  no_elements = token (mark_at m.CloseBrace) >> pure []
-
   unfoldable pub some_elements : Parser (List Range)
   some_elements = do
     rs ← ranges
@@ -130,9 +149,6 @@ module _ (expr : Parser Expr) where
   unfoldable pub elements : Parser (List Range)
   elements = either (is_mark m.CloseBrace) no_elements some_elements
 
-  unfoldable pub no_actuals : Parser (List Expr)
-  no_actuals = token (mark_at m.Close) >> pure []
-
   unfoldable pub some_actuals : Parser (List Expr)
   some_actuals = do
     xs ← exprs
@@ -142,21 +158,12 @@ module _ (expr : Parser Expr) where
   unfoldable pub actuals : Parser (List Expr)
   actuals = token (mark_at m.Open) >> either (is_mark m.Close) no_actuals some_actuals
 
-  unfoldable pub field : Parser Selector
-  field = do
-    p ← token (mark_at m.Dot)
-    name ← token ident_at
-    pure (s.Field p name)
-
   unfoldable pub index : Parser Selector
   index = do
     p ← token (mark_at m.OpenBracket)
     xs ← exprs
     token (mark_at m.CloseBracket)
     pure (s.Index p xs)
-
-  unfoldable pub follow : Parser Selector
-  follow = token (mark_at m.Arrow) >>= (λ p. pure (s.Follow p))
 
   abbrev pub selector_by : SelectorKind → Parser Selector
   selector_by sk.Field = field
@@ -213,12 +220,6 @@ module _ (expr : Parser Expr) where
     x ← expr
     token (mark_at m.Close)
     pure (begun_at p x)
-
-  unfoldable pub negated : Parser Expr → Parser Expr
-  negated operand = do
-    p ← token (word_at w.Not)
-    x ← operand
-    pure (e.One p one.Not p x)
 
   abbrev pub factor_by : Parser Expr → FactorKind → Parser Expr
   factor_by operand fk.Number = token number_at
