@@ -1,16 +1,16 @@
 -- One step of a run, as it is shown.
-use Rattle.std.proofs.Common.{◌≡◌, ℕ, ◌<◌, true, Option, Some, List, [], length, refl, sym, ap, ◌∙◌, subst}
+use Rattle.std.proofs.Common.{◌≡◌, ℕ, Option, List, [], refl, sym, ap, ◌∙◌, subst}
 use Rattle.std.proofs.lemmas.List.{append-nil}
 use Rattle.lil_meaning.specs.World.{World, serve, piece_of}
 use Rattle.lil_volume.specs.Told.{followed_by, FollowedByPrefix}
 use Rattle.lil_volume.proofs.Laws.{followed_nothing}
 use Rattle.lil_mcode.specs.declared.machine.Event.{Event}
 use Rattle.lil_mcode.specs.declared.machine.Event.TheVariants.{Request}
-use Rattle.lil_mcode.specs.State.{Module, State, module_at}
+use Rattle.lil_mcode.specs.State.{State}
 use Rattle.lil_mcode.specs.Table.{mstep, request_words}
 use Rattle.lil_session.specs.Running.{Finish, Running, Run, running, react, requested, words_taken, arguments, taken, IsAlone, IsStep, IsRefused}
 use Rattle.lil_session.proofs.Steps.{advances}
-use Rattle.lil_session.proofs.Alone.{Moves, goes_on, mstep_moves, mstep_within}
+use Rattle.lil_session.proofs.Alone.{Moves, mstep_moves}
 
 -- a step that shows nothing
 pub step_quiet : (s t : State) (e : Event) (f : Finish) (old : Option (List ℕ)) → mstep s ≡ (e, t) → ((w : World) → react e t (running s w) ≡ record { machine = t; world = w; finish = f }) → (w : World) → IsStep s t f old old w
@@ -52,9 +52,6 @@ step_refused s t q old new step two prefix w =
 -- what a step gives, by its equation
 pub moves_at : (s t : State) (e : Event) → IsAlone s → mstep s ≡ (e, t) → Moves s (e, t)
 moves_at s t e a step = subst (λ (r : Event × State). Moves s r) step (mstep_moves s a)
-
-pub within_at : (s t : State) (e : Event) → IsAlone s → mstep s ≡ (e, t) → goes_on e ≡ true → (m : Module) → module_at s.modules s.running ≡ Some m → s.place < length m.code
-within_at s t e a step on m known = mstep_within s a m known (ap (λ (r : Event × State). goes_on r.0) step ∙ on)
 
 pub alone_taken : (s : State) (n : ℕ) → IsAlone s → IsAlone (taken n s)
 alone_taken s n a = record { body = a.body; last = a.last; marked = a.marked }

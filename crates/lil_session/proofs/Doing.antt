@@ -15,8 +15,9 @@ use Rattle.lil_volume.specs.Told.{Files, FileIs, followed_by}
 use Rattle.lil_session.specs.declared.status.Status.{Status}
 use Rattle.lil_session.specs.declared.status.Status.TheVariants as a
 use Rattle.lil_session.specs.Words.{mod_file}
-use Rattle.lil_session.specs.Outcome.{settled, gives_way, with_writes, Allowed, Answers, SourceAnswers, TextAnswers, Blames, Devices, Finds, Headline, IsRunAnswer, IsRunnable, MeansAnswer, Ran, Runs, Shows}
-use Rattle.lil_session.specs.Answered.{TextRan}
+use Rattle.lil_session.specs.Outcome.{settled, gives_way, with_writes, not_built, Allowed, Answers, SourceAnswers, TextAnswers, Blames, Devices, Finds, Headline, IsRunAnswer, IsRunnable, MeansAnswer, Runs, Shows}
+use Rattle.lil_session.specs.Counted.{MachineAnswers}
+use Rattle.lil_session.specs.Answered.{TextRan, Ran}
 use Rattle.lil_straight.proofs.Straightness.{straight_unique}
 
 followed_none : (old : Option (List ℕ)) (more : List ℕ) → more ≡ [] → old ≡ followed_by old more
@@ -68,7 +69,6 @@ pub ran_not : (name : Option (List ℕ)) (steps : ℕ) (before : Devices) (files
     → files ≡ before.files → before.volume_faults ≤ faults → (faults ≡ before.volume_faults) ⊎ ((x : List ℕ) × (name ≡ Some x)) → Ran name steps before (record before { files = files; volume_faults = faults }) s
 ran_not name steps before files faults s cause same later asked = record {
   answer = λ w finds is. absurd (not_settled is);
-  spent = λ is. absurd (no is refl);
   usage_only = λ is. absurd (no is refl);
   usage_where = λ none stays. absurd (not_stays stays);
   no_file_only = λ m file told is. absurd (no is refl);
@@ -80,6 +80,7 @@ ran_not name steps before files faults s cause same later asked = record {
   settles = inr settles;
   no_refusal = inr (inr (inr refusal));
   headline = λ w p finds runs. headline_of p w before (record before { files = files; volume_faults = faults }) s finds (shows_none p w before.shown s finds.nothing_shown allowed) refl same;
+  machine = λ w p finds runs. unrun w p;
   nothing = λ _. refl;
   called = inl (refl, refl);
   asked = asked;
@@ -125,6 +126,9 @@ ran_not name steps before files faults s cause same later asked = record {
     allowed : Allowed s Going
     allowed = elim cause [ inl memory ↦ subst (λ (t : Status). Allowed t Going) (sym memory) tt | inr fault ↦ subst (λ (t : Status). Allowed t Going) (sym fault.0) tt ]
 
+    unrun : (w : World) (p : Resolved) → MachineAnswers p w steps before.shown before.shown s
+    unrun w p = elim cause [ inl memory ↦ subst (λ (t : Status). MachineAnswers p w steps before.shown before.shown t) (sym memory) (inl refl) | inr fault ↦ subst (λ (t : Status). MachineAnswers p w steps before.shown before.shown t) (sym fault.0) refl ]
+
     rose : s ≡ a.VolumeFault → Rose before.volume_faults faults
     rose is = elim cause [ inl memory ↦ absurd (memory_or_volume (sym memory ∙ is)) | inr fault ↦ fault.1 ]
 
@@ -134,19 +138,40 @@ ran_not name steps before files faults s cause same later asked = record {
 pub some_of : {M : Type 0} (P : Type 0) (Q : M → Type 0) (o : Option M) (m : M) → o ≡ Some m → MatchOption o P Q → Q m
 some_of {M} P Q o m is holds = subst (λ (x : Option M). MatchOption x P Q) is holds
 
+pub none_of : {M : Type 0} (P : Type 0) (Q : M → Type 0) (o : Option M) → o ≡ None → MatchOption o P Q → P
+none_of {M} P Q o is holds = subst (λ (x : Option M). MatchOption x P Q) is holds
+
+same_fault : (f g : SourceFault) → a.SourceFault f ≡ a.SourceFault g → f ≡ g
+same_fault f g same = cc
+
+-- a text that isn't straight was not run
+pub text_not : (file text : List ℕ) (steps : ℕ) (old : Option (List ℕ)) (faults : ℕ) (fault : SourceFault) → ((p : Resolved) → IsStraight file text p → ⊥) → fault ≡ not_built → TextRan file text steps old faults old faults (a.SourceFault fault)
+text_not file text steps old faults fault none is = record {
+  answer = λ w blank settles. inr (inl (none, ap a.SourceFault is));
+  fault_only = λ f same. (sym (same_fault fault f same) ∙ is, none);
+  fault_where = λ also stays. ap a.SourceFault is;
+  kinds = inl (fault, refl);
+  shows = λ w p blank straight. absurd (none p straight);
+  machine = λ w p blank straight. absurd (none p straight);
+  nothing = λ f same. refl;
+  called = inl (refl, refl);
+  cause = record { later = omega arith; rose = λ same. cc; quiet = inl refl };
+  told = inr refl;
+}
+
 -- a text that is straight was run
 pub text_ran : (file text : List ℕ) (m : Resolved) (steps : ℕ) (old : Option (List ℕ)) (old_faults : ℕ) (new : Option (List ℕ)) (new_faults : ℕ) (s : Status) → IsStraight file text m
     → ((w : World) → w.screen ≡ [] → Shows m w old new s)
     → ((w : World) → w.screen ≡ [] → settled s ≡ true → (s ≡ a.StepsSpent) ⊎ MeansAnswer m w s)
-    → IsRunAnswer s → (s ≡ a.StepsSpent → steps ≤ 32767) → Blames a.ScreenFault old_faults new_faults s → (s ≡ a.ScreenFault) ⊎ (new_faults ≡ old_faults)
+    → IsRunAnswer s → ((w : World) → w.screen ≡ [] → MachineAnswers m w steps old new s) → Blames a.ScreenFault old_faults new_faults s → (s ≡ a.ScreenFault) ⊎ (new_faults ≡ old_faults)
     → TextRan file text steps old old_faults new new_faults s
-text_ran file text m steps old old_faults new new_faults s straight shows answer kinds spent cause told = record {
+text_ran file text m steps old old_faults new new_faults s straight shows answer kinds machine cause told = record {
   answer = λ w none is. either (answer w none is);
-  spent = spent;
   fault_only = λ f is. absurd (no_fault f is);
   fault_where = λ none stays. absurd (none m straight);
   kinds = inr kinds;
   shows = λ w p none also. subst (λ (r : Resolved). Shows r w old new s) (straight_unique file text m p straight also) (shows w none);
+  machine = λ w p none also. subst (λ (r : Resolved). MachineAnswers r w steps old new s) (straight_unique file text m p straight also) (machine w none);
   nothing = λ f is. absurd (no_fault f is);
   called = inr (m, straight);
   cause = cause;
@@ -167,7 +192,6 @@ pub source_ran : (file text : List ℕ) (steps : ℕ) (before : Devices) (files 
     → Ran (Some file) steps before (record before { files = files; volume_faults = faults; shown = shown; screen_faults = screen_faults }) s
 source_ran file text steps before files faults shown screen_faults s is same quiet ran = record {
   answer = λ w finds settles. either w (found_in before.files before.keys w (mod_file file) (Some text) finds is) (ran.answer w finds.nothing_shown settles);
-  spent = ran.spent;
   usage_only = λ usage. absurd (no usage (λ f e. cc) (λ h. h));
   usage_where = λ none stays. cc;
   no_file_only = λ m x told missed. absurd (no missed (λ f e. cc) (λ h. h));
@@ -179,6 +203,7 @@ source_ran file text steps before files faults shown screen_faults s is same qui
   settles = settles ran.kinds;
   no_refusal = inr (inr (refusal ran.kinds));
   headline = λ w p finds runs. headline_of p w before (record before { files = files; volume_faults = faults; shown = shown; screen_faults = screen_faults }) s finds (ran.shows w p finds.nothing_shown (straight_here w p finds runs)) refl same;
+  machine = λ w p finds runs. ran.machine w p finds.nothing_shown (straight_here w p finds runs);
   nothing = quietly;
   called = called ran.called;
   asked = inl quiet;

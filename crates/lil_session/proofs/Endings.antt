@@ -134,14 +134,6 @@ module _ (p : Resolved) (code : List ℕ) (small : IsSmall p) (t : Translates p 
     kind_end ending.Broken s is at = absurd is
     kind_end ending.Spent s is at = subst IsRunAnswer (sym is) tt
 
-    pub spent_end : (e : Ending) (s : Status) → EndingAnswers machine e s → ((k : TrapKind) → e ≡ ending.Trapped k → IsAtBody machine (own p code small t)) → s ≡ a.StepsSpent → e ≡ ending.Spent
-    spent_end ending.Done s is at spent = absurd (let e = sym is ∙ spent in cc)
-    spent_end (ending.Trapped k) s (inl memory) at spent = absurd (let e = sym memory ∙ spent in cc)
-    spent_end (ending.Trapped k) s (inr is) at spent = absurd (let e = sym (is (own p code small t) (at k refl)) ∙ spent in cc)
-    spent_end (ending.Limited k) s is at spent = absurd is
-    spent_end ending.Broken s is at spent = absurd is
-    spent_end ending.Spent s is at spent = refl
-
     no_fault : (e : Ending) (s : Status) → EndingAnswers machine e s → ((k : TrapKind) → e ≡ ending.Trapped k → IsAtBody machine (own p code small t)) → s ≢ a.ScreenFault
     no_fault ending.Done s is at f = let e = sym is ∙ f in cc
     no_fault (ending.Trapped k) s (inl memory) at f = let e = sym memory ∙ f in cc
@@ -158,8 +150,8 @@ module _ (p : Resolved) (code : List ℕ) (small : IsSmall p) (t : Translates p 
     }
 
   -- what is shown where the screen failed
-  pub shows_cut : (old new : Option (List ℕ)) (w : World) → IsCut start old new w → Shows p w old new a.ScreenFault
-  shows_cut old new w cut =
+  pub shows_cut : (steps : ℕ) (old new : Option (List ℕ)) (w : World) → IsCut start steps old new w → Shows p w old new a.ScreenFault
+  shows_cut steps old new w cut =
       let c = correct p code small t w cut.done in
       let d = correct p code small t w (suc cut.done) in
       let kept = run_keeps cut.done (running start w) in

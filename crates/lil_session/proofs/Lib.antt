@@ -16,6 +16,7 @@ pub mod Alone
 pub mod Advancing
 pub mod Turns
 pub mod Endings
+pub mod Counting
 pub mod Pieces
 pub mod Stays
 pub mod Agree

@@ -1,5 +1,5 @@
 -- What holds of a command's answer once its lines were written.
-use Rattle.std.proofs.Common.{◌≡◌, ◌⊎◌, inl, inr, ℕ, ◌<◌, ◌≤◌, true, false, List, Option, refl, sym, ◌∙◌, ap, subst, arith}
+use Rattle.std.proofs.Common.{◌≡◌, ◌⊎◌, inl, inr, ℕ, true, false, List, Option, refl, sym, ◌∙◌, ap, subst}
 use Rattle.std.proofs.lemmas.Bool.{both_ways}
 use Rattle.lil_base.specs.declared.fault.SourceFault.{SourceFault}
 use Rattle.lil_base.specs.declared.fault.TrapAt.{TrapAt}
@@ -10,10 +10,12 @@ use Rattle.lil_volume.specs.Told.{followed_by, FollowedByPrefix}
 use Rattle.lil_session.specs.declared.status.Status.{Status}
 use Rattle.lil_session.specs.declared.status.Status.TheVariants as a
 use Rattle.lil_session.specs.Outcome.{settled, gives_way, state_of, Allowed, Answers, SourceAnswers, Blames, EndsSo, Finds, Headline, IsRunAnswer, Runs}
+use Rattle.lil_session.specs.Counted.{MachineRan, MachineAnswers}
 use Rattle.lil_session.specs.Report.{status_lines}
 use Rattle.lil_session.specs.Answered.{IsAnswer, Call, Told}
 use Rattle.lil_straight.proofs.Straightness.{straight_unique}
 use Rattle.lil_session.proofs.Agree.{answers_agree}
+use Rattle.lil_session.proofs.Counting.{ran_settled, ran_memory}
 
 settled_stays : (s : Status) → settled s ≡ true → gives_way s ≡ false
 settled_stays a.Done is = refl
@@ -89,21 +91,35 @@ headline_told {call} {result} told w p finds runs =
     ends e allowed (inr (stays, inl fault)) = subst (λ (s : Status). Allowed s e) (sym fault) tt
     ends e allowed (inr (stays, inr memory)) = subst (λ (s : Status). Allowed s e) (sym memory) tt
 
+-- what the machine did for the answer that was told
+pub machine_told : {call : Call} {result : Status} → Told call result → (w : World) (p : Resolved) → Finds call.before.files call.before.keys w → Runs call.name w p → MachineAnswers p w call.steps call.before.shown call.after.shown result
+machine_told {call} {result} told w p finds runs = by_cases told.reported.answer
+  where
+    inner : MachineAnswers p w call.steps call.before.shown call.after.shown told.inner
+    inner = told.ran.machine w p finds runs
+
+    by_settled : (told.inner ≡ a.VolumeFault) ⊎ ((told.inner ≡ a.ScreenFault) ⊎ (told.inner ≡ a.Memory)) → gives_way told.inner ≡ true
+    by_settled (inl fault) = ap gives_way fault
+    by_settled (inr (inl fault)) = ap gives_way fault
+    by_settled (inr (inr memory)) = ap gives_way memory
+
+    settles : gives_way told.inner ≡ false → settled told.inner ≡ true
+    settles stays = elim told.ran.settles [ inl is ↦ is | inr fault ↦ absurd (both_ways (gives_way told.inner) stays (by_settled fault)) ]
+
+    by_cases : (result ≡ told.inner) ⊎ ((gives_way told.inner ≡ false) × ((result ≡ a.ReportFault) ⊎ (result ≡ a.Memory))) → MachineAnswers p w call.steps call.before.shown call.after.shown result
+    by_cases (inl same) = subst (λ (s : Status). MachineAnswers p w call.steps call.before.shown call.after.shown s) (sym same) inner
+    by_cases (inr (stays, inl fault)) =
+        let ran = ran_settled p w call.steps call.before.shown call.after.shown told.inner (settles stays) inner in
+        subst (λ (s : Status). MachineAnswers p w call.steps call.before.shown call.after.shown s) (sym fault) (told.inner, settles stays, ran)
+    by_cases (inr (stays, inr memory)) =
+        let ran = ran_settled p w call.steps call.before.shown call.after.shown told.inner (settles stays) inner in
+        subst (λ (s : Status). MachineAnswers p w call.steps call.before.shown call.after.shown s) (sym memory) (inr (ran_memory p w call.steps call.before.shown call.after.shown told.inner (settles stays) ran))
+
 -- the answer, or that the steps were spent
-pub answer_or_spent : {call : Call} {result : Status} → Told call result → (w : World) → Finds call.before.files call.before.keys w → settled result ≡ true → (result ≡ a.StepsSpent) ⊎ Answers call.name w result
-answer_or_spent {call} {result} told w finds is =
+pub answer_told : {call : Call} {result : Status} → Told call result → (w : World) → Finds call.before.files call.before.keys w → settled result ≡ true → (result ≡ a.StepsSpent) ⊎ Answers call.name w result
+answer_told {call} {result} told w finds is =
     let same : result ≡ told.inner = (inner_settled told is).0 in
     subst (λ (s : Status). (s ≡ a.StepsSpent) ⊎ Answers call.name w s) (sym same) (told.ran.answer w finds (ap settled (sym same) ∙ is))
-
-never_spent : {call : Call} {result : Status} → (told : Told call result) → 32767 < call.steps → told.inner ≡ a.StepsSpent → ⊥
-never_spent {call} told many spent = let few : call.steps ≤ 32767 = told.ran.spent spent in omega arith
-
-pub answer_told : {call : Call} {result : Status} → Told call result → 32767 < call.steps → (w : World) → Finds call.before.files call.before.keys w → settled result ≡ true → Answers call.name w result
-answer_told {call} {result} told many w finds is = by_cases (answer_or_spent told w finds is)
-  where
-    by_cases : (result ≡ a.StepsSpent) ⊎ Answers call.name w result → Answers call.name w result
-    by_cases (inl spent) = absurd (never_spent told many (inner_is told refl spent))
-    by_cases (inr answers) = answers
 
 -- the answer that a meaning's end is
 answers_end : (name : Option (List ℕ)) (w : World) (p : Resolved) (n : ℕ) (s : Status) → Runs name w p → EndsSo (state_of p w n).phase s → Answers name w s
@@ -111,25 +127,28 @@ answers_end name w p n s runs ends =
     subst (λ (o : Option (List ℕ)). Answers o w s) (sym runs.named)
     (subst (λ (o : Option (List ℕ)). SourceAnswers runs.file w o s) (sym runs.there) (inr (p, runs.straight, record { steps = n; ends = ends })))
 
-end_told : {call : Call} {result : Status} → Told call result → 32767 < call.steps → (w : World) (p : Resolved) (n : ℕ) (s : Status) → Finds call.before.files call.before.keys w → Runs call.name w p → EndsSo (state_of p w n).phase s → settled result ≡ true → result ≡ s
-end_told {call} {result} told many w p n s finds runs ends is =
-    answers_agree straight_unique call.name w result s (answer_told told many w finds is) (answers_end call.name w p n s runs ends)
+end_told : {call : Call} {result : Status} → Told call result → (w : World) (p : Resolved) (n : ℕ) (s : Status) → Finds call.before.files call.before.keys w → Runs call.name w p → EndsSo (state_of p w n).phase s → settled result ≡ true → (result ≡ a.StepsSpent) ⊎ (result ≡ s)
+end_told {call} {result} told w p n s finds runs ends is = by_cases (answer_told told w finds is)
+  where
+    by_cases : (result ≡ a.StepsSpent) ⊎ Answers call.name w result → (result ≡ a.StepsSpent) ⊎ (result ≡ s)
+    by_cases (inl spent) = inl spent
+    by_cases (inr answers) = inr (answers_agree straight_unique call.name w result s answers (answers_end call.name w p n s runs ends))
 
 pub done_only : {call : Call} {result : Status} → Told call result → (w : World) (p : Resolved) → Finds call.before.files call.before.keys w → Runs call.name w p → result ≡ a.Done → (n : ℕ) × ((state_of p w n).phase ≡ Ended)
 done_only {call} {result} told w p finds runs is =
     let headline : Headline p w call.before call.after result = headline_told told w p finds runs in
     (headline.n, subst (λ (s : Status). Allowed s (state_of p w headline.n).phase) is headline.ends)
 
-pub done_where : {call : Call} {result : Status} → Told call result → 32767 < call.steps → (w : World) (p : Resolved) (n : ℕ) → Finds call.before.files call.before.keys w → Runs call.name w p → (state_of p w n).phase ≡ Ended → settled result ≡ true → result ≡ a.Done
-done_where told many w p n finds runs end is = end_told told many w p n a.Done finds runs (subst (λ (e : Phase). EndsSo e a.Done) (sym end) refl) is
+pub done_where : {call : Call} {result : Status} → Told call result → (w : World) (p : Resolved) (n : ℕ) → Finds call.before.files call.before.keys w → Runs call.name w p → (state_of p w n).phase ≡ Ended → settled result ≡ true → (result ≡ a.StepsSpent) ⊎ (result ≡ a.Done)
+done_where told w p n finds runs end is = end_told told w p n a.Done finds runs (subst (λ (e : Phase). EndsSo e a.Done) (sym end) refl) is
 
 pub trapped_only : {call : Call} {result : Status} → Told call result → (w : World) (p : Resolved) (t : TrapAt) → Finds call.before.files call.before.keys w → Runs call.name w p → result ≡ a.Trapped t → (n : ℕ) × ((state_of p w n).phase ≡ Trapped t)
 trapped_only {call} {result} told w p t finds runs is =
     let headline : Headline p w call.before call.after result = headline_told told w p finds runs in
     (headline.n, subst (λ (s : Status). Allowed s (state_of p w headline.n).phase) is headline.ends)
 
-pub trapped_where : {call : Call} {result : Status} → Told call result → 32767 < call.steps → (w : World) (p : Resolved) (n : ℕ) (t : TrapAt) → Finds call.before.files call.before.keys w → Runs call.name w p → (state_of p w n).phase ≡ Trapped t → settled result ≡ true → result ≡ a.Trapped t
-trapped_where told many w p n t finds runs end is = end_told told many w p n (a.Trapped t) finds runs (subst (λ (e : Phase). EndsSo e (a.Trapped t)) (sym end) refl) is
+pub trapped_where : {call : Call} {result : Status} → Told call result → (w : World) (p : Resolved) (n : ℕ) (t : TrapAt) → Finds call.before.files call.before.keys w → Runs call.name w p → (state_of p w n).phase ≡ Trapped t → settled result ≡ true → (result ≡ a.StepsSpent) ⊎ (result ≡ a.Trapped t)
+trapped_where told w p n t finds runs end is = end_told told w p n (a.Trapped t) finds runs (subst (λ (e : Phase). EndsSo e (a.Trapped t)) (sym end) refl) is
 
 pub settles_told : {call : Call} {result : Status} → Told call result → (settled result ≡ true) ⊎ ((result ≡ a.VolumeFault) ⊎ ((result ≡ a.ScreenFault) ⊎ ((result ≡ a.ReportFault) ⊎ (result ≡ a.Memory))))
 settles_told {call} {result} told = by_cases told.reported.answer told.ran.settles
@@ -144,38 +163,38 @@ settles_told {call} {result} told = by_cases told.reported.answer told.ran.settl
     by_cases (inr (stays, inl fault)) any = inr (inr (inr (inl fault)))
     by_cases (inr (stays, inr memory)) any = inr (inr (inr (inr memory)))
 
-run_answers : (s : Status) → (s ≡ a.StepsSpent → ⊥) → IsRunAnswer s → IsAnswer s
-run_answers a.Done spent kind = tt
-run_answers (a.Trapped t) spent kind = tt
-run_answers a.ScreenFault spent kind = tt
-run_answers a.Memory spent kind = tt
-run_answers a.StepsSpent spent kind = absurd (spent refl)
-run_answers a.Usage spent kind = absurd kind
-run_answers (a.NoFile n) spent kind = absurd kind
-run_answers (a.SourceFault f) spent kind = absurd kind
-run_answers (a.LoadRefused r) spent kind = absurd kind
-run_answers (a.Limit k) spent kind = absurd kind
-run_answers a.VolumeFault spent kind = absurd kind
-run_answers a.KeyFault spent kind = absurd kind
-run_answers a.ChannelFault spent kind = absurd kind
-run_answers a.ReportFault spent kind = absurd kind
-run_answers (a.BadCode p) spent kind = absurd kind
+run_answers : (s : Status) → IsRunAnswer s → IsAnswer s
+run_answers a.Done kind = tt
+run_answers (a.Trapped t) kind = tt
+run_answers a.ScreenFault kind = tt
+run_answers a.Memory kind = tt
+run_answers a.StepsSpent kind = tt
+run_answers a.Usage kind = absurd kind
+run_answers (a.NoFile n) kind = absurd kind
+run_answers (a.SourceFault f) kind = absurd kind
+run_answers (a.LoadRefused r) kind = absurd kind
+run_answers (a.Limit k) kind = absurd kind
+run_answers a.VolumeFault kind = absurd kind
+run_answers a.KeyFault kind = absurd kind
+run_answers a.ChannelFault kind = absurd kind
+run_answers a.ReportFault kind = absurd kind
+run_answers (a.BadCode p) kind = absurd kind
 
-inner_answers : {call : Call} {result : Status} → (told : Told call result) → 32767 < call.steps → IsAnswer told.inner
-inner_answers {call} told many = inner told.ran.no_refusal
+inner_answers : {call : Call} {result : Status} → (told : Told call result) → IsAnswer told.inner
+inner_answers {call} told = inner told.ran.no_refusal
   where
     inner : (told.inner ≡ a.Usage) ⊎ (((file : List ℕ) × (told.inner ≡ a.NoFile file)) ⊎ (((f : SourceFault) × (told.inner ≡ a.SourceFault f)) ⊎ ((told.inner ≡ a.VolumeFault) ⊎ IsRunAnswer told.inner))) → IsAnswer told.inner
     inner (inl usage) = subst (λ (s : Status). IsAnswer s) (sym usage) tt
     inner (inr (inl (file, missed))) = subst (λ (s : Status). IsAnswer s) (sym missed) tt
     inner (inr (inr (inl (f, fault)))) = subst (λ (s : Status). IsAnswer s) (sym fault) tt
     inner (inr (inr (inr (inl fault)))) = subst (λ (s : Status). IsAnswer s) (sym fault) tt
-    inner (inr (inr (inr (inr kind)))) = run_answers told.inner (never_spent told many) kind
+    inner (inr (inr (inr (inr kind)))) = run_answers told.inner kind
 
-pub no_other : {call : Call} {result : Status} → Told call result → 32767 < call.steps → IsAnswer result
-no_other {call} {result} told many = by_cases told.reported.answer
+pub no_other : {call : Call} {result : Status} → Told call result → IsAnswer result
+no_other {call} {result} told = by_cases told.reported.answer
   where
     by_cases : (result ≡ told.inner) ⊎ ((gives_way told.inner ≡ false) × ((result ≡ a.ReportFault) ⊎ (result ≡ a.Memory))) → IsAnswer result
-    by_cases (inl same) = subst (λ (s : Status). IsAnswer s) (sym same) (inner_answers told many)
+    by_cases (inl same) = subst (λ (s : Status). IsAnswer s) (sym same) (inner_answers told)
     by_cases (inr (stays, inl fault)) = subst (λ (s : Status). IsAnswer s) (sym fault) tt
     by_cases (inr (stays, inr memory)) = subst (λ (s : Status). IsAnswer s) (sym memory) tt
 
@@ -206,19 +225,22 @@ screen_told {call} told = blames_told told a.ScreenFault call.before.screen_faul
 pub lines_told : {call : Call} {result : Status} → Told call result → settled result ≡ true → call.new ≡ followed_by call.old (status_lines call.file result)
 lines_told {call} told is = told.reported.whole is ∙ ap (λ (s : Status). followed_by call.old (status_lines call.file s)) (sym (inner_settled told is).0)
 
-pub cut_told : {call : Call} {result : Status} → Told call result → 32767 < call.steps → (w : World) → Finds call.before.files call.before.keys w → result ≡ a.ReportFault
-    → (s : Status) × (settled s ≡ true) × Answers call.name w s × FollowedByPrefix call.old (status_lines call.file s) call.new × ((p : Resolved) → Runs call.name w p → Headline p w call.before call.after s)
-cut_told {call} told many w finds cut =
-    (told.inner, cut_settled told cut, answers (told.ran.answer w finds (cut_settled told cut)), told.reported.cut cut, λ p runs. told.ran.headline w p finds runs)
-  where
-    answers : (told.inner ≡ a.StepsSpent) ⊎ Answers call.name w told.inner → Answers call.name w told.inner
-    answers (inl spent) = absurd (never_spent told many spent)
-    answers (inr is) = is
+pub cut_told : {call : Call} {result : Status} → Told call result → (w : World) → Finds call.before.files call.before.keys w → result ≡ a.ReportFault
+    → (s : Status) × (settled s ≡ true) × ((s ≡ a.StepsSpent) ⊎ Answers call.name w s) × FollowedByPrefix call.old (status_lines call.file s) call.new
+    × ((p : Resolved) → Runs call.name w p → Headline p w call.before call.after s × MachineRan p w call.steps call.before.shown call.after.shown s)
+cut_told {call} told w finds cut =
+    let is = cut_settled told cut in (
+      told.inner,
+      is,
+      told.ran.answer w finds is,
+      told.reported.cut cut,
+      λ p runs. (told.ran.headline w p finds runs, ran_settled p w call.steps call.before.shown call.after.shown told.inner is (told.ran.machine w p finds runs)),
+    )
 
 -- whatever the devices tell
-pub prefix_told : {call : Call} {result : Status} → Told call result → 32767 < call.steps → result ≡ a.ReportFault
+pub prefix_told : {call : Call} {result : Status} → Told call result → result ≡ a.ReportFault
     → (s : Status) × (settled s ≡ true) × IsAnswer s × FollowedByPrefix call.old (status_lines call.file s) call.new
-prefix_told {call} told many cut = (told.inner, cut_settled told cut, inner_answers told many, told.reported.cut cut)
+prefix_told {call} told cut = (told.inner, cut_settled told cut, inner_answers told, told.reported.cut cut)
 
 pub screen_fault_told : {call : Call} {result : Status} → Told call result → (result ≡ a.ScreenFault) ⊎ (call.after.screen_faults ≡ call.before.screen_faults)
 screen_fault_told {call} {result} told = by_cases told.ran.screen_told

@@ -55,8 +55,8 @@ run_spent from s k steps old mid w same come =
       shown = come.2 ∙ sym (ap (λ (x : Run). followed_by old x.world.screen) all);
     }
 
-pub run_cut : (from s : State) (k : ℕ) (old mid new : Option (List ℕ)) (w : World) → Come from s k old mid w → ((v : World) → IsRefused s mid new v) → IsCut from old new w
-run_cut from s k old mid new w come refused =
+pub run_cut : (from s : State) (k steps : ℕ) (old mid new : Option (List ℕ)) (w : World) → k < steps → Come from s k old mid w → ((v : World) → IsRefused s mid new v) → IsCut from steps old new w
+run_cut from s k steps old mid new w less come refused =
     let one = refused come.0 in
     let before : (mrun k (running from w)).world.screen ≡ come.0.screen = ap (λ (r : Run). r.world.screen) come.1 in
     let e : suc k ≡ k + 1 = omega arith in
@@ -64,6 +64,8 @@ run_cut from s k old mid new w come refused =
     ap (λ (n : ℕ). mrun n (running from w)) e ∙ turned from s k w come.0 (advanced (running s come.0)) come.1 refl in
     record {
       done = k;
+      within = omega arith;
+      finish = ap (λ (r : Run). r.finish) come.1;
       piece = one.piece;
       adds = ap (λ (r : Run). r.world.screen) next ∙ one.adds ∙ ap (λ (x : List ℕ). x ++ one.piece) (sym before);
       prefix = subst (λ (o : Option (List ℕ)). FollowedByPrefix o one.piece new) (come.2 ∙ ap (followed_by old) (sym before)) one.prefix;

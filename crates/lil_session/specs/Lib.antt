@@ -5,5 +5,6 @@ pub mod Running
 pub mod Loaded
 pub mod Words
 pub mod Outcome
+pub mod Counted
 pub mod Report
 pub mod Answered

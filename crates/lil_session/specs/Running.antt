@@ -1,5 +1,5 @@
 -- A run of the machine, with its world.
-use Rattle.std.specs.Prelude.{◌≡◌, ℕ, zero, suc, true, List, [], ◌++◌, take, drop, reverse, Option, Some, None}
+use Rattle.std.specs.Prelude.{◌≡◌, ℕ, zero, suc, ◌≤◌, true, List, [], ◌++◌, take, drop, reverse, Option, Some, None}
 use Rattle.lil_base.specs.declared.fault.TrapKind.{TrapKind}
 use Rattle.lil_base.specs.declared.fault.LimitKind.{LimitKind}
 use Rattle.lil_mcode.specs.declared.machine.Event.{Event}
@@ -105,9 +105,11 @@ pub record HasRun (s : State) (steps : ℕ) (f : Finish) (old new : Option (List
   pub finish : f ≡ (mrun steps (running s w)).finish
   pub shown : new ≡ followed_by old (mrun steps (running s w)).world.screen
 
--- a run that the screen stopped: what the steps before had added was shown, and a prefix of the piece of the next one
-pub record IsCut (s : State) (old new : Option (List ℕ)) (w : World) : Type 0 where
+-- a run that the screen stopped within so many steps: what the steps before had added was shown, and a prefix of the piece of the next one
+pub record IsCut (s : State) (steps : ℕ) (old new : Option (List ℕ)) (w : World) : Type 0 where
   pub done : ℕ
+  pub within : suc done ≤ steps
+  pub finish : (mrun done (running s w)).finish ≡ Running
   pub piece : List ℕ
   pub adds : (mrun (suc done) (running s w)).world.screen ≡ (mrun done (running s w)).world.screen ++ piece
   pub prefix : FollowedByPrefix (followed_by old (mrun done (running s w)).world.screen) piece new

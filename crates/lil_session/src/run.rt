@@ -1,7 +1,7 @@
-ghost use Rattle.std.specs.Prelude.{◌≡◌, ◌≢◌, ◌⊎◌, ◌+◌, ◌%◌, ◌<◌, ◌≤◌, [], ◌∷◌, true, length, IfOk, OnOk, OnErr, Some, None};
+ghost use Rattle.std.specs.Prelude.{◌≡◌, ◌≢◌, ◌⊎◌, ◌%◌, ◌≤◌, [], ◌∷◌, true, length, IfOk, OnOk, OnErr, Some};
 ghost use Rattle.lil_tree.specs.Views.{module_of};
 ghost use Rattle.lil_meaning.specs.World.{World, byte_of, piece_of};
-ghost use Rattle.lil_mcode.specs.State.{Module, module_at};
+ghost use Rattle.lil_mcode.specs.State.{Module};
 ghost use Rattle.lil_volume.specs.Causes.{HasCause};
 ghost use Rattle.lil_volume.specs.Told.{followed_by, FollowedByPrefix};
 ghost use Rattle.lil_base.specs.declared.fault.TrapKind.{TrapKind};
@@ -10,6 +10,7 @@ ghost use Rattle.lil_tree.specs.Sizes.{IsSmall, code_size};
 ghost use Rattle.lil_session.specs.Rows.{Translates};
 ghost use Rattle.lil_session.specs.Running.{arguments, taken, IsAlone, finish_of, finish_by, IsStep, IsRefused, HasRun, IsCut};
 ghost use Rattle.lil_session.specs.Outcome.{settled, Blames, Shows, MeansAnswer, IsRunAnswer};
+ghost use Rattle.lil_session.specs.Counted.{MachineAnswers};
 ghost use Rattle.std.specs.Option.{option_copied};
 ghost use Rattle.lil_session.specs.Loaded.{loaded, IsAtBody, body_trap, EndingAnswers, IsPossible};
 
@@ -75,8 +76,6 @@ fn advance<S: Sink>(machine: &mut Machine, screen: &mut S) -> Result<Option<Endi
     ensures running { machine.new.state.running ≡ machine.old.state.running }
     ensures alone { IsAlone machine.new.state }
     ensures at { machine.new.at_module ≡ machine.old.state.running }
-    ensures rises { IfOk result (λ o. o ≡ None → machine.old.state.place < machine.new.state.place) }
-    ensures within { IfOk result (λ o. o ≡ None → (m : Module) → module_at machine.old.state.modules machine.old.state.running ≡ Some m → machine.old.state.place < length m.code) }
     ensures cause { HasCause (S.faults screen.old) (S.faults screen.new) result }
 {
     match machine.step() {
@@ -100,10 +99,9 @@ fn run_machine<S: Sink>(
 ) -> Result<Ending, SinkFailed>
     requires { IsAlone machine.old.state }
     ensures ran { IfOk result (λ e. (w : World) → w.screen ≡ [] → HasRun machine.old.state steps (finish_of e) (S.written screen.old) (S.written screen.new) w) }
-    ensures cut { OnErr result ((w : World) → w.screen ≡ [] → IsCut machine.old.state (S.written screen.old) (S.written screen.new) w) }
+    ensures cut { OnErr result ((w : World) → w.screen ≡ [] → IsCut machine.old.state steps (S.written screen.old) (S.written screen.new) w) }
     ensures modules { machine.new.state.modules ≡ machine.old.state.modules }
     ensures at { IfOk result (λ e. (k : TrapKind) → e ≡ ending.Trapped k → machine.new.at_module ≡ machine.old.state.running) }
-    ensures spent { IfOk result (λ e. e ≡ ending.Spent → (m : Module) → module_at machine.old.state.modules machine.old.state.running ≡ Some m → steps ≤ length m.code) }
     ensures cause { HasCause (S.faults screen.old) (S.faults screen.new) result }
 {
     for _ in 0..steps {
@@ -186,7 +184,7 @@ pub(crate) fn run_program<S: Sink>(
     ensures shows { (w : World) → w.screen ≡ [] → Shows (module_of m.now) w (S.written screen.old) (S.written screen.new) result }
     ensures answer { (w : World) → w.screen ≡ [] → settled result ≡ true → (result ≡ Status.StepsSpent) ⊎ MeansAnswer (module_of m.now) w result }
     ensures kinds { IsRunAnswer result }
-    ensures spent { result ≡ Status.StepsSpent → steps ≤ 32767 }
+    ensures machine { (w : World) → w.screen ≡ [] → MachineAnswers (module_of m.now) w steps (S.written screen.old) (S.written screen.new) result }
     ensures cause { Blames Status.ScreenFault (S.faults screen.old) (S.faults screen.new) result }
     ensures told { (result ≡ Status.ScreenFault) ⊎ (S.faults screen.new ≡ S.faults screen.old) }
 {

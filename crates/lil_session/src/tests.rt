@@ -1,4 +1,4 @@
-use crate::{Rack, RamKeys, RamSink, RamVolume, lilith};
+use crate::{Options, Rack, RamKeys, RamSink, RamVolume, lilith, once};
 use lil_base::{Bytes, FileName, Text};
 use std::alloc::Global;
 use std::process::Abort;
@@ -185,6 +185,81 @@ fn runs_programs(rt: HostRuntime) -> Result<(), Fail> {
     ];
     for case in &cases {
         check(&rt, rt.alloc(), case)?;
+    }
+    Ok(())
+}
+
+/// A run of the letters within a budget, and what is wanted of it.
+#[derive(Clone, Copy)]
+struct Budget {
+    steps: u64,
+    status: u8,
+    shown: &'static [u8],
+    reported: &'static [u8],
+}
+
+fn check_budget(rt: &impl Abort, alloc: Global, budget: &Budget) -> Result<(), Fail> {
+    let word = Text::from_slice(alloc, b"L.MOD")?;
+    let mut files = Vec::new(alloc);
+    if let Some(name) = FileName::new(alloc, &word)? {
+        files.push((name, Bytes::from_slice(alloc, LETTERS)?))?;
+    }
+    let mut volume = RamVolume::new(alloc, files, Vec::new(alloc))?;
+    let mut keys = RamKeys::new(alloc, Bytes::new(alloc), Vec::new(alloc))?;
+    let mut screen = RamSink::new(alloc, Bytes::new(alloc), Vec::new(alloc))?;
+    let mut report = RamSink::new(alloc, Bytes::new(alloc), Vec::new(alloc))?;
+    let mut rack: Rack = Rack::new(alloc);
+    let options = Options {
+        steps: budget.steps,
+        count: false,
+        screen: false,
+    };
+    let status = once(
+        alloc,
+        &word,
+        options,
+        &mut volume,
+        &mut keys,
+        &mut screen,
+        &mut report,
+        &mut rack,
+    );
+    assert_eq!(rt; status.code(), budget.status);
+    assert_eq!(rt; screen.written().as_slice(), budget.shown);
+    assert_eq!(rt; report.written().as_slice(), budget.reported);
+    Ok(())
+}
+
+/// The letters take 8 instructions: the frame, a word and a request for each, and the return.
+#[test]
+fn spends_its_steps(rt: HostRuntime) -> Result<(), Fail> {
+    let none = Budget {
+        steps: 0,
+        status: 7,
+        shown: b"",
+        reported: b"steps spent\n",
+    };
+    let budgets = [
+        none,
+        Budget {
+            steps: 4,
+            shown: b"H",
+            ..none
+        },
+        Budget {
+            steps: 7,
+            shown: b"HI\n",
+            ..none
+        },
+        Budget {
+            steps: 8,
+            status: 0,
+            shown: b"HI\n",
+            reported: b"",
+        },
+    ];
+    for budget in &budgets {
+        check_budget(&rt, rt.alloc(), budget)?;
     }
     Ok(())
 }

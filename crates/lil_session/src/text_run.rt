@@ -1,15 +1,16 @@
-ghost use Rattle.std.specs.Prelude.{◌≡◌, ◌⊎◌, ℕ, List, ◌≤◌, [], Some, None, true, false};
+ghost use Rattle.std.specs.Prelude.{◌≡◌, ◌⊎◌, ℕ, List, [], Some, None, true, false};
 ghost use Rattle.lil_tree.specs.Resolved.{Resolved};
 ghost use Rattle.lil_tree.specs.Views.{module_of};
 ghost use Rattle.lil_meaning.specs.World.{World};
 ghost use Rattle.lil_tree.specs.Sizes.{IsSound, IsSmall};
 ghost use Rattle.lil_session.specs.Words.{mod_file, name_of_word};
 ghost use Rattle.lil_base.specs.declared.fault.SourceFault.{SourceFault as Fault};
-ghost use Rattle.lil_session.specs.Outcome.{settled, gives_way, devices, not_built, Answers, Blames, Finds, Headline, IsRunAnswer, IsRunnable, MeansAnswer, Ran, ReportBlames, Runs, Shows};
+ghost use Rattle.lil_session.specs.Outcome.{settled, gives_way, devices, not_built, Answers, Blames, Finds, Headline, IsRunAnswer, IsRunnable, MeansAnswer, ReportBlames, Runs, Shows};
+ghost use Rattle.lil_session.specs.Counted.{MachineAnswers};
 ghost use Rattle.lil_volume.specs.Causes.{Rose};
 ghost use Rattle.lil_volume.specs.Told.{followed_by, FollowedByPrefix};
 ghost use Rattle.lil_session.specs.Report.{status_lines};
-ghost use Rattle.lil_session.specs.Answered.{TextRan, Call, Told};
+ghost use Rattle.lil_session.specs.Answered.{TextRan, Ran, Call, Told};
 
 use crate::generator::generate;
 use crate::report::tell;
@@ -46,7 +47,7 @@ fn run_module<S: Sink>(alloc: Global, m: &RModule, steps: u64, screen: &mut S) -
     ensures shows { (w : World) → w.screen ≡ [] → Shows (module_of m.now) w (S.written screen.old) (S.written screen.new) result }
     ensures answer { (w : World) → w.screen ≡ [] → settled result ≡ true → (result ≡ Status.StepsSpent) ⊎ MeansAnswer (module_of m.now) w result }
     ensures kinds { IsRunAnswer result }
-    ensures spent { result ≡ Status.StepsSpent → steps ≤ 32767 }
+    ensures machine { (w : World) → w.screen ≡ [] → MachineAnswers (module_of m.now) w steps (S.written screen.old) (S.written screen.new) result }
     ensures cause { Blames Status.ScreenFault (S.faults screen.old) (S.faults screen.new) result }
     ensures told { (result ≡ Status.ScreenFault) ⊎ (S.faults screen.new ≡ S.faults screen.old) }
 {
@@ -172,7 +173,9 @@ pub fn once<V: Volume, K: Keyboard, S: Sink, R: Sink, C: Channel>(
 
     // Unless a device fails, memory is refused or the steps are spent, the answer is the command's.
     ensures answer { (w : World) → Finds (V.files volume.old) (K.left keys.old) w → settled result ≡ true → (result ≡ Status.StepsSpent) ⊎ Answers (name_of_word word.now) w result }
-    ensures spent { result ≡ Status.StepsSpent → o.steps ≤ 32767 }
+
+    // The machine ran a translation of the text within the budget, and the steps are spent exactly where that has no end.
+    ensures machine { (w : World) (p : Resolved) → Finds (V.files volume.old) (K.left keys.old) w → Runs (name_of_word word.now) w p → MachineAnswers p w o.steps (S.written screen.old) (S.written screen.new) result }
 
     // The screen is called only where a straight text was found, and the volume only where the words name a module.
     ensures called { ((S.written screen.new ≡ S.written screen.old) × (S.faults screen.new ≡ S.faults screen.old)) ⊎ IsRunnable (name_of_word word.now) (V.files volume.old) }

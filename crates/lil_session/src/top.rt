@@ -10,6 +10,7 @@ ghost use Rattle.lil_volume.specs.Causes.{Rose};
 ghost use Rattle.lil_volume.specs.Told.{Files, followed_by, FollowedByPrefix};
 ghost use Rattle.lil_session.specs.Words.{mod_file, source_name};
 ghost use Rattle.lil_session.specs.Outcome.{gives_way, settled, not_built, devices, state_of, Answers, Blames, Finds, Headline, IsRunnable, ReportBlames, Runs};
+ghost use Rattle.lil_session.specs.Counted.{MachineAnswers, MachineRan};
 ghost use Rattle.lil_session.specs.Report.{file_of, status_lines};
 ghost use Rattle.lil_session.specs.Answered.{IsAnswer, Call, Told};
 
@@ -68,8 +69,11 @@ pub fn lilith<V: Volume, K: Keyboard, S: Sink, R: Sink, C: Channel>(
     ensures headline { let at = devices V.files V.faults K.left K.faults S.written S.faults in
         (w : World) (p : Resolved) → Finds (V.files volume.old) (K.left keys.old) w → Runs (source_name words.now) w p → Headline p w (at volume.old keys.old screen.old) (at volume.new keys.new screen.new) result }
 
-    // Unless a device fails or memory is refused, the answer is the command's.
-    ensures answer { (w : World) → Finds (V.files volume.old) (K.left keys.old) w → settled result ≡ true → Answers (source_name words.now) w result }
+    // Unless a device fails, memory is refused or the steps are spent, the answer is the command's.
+    ensures answer { (w : World) → Finds (V.files volume.old) (K.left keys.old) w → settled result ≡ true → (result ≡ Status.StepsSpent) ⊎ Answers (source_name words.now) w result }
+
+    // The machine ran a translation of the text within the budget, and the steps are spent exactly where that has no end.
+    ensures machine { (w : World) (p : Resolved) → Finds (V.files volume.old) (K.left keys.old) w → Runs (source_name words.now) w p → MachineAnswers p w STEPS (S.written screen.old) (S.written screen.new) result }
 
     // Usage comes exactly where the words name no module.
     ensures usage_only { result ≡ Status.Usage → source_name words.now ≡ None }
@@ -85,11 +89,11 @@ pub fn lilith<V: Volume, K: Keyboard, S: Sink, R: Sink, C: Channel>(
     ensures fault_where { (m : Files) (x text : List ℕ) → V.files volume.old ≡ Some m → source_name words.now ≡ Some x → get m (mod_file x) ≡ Some text → ((p : Resolved) → IsStraight x text p → ⊥) →
         settled result ≡ true → result ≡ Status.SourceFault not_built }
 
-    // Done comes exactly where the meaning ends, and a trap exactly where it traps so.
+    // Unless the steps are spent, Done comes exactly where the meaning ends, and a trap exactly where it traps so.
     ensures done_only { (w : World) (p : Resolved) → Finds (V.files volume.old) (K.left keys.old) w → Runs (source_name words.now) w p → result ≡ Status.Done → (n : ℕ) × ((state_of p w n).phase ≡ Ended) }
-    ensures done_where { (w : World) (p : Resolved) (n : ℕ) → Finds (V.files volume.old) (K.left keys.old) w → Runs (source_name words.now) w p → (state_of p w n).phase ≡ Ended → settled result ≡ true → result ≡ Status.Done }
+    ensures done_where { (w : World) (p : Resolved) (n : ℕ) → Finds (V.files volume.old) (K.left keys.old) w → Runs (source_name words.now) w p → (state_of p w n).phase ≡ Ended → settled result ≡ true → (result ≡ Status.StepsSpent) ⊎ (result ≡ Status.Done) }
     ensures trapped_only { (w : World) (p : Resolved) (t : TrapAt) → Finds (V.files volume.old) (K.left keys.old) w → Runs (source_name words.now) w p → result ≡ Status.Trapped t → (n : ℕ) × ((state_of p w n).phase ≡ Trapped t) }
-    ensures trapped_where { (w : World) (p : Resolved) (n : ℕ) (t : TrapAt) → Finds (V.files volume.old) (K.left keys.old) w → Runs (source_name words.now) w p → (state_of p w n).phase ≡ Trapped t → settled result ≡ true → result ≡ Status.Trapped t }
+    ensures trapped_where { (w : World) (p : Resolved) (n : ℕ) (t : TrapAt) → Finds (V.files volume.old) (K.left keys.old) w → Runs (source_name words.now) w p → (state_of p w n).phase ≡ Trapped t → settled result ≡ true → (result ≡ Status.StepsSpent) ⊎ (result ≡ Status.Trapped t) }
 
     // No other status comes.
     ensures settles { (settled result ≡ true) ⊎ ((result ≡ Status.VolumeFault) ⊎ ((result ≡ Status.ScreenFault) ⊎ ((result ≡ Status.ReportFault) ⊎ (result ≡ Status.Memory)))) }
@@ -127,8 +131,8 @@ pub fn lilith<V: Volume, K: Keyboard, S: Sink, R: Sink, C: Channel>(
     ensures report_prefix { result ≡ Status.ReportFault → (a : Status) × (settled a ≡ true) × IsAnswer a × FollowedByPrefix (R.written report.old) (status_lines (file_of words.now) a) (R.written report.new) }
     ensures report_fault { let at = devices V.files V.faults K.left K.faults S.written S.faults in
         (w : World) → Finds (V.files volume.old) (K.left keys.old) w → result ≡ Status.ReportFault →
-        (a : Status) × (settled a ≡ true) × Answers (source_name words.now) w a × FollowedByPrefix (R.written report.old) (status_lines (file_of words.now) a) (R.written report.new)
-        × ((p : Resolved) → Runs (source_name words.now) w p → Headline p w (at volume.old keys.old screen.old) (at volume.new keys.new screen.new) a) }
+        (a : Status) × (settled a ≡ true) × ((a ≡ Status.StepsSpent) ⊎ Answers (source_name words.now) w a) × FollowedByPrefix (R.written report.old) (status_lines (file_of words.now) a) (R.written report.new)
+        × ((p : Resolved) → Runs (source_name words.now) w p → Headline p w (at volume.old keys.old screen.old) (at volume.new keys.new screen.new) a × MachineRan p w STEPS (S.written screen.old) (S.written screen.new) a) }
 {
     commanded(alloc, words, volume, keys, screen, report)
 }

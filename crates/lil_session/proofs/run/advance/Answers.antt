@@ -1,9 +1,9 @@
-use Rattle.std.proofs.Common.{ℕ, ◌<◌, refl, sym, ap, subst}
+use Rattle.std.proofs.Common.{refl, sym, ap, subst}
 use Rattle.lil_mcode.specs.declared.machine.Event.TheVariants.{Went, Request, LevelEnded, Trap, Limit, BadCode}
 use Rattle.lil_mcode.specs.State.{State}
 use Rattle.lil_mcode.specs.Calls.{Machine}
 use Rattle.lil_session.specs.Running.{Running, Finished, TrappedBy, Limited, Broken, IsAlone}
-use Rattle.lil_session.proofs.Advancing.{step_quiet, step_writes, moves_at, within_at, alone_taken}
+use Rattle.lil_session.proofs.Advancing.{step_quiet, step_writes, moves_at, alone_taken}
 use Rattle.lil_mcode.proofs.Requests.{request_is_two}
 use Rattle.lil_session.proofs.run.advance.Goals as goal
 
@@ -17,12 +17,6 @@ serve-requires-clause-words g c =
 
 pub returns-in-Went-clause-step : goal.returns-in-Went-clause-step
 returns-in-Went-clause-step g c = step_quiet c.args.machine.now.state c.step.new.self.state Went Running (g.S.Sink.written c.args.screen.now) c.in-Went.ensures.row (λ w. refl)
-
-pub returns-in-Went-clause-rises : goal.returns-in-Went-clause-rises
-returns-in-Went-clause-rises g c = λ _. (moves_at c.args.machine.now.state c.step.new.self.state Went c.requires c.in-Went.ensures.row).rises refl
-
-pub returns-in-Went-clause-within : goal.returns-in-Went-clause-within
-returns-in-Went-clause-within g c = λ _. within_at c.args.machine.now.state c.step.new.self.state Went c.requires c.in-Went.ensures.row refl
 
 pub returns-in-LevelEnded-clause-step : goal.returns-in-LevelEnded-clause-step
 returns-in-LevelEnded-clause-step g c = step_quiet c.args.machine.now.state c.step.new.self.state LevelEnded Finished (g.S.Sink.written c.args.screen.now) c.in-LevelEnded.ensures.row (λ w. refl)
@@ -55,12 +49,3 @@ pub returns-in_ok-serve-in-Request-clause-alone : goal.returns-in_ok-serve-in-Re
 returns-in_ok-serve-in-Request-clause-alone g c =
     subst (λ (s : State). IsAlone s) (sym (ap (λ (m : Machine). m.state) c.serve.ensures.machine))
     (alone_taken c.step.new.self.state 1 (moves_at c.args.machine.now.state c.step.new.self.state (Request c.in-Request.number) c.requires c.in-Request.ensures.row).alone)
-
-pub returns-in_ok-serve-in-Request-clause-rises : goal.returns-in_ok-serve-in-Request-clause-rises
-returns-in_ok-serve-in-Request-clause-rises g c =
-    λ _.
-    subst (λ (n : ℕ). c.args.machine.now.state.place < n) (sym (ap (λ (m : Machine). m.state.place) c.serve.ensures.machine))
-    ((moves_at c.args.machine.now.state c.step.new.self.state (Request c.in-Request.number) c.requires c.in-Request.ensures.row).rises refl)
-
-pub returns-in_ok-serve-in-Request-clause-within : goal.returns-in_ok-serve-in-Request-clause-within
-returns-in_ok-serve-in-Request-clause-within g c = λ _. within_at c.args.machine.now.state c.step.new.self.state (Request c.in-Request.number) c.requires c.in-Request.ensures.row refl

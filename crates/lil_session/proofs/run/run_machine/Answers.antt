@@ -1,5 +1,4 @@
-use Rattle.std.proofs.Common.{◌≡◌, ◌≢◌, List, Some, None, refl, ap, ◌∙◌, arith}
-use Rattle.lil_mcode.specs.State.{Module, module_at}
+use Rattle.std.proofs.Common.{◌≡◌, ◌≢◌, Some, None, refl, ◌∙◌, arith}
 use Rattle.lil_session.specs.declared.run.Ending.TheVariants as ending
 use Rattle.lil_session.specs.Running.{finish_of}
 use Rattle.lil_session.proofs.Turns.{on_err, come_first, come_next, run_ends, run_spent, run_cut, ending_over, ap_some, step_as, step_goes, is_none}
@@ -10,8 +9,6 @@ loop-init g c = record {
   same_modules = refl;
   same_module = refl;
   alone = c.requires;
-  rises = omega arith;
-  within = λ m known. omega arith;
   quiet = refl;
   come = λ w e. come_first c.args.machine.now.state (g.S.Sink.written c.args.screen.now) w e;
 }
@@ -20,7 +17,8 @@ pub returns-in_err-end-clause-cut : goal.returns-in_err-end-clause-cut
 returns-in_err-end-clause-cut g c =
     on_err c.from_residual.result
     (λ w e.
-    run_cut c.args.machine.now.state c.loop.machine.state c.loop.counter (g.S.Sink.written c.args.screen.now) (g.S.Sink.written c.loop.screen) (g.S.Sink.written c.advance.new.screen) w (c.loop.invariant.come w e) c.in_err-end.ensures.refused)
+    run_cut c.args.machine.now.state c.loop.machine.state c.loop.counter c.args.steps (g.S.Sink.written c.args.screen.now) (g.S.Sink.written c.loop.screen) (g.S.Sink.written c.advance.new.screen) w
+    (omega arith) (c.loop.invariant.come w e) c.in_err-end.ensures.refused)
 
 pub returns-in-Some-clause-ran : goal.returns-in-Some-clause-ran
 returns-in-Some-clause-ran g c =
@@ -37,12 +35,6 @@ loop-preserved g c =
       same_modules = c.in_ok-end.ensures.modules ∙ c.loop.invariant.same_modules;
       same_module = c.in_ok-end.ensures.running ∙ c.loop.invariant.same_module;
       alone = c.in_ok-end.ensures.alone;
-      rises = (let up = c.in_ok-end.ensures.rises none in omega (arith, c.loop.invariant.rises, up));
-      within = λ m known.
-          (let here : module_at c.loop.machine.state.modules c.loop.machine.state.running ≡ Some m =
-          ap (λ (x : List Module). module_at x c.loop.machine.state.running) c.loop.invariant.same_modules ∙ ap (module_at c.args.machine.now.state.modules) c.loop.invariant.same_module ∙ known in
-          let less = c.in_ok-end.ensures.within none m here in
-          omega (arith, c.loop.invariant.rises, less));
       quiet = c.in_ok-end.ensures.cause.quiet ∙ c.loop.invariant.quiet;
       come = λ w e.
           come_next c.args.machine.now.state c.loop.machine.state c.advance.new.machine.state c.loop.counter (g.S.Sink.written c.args.screen.now) (g.S.Sink.written c.loop.screen) (g.S.Sink.written c.advance.new.screen) w (c.loop.invariant.come w e)

@@ -1,6 +1,5 @@
-use Rattle.std.proofs.Common.{◌≡◌, ◌≤◌, [], length, Some}
+use Rattle.std.proofs.Common.{◌≡◌, []}
 use Rattle.lil_meaning.specs.World.{World}
-use Rattle.lil_mcode.specs.State.{Module, module_at}
 use Rattle.lil_volume.specs.Told.{followed_by}
 use Rattle.lil_session.specs.Running.{mrun, running, IsAlone}
 use Rattle.lil_session.proofs.run.run_machine.Given as goal
@@ -11,8 +10,6 @@ invariant-loop g l = record {
   same_modules : l.machine.state.modules ≡ l.fn.machine.state.modules;
   same_module : l.machine.state.running ≡ l.fn.machine.state.running;
   alone : IsAlone l.machine.state;
-  rises : l.counter ≤ l.machine.state.place;
-  within : (m : Module) → module_at l.fn.machine.state.modules l.fn.machine.state.running ≡ Some m → l.counter ≤ length m.code;
   quiet : g.S.Sink.faults l.screen ≡ g.S.Sink.faults l.fn.screen;
   come : (w : World) → w.screen ≡ [] → (v : World) × (mrun l.counter (running l.fn.machine.state w) ≡ running l.machine.state v) × (g.S.Sink.written l.screen ≡ followed_by (g.S.Sink.written l.fn.screen) v.screen);
 }

@@ -1,15 +1,16 @@
-use Rattle.std.proofs.Common.{◌≡◌, [], Some, sym, ap, ◌∙◌, subst, arith}
+use Rattle.std.proofs.Common.{◌≡◌, inl, [], refl, sym, ap, ◌∙◌, subst}
 use Rattle.lil_base.specs.declared.fault.TrapKind.{TrapKind}
 use Rattle.lil_tree.specs.Views.{module_of}
 use Rattle.lil_meaning.specs.World.{World}
-use Rattle.lil_mcode.specs.State.{State, module_at}
+use Rattle.lil_mcode.specs.State.{Module, State}
 use Rattle.lil_mcode.specs.Calls.{Machine}
 use Rattle.lil_session.specs.declared.run.Ending.TheVariants as ending
 use Rattle.lil_session.specs.Running.{IsAlone, IsCut, HasRun, finish_of}
-use Rattle.lil_session.specs.Loaded.{IsAtBody}
+use Rattle.lil_session.specs.Loaded.{loaded, IsAtBody}
 use Rattle.lil_session.proofs.Shown.{nothing_shown}
 use Rattle.lil_session.proofs.Start.{own, begun_at, loaded_state}
-use Rattle.lil_session.proofs.Endings.{start_alone, at_body, possible, shows_end, means_end, kind_end, spent_end, blames_end, shows_cut}
+use Rattle.lil_session.proofs.Endings.{start_alone, at_body, possible, shows_end, means_end, kind_end, blames_end, shows_cut}
+use Rattle.lil_session.proofs.Counting.{machine_end, machine_cut}
 use Rattle.lil_session.proofs.run.run_program.Goals as goal
 
 pub returns-in_default-clause-shows : goal.returns-in_default-clause-shows
@@ -25,8 +26,8 @@ pub returns-in-Err-clause-shows : goal.returns-in-Err-clause-shows
 returns-in-Err-clause-shows g c =
     let p = module_of c.args.m.now in
     let is : c.in-Ok.machine.state ≡ begun_at p c.args.code.now c.requires.small c.requires.translates 0 = ap (λ (m : Machine). m.state) c.in-Ok.ensures ∙ loaded_state p c.args.code.now c.requires.small c.requires.translates in
-    λ w e. shows_cut p c.args.code.now c.requires.small c.requires.translates (g.S.Sink.written c.args.screen.now) (g.S.Sink.written c.run_machine.new.screen) w
-    (subst (λ (s : State). IsCut s (g.S.Sink.written c.args.screen.now) (g.S.Sink.written c.run_machine.new.screen) w) is (c.in-Err.ensures.cut w e))
+    λ w e. shows_cut p c.args.code.now c.requires.small c.requires.translates c.args.steps (g.S.Sink.written c.args.screen.now) (g.S.Sink.written c.run_machine.new.screen) w
+    (subst (λ (s : State). IsCut s c.args.steps (g.S.Sink.written c.args.screen.now) (g.S.Sink.written c.run_machine.new.screen) w) is (c.in-Err.ensures.cut w e))
 
 pub answer-requires : goal.answer-requires
 answer-requires g c =
@@ -92,8 +93,19 @@ returns-clause-kinds g c =
     λ k e. at_body p code small t c.run_machine.new.machine (c.in-Ok-run_machine.ensures.modules ∙ ap (λ (s : State). s.modules) is) (c.in-Ok-run_machine.ensures.at k e ∙ ap (λ (s : State). s.running) is) in
     kind_end p code small t c.args.steps old new c.run_machine.new.machine end c.answer.result c.answer.ensures at
 
-pub returns-clause-spent : goal.returns-clause-spent
-returns-clause-spent g c =
+pub returns-in_default-clause-machine : goal.returns-in_default-clause-machine
+returns-in_default-clause-machine g c = λ w e. inl refl
+
+pub returns-in-Err-clause-machine : goal.returns-in-Err-clause-machine
+returns-in-Err-clause-machine g c =
+    let p = module_of c.args.m.now in
+    let old = g.S.Sink.written c.args.screen.now in
+    let new = g.S.Sink.written c.run_machine.new.screen in
+    λ w e. machine_cut p c.args.code.now c.requires.translates c.args.steps old new w
+    (subst (λ (s : State). IsCut s c.args.steps old new w) (ap (λ (m : Machine). m.state) c.in-Ok.ensures) (c.in-Err.ensures.cut w e))
+
+pub returns-clause-machine : goal.returns-clause-machine
+returns-clause-machine g c =
     let p = module_of c.args.m.now in
     let code = c.args.code.now in
     let small = c.requires.small in
@@ -101,16 +113,11 @@ returns-clause-spent g c =
     let old = g.S.Sink.written c.args.screen.now in
     let new = g.S.Sink.written c.run_machine.new.screen in
     let end = c.in-Ok-run_machine.end in
-    let is : c.in-Ok.machine.state ≡ begun_at p code small t 0 = ap (λ (m : Machine). m.state) c.in-Ok.ensures ∙ loaded_state p code small t in
-    let ran : (w : World) → w.screen ≡ [] → HasRun (begun_at p code small t 0) c.args.steps (finish_of end) old new w =
-    λ w e. subst (λ (s : State). HasRun s c.args.steps (finish_of end) old new w) is (c.in-Ok-run_machine.ensures.ran w e) in
-    let at : (k : TrapKind) → end ≡ ending.Trapped k → IsAtBody c.run_machine.new.machine (own p code small t) =
-    λ k e. at_body p code small t c.run_machine.new.machine (c.in-Ok-run_machine.ensures.modules ∙ ap (λ (s : State). s.modules) is) (c.in-Ok-run_machine.ensures.at k e ∙ ap (λ (s : State). s.running) is) in
-    λ spent.
-    let kind : end ≡ ending.Spent = spent_end p code small t c.args.steps old new c.run_machine.new.machine end c.answer.result c.answer.ensures at spent in
-    let known : module_at c.in-Ok.machine.state.modules c.in-Ok.machine.state.running ≡ Some (own p code small t) = ap (λ (s : State). module_at s.modules s.running) is in
-    let le = c.in-Ok-run_machine.ensures.spent kind (own p code small t) known in
-    omega (arith, le, c.requires.long, small.code)
+    let from : c.in-Ok.machine.state ≡ (loaded p code).state = ap (λ (m : Machine). m.state) c.in-Ok.ensures in
+    let is : c.in-Ok.machine.state ≡ begun_at p code small t 0 = from ∙ loaded_state p code small t in
+    let at : (k : TrapKind) → end ≡ ending.Trapped k → (m : Module) × IsAtBody c.run_machine.new.machine m =
+    λ k e. (own p code small t, at_body p code small t c.run_machine.new.machine (c.in-Ok-run_machine.ensures.modules ∙ ap (λ (s : State). s.modules) is) (c.in-Ok-run_machine.ensures.at k e ∙ ap (λ (s : State). s.running) is)) in
+    λ w e. machine_end p code t c.args.steps old new w c.run_machine.new.machine end c.answer.result (subst (λ (s : State). HasRun s c.args.steps (finish_of end) old new w) from (c.in-Ok-run_machine.ensures.ran w e)) c.answer.ensures at
 
 pub returns-clause-cause : goal.returns-clause-cause
 returns-clause-cause g c =

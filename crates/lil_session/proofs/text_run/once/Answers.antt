@@ -1,15 +1,15 @@
 use Rattle.std.proofs.Common.{refl}
-use Rattle.lil_session.proofs.Telling.{headline_told, answer_or_spent, inner_is, volume_told, screen_told, lines_told, screen_fault_told}
+use Rattle.lil_session.proofs.Telling.{headline_told, answer_told, machine_told, inner_is, volume_told, screen_told, lines_told, screen_fault_told}
 use Rattle.lil_session.proofs.text_run.once.Goals as goal
 
 pub returns-clause-headline : goal.returns-clause-headline
 returns-clause-headline g c = headline_told c.told.ensures
 
 pub returns-clause-answer : goal.returns-clause-answer
-returns-clause-answer g c = answer_or_spent c.told.ensures
+returns-clause-answer g c = answer_told c.told.ensures
 
-pub returns-clause-spent : goal.returns-clause-spent
-returns-clause-spent g c = λ spent. c.told.ensures.ran.spent (inner_is c.told.ensures refl spent)
+pub returns-clause-machine : goal.returns-clause-machine
+returns-clause-machine g c = machine_told c.told.ensures
 
 pub returns-clause-volume_cause : goal.returns-clause-volume_cause
 returns-clause-volume_cause g c = volume_told c.told.ensures

@@ -1,15 +1,15 @@
-use Rattle.std.proofs.Common.{◌<◌, refl, lit<}
-use Rattle.lil_session.proofs.Telling.{headline_told, answer_told, inner_is, result_is, done_only, done_where, trapped_only, trapped_where, settles_told, no_other, nothing_told, volume_told, screen_told, lines_told, screen_fault_told, prefix_told, cut_told}
+use Rattle.std.proofs.Common.{refl}
+use Rattle.lil_session.proofs.Telling.{headline_told, answer_told, machine_told, inner_is, result_is, done_only, done_where, trapped_only, trapped_where, settles_told, no_other, nothing_told, volume_told, screen_told, lines_told, screen_fault_told, prefix_told, cut_told}
 use Rattle.lil_session.proofs.top.lilith.Goals as goal
-
-many : 32767 < 10000000
-many = lit< tt
 
 pub returns-clause-headline : goal.returns-clause-headline
 returns-clause-headline g c = headline_told c.commanded.ensures
 
 pub returns-clause-answer : goal.returns-clause-answer
-returns-clause-answer g c = answer_told c.commanded.ensures many
+returns-clause-answer g c = answer_told c.commanded.ensures
+
+pub returns-clause-machine : goal.returns-clause-machine
+returns-clause-machine g c = machine_told c.commanded.ensures
 
 pub returns-clause-usage_only : goal.returns-clause-usage_only
 returns-clause-usage_only g c = λ usage. c.commanded.ensures.ran.usage_only (inner_is c.commanded.ensures refl usage)
@@ -33,19 +33,19 @@ pub returns-clause-done_only : goal.returns-clause-done_only
 returns-clause-done_only g c = done_only c.commanded.ensures
 
 pub returns-clause-done_where : goal.returns-clause-done_where
-returns-clause-done_where g c = done_where c.commanded.ensures many
+returns-clause-done_where g c = done_where c.commanded.ensures
 
 pub returns-clause-trapped_only : goal.returns-clause-trapped_only
 returns-clause-trapped_only g c = trapped_only c.commanded.ensures
 
 pub returns-clause-trapped_where : goal.returns-clause-trapped_where
-returns-clause-trapped_where g c = trapped_where c.commanded.ensures many
+returns-clause-trapped_where g c = trapped_where c.commanded.ensures
 
 pub returns-clause-settles : goal.returns-clause-settles
 returns-clause-settles g c = settles_told c.commanded.ensures
 
 pub returns-clause-no_other : goal.returns-clause-no_other
-returns-clause-no_other g c = no_other c.commanded.ensures many
+returns-clause-no_other g c = no_other c.commanded.ensures
 
 pub returns-clause-nothing : goal.returns-clause-nothing
 returns-clause-nothing g c = nothing_told c.commanded.ensures
@@ -60,7 +60,7 @@ pub returns-clause-lines : goal.returns-clause-lines
 returns-clause-lines g c = lines_told c.commanded.ensures
 
 pub returns-clause-report_fault : goal.returns-clause-report_fault
-returns-clause-report_fault g c = cut_told c.commanded.ensures many
+returns-clause-report_fault g c = cut_told c.commanded.ensures
 
 pub returns-clause-screen_told : goal.returns-clause-screen_told
 returns-clause-screen_told g c = screen_fault_told c.commanded.ensures
@@ -72,4 +72,4 @@ pub returns-clause-fault_is : goal.returns-clause-fault_is
 returns-clause-fault_is g c = λ f fault. c.commanded.ensures.ran.fault_is f (inner_is c.commanded.ensures refl fault)
 
 pub returns-clause-report_prefix : goal.returns-clause-report_prefix
-returns-clause-report_prefix g c = prefix_told c.commanded.ensures many
+returns-clause-report_prefix g c = prefix_told c.commanded.ensures

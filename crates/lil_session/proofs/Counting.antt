@@ -1,0 +1,87 @@
+-- What the machine did, by the answer of its run.
+use Rattle.std.proofs.Common.{◌≡◌, inl, inr, ℕ, true, List, Option, refl, sym, ap, ◌∙◌, subst, arith}
+use Rattle.lil_base.specs.declared.fault.TrapKind.{TrapKind}
+use Rattle.lil_tree.specs.Resolved.{Resolved}
+use Rattle.lil_meaning.specs.World.{World}
+use Rattle.lil_mcode.specs.State.{Module, State}
+use Rattle.lil_mcode.specs.Calls.{Machine}
+use Rattle.lil_session.specs.declared.run.Ending.{Ending}
+use Rattle.lil_session.specs.declared.run.Ending.TheVariants as ending
+use Rattle.lil_session.specs.declared.status.Status.{Status}
+use Rattle.lil_session.specs.declared.status.Status.TheVariants as a
+use Rattle.lil_session.specs.Rows.{Translates}
+use Rattle.lil_session.specs.Running.{Finish, Running, finish_of, HasRun, IsCut}
+use Rattle.lil_session.specs.Loaded.{loaded, IsAtBody, body_trap, EndingAnswers}
+use Rattle.lil_session.specs.Outcome.{settled}
+use Rattle.lil_session.specs.Counted.{FinishAnswers, MachineRan, MachineAnswers}
+
+module _ (p : Resolved) (code : List ℕ) (t : Translates p code) (steps : ℕ) (old new : Option (List ℕ)) (w : World) where
+  abbrev start : State
+  start = (loaded p code).state
+
+  -- a run that took its budget or came to its end
+  ran_all : (f : Finish) (s : Status) → HasRun start steps f old new w → FinishAnswers s steps steps f → (f ≡ Running → settled s ≡ true → s ≡ a.StepsSpent) → MachineRan p w steps old new s
+  ran_all f s ran fits spent = record {
+    code = code;
+    translates = t;
+    done = steps;
+    within = omega arith;
+    finish = subst (λ (x : Finish). FinishAnswers s steps steps x) ran.finish fits;
+    shown = λ _. ran.shown;
+    spent = λ goes. spent (ran.finish ∙ goes);
+  }
+
+  pub machine_end : (machine : Machine) (e : Ending) (s : Status) → HasRun start steps (finish_of e) old new w → EndingAnswers machine e s → ((k : TrapKind) → e ≡ ending.Trapped k → (m : Module) × IsAtBody machine m) → MachineAnswers p w steps old new s
+  machine_end machine ending.Done s ran is at =
+      subst (λ (x : Status). MachineAnswers p w steps old new x) (sym is) (ran_all (finish_of ending.Done) a.Done ran refl (λ goes ok. cc))
+  machine_end machine (ending.Trapped k) s ran (inl memory) at =
+      subst (λ (x : Status). MachineAnswers p w steps old new x) (sym memory) (inr (ran_all (finish_of (ending.Trapped k)) a.Memory ran tt (λ goes ok. cc)))
+  machine_end machine (ending.Trapped k) s ran (inr is) at =
+      let body = at k refl in
+      subst (λ (x : Status). MachineAnswers p w steps old new x) (sym (is body.0 body.1)) (ran_all (finish_of (ending.Trapped k)) (a.Trapped (body_trap body.0 k)) ran refl (λ goes ok. cc))
+  machine_end machine (ending.Limited k) s ran is at = absurd is
+  machine_end machine ending.Broken s ran is at = absurd is
+  machine_end machine ending.Spent s ran is at =
+      subst (λ (x : Status). MachineAnswers p w steps old new x) (sym is) (ran_all (finish_of ending.Spent) a.StepsSpent ran (refl, refl) (λ goes ok. refl))
+
+  -- a run that the screen stopped: its request failed
+  pub machine_cut : IsCut start steps old new w → MachineAnswers p w steps old new a.ScreenFault
+  machine_cut cut = record {
+    code = code;
+    translates = t;
+    done = cut.done;
+    within = (let less = cut.within in omega (arith, less));
+    finish = (cut.within, cut.finish);
+    shown = λ differs. absurd (differs refl);
+    spent = λ goes ok. cc;
+  }
+
+-- an answer whose lines failed, or that wanted memory for them, comes from the same run
+module _ (p : Resolved) (w : World) (steps : ℕ) (old new : Option (List ℕ)) where
+  pub ran_settled : (s : Status) → settled s ≡ true → MachineAnswers p w steps old new s → MachineRan p w steps old new s
+  ran_settled a.Done is ran = ran
+  ran_settled (a.Trapped t) is ran = ran
+  ran_settled a.StepsSpent is ran = ran
+  ran_settled a.Usage is ran = absurd ran
+  ran_settled (a.NoFile n) is ran = absurd ran
+  ran_settled (a.SourceFault f) is ran = absurd ran
+  ran_settled (a.LoadRefused r) is ran = absurd ran
+  ran_settled (a.Limit k) is ran = absurd ran
+  ran_settled a.VolumeFault is ran = cc
+  ran_settled a.KeyFault is ran = absurd ran
+  ran_settled a.ScreenFault is ran = cc
+  ran_settled a.ChannelFault is ran = absurd ran
+  ran_settled a.ReportFault is ran = cc
+  ran_settled a.Memory is ran = cc
+  ran_settled (a.BadCode c) is ran = absurd ran
+
+  pub ran_memory : (s : Status) → settled s ≡ true → MachineRan p w steps old new s → MachineRan p w steps old new a.Memory
+  ran_memory s is ran = record {
+    code = ran.code;
+    translates = ran.translates;
+    done = ran.done;
+    within = ran.within;
+    finish = tt;
+    shown = λ _. ran.shown (λ fault. (let e = sym is ∙ ap settled fault in cc));
+    spent = λ goes ok. cc;
+  }

@@ -1,0 +1,44 @@
+-- What the machine did, counted in instructions, and the answer of it.
+use Rattle.std.specs.Prelude.{◌≡◌, ◌≢◌, ◌⊎◌, ℕ, suc, ◌≤◌, true, List, Option}
+use Rattle.lil_tree.specs.Resolved.{Resolved}
+use Rattle.lil_meaning.specs.World.{World}
+use Rattle.lil_volume.specs.Told.{followed_by}
+use Rattle.lil_session.specs.declared.status.Status.{Status}
+use Rattle.lil_session.specs.declared.status.Status.TheVariants as a
+use Rattle.lil_session.specs.Rows.{Translates}
+use Rattle.lil_session.specs.Running.{Finish, Running, Finished, TrappedBy, mrun, running}
+use Rattle.lil_session.specs.Loaded.{loaded}
+use Rattle.lil_session.specs.Outcome.{settled}
+
+-- how far the run has come that an answer speaks of, after the instructions that were done within a budget
+abbrev pub FinishAnswers : Status → ℕ → ℕ → Finish → Type 0
+FinishAnswers a.Done steps done f = f ≡ Finished
+FinishAnswers (a.Trapped t) steps done f = f ≡ TrappedBy t.kind
+FinishAnswers a.StepsSpent steps done f = (done ≡ steps) × (f ≡ Running)
+-- the request at hand failed
+FinishAnswers a.ScreenFault steps done f = (suc done ≤ steps) × (f ≡ Running)
+FinishAnswers a.Memory steps done f = Unit {0}
+FinishAnswers _ steps done f = ⊥
+
+-- What the machine did: a translation of the module was loaded and ran for some instructions within the budget.
+pub record MachineRan (p : Resolved) (w : World) (steps : ℕ) (old new : Option (List ℕ)) (status : Status) : Type 0 where
+  pub code : List ℕ
+  pub translates : Translates p code
+  -- the instructions that were done
+  pub done : ℕ
+  pub within : done ≤ steps
+  pub finish : FinishAnswers status steps done (mrun done (running (loaded p code).state w)).finish
+  pub shown : status ≢ a.ScreenFault → new ≡ followed_by old (mrun done (running (loaded p code).state w)).world.screen
+  -- where the whole budget brings no end, a settled answer is StepsSpent
+  pub spent : (mrun steps (running (loaded p code).state w)).finish ≡ Running → settled status ≡ true → status ≡ a.StepsSpent
+
+-- What the machine did, by the answer of a command that runs a straight text: nothing where the volume failed.
+abbrev pub MachineAnswers : Resolved → World → ℕ → Option (List ℕ) → Option (List ℕ) → Status → Type 0
+MachineAnswers p w steps old new a.Done = MachineRan p w steps old new a.Done
+MachineAnswers p w steps old new (a.Trapped t) = MachineRan p w steps old new (a.Trapped t)
+MachineAnswers p w steps old new a.StepsSpent = MachineRan p w steps old new a.StepsSpent
+MachineAnswers p w steps old new a.ScreenFault = MachineRan p w steps old new a.ScreenFault
+MachineAnswers p w steps old new a.Memory = (new ≡ old) ⊎ MachineRan p w steps old new a.Memory
+MachineAnswers p w steps old new a.VolumeFault = new ≡ old
+MachineAnswers p w steps old new a.ReportFault = (s : Status) × (settled s ≡ true) × MachineRan p w steps old new s
+MachineAnswers p w steps old new _ = ⊥
