@@ -69,11 +69,11 @@ operation_fits Minus t x y z e = kept_fits t _ z e
 
 -- a character's word is in its range, as the machine tests it
 pub chr_cases : (v : Scalar) → within (OfWhole Cardinal) v ≡ true
-    → ((between (pos 0) (whole_of v) (pos 255) ≡ true) × ((nat_le 0 (scalar_word v) && nat_le (scalar_word v) 255) ≡ true) × (word_of (whole_of v) ≡ scalar_word v) × (nat_le (scalar_word v) 255 ≡ true))
-    ⊎ ((between (pos 0) (whole_of v) (pos 255) ≡ false) × ((nat_le 0 (scalar_word v) && nat_le (scalar_word v) 255) ≡ false))
+    → ((between (pos 0) (whole_of v) (pos 255) ≡ true) × (between (pos 0) (pos (scalar_word v)) (pos 255) ≡ true) × (word_of (whole_of v) ≡ scalar_word v) × (nat_le (scalar_word v) 255 ≡ true))
+    ⊎ ((between (pos 0) (whole_of v) (pos 255) ≡ false) × (between (pos 0) (pos (scalar_word v)) (pos 255) ≡ false))
 chr_cases (Number (pos n)) h = by (cases_Bool (nat_lt 255 n))
   where
-    by : (nat_lt 255 n ≡ true) ⊎ (nat_lt 255 n ≡ false) → ((between (pos 0) (pos n) (pos 255) ≡ true) × ((nat_le 0 n && nat_le n 255) ≡ true) × (n ≡ n) × (nat_le n 255 ≡ true)) ⊎ ((between (pos 0) (pos n) (pos 255) ≡ false) × ((nat_le 0 n && nat_le n 255) ≡ false))
+    by : (nat_lt 255 n ≡ true) ⊎ (nat_lt 255 n ≡ false) → ((between (pos 0) (pos n) (pos 255) ≡ true) × (between (pos 0) (pos n) (pos 255) ≡ true) × (n ≡ n) × (nat_le n 255 ≡ true)) ⊎ ((between (pos 0) (pos n) (pos 255) ≡ false) × (between (pos 0) (pos n) (pos 255) ≡ false))
     by (inl e) = inr (grind arith, grind arith)
     by (inr e) = inl (grind arith, grind arith, refl, grind arith)
 chr_cases (Number (negsuc n)) h = cc

@@ -208,13 +208,13 @@ module _ (modules : List Resolved) (l : Layout) (table : List Module) (own : Mod
         fits : within (OfWhole Cardinal) v ≡ true
         fits = ap (λ (j : Kind). within j v) (sym kind) ∙ row.fits
 
-        tests : (b : Bool) → (nat_le 0 (scalar_word v) && nat_le (scalar_word v) 255) ≡ b → mstep m ≡ cond b (Went, going m row.then.end m.stack) (Trap trap.Range, m)
+        tests : (b : Bool) → between (pos 0) (pos (scalar_word v)) (pos 255) ≡ b → mstep m ≡ cond b (Went, going m row.then.end m.stack) (Trap trap.Range, m)
         tests b e =
             at_step modules l table own number h m shared.program (Rgc 0 255) row.then.end row.then.test
-            ∙ ap (λ (x : List ℕ). on_one m x (range_row 0 255 row.then.end m)) row.is
+            ∙ ap (λ (x : List ℕ). on_one m x (range_row Cardinal 0 255 row.then.end m)) row.is
             ∙ ap (λ (c : Bool). let r : Event × State = cond c (Went, going m row.then.end m.stack) (Trap trap.Range, m) in r) e
 
-        good : (between (pos 0) (whole_of v) (pos 255) ≡ true) × ((nat_le 0 (scalar_word v) && nat_le (scalar_word v) 255) ≡ true) × (word_of (whole_of v) ≡ scalar_word v) × (nat_le (scalar_word v) 255 ≡ true) → Goes modules l table own number h s (Value (Scalars v) ∷ Fill (ApplyTo Chr) ∷ k) m
+        good : (between (pos 0) (whole_of v) (pos 255) ≡ true) × (between (pos 0) (pos (scalar_word v)) (pos 255) ≡ true) × (word_of (whole_of v) ≡ scalar_word v) × (nat_le (scalar_word v) 255 ≡ true) → Goes modules l table own number h s (Value (Scalars v) ∷ Fill (ApplyTo Chr) ∷ k) m
         good g =
             let value : function_value Chr v ≡ Ok (Character (word_of (whole_of v))) = yes _ _ _ g.0 in
             goes_one modules l table own number h s (Value (Scalars v) ∷ Fill (ApplyTo Chr) ∷ k) m (running (going m row.then.end m.stack) s.world)
@@ -230,7 +230,7 @@ module _ (modules : List Resolved) (l : Layout) (table : List Module) (own : Mod
               then = row.then.then;
             })))
 
-        bad : (between (pos 0) (whole_of v) (pos 255) ≡ false) × ((nat_le 0 (scalar_word v) && nat_le (scalar_word v) 255) ≡ false) → Goes modules l table own number h s (Value (Scalars v) ∷ Fill (ApplyTo Chr) ∷ k) m
+        bad : (between (pos 0) (whole_of v) (pos 255) ≡ false) × (between (pos 0) (pos (scalar_word v)) (pos 255) ≡ false) → Goes modules l table own number h s (Value (Scalars v) ∷ Fill (ApplyTo Chr) ∷ k) m
         bad g =
             let value : function_value Chr v ≡ Err trap.Range = no _ _ _ g.0 in
             goes_one modules l table own number h s (Value (Scalars v) ∷ Fill (ApplyTo Chr) ∷ k) m _

@@ -1,4 +1,3 @@
-pub mod Decoding
 pub mod Generating
 pub mod Shown
 pub mod Homes
