@@ -13,15 +13,16 @@ use Rattle.lil_tree.specs.declared.resolved.RStmt.{RStmt}
 use Rattle.lil_tree.specs.declared.resolved.RModule.{RModule}
 use Rattle.lil_mcode.specs.declared.instr.Instr.{Instr}
 use Rattle.lil_mcode.specs.declared.instr.Instr.TheVariants.{Liw, Lgw, Sgw, Rgc, Ent, Rtn, Svc}
+use Rattle.lil_mcode.specs.Bytes.{bytes_of, Sayable}
+use Rattle.lil_mcode.proofs.Standing.{HasBytes, appended_has, has_in, get_before, decodes}
 use Rattle.lil_tree.specs.Sizes.{size, depth, statement_size, body_size, code_size, IsSound, IsSoundExpression, IsSoundStatement, IsSoundBody}
 use Rattle.lil_session.specs.Rows.{Span, Layout, offsets_from, layout_of, IsAt, operation_code, StatementAt, BodyAt, Translates}
-use Rattle.lil_session.specs.Emitting.{Emits, bytes_of}
+use Rattle.lil_session.specs.Emitting.{Emits}
 use Rattle.lil_session.specs.Generating.{IsPlain, EmitsExpression, EmitsStatement, EmitsBody, operation_of}
-use Rattle.lil_session.proofs.Decoding.{HasBytes, appended_has, has_in, get_before, decodes}
 
 -- an instruction more
-pub emits_instr : (old new : List ℕ) (i : Instr) → new ≡ old ++ bytes_of i → Emits old new (length (bytes_of i)) (λ final p q. IsAt final p i q)
-emits_instr old new i e =
+pub emits_instr : (old new : List ℕ) (i : Instr) → Sayable i → new ≡ old ++ bytes_of i → Emits old new (length (bytes_of i)) (λ final p q. IsAt final p i q)
+emits_instr old new i says e =
     let longer : length new ≡ length old + length (bytes_of i) = ap length e ∙ length-append old (bytes_of i) in
     let has = subst (λ (code : List ℕ). HasBytes code (length old) (bytes_of i)) (sym e) (appended_has (bytes_of i) old) in
     record {
@@ -29,7 +30,7 @@ emits_instr old new i e =
       kept = λ k from to. ap (λ (code : List ℕ). slice_get code k) e ∙ get_before old (bytes_of i) k to;
       meant = λ final same.
           subst (λ (q : ℕ). IsAt final (length old) i q) (sym longer)
-          (decodes i final (length old) (has_in (bytes_of i) new final (length old) has (λ k from to. same k from (omega arith))));
+          (decodes i final (length old) says (has_in (bytes_of i) new final (length old) has (λ k from to. same k from (omega arith))));
     }
 
 -- nothing more
@@ -58,17 +59,21 @@ emits_as a b m n T U e f t = record {
 
 pub constant_emitted : (k : Kind) (v : Scalar) (old new : List ℕ) → new ≡ old ++ bytes_of (Liw (scalar_word v)) → EmitsExpression old new (Constant k v)
 constant_emitted k v old new e l n plain sound =
-    emits_as old new 3 3 _ _ refl (λ final p q load. record { fits = sound; load = load }) (emits_instr old new (Liw (scalar_word v)) e)
+    emits_as old new 3 3 _ _ refl (λ final p q load. record { fits = sound; load = load }) (emits_instr old new (Liw (scalar_word v)) tt e)
 
 pub variable_emitted : (x : ℕ) (old new : List ℕ) → new ≡ old ++ bytes_of (Lgw x) → EmitsExpression old new (Taken (cardinal_variable x))
 variable_emitted x old new e l n plain sound =
     emits_as old new 3 3 _ _ refl
     (λ final p q load. record { offset = x; known = plain.offset x sound.0; typed = plain.kind x sound.0; load = load })
-    (emits_instr old new (Lgw x) e)
+    (emits_instr old new (Lgw x) tt e)
 
 has_instr : (o : TwoOp) → operation_code o Cardinal ≡ Some (operation_of o)
 has_instr Plus = refl
 has_instr Minus = refl
+
+says_operation : (o : TwoOp) → Sayable (operation_of o)
+says_operation Plus = tt
+says_operation Minus = tt
 
 one_byte : (o : TwoOp) → length (bytes_of (operation_of o)) ≡ 1
 one_byte Plus = refl
@@ -91,13 +96,13 @@ two_emitted o a b c0 c1 c2 c3 left right e l n plain sound =
     })
     (emits_both c0 c2 c3 (size a + size b) (length (bytes_of (operation_of o))) _ _
     (emits_both c0 c1 c2 (size a) (size b) _ _ (left l n plain sound.3) (right l n plain sound.4))
-    (emits_instr c2 c3 (operation_of o) e))
+    (emits_instr c2 c3 (operation_of o) (says_operation o) e))
 
 pub chr_emitted : (a : Expression) (c0 c1 c2 : List ℕ) → EmitsExpression c0 c1 a → c2 ≡ c1 ++ bytes_of (Rgc 0 255) → EmitsExpression c0 c2 (Apply Chr a)
 chr_emitted a c0 c1 c2 value e l n plain sound =
     emits_as c0 c2 (size a + 5) (size a + 5) _ _ refl
     (λ final p q t. record { middle = t.0; typed = sound.0; first = t.1; test = t.2 })
-    (emits_both c0 c1 c2 (size a) 5 _ _ (value l n plain sound.1) (emits_instr c1 c2 (Rgc 0 255) e))
+    (emits_both c0 c1 c2 (size a) 5 _ _ (value l n plain sound.1) (emits_instr c1 c2 (Rgc 0 255) tt e))
 
 pub assign_emitted : (x : ℕ) (a : Expression) (c0 c1 c2 : List ℕ) → EmitsExpression c0 c1 a → c2 ≡ c1 ++ bytes_of (Sgw x) → EmitsStatement c0 c2 (Assign (cardinal_variable x) a)
 assign_emitted x a c0 c1 c2 value e l n plain sound =
@@ -112,7 +117,7 @@ assign_emitted x a c0 c1 c2 value e l n plain sound =
       value = t.1;
       store = t.2;
     })
-    (emits_both c0 c1 c2 (size a) 3 _ _ (value l n plain sound.4) (emits_instr c1 c2 (Sgw x) e))
+    (emits_both c0 c1 c2 (size a) 3 _ _ (value l n plain sound.4) (emits_instr c1 c2 (Sgw x) tt e))
 
 abbrev first_value : Expression → List Argument → Expression
 first_value none [] = none
@@ -132,7 +137,7 @@ write_emitted a c0 c1 c2 value e l n plain sound =
       arguments = record { middle = t.0; typed = typed; shallow = omega (arith, shallow); value = t.1; then = refl };
       by = t.2;
     })
-    (emits_both c0 c1 c2 (size a) 2 _ _ (value l n plain inner) (emits_instr c1 c2 (Svc 2) e))
+    (emits_both c0 c1 c2 (size a) 2 _ _ (value l n plain inner) (emits_instr c1 c2 (Svc 2) tt e))
 
 pub no_body_emitted : (code : List ℕ) → EmitsBody code code []
 no_body_emitted code l n plain sound = emits_none code
@@ -194,8 +199,8 @@ module _ (m : RModule) (c0 c1 c2 c3 : List ℕ) (sound : IsSound (module_of m)) 
   all_emitted =
       let inner = body (layout_of (module_of m)) (length (module_of m).variables) (layout_plain m) sound in
       emits_both c0 c2 c3 (3 + body_size (map statement_of m.body)) 1 _ _
-      (emits_both c0 c1 c2 3 (body_size (map statement_of m.body)) _ _ (emits_instr c0 c1 (Ent 4) entered) inner)
-      (emits_instr c2 c3 Rtn left)
+      (emits_both c0 c1 c2 3 (body_size (map statement_of m.body)) _ _ (emits_instr c0 c1 (Ent 4) tt entered) inner)
+      (emits_instr c2 c3 Rtn tt left)
 
   pub module_translates : Translates (module_of m) c3
   module_translates =

@@ -1,14 +1,13 @@
 //! The code of resolved program modules.
 
-ghost use Rattle.std.specs.Prelude.{◌≡◌, ◌++◌, length, map, OnOk, IfOk};
+ghost use Rattle.std.specs.Prelude.{◌≡◌, length, map, OnOk, IfOk};
 ghost use Rattle.lil_tree.specs.Views.{expression_of, statement_of, module_of};
 ghost use Rattle.lil_tree.specs.Sizes.{IsSound, IsSmall, code_size};
 ghost use Rattle.lil_session.specs.Rows.{Translates};
-ghost use Rattle.lil_session.specs.Emitting.{bytes_of, word_bytes};
 ghost use Rattle.lil_session.specs.Generating.{EmitsExpression, EmitsStatement, EmitsBody, operation_of};
 
 use lil_base::{Bytes, Memory};
-use lil_mcode::Instr;
+use lil_mcode::{Instr, encode};
 use lil_tree::{RExpr, RModule, RStmt, TwoOp};
 use std::alloc::Global;
 
@@ -20,9 +19,9 @@ pub(crate) fn generate(alloc: Global, m: &RModule) -> Result<Bytes, Memory>
     ensures long { IfOk result (λ code. length code ≡ code_size (module_of m.now)) }
 {
     let mut code = Bytes::new(alloc);
-    put(&mut code, Instr::Ent(4))?;
+    encode(&mut code, Instr::Ent(4))?;
     emit_body(&mut code, m.body.as_slice())?;
-    put(&mut code, Instr::Rtn)?;
+    encode(&mut code, Instr::Rtn)?;
     Ok(code)
 }
 
@@ -43,12 +42,12 @@ fn emit_statement(code: &mut Bytes, statement: &RStmt) -> Result<(), Memory>
     match statement {
         RStmt::Assign(variable, value) => {
             emit_expression(code, value)?;
-            put(code, Instr::Sgw(*variable))?;
+            encode(code, Instr::Sgw(*variable))?;
             Ok(())
         }
         RStmt::Write(value) => {
             emit_expression(code, value)?;
-            put(code, Instr::Svc(2))?;
+            encode(code, Instr::Svc(2))?;
             Ok(())
         }
     }
@@ -60,26 +59,26 @@ fn emit_expression(code: &mut Bytes, e: &RExpr) -> Result<(), Memory>
 {
     match e {
         RExpr::Number(number) => {
-            put(code, Instr::Liw(*number))?;
+            encode(code, Instr::Liw(*number))?;
             Ok(())
         }
         RExpr::Character(character) => {
-            put(code, Instr::Liw(u16::from(*character)))?;
+            encode(code, Instr::Liw(u16::from(*character)))?;
             Ok(())
         }
         RExpr::Variable(variable) => {
-            put(code, Instr::Lgw(*variable))?;
+            encode(code, Instr::Lgw(*variable))?;
             Ok(())
         }
         RExpr::Two(operator, left, right) => {
             emit_expression(code, left)?;
             emit_expression(code, right)?;
-            put(code, operation(*operator))?;
+            encode(code, operation(*operator))?;
             Ok(())
         }
         RExpr::Chr(value) => {
             emit_expression(code, value)?;
-            put(code, Instr::Rgc(0, 255))?;
+            encode(code, Instr::Rgc(0, 255))?;
             Ok(())
         }
     }
@@ -93,37 +92,4 @@ fn operation(operator: TwoOp) -> Instr
         TwoOp::Plus => Instr::Adc,
         TwoOp::Minus => Instr::Sbc,
     }
-}
-
-/// Appends an instruction.
-fn put(code: &mut Bytes, instr: Instr) -> Result<(), Memory>
-    ensures { OnOk result (code.new ≡ code.old ++ bytes_of instr) }
-{
-    match instr {
-        Instr::Liw(word) => put_word(code, 0x01, word),
-        Instr::Lgw(offset) => put_word(code, 0x24, offset),
-        Instr::Sgw(offset) => put_word(code, 0x26, offset),
-        Instr::Rgc(low, high) => {
-            put_word(code, 0x39, low)?;
-            code.push((high / 256) as u8)?;
-            code.push((high % 256) as u8)
-        }
-        Instr::Adc => code.push(0x40),
-        Instr::Sbc => code.push(0x41),
-        Instr::Ent(words) => put_word(code, 0x68, words),
-        Instr::Rtn => code.push(0x6a),
-        Instr::Svc(request) => {
-            code.push(0x7d)?;
-            code.push(request)
-        }
-    }
-}
-
-/// Appends an instruction's first byte and a word behind it, the higher byte first.
-fn put_word(code: &mut Bytes, first: u8, word: u16) -> Result<(), Memory>
-    ensures { OnOk result (code.new ≡ code.old ++ word_bytes first word) }
-{
-    code.push(first)?;
-    code.push((word / 256) as u8)?;
-    code.push((word % 256) as u8)
 }

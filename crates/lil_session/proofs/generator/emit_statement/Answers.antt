@@ -5,12 +5,12 @@ use Rattle.lil_session.specs.Generating.{EmitsStatement}
 use Rattle.lil_session.proofs.Generating.{assign_emitted, write_emitted}
 use Rattle.lil_session.proofs.generator.emit_statement.Goals as goal
 
-pub returns-in_ok-put-in-Assign : goal.returns-in_ok-put-in-Assign
-returns-in_ok-put-in-Assign c =
-    subst (λ (s : RStmt). EmitsStatement c.args.code.now c.put.new.code (statement_of s)) (sym c.in-Assign.is)
-    (assign_emitted c.in-Assign.variable (expression_of c.in-Assign.value) _ _ _ c.in_ok-emit_expression-in-Assign.ensures c.in_ok-put-in-Assign.ensures)
+pub returns-in_ok-encode-in-Assign : goal.returns-in_ok-encode-in-Assign
+returns-in_ok-encode-in-Assign c =
+    subst (λ (s : RStmt). EmitsStatement c.args.code.now c.encode.new.code (statement_of s)) (sym c.in-Assign.is)
+    (assign_emitted c.in-Assign.variable (expression_of c.in-Assign.value) _ _ _ c.in_ok-emit_expression-in-Assign.ensures c.in_ok-encode-in-Assign.ensures)
 
-pub returns-in_ok-put-in-Write : goal.returns-in_ok-put-in-Write
-returns-in_ok-put-in-Write c =
-    subst (λ (s : RStmt). EmitsStatement c.args.code.now c.put-in-Write.new.code (statement_of s)) (sym c.in-Write.is)
-    (write_emitted (expression_of c.in-Write.value) _ _ _ c.in_ok-emit_expression-in-Write.ensures c.in_ok-put-in-Write.ensures)
+pub returns-in_ok-encode-in-Write : goal.returns-in_ok-encode-in-Write
+returns-in_ok-encode-in-Write c =
+    subst (λ (s : RStmt). EmitsStatement c.args.code.now c.encode-in-Write.new.code (statement_of s)) (sym c.in-Write.is)
+    (write_emitted (expression_of c.in-Write.value) _ _ _ c.in_ok-emit_expression-in-Write.ensures c.in_ok-encode-in-Write.ensures)

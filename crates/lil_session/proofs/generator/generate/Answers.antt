@@ -7,10 +7,10 @@ use Rattle.lil_session.proofs.generator.generate.Goals as goal
 
 pub returns-clause-translates : goal.returns-clause-translates
 returns-clause-translates c =
-    let body = subst (λ (ss : List RStmt). EmitsBody c.put.new.code c.emit_body.new.code (map statement_of ss)) c.as_slice.ensures c.in_ok-emit_body.ensures in
-    module_translates c.args.m.now _ _ _ _ c.requires.sound c.new-code.ensures c.in_ok-put.ensures body c.in_ok-put-2.ensures
+    let body = subst (λ (ss : List RStmt). EmitsBody c.encode.new.code c.emit_body.new.code (map statement_of ss)) c.as_slice.ensures c.in_ok-emit_body.ensures in
+    module_translates c.args.m.now _ _ _ _ c.requires.sound c.new-code.ensures c.in_ok-encode.ensures body c.in_ok-encode-2.ensures
 
 pub returns-clause-long : goal.returns-clause-long
 returns-clause-long c =
-    let body = subst (λ (ss : List RStmt). EmitsBody c.put.new.code c.emit_body.new.code (map statement_of ss)) c.as_slice.ensures c.in_ok-emit_body.ensures in
-    module_long c.args.m.now _ _ _ _ c.requires.sound c.new-code.ensures c.in_ok-put.ensures body c.in_ok-put-2.ensures
+    let body = subst (λ (ss : List RStmt). EmitsBody c.encode.new.code c.emit_body.new.code (map statement_of ss)) c.as_slice.ensures c.in_ok-emit_body.ensures in
+    module_long c.args.m.now _ _ _ _ c.requires.sound c.new-code.ensures c.in_ok-encode.ensures body c.in_ok-encode-2.ensures
