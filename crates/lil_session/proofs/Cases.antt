@@ -1,16 +1,13 @@
 -- The row of CASE: the table's first entry that has the word is that of the arm with the label.
-use Rattle.std.proofs.Common.{◌≡◌, ℕ, zero, suc, ◌+◌, ◌-◌, ◌*◌, ◌%◌, ◌<◌, ◌≤◌, ℤ, pos, negsuc, ◌+ℤ◌, ◌-ℤ◌, ◌≤ℤ◌, ◌<ℤ◌, int_lt, Bool, true, false, cond, not, ◌&&◌, ◌||◌, Option, None, Some, List, [], ◌∷◌, length, refl, sym, ap, ◌∙◌, subst, arith}
-use Rattle.std.specs.Prelude.{nat_le, slice_get}
+use Rattle.std.proofs.Common.{◌≡◌, ℕ, zero, suc, ◌+◌, ◌-◌, ◌*◌, ◌<◌, ℤ, pos, negsuc, ◌+ℤ◌, ◌-ℤ◌, ◌≤ℤ◌, ◌<ℤ◌, int_lt, Bool, true, false, cond, not, ◌&&◌, ◌||◌, Option, None, Some, List, [], ◌∷◌, length, refl, sym, ap, ◌∙◌, subst, arith}
 use Rattle.std.proofs.lemmas.Int.{ints}
 use Rattle.std.proofs.lemmas.Bool.{lt-ltb, le-leb, lt-leb, leb-true}
 use Rattle.lil_base.specs.Words.{Whole, Cardinal, Integer, least, greatest, between, in_type, word_of}
-use Rattle.lil_base.specs.declared.fault.TrapKind.{TrapKind}
 use Rattle.lil_base.specs.declared.fault.TrapKind.TheVariants as trap
-use Rattle.lil_tree.specs.Kinds.{Kind, OfWhole, OfTruth, OfCharacter, OfEnumeration, OfRange}
+use Rattle.lil_tree.specs.Kinds.{Kind, OfWhole, OfTruth, OfCharacter, OfEnumeration}
 use Rattle.lil_tree.specs.Scalars.{Scalar, Number, Truth, Character, within, scalar_word, scalar_of, ordinal_of}
 use Rattle.lil_tree.specs.Resolved.{Expression, Label, Case, Statements, Arms, NoElse, Else, Arm, Resolved, kind_of}
 use Rattle.lil_tree.specs.Sizes.{is_base, IsSoundLabel}
-use Rattle.lil_meaning.specs.Cells.{loaded_at}
 use Rattle.lil_meaning.specs.Items.{Scalars, Pick, Do, Item, Value, Evaluate, Fill, Perform, doing, Going, Source}
 use Rattle.lil_meaning.specs.Steps.{current, owner_of, name_of, trap_at, trapped, among, picked}
 use Rattle.lil_meaning.specs.Steps as meaning
@@ -22,11 +19,12 @@ use Rattle.lil_mcode.specs.Table.{going, on_one, case_row, chosen_row}
 use Rattle.lil_session.specs.Rows.{Layout, IsAt, BodyAt, EntriesAt, ArmsAt, compared_as}
 use Rattle.lil_session.specs.Running.{running, advanced, react}
 use Rattle.lil_session.proofs.Homes.{yes, Home}
-use Rattle.lil_session.proofs.Matched.{Mode, Quiet, ValueOf, Around, Reach, Rows, HasLoops, Shared, DoRow, PickRow, Goes, IsTrapped, Lands}
+use Rattle.lil_session.proofs.Matched.{Quiet, ValueOf, Around, Reach, Rows, HasLoops, Shared, DoRow, PickRow, Goes, Lands}
 use Rattle.lil_session.proofs.Orders.{instr_within, body_within}
 use Rattle.lil_session.proofs.Closing.{closed}
 use Rattle.lil_session.proofs.Arithmetic.{word_is}
 use Rattle.lil_session.proofs.Steps.{advances, at_step, at_once, rows_jump, rows_ahead, shared_there, lands_on, goes_none, goes_one, goes_after, jumps_to}
+use Rattle.lil_session.proofs.Expressions.{both_trap}
 use Rattle.lil_session.proofs.Control.{body_rows}
 use Rattle.lil_session.proofs.LoopWords.{bounds, in_range}
 
@@ -140,18 +138,6 @@ module _ (l : Layout) (code : List ℕ) (n : ℕ) (around : Option ℕ) (k : Kin
       by_label after false r = subst (λ (o : Option ℕ). Reached (meaning.chosen rest z) o) (sym r.3) (after r.0 r.1 r.2)
 
 module _ (modules : List Resolved) (l : Layout) (table : List Module) (own : Module) (number : ℕ) (h : Home) where
-  -- a trap that both sides give: the meaning names the module at hand
-  both_trap : (s : Source) (k : List Item) (m : State) (kind : TrapKind) → Shared l table own number h s m → current k ≡ 0
-      → IsTrapped l table own number h modules (trap_at modules (record s { items = k; phase = Going }) kind) (trapped modules (record s { items = k; phase = Going }) kind) (react (Trap kind) m (running m s.world))
-  both_trap s k m kind shared close = record {
-    finish = refl;
-    world = refl;
-    name =
-        ap (λ (n : ℕ). name_of (loaded_at modules n))
-        (ap (λ (a : ℕ). owner_of (slice_get s.activations a)) close ∙ shared.owner);
-    procedure = refl;
-  }
-
   module _ (s : Source) (k : List Item) (m : State) (c : ℕ) (a : Around) (shared : Shared l table own number h s m) (loops : HasLoops l table own number h m.frame m.store a.loops) where
     abbrev Rest : Reach
     Rest = Rows l table own number h k
@@ -257,7 +243,7 @@ module _ (modules : List Resolved) (l : Layout) (table : List Module) (own : Mod
             (goes_one modules l table own number h s items n (c + 30) c (react (Trap trap.Case) n (running n s.world))
             (advances n s.world _ (at_step modules l table own number h n there.program (Trp 7) gap trap_there))
             (subst (λ (b : Option Statements). Lands l table own number h modules (picked modules b k out).phase (picked modules b k out) (react (Trap trap.Case) n (running n s.world)) c) (sym e)
-            (both_trap out items n trap.Case there (closed l table own number h k _ _ _ _ _ row.then)))
+            (both_trap modules l table own number h out items n trap.Case there (closed l table own number h k _ _ _ _ _ row.then)))
             (omega arith))
             (omega arith))
             (omega arith)
