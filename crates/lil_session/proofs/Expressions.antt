@@ -9,9 +9,10 @@ use Rattle.lil_tree.specs.declared.operator.OneOp.TheVariants as one
 use Rattle.lil_tree.specs.declared.operator.TwoOp.{TwoOp}
 use Rattle.lil_tree.specs.Kinds.{Kind, OfWhole, OfTruth, OfCharacter, base_of}
 use Rattle.lil_tree.specs.Scalars.{Scalar, Truth, within, scalar_word}
-use Rattle.lil_tree.specs.Resolved.{Variable, Function, Abs, Cap, Chr, Odd, Ord, Val, Expression, Constant, Taken, One, Two, Both, Either, Apply, Resolved, is_relation, result_kind}
+use Rattle.lil_tree.specs.Resolved.{Variable, Function, Abs, Cap, Chr, Odd, Ord, Val, Expression, Constant, Taken, One, Two, Both, Either, Apply, Resolved, kind_of, is_relation, result_kind}
+use Rattle.lil_tree.specs.Sizes.{depth}
 use Rattle.lil_meaning.specs.Cells.{Global, Place, got, loaded_at}
-use Rattle.lil_meaning.specs.Items.{Scalars, Places, Get, OneOf, LeftOf, RightOf, BothOf, EitherOf, ApplyTo, Item, Value, Evaluate, PlaceOf, Fill, Going, Source}
+use Rattle.lil_meaning.specs.Items.{Scalars, Places, Hole, Get, OneOf, LeftOf, RightOf, BothOf, EitherOf, ApplyTo, Item, Value, Evaluate, PlaceOf, Fill, Going, Source}
 use Rattle.lil_meaning.specs.Steps.{next, answered, with_items, applied, one_applied, function_value, current, owner_of, name_of, trapped, trap_at}
 use Rattle.lil_mcode.specs.declared.instr.Instr.{Instr}
 use Rattle.lil_mcode.specs.declared.instr.Instr.TheVariants.{Liw, Lgw, Rgc, Jan, Jor}
@@ -19,10 +20,10 @@ use Rattle.lil_mcode.specs.declared.machine.Event.{Event}
 use Rattle.lil_mcode.specs.declared.machine.Event.TheVariants.{Went, Trap}
 use Rattle.lil_mcode.specs.State.{Module, State}
 use Rattle.lil_mcode.specs.Table.{mstep, act, going, jump, push_row, on_one, and_row, or_row}
-use Rattle.lil_session.specs.Rows.{Layout, InstrsAt, one_code, two_code}
+use Rattle.lil_session.specs.Rows.{Layout, InstrsAt, ExpressionAt, one_code, two_code}
 use Rattle.lil_session.specs.Running.{running, react}
 use Rattle.lil_session.proofs.Homes.{yes, Home}
-use Rattle.lil_session.proofs.Matched.{Mode, Quiet, ValueOf, Direct, Around, Reach, AfterJumps, Rows, HasLoops, Shared, EvaluateRow, PlaceRow, OneRow, LeftRow, RightRow, ShortRow, ChrRow, ApplyRow, GetRow, IsVariable, Goes, IsTrapped, Lands}
+use Rattle.lil_session.proofs.Matched.{Mode, Quiet, ValueOf, Direct, Around, Reach, AfterJumps, Rows, HasLoops, Shared, EvaluateRow, PlaceRow, OneRow, LeftRow, RightRow, ShortRow, ChrRow, ApplyRow, GetRow, IsVariable, HoleRow, value_weight, hole_weight, weight, Goes, IsTrapped, Lands}
 use Rattle.lil_session.proofs.Steps.{advances, pushes, at_step, at_once, shared_there, lands_on, goes_none, goes_one, goes_after}
 use Rattle.lil_session.proofs.Orders.{instr_within, instrs_order, instrs_within, expression_stands, expression_within}
 use Rattle.lil_session.proofs.Closing.{closed}
@@ -111,112 +112,78 @@ module _ (modules : List Resolved) (l : Layout) (table : List Module) (own : Mod
         (omega arith)
         (omega arith)
 
+    -- an expression whose operand comes first, and then a hole
+    operand_goes : (x e : Expression) (o : Hole) → next modules (Now (Evaluate x ∷ k)) ≡ Now (Evaluate e ∷ Fill o ∷ k) → value_weight e + hole_weight o < value_weight x
+        → (middle : ℕ) → ExpressionAt l own.code e m.place middle → length m.stack + depth e ≤ 16 → middle < length own.code → HoleRow l table own number h o Rest (ValueOf (kind_of e)) middle m.stack c a
+        → Goes modules l table own number h s (Evaluate x ∷ k) m (c + 32)
+    operand_goes x e o becomes lighter middle here shallow within row =
+        goes_none modules l table own number h s (Evaluate x ∷ k) m (c + 32) c
+        (subst (λ (y : Source). Lands l table own number h modules y.phase y (running m s.world) c) (sym becomes)
+        (lands_on modules l table own number h s m shared (Evaluate e ∷ Fill o ∷ k) m.place m.stack c a loops
+        (once (record { quiet = refl; end = middle; here = here; shallow = shallow; within = within; then = once row }))))
+        (omega arith)
+        (subst (λ (y : Source). weight y.items < weight (Evaluate x ∷ k)) (sym becomes) (omega (arith, lighter)))
+
     pub one_goes : (o : OneOp) (j : Kind) (e : Expression) → EvaluateRow l table own number (One o j e) Rest Quiet m.place m.stack c a → Goes modules l table own number h s (Evaluate (One o j e) ∷ k) m (c + 32)
     one_goes o j e row =
         let first = expression_stands l own.code e m.place row.here.middle row.here.first in
         let by = instrs_order own.code (one_code o j) row.here.middle row.end row.here.by first.1 in
-        goes_none modules l table own number h s (Evaluate (One o j e) ∷ k) m (c + 32) c
-        (lands_on modules l table own number h s m shared (Evaluate e ∷ Fill (OneOf o j) ∷ k) m.place m.stack c a loops
-        (once (record {
-          quiet = refl;
-          end = row.here.middle;
-          here = row.here.first;
-          shallow = row.shallow;
-          within = omega (arith, by.0, row.within);
-          then = once (record { mode = ap ValueOf row.here.typed; takes = row.here.takes; end = row.end; by = row.here.by; then = row.then });
-        })))
-        (omega arith)
-        (omega arith)
+        operand_goes (One o j e) e (OneOf o j) refl (omega arith) row.here.middle row.here.first row.shallow (omega (arith, by.0, row.within))
+        (record { mode = ap ValueOf row.here.typed; takes = row.here.takes; end = row.end; by = row.here.by; then = row.then })
 
     pub two_goes : (o : TwoOp) (j : Kind) (e f : Expression) → EvaluateRow l table own number (Two o j e f) Rest Quiet m.place m.stack c a → Goes modules l table own number h s (Evaluate (Two o j e f) ∷ k) m (c + 32)
     two_goes o j e f row =
-        goes_none modules l table own number h s (Evaluate (Two o j e f) ∷ k) m (c + 32) c
-        (lands_on modules l table own number h s m shared (Evaluate e ∷ Fill (LeftOf o j f) ∷ k) m.place m.stack c a loops
-        (once (record {
-          quiet = refl;
-          end = row.here.middle;
-          here = row.here.first;
+        operand_goes (Two o j e f) e (LeftOf o j f) refl (omega arith) row.here.middle row.here.first (omega (arith, row.shallow))
+        (expression_within l own.code f row.here.middle row.here.last row.here.second)
+        (record {
+          mode = ap ValueOf row.here.left_typed;
+          takes = row.here.takes;
+          typed = row.here.right_typed;
+          middle = row.here.last;
+          end = row.end;
+          here = row.here.second;
           shallow = omega (arith, row.shallow);
-          within = expression_within l own.code f row.here.middle row.here.last row.here.second;
-          then = once (record {
-            mode = ap ValueOf row.here.left_typed;
-            takes = row.here.takes;
-            typed = row.here.right_typed;
-            middle = row.here.last;
-            end = row.end;
-            here = row.here.second;
-            shallow = omega (arith, row.shallow);
-            by = row.here.by;
-            then = row.then;
-          });
-        })))
-        (omega arith)
-        (omega arith)
+          by = row.here.by;
+          then = row.then;
+        })
 
     pub both_goes : (e f : Expression) → EvaluateRow l table own number (Both e f) Rest Quiet m.place m.stack c a → Goes modules l table own number h s (Evaluate (Both e f) ∷ k) m (c + 32)
     both_goes e f row =
-        goes_none modules l table own number h s (Evaluate (Both e f) ∷ k) m (c + 32) c
-        (lands_on modules l table own number h s m shared (Evaluate e ∷ Fill (BothOf f) ∷ k) m.place m.stack c a loops
-        (once (record {
-          quiet = refl;
-          end = row.here.middle;
-          here = row.here.first;
+        operand_goes (Both e f) e (BothOf f) refl (omega arith) row.here.middle row.here.first (omega (arith, row.shallow))
+        (instr_within own.code row.here.middle (Jan row.end) row.here.start row.here.test)
+        (record {
+          mode = ap ValueOf row.here.left_typed;
+          typed = row.here.right_typed;
+          start = row.here.start;
+          end = row.end;
+          by = row.here.test;
+          here = row.here.second;
           shallow = omega (arith, row.shallow);
-          within = instr_within own.code row.here.middle (Jan row.end) row.here.start row.here.test;
-          then = once (record {
-            mode = ap ValueOf row.here.left_typed;
-            typed = row.here.right_typed;
-            start = row.here.start;
-            end = row.end;
-            by = row.here.test;
-            here = row.here.second;
-            shallow = omega (arith, row.shallow);
-            within = row.within;
-            then = row.then;
-          });
-        })))
-        (omega arith)
-        (omega arith)
+          within = row.within;
+          then = row.then;
+        })
 
     pub either_goes : (e f : Expression) → EvaluateRow l table own number (Either e f) Rest Quiet m.place m.stack c a → Goes modules l table own number h s (Evaluate (Either e f) ∷ k) m (c + 32)
     either_goes e f row =
-        goes_none modules l table own number h s (Evaluate (Either e f) ∷ k) m (c + 32) c
-        (lands_on modules l table own number h s m shared (Evaluate e ∷ Fill (EitherOf f) ∷ k) m.place m.stack c a loops
-        (once (record {
-          quiet = refl;
-          end = row.here.middle;
-          here = row.here.first;
+        operand_goes (Either e f) e (EitherOf f) refl (omega arith) row.here.middle row.here.first (omega (arith, row.shallow))
+        (instr_within own.code row.here.middle (Jor row.end) row.here.start row.here.test)
+        (record {
+          mode = ap ValueOf row.here.left_typed;
+          typed = row.here.right_typed;
+          start = row.here.start;
+          end = row.end;
+          by = row.here.test;
+          here = row.here.second;
           shallow = omega (arith, row.shallow);
-          within = instr_within own.code row.here.middle (Jor row.end) row.here.start row.here.test;
-          then = once (record {
-            mode = ap ValueOf row.here.left_typed;
-            typed = row.here.right_typed;
-            start = row.here.start;
-            end = row.end;
-            by = row.here.test;
-            here = row.here.second;
-            shallow = omega (arith, row.shallow);
-            within = row.within;
-            then = row.then;
-          });
-        })))
-        (omega arith)
-        (omega arith)
+          within = row.within;
+          then = row.then;
+        })
 
     pub apply_goes : (f : Function) (e : Expression) → EvaluateRow l table own number (Apply f e) Rest Quiet m.place m.stack c a → Goes modules l table own number h s (Evaluate (Apply f e) ∷ k) m (c + 32)
     apply_goes Chr e row =
-        goes_none modules l table own number h s (Evaluate (Apply Chr e) ∷ k) m (c + 32) c
-        (lands_on modules l table own number h s m shared (Evaluate e ∷ Fill (ApplyTo Chr) ∷ k) m.place m.stack c a loops
-        (once (record {
-          quiet = refl;
-          end = row.here.middle;
-          here = row.here.first;
-          shallow = row.shallow;
-          within = instr_within own.code row.here.middle (Rgc 0 255) row.end row.here.test;
-          then = once (record { mode = ap ValueOf row.here.typed; end = row.end; test = row.here.test; then = row.then });
-        })))
-        (omega arith)
-        (omega arith)
+        operand_goes (Apply Chr e) e (ApplyTo Chr) refl (omega arith) row.here.middle row.here.first row.shallow
+        (instr_within own.code row.here.middle (Rgc 0 255) row.end row.here.test)
+        (record { mode = ap ValueOf row.here.typed; end = row.end; test = row.here.test; then = row.then })
     apply_goes (Abs t) e row = absurd row.here
     apply_goes Cap e row = absurd row.here
     apply_goes Odd e row = absurd row.here

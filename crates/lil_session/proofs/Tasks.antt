@@ -47,8 +47,7 @@ module _ (l : Layout) (table : List Module) (own : Module) (number : ℕ) (h : H
   loops_stored [] has = tt
   loops_stored (w ∷ ws) has =
       let n : ℕ = loop_place (length ws) in
-      let room : n + 3 ≤ l.frame = has.0 in
-      (
+      let room : n + 3 ≤ l.frame = has.0 in (
         room,
         frame_word n (m.frame + n) refl (omega arith) (omega arith) ∙ has.1,
         frame_word (n + 1) (m.frame + n + 1) (omega arith) (omega arith) (omega arith) ∙ has.2,
