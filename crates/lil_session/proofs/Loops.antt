@@ -1,5 +1,5 @@
 -- The rows of FOR.
-use Rattle.std.proofs.Common.{◌≡◌, ℕ, zero, suc, ◌+◌, ◌-◌, ◌%◌, ◌<◌, ◌≤◌, ℤ, ◌+ℤ◌, Bool, true, not, cond, List, [], ◌∷◌, length, get_or, set, refl, sym, ap, ◌∙◌, subst, inl, inr, ⊎_elim, arith, length-set}
+use Rattle.std.proofs.Common.{◌≡◌, ℕ, zero, suc, ◌+◌, ◌-◌, ◌%◌, ◌<◌, ◌≤◌, ℤ, ◌+ℤ◌, Bool, true, not, cond, List, [], ◌∷◌, length, get_or, set, refl, sym, ap, ◌∙◌, subst, inl, inr, arith, length-set}
 use Rattle.std.specs.Prelude.{nat_lt, slice_get}
 use Rattle.std.proofs.lemmas.Bool.{lt-ltb, ne_eqb, and_from}
 use Rattle.std.proofs.lemmas.List.{get_or-set_same, get_or-set_other}
@@ -20,7 +20,7 @@ use Rattle.lil_mcode.specs.Table.{mstep, going, push_row, on_three, loop_row, be
 use Rattle.lil_session.specs.Rows.{Layout, IsAt, BodyAt, RoundRow, loop_place, loop_sign}
 use Rattle.lil_session.specs.Running.{running, advanced}
 use Rattle.lil_session.proofs.Homes.{yes, no, Home, Of, Own, Free, Mem, mem_stored}
-use Rattle.lil_session.proofs.Matched.{Quiet, ValueOf, LoopWords, Around, Reach, TurnsFit, Rows, HasFrame, HasLoops, Shared, DoRow, StartRow, LimitRow, BeginRow, NextRow, TurnsTask, IsVariable, Goes, Lands}
+use Rattle.lil_session.proofs.Matched.{Quiet, ValueOf, LoopWords, Around, Reach, TurnsFit, Rows, HasFrame, HasLoops, Shared, DoRow, StartRow, LimitRow, BeginRow, NextRow, IsVariable, Goes, Lands}
 use Rattle.lil_session.proofs.Orders.{instr_within, expression_within}
 use Rattle.lil_session.proofs.Closing.{closed}
 use Rattle.lil_session.proofs.Steps.{advances, pushes, at_step, at_once, rows_ahead, lands_on, goes_none, goes_one, goes_after}
@@ -466,8 +466,3 @@ module _ (modules : List Resolved) (l : Layout) (table : List Module) (own : Mod
             )
             row.empty fit (omega (arith, small)) row.end row.round row.within row.then)
             (omega arith)
-
-    -- the turns begin, or go on
-    pub turns_go : (x : ℕ) (kind : Kind) (z step : ℤ) (left : ℕ) (body : Statements) → TurnsTask l table own number (Variable x kind) z step left body Left Quiet m.place m.stack c a
-        → Goes modules l table own number h s (Perform (Turns (Variable x kind) z step left body) ∷ k) m (c + 32)
-    turns_go x kind z step left body row = ⊎_elim (begin_goes x kind z step left body) (next_goes x kind z step left body) row
