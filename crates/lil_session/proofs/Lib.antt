@@ -1,4 +1,4 @@
-pub mod Decoding
+pub mod Appending
 pub mod Generating
 pub mod Shown
 pub mod Homes

@@ -1,5 +1,5 @@
 -- The translation table: which bytes from one place to another are a translation of a part. It has one row for each construct.
-use Rattle.std.specs.Prelude.{◌≡◌, ℕ, suc, ◌+◌, ◌*◌, ◌≤◌, ℤ, ◌≤ℤ◌, true, List, [], ◌∷◌, length, Option, Some, None, slice_get}
+use Rattle.std.specs.Prelude.{◌≡◌, ℕ, zero, suc, ◌+◌, ◌*◌, ◌≤◌, ℤ, ◌≤ℤ◌, true, List, [], ◌∷◌, length, Option, Some, None, slice_get}
 use Rattle.lil_base.specs.Words.{Whole, Cardinal, Integer, word_of}
 use Rattle.lil_tree.specs.declared.operator.OneOp.{OneOp}
 use Rattle.lil_tree.specs.declared.operator.OneOp.TheVariants as one
@@ -244,7 +244,7 @@ Arming = ℕ → ℕ → ℕ → Type 0
 -- an entry for each label, and then the others
 abbrev pub EntriesAt : List ℕ → Kind → List Label → ℕ → (ℕ → ℕ → Type 0) → ℕ → ℕ → Type 0
 EntriesAt code k [] to rest t w = rest t w
-EntriesAt code k (label ∷ labels) to rest t 0 = ⊥
+EntriesAt code k (label ∷ labels) to rest t zero = ⊥
 EntriesAt code k (label ∷ labels) to rest t (suc w) = EntryRow code k label to t × EntriesAt code k labels to rest (t + 6) w
 
 -- an arm, and a jump to the exit
@@ -276,16 +276,16 @@ pub record CaseRow (l : Layout) (code : List ℕ) (e : Expression) (arms : ℕ �
   pub middle : ℕ
   pub exit : ℕ
   pub start : ℕ
-  pub table : ℕ
+  pub choices : ℕ
   pub entries : ℕ
   pub count : ℕ
   pub other : ℕ
   pub base : is_base (kind_of e) ≡ true
   pub value : WholeRow l code 0 e (kind_of e) p middle
-  pub dispatch : IsAt code middle (Jmp table) exit
+  pub dispatch : IsAt code middle (Jmp choices) exit
   pub leave : IsAt code exit (Jmp q) start
   pub bodies : arms exit other start entries count
-  pub choice : IsAt code table (Cas count other) entries
+  pub choice : IsAt code choices (Cas count other) entries
   pub whole : q ≡ entries + 6 * count
 
 -- the first of the three words of a FOR with n others around it, in the frame
