@@ -6,3 +6,4 @@ mod fault;
 mod kinds;
 mod operand;
 mod reader;
+mod statement;
