@@ -1,5 +1,6 @@
 -- How a text is cut: one way, and up to one place.
-use Rattle.std.proofs.Common.{◌≡◌, ℕ, ◌<◌, ◌≤◌, List, [], ◌∷◌, ◌++◌, length, take, drop, Option, Some, None, Result, Ok, Err, refl, ap, sym, subst, ◌∙◌, arith, length-append, length-drop, ◌-◌, ◌⊎◌, inl, inr, IfOk}
+use Rattle.std.proofs.Common.{◌≡◌, ℕ, zero, suc, ◌<◌, ◌≤◌, List, [], ◌∷◌, ◌++◌, length, take, drop, Option, Some, None, Result, Ok, Err, refl, ap, sym, subst, ◌∙◌, arith, length-append, length-drop, ◌-◌, ◌⊎◌, inl, inr, IfOk, ⊎_elim}
+use Rattle.std.proofs.lemmas.Bool.{cases_lt}
 use Rattle.std.proofs.lemmas.List.{take_at, take_all, drop_at}
 use Rattle.lil_base.specs.declared.fault.Place.{Place}
 use Rattle.lil_base.specs.declared.fault.SourceFault.{SourceFault}
@@ -114,6 +115,24 @@ never_both (whole short cut) (stopped {place = q} {f = f} short' cut' h) =
     let x = cut_same cut cut' no_text (at_fault h) in
     let both = ap (λ (text : List ℕ). spec.piece text q) x.lefts ∙ fault_again h in
     nothing_fails q f both
+
+-- ---- a text has tokens or a fault
+abbrev pub Either : List ℕ → Type 0
+Either text = ((ts : List Token) × HasTokens text ts) ⊎ ((f : SourceFault) × HasLexicalFault text f)
+
+cut_on : (text : List ℕ) → length text ≤ longest_text → (n : ℕ) (q : Place) (left : List ℕ) (ts : List Token) → length left ≤ n → CutsTo start text ts q left → Either text
+cut_on text short n q [] ts h cut = inl (finished ts q, whole short cut)
+cut_on text short zero q (b ∷ bs) ts h cut = absurd (omega (arith, h))
+cut_on text short (suc n) q (b ∷ bs) ts h cut = go (spec.piece (b ∷ bs) q) (piece_right b bs q) (λ r rest us less cut. cut_on text short n r rest us less cut)
+  where
+    go : (o : Result Piece SourceFault) → Right q (b ∷ bs) o → ((r : Place) (rest : List ℕ) (us : List Token) → length rest ≤ n → CutsTo start text us r rest → Either text) → Either text
+    go (Err f) is later = inr (f, stopped short cut is)
+    go (Ok y) x later =
+        later (behind q x.front) x.rest (ts ++ before q y.what []) (omega (arith, h, ap length x.cut, length-append x.front x.rest, some_bytes x.is))
+        (cut_more x.front x.rest y.what cut x.cut x.is)
+
+pub tokens_or_fault : (text : List ℕ) → Either text
+tokens_or_fault text = ⊎_elim (λ over. inr (fault 65 start, too_long over)) (λ short. cut_on text short (length text) start text [] (omega arith) here) (cases_lt longest_text (length text))
 
 -- ---- what a reading owes
 abbrev pub Finds : List ℕ → Result (List Token) ReadStop → Type 0

@@ -8,6 +8,8 @@ use lil_base::{Items, Memory, Place, Text};
 use lil_tree::{ReadStop, Token, TokenKind, Tokens};
 use std::alloc::Global;
 
+const TEXT_TOO_LONG: u8 = 65;
+
 const LONGEST_TEXT: usize = 262_144;
 
 const START: Place = Place {
@@ -55,7 +57,7 @@ pub fn tokens(alloc: Global, t: &Text) -> Result<Tokens, ReadStop>
     ensures exact { (f : SourceFault) → HasLexicalFault t.now f → (result ≡ Err (ReadStop.Fault f)) ⊎ (result ≡ Err ReadStop.Memory) }
 {
     if LONGEST_TEXT < t.len() {
-        return Err(stop(65, START));
+        return Err(stop(TEXT_TOO_LONG, START));
     }
     cut(alloc, t.as_slice())
 }

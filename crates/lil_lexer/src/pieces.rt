@@ -16,6 +16,14 @@ use lil_base::{Name, Place, SourceFault, Text};
 use lil_tree::{Mark, ReadStop, TokenKind, Word};
 use std::alloc::Global;
 
+const BAD_CHAR: u8 = 1;
+
+const OPEN_COMMENT: u8 = 2;
+
+const OPEN_STRING: u8 = 3;
+
+const NAME_TOO_LONG: u8 = 6;
+
 /// What a text begins with: a token, or none for a blank or a comment, and how many bytes it takes.
 #[derive(Drop)]
 pub(crate) struct Piece {
@@ -112,7 +120,7 @@ fn comment_piece(inside: &[u8], place: Place) -> Result<Piece, ReadStop>
     ensures { Reads (spec.comment_piece place (spec.comment_len inside.now)) result }
 {
     match comment_len(inside) {
-        None => Err(stop(2, place)),
+        None => Err(stop(OPEN_COMMENT, place)),
         Some(len) => skipped(len + 2),
     }
 }
@@ -124,7 +132,7 @@ fn name_piece(alloc: Global, name: &[u8], place: Place) -> Result<Piece, ReadSto
     match word_of(name) {
         Some(word) => token(TokenKind::Word(word), name.len()),
         None => match Name::of_slice(alloc, name)? {
-            None => Err(stop(6, place)),
+            None => Err(stop(NAME_TOO_LONG, place)),
             Some(ident) => token(TokenKind::Ident(ident), name.len()),
         },
     }
@@ -146,7 +154,7 @@ fn line_piece(alloc: Global, mark: u8, line: &[u8], place: Place) -> Result<Piec
 {
     let good = string_len(mark, line);
     if good < line.len() {
-        return Err(stop(1, behind(after_byte(place, mark), &line[..good])));
+        return Err(stop(BAD_CHAR, behind(after_byte(place, mark), &line[..good])));
     }
     token(
         TokenKind::Chars(Text::from_slice(alloc, line)?),
@@ -161,7 +169,7 @@ fn string_piece(alloc: Global, mark: u8, inner: &[u8], place: Place) -> Result<P
 {
     let len = line_len(mark, inner);
     if !begins_with(mark, &inner[len..]) {
-        return Err(stop(3, place));
+        return Err(stop(OPEN_STRING, place));
     }
     line_piece(alloc, mark, &inner[..len], place)
 }
@@ -218,7 +226,7 @@ fn single_piece(b: u8, place: Place) -> Result<Piece, ReadStop>
     ensures { Reads (spec.single_piece place (lexical.single b)) result }
 {
     match single(b) {
-        None => Err(stop(1, place)),
+        None => Err(stop(BAD_CHAR, place)),
         Some(what) => token(what, 1),
     }
 }

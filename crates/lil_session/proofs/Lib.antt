@@ -1,3 +1,4 @@
+pub mod Appending
 pub mod Generating
 pub mod Shown
 pub mod Homes
@@ -11,6 +12,7 @@ pub mod Expressions
 pub mod Tasks
 pub mod Control
 pub mod Exits
+pub mod LoopWords
 pub mod Cases
 pub mod Loops
 pub mod Each

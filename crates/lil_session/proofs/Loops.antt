@@ -1,5 +1,5 @@
 -- The rows of FOR.
-use Rattle.std.proofs.Common.{◌≡◌, ℕ, zero, suc, ◌+◌, ◌-◌, ◌%◌, ◌<◌, ◌≤◌, ℤ, ◌+ℤ◌, Bool, true, not, cond, List, [], ◌∷◌, length, get_or, set, refl, sym, ap, ◌∙◌, subst, inl, inr, ⊎_elim, arith, length-set}
+use Rattle.std.proofs.Common.{◌≡◌, ℕ, zero, suc, ◌+◌, ◌-◌, ◌%◌, ◌<◌, ◌≤◌, ℤ, ◌+ℤ◌, Bool, true, not, cond, List, [], ◌∷◌, length, get_or, set, refl, sym, ap, ◌∙◌, subst, inl, inr, arith, length-set}
 use Rattle.std.specs.Prelude.{nat_lt, slice_get}
 use Rattle.std.proofs.lemmas.Bool.{lt-ltb, ne_eqb, and_from}
 use Rattle.std.proofs.lemmas.List.{get_or-set_same, get_or-set_other}
@@ -20,7 +20,7 @@ use Rattle.lil_mcode.specs.Table.{mstep, going, push_row, on_three, loop_row, be
 use Rattle.lil_session.specs.Rows.{Layout, IsAt, BodyAt, RoundRow, loop_place, loop_sign}
 use Rattle.lil_session.specs.Running.{running, advanced}
 use Rattle.lil_session.proofs.Homes.{yes, no, Home, Of, Own, Free, Mem, mem_stored}
-use Rattle.lil_session.proofs.Matched.{Quiet, ValueOf, LoopWords, Around, Reach, TurnsFit, Rows, HasFrame, HasLoops, Shared, DoRow, StartRow, LimitRow, BeginRow, NextRow, TurnsTask, IsVariable, Goes, Lands}
+use Rattle.lil_session.proofs.Matched.{Quiet, ValueOf, LoopWords, Around, Reach, TurnsFit, Rows, HasFrame, HasLoops, Shared, DoRow, StartRow, LimitRow, BeginRow, NextRow, IsVariable, Goes, Lands}
 use Rattle.lil_session.proofs.Orders.{instr_within, expression_within}
 use Rattle.lil_session.proofs.Closing.{closed}
 use Rattle.lil_session.proofs.Steps.{advances, pushes, at_step, at_once, rows_ahead, lands_on, goes_none, goes_one, goes_after}
@@ -81,8 +81,7 @@ module _ (l : Layout) (table : List Module) (own : Module) (number : ℕ) (h : H
       let q : ℕ = frame + loop_place (length ws) in
       let first : q ≡ p → ⊥ = λ e. omega (arith, above, e) in
       let second : q + 1 ≡ p → ⊥ = λ e. omega (arith, above, e) in
-      let third : q + 2 ≡ p → ⊥ = λ e. omega (arith, above, e) in
-      (
+      let third : q + 2 ≡ p → ⊥ = λ e. omega (arith, above, e) in (
         has.0,
         get_or-set_other store p q x 0 first ∙ has.1,
         get_or-set_other store p (q + 1) x 0 second ∙ has.2,
@@ -385,8 +384,7 @@ module _ (modules : List Resolved) (l : Layout) (table : List Module) (own : Mod
             goes_after modules l table own number h s (Perform (Turns (Variable x kind) first step (suc u) body) ∷ k) m stepped (c + 32) (c + 31) pushed
             (goes_after modules l table own number h s (Perform (Turns (Variable x kind) first step (suc u) body) ∷ k) stepped begun (c + 31) (c + 28)
             (advances stepped s.world _ (enters (suc u) e))
-            (turn_goes s k begun c a (shared_stored l table own number h s m shared row.turns.turn [] three kept.mem) x kind row.type row.is first step u body
-            (
+            (turn_goes s k begun c a (shared_stored l table own number h s m shared row.turns.turn [] three kept.mem) x kind row.type row.is first step u body (
               room,
               get_or-set_other two (at + 2) at (word_of step) 0 first_third ∙ get_or-set_other one (at + 1) at u 0 first_second ∙ get_or-set_same m.store at (word_of first) 0 (omega (arith, deep, shared.mem.long)),
               get_or-set_other two (at + 2) (at + 1) (word_of step) 0 second_third ∙ get_or-set_same one (at + 1) u 0 (omega (arith, deep, long_one)),
@@ -459,8 +457,7 @@ module _ (modules : List Resolved) (l : Layout) (table : List Module) (own : Mod
             ∙ ap (λ (st : List ℕ). let r : Event × State = (Went, record m { place = row.turn; store = st }) in r)
             (ap (λ (w : ℕ). set (set m.store (at + 1) w) at ((row.words.now + word_of step) % 65536)) fewer ∙ ap (set one at) sum)
             ))
-            (turn_goes s k turning c row.outer (shared_stored l table own number h s m shared row.turn m.stack two kept.mem) x kind row.type row.is z step u body
-            (
+            (turn_goes s k turning c row.outer (shared_stored l table own number h s m shared row.turn m.stack two kept.mem) x kind row.type row.is z step u body (
               room,
               get_or-set_same one at (word_of z) 0 (omega (arith, deep, long_one)),
               get_or-set_other one at (at + 1) (word_of z) 0 second_first ∙ get_or-set_same m.store (at + 1) u 0 (omega (arith, deep, shared.mem.long)),
@@ -469,8 +466,3 @@ module _ (modules : List Resolved) (l : Layout) (table : List Module) (own : Mod
             )
             row.empty fit (omega (arith, small)) row.end row.round row.within row.then)
             (omega arith)
-
-    -- the turns begin, or go on
-    pub turns_go : (x : ℕ) (kind : Kind) (z step : ℤ) (left : ℕ) (body : Statements) → TurnsTask l table own number (Variable x kind) z step left body Left Quiet m.place m.stack c a
-        → Goes modules l table own number h s (Perform (Turns (Variable x kind) z step left body) ∷ k) m (c + 32)
-    turns_go x kind z step left body row = ⊎_elim (begin_goes x kind z step left body) (next_goes x kind z step left body) row

@@ -1,6 +1,13 @@
 -- Code that is written piece by piece.
-use Rattle.std.specs.Prelude.{◌≡◌, ℕ, ◌+◌, ◌<◌, ◌≤◌, List, length, slice_get}
+use Rattle.std.specs.Prelude.{◌≡◌, ℕ, ◌+◌, ◌<◌, ◌≤◌, List, [], ◌∷◌, ◌++◌, length, slice_get}
+use Rattle.lil_mcode.specs.declared.instr.Instr.{Instr}
+use Rattle.lil_mcode.specs.Bytes.{bytes_of}
 use Rattle.lil_session.specs.Rows.{Span}
+
+-- the bytes of instructions one behind another
+abbrev pub all_bytes : List Instr → List ℕ
+all_bytes [] = []
+all_bytes (i ∷ is) = bytes_of i ++ all_bytes is
 
 -- the second has the bytes of the first from one place to another
 abbrev pub Agrees : List ℕ → List ℕ → ℕ → ℕ → Type 0
