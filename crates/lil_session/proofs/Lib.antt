@@ -1,4 +1,5 @@
 pub mod Appending
+pub mod Extents
 pub mod Generating
 pub mod Shown
 pub mod Homes
