@@ -1,6 +1,7 @@
 pub mod Appending
 pub mod Extents
 pub mod Generating
+pub mod CaseEmitting
 pub mod Shown
 pub mod Homes
 pub mod Matched
