@@ -1,5 +1,6 @@
 pub mod Appending
 pub mod Extents
+pub mod Weights
 pub mod Generating
 pub mod CaseEmitting
 pub mod Shown

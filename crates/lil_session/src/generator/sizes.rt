@@ -1,7 +1,6 @@
 //! How many bytes the code of a part takes, and how many words of the frame.
 
-ghost use Rattle.std.specs.Prelude.{◌≡◌, ◌≤◌, [], List, Option, None};
-ghost use Rattle.lil_tree.specs.declared.resolved.RStmt.{RStmt};
+ghost use Rattle.std.specs.Prelude.{◌≡◌, ◌≤◌, [], None};
 ghost use Rattle.lil_tree.specs.Sizes as spec;
 ghost use Rattle.lil_tree.specs.Views as view;
 ghost use Rattle.lil_session.specs.Generating as emitted;
@@ -134,7 +133,7 @@ pub(crate) fn else_size(otherwise: &Option<Items<RStmt>>) -> usize
 #[tactic(auto, using(crate::proofs::Extents::entries_next))]
 pub(crate) fn entry_count(arms: &[RArm]) -> usize
     requires { emitted.entry_count (view.arms_of arms.now None) ≤ 32767 }
-    ensures { (other : Option (List RStmt)) → result ≡ emitted.entry_count (view.arms_of arms.now other) }
+    ensures { result ≡ emitted.entry_count (view.arms_of arms.now None) }
 {
     let mut count = 0;
     for arm in arms {
