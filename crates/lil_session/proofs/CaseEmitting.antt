@@ -12,6 +12,7 @@ use Rattle.lil_tree.specs.Kinds.{Kind}
 use Rattle.lil_tree.specs.Resolved.{Expression, Label, Statements, Arms, NoElse, Else, Arm, Case, kind_of}
 use Rattle.lil_tree.specs.Views.{label_of, statements_of, else_of, arms_of}
 use Rattle.lil_tree.specs.Sizes.{size, body_size, arms_size, is_base, IsSoundLabel, AreSoundLabels}
+use Rattle.lil_tree.proofs.Views.{arm_is}
 use Rattle.lil_mcode.specs.declared.instr.Instr.TheVariants.{Jmp, Cas, Trp}
 use Rattle.lil_mcode.specs.Bytes.{bytes_of, entry_bytes}
 use Rattle.lil_mcode.proofs.Standing.{entry_stands}
@@ -21,7 +22,7 @@ use Rattle.lil_session.specs.Emitting.{Emits}
 use Rattle.lil_session.specs.Generating.{bodies_size, before_else, entry_count, behind, BodiesAt, LabelsAt, TableAt, ArmBodyAt, IsPlaced, EmitsExpression, EmitsStatement, EmitsArm, EmitsBodies, EmitsLabels, EmitsTable}
 use Rattle.lil_session.proofs.LoopWords.{bounds}
 use Rattle.lil_session.proofs.Cases.{label_in}
-use Rattle.lil_session.proofs.Extents.{arms_next}
+use Rattle.lil_session.proofs.Extents.{arms_next, arms_size_apart}
 use Rattle.lil_session.proofs.Appending.{emits_bytes, emits_instr, emits_none, emits_both, emits_as}
 
 -- ---- entries
@@ -128,6 +129,47 @@ bodies_more labels body rest n exit leave c0 c1 c2 mine others l v k plain sound
 
 pub bodies_none : (n : ℕ) (exit : Option ℕ) (leave : ℕ) (c0 c1 : List ℕ) → c1 ≡ c0 ++ bytes_of (Trp 7) → EmitsBodies c0 c1 n exit leave NoElse
 bodies_none n exit leave c0 c1 e l v k plain sound room = emits_instr c0 c1 (Trp 7) tt e
+
+-- ---- places
+-- what stands behind ELSE stands apart
+before_apart : (arms : List RArm) (other : Option (List RStmt)) → before_else (arms_of arms other) ≡ before_else (arms_of arms None)
+before_apart [] other = none_before other
+before_apart (a ∷ arms) other = omega (arith, ap before_else (arm_is a (arms_of arms other)), ap before_else (arm_is a (arms_of arms None)), before_apart arms other)
+
+else_bodies : (other : Option (List RStmt)) → bodies_size (else_of other) ≡ arms_size (else_of other)
+else_bodies None = refl
+else_bodies (Some body) = refl
+
+bodies_apart : (arms : List RArm) (other : Option (List RStmt)) → bodies_size (arms_of arms other) ≡ before_else (arms_of arms None) + arms_size (else_of other)
+bodies_apart [] other = omega (arith, else_bodies other)
+bodies_apart (a ∷ arms) other = omega (arith, ap bodies_size (arm_is a (arms_of arms other)), ap before_else (arm_is a (arms_of arms None)), bodies_apart arms other)
+
+else_entries : (other : Option (List RStmt)) → entry_count (else_of other) ≡ 0
+else_entries None = refl
+else_entries (Some body) = refl
+
+entries_apart : (arms : List RArm) (other : Option (List RStmt)) → entry_count (arms_of arms other) ≡ entry_count (arms_of arms None)
+entries_apart [] other = else_entries other
+entries_apart (a ∷ arms) other = omega (arith, ap entry_count (arm_is a (arms_of arms other)), ap entry_count (arm_is a (arms_of arms None)), entries_apart arms other)
+
+pub placed : (start : ℕ) (arms : List RArm) (other : Option (List RStmt)) (before last entries : ℕ) → before ≡ before_else (arms_of arms None) → last ≡ arms_size (else_of other)
+    → entries ≡ entry_count (arms_of arms None)
+    → IsPlaced start (arms_of arms other) (record {
+      end = start + 3 + 3 + before + last + 5 + 6 * entries;
+      leave = start + 3;
+      first = start + 3 + 3;
+      other = start + 3 + 3 + before;
+      table = start + 3 + 3 + before + last;
+      entries = entries;
+    })
+placed start arms other before last entries before_is last_is entries_are = record {
+  leave = refl;
+  first = omega arith;
+  other = omega (arith, before_is, before_apart arms other);
+  table = omega (arith, before_is, last_is, bodies_apart arms other);
+  entries = entries_are ∙ sym (entries_apart arms other);
+  end = omega (arith, before_is, last_is, entries_are, arms_size_apart arms other);
+}
 
 -- ---- a whole CASE
 -- entries stand before those of the other arms
