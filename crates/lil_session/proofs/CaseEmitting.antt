@@ -1,29 +1,36 @@
 -- The code of CASE: its entries, its arms, and the two together.
-use Rattle.std.proofs.Common.{◌≡◌, ℕ, zero, suc, ◌+◌, ◌*◌, ◌<◌, ◌≤◌, ℤ, pos, negsuc, ◌≤ℤ◌, true, List, [], ◌∷◌, ◌++◌, length, map, drop, get_or, Option, Some, None, refl, sym, ap, ◌∙◌, subst, rules, arith, w32, to_z, of_z}
+use Rattle.std.proofs.Common.{◌≡◌, ℕ, zero, suc, ◌+◌, ◌*◌, ◌<◌, ◌≤◌, ℤ, pos, negsuc, ◌≤ℤ◌, true, List, [], ◌∷◌, ◌++◌, length, map, drop, get_or, length-append, Option, Some, None, refl, sym, ap, ◌∙◌, subst, rules, arith, w32, to_z, of_z}
 use mir.Val.{SFits}
 use Rattle.std.proofs.lemmas.Int.{ints, to_z-of_z}
 use Rattle.std.proofs.lemmas.List.{drop_more, drop_all}
 use Rattle.std.specs.Option.{is_some}
 use Rattle.lil_base.specs.Words.{Whole, Cardinal, Integer, in_type, word_of}
+use Rattle.lil_tree.specs.declared.resolved.RExpr.{RExpr}
 use Rattle.lil_tree.specs.declared.resolved.RStmt.{RStmt}
+use Rattle.lil_tree.specs.declared.resolved.RStmt.TheVariants as s
 use Rattle.lil_tree.specs.declared.resolved.RArm.{RArm}
 use Rattle.lil_tree.specs.declared.resolved.RLabel.{RLabel}
 use Rattle.lil_tree.specs.Kinds.{Kind}
 use Rattle.lil_tree.specs.Resolved.{Expression, Label, Statements, Arms, NoElse, Else, Arm, Case, kind_of}
-use Rattle.lil_tree.specs.Views.{label_of, statements_of, else_of, arms_of}
+use Rattle.lil_tree.specs.Views.{expression_of, label_of, statement_of, statements_of, else_of, arms_of}
 use Rattle.lil_tree.specs.Sizes.{size, body_size, arms_size, is_base, IsSoundLabel, AreSoundLabels}
-use Rattle.lil_tree.proofs.Views.{arm_is}
+use Rattle.lil_tree.proofs.Views.{case_is}
 use Rattle.lil_mcode.specs.declared.instr.Instr.TheVariants.{Jmp, Cas, Trp}
 use Rattle.lil_mcode.specs.Bytes.{bytes_of, entry_bytes}
 use Rattle.lil_mcode.proofs.Standing.{entry_stands}
 use Rattle.lil_session.specs.declared.generator.cases.Places.{Places}
-use Rattle.lil_session.specs.Rows.{Layout, IsAt, EntryRow, EntriesAt, ArmsAt, compared_as}
+use Rattle.lil_session.specs.Rows.{Layout, IsAt, BodyAt, EntryRow, EntriesAt, ArmsAt, compared_as}
 use Rattle.lil_session.specs.Emitting.{Emits}
-use Rattle.lil_session.specs.Generating.{bodies_size, before_else, entry_count, behind, BodiesAt, LabelsAt, TableAt, ArmBodyAt, IsPlaced, EmitsExpression, EmitsStatement, EmitsArm, EmitsBodies, EmitsLabels, EmitsTable}
+use Rattle.lil_session.specs.Generating.{bodies_size, before_else, entry_count, behind, BodiesAt, LabelsAt, TableAt, ArmBodyAt, IsPlaced, EmitsExpression, EmitsStatement, EmitsBody, EmitsArm, EmitsArms, EmitsBodies, EmitsLabels, EmitsTable}
 use Rattle.lil_session.proofs.LoopWords.{bounds}
 use Rattle.lil_session.proofs.Cases.{label_in}
-use Rattle.lil_session.proofs.Extents.{arms_next, arms_size_apart}
+use Rattle.lil_session.proofs.Extents.{arms_next, case_size}
+use Rattle.lil_session.proofs.Stating.{one_emitted}
 use Rattle.lil_session.proofs.Appending.{emits_bytes, emits_instr, emits_none, emits_both, emits_as}
+
+-- bytes more are as many
+pub longer : (old new bytes : List ℕ) → new ≡ old ++ bytes → length new ≡ length old + length bytes
+longer old new bytes e = ap length e ∙ length-append old bytes
 
 -- ---- entries
 -- the number of a value has a word of 16 bits
@@ -56,13 +63,13 @@ entry_emitted k label to old new sound e =
       let there = entry_stands final (length old) (word_of label.low) (word_of label.high) to h in
       record { sound = sound; low = there.low_at; high = there.high_at; target = there.target_at })
 
-pub labels_none : (code : List ℕ) (to : ℕ) → EmitsLabels code code to []
-labels_none code to k base sound = emits_none code
+pub no_label_emitted : (code : List ℕ) (to : ℕ) → EmitsLabels code code to []
+no_label_emitted code to k base sound = emits_none code
 
 -- an entry before others
-pub labels_more : (label : Label) (labels : List Label) (low high to : ℕ) (c0 c1 c2 : List ℕ) → (HasWords label → low ≡ word_of label.low) → (HasWords label → high ≡ word_of label.high)
+pub label_before : (label : Label) (labels : List Label) (low high to : ℕ) (c0 c1 c2 : List ℕ) → (HasWords label → low ≡ word_of label.low) → (HasWords label → high ≡ word_of label.high)
     → c1 ≡ c0 ++ entry_bytes low high to → EmitsLabels c1 c2 to labels → EmitsLabels c0 c2 to (label ∷ labels)
-labels_more label labels low high to c0 c1 c2 low_is high_is e rest k base sound =
+label_before label labels low high to c0 c1 c2 low_is high_is e rest k base sound =
     let words = label_words k label base sound.0 in
     let same : entry_bytes low high to ≡ entry_bytes (word_of label.low) (word_of label.high) to = ap (λ (w : ℕ). entry_bytes w high to) (low_is words) ∙ ap (λ (w : ℕ). entry_bytes (word_of label.low) w to) (high_is words) in
     let first = entry_emitted k label to c0 c1 sound.0 (e ∙ ap (λ (bytes : List ℕ). c0 ++ bytes) same) in
@@ -71,29 +78,29 @@ labels_more label labels low high to c0 c1 c2 low_is high_is e rest k base sound
     (λ final t. (t.0, subst (λ (p : ℕ). LabelsAt final k labels to p (length c2)) first.grows t.1))
     (emits_both c0 c1 c2 6 _ _ _ first (rest k base sound.1))
 
-pub labels_next : (labels : List RLabel) (i : ℕ) (d : RLabel) (low high to : ℕ) (c0 c1 c2 : List ℕ) → i < length labels
+pub next_label_emitted : (labels : List RLabel) (i : ℕ) (d : RLabel) (low high to : ℕ) (c0 c1 c2 : List ℕ) → i < length labels
     → (HasWords (label_of (get_or labels i d)) → low ≡ word_of (get_or labels i d).low) → (HasWords (label_of (get_or labels i d)) → high ≡ word_of (get_or labels i d).high)
     → c1 ≡ c0 ++ entry_bytes low high to → EmitsLabels c1 c2 to (map label_of (drop (i + 1) labels)) → EmitsLabels c0 c2 to (map label_of (drop i labels))
-labels_next labels i d low high to c0 c1 c2 inside low_is high_is e rest =
+next_label_emitted labels i d low high to c0 c1 c2 inside low_is high_is e rest =
     subst (λ (ls : List RLabel). EmitsLabels c0 c2 to (map label_of ls)) (sym (drop_more labels i d inside))
-    (labels_more (label_of (get_or labels i d)) (map label_of (drop (i + 1) labels)) low high to c0 c1 c2 low_is high_is e rest)
+    (label_before (label_of (get_or labels i d)) (map label_of (drop (i + 1) labels)) low high to c0 c1 c2 low_is high_is e rest)
 
-pub labels_all : (labels : List RLabel) (i : ℕ) (to : ℕ) (code : List ℕ) → length labels ≤ i → EmitsLabels code code to (map label_of (drop i labels))
-labels_all labels i to code end = subst (λ (ls : List RLabel). EmitsLabels code code to (map label_of ls)) (sym (drop_all i labels end)) (labels_none code to)
+pub no_labels_left : (labels : List RLabel) (i : ℕ) (to : ℕ) (code : List ℕ) → length labels ≤ i → EmitsLabels code code to (map label_of (drop i labels))
+no_labels_left labels i to code end = subst (λ (ls : List RLabel). EmitsLabels code code to (map label_of ls)) (sym (drop_all i labels end)) (no_label_emitted code to)
 
 -- ---- tables
-pub table_else : (code : List ℕ) (place : ℕ) (other : Arms) → before_else other ≡ 0 → EmitsTable code code place other
-table_else code place NoElse e k v looping base sound = emits_none code
-table_else code place (Else body) e k v looping base sound = emits_none code
-table_else code place (Arm labels body rest) e k v looping base sound = absurd (omega (arith, e))
+pub no_arms_in_table : (code : List ℕ) (place : ℕ) (other : Arms) → before_else other ≡ 0 → EmitsTable code code place other
+no_arms_in_table code place NoElse e k v looping base sound = emits_none code
+no_arms_in_table code place (Else body) e k v looping base sound = emits_none code
+no_arms_in_table code place (Arm labels body rest) e k v looping base sound = absurd (omega (arith, e))
 
 none_before : (other : Option (List RStmt)) → before_else (else_of other) ≡ 0
 none_before None = refl
 none_before (Some body) = refl
 
 -- the entries of an arm before those of others
-pub table_more : (labels : List Label) (body : Statements) (rest : Arms) (place : ℕ) (c0 c1 c2 : List ℕ) → EmitsLabels c0 c1 place labels → EmitsTable c1 c2 (behind place body) rest → EmitsTable c0 c2 place (Arm labels body rest)
-table_more labels body rest place c0 c1 c2 mine others k v looping base sound =
+pub arm_in_table : (labels : List Label) (body : Statements) (rest : Arms) (place : ℕ) (c0 c1 c2 : List ℕ) → EmitsLabels c0 c1 place labels → EmitsTable c1 c2 (behind place body) rest → EmitsTable c0 c2 place (Arm labels body rest)
+arm_in_table labels body rest place c0 c1 c2 mine others k v looping base sound =
     let first = mine k base sound.0 in
     emits_as c0 c2 (6 * length labels + 6 * entry_count rest) (6 * entry_count (Arm labels body rest)) _ _
     (omega arith)
@@ -104,20 +111,34 @@ table_more labels body rest place c0 c1 c2 mine others k v looping base sound =
     (emits_both c0 c1 c2 _ _ _ _ first (others k v looping base sound.2))
 
 module _ (arms : List RArm) (i : ℕ) where
-  pub table_next : (arm : RArm) (other : Option (List RStmt)) (place : ℕ) (c0 c1 c2 : List ℕ) → i < length arms → arm ≡ get_or arms i arm → EmitsLabels c0 c1 place (map label_of arm.labels)
+  pub next_table_emitted : (arm : RArm) (other : Option (List RStmt)) (place : ℕ) (c0 c1 c2 : List ℕ) → i < length arms → arm ≡ get_or arms i arm → EmitsLabels c0 c1 place (map label_of arm.labels)
       → EmitsTable c1 c2 (behind place (statements_of arm.body)) (arms_of (drop (i + 1) arms) other) → EmitsTable c0 c2 place (arms_of (drop i arms) other)
-  table_next arm other place c0 c1 c2 inside is mine others =
+  next_table_emitted arm other place c0 c1 c2 inside is mine others =
       subst (λ (a : Arms). EmitsTable c0 c2 place a) (sym (arms_next arms other i arm inside is))
-      (table_more (map label_of arm.labels) (statements_of arm.body) (arms_of (drop (i + 1) arms) other) place c0 c1 c2 mine others)
+      (arm_in_table (map label_of arm.labels) (statements_of arm.body) (arms_of (drop (i + 1) arms) other) place c0 c1 c2 mine others)
 
-  pub table_all : (other : Option (List RStmt)) (place : ℕ) (code : List ℕ) → length arms ≤ i → EmitsTable code code place (arms_of (drop i arms) other)
-  table_all other place code end = subst (λ (left : List RArm). EmitsTable code code place (arms_of left other)) (sym (drop_all i arms end)) (table_else code place (else_of other) (none_before other))
+  pub no_table_left : (other : Option (List RStmt)) (place : ℕ) (code : List ℕ) → length arms ≤ i → EmitsTable code code place (arms_of (drop i arms) other)
+  no_table_left other place code end = subst (λ (left : List RArm). EmitsTable code code place (arms_of left other)) (sym (drop_all i arms end)) (no_arms_in_table code place (else_of other) (none_before other))
 
 -- ---- arms
+pub arm_emitted : (n : ℕ) (exit : Option ℕ) (leave : ℕ) (body : Statements) (c0 c1 c2 : List ℕ) → EmitsBody c0 c1 n exit body → c2 ≡ c1 ++ bytes_of (Jmp leave) → EmitsArm c0 c2 n exit leave body
+arm_emitted n exit leave body c0 c1 c2 here e l v plain sound room =
+    let first = here l v plain sound room in
+    emits_as c0 c2 (body_size body + 3) (body_size body + 3) _ _
+    refl
+    (λ final t. (
+      subst (λ (q : ℕ). BodyAt l final n exit body (length c0) q) first.grows t.0,
+      subst (λ (p : ℕ). IsAt final p (Jmp leave) (length c2)) first.grows t.1,
+    ))
+    (emits_both c0 c1 c2 (body_size body) 3 _ _ first (emits_instr c1 c2 (Jmp leave) tt e))
+
+pub no_else_emitted : (n : ℕ) (exit : Option ℕ) (leave : ℕ) (c0 c1 : List ℕ) → c1 ≡ c0 ++ bytes_of (Trp 7) → EmitsBodies c0 c1 n exit leave NoElse
+no_else_emitted n exit leave c0 c1 e l v k plain sound room = emits_instr c0 c1 (Trp 7) tt e
+
 -- an arm before others
-pub bodies_more : (labels : List Label) (body : Statements) (rest : Arms) (n : ℕ) (exit : Option ℕ) (leave : ℕ) (c0 c1 c2 : List ℕ) → EmitsArm c0 c1 n exit leave body → EmitsBodies c1 c2 n exit leave rest
+arm_before : (labels : List Label) (body : Statements) (rest : Arms) (n : ℕ) (exit : Option ℕ) (leave : ℕ) (c0 c1 c2 : List ℕ) → EmitsArm c0 c1 n exit leave body → EmitsBodies c1 c2 n exit leave rest
     → EmitsBodies c0 c2 n exit leave (Arm labels body rest)
-bodies_more labels body rest n exit leave c0 c1 c2 mine others l v k plain sound room =
+arm_before labels body rest n exit leave c0 c1 c2 mine others l v k plain sound room =
     let first = mine l v plain sound.1 (omega (arith, room)) in
     emits_as c0 c2 (body_size body + 3 + bodies_size rest) (bodies_size (Arm labels body rest)) _ _
     refl
@@ -127,49 +148,16 @@ bodies_more labels body rest n exit leave c0 c1 c2 mine others l v k plain sound
     ))
     (emits_both c0 c1 c2 _ _ _ _ first (others l v k plain sound.2 (omega (arith, room))))
 
-pub bodies_none : (n : ℕ) (exit : Option ℕ) (leave : ℕ) (c0 c1 : List ℕ) → c1 ≡ c0 ++ bytes_of (Trp 7) → EmitsBodies c0 c1 n exit leave NoElse
-bodies_none n exit leave c0 c1 e l v k plain sound room = emits_instr c0 c1 (Trp 7) tt e
+module _ (arms : List RArm) (i : ℕ) (n : ℕ) (exit : Option ℕ) (leave : ℕ) where
+  -- what is left of a list from an arm on
+  pub next_arm_emitted : (a : RArm) (c0 c1 c2 : List ℕ) → i < length arms → a ≡ get_or arms i a → EmitsArm c0 c1 n exit leave (statements_of a.body)
+      → EmitsArms c1 c2 n exit leave (drop (i + 1) arms) → EmitsArms c0 c2 n exit leave (drop i arms)
+  next_arm_emitted a c0 c1 c2 inside is mine others other last behind =
+      subst (λ (left : Arms). EmitsBodies c0 last n exit leave left) (sym (arms_next arms other i a inside is))
+      (arm_before (map label_of a.labels) (statements_of a.body) (arms_of (drop (i + 1) arms) other) n exit leave c0 c1 last mine (others other last behind))
 
--- ---- places
--- what stands behind ELSE stands apart
-before_apart : (arms : List RArm) (other : Option (List RStmt)) → before_else (arms_of arms other) ≡ before_else (arms_of arms None)
-before_apart [] other = none_before other
-before_apart (a ∷ arms) other = omega (arith, ap before_else (arm_is a (arms_of arms other)), ap before_else (arm_is a (arms_of arms None)), before_apart arms other)
-
-else_bodies : (other : Option (List RStmt)) → bodies_size (else_of other) ≡ arms_size (else_of other)
-else_bodies None = refl
-else_bodies (Some body) = refl
-
-bodies_apart : (arms : List RArm) (other : Option (List RStmt)) → bodies_size (arms_of arms other) ≡ before_else (arms_of arms None) + arms_size (else_of other)
-bodies_apart [] other = omega (arith, else_bodies other)
-bodies_apart (a ∷ arms) other = omega (arith, ap bodies_size (arm_is a (arms_of arms other)), ap before_else (arm_is a (arms_of arms None)), bodies_apart arms other)
-
-else_entries : (other : Option (List RStmt)) → entry_count (else_of other) ≡ 0
-else_entries None = refl
-else_entries (Some body) = refl
-
-entries_apart : (arms : List RArm) (other : Option (List RStmt)) → entry_count (arms_of arms other) ≡ entry_count (arms_of arms None)
-entries_apart [] other = else_entries other
-entries_apart (a ∷ arms) other = omega (arith, ap entry_count (arm_is a (arms_of arms other)), ap entry_count (arm_is a (arms_of arms None)), entries_apart arms other)
-
-pub placed : (start : ℕ) (arms : List RArm) (other : Option (List RStmt)) (before last entries : ℕ) → before ≡ before_else (arms_of arms None) → last ≡ arms_size (else_of other)
-    → entries ≡ entry_count (arms_of arms None)
-    → IsPlaced start (arms_of arms other) (record {
-      end = start + 3 + 3 + before + last + 5 + 6 * entries;
-      leave = start + 3;
-      first = start + 3 + 3;
-      other = start + 3 + 3 + before;
-      table = start + 3 + 3 + before + last;
-      entries = entries;
-    })
-placed start arms other before last entries before_is last_is entries_are = record {
-  leave = refl;
-  first = omega arith;
-  other = omega (arith, before_is, before_apart arms other);
-  table = omega (arith, before_is, last_is, bodies_apart arms other);
-  entries = entries_are ∙ sym (entries_apart arms other);
-  end = omega (arith, before_is, last_is, entries_are, arms_size_apart arms other);
-}
+  pub no_arms_left : (code : List ℕ) → length arms ≤ i → EmitsArms code code n exit leave (drop i arms)
+  no_arms_left code end = subst (λ (left : List RArm). EmitsArms code code n exit leave left) (sym (drop_all i arms end)) (λ other last behind. behind)
 
 -- ---- a whole CASE
 -- entries stand before those of the other arms
@@ -203,10 +191,10 @@ arms_size_is NoElse = refl
 arms_size_is (Else body) = omega arith
 arms_size_is (Arm labels body rest) = omega (arith, arms_size_is rest)
 
-pub case_emitted : (e : Expression) (arms : Arms) (places : Places) (n : ℕ) (exit : Option ℕ) (c0 c1 c2 c3 c4 c5 c6 : List ℕ) → EmitsExpression c0 c1 e → IsPlaced (length c1) arms places
+case_emitted_as : (e : Expression) (arms : Arms) (places : Places) (n : ℕ) (exit : Option ℕ) (c0 c1 c2 c3 c4 c5 c6 : List ℕ) → EmitsExpression c0 c1 e → IsPlaced (length c1) arms places
     → c2 ≡ c1 ++ bytes_of (Jmp places.table) → c3 ≡ c2 ++ bytes_of (Jmp places.end) → EmitsBodies c3 c4 n exit places.leave arms → c5 ≡ c4 ++ bytes_of (Cas places.entries places.other)
     → EmitsTable c5 c6 places.first arms → EmitsStatement c0 c6 n exit (Case e arms)
-case_emitted e arms places n exit c0 c1 c2 c3 c4 c5 c6 value placed first second bodies choice table l v plain sound room =
+case_emitted_as e arms places n exit c0 c1 c2 c3 c4 c5 c6 value placed first second bodies choice table l v plain sound room =
     let k = kind_of e in
     let to_table = emits_instr c1 c2 (Jmp places.table) tt first in
     let leave = emits_instr c2 c3 (Jmp places.end) tt second in
@@ -243,3 +231,29 @@ case_emitted e arms places n exit c0 c1 c2 c3 c4 c5 c6 value placed first second
     (emits_both c1 c2 c6 3 _ _ _ to_table
     (emits_both c2 c3 c6 3 _ _ _ leave
     (emits_both c3 c4 c6 (bodies_size arms) _ _ _ arms_there (emits_both c4 c5 c6 5 _ _ _ cas entries)))))
+
+module _ (e : RExpr) (arms : List RArm) (other : Option (List RStmt)) (places : Places) (c0 c1 c2 c3 c4 c5 c6 c7 : List ℕ) where
+  pub case_emitted : (n : ℕ) (exit : Option ℕ) → EmitsExpression c0 c1 (expression_of e) → IsPlaced (length c1) (arms_of arms other) places → c2 ≡ c1 ++ bytes_of (Jmp places.table)
+      → c3 ≡ c2 ++ bytes_of (Jmp places.end) → EmitsArms c3 c4 n exit places.leave arms → EmitsBodies c4 c5 n exit places.leave (else_of other) → c6 ≡ c5 ++ bytes_of (Cas places.entries places.other)
+      → EmitsTable c6 c7 places.first (arms_of arms other) → EmitsBody c0 c7 n exit (statement_of (s.Case e arms other))
+  case_emitted n exit value placed to_table to_end bodies last choice table =
+      subst (EmitsBody c0 c7 n exit) (sym (case_is e arms other))
+      (one_emitted n exit (Case (expression_of e) (arms_of arms other)) c0 c7
+      (case_emitted_as (expression_of e) (arms_of arms other) places n exit c0 c1 c2 c3 c5 c6 c7 value placed to_table to_end (bodies other c5 last) choice table))
+
+  -- how long the code is, also where the statement isn't sound
+  pub case_short : length c1 ≤ length c0 + size (expression_of e) → c2 ≡ c1 ++ bytes_of (Jmp places.table) → c3 ≡ c2 ++ bytes_of (Jmp places.end) → length c4 ≤ length c3 + before_else (arms_of arms None)
+      → length c5 ≤ length c4 + arms_size (else_of other) → c6 ≡ c5 ++ bytes_of (Cas places.entries places.other) → length c7 ≤ length c6 + 6 * entry_count (arms_of arms None)
+      → length c7 ≤ length c0 + body_size (statement_of (s.Case e arms other))
+  case_short value to_table to_end bodies last choice table =
+      omega (
+        arith,
+        value,
+        longer c1 c2 (bytes_of (Jmp places.table)) to_table,
+        longer c2 c3 (bytes_of (Jmp places.end)) to_end,
+        bodies,
+        last,
+        longer c5 c6 (bytes_of (Cas places.entries places.other)) choice,
+        table,
+        case_size e arms other,
+      )

@@ -2,6 +2,7 @@ pub mod Appending
 pub mod Extents
 pub mod Weights
 pub mod Generating
+pub mod Stating
 pub mod CaseEmitting
 pub mod Shown
 pub mod Homes

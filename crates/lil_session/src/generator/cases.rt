@@ -4,6 +4,7 @@ ghost use Rattle.std.specs.Prelude.{◌≡◌, ◌+◌, ◌*◌, ◌≤◌, ◌+
 ghost use Rattle.lil_tree.specs.declared.resolved.RStmt.{RStmt};
 ghost use Rattle.lil_tree.specs.Sizes as spec;
 ghost use Rattle.lil_tree.specs.Views.{label_of, arms_of};
+ghost use Rattle.lil_session.specs.Generating as emitted;
 ghost use Rattle.lil_session.specs.Generating.{IsPlaced, EmitsLabels, EmitsTable, before_else};
 
 use crate::generator::expressions::word;
@@ -50,7 +51,8 @@ pub(crate) fn case_places(start: usize, arms: &[RArm], otherwise: &Option<Items<
 /// Appends the entries of arms, the first of which stands at a place of the code.
 pub(crate) fn emit_table(code: &mut Bytes, arms: &[RArm], first: usize) -> Result<(), Memory>
     requires { first + before_else (arms_of arms.now None) ≤ 32767 }
-    ensures { OnOk result ((other : Option (List RStmt)) → EmitsTable code.old code.new first (arms_of arms.now other)) }
+    ensures short { OnOk result (length code.new ≤ length code.old + 6 * emitted.entry_count (arms_of arms.now None)) }
+    ensures means { OnOk result ((other : Option (List RStmt)) → EmitsTable code.old code.new first (arms_of arms.now other)) }
 {
     let mut place = first;
     for arm in arms {
@@ -62,7 +64,8 @@ pub(crate) fn emit_table(code: &mut Bytes, arms: &[RArm], first: usize) -> Resul
 
 /// Appends an entry for each label, with the place of the arm.
 fn emit_labels(code: &mut Bytes, labels: &[RLabel], place: u16) -> Result<(), Memory>
-    ensures { OnOk result (EmitsLabels code.old code.new place (map label_of labels.now)) }
+    ensures short { OnOk result (length code.new ≤ length code.old + 6 * length labels.now) }
+    ensures means { OnOk result (EmitsLabels code.old code.new place (map label_of labels.now)) }
 {
     for label in labels {
         encode_entry(code, word(label.low), word(label.high), place)?;
