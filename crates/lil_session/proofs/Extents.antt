@@ -82,6 +82,21 @@ arms_size_apart (a ∷ arms) other =
       arms_size_apart arms other,
     )
 
+pub entries_apart : (arms : List RArm) (other : Option (List RStmt)) → entry_count (arms_of arms other) ≡ entry_count (arms_of arms None)
+entries_apart [] None = refl
+entries_apart [] (Some ss) = refl
+entries_apart (a ∷ arms) other = omega (arith, ap entry_count (arm_is a (arms_of arms other)), ap entry_count (arm_is a (arms_of arms None)), entries_apart arms other)
+
+pub before_apart : (arms : List RArm) (other : Option (List RStmt)) → before_else (arms_of arms other) ≡ before_else (arms_of arms None)
+before_apart [] None = refl
+before_apart [] (Some ss) = refl
+before_apart (a ∷ arms) other = omega (arith, ap before_else (arm_is a (arms_of arms other)), ap before_else (arm_is a (arms_of arms None)), before_apart arms other)
+
+pub bodies_apart : (arms : List RArm) (other : Option (List RStmt)) → bodies_size (arms_of arms other) ≡ before_else (arms_of arms None) + arms_size (else_of other)
+bodies_apart [] None = refl
+bodies_apart [] (Some ss) = omega arith
+bodies_apart (a ∷ arms) other = omega (arith, ap bodies_size (arm_is a (arms_of arms other)), ap before_else (arm_is a (arms_of arms None)), bodies_apart arms other)
+
 arms_loops_apart : (arms : List RArm) (other : Option (List RStmt)) → arms_loops (arms_of arms other) ≡ arms_loops (arms_of arms None) + arms_loops (else_of other)
 arms_loops_apart [] other = omega arith
 arms_loops_apart (a ∷ arms) other = omega (arith, ap arms_loops (arm_is a (arms_of arms other)), ap arms_loops (arm_is a (arms_of arms None)), arms_loops_apart arms other)

@@ -26,6 +26,7 @@ pub(crate) struct Places {
 
 /// The places of a CASE whose value ends at a place. There stand a jump to the table, the exit, the arms, and the table,
 /// which has five bytes before its entries.
+#[tactic(auto, using(crate::proofs::Extents::arms_size_apart))]
 pub(crate) fn case_places(start: usize, arms: &[RArm], otherwise: &Option<Items<RStmt>>) -> Places
     requires { start + 11 + spec.arms_size (arms_of arms.now otherwise.now) ≤ 32767 }
     ensures { IsPlaced start (arms_of arms.now otherwise.now) result }
