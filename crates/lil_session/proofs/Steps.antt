@@ -1,5 +1,5 @@
 -- One step of the source from steps of the machine.
-use Rattle.std.proofs.Common.{◌≡◌, ℕ, zero, suc, ◌<◌, List, [], ◌∷◌, length, refl, sym, ap, ◌∙◌, subst, arith}
+use Rattle.std.proofs.Common.{◌≡◌, ℕ, zero, suc, ◌+◌, ◌<◌, ◌≤◌, List, [], ◌∷◌, length, refl, sym, ap, ◌∙◌, subst, arith}
 use Rattle.std.proofs.lemmas.Bool.{lt-ltb}
 use Rattle.lil_base.specs.declared.fault.LimitKind.TheVariants as limit
 use Rattle.lil_tree.specs.Resolved.{Resolved}
@@ -7,6 +7,7 @@ use Rattle.lil_meaning.specs.World.{World}
 use Rattle.lil_meaning.specs.Items.{Item, Going, Source}
 use Rattle.lil_meaning.specs.Steps.{next}
 use Rattle.lil_mcode.specs.declared.instr.Instr.{Instr}
+use Rattle.lil_mcode.specs.declared.instr.Instr.TheVariants.{Jmp}
 use Rattle.lil_mcode.specs.declared.machine.Event.{Event}
 use Rattle.lil_mcode.specs.declared.machine.Event.TheVariants.{Went, Limit}
 use Rattle.lil_mcode.specs.State.{Module, State, module_at}
@@ -14,7 +15,7 @@ use Rattle.lil_mcode.specs.Table.{mstep, act, fetched, performed, going, push_ro
 use Rattle.lil_session.specs.Rows.{Layout, IsAt}
 use Rattle.lil_session.specs.Running.{Run, mrun, running, react, advanced}
 use Rattle.lil_session.proofs.Homes.{yes, Home}
-use Rattle.lil_session.proofs.Matched.{Quiet, Rows, Ahead, IsProgram, Shared, GoesOn, Lands, weight, IsStill, Goes}
+use Rattle.lil_session.proofs.Matched.{Mode, Quiet, Around, Reach, Jumps, AfterJumps, ItemRow, Rows, Ahead, IsProgram, HasLoops, Shared, GoesOn, Lands, weight, IsStill, Goes}
 
 -- a step of the machine, as its row says
 pub advances : (m : State) (w : World) (r : Event × State) → mstep m ≡ r → advanced (running m w) ≡ react r.0 r.1 (running m w)
@@ -31,9 +32,20 @@ module _ (modules : List Resolved) (l : Layout) (table : List Module) (own : Mod
       ∙ ap (fetched m) (ap (λ (ms : List Module). module_at ms m.running) g.table_is ∙ ap (module_at table) g.running_is ∙ g.known)
       ∙ ap (performed m own) e
 
-  pub rows_ahead : (k : List Item) (p : ℕ) (stack : List ℕ) → Rows l table own number h k Quiet p stack → Ahead l table own number h k Quiet p stack
-  rows_ahead [] p stack r = absurd r
-  rows_ahead (i ∷ k) p stack r = r
+  -- a row to which no jump leads
+  pub at_once : (row : Reach) (t : Mode) (p : ℕ) (stack : List ℕ) (c : ℕ) (a : Around) → row t p stack c a → AfterJumps l table own number row t p stack c a
+  at_once row t p stack c a r = record { start = p; jumps = 0; later = c; way = refl; there = r; count = omega arith }
+
+  -- one more jump before
+  pub rows_jump : (k : List Item) (t : Mode) (p to gap : ℕ) (stack : List ℕ) (c : ℕ) (a : Around) → IsAt own.code p (Jmp to) gap → to < length own.code
+      → Rows l table own number h k t to stack c a → Rows l table own number h k t p stack (suc c) a
+  rows_jump [] t p to gap stack c a jump within r = absurd r
+  rows_jump (i ∷ k) t p to gap stack c a jump within r =
+      record { start = r.start; jumps = suc r.jumps; later = r.later; way = (to, gap, jump, within, r.way); there = r.there; count = omega (arith, r.count) }
+
+  pub rows_ahead : (k : List Item) (p : ℕ) (stack : List ℕ) (c : ℕ) (a : Around) → Rows l table own number h k Quiet p stack c a → Ahead l table own number h k Quiet p stack c a
+  rows_ahead [] p stack c a r = absurd r
+  rows_ahead (i ∷ k) p stack c a r = r
 
   -- what all stacks share stays where the place and the expression stack change alone
   pub shared_there : (s : Source) (m : State) → Shared l table own number h s m → (k : List Item) (q : ℕ) (stack : List ℕ)
@@ -49,43 +61,84 @@ module _ (modules : List Resolved) (l : Layout) (table : List Module) (own : Mod
       body = shared.program.body;
       last = shared.program.last;
     };
+    frame = record { room = shared.frame.room; free = shared.frame.free };
     owner = shared.owner;
     parked = shared.parked;
   }
 
   -- the source goes on with these items, and the machine from that place
-  pub lands_on : (s : Source) (m : State) → Shared l table own number h s m → (k : List Item) (q : ℕ) (stack : List ℕ) → Ahead l table own number h k Quiet q stack
-      → GoesOn l table own number h (record s { items = k; phase = Going }) (running (going m q stack) s.world)
-  lands_on s m shared k q stack ahead = record {
+  pub lands_on : (s : Source) (m : State) → Shared l table own number h s m → (k : List Item) (q : ℕ) (stack : List ℕ) (c : ℕ) (a : Around)
+      → HasLoops l table own number h m.frame m.store a.loops → Ahead l table own number h k Quiet q stack c a
+      → GoesOn l table own number h (record s { items = k; phase = Going }) (running (going m q stack) s.world) c
+  lands_on s m shared k q stack c a loops ahead = record {
     machine = going m q stack;
     is = refl;
-    met = record { shared = shared_there s m shared k q stack; ahead = ahead };
+    met = record { shared = shared_there s m shared k q stack; around = a; loops = loops; ahead = ahead };
   }
 
-  abbrev pub LandsAt : Source → List Item → Run → Type 0
-  LandsAt s k run =
-      Lands l table own number h modules (next modules (record s { items = k; phase = Going })).phase (next modules (record s { items = k; phase = Going })) run
+  abbrev pub LandsAt : Source → List Item → Run → ℕ → Type 0
+  LandsAt s k run c =
+      Lands l table own number h modules (next modules (record s { items = k; phase = Going })).phase (next modules (record s { items = k; phase = Going })) run c
 
   -- no step of the machine
-  pub goes_none : (s : Source) (k : List Item) (m : State) → LandsAt s k (running m s.world) → weight (next modules (record s { items = k; phase = Going })).items < weight k → Goes modules l table own number h s k m
-  goes_none s k m lands falls = record {
+  pub goes_none : (s : Source) (k : List Item) (m : State) (budget c : ℕ) → LandsAt s k (running m s.world) c → c ≤ budget
+      → weight (next modules (record s { items = k; phase = Going })).items < weight k → Goes modules l table own number h s k m budget
+  goes_none s k m budget c lands less falls = record {
     steps = 0;
+    later = c;
     quiet = λ i less. absurd (omega arith);
     lands = lands;
-    cost = omega arith;
+    cost = omega (arith, less);
     falls = λ e. falls;
   }
 
   -- one step
-  pub goes_one : (s : Source) (k : List Item) (m : State) (run : Run) → advanced (running m s.world) ≡ run → LandsAt s k run → Goes modules l table own number h s k m
-  goes_one s k m run e lands = record {
+  pub goes_one : (s : Source) (k : List Item) (m : State) (budget c : ℕ) (run : Run) → advanced (running m s.world) ≡ run → LandsAt s k run c → c + 1 ≤ budget
+      → Goes modules l table own number h s k m budget
+  goes_one s k m budget c run e lands less = record {
     steps = 1;
+    later = c;
     quiet = quiet;
-    lands = subst (λ (r : Run). LandsAt s k r) (sym e) lands;
-    cost = omega arith;
+    lands = subst (λ (r : Run). LandsAt s k r c) (sym e) lands;
+    cost = omega (arith, less);
     falls = λ e. absurd (omega arith);
   }
     where
       quiet : (i : ℕ) → i < 1 → IsStill s.world (mrun i (running m s.world))
       quiet zero less = record { world = refl; finish = refl }
       quiet (suc i) less = absurd (omega arith)
+
+  -- one step that shows nothing, and then what goes from there
+  pub goes_after : (s : Source) (k : List Item) (m n : State) (budget rest : ℕ) → advanced (running m s.world) ≡ running n s.world
+      → Goes modules l table own number h s k n rest → rest + 1 ≤ budget → Goes modules l table own number h s k m budget
+  goes_after s k m n budget rest e g less = record {
+    steps = suc g.steps;
+    later = g.later;
+    quiet = quiet;
+    lands = subst (λ (r : Run). LandsAt s k (mrun g.steps r) g.later) (sym e) g.lands;
+    cost = omega (arith, less, g.cost);
+    falls = λ e. absurd (omega arith);
+  }
+    where
+      quiet : (i : ℕ) → i < suc g.steps → IsStill s.world (mrun i (running m s.world))
+      quiet zero less = record { world = refl; finish = refl }
+      quiet (suc i) less = subst (λ (r : Run). IsStill s.world (mrun i r)) (sym e) (g.quiet i (omega arith))
+
+  -- a jump of the machine
+  pub jumps_to : (m : State) (w : World) → IsProgram l table own number h m → (to gap : ℕ) → IsAt own.code m.place (Jmp to) gap → to < length own.code
+      → advanced (running m w) ≡ running (going m to m.stack) w
+  jumps_to m w g to gap e within = advances m w _ (at_step m g (Jmp to) gap e ∙ yes _ _ _ (lt-ltb to (length own.code) within))
+
+  -- jumps, and then what goes from where they lead
+  pub jumped : (s : Source) (k : List Item) (j : ℕ) (m : State) (start budget rest : ℕ) → IsProgram l table own number h m → Jumps own.code j m.place start
+      → Goes modules l table own number h s k (going m start m.stack) rest → rest + j ≤ budget → Goes modules l table own number h s k m budget
+  jumped s k zero m start budget rest g way goes less =
+      let there = subst (λ (p : ℕ). Goes modules l table own number h s k (going m p m.stack) rest) (sym way) goes in
+      record { steps = there.steps; later = there.later; quiet = there.quiet; lands = there.lands; cost = omega (arith, there.cost, less); falls = there.falls }
+  jumped s k (suc j) m start budget rest g way goes less =
+      goes_after s k m (going m way.0 m.stack) budget (rest + j)
+      (jumps_to m s.world g way.0 way.1 way.2 way.3)
+      (jumped s k j (going m way.0 m.stack) start (rest + j) rest
+      (record { table_is = g.table_is; known = g.known; running_is = g.running_is; marked = g.marked; body = g.body; last = g.last })
+      way.4 goes (omega arith))
+      (omega (arith, less))

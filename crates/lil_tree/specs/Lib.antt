@@ -3,7 +3,15 @@ pub mod Scalars
 pub mod Resolved
 pub mod Views
 pub mod Cuts
+pub mod Lexical
 pub mod Grammar
 pub mod Resolving
 pub mod Straight
 pub mod Sizes
+pub mod Nesting
+pub mod Trees
+pub mod Operators
+pub mod Expressions
+pub mod Statements
+pub mod Program
+pub mod Structured

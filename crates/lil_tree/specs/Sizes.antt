@@ -1,12 +1,12 @@
 -- Sound resolved modules, the words that expressions take, and the bytes that code takes.
-use Rattle.std.specs.Prelude.{◌≡◌, ◌≢◌, ℕ, ◌+◌, ◌*◌, ◌<◌, ◌≤◌, ℤ, pos, negsuc, ◌≤ℤ◌, max, Bool, true, false, List, [], ◌∷◌, length}
+use Rattle.std.specs.Prelude.{◌≡◌, ◌≢◌, ℕ, ◌+◌, ◌*◌, ◌<◌, ◌≤◌, ℤ, pos, negsuc, ◌≤ℤ◌, max, nat_le, Bool, true, false, List, [], ◌∷◌, length}
 use Rattle.lil_base.specs.Words.{Cardinal, Integer}
 use Rattle.lil_tree.specs.declared.operator.OneOp.{OneOp}
 use Rattle.lil_tree.specs.declared.operator.OneOp.TheVariants as one
 use Rattle.lil_tree.specs.declared.operator.TwoOp.{TwoOp}
 use Rattle.lil_tree.specs.declared.operator.TwoOp.TheVariants.{Equal, Unequal, Less, AtMost, Greater, AtLeast, In, Plus, Minus, Or, Times, Slash, Div, Mod, And}
 use Rattle.lil_tree.specs.Kinds.{Kind, OfWhole, OfTruth, OfCharacter, OfEnumeration, OfRange}
-use Rattle.lil_tree.specs.Scalars.{within, scalar_of}
+use Rattle.lil_tree.specs.Scalars.{within, scalar_of, ordinal_of}
 use Rattle.lil_tree.specs.Resolved.{Designator, Variable, Function, Abs, Cap, Chr, Odd, Ord, Val, Expression, Constant, Taken, One, Two, Both, Either, Apply, Argument, Label, Statement, Assign, Request, If, Case, While, Repeat, Loop, Exit, For, Statements, Empty, Then, Arms, NoElse, Else, Arm, Resolved, kind_of}
 
 -- how many words of the expression stack an expression takes
@@ -40,12 +40,12 @@ size (Both a b) = size a + size b + 3
 size (Either a b) = size a + size b + 3
 size (Apply f a) = size a + 5
 
--- kinds that aren't a part of another
+-- kinds that aren't a part of another, whose values are words
 abbrev pub is_base : Kind → Bool
 is_base (OfWhole t) = true
 is_base OfTruth = true
 is_base OfCharacter = true
-is_base (OfEnumeration n) = true
+is_base (OfEnumeration n) = nat_le n 65536
 is_base (OfRange base low high) = false
 
 abbrev pub is_whole : Kind → Bool
@@ -105,11 +105,13 @@ pub record IsSoundWhole (n : ℕ) (e : Expression) (k : Kind) : Type 0 where
   pub shallow : depth e ≤ 12
   pub sound : IsSoundExpression n e
 
--- a range of labels isn't empty, and its ends are values of the kind
+-- a range of labels isn't empty, and its ends are numbers of values of the kind
 pub record IsSoundLabel (k : Kind) (l : Label) : Type 0 where
   pub order : l.low ≤ℤ l.high
   pub lower : within k (scalar_of k l.low) ≡ true
   pub upper : within k (scalar_of k l.high) ≡ true
+  pub lower_number : ordinal_of (scalar_of k l.low) ≡ l.low
+  pub upper_number : ordinal_of (scalar_of k l.high) ≡ l.high
 
 abbrev pub AreSoundLabels : Kind → List Label → Type 0
 AreSoundLabels k [] = Unit {0}

@@ -6,6 +6,8 @@ mod resolved;
 mod stop;
 mod straight_syntax;
 mod straight_token;
+#[cfg(test)]
+mod tests;
 mod token;
 mod tree;
 mod unit;
@@ -16,7 +18,10 @@ pub use stop::ReadStop;
 pub use straight_syntax::{More, Operand, StraightStmt, StraightUnit, Sum, SumOp};
 pub use straight_token::{StraightKind, StraightMark};
 pub use token::{Mark, Token, TokenKind, Tokens, Word};
-pub use tree::{Arm, Designator, Expr, ForHead, Guard, Ident, Qualident, Range, Selector, Stmt};
+pub use tree::{
+    Arm, Designator, Expr, ForHead, Guard, Ident, Qualident, Range, Selector, Stmt, begun_at,
+    first_place,
+};
 pub use unit::{
     Block, Decl, FieldList, Formal, Heading, Import, Section, Simple, Sort, Unit, UnitKind,
     Variant, weight,

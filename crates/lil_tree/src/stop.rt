@@ -1,3 +1,6 @@
+ghost use Rattle.std.specs.Prelude.{◌≡◌};
+ghost use Rattle.lil_tree.specs.declared.stop.ReadStop.TheVariants as why;
+
 use lil_base::{Memory, SourceFault};
 
 /// Why reading a text stopped: its fault, or want of memory.
@@ -8,6 +11,8 @@ pub enum ReadStop {
 }
 
 impl From<Memory> for ReadStop {
+    ghost from_gives = { λ _ e. e ≡ why.Memory };
+
     fn from(_: Memory) -> ReadStop {
         ReadStop::Memory
     }

@@ -1,3 +1,6 @@
+ghost use Rattle.std.specs.Prelude.{◌≡◌};
+ghost use Rattle.lil_tree.specs.Trees as spec;
+
 use crate::{OneOp, TwoOp};
 use lil_base::{Boxed, Items, Name, Place, Text};
 
@@ -98,4 +101,38 @@ pub struct ForHead {
     pub from: Expr,
     pub to: Expr,
     pub by: Option<Expr>,
+}
+
+/// The place of an expression's first token, a parenthesis around it included.
+#[tactic(auto, unfolding(crate::specs::Trees::first_place))]
+pub fn first_place(x: &Expr) -> Place
+    ensures { result ≡ spec.first_place x.now }
+{
+    match x {
+        Expr::Whole(first, _) => *first,
+        Expr::Code(first, _) => *first,
+        Expr::Chars(first, _) => *first,
+        Expr::SetOf(first, _, _) => *first,
+        Expr::Desig(first, _) => *first,
+        Expr::Call(first, _, _) => *first,
+        Expr::One(first, _, _, _) => *first,
+        Expr::Two(first, _, _, _, _) => *first,
+    }
+}
+
+/// The same expression behind a parenthesis at this place.
+#[tactic(auto, unfolding(crate::specs::Trees::begun_at))]
+pub fn begun_at(first: Place, x: Expr) -> Expr
+    ensures { result ≡ spec.begun_at first x }
+{
+    match x {
+        Expr::Whole(_, value) => Expr::Whole(first, value),
+        Expr::Code(_, code) => Expr::Code(first, code),
+        Expr::Chars(_, text) => Expr::Chars(first, text),
+        Expr::SetOf(_, sort, elements) => Expr::SetOf(first, sort, elements),
+        Expr::Desig(_, designator) => Expr::Desig(first, designator),
+        Expr::Call(_, designator, actuals) => Expr::Call(first, designator, actuals),
+        Expr::One(_, operator, at, operand) => Expr::One(first, operator, at, operand),
+        Expr::Two(_, operator, at, left, right) => Expr::Two(first, operator, at, left, right),
+    }
 }

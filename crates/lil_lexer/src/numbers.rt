@@ -1,0 +1,84 @@
+ghost use Rattle.std.specs.Prelude.{◌≡◌, ◌≤◌, ◌+◌, length, IfSome};
+ghost use Rattle.lil_tree.specs.Lexical as lexical;
+ghost use Rattle.lil_lexer.specs.Pieces as spec;
+ghost use Rattle.lil_lexer.specs.Pieces.{Reads};
+
+use crate::bytes::{all_digits, begins_with, digit_value, hex_len, octal_len};
+use crate::pieces::stop;
+use lil_base::Place;
+use lil_tree::{ReadStop, TokenKind};
+
+const BAD_NUMBER: u8 = 4;
+
+const NUMBER_TOO_LARGE: u8 = 5;
+
+/// How many bytes the number takes with which a text begins: digits and A to F, and an H that follows them.
+#[tactic(auto, unfolding(crate::specs::Pieces::run_len))]
+pub(crate) fn run_len(text: &[u8]) -> usize
+    ensures len { result ≡ spec.run_len text.now }
+    ensures within { result ≤ length text.now }
+{
+    let len = hex_len(text);
+    if begins_with(b'H', &text[len..]) {
+        len + 1
+    } else {
+        len
+    }
+}
+
+/// What digits say to a base, or None above the limit.
+#[tactic(auto, unfolding(crate::specs::Pieces::value_within))]
+fn value_within(base: u32, limit: u32, digits: &[u8]) -> Option<u32>
+    requires base { (1 ≤ base) × (base ≤ 16) }
+    requires limit { limit ≤ 65535 }
+    ensures value { result ≡ spec.value_within base limit digits.now }
+    ensures within { IfSome result (λ value. value ≤ limit) }
+{
+    let mut value: u32 = 0;
+    for digit in digits {
+        value = base * value + u32::from(digit_value(*digit));
+        if limit < value {
+            return None;
+        }
+    }
+    Some(value)
+}
+
+fn number(base: u32, digits: &[u8], place: Place) -> Result<TokenKind, ReadStop>
+    requires { (1 ≤ base) × (base ≤ 16) }
+    ensures { Reads (spec.number base digits.now place) result }
+{
+    match value_within(base, 65535, digits) {
+        None => Err(stop(NUMBER_TOO_LARGE, place)),
+        Some(value) => Ok(TokenKind::Number(value as u16)),
+    }
+}
+
+fn code(digits: &[u8], place: Place) -> Result<TokenKind, ReadStop>
+    ensures { Reads (spec.code digits.now place) result }
+{
+    match value_within(8, 255, digits) {
+        None => Err(stop(NUMBER_TOO_LARGE, place)),
+        Some(value) => Ok(TokenKind::CharCode(value as u8)),
+    }
+}
+
+/// What a run says that begins with a digit.
+#[tactic(auto, unfolding(crate::specs::Pieces::numeral))]
+pub(crate) fn numeral(run: &[u8], place: Place) -> Result<TokenKind, ReadStop>
+    ensures { Reads (spec.numeral run.now place) result }
+{
+    let hex = hex_len(run);
+    let octal = octal_len(run);
+    if &run[hex..] == b"H".as_slice() {
+        number(16, &run[..hex], place)
+    } else if &run[octal..] == b"B".as_slice() {
+        number(8, &run[..octal], place)
+    } else if &run[octal..] == b"C".as_slice() {
+        code(&run[..octal], place)
+    } else if all_digits(run) {
+        number(10, run, place)
+    } else {
+        Err(stop(BAD_NUMBER, place))
+    }
+}

@@ -1,0 +1,285 @@
+ghost use Rattle.std.specs.Prelude.{◌≡◌, ◌≤◌, ◌<◌, ◌+◌, length, IfSome, IfOk};
+ghost use Rattle.lil_base.specs.declared.fault.SourceFault.{SourceFault};
+ghost use Rattle.lil_tree.specs.Lexical as lexical;
+ghost use Rattle.lil_tree.specs.Lexical.{IsFault};
+ghost use Rattle.lil_tree.specs.declared.stop.ReadStop.TheVariants as why;
+ghost use Rattle.lil_lexer.specs.Pieces as spec;
+ghost use Rattle.lil_lexer.specs.Pieces.{Reads, HasRoom, Begins};
+
+use crate::bytes::{
+    begins_with, closes, is_blank, is_digit, is_letter, is_quote, line_len, name_len, opens,
+    string_len,
+};
+use crate::numbers::{numeral, run_len};
+use crate::words::word_of;
+use lil_base::{Name, Place, SourceFault, Text};
+use lil_tree::{Mark, ReadStop, TokenKind, Word};
+use std::alloc::Global;
+
+const BAD_CHAR: u8 = 1;
+
+const OPEN_COMMENT: u8 = 2;
+
+const OPEN_STRING: u8 = 3;
+
+const NAME_TOO_LONG: u8 = 6;
+
+/// What a text begins with: a token, or none for a blank or a comment, and how many bytes it takes.
+#[derive(Drop)]
+pub(crate) struct Piece {
+    pub what: Option<TokenKind>,
+    pub len: usize,
+}
+
+pub(crate) fn stop(number: u8, place: Place) -> ReadStop
+    ensures { result ≡ why.Fault (lexical.fault number place) }
+{
+    ReadStop::Fault(SourceFault {
+        number,
+        place,
+        about: None,
+        first: 0,
+        second: 0,
+    })
+}
+
+fn token(what: TokenKind, len: usize) -> Result<Piece, ReadStop>
+    ensures { Reads (spec.token what len) result }
+{
+    Ok(Piece {
+        what: Some(what),
+        len,
+    })
+}
+
+fn skipped(len: usize) -> Result<Piece, ReadStop>
+    ensures { Reads (spec.skipped len) result }
+{
+    Ok(Piece { what: None, len })
+}
+
+fn after_byte(place: Place, b: u8) -> Place
+    requires { HasRoom place 1 }
+    ensures { result ≡ lexical.after_byte place b }
+{
+    if b == 10 {
+        Place {
+            line: place.line + 1,
+            column: 1,
+            offset: place.offset + 1,
+        }
+    } else {
+        Place {
+            line: place.line,
+            column: place.column + 1,
+            offset: place.offset + 1,
+        }
+    }
+}
+
+/// The place behind these bytes.
+pub(crate) fn behind(place: Place, bytes: &[u8]) -> Place
+    requires { HasRoom place (length bytes.now) }
+    ensures value { result ≡ lexical.behind place bytes.now }
+    ensures line { result.line ≤ place.line + length bytes.now }
+    ensures column { result.column ≤ place.column + length bytes.now }
+    ensures offset { result.offset ≤ place.offset + length bytes.now }
+{
+    let mut at = place;
+    for b in bytes {
+        at = after_byte(at, *b);
+    }
+    at
+}
+
+/// How many bytes a comment takes behind its `(*`, or None where it isn't closed.
+fn comment_len(inside: &[u8]) -> Option<usize>
+    ensures value { result ≡ spec.comment_len inside.now }
+    ensures within { IfSome result (λ len. len ≤ length inside.now) }
+{
+    let mut depth: usize = 0;
+    let mut before: u8 = 0;
+    for (at, b) in inside.iter().enumerate() {
+        if opens(before, *b) {
+            depth += 1;
+            before = 0;
+        } else if closes(before, *b) {
+            if depth == 0 {
+                return Some(at + 1);
+            }
+            depth -= 1;
+            before = 0;
+        } else {
+            before = *b;
+        }
+    }
+    None
+}
+
+fn comment_piece(inside: &[u8], place: Place) -> Result<Piece, ReadStop>
+    ensures { Reads (spec.comment_piece place (spec.comment_len inside.now)) result }
+{
+    match comment_len(inside) {
+        None => Err(stop(OPEN_COMMENT, place)),
+        Some(len) => skipped(len + 2),
+    }
+}
+
+#[tactic(auto, unfolding(crate::specs::Pieces::name_piece))]
+fn name_piece(alloc: Global, name: &[u8], place: Place) -> Result<Piece, ReadStop>
+    ensures { Reads (spec.name_piece name.now place) result }
+{
+    match word_of(name) {
+        Some(word) => token(TokenKind::Word(word), name.len()),
+        None => match Name::of_slice(alloc, name)? {
+            None => Err(stop(NAME_TOO_LONG, place)),
+            Some(ident) => token(TokenKind::Ident(ident), name.len()),
+        },
+    }
+}
+
+#[tactic(auto, unfolding(crate::specs::Pieces::number_piece))]
+fn number_piece(run: &[u8], place: Place) -> Result<Piece, ReadStop>
+    ensures { Reads (spec.number_piece run.now place) result }
+{
+    let what = numeral(run, place)?;
+    token(what, run.len())
+}
+
+/// The bytes on the line before the mark that ends a string.
+#[tactic(auto, unfolding(crate::specs::Pieces::line_piece))]
+fn line_piece(alloc: Global, mark: u8, line: &[u8], place: Place) -> Result<Piece, ReadStop>
+    requires { HasRoom place (1 + length line.now) }
+    ensures { Reads (spec.line_piece mark line.now place) result }
+{
+    let good = string_len(mark, line);
+    if good < line.len() {
+        return Err(stop(BAD_CHAR, behind(after_byte(place, mark), &line[..good])));
+    }
+    token(
+        TokenKind::Chars(Text::from_slice(alloc, line)?),
+        line.len() + 2,
+    )
+}
+
+#[tactic(auto, unfolding(crate::specs::Pieces::string_piece))]
+fn string_piece(alloc: Global, mark: u8, inner: &[u8], place: Place) -> Result<Piece, ReadStop>
+    requires { HasRoom place (1 + length inner.now) }
+    ensures { Reads (spec.string_piece mark inner.now place) result }
+{
+    let len = line_len(mark, inner);
+    if !begins_with(mark, &inner[len..]) {
+        return Err(stop(OPEN_STRING, place));
+    }
+    line_piece(alloc, mark, &inner[..len], place)
+}
+
+fn pair(b: u8, c: u8) -> Option<TokenKind>
+    ensures { result ≡ lexical.pair b c }
+{
+    if b == b':' && c == b'=' {
+        Some(TokenKind::Mark(Mark::Becomes))
+    } else if b == b'.' && c == b'.' {
+        Some(TokenKind::Mark(Mark::Through))
+    } else if b == b'<' && c == b'=' {
+        Some(TokenKind::Mark(Mark::AtMost))
+    } else if b == b'>' && c == b'=' {
+        Some(TokenKind::Mark(Mark::AtLeast))
+    } else if b == b'<' && c == b'>' {
+        Some(TokenKind::Mark(Mark::Unequal))
+    } else {
+        None
+    }
+}
+
+fn single(b: u8) -> Option<TokenKind>
+    ensures { result ≡ lexical.single b }
+{
+    match b {
+        b'+' => Some(TokenKind::Mark(Mark::Plus)),
+        b'-' => Some(TokenKind::Mark(Mark::Minus)),
+        b'*' => Some(TokenKind::Mark(Mark::Times)),
+        b'/' => Some(TokenKind::Mark(Mark::Slash)),
+        b'&' => Some(TokenKind::Word(Word::And)),
+        b'~' => Some(TokenKind::Word(Word::Not)),
+        b'.' => Some(TokenKind::Mark(Mark::Dot)),
+        b',' => Some(TokenKind::Mark(Mark::Comma)),
+        b';' => Some(TokenKind::Mark(Mark::Semicolon)),
+        b'(' => Some(TokenKind::Mark(Mark::Open)),
+        b')' => Some(TokenKind::Mark(Mark::Close)),
+        b'[' => Some(TokenKind::Mark(Mark::OpenBracket)),
+        b']' => Some(TokenKind::Mark(Mark::CloseBracket)),
+        b'{' => Some(TokenKind::Mark(Mark::OpenBrace)),
+        b'}' => Some(TokenKind::Mark(Mark::CloseBrace)),
+        b'^' => Some(TokenKind::Mark(Mark::Arrow)),
+        b'=' => Some(TokenKind::Mark(Mark::Equal)),
+        b'#' => Some(TokenKind::Mark(Mark::Unequal)),
+        b'<' => Some(TokenKind::Mark(Mark::Less)),
+        b'>' => Some(TokenKind::Mark(Mark::Greater)),
+        b':' => Some(TokenKind::Mark(Mark::Colon)),
+        b'|' => Some(TokenKind::Mark(Mark::Bar)),
+        _ => None,
+    }
+}
+
+fn single_piece(b: u8, place: Place) -> Result<Piece, ReadStop>
+    ensures { Reads (spec.single_piece place (lexical.single b)) result }
+{
+    match single(b) {
+        None => Err(stop(BAD_CHAR, place)),
+        Some(what) => token(what, 1),
+    }
+}
+
+#[tactic(auto, unfolding(crate::specs::Pieces::mark_piece))]
+fn mark_piece(b: u8, rest: &[u8], place: Place) -> Result<Piece, ReadStop>
+    ensures { Reads (spec.mark_piece b rest.now place) result }
+{
+    match rest {
+        [] => single_piece(b, place),
+        [c, inside @ ..] => {
+            if opens(b, *c) {
+                return comment_piece(inside, place);
+            }
+            match pair(b, *c) {
+                None => single_piece(b, place),
+                Some(what) => token(what, 2),
+            }
+        }
+    }
+}
+
+#[tactic(auto, unfolding(crate::specs::Pieces::piece))]
+fn piece_at(alloc: Global, text: &[u8], place: Place) -> Result<Piece, ReadStop>
+    requires { HasRoom place (length text.now) }
+    ensures { Reads (spec.piece text.now place) result }
+{
+    match text {
+        [] => skipped(0),
+        [b, rest @ ..] => {
+            if is_blank(*b) {
+                skipped(1)
+            } else if is_letter(*b) {
+                name_piece(alloc, &text[..name_len(text)], place)
+            } else if is_digit(*b) {
+                number_piece(&text[..run_len(text)], place)
+            } else if is_quote(*b) {
+                string_piece(alloc, *b, rest, place)
+            } else {
+                mark_piece(*b, rest, place)
+            }
+        }
+    }
+}
+
+/// What the text at a place begins with, or the fault that stands there.
+pub(crate) fn next_piece(alloc: Global, text: &[u8], place: Place) -> Result<Piece, ReadStop>
+    requires some { 0 < length text.now }
+    requires room { HasRoom place (length text.now) }
+    ensures found { IfOk result (λ y. Begins text.now y) }
+    ensures fault { (f : SourceFault) → result ≡ Err (ReadStop.Fault f) → IsFault place text.now f }
+    ensures goes_on { IfOk result (λ y. 0 < y.len) }
+    ensures within { IfOk result (λ y. y.len ≤ length text.now) }
+{
+    piece_at(alloc, text, place)
+}
