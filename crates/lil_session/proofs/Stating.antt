@@ -18,10 +18,6 @@ use Rattle.lil_session.specs.Generating.{IsPlain, EmitsExpression, EmitsStatemen
 use Rattle.lil_session.proofs.Appending.{emits_instr, emits_none, emits_both, emits_as}
 use Rattle.lil_session.proofs.Extents.{left_from, joined_size, joined_loops}
 
--- a whole expression's row
-whole_row : (l : Layout) (v n : ℕ) (final : List ℕ) (e : Expression) (p q : ℕ) → n ≤ 4 → IsSoundWhole v e (kind_of e) → ExpressionAt l final e p q → WholeRow l final n e (kind_of e) p q
-whole_row l v n final e p q few sound value = record { typed = refl; shallow = omega (arith, sound.shallow, few); value = value }
-
 -- ---- statements without statements in them
 pub assign_emitted : (x n : ℕ) (exit : Option ℕ) (a : Expression) (c0 c1 c2 : List ℕ) → EmitsExpression c0 c1 a → c2 ≡ c1 ++ bytes_of (Sgw x) → EmitsStatement c0 c2 n exit (Assign (cardinal_variable x) a)
 assign_emitted x n exit a c0 c1 c2 value e l v plain sound room =
@@ -57,11 +53,6 @@ write_emitted n exit a c0 c1 c2 value e l v plain sound room =
 pub exit_emitted : (n to : ℕ) (exit : Option ℕ) (c0 c1 : List ℕ) → exit ≡ Some to → c1 ≡ c0 ++ bytes_of (Jmp to) → EmitsStatement c0 c1 n exit Exit
 exit_emitted n to exit c0 c1 known e l v plain sound room =
     emits_as c0 c1 3 3 _ _ refl (λ final jump. record { to = to; known = known; jump = jump }) (emits_instr c0 c1 (Jmp to) tt e)
-
--- an EXIT without a LOOP isn't sound
-pub no_exit_emitted : (n : ℕ) (exit : Option ℕ) (c0 : List ℕ) → exit ≡ None → EmitsStatement c0 c0 n exit Exit
-no_exit_emitted n None c0 none l v plain sound room = absurd (cc)
-no_exit_emitted n (Some to) c0 none l v plain sound room = absurd (cc)
 
 -- ---- one behind another
 pub one_emitted : (n : ℕ) (exit : Option ℕ) (s : Statement) (c0 c1 : List ℕ) → EmitsStatement c0 c1 n exit s → EmitsBody c0 c1 n exit (Then s Empty)
@@ -261,3 +252,7 @@ next_guard_emitted n exit end gs i g c0 c1 c2 inside is first rest =
 pub if_emitted : (n : ℕ) (exit : Option ℕ) (gs : List RGuard) (other : List RStmt) (end : ℕ) (c0 c1 c2 : List ℕ) → end ≡ length c0 + body_size (guards_of gs other)
     → EmitsGuards c0 c1 n exit end gs → EmitsBody c1 c2 n exit (statements_of other) → EmitsBody c0 c2 n exit (guards_of gs other)
 if_emitted n exit gs other end c0 c1 c2 place guards otherwise = guards other c2 (λ behind. otherwise) (sym place)
+
+-- ---- a form of statement, as the statements that it is
+pub form_emitted : (n : ℕ) (exit : Option ℕ) (s : Statement) (ss : Statements) (c0 c1 : List ℕ) → ss ≡ Then s Empty → EmitsStatement c0 c1 n exit s → EmitsBody c0 c1 n exit ss
+form_emitted n exit s ss c0 c1 is one = subst (EmitsBody c0 c1 n exit) (sym is) (one_emitted n exit s c0 c1 one)

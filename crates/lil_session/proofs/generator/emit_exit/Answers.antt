@@ -1,6 +1,6 @@
 use Rattle.std.proofs.Common.{rules}
 use Rattle.lil_session.proofs.Appending.{with_ok}
-use Rattle.lil_session.proofs.Stating.{exit_emitted, no_exit_emitted}
+use Rattle.lil_session.proofs.Stating.{exit_emitted}
 use Rattle.lil_session.proofs.generator.emit_exit.Goals as goal
 
 pub returns-in-Some-clause-means : goal.returns-in-Some-clause-means
