@@ -72,7 +72,7 @@ module _ (s : State) (a : IsAlone s) where
 
   begun_moves : (m : Module) (at t q a k : ℕ) (rest : List ℕ) (n : Option ℕ) → Moves s (begun_row m at t q s a k rest n)
   begun_moves m at t q a k rest None = jump_moves m t rest s.store
-  begun_moves m at t q a k rest (Some n) = moves_to Went q rest _ s.top
+  begun_moves m at t q a k rest (Some n) = moves_if _ _ _ (moves_to Went q rest _ s.top) (moves_none BadCode)
 
   trap_moves : (k : Option TrapKind) → Moves s (trap_row s k)
   trap_moves None = moves_none BadCode
@@ -133,7 +133,7 @@ module _ (s : State) (a : IsAlone s) where
   act_moves (Jfs w) q m = one_moves s.stack (false_row m (q + w) q s) (λ x rest. moves_if _ _ _ (jump_moves m (q + w) rest s.store) (moves_to Went q rest s.store s.top))
   act_moves (Cas v w) q m = one_moves s.stack (case_row m v w q s) (λ x rest. moves_if _ _ _ (chosen_moves m rest _) (moves_none BadCode))
   act_moves (Fri o f t) q m = on_three_moves s.stack (loop_row m (s.frame + o) f t q s) (λ a b k rest. moves_if _ _ _ (begun_moves m (s.frame + o) t q a k rest _) (moves_none BadCode))
-  act_moves (Frn v w) q m = moves_if _ _ _ (moves_if _ _ _ (moves_to Went q s.stack s.store s.top) (jump_moves m w s.stack _)) (moves_none BadCode)
+  act_moves (Frn v w) q m = moves_if _ _ _ (moves_if _ _ _ (moves_to Went q s.stack s.store s.top) (moves_if _ _ _ (jump_moves m w s.stack _) (moves_none BadCode))) (moves_none BadCode)
   act_moves (Trp w) q m = trap_moves (called_trap w)
   act_moves (Svc w) q m = request_moves w q (request_words w)
 

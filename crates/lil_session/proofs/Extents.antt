@@ -1,5 +1,5 @@
 -- The bytes and the FORs of statements, guards and arms, one by one.
-use Rattle.std.proofs.Common.{◌≡◌, ℕ, ◌+◌, ◌*◌, ◌<◌, ◌≤◌, List, [], ◌∷◌, length, map, drop, get_or, Option, Some, None, refl, sym, ap, ◌∙◌, subst, arith}
+use Rattle.std.proofs.Common.{◌≡◌, ℕ, zero, suc, ◌+◌, ◌*◌, ◌<◌, ◌≤◌, List, [], ◌∷◌, length, map, drop, get_or, Option, Some, None, refl, sym, ap, ◌∙◌, subst, arith}
 use Rattle.std.proofs.lemmas.List.{drop_more, length-map}
 use Rattle.lil_tree.specs.declared.resolved.RExpr.{RExpr}
 use Rattle.lil_tree.specs.declared.resolved.RStmt.{RStmt}
@@ -31,6 +31,11 @@ module _ (ss : List RStmt) (i : ℕ) (s : RStmt) (inside : i < length ss) (is : 
   pub body_loops_next : body_loops (statements_of (drop i ss)) ≡ body_loops (statement_of s) + body_loops (statements_of (drop (i + 1) ss))
   body_loops_next = ap (λ (ss : List RStmt). body_loops (statements_of ss)) (left_from ss i s inside is) ∙ joined_loops (statement_of s) (statements_of (drop (i + 1) ss))
 
+pub body_size_left : (ss : List RStmt) (i : ℕ) → body_size (statements_of (drop i ss)) ≤ body_size (statements_of ss)
+body_size_left ss zero = omega arith
+body_size_left [] (suc i) = omega arith
+body_size_left (s ∷ ss) (suc i) = omega (arith, body_size_left ss i, joined_size (statement_of s) (statements_of ss))
+
 module _ (gs : List RGuard) (other : List RStmt) (i : ℕ) (g : RGuard) (inside : i < length gs) (is : g ≡ get_or gs i g) where
   pub guards_next : guards_of (drop i gs) other ≡ guard_of g (guards_of (drop (i + 1) gs) other)
   guards_next = ap (λ (gs : List RGuard). guards_of gs other) (left_from gs i g inside is)
@@ -40,6 +45,20 @@ module _ (gs : List RGuard) (other : List RStmt) (i : ℕ) (g : RGuard) (inside 
 
   pub guards_loops_next : body_loops (guards_of (drop i gs) other) ≡ body_loops (statements_of g.body) + body_loops (guards_of (drop (i + 1) gs) other)
   guards_loops_next = omega (arith, ap body_loops (guards_next ∙ guard_is g (guards_of (drop (i + 1) gs) other)))
+
+pub guard_size : (g : RGuard) (rest : Statements) → body_size (guard_of g rest) ≡ body_size (guard_of g Empty) + body_size rest
+guard_size g rest = omega (arith, ap body_size (guard_is g rest), ap body_size (guard_is g Empty))
+
+pub guard_size_is : (g : RGuard) → body_size (guard_of g Empty) ≡ size (expression_of g.condition) + 3 + body_size (statements_of g.body) + 3
+guard_size_is g = omega (arith, ap body_size (guard_is g Empty))
+
+pub guards_size_left : (gs : List RGuard) (i : ℕ) → body_size (guards_of (drop i gs) []) ≤ body_size (guards_of gs [])
+guards_size_left gs zero = omega arith
+guards_size_left [] (suc i) = omega arith
+guards_size_left (g ∷ gs) (suc i) = omega (arith, guards_size_left gs i, ap body_size (guard_is g (guards_of gs [])))
+
+pub guard_next : (gs : List RGuard) (i : ℕ) (g : RGuard) → i < length gs → g ≡ get_or gs i g → body_size (guards_of (drop i gs) []) ≡ body_size (guard_of g Empty) + body_size (guards_of (drop (i + 1) gs) [])
+guard_next gs i g inside is = omega (arith, guards_size_next gs [] i g inside is, guard_size_is g)
 
 module _ (arms : List RArm) (other : Option (List RStmt)) (i : ℕ) (a : RArm) (inside : i < length arms) (is : a ≡ get_or arms i a) where
   pub arms_next : arms_of (drop i arms) other ≡ Arm (map label_of a.labels) (statements_of a.body) (arms_of (drop (i + 1) arms) other)
@@ -61,7 +80,7 @@ module _ (arms : List RArm) (other : Option (List RStmt)) (i : ℕ) (a : RArm) (
   arms_before_next = ap before_else arms_next
 
 -- ---- what stands behind ELSE stands apart
-guards_size_apart : (gs : List RGuard) (other : List RStmt) → body_size (guards_of gs other) ≡ body_size (guards_of gs []) + body_size (statements_of other)
+pub guards_size_apart : (gs : List RGuard) (other : List RStmt) → body_size (guards_of gs other) ≡ body_size (guards_of gs []) + body_size (statements_of other)
 guards_size_apart [] other = omega arith
 guards_size_apart (g ∷ gs) other =
     omega (arith, ap body_size (guard_is g (guards_of gs other)), ap body_size (guard_is g (guards_of gs [])), guards_size_apart gs other)
@@ -81,6 +100,21 @@ arms_size_apart (a ∷ arms) other =
       ap entry_count (arm_is a (arms_of arms None)),
       arms_size_apart arms other,
     )
+
+pub entries_apart : (arms : List RArm) (other : Option (List RStmt)) → entry_count (arms_of arms other) ≡ entry_count (arms_of arms None)
+entries_apart [] None = refl
+entries_apart [] (Some ss) = refl
+entries_apart (a ∷ arms) other = omega (arith, ap entry_count (arm_is a (arms_of arms other)), ap entry_count (arm_is a (arms_of arms None)), entries_apart arms other)
+
+pub before_apart : (arms : List RArm) (other : Option (List RStmt)) → before_else (arms_of arms other) ≡ before_else (arms_of arms None)
+before_apart [] None = refl
+before_apart [] (Some ss) = refl
+before_apart (a ∷ arms) other = omega (arith, ap before_else (arm_is a (arms_of arms other)), ap before_else (arm_is a (arms_of arms None)), before_apart arms other)
+
+pub bodies_apart : (arms : List RArm) (other : Option (List RStmt)) → bodies_size (arms_of arms other) ≡ before_else (arms_of arms None) + arms_size (else_of other)
+bodies_apart [] None = refl
+bodies_apart [] (Some ss) = omega arith
+bodies_apart (a ∷ arms) other = omega (arith, ap bodies_size (arm_is a (arms_of arms other)), ap before_else (arm_is a (arms_of arms None)), bodies_apart arms other)
 
 arms_loops_apart : (arms : List RArm) (other : Option (List RStmt)) → arms_loops (arms_of arms other) ≡ arms_loops (arms_of arms None) + arms_loops (else_of other)
 arms_loops_apart [] other = omega arith

@@ -1,5 +1,6 @@
 pub mod Appending
 pub mod Extents
+pub mod Stating
 pub mod Weights
 pub mod Generating
 pub mod Stating

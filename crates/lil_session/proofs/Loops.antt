@@ -353,7 +353,7 @@ module _ (modules : List Resolved) (l : Layout) (table : List Module) (own : Mod
         enters u e =
             at_step modules l table own number h stepped (shared_stored l table own number h s m shared row.turns.stepped (word_of step ∷ m.stack) m.store shared.mem).program (Fri n (loop_sign row.type) row.end) row.turns.turn row.turns.enter
             ∙ ap (λ (st : List ℕ). on_three stepped (word_of step ∷ st) (loop_row own at (loop_sign row.type) row.end row.turns.turn stepped)) row.stack_is
-            ∙ yes _ _ _ (and_from _ _ (lt-ltb (at + 2) 65536 deep) (and_from _ _ (sign_small row.type) (ap not (step_some step row.turns.round.is_step))))
+            ∙ yes _ _ _ (and_from _ _ (sign_small row.type) (ap not (step_some step row.turns.round.is_step)))
             ∙ ap (λ (u : ℕ). begun_row own at row.end row.turns.turn stepped (word_of first) (word_of step) [] (after_first u)) (turns_read row.type first row.limit step first_in limit_in row.turns.round.is_step ∙ e)
 
         by_left : (u : ℕ) → turns first row.limit step ≡ u → Goes modules l table own number h s (Perform (Turns (Variable x kind) first step u body) ∷ k) m (c + 32)
@@ -383,7 +383,7 @@ module _ (modules : List Resolved) (l : Layout) (table : List Module) (own : Mod
             let few = turns_few row.type first row.limit step u first_in limit_in e in
             goes_after modules l table own number h s (Perform (Turns (Variable x kind) first step (suc u) body) ∷ k) m stepped (c + 32) (c + 31) pushed
             (goes_after modules l table own number h s (Perform (Turns (Variable x kind) first step (suc u) body) ∷ k) stepped begun (c + 31) (c + 28)
-            (advances stepped s.world _ (enters (suc u) e))
+            (advances stepped s.world _ (enters (suc u) e ∙ yes _ _ _ (lt-ltb (at + 2) 65536 deep)))
             (turn_goes s k begun c a (shared_stored l table own number h s m shared row.turns.turn [] three kept.mem) x kind row.type row.is first step u body (
               room,
               get_or-set_other two (at + 2) at (word_of step) 0 first_third ∙ get_or-set_other one (at + 1) at u 0 first_second ∙ get_or-set_same m.store at (word_of first) 0 (omega (arith, deep, shared.mem.long)),
@@ -420,7 +420,7 @@ module _ (modules : List Resolved) (l : Layout) (table : List Module) (own : Mod
         again : (u : ℕ) → row.words.left ≡ u → mstep m ≡ turn_row own (m.frame + loop_place (length row.outer.loops)) row.turn row.end m row.words.now u (word_of step)
         again u e =
             at_step modules l table own number h m shared.program (Frn n row.turn) row.end (subst (λ (p : ℕ). IsAt own.code p (Frn n row.turn) row.end) (sym row.at) row.round.next)
-            ∙ yes _ _ _ (lt-ltb (at + 2) 65536 deep)
+            ∙ yes _ _ _ (lt-ltb (at + 1) 65536 (omega (arith, deep)))
             ∙ ap (λ (w : ℕ). turn_row own at row.turn row.end m w (get_or m.store (at + 1) 0) (get_or m.store (at + 2) 0)) inner.1
             ∙ ap (λ (w : ℕ). turn_row own at row.turn row.end m row.words.now w (get_or m.store (at + 2) 0)) (inner.2 ∙ e)
             ∙ ap (λ (w : ℕ). turn_row own at row.turn row.end m row.words.now u w) (inner.3 ∙ row.step_is)
@@ -453,6 +453,7 @@ module _ (modules : List Resolved) (l : Layout) (table : List Module) (own : Mod
             (advances m s.world _ (
             again (suc u) e
             ∙ no _ _ _ (ne_eqb (suc u) 0 (λ d. omega (arith, d)))
+            ∙ yes _ _ _ (lt-ltb (at + 2) 65536 deep)
             ∙ yes _ _ _ (lt-ltb row.turn (length own.code) (instr_within own.code row.turn (Llw n) row.round.loaded row.round.load))
             ∙ ap (λ (st : List ℕ). let r : Event × State = (Went, record m { place = row.turn; store = st }) in r)
             (ap (λ (w : ℕ). set (set m.store (at + 1) w) at ((row.words.now + word_of step) % 65536)) fewer ∙ ap (set one at) sum)

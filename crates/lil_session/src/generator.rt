@@ -73,9 +73,11 @@ fn emit_statement(code: &mut Bytes, statement: &RStmt, around: Around) -> Result
         RStmt::Assign(variable, value) => emit_assign(code, *variable, value, around),
         RStmt::Write(value) => emit_write(code, value, around),
         RStmt::If(guards, otherwise) => {
-            let end = code.len() + guards_size(guards.as_slice()) + body_size(otherwise.as_slice());
-            emit_guards(code, guards.as_slice(), end as u16, around)?;
-            emit_body(code, otherwise.as_slice(), around)
+            let guards = guards.as_slice();
+            let otherwise = otherwise.as_slice();
+            let end = code.len() + guards_size(guards) + body_size(otherwise);
+            emit_guards(code, guards, end as u16, around)?;
+            emit_body(code, otherwise, around)
         }
         RStmt::Case(value, arms, otherwise) => {
             emit_expression(code, value)?;
