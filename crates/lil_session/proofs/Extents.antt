@@ -79,6 +79,11 @@ module _ (arms : List RArm) (other : Option (List RStmt)) (i : ℕ) (a : RArm) (
   pub arms_before_next : before_else (arms_of (drop i arms) other) ≡ body_size (statements_of a.body) + 3 + before_else (arms_of (drop (i + 1) arms) other)
   arms_before_next = ap before_else arms_next
 
+pub arms_before_left : (arms : List RArm) (i : ℕ) → before_else (arms_of (drop i arms) None) ≤ before_else (arms_of arms None)
+arms_before_left arms zero = omega arith
+arms_before_left [] (suc i) = omega arith
+arms_before_left (a ∷ arms) (suc i) = omega (arith, arms_before_left arms i, ap before_else (arm_is a (arms_of arms None)))
+
 -- ---- what stands behind ELSE stands apart
 pub guards_size_apart : (gs : List RGuard) (other : List RStmt) → body_size (guards_of gs other) ≡ body_size (guards_of gs []) + body_size (statements_of other)
 guards_size_apart [] other = omega arith

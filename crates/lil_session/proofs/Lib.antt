@@ -3,7 +3,6 @@ pub mod Extents
 pub mod Stating
 pub mod Weights
 pub mod Generating
-pub mod Stating
 pub mod CaseEmitting
 pub mod Shown
 pub mod Homes

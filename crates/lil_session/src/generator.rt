@@ -81,13 +81,14 @@ fn emit_statement(code: &mut Bytes, statement: &RStmt, around: Around) -> Result
         }
         RStmt::Case(value, arms, otherwise) => {
             emit_expression(code, value)?;
-            let places = case_places(code.len(), arms.as_slice(), otherwise);
+            let arms = arms.as_slice();
+            let places = case_places(code.len(), arms, otherwise);
             encode(code, Instr::Jmp(places.table))?;
             encode(code, Instr::Jmp(places.end))?;
-            emit_arms(code, arms.as_slice(), places.leave, around)?;
+            emit_arms(code, arms, places.leave, around)?;
             emit_else(code, otherwise, places.leave, around)?;
             encode(code, Instr::Cas(places.entries, places.other))?;
-            emit_table(code, arms.as_slice(), places.first)
+            emit_table(code, arms, places.first)
         }
         RStmt::While(condition, body) => emit_while(code, condition, body.as_slice(), around),
         RStmt::Repeat(body, condition) => emit_repeat(code, body.as_slice(), condition, around),

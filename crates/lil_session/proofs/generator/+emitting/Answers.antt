@@ -1,19 +1,23 @@
-use Rattle.std.proofs.Common.{rules, arith, w16, w32, to_z, of_z, OnOk, refl, suc, ℤ, pos, negsuc, ◌≤ℤ◌, ◌≡◌, ◌+◌, ◌*◌, ◌<◌, ◌≤◌, ℕ, List, [], length, drop, sym, ap, ◌∙◌, subst}
+use Rattle.std.proofs.Common.{rules, arith, w16, w32, to_z, of_z, OnOk, refl, suc, ℤ, pos, negsuc, ◌≤ℤ◌, ◌≡◌, ◌+◌, ◌*◌, ◌<◌, ◌≤◌, ℕ, List, [], length, drop, sym, ap, ◌∙◌, subst, None, Option}
 use mir.Val.{SFits}
 use Rattle.std.proofs.lemmas.Int.{to_z-of_z}
 use Rattle.std.proofs.lemmas.List.{drop_all}
 use Rattle.lil_base.specs.Words.{word_of}
 use Rattle.lil_tree.specs.declared.resolved.RStmt.{RStmt}
 use Rattle.lil_tree.specs.declared.resolved.RGuard.{RGuard}
+use Rattle.lil_tree.specs.declared.resolved.RArm.{RArm}
 use Rattle.lil_tree.specs.Resolved.{Assign, While, Repeat, Loop, Exit, For, Statements, Empty, Then}
 use Rattle.lil_tree.specs.Sizes as spec
-use Rattle.lil_tree.specs.Views.{cardinal_variable, write_of, expression_of, statement_of, statements_of, guard_of, guards_of}
+use Rattle.lil_tree.specs.Views.{cardinal_variable, write_of, expression_of, statement_of, statements_of, guard_of, guards_of, arms_of, else_of}
 use Rattle.lil_tree.proofs.Views.{assign_is, write_is, if_is, while_is, repeat_is, loop_is, exit_is, for_is}
-use Rattle.lil_session.specs.Generating.{EmitsStatement, EmitsBody, EmitsGuards}
+use Rattle.lil_mcode.specs.declared.instr.Instr.TheVariants.{Jmp, Cas}
+use Rattle.lil_mcode.specs.Bytes.{bytes_of}
+use Rattle.lil_session.specs.Generating.{EmitsStatement, EmitsBody, EmitsGuards, IsPlaced, EmitsArm, EmitsArms, EmitsBodies, EmitsTable, before_else, entry_count}
 use Rattle.lil_session.proofs.Appending.{with_ok}
-use Rattle.lil_session.proofs.Extents.{body_size_next, body_size_left, guard_next, guards_size_left, guard_size_is, if_size, guards_size_apart}
+use Rattle.lil_session.proofs.Extents.{body_size_next, body_size_left, guard_next, guards_size_left, guard_size_is, if_size, guards_size_apart, arms_before_next, arms_before_left, case_size}
+use Rattle.lil_session.proofs.CaseEmitting.{longer, arm_emitted, no_else_emitted, next_arm_emitted, no_arms_left, case_emitted, case_short}
 use Rattle.lil_session.proofs.Stating.{none_emitted, next_emitted, while_emitted, repeat_emitted, loop_emitted, for_emitted, guard_emitted, no_guard_emitted, next_guard_emitted, if_emitted, form_emitted}
-use Rattle.lil_session.proofs.Weights.{weight, weights, guard_weight, guards_weight, statement_in, guard_in, if_weight}
+use Rattle.lil_session.proofs.Weights.{weight, weights, guard_weight, guards_weight, statement_in, guard_in, if_weight, arms_weight, else_weight, arm_in, arm_weighs, case_weight}
 use Rattle.lil_session.proofs.generator.+emitting.Goals as goal
 
 pub emit_body-emit_statement-requires : goal.emit_body-emit_statement-requires
@@ -123,8 +127,8 @@ emit_statement-returns-in-Exit-clause-means t c =
 
 pub emit_statement-returns-in-While-clause-means : goal.emit_statement-returns-in-While-clause-means
 emit_statement-returns-in-While-clause-means t c =
-    let is = ap statement_of c.in-While.is ∙ while_is c.in-While.condition c.in-While.body ∙ ap (λ (ss : List RStmt). Then (While (expression_of c.in-While.condition) (statements_of ss)) Empty) (sym c.as_slice-in-While.ensures) in
-    with_ok c.emit_while.result (form_emitted c.args.around.loops c.args.around.exit (While (expression_of c.in-While.condition) (statements_of c.as_slice-in-While.result.now)) _ _ _ is) c.emit_while.ensures.means
+    let is = ap statement_of c.in-While.is ∙ while_is c.in-While.condition c.in-While.body ∙ ap (λ (ss : List RStmt). Then (While (expression_of c.in-While.condition) (statements_of ss)) Empty) (sym c.as_slice.ensures) in
+    with_ok c.emit_while.result (form_emitted c.args.around.loops c.args.around.exit (While (expression_of c.in-While.condition) (statements_of c.as_slice.result.now)) _ _ _ is) c.emit_while.ensures.means
 
 pub emit_statement-returns-in-Repeat-clause-means : goal.emit_statement-returns-in-Repeat-clause-means
 emit_statement-returns-in-Repeat-clause-means t c =
@@ -219,3 +223,108 @@ emit_statement-returns-in_ok-emit_guards-in-If-clause-means t c =
     ∙ ap (λ (gs : List RGuard). guards_of gs c.in-If.otherwise) (sym c.as_slice-guards.ensures) ∙ ap (guards_of gs) (sym c.as_slice-otherwise.ensures) in
     subst (λ (ss : Statements). OnOk c.emit_body.result (EmitsBody c.args.code.now c.emit_body.new.code c.args.around.loops c.args.around.exit ss)) (sym is)
     (with_ok c.emit_body.result (if_emitted c.args.around.loops c.args.around.exit gs other end _ _ _ place c.in_ok-emit_guards-in-If.ensures.means) c.emit_body.ensures.means)
+
+pub emit_arm-returns-clause-means : goal.emit_arm-returns-clause-means
+emit_arm-returns-clause-means t c =
+    with_ok c.encode.result (arm_emitted c.args.around.loops c.args.around.exit c.args.leave (statements_of c.args.body.now) _ _ _ c.in_ok-emit_body.ensures.means) c.encode.ensures
+
+pub emit_else-emit_arm-requires : goal.emit_else-emit_arm-requires
+emit_else-emit_arm-requires t c =
+    let whole = ap (λ o. spec.arms_size (else_of o)) c.in-Some.is in
+    let part = ap else_weight c.in-Some.is in
+    let body = ap (λ ss. spec.body_size (statements_of ss)) c.as_slice.ensures in
+    (omega (arith, c.decreases, part, ap weights c.as_slice.ensures), (omega (arith, whole, body, c.requires.room), omega (arith, whole, body, c.requires.nested)))
+
+pub emit_else-returns-in-None-clause-means : goal.emit_else-returns-in-None-clause-means
+emit_else-returns-in-None-clause-means t c =
+    subst (λ (o : Option (List RStmt)). OnOk c.encode.result (EmitsBodies c.args.code.now c.encode.new.code c.args.around.loops c.args.around.exit c.args.leave (else_of o))) (sym c.in-None.is)
+    (with_ok c.encode.result (no_else_emitted c.args.around.loops c.args.around.exit c.args.leave _ _) c.encode.ensures)
+
+pub emit_arms-emit_arm-requires : goal.emit_arms-emit_arm-requires
+emit_arms-emit_arm-requires t c =
+    let arms = c.args.arms.now in
+    let i = c.loop-arm.arm-index in
+    let arm = c.arm-item.result in
+    let next = arms_before_next arms None i arm c.loop-arm-test.true c.arm-item.is in
+    let part = arm_in arms i arm c.loop-arm-test.true c.arm-item.is in
+    let body = ap (λ ss. spec.body_size (statements_of ss)) c.as_slice.ensures in
+    (
+      omega (arith, c.decreases, part, arm_weighs arm, ap weights c.as_slice.ensures),
+      (omega (arith, next, c.loop-arm.invariant.0, body, c.requires.room), omega (arith, next, arms_before_left arms i, body, c.requires.nested)),
+    )
+
+pub emit_arms-loop-arm-preserved : goal.emit_arms-loop-arm-preserved
+emit_arms-loop-arm-preserved t c =
+    let arms = c.args.arms.now in
+    let i = c.loop-arm.arm-index in
+    let arm = c.arm-item.result in
+    let n = c.args.around.loops in
+    let exit = c.args.around.exit in
+    let body = ap (λ ss. spec.body_size (statements_of ss)) c.as_slice.ensures in
+    let mine = subst (λ (ss : List RStmt). EmitsArm c.loop-arm.code c.emit_arm.new.code n exit c.args.leave (statements_of ss)) c.as_slice.ensures c.in_ok-emit_arm.ensures.means in
+    (
+      omega (arith, arms_before_next arms None i arm c.loop-arm-test.true c.arm-item.is, c.loop-arm.invariant.0, body, c.in_ok-emit_arm.ensures.short),
+      λ last rest. c.loop-arm.invariant.1 last (next_arm_emitted arms i n exit c.args.leave arm c.loop-arm.code c.emit_arm.new.code last c.loop-arm-test.true c.arm-item.is mine rest),
+    )
+
+pub emit_arms-returns-clause-means : goal.emit_arms-returns-clause-means
+emit_arms-returns-clause-means t c =
+    c.loop-arm.invariant.1 c.loop-arm.code (no_arms_left c.args.arms.now c.loop-arm.arm-index c.args.around.loops c.args.around.exit c.args.leave c.loop-arm.code c.loop-arm-test.false)
+
+pub emit_statement-emit_arms-requires : goal.emit_statement-emit_arms-requires
+emit_statement-emit_arms-requires t c =
+    let whole = ap (λ (s : RStmt). spec.body_size (statement_of s)) c.in-Case.is ∙ case_size c.in-Case.value c.in-Case.arms c.in-Case.otherwise in
+    let part = ap weight c.in-Case.is ∙ case_weight c.in-Case.value c.in-Case.arms c.in-Case.otherwise in
+    let arms = ap (λ arms. before_else (arms_of arms None)) c.as_slice-arms.ensures in
+    let to_table = longer c.emit_expression.new.code c.encode.new.code (bytes_of (Jmp c.case_places-places.result.table)) c.in_ok-encode-in-Case.ensures in
+    let to_end = longer c.encode.new.code c.encode-in-Case.new.code (bytes_of (Jmp c.case_places-places.result.end)) c.in_ok-encode-in-Case-2.ensures in
+    (
+      omega (arith, c.decreases, part, ap arms_weight c.as_slice-arms.ensures),
+      (omega (arith, whole, arms, c.requires.room, c.in_ok-emit_expression-in-Case.ensures.short, to_table, to_end), omega (arith, whole, arms, c.requires.nested)),
+    )
+
+pub emit_statement-emit_else-requires : goal.emit_statement-emit_else-requires
+emit_statement-emit_else-requires t c =
+    let whole = ap (λ (s : RStmt). spec.body_size (statement_of s)) c.in-Case.is ∙ case_size c.in-Case.value c.in-Case.arms c.in-Case.otherwise in
+    let part = ap weight c.in-Case.is ∙ case_weight c.in-Case.value c.in-Case.arms c.in-Case.otherwise in
+    let arms = ap (λ arms. before_else (arms_of arms None)) c.as_slice-arms.ensures in
+    let to_table = longer c.emit_expression.new.code c.encode.new.code (bytes_of (Jmp c.case_places-places.result.table)) c.in_ok-encode-in-Case.ensures in
+    let to_end = longer c.encode.new.code c.encode-in-Case.new.code (bytes_of (Jmp c.case_places-places.result.end)) c.in_ok-encode-in-Case-2.ensures in
+    (
+      omega (arith, c.decreases, part),
+      (omega (arith, whole, arms, c.requires.room, c.in_ok-emit_expression-in-Case.ensures.short, to_table, to_end, c.in_ok-emit_arms-in-Case.ensures.short), omega (arith, whole, c.requires.nested)),
+    )
+
+pub emit_statement-emit_table-requires : goal.emit_statement-emit_table-requires
+emit_statement-emit_table-requires t c =
+    let whole = ap (λ (s : RStmt). spec.body_size (statement_of s)) c.in-Case.is ∙ case_size c.in-Case.value c.in-Case.arms c.in-Case.otherwise in
+    let arms = ap (λ arms. before_else (arms_of arms None)) c.as_slice-arms.ensures in
+    omega (arith, whole, arms, c.requires.room, c.in_ok-emit_expression-in-Case.ensures.short, c.len-in-Case.ensures, c.case_places-places.ensures.first)
+
+pub emit_statement-returns-in_ok-encode-in-Case-3-clause-short : goal.emit_statement-returns-in_ok-encode-in-Case-3-clause-short
+emit_statement-returns-in_ok-encode-in-Case-3-clause-short t c =
+    let bodies = ap (λ arms. before_else (arms_of arms None)) c.as_slice-arms.ensures in
+    let entries = ap (λ arms. entry_count (arms_of arms None)) c.as_slice-arms.ensures in
+    subst (λ (s : RStmt). OnOk c.emit_table.result (length c.emit_table.new.code ≤ length c.args.code.now + spec.body_size (statement_of s))) (sym c.in-Case.is)
+    (with_ok c.emit_table.result
+    (λ h. case_short c.in-Case.value c.in-Case.arms c.in-Case.otherwise c.case_places-places.result _ _ _ _ _ _ _ _
+      c.in_ok-emit_expression-in-Case.ensures.short c.in_ok-encode-in-Case.ensures c.in_ok-encode-in-Case-2.ensures
+      (omega (arith, bodies, c.in_ok-emit_arms-in-Case.ensures.short)) c.in_ok-emit_else-in-Case.ensures.short c.in_ok-encode-in-Case-3.ensures (omega (arith, entries, h)))
+    c.emit_table.ensures.short)
+
+pub emit_statement-returns-in_ok-encode-in-Case-3-clause-means : goal.emit_statement-returns-in_ok-encode-in-Case-3-clause-means
+emit_statement-returns-in_ok-encode-in-Case-3-clause-means t c =
+    let n = c.args.around.loops in
+    let exit = c.args.around.exit in
+    let other = c.in-Case.otherwise in
+    let places = c.case_places-places.result in
+    let placed = subst (λ (start : ℕ). IsPlaced start (arms_of c.in-Case.arms other) places) c.len-in-Case.ensures
+    (subst (λ (arms : List RArm). IsPlaced c.len-in-Case.result (arms_of arms other) places) c.as_slice-arms.ensures c.case_places-places.ensures) in
+    let bodies = subst (λ (arms : List RArm). EmitsArms c.encode-in-Case.new.code c.emit_arms.new.code n exit places.leave arms) c.as_slice-arms.ensures c.in_ok-emit_arms-in-Case.ensures.means in
+    subst (λ (s : RStmt). OnOk c.emit_table.result (EmitsBody c.args.code.now c.emit_table.new.code n exit (statement_of s))) (sym c.in-Case.is)
+    (with_ok c.emit_table.result
+    (λ h. case_emitted c.in-Case.value c.in-Case.arms other places _ _ _ _ _ _ _ _ n exit
+      c.in_ok-emit_expression-in-Case.ensures.means placed c.in_ok-encode-in-Case.ensures c.in_ok-encode-in-Case-2.ensures bodies
+      c.in_ok-emit_else-in-Case.ensures.means c.in_ok-encode-in-Case-3.ensures
+      (subst (λ (arms : List RArm). EmitsTable c.encode-in-Case-2.new.code c.emit_table.new.code places.first (arms_of arms other)) c.as_slice-arms.ensures (h other)))
+    c.emit_table.ensures.means)
