@@ -60,8 +60,8 @@ entry_emitted : (k : Kind) (label : Label) (to : ℕ) (old new : List ℕ) → I
 entry_emitted k label to old new sound e =
     emits_bytes old new (entry_bytes (word_of label.low) (word_of label.high) to) _ e
     (λ final h.
-      let there = entry_stands final (length old) (word_of label.low) (word_of label.high) to h in
-      record { sound = sound; low = there.low_at; high = there.high_at; target = there.target_at })
+    let there = entry_stands final (length old) (word_of label.low) (word_of label.high) to h in
+    record { sound = sound; low = there.low_at; high = there.high_at; target = there.target_at })
 
 pub no_label_emitted : (code : List ℕ) (to : ℕ) → EmitsLabels code code to []
 no_label_emitted code to k base sound = emits_none code

@@ -185,7 +185,12 @@ fn emit_arm(code: &mut Bytes, body: &[RStmt], leave: u16, around: Around) -> Res
 
 /// Appends what stands behind ELSE with a jump to the exit, or a trap in its place.
 #[cycle(emitting)]
-fn emit_else(code: &mut Bytes, otherwise: &Option<Items<RStmt>>, leave: u16, around: Around) -> Result<(), Memory>
+fn emit_else(
+    code: &mut Bytes,
+    otherwise: &Option<Items<RStmt>>,
+    leave: u16,
+    around: Around,
+) -> Result<(), Memory>
     requires room { length code.old + spec.arms_size (else_of otherwise.now) ≤ 32767 }
     requires nested { 3 * around.loops + spec.arms_size (else_of otherwise.now) ≤ 32767 }
     ensures short { OnOk result (length code.new ≤ length code.old + spec.arms_size (else_of otherwise.now)) }
@@ -199,7 +204,12 @@ fn emit_else(code: &mut Bytes, otherwise: &Option<Items<RStmt>>, leave: u16, aro
 
 /// Appends the code of a WHILE: the condition, a jump behind all where it is FALSE, the statements, and a jump back.
 #[cycle(emitting)]
-fn emit_while(code: &mut Bytes, condition: &RExpr, body: &[RStmt], around: Around) -> Result<(), Memory>
+fn emit_while(
+    code: &mut Bytes,
+    condition: &RExpr,
+    body: &[RStmt],
+    around: Around,
+) -> Result<(), Memory>
     requires room { length code.old + spec.statement_size (While (expression_of condition.now) (statements_of body.now)) ≤ 32767 }
     requires nested { 3 * around.loops + spec.statement_size (While (expression_of condition.now) (statements_of body.now)) ≤ 32767 }
     ensures short { OnOk result (length code.new ≤ length code.old + spec.statement_size (While (expression_of condition.now) (statements_of body.now))) }
@@ -215,7 +225,12 @@ fn emit_while(code: &mut Bytes, condition: &RExpr, body: &[RStmt], around: Aroun
 
 /// Appends the code of a REPEAT: the statements, the condition, and a jump back where it is FALSE.
 #[cycle(emitting)]
-fn emit_repeat(code: &mut Bytes, body: &[RStmt], condition: &RExpr, around: Around) -> Result<(), Memory>
+fn emit_repeat(
+    code: &mut Bytes,
+    body: &[RStmt],
+    condition: &RExpr,
+    around: Around,
+) -> Result<(), Memory>
     requires room { length code.old + spec.statement_size (Repeat (statements_of body.now) (expression_of condition.now)) ≤ 32767 }
     requires nested { 3 * around.loops + spec.statement_size (Repeat (statements_of body.now) (expression_of condition.now)) ≤ 32767 }
     ensures short { OnOk result (length code.new ≤ length code.old + spec.statement_size (Repeat (statements_of body.now) (expression_of condition.now))) }
@@ -259,7 +274,15 @@ fn emit_exit(code: &mut Bytes, around: Around) -> Result<(), Memory>
 /// Appends the code of a FOR: the first value, the last, the step, and the turns. Each turn stores its value in the
 /// variable, and the statements follow.
 #[cycle(emitting)]
-fn emit_for(code: &mut Bytes, variable: u16, from: &RExpr, to: &RExpr, step: i16, body: &[RStmt], around: Around) -> Result<(), Memory>
+fn emit_for(
+    code: &mut Bytes,
+    variable: u16,
+    from: &RExpr,
+    to: &RExpr,
+    step: i16,
+    body: &[RStmt],
+    around: Around,
+) -> Result<(), Memory>
     requires room { length code.old + spec.statement_size (For (cardinal_variable variable) (expression_of from.now) (expression_of to.now) step (statements_of body.now)) ≤ 32767 }
     requires nested { 3 * around.loops + spec.statement_size (For (cardinal_variable variable) (expression_of from.now) (expression_of to.now) step (statements_of body.now)) ≤ 32767 }
     ensures short { OnOk result (length code.new ≤ length code.old + spec.statement_size (For (cardinal_variable variable) (expression_of from.now) (expression_of to.now) step (statements_of body.now))) }

@@ -25,8 +25,7 @@ emit_body-emit_statement-requires t c =
     let inside : c.loop-statement.statement-index < length c.args.body.now = omega arith in
     let next = body_size_next c.args.body.now c.loop-statement.statement-index c.statement-item.result inside c.statement-item.is in
     let part = statement_in c.args.body.now c.loop-statement.statement-index c.statement-item.result inside c.statement-item.is in
-    let so_far = c.loop-statement.invariant.0 in
-    (
+    let so_far = c.loop-statement.invariant.0 in (
       omega (arith, c.decreases, part),
       (omega (arith, next, so_far, c.requires.room), omega (arith, next, body_size_left c.args.body.now c.loop-statement.statement-index, c.requires.nested)),
     )
@@ -35,11 +34,10 @@ pub emit_body-loop-statement-preserved : goal.emit_body-loop-statement-preserved
 emit_body-loop-statement-preserved t c =
     let inside : c.loop-statement.statement-index < length c.args.body.now = omega arith in
     let next = body_size_next c.args.body.now c.loop-statement.statement-index c.statement-item.result inside c.statement-item.is in
-    let so_far = c.loop-statement.invariant.0 in
-    (
+    let so_far = c.loop-statement.invariant.0 in (
       omega (arith, next, so_far, c.in_ok-emit_statement.ensures.short),
       λ last rest. c.loop-statement.invariant.1 last
-      (next_emitted c.args.around.loops c.args.around.exit c.args.body.now c.loop-statement.statement-index c.statement-item.result _ _ last inside c.statement-item.is c.in_ok-emit_statement.ensures.means rest),
+          (next_emitted c.args.around.loops c.args.around.exit c.args.body.now c.loop-statement.statement-index c.statement-item.result _ _ last inside c.statement-item.is c.in_ok-emit_statement.ensures.means rest),
     )
 
 pub emit_guards-emit_guard-requires : goal.emit_guards-emit_guard-requires
@@ -47,8 +45,7 @@ emit_guards-emit_guard-requires t c =
     let inside : c.loop-guard.guard-index < length c.args.guards.now = omega arith in
     let next = guard_next c.args.guards.now c.loop-guard.guard-index c.guard-item.result inside c.guard-item.is in
     let part = guard_in c.args.guards.now c.loop-guard.guard-index c.guard-item.result inside c.guard-item.is in
-    let so_far = c.loop-guard.invariant.0 in
-    (
+    let so_far = c.loop-guard.invariant.0 in (
       omega (arith, c.decreases, part),
       (omega (arith, next, so_far, c.requires.room), omega (arith, next, guards_size_left c.args.guards.now c.loop-guard.guard-index, c.requires.nested)),
     )
@@ -57,11 +54,10 @@ pub emit_guards-loop-guard-preserved : goal.emit_guards-loop-guard-preserved
 emit_guards-loop-guard-preserved t c =
     let inside : c.loop-guard.guard-index < length c.args.guards.now = omega arith in
     let next = guard_next c.args.guards.now c.loop-guard.guard-index c.guard-item.result inside c.guard-item.is in
-    let so_far = c.loop-guard.invariant.0 in
-    (
+    let so_far = c.loop-guard.invariant.0 in (
       omega (arith, next, so_far, c.in_ok-emit_guard.ensures.short),
       λ last rest. c.loop-guard.invariant.1 last
-      (next_guard_emitted c.args.around.loops c.args.around.exit c.args.end c.args.guards.now c.loop-guard.guard-index c.guard-item.result _ _ last inside c.guard-item.is c.in_ok-emit_guard.ensures.means rest),
+          (next_guard_emitted c.args.around.loops c.args.around.exit c.args.end c.args.guards.now c.loop-guard.guard-index c.guard-item.result _ _ last inside c.guard-item.is c.in_ok-emit_guard.ensures.means rest),
     )
 
 pub emit_guards-returns-clause-means : goal.emit_guards-returns-clause-means
@@ -189,8 +185,7 @@ emit_statement-emit_guards-requires t c =
     let whole = ap (λ (s : RStmt). spec.body_size (statement_of s)) c.in-If.is ∙ if_size c.in-If.guards c.in-If.otherwise in
     let first = ap (λ (gs : List RGuard). spec.body_size (guards_of gs [])) c.as_slice-guards.ensures in
     let second = ap (λ (ss : List RStmt). spec.body_size (statements_of ss)) c.as_slice-otherwise.ensures in
-    let part = ap weight c.in-If.is ∙ if_weight c.in-If.guards c.in-If.otherwise in
-    (
+    let part = ap weight c.in-If.is ∙ if_weight c.in-If.guards c.in-If.otherwise in (
       omega (arith, c.decreases, part, ap guards_weight c.as_slice-guards.ensures),
       (omega (arith, whole, first, c.requires.room), omega (arith, whole, first, c.requires.nested)),
     )
@@ -200,8 +195,7 @@ emit_statement-emit_body-requires t c =
     let whole = ap (λ (s : RStmt). spec.body_size (statement_of s)) c.in-If.is ∙ if_size c.in-If.guards c.in-If.otherwise in
     let first = ap (λ (gs : List RGuard). spec.body_size (guards_of gs [])) c.as_slice-guards.ensures in
     let second = ap (λ (ss : List RStmt). spec.body_size (statements_of ss)) c.as_slice-otherwise.ensures in
-    let part = ap weight c.in-If.is ∙ if_weight c.in-If.guards c.in-If.otherwise in
-    (
+    let part = ap weight c.in-If.is ∙ if_weight c.in-If.guards c.in-If.otherwise in (
       omega (arith, c.decreases, part, ap weights c.as_slice-otherwise.ensures),
       (omega (arith, whole, first, second, c.in_ok-emit_guards-in-If.ensures.short, c.requires.room), omega (arith, whole, second, c.requires.nested)),
     )
@@ -247,8 +241,7 @@ emit_arms-emit_arm-requires t c =
     let arm = c.arm-item.result in
     let next = arms_before_next arms None i arm c.loop-arm-test.true c.arm-item.is in
     let part = arm_in arms i arm c.loop-arm-test.true c.arm-item.is in
-    let body = ap (λ ss. spec.body_size (statements_of ss)) c.as_slice.ensures in
-    (
+    let body = ap (λ ss. spec.body_size (statements_of ss)) c.as_slice.ensures in (
       omega (arith, c.decreases, part, arm_weighs arm, ap weights c.as_slice.ensures),
       (omega (arith, next, c.loop-arm.invariant.0, body, c.requires.room), omega (arith, next, arms_before_left arms i, body, c.requires.nested)),
     )
@@ -261,8 +254,7 @@ emit_arms-loop-arm-preserved t c =
     let n = c.args.around.loops in
     let exit = c.args.around.exit in
     let body = ap (λ ss. spec.body_size (statements_of ss)) c.as_slice.ensures in
-    let mine = subst (λ (ss : List RStmt). EmitsArm c.loop-arm.code c.emit_arm.new.code n exit c.args.leave (statements_of ss)) c.as_slice.ensures c.in_ok-emit_arm.ensures.means in
-    (
+    let mine = subst (λ (ss : List RStmt). EmitsArm c.loop-arm.code c.emit_arm.new.code n exit c.args.leave (statements_of ss)) c.as_slice.ensures c.in_ok-emit_arm.ensures.means in (
       omega (arith, arms_before_next arms None i arm c.loop-arm-test.true c.arm-item.is, c.loop-arm.invariant.0, body, c.in_ok-emit_arm.ensures.short),
       λ last rest. c.loop-arm.invariant.1 last (next_arm_emitted arms i n exit c.args.leave arm c.loop-arm.code c.emit_arm.new.code last c.loop-arm-test.true c.arm-item.is mine rest),
     )
@@ -277,8 +269,7 @@ emit_statement-emit_arms-requires t c =
     let part = ap weight c.in-Case.is ∙ case_weight c.in-Case.value c.in-Case.arms c.in-Case.otherwise in
     let arms = ap (λ arms. before_else (arms_of arms None)) c.as_slice-arms.ensures in
     let to_table = longer c.emit_expression.new.code c.encode.new.code (bytes_of (Jmp c.case_places-places.result.table)) c.in_ok-encode-in-Case.ensures in
-    let to_end = longer c.encode.new.code c.encode-in-Case.new.code (bytes_of (Jmp c.case_places-places.result.end)) c.in_ok-encode-in-Case-2.ensures in
-    (
+    let to_end = longer c.encode.new.code c.encode-in-Case.new.code (bytes_of (Jmp c.case_places-places.result.end)) c.in_ok-encode-in-Case-2.ensures in (
       omega (arith, c.decreases, part, ap arms_weight c.as_slice-arms.ensures),
       (omega (arith, whole, arms, c.requires.room, c.in_ok-emit_expression-in-Case.ensures.short, to_table, to_end), omega (arith, whole, arms, c.requires.nested)),
     )
@@ -289,8 +280,7 @@ emit_statement-emit_else-requires t c =
     let part = ap weight c.in-Case.is ∙ case_weight c.in-Case.value c.in-Case.arms c.in-Case.otherwise in
     let arms = ap (λ arms. before_else (arms_of arms None)) c.as_slice-arms.ensures in
     let to_table = longer c.emit_expression.new.code c.encode.new.code (bytes_of (Jmp c.case_places-places.result.table)) c.in_ok-encode-in-Case.ensures in
-    let to_end = longer c.encode.new.code c.encode-in-Case.new.code (bytes_of (Jmp c.case_places-places.result.end)) c.in_ok-encode-in-Case-2.ensures in
-    (
+    let to_end = longer c.encode.new.code c.encode-in-Case.new.code (bytes_of (Jmp c.case_places-places.result.end)) c.in_ok-encode-in-Case-2.ensures in (
       omega (arith, c.decreases, part),
       (omega (arith, whole, arms, c.requires.room, c.in_ok-emit_expression-in-Case.ensures.short, to_table, to_end, c.in_ok-emit_arms-in-Case.ensures.short), omega (arith, whole, c.requires.nested)),
     )
@@ -308,8 +298,8 @@ emit_statement-returns-in_ok-encode-in-Case-3-clause-short t c =
     subst (λ (s : RStmt). OnOk c.emit_table.result (length c.emit_table.new.code ≤ length c.args.code.now + spec.body_size (statement_of s))) (sym c.in-Case.is)
     (with_ok c.emit_table.result
     (λ h. case_short c.in-Case.value c.in-Case.arms c.in-Case.otherwise c.case_places-places.result _ _ _ _ _ _ _ _
-      c.in_ok-emit_expression-in-Case.ensures.short c.in_ok-encode-in-Case.ensures c.in_ok-encode-in-Case-2.ensures
-      (omega (arith, bodies, c.in_ok-emit_arms-in-Case.ensures.short)) c.in_ok-emit_else-in-Case.ensures.short c.in_ok-encode-in-Case-3.ensures (omega (arith, entries, h)))
+    c.in_ok-emit_expression-in-Case.ensures.short c.in_ok-encode-in-Case.ensures c.in_ok-encode-in-Case-2.ensures
+    (omega (arith, bodies, c.in_ok-emit_arms-in-Case.ensures.short)) c.in_ok-emit_else-in-Case.ensures.short c.in_ok-encode-in-Case-3.ensures (omega (arith, entries, h)))
     c.emit_table.ensures.short)
 
 pub emit_statement-returns-in_ok-encode-in-Case-3-clause-means : goal.emit_statement-returns-in_ok-encode-in-Case-3-clause-means
@@ -324,7 +314,7 @@ emit_statement-returns-in_ok-encode-in-Case-3-clause-means t c =
     subst (λ (s : RStmt). OnOk c.emit_table.result (EmitsBody c.args.code.now c.emit_table.new.code n exit (statement_of s))) (sym c.in-Case.is)
     (with_ok c.emit_table.result
     (λ h. case_emitted c.in-Case.value c.in-Case.arms other places _ _ _ _ _ _ _ _ n exit
-      c.in_ok-emit_expression-in-Case.ensures.means placed c.in_ok-encode-in-Case.ensures c.in_ok-encode-in-Case-2.ensures bodies
-      c.in_ok-emit_else-in-Case.ensures.means c.in_ok-encode-in-Case-3.ensures
-      (subst (λ (arms : List RArm). EmitsTable c.encode-in-Case-2.new.code c.emit_table.new.code places.first (arms_of arms other)) c.as_slice-arms.ensures (h other)))
+    c.in_ok-emit_expression-in-Case.ensures.means placed c.in_ok-encode-in-Case.ensures c.in_ok-encode-in-Case-2.ensures bodies
+    c.in_ok-emit_else-in-Case.ensures.means c.in_ok-encode-in-Case-3.ensures
+    (subst (λ (arms : List RArm). EmitsTable c.encode-in-Case-2.new.code c.emit_table.new.code places.first (arms_of arms other)) c.as_slice-arms.ensures (h other)))
     c.emit_table.ensures.means)

@@ -10,19 +10,19 @@ abbrev pub invariant-emit_body-loop-statement : goal.invariant-emit_body-loop-st
 invariant-emit_body-loop-statement l =
     (length l.code + spec.body_size (statements_of (drop l.statement-index l.body)) ≤ length l.initial.code + spec.body_size (statements_of l.body))
     × ((last : List ℕ) → EmitsBody l.code last l.around.loops l.around.exit (statements_of (drop l.statement-index l.body))
-        → EmitsBody l.initial.code last l.around.loops l.around.exit (statements_of l.body))
+    → EmitsBody l.initial.code last l.around.loops l.around.exit (statements_of l.body))
 
 abbrev pub invariant-emit_guards-loop-guard : goal.invariant-emit_guards-loop-guard
 invariant-emit_guards-loop-guard l =
     (length l.code + spec.body_size (guards_of (drop l.guard-index l.guards) []) ≤ length l.initial.code + spec.body_size (guards_of l.guards []))
     × ((last : List ℕ) → EmitsGuards l.code last l.around.loops l.around.exit l.end (drop l.guard-index l.guards)
-        → EmitsGuards l.initial.code last l.around.loops l.around.exit l.end l.guards)
+    → EmitsGuards l.initial.code last l.around.loops l.around.exit l.end l.guards)
 
 abbrev pub invariant-emit_arms-loop-arm : goal.invariant-emit_arms-loop-arm
 invariant-emit_arms-loop-arm l =
     (length l.code + before_else (arms_of (drop l.arm-index l.arms) None) ≤ length l.initial.code + before_else (arms_of l.arms None))
     × ((last : List ℕ) → EmitsArms l.code last l.around.loops l.around.exit l.leave (drop l.arm-index l.arms)
-        → EmitsArms l.initial.code last l.around.loops l.around.exit l.leave l.arms)
+    → EmitsArms l.initial.code last l.around.loops l.around.exit l.leave l.arms)
 
 -- a list comes above its items, a form of statement above its list, and an option too
 abbrev pub decreases-emit_statement : goal.decreases-emit_statement

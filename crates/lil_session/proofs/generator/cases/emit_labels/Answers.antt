@@ -7,11 +7,11 @@ pub loop-label-preserved : goal.loop-label-preserved
 loop-label-preserved c = (
   omega (arith, c.loop-label.invariant.0, longer c.loop-label.code c.encode_entry.new.code (entry_bytes c.word.result c.word-in-loop-label.result c.args.place) c.in_ok-encode_entry.ensures),
   λ last rest.
-  c.loop-label.invariant.1 last
-  (next_label_emitted c.args.labels.now c.loop-label.label-index _ c.word.result c.word-in-loop-label.result c.args.place _ _ last c.loop-label-test.true
-  (λ words. word_told _ c.word.result c.word.ensures words.low)
-  (λ words. word_told _ c.word-in-loop-label.result c.word-in-loop-label.ensures words.high)
-  c.in_ok-encode_entry.ensures rest),
+      c.loop-label.invariant.1 last
+      (next_label_emitted c.args.labels.now c.loop-label.label-index _ c.word.result c.word-in-loop-label.result c.args.place _ _ last c.loop-label-test.true
+      (λ words. word_told _ c.word.result c.word.ensures words.low)
+      (λ words. word_told _ c.word-in-loop-label.result c.word-in-loop-label.ensures words.high)
+      c.in_ok-encode_entry.ensures rest),
 )
 
 pub returns-clause-means : goal.returns-clause-means

@@ -14,14 +14,13 @@ loop-arm-preserved c =
     let i = c.loop-arm.arm-index in
     let arm = c.arm-item.result in
     let size : c.body_size.result ≡ body_size (statements_of arm.body) = c.body_size.ensures ∙ ap (λ (ss : List RStmt). body_size (statements_of ss)) c.as_slice-in-loop-arm.ensures in
-    let labels = subst (λ (ls : List RLabel). EmitsLabels c.loop-arm.code c.emit_labels.new.code c.loop-arm.place (map label_of ls)) c.as_slice.ensures c.in_ok-emit_labels.ensures.means in
-    (
+    let labels = subst (λ (ls : List RLabel). EmitsLabels c.loop-arm.code c.emit_labels.new.code c.loop-arm.place (map label_of ls)) c.as_slice.ensures c.in_ok-emit_labels.ensures.means in (
       omega (arith, c.loop-arm.invariant.0, size, arms_before_next arms None i arm c.loop-arm-test.true c.arm-item.is),
       omega (arith, c.loop-arm.invariant.1, c.in_ok-emit_labels.ensures.short, ap (λ (ls : List RLabel). length ls) c.as_slice.ensures, entries_next arms None i arm c.loop-arm-test.true c.arm-item.is),
       λ other last rest.
-      c.loop-arm.invariant.2 other last
-      (next_table_emitted arms i arm other c.loop-arm.place c.loop-arm.code c.emit_labels.new.code last c.loop-arm-test.true c.arm-item.is labels
-      (subst (λ (n : ℕ). EmitsTable c.emit_labels.new.code last (c.loop-arm.place + (n + 3)) (arms_of (drop (i + 1) arms) other)) size rest)),
+          c.loop-arm.invariant.2 other last
+          (next_table_emitted arms i arm other c.loop-arm.place c.loop-arm.code c.emit_labels.new.code last c.loop-arm-test.true c.arm-item.is labels
+          (subst (λ (n : ℕ). EmitsTable c.emit_labels.new.code last (c.loop-arm.place + (n + 3)) (arms_of (drop (i + 1) arms) other)) size rest)),
     )
 
 pub returns-clause-means : goal.returns-clause-means

@@ -19,8 +19,7 @@ pub guards_size-body_size-requires : goal.guards_size-body_size-requires
 guards_size-body_size-requires t c =
     let inside : c.loop-guard.guard-index < length c.args.guards.now = omega arith in
     let next = guards_size_next c.args.guards.now [] c.loop-guard.guard-index c.guard-item.result inside c.guard-item.is in
-    let part = guard_in c.args.guards.now c.loop-guard.guard-index c.guard-item.result inside c.guard-item.is in
-    (
+    let part = guard_in c.args.guards.now c.loop-guard.guard-index c.guard-item.result inside c.guard-item.is in (
       omega (arith, c.decreases, part, guard_weighs c.guard-item.result, ap weights c.as_slice.ensures),
       omega (arith, next, c.loop-guard.invariant, c.requires, ap (λ ss. spec.body_size (view.statements_of ss)) c.as_slice.ensures),
     )
@@ -29,8 +28,7 @@ pub arms_size-body_size-requires : goal.arms_size-body_size-requires
 arms_size-body_size-requires t c =
     let inside : c.loop-arm.arm-index < length c.args.arms.now = omega arith in
     let next = arms_before_next c.args.arms.now None c.loop-arm.arm-index c.arm-item.result inside c.arm-item.is in
-    let part = arm_in c.args.arms.now c.loop-arm.arm-index c.arm-item.result inside c.arm-item.is in
-    (
+    let part = arm_in c.args.arms.now c.loop-arm.arm-index c.arm-item.result inside c.arm-item.is in (
       omega (arith, c.decreases, part, arm_weighs c.arm-item.result, ap weights c.as_slice.ensures),
       omega (arith, next, c.loop-arm.invariant, c.requires, ap (λ ss. spec.body_size (view.statements_of ss)) c.as_slice.ensures),
     )
@@ -38,8 +36,7 @@ arms_size-body_size-requires t c =
 pub else_size-body_size-requires : goal.else_size-body_size-requires
 else_size-body_size-requires t c =
     let whole = ap (λ o. spec.arms_size (view.else_of o)) c.in-Some.is in
-    let part = ap else_weight c.in-Some.is in
-    (
+    let part = ap else_weight c.in-Some.is in (
       omega (arith, c.decreases, part, ap weights c.as_slice.ensures),
       omega (arith, whole, c.requires, ap (λ ss. spec.body_size (view.statements_of ss)) c.as_slice.ensures),
     )
@@ -47,8 +44,7 @@ else_size-body_size-requires t c =
 pub statement_size-guards_size-requires : goal.statement_size-guards_size-requires
 statement_size-guards_size-requires t c =
     let whole = ap (λ (s : RStmt). spec.body_size (view.statement_of s)) c.in-If.is ∙ if_size c.in-If.guards c.in-If.otherwise in
-    let part = ap weight c.in-If.is ∙ if_weight c.in-If.guards c.in-If.otherwise in
-    (
+    let part = ap weight c.in-If.is ∙ if_weight c.in-If.guards c.in-If.otherwise in (
       omega (arith, c.decreases, part, ap guards_weight c.as_slice.ensures),
       omega (arith, whole, c.requires, ap (λ gs. spec.body_size (view.guards_of gs [])) c.as_slice.ensures),
     )
@@ -56,8 +52,7 @@ statement_size-guards_size-requires t c =
 pub statement_size-body_size-requires : goal.statement_size-body_size-requires
 statement_size-body_size-requires t c =
     let whole = ap (λ (s : RStmt). spec.body_size (view.statement_of s)) c.in-If.is ∙ if_size c.in-If.guards c.in-If.otherwise in
-    let part = ap weight c.in-If.is ∙ if_weight c.in-If.guards c.in-If.otherwise in
-    (
+    let part = ap weight c.in-If.is ∙ if_weight c.in-If.guards c.in-If.otherwise in (
       omega (arith, c.decreases, part, ap weights c.as_slice-in-If.ensures),
       omega (arith, whole, c.requires, ap (λ ss. spec.body_size (view.statements_of ss)) c.as_slice-in-If.ensures),
     )
@@ -65,8 +60,7 @@ statement_size-body_size-requires t c =
 pub statement_size-arms_size-requires : goal.statement_size-arms_size-requires
 statement_size-arms_size-requires t c =
     let whole = ap (λ (s : RStmt). spec.body_size (view.statement_of s)) c.in-Case.is ∙ case_size c.in-Case.value c.in-Case.arms c.in-Case.otherwise in
-    let part = ap weight c.in-Case.is ∙ case_weight c.in-Case.value c.in-Case.arms c.in-Case.otherwise in
-    (
+    let part = ap weight c.in-Case.is ∙ case_weight c.in-Case.value c.in-Case.arms c.in-Case.otherwise in (
       omega (arith, c.decreases, part, ap arms_weight c.as_slice-in-Case.ensures),
       omega (arith, whole, c.requires, ap (λ arms. emitted.before_else (view.arms_of arms None)) c.as_slice-in-Case.ensures),
     )
