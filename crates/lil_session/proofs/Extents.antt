@@ -6,9 +6,10 @@ use Rattle.lil_tree.specs.declared.resolved.RStmt.{RStmt}
 use Rattle.lil_tree.specs.declared.resolved.RStmt.TheVariants as s
 use Rattle.lil_tree.specs.declared.resolved.RGuard.{RGuard}
 use Rattle.lil_tree.specs.declared.resolved.RArm.{RArm}
-use Rattle.lil_tree.specs.Resolved.{Statements, Empty, Then, Arms, Arm}
+use Rattle.lil_tree.specs.Resolved as r
+use Rattle.lil_tree.specs.Resolved.{Statement, Statements, Empty, Then, Arms, Arm}
 use Rattle.lil_tree.specs.Views.{joined, expression_of, label_of, statement_of, arm_of, guard_of, statements_of, guards_of, else_of, arms_of}
-use Rattle.lil_tree.specs.Sizes.{size, body_size, arms_size, statement_loops, body_loops, arms_loops}
+use Rattle.lil_tree.specs.Sizes.{size, statement_size, body_size, arms_size, statement_loops, body_loops, arms_loops}
 use Rattle.lil_tree.proofs.Views.{if_is, case_is, guard_is, arm_is}
 use Rattle.lil_session.specs.Generating.{entry_count, before_else, bodies_size}
 
@@ -137,3 +138,25 @@ case_size e arms other = omega (arith, ap body_size (case_is e arms other), arms
 
 pub case_loops : (e : RExpr) (arms : List RArm) (other : Option (List RStmt)) → body_loops (statement_of (s.Case e arms other)) ≡ arms_loops (arms_of arms None) + arms_loops (else_of other)
 case_loops e arms other = omega (arith, ap body_loops (case_is e arms other), arms_loops_apart arms other)
+
+-- ---- each FOR takes its code
+mutual
+  statement_loops_fit : (s : Statement) → 3 * statement_loops s ≤ statement_size s
+  statement_loops_fit (r.Assign d e) = omega arith
+  statement_loops_fit (r.Request n given) = omega arith
+  statement_loops_fit (r.If c a b) = omega (arith, loops_fit a, loops_fit b)
+  statement_loops_fit (r.Case e arms) = omega (arith, arms_loops_fit arms)
+  statement_loops_fit (r.While c body) = omega (arith, loops_fit body)
+  statement_loops_fit (r.Repeat body c) = omega (arith, loops_fit body)
+  statement_loops_fit (r.Loop body) = omega (arith, loops_fit body)
+  statement_loops_fit r.Exit = omega arith
+  statement_loops_fit (r.For d a b step body) = omega (arith, loops_fit body)
+
+  pub loops_fit : (ss : Statements) → 3 * body_loops ss ≤ body_size ss
+  loops_fit Empty = omega arith
+  loops_fit (Then s ss) = omega (arith, statement_loops_fit s, loops_fit ss)
+
+  arms_loops_fit : (arms : Arms) → 3 * arms_loops arms ≤ arms_size arms
+  arms_loops_fit r.NoElse = omega arith
+  arms_loops_fit (r.Else body) = omega (arith, loops_fit body)
+  arms_loops_fit (Arm labels body rest) = omega (arith, loops_fit body, arms_loops_fit rest)

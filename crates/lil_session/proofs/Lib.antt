@@ -1,6 +1,7 @@
 pub mod Appending
 pub mod Extents
 pub mod Stating
+pub mod Modules
 pub mod Weights
 pub mod Generating
 pub mod CaseEmitting
