@@ -40,7 +40,7 @@ ordinal_in (OfEnumeration n) (Number z) base h =
     in_range (pos 0) z (pos 65535) (omega (arith, ints, b.0)) (omega (arith, ints, b.1))
 ordinal_in k v base h = cc
 
-label_in : (k : Kind) (label : Label) → is_base k ≡ true → IsSoundLabel k label → (in_type (compared_as k) label.low ≡ true) × (in_type (compared_as k) label.high ≡ true)
+pub label_in : (k : Kind) (label : Label) → is_base k ≡ true → IsSoundLabel k label → (in_type (compared_as k) label.low ≡ true) × (in_type (compared_as k) label.high ≡ true)
 label_in k label base sound = (
   ap (in_type (compared_as k)) (sym sound.lower_number) ∙ ordinal_in k (scalar_of k label.low) base sound.lower,
   ap (in_type (compared_as k)) (sym sound.upper_number) ∙ ordinal_in k (scalar_of k label.high) base sound.upper,

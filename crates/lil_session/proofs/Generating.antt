@@ -1,4 +1,4 @@
--- The code of expressions and statements, form by form.
+-- The code of expressions, form by form.
 use Rattle.std.proofs.Common.{◌≡◌, ℕ, zero, suc, ◌+◌, ◌*◌, ◌<◌, ◌≤◌, true, List, [], ◌∷◌, ◌++◌, length, map, Option, Some, None, refl, sym, ap, ◌∙◌, subst, arith}
 use Rattle.std.specs.Prelude.{slice_get}
 use Rattle.lil_base.specs.Words.{Whole, Cardinal, Integer}

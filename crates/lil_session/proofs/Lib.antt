@@ -1,5 +1,10 @@
 pub mod Appending
+pub mod Extents
+pub mod Stating
+pub mod Modules
+pub mod Weights
 pub mod Generating
+pub mod CaseEmitting
 pub mod Shown
 pub mod Homes
 pub mod Matched

@@ -5,14 +5,17 @@ use Rattle.lil_base.specs.Words as words
 use Rattle.lil_base.specs.Words.{Whole, Cardinal, word_of}
 use Rattle.lil_tree.specs.declared.operator.TwoOp.{TwoOp}
 use Rattle.lil_tree.specs.declared.operator.TwoOp.TheVariants.{Or, And}
+use Rattle.lil_tree.specs.declared.resolved.RStmt.{RStmt}
 use Rattle.lil_tree.specs.declared.resolved.RGuard.{RGuard}
+use Rattle.lil_tree.specs.declared.resolved.RArm.{RArm}
 use Rattle.lil_tree.specs.Kinds.{Kind, OfWhole}
 use Rattle.lil_tree.specs.Resolved.{Expression, Label, Statement, Statements, Arms, NoElse, Else, Arm}
-use Rattle.lil_tree.specs.Views.{guard_of}
-use Rattle.lil_tree.specs.Sizes.{two_size, size, statement_size, body_size, statement_loops, body_loops, arms_loops, is_base, IsSoundExpression, IsSoundStatement, IsSoundBody, AreSoundArms, AreSoundLabels}
+use Rattle.lil_tree.specs.Views.{guard_of, statements_of, guards_of, else_of, arms_of}
+use Rattle.lil_tree.specs.Sizes.{two_size, size, statement_size, body_size, statement_loops, body_loops, arms_size, arms_loops, is_base, IsSoundExpression, IsSoundStatement, IsSoundBody, AreSoundArms, AreSoundLabels}
 use Rattle.lil_mcode.specs.declared.instr.Instr.TheVariants.{Jmp, Trp}
 use Rattle.lil_session.specs.declared.generator.expressions.WholeType.{WholeType}
 use Rattle.lil_session.specs.declared.generator.expressions.WholeType.TheVariants as whole
+use Rattle.lil_session.specs.declared.generator.cases.Places.{Places}
 use Rattle.lil_session.specs.Rows.{Layout, Span, IsAt, EntryRow, ExpressionAt, StatementAt, BodyAt, loop_place}
 use Rattle.lil_session.specs.Emitting.{Emits}
 
@@ -53,11 +56,23 @@ EmitsGuard old new n exit end g =
     (rest : Statements) (last : List ℕ) → (length new + body_size rest ≡ end → EmitsBody new last n exit rest)
     → length old + body_size (guard_of g rest) ≡ end → EmitsBody old last n exit (guard_of g rest)
 
+-- the same of guards
+abbrev pub EmitsGuards : List ℕ → List ℕ → ℕ → Option ℕ → ℕ → List RGuard → Type 0
+EmitsGuards old new n exit end gs =
+    (other : List RStmt) (last : List ℕ) → (length new + body_size (statements_of other) ≡ end → EmitsBody new last n exit (statements_of other))
+    → length old + body_size (guards_of gs other) ≡ end → EmitsBody old last n exit (guards_of gs other)
+
 -- the bytes of the bodies of arms, each with its jump
 abbrev pub bodies_size : Arms → ℕ
 bodies_size NoElse = 2
 bodies_size (Else body) = body_size body + 3
 bodies_size (Arm labels body rest) = body_size body + 3 + bodies_size rest
+
+-- the same without what stands behind ELSE
+abbrev pub before_else : Arms → ℕ
+before_else NoElse = 0
+before_else (Else body) = 0
+before_else (Arm labels body rest) = body_size body + 3 + before_else rest
 
 abbrev pub entry_count : Arms → ℕ
 entry_count NoElse = 0
@@ -68,17 +83,39 @@ entry_count (Arm labels body rest) = length labels + entry_count rest
 abbrev pub behind : ℕ → Statements → ℕ
 behind p body = p + (body_size body + 3)
 
--- the bodies of arms one behind another, each with a jump to the exit
+-- the statements of an arm, and a jump to the exit
+abbrev pub ArmBodyAt : Layout → List ℕ → ℕ → Option ℕ → ℕ → Statements → Span
+ArmBodyAt l code n exit leave body p q = BodyAt l code n exit body p (p + body_size body) × IsAt code (p + body_size body) (Jmp leave) q
+
+abbrev pub EmitsArm : List ℕ → List ℕ → ℕ → Option ℕ → ℕ → Statements → Type 0
+EmitsArm old new n exit leave body =
+    (l : Layout) (v : ℕ) → IsPlain l v → IsSoundBody v (is_some exit) body → loop_place n + 3 * body_loops body ≤ l.frame
+    → Emits old new (body_size body + 3) (λ final. ArmBodyAt l final n exit leave body)
+
+-- arms one behind another, and what stands behind ELSE or a trap
 abbrev pub BodiesAt : Layout → List ℕ → ℕ → Option ℕ → ℕ → Arms → Span
 BodiesAt l code n exit leave NoElse p q = IsAt code p (Trp 7) q
-BodiesAt l code n exit leave (Else body) p q = BodyAt l code n exit body p (p + body_size body) × IsAt code (p + body_size body) (Jmp leave) q
-BodiesAt l code n exit leave (Arm labels body rest) p q =
-    BodyAt l code n exit body p (p + body_size body) × IsAt code (p + body_size body) (Jmp leave) (behind p body) × BodiesAt l code n exit leave rest (behind p body) q
+BodiesAt l code n exit leave (Else body) p q = ArmBodyAt l code n exit leave body p q
+BodiesAt l code n exit leave (Arm labels body rest) p q = ArmBodyAt l code n exit leave body p (behind p body) × BodiesAt l code n exit leave rest (behind p body) q
 
 abbrev pub EmitsBodies : List ℕ → List ℕ → ℕ → Option ℕ → ℕ → Arms → Type 0
 EmitsBodies old new n exit leave arms =
     (l : Layout) (v : ℕ) (k : Kind) → IsPlain l v → AreSoundArms v (is_some exit) k arms → loop_place n + 3 * arms_loops arms ≤ l.frame
     → Emits old new (bodies_size arms) (λ final. BodiesAt l final n exit leave arms)
+
+-- with what stands behind ELSE behind them, what was added is the code of arms
+abbrev pub EmitsArms : List ℕ → List ℕ → ℕ → Option ℕ → ℕ → List RArm → Type 0
+EmitsArms old new n exit leave arms =
+    (other : Option (List RStmt)) (last : List ℕ) → EmitsBodies new last n exit leave (else_of other) → EmitsBodies old last n exit leave (arms_of arms other)
+
+-- The places of the code of a CASE whose value ends at a place: a jump to the table, the exit, the arms, and the table
+pub record IsPlaced (start : ℕ) (arms : Arms) (places : Places) : Type 0 where
+  pub leave : places.leave ≡ start + 3
+  pub first : places.first ≡ start + 6
+  pub other : places.other ≡ start + 6 + before_else arms
+  pub table : places.table ≡ start + 6 + bodies_size arms
+  pub entries : places.entries ≡ entry_count arms
+  pub end : places.end ≡ start + 11 + arms_size arms
 
 -- the entries of labels, with the place of their arm
 abbrev pub LabelsAt : List ℕ → Kind → List Label → ℕ → Span

@@ -5,17 +5,17 @@ mod cases;
 mod expressions;
 mod sizes;
 
-ghost use Rattle.std.specs.Prelude.{◌≡◌, ◌+◌, ◌*◌, ◌≤◌, length, Option, None, OnOk, IfOk};
-ghost use Rattle.lil_tree.specs.Resolved.{Assign, Case, While, Repeat, Loop, Exit, For, Empty, Then};
-ghost use Rattle.lil_tree.specs.Views.{cardinal_variable, write_of, expression_of, statement_of, statements_of, guard_of, guards_of, arms_of, module_of};
+ghost use Rattle.std.specs.Prelude.{◌≡◌, ◌+◌, ◌*◌, ◌≤◌, [], length, None, OnOk, IfOk};
+ghost use Rattle.lil_tree.specs.Resolved.{Assign, While, Repeat, Loop, Exit, For, Empty};
+ghost use Rattle.lil_tree.specs.Views.{cardinal_variable, write_of, expression_of, statement_of, statements_of, guard_of, guards_of, arms_of, else_of, module_of};
 ghost use Rattle.lil_tree.specs.Sizes as spec;
 ghost use Rattle.lil_tree.specs.Sizes.{IsSound, IsSmall};
 ghost use Rattle.lil_session.specs.Rows.{Translates};
-ghost use Rattle.lil_session.specs.Generating.{EmitsStatement, EmitsBody, EmitsGuard, EmitsBodies, bodies_size};
+ghost use Rattle.lil_session.specs.Generating.{EmitsStatement, EmitsBody, EmitsGuard, EmitsGuards, EmitsArm, EmitsArms, EmitsBodies, before_else};
 
-use crate::generator::cases::emit_table;
+use crate::generator::cases::{case_places, emit_table};
 use crate::generator::expressions::{emit_expression, word};
-use crate::generator::sizes::{arms_size, body_loops, body_size, else_size, entry_count, guards_size};
+use crate::generator::sizes::{body_loops, body_size, guards_size};
 use lil_base::{Bytes, Items, Memory};
 use lil_mcode::{Instr, encode};
 use lil_tree::{RArm, RExpr, RGuard, RModule, RStmt};
@@ -73,10 +73,22 @@ fn emit_statement(code: &mut Bytes, statement: &RStmt, around: Around) -> Result
         RStmt::Assign(variable, value) => emit_assign(code, *variable, value, around),
         RStmt::Write(value) => emit_write(code, value, around),
         RStmt::If(guards, otherwise) => {
-            emit_if(code, guards.as_slice(), otherwise.as_slice(), around)
+            let guards = guards.as_slice();
+            let otherwise = otherwise.as_slice();
+            let end = code.len() + guards_size(guards) + body_size(otherwise);
+            emit_guards(code, guards, end as u16, around)?;
+            emit_body(code, otherwise, around)
         }
         RStmt::Case(value, arms, otherwise) => {
-            emit_case(code, value, arms.as_slice(), otherwise, around)
+            emit_expression(code, value)?;
+            let arms = arms.as_slice();
+            let places = case_places(code.len(), arms, otherwise);
+            encode(code, Instr::Jmp(places.table))?;
+            encode(code, Instr::Jmp(places.end))?;
+            emit_arms(code, arms, places.leave, around)?;
+            emit_else(code, otherwise, places.leave, around)?;
+            encode(code, Instr::Cas(places.entries, places.other))?;
+            emit_table(code, arms, places.first)
         }
         RStmt::While(condition, body) => emit_while(code, condition, body.as_slice(), around),
         RStmt::Repeat(body, condition) => emit_repeat(code, body.as_slice(), condition, around),
@@ -114,19 +126,18 @@ fn emit_write(code: &mut Bytes, value: &RExpr, around: Around) -> Result<(), Mem
     encode(code, Instr::Svc(2))
 }
 
-/// Appends the code of an IF: its guards, and what stands behind ELSE.
+/// Appends the code of the guards of an IF that ends at a place.
 #[cycle(emitting)]
-fn emit_if(code: &mut Bytes, guards: &[RGuard], otherwise: &[RStmt], around: Around) -> Result<(), Memory>
-    requires room { length code.old + spec.body_size (guards_of guards.now otherwise.now) ≤ 32767 }
-    requires nested { 3 * around.loops + spec.body_size (guards_of guards.now otherwise.now) ≤ 32767 }
-    ensures short { OnOk result (length code.new ≤ length code.old + spec.body_size (guards_of guards.now otherwise.now)) }
-    ensures means { OnOk result (EmitsBody code.old code.new around.loops around.exit (guards_of guards.now otherwise.now)) }
+fn emit_guards(code: &mut Bytes, guards: &[RGuard], end: u16, around: Around) -> Result<(), Memory>
+    requires room { length code.old + spec.body_size (guards_of guards.now []) ≤ 32767 }
+    requires nested { 3 * around.loops + spec.body_size (guards_of guards.now []) ≤ 32767 }
+    ensures short { OnOk result (length code.new ≤ length code.old + spec.body_size (guards_of guards.now [])) }
+    ensures means { OnOk result (EmitsGuards code.old code.new around.loops around.exit end guards.now) }
 {
-    let end = code.len() + guards_size(guards, otherwise);
     for guard in guards {
-        emit_guard(code, guard, end as u16, around)?;
+        emit_guard(code, guard, end, around)?;
     }
-    emit_body(code, otherwise, around)
+    Ok(())
 }
 
 /// Appends the code of a guard of an IF that ends at a place: the condition, a jump behind this guard where it is FALSE,
@@ -146,52 +157,59 @@ fn emit_guard(code: &mut Bytes, guard: &RGuard, end: u16, around: Around) -> Res
     encode(code, Instr::Jmp(end))
 }
 
-/// Appends the code of a CASE: the value, a jump to the table, the exit, the arms, and the table. The table stands last,
-/// and the exit is a jump behind it.
+/// Appends the bodies of arms, each with a jump to the exit.
 #[cycle(emitting)]
-fn emit_case(code: &mut Bytes, value: &RExpr, arms: &[RArm], otherwise: &Option<Items<RStmt>>, around: Around) -> Result<(), Memory>
-    requires room { length code.old + spec.statement_size (Case (expression_of value.now) (arms_of arms.now otherwise.now)) ≤ 32767 }
-    requires nested { 3 * around.loops + spec.statement_size (Case (expression_of value.now) (arms_of arms.now otherwise.now)) ≤ 32767 }
-    ensures short { OnOk result (length code.new ≤ length code.old + spec.statement_size (Case (expression_of value.now) (arms_of arms.now otherwise.now))) }
-    ensures means { OnOk result (EmitsStatement code.old code.new around.loops around.exit (Case (expression_of value.now) (arms_of arms.now otherwise.now))) }
-{
-    emit_expression(code, value)?;
-    let leave = code.len() + 3;
-    let first = leave + 3;
-    let entries = entry_count(arms);
-    let table = first + arms_size(arms, otherwise) - 6 * entries;
-    encode(code, Instr::Jmp(table as u16))?;
-    encode(code, Instr::Jmp((table + 5 + 6 * entries) as u16))?;
-    emit_arms(code, arms, otherwise, leave as u16, around)?;
-    let other = table - else_size(otherwise);
-    encode(code, Instr::Cas(entries as u16, other as u16))?;
-    emit_table(code, arms, first)
-}
-
-/// Appends the bodies of arms, each with a jump to the exit, and what stands behind ELSE or a trap.
-#[cycle(emitting)]
-fn emit_arms(code: &mut Bytes, arms: &[RArm], otherwise: &Option<Items<RStmt>>, leave: u16, around: Around) -> Result<(), Memory>
-    requires room { length code.old + bodies_size (arms_of arms.now otherwise.now) ≤ 32767 }
-    requires nested { 3 * around.loops + bodies_size (arms_of arms.now otherwise.now) ≤ 32767 }
-    ensures short { OnOk result (length code.new ≤ length code.old + bodies_size (arms_of arms.now otherwise.now)) }
-    ensures means { OnOk result (EmitsBodies code.old code.new around.loops around.exit leave (arms_of arms.now otherwise.now)) }
+fn emit_arms(code: &mut Bytes, arms: &[RArm], leave: u16, around: Around) -> Result<(), Memory>
+    requires room { length code.old + before_else (arms_of arms.now None) ≤ 32767 }
+    requires nested { 3 * around.loops + before_else (arms_of arms.now None) ≤ 32767 }
+    ensures short { OnOk result (length code.new ≤ length code.old + before_else (arms_of arms.now None)) }
+    ensures means { OnOk result (EmitsArms code.old code.new around.loops around.exit leave arms.now) }
 {
     for arm in arms {
-        emit_body(code, arm.body.as_slice(), around)?;
-        encode(code, Instr::Jmp(leave))?;
+        emit_arm(code, arm.body.as_slice(), leave, around)?;
     }
+    Ok(())
+}
+
+/// Appends the statements of an arm, and a jump to the exit.
+#[cycle(emitting)]
+fn emit_arm(code: &mut Bytes, body: &[RStmt], leave: u16, around: Around) -> Result<(), Memory>
+    requires room { length code.old + (spec.body_size (statements_of body.now) + 3) ≤ 32767 }
+    requires nested { 3 * around.loops + (spec.body_size (statements_of body.now) + 3) ≤ 32767 }
+    ensures short { OnOk result (length code.new ≤ length code.old + (spec.body_size (statements_of body.now) + 3)) }
+    ensures means { OnOk result (EmitsArm code.old code.new around.loops around.exit leave (statements_of body.now)) }
+{
+    emit_body(code, body, around)?;
+    encode(code, Instr::Jmp(leave))
+}
+
+/// Appends what stands behind ELSE with a jump to the exit, or a trap in its place.
+#[cycle(emitting)]
+fn emit_else(
+    code: &mut Bytes,
+    otherwise: &Option<Items<RStmt>>,
+    leave: u16,
+    around: Around,
+) -> Result<(), Memory>
+    requires room { length code.old + spec.arms_size (else_of otherwise.now) ≤ 32767 }
+    requires nested { 3 * around.loops + spec.arms_size (else_of otherwise.now) ≤ 32767 }
+    ensures short { OnOk result (length code.new ≤ length code.old + spec.arms_size (else_of otherwise.now)) }
+    ensures means { OnOk result (EmitsBodies code.old code.new around.loops around.exit leave (else_of otherwise.now)) }
+{
     match otherwise {
         None => encode(code, Instr::Trp(7)),
-        Some(body) => {
-            emit_body(code, body.as_slice(), around)?;
-            encode(code, Instr::Jmp(leave))
-        }
+        Some(body) => emit_arm(code, body.as_slice(), leave, around),
     }
 }
 
 /// Appends the code of a WHILE: the condition, a jump behind all where it is FALSE, the statements, and a jump back.
 #[cycle(emitting)]
-fn emit_while(code: &mut Bytes, condition: &RExpr, body: &[RStmt], around: Around) -> Result<(), Memory>
+fn emit_while(
+    code: &mut Bytes,
+    condition: &RExpr,
+    body: &[RStmt],
+    around: Around,
+) -> Result<(), Memory>
     requires room { length code.old + spec.statement_size (While (expression_of condition.now) (statements_of body.now)) ≤ 32767 }
     requires nested { 3 * around.loops + spec.statement_size (While (expression_of condition.now) (statements_of body.now)) ≤ 32767 }
     ensures short { OnOk result (length code.new ≤ length code.old + spec.statement_size (While (expression_of condition.now) (statements_of body.now))) }
@@ -207,7 +225,12 @@ fn emit_while(code: &mut Bytes, condition: &RExpr, body: &[RStmt], around: Aroun
 
 /// Appends the code of a REPEAT: the statements, the condition, and a jump back where it is FALSE.
 #[cycle(emitting)]
-fn emit_repeat(code: &mut Bytes, body: &[RStmt], condition: &RExpr, around: Around) -> Result<(), Memory>
+fn emit_repeat(
+    code: &mut Bytes,
+    body: &[RStmt],
+    condition: &RExpr,
+    around: Around,
+) -> Result<(), Memory>
     requires room { length code.old + spec.statement_size (Repeat (statements_of body.now) (expression_of condition.now)) ≤ 32767 }
     requires nested { 3 * around.loops + spec.statement_size (Repeat (statements_of body.now) (expression_of condition.now)) ≤ 32767 }
     ensures short { OnOk result (length code.new ≤ length code.old + spec.statement_size (Repeat (statements_of body.now) (expression_of condition.now))) }
@@ -251,7 +274,15 @@ fn emit_exit(code: &mut Bytes, around: Around) -> Result<(), Memory>
 /// Appends the code of a FOR: the first value, the last, the step, and the turns. Each turn stores its value in the
 /// variable, and the statements follow.
 #[cycle(emitting)]
-fn emit_for(code: &mut Bytes, variable: u16, from: &RExpr, to: &RExpr, step: i16, body: &[RStmt], around: Around) -> Result<(), Memory>
+fn emit_for(
+    code: &mut Bytes,
+    variable: u16,
+    from: &RExpr,
+    to: &RExpr,
+    step: i16,
+    body: &[RStmt],
+    around: Around,
+) -> Result<(), Memory>
     requires room { length code.old + spec.statement_size (For (cardinal_variable variable) (expression_of from.now) (expression_of to.now) step (statements_of body.now)) ≤ 32767 }
     requires nested { 3 * around.loops + spec.statement_size (For (cardinal_variable variable) (expression_of from.now) (expression_of to.now) step (statements_of body.now)) ≤ 32767 }
     ensures short { OnOk result (length code.new ≤ length code.old + spec.statement_size (For (cardinal_variable variable) (expression_of from.now) (expression_of to.now) step (statements_of body.now))) }

@@ -1,7 +1,6 @@
 //! How many bytes the code of a part takes, and how many words of the frame.
 
-ghost use Rattle.std.specs.Prelude.{◌≡◌, ◌≤◌, List, Option, None};
-ghost use Rattle.lil_tree.specs.declared.resolved.RStmt.{RStmt};
+ghost use Rattle.std.specs.Prelude.{◌≡◌, ◌≤◌, [], None};
 ghost use Rattle.lil_tree.specs.Sizes as spec;
 ghost use Rattle.lil_tree.specs.Views as view;
 ghost use Rattle.lil_session.specs.Generating as emitted;
@@ -47,6 +46,7 @@ pub(crate) fn expression_size(e: &RExpr) -> usize
 
 /// The bytes of a statement's code.
 #[cycle(sizing)]
+#[tactic(auto, using(crate::proofs::Extents::if_size, crate::proofs::Extents::case_size))]
 fn statement_size(statement: &RStmt) -> usize
     requires { spec.body_size (view.statement_of statement.now) ≤ 32767 }
     ensures { result ≡ spec.body_size (view.statement_of statement.now) }
@@ -54,9 +54,12 @@ fn statement_size(statement: &RStmt) -> usize
     match statement {
         RStmt::Assign(_, value) => expression_size(value) + 3,
         RStmt::Write(value) => expression_size(value) + 2,
-        RStmt::If(guards, otherwise) => guards_size(guards.as_slice(), otherwise.as_slice()),
+        RStmt::If(guards, otherwise) => {
+            guards_size(guards.as_slice()) + body_size(otherwise.as_slice())
+        }
         RStmt::Case(value, arms, otherwise) => {
-            expression_size(value) + 6 + arms_size(arms.as_slice(), otherwise) + 5
+            let bodies = arms_size(arms.as_slice()) + 6 * entry_count(arms.as_slice());
+            expression_size(value) + 6 + bodies + else_size(otherwise) + 5
         }
         RStmt::While(condition, body) => {
             expression_size(condition) + 3 + body_size(body.as_slice()) + 3
@@ -74,6 +77,7 @@ fn statement_size(statement: &RStmt) -> usize
 
 /// The bytes of the code of statements.
 #[cycle(sizing)]
+#[tactic(auto, using(crate::proofs::Extents::body_size_next))]
 pub(crate) fn body_size(body: &[RStmt]) -> usize
     requires { spec.body_size (view.statements_of body.now) ≤ 32767 }
     ensures { result ≡ spec.body_size (view.statements_of body.now) }
@@ -85,33 +89,35 @@ pub(crate) fn body_size(body: &[RStmt]) -> usize
     size
 }
 
-/// The bytes of the code of guards, with what stands behind ELSE.
+/// The bytes of the code of guards, up to what stands behind ELSE.
 #[cycle(sizing)]
-pub(crate) fn guards_size(guards: &[RGuard], otherwise: &[RStmt]) -> usize
-    requires { spec.body_size (view.guards_of guards.now otherwise.now) ≤ 32767 }
-    ensures { result ≡ spec.body_size (view.guards_of guards.now otherwise.now) }
+#[tactic(auto, using(crate::proofs::Extents::guards_size_next))]
+pub(crate) fn guards_size(guards: &[RGuard]) -> usize
+    requires { spec.body_size (view.guards_of guards.now []) ≤ 32767 }
+    ensures { result ≡ spec.body_size (view.guards_of guards.now []) }
 {
-    let mut size = body_size(otherwise);
+    let mut size = 0;
     for guard in guards {
         size += expression_size(&guard.condition) + 3 + body_size(guard.body.as_slice()) + 3;
     }
     size
 }
 
-/// The bytes of the code of arms, with the entries of their labels and what stands behind ELSE.
+/// The bytes of the bodies of arms, each with its jump, up to what stands behind ELSE.
 #[cycle(sizing)]
-pub(crate) fn arms_size(arms: &[RArm], otherwise: &Option<Items<RStmt>>) -> usize
-    requires { spec.arms_size (view.arms_of arms.now otherwise.now) ≤ 32767 }
-    ensures { result ≡ spec.arms_size (view.arms_of arms.now otherwise.now) }
+#[tactic(auto, using(crate::proofs::Extents::arms_before_next))]
+pub(crate) fn arms_size(arms: &[RArm]) -> usize
+    requires { emitted.before_else (view.arms_of arms.now None) ≤ 32767 }
+    ensures { result ≡ emitted.before_else (view.arms_of arms.now None) }
 {
-    let mut size = else_size(otherwise);
+    let mut size = 0;
     for arm in arms {
-        size += body_size(arm.body.as_slice()) + 3 + 6 * arm.labels.len();
+        size += body_size(arm.body.as_slice()) + 3;
     }
     size
 }
 
-/// The bytes of what stands behind ELSE, or of the trap in its place.
+/// The bytes of what stands behind ELSE, with its jump, or of the trap in its place.
 #[cycle(sizing)]
 pub(crate) fn else_size(otherwise: &Option<Items<RStmt>>) -> usize
     requires { spec.arms_size (view.else_of otherwise.now) ≤ 32767 }
@@ -124,9 +130,10 @@ pub(crate) fn else_size(otherwise: &Option<Items<RStmt>>) -> usize
 }
 
 /// How many entries the labels of arms have.
+#[tactic(auto, using(crate::proofs::Extents::entries_next))]
 pub(crate) fn entry_count(arms: &[RArm]) -> usize
     requires { emitted.entry_count (view.arms_of arms.now None) ≤ 32767 }
-    ensures { (other : Option (List RStmt)) → result ≡ emitted.entry_count (view.arms_of arms.now other) }
+    ensures { result ≡ emitted.entry_count (view.arms_of arms.now None) }
 {
     let mut count = 0;
     for arm in arms {
@@ -137,13 +144,16 @@ pub(crate) fn entry_count(arms: &[RArm]) -> usize
 
 /// How many FORs stand in a statement, in one another too.
 #[cycle(counting)]
+#[tactic(auto, using(crate::proofs::Extents::if_loops, crate::proofs::Extents::case_loops))]
 fn statement_loops(statement: &RStmt) -> usize
     requires { spec.body_loops (view.statement_of statement.now) ≤ 32767 }
     ensures { result ≡ spec.body_loops (view.statement_of statement.now) }
 {
     match statement {
-        RStmt::If(guards, otherwise) => guards_loops(guards.as_slice(), otherwise.as_slice()),
-        RStmt::Case(_, arms, otherwise) => arms_loops(arms.as_slice(), otherwise),
+        RStmt::If(guards, otherwise) => {
+            guards_loops(guards.as_slice()) + body_loops(otherwise.as_slice())
+        }
+        RStmt::Case(_, arms, otherwise) => arms_loops(arms.as_slice()) + else_loops(otherwise),
         RStmt::While(_, body) | RStmt::Repeat(body, _) | RStmt::Loop(body) => {
             body_loops(body.as_slice())
         }
@@ -154,6 +164,7 @@ fn statement_loops(statement: &RStmt) -> usize
 
 /// How many FORs stand in statements.
 #[cycle(counting)]
+#[tactic(auto, using(crate::proofs::Extents::body_loops_next))]
 pub(crate) fn body_loops(body: &[RStmt]) -> usize
     requires { spec.body_loops (view.statements_of body.now) ≤ 32767 }
     ensures { result ≡ spec.body_loops (view.statements_of body.now) }
@@ -165,29 +176,42 @@ pub(crate) fn body_loops(body: &[RStmt]) -> usize
     loops
 }
 
+/// How many FORs stand in guards.
 #[cycle(counting)]
-fn guards_loops(guards: &[RGuard], otherwise: &[RStmt]) -> usize
-    requires { spec.body_loops (view.guards_of guards.now otherwise.now) ≤ 32767 }
-    ensures { result ≡ spec.body_loops (view.guards_of guards.now otherwise.now) }
+#[tactic(auto, using(crate::proofs::Extents::guards_loops_next))]
+fn guards_loops(guards: &[RGuard]) -> usize
+    requires { spec.body_loops (view.guards_of guards.now []) ≤ 32767 }
+    ensures { result ≡ spec.body_loops (view.guards_of guards.now []) }
 {
-    let mut loops = body_loops(otherwise);
+    let mut loops = 0;
     for guard in guards {
         loops += body_loops(guard.body.as_slice());
     }
     loops
 }
 
+/// How many FORs stand in the arms of a CASE.
 #[cycle(counting)]
-fn arms_loops(arms: &[RArm], otherwise: &Option<Items<RStmt>>) -> usize
-    requires { spec.arms_loops (view.arms_of arms.now otherwise.now) ≤ 32767 }
-    ensures { result ≡ spec.arms_loops (view.arms_of arms.now otherwise.now) }
+#[tactic(auto, using(crate::proofs::Extents::arms_loops_next))]
+fn arms_loops(arms: &[RArm]) -> usize
+    requires { spec.arms_loops (view.arms_of arms.now None) ≤ 32767 }
+    ensures { result ≡ spec.arms_loops (view.arms_of arms.now None) }
 {
     let mut loops = 0;
-    if let Some(body) = otherwise {
-        loops += body_loops(body.as_slice());
-    }
     for arm in arms {
         loops += body_loops(arm.body.as_slice());
     }
     loops
+}
+
+/// How many FORs stand behind ELSE.
+#[cycle(counting)]
+fn else_loops(otherwise: &Option<Items<RStmt>>) -> usize
+    requires { spec.arms_loops (view.else_of otherwise.now) ≤ 32767 }
+    ensures { result ≡ spec.arms_loops (view.else_of otherwise.now) }
+{
+    match otherwise {
+        None => 0,
+        Some(body) => body_loops(body.as_slice()),
+    }
 }
