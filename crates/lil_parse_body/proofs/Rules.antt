@@ -56,9 +56,9 @@ moves_seq P Q R r ts mid rest a b c f p q =
           let w' : Wider r (length rest) r' (length more) (length p.front + length q.front) = subst (λ n. Wider r (length rest) r' (length more) n) (length-append p.front q.front) w in
           let at_mid = ap length q.cut ∙ length-append q.front rest in
           let u : Wider r (length mid) r' (length (q.front ++ more)) (length p.front) =
-              subst (λ n. Wider r n r' (length (q.front ++ more)) (length p.front)) (sym at_mid)
-              (subst (λ n. Wider r (length q.front + length rest) r' n (length p.front)) (sym (length-append q.front more))
-              (wider_left r r' (length rest) (length more) (length q.front) (length p.front) w')) in
+          subst (λ n. Wider r n r' (length (q.front ++ more)) (length p.front)) (sym at_mid)
+          (subst (λ n. Wider r (length q.front + length rest) r' n (length p.front)) (sym (length-append q.front more))
+          (wider_left r r' (length rest) (length more) (length q.front) (length p.front) w')) in
           let v : Wider r (length rest) r' (length more) (length q.front) = wider_right r r' (length rest) (length more) (length q.front) (length p.front) w' in
           subst (λ us. R r' us more c) (sym (append_assoc p.front q.front more)) (f r' (p.front ++ (q.front ++ more)) (q.front ++ more) more (p.again (q.front ++ more) r' u) (q.again more r' v));
     }
@@ -131,7 +131,6 @@ module _ {A : Type 0} {R : Relation A} (p : Rule A R) where
       let m = p.moves r ts [] a h in
       let same : m.front ≡ ts = sym (append-nil m.front) ∙ sym m.cut in
       subst (λ us. R r' (us ++ s) s a) same (m.again s r' (subst (λ us. Wider r 0 r' (length s) (length us)) (sym same) w))
-
 
   -- what is within the limit is read
   pub complete : (ts rest : List Token) (a : A) → R (Some 0) ts rest a → p.ends (first rest) → p.parse ts ≡ Ok (a, rest)
@@ -215,11 +214,13 @@ module _ {A B : Type 0} {R : Relation A} {R' : A → Relation B} (p : Rule A R) 
   begins_first : (front more : List Token) (a : A) → R (Some (length more)) (front ++ more) [] a → (s : List Token) (b : B) → R' a None s [] b
       → Then (Some (length (more ++ s))) (front ++ (more ++ s)) [] b
   begins_first front more a h s b h' =
-      let n = length-append more s in
-      (a, s,
+      let n = length-append more s in (
+        a,
+        s,
         subst (λ us. R (Some (length (more ++ s))) us s a) (append_assoc front more s)
-          (before p (Some (length more)) (Some (length (more ++ s))) (front ++ more) a s h (inr (omega (arith, n)))),
-        late a s b (length (more ++ s)) h' (omega (arith, n)))
+            (before p (Some (length more)) (Some (length (more ++ s))) (front ++ more) a s h (inr (omega (arith, n)))),
+        late a s b (length (more ++ s)) h' (omega (arith, n)),
+      )
 
   first_stopped : (kind : Kind) (ts : List Token) (place : Place) → p.parse ts ≡ Err (stop kind place) → Stopped both ends Then kind ts place
   first_stopped kind ts place e =
@@ -227,7 +228,10 @@ module _ {A B : Type 0} {R : Relation A} {R' : A → Relation B} (p : Rule A R) 
       let more = x.begins.0 in
       let y = (q x.begins.1).some in
       record {
-        front = x.front; rest = x.rest; cut = x.cut; at = x.at;
+        front = x.front;
+        rest = x.rest;
+        cut = x.cut;
+        at = x.at;
         begins = (more ++ y.0, y.1, goes_append kind more x.rest y.0 x.begins.2, begins_first x.front more x.begins.1 x.begins.3 y.0 y.1 y.2);
         again = λ more s. ap (λ o. and_then o (λ a. (q a).parse)) (x.again more s);
         least = λ k more rest' b deep s h e'. x.least k more h.1 h.0 deep s h.2 (inner h.0 h.1 rest' b (freed (q h.0) (Some k) h.1 rest' b h.3) e');
@@ -238,15 +242,23 @@ module _ {A B : Type 0} {R : Relation A} {R' : A → Relation B} (p : Rule A R) 
       let t = p.took ts a mid is in
       let x = (q a).stops kind mid place e in
       let before_x : (more : List Token) → first more ≡ first x.rest → p.parse (t.front ++ (x.front ++ more)) ≡ Ok (a, x.front ++ more) =
-          λ more s. t.again (x.front ++ more) (first-append x.front more x.rest s ∙ ap first (sym x.cut)) in
+      λ more s. t.again (x.front ++ more) (first-append x.front more x.rest s ∙ ap first (sym x.cut)) in
       record {
         front = t.front ++ x.front;
         rest = x.rest;
         cut = t.cut ∙ ap (λ r. t.front ++ r) x.cut ∙ sym (append_assoc t.front x.front x.rest);
         at = x.at;
-        begins = (x.begins.0, x.begins.1, x.begins.2, (a, x.front ++ x.begins.0,
-          subst (λ us. R (Some (length x.begins.0)) us (x.front ++ x.begins.0) a) (sym (append_assoc t.front x.front x.begins.0)) (moved p ts a mid t.front is t.cut (x.front ++ x.begins.0) (length x.begins.0)),
-          x.begins.3));
+        begins = (
+          x.begins.0,
+          x.begins.1,
+          x.begins.2,
+          (
+            a,
+            x.front ++ x.begins.0,
+            subst (λ us. R (Some (length x.begins.0)) us (x.front ++ x.begins.0) a) (sym (append_assoc t.front x.front x.begins.0)) (moved p ts a mid t.front is t.cut (x.front ++ x.begins.0) (length x.begins.0)),
+            x.begins.3,
+          ),
+        );
         again = λ more s. subst (λ ts. both ts ≡ Err (stop kind place)) (sym (append_assoc t.front x.front more)) (then_is (λ a. (q a).parse) (before_x more s) (x.again more s));
         least = λ k more rest' b deep s h e'.
             let same = subst (λ us. R (Some k) us h.1 h.0) (append_assoc t.front x.front more) h.2 in
@@ -356,13 +368,23 @@ module _ {A : Type 0} (f : Token → Option A) (t : Token) (a : A) (takes : f t 
   token_stops Deep ts q e = absurd (never_deep ts q e)
   token_stops Wrong [] q e =
       record {
-        front = []; rest = []; cut = refl; at = sym (syntax_same (err_same {A = A × List Token} e)); begins = (t ∷ [], a, tt, (t, refl, takes));
-        again = λ more s. ap (token f) (none_nil more s) ∙ e; least = λ k more rest' b deep s h e'. absurd (cc);
+        front = [];
+        rest = [];
+        cut = refl;
+        at = sym (syntax_same (err_same {A = A × List Token} e));
+        begins = (t ∷ [], a, tt, (t, refl, takes));
+        again = λ more s. ap (token f) (none_nil more s) ∙ e;
+        least = λ k more rest' b deep s h e'. absurd (cc);
       }
   token_stops Wrong (u ∷ us) q e =
       record {
-        front = []; rest = u ∷ us; cut = refl; at = sym (refused_at u us q (f u) e); begins = (t ∷ [], a, tt, (t, refl, takes));
-        again = λ more s. refuses us more u q (f u) refl e s; least = λ k more rest' b deep s h e'. absurd (cc);
+        front = [];
+        rest = u ∷ us;
+        cut = refl;
+        at = sym (refused_at u us q (f u) e);
+        begins = (t ∷ [], a, tt, (t, refl, takes));
+        again = λ more s. refuses us more u q (f u) refl e s;
+        least = λ k more rest' b deep s h e'. absurd (cc);
       }
 
   abbrev pub rule_token : Rule A Taken
@@ -400,7 +422,10 @@ module _ {A C : Type 0} {R : C → Relation A} (p : (c : C) → Rule A (R c)) (c
   case_stopped c kind ts q is e =
       let x = (p c).stops kind ts q e in
       record {
-        front = x.front; rest = x.rest; cut = x.cut; at = x.at;
+        front = x.front;
+        rest = x.rest;
+        cut = x.cut;
+        at = x.at;
         begins = (x.begins.0, x.begins.1, x.begins.2, (c, x.begins.3));
         again = λ more s. ap (λ c. (p c).parse (x.front ++ more)) (sym (class_again ts x.front x.rest more x.cut s) ∙ is) ∙ x.again more s;
         least = λ k more rest' a deep s h e'.
@@ -431,7 +456,10 @@ module _ {A : Type 0} {R R' : Relation A} (p : Rule A R) (parse : Parser A) (is 
   as_stopped kind ts q e =
       let x = p.stops kind ts q (sym (is ts) ∙ e) in
       record {
-        front = x.front; rest = x.rest; cut = x.cut; at = x.at;
+        front = x.front;
+        rest = x.rest;
+        cut = x.cut;
+        at = x.at;
         begins = (x.begins.0, x.begins.1, x.begins.2, to (Some (length x.begins.0)) (x.front ++ x.begins.0) [] x.begins.1 x.begins.3);
         again = λ more s. is (x.front ++ more) ∙ x.again more s;
         least = λ k more rest' a deep s h e'. x.least k more rest' a deep s (from (Some k) (x.front ++ more) rest' a h) e';
