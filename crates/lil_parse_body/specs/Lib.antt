@@ -1,3 +1,4 @@
 pub mod Steps
 pub mod Kinds
 pub mod ReadExpressions
+pub mod Places
