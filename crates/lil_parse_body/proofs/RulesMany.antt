@@ -48,7 +48,7 @@ module _ {S : Type 0} (test : TokenKind → Bool) (turn : S → Parser S)
       (begins : (late : Late) (s : S) (ts rest : List Token) (s' : S) → D s late ts rest s' → at test ts ≡ true)
       (over : (ts : List Token) → F ts → at test ts ≡ false)
       (goes : (ts : List Token) → at test ts ≡ true → E ts) (stops : (ts : List Token) → F ts → E ts) where
-    between : {late : Late} {s : S} {ts rest : List Token} {x : S} → Star D late s ts rest x → F rest → E ts
+    pub between : {late : Late} {s : S} {ts rest : List Token} {x : S} → Star D late s ts rest x → F rest → E ts
     between (stop {ts = ts}) e = stops ts e
     between {late} (go_on {s = s} {s' = s'} {ts = ts} {mid = mid} h more) e = goes ts (begins late s ts mid s' h)
 
@@ -58,13 +58,13 @@ module _ {S : Type 0} (test : TokenKind → Bool) (turn : S → Parser S)
 
     one_turns : {late : Late} {s : S} {ts rest : List Token} {x : S} (b : Bool) → One s b late ts rest x → Star D late s ts rest x
     one_turns true (h ▸ k) = go_on h k
-    one_turns false nothing = stop
+    one_turns {late} {s} {ts} {rest} false (nothing e) = subst (λ x. Star D late s ts ts x) (sym e) stop
 
     to_turns : (s : S) (late : Late) (ts rest : List Token) (x : S) → Choice (One s) late ts rest x → Star D late s ts rest x
     to_turns s late ts rest x (chosen b h) = one_turns b h
 
     from_turns : {late : Late} {s : S} {ts rest : List Token} {x : S} → Star D late s ts rest x → Choice (One s) late ts rest x
-    from_turns stop = chosen false nothing
+    from_turns stop = chosen false (nothing refl)
     from_turns (go_on h more) = chosen true (h ▸ more)
 
     abbrev ends_one : Bool → List Token → Type 0
@@ -77,7 +77,7 @@ module _ {S : Type 0} (test : TokenKind → Bool) (turn : S → Parser S)
 
     only : (s : S) (late : Late) (ts rest : List Token) (b : Bool) (x : S) → One s b late ts rest x → F rest → at test ts ≡ b
     only s late ts rest true x (◌▸◌ {mid = mid} {a = s'} h k) e = begins late s ts mid s' h
-    only s late ts rest false x nothing e = over ts e
+    only s late ts rest false x (nothing same) e = over ts e
 
     took_by : (s : S) (ts : List Token) (x : S) (rest : List Token) → ((s' : S) (mid : List Token) → length mid < length ts → many test turn s' mid ≡ Ok (x, rest) → Took (many test turn s') (Turns D s') mid x rest)
         → (b : Bool) → at test ts ≡ b → step (many test turn) s b ts ≡ Ok (x, rest) → Took (many test turn s) (Turns D s) ts x rest

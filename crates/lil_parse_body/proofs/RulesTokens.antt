@@ -20,18 +20,18 @@ abbrev pub Any : List Token → Type 0
 Any ts = Unit {0}
 
 pub data Same {A : Type 0} (x : A) (late : Late) : List Token → List Token → A → Type 0 where
-  nothing : {ts : List Token} → Same x late ts ts x
+  nothing : {ts : List Token} {a : A} → a ≡ x → Same x late ts ts a
 
 pub rule_pure : {A : Type 0} (x : A) → Rule (pure x) (Same x) Any
 rule_pure {A} x = record {
-  took = λ ts a rest is. subst (λ y. Took (pure x) (Same x) ts y.0 y.1) (ok_same is) (record { front = []; cut = refl; again = λ more h. refl; derives = λ late s. nothing });
+  took = λ ts a rest is. subst (λ y. Took (pure x) (Same x) ts y.0 y.1) (ok_same is) (record { front = []; cut = refl; again = λ more h. refl; derives = λ late s. nothing refl });
   fell = λ ts e is. absurd (cc);
   reaches = λ late ts rest a h e. inr (reads h);
-  some = record { more = []; tree = x; derives = λ s late free. nothing };
+  some = record { more = []; tree = x; derives = λ s late free. nothing refl };
 }
   where
     reads : {late : Late} {ts rest : List Token} {a : A} → Same x late ts rest a → pure x ts ≡ Ok (a, rest)
-    reads nothing = refl
+    reads (nothing {ts = ts} e) = ap (λ a. Ok (a, ts)) (sym e)
 
 -- a test by the first token alone
 pub place_same : (more rest : List Token) → first more ≡ first rest → place_of more ≡ place_of rest
