@@ -1,9 +1,8 @@
 -- A loop of a body that counts up, beside the repetition that counts down.
-use Rattle.std.proofs.Common.{◌≡◌, ℕ, zero, suc, ◌+◌, ◌-◌, ◌<◌, ◌≤◌, Bool, true, false, List, Ok, Err, ap, sym, ◌∙◌, refl, arith}
+use Rattle.std.proofs.Common.{◌≡◌, ℕ, suc, ◌+◌, ◌-◌, ◌<◌, ◌≤◌, Bool, true, false, List, Ok, ap, ◌∙◌, arith}
 use Rattle.lil_tree.specs.declared.token.Token.{Token}
 use Rattle.lil_tree.specs.declared.token.TokenKind.{TokenKind}
-use Rattle.lil_tree.specs.declared.stop.ReadStop.{ReadStop}
-use Rattle.lil_parse_body.specs.Steps.{Outcome, Parser, and_then, ◌>>=◌, pure, at, either, either_by, loop}
+use Rattle.lil_parse_body.specs.Steps.{Outcome, Parser, and_then, ◌>>=◌, pure, at, either_by, loop}
 
 module _ {S : Type 0} (test : TokenKind → Bool) (turn : S → Parser S) (s : S) (ts : List Token) {x : Outcome S} {n i : ℕ} (so_far : x ≡ loop test turn (n - i) s ts) where
   one_more : i < n → x ≡ either_by (turn s >>= loop test turn (n - (i + 1))) (pure s) (at test ts) ts

@@ -1,5 +1,5 @@
 -- What a token that begins a part is to the parser.
-use Rattle.std.specs.Prelude.{ℕ, Bool, true, false, if◌then◌else◌, List, [], ◌∷◌, Option, Some, None}
+use Rattle.std.specs.Prelude.{Bool, true, false, Option, Some, None}
 use Rattle.lil_base.specs.declared.fault.Place.{Place}
 use Rattle.lil_tree.specs.declared.token.Token.{Token}
 use Rattle.lil_tree.specs.declared.token.TokenKind.{TokenKind}
@@ -17,6 +17,8 @@ use Rattle.lil_parse_body.specs.declared.kinds.FactorKind.{FactorKind}
 use Rattle.lil_parse_body.specs.declared.kinds.FactorKind.TheVariants as fk
 use Rattle.lil_parse_body.specs.declared.kinds.SelectorKind.{SelectorKind}
 use Rattle.lil_parse_body.specs.declared.kinds.SelectorKind.TheVariants as sk
+use Rattle.lil_parse_body.specs.declared.kinds.FormKind.{FormKind}
+use Rattle.lil_parse_body.specs.declared.kinds.FormKind.TheVariants as st
 
 -- the operators of a level
 abbrev pub operator_in : Level → TokenKind → Option TwoOp
@@ -81,3 +83,16 @@ abbrev pub selector_kind : TokenKind → SelectorKind
 selector_kind (k.Mark m.OpenBracket) = sk.Index
 selector_kind (k.Mark m.Arrow) = sk.Follow
 selector_kind _ = sk.Field
+
+-- which statement begins with the token; one that begins with a name where none does
+abbrev pub form_kind : TokenKind → FormKind
+form_kind (k.Word w.Exit) = st.Exit
+form_kind (k.Word w.Return) = st.Return
+form_kind (k.Word w.Loop) = st.Loop
+form_kind (k.Word w.If) = st.If
+form_kind (k.Word w.Case) = st.Case
+form_kind (k.Word w.While) = st.While
+form_kind (k.Word w.Repeat) = st.Repeat
+form_kind (k.Word w.For) = st.For
+form_kind (k.Word w.With) = st.With
+form_kind _ = st.Named

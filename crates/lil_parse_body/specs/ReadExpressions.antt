@@ -1,7 +1,6 @@
 -- What the parser of expressions computes. The number says how many parts may still lie in one another.
-use Rattle.std.specs.Prelude.{ℕ, zero, suc, Bool, true, false, ◌&&◌, List, [], ◌∷◌, ◌++◌, Option, Some, None, Ok, Err}
+use Rattle.std.specs.Prelude.{ℕ, zero, suc, Bool, true, false, ◌&&◌, List, [], ◌∷◌, ◌++◌, Some, None}
 use Rattle.lil_base.specs.declared.fault.Place.{Place}
-use Rattle.lil_tree.specs.declared.token.Token.{Token}
 use Rattle.lil_tree.specs.declared.token.Word.TheVariants as w
 use Rattle.lil_tree.specs.declared.token.Mark.TheVariants as m
 use Rattle.lil_tree.specs.declared.operator.OneOp.TheVariants as one

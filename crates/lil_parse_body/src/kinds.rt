@@ -32,6 +32,21 @@ pub enum SelectorKind {
     Follow,
 }
 
+/// The forms of a statement.
+#[derive(Clone, Copy)]
+pub enum FormKind {
+    Named,
+    Exit,
+    Return,
+    Loop,
+    If,
+    Case,
+    While,
+    Repeat,
+    For,
+    With,
+}
+
 fn relation_in(what: &TokenKind) -> Option<TwoOp>
     ensures { result ≡ operators.relation what.now }
 {
@@ -155,5 +170,42 @@ pub fn selector_kind(what: &TokenKind) -> SelectorKind
         TokenKind::Mark(Mark::OpenBracket) => SelectorKind::Index,
         TokenKind::Mark(Mark::Arrow) => SelectorKind::Follow,
         _ => SelectorKind::Field,
+    }
+}
+
+/// Whether a statement begins with a token.
+pub fn begins_statement(what: &TokenKind) -> bool
+    ensures { result ≡ operators.begins_statement what.now }
+{
+    match what {
+        TokenKind::Ident(_) => true,
+        TokenKind::Word(Word::Exit) => true,
+        TokenKind::Word(Word::Return) => true,
+        TokenKind::Word(Word::Loop) => true,
+        TokenKind::Word(Word::If) => true,
+        TokenKind::Word(Word::Case) => true,
+        TokenKind::Word(Word::While) => true,
+        TokenKind::Word(Word::Repeat) => true,
+        TokenKind::Word(Word::For) => true,
+        TokenKind::Word(Word::With) => true,
+        _ => false,
+    }
+}
+
+/// The statement that begins with a token; one that begins with a name where none does.
+pub fn form_kind(what: &TokenKind) -> FormKind
+    ensures { result ≡ spec.form_kind what.now }
+{
+    match what {
+        TokenKind::Word(Word::Exit) => FormKind::Exit,
+        TokenKind::Word(Word::Return) => FormKind::Return,
+        TokenKind::Word(Word::Loop) => FormKind::Loop,
+        TokenKind::Word(Word::If) => FormKind::If,
+        TokenKind::Word(Word::Case) => FormKind::Case,
+        TokenKind::Word(Word::While) => FormKind::While,
+        TokenKind::Word(Word::Repeat) => FormKind::Repeat,
+        TokenKind::Word(Word::For) => FormKind::For,
+        TokenKind::Word(Word::With) => FormKind::With,
+        _ => FormKind::Named,
     }
 }
