@@ -2,9 +2,10 @@
 use Rattle.std.specs.Prelude.{◌≡◌, Bool, false, List}
 use Rattle.lil_tree.specs.declared.token.Token.{Token}
 use Rattle.lil_tree.specs.declared.token.TokenKind.{TokenKind}
+use Rattle.lil_tree.specs.declared.token.Mark.TheVariants as m
 use Rattle.lil_tree.specs.Operators.{joins_factor}
 use Rattle.lil_parse_body.specs.declared.kinds.Level.TheVariants as level
-use Rattle.lil_parse_body.specs.Steps.{at}
+use Rattle.lil_parse_body.specs.Steps.{at, is_mark}
 use Rattle.lil_parse_body.specs.Kinds.{is_operator}
 
 -- the first token, if there is one, is none of these
@@ -22,3 +23,12 @@ EndsSum ts = EndsTerm ts × Not (is_operator level.Addition) ts
 
 abbrev pub EndsExpression : List Token → Type 0
 EndsExpression ts = EndsSum ts × Not (is_operator level.Relation) ts
+
+abbrev pub EndsRange : List Token → Type 0
+EndsRange ts = EndsExpression ts × Not (is_mark m.Through) ts
+
+abbrev pub EndsRanges : List Token → Type 0
+EndsRanges ts = EndsRange ts × Not (is_mark m.Comma) ts
+
+abbrev pub EndsExprs : List Token → Type 0
+EndsExprs ts = EndsExpression ts × Not (is_mark m.Comma) ts
