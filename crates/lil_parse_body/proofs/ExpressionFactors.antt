@@ -138,17 +138,17 @@ module _ (n : ℕ) where
   only_selector late ts rest sk.Index one (a_mark is ▸ k) e = ap selector_kind is
   only_selector late ts rest sk.Follow one (a_mark is ▸ k) e = ap selector_kind is
 
-  abbrev Selectors : List Selector → Relation (List Selector)
+  abbrev pub Selectors : List Selector → Relation (List Selector)
   Selectors = Turns (λ ss. Then (λ late. IsSelector (limit n late)) (λ one. Same (ss ++ one ∷ [])))
 
   a_selector : {late : Late} {ss ss' all : List Selector} {ts mid rest : List Token} → Then (λ late. IsSelector (limit n late)) (λ one. Same (ss ++ one ∷ [])) late ts mid ss' → IsSelectors (limit n late) ss' mid rest all → IsSelectors (limit n late) ss ts rest all
   a_selector {late} {all = all} {mid = mid} {rest = rest} (h ▸ nothing e) more = g.a_selector h (subst (λ ss. IsSelectors (limit n late) ss mid rest all) e more)
 
-  to_selectors : {late : Late} {ss all : List Selector} {ts rest : List Token} → Selectors ss late ts rest all → IsSelectors (limit n late) ss ts rest all
+  pub to_selectors : {late : Late} {ss all : List Selector} {ts rest : List Token} → Selectors ss late ts rest all → IsSelectors (limit n late) ss ts rest all
   to_selectors stop = g.no_selector
   to_selectors (go_on h more) = a_selector h (to_selectors more)
 
-  from_selectors : {l : Limit} {ss all : List Selector} {ts rest : List Token} → IsSelectors l ss ts rest all → (late : Late) → l ≡ limit n late → Selectors ss late ts rest all
+  pub from_selectors : {l : Limit} {ss all : List Selector} {ts rest : List Token} → IsSelectors l ss ts rest all → (late : Late) → l ≡ limit n late → Selectors ss late ts rest all
   from_selectors g.no_selector late e = stop
   from_selectors (g.a_selector {ts = ts} {mid = mid} {one = one} h more) late e = go_on (subst (λ l. IsSelector l ts mid one) e h ▸ nothing refl) (from_selectors more late e)
 

@@ -116,8 +116,7 @@ addition_ends ts h = (at_apart (is_operator level.Addition) joins_factor additio
 
 relation_ends : (ts : List Token) → at (is_operator level.Relation) ts ≡ true → EndsSum ts
 relation_ends ts h =
-    let none : (test : TokenKind → Bool) → ((v : TokenKind) → is_operator level.Relation v ≡ true → test v ≡ false) → Not test ts = λ test apart. at_apart (is_operator level.Relation) test apart ts h in
-    (
+    let none : (test : TokenKind → Bool) → ((v : TokenKind) → is_operator level.Relation v ≡ true → test v ≡ false) → Not test ts = λ test apart. at_apart (is_operator level.Relation) test apart ts h in (
       (none joins_factor (relation_apart joins_factor refl refl refl refl refl refl refl), none (is_operator level.Multiplication) (relation_apart (is_operator level.Multiplication) refl refl refl refl refl refl refl)),
       none (is_operator level.Addition) (relation_apart (is_operator level.Addition) refl refl refl refl refl refl refl),
     )
@@ -208,7 +207,7 @@ module _ (n : ℕ) (factor : Parser Expr) (x : Rule factor (λ late. IsFactor (l
   pub rule_sum : Rule (spec.sum factor) (λ late. IsSum (limit n late)) EndsSum
   unfolding spec.sum spec.terms_turn
   rule_sum = rule_as (rule_list (operator_at level.Addition) (spec.term factor) (is_operator level.Addition) spec.two (rule_operator level.Addition (k.Mark m.Plus) op.Plus refl) (rule_term n factor x)
-        (begins_operator level.Addition) addition_ends (λ b. b) rule_signed) to from (λ rest e. e)
+      (begins_operator level.Addition) addition_ends (λ b. b) rule_signed) to from (λ rest e. e)
     where
       to : (late : Late) (ts rest : List Token) (a : Expr) → Then (λ late. IsSigned (limit n late)) (Terms n) late ts rest a → IsSum (limit n late) ts rest a
       to late ts rest a (h ▸ k) = g.sum h (to_terms n k)

@@ -151,5 +151,5 @@ module _ (n : ℕ) (expr : Parser Expr) (x : Rule expr (λ late. IsExpr (limit n
   pub rule_ranges : Rule (spec.ranges expr) (λ late. IsRanges (limit n late)) EndsRanges
   unfolding spec.ranges spec.ranges_turn same_mark
   rule_ranges = rule_as (rule_list (mark_at m.Comma) (spec.element expr) (is_mark m.Comma) (λ rs p r. rs ++ r ∷ []) (rule_mark m.Comma) rule_range (λ late ts rest a h. begins_mark h)
-        (λ ts h. (ends_at_mark m.Comma (refl, refl, refl, refl) ts h, not_at_mark m.Comma (is_mark m.Through) refl ts h)) (λ r. r ∷ []) rule_range)
+      (λ ts h. (ends_at_mark m.Comma (refl, refl, refl, refl) ts h, not_at_mark m.Comma (is_mark m.Through) refl ts h)) (λ r. r ∷ []) rule_range)
       (to_ranges n) (from_ranges n) (λ rest e. e)

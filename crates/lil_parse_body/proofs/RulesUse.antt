@@ -1,12 +1,13 @@
 -- What follows from a rule: what is read and nothing else, one reading, and the exact places of the faults.
-use Rattle.std.proofs.Common.{◌≡◌, ◌≢◌, ◌⊎◌, ℕ, zero, suc, ◌≤◌, ◌<◌, List, [], ◌∷◌, ◌++◌, length, append-nil, Option, Some, None, Result, Ok, Err, refl, subst, ap, sym, ◌∙◌, inl, inr, arith}
+use Rattle.std.proofs.Common.{◌≡◌, ◌≢◌, ◌⊎◌, ℕ, zero, suc, ◌≤◌, ◌<◌, List, [], ◌∷◌, ◌++◌, length, append-nil, Option, Some, None, Result, Ok, Err, IfOk, IfErr, refl, subst, ap, sym, ◌∙◌, inl, inr, arith}
 use Rattle.lil_base.specs.declared.fault.Place.{Place}
 use Rattle.lil_base.specs.declared.fault.SourceFault.{SourceFault}
 use Rattle.lil_tree.specs.declared.token.Token.{Token}
 use Rattle.lil_tree.specs.declared.stop.ReadStop.{ReadStop}
-use Rattle.lil_tree.specs.declared.stop.ReadStop.TheVariants.{Fault}
-use Rattle.lil_parse_body.specs.Steps.{syntax, nested, Outcome, Parser, first, place_of}
-use Rattle.lil_parse_body.specs.Places.{Grammar, Longest, RefusedAt, TooDeepAt}
+use Rattle.lil_tree.specs.declared.stop.ReadStop.TheVariants.{Fault, Memory}
+use Rattle.lil_tree.specs.Nesting.{within}
+use Rattle.lil_parse_body.specs.Steps.{syntax, nested, Outcome, Parser, Reads, first, place_of}
+use Rattle.lil_parse_body.specs.Places.{Grammar, Longest, RefusedAt, TooDeepAt, StopsAt}
 use Rattle.lil_parse_body.proofs.Rules.{Late, IsFree, Relation, Took, Fell, Begins, IsSyntax, IsDeep, Rule, Nested, ok_same, err_same, ok_err, first-append}
 use Rattle.lil_parse_body.proofs.RulesLimit.{limit}
 
@@ -102,3 +103,49 @@ module _ {A : Type 0} {p : Parser A} (G : Grammar A) {E : List Token → Type 0}
 
   pub too_deep_at : (ts : List Token) (q : Place) → p ts ≡ Err (nested q) → TooDeepAt G n ts q
   too_deep_at ts q is = let y = x.fell ts (nested q) is in too_deep_by y (deep_at x ts q y)
+
+  stops_by : (ts : List Token) (e : ReadStop) → p ts ≡ Err e → (y : Fell p (λ late. G (limit n late)) E ts e) → IsSyntax y.on y.rest e ⊎ IsDeep (λ late. G (limit n late)) E y.front y.on y.rest e → StopsAt G n ts e
+  unfolding syntax nested
+  stops_by ts (Fault f) is y (inl h) =
+      let place : f.place ≡ place_of y.rest = ap (λ f. f.place) (fault_same h.is) in
+      let same : Fault f ≡ syntax f.place = h.is ∙ ap syntax (sym place) in
+      inl (same, refused_at ts f.place (is ∙ ap (λ e. Err e) same))
+  stops_by ts (Fault f) is y (inr h) =
+      let place : f.place ≡ h.token.place = ap (λ f. f.place) (fault_same h.is) in
+      let same : Fault f ≡ nested f.place = h.is ∙ ap nested (sym place) in
+      inr (same, too_deep_at ts f.place (is ∙ ap (λ e. Err e) same))
+  stops_by ts Memory is y h = tt
+
+  pub stops_at : (ts : List Token) (e : ReadStop) → p ts ≡ Err e → StopsAt G n ts e
+  stops_at ts e is = let y = x.fell ts e is in stops_by ts e is y y.why
+
+  -- ---- for a function that reads by the parser
+  module _ (ts new : List Token) (result : Result A ReadStop) (reads : Reads (p ts) result new) where
+    found_by : (r : Result A ReadStop) → Reads (p ts) r new → IfOk r (λ a. G (within n) ts new a)
+    found_by (Ok a) h = sound x (Some 0) ts a new h
+    found_by (Err e) h = tt
+
+    pub reads_found : IfOk result (λ a. G (within n) ts new a)
+    reads_found = found_by result reads
+
+    longest_by : (r : Result A ReadStop) → Reads (p ts) r new → IfOk r (λ a. Longest G ts new)
+    longest_by (Ok a) h = longest ts a new h
+    longest_by (Err e) h = tt
+
+    pub reads_longest : IfOk result (λ a. Longest G ts new)
+    reads_longest = longest_by result reads
+
+    only_by : {a : A} {rest : List Token} → p ts ≡ Ok (a, rest) → (r : Result A ReadStop) → Reads (p ts) r new → Reads (Ok (a, rest)) r new
+    only_by is (Ok b) h = sym is ∙ h
+    only_by is (Err e) h = λ other. sym is ∙ h other
+
+    pub reads_only : (a : A) (rest : List Token) → G (within n) ts rest a → E rest → Reads (Ok (a, rest)) result new
+    reads_only a rest h e = only_by (complete x ts rest a h e) result reads
+
+    exact_by : (r : Result A ReadStop) → Reads (p ts) r new → IfErr r (λ e. StopsAt G n ts e)
+    exact_by (Ok a) h = tt
+    exact_by (Err (Fault f)) h = stops_at ts (Fault f) (h (λ e. absurd (cc)))
+    exact_by (Err Memory) h = tt
+
+    pub reads_exact : IfErr result (λ e. StopsAt G n ts e)
+    reads_exact = exact_by result reads

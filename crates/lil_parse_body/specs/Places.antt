@@ -1,9 +1,11 @@
 -- Where a phrase of a grammar stops, and where it does not go on: the exact places of the faults.
-use Rattle.std.specs.Prelude.{◌≡◌, ℕ, suc, length, Bool, false, List, [], ◌∷◌, ◌++◌, Some, None}
+use Rattle.std.specs.Prelude.{◌≡◌, ◌⊎◌, ℕ, suc, length, List, [], ◌∷◌, ◌++◌, Some, None}
 use Rattle.lil_base.specs.declared.fault.Place.{Place}
 use Rattle.lil_tree.specs.declared.token.Token.{Token}
+use Rattle.lil_tree.specs.declared.stop.ReadStop.{ReadStop}
+use Rattle.lil_tree.specs.declared.stop.ReadStop.TheVariants.{Fault, Memory}
 use Rattle.lil_tree.specs.Nesting.{Limit}
-use Rattle.lil_parse_body.specs.Steps.{first, place_of}
+use Rattle.lil_parse_body.specs.Steps.{first, place_of, syntax, nested}
 
 abbrev pub Grammar : Type 0 → Type 1
 Grammar A = Limit → List Token → List Token → A → Type 0
@@ -38,3 +40,8 @@ pub record TooDeepAt {A : Type 0} (G : Grammar A) (n : ℕ) (ts : List Token) (p
   pub tree : A
   pub begins : G (Some (n, suc (length more))) (front ++ token ∷ more) [] tree
   pub none : (more : List Token) (tree : A) → G (Some (n, length more)) (front ++ token ∷ more) [] tree → ⊥
+
+-- A fault is 10 or 12, each at its exact place.
+abbrev pub StopsAt : {A : Type 0} → Grammar A → ℕ → List Token → ReadStop → Type 0
+StopsAt G n ts (Fault f) = ((Fault f ≡ syntax f.place) × RefusedAt G n ts f.place) ⊎ ((Fault f ≡ nested f.place) × TooDeepAt G n ts f.place)
+StopsAt G n ts Memory = Unit {0}
