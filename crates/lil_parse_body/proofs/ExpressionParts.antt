@@ -42,6 +42,14 @@ pub begins_word : {w : Word} {late : Late} {ts rest : List Token} {p : Place} �
 unfolding at
 begins_word {w} (a_word {t = t} is) = is_word_of w t.what is
 
+pub at_mark : (m : Mark) (t : Token) (ts : List Token) → t.what ≡ k.Mark m → at (is_mark m) (t ∷ ts) ≡ true
+unfolding at
+at_mark m t ts is = is_mark_of m t.what is
+
+pub at_word : (w : Word) (t : Token) (ts : List Token) → t.what ≡ k.Word w → at (is_word w) (t ∷ ts) ≡ true
+unfolding at
+at_word w t ts is = is_word_of w t.what is
+
 pub not_at_mark : (m : Mark) (test : TokenKind → Bool) → test (k.Mark m) ≡ false → (ts : List Token) → at (is_mark m) ts ≡ true → Not test ts
 not_at_mark m test none ts h = at_apart (is_mark m) test (λ v h. ap test (mark_is m v h) ∙ none) ts h
 

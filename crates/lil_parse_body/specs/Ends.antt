@@ -3,7 +3,7 @@ use Rattle.std.specs.Prelude.{◌≡◌, Bool, false, List}
 use Rattle.lil_tree.specs.declared.token.Token.{Token}
 use Rattle.lil_tree.specs.declared.token.TokenKind.{TokenKind}
 use Rattle.lil_tree.specs.declared.token.Mark.TheVariants as m
-use Rattle.lil_tree.specs.Operators.{joins_factor}
+use Rattle.lil_tree.specs.Operators.{joins_factor, begins_expression, begins_statement}
 use Rattle.lil_parse_body.specs.declared.kinds.Level.TheVariants as level
 use Rattle.lil_parse_body.specs.Steps.{at, is_mark}
 use Rattle.lil_parse_body.specs.Kinds.{is_operator}
@@ -32,3 +32,9 @@ EndsRanges ts = EndsRange ts × Not (is_mark m.Comma) ts
 
 abbrev pub EndsExprs : List Token → Type 0
 EndsExprs ts = EndsExpression ts × Not (is_mark m.Comma) ts
+
+abbrev pub EndsStatement : List Token → Type 0
+EndsStatement ts = EndsExpression ts × Not begins_expression ts × Not begins_statement ts × Not (is_mark m.Becomes) ts
+
+abbrev pub EndsStatements : List Token → Type 0
+EndsStatements ts = EndsStatement ts × Not (is_mark m.Semicolon) ts
