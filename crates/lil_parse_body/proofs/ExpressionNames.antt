@@ -46,7 +46,7 @@ joins_mark : (m : Mark) (v : TokenKind) → is_mark m v ≡ true → joins_facto
 joins_mark m v h is = ap joins_factor (mark_is m v h) ∙ is
 
 -- where a factor ends, no such mark stands
-ends_mark : (m : Mark) → joins_factor (k.Mark m) ≡ true → (ts : List Token) → EndsFactor ts → Not (is_mark m) ts
+pub ends_mark : (m : Mark) → joins_factor (k.Mark m) ≡ true → (ts : List Token) → EndsFactor ts → Not (is_mark m) ts
 unfolding at
 ends_mark m joins [] e = refl
 ends_mark m joins (t ∷ ts) e = go (is_mark m t.what) refl

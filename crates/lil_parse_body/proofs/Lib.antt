@@ -12,3 +12,6 @@ pub mod ExpressionFactors
 pub mod ExpressionNames
 pub mod ExpressionRules
 pub mod ExpressionLaws
+pub mod StatementParts
+pub mod StatementRules
+pub mod StatementLaws

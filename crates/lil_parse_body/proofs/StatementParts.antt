@@ -96,7 +96,7 @@ module _ (n : ℕ) (expr : Parser Expr) (x : Rule expr (λ late. IsExpr (limit n
   pub rule_for_part : Rule (spec.for_part expr) (λ late. IsForHead (limit n late)) EndsStep
   unfolding spec.for_part
   rule_for_part = rule_as (rule_after rule_ident (λ i. rule_after (rule_mark m.Becomes) (λ p. rule_before (is_word w.To) (ends_at_word w.To (refl, refl, refl, refl)) (begins i p) x (λ from.
-        rule_after (rule_word w.To) (λ q. rule_then x (λ to. rule_map rule_step (λ by. for_head i p from to by)) EndsStep (inner i p from) (λ to rest e. e))))))
+      rule_after (rule_word w.To) (λ q. rule_then x (λ to. rule_map rule_step (λ by. for_head i p from to by)) EndsStep (inner i p from) (λ to rest e. e))))))
       (to_for n) (from_for n) (λ rest e. e)
     where
       begins : (i : Ident) (p : Place) (late : Late) (ts rest : List Token) (from : Expr) (h : ForHead) → Then (IsWord w.To) (λ q. Then (λ late. IsExpr (limit n late)) (λ to. Then (λ late. IsStep (limit n late)) (λ by. Same (for_head i p from to by)))) late ts rest h
@@ -225,7 +225,7 @@ module _ (n : ℕ) (statement : Parser (Option Stmt)) (y : Rule statement (λ la
   pub rule_statements : Rule (spec.statements_by statement) (λ late. IsStatements (limit n late)) EndsStatements
   unfolding spec.statements_by spec.statements_turn same_mark
   rule_statements = rule_as (rule_list (mark_at m.Semicolon) statement (is_mark m.Semicolon) (λ ss p o. ss ++ listed o) (rule_mark m.Semicolon) y (λ late ts rest a h. begins_mark h)
-        (statement_at_mark m.Semicolon ((refl, refl, refl, refl), refl, refl, refl)) listed y)
+      (statement_at_mark m.Semicolon ((refl, refl, refl, refl), refl, refl, refl)) listed y)
       (to_statements n) (from_statements n) (λ rest e. e)
 
   pub rule_body : Rule (spec.body statement) (λ late. IsBody (limit n late)) Any
@@ -281,5 +281,5 @@ module _ (n : ℕ) (expr : Parser Expr) (statement : Parser (Option Stmt)) (x : 
   pub rule_arms : Rule (spec.arms expr statement) (λ late. IsArms (limit n late)) EndsArms
   unfolding spec.arms spec.arms_turn same_mark
   rule_arms = rule_as (rule_list (mark_at m.Bar) (spec.one_arm expr statement) (is_mark m.Bar) (λ before p o. before ++ listed o) (rule_mark m.Bar) rule_arm (λ late ts rest a h. begins_mark h)
-        (statements_at_mark m.Bar ((refl, refl, refl, refl), refl, refl, refl) refl) listed rule_arm)
+      (statements_at_mark m.Bar ((refl, refl, refl, refl), refl, refl, refl) refl) listed rule_arm)
       (to_arms n) (from_arms n) (λ rest e. e)
