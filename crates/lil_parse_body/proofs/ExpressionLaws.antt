@@ -1,0 +1,55 @@
+-- The parser of expressions, at each nesting, reads what the grammar derives within the limit, and stops exactly where nothing goes on.
+use Rattle.std.proofs.Common.{◌≡◌, ℕ, List, [], Some, None, Result, Ok, Err, IfOk, IfErr, refl}
+use Rattle.lil_base.specs.declared.fault.Place.{Place}
+use Rattle.lil_tree.specs.declared.token.Token.{Token}
+use Rattle.lil_tree.specs.declared.tree.Expr.{Expr}
+use Rattle.lil_tree.specs.declared.stop.ReadStop.{ReadStop}
+use Rattle.lil_tree.specs.Nesting.{within}
+use Rattle.lil_tree.specs.Expressions.{IsExpr}
+use Rattle.lil_parse_body.specs.Steps.{syntax, nested, at, Reads}
+use Rattle.lil_parse_body.specs.ReadExpressions.{expr}
+use Rattle.lil_parse_body.specs.Ends.{EndsExpression}
+use Rattle.lil_parse_body.specs.Places.{Longest, RefusedAt, TooDeepAt, StopsAt}
+use Rattle.lil_parse_body.proofs.RulesUse as r
+use Rattle.lil_parse_body.proofs.ExpressionRules.{rule_expr}
+
+pub ends_nothing : EndsExpression []
+unfolding at
+ends_nothing = (((refl, refl), refl), refl)
+
+module _ (n : ℕ) where
+  pub expr_sound : (ts : List Token) (x : Expr) (rest : List Token) → expr n ts ≡ Ok (x, rest) → IsExpr (within n) ts rest x
+  expr_sound = r.sound (rule_expr n) (Some 0)
+
+  -- without a limit too
+  pub expr_plain : (ts : List Token) (x : Expr) (rest : List Token) → expr n ts ≡ Ok (x, rest) → IsExpr None ts rest x
+  expr_plain = r.sound (rule_expr n) None
+
+  pub expr_complete : (ts rest : List Token) (x : Expr) → IsExpr (within n) ts rest x → EndsExpression rest → expr n ts ≡ Ok (x, rest)
+  expr_complete = r.complete (rule_expr n)
+
+  pub expr_unique : (ts rest rest' : List Token) (x y : Expr) → IsExpr (within n) ts rest x → IsExpr (within n) ts rest' y → EndsExpression rest → EndsExpression rest' → (x ≡ y) × (rest ≡ rest')
+  expr_unique = r.unique (rule_expr n)
+
+  pub expr_longest : (ts : List Token) (x : Expr) (rest : List Token) → expr n ts ≡ Ok (x, rest) → Longest IsExpr ts rest
+  expr_longest = r.longest IsExpr n (rule_expr n) ends_nothing
+
+  pub expr_refused : (ts : List Token) (p : Place) → expr n ts ≡ Err (syntax p) → RefusedAt IsExpr n ts p
+  expr_refused = r.refused_at IsExpr n (rule_expr n) ends_nothing
+
+  pub expr_too_deep : (ts : List Token) (p : Place) → expr n ts ≡ Err (nested p) → TooDeepAt IsExpr n ts p
+  expr_too_deep = r.too_deep_at IsExpr n (rule_expr n) ends_nothing
+
+  -- ---- for a function that reads by it
+  module _ (ts new : List Token) (result : Result Expr ReadStop) (reads : Reads (expr n ts) result new) where
+    pub expr_found : IfOk result (λ x. IsExpr (within n) ts new x)
+    expr_found = r.reads_found IsExpr n (rule_expr n) ends_nothing ts new result reads
+
+    pub expr_is_longest : IfOk result (λ x. Longest IsExpr ts new)
+    expr_is_longest = r.reads_longest IsExpr n (rule_expr n) ends_nothing ts new result reads
+
+    pub expr_only : (x : Expr) (rest : List Token) → IsExpr (within n) ts rest x → EndsExpression rest → Reads (Ok (x, rest)) result new
+    expr_only = r.reads_only IsExpr n (rule_expr n) ends_nothing ts new result reads
+
+    pub expr_exact : IfErr result (λ e. StopsAt IsExpr n ts e)
+    expr_exact = r.reads_exact IsExpr n (rule_expr n) ends_nothing ts new result reads
