@@ -1,7 +1,6 @@
--- The code of CASE: its entries, its arms, and the two together.
-use Rattle.std.proofs.Common.{◌≡◌, ℕ, zero, suc, ◌+◌, ◌*◌, ◌<◌, ◌≤◌, ℤ, pos, negsuc, ◌≤ℤ◌, true, List, [], ◌∷◌, ◌++◌, length, map, drop, get_or, length-append, Option, Some, None, refl, sym, ap, ◌∙◌, subst, rules, arith, w32, to_z, of_z}
-use mir.Val.{SFits}
-use Rattle.std.proofs.lemmas.Int.{ints, to_z-of_z}
+-- The code of CASE: the entries of its table, its arms, and the whole.
+use Rattle.std.proofs.Common.{◌≡◌, ℕ, zero, suc, ◌+◌, ◌*◌, ◌<◌, ◌≤◌, ℤ, pos, negsuc, ◌≤ℤ◌, true, List, [], ◌∷◌, ◌++◌, length, map, drop, get_or, length-append, Option, Some, None, refl, sym, ap, ◌∙◌, subst, arith}
+use Rattle.std.proofs.lemmas.Int.{ints}
 use Rattle.std.proofs.lemmas.List.{drop_more, drop_all}
 use Rattle.std.specs.Option.{is_some}
 use Rattle.lil_base.specs.Words.{Whole, Cardinal, Integer, in_type, word_of}
@@ -25,10 +24,10 @@ use Rattle.lil_session.specs.Generating.{bodies_size, before_else, entry_count, 
 use Rattle.lil_session.proofs.LoopWords.{bounds}
 use Rattle.lil_session.proofs.Cases.{label_in}
 use Rattle.lil_session.proofs.Extents.{arms_next, case_size}
-use Rattle.lil_session.proofs.Stating.{one_emitted}
+use Rattle.lil_session.proofs.Stating.{form_emitted}
 use Rattle.lil_session.proofs.Appending.{emits_bytes, emits_instr, emits_none, emits_both, emits_as}
 
--- bytes more are as many
+-- how long a code with more bytes is
 pub longer : (old new bytes : List ℕ) → new ≡ old ++ bytes → length new ≡ length old + length bytes
 longer old new bytes e = ap length e ∙ length-append old bytes
 
@@ -37,14 +36,6 @@ longer old new bytes e = ap length e ∙ length-append old bytes
 in_word : (t : Whole) (z : ℤ) → in_type t z ≡ true → (negsuc 32767 ≤ℤ z) × (z ≤ℤ pos 65535)
 in_word Cardinal z h = let b = bounds (pos 0) z (pos 65535) h in (omega (arith, ints, b.0), b.1)
 in_word Integer z h = let b = bounds (negsuc 32767) z (pos 32767) h in (b.0, omega (arith, ints, b.1))
-
--- what is said of the word of a number that is held in 32 bits
-pub word_told : (z : ℤ) (w : ℕ) → (negsuc 32767 ≤ℤ to_z w32 (of_z w32 z) → to_z w32 (of_z w32 z) ≤ℤ pos 65535 → w ≡ word_of (to_z w32 (of_z w32 z)))
-    → (negsuc 32767 ≤ℤ z) × (z ≤ℤ pos 65535) → w ≡ word_of z
-word_told z w told ends =
-    let small : SFits w32 z = search (rules, ints, ends.0, ends.1) in
-    let number = to_z-of_z w32 z small in
-    told (subst (λ (z : ℤ). negsuc 32767 ≤ℤ z) (sym number) ends.0) (subst (λ (z : ℤ). z ≤ℤ pos 65535) (sym number) ends.1) ∙ ap word_of number
 
 -- both ends of a label have words
 pub record HasWords (label : Label) : Type 0 where
@@ -63,11 +54,11 @@ entry_emitted k label to old new sound e =
     let there = entry_stands final (length old) (word_of label.low) (word_of label.high) to h in
     record { sound = sound; low = there.low_at; high = there.high_at; target = there.target_at })
 
-pub no_label_emitted : (code : List ℕ) (to : ℕ) → EmitsLabels code code to []
+no_label_emitted : (code : List ℕ) (to : ℕ) → EmitsLabels code code to []
 no_label_emitted code to k base sound = emits_none code
 
 -- an entry before others
-pub label_before : (label : Label) (labels : List Label) (low high to : ℕ) (c0 c1 c2 : List ℕ) → (HasWords label → low ≡ word_of label.low) → (HasWords label → high ≡ word_of label.high)
+label_before : (label : Label) (labels : List Label) (low high to : ℕ) (c0 c1 c2 : List ℕ) → (HasWords label → low ≡ word_of label.low) → (HasWords label → high ≡ word_of label.high)
     → c1 ≡ c0 ++ entry_bytes low high to → EmitsLabels c1 c2 to labels → EmitsLabels c0 c2 to (label ∷ labels)
 label_before label labels low high to c0 c1 c2 low_is high_is e rest k base sound =
     let words = label_words k label base sound.0 in
@@ -89,7 +80,7 @@ pub no_labels_left : (labels : List RLabel) (i : ℕ) (to : ℕ) (code : List �
 no_labels_left labels i to code end = subst (λ (ls : List RLabel). EmitsLabels code code to (map label_of ls)) (sym (drop_all i labels end)) (no_label_emitted code to)
 
 -- ---- tables
-pub no_arms_in_table : (code : List ℕ) (place : ℕ) (other : Arms) → before_else other ≡ 0 → EmitsTable code code place other
+no_arms_in_table : (code : List ℕ) (place : ℕ) (other : Arms) → before_else other ≡ 0 → EmitsTable code code place other
 no_arms_in_table code place NoElse e k v looping base sound = emits_none code
 no_arms_in_table code place (Else body) e k v looping base sound = emits_none code
 no_arms_in_table code place (Arm labels body rest) e k v looping base sound = absurd (omega (arith, e))
@@ -99,7 +90,7 @@ none_before None = refl
 none_before (Some body) = refl
 
 -- the entries of an arm before those of others
-pub arm_in_table : (labels : List Label) (body : Statements) (rest : Arms) (place : ℕ) (c0 c1 c2 : List ℕ) → EmitsLabels c0 c1 place labels → EmitsTable c1 c2 (behind place body) rest → EmitsTable c0 c2 place (Arm labels body rest)
+arm_in_table : (labels : List Label) (body : Statements) (rest : Arms) (place : ℕ) (c0 c1 c2 : List ℕ) → EmitsLabels c0 c1 place labels → EmitsTable c1 c2 (behind place body) rest → EmitsTable c0 c2 place (Arm labels body rest)
 arm_in_table labels body rest place c0 c1 c2 mine others k v looping base sound =
     let first = mine k base sound.0 in
     emits_as c0 c2 (6 * length labels + 6 * entry_count rest) (6 * entry_count (Arm labels body rest)) _ _
@@ -237,9 +228,8 @@ module _ (e : RExpr) (arms : List RArm) (other : Option (List RStmt)) (places : 
       → c3 ≡ c2 ++ bytes_of (Jmp places.end) → EmitsArms c3 c4 n exit places.leave arms → EmitsBodies c4 c5 n exit places.leave (else_of other) → c6 ≡ c5 ++ bytes_of (Cas places.entries places.other)
       → EmitsTable c6 c7 places.first (arms_of arms other) → EmitsBody c0 c7 n exit (statement_of (s.Case e arms other))
   case_emitted n exit value placed to_table to_end bodies last choice table =
-      subst (EmitsBody c0 c7 n exit) (sym (case_is e arms other))
-      (one_emitted n exit (Case (expression_of e) (arms_of arms other)) c0 c7
-      (case_emitted_as (expression_of e) (arms_of arms other) places n exit c0 c1 c2 c3 c5 c6 c7 value placed to_table to_end (bodies other c5 last) choice table))
+      form_emitted n exit (Case (expression_of e) (arms_of arms other)) (statement_of (s.Case e arms other)) c0 c7 (case_is e arms other)
+      (case_emitted_as (expression_of e) (arms_of arms other) places n exit c0 c1 c2 c3 c5 c6 c7 value placed to_table to_end (bodies other c5 last) choice table)
 
   -- how long the code is, also where the statement isn't sound
   pub case_short : length c1 ≤ length c0 + size (expression_of e) → c2 ≡ c1 ++ bytes_of (Jmp places.table) → c3 ≡ c2 ++ bytes_of (Jmp places.end) → length c4 ≤ length c3 + before_else (arms_of arms None)

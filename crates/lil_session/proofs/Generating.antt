@@ -1,7 +1,9 @@
 -- The code of expressions, form by form.
-use Rattle.std.proofs.Common.{◌≡◌, ℕ, zero, suc, ◌+◌, ◌*◌, ◌<◌, ◌≤◌, true, List, [], ◌∷◌, ◌++◌, length, map, Option, Some, None, refl, sym, ap, ◌∙◌, subst, arith}
+use Rattle.std.proofs.Common.{◌≡◌, ℕ, zero, suc, ◌+◌, ◌*◌, ◌<◌, ◌≤◌, true, List, [], ◌∷◌, ◌++◌, length, map, Option, Some, None, refl, sym, ap, ◌∙◌, subst, arith, ℤ, pos, negsuc, ◌≤ℤ◌, rules, w32, to_z, of_z}
+use mir.Val.{SFits}
 use Rattle.std.specs.Prelude.{slice_get}
-use Rattle.lil_base.specs.Words.{Whole, Cardinal, Integer}
+use Rattle.std.proofs.lemmas.Int.{ints, to_z-of_z}
+use Rattle.lil_base.specs.Words.{Whole, Cardinal, Integer, word_of}
 use Rattle.lil_tree.specs.declared.operator.OneOp.{OneOp}
 use Rattle.lil_tree.specs.declared.operator.OneOp.TheVariants as one
 use Rattle.lil_tree.specs.declared.operator.TwoOp.{TwoOp}
@@ -81,6 +83,14 @@ two_same Mod k = refl
 two_same And k = refl
 
 -- ---- expressions
+-- what is said of the word of a number that is held in 32 bits
+pub word_told : (z : ℤ) (w : ℕ) → (negsuc 32767 ≤ℤ to_z w32 (of_z w32 z) → to_z w32 (of_z w32 z) ≤ℤ pos 65535 → w ≡ word_of (to_z w32 (of_z w32 z)))
+    → (negsuc 32767 ≤ℤ z) × (z ≤ℤ pos 65535) → w ≡ word_of z
+word_told z w told ends =
+    let small : SFits w32 z = search (rules, ints, ends.0, ends.1) in
+    let number = to_z-of_z w32 z small in
+    told (subst (λ (z : ℤ). negsuc 32767 ≤ℤ z) (sym number) ends.0) (subst (λ (z : ℤ). z ≤ℤ pos 65535) (sym number) ends.1) ∙ ap word_of number
+
 pub constant_emitted : (k : Kind) (v : Scalar) (old new : List ℕ) → new ≡ old ++ bytes_of (Liw (scalar_word v)) → EmitsExpression old new (Constant k v)
 constant_emitted k v old new e l n plain sound =
     emits_as old new 3 3 _ _ refl (λ final load. record { fits = sound; load = load }) (emits_instr old new (Liw (scalar_word v)) tt e)

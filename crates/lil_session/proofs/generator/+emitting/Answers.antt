@@ -15,6 +15,7 @@ use Rattle.lil_mcode.specs.Bytes.{bytes_of}
 use Rattle.lil_session.specs.Generating.{EmitsStatement, EmitsBody, EmitsGuards, IsPlaced, EmitsArm, EmitsArms, EmitsBodies, EmitsTable, before_else, entry_count}
 use Rattle.lil_session.proofs.Appending.{with_ok}
 use Rattle.lil_session.proofs.Extents.{body_size_next, body_size_left, guard_next, guards_size_left, guard_size_is, if_size, guards_size_apart, arms_before_next, arms_before_left, case_size}
+use Rattle.lil_session.proofs.Generating.{word_told}
 use Rattle.lil_session.proofs.CaseEmitting.{longer, arm_emitted, no_else_emitted, next_arm_emitted, no_arms_left, case_emitted, case_short}
 use Rattle.lil_session.proofs.Stating.{none_emitted, next_emitted, while_emitted, repeat_emitted, loop_emitted, for_emitted, guard_emitted, no_guard_emitted, next_guard_emitted, if_emitted, form_emitted}
 use Rattle.lil_session.proofs.Weights.{weight, weights, guard_weight, guards_weight, statement_in, guard_in, if_weight, arms_weight, else_weight, arm_in, arm_weighs, case_weight}
@@ -92,12 +93,9 @@ emit_loop-returns-clause-means t c =
 pub emit_for-returns-clause-means : goal.emit_for-returns-clause-means
 emit_for-returns-clause-means t c =
     let small : SFits w16 c.args.step = search rules in
-    let wide : SFits w32 c.from.result = search rules in
     let taken : c.from.result ≡ c.args.step = grind (arith, to_z-of_z) in
     let fits : (negsuc 32767 ≤ℤ c.from.result) × (c.from.result ≤ℤ pos 65535) = search rules in
-    let number : to_z w32 (of_z w32 c.from.result) ≡ c.from.result = grind (arith, to_z-of_z) in
-    let stepped : c.word.result ≡ word_of c.args.step =
-    c.word.ensures (subst (λ (z : ℤ). negsuc 32767 ≤ℤ z) (sym number) fits.0) (subst (λ (z : ℤ). z ≤ℤ pos 65535) (sym number) fits.1) ∙ ap word_of (number ∙ taken) in
+    let stepped : c.word.result ≡ word_of c.args.step = word_told c.from.result c.word.result c.word.ensures fits ∙ ap word_of taken in
     let more : c.args.around.loops + 1 ≡ suc c.args.around.loops = omega arith in
     let inner = subst (λ (n : ℕ). EmitsBody c.encode-4.new.code c.emit_body.new.code n c.args.around.exit (statements_of c.args.body.now)) more c.in_ok-emit_body.ensures.means in
     with_ok c.encode-5.result

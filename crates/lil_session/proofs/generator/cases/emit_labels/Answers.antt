@@ -1,6 +1,7 @@
 use Rattle.std.proofs.Common.{arith}
 use Rattle.lil_mcode.specs.Bytes.{entry_bytes}
-use Rattle.lil_session.proofs.CaseEmitting.{longer, word_told, next_label_emitted, no_labels_left}
+use Rattle.lil_session.proofs.Generating.{word_told}
+use Rattle.lil_session.proofs.CaseEmitting.{longer, next_label_emitted, no_labels_left}
 use Rattle.lil_session.proofs.generator.cases.emit_labels.Goals as goal
 
 pub loop-label-preserved : goal.loop-label-preserved

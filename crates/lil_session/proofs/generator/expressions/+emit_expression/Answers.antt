@@ -14,7 +14,7 @@ use Rattle.lil_mcode.specs.Bytes.{bytes_of}
 use Rattle.lil_session.specs.Generating.{EmitsExpression, whole_of}
 use Rattle.lil_session.specs.Rows.{compared_as}
 use Rattle.lil_session.proofs.Appending.{with_ok}
-use Rattle.lil_session.proofs.Generating.{constant_emitted, variable_emitted, one_emitted, both_emitted, either_emitted, two_emitted, two_is, chr_emitted}
+use Rattle.lil_session.proofs.Generating.{word_told, constant_emitted, variable_emitted, one_emitted, both_emitted, either_emitted, two_emitted, two_is, chr_emitted}
 use Rattle.lil_session.proofs.generator.expressions.+emit_expression.Goals as goal
 
 pub returns-in-Number-clause-means : goal.returns-in-Number-clause-means
@@ -25,12 +25,9 @@ returns-in-Number-clause-means t c =
 pub returns-in-Integer-clause-means : goal.returns-in-Integer-clause-means
 returns-in-Integer-clause-means t c =
     let small : SFits w16 c.in-Integer.number = search rules in
-    let wide : SFits w32 c.from.result = search rules in
     let taken : c.from.result ≡ c.in-Integer.number = grind (arith, to_z-of_z) in
     let fits : (negsuc 32767 ≤ℤ c.from.result) × (c.from.result ≤ℤ pos 65535) = search rules in
-    let number : to_z w32 (of_z w32 c.from.result) ≡ c.from.result = grind (arith, to_z-of_z) in
-    let same : c.word.result ≡ word_of c.in-Integer.number =
-    c.word.ensures (subst (λ (z : ℤ). negsuc 32767 ≤ℤ z) (sym number) fits.0) (subst (λ (z : ℤ). z ≤ℤ pos 65535) (sym number) fits.1) ∙ ap word_of (number ∙ taken) in
+    let same : c.word.result ≡ word_of c.in-Integer.number = word_told c.from.result c.word.result c.word.ensures fits ∙ ap word_of taken in
     subst (λ (e : RExpr). OnOk c.encode-in-Integer.result (EmitsExpression c.args.code.now c.encode-in-Integer.new.code (expression_of e))) (sym c.in-Integer.is)
     (with_ok c.encode-in-Integer.result
     (λ h. constant_emitted (OfWhole Integer) (Number c.in-Integer.number) _ _ (h ∙ ap (λ (w : ℕ). c.args.code.now ++ bytes_of (Liw w)) same))
