@@ -1,5 +1,5 @@
 -- The rules of sets, arguments, designators and factors, by those of expressions and of factors behind NOT.
-use Rattle.std.proofs.Common.{◌≡◌, ◌⊎◌, ℕ, suc, ◌+◌, ◌≤◌, ◌<◌, Bool, true, false, ◌&&◌, List, [], ◌∷◌, ◌++◌, length, length-append, Option, Some, None, Ok, refl, subst, ap, sym, ◌∙◌, inl, inr, arith}
+use Rattle.std.proofs.Common.{◌≡◌, ◌⊎◌, ℕ, suc, ◌+◌, ◌≤◌, ◌<◌, Bool, true, false, ◌&&◌, List, [], ◌∷◌, ◌++◌, length, length-append, Option, Some, None, Ok, Err, refl, subst, ap, sym, ◌∙◌, inl, inr, arith}
 use Rattle.lil_base.specs.declared.fault.Place.{Place}
 use Rattle.lil_tree.specs.declared.token.Token.{Token}
 use Rattle.lil_tree.specs.declared.token.TokenKind.{TokenKind}
@@ -24,17 +24,17 @@ use Rattle.lil_parse_body.specs.declared.kinds.SelectorKind.{SelectorKind}
 use Rattle.lil_parse_body.specs.declared.kinds.SelectorKind.TheVariants as sk
 use Rattle.lil_parse_body.specs.declared.kinds.FactorKind.{FactorKind}
 use Rattle.lil_parse_body.specs.declared.kinds.FactorKind.TheVariants as fk
-use Rattle.lil_parse_body.specs.Steps.{Parser, ◌>>=◌, ◌>>◌, pure, first, at, class_at, either, either_by, token, same_mark, is_mark, mark_at, word_at, ident_at, many}
+use Rattle.lil_parse_body.specs.Steps.{syntax, place_of, Parser, ◌>>=◌, ◌>>◌, pure, first, at, class_at, either, either_by, token, same_mark, is_mark, mark_at, word_at, ident_at, many}
 use Rattle.lil_parse_body.specs.Kinds.{number_by, number_at, code_by, code_at, chars_by, chars_at, factor_kind, selector_kind}
 use Rattle.lil_parse_body.specs.ReadExpressions as spec
 use Rattle.lil_parse_body.specs.Ends.{Not, EndsFactor, EndsExpression, EndsRange, EndsRanges, EndsExprs}
-use Rattle.lil_parse_body.proofs.Rules.{Late, Relation, Rule, Then, ◌▸◌, bind_ok, ok_same, Choice, chosen, rule_choice, rule_then, rule_as}
+use Rattle.lil_parse_body.proofs.Rules.{Late, Relation, Opens, Rule, Then, ◌▸◌, bind_ok, ok_same, Choice, chosen, rule_choice, rule_then, rule_as}
 use Rattle.lil_parse_body.proofs.RulesTokens.{Any, Same, nothing, rule_pure, Taken, takes, token_of, rule_token, IsMark, a_mark, rule_mark, IsWord, a_word, rule_word, IsIdent, an_ident, rule_ident}
 use Rattle.lil_parse_body.proofs.RulesMany.{Star, stop, go_on, Turns, between, rule_many}
 use Rattle.lil_parse_body.proofs.RulesLimit.{limit}
-use Rattle.lil_parse_body.proofs.RulesLists.{at_apart, Or, left, right, rule_either, no_longer, behind_token_shrinks, rule_map, rule_after, rule_before}
+use Rattle.lil_parse_body.proofs.RulesLists.{at_apart, Takes, plain_some, takes_opens, Or, left, right, rule_either, no_longer, behind_token_shrinks, rule_map, rule_after, rule_before}
 use Rattle.lil_parse_body.proofs.ExpressionBegins.{begins_exprs, begins_ranges, selector_begins}
-use Rattle.lil_parse_body.proofs.ExpressionParts.{begins_mark, begins_word, not_at_mark, ends_at_mark, mark_begins_none, rule_exprs, rule_ranges}
+use Rattle.lil_parse_body.proofs.ExpressionParts.{takes_mark, begins_mark, begins_word, not_at_mark, ends_at_mark, mark_begins_none, rule_exprs, rule_ranges}
 
 -- the first tokens alone tell the class
 pub class_same : {C : Type 0} (none : C) (f : TokenKind → C) (more rest : List Token) → first more ≡ first rest → class_at none f more ≡ class_at none f rest
@@ -87,7 +87,7 @@ module _ (n : ℕ) (expr : Parser Expr) (x : Rule expr (λ late. IsExpr (limit n
 
   pub rule_elements : Rule (spec.elements expr) (λ late. IsElements (limit n late)) Any
   unfolding spec.elements spec.no_elements
-  rule_elements = rule_as (rule_either (is_mark m.CloseBrace) Any (rule_map (rule_mark m.CloseBrace) (λ p. [])) rule_some_elements begins none (λ rest e. tt) (λ rest e. tt)) (to_elements n) (from_elements n) (λ rest e. e)
+  rule_elements = rule_as (rule_either (is_mark m.CloseBrace) Any (rule_map (rule_mark m.CloseBrace) (λ p. [])) rule_some_elements begins none (λ rest e. tt) (λ rest e. tt) tt (takes_opens (is_mark m.CloseBrace) (takes_mark m.CloseBrace) (λ p. (rule_pure []).some))) (to_elements n) (from_elements n) (λ rest e. e)
     where
       begins : (late : Late) (ts rest : List Token) (all : List Range) → NoElement n late ts rest all → at (is_mark m.CloseBrace) ts ≡ true
       begins late ts rest all (h ▸ k) = begins_mark h
@@ -107,7 +107,7 @@ module _ (n : ℕ) (expr : Parser Expr) (x : Rule expr (λ late. IsExpr (limit n
 
   pub rule_actuals : Rule (spec.actuals expr) (λ late. IsActuals (limit n late)) Any
   unfolding spec.actuals spec.no_actuals
-  rule_actuals = rule_as (rule_after (rule_mark m.Open) (λ p. rule_either (is_mark m.Close) Any (rule_map (rule_mark m.Close) (λ p. [])) rule_some_actuals begins none (λ rest e. tt) (λ rest e. tt))) (to_actuals n) (from_actuals n) (λ rest e. e)
+  rule_actuals = rule_as (rule_after (rule_mark m.Open) (λ p. rule_either (is_mark m.Close) Any (rule_map (rule_mark m.Close) (λ p. [])) rule_some_actuals begins none (λ rest e. tt) (λ rest e. tt) tt (takes_opens (is_mark m.Close) (takes_mark m.Close) (λ p. (rule_pure []).some)))) (to_actuals n) (from_actuals n) (λ rest e. e)
     where
       begins : (late : Late) (ts rest : List Token) (all : List Expr) → Then (IsMark m.Close) (λ p. Same []) late ts rest all → at (is_mark m.Close) ts ≡ true
       begins late ts rest all (h ▸ k) = begins_mark h
@@ -169,9 +169,13 @@ module _ (n : ℕ) (expr : Parser Expr) (x : Rule expr (λ late. IsExpr (limit n
   rule_of sk.Index = rule_after (rule_mark m.OpenBracket) rule_index_end
   rule_of sk.Follow = rule_map (rule_mark m.Arrow) s.Follow
 
+  refused : spec.selector_by expr (class_at sk.Field selector_kind []) [] ≡ Err (syntax (place_of []))
+  unfolding class_at spec.field token
+  refused = refl
+
   rule_selector : Rule (spec.selector expr) (λ late. IsSelector (limit n late)) Any
   unfolding spec.selector
-  rule_selector = rule_as (rule_choice (class_at sk.Field selector_kind) (class_same sk.Field selector_kind) (spec.selector_by expr) (IsOf n) (λ c. Any) Any (only_selector n) (λ c rest e. tt) rule_of sk.Field)
+  rule_selector = rule_as (rule_choice (class_at sk.Field selector_kind) (class_same sk.Field selector_kind) (spec.selector_by expr) (IsOf n) (λ c. Any) Any (only_selector n) (λ c rest e. tt) (λ c. inr (inl refused)) tt rule_of sk.Field)
       (to_selector n) (from_selector n) (λ rest e. e)
 
   by_shrinks : (c : SelectorKind) (ts : List Token) (one : Selector) (rest : List Token) → spec.selector_by expr c ts ≡ Ok (one, rest) → length rest < length ts
@@ -186,11 +190,24 @@ module _ (n : ℕ) (expr : Parser Expr) (x : Rule expr (λ late. IsExpr (limit n
       let y = bind_ok (spec.selector expr ts) (λ one. pure (ss ++ one ∷ [])) (ss', mid) is in
       omega (arith, by_shrinks (class_at sk.Field selector_kind ts) ts y.0.0 y.0.1 y.1, ap (λ y. length y.1) (ok_same y.2))
 
+  nothing_selects : Not selects []
+  unfolding at
+  nothing_selects = refl
+
+  selector_opens : (t : Token) (v : TokenKind) → t.what ≡ v → selects v ≡ true → Opens (λ late. IsSelector (limit n late)) t
+  selector_opens t (k.Mark m.Dot) is h = (token_of (k.Ident []) ∷ [], s.Field t.place (ident (token_of (k.Ident [])).place []), g.field is refl)
+  selector_opens t (k.Mark m.OpenBracket) is h = let b = plain_some (rule_index_end t.place).some in (b.0, b.1, to_selector n None (t ∷ b.0) [] b.1 (chosen sk.Index (a_mark is ▸ b.2)))
+  selector_opens t (k.Mark m.Arrow) is h = ([], s.Follow t.place, g.follow is)
+  selector_opens t _ is h = absurd (cc)
+
   pub rule_selectors : Rule (spec.selectors expr) (Selectors n []) (Not selects)
   unfolding spec.selectors spec.selectors_turn
   rule_selectors = rule_many selects (spec.selectors_turn expr) turn_shrinks (λ ss. Then (λ late. IsSelector (limit n late)) (λ one. Same (ss ++ one ∷ []))) Any (Not selects)
-      (λ ss. rule_map rule_selector (λ one. ss ++ one ∷ [])) begins (λ ts e. e) (λ ts h. tt) (λ ts e. tt) []
+      (λ ss. rule_map rule_selector (λ one. ss ++ one ∷ [])) begins (λ ts e. e) (λ ts h. tt) (λ ts e. tt) nothing_selects opens []
     where
+      opens : (ss : List Selector) (t : Token) → selects t.what ≡ true → Opens (Then (λ late. IsSelector (limit n late)) (λ one. Same (ss ++ one ∷ []))) t
+      opens ss t h = let o = selector_opens t t.what refl h in (o.0, ss ++ o.1 ∷ [], o.2 ▸ nothing refl)
+
       begins : (late : Late) (ss : List Selector) (ts rest : List Token) (ss' : List Selector) → Then (λ late. IsSelector (limit n late)) (λ one. Same (ss ++ one ∷ [])) late ts rest ss' → at selects ts ≡ true
       begins late ss ts rest ss' (h ▸ k) = selector_begins h
 

@@ -6,16 +6,13 @@ use Rattle.lil_tree.specs.declared.tree.Expr.{Expr}
 use Rattle.lil_tree.specs.declared.stop.ReadStop.{ReadStop}
 use Rattle.lil_tree.specs.Nesting.{within}
 use Rattle.lil_tree.specs.Expressions.{IsExpr}
-use Rattle.lil_parse_body.specs.Steps.{syntax, nested, at, Reads}
+use Rattle.lil_parse_body.specs.Steps.{syntax, nested, Reads}
 use Rattle.lil_parse_body.specs.ReadExpressions.{expr}
 use Rattle.lil_parse_body.specs.Ends.{EndsExpression}
 use Rattle.lil_parse_body.specs.Places.{Longest, RefusedAt, TooDeepAt, StopsAt}
 use Rattle.lil_parse_body.proofs.RulesUse as r
+use Rattle.lil_parse_body.proofs.ExpressionLevels.{nothing_expression}
 use Rattle.lil_parse_body.proofs.ExpressionRules.{rule_expr}
-
-pub ends_nothing : EndsExpression []
-unfolding at
-ends_nothing = (((refl, refl), refl), refl)
 
 module _ (n : ℕ) where
   pub expr_sound : (ts : List Token) (x : Expr) (rest : List Token) → expr n ts ≡ Ok (x, rest) → IsExpr (within n) ts rest x
@@ -32,24 +29,24 @@ module _ (n : ℕ) where
   expr_unique = r.unique (rule_expr n)
 
   pub expr_longest : (ts : List Token) (x : Expr) (rest : List Token) → expr n ts ≡ Ok (x, rest) → Longest IsExpr ts rest
-  expr_longest = r.longest IsExpr n (rule_expr n) ends_nothing
+  expr_longest = r.longest IsExpr n (rule_expr n) nothing_expression
 
   pub expr_refused : (ts : List Token) (p : Place) → expr n ts ≡ Err (syntax p) → RefusedAt IsExpr n ts p
-  expr_refused = r.refused_at IsExpr n (rule_expr n) ends_nothing
+  expr_refused = r.refused_at IsExpr n (rule_expr n) nothing_expression
 
   pub expr_too_deep : (ts : List Token) (p : Place) → expr n ts ≡ Err (nested p) → TooDeepAt IsExpr n ts p
-  expr_too_deep = r.too_deep_at IsExpr n (rule_expr n) ends_nothing
+  expr_too_deep = r.too_deep_at IsExpr n (rule_expr n) nothing_expression
 
   -- ---- for a function that reads by it
   module _ (ts new : List Token) (result : Result Expr ReadStop) (reads : Reads (expr n ts) result new) where
     pub expr_found : IfOk result (λ x. IsExpr (within n) ts new x)
-    expr_found = r.reads_found IsExpr n (rule_expr n) ends_nothing ts new result reads
+    expr_found = r.reads_found IsExpr n (rule_expr n) nothing_expression ts new result reads
 
     pub expr_is_longest : IfOk result (λ x. Longest IsExpr ts new)
-    expr_is_longest = r.reads_longest IsExpr n (rule_expr n) ends_nothing ts new result reads
+    expr_is_longest = r.reads_longest IsExpr n (rule_expr n) nothing_expression ts new result reads
 
     pub expr_only : (x : Expr) (rest : List Token) → IsExpr (within n) ts rest x → EndsExpression rest → Reads (Ok (x, rest)) result new
-    expr_only = r.reads_only IsExpr n (rule_expr n) ends_nothing ts new result reads
+    expr_only = r.reads_only IsExpr n (rule_expr n) nothing_expression ts new result reads
 
     pub expr_exact : IfErr result (λ e. StopsAt IsExpr n ts e)
-    expr_exact = r.reads_exact IsExpr n (rule_expr n) ends_nothing ts new result reads
+    expr_exact = r.reads_exact IsExpr n (rule_expr n) nothing_expression ts new result reads

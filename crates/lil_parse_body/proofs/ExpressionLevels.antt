@@ -22,11 +22,11 @@ use Rattle.lil_parse_body.specs.Steps.{Parser, ◌>>=◌, pure, at, either, toke
 use Rattle.lil_parse_body.specs.Kinds.{found, placed, operator_in, is_operator, operator_at, is_sign, sign_at}
 use Rattle.lil_parse_body.specs.ReadExpressions as spec
 use Rattle.lil_parse_body.specs.Ends.{Not, EndsFactor, EndsTerm, EndsSum, EndsExpression}
-use Rattle.lil_parse_body.proofs.Rules.{Late, Relation, Rule, Then, ◌▸◌, rule_then, rule_as}
+use Rattle.lil_parse_body.proofs.Rules.{Late, Relation, Opens, Rule, Then, ◌▸◌, rule_then, rule_as}
 use Rattle.lil_parse_body.proofs.RulesTokens.{Any, Same, nothing, rule_pure, Taken, takes, token_of, rule_token}
 use Rattle.lil_parse_body.proofs.RulesMany.{Star, stop, go_on, Turns}
 use Rattle.lil_parse_body.proofs.RulesLimit.{limit}
-use Rattle.lil_parse_body.proofs.RulesLists.{at_apart, Or, left, right, rule_either, Turn, EndsList, rule_list, rule_map, rule_after}
+use Rattle.lil_parse_body.proofs.RulesLists.{at_apart, Or, left, right, rule_either, Takes, takes_opens, Turn, rule_list, rule_map, rule_after}
 use Rattle.lil_parse_body.proofs.ExpressionBegins.{begins_term}
 
 -- ---- operators and signs
@@ -54,6 +54,13 @@ module _ (l : Level) where
   unfolding at
   begins_operator late ts rest y (an_operator is) = ap found is
 
+  found_is : (o : Option TwoOp) → found o ≡ true → (a : TwoOp) × (o ≡ Some a)
+  found_is None h = absurd (cc)
+  found_is (Some a) h = (a, refl)
+
+  pub takes_operator : Takes (IsOperator l) (is_operator l)
+  takes_operator t h = let o = found_is (operator_in l t.what) h in ((o.0, t.place), λ late s. an_operator o.1)
+
 pub data IsSign (late : Late) : List Token → List Token → OneOp × Place → Type 0 where
   a_sign : {t : Token} {rest : List Token} {op : OneOp} → sign t.what ≡ Some op → IsSign late (t ∷ rest) rest (op, t.place)
 
@@ -66,6 +73,13 @@ from_sign (a_sign {t = t} is) = takes (ap (placed t.place) is)
 begins_sign : {late : Late} {ts rest : List Token} {y : OneOp × Place} → IsSign late ts rest y → at is_sign ts ≡ true
 unfolding at
 begins_sign (a_sign is) = ap found is
+
+sign_is : (o : Option OneOp) → found o ≡ true → (a : OneOp) × (o ≡ Some a)
+sign_is None h = absurd (cc)
+sign_is (Some a) h = (a, refl)
+
+takes_sign : Takes IsSign is_sign
+takes_sign t h = let o = sign_is (sign t.what) h in ((o.0, t.place), λ late s. a_sign o.1)
 
 rule_sign : Rule (token sign_at) IsSign Any
 rule_sign = let t = token_of (k.Mark m.Plus) in rule_as (rule_token sign_at t (one.Plus, t.place) refl) (λ late ts rest a h. to_sign h) (λ late ts rest a h. from_sign h) (λ rest e. e)
@@ -121,6 +135,23 @@ relation_ends ts h =
       none (is_operator level.Addition) (relation_apart (is_operator level.Addition) refl refl refl refl refl refl refl),
     )
 
+-- where nothing follows, nothing goes on
+pub nothing_factor : EndsFactor []
+unfolding at
+nothing_factor = refl
+
+pub nothing_term : EndsTerm []
+unfolding at
+nothing_term = (refl, refl)
+
+pub nothing_sum : EndsSum []
+unfolding at
+nothing_sum = ((refl, refl), refl)
+
+pub nothing_expression : EndsExpression []
+unfolding at
+nothing_expression = (((refl, refl), refl), refl)
+
 -- ---- the levels
 module _ (n : ℕ) where
   abbrev Factors : Expr → Relation Expr
@@ -140,7 +171,7 @@ module _ (n : ℕ) where
 module _ (n : ℕ) (factor : Parser Expr) (x : Rule factor (λ late. IsFactor (limit n late)) EndsFactor) where
   pub rule_term : Rule (spec.term factor) (λ late. IsTerm (limit n late)) EndsTerm
   unfolding spec.term spec.factors_turn
-  rule_term = rule_as (rule_list (operator_at level.Multiplication) factor (is_operator level.Multiplication) spec.two (rule_operator level.Multiplication (k.Mark m.Times) op.Times refl) x (begins_operator level.Multiplication) multiplication_ends (λ b. b) x) to from (λ rest e. e)
+  rule_term = rule_as (rule_list (operator_at level.Multiplication) factor (is_operator level.Multiplication) spec.two (rule_operator level.Multiplication (k.Mark m.Times) op.Times refl) x (begins_operator level.Multiplication) multiplication_ends nothing_factor (takes_operator level.Multiplication) (λ b. b) x) to from (λ rest e. e)
     where
       to : (late : Late) (ts rest : List Token) (a : Expr) → Then (λ late. IsFactor (limit n late)) (Factors n) late ts rest a → IsTerm (limit n late) ts rest a
       to late ts rest a (h ▸ k) = g.term h (to_factors n k)
@@ -196,8 +227,11 @@ module _ (n : ℕ) (factor : Parser Expr) (x : Rule factor (λ late. IsFactor (l
 
   rule_signed : Rule (spec.signed factor) (λ late. IsSigned (limit n late)) EndsTerm
   unfolding spec.signed
-  rule_signed = rule_as (rule_either is_sign EndsTerm rule_with_sign (rule_term n factor x) begins none (λ rest e. e) (λ rest e. e)) (λ late ts rest a h. to_signed n h) (λ late ts rest a h. from_signed n h) (λ rest e. e)
+  rule_signed = rule_as (rule_either is_sign EndsTerm rule_with_sign (rule_term n factor x) begins none (λ rest e. e) (λ rest e. e) nothing_term opens) (λ late ts rest a h. to_signed n h) (λ late ts rest a h. from_signed n h) (λ rest e. e)
     where
+      opens : (t : Token) → is_sign t.what ≡ true → Opens (Signed n) t
+      opens = takes_opens is_sign takes_sign (λ op. (rule_map (rule_term n factor x) (λ x. e.One op.1 op.0 op.1 x)).some)
+
       begins : (late : Late) (ts rest : List Token) (a : Expr) → Signed n late ts rest a → at is_sign ts ≡ true
       begins late ts rest a (h ▸ k) = begins_sign h
 
@@ -207,7 +241,7 @@ module _ (n : ℕ) (factor : Parser Expr) (x : Rule factor (λ late. IsFactor (l
   pub rule_sum : Rule (spec.sum factor) (λ late. IsSum (limit n late)) EndsSum
   unfolding spec.sum spec.terms_turn
   rule_sum = rule_as (rule_list (operator_at level.Addition) (spec.term factor) (is_operator level.Addition) spec.two (rule_operator level.Addition (k.Mark m.Plus) op.Plus refl) (rule_term n factor x)
-      (begins_operator level.Addition) addition_ends (λ b. b) rule_signed) to from (λ rest e. e)
+      (begins_operator level.Addition) addition_ends nothing_term (takes_operator level.Addition) (λ b. b) rule_signed) to from (λ rest e. e)
     where
       to : (late : Late) (ts rest : List Token) (a : Expr) → Then (λ late. IsSigned (limit n late)) (Terms n) late ts rest a → IsSum (limit n late) ts rest a
       to late ts rest a (h ▸ k) = g.sum h (to_terms n k)
@@ -221,9 +255,12 @@ module _ (n : ℕ) (factor : Parser Expr) (x : Rule factor (λ late. IsFactor (l
 
   pub rule_relation : Rule (spec.relation factor) (λ late. IsRelation (limit n late)) EndsExpression
   unfolding spec.relation
-  rule_relation = rule_as (rule_then rule_sum (λ l. rule_either (is_operator level.Relation) EndsExpression (rule_related l) (rule_pure l) (begins l) (none l) (λ rest e. e.0) (λ rest e. tt)) EndsExpression inner (λ l rest e. e))
+  rule_relation = rule_as (rule_then rule_sum (λ l. rule_either (is_operator level.Relation) EndsExpression (rule_related l) (rule_pure l) (begins l) (none l) (λ rest e. e.0) (λ rest e. tt) nothing_expression (opens l)) EndsExpression inner (λ l rest e. e))
       (λ late ts rest a h. to_relation n h) (λ late ts rest a h. from_relation n h) (λ rest e. e)
     where
+      opens : (l : Expr) (t : Token) → is_operator level.Relation t.what ≡ true → Opens (Right n l) t
+      opens l = takes_opens (is_operator level.Relation) (takes_operator level.Relation) (λ op. (rule_map rule_sum (spec.two l op)).some)
+
       begins : (l : Expr) (late : Late) (ts rest : List Token) (a : Expr) → Right n l late ts rest a → at (is_operator level.Relation) ts ≡ true
       begins l late ts rest a (◌▸◌ {mid = mid} {a = op} h k) = begins_operator level.Relation late ts mid op h
 

@@ -24,12 +24,13 @@ use Rattle.lil_parse_body.specs.Steps.{Parser, ◌>>=◌, ◌>>◌, pure, at, ei
 use Rattle.lil_parse_body.specs.ReadExpressions as spec
 use Rattle.lil_parse_body.specs.ReadExpressions.{is_qualified, qualified}
 use Rattle.lil_parse_body.specs.Ends.{Not, EndsFactor, EndsExpression}
-use Rattle.lil_parse_body.proofs.Rules.{Late, Relation, Rule, Then, ◌▸◌, rule_then, rule_as}
-use Rattle.lil_parse_body.proofs.RulesTokens.{Any, Same, nothing, rule_pure, mark_is, is_mark_of, IsMark, a_mark, rule_mark, IsIdent, an_ident, rule_ident}
+use Rattle.lil_parse_body.proofs.Rules.{Late, Relation, Opens, Rule, Then, ◌▸◌, rule_then, rule_as}
+use Rattle.lil_parse_body.proofs.RulesTokens.{Any, Same, nothing, rule_pure, token_of, mark_is, is_mark_of, IsMark, a_mark, rule_mark, IsIdent, an_ident, rule_ident}
 use Rattle.lil_parse_body.proofs.RulesMany.{stop, go_on}
 use Rattle.lil_parse_body.proofs.RulesLimit.{limit}
-use Rattle.lil_parse_body.proofs.RulesLists.{Or, left, right, rule_either, rule_map, rule_after}
-use Rattle.lil_parse_body.proofs.ExpressionParts.{begins_mark, not_at_mark}
+use Rattle.lil_parse_body.proofs.RulesLists.{takes_opens, Or, left, right, rule_either, rule_map, rule_after}
+use Rattle.lil_parse_body.proofs.ExpressionLevels.{nothing_factor}
+use Rattle.lil_parse_body.proofs.ExpressionParts.{takes_mark, begins_mark, not_at_mark}
 use Rattle.lil_parse_body.proofs.ExpressionFactors.{Selectors, to_selectors, from_selectors, rule_selectors, rule_actuals, rule_elements}
 
 joins_selects : (v : TokenKind) → joins_factor v ≡ false → selects v ≡ false
@@ -157,8 +158,11 @@ module _ (n : ℕ) where
 module _ (n : ℕ) (expr : Parser Expr) (x : Rule expr (λ late. IsExpr (limit n late)) EndsExpression) where
   rule_call_or_value : (p : Place) (d : Designator) → Rule (spec.call_or_value expr p d) (CallOrValue n p d) EndsFactor
   unfolding spec.call_or_value spec.call
-  rule_call_or_value p d = rule_either (is_mark m.Open) EndsFactor (rule_map (rule_actuals n expr x) (λ xs. e.Call p d xs)) (rule_pure (e.Desig p d)) begins none (λ rest e. tt) (λ rest e. tt)
+  rule_call_or_value p d = rule_either (is_mark m.Open) EndsFactor (rule_map (rule_actuals n expr x) (λ xs. e.Call p d xs)) (rule_pure (e.Desig p d)) begins none (λ rest e. tt) (λ rest e. tt) nothing_factor opens
     where
+      opens : (t : Token) → is_mark m.Open t.what ≡ true → Opens (Then (λ late. IsActuals (limit n late)) (λ xs. Same (e.Call p d xs))) t
+      opens t h = (token_of (k.Mark m.Close) ∷ [], e.Call p d [], g.no_actual (mark_is m.Open t.what h) refl ▸ nothing refl)
+
       begins : (late : Late) (ts rest : List Token) (y : Expr) → Then (λ late. IsActuals (limit n late)) (λ xs. Same (e.Call p d xs)) late ts rest y → at (is_mark m.Open) ts ≡ true
       begins late ts rest y (h ▸ k) = begins_actuals h
 
@@ -171,8 +175,11 @@ module _ (n : ℕ) (expr : Parser Expr) (x : Rule expr (λ late. IsExpr (limit n
 
   rule_behind_by : (name : Ident) (ss : List Selector) (b : Bool)
       → Rule (λ ts. either_by (spec.typed_set expr name.place (qualified name ss)) (spec.call_or_value expr name.place (designator name ss)) (b && at (is_mark m.OpenBrace) ts) ts) (Behind n name ss b) EndsFactor
-  rule_behind_by name ss true = rule_either (is_mark m.OpenBrace) EndsFactor (rule_typed name.place (qualified name ss)) (rule_call_or_value name.place (designator name ss)) begins none (λ rest e. tt) (λ rest e. e)
+  rule_behind_by name ss true = rule_either (is_mark m.OpenBrace) EndsFactor (rule_typed name.place (qualified name ss)) (rule_call_or_value name.place (designator name ss)) begins none (λ rest e. tt) (λ rest e. e) nothing_factor opens
     where
+      opens : (t : Token) → is_mark m.OpenBrace t.what ≡ true → Opens (Typed n name.place (qualified name ss)) t
+      opens = takes_opens (is_mark m.OpenBrace) (takes_mark m.OpenBrace) (λ b. (rule_map (rule_elements n expr x) (λ rs. e.SetOf name.place (Some (qualified name ss)) rs)).some)
+
       begins : (late : Late) (ts rest : List Token) (y : Expr) → Typed n name.place (qualified name ss) late ts rest y → at (is_mark m.OpenBrace) ts ≡ true
       begins late ts rest y (h ▸ k) = begins_mark h
 

@@ -26,12 +26,12 @@ use Rattle.lil_parse_body.specs.Steps.{Parser, ◌>>=◌, ◌>>◌, pure, at, ei
 use Rattle.lil_parse_body.specs.Kinds.{is_operator}
 use Rattle.lil_parse_body.specs.ReadExpressions as spec
 use Rattle.lil_parse_body.specs.Ends.{Not, EndsFactor, EndsTerm, EndsSum, EndsExpression, EndsRange, EndsRanges, EndsExprs}
-use Rattle.lil_parse_body.proofs.Rules.{Late, Relation, Rule, Then, ◌▸◌, rule_then, rule_as}
+use Rattle.lil_parse_body.proofs.Rules.{Late, Relation, Opens, Rule, Then, ◌▸◌, rule_then, rule_as}
 use Rattle.lil_parse_body.proofs.RulesTokens.{Any, Same, nothing, rule_pure, IsMark, a_mark, rule_mark, mark_is, is_mark_of, IsWord, a_word, rule_word, word_is, is_word_of, IsIdent, an_ident, rule_ident}
 use Rattle.lil_parse_body.proofs.RulesMany.{Star, stop, go_on, Turns}
 use Rattle.lil_parse_body.proofs.RulesLimit.{limit}
-use Rattle.lil_parse_body.proofs.RulesLists.{at_apart, Or, left, right, rule_either, Turn, EndsList, rule_list, rule_map, rule_after, rule_before}
-use Rattle.lil_parse_body.proofs.ExpressionBegins.{begins_exprs, begins_ranges}
+use Rattle.lil_parse_body.proofs.RulesLists.{at_apart, Or, left, right, rule_either, Takes, takes_opens, Turn, rule_list, rule_map, rule_after, rule_before}
+use Rattle.lil_parse_body.proofs.ExpressionLevels.{nothing_expression}
 
 -- ---- a mark or a word first
 pub begins_mark : {m : Mark} {late : Late} {ts rest : List Token} {p : Place} → IsMark m late ts rest p → at (is_mark m) ts ≡ true
@@ -41,6 +41,12 @@ begins_mark {m} (a_mark {t = t} is) = is_mark_of m t.what is
 pub begins_word : {w : Word} {late : Late} {ts rest : List Token} {p : Place} → IsWord w late ts rest p → at (is_word w) ts ≡ true
 unfolding at
 begins_word {w} (a_word {t = t} is) = is_word_of w t.what is
+
+pub takes_mark : (m : Mark) → Takes (IsMark m) (is_mark m)
+takes_mark m t h = (t.place, λ late s. a_mark (mark_is m t.what h))
+
+pub takes_word : (w : Word) → Takes (IsWord w) (is_word w)
+takes_word w t h = (t.place, λ late s. a_word (word_is w t.what h))
 
 pub at_mark : (m : Mark) (t : Token) (ts : List Token) → t.what ≡ k.Mark m → at (is_mark m) (t ∷ ts) ≡ true
 unfolding at
@@ -131,10 +137,14 @@ module _ (n : ℕ) where
   from_ranges : (late : Late) (ts rest : List Token) (rs : List Range) → IsRanges (limit n late) ts rest rs → Then (λ late. IsRange (limit n late)) (λ r. MoreRanges (r ∷ [])) late ts rest rs
   from_ranges late ts rest rs (g.ranges h more) = h ▸ from_more_ranges more late refl
 
+pub nothing_range : EndsRange []
+unfolding at
+nothing_range = (nothing_expression, refl)
+
 module _ (n : ℕ) (expr : Parser Expr) (x : Rule expr (λ late. IsExpr (limit n late)) EndsExpression) where
   pub rule_exprs : Rule (spec.exprs expr) (λ late. IsExprs (limit n late)) EndsExprs
   unfolding spec.exprs spec.exprs_turn
-  rule_exprs = rule_as (rule_list (mark_at m.Comma) expr (is_mark m.Comma) (λ xs p x. xs ++ x ∷ []) (rule_mark m.Comma) x (λ late ts rest a h. begins_mark h) (ends_at_mark m.Comma (refl, refl, refl, refl)) (λ x. x ∷ []) x)
+  rule_exprs = rule_as (rule_list (mark_at m.Comma) expr (is_mark m.Comma) (λ xs p x. xs ++ x ∷ []) (rule_mark m.Comma) x (λ late ts rest a h. begins_mark h) (ends_at_mark m.Comma (refl, refl, refl, refl)) nothing_expression (takes_mark m.Comma) (λ x. x ∷ []) x)
       (to_exprs n) (from_exprs n) (λ rest e. e)
 
   rule_through : (low : Expr) → Rule (spec.through expr low) (High n low) EndsExpression
@@ -143,9 +153,12 @@ module _ (n : ℕ) (expr : Parser Expr) (x : Rule expr (λ late. IsExpr (limit n
 
   pub rule_range : Rule (spec.element expr) (λ late. IsRange (limit n late)) EndsRange
   unfolding spec.element
-  rule_range = rule_as (rule_then x (λ low. rule_either (is_mark m.Through) EndsRange (rule_through low) (rule_pure (range low None)) (begins low) (none low) (λ rest e. e.0) (λ rest e. tt)) EndsRange inner (λ low rest e. e))
+  rule_range = rule_as (rule_then x (λ low. rule_either (is_mark m.Through) EndsRange (rule_through low) (rule_pure (range low None)) (begins low) (none low) (λ rest e. e.0) (λ rest e. tt) nothing_range (opens low)) EndsRange inner (λ low rest e. e))
       (to_range n) (from_range n) (λ rest e. e)
     where
+      opens : (low : Expr) (t : Token) → is_mark m.Through t.what ≡ true → Opens (High n low) t
+      opens low = takes_opens (is_mark m.Through) (takes_mark m.Through) (λ p. (rule_map x (λ high. range low (Some high))).some)
+
       begins : (low : Expr) (late : Late) (ts rest : List Token) (r : Range) → High n low late ts rest r → at (is_mark m.Through) ts ≡ true
       begins low late ts rest r (h ▸ more) = begins_mark h
 
@@ -159,5 +172,5 @@ module _ (n : ℕ) (expr : Parser Expr) (x : Rule expr (λ late. IsExpr (limit n
   pub rule_ranges : Rule (spec.ranges expr) (λ late. IsRanges (limit n late)) EndsRanges
   unfolding spec.ranges spec.ranges_turn same_mark
   rule_ranges = rule_as (rule_list (mark_at m.Comma) (spec.element expr) (is_mark m.Comma) (λ rs p r. rs ++ r ∷ []) (rule_mark m.Comma) rule_range (λ late ts rest a h. begins_mark h)
-      (λ ts h. (ends_at_mark m.Comma (refl, refl, refl, refl) ts h, not_at_mark m.Comma (is_mark m.Through) refl ts h)) (λ r. r ∷ []) rule_range)
+      (λ ts h. (ends_at_mark m.Comma (refl, refl, refl, refl) ts h, not_at_mark m.Comma (is_mark m.Through) refl ts h)) nothing_range (takes_mark m.Comma) (λ r. r ∷ []) rule_range)
       (to_ranges n) (from_ranges n) (λ rest e. e)

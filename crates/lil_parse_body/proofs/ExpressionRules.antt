@@ -1,5 +1,5 @@
 -- The rules of factors and of expressions, at each nesting.
-use Rattle.std.proofs.Common.{◌≡◌, ◌⊎◌, ℕ, zero, suc, ◌≤◌, Bool, true, false, List, [], ◌∷◌, ◌++◌, length, Option, Some, None, Ok, refl, subst, ap, sym, ◌∙◌, inl, inr}
+use Rattle.std.proofs.Common.{◌≡◌, ◌⊎◌, ℕ, zero, suc, ◌≤◌, Bool, true, false, List, [], ◌∷◌, ◌++◌, length, Option, Some, None, Ok, Err, refl, subst, ap, sym, ◌∙◌, inl, inr}
 use Rattle.lil_base.specs.declared.fault.Place.{Place}
 use Rattle.lil_tree.specs.declared.token.Token.{Token}
 use Rattle.lil_tree.specs.declared.token.TokenKind.{TokenKind}
@@ -18,7 +18,7 @@ use Rattle.lil_tree.specs.Expressions as g
 use Rattle.lil_tree.specs.Expressions.{IsExpr, IsRelation, IsSum, IsSigned, IsTerm, IsFactor, IsOperand, IsElements}
 use Rattle.lil_parse_body.specs.declared.kinds.FactorKind.{FactorKind}
 use Rattle.lil_parse_body.specs.declared.kinds.FactorKind.TheVariants as fk
-use Rattle.lil_parse_body.specs.Steps.{Parser, ◌>>=◌, ◌>>◌, pure, at, class_at, token, is_mark, shallow, mark_at, word_at}
+use Rattle.lil_parse_body.specs.Steps.{syntax, place_of, Parser, ◌>>=◌, ◌>>◌, pure, at, class_at, token, is_mark, shallow, mark_at, word_at}
 use Rattle.lil_parse_body.specs.Kinds.{number_by, number_at, code_by, code_at, chars_by, chars_at, factor_kind}
 use Rattle.lil_parse_body.specs.ReadExpressions as spec
 use Rattle.lil_parse_body.specs.Ends.{EndsFactor, EndsExpression}
@@ -27,7 +27,7 @@ use Rattle.lil_parse_body.proofs.RulesTokens.{Any, Same, nothing, rule_pure, Tak
 use Rattle.lil_parse_body.proofs.RulesLimit.{limit, inside_next, inside_free, inside_next_is, inside_zero_is, rule_shallow}
 use Rattle.lil_parse_body.proofs.RulesLists.{rule_map, rule_after, rule_before}
 use Rattle.lil_parse_body.proofs.ExpressionBegins.{factor_expression, begins_relation, begins_expr, begins_operand}
-use Rattle.lil_parse_body.proofs.ExpressionLevels.{rule_relation}
+use Rattle.lil_parse_body.proofs.ExpressionLevels.{nothing_factor, rule_relation}
 use Rattle.lil_parse_body.proofs.ExpressionParts.{begins_mark, ends_at_mark}
 use Rattle.lil_parse_body.proofs.ExpressionFactors.{class_same, rule_elements}
 use Rattle.lil_parse_body.proofs.ExpressionNames.{Named, to_named, from_value, from_call, from_typed, rule_named}
@@ -121,9 +121,13 @@ module _ (n : ℕ) (expr operand : Parser Expr) (x : Rule expr (λ late. IsExpr 
   rule_of fk.Inner = rule_after (rule_mark m.Open) (λ p. rule_before (is_mark m.Close) (ends_at_mark m.Close (refl, refl, refl, refl)) (begins_close p) x (λ x. rule_map (rule_mark m.Close) (λ q. begun_at p x)))
   rule_of fk.Negated = rule_after (rule_word w.Not) (λ p. rule_map y (λ x. e.One p one.Not p x))
 
+  refused : spec.factor_by expr operand (class_at fk.Number factor_kind []) [] ≡ Err (syntax (place_of []))
+  unfolding class_at token
+  refused = refl
+
   pub rule_factor : Rule (spec.factor_with expr operand) (λ late. IsFactor (limit n late)) EndsFactor
   unfolding spec.factor_with
-  rule_factor = rule_as (rule_choice (class_at fk.Number factor_kind) (class_same fk.Number factor_kind) (spec.factor_by expr operand) (IsOf n) ends_of EndsFactor (only_factor n) outer rule_of fk.Number)
+  rule_factor = rule_as (rule_choice (class_at fk.Number factor_kind) (class_same fk.Number factor_kind) (spec.factor_by expr operand) (IsOf n) ends_of EndsFactor (only_factor n) outer (λ c. inr (inl refused)) nothing_factor rule_of fk.Number)
       (to_factor n) (from_factor n) (λ rest e. e)
 
 -- ---- something that begins with each token

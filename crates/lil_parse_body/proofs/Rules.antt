@@ -1,6 +1,7 @@
 -- The laws between a parser and the relation of what it reads, and how those of a composed parser follow from those of its parts.
-use Rattle.std.proofs.Common.{◌≡◌, ◌⊎◌, ℕ, suc, ◌≤◌, ◌<◌, List, [], ◌∷◌, ◌++◌, length, length-append, append_assoc, Option, Some, None, Result, Ok, Err, refl, subst, ap, sym, ◌∙◌, inl, inr, arith}
+use Rattle.std.proofs.Common.{◌≡◌, ◌⊎◌, ℕ, suc, ◌≤◌, ◌<◌, List, [], ◌∷◌, ◌++◌, length, length-append, append_assoc, append-nil, Option, Some, None, Result, Ok, Err, refl, subst, ap, sym, ◌∙◌, inl, inr, arith}
 use Rattle.lil_base.specs.declared.fault.Place.{Place}
+use Rattle.lil_base.specs.declared.fault.SourceFault.{SourceFault}
 use Rattle.lil_tree.specs.declared.token.Token.{Token}
 use Rattle.lil_tree.specs.declared.stop.ReadStop.{ReadStop}
 use Rattle.lil_tree.specs.declared.stop.ReadStop.TheVariants.{Fault, Memory}
@@ -18,11 +19,15 @@ IsFree (Some late) n = n ≤ late
 abbrev pub Relation : Type 0 → Type 1
 Relation A = Late → List Token → List Token → A → Type 0
 
--- What was taken is taken again before whatever begins with the same token, and derives the same before anything.
+-- the same token or none
+abbrev pub Follows : List Token → List Token → Type 0
+Follows more rest = (first more ≡ first rest) ⊎ (more ≡ [])
+
+-- What was taken is taken again before whatever begins with the same token, and at the end, and derives the same before anything.
 pub record Took {A : Type 0} (p : Parser A) (R : Relation A) (ts : List Token) (a : A) (rest : List Token) : Type 0 where
   pub front : List Token
   pub cut : ts ≡ front ++ rest
-  pub again : (more : List Token) → first more ≡ first rest → p (front ++ more) ≡ Ok (a, more)
+  pub again : (more : List Token) → Follows more rest → p (front ++ more) ≡ Ok (a, more)
   pub derives : (late : Late) (s : List Token) → R late (front ++ s) s a
 
 -- The tokens `front` and then `on` begin something, in which a part that begins within `front` keeps the limit.
@@ -31,10 +36,11 @@ pub record Begins {A : Type 0} (R : Relation A) (front on : List Token) : Type 0
   pub tree : A
   pub derives : (s : List Token) (late : Late) → IsFree late (length (on ++ (more ++ s))) → R late (front ++ (on ++ (more ++ s))) s tree
 
--- no token but the one at which parsing stopped
-pub record IsSyntax (on rest : List Token) (e : ReadStop) : Type 0 where
+-- No token but the one at which parsing stopped. It stops there at the end of the tokens too.
+pub record IsSyntax {A : Type 0} (p : Parser A) (front on rest : List Token) (e : ReadStop) : Type 0 where
   pub none : on ≡ []
   pub is : e ≡ syntax (place_of rest)
+  pub at_end : p front ≡ Err (syntax (place_of []))
 
 -- where the limit is kept, nothing goes on with the token t
 abbrev pub KeepsNone : {A : Type 0} → Relation A → (List Token → Type 0) → List Token → Token → Type 0
@@ -56,7 +62,7 @@ pub record Fell {A : Type 0} (p : Parser A) (R : Relation A) (ends : List Token 
   pub cut : ts ≡ front ++ rest
   pub again : (more : List Token) → first more ≡ first rest → p (front ++ more) ≡ Err e
   pub begins : Begins R front on
-  pub why : IsSyntax on rest e ⊎ IsDeep R ends front on rest e
+  pub why : IsSyntax p front on rest e ⊎ IsDeep R ends front on rest e
 
 abbrev pub Nested : {A : Type 0} → Outcome A → Type 0
 Nested o = (q : Place) × (o ≡ Err (nested q))
@@ -81,6 +87,31 @@ err_same e = cc
 pub ok_err : {A : Type 0} {o : Outcome A} {x : A × List Token} {e : ReadStop} → o ≡ Ok x → o ≡ Err e → ⊥
 ok_err h k = absurd (cc)
 
+pub fault_same : {x y : SourceFault} → Fault x ≡ Fault y → x ≡ y
+fault_same e = cc
+
+pub syntax_nested : (p q : Place) → syntax p ≡ nested q → ⊥
+unfolding syntax nested
+syntax_nested p q e = let h : ◌≡◌ {A = ℕ} 10 12 = ap (λ f. f.number) (fault_same e) in absurd (omega arith)
+
+pub syntax_same : (p q : Place) → syntax p ≡ syntax q → p ≡ q
+unfolding syntax
+syntax_same p q e = ap (λ f. f.place) (fault_same e)
+
+pub nested_same : (p q : Place) → nested p ≡ nested q → p ≡ q
+unfolding nested
+nested_same p q e = ap (λ f. f.place) (fault_same e)
+
+-- something begins with the token, in the plain grammar
+abbrev pub Opens : {A : Type 0} → Relation A → Token → Type 0
+Opens {A} R t = (more : List Token) × (a : A) × R None (t ∷ more) [] a
+
+-- then it is not refused as syntax wherever that token stands first
+pub goes_on_from : {A : Type 0} {p : Parser A} {R : Relation A} {E : List Token → Type 0} → Reaches p R E → E [] → (t : Token) → Opens R t → (q : Place) → ((more : List Token) → first more ≡ Some t → p more ≡ Err (syntax q)) → ⊥
+goes_on_from {p = p} reaches ends t b q refuses = elim (reaches None (t ∷ b.0) [] b.1 b.2 ends) [
+  inl n ↦ syntax_nested q n.0 (err_same (sym (refuses (t ∷ b.0) refl) ∙ n.1)) |
+  inr is ↦ ok_err is (refuses (t ∷ b.0) refl) ]
+
 pub bind_ok : {A B : Type 0} (o : Outcome A) (f : A → Parser B) (y : B × List Token) → and_then o f ≡ Ok y → (p : A × List Token) × (o ≡ Ok p) × (f p.0 p.1 ≡ Ok y)
 bind_ok (Ok p) f y e = (p, refl, e)
 bind_ok (Err s) f y e = absurd (cc)
@@ -91,6 +122,14 @@ then_is f e h = ap (λ o. and_then o f) e ∙ h
 pub first-append : (front more rest : List Token) → first more ≡ first rest → first (front ++ more) ≡ first (front ++ rest)
 first-append [] more rest h = h
 first-append (t ∷ ts) more rest h = refl
+
+pub follows-append : (front more rest : List Token) → Follows more rest → Follows (front ++ more) (front ++ rest)
+follows-append [] more rest h = h
+follows-append (t ∷ ts) more rest h = inl refl
+
+pub follows-front : (front rest : List Token) → Follows front (front ++ rest)
+follows-front [] rest = inr refl
+follows-front (t ∷ ts) rest = inl refl
 
 -- ---- one after another
 infixr 5 ◌▸◌
@@ -132,7 +171,7 @@ module _ {A B : Type 0} (p : Parser A) (P : Relation A) (q : A → Parser B) (Q 
     front = x.front ++ y.front;
     cut = x.cut ∙ ap (λ r. x.front ++ r) y.cut ∙ sym (append_assoc x.front y.front rest);
     again = λ more same. subst (λ ts. and_then (p ts) q ≡ Ok (b, more)) (sym (append_assoc x.front y.front more))
-        (then_is q (x.again (y.front ++ more) (first-append y.front more rest same ∙ ap first (sym y.cut))) (y.again more same));
+        (then_is q (x.again (y.front ++ more) (subst (λ r. Follows (y.front ++ more) r) (sym y.cut) (follows-append y.front more rest same))) (y.again more same));
     derives = λ late s. subst (λ ts. Then P Q late ts s b) (sym (append_assoc x.front y.front s)) (x.derives late (y.front ++ s) ▸ y.derives late s);
   }
 
@@ -146,7 +185,7 @@ module _ {A B : Type 0} (p : Parser A) (P : Relation A) (q : A → Parser B) (Q 
       cut = x.cut;
       again = λ more same. ap (λ o. and_then o q) (x.again more same);
       begins = first_begins P Q some x.begins;
-      why = elim x.why [ inl h ↦ inl h | inr h ↦ inr (deep h) ];
+      why = elim x.why [ inl h ↦ inl (record { none = h.none; is = h.is; at_end = ap (λ o. and_then o q) h.at_end }) | inr h ↦ inr (deep h) ];
     }
       where
         keeps_none : (t : Token) → KeepsNone P E x.front t → KeepsNone (Then P Q) F x.front t
@@ -162,9 +201,11 @@ module _ {A B : Type 0} (p : Parser A) (P : Relation A) (q : A → Parser B) (Q 
       rest = y.rest;
       on = y.on;
       cut = x.cut ∙ ap (λ r. x.front ++ r) y.cut ∙ sym (append_assoc x.front y.front y.rest);
-      again = λ more same. subst (λ ts. and_then (p ts) q ≡ Err e) (sym (append_assoc x.front y.front more)) (then_is q (x.again (y.front ++ more) (same_first more same)) (y.again more same));
+      again = λ more same. subst (λ ts. and_then (p ts) q ≡ Err e) (sym (append_assoc x.front y.front more)) (then_is q (x.again (y.front ++ more) (inl (same_first more same))) (y.again more same));
       begins = second_begins P Q x y.begins;
-      why = elim y.why [ inl h ↦ inl h | inr h ↦ inr (deep h) ];
+      why = elim y.why [
+        inl h ↦ inl (record { none = h.none; is = h.is; at_end = then_is q (x.again y.front (subst (λ r. Follows y.front r) (sym y.cut) (follows-front y.front y.rest))) h.at_end }) |
+        inr h ↦ inr (deep h) ];
     }
       where
         same_first : (more : List Token) → first more ≡ first y.rest → first (y.front ++ more) ≡ first mid
@@ -183,7 +224,7 @@ module _ {A B : Type 0} (p : Parser A) (P : Relation A) (q : A → Parser B) (Q 
           where
             by : (ts : List Token) → ts ≡ x.front ++ (y.front ++ t ∷ more) → Then P Q (Some late) ts rest b → length more < late
             by ts same (◌▸◌ {mid = middle} {a = a'} h k) =
-                second t none more late rest middle a' b (x.again (y.front ++ t ∷ more) (same_first (t ∷ more) (sym (ap first cut))))
+                second t none more late rest middle a' b (x.again (y.front ++ t ∷ more) (inl (same_first (t ∷ more) (sym (ap first cut)))))
                 (subst (λ ts. Nested (p ts) ⊎ (p ts ≡ Ok (a', middle))) same (reaches (Some late) ts middle a' h (inner (Some late) middle rest a' b k ends))) k ends
 
         deep : IsDeep (Q a) E' y.front y.on y.rest e → IsDeep (Then P Q) F (x.front ++ y.front) y.on y.rest e
@@ -227,15 +268,37 @@ module _ {A C : Type 0} (class : List Token → C) (same_class : (more rest : Li
   class_again : {c : C} (ts front rest more : List Token) → class ts ≡ c → ts ≡ front ++ rest → first more ≡ first rest → class (front ++ more) ≡ c
   class_again ts front rest more is cut same = same_class (front ++ more) ts (first-append front more rest same ∙ ap first (sym cut)) ∙ is
 
-  pub choice_took : {c : C} {ts : List Token} {a : A} {rest : List Token} → class ts ≡ c → Took (q c) (Q c) ts a rest → Took choose (Choice Q) ts a rest
-  choice_took {c} {ts} {a} {rest} is x = record {
-    front = x.front;
-    cut = x.cut;
-    again = λ more same. ap (λ c. q c (x.front ++ more)) (class_again ts x.front rest more is x.cut same) ∙ x.again more same;
-    derives = λ late s. chosen c (x.derives late s);
-  }
+  -- `none`: the class that takes nothing is that of no tokens
+  module _ (none : (c : C) (a : A) → Q c None [] [] a → class [] ≡ c) where
+    class_at_end : {c : C} {ts : List Token} {a : A} {rest : List Token} → class ts ≡ c → (x : Took (q c) (Q c) ts a rest) → (front : List Token) → x.front ≡ front → class front ≡ c
+    class_at_end {c} {a = a} is x [] e = none c a (subst (λ front. Q c None (front ++ []) [] a) e (x.derives None []))
+    class_at_end {ts = ts} {rest = rest} is x (t ∷ us) e = same_class (t ∷ us) ts (ap (λ front. first (front ++ rest)) (sym e) ∙ sym (ap first x.cut)) ∙ is
 
-  module _ (E : C → List Token → Type 0) (F : List Token → Type 0) (only : (late : Late) (ts rest : List Token) (c : C) (a : A) → Q c late ts rest a → F rest → class ts ≡ c) (outer : (c : C) (rest : List Token) → F rest → E c rest) where
+    pub choice_took : {c : C} {ts : List Token} {a : A} {rest : List Token} → class ts ≡ c → Took (q c) (Q c) ts a rest → Took choose (Choice Q) ts a rest
+    choice_took {c} {ts} {a} {rest} is x = record {
+      front = x.front;
+      cut = x.cut;
+      again = λ more same. ap (λ c. q c (x.front ++ more)) (elim same [
+        inl same ↦ class_again ts x.front rest more is x.cut same |
+        inr none ↦ ap class (ap (λ more. x.front ++ more) none ∙ append-nil x.front) ∙ class_at_end is x x.front refl ]) ∙ x.again more same;
+      derives = λ late s. chosen c (x.derives late s);
+    }
+
+  -- A class refuses at its first token only if that of no tokens does.
+  abbrev pub AtOnce : C → Type 0
+  AtOnce c = (class [] ≡ c) ⊎ (q (class []) [] ≡ Err (syntax (place_of []))) ⊎ ((ts : List Token) (p : Place) → class ts ≡ c → ((more : List Token) → first more ≡ first ts → q c more ≡ Err (syntax p)) → ⊥)
+
+  module _ (E : C → List Token → Type 0) (F : List Token → Type 0) (only : (late : Late) (ts rest : List Token) (c : C) (a : A) → Q c late ts rest a → F rest → class ts ≡ c) (outer : (c : C) (rest : List Token) → F rest → E c rest)
+      (at_once : (c : C) → AtOnce c) where
+    end_by : {c : C} {ts : List Token} {e : ReadStop} → class ts ≡ c → (front rest : List Token) → ts ≡ front ++ rest → e ≡ syntax (place_of rest) → ((more : List Token) → first more ≡ first rest → q c (front ++ more) ≡ Err e)
+        → q c front ≡ Err (syntax (place_of [])) → choose front ≡ Err (syntax (place_of []))
+    end_by {c} {ts} is [] rest cut same again end = elim (at_once c) [
+      inl none ↦ ap (λ c. q c []) none ∙ end |
+      inr h ↦ elim h [
+        inl refuses ↦ refuses |
+        inr never ↦ absurd (never ts (place_of rest) is (λ more first_same. again more (first_same ∙ ap first cut) ∙ ap (λ e. Err e) same)) ] ]
+    end_by {c} {ts} is (t ∷ us) rest cut same again end = ap (λ c. q c (t ∷ us)) (same_class (t ∷ us) ts (sym (ap first cut)) ∙ is) ∙ end
+
     pub choice_fell : {c : C} {ts : List Token} {e : ReadStop} → class ts ≡ c → Fell (q c) (Q c) (E c) ts e → Fell choose (Choice Q) F ts e
     choice_fell {c} {ts} {e} is x = record {
       front = x.front;
@@ -244,7 +307,7 @@ module _ {A C : Type 0} (class : List Token → C) (same_class : (more rest : Li
       cut = x.cut;
       again = λ more same. ap (λ c. q c (x.front ++ more)) (class_again ts x.front x.rest more is x.cut same) ∙ x.again more same;
       begins = let b = x.begins in record { more = b.more; tree = b.tree; derives = λ s late free. chosen c (b.derives s late free) };
-      why = elim x.why [ inl h ↦ inl h | inr h ↦ inr (deep h) ];
+      why = elim x.why [ inl h ↦ inl (record { none = h.none; is = h.is; at_end = end_by is x.front x.rest x.cut h.is x.again h.at_end }) | inr h ↦ inr (deep h) ];
     }
       where
         by : (t : Token) → KeepsNone (Q c) (E c) x.front t → (more : List Token) (late : ℕ) (rest : List Token) (a : A) (d : C) → class (x.front ++ t ∷ more) ≡ c → Q d (Some late) (x.front ++ t ∷ more) rest a → F rest → length more < late
@@ -260,9 +323,9 @@ module _ {A C : Type 0} (class : List Token → C) (same_class : (more rest : Li
           keeps_none = λ more late rest a k ends. elim k [ chosen d k ↦ by h.token h.keeps_none more late rest a d (class_again ts x.front x.rest (h.token ∷ more) is x.cut (sym (ap first h.cut))) k ends ];
         }
 
-    pub rule_choice : (rules : (c : C) → Rule (q c) (Q c) (E c)) → C → Rule choose (Choice Q) F
-    rule_choice rules some = record {
-      took = λ ts a rest is. choice_took refl ((rules (class ts)).took ts a rest is);
+    pub rule_choice : F [] → (rules : (c : C) → Rule (q c) (Q c) (E c)) → C → Rule choose (Choice Q) F
+    rule_choice ends rules some = record {
+      took = λ ts a rest is. choice_took (λ c a h. only None [] [] c a h ends) refl ((rules (class ts)).took ts a rest is);
       fell = λ ts e is. choice_fell refl ((rules (class ts)).fell ts e is);
       reaches = reaches;
       some = let b = (rules some).some in record { more = b.more; tree = b.tree; derives = λ s late free. chosen some (b.derives s late free) };
@@ -295,7 +358,7 @@ module _ {A : Type 0} {p p' : Parser A} {R R' : Relation A} (same : (ts : List T
       cut = y.cut;
       again = λ more h. same (y.front ++ more) ∙ y.again more h;
       begins = begins_as y.begins;
-      why = elim y.why [ inl h ↦ inl h | inr h ↦ inr (deep h) ];
+      why = elim y.why [ inl h ↦ inl (record { none = h.none; is = h.is; at_end = same y.front ∙ h.at_end }) | inr h ↦ inr (deep h) ];
     }
       where
         deep : IsDeep R E y.front y.on y.rest e → IsDeep R' E' y.front y.on y.rest e

@@ -93,7 +93,7 @@ module _ {A : Type 0} (test : TokenKind → Bool) (R : Relation A) (F : List Tok
     cut = refl;
     again = again ts e is;
     begins = some;
-    why = inl (record { none = refl; is = sym (err_same h) });
+    why = inl (record { none = refl; is = sym (err_same h); at_end = refl });
   }
 
   pub rule_shallow : Rule (shallow test) R F

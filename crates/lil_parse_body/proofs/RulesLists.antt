@@ -5,8 +5,8 @@ use Rattle.lil_tree.specs.declared.token.TokenKind.{TokenKind}
 use Rattle.lil_tree.specs.declared.stop.ReadStop.{ReadStop}
 use Rattle.lil_parse_body.specs.Steps.{Outcome, Parser, and_then, ◌>>=◌, pure, first, at, either, either_by, token, taken, many}
 use Rattle.lil_parse_body.specs.Ends.{Not}
-use Rattle.lil_parse_body.proofs.Rules.{Late, IsFree, Relation, Took, Fell, Rule, Reaches, Begins, Nested, ok_same, bind_ok, Then, ◌▸◌, rule_then, Choice, chosen, rule_choice, rule_as}
-use Rattle.lil_parse_body.proofs.RulesTokens.{Any, Same, nothing, rule_pure, at_same}
+use Rattle.lil_parse_body.proofs.Rules.{Late, IsFree, AtOnce, Opens, Relation, Took, Fell, Rule, Reaches, Begins, Nested, ok_same, bind_ok, Then, ◌▸◌, rule_then, Choice, chosen, rule_choice, rule_as}
+use Rattle.lil_parse_body.proofs.RulesTokens.{Any, Same, nothing, rule_pure, at_same, never_at_once}
 use Rattle.lil_parse_body.proofs.RulesMany.{Star, stop, go_on, Turns, between, rule_many}
 
 -- tests that hold of different tokens
@@ -22,7 +22,8 @@ pub data Or {A : Type 0} (P Q : Relation A) (late : Late) (ts rest : List Token)
 
 module _ {A : Type 0} {p q : Parser A} {P Q : Relation A} {E E' : List Token → Type 0} (test : TokenKind → Bool) (F : List Token → Type 0) (x : Rule p P E) (y : Rule q Q E')
     (only_p : (late : Late) (ts rest : List Token) (a : A) → P late ts rest a → at test ts ≡ true) (only_q : (late : Late) (ts rest : List Token) (a : A) → Q late ts rest a → F rest → Not test ts)
-    (ends_p : (rest : List Token) → F rest → E rest) (ends_q : (rest : List Token) → F rest → E' rest) where
+    (ends_p : (rest : List Token) → F rest → E rest) (ends_q : (rest : List Token) → F rest → E' rest)
+    (ends : F []) (each : (t : Token) → test t.what ≡ true → Opens P t) where
   abbrev By : Bool → Relation A
   By true = P
   By false = Q
@@ -51,8 +52,27 @@ module _ {A : Type 0} {p q : Parser A} {P Q : Relation A} {E E' : List Token →
   from_or (left h) = chosen true h
   from_or (right h) = chosen false h
 
+  at_once : (b : Bool) → AtOnce (at test) (at_same test) (either_by p q) By b
+  unfolding at
+  at_once true = inr (inr (never_at_once test each x.reaches (ends_p [] ends)))
+  at_once false = inl refl
+
   pub rule_either : Rule (either test p q) (Or P Q) F
-  rule_either = rule_as (rule_choice (at test) (at_same test) (either_by p q) By ends_by F only outer rules_by true) (λ late ts rest a h. to_or h) (λ late ts rest a h. from_or h) (λ rest e. e)
+  rule_either = rule_as (rule_choice (at test) (at_same test) (either_by p q) By ends_by F only outer at_once ends rules_by true) (λ late ts rest a h. to_or h) (λ late ts rest a h. from_or h) (λ rest e. e)
+
+-- each token of the test is taken
+abbrev pub Takes : {A : Type 0} → Relation A → (TokenKind → Bool) → Type 0
+Takes {A} M test = (t : Token) → test t.what ≡ true → (a : A) × ((late : Late) (s : List Token) → M late (t ∷ s) s a)
+
+-- a phrase, with nothing behind it
+pub plain_some : {A : Type 0} {R : Relation A} → Begins R [] [] → (ts : List Token) × (a : A) × R None ts [] a
+plain_some b = (b.more ++ [], b.tree, b.derives [] None tt)
+
+pub takes_opens : {A B : Type 0} {M : Relation A} {Q : A → Relation B} (test : TokenKind → Bool) → Takes M test → ((a : A) → Begins (Q a) [] []) → (t : Token) → test t.what ≡ true → Opens (Then M Q) t
+takes_opens test takes some t h =
+    let o = takes t h in
+    let b = plain_some (some o.0) in
+    (b.0, b.1, o.1 None b.0 ▸ b.2)
 
 -- ---- one after another, in the forms that grammars have
 module _ {A B : Type 0} {p : Parser A} {P : Relation A} {E : List Token → Type 0} where
@@ -100,7 +120,7 @@ EndsList E test ts = E ts × Not test ts
 
 module _ {A B S : Type 0} (f : Token → Option A) (item : Parser B) {M : Relation A} {I : Relation B} {E : List Token → Type 0} (test : TokenKind → Bool) (add : S → A → B → S)
     (parts : Rule (token f) M Any) (x : Rule item I E)
-    (begins : (late : Late) (ts rest : List Token) (a : A) → M late ts rest a → at test ts ≡ true) (goes : (ts : List Token) → at test ts ≡ true → E ts) where
+    (begins : (late : Late) (ts rest : List Token) (a : A) → M late ts rest a → at test ts ≡ true) (goes : (ts : List Token) → at test ts ≡ true → E ts) (ends : E []) (each : Takes M test) where
   abbrev turn : S → Parser S
   turn s = token f >>= (λ a. item >>= (λ b. pure (add s a b)))
 
@@ -116,10 +136,17 @@ module _ {A B S : Type 0} (f : Token → Option A) (item : Parser B) {M : Relati
   turn_shrinks : (s : S) (ts : List Token) (s' : S) (mid : List Token) → turn s ts ≡ Ok (s', mid) → length mid < length ts
   turn_shrinks s ts s' mid is = behind_token_shrinks f (rule_part s) ts s' mid is
 
+  list_ends : EndsList E test []
+  unfolding at
+  list_ends = (ends, refl)
+
+  turn_opens : (s : S) (t : Token) → test t.what ≡ true → Opens (Turn M I add s) t
+  turn_opens s = takes_opens test each (λ a. (rule_part s a).some)
+
   pub rule_turns : (s : S) → Rule (many test turn s) (Turns (Turn M I add) s) (EndsList E test)
-  rule_turns = rule_many test turn turn_shrinks (Turn M I add) E (EndsList E test) rule_turn turn_begins (λ ts e. e.1) goes (λ ts e. e.0)
+  rule_turns = rule_many test turn turn_shrinks (Turn M I add) E (EndsList E test) rule_turn turn_begins (λ ts e. e.1) goes (λ ts e. e.0) list_ends turn_opens
 
   module _ {front : Parser B} {I' : Relation B} (start : B → S) (x' : Rule front I' E) where
     pub rule_list : Rule (front >>= (λ b. many test turn (start b))) (Then I' (λ b. Turns (Turn M I add) (start b))) (EndsList E test)
     rule_list = rule_then x' (λ b. rule_turns (start b)) (EndsList E test)
-        (λ late ts rest b s h e. between test turn turn_shrinks (Turn M I add) E (EndsList E test) rule_turn turn_begins (λ ts e. e.1) goes (λ ts e. e.0) h e) (λ b rest e. e)
+        (λ late ts rest b s h e. between test turn turn_shrinks (Turn M I add) E (EndsList E test) rule_turn turn_begins (λ ts e. e.1) goes (λ ts e. e.0) list_ends turn_opens h e) (λ b rest e. e)

@@ -4,8 +4,8 @@ use Rattle.lil_tree.specs.declared.token.Token.{Token}
 use Rattle.lil_tree.specs.declared.token.TokenKind.{TokenKind}
 use Rattle.lil_tree.specs.declared.stop.ReadStop.{ReadStop}
 use Rattle.lil_parse_body.specs.Steps.{Outcome, Parser, and_then, ◌>>=◌, pure, first, at, either_by, loop, many}
-use Rattle.lil_parse_body.proofs.Rules.{Late, IsFree, Relation, Took, Fell, Rule, Reaches, Begins, Nested, ok_same, err_same, bind_ok, Then, ◌▸◌, then_took, first_fell, second_fell, then_reaches, Choice, chosen, choose, choice_took, choice_fell, took_as, fell_as}
-use Rattle.lil_parse_body.proofs.RulesTokens.{Any, Same, nothing, rule_pure, at_same}
+use Rattle.lil_parse_body.proofs.Rules.{Late, IsFree, Relation, Took, Fell, Rule, Reaches, Begins, Nested, ok_same, err_same, bind_ok, Then, ◌▸◌, AtOnce, Opens, then_took, first_fell, second_fell, then_reaches, Choice, chosen, choose, choice_took, choice_fell, took_as, fell_as}
+use Rattle.lil_parse_body.proofs.RulesTokens.{Any, Same, nothing, rule_pure, at_same, never_at_once}
 
 pub data Star {S : Type 0} (D : S → Relation S) (late : Late) : S → List Token → List Token → S → Type 0 where
   stop : {s : S} {ts : List Token} → Star D late s ts ts s
@@ -47,7 +47,8 @@ module _ {S : Type 0} (test : TokenKind → Bool) (turn : S → Parser S)
   module _ (D : S → Relation S) (E F : List Token → Type 0) (rules : (s : S) → Rule (turn s) (D s) E)
       (begins : (late : Late) (s : S) (ts rest : List Token) (s' : S) → D s late ts rest s' → at test ts ≡ true)
       (over : (ts : List Token) → F ts → at test ts ≡ false)
-      (goes : (ts : List Token) → at test ts ≡ true → E ts) (stops : (ts : List Token) → F ts → E ts) where
+      (goes : (ts : List Token) → at test ts ≡ true → E ts) (stops : (ts : List Token) → F ts → E ts)
+      (ends : F []) (each : (s : S) (t : Token) → test t.what ≡ true → Opens (D s) t) where
     pub between : {late : Late} {s : S} {ts rest : List Token} {x : S} → Star D late s ts rest x → F rest → E ts
     between (stop {ts = ts}) e = stops ts e
     between {late} (go_on {s = s} {s' = s'} {ts = ts} {mid = mid} h more) e = goes ts (begins late s ts mid s' h)
@@ -79,15 +80,18 @@ module _ {S : Type 0} (test : TokenKind → Bool) (turn : S → Parser S)
     only s late ts rest true x (◌▸◌ {mid = mid} {a = s'} h k) e = begins late s ts mid s' h
     only s late ts rest false x (nothing same) e = over ts e
 
+    none_taken : (s : S) (b : Bool) (x : S) → One s b None [] [] x → at test [] ≡ b
+    none_taken s b x h = only s None [] [] b x h ends
+
     took_by : (s : S) (ts : List Token) (x : S) (rest : List Token) → ((s' : S) (mid : List Token) → length mid < length ts → many test turn s' mid ≡ Ok (x, rest) → Took (many test turn s') (Turns D s') mid x rest)
         → (b : Bool) → at test ts ≡ b → step (many test turn) s b ts ≡ Ok (x, rest) → Took (many test turn s) (Turns D s) ts x rest
     took_by s ts x rest deeper true is e =
         let y = bind_ok (turn s ts) (many test turn) (x, rest) e in
         took_as (many_is s) (to_turns s)
-        (choice_took (at test) (at_same test) (step (many test turn) s) (One s) is
+        (choice_took (at test) (at_same test) (step (many test turn) s) (One s) (none_taken s) is
         (then_took (turn s) (D s) (many test turn) (Turns D) ((rules s).took ts y.0.0 y.0.1 y.1) (deeper y.0.0 y.0.1 (shrinks s ts y.0.0 y.0.1 y.1) y.2)))
     took_by s ts x rest deeper false is e =
-        took_as (many_is s) (to_turns s) (choice_took (at test) (at_same test) (step (many test turn) s) (One s) is ((rule_pure s).took ts x rest e))
+        took_as (many_is s) (to_turns s) (choice_took (at test) (at_same test) (step (many test turn) s) (One s) (none_taken s) is ((rule_pure s).took ts x rest e))
 
     took_from : (n : ℕ) (s : S) (ts : List Token) (x : S) (rest : List Token) → length ts ≤ n → many test turn s ts ≡ Ok (x, rest) → Took (many test turn s) (Turns D s) ts x rest
     took_from zero s ts x rest h is = took_by s ts x rest (λ s' mid less e. absurd (omega arith)) (at test ts) refl (sym (many_is s ts) ∙ is)
@@ -96,13 +100,31 @@ module _ {S : Type 0} (test : TokenKind → Bool) (turn : S → Parser S)
     turns_some : (s : S) → Begins (Turns D s) [] []
     turns_some s = record { more = []; tree = s; derives = λ ts late free. stop }
 
+    reaches : {late : Late} {s : S} {ts rest : List Token} {x : S} → Star D late s ts rest x → F rest → Nested (many test turn s ts) ⊎ (many test turn s ts ≡ Ok (x, rest))
+    reaches (stop {s = s} {ts = ts}) e = inr (many_is s ts ∙ ap (λ b. step (many test turn) s b ts) (over ts e))
+    reaches {late} (go_on {s = s} {s' = s'} {s'' = x} {ts = ts} {mid = mid} {rest = rest} h more) e =
+        subst (λ o. Nested o ⊎ (o ≡ Ok (x, rest))) (sym (many_is s ts ∙ ap (λ b. step (many test turn) s b ts) (begins late s ts mid s' h)))
+        (then_reaches (turn s) (D s) (many test turn) (Turns D) ((rules s).reaches late ts mid s' h (between more e)) (reaches more e))
+
+    -- a turn is not refused at its first token
+    at_once : (s : S) (b : Bool) → AtOnce (at test) (at_same test) (step (many test turn) s) (One s) b
+    unfolding at
+    at_once s false = inl refl
+    at_once s true = inr (inr (never_at_once test opens one_reaches ends))
+      where
+        opens : (t : Token) → test t.what ≡ true → Opens (Then (D s) (Turns D)) t
+        opens t h = let o = each s t h in (o.0, o.1, o.2 ▸ stop)
+
+        one_reaches : Reaches (turn s >>= many test turn) (Then (D s) (Turns D)) F
+        one_reaches late ts rest x (◌▸◌ {mid = mid} {a = s'} h k) e = then_reaches (turn s) (D s) (many test turn) (Turns D) ((rules s).reaches late ts mid s' h (between k e)) (reaches k e)
+
     fell_by : (s : S) (ts : List Token) (e : ReadStop) → ((s' : S) (mid : List Token) → length mid < length ts → many test turn s' mid ≡ Err e → Fell (many test turn s') (Turns D s') F mid e)
         → (b : Bool) → at test ts ≡ b → step (many test turn) s b ts ≡ Err e → Fell (many test turn s) (Turns D s) F ts e
     fell_by s ts e deeper true is d = turned (go (turn s ts) refl d)
       where
         turned : Fell (turn s >>= many test turn) (Then (D s) (Turns D)) F ts e → Fell (many test turn s) (Turns D s) F ts e
         turned y = fell_as (many_is s) (to_turns s) (λ late ts rest x h. inl (from_turns h)) (λ rest e. e)
-            (choice_fell (at test) (at_same test) (step (many test turn) s) (One s) ends_one F (only s) ends_of is y)
+            (choice_fell (at test) (at_same test) (step (many test turn) s) (One s) ends_one F (only s) ends_of (at_once s) is y)
 
         inner : (late : Late) (ts rest : List Token) (s' x : S) → Star D late s' ts rest x → F rest → E ts
         inner late ts rest s' x h e = between h e
@@ -115,12 +137,6 @@ module _ {S : Type 0} (test : TokenKind → Bool) (turn : S → Parser S)
     fell_from : (n : ℕ) (s : S) (ts : List Token) (e : ReadStop) → length ts ≤ n → many test turn s ts ≡ Err e → Fell (many test turn s) (Turns D s) F ts e
     fell_from zero s ts e h is = fell_by s ts e (λ s' mid less d. absurd (omega arith)) (at test ts) refl (sym (many_is s ts) ∙ is)
     fell_from (suc n) s ts e h is = fell_by s ts e (λ s' mid less d. fell_from n s' mid e (omega arith) d) (at test ts) refl (sym (many_is s ts) ∙ is)
-
-    reaches : {late : Late} {s : S} {ts rest : List Token} {x : S} → Star D late s ts rest x → F rest → Nested (many test turn s ts) ⊎ (many test turn s ts ≡ Ok (x, rest))
-    reaches (stop {s = s} {ts = ts}) e = inr (many_is s ts ∙ ap (λ b. step (many test turn) s b ts) (over ts e))
-    reaches {late} (go_on {s = s} {s' = s'} {s'' = x} {ts = ts} {mid = mid} {rest = rest} h more) e =
-        subst (λ o. Nested o ⊎ (o ≡ Ok (x, rest))) (sym (many_is s ts ∙ ap (λ b. step (many test turn) s b ts) (begins late s ts mid s' h)))
-        (then_reaches (turn s) (D s) (many test turn) (Turns D) ((rules s).reaches late ts mid s' h (between more e)) (reaches more e))
 
     pub rule_many : (s : S) → Rule (many test turn s) (Turns D s) F
     rule_many s = record {

@@ -13,7 +13,7 @@ use Rattle.lil_tree.specs.declared.tree.Ident.{Ident}
 use Rattle.lil_tree.specs.declared.stop.ReadStop.{ReadStop}
 use Rattle.lil_tree.specs.Trees.{ident}
 use Rattle.lil_parse_body.specs.Steps.{syntax, Outcome, Parser, pure, first, place_of, at, token, taken, same_mark, is_mark, same_word, is_word, mark_at, word_at, ident_by, ident_at}
-use Rattle.lil_parse_body.proofs.Rules.{Late, IsFree, Relation, Took, Fell, Rule, Reaches, Begins, ok_same, err_same, rule_as}
+use Rattle.lil_parse_body.proofs.Rules.{Late, IsFree, Relation, Took, Fell, Rule, Reaches, Begins, ok_same, err_same, Opens, goes_on_from, rule_as}
 
 -- anything may follow
 abbrev pub Any : List Token → Type 0
@@ -48,6 +48,13 @@ at_same test [] (t ∷ ts) h = absurd (cc)
 at_same test (t ∷ ts) [] h = absurd (cc)
 at_same test (t ∷ ts) (u ∷ us) h = let e : t ≡ u = cc in ap (λ t. test t.what) e
 
+-- a token of the test stands first, and p goes on with it
+pub never_at_once : {A : Type 0} {p : Parser A} {R : Relation A} {E : List Token → Type 0} (test : TokenKind → Bool) → ((t : Token) → test t.what ≡ true → Opens R t) → Reaches p R E → E []
+    → (ts : List Token) (q : Place) → at test ts ≡ true → ((more : List Token) → first more ≡ first ts → p more ≡ Err (syntax q)) → ⊥
+unfolding at
+never_at_once test each reaches ends [] q is refuses = absurd (cc)
+never_at_once test each reaches ends (t ∷ ts) q is refuses = goes_on_from reaches ends t (each t is) q refuses
+
 -- ---- one token
 pub data Taken {A : Type 0} (f : Token → Option A) (late : Late) : List Token → List Token → A → Type 0 where
   takes : {t : Token} {rest : List Token} {a : A} → f t ≡ Some a → Taken f late (t ∷ rest) rest a
@@ -79,6 +86,10 @@ module _ {A : Type 0} (f : Token → Option A) where
   unfolding token
   token_reads (takes {t = t} {rest = rest} is) = ap (taken rest t.place) is
 
+  token_end : token f [] ≡ Err (syntax (place_of []))
+  unfolding token
+  token_end = refl
+
   pub rule_token : (t : Token) (a : A) → f t ≡ Some a → Rule (token f) (Taken f) Any
   rule_token t a is = record {
     took = token_took;
@@ -89,7 +100,7 @@ module _ {A : Type 0} (f : Token → Option A) where
       cut = refl;
       again = λ more h. (token_refused ts e refused more h).1;
       begins = some;
-      why = inl (record { none = refl; is = (token_refused ts e refused ts refl).0 });
+      why = inl (record { none = refl; is = (token_refused ts e refused ts refl).0; at_end = token_end });
     };
     reaches = λ late ts rest a h e. inr (token_reads h);
     some = some;

@@ -8,23 +8,8 @@ use Rattle.lil_tree.specs.declared.stop.ReadStop.TheVariants.{Fault, Memory}
 use Rattle.lil_tree.specs.Nesting.{within}
 use Rattle.lil_parse_body.specs.Steps.{syntax, nested, Outcome, Parser, Reads, first, place_of}
 use Rattle.lil_parse_body.specs.Places.{Grammar, Longest, RefusedAt, TooDeepAt, StopsAt}
-use Rattle.lil_parse_body.proofs.Rules.{Late, IsFree, Relation, Took, Fell, Begins, IsSyntax, IsDeep, Rule, Nested, ok_same, err_same, ok_err, first-append}
+use Rattle.lil_parse_body.proofs.Rules.{Late, IsFree, Relation, Took, Fell, Begins, IsSyntax, IsDeep, Rule, Nested, ok_same, err_same, ok_err, fault_same, syntax_nested, syntax_same, nested_same}
 use Rattle.lil_parse_body.proofs.RulesLimit.{limit}
-
-fault_same : {x y : SourceFault} → Fault x ≡ Fault y → x ≡ y
-fault_same e = cc
-
-pub syntax_nested : (p q : Place) → syntax p ≡ nested q → ⊥
-unfolding syntax nested
-syntax_nested p q e = let h : ◌≡◌ {A = ℕ} 10 12 = ap (λ f. f.number) (fault_same e) in absurd (omega arith)
-
-pub syntax_same : (p q : Place) → syntax p ≡ syntax q → p ≡ q
-unfolding syntax
-syntax_same p q e = ap (λ f. f.place) (fault_same e)
-
-pub nested_same : (p q : Place) → nested p ≡ nested q → p ≡ q
-unfolding nested
-nested_same p q e = ap (λ f. f.place) (fault_same e)
 
 -- a phrase with nothing behind it
 pub to_end : {A : Type 0} {R : Relation A} {front on : List Token} → (b : Begins R front on) → (late : Late) → IsFree late (length (on ++ b.more)) → R late (front ++ (on ++ b.more)) [] b.tree
@@ -59,14 +44,14 @@ module _ {A : Type 0} {p : Parser A} (G : Grammar A) {E : List Token → Type 0}
       record {
         front = y.front;
         cut = y.cut;
-        none = λ t more tree at h. none t more (y.again (t ∷ more) (sym at)) (x.reaches None (y.front ++ t ∷ more) [] tree h over);
+        none = λ t more tree at h. none t more (y.again (t ∷ more) (inl (sym at))) (x.reaches None (y.front ++ t ∷ more) [] tree h over);
       }
     where
       none : (t : Token) (more : List Token) {o : Outcome A} {tree : A} → o ≡ Ok (a, t ∷ more) → Nested o ⊎ (o ≡ Ok (tree, [])) → ⊥
       none t more is (inl n) = ok_err is n.1
       none t more is (inr is') = let same = ap (λ y. y.1) (ok_same (sym is ∙ is')) in absurd (cc)
 
-  refused_by : {ts : List Token} {q : Place} → (y : Fell p (λ late. G (limit n late)) E ts (syntax q)) → IsSyntax y.on y.rest (syntax q) ⊎ IsDeep (λ late. G (limit n late)) E y.front y.on y.rest (syntax q) → RefusedAt G n ts q
+  refused_by : {ts : List Token} {q : Place} → (y : Fell p (λ late. G (limit n late)) E ts (syntax q)) → IsSyntax p y.front y.on y.rest (syntax q) ⊎ IsDeep (λ late. G (limit n late)) E y.front y.on y.rest (syntax q) → RefusedAt G n ts q
   refused_by {q = q} y (inl h) = record {
     front = y.front;
     rest = y.rest;
@@ -76,12 +61,13 @@ module _ {A : Type 0} {p : Parser A} (G : Grammar A) {E : List Token → Type 0}
     tree = y.begins.tree;
     begins = subst (λ on. G (Some (n, length y.begins.more)) (y.front ++ (on ++ y.begins.more)) [] y.begins.tree) h.none
         (to_end y.begins (Some (length y.begins.more)) (subst (λ on. length (on ++ y.begins.more) ≤ length y.begins.more) (sym h.none) (omega arith)));
-    none = λ more tree same h. none (y.again more same) (x.reaches None (y.front ++ more) [] tree h over);
+    not_itself = λ tree k. none (place_of []) h.at_end (x.reaches None y.front [] tree k over);
+    none = λ more tree same h. none q (y.again more same) (x.reaches None (y.front ++ more) [] tree h over);
   }
     where
-      none : {o : Outcome A} {tree : A} → o ≡ Err (syntax q) → Nested o ⊎ (o ≡ Ok (tree, [])) → ⊥
-      none is (inl n) = syntax_nested q n.0 (err_same (sym is ∙ n.1))
-      none is (inr is') = ok_err is' is
+      none : (q : Place) {o : Outcome A} {tree : A} → o ≡ Err (syntax q) → Nested o ⊎ (o ≡ Ok (tree, [])) → ⊥
+      none q is (inl n) = syntax_nested q n.0 (err_same (sym is ∙ n.1))
+      none q is (inr is') = ok_err is' is
   refused_by {q = q} y (inr h) = absurd (syntax_nested q h.token.place h.is)
 
   pub refused_at : (ts : List Token) (q : Place) → p ts ≡ Err (syntax q) → RefusedAt G n ts q
@@ -104,7 +90,7 @@ module _ {A : Type 0} {p : Parser A} (G : Grammar A) {E : List Token → Type 0}
   pub too_deep_at : (ts : List Token) (q : Place) → p ts ≡ Err (nested q) → TooDeepAt G n ts q
   too_deep_at ts q is = let y = x.fell ts (nested q) is in too_deep_by y (deep_at x ts q y)
 
-  stops_by : (ts : List Token) (e : ReadStop) → p ts ≡ Err e → (y : Fell p (λ late. G (limit n late)) E ts e) → IsSyntax y.on y.rest e ⊎ IsDeep (λ late. G (limit n late)) E y.front y.on y.rest e → StopsAt G n ts e
+  stops_by : (ts : List Token) (e : ReadStop) → p ts ≡ Err e → (y : Fell p (λ late. G (limit n late)) E ts e) → IsSyntax p y.front y.on y.rest e ⊎ IsDeep (λ late. G (limit n late)) E y.front y.on y.rest e → StopsAt G n ts e
   unfolding syntax nested
   stops_by ts (Fault f) is y (inl h) =
       let place : f.place ≡ place_of y.rest = ap (λ f. f.place) (fault_same h.is) in

@@ -6,16 +6,13 @@ use Rattle.lil_tree.specs.declared.tree.Stmt.{Stmt}
 use Rattle.lil_tree.specs.declared.stop.ReadStop.{ReadStop}
 use Rattle.lil_tree.specs.Nesting.{within}
 use Rattle.lil_tree.specs.Statements.{IsStatements}
-use Rattle.lil_parse_body.specs.Steps.{syntax, nested, at, Reads}
+use Rattle.lil_parse_body.specs.Steps.{syntax, nested, Reads}
 use Rattle.lil_parse_body.specs.ReadStatements.{statements}
 use Rattle.lil_parse_body.specs.Ends.{EndsStatements}
 use Rattle.lil_parse_body.specs.Places.{Longest, RefusedAt, TooDeepAt, StopsAt}
 use Rattle.lil_parse_body.proofs.RulesUse as r
+use Rattle.lil_parse_body.proofs.StatementParts.{nothing_statements}
 use Rattle.lil_parse_body.proofs.StatementRules.{rule_statement_list}
-
-pub ends_nothing : EndsStatements []
-unfolding at
-ends_nothing = (((((refl, refl), refl), refl), refl, refl, refl), refl)
 
 module _ (n : ℕ) where
   pub statements_sound : (ts : List Token) (ss : List Stmt) (rest : List Token) → statements n ts ≡ Ok (ss, rest) → IsStatements (within n) ts rest ss
@@ -32,24 +29,24 @@ module _ (n : ℕ) where
   statements_unique = r.unique (rule_statement_list n)
 
   pub statements_longest : (ts : List Token) (ss : List Stmt) (rest : List Token) → statements n ts ≡ Ok (ss, rest) → Longest IsStatements ts rest
-  statements_longest = r.longest IsStatements n (rule_statement_list n) ends_nothing
+  statements_longest = r.longest IsStatements n (rule_statement_list n) nothing_statements
 
   pub statements_refused : (ts : List Token) (p : Place) → statements n ts ≡ Err (syntax p) → RefusedAt IsStatements n ts p
-  statements_refused = r.refused_at IsStatements n (rule_statement_list n) ends_nothing
+  statements_refused = r.refused_at IsStatements n (rule_statement_list n) nothing_statements
 
   pub statements_too_deep : (ts : List Token) (p : Place) → statements n ts ≡ Err (nested p) → TooDeepAt IsStatements n ts p
-  statements_too_deep = r.too_deep_at IsStatements n (rule_statement_list n) ends_nothing
+  statements_too_deep = r.too_deep_at IsStatements n (rule_statement_list n) nothing_statements
 
   -- ---- for a function that reads by it
   module _ (ts new : List Token) (result : Result (List Stmt) ReadStop) (reads : Reads (statements n ts) result new) where
     pub statements_found : IfOk result (λ x. IsStatements (within n) ts new x)
-    statements_found = r.reads_found IsStatements n (rule_statement_list n) ends_nothing ts new result reads
+    statements_found = r.reads_found IsStatements n (rule_statement_list n) nothing_statements ts new result reads
 
     pub statements_is_longest : IfOk result (λ x. Longest IsStatements ts new)
-    statements_is_longest = r.reads_longest IsStatements n (rule_statement_list n) ends_nothing ts new result reads
+    statements_is_longest = r.reads_longest IsStatements n (rule_statement_list n) nothing_statements ts new result reads
 
     pub statements_only : (ss : List Stmt) (rest : List Token) → IsStatements (within n) ts rest ss → EndsStatements rest → Reads (Ok (ss, rest)) result new
-    statements_only = r.reads_only IsStatements n (rule_statement_list n) ends_nothing ts new result reads
+    statements_only = r.reads_only IsStatements n (rule_statement_list n) nothing_statements ts new result reads
 
     pub statements_exact : IfErr result (λ e. StopsAt IsStatements n ts e)
-    statements_exact = r.reads_exact IsStatements n (rule_statement_list n) ends_nothing ts new result reads
+    statements_exact = r.reads_exact IsStatements n (rule_statement_list n) nothing_statements ts new result reads

@@ -15,9 +15,10 @@ use Rattle.lil_tree.specs.declared.tree.Stmt.{Stmt}
 use Rattle.lil_tree.specs.declared.tree.Guard.{Guard}
 use Rattle.lil_tree.specs.declared.tree.Arm.{Arm}
 use Rattle.lil_tree.specs.declared.tree.ForHead.{ForHead}
-use Rattle.lil_tree.specs.Nesting.{Limit}
+use Rattle.lil_tree.specs.Nesting.{Limit, unlimited}
 use Rattle.lil_tree.specs.Operators.{begins_expression, begins_statement, selects, joins_factor}
-use Rattle.lil_tree.specs.Trees.{ident, guard, arm, for_head, listed}
+use Rattle.lil_tree.specs.Trees.{ident, range, guard, arm, for_head, listed}
+use Rattle.lil_tree.specs.Expressions as in_expr
 use Rattle.lil_tree.specs.Expressions.{IsExpr, IsRanges}
 use Rattle.lil_tree.specs.Statements as g
 use Rattle.lil_tree.specs.Statements.{IsStep, IsForHead, IsStatements, IsMoreStatements, IsStatement, IsBody, IsElse, IsGuard, IsMoreGuards, IsArms, IsMoreArms, IsArm}
@@ -27,13 +28,15 @@ use Rattle.lil_parse_body.specs.Kinds.{is_operator}
 use Rattle.lil_parse_body.specs.ReadExpressions.{ranges}
 use Rattle.lil_parse_body.specs.ReadStatements as spec
 use Rattle.lil_parse_body.specs.Ends.{Not, EndsExpression, EndsRanges, EndsStatement, EndsStatements}
-use Rattle.lil_parse_body.proofs.Rules.{Late, Relation, Rule, Then, ◌▸◌, rule_then, rule_as}
-use Rattle.lil_parse_body.proofs.RulesTokens.{Any, Same, nothing, rule_pure, IsMark, a_mark, rule_mark, IsWord, a_word, rule_word, IsIdent, an_ident, rule_ident}
+use Rattle.lil_parse_body.proofs.Rules.{Late, Relation, Opens, Rule, Then, ◌▸◌, rule_then, rule_as}
+use Rattle.lil_parse_body.proofs.RulesTokens.{Any, Same, nothing, rule_pure, IsMark, a_mark, rule_mark, IsWord, a_word, rule_word, token_of, IsIdent, an_ident, rule_ident}
 use Rattle.lil_parse_body.proofs.RulesMany.{Star, stop, go_on, Turns}
 use Rattle.lil_parse_body.proofs.RulesLimit.{limit}
-use Rattle.lil_parse_body.proofs.RulesLists.{at_apart, Or, left, right, rule_either, Turn, EndsList, rule_list, rule_map, rule_after, rule_before}
+use Rattle.lil_parse_body.proofs.RulesLists.{at_apart, Takes, takes_opens, Or, left, right, rule_either, Turn, EndsList, rule_list, rule_map, rule_after, rule_before}
 use Rattle.lil_parse_body.proofs.ExpressionBegins.{begins_expr, begins_ranges}
-use Rattle.lil_parse_body.proofs.ExpressionParts.{begins_mark, begins_word, at_word, not_at_mark, not_at_word, EndsAt, ends_at_mark, ends_at_word, rule_ranges}
+use Rattle.lil_parse_body.proofs.ExpressionLevels.{nothing_expression}
+use Rattle.lil_parse_body.proofs.ExpressionRules.{an_expression}
+use Rattle.lil_parse_body.proofs.ExpressionParts.{takes_mark, takes_word, begins_mark, begins_word, at_word, not_at_mark, not_at_word, EndsAt, ends_at_mark, ends_at_word, rule_ranges}
 
 -- no statement goes on with such a token
 abbrev pub StatementEndsAt : TokenKind → Type 0
@@ -78,6 +81,10 @@ module _ (n : ℕ) where
   from_for : (late : Late) (ts rest : List Token) (h : ForHead) → IsForHead (limit n late) ts rest h → ForPart late ts rest h
   from_for late ts rest h (g.head i b x t y z) = an_ident i ▸ a_mark b ▸ x ▸ a_word t ▸ y ▸ z ▸ nothing refl
 
+nothing_step : EndsStep []
+unfolding at
+nothing_step = (nothing_expression, refl)
+
 module _ (n : ℕ) (expr : Parser Expr) (x : Rule expr (λ late. IsExpr (limit n late)) EndsExpression) where
   rule_by : Rule (spec.by_part expr) (ByPart n) EndsExpression
   unfolding spec.by_part
@@ -85,8 +92,11 @@ module _ (n : ℕ) (expr : Parser Expr) (x : Rule expr (λ late. IsExpr (limit n
 
   rule_step : Rule (spec.step expr) (λ late. IsStep (limit n late)) EndsStep
   unfolding spec.step
-  rule_step = rule_as (rule_either (is_word w.By) EndsStep rule_by (rule_pure None) begins none (λ rest e. e.0) (λ rest e. tt)) (to_step n) (from_step n) (λ rest e. e)
+  rule_step = rule_as (rule_either (is_word w.By) EndsStep rule_by (rule_pure None) begins none (λ rest e. e.0) (λ rest e. tt) nothing_step opens) (to_step n) (from_step n) (λ rest e. e)
     where
+      opens : (t : Token) → is_word w.By t.what ≡ true → Opens (ByPart n) t
+      opens = takes_opens (is_word w.By) (takes_word w.By) (λ p. (rule_map x Some).some)
+
       begins : (late : Late) (ts rest : List Token) (o : Option Expr) → ByPart n late ts rest o → at (is_word w.By) ts ≡ true
       begins late ts rest o (h ▸ k) = begins_word h
 
@@ -215,6 +225,14 @@ module _ (n : ℕ) where
   from_arms : (late : Late) (ts rest : List Token) (all : List Arm) → IsArms (limit n late) ts rest all → Then (λ late. IsArm (limit n late)) (λ o. MoreArms (listed o)) late ts rest all
   from_arms late ts rest all (g.arms h more) = h ▸ from_more_arms more late refl
 
+pub nothing_statement : EndsStatement []
+unfolding at
+nothing_statement = (nothing_expression, refl, refl, refl)
+
+pub nothing_statements : EndsStatements []
+unfolding at
+nothing_statements = (nothing_statement, refl)
+
 abbrev pub EndsGuards : List Token → Type 0
 EndsGuards ts = EndsStatements ts × Not (is_word w.Elsif) ts
 
@@ -225,7 +243,7 @@ module _ (n : ℕ) (statement : Parser (Option Stmt)) (y : Rule statement (λ la
   pub rule_statements : Rule (spec.statements_by statement) (λ late. IsStatements (limit n late)) EndsStatements
   unfolding spec.statements_by spec.statements_turn same_mark
   rule_statements = rule_as (rule_list (mark_at m.Semicolon) statement (is_mark m.Semicolon) (λ ss p o. ss ++ listed o) (rule_mark m.Semicolon) y (λ late ts rest a h. begins_mark h)
-      (statement_at_mark m.Semicolon ((refl, refl, refl, refl), refl, refl, refl)) listed y)
+      (statement_at_mark m.Semicolon ((refl, refl, refl, refl), refl, refl, refl)) nothing_statement (takes_mark m.Semicolon) listed y)
       (to_statements n) (from_statements n) (λ rest e. e)
 
   pub rule_body : Rule (spec.body statement) (λ late. IsBody (limit n late)) Any
@@ -237,7 +255,7 @@ module _ (n : ℕ) (statement : Parser (Option Stmt)) (y : Rule statement (λ la
 
   pub rule_else : (expr : Parser Expr) → Rule (spec.otherwise expr statement) (λ late. IsElse (limit n late)) Any
   unfolding spec.otherwise spec.other spec.no_other same_word
-  rule_else expr = rule_as (rule_either (is_word w.Else) Any (rule_after (rule_word w.Else) (λ p. rule_map rule_body Some)) (rule_map (rule_word w.End) (λ p. None)) begins none (λ rest e. tt) (λ rest e. tt)) (to_else n) (from_else n) (λ rest e. e)
+  rule_else expr = rule_as (rule_either (is_word w.Else) Any (rule_after (rule_word w.Else) (λ p. rule_map rule_body Some)) (rule_map (rule_word w.End) (λ p. None)) begins none (λ rest e. tt) (λ rest e. tt) tt (takes_opens (is_word w.Else) (takes_word w.Else) (λ p. (rule_map rule_body Some).some))) (to_else n) (from_else n) (λ rest e. e)
     where
       begins : (late : Late) (ts rest : List Token) (o : Option (List Stmt)) → Other n late ts rest o → at (is_word w.Else) ts ≡ true
       begins late ts rest o (h ▸ k) = begins_word h
@@ -256,7 +274,7 @@ module _ (n : ℕ) (expr : Parser Expr) (statement : Parser (Option Stmt)) (x : 
   pub rule_guards : Rule (spec.guards expr statement) (Guards n) EndsGuards
   unfolding spec.guards spec.guards_turn
   rule_guards = rule_list (word_at w.Elsif) (spec.guarded expr statement) (is_word w.Elsif) (λ gs p x. gs ++ x ∷ []) (rule_word w.Elsif) rule_guard (λ late ts rest a h. begins_word h)
-      (statements_at_word w.Elsif ((refl, refl, refl, refl), refl, refl, refl)) (λ x. x ∷ []) rule_guard
+      (statements_at_word w.Elsif ((refl, refl, refl, refl), refl, refl, refl)) nothing_statements (takes_word w.Elsif) (λ x. x ∷ []) rule_guard
 
   rule_labelled : Rule (spec.labelled expr statement) (Labelled n) EndsStatements
   unfolding spec.labelled same_mark
@@ -270,8 +288,14 @@ module _ (n : ℕ) (expr : Parser Expr) (statement : Parser (Option Stmt)) (x : 
 
   rule_arm : Rule (spec.one_arm expr statement) (λ late. IsArm (limit n late)) EndsStatements
   unfolding spec.one_arm
-  rule_arm = rule_as (rule_either begins_expression EndsStatements rule_labelled (rule_pure None) begins none (λ rest e. e) (λ rest e. tt)) (to_arm n) (from_arm n) (λ rest e. e)
+  rule_arm = rule_as (rule_either begins_expression EndsStatements rule_labelled (rule_pure None) begins none (λ rest e. e) (λ rest e. tt) nothing_statements opens) (to_arm n) (from_arm n) (λ rest e. e)
     where
+      opens : (t : Token) → begins_expression t.what ≡ true → Opens (Labelled n) t
+      opens t h =
+          let f = an_expression t h in
+          let colon = token_of (k.Mark m.Colon) in
+          (f.0 ++ colon ∷ [], Some (arm (range f.1 None ∷ []) []), in_expr.ranges (in_expr.single (in_expr.nested unlimited (f.2 (colon ∷ [])))) in_expr.no_range ▸ a_mark refl ▸ g.statements g.empty g.no_statement ▸ nothing refl)
+
       begins : (late : Late) (ts rest : List Token) (o : Option Arm) → Labelled n late ts rest o → at begins_expression ts ≡ true
       begins late ts rest o (h ▸ k) = begins_ranges h
 
@@ -281,5 +305,5 @@ module _ (n : ℕ) (expr : Parser Expr) (statement : Parser (Option Stmt)) (x : 
   pub rule_arms : Rule (spec.arms expr statement) (λ late. IsArms (limit n late)) EndsArms
   unfolding spec.arms spec.arms_turn same_mark
   rule_arms = rule_as (rule_list (mark_at m.Bar) (spec.one_arm expr statement) (is_mark m.Bar) (λ before p o. before ++ listed o) (rule_mark m.Bar) rule_arm (λ late ts rest a h. begins_mark h)
-      (statements_at_mark m.Bar ((refl, refl, refl, refl), refl, refl, refl) refl) listed rule_arm)
+      (statements_at_mark m.Bar ((refl, refl, refl, refl), refl, refl, refl) refl) nothing_statements (takes_mark m.Bar) listed rule_arm)
       (to_arms n) (from_arms n) (λ rest e. e)

@@ -1,5 +1,5 @@
 -- The rules of the forms of statements, and of statements at each nesting.
-use Rattle.std.proofs.Common.{◌≡◌, ◌⊎◌, ℕ, zero, suc, ◌≤◌, Bool, true, false, List, [], ◌∷◌, ◌++◌, length, Option, Some, None, refl, subst, ap, sym, ◌∙◌, inl, inr}
+use Rattle.std.proofs.Common.{◌≡◌, ◌⊎◌, ℕ, zero, suc, ◌≤◌, Bool, true, false, List, [], ◌∷◌, ◌++◌, length, Option, Some, None, Err, refl, subst, ap, sym, ◌∙◌, inl, inr}
 use Rattle.lil_base.specs.declared.fault.Place.{Place}
 use Rattle.lil_tree.specs.declared.token.Token.{Token}
 use Rattle.lil_tree.specs.declared.token.TokenKind.{TokenKind}
@@ -15,30 +15,30 @@ use Rattle.lil_tree.specs.declared.tree.Stmt.TheVariants as s
 use Rattle.lil_tree.specs.declared.tree.Guard.{Guard}
 use Rattle.lil_tree.specs.declared.tree.Arm.{Arm}
 use Rattle.lil_tree.specs.declared.tree.ForHead.{ForHead}
-use Rattle.lil_tree.specs.Nesting.{Limit, Inside}
+use Rattle.lil_tree.specs.Nesting.{Limit, Inside, unlimited}
 use Rattle.lil_tree.specs.Operators.{begins_expression, begins_statement, selects, joins_factor}
 use Rattle.lil_tree.specs.Trees.{ident, designator, guard, for_head}
 use Rattle.lil_tree.specs.Expressions.{IsExpr, IsDesignator, IsActuals}
-use Rattle.lil_tree.specs.Expressions as x
+use Rattle.lil_tree.specs.Expressions as in_expr
 use Rattle.lil_tree.specs.Statements as g
 use Rattle.lil_tree.specs.Statements.{IsForHead, IsStatements, IsStatement, IsForm, IsBody, IsElse, IsArms}
 use Rattle.lil_parse_body.specs.declared.kinds.FormKind.{FormKind}
 use Rattle.lil_parse_body.specs.declared.kinds.FormKind.TheVariants as st
-use Rattle.lil_parse_body.specs.Steps.{Parser, ◌>>=◌, ◌>>◌, pure, at, class_at, either, either_by, too_deep, refuse, shallow, token, same_mark, same_word, is_mark, is_word, mark_at, word_at}
+use Rattle.lil_parse_body.specs.Steps.{syntax, place_of, Parser, ◌>>=◌, ◌>>◌, pure, at, class_at, either, either_by, too_deep, refuse, shallow, token, same_mark, same_word, is_mark, is_word, mark_at, word_at}
 use Rattle.lil_parse_body.specs.Kinds.{form_kind}
-use Rattle.lil_parse_body.specs.ReadExpressions.{expr}
+use Rattle.lil_parse_body.specs.ReadExpressions.{expr, designated}
 use Rattle.lil_parse_body.specs.ReadStatements as spec
 use Rattle.lil_parse_body.specs.Ends.{Not, EndsExpression, EndsStatement, EndsStatements}
-use Rattle.lil_parse_body.proofs.Rules.{Late, IsFree, Relation, Rule, Begins, Then, ◌▸◌, Choice, chosen, rule_choice, rule_then, rule_within, rule_as}
-use Rattle.lil_parse_body.proofs.RulesTokens.{Any, Same, nothing, rule_pure, IsMark, a_mark, rule_mark, IsWord, a_word, rule_word, token_of}
+use Rattle.lil_parse_body.proofs.Rules.{Late, IsFree, Relation, Opens, Rule, Begins, Then, ◌▸◌, Choice, chosen, rule_choice, rule_then, rule_within, rule_as}
+use Rattle.lil_parse_body.proofs.RulesTokens.{Any, Same, nothing, rule_pure, IsMark, a_mark, rule_mark, mark_is, IsWord, a_word, rule_word, token_of}
 use Rattle.lil_parse_body.proofs.RulesLimit.{limit, inside_next, inside_free, inside_next_is, inside_zero_is, rule_shallow}
-use Rattle.lil_parse_body.proofs.RulesLists.{at_apart, Or, left, right, rule_either, rule_map, rule_after, rule_before}
+use Rattle.lil_parse_body.proofs.RulesLists.{at_apart, takes_opens, Or, left, right, rule_either, rule_map, rule_after, rule_before}
 use Rattle.lil_parse_body.proofs.ExpressionBegins.{begins_expr, begins_designator}
-use Rattle.lil_parse_body.proofs.ExpressionParts.{begins_mark, begins_word, at_word, not_at_mark, not_at_word, ends_at_word}
+use Rattle.lil_parse_body.proofs.ExpressionParts.{takes_mark, begins_mark, begins_word, at_word, not_at_mark, not_at_word, ends_at_word}
 use Rattle.lil_parse_body.proofs.ExpressionFactors.{class_same, rule_actuals, rule_designated}
 use Rattle.lil_parse_body.proofs.ExpressionNames.{ends_selectors, ends_mark, begins_actuals}
-use Rattle.lil_parse_body.proofs.ExpressionRules.{number_token, a_number, Phrase, rule_expr}
-use Rattle.lil_parse_body.proofs.StatementParts.{EndsGuards, EndsArms, Guards, to_more_guards, from_more_guards, statements_at_word, rule_for_part, rule_statements, rule_body, rule_else, rule_guards, rule_arms}
+use Rattle.lil_parse_body.proofs.ExpressionRules.{number_token, a_number, an_expression, Phrase, rule_expr}
+use Rattle.lil_parse_body.proofs.StatementParts.{nothing_statement, EndsGuards, EndsArms, Guards, to_more_guards, from_more_guards, statements_at_word, rule_for_part, rule_statements, rule_body, rule_else, rule_guards, rule_arms}
 
 -- ---- the forms of a statement
 module _ (n : ℕ) where
@@ -95,7 +95,7 @@ module _ (n : ℕ) where
 
   designator_kind : {l : Limit} {ts rest : List Token} {d : Designator} → IsDesignator l ts rest d → class_at st.Named form_kind ts ≡ st.Named
   unfolding class_at
-  designator_kind (x.designates is h) = ap form_kind is
+  designator_kind (in_expr.designates is h) = ap form_kind is
 
   only_form : (late : Late) (ts rest : List Token) (c : FormKind) (a : Stmt) → IsOf c late ts rest a → EndsStatement rest → class_at st.Named form_kind ts ≡ c
   unfolding class_at
@@ -123,8 +123,11 @@ else_ends (g.other {ts = ts} {t = t} is k) =
 module _ (n : ℕ) (expr : Parser Expr) (x : Rule expr (λ late. IsExpr (limit n late)) EndsExpression) where
   rule_called : (d : Designator) → Rule (spec.called expr d) (Called n d) EndsStatement
   unfolding spec.called spec.call_with
-  rule_called d = rule_either (is_mark m.Open) EndsStatement (rule_map (rule_actuals n expr x) (λ xs. s.Call d xs)) (rule_pure (s.Call d [])) begins none (λ rest e. tt) (λ rest e. tt)
+  rule_called d = rule_either (is_mark m.Open) EndsStatement (rule_map (rule_actuals n expr x) (λ xs. s.Call d xs)) (rule_pure (s.Call d [])) begins none (λ rest e. tt) (λ rest e. tt) nothing_statement opens
     where
+      opens : (t : Token) → is_mark m.Open t.what ≡ true → Opens (Then (λ late. IsActuals (limit n late)) (λ xs. Same (s.Call d xs))) t
+      opens t h = (token_of (k.Mark m.Close) ∷ [], s.Call d [], in_expr.no_actual (mark_is m.Open t.what h) refl ▸ nothing refl)
+
       begins : (late : Late) (ts rest : List Token) (a : Stmt) → Then (λ late. IsActuals (limit n late)) (λ xs. Same (s.Call d xs)) late ts rest a → at (is_mark m.Open) ts ≡ true
       begins late ts rest a (h ▸ k) = begins_actuals h
 
@@ -137,8 +140,11 @@ module _ (n : ℕ) (expr : Parser Expr) (x : Rule expr (λ late. IsExpr (limit n
 
   rule_named_form : Rule (spec.named_form expr) (IsOf n st.Named) EndsStatement
   unfolding spec.named_form same_mark
-  rule_named_form = rule_then (rule_designated n expr x) (λ d. rule_either (is_mark m.Becomes) EndsStatement (rule_assign d) (rule_called d) (begins d) (none d) (λ rest e. e.0) (λ rest e. e)) EndsStatement inner (λ d rest e. e)
+  rule_named_form = rule_then (rule_designated n expr x) (λ d. rule_either (is_mark m.Becomes) EndsStatement (rule_assign d) (rule_called d) (begins d) (none d) (λ rest e. e.0) (λ rest e. e) nothing_statement (opens d)) EndsStatement inner (λ d rest e. e)
     where
+      opens : (d : Designator) (t : Token) → is_mark m.Becomes t.what ≡ true → Opens (Assigned n d) t
+      opens d = takes_opens (is_mark m.Becomes) (takes_mark m.Becomes) (λ p. (rule_map x (λ v. s.Assign d p v)).some)
+
       begins : (d : Designator) (late : Late) (ts rest : List Token) (a : Stmt) → Assigned n d late ts rest a → at (is_mark m.Becomes) ts ≡ true
       begins d late ts rest a (h ▸ k) = begins_mark h
 
@@ -153,8 +159,11 @@ module _ (n : ℕ) (expr : Parser Expr) (x : Rule expr (λ late. IsExpr (limit n
 
   rule_return : Rule (spec.return_form expr) (IsOf n st.Return) EndsStatement
   unfolding spec.return_form spec.value_of
-  rule_return = rule_after (rule_word w.Return) (λ p. rule_either begins_expression EndsStatement (rule_map x (λ v. s.Return p (Some v))) (rule_pure (s.Return p None)) (begins p) (none p) (λ rest e. e.0) (λ rest e. tt))
+  rule_return = rule_after (rule_word w.Return) (λ p. rule_either begins_expression EndsStatement (rule_map x (λ v. s.Return p (Some v))) (rule_pure (s.Return p None)) (begins p) (none p) (λ rest e. e.0) (λ rest e. tt) nothing_statement (opens p))
     where
+      opens : (p : Place) (t : Token) → begins_expression t.what ≡ true → Opens (Value n p) t
+      opens p t h = let f = an_expression t h in (f.0 ++ [], s.Return p (Some f.1), in_expr.nested unlimited (f.2 []) ▸ nothing refl)
+
       begins : (p : Place) (late : Late) (ts rest : List Token) (a : Stmt) → Value n p late ts rest a → at begins_expression ts ≡ true
       begins p late ts rest a (h ▸ k) = begins_expr h
 
@@ -229,15 +238,19 @@ module _ (n : ℕ) (expr : Parser Expr) (statement : Parser (Option Stmt)) (x : 
   rule_of st.For = rule_for
   rule_of st.With = rule_with
 
+  refused : spec.form_by expr statement (class_at st.Named form_kind []) [] ≡ Err (syntax (place_of []))
+  unfolding class_at spec.named_form designated token
+  refused = refl
+
   pub rule_form : Rule (spec.form expr statement) (λ late. IsForm (limit n late)) EndsStatement
   unfolding spec.form
-  rule_form = rule_as (rule_choice (class_at st.Named form_kind) (class_same st.Named form_kind) (spec.form_by expr statement) (IsOf n) ends_of EndsStatement (only_form n) outer rule_of st.Exit)
+  rule_form = rule_as (rule_choice (class_at st.Named form_kind) (class_same st.Named form_kind) (spec.form_by expr statement) (IsOf n) ends_of EndsStatement (only_form n) outer (λ c. inr (inl refused)) nothing_statement rule_of st.Exit)
       (to_form n) (from_form n) (λ rest e. e)
 
 -- ---- something that begins with each token
 begins_name : {l : Limit} {ts rest : List Token} {d : Designator} → IsDesignator l ts rest d → at begins_statement ts ≡ true
 unfolding at
-begins_name (x.designates is h) = ap begins_statement is
+begins_name (in_expr.designates is h) = ap begins_statement is
 
 begins_with : {v : TokenKind} (t : Token) (ts : List Token) → t.what ≡ v → begins_statement v ≡ true → at begins_statement (t ∷ ts) ≡ true
 unfolding at
@@ -267,7 +280,7 @@ no_statements l s = g.body (g.statements g.empty g.no_statement) refl
 
 form_by : (t : Token) (v : TokenKind) → t.what ≡ v → begins_statement v ≡ true → Phrase (IsForm None) t
 unfolding word_token
-form_by t (k.Ident name) is h = ([], s.Call (designator (ident t.place name) []) [], λ s. g.call (x.designates is x.no_selector))
+form_by t (k.Ident name) is h = ([], s.Call (designator (ident t.place name) []) [], λ s. g.call (in_expr.designates is in_expr.no_selector))
 form_by t (k.Word w.Exit) is h = ([], s.Exit t.place, λ s. g.exit is)
 form_by t (k.Word w.Return) is h = ([], s.Return t.place None, λ s. g.return is)
 form_by t (k.Word w.Loop) is h = (word_token w.End ∷ [], s.Loop t.place [], λ s. g.loop is (no_statements None s))
@@ -298,7 +311,7 @@ form_by t (k.Word w.For) is h =
     )
 form_by t (k.Word w.With) is h =
     let i = token_of (k.Ident []) in
-    (i ∷ word_token w.Do ∷ word_token w.End ∷ [], s.With t.place (designator (ident i.place []) []) [], λ s. g.with is (x.designates refl x.no_selector) refl (no_statements None s))
+    (i ∷ word_token w.Do ∷ word_token w.End ∷ [], s.With t.place (designator (ident i.place []) []) [], λ s. g.with is (in_expr.designates refl in_expr.no_selector) refl (no_statements None s))
 form_by t _ is h = absurd (cc)
 
 -- ---- at each nesting
@@ -329,6 +342,12 @@ some_part : (n : ℕ) → Begins (IsPart n) [] []
 unfolding word_token
 some_part n = record { more = word_token w.Exit ∷ []; tree = Some (s.Exit (word_token w.Exit).place); derives = λ s late free. a_part (inside_free n late (word_token w.Exit ∷ s) free) (g.exit refl) }
 
+part_opens : (t : Token) → begins_statement t.what ≡ true → Opens (IsPart zero) t
+part_opens t h = let f = form_by t t.what refl h in (f.0 ++ [], Some f.1, a_part unlimited (f.2 []))
+
+form_opens : (n : ℕ) (t : Token) → begins_statement t.what ≡ true → Opens (Then (λ late. IsForm (limit n late)) (λ a. Same (Some a))) t
+form_opens n t h = let f = form_by t t.what refl h in (f.0 ++ [], Some f.1, f.2 [] ▸ nothing refl)
+
 same_zero : (ts : List Token) → either begins_statement too_deep (pure None) ts ≡ either {A = Option Stmt} begins_statement (shallow begins_statement) (pure None) ts
 same_zero ts = go (at begins_statement ts) refl
   where
@@ -356,9 +375,9 @@ unfolding spec.statement spec.some_form
 rule_statement zero = rule_within same_zero (to_statement zero) (λ late ts rest o h. inl (from_statement zero late ts rest o h)) (λ rest e. e)
     (rule_either begins_statement EndsStatement
     (rule_shallow begins_statement (IsPart zero) EndsStatement (part_begins zero) (λ late ts rest o h. part_zero (Some late) ts rest o h) (λ t h. part_free zero t (form_by t t.what refl h)) (some_part zero))
-    (rule_pure None) (part_begins zero) none_begins (λ rest e. e) (λ rest e. tt))
+    (rule_pure None) (part_begins zero) none_begins (λ rest e. e) (λ rest e. tt) nothing_statement part_opens)
 rule_statement (suc n) = rule_within (λ ts. refl) (to_next n) (from_next n) (λ rest e. e)
-    (rule_either begins_statement EndsStatement (rule_map (rule_form n (expr n) (spec.statement n) (rule_expr n) (rule_statement n)) Some) (rule_pure None) (form_begins n) none_begins (λ rest e. e) (λ rest e. tt))
+    (rule_either begins_statement EndsStatement (rule_map (rule_form n (expr n) (spec.statement n) (rule_expr n) (rule_statement n)) Some) (rule_pure None) (form_begins n) none_begins (λ rest e. e) (λ rest e. tt) nothing_statement (form_opens n))
 
 pub rule_statement_list : (n : ℕ) → Rule (spec.statements n) (λ late. IsStatements (limit n late)) EndsStatements
 unfolding spec.statements

@@ -17,7 +17,7 @@ pub record Longest {A : Type 0} (G : Grammar A) (ts rest : List Token) : Type 0 
   pub none : (t : Token) (more : List Token) (tree : A) → first rest ≡ Some t → G None (front ++ t ∷ more) [] tree → ⊥
 
 -- The tokens before the place begin a phrase, in which the parts that begin there are at most n in one another.
--- No phrase begins with them and the token at the place.
+-- They are none themselves, and none begins with them and the token at the place.
 pub record RefusedAt {A : Type 0} (G : Grammar A) (n : ℕ) (ts : List Token) (p : Place) : Type 0 where
   pub front : List Token
   pub rest : List Token
@@ -26,6 +26,7 @@ pub record RefusedAt {A : Type 0} (G : Grammar A) (n : ℕ) (ts : List Token) (p
   pub more : List Token
   pub tree : A
   pub begins : G (Some (n, length more)) (front ++ more) [] tree
+  pub not_itself : (tree : A) → G None front [] tree → ⊥
   pub none : (more : List Token) (tree : A) → first more ≡ first rest → G None (front ++ more) [] tree → ⊥
 
 -- The tokens up to the one at the place begin a phrase, in which the parts that begin before it are at most n in one another.
