@@ -1,4 +1,12 @@
-ghost use Rattle.std.specs.Prelude.{◌≡◌, ◌-◌, ◌<◌, ◌≤◌, length, min, drop};
+ghost use Rattle.std.specs.Prelude.{◌≡◌, ◌-◌, ◌<◌, ◌≤◌, length, min, drop, List, Ok, IfOk, IfErr};
+ghost use Rattle.lil_tree.specs.declared.token.Token.{Token as Each};
+ghost use Rattle.lil_tree.specs.declared.tree.Expr.{Expr as Tree};
+ghost use Rattle.lil_tree.specs.declared.tree.Stmt.{Stmt as Statement};
+ghost use Rattle.lil_tree.specs.Nesting.{within};
+ghost use Rattle.lil_tree.specs.Expressions.{IsExpr};
+ghost use Rattle.lil_tree.specs.Statements.{IsStatements};
+ghost use Rattle.lil_parse_body.specs.Ends.{EndsExpression, EndsStatements};
+ghost use Rattle.lil_parse_body.specs.Places.{Longest, StopsAt};
 ghost use Rattle.lil_parse_body.specs.Cursors as spec;
 ghost use Rattle.lil_parse_body.specs.Steps.{Reads};
 
@@ -55,9 +63,7 @@ impl<'t> Cursor<'t> {
         48u8.saturating_sub(self.nesting)
     }
 
-    /// Reads the expression here and stands behind it. Fault 10 where the tokens go on with none, 12 where a part of
-    /// it has a nesting of 49 (Programming in Modula-2, Expressions). After a fault the cursor may only be dropped.
-    pub fn expression(&mut self, alloc: Global) -> Result<Expr, ReadStop>
+    fn next_expression(&mut self, alloc: Global) -> Result<Expr, ReadStop>
         ensures equation { Reads (spec.expression_at self.old) result self.new.left }
         ensures all { self.new.all ≡ self.old.all }
         ensures nesting { self.new.nesting ≡ self.old.nesting }
@@ -66,14 +72,42 @@ impl<'t> Cursor<'t> {
         expr(alloc, &mut self.reader, room)
     }
 
-    /// Reads the statements here and stands behind them. Faults as of `expression`.
     #[tactic(auto, unfolding(crate::specs::ReadStatements::statements))]
-    pub fn statements(&mut self, alloc: Global) -> Result<Items<Stmt>, ReadStop>
+    fn next_statements(&mut self, alloc: Global) -> Result<Items<Stmt>, ReadStop>
         ensures equation { Reads (spec.statements_at self.old) result self.new.left }
         ensures all { self.new.all ≡ self.old.all }
         ensures nesting { self.new.nesting ≡ self.old.nesting }
     {
         let room = self.room();
         statements(alloc, &mut self.reader, room)
+    }
+
+    /// Reads the expression here and stands behind it: the longest run of tokens that begins one. Fault 10 where that
+    /// is no expression, at the token behind it, and 12 where a part of it has a nesting of 49, at its first token
+    /// (Programming in Modula-2, Expressions). After a fault the cursor may only be dropped.
+    pub fn expression(&mut self, alloc: Global) -> Result<Expr, ReadStop>
+        ensures found { IfOk result (λ x. IsExpr (within (spec.room self.old)) self.old.left self.new.left x) }
+        ensures longest { IfOk result (λ x. Longest IsExpr self.old.left self.new.left) }
+        ensures only { (x : Tree) (rest : List Each) → IsExpr (within (spec.room self.old)) self.old.left rest x → EndsExpression rest → Reads (Ok (x, rest)) result self.new.left }
+        ensures exact { IfErr result (λ e. StopsAt IsExpr (spec.room self.old) self.old.left e) }
+        ensures equation { Reads (spec.expression_at self.old) result self.new.left }
+        ensures all { self.new.all ≡ self.old.all }
+        ensures nesting { self.new.nesting ≡ self.old.nesting }
+    {
+        self.next_expression(alloc)
+    }
+
+    /// Reads the statements here and stands behind them (Programming in Modula-2, Statements). The longest run, and
+    /// faults, as of `expression`.
+    pub fn statements(&mut self, alloc: Global) -> Result<Items<Stmt>, ReadStop>
+        ensures found { IfOk result (λ ss. IsStatements (within (spec.room self.old)) self.old.left self.new.left ss) }
+        ensures longest { IfOk result (λ ss. Longest IsStatements self.old.left self.new.left) }
+        ensures only { (ss : List Statement) (rest : List Each) → IsStatements (within (spec.room self.old)) self.old.left rest ss → EndsStatements rest → Reads (Ok (ss, rest)) result self.new.left }
+        ensures exact { IfErr result (λ e. StopsAt IsStatements (spec.room self.old) self.old.left e) }
+        ensures equation { Reads (spec.statements_at self.old) result self.new.left }
+        ensures all { self.new.all ≡ self.old.all }
+        ensures nesting { self.new.nesting ≡ self.old.nesting }
+    {
+        self.next_statements(alloc)
     }
 }
