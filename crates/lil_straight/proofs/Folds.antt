@@ -1,20 +1,21 @@
 -- Sums of numbers and variables: the value of the numbers that they begin with, and what they mean.
-use Rattle.std.proofs.Common.{◌≡◌, ℕ, ℤ, pos, negsuc, ◌≤ℤ◌, ◌-◌, ◌<◌, true, ◌&&◌, List, [], ◌∷◌, length, take, drop, get_or, Option, Some, None, IfSome, refl, subst, sym, ◌∙◌, ap, arith}
+use Rattle.std.proofs.Common.{◌≡◌, ℕ, ℤ, pos, negsuc, ◌≤ℤ◌, ◌-◌, ◌<◌, true, ◌&&◌, List, [], ◌∷◌, length, map, take, drop, get_or, Option, Some, None, IfSome, refl, subst, sym, ◌∙◌, ap, arith}
 use Rattle.std.proofs.lemmas.Bool.{and_parts, and_from}
 use Rattle.std.proofs.lemmas.Int.{ints}
 use Rattle.std.proofs.lemmas.List.{take_all}
 use Rattle.lil_base.specs.Words.{Cardinal, between}
 use Rattle.lil_tree.specs.Kinds.{OfWhole}
-use Rattle.lil_tree.specs.Resolved.{Expression, Two, kind_of}
-use Rattle.lil_tree.specs.Views.{two_of}
-use Rattle.lil_tree.specs.Resolving.{operator_of, whole_result, constant_of, longer, prefix_fits, prefixes_fit, operand_means, constant_value, whole_constant, joined_by, joined, more_means, sum_means}
+use Rattle.lil_tree.specs.Resolved.{Expression, Two, Then, in_order, kind_of}
+use Rattle.lil_tree.specs.Views.{two_of, all_of}
+use Rattle.lil_tree.specs.Resolving.{operator_of, whole_result, constant_of, longer, prefix_fits, prefixes_fit, operand_means, constant_value, whole_constant, joined_by, joined, more_means, sum_means, statement_means}
 use Rattle.lil_tree.specs.declared.straight_syntax.SumOp.{SumOp}
 use Rattle.lil_tree.specs.declared.straight_syntax.SumOp.TheVariants.{Plus, Minus}
 use Rattle.lil_tree.specs.declared.straight_syntax.Operand.{Operand}
 use Rattle.lil_tree.specs.declared.straight_syntax.Operand.TheVariants.{Number, Named}
 use Rattle.lil_tree.specs.declared.straight_syntax.More.{More}
 use Rattle.lil_tree.specs.declared.straight_syntax.Sum.{Sum}
-use Rattle.lil_straight.specs.Folding.{prefix_by, prefix, chained, summed_by, summed, sum_fits}
+use Rattle.lil_tree.specs.declared.straight_syntax.StraightStmt.{StraightStmt}
+use Rattle.lil_straight.specs.Folding.{prefix_by, prefix, chained, summed_by, summed, sum_fits, statement_meant}
 
 -- ---- ranges
 pub between_so : (low z high : ℤ) → between low z high ≡ true → (low ≤ℤ z) × (z ≤ℤ high)
@@ -158,3 +159,8 @@ character_fits vs s e is h = go (constant_value e) refl
     go : (o : Option ℤ) → constant_value e ≡ o → IfSome o (λ z. z ≤ℤ pos 255)
     go None so = tt
     go (Some z) so = (between_so (pos 0) z (pos 255) (sum_constant_fits vs (pos 255) s z h (ap constant_value (sym is) ∙ so))).1
+
+-- ---- statements that are one each
+pub meant_in_order : (vs : List (List ℕ)) (ss : List StraightStmt) → all_of (map (statement_meant vs) ss) ≡ in_order (map (statement_means vs) ss)
+meant_in_order vs [] = refl
+meant_in_order vs (s ∷ ss) = ap (Then (statement_means vs s)) (meant_in_order vs ss)

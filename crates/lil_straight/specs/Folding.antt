@@ -2,8 +2,8 @@
 use Rattle.std.specs.Prelude.{ℕ, ℤ, pos, Bool, ◌||◌, List, [], ◌∷◌, codes, Option, Some, None}
 use Rattle.lil_base.specs.Words.{Cardinal}
 use Rattle.lil_tree.specs.Kinds.{OfWhole}
-use Rattle.lil_tree.specs.Resolved.{Expression, Two}
-use Rattle.lil_tree.specs.Resolving.{operator_of, listed, whole_result, constant_of, prefixes_fit, operand_means, whole_constant}
+use Rattle.lil_tree.specs.Resolved.{Expression, Two, Statements, Empty, Then}
+use Rattle.lil_tree.specs.Resolving.{operator_of, listed, whole_result, constant_of, prefixes_fit, operand_means, whole_constant, statement_means}
 use Rattle.lil_tree.specs.declared.straight_syntax.More.{More}
 use Rattle.lil_tree.specs.declared.straight_syntax.Sum.{Sum}
 use Rattle.lil_tree.specs.declared.straight_syntax.StraightStmt.{StraightStmt}
@@ -52,3 +52,7 @@ sum_fits most s = prefixes_fit most (constant_of s.first) s.rest
 abbrev pub statement_fits : StraightStmt → Bool
 statement_fits (s.Assign x e) = sum_fits (pos 65535) e
 statement_fits (s.Write e) = sum_fits (pos 255) e
+
+-- what a statement means, as the statements that it is
+abbrev pub statement_meant : List (List ℕ) → StraightStmt → Statements
+statement_meant variables s = Then (statement_means variables s) Empty

@@ -3,7 +3,7 @@ ghost use Rattle.std.specs.Str.{bytes_eq};
 ghost use Rattle.lil_base.specs.Words as words;
 ghost use Rattle.lil_base.specs.Words.{Cardinal};
 ghost use Rattle.lil_tree.specs.Kinds.{OfWhole};
-ghost use Rattle.lil_tree.specs.Resolved.{Two, kind_of};
+ghost use Rattle.lil_tree.specs.Resolved.{Two, Empty, Then, kind_of};
 ghost use Rattle.lil_straight.specs.Folding as spec;
 ghost use Rattle.std.specs.List.{list_all};
 ghost use Rattle.lil_tree.specs.Resolving as rules;
@@ -328,11 +328,11 @@ fn sum_expression(alloc: Global, variables: &[Name], sum: &Sum) -> Result<RExpr,
     summed(alloc, variables, sum)
 }
 
-#[tactic(auto, using(crate::proofs::Folds::wider_sum, crate::proofs::Folds::sum_means_kind))]
+#[tactic(auto, using(crate::proofs::Folds::wider_sum, crate::proofs::Folds::sum_means_kind, lil_tree::proofs::Views::write_is))]
 fn written(alloc: Global, variables: &[Name], sum: &Sum) -> Result<RStmt, Memory>
     requires few { length variables.now ≤ 65536 }
     requires fits { spec.sum_fits (pos 255) sum.now ≡ true }
-    ensures { IfOk result (λ s. view.statement_of s ≡ view.write_of (rules.chr_of (rules.sum_means variables.now sum.now))) }
+    ensures { IfOk result (λ s. view.statement_of s ≡ Then (view.write_of (rules.chr_of (rules.sum_means variables.now sum.now))) Empty) }
 {
     let value = sum_expression(alloc, variables, sum)?;
     Ok(RStmt::Write(character(alloc, value)?))
@@ -349,10 +349,11 @@ fn character(alloc: Global, e: RExpr) -> Result<RExpr, Memory>
     }
 }
 
+#[tactic(auto, using(lil_tree::proofs::Views::assign_is))]
 fn statement(alloc: Global, variables: &[Name], statement: &StraightStmt) -> Result<RStmt, Memory>
     requires few { length variables.now ≤ 65536 }
     requires fits { spec.statement_fits statement.now ≡ true }
-    ensures { IfOk result (λ s. view.statement_of s ≡ rules.statement_means variables.now statement.now) }
+    ensures { IfOk result (λ s. view.statement_of s ≡ spec.statement_meant variables.now statement.now) }
 {
     match statement {
         StraightStmt::Assign(x, sum) => {
@@ -370,7 +371,7 @@ fn body(
 ) -> Result<Items<RStmt>, Memory>
     requires few { length variables.now ≤ 65536 }
     requires fits { list_all spec.statement_fits statements.now ≡ true }
-    ensures { IfOk result (λ ss. map view.statement_of ss ≡ map (rules.statement_means variables.now) statements.now) }
+    ensures { IfOk result (λ ss. map view.statement_of ss ≡ map (spec.statement_meant variables.now) statements.now) }
 {
     let mut found = Items::new(alloc);
     for s in statements {
@@ -380,6 +381,7 @@ fn body(
 }
 
 /// The resolved module that a unit means.
+#[tactic(auto, using(crate::proofs::Folds::meant_in_order))]
 pub(crate) fn resolve(alloc: Global, unit: StraightUnit) -> Result<RModule, Memory>
     requires few { length unit.variables ≤ 65536 }
     requires fits { list_all spec.statement_fits unit.body ≡ true }

@@ -13,7 +13,7 @@ mod tree;
 mod unit;
 
 pub use operator::{OneOp, TwoOp};
-pub use resolved::{RExpr, RModule, RStmt};
+pub use resolved::{RArm, RExpr, RGuard, RLabel, RModule, RStmt};
 pub use stop::ReadStop;
 pub use straight_syntax::{More, Operand, StraightStmt, StraightUnit, Sum, SumOp};
 pub use straight_token::{StraightKind, StraightMark};

@@ -15,11 +15,43 @@ pub enum RExpr {
     Chr(Box<RExpr>),
 }
 
-/// A resolved statement.
+/// A resolved statement. IF has its conditions in order, a CASE or an IF without ELSE has none, and FOR has its variable,
+/// its first value, its last and its step.
+#[cycle(resolved)]
 #[derive(Drop)]
 pub enum RStmt {
     Assign(u16, RExpr),
     Write(RExpr),
+    If(Items<RGuard>, Items<RStmt>),
+    Case(RExpr, Items<RArm>, Option<Items<RStmt>>),
+    While(RExpr, Items<RStmt>),
+    Repeat(Items<RStmt>, RExpr),
+    Loop(Items<RStmt>),
+    Exit,
+    For(u16, RExpr, RExpr, i16, Items<RStmt>),
+}
+
+/// A condition, and the statements behind its THEN.
+#[cycle(resolved)]
+#[derive(Drop)]
+pub struct RGuard {
+    pub condition: RExpr,
+    pub body: Items<RStmt>,
+}
+
+/// The labels of an arm of CASE, and the statements behind them.
+#[cycle(resolved)]
+#[derive(Drop)]
+pub struct RArm {
+    pub labels: Items<RLabel>,
+    pub body: Items<RStmt>,
+}
+
+/// Labels: the numbers of all values from one to another.
+#[derive(Clone, Copy, Debug, PartialEq, Eq)]
+pub struct RLabel {
+    pub low: i32,
+    pub high: i32,
 }
 
 /// A resolved program module.
