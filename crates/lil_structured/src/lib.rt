@@ -1,0 +1,6 @@
+//! Reads structured texts: parses the module around the statements, and resolves it.
+#![tactic(auto)]
+
+mod kinds;
+mod meant;
+mod operators;
