@@ -1,6 +1,8 @@
 //! Reads structured texts: parses the module around the statements, and resolves it.
 #![tactic(auto)]
 
+mod expressions;
 mod kinds;
 mod meant;
 mod operators;
+mod scope;

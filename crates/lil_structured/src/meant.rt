@@ -92,7 +92,18 @@ impl Number {
         i64::from(self.value)
     }
 
-    pub(crate) fn within(&self, low: i32, high: i32) -> bool
+    /// The character with this number.
+    pub(crate) fn character(&self) -> Option<RExpr>
+        ensures { option_map expression_of result ≡ spec.character_of (spec.Whole' self.now) }
+    {
+        if self.within(0, 255) {
+            Some(RExpr::Character(self.value as u8))
+        } else {
+            None
+        }
+    }
+
+    fn within(&self, low: i32, high: i32) -> bool
         ensures { result ≡ between low self.now high }
     {
         !(self.value < low) && !(high < self.value)
