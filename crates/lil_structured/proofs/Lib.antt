@@ -1,2 +1,4 @@
 pub mod Layers
 pub mod Numbers
+pub mod StatementLayers
+pub mod Parts

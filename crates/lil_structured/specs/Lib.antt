@@ -1,2 +1,4 @@
 pub mod Sorts
 pub mod Meanings
+pub mod Lists
+pub mod Forms

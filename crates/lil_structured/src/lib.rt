@@ -3,6 +3,8 @@
 
 mod expressions;
 mod kinds;
+mod labels;
 mod meant;
 mod operators;
 mod scope;
+mod statements;

@@ -1,4 +1,4 @@
-ghost use Rattle.std.specs.Prelude.{◌≡◌, ◌≤◌, ℤ, pos, negsuc, ◌≤ℤ◌, IfSome};
+ghost use Rattle.std.specs.Prelude.{◌≡◌, ◌≤◌, ℤ, pos, negsuc, ◌≤ℤ◌, Some, None, IfSome, if◌then◌else◌};
 ghost use Rattle.std.specs.Option.{option_map};
 ghost use Rattle.lil_base.specs.Words.{between};
 ghost use Rattle.lil_tree.specs.Resolved.{kind_of};
@@ -98,6 +98,17 @@ impl Number {
     {
         if self.within(0, 255) {
             Some(RExpr::Character(self.value as u8))
+        } else {
+            None
+        }
+    }
+
+    /// The number, if it is from one number to another.
+    pub(crate) fn if_within(&self, low: i32, high: i32) -> Option<i32>
+        ensures { result ≡ (if between low self.now high then Some self.now else None) }
+    {
+        if self.within(low, high) {
+            Some(self.value)
         } else {
             None
         }
