@@ -1,24 +1,29 @@
 -- Lists of parts: whether all are there, and what they are together.
-use Rattle.std.proofs.Common.{◌≡◌, ℕ, suc, ◌+◌, ◌<◌, ◌≤◌, Bool, true, false, List, [], ◌∷◌, ◌++◌, length, map, take, drop, get_or, Option, None, Some, if◌then◌else◌, not, ◌||◌, ◌&&◌, sym, ap, ◌∙◌, refl, subst, arith}
+use Rattle.std.proofs.Common.{◌≡◌, ℕ, suc, ◌+◌, ◌<◌, ◌≤◌, Bool, true, false, List, [], ◌∷◌, ◌++◌, length, map, take, drop, get_or, Option, None, Some, if◌then◌else◌, not, ◌||◌, ◌&&◌, sym, ap, ◌∙◌, refl, subst, arith, append_assoc, append-nil}
 use Rattle.std.specs.Option.{option_map}
 use Rattle.std.specs.List.{list_any}
 use Rattle.std.proofs.lemmas.List.{take_more, take_all, map-append}
 use Rattle.std.proofs.Math.Seq.{split_at}
+use Rattle.lil_base.specs.declared.fault.Place.{Place}
 use Rattle.lil_tree.specs.declared.tree.Range.{Range}
 use Rattle.lil_tree.specs.declared.tree.Guard.{Guard}
 use Rattle.lil_tree.specs.declared.tree.Arm.{Arm}
+use Rattle.lil_tree.specs.declared.tree.Expr.{Expr}
+use Rattle.lil_tree.specs.declared.tree.Stmt.{Stmt}
+use Rattle.lil_tree.specs.declared.tree.Stmt.TheVariants as st
+use Rattle.lil_tree.specs.declared.resolved.RExpr.{RExpr}
 use Rattle.lil_tree.specs.declared.resolved.RStmt.{RStmt}
 use Rattle.lil_tree.specs.declared.resolved.RStmt.TheVariants as s
 use Rattle.lil_tree.specs.declared.resolved.RGuard.{RGuard}
 use Rattle.lil_tree.specs.declared.resolved.RArm.{RArm}
 use Rattle.lil_tree.specs.declared.resolved.RLabel.{RLabel}
 use Rattle.lil_tree.specs.Kinds.{Kind, OfTruth}
-use Rattle.lil_tree.specs.Resolved.{Expression, Label, Statement, Statements, Empty, Then, If, Case, Arms, Arm as An, kind_of}
-use Rattle.lil_tree.specs.Structured.{Scope, Meaning, all_mean, then_mean, alone, if_of, guards_mean, before_other, GuardMeaning, labels_mean, with_label, label_by, meets, all_apart, with_arm, last_arm, arms_mean, case_of, case_on, otherwise, typed, statement_means}
-use Rattle.lil_tree.specs.Views.{joined, all_of, expression_of, statement_of, statements_of, guarded, guard_of, guards_of, label_of}
+use Rattle.lil_tree.specs.Resolved.{Expression, Label, Statement, Statements, Empty, Then, If, Case, Arms, NoElse, Arm as An, kind_of}
+use Rattle.lil_tree.specs.Structured.{Scope, Meant, sense, case_by, ArmMeaning, Meaning, all_mean, then_mean, alone, if_of, guards_mean, before_other, GuardMeaning, labels_mean, with_label, label_by, meets, all_apart, with_arm, last_arm, arms_mean, case_of, case_on, otherwise, typed, statement_means}
+use Rattle.lil_tree.specs.Views.{joined, all_of, expression_of, statement_of, statements_of, guarded, guard_of, guards_of, label_of, armed, arm_of, else_of}
 use Rattle.lil_tree.proofs.Views.{if_is, guard_is, case_is, arm_is}
 use Rattle.lil_structured.specs.Lists.{all_some}
-use Rattle.lil_structured.specs.Forms.{paired, guard_parts, guard_pair, nested, conditional_of, label_means, apart, labels_of, chosen, case_with, arm_parts}
+use Rattle.lil_structured.specs.Forms.{paired, guard_parts, guard_pair, nested, conditional_of, label_means, apart, labels_of, chosen, case_with, arm_parts, arm_pair, selected_by, other_of}
 use Rattle.lil_structured.proofs.StatementLayers.{guard_means, arm_means}
 use Rattle.lil_structured.proofs.StatementLayers as layers
 
@@ -193,3 +198,61 @@ module _ (scope : Scope) (looping : Bool) where
   cases_are e arms other =
       ap (λ o. alone (case_of e o)) (arms_are (kind_of e) arms (otherwise looping other))
       ∙ case_of_combined e (all_some (map (arm_parts scope looping (kind_of e)) arms)) (otherwise looping other)
+
+labels_push : (parts : List (List Label × Statements)) (a : List Label × Statements) → labels_of (parts ++ a ∷ []) ≡ labels_of parts ++ a.0
+labels_push [] a = append-nil a.0
+labels_push (p ∷ parts) a = ap (λ ls. p.0 ++ ls) (labels_push parts a) ∙ sym (append_assoc p.0 (labels_of parts) a.0)
+
+pub labels_more : (arms : List RArm) (i : ℕ) (a : RArm) (found new : List RLabel) → i < length arms → a ≡ get_or arms i a → new ≡ found ++ a.labels
+    → map label_of found ≡ labels_of (map arm_pair (take i arms)) → map label_of new ≡ labels_of (map arm_pair (take (i + 1) arms))
+labels_more arms i a found new h is made so_far =
+    ap (map label_of) made ∙ map-append label_of found a.labels
+    ∙ ap (λ ls. ls ++ map label_of a.labels) so_far
+    ∙ sym (labels_push (map arm_pair (take i arms)) (arm_pair a))
+    ∙ ap labels_of (sym (map-append arm_pair (take i arms) (a ∷ [])))
+    ∙ ap (λ rs. labels_of (map arm_pair rs)) (sym (take_more arms i a h ∙ ap (λ b. take i arms ++ b ∷ []) (sym is)))
+
+chosen_are : (arms : List RArm) (other : Arms) → armed (map arm_of arms) other ≡ chosen (map arm_pair arms) other
+chosen_are [] other = refl
+chosen_are (a ∷ rest) other = arm_is a (armed (map arm_of rest) other) ∙ ap (An (map label_of a.labels) (statements_of a.body)) (chosen_are rest other)
+
+pub case_made : (e : RExpr) (arms : List RArm) (other : Option (List RStmt)) (labels : List RLabel) → map label_of labels ≡ labels_of (map arm_pair arms)
+    → case_with (expression_of e) (Some (map arm_pair arms)) (Some (else_of other)) ≡ (if apart labels then Some (statement_of (s.Case e arms other)) else None)
+case_made e arms other labels is =
+    let same : all_apart (labels_of (map arm_pair arms)) ≡ apart labels = ap all_apart (sym is) ∙ apart_is labels in
+    let made : Then (Case (expression_of e) (chosen (map arm_pair arms) (else_of other))) Empty ≡ statement_of (s.Case e arms other) =
+        ap (λ r. Then (Case (expression_of e) r) Empty) (sym (chosen_are arms (else_of other))) ∙ sym (case_is e arms other) in
+    ap (λ b. if b then Some (Then (Case (expression_of e) (chosen (map arm_pair arms) (else_of other))) Empty) else None) same
+    ∙ ap (λ r. if apart labels then Some r else None) made
+
+elses_by : (looping : Bool) (ss : List Meaning) (o : Option Statements) → all_mean looping ss ≡ o → otherwise looping (Some ss) ≡ other_of (all_mean looping ss)
+elses_by looping ss None e = rw e
+elses_by looping ss (Some body) e = rw e
+
+elses : (looping : Bool) (ss : List Meaning) → otherwise looping (Some ss) ≡ other_of (all_mean looping ss)
+elses looping ss = elses_by looping ss (all_mean looping ss) refl
+
+-- ---- whole forms
+module _ (scope : Scope) (looping : Bool) (p : Place) where
+  pub if_without : (gs : List Guard) → alone (statement_means scope (st.If p gs None) looping) ≡ conditional_of (all_some (map (guard_parts scope looping) gs)) (Some Empty)
+  if_without gs = ap alone (layers.if_is scope p gs None looping) ∙ guards_are scope looping gs (Some Empty)
+
+  pub if_with : (gs : List Guard) (ss : List Stmt)
+      → alone (statement_means scope (st.If p gs (Some ss)) looping) ≡ conditional_of (all_some (map (guard_parts scope looping) gs)) (all_mean looping (map (statement_means scope) ss))
+  if_with gs ss = ap alone (layers.if_is scope p gs (Some ss) looping) ∙ guards_are scope looping gs (all_mean looping (map (statement_means scope) ss))
+
+  selects : (v : Option Meant) (e : Expression) (arms : List ArmMeaning) (other : Option (List Meaning)) → selected_by v ≡ Some e → case_by looping v arms other ≡ case_on looping (Some e) arms other
+  selects None e arms other h = cc
+  selects (Some v) e arms other h = ap (λ o. case_on looping o arms other) h
+
+  pub case_without : (e : Expr) (arms : List Arm) (selector : Expression) → selected_by (sense scope e).value ≡ Some selector
+      → alone (statement_means scope (st.Case p e arms None) looping) ≡ case_with selector (all_some (map (arm_parts scope looping (kind_of selector)) arms)) (Some NoElse)
+  case_without e arms selector is = ap alone (layers.case_is scope p e arms None looping ∙ selects (sense scope e).value selector (map (arm_means scope) arms) None is)
+      ∙ cases_are scope looping selector arms None
+
+  pub case_with_other : (e : Expr) (arms : List Arm) (ss : List Stmt) (selector : Expression) → selected_by (sense scope e).value ≡ Some selector
+      → alone (statement_means scope (st.Case p e arms (Some ss)) looping)
+        ≡ case_with selector (all_some (map (arm_parts scope looping (kind_of selector)) arms)) (other_of (all_mean looping (map (statement_means scope) ss)))
+  case_with_other e arms ss selector is = ap alone (layers.case_is scope p e arms (Some ss) looping ∙ selects (sense scope e).value selector (map (arm_means scope) arms) (Some (map (statement_means scope) ss)) is)
+      ∙ cases_are scope looping selector arms (Some (map (statement_means scope) ss))
+      ∙ ap (case_with selector (all_some (map (arm_parts scope looping (kind_of selector)) arms))) (elses looping (map (statement_means scope) ss))

@@ -11,8 +11,8 @@ use Rattle.lil_tree.specs.declared.resolved.RGuard.{RGuard}
 use Rattle.lil_tree.specs.declared.resolved.RArm.{RArm}
 use Rattle.lil_tree.specs.declared.resolved.RLabel.{RLabel}
 use Rattle.lil_tree.specs.Kinds.{Kind, OfTruth}
-use Rattle.lil_tree.specs.Resolved.{Expression, Label, Statement, Statements, If, Case, Then, Empty, Arms, Arm as An}
-use Rattle.lil_tree.specs.Structured.{Scope, sense, typed, all_mean, statement_means, labels_mean, label_by, range_sense, arm_of, meets, all_apart}
+use Rattle.lil_tree.specs.Resolved.{Expression, Label, Statement, Statements, If, Case, Then, Empty, Arms, Else, Arm as An}
+use Rattle.lil_tree.specs.Structured.{Scope, Meant, selected, sense, typed, all_mean, statement_means, labels_mean, label_by, range_sense, arm_of, meets, all_apart}
 use Rattle.lil_tree.specs.Views.{expression_of, statements_of, label_of}
 use Rattle.lil_structured.specs.Lists.{all_some}
 
@@ -75,3 +75,13 @@ chosen (a ∷ rest) other = An a.0 a.1 (chosen rest other)
 abbrev pub case_with : Expression → Option (List (List Label × Statements)) → Option Arms → Option Statements
 case_with e (Some arms) (Some other) = if all_apart (labels_of arms) then Some (Then (Case e (chosen arms other)) Empty) else None
 case_with e _ _ = None
+
+-- what a CASE selects by
+abbrev pub selected_by : Option Meant → Option Expression
+selected_by None = None
+selected_by (Some v) = selected v
+
+-- the arms behind ELSE
+abbrev pub other_of : Option Statements → Option Arms
+other_of None = None
+other_of (Some body) = Some (Else body)

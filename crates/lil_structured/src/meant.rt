@@ -114,6 +114,19 @@ impl Number {
         }
     }
 
+    /// The number as a step of FOR: an INTEGER that isn't zero.
+    pub(crate) fn step(&self) -> Option<i16>
+        ensures { result ≡ spec.step_number (Some (spec.Whole' self.now)) }
+    {
+        if self.value == 0 {
+            None
+        } else if self.within(-32768, 32767) {
+            Some(self.value as i16)
+        } else {
+            None
+        }
+    }
+
     fn within(&self, low: i32, high: i32) -> bool
         ensures { result ≡ between low self.now high }
     {
@@ -245,5 +258,38 @@ pub(crate) fn of_kind(kind: Kind, meant: Meant) -> Option<Operand>
         Meant::Whole(number) => whole_of(kind, &number),
         Meant::Fact(fact) => fact_of(kind, fact),
         Meant::Evaluated(operand) => operand_of(kind, operand),
+    }
+}
+
+/// What a CASE selects by: a constant number is a CARDINAL where it isn't negative, else an INTEGER.
+pub(crate) fn selector(of: Meant) -> Operand
+    ensures { Some (expression_of result) ≡ spec.selected (means.meant of) }
+{
+    match of {
+        Meant::Whole(number) => constant_selector(&number),
+        Meant::Fact(fact) => Operand {
+            form: RExpr::Truth(fact),
+            kind: Kind::Truth,
+            depth: 1,
+        },
+        Meant::Evaluated(operand) => operand,
+    }
+}
+
+fn constant_selector(number: &Number) -> Operand
+    ensures { Some (expression_of result) ≡ spec.selected (spec.Whole' number.now) }
+{
+    if number.within(0, 65535) {
+        Operand {
+            form: RExpr::Number(number.value as u16),
+            kind: Kind::Cardinal,
+            depth: 1,
+        }
+    } else {
+        Operand {
+            form: RExpr::Integer(number.value as i16),
+            kind: Kind::Integer,
+            depth: 1,
+        }
     }
 }
