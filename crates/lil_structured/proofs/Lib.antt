@@ -2,3 +2,4 @@ pub mod Layers
 pub mod Numbers
 pub mod StatementLayers
 pub mod Parts
+pub mod Names

@@ -221,7 +221,7 @@ pub case_made : (e : RExpr) (arms : List RArm) (other : Option (List RStmt)) (la
 case_made e arms other labels is =
     let same : all_apart (labels_of (map arm_pair arms)) ≡ apart labels = ap all_apart (sym is) ∙ apart_is labels in
     let made : Then (Case (expression_of e) (chosen (map arm_pair arms) (else_of other))) Empty ≡ statement_of (s.Case e arms other) =
-        ap (λ r. Then (Case (expression_of e) r) Empty) (sym (chosen_are arms (else_of other))) ∙ sym (case_is e arms other) in
+    ap (λ r. Then (Case (expression_of e) r) Empty) (sym (chosen_are arms (else_of other))) ∙ sym (case_is e arms other) in
     ap (λ b. if b then Some (Then (Case (expression_of e) (chosen (map arm_pair arms) (else_of other))) Empty) else None) same
     ∙ ap (λ r. if apart labels then Some r else None) made
 
@@ -252,7 +252,7 @@ module _ (scope : Scope) (looping : Bool) (p : Place) where
 
   pub case_with_other : (e : Expr) (arms : List Arm) (ss : List Stmt) (selector : Expression) → selected_by (sense scope e).value ≡ Some selector
       → alone (statement_means scope (st.Case p e arms (Some ss)) looping)
-        ≡ case_with selector (all_some (map (arm_parts scope looping (kind_of selector)) arms)) (other_of (all_mean looping (map (statement_means scope) ss)))
+      ≡ case_with selector (all_some (map (arm_parts scope looping (kind_of selector)) arms)) (other_of (all_mean looping (map (statement_means scope) ss)))
   case_with_other e arms ss selector is = ap alone (layers.case_is scope p e arms (Some ss) looping ∙ selects (sense scope e).value selector (map (arm_means scope) arms) (Some (map (statement_means scope) ss)) is)
       ∙ cases_are scope looping selector arms (Some (map (statement_means scope) ss))
       ∙ ap (case_with selector (all_some (map (arm_parts scope looping (kind_of selector)) arms))) (elses looping (map (statement_means scope) ss))

@@ -2,3 +2,4 @@ pub mod Sorts
 pub mod Meanings
 pub mod Lists
 pub mod Forms
+pub mod Programs

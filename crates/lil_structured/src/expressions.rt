@@ -158,12 +158,7 @@ pub(crate) fn expression(alloc: Global, scope: &Scope<'_>, x: &Expr) -> Result<S
         Expr::Two(_, operator, _, left, right) => {
             let left = expression(alloc, scope, left.get())?;
             let right = expression(alloc, scope, right.get())?;
-            Ok(of_value(two_meant(
-                alloc,
-                *operator,
-                left.value,
-                right.value,
-            )?))
+            Ok(of_value(two_meant(alloc, *operator, left.value, right.value)?))
         }
     }
 }

@@ -6,5 +6,7 @@ mod kinds;
 mod labels;
 mod meant;
 mod operators;
+mod program;
+mod resolver;
 mod scope;
 mod statements;

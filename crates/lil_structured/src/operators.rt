@@ -39,6 +39,7 @@ fn sum(a: &Number, b: &Number) -> Option<Meant>
 {
     computed(a.get() + b.get())
 }
+
 fn difference(a: &Number, b: &Number) -> Option<Meant>
     ensures { means.meant_if result ≡ spec.two_numbers two.Minus a.now b.now }
 {
@@ -91,11 +92,7 @@ fn two_facts(operator: TwoOp, a: bool, b: bool) -> Option<Meant>
     match operator {
         TwoOp::And => Some(Meant::Fact(a && b)),
         TwoOp::Or => Some(Meant::Fact(a || b)),
-        _ => fact_only(two_numbers(
-            operator,
-            &Number::of_truth(a),
-            &Number::of_truth(b),
-        )),
+        _ => fact_only(two_numbers(operator, &Number::of_truth(a), &Number::of_truth(b))),
     }
 }
 
@@ -245,11 +242,7 @@ fn one_fact(operator: OneOp, of: bool) -> Option<Meant>
 }
 
 /// An operator on one operand.
-pub(crate) fn one_mean(
-    alloc: Global,
-    operator: OneOp,
-    of: Meant,
-) -> Result<Option<Meant>, Memory>
+pub(crate) fn one_mean(alloc: Global, operator: OneOp, of: Meant) -> Result<Option<Meant>, Memory>
     ensures { IfOk result (λ o. means.meant_if o ≡ spec.one_mean operator (means.meant of)) }
 {
     match of {

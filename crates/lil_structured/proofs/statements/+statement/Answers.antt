@@ -29,7 +29,7 @@ pub body-returns-in-None : goal.body-returns-in-None
 body-returns-in-None t c =
     let scope = c.args.scope.now in
     sym (all_are (spec.statement_means scope) c.args.looping c.args.statements.now
-        ∙ ap (option_map view.all_of) (none_at (λ (x : Stmt). spec.alone (spec.statement_means scope x c.args.looping)) c.args.statements.now c.loop-one.one-index c.one-item.result c.loop-one-test.true (search rules) (search rules)))
+    ∙ ap (option_map view.all_of) (none_at (λ (x : Stmt). spec.alone (spec.statement_means scope x c.args.looping)) c.args.statements.now c.loop-one.one-index c.one-item.result c.loop-one-test.true (search rules) (search rules)))
 
 pub body-loop-one-preserved : goal.body-loop-one-preserved
 body-loop-one-preserved t c = pushed (λ (x : Stmt). spec.alone (spec.statement_means c.args.scope.now x c.args.looping)) view.statement_of c.args.statements.now c.loop-one.one-index c.one-item.result
@@ -38,7 +38,7 @@ body-loop-one-preserved t c = pushed (λ (x : Stmt). spec.alone (spec.statement_
 pub body-returns : goal.body-returns
 body-returns t c =
     sym (all_are (spec.statement_means c.args.scope.now) c.args.looping c.args.statements.now
-        ∙ ap (option_map view.all_of) (all_found (λ (x : Stmt). spec.alone (spec.statement_means c.args.scope.now x c.args.looping)) view.statement_of c.args.statements.now c.loop-one.one-index c.loop-one.found (omega arith) c.loop-one.invariant))
+    ∙ ap (option_map view.all_of) (all_found (λ (x : Stmt). spec.alone (spec.statement_means c.args.scope.now x c.args.looping)) view.statement_of c.args.statements.now c.loop-one.one-index c.loop-one.found (omega arith) c.loop-one.invariant))
 
 pub statement-returns-in-None : goal.statement-returns-in-None
 statement-returns-in-None t c =
@@ -71,10 +71,10 @@ statement-returns-in-None-other t c =
     let value : forms.selected_by (spec.sense c.args.scope.now a.value).value ≡ Some selector = search rules in
     let arms : option_map (map forms.arm_pair) c.in_ok-arms-in-Case.arms ≡ all_some (map (forms.arm_parts c.args.scope.now c.args.looping (sorts.kind c.kind.result)) a.arms) = search rules in
     let e =
-        ap (λ o. forms.case_with selector o (Some NoElse)) arms
-        ∙ ap (λ k. forms.case_with selector (all_some (map (forms.arm_parts c.args.scope.now c.args.looping k) a.arms)) (Some NoElse)) c.kind.ensures
-        ∙ sym (case_without c.args.scope.now c.args.looping a.field-0 a.value a.arms selector value)
-        ∙ ap (λ (x : Stmt). spec.alone (spec.statement_means c.args.scope.now x c.args.looping)) (sym is) in
+    ap (λ o. forms.case_with selector o (Some NoElse)) arms
+    ∙ ap (λ k. forms.case_with selector (all_some (map (forms.arm_parts c.args.scope.now c.args.looping k) a.arms)) (Some NoElse)) c.kind.ensures
+    ∙ sym (case_without c.args.scope.now c.args.looping a.field-0 a.value a.arms selector value)
+    ∙ ap (λ (x : Stmt). spec.alone (spec.statement_means c.args.scope.now x c.args.looping)) (sym is) in
     subst (λ (v : Option Statements). IfOk c.case_of.result (λ o. option_map view.statement_of o ≡ v)) e c.case_of.ensures
 
 pub statement-returns-in_ok-other-in-Some-other : goal.statement-returns-in_ok-other-in-Some-other
@@ -86,9 +86,9 @@ statement-returns-in_ok-other-in-Some-other t c =
     let arms : option_map (map forms.arm_pair) c.in_ok-arms-in-Case.arms ≡ all_some (map (forms.arm_parts c.args.scope.now c.args.looping (sorts.kind c.kind.result)) a.arms) = search rules in
     let other : option_map view.else_of c.behind_else.result ≡ forms.other_of (spec.all_mean c.args.looping (map (spec.statement_means c.args.scope.now) c.in-Some-other.other)) = search rules in
     let e =
-        ap (λ o. forms.case_with selector o (option_map view.else_of c.behind_else.result)) arms
-        ∙ ap (λ k. forms.case_with selector (all_some (map (forms.arm_parts c.args.scope.now c.args.looping k) a.arms)) (option_map view.else_of c.behind_else.result)) c.kind.ensures
-        ∙ ap (forms.case_with selector (all_some (map (forms.arm_parts c.args.scope.now c.args.looping (kind_of selector)) a.arms))) other
-        ∙ sym (case_with_other c.args.scope.now c.args.looping a.field-0 a.value a.arms c.in-Some-other.other selector value)
-        ∙ ap (λ (x : Stmt). spec.alone (spec.statement_means c.args.scope.now x c.args.looping)) (sym is) in
+    ap (λ o. forms.case_with selector o (option_map view.else_of c.behind_else.result)) arms
+    ∙ ap (λ k. forms.case_with selector (all_some (map (forms.arm_parts c.args.scope.now c.args.looping k) a.arms)) (option_map view.else_of c.behind_else.result)) c.kind.ensures
+    ∙ ap (forms.case_with selector (all_some (map (forms.arm_parts c.args.scope.now c.args.looping (kind_of selector)) a.arms))) other
+    ∙ sym (case_with_other c.args.scope.now c.args.looping a.field-0 a.value a.arms c.in-Some-other.other selector value)
+    ∙ ap (λ (x : Stmt). spec.alone (spec.statement_means c.args.scope.now x c.args.looping)) (sym is) in
     subst (λ (v : Option Statements). IfOk c.case_of-in-Some-other.result (λ o. option_map view.statement_of o ≡ v)) e c.case_of-in-Some-other.ensures
