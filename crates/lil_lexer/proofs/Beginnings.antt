@@ -1,5 +1,5 @@
 -- Which bytes begin a piece: letters, digits, marks of strings, and marks.
-use Rattle.std.proofs.Common.{◌≡◌, ℕ, ◌+◌, ◌<◌, ◌≤◌, Bool, true, false, cond, ◌&&◌, ◌||◌, ◌==◌, List, [], ◌∷◌, Option, Some, None, refl, ap, sym, subst, ◌∙◌, ⊎_elim, arith}
+use Rattle.std.proofs.Common.{◌≡◌, ℕ, ◌<◌, ◌≤◌, Bool, true, false, cond, ◌&&◌, ◌||◌, ◌==◌, Option, Some, None, refl, ap, sym, subst, ◌∙◌, ⊎_elim, arith}
 use Rattle.std.proofs.lemmas.Bool.{and_parts, or_cases, eqb-true, leb-true, lt-leb, ne_eqb}
 use Rattle.std.specs.Prelude.{nat_le}
 use Rattle.lil_base.specs.Names.{is_letter, is_digit}
@@ -33,9 +33,10 @@ pub digit_plain : (b : ℕ) → is_digit b ≡ true → (is_blank b ≡ false) �
 digit_plain b h =
     let p = and_parts (nat_le 48 b) (nat_le b 57) h in
     let low : 48 ≤ b = leb-true 48 b p.0 in
-    let top : b ≤ 57 = leb-true b 57 p.1 in
-    (no_blank b (omega arith),
-    ap (λ (t : Bool). (t && nat_le b 90) || (nat_le 97 b && nat_le b 122)) (lt-leb 65 b (omega arith)) ∙ ap (λ (t : Bool). t && nat_le b 122) (lt-leb 97 b (omega arith)))
+    let top : b ≤ 57 = leb-true b 57 p.1 in (
+      no_blank b (omega arith),
+      ap (λ (t : Bool). (t && nat_le b 90) || (nat_le 97 b && nat_le b 122)) (lt-leb 65 b (omega arith)) ∙ ap (λ (t : Bool). t && nat_le b 122) (lt-leb 97 b (omega arith)),
+    )
 
 abbrev Other : ℕ → Type 0
 Other b = (is_blank b ≡ false) × (is_letter b ≡ false) × (is_digit b ≡ false)

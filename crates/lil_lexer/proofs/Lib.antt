@@ -5,3 +5,4 @@ mod Numerals
 mod Beginnings
 mod PieceLaws
 mod PieceAgain
+pub mod CutLaws

@@ -1,7 +1,7 @@
 -- The runs that numbers are, and what they say.
-use Rattle.std.proofs.Common.{◌≡◌, ℕ, suc, ◌+◌, ◌≤◌, Bool, true, false, cond, ◌&&◌, ◌||◌, ◌==◌, List, [], ◌∷◌, ◌++◌, length, take, drop, codes, Option, Some, None, Result, Ok, Err, refl, ap, sym, subst, ◌∙◌, arith, append-nil, length-append, append_assoc}
+use Rattle.std.proofs.Common.{◌≡◌, ℕ, suc, ◌+◌, Bool, true, false, cond, ◌&&◌, ◌||◌, ◌==◌, List, [], ◌∷◌, ◌++◌, length, take, drop, codes, Option, Some, None, Result, Ok, Err, refl, ap, sym, subst, ◌∙◌, arith, length-append, append_assoc}
 use Rattle.std.proofs.lemmas.Bool.{and_parts, and_from, leb-true, le-leb, both_ways}
-use Rattle.std.proofs.lemmas.List.{take-append-drop, take_at, drop_at}
+use Rattle.std.proofs.lemmas.List.{take-append-drop, drop_at}
 use Rattle.std.proofs.lemmas.List.Folds.{length-prefix_len}
 use Rattle.std.proofs.lemmas.Slice.Eq.{bytes_eq-Decides}
 use Rattle.std.specs.List.{list_all, prefix_len}
@@ -16,7 +16,7 @@ use Rattle.lil_tree.specs.Cuts.{is_number_byte, Stops}
 use Rattle.lil_tree.specs.Lexical.{is_octal_digit, is_hex_digit, value, IsRun, plain, with_h, Says, decimal, octal, code, hexadecimal, fits, fault}
 use Rattle.lil_lexer.specs.Pieces as spec
 use Rattle.lil_lexer.specs.Pieces.{begins_with, run_len, value_within, numeral}
-use Rattle.lil_lexer.proofs.Runs.{or_false, begins_is, begins_itself, all_more, all_join, all_split, all_behind, run_found, run_first, run_length, run_taken, run_left, whole_left}
+use Rattle.lil_lexer.proofs.Runs.{or_false, begins_is, begins_itself, all_more, all_join, all_behind, run_found, run_first, run_length, run_taken, run_left, whole_left}
 
 -- ---- what a run says, as a function
 -- the digits before another byte, and that byte with what is behind it

@@ -1,9 +1,9 @@
 -- A piece of the definition is found at the start of its text, and so is a fault.
-use Rattle.std.proofs.Common.{◌≡◌, ℕ, suc, ◌+◌, ◌-◌, ◌<◌, ◌≤◌, Bool, true, false, cond, ◌&&◌, ◌||◌, ◌==◌, List, [], ◌∷◌, ◌++◌, length, take, drop, Option, Some, None, Result, Ok, Err, refl, ap, sym, subst, ◌∙◌, arith, length-append, append_assoc, not}
+use Rattle.std.proofs.Common.{◌≡◌, ℕ, ◌+◌, ◌-◌, ◌<◌, ◌≤◌, Bool, true, false, cond, ◌&&◌, ◌||◌, ◌==◌, List, [], ◌∷◌, ◌++◌, length, take, Option, Some, None, Result, Ok, Err, refl, ap, sym, subst, ◌∙◌, arith, length-append, append_assoc, not}
 use Rattle.std.proofs.lemmas.Bool.{and_parts, and_from, leb-true, le-leb, le-ltb, lt-ltb, lt-leb, eq-eqb, ne_eqb, not-true, and_left, and_right}
-use Rattle.std.proofs.lemmas.List.{take_at, drop_at}
+use Rattle.std.proofs.lemmas.List.{take_at}
 use Rattle.std.specs.List.{list_all, prefix_len}
-use Rattle.std.specs.Prelude.{nat_le, nat_lt}
+use Rattle.std.specs.Prelude.{nat_le}
 use Rattle.lil_base.specs.Names.{is_letter, is_digit, is_name_byte, is_name}
 use Rattle.lil_base.specs.declared.fault.Place.{Place}
 use Rattle.lil_base.specs.declared.fault.SourceFault.{SourceFault}
@@ -91,7 +91,7 @@ unfolding number_piece
 number_at {run = run} {rest = rest} p h =
     let f = digit_first h in
     let numbered : piece (run ++ rest) p ≡ number_piece (take (run_len (run ++ rest)) (run ++ rest)) p =
-        subst (λ (run : List ℕ). piece (run ++ rest) p ≡ number_piece (take (run_len (run ++ rest)) (run ++ rest)) p) (sym f.2) (at_digit f.0 (f.1 ++ rest) p f.3) in
+    subst (λ (run : List ℕ). piece (run ++ rest) p ≡ number_piece (take (run_len (run ++ rest)) (run ++ rest)) p) (sym f.2) (at_digit f.0 (f.1 ++ rest) p f.3) in
     numbered ∙ ap (λ (run : List ℕ). number_piece run p) (take_at run rest (run_len (run ++ rest)) (sym (run_complete h)))
 
 number_again : {run rest : List ℕ} {what : TokenKind} (p : Place) → IsRun run rest → Says run what → piece (run ++ rest) p ≡ with_len (length run) (cond (fits what) (Ok what) (Err (fault 5 p)))
@@ -202,7 +202,7 @@ piece_again (comment {inside = inside} {rest = rest} h) p =
     comment_again (inside ++ rest) (Some rest) p (comment_complete h 0) ∙ counted None _ _ count
 piece_again (name {b = b} {bs = bs} {rest = rest} is all stops short) p =
     let holds = and_from (is_letter b) (nat_le (length bs) 63 && list_all is_name_byte bs) is
-        (and_from (nat_le (length bs) 63) (list_all is_name_byte bs) (le-leb (length bs) 63 (omega (arith, short))) all) in
+    (and_from (nat_le (length bs) 63) (list_all is_name_byte bs) (le-leb (length bs) 63 (omega (arith, short))) all) in
     name_at b bs rest p is all stops ∙ name_again (b ∷ bs) p holds
 piece_again (number {run = run} {rest = rest} {what = what} h says fit) p =
     number_again p h says ∙ ap (λ (t : Bool). with_len (length run) (cond t (Ok what) (Err (fault 5 p)))) fit

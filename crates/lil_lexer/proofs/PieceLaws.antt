@@ -1,8 +1,7 @@
 -- What is found at the start of a text is a piece of the definition, or the fault that stands there.
-use Rattle.std.proofs.Common.{◌≡◌, ℕ, suc, ◌+◌, ◌-◌, ◌<◌, ◌≤◌, Bool, true, false, cond, ◌&&◌, ◌||◌, ◌==◌, List, [], ◌∷◌, ◌++◌, length, get_or, take, drop, Option, Some, None, Result, Ok, Err, refl, ap, sym, subst, ◌∙◌, arith, length-append, length-drop, append_assoc, not}
+use Rattle.std.proofs.Common.{◌≡◌, ℕ, ◌+◌, ◌<◌, ◌≤◌, Bool, true, false, cond, ◌&&◌, ◌||◌, ◌==◌, List, [], ◌∷◌, ◌++◌, length, take, drop, Option, Some, None, Result, Ok, Err, refl, ap, sym, subst, ◌∙◌, arith, length-append, length-drop, append_assoc}
 use Rattle.std.proofs.lemmas.Bool.{and_parts, and_from, leb-true, leb-false, ltb-true, ltb-false, not-false, both_ways, eqb-true}
 use Rattle.std.proofs.lemmas.List.{take-append-drop, take_at, take_all}
-use Rattle.std.proofs.lemmas.List.Sums.{prefix_len-le-length}
 use Rattle.std.proofs.lemmas.Slice.Eq.{bytes_eq-Decides}
 use Rattle.std.specs.List.{list_all, prefix_len}
 use Rattle.std.specs.Prelude.{nat_le, nat_lt}
@@ -18,20 +17,13 @@ use Rattle.lil_tree.specs.Lexical as lexical
 use Rattle.lil_tree.specs.Lexical.{opens, IsInside, is_quote, goes_on, is_string_byte, EndsLine, pair, single, NoPair, named, IsPiece, blank, comment, name, number, string, mark, long_mark, fault, IsFault, bad_char, open_comment, open_string, bad_in_string, bad_number, too_large, long_name, after_byte, behind}
 use Rattle.lil_lexer.specs.declared.pieces.Piece.{Piece}
 use Rattle.lil_lexer.specs.Pieces as spec
-use Rattle.lil_lexer.specs.Pieces.{begins_with, after_comment, len_before, comment_len, comment_piece, name_piece, run_len, numeral, with_len, number_piece, line_piece, string_piece, single_piece, pair_piece, mark_piece, skipped, token}
-use Rattle.lil_lexer.proofs.Comments.{closed, comment_sound, comment_complete, inside_splits}
-use Rattle.lil_lexer.proofs.Runs.{or_false, begins_is, all_split, all_behind, run_found, run_first}
+use Rattle.lil_lexer.specs.Pieces.{begins_with, after_comment, len_before, comment_len, comment_piece, name_piece, run_len, numeral, with_len, number_piece, line_piece, string_piece, single_piece, pair_piece, mark_piece, skipped, token, Begins}
+use Rattle.lil_lexer.proofs.Comments.{comment_sound, comment_complete, inside_splits}
+use Rattle.lil_lexer.proofs.Runs.{begins_is, all_behind, run_found, run_first}
 use Rattle.lil_lexer.proofs.Numerals.{SaysSo, fitting, large, nothing, numeral_sound, Run, run_sound}
 
-pub record Found (text : List ℕ) (y : Piece) : Type 0 where
-  pub front : List ℕ
-  pub rest : List ℕ
-  pub cut : text ≡ front ++ rest
-  pub len : y.len ≡ length front
-  pub is : IsPiece front rest y.what
-
 abbrev pub Right : Place → List ℕ → Result Piece SourceFault → Type 0
-Right p text (Ok y) = Found text y
+Right p text (Ok y) = Begins text y
 Right p text (Err f) = IsFault p text f
 
 -- ---- comments
@@ -81,7 +73,7 @@ name_right b bs p is =
     cut : b ∷ bs ≡ text ++ drop n bs
     cut = ap (λ (bs : List ℕ). b ∷ bs) (sym (take-append-drop n bs))
 
-    short : (o : Option Word) → word_among all_words text ≡ o → length text ≤ 64 → Found (b ∷ bs) (record { what = Some (lexical.word_or_name text o); len = length text })
+    short : (o : Option Word) → word_among all_words text ≡ o → length text ≤ 64 → Begins (b ∷ bs) (record { what = Some (lexical.word_or_name text o); len = length text })
     short o e h = record {
       front = text;
       rest = drop n bs;
@@ -100,7 +92,7 @@ name_right b bs p is =
         long : (t : Bool) → nat_le (length (take n bs)) 63 ≡ t → is_name text ≡ false → 64 < length text
         long true fits h =
             let all = and_from (is_letter b) (nat_le (length (take n bs)) 63 && list_all is_name_byte (take n bs)) is
-                (and_from (nat_le (length (take n bs)) 63) (list_all is_name_byte (take n bs)) fits run.0) in
+            (and_from (nat_le (length (take n bs)) 63) (list_all is_name_byte (take n bs)) fits run.0) in
             absurd (both_ways (is_name text) h all)
         long false fits h = omega (arith, leb-false (length (take n bs)) 63 fits)
 
@@ -145,8 +137,8 @@ line_right q line rest p is all = go (nat_lt good (length line)) refl
         let stops = subst (λ (left : List ℕ). Stops (is_string_byte q) left) e run.1 in
         let goes = ap (list_all (goes_on q)) (sym e) ∙ all_behind (goes_on q) good line all in
         let whole : take good line ++ (b ∷ (more ++ q ∷ rest)) ≡ line ++ q ∷ rest =
-            sym (append_assoc (take good line) (b ∷ more) (q ∷ rest))
-            ∙ ap (λ (l : List ℕ). l ++ q ∷ rest) (ap (λ (left : List ℕ). take good line ++ left) (sym e) ∙ take-append-drop good line) in
+        sym (append_assoc (take good line) (b ∷ more) (q ∷ rest))
+        ∙ ap (λ (l : List ℕ). l ++ q ∷ rest) (ap (λ (left : List ℕ). take good line ++ left) (sym e) ∙ take-append-drop good line) in
         subst (λ (bs : List ℕ). IsFault p (q ∷ bs) (fault 1 (behind p (q ∷ take good line)))) whole (bad_in_string (take good line) b more rest is run.0 stops goes)
 
     go : (t : Bool) → nat_lt good (length line) ≡ t → Right p (q ∷ (line ++ q ∷ rest)) (cond t (Err (fault 1 (behind (after_byte p q) (take good line)))) (token (k.Chars line) (length line + 2)))

@@ -1,5 +1,5 @@
 -- What a text begins with, as a function of the text: a token, a blank or comment, or a fault.
-use Rattle.std.specs.Prelude.{◌≡◌, ℕ, zero, suc, ◌+◌, ◌-◌, ◌<◌, ◌≤◌, ◌^◌, ◌==◌, nat_lt, nat_le, Bool, true, false, List, [], ◌∷◌, length, take, drop, codes, Option, Some, None, Result, Ok, Err, if◌then◌else◌}
+use Rattle.std.specs.Prelude.{◌≡◌, ℕ, zero, suc, ◌+◌, ◌-◌, ◌<◌, ◌^◌, ◌==◌, nat_lt, nat_le, Bool, false, List, [], ◌∷◌, ◌++◌, length, take, drop, codes, Option, Some, None, Result, Ok, Err, if◌then◌else◌}
 use Rattle.std.specs.List.{list_all, prefix_len}
 use Rattle.std.specs.Str.{bytes_eq}
 use Rattle.lil_base.specs.Names.{is_letter, is_digit, is_name_byte, is_name}
@@ -11,7 +11,7 @@ use Rattle.lil_tree.specs.declared.token.Word.{Word}
 use Rattle.lil_tree.specs.declared.stop.ReadStop.{ReadStop}
 use Rattle.lil_tree.specs.declared.stop.ReadStop.TheVariants as why
 use Rattle.lil_tree.specs.Cuts.{is_blank, word_among, all_words}
-use Rattle.lil_tree.specs.Lexical.{opens, closes, is_octal_digit, is_hex_digit, value, is_quote, goes_on, is_string_byte, pair, single, fault, after_byte, behind}
+use Rattle.lil_tree.specs.Lexical.{opens, closes, is_octal_digit, is_hex_digit, value, is_quote, goes_on, is_string_byte, pair, single, fault, after_byte, behind, IsPiece}
 use Rattle.lil_lexer.specs.declared.pieces.Piece.{Piece}
 
 -- what code returns, beside an outcome that knows no want of memory
@@ -23,6 +23,14 @@ Reads outcome (Err why.Memory) = Unit {0}
 -- so many bytes more keep a place in its numbers
 abbrev pub HasRoom : Place → ℕ → Type 0
 HasRoom p n = (p.line + n < 2 ^ 32) × (p.column + n < 2 ^ 32) × (p.offset + n < 2 ^ 32)
+
+-- the text begins with this piece
+pub record Begins (text : List ℕ) (y : Piece) : Type 0 where
+  pub front : List ℕ
+  pub rest : List ℕ
+  pub cut : text ≡ front ++ rest
+  pub len : y.len ≡ length front
+  pub is : IsPiece front rest y.what
 
 abbrev pub token : TokenKind → ℕ → Result Piece SourceFault
 token what n = Ok (record { what = Some what; len = n })

@@ -1,12 +1,14 @@
-ghost use Rattle.std.specs.Prelude.{◌≡◌, ◌≤◌, ◌⊎◌, List, IfOk};
+ghost use Rattle.std.specs.Prelude.{◌≡◌, ◌≤◌, ◌⊎◌, List, [], ◌++◌, length, IfOk};
 ghost use Rattle.lil_base.specs.declared.fault.SourceFault.{SourceFault};
 ghost use Rattle.lil_tree.specs.declared.token.Token.{Token};
-ghost use Rattle.lil_tree.specs.Lexical.{HasTokens, HasLexicalFault};
+ghost use Rattle.lil_tree.specs.Lexical.{longest_text, before, HasTokens, HasLexicalFault};
 
-use crate::pieces::{Piece, behind, piece_at, stop};
-use lil_base::{Items, Place, Text};
+use crate::pieces::{Piece, behind, next_piece, stop};
+use lil_base::{Items, Memory, Place, Text};
 use lil_tree::{ReadStop, Token, TokenKind, Tokens};
 use std::alloc::Global;
+
+const TEXT_TOO_LONG: u8 = 65;
 
 const LONGEST_TEXT: usize = 262_144;
 
@@ -16,6 +18,36 @@ const START: Place = Place {
     offset: 0,
 };
 
+fn with_token(found: Tokens, what: Option<TokenKind>, place: Place) -> Result<Tokens, Memory>
+    ensures { IfOk result (λ all. all ≡ found ++ before place what []) }
+{
+    let mut all = found;
+    match what {
+        None => Ok(all),
+        Some(what) => {
+            all.push(Token { what, place })?;
+            Ok(all)
+        }
+    }
+}
+
+fn cut(alloc: Global, text: &[u8]) -> Result<Tokens, ReadStop>
+    requires { length text.now ≤ longest_text }
+    ensures found { IfOk result (λ ts. HasTokens text.now ts) }
+    ensures fault { (f : SourceFault) → result ≡ Err (ReadStop.Fault f) → HasLexicalFault text.now f }
+{
+    let mut found = Items::new(alloc);
+    let mut place = START;
+    let mut rest = text;
+    while !rest.is_empty() {
+        let Piece { what, len } = next_piece(alloc, rest, place)?;
+        found = with_token(found, what, place)?;
+        place = behind(place, &rest[..len]);
+        rest = &rest[len..];
+    }
+    Ok(with_token(found, Some(TokenKind::Finish), place)?)
+}
+
 /// The tokens of a text, Finish behind the last byte, or its first fault: 65 for more than 262,144 bytes, else 1 to 6
 /// (Programming in Modula-2, Representation).
 pub fn tokens(alloc: Global, t: &Text) -> Result<Tokens, ReadStop>
@@ -24,24 +56,8 @@ pub fn tokens(alloc: Global, t: &Text) -> Result<Tokens, ReadStop>
     ensures fault { (f : SourceFault) → result ≡ Err (ReadStop.Fault f) → HasLexicalFault t.now f }
     ensures exact { (f : SourceFault) → HasLexicalFault t.now f → (result ≡ Err (ReadStop.Fault f)) ⊎ (result ≡ Err ReadStop.Memory) }
 {
-    let text = t.as_slice();
-    if LONGEST_TEXT < text.len() {
-        return Err(stop(65, START));
+    if LONGEST_TEXT < t.len() {
+        return Err(stop(TEXT_TOO_LONG, START));
     }
-    let mut found = Items::new(alloc);
-    let mut place = START;
-    let mut rest = text;
-    while !rest.is_empty() {
-        let Piece { what, len } = piece_at(alloc, rest, place)?;
-        if let Some(what) = what {
-            found.push(Token { what, place })?;
-        }
-        place = behind(place, &rest[..len]);
-        rest = &rest[len..];
-    }
-    found.push(Token {
-        what: TokenKind::Finish,
-        place,
-    })?;
-    Ok(found)
+    cut(alloc, t.as_slice())
 }

@@ -8,6 +8,10 @@ use crate::pieces::stop;
 use lil_base::Place;
 use lil_tree::{ReadStop, TokenKind};
 
+const BAD_NUMBER: u8 = 4;
+
+const NUMBER_TOO_LARGE: u8 = 5;
+
 /// How many bytes the number takes with which a text begins: digits and A to F, and an H that follows them.
 #[tactic(auto, unfolding(crate::specs::Pieces::run_len))]
 pub(crate) fn run_len(text: &[u8]) -> usize
@@ -45,7 +49,7 @@ fn number(base: u32, digits: &[u8], place: Place) -> Result<TokenKind, ReadStop>
     ensures { Reads (spec.number base digits.now place) result }
 {
     match value_within(base, 65535, digits) {
-        None => Err(stop(5, place)),
+        None => Err(stop(NUMBER_TOO_LARGE, place)),
         Some(value) => Ok(TokenKind::Number(value as u16)),
     }
 }
@@ -54,7 +58,7 @@ fn code(digits: &[u8], place: Place) -> Result<TokenKind, ReadStop>
     ensures { Reads (spec.code digits.now place) result }
 {
     match value_within(8, 255, digits) {
-        None => Err(stop(5, place)),
+        None => Err(stop(NUMBER_TOO_LARGE, place)),
         Some(value) => Ok(TokenKind::CharCode(value as u8)),
     }
 }
@@ -75,6 +79,6 @@ pub(crate) fn numeral(run: &[u8], place: Place) -> Result<TokenKind, ReadStop>
     } else if all_digits(run) {
         number(10, run, place)
     } else {
-        Err(stop(4, place))
+        Err(stop(BAD_NUMBER, place))
     }
 }

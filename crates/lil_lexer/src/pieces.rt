@@ -1,8 +1,10 @@
-ghost use Rattle.std.specs.Prelude.{◌≡◌, ◌≤◌, ◌<◌, ◌+◌, length, IfSome, Ok};
+ghost use Rattle.std.specs.Prelude.{◌≡◌, ◌≤◌, ◌<◌, ◌+◌, length, IfSome, IfOk};
+ghost use Rattle.lil_base.specs.declared.fault.SourceFault.{SourceFault};
 ghost use Rattle.lil_tree.specs.Lexical as lexical;
+ghost use Rattle.lil_tree.specs.Lexical.{IsFault};
 ghost use Rattle.lil_tree.specs.declared.stop.ReadStop.TheVariants as why;
 ghost use Rattle.lil_lexer.specs.Pieces as spec;
-ghost use Rattle.lil_lexer.specs.Pieces.{Reads, HasRoom};
+ghost use Rattle.lil_lexer.specs.Pieces.{Reads, HasRoom, Begins};
 
 use crate::bytes::{
     begins_with, closes, is_blank, is_digit, is_letter, is_quote, line_len, name_len, opens,
@@ -13,6 +15,14 @@ use crate::words::word_of;
 use lil_base::{Name, Place, SourceFault, Text};
 use lil_tree::{Mark, ReadStop, TokenKind, Word};
 use std::alloc::Global;
+
+const BAD_CHAR: u8 = 1;
+
+const OPEN_COMMENT: u8 = 2;
+
+const OPEN_STRING: u8 = 3;
+
+const NAME_TOO_LONG: u8 = 6;
 
 /// What a text begins with: a token, or none for a blank or a comment, and how many bytes it takes.
 #[derive(Drop)]
@@ -110,7 +120,7 @@ fn comment_piece(inside: &[u8], place: Place) -> Result<Piece, ReadStop>
     ensures { Reads (spec.comment_piece place (spec.comment_len inside.now)) result }
 {
     match comment_len(inside) {
-        None => Err(stop(2, place)),
+        None => Err(stop(OPEN_COMMENT, place)),
         Some(len) => skipped(len + 2),
     }
 }
@@ -122,7 +132,7 @@ fn name_piece(alloc: Global, name: &[u8], place: Place) -> Result<Piece, ReadSto
     match word_of(name) {
         Some(word) => token(TokenKind::Word(word), name.len()),
         None => match Name::of_slice(alloc, name)? {
-            None => Err(stop(6, place)),
+            None => Err(stop(NAME_TOO_LONG, place)),
             Some(ident) => token(TokenKind::Ident(ident), name.len()),
         },
     }
@@ -144,7 +154,7 @@ fn line_piece(alloc: Global, mark: u8, line: &[u8], place: Place) -> Result<Piec
 {
     let good = string_len(mark, line);
     if good < line.len() {
-        return Err(stop(1, behind(after_byte(place, mark), &line[..good])));
+        return Err(stop(BAD_CHAR, behind(after_byte(place, mark), &line[..good])));
     }
     token(
         TokenKind::Chars(Text::from_slice(alloc, line)?),
@@ -159,7 +169,7 @@ fn string_piece(alloc: Global, mark: u8, inner: &[u8], place: Place) -> Result<P
 {
     let len = line_len(mark, inner);
     if !begins_with(mark, &inner[len..]) {
-        return Err(stop(3, place));
+        return Err(stop(OPEN_STRING, place));
     }
     line_piece(alloc, mark, &inner[..len], place)
 }
@@ -216,7 +226,7 @@ fn single_piece(b: u8, place: Place) -> Result<Piece, ReadStop>
     ensures { Reads (spec.single_piece place (lexical.single b)) result }
 {
     match single(b) {
-        None => Err(stop(1, place)),
+        None => Err(stop(BAD_CHAR, place)),
         Some(what) => token(what, 1),
     }
 }
@@ -239,9 +249,8 @@ fn mark_piece(b: u8, rest: &[u8], place: Place) -> Result<Piece, ReadStop>
     }
 }
 
-/// What the text at a place begins with, or the fault that stands there.
 #[tactic(auto, unfolding(crate::specs::Pieces::piece))]
-pub(crate) fn piece_at(alloc: Global, text: &[u8], place: Place) -> Result<Piece, ReadStop>
+fn piece_at(alloc: Global, text: &[u8], place: Place) -> Result<Piece, ReadStop>
     requires { HasRoom place (length text.now) }
     ensures { Reads (spec.piece text.now place) result }
 {
@@ -261,4 +270,16 @@ pub(crate) fn piece_at(alloc: Global, text: &[u8], place: Place) -> Result<Piece
             }
         }
     }
+}
+
+/// What the text at a place begins with, or the fault that stands there.
+pub(crate) fn next_piece(alloc: Global, text: &[u8], place: Place) -> Result<Piece, ReadStop>
+    requires some { 0 < length text.now }
+    requires room { HasRoom place (length text.now) }
+    ensures found { IfOk result (λ y. Begins text.now y) }
+    ensures fault { (f : SourceFault) → result ≡ Err (ReadStop.Fault f) → IsFault place text.now f }
+    ensures goes_on { IfOk result (λ y. 0 < y.len) }
+    ensures within { IfOk result (λ y. y.len ≤ length text.now) }
+{
+    piece_at(alloc, text, place)
 }

@@ -69,11 +69,13 @@ chosen_asks m s rest None = tt
 chosen_asks m s rest (Some t) = jump_asks m t s (record s { stack = rest })
 
 turn_asks : (m : Module) (at t q : ℕ) (s : State) (x n k : ℕ) → Row (turn_row m at t q s x n k)
-turn_asks m at t q s x n k = choice_row (n == 0) _ _ tt (jump_asks m t s (record s { store = slice_set (slice_set s.store (at + 1) (n - 1)) at ((x + k) % 65536) }))
+turn_asks m at t q s x n k =
+    choice_row (n == 0) _ _ tt
+    (choice_row (nat_lt (at + 2) 65536) _ _ (jump_asks m t s (record s { store = slice_set (slice_set s.store (at + 1) (n - 1)) at ((x + k) % 65536) })) tt)
 
 begun_asks : (m : Module) (at t q : ℕ) (s : State) (a k : ℕ) (rest : List ℕ) (n : Option ℕ) → Row (begun_row m at t q s a k rest n)
 begun_asks m at t q s a k rest None = jump_asks m t s (record s { stack = rest })
-begun_asks m at t q s a k rest (Some n) = tt
+begun_asks m at t q s a k rest (Some n) = choice_row (nat_lt (at + 2) 65536) _ _ tt tt
 
 trap_asks : (s : State) (k : Option TrapKind) → Row (trap_row s k)
 trap_asks s None = tt
@@ -141,8 +143,8 @@ act_asks (Jor w) q m s = one_row s s.stack _ (λ x rest. choice_row (x == 0) _ _
 act_asks (Jms w) q m s = jump_asks m (q + w) s s
 act_asks (Jfs w) q m s = one_row s s.stack _ (λ x rest. choice_row (x == 0) _ _ (jump_asks m (q + w) s (record s { stack = rest })) tt)
 act_asks (Cas v w) q m s = one_row s s.stack _ (λ x rest. choice_row (nat_le (q + 6 * v) (length m.code)) _ _ (chosen_asks m s rest (chosen m.code v q x w)) tt)
-act_asks (Fri o f t) q m s = three_rows s s.stack _ (λ a b k rest. choice_row (nat_lt (s.frame + o + 2) 65536 && (nat_lt f 2 && not (k == 0))) _ _ (begun_asks m (s.frame + o) t q s a k rest _) tt)
-act_asks (Frn v w) q m s = choice_row (nat_lt (s.frame + v + 2) 65536) _ _ (turn_asks m (s.frame + v) w q s (slice_index s.store (s.frame + v)) (slice_index s.store (s.frame + v + 1)) (slice_index s.store (s.frame + v + 2))) tt
+act_asks (Fri o f t) q m s = three_rows s s.stack _ (λ a b k rest. choice_row (nat_lt f 2 && not (k == 0)) _ _ (begun_asks m (s.frame + o) t q s a k rest _) tt)
+act_asks (Frn v w) q m s = choice_row (nat_lt (s.frame + v + 1) 65536) _ _ (turn_asks m (s.frame + v) w q s (slice_index s.store (s.frame + v)) (slice_index s.store (s.frame + v + 1)) (slice_index s.store (s.frame + v + 2))) tt
 act_asks (Trp w) q m s = trap_asks s (called_trap w)
 act_asks (Svc w) q m s = request_asks w q s (request_words w) refl
 

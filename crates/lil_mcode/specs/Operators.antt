@@ -1,5 +1,5 @@
 -- What the operators and comparisons of the processor compute.
-use Rattle.std.specs.Prelude.{ℕ, ℤ, Bool, List, ◌∷◌, Option, None, Some, Result, Ok, Err}
+use Rattle.std.specs.Prelude.{ℕ, ℤ, Bool, List, ◌∷◌, Result, Ok, Err}
 use Rattle.lil_base.specs.Words.{Whole, Cardinal, Integer, sum, difference, product, quotient, remainder, word_of}
 use Rattle.lil_base.specs.Traps.{arith_trap}
 use Rattle.lil_base.specs.declared.fault.ArithFault.{ArithFault}

@@ -1,5 +1,5 @@
 -- The instruction table: what each instruction does. Bad code is tested before traps, and traps before limits; none of them changes the state.
-use Rattle.std.specs.Prelude.{ℕ, zero, suc, ◌+◌, ◌-◌, ◌*◌, ◌%◌, ℤ, Bool, not, List, [], ◌∷◌, length, Option, Some, None, Result, Ok, Err, ◌&&◌, nat_lt, nat_le, ◌==◌, if◌then◌else◌, slice_index, slice_set, is_some, int_lt}
+use Rattle.std.specs.Prelude.{ℕ, ◌+◌, ◌-◌, ◌*◌, ◌%◌, ℤ, Bool, not, List, [], ◌∷◌, length, Option, Some, None, Result, Ok, Err, ◌&&◌, nat_lt, nat_le, ◌==◌, if◌then◌else◌, slice_index, slice_set, is_some, int_lt}
 use Rattle.lil_base.specs.Words.{Whole, Cardinal, Integer, sum, difference, product, quotient, remainder, negation, absolute, between, number_of, word_of}
 use Rattle.lil_base.specs.declared.fault.ArithFault.{ArithFault}
 use Rattle.lil_base.specs.Traps.{arith_trap}
@@ -143,11 +143,12 @@ case_row m n other q s x rest =
 -- a loop that begins: with its three words, where there is a turn, else at the place behind it
 abbrev pub begun_row : Module → ℕ → ℕ → ℕ → State → ℕ → ℕ → List ℕ → Option ℕ → Event × State
 begun_row m at t q s a k rest None = jump m t s (record s { stack = rest })
-begun_row m at t q s a k rest (Some n) = (Went, record s { place = q; stack = rest; store = loop_words s.store at a n k })
+begun_row m at t q s a k rest (Some n) =
+    if nat_lt (at + 2) 65536 then (Went, record s { place = q; stack = rest; store = loop_words s.store at a n k }) else bad s
 
 abbrev pub loop_row : Module → ℕ → ℕ → ℕ → ℕ → State → ℕ → ℕ → ℕ → List ℕ → Event × State
 loop_row m at f t q s a b k rest =
-    if nat_lt (at + 2) 65536 && (nat_lt f 2 && not (k == 0))
+    if nat_lt f 2 && not (k == 0)
     then begun_row m at t q s a k rest (after_first (turns (number_of (loop_type f) a) (number_of (loop_type f) b) (number_of Integer k)))
     else bad s
 
@@ -155,11 +156,11 @@ loop_row m at f t q s a b k rest =
 abbrev pub turn_row : Module → ℕ → ℕ → ℕ → State → ℕ → ℕ → ℕ → Event × State
 turn_row m at t q s x n k =
     if n == 0 then (Went, going s q s.stack)
-    else jump m t s (record s { store = slice_set (slice_set s.store (at + 1) (n - 1)) at ((x + k) % 65536) })
+    else (if nat_lt (at + 2) 65536 then jump m t s (record s { store = slice_set (slice_set s.store (at + 1) (n - 1)) at ((x + k) % 65536) }) else bad s)
 
 abbrev pub again_row : Module → ℕ → ℕ → ℕ → State → Event × State
 again_row m at t q s =
-    if nat_lt (at + 2) 65536
+    if nat_lt (at + 1) 65536
     then turn_row m at t q s (slice_index s.store at) (slice_index s.store (at + 1)) (slice_index s.store (at + 2))
     else bad s
 

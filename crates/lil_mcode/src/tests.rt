@@ -1,4 +1,4 @@
-use crate::{Event, Machine};
+use crate::{Event, Instr, Machine, encode, encode_entry};
 use lil_base::{Bytes, Memory, Name, TrapKind};
 use std::alloc::Global;
 
@@ -17,7 +17,6 @@ fn begun(alloc: Global, code: &[u8; 32]) -> Result<Option<Machine>, Memory> {
     Ok(Some(machine))
 }
 
-#[tactic(auto, using(crate::proofs::Requests::request_has_one))]
 fn asked(machine: &mut Machine) -> Option<u16> {
     match machine.step() {
         Event::Request(_) => {
@@ -80,4 +79,99 @@ fn stops(rt: HostRuntime) {
     let _ = other.step();
     let event = other.step();
     assert!(rt; event == Event::BadCode);
+}
+
+// A code, how many of its instructions run before it shows a word, and that word.
+#[derive(Drop)]
+struct Trial {
+    code: [u8; 32],
+    steps: u8,
+    word: u16,
+}
+
+fn shown(alloc: Global, trial: &Trial) -> Result<Option<u16>, Memory> {
+    let Some(mut machine) = begun(alloc, &trial.code)? else {
+        return Ok(None);
+    };
+    for _ in 0..trial.steps {
+        let _ = machine.step();
+    }
+    Ok(asked(&mut machine))
+}
+
+#[test]
+fn shows(rt: HostRuntime) {
+    let trials = [
+        // LIW -7; LIB 2; DVI; SVC 2
+        Trial {
+            code: [
+                1, 0xff, 0xf9, 2, 2, 0x48, 0x7d, 2, 0, 0, 0, 0, 0, 0, 0, 0, 0, 0, 0, 0, 0, 0, 0, 0,
+                0, 0, 0, 0, 0, 0, 0, 0,
+            ],
+            steps: 3,
+            word: 0xfffd,
+        },
+        // LIW -7; LIB 2; MDI; SVC 2
+        Trial {
+            code: [
+                1, 0xff, 0xf9, 2, 2, 0x49, 0x7d, 2, 0, 0, 0, 0, 0, 0, 0, 0, 0, 0, 0, 0, 0, 0, 0, 0,
+                0, 0, 0, 0, 0, 0, 0, 0,
+            ],
+            steps: 3,
+            word: 0xffff,
+        },
+        // LIS 0; JAN 6; LIB 9; SVC 2
+        Trial {
+            code: [
+                0x10, 0x72, 0, 6, 2, 9, 0x7d, 2, 0, 0, 0, 0, 0, 0, 0, 0, 0, 0, 0, 0, 0, 0, 0, 0, 0,
+                0, 0, 0, 0, 0, 0, 0,
+            ],
+            steps: 2,
+            word: 0,
+        },
+        // LIS 1; JAN 6; LIB 9; SVC 2
+        Trial {
+            code: [
+                0x11, 0x72, 0, 6, 2, 9, 0x7d, 2, 0, 0, 0, 0, 0, 0, 0, 0, 0, 0, 0, 0, 0, 0, 0, 0, 0,
+                0, 0, 0, 0, 0, 0, 0,
+            ],
+            steps: 3,
+            word: 9,
+        },
+        // LIB 5; CAS 2 30, 3 to 9: 22, 5 to 9: 19; 19: LIS 7; SVC 2; 22: LIS 8; SVC 2
+        Trial {
+            code: [
+                2, 5, 0x76, 0, 2, 0, 30, 0, 3, 0, 9, 0, 22, 0, 5, 0, 9, 0, 19, 0x17, 0x7d, 2, 0x18,
+                0x7d, 2, 0, 0, 0, 0, 0, 0, 0,
+            ],
+            steps: 3,
+            word: 8,
+        },
+        // LIS 3; LIS 9; LIS 3; FRI 4 0 24; 9: LGW 0; LLW 4; ADC; SGW 0; FRN 4 9; 24: LGW 0; SVC 2
+        Trial {
+            code: [
+                0x13, 0x19, 0x13, 0x77, 0, 4, 0, 0, 24, 0x24, 0, 0, 0x20, 0, 4, 0x40, 0x26, 0, 0,
+                0x78, 0, 4, 0, 9, 0x24, 0, 0, 0x7d, 2, 0, 0, 0,
+            ],
+            steps: 20,
+            word: 18,
+        },
+    ];
+    for trial in &trials {
+        let word = shown(rt.alloc(), trial).expect(&rt, "memory");
+        assert!(rt; word == Some(trial.word));
+    }
+}
+
+#[test]
+fn encodes(rt: HostRuntime) {
+    let mut code = Bytes::new(rt.alloc());
+    encode(&mut code, Instr::Fri(4, 1, 258)).expect(&rt, "memory");
+    encode(&mut code, Instr::Lis(9)).expect(&rt, "memory");
+    encode(&mut code, Instr::Cas(1, 513)).expect(&rt, "memory");
+    encode_entry(&mut code, 65535, 2, 300).expect(&rt, "memory");
+    let wanted: [u8; 18] = [
+        0x77, 0, 4, 1, 1, 2, 0x19, 0x76, 0, 1, 2, 1, 255, 255, 0, 2, 1, 44,
+    ];
+    assert!(rt; code.as_slice() == wanted.as_slice());
 }

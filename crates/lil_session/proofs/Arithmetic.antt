@@ -1,87 +1,108 @@
--- The machine's operators on words are the meaning's on scalars.
-use Rattle.std.proofs.Common.{◌≡◌, ℕ, ◌-◌, ◌<◌, ◌≤◌, Bool, true, false, cond, not, ◌&&◌, Some, Ok, Err, refl, ap, ◌∙◌, subst, ◌⊎◌, inl, inr, arith}
-use Rattle.std.specs.Prelude.{ℤ, pos, negsuc, int_lt, nat_lt, nat_le}
-use Rattle.std.proofs.lemmas.Bool.{lt-ltb, le-ltb, cases_Bool, and_parts}
+-- The words of values say their numbers, and results lie in their type.
+use Rattle.std.proofs.Common.{◌≡◌, ◌==◌, Bool, true, false, cond, not, ◌&&◌, ◌||◌, Result, Ok, Err, refl, sym, ap, ◌∙◌, ◌⊎◌, inl, inr, arith}
+use Rattle.std.specs.Prelude.{ℤ, pos, negsuc, int_lt, nat_le}
+use Rattle.std.proofs.lemmas.Bool.{cases_Bool, eqb-true, eq-eqb, false_from_ne_true, true≢false}
+use Rattle.std.proofs.lemmas.Bool.Decides.{nat_tests}
+use Rattle.std.proofs.lemmas.Int.{ints}
+use Rattle.lil_base.specs.Words.{Whole, in_type, between, is_zero, kept, sum, difference, product, quotient, remainder, negation, number_of, word_of}
 use Rattle.lil_base.specs.declared.fault.ArithFault.{ArithFault}
-use Rattle.lil_base.specs.Words.{Whole, Cardinal, Integer, between, in_type, kept, number_of, word_of}
-use Rattle.lil_tree.specs.declared.operator.TwoOp.{TwoOp}
-use Rattle.lil_tree.specs.declared.operator.TwoOp.TheVariants.{Plus, Minus}
-use Rattle.lil_tree.specs.Kinds.{OfWhole}
-use Rattle.lil_tree.specs.Scalars.{Scalar, Number, Truth, Character, SetOf, ToObject, ToWorkspace, ToProcedure, ToCoroutine, Nothing, within, scalar_word}
-use Rattle.lil_meaning.specs.Steps.{whole_of, operation}
-use Rattle.lil_mcode.specs.declared.instr.Instr.{Instr}
-use Rattle.lil_mcode.specs.declared.instr.Instr.TheVariants.{Adc, Sbc}
-use Rattle.lil_mcode.specs.State.{Module, State}
-use Rattle.lil_mcode.specs.Table.{act, two_row}
-use Rattle.lil_session.specs.Rows.{operation_code}
-use Rattle.lil_session.proofs.Homes.{yes, no}
+use Rattle.lil_base.specs.declared.fault.ArithFault.TheVariants.{DivZero}
+use Rattle.lil_base.proofs.Laws.{number_of-word, kept_ok}
+use Rattle.lil_tree.specs.Kinds.{Kind, OfWhole, OfTruth, OfCharacter, OfEnumeration}
+use Rattle.lil_tree.specs.Scalars.{Scalar, Number, Truth, Character, SetOf, ToObject, ToWorkspace, ToProcedure, ToCoroutine, Nothing, within, scalar_word, ordinal_of}
+use Rattle.lil_tree.specs.Sizes.{is_base}
+use Rattle.lil_meaning.specs.Steps.{whole_of, is_same, is_other}
+use Rattle.lil_session.specs.Rows.{compared_as}
 
--- the number that the word of a number of the type says
-pub reads_number : (t : Whole) (z : ℤ) → in_type t z ≡ true → number_of t (word_of z) ≡ z
-reads_number Cardinal (pos n) h = refl
-reads_number Cardinal (negsuc n) h = cc
-reads_number Integer (pos n) h =
-    let p = and_parts (not (int_lt (pos n) (negsuc 32767))) (not (nat_lt 32767 n)) h in
-    let le : n < 32768 = grind arith in
-    yes (nat_lt n 32768) (pos n) (negsuc (65535 - n)) (lt-ltb n 32768 le)
-reads_number Integer (negsuc n) h =
-    let p = and_parts (not (nat_lt 32767 n)) (not (int_lt (pos 32767) (negsuc n))) h in
-    let le : n < 32768 = grind arith in
-    let high : 32768 ≤ 65535 - n = omega arith in
-    no (nat_lt (65535 - n) 32768) (pos (65535 - n)) (negsuc (65535 - (65535 - n))) (le-ltb (65535 - n) 32768 high)
-    ∙ ap negsuc (let e : 65535 - (65535 - n) ≡ n = omega arith in e)
+-- a value's word is its number's
+pub word_is : (v : Scalar) → scalar_word v ≡ word_of (ordinal_of v)
+word_is (Number z) = refl
+word_is (Truth b) = refl
+word_is (Character c) = refl
+word_is (SetOf s) = refl
+word_is (ToObject o) = refl
+word_is (ToWorkspace w) = refl
+word_is (ToProcedure m p) = refl
+word_is (ToCoroutine c) = refl
+word_is Nothing = refl
+
+-- the word of a value of a kind that compares says its number
+pub reads_ordinal : (k : Kind) (v : Scalar) → is_base k ≡ true → within k v ≡ true → number_of (compared_as k) (scalar_word v) ≡ ordinal_of v
+reads_ordinal (OfWhole t) (Number z) base h = number_of-word t z h
+reads_ordinal OfTruth (Truth b) base h = refl
+reads_ordinal OfCharacter (Character c) base h = refl
+reads_ordinal (OfEnumeration n) (Number (pos z)) base h = refl
+reads_ordinal k v base h = cc
 
 pub reads : (t : Whole) (v : Scalar) → within (OfWhole t) v ≡ true → number_of t (scalar_word v) ≡ whole_of v
-reads t (Number z) h = reads_number t z h
-reads t (Truth b) h = cc
-reads t (Character c) h = cc
-reads t (SetOf c) h = cc
-reads t (ToObject o) h = cc
-reads t (ToWorkspace w) h = cc
-reads t (ToProcedure m p) h = cc
-reads t (ToCoroutine c) h = cc
-reads t Nothing h = cc
+reads t (Number z) h = number_of-word t z h
+reads t v h = cc
 
--- the row of an operator's instruction
-pub act_operation : (o : TwoOp) (t : Whole) (i : Instr) → operation_code o t ≡ Some i → (q : ℕ) (own : Module) (m : State) → act i q own m ≡ two_row (operation o) t q m m.stack
-act_operation Plus Cardinal i h q own m =
-    let e : i ≡ Adc = cc in
-    ap (λ (j : Instr). act j q own m) e
-act_operation Minus Cardinal i h q own m =
-    let e : i ≡ Sbc = cc in
-    ap (λ (j : Instr). act j q own m) e
-act_operation Plus Integer i h q own m = cc
-act_operation Minus Integer i h q own m = cc
+self_same : (x : ℤ) → is_same x x ≡ true
+self_same x = grind (arith, ints)
+
+same_is : (x y : ℤ) → is_same x y ≡ true → x ≡ y
+same_is x y h = grind (arith, ints)
+
+pub whole_word : (t : Whole) (v : Scalar) → within (OfWhole t) v ≡ true → word_of (whole_of v) ≡ scalar_word v
+whole_word t (Number z) h = refl
+whole_word t v h = cc
+
+-- numbers that their words say are the same where their words are
+pub same_words : (t : Whole) (x y : ℤ) → number_of t (word_of x) ≡ x → number_of t (word_of y) ≡ y → (word_of x == word_of y) ≡ is_same x y
+same_words t x y first second = by (cases_Bool (is_same x y))
+  where
+    by : (is_same x y ≡ true) ⊎ (is_same x y ≡ false) → (word_of x == word_of y) ≡ is_same x y
+    by (inl e) = eq-eqb (word_of x) (word_of y) (ap word_of (same_is x y e)) ∙ sym e
+    by (inr e) =
+        false_from_ne_true (word_of x == word_of y)
+        (λ h.
+        let one : word_of x ≡ word_of y = eqb-true (word_of x) (word_of y) h in
+        let same : x ≡ y = sym first ∙ ap (number_of t) one ∙ second in
+        true≢false (sym (self_same x) ∙ ap (is_same x) same ∙ e))
+        ∙ sym e
+
+pub other_is : (x y : ℤ) → is_other x y ≡ not (is_same x y)
+other_is x y = by (int_lt x y) (int_lt y x)
+  where
+    by : (a b : Bool) → (a || b) ≡ not (not a && not b)
+    by true b = refl
+    by false true = refl
+    by false false = refl
 
 -- a result lies in its type
-kept_by : (t : Whole) (z : ℤ) (b : Bool) → in_type t z ≡ b → (y : ℤ) → cond b (Ok z) (Err Rattle.lil_base.specs.declared.fault.ArithFault.TheVariants.Overflow) ≡ Ok y → in_type t y ≡ true
-kept_by t z true h y e =
-    let same : z ≡ y = cc in
-    subst (λ (x : ℤ). in_type t x ≡ true) same h
-kept_by t z false h y e = cc
+kept_fits : (t : Whole) (z y : ℤ) → kept t z ≡ Ok y → in_type t y ≡ true
+kept_fits t z y e =
+    let p = kept_ok t z y e in
+    ap (in_type t) (sym p.0) ∙ p.1
 
-pub kept_fits : (t : Whole) (z y : ℤ) → kept t z ≡ Ok y → in_type t y ≡ true
-kept_fits t z y e = kept_by t z (in_type t z) refl y e
+divided_fits : (t : Whole) (none : Bool) (z y : ℤ) → cond none (Err DivZero) (kept t z) ≡ Ok y → in_type t y ≡ true
+divided_fits t true z y e = cc
+divided_fits t false z y e = kept_fits t z y e
 
-pub operation_fits : (o : TwoOp) (t : Whole) (x y z : ℤ) → operation o t x y ≡ Ok z → in_type t z ≡ true
-operation_fits Plus t x y z e = kept_fits t _ z e
-operation_fits Minus t x y z e = kept_fits t _ z e
+-- an operation whose results lie in their type
+abbrev pub Fitting : (Whole → ℤ → ℤ → Result ℤ ArithFault) → Type 0
+Fitting f = (t : Whole) (x y z : ℤ) → f t x y ≡ Ok z → in_type t z ≡ true
 
--- a character's word is in its range, as the machine tests it
-pub chr_cases : (v : Scalar) → within (OfWhole Cardinal) v ≡ true
-    → ((between (pos 0) (whole_of v) (pos 255) ≡ true) × ((nat_le 0 (scalar_word v) && nat_le (scalar_word v) 255) ≡ true) × (word_of (whole_of v) ≡ scalar_word v) × (nat_le (scalar_word v) 255 ≡ true))
-    ⊎ ((between (pos 0) (whole_of v) (pos 255) ≡ false) × ((nat_le 0 (scalar_word v) && nat_le (scalar_word v) 255) ≡ false))
-chr_cases (Number (pos n)) h = by (cases_Bool (nat_lt 255 n))
-  where
-    by : (nat_lt 255 n ≡ true) ⊎ (nat_lt 255 n ≡ false) → ((between (pos 0) (pos n) (pos 255) ≡ true) × ((nat_le 0 n && nat_le n 255) ≡ true) × (n ≡ n) × (nat_le n 255 ≡ true)) ⊎ ((between (pos 0) (pos n) (pos 255) ≡ false) × ((nat_le 0 n && nat_le n 255) ≡ false))
-    by (inl e) = inr (grind arith, grind arith)
-    by (inr e) = inl (grind arith, grind arith, refl, grind arith)
-chr_cases (Number (negsuc n)) h = cc
-chr_cases (Truth b) h = cc
-chr_cases (Character c) h = cc
-chr_cases (SetOf c) h = cc
-chr_cases (ToObject o) h = cc
-chr_cases (ToWorkspace w) h = cc
-chr_cases (ToProcedure m p) h = cc
-chr_cases (ToCoroutine c) h = cc
-chr_cases Nothing h = cc
+pub sum_fits : Fitting sum
+sum_fits t x y z e = kept_fits t _ z e
+
+pub difference_fits : Fitting difference
+difference_fits t x y z e = kept_fits t _ z e
+
+pub product_fits : Fitting product
+product_fits t x y z e = kept_fits t _ z e
+
+pub quotient_fits : Fitting quotient
+quotient_fits t x y z e = divided_fits t (is_zero y) _ z e
+
+pub remainder_fits : Fitting remainder
+remainder_fits t x y z e = divided_fits t (is_zero y) _ z e
+
+pub negation_fits : (t : Whole) (x z : ℤ) → negation t x ≡ Ok z → in_type t z ≡ true
+negation_fits t x z e = kept_fits t _ z e
+
+-- a number that CHR takes is a character's
+pub chr_fits : (z : ℤ) → between (pos 0) z (pos 255) ≡ true → nat_le (word_of z) 255 ≡ true
+chr_fits (pos n) h = grind (arith, nat_tests)
+chr_fits (negsuc n) h = cc

@@ -2,6 +2,7 @@
 use Rattle.std.proofs.Common.{◌≡◌, inl, inr, ℕ, true, List, Option, refl, sym, ap, ◌∙◌, subst, arith}
 use Rattle.lil_base.specs.declared.fault.TrapKind.{TrapKind}
 use Rattle.lil_tree.specs.Resolved.{Resolved}
+use Rattle.lil_tree.specs.Sizes.{IsSmall}
 use Rattle.lil_meaning.specs.World.{World}
 use Rattle.lil_mcode.specs.State.{Module, State}
 use Rattle.lil_mcode.specs.Calls.{Machine}
@@ -14,35 +15,37 @@ use Rattle.lil_session.specs.Running.{Finish, Running, finish_of, HasRun, IsCut}
 use Rattle.lil_session.specs.Loaded.{loaded, IsAtBody, body_trap, EndingAnswers}
 use Rattle.lil_session.specs.Outcome.{settled}
 use Rattle.lil_session.specs.Counted.{FinishAnswers, MachineRan, MachineAnswers}
+use Rattle.lil_session.proofs.Enough.{enough}
 
-module _ (p : Resolved) (code : List ℕ) (t : Translates p code) (steps : ℕ) (old new : Option (List ℕ)) (w : World) where
+module _ (p : Resolved) (code : List ℕ) (small : IsSmall p) (t : Translates p code) (steps : ℕ) (old new : Option (List ℕ)) (w : World) where
   abbrev start : State
   start = (loaded p code).state
 
   -- a run that took its budget or came to its end
-  ran_all : (f : Finish) (s : Status) → HasRun start steps f old new w → FinishAnswers s steps steps f → (f ≡ Running → settled s ≡ true → s ≡ a.StepsSpent) → MachineRan p w steps old new s
-  ran_all f s ran fits spent = record {
+  ran_all : (f : Finish) (s : Status) → HasRun start steps f old new w → FinishAnswers s steps steps f → (f ≡ Running → settled s ≡ true → s ≡ a.StepsSpent) → (s ≡ a.StepsSpent → f ≡ Running) → MachineRan p w steps old new s
+  ran_all f s ran fits spent goes = record {
     code = code;
     translates = t;
     done = steps;
     within = omega arith;
     finish = subst (λ (x : Finish). FinishAnswers s steps steps x) ran.finish fits;
     shown = λ _. ran.shown;
-    spent = λ goes. spent (ran.finish ∙ goes);
+    spent = λ on. spent (ran.finish ∙ on);
+    enough = λ is. enough p code small t w steps (sym ran.finish ∙ goes is);
   }
 
   pub machine_end : (machine : Machine) (e : Ending) (s : Status) → HasRun start steps (finish_of e) old new w → EndingAnswers machine e s → ((k : TrapKind) → e ≡ ending.Trapped k → (m : Module) × IsAtBody machine m) → MachineAnswers p w steps old new s
   machine_end machine ending.Done s ran is at =
-      subst (λ (x : Status). MachineAnswers p w steps old new x) (sym is) (ran_all (finish_of ending.Done) a.Done ran refl (λ goes ok. cc))
+      subst (λ (x : Status). MachineAnswers p w steps old new x) (sym is) (ran_all (finish_of ending.Done) a.Done ran refl (λ goes ok. cc) (λ is. cc))
   machine_end machine (ending.Trapped k) s ran (inl memory) at =
-      subst (λ (x : Status). MachineAnswers p w steps old new x) (sym memory) (inr (ran_all (finish_of (ending.Trapped k)) a.Memory ran tt (λ goes ok. cc)))
+      subst (λ (x : Status). MachineAnswers p w steps old new x) (sym memory) (inr (ran_all (finish_of (ending.Trapped k)) a.Memory ran tt (λ goes ok. cc) (λ is. cc)))
   machine_end machine (ending.Trapped k) s ran (inr is) at =
       let body = at k refl in
-      subst (λ (x : Status). MachineAnswers p w steps old new x) (sym (is body.0 body.1)) (ran_all (finish_of (ending.Trapped k)) (a.Trapped (body_trap body.0 k)) ran refl (λ goes ok. cc))
+      subst (λ (x : Status). MachineAnswers p w steps old new x) (sym (is body.0 body.1)) (ran_all (finish_of (ending.Trapped k)) (a.Trapped (body_trap body.0 k)) ran refl (λ goes ok. cc) (λ is. cc))
   machine_end machine (ending.Limited k) s ran is at = absurd is
   machine_end machine ending.Broken s ran is at = absurd is
   machine_end machine ending.Spent s ran is at =
-      subst (λ (x : Status). MachineAnswers p w steps old new x) (sym is) (ran_all (finish_of ending.Spent) a.StepsSpent ran (refl, refl) (λ goes ok. refl))
+      subst (λ (x : Status). MachineAnswers p w steps old new x) (sym is) (ran_all (finish_of ending.Spent) a.StepsSpent ran (refl, refl) (λ goes ok. refl) (λ is. refl))
 
   -- a run that the screen stopped: its request failed
   pub machine_cut : IsCut start steps old new w → MachineAnswers p w steps old new a.ScreenFault
@@ -54,6 +57,7 @@ module _ (p : Resolved) (code : List ℕ) (t : Translates p code) (steps : ℕ) 
     finish = (cut.within, cut.finish);
     shown = λ differs. absurd (differs refl);
     spent = λ goes ok. cc;
+    enough = λ is. cc;
   }
 
 -- an answer whose lines failed, or that wanted memory for them, comes from the same run
@@ -84,4 +88,5 @@ module _ (p : Resolved) (w : World) (steps : ℕ) (old new : Option (List ℕ)) 
     finish = tt;
     shown = λ _. ran.shown (λ fault. (let e = sym is ∙ ap settled fault in cc));
     spent = λ goes ok. cc;
+    enough = λ spent. cc;
   }

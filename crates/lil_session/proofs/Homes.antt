@@ -2,8 +2,9 @@
 use Rattle.std.proofs.Common.{◌≡◌, ℕ, ◌<◌, Bool, true, false, cond, eqb, List, [], length, get_or, set, refl, sym, ap, ◌∙◌, ◌⊎◌, inl, inr, arith, length-set}
 use Rattle.std.proofs.lemmas.Bool.{eq-eqb, cases_Bool, eqb-true, and_parts, and_from}
 use Rattle.std.proofs.lemmas.List.{get_or-set_same, get_or-set_other}
-use Rattle.lil_tree.specs.Kinds.{Kind}
-use Rattle.lil_tree.specs.Scalars.{Scalar, within, scalar_word}
+use Rattle.lil_base.specs.Words.{between}
+use Rattle.lil_tree.specs.Kinds.{Kind, OfWhole, OfTruth, OfCharacter, OfEnumeration, OfRange, base_of}
+use Rattle.lil_tree.specs.Scalars.{Scalar, within, scalar_word, ordinal_of}
 use Rattle.lil_meaning.specs.Cells.{Root, Global, Local, Object, Place, Cells, same_root, stored, alone}
 
 pub yes : {A : Type 0} (b : Bool) (x y : A) → b ≡ true → cond b x y ≡ x
@@ -30,10 +31,18 @@ pub record Home : Type 0 where
   -- what the machine's own words are
   pub shadow : ℕ → ℕ
 
--- a scalar of a kind, as a word
+-- A scalar of a kind, as a word. A fresh cell of a range may lie outside of it, so the scalar is one of the kind that the range was taken from.
 pub record IsWord (k : Kind) (v : Scalar) (w : ℕ) : Type 0 where
   pub word : w ≡ scalar_word v
-  pub fits : within k v ≡ true
+  pub fits : within (base_of k) v ≡ true
+
+-- a value of a kind is one of the kind that it was taken from
+pub within_base : (k : Kind) (v : Scalar) → within k v ≡ true → within (base_of k) v ≡ true
+within_base (OfWhole t) v h = h
+within_base OfTruth v h = h
+within_base OfCharacter v h = h
+within_base (OfEnumeration n) v h = h
+within_base (OfRange base low high) v h = within_base base v (and_parts (within base v) (between low (ordinal_of v) high) h).0
 
 -- the store has the cells
 pub record Mem (h : Home) (cells : Cells) (store : List ℕ) : Type 0 where
@@ -104,7 +113,7 @@ mem_stored h cells store r k v mem living fits = record {
         let value : stored cells (whole_root r) (alone v) s [] ≡ v = yes (same_root r s) v (cells s []) is in
         record {
           word = ap (λ (z : Root). get_or (set store (h.base r) (scalar_word v)) (h.base z) 0) (sym one) ∙ get_or-set_same store (h.base r) (scalar_word v) 0 within_store ∙ ap scalar_word (sym value);
-          fits = ap (within j) value ∙ ap (λ (z : Kind). within z v) (sym (same_kind s j e one)) ∙ fits;
+          fits = ap (within (base_of j)) value ∙ ap (λ (z : Kind). within (base_of z) v) (sym (same_kind s j e one)) ∙ within_base k v fits;
         }
     by s j e (inr is) =
         let value : stored cells (whole_root r) (alone v) s [] ≡ cells s [] = no (same_root r s) v (cells s []) is in
@@ -115,5 +124,5 @@ mem_stored h cells store r k v mem living fits = record {
         let old = mem.holds s j e in
         record {
           word = get_or-set_other store (h.base r) (h.base s) (scalar_word v) 0 apart ∙ old.word ∙ ap scalar_word (sym value);
-          fits = ap (within j) value ∙ old.fits;
+          fits = ap (within (base_of j)) value ∙ old.fits;
         }

@@ -1,28 +1,32 @@
 -- From a loaded program.
-use Rattle.std.proofs.Common.{◌≡◌, ℕ, zero, suc, ◌+◌, ◌-◌, ◌*◌, ◌<◌, true, cond, Option, Some, None, List, [], ◌∷◌, length, get_or, refl, sym, ap, ◌∙◌, subst, arith}
-use Rattle.std.specs.Prelude.{slice_get, nat_lt, nat_le}
-use Rattle.std.proofs.lemmas.Bool.{le-leb, le-ltb, lt-ltb}
+use Rattle.std.proofs.Common.{◌≡◌, ℕ, zero, suc, ◌+◌, ◌-◌, ◌*◌, ◌<◌, ◌≤◌, Bool, true, false, cond, Option, Some, None, List, [], ◌∷◌, length, get_or, refl, sym, ap, ◌∙◌, subst, arith}
+use Rattle.std.specs.Prelude.{pos, slice_get, nat_lt, nat_le}
+use Rattle.std.proofs.lemmas.Bool.{le-leb, le-ltb, lt-ltb, ltb-true}
+use Rattle.std.proofs.lemmas.Int.{ints}
 use Rattle.std.proofs.lemmas.Option.{slice_get_within}
-use Rattle.lil_base.specs.Words.{Cardinal, Integer}
-use Rattle.lil_tree.specs.Kinds.{Kind, OfWhole, OfCharacter}
+use Rattle.lil_base.specs.Words.{Cardinal, Integer, between}
+use Rattle.lil_tree.specs.Kinds.{Kind, OfWhole, OfTruth, OfCharacter, OfEnumeration, OfRange, base_of}
 use Rattle.lil_tree.specs.Scalars.{within, scalar_word, zero_of}
-use Rattle.lil_tree.specs.Resolved.{Statement, Resolved}
+use Rattle.lil_tree.specs.Resolved.{Statement, Assign, Request, If, Case, While, Repeat, Loop, Exit, For, Statements, Empty, Then, Arms, NoElse, Else, Arm, Resolved}
 use Rattle.lil_meaning.specs.Cells.{Root, Global, Local, Object, zero_by, fresh_cells}
 use Rattle.lil_meaning.specs.World.{World}
-use Rattle.lil_meaning.specs.Items.{Item, Perform, End}
-use Rattle.lil_meaning.specs.Runs.{doing, begun}
+use Rattle.lil_meaning.specs.Items.{Item, Perform, End, doing}
+use Rattle.lil_meaning.specs.Runs.{begun}
+use Rattle.lil_mcode.specs.declared.instr.Instr.TheVariants.{Rtn}
 use Rattle.lil_mcode.specs.declared.machine.Event.TheVariants.{Went}
 use Rattle.lil_mcode.specs.State.{Module, State, spliced, zeros, cleared}
 use Rattle.lil_mcode.specs.Table.{begun_body}
-use Rattle.lil_tree.specs.Sizes.{IsSmall}
-use Rattle.lil_session.specs.Rows.{Layout, BodyAt, offsets_from, layout_of, Translates}
+use Rattle.lil_tree.specs.Sizes.{IsSmall, size, statement_size, body_size, arms_size, statement_loops, body_loops, arms_loops, frame_words}
+use Rattle.lil_session.specs.Rows.{Layout, offsets_from, layout_of, Translates}
 use Rattle.lil_session.specs.Running.{Run, mrun, running, advanced}
 use Rattle.lil_session.specs.Loaded.{body_alone, loaded}
 use Rattle.lil_session.specs.Outcome.{state_of}
 use Rattle.lil_session.proofs.Homes.{yes, no, Type', Absent, Word, Owner, Of, Own, Free, Home, Mem}
-use Rattle.lil_session.proofs.Matched.{Quiet, Rows, Ahead, Shared}
-use Rattle.lil_session.proofs.Steps.{advances, rows_ahead}
-use Rattle.lil_session.proofs.Splices.{spliced_length, spliced_before, spliced_there, zeros_length, zeros_word, cleared_none}
+use Rattle.lil_session.proofs.Matched.{Quiet, Around, Ahead, Shared}
+use Rattle.lil_session.proofs.Steps.{advances, at_once, rows_ahead}
+use Rattle.lil_session.proofs.Orders.{instr_within}
+use Rattle.lil_session.proofs.Control.{body_rows}
+use Rattle.lil_session.proofs.Splices.{spliced_length, spliced_before, spliced_there, zeros_length, zeros_word}
 use Rattle.lil_session.proofs.Whole.{Agrees, still_agrees, follows}
 
 abbrev typed_by : Option Kind → Type'
@@ -37,10 +41,10 @@ type_of kinds (Global (suc (suc m)) x) = Absent
 type_of kinds (Local a x) = Absent
 type_of kinds (Object o) = Absent
 
-abbrev base_of : Root → ℕ
-base_of (Global m x) = 1 + x
-base_of (Local a x) = 0
-base_of (Object o) = 0
+abbrev place_of : Root → ℕ
+place_of (Global m x) = 1 + x
+place_of (Local a x) = 0
+place_of (Object o) = 0
 
 -- data, then the mark of the body, then room
 abbrev owner_at : ℕ → ℕ → Owner
@@ -68,28 +72,48 @@ lives kinds (Object o) k e = cc
 
 zero_word : (k : Kind) → scalar_word (zero_of k) ≡ 0
 zero_word (OfWhole t) = refl
+zero_word OfTruth = refl
 zero_word OfCharacter = refl
+zero_word (OfEnumeration n) = refl
+zero_word (OfRange k low high) = zero_word k
 
-zero_fits : (k : Kind) → within k (zero_of k) ≡ true
+zero_constant : (n : ℕ) → between (pos 0) (pos 0) (pos n) ≡ true
+zero_constant n = grind (arith, ints)
+
+zero_fits : (k : Kind) → within (base_of k) (zero_of k) ≡ true
 zero_fits (OfWhole Cardinal) = refl
 zero_fits (OfWhole Integer) = refl
+zero_fits OfTruth = refl
 zero_fits OfCharacter = refl
+zero_fits (OfEnumeration n) = zero_constant (n - 1)
+zero_fits (OfRange k low high) = zero_fits k
+
+-- the words of the FORs are fewer than the bytes of the code
+mutual
+  statement_small : (s : Statement) → 3 * statement_loops s ≤ statement_size s
+  statement_small (Assign d e) = omega arith
+  statement_small (Request r given) = omega arith
+  statement_small (If c a b) = omega (arith, body_small a, body_small b)
+  statement_small (Case e arms) = omega (arith, arms_small arms)
+  statement_small (While c body) = omega (arith, body_small body)
+  statement_small (Repeat body c) = omega (arith, body_small body)
+  statement_small (Loop body) = omega (arith, body_small body)
+  statement_small Exit = omega arith
+  statement_small (For d a b step body) = omega (arith, body_small body)
+
+  body_small : (b : Statements) → 3 * body_loops b ≤ body_size b
+  body_small Empty = omega arith
+  body_small (Then s ss) = omega (arith, statement_small s, body_small ss)
+
+  arms_small : (a : Arms) → 3 * arms_loops a ≤ arms_size a
+  arms_small NoElse = omega arith
+  arms_small (Else body) = omega (arith, body_small body)
+  arms_small (Arm labels body rest) = omega (arith, body_small body, arms_small rest)
 
 offset_is : (ks : List Kind) (n x o : ℕ) → slice_get (offsets_from n ks) x ≡ Some o → o ≡ n + x
 offset_is [] n x o e = cc
 offset_is (k ∷ ks) n zero o e = let same : n ≡ o = cc in omega arith
 offset_is (k ∷ ks) n (suc x) o e = omega (arith, offset_is ks (suc n) x o e)
-
--- rows of statements, and then of what is behind them
-body_rows : (l : Layout) (table : List Module) (own : Module) (number : ℕ) (h : Home) (ss : List Statement) (k : List Item) (p q : ℕ) → BodyAt l own.code ss p q → Rows l table own number h k Quiet q [] → Rows l table own number h (doing ss k) Quiet p []
-body_rows l table own number h [] k p q e rest = subst (λ (x : ℕ). Rows l table own number h k Quiet x []) (sym e) rest
-body_rows l table own number h (s ∷ ss) k p q row rest = record {
-  quiet = refl;
-  empty = refl;
-  end = row.middle;
-  here = row.here;
-  then = body_rows l table own number h ss k row.middle q row.then rest;
-}
 
 module _ (p : Resolved) (code : List ℕ) (small : IsSmall p) (t : Translates p code) where
   abbrev pub count : ℕ
@@ -120,6 +144,19 @@ module _ (p : Resolved) (code : List ℕ) (small : IsSmall p) (t : Translates p 
     marked = true;
   }
 
+  abbrev frame_size : ℕ
+  frame_size = frame_words p.body
+
+  frame_small : frame_size ≤ 32767
+  frame_small = omega (arith, body_small p.body, small.code)
+
+  -- the body is entered: the words of its FORs are zero
+  pub entered : List ℕ
+  entered = cleared store (1 + count + 4) (1 + count + frame_size)
+
+  abbrev pub entered_at : ℕ → State
+  entered_at place = record (begun_at place) { top = 1 + count + frame_size; store = entered }
+
   -- what was loaded
   pub loaded_state : (loaded p code).state ≡ begun_at 0
   unfolding store
@@ -145,7 +182,7 @@ module _ (p : Resolved) (code : List ℕ) (small : IsSmall p) (t : Translates p 
       ∙ zeros_word (1 + count - 1) x (omega (arith, less))
 
   home : Home
-  home = record { base = base_of; type = type_of p.variables; owner = owner_at count; shadow = λ a. get_or store a 0 }
+  home = record { base = place_of; type = type_of p.variables; owner = owner_at count; shadow = λ a. get_or store a 0 }
 
   owner_data : (x : ℕ) → x < count → owner_at count (1 + x) ≡ Of (Global 1 x)
   owner_data x less =
@@ -153,31 +190,59 @@ module _ (p : Resolved) (code : List ℕ) (small : IsSmall p) (t : Translates p 
       ∙ yes (nat_lt (1 + x) (1 + count)) _ _ (lt-ltb (1 + x) (1 + count) (omega arith))
       ∙ ap (λ (n : ℕ). Of (Global 1 n)) (let e : 1 + x - 1 ≡ x = omega arith in e)
 
-  mem : Mem home (fresh_cells (p ∷ [])) store
+  fresh_zeros : length (zeros (1 + count + frame_size - (1 + count + 4))) ≡ 1 + count + frame_size - (1 + count + 4)
+  fresh_zeros = zeros_length (1 + count + frame_size - (1 + count + 4))
+
+  entered_before : (a : ℕ) → a < 1 + count + 4 → get_or entered a 0 ≡ get_or store a 0
+  unfolding entered
+  entered_before a less =
+      spliced_before store (1 + count + 4) (zeros (1 + count + frame_size - (1 + count + 4))) a (omega (arith, store_length, fresh_zeros, frame_small, small.variables)) less
+
+  entered_length : length entered ≡ 65536
+  unfolding entered
+  entered_length = spliced_length store (1 + count + 4) (zeros (1 + count + frame_size - (1 + count + 4))) (omega (arith, store_length, fresh_zeros, frame_small, small.variables)) ∙ store_length
+
+  -- the words of the machine's own are those of the mark
+  own_low : (a : ℕ) → owner_at count a ≡ Own → a < 1 + count + 4
+  own_low a e = by (nat_lt a 1) (nat_lt a (1 + count)) (nat_lt a (5 + count)) refl e
+    where
+      by : (x y z : Bool) → nat_lt a (5 + count) ≡ z → cond x (Free (1 + count)) (cond y (Of (Global 1 (a - 1))) (cond z Own (Free (1 + count)))) ≡ Own → a < 1 + count + 4
+      by true y z h e = cc
+      by false true z h e = cc
+      by false false true h e = omega (arith, ltb-true a (5 + count) h)
+      by false false false h e = cc
+
+  mem : Mem home (fresh_cells (p ∷ [])) entered
   unfolding home
   mem = record {
     owned = λ r k e.
         let a = lives p.variables r k e in
         let less : a.x < count = slice_get_within p.variables a.x k a.typed in
-        ap (λ (z : Root). owner_at count (base_of z)) a.is ∙ owner_data a.x less ∙ ap Of (sym a.is);
+        ap (λ (z : Root). owner_at count (place_of z)) a.is ∙ owner_data a.x less ∙ ap Of (sym a.is);
     inside = λ r k e.
         let a = lives p.variables r k e in
         let less : a.x < count = slice_get_within p.variables a.x k a.typed in
-        let at : base_of r ≡ 1 + a.x = ap base_of a.is in
+        let at : place_of r ≡ 1 + a.x = ap place_of a.is in
         omega (arith, small.variables);
     holds = λ r k e.
         let a = lives p.variables r k e in
         let less : a.x < count = slice_get_within p.variables a.x k a.typed in
         let cell : fresh_cells (p ∷ []) r [] ≡ zero_of k = ap (λ (z : Root). fresh_cells (p ∷ []) z []) a.is ∙ ap zero_by a.typed in
         record {
-          word = ap (λ (z : Root). get_or store (base_of z) 0) a.is ∙ data_zero a.x less ∙ sym (zero_word k) ∙ ap scalar_word (sym cell);
-          fits = ap (within k) cell ∙ zero_fits k;
+          word = ap (λ (z : Root). get_or entered (place_of z) 0) a.is ∙ entered_before (1 + a.x) (omega (arith, less)) ∙ data_zero a.x less ∙ sym (zero_word k) ∙ ap scalar_word (sym cell);
+          fits = ap (within (base_of k)) cell ∙ zero_fits k;
         };
-    kept = λ a e. refl;
-    long = store_length;
+    kept = λ a e. entered_before a (own_low a e);
+    long = entered_length;
   }
 
-  shared : (w : World) → Shared (layout_of p) table own 1 home (begun (p ∷ []) w) (begun_at t.start)
+  free_words : (i : ℕ) → 4 ≤ i → owner_at count (1 + count + i) ≡ Free (1 + count)
+  free_words i high =
+      no (nat_lt (1 + count + i) 1) _ _ (le-ltb (1 + count + i) 1 (omega arith))
+      ∙ no (nat_lt (1 + count + i) (1 + count)) _ _ (le-ltb (1 + count + i) (1 + count) (omega arith))
+      ∙ no (nat_lt (1 + count + i) (5 + count)) _ _ (le-ltb (1 + count + i) (5 + count) (omega (arith, high)))
+
+  shared : (w : World) → Shared (layout_of p) table own 1 home (begun (p ∷ []) w) (entered_at t.start)
   unfolding home
   shared w = record {
     mem = mem;
@@ -189,26 +254,30 @@ module _ (p : Resolved) (code : List ℕ) (small : IsSmall p) (t : Translates p 
       };
     };
     program = record { table_is = refl; known = refl; running_is = refl; marked = refl; body = refl; last = refl };
+    frame = record { room = omega (arith, frame_small, small.variables); free = λ i high less. free_words i high };
     owner = refl;
     parked = tt;
   }
 
   -- the body is entered
-  enters : (w : World) → advanced (running (begun_at 0) w) ≡ running (begun_at t.start) w
+  enters : (w : World) → advanced (running (begun_at 0) w) ≡ running (entered_at t.start) w
+  unfolding entered
   enters w =
-      let top : 1 + count + 4 ≡ 1 + count + 4 = refl in
-      advances (begun_at 0) w (Went, begun_at t.start) (
+      advances (begun_at 0) w (Went, entered_at t.start) (
       ap (Rattle.lil_mcode.specs.Table.performed (begun_at 0) own) t.enter
-      ∙ no _ _ _ (le-ltb (1 + count + 4) (1 + count + 4) (omega arith))
-      ∙ no _ _ _ (le-ltb 65535 (1 + count + 4) (omega (arith, small.variables)))
-      ∙ ap (λ (x : List ℕ). let r : Rattle.lil_mcode.specs.declared.machine.Event.Event × State = (Went, record (begun_at t.start) { store = x }) in r) (cleared_none store (1 + count + 4))
+      ∙ no _ _ _ (le-ltb (1 + count + frame_size) (1 + count + 4) (omega arith))
+      ∙ no _ _ _ (le-ltb 65535 (1 + count + frame_size) (omega (arith, frame_small, small.variables)))
       )
 
-  ahead : Ahead (layout_of p) table own 1 home (doing p.body (Perform (End 0) ∷ [])) Quiet t.start []
+  abbrev outside : Around
+  outside = record { exit = None; loops = [] }
+
+  ahead : Ahead (layout_of p) table own 1 home (doing p.body (Perform (End 0) ∷ [])) Quiet t.start [] 0 outside
   ahead =
-      rows_ahead (p ∷ []) (layout_of p) table own 1 home (doing p.body (Perform (End 0) ∷ [])) t.start []
-      (body_rows (layout_of p) table own 1 home p.body (Perform (End 0) ∷ []) t.start t.end t.body
-      (record { quiet = refl; empty = refl; activation = refl; last = refl; end = length code; leave = t.leave }))
+      rows_ahead (p ∷ []) (layout_of p) table own 1 home (doing p.body (Perform (End 0) ∷ [])) t.start [] 0 outside
+      (body_rows (p ∷ []) (layout_of p) table own 1 home p.body (Perform (End 0) ∷ []) t.start t.end 0 outside t.body (instr_within code t.end Rtn (length code) t.leave)
+      (at_once (p ∷ []) (layout_of p) table own 1 home _ Quiet t.end [] 0 outside
+      (record { quiet = refl; empty = refl; activation = refl; last = refl; alone = refl; end = length code; leave = t.leave })))
 
   -- after any number of steps the run of a loaded program agrees with some state of the meaning
   pub record Correct (w : World) (steps : ℕ) : Type 0 where
@@ -219,7 +288,7 @@ module _ (p : Resolved) (code : List ℕ) (small : IsSmall p) (t : Translates p 
   pub correct : (w : World) (steps : ℕ) → Correct w steps
   correct w zero = record { n = 0; agrees = still_agrees p.name (begun (p ∷ []) w) (doing p.body (Perform (End 0) ∷ [])) (running (begun_at 0) w) (record { world = refl; finish = refl }); far = omega arith }
   correct w (suc steps) =
-      let f = follows (p ∷ []) (layout_of p) table own 1 home (begun (p ∷ []) w) (doing p.body (Perform (End 0) ∷ [])) (begun_at t.start) steps (shared w) ahead in
+      let f = follows (p ∷ []) (layout_of p) table own 1 home (begun (p ∷ []) w) (doing p.body (Perform (End 0) ∷ [])) (entered_at t.start) steps 0 outside (shared w) tt ahead in
       record {
         n = f.n;
         agrees = subst (λ (r : Run). Agrees p.name (state_of p w f.n) (mrun steps r)) (sym (enters w)) f.agrees;

@@ -14,7 +14,7 @@ use Rattle.lil_mcode.specs.Table.{mstep}
 use Rattle.lil_session.specs.Rows.{Layout}
 use Rattle.lil_session.specs.Running.{Finish, Running, Finished, TrappedBy, Limited, Broken, Run, mrun, running, react, advanced, unless_over}
 use Rattle.lil_session.proofs.Homes.{Home}
-use Rattle.lil_session.proofs.Matched.{Quiet, Ahead, Shared, Lands, weight, IsStill, Goes}
+use Rattle.lil_session.proofs.Matched.{Quiet, Around, Ahead, HasLoops, Shared, Lands, weight, IsStill, Goes}
 use Rattle.lil_session.proofs.Each.{each_step}
 
 -- The run has the world of the source's state, and is over only where the source is, in the same way: a trap is in the body of a module.
@@ -92,15 +92,16 @@ module _ (modules : List Resolved) (l : Layout) (table : List Module) (own : Mod
   abbrev pub Name : List ℕ
   Name = name_of (loaded_at modules number)
 
-  -- after so many steps of the machine, from a state of the meaning: some later state agrees, one that is far enough
-  pub record Follows (s : Source) (run : Run) (steps : ℕ) : Type 0 where
+  -- After so many steps of the machine, from a state of the meaning with so many jumps owed: some later state agrees, one that is far
+  -- enough.
+  pub record Follows (s : Source) (run : Run) (steps c : ℕ) : Type 0 where
     pub n : ℕ
     pub agrees : Agrees Name (after modules n s) (mrun steps run)
-    pub far : steps < 32 * n + 32
+    pub far : steps < 32 * n + 32 + c
 
   -- where both are over, they stay
-  over_follows : (s : Source) (run : Run) (steps : ℕ) → Agrees Name s run → next modules s ≡ s → advanced run ≡ run → Follows s run steps
-  over_follows s run steps a rs rr = record {
+  over_follows : (s : Source) (run : Run) (steps c : ℕ) → Agrees Name s run → next modules s ≡ s → advanced run ≡ run → Follows s run steps c
+  over_follows s run steps c a rs rr = record {
     n = steps;
     agrees =
         subst (λ (t : Source). Agrees Name t (mrun steps run)) (sym (source_rests modules steps s rs))
@@ -111,34 +112,35 @@ module _ (modules : List Resolved) (l : Layout) (table : List Module) (own : Mod
   -- what is claimed of so many steps, from each matched state whose items have a property
   abbrev Claim : ℕ → (List Item → Type 0) → Type 0
   Claim steps P =
-      (s : Source) (k : List Item) (m : State) → Shared l table own number h s m → Ahead l table own number h k Quiet m.place m.stack → P k
-      → Follows (record s { items = k; phase = Going }) (running m s.world) steps
+      (s : Source) (k : List Item) (m : State) (c : ℕ) (a : Around) → Shared l table own number h s m → HasLoops l table own number h m.frame m.store a.loops
+      → Ahead l table own number h k Quiet m.place m.stack c a → P k → Follows (record s { items = k; phase = Going }) (running m s.world) steps c
 
-  landed : (steps : ℕ) (P : List Item → Type 0) → Claim steps P → (p : Phase) (s : Source) (run : Run) → s.phase ≡ p → Lands l table own number h modules p s run → P s.items → Follows s run steps
-  landed steps P claim Going s run e lands has =
+  landed : (steps : ℕ) (P : List Item → Type 0) → Claim steps P → (p : Phase) (s : Source) (run : Run) (c : ℕ) → s.phase ≡ p → Lands l table own number h modules p s run c → P s.items
+      → Follows s run steps c
+  landed steps P claim Going s run c e lands has =
       let same : record s { items = s.items; phase = Going } ≡ s = ap (λ (p : Phase). let t : Source = record s { phase = p } in t) (sym e) in
-      subst (λ (t : Source). Follows t run steps) same
-      (subst (λ (r : Run). Follows (record s { items = s.items; phase = Going }) r steps) (sym lands.is)
-      (claim s s.items lands.machine lands.met.shared lands.met.ahead has))
-  landed steps P claim Ended s run e lands has =
-      over_follows s run steps (ended_agrees Name s run e lands.finish lands.world) (ended_rests modules s e) (run_over run Finished lands.finish (λ f. cc))
-  landed steps P claim (Closing t) s run e lands has =
+      subst (λ (t : Source). Follows t run steps c) same
+      (subst (λ (r : Run). Follows (record s { items = s.items; phase = Going }) r steps c) (sym lands.is)
+      (claim s s.items lands.machine c lands.met.around lands.met.shared lands.met.loops lands.met.ahead has))
+  landed steps P claim Ended s run c e lands has =
+      over_follows s run steps c (ended_agrees Name s run e lands.finish lands.world) (ended_rests modules s e) (run_over run Finished lands.finish (λ f. cc))
+  landed steps P claim (Closing t) s run c e lands has =
       let closed : Source = record s { phase = Trapped t } in
       let step : next modules s ≡ closed = ap (λ (p : Phase). by_phase modules p s) e in
-      let f = over_follows closed run steps (trapped_agrees Name closed run t refl lands.finish lands.world lands.name lands.procedure) (trapped_rests modules closed t refl) (run_over run (TrappedBy t.kind) lands.finish (λ g. cc)) in
+      let f = over_follows closed run steps c (trapped_agrees Name closed run t refl lands.finish lands.world lands.name lands.procedure) (trapped_rests modules closed t refl) (run_over run (TrappedBy t.kind) lands.finish (λ g. cc)) in
       record {
         n = suc f.n;
         agrees = subst (λ (x : Source). Agrees Name (after modules f.n x) (mrun steps run)) (sym step) f.agrees;
         far = omega (arith, f.far);
       }
-  landed steps P claim (Trapped t) s run e lands has = absurd lands
+  landed steps P claim (Trapped t) s run c e lands has = absurd lands
 
   abbrev At : Source → List Item → Source
   At s k = record s { items = k; phase = Going }
 
-  module _ (s : Source) (k : List Item) (m : State) (g : Goes modules l table own number h s k m) where
+  module _ (s : Source) (k : List Item) (m : State) (c : ℕ) (g : Goes modules l table own number h s k m (c + 32)) where
     -- fewer steps than those of this step of the source
-    short : (steps : ℕ) → steps < g.steps → Follows (At s k) (running m s.world) steps
+    short : (steps : ℕ) → steps < g.steps → Follows (At s k) (running m s.world) steps c
     short steps less = record {
       n = 0;
       agrees = still_agrees Name s k (mrun steps (running m s.world)) (g.quiet steps less);
@@ -146,7 +148,7 @@ module _ (modules : List Resolved) (l : Layout) (table : List Module) (own : Mod
     }
 
     -- what follows from the next state of the source follows from this one
-    longer : (steps rest : ℕ) → steps ≡ g.steps + rest → Follows (next modules (At s k)) (mrun g.steps (running m s.world)) rest → Follows (At s k) (running m s.world) steps
+    longer : (steps rest : ℕ) → steps ≡ g.steps + rest → Follows (next modules (At s k)) (mrun g.steps (running m s.world)) rest g.later → Follows (At s k) (running m s.world) steps c
     longer steps rest e f = record {
       n = suc f.n;
       agrees = subst (λ (r : Run). Agrees Name (after modules f.n (next modules (At s k))) r) (sym (mrun_add g.steps steps rest (running m s.world) e)) f.agrees;
@@ -154,37 +156,40 @@ module _ (modules : List Resolved) (l : Layout) (table : List Module) (own : Mod
     }
 
   -- one step of the source, and the rest by fewer steps or by less weight
-  turn : (steps : ℕ) (s : Source) (k : List Item) (m : State) → ((rest : ℕ) → rest < steps → Claim rest (λ i. Unit {0})) → Claim steps (λ i. weight i < weight k)
-      → Shared l table own number h s m → Ahead l table own number h k Quiet m.place m.stack → Follows (At s k) (running m s.world) steps
-  turn steps s k m fewer lighter shared ahead =
-      ⊎_elim (λ less. short s k m g steps less) (λ more. ⊎_elim (λ some. by_step more some) (λ none. by_weight more none) (cases_lt 0 g.steps)) (cases_lt steps g.steps)
+  turn : (steps : ℕ) (s : Source) (k : List Item) (m : State) (c : ℕ) (a : Around) → ((rest : ℕ) → rest < steps → Claim rest (λ i. Unit {0})) → Claim steps (λ i. weight i < weight k)
+      → Shared l table own number h s m → HasLoops l table own number h m.frame m.store a.loops → Ahead l table own number h k Quiet m.place m.stack c a
+      → Follows (At s k) (running m s.world) steps c
+  turn steps s k m c a fewer lighter shared loops ahead =
+      ⊎_elim (λ less. short s k m c g steps less) (λ more. ⊎_elim (λ some. by_step more some) (λ none. by_weight more none) (cases_lt 0 g.steps)) (cases_lt steps g.steps)
     where
-      g : Goes modules l table own number h s k m
-      g = each_step modules l table own number h s m shared k ahead
+      g : Goes modules l table own number h s k m (c + 32)
+      g = each_step modules l table own number h s m c a shared loops k ahead
 
-      by_step : g.steps ≤ steps → 0 < g.steps → Follows (At s k) (running m s.world) steps
+      by_step : g.steps ≤ steps → 0 < g.steps → Follows (At s k) (running m s.world) steps c
       by_step more some =
-          longer s k m g steps (steps - g.steps) (omega arith)
-          (landed (steps - g.steps) (λ i. Unit {0}) (fewer (steps - g.steps) (omega arith)) (next modules (At s k)).phase (next modules (At s k)) (mrun g.steps (running m s.world)) refl g.lands tt)
+          longer s k m c g steps (steps - g.steps) (omega arith)
+          (landed (steps - g.steps) (λ i. Unit {0}) (fewer (steps - g.steps) (omega arith)) (next modules (At s k)).phase (next modules (At s k)) (mrun g.steps (running m s.world)) g.later refl g.lands tt)
 
-      by_weight : g.steps ≤ steps → g.steps ≤ 0 → Follows (At s k) (running m s.world) steps
+      by_weight : g.steps ≤ steps → g.steps ≤ 0 → Follows (At s k) (running m s.world) steps c
       by_weight more none =
-          longer s k m g steps steps (omega arith)
-          (landed steps (λ i. weight i < weight k) lighter (next modules (At s k)).phase (next modules (At s k)) (mrun g.steps (running m s.world)) refl g.lands (g.falls (omega arith)))
+          longer s k m c g steps steps (omega arith)
+          (landed steps (λ i. weight i < weight k) lighter (next modules (At s k)).phase (next modules (At s k)) (mrun g.steps (running m s.world)) g.later refl g.lands (g.falls (omega arith)))
 
   -- by the number of steps, and for each by the weight of the items
   inner : (bound : ℕ) → ((steps : ℕ) → steps ≤ bound → Claim steps (λ i. Unit {0})) → (most : ℕ) (steps : ℕ) → steps ≤ suc bound → Claim steps (λ i. weight i < most)
-  inner bound outer zero steps le s k m shared ahead has = absurd (omega arith)
-  inner bound outer (suc most) steps le s k m shared ahead has =
-      turn steps s k m (λ rest less. outer rest (omega arith)) (λ s' k' m' shared' ahead' has'. inner bound outer most steps le s' k' m' shared' ahead' (omega arith)) shared ahead
+  inner bound outer zero steps le s k m c a shared loops ahead has = absurd (omega arith)
+  inner bound outer (suc most) steps le s k m c a shared loops ahead has =
+      turn steps s k m c a (λ rest less. outer rest (omega arith))
+      (λ s' k' m' c' a' shared' loops' ahead' has'. inner bound outer most steps le s' k' m' c' a' shared' loops' ahead' (omega arith)) shared loops ahead
 
   outer : (bound : ℕ) (steps : ℕ) → steps ≤ bound → Claim steps (λ i. Unit {0})
-  outer zero steps le s k m shared ahead has =
+  outer zero steps le s k m c a shared loops ahead has =
       let e : 0 ≡ steps = omega arith in
-      subst (λ (n : ℕ). Follows (At s k) (running m s.world) n) e
+      subst (λ (n : ℕ). Follows (At s k) (running m s.world) n c) e
       (record { n = 0; agrees = still_agrees Name s k (running m s.world) (record { world = refl; finish = refl }); far = omega arith })
-  outer (suc bound) steps le s k m shared ahead has = inner bound (outer bound) (suc (weight k)) steps le s k m shared ahead (omega arith)
+  outer (suc bound) steps le s k m c a shared loops ahead has = inner bound (outer bound) (suc (weight k)) steps le s k m c a shared loops ahead (omega arith)
 
   -- from a matched state the machine shows what the source means
-  pub follows : (s : Source) (k : List Item) (m : State) (steps : ℕ) → Shared l table own number h s m → Ahead l table own number h k Quiet m.place m.stack → Follows (At s k) (running m s.world) steps
-  follows s k m steps shared ahead = outer steps steps (omega arith) s k m shared ahead tt
+  pub follows : (s : Source) (k : List Item) (m : State) (steps c : ℕ) (a : Around) → Shared l table own number h s m → HasLoops l table own number h m.frame m.store a.loops
+      → Ahead l table own number h k Quiet m.place m.stack c a → Follows (At s k) (running m s.world) steps c
+  follows s k m steps c a shared loops ahead = outer steps steps (omega arith) s k m c a shared loops ahead tt

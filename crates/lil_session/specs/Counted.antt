@@ -1,14 +1,15 @@
 -- What the machine did, counted in instructions, and the answer of it.
-use Rattle.std.specs.Prelude.{◌≡◌, ◌≢◌, ◌⊎◌, ℕ, suc, ◌≤◌, true, List, Option}
+use Rattle.std.specs.Prelude.{◌≡◌, ◌≢◌, ◌⊎◌, ℕ, suc, ◌+◌, ◌*◌, ◌≤◌, true, List, Option}
 use Rattle.lil_tree.specs.Resolved.{Resolved}
 use Rattle.lil_meaning.specs.World.{World}
+use Rattle.lil_meaning.specs.Items.{Going}
 use Rattle.lil_volume.specs.Told.{followed_by}
 use Rattle.lil_session.specs.declared.status.Status.{Status}
 use Rattle.lil_session.specs.declared.status.Status.TheVariants as a
 use Rattle.lil_session.specs.Rows.{Translates}
 use Rattle.lil_session.specs.Running.{Finish, Running, Finished, TrappedBy, mrun, running}
 use Rattle.lil_session.specs.Loaded.{loaded}
-use Rattle.lil_session.specs.Outcome.{settled}
+use Rattle.lil_session.specs.Outcome.{settled, state_of}
 
 -- how far the run has come that an answer speaks of, after the instructions that were done within a budget
 abbrev pub FinishAnswers : Status → ℕ → ℕ → Finish → Type 0
@@ -31,6 +32,8 @@ pub record MachineRan (p : Resolved) (w : World) (steps : ℕ) (old new : Option
   pub shown : status ≢ a.ScreenFault → new ≡ followed_by old (mrun done (running (loaded p code).state w)).world.screen
   -- where the whole budget brings no end, a settled answer is StepsSpent
   pub spent : (mrun steps (running (loaded p code).state w)).finish ≡ Running → settled status ≡ true → status ≡ a.StepsSpent
+  -- 32 instructions a step of the meaning, and 64 more, are enough: where they are spent, it goes on
+  pub enough : status ≡ a.StepsSpent → (m : ℕ) → 32 * m + 64 ≤ steps → (state_of p w m).phase ≡ Going
 
 -- What the machine did, by the answer of a command that runs a straight text: nothing where the volume failed.
 abbrev pub MachineAnswers : Resolved → World → ℕ → Option (List ℕ) → Option (List ℕ) → Status → Type 0

@@ -2,6 +2,7 @@ ghost use Rattle.std.specs.Prelude.{◌≡◌, ◌≢◌, ◌⊎◌, ◌%◌, �
 ghost use Rattle.lil_tree.specs.Views.{module_of};
 ghost use Rattle.lil_meaning.specs.World.{World, byte_of, piece_of};
 ghost use Rattle.lil_mcode.specs.State.{Module};
+ghost use Rattle.lil_mcode.specs.Table.{mstep};
 ghost use Rattle.lil_volume.specs.Causes.{HasCause};
 ghost use Rattle.lil_volume.specs.Told.{followed_by, FollowedByPrefix};
 ghost use Rattle.lil_base.specs.declared.fault.TrapKind.{TrapKind};
@@ -66,6 +67,18 @@ fn serve<S: Sink>(number: u8, machine: &mut Machine, screen: &mut S) -> Result<(
     }
 }
 
+/// One step of a body that runs alone.
+fn step_alone(machine: &mut Machine) -> Event
+    requires { IsAlone machine.old.state }
+    ensures row { mstep machine.old.state ≡ (result, machine.new.state) }
+    ensures modules { machine.new.state.modules ≡ machine.old.state.modules }
+    ensures running { machine.new.state.running ≡ machine.old.state.running }
+    ensures alone { IsAlone machine.new.state }
+    ensures at { machine.new.at_module ≡ machine.old.state.running }
+{
+    machine.step()
+}
+
 /// One step, with what its request shows. None where the run goes on.
 fn advance<S: Sink>(machine: &mut Machine, screen: &mut S) -> Result<Option<Ending>, SinkFailed>
     requires { IsAlone machine.old.state }
@@ -78,7 +91,7 @@ fn advance<S: Sink>(machine: &mut Machine, screen: &mut S) -> Result<Option<Endi
     ensures at { machine.new.at_module ≡ machine.old.state.running }
     ensures cause { HasCause (S.faults screen.old) (S.faults screen.new) result }
 {
-    match machine.step() {
+    match step_alone(machine) {
         Event::Went => Ok(None),
         Event::Request(number) => {
             serve(number, machine, screen)?;

@@ -39,7 +39,7 @@ abbrev pub IsAlone : ℕ → List ℕ → Type 0
 IsAlone b [] = Unit {0}
 IsAlone b (c ∷ cs) = (opens b c ≡ false) × (closes b c ≡ false)
 
--- the bytes before the rest are the inside of a comment, and the `*)` that closes it
+-- the bytes before the rest are the inside of a comment, and the `*)` that closes it; they are paired from left to right
 pub data IsInside : List ℕ → List ℕ → Type 0 where
   close : {rest : List ℕ} → IsInside (42 ∷ 41 ∷ rest) rest
   nested : {bs mid rest : List ℕ} → IsInside bs mid → IsInside mid rest → IsInside (40 ∷ 42 ∷ bs) rest

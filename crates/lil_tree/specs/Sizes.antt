@@ -1,5 +1,5 @@
 -- Sound resolved modules, the words that expressions take, and the bytes that code takes.
-use Rattle.std.specs.Prelude.{◌≡◌, ◌≢◌, ℕ, ◌+◌, ◌*◌, ◌<◌, ◌≤◌, ℤ, pos, negsuc, ◌≤ℤ◌, max, Bool, true, false, List, [], ◌∷◌, length}
+use Rattle.std.specs.Prelude.{◌≡◌, ◌≢◌, ℕ, ◌+◌, ◌*◌, ◌<◌, ◌≤◌, ℤ, pos, negsuc, ◌≤ℤ◌, max, nat_le, Bool, true, false, List, [], ◌∷◌, length}
 use Rattle.lil_base.specs.Words.{Cardinal, Integer}
 use Rattle.lil_tree.specs.declared.operator.OneOp.{OneOp}
 use Rattle.lil_tree.specs.declared.operator.OneOp.TheVariants as one
@@ -40,12 +40,12 @@ size (Both a b) = size a + size b + 3
 size (Either a b) = size a + size b + 3
 size (Apply f a) = size a + 5
 
--- kinds that aren't a part of another
+-- kinds that aren't a part of another, whose values are words
 abbrev pub is_base : Kind → Bool
 is_base (OfWhole t) = true
 is_base OfTruth = true
 is_base OfCharacter = true
-is_base (OfEnumeration n) = true
+is_base (OfEnumeration n) = nat_le n 65536
 is_base (OfRange base low high) = false
 
 abbrev pub is_whole : Kind → Bool

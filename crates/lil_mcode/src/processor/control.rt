@@ -109,12 +109,15 @@ impl Processor {
         let Some((first, last, step)) = self.three() else {
             return Event::BadCode;
         };
-        if at + 2 >= 65536 || kind > 1 || step == 0 {
+        if kind > 1 || step == 0 {
             return Event::BadCode;
         }
         match turns_left(kind, first, last, step) {
             None => self.jump(usize::from(to), 3),
             Some(left) => {
+                if at + 2 >= 65536 {
+                    return Event::BadCode;
+                }
                 put_loop(&mut self.store, at as usize, first, left, step);
                 self.go_on(next, 3);
                 Event::Went
@@ -126,20 +129,20 @@ impl Processor {
         requires { at < 2 ^ 17 }
         ensures { again_row (own self.old) at to next self.old ≡ (result, self.new) }
     {
-        if at + 2 >= 65536 {
+        if at + 1 >= 65536 {
             return Event::BadCode;
         }
         let at = at as usize;
-        let value = self.store[at];
         let left = self.store[at + 1];
-        let step = self.store[at + 2];
         if left == 0 {
             self.place = next;
             return Event::Went;
         }
-        if usize::from(to) >= self.running_code().len() {
+        if at + 2 >= 65536 || usize::from(to) >= self.running_code().len() {
             return Event::BadCode;
         }
+        let value = self.store[at];
+        let step = self.store[at + 2];
         self.store[at + 1] = left - 1;
         self.store[at] = ((u32::from(value) + u32::from(step)) % 65536) as u16;
         self.place = to;

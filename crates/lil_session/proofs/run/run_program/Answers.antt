@@ -101,7 +101,7 @@ returns-in-Err-clause-machine g c =
     let p = module_of c.args.m.now in
     let old = g.S.Sink.written c.args.screen.now in
     let new = g.S.Sink.written c.run_machine.new.screen in
-    λ w e. machine_cut p c.args.code.now c.requires.translates c.args.steps old new w
+    λ w e. machine_cut p c.args.code.now c.requires.small c.requires.translates c.args.steps old new w
     (subst (λ (s : State). IsCut s c.args.steps old new w) (ap (λ (m : Machine). m.state) c.in-Ok.ensures) (c.in-Err.ensures.cut w e))
 
 pub returns-clause-machine : goal.returns-clause-machine
@@ -117,7 +117,7 @@ returns-clause-machine g c =
     let is : c.in-Ok.machine.state ≡ begun_at p code small t 0 = from ∙ loaded_state p code small t in
     let at : (k : TrapKind) → end ≡ ending.Trapped k → (m : Module) × IsAtBody c.run_machine.new.machine m =
     λ k e. (own p code small t, at_body p code small t c.run_machine.new.machine (c.in-Ok-run_machine.ensures.modules ∙ ap (λ (s : State). s.modules) is) (c.in-Ok-run_machine.ensures.at k e ∙ ap (λ (s : State). s.running) is)) in
-    λ w e. machine_end p code t c.args.steps old new w c.run_machine.new.machine end c.answer.result (subst (λ (s : State). HasRun s c.args.steps (finish_of end) old new w) from (c.in-Ok-run_machine.ensures.ran w e)) c.answer.ensures at
+    λ w e. machine_end p code small t c.args.steps old new w c.run_machine.new.machine end c.answer.result (subst (λ (s : State). HasRun s c.args.steps (finish_of end) old new w) from (c.in-Ok-run_machine.ensures.ran w e)) c.answer.ensures at
 
 pub returns-clause-cause : goal.returns-clause-cause
 returns-clause-cause g c =

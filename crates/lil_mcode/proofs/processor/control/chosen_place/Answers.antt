@@ -1,4 +1,4 @@
-use Rattle.std.proofs.Common.{◌≡◌, ℕ, ◌+◌, ◌*◌, ◌-◌, ◌∙◌, false, sym, arith}
+use Rattle.std.proofs.Common.{◌≡◌, ◌∙◌, false, sym, arith}
 use Rattle.std.proofs.lemmas.Bool.{lt-leb}
 use Rattle.lil_mcode.specs.Control.{above, is_in}
 use Rattle.lil_mcode.proofs.Search.{Entry, found_later}

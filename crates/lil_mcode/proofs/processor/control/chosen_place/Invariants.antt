@@ -1,4 +1,4 @@
-use Rattle.std.proofs.Common.{◌≡◌, ℕ, ◌+◌, ◌*◌}
+use Rattle.std.proofs.Common.{◌≡◌, ◌+◌, ◌*◌}
 use Rattle.lil_mcode.specs.Control.{chosen}
 use Rattle.lil_mcode.proofs.processor.control.chosen_place.Given as goal
 

@@ -1,0 +1,3 @@
+mod Turns
+pub mod StepLaws
+pub mod Rules

@@ -1,0 +1,162 @@
+//! The code of expressions.
+
+ghost use Rattle.std.specs.Prelude.{◌≡◌, ◌+◌, ◌≤◌, ◌++◌, length, OnOk, pos, negsuc, ◌≤ℤ◌};
+ghost use Rattle.lil_base.specs.Words as words;
+ghost use Rattle.lil_tree.specs.Kinds.{OfWhole};
+ghost use Rattle.lil_tree.specs.Resolved.{kind_of};
+ghost use Rattle.lil_tree.specs.Sizes.{size, two_size};
+ghost use Rattle.lil_tree.specs.Views.{expression_of};
+ghost use Rattle.lil_session.specs.Rows.{compared_as, two_code, one_code};
+ghost use Rattle.lil_session.specs.Emitting.{all_bytes};
+ghost use Rattle.lil_session.specs.Generating.{EmitsExpression, whole_of};
+
+use crate::generator::sizes::expression_size;
+use lil_base::{Bytes, Memory};
+use lil_mcode::{Instr, encode};
+use lil_tree::{OneOp, RExpr, TwoOp};
+
+/// The type of whole numbers as which words are computed with and compared.
+#[derive(Clone, Copy)]
+pub(crate) enum WholeType {
+    Cardinal,
+    Integer,
+}
+
+/// The word of a number from -32768 to 65535.
+pub(crate) fn word(number: i32) -> u16
+    ensures { negsuc 32767 ≤ℤ number → number ≤ℤ pos 65535 → result ≡ words.word_of number }
+{
+    number.rem_euclid(65536) as u16
+}
+
+/// Appends the code that leaves an expression's value on the expression stack.
+pub(crate) fn emit_expression(code: &mut Bytes, e: &RExpr) -> Result<(), Memory>
+    requires room { length code.old + size (expression_of e.now) ≤ 32767 }
+    ensures short { OnOk result (length code.new ≤ length code.old + size (expression_of e.now)) }
+    ensures means { OnOk result (EmitsExpression code.old code.new (expression_of e.now)) }
+{
+    match e {
+        RExpr::Number(number) => encode(code, Instr::Liw(*number)),
+        RExpr::Integer(number) => encode(code, Instr::Liw(word(i32::from(*number)))),
+        RExpr::Truth(holds) => encode(code, Instr::Liw(u16::from(*holds))),
+        RExpr::Character(character) => encode(code, Instr::Liw(u16::from(*character))),
+        RExpr::Variable(variable) => encode(code, Instr::Lgw(*variable)),
+        RExpr::One(operator, value) => {
+            emit_expression(code, value)?;
+            emit_one(code, *operator)
+        }
+        RExpr::Two(operator, left, right) => {
+            emit_expression(code, left)?;
+            let end = code.len() + 3 + expression_size(right);
+            match operator {
+                TwoOp::And => {
+                    encode(code, Instr::Jan(end as u16))?;
+                    emit_expression(code, right)
+                }
+                TwoOp::Or => {
+                    encode(code, Instr::Jor(end as u16))?;
+                    emit_expression(code, right)
+                }
+                _ => {
+                    emit_expression(code, right)?;
+                    emit_two(code, *operator, compared_type(left))
+                }
+            }
+        }
+        RExpr::Chr(value) => {
+            emit_expression(code, value)?;
+            encode(code, Instr::Rgc(0, 255))
+        }
+    }
+}
+
+/// The type as which words of an expression's kind are compared.
+fn compared_type(e: &RExpr) -> WholeType
+    ensures { whole_of result ≡ compared_as (kind_of (expression_of e.now)) }
+{
+    match e {
+        RExpr::Integer(_) => WholeType::Integer,
+        RExpr::One(_, value) => compared_type(value),
+        RExpr::Two(operator, left, _) => match operator {
+            TwoOp::Plus | TwoOp::Minus | TwoOp::Times | TwoOp::Slash | TwoOp::Div | TwoOp::Mod => {
+                compared_type(left)
+            }
+            _ => WholeType::Cardinal,
+        },
+        _ => WholeType::Cardinal,
+    }
+}
+
+/// Appends the instructions of an operator on one value.
+fn emit_one(code: &mut Bytes, operator: OneOp) -> Result<(), Memory>
+    ensures { OnOk result (code.new ≡ code.old ++ all_bytes (one_code operator (OfWhole words.Integer))) }
+{
+    match operator {
+        OneOp::Plus => Ok(()),
+        OneOp::Minus => encode(code, Instr::Ngi),
+        OneOp::Not => encode(code, Instr::Not),
+    }
+}
+
+/// Appends the instructions of an operator on two values that are compared as numbers of a type.
+fn emit_two(code: &mut Bytes, operator: TwoOp, whole: WholeType) -> Result<(), Memory>
+    ensures short { OnOk result (length code.new ≤ length code.old + two_size operator) }
+    ensures code { OnOk result (code.new ≡ code.old ++ all_bytes (two_code operator (OfWhole (whole_of whole)))) }
+{
+    match whole {
+        WholeType::Cardinal => emit_cardinal(code, operator),
+        WholeType::Integer => emit_integer(code, operator),
+    }
+}
+
+fn emit_cardinal(code: &mut Bytes, operator: TwoOp) -> Result<(), Memory>
+    ensures short { OnOk result (length code.new ≤ length code.old + two_size operator) }
+    ensures code { OnOk result (code.new ≡ code.old ++ all_bytes (two_code operator (OfWhole words.Cardinal))) }
+{
+    match operator {
+        TwoOp::Equal => encode(code, Instr::Equ),
+        TwoOp::Unequal => encode(code, Instr::Neq),
+        TwoOp::Less => encode(code, Instr::Lsc),
+        TwoOp::AtMost => encode(code, Instr::Lec),
+        TwoOp::Greater => {
+            encode(code, Instr::Swp)?;
+            encode(code, Instr::Lsc)
+        }
+        TwoOp::AtLeast => {
+            encode(code, Instr::Swp)?;
+            encode(code, Instr::Lec)
+        }
+        TwoOp::Plus => encode(code, Instr::Adc),
+        TwoOp::Minus => encode(code, Instr::Sbc),
+        TwoOp::Times => encode(code, Instr::Mlc),
+        TwoOp::Div => encode(code, Instr::Dvc),
+        TwoOp::Mod => encode(code, Instr::Mdc),
+        TwoOp::And | TwoOp::Or | TwoOp::In | TwoOp::Slash => Ok(()),
+    }
+}
+
+fn emit_integer(code: &mut Bytes, operator: TwoOp) -> Result<(), Memory>
+    ensures short { OnOk result (length code.new ≤ length code.old + two_size operator) }
+    ensures code { OnOk result (code.new ≡ code.old ++ all_bytes (two_code operator (OfWhole words.Integer))) }
+{
+    match operator {
+        TwoOp::Equal => encode(code, Instr::Equ),
+        TwoOp::Unequal => encode(code, Instr::Neq),
+        TwoOp::Less => encode(code, Instr::Lsi),
+        TwoOp::AtMost => encode(code, Instr::Lei),
+        TwoOp::Greater => {
+            encode(code, Instr::Swp)?;
+            encode(code, Instr::Lsi)
+        }
+        TwoOp::AtLeast => {
+            encode(code, Instr::Swp)?;
+            encode(code, Instr::Lei)
+        }
+        TwoOp::Plus => encode(code, Instr::Adi),
+        TwoOp::Minus => encode(code, Instr::Sbi),
+        TwoOp::Times => encode(code, Instr::Mli),
+        TwoOp::Div => encode(code, Instr::Dvi),
+        TwoOp::Mod => encode(code, Instr::Mdi),
+        TwoOp::And | TwoOp::Or | TwoOp::In | TwoOp::Slash => Ok(()),
+    }
+}
