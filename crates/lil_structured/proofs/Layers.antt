@@ -47,10 +47,10 @@ module _ (scope : Scope) where
   pub set_is : (p : Place) (q : Option Qualident) (elements : List Range) → sense scope (e.SetOf p q elements) ≡ nothing
   set_is p q elements = ap (sense scope) (sym (e.rolls-SetOf p q elements)) ∙ rolled (o.SetOf p q elements)
 
-  name_is : (p : Place) (d : Designator) → sense scope (e.Desig p d) ≡ of_value (bare (name_alone scope d) scope)
+  pub name_is : (p : Place) (d : Designator) → sense scope (e.Desig p d) ≡ of_value (bare (name_alone scope d) scope)
   name_is p d = ap (sense scope) (sym (e.rolls-Desig p d)) ∙ rolled (o.Desig p d)
 
-  call_is : (p : Place) (d : Designator) (given : List Expr) → sense scope (e.Call p d given) ≡ called scope (name_alone scope d) (map (sense scope) given)
+  pub call_is : (p : Place) (d : Designator) (given : List Expr) → sense scope (e.Call p d given) ≡ called scope (name_alone scope d) (map (sense scope) given)
   call_is p d given = ap (sense scope) (sym (e.rolls-Call p d given)) ∙ rolled (o.Call p d given)
 
   pub one_is : (p : Place) (op : OneOp) (at : Place) (a : Expr) → sense scope (e.One p op at a) ≡ of_value (one_of_meant op (sense scope a).value)
