@@ -248,18 +248,18 @@ module _ (scope : Scope) where
     elements_after (g.elements {t = t} d _) f = let a = ranges_after d f in record { less = omega (arith, a.0.less); fit = a.0.fit.1 }
 
     -- a comma stands between two of them
-    pub ranges_after : {l : Limit} {ts rest : List Token} {rs : List Range} → IsRanges l ts rest rs → Fit ts → After ts rest × (2 * length rs + weight rest ≤ weight ts + 1)
+    pub ranges_after : {l : Limit} {ts rest : List Token} {rs : List Range} → IsRanges l ts rest rs → Fit ts → After ts rest × (2 * length rs + weight rest ≤ weight ts + 1) × (1 ≤ length rs)
     ranges_after (g.ranges {rest = rest} d more) f =
         let a = range_after d f in
         let b = more_ranges_behind more a.fit in
-        (record { less = omega (arith, a.less, b.0.most); fit = b.0.fit }, omega (arith, a.less, b.1))
+        (record { less = omega (arith, a.less, b.0.most); fit = b.0.fit }, omega (arith, a.less, b.1), b.2)
 
-    more_ranges_behind : {l : Limit} {rs : List Range} {ts rest : List Token} {all : List Range} → IsMoreRanges l rs ts rest all → Fit ts → Behind ts rest × (2 * length all + weight rest ≤ 2 * length rs + weight ts)
-    more_ranges_behind g.no_range f = (record { most = omega arith; fit = f }, omega arith)
+    more_ranges_behind : {l : Limit} {rs : List Range} {ts rest : List Token} {all : List Range} → IsMoreRanges l rs ts rest all → Fit ts → Behind ts rest × (2 * length all + weight rest ≤ 2 * length rs + weight ts) × (length rs ≤ length all)
+    more_ranges_behind g.no_range f = (record { most = omega arith; fit = f }, omega arith, omega arith)
     more_ranges_behind (g.a_range {t = t} {r = r} {rs = rs} _ d more) f =
         let a = range_after d f.1 in
         let b = more_ranges_behind more a.fit in
-        (record { most = omega (arith, a.less, b.0.most); fit = b.0.fit }, omega (arith, a.less, b.1, pays t.what, length-append rs (r ∷ [])))
+        (record { most = omega (arith, a.less, b.0.most); fit = b.0.fit }, omega (arith, a.less, b.1, pays t.what, length-append rs (r ∷ [])), omega (arith, b.2, length-append rs (r ∷ [])))
 
     range_after : {l : Limit} {ts rest : List Token} {r : Range} → IsRange l ts rest r → Fit ts → After ts rest
     range_after (g.single d) f = let a = expr_worth d f in record { less = a.0.less; fit = a.1 }

@@ -6,3 +6,6 @@ pub mod Names
 pub mod Worth
 pub mod Weights
 pub mod ExpressionWorth
+pub mod LabelWorth
+pub mod StatementForms
+pub mod StatementWorth

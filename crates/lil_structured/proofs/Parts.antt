@@ -229,7 +229,7 @@ elses_by : (looping : Bool) (ss : List Meaning) (o : Option Statements) → all_
 elses_by looping ss None e = rw e
 elses_by looping ss (Some body) e = rw e
 
-elses : (looping : Bool) (ss : List Meaning) → otherwise looping (Some ss) ≡ other_of (all_mean looping ss)
+pub elses : (looping : Bool) (ss : List Meaning) → otherwise looping (Some ss) ≡ other_of (all_mean looping ss)
 elses looping ss = elses_by looping ss (all_mean looping ss) refl
 
 -- ---- whole forms

@@ -12,7 +12,8 @@ use Rattle.lil_tree.specs.Kinds.{Kind, OfWhole, OfTruth, OfCharacter, OfEnumerat
 use Rattle.lil_tree.specs.Scalars.{Scalar, Number, Truth, Character, within, truth_number}
 use Rattle.lil_tree.specs.Resolved.{Expression, Constant, Taken, One, Two, Both, Either, Apply, Chr, kind_of, is_relation, result_kind}
 use Rattle.lil_tree.specs.Sizes.{depth, size, one_size, two_size, takes_one, takes_two, is_whole, is_base, IsSoundExpression}
-use Rattle.lil_tree.specs.Structured.{Scope, Meant, Whole', Fact, Evaluated, same_kind, of_kind, evaluated, evaluated_if, computed, divided, two_numbers, fact_only, two_facts, takes, two_values, two_mean, one_mean, one_of_meant, two_of_meant, character_of, character_by, Sense, of_value, nothing}
+use Rattle.lil_tree.specs.Structured.{Scope, Meant, Whole', Fact, Evaluated, same_kind, of_kind, evaluated, evaluated_if, computed, divided, two_numbers, fact_only, two_facts, takes, two_values, two_mean, one_mean, one_of_meant, two_of_meant, character_of, character_by, Sense, of_value, nothing, kind_if_any}
+use Rattle.lil_structured.specs.Forms.{selected_by}
 use Rattle.lil_tree.specs.Views.{one_of, two_of, cardinal_variable}
 
 -- ---- tests
@@ -351,3 +352,37 @@ module _ (n from mid to : ℕ) (apart : mid + 2 ≤ from) where
 
 pub nothing_worth : (n from to : ℕ) → to < from → Worth n from to nothing
 nothing_worth n from to h = record { less = h; value = tt; character = tt }
+
+-- ---- values of statements
+pub kind_worth : (n from to : ℕ) (k : Kind) (s : Sense) → Worth n from to s → IfSome (kind_if_any k s.value) (λ e. Held n from to e × (kind_of e ≡ k))
+kind_worth n from to k s w = by s.value w.value
+  where
+    by : (v : Option Meant) → IfSome v (IsGood n from to) → IfSome (kind_if_any k v) (λ e. Held n from to e × (kind_of e ≡ k))
+    by None h = tt
+    by (Some v) h = kind_good n from to k v w.less h
+
+-- the kinds that a CASE selects by
+pub data IsSelectorKind : Kind → Type 0 where
+  whole : {t : Whole} → IsSelectorKind (OfWhole t)
+  truth : IsSelectorKind OfTruth
+
+of_operand : {k : Kind} → IsOperandKind k → IsSelectorKind k
+of_operand cardinal = whole
+of_operand truth = truth
+
+pub selected_worth : (n from to : ℕ) (s : Sense) → Worth n from to s → IfSome (selected_by s.value) (λ e. Held n from to e × IsSelectorKind (kind_of e))
+selected_worth n from to s w = by s.value w.value
+  where
+    number : (z : ℤ) (b : Bool) → in_type Cardinal z ≡ b → (negsuc 32767 ≤ℤ z) × (z ≤ℤ pos 65535)
+        → IfSome (if b then Some (Constant (OfWhole Cardinal) (Number z)) else Some (Constant (OfWhole Integer) (Number z))) (λ e. Held n from to e × IsSelectorKind (kind_of e))
+    number z true is h = (constant_held n from to (OfWhole Cardinal) (Number z) is w.less, whole)
+    number z false is h = (constant_held n from to (OfWhole Integer) (Number z) (negative z is h.0 h.1) w.less, whole)
+      where
+        negative : (z : ℤ) → in_type Cardinal z ≡ false → negsuc 32767 ≤ℤ z → z ≤ℤ pos 65535 → in_type Integer z ≡ true
+        negative z e low high = grind (arith, ints)
+
+    by : (v : Option Meant) → IfSome v (IsGood n from to) → IfSome (selected_by v) (λ e. Held n from to e × IsSelectorKind (kind_of e))
+    by None h = tt
+    by (Some (Whole' z)) h = number z (in_type Cardinal z) refl h
+    by (Some (Fact b)) h = (constant_held n from to OfTruth (Truth b) refl w.less, truth)
+    by (Some (Evaluated e)) h = (h.0, of_operand h.1)
