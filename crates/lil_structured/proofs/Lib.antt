@@ -9,3 +9,4 @@ pub mod ExpressionWorth
 pub mod LabelWorth
 pub mod StatementForms
 pub mod StatementWorth
+pub mod TokenWeights
