@@ -10,3 +10,4 @@ pub mod LabelWorth
 pub mod StatementForms
 pub mod StatementWorth
 pub mod TokenWeights
+pub mod ModuleWorth
