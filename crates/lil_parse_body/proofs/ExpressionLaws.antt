@@ -1,16 +1,17 @@
 -- The parser of expressions, at each nesting, reads what the grammar derives within the limit, and stops exactly where nothing goes on.
-use Rattle.std.proofs.Common.{◌≡◌, ℕ, List, [], Some, None, Result, Ok, Err, IfOk, IfErr, refl}
+use Rattle.std.proofs.Common.{◌≡◌, ℕ, List, [], Some, None, Result, Ok, Err, IfOk, IfErr, subst}
 use Rattle.lil_base.specs.declared.fault.Place.{Place}
 use Rattle.lil_tree.specs.declared.token.Token.{Token}
 use Rattle.lil_tree.specs.declared.tree.Expr.{Expr}
 use Rattle.lil_tree.specs.declared.stop.ReadStop.{ReadStop}
 use Rattle.lil_tree.specs.Nesting.{within}
 use Rattle.lil_tree.specs.Expressions.{IsExpr}
-use Rattle.lil_parse_body.specs.Steps.{syntax, nested, Reads}
+use Rattle.lil_parse_body.specs.Steps.{syntax, nested, Outcome, Reads}
 use Rattle.lil_parse_body.specs.ReadExpressions.{expr}
 use Rattle.lil_parse_body.specs.Ends.{EndsExpression}
-use Rattle.lil_parse_body.specs.Places.{Longest, RefusedAt, TooDeepAt, StopsAt}
+use Rattle.lil_parse_body.specs.Places.{Longest, RefusedAt, TooDeepAt, StopsAt, AnswersAt}
 use Rattle.lil_parse_body.proofs.RulesUse as r
+use Rattle.lil_parse_body.proofs.RulesExact as exact
 use Rattle.lil_parse_body.proofs.ExpressionLevels.{nothing_expression}
 use Rattle.lil_parse_body.proofs.ExpressionRules.{rule_expr}
 
@@ -37,6 +38,13 @@ module _ (n : ℕ) where
   pub expr_too_deep : (ts : List Token) (p : Place) → expr n ts ≡ Err (nested p) → TooDeepAt IsExpr n ts p
   expr_too_deep = r.too_deep_at IsExpr n (rule_expr n) nothing_expression
 
+  -- what it answers is as described, and nothing else is
+  pub expr_answers : (ts : List Token) → AnswersAt IsExpr n ts (expr n ts)
+  expr_answers = exact.answers IsExpr n (rule_expr n) nothing_expression
+
+  pub expr_exactly : (ts : List Token) (o : Outcome Expr) → AnswersAt IsExpr n ts o → expr n ts ≡ o
+  expr_exactly = exact.exactly IsExpr n (rule_expr n) nothing_expression
+
   -- ---- for a function that reads by it
   module _ (ts new : List Token) (result : Result Expr ReadStop) (reads : Reads (expr n ts) result new) where
     pub expr_found : IfOk result (λ x. IsExpr (within n) ts new x)
@@ -50,3 +58,6 @@ module _ (n : ℕ) where
 
     pub expr_exact : IfErr result (λ e. StopsAt IsExpr n ts e)
     expr_exact = r.reads_exact IsExpr n (rule_expr n) nothing_expression ts new result reads
+
+    pub expr_is_exact : (o : Outcome Expr) → AnswersAt IsExpr n ts o → Reads o result new
+    expr_is_exact o h = subst (λ o. Reads o result new) (expr_exactly ts o h) reads

@@ -4,6 +4,7 @@ pub mod RulesTokens
 pub mod RulesMany
 pub mod RulesLimit
 pub mod RulesUse
+pub mod RulesExact
 pub mod RulesLists
 pub mod ExpressionBegins
 pub mod ExpressionLevels

@@ -109,8 +109,9 @@ Opens {A} R t = (more : List Token) × (a : A) × R None (t ∷ more) [] a
 -- then it is not refused as syntax wherever that token stands first
 pub goes_on_from : {A : Type 0} {p : Parser A} {R : Relation A} {E : List Token → Type 0} → Reaches p R E → E [] → (t : Token) → Opens R t → (q : Place) → ((more : List Token) → first more ≡ Some t → p more ≡ Err (syntax q)) → ⊥
 goes_on_from {p = p} reaches ends t b q refuses = elim (reaches None (t ∷ b.0) [] b.1 b.2 ends) [
-  inl n ↦ syntax_nested q n.0 (err_same (sym (refuses (t ∷ b.0) refl) ∙ n.1)) |
-  inr is ↦ ok_err is (refuses (t ∷ b.0) refl) ]
+  | inl n ↦ syntax_nested q n.0 (err_same (sym (refuses (t ∷ b.0) refl) ∙ n.1))
+  | inr is ↦ ok_err is (refuses (t ∷ b.0) refl)
+]
 
 pub bind_ok : {A B : Type 0} (o : Outcome A) (f : A → Parser B) (y : B × List Token) → and_then o f ≡ Ok y → (p : A × List Token) × (o ≡ Ok p) × (f p.0 p.1 ≡ Ok y)
 bind_ok (Ok p) f y e = (p, refl, e)
@@ -204,8 +205,9 @@ module _ {A B : Type 0} (p : Parser A) (P : Relation A) (q : A → Parser B) (Q 
       again = λ more same. subst (λ ts. and_then (p ts) q ≡ Err e) (sym (append_assoc x.front y.front more)) (then_is q (x.again (y.front ++ more) (inl (same_first more same))) (y.again more same));
       begins = second_begins P Q x y.begins;
       why = elim y.why [
-        inl h ↦ inl (record { none = h.none; is = h.is; at_end = then_is q (x.again y.front (subst (λ r. Follows y.front r) (sym y.cut) (follows-front y.front y.rest))) h.at_end }) |
-        inr h ↦ inr (deep h) ];
+        | inl h ↦ inl (record { none = h.none; is = h.is; at_end = then_is q (x.again y.front (subst (λ r. Follows y.front r) (sym y.cut) (follows-front y.front y.rest))) h.at_end })
+        | inr h ↦ inr (deep h)
+      ];
     }
       where
         same_first : (more : List Token) → first more ≡ first y.rest → first (y.front ++ more) ≡ first mid
@@ -279,8 +281,9 @@ module _ {A C : Type 0} (class : List Token → C) (same_class : (more rest : Li
       front = x.front;
       cut = x.cut;
       again = λ more same. ap (λ c. q c (x.front ++ more)) (elim same [
-        inl same ↦ class_again ts x.front rest more is x.cut same |
-        inr none ↦ ap class (ap (λ more. x.front ++ more) none ∙ append-nil x.front) ∙ class_at_end is x x.front refl ]) ∙ x.again more same;
+        | inl same ↦ class_again ts x.front rest more is x.cut same
+        | inr none ↦ ap class (ap (λ more. x.front ++ more) none ∙ append-nil x.front) ∙ class_at_end is x x.front refl
+      ]) ∙ x.again more same;
       derives = λ late s. chosen c (x.derives late s);
     }
 
@@ -293,10 +296,12 @@ module _ {A C : Type 0} (class : List Token → C) (same_class : (more rest : Li
     end_by : {c : C} {ts : List Token} {e : ReadStop} → class ts ≡ c → (front rest : List Token) → ts ≡ front ++ rest → e ≡ syntax (place_of rest) → ((more : List Token) → first more ≡ first rest → q c (front ++ more) ≡ Err e)
         → q c front ≡ Err (syntax (place_of [])) → choose front ≡ Err (syntax (place_of []))
     end_by {c} {ts} is [] rest cut same again end = elim (at_once c) [
-      inl none ↦ ap (λ c. q c []) none ∙ end |
-      inr h ↦ elim h [
-        inl refuses ↦ refuses |
-        inr never ↦ absurd (never ts (place_of rest) is (λ more first_same. again more (first_same ∙ ap first cut) ∙ ap (λ e. Err e) same)) ] ]
+      | inl none ↦ ap (λ c. q c []) none ∙ end
+      | inr h ↦ elim h [
+        | inl refuses ↦ refuses
+        | inr never ↦ absurd (never ts (place_of rest) is (λ more first_same. again more (first_same ∙ ap first cut) ∙ ap (λ e. Err e) same))
+      ]
+    ]
     end_by {c} {ts} is (t ∷ us) rest cut same again end = ap (λ c. q c (t ∷ us)) (same_class (t ∷ us) ts (sym (ap first cut)) ∙ is) ∙ end
 
     pub choice_fell : {c : C} {ts : List Token} {e : ReadStop} → class ts ≡ c → Fell (q c) (Q c) (E c) ts e → Fell choose (Choice Q) F ts e

@@ -1,16 +1,17 @@
 -- The parser of statements, at each nesting, reads what the grammar derives within the limit, and stops exactly where nothing goes on.
-use Rattle.std.proofs.Common.{◌≡◌, ℕ, List, [], Some, None, Result, Ok, Err, IfOk, IfErr, refl}
+use Rattle.std.proofs.Common.{◌≡◌, ℕ, List, [], Some, None, Result, Ok, Err, IfOk, IfErr, subst}
 use Rattle.lil_base.specs.declared.fault.Place.{Place}
 use Rattle.lil_tree.specs.declared.token.Token.{Token}
 use Rattle.lil_tree.specs.declared.tree.Stmt.{Stmt}
 use Rattle.lil_tree.specs.declared.stop.ReadStop.{ReadStop}
 use Rattle.lil_tree.specs.Nesting.{within}
 use Rattle.lil_tree.specs.Statements.{IsStatements}
-use Rattle.lil_parse_body.specs.Steps.{syntax, nested, Reads}
+use Rattle.lil_parse_body.specs.Steps.{syntax, nested, Outcome, Reads}
 use Rattle.lil_parse_body.specs.ReadStatements.{statements}
 use Rattle.lil_parse_body.specs.Ends.{EndsStatements}
-use Rattle.lil_parse_body.specs.Places.{Longest, RefusedAt, TooDeepAt, StopsAt}
+use Rattle.lil_parse_body.specs.Places.{Longest, RefusedAt, TooDeepAt, StopsAt, AnswersAt}
 use Rattle.lil_parse_body.proofs.RulesUse as r
+use Rattle.lil_parse_body.proofs.RulesExact as exact
 use Rattle.lil_parse_body.proofs.StatementParts.{nothing_statements}
 use Rattle.lil_parse_body.proofs.StatementRules.{rule_statement_list}
 
@@ -37,6 +38,13 @@ module _ (n : ℕ) where
   pub statements_too_deep : (ts : List Token) (p : Place) → statements n ts ≡ Err (nested p) → TooDeepAt IsStatements n ts p
   statements_too_deep = r.too_deep_at IsStatements n (rule_statement_list n) nothing_statements
 
+  -- what it answers is as described, and nothing else is
+  pub statements_answers : (ts : List Token) → AnswersAt IsStatements n ts (statements n ts)
+  statements_answers = exact.answers IsStatements n (rule_statement_list n) nothing_statements
+
+  pub statements_exactly : (ts : List Token) (o : Outcome (List Stmt)) → AnswersAt IsStatements n ts o → statements n ts ≡ o
+  statements_exactly = exact.exactly IsStatements n (rule_statement_list n) nothing_statements
+
   -- ---- for a function that reads by it
   module _ (ts new : List Token) (result : Result (List Stmt) ReadStop) (reads : Reads (statements n ts) result new) where
     pub statements_found : IfOk result (λ x. IsStatements (within n) ts new x)
@@ -50,3 +58,6 @@ module _ (n : ℕ) where
 
     pub statements_exact : IfErr result (λ e. StopsAt IsStatements n ts e)
     statements_exact = r.reads_exact IsStatements n (rule_statement_list n) nothing_statements ts new result reads
+
+    pub statements_is_exact : (o : Outcome (List Stmt)) → AnswersAt IsStatements n ts o → Reads o result new
+    statements_is_exact o h = subst (λ o. Reads o result new) (statements_exactly ts o h) reads
