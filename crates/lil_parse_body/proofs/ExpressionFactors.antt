@@ -1,40 +1,33 @@
 -- The rules of sets, arguments, designators and factors, by those of expressions and of factors behind NOT.
-use Rattle.std.proofs.Common.{◌≡◌, ◌⊎◌, ℕ, suc, ◌+◌, ◌≤◌, ◌<◌, Bool, true, false, ◌&&◌, List, [], ◌∷◌, ◌++◌, length, length-append, Option, Some, None, Ok, Err, refl, subst, ap, sym, ◌∙◌, inl, inr, arith}
+use Rattle.std.proofs.Common.{◌≡◌, ℕ, ◌<◌, true, List, [], ◌∷◌, ◌++◌, length, None, Ok, Err, refl, subst, ap, sym, inl, inr, arith}
 use Rattle.lil_base.specs.declared.fault.Place.{Place}
 use Rattle.lil_tree.specs.declared.token.Token.{Token}
 use Rattle.lil_tree.specs.declared.token.TokenKind.{TokenKind}
 use Rattle.lil_tree.specs.declared.token.TokenKind.TheVariants as k
-use Rattle.lil_tree.specs.declared.token.Word.TheVariants as w
 use Rattle.lil_tree.specs.declared.token.Mark.TheVariants as m
-use Rattle.lil_tree.specs.declared.operator.OneOp.TheVariants as one
-use Rattle.lil_tree.specs.declared.tree.Ident.{Ident}
-use Rattle.lil_tree.specs.declared.tree.Qualident.{Qualident}
 use Rattle.lil_tree.specs.declared.tree.Expr.{Expr}
-use Rattle.lil_tree.specs.declared.tree.Expr.TheVariants as e
 use Rattle.lil_tree.specs.declared.tree.Range.{Range}
 use Rattle.lil_tree.specs.declared.tree.Designator.{Designator}
 use Rattle.lil_tree.specs.declared.tree.Selector.{Selector}
 use Rattle.lil_tree.specs.declared.tree.Selector.TheVariants as s
 use Rattle.lil_tree.specs.Nesting.{Limit}
-use Rattle.lil_tree.specs.Operators.{begins_expression, selects, joins_factor}
-use Rattle.lil_tree.specs.Trees.{ident, qualident, range, designator, begun_at}
+use Rattle.lil_tree.specs.Operators.{selects}
+use Rattle.lil_tree.specs.Trees.{ident, designator}
 use Rattle.lil_tree.specs.Expressions as g
 use Rattle.lil_tree.specs.Expressions.{IsQualident, IsExpr, IsFactor, IsOperand, IsDesignator, IsSelectors, IsSelector, IsActuals, IsExprs, IsElements, IsRanges}
 use Rattle.lil_parse_body.specs.declared.kinds.SelectorKind.{SelectorKind}
 use Rattle.lil_parse_body.specs.declared.kinds.SelectorKind.TheVariants as sk
-use Rattle.lil_parse_body.specs.declared.kinds.FactorKind.{FactorKind}
-use Rattle.lil_parse_body.specs.declared.kinds.FactorKind.TheVariants as fk
-use Rattle.lil_parse_body.specs.Steps.{syntax, place_of, Parser, ◌>>=◌, ◌>>◌, pure, first, at, class_at, either, either_by, token, same_mark, is_mark, mark_at, word_at, ident_at, many}
-use Rattle.lil_parse_body.specs.Kinds.{number_by, number_at, code_by, code_at, chars_by, chars_at, factor_kind, selector_kind}
+use Rattle.lil_parse_body.specs.Steps.{syntax, place_of, Parser, ◌>>=◌, pure, first, at, class_at, token, same_mark, is_mark, mark_at}
+use Rattle.lil_parse_body.specs.Kinds.{selector_kind}
 use Rattle.lil_parse_body.specs.ReadExpressions as spec
-use Rattle.lil_parse_body.specs.Ends.{Not, EndsFactor, EndsExpression, EndsRange, EndsRanges, EndsExprs}
-use Rattle.lil_parse_body.proofs.Rules.{Late, Relation, Opens, Rule, Then, ◌▸◌, bind_ok, ok_same, Choice, chosen, rule_choice, rule_then, rule_as}
-use Rattle.lil_parse_body.proofs.RulesTokens.{Any, Same, nothing, rule_pure, Taken, takes, token_of, rule_token, IsMark, a_mark, rule_mark, IsWord, a_word, rule_word, IsIdent, an_ident, rule_ident}
-use Rattle.lil_parse_body.proofs.RulesMany.{Star, stop, go_on, Turns, between, rule_many}
+use Rattle.lil_parse_body.specs.Ends.{Not, EndsExpression, EndsRanges, EndsExprs}
+use Rattle.lil_parse_body.proofs.Rules.{Late, Relation, Opens, Rule, Then, ◌▸◌, bind_ok, ok_same, Choice, chosen, rule_choice, rule_as}
+use Rattle.lil_parse_body.proofs.RulesTokens.{Any, Same, nothing, rule_pure, token_of, IsMark, a_mark, rule_mark, IsIdent, an_ident, rule_ident}
+use Rattle.lil_parse_body.proofs.RulesMany.{stop, go_on, Turns, rule_many}
 use Rattle.lil_parse_body.proofs.RulesLimit.{limit}
-use Rattle.lil_parse_body.proofs.RulesLists.{at_apart, Takes, plain_some, takes_opens, Or, left, right, rule_either, no_longer, behind_token_shrinks, rule_map, rule_after, rule_before}
+use Rattle.lil_parse_body.proofs.RulesLists.{plain_some, takes_opens, Or, left, right, rule_either, behind_token_shrinks, rule_map, rule_after, rule_before}
 use Rattle.lil_parse_body.proofs.ExpressionBegins.{begins_exprs, begins_ranges, selector_begins}
-use Rattle.lil_parse_body.proofs.ExpressionParts.{takes_mark, begins_mark, begins_word, not_at_mark, ends_at_mark, mark_begins_none, rule_exprs, rule_ranges}
+use Rattle.lil_parse_body.proofs.ExpressionParts.{takes_mark, begins_mark, not_at_mark, ends_at_mark, mark_begins_none, rule_exprs, rule_ranges}
 
 -- the first tokens alone tell the class
 pub class_same : {C : Type 0} (none : C) (f : TokenKind → C) (more rest : List Token) → first more ≡ first rest → class_at none f more ≡ class_at none f rest

@@ -1,5 +1,5 @@
 -- The rules of the levels of operators, by that of a factor.
-use Rattle.std.proofs.Common.{◌≡◌, ℕ, Bool, true, false, List, [], ◌∷◌, Option, Some, None, refl, subst, ap, sym, ◌∙◌}
+use Rattle.std.proofs.Common.{◌≡◌, ℕ, Bool, true, false, List, [], ◌∷◌, Option, Some, None, refl, subst, ap, sym}
 use Rattle.lil_base.specs.declared.fault.Place.{Place}
 use Rattle.lil_tree.specs.declared.token.Token.{Token}
 use Rattle.lil_tree.specs.declared.token.TokenKind.{TokenKind}
@@ -18,13 +18,13 @@ use Rattle.lil_tree.specs.Expressions as g
 use Rattle.lil_tree.specs.Expressions.{IsRelation, IsSum, IsSigned, IsTerms, IsTerm, IsFactors, IsFactor}
 use Rattle.lil_parse_body.specs.declared.kinds.Level.{Level}
 use Rattle.lil_parse_body.specs.declared.kinds.Level.TheVariants as level
-use Rattle.lil_parse_body.specs.Steps.{Parser, ◌>>=◌, pure, at, either, token}
+use Rattle.lil_parse_body.specs.Steps.{Parser, at, token}
 use Rattle.lil_parse_body.specs.Kinds.{found, placed, operator_in, is_operator, operator_at, is_sign, sign_at}
 use Rattle.lil_parse_body.specs.ReadExpressions as spec
 use Rattle.lil_parse_body.specs.Ends.{Not, EndsFactor, EndsTerm, EndsSum, EndsExpression}
 use Rattle.lil_parse_body.proofs.Rules.{Late, Relation, Opens, Rule, Then, ◌▸◌, rule_then, rule_as}
 use Rattle.lil_parse_body.proofs.RulesTokens.{Any, Same, nothing, rule_pure, Taken, takes, token_of, rule_token}
-use Rattle.lil_parse_body.proofs.RulesMany.{Star, stop, go_on, Turns}
+use Rattle.lil_parse_body.proofs.RulesMany.{stop, go_on, Turns}
 use Rattle.lil_parse_body.proofs.RulesLimit.{limit}
 use Rattle.lil_parse_body.proofs.RulesLists.{at_apart, Or, left, right, rule_either, Takes, takes_opens, Turn, rule_list, rule_map, rule_after}
 use Rattle.lil_parse_body.proofs.ExpressionBegins.{begins_term}

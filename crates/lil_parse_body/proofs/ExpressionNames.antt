@@ -1,5 +1,5 @@
 -- The rule of a factor that begins with a name: sets of a named type, calls and values.
-use Rattle.std.proofs.Common.{◌≡◌, ◌⊎◌, ℕ, suc, ◌+◌, ◌≤◌, ◌<◌, Bool, true, false, true≢false, ◌&&◌, List, [], ◌∷◌, ◌++◌, length, length-append, Option, Some, None, refl, subst, ap, sym, ◌∙◌, inl, inr, arith}
+use Rattle.std.proofs.Common.{◌≡◌, ◌⊎◌, ℕ, ◌≤◌, ◌<◌, Bool, true, false, true≢false, ◌&&◌, List, [], ◌∷◌, ◌++◌, length, length-append, Some, refl, subst, ap, sym, ◌∙◌, inl, inr, arith}
 use Rattle.lil_base.specs.declared.fault.Place.{Place}
 use Rattle.lil_tree.specs.declared.token.Token.{Token}
 use Rattle.lil_tree.specs.declared.token.TokenKind.{TokenKind}
@@ -14,17 +14,16 @@ use Rattle.lil_tree.specs.declared.tree.Range.{Range}
 use Rattle.lil_tree.specs.declared.tree.Designator.{Designator}
 use Rattle.lil_tree.specs.declared.tree.Selector as selector
 use Rattle.lil_tree.specs.declared.tree.Selector.{Selector}
-use Rattle.lil_tree.specs.declared.tree.Selector.TheVariants as s
 use Rattle.lil_tree.specs.Nesting.{Limit}
 use Rattle.lil_tree.specs.Operators.{selects, joins_factor}
-use Rattle.lil_tree.specs.Trees.{ident, qualident, designator}
+use Rattle.lil_tree.specs.Trees.{ident, designator}
 use Rattle.lil_tree.specs.Expressions as g
 use Rattle.lil_tree.specs.Expressions.{IsQualident, IsExpr, IsFactor, IsDesignator, IsSelectors, IsSelector, IsActuals, IsElements}
-use Rattle.lil_parse_body.specs.Steps.{Parser, ◌>>=◌, ◌>>◌, pure, at, either, either_by, token, same_mark, is_mark, mark_at, ident_at}
+use Rattle.lil_parse_body.specs.Steps.{Parser, at, either_by, same_mark, is_mark}
 use Rattle.lil_parse_body.specs.ReadExpressions as spec
 use Rattle.lil_parse_body.specs.ReadExpressions.{is_qualified, qualified}
 use Rattle.lil_parse_body.specs.Ends.{Not, EndsFactor, EndsExpression}
-use Rattle.lil_parse_body.proofs.Rules.{Late, Relation, Opens, Rule, Then, ◌▸◌, rule_then, rule_as}
+use Rattle.lil_parse_body.proofs.Rules.{Late, Relation, Opens, Rule, Then, ◌▸◌, rule_then}
 use Rattle.lil_parse_body.proofs.RulesTokens.{Any, Same, nothing, rule_pure, token_of, mark_is, is_mark_of, IsMark, a_mark, rule_mark, IsIdent, an_ident, rule_ident}
 use Rattle.lil_parse_body.proofs.RulesMany.{stop, go_on}
 use Rattle.lil_parse_body.proofs.RulesLimit.{limit}

@@ -1,13 +1,13 @@
 -- Each answer of a parser comes exactly where it is described.
-use Rattle.std.proofs.Common.{◌≡◌, ◌≢◌, ◌⊎◌, ℕ, zero, suc, ◌+◌, ◌≤◌, ◌<◌, List, [], ◌∷◌, ◌++◌, length, length-append, append_assoc, append-nil, Option, Some, None, Result, Ok, Err, refl, subst, ap, sym, ◌∙◌, inl, inr, arith}
+use Rattle.std.proofs.Common.{◌≡◌, ◌⊎◌, ℕ, suc, ◌<◌, List, [], ◌∷◌, ◌++◌, length, length-append, append_assoc, append-nil, Some, None, Ok, Err, refl, subst, ap, sym, ◌∙◌, inl, inr, arith}
 use Rattle.lil_base.specs.declared.fault.Place.{Place}
 use Rattle.lil_tree.specs.declared.token.Token.{Token}
 use Rattle.lil_tree.specs.declared.stop.ReadStop.{ReadStop}
 use Rattle.lil_tree.specs.declared.stop.ReadStop.TheVariants.{Fault, Memory}
 use Rattle.lil_tree.specs.Nesting.{within}
-use Rattle.lil_parse_body.specs.Steps.{syntax, nested, Outcome, Parser, Reads, first, place_of}
+use Rattle.lil_parse_body.specs.Steps.{syntax, nested, Outcome, Parser, first, place_of}
 use Rattle.lil_parse_body.specs.Places.{Grammar, IsRun, RefusedAt, TooDeepAt, AnswersAt}
-use Rattle.lil_parse_body.proofs.Rules.{Late, IsFree, is_free_less, Took, Fell, Begins, IsSyntax, IsDeep, Rule, Nested, ok_same, err_same, ok_err, syntax_nested, first-append}
+use Rattle.lil_parse_body.proofs.Rules.{Took, Fell, IsSyntax, IsDeep, Rule, Nested, ok_same, err_same, ok_err, syntax_nested, first-append}
 use Rattle.lil_parse_body.proofs.RulesLimit.{limit}
 use Rattle.lil_parse_body.proofs.RulesUse.{to_end, complete, is_run, stops_at, never_memory}
 

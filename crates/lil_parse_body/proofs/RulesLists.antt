@@ -1,13 +1,12 @@
 -- The rules of two ways by a test of the first token, and of a list of parts behind tokens that part them.
-use Rattle.std.proofs.Common.{◌≡◌, ◌⊎◌, ℕ, suc, ◌≤◌, ◌<◌, Bool, true, false, List, [], ◌∷◌, ◌++◌, length, length-append, Option, Some, None, Ok, Err, refl, subst, ap, sym, ◌∙◌, inl, inr, arith}
+use Rattle.std.proofs.Common.{◌≡◌, suc, ◌≤◌, ◌<◌, Bool, true, false, List, [], ◌∷◌, ◌++◌, length, length-append, Option, Some, None, Ok, refl, ap, inl, inr, arith}
 use Rattle.lil_tree.specs.declared.token.Token.{Token}
 use Rattle.lil_tree.specs.declared.token.TokenKind.{TokenKind}
-use Rattle.lil_tree.specs.declared.stop.ReadStop.{ReadStop}
-use Rattle.lil_parse_body.specs.Steps.{Outcome, Parser, and_then, ◌>>=◌, pure, first, at, either, either_by, token, taken, many}
+use Rattle.lil_parse_body.specs.Steps.{Parser, ◌>>=◌, pure, at, either, either_by, token, taken, many}
 use Rattle.lil_parse_body.specs.Ends.{Not}
-use Rattle.lil_parse_body.proofs.Rules.{Late, IsFree, AtOnce, Opens, Relation, Took, Fell, Rule, Reaches, Begins, Nested, ok_same, bind_ok, Then, ◌▸◌, rule_then, Choice, chosen, rule_choice, rule_as}
+use Rattle.lil_parse_body.proofs.Rules.{Late, AtOnce, Opens, Relation, Rule, Begins, ok_same, bind_ok, Then, ◌▸◌, rule_then, Choice, chosen, rule_choice, rule_as}
 use Rattle.lil_parse_body.proofs.RulesTokens.{Any, Same, nothing, rule_pure, at_same, never_at_once}
-use Rattle.lil_parse_body.proofs.RulesMany.{Star, stop, go_on, Turns, between, rule_many}
+use Rattle.lil_parse_body.proofs.RulesMany.{Turns, between, rule_many}
 
 -- tests that hold of different tokens
 pub at_apart : (f g : TokenKind → Bool) → ((w : TokenKind) → f w ≡ true → g w ≡ false) → (ts : List Token) → at f ts ≡ true → Not g ts

@@ -1,10 +1,10 @@
 -- The rule of repetition, as long as a turn begins.
-use Rattle.std.proofs.Common.{◌≡◌, ◌⊎◌, ℕ, zero, suc, ◌+◌, ◌≤◌, ◌<◌, Bool, true, false, List, [], ◌∷◌, ◌++◌, length, Option, Some, None, Ok, Err, refl, subst, ap, sym, ◌∙◌, inl, inr, arith}
+use Rattle.std.proofs.Common.{◌≡◌, ◌⊎◌, ℕ, zero, suc, ◌≤◌, ◌<◌, Bool, true, false, List, [], ◌∷◌, length, None, Ok, Err, refl, subst, ap, sym, ◌∙◌, inl, inr, arith}
 use Rattle.lil_tree.specs.declared.token.Token.{Token}
 use Rattle.lil_tree.specs.declared.token.TokenKind.{TokenKind}
 use Rattle.lil_tree.specs.declared.stop.ReadStop.{ReadStop}
-use Rattle.lil_parse_body.specs.Steps.{Outcome, Parser, and_then, ◌>>=◌, pure, first, at, either_by, loop, many}
-use Rattle.lil_parse_body.proofs.Rules.{Late, IsFree, Relation, Took, Fell, Rule, Reaches, Begins, Nested, ok_same, err_same, bind_ok, Then, ◌▸◌, AtOnce, Opens, then_took, first_fell, second_fell, then_reaches, Choice, chosen, choose, choice_took, choice_fell, took_as, fell_as}
+use Rattle.lil_parse_body.specs.Steps.{Outcome, Parser, and_then, ◌>>=◌, pure, at, either_by, loop, many}
+use Rattle.lil_parse_body.proofs.Rules.{Late, Relation, Took, Fell, Rule, Reaches, Begins, Nested, err_same, bind_ok, Then, ◌▸◌, AtOnce, Opens, then_took, first_fell, second_fell, then_reaches, Choice, chosen, choice_took, choice_fell, took_as, fell_as}
 use Rattle.lil_parse_body.proofs.RulesTokens.{Any, Same, nothing, rule_pure, at_same, never_at_once}
 
 pub data Star {S : Type 0} (D : S → Relation S) (late : Late) : S → List Token → List Token → S → Type 0 where

@@ -1,6 +1,6 @@
 -- The rules of nothing, and of one token.
-use Rattle.std.proofs.Common.{◌≡◌, ◌⊎◌, ℕ, Bool, true, false, cond, List, [], ◌∷◌, ◌++◌, length, Option, Some, None, Ok, Err, refl, subst, ap, sym, ◌∙◌, inl, inr, rules}
-use denote.Enum.Bare.{sameb, same_true, true_same}
+use Rattle.std.proofs.Common.{◌≡◌, ℕ, Bool, true, false, cond, List, [], ◌∷◌, Option, Some, None, Ok, Err, refl, subst, ap, sym, ◌∙◌, inl, inr, rules}
+use denote.Enum.Bare.{same_true, true_same}
 use Rattle.lil_base.specs.declared.fault.Place.{Place}
 use Rattle.lil_tree.specs.declared.token.Token.{Token}
 use Rattle.lil_tree.specs.declared.token.TokenKind.{TokenKind}
@@ -12,8 +12,8 @@ use Rattle.lil_tree.specs.contracts.token.Word as word
 use Rattle.lil_tree.specs.declared.tree.Ident.{Ident}
 use Rattle.lil_tree.specs.declared.stop.ReadStop.{ReadStop}
 use Rattle.lil_tree.specs.Trees.{ident}
-use Rattle.lil_parse_body.specs.Steps.{syntax, Outcome, Parser, pure, first, place_of, at, token, taken, same_mark, is_mark, same_word, is_word, mark_at, word_at, ident_by, ident_at}
-use Rattle.lil_parse_body.proofs.Rules.{Late, IsFree, Relation, Took, Fell, Rule, Reaches, Begins, ok_same, err_same, Opens, goes_on_from, rule_as}
+use Rattle.lil_parse_body.specs.Steps.{syntax, Parser, pure, first, place_of, at, token, taken, same_mark, is_mark, same_word, is_word, mark_at, word_at, ident_by, ident_at}
+use Rattle.lil_parse_body.proofs.Rules.{Late, Relation, Took, Rule, Reaches, Begins, ok_same, err_same, Opens, goes_on_from, rule_as}
 
 -- anything may follow
 abbrev pub Any : List Token → Type 0

@@ -1,14 +1,14 @@
 -- What follows from a rule: what is read and nothing else, one reading, and the exact places of the faults.
-use Rattle.std.proofs.Common.{◌≡◌, ◌≢◌, ◌⊎◌, ℕ, zero, suc, ◌≤◌, ◌<◌, List, [], ◌∷◌, ◌++◌, length, append-nil, Option, Some, None, Result, Ok, Err, IfOk, IfErr, refl, subst, ap, sym, ◌∙◌, inl, inr, arith}
+use Rattle.std.proofs.Common.{◌≡◌, ◌⊎◌, ℕ, suc, ◌≤◌, ◌<◌, List, [], ◌∷◌, ◌++◌, length, append-nil, Some, None, Result, Ok, Err, IfOk, IfErr, subst, ap, sym, ◌∙◌, inl, inr, arith}
 use Rattle.lil_base.specs.declared.fault.Place.{Place}
 use Rattle.lil_base.specs.declared.fault.SourceFault.{SourceFault}
 use Rattle.lil_tree.specs.declared.token.Token.{Token}
 use Rattle.lil_tree.specs.declared.stop.ReadStop.{ReadStop}
 use Rattle.lil_tree.specs.declared.stop.ReadStop.TheVariants.{Fault, Memory}
 use Rattle.lil_tree.specs.Nesting.{within}
-use Rattle.lil_parse_body.specs.Steps.{syntax, nested, Outcome, Parser, Reads, first, place_of}
+use Rattle.lil_parse_body.specs.Steps.{syntax, nested, Outcome, Parser, Reads, place_of}
 use Rattle.lil_parse_body.specs.Places.{Grammar, Longest, IsRun, RefusedAt, TooDeepAt, StopsAt}
-use Rattle.lil_parse_body.proofs.Rules.{Late, IsFree, Relation, Took, Fell, Begins, IsSyntax, IsDeep, Rule, Nested, ok_same, err_same, ok_err, fault_same, syntax_nested, syntax_same, nested_same}
+use Rattle.lil_parse_body.proofs.Rules.{Late, IsFree, Relation, Fell, Begins, IsSyntax, IsDeep, Rule, Nested, ok_same, err_same, ok_err, fault_same, syntax_nested, syntax_same, nested_same}
 use Rattle.lil_parse_body.proofs.RulesLimit.{limit}
 
 memory_fault : {f : SourceFault} → Memory ≡ Fault f → ⊥
@@ -35,9 +35,6 @@ module _ {A : Type 0} {p : Parser A} {R : Relation A} {E : List Token → Type 0
         absurd (omega (arith, d.keeps_none d.tail 0 rest a (subst (λ ts. R (Some 0) ts rest a) (y.cut ∙ ap (λ r. y.front ++ r) d.cut) h) e))
     | inr is ↦ is
   ]
-
-  pub unique : (ts rest rest' : List Token) (a b : A) → R (Some 0) ts rest a → R (Some 0) ts rest' b → E rest → E rest' → (a ≡ b) × (rest ≡ rest')
-  unique ts rest rest' a b h h' e e' = let same = ok_same (sym (complete ts rest a h e) ∙ complete ts rest' b h' e') in (ap (λ y. y.0) same, ap (λ y. y.1) same)
 
   -- it needs no memory
   pub never_memory : (ts : List Token) → p ts ≡ Err Memory → ⊥

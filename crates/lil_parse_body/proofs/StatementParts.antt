@@ -1,5 +1,5 @@
 -- The rules of the parts of statements, by those of the expressions and statements in them.
-use Rattle.std.proofs.Common.{◌≡◌, ◌⊎◌, ℕ, suc, Bool, true, false, true≢false, List, [], ◌∷◌, ◌++◌, Option, Some, None, refl, subst, ap, sym, ◌∙◌, inl, inr}
+use Rattle.std.proofs.Common.{◌≡◌, ℕ, true, false, List, [], ◌∷◌, ◌++◌, Option, Some, None, refl, subst, sym}
 use Rattle.lil_base.specs.declared.fault.Place.{Place}
 use Rattle.lil_tree.specs.declared.token.Token.{Token}
 use Rattle.lil_tree.specs.declared.token.TokenKind.{TokenKind}
@@ -16,24 +16,21 @@ use Rattle.lil_tree.specs.declared.tree.Guard.{Guard}
 use Rattle.lil_tree.specs.declared.tree.Arm.{Arm}
 use Rattle.lil_tree.specs.declared.tree.ForHead.{ForHead}
 use Rattle.lil_tree.specs.Nesting.{Limit, unlimited}
-use Rattle.lil_tree.specs.Operators.{begins_expression, begins_statement, selects, joins_factor}
-use Rattle.lil_tree.specs.Trees.{ident, range, guard, arm, for_head, listed}
+use Rattle.lil_tree.specs.Operators.{begins_expression, begins_statement}
+use Rattle.lil_tree.specs.Trees.{range, guard, arm, for_head, listed}
 use Rattle.lil_tree.specs.Expressions as in_expr
 use Rattle.lil_tree.specs.Expressions.{IsExpr, IsRanges}
 use Rattle.lil_tree.specs.Statements as g
 use Rattle.lil_tree.specs.Statements.{IsStep, IsForHead, IsStatements, IsMoreStatements, IsStatement, IsBody, IsElse, IsGuard, IsMoreGuards, IsArms, IsMoreArms, IsArm}
-use Rattle.lil_parse_body.specs.declared.kinds.Level.TheVariants as level
-use Rattle.lil_parse_body.specs.Steps.{Parser, ◌>>=◌, ◌>>◌, pure, at, either, token, same_mark, same_word, is_mark, is_word, mark_at, word_at, ident_at, many}
-use Rattle.lil_parse_body.specs.Kinds.{is_operator}
-use Rattle.lil_parse_body.specs.ReadExpressions.{ranges}
+use Rattle.lil_parse_body.specs.Steps.{Parser, at, same_mark, same_word, is_mark, is_word, mark_at, word_at}
 use Rattle.lil_parse_body.specs.ReadStatements as spec
 use Rattle.lil_parse_body.specs.Ends.{Not, EndsExpression, EndsRanges, EndsStatement, EndsStatements}
 use Rattle.lil_parse_body.proofs.Rules.{Late, Relation, Opens, Rule, Then, ◌▸◌, rule_then, rule_as}
 use Rattle.lil_parse_body.proofs.RulesTokens.{Any, Same, nothing, rule_pure, IsMark, a_mark, rule_mark, IsWord, a_word, rule_word, token_of, IsIdent, an_ident, rule_ident}
-use Rattle.lil_parse_body.proofs.RulesMany.{Star, stop, go_on, Turns}
+use Rattle.lil_parse_body.proofs.RulesMany.{stop, go_on, Turns}
 use Rattle.lil_parse_body.proofs.RulesLimit.{limit}
-use Rattle.lil_parse_body.proofs.RulesLists.{at_apart, Takes, takes_opens, Or, left, right, rule_either, Turn, EndsList, rule_list, rule_map, rule_after, rule_before}
-use Rattle.lil_parse_body.proofs.ExpressionBegins.{begins_expr, begins_ranges}
+use Rattle.lil_parse_body.proofs.RulesLists.{takes_opens, Or, left, right, rule_either, Turn, rule_list, rule_map, rule_after, rule_before}
+use Rattle.lil_parse_body.proofs.ExpressionBegins.{begins_ranges}
 use Rattle.lil_parse_body.proofs.ExpressionLevels.{nothing_expression}
 use Rattle.lil_parse_body.proofs.ExpressionRules.{an_expression}
 use Rattle.lil_parse_body.proofs.ExpressionParts.{takes_mark, takes_word, begins_mark, begins_word, at_word, not_at_mark, not_at_word, EndsAt, ends_at_mark, ends_at_word, rule_ranges}

@@ -1,5 +1,5 @@
 -- The rules of the forms of statements, and of statements at each nesting.
-use Rattle.std.proofs.Common.{◌≡◌, ◌⊎◌, ℕ, zero, suc, ◌≤◌, Bool, true, false, List, [], ◌∷◌, ◌++◌, length, Option, Some, None, Err, refl, subst, ap, sym, ◌∙◌, inl, inr}
+use Rattle.std.proofs.Common.{◌≡◌, ◌⊎◌, ℕ, zero, suc, Bool, true, false, List, [], ◌∷◌, ◌++◌, length, Option, Some, None, Err, refl, subst, ap, sym, ◌∙◌, inl, inr}
 use Rattle.lil_base.specs.declared.fault.Place.{Place}
 use Rattle.lil_tree.specs.declared.token.Token.{Token}
 use Rattle.lil_tree.specs.declared.token.TokenKind.{TokenKind}
@@ -14,9 +14,8 @@ use Rattle.lil_tree.specs.declared.tree.Stmt.{Stmt}
 use Rattle.lil_tree.specs.declared.tree.Stmt.TheVariants as s
 use Rattle.lil_tree.specs.declared.tree.Guard.{Guard}
 use Rattle.lil_tree.specs.declared.tree.Arm.{Arm}
-use Rattle.lil_tree.specs.declared.tree.ForHead.{ForHead}
 use Rattle.lil_tree.specs.Nesting.{Limit, Inside, unlimited}
-use Rattle.lil_tree.specs.Operators.{begins_expression, begins_statement, selects, joins_factor}
+use Rattle.lil_tree.specs.Operators.{begins_expression, begins_statement, selects}
 use Rattle.lil_tree.specs.Trees.{ident, designator, guard, for_head}
 use Rattle.lil_tree.specs.Expressions.{IsExpr, IsDesignator, IsActuals}
 use Rattle.lil_tree.specs.Expressions as in_expr
@@ -24,7 +23,7 @@ use Rattle.lil_tree.specs.Statements as g
 use Rattle.lil_tree.specs.Statements.{IsForHead, IsStatements, IsStatement, IsForm, IsBody, IsElse, IsArms}
 use Rattle.lil_parse_body.specs.declared.kinds.FormKind.{FormKind}
 use Rattle.lil_parse_body.specs.declared.kinds.FormKind.TheVariants as st
-use Rattle.lil_parse_body.specs.Steps.{syntax, place_of, Parser, ◌>>=◌, ◌>>◌, pure, at, class_at, either, either_by, too_deep, refuse, shallow, token, same_mark, same_word, is_mark, is_word, mark_at, word_at}
+use Rattle.lil_parse_body.specs.Steps.{syntax, place_of, Parser, pure, at, class_at, either, either_by, too_deep, refuse, shallow, token, same_mark, same_word, is_mark, is_word}
 use Rattle.lil_parse_body.specs.Kinds.{form_kind}
 use Rattle.lil_parse_body.specs.ReadExpressions.{expr, designated}
 use Rattle.lil_parse_body.specs.ReadStatements as spec
@@ -32,8 +31,8 @@ use Rattle.lil_parse_body.specs.Ends.{Not, EndsExpression, EndsStatement, EndsSt
 use Rattle.lil_parse_body.proofs.Rules.{Late, IsFree, Relation, Opens, Rule, Begins, Then, ◌▸◌, Choice, chosen, rule_choice, rule_then, rule_within, rule_as}
 use Rattle.lil_parse_body.proofs.RulesTokens.{Any, Same, nothing, rule_pure, IsMark, a_mark, rule_mark, mark_is, IsWord, a_word, rule_word, token_of}
 use Rattle.lil_parse_body.proofs.RulesLimit.{limit, inside_next, inside_free, inside_next_is, inside_zero_is, rule_shallow}
-use Rattle.lil_parse_body.proofs.RulesLists.{at_apart, takes_opens, Or, left, right, rule_either, rule_map, rule_after, rule_before}
-use Rattle.lil_parse_body.proofs.ExpressionBegins.{begins_expr, begins_designator}
+use Rattle.lil_parse_body.proofs.RulesLists.{takes_opens, Or, left, right, rule_either, rule_map, rule_after, rule_before}
+use Rattle.lil_parse_body.proofs.ExpressionBegins.{begins_expr}
 use Rattle.lil_parse_body.proofs.ExpressionParts.{takes_mark, begins_mark, begins_word, at_word, not_at_mark, not_at_word, ends_at_word}
 use Rattle.lil_parse_body.proofs.ExpressionFactors.{class_same, rule_actuals, rule_designated}
 use Rattle.lil_parse_body.proofs.ExpressionNames.{ends_selectors, ends_mark, begins_actuals}
