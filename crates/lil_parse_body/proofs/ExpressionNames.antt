@@ -24,7 +24,7 @@ use Rattle.lil_parse_body.specs.ReadExpressions as spec
 use Rattle.lil_parse_body.specs.ReadExpressions.{is_qualified, qualified}
 use Rattle.lil_parse_body.specs.Ends.{Not, EndsFactor, EndsExpression}
 use Rattle.lil_parse_body.proofs.Rules.{Late, Relation, Opens, Rule, Then, ◌▸◌, rule_then}
-use Rattle.lil_parse_body.proofs.RulesTokens.{Any, Same, nothing, rule_pure, token_of, mark_is, is_mark_of, IsMark, a_mark, rule_mark, IsIdent, an_ident, rule_ident}
+use Rattle.lil_parse_body.proofs.RulesTokens.{Anything, Same, nothing, rule_pure, token_of, mark_is, is_mark_of, IsMark, a_mark, rule_mark, IsIdent, an_ident, rule_ident}
 use Rattle.lil_parse_body.proofs.RulesMany.{stop, go_on}
 use Rattle.lil_parse_body.proofs.RulesLimit.{limit}
 use Rattle.lil_parse_body.proofs.RulesLists.{takes_opens, Or, left, right, rule_either, rule_map, rule_after}
@@ -168,7 +168,7 @@ module _ (n : ℕ) (expr : Parser Expr) (x : Rule expr (λ late. IsExpr (limit n
       none : (late : Late) (ts rest : List Token) (y : Expr) → Same (e.Desig p d) late ts rest y → EndsFactor rest → Not (is_mark m.Open) ts
       none late ts rest y (nothing same) e = ends_open ts e
 
-  rule_typed : (p : Place) (q : Qualident) → Rule (spec.typed_set expr p q) (Typed n p q) Any
+  rule_typed : (p : Place) (q : Qualident) → Rule (spec.typed_set expr p q) (Typed n p q) Anything
   unfolding spec.typed_set
   rule_typed p q = rule_after (rule_mark m.OpenBrace) (λ b. rule_map (rule_elements n expr x) (λ rs. e.SetOf p (Some q) rs))
 

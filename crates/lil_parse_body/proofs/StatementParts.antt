@@ -26,7 +26,7 @@ use Rattle.lil_parse_body.specs.Steps.{Parser, at, same_mark, same_word, is_mark
 use Rattle.lil_parse_body.specs.ReadStatements as spec
 use Rattle.lil_parse_body.specs.Ends.{Not, EndsExpression, EndsRanges, EndsStatement, EndsStatements}
 use Rattle.lil_parse_body.proofs.Rules.{Late, Relation, Opens, Rule, Then, ◌▸◌, rule_then, rule_as}
-use Rattle.lil_parse_body.proofs.RulesTokens.{Any, Same, nothing, rule_pure, IsMark, a_mark, rule_mark, IsWord, a_word, rule_word, token_of, IsIdent, an_ident, rule_ident}
+use Rattle.lil_parse_body.proofs.RulesTokens.{Anything, Same, nothing, rule_pure, IsMark, a_mark, rule_mark, IsWord, a_word, rule_word, token_of, IsIdent, an_ident, rule_ident}
 use Rattle.lil_parse_body.proofs.RulesMany.{stop, go_on, Turns}
 use Rattle.lil_parse_body.proofs.RulesLimit.{limit}
 use Rattle.lil_parse_body.proofs.RulesLists.{takes_opens, Or, left, right, rule_either, Turn, rule_list, rule_map, rule_after, rule_before}
@@ -243,21 +243,21 @@ module _ (n : ℕ) (statement : Parser (Option Stmt)) (y : Rule statement (λ la
       (statement_at_mark m.Semicolon ((refl, refl, refl, refl), refl, refl, refl)) nothing_statement (takes_mark m.Semicolon) listed y)
       (to_statements n) (from_statements n) (λ rest e. e)
 
-  pub rule_body : Rule (spec.body statement) (λ late. IsBody (limit n late)) Any
+  pub rule_body : Rule (spec.body statement) (λ late. IsBody (limit n late)) Anything
   unfolding spec.body
   rule_body = rule_as (rule_before (is_word w.End) (statements_at_word w.End ((refl, refl, refl, refl), refl, refl, refl)) begins rule_statements (λ ss. rule_map (rule_word w.End) (λ p. ss))) (to_body n) (from_body n) (λ rest e. e)
     where
       begins : (late : Late) (ts rest : List Token) (ss all : List Stmt) → Then (IsWord w.End) (λ p. Same ss) late ts rest all → at (is_word w.End) ts ≡ true
       begins late ts rest ss all (h ▸ k) = begins_word h
 
-  pub rule_else : (expr : Parser Expr) → Rule (spec.otherwise expr statement) (λ late. IsElse (limit n late)) Any
+  pub rule_else : (expr : Parser Expr) → Rule (spec.otherwise expr statement) (λ late. IsElse (limit n late)) Anything
   unfolding spec.otherwise spec.other spec.no_other same_word
-  rule_else expr = rule_as (rule_either (is_word w.Else) Any (rule_after (rule_word w.Else) (λ p. rule_map rule_body Some)) (rule_map (rule_word w.End) (λ p. None)) begins none (λ rest e. tt) (λ rest e. tt) tt (takes_opens (is_word w.Else) (takes_word w.Else) (λ p. (rule_map rule_body Some).some))) (to_else n) (from_else n) (λ rest e. e)
+  rule_else expr = rule_as (rule_either (is_word w.Else) Anything (rule_after (rule_word w.Else) (λ p. rule_map rule_body Some)) (rule_map (rule_word w.End) (λ p. None)) begins none (λ rest e. tt) (λ rest e. tt) tt (takes_opens (is_word w.Else) (takes_word w.Else) (λ p. (rule_map rule_body Some).some))) (to_else n) (from_else n) (λ rest e. e)
     where
       begins : (late : Late) (ts rest : List Token) (o : Option (List Stmt)) → Other n late ts rest o → at (is_word w.Else) ts ≡ true
       begins late ts rest o (h ▸ k) = begins_word h
 
-      none : (late : Late) (ts rest : List Token) (o : Option (List Stmt)) → NoOther n late ts rest o → Any rest → Not (is_word w.Else) ts
+      none : (late : Late) (ts rest : List Token) (o : Option (List Stmt)) → NoOther n late ts rest o → Anything rest → Not (is_word w.Else) ts
       none late ts rest o (h ▸ k) e = not_at_word w.End (is_word w.Else) refl ts (begins_word h)
 
 module _ (n : ℕ) (expr : Parser Expr) (statement : Parser (Option Stmt)) (x : Rule expr (λ late. IsExpr (limit n late)) EndsExpression) (y : Rule statement (λ late. IsStatement (limit n late)) EndsStatement) where
