@@ -1,4 +1,4 @@
-mod Turns
+pub mod Turns
 pub mod Rules
 pub mod RulesTokens
 pub mod RulesMany

@@ -11,3 +11,6 @@ pub mod StatementForms
 pub mod StatementWorth
 pub mod TokenWeights
 pub mod ModuleWorth
+pub mod Walks
+pub mod ProgramRules
+pub mod ProgramLaws

@@ -3,3 +3,5 @@ pub mod Meanings
 pub mod Lists
 pub mod Forms
 pub mod Programs
+pub mod Walks
+pub mod ReadProgram

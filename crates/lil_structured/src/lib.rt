@@ -9,4 +9,6 @@ mod operators;
 mod program;
 mod resolver;
 mod scope;
+mod shell;
 mod statements;
+mod walk;
