@@ -14,3 +14,4 @@ pub mod ModuleWorth
 pub mod Walks
 pub mod ProgramRules
 pub mod ProgramLaws
+pub mod Unique

@@ -7,8 +7,11 @@ mod labels;
 mod meant;
 mod operators;
 mod program;
+mod reading;
 mod resolver;
 mod scope;
 mod shell;
 mod statements;
 mod walk;
+
+pub use reading::read_structured;

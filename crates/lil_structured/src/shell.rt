@@ -223,8 +223,9 @@ fn behind_name(alloc: Global, walk: &mut Walk<'_>, name: Ident) -> Result<Progra
     })
 }
 
+/// A program module.
 #[tactic(auto, unfolding(crate::specs::ReadProgram::program))]
-fn whole(alloc: Global, walk: &mut Walk<'_>) -> Result<Program, ReadStop>
+pub(crate) fn whole(alloc: Global, walk: &mut Walk<'_>) -> Result<Program, ReadStop>
     ensures read { Reads (spec.program walk.old.left) result walk.new.left }
     ensures all { walk.new.all ≡ walk.old.all }
 {
