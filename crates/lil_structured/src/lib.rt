@@ -1,0 +1,17 @@
+//! Reads structured texts: parses the module around the statements, and resolves it.
+#![tactic(auto)]
+
+mod expressions;
+mod kinds;
+mod labels;
+mod meant;
+mod operators;
+mod program;
+mod reading;
+mod resolver;
+mod scope;
+mod shell;
+mod statements;
+mod walk;
+
+pub use reading::read_structured;
