@@ -1,18 +1,16 @@
 -- The tokens that begin an expression and its parts, and something that begins with each.
-use Rattle.std.proofs.Common.{◌≡◌, ◌⊎◌, ℕ, suc, ◌≤◌, Bool, true, false, List, [], ◌∷◌, ◌++◌, length, Option, Some, None, refl, subst, ap, sym, ◌∙◌, inl, inr}
+use Rattle.std.proofs.Common.{◌≡◌, true, List, [], ◌∷◌, Some, refl, ap}
 use Rattle.lil_tree.specs.declared.token.Token.{Token}
 use Rattle.lil_tree.specs.declared.token.TokenKind.{TokenKind}
 use Rattle.lil_tree.specs.declared.token.TokenKind.TheVariants as k
-use Rattle.lil_tree.specs.declared.token.Word.TheVariants as w
 use Rattle.lil_tree.specs.declared.token.Mark.TheVariants as m
 use Rattle.lil_tree.specs.declared.operator.OneOp.{OneOp}
-use Rattle.lil_tree.specs.declared.operator.TwoOp.{TwoOp}
 use Rattle.lil_tree.specs.declared.tree.Qualident.{Qualident}
 use Rattle.lil_tree.specs.declared.tree.Expr.{Expr}
 use Rattle.lil_tree.specs.declared.tree.Range.{Range}
 use Rattle.lil_tree.specs.declared.tree.Designator.{Designator}
 use Rattle.lil_tree.specs.declared.tree.Selector.{Selector}
-use Rattle.lil_tree.specs.Nesting.{Limit, Inside}
+use Rattle.lil_tree.specs.Nesting.{Limit}
 use Rattle.lil_tree.specs.Operators.{sign, begins_factor, begins_expression, selects}
 use Rattle.lil_tree.specs.Expressions as g
 use Rattle.lil_tree.specs.Expressions.{IsQualident, IsExpr, IsRelation, IsSum, IsSigned, IsTerm, IsFactor, IsOperand, IsDesignator, IsSelector, IsActuals, IsExprs, IsRange, IsRanges}

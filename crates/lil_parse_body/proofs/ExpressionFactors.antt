@@ -1,40 +1,33 @@
 -- The rules of sets, arguments, designators and factors, by those of expressions and of factors behind NOT.
-use Rattle.std.proofs.Common.{◌≡◌, ◌⊎◌, ℕ, suc, ◌+◌, ◌≤◌, ◌<◌, Bool, true, false, ◌&&◌, List, [], ◌∷◌, ◌++◌, length, length-append, Option, Some, None, Ok, Err, refl, subst, ap, sym, ◌∙◌, inl, inr, arith}
+use Rattle.std.proofs.Common.{◌≡◌, ℕ, ◌<◌, true, List, [], ◌∷◌, ◌++◌, length, None, Ok, Err, refl, subst, ap, sym, inl, inr, arith}
 use Rattle.lil_base.specs.declared.fault.Place.{Place}
 use Rattle.lil_tree.specs.declared.token.Token.{Token}
 use Rattle.lil_tree.specs.declared.token.TokenKind.{TokenKind}
 use Rattle.lil_tree.specs.declared.token.TokenKind.TheVariants as k
-use Rattle.lil_tree.specs.declared.token.Word.TheVariants as w
 use Rattle.lil_tree.specs.declared.token.Mark.TheVariants as m
-use Rattle.lil_tree.specs.declared.operator.OneOp.TheVariants as one
-use Rattle.lil_tree.specs.declared.tree.Ident.{Ident}
-use Rattle.lil_tree.specs.declared.tree.Qualident.{Qualident}
 use Rattle.lil_tree.specs.declared.tree.Expr.{Expr}
-use Rattle.lil_tree.specs.declared.tree.Expr.TheVariants as e
 use Rattle.lil_tree.specs.declared.tree.Range.{Range}
 use Rattle.lil_tree.specs.declared.tree.Designator.{Designator}
 use Rattle.lil_tree.specs.declared.tree.Selector.{Selector}
 use Rattle.lil_tree.specs.declared.tree.Selector.TheVariants as s
 use Rattle.lil_tree.specs.Nesting.{Limit}
-use Rattle.lil_tree.specs.Operators.{begins_expression, selects, joins_factor}
-use Rattle.lil_tree.specs.Trees.{ident, qualident, range, designator, begun_at}
+use Rattle.lil_tree.specs.Operators.{selects}
+use Rattle.lil_tree.specs.Trees.{ident, designator}
 use Rattle.lil_tree.specs.Expressions as g
 use Rattle.lil_tree.specs.Expressions.{IsQualident, IsExpr, IsFactor, IsOperand, IsDesignator, IsSelectors, IsSelector, IsActuals, IsExprs, IsElements, IsRanges}
 use Rattle.lil_parse_body.specs.declared.kinds.SelectorKind.{SelectorKind}
 use Rattle.lil_parse_body.specs.declared.kinds.SelectorKind.TheVariants as sk
-use Rattle.lil_parse_body.specs.declared.kinds.FactorKind.{FactorKind}
-use Rattle.lil_parse_body.specs.declared.kinds.FactorKind.TheVariants as fk
-use Rattle.lil_parse_body.specs.Steps.{syntax, place_of, Parser, ◌>>=◌, ◌>>◌, pure, first, at, class_at, either, either_by, token, same_mark, is_mark, mark_at, word_at, ident_at, many}
-use Rattle.lil_parse_body.specs.Kinds.{number_by, number_at, code_by, code_at, chars_by, chars_at, factor_kind, selector_kind}
+use Rattle.lil_parse_body.specs.Steps.{syntax, place_of, Parser, ◌>>=◌, pure, first, at, class_at, token, same_mark, is_mark, mark_at}
+use Rattle.lil_parse_body.specs.Kinds.{selector_kind}
 use Rattle.lil_parse_body.specs.ReadExpressions as spec
-use Rattle.lil_parse_body.specs.Ends.{Not, EndsFactor, EndsExpression, EndsRange, EndsRanges, EndsExprs}
-use Rattle.lil_parse_body.proofs.Rules.{Late, Relation, Opens, Rule, Then, ◌▸◌, bind_ok, ok_same, Choice, chosen, rule_choice, rule_then, rule_as}
-use Rattle.lil_parse_body.proofs.RulesTokens.{Any, Same, nothing, rule_pure, Taken, takes, token_of, rule_token, IsMark, a_mark, rule_mark, IsWord, a_word, rule_word, IsIdent, an_ident, rule_ident}
-use Rattle.lil_parse_body.proofs.RulesMany.{Star, stop, go_on, Turns, between, rule_many}
+use Rattle.lil_parse_body.specs.Ends.{Not, EndsExpression, EndsRanges, EndsExprs}
+use Rattle.lil_parse_body.proofs.Rules.{Late, Relation, Opens, Rule, Then, ◌▸◌, bind_ok, ok_same, Choice, chosen, rule_choice, rule_as}
+use Rattle.lil_parse_body.proofs.RulesTokens.{Anything, Same, nothing, rule_pure, token_of, IsMark, a_mark, rule_mark, IsIdent, an_ident, rule_ident}
+use Rattle.lil_parse_body.proofs.RulesMany.{stop, go_on, Turns, rule_many}
 use Rattle.lil_parse_body.proofs.RulesLimit.{limit}
-use Rattle.lil_parse_body.proofs.RulesLists.{at_apart, Takes, plain_some, takes_opens, Or, left, right, rule_either, no_longer, behind_token_shrinks, rule_map, rule_after, rule_before}
+use Rattle.lil_parse_body.proofs.RulesLists.{plain_some, takes_opens, Or, left, right, rule_either, behind_token_shrinks, rule_map, rule_after, rule_before}
 use Rattle.lil_parse_body.proofs.ExpressionBegins.{begins_exprs, begins_ranges, selector_begins}
-use Rattle.lil_parse_body.proofs.ExpressionParts.{takes_mark, begins_mark, begins_word, not_at_mark, ends_at_mark, mark_begins_none, rule_exprs, rule_ranges}
+use Rattle.lil_parse_body.proofs.ExpressionParts.{takes_mark, begins_mark, not_at_mark, ends_at_mark, mark_begins_none, rule_exprs, rule_ranges}
 
 -- the first tokens alone tell the class
 pub class_same : {C : Type 0} (none : C) (f : TokenKind → C) (more rest : List Token) → first more ≡ first rest → class_at none f more ≡ class_at none f rest
@@ -75,7 +68,7 @@ module _ (n : ℕ) where
   from_actuals late ts rest xs (g.actuals is h is') = a_mark is ▸ right (h ▸ a_mark is' ▸ nothing refl)
 
 module _ (n : ℕ) (expr : Parser Expr) (x : Rule expr (λ late. IsExpr (limit n late)) EndsExpression) where
-  rule_some_elements : Rule (spec.some_elements expr) (SomeElements n) Any
+  rule_some_elements : Rule (spec.some_elements expr) (SomeElements n) Anything
   unfolding spec.some_elements same_mark
   rule_some_elements = rule_before (is_mark m.CloseBrace) ends begins (rule_ranges n expr x) (λ rs. rule_map (rule_mark m.CloseBrace) (λ p. rs))
     where
@@ -85,17 +78,17 @@ module _ (n : ℕ) (expr : Parser Expr) (x : Rule expr (λ late. IsExpr (limit n
       begins : (late : Late) (ts rest : List Token) (rs all : List Range) → Then (IsMark m.CloseBrace) (λ p. Same rs) late ts rest all → at (is_mark m.CloseBrace) ts ≡ true
       begins late ts rest rs all (h ▸ k) = begins_mark h
 
-  pub rule_elements : Rule (spec.elements expr) (λ late. IsElements (limit n late)) Any
+  pub rule_elements : Rule (spec.elements expr) (λ late. IsElements (limit n late)) Anything
   unfolding spec.elements spec.no_elements
-  rule_elements = rule_as (rule_either (is_mark m.CloseBrace) Any (rule_map (rule_mark m.CloseBrace) (λ p. [])) rule_some_elements begins none (λ rest e. tt) (λ rest e. tt) tt (takes_opens (is_mark m.CloseBrace) (takes_mark m.CloseBrace) (λ p. (rule_pure []).some))) (to_elements n) (from_elements n) (λ rest e. e)
+  rule_elements = rule_as (rule_either (is_mark m.CloseBrace) Anything (rule_map (rule_mark m.CloseBrace) (λ p. [])) rule_some_elements begins none (λ rest e. tt) (λ rest e. tt) tt (takes_opens (is_mark m.CloseBrace) (takes_mark m.CloseBrace) (λ p. (rule_pure []).some))) (to_elements n) (from_elements n) (λ rest e. e)
     where
       begins : (late : Late) (ts rest : List Token) (all : List Range) → NoElement n late ts rest all → at (is_mark m.CloseBrace) ts ≡ true
       begins late ts rest all (h ▸ k) = begins_mark h
 
-      none : (late : Late) (ts rest : List Token) (all : List Range) → SomeElements n late ts rest all → Any rest → Not (is_mark m.CloseBrace) ts
+      none : (late : Late) (ts rest : List Token) (all : List Range) → SomeElements n late ts rest all → Anything rest → Not (is_mark m.CloseBrace) ts
       none late ts rest all (h ▸ k) e = mark_begins_none m.CloseBrace refl ts (begins_ranges h)
 
-  rule_some_actuals : Rule (spec.some_actuals expr) (SomeActuals n) Any
+  rule_some_actuals : Rule (spec.some_actuals expr) (SomeActuals n) Anything
   unfolding spec.some_actuals same_mark
   rule_some_actuals = rule_before (is_mark m.Close) ends begins (rule_exprs n expr x) (λ xs. rule_map (rule_mark m.Close) (λ p. xs))
     where
@@ -105,14 +98,14 @@ module _ (n : ℕ) (expr : Parser Expr) (x : Rule expr (λ late. IsExpr (limit n
       begins : (late : Late) (ts rest : List Token) (xs all : List Expr) → Then (IsMark m.Close) (λ p. Same xs) late ts rest all → at (is_mark m.Close) ts ≡ true
       begins late ts rest xs all (h ▸ k) = begins_mark h
 
-  pub rule_actuals : Rule (spec.actuals expr) (λ late. IsActuals (limit n late)) Any
+  pub rule_actuals : Rule (spec.actuals expr) (λ late. IsActuals (limit n late)) Anything
   unfolding spec.actuals spec.no_actuals
-  rule_actuals = rule_as (rule_after (rule_mark m.Open) (λ p. rule_either (is_mark m.Close) Any (rule_map (rule_mark m.Close) (λ p. [])) rule_some_actuals begins none (λ rest e. tt) (λ rest e. tt) tt (takes_opens (is_mark m.Close) (takes_mark m.Close) (λ p. (rule_pure []).some)))) (to_actuals n) (from_actuals n) (λ rest e. e)
+  rule_actuals = rule_as (rule_after (rule_mark m.Open) (λ p. rule_either (is_mark m.Close) Anything (rule_map (rule_mark m.Close) (λ p. [])) rule_some_actuals begins none (λ rest e. tt) (λ rest e. tt) tt (takes_opens (is_mark m.Close) (takes_mark m.Close) (λ p. (rule_pure []).some)))) (to_actuals n) (from_actuals n) (λ rest e. e)
     where
       begins : (late : Late) (ts rest : List Token) (all : List Expr) → Then (IsMark m.Close) (λ p. Same []) late ts rest all → at (is_mark m.Close) ts ≡ true
       begins late ts rest all (h ▸ k) = begins_mark h
 
-      none : (late : Late) (ts rest : List Token) (all : List Expr) → SomeActuals n late ts rest all → Any rest → Not (is_mark m.Close) ts
+      none : (late : Late) (ts rest : List Token) (all : List Expr) → SomeActuals n late ts rest all → Anything rest → Not (is_mark m.Close) ts
       none late ts rest all (h ▸ k) e = mark_begins_none m.Close refl ts (begins_exprs h)
 
 -- ---- selectors
@@ -132,7 +125,7 @@ module _ (n : ℕ) where
   from_selector late ts rest one (g.index is h is') = chosen sk.Index (a_mark is ▸ h ▸ a_mark is' ▸ nothing refl)
   from_selector late ts rest one (g.follow is) = chosen sk.Follow (a_mark is ▸ nothing refl)
 
-  only_selector : (late : Late) (ts rest : List Token) (c : SelectorKind) (one : Selector) → IsOf c late ts rest one → Any rest → class_at sk.Field selector_kind ts ≡ c
+  only_selector : (late : Late) (ts rest : List Token) (c : SelectorKind) (one : Selector) → IsOf c late ts rest one → Anything rest → class_at sk.Field selector_kind ts ≡ c
   unfolding class_at
   only_selector late ts rest sk.Field one (a_mark is ▸ k) e = ap selector_kind is
   only_selector late ts rest sk.Index one (a_mark is ▸ k) e = ap selector_kind is
@@ -153,7 +146,7 @@ module _ (n : ℕ) where
   from_selectors (g.a_selector {ts = ts} {mid = mid} {one = one} h more) late e = go_on (subst (λ l. IsSelector l ts mid one) e h ▸ nothing refl) (from_selectors more late e)
 
 module _ (n : ℕ) (expr : Parser Expr) (x : Rule expr (λ late. IsExpr (limit n late)) EndsExpression) where
-  rule_index_end : (p : Place) → Rule (spec.exprs expr >>= (λ xs. token (mark_at m.CloseBracket) >>= (λ q. pure (s.Index p xs)))) (Then (λ late. IsExprs (limit n late)) (λ xs. Then (IsMark m.CloseBracket) (λ q. Same (s.Index p xs)))) Any
+  rule_index_end : (p : Place) → Rule (spec.exprs expr >>= (λ xs. token (mark_at m.CloseBracket) >>= (λ q. pure (s.Index p xs)))) (Then (λ late. IsExprs (limit n late)) (λ xs. Then (IsMark m.CloseBracket) (λ q. Same (s.Index p xs)))) Anything
   unfolding same_mark
   rule_index_end p = rule_before (is_mark m.CloseBracket) ends begins (rule_exprs n expr x) (λ xs. rule_map (rule_mark m.CloseBracket) (λ q. s.Index p xs))
     where
@@ -163,7 +156,7 @@ module _ (n : ℕ) (expr : Parser Expr) (x : Rule expr (λ late. IsExpr (limit n
       begins : (late : Late) (ts rest : List Token) (xs : List Expr) (one : Selector) → Then (IsMark m.CloseBracket) (λ q. Same (s.Index p xs)) late ts rest one → at (is_mark m.CloseBracket) ts ≡ true
       begins late ts rest xs one (h ▸ k) = begins_mark h
 
-  rule_of : (c : SelectorKind) → Rule (spec.selector_by expr c) (IsOf n c) Any
+  rule_of : (c : SelectorKind) → Rule (spec.selector_by expr c) (IsOf n c) Anything
   unfolding spec.field spec.index spec.follow
   rule_of sk.Field = rule_after (rule_mark m.Dot) (λ p. rule_map rule_ident (λ name. s.Field p name))
   rule_of sk.Index = rule_after (rule_mark m.OpenBracket) rule_index_end
@@ -173,9 +166,9 @@ module _ (n : ℕ) (expr : Parser Expr) (x : Rule expr (λ late. IsExpr (limit n
   unfolding class_at spec.field token
   refused = refl
 
-  rule_selector : Rule (spec.selector expr) (λ late. IsSelector (limit n late)) Any
+  rule_selector : Rule (spec.selector expr) (λ late. IsSelector (limit n late)) Anything
   unfolding spec.selector
-  rule_selector = rule_as (rule_choice (class_at sk.Field selector_kind) (class_same sk.Field selector_kind) (spec.selector_by expr) (IsOf n) (λ c. Any) Any (only_selector n) (λ c rest e. tt) (λ c. inr (inl refused)) tt rule_of sk.Field)
+  rule_selector = rule_as (rule_choice (class_at sk.Field selector_kind) (class_same sk.Field selector_kind) (spec.selector_by expr) (IsOf n) (λ c. Anything) Anything (only_selector n) (λ c rest e. tt) (λ c. inr (inl refused)) tt rule_of sk.Field)
       (to_selector n) (from_selector n) (λ rest e. e)
 
   by_shrinks : (c : SelectorKind) (ts : List Token) (one : Selector) (rest : List Token) → spec.selector_by expr c ts ≡ Ok (one, rest) → length rest < length ts
@@ -202,7 +195,7 @@ module _ (n : ℕ) (expr : Parser Expr) (x : Rule expr (λ late. IsExpr (limit n
 
   pub rule_selectors : Rule (spec.selectors expr) (Selectors n []) (Not selects)
   unfolding spec.selectors spec.selectors_turn
-  rule_selectors = rule_many selects (spec.selectors_turn expr) turn_shrinks (λ ss. Then (λ late. IsSelector (limit n late)) (λ one. Same (ss ++ one ∷ []))) Any (Not selects)
+  rule_selectors = rule_many selects (spec.selectors_turn expr) turn_shrinks (λ ss. Then (λ late. IsSelector (limit n late)) (λ one. Same (ss ++ one ∷ []))) Anything (Not selects)
       (λ ss. rule_map rule_selector (λ one. ss ++ one ∷ [])) begins (λ ts e. e) (λ ts h. tt) (λ ts e. tt) nothing_selects opens []
     where
       opens : (ss : List Selector) (t : Token) → selects t.what ≡ true → Opens (Then (λ late. IsSelector (limit n late)) (λ one. Same (ss ++ one ∷ []))) t

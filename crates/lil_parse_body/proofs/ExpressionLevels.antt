@@ -1,5 +1,5 @@
 -- The rules of the levels of operators, by that of a factor.
-use Rattle.std.proofs.Common.{◌≡◌, ℕ, Bool, true, false, List, [], ◌∷◌, Option, Some, None, refl, subst, ap, sym, ◌∙◌}
+use Rattle.std.proofs.Common.{◌≡◌, ℕ, Bool, true, false, List, [], ◌∷◌, Option, Some, None, refl, subst, ap, sym}
 use Rattle.lil_base.specs.declared.fault.Place.{Place}
 use Rattle.lil_tree.specs.declared.token.Token.{Token}
 use Rattle.lil_tree.specs.declared.token.TokenKind.{TokenKind}
@@ -18,13 +18,13 @@ use Rattle.lil_tree.specs.Expressions as g
 use Rattle.lil_tree.specs.Expressions.{IsRelation, IsSum, IsSigned, IsTerms, IsTerm, IsFactors, IsFactor}
 use Rattle.lil_parse_body.specs.declared.kinds.Level.{Level}
 use Rattle.lil_parse_body.specs.declared.kinds.Level.TheVariants as level
-use Rattle.lil_parse_body.specs.Steps.{Parser, ◌>>=◌, pure, at, either, token}
+use Rattle.lil_parse_body.specs.Steps.{Parser, at, token}
 use Rattle.lil_parse_body.specs.Kinds.{found, placed, operator_in, is_operator, operator_at, is_sign, sign_at}
 use Rattle.lil_parse_body.specs.ReadExpressions as spec
 use Rattle.lil_parse_body.specs.Ends.{Not, EndsFactor, EndsTerm, EndsSum, EndsExpression}
 use Rattle.lil_parse_body.proofs.Rules.{Late, Relation, Opens, Rule, Then, ◌▸◌, rule_then, rule_as}
-use Rattle.lil_parse_body.proofs.RulesTokens.{Any, Same, nothing, rule_pure, Taken, takes, token_of, rule_token}
-use Rattle.lil_parse_body.proofs.RulesMany.{Star, stop, go_on, Turns}
+use Rattle.lil_parse_body.proofs.RulesTokens.{Anything, Same, nothing, rule_pure, Taken, takes, token_of, rule_token}
+use Rattle.lil_parse_body.proofs.RulesMany.{stop, go_on, Turns}
 use Rattle.lil_parse_body.proofs.RulesLimit.{limit}
 use Rattle.lil_parse_body.proofs.RulesLists.{at_apart, Or, left, right, rule_either, Takes, takes_opens, Turn, rule_list, rule_map, rule_after}
 use Rattle.lil_parse_body.proofs.ExpressionBegins.{begins_term}
@@ -47,7 +47,7 @@ module _ (l : Level) where
   from_operator : {late : Late} {ts rest : List Token} {y : TwoOp × Place} → IsOperator l late ts rest y → Taken (operator_at l) late ts rest y
   from_operator (an_operator {t = t} is) = takes (ap (placed t.place) is)
 
-  pub rule_operator : (v : TokenKind) (op : TwoOp) → operator_in l v ≡ Some op → Rule (token (operator_at l)) (IsOperator l) Any
+  pub rule_operator : (v : TokenKind) (op : TwoOp) → operator_in l v ≡ Some op → Rule (token (operator_at l)) (IsOperator l) Anything
   rule_operator v op is = let t = token_of v in rule_as (rule_token (operator_at l) t (op, t.place) (ap (placed t.place) is)) (λ late ts rest a h. to_operator h) (λ late ts rest a h. from_operator h) (λ rest e. e)
 
   pub begins_operator : (late : Late) (ts rest : List Token) (y : TwoOp × Place) → IsOperator l late ts rest y → at (is_operator l) ts ≡ true
@@ -81,7 +81,7 @@ sign_is (Some a) h = (a, refl)
 takes_sign : Takes IsSign is_sign
 takes_sign t h = let o = sign_is (sign t.what) h in ((o.0, t.place), λ late s. a_sign o.1)
 
-rule_sign : Rule (token sign_at) IsSign Any
+rule_sign : Rule (token sign_at) IsSign Anything
 rule_sign = let t = token_of (k.Mark m.Plus) in rule_as (rule_token sign_at t (one.Plus, t.place) refl) (λ late ts rest a h. to_sign h) (λ late ts rest a h. from_sign h) (λ rest e. e)
 
 -- ---- no token goes on at two levels

@@ -1,5 +1,5 @@
 -- The rule of a factor that begins with a name: sets of a named type, calls and values.
-use Rattle.std.proofs.Common.{◌≡◌, ◌⊎◌, ℕ, suc, ◌+◌, ◌≤◌, ◌<◌, Bool, true, false, true≢false, ◌&&◌, List, [], ◌∷◌, ◌++◌, length, length-append, Option, Some, None, refl, subst, ap, sym, ◌∙◌, inl, inr, arith}
+use Rattle.std.proofs.Common.{◌≡◌, ◌⊎◌, ℕ, ◌≤◌, ◌<◌, Bool, true, false, true≢false, ◌&&◌, List, [], ◌∷◌, ◌++◌, length, length-append, Some, refl, subst, ap, sym, ◌∙◌, inl, inr, arith}
 use Rattle.lil_base.specs.declared.fault.Place.{Place}
 use Rattle.lil_tree.specs.declared.token.Token.{Token}
 use Rattle.lil_tree.specs.declared.token.TokenKind.{TokenKind}
@@ -14,18 +14,17 @@ use Rattle.lil_tree.specs.declared.tree.Range.{Range}
 use Rattle.lil_tree.specs.declared.tree.Designator.{Designator}
 use Rattle.lil_tree.specs.declared.tree.Selector as selector
 use Rattle.lil_tree.specs.declared.tree.Selector.{Selector}
-use Rattle.lil_tree.specs.declared.tree.Selector.TheVariants as s
 use Rattle.lil_tree.specs.Nesting.{Limit}
 use Rattle.lil_tree.specs.Operators.{selects, joins_factor}
-use Rattle.lil_tree.specs.Trees.{ident, qualident, designator}
+use Rattle.lil_tree.specs.Trees.{ident, designator}
 use Rattle.lil_tree.specs.Expressions as g
 use Rattle.lil_tree.specs.Expressions.{IsQualident, IsExpr, IsFactor, IsDesignator, IsSelectors, IsSelector, IsActuals, IsElements}
-use Rattle.lil_parse_body.specs.Steps.{Parser, ◌>>=◌, ◌>>◌, pure, at, either, either_by, token, same_mark, is_mark, mark_at, ident_at}
+use Rattle.lil_parse_body.specs.Steps.{Parser, at, either_by, same_mark, is_mark}
 use Rattle.lil_parse_body.specs.ReadExpressions as spec
 use Rattle.lil_parse_body.specs.ReadExpressions.{is_qualified, qualified}
 use Rattle.lil_parse_body.specs.Ends.{Not, EndsFactor, EndsExpression}
-use Rattle.lil_parse_body.proofs.Rules.{Late, Relation, Opens, Rule, Then, ◌▸◌, rule_then, rule_as}
-use Rattle.lil_parse_body.proofs.RulesTokens.{Any, Same, nothing, rule_pure, token_of, mark_is, is_mark_of, IsMark, a_mark, rule_mark, IsIdent, an_ident, rule_ident}
+use Rattle.lil_parse_body.proofs.Rules.{Late, Relation, Opens, Rule, Then, ◌▸◌, rule_then}
+use Rattle.lil_parse_body.proofs.RulesTokens.{Anything, Same, nothing, rule_pure, token_of, mark_is, is_mark_of, IsMark, a_mark, rule_mark, IsIdent, an_ident, rule_ident}
 use Rattle.lil_parse_body.proofs.RulesMany.{stop, go_on}
 use Rattle.lil_parse_body.proofs.RulesLimit.{limit}
 use Rattle.lil_parse_body.proofs.RulesLists.{takes_opens, Or, left, right, rule_either, rule_map, rule_after}
@@ -169,7 +168,7 @@ module _ (n : ℕ) (expr : Parser Expr) (x : Rule expr (λ late. IsExpr (limit n
       none : (late : Late) (ts rest : List Token) (y : Expr) → Same (e.Desig p d) late ts rest y → EndsFactor rest → Not (is_mark m.Open) ts
       none late ts rest y (nothing same) e = ends_open ts e
 
-  rule_typed : (p : Place) (q : Qualident) → Rule (spec.typed_set expr p q) (Typed n p q) Any
+  rule_typed : (p : Place) (q : Qualident) → Rule (spec.typed_set expr p q) (Typed n p q) Anything
   unfolding spec.typed_set
   rule_typed p q = rule_after (rule_mark m.OpenBrace) (λ b. rule_map (rule_elements n expr x) (λ rs. e.SetOf p (Some q) rs))
 

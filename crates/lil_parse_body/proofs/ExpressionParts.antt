@@ -1,36 +1,29 @@
 -- The rules of the parts of expressions, by that of the expressions in them.
-use Rattle.std.proofs.Common.{◌≡◌, ◌⊎◌, ℕ, suc, ◌+◌, ◌≤◌, ◌<◌, Bool, true, false, ◌&&◌, List, [], ◌∷◌, ◌++◌, length, length-append, Option, Some, None, Ok, refl, subst, ap, sym, ◌∙◌, inl, inr, arith}
+use Rattle.std.proofs.Common.{◌≡◌, ℕ, Bool, true, false, List, [], ◌∷◌, ◌++◌, Some, None, refl, subst, ap, sym, ◌∙◌}
 use Rattle.lil_base.specs.declared.fault.Place.{Place}
 use Rattle.lil_tree.specs.declared.token.Token.{Token}
 use Rattle.lil_tree.specs.declared.token.TokenKind.{TokenKind}
 use Rattle.lil_tree.specs.declared.token.TokenKind.TheVariants as k
 use Rattle.lil_tree.specs.declared.token.Word.{Word}
-use Rattle.lil_tree.specs.declared.token.Word.TheVariants as w
 use Rattle.lil_tree.specs.declared.token.Mark.{Mark}
 use Rattle.lil_tree.specs.declared.token.Mark.TheVariants as m
-use Rattle.lil_tree.specs.declared.tree.Ident.{Ident}
-use Rattle.lil_tree.specs.declared.tree.Qualident.{Qualident}
 use Rattle.lil_tree.specs.declared.tree.Expr.{Expr}
-use Rattle.lil_tree.specs.declared.tree.Expr.TheVariants as e
 use Rattle.lil_tree.specs.declared.tree.Range.{Range}
-use Rattle.lil_tree.specs.declared.tree.Designator.{Designator}
-use Rattle.lil_tree.specs.declared.tree.Selector.{Selector}
-use Rattle.lil_tree.specs.declared.tree.Selector.TheVariants as s
 use Rattle.lil_tree.specs.Nesting.{Limit}
-use Rattle.lil_tree.specs.Operators.{begins_factor, begins_expression, selects, joins_factor}
-use Rattle.lil_tree.specs.Trees.{range, designator, begun_at}
+use Rattle.lil_tree.specs.Operators.{begins_expression, joins_factor}
+use Rattle.lil_tree.specs.Trees.{range}
 use Rattle.lil_tree.specs.Expressions as g
 use Rattle.lil_tree.specs.Expressions.{IsQualident, IsExpr, IsFactor, IsOperand, IsDesignator, IsSelectors, IsSelector, IsActuals, IsExprs, IsMoreExprs, IsElements, IsRanges, IsMoreRanges, IsRange}
 use Rattle.lil_parse_body.specs.declared.kinds.Level.TheVariants as level
-use Rattle.lil_parse_body.specs.Steps.{Parser, ◌>>=◌, ◌>>◌, pure, at, either, either_by, token, same_mark, is_mark, is_word, mark_at, word_at, ident_at, many}
+use Rattle.lil_parse_body.specs.Steps.{Parser, at, same_mark, is_mark, is_word, mark_at}
 use Rattle.lil_parse_body.specs.Kinds.{is_operator}
 use Rattle.lil_parse_body.specs.ReadExpressions as spec
-use Rattle.lil_parse_body.specs.Ends.{Not, EndsFactor, EndsTerm, EndsSum, EndsExpression, EndsRange, EndsRanges, EndsExprs}
+use Rattle.lil_parse_body.specs.Ends.{Not, EndsExpression, EndsRange, EndsRanges, EndsExprs}
 use Rattle.lil_parse_body.proofs.Rules.{Late, Relation, Opens, Rule, Then, ◌▸◌, rule_then, rule_as}
-use Rattle.lil_parse_body.proofs.RulesTokens.{Any, Same, nothing, rule_pure, IsMark, a_mark, rule_mark, mark_is, is_mark_of, IsWord, a_word, rule_word, word_is, is_word_of, IsIdent, an_ident, rule_ident}
+use Rattle.lil_parse_body.proofs.RulesTokens.{Same, nothing, rule_pure, IsMark, a_mark, rule_mark, mark_is, is_mark_of, IsWord, a_word, word_is, is_word_of}
 use Rattle.lil_parse_body.proofs.RulesMany.{Star, stop, go_on, Turns}
 use Rattle.lil_parse_body.proofs.RulesLimit.{limit}
-use Rattle.lil_parse_body.proofs.RulesLists.{at_apart, Or, left, right, rule_either, Takes, takes_opens, Turn, rule_list, rule_map, rule_after, rule_before}
+use Rattle.lil_parse_body.proofs.RulesLists.{at_apart, Or, left, right, rule_either, Takes, takes_opens, Turn, rule_list, rule_map, rule_after}
 use Rattle.lil_parse_body.proofs.ExpressionLevels.{nothing_expression}
 
 -- ---- a mark or a word first

@@ -1,5 +1,5 @@
 -- The rules of factors and of expressions, at each nesting.
-use Rattle.std.proofs.Common.{◌≡◌, ◌⊎◌, ℕ, zero, suc, ◌≤◌, Bool, true, false, List, [], ◌∷◌, ◌++◌, length, Option, Some, None, Ok, Err, refl, subst, ap, sym, ◌∙◌, inl, inr}
+use Rattle.std.proofs.Common.{◌≡◌, ◌⊎◌, ℕ, zero, suc, true, List, [], ◌∷◌, ◌++◌, length, Some, None, Err, refl, subst, ap, sym, inl, inr}
 use Rattle.lil_base.specs.declared.fault.Place.{Place}
 use Rattle.lil_tree.specs.declared.token.Token.{Token}
 use Rattle.lil_tree.specs.declared.token.TokenKind.{TokenKind}
@@ -10,23 +10,22 @@ use Rattle.lil_tree.specs.declared.token.Mark.TheVariants as m
 use Rattle.lil_tree.specs.declared.operator.OneOp.TheVariants as one
 use Rattle.lil_tree.specs.declared.tree.Expr.{Expr}
 use Rattle.lil_tree.specs.declared.tree.Expr.TheVariants as e
-use Rattle.lil_tree.specs.declared.tree.Range.{Range}
-use Rattle.lil_tree.specs.Nesting.{Limit, Inside, unlimited}
+use Rattle.lil_tree.specs.Nesting.{Limit, unlimited}
 use Rattle.lil_tree.specs.Operators.{sign, begins_factor, begins_expression}
 use Rattle.lil_tree.specs.Trees.{ident, designator, begun_at}
 use Rattle.lil_tree.specs.Expressions as g
 use Rattle.lil_tree.specs.Expressions.{IsExpr, IsRelation, IsSum, IsSigned, IsTerm, IsFactor, IsOperand, IsElements}
 use Rattle.lil_parse_body.specs.declared.kinds.FactorKind.{FactorKind}
 use Rattle.lil_parse_body.specs.declared.kinds.FactorKind.TheVariants as fk
-use Rattle.lil_parse_body.specs.Steps.{syntax, place_of, Parser, ◌>>=◌, ◌>>◌, pure, at, class_at, token, is_mark, shallow, mark_at, word_at}
+use Rattle.lil_parse_body.specs.Steps.{syntax, place_of, Parser, at, class_at, token, is_mark}
 use Rattle.lil_parse_body.specs.Kinds.{number_by, number_at, code_by, code_at, chars_by, chars_at, factor_kind}
 use Rattle.lil_parse_body.specs.ReadExpressions as spec
 use Rattle.lil_parse_body.specs.Ends.{EndsFactor, EndsExpression}
-use Rattle.lil_parse_body.proofs.Rules.{Late, IsFree, Relation, Rule, Begins, Then, ◌▸◌, Choice, chosen, rule_choice, rule_then, rule_within, rule_as}
-use Rattle.lil_parse_body.proofs.RulesTokens.{Any, Same, nothing, rule_pure, Taken, takes, token_of, rule_token, IsMark, a_mark, rule_mark, IsWord, a_word, rule_word, IsIdent, an_ident}
+use Rattle.lil_parse_body.proofs.Rules.{Late, IsFree, Relation, Rule, Begins, Then, ◌▸◌, Choice, chosen, rule_choice, rule_within, rule_as}
+use Rattle.lil_parse_body.proofs.RulesTokens.{Anything, Same, nothing, Taken, takes, token_of, rule_token, IsMark, a_mark, rule_mark, IsWord, a_word, rule_word, an_ident}
 use Rattle.lil_parse_body.proofs.RulesLimit.{limit, inside_next, inside_free, inside_next_is, inside_zero_is, rule_shallow}
 use Rattle.lil_parse_body.proofs.RulesLists.{rule_map, rule_after, rule_before}
-use Rattle.lil_parse_body.proofs.ExpressionBegins.{factor_expression, begins_relation, begins_expr, begins_operand}
+use Rattle.lil_parse_body.proofs.ExpressionBegins.{begins_expr, begins_operand}
 use Rattle.lil_parse_body.proofs.ExpressionLevels.{nothing_factor, rule_relation}
 use Rattle.lil_parse_body.proofs.ExpressionParts.{begins_mark, ends_at_mark}
 use Rattle.lil_parse_body.proofs.ExpressionFactors.{class_same, rule_elements}
@@ -98,12 +97,12 @@ module _ (n : ℕ) where
   only_factor late ts rest fk.Negated x (a_word is ▸ h) e = ap factor_kind is
 
 module _ (n : ℕ) (expr operand : Parser Expr) (x : Rule expr (λ late. IsExpr (limit n late)) EndsExpression) (y : Rule operand (λ late. IsOperand (limit n late)) EndsFactor) where
-  abbrev ends_of : FactorKind → List Token → Type 0
-  ends_of fk.Named = EndsFactor
-  ends_of fk.Negated = EndsFactor
-  ends_of _ = Any
+  abbrev EndsOf : FactorKind → List Token → Type 0
+  EndsOf fk.Named = EndsFactor
+  EndsOf fk.Negated = EndsFactor
+  EndsOf _ = Anything
 
-  outer : (c : FactorKind) (rest : List Token) → EndsFactor rest → ends_of c rest
+  outer : (c : FactorKind) (rest : List Token) → EndsFactor rest → EndsOf c rest
   outer fk.Named rest e = e
   outer fk.Negated rest e = e
   outer _ rest e = tt
@@ -111,7 +110,7 @@ module _ (n : ℕ) (expr operand : Parser Expr) (x : Rule expr (λ late. IsExpr 
   begins_close : (p : Place) (late : Late) (ts rest : List Token) (x a : Expr) → Then (IsMark m.Close) (λ q. Same (begun_at p x)) late ts rest a → at (is_mark m.Close) ts ≡ true
   begins_close p late ts rest x a (h ▸ k) = begins_mark h
 
-  rule_of : (c : FactorKind) → Rule (spec.factor_by expr operand c) (IsOf n c) (ends_of c)
+  rule_of : (c : FactorKind) → Rule (spec.factor_by expr operand c) (IsOf n c) (EndsOf c)
   unfolding spec.bitset spec.inner spec.negated
   rule_of fk.Number = let t = token_of (k.Number 0) in rule_token number_at t (e.Whole t.place 0) refl
   rule_of fk.Code = let t = token_of (k.CharCode 0) in rule_token code_at t (e.Code t.place 0) refl
@@ -127,7 +126,7 @@ module _ (n : ℕ) (expr operand : Parser Expr) (x : Rule expr (λ late. IsExpr 
 
   pub rule_factor : Rule (spec.factor_with expr operand) (λ late. IsFactor (limit n late)) EndsFactor
   unfolding spec.factor_with
-  rule_factor = rule_as (rule_choice (class_at fk.Number factor_kind) (class_same fk.Number factor_kind) (spec.factor_by expr operand) (IsOf n) ends_of EndsFactor (only_factor n) outer (λ c. inr (inl refused)) nothing_factor rule_of fk.Number)
+  rule_factor = rule_as (rule_choice (class_at fk.Number factor_kind) (class_same fk.Number factor_kind) (spec.factor_by expr operand) (IsOf n) EndsOf EndsFactor (only_factor n) outer (λ c. inr (inl refused)) nothing_factor rule_of fk.Number)
       (to_factor n) (from_factor n) (λ rest e. e)
 
 -- ---- something that begins with each token

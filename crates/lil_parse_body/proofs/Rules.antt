@@ -1,10 +1,10 @@
 -- The laws between a parser and the relation of what it reads, and how those of a composed parser follow from those of its parts.
-use Rattle.std.proofs.Common.{◌≡◌, ◌⊎◌, ℕ, suc, ◌≤◌, ◌<◌, List, [], ◌∷◌, ◌++◌, length, length-append, append_assoc, append-nil, Option, Some, None, Result, Ok, Err, refl, subst, ap, sym, ◌∙◌, inl, inr, arith}
+use Rattle.std.proofs.Common.{◌≡◌, ◌⊎◌, ℕ, ◌≤◌, ◌<◌, List, [], ◌∷◌, ◌++◌, length, length-append, append_assoc, append-nil, Option, Some, None, Result, Ok, Err, refl, subst, ap, sym, ◌∙◌, inl, inr, arith}
 use Rattle.lil_base.specs.declared.fault.Place.{Place}
 use Rattle.lil_base.specs.declared.fault.SourceFault.{SourceFault}
 use Rattle.lil_tree.specs.declared.token.Token.{Token}
 use Rattle.lil_tree.specs.declared.stop.ReadStop.{ReadStop}
-use Rattle.lil_tree.specs.declared.stop.ReadStop.TheVariants.{Fault, Memory}
+use Rattle.lil_tree.specs.declared.stop.ReadStop.TheVariants.{Fault}
 use Rattle.lil_parse_body.specs.Steps.{syntax, nested, Outcome, Parser, and_then, ◌>>=◌, first, place_of}
 
 -- Which parts may lie too deep: all, by None, or those that begin with at most so many tokens left.

@@ -1,11 +1,11 @@
 -- The limit of nesting: a part one level in, and the refusal of any part where no level is left.
-use Rattle.std.proofs.Common.{◌≡◌, ◌⊎◌, ℕ, zero, suc, ◌≤◌, Bool, true, false, List, [], ◌∷◌, ◌++◌, length, Option, Some, None, Ok, Err, refl, subst, ap, sym, ◌∙◌, inl, inr, arith}
+use Rattle.std.proofs.Common.{◌≡◌, ◌⊎◌, ℕ, zero, suc, ◌≤◌, Bool, true, false, List, [], ◌∷◌, length, Some, None, Ok, Err, refl, subst, ap, sym, ◌∙◌, inl, inr, arith}
 use Rattle.lil_tree.specs.declared.token.Token.{Token}
 use Rattle.lil_tree.specs.declared.token.TokenKind.{TokenKind}
 use Rattle.lil_tree.specs.declared.stop.ReadStop.{ReadStop}
 use Rattle.lil_tree.specs.Nesting.{Limit, Inside, unlimited, one_less, after}
-use Rattle.lil_parse_body.specs.Steps.{syntax, nested, Outcome, Parser, pure, first, place_of, at, either, either_by, refuse, too_deep, shallow}
-use Rattle.lil_parse_body.proofs.Rules.{Late, IsFree, Relation, Took, Fell, IsSyntax, IsDeep, KeepsNone, Rule, Reaches, Begins, Nested, ok_same, err_same}
+use Rattle.lil_parse_body.specs.Steps.{syntax, nested, Parser, first, place_of, at, either_by, refuse, too_deep, shallow}
+use Rattle.lil_parse_body.proofs.Rules.{Late, IsFree, Relation, Fell, Rule, Begins, err_same}
 use Rattle.lil_parse_body.proofs.RulesTokens.{at_same, place_same}
 
 -- at most n parts in one another

@@ -1,13 +1,12 @@
 -- The rules of two ways by a test of the first token, and of a list of parts behind tokens that part them.
-use Rattle.std.proofs.Common.{◌≡◌, ◌⊎◌, ℕ, suc, ◌≤◌, ◌<◌, Bool, true, false, List, [], ◌∷◌, ◌++◌, length, length-append, Option, Some, None, Ok, Err, refl, subst, ap, sym, ◌∙◌, inl, inr, arith}
+use Rattle.std.proofs.Common.{◌≡◌, suc, ◌≤◌, ◌<◌, Bool, true, false, List, [], ◌∷◌, ◌++◌, length, length-append, Option, Some, None, Ok, refl, ap, inl, inr, arith}
 use Rattle.lil_tree.specs.declared.token.Token.{Token}
 use Rattle.lil_tree.specs.declared.token.TokenKind.{TokenKind}
-use Rattle.lil_tree.specs.declared.stop.ReadStop.{ReadStop}
-use Rattle.lil_parse_body.specs.Steps.{Outcome, Parser, and_then, ◌>>=◌, pure, first, at, either, either_by, token, taken, many}
+use Rattle.lil_parse_body.specs.Steps.{Parser, ◌>>=◌, pure, at, either, either_by, token, taken, many}
 use Rattle.lil_parse_body.specs.Ends.{Not}
-use Rattle.lil_parse_body.proofs.Rules.{Late, IsFree, AtOnce, Opens, Relation, Took, Fell, Rule, Reaches, Begins, Nested, ok_same, bind_ok, Then, ◌▸◌, rule_then, Choice, chosen, rule_choice, rule_as}
-use Rattle.lil_parse_body.proofs.RulesTokens.{Any, Same, nothing, rule_pure, at_same, never_at_once}
-use Rattle.lil_parse_body.proofs.RulesMany.{Star, stop, go_on, Turns, between, rule_many}
+use Rattle.lil_parse_body.proofs.Rules.{Late, AtOnce, Opens, Relation, Rule, Begins, ok_same, bind_ok, Then, ◌▸◌, rule_then, Choice, chosen, rule_choice, rule_as}
+use Rattle.lil_parse_body.proofs.RulesTokens.{Anything, Same, nothing, rule_pure, at_same, never_at_once}
+use Rattle.lil_parse_body.proofs.RulesMany.{Turns, between, rule_many}
 
 -- tests that hold of different tokens
 pub at_apart : (f g : TokenKind → Bool) → ((w : TokenKind) → f w ≡ true → g w ≡ false) → (ts : List Token) → at f ts ≡ true → Not g ts
@@ -28,11 +27,11 @@ module _ {A : Type 0} {p q : Parser A} {P Q : Relation A} {E E' : List Token →
   By true = P
   By false = Q
 
-  abbrev ends_by : Bool → List Token → Type 0
-  ends_by true = E
-  ends_by false = E'
+  abbrev EndsBy : Bool → List Token → Type 0
+  EndsBy true = E
+  EndsBy false = E'
 
-  rules_by : (b : Bool) → Rule (either_by p q b) (By b) (ends_by b)
+  rules_by : (b : Bool) → Rule (either_by p q b) (By b) (EndsBy b)
   rules_by true = x
   rules_by false = y
 
@@ -40,7 +39,7 @@ module _ {A : Type 0} {p q : Parser A} {P Q : Relation A} {E E' : List Token →
   only late ts rest true a h e = only_p late ts rest a h
   only late ts rest false a h e = only_q late ts rest a h e
 
-  outer : (b : Bool) (rest : List Token) → F rest → ends_by b rest
+  outer : (b : Bool) (rest : List Token) → F rest → EndsBy b rest
   outer true rest e = ends_p rest e
   outer false rest e = ends_q rest e
 
@@ -58,7 +57,7 @@ module _ {A : Type 0} {p q : Parser A} {P Q : Relation A} {E E' : List Token →
   at_once false = inl refl
 
   pub rule_either : Rule (either test p q) (Or P Q) F
-  rule_either = rule_as (rule_choice (at test) (at_same test) (either_by p q) By ends_by F only outer at_once ends rules_by true) (λ late ts rest a h. to_or h) (λ late ts rest a h. from_or h) (λ rest e. e)
+  rule_either = rule_as (rule_choice (at test) (at_same test) (either_by p q) By EndsBy F only outer at_once ends rules_by true) (λ late ts rest a h. to_or h) (λ late ts rest a h. from_or h) (λ rest e. e)
 
 -- each token of the test is taken
 abbrev pub Takes : {A : Type 0} → Relation A → (TokenKind → Bool) → Type 0
@@ -84,7 +83,7 @@ module _ {A B : Type 0} {p : Parser A} {P : Relation A} {E : List Token → Type
       inner late ts rest a b (nothing same) e = e
 
   -- behind what anything may follow
-  pub rule_after : {q : A → Parser B} {Q : A → Relation B} → Rule p P Any → ((a : A) → Rule (q a) (Q a) E) → Rule (p >>= q) (Then P Q) E
+  pub rule_after : {q : A → Parser B} {Q : A → Relation B} → Rule p P Anything → ((a : A) → Rule (q a) (Q a) E) → Rule (p >>= q) (Then P Q) E
   rule_after x y = rule_then x y E (λ late ts rest a b h e. tt) (λ a rest e. e)
 
   -- before what begins with a token of the test
@@ -119,7 +118,7 @@ abbrev pub EndsList : (List Token → Type 0) → (TokenKind → Bool) → List 
 EndsList E test ts = E ts × Not test ts
 
 module _ {A B S : Type 0} (f : Token → Option A) (item : Parser B) {M : Relation A} {I : Relation B} {E : List Token → Type 0} (test : TokenKind → Bool) (add : S → A → B → S)
-    (parts : Rule (token f) M Any) (x : Rule item I E)
+    (parts : Rule (token f) M Anything) (x : Rule item I E)
     (begins : (late : Late) (ts rest : List Token) (a : A) → M late ts rest a → at test ts ≡ true) (goes : (ts : List Token) → at test ts ≡ true → E ts) (ends : E []) (each : Takes M test) where
   abbrev turn : S → Parser S
   turn s = token f >>= (λ a. item >>= (λ b. pure (add s a b)))

@@ -1,11 +1,11 @@
 -- The rule of repetition, as long as a turn begins.
-use Rattle.std.proofs.Common.{◌≡◌, ◌⊎◌, ℕ, zero, suc, ◌+◌, ◌≤◌, ◌<◌, Bool, true, false, List, [], ◌∷◌, ◌++◌, length, Option, Some, None, Ok, Err, refl, subst, ap, sym, ◌∙◌, inl, inr, arith}
+use Rattle.std.proofs.Common.{◌≡◌, ◌⊎◌, ℕ, zero, suc, ◌≤◌, ◌<◌, Bool, true, false, List, [], ◌∷◌, length, None, Ok, Err, refl, subst, ap, sym, ◌∙◌, inl, inr, arith}
 use Rattle.lil_tree.specs.declared.token.Token.{Token}
 use Rattle.lil_tree.specs.declared.token.TokenKind.{TokenKind}
 use Rattle.lil_tree.specs.declared.stop.ReadStop.{ReadStop}
-use Rattle.lil_parse_body.specs.Steps.{Outcome, Parser, and_then, ◌>>=◌, pure, first, at, either_by, loop, many}
-use Rattle.lil_parse_body.proofs.Rules.{Late, IsFree, Relation, Took, Fell, Rule, Reaches, Begins, Nested, ok_same, err_same, bind_ok, Then, ◌▸◌, AtOnce, Opens, then_took, first_fell, second_fell, then_reaches, Choice, chosen, choose, choice_took, choice_fell, took_as, fell_as}
-use Rattle.lil_parse_body.proofs.RulesTokens.{Any, Same, nothing, rule_pure, at_same, never_at_once}
+use Rattle.lil_parse_body.specs.Steps.{Outcome, Parser, and_then, ◌>>=◌, pure, at, either_by, loop, many}
+use Rattle.lil_parse_body.proofs.Rules.{Late, Relation, Took, Fell, Rule, Reaches, Begins, Nested, err_same, bind_ok, Then, ◌▸◌, AtOnce, Opens, then_took, first_fell, second_fell, then_reaches, Choice, chosen, choice_took, choice_fell, took_as, fell_as}
+use Rattle.lil_parse_body.proofs.RulesTokens.{Anything, Same, nothing, rule_pure, at_same, never_at_once}
 
 pub data Star {S : Type 0} (D : S → Relation S) (late : Late) : S → List Token → List Token → S → Type 0 where
   stop : {s : S} {ts : List Token} → Star D late s ts ts s
@@ -68,11 +68,11 @@ module _ {S : Type 0} (test : TokenKind → Bool) (turn : S → Parser S)
     from_turns stop = chosen false (nothing refl)
     from_turns (go_on h more) = chosen true (h ▸ more)
 
-    abbrev ends_one : Bool → List Token → Type 0
-    ends_one true = F
-    ends_one false = Any
+    abbrev EndsOne : Bool → List Token → Type 0
+    EndsOne true = F
+    EndsOne false = Anything
 
-    ends_of : (b : Bool) (rest : List Token) → F rest → ends_one b rest
+    ends_of : (b : Bool) (rest : List Token) → F rest → EndsOne b rest
     ends_of true rest e = e
     ends_of false rest e = tt
 
@@ -124,7 +124,7 @@ module _ {S : Type 0} (test : TokenKind → Bool) (turn : S → Parser S)
       where
         turned : Fell (turn s >>= many test turn) (Then (D s) (Turns D)) F ts e → Fell (many test turn s) (Turns D s) F ts e
         turned y = fell_as (many_is s) (to_turns s) (λ late ts rest x h. inl (from_turns h)) (λ rest e. e)
-            (choice_fell (at test) (at_same test) (step (many test turn) s) (One s) ends_one F (only s) ends_of (at_once s) is y)
+            (choice_fell (at test) (at_same test) (step (many test turn) s) (One s) EndsOne F (only s) ends_of (at_once s) is y)
 
         inner : (late : Late) (ts rest : List Token) (s' x : S) → Star D late s' ts rest x → F rest → E ts
         inner late ts rest s' x h e = between h e

@@ -1,6 +1,6 @@
 -- The rules of nothing, and of one token.
-use Rattle.std.proofs.Common.{◌≡◌, ◌⊎◌, ℕ, Bool, true, false, cond, List, [], ◌∷◌, ◌++◌, length, Option, Some, None, Ok, Err, refl, subst, ap, sym, ◌∙◌, inl, inr, rules}
-use denote.Enum.Bare.{sameb, same_true, true_same}
+use Rattle.std.proofs.Common.{◌≡◌, ℕ, Bool, true, false, cond, List, [], ◌∷◌, Option, Some, None, Ok, Err, refl, subst, ap, sym, ◌∙◌, inl, inr, rules}
+use denote.Enum.Bare.{same_true, true_same}
 use Rattle.lil_base.specs.declared.fault.Place.{Place}
 use Rattle.lil_tree.specs.declared.token.Token.{Token}
 use Rattle.lil_tree.specs.declared.token.TokenKind.{TokenKind}
@@ -12,17 +12,17 @@ use Rattle.lil_tree.specs.contracts.token.Word as word
 use Rattle.lil_tree.specs.declared.tree.Ident.{Ident}
 use Rattle.lil_tree.specs.declared.stop.ReadStop.{ReadStop}
 use Rattle.lil_tree.specs.Trees.{ident}
-use Rattle.lil_parse_body.specs.Steps.{syntax, Outcome, Parser, pure, first, place_of, at, token, taken, same_mark, is_mark, same_word, is_word, mark_at, word_at, ident_by, ident_at}
-use Rattle.lil_parse_body.proofs.Rules.{Late, IsFree, Relation, Took, Fell, Rule, Reaches, Begins, ok_same, err_same, Opens, goes_on_from, rule_as}
+use Rattle.lil_parse_body.specs.Steps.{syntax, Parser, pure, first, place_of, at, token, taken, same_mark, is_mark, same_word, is_word, mark_at, word_at, ident_by, ident_at}
+use Rattle.lil_parse_body.proofs.Rules.{Late, Relation, Took, Rule, Reaches, Begins, ok_same, err_same, Opens, goes_on_from, rule_as}
 
 -- anything may follow
-abbrev pub Any : List Token → Type 0
-Any ts = Unit {0}
+abbrev pub Anything : List Token → Type 0
+Anything ts = Unit {0}
 
 pub data Same {A : Type 0} (x : A) (late : Late) : List Token → List Token → A → Type 0 where
   nothing : {ts : List Token} {a : A} → a ≡ x → Same x late ts ts a
 
-pub rule_pure : {A : Type 0} (x : A) → Rule (pure x) (Same x) Any
+pub rule_pure : {A : Type 0} (x : A) → Rule (pure x) (Same x) Anything
 rule_pure {A} x = record {
   took = λ ts a rest is. subst (λ y. Took (pure x) (Same x) ts y.0 y.1) (ok_same is) (record { front = []; cut = refl; again = λ more h. refl; derives = λ late s. nothing refl });
   fell = λ ts e is. absurd (cc);
@@ -90,7 +90,7 @@ module _ {A : Type 0} (f : Token → Option A) where
   unfolding token
   token_end = refl
 
-  pub rule_token : (t : Token) (a : A) → f t ≡ Some a → Rule (token f) (Taken f) Any
+  pub rule_token : (t : Token) (a : A) → f t ≡ Some a → Rule (token f) (Taken f) Anything
   rule_token t a is = record {
     took = token_took;
     fell = λ ts e refused. record {
@@ -140,7 +140,7 @@ module _ (m : Mark) where
   from_mark : {late : Late} {ts rest : List Token} {p : Place} → IsMark m late ts rest p → Taken (mark_at m) late ts rest p
   from_mark (a_mark {t = t} is) = takes (mark_taken t is)
 
-  pub rule_mark : Rule (token (mark_at m)) (IsMark m) Any
+  pub rule_mark : Rule (token (mark_at m)) (IsMark m) Anything
   rule_mark = let t = token_of (k.Mark m) in rule_as (rule_token (mark_at m) t t.place (mark_taken t refl)) (λ late ts rest a h. to_mark h) (λ late ts rest a h. from_mark h) (λ rest e. e)
 
 -- ---- a word
@@ -171,7 +171,7 @@ module _ (w : Word) where
   from_word : {late : Late} {ts rest : List Token} {p : Place} → IsWord w late ts rest p → Taken (word_at w) late ts rest p
   from_word (a_word {t = t} is) = takes (word_taken t is)
 
-  pub rule_word : Rule (token (word_at w)) (IsWord w) Any
+  pub rule_word : Rule (token (word_at w)) (IsWord w) Anything
   rule_word = let t = token_of (k.Word w) in rule_as (rule_token (word_at w) t t.place (word_taken t refl)) (λ late ts rest a h. to_word h) (λ late ts rest a h. from_word h) (λ rest e. e)
 
 -- ---- a name
@@ -188,5 +188,5 @@ to_ident (takes {t = t} {rest = rest} {a = i} is) = ident_is t rest i t.what ref
 from_ident : {late : Late} {ts rest : List Token} {i : Ident} → IsIdent late ts rest i → Taken ident_at late ts rest i
 from_ident (an_ident {t = t} is) = takes (ap (ident_by t.place) is)
 
-pub rule_ident : Rule (token ident_at) IsIdent Any
+pub rule_ident : Rule (token ident_at) IsIdent Anything
 rule_ident = let t = token_of (k.Ident []) in rule_as (rule_token ident_at t (ident t.place []) refl) (λ late ts rest a h. to_ident h) (λ late ts rest a h. from_ident h) (λ rest e. e)

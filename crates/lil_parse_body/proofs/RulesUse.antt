@@ -1,15 +1,18 @@
 -- What follows from a rule: what is read and nothing else, one reading, and the exact places of the faults.
-use Rattle.std.proofs.Common.{◌≡◌, ◌≢◌, ◌⊎◌, ℕ, zero, suc, ◌≤◌, ◌<◌, List, [], ◌∷◌, ◌++◌, length, append-nil, Option, Some, None, Result, Ok, Err, IfOk, IfErr, refl, subst, ap, sym, ◌∙◌, inl, inr, arith}
+use Rattle.std.proofs.Common.{◌≡◌, ◌⊎◌, ℕ, suc, ◌≤◌, ◌<◌, List, [], ◌∷◌, ◌++◌, length, append-nil, Some, None, Result, Ok, Err, IfOk, IfErr, subst, ap, sym, ◌∙◌, inl, inr, arith}
 use Rattle.lil_base.specs.declared.fault.Place.{Place}
 use Rattle.lil_base.specs.declared.fault.SourceFault.{SourceFault}
 use Rattle.lil_tree.specs.declared.token.Token.{Token}
 use Rattle.lil_tree.specs.declared.stop.ReadStop.{ReadStop}
 use Rattle.lil_tree.specs.declared.stop.ReadStop.TheVariants.{Fault, Memory}
 use Rattle.lil_tree.specs.Nesting.{within}
-use Rattle.lil_parse_body.specs.Steps.{syntax, nested, Outcome, Parser, Reads, first, place_of}
-use Rattle.lil_parse_body.specs.Places.{Grammar, Longest, RefusedAt, TooDeepAt, StopsAt}
-use Rattle.lil_parse_body.proofs.Rules.{Late, IsFree, Relation, Took, Fell, Begins, IsSyntax, IsDeep, Rule, Nested, ok_same, err_same, ok_err, fault_same, syntax_nested, syntax_same, nested_same}
+use Rattle.lil_parse_body.specs.Steps.{syntax, nested, Outcome, Parser, Reads, place_of}
+use Rattle.lil_parse_body.specs.Places.{Grammar, Longest, IsRun, RefusedAt, TooDeepAt, StopsAt}
+use Rattle.lil_parse_body.proofs.Rules.{Late, IsFree, Relation, Fell, Begins, IsSyntax, IsDeep, Rule, Nested, ok_same, err_same, ok_err, fault_same, syntax_nested, syntax_same, nested_same}
 use Rattle.lil_parse_body.proofs.RulesLimit.{limit}
+
+memory_fault : {f : SourceFault} → Memory ≡ Fault f → ⊥
+memory_fault e = absurd (cc)
 
 -- a phrase with nothing behind it
 pub to_end : {A : Type 0} {R : Relation A} {front on : List Token} → (b : Begins R front on) → (late : Late) → IsFree late (length (on ++ b.more)) → R late (front ++ (on ++ b.more)) [] b.tree
@@ -33,23 +36,35 @@ module _ {A : Type 0} {p : Parser A} {R : Relation A} {E : List Token → Type 0
     | inr is ↦ is
   ]
 
-  pub unique : (ts rest rest' : List Token) (a b : A) → R (Some 0) ts rest a → R (Some 0) ts rest' b → E rest → E rest' → (a ≡ b) × (rest ≡ rest')
-  unique ts rest rest' a b h h' e e' = let same = ok_same (sym (complete ts rest a h e) ∙ complete ts rest' b h' e') in (ap (λ y. y.0) same, ap (λ y. y.1) same)
+  -- it needs no memory
+  pub never_memory : (ts : List Token) → p ts ≡ Err Memory → ⊥
+  unfolding syntax nested
+  never_memory ts is = elim (x.fell ts Memory is).why [
+    | inl h ↦ let e = h.is in memory_fault e
+    | inr h ↦ let e = h.is in memory_fault e
+  ]
 
 -- ---- the exact places
 module _ {A : Type 0} {p : Parser A} (G : Grammar A) {E : List Token → Type 0} (n : ℕ) (x : Rule p (λ late. G (limit n late)) E) (over : E []) where
-  pub longest : (ts : List Token) (a : A) (rest : List Token) → p ts ≡ Ok (a, rest) → Longest G ts rest
-  longest ts a rest is =
+  -- what is read is the longest run that begins a phrase
+  pub is_run : (ts : List Token) (a : A) (rest : List Token) → p ts ≡ Ok (a, rest) → IsRun G n ts rest a
+  is_run ts a rest is =
       let y = x.took ts a rest is in
       record {
-        front = y.front;
-        cut = y.cut;
-        none = λ t more tree at h. none t more (y.again (t ∷ more) (inl (sym at))) (x.reaches None (y.front ++ t ∷ more) [] tree h over);
+        run = record {
+          front = y.front;
+          cut = y.cut;
+          none = λ t more tree at h. none t more (y.again (t ∷ more) (inl (sym at))) (x.reaches None (y.front ++ t ∷ more) [] tree h over);
+        };
+        is = subst (λ ts. G (within n) ts [] a) (append-nil y.front) (y.derives (Some 0) []);
       }
     where
       none : (t : Token) (more : List Token) {o : Outcome A} {tree : A} → o ≡ Ok (a, t ∷ more) → Nested o ⊎ (o ≡ Ok (tree, [])) → ⊥
       none t more is (inl n) = ok_err is n.1
       none t more is (inr is') = let same = ap (λ y. y.1) (ok_same (sym is ∙ is')) in absurd (cc)
+
+  pub longest : (ts : List Token) (a : A) (rest : List Token) → p ts ≡ Ok (a, rest) → Longest G ts rest
+  longest ts a rest is = (is_run ts a rest is).run
 
   refused_by : {ts : List Token} {q : Place} → (y : Fell p (λ late. G (limit n late)) E ts (syntax q)) → IsSyntax p y.front y.on y.rest (syntax q) ⊎ IsDeep (λ late. G (limit n late)) E y.front y.on y.rest (syntax q) → RefusedAt G n ts q
   refused_by {q = q} y (inl h) = record {

@@ -1,5 +1,5 @@
 -- The rules of the parts of statements, by those of the expressions and statements in them.
-use Rattle.std.proofs.Common.{◌≡◌, ◌⊎◌, ℕ, suc, Bool, true, false, true≢false, List, [], ◌∷◌, ◌++◌, Option, Some, None, refl, subst, ap, sym, ◌∙◌, inl, inr}
+use Rattle.std.proofs.Common.{◌≡◌, ℕ, true, false, List, [], ◌∷◌, ◌++◌, Option, Some, None, refl, subst, sym}
 use Rattle.lil_base.specs.declared.fault.Place.{Place}
 use Rattle.lil_tree.specs.declared.token.Token.{Token}
 use Rattle.lil_tree.specs.declared.token.TokenKind.{TokenKind}
@@ -16,24 +16,21 @@ use Rattle.lil_tree.specs.declared.tree.Guard.{Guard}
 use Rattle.lil_tree.specs.declared.tree.Arm.{Arm}
 use Rattle.lil_tree.specs.declared.tree.ForHead.{ForHead}
 use Rattle.lil_tree.specs.Nesting.{Limit, unlimited}
-use Rattle.lil_tree.specs.Operators.{begins_expression, begins_statement, selects, joins_factor}
-use Rattle.lil_tree.specs.Trees.{ident, range, guard, arm, for_head, listed}
+use Rattle.lil_tree.specs.Operators.{begins_expression, begins_statement}
+use Rattle.lil_tree.specs.Trees.{range, guard, arm, for_head, listed}
 use Rattle.lil_tree.specs.Expressions as in_expr
 use Rattle.lil_tree.specs.Expressions.{IsExpr, IsRanges}
 use Rattle.lil_tree.specs.Statements as g
 use Rattle.lil_tree.specs.Statements.{IsStep, IsForHead, IsStatements, IsMoreStatements, IsStatement, IsBody, IsElse, IsGuard, IsMoreGuards, IsArms, IsMoreArms, IsArm}
-use Rattle.lil_parse_body.specs.declared.kinds.Level.TheVariants as level
-use Rattle.lil_parse_body.specs.Steps.{Parser, ◌>>=◌, ◌>>◌, pure, at, either, token, same_mark, same_word, is_mark, is_word, mark_at, word_at, ident_at, many}
-use Rattle.lil_parse_body.specs.Kinds.{is_operator}
-use Rattle.lil_parse_body.specs.ReadExpressions.{ranges}
+use Rattle.lil_parse_body.specs.Steps.{Parser, at, same_mark, same_word, is_mark, is_word, mark_at, word_at}
 use Rattle.lil_parse_body.specs.ReadStatements as spec
 use Rattle.lil_parse_body.specs.Ends.{Not, EndsExpression, EndsRanges, EndsStatement, EndsStatements}
 use Rattle.lil_parse_body.proofs.Rules.{Late, Relation, Opens, Rule, Then, ◌▸◌, rule_then, rule_as}
-use Rattle.lil_parse_body.proofs.RulesTokens.{Any, Same, nothing, rule_pure, IsMark, a_mark, rule_mark, IsWord, a_word, rule_word, token_of, IsIdent, an_ident, rule_ident}
-use Rattle.lil_parse_body.proofs.RulesMany.{Star, stop, go_on, Turns}
+use Rattle.lil_parse_body.proofs.RulesTokens.{Anything, Same, nothing, rule_pure, IsMark, a_mark, rule_mark, IsWord, a_word, rule_word, token_of, IsIdent, an_ident, rule_ident}
+use Rattle.lil_parse_body.proofs.RulesMany.{stop, go_on, Turns}
 use Rattle.lil_parse_body.proofs.RulesLimit.{limit}
-use Rattle.lil_parse_body.proofs.RulesLists.{at_apart, Takes, takes_opens, Or, left, right, rule_either, Turn, EndsList, rule_list, rule_map, rule_after, rule_before}
-use Rattle.lil_parse_body.proofs.ExpressionBegins.{begins_expr, begins_ranges}
+use Rattle.lil_parse_body.proofs.RulesLists.{takes_opens, Or, left, right, rule_either, Turn, rule_list, rule_map, rule_after, rule_before}
+use Rattle.lil_parse_body.proofs.ExpressionBegins.{begins_ranges}
 use Rattle.lil_parse_body.proofs.ExpressionLevels.{nothing_expression}
 use Rattle.lil_parse_body.proofs.ExpressionRules.{an_expression}
 use Rattle.lil_parse_body.proofs.ExpressionParts.{takes_mark, takes_word, begins_mark, begins_word, at_word, not_at_mark, not_at_word, EndsAt, ends_at_mark, ends_at_word, rule_ranges}
@@ -246,21 +243,21 @@ module _ (n : ℕ) (statement : Parser (Option Stmt)) (y : Rule statement (λ la
       (statement_at_mark m.Semicolon ((refl, refl, refl, refl), refl, refl, refl)) nothing_statement (takes_mark m.Semicolon) listed y)
       (to_statements n) (from_statements n) (λ rest e. e)
 
-  pub rule_body : Rule (spec.body statement) (λ late. IsBody (limit n late)) Any
+  pub rule_body : Rule (spec.body statement) (λ late. IsBody (limit n late)) Anything
   unfolding spec.body
   rule_body = rule_as (rule_before (is_word w.End) (statements_at_word w.End ((refl, refl, refl, refl), refl, refl, refl)) begins rule_statements (λ ss. rule_map (rule_word w.End) (λ p. ss))) (to_body n) (from_body n) (λ rest e. e)
     where
       begins : (late : Late) (ts rest : List Token) (ss all : List Stmt) → Then (IsWord w.End) (λ p. Same ss) late ts rest all → at (is_word w.End) ts ≡ true
       begins late ts rest ss all (h ▸ k) = begins_word h
 
-  pub rule_else : (expr : Parser Expr) → Rule (spec.otherwise expr statement) (λ late. IsElse (limit n late)) Any
+  pub rule_else : (expr : Parser Expr) → Rule (spec.otherwise expr statement) (λ late. IsElse (limit n late)) Anything
   unfolding spec.otherwise spec.other spec.no_other same_word
-  rule_else expr = rule_as (rule_either (is_word w.Else) Any (rule_after (rule_word w.Else) (λ p. rule_map rule_body Some)) (rule_map (rule_word w.End) (λ p. None)) begins none (λ rest e. tt) (λ rest e. tt) tt (takes_opens (is_word w.Else) (takes_word w.Else) (λ p. (rule_map rule_body Some).some))) (to_else n) (from_else n) (λ rest e. e)
+  rule_else expr = rule_as (rule_either (is_word w.Else) Anything (rule_after (rule_word w.Else) (λ p. rule_map rule_body Some)) (rule_map (rule_word w.End) (λ p. None)) begins none (λ rest e. tt) (λ rest e. tt) tt (takes_opens (is_word w.Else) (takes_word w.Else) (λ p. (rule_map rule_body Some).some))) (to_else n) (from_else n) (λ rest e. e)
     where
       begins : (late : Late) (ts rest : List Token) (o : Option (List Stmt)) → Other n late ts rest o → at (is_word w.Else) ts ≡ true
       begins late ts rest o (h ▸ k) = begins_word h
 
-      none : (late : Late) (ts rest : List Token) (o : Option (List Stmt)) → NoOther n late ts rest o → Any rest → Not (is_word w.Else) ts
+      none : (late : Late) (ts rest : List Token) (o : Option (List Stmt)) → NoOther n late ts rest o → Anything rest → Not (is_word w.Else) ts
       none late ts rest o (h ▸ k) e = not_at_word w.End (is_word w.Else) refl ts (begins_word h)
 
 module _ (n : ℕ) (expr : Parser Expr) (statement : Parser (Option Stmt)) (x : Rule expr (λ late. IsExpr (limit n late)) EndsExpression) (y : Rule statement (λ late. IsStatement (limit n late)) EndsStatement) where

@@ -1,5 +1,5 @@
 -- The rules of the forms of statements, and of statements at each nesting.
-use Rattle.std.proofs.Common.{◌≡◌, ◌⊎◌, ℕ, zero, suc, ◌≤◌, Bool, true, false, List, [], ◌∷◌, ◌++◌, length, Option, Some, None, Err, refl, subst, ap, sym, ◌∙◌, inl, inr}
+use Rattle.std.proofs.Common.{◌≡◌, ◌⊎◌, ℕ, zero, suc, Bool, true, false, List, [], ◌∷◌, ◌++◌, length, Option, Some, None, Err, refl, subst, ap, sym, ◌∙◌, inl, inr}
 use Rattle.lil_base.specs.declared.fault.Place.{Place}
 use Rattle.lil_tree.specs.declared.token.Token.{Token}
 use Rattle.lil_tree.specs.declared.token.TokenKind.{TokenKind}
@@ -14,9 +14,8 @@ use Rattle.lil_tree.specs.declared.tree.Stmt.{Stmt}
 use Rattle.lil_tree.specs.declared.tree.Stmt.TheVariants as s
 use Rattle.lil_tree.specs.declared.tree.Guard.{Guard}
 use Rattle.lil_tree.specs.declared.tree.Arm.{Arm}
-use Rattle.lil_tree.specs.declared.tree.ForHead.{ForHead}
 use Rattle.lil_tree.specs.Nesting.{Limit, Inside, unlimited}
-use Rattle.lil_tree.specs.Operators.{begins_expression, begins_statement, selects, joins_factor}
+use Rattle.lil_tree.specs.Operators.{begins_expression, begins_statement, selects}
 use Rattle.lil_tree.specs.Trees.{ident, designator, guard, for_head}
 use Rattle.lil_tree.specs.Expressions.{IsExpr, IsDesignator, IsActuals}
 use Rattle.lil_tree.specs.Expressions as in_expr
@@ -24,16 +23,16 @@ use Rattle.lil_tree.specs.Statements as g
 use Rattle.lil_tree.specs.Statements.{IsForHead, IsStatements, IsStatement, IsForm, IsBody, IsElse, IsArms}
 use Rattle.lil_parse_body.specs.declared.kinds.FormKind.{FormKind}
 use Rattle.lil_parse_body.specs.declared.kinds.FormKind.TheVariants as st
-use Rattle.lil_parse_body.specs.Steps.{syntax, place_of, Parser, ◌>>=◌, ◌>>◌, pure, at, class_at, either, either_by, too_deep, refuse, shallow, token, same_mark, same_word, is_mark, is_word, mark_at, word_at}
+use Rattle.lil_parse_body.specs.Steps.{syntax, place_of, Parser, pure, at, class_at, either, either_by, too_deep, refuse, shallow, token, same_mark, same_word, is_mark, is_word}
 use Rattle.lil_parse_body.specs.Kinds.{form_kind}
 use Rattle.lil_parse_body.specs.ReadExpressions.{expr, designated}
 use Rattle.lil_parse_body.specs.ReadStatements as spec
 use Rattle.lil_parse_body.specs.Ends.{Not, EndsExpression, EndsStatement, EndsStatements}
 use Rattle.lil_parse_body.proofs.Rules.{Late, IsFree, Relation, Opens, Rule, Begins, Then, ◌▸◌, Choice, chosen, rule_choice, rule_then, rule_within, rule_as}
-use Rattle.lil_parse_body.proofs.RulesTokens.{Any, Same, nothing, rule_pure, IsMark, a_mark, rule_mark, mark_is, IsWord, a_word, rule_word, token_of}
+use Rattle.lil_parse_body.proofs.RulesTokens.{Anything, Same, nothing, rule_pure, IsMark, a_mark, rule_mark, mark_is, IsWord, a_word, rule_word, token_of}
 use Rattle.lil_parse_body.proofs.RulesLimit.{limit, inside_next, inside_free, inside_next_is, inside_zero_is, rule_shallow}
-use Rattle.lil_parse_body.proofs.RulesLists.{at_apart, takes_opens, Or, left, right, rule_either, rule_map, rule_after, rule_before}
-use Rattle.lil_parse_body.proofs.ExpressionBegins.{begins_expr, begins_designator}
+use Rattle.lil_parse_body.proofs.RulesLists.{takes_opens, Or, left, right, rule_either, rule_map, rule_after, rule_before}
+use Rattle.lil_parse_body.proofs.ExpressionBegins.{begins_expr}
 use Rattle.lil_parse_body.proofs.ExpressionParts.{takes_mark, begins_mark, begins_word, at_word, not_at_mark, not_at_word, ends_at_word}
 use Rattle.lil_parse_body.proofs.ExpressionFactors.{class_same, rule_actuals, rule_designated}
 use Rattle.lil_parse_body.proofs.ExpressionNames.{ends_selectors, ends_mark, begins_actuals}
@@ -175,22 +174,22 @@ begins_then : {A : Type 0} {Q : Place → Relation A} {x : Word} {late : Late} {
 begins_then (h ▸ k) = begins_word h
 
 module _ (n : ℕ) (expr : Parser Expr) (statement : Parser (Option Stmt)) (x : Rule expr (λ late. IsExpr (limit n late)) EndsExpression) (y : Rule statement (λ late. IsStatement (limit n late)) EndsStatement) where
-  rule_if : Rule (spec.if_form expr statement) (IsOf n st.If) Any
+  rule_if : Rule (spec.if_form expr statement) (IsOf n st.If) Anything
   unfolding spec.if_form
-  rule_if = rule_after (rule_word w.If) (λ p. rule_then (rule_guards n expr statement x y) (λ gs. rule_map (rule_else n statement y expr) (λ o. s.If p gs o)) Any (inner p) (λ gs rest e. e))
+  rule_if = rule_after (rule_word w.If) (λ p. rule_then (rule_guards n expr statement x y) (λ gs. rule_map (rule_else n statement y expr) (λ o. s.If p gs o)) Anything (inner p) (λ gs rest e. e))
     where
-      inner : (p : Place) (late : Late) (ts rest : List Token) (gs : List Guard) (a : Stmt) → Then (λ late. IsElse (limit n late)) (λ o. Same (s.If p gs o)) late ts rest a → Any rest → EndsGuards ts
+      inner : (p : Place) (late : Late) (ts rest : List Token) (gs : List Guard) (a : Stmt) → Then (λ late. IsElse (limit n late)) (λ o. Same (s.If p gs o)) late ts rest a → Anything rest → EndsGuards ts
       inner p late ts rest gs a (h ▸ k) e = let ends = else_ends h in (ends.0, ends.1)
 
-  rule_case : Rule (spec.case_form expr statement) (IsOf n st.Case) Any
+  rule_case : Rule (spec.case_form expr statement) (IsOf n st.Case) Anything
   unfolding spec.case_form
   rule_case = rule_after (rule_word w.Case) (λ p. rule_before (is_word w.Of) (ends_at_word w.Of (refl, refl, refl, refl)) (λ late ts rest v a h. begins_then h) x (λ v.
-      rule_after (rule_word w.Of) (λ q. rule_then (rule_arms n expr statement x y) (λ found. rule_map (rule_else n statement y expr) (λ o. s.Case p v found o)) Any (inner p v) (λ found rest e. e))))
+      rule_after (rule_word w.Of) (λ q. rule_then (rule_arms n expr statement x y) (λ found. rule_map (rule_else n statement y expr) (λ o. s.Case p v found o)) Anything (inner p v) (λ found rest e. e))))
     where
-      inner : (p : Place) (v : Expr) (late : Late) (ts rest : List Token) (found : List Arm) (a : Stmt) → Then (λ late. IsElse (limit n late)) (λ o. Same (s.Case p v found o)) late ts rest a → Any rest → EndsArms ts
+      inner : (p : Place) (v : Expr) (late : Late) (ts rest : List Token) (found : List Arm) (a : Stmt) → Then (λ late. IsElse (limit n late)) (λ o. Same (s.Case p v found o)) late ts rest a → Anything rest → EndsArms ts
       inner p v late ts rest found a (h ▸ k) e = let ends = else_ends h in (ends.0, ends.2)
 
-  rule_while : Rule (spec.while_form expr statement) (IsOf n st.While) Any
+  rule_while : Rule (spec.while_form expr statement) (IsOf n st.While) Anything
   unfolding spec.while_form
   rule_while = rule_after (rule_word w.While) (λ p. rule_before (is_word w.Do) (ends_at_word w.Do (refl, refl, refl, refl)) (λ late ts rest c a h. begins_then h) x (λ c.
       rule_after (rule_word w.Do) (λ q. rule_map (rule_body n statement y) (λ ss. s.While p c ss))))
@@ -200,7 +199,7 @@ module _ (n : ℕ) (expr : Parser Expr) (statement : Parser (Option Stmt)) (x : 
   rule_repeat = rule_after (rule_word w.Repeat) (λ p. rule_before (is_word w.Until) (statements_at_word w.Until ((refl, refl, refl, refl), refl, refl, refl)) (λ late ts rest ss a h. begins_then h) (rule_statements n statement y) (λ ss.
       rule_after (rule_word w.Until) (λ q. rule_map x (λ c. s.Repeat p ss c))))
 
-  rule_for : Rule (spec.for_form expr statement) (IsOf n st.For) Any
+  rule_for : Rule (spec.for_form expr statement) (IsOf n st.For) Anything
   unfolding spec.for_form same_word
   rule_for = rule_after (rule_word w.For) (λ p. rule_before (is_word w.Do) ends (λ late ts rest h a k. begins_then k) (rule_for_part n expr x) (λ h.
       rule_after (rule_word w.Do) (λ q. rule_map (rule_body n statement y) (λ ss. s.For p h ss))))
@@ -208,24 +207,24 @@ module _ (n : ℕ) (expr : Parser Expr) (statement : Parser (Option Stmt)) (x : 
       ends : (ts : List Token) → at (is_word w.Do) ts ≡ true → EndsExpression ts × Not (is_word w.By) ts
       ends ts h = (ends_at_word w.Do (refl, refl, refl, refl) ts h, not_at_word w.Do (is_word w.By) refl ts h)
 
-  rule_with : Rule (spec.with_form expr statement) (IsOf n st.With) Any
+  rule_with : Rule (spec.with_form expr statement) (IsOf n st.With) Anything
   unfolding spec.with_form
   rule_with = rule_after (rule_word w.With) (λ p. rule_before (is_word w.Do) (not_at_word w.Do selects refl) (λ late ts rest d a h. begins_then h) (rule_designated n expr x) (λ d.
       rule_after (rule_word w.Do) (λ q. rule_map (rule_body n statement y) (λ ss. s.With p d ss))))
 
-  abbrev ends_of : FormKind → List Token → Type 0
-  ends_of st.Named = EndsStatement
-  ends_of st.Return = EndsStatement
-  ends_of st.Repeat = EndsExpression
-  ends_of _ = Any
+  abbrev EndsOf : FormKind → List Token → Type 0
+  EndsOf st.Named = EndsStatement
+  EndsOf st.Return = EndsStatement
+  EndsOf st.Repeat = EndsExpression
+  EndsOf _ = Anything
 
-  outer : (c : FormKind) (rest : List Token) → EndsStatement rest → ends_of c rest
+  outer : (c : FormKind) (rest : List Token) → EndsStatement rest → EndsOf c rest
   outer st.Named rest e = e
   outer st.Return rest e = e
   outer st.Repeat rest e = e.0
   outer _ rest e = tt
 
-  rule_of : (c : FormKind) → Rule (spec.form_by expr statement c) (IsOf n c) (ends_of c)
+  rule_of : (c : FormKind) → Rule (spec.form_by expr statement c) (IsOf n c) (EndsOf c)
   unfolding spec.exit_form spec.loop_form
   rule_of st.Named = rule_named_form n expr x
   rule_of st.Exit = rule_map (rule_word w.Exit) s.Exit
@@ -244,7 +243,7 @@ module _ (n : ℕ) (expr : Parser Expr) (statement : Parser (Option Stmt)) (x : 
 
   pub rule_form : Rule (spec.form expr statement) (λ late. IsForm (limit n late)) EndsStatement
   unfolding spec.form
-  rule_form = rule_as (rule_choice (class_at st.Named form_kind) (class_same st.Named form_kind) (spec.form_by expr statement) (IsOf n) ends_of EndsStatement (only_form n) outer (λ c. inr (inl refused)) nothing_statement rule_of st.Exit)
+  rule_form = rule_as (rule_choice (class_at st.Named form_kind) (class_same st.Named form_kind) (spec.form_by expr statement) (IsOf n) EndsOf EndsStatement (only_form n) outer (λ c. inr (inl refused)) nothing_statement rule_of st.Exit)
       (to_form n) (from_form n) (λ rest e. e)
 
 -- ---- something that begins with each token

@@ -1,5 +1,5 @@
 -- The code of CASE: the entries of its table, its arms, and the whole.
-use Rattle.std.proofs.Common.{◌≡◌, ℕ, zero, suc, ◌+◌, ◌*◌, ◌<◌, ◌≤◌, ℤ, pos, negsuc, ◌≤ℤ◌, true, List, [], ◌∷◌, ◌++◌, length, map, drop, get_or, length-append, Option, Some, None, refl, sym, ap, ◌∙◌, subst, arith}
+use Rattle.std.proofs.Common.{◌≡◌, ℕ, suc, ◌+◌, ◌*◌, ◌<◌, ◌≤◌, ℤ, pos, negsuc, ◌≤ℤ◌, true, List, [], ◌∷◌, ◌++◌, length, map, drop, get_or, length-append, Option, Some, None, refl, sym, ap, ◌∙◌, subst, arith}
 use Rattle.std.proofs.lemmas.Int.{ints}
 use Rattle.std.proofs.lemmas.List.{drop_more, drop_all}
 use Rattle.std.specs.Option.{is_some}
@@ -12,7 +12,7 @@ use Rattle.lil_tree.specs.declared.resolved.RLabel.{RLabel}
 use Rattle.lil_tree.specs.Kinds.{Kind}
 use Rattle.lil_tree.specs.Resolved.{Expression, Label, Statements, Arms, NoElse, Else, Arm, Case, kind_of}
 use Rattle.lil_tree.specs.Views.{expression_of, label_of, statement_of, statements_of, else_of, arms_of}
-use Rattle.lil_tree.specs.Sizes.{size, body_size, arms_size, is_base, IsSoundLabel, AreSoundLabels}
+use Rattle.lil_tree.specs.Sizes.{size, body_size, arms_size, is_base, IsSoundLabel}
 use Rattle.lil_tree.proofs.Views.{case_is}
 use Rattle.lil_mcode.specs.declared.instr.Instr.TheVariants.{Jmp, Cas, Trp}
 use Rattle.lil_mcode.specs.Bytes.{bytes_of, entry_bytes}

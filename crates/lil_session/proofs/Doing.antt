@@ -5,7 +5,7 @@ use Rattle.std.proofs.lemmas.Bool.{both_ways}
 use Rattle.std.proofs.lemmas.List.{append-nil}
 use Rattle.lil_base.specs.declared.fault.SourceFault.{SourceFault}
 use Rattle.lil_tree.specs.Resolved.{Resolved}
-use Rattle.lil_tree.specs.Straight.{IsStraight}
+use Rattle.lil_tree.specs.Structured.{IsStructured}
 use Rattle.lil_meaning.specs.World.{World}
 use Rattle.lil_meaning.specs.Items.{Going}
 use Rattle.lil_volume.specs.Causes.{Rose, VolumeCause}
@@ -18,7 +18,7 @@ use Rattle.lil_session.specs.Words.{mod_file}
 use Rattle.lil_session.specs.Outcome.{settled, gives_way, with_writes, not_built, Allowed, Answers, SourceAnswers, TextAnswers, Blames, Devices, Finds, Headline, IsRunAnswer, IsRunnable, MeansAnswer, Runs, Shows}
 use Rattle.lil_session.specs.Counted.{MachineAnswers}
 use Rattle.lil_session.specs.Answered.{TextRan, Ran}
-use Rattle.lil_straight.proofs.Straightness.{straight_unique}
+use Rattle.lil_structured.proofs.Unique.{structured_unique}
 
 followed_none : (old : Option (List ℕ)) (more : List ℕ) → more ≡ [] → old ≡ followed_by old more
 followed_none None more none = refl
@@ -144,43 +144,64 @@ none_of {M} P Q o is holds = subst (λ (x : Option M). MatchOption x P Q) is hol
 same_fault : (f g : SourceFault) → a.SourceFault f ≡ a.SourceFault g → f ≡ g
 same_fault f g same = cc
 
--- a text that isn't straight was not run
-pub text_not : (file text : List ℕ) (steps : ℕ) (old : Option (List ℕ)) (faults : ℕ) (fault : SourceFault) → ((p : Resolved) → IsStraight file text p → ⊥) → fault ≡ not_built → TextRan file text steps old faults old faults (a.SourceFault fault)
+-- a text that isn't structured was not run
+pub text_not : (file text : List ℕ) (steps : ℕ) (old : Option (List ℕ)) (faults : ℕ) (fault : SourceFault) → ((p : Resolved) → IsStructured file text p → ⊥) → fault ≡ not_built → TextRan file text steps old faults old faults (a.SourceFault fault)
 text_not file text steps old faults fault none is = record {
   answer = λ w blank settles. inr (inl (none, ap a.SourceFault is));
   fault_only = λ f same. (sym (same_fault fault f same) ∙ is, none);
   fault_where = λ also stays. ap a.SourceFault is;
   kinds = inl (fault, refl);
-  shows = λ w p blank straight. absurd (none p straight);
-  machine = λ w p blank straight. absurd (none p straight);
+  shows = λ w p blank structured. absurd (none p structured);
+  machine = λ w p blank structured. absurd (none p structured);
   nothing = λ f same. refl;
   called = inl (refl, refl);
   cause = record { later = omega arith; rose = λ same. cc; quiet = inl refl };
   told = inr refl;
 }
 
--- a text that is straight was run
-pub text_ran : (file text : List ℕ) (m : Resolved) (steps : ℕ) (old : Option (List ℕ)) (old_faults : ℕ) (new : Option (List ℕ)) (new_faults : ℕ) (s : Status) → IsStraight file text m
+-- memory was wanted before the text was read
+pub text_memory : (file text : List ℕ) (steps : ℕ) (old : Option (List ℕ)) (faults : ℕ) → TextRan file text steps old faults old faults a.Memory
+text_memory file text steps old faults = record {
+  answer = λ w blank settles. absurd (no_true settles);
+  fault_only = λ f same. absurd (no_fault f same);
+  fault_where = λ none gives. absurd (no_true (sym gives));
+  kinds = inr tt;
+  shows = λ w p blank structured. shows_none p w old a.Memory blank tt;
+  machine = λ w p blank structured. inl refl;
+  nothing = λ f same. refl;
+  called = inl (refl, refl);
+  cause = record { later = omega arith; rose = λ same. cc; quiet = inl refl };
+  told = inr refl;
+}
+  where
+    no_true : false ≡ true → ⊥
+    no_true same = cc
+
+    no_fault : (f : SourceFault) → a.Memory ≡ a.SourceFault f → ⊥
+    no_fault f same = cc
+
+-- a text that is structured was run
+pub text_ran : (file text : List ℕ) (m : Resolved) (steps : ℕ) (old : Option (List ℕ)) (old_faults : ℕ) (new : Option (List ℕ)) (new_faults : ℕ) (s : Status) → IsStructured file text m
     → ((w : World) → w.screen ≡ [] → Shows m w old new s)
     → ((w : World) → w.screen ≡ [] → settled s ≡ true → (s ≡ a.StepsSpent) ⊎ MeansAnswer m w s)
     → IsRunAnswer s → ((w : World) → w.screen ≡ [] → MachineAnswers m w steps old new s) → Blames a.ScreenFault old_faults new_faults s → (s ≡ a.ScreenFault) ⊎ (new_faults ≡ old_faults)
     → TextRan file text steps old old_faults new new_faults s
-text_ran file text m steps old old_faults new new_faults s straight shows answer kinds machine cause told = record {
+text_ran file text m steps old old_faults new new_faults s structured shows answer kinds machine cause told = record {
   answer = λ w none is. either (answer w none is);
   fault_only = λ f is. absurd (no_fault f is);
-  fault_where = λ none stays. absurd (none m straight);
+  fault_where = λ none stays. absurd (none m structured);
   kinds = inr kinds;
-  shows = λ w p none also. subst (λ (r : Resolved). Shows r w old new s) (straight_unique file text m p straight also) (shows w none);
-  machine = λ w p none also. subst (λ (r : Resolved). MachineAnswers r w steps old new s) (straight_unique file text m p straight also) (machine w none);
+  shows = λ w p none also. subst (λ (r : Resolved). Shows r w old new s) (structured_unique file text m p structured also) (shows w none);
+  machine = λ w p none also. subst (λ (r : Resolved). MachineAnswers r w steps old new s) (structured_unique file text m p structured also) (machine w none);
   nothing = λ f is. absurd (no_fault f is);
-  called = inr (m, straight);
+  called = inr (m, structured);
   cause = cause;
   told = told;
 }
   where
     either : {w : World} → (s ≡ a.StepsSpent) ⊎ MeansAnswer m w s → (s ≡ a.StepsSpent) ⊎ TextAnswers file text w s
     either (inl is) = inl is
-    either (inr means) = inr (inr (m, straight, means))
+    either (inr means) = inr (inr (m, structured, means))
 
     no_fault : (f : SourceFault) → s ≡ a.SourceFault f → ⊥
     no_fault f is = subst (λ (t : Status). IsRunAnswer t) is kinds
@@ -202,8 +223,8 @@ source_ran file text steps before files faults shown screen_faults s is same qui
   fault_is = λ f fault. (ran.fault_only f fault).0;
   settles = settles ran.kinds;
   no_refusal = inr (inr (refusal ran.kinds));
-  headline = λ w p finds runs. headline_of p w before (record before { files = files; volume_faults = faults; shown = shown; screen_faults = screen_faults }) s finds (ran.shows w p finds.nothing_shown (straight_here w p finds runs)) refl same;
-  machine = λ w p finds runs. ran.machine w p finds.nothing_shown (straight_here w p finds runs);
+  headline = λ w p finds runs. headline_of p w before (record before { files = files; volume_faults = faults; shown = shown; screen_faults = screen_faults }) s finds (ran.shows w p finds.nothing_shown (structured_here w p finds runs)) refl same;
+  machine = λ w p finds runs. ran.machine w p finds.nothing_shown (structured_here w p finds runs);
   nothing = quietly;
   called = called ran.called;
   asked = inl quiet;
@@ -224,10 +245,10 @@ source_ran file text steps before files faults shown screen_faults s is same qui
     either w there (inl spent) = inl spent
     either w there (inr answers) = inr (subst (λ (o : Option (List ℕ)). SourceAnswers file w o s) there answers)
 
-    called : ((shown ≡ before.shown) × (screen_faults ≡ before.screen_faults)) ⊎ ((p : Resolved) × IsStraight file text p)
+    called : ((shown ≡ before.shown) × (screen_faults ≡ before.screen_faults)) ⊎ ((p : Resolved) × IsStructured file text p)
         → ((shown ≡ before.shown) × (screen_faults ≡ before.screen_faults)) ⊎ IsRunnable (Some file) before.files
     called (inl still) = inl still
-    called (inr (p, straight)) = inr (record { file = file; named = refl; text = text; there = is; means = p; straight = straight })
+    called (inr (p, structured)) = inr (record { file = file; named = refl; text = text; there = is; means = p; structured = structured })
 
     there_not : (m : Files) (x : List ℕ) → before.files ≡ Some m → Some file ≡ Some x → get m (mod_file x) ≡ None → ⊥
     there_not m x told named none =
@@ -235,19 +256,19 @@ source_ran file text steps before files faults shown screen_faults s is same qui
         let same_name : file ≡ x = some_same file x named in
         cc
 
-    none_here : (m : Files) (x t : List ℕ) → before.files ≡ Some m → Some file ≡ Some x → get m (mod_file x) ≡ Some t → ((p : Resolved) → IsStraight x t p → ⊥) → (p : Resolved) → IsStraight file text p → ⊥
-    none_here m x t told named there none p straight =
+    none_here : (m : Files) (x t : List ℕ) → before.files ≡ Some m → Some file ≡ Some x → get m (mod_file x) ≡ Some t → ((p : Resolved) → IsStructured x t p → ⊥) → (p : Resolved) → IsStructured file text p → ⊥
+    none_here m x t told named there none p structured =
         let here : Some text ≡ get m (mod_file file) = found_as before.files m (mod_file file) (Some text) told is in
         let same_name : file ≡ x = some_same file x named in
         let same_text : text ≡ t = some_same text t (here ∙ ap (λ (n : List ℕ). get m (mod_file n)) same_name ∙ there) in
-        none p (subst (λ (u : List ℕ). IsStraight x u p) same_text (subst (λ (n : List ℕ). IsStraight n text p) same_name straight))
+        none p (subst (λ (u : List ℕ). IsStructured x u p) same_text (subst (λ (n : List ℕ). IsStructured n text p) same_name structured))
 
-    straight_here : (w : World) (p : Resolved) → Finds before.files before.keys w → Runs (Some file) w p → IsStraight file text p
-    straight_here w p finds runs =
+    structured_here : (w : World) (p : Resolved) → Finds before.files before.keys w → Runs (Some file) w p → IsStructured file text p
+    structured_here w p finds runs =
         let here : Some text ≡ get w.files (mod_file file) = found_in before.files before.keys w (mod_file file) (Some text) finds is in
         let same_name : file ≡ runs.file = some_same file runs.file runs.named in
         let same_text : text ≡ runs.text = some_same text runs.text (here ∙ ap (λ (n : List ℕ). get w.files (mod_file n)) same_name ∙ runs.there) in
-        subst (λ (u : List ℕ). IsStraight file u p) (sym same_text) (subst (λ (n : List ℕ). IsStraight n runs.text p) (sym same_name) runs.straight)
+        subst (λ (u : List ℕ). IsStructured file u p) (sym same_text) (subst (λ (n : List ℕ). IsStructured n runs.text p) (sym same_name) runs.structured)
 
     settles_run : (t : Status) → IsRunAnswer t → (settled t ≡ true) ⊎ ((t ≡ a.VolumeFault) ⊎ ((t ≡ a.ScreenFault) ⊎ (t ≡ a.Memory)))
     settles_run a.Done kind = inl refl

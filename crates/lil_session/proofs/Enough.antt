@@ -8,7 +8,7 @@ use Rattle.lil_meaning.specs.Steps.{next, by_phase}
 use Rattle.lil_meaning.specs.Runs.{after, begun}
 use Rattle.lil_mcode.specs.State.{State}
 use Rattle.lil_session.specs.Rows.{Translates}
-use Rattle.lil_session.specs.Running.{Running, Run, mrun, running}
+use Rattle.lil_session.specs.Running.{Running, mrun, running}
 use Rattle.lil_session.specs.Loaded.{loaded}
 use Rattle.lil_session.specs.Outcome.{state_of}
 use Rattle.lil_session.proofs.Start.{loaded_state, correct}

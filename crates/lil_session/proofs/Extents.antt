@@ -1,5 +1,5 @@
 -- The bytes and the FORs of statements, guards and arms, one by one.
-use Rattle.std.proofs.Common.{◌≡◌, ℕ, zero, suc, ◌+◌, ◌*◌, ◌<◌, ◌≤◌, List, [], ◌∷◌, length, map, drop, get_or, Option, Some, None, refl, sym, ap, ◌∙◌, subst, arith}
+use Rattle.std.proofs.Common.{◌≡◌, ℕ, zero, suc, ◌+◌, ◌*◌, ◌<◌, ◌≤◌, List, [], ◌∷◌, length, map, drop, get_or, Option, Some, None, refl, sym, ap, ◌∙◌, arith}
 use Rattle.std.proofs.lemmas.List.{drop_more, length-map}
 use Rattle.lil_tree.specs.declared.resolved.RExpr.{RExpr}
 use Rattle.lil_tree.specs.declared.resolved.RStmt.{RStmt}
@@ -8,7 +8,7 @@ use Rattle.lil_tree.specs.declared.resolved.RGuard.{RGuard}
 use Rattle.lil_tree.specs.declared.resolved.RArm.{RArm}
 use Rattle.lil_tree.specs.Resolved as r
 use Rattle.lil_tree.specs.Resolved.{Statement, Statements, Empty, Then, Arms, Arm}
-use Rattle.lil_tree.specs.Views.{joined, expression_of, label_of, statement_of, arm_of, guard_of, statements_of, guards_of, else_of, arms_of}
+use Rattle.lil_tree.specs.Views.{joined, expression_of, label_of, statement_of, guard_of, statements_of, guards_of, else_of, arms_of}
 use Rattle.lil_tree.specs.Sizes.{size, statement_size, body_size, arms_size, statement_loops, body_loops, arms_loops}
 use Rattle.lil_tree.proofs.Views.{if_is, case_is, guard_is, arm_is}
 use Rattle.lil_session.specs.Generating.{entry_count, before_else, bodies_size}

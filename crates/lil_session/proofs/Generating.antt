@@ -1,7 +1,6 @@
 -- The code of expressions, form by form.
-use Rattle.std.proofs.Common.{◌≡◌, ℕ, zero, suc, ◌+◌, ◌*◌, ◌<◌, ◌≤◌, true, List, [], ◌∷◌, ◌++◌, length, map, Option, Some, None, refl, sym, ap, ◌∙◌, subst, arith, ℤ, pos, negsuc, ◌≤ℤ◌, rules, w32, to_z, of_z}
+use Rattle.std.proofs.Common.{◌≡◌, ℕ, ◌+◌, true, List, ◌++◌, length, refl, sym, ap, ◌∙◌, subst, arith, ℤ, pos, negsuc, ◌≤ℤ◌, rules, w32, to_z, of_z}
 use mir.Val.{SFits}
-use Rattle.std.specs.Prelude.{slice_get}
 use Rattle.std.proofs.lemmas.Int.{ints, to_z-of_z}
 use Rattle.lil_base.specs.Words.{Whole, Cardinal, Integer, word_of}
 use Rattle.lil_tree.specs.declared.operator.OneOp.{OneOp}
@@ -12,14 +11,14 @@ use Rattle.lil_tree.specs.Kinds.{Kind, OfWhole}
 use Rattle.lil_tree.specs.Scalars.{Scalar, scalar_word}
 use Rattle.lil_tree.specs.Resolved.{Expression, Constant, Taken, One, Two, Both, Either, Apply, Chr, kind_of}
 use Rattle.lil_tree.specs.Views.{cardinal_variable, two_of}
-use Rattle.lil_tree.specs.Sizes.{size, one_size, two_size, takes_one, takes_two}
+use Rattle.lil_tree.specs.Sizes.{size, one_size, two_size, takes_two}
 use Rattle.lil_mcode.specs.declared.instr.Instr.{Instr}
 use Rattle.lil_mcode.specs.declared.instr.Instr.TheVariants.{Liw, Lgw, Rgc, Jan, Jor}
 use Rattle.lil_mcode.specs.Bytes.{bytes_of}
 use Rattle.lil_session.specs.Rows.{IsAt, InstrsAt, compared_as, one_code, two_code}
-use Rattle.lil_session.specs.Emitting.{all_bytes, Emits}
-use Rattle.lil_session.specs.Generating.{IsPlain, EmitsExpression}
-use Rattle.lil_session.proofs.Appending.{AreSayable, emits_instr, emits_instrs, emits_none, emits_both, emits_as}
+use Rattle.lil_session.specs.Emitting.{all_bytes}
+use Rattle.lil_session.specs.Generating.{EmitsExpression}
+use Rattle.lil_session.proofs.Appending.{AreSayable, emits_instr, emits_instrs, emits_both, emits_as}
 
 -- ---- operators
 -- instructions that have so many bytes

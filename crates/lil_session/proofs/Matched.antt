@@ -7,7 +7,7 @@ use Rattle.lil_base.specs.declared.fault.TrapAt.{TrapAt}
 use Rattle.lil_tree.specs.declared.operator.OneOp.{OneOp}
 use Rattle.lil_tree.specs.declared.operator.TwoOp.{TwoOp}
 use Rattle.lil_tree.specs.Kinds.{Kind, OfWhole, OfTruth, OfCharacter, base_of}
-use Rattle.lil_tree.specs.Scalars.{Scalar, within, scalar_word, scalar_of, ordinal_of}
+use Rattle.lil_tree.specs.Scalars.{Scalar, within, scalar_word, scalar_of}
 use Rattle.lil_tree.specs.Resolved.{Designator, Variable, Function, Abs, Cap, Chr, Odd, Ord, Val, Expression, Constant, Taken, One, Two, Both, Either, Apply, Argument, Statement, Assign, Request, If, Case, While, Repeat, Loop, Exit, For, Statements, Empty, Then, Arms, Resolved, kind_of, is_relation, result_kind}
 use Rattle.lil_tree.specs.Sizes.{depth, is_base, takes_one, takes_two}
 use Rattle.lil_meaning.specs.Cells.{Global, Place, loaded_at}

@@ -10,14 +10,14 @@ use Rattle.lil_tree.specs.Scalars.{within, scalar_word, zero_of}
 use Rattle.lil_tree.specs.Resolved.{Statement, Assign, Request, If, Case, While, Repeat, Loop, Exit, For, Statements, Empty, Then, Arms, NoElse, Else, Arm, Resolved}
 use Rattle.lil_meaning.specs.Cells.{Root, Global, Local, Object, zero_by, fresh_cells}
 use Rattle.lil_meaning.specs.World.{World}
-use Rattle.lil_meaning.specs.Items.{Item, Perform, End, doing}
+use Rattle.lil_meaning.specs.Items.{Perform, End, doing}
 use Rattle.lil_meaning.specs.Runs.{begun}
 use Rattle.lil_mcode.specs.declared.instr.Instr.TheVariants.{Rtn}
 use Rattle.lil_mcode.specs.declared.machine.Event.TheVariants.{Went}
 use Rattle.lil_mcode.specs.State.{Module, State, spliced, zeros, cleared}
 use Rattle.lil_mcode.specs.Table.{begun_body}
-use Rattle.lil_tree.specs.Sizes.{IsSmall, size, statement_size, body_size, arms_size, statement_loops, body_loops, arms_loops, frame_words}
-use Rattle.lil_session.specs.Rows.{Layout, offsets_from, layout_of, Translates}
+use Rattle.lil_tree.specs.Sizes.{IsSmall, statement_size, body_size, arms_size, statement_loops, body_loops, arms_loops, frame_words}
+use Rattle.lil_session.specs.Rows.{offsets_from, layout_of, Translates}
 use Rattle.lil_session.specs.Running.{Run, mrun, running, advanced}
 use Rattle.lil_session.specs.Loaded.{body_alone, loaded}
 use Rattle.lil_session.specs.Outcome.{state_of}

@@ -1,20 +1,19 @@
 -- The code of statements, form by form.
-use Rattle.std.proofs.Common.{◌≡◌, ℕ, suc, ◌+◌, ◌*◌, ◌<◌, ◌≤◌, ℤ, pos, Bool, true, List, [], ◌∷◌, ◌++◌, length, map, drop, get_or, Option, Some, None, refl, sym, ap, ◌∙◌, subst, arith}
+use Rattle.std.proofs.Common.{◌≡◌, ℕ, suc, ◌+◌, ◌<◌, ℤ, Bool, List, [], ◌∷◌, ◌++◌, length, drop, get_or, Option, Some, refl, sym, ap, ◌∙◌, subst, arith}
 use Rattle.std.specs.Option.{is_some}
 use Rattle.lil_base.specs.Words.{Cardinal, word_of}
 use Rattle.lil_tree.specs.declared.resolved.RStmt.{RStmt}
 use Rattle.lil_tree.specs.declared.resolved.RGuard.{RGuard}
-use Rattle.lil_tree.specs.Kinds.{OfWhole, OfTruth, OfCharacter}
-use Rattle.lil_tree.specs.Resolved.{Expression, Argument, Statement, Assign, If, While, Repeat, Loop, Exit, For, Statements, Empty, Then, kind_of}
-use Rattle.lil_tree.specs.Views.{cardinal_variable, write_of, joined, expression_of, statement_of, statements_of, guard_of, guards_of}
-use Rattle.lil_tree.specs.Sizes.{size, statement_size, body_size, statement_loops, body_loops, IsSoundWhole, IsSoundStatement, IsSoundBody}
+use Rattle.lil_tree.specs.Kinds.{OfCharacter}
+use Rattle.lil_tree.specs.Resolved.{Expression, Argument, Statement, Assign, If, While, Repeat, Loop, Exit, For, Statements, Empty, Then}
+use Rattle.lil_tree.specs.Views.{cardinal_variable, write_of, joined, expression_of, statement_of, statements_of, guards_of}
+use Rattle.lil_tree.specs.Sizes.{size, statement_size, body_size, IsSoundWhole, IsSoundBody}
 use Rattle.lil_tree.proofs.Views.{guard_is}
 use Rattle.lil_mcode.specs.declared.instr.Instr.{Instr}
 use Rattle.lil_mcode.specs.declared.instr.Instr.TheVariants.{Liw, Llw, Sgw, Jmp, Jpf, Fri, Frn, Svc}
 use Rattle.lil_mcode.specs.Bytes.{bytes_of}
-use Rattle.lil_session.specs.Rows.{Layout, Span, IsAt, ExpressionAt, WholeRow, StatementAt, BodyAt, loop_place}
-use Rattle.lil_session.specs.Emitting.{Emits}
-use Rattle.lil_session.specs.Generating.{IsPlain, EmitsExpression, EmitsStatement, EmitsBody, EmitsGuard, EmitsGuards}
+use Rattle.lil_session.specs.Rows.{Layout, IsAt, BodyAt, loop_place}
+use Rattle.lil_session.specs.Generating.{EmitsExpression, EmitsStatement, EmitsBody, EmitsGuard, EmitsGuards}
 use Rattle.lil_session.proofs.Appending.{emits_instr, emits_none, emits_both, emits_as}
 use Rattle.lil_session.proofs.Extents.{left_from, joined_size, joined_loops}
 

@@ -15,7 +15,7 @@ use Rattle.lil_mcode.specs.Table.{mstep, act, fetched, performed, going, push_ro
 use Rattle.lil_session.specs.Rows.{Layout, IsAt}
 use Rattle.lil_session.specs.Running.{Run, mrun, running, react, advanced}
 use Rattle.lil_session.proofs.Homes.{yes, Home}
-use Rattle.lil_session.proofs.Matched.{Mode, Quiet, Around, Reach, Jumps, AfterJumps, ItemRow, Rows, Ahead, IsProgram, HasLoops, Shared, GoesOn, Lands, weight, IsStill, Goes}
+use Rattle.lil_session.proofs.Matched.{Mode, Quiet, Around, Reach, Jumps, AfterJumps, Rows, Ahead, IsProgram, HasLoops, Shared, GoesOn, Lands, weight, IsStill, Goes}
 
 -- a step of the machine, as its row says
 pub advances : (m : State) (w : World) (r : Event × State) → mstep m ≡ r → advanced (running m w) ≡ react r.0 r.1 (running m w)

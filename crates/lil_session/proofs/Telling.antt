@@ -13,7 +13,7 @@ use Rattle.lil_session.specs.Outcome.{settled, gives_way, state_of, Allowed, Ans
 use Rattle.lil_session.specs.Counted.{MachineRan, MachineAnswers}
 use Rattle.lil_session.specs.Report.{status_lines}
 use Rattle.lil_session.specs.Answered.{IsAnswer, Call, Told}
-use Rattle.lil_straight.proofs.Straightness.{straight_unique}
+use Rattle.lil_structured.proofs.Unique.{structured_unique}
 use Rattle.lil_session.proofs.Agree.{answers_agree}
 use Rattle.lil_session.proofs.Counting.{ran_settled, ran_memory}
 
@@ -125,14 +125,14 @@ answer_told {call} {result} told w finds is =
 answers_end : (name : Option (List ℕ)) (w : World) (p : Resolved) (n : ℕ) (s : Status) → Runs name w p → EndsSo (state_of p w n).phase s → Answers name w s
 answers_end name w p n s runs ends =
     subst (λ (o : Option (List ℕ)). Answers o w s) (sym runs.named)
-    (subst (λ (o : Option (List ℕ)). SourceAnswers runs.file w o s) (sym runs.there) (inr (p, runs.straight, record { steps = n; ends = ends })))
+    (subst (λ (o : Option (List ℕ)). SourceAnswers runs.file w o s) (sym runs.there) (inr (p, runs.structured, record { steps = n; ends = ends })))
 
 end_told : {call : Call} {result : Status} → Told call result → (w : World) (p : Resolved) (n : ℕ) (s : Status) → Finds call.before.files call.before.keys w → Runs call.name w p → EndsSo (state_of p w n).phase s → settled result ≡ true → (result ≡ a.StepsSpent) ⊎ (result ≡ s)
 end_told {call} {result} told w p n s finds runs ends is = by_cases (answer_told told w finds is)
   where
     by_cases : (result ≡ a.StepsSpent) ⊎ Answers call.name w result → (result ≡ a.StepsSpent) ⊎ (result ≡ s)
     by_cases (inl spent) = inl spent
-    by_cases (inr answers) = inr (answers_agree straight_unique call.name w result s answers (answers_end call.name w p n s runs ends))
+    by_cases (inr answers) = inr (answers_agree structured_unique call.name w result s answers (answers_end call.name w p n s runs ends))
 
 pub done_only : {call : Call} {result : Status} → Told call result → (w : World) (p : Resolved) → Finds call.before.files call.before.keys w → Runs call.name w p → result ≡ a.Done → (n : ℕ) × ((state_of p w n).phase ≡ Ended)
 done_only {call} {result} told w p finds runs is =

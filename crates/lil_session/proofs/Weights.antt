@@ -1,5 +1,5 @@
 -- How many statements, guards and arms stand in resolved statements: what falls where a function goes into parts.
-use Rattle.std.proofs.Common.{◌≡◌, ℕ, ℤ, ◌+◌, ◌<◌, ◌≤◌, zero, suc, List, [], ◌∷◌, length, map, get_or, Option, Some, None, refl, sym, ap, ◌∙◌, arith}
+use Rattle.std.proofs.Common.{◌≡◌, ℕ, ℤ, ◌+◌, ◌<◌, ◌≤◌, zero, suc, List, [], ◌∷◌, length, map, get_or, Option, Some, None, sym, ap, ◌∙◌, arith}
 use Rattle.lil_tree.specs.declared.resolved.RExpr.{RExpr}
 use Rattle.lil_tree.specs.declared.resolved.RStmt.{RStmt}
 use Rattle.lil_tree.specs.declared.resolved.RStmt.TheVariants as s

@@ -3,7 +3,7 @@ use Rattle.std.specs.Prelude.{◌≡◌, ◌⊎◌, ℕ, true, false, List, [], 
 use Rattle.std.specs.FinMap.{get}
 use Rattle.lil_base.specs.declared.fault.SourceFault.{SourceFault}
 use Rattle.lil_tree.specs.Resolved.{Resolved}
-use Rattle.lil_tree.specs.Straight.{IsStraight}
+use Rattle.lil_tree.specs.Structured.{IsStructured}
 use Rattle.lil_meaning.specs.World.{World}
 use Rattle.lil_volume.specs.Told.{Files}
 use Rattle.lil_session.specs.declared.status.Status.{Status}
@@ -31,16 +31,16 @@ IsAnswer a.ReportFault = ⊤
 IsAnswer a.Memory = ⊤
 IsAnswer (a.BadCode _) = ⊥
 
--- The text of the file of this name was run where it is straight.
+-- The text of the file of this name was run where it is structured.
 pub record TextRan (file text : List ℕ) (steps : ℕ) (old : Option (List ℕ)) (old_faults : ℕ) (new : Option (List ℕ)) (new_faults : ℕ) (status : Status) : Type 0 where
   pub answer : (w : World) → w.screen ≡ [] → settled status ≡ true → (status ≡ a.StepsSpent) ⊎ TextAnswers file text w status
-  pub fault_only : (f : SourceFault) → status ≡ a.SourceFault f → (f ≡ not_built) × ((p : Resolved) → IsStraight file text p → ⊥)
-  pub fault_where : ((p : Resolved) → IsStraight file text p → ⊥) → gives_way status ≡ false → status ≡ a.SourceFault not_built
+  pub fault_only : (f : SourceFault) → status ≡ a.SourceFault f → (f ≡ not_built) × ((p : Resolved) → IsStructured file text p → ⊥)
+  pub fault_where : ((p : Resolved) → IsStructured file text p → ⊥) → gives_way status ≡ false → status ≡ a.SourceFault not_built
   pub kinds : ((f : SourceFault) × (status ≡ a.SourceFault f)) ⊎ IsRunAnswer status
-  pub shows : (w : World) (p : Resolved) → w.screen ≡ [] → IsStraight file text p → Shows p w old new status
-  pub machine : (w : World) (p : Resolved) → w.screen ≡ [] → IsStraight file text p → MachineAnswers p w steps old new status
+  pub shows : (w : World) (p : Resolved) → w.screen ≡ [] → IsStructured file text p → Shows p w old new status
+  pub machine : (w : World) (p : Resolved) → w.screen ≡ [] → IsStructured file text p → MachineAnswers p w steps old new status
   pub nothing : (f : SourceFault) → status ≡ a.SourceFault f → new ≡ old
-  pub called : ((new ≡ old) × (new_faults ≡ old_faults)) ⊎ ((p : Resolved) × IsStraight file text p)
+  pub called : ((new ≡ old) × (new_faults ≡ old_faults)) ⊎ ((p : Resolved) × IsStructured file text p)
   pub cause : Blames a.ScreenFault old_faults new_faults status
   pub told : (status ≡ a.ScreenFault) ⊎ (new_faults ≡ old_faults)
 
@@ -54,10 +54,10 @@ pub record Ran (name : Option (List ℕ)) (steps : ℕ) (before after : Devices)
   -- a file is missed exactly where the source isn't there
   pub no_file_only : (m : Files) (file : List ℕ) → before.files ≡ Some m → status ≡ a.NoFile file → (x : List ℕ) × (name ≡ Some x) × (file ≡ mod_file x) × (get m file ≡ None)
   pub no_file_where : (m : Files) (x : List ℕ) → before.files ≡ Some m → name ≡ Some x → get m (mod_file x) ≡ None → gives_way status ≡ false → status ≡ a.NoFile (mod_file x)
-  -- fault 90 comes exactly where the text isn't straight, and no other fault comes
+  -- fault 90 comes exactly where the text isn't structured, and no other fault comes
   pub fault_only : (m : Files) (f : SourceFault) → before.files ≡ Some m → status ≡ a.SourceFault f
-      → (f ≡ not_built) × ((x : List ℕ) × (name ≡ Some x) × ((text : List ℕ) × (get m (mod_file x) ≡ Some text) × ((p : Resolved) → IsStraight x text p → ⊥)))
-  pub fault_where : (m : Files) (x text : List ℕ) → before.files ≡ Some m → name ≡ Some x → get m (mod_file x) ≡ Some text → ((p : Resolved) → IsStraight x text p → ⊥)
+      → (f ≡ not_built) × ((x : List ℕ) × (name ≡ Some x) × ((text : List ℕ) × (get m (mod_file x) ≡ Some text) × ((p : Resolved) → IsStructured x text p → ⊥)))
+  pub fault_where : (m : Files) (x text : List ℕ) → before.files ≡ Some m → name ≡ Some x → get m (mod_file x) ≡ Some text → ((p : Resolved) → IsStructured x text p → ⊥)
       → gives_way status ≡ false → status ≡ a.SourceFault not_built
   -- a missed file is the source of the module that the words name, and a fault is fault 90, whatever the volume tells
   pub missed_is : (file : List ℕ) → status ≡ a.NoFile file → (x : List ℕ) × (name ≡ Some x) × (file ≡ mod_file x)
@@ -65,13 +65,13 @@ pub record Ran (name : Option (List ℕ)) (steps : ℕ) (before after : Devices)
   -- no other status comes
   pub settles : (settled status ≡ true) ⊎ ((status ≡ a.VolumeFault) ⊎ ((status ≡ a.ScreenFault) ⊎ (status ≡ a.Memory)))
   pub no_refusal : (status ≡ a.Usage) ⊎ (((file : List ℕ) × (status ≡ a.NoFile file)) ⊎ (((f : SourceFault) × (status ≡ a.SourceFault f)) ⊎ ((status ≡ a.VolumeFault) ⊎ IsRunAnswer status)))
-  -- what a straight text shows
+  -- what a structured text shows
   pub headline : (w : World) (p : Resolved) → Finds before.files before.keys w → Runs name w p → Headline p w before after status
   -- what the machine did for it
   pub machine : (w : World) (p : Resolved) → Finds before.files before.keys w → Runs name w p → MachineAnswers p w steps before.shown after.shown status
   -- nothing is shown where nothing was run
   pub nothing : ((status ≡ a.Usage) ⊎ (((file : List ℕ) × (status ≡ a.NoFile file)) ⊎ (((f : SourceFault) × (status ≡ a.SourceFault f)) ⊎ (status ≡ a.VolumeFault)))) → after.shown ≡ before.shown
-  -- the screen is called only where a straight text was found, and the volume only where the words name a module
+  -- the screen is called only where a structured text was found, and the volume only where the words name a module
   pub called : ((after.shown ≡ before.shown) × (after.screen_faults ≡ before.screen_faults)) ⊎ IsRunnable name before.files
   pub asked : (after.volume_faults ≡ before.volume_faults) ⊎ ((x : List ℕ) × (name ≡ Some x))
   pub files : after.files ≡ before.files

@@ -35,7 +35,7 @@ pub record MachineRan (p : Resolved) (w : World) (steps : ℕ) (old new : Option
   -- 32 instructions a step of the meaning, and 64 more, are enough: where they are spent, it goes on
   pub enough : status ≡ a.StepsSpent → (m : ℕ) → 32 * m + 64 ≤ steps → (state_of p w m).phase ≡ Going
 
--- What the machine did, by the answer of a command that runs a straight text: nothing where the volume failed.
+-- What the machine did, by the answer of a command that runs a structured text: nothing where the volume failed.
 abbrev pub MachineAnswers : Resolved → World → ℕ → Option (List ℕ) → Option (List ℕ) → Status → Type 0
 MachineAnswers p w steps old new a.Done = MachineRan p w steps old new a.Done
 MachineAnswers p w steps old new (a.Trapped t) = MachineRan p w steps old new (a.Trapped t)

@@ -3,7 +3,7 @@ use Rattle.std.specs.Prelude.{◌≡◌, ◌≢◌, ◌⊎◌, ℕ, ◌≤◌, B
 use Rattle.std.specs.FinMap.{get}
 use Rattle.lil_base.specs.declared.fault.SourceFault.{SourceFault}
 use Rattle.lil_tree.specs.Resolved.{Resolved}
-use Rattle.lil_tree.specs.Straight.{IsStraight}
+use Rattle.lil_tree.specs.Structured.{IsStructured}
 use Rattle.lil_meaning.specs.World.{World}
 use Rattle.lil_meaning.specs.Items.{Source, Phase, Going, Closing, Ended, Trapped}
 use Rattle.lil_meaning.specs.Runs.{src}
@@ -110,11 +110,11 @@ pub record MeansAnswer (p : Resolved) (w : World) (s : Status) : Type 0 where
   pub steps : ℕ
   pub ends : EndsSo (state_of p w steps).phase s
 
--- the answer of a text: its meaning's where it is straight, else fault 90
+-- the answer of a text: its meaning's where it is structured, else fault 90
 abbrev pub TextAnswers : List ℕ → List ℕ → World → Status → Type 0
 TextAnswers file text w s =
-    (((p : Resolved) → IsStraight file text p → ⊥) × (s ≡ a.SourceFault not_built))
-    ⊎ ((p : Resolved) × IsStraight file text p × MeansAnswer p w s)
+    (((p : Resolved) → IsStructured file text p → ⊥) × (s ≡ a.SourceFault not_built))
+    ⊎ ((p : Resolved) × IsStructured file text p × MeansAnswer p w s)
 
 abbrev pub SourceAnswers : List ℕ → World → Option (List ℕ) → Status → Type 0
 SourceAnswers file w None s = s ≡ a.NoFile (mod_file file)
@@ -125,22 +125,22 @@ abbrev pub Answers : Option (List ℕ) → World → Status → Type 0
 Answers None w s = s ≡ a.Usage
 Answers (Some file) w s = SourceAnswers file w (get w.files (mod_file file)) s
 
--- the source of the module is there, straight, and means p
+-- the source of the module is there, structured, and means p
 pub record Runs (name : Option (List ℕ)) (w : World) (p : Resolved) : Type 0 where
   pub file : List ℕ
   pub named : name ≡ Some file
   pub text : List ℕ
   pub there : get w.files (mod_file file) ≡ Some text
-  pub straight : IsStraight file text p
+  pub structured : IsStructured file text p
 
--- the source of the module is there as far as the volume tells, and straight
+-- the source of the module is there as far as the volume tells, and structured
 pub record IsRunnable (name : Option (List ℕ)) (files : Option Files) : Type 0 where
   pub file : List ℕ
   pub named : name ≡ Some file
   pub text : List ℕ
   pub there : FileIs files (mod_file file) (Some text)
   pub means : Resolved
-  pub straight : IsStraight file text means
+  pub structured : IsStructured file text means
 
 -- files after a list of writes
 abbrev pub with_writes : Option Files → List (List ℕ × List ℕ) → Option Files

@@ -18,12 +18,12 @@ use crate::run::run_program;
 use crate::words::named;
 use crate::{Channel, Options, Rack, Status};
 use lil_base::{Name, Place, SourceFault, Text};
-use lil_straight::read_straight;
+use lil_structured::read_structured;
 use lil_tree::RModule;
 use lil_volume::{Keyboard, Sink, Volume, VolumeError};
 use std::alloc::Global;
 
-/// The fault of a text that isn't straight.
+/// The fault of a text that isn't structured.
 fn fault_of_form() -> SourceFault
     ensures { result ≡ not_built }
 {
@@ -57,11 +57,11 @@ fn run_module<S: Sink>(alloc: Global, m: &RModule, steps: u64, screen: &mut S) -
     }
 }
 
-/// Runs the text of the file of this name where it is straight.
-fn run_text<S: Sink>(alloc: Global, name: &Name, text: &[u8], steps: u64, screen: &mut S) -> Status
+/// Runs the text of the file of this name where it is structured.
+fn run_text<S: Sink>(alloc: Global, name: &Name, text: &Text, steps: u64, screen: &mut S) -> Status
     ensures { TextRan name.now text.now steps (S.written screen.old) (S.faults screen.old) (S.written screen.new) (S.faults screen.new) result }
 {
-    match read_straight(alloc, name, text) {
+    match read_structured(alloc, name, text) {
         Err(_) => Status::Memory,
         Ok(None) => Status::SourceFault(fault_of_form()),
         Ok(Some(m)) => run_module(alloc, &m, steps, screen),
@@ -87,7 +87,7 @@ fn run_source<V: Volume, K: Keyboard, S: Sink>(
         Err(VolumeError::Failed) => Status::VolumeFault,
         Err(VolumeError::Memory) => Status::Memory,
         Ok(None) => Status::NoFile(file),
-        Ok(Some(text)) => run_text(alloc, name, text.as_slice(), steps, screen),
+        Ok(Some(text)) => run_text(alloc, name, &text, steps, screen),
     }
 }
 
@@ -167,7 +167,7 @@ pub fn once<V: Volume, K: Keyboard, S: Sink, R: Sink, C: Channel>(
           new_faults = R.faults report.new;
         }) result }
 
-    // What a straight text shows, and how it ends, is what its meaning says.
+    // What a structured text shows, and how it ends, is what its meaning says.
     ensures headline { let at = devices V.files V.faults K.left K.faults S.written S.faults in
         (w : World) (p : Resolved) → Finds (V.files volume.old) (K.left keys.old) w → Runs (name_of_word word.now) w p → Headline p w (at volume.old keys.old screen.old) (at volume.new keys.new screen.new) result }
 
@@ -177,7 +177,7 @@ pub fn once<V: Volume, K: Keyboard, S: Sink, R: Sink, C: Channel>(
     // The machine ran a translation of the text within the budget, and the steps are spent exactly where that has no end.
     ensures machine { (w : World) (p : Resolved) → Finds (V.files volume.old) (K.left keys.old) w → Runs (name_of_word word.now) w p → MachineAnswers p w o.steps (S.written screen.old) (S.written screen.new) result }
 
-    // The screen is called only where a straight text was found, and the volume only where the words name a module.
+    // The screen is called only where a structured text was found, and the volume only where the words name a module.
     ensures called { ((S.written screen.new ≡ S.written screen.old) × (S.faults screen.new ≡ S.faults screen.old)) ⊎ IsRunnable (name_of_word word.now) (V.files volume.old) }
     ensures asked { (V.faults volume.new ≡ V.faults volume.old) ⊎ ((x : List ℕ) × (name_of_word word.now ≡ Some x)) }
 

@@ -3,7 +3,7 @@ ghost use Rattle.std.specs.FinMap.{get};
 ghost use Rattle.lil_base.specs.declared.fault.SourceFault.{SourceFault as Fault};
 ghost use Rattle.lil_base.specs.declared.fault.TrapAt.{TrapAt};
 ghost use Rattle.lil_tree.specs.Resolved.{Resolved};
-ghost use Rattle.lil_tree.specs.Straight.{IsStraight};
+ghost use Rattle.lil_tree.specs.Structured.{IsStructured};
 ghost use Rattle.lil_meaning.specs.World.{World};
 ghost use Rattle.lil_meaning.specs.Items.{Ended, Trapped};
 ghost use Rattle.lil_volume.specs.Causes.{Rose};
@@ -65,7 +65,7 @@ pub fn lilith<V: Volume, K: Keyboard, S: Sink, R: Sink, C: Channel>(
     report: &mut R,
     rack: &mut Rack<C>,
 ) -> Status
-    // What a straight text shows, and how it ends, is what its meaning says.
+    // What a structured text shows, and how it ends, is what its meaning says.
     ensures headline { let at = devices V.files V.faults K.left K.faults S.written S.faults in
         (w : World) (p : Resolved) → Finds (V.files volume.old) (K.left keys.old) w → Runs (source_name words.now) w p → Headline p w (at volume.old keys.old screen.old) (at volume.new keys.new screen.new) result }
 
@@ -83,10 +83,10 @@ pub fn lilith<V: Volume, K: Keyboard, S: Sink, R: Sink, C: Channel>(
     ensures no_file_only { (m : Files) (file : List ℕ) → V.files volume.old ≡ Some m → result ≡ Status.NoFile file → (x : List ℕ) × (source_name words.now ≡ Some x) × (file ≡ mod_file x) × (get m file ≡ None) }
     ensures no_file_where { (m : Files) (x : List ℕ) → V.files volume.old ≡ Some m → source_name words.now ≡ Some x → get m (mod_file x) ≡ None → settled result ≡ true → result ≡ Status.NoFile (mod_file x) }
 
-    // Fault 90 comes exactly where the source's text isn't straight, and no other fault comes.
+    // Fault 90 comes exactly where the source's text isn't structured, and no other fault comes.
     ensures fault_only { (m : Files) (f : Fault) → V.files volume.old ≡ Some m → result ≡ Status.SourceFault f →
-        (f ≡ not_built) × ((x : List ℕ) × (source_name words.now ≡ Some x) × ((text : List ℕ) × (get m (mod_file x) ≡ Some text) × ((p : Resolved) → IsStraight x text p → ⊥))) }
-    ensures fault_where { (m : Files) (x text : List ℕ) → V.files volume.old ≡ Some m → source_name words.now ≡ Some x → get m (mod_file x) ≡ Some text → ((p : Resolved) → IsStraight x text p → ⊥) →
+        (f ≡ not_built) × ((x : List ℕ) × (source_name words.now ≡ Some x) × ((text : List ℕ) × (get m (mod_file x) ≡ Some text) × ((p : Resolved) → IsStructured x text p → ⊥))) }
+    ensures fault_where { (m : Files) (x text : List ℕ) → V.files volume.old ≡ Some m → source_name words.now ≡ Some x → get m (mod_file x) ≡ Some text → ((p : Resolved) → IsStructured x text p → ⊥) →
         settled result ≡ true → result ≡ Status.SourceFault not_built }
 
     // Unless the steps are spent, Done comes exactly where the meaning ends, and a trap exactly where it traps so.
@@ -102,7 +102,7 @@ pub fn lilith<V: Volume, K: Keyboard, S: Sink, R: Sink, C: Channel>(
     // Nothing is shown where nothing was run.
     ensures nothing { ((result ≡ Status.Usage) ⊎ (((file : List ℕ) × (result ≡ Status.NoFile file)) ⊎ (((f : Fault) × (result ≡ Status.SourceFault f)) ⊎ (result ≡ Status.VolumeFault)))) → S.written screen.new ≡ S.written screen.old }
 
-    // The screen is called only where a straight text was found, and the volume only where the words name a module.
+    // The screen is called only where a structured text was found, and the volume only where the words name a module.
     ensures called { ((S.written screen.new ≡ S.written screen.old) × (S.faults screen.new ≡ S.faults screen.old)) ⊎ IsRunnable (source_name words.now) (V.files volume.old) }
     ensures asked { (V.faults volume.new ≡ V.faults volume.old) ⊎ ((x : List ℕ) × (source_name words.now ≡ Some x)) }
 

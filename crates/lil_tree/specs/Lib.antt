@@ -4,9 +4,7 @@ pub mod Resolved
 pub mod Views
 pub mod Cuts
 pub mod Lexical
-pub mod Grammar
-pub mod Resolving
-pub mod Straight
+pub mod Names
 pub mod Sizes
 pub mod Nesting
 pub mod Trees

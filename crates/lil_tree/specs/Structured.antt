@@ -26,7 +26,7 @@ use Rattle.lil_tree.specs.Scalars.{Number, Truth, Character, within, truth_numbe
 use Rattle.lil_tree.specs.Resolved.{Chr, Expression, Constant, Taken, Both, Either, Apply, Label, Statement, Assign, If, Case, While, Repeat, Loop, Exit, For, Statements, Empty, Then, Arms, NoElse, Else, Arm, Resolved, kind_of}
 use Rattle.lil_tree.specs.Sizes.{depth, takes_one, takes_two}
 use Rattle.lil_tree.specs.Views.{cardinal, cardinal_variable, write_of, one_of, two_of}
-use Rattle.lil_tree.specs.Resolving.{listed, resident_names, all_differ}
+use Rattle.lil_tree.specs.Names.{listed, resident_names, all_differ}
 use Rattle.lil_tree.specs.Nesting.{within as limited}
 use Rattle.lil_tree.specs.Lexical.{HasTokens}
 use Rattle.lil_tree.specs.Program.{Imported, Declared, Program, IsProgram}

@@ -4,8 +4,6 @@
 mod operator;
 mod resolved;
 mod stop;
-mod straight_syntax;
-mod straight_token;
 #[cfg(test)]
 mod tests;
 mod token;
@@ -15,8 +13,6 @@ mod unit;
 pub use operator::{OneOp, TwoOp};
 pub use resolved::{RArm, RExpr, RGuard, RLabel, RModule, RStmt};
 pub use stop::ReadStop;
-pub use straight_syntax::{More, Operand, StraightStmt, StraightUnit, Sum, SumOp};
-pub use straight_token::{StraightKind, StraightMark};
 pub use token::{Mark, Token, TokenKind, Tokens, Word};
 pub use tree::{
     Arm, Designator, Expr, ForHead, Guard, Ident, Qualident, Range, Selector, Stmt, begun_at,

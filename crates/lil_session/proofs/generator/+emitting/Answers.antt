@@ -1,4 +1,4 @@
-use Rattle.std.proofs.Common.{rules, arith, w16, w32, to_z, of_z, OnOk, refl, suc, ℤ, pos, negsuc, ◌≤ℤ◌, ◌≡◌, ◌+◌, ◌*◌, ◌<◌, ◌≤◌, ℕ, List, [], length, drop, sym, ap, ◌∙◌, subst, None, Option}
+use Rattle.std.proofs.Common.{rules, arith, w16, to_z, of_z, OnOk, refl, suc, ℤ, pos, negsuc, ◌≤ℤ◌, ◌≡◌, ◌+◌, ◌<◌, ◌≤◌, ℕ, List, [], length, drop, sym, ap, ◌∙◌, subst, None, Option}
 use mir.Val.{SFits}
 use Rattle.std.proofs.lemmas.Int.{to_z-of_z}
 use Rattle.std.proofs.lemmas.List.{drop_all}
@@ -8,17 +8,17 @@ use Rattle.lil_tree.specs.declared.resolved.RGuard.{RGuard}
 use Rattle.lil_tree.specs.declared.resolved.RArm.{RArm}
 use Rattle.lil_tree.specs.Resolved.{Assign, While, Repeat, Loop, Exit, For, Statements, Empty, Then}
 use Rattle.lil_tree.specs.Sizes as spec
-use Rattle.lil_tree.specs.Views.{cardinal_variable, write_of, expression_of, statement_of, statements_of, guard_of, guards_of, arms_of, else_of}
+use Rattle.lil_tree.specs.Views.{cardinal_variable, write_of, expression_of, statement_of, statements_of, guards_of, arms_of, else_of}
 use Rattle.lil_tree.proofs.Views.{assign_is, write_is, if_is, while_is, repeat_is, loop_is, exit_is, for_is}
-use Rattle.lil_mcode.specs.declared.instr.Instr.TheVariants.{Jmp, Cas}
+use Rattle.lil_mcode.specs.declared.instr.Instr.TheVariants.{Jmp}
 use Rattle.lil_mcode.specs.Bytes.{bytes_of}
 use Rattle.lil_session.specs.Generating.{EmitsStatement, EmitsBody, EmitsGuards, IsPlaced, EmitsArm, EmitsArms, EmitsBodies, EmitsTable, before_else, entry_count}
 use Rattle.lil_session.proofs.Appending.{with_ok}
-use Rattle.lil_session.proofs.Extents.{body_size_next, body_size_left, guard_next, guards_size_left, guard_size_is, if_size, guards_size_apart, arms_before_next, arms_before_left, case_size}
+use Rattle.lil_session.proofs.Extents.{body_size_next, body_size_left, guard_next, guards_size_left, if_size, guards_size_apart, arms_before_next, arms_before_left, case_size}
 use Rattle.lil_session.proofs.Generating.{word_told}
 use Rattle.lil_session.proofs.CaseEmitting.{longer, arm_emitted, no_else_emitted, next_arm_emitted, no_arms_left, case_emitted, case_short}
-use Rattle.lil_session.proofs.Stating.{none_emitted, next_emitted, while_emitted, repeat_emitted, loop_emitted, for_emitted, guard_emitted, no_guard_emitted, next_guard_emitted, if_emitted, form_emitted}
-use Rattle.lil_session.proofs.Weights.{weight, weights, guard_weight, guards_weight, statement_in, guard_in, if_weight, arms_weight, else_weight, arm_in, arm_weighs, case_weight}
+use Rattle.lil_session.proofs.Stating.{next_emitted, while_emitted, repeat_emitted, loop_emitted, for_emitted, guard_emitted, no_guard_emitted, next_guard_emitted, if_emitted, form_emitted}
+use Rattle.lil_session.proofs.Weights.{weight, weights, guards_weight, statement_in, guard_in, if_weight, arms_weight, else_weight, arm_in, arm_weighs, case_weight}
 use Rattle.lil_session.proofs.generator.+emitting.Goals as goal
 
 pub emit_body-emit_statement-requires : goal.emit_body-emit_statement-requires

@@ -1,4 +1,3 @@
-use Rattle.std.proofs.Common.{rules}
 use Rattle.lil_session.proofs.Appending.{with_ok}
 use Rattle.lil_session.proofs.Stating.{exit_emitted}
 use Rattle.lil_session.proofs.generator.emit_exit.Goals as goal

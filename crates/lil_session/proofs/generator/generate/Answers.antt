@@ -1,4 +1,4 @@
-use Rattle.std.proofs.Common.{arith, ◌≡◌, ◌+◌, ◌*◌, None, List, ℕ, ap, subst}
+use Rattle.std.proofs.Common.{arith, ◌≡◌, ◌+◌, ◌*◌, None, List, ap, subst}
 use Rattle.lil_tree.specs.declared.resolved.RStmt.{RStmt}
 use Rattle.lil_tree.specs.Sizes as spec
 use Rattle.lil_tree.specs.Views.{statements_of}

@@ -1,5 +1,5 @@
 use Rattle.std.proofs.Common.{refl, sym, ap, subst}
-use Rattle.lil_mcode.specs.declared.machine.Event.TheVariants.{Went, Request, LevelEnded, Trap, Limit, BadCode}
+use Rattle.lil_mcode.specs.declared.machine.Event.TheVariants.{Went, LevelEnded, Trap, Limit, BadCode}
 use Rattle.lil_mcode.specs.State.{State}
 use Rattle.lil_mcode.specs.Calls.{Machine}
 use Rattle.lil_session.specs.Running.{Running, Finished, TrappedBy, Limited, Broken, IsAlone}

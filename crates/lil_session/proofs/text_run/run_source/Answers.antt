@@ -20,6 +20,6 @@ returns-in-Err-Memory g c =
 pub returns : goal.returns
 returns g c =
     let before = devices g.V.Volume.files g.V.Volume.faults g.K.Keyboard.left g.K.Keyboard.faults g.S.Sink.written g.S.Sink.faults c.args.volume.now c.args.keys.now c.args.screen.now in
-    source_ran c.args.name.now c.as_slice.result.now c.args.steps before (g.V.Volume.files c.read.new.self) (g.V.Volume.faults c.read.new.self) (g.S.Sink.written c.run_text.new.screen) (g.S.Sink.faults c.run_text.new.screen) c.run_text.result
-    (file_read (g.V.Volume.files c.args.volume.now) c.in-Ok.file (mod_file c.args.name.now) c.in-Ok-Some.field-0 c.in-Ok-Some.text c.as_slice.result.now c.in-Ok.ensures c.in-Ok-Some.field-0-is c.as_slice.ensures c.in-Ok-Some.ensures.found)
+    source_ran c.args.name.now c.in-Ok-Some.text c.args.steps before (g.V.Volume.files c.read.new.self) (g.V.Volume.faults c.read.new.self) (g.S.Sink.written c.run_text.new.screen) (g.S.Sink.faults c.run_text.new.screen) c.run_text.result
+    (file_read (g.V.Volume.files c.args.volume.now) c.in-Ok.file (mod_file c.args.name.now) c.in-Ok-Some.field-0 c.in-Ok-Some.text c.in-Ok-Some.text c.in-Ok.ensures c.in-Ok-Some.field-0-is refl c.in-Ok-Some.ensures.found)
     c.read.ensures.same (quiet_of c.in-Ok-Some.is c.read.ensures.cause) c.run_text.ensures

@@ -1,4 +1,4 @@
-use Rattle.std.proofs.Common.{◌≡◌, ◌+◌, ℕ, List, None, length, map, drop, ap, sym, ◌∙◌, subst, arith}
+use Rattle.std.proofs.Common.{◌≡◌, ◌+◌, ℕ, List, None, length, map, drop, ap, ◌∙◌, subst, arith}
 use Rattle.lil_tree.specs.declared.resolved.RStmt.{RStmt}
 use Rattle.lil_tree.specs.declared.resolved.RLabel.{RLabel}
 use Rattle.lil_tree.specs.Views.{label_of, statements_of, arms_of}

@@ -1,4 +1,4 @@
-use Rattle.std.proofs.Common.{rules, arith, w16, w32, to_z, of_z, Bool, true, false, refl, ◌≤ℤ◌, ◌≡◌, ◌++◌, ◌+◌, ◌≤◌, ℕ, pos, negsuc, ℤ, length, sym, ap, ◌∙◌, subst, OnOk}
+use Rattle.std.proofs.Common.{rules, arith, w16, Bool, true, false, refl, ◌≤ℤ◌, ◌≡◌, ◌++◌, ◌+◌, ◌≤◌, ℕ, pos, negsuc, length, sym, ap, ◌∙◌, subst, OnOk}
 use mir.Val.{SFits, bool_byte}
 use Rattle.std.proofs.lemmas.Int.{to_z-of_z}
 use Rattle.lil_base.specs.Words.{Cardinal, Integer, word_of}

@@ -1,4 +1,4 @@
-use Rattle.std.proofs.Common.{rules, arith, ◌≡◌, ◌+◌, ◌*◌, ◌<◌, [], ◌∙◌, ap, None, length}
+use Rattle.std.proofs.Common.{arith, ◌<◌, [], ◌∙◌, ap, None, length}
 use Rattle.lil_tree.specs.declared.resolved.RStmt.{RStmt}
 use Rattle.lil_tree.specs.Sizes as spec
 use Rattle.lil_tree.specs.Views as view

@@ -1,11 +1,10 @@
-use Rattle.std.proofs.Common.{rules, arith, ◌≡◌, ◌+◌, ◌*◌, ◌<◌, [], ◌∙◌, ap, None, length}
+use Rattle.std.proofs.Common.{arith, ◌<◌, [], ◌∙◌, ap, None, length}
 use Rattle.lil_tree.specs.declared.resolved.RStmt.{RStmt}
 use Rattle.lil_tree.specs.Sizes as spec
 use Rattle.lil_tree.specs.Views as view
 use Rattle.lil_session.specs.Generating as emitted
-use Rattle.lil_tree.proofs.Views.{while_is, repeat_is, loop_is, for_is}
 use Rattle.lil_session.proofs.Extents.{body_size_next, guards_size_next, arms_before_next, if_size, case_size}
-use Rattle.lil_session.proofs.Weights.{weight, weights, guards_weight, arms_weight, else_weight, statement_in, guard_in, arm_in, if_weight, case_weight, while_weight, repeat_weight, loop_weight, for_weight, guard_weighs, arm_weighs}
+use Rattle.lil_session.proofs.Weights.{weight, weights, guards_weight, arms_weight, else_weight, statement_in, guard_in, arm_in, if_weight, case_weight, guard_weighs, arm_weighs}
 use Rattle.lil_session.proofs.generator.sizes.+sizing.Goals as goal
 
 pub body_size-statement_size-size-requires : goal.body_size-statement_size-size-requires

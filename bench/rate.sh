@@ -1,0 +1,73 @@
+#!/bin/sh
+# How many instructions a second the built program does, beside an interpreter in C of the same code, in one run.
+# A program of two nested FORs with one addition in the inner one is run through `lilith once`, and a program without statements.
+# Their wall times are taken in turn, so many times each; the difference of the least ones is what the loop took, without the start
+# of the program. The program in C (rate.c) has that loop's bytes and measures itself, best of as many runs and more.
+# It prints numbers and judges none.
+set -u
+turns=9
+
+top=$(CDPATH= cd "$(dirname "$0")/.." && pwd -P) || exit 1
+program=$top/crates/lil_cli/out/lil_cli
+if [ ! -x "$program" ]; then
+    echo "rate: there is no built program; run 'cd examples && ../lilith once Hello.MOD' first" >&2
+    exit 1
+fi
+folder=$(mktemp -d) || exit 1
+trap 'rm -rf "$folder"' EXIT
+gcc -O2 -o "$folder/rate" "$top/bench/rate.c" || exit 1
+cd "$folder" || exit 1
+
+cat >Rate.MOD <<'TEXT'
+MODULE Rate;
+VAR outer, inner, sum: CARDINAL;
+BEGIN
+  FOR outer := 1 TO 70 DO
+    sum := 0;
+    FOR inner := 1 TO 20000 DO sum := sum + 3 END
+  END
+END Rate.
+TEXT
+echo "MODULE Empty; END Empty." >Empty.MOD
+
+# The instructions, by the rows of the translation. A FOR is its two bounds, its step and FRI, here one instruction each; a turn of it
+# is LLW and SGW, which store its value, then the statements, then FRN. `sum := 0` is LIW and SGW, `sum := sum + 3` is LGW, LIW, ADC
+# and SGW. Around all stand ENT and RTN. The empty program has these two alone, so they aren't counted.
+inner=$((4 + 20000 * (2 + 4 + 1)))
+instructions=$((4 + 70 * (2 + 2 + inner + 1)))
+
+# The least time of a program so far, in nanoseconds: its name, and the least one before it or 0
+timed() {
+    before=$(date +%s%N)
+    "$program" once "$1.MOD" </dev/null >screen 2>report
+    status=$?
+    after=$(date +%s%N)
+    if [ "$status" -ne 0 ]; then
+        echo "rate: $1 ended with status $status: $(cat report)" >&2
+        exit 1
+    fi
+    took=$((after - before))
+    if [ "$2" -ne 0 ] && [ "$2" -le "$took" ]; then took=$2; fi
+}
+
+rate=0
+empty=0
+turn=0
+while [ "$turn" -lt "$turns" ]; do
+    timed Rate "$rate" && rate=$took
+    timed Empty "$empty" && empty=$took
+    turn=$((turn + 1))
+done
+set -- $(./rate) || exit 1
+if [ $# -ne 2 ] || [ "$1" -ne $((instructions + 2)) ]; then
+    echo "rate: the program in C counted ${1:-no} instructions, and not $((instructions + 2))" >&2
+    exit 1
+fi
+
+awk -v n="$instructions" -v rate="$rate" -v empty="$empty" -v c="$2" 'BEGIN {
+    loop = rate - empty
+    printf "instructions %d, start %.3f ms\n", n, empty / 1e6
+    printf "%-7s %10.3f ms %12.0f a second\n", "lilith", loop / 1e6, n / loop * 1e9
+    printf "%-7s %10.3f ms %12.0f a second\n", "C", c / 1e6, n / c * 1e9
+    printf "ratio %.1f\n", loop / c
+}'
