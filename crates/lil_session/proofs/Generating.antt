@@ -109,11 +109,11 @@ one_emitted o k a c0 c1 c2 value e l n plain sound =
     (emits_both c0 c1 c2 (size a) _ _ _ (value l n plain sound.2)
     (emits_instrs (one_code o (kind_of a)) c1 c2 is.say (e ∙ ap (λ (is : List Instr). c1 ++ all_bytes is) (one_same o k (kind_of a)))))
 
-pub two_emitted : (o : TwoOp) (t : Whole) (a b : Expression) (c0 c1 c2 c3 : List ℕ) → t ≡ compared_as (kind_of a) → EmitsExpression c0 c1 a → EmitsExpression c1 c2 b → c3 ≡ c2 ++ all_bytes (two_code o (OfWhole t))
+pub two_emitted : (o : TwoOp) (t : Whole) (a b : Expression) (c0 c1 c2 c3 : List ℕ) → t ≡ compared_as (kind_of b) → EmitsExpression c0 c1 a → EmitsExpression c1 c2 b → c3 ≡ c2 ++ all_bytes (two_code o (OfWhole t))
     → EmitsExpression c0 c3 (Two o (kind_of a) a b)
 two_emitted o t a b c0 c1 c2 c3 typed left right e l n plain sound =
     let is = sound_two o (kind_of a) t sound.0 in
-    let same : two_code o (OfWhole t) ≡ two_code o (kind_of a) = ap (λ (t : Whole). two_code o (OfWhole t)) typed ∙ two_same o (kind_of a) in
+    let same : two_code o (OfWhole t) ≡ two_code o (kind_of a) = ap (λ (t : Whole). two_code o (OfWhole t)) (typed ∙ ap compared_as sound.2) ∙ two_same o (kind_of a) in
     emits_as c0 c3 (size a + (size b + length (all_bytes (two_code o (OfWhole t))))) (size a + size b + two_size o) _ _
     (omega (arith, is.long))
     (λ final r. record {

@@ -57,9 +57,10 @@ pub(crate) fn emit_expression(code: &mut Bytes, e: &RExpr) -> Result<(), Memory>
                     encode(code, Instr::Jor(end as u16))?;
                     emit_expression(code, right)
                 }
+                // the right operand has the left one's type, and on long sums it is the shorter way to that
                 _ => {
                     emit_expression(code, right)?;
-                    emit_two(code, *operator, compared_type(left))
+                    emit_two(code, *operator, compared_type(right))
                 }
             }
         }
