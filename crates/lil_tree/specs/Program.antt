@@ -1,5 +1,5 @@
 -- The grammar of a program module that imports names and declares variables of named types: which tokens derive which unit.
-use Rattle.std.specs.Prelude.{◌≡◌, ℕ, List, [], ◌∷◌, ◌++◌, Option, Some, None}
+use Rattle.std.specs.Prelude.{◌≡◌, ℕ, List, [], ◌∷◌, ◌++◌}
 use Rattle.lil_tree.specs.declared.token.Token.{Token}
 use Rattle.lil_tree.specs.declared.token.TokenKind.TheVariants as k
 use Rattle.lil_tree.specs.declared.token.Word.TheVariants as w

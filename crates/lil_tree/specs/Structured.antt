@@ -1,5 +1,5 @@
 -- Structured texts, and what they mean.
-use Rattle.std.specs.Prelude.{◌≡◌, ℕ, suc, ℤ, pos, negsuc, ◌+ℤ◌, ◌-ℤ◌, ◌*ℤ◌, neg_ℤ, int_lt, ◌≤◌, nat_le, Bool, true, false, not, ◌&&◌, ◌||◌, List, [], ◌∷◌, ◌++◌, codes, length, map, Option, Some, None, if◌then◌else◌, position}
+use Rattle.std.specs.Prelude.{◌≡◌, ℕ, ℤ, pos, negsuc, ◌+ℤ◌, ◌-ℤ◌, ◌*ℤ◌, neg_ℤ, int_lt, ◌≤◌, nat_le, Bool, true, false, not, ◌&&◌, ◌||◌, List, [], ◌∷◌, ◌++◌, codes, length, map, Option, Some, None, if◌then◌else◌, position}
 use Rattle.std.specs.List.{list_any, list_all}
 use Rattle.std.specs.Str.{bytes_eq}
 use Rattle.lil_base.specs.Words.{Whole, Cardinal, Integer, between, in_type, is_zero, whole_quotient, whole_rest}
@@ -22,8 +22,8 @@ use Rattle.lil_tree.specs.declared.tree.Stmt.TheOpen.{Stmt-F, Guard-F, Arm-F}
 use Rattle.lil_tree.specs.declared.tree.Stmt.TheFolds.{fold-Stmt}
 use Rattle.lil_tree.specs.declared.tree.ForHead.{ForHead}
 use Rattle.lil_tree.specs.Kinds.{Kind, OfWhole, OfTruth, OfCharacter}
-use Rattle.lil_tree.specs.Scalars.{Number, Truth, Character, within, truth_number}
-use Rattle.lil_tree.specs.Resolved.{Chr, Expression, Constant, Taken, Both, Either, Apply, Label, Statement, Assign, If, Case, While, Repeat, Loop, Exit, For, Statements, Empty, Then, Arms, NoElse, Else, Arm, Resolved, kind_of}
+use Rattle.lil_tree.specs.Scalars.{Number, Truth, Character, truth_number}
+use Rattle.lil_tree.specs.Resolved.{Chr, Expression, Constant, Taken, Apply, Label, Statement, Assign, If, Case, While, Repeat, Loop, Exit, For, Statements, Empty, Then, Arms, NoElse, Else, Arm, Resolved, kind_of}
 use Rattle.lil_tree.specs.Sizes.{depth, takes_one, takes_two}
 use Rattle.lil_tree.specs.Views.{cardinal, cardinal_variable, write_of, one_of, two_of}
 use Rattle.lil_tree.specs.Names.{listed, resident_names, all_differ}

@@ -11,7 +11,7 @@ mod tree;
 mod unit;
 
 pub use operator::{OneOp, TwoOp};
-pub use resolved::{RArm, RExpr, RGuard, RLabel, RModule, RStmt};
+pub use resolved::{RArm, RExpr, RGuard, RLabel, RModule, RStmt, depth};
 pub use stop::ReadStop;
 pub use token::{Mark, Token, TokenKind, Tokens, Word};
 pub use tree::{

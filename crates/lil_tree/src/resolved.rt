@@ -1,3 +1,7 @@
+ghost use Rattle.std.specs.Prelude.{◌≡◌, min};
+ghost use Rattle.lil_tree.specs.Sizes.{depth as depth_of};
+ghost use Rattle.lil_tree.specs.Views.{expression_of};
+
 use crate::{OneOp, TwoOp};
 use lil_base::{Items, Name};
 
@@ -60,4 +64,21 @@ pub struct RModule {
     pub name: Name,
     pub variables: Items<Name>,
     pub body: Items<RStmt>,
+}
+
+/// How many words of the expression stack an expression takes, or 4,294,967,295 where they are more. It takes no memory.
+#[tactic(auto, using(crate::proofs::Depths::two_depth))]
+pub fn depth(e: &RExpr) -> u32
+    ensures { result ≡ min (depth_of (expression_of e.now)) 4294967295 }
+{
+    match e {
+        RExpr::One(_, value) => depth(value),
+        RExpr::Chr(value) => depth(value),
+        RExpr::Two(_, left, right) => {
+            let left = depth(left);
+            let right = depth(right).saturating_add(1);
+            if left < right { right } else { left }
+        }
+        _ => 1,
+    }
 }

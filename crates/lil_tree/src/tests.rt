@@ -1,4 +1,4 @@
-use crate::{Expr, TwoOp, begun_at, first_place};
+use crate::{Expr, RExpr, TwoOp, begun_at, depth, first_place};
 use lil_base::{Boxed, Place};
 use std::test::Fail;
 
@@ -21,5 +21,18 @@ fn first_places(rt: HostRuntime) -> Result<(), Fail> {
     let inner = begun_at(place(0), sum);
     assert!(rt; first_place(&inner) == place(0));
     assert!(rt; matches!(&inner, Expr::Two(_, _, at, _, _) if *at == place(2)));
+    Ok(())
+}
+
+#[test]
+fn depths(rt: HostRuntime) -> Result<(), Fail> {
+    let alloc = rt.alloc();
+    let left = Box::new(alloc, RExpr::Number(1))?;
+    let right = Box::new(alloc, RExpr::Number(2))?;
+    let sum = RExpr::Two(TwoOp::Plus, left, right);
+    assert!(rt; depth(&sum) == 2);
+    let left = Box::new(alloc, sum)?;
+    let right = Box::new(alloc, RExpr::Variable(0))?;
+    assert!(rt; depth(&RExpr::Two(TwoOp::Minus, left, right)) == 2);
     Ok(())
 }
