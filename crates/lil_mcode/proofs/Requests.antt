@@ -39,15 +39,12 @@ result_asks s q rest (Ok z) = tt
 result_asks s q rest (Err e) = tt
 
 two_rows : (s : State) (stack : List ℕ) (f : ℕ → ℕ → List ℕ → Event × State) → ((x y : ℕ) (rest : List ℕ) → Row (f x y rest)) → Row (on_two s stack f)
-two_rows s [] f h = tt
-two_rows s (y ∷ []) f h = tt
 two_rows s (y ∷ x ∷ rest) f h = h x y rest
+two_rows s _ f h = tt
 
 three_rows : (s : State) (stack : List ℕ) (f : ℕ → ℕ → ℕ → List ℕ → Event × State) → ((x y z : ℕ) (rest : List ℕ) → Row (f x y z rest)) → Row (on_three s stack f)
-three_rows s [] f h = tt
-three_rows s (z ∷ []) f h = tt
-three_rows s (z ∷ y ∷ []) f h = tt
 three_rows s (z ∷ y ∷ x ∷ rest) f h = h x y z rest
+three_rows s _ f h = tt
 
 two_asks : (f : Whole → ℤ → ℤ → Result ℤ ArithFault) (t : Whole) (q : ℕ) (s : State) (stack : List ℕ) → Row (two_row f t q s stack)
 two_asks f t q s stack = two_rows s stack _ (λ x y rest. result_asks s q rest _)
@@ -107,7 +104,6 @@ act_asks (Liw w) q m s = push_asks w q s
 act_asks (Lib w) q m s = push_asks w q s
 act_asks Dup q m s = one_row s s.stack _ (λ x rest. push_asks x q s)
 act_asks Drp q m s = one_row s s.stack _ (λ x rest. tt)
-act_asks Swp q m s = two_rows s s.stack _ (λ x y rest. tt)
 act_asks (Lis w) q m s = push_asks w q s
 act_asks (Llw w) q m s = load_asks (s.frame + w) q s
 act_asks (Lgw w) q m s = load_asks (m.base + w) q s
@@ -128,12 +124,6 @@ act_asks Mdi q m s = two_asks remainder Integer q s s.stack
 act_asks Ngi q m s = one_row s s.stack _ (λ x rest. result_asks s q rest _)
 act_asks Abi q m s = one_row s s.stack _ (λ x rest. result_asks s q rest _)
 act_asks Not q m s = one_row s s.stack _ (λ x rest. tt)
-act_asks Equ q m s = two_rows s s.stack _ (λ x y rest. tt)
-act_asks Neq q m s = two_rows s s.stack _ (λ x y rest. tt)
-act_asks Lsc q m s = two_rows s s.stack _ (λ x y rest. tt)
-act_asks Lec q m s = two_rows s s.stack _ (λ x y rest. tt)
-act_asks Lsi q m s = two_rows s s.stack _ (λ x y rest. tt)
-act_asks Lei q m s = two_rows s s.stack _ (λ x y rest. tt)
 act_asks (Ent w) q m s = choice_row (nat_lt (s.frame + w) s.top) _ _ tt (choice_row (nat_lt s.limit (s.frame + w)) _ _ tt tt)
 act_asks Rtn q m s = choice_row (s.frame == s.base) _ _ (end_asks s s.bodies) (return_asks s (slice_index s.store (s.frame + 1)) (slice_index s.store (s.frame + 2)) (slice_index s.store (s.frame + 3)))
 act_asks (Jmp w) q m s = jump_asks m w s s
@@ -147,6 +137,7 @@ act_asks (Fri o f t) q m s = three_rows s s.stack _ (λ a b k rest. choice_row (
 act_asks (Frn v w) q m s = choice_row (nat_lt (s.frame + v + 1) 65536) _ _ (turn_asks m (s.frame + v) w q s (slice_index s.store (s.frame + v)) (slice_index s.store (s.frame + v + 1)) (slice_index s.store (s.frame + v + 2))) tt
 act_asks (Trp w) q m s = trap_asks s (called_trap w)
 act_asks (Svc w) q m s = request_asks w q s (request_words w) refl
+act_asks _ q m s = two_rows s s.stack _ (λ x y rest. tt)
 
 performed_asks : (s : State) (m : Module) (d : Option (Instr × ℕ)) → Row (performed s m d)
 performed_asks s m None = tt

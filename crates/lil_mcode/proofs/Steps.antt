@@ -1,7 +1,7 @@
 -- A step is the row of the instruction that was fetched.
-use Rattle.std.proofs.Common.{◌≡◌, ℕ, zero, suc, ◌+◌, ◌≤◌, ◌&&◌, nat_lt, nat_le, List, [], ◌∷◌, length, map, Option, None, Some, slice_get, option_map, is_some, refl, sym, ap, ◌∙◌, subst, arith}
+use Rattle.std.proofs.Common.{◌≡◌, ℕ, zero, suc, ◌+◌, ◌≤◌, ◌&&◌, nat_lt, nat_le, List, [], ◌∷◌, ◌++◌, ◌<◌, length, map, Option, None, Some, slice_get, take, drop, option_map, is_some, refl, sym, ap, ◌∙◌, subst, arith}
 use Rattle.std.proofs.lemmas.Bool.Decides.{nat_tests}
-use Rattle.std.proofs.lemmas.List.{length-map}
+use Rattle.std.proofs.lemmas.List.{length-map, length-append}
 use Rattle.std.proofs.lemmas.Option.{slice_get-map}
 use Rattle.lil_mcode.specs.declared.instr.Instr.{Instr}
 use Rattle.lil_mcode.specs.declared.instr.Instr.TheVariants.{Liw, Lib, Dup, Drp, Swp, Lis, Llw, Lgw, Sgw, Rgc, Rgi, Cap, Adc, Sbc, Mlc, Dvc, Mdc, Adi, Sbi, Mli, Dvi, Mdi, Ngi, Abi, Not, Equ, Neq, Lsc, Lec, Lsi, Lei, Ent, Rtn, Jmp, Jpf, Jan, Jor, Jms, Jfs, Cas, Fri, Frn, Trp, Svc}
@@ -9,65 +9,24 @@ use Rattle.lil_mcode.specs.declared.processor.LoadedModule.{LoadedModule}
 use Rattle.lil_mcode.specs.Bytes.{decoded}
 use Rattle.lil_mcode.specs.State.{Module, State, module_at}
 use Rattle.lil_mcode.specs.Table.{act, performed, fetched}
-use Rattle.lil_mcode.specs.Loaded.{part_of, module_of, loaded_at, Lies}
-use Rattle.lil_mcode.specs.Fetch.{with_base, found_in, found, code_in, running_code, based, done}
+use Rattle.lil_mcode.specs.Loaded.{part_of, module_of, loaded_at, Lies, IsPartOf, Runs}
+use Rattle.lil_mcode.specs.Fetch.{code_in, base_in, running_code, based, current}
 
 based_acts : (i : Instr) (q : ℕ) (m : Module) (s : State) → act i q m s ≡ act i q (based m.base m.code) s
 based_acts (Liw w) q m s = refl
-based_acts (Lib w) q m s = refl
-based_acts Dup q m s = refl
-based_acts Drp q m s = refl
-based_acts Swp q m s = refl
-based_acts (Lis w) q m s = refl
-based_acts (Llw w) q m s = refl
-based_acts (Lgw w) q m s = refl
-based_acts (Sgw w) q m s = refl
-based_acts (Rgc v w) q m s = refl
-based_acts (Rgi v w) q m s = refl
-based_acts Cap q m s = refl
-based_acts Adc q m s = refl
-based_acts Sbc q m s = refl
-based_acts Mlc q m s = refl
-based_acts Dvc q m s = refl
-based_acts Mdc q m s = refl
-based_acts Adi q m s = refl
-based_acts Sbi q m s = refl
-based_acts Mli q m s = refl
-based_acts Dvi q m s = refl
-based_acts Mdi q m s = refl
-based_acts Ngi q m s = refl
-based_acts Abi q m s = refl
-based_acts Not q m s = refl
-based_acts Equ q m s = refl
-based_acts Neq q m s = refl
-based_acts Lsc q m s = refl
-based_acts Lec q m s = refl
-based_acts Lsi q m s = refl
-based_acts Lei q m s = refl
-based_acts (Ent w) q m s = refl
-based_acts Rtn q m s = refl
-based_acts (Jmp w) q m s = refl
-based_acts (Jpf w) q m s = refl
-based_acts (Jan w) q m s = refl
-based_acts (Jor w) q m s = refl
-based_acts (Jms w) q m s = refl
-based_acts (Jfs w) q m s = refl
-based_acts (Cas v w) q m s = refl
-based_acts (Fri o f t) q m s = refl
-based_acts (Frn v w) q m s = refl
-based_acts (Trp w) q m s = refl
-based_acts (Svc w) q m s = refl
+based_acts _ q m s = refl
 
-performed_done : (s : State) (m : Module) (d : Option (Instr × ℕ)) → running_code s ≡ m.code → performed s m d ≡ done s (with_base m d)
-performed_done s m None e = refl
-performed_done s m (Some d) e = based_acts d.0 d.1 m s ∙ ap (λ (code : List ℕ). act d.0 d.1 (based m.base code) s) (sym e)
+performed_based : (s : State) (m : Module) (d : Option (Instr × ℕ)) → performed s m d ≡ performed s (based m.base m.code) d
+performed_based s m None = refl
+performed_based s m (Some d) = based_acts d.0 d.1 m s
 
-found_done : (s : State) (m : Option Module) → running_code s ≡ code_in m → fetched s m ≡ done s (found_in s m)
-found_done s None e = refl
-found_done s (Some m) e = performed_done s m (decoded m.code s.place) e
+fetched_in : (s : State) (m : Option Module) → fetched s m ≡ performed s (based (base_in m) (code_in m)) (decoded (code_in m) s.place)
+unfolding decoded
+fetched_in s None = refl
+fetched_in s (Some m) = performed_based s m (decoded m.code s.place)
 
-pub fetched_done : (s : State) → fetched s (module_at s.modules s.running) ≡ done s (found s)
-fetched_done s = found_done s (module_at s.modules s.running) refl
+pub fetched_current : (s : State) → fetched s (module_at s.modules s.running) ≡ performed s (current s) (decoded (running_code s) s.place)
+fetched_current s = fetched_in s (module_at s.modules s.running)
 
 pub module_at_loaded : (code : List ℕ) (loaded : List LoadedModule) (n : ℕ) → module_at (map (module_of code) loaded) n ≡ option_map (module_of code) (loaded_at loaded n)
 module_at_loaded code loaded zero = refl
@@ -81,9 +40,8 @@ pub code_some : (code : List ℕ) (loaded : List LoadedModule) (n : ℕ) (l : Lo
 code_some code loaded n l h = ap code_in (module_at_loaded code loaded n ∙ ap (option_map (module_of code)) h)
 
 some_within : (ms : List Module) (k : ℕ) → is_some (slice_get ms k) ≡ nat_lt k (length ms)
-some_within [] k = grind (arith, nat_tests)
-some_within (m ∷ ms) zero = grind (arith, nat_tests)
 some_within (m ∷ ms) (suc k) = grind (arith, nat_tests, some_within ms k)
+some_within _ _ = grind (arith, nat_tests)
 
 some_at : (ms : List Module) (n : ℕ) → is_some (module_at ms n) ≡ nat_lt 0 n && nat_le n (length ms)
 some_at ms zero = refl
@@ -123,3 +81,42 @@ pub not_loaded : (code : List ℕ) (loaded : List LoadedModule) (n : ℕ) (m : M
 not_loaded code loaded n m h e =
     let n' : None ≡ Some m = sym (ap (option_map (module_of code)) h) ∙ (sym (module_at_loaded code loaded n) ∙ e) in
     cc
+
+-- the part that is kept of the running module lies within the code store, and is its code
+pub part_within : (loaded : List LoadedModule) (end n start size base : ℕ) (o : Option LoadedModule) → Lies 0 loaded end → loaded_at loaded n ≡ o → IsPartOf o start size base → start + size ≤ end
+part_within loaded end n start size base None h e part = omega arith
+part_within loaded end n start size base (Some l) h e part = let f = lies_loaded loaded end n l h e in let w : l.start + l.size ≤ end = f.within in omega arith
+
+part_code : (code : List ℕ) (start size base : ℕ) (o : Option LoadedModule) → IsPartOf o start size base → code_in (option_map (module_of code) o) ≡ take size (drop start code)
+part_code code start size base None (a, b, c) = grind (arith)
+part_code code start size base (Some l) (a, b, c) = grind (arith)
+
+part_base : (code : List ℕ) (start size base : ℕ) (o : Option LoadedModule) → IsPartOf o start size base → base_in (option_map (module_of code) o) ≡ base
+part_base code start size base None (a, b, c) = sym c
+part_base code start size base (Some l) (a, b, c) = sym c
+
+pub kept_code : (code : List ℕ) (loaded : List LoadedModule) (n start size base : ℕ) → Runs loaded n start size base → code_in (module_at (map (module_of code) loaded) n) ≡ take size (drop start code)
+kept_code code loaded n start size base h = ap code_in (module_at_loaded code loaded n) ∙ part_code code start size base (loaded_at loaded n) h.1
+
+pub kept_base : (code : List ℕ) (loaded : List LoadedModule) (n start size base : ℕ) → Runs loaded n start size base → base_in (module_at (map (module_of code) loaded) n) ≡ base
+kept_base code loaded n start size base h = ap base_in (module_at_loaded code loaded n) ∙ part_base code start size base (loaded_at loaded n) h.1
+
+pub kept_within : (loaded : List LoadedModule) (end n start size base : ℕ) → Lies 0 loaded end → Runs loaded n start size base → start + size ≤ end
+kept_within loaded end n start size base h r = part_within loaded end n start size base (loaded_at loaded n) h refl r.1
+
+-- one more module is none of those before it
+get_front : (xs ys : List LoadedModule) (k : ℕ) → k < length xs → slice_get (xs ++ ys) k ≡ slice_get xs k
+get_front [] ys k h = absurd (omega arith)
+get_front (x ∷ xs) ys zero h = refl
+get_front (x ∷ xs) ys (suc k) h = get_front xs ys k (omega arith)
+
+loaded_front : (loaded more : List LoadedModule) (n : ℕ) → n ≤ length loaded → loaded_at (loaded ++ more) n ≡ loaded_at loaded n
+loaded_front loaded more zero h = refl
+loaded_front loaded more (suc k) h = get_front loaded more k (omega arith)
+
+pub runs_more : (loaded more : List LoadedModule) (n start size base : ℕ) → Runs loaded n start size base → Runs (loaded ++ more) n start size base
+runs_more loaded more n start size base h =
+    let known = h.0 in
+    let long = length-append loaded more in
+    let P : Option LoadedModule → Type 0 = λ o. IsPartOf o start size base in
+    (omega arith, subst P (sym (loaded_front loaded more n known)) h.1)

@@ -39,6 +39,13 @@ with_loop code p = do
   t ← word_at code (p + 4)
   Some (Fri o s t, p + 6)
 
+-- two words, one behind the other
+abbrev pub two_words_at : List ℕ → ℕ → Option (ℕ × ℕ)
+two_words_at code p = do
+  v ← word_at code p
+  w ← word_at code (p + 2)
+  Some (v, w)
+
 -- the rows of the first bytes with one higher digit
 unfoldable pub row_0 : ℕ → List ℕ → ℕ → Option (Instr × ℕ)
 row_0 b code p =

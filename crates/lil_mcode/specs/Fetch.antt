@@ -26,6 +26,14 @@ code_in (Some m) = m.code
 abbrev pub running_code : State → List ℕ
 running_code s = code_in (module_at s.modules s.running)
 
+-- where the data of the running module begins
+abbrev pub base_in : Option Module → ℕ
+base_in None = 0
+base_in (Some m) = m.base
+
+abbrev pub running_base : State → ℕ
+running_base s = base_in (module_at s.modules s.running)
+
 -- a row looks at no more of a module than its code and the base of its data
 abbrev pub based : ℕ → List ℕ → Module
 based base code = record { name = []; procedures = []; code = code; base = base; words = 0 }
@@ -33,6 +41,10 @@ based base code = record { name = []; procedures = []; code = code; base = base;
 -- the running module for rows that look at its code alone
 abbrev pub own : State → Module
 own s = based 0 (running_code s)
+
+-- the running module for rows that look at its code and its data
+abbrev pub current : State → Module
+current s = based (running_base s) (running_code s)
 
 abbrev pub done : State → Option (Instr × ℕ × ℕ) → Event × State
 done s None = bad s

@@ -7,3 +7,4 @@ pub mod Loaded
 pub mod Fetch
 pub mod Operators
 pub mod Kept
+pub mod Going

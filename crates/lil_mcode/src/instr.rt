@@ -1,4 +1,4 @@
-ghost use Rattle.std.specs.Prelude.{◌≡◌, ◌<◌, ◌^◌, length};
+ghost use Rattle.std.specs.Prelude.{◌≡◌, ◌+◌, ◌<◌, ◌^◌, length, OnSome};
 ghost use Rattle.lil_mcode.specs.Bytes.{word_at, with_byte, with_word, with_two_words, with_loop, row, row_0, row_2, row_3, row_4, row_5, row_6, row_7, decoded};
 
 /// One instruction, with its operands in the order of their bytes. Lis has its word, from 0 to 15, in its first byte.
@@ -52,13 +52,16 @@ pub enum Instr {
 }
 
 /// The word at a place of the code, its higher byte first.
+#[inline]
 pub(crate) fn word_of_bytes(code: &[u8], place: usize) -> Option<u16>
     requires { place < 2 ^ 33 }
-    ensures { result ≡ word_at code.now place }
+    ensures value { result ≡ word_at code.now place }
+    ensures within { OnSome result (place + 1 < length code.now) }
 {
-    let high = *code.get(place)?;
-    let low = *code.get(place + 1)?;
-    Some(u16::from(high) * 256 + u16::from(low))
+    if place + 1 >= code.len() {
+        return None;
+    }
+    Some(u16::from(code[place]) * 256 + u16::from(code[place + 1]))
 }
 
 #[tactic(auto, unfolding(crate::specs::Bytes::row_0))]

@@ -1,8 +1,10 @@
-ghost use Rattle.std.specs.Prelude.{◌≡◌, ◌+◌, ◌<◌, ◌≤◌, ◌⊎◌, length, drop, slice_get, true, false, Some, None, IfOk, IfSome, IfNone};
+ghost use Rattle.std.specs.Prelude.{◌≡◌, ◌+◌, ◌-◌, ◌^◌, min, ◌<◌, ◌≤◌, ◌⊎◌, length, drop, slice_get, true, false, Some, None, IfOk, IfSome, IfNone};
 ghost use Rattle.std.specs.List.{All};
 ghost use Rattle.std.specs.Option.{option_copied};
 ghost use Rattle.lil_mcode.specs.State.{Module, module_at};
 ghost use Rattle.lil_mcode.specs.Table.{mstep};
+ghost use Rattle.lil_mcode.specs.Going.{Ran};
+ghost use Rattle.lil_mcode.specs.declared.machine.Event.TheVariants as event;
 ghost use Rattle.lil_mcode.specs.Calls.{fresh, counted, with_level, with_module, with_bodies, code_used, names_of, IsRunning};
 
 use crate::processor::Processor;
@@ -144,6 +146,42 @@ impl Machine {
         self.at_module = self.processor.running();
         self.at_place = self.processor.place();
         self.processor.row()
+    }
+
+    /// Steps while they go on, at most so many: what the last one did, and how many were done.
+    #[inline(never)]
+    pub fn run(&mut self, most: u64) -> (Event, u64)
+        requires { 1 ≤ most }
+        ensures ran { Ran self.old.state result.1 result.0 self.new.state self.new.at_module self.new.at_place }
+        ensures within { result.1 ≤ most }
+        ensures whole { result.0 ≡ event.Went → result.1 ≡ most }
+        ensures steps { self.new.steps ≡ min (self.old.steps + result.1) (2 ^ 64 - 1) }
+        ensures rest { (self.new.levels ≡ self.old.levels) × (self.new.begun ≡ self.old.begun) × (self.new.data_end ≡ self.old.data_end) }
+    {
+        let mut module = self.at_module;
+        let mut place = self.at_place;
+        for k in 0..most {
+            module = self.processor.running();
+            place = self.processor.place();
+            match self.processor.row() {
+                Event::Went => (),
+                last => {
+                    self.note(module, place, k + 1);
+                    return (last, k + 1);
+                }
+            }
+        }
+        self.note(module, place, most);
+        (Event::Went, most)
+    }
+
+    /// Keeps where the last step was, and counts so many steps more.
+    fn note(&mut self, number: u8, place: u16, steps: u64)
+        ensures { self.new ≡ record self.old { at_module = number; at_place = place; steps = min (self.old.steps + steps) (2 ^ 64 - 1) } }
+    {
+        self.at_module = number;
+        self.at_place = place;
+        self.steps = self.steps.saturating_add(steps);
     }
 
     /// How many steps were done.

@@ -1,19 +1,21 @@
-ghost use Rattle.std.specs.Prelude.{◌≡◌, ℕ, pos, ◌+◌, ◌<◌, ◌≤◌, ◌^◌, ◌∷◌, ◌++◌, length, vec_len, vec_capacity, false, drop, take, slice_get, option_map, IfOk, IfSome, IfNone, MatchOption, []};
+ghost use Rattle.std.specs.Prelude.{◌≡◌, ℕ, pos, ◌+◌, ◌<◌, ◌≤◌, ◌^◌, ◌∷◌, ◌++◌, length, vec_len, vec_capacity, false, drop, take, slice_get, option_map, IfOk, OnSome, IfSome, IfNone, None, Some, MatchOption, []};
 ghost use Rattle.std.specs.Option.{option_copied};
 ghost use Rattle.lil_base.specs.Words.{Cardinal, Integer, negation, absolute};
 ghost use Rattle.lil_mcode.specs.Calls.{IsRunning, names_of, code_used, fresh};
 ghost use Rattle.lil_mcode.specs.Kept.{with_loaded, with_first, is_better};
-ghost use Rattle.lil_mcode.specs.Fetch.{found, based, running_code};
+ghost use Rattle.lil_mcode.specs.Bytes.{word_at, two_words_at, with_loop, row, row_0, row_2, row_3, row_4, row_5, row_6, row_7};
+ghost use Rattle.lil_mcode.specs.declared.instr.Instr.TheVariants.{Fri};
+ghost use Rattle.lil_mcode.specs.Fetch.{running_code, running_base, current};
 ghost use Rattle.lil_mcode.specs.Operators.{operator_of, comparison_of, settled};
-ghost use Rattle.lil_mcode.specs.Loaded.{loaded_at};
+ghost use Rattle.lil_mcode.specs.Loaded.{loaded_at, IsPartOf};
 ghost use Rattle.lil_mcode.specs.State.{Module, zeros, cleared, spliced, module_at, first_entry, body_entry};
-ghost use Rattle.lil_mcode.specs.Table.{mstep, act, going, push_row, load_row, store_row, range_row, double_row, drop_row, swap_row, sign_row, change_row, capital, denied, on_one, on_two, two_row, compare_row, enter_row, leave_row, end_row, return_row, request_row, request_words};
+ghost use Rattle.lil_mcode.specs.Table.{mstep, performed, going, push_row, load_row, store_row, range_row, double_row, drop_row, swap_row, sign_row, change_row, capital, denied, on_one, on_two, two_row, compare_row, enter_row, leave_row, end_row, return_row, request_row, request_words};
 
 use crate::arithmetic::{
     Comparison, Operator, as_word, capital_of, compares, integer, on_cardinals, on_integers,
     trap_of, truth_word,
 };
-use crate::instr::{Instr, decode};
+use crate::instr::word_of_bytes;
 use crate::machine::Event;
 use arrayvec::ArrayVec;
 use lil_base::{ArithFault, Bytes, LimitKind, Memory, Name, TrapKind, abs_int, neg_int};
@@ -39,6 +41,9 @@ pub struct Processor {
     modules: Vec<LoadedModule>,
     code: Vec<u8>,
     code_end: u32,
+    code_start: u32,
+    code_size: u16,
+    code_base: u16,
     running: u8,
     place: u16,
     stack: ArrayVec<u16, 16>,
@@ -57,7 +62,7 @@ impl Model for Processor {
 
     ghost Value = { State };
 
-    ghost use Rattle.lil_mcode.specs.Loaded.{module_of, Lies};
+    ghost use Rattle.lil_mcode.specs.Loaded.{module_of, Lies, Runs};
 
     ghost view = { λ p. record {
       modules = map (module_of p.code.items) p.modules.items;
@@ -73,16 +78,27 @@ impl Model for Processor {
       marked = p.marked;
     } };
 
-    ghost invariant = { λ p. (length p.code.items ≡ 131072) × (length p.store.items ≡ 65536) × (length p.modules.items ≤ 63) × (63 ≤ vec_capacity p.modules) × (p.code_end ≤ 131072) × Lies 0 p.modules.items p.code_end };
+    ghost invariant = { λ p. (length p.code.items ≡ 131072) × (length p.store.items ≡ 65536) × (length p.modules.items ≤ 63) × (63 ≤ vec_capacity p.modules) × (p.code_end ≤ 131072) × Lies 0 p.modules.items p.code_end × Runs p.modules.items p.running p.code_start p.code_size p.code_base };
 }
 
 fn loaded(modules: &[LoadedModule], number: u8) -> Option<&LoadedModule>
-    ensures { option_copied result ≡ loaded_at modules.now number }
+    ensures value { option_copied result ≡ loaded_at modules.now number }
+    ensures known { OnSome result (number ≤ length modules.now) }
 {
     if number == 0 {
         return None;
     }
     modules.get(usize::from(number) - 1)
+}
+
+/// Where the code of a module lies, and where its data begins; zeros where no such module is loaded.
+fn kept_part(modules: &[LoadedModule], number: u8) -> (u32, u16, u16)
+    ensures { IsPartOf (loaded_at modules.now number) result.0 result.1 result.2 }
+{
+    match loaded(modules, number) {
+        None => (0, 0, 0),
+        Some(module) => (module.start, module.size, module.base),
+    }
 }
 
 fn code_part(code: &[u8], start: u32, size: u16) -> &[u8]
@@ -141,6 +157,9 @@ impl Processor {
             modules,
             code,
             code_end: 0,
+            code_start: 0,
+            code_size: 0,
+            code_base: 0,
             running: 0,
             place: 0,
             stack: ArrayVec::new(),
@@ -262,10 +281,23 @@ impl Processor {
         }
     }
 
+    /// Another module runs.
+    fn run_in(&mut self, number: u8)
+        requires { number ≤ length self.old.modules }
+        ensures { self.new ≡ record self.old { running = number } }
+    {
+        let (start, size, base) = kept_part(self.modules.as_slice(), number);
+        self.running = number;
+        self.code_start = start;
+        self.code_size = size;
+        self.code_base = base;
+    }
+
     fn start_unmarked(&mut self, number: u8, place: u16)
+        requires { number ≤ length self.old.modules }
         ensures { self.new ≡ record self.old { running = number; place = place; stack = []; frame = self.old.base; top = self.old.base; marked = false } }
     {
-        self.running = number;
+        self.run_in(number);
         self.place = place;
         self.stack.clear();
         self.frame = self.base;
@@ -274,92 +306,246 @@ impl Processor {
     }
 
     /// One step of the table.
-    #[tactic(auto, using(crate::proofs::Steps::fetched_done))]
+    #[inline(always)]
+    #[tactic(auto, using(crate::proofs::Steps::fetched_current), unfolding(crate::specs::Bytes::decoded))]
     pub fn row(&mut self) -> Event
         ensures { mstep self.old ≡ (result, self.new) }
     {
         if !self.marked {
             return Event::Limit(LimitKind::Stack);
         }
-        match self.fetch() {
-            None => Event::BadCode,
-            Some((instr, next, base)) => self.perform(instr, next, base),
-        }
-    }
-
-    #[tactic(auto, using(crate::proofs::Steps::module_at_loaded))]
-    fn fetch(&self) -> Option<(Instr, u16, u16)>
-        ensures { result ≡ found self.now }
-    {
-        let module = loaded(self.modules.as_slice(), self.running)?;
-        let code = code_part(self.code.as_slice(), module.start, module.size);
-        let (instr, next) = decode(code, usize::from(self.place))?;
-        Some((instr, next as u16, module.base))
+        let place = usize::from(self.place);
+        let Some(first) = self.byte(place) else {
+            return Event::BadCode;
+        };
+        self.obey(first, place)
     }
 
     /// The code of the running module.
+    #[inline(always)]
     fn running_code(&self) -> &[u8]
         ensures value { result.now ≡ running_code self.now }
         ensures short { length result.now < 65536 }
     {
-        match loaded(self.modules.as_slice(), self.running) {
-            None => &[],
-            Some(module) => code_part(self.code.as_slice(), module.start, module.size),
-        }
+        code_part(self.code.as_slice(), self.code_start, self.code_size)
     }
 
-    fn perform(&mut self, instr: Instr, next: u16, base: u16) -> Event
-        ensures { act instr next (based base (running_code self.old)) self.old ≡ (result, self.new) }
+    /// Where the data of the running module begins.
+    #[inline(always)]
+    fn data_base(&self) -> u16
+        ensures { result ≡ running_base self.now }
     {
-        match instr {
-            Instr::Liw(w) => self.push(w, next),
-            Instr::Lib(b) => self.push(u16::from(b), next),
-            Instr::Dup => self.double(next),
-            Instr::Drp => self.drop_word(next),
-            Instr::Swp => self.swap(next),
-            Instr::Lis(b) => self.push(u16::from(b), next),
-            Instr::Llw(w) => self.load(u32::from(self.frame) + u32::from(w), next),
-            Instr::Lgw(w) => self.load(u32::from(base) + u32::from(w), next),
-            Instr::Sgw(w) => self.store(u32::from(base) + u32::from(w), next),
-            Instr::Rgc(low, high) => self.test_cardinal(low, high, next),
-            Instr::Rgi(low, high) => self.test_integer(low, high, next),
-            Instr::Cap => self.make_capital(next),
-            Instr::Adc => self.cardinals(Operator::Sum, next),
-            Instr::Sbc => self.cardinals(Operator::Difference, next),
-            Instr::Mlc => self.cardinals(Operator::Product, next),
-            Instr::Dvc => self.cardinals(Operator::Quotient, next),
-            Instr::Mdc => self.cardinals(Operator::Remainder, next),
-            Instr::Adi => self.integers(Operator::Sum, next),
-            Instr::Sbi => self.integers(Operator::Difference, next),
-            Instr::Mli => self.integers(Operator::Product, next),
-            Instr::Dvi => self.integers(Operator::Quotient, next),
-            Instr::Mdi => self.integers(Operator::Remainder, next),
-            Instr::Ngi => self.negate(next),
-            Instr::Abi => self.take_sign(next),
-            Instr::Not => self.deny(next),
-            Instr::Equ => self.compare(Comparison::Equal, next),
-            Instr::Neq => self.compare(Comparison::Unequal, next),
-            Instr::Lsc => self.compare(Comparison::LessCardinal, next),
-            Instr::Lec => self.compare(Comparison::AtMostCardinal, next),
-            Instr::Lsi => self.compare(Comparison::LessInteger, next),
-            Instr::Lei => self.compare(Comparison::AtMostInteger, next),
-            Instr::Ent(w) => self.enter(w, next),
-            Instr::Rtn => self.leave(),
-            Instr::Jmp(to) => self.jump(usize::from(to), 0),
-            Instr::Jpf(to) => self.jump_false(usize::from(to), next),
-            Instr::Jan(to) => self.jump_and(usize::from(to), next),
-            Instr::Jor(to) => self.jump_or(usize::from(to), next),
-            Instr::Jms(b) => self.jump(usize::from(next) + usize::from(b), 0),
-            Instr::Jfs(b) => self.jump_false(usize::from(next) + usize::from(b), next),
-            Instr::Cas(count, other) => self.choose(count, other, next),
-            Instr::Fri(offset, kind, to) => {
-                self.begin_loop(u32::from(self.frame) + u32::from(offset), kind, to, next)
+        self.code_base
+    }
+
+    /// A byte of the running module's code.
+    #[inline(always)]
+    fn byte(&self, at: usize) -> Option<u8>
+        ensures value { result ≡ slice_get (running_code self.now) at }
+        ensures within { OnSome result (at < 65535) }
+    {
+        self.running_code().get(at).copied()
+    }
+
+    /// A word of the running module's code.
+    #[inline(always)]
+    fn word(&self, at: usize) -> Option<u16>
+        requires { at < 2 ^ 33 }
+        ensures value { result ≡ word_at (running_code self.now) at }
+        ensures within { OnSome result (at + 1 < 65535) }
+    {
+        word_of_bytes(self.running_code(), at)
+    }
+
+    /// Two words of the running module's code, one behind the other.
+    #[inline(always)]
+    fn two_words(&self, at: usize) -> Option<(u16, u16)>
+        requires { at < 2 ^ 32 }
+        ensures value { result ≡ two_words_at (running_code self.now) at }
+        ensures within { OnSome result (at + 3 < 65535) }
+    {
+        let low = self.word(at)?;
+        let high = self.word(at + 2)?;
+        Some((low, high))
+    }
+
+    /// The operands of a loop's head, whose first byte stands at a place.
+    #[inline(always)]
+    fn loop_operands(&self, place: usize) -> Option<(u16, u8, u16)>
+        requires { place < 65535 }
+        ensures some { IfSome result (λ o. with_loop (running_code self.now) place ≡ Some (Fri o.0 o.1 o.2, place + 6)) }
+        ensures none { IfNone result (with_loop (running_code self.now) place ≡ None) }
+        ensures within { OnSome result (place + 5 < 65535) }
+    {
+        let offset = self.word(place + 1)?;
+        let kind = self.byte(place + 3)?;
+        let to = self.word(place + 4)?;
+        Some((offset, kind, to))
+    }
+
+    /// The row of the instruction at a place, by its first byte.
+    #[inline(always)]
+    #[tactic(auto, unfolding(crate::specs::Bytes::row_0, crate::specs::Bytes::row_2, crate::specs::Bytes::row_3, crate::specs::Bytes::row_4, crate::specs::Bytes::row_5, crate::specs::Bytes::row_6, crate::specs::Bytes::row_7))]
+    fn obey(&mut self, first: u8, place: usize) -> Event
+        requires { place < 65535 }
+        ensures { performed self.old (current self.old) (row first (running_code self.old) place) ≡ (result, self.new) }
+    {
+        match first {
+            0x01 => {
+                let Some(w) = self.word(place + 1) else {
+                    return Event::BadCode;
+                };
+                self.push(w, (place + 3) as u16)
             }
-            Instr::Frn(offset, to) => {
-                self.turn(u32::from(self.frame) + u32::from(offset), to, next)
+            0x02 => {
+                let Some(b) = self.byte(place + 1) else {
+                    return Event::BadCode;
+                };
+                self.push(u16::from(b), (place + 2) as u16)
             }
-            Instr::Trp(number) => self.call_trap(number),
-            Instr::Svc(number) => self.request(number, next),
+            0x03 => self.double((place + 1) as u16),
+            0x04 => self.drop_word((place + 1) as u16),
+            0x05 => self.swap((place + 1) as u16),
+            0x10..=0x1f => self.push(u16::from(first % 16), (place + 1) as u16),
+            0x20 => {
+                let Some(w) = self.word(place + 1) else {
+                    return Event::BadCode;
+                };
+                self.load(u32::from(self.frame) + u32::from(w), (place + 3) as u16)
+            }
+            0x24 => {
+                let Some(w) = self.word(place + 1) else {
+                    return Event::BadCode;
+                };
+                self.load(
+                    u32::from(self.data_base()) + u32::from(w),
+                    (place + 3) as u16,
+                )
+            }
+            0x26 => {
+                let Some(w) = self.word(place + 1) else {
+                    return Event::BadCode;
+                };
+                self.store(
+                    u32::from(self.data_base()) + u32::from(w),
+                    (place + 3) as u16,
+                )
+            }
+            0x39 => {
+                let Some((low, high)) = self.two_words(place + 1) else {
+                    return Event::BadCode;
+                };
+                self.test_cardinal(low, high, (place + 5) as u16)
+            }
+            0x3a => {
+                let Some((low, high)) = self.two_words(place + 1) else {
+                    return Event::BadCode;
+                };
+                self.test_integer(low, high, (place + 5) as u16)
+            }
+            0x3b => self.make_capital((place + 1) as u16),
+            0x40 => self.cardinals(Operator::Sum, (place + 1) as u16),
+            0x41 => self.cardinals(Operator::Difference, (place + 1) as u16),
+            0x42 => self.cardinals(Operator::Product, (place + 1) as u16),
+            0x43 => self.cardinals(Operator::Quotient, (place + 1) as u16),
+            0x44 => self.cardinals(Operator::Remainder, (place + 1) as u16),
+            0x45 => self.integers(Operator::Sum, (place + 1) as u16),
+            0x46 => self.integers(Operator::Difference, (place + 1) as u16),
+            0x47 => self.integers(Operator::Product, (place + 1) as u16),
+            0x48 => self.integers(Operator::Quotient, (place + 1) as u16),
+            0x49 => self.integers(Operator::Remainder, (place + 1) as u16),
+            0x4a => self.negate((place + 1) as u16),
+            0x4b => self.take_sign((place + 1) as u16),
+            0x59 => self.deny((place + 1) as u16),
+            0x5a => self.compare(Comparison::Equal, (place + 1) as u16),
+            0x5b => self.compare(Comparison::Unequal, (place + 1) as u16),
+            0x5c => self.compare(Comparison::LessCardinal, (place + 1) as u16),
+            0x5d => self.compare(Comparison::AtMostCardinal, (place + 1) as u16),
+            0x5e => self.compare(Comparison::LessInteger, (place + 1) as u16),
+            0x5f => self.compare(Comparison::AtMostInteger, (place + 1) as u16),
+            0x68 => {
+                let Some(w) = self.word(place + 1) else {
+                    return Event::BadCode;
+                };
+                self.enter(w, (place + 3) as u16)
+            }
+            0x6a => self.leave(),
+            0x70 => {
+                let Some(w) = self.word(place + 1) else {
+                    return Event::BadCode;
+                };
+                self.jump(usize::from(w), 0)
+            }
+            0x71 => {
+                let Some(w) = self.word(place + 1) else {
+                    return Event::BadCode;
+                };
+                self.jump_false(usize::from(w), (place + 3) as u16)
+            }
+            0x72 => {
+                let Some(w) = self.word(place + 1) else {
+                    return Event::BadCode;
+                };
+                self.jump_and(usize::from(w), (place + 3) as u16)
+            }
+            0x73 => {
+                let Some(w) = self.word(place + 1) else {
+                    return Event::BadCode;
+                };
+                self.jump_or(usize::from(w), (place + 3) as u16)
+            }
+            0x74 => {
+                let Some(b) = self.byte(place + 1) else {
+                    return Event::BadCode;
+                };
+                self.jump(place + 2 + usize::from(b), 0)
+            }
+            0x75 => {
+                let Some(b) = self.byte(place + 1) else {
+                    return Event::BadCode;
+                };
+                self.jump_false(place + 2 + usize::from(b), (place + 2) as u16)
+            }
+            0x76 => {
+                let Some((low, high)) = self.two_words(place + 1) else {
+                    return Event::BadCode;
+                };
+                self.choose(low, high, (place + 5) as u16)
+            }
+            0x77 => {
+                let Some((offset, kind, to)) = self.loop_operands(place) else {
+                    return Event::BadCode;
+                };
+                self.begin_loop(
+                    u32::from(self.frame) + u32::from(offset),
+                    kind,
+                    to,
+                    (place + 6) as u16,
+                )
+            }
+            0x78 => {
+                let Some((low, high)) = self.two_words(place + 1) else {
+                    return Event::BadCode;
+                };
+                self.turn(
+                    u32::from(self.frame) + u32::from(low),
+                    high,
+                    (place + 5) as u16,
+                )
+            }
+            0x79 => {
+                let Some(b) = self.byte(place + 1) else {
+                    return Event::BadCode;
+                };
+                self.call_trap(b)
+            }
+            0x7d => {
+                let Some(b) = self.byte(place + 1) else {
+                    return Event::BadCode;
+                };
+                self.request(b, (place + 2) as u16)
+            }
+            _ => Event::BadCode,
         }
     }
 
@@ -589,18 +775,20 @@ impl Processor {
     }
 
     fn entry(&self, number: u8) -> Option<u16>
-        ensures { result ≡ option_map body_entry (module_at self.now.modules number) }
+        ensures known { OnSome result (number ≤ length self.now.modules) }
+        ensures value { result ≡ option_map body_entry (module_at self.now.modules number) }
     {
         let module = loaded(self.modules.as_slice(), number)?;
         Some(body_place(module.procedures.as_slice()))
     }
 
     fn start_body(&mut self, number: u8, place: u16)
-        requires { self.old.base + 4 ≤ 65535 }
+        requires room { self.old.base + 4 ≤ 65535 }
+        requires known { number ≤ length self.old.modules }
         ensures { self.new ≡ record self.old { running = number; place = place; stack = []; store = spliced self.old.store self.old.base (0 ∷ 0 ∷ 0 ∷ number ∷ []); frame = self.old.base; top = self.old.base + 4 } }
     {
         write_mark(&mut self.store, usize::from(self.base), number);
-        self.running = number;
+        self.run_in(number);
         self.place = place;
         self.stack.clear();
         self.frame = self.base;
@@ -655,7 +843,7 @@ impl Processor {
         self.top = self.frame;
         self.frame = frame;
         self.place = place;
-        self.running = number as u8;
+        self.run_in(number as u8);
         Event::Went
     }
 

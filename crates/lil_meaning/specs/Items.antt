@@ -1,5 +1,5 @@
 -- What is left to do. Where an item has a hole, it stands as · here.
-use Rattle.std.specs.Prelude.{ℕ, ℤ, List, ◌∷◌, Option}
+use Rattle.std.specs.Prelude.{ℕ, ℤ, Bool, List, ◌∷◌, Option}
 use Rattle.lil_base.specs.declared.fault.TrapAt.{TrapAt}
 use Rattle.lil_tree.specs.declared.operator.OneOp.{OneOp}
 use Rattle.lil_tree.specs.declared.operator.TwoOp.{TwoOp}
@@ -29,8 +29,7 @@ pub data Hole : Type 0 where
   -- v op ·
   RightOf : (o : TwoOp) (k : Kind) (v : Scalar) → Hole
   -- · AND f, · OR f
-  BothOf : (f : Expression) → Hole
-  EitherOf : (f : Expression) → Hole
+  ShortOf : (decides : Bool) (f : Expression) → Hole
   -- a standard function of ·
   ApplyTo : (f : Function) → Hole
   -- · is the next argument of the request

@@ -13,10 +13,10 @@ use Rattle.lil_tree.specs.declared.operator.TwoOp.{TwoOp}
 use Rattle.lil_tree.specs.declared.operator.TwoOp.TheVariants.{Equal, Unequal, Less, AtMost, Greater, AtLeast, In, Plus, Minus, Or, Times, Slash, Div, Mod, And}
 use Rattle.lil_tree.specs.Kinds.{Kind, OfWhole, OfTruth, OfCharacter, OfEnumeration, OfRange}
 use Rattle.lil_tree.specs.Scalars.{Scalar, Number, Truth, Character, Nothing, within, scalar_word, scalar_of, ordinal_of, truth_of}
-use Rattle.lil_tree.specs.Resolved.{Designator, Variable, Function, Abs, Cap, Chr, Odd, Ord, Val, Expression, Constant, Taken, One, Two, Both, Either, Apply, Label, Statement, Assign, Request, If, Case, While, Repeat, Loop, Exit, For, Statements, Arms, NoElse, Else, Arm, Resolved, kind_of_place}
+use Rattle.lil_tree.specs.Resolved.{Designator, Variable, Function, Abs, Cap, Chr, Odd, Ord, Val, Expression, Constant, Taken, One, Two, Short, Apply, Label, Statement, Assign, Request, If, Case, While, Repeat, Loop, Exit, For, Statements, Arms, NoElse, Else, Arm, Resolved, kind_of_place}
 use Rattle.lil_meaning.specs.Cells.{Global, Place, stored, got, alone, loaded_at}
 use Rattle.lil_meaning.specs.World.{serve}
-use Rattle.lil_meaning.specs.Items.{Datum, Scalars, Places, Hole, Get, SetTo, StoreAt, OneOf, LeftOf, RightOf, BothOf, EitherOf, ApplyTo, Pass, Choose, Turn, Again, Pick, StartOf, LimitOf, Task, Do, Passing, Until, Looping, Turns, End, Item, Value, Evaluate, PlaceOf, Fill, Perform, doing, Activation, Phase, Going, Closing, Ended, Trapped, Source}
+use Rattle.lil_meaning.specs.Items.{Datum, Scalars, Places, Hole, Get, SetTo, StoreAt, OneOf, LeftOf, RightOf, ShortOf, ApplyTo, Pass, Choose, Turn, Again, Pick, StartOf, LimitOf, Task, Do, Passing, Until, Looping, Turns, End, Item, Value, Evaluate, PlaceOf, Fill, Perform, doing, Activation, Phase, Going, Closing, Ended, Trapped, Source}
 
 -- the activation at hand: that of the nearest end
 abbrev pub current : List Item → ℕ
@@ -174,8 +174,7 @@ evaluated (Constant kind v) k s = with_items s (Value (Scalars v) ∷ k)
 evaluated (Taken d) k s = with_items s (PlaceOf d ∷ Fill Get ∷ k)
 evaluated (One o kind a) k s = with_items s (Evaluate a ∷ Fill (OneOf o kind) ∷ k)
 evaluated (Two o kind a b) k s = with_items s (Evaluate a ∷ Fill (LeftOf o kind b) ∷ k)
-evaluated (Both a b) k s = with_items s (Evaluate a ∷ Fill (BothOf b) ∷ k)
-evaluated (Either a b) k s = with_items s (Evaluate a ∷ Fill (EitherOf b) ∷ k)
+evaluated (Short d a b) k s = with_items s (Evaluate a ∷ Fill (ShortOf d b) ∷ k)
 evaluated (Apply f a) k s = with_items s (Evaluate a ∷ Fill (ApplyTo f) ∷ k)
 
 -- the chosen arm is done, or there is none
@@ -194,14 +193,18 @@ abbrev pub turned_on : List Resolved → Designator → ℤ → ℤ → ℕ → 
 turned_on modules d z step zero body k s = with_items s k
 turned_on modules d z step (suc left) body k s = turned modules d z step left body k s
 
+-- whether the left operand decides
+abbrev pub decided : Bool → Bool → Bool
+decided true b = b
+decided false b = not b
+
 -- a scalar goes into a hole
 abbrev pub filled : List Resolved → Hole → Scalar → List Item → Source → Source
 filled modules (StoreAt p kind) v k s = if within kind v then record s { items = k; cells = stored s.cells p (alone v) } else trapped modules s trap.Range
 filled modules (OneOf o kind) v k s = answered modules (one_applied o kind v) k s
 filled modules (LeftOf o kind f) v k s = with_items s (Evaluate f ∷ Fill (RightOf o kind v) ∷ k)
 filled modules (RightOf o kind u) v k s = answered modules (applied o kind u v) k s
-filled modules (BothOf f) v k s = with_items s (if truth_of v then Evaluate f ∷ k else Value (Scalars v) ∷ k)
-filled modules (EitherOf f) v k s = with_items s (if truth_of v then Value (Scalars v) ∷ k else Evaluate f ∷ k)
+filled modules (ShortOf d f) v k s = with_items s (if decided d (truth_of v) then Value (Scalars v) ∷ k else Evaluate f ∷ k)
 filled modules (ApplyTo f) v k s = answered modules (function_value f v) k s
 filled modules (Pass r kind done left) v k s = if within kind v then with_items s (Perform (Passing r (done ++ v ∷ []) left) ∷ k) else trapped modules s trap.Range
 filled modules (Choose a b) v k s = with_items s (if truth_of v then doing a k else doing b k)
@@ -221,8 +224,7 @@ filled_place (StoreAt q kind) p k s = s
 filled_place (OneOf o kind) p k s = s
 filled_place (LeftOf o kind f) p k s = s
 filled_place (RightOf o kind u) p k s = s
-filled_place (BothOf f) p k s = s
-filled_place (EitherOf f) p k s = s
+filled_place (ShortOf d f) p k s = s
 filled_place (Choose a b) p k s = s
 filled_place (Turn c body) p k s = s
 filled_place (Again body c) p k s = s

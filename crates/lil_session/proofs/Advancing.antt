@@ -55,3 +55,7 @@ moves_at s t e a step = subst (λ (r : Event × State). Moves s r) step (mstep_m
 
 pub alone_taken : (s : State) (n : ℕ) → IsAlone s → IsAlone (taken n s)
 alone_taken s n a = record { body = a.body; last = a.last; marked = a.marked }
+
+-- the same step, whose event is known
+pub as_event : (s t : State) (e f : Event) → mstep s ≡ (e, t) → e ≡ f → mstep s ≡ (f, t)
+as_event s t e f h i = subst (λ (x : Event). mstep s ≡ (x, t)) i h

@@ -44,15 +44,12 @@ module _ (s : State) (a : IsAlone s) where
   result_moves q rest (Err e) = moves_none (Trap _)
 
   on_two_moves : (stack : List ℕ) (f : ℕ → ℕ → List ℕ → Event × State) → ((x y : ℕ) (rest : List ℕ) → Moves s (f x y rest)) → Moves s (on_two s stack f)
-  on_two_moves [] f m = moves_none BadCode
-  on_two_moves (y ∷ []) f m = moves_none BadCode
   on_two_moves (y ∷ x ∷ rest) f m = m x y rest
+  on_two_moves _ f m = moves_none BadCode
 
   on_three_moves : (stack : List ℕ) (f : ℕ → ℕ → ℕ → List ℕ → Event × State) → ((x y z : ℕ) (rest : List ℕ) → Moves s (f x y z rest)) → Moves s (on_three s stack f)
-  on_three_moves [] f m = moves_none BadCode
-  on_three_moves (z ∷ []) f m = moves_none BadCode
-  on_three_moves (z ∷ y ∷ []) f m = moves_none BadCode
   on_three_moves (z ∷ y ∷ x ∷ rest) f m = m x y z rest
+  on_three_moves _ f m = moves_none BadCode
 
   two_moves : (f : _) (t : _) (q : ℕ) (stack : List ℕ) → Moves s (two_row f t q s stack)
   two_moves f t q stack = on_two_moves stack (operator_row f t q s) (λ x y rest. result_moves q rest _)

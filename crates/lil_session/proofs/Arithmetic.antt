@@ -9,7 +9,7 @@ use Rattle.lil_base.specs.declared.fault.ArithFault.{ArithFault}
 use Rattle.lil_base.specs.declared.fault.ArithFault.TheVariants.{DivZero}
 use Rattle.lil_base.proofs.Laws.{number_of-word, kept_ok}
 use Rattle.lil_tree.specs.Kinds.{Kind, OfWhole, OfTruth, OfCharacter, OfEnumeration}
-use Rattle.lil_tree.specs.Scalars.{Scalar, Number, Truth, Character, SetOf, ToObject, ToWorkspace, ToProcedure, ToCoroutine, Nothing, within, scalar_word, ordinal_of}
+use Rattle.lil_tree.specs.Scalars.{Scalar, Number, Truth, Character, within, scalar_word, ordinal_of}
 use Rattle.lil_tree.specs.Sizes.{is_base}
 use Rattle.lil_meaning.specs.Steps.{whole_of, is_same, is_other}
 use Rattle.lil_session.specs.Rows.{compared_as}
@@ -17,14 +17,7 @@ use Rattle.lil_session.specs.Rows.{compared_as}
 -- a value's word is its number's
 pub word_is : (v : Scalar) → scalar_word v ≡ word_of (ordinal_of v)
 word_is (Number z) = refl
-word_is (Truth b) = refl
-word_is (Character c) = refl
-word_is (SetOf s) = refl
-word_is (ToObject o) = refl
-word_is (ToWorkspace w) = refl
-word_is (ToProcedure m p) = refl
-word_is (ToCoroutine c) = refl
-word_is Nothing = refl
+word_is _ = refl
 
 -- the word of a value of a kind that compares says its number
 pub reads_ordinal : (k : Kind) (v : Scalar) → is_base k ≡ true → within k v ≡ true → number_of (compared_as k) (scalar_word v) ≡ ordinal_of v

@@ -81,9 +81,8 @@ no_labels_left labels i to code end = subst (λ (ls : List RLabel). EmitsLabels 
 
 -- ---- tables
 no_arms_in_table : (code : List ℕ) (place : ℕ) (other : Arms) → before_else other ≡ 0 → EmitsTable code code place other
-no_arms_in_table code place NoElse e k v looping base sound = emits_none code
-no_arms_in_table code place (Else body) e k v looping base sound = emits_none code
 no_arms_in_table code place (Arm labels body rest) e k v looping base sound = absurd (omega (arith, e))
+no_arms_in_table code place _ e k v looping base sound = emits_none code
 
 none_before : (other : Option (List RStmt)) → before_else (else_of other) ≡ 0
 none_before None = refl

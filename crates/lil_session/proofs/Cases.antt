@@ -5,25 +5,25 @@ use Rattle.std.proofs.lemmas.Bool.{lt-ltb, le-leb, lt-leb, leb-true}
 use Rattle.lil_base.specs.Words.{Whole, Cardinal, Integer, least, greatest, between, in_type, word_of}
 use Rattle.lil_base.specs.declared.fault.TrapKind.TheVariants as trap
 use Rattle.lil_tree.specs.Kinds.{Kind, OfWhole, OfTruth, OfCharacter, OfEnumeration}
-use Rattle.lil_tree.specs.Scalars.{Scalar, Number, Truth, Character, within, scalar_word, scalar_of, ordinal_of}
-use Rattle.lil_tree.specs.Resolved.{Expression, Label, Case, Statements, Arms, NoElse, Else, Arm, Resolved, kind_of}
+use Rattle.lil_tree.specs.Scalars.{Scalar, Number, Truth, Character, within, scalar_of, ordinal_of}
+use Rattle.lil_tree.specs.Resolved.{Expression, Label, Case, Statements, Arms, NoElse, Else, Arm, kind_of}
 use Rattle.lil_tree.specs.Sizes.{is_base, IsSoundLabel}
-use Rattle.lil_meaning.specs.Items.{Scalars, Pick, Do, Item, Value, Evaluate, Fill, Perform, doing, Going, Source}
+use Rattle.lil_meaning.specs.Items.{Scalars, Pick, Do, Item, Value, Fill, Perform, doing, Going, Source}
 use Rattle.lil_meaning.specs.Steps.{current, owner_of, name_of, trap_at, trapped, among, picked}
 use Rattle.lil_meaning.specs.Steps as meaning
 use Rattle.lil_mcode.specs.declared.instr.Instr.TheVariants.{Jmp, Cas, Trp}
 use Rattle.lil_mcode.specs.declared.machine.Event.TheVariants.{Trap}
 use Rattle.lil_mcode.specs.Control as machine
-use Rattle.lil_mcode.specs.State.{Module, State}
+use Rattle.lil_mcode.specs.State.{State}
 use Rattle.lil_mcode.specs.Table.{going, on_one, case_row, chosen_row}
 use Rattle.lil_session.specs.Rows.{Layout, IsAt, BodyAt, EntriesAt, ArmsAt, compared_as}
 use Rattle.lil_session.specs.Running.{running, advanced, react}
-use Rattle.lil_session.proofs.Homes.{yes, Home}
-use Rattle.lil_session.proofs.Matched.{Quiet, ValueOf, Around, Reach, Rows, HasLoops, Shared, DoRow, PickRow, Goes, Lands}
+use Rattle.lil_session.proofs.Homes.{word_for, plain_word, yes}
+use Rattle.lil_session.proofs.Matched.{Setting, Quiet, ValueOf, Around, Reach, Rows, HasLoops, Shared, Goes, Lands, Waiting}
 use Rattle.lil_session.proofs.Orders.{instr_within, body_within}
 use Rattle.lil_session.proofs.Closing.{closed}
 use Rattle.lil_session.proofs.Arithmetic.{word_is}
-use Rattle.lil_session.proofs.Steps.{advances, at_step, at_once, rows_jump, rows_ahead, shared_there, lands_on, goes_none, goes_one, goes_after, jumps_to}
+use Rattle.lil_session.proofs.Steps.{advances, at_step, rows_jump, rows_ahead, shared_there, lands_on, goes_one, goes_after, jumps_to, operand_goes}
 use Rattle.lil_session.proofs.Expressions.{both_trap}
 use Rattle.lil_session.proofs.Control.{body_rows}
 use Rattle.lil_session.proofs.LoopWords.{bounds, in_range}
@@ -137,113 +137,79 @@ module _ (l : Layout) (code : List ℕ) (n : ℕ) (around : Option ℕ) (k : Kin
       by_label after true r = (p, h.end, h.gap, r, h.here, h.leave)
       by_label after false r = subst (λ (o : Option ℕ). Reached (meaning.chosen rest z) o) (sym r.3) (after r.0 r.1 r.2)
 
-module _ (modules : List Resolved) (l : Layout) (table : List Module) (own : Module) (number : ℕ) (h : Home) where
-  module _ (s : Source) (k : List Item) (m : State) (c : ℕ) (a : Around) (shared : Shared l table own number h s m) (loops : HasLoops l table own number h m.frame m.store a.loops) where
+module _ (ctx : Setting) where
+  open ctx use {modules, layout as l, table, own, number, home as h}
+
+  module _ (s : Source) (k : List Item) (m : State) (c : ℕ) (a : Around) (shared : Shared ctx s m) (loops : HasLoops ctx m.frame m.store a.loops) where
     abbrev Rest : Reach
-    Rest = Rows l table own number h k
+    Rest = Rows ctx k
 
-    pub case_goes : (e : Expression) (arms : Arms) → DoRow l table own number (Case e arms) Rest Quiet m.place m.stack c a → Goes modules l table own number h s (Perform (Do (Case e arms)) ∷ k) m (c + 32)
+    pub case_goes : (e : Expression) (arms : Arms) → Waiting ctx (Perform (Do (Case e arms))) Rest Quiet m.place m.stack c a → Goes ctx s (Perform (Do (Case e arms)) ∷ k) m (c + 32)
     case_goes e arms row =
-        goes_none modules l table own number h s (Perform (Do (Case e arms)) ∷ k) m (c + 32) c
-        (lands_on modules l table own number h s m shared (Evaluate e ∷ Fill (Pick arms) ∷ k) m.place m.stack c a loops
-        (at_once modules l table own number h _ Quiet m.place m.stack c a
-        (record {
-          quiet = refl;
-          end = row.here.middle;
-          here = row.here.value.value;
-          shallow = omega (arith, row.here.value.shallow, ap length row.empty);
-          within = instr_within own.code row.here.middle (Jmp row.here.choices) row.here.exit row.here.dispatch;
-          then = at_once modules l table own number h _ (ValueOf (kind_of e)) row.here.middle m.stack c a
-              (record {
-                kind = kind_of e;
-                mode = refl;
-                base = row.here.base;
-                empty = row.empty;
-                exit = row.here.exit;
-                start = row.here.start;
-                choices = row.here.choices;
-                entries = row.here.entries;
-                count = row.here.count;
-                other = row.here.other;
-                end = row.end;
-                dispatch = row.here.dispatch;
-                leave = row.here.leave;
-                bodies = row.here.bodies;
-                choice = row.here.choice;
-                whole = row.here.whole;
-                within = row.within;
-                then = row.then;
-              });
-        })))
-        (omega arith)
-        (omega arith)
+        operand_goes ctx s k m c a shared loops (Perform (Do (Case e arms)) ∷ k) e (Pick arms) refl (omega arith) row.part.here.middle row.part.here.value.value (omega (arith, row.part.here.value.shallow, ap length row.part.empty))
+        (instr_within own.code row.part.here.middle (Jmp row.part.here.choices) row.part.here.exit row.part.here.dispatch)
+        (record { part = record { of = e; same = refl; from = m.place; did = row.part; at = refl }; then = row.then })
 
-    pub pick_goes : (arms : Arms) (v : Scalar) (kind : Kind) → within kind v ≡ true → (below : List ℕ) → m.stack ≡ scalar_word v ∷ below
-        → PickRow l table own number arms Rest (ValueOf kind) m.place below c a → Goes modules l table own number h s (Value (Scalars v) ∷ Fill (Pick arms) ∷ k) m (c + 32)
+    pub pick_goes : (arms : Arms) (v : Scalar) (kind : Kind) → within kind v ≡ true → (below : List ℕ) → m.stack ≡ word_for h v ∷ below
+        → Waiting ctx (Fill (Pick arms)) Rest (ValueOf kind) m.place below c a → Goes ctx s (Value (Scalars v) ∷ Fill (Pick arms) ∷ k) m (c + 32)
     pick_goes arms v kind fit below is row =
         by_choice (meaning.chosen arms (ordinal_of v)) refl
-        (arms_found l own.code (length a.loops) a.exit row.kind row.base row.exit row.other (ordinal_of v) inside arms row.start row.entries row.count row.bodies)
+        (arms_found l own.code (length a.loops) a.exit (kind_of row.part.of) row.part.did.here.base row.part.did.here.exit row.part.did.here.other (ordinal_of v) inside arms row.part.did.here.start row.part.did.here.entries row.part.did.here.count row.part.did.here.bodies)
       where
         items : List Item
         items = Value (Scalars v) ∷ Fill (Pick arms) ∷ k
 
-        one : ValueOf kind ≡ ValueOf row.kind
-        one = row.mode
-
-        same_kind : kind ≡ row.kind
-        same_kind = cc one
-
-        inside : in_type (compared_as row.kind) (ordinal_of v) ≡ true
-        inside = ordinal_in row.kind v row.base (ap (λ (j : Kind). within j v) (sym same_kind) ∙ fit)
+        inside : in_type (compared_as (kind_of row.part.of)) (ordinal_of v) ≡ true
+        inside = ordinal_in (kind_of row.part.of) v row.part.did.here.base (ap (λ (j : Kind). within j v) (sym row.part.same) ∙ fit)
 
         stack : m.stack ≡ word_of (ordinal_of v) ∷ []
-        stack = is ∙ ap (λ (st : List ℕ). scalar_word v ∷ st) row.empty ∙ ap (λ (w : ℕ). w ∷ []) (word_is v)
+        stack = is ∙ ap (λ (st : List ℕ). word_for h v ∷ st) row.part.did.empty ∙ ap (λ (w : ℕ). w ∷ []) (plain_word h kind v fit ∙ word_is v)
 
         choosing : State
-        choosing = going m row.choices m.stack
+        choosing = going m row.part.did.here.choices m.stack
 
-        dispatched : advanced (running m s.world) ≡ running (going m row.choices m.stack) s.world
-        dispatched = jumps_to modules l table own number h m s.world shared.program row.choices row.exit row.dispatch (instr_within own.code row.choices (Cas row.count row.other) row.entries row.choice)
+        dispatched : advanced (running m s.world) ≡ running (going m row.part.did.here.choices m.stack) s.world
+        dispatched = jumps_to ctx m s.world shared.program row.part.did.here.choices row.part.did.here.exit (subst (λ (p : ℕ). IsAt own.code p (Jmp row.part.did.here.choices) row.part.did.here.exit) (sym row.part.at) row.part.did.here.dispatch) (instr_within own.code row.part.did.here.choices (Cas row.part.did.here.count row.part.did.here.other) row.part.did.here.entries row.part.did.here.choice)
 
-        chooses : (to : ℕ) → machine.chosen own.code row.count row.entries (word_of (ordinal_of v)) row.other ≡ Some to → to < length own.code
-            → advanced (running (going m row.choices m.stack) s.world) ≡ running (going m to []) s.world
+        chooses : (to : ℕ) → machine.chosen own.code row.part.did.here.count row.part.did.here.entries (word_of (ordinal_of v)) row.part.did.here.other ≡ Some to → to < length own.code
+            → advanced (running (going m row.part.did.here.choices m.stack) s.world) ≡ running (going m to []) s.world
         chooses to target inside =
             advances choosing s.world _ (
-            at_step modules l table own number h choosing (shared_there modules l table own number h s m shared items row.choices m.stack).program (Cas row.count row.other) row.entries row.choice
-            ∙ ap (λ (st : List ℕ). on_one choosing st (case_row own row.count row.other row.entries choosing)) stack
-            ∙ yes _ _ _ (le-leb (row.entries + 6 * row.count) (length own.code) (omega (arith, row.whole, row.within)))
+            at_step ctx choosing (shared_there ctx s m shared items row.part.did.here.choices m.stack).program (Cas row.part.did.here.count row.part.did.here.other) row.part.did.here.entries row.part.did.here.choice
+            ∙ ap (λ (st : List ℕ). on_one choosing st (case_row own row.part.did.here.count row.part.did.here.other row.part.did.here.entries choosing)) stack
+            ∙ yes _ _ _ (le-leb (row.part.did.here.entries + 6 * row.part.did.here.count) (length own.code) (omega (arith, row.part.did.here.whole, row.part.did.within)))
             ∙ ap (chosen_row own choosing []) target
             ∙ yes _ _ _ (lt-ltb to (length own.code) inside)
             )
 
         by_choice : (b : Option Statements) → meaning.chosen arms (ordinal_of v) ≡ b
-            → Reached l own.code (length a.loops) a.exit row.kind row.base row.exit row.other (ordinal_of v) inside b (machine.chosen own.code row.count row.entries (word_of (ordinal_of v)) row.other)
-            → Goes modules l table own number h s (Value (Scalars v) ∷ Fill (Pick arms) ∷ k) m (c + 32)
+            → Reached l own.code (length a.loops) a.exit (kind_of row.part.of) row.part.did.here.base row.part.did.here.exit row.part.did.here.other (ordinal_of v) inside b (machine.chosen own.code row.part.did.here.count row.part.did.here.entries (word_of (ordinal_of v)) row.part.did.here.other)
+            → Goes ctx s (Value (Scalars v) ∷ Fill (Pick arms) ∷ k) m (c + 32)
         by_choice (Some body) e (start, end, gap, target, here, leave) =
-            let ends : end < length own.code = instr_within own.code end (Jmp row.exit) gap leave in
+            let ends : end < length own.code = instr_within own.code end (Jmp row.part.did.here.exit) gap leave in
             let out : Source = record s { items = items; phase = Going } in
-            goes_after modules l table own number h s items m choosing (c + 32) (c + 31) dispatched
-            (goes_one modules l table own number h s items choosing (c + 31) (suc (suc c)) (running (going m start []) s.world)
+            goes_after ctx s items m choosing (c + 32) (c + 31) dispatched
+            (goes_one ctx s items choosing (c + 31) (suc (suc c)) (running (going m start []) s.world)
             (chooses start target (body_within l own.code (length a.loops) a.exit body start end here ends))
-            (subst (λ (b : Option Statements). Lands l table own number h modules (picked modules b k out).phase (picked modules b k out) (running (going m start []) s.world) (suc (suc c))) (sym e)
-            (lands_on modules l table own number h s m shared (doing body k) start [] (suc (suc c)) a loops
-            (rows_ahead modules l table own number h (doing body k) start [] (suc (suc c)) a
-            (body_rows modules l table own number h body k start end (suc (suc c)) a here ends
-            (rows_jump modules l table own number h k Quiet end row.exit gap [] (suc c) a leave (instr_within own.code row.exit (Jmp row.end) row.start row.leave)
-            (rows_jump modules l table own number h k Quiet row.exit row.end row.start [] c a row.leave row.within row.then))))))
+            (subst (λ (b : Option Statements). Lands ctx (picked modules b k out).phase (picked modules b k out) (running (going m start []) s.world) (suc (suc c))) (sym e)
+            (lands_on ctx s m shared (doing body k) start [] (suc (suc c)) a loops
+            (rows_ahead ctx (doing body k) start [] (suc (suc c)) a
+            (body_rows ctx body k start end (suc (suc c)) a here ends
+            (rows_jump ctx k Quiet end row.part.did.here.exit gap [] (suc c) a leave (instr_within own.code row.part.did.here.exit (Jmp row.part.did.end) row.part.did.here.start row.part.did.here.leave)
+            (rows_jump ctx k Quiet row.part.did.here.exit row.part.did.end row.part.did.here.start [] c a row.part.did.here.leave row.part.did.within row.then))))))
             (omega arith))
             (omega arith)
         by_choice None e (start, gap, target, trap_there) =
             let n : State = going m start [] in
             let out : Source = record s { items = items; phase = Going } in
-            let there = shared_there modules l table own number h s m shared items start [] in
-            goes_after modules l table own number h s items m choosing (c + 32) (c + 31) dispatched
-            (goes_after modules l table own number h s items choosing n (c + 31) (c + 30)
+            let there = shared_there ctx s m shared items start [] in
+            goes_after ctx s items m choosing (c + 32) (c + 31) dispatched
+            (goes_after ctx s items choosing n (c + 31) (c + 30)
             (chooses start target (instr_within own.code start (Trp 7) gap trap_there))
-            (goes_one modules l table own number h s items n (c + 30) c (react (Trap trap.Case) n (running n s.world))
-            (advances n s.world _ (at_step modules l table own number h n there.program (Trp 7) gap trap_there))
-            (subst (λ (b : Option Statements). Lands l table own number h modules (picked modules b k out).phase (picked modules b k out) (react (Trap trap.Case) n (running n s.world)) c) (sym e)
-            (both_trap modules l table own number h out items n trap.Case there (closed l table own number h k _ _ _ _ _ row.then)))
+            (goes_one ctx s items n (c + 30) c (react (Trap trap.Case) n (running n s.world))
+            (advances n s.world _ (at_step ctx n there.program (Trp 7) gap trap_there))
+            (subst (λ (b : Option Statements). Lands ctx (picked modules b k out).phase (picked modules b k out) (react (Trap trap.Case) n (running n s.world)) c) (sym e)
+            (both_trap ctx out items n trap.Case there (closed ctx k _ _ _ _ _ row.then)))
             (omega arith))
             (omega arith))
             (omega arith)

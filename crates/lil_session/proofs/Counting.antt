@@ -42,10 +42,9 @@ module _ (p : Resolved) (code : List ℕ) (small : IsSmall p) (t : Translates p 
   machine_end machine (ending.Trapped k) s ran (inr is) at =
       let body = at k refl in
       subst (λ (x : Status). MachineAnswers p w steps old new x) (sym (is body.0 body.1)) (ran_all (finish_of (ending.Trapped k)) (a.Trapped (body_trap body.0 k)) ran refl (λ goes ok. cc) (λ is. cc))
-  machine_end machine (ending.Limited k) s ran is at = absurd is
-  machine_end machine ending.Broken s ran is at = absurd is
   machine_end machine ending.Spent s ran is at =
       subst (λ (x : Status). MachineAnswers p w steps old new x) (sym is) (ran_all (finish_of ending.Spent) a.StepsSpent ran (refl, refl) (λ goes ok. refl) (λ is. refl))
+  machine_end machine _ s ran is at = absurd is
 
   -- a run that the screen stopped: its request failed
   pub machine_cut : IsCut start steps old new w → MachineAnswers p w steps old new a.ScreenFault
@@ -66,18 +65,11 @@ module _ (p : Resolved) (w : World) (steps : ℕ) (old new : Option (List ℕ)) 
   ran_settled a.Done is ran = ran
   ran_settled (a.Trapped t) is ran = ran
   ran_settled a.StepsSpent is ran = ran
-  ran_settled a.Usage is ran = absurd ran
-  ran_settled (a.NoFile n) is ran = absurd ran
-  ran_settled (a.SourceFault f) is ran = absurd ran
-  ran_settled (a.LoadRefused r) is ran = absurd ran
-  ran_settled (a.Limit k) is ran = absurd ran
   ran_settled a.VolumeFault is ran = cc
-  ran_settled a.KeyFault is ran = absurd ran
   ran_settled a.ScreenFault is ran = cc
-  ran_settled a.ChannelFault is ran = absurd ran
   ran_settled a.ReportFault is ran = cc
   ran_settled a.Memory is ran = cc
-  ran_settled (a.BadCode c) is ran = absurd ran
+  ran_settled _ is ran = absurd ran
 
   pub ran_memory : (s : Status) → settled s ≡ true → MachineRan p w steps old new s → MachineRan p w steps old new a.Memory
   ran_memory s is ran = record {

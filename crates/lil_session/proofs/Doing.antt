@@ -276,16 +276,7 @@ source_ran file text steps before files faults shown screen_faults s is same qui
     settles_run a.StepsSpent kind = inl refl
     settles_run a.ScreenFault kind = inr (inr (inl refl))
     settles_run a.Memory kind = inr (inr (inr refl))
-    settles_run a.Usage kind = absurd kind
-    settles_run (a.NoFile n) kind = absurd kind
-    settles_run (a.SourceFault f) kind = absurd kind
-    settles_run (a.LoadRefused r) kind = absurd kind
-    settles_run (a.Limit k) kind = absurd kind
-    settles_run a.VolumeFault kind = absurd kind
-    settles_run a.KeyFault kind = absurd kind
-    settles_run a.ChannelFault kind = absurd kind
-    settles_run a.ReportFault kind = absurd kind
-    settles_run (a.BadCode p) kind = absurd kind
+    settles_run _ kind = absurd kind
 
     settles : ((f : SourceFault) × (s ≡ a.SourceFault f)) ⊎ IsRunAnswer s → (settled s ≡ true) ⊎ ((s ≡ a.VolumeFault) ⊎ ((s ≡ a.ScreenFault) ⊎ (s ≡ a.Memory)))
     settles (inl (f, fault)) = inl (ap settled fault)

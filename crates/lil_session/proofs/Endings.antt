@@ -11,7 +11,7 @@ use Rattle.lil_meaning.specs.Items.{Phase, Source}
 use Rattle.lil_volume.specs.Told.{followed_by, FollowedByPrefix}
 use Rattle.lil_volume.proofs.Laws.{all_taken, followed_nothing}
 use Rattle.lil_mcode.specs.declared.machine.Event.{Event}
-use Rattle.lil_mcode.specs.declared.machine.Event.TheVariants.{Went, Request, LevelEnded, Trap, Limit, BadCode}
+use Rattle.lil_mcode.specs.declared.machine.Event.TheVariants.{Went}
 use Rattle.lil_mcode.specs.State.{Module, State, module_at}
 use Rattle.lil_mcode.specs.Table.{mstep}
 use Rattle.std.specs.Prelude.{slice_get, option_and_then}
@@ -22,7 +22,7 @@ use Rattle.lil_session.specs.declared.status.Status.{Status}
 use Rattle.lil_session.specs.declared.status.Status.TheVariants as a
 use Rattle.lil_tree.specs.Sizes.{IsSmall}
 use Rattle.lil_session.specs.Rows.{Translates}
-use Rattle.lil_session.specs.Running.{Finish, Running, Finished, TrappedBy, Limited, Broken, Run, mrun, running, react, advanced, unless_over, IsAlone, finish_of, HasRun, IsCut}
+use Rattle.lil_session.specs.Running.{Finish, Running, Run, mrun, running, react, advanced, unless_over, IsAlone, finish_of, HasRun, IsCut}
 use Rattle.lil_session.specs.Loaded.{body_alone, IsAtBody, EndingAnswers, IsPossible}
 use Rattle.lil_session.specs.Outcome.{settled, Shows, Allowed, EndsSo, MeansAnswer, IsRunAnswer, Blames, state_of}
 use Rattle.lil_session.proofs.Whole.{Agrees}
@@ -35,18 +35,11 @@ record Keeps (old new : World) : Type 0 where
 
 react_keeps : (e : Event) (s : State) (run : Run) → Keeps run.world (react e s run).world
 react_keeps Went s run = record { keys = refl; writes = refl }
-react_keeps (Request r) s run = record { keys = refl; writes = refl }
-react_keeps LevelEnded s run = record { keys = refl; writes = refl }
-react_keeps (Trap k) s run = record { keys = refl; writes = refl }
-react_keeps (Limit k) s run = record { keys = refl; writes = refl }
-react_keeps BadCode s run = record { keys = refl; writes = refl }
+react_keeps _ s run = record { keys = refl; writes = refl }
 
 over_keeps : (f : Finish) (old new : Run) → Keeps old.world new.world → Keeps old.world (unless_over f old new).world
 over_keeps Running old new h = h
-over_keeps Finished old new h = record { keys = refl; writes = refl }
-over_keeps (TrappedBy k) old new h = record { keys = refl; writes = refl }
-over_keeps (Limited k) old new h = record { keys = refl; writes = refl }
-over_keeps Broken old new h = record { keys = refl; writes = refl }
+over_keeps _ old new h = record { keys = refl; writes = refl }
 
 run_keeps : (n : ℕ) (run : Run) → Keeps run.world (mrun n run).world
 run_keeps zero run = record { keys = refl; writes = refl }
@@ -80,20 +73,18 @@ module _ (p : Resolved) (code : List ℕ) (small : IsSmall p) (t : Translates p 
   module _ (steps : ℕ) (old new : Option (List ℕ)) (machine : Machine) where
     -- a limit and bad code never come
     pub possible : (e : Ending) → ((w : World) → w.screen ≡ [] → HasRun start steps (finish_of e) old new w) → ((k : TrapKind) → e ≡ ending.Trapped k → IsAtBody machine (own p code small t)) → IsPossible machine e
-    possible ending.Done ran at = tt
     possible (ending.Trapped k) ran at = (own p code small t, at k refl)
     possible (ending.Limited k) ran at = absurd ((correct p code small t some_world steps).agrees.never_limited k (sym (ran some_world some_blank).finish))
     possible ending.Broken ran at = absurd ((correct p code small t some_world steps).agrees.never_broken (sym (ran some_world some_blank).finish))
-    possible ending.Spent ran at = tt
+    possible _ ran at = tt
 
     allowed : (e : Ending) (s : Status) (x : Source) (run : Run) → EndingAnswers machine e s → ((k : TrapKind) → e ≡ ending.Trapped k → IsAtBody machine (own p code small t)) → Agrees p.name x run → finish_of e ≡ run.finish → Allowed s x.phase
     allowed ending.Done s x run is at agrees f = subst (λ (y : Status). Allowed y x.phase) (sym is) (agrees.ends (sym f))
     allowed (ending.Trapped k) s x run (inl memory) at agrees f = subst (λ (y : Status). Allowed y x.phase) (sym memory) tt
     allowed (ending.Trapped k) s x run (inr is) at agrees f =
         subst (λ (y : Status). Allowed y x.phase) (sym (is (own p code small t) (at k refl))) (agrees.traps k (sym f))
-    allowed (ending.Limited k) s x run is at agrees f = absurd is
-    allowed ending.Broken s x run is at agrees f = absurd is
     allowed ending.Spent s x run is at agrees f = subst (λ (y : Status). Allowed y x.phase) (sym is) tt
+    allowed _ s x run is at agrees f = absurd is
 
     -- what is shown is what a state of the meaning has shown, and the answer is that state's
     pub shows_end : (e : Ending) (s : Status) (w : World) → HasRun start steps (finish_of e) old new w → EndingAnswers machine e s → ((k : TrapKind) → e ≡ ending.Trapped k → IsAtBody machine (own p code small t)) → Shows p w old new s
@@ -122,25 +113,22 @@ module _ (p : Resolved) (code : List ℕ) (small : IsSmall p) (t : Translates p 
     means_end (ending.Trapped k) s w ran (inr is) at ok =
         let c = correct p code small t w steps in
         inr (record { steps = c.n; ends = subst (λ (x : Phase). EndsSo x s) (sym (c.agrees.traps k (sym ran.finish))) (is (own p code small t) (at k refl)) })
-    means_end (ending.Limited k) s w ran is at ok = absurd is
-    means_end ending.Broken s w ran is at ok = absurd is
     means_end ending.Spent s w ran is at ok = inl is
+    means_end _ s w ran is at ok = absurd is
 
     pub kind_end : (e : Ending) (s : Status) → EndingAnswers machine e s → ((k : TrapKind) → e ≡ ending.Trapped k → IsAtBody machine (own p code small t)) → IsRunAnswer s
-    kind_end ending.Done s is at = subst IsRunAnswer (sym is) tt
     kind_end (ending.Trapped k) s (inl memory) at = subst IsRunAnswer (sym memory) tt
     kind_end (ending.Trapped k) s (inr is) at = subst IsRunAnswer (sym (is (own p code small t) (at k refl))) tt
     kind_end (ending.Limited k) s is at = absurd is
     kind_end ending.Broken s is at = absurd is
-    kind_end ending.Spent s is at = subst IsRunAnswer (sym is) tt
+    kind_end _ s is at = subst IsRunAnswer (sym is) tt
 
     no_fault : (e : Ending) (s : Status) → EndingAnswers machine e s → ((k : TrapKind) → e ≡ ending.Trapped k → IsAtBody machine (own p code small t)) → s ≢ a.ScreenFault
-    no_fault ending.Done s is at f = let e = sym is ∙ f in cc
     no_fault (ending.Trapped k) s (inl memory) at f = let e = sym memory ∙ f in cc
     no_fault (ending.Trapped k) s (inr is) at f = let e = sym (is (own p code small t) (at k refl)) ∙ f in cc
     no_fault (ending.Limited k) s is at f = is
     no_fault ending.Broken s is at f = is
-    no_fault ending.Spent s is at f = let e = sym is ∙ f in cc
+    no_fault _ s is at f = let e = sym is ∙ f in cc
 
     pub blames_end : (e : Ending) (s : Status) (before now : ℕ) → EndingAnswers machine e s → ((k : TrapKind) → e ≡ ending.Trapped k → IsAtBody machine (own p code small t)) → now ≡ before → Blames a.ScreenFault before now s
     blames_end e s before now is at same = record {

@@ -3,7 +3,7 @@ use Rattle.std.proofs.Common.{◌≡◌, ℕ, zero, suc, ◌+◌, ◌*◌, ◌�
 use Rattle.lil_tree.specs.Resolved.{Resolved}
 use Rattle.lil_tree.specs.Sizes.{IsSmall}
 use Rattle.lil_meaning.specs.World.{World}
-use Rattle.lil_meaning.specs.Items.{Phase, Going, Closing, Ended, Trapped, Source}
+use Rattle.lil_meaning.specs.Items.{Phase, Going, Closing, Trapped, Source}
 use Rattle.lil_meaning.specs.Steps.{next, by_phase}
 use Rattle.lil_meaning.specs.Runs.{after, begun}
 use Rattle.lil_mcode.specs.State.{State}
@@ -17,8 +17,7 @@ use Rattle.lil_session.proofs.Start.{loaded_state, correct}
 going_before : (modules : List Resolved) (s : Source) (p : Phase) → s.phase ≡ p → (next modules s).phase ≡ Going → p ≡ Going
 going_before modules s Going e h = refl
 going_before modules s (Closing t) e h = let at = ap (λ (x : Phase). (by_phase modules x s).phase) (sym e) in let clash : Trapped t ≡ Going = at ∙ h in cc
-going_before modules s Ended e h = let at = ap (λ (x : Phase). (by_phase modules x s).phase) (sym e) in sym e ∙ (at ∙ h)
-going_before modules s (Trapped t) e h = let at = ap (λ (x : Phase). (by_phase modules x s).phase) (sym e) in sym e ∙ (at ∙ h)
+going_before modules s _ e h = let at = ap (λ (x : Phase). (by_phase modules x s).phase) (sym e) in sym e ∙ (at ∙ h)
 
 going_first : (modules : List Resolved) (n : ℕ) (s : Source) → (after modules n s).phase ≡ Going → s.phase ≡ Going
 going_first modules zero s h = h

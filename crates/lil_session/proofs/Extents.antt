@@ -142,15 +142,13 @@ case_loops e arms other = omega (arith, ap body_loops (case_is e arms other), ar
 -- ---- each FOR takes its code
 mutual
   statement_loops_fit : (s : Statement) → 3 * statement_loops s ≤ statement_size s
-  statement_loops_fit (r.Assign d e) = omega arith
-  statement_loops_fit (r.Request n given) = omega arith
   statement_loops_fit (r.If c a b) = omega (arith, loops_fit a, loops_fit b)
   statement_loops_fit (r.Case e arms) = omega (arith, arms_loops_fit arms)
   statement_loops_fit (r.While c body) = omega (arith, loops_fit body)
   statement_loops_fit (r.Repeat body c) = omega (arith, loops_fit body)
   statement_loops_fit (r.Loop body) = omega (arith, loops_fit body)
-  statement_loops_fit r.Exit = omega arith
   statement_loops_fit (r.For d a b step body) = omega (arith, loops_fit body)
+  statement_loops_fit _ = omega arith
 
   pub loops_fit : (ss : Statements) → 3 * body_loops ss ≤ body_size ss
   loops_fit Empty = omega arith

@@ -1,22 +1,22 @@
 -- The code of expressions, form by form.
-use Rattle.std.proofs.Common.{◌≡◌, ℕ, ◌+◌, true, List, ◌++◌, length, refl, sym, ap, ◌∙◌, subst, arith, ℤ, pos, negsuc, ◌≤ℤ◌, rules, w32, to_z, of_z}
+use Rattle.std.proofs.Common.{◌≡◌, ℕ, ◌+◌, true, List, ◌++◌, length, refl, sym, ap, ◌∙◌, subst, arith, ℤ, pos, negsuc, ◌≤ℤ◌, rules, w32, to_z, of_z, Bool, false}
 use mir.Val.{SFits}
 use Rattle.std.proofs.lemmas.Int.{ints, to_z-of_z}
 use Rattle.lil_base.specs.Words.{Whole, Cardinal, Integer, word_of}
 use Rattle.lil_tree.specs.declared.operator.OneOp.{OneOp}
 use Rattle.lil_tree.specs.declared.operator.OneOp.TheVariants as one
 use Rattle.lil_tree.specs.declared.operator.TwoOp.{TwoOp}
-use Rattle.lil_tree.specs.declared.operator.TwoOp.TheVariants.{Equal, Unequal, Less, AtMost, Greater, AtLeast, In, Plus, Minus, Or, Times, Slash, Div, Mod, And}
+use Rattle.lil_tree.specs.declared.operator.TwoOp.TheVariants.{Equal, Greater, AtLeast, In, Or, Slash, And}
 use Rattle.lil_tree.specs.Kinds.{Kind, OfWhole}
 use Rattle.lil_tree.specs.Scalars.{Scalar, scalar_word}
-use Rattle.lil_tree.specs.Resolved.{Expression, Constant, Taken, One, Two, Both, Either, Apply, Chr, kind_of}
+use Rattle.lil_tree.specs.Resolved.{Expression, Constant, Taken, One, Two, Short, Apply, Chr, kind_of}
 use Rattle.lil_tree.specs.Views.{cardinal_variable, two_of}
 use Rattle.lil_tree.specs.Sizes.{size, one_size, two_size, takes_two}
 use Rattle.lil_mcode.specs.declared.instr.Instr.{Instr}
 use Rattle.lil_mcode.specs.declared.instr.Instr.TheVariants.{Liw, Lgw, Rgc, Jan, Jor}
 use Rattle.lil_mcode.specs.Bytes.{bytes_of}
-use Rattle.lil_session.specs.Rows.{IsAt, InstrsAt, compared_as, one_code, two_code}
-use Rattle.lil_session.specs.Emitting.{all_bytes}
+use Rattle.lil_session.specs.Rows.{IsAt, InstrsAt, compared_as, one_code, two_code, short_code}
+use Rattle.lil_session.specs.Emitting.{Emits, all_bytes}
 use Rattle.lil_session.specs.Generating.{EmitsExpression}
 use Rattle.lil_session.proofs.Appending.{AreSayable, emits_instr, emits_instrs, emits_both, emits_as}
 
@@ -28,58 +28,29 @@ record IsCode (is : List Instr) (bytes : ℕ) : Type 0 where
 
 sound_one : (o : OneOp) (k : Kind) → IsCode (one_code o k) (one_size o)
 sound_one one.Plus k = record { say = tt; long = refl }
-sound_one one.Minus k = record { say = (tt, tt); long = refl }
-sound_one one.Not k = record { say = (tt, tt); long = refl }
+sound_one _ k = record { say = (tt, tt); long = refl }
 
 -- the kind chooses no code of these
 one_same : (o : OneOp) (k j : Kind) → one_code o k ≡ one_code o j
 one_same one.Plus k j = refl
-one_same one.Minus k j = refl
-one_same one.Not k j = refl
+one_same _ k j = refl
 
 sound_two : (o : TwoOp) (k : Kind) (t : Whole) → takes_two o k ≡ true → IsCode (two_code o (OfWhole t)) (two_size o)
-sound_two Equal k t h = record { say = (tt, tt); long = refl }
-sound_two Unequal k t h = record { say = (tt, tt); long = refl }
-sound_two Less k Cardinal h = record { say = (tt, tt); long = refl }
-sound_two Less k Integer h = record { say = (tt, tt); long = refl }
-sound_two AtMost k Cardinal h = record { say = (tt, tt); long = refl }
-sound_two AtMost k Integer h = record { say = (tt, tt); long = refl }
 sound_two Greater k Cardinal h = record { say = (tt, (tt, tt)); long = refl }
 sound_two Greater k Integer h = record { say = (tt, (tt, tt)); long = refl }
 sound_two AtLeast k Cardinal h = record { say = (tt, (tt, tt)); long = refl }
 sound_two AtLeast k Integer h = record { say = (tt, (tt, tt)); long = refl }
-sound_two Plus k Cardinal h = record { say = (tt, tt); long = refl }
-sound_two Plus k Integer h = record { say = (tt, tt); long = refl }
-sound_two Minus k Cardinal h = record { say = (tt, tt); long = refl }
-sound_two Minus k Integer h = record { say = (tt, tt); long = refl }
-sound_two Times k Cardinal h = record { say = (tt, tt); long = refl }
-sound_two Times k Integer h = record { say = (tt, tt); long = refl }
-sound_two Div k Cardinal h = record { say = (tt, tt); long = refl }
-sound_two Div k Integer h = record { say = (tt, tt); long = refl }
-sound_two Mod k Cardinal h = record { say = (tt, tt); long = refl }
-sound_two Mod k Integer h = record { say = (tt, tt); long = refl }
 sound_two In k t h = absurd (cc)
 sound_two Or k t h = absurd (cc)
 sound_two Slash k t h = absurd (cc)
 sound_two And k t h = absurd (cc)
+sound_two _ k Cardinal h = record { say = (tt, tt); long = refl }
+sound_two _ k Integer h = record { say = (tt, tt); long = refl }
 
 -- the kind chooses the code by the type as which its words are compared
 two_same : (o : TwoOp) (k : Kind) → two_code o (OfWhole (compared_as k)) ≡ two_code o k
 two_same Equal k = refl
-two_same Unequal k = refl
-two_same Less k = refl
-two_same AtMost k = refl
-two_same Greater k = refl
-two_same AtLeast k = refl
-two_same In k = refl
-two_same Plus k = refl
-two_same Minus k = refl
-two_same Or k = refl
-two_same Times k = refl
-two_same Slash k = refl
-two_same Div k = refl
-two_same Mod k = refl
-two_same And k = refl
+two_same _ k = refl
 
 -- ---- expressions
 -- what is said of the word of a number that is held in 32 bits
@@ -129,27 +100,13 @@ two_emitted o t a b c0 c1 c2 c3 typed left right e l n plain sound =
     (emits_both c0 c1 c3 (size a) _ _ _ (left l n plain sound.3)
     (emits_both c1 c2 c3 (size b) _ _ _ (right l n plain sound.4) (emits_instrs (two_code o (OfWhole t)) c2 c3 is.say e)))
 
-pub both_emitted : (a b : Expression) (end : ℕ) (c0 c1 c2 c3 : List ℕ) → EmitsExpression c0 c1 a → c2 ≡ c1 ++ bytes_of (Jan end) → end ≡ length c1 + 3 + size b → EmitsExpression c2 c3 b → EmitsExpression c0 c3 (Both a b)
-both_emitted a b end c0 c1 c2 c3 left e place right l n plain sound =
-    let jump = emits_instr c1 c2 (Jan end) tt e in
-    let second = right l n plain sound.3 in
-    let is : end ≡ length c3 = omega (arith, place, jump.grows, second.grows) in
-    emits_as c0 c3 (size a + (3 + size b)) (size a + size b + 3) _ _
-    (omega arith)
-    (λ final r. record {
-      middle = length c1;
-      start = length c2;
-      left_typed = sound.0;
-      right_typed = sound.1;
-      first = r.0;
-      test = subst (λ (q : ℕ). IsAt final (length c1) (Jan q) (length c2)) is r.1.0;
-      second = r.1.1;
-    })
-    (emits_both c0 c1 c3 (size a) _ _ _ (left l n plain sound.2) (emits_both c1 c2 c3 3 (size b) _ _ jump second))
+short_instr : (d : Bool) (end : ℕ) (old new : List ℕ) → new ≡ old ++ bytes_of (short_code d end) → Emits old new 3 (λ final p q. IsAt final p (short_code d end) q)
+short_instr true end old new e = emits_instr old new (Jor end) tt e
+short_instr false end old new e = emits_instr old new (Jan end) tt e
 
-pub either_emitted : (a b : Expression) (end : ℕ) (c0 c1 c2 c3 : List ℕ) → EmitsExpression c0 c1 a → c2 ≡ c1 ++ bytes_of (Jor end) → end ≡ length c1 + 3 + size b → EmitsExpression c2 c3 b → EmitsExpression c0 c3 (Either a b)
-either_emitted a b end c0 c1 c2 c3 left e place right l n plain sound =
-    let jump = emits_instr c1 c2 (Jor end) tt e in
+pub short_emitted : (d : Bool) (a b : Expression) (end : ℕ) (c0 c1 c2 c3 : List ℕ) → EmitsExpression c0 c1 a → c2 ≡ c1 ++ bytes_of (short_code d end) → end ≡ length c1 + 3 + size b → EmitsExpression c2 c3 b → EmitsExpression c0 c3 (Short d a b)
+short_emitted d a b end c0 c1 c2 c3 left e place right l n plain sound =
+    let jump = short_instr d end c1 c2 e in
     let second = right l n plain sound.3 in
     let is : end ≡ length c3 = omega (arith, place, jump.grows, second.grows) in
     emits_as c0 c3 (size a + (3 + size b)) (size a + size b + 3) _ _
@@ -160,7 +117,7 @@ either_emitted a b end c0 c1 c2 c3 left e place right l n plain sound =
       left_typed = sound.0;
       right_typed = sound.1;
       first = r.0;
-      test = subst (λ (q : ℕ). IsAt final (length c1) (Jor q) (length c2)) is r.1.0;
+      test = subst (λ (q : ℕ). IsAt final (length c1) (short_code d q) (length c2)) is r.1.0;
       second = r.1.1;
     })
     (emits_both c0 c1 c3 (size a) _ _ _ (left l n plain sound.2) (emits_both c1 c2 c3 3 (size b) _ _ jump second))
@@ -173,18 +130,6 @@ chr_emitted a c0 c1 c2 value e l n plain sound =
 
 -- an operator that needs both its operands
 pub two_is : (o : TwoOp) (a b : Expression) → (o ≡ And → ⊥) → (o ≡ Or → ⊥) → two_of o a b ≡ Two o (kind_of a) a b
-two_is Equal a b h h' = refl
-two_is Unequal a b h h' = refl
-two_is Less a b h h' = refl
-two_is AtMost a b h h' = refl
-two_is Greater a b h h' = refl
-two_is AtLeast a b h h' = refl
-two_is In a b h h' = refl
-two_is Plus a b h h' = refl
-two_is Minus a b h h' = refl
 two_is Or a b h h' = absurd (h' refl)
-two_is Times a b h h' = refl
-two_is Slash a b h h' = refl
-two_is Div a b h h' = refl
-two_is Mod a b h h' = refl
 two_is And a b h h' = absurd (h refl)
+two_is _ a b h h' = refl

@@ -33,9 +33,8 @@ in_range low z high a b = by (int_lt z low) (int_lt high z) refl refl
 -- a number in its type has a word of 16 bits
 pub word_small : (t : Whole) (z : ℤ) → in_type t z ≡ true → word_of z < 65536
 word_small Cardinal (pos n) h = let b = bounds (pos 0) (pos n) (pos 65535) h in omega (arith, ints)
-word_small Cardinal (negsuc n) h = omega arith
 word_small Integer (pos n) h = let b = bounds (negsuc 32767) (pos n) (pos 32767) h in omega (arith, ints)
-word_small Integer (negsuc n) h = omega arith
+word_small _ _ h = omega arith
 
 -- the word of what is left of n, less k and one
 less_word : (n k : ℕ) → n < 65536 → k < 65536 → (n + (65535 - k)) % 65536 ≡ word_of (pos n +ℤ negsuc k) % 65536

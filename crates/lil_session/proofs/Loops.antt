@@ -6,24 +6,24 @@ use Rattle.std.proofs.lemmas.List.{get_or-set_same, get_or-set_other}
 use Rattle.lil_base.specs.Words.{Whole, Cardinal, Integer, in_type, word_of}
 use Rattle.lil_base.specs.declared.fault.TrapKind.TheVariants as trap
 use Rattle.lil_tree.specs.Kinds.{Kind, OfWhole}
-use Rattle.lil_tree.specs.Scalars.{Scalar, Number, Truth, Character, SetOf, ToObject, ToWorkspace, ToProcedure, ToCoroutine, Nothing, within, scalar_word, scalar_of, ordinal_of}
-use Rattle.lil_tree.specs.Resolved.{Variable, Expression, For, Statements, Resolved}
+use Rattle.lil_tree.specs.Scalars.{Scalar, Number, Truth, within, scalar_of, ordinal_of}
+use Rattle.lil_tree.specs.Resolved.{Variable, Expression, For, Statements}
 use Rattle.lil_meaning.specs.Cells.{Root, Global, Place, Cells, stored, alone}
-use Rattle.lil_meaning.specs.Items.{Scalars, StartOf, LimitOf, Do, Turns, Item, Value, Evaluate, Fill, Perform, doing, Going, Source}
+use Rattle.lil_meaning.specs.Items.{Scalars, StartOf, LimitOf, Do, Turns, Item, Value, Fill, Perform, doing, Going, Source}
 use Rattle.lil_meaning.specs.Steps.{current, owner_of, trapped, turns}
 use Rattle.lil_mcode.specs.declared.instr.Instr.TheVariants.{Liw, Llw, Sgw, Fri, Frn}
 use Rattle.lil_mcode.specs.declared.machine.Event.{Event}
 use Rattle.lil_mcode.specs.declared.machine.Event.TheVariants.{Went}
 use Rattle.lil_mcode.specs.Control.{after_first}
-use Rattle.lil_mcode.specs.State.{Module, State}
+use Rattle.lil_mcode.specs.State.{State}
 use Rattle.lil_mcode.specs.Table.{mstep, going, push_row, on_three, loop_row, begun_row, turn_row}
-use Rattle.lil_session.specs.Rows.{Layout, IsAt, BodyAt, RoundRow, loop_place, loop_sign}
+use Rattle.lil_session.specs.Rows.{IsAt, BodyAt, RoundRow, loop_place, loop_sign}
 use Rattle.lil_session.specs.Running.{running, advanced}
-use Rattle.lil_session.proofs.Homes.{yes, no, Home, Of, Own, Free, Mem, mem_stored}
-use Rattle.lil_session.proofs.Matched.{Quiet, ValueOf, LoopWords, Around, Reach, TurnsFit, Rows, HasFrame, HasLoops, Shared, DoRow, StartRow, LimitRow, BeginRow, NextRow, IsVariable, Goes, Lands}
+use Rattle.lil_session.proofs.Homes.{word_for, yes, no, Home, Of, Own, Free, Mem, mem_stored}
+use Rattle.lil_session.proofs.Matched.{Setting, Quiet, ValueOf, LoopWords, Around, Reach, TurnsFit, Rows, HasFrame, HasLoops, Shared, BeginRow, NextRow, IsVariable, Goes, Lands, Waiting}
 use Rattle.lil_session.proofs.Orders.{instr_within, expression_within}
 use Rattle.lil_session.proofs.Closing.{closed}
-use Rattle.lil_session.proofs.Steps.{advances, pushes, at_step, at_once, rows_ahead, lands_on, goes_none, goes_one, goes_after}
+use Rattle.lil_session.proofs.Steps.{advances, pushes, at_step, at_once, rows_ahead, lands_on, goes_none, goes_one, goes_after, operand_goes}
 use Rattle.lil_session.proofs.Tasks.{loops_stored}
 use Rattle.lil_session.proofs.Control.{body_rows}
 use Rattle.lil_session.proofs.LoopWords.{word_small, next_word, step_some, turns_read, turns_few}
@@ -32,21 +32,15 @@ use Rattle.lil_session.proofs.LoopWords.{word_small, next_word, step_some, turns
 number_is : (t : Whole) (v : Scalar) → within (OfWhole t) v ≡ true → v ≡ Number (ordinal_of v)
 number_is t (Number z) h = refl
 number_is t (Truth b) h = cc
-number_is t (Character c) h = cc
-number_is t (SetOf f) h = cc
-number_is t (ToObject o) h = cc
-number_is t (ToWorkspace w) h = cc
-number_is t (ToProcedure n p) h = cc
-number_is t (ToCoroutine c) h = cc
-number_is t Nothing h = cc
+number_is t _ h = cc
 
 kind_number : (k : Kind) (t : Whole) → k ≡ OfWhole t → (v : Scalar) → within k v ≡ true → scalar_of k (ordinal_of v) ≡ v
 kind_number k t is v h =
     ap (λ (j : Kind). scalar_of j (ordinal_of v)) is
     ∙ sym (number_is t v (ap (λ (j : Kind). within j v) (sym is) ∙ h))
 
-kind_word : (k : Kind) (t : Whole) → k ≡ OfWhole t → (v : Scalar) → within k v ≡ true → scalar_word v ≡ word_of (ordinal_of v)
-kind_word k t is v h = ap scalar_word (number_is t v (ap (λ (j : Kind). within j v) (sym is) ∙ h))
+kind_word : (h : Home) (k : Kind) (t : Whole) → k ≡ OfWhole t → (v : Scalar) → within k v ≡ true → word_for h v ≡ word_of (ordinal_of v)
+kind_word h k t is v fits = ap (word_for h) (number_is t v (ap (λ (j : Kind). within j v) (sym is) ∙ fits))
 
 sign_small : (t : Whole) → nat_lt (loop_sign t) 2 ≡ true
 sign_small Cardinal = refl
@@ -73,9 +67,11 @@ mem_free h cells store p b x free mem = record {
   long = length-set store p x ∙ mem.long;
 }
 
-module _ (l : Layout) (table : List Module) (own : Module) (number : ℕ) (h : Home) where
+module _ (ctx : Setting) where
+  open ctx use {modules, layout as l, table, own, number, home as h}
+
   -- a word above those of the FORs at hand
-  loops_above : (ws : List LoopWords) (frame p x : ℕ) (store : List ℕ) → frame + loop_place (length ws) ≤ p → HasLoops l table own number h frame store ws → HasLoops l table own number h frame (set store p x) ws
+  loops_above : (ws : List LoopWords) (frame p x : ℕ) (store : List ℕ) → frame + loop_place (length ws) ≤ p → HasLoops ctx frame store ws → HasLoops ctx frame (set store p x) ws
   loops_above [] frame p x store above has = tt
   loops_above (w ∷ ws) frame p x store above has =
       let q : ℕ = frame + loop_place (length ws) in
@@ -92,16 +88,16 @@ module _ (l : Layout) (table : List Module) (own : Module) (number : ℕ) (h : H
   -- words of the frame, above those of the FORs at hand
   pub record Kept (s : Source) (m : State) (ws : List LoopWords) (store : List ℕ) : Type 0 where
     pub mem : Mem h s.cells store
-    pub loops : HasLoops l table own number h m.frame store ws
+    pub loops : HasLoops ctx m.frame store ws
 
-  keeps : (s : Source) (m : State) (ws : List LoopWords) (store : List ℕ) (i p x : ℕ) → HasFrame l table own number h m → p ≡ m.frame + i → loop_place (length ws) ≤ i → i < l.frame → Kept s m ws store → Kept s m ws (set store p x)
+  keeps : (s : Source) (m : State) (ws : List LoopWords) (store : List ℕ) (i p x : ℕ) → HasFrame ctx m → p ≡ m.frame + i → loop_place (length ws) ≤ i → i < l.frame → Kept s m ws store → Kept s m ws (set store p x)
   keeps s m ws store i p x frame at low high kept = record {
     mem = mem_free h s.cells store p m.base x (ap h.owner at ∙ frame.free i (omega (arith, low)) high) kept.mem;
     loops = loops_above ws m.frame p x store (omega (arith, low, at)) kept.loops;
   }
 
   -- the same but for the place, the expression stack and the store
-  shared_stored : (s : Source) (m : State) → Shared l table own number h s m → (q : ℕ) (stack store : List ℕ) → Mem h s.cells store → Shared l table own number h s (record m { place = q; stack = stack; store = store })
+  shared_stored : (s : Source) (m : State) → Shared ctx s m → (q : ℕ) (stack store : List ℕ) → Mem h s.cells store → Shared ctx s (record m { place = q; stack = stack; store = store })
   shared_stored s m shared q stack store mem = record {
     mem = mem;
     laid = shared.laid;
@@ -118,20 +114,22 @@ module _ (l : Layout) (table : List Module) (own : Module) (number : ℕ) (h : H
     parked = shared.parked;
   }
 
-module _ (modules : List Resolved) (l : Layout) (table : List Module) (own : Module) (number : ℕ) (h : Home) where
-  module _ (s : Source) (k : List Item) (m : State) (c : ℕ) (a : Around) (shared : Shared l table own number h s m) where
+module _ (ctx : Setting) where
+  open ctx use {modules, layout as l, table, own, number, home as h}
+
+  module _ (s : Source) (k : List Item) (m : State) (c : ℕ) (a : Around) (shared : Shared ctx s m) where
     abbrev Rest : Reach
-    Rest = Rows l table own number h k
+    Rest = Rows ctx k
 
     abbrev pub Turning : ℕ → Kind → ℤ → ℤ → ℕ → Statements → List Item
     Turning x kind z step left body = Perform (Turns (Variable x kind) z step left body) ∷ k
 
     -- a turn: the store of its value, and then the body
     turn_goes : (x : ℕ) (kind : Kind) (type : Whole) → kind ≡ OfWhole type → (z step : ℤ) (left : ℕ) (body : Statements)
-        → HasLoops l table own number h m.frame m.store (record { now = word_of z; left = left; step = word_of step } ∷ a.loops) → m.stack ≡ []
+        → HasLoops ctx m.frame m.store (record { now = word_of z; left = left; step = word_of step } ∷ a.loops) → m.stack ≡ []
         → TurnsFit kind z step (suc left) → left < 65536 → (end : ℕ)
         → RoundRow l own.code (length a.loops) x kind step (BodyAt l own.code (suc (length a.loops)) a.exit body) m.place end → end < length own.code
-        → Rest Quiet end [] c a → Goes modules l table own number h s (Turning x kind z step (suc left) body) m (c + 28)
+        → Rest Quiet end [] c a → Goes ctx s (Turning x kind z step (suc left) body) m (c + 28)
     turn_goes x kind type is z step left body loops empty fit small end round within' then =
         let items : List Item = Turning x kind z step (suc left) body in
         let v : Scalar = scalar_of kind z in
@@ -141,27 +139,27 @@ module _ (modules : List Resolved) (l : Layout) (table : List Module) (own : Mod
         let first : State = going m round.loaded (word_of z ∷ m.stack) in
         let store : List ℕ = set m.store (own.base + round.offset) (word_of z) in
         let machine : State = record m { place = round.start; store = store } in
-        let value : scalar_word v ≡ word_of z = ap (λ (j : Kind). scalar_word (scalar_of j z)) is in
+        let value : word_for h v ≡ word_of z = ap (λ (j : Kind). word_for h (scalar_of j z)) is in
         let number_fits : in_type type z ≡ true = ap (λ (j : Kind). within j (scalar_of j z)) (sym is) ∙ fit.0 in
         let place : Place = record { root = Global (owner_of (slice_get s.activations (current k))) x; path = [] } in
-        let here : owner_of (slice_get s.activations (current k)) ≡ number = ap (λ (n : ℕ). owner_of (slice_get s.activations n)) (closed l table own number h k Quiet end [] c a then) ∙ shared.owner in
-        let variable : IsVariable l table own number h place round.offset kind =
-        subst (λ (n : ℕ). let p : Place = record { root = Global n x; path = [] } in IsVariable l table own number h p round.offset kind) (sym here)
+        let here : owner_of (slice_get s.activations (current k)) ≡ number = ap (λ (n : ℕ). owner_of (slice_get s.activations n)) (closed ctx k Quiet end [] c a then) ∙ shared.owner in
+        let variable : IsVariable ctx place round.offset kind =
+        subst (λ (n : ℕ). let p : Place = record { root = Global n x; path = [] } in IsVariable ctx p round.offset kind) (sym here)
         (shared.laid.variables x round.offset kind round.known round.typed) in
         let inside : own.base + round.offset < 65536 = omega (arith, shared.mem.inside place.root kind variable.living, variable.at) in
-        let stored_at : set m.store (h.base place.root) (scalar_word v) ≡ store =
-        ap (λ (b : ℕ). set m.store b (scalar_word v)) variable.at ∙ ap (set m.store (own.base + round.offset)) value in
+        let stored_at : set m.store (h.base place.root) (word_for h v) ≡ store =
+        ap (λ (b : ℕ). set m.store b (word_for h v)) variable.at ∙ ap (set m.store (own.base + round.offset)) value in
         let mem : Mem h (stored s.cells place (alone v)) store =
         subst (λ (st : List ℕ). Mem h (stored s.cells place (alone v)) st) stored_at (mem_stored h s.cells m.store place.root kind v shared.mem variable.living fit.0) in
-        let loops_there : HasLoops l table own number h m.frame store (words ∷ a.loops) =
-        subst (λ (st : List ℕ). HasLoops l table own number h m.frame st (words ∷ a.loops)) stored_at
-        (loops_stored l table own number h m shared.frame place.root (shared.mem.owned place.root kind variable.living) (scalar_word v) (words ∷ a.loops) loops) in
+        let loops_there : HasLoops ctx m.frame store (words ∷ a.loops) =
+        subst (λ (st : List ℕ). HasLoops ctx m.frame st (words ∷ a.loops)) stored_at
+        (loops_stored ctx m shared.frame place.root (shared.mem.owned place.root kind variable.living) (word_for h v) (words ∷ a.loops) loops) in
         let after : List Item = doing body (Turning x kind (z +ℤ step) step left body) in
         let turned_there : Source = record s { items = after; cells = stored s.cells place (alone v); phase = Going } in
         let out : Source = trapped modules (record s { items = items; phase = Going }) trap.Range in
-        let rows : Rows l table own number h after Quiet round.start [] c inner =
-        body_rows modules l table own number h body (Turning x kind (z +ℤ step) step left body) round.start round.end c inner round.here (instr_within own.code round.end (Frn (loop_place (length a.loops)) m.place) end round.next)
-        (at_once modules l table own number h _ Quiet round.end [] c inner
+        let rows : Rows ctx after Quiet round.start [] c inner =
+        body_rows ctx body (Turning x kind (z +ℤ step) step left body) round.start round.end c inner round.here (instr_within own.code round.end (Frn (loop_place (length a.loops)) m.place) end round.next)
+        (at_once ctx _ Quiet round.end [] c inner
         (inr (record {
           quiet = refl;
           empty = refl;
@@ -182,19 +180,19 @@ module _ (modules : List Resolved) (l : Layout) (table : List Module) (own : Mod
           within = within';
           then = then;
         }))) in
-        goes_after modules l table own number h s items m first (c + 28) (c + 27)
+        goes_after ctx s items m first (c + 28) (c + 27)
         (advances m s.world _ (
-        at_step modules l table own number h m shared.program (Llw (loop_place (length a.loops))) round.loaded round.load
+        at_step ctx m shared.program (Llw (loop_place (length a.loops))) round.loaded round.load
         ∙ yes _ _ _ (lt-ltb at 65536 (omega (arith, shared.frame.room, round.room)))
         ∙ ap (λ (w : ℕ). push_row w round.loaded m) loops.1
         ∙ pushes (word_of z) round.loaded m (omega (arith, ap length empty))
         ))
-        (goes_one modules l table own number h s items first (c + 27) c (running machine s.world)
+        (goes_one ctx s items first (c + 27) c (running machine s.world)
         (advances first s.world _ (
-        at_step modules l table own number h first (shared_stored l table own number h s m shared round.loaded (word_of z ∷ m.stack) m.store shared.mem).program (Sgw round.offset) round.start round.store
+        at_step ctx first (shared_stored ctx s m shared round.loaded (word_of z ∷ m.stack) m.store shared.mem).program (Sgw round.offset) round.start round.store
         ∙ yes _ _ _ (lt-ltb (own.base + round.offset) 65536 inside)
         ))
-        (subst (λ (b : Bool). Lands l table own number h modules (cond b turned_there out).phase (cond b turned_there out) (running machine s.world) c) (sym fit.0)
+        (subst (λ (b : Bool). Lands ctx (cond b turned_there out).phase (cond b turned_there out) (running machine s.world) c) (sym fit.0)
         (record {
           machine = machine;
           is = refl;
@@ -216,108 +214,88 @@ module _ (modules : List Resolved) (l : Layout) (table : List Module) (own : Mod
             };
             around = inner;
             loops = loops_there;
-            ahead = rows_ahead modules l table own number h after round.start m.stack c inner
-                (subst (λ (st : List ℕ). Rows l table own number h after Quiet round.start st c inner) (sym empty) rows);
+            ahead = rows_ahead ctx after round.start m.stack c inner
+                (subst (λ (st : List ℕ). Rows ctx after Quiet round.start st c inner) (sym empty) rows);
           };
         }))
         (omega arith))
         (omega arith)
 
-  module _ (s : Source) (k : List Item) (m : State) (c : ℕ) (a : Around) (shared : Shared l table own number h s m) (loops : HasLoops l table own number h m.frame m.store a.loops) where
+  module _ (s : Source) (k : List Item) (m : State) (c : ℕ) (a : Around) (shared : Shared ctx s m) (loops : HasLoops ctx m.frame m.store a.loops) where
     abbrev Left : Reach
-    Left = Rows l table own number h k
+    Left = Rows ctx k
 
-    pub for_goes : (x : ℕ) (kind : Kind) (first limit : Expression) (step : ℤ) (body : Statements) → DoRow l table own number (For (Variable x kind) first limit step body) Left Quiet m.place m.stack c a
-        → Goes modules l table own number h s (Perform (Do (For (Variable x kind) first limit step body)) ∷ k) m (c + 32)
+    pub for_goes : (x : ℕ) (kind : Kind) (first limit : Expression) (step : ℤ) (body : Statements) → Waiting ctx (Perform (Do (For (Variable x kind) first limit step body))) Left Quiet m.place m.stack c a
+        → Goes ctx s (Perform (Do (For (Variable x kind) first limit step body)) ∷ k) m (c + 32)
     for_goes x kind first limit step body row =
-        goes_none modules l table own number h s (Perform (Do (For (Variable x kind) first limit step body)) ∷ k) m (c + 32) c
-        (lands_on modules l table own number h s m shared (Evaluate first ∷ Fill (StartOf (Variable x kind) limit step body) ∷ k) m.place m.stack c a loops
-        (at_once modules l table own number h _ Quiet m.place m.stack c a
+        operand_goes ctx s k m c a shared loops (Perform (Do (For (Variable x kind) first limit step body)) ∷ k) first (StartOf (Variable x kind) limit step body) refl (omega arith) row.part.here.middle row.part.here.first.value (omega (arith, row.part.here.first.shallow, ap length row.part.empty))
+        (expression_within l own.code limit row.part.here.middle row.part.here.last row.part.here.limit.value)
         (record {
-          quiet = refl;
-          end = row.here.middle;
-          here = row.here.first.value;
-          shallow = omega (arith, row.here.first.shallow, ap length row.empty);
-          within = expression_within l own.code limit row.here.middle row.here.last row.here.limit.value;
-          then = at_once modules l table own number h _ _ row.here.middle m.stack c a
-              (record {
-                type = row.here.type;
-                is = row.here.is;
-                mode = ap ValueOf row.here.first.typed;
-                empty = row.empty;
-                last = row.here.last;
-                end = row.end;
-                limit = row.here.limit;
-                turns = row.here.turns;
-                within = row.within;
-                then = row.then;
-              });
-        })))
-        (omega arith)
-        (omega arith)
+          part = record {
+            type = row.part.here.type;
+            is = row.part.here.is;
+            same = row.part.here.first.typed;
+            empty = row.part.empty;
+            last = row.part.here.last;
+            end = row.part.end;
+            limit = row.part.here.limit;
+            turns = row.part.here.turns;
+            within = row.part.within;
+          };
+          then = row.then;
+        })
 
-    pub start_goes : (x : ℕ) (to : Kind) (limit : Expression) (step : ℤ) (body : Statements) (v : Scalar) (kind : Kind) → within kind v ≡ true → (below : List ℕ) → m.stack ≡ scalar_word v ∷ below
-        → StartRow l table own number x to limit step body Left (ValueOf kind) m.place below c a → Goes modules l table own number h s (Value (Scalars v) ∷ Fill (StartOf (Variable x to) limit step body) ∷ k) m (c + 32)
+    pub start_goes : (x : ℕ) (to : Kind) (limit : Expression) (step : ℤ) (body : Statements) (v : Scalar) (kind : Kind) → within kind v ≡ true → (below : List ℕ) → m.stack ≡ word_for h v ∷ below
+        → Waiting ctx (Fill (StartOf (Variable x to) limit step body)) Left (ValueOf kind) m.place below c a → Goes ctx s (Value (Scalars v) ∷ Fill (StartOf (Variable x to) limit step body) ∷ k) m (c + 32)
     start_goes x to limit step body v kind fit below is row =
-        let one : ValueOf kind ≡ ValueOf to = row.mode in
-        let same_kind : kind ≡ to = cc in
+        let same_kind : kind ≡ to = row.part.same in
         let fits : within to v ≡ true = ap (λ (j : Kind). within j v) (sym same_kind) ∙ fit in
-        let stack : m.stack ≡ scalar_word v ∷ [] = is ∙ ap (λ (st : List ℕ). scalar_word v ∷ st) row.empty in
-        goes_none modules l table own number h s (Value (Scalars v) ∷ Fill (StartOf (Variable x to) limit step body) ∷ k) m (c + 32) c
-        (lands_on modules l table own number h s m shared (Evaluate limit ∷ Fill (LimitOf (Variable x to) v step body) ∷ k) m.place m.stack c a loops
-        (at_once modules l table own number h _ Quiet m.place m.stack c a
+        let stack : m.stack ≡ word_for h v ∷ [] = is ∙ ap (λ (st : List ℕ). word_for h v ∷ st) row.part.empty in
+        operand_goes ctx s k m c a shared loops (Value (Scalars v) ∷ Fill (StartOf (Variable x to) limit step body) ∷ k) limit (LimitOf (Variable x to) v step body) refl (omega arith) row.part.last row.part.limit.value (omega (arith, row.part.limit.shallow, ap length stack))
+        (instr_within own.code row.part.last (Liw (word_of step)) row.part.turns.stepped row.part.turns.load)
         (record {
-          quiet = refl;
-          end = row.last;
-          here = row.limit.value;
-          shallow = omega (arith, row.limit.shallow, ap length stack);
-          within = instr_within own.code row.last (Liw (word_of step)) row.turns.stepped row.turns.load;
-          then = at_once modules l table own number h _ _ row.last m.stack c a
-              (record {
-                type = row.type;
-                is = row.is;
-                mode = ap ValueOf row.limit.typed;
-                fits = fits;
-                stack_is = stack;
-                end = row.end;
-                turns = row.turns;
-                within = row.within;
-                then = row.then;
-              });
-        })))
-        (omega arith)
-        (omega arith)
+          part = record {
+            type = row.part.type;
+            is = row.part.is;
+            same = row.part.limit.typed;
+            fits = fits;
+            stack_is = stack;
+            end = row.part.end;
+            turns = row.part.turns;
+            within = row.part.within;
+          };
+          then = row.then;
+        })
 
-    pub limit_goes : (x : ℕ) (to : Kind) (u : Scalar) (step : ℤ) (body : Statements) (v : Scalar) (kind : Kind) → within kind v ≡ true → (below : List ℕ) → m.stack ≡ scalar_word v ∷ below
-        → LimitRow l table own number x to u step body Left (ValueOf kind) m.place below c a → Goes modules l table own number h s (Value (Scalars v) ∷ Fill (LimitOf (Variable x to) u step body) ∷ k) m (c + 32)
+    pub limit_goes : (x : ℕ) (to : Kind) (u : Scalar) (step : ℤ) (body : Statements) (v : Scalar) (kind : Kind) → within kind v ≡ true → (below : List ℕ) → m.stack ≡ word_for h v ∷ below
+        → Waiting ctx (Fill (LimitOf (Variable x to) u step body)) Left (ValueOf kind) m.place below c a → Goes ctx s (Value (Scalars v) ∷ Fill (LimitOf (Variable x to) u step body) ∷ k) m (c + 32)
     limit_goes x to u step body v kind fit below is row =
-        let one : ValueOf kind ≡ ValueOf to = row.mode in
-        let same_kind : kind ≡ to = cc in
+        let same_kind : kind ≡ to = row.part.same in
         let fits : within to v ≡ true = ap (λ (j : Kind). within j v) (sym same_kind) ∙ fit in
-        let first_is : scalar_of to (ordinal_of u) ≡ u = kind_number to row.type row.is u row.fits in
-        let limit_is : scalar_of to (ordinal_of v) ≡ v = kind_number to row.type row.is v fits in
-        goes_none modules l table own number h s (Value (Scalars v) ∷ Fill (LimitOf (Variable x to) u step body) ∷ k) m (c + 32) c
-        (lands_on modules l table own number h s m shared (Perform (Turns (Variable x to) (ordinal_of u) step (turns (ordinal_of u) (ordinal_of v) step) body) ∷ k) m.place m.stack c a loops
-        (at_once modules l table own number h _ Quiet m.place m.stack c a
+        let first_is : scalar_of to (ordinal_of u) ≡ u = kind_number to row.part.type row.part.is u row.part.fits in
+        let limit_is : scalar_of to (ordinal_of v) ≡ v = kind_number to row.part.type row.part.is v fits in
+        goes_none ctx s (Value (Scalars v) ∷ Fill (LimitOf (Variable x to) u step body) ∷ k) m (c + 32) c
+        (lands_on ctx s m shared (Perform (Turns (Variable x to) (ordinal_of u) step (turns (ordinal_of u) (ordinal_of v) step) body) ∷ k) m.place m.stack c a loops
+        (at_once ctx _ Quiet m.place m.stack c a
         (inl (record {
           quiet = refl;
-          type = row.type;
-          is = row.is;
+          type = row.part.type;
+          is = row.part.is;
           limit = ordinal_of v;
-          fits = ap (within to) first_is ∙ row.fits;
+          fits = ap (within to) first_is ∙ row.part.fits;
           limit_fits = ap (within to) limit_is ∙ fits;
-          stack_is = is ∙ ap (λ (st : List ℕ). scalar_word v ∷ st) row.stack_is ∙ ap (λ (w : ℕ). w ∷ scalar_word u ∷ []) (kind_word to row.type row.is v fits) ∙ ap (λ (w : ℕ). word_of (ordinal_of v) ∷ w ∷ []) (kind_word to row.type row.is u row.fits);
+          stack_is = is ∙ ap (λ (st : List ℕ). word_for h v ∷ st) row.part.stack_is ∙ ap (λ (w : ℕ). w ∷ word_for h u ∷ []) (kind_word h to row.part.type row.part.is v fits) ∙ ap (λ (w : ℕ). word_of (ordinal_of v) ∷ w ∷ []) (kind_word h to row.part.type row.part.is u row.part.fits);
           count = refl;
-          end = row.end;
-          turns = row.turns;
-          within = row.within;
+          end = row.part.end;
+          turns = row.part.turns;
+          within = row.part.within;
           then = row.then;
         }))))
         (omega arith)
         (omega arith)
 
-    pub begin_goes : (x : ℕ) (kind : Kind) (first step : ℤ) (left : ℕ) (body : Statements) → BeginRow l table own number x kind first step left body Left Quiet m.place m.stack c a
-        → Goes modules l table own number h s (Perform (Turns (Variable x kind) first step left body) ∷ k) m (c + 32)
+    pub begin_goes : (x : ℕ) (kind : Kind) (first step : ℤ) (left : ℕ) (body : Statements) → BeginRow ctx x kind first step left body Left Quiet m.place m.stack c a
+        → Goes ctx s (Perform (Turns (Variable x kind) first step left body) ∷ k) m (c + 32)
     begin_goes x kind first step left body row = by_left left (sym row.count)
       where
         at : ℕ
@@ -344,24 +322,24 @@ module _ (modules : List Resolved) (l : Layout) (table : List Module) (own : Mod
         pushed : advanced (running m s.world) ≡ running (going m row.turns.stepped (word_of step ∷ m.stack)) s.world
         pushed =
             advances m s.world _ (
-            at_step modules l table own number h m shared.program (Liw (word_of step)) row.turns.stepped row.turns.load
+            at_step ctx m shared.program (Liw (word_of step)) row.turns.stepped row.turns.load
             ∙ pushes (word_of step) row.turns.stepped m (omega (arith, ap length row.stack_is))
             )
 
         enters : (u : ℕ) → turns first row.limit step ≡ u
             → mstep (going m row.turns.stepped (word_of step ∷ m.stack)) ≡ begun_row own (m.frame + loop_place (length a.loops)) row.end row.turns.turn (going m row.turns.stepped (word_of step ∷ m.stack)) (word_of first) (word_of step) [] (after_first u)
         enters u e =
-            at_step modules l table own number h stepped (shared_stored l table own number h s m shared row.turns.stepped (word_of step ∷ m.stack) m.store shared.mem).program (Fri n (loop_sign row.type) row.end) row.turns.turn row.turns.enter
+            at_step ctx stepped (shared_stored ctx s m shared row.turns.stepped (word_of step ∷ m.stack) m.store shared.mem).program (Fri n (loop_sign row.type) row.end) row.turns.turn row.turns.enter
             ∙ ap (λ (st : List ℕ). on_three stepped (word_of step ∷ st) (loop_row own at (loop_sign row.type) row.end row.turns.turn stepped)) row.stack_is
             ∙ yes _ _ _ (and_from _ _ (sign_small row.type) (ap not (step_some step row.turns.round.is_step)))
             ∙ ap (λ (u : ℕ). begun_row own at row.end row.turns.turn stepped (word_of first) (word_of step) [] (after_first u)) (turns_read row.type first row.limit step first_in limit_in row.turns.round.is_step ∙ e)
 
-        by_left : (u : ℕ) → turns first row.limit step ≡ u → Goes modules l table own number h s (Perform (Turns (Variable x kind) first step u body) ∷ k) m (c + 32)
+        by_left : (u : ℕ) → turns first row.limit step ≡ u → Goes ctx s (Perform (Turns (Variable x kind) first step u body) ∷ k) m (c + 32)
         by_left zero e =
-            goes_after modules l table own number h s (Perform (Turns (Variable x kind) first step zero body) ∷ k) m stepped (c + 32) (c + 31) pushed
-            (goes_one modules l table own number h s (Perform (Turns (Variable x kind) first step zero body) ∷ k) stepped (c + 31) c (running (going m row.end []) s.world)
+            goes_after ctx s (Perform (Turns (Variable x kind) first step zero body) ∷ k) m stepped (c + 32) (c + 31) pushed
+            (goes_one ctx s (Perform (Turns (Variable x kind) first step zero body) ∷ k) stepped (c + 31) c (running (going m row.end []) s.world)
             (advances stepped s.world _ (enters zero e ∙ yes _ _ _ (lt-ltb row.end (length own.code) row.within)))
-            (lands_on modules l table own number h s m shared k row.end [] c a loops (rows_ahead modules l table own number h k row.end [] c a row.then))
+            (lands_on ctx s m shared k row.end [] c a loops (rows_ahead ctx k row.end [] c a row.then))
             (omega arith))
             (omega arith)
         by_left (suc u) e =
@@ -375,16 +353,16 @@ module _ (modules : List Resolved) (l : Layout) (table : List Module) (own : Mod
             let first_second : at ≡ at + 1 → ⊥ = λ d. omega (arith, d) in
             let first_third : at ≡ at + 2 → ⊥ = λ d. omega (arith, d) in
             let second_third : at + 1 ≡ at + 2 → ⊥ = λ d. omega (arith, d) in
-            let kept : Kept l table own number h s m a.loops three =
-            keeps l table own number h s m a.loops two (n + 2) (at + 2) (word_of step) shared.frame (omega arith) (omega arith) (omega (arith, room))
-            (keeps l table own number h s m a.loops one (n + 1) (at + 1) u shared.frame (omega arith) (omega arith) (omega (arith, room))
-            (keeps l table own number h s m a.loops m.store n at (word_of first) shared.frame refl (omega arith) (omega (arith, room))
+            let kept : Kept ctx s m a.loops three =
+            keeps ctx s m a.loops two (n + 2) (at + 2) (word_of step) shared.frame (omega arith) (omega arith) (omega (arith, room))
+            (keeps ctx s m a.loops one (n + 1) (at + 1) u shared.frame (omega arith) (omega arith) (omega (arith, room))
+            (keeps ctx s m a.loops m.store n at (word_of first) shared.frame refl (omega arith) (omega (arith, room))
             (record { mem = shared.mem; loops = loops }))) in
             let few = turns_few row.type first row.limit step u first_in limit_in e in
-            goes_after modules l table own number h s (Perform (Turns (Variable x kind) first step (suc u) body) ∷ k) m stepped (c + 32) (c + 31) pushed
-            (goes_after modules l table own number h s (Perform (Turns (Variable x kind) first step (suc u) body) ∷ k) stepped begun (c + 31) (c + 28)
+            goes_after ctx s (Perform (Turns (Variable x kind) first step (suc u) body) ∷ k) m stepped (c + 32) (c + 31) pushed
+            (goes_after ctx s (Perform (Turns (Variable x kind) first step (suc u) body) ∷ k) stepped begun (c + 31) (c + 28)
             (advances stepped s.world _ (enters (suc u) e ∙ yes _ _ _ (lt-ltb (at + 2) 65536 deep)))
-            (turn_goes s k begun c a (shared_stored l table own number h s m shared row.turns.turn [] three kept.mem) x kind row.type row.is first step u body (
+            (turn_goes s k begun c a (shared_stored ctx s m shared row.turns.turn [] three kept.mem) x kind row.type row.is first step u body (
               room,
               get_or-set_other two (at + 2) at (word_of step) 0 first_third ∙ get_or-set_other one (at + 1) at u 0 first_second ∙ get_or-set_same m.store at (word_of first) 0 (omega (arith, deep, shared.mem.long)),
               get_or-set_other two (at + 2) (at + 1) (word_of step) 0 second_third ∙ get_or-set_same one (at + 1) u 0 (omega (arith, deep, long_one)),
@@ -398,8 +376,8 @@ module _ (modules : List Resolved) (l : Layout) (table : List Module) (own : Mod
             (omega arith))
             (omega arith)
 
-    pub next_goes : (x : ℕ) (kind : Kind) (z step : ℤ) (left : ℕ) (body : Statements) → NextRow l table own number x kind z step left body Left Quiet m.place m.stack c a
-        → Goes modules l table own number h s (Perform (Turns (Variable x kind) z step left body) ∷ k) m (c + 32)
+    pub next_goes : (x : ℕ) (kind : Kind) (z step : ℤ) (left : ℕ) (body : Statements) → NextRow ctx x kind z step left body Left Quiet m.place m.stack c a
+        → Goes ctx s (Perform (Turns (Variable x kind) z step left body) ∷ k) m (c + 32)
     next_goes x kind z step left body row = by_left left row.left_is row.fit row.small
       where
         n : ℕ
@@ -414,23 +392,23 @@ module _ (modules : List Resolved) (l : Layout) (table : List Module) (own : Mod
         deep : m.frame + loop_place (length row.outer.loops) + 2 < 65536
         deep = omega (arith, shared.frame.room, room)
 
-        inner : HasLoops l table own number h m.frame m.store (row.words ∷ row.outer.loops)
-        inner = subst (λ (b : Around). HasLoops l table own number h m.frame m.store b.loops) row.around loops
+        inner : HasLoops ctx m.frame m.store (row.words ∷ row.outer.loops)
+        inner = subst (λ (b : Around). HasLoops ctx m.frame m.store b.loops) row.around loops
 
         again : (u : ℕ) → row.words.left ≡ u → mstep m ≡ turn_row own (m.frame + loop_place (length row.outer.loops)) row.turn row.end m row.words.now u (word_of step)
         again u e =
-            at_step modules l table own number h m shared.program (Frn n row.turn) row.end (subst (λ (p : ℕ). IsAt own.code p (Frn n row.turn) row.end) (sym row.at) row.round.next)
+            at_step ctx m shared.program (Frn n row.turn) row.end (subst (λ (p : ℕ). IsAt own.code p (Frn n row.turn) row.end) (sym row.at) row.round.next)
             ∙ yes _ _ _ (lt-ltb (at + 1) 65536 (omega (arith, deep)))
             ∙ ap (λ (w : ℕ). turn_row own at row.turn row.end m w (get_or m.store (at + 1) 0) (get_or m.store (at + 2) 0)) inner.1
             ∙ ap (λ (w : ℕ). turn_row own at row.turn row.end m row.words.now w (get_or m.store (at + 2) 0)) (inner.2 ∙ e)
             ∙ ap (λ (w : ℕ). turn_row own at row.turn row.end m row.words.now u w) (inner.3 ∙ row.step_is)
 
-        by_left : (u : ℕ) → row.words.left ≡ u → TurnsFit kind z step u → u < 65536 → Goes modules l table own number h s (Perform (Turns (Variable x kind) z step u body) ∷ k) m (c + 32)
+        by_left : (u : ℕ) → row.words.left ≡ u → TurnsFit kind z step u → u < 65536 → Goes ctx s (Perform (Turns (Variable x kind) z step u body) ∷ k) m (c + 32)
         by_left zero e fit small =
-            goes_one modules l table own number h s (Perform (Turns (Variable x kind) z step zero body) ∷ k) m (c + 32) c (running (going m row.end m.stack) s.world)
+            goes_one ctx s (Perform (Turns (Variable x kind) z step zero body) ∷ k) m (c + 32) c (running (going m row.end m.stack) s.world)
             (advances m s.world _ (again zero e))
-            (lands_on modules l table own number h s m shared k row.end m.stack c row.outer inner.4
-            (rows_ahead modules l table own number h k row.end m.stack c row.outer
+            (lands_on ctx s m shared k row.end m.stack c row.outer inner.4
+            (rows_ahead ctx k row.end m.stack c row.outer
             (subst (λ (st : List ℕ). Left Quiet row.end st c row.outer) (sym row.empty) row.then)))
             (omega arith)
         by_left (suc u) e fit small =
@@ -445,11 +423,11 @@ module _ (modules : List Resolved) (l : Layout) (table : List Module) (own : Mod
             let second_first : at + 1 ≡ at → ⊥ = λ d. omega (arith, d) in
             let third_first : at + 2 ≡ at → ⊥ = λ d. omega (arith, d) in
             let third_second : at + 2 ≡ at + 1 → ⊥ = λ d. omega (arith, d) in
-            let kept : Kept l table own number h s m row.outer.loops two =
-            keeps l table own number h s m row.outer.loops one n at (word_of z) shared.frame refl (omega arith) (omega (arith, room))
-            (keeps l table own number h s m row.outer.loops m.store (n + 1) (at + 1) u shared.frame (omega arith) (omega arith) (omega (arith, room))
+            let kept : Kept ctx s m row.outer.loops two =
+            keeps ctx s m row.outer.loops one n at (word_of z) shared.frame refl (omega arith) (omega (arith, room))
+            (keeps ctx s m row.outer.loops m.store (n + 1) (at + 1) u shared.frame (omega arith) (omega arith) (omega (arith, room))
             (record { mem = shared.mem; loops = inner.4 })) in
-            goes_after modules l table own number h s (Perform (Turns (Variable x kind) z step (suc u) body) ∷ k) m turning (c + 32) (c + 28)
+            goes_after ctx s (Perform (Turns (Variable x kind) z step (suc u) body) ∷ k) m turning (c + 32) (c + 28)
             (advances m s.world _ (
             again (suc u) e
             ∙ no _ _ _ (ne_eqb (suc u) 0 (λ d. omega (arith, d)))
@@ -458,7 +436,7 @@ module _ (modules : List Resolved) (l : Layout) (table : List Module) (own : Mod
             ∙ ap (λ (st : List ℕ). let r : Event × State = (Went, record m { place = row.turn; store = st }) in r)
             (ap (λ (w : ℕ). set (set m.store (at + 1) w) at ((row.words.now + word_of step) % 65536)) fewer ∙ ap (set one at) sum)
             ))
-            (turn_goes s k turning c row.outer (shared_stored l table own number h s m shared row.turn m.stack two kept.mem) x kind row.type row.is z step u body (
+            (turn_goes s k turning c row.outer (shared_stored ctx s m shared row.turn m.stack two kept.mem) x kind row.type row.is z step u body (
               room,
               get_or-set_same one at (word_of z) 0 (omega (arith, deep, long_one)),
               get_or-set_other one at (at + 1) (word_of z) 0 second_first ∙ get_or-set_same m.store (at + 1) u 0 (omega (arith, deep, shared.mem.long)),

@@ -182,23 +182,12 @@ module _ (own : Module) (m : State) (below : List ℕ) (u v : Scalar) (is : m.st
 
 -- an operator on two values has one or two instructions
 pub two_length : (o : TwoOp) (k : Kind) → takes_two o k ≡ true → (0 < length (two_code o k)) × (length (two_code o k) ≤ 2)
-two_length Equal k takes = (omega arith, omega arith)
-two_length Unequal k takes = (omega arith, omega arith)
-two_length Less k takes = (omega arith, omega arith)
-two_length AtMost k takes = (omega arith, omega arith)
-two_length Greater k takes = (omega arith, omega arith)
-two_length AtLeast k takes = (omega arith, omega arith)
 two_length Plus (OfWhole Cardinal) takes = (omega arith, omega arith)
-two_length Plus (OfWhole Integer) takes = (omega arith, omega arith)
 two_length Minus (OfWhole Cardinal) takes = (omega arith, omega arith)
-two_length Minus (OfWhole Integer) takes = (omega arith, omega arith)
 two_length Times (OfWhole Cardinal) takes = (omega arith, omega arith)
-two_length Times (OfWhole Integer) takes = (omega arith, omega arith)
 two_length Div (OfWhole Cardinal) takes = (omega arith, omega arith)
-two_length Div (OfWhole Integer) takes = (omega arith, omega arith)
 two_length Mod (OfWhole Cardinal) takes = (omega arith, omega arith)
-two_length Mod (OfWhole Integer) takes = (omega arith, omega arith)
-two_length o k takes = cc
+two_length _ _ takes = (first_of (omega arith, cc), first_of (omega arith, cc))
 
 -- what an operator gives is a value of its kind
 pub one_fits : (o : OneOp) (k : Kind) (v : Scalar) → takes_one o k ≡ true → within k v ≡ true → Fits k (one_applied o k v)
@@ -208,18 +197,12 @@ one_fits one.Not OfTruth v takes fits = refl
 one_fits o k v takes fits = cc
 
 pub two_fits : (o : TwoOp) (k : Kind) (u v : Scalar) → takes_two o k ≡ true → Fits (result_kind (is_relation o) k) (applied o k u v)
-two_fits Equal k u v takes = refl
-two_fits Unequal k u v takes = refl
-two_fits Less k u v takes = refl
-two_fits AtMost k u v takes = refl
-two_fits Greater k u v takes = refl
-two_fits AtLeast k u v takes = refl
 two_fits Plus (OfWhole t) u v takes = outcome_fits t _ (sum_fits t (whole_of u) (whole_of v))
 two_fits Minus (OfWhole t) u v takes = outcome_fits t _ (difference_fits t (whole_of u) (whole_of v))
 two_fits Times (OfWhole t) u v takes = outcome_fits t _ (product_fits t (whole_of u) (whole_of v))
 two_fits Div (OfWhole t) u v takes = outcome_fits t _ (quotient_fits t (whole_of u) (whole_of v))
 two_fits Mod (OfWhole t) u v takes = outcome_fits t _ (remainder_fits t (whole_of u) (whole_of v))
-two_fits o k u v takes = cc
+two_fits _ k u v takes = cc
 
 pub chr_value_fits : (v : Scalar) → Fits OfCharacter (function_value Chr v)
 chr_value_fits v = by (between (pos 0) (whole_of v) (pos 255)) refl

@@ -1,10 +1,10 @@
 -- Where parts stand: behind their start, and within the code.
 use Rattle.std.proofs.Common.{ℕ, ◌<◌, ◌≤◌, List, [], ◌∷◌, length, Option, Some, arith}
-use Rattle.lil_tree.specs.Resolved.{Variable, Abs, Cap, Chr, Odd, Ord, Val, Expression, Constant, Taken, One, Two, Both, Either, Apply, Argument, Statement, Assign, Request, If, Case, While, Repeat, Loop, Exit, For, Statements, Empty, Then}
+use Rattle.lil_tree.specs.Resolved.{Variable, Chr, Expression, Constant, Taken, One, Two, Short, Apply, Argument, Statement, Assign, Request, If, Case, While, Repeat, Loop, Exit, For, Statements, Empty, Then}
 use Rattle.lil_mcode.specs.declared.instr.Instr.{Instr}
-use Rattle.lil_mcode.specs.declared.instr.Instr.TheVariants.{Rgc, Jmp, Jan, Jor, Svc}
+use Rattle.lil_mcode.specs.declared.instr.Instr.TheVariants.{Rgc, Jmp, Svc}
 use Rattle.lil_mcode.proofs.Decoding.{decoded_stands}
-use Rattle.lil_session.specs.Rows.{Layout, IsAt, InstrsAt, one_code, two_code, ExpressionAt, ArgumentsAt, StatementAt, BodyAt}
+use Rattle.lil_session.specs.Rows.{Layout, IsAt, InstrsAt, one_code, two_code, ExpressionAt, ArgumentsAt, StatementAt, BodyAt, short_code}
 
 pub instr_order : (code : List ℕ) (p : ℕ) (i : Instr) (q : ℕ) → IsAt code p i q → (p < q) × (q ≤ length code)
 instr_order code p i q h =
@@ -36,20 +36,12 @@ expression_stands l code (Two o k a b) p q h =
     let second = expression_stands l code b h.middle h.last h.second in
     let by = instrs_order code (two_code o k) h.last q h.by second.1 in
     (omega (arith, first.0, second.0, by.0), by.1)
-expression_stands l code (Both a b) p q h =
-    let first = behind code p h.middle (Jan q) h.start (expression_stands l code a p h.middle h.first) h.test in
-    let second = expression_stands l code b h.start q h.second in
-    (omega (arith, first.0, second.0), second.1)
-expression_stands l code (Either a b) p q h =
-    let first = behind code p h.middle (Jor q) h.start (expression_stands l code a p h.middle h.first) h.test in
+expression_stands l code (Short d a b) p q h =
+    let first = behind code p h.middle (short_code d q) h.start (expression_stands l code a p h.middle h.first) h.test in
     let second = expression_stands l code b h.start q h.second in
     (omega (arith, first.0, second.0), second.1)
 expression_stands l code (Apply Chr a) p q h = behind code p h.middle (Rgc 0 255) q (expression_stands l code a p h.middle h.first) h.test
-expression_stands l code (Apply (Abs t) a) p q h = absurd h
-expression_stands l code (Apply Cap a) p q h = absurd h
-expression_stands l code (Apply Odd a) p q h = absurd h
-expression_stands l code (Apply Ord a) p q h = absurd h
-expression_stands l code (Apply (Val k) a) p q h = absurd h
+expression_stands l code _ p q h = absurd h
 
 pub expression_order : (l : Layout) (code : List ℕ) (e : Expression) (p q : ℕ) → ExpressionAt l code e p q → p < q
 expression_order l code e p q h = (expression_stands l code e p q h).0

@@ -4,10 +4,10 @@ use Rattle.std.specs.Prelude.{pos, slice_get, nat_lt, nat_le}
 use Rattle.std.proofs.lemmas.Bool.{le-leb, le-ltb, lt-ltb, ltb-true}
 use Rattle.std.proofs.lemmas.Int.{ints}
 use Rattle.std.proofs.lemmas.Option.{slice_get_within}
-use Rattle.lil_base.specs.Words.{Cardinal, Integer, between}
-use Rattle.lil_tree.specs.Kinds.{Kind, OfWhole, OfTruth, OfCharacter, OfEnumeration, OfRange, base_of}
+use Rattle.lil_base.specs.Words.{Cardinal, between}
+use Rattle.lil_tree.specs.Kinds.{Kind, OfWhole, OfEnumeration, OfRange, base_of}
 use Rattle.lil_tree.specs.Scalars.{within, scalar_word, zero_of}
-use Rattle.lil_tree.specs.Resolved.{Statement, Assign, Request, If, Case, While, Repeat, Loop, Exit, For, Statements, Empty, Then, Arms, NoElse, Else, Arm, Resolved}
+use Rattle.lil_tree.specs.Resolved.{Statement, Assign, If, Case, While, Repeat, Loop, For, Statements, Empty, Then, Arms, NoElse, Else, Arm, Resolved}
 use Rattle.lil_meaning.specs.Cells.{Root, Global, Local, Object, zero_by, fresh_cells}
 use Rattle.lil_meaning.specs.World.{World}
 use Rattle.lil_meaning.specs.Items.{Perform, End, doing}
@@ -21,8 +21,8 @@ use Rattle.lil_session.specs.Rows.{offsets_from, layout_of, Translates}
 use Rattle.lil_session.specs.Running.{Run, mrun, running, advanced}
 use Rattle.lil_session.specs.Loaded.{body_alone, loaded}
 use Rattle.lil_session.specs.Outcome.{state_of}
-use Rattle.lil_session.proofs.Homes.{yes, no, Type', Absent, Word, Owner, Of, Own, Free, Home, Mem}
-use Rattle.lil_session.proofs.Matched.{Quiet, Around, Ahead, Shared}
+use Rattle.lil_session.proofs.Homes.{word_for, plain_word, yes, no, Type', Absent, Word, Owner, Of, Own, Free, Home, Mem}
+use Rattle.lil_session.proofs.Matched.{Setting, Quiet, Around, Ahead, Shared}
 use Rattle.lil_session.proofs.Steps.{advances, at_once, rows_ahead}
 use Rattle.lil_session.proofs.Orders.{instr_within}
 use Rattle.lil_session.proofs.Control.{body_rows}
@@ -64,42 +64,33 @@ pub record Lives (kinds : List Kind) (r : Root) (k : Kind) : Type 0 where
   pub typed : slice_get kinds x ≡ Some k
 
 lives : (kinds : List Kind) (r : Root) (k : Kind) → type_of kinds r ≡ Word k → Lives kinds r k
-lives kinds (Global zero x) k e = cc
 lives kinds (Global (suc zero) x) k e = record { x = x; is = refl; typed = typed_some (slice_get kinds x) k e }
-lives kinds (Global (suc (suc m)) x) k e = cc
-lives kinds (Local a x) k e = cc
-lives kinds (Object o) k e = cc
+lives kinds _ k e = cc
 
 zero_word : (k : Kind) → scalar_word (zero_of k) ≡ 0
-zero_word (OfWhole t) = refl
-zero_word OfTruth = refl
-zero_word OfCharacter = refl
-zero_word (OfEnumeration n) = refl
 zero_word (OfRange k low high) = zero_word k
+zero_word _ = refl
 
 zero_constant : (n : ℕ) → between (pos 0) (pos 0) (pos n) ≡ true
 zero_constant n = grind (arith, ints)
 
 zero_fits : (k : Kind) → within (base_of k) (zero_of k) ≡ true
 zero_fits (OfWhole Cardinal) = refl
-zero_fits (OfWhole Integer) = refl
-zero_fits OfTruth = refl
-zero_fits OfCharacter = refl
 zero_fits (OfEnumeration n) = zero_constant (n - 1)
 zero_fits (OfRange k low high) = zero_fits k
+zero_fits _ = refl
 
 -- the words of the FORs are fewer than the bytes of the code
 mutual
   statement_small : (s : Statement) → 3 * statement_loops s ≤ statement_size s
   statement_small (Assign d e) = omega arith
-  statement_small (Request r given) = omega arith
   statement_small (If c a b) = omega (arith, body_small a, body_small b)
   statement_small (Case e arms) = omega (arith, arms_small arms)
   statement_small (While c body) = omega (arith, body_small body)
   statement_small (Repeat body c) = omega (arith, body_small body)
   statement_small (Loop body) = omega (arith, body_small body)
-  statement_small Exit = omega arith
   statement_small (For d a b step body) = omega (arith, body_small body)
+  statement_small _ = omega arith
 
   body_small : (b : Statements) → 3 * body_loops b ≤ body_size b
   body_small Empty = omega arith
@@ -182,7 +173,7 @@ module _ (p : Resolved) (code : List ℕ) (small : IsSmall p) (t : Translates p 
       ∙ zeros_word (1 + count - 1) x (omega (arith, less))
 
   home : Home
-  home = record { base = place_of; type = type_of p.variables; owner = owner_at count; shadow = λ a. get_or store a 0 }
+  home = record { base = place_of; type = type_of p.variables; owner = owner_at count; shadow = λ a. get_or store a 0; reference = λ o. 0 }
 
   owner_data : (x : ℕ) → x < count → owner_at count (1 + x) ≡ Of (Global 1 x)
   owner_data x less =
@@ -229,7 +220,7 @@ module _ (p : Resolved) (code : List ℕ) (small : IsSmall p) (t : Translates p 
         let less : a.x < count = slice_get_within p.variables a.x k a.typed in
         let cell : fresh_cells (p ∷ []) r [] ≡ zero_of k = ap (λ (z : Root). fresh_cells (p ∷ []) z []) a.is ∙ ap zero_by a.typed in
         record {
-          word = ap (λ (z : Root). get_or entered (place_of z) 0) a.is ∙ entered_before (1 + a.x) (omega (arith, less)) ∙ data_zero a.x less ∙ sym (zero_word k) ∙ ap scalar_word (sym cell);
+          word = ap (λ (z : Root). get_or entered (place_of z) 0) a.is ∙ entered_before (1 + a.x) (omega (arith, less)) ∙ data_zero a.x less ∙ sym (zero_word k) ∙ sym (plain_word home (base_of k) (zero_of k) (zero_fits k)) ∙ ap (word_for home) (sym cell);
           fits = ap (within (base_of k)) cell ∙ zero_fits k;
         };
     kept = λ a e. entered_before a (own_low a e);
@@ -242,7 +233,10 @@ module _ (p : Resolved) (code : List ℕ) (small : IsSmall p) (t : Translates p 
       ∙ no (nat_lt (1 + count + i) (1 + count)) _ _ (le-ltb (1 + count + i) (1 + count) (omega arith))
       ∙ no (nat_lt (1 + count + i) (5 + count)) _ _ (le-ltb (1 + count + i) (5 + count) (omega (arith, high)))
 
-  shared : (w : World) → Shared (layout_of p) table own 1 home (begun (p ∷ []) w) (entered_at t.start)
+  abbrev ctx : Setting
+  ctx = record { modules = p ∷ []; layout = layout_of p; table = table; own = own; number = 1; home = home }
+
+  shared : (w : World) → Shared ctx (begun (p ∷ []) w) (entered_at t.start)
   unfolding home
   shared w = record {
     mem = mem;
@@ -272,11 +266,11 @@ module _ (p : Resolved) (code : List ℕ) (small : IsSmall p) (t : Translates p 
   abbrev outside : Around
   outside = record { exit = None; loops = [] }
 
-  ahead : Ahead (layout_of p) table own 1 home (doing p.body (Perform (End 0) ∷ [])) Quiet t.start [] 0 outside
+  ahead : Ahead ctx (doing p.body (Perform (End 0) ∷ [])) Quiet t.start [] 0 outside
   ahead =
-      rows_ahead (p ∷ []) (layout_of p) table own 1 home (doing p.body (Perform (End 0) ∷ [])) t.start [] 0 outside
-      (body_rows (p ∷ []) (layout_of p) table own 1 home p.body (Perform (End 0) ∷ []) t.start t.end 0 outside t.body (instr_within code t.end Rtn (length code) t.leave)
-      (at_once (p ∷ []) (layout_of p) table own 1 home _ Quiet t.end [] 0 outside
+      rows_ahead ctx (doing p.body (Perform (End 0) ∷ [])) t.start [] 0 outside
+      (body_rows ctx p.body (Perform (End 0) ∷ []) t.start t.end 0 outside t.body (instr_within code t.end Rtn (length code) t.leave)
+      (at_once ctx _ Quiet t.end [] 0 outside
       (record { quiet = refl; empty = refl; activation = refl; last = refl; alone = refl; end = length code; leave = t.leave })))
 
   -- after any number of steps the run of a loaded program agrees with some state of the meaning
@@ -288,7 +282,7 @@ module _ (p : Resolved) (code : List ℕ) (small : IsSmall p) (t : Translates p 
   pub correct : (w : World) (steps : ℕ) → Correct w steps
   correct w zero = record { n = 0; agrees = still_agrees p.name (begun (p ∷ []) w) (doing p.body (Perform (End 0) ∷ [])) (running (begun_at 0) w) (record { world = refl; finish = refl }); far = omega arith }
   correct w (suc steps) =
-      let f = follows (p ∷ []) (layout_of p) table own 1 home (begun (p ∷ []) w) (doing p.body (Perform (End 0) ∷ [])) (entered_at t.start) steps 0 outside (shared w) tt ahead in
+      let f = follows ctx (begun (p ∷ []) w) (doing p.body (Perform (End 0) ∷ [])) (entered_at t.start) steps 0 outside (shared w) tt ahead in
       record {
         n = f.n;
         agrees = subst (λ (r : Run). Agrees p.name (state_of p w f.n) (mrun steps r)) (sym (enters w)) f.agrees;

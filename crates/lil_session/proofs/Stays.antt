@@ -3,7 +3,7 @@ use Rattle.std.proofs.Common.{◌≡◌, ◌⊎◌, inl, inr, ℕ, zero, suc, �
 use Rattle.std.proofs.lemmas.Bool.{cases_lt}
 use Rattle.lil_tree.specs.Resolved.{Resolved}
 use Rattle.lil_meaning.specs.World.{World}
-use Rattle.lil_meaning.specs.Items.{Phase, Going, Closing, Ended, Trapped, Source}
+use Rattle.lil_meaning.specs.Items.{Phase, Ended, Trapped, Source}
 use Rattle.lil_meaning.specs.Steps.{by_phase, next}
 use Rattle.lil_meaning.specs.Runs.{begun, after, src}
 use Rattle.lil_session.specs.declared.status.Status.{Status}
@@ -18,16 +18,14 @@ after_sum modules zero k s = ap (λ (i : ℕ). after modules i s) (zero-add k)
 after_sum modules (suc n) k s = ap (λ (i : ℕ). after modules i s) (suc-add n k) ∙ after_sum modules n k (next modules s)
 
 still_at : (modules : List Resolved) (s : Source) (e : Phase) (answer : Status) → s.phase ≡ e → EndsSo e answer → next modules s ≡ s
-still_at modules s Going answer is ends = absurd ends
-still_at modules s (Closing t) answer is ends = absurd ends
 still_at modules s Ended answer is ends = ap (λ (e : Phase). by_phase modules e s) is
 still_at modules s (Trapped t) answer is ends = ap (λ (e : Phase). by_phase modules e s) is
+still_at modules s _ answer is ends = absurd ends
 
 same_end : (e : Phase) (x y : Status) → EndsSo e x → EndsSo e y → x ≡ y
-same_end Going x y one other = absurd one
-same_end (Closing t) x y one other = absurd one
 same_end Ended x y one other = one ∙ sym other
 same_end (Trapped t) x y one other = one ∙ sym other
+same_end _ x y one other = absurd one
 
 later_end : (modules : List Resolved) (w : World) (n k : ℕ) (x y : Status) → EndsSo (src modules w n).phase x → EndsSo (src modules w (n + k)).phase y → x ≡ y
 later_end modules w n k x y one other =

@@ -18,21 +18,12 @@ use Rattle.lil_session.proofs.Agree.{answers_agree}
 use Rattle.lil_session.proofs.Counting.{ran_settled, ran_memory}
 
 settled_stays : (s : Status) → settled s ≡ true → gives_way s ≡ false
-settled_stays a.Done is = refl
-settled_stays a.Usage is = refl
-settled_stays (a.NoFile n) is = refl
-settled_stays (a.SourceFault f) is = refl
-settled_stays (a.LoadRefused r) is = refl
-settled_stays (a.Trapped t) is = refl
-settled_stays (a.Limit k) is = refl
-settled_stays a.StepsSpent is = refl
 settled_stays a.VolumeFault is = cc
 settled_stays a.KeyFault is = cc
 settled_stays a.ScreenFault is = cc
 settled_stays a.ChannelFault is = cc
-settled_stays a.ReportFault is = refl
 settled_stays a.Memory is = cc
-settled_stays (a.BadCode p) is = refl
+settled_stays _ is = refl
 
 -- a settled answer is the one whose lines were written
 pub inner_settled : {call : Call} {result : Status} → (told : Told call result) → settled result ≡ true → (result ≡ told.inner) × (gives_way told.inner ≡ false)
@@ -169,16 +160,7 @@ run_answers (a.Trapped t) kind = tt
 run_answers a.ScreenFault kind = tt
 run_answers a.Memory kind = tt
 run_answers a.StepsSpent kind = tt
-run_answers a.Usage kind = absurd kind
-run_answers (a.NoFile n) kind = absurd kind
-run_answers (a.SourceFault f) kind = absurd kind
-run_answers (a.LoadRefused r) kind = absurd kind
-run_answers (a.Limit k) kind = absurd kind
-run_answers a.VolumeFault kind = absurd kind
-run_answers a.KeyFault kind = absurd kind
-run_answers a.ChannelFault kind = absurd kind
-run_answers a.ReportFault kind = absurd kind
-run_answers (a.BadCode p) kind = absurd kind
+run_answers _ kind = absurd kind
 
 inner_answers : {call : Call} {result : Status} → (told : Told call result) → IsAnswer told.inner
 inner_answers {call} told = inner told.ran.no_refusal

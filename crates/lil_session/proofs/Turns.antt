@@ -1,12 +1,18 @@
 -- A run, step by step.
-use Rattle.std.proofs.Common.{◌≡◌, ◌≢◌, ℕ, suc, ◌+◌, ◌-◌, ◌<◌, Option, Some, None, Result, Ok, Err, OnErr, List, [], ◌++◌, refl, sym, ap, ◌∙◌, subst, arith}
+use Rattle.std.proofs.Common.{◌≡◌, ◌≢◌, ℕ, zero, suc, ◌+◌, ◌-◌, ◌<◌, option_and_then, Option, Some, None, Result, Ok, Err, OnErr, List, [], ◌++◌, refl, sym, ap, ◌∙◌, subst, arith}
 use Rattle.lil_meaning.specs.World.{World}
 use Rattle.lil_volume.specs.Told.{followed_by, FollowedByPrefix}
 use Rattle.lil_volume.proofs.Laws.{followed_twice, followed_nothing}
 use Rattle.lil_mcode.specs.State.{State}
+use Rattle.lil_mcode.specs.Table.{mstep}
+use Rattle.lil_mcode.specs.Going.{went, next, gone, Ran}
+use Rattle.lil_mcode.specs.declared.machine.Event.{Event}
+use Rattle.lil_mcode.specs.declared.machine.Event.TheVariants.{Went, Request, LevelEnded, Trap, Limit, BadCode}
 use Rattle.lil_session.specs.declared.run.Ending.{Ending}
 use Rattle.lil_session.specs.declared.run.Ending.TheVariants as ending
-use Rattle.lil_session.specs.Running.{Finish, Running, Run, mrun, running, advanced, finish_of, finish_by, IsStep, IsRefused, HasRun, IsCut}
+use Rattle.lil_session.specs.Running.{Finish, Running, Run, mrun, running, advanced, finish_of, finish_by, IsStep, IsRefused, HasRun, IsCut, IsAlone}
+use Rattle.lil_session.proofs.Steps.{advances}
+use Rattle.lil_session.proofs.Advancing.{moves_at}
 use Rattle.lil_session.proofs.Whole.{mrun_add, run_rests, run_over}
 
 pub on_err : {T E P : Type 0} (r : Result T E) → P → OnErr r P
@@ -72,11 +78,8 @@ run_cut from s k steps old mid new w less come refused =
     }
 
 pub ending_over : (e : Ending) → Some e ≢ Some ending.Spent → finish_of e ≢ Running
-ending_over ending.Done d = λ f. cc
-ending_over (ending.Trapped k) d = λ f. cc
-ending_over (ending.Limited k) d = λ f. cc
-ending_over ending.Broken d = λ f. cc
 ending_over ending.Spent d = λ f. d refl
+ending_over _ d = λ f. cc
 
 -- what is said of an optional ending, at the one that it is
 pub ap_some : (o : Option Ending) (e : Ending) → o ≡ Some e → o ≢ Some ending.Spent → Some e ≢ Some ending.Spent
@@ -91,3 +94,59 @@ step_goes o is s t old new step w = subst (λ (x : Option Ending). IsStep s t (f
 pub is_none : {A : Type 0} (o : Option A) → ((x : A) → o ≢ Some x) → o ≡ None
 is_none None h = refl
 is_none (Some x) h = absurd (h x refl)
+
+-- steps that only go on, in any world
+
+went_is : (e : Event) (t u : State) → went e t ≡ Some u → ◌≡◌ {A = Event × State} (e, t) (Went, u)
+went_is Went t u h = cc
+went_is (Request r) t u h = cc
+went_is LevelEnded t u h = cc
+went_is (Trap k) t u h = cc
+went_is (Limit k) t u h = cc
+went_is BadCode t u h = cc
+
+goes_on : (s : State) (o : Option State) (u : State) → option_and_then next o ≡ Some u → (t : State) × (o ≡ Some t) × (mstep t ≡ (Went, u))
+goes_on s None u h = cc
+goes_on s (Some t) u h = (t, refl, went_is (mstep t).0 (mstep t).1 u h)
+
+some_is : (s u : State) → Some s ≡ Some u → s ≡ u
+some_is s u h = cc
+
+gone_runs : (n : ℕ) (s u : State) (w : World) → gone n s ≡ Some u → mrun n (running s w) ≡ running u w
+gone_runs zero s u w h = ap (λ (x : State). running x w) (some_is s u h)
+gone_runs (suc n) s u w h =
+    let x = goes_on s (gone n s) u h in
+    let e : suc n ≡ n + 1 = omega arith in
+    ap (λ (k : ℕ). mrun k (running s w)) e ∙ turned s x.0 n w w (running u w) (gone_runs n s x.0 w x.1) (advances x.0 w (Went, u) x.2)
+
+pub come_gone : (from s u : State) (k n : ℕ) (old mid : Option (List ℕ)) (w : World) → Come from s k old mid w → gone n s ≡ Some u → Come from u (k + n) old mid w
+come_gone from s u k n old mid w come h = (
+  come.0,
+  mrun_add k (k + n) n (running from w) refl ∙ ap (mrun n) come.1 ∙ gone_runs n s u come.0 h,
+  come.2,
+)
+
+pub record Stays (s u : State) : Type 0 where
+  pub alone : IsAlone u
+  pub modules : u.modules ≡ s.modules
+  pub running : u.running ≡ s.running
+
+pub gone_stays : (n : ℕ) (s u : State) → IsAlone s → gone n s ≡ Some u → Stays s u
+gone_stays zero s u a h = subst (λ (x : State). Stays s x) (some_is s u h) (record { alone = a; modules = refl; running = refl })
+gone_stays (suc n) s u a h =
+    let x = goes_on s (gone n s) u h in
+    let before = gone_stays n s x.0 a x.1 in
+    let m = moves_at x.0 u Went before.alone x.2 in
+    record { alone = m.alone; modules = m.modules ∙ before.modules; running = m.running ∙ before.running }
+
+pub record RanMoves (s t : State) (at_module : ℕ) : Type 0 where
+  pub alone : IsAlone t
+  pub modules : t.modules ≡ s.modules
+  pub running : t.running ≡ s.running
+  pub at : at_module ≡ s.running
+
+pub ran_moves : (s : State) (n : ℕ) (e : Event) (t : State) (m p : ℕ) → IsAlone s → Ran s n e t m p → RanMoves s t m
+ran_moves s n e t m p a r =
+    let before = gone_stays r.others s r.before a r.came in
+    let moves = moves_at r.before t e before.alone r.last in
+    record { alone = moves.alone; modules = moves.modules ∙ before.modules; running = moves.running ∙ before.running; at = r.in_module ∙ before.running }

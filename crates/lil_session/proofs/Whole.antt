@@ -9,12 +9,10 @@ use Rattle.lil_meaning.specs.Cells.{loaded_at}
 use Rattle.lil_meaning.specs.Items.{Item, Phase, Going, Closing, Ended, Trapped, Source}
 use Rattle.lil_meaning.specs.Steps.{next, by_phase, name_of}
 use Rattle.lil_meaning.specs.Runs.{after}
-use Rattle.lil_mcode.specs.State.{Module, State}
+use Rattle.lil_mcode.specs.State.{State}
 use Rattle.lil_mcode.specs.Table.{mstep}
-use Rattle.lil_session.specs.Rows.{Layout}
 use Rattle.lil_session.specs.Running.{Finish, Running, Finished, TrappedBy, Limited, Broken, Run, mrun, running, react, advanced, unless_over}
-use Rattle.lil_session.proofs.Homes.{Home}
-use Rattle.lil_session.proofs.Matched.{Quiet, Around, Ahead, HasLoops, Shared, Lands, weight, IsStill, Goes}
+use Rattle.lil_session.proofs.Matched.{Setting, Quiet, Around, Ahead, HasLoops, Shared, Lands, weight, IsStill, Goes}
 use Rattle.lil_session.proofs.Each.{each_step}
 
 -- The run has the world of the source's state, and is over only where the source is, in the same way: a trap is in the body of a module.
@@ -37,10 +35,7 @@ run_rests (suc n) run e = ap (mrun n) e ∙ run_rests n run e
 
 pub run_over : (run : Run) (f : Finish) → run.finish ≡ f → f ≢ Running → advanced run ≡ run
 run_over run Running e d = absurd (d refl)
-run_over run Finished e d = ap (λ (f : Finish). unless_over f run (react (mstep run.machine).0 (mstep run.machine).1 run)) e
-run_over run (TrappedBy k) e d = ap (λ (f : Finish). unless_over f run (react (mstep run.machine).0 (mstep run.machine).1 run)) e
-run_over run (Limited k) e d = ap (λ (f : Finish). unless_over f run (react (mstep run.machine).0 (mstep run.machine).1 run)) e
-run_over run Broken e d = ap (λ (f : Finish). unless_over f run (react (mstep run.machine).0 (mstep run.machine).1 run)) e
+run_over run _ e d = ap (λ (f : Finish). unless_over f run (react (mstep run.machine).0 (mstep run.machine).1 run)) e
 
 pub source_rests : (modules : List Resolved) (n : ℕ) (s : Source) → next modules s ≡ s → after modules n s ≡ s
 source_rests modules zero s e = refl
@@ -88,7 +83,9 @@ trapped_agrees name s run t over f w named bare = record {
   never_broken = λ e. let r = f in cc;
 }
 
-module _ (modules : List Resolved) (l : Layout) (table : List Module) (own : Module) (number : ℕ) (h : Home) where
+module _ (ctx : Setting) where
+  open ctx use {modules, layout as l, table, own, number, home as h}
+
   abbrev pub Name : List ℕ
   Name = name_of (loaded_at modules number)
 
@@ -112,10 +109,10 @@ module _ (modules : List Resolved) (l : Layout) (table : List Module) (own : Mod
   -- what is claimed of so many steps, from each matched state whose items have a property
   abbrev Claim : ℕ → (List Item → Type 0) → Type 0
   Claim steps P =
-      (s : Source) (k : List Item) (m : State) (c : ℕ) (a : Around) → Shared l table own number h s m → HasLoops l table own number h m.frame m.store a.loops
-      → Ahead l table own number h k Quiet m.place m.stack c a → P k → Follows (record s { items = k; phase = Going }) (running m s.world) steps c
+      (s : Source) (k : List Item) (m : State) (c : ℕ) (a : Around) → Shared ctx s m → HasLoops ctx m.frame m.store a.loops
+      → Ahead ctx k Quiet m.place m.stack c a → P k → Follows (record s { items = k; phase = Going }) (running m s.world) steps c
 
-  landed : (steps : ℕ) (P : List Item → Type 0) → Claim steps P → (p : Phase) (s : Source) (run : Run) (c : ℕ) → s.phase ≡ p → Lands l table own number h modules p s run c → P s.items
+  landed : (steps : ℕ) (P : List Item → Type 0) → Claim steps P → (p : Phase) (s : Source) (run : Run) (c : ℕ) → s.phase ≡ p → Lands ctx p s run c → P s.items
       → Follows s run steps c
   landed steps P claim Going s run c e lands has =
       let same : record s { items = s.items; phase = Going } ≡ s = ap (λ (p : Phase). let t : Source = record s { phase = p } in t) (sym e) in
@@ -138,7 +135,7 @@ module _ (modules : List Resolved) (l : Layout) (table : List Module) (own : Mod
   abbrev At : Source → List Item → Source
   At s k = record s { items = k; phase = Going }
 
-  module _ (s : Source) (k : List Item) (m : State) (c : ℕ) (g : Goes modules l table own number h s k m (c + 32)) where
+  module _ (s : Source) (k : List Item) (m : State) (c : ℕ) (g : Goes ctx s k m (c + 32)) where
     -- fewer steps than those of this step of the source
     short : (steps : ℕ) → steps < g.steps → Follows (At s k) (running m s.world) steps c
     short steps less = record {
@@ -157,13 +154,13 @@ module _ (modules : List Resolved) (l : Layout) (table : List Module) (own : Mod
 
   -- one step of the source, and the rest by fewer steps or by less weight
   turn : (steps : ℕ) (s : Source) (k : List Item) (m : State) (c : ℕ) (a : Around) → ((rest : ℕ) → rest < steps → Claim rest (λ i. Unit {0})) → Claim steps (λ i. weight i < weight k)
-      → Shared l table own number h s m → HasLoops l table own number h m.frame m.store a.loops → Ahead l table own number h k Quiet m.place m.stack c a
+      → Shared ctx s m → HasLoops ctx m.frame m.store a.loops → Ahead ctx k Quiet m.place m.stack c a
       → Follows (At s k) (running m s.world) steps c
   turn steps s k m c a fewer lighter shared loops ahead =
       ⊎_elim (λ less. short s k m c g steps less) (λ more. ⊎_elim (λ some. by_step more some) (λ none. by_weight more none) (cases_lt 0 g.steps)) (cases_lt steps g.steps)
     where
-      g : Goes modules l table own number h s k m (c + 32)
-      g = each_step modules l table own number h s m c a shared loops k ahead
+      g : Goes ctx s k m (c + 32)
+      g = each_step ctx s m c a shared loops k ahead
 
       by_step : g.steps ≤ steps → 0 < g.steps → Follows (At s k) (running m s.world) steps c
       by_step more some =
@@ -190,6 +187,6 @@ module _ (modules : List Resolved) (l : Layout) (table : List Module) (own : Mod
   outer (suc bound) steps le s k m c a shared loops ahead has = inner bound (outer bound) (suc (weight k)) steps le s k m c a shared loops ahead (omega arith)
 
   -- from a matched state the machine shows what the source means
-  pub follows : (s : Source) (k : List Item) (m : State) (steps c : ℕ) (a : Around) → Shared l table own number h s m → HasLoops l table own number h m.frame m.store a.loops
-      → Ahead l table own number h k Quiet m.place m.stack c a → Follows (At s k) (running m s.world) steps c
+  pub follows : (s : Source) (k : List Item) (m : State) (steps c : ℕ) (a : Around) → Shared ctx s m → HasLoops ctx m.frame m.store a.loops
+      → Ahead ctx k Quiet m.place m.stack c a → Follows (At s k) (running m s.world) steps c
   follows s k m steps c a shared loops ahead = outer steps steps (omega arith) s k m c a shared loops ahead tt

@@ -1,5 +1,5 @@
 -- The translation table: which bytes from one place to another are a translation of a part. It has one row for each construct.
-use Rattle.std.specs.Prelude.{◌≡◌, ℕ, zero, suc, ◌+◌, ◌*◌, ◌≤◌, ℤ, true, List, [], ◌∷◌, length, Option, Some, None, slice_get}
+use Rattle.std.specs.Prelude.{◌≡◌, ℕ, zero, suc, ◌+◌, ◌*◌, ◌≤◌, ℤ, Bool, true, false, List, [], ◌∷◌, length, Option, Some, None, slice_get}
 use Rattle.lil_base.specs.Words.{Whole, Cardinal, Integer, word_of}
 use Rattle.lil_tree.specs.declared.operator.OneOp.{OneOp}
 use Rattle.lil_tree.specs.declared.operator.OneOp.TheVariants as one
@@ -7,7 +7,7 @@ use Rattle.lil_tree.specs.declared.operator.TwoOp.{TwoOp}
 use Rattle.lil_tree.specs.declared.operator.TwoOp.TheVariants.{Equal, Unequal, Less, AtMost, Greater, AtLeast, Plus, Minus, Times, Div, Mod}
 use Rattle.lil_tree.specs.Kinds.{Kind, OfWhole, OfTruth}
 use Rattle.lil_tree.specs.Scalars.{Scalar, within, scalar_word}
-use Rattle.lil_tree.specs.Resolved.{Designator, Variable, Function, Abs, Cap, Chr, Odd, Ord, Val, Expression, Constant, Taken, One, Two, Both, Either, Apply, Argument, Label, Statement, Assign, Request, If, Case, While, Repeat, Loop, Exit, For, Statements, Empty, Then, Arms, NoElse, Else, Arm, Resolved, kind_of}
+use Rattle.lil_tree.specs.Resolved.{Designator, Variable, Function, Abs, Cap, Chr, Odd, Ord, Val, Expression, Constant, Taken, One, Two, Short, Apply, Argument, Label, Statement, Assign, Request, If, Case, While, Repeat, Loop, Exit, For, Statements, Empty, Then, Arms, NoElse, Else, Arm, Resolved, kind_of}
 use Rattle.lil_tree.specs.Sizes.{depth, is_base, takes_one, takes_two, IsSoundLabel, IsStep, frame_words}
 use Rattle.lil_mcode.specs.declared.instr.Instr.{Instr}
 use Rattle.lil_mcode.specs.declared.instr.Instr.TheVariants.{Liw, Llw, Lgw, Sgw, Swp, Rgc, Adc, Sbc, Mlc, Dvc, Mdc, Adi, Sbi, Mli, Dvi, Mdi, Ngi, Not, Equ, Neq, Lsc, Lec, Lsi, Lei, Ent, Rtn, Jmp, Jpf, Jan, Jor, Cas, Fri, Frn, Trp, Svc}
@@ -112,23 +112,19 @@ pub record TwoRow (code : List ℕ) (o : TwoOp) (k : Kind) (a b : Expression) (l
   pub second : right middle last
   pub by : InstrsAt code (two_code o k) last q
 
--- a jump over the right operand, where the left one decides
-pub record BothRow (code : List ℕ) (a b : Expression) (left right : Span) (p q : ℕ) : Type 0 where
-  pub middle : ℕ
-  pub start : ℕ
-  pub left_typed : kind_of a ≡ OfTruth
-  pub right_typed : kind_of b ≡ OfTruth
-  pub first : left p middle
-  pub test : IsAt code middle (Jan q) start
-  pub second : right start q
+-- the jump over the right operand where the left one decides
+abbrev pub short_code : Bool → ℕ → Instr
+short_code true to = Jor to
+short_code false to = Jan to
 
-pub record EitherRow (code : List ℕ) (a b : Expression) (left right : Span) (p q : ℕ) : Type 0 where
+-- a jump over the right operand, where the left one decides
+pub record ShortRow (code : List ℕ) (d : Bool) (a b : Expression) (left right : Span) (p q : ℕ) : Type 0 where
   pub middle : ℕ
   pub start : ℕ
   pub left_typed : kind_of a ≡ OfTruth
   pub right_typed : kind_of b ≡ OfTruth
   pub first : left p middle
-  pub test : IsAt code middle (Jor q) start
+  pub test : IsAt code middle (short_code d q) start
   pub second : right start q
 
 pub record ChrRow (code : List ℕ) (a : Expression) (value : Span) (p q : ℕ) : Type 0 where
@@ -154,8 +150,7 @@ ExpressionAt l code (Constant k v) p q = ConstantRow code k v p q
 ExpressionAt l code (Taken d) p q = TakenAt l code d p q
 ExpressionAt l code (One o k a) p q = OneRow code o k a (ExpressionAt l code a) p q
 ExpressionAt l code (Two o k a b) p q = TwoRow code o k a b (ExpressionAt l code a) (ExpressionAt l code b) p q
-ExpressionAt l code (Both a b) p q = BothRow code a b (ExpressionAt l code a) (ExpressionAt l code b) p q
-ExpressionAt l code (Either a b) p q = EitherRow code a b (ExpressionAt l code a) (ExpressionAt l code b) p q
+ExpressionAt l code (Short d a b) p q = ShortRow code d a b (ExpressionAt l code a) (ExpressionAt l code b) p q
 ExpressionAt l code (Apply f a) p q = ApplyAt code f a (ExpressionAt l code a) p q
 
 -- an expression of a kind, with n words of others below its own

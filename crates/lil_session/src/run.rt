@@ -1,7 +1,8 @@
 ghost use Rattle.std.specs.Prelude.{◌≡◌, ◌≢◌, ◌⊎◌, ◌%◌, ◌≤◌, [], ◌∷◌, true, length, IfOk, OnOk, OnErr, Some};
 ghost use Rattle.lil_tree.specs.Views.{module_of};
 ghost use Rattle.lil_meaning.specs.World.{World, byte_of, piece_of};
-ghost use Rattle.lil_mcode.specs.State.{Module};
+ghost use Rattle.lil_mcode.specs.State.{Module, State};
+ghost use Rattle.lil_mcode.specs.Going.{Ran};
 ghost use Rattle.lil_mcode.specs.Table.{mstep};
 ghost use Rattle.lil_volume.specs.Causes.{HasCause};
 ghost use Rattle.lil_volume.specs.Told.{followed_by, FollowedByPrefix};
@@ -53,6 +54,8 @@ fn write_character<S: Sink>(machine: &mut Machine, screen: &mut S) -> Result<(),
 }
 
 /// Serves a request.
+#[cold]
+#[inline(never)]
 fn serve<S: Sink>(number: u8, machine: &mut Machine, screen: &mut S) -> Result<(), SinkFailed>
     requires known { number ≡ 2 }
     requires words { 1 ≤ length machine.old.state.stack }
@@ -67,31 +70,23 @@ fn serve<S: Sink>(number: u8, machine: &mut Machine, screen: &mut S) -> Result<(
     }
 }
 
-/// One step of a body that runs alone.
-fn step_alone(machine: &mut Machine) -> Event
-    requires { IsAlone machine.old.state }
-    ensures row { mstep machine.old.state ≡ (result, machine.new.state) }
-    ensures modules { machine.new.state.modules ≡ machine.old.state.modules }
-    ensures running { machine.new.state.running ≡ machine.old.state.running }
-    ensures alone { IsAlone machine.new.state }
-    ensures at { machine.new.at_module ≡ machine.old.state.running }
-{
-    machine.step()
-}
-
-/// One step, with what its request shows. None where the run goes on.
-fn advance<S: Sink>(machine: &mut Machine, screen: &mut S) -> Result<Option<Ending>, SinkFailed>
-    requires { IsAlone machine.old.state }
-    ensures step { IfOk result (λ o. (w : World) → IsStep machine.old.state machine.new.state (finish_by o) (S.written screen.old) (S.written screen.new) w) }
-    ensures refused { OnErr result ((w : World) → IsRefused machine.old.state (S.written screen.old) (S.written screen.new) w) }
+/// What the last step of a body that runs alone shows. None where the run goes on.
+fn answered<S: Sink>(
+    event: Event,
+    machine: &mut Machine,
+    screen: &mut S,
+) -> Result<Option<Ending>, SinkFailed>
+    requires { (u : State) × (mstep u ≡ (event, machine.old.state)) × IsAlone machine.old.state }
+    ensures step { IfOk result (λ o. (u : State) → mstep u ≡ (event, machine.old.state) → (w : World) → IsStep u machine.new.state (finish_by o) (S.written screen.old) (S.written screen.new) w) }
+    ensures refused { OnErr result ((u : State) → mstep u ≡ (event, machine.old.state) → (w : World) → IsRefused u (S.written screen.old) (S.written screen.new) w) }
     ensures unspent { IfOk result (λ o. o ≢ Some ending.Spent) }
     ensures modules { machine.new.state.modules ≡ machine.old.state.modules }
     ensures running { machine.new.state.running ≡ machine.old.state.running }
     ensures alone { IsAlone machine.new.state }
-    ensures at { machine.new.at_module ≡ machine.old.state.running }
+    ensures at { machine.new.at_module ≡ machine.old.at_module }
     ensures cause { HasCause (S.faults screen.old) (S.faults screen.new) result }
 {
-    match step_alone(machine) {
+    match event {
         Event::Went => Ok(None),
         Event::Request(number) => {
             serve(number, machine, screen)?;
@@ -102,6 +97,20 @@ fn advance<S: Sink>(machine: &mut Machine, screen: &mut S) -> Result<Option<Endi
         Event::Limit(kind) => Ok(Some(Ending::Limited(kind))),
         Event::BadCode => Ok(Some(Ending::Broken)),
     }
+}
+
+/// At most so many steps of a body that runs alone, while they go on: what the last one did, and how many there were.
+fn run_alone(machine: &mut Machine, most: u64) -> (Event, u64)
+    requires some { 1 ≤ most }
+    requires alone { IsAlone machine.old.state }
+    ensures ran { Ran machine.old.state result.1 result.0 machine.new.state machine.new.at_module machine.new.at_place }
+    ensures within { result.1 ≤ most }
+    ensures modules { machine.new.state.modules ≡ machine.old.state.modules }
+    ensures running { machine.new.state.running ≡ machine.old.state.running }
+    ensures alone { IsAlone machine.new.state }
+    ensures at { machine.new.at_module ≡ machine.old.state.running }
+{
+    machine.run(most)
 }
 
 /// Steps until the run ends, for at most so many steps.
@@ -117,8 +126,11 @@ fn run_machine<S: Sink>(
     ensures at { IfOk result (λ e. (k : TrapKind) → e ≡ ending.Trapped k → machine.new.at_module ≡ machine.old.state.running) }
     ensures cause { HasCause (S.faults screen.old) (S.faults screen.new) result }
 {
-    for _ in 0..steps {
-        if let Some(end) = advance(machine, screen)? {
+    let mut left = steps;
+    while left > 0 {
+        let (event, done) = run_alone(machine, left);
+        left -= done;
+        if let Some(end) = answered(event, machine, screen)? {
             return Ok(end);
         }
     }

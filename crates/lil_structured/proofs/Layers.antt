@@ -24,10 +24,9 @@ same_name [] name = refl
 same_name (s ∷ ss) name = refl
 
 called_by : (scope : Scope) (name : Option (List ℕ)) (given : List Sense) → called scope name given ≡ (if is_chr scope name then chr_of given else nothing)
-called_by scope None given = refl
 called_by scope (Some name) [] = elim (is_chr scope (Some name)) as (λ b. nothing ≡ (if b then nothing else nothing)) [ true ↦ refl | false ↦ refl ]
-called_by scope (Some name) (a ∷ []) = refl
 called_by scope (Some name) (a ∷ b ∷ rest) = elim (is_chr scope (Some name)) as (λ b. nothing ≡ (if b then nothing else nothing)) [ true ↦ refl | false ↦ refl ]
+called_by scope _ _ = refl
 
 -- an expression's sense comes from the senses of its parts
 module _ (scope : Scope) where

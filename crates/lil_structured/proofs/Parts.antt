@@ -33,14 +33,12 @@ swapped o a None = refl
 swapped o a (Some found) = refl
 
 pub some_push : {A : Type 0} (os : List (Option A)) (a : A) → all_some (os ++ Some a ∷ []) ≡ option_map (λ rest. rest ++ a ∷ []) (all_some os)
-some_push [] a = refl
-some_push (None ∷ os) a = refl
 some_push (Some o ∷ os) a = ap (option_map (λ rest. o ∷ rest)) (some_push os a) ∙ swapped o a (all_some os)
+some_push _ a = refl
 
 pub none_among : {A : Type 0} (os rest : List (Option A)) → all_some (os ++ None ∷ rest) ≡ None
-none_among [] rest = refl
-none_among (None ∷ os) rest = refl
 none_among (Some a ∷ os) rest = ap (option_map (λ found. a ∷ found)) (none_among os rest)
+none_among _ rest = refl
 
 -- a loop over parts of which each is there so far
 module _ {X B : Type 0} (F : X → Option B) where

@@ -92,26 +92,22 @@ module _ (n : ℕ) (looping : Bool) where
 
   pub assigned_paid : (v : Option ℕ) (e : Option Expression) (from to had left : ℕ) → IfSome v (λ i. i < n) → Value from to (OfWhole Cardinal) e → 4 * from + left + 2 ≤ had + 4 * to
       → Paid had left (alone (assigned v e))
-  assigned_paid None e from to had left h j k = tt
-  assigned_paid (Some v) None from to had left h j k = tt
   assigned_paid (Some v) (Some e) from to had left h j k = (((h, refl, held_whole j.0 j.1), tt), omega (arith, k, j.0.small))
+  assigned_paid _ _ from to had left h j k = tt
 
   pub written_paid : (imported : Bool) (c : Option Expression) (from to had left : ℕ) → Value from to OfCharacter c → 4 * from + left + 1 ≤ had + 4 * to → Paid had left (alone (written_if imported c))
-  written_paid false c from to had left j k = tt
-  written_paid true None from to had left j k = tt
   written_paid true (Some c) from to had left j k = (((refl, c, refl, held_whole j.0 j.1), tt), omega (arith, k, j.0.small))
+  written_paid _ _ from to had left j k = tt
 
   pub while_paid : (c : Option Expression) (b : Option Statements) (from to mid had left : ℕ) → Value from to OfTruth c → Paid mid left b → 4 * from + mid + 5 ≤ had + 4 * to
       → Paid had left (alone (while_of c b))
-  while_paid None b from to mid had left h j k = tt
-  while_paid (Some c) None from to mid had left h j k = tt
   while_paid (Some c) (Some b) from to mid had left h j k = (((held_whole h.0 h.1, j.0), tt), omega (arith, k, h.0.small, j.1))
+  while_paid _ _ from to mid had left h j k = tt
 
   pub repeat_paid : (b : Option Statements) (c : Option Expression) (from to mid had left : ℕ) → Paid had mid b → Value from to OfTruth c → 4 * from + left + 2 ≤ mid + 4 * to
       → Paid had left (alone (repeat_of b c))
-  repeat_paid None c from to mid had left h j k = tt
-  repeat_paid (Some b) None from to mid had left h j k = tt
   repeat_paid (Some b) (Some c) from to mid had left h j k = (((h.0, held_whole j.0 j.1), tt), omega (arith, k, j.0.small, h.1))
+  repeat_paid _ _ from to mid had left h j k = tt
 
   pub exit_paid : (had left : ℕ) → 3 + left ≤ had → Paid had left (alone (exit_of looping))
   exit_paid had left h = by looping refl
@@ -123,13 +119,9 @@ module _ (n : ℕ) (looping : Bool) where
   pub for_paid : (v : Option ℕ) (a b : Option Expression) (step : Option ℤ) (body : Option Statements) (from to from' to' mid had left : ℕ)
       → IfSome v (λ i. i < n) → Value from to (OfWhole Cardinal) a → Value from' to' (OfWhole Cardinal) b → IfSome step IsStep → Paid mid left body → 4 * from + 4 * from' + mid + 18 ≤ had + 4 * to + 4 * to'
       → Paid had left (alone (for_of v a b step body))
-  for_paid None a b step body from to from' to' mid had left h i j s k m = tt
-  for_paid (Some v) None b step body from to from' to' mid had left h i j s k m = tt
-  for_paid (Some v) (Some a) None step body from to from' to' mid had left h i j s k m = tt
-  for_paid (Some v) (Some a) (Some b) None body from to from' to' mid had left h i j s k m = tt
-  for_paid (Some v) (Some a) (Some b) (Some z) None from to from' to' mid had left h i j s k m = tt
   for_paid (Some v) (Some a) (Some b) (Some z) (Some body) from to from' to' mid had left h i j s k m =
       (((h, refl, held_whole i.0 i.1, held_whole j.0 j.1, s, k.0), tt), omega (arith, m, i.0.small, j.0.small, k.1))
+  for_paid _ _ _ _ _ from to from' to' mid had left h i j s k m = tt
 
   -- ---- IF
   abbrev pub IsSoundPair : Expression × Statements → Type 0
@@ -140,9 +132,8 @@ module _ (n : ℕ) (looping : Bool) where
 
   pub pair_paid : (c : Option Expression) (b : Option Statements) (from to mid had left : ℕ) → Value from to OfTruth c → Paid mid left b → 4 * from + mid + 5 ≤ had + 4 * to
       → IfSome (paired c b) (λ p. IsSoundPair p × (pair_size p + left ≤ had))
-  pair_paid None b from to mid had left h j k = tt
-  pair_paid (Some c) None from to mid had left h j k = tt
   pair_paid (Some c) (Some b) from to mid had left h j k = ((held_whole h.0 h.1, j.0), omega (arith, k, h.0.small, j.1))
+  pair_paid _ _ from to mid had left h j k = tt
 
   nested_sound : (ps : List (Expression × Statements)) (other : Statements) → AllFine IsSoundPair ps → IsSoundBody n looping other → IsSoundBody n looping (nested ps other)
   nested_sound [] other h j = j
@@ -154,10 +145,8 @@ module _ (n : ℕ) (looping : Bool) where
 
   pub conditional_paid : (ps : Option (List (Expression × Statements))) (other : Option Statements) (had mid left : ℕ)
       → IfSome ps (λ ps. AllFine IsSoundPair ps × (total pair_size ps + mid ≤ had)) → Paid mid left other → Paid had left (conditional_of ps other)
-  conditional_paid None other had mid left h j = tt
-  conditional_paid (Some []) other had mid left h j = tt
-  conditional_paid (Some (p ∷ ps)) None had mid left h j = tt
   conditional_paid (Some (p ∷ ps)) (Some other) had mid left h j = (nested_sound (p ∷ ps) other h.0 j.0, omega (arith, h.1, j.1, nested_size (p ∷ ps) other))
+  conditional_paid _ _ had mid left h j = tt
 
   -- ---- CASE
   abbrev pub IsSoundArm : Kind → List Label × Statements → Type 0
@@ -181,19 +170,17 @@ module _ (n : ℕ) (looping : Bool) where
   pub case_paid : (e : Expression) (parts : Option (List (List Label × Statements))) (other : Option Arms) (from to mid mid' had left : ℕ) → Held n from to e → IsSelectorKind (kind_of e)
       → IfSome parts (λ ps. AllFine (IsSoundArm (kind_of e)) ps × (total arm_size ps + mid' ≤ mid)) → IfSome other (λ a. AreSoundArms n looping (kind_of e) a × (arms_size a + left ≤ mid'))
       → 4 * from + mid + 10 ≤ had + 4 * to → Paid had left (case_with e parts other)
-  case_paid e None other from to mid mid' had left h of j i k = tt
-  case_paid e (Some parts) None from to mid mid' had left h of j i k = tt
   case_paid e (Some parts) (Some other) from to mid mid' had left h of j i k = by (all_apart (labels_of parts))
     where
       by : (b : Bool) → Paid had left (if b then Some (Then (Case e (chosen parts other)) Empty) else None)
       by true = (((base of, held_whole h refl, chosen_sound (kind_of e) parts other j.0 i.0), tt), omega (arith, k, h.small, j.1, i.1, chosen_size parts other))
       by false = tt
+  case_paid e _ _ from to mid mid' had left h of j i k = tt
 
   pub arm_paid : (k : Kind) (ls : Option (List Label)) (b : Option Statements) (count mid had left : ℕ) → IfSome ls (λ ls. AreSoundLabels k ls × (length ls ≡ count)) → Paid mid left b → mid + 3 + 6 * count ≤ had
       → IfSome (arm_of ls b) (λ a. IsSoundArm k a × (arm_size a + left ≤ had))
-  arm_paid k None b count mid had left h j i = tt
-  arm_paid k (Some ls) None count mid had left h j i = tt
   arm_paid k (Some ls) (Some b) count mid had left h j i = ((h.0, j.0), omega (arith, h.1, j.1, i))
+  arm_paid k _ _ count mid had left h j i = tt
 
   -- ---- more is had, and less is left
   pub paid_more : (had left had' left' : ℕ) (o : Option Statements) → had ≤ had' → left' ≤ left → Paid had left o → Paid had' left' o

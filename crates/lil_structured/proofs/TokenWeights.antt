@@ -63,10 +63,8 @@ run_some (x.plain _ _ _) = omega arith
 run_some (x.with_h ds _ _) = omega arith
 
 number_fits : {run : List ℕ} {what : TokenKind} → Says run what → fits what ≡ true → IsWorth 1 what
-number_fits (x.decimal {ds = ds} _) h = (leb-true _ 65535 h, omega arith)
-number_fits (x.octal ds _) h = (leb-true _ 65535 h, omega arith)
 number_fits (x.code ds _) h = (tt, omega arith)
-number_fits (x.hexadecimal ds _) h = (leb-true _ 65535 h, omega arith)
+number_fits _ h = (leb-true _ 65535 h, omega arith)
 
 front_bytes : (front rest : List ℕ) → Bytes (front ++ rest) → Bytes front × Bytes rest
 front_bytes [] rest h = (tt, h)
@@ -74,13 +72,12 @@ front_bytes (b ∷ front) rest h = let k = front_bytes front rest h.1 in ((h.0, 
 
 piece_worth : {front rest : List ℕ} {o : Option TokenKind} → IsPiece front rest o → Bytes front → IfSome o (IsWorth (length front))
 unfolding named
-piece_worth (x.blank _) f = tt
-piece_worth (x.comment _) f = tt
 piece_worth (x.name {b = b} {bs = bs} _ _ _ _) f = name_worth (b ∷ bs) (omega arith) (word_among all_words (b ∷ bs)) (found_spelling all_words (b ∷ bs))
 piece_worth (x.number {run = run} {what = what} is says h) f = let k = number_fits says h in (k.0, omega (arith, k.1, run_some is))
 piece_worth (x.string {q = q} {bs = bs} _ _) f = ((front_bytes bs (q ∷ []) f.1).0, omega arith)
 piece_worth (x.mark {b = b} {what = what} is _) f = of_same (IsWorth 1) (single b) what is (single_worth b)
 piece_worth (x.long_mark {b = b} {c = c} {what = what} is) f = of_same (IsWorth 2) (pair b c) what is (pair_worth b c)
+piece_worth _ f = tt
 
 -- ---- whole texts
 pub record Light (text left : List ℕ) (ts : List Token) : Type 0 where

@@ -35,9 +35,4 @@ Fit (t ∷ ts) = IsFit t.what × Fit ts
 
 pub pays : (x : TokenKind) → 1 ≤ pay x
 pays (k.Word x) = omega arith
-pays (k.Ident name) = omega arith
-pays (k.Number n) = omega arith
-pays (k.CharCode c) = omega arith
-pays (k.Chars text) = omega arith
-pays (k.Mark m) = omega arith
-pays k.Finish = omega arith
+pays _ = omega arith

@@ -22,31 +22,10 @@ between_so low z high h = (grind (arith, ints), grind (arith, ints))
 
 pub same_kind_is : (k j : Kind) → same_kind k j ≡ true → j ≡ k
 same_kind_is (OfWhole Cardinal) (OfWhole Cardinal) h = refl
-same_kind_is (OfWhole Cardinal) (OfWhole Integer) h = cc
-same_kind_is (OfWhole Cardinal) OfTruth h = cc
-same_kind_is (OfWhole Cardinal) OfCharacter h = cc
-same_kind_is (OfWhole Cardinal) (OfEnumeration n) h = cc
-same_kind_is (OfWhole Cardinal) (OfRange b l g) h = cc
-same_kind_is (OfWhole Integer) (OfWhole Cardinal) h = cc
 same_kind_is (OfWhole Integer) (OfWhole Integer) h = refl
-same_kind_is (OfWhole Integer) OfTruth h = cc
-same_kind_is (OfWhole Integer) OfCharacter h = cc
-same_kind_is (OfWhole Integer) (OfEnumeration n) h = cc
-same_kind_is (OfWhole Integer) (OfRange b l g) h = cc
-same_kind_is OfTruth (OfWhole Cardinal) h = cc
-same_kind_is OfTruth (OfWhole Integer) h = cc
 same_kind_is OfTruth OfTruth h = refl
-same_kind_is OfTruth OfCharacter h = cc
-same_kind_is OfTruth (OfEnumeration n) h = cc
-same_kind_is OfTruth (OfRange b l g) h = cc
-same_kind_is OfCharacter (OfWhole Cardinal) h = cc
-same_kind_is OfCharacter (OfWhole Integer) h = cc
-same_kind_is OfCharacter OfTruth h = cc
 same_kind_is OfCharacter OfCharacter h = refl
-same_kind_is OfCharacter (OfEnumeration n) h = cc
-same_kind_is OfCharacter (OfRange b l g) h = cc
-same_kind_is (OfEnumeration n) j h = cc
-same_kind_is (OfRange b l g) j h = cc
+same_kind_is _ _ h = cc
 
 -- ---- what is meant
 -- an expression for which bytes from one number down to another pay
@@ -81,10 +60,9 @@ worth_more {n} {from} {to} {from'} {to'} {s} w f g =
     record { less = omega (arith, w.less); value = value_more s.value w.value; character = character_more s.character w.character }
   where
     value_more : (v : Option Meant) → IfSome v (IsGood n from to) → IfSome v (IsGood n from' to')
-    value_more None h = tt
     value_more (Some (Whole' z)) h = h
-    value_more (Some (Fact b)) h = tt
     value_more (Some (Evaluated e)) h = (held_more h.0 f g, h.1)
+    value_more _ h = tt
 
     character_more : (c : Option Expression) → IfSome c (IsCharacter n from to) → IfSome c (IsCharacter n from' to')
     character_more None h = tt
@@ -115,16 +93,7 @@ module _ (n from to : ℕ) where
   numbers_good Times a b = computed_good (a *ℤ b)
   numbers_good Div a b = divided_good whole_quotient a b
   numbers_good Mod a b = divided_good whole_rest a b
-  numbers_good Equal a b = tt
-  numbers_good Unequal a b = tt
-  numbers_good Less a b = tt
-  numbers_good AtMost a b = tt
-  numbers_good Greater a b = tt
-  numbers_good AtLeast a b = tt
-  numbers_good In a b = tt
-  numbers_good Or a b = tt
-  numbers_good Slash a b = tt
-  numbers_good And a b = tt
+  numbers_good _ a b = tt
 
   only_good : (v : Option Meant) → Goods (fact_only v)
   only_good None = tt
@@ -136,8 +105,6 @@ module _ (n from to : ℕ) where
   by_numbers o a b = only_good (two_numbers o (pos (truth_number a)) (pos (truth_number b)))
 
   facts_good : (o : TwoOp) (a b : Bool) → Goods (two_facts o a b)
-  facts_good And a b = tt
-  facts_good Or a b = tt
   facts_good Plus a b = by_numbers Plus a b
   facts_good Minus a b = by_numbers Minus a b
   facts_good Times a b = by_numbers Times a b
@@ -151,6 +118,7 @@ module _ (n from to : ℕ) where
   facts_good AtLeast a b = by_numbers AtLeast a b
   facts_good In a b = by_numbers In a b
   facts_good Slash a b = by_numbers Slash a b
+  facts_good _ a b = tt
 
   constant_held : (k : Kind) (v : Scalar) → within k v ≡ true → to < from → Held n from to (Constant k v)
   constant_held k v h less = record { sound = h; shallow = omega arith; small = omega (arith, less) }
@@ -172,40 +140,20 @@ module _ (n from to : ℕ) where
 
   kind_good : (k : Kind) (v : Meant) → to < from → IsGood n from to v → IfSome (of_kind k v) (λ e. Held n from to e × (kind_of e ≡ k))
   kind_good (OfWhole t) (Whole' z) less h = whole_kind t z less
-  kind_good (OfWhole t) (Fact b) less h = tt
   kind_good (OfWhole t) (Evaluated e) less h = evaluated_kind (OfWhole t) e h.0
-  kind_good OfTruth (Whole' z) less h = tt
   kind_good OfTruth (Fact b) less h = (constant_held OfTruth (Truth b) refl less, refl)
   kind_good OfTruth (Evaluated e) less h = evaluated_kind OfTruth e h.0
-  kind_good OfCharacter (Whole' z) less h = tt
-  kind_good OfCharacter (Fact b) less h = tt
   kind_good OfCharacter (Evaluated e) less h = evaluated_kind OfCharacter e h.0
-  kind_good (OfEnumeration m) (Whole' z) less h = tt
-  kind_good (OfEnumeration m) (Fact b) less h = tt
   kind_good (OfEnumeration m) (Evaluated e) less h = evaluated_kind (OfEnumeration m) e h.0
-  kind_good (OfRange b l g) (Whole' z) less h = tt
-  kind_good (OfRange b l g) (Fact t) less h = tt
   kind_good (OfRange b l g) (Evaluated e) less h = evaluated_kind (OfRange b l g) e h.0
+  kind_good _ _ less h = tt
 
 -- ---- operators
 -- an operator between two expressions takes a byte at least
 module _ (n from mid back to : ℕ) (apart : back < mid) where
   two_small : (o : TwoOp) (a b : Expression) → Held n from mid a → Held n back to b → size (two_of o a b) + 1 + 4 * to ≤ 4 * from
   two_small And a b h k = omega (arith, h.small, k.small)
-  two_small Or a b h k = omega (arith, h.small, k.small)
-  two_small Equal a b h k = omega (arith, h.small, k.small)
-  two_small Unequal a b h k = omega (arith, h.small, k.small)
-  two_small Less a b h k = omega (arith, h.small, k.small)
-  two_small AtMost a b h k = omega (arith, h.small, k.small)
-  two_small Greater a b h k = omega (arith, h.small, k.small)
-  two_small AtLeast a b h k = omega (arith, h.small, k.small)
-  two_small In a b h k = omega (arith, h.small, k.small)
-  two_small Plus a b h k = omega (arith, h.small, k.small)
-  two_small Minus a b h k = omega (arith, h.small, k.small)
-  two_small Times a b h k = omega (arith, h.small, k.small)
-  two_small Slash a b h k = omega (arith, h.small, k.small)
-  two_small Div a b h k = omega (arith, h.small, k.small)
-  two_small Mod a b h k = omega (arith, h.small, k.small)
+  two_small _ a b h k = omega (arith, h.small, k.small)
 
 both_truth : {k : Kind} → IsOperandKind k → takes And k ≡ true → k ≡ OfTruth
 both_truth cardinal h = cc
@@ -240,21 +188,13 @@ module _ (n : ℕ) (k : Kind) (of : IsOperandKind k) (a b : Expression) (ka : ki
   operand_kind = subst (λ j. IsOperandKind j) (sym ka) of
 
   two_kind : (o : TwoOp) → IsOperandKind (kind_of (two_of o a b))
-  two_kind And = truth
-  two_kind Or = truth
-  two_kind Equal = truth
-  two_kind Unequal = truth
-  two_kind Less = truth
-  two_kind AtMost = truth
-  two_kind Greater = truth
-  two_kind AtLeast = truth
-  two_kind In = truth
   two_kind Plus = operand_kind
   two_kind Minus = operand_kind
   two_kind Times = operand_kind
   two_kind Slash = operand_kind
   two_kind Div = operand_kind
   two_kind Mod = operand_kind
+  two_kind _ = truth
 
 -- what is evaluated, if it is taken and not too deep
 evaluated_good : (n from to : ℕ) (takes : Bool) (e : Expression) → (takes ≡ true → IsSoundExpression n e) → size e + 1 + 4 * to ≤ 4 * from → IsOperandKind (kind_of e) → IfSome (evaluated_if takes e) (IsGood n from to)
@@ -268,19 +208,17 @@ evaluated_good n from to true e sound small of = by (nat_le (depth e) 12) refl
 module _ (n from mid back to : ℕ) (apart : back < mid) where
   values_good : (o : TwoOp) (k : Kind) (a b : Option Expression) → IsOperandKind k → IfSome a (λ e. Held n from mid e × (kind_of e ≡ k)) → IfSome b (λ e. Held n back to e × (kind_of e ≡ k))
       → IfSome (two_values o k a b) (IsGood n from to)
-  values_good o k None b of h j = tt
-  values_good o k (Some a) None of h j = tt
   values_good o k (Some a) (Some b) of h j =
       evaluated_good n from to (takes o k) (two_of o a b) (two_sound n k of a b h.1 j.1 h.0.sound j.0.sound o) (two_small n from mid back to apart o a b h.0 j.0) (two_kind n k of a b h.1 j.1 h.0.sound j.0.sound o)
+  values_good o k _ _ of h j = tt
 
   two_good : (o : TwoOp) (a b : Meant) → mid < from → to < back → IsGood n from mid a → IsGood n back to b → IfSome (two_mean o a b) (IsGood n from to)
   two_good o (Whole' a) (Whole' b) l m h k = numbers_good n from to o a b
-  two_good o (Whole' a) (Fact b) l m h k = tt
   two_good o (Whole' a) (Evaluated b) l m h k = values_good o (kind_of b) (of_kind (kind_of b) (Whole' a)) (Some b) k.1 (kind_good n from mid (kind_of b) (Whole' a) l h) (k.0, refl)
-  two_good o (Fact a) (Whole' b) l m h k = tt
   two_good o (Fact a) (Fact b) l m h k = facts_good n from to o a b
   two_good o (Fact a) (Evaluated b) l m h k = values_good o (kind_of b) (of_kind (kind_of b) (Fact a)) (Some b) k.1 (kind_good n from mid (kind_of b) (Fact a) l h) (k.0, refl)
   two_good o (Evaluated a) b l m h k = values_good o (kind_of a) (Some a) (of_kind (kind_of a) b) h.1 (h.0, refl) (kind_good n back to (kind_of a) b m k)
+  two_good o _ _ l m h k = tt
 
   pub two_worth : (o : TwoOp) (a b : Sense) → Worth n from mid a → Worth n back to b → Worth n from to (of_value (two_of_meant o a.value b.value))
   two_worth o a b v w = record { less = omega (arith, v.less, w.less); value = by a.value b.value v.value w.value; character = tt }
@@ -297,19 +235,15 @@ module _ (n from mid to : ℕ) (apart : mid < from) where
 
   one_small : (o : OneOp) (e : Expression) → Held n mid to e → size (one_of o e) + 1 + 4 * to ≤ 4 * from
   one_small one.Plus e h = omega (arith, h.small)
-  one_small one.Minus e h = omega (arith, h.small)
-  one_small one.Not e h = omega (arith, h.small)
+  one_small _ e h = omega (arith, h.small)
 
   one_good : (o : OneOp) (v : Meant) → IsGood n mid to v → IfSome (one_mean o v) (IsGood n from to)
   one_good one.Plus (Whole' z) h = h
   one_good one.Minus (Whole' z) h = computed_good n from to (neg_ℤ z)
-  one_good one.Not (Whole' z) h = tt
-  one_good one.Plus (Fact b) h = tt
-  one_good one.Minus (Fact b) h = tt
-  one_good one.Not (Fact b) h = tt
   one_good one.Plus (Evaluated e) h = evaluated_good n from to (takes_one one.Plus (kind_of e)) (one_of one.Plus e) (one_sound one.Plus e h.0.sound) (one_small one.Plus e h.0) h.1
   one_good one.Minus (Evaluated e) h = evaluated_good n from to (takes_one one.Minus (kind_of e)) (one_of one.Minus e) (one_sound one.Minus e h.0.sound) (one_small one.Minus e h.0) h.1
   one_good one.Not (Evaluated e) h = evaluated_good n from to (takes_one one.Not (kind_of e)) (one_of one.Not e) (one_sound one.Not e h.0.sound) (one_small one.Not e h.0) h.1
+  one_good _ _ h = tt
 
   pub one_worth : (o : OneOp) (a : Sense) → Worth n mid to a → Worth n from to (of_value (one_of_meant o a.value))
   one_worth o a w = record { less = omega (arith, w.less); value = by a.value w.value; character = tt }
@@ -345,10 +279,9 @@ module _ (n from mid to : ℕ) (apart : mid + 2 ≤ from) where
       less = omega (arith, w.less)
 
       by : (x : Option Meant) → IfSome x (IsGood n mid to) → IfSome (character_by x) (IsCharacter n from to)
-      by None h = tt
       by (Some (Whole' z)) h = number_character z less
-      by (Some (Fact b)) h = tt
       by (Some (Evaluated e)) h = evaluated_character e h.0
+      by _ h = tt
 
 pub nothing_worth : (n from to : ℕ) → to < from → Worth n from to nothing
 nothing_worth n from to h = record { less = h; value = tt; character = tt }

@@ -29,8 +29,8 @@ pub data Expression : Type 0 where
   -- an operator on two values of a kind
   Two : (o : TwoOp) (k : Kind) (a b : Expression) → Expression
   -- a AND b, a OR b
-  Both : (a b : Expression) → Expression
-  Either : (a b : Expression) → Expression
+  -- the right operand counts only where the left one is not the value that decides: TRUE for OR, FALSE for AND
+  Short : (decides : Bool) (a b : Expression) → Expression
   -- a standard function of a value
   Apply : (f : Function) (a : Expression) → Expression
 
@@ -119,6 +119,5 @@ kind_of (Constant k v) = k
 kind_of (Taken d) = base_of (kind_of_place d)
 kind_of (One o k a) = k
 kind_of (Two o k a b) = result_kind (is_relation o) k
-kind_of (Both a b) = OfTruth
-kind_of (Either a b) = OfTruth
+kind_of (Short d a b) = OfTruth
 kind_of (Apply f a) = function_kind f

@@ -7,7 +7,7 @@ use Rattle.lil_tree.specs.declared.operator.TwoOp.{TwoOp}
 use Rattle.lil_tree.specs.declared.operator.TwoOp.TheVariants.{Equal, Unequal, Less, AtMost, Greater, AtLeast, In, Plus, Minus, Or, Times, Slash, Div, Mod, And}
 use Rattle.lil_tree.specs.Kinds.{Kind, OfWhole, OfTruth, OfCharacter, OfEnumeration, OfRange}
 use Rattle.lil_tree.specs.Scalars.{within, scalar_of, ordinal_of}
-use Rattle.lil_tree.specs.Resolved.{Designator, Variable, Function, Abs, Cap, Chr, Odd, Ord, Val, Expression, Constant, Taken, One, Two, Both, Either, Apply, Argument, Label, Statement, Assign, Request, If, Case, While, Repeat, Loop, Exit, For, Statements, Empty, Then, Arms, NoElse, Else, Arm, Resolved, kind_of}
+use Rattle.lil_tree.specs.Resolved.{Designator, Variable, Function, Abs, Cap, Chr, Odd, Ord, Val, Expression, Constant, Taken, One, Two, Short, Apply, Argument, Label, Statement, Assign, Request, If, Case, While, Repeat, Loop, Exit, For, Statements, Empty, Then, Arms, NoElse, Else, Arm, Resolved, kind_of}
 
 -- how many words of the expression stack an expression takes
 abbrev pub depth : Expression → ℕ
@@ -15,8 +15,7 @@ depth (Constant k v) = 1
 depth (Taken d) = 1
 depth (One o k a) = depth a
 depth (Two o k a b) = max (depth a) (1 + depth b)
-depth (Both a b) = max (depth a) (1 + depth b)
-depth (Either a b) = max (depth a) (1 + depth b)
+depth (Short d a b) = max (depth a) (1 + depth b)
 depth (Apply f a) = depth a
 
 -- how many bytes the code of an operator takes
@@ -36,8 +35,7 @@ size (Constant k v) = 3
 size (Taken d) = 3
 size (One o k a) = size a + one_size o
 size (Two o k a b) = size a + size b + two_size o
-size (Both a b) = size a + size b + 3
-size (Either a b) = size a + size b + 3
+size (Short d a b) = size a + size b + 3
 size (Apply f a) = size a + 5
 
 -- kinds that aren't a part of another, whose values are words
@@ -95,8 +93,7 @@ IsSoundExpression n (Constant k v) = within k v ≡ true
 IsSoundExpression n (Taken d) = IsSoundPlace n d
 IsSoundExpression n (One o k a) = (takes_one o k ≡ true) × (kind_of a ≡ k) × IsSoundExpression n a
 IsSoundExpression n (Two o k a b) = (takes_two o k ≡ true) × (kind_of a ≡ k) × (kind_of b ≡ k) × IsSoundExpression n a × IsSoundExpression n b
-IsSoundExpression n (Both a b) = (kind_of a ≡ OfTruth) × (kind_of b ≡ OfTruth) × IsSoundExpression n a × IsSoundExpression n b
-IsSoundExpression n (Either a b) = (kind_of a ≡ OfTruth) × (kind_of b ≡ OfTruth) × IsSoundExpression n a × IsSoundExpression n b
+IsSoundExpression n (Short d a b) = (kind_of a ≡ OfTruth) × (kind_of b ≡ OfTruth) × IsSoundExpression n a × IsSoundExpression n b
 IsSoundExpression n (Apply f a) = IsSoundFunction f (kind_of a) × IsSoundExpression n a
 
 -- an expression of a kind that stands alone

@@ -1,9 +1,9 @@
 -- The resolved module that a tree of the program is.
-use Rattle.std.specs.Prelude.{ℕ, pos, List, [], ◌∷◌, map, Option, Some, None}
+use Rattle.std.specs.Prelude.{ℕ, pos, List, [], ◌∷◌, map, Option, Some, None, true, false}
 use Rattle.lil_base.specs.Words.{Cardinal, Integer}
 use Rattle.lil_tree.specs.Kinds.{Kind, OfWhole, OfTruth, OfCharacter}
 use Rattle.lil_tree.specs.Scalars.{Number, Truth, Character}
-use Rattle.lil_tree.specs.Resolved.{Designator, Variable, Chr, Expression, Constant, Taken, One, Two, Both, Either, Apply, Label, Statement, Assign, Request, If, Case, While, Repeat, Loop, Exit, For, Statements, Empty, Then, Arms, NoElse, Else, Arm, Resolved, kind_of}
+use Rattle.lil_tree.specs.Resolved.{Designator, Variable, Chr, Expression, Constant, Taken, One, Two, Short, Apply, Label, Statement, Assign, Request, If, Case, While, Repeat, Loop, Exit, For, Statements, Empty, Then, Arms, NoElse, Else, Arm, Resolved, kind_of}
 use Rattle.lil_tree.specs.declared.operator.OneOp.{OneOp}
 use Rattle.lil_tree.specs.declared.operator.TwoOp.{TwoOp}
 use Rattle.lil_tree.specs.declared.operator.TwoOp.TheVariants.{Equal, Unequal, Less, AtMost, Greater, AtLeast, In, Plus, Minus, Or, Times, Slash, Div, Mod, And}
@@ -28,8 +28,8 @@ write_of e = Request 2 (record { kind = OfCharacter; value = e } ∷ [])
 
 -- an operator on two expressions; AND and OR take their right one only where it is needed
 abbrev pub two_of : TwoOp → Expression → Expression → Expression
-two_of And a b = Both a b
-two_of Or a b = Either a b
+two_of And a b = Short false a b
+two_of Or a b = Short true a b
 two_of Equal a b = Two Equal (kind_of a) a b
 two_of Unequal a b = Two Unequal (kind_of a) a b
 two_of Less a b = Two Less (kind_of a) a b

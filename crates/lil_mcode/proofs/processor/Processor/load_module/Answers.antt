@@ -2,9 +2,10 @@ use Rattle.std.proofs.Common.{◌≡◌, ℕ, ◌+◌, List, [], ◌∷◌, ◌+
 use Rattle.std.proofs.lemmas.List.{length-map, length-append}
 use Rattle.lil_mcode.specs.declared.processor.LoadedModule.{LoadedModule}
 use Rattle.lil_mcode.specs.State.{State, spliced, cleared}
-use Rattle.lil_mcode.specs.Loaded.{module_of, Lies}
+use Rattle.lil_mcode.specs.Loaded.{module_of, Lies, Runs}
 use Rattle.lil_mcode.specs.Calls.{code_used}
 use Rattle.lil_mcode.proofs.Lists.{length_spliced}
+use Rattle.lil_mcode.proofs.Steps.{runs_more}
 use Rattle.lil_mcode.proofs.Loading.{used, loaded_more, lies_more, length_cleared}
 use Rattle.lil_mcode.proofs.processor.Processor.load_module.Goals as goal
 
@@ -32,7 +33,9 @@ invariant_of-self c =
     let Lain : List LoadedModule → Type 0 = λ ls. Lies 0 ls (c.self.inside.code_end + length code) in
     let Ends : ℕ → Type 0 = λ n. Lies 0 c.put_entry.new.modules.items (c.self.inside.code_end + n) in
     let all = subst Ends (sym c.from.ensures) (subst Lain (sym c.put_entry.ensures.items) lain) in
-    (omega arith, omega arith, omega arith, omega (arith, c.put_entry.ensures.capacity), omega arith, all)
+    let Runs_on : List LoadedModule → Type 0 = λ ls. Runs ls c.self.inside.running c.self.inside.code_start c.self.inside.code_size c.self.inside.code_base in
+    let runs = subst Runs_on (sym c.put_entry.ensures.items) (runs_more loaded (entry ∷ []) c.self.inside.running c.self.inside.code_start c.self.inside.code_size c.self.inside.code_base c.self.invariant.6) in
+    (omega arith, omega arith, omega arith, omega (arith, c.put_entry.ensures.capacity), omega arith, all, runs)
 
 pub returns-clause-new : goal.returns-clause-new
 returns-clause-new c =

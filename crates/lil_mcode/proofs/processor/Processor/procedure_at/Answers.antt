@@ -9,7 +9,7 @@ use Rattle.lil_mcode.proofs.processor.Processor.procedure_at.Goals as goal
 pub running_procedure-requires : goal.running_procedure-requires
 running_procedure-requires c =
     let Lain : List LoadedModule → Type 0 = λ loaded. Lies 0 loaded c.self.inside.code_end in
-    let l = lies_loaded c.as_slice.result.now c.self.inside.code_end c.args.number c.in-Some.entry.now (subst Lain (sym c.as_slice.ensures.value) c.self.invariant.5) (sym c.in-Some.ensures) in
+    let l = lies_loaded c.as_slice.result.now c.self.inside.code_end c.args.number c.in-Some.entry.now (subst Lain (sym c.as_slice.ensures.value) c.self.invariant.5) (sym c.in-Some.ensures.value) in
     let few = l.few in
     omega (arith, ap length c.as_slice-in-Some.ensures.value)
 
@@ -18,7 +18,7 @@ returns-in-None c = λ m h.
     let code = c.self.inside.code.items in
     let loaded = c.self.inside.modules.items in
     let n = c.args.number in
-    let none : loaded_at loaded n ≡ None = ap (λ (ls : List LoadedModule). loaded_at ls n) (sym c.as_slice.ensures.value) ∙ sym c.in-None.ensures in
+    let none : loaded_at loaded n ≡ None = ap (λ (ls : List LoadedModule). loaded_at ls n) (sym c.as_slice.ensures.value) ∙ sym c.in-None.ensures.value in
     absurd (not_loaded code loaded n m none (ap (λ (s : State). module_at s.modules n) c.self.view_is ∙ h))
 
 pub returns-in-Some : goal.returns-in-Some
@@ -26,7 +26,7 @@ returns-in-Some c = λ m h.
     let code = c.self.inside.code.items in
     let loaded = c.self.inside.modules.items in
     let n = c.args.number in
-    let some : loaded_at loaded n ≡ Some c.in-Some.entry.now = ap (λ (ls : List LoadedModule). loaded_at ls n) (sym c.as_slice.ensures.value) ∙ sym c.in-Some.ensures in
+    let some : loaded_at loaded n ≡ Some c.in-Some.entry.now = ap (λ (ls : List LoadedModule). loaded_at ls n) (sym c.as_slice.ensures.value) ∙ sym c.in-Some.ensures.value in
     let is = loaded_is code loaded n c.in-Some.entry.now m some (ap (λ (s : State). module_at s.modules n) c.self.view_is ∙ h) in
     let P : List (ℕ × Option (List ℕ)) → Type 0 = λ procedures. IsRunning procedures c.args.place c.running_procedure.result in
     subst P (c.as_slice-in-Some.ensures.value ∙ ap (λ (x : Module). x.procedures) is) c.running_procedure.ensures

@@ -11,7 +11,7 @@ loop-left-preserved c =
     let low = c.in_ok-low.low in
     let high = c.in_ok-high.high in
     let target = c.in_ok-target.target in
-    let entry : Entry code at low high target = record { low_at = sym c.in_ok-low.ensures; high_at = sym c.in_ok-high.ensures; target_at = sym c.in_ok-target.ensures } in
+    let entry : Entry code at low high target = record { low_at = sym c.in_ok-low.ensures.value; high_at = sym c.in_ok-high.ensures.value; target_at = sym c.in_ok-target.ensures.value } in
     let outside : is_in low high c.args.x ≡ false = lt-leb (above low c.args.x) (above low high) (rw (sym c.distance.ensures, sym c.distance-in-loop-left.ensures) c.if-distance.false) in (
       c.loop-left.invariant.0 ∙ found_later code c.loop-left.left at c.args.x c.args.other low high target (omega (arith, c.loop-left-test.true)) entry outside,
       omega (arith, c.loop-left.invariant.1, c.loop-left-test.true),

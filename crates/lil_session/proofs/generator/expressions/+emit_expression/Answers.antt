@@ -14,7 +14,7 @@ use Rattle.lil_mcode.specs.Bytes.{bytes_of}
 use Rattle.lil_session.specs.Generating.{EmitsExpression, whole_of}
 use Rattle.lil_session.specs.Rows.{compared_as}
 use Rattle.lil_session.proofs.Appending.{with_ok}
-use Rattle.lil_session.proofs.Generating.{word_told, constant_emitted, variable_emitted, one_emitted, both_emitted, either_emitted, two_emitted, two_is, chr_emitted}
+use Rattle.lil_session.proofs.Generating.{word_told, constant_emitted, variable_emitted, one_emitted, short_emitted, two_emitted, two_is, chr_emitted}
 use Rattle.lil_session.proofs.generator.expressions.+emit_expression.Goals as goal
 
 pub returns-in-Number-clause-means : goal.returns-in-Number-clause-means
@@ -74,7 +74,7 @@ returns-in_ok-encode-in-And-clause-means t c =
     let right = subst (λ (e : RExpr). OnOk c.emit_expression-in-And.result (EmitsExpression c.encode-in-And.new.code c.emit_expression-in-And.new.code (expression_of e))) c.deref-in-And.ensures c.emit_expression-in-And.ensures.means in
     subst (λ (e : RExpr). OnOk c.emit_expression-in-And.result (EmitsExpression c.args.code.now c.emit_expression-in-And.new.code (expression_of e))) (sym c.in-Two.is)
     (subst (λ (o : TwoOp). OnOk c.emit_expression-in-And.result (EmitsExpression c.args.code.now c.emit_expression-in-And.new.code (two_of o a b))) (sym c.in-And.is)
-    (with_ok c.emit_expression-in-And.result (both_emitted a b end _ _ _ _ left c.in_ok-encode-in-And.ensures place) right))
+    (with_ok c.emit_expression-in-And.result (short_emitted false a b end _ _ _ _ left c.in_ok-encode-in-And.ensures place) right))
 
 pub returns-in_ok-encode-in-Or-clause-means : goal.returns-in_ok-encode-in-Or-clause-means
 returns-in_ok-encode-in-Or-clause-means t c =
@@ -87,7 +87,7 @@ returns-in_ok-encode-in-Or-clause-means t c =
     let right = subst (λ (e : RExpr). OnOk c.emit_expression-in-Or.result (EmitsExpression c.encode-in-Or.new.code c.emit_expression-in-Or.new.code (expression_of e))) c.deref-in-Or.ensures c.emit_expression-in-Or.ensures.means in
     subst (λ (e : RExpr). OnOk c.emit_expression-in-Or.result (EmitsExpression c.args.code.now c.emit_expression-in-Or.new.code (expression_of e))) (sym c.in-Two.is)
     (subst (λ (o : TwoOp). OnOk c.emit_expression-in-Or.result (EmitsExpression c.args.code.now c.emit_expression-in-Or.new.code (two_of o a b))) (sym c.in-Or.is)
-    (with_ok c.emit_expression-in-Or.result (either_emitted a b end _ _ _ _ left c.in_ok-encode-in-Or.ensures place) right))
+    (with_ok c.emit_expression-in-Or.result (short_emitted true a b end _ _ _ _ left c.in_ok-encode-in-Or.ensures place) right))
 
 pub returns-in_ok-emit_expression-in_default-clause-means : goal.returns-in_ok-emit_expression-in_default-clause-means
 returns-in_ok-emit_expression-in_default-clause-means t c =

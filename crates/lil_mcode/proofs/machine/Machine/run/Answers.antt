@@ -1,0 +1,14 @@
+use Rattle.std.proofs.Common.{◌≡◌, suc, ◌-◌, sym, subst, arith}
+use Rattle.lil_mcode.specs.declared.machine.Event.TheVariants.{Went}
+use Rattle.lil_mcode.specs.Calls.{Machine}
+use Rattle.lil_mcode.specs.Going.{Ran}
+use Rattle.lil_mcode.proofs.machine.Machine.run.Goals as goal
+
+pub returns-clause-ran : goal.returns-clause-ran
+returns-clause-ran c =
+    let n = c.args.most - 1 in
+    let all : c.loop-k.k ≡ c.args.most = omega (arith, c.loop-k-test.false, c.loop-k.auto.k-end) in
+    let count : c.args.most ≡ suc n = omega (arith, c.requires) in
+    let x = c.loop-k.invariant.last n (omega (arith, all, count)) in
+    let P : Machine → Type 0 = λ m. Ran c.args.self.now.state c.args.most Went m.state m.at_module m.at_place in
+    subst P (sym c.note-2.ensures) (record { others = n; count = count; before = x.0; came = x.1; last = x.2; in_module = x.3; at = x.4 })

@@ -1,0 +1,50 @@
+use Rattle.std.proofs.Common.{refl, ap}
+use Rattle.lil_mcode.specs.declared.machine.Event.TheVariants.{Went, Request, LevelEnded, Trap, Limit, BadCode}
+use Rattle.lil_mcode.specs.Calls.{Machine}
+use Rattle.lil_session.specs.Running.{Running, Finished, TrappedBy, Limited, Broken}
+use Rattle.lil_session.proofs.Advancing.{step_quiet, step_writes, as_event}
+use Rattle.lil_mcode.proofs.Requests.{request_is_two}
+use Rattle.lil_session.proofs.run.answered.Goals as goal
+
+pub serve-requires-clause-known : goal.serve-requires-clause-known
+serve-requires-clause-known g c =
+    let t = c.args.machine.now.state in
+    (request_is_two c.requires.0 t c.in-Request.number (as_event c.requires.0 t c.args.event (Request c.in-Request.number) c.requires.1 c.in-Request.is)).0
+
+pub serve-requires-clause-words : goal.serve-requires-clause-words
+serve-requires-clause-words g c =
+    let t = c.args.machine.now.state in
+    (request_is_two c.requires.0 t c.in-Request.number (as_event c.requires.0 t c.args.event (Request c.in-Request.number) c.requires.1 c.in-Request.is)).1
+
+pub returns-in-Went-clause-step : goal.returns-in-Went-clause-step
+returns-in-Went-clause-step g c = λ u h.
+    let t = c.args.machine.now.state in
+    step_quiet u t Went Running (g.S.Sink.written c.args.screen.now) (as_event u t c.args.event Went h c.in-Went.is) (λ w. refl)
+
+pub returns-in-LevelEnded-clause-step : goal.returns-in-LevelEnded-clause-step
+returns-in-LevelEnded-clause-step g c = λ u h.
+    let t = c.args.machine.now.state in
+    step_quiet u t LevelEnded Finished (g.S.Sink.written c.args.screen.now) (as_event u t c.args.event LevelEnded h c.in-LevelEnded.is) (λ w. refl)
+
+pub returns-in-Trap-clause-step : goal.returns-in-Trap-clause-step
+returns-in-Trap-clause-step g c = λ u h.
+    let t = c.args.machine.now.state in
+    step_quiet u t (Trap c.in-Trap.kind) (TrappedBy c.in-Trap.kind) (g.S.Sink.written c.args.screen.now) (as_event u t c.args.event (Trap c.in-Trap.kind) h c.in-Trap.is) (λ w. refl)
+
+pub returns-in-Limit-clause-step : goal.returns-in-Limit-clause-step
+returns-in-Limit-clause-step g c = λ u h.
+    let t = c.args.machine.now.state in
+    step_quiet u t (Limit c.in-Limit.kind) (Limited c.in-Limit.kind) (g.S.Sink.written c.args.screen.now) (as_event u t c.args.event (Limit c.in-Limit.kind) h c.in-Limit.is) (λ w. refl)
+
+pub returns-in-BadCode-clause-step : goal.returns-in-BadCode-clause-step
+returns-in-BadCode-clause-step g c = λ u h.
+    let t = c.args.machine.now.state in
+    step_quiet u t BadCode Broken (g.S.Sink.written c.args.screen.now) (as_event u t c.args.event BadCode h c.in-BadCode.is) (λ w. refl)
+
+pub returns-in_ok-serve-in-Request-clause-step : goal.returns-in_ok-serve-in-Request-clause-step
+returns-in_ok-serve-in-Request-clause-step g c = λ u h.
+    let t = c.args.machine.now.state in
+    let step = as_event u t c.args.event (Request c.in-Request.number) h c.in-Request.is in
+    step_writes u t c.serve.new.machine.state c.in-Request.number (g.S.Sink.written c.args.screen.now) (g.S.Sink.written c.serve.new.screen) step
+    (request_is_two u t c.in-Request.number step).0
+    (ap (λ (m : Machine). m.state) c.serve.ensures.machine) c.in_ok-serve-in-Request.ensures.ok
