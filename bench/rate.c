@@ -1,13 +1,15 @@
 /* The loop of rate.sh for comparison: the same bytes of code on a plain interpreter in C, a switch over the first byte of each
    instruction. It has the nine instructions of that code and tests what the machine tests: the expression stack, addresses, sums
-   and places. It prints how many instructions it did and the nanoseconds that the fastest of its runs took. */
+   and places. It prints how many instructions it did and the nanoseconds that the fastest of its runs took. With a number from 1 to
+   255 it does one run, with so many turns of the outer loop. */
 #include <stdint.h>
 #include <stdio.h>
+#include <stdlib.h>
 #include <string.h>
 #include <time.h>
 
 /* FOR outer := 1 TO 70 DO sum := 0; FOR inner := 1 TO 20000 DO sum := sum + 3 END END, with outer, inner and sum at 0, 1 and 2 */
-static const uint8_t code[] = {
+static uint8_t code[] = {
     0x68, 0, 10,                                                /*  0  ENT 10 */
     0x01, 0, 1, 0x01, 0, 70, 0x01, 0, 1, 0x77, 0, 4, 0, 0, 71,  /*  3  LIW 1, LIW 70, LIW 1, FRI 4 0 71 */
     0x20, 0, 4, 0x26, 0, 0,                                     /* 18  LLW 4, SGW 0 */
@@ -20,7 +22,7 @@ static const uint8_t code[] = {
     0x6a,                                                       /* 71  RTN */
 };
 
-enum { VARIABLES = 3, BUDGET = 10000000, RUNS = 15 };
+enum { OUTER = 8, VARIABLES = 3, BUDGET = 10000000, RUNS = 15 };
 
 enum ending { ENDED, SPENT, TRAPPED, LIMITED, BAD };
 
@@ -179,11 +181,16 @@ static uint64_t now(void)
     return (uint64_t)t.tv_sec * 1000000000 + (uint64_t)t.tv_nsec;
 }
 
-int main(void)
+int main(int count, char **words)
 {
     static struct machine m;
     uint64_t best = UINT64_MAX;
-    for (int turn = 0; turn < RUNS; turn++) {
+    int runs = RUNS;
+    if (count > 1) {
+        code[OUTER] = (uint8_t)atoi(words[1]);
+        runs = 1;
+    }
+    for (int turn = 0; turn < runs; turn++) {
         begin(&m);
         uint64_t before = now();
         enum ending e = run(&m, code, sizeof code, BUDGET);

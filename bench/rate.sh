@@ -3,7 +3,10 @@
 # A program of two nested FORs with one addition in the inner one is run through `lilith once`, and a program without statements.
 # Their wall times are taken in turn, so many times each; the difference of the least ones is what the loop took, without the start
 # of the program. The program in C (rate.c) has that loop's bytes and measures itself, best of as many runs and more.
-# It prints numbers and judges none.
+# Where valgrind is installed, it also prints how many instructions of the host both programs do for one of M-code: the difference
+# of two runs of different lengths, so that neither the start nor the end of a program counts.
+# Usage: bench/rate.sh, in a clone whose program is built (`cd examples && ../lilith once Hello.MOD` builds it). It takes no
+# arguments, wants gcc and awk, prints numbers and judges none.
 set -u
 turns=9
 
@@ -18,23 +21,30 @@ trap 'rm -rf "$folder"' EXIT
 gcc -O2 -o "$folder/rate" "$top/bench/rate.c" || exit 1
 cd "$folder" || exit 1
 
-cat >Rate.MOD <<'TEXT'
-MODULE Rate;
+# The text of the program NAME, with so many turns of the outer loop
+text() {
+    cat >"$1.MOD" <<TEXT
+MODULE $1;
 VAR outer, inner, sum: CARDINAL;
 BEGIN
-  FOR outer := 1 TO 70 DO
+  FOR outer := 1 TO $2 DO
     sum := 0;
     FOR inner := 1 TO 20000 DO sum := sum + 3 END
   END
-END Rate.
+END $1.
 TEXT
+}
+text Rate 70
+text Short 1
+text Long 3
 echo "MODULE Empty; END Empty." >Empty.MOD
 
 # The instructions, by the rows of the translation. A FOR is its two bounds, its step and FRI, here one instruction each; a turn of it
 # is LLW and SGW, which store its value, then the statements, then FRN. `sum := 0` is LIW and SGW, `sum := sum + 3` is LGW, LIW, ADC
 # and SGW. Around all stand ENT and RTN. The empty program has these two alone, so they aren't counted.
 inner=$((4 + 20000 * (2 + 4 + 1)))
-instructions=$((4 + 70 * (2 + 2 + inner + 1)))
+outer=$((2 + 2 + inner + 1))
+instructions=$((4 + 70 * outer))
 
 # The least time of a program so far, in nanoseconds: its name, and the least one before it or 0
 timed() {
@@ -69,5 +79,18 @@ awk -v n="$instructions" -v rate="$rate" -v empty="$empty" -v c="$2" 'BEGIN {
     printf "instructions %d, start %.3f ms\n", n, empty / 1e6
     printf "%-7s %10.3f ms %12.0f a second\n", "lilith", loop / 1e6, n / loop * 1e9
     printf "%-7s %10.3f ms %12.0f a second\n", "C", c / 1e6, n / c * 1e9
-    printf "ratio %.1f\n", loop / c
+    printf "ratio %.2f\n", loop / c
 }'
+
+# The instructions of the host that a command took
+host() {
+    valgrind --tool=callgrind --callgrind-out-file=/dev/null "$@" 2>&1 >screen </dev/null | awk '$2 == "Collected" { print $4 }'
+}
+
+if command -v valgrind >/dev/null; then
+    lilith=$(($(host "$program" once Long.MOD) - $(host "$program" once Short.MOD)))
+    c=$(($(host ./rate 3) - $(host ./rate 1)))
+    awk -v n=$((2 * outer)) -v lilith="$lilith" -v c="$c" 'BEGIN {
+        printf "host instructions for one: lilith %.1f, C %.1f\n", lilith / n, c / n
+    }'
+fi

@@ -1,3 +1,6 @@
+ghost use Rattle.std.specs.Prelude.{◌≡◌};
+ghost use Rattle.lil_base.specs.Faults.{fault, fault_number, fault_name};
+
 use crate::Name;
 use thiserror::Error;
 
@@ -23,11 +26,92 @@ pub struct SourceFault {
     pub second: u32,
 }
 
+/// The faults of source texts that are told of a place alone. `docs/LANGUAGE.md` has their table.
+#[derive(Clone, Copy, Debug, PartialEq, Eq)]
+pub enum FaultKind {
+    /// A byte begins no token, or may not stand in a string.
+    BadChar,
+    /// A comment isn't closed.
+    OpenComment,
+    /// A string isn't closed on its line.
+    OpenString,
+    /// A run of digits and letters is no number.
+    BadNumber,
+    /// A number is above 65535, or a character's code above 377C.
+    NumberTooLarge,
+    /// A name has more than 64 characters.
+    NameTooLong,
+    /// The tokens go on with nothing that may stand there.
+    Syntax,
+    /// A part is nested too deep.
+    TooNested,
+    /// The text has more than 262,144 bytes.
+    TextTooLong,
+    /// The text has a form that isn't built.
+    NotBuilt,
+}
+
+impl FaultKind {
+    /// The number under which the fault is told.
+    pub fn number(self) -> u8
+        ensures { result ≡ fault_number self }
+    {
+        match self {
+            FaultKind::BadChar => 1,
+            FaultKind::OpenComment => 2,
+            FaultKind::OpenString => 3,
+            FaultKind::BadNumber => 4,
+            FaultKind::NumberTooLarge => 5,
+            FaultKind::NameTooLong => 6,
+            FaultKind::Syntax => 10,
+            FaultKind::TooNested => 12,
+            FaultKind::TextTooLong => 65,
+            FaultKind::NotBuilt => 90,
+        }
+    }
+}
+
+impl SourceFault {
+    /// The fault of a kind at a place, about no name and with no values.
+    pub fn at(kind: FaultKind, place: Place) -> SourceFault
+        ensures { result ≡ fault (fault_number kind) place }
+    {
+        SourceFault {
+            number: kind.number(),
+            place,
+            about: None,
+            first: 0,
+            second: 0,
+        }
+    }
+
+    /// The name under which the fault is told; none for a number of no fault.
+    pub fn name(&self) -> &'static [u8]
+        ensures { result.now ≡ fault_name self.now.number }
+    {
+        match self.number {
+            1 => b"BadChar",
+            2 => b"OpenComment",
+            3 => b"OpenString",
+            4 => b"BadNumber",
+            5 => b"NumberTooLarge",
+            6 => b"NameTooLong",
+            10 => b"Syntax",
+            12 => b"TooNested",
+            65 => b"TextTooLong",
+            90 => b"NotBuilt",
+            _ => b"",
+        }
+    }
+}
+
 /// Why an operation on whole numbers has no result.
 #[derive(Clone, Copy, Debug, PartialEq, Eq, Error)]
 pub enum ArithFault {
+    /// The result leaves its type.
     #[error("the result leaves its type")]
     Overflow,
+    /// The divisor is zero.
     #[error("the divisor is zero")]
     DivZero,
 }
@@ -35,16 +119,27 @@ pub enum ArithFault {
 /// The traps of the machine, in the order of their numbers from 1.
 #[derive(Clone, Copy, Debug, PartialEq, Eq)]
 pub enum TrapKind {
+    /// A value lies outside the range that it meets.
     Range,
+    /// A result of whole numbers leaves its type.
     Overflow,
+    /// A divisor is 0.
     Divisor,
+    /// A pointer that points nowhere is followed.
     Nil,
+    /// A procedure variable that has no procedure is called.
     NoProcedure,
+    /// A transfer goes to no coroutine.
     NoProcess,
+    /// A CASE has no arm for its value.
     Case,
+    /// A function ends without a value.
     Function,
+    /// The program called HALT.
     Halted,
+    /// A workspace is too small for a coroutine.
     Workspace,
+    /// The procedure of a coroutine ends.
     CoroutineEnd,
 }
 
@@ -59,9 +154,13 @@ pub struct TrapAt {
 /// What was used up.
 #[derive(Clone, Copy, Debug, PartialEq, Eq)]
 pub enum LimitKind {
+    /// The room of a stack for activations.
     Stack,
+    /// The room of the store for objects.
     Store,
+    /// The code store.
     Code,
+    /// The room of the store for the data of modules.
     Words,
 }
 
@@ -75,20 +174,29 @@ pub struct CodePlace {
 /// Why a program was not loaded.
 #[derive(Debug, Drop)]
 pub enum LoadRefusal {
+    /// A module has no object file.
     Missing(Name),
+    /// A module's object file isn't of its format, from this offset on.
     Damaged(Name, u32),
+    /// A module was translated with another key than the one that is loaded.
     KeyDiffers { name: Name, wanted: u32, found: u32 },
+    /// The table of modules is full.
     TableFull,
+    /// The code store has no room for so many bytes.
     CodeFull(u32),
+    /// The store has no room for so many words of data.
     DataFull(u32),
+    /// A module is no program.
     NotProgram(Name),
 }
 
 /// Why bytes are no file of a format.
 #[derive(Clone, Copy, Debug, PartialEq, Eq, Error)]
 pub enum FormatStop {
+    /// The bytes go on with nothing of the format.
     #[error("no file of the format at {offset}")]
     Fault { offset: u32 },
+    /// Memory is wanting.
     #[error("memory")]
     Memory,
 }

@@ -7,6 +7,7 @@ mod fields;
 mod items;
 mod memory;
 mod name;
+mod operator;
 mod sets;
 #[cfg(test)]
 mod tests;
@@ -14,13 +15,14 @@ mod words;
 
 pub use boxed::Boxed;
 pub use fault::{
-    ArithFault, CodePlace, FormatStop, Key, LimitKind, LoadRefusal, Place, SourceFault, TrapAt,
-    TrapKind,
+    ArithFault, CodePlace, FaultKind, FormatStop, Key, LimitKind, LoadRefusal, Place, SourceFault,
+    TrapAt, TrapKind,
 };
 pub use fields::{get16, get32, put16, put32};
 pub use items::{Items, same_bytes};
 pub use memory::Memory;
 pub use name::{FileName, Name};
+pub use operator::{OneOp, TwoOp};
 pub use sets::{set_either, set_has, set_meet, set_minus, set_span, set_union};
 pub use words::{
     abs_int, add_card, add_int, div_card, div_int, mod_card, mod_int, mul_card, mul_int, neg_int,

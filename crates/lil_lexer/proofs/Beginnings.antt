@@ -3,12 +3,12 @@ use Rattle.std.proofs.Common.{◌≡◌, ℕ, ◌<◌, ◌≤◌, Bool, true, fa
 use Rattle.std.proofs.lemmas.Bool.{and_parts, or_cases, eqb-true, leb-true, lt-leb, ne_eqb}
 use Rattle.std.specs.Prelude.{nat_le}
 use Rattle.lil_base.specs.Names.{is_letter, is_digit}
-use Rattle.lil_tree.specs.declared.token.TokenKind.{TokenKind}
-use Rattle.lil_tree.specs.declared.token.TokenKind.TheVariants as k
-use Rattle.lil_tree.specs.declared.token.Word.TheVariants as w
-use Rattle.lil_tree.specs.declared.token.Mark.TheVariants as m
-use Rattle.lil_tree.specs.Cuts.{is_blank}
-use Rattle.lil_tree.specs.Lexical.{opens, is_quote, pair, single}
+use Rattle.lil_text.specs.declared.token.TokenKind.{TokenKind}
+use Rattle.lil_text.specs.declared.token.TokenKind.TheVariants as k
+use Rattle.lil_text.specs.declared.token.Word.TheVariants as w
+use Rattle.lil_text.specs.declared.token.Mark.TheVariants as m
+use Rattle.lil_text.specs.Cuts.{is_blank}
+use Rattle.lil_text.specs.Lexical.{opens, is_quote, pair, single}
 
 -- a byte that isn't another one
 differs : (b n : ℕ) → n < b → (b == n) ≡ false

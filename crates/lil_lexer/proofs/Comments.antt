@@ -2,7 +2,7 @@
 use Rattle.std.proofs.Common.{◌≡◌, ℕ, zero, suc, ◌+◌, ◌-◌, ◌<◌, ◌≤◌, Bool, true, false, cond, ◌&&◌, ◌==◌, List, [], ◌∷◌, ◌++◌, length, get_or, drop, Option, Some, None, refl, subst, ap, sym, ◌∙◌, arith, add-one, drop-cons, length-drop, append_assoc}
 use Rattle.std.proofs.lemmas.Bool.{eqb-true, and_parts}
 use Rattle.std.proofs.lemmas.List.{drop_all}
-use Rattle.lil_tree.specs.Lexical.{opens, closes, IsAlone, IsInside, close, nested, other}
+use Rattle.lil_text.specs.Lexical.{opens, closes, IsAlone, IsInside, close, nested, other}
 use Rattle.lil_lexer.specs.Pieces.{after_comment, len_before, comment_len}
 
 -- what a comment's end leaves, inside so many others

@@ -4,11 +4,12 @@ use Rattle.std.proofs.lemmas.Bool.{cases_lt}
 use Rattle.std.proofs.lemmas.List.{take_at, take_all, drop_at}
 use Rattle.lil_base.specs.declared.fault.Place.{Place}
 use Rattle.lil_base.specs.declared.fault.SourceFault.{SourceFault}
-use Rattle.lil_tree.specs.declared.stop.ReadStop.{ReadStop}
-use Rattle.lil_tree.specs.declared.stop.ReadStop.TheVariants as why
-use Rattle.lil_tree.specs.declared.token.Token.{Token}
-use Rattle.lil_tree.specs.declared.token.TokenKind.{TokenKind}
-use Rattle.lil_tree.specs.Lexical.{behind, before, start, finished, fault, longest_text, IsPiece, IsRun, plain, with_h, blank, comment, name, number, string, mark, long_mark, IsFault, CutsTo, here, piece, HasTokens, whole, HasLexicalFault, too_long, stopped}
+use Rattle.lil_text.specs.declared.stop.ReadStop.{ReadStop}
+use Rattle.lil_text.specs.declared.stop.ReadStop.TheVariants as why
+use Rattle.lil_text.specs.declared.token.Token.{Token}
+use Rattle.lil_text.specs.declared.token.TokenKind.{TokenKind}
+use Rattle.lil_base.specs.Faults.{fault}
+use Rattle.lil_text.specs.Lexical.{behind, before, start, finished, longest_text, IsPiece, IsRun, plain, with_h, blank, comment, name, number, string, mark, long_mark, IsFault, CutsTo, here, piece, HasTokens, whole, HasLexicalFault, too_long, stopped}
 use Rattle.lil_lexer.specs.declared.pieces.Piece.{Piece}
 use Rattle.lil_lexer.specs.Pieces as spec
 use Rattle.lil_lexer.specs.Pieces.{Reads, Begins}

@@ -1,8 +1,8 @@
-mod Values
-mod Comments
-mod Runs
-mod Numerals
 mod Beginnings
-mod PieceLaws
+mod Comments
+mod CutLaws
+mod Numerals
 mod PieceAgain
-pub mod CutLaws
+mod PieceLaws
+mod Runs
+mod Values

@@ -10,10 +10,11 @@ use Rattle.std.specs.Str.{bytes_eq}
 use Rattle.lil_base.specs.Names.{is_digit}
 use Rattle.lil_base.specs.declared.fault.Place.{Place}
 use Rattle.lil_base.specs.declared.fault.SourceFault.{SourceFault}
-use Rattle.lil_tree.specs.declared.token.TokenKind.{TokenKind}
-use Rattle.lil_tree.specs.declared.token.TokenKind.TheVariants as k
-use Rattle.lil_tree.specs.Cuts.{is_number_byte, Stops}
-use Rattle.lil_tree.specs.Lexical.{is_octal_digit, is_hex_digit, value, IsRun, plain, with_h, Says, decimal, octal, code, hexadecimal, fits, fault}
+use Rattle.lil_text.specs.declared.token.TokenKind.{TokenKind}
+use Rattle.lil_text.specs.declared.token.TokenKind.TheVariants as k
+use Rattle.lil_text.specs.Cuts.{is_number_byte, Stops}
+use Rattle.lil_base.specs.Faults.{fault}
+use Rattle.lil_text.specs.Lexical.{is_octal_digit, is_hex_digit, value, IsRun, plain, with_h, Says, decimal, octal, code, hexadecimal, fits}
 use Rattle.lil_lexer.specs.Pieces as spec
 use Rattle.lil_lexer.specs.Pieces.{begins_with, run_len, value_within, numeral}
 use Rattle.lil_lexer.proofs.Runs.{or_false, begins_is, begins_itself, all_more, all_join, all_behind, run_found, run_first, run_length, run_taken, run_left, whole_left}

@@ -9,12 +9,13 @@ use Rattle.std.specs.Str.{bytes_eq}
 use Rattle.lil_base.specs.Names.{is_letter, is_digit, is_name_byte, is_name}
 use Rattle.lil_base.specs.declared.fault.Place.{Place}
 use Rattle.lil_base.specs.declared.fault.SourceFault.{SourceFault}
-use Rattle.lil_tree.specs.declared.token.TokenKind.{TokenKind}
-use Rattle.lil_tree.specs.declared.token.TokenKind.TheVariants as k
-use Rattle.lil_tree.specs.declared.token.Word.{Word}
-use Rattle.lil_tree.specs.Cuts.{is_blank, Stops, spelling, word_among, all_words}
-use Rattle.lil_tree.specs.Lexical as lexical
-use Rattle.lil_tree.specs.Lexical.{opens, IsInside, is_quote, goes_on, is_string_byte, EndsLine, pair, single, NoPair, named, IsPiece, blank, comment, name, number, string, mark, long_mark, fault, IsFault, bad_char, open_comment, open_string, bad_in_string, bad_number, too_large, long_name, after_byte, behind}
+use Rattle.lil_text.specs.declared.token.TokenKind.{TokenKind}
+use Rattle.lil_text.specs.declared.token.TokenKind.TheVariants as k
+use Rattle.lil_text.specs.declared.token.Word.{Word}
+use Rattle.lil_text.specs.Cuts.{is_blank, Stops, spelling, word_among, all_words}
+use Rattle.lil_text.specs.Lexical as lexical
+use Rattle.lil_base.specs.Faults.{fault}
+use Rattle.lil_text.specs.Lexical.{opens, IsInside, is_quote, goes_on, is_string_byte, EndsLine, pair, single, NoPair, named, IsPiece, blank, comment, name, number, string, mark, long_mark, IsFault, bad_char, open_comment, open_string, bad_in_string, bad_number, too_large, long_name, after_byte, behind}
 use Rattle.lil_lexer.specs.declared.pieces.Piece.{Piece}
 use Rattle.lil_lexer.specs.Pieces as spec
 use Rattle.lil_lexer.specs.Pieces.{begins_with, after_comment, len_before, comment_len, comment_piece, name_piece, run_len, numeral, with_len, number_piece, line_piece, string_piece, single_piece, pair_piece, mark_piece, skipped, token, Begins}

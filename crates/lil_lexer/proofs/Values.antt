@@ -3,7 +3,7 @@ use Rattle.std.proofs.Common.{◌≡◌, ℕ, ◌+◌, ◌*◌, ◌<◌, ◌≤�
 use Rattle.std.proofs.lemmas.Bool.{leb-true}
 use Rattle.std.proofs.lemmas.Nat.{mul-le}
 use Rattle.std.specs.Prelude.{nat_le}
-use Rattle.lil_tree.specs.Lexical.{digit_value, value_behind, value}
+use Rattle.lil_text.specs.Lexical.{digit_value, value_behind, value}
 use Rattle.lil_lexer.specs.Pieces.{value_within}
 
 module _ (base : ℕ) (some : 1 ≤ base) where

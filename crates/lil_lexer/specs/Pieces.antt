@@ -5,13 +5,14 @@ use Rattle.std.specs.Str.{bytes_eq}
 use Rattle.lil_base.specs.Names.{is_letter, is_digit, is_name_byte, is_name}
 use Rattle.lil_base.specs.declared.fault.Place.{Place}
 use Rattle.lil_base.specs.declared.fault.SourceFault.{SourceFault}
-use Rattle.lil_tree.specs.declared.token.TokenKind.{TokenKind}
-use Rattle.lil_tree.specs.declared.token.TokenKind.TheVariants as k
-use Rattle.lil_tree.specs.declared.token.Word.{Word}
-use Rattle.lil_tree.specs.declared.stop.ReadStop.{ReadStop}
-use Rattle.lil_tree.specs.declared.stop.ReadStop.TheVariants as why
-use Rattle.lil_tree.specs.Cuts.{is_blank, word_among, all_words}
-use Rattle.lil_tree.specs.Lexical.{opens, closes, is_octal_digit, is_hex_digit, value, is_quote, goes_on, is_string_byte, pair, single, fault, after_byte, behind, IsPiece}
+use Rattle.lil_text.specs.declared.token.TokenKind.{TokenKind}
+use Rattle.lil_text.specs.declared.token.TokenKind.TheVariants as k
+use Rattle.lil_text.specs.declared.token.Word.{Word}
+use Rattle.lil_text.specs.declared.stop.ReadStop.{ReadStop}
+use Rattle.lil_text.specs.declared.stop.ReadStop.TheVariants as why
+use Rattle.lil_text.specs.Cuts.{is_blank, word_among, all_words}
+use Rattle.lil_base.specs.Faults.{fault}
+use Rattle.lil_text.specs.Lexical.{opens, closes, is_octal_digit, is_hex_digit, value, is_quote, goes_on, is_string_byte, pair, single, after_byte, behind, IsPiece}
 use Rattle.lil_lexer.specs.declared.pieces.Piece.{Piece}
 
 -- what code returns, beside an outcome that knows no want of memory

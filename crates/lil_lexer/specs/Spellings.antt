@@ -2,7 +2,7 @@
 use Rattle.std.specs.Prelude.{ℕ, List, [], ◌∷◌, Option, Some, None, if◌then◌else◌}
 use Rattle.std.specs.Borrow.{Bor}
 use Rattle.std.specs.Str.{bytes_eq}
-use Rattle.lil_tree.specs.declared.token.Word.{Word}
+use Rattle.lil_text.specs.declared.token.Word.{Word}
 
 abbrev pub look_up : List (Bor (List ℕ) × Word) → List ℕ → Option Word
 look_up [] name = None

@@ -1,8 +1,8 @@
 ghost use Rattle.std.specs.Prelude.{◌≡◌, ◌≤◌, ◌==◌, length};
 ghost use Rattle.std.specs.List.{list_all, prefix_len};
 ghost use Rattle.lil_base.specs.Names as names;
-ghost use Rattle.lil_tree.specs.Cuts as cuts;
-ghost use Rattle.lil_tree.specs.Lexical as lexical;
+ghost use Rattle.lil_text.specs.Cuts as cuts;
+ghost use Rattle.lil_text.specs.Lexical as lexical;
 ghost use Rattle.lil_lexer.specs.Pieces as spec;
 
 pub(crate) fn is_blank(b: u8) -> bool

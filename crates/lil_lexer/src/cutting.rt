@@ -1,14 +1,12 @@
 ghost use Rattle.std.specs.Prelude.{◌≡◌, ◌≤◌, ◌⊎◌, List, [], ◌++◌, length, IfOk};
 ghost use Rattle.lil_base.specs.declared.fault.SourceFault.{SourceFault};
-ghost use Rattle.lil_tree.specs.declared.token.Token.{Token};
-ghost use Rattle.lil_tree.specs.Lexical.{longest_text, before, HasTokens, HasLexicalFault};
+ghost use Rattle.lil_text.specs.declared.token.Token.{Token};
+ghost use Rattle.lil_text.specs.Lexical.{longest_text, before, HasTokens, HasLexicalFault};
 
 use crate::pieces::{Piece, behind, next_piece, stop};
-use lil_base::{Items, Memory, Place, Text};
-use lil_tree::{ReadStop, Token, TokenKind, Tokens};
+use lil_base::{FaultKind, Items, Memory, Place, Text};
+use lil_text::{ReadStop, Token, TokenKind, Tokens};
 use std::alloc::Global;
-
-const TEXT_TOO_LONG: u8 = 65;
 
 const LONGEST_TEXT: usize = 262_144;
 
@@ -49,15 +47,19 @@ fn cut(alloc: Global, text: &[u8]) -> Result<Tokens, ReadStop>
 }
 
 /// The tokens of a text, Finish behind the last byte, or its first fault: 65 for more than 262,144 bytes, else 1 to 6
-/// (Programming in Modula-2, Representation).
+/// (Programming in Modula-2, Representation). Each text has tokens or a fault and not both, and its tokens in one way,
+/// whatever the call answers.
 pub fn tokens(alloc: Global, t: &Text) -> Result<Tokens, ReadStop>
     ensures found { IfOk result (λ ts. HasTokens t.now ts) }
     ensures only { (ts : List Token) → HasTokens t.now ts → (result ≡ Ok ts) ⊎ (result ≡ Err ReadStop.Memory) }
     ensures fault { (f : SourceFault) → result ≡ Err (ReadStop.Fault f) → HasLexicalFault t.now f }
     ensures exact { (f : SourceFault) → HasLexicalFault t.now f → (result ≡ Err (ReadStop.Fault f)) ⊎ (result ≡ Err ReadStop.Memory) }
+    ensures whole { ((ts : List Token) × HasTokens t.now ts) ⊎ ((f : SourceFault) × HasLexicalFault t.now f) }
+    ensures apart { (ts : List Token) (f : SourceFault) → HasTokens t.now ts → HasLexicalFault t.now f → ⊥ }
+    ensures one { (ts us : List Token) → HasTokens t.now ts → HasTokens t.now us → ts ≡ us }
 {
     if LONGEST_TEXT < t.len() {
-        return Err(stop(TEXT_TOO_LONG, START));
+        return Err(stop(FaultKind::TextTooLong, START));
     }
     cut(alloc, t.as_slice())
 }

@@ -1,16 +1,12 @@
 ghost use Rattle.std.specs.Prelude.{◌≡◌, ◌≤◌, ◌+◌, length, IfSome};
-ghost use Rattle.lil_tree.specs.Lexical as lexical;
+ghost use Rattle.lil_text.specs.Lexical as lexical;
 ghost use Rattle.lil_lexer.specs.Pieces as spec;
 ghost use Rattle.lil_lexer.specs.Pieces.{Reads};
 
 use crate::bytes::{all_digits, begins_with, digit_value, hex_len, octal_len};
 use crate::pieces::stop;
-use lil_base::Place;
-use lil_tree::{ReadStop, TokenKind};
-
-const BAD_NUMBER: u8 = 4;
-
-const NUMBER_TOO_LARGE: u8 = 5;
+use lil_base::{FaultKind, Place};
+use lil_text::{ReadStop, TokenKind};
 
 /// How many bytes the number takes with which a text begins: digits and A to F, and an H that follows them.
 #[tactic(auto, unfolding(crate::specs::Pieces::run_len))]
@@ -49,7 +45,7 @@ fn number(base: u32, digits: &[u8], place: Place) -> Result<TokenKind, ReadStop>
     ensures { Reads (spec.number base digits.now place) result }
 {
     match value_within(base, 65535, digits) {
-        None => Err(stop(NUMBER_TOO_LARGE, place)),
+        None => Err(stop(FaultKind::NumberTooLarge, place)),
         Some(value) => Ok(TokenKind::Number(value as u16)),
     }
 }
@@ -58,7 +54,7 @@ fn code(digits: &[u8], place: Place) -> Result<TokenKind, ReadStop>
     ensures { Reads (spec.code digits.now place) result }
 {
     match value_within(8, 255, digits) {
-        None => Err(stop(NUMBER_TOO_LARGE, place)),
+        None => Err(stop(FaultKind::NumberTooLarge, place)),
         Some(value) => Ok(TokenKind::CharCode(value as u8)),
     }
 }
@@ -79,6 +75,6 @@ pub(crate) fn numeral(run: &[u8], place: Place) -> Result<TokenKind, ReadStop>
     } else if all_digits(run) {
         number(10, run, place)
     } else {
-        Err(stop(BAD_NUMBER, place))
+        Err(stop(FaultKind::BadNumber, place))
     }
 }

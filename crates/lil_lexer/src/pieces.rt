@@ -1,8 +1,9 @@
 ghost use Rattle.std.specs.Prelude.{◌≡◌, ◌≤◌, ◌<◌, ◌+◌, length, IfSome, IfOk};
+ghost use Rattle.lil_base.specs.Faults.{fault, fault_number};
 ghost use Rattle.lil_base.specs.declared.fault.SourceFault.{SourceFault};
-ghost use Rattle.lil_tree.specs.Lexical as lexical;
-ghost use Rattle.lil_tree.specs.Lexical.{IsFault};
-ghost use Rattle.lil_tree.specs.declared.stop.ReadStop.TheVariants as why;
+ghost use Rattle.lil_text.specs.Lexical as lexical;
+ghost use Rattle.lil_text.specs.Lexical.{IsFault};
+ghost use Rattle.lil_text.specs.declared.stop.ReadStop.TheVariants as why;
 ghost use Rattle.lil_lexer.specs.Pieces as spec;
 ghost use Rattle.lil_lexer.specs.Pieces.{Reads, HasRoom, Begins};
 
@@ -12,17 +13,9 @@ use crate::bytes::{
 };
 use crate::numbers::{numeral, run_len};
 use crate::words::word_of;
-use lil_base::{Name, Place, SourceFault, Text};
-use lil_tree::{Mark, ReadStop, TokenKind, Word};
+use lil_base::{FaultKind, Name, Place, SourceFault, Text};
+use lil_text::{Mark, ReadStop, TokenKind, Word};
 use std::alloc::Global;
-
-const BAD_CHAR: u8 = 1;
-
-const OPEN_COMMENT: u8 = 2;
-
-const OPEN_STRING: u8 = 3;
-
-const NAME_TOO_LONG: u8 = 6;
 
 /// What a text begins with: a token, or none for a blank or a comment, and how many bytes it takes.
 #[derive(Drop)]
@@ -31,16 +24,10 @@ pub(crate) struct Piece {
     pub len: usize,
 }
 
-pub(crate) fn stop(number: u8, place: Place) -> ReadStop
-    ensures { result ≡ why.Fault (lexical.fault number place) }
+pub(crate) fn stop(kind: FaultKind, place: Place) -> ReadStop
+    ensures { result ≡ why.Fault (fault (fault_number kind) place) }
 {
-    ReadStop::Fault(SourceFault {
-        number,
-        place,
-        about: None,
-        first: 0,
-        second: 0,
-    })
+    ReadStop::Fault(SourceFault::at(kind, place))
 }
 
 fn token(what: TokenKind, len: usize) -> Result<Piece, ReadStop>
@@ -120,7 +107,7 @@ fn comment_piece(inside: &[u8], place: Place) -> Result<Piece, ReadStop>
     ensures { Reads (spec.comment_piece place (spec.comment_len inside.now)) result }
 {
     match comment_len(inside) {
-        None => Err(stop(OPEN_COMMENT, place)),
+        None => Err(stop(FaultKind::OpenComment, place)),
         Some(len) => skipped(len + 2),
     }
 }
@@ -132,7 +119,7 @@ fn name_piece(alloc: Global, name: &[u8], place: Place) -> Result<Piece, ReadSto
     match word_of(name) {
         Some(word) => token(TokenKind::Word(word), name.len()),
         None => match Name::of_slice(alloc, name)? {
-            None => Err(stop(NAME_TOO_LONG, place)),
+            None => Err(stop(FaultKind::NameTooLong, place)),
             Some(ident) => token(TokenKind::Ident(ident), name.len()),
         },
     }
@@ -154,7 +141,10 @@ fn line_piece(alloc: Global, mark: u8, line: &[u8], place: Place) -> Result<Piec
 {
     let good = string_len(mark, line);
     if good < line.len() {
-        return Err(stop(BAD_CHAR, behind(after_byte(place, mark), &line[..good])));
+        return Err(stop(
+            FaultKind::BadChar,
+            behind(after_byte(place, mark), &line[..good]),
+        ));
     }
     token(
         TokenKind::Chars(Text::from_slice(alloc, line)?),
@@ -169,7 +159,7 @@ fn string_piece(alloc: Global, mark: u8, inner: &[u8], place: Place) -> Result<P
 {
     let len = line_len(mark, inner);
     if !begins_with(mark, &inner[len..]) {
-        return Err(stop(OPEN_STRING, place));
+        return Err(stop(FaultKind::OpenString, place));
     }
     line_piece(alloc, mark, &inner[..len], place)
 }
@@ -226,7 +216,7 @@ fn single_piece(b: u8, place: Place) -> Result<Piece, ReadStop>
     ensures { Reads (spec.single_piece place (lexical.single b)) result }
 {
     match single(b) {
-        None => Err(stop(BAD_CHAR, place)),
+        None => Err(stop(FaultKind::BadChar, place)),
         Some(what) => token(what, 1),
     }
 }

@@ -1,6 +1,6 @@
 use crate::tokens;
 use lil_base::{Items, Text};
-use lil_tree::{ReadStop, Token, TokenKind};
+use lil_text::{ReadStop, Token, TokenKind};
 use std::alloc::{AllocError, Global};
 use std::test::Fail;
 

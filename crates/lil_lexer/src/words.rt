@@ -1,8 +1,8 @@
 ghost use Rattle.std.specs.Prelude.{◌≡◌};
-ghost use Rattle.lil_tree.specs.Cuts as cuts;
+ghost use Rattle.lil_text.specs.Cuts as cuts;
 ghost use Rattle.lil_lexer.specs.Spellings as spec;
 
-use lil_tree::Word;
+use lil_text::Word;
 
 const WORDS: [(&str, Word); 40] = [
     ("AND", Word::And),

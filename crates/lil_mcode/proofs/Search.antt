@@ -1,13 +1,7 @@
 -- The search of the entries of CASE, one by one.
 use Rattle.std.proofs.Common.{◌≡◌, ℕ, zero, suc, ◌+◌, ◌-◌, ◌≤◌, true, false, List, Some, refl, ap, ◌∙◌, arith}
-use Rattle.lil_mcode.specs.Bytes.{word_at}
+use Rattle.lil_asm.specs.Bytes.{Entry}
 use Rattle.lil_mcode.specs.Control.{chosen, is_in}
-
--- what stands in an entry
-pub record Entry (code : List ℕ) (p low high target : ℕ) : Type 0 where
-  pub low_at : word_at code p ≡ Some low
-  pub high_at : word_at code (p + 2) ≡ Some high
-  pub target_at : word_at code (p + 4) ≡ Some target
 
 pub chosen_here : (code : List ℕ) (n p x other low high target : ℕ) → Entry code p low high target → is_in low high x ≡ true → chosen code (suc n) p x other ≡ Some target
 chosen_here code n p x other low high target e h = rw (e.low_at, e.high_at, e.target_at, h) refl

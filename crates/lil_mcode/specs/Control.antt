@@ -1,7 +1,7 @@
 -- What the instructions of control compute: the entry that CASE chooses, and the turns of FOR.
 use Rattle.std.specs.Prelude.{ℕ, zero, suc, ◌+◌, ◌-◌, ◌%◌, ℤ, pos, ◌-ℤ◌, neg_ℤ, nat_abs, int_lt, Bool, nat_le, ◌==◌, List, Option, None, Some, if◌then◌else◌, slice_set}
 use Rattle.lil_base.specs.Words.{Whole, Cardinal, Integer, whole_quotient}
-use Rattle.lil_mcode.specs.Bytes.{word_at, ◌>>=◌}
+use Rattle.lil_asm.specs.Bytes.{word_at, ◌>>=◌}
 
 -- how far x lies above low, where 65535 is followed by 0
 abbrev pub above : ℕ → ℕ → ℕ

@@ -1,10 +1,10 @@
-pub mod Bytes
-pub mod State
-pub mod Control
-pub mod Table
 pub mod Calls
-pub mod Loaded
+pub mod Control
 pub mod Fetch
-pub mod Operators
-pub mod Kept
 pub mod Going
+pub mod Kept
+pub mod Loaded
+pub mod Operators
+pub mod Requests
+pub mod State
+pub mod Table

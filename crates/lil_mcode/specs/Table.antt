@@ -1,16 +1,17 @@
 -- The instruction table: what each instruction does. Bad code is tested before traps, and traps before limits; none of them changes the state.
-use Rattle.std.specs.Prelude.{ℕ, ◌+◌, ◌-◌, ◌*◌, ◌%◌, ℤ, Bool, not, List, [], ◌∷◌, length, Option, Some, None, Result, Ok, Err, ◌&&◌, nat_lt, nat_le, ◌==◌, if◌then◌else◌, slice_index, slice_set, is_some, int_lt}
+use Rattle.std.specs.Prelude.{ℕ, ◌+◌, ◌-◌, ◌%◌, ℤ, Bool, not, List, [], ◌∷◌, length, Option, Some, None, Result, Ok, Err, ◌&&◌, nat_lt, nat_le, ◌==◌, if◌then◌else◌, slice_index, slice_set, is_some, int_lt}
 use Rattle.lil_base.specs.Words.{Whole, Cardinal, Integer, sum, difference, product, quotient, remainder, negation, absolute, between, number_of, word_of}
 use Rattle.lil_base.specs.declared.fault.ArithFault.{ArithFault}
 use Rattle.lil_base.specs.Traps.{arith_trap}
 use Rattle.lil_base.specs.declared.fault.TrapKind.{TrapKind}
 use Rattle.lil_base.specs.declared.fault.TrapKind.TheVariants as trap
 use Rattle.lil_base.specs.declared.fault.LimitKind.TheVariants as limit
-use Rattle.lil_mcode.specs.declared.instr.Instr.{Instr}
-use Rattle.lil_mcode.specs.declared.instr.Instr.TheVariants.{Liw, Lib, Dup, Drp, Swp, Lis, Llw, Lgw, Sgw, Rgc, Rgi, Cap, Adc, Sbc, Mlc, Dvc, Mdc, Adi, Sbi, Mli, Dvi, Mdi, Ngi, Abi, Not, Equ, Neq, Lsc, Lec, Lsi, Lei, Ent, Rtn, Jmp, Jpf, Jan, Jor, Jms, Jfs, Cas, Fri, Frn, Trp, Svc}
+use Rattle.lil_asm.specs.declared.instr.Instr.{Instr}
+use Rattle.lil_asm.specs.declared.instr.Instr.TheVariants.{Liw, Lib, Dup, Drp, Swp, Lis, Llw, Lgw, Sgw, Rgc, Rgi, Cap, Adc, Sbc, Mlc, Dvc, Mdc, Adi, Sbi, Mli, Dvi, Mdi, Ngi, Abi, Not, Equ, Neq, Lsc, Lec, Lsi, Lei, Ent, Rtn, Jmp, Jpf, Jan, Jor, Jms, Jfs, Cas, Fri, Frn, Trp, Svc}
 use Rattle.lil_mcode.specs.declared.machine.Event.{Event}
 use Rattle.lil_mcode.specs.declared.machine.Event.TheVariants.{Went, Request, LevelEnded, Trap, Limit, BadCode}
-use Rattle.lil_mcode.specs.Bytes.{decoded}
+use Rattle.lil_asm.specs.Requests.{request_words}
+use Rattle.lil_asm.specs.Bytes.{decoded}
 use Rattle.lil_mcode.specs.Control.{chosen, loop_type, loop_words, turns, after_first}
 use Rattle.lil_mcode.specs.State.{Module, State, module_at, spliced, cleared, body_entry}
 
@@ -137,8 +138,7 @@ chosen_row m s rest None = bad s
 chosen_row m s rest (Some t) = jump m t s (record s { stack = rest })
 
 abbrev pub case_row : Module → ℕ → ℕ → ℕ → State → ℕ → List ℕ → Event × State
-case_row m n other q s x rest =
-    if nat_le (q + 6 * n) (length m.code) then chosen_row m s rest (chosen m.code n q x other) else bad s
+case_row m n other q s x rest = chosen_row m s rest (chosen m.code n q x other)
 
 -- a loop that begins: with its three words, where there is a turn, else at the place behind it
 abbrev pub begun_row : Module → ℕ → ℕ → ℕ → State → ℕ → ℕ → List ℕ → Option ℕ → Event × State
@@ -210,10 +210,6 @@ abbrev pub leave_row : State → Event × State
 leave_row s =
     if s.frame == s.base then end_row s s.bodies
     else return_row s (slice_index s.store (s.frame + 1)) (slice_index s.store (s.frame + 2)) (slice_index s.store (s.frame + 3))
-
--- how many words of the expression stack a request takes, where there is such a request
-abbrev pub request_words : ℕ → Option ℕ
-request_words r = if r == 2 then Some 1 else None
 
 abbrev pub request_row : ℕ → ℕ → State → Option ℕ → Event × State
 request_row r q s None = bad s

@@ -2,13 +2,10 @@
 #![tactic(auto)]
 
 mod arithmetic;
-mod encoding;
-mod instr;
 mod machine;
 mod processor;
 #[cfg(test)]
 mod tests;
 
-pub use encoding::{encode, encode_entry};
-pub use instr::{Instr, decode};
+pub use lil_asm::{Instr, decode, encode, encode_entry};
 pub use machine::{CodeAt, Event, Machine};

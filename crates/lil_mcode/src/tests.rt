@@ -1,4 +1,4 @@
-use crate::{Event, Instr, Machine, encode, encode_entry};
+use crate::{Event, Machine};
 use lil_base::{Bytes, Memory, Name, TrapKind};
 use std::alloc::Global;
 
@@ -53,6 +53,43 @@ fn runs_to_the_end(rt: HostRuntime) {
     let (module, procedure) = machine.names(at).expect(&rt, "names");
     assert!(rt; module.as_slice() == b"Main".as_slice());
     assert!(rt; procedure.is_none());
+}
+
+#[test]
+fn runs_many(rt: HostRuntime) {
+    // ENT 5; LIW 65; SGW 1; LGW 1; LIW 2; ADC; SVC 2; RTN
+    let code = [
+        0x68, 0, 5, 1, 0, 65, 0x26, 0, 1, 0x24, 0, 1, 1, 0, 2, 0x40, 0x7d, 2, 0x6a, 0, 0, 0, 0, 0,
+        0, 0, 0, 0, 0, 0, 0, 0,
+    ];
+    let mut machine = begun(rt.alloc(), &code)
+        .expect(&rt, "memory")
+        .expect(&rt, "a name");
+    let (event, done) = machine.run(4);
+    assert!(rt; event == Event::Went && done == 4);
+    assert!(rt; machine.steps() == 4 && machine.place().place == 9);
+    let (event, done) = machine.run(100);
+    assert!(rt; event == Event::Request(2) && done == 3);
+    assert!(rt; machine.steps() == 7 && machine.place().place == 16);
+    let (event, done) = machine.run(1);
+    assert!(rt; event == Event::LevelEnded && done == 1);
+    assert!(rt; machine.steps() == 8 && machine.place().place == 18);
+}
+
+#[test]
+fn runs_to_a_trap(rt: HostRuntime) {
+    // LIW 0; LIW 1; SBC
+    let mut code = [0; 32];
+    code[0] = 1;
+    code[3] = 1;
+    code[5] = 1;
+    code[6] = 0x41;
+    let mut machine = begun(rt.alloc(), &code)
+        .expect(&rt, "memory")
+        .expect(&rt, "a name");
+    let (event, done) = machine.run(3);
+    assert!(rt; event == Event::Trap(TrapKind::Overflow) && done == 3);
+    assert!(rt; machine.steps() == 3 && machine.place().place == 6);
 }
 
 #[test]
@@ -161,17 +198,4 @@ fn shows(rt: HostRuntime) {
         let word = shown(rt.alloc(), trial).expect(&rt, "memory");
         assert!(rt; word == Some(trial.word));
     }
-}
-
-#[test]
-fn encodes(rt: HostRuntime) {
-    let mut code = Bytes::new(rt.alloc());
-    encode(&mut code, Instr::Fri(4, 1, 258)).expect(&rt, "memory");
-    encode(&mut code, Instr::Lis(9)).expect(&rt, "memory");
-    encode(&mut code, Instr::Cas(1, 513)).expect(&rt, "memory");
-    encode_entry(&mut code, 65535, 2, 300).expect(&rt, "memory");
-    let wanted: [u8; 18] = [
-        0x77, 0, 4, 1, 1, 2, 0x19, 0x76, 0, 1, 2, 1, 255, 255, 0, 2, 1, 44,
-    ];
-    assert!(rt; code.as_slice() == wanted.as_slice());
 }

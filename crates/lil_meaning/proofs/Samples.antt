@@ -1,16 +1,16 @@
 -- Samples of the definitions, computed.
-use Rattle.std.proofs.Common.{◌≡◌, ℕ, pos, negsuc, List, [], ◌∷◌, ◌++◌, Some, None, refl}
+use Rattle.std.proofs.Common.{◌≡◌, ℕ, pos, negsuc, Bool, true, false, List, [], ◌∷◌, ◌++◌, Some, None, refl}
 use Rattle.std.specs.Prelude.{Ok, Err}
 use Rattle.lil_base.specs.Words.{Cardinal, Integer}
 use Rattle.lil_base.specs.declared.fault.TrapKind.TheVariants as trap
-use Rattle.lil_tree.specs.declared.operator.TwoOp.TheVariants.{Div, Mod}
-use Rattle.lil_tree.specs.Kinds.{OfWhole, OfCharacter}
-use Rattle.lil_tree.specs.Scalars.{Number, Character}
-use Rattle.lil_tree.specs.Resolved.{Designator, Variable, Expression, Constant, Statement, Assign, Request, For, Statements, Empty, Arms, NoElse, Else, Arm, Resolved, in_order}
+use Rattle.lil_base.specs.declared.operator.TwoOp.TheVariants.{Equal, Less, AtLeast, Div, Mod}
+use Rattle.lil_resolved.specs.Kinds.{OfWhole, OfTruth, OfCharacter, OfRange}
+use Rattle.lil_resolved.specs.Scalars.{Number, Truth, Character, SetOf, ToObject, Nothing, value_with}
+use Rattle.lil_resolved.specs.Resolved.{Designator, Variable, Chr, Val, Expression, Constant, Statement, Assign, Request, For, Statements, Empty, Arms, NoElse, Else, Arm, Resolved, in_order}
 use Rattle.lil_meaning.specs.Cells.{Global, got}
 use Rattle.lil_meaning.specs.World.{World}
-use Rattle.lil_meaning.specs.Items.{Looping, Turns, Item, Perform, Ended}
-use Rattle.lil_meaning.specs.Steps.{applied, chosen, turns, exited}
+use Rattle.lil_meaning.specs.Items.{Looping, Turns, Item, Perform, Ended, Trapped}
+use Rattle.lil_meaning.specs.Steps.{applied, function_value, chosen, turns, exited}
 use Rattle.lil_meaning.specs.Runs.{src}
 
 -- ---- the turns of FOR
@@ -38,6 +38,47 @@ least_by_minus_one = refl
 
 by_zero : applied Mod (OfWhole Cardinal) (Number (pos 7)) (Number (pos 0)) ≡ Err trap.Divisor
 by_zero = refl
+
+-- ---- a number that no value of a kind has is tested before it becomes one
+no_truth_value : function_value (Val OfTruth) (Number (pos 2)) ≡ Err trap.Range
+no_truth_value = refl
+
+below_truth_values : function_value (Val OfTruth) (Number (negsuc 0)) ≡ Err trap.Range
+below_truth_values = refl
+
+a_truth_value : function_value (Val OfTruth) (Number (pos 1)) ≡ Ok (Truth true)
+a_truth_value = refl
+
+no_value_of_a_range : function_value (Val (OfRange OfTruth (pos 1) (pos 1))) (Number (pos 2)) ≡ Err trap.Range
+no_value_of_a_range = refl
+
+false_outside_a_range : function_value (Val (OfRange OfTruth (pos 1) (pos 1))) (Number (pos 0)) ≡ Err trap.Range
+false_outside_a_range = refl
+
+no_character : function_value Chr (Number (pos 256)) ≡ Err trap.Range
+no_character = refl
+
+a_character_of_a_range : value_with (OfRange OfCharacter (pos 65) (pos 90)) (pos 65) ≡ Some (Character 65)
+a_character_of_a_range = refl
+
+-- ---- values are compared as their kind says, and what has no number isn't compared
+same_characters : applied Equal OfCharacter (Character 65) (Character 65) ≡ Ok (Truth true)
+same_characters = refl
+
+other_truth_values : applied Less OfTruth (Truth false) (Truth true) ≡ Ok (Truth true)
+other_truth_values = refl
+
+in_a_range : applied AtLeast (OfRange (OfWhole Integer) (negsuc 4) (pos 4)) (Number (negsuc 0)) (Number (pos 3)) ≡ Ok (Truth false)
+in_a_range = refl
+
+sets_are_no_numbers : (s t : ℕ → Bool) → applied Equal (OfWhole Cardinal) (SetOf s) (SetOf t) ≡ Ok Nothing
+sets_are_no_numbers s t = refl
+
+objects_are_no_characters : (m n : ℕ) → applied Equal OfCharacter (ToObject m) (ToObject n) ≡ Ok Nothing
+objects_are_no_characters m n = refl
+
+none_is_no_truth_value : applied Equal OfTruth Nothing (Truth false) ≡ Ok Nothing
+none_is_no_truth_value = refl
 
 -- ---- CASE takes the first arm with the label, or what stands behind ELSE
 abbrev arms : Statements → Statements → Arms → Arms
@@ -67,7 +108,7 @@ abbrev cardinal : ℕ → Expression
 cardinal n = Constant (OfWhole Cardinal) (Number (pos n))
 
 abbrev program : List Statement → Resolved
-program statements = record { name = []; variables = OfWhole Cardinal ∷ []; body = in_order statements }
+program statements = record { name = []; names = (99 ∷ []) ∷ []; variables = OfWhole Cardinal ∷ []; body = in_order statements }
 
 abbrev writes_x : Statement
 writes_x = Request 2 (record { kind = OfCharacter; value = Constant OfCharacter (Character 120) } ∷ [])
@@ -85,3 +126,7 @@ no_turn w = refl
 -- a FOR with turns leaves the value of the last one
 last_turn : (w : World) → got (src (program (For c (cardinal 1) (cardinal 6) (pos 2) Empty ∷ []) ∷ []) w 20).cells (record { root = Global 1 0; path = [] }) ≡ Number (pos 5)
 last_turn w = refl
+
+-- a FOR over truth values stops where its kind has no more
+a_turn_too_many : (w : World) → (src (program (For (Variable 0 OfTruth) (cardinal 0) (cardinal 2) (pos 1) Empty ∷ []) ∷ []) w 20).phase ≡ Trapped (record { kind = trap.Range; «module» = []; procedure = None })
+a_turn_too_many w = refl

@@ -1,8 +1,8 @@
 -- Cells: what each variable and object holds, by its root and the fields and positions from there.
 use Rattle.std.specs.Prelude.{ℕ, zero, suc, ◌==◌, Bool, false, ◌&&◌, List, [], ◌∷◌, Option, Some, None, slice_get, if◌then◌else◌}
-use Rattle.lil_tree.specs.Kinds.{Kind}
-use Rattle.lil_tree.specs.Scalars.{Scalar, Nothing, zero_of}
-use Rattle.lil_tree.specs.Resolved.{Resolved}
+use Rattle.lil_resolved.specs.Kinds.{Kind}
+use Rattle.lil_resolved.specs.Scalars.{Scalar, Nothing, zero_of}
+use Rattle.lil_resolved.specs.Resolved.{Resolved}
 
 -- a variable of a module that is loaded, a variable of an activation, or an object
 pub data Root : Type 0 where

@@ -1,11 +1,11 @@
 -- What is left to do. Where an item has a hole, it stands as · here.
 use Rattle.std.specs.Prelude.{ℕ, ℤ, Bool, List, ◌∷◌, Option}
 use Rattle.lil_base.specs.declared.fault.TrapAt.{TrapAt}
-use Rattle.lil_tree.specs.declared.operator.OneOp.{OneOp}
-use Rattle.lil_tree.specs.declared.operator.TwoOp.{TwoOp}
-use Rattle.lil_tree.specs.Kinds.{Kind}
-use Rattle.lil_tree.specs.Scalars.{Scalar}
-use Rattle.lil_tree.specs.Resolved.{Designator, Function, Expression, Argument, Statement, Statements, Empty, Then, Arms}
+use Rattle.lil_base.specs.declared.operator.OneOp.{OneOp}
+use Rattle.lil_base.specs.declared.operator.TwoOp.{TwoOp}
+use Rattle.lil_resolved.specs.Kinds.{Kind}
+use Rattle.lil_resolved.specs.Scalars.{Scalar}
+use Rattle.lil_resolved.specs.Resolved.{Designator, Function, Expression, Argument, Statement, Statements, Empty, Then, Arms}
 use Rattle.lil_meaning.specs.Cells.{Cells, Place}
 use Rattle.lil_meaning.specs.World.{World}
 

@@ -1,5 +1,5 @@
 pub mod Cells
-pub mod World
 pub mod Items
-pub mod Steps
 pub mod Runs
+pub mod Steps
+pub mod World

@@ -1,6 +1,6 @@
 -- Runs of loaded modules: the state after n steps.
 use Rattle.std.specs.Prelude.{ℕ, zero, suc, List, [], ◌∷◌, None}
-use Rattle.lil_tree.specs.Resolved.{Resolved}
+use Rattle.lil_resolved.specs.Resolved.{Resolved}
 use Rattle.lil_meaning.specs.Cells.{fresh_cells}
 use Rattle.lil_meaning.specs.World.{World, Output, world_output}
 use Rattle.lil_meaning.specs.Items.{doing, End, Item, Perform, Activation, Going, Source}
@@ -41,3 +41,7 @@ src modules w n = after modules n (begun modules w)
 
 abbrev pub out : Source → Output
 out s = world_output s.world
+
+-- the state of the meaning of a program module after n steps
+abbrev pub state_of : Resolved → World → ℕ → Source
+state_of p w n = src (p ∷ []) w n

@@ -1,19 +1,19 @@
 -- One step: the first item becomes what its row shows, or a value goes into the hole of the next item.
-use Rattle.std.specs.Prelude.{ℕ, zero, suc, ◌+◌, ◌-◌, ◌/◌, ◌==◌, ℤ, pos, negsuc, ◌+ℤ◌, ◌-ℤ◌, int_lt, int_div, nat_abs, Bool, true, false, not, ◌&&◌, ◌||◌, nat_le, nat_lt, List, [], ◌∷◌, ◌++◌, map, Option, Some, None, Result, Ok, Err, slice_get, if◌then◌else◌}
+use Rattle.std.specs.Prelude.{ℕ, zero, suc, ◌+◌, ◌-◌, ◌/◌, ℤ, pos, negsuc, ◌+ℤ◌, ◌-ℤ◌, int_lt, nat_abs, Bool, true, false, not, ◌&&◌, ◌||◌, nat_le, List, [], ◌∷◌, ◌++◌, map, Option, Some, None, Result, Ok, Err, slice_get, if◌then◌else◌}
 use Rattle.std.specs.List.{list_any}
-use Rattle.lil_base.specs.Words.{Whole, Cardinal, sum, difference, product, quotient, remainder, negation, absolute, whole_rest, is_zero, between, word_of}
+use Rattle.lil_base.specs.Words.{Whole, Cardinal, sum, difference, product, quotient, remainder, negation, absolute, whole_rest, is_zero, between}
 use Rattle.lil_base.specs.Traps.{arith_trap}
 use Rattle.lil_base.specs.declared.fault.ArithFault.{ArithFault}
 use Rattle.lil_base.specs.declared.fault.TrapKind.{TrapKind}
 use Rattle.lil_base.specs.declared.fault.TrapKind.TheVariants as trap
 use Rattle.lil_base.specs.declared.fault.TrapAt.{TrapAt}
-use Rattle.lil_tree.specs.declared.operator.OneOp.{OneOp}
-use Rattle.lil_tree.specs.declared.operator.OneOp.TheVariants as one
-use Rattle.lil_tree.specs.declared.operator.TwoOp.{TwoOp}
-use Rattle.lil_tree.specs.declared.operator.TwoOp.TheVariants.{Equal, Unequal, Less, AtMost, Greater, AtLeast, In, Plus, Minus, Or, Times, Slash, Div, Mod, And}
-use Rattle.lil_tree.specs.Kinds.{Kind, OfWhole, OfTruth, OfCharacter, OfEnumeration, OfRange}
-use Rattle.lil_tree.specs.Scalars.{Scalar, Number, Truth, Character, Nothing, within, scalar_word, scalar_of, ordinal_of, truth_of}
-use Rattle.lil_tree.specs.Resolved.{Designator, Variable, Function, Abs, Cap, Chr, Odd, Ord, Val, Expression, Constant, Taken, One, Two, Short, Apply, Label, Statement, Assign, Request, If, Case, While, Repeat, Loop, Exit, For, Statements, Arms, NoElse, Else, Arm, Resolved, kind_of_place}
+use Rattle.lil_base.specs.declared.operator.OneOp.{OneOp}
+use Rattle.lil_base.specs.declared.operator.OneOp.TheVariants as one
+use Rattle.lil_base.specs.declared.operator.TwoOp.{TwoOp}
+use Rattle.lil_base.specs.declared.operator.TwoOp.TheVariants.{Equal, Unequal, Less, AtMost, Greater, AtLeast, Plus, Minus, Times, Div, Mod}
+use Rattle.lil_resolved.specs.Kinds.{Kind, OfWhole, OfTruth, OfCharacter, OfEnumeration, OfRange}
+use Rattle.lil_resolved.specs.Scalars.{Scalar, Number, Truth, Character, Nothing, within, scalar_word, value_with, ordinal_of, truth_number, truth_of}
+use Rattle.lil_resolved.specs.Resolved.{Designator, Variable, Function, Abs, Cap, Chr, Odd, Ord, Val, Expression, Constant, Taken, One, Two, Short, Apply, Label, Statement, Assign, Request, If, Case, While, Repeat, Loop, Exit, For, Statements, Arms, NoElse, Else, Arm, Resolved, kind_of_place}
 use Rattle.lil_meaning.specs.Cells.{Global, Place, stored, got, alone, loaded_at}
 use Rattle.lil_meaning.specs.World.{serve}
 use Rattle.lil_meaning.specs.Items.{Datum, Scalars, Places, Hole, Get, SetTo, StoreAt, OneOf, LeftOf, RightOf, ShortOf, ApplyTo, Pass, Choose, Turn, Again, Pick, StartOf, LimitOf, Task, Do, Passing, Until, Looping, Turns, End, Item, Value, Evaluate, PlaceOf, Fill, Perform, doing, Activation, Phase, Going, Closing, Ended, Trapped, Source}
@@ -95,8 +95,22 @@ abbrev pub operated : Option (Whole → ℤ → ℤ → Result ℤ ArithFault) �
 operated (Some f) (OfWhole t) u v = outcome (f t (whole_of u) (whole_of v))
 operated _ _ u v = Ok Nothing
 
+-- the number as which a value of a kind is compared, if it is one of those that are
+abbrev pub compared_number : Kind → Scalar → Option ℤ
+compared_number (OfWhole t) (Number z) = Some z
+compared_number OfTruth (Truth b) = Some (pos (truth_number b))
+compared_number OfCharacter (Character c) = Some (pos c)
+compared_number (OfEnumeration n) (Number z) = Some z
+compared_number (OfRange base low high) v = compared_number base v
+compared_number _ _ = None
+
+-- the relation of two numbers; what has none stands in no relation
+abbrev pub related : (ℤ → ℤ → Bool) → Option ℤ → Option ℤ → Result Scalar TrapKind
+related r (Some x) (Some y) = Ok (Truth (r x y))
+related r _ _ = Ok Nothing
+
 abbrev pub compared : Option (ℤ → ℤ → Bool) → TwoOp → Kind → Scalar → Scalar → Result Scalar TrapKind
-compared (Some r) o k u v = Ok (Truth (r (ordinal_of u) (ordinal_of v)))
+compared (Some r) o k u v = related r (compared_number k u) (compared_number k v)
 compared None o k u v = operated (operation_of o) k u v
 
 -- an operator on two values of a kind: its value or its trap
@@ -121,15 +135,20 @@ abbrev pub character_of : Scalar → ℕ
 character_of (Character c) = c
 character_of _ = 0
 
+-- a value, or the trap where there is none
+abbrev pub valued : Option Scalar → Result Scalar TrapKind
+valued (Some v) = Ok v
+valued None = Err trap.Range
+
 -- the value of a kind with a number, if the kind has it
 abbrev pub ranged : Kind → ℤ → Result Scalar TrapKind
-ranged k z = if within k (scalar_of k z) then Ok (scalar_of k z) else Err trap.Range
+ranged k z = valued (value_with k z)
 
 -- a standard function of a value: its value or its trap
 abbrev pub function_value : Function → Scalar → Result Scalar TrapKind
 function_value (Abs t) v = outcome (absolute t (whole_of v))
 function_value Cap v = Ok (Character (capital (character_of v)))
-function_value Chr v = if between (pos 0) (whole_of v) (pos 255) then Ok (Character (word_of (whole_of v))) else Err trap.Range
+function_value Chr v = ranged OfCharacter (whole_of v)
 function_value Odd v = Ok (Truth (not (is_zero (whole_rest (whole_of v) (pos 2)))))
 function_value Ord v = ranged (OfWhole Cardinal) (ordinal_of v)
 function_value (Val k) v = ranged k (ordinal_of v)
@@ -182,12 +201,14 @@ abbrev pub picked : List Resolved → Option Statements → List Item → Source
 picked modules None k s = trapped modules s trap.Case
 picked modules (Some body) k s = with_items s (doing body k)
 
--- a turn of a FOR: its value is stored as by an assignment, then comes the body
+-- a turn of a FOR: its value, if there is one, is stored as by an assignment, then comes the body and what is behind it
+abbrev pub turned_with : List Resolved → Option Scalar → ℕ → Statements → List Item → Source → Source
+turned_with modules (Some v) x body k s = record s { items = doing body k; cells = stored s.cells (variable_place s x) (alone v) }
+turned_with modules None x body k s = trapped modules s trap.Range
+
 abbrev pub turned : List Resolved → Designator → ℤ → ℤ → ℕ → Statements → List Item → Source → Source
 turned modules (Variable x kind) z step left body k s =
-    if within kind (scalar_of kind z)
-    then record s { items = doing body (Perform (Turns (Variable x kind) (z +ℤ step) step left body) ∷ k); cells = stored s.cells (variable_place s x) (alone (scalar_of kind z)) }
-    else trapped modules s trap.Range
+    turned_with modules (value_with kind z) x body (Perform (Turns (Variable x kind) (z +ℤ step) step left body) ∷ k) s
 
 abbrev pub turned_on : List Resolved → Designator → ℤ → ℤ → ℕ → Statements → List Item → Source → Source
 turned_on modules d z step zero body k s = with_items s k

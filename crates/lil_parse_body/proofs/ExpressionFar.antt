@@ -1,24 +1,24 @@
 -- The parser of expressions refuses as too deep only where more tokens stand than levels are left, so that any text can be read whole at some nesting.
 use Rattle.std.proofs.Common.{ℕ, zero, suc, Bool, true, false, ◌&&◌, List, [], ◌∷◌, ◌++◌, Some, None, arith}
-use Rattle.lil_tree.specs.declared.token.Word.TheVariants as w
-use Rattle.lil_tree.specs.declared.token.Mark.TheVariants as m
-use Rattle.lil_tree.specs.declared.operator.OneOp.TheVariants as one
-use Rattle.lil_tree.specs.declared.tree.Ident.{Ident}
-use Rattle.lil_tree.specs.declared.tree.Expr.{Expr}
-use Rattle.lil_tree.specs.declared.tree.Expr.TheVariants as e
-use Rattle.lil_tree.specs.declared.tree.Selector.{Selector}
-use Rattle.lil_tree.specs.declared.tree.Selector.TheVariants as s
-use Rattle.lil_tree.specs.Operators.{begins_factor, begins_expression, selects}
-use Rattle.lil_tree.specs.Trees.{range, designator, begun_at}
-use Rattle.lil_parse_body.specs.declared.kinds.Level.TheVariants as level
-use Rattle.lil_parse_body.specs.declared.kinds.SelectorKind.{SelectorKind}
-use Rattle.lil_parse_body.specs.declared.kinds.SelectorKind.TheVariants as sk
-use Rattle.lil_parse_body.specs.declared.kinds.FactorKind.{FactorKind}
-use Rattle.lil_parse_body.specs.declared.kinds.FactorKind.TheVariants as fk
-use Rattle.lil_parse_body.specs.Steps.{Parser, at, class_at, either_by, is_mark, mark_at, word_at, ident_at}
-use Rattle.lil_parse_body.specs.Kinds.{is_operator, is_sign, operator_at, sign_at, number_at, code_at, chars_at, factor_kind, selector_kind}
+use Rattle.lil_text.specs.declared.token.Word.TheVariants as w
+use Rattle.lil_text.specs.declared.token.Mark.TheVariants as m
+use Rattle.lil_base.specs.declared.operator.OneOp.TheVariants as one
+use Rattle.lil_text.specs.declared.tree.Ident.{Ident}
+use Rattle.lil_text.specs.declared.tree.Expr.{Expr}
+use Rattle.lil_text.specs.declared.tree.Expr.TheVariants as e
+use Rattle.lil_text.specs.declared.tree.Selector.{Selector}
+use Rattle.lil_text.specs.declared.tree.Selector.TheVariants as s
+use Rattle.lil_text.specs.Operators.{begins_factor, begins_expression, selects}
+use Rattle.lil_text.specs.Trees.{range, designator, begun_at}
+use Rattle.lil_parse_body.specs.declared.lookahead.Level.TheVariants as level
+use Rattle.lil_parse_body.specs.declared.lookahead.SelectorKind.{SelectorKind}
+use Rattle.lil_parse_body.specs.declared.lookahead.SelectorKind.TheVariants as sk
+use Rattle.lil_parse_body.specs.declared.lookahead.FactorKind.{FactorKind}
+use Rattle.lil_parse_body.specs.declared.lookahead.FactorKind.TheVariants as fk
+use Rattle.lil_grammar.specs.Steps.{Parser, at, class_at, either_by, is_mark, mark_at, word_at, ident_at}
+use Rattle.lil_parse_body.specs.Lookahead.{is_operator, is_sign, operator_at, sign_at, number_at, code_at, chars_at, factor_kind, selector_kind}
 use Rattle.lil_parse_body.specs.ReadExpressions as spec
-use Rattle.lil_parse_body.proofs.RulesFar.{Far, far_less, far_pure, far_token, far_then, far_after, far_map, far_by, far_either, far_many, far_shallow}
+use Rattle.lil_grammar.specs.RulesFar.{Far, far_less, far_pure, far_token, far_then, far_after, far_map, far_by, far_either, far_many, far_shallow}
 
 pub one_less : {A : Type 0} {p : Parser A} {m : ℕ} → Far (suc m) p → Far m p
 one_less {m = m} x = far_less m (omega arith) x

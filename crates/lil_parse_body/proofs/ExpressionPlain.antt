@@ -1,13 +1,13 @@
 -- What the grammar of expressions derives within a limit, it derives without one.
 use Rattle.std.proofs.Common.{List, None}
-use Rattle.lil_tree.specs.declared.token.Token.{Token}
-use Rattle.lil_tree.specs.declared.tree.Expr.{Expr}
-use Rattle.lil_tree.specs.declared.tree.Range.{Range}
-use Rattle.lil_tree.specs.declared.tree.Designator.{Designator}
-use Rattle.lil_tree.specs.declared.tree.Selector.{Selector}
-use Rattle.lil_tree.specs.Nesting.{Limit, unlimited}
-use Rattle.lil_tree.specs.Expressions as g
-use Rattle.lil_tree.specs.Expressions.{IsExpr, IsRelation, IsSum, IsSigned, IsTerms, IsTerm, IsFactors, IsFactor, IsOperand, IsDesignator, IsSelectors, IsSelector, IsActuals, IsExprs, IsMoreExprs, IsElements, IsRanges, IsMoreRanges, IsRange}
+use Rattle.lil_text.specs.declared.token.Token.{Token}
+use Rattle.lil_text.specs.declared.tree.Expr.{Expr}
+use Rattle.lil_text.specs.declared.tree.Range.{Range}
+use Rattle.lil_text.specs.declared.tree.Designator.{Designator}
+use Rattle.lil_text.specs.declared.tree.Selector.{Selector}
+use Rattle.lil_text.specs.Nesting.{Limit, unlimited}
+use Rattle.lil_text.specs.Expressions as g
+use Rattle.lil_text.specs.Expressions.{IsExpr, IsRelation, IsSum, IsSigned, IsTerms, IsTerm, IsFactors, IsFactor, IsOperand, IsDesignator, IsSelectors, IsSelector, IsActuals, IsExprs, IsMoreExprs, IsElements, IsRanges, IsMoreRanges, IsRange}
 
 mutual
   pub plain_expr : {l : Limit} {ts rest : List Token} {x : Expr} → IsExpr l ts rest x → IsExpr None ts rest x

@@ -1,24 +1,4 @@
-pub mod Turns
-pub mod Rules
-pub mod RulesTokens
-pub mod RulesMany
-pub mod RulesLimit
-pub mod RulesUse
-pub mod RulesExact
-pub mod RulesLists
-pub mod RulesFar
-pub mod RulesOne
-pub mod ExpressionBegins
-pub mod ExpressionLevels
-pub mod ExpressionParts
-pub mod ExpressionFactors
-pub mod ExpressionNames
-pub mod ExpressionRules
-pub mod ExpressionFar
-pub mod ExpressionPlain
-pub mod ExpressionLaws
-pub mod StatementParts
-pub mod StatementRules
-pub mod StatementFar
-pub mod StatementPlain
-pub mod StatementLaws
+mod ExpressionFar
+mod ExpressionPlain
+mod StatementFar
+mod StatementPlain

@@ -1,19 +1,19 @@
 -- The parser of statements refuses as too deep only where more tokens stand than levels are left.
 use Rattle.std.proofs.Common.{ℕ, zero, suc, [], ◌∷◌, ◌++◌, Option, Some, None, arith}
-use Rattle.lil_tree.specs.declared.token.Word.TheVariants as w
-use Rattle.lil_tree.specs.declared.token.Mark.TheVariants as m
-use Rattle.lil_tree.specs.declared.tree.Expr.{Expr}
-use Rattle.lil_tree.specs.declared.tree.Stmt.{Stmt}
-use Rattle.lil_tree.specs.declared.tree.Stmt.TheVariants as s
-use Rattle.lil_tree.specs.Operators.{begins_expression, begins_statement}
-use Rattle.lil_tree.specs.Trees.{guard, arm, for_head, listed}
-use Rattle.lil_parse_body.specs.declared.kinds.FormKind.{FormKind}
-use Rattle.lil_parse_body.specs.declared.kinds.FormKind.TheVariants as st
-use Rattle.lil_parse_body.specs.Steps.{Parser, too_deep, class_at, is_mark, is_word, mark_at, word_at, ident_at}
-use Rattle.lil_parse_body.specs.Kinds.{form_kind}
+use Rattle.lil_text.specs.declared.token.Word.TheVariants as w
+use Rattle.lil_text.specs.declared.token.Mark.TheVariants as m
+use Rattle.lil_text.specs.declared.tree.Expr.{Expr}
+use Rattle.lil_text.specs.declared.tree.Stmt.{Stmt}
+use Rattle.lil_text.specs.declared.tree.Stmt.TheVariants as s
+use Rattle.lil_text.specs.Operators.{begins_expression, begins_statement}
+use Rattle.lil_text.specs.Trees.{guard, arm, for_head, listed}
+use Rattle.lil_parse_body.specs.declared.lookahead.FormKind.{FormKind}
+use Rattle.lil_parse_body.specs.declared.lookahead.FormKind.TheVariants as st
+use Rattle.lil_grammar.specs.Steps.{Parser, too_deep, class_at, is_mark, is_word, mark_at, word_at, ident_at}
+use Rattle.lil_parse_body.specs.Lookahead.{form_kind}
 use Rattle.lil_parse_body.specs.ReadExpressions.{expr}
 use Rattle.lil_parse_body.specs.ReadStatements as spec
-use Rattle.lil_parse_body.proofs.RulesFar.{Far, far_pure, far_token, far_then, far_after, far_map, far_by, far_either, far_many}
+use Rattle.lil_grammar.specs.RulesFar.{Far, far_pure, far_token, far_then, far_after, far_map, far_by, far_either, far_many}
 use Rattle.lil_parse_body.proofs.ExpressionFar.{one_less, far_ranges, far_actuals, far_designated, far_expr}
 
 module _ {n : ℕ} (statement : Parser (Option Stmt)) (y : Far n statement) where

@@ -1,14 +1,14 @@
 -- What the grammar of statements derives within a limit, it derives without one.
 use Rattle.std.proofs.Common.{List, Option, None}
-use Rattle.lil_tree.specs.declared.token.Token.{Token}
-use Rattle.lil_tree.specs.declared.tree.Expr.{Expr}
-use Rattle.lil_tree.specs.declared.tree.Stmt.{Stmt}
-use Rattle.lil_tree.specs.declared.tree.Guard.{Guard}
-use Rattle.lil_tree.specs.declared.tree.Arm.{Arm}
-use Rattle.lil_tree.specs.declared.tree.ForHead.{ForHead}
-use Rattle.lil_tree.specs.Nesting.{Limit, unlimited}
-use Rattle.lil_tree.specs.Statements as g
-use Rattle.lil_tree.specs.Statements.{IsStep, IsForHead, IsStatements, IsMoreStatements, IsStatement, IsForm, IsBody, IsElse, IsGuard, IsMoreGuards, IsArms, IsMoreArms, IsArm}
+use Rattle.lil_text.specs.declared.token.Token.{Token}
+use Rattle.lil_text.specs.declared.tree.Expr.{Expr}
+use Rattle.lil_text.specs.declared.tree.Stmt.{Stmt}
+use Rattle.lil_text.specs.declared.tree.Guard.{Guard}
+use Rattle.lil_text.specs.declared.tree.Arm.{Arm}
+use Rattle.lil_text.specs.declared.tree.ForHead.{ForHead}
+use Rattle.lil_text.specs.Nesting.{Limit, unlimited}
+use Rattle.lil_text.specs.Statements as g
+use Rattle.lil_text.specs.Statements.{IsStep, IsForHead, IsStatements, IsMoreStatements, IsStatement, IsForm, IsBody, IsElse, IsGuard, IsMoreGuards, IsArms, IsMoreArms, IsArm}
 use Rattle.lil_parse_body.proofs.ExpressionPlain.{plain_expr, plain_designator, plain_actuals, plain_ranges}
 
 plain_step : {l : Limit} {ts rest : List Token} {o : Option Expr} → IsStep l ts rest o → IsStep None ts rest o

@@ -1,9 +1,9 @@
 -- Where a cursor stands, and what its reading calls read.
 use Rattle.std.specs.Prelude.{ℕ, ◌-◌, List, length}
-use Rattle.lil_tree.specs.declared.token.Token.{Token}
-use Rattle.lil_tree.specs.declared.tree.Expr.{Expr}
-use Rattle.lil_tree.specs.declared.tree.Stmt.{Stmt}
-use Rattle.lil_parse_body.specs.Steps.{Outcome}
+use Rattle.lil_text.specs.declared.token.Token.{Token}
+use Rattle.lil_text.specs.declared.tree.Expr.{Expr}
+use Rattle.lil_text.specs.declared.tree.Stmt.{Stmt}
+use Rattle.lil_grammar.specs.Steps.{Outcome}
 use Rattle.lil_parse_body.specs.ReadExpressions.{expr}
 use Rattle.lil_parse_body.specs.ReadStatements.{statements}
 

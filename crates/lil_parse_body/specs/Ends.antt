@@ -1,16 +1,12 @@
 -- What may follow a phrase and does not go on with it.
 use Rattle.std.specs.Prelude.{◌≡◌, Bool, false, List}
-use Rattle.lil_tree.specs.declared.token.Token.{Token}
-use Rattle.lil_tree.specs.declared.token.TokenKind.{TokenKind}
-use Rattle.lil_tree.specs.declared.token.Mark.TheVariants as m
-use Rattle.lil_tree.specs.Operators.{joins_factor, begins_expression, begins_statement}
-use Rattle.lil_parse_body.specs.declared.kinds.Level.TheVariants as level
-use Rattle.lil_parse_body.specs.Steps.{at, is_mark}
-use Rattle.lil_parse_body.specs.Kinds.{is_operator}
-
--- the first token, if there is one, is none of these
-abbrev pub Not : (TokenKind → Bool) → List Token → Type 0
-Not test ts = at test ts ≡ false
+use Rattle.lil_text.specs.declared.token.Token.{Token}
+use Rattle.lil_text.specs.declared.token.TokenKind.{TokenKind}
+use Rattle.lil_text.specs.declared.token.Mark.TheVariants as m
+use Rattle.lil_text.specs.Operators.{joins_factor, begins_expression, begins_statement}
+use Rattle.lil_parse_body.specs.declared.lookahead.Level.TheVariants as level
+use Rattle.lil_grammar.specs.Steps.{is_mark, Not}
+use Rattle.lil_parse_body.specs.Lookahead.{is_operator}
 
 abbrev pub EndsFactor : List Token → Type 0
 EndsFactor ts = Not joins_factor ts

@@ -1,27 +1,27 @@
 -- What the parser of expressions computes. The number says how many parts may still lie in one another.
 use Rattle.std.specs.Prelude.{ℕ, zero, suc, Bool, true, false, ◌&&◌, List, [], ◌∷◌, ◌++◌, Some, None}
 use Rattle.lil_base.specs.declared.fault.Place.{Place}
-use Rattle.lil_tree.specs.declared.token.Word.TheVariants as w
-use Rattle.lil_tree.specs.declared.token.Mark.TheVariants as m
-use Rattle.lil_tree.specs.declared.operator.OneOp.TheVariants as one
-use Rattle.lil_tree.specs.declared.operator.TwoOp.{TwoOp}
-use Rattle.lil_tree.specs.declared.tree.Ident.{Ident}
-use Rattle.lil_tree.specs.declared.tree.Qualident.{Qualident}
-use Rattle.lil_tree.specs.declared.tree.Expr.{Expr}
-use Rattle.lil_tree.specs.declared.tree.Expr.TheVariants as e
-use Rattle.lil_tree.specs.declared.tree.Range.{Range}
-use Rattle.lil_tree.specs.declared.tree.Designator.{Designator}
-use Rattle.lil_tree.specs.declared.tree.Selector.{Selector, out-Selector, Selector-F}
-use Rattle.lil_tree.specs.declared.tree.Selector.TheVariants as s
-use Rattle.lil_tree.specs.Trees.{qualident, range, designator, first_place, begun_at}
-use Rattle.lil_tree.specs.Operators.{begins_factor, begins_expression, selects}
-use Rattle.lil_parse_body.specs.declared.kinds.Level.TheVariants as level
-use Rattle.lil_parse_body.specs.declared.kinds.FactorKind.{FactorKind}
-use Rattle.lil_parse_body.specs.declared.kinds.FactorKind.TheVariants as fk
-use Rattle.lil_parse_body.specs.declared.kinds.SelectorKind.{SelectorKind}
-use Rattle.lil_parse_body.specs.declared.kinds.SelectorKind.TheVariants as sk
-use Rattle.lil_parse_body.specs.Steps.{Parser, ◌>>=◌, ◌>>◌, pure, at, either, either_by, shallow, class_at, token, is_mark, mark_at, word_at, ident_at, many}
-use Rattle.lil_parse_body.specs.Kinds.{is_operator, is_sign, operator_at, sign_at, number_at, code_at, chars_at, factor_kind, selector_kind}
+use Rattle.lil_text.specs.declared.token.Word.TheVariants as w
+use Rattle.lil_text.specs.declared.token.Mark.TheVariants as m
+use Rattle.lil_base.specs.declared.operator.OneOp.TheVariants as one
+use Rattle.lil_base.specs.declared.operator.TwoOp.{TwoOp}
+use Rattle.lil_text.specs.declared.tree.Ident.{Ident}
+use Rattle.lil_text.specs.declared.tree.Qualident.{Qualident}
+use Rattle.lil_text.specs.declared.tree.Expr.{Expr}
+use Rattle.lil_text.specs.declared.tree.Expr.TheVariants as e
+use Rattle.lil_text.specs.declared.tree.Range.{Range}
+use Rattle.lil_text.specs.declared.tree.Designator.{Designator}
+use Rattle.lil_text.specs.declared.tree.Selector.{Selector, out-Selector, Selector-F}
+use Rattle.lil_text.specs.declared.tree.Selector.TheVariants as s
+use Rattle.lil_text.specs.Trees.{qualident, range, designator, first_place, begun_at}
+use Rattle.lil_text.specs.Operators.{begins_factor, begins_expression, selects}
+use Rattle.lil_parse_body.specs.declared.lookahead.Level.TheVariants as level
+use Rattle.lil_parse_body.specs.declared.lookahead.FactorKind.{FactorKind}
+use Rattle.lil_parse_body.specs.declared.lookahead.FactorKind.TheVariants as fk
+use Rattle.lil_parse_body.specs.declared.lookahead.SelectorKind.{SelectorKind}
+use Rattle.lil_parse_body.specs.declared.lookahead.SelectorKind.TheVariants as sk
+use Rattle.lil_grammar.specs.Steps.{Parser, ◌>>=◌, ◌>>◌, pure, at, either, either_by, shallow, class_at, token, is_mark, mark_at, word_at, ident_at, many}
+use Rattle.lil_parse_body.specs.Lookahead.{is_operator, is_sign, operator_at, sign_at, number_at, code_at, chars_at, factor_kind, selector_kind}
 
 abbrev pub two : Expr → TwoOp × Place → Expr → Expr
 two x op y = e.Two (first_place x) op.0 op.1 x y

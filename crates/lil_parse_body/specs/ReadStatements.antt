@@ -1,21 +1,21 @@
 -- What the parser of statements computes.
 use Rattle.std.specs.Prelude.{ℕ, zero, suc, List, [], ◌∷◌, ◌++◌, Option, Some, None}
 use Rattle.lil_base.specs.declared.fault.Place.{Place}
-use Rattle.lil_tree.specs.declared.token.Word.TheVariants as w
-use Rattle.lil_tree.specs.declared.token.Mark.TheVariants as m
-use Rattle.lil_tree.specs.declared.tree.Expr.{Expr}
-use Rattle.lil_tree.specs.declared.tree.Designator.{Designator}
-use Rattle.lil_tree.specs.declared.tree.Stmt.{Stmt}
-use Rattle.lil_tree.specs.declared.tree.Stmt.TheVariants as s
-use Rattle.lil_tree.specs.declared.tree.Guard.{Guard}
-use Rattle.lil_tree.specs.declared.tree.Arm.{Arm}
-use Rattle.lil_tree.specs.declared.tree.ForHead.{ForHead}
-use Rattle.lil_tree.specs.Trees.{guard, arm, for_head, listed}
-use Rattle.lil_tree.specs.Operators.{begins_expression, begins_statement}
-use Rattle.lil_parse_body.specs.declared.kinds.FormKind.{FormKind}
-use Rattle.lil_parse_body.specs.declared.kinds.FormKind.TheVariants as st
-use Rattle.lil_parse_body.specs.Steps.{Parser, ◌>>=◌, ◌>>◌, pure, either, too_deep, class_at, token, is_mark, mark_at, is_word, word_at, ident_at, many}
-use Rattle.lil_parse_body.specs.Kinds.{form_kind}
+use Rattle.lil_text.specs.declared.token.Word.TheVariants as w
+use Rattle.lil_text.specs.declared.token.Mark.TheVariants as m
+use Rattle.lil_text.specs.declared.tree.Expr.{Expr}
+use Rattle.lil_text.specs.declared.tree.Designator.{Designator}
+use Rattle.lil_text.specs.declared.tree.Stmt.{Stmt}
+use Rattle.lil_text.specs.declared.tree.Stmt.TheVariants as s
+use Rattle.lil_text.specs.declared.tree.Guard.{Guard}
+use Rattle.lil_text.specs.declared.tree.Arm.{Arm}
+use Rattle.lil_text.specs.declared.tree.ForHead.{ForHead}
+use Rattle.lil_text.specs.Trees.{guard, arm, for_head, listed}
+use Rattle.lil_text.specs.Operators.{begins_expression, begins_statement}
+use Rattle.lil_parse_body.specs.declared.lookahead.FormKind.{FormKind}
+use Rattle.lil_parse_body.specs.declared.lookahead.FormKind.TheVariants as st
+use Rattle.lil_grammar.specs.Steps.{Parser, ◌>>=◌, ◌>>◌, pure, either, too_deep, class_at, token, is_mark, mark_at, is_word, word_at, ident_at, many}
+use Rattle.lil_parse_body.specs.Lookahead.{form_kind}
 use Rattle.lil_parse_body.specs.ReadExpressions.{expr, ranges, actuals, designated}
 
 -- ---- by what stands for a statement

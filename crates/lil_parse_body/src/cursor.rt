@@ -1,20 +1,20 @@
 ghost use Rattle.std.specs.Prelude.{◌≡◌, ◌-◌, ◌<◌, ◌≤◌, length, min, drop, List, Ok, IfOk, IfErr};
-ghost use Rattle.lil_tree.specs.declared.token.Token.{Token as Each};
-ghost use Rattle.lil_tree.specs.declared.tree.Expr.{Expr as Tree};
-ghost use Rattle.lil_tree.specs.declared.tree.Stmt.{Stmt as Statement};
-ghost use Rattle.lil_tree.specs.Nesting.{within};
-ghost use Rattle.lil_tree.specs.Expressions.{IsExpr};
-ghost use Rattle.lil_tree.specs.Statements.{IsStatements};
+ghost use Rattle.lil_text.specs.declared.token.Token.{Token as Each};
+ghost use Rattle.lil_text.specs.declared.tree.Expr.{Expr as Tree};
+ghost use Rattle.lil_text.specs.declared.tree.Stmt.{Stmt as Statement};
+ghost use Rattle.lil_text.specs.Nesting.{Limit, within};
+ghost use Rattle.lil_text.specs.Expressions.{IsExpr};
+ghost use Rattle.lil_text.specs.Statements.{IsStatements};
 ghost use Rattle.lil_parse_body.specs.Ends.{EndsExpression, EndsStatements};
-ghost use Rattle.lil_parse_body.specs.Places.{Longest, StopsAt};
+ghost use Rattle.lil_grammar.specs.Places.{Longest, StopsAt, AnswersAt};
 ghost use Rattle.lil_parse_body.specs.Cursors as spec;
-ghost use Rattle.lil_parse_body.specs.Steps.{Reads};
+ghost use Rattle.lil_grammar.specs.Steps.{Outcome, Reads};
 
 use crate::expression::expr;
-use crate::reader::Reader;
 use crate::statement::statements;
 use lil_base::Items;
-use lil_tree::{Expr, ReadStop, Stmt, Tokens};
+use lil_grammar::Reader;
+use lil_text::{Expr, ReadStop, Stmt, Tokens};
 use std::alloc::Global;
 use std::marker::Model;
 
@@ -90,6 +90,8 @@ impl<'t> Cursor<'t> {
         ensures longest { IfOk result (λ x. Longest IsExpr self.old.left self.new.left) }
         ensures only { (x : Tree) (rest : List Each) → IsExpr (within (spec.room self.old)) self.old.left rest x → EndsExpression rest → Reads (Ok (x, rest)) result self.new.left }
         ensures exact { IfErr result (λ e. StopsAt IsExpr (spec.room self.old) self.old.left e) }
+        ensures exactly { (outcome : Outcome Tree) → AnswersAt IsExpr (spec.room self.old) self.old.left outcome → Reads outcome result self.new.left }
+        ensures one { (l m : Limit) (rest other : List Each) (x y : Tree) → IsExpr l self.old.left rest x → IsExpr m self.old.left other y → EndsExpression rest → EndsExpression other → (x ≡ y) × (rest ≡ other) }
         ensures equation { Reads (spec.expression_at self.old) result self.new.left }
         ensures all { self.new.all ≡ self.old.all }
         ensures nesting { self.new.nesting ≡ self.old.nesting }
@@ -104,6 +106,8 @@ impl<'t> Cursor<'t> {
         ensures longest { IfOk result (λ ss. Longest IsStatements self.old.left self.new.left) }
         ensures only { (ss : List Statement) (rest : List Each) → IsStatements (within (spec.room self.old)) self.old.left rest ss → EndsStatements rest → Reads (Ok (ss, rest)) result self.new.left }
         ensures exact { IfErr result (λ e. StopsAt IsStatements (spec.room self.old) self.old.left e) }
+        ensures exactly { (outcome : Outcome (List Statement)) → AnswersAt IsStatements (spec.room self.old) self.old.left outcome → Reads outcome result self.new.left }
+        ensures one { (l m : Limit) (rest other : List Each) (ss us : List Statement) → IsStatements l self.old.left rest ss → IsStatements m self.old.left other us → EndsStatements rest → EndsStatements other → (ss ≡ us) × (rest ≡ other) }
         ensures equation { Reads (spec.statements_at self.old) result self.new.left }
         ensures all { self.new.all ≡ self.old.all }
         ensures nesting { self.new.nesting ≡ self.old.nesting }

@@ -1,16 +1,16 @@
 ghost use Rattle.std.specs.Prelude.{◌≡◌, Some, IfOk};
-ghost use Rattle.lil_tree.specs.declared.tree.Expr.TheVariants as e;
+ghost use Rattle.lil_text.specs.declared.tree.Expr.TheVariants as e;
 ghost use Rattle.lil_parse_body.specs.ReadExpressions as spec;
-ghost use Rattle.lil_parse_body.specs.Steps.{Reads};
+ghost use Rattle.lil_grammar.specs.Steps.{Reads};
 
-use crate::kinds::{FactorKind, Level, SelectorKind};
-use crate::operand::{
-    chars, code, deep_expression, deep_factor, next_factor, next_selector, number, operator,
-    sees_operator, sees_selector, sees_sign, sign,
+use crate::lookahead::{
+    FactorKind, Level, SelectorKind, next_factor, next_selector, sees_operator, sees_selector,
+    sees_sign,
 };
-use crate::reader::Reader;
+use crate::operand::{chars, code, deep_expression, deep_factor, number, operator, sign};
 use lil_base::{Boxed, Items, Memory, Place};
-use lil_tree::{
+use lil_grammar::Reader;
+use lil_text::{
     Designator, Expr, Ident, Mark, OneOp, Qualident, Range, ReadStop, Selector, TwoOp, Word,
     begun_at, first_place,
 };
@@ -44,14 +44,6 @@ fn is_qualified(selectors: &[Selector]) -> bool
     }
 }
 
-fn copied(alloc: Global, name: &Ident) -> Result<Ident, Memory>
-    ensures { IfOk result (λ x. x ≡ name.now) }
-{
-    let place = name.place;
-    let name = name.name.copy(alloc)?;
-    Ok(Ident { place, name })
-}
-
 /// The qualident that a name with such selectors is.
 #[tactic(auto, unfolding(crate::specs::ReadExpressions::qualified))]
 fn qualified(alloc: Global, name: Ident, selectors: &[Selector]) -> Result<Qualident, Memory>
@@ -59,10 +51,11 @@ fn qualified(alloc: Global, name: Ident, selectors: &[Selector]) -> Result<Quali
 {
     match selectors {
         [Selector::Field(_, field), ..] => {
-            let field = copied(alloc, field)?;
+            let place = field.place;
+            let field = field.name.copy(alloc)?;
             Ok(Qualident {
                 owner: Some(name),
-                name: field,
+                name: Ident { place, name: field },
             })
         }
         _ => Ok(Qualident { owner: None, name }),
@@ -117,7 +110,7 @@ fn related(alloc: Global, reader: &mut Reader<'_>, depth: u8, left: Expr) -> Res
 }
 
 #[cycle(expr)]
-#[tactic(auto, unfolding(crate::specs::ReadExpressions::sum, crate::specs::Steps::many))]
+#[tactic(auto, using(lil_grammar::specs::Turns::turns), unfolding(crate::specs::ReadExpressions::sum, lil_grammar::specs::Steps::many))]
 fn sum(alloc: Global, reader: &mut Reader<'_>, depth: u8) -> Result<Expr, ReadStop>
     ensures { Reads (spec.sum (spec.factor depth) reader.old) result reader.new }
 {
@@ -169,7 +162,7 @@ fn with_sign(alloc: Global, reader: &mut Reader<'_>, depth: u8) -> Result<Expr, 
 }
 
 #[cycle(expr)]
-#[tactic(auto, unfolding(crate::specs::ReadExpressions::term, crate::specs::Steps::many))]
+#[tactic(auto, using(lil_grammar::specs::Turns::turns), unfolding(crate::specs::ReadExpressions::term, lil_grammar::specs::Steps::many))]
 fn term(alloc: Global, reader: &mut Reader<'_>, depth: u8) -> Result<Expr, ReadStop>
     ensures { Reads (spec.term (spec.factor depth) reader.old) result reader.new }
 {
@@ -327,7 +320,7 @@ pub fn designated(alloc: Global, reader: &mut Reader<'_>, depth: u8) -> Result<D
 }
 
 #[cycle(expr)]
-#[tactic(auto, unfolding(crate::specs::ReadExpressions::selectors, crate::specs::Steps::many))]
+#[tactic(auto, using(lil_grammar::specs::Turns::turns), unfolding(crate::specs::ReadExpressions::selectors, lil_grammar::specs::Steps::many))]
 fn selectors(alloc: Global, reader: &mut Reader<'_>, depth: u8) -> Result<Items<Selector>, ReadStop>
     ensures { Reads (spec.selectors (spec.expr depth) reader.old) result reader.new }
 {
@@ -464,7 +457,7 @@ fn some_elements(
 }
 
 #[cycle(expr)]
-#[tactic(auto, unfolding(crate::specs::ReadExpressions::exprs, crate::specs::Steps::many))]
+#[tactic(auto, using(lil_grammar::specs::Turns::turns), unfolding(crate::specs::ReadExpressions::exprs, lil_grammar::specs::Steps::many))]
 fn exprs(alloc: Global, reader: &mut Reader<'_>, depth: u8) -> Result<Items<Expr>, ReadStop>
     ensures { Reads (spec.exprs (spec.expr depth) reader.old) result reader.new }
 {
@@ -498,7 +491,7 @@ fn exprs_turn(
 
 /// Elements of a set, or labels.
 #[cycle(expr)]
-#[tactic(auto, unfolding(crate::specs::ReadExpressions::ranges, crate::specs::Steps::many))]
+#[tactic(auto, using(lil_grammar::specs::Turns::turns), unfolding(crate::specs::ReadExpressions::ranges, lil_grammar::specs::Steps::many))]
 pub fn ranges(alloc: Global, reader: &mut Reader<'_>, depth: u8) -> Result<Items<Range>, ReadStop>
     ensures { Reads (spec.ranges (spec.expr depth) reader.old) result reader.new }
 {

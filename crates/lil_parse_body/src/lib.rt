@@ -3,10 +3,9 @@
 
 mod cursor;
 mod expression;
-mod fault;
-mod kinds;
+mod lookahead;
 mod operand;
-mod reader;
 mod statement;
 
 pub use cursor::Cursor;
+pub use statement::statements;

@@ -1,37 +1,19 @@
 ghost use Rattle.std.specs.Prelude.{◌≡◌};
-ghost use Rattle.lil_tree.specs.Operators as operators;
-ghost use Rattle.lil_tree.specs.declared.tree.Expr.{Expr};
-ghost use Rattle.lil_parse_body.specs.declared.kinds.FactorKind.TheVariants as factor;
-ghost use Rattle.lil_parse_body.specs.declared.kinds.SelectorKind.TheVariants as selector;
-ghost use Rattle.lil_parse_body.specs.Kinds as kinds;
-ghost use Rattle.lil_parse_body.specs.Steps as spec;
-ghost use Rattle.lil_parse_body.specs.Steps.{Reads};
+ghost use Rattle.lil_text.specs.Operators as operators;
+ghost use Rattle.lil_parse_body.specs.Lookahead as ahead;
+ghost use Rattle.lil_grammar.specs.Steps as spec;
+ghost use Rattle.lil_grammar.specs.Steps.{Reads};
 
-use crate::fault::{nested, syntax};
-use crate::kinds::{
-    FactorKind, Level, SelectorKind, begins_expression, begins_factor, factor_kind, operator_in,
-    selector_kind, selects, sign_in,
-};
-use crate::reader::Reader;
+use crate::lookahead::{Level, operator_in, sees_expression, sees_factor, sign_in};
 use lil_base::{Place, Text};
-use lil_tree::{Expr, OneOp, ReadStop, TokenKind, TwoOp};
+use lil_grammar::{Reader, nested, syntax};
+use lil_text::{Expr, OneOp, ReadStop, TokenKind, TwoOp};
 use std::alloc::Global;
 
-/// Whether the next token is an operator of a level.
-#[tactic(auto, unfolding(crate::specs::Steps::at))]
-pub fn sees_operator(reader: &Reader<'_>, level: Level) -> bool
-    ensures { result ≡ spec.at (kinds.is_operator level) reader.now }
-{
-    match reader.token() {
-        Some(t) => operator_in(level, &t.what).is_some(),
-        None => false,
-    }
-}
-
 /// Takes an operator of a level, with its place.
-#[tactic(auto, unfolding(crate::specs::Steps::token, crate::specs::Steps::place_of, crate::specs::Steps::next))]
+#[tactic(auto, unfolding(lil_grammar::specs::Steps::token, lil_grammar::specs::Steps::place_of, lil_grammar::specs::Steps::next))]
 pub fn operator(reader: &mut Reader<'_>, level: Level) -> Result<(TwoOp, Place), ReadStop>
-    ensures { Reads (spec.token (kinds.operator_at level) reader.old) result reader.new }
+    ensures { Reads (spec.token (ahead.operator_at level) reader.old) result reader.new }
 {
     let place = reader.place();
     match reader.token() {
@@ -46,21 +28,10 @@ pub fn operator(reader: &mut Reader<'_>, level: Level) -> Result<(TwoOp, Place),
     }
 }
 
-/// Whether the next token is a sign.
-#[tactic(auto, unfolding(crate::specs::Steps::at))]
-pub fn sees_sign(reader: &Reader<'_>) -> bool
-    ensures { result ≡ spec.at kinds.is_sign reader.now }
-{
-    match reader.token() {
-        Some(t) => sign_in(&t.what).is_some(),
-        None => false,
-    }
-}
-
 /// Takes a sign, with its place.
-#[tactic(auto, unfolding(crate::specs::Steps::token, crate::specs::Steps::place_of, crate::specs::Steps::next))]
+#[tactic(auto, unfolding(lil_grammar::specs::Steps::token, lil_grammar::specs::Steps::place_of, lil_grammar::specs::Steps::next))]
 pub fn sign(reader: &mut Reader<'_>) -> Result<(OneOp, Place), ReadStop>
-    ensures { Reads (spec.token kinds.sign_at reader.old) result reader.new }
+    ensures { Reads (spec.token ahead.sign_at reader.old) result reader.new }
 {
     let place = reader.place();
     match reader.token() {
@@ -76,9 +47,9 @@ pub fn sign(reader: &mut Reader<'_>) -> Result<(OneOp, Place), ReadStop>
 }
 
 /// Takes a number.
-#[tactic(auto, unfolding(crate::specs::Steps::token, crate::specs::Steps::place_of, crate::specs::Steps::next))]
+#[tactic(auto, unfolding(lil_grammar::specs::Steps::token, lil_grammar::specs::Steps::place_of, lil_grammar::specs::Steps::next))]
 pub fn number(reader: &mut Reader<'_>) -> Result<Expr, ReadStop>
-    ensures { Reads (spec.token kinds.number_at reader.old) result reader.new }
+    ensures { Reads (spec.token ahead.number_at reader.old) result reader.new }
 {
     let place = reader.place();
     match reader.token() {
@@ -94,9 +65,9 @@ pub fn number(reader: &mut Reader<'_>) -> Result<Expr, ReadStop>
 }
 
 /// Takes a character code.
-#[tactic(auto, unfolding(crate::specs::Steps::token, crate::specs::Steps::place_of, crate::specs::Steps::next))]
+#[tactic(auto, unfolding(lil_grammar::specs::Steps::token, lil_grammar::specs::Steps::place_of, lil_grammar::specs::Steps::next))]
 pub fn code(reader: &mut Reader<'_>) -> Result<Expr, ReadStop>
-    ensures { Reads (spec.token kinds.code_at reader.old) result reader.new }
+    ensures { Reads (spec.token ahead.code_at reader.old) result reader.new }
 {
     let place = reader.place();
     match reader.token() {
@@ -112,9 +83,9 @@ pub fn code(reader: &mut Reader<'_>) -> Result<Expr, ReadStop>
 }
 
 /// Takes a string.
-#[tactic(auto, unfolding(crate::specs::Steps::token, crate::specs::Steps::place_of, crate::specs::Steps::next))]
+#[tactic(auto, unfolding(lil_grammar::specs::Steps::token, lil_grammar::specs::Steps::place_of, lil_grammar::specs::Steps::next))]
 pub fn chars(alloc: Global, reader: &mut Reader<'_>) -> Result<Expr, ReadStop>
-    ensures { Reads (spec.token kinds.chars_at reader.old) result reader.new }
+    ensures { Reads (spec.token ahead.chars_at reader.old) result reader.new }
 {
     let place = reader.place();
     match reader.token() {
@@ -127,60 +98,6 @@ pub fn chars(alloc: Global, reader: &mut Reader<'_>) -> Result<Expr, ReadStop>
             _ => Err(syntax(place)),
         },
         None => Err(syntax(place)),
-    }
-}
-
-/// The form of the factor that comes next.
-#[tactic(auto, unfolding(crate::specs::Steps::class_at))]
-pub fn next_factor(reader: &Reader<'_>) -> FactorKind
-    ensures { result ≡ spec.class_at factor.Number kinds.factor_kind reader.now }
-{
-    match reader.token() {
-        Some(t) => factor_kind(&t.what),
-        None => FactorKind::Number,
-    }
-}
-
-/// The form of the selector that comes next.
-#[tactic(auto, unfolding(crate::specs::Steps::class_at))]
-pub fn next_selector(reader: &Reader<'_>) -> SelectorKind
-    ensures { result ≡ spec.class_at selector.Field kinds.selector_kind reader.now }
-{
-    match reader.token() {
-        Some(t) => selector_kind(&t.what),
-        None => SelectorKind::Field,
-    }
-}
-
-/// Whether a selector comes next.
-#[tactic(auto, unfolding(crate::specs::Steps::at))]
-pub fn sees_selector(reader: &Reader<'_>) -> bool
-    ensures { result ≡ spec.at operators.selects reader.now }
-{
-    match reader.token() {
-        Some(t) => selects(&t.what),
-        None => false,
-    }
-}
-
-/// Whether an expression comes next.
-#[tactic(auto, unfolding(crate::specs::Steps::at))]
-pub fn sees_expression(reader: &Reader<'_>) -> bool
-    ensures { result ≡ spec.at operators.begins_expression reader.now }
-{
-    match reader.token() {
-        Some(t) => begins_expression(&t.what),
-        None => false,
-    }
-}
-
-#[tactic(auto, unfolding(crate::specs::Steps::at))]
-fn sees_factor(reader: &Reader<'_>) -> bool
-    ensures { result ≡ spec.at operators.begins_factor reader.now }
-{
-    match reader.token() {
-        Some(t) => begins_factor(&t.what),
-        None => false,
     }
 }
 

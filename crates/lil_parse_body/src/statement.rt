@@ -1,41 +1,15 @@
 ghost use Rattle.std.specs.Prelude.{◌≡◌, ◌++◌, OnOk};
-ghost use Rattle.lil_tree.specs.Operators as operators;
-ghost use Rattle.lil_tree.specs.Trees.{listed};
-ghost use Rattle.lil_parse_body.specs.declared.kinds.FormKind.TheVariants as st;
-ghost use Rattle.lil_parse_body.specs.Kinds as kinds;
+ghost use Rattle.lil_text.specs.Trees.{listed};
 ghost use Rattle.lil_parse_body.specs.ReadExpressions.{expr};
 ghost use Rattle.lil_parse_body.specs.ReadStatements as spec;
-ghost use Rattle.lil_parse_body.specs.Steps as steps;
-ghost use Rattle.lil_parse_body.specs.Steps.{Reads};
+ghost use Rattle.lil_grammar.specs.Steps.{Reads};
 
 use crate::expression as parts;
-use crate::fault::nested;
-use crate::kinds::{FormKind, begins_statement, form_kind};
-use crate::operand::sees_expression;
-use crate::reader::Reader;
+use crate::lookahead::{FormKind, next_form, sees_expression, sees_statement};
 use lil_base::{Items, Memory};
-use lil_tree::{Arm, Designator, Expr, ForHead, Guard, Mark, ReadStop, Stmt, Word};
+use lil_grammar::{Reader, nested};
+use lil_text::{Arm, Designator, Expr, ForHead, Guard, Mark, ReadStop, Stmt, Word};
 use std::alloc::Global;
-
-#[tactic(auto, unfolding(crate::specs::Steps::at))]
-fn sees_statement(reader: &Reader<'_>) -> bool
-    ensures { result ≡ steps.at operators.begins_statement reader.now }
-{
-    match reader.token() {
-        Some(t) => begins_statement(&t.what),
-        None => false,
-    }
-}
-
-#[tactic(auto, unfolding(crate::specs::Steps::class_at))]
-fn next_form(reader: &Reader<'_>) -> FormKind
-    ensures { result ≡ steps.class_at st.Named kinds.form_kind reader.now }
-{
-    match reader.token() {
-        Some(t) => form_kind(&t.what),
-        None => FormKind::Named,
-    }
-}
 
 /// Adds what was read, if anything was.
 fn add<T: Drop>(found: &mut Items<T>, next: Option<T>) -> Result<(), Memory>
@@ -86,7 +60,7 @@ fn some_form(alloc: Global, reader: &mut Reader<'_>, depth: u8) -> Result<Option
 
 /// Statements with semicolons between them.
 #[cycle(stmt)]
-#[tactic(auto, unfolding(crate::specs::ReadStatements::statements_by, crate::specs::Steps::many))]
+#[tactic(auto, using(lil_grammar::specs::Turns::turns), unfolding(crate::specs::ReadStatements::statements_by, lil_grammar::specs::Steps::many))]
 pub fn statements(
     alloc: Global,
     reader: &mut Reader<'_>,
@@ -239,7 +213,7 @@ fn if_form(alloc: Global, reader: &mut Reader<'_>, depth: u8) -> Result<Stmt, Re
 }
 
 #[cycle(stmt)]
-#[tactic(auto, unfolding(crate::specs::ReadStatements::guards, crate::specs::Steps::many))]
+#[tactic(auto, using(lil_grammar::specs::Turns::turns), unfolding(crate::specs::ReadStatements::guards, lil_grammar::specs::Steps::many))]
 fn guards(alloc: Global, reader: &mut Reader<'_>, depth: u8) -> Result<Items<Guard>, ReadStop>
     ensures { Reads (spec.guards (expr depth) (spec.statement depth) reader.old) result reader.new }
 {
@@ -331,7 +305,7 @@ fn case_form(alloc: Global, reader: &mut Reader<'_>, depth: u8) -> Result<Stmt, 
 }
 
 #[cycle(stmt)]
-#[tactic(auto, unfolding(crate::specs::ReadStatements::arms, crate::specs::Steps::many))]
+#[tactic(auto, using(lil_grammar::specs::Turns::turns), unfolding(crate::specs::ReadStatements::arms, lil_grammar::specs::Steps::many))]
 fn arms(alloc: Global, reader: &mut Reader<'_>, depth: u8) -> Result<Items<Arm>, ReadStop>
     ensures { Reads (spec.arms (expr depth) (spec.statement depth) reader.old) result reader.new }
 {

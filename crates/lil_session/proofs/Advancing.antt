@@ -1,15 +1,17 @@
 -- One step of a run, as it is shown.
-use Rattle.std.proofs.Common.{◌≡◌, ℕ, Option, List, [], refl, sym, ap, ◌∙◌, subst}
+use Rattle.std.proofs.Common.{◌≡◌, ◌≢◌, ℕ, Option, List, [], refl, sym, ap, ◌∙◌, subst}
 use Rattle.std.proofs.lemmas.List.{append-nil}
 use Rattle.lil_meaning.specs.World.{World, serve, piece_of}
 use Rattle.lil_volume.specs.Told.{followed_by, FollowedByPrefix}
-use Rattle.lil_volume.proofs.Laws.{followed_nothing}
+use Rattle.lil_volume.specs.Laws.{followed_nothing}
 use Rattle.lil_mcode.specs.declared.machine.Event.{Event}
 use Rattle.lil_mcode.specs.declared.machine.Event.TheVariants.{Request}
 use Rattle.lil_mcode.specs.State.{State}
-use Rattle.lil_mcode.specs.Table.{mstep, request_words}
-use Rattle.lil_session.specs.Running.{Finish, Running, Run, running, react, requested, words_taken, arguments, taken, IsAlone, IsStep, IsRefused}
-use Rattle.lil_session.proofs.Steps.{advances}
+use Rattle.lil_mcode.specs.Table.{mstep}
+use Rattle.lil_asm.specs.Requests.{request_words}
+use Rattle.lil_session.specs.Running.{IsAlone, IsStep, IsRefused}
+use Rattle.lil_match.specs.Running.{Finish, Running, Run, running, react, requested, words_taken, arguments, taken}
+use Rattle.lil_match.specs.Steps.{advances}
 use Rattle.lil_session.proofs.Alone.{Moves, mstep_moves}
 
 -- a step that shows nothing
@@ -38,16 +40,20 @@ step_writes s t t' q old new step two is shown w =
       shown = shown;
     }
 
+some_piece : (q : ℕ) (words : List ℕ) → q ≡ 2 → piece_of q words ≢ []
+some_piece q words two none = let e = ap (λ (n : ℕ). piece_of n words) (sym two) ∙ none in cc
+
 -- a step whose character was refused
-pub step_refused : (s t : State) (q : ℕ) (old new : Option (List ℕ)) → mstep s ≡ (Request q, t) → q ≡ 2 → FollowedByPrefix old (piece_of q (arguments 1 t)) new → (w : World) → IsRefused s old new w
-step_refused s t q old new step two prefix w =
-    let at : (n : ℕ) → Run = λ n. requested q n t (running s w) in
-    let run = advances s w (Request q, t) step ∙ ap at (one_word q two) in
-    record {
-      piece = piece_of q (arguments 1 t);
-      adds = ap (λ (r : Run). r.world.screen) run;
-      prefix = prefix;
-    }
+pub step_refused : (s t : State) (q : ℕ) (old new : Option (List ℕ)) → mstep s ≡ (Request q, t) → q ≡ 2 → FollowedByPrefix old (piece_of q (arguments 1 t)) new → IsRefused s old new
+step_refused s t q old new step two prefix = record {
+  number = q;
+  asked = t;
+  step = step;
+  piece = piece_of q (arguments 1 t);
+  its = ap (λ (n : ℕ). piece_of q (arguments n t)) (sym (one_word q two));
+  some = some_piece q (arguments 1 t) two;
+  prefix = prefix;
+}
 
 -- what a step gives, by its equation
 pub moves_at : (s t : State) (e : Event) → IsAlone s → mstep s ≡ (e, t) → Moves s (e, t)

@@ -6,15 +6,16 @@ use Rattle.lil_base.specs.declared.fault.ArithFault.{ArithFault}
 use Rattle.lil_base.specs.declared.fault.TrapKind.{TrapKind}
 use Rattle.lil_base.specs.declared.fault.TrapKind.TheVariants as trap
 use Rattle.lil_base.specs.declared.fault.LimitKind.TheVariants as limit
-use Rattle.lil_mcode.specs.declared.instr.Instr.{Instr}
-use Rattle.lil_mcode.specs.declared.instr.Instr.TheVariants.{Liw, Lib, Dup, Drp, Swp, Lis, Llw, Lgw, Sgw, Rgc, Rgi, Cap, Adc, Sbc, Mlc, Dvc, Mdc, Adi, Sbi, Mli, Dvi, Mdi, Ngi, Abi, Not, Equ, Neq, Lsc, Lec, Lsi, Lei, Ent, Rtn, Jmp, Jpf, Jan, Jor, Jms, Jfs, Cas, Fri, Frn, Trp, Svc}
+use Rattle.lil_asm.specs.declared.instr.Instr.{Instr}
+use Rattle.lil_asm.specs.declared.instr.Instr.TheVariants.{Liw, Lib, Dup, Drp, Swp, Lis, Llw, Lgw, Sgw, Rgc, Rgi, Cap, Adc, Sbc, Mlc, Dvc, Mdc, Adi, Sbi, Mli, Dvi, Mdi, Ngi, Abi, Not, Equ, Neq, Lsc, Lec, Lsi, Lei, Ent, Rtn, Jmp, Jpf, Jan, Jor, Jms, Jfs, Cas, Fri, Frn, Trp, Svc}
 use Rattle.lil_mcode.specs.declared.machine.Event.{Event}
 use Rattle.lil_mcode.specs.declared.machine.Event.TheVariants.{Went, Request, LevelEnded, Trap, Limit, BadCode}
-use Rattle.lil_mcode.specs.Bytes.{decoded}
+use Rattle.lil_asm.specs.Bytes.{decoded}
 use Rattle.lil_mcode.specs.State.{Module, State, module_at}
-use Rattle.lil_mcode.specs.Table.{mstep, act, fetched, performed, result_row, operator_row, two_row, truth_row, on_one, on_two, on_three, push_row, load_row, range_row, store_row, double_row, drop_row, swap_row, sign_row, change_row, capital, denied, equal, unequal, less, at_most, jump, false_row, and_row, or_row, case_row, chosen_row, loop_row, begun_row, called_trap, trap_row, request_row, request_words, leave_row, end_row}
+use Rattle.lil_mcode.specs.Table.{mstep, act, fetched, performed, result_row, operator_row, two_row, truth_row, on_one, on_two, on_three, push_row, load_row, range_row, store_row, double_row, drop_row, swap_row, sign_row, change_row, capital, denied, equal, unequal, less, at_most, jump, false_row, and_row, or_row, case_row, chosen_row, loop_row, begun_row, called_trap, trap_row, request_row, leave_row, end_row}
+use Rattle.lil_asm.specs.Requests.{request_words}
 use Rattle.lil_session.specs.Running.{IsAlone}
-use Rattle.lil_session.proofs.Homes.{yes}
+use Rattle.lil_match.specs.Homes.{yes}
 
 -- what a step leaves, wherever it goes
 pub record Moves (s : State) (r : Event × State) : Type 0 where
@@ -128,7 +129,7 @@ module _ (s : State) (a : IsAlone s) where
   act_moves (Jor w) q m = one_moves s.stack (or_row m w q s) (λ x rest. moves_if _ _ _ (moves_to Went q rest s.store s.top) (jump_moves m w s.stack s.store))
   act_moves (Jms w) q m = jump_moves m (q + w) s.stack s.store
   act_moves (Jfs w) q m = one_moves s.stack (false_row m (q + w) q s) (λ x rest. moves_if _ _ _ (jump_moves m (q + w) rest s.store) (moves_to Went q rest s.store s.top))
-  act_moves (Cas v w) q m = one_moves s.stack (case_row m v w q s) (λ x rest. moves_if _ _ _ (chosen_moves m rest _) (moves_none BadCode))
+  act_moves (Cas v w) q m = one_moves s.stack (case_row m v w q s) (λ x rest. chosen_moves m rest _)
   act_moves (Fri o f t) q m = on_three_moves s.stack (loop_row m (s.frame + o) f t q s) (λ a b k rest. moves_if _ _ _ (begun_moves m (s.frame + o) t q a k rest _) (moves_none BadCode))
   act_moves (Frn v w) q m = moves_if _ _ _ (moves_if _ _ _ (moves_to Went q s.stack s.store s.top) (moves_if _ _ _ (jump_moves m w s.stack _) (moves_none BadCode))) (moves_none BadCode)
   act_moves (Trp w) q m = trap_moves (called_trap w)

@@ -1,20 +1,24 @@
 -- What the machine did, by the answer of its run.
-use Rattle.std.proofs.Common.{◌≡◌, inl, inr, ℕ, true, List, Option, refl, sym, ap, ◌∙◌, subst, arith}
+use Rattle.std.proofs.Common.{◌≡◌, ◌≢◌, inl, inr, ℕ, true, false, List, Option, refl, sym, ◌∙◌, subst, arith}
 use Rattle.lil_base.specs.declared.fault.TrapKind.{TrapKind}
-use Rattle.lil_tree.specs.Resolved.{Resolved}
-use Rattle.lil_tree.specs.Sizes.{IsSmall}
+use Rattle.lil_resolved.specs.Resolved.{Resolved}
+use Rattle.lil_resolved.specs.Sizes.{IsSmall}
 use Rattle.lil_meaning.specs.World.{World}
+use Rattle.lil_meaning.specs.Items.{Phase}
 use Rattle.lil_mcode.specs.State.{Module, State}
 use Rattle.lil_mcode.specs.Calls.{Machine}
 use Rattle.lil_session.specs.declared.run.Ending.{Ending}
 use Rattle.lil_session.specs.declared.run.Ending.TheVariants as ending
 use Rattle.lil_session.specs.declared.status.Status.{Status}
 use Rattle.lil_session.specs.declared.status.Status.TheVariants as a
-use Rattle.lil_session.specs.Rows.{Translates}
-use Rattle.lil_session.specs.Running.{Finish, Running, finish_of, HasRun, IsCut}
-use Rattle.lil_session.specs.Loaded.{loaded, IsAtBody, body_trap, EndingAnswers}
-use Rattle.lil_session.specs.Outcome.{settled}
-use Rattle.lil_session.specs.Counted.{FinishAnswers, MachineRan, MachineAnswers}
+use Rattle.lil_table.specs.Rows.{Translates}
+use Rattle.lil_session.specs.Running.{finish_of, HasRun, IsCut}
+use Rattle.lil_match.specs.Running.{Finish, Running}
+use Rattle.lil_session.specs.Loaded.{IsAtBody, body_trap, EndingAnswers}
+use Rattle.lil_laws.specs.Loading.{loaded}
+use Rattle.lil_session.specs.Outcome.{settled, Allowed, IsOver}
+use Rattle.lil_session.specs.Counted.{IsEnd, FinishAnswers, MachineRan, MachineAnswers}
+use Rattle.lil_session.specs.Report.{is_fixed}
 use Rattle.lil_session.proofs.Enough.{enough}
 
 module _ (p : Resolved) (code : List ℕ) (small : IsSmall p) (t : Translates p code) (steps : ℕ) (old new : Option (List ℕ)) (w : World) where
@@ -22,28 +26,29 @@ module _ (p : Resolved) (code : List ℕ) (small : IsSmall p) (t : Translates p 
   start = (loaded p code).state
 
   -- a run that took its budget or came to its end
-  ran_all : (f : Finish) (s : Status) → HasRun start steps f old new w → FinishAnswers s steps steps f → (f ≡ Running → settled s ≡ true → s ≡ a.StepsSpent) → (s ≡ a.StepsSpent → f ≡ Running) → MachineRan p w steps old new s
-  ran_all f s ran fits spent goes = record {
+  ran_all : (f : Finish) (s : Status) → HasRun start steps f old new w → FinishAnswers s steps steps f → (f ≡ Running → settled s ≡ true → s ≡ a.StepsSpent) → (s ≡ a.StepsSpent → f ≡ Running) → s ≢ a.ScreenFault → MachineRan p w steps old new s
+  ran_all f s ran fits spent goes no_cut = record {
     code = code;
     translates = t;
     done = steps;
     within = omega arith;
     finish = subst (λ (x : Finish). FinishAnswers s steps steps x) ran.finish fits;
     shown = λ _. ran.shown;
+    cut = λ is. absurd (no_cut is);
     spent = λ on. spent (ran.finish ∙ on);
     enough = λ is. enough p code small t w steps (sym ran.finish ∙ goes is);
   }
 
   pub machine_end : (machine : Machine) (e : Ending) (s : Status) → HasRun start steps (finish_of e) old new w → EndingAnswers machine e s → ((k : TrapKind) → e ≡ ending.Trapped k → (m : Module) × IsAtBody machine m) → MachineAnswers p w steps old new s
   machine_end machine ending.Done s ran is at =
-      subst (λ (x : Status). MachineAnswers p w steps old new x) (sym is) (ran_all (finish_of ending.Done) a.Done ran refl (λ goes ok. cc) (λ is. cc))
+      subst (λ (x : Status). MachineAnswers p w steps old new x) (sym is) (ran_all (finish_of ending.Done) a.Done ran refl (λ goes ok. cc) (λ is. cc) (λ is. cc))
   machine_end machine (ending.Trapped k) s ran (inl memory) at =
-      subst (λ (x : Status). MachineAnswers p w steps old new x) (sym memory) (inr (ran_all (finish_of (ending.Trapped k)) a.Memory ran tt (λ goes ok. cc) (λ is. cc)))
+      subst (λ (x : Status). MachineAnswers p w steps old new x) (sym memory) (inr (ran_all (finish_of (ending.Trapped k)) a.Memory ran tt (λ goes ok. cc) (λ is. cc) (λ is. cc)))
   machine_end machine (ending.Trapped k) s ran (inr is) at =
       let body = at k refl in
-      subst (λ (x : Status). MachineAnswers p w steps old new x) (sym (is body.0 body.1)) (ran_all (finish_of (ending.Trapped k)) (a.Trapped (body_trap body.0 k)) ran refl (λ goes ok. cc) (λ is. cc))
+      subst (λ (x : Status). MachineAnswers p w steps old new x) (sym (is body.0 body.1)) (ran_all (finish_of (ending.Trapped k)) (a.Trapped (body_trap body.0 k)) ran refl (λ goes ok. cc) (λ is. cc) (λ is. cc))
   machine_end machine ending.Spent s ran is at =
-      subst (λ (x : Status). MachineAnswers p w steps old new x) (sym is) (ran_all (finish_of ending.Spent) a.StepsSpent ran (refl, refl) (λ goes ok. refl) (λ is. refl))
+      subst (λ (x : Status). MachineAnswers p w steps old new x) (sym is) (ran_all (finish_of ending.Spent) a.StepsSpent ran (refl, refl) (λ goes ok. refl) (λ is. refl) (λ is. cc))
   machine_end machine _ s ran is at = absurd is
 
   -- a run that the screen stopped: its request failed
@@ -55,6 +60,7 @@ module _ (p : Resolved) (code : List ℕ) (small : IsSmall p) (t : Translates p 
     within = (let less = cut.within in omega (arith, less));
     finish = (cut.within, cut.finish);
     shown = λ differs. absurd (differs refl);
+    cut = λ is. cut.refused;
     spent = λ goes ok. cc;
     enough = λ is. cc;
   }
@@ -71,14 +77,34 @@ module _ (p : Resolved) (w : World) (steps : ℕ) (old new : Option (List ℕ)) 
   ran_settled a.Memory is ran = cc
   ran_settled _ is ran = absurd ran
 
-  pub ran_memory : (s : Status) → settled s ≡ true → MachineRan p w steps old new s → MachineRan p w steps old new a.Memory
-  ran_memory s is ran = record {
+  -- memory is wanted for the lines of a trap alone: those of Done and of a spent budget are fixed
+  pub ran_memory : (s : Status) → is_fixed s ≡ false → MachineAnswers p w steps old new s → MachineRan p w steps old new a.Memory
+  ran_memory (a.Trapped t) made ran = record {
     code = ran.code;
     translates = ran.translates;
     done = ran.done;
     within = ran.within;
-    finish = tt;
-    shown = λ _. ran.shown (λ fault. (let e = sym is ∙ ap settled fault in cc));
+    finish = subst IsEnd (sym ran.finish) tt;
+    shown = λ _. ran.shown (λ fault. cc);
+    cut = λ is. cc;
     spent = λ goes ok. cc;
     enough = λ spent. cc;
   }
+  ran_memory a.Done made ran = cc
+  ran_memory a.StepsSpent made ran = cc
+  ran_memory a.ScreenFault made ran = cc
+  ran_memory a.Memory made ran = cc
+  ran_memory a.VolumeFault made ran = cc
+  ran_memory a.ReportFault made ran = cc
+  ran_memory _ made ran = absurd ran
+
+  -- and the meaning is over there
+  pub over_where : (s : Status) (e : Phase) → is_fixed s ≡ false → MachineAnswers p w steps old new s → Allowed s e → IsOver e
+  over_where (a.Trapped t) e made ran allowed = subst IsOver (sym allowed) tt
+  over_where a.Done e made ran allowed = cc
+  over_where a.StepsSpent e made ran allowed = cc
+  over_where a.ScreenFault e made ran allowed = cc
+  over_where a.Memory e made ran allowed = cc
+  over_where a.VolumeFault e made ran allowed = cc
+  over_where a.ReportFault e made ran allowed = cc
+  over_where _ e made ran allowed = absurd ran

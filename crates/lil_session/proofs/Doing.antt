@@ -1,13 +1,14 @@
 -- What a command that was done says of its answer and its devices.
-use Rattle.std.proofs.Common.{◌≡◌, ◌⊎◌, inl, inr, ℕ, ◌≤◌, true, false, List, [], ◌++◌, Option, None, Some, MatchOption, Result, Ok, Err, refl, sym, ◌∙◌, ap, subst, arith}
+use Rattle.std.proofs.Common.{◌≡◌, ◌≢◌, ◌⊎◌, inl, inr, ℕ, ◌≤◌, true, false, List, [], ◌++◌, Option, None, Some, MatchOption, Result, Ok, Err, refl, sym, ◌∙◌, ap, subst, arith}
 use Rattle.std.specs.FinMap.{get}
 use Rattle.std.proofs.lemmas.Bool.{both_ways}
 use Rattle.std.proofs.lemmas.List.{append-nil}
 use Rattle.lil_base.specs.declared.fault.SourceFault.{SourceFault}
-use Rattle.lil_tree.specs.Resolved.{Resolved}
+use Rattle.lil_resolved.specs.Resolved.{Resolved}
 use Rattle.lil_tree.specs.Structured.{IsStructured}
 use Rattle.lil_meaning.specs.World.{World}
 use Rattle.lil_meaning.specs.Items.{Going}
+use Rattle.lil_meaning.specs.Runs.{state_of}
 use Rattle.lil_volume.specs.Causes.{Rose, VolumeCause}
 use Rattle.lil_volume.specs.declared.outside.VolumeError.{VolumeError}
 use Rattle.lil_volume.specs.declared.outside.VolumeError.TheVariants.{Failed}
@@ -15,43 +16,36 @@ use Rattle.lil_volume.specs.Told.{Files, FileIs, followed_by}
 use Rattle.lil_session.specs.declared.status.Status.{Status}
 use Rattle.lil_session.specs.declared.status.Status.TheVariants as a
 use Rattle.lil_session.specs.Words.{mod_file}
-use Rattle.lil_session.specs.Outcome.{settled, gives_way, with_writes, not_built, Allowed, Answers, SourceAnswers, TextAnswers, Blames, Devices, Finds, Headline, IsRunAnswer, IsRunnable, MeansAnswer, Runs, Shows}
+use Rattle.lil_session.specs.Outcome.{settled, gives_way, with_writes, not_built, Allowed, Answers, EndsSo, SourceAnswers, TextAnswers, Blames, Devices, Finds, Headline, IsRunAnswer, IsRunnable, MeansAnswer, Runs, Shows}
 use Rattle.lil_session.specs.Counted.{MachineAnswers}
-use Rattle.lil_session.specs.Answered.{TextRan, Ran}
-use Rattle.lil_structured.proofs.Unique.{structured_unique}
+use Rattle.lil_session.specs.Answered.{TextRan, CommandRan, IsAnswer, IsUnrun}
+use Rattle.lil_session.proofs.Agree.{MeansOne, texts_agree}
 
 followed_none : (old : Option (List ℕ)) (more : List ℕ) → more ≡ [] → old ≡ followed_by old more
 followed_none None more none = refl
 followed_none (Some xs) more none = ap (λ (l : List ℕ). Some l) (sym (ap (λ (l : List ℕ). xs ++ l) none ∙ append-nil xs))
 
 -- before the first step
-pub shows_none : (p : Resolved) (w : World) (old : Option (List ℕ)) (s : Status) → w.screen ≡ [] → Allowed s Going → Shows p w old old s
-shows_none p w old s none ends =
-    let whole : old ≡ followed_by old w.screen = followed_none old w.screen none in
-    record {
-      n = 0;
-      piece = [];
-      later = 0;
-      adds = sym (append-nil w.screen);
-      prefix = (0, whole ∙ followed_none (followed_by old w.screen) [] refl);
-      whole = λ _. whole;
-      keys = refl;
-      writes = refl;
-      ends = ends;
-    }
+pub shows_none : (p : Resolved) (w : World) (old : Option (List ℕ)) (s : Status) → w.screen ≡ [] → s ≢ a.ScreenFault → Allowed s Going → Shows p w old old s
+shows_none p w old s none no_screen ends = record {
+  n = 0;
+  shown = record {
+    whole = λ _. followed_none old w.screen none;
+    cut = λ fault. absurd (no_screen fault);
+    ends = ends;
+    stops = λ _. inl refl;
+  };
+  keys = refl;
+  writes = refl;
+}
 
 -- a run that shows so, and takes no keys and writes no files
 pub headline_of : (p : Resolved) (w : World) (before after : Devices) (s : Status) → Finds before.files before.keys w → Shows p w before.shown after.shown s → after.keys ≡ before.keys → after.files ≡ before.files → Headline p w before after s
 headline_of p w before after s finds shows same_keys same_files = record {
   n = shows.n;
-  piece = shows.piece;
-  later = shows.later;
-  adds = shows.adds;
-  prefix = shows.prefix;
-  whole = shows.whole;
+  shown = shows.shown;
   keys = same_keys ∙ finds.keys_told ∙ ap (λ (l : List ℕ). Some l) (sym shows.keys);
   files = same_files ∙ ap (λ (l : List (List ℕ × List ℕ)). with_writes before.files l) (sym (shows.writes ∙ finds.nothing_written));
-  ends = shows.ends;
 }
 
 some_same : {A : Type 0} (x y : A) → Some x ≡ Some y → x ≡ y
@@ -66,9 +60,10 @@ found_as files m name found told is = subst (λ (f : Option Files). FileIs f nam
 
 -- want of memory, or a fault of the volume, before anything was run
 pub ran_not : (name : Option (List ℕ)) (steps : ℕ) (before : Devices) (files : Option Files) (faults : ℕ) (s : Status) → (s ≡ a.Memory) ⊎ ((s ≡ a.VolumeFault) × Rose before.volume_faults faults)
-    → files ≡ before.files → before.volume_faults ≤ faults → (faults ≡ before.volume_faults) ⊎ ((x : List ℕ) × (name ≡ Some x)) → Ran name steps before (record before { files = files; volume_faults = faults }) s
+    → files ≡ before.files → before.volume_faults ≤ faults → (faults ≡ before.volume_faults) ⊎ ((x : List ℕ) × (name ≡ Some x)) → CommandRan name steps before (record before { files = files; volume_faults = faults }) s
 ran_not name steps before files faults s cause same later asked = record {
   answer = λ w finds is. absurd (not_settled is);
+  ends_where = λ w p n t finds runs ends is. absurd (not_settled is);
   usage_only = λ is. absurd (no is refl);
   usage_where = λ none stays. absurd (not_stays stays);
   no_file_only = λ m file told is. absurd (no is refl);
@@ -77,9 +72,9 @@ ran_not name steps before files faults s cause same later asked = record {
   fault_where = λ m x text told named there none stays. absurd (not_stays stays);
   missed_is = λ file is. absurd (no is refl);
   fault_is = λ f is. absurd (no is refl);
-  settles = inr settles;
-  no_refusal = inr (inr (inr refusal));
-  headline = λ w p finds runs. headline_of p w before (record before { files = files; volume_faults = faults }) s finds (shows_none p w before.shown s finds.nothing_shown allowed) refl same;
+  kinds = comes;
+  not_report = λ is. absurd (no is refl);
+  headline = λ w p finds runs. headline_of p w before (record before { files = files; volume_faults = faults }) s finds (shows_none p w before.shown s finds.nothing_shown no_screen allowed) refl same;
   machine = λ w p finds runs. unrun w p;
   nothing = λ _. refl;
   called = inl (refl, refl);
@@ -117,11 +112,8 @@ ran_not name steps before files faults s cause same later asked = record {
     no_screen : s ≡ a.ScreenFault → ⊥
     no_screen is = elim cause [ inl memory ↦ memory_or_screen (sym memory ∙ is) | inr fault ↦ volume_or_screen (sym fault.0 ∙ is) ]
 
-    settles : (s ≡ a.VolumeFault) ⊎ ((s ≡ a.ScreenFault) ⊎ (s ≡ a.Memory))
-    settles = elim cause [ inl memory ↦ inr (inr memory) | inr fault ↦ inl fault.0 ]
-
-    refusal : (s ≡ a.VolumeFault) ⊎ IsRunAnswer s
-    refusal = elim cause [ inl memory ↦ inr (subst (λ (t : Status). IsRunAnswer t) (sym memory) tt) | inr fault ↦ inl fault.0 ]
+    comes : IsAnswer s
+    comes = elim cause [ inl memory ↦ subst (λ (t : Status). IsAnswer t) (sym memory) tt | inr fault ↦ subst (λ (t : Status). IsAnswer t) (sym fault.0) tt ]
 
     allowed : Allowed s Going
     allowed = elim cause [ inl memory ↦ subst (λ (t : Status). Allowed t Going) (sym memory) tt | inr fault ↦ subst (λ (t : Status). Allowed t Going) (sym fault.0) tt ]
@@ -145,8 +137,9 @@ same_fault : (f g : SourceFault) → a.SourceFault f ≡ a.SourceFault g → f �
 same_fault f g same = cc
 
 -- a text that isn't structured was not run
-pub text_not : (file text : List ℕ) (steps : ℕ) (old : Option (List ℕ)) (faults : ℕ) (fault : SourceFault) → ((p : Resolved) → IsStructured file text p → ⊥) → fault ≡ not_built → TextRan file text steps old faults old faults (a.SourceFault fault)
-text_not file text steps old faults fault none is = record {
+pub text_not : (file text : List ℕ) (steps : ℕ) (old : Option (List ℕ)) (faults : ℕ) (fault : SourceFault) → MeansOne file text → ((p : Resolved) → IsStructured file text p → ⊥) → fault ≡ not_built → TextRan file text steps old faults old faults (a.SourceFault fault)
+text_not file text steps old faults fault unique none is = record {
+  one = λ settles. unique;
   answer = λ w blank settles. inr (inl (none, ap a.SourceFault is));
   fault_only = λ f same. (sym (same_fault fault f same) ∙ is, none);
   fault_where = λ also stays. ap a.SourceFault is;
@@ -162,11 +155,12 @@ text_not file text steps old faults fault none is = record {
 -- memory was wanted before the text was read
 pub text_memory : (file text : List ℕ) (steps : ℕ) (old : Option (List ℕ)) (faults : ℕ) → TextRan file text steps old faults old faults a.Memory
 text_memory file text steps old faults = record {
+  one = λ settles. absurd (no_true settles);
   answer = λ w blank settles. absurd (no_true settles);
   fault_only = λ f same. absurd (no_fault f same);
   fault_where = λ none gives. absurd (no_true (sym gives));
   kinds = inr tt;
-  shows = λ w p blank structured. shows_none p w old a.Memory blank tt;
+  shows = λ w p blank structured. shows_none p w old a.Memory blank (λ is. cc) tt;
   machine = λ w p blank structured. inl refl;
   nothing = λ f same. refl;
   called = inl (refl, refl);
@@ -181,18 +175,19 @@ text_memory file text steps old faults = record {
     no_fault f same = cc
 
 -- a text that is structured was run
-pub text_ran : (file text : List ℕ) (m : Resolved) (steps : ℕ) (old : Option (List ℕ)) (old_faults : ℕ) (new : Option (List ℕ)) (new_faults : ℕ) (s : Status) → IsStructured file text m
+pub text_ran : (file text : List ℕ) (m : Resolved) (steps : ℕ) (old : Option (List ℕ)) (old_faults : ℕ) (new : Option (List ℕ)) (new_faults : ℕ) (s : Status) → MeansOne file text → IsStructured file text m
     → ((w : World) → w.screen ≡ [] → Shows m w old new s)
     → ((w : World) → w.screen ≡ [] → settled s ≡ true → (s ≡ a.StepsSpent) ⊎ MeansAnswer m w s)
     → IsRunAnswer s → ((w : World) → w.screen ≡ [] → MachineAnswers m w steps old new s) → Blames a.ScreenFault old_faults new_faults s → (s ≡ a.ScreenFault) ⊎ (new_faults ≡ old_faults)
     → TextRan file text steps old old_faults new new_faults s
-text_ran file text m steps old old_faults new new_faults s structured shows answer kinds machine cause told = record {
+text_ran file text m steps old old_faults new new_faults s unique structured shows answer kinds machine cause told = record {
+  one = λ settles. unique;
   answer = λ w none is. either (answer w none is);
   fault_only = λ f is. absurd (no_fault f is);
   fault_where = λ none stays. absurd (none m structured);
   kinds = inr kinds;
-  shows = λ w p none also. subst (λ (r : Resolved). Shows r w old new s) (structured_unique file text m p structured also) (shows w none);
-  machine = λ w p none also. subst (λ (r : Resolved). MachineAnswers r w steps old new s) (structured_unique file text m p structured also) (machine w none);
+  shows = λ w p none also. subst (λ (r : Resolved). Shows r w old new s) (unique m p structured also) (shows w none);
+  machine = λ w p none also. subst (λ (r : Resolved). MachineAnswers r w steps old new s) (unique m p structured also) (machine w none);
   nothing = λ f is. absurd (no_fault f is);
   called = inr (m, structured);
   cause = cause;
@@ -210,9 +205,10 @@ text_ran file text m steps old old_faults new new_faults s structured shows answ
 pub source_ran : (file text : List ℕ) (steps : ℕ) (before : Devices) (files : Option Files) (faults : ℕ) (shown : Option (List ℕ)) (screen_faults : ℕ) (s : Status)
     → FileIs before.files (mod_file file) (Some text) → files ≡ before.files → faults ≡ before.volume_faults
     → TextRan file text steps before.shown before.screen_faults shown screen_faults s
-    → Ran (Some file) steps before (record before { files = files; volume_faults = faults; shown = shown; screen_faults = screen_faults }) s
+    → CommandRan (Some file) steps before (record before { files = files; volume_faults = faults; shown = shown; screen_faults = screen_faults }) s
 source_ran file text steps before files faults shown screen_faults s is same quiet ran = record {
   answer = λ w finds settles. either w (found_in before.files before.keys w (mod_file file) (Some text) finds is) (ran.answer w finds.nothing_shown settles);
+  ends_where = λ w p n t finds runs ends settles. ended w p n t finds runs ends (ran.one settles) (ran.answer w finds.nothing_shown settles);
   usage_only = λ usage. absurd (no usage (λ f e. cc) (λ h. h));
   usage_where = λ none stays. cc;
   no_file_only = λ m x told missed. absurd (no missed (λ f e. cc) (λ h. h));
@@ -221,11 +217,11 @@ source_ran file text steps before files faults shown screen_faults s is same qui
   fault_where = λ m x t told named there none stays. ran.fault_where (none_here m x t told named there none) stays;
   missed_is = λ x missed. absurd (no missed (λ f e. cc) (λ h. h));
   fault_is = λ f fault. (ran.fault_only f fault).0;
-  settles = settles ran.kinds;
-  no_refusal = inr (inr (refusal ran.kinds));
+  kinds = comes ran.kinds;
+  not_report = λ report. absurd (no report (λ f e. cc) (λ h. h));
   headline = λ w p finds runs. headline_of p w before (record before { files = files; volume_faults = faults; shown = shown; screen_faults = screen_faults }) s finds (ran.shows w p finds.nothing_shown (structured_here w p finds runs)) refl same;
   machine = λ w p finds runs. ran.machine w p finds.nothing_shown (structured_here w p finds runs);
-  nothing = quietly;
+  nothing = quietly ran.kinds;
   called = called ran.called;
   asked = inl quiet;
   files = same;
@@ -270,27 +266,34 @@ source_ran file text steps before files faults shown screen_faults s is same qui
         let same_text : text ≡ runs.text = some_same text runs.text (here ∙ ap (λ (n : List ℕ). get w.files (mod_file n)) same_name ∙ runs.there) in
         subst (λ (u : List ℕ). IsStructured file u p) (sym same_text) (subst (λ (n : List ℕ). IsStructured n runs.text p) (sym same_name) runs.structured)
 
-    settles_run : (t : Status) → IsRunAnswer t → (settled t ≡ true) ⊎ ((t ≡ a.VolumeFault) ⊎ ((t ≡ a.ScreenFault) ⊎ (t ≡ a.Memory)))
-    settles_run a.Done kind = inl refl
-    settles_run (a.Trapped t) kind = inl refl
-    settles_run a.StepsSpent kind = inl refl
-    settles_run a.ScreenFault kind = inr (inr (inl refl))
-    settles_run a.Memory kind = inr (inr (inr refl))
-    settles_run _ kind = absurd kind
+    ended : (w : World) (p : Resolved) (n : ℕ) (t : Status) → Finds before.files before.keys w → Runs (Some file) w p → EndsSo (state_of p w n).phase t → MeansOne file text → (s ≡ a.StepsSpent) ⊎ TextAnswers file text w s → (s ≡ a.StepsSpent) ⊎ (s ≡ t)
+    ended w p n t finds runs ends unique (inl spent) = inl spent
+    ended w p n t finds runs ends unique (inr answers) =
+        inr (texts_agree file text unique w s t answers (inr (p, structured_here w p finds runs, record { steps = n; ends = ends })))
 
-    settles : ((f : SourceFault) × (s ≡ a.SourceFault f)) ⊎ IsRunAnswer s → (settled s ≡ true) ⊎ ((s ≡ a.VolumeFault) ⊎ ((s ≡ a.ScreenFault) ⊎ (s ≡ a.Memory)))
-    settles (inl (f, fault)) = inl (ap settled fault)
-    settles (inr kind) = settles_run s kind
+    run_comes : (t : Status) → IsRunAnswer t → IsAnswer t
+    run_comes a.Done kind = tt
+    run_comes (a.Trapped t) kind = tt
+    run_comes a.StepsSpent kind = tt
+    run_comes a.ScreenFault kind = tt
+    run_comes a.Memory kind = tt
+    run_comes _ kind = absurd kind
 
-    refusal : ((f : SourceFault) × (s ≡ a.SourceFault f)) ⊎ IsRunAnswer s → ((f : SourceFault) × (s ≡ a.SourceFault f)) ⊎ ((s ≡ a.VolumeFault) ⊎ IsRunAnswer s)
-    refusal (inl fault) = inl fault
-    refusal (inr kind) = inr (inr kind)
+    comes : ((f : SourceFault) × (s ≡ a.SourceFault f)) ⊎ IsRunAnswer s → IsAnswer s
+    comes (inl (f, fault)) = subst (λ (t : Status). IsAnswer t) (sym fault) tt
+    comes (inr kind) = run_comes s kind
 
-    quietly : (s ≡ a.Usage) ⊎ (((x : List ℕ) × (s ≡ a.NoFile x)) ⊎ (((f : SourceFault) × (s ≡ a.SourceFault f)) ⊎ (s ≡ a.VolumeFault))) → shown ≡ before.shown
-    quietly (inl usage) = absurd (no usage (λ f e. cc) (λ h. h))
-    quietly (inr (inl (x, missed))) = absurd (no missed (λ f e. cc) (λ h. h))
-    quietly (inr (inr (inl (f, fault)))) = ran.nothing f fault
-    quietly (inr (inr (inr fault))) = absurd (no fault (λ f e. cc) (λ h. h))
+    run_not : (t : Status) → IsRunAnswer t → IsUnrun t → ⊥
+    run_not a.Done kind unrun = unrun
+    run_not (a.Trapped t) kind unrun = unrun
+    run_not a.StepsSpent kind unrun = unrun
+    run_not a.ScreenFault kind unrun = unrun
+    run_not a.Memory kind unrun = unrun
+    run_not _ kind unrun = kind
+
+    quietly : ((f : SourceFault) × (s ≡ a.SourceFault f)) ⊎ IsRunAnswer s → IsUnrun s → shown ≡ before.shown
+    quietly (inl (f, fault)) unrun = ran.nothing f fault
+    quietly (inr kind) unrun = absurd (run_not s kind unrun)
 
 -- the file that a read gave, by its name and its bytes
 pub file_read : (files : Option Files) (file name : List ℕ) (found : Option (List ℕ)) (text bytes : List ℕ) → file ≡ name → found ≡ Some text → bytes ≡ text → FileIs files file found → FileIs files name (Some bytes)

@@ -1,17 +1,15 @@
 -- What the run of a translation shows, and how it ends.
 use Rattle.std.proofs.Common.{◌≡◌, ◌≢◌, ℕ, zero, suc, true, Option, Some, None, List, [], ◌∷◌, ◌++◌, refl, sym, ap, ◌∙◌, subst, ◌⊎◌, inl, inr, arith}
-use Rattle.std.proofs.lemmas.List.{append-nil}
 use Rattle.std.specs.Ordering.{nat_cmp}
 use Rattle.std.specs.Cmp.Lexicographic.{slice_cmp}
 use Rattle.std.specs.FinMap.{from_entries}
 use Rattle.lil_base.specs.declared.fault.TrapKind.{TrapKind}
-use Rattle.lil_tree.specs.Resolved.{Resolved}
+use Rattle.lil_resolved.specs.Resolved.{Resolved}
 use Rattle.lil_meaning.specs.World.{World}
 use Rattle.lil_meaning.specs.Items.{Phase, Source}
 use Rattle.lil_volume.specs.Told.{followed_by, FollowedByPrefix}
-use Rattle.lil_volume.proofs.Laws.{all_taken, followed_nothing}
 use Rattle.lil_mcode.specs.declared.machine.Event.{Event}
-use Rattle.lil_mcode.specs.declared.machine.Event.TheVariants.{Went}
+use Rattle.lil_asm.specs.Requests.{request_words}
 use Rattle.lil_mcode.specs.State.{Module, State, module_at}
 use Rattle.lil_mcode.specs.Table.{mstep}
 use Rattle.std.specs.Prelude.{slice_get, option_and_then}
@@ -20,33 +18,17 @@ use Rattle.lil_session.specs.declared.run.Ending.{Ending}
 use Rattle.lil_session.specs.declared.run.Ending.TheVariants as ending
 use Rattle.lil_session.specs.declared.status.Status.{Status}
 use Rattle.lil_session.specs.declared.status.Status.TheVariants as a
-use Rattle.lil_tree.specs.Sizes.{IsSmall}
-use Rattle.lil_session.specs.Rows.{Translates}
-use Rattle.lil_session.specs.Running.{Finish, Running, Run, mrun, running, react, advanced, unless_over, IsAlone, finish_of, HasRun, IsCut}
-use Rattle.lil_session.specs.Loaded.{body_alone, IsAtBody, EndingAnswers, IsPossible}
-use Rattle.lil_session.specs.Outcome.{settled, Shows, Allowed, EndsSo, MeansAnswer, IsRunAnswer, Blames, state_of}
-use Rattle.lil_session.proofs.Whole.{Agrees}
-use Rattle.lil_session.proofs.Start.{own, begun_at, correct}
-
--- a run keeps the keys and the writes: no request reads or writes them yet
-record Keeps (old new : World) : Type 0 where
-  keys : new.keys ≡ old.keys
-  writes : new.writes ≡ old.writes
-
-react_keeps : (e : Event) (s : State) (run : Run) → Keeps run.world (react e s run).world
-react_keeps Went s run = record { keys = refl; writes = refl }
-react_keeps _ s run = record { keys = refl; writes = refl }
-
-over_keeps : (f : Finish) (old new : Run) → Keeps old.world new.world → Keeps old.world (unless_over f old new).world
-over_keeps Running old new h = h
-over_keeps _ old new h = record { keys = refl; writes = refl }
-
-run_keeps : (n : ℕ) (run : Run) → Keeps run.world (mrun n run).world
-run_keeps zero run = record { keys = refl; writes = refl }
-run_keeps (suc n) run =
-    let one = over_keeps run.finish run (react (mstep run.machine).0 (mstep run.machine).1 run) (react_keeps (mstep run.machine).0 (mstep run.machine).1 run) in
-    let rest = run_keeps n (advanced run) in
-    record { keys = rest.keys ∙ one.keys; writes = rest.writes ∙ one.writes }
+use Rattle.lil_resolved.specs.Sizes.{IsSmall}
+use Rattle.lil_table.specs.Rows.{Translates}
+use Rattle.lil_session.specs.Running.{IsAlone, finish_of, HasRun, IsCut, IsRefused}
+use Rattle.lil_match.specs.Running.{Finish, Running, Run, mrun, running, react, advanced, unless_over, words_taken, arguments}
+use Rattle.lil_session.specs.Loaded.{IsAtBody, EndingAnswers, IsPossible}
+use Rattle.lil_laws.specs.Loading.{body_alone}
+use Rattle.lil_session.specs.Outcome.{settled, Shows, Allowed, EndsSo, IsOver, MeansAnswer, IsRunAnswer, Blames}
+use Rattle.lil_meaning.specs.Runs.{begun, state_of}
+use Rattle.lil_session.proofs.Screens.{after_grows, next_piece, one_byte}
+use Rattle.lil_laws.specs.Whole.{Agrees, mrun_add}
+use Rattle.lil_laws.specs.Start.{own, begun_at, correct}
 
 -- some world in which nothing was shown
 some_world : World
@@ -55,6 +37,13 @@ some_world = record { keys = []; screen = []; files = from_entries {R = slice_cm
 some_blank : some_world.screen ≡ []
 unfolding some_world
 some_blank = refl
+
+-- a request that is refused would have added its piece
+refused_adds : {old new : Option (List ℕ)} (run : Run) → run.finish ≡ Running → (refused : IsRefused run.machine old new) → (advanced run).world.screen ≡ run.world.screen ++ refused.piece
+refused_adds run goes refused =
+    ap (λ (f : Finish). (unless_over f run (react (mstep run.machine).0 (mstep run.machine).1 run)).world.screen) goes
+    ∙ ap (λ (r : Event × State). (react r.0 r.1 run).world.screen) refused.step
+    ∙ ap (λ (l : List ℕ). run.world.screen ++ l) (sym refused.its)
 
 module _ (p : Resolved) (code : List ℕ) (small : IsSmall p) (t : Translates p code) where
   abbrev start : State
@@ -86,22 +75,34 @@ module _ (p : Resolved) (code : List ℕ) (small : IsSmall p) (t : Translates p 
     allowed ending.Spent s x run is at agrees f = subst (λ (y : Status). Allowed y x.phase) (sym is) tt
     allowed _ s x run is at agrees f = absurd is
 
+    no_fault : (e : Ending) (s : Status) → EndingAnswers machine e s → ((k : TrapKind) → e ≡ ending.Trapped k → IsAtBody machine (own p code small t)) → s ≢ a.ScreenFault
+    no_fault (ending.Trapped k) s (inl memory) at f = let e = sym memory ∙ f in cc
+    no_fault (ending.Trapped k) s (inr is) at f = let e = sym (is (own p code small t) (at k refl)) ∙ f in cc
+    no_fault (ending.Limited k) s is at f = is
+    no_fault ending.Broken s is at f = is
+    no_fault _ s is at f = let e = sym is ∙ f in cc
+
+    stops : (e : Ending) (s : Status) (x : Source) (run : Run) → EndingAnswers machine e s → ((k : TrapKind) → e ≡ ending.Trapped k → IsAtBody machine (own p code small t)) → Agrees p.name x run → finish_of e ≡ run.finish → s ≡ a.Memory → IsOver x.phase
+    stops ending.Done s x run is at agrees f memory = absurd (let e = sym is ∙ memory in cc)
+    stops (ending.Trapped k) s x run is at agrees f memory = subst IsOver (sym (agrees.traps k (sym f))) tt
+    stops ending.Spent s x run is at agrees f memory = absurd (let e = sym is ∙ memory in cc)
+    stops _ s x run is at agrees f memory = absurd is
+
     -- what is shown is what a state of the meaning has shown, and the answer is that state's
     pub shows_end : (e : Ending) (s : Status) (w : World) → HasRun start steps (finish_of e) old new w → EndingAnswers machine e s → ((k : TrapKind) → e ≡ ending.Trapped k → IsAtBody machine (own p code small t)) → Shows p w old new s
     shows_end e s w ran is at =
         let c = correct p code small t w steps in
-        let kept = run_keeps steps (running start w) in
-        let whole : new ≡ followed_by old (state_of p w c.n).world.screen = ran.shown ∙ ap (λ (x : World). followed_by old x.screen) c.agrees.world in
+        let grows = after_grows (p ∷ []) c.n (begun (p ∷ []) w) in
         record {
           n = c.n;
-          piece = [];
-          later = c.n;
-          adds = sym (append-nil (state_of p w c.n).world.screen);
-          prefix = all_taken (followed_by old (state_of p w c.n).world.screen) new [] (whole ∙ sym (followed_nothing (followed_by old (state_of p w c.n).world.screen)));
-          whole = λ _. whole;
-          keys = ap (λ (x : World). x.keys) (sym c.agrees.world) ∙ kept.keys;
-          writes = ap (λ (x : World). x.writes) (sym c.agrees.world) ∙ kept.writes;
-          ends = allowed e s (state_of p w c.n) (mrun steps (running start w)) is at c.agrees ran.finish;
+          shown = record {
+            whole = λ _. ran.shown ∙ ap (λ (x : World). followed_by old x.screen) c.agrees.world;
+            cut = λ fault. absurd (no_fault e s is at fault);
+            ends = allowed e s (state_of p w c.n) (mrun steps (running start w)) is at c.agrees ran.finish;
+            stops = λ memory. inr (stops e s (state_of p w c.n) (mrun steps (running start w)) is at c.agrees ran.finish memory);
+          };
+          keys = grows.keys;
+          writes = grows.writes;
         }
 
     -- a settled answer is the end of the meaning, unless the steps were spent
@@ -123,13 +124,6 @@ module _ (p : Resolved) (code : List ℕ) (small : IsSmall p) (t : Translates p 
     kind_end ending.Broken s is at = absurd is
     kind_end _ s is at = subst IsRunAnswer (sym is) tt
 
-    no_fault : (e : Ending) (s : Status) → EndingAnswers machine e s → ((k : TrapKind) → e ≡ ending.Trapped k → IsAtBody machine (own p code small t)) → s ≢ a.ScreenFault
-    no_fault (ending.Trapped k) s (inl memory) at f = let e = sym memory ∙ f in cc
-    no_fault (ending.Trapped k) s (inr is) at f = let e = sym (is (own p code small t) (at k refl)) ∙ f in cc
-    no_fault (ending.Limited k) s is at f = is
-    no_fault ending.Broken s is at f = is
-    no_fault _ s is at f = let e = sym is ∙ f in cc
-
     pub blames_end : (e : Ending) (s : Status) (before now : ℕ) → EndingAnswers machine e s → ((k : TrapKind) → e ≡ ending.Trapped k → IsAtBody machine (own p code small t)) → now ≡ before → Blames a.ScreenFault before now s
     blames_end e s before now is at same = record {
       later = omega (arith, same);
@@ -140,20 +134,33 @@ module _ (p : Resolved) (code : List ℕ) (small : IsSmall p) (t : Translates p 
   -- what is shown where the screen failed
   pub shows_cut : (steps : ℕ) (old new : Option (List ℕ)) (w : World) → IsCut start steps old new w → Shows p w old new a.ScreenFault
   shows_cut steps old new w cut =
+      let run : Run = mrun cut.done (running start w) in
       let c = correct p code small t w cut.done in
       let d = correct p code small t w (suc cut.done) in
-      let kept = run_keeps cut.done (running start w) in
-      let screen : (mrun cut.done (running start w)).world.screen ≡ (state_of p w c.n).world.screen = ap (λ (x : World). x.screen) c.agrees.world in
+      let byte = one_byte cut.refused.number (arguments (words_taken (request_words cut.refused.number)) cut.refused.asked) (λ none. cut.refused.some (cut.refused.its ∙ none)) in
+      let is : cut.refused.piece ≡ byte.0 ∷ [] = cut.refused.its ∙ byte.1 in
+      let next_run : mrun (suc cut.done) (running start w) ≡ advanced run = mrun_add cut.done (suc cut.done) 1 (running start w) (omega arith) in
+      let grown : (state_of p w d.n).world.screen ≡ (state_of p w c.n).world.screen ++ byte.0 ∷ [] =
+      ap (λ (x : World). x.screen) (sym d.agrees.world) ∙ ap (λ (r : Run). r.world.screen) next_run ∙ refused_adds run cut.finish cut.refused
+      ∙ ap (λ (l : List ℕ). run.world.screen ++ l) is ∙ ap (λ (x : World). x.screen ++ byte.0 ∷ []) c.agrees.world in
+      let f = next_piece (p ∷ []) (begun (p ∷ []) w) c.n d.n byte.0 grown in
+      let grows = after_grows (p ∷ []) f.m (begun (p ∷ []) w) in
+      let same : run.world.screen ≡ (state_of p w f.m).world.screen = ap (λ (x : World). x.screen) c.agrees.world ∙ sym f.before in
       record {
-        n = c.n;
-        piece = cut.piece;
-        later = d.n;
-        adds = ap (λ (x : World). x.screen) (sym d.agrees.world) ∙ cut.adds ∙ ap (λ (x : List ℕ). x ++ cut.piece) screen;
-        prefix = subst (λ (x : List ℕ). FollowedByPrefix (followed_by old x) cut.piece new) screen cut.prefix;
-        whole = λ differs. absurd (differs refl);
-        keys = ap (λ (x : World). x.keys) (sym c.agrees.world) ∙ kept.keys;
-        writes = ap (λ (x : World). x.writes) (sym c.agrees.world) ∙ kept.writes;
-        ends = tt;
+        n = f.m;
+        shown = record {
+          whole = λ differs. absurd (differs refl);
+          cut = λ _. record {
+            piece = cut.refused.piece;
+            some = cut.refused.some;
+            adds = f.behind ∙ ap (λ (l : List ℕ). l ++ byte.0 ∷ []) (sym f.before) ∙ ap (λ (l : List ℕ). (state_of p w f.m).world.screen ++ l) (sym is);
+            prefix = subst (λ (l : List ℕ). FollowedByPrefix (followed_by old l) cut.refused.piece new) same cut.refused.prefix;
+          };
+          ends = tt;
+          stops = λ memory. cc;
+        };
+        keys = grows.keys;
+        writes = grows.writes;
       }
 
 -- the one procedure of a body alone runs at each place

@@ -1,17 +1,17 @@
 -- A budget of steps is spent only where the meaning goes on for long enough.
 use Rattle.std.proofs.Common.{◌≡◌, ℕ, zero, suc, ◌+◌, ◌*◌, ◌≤◌, List, [], ◌∷◌, refl, sym, ap, ◌∙◌, arith}
-use Rattle.lil_tree.specs.Resolved.{Resolved}
-use Rattle.lil_tree.specs.Sizes.{IsSmall}
+use Rattle.lil_resolved.specs.Resolved.{Resolved}
+use Rattle.lil_resolved.specs.Sizes.{IsSmall}
 use Rattle.lil_meaning.specs.World.{World}
 use Rattle.lil_meaning.specs.Items.{Phase, Going, Closing, Trapped, Source}
 use Rattle.lil_meaning.specs.Steps.{next, by_phase}
 use Rattle.lil_meaning.specs.Runs.{after, begun}
 use Rattle.lil_mcode.specs.State.{State}
-use Rattle.lil_session.specs.Rows.{Translates}
-use Rattle.lil_session.specs.Running.{Running, mrun, running}
-use Rattle.lil_session.specs.Loaded.{loaded}
-use Rattle.lil_session.specs.Outcome.{state_of}
-use Rattle.lil_session.proofs.Start.{loaded_state, correct}
+use Rattle.lil_table.specs.Rows.{Translates}
+use Rattle.lil_match.specs.Running.{Running, mrun, running}
+use Rattle.lil_laws.specs.Loading.{loaded}
+use Rattle.lil_meaning.specs.Runs.{state_of}
+use Rattle.lil_laws.specs.Start.{loaded_state, correct}
 
 -- a state that goes on came from one that went on
 going_before : (modules : List Resolved) (s : Source) (p : Phase) → s.phase ≡ p → (next modules s).phase ≡ Going → p ≡ Going

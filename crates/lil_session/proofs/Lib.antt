@@ -1,37 +1,12 @@
-pub mod Appending
-pub mod Extents
-pub mod Stating
-pub mod Modules
-pub mod Weights
-pub mod Generating
-pub mod CaseEmitting
-pub mod Shown
-pub mod Homes
-pub mod Matched
-pub mod Steps
-pub mod Orders
-pub mod Arithmetic
-pub mod Operators
-pub mod Closing
-pub mod Expressions
-pub mod Tasks
-pub mod Control
-pub mod Exits
-pub mod LoopWords
-pub mod Cases
-pub mod Loops
-pub mod Each
-pub mod Whole
-pub mod Splices
-pub mod Start
-pub mod Enough
-pub mod Alone
-pub mod Advancing
-pub mod Turns
-pub mod Endings
-pub mod Counting
-pub mod Pieces
-pub mod Stays
-pub mod Agree
-pub mod Doing
-pub mod Telling
+mod Advancing
+mod Agree
+mod Alone
+mod Counting
+mod Doing
+mod Endings
+mod Enough
+mod Pieces
+mod Screens
+mod Stays
+mod Telling
+mod Turns

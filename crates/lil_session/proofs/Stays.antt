@@ -1,7 +1,7 @@
 -- After its end the meaning of a program stays, so two ends of it are the same.
 use Rattle.std.proofs.Common.{◌≡◌, ◌⊎◌, inl, inr, ℕ, zero, suc, ◌+◌, ◌-◌, ◌<◌, ◌≤◌, List, refl, sym, ◌∙◌, ap, subst, arith, zero-add, suc-add}
 use Rattle.std.proofs.lemmas.Bool.{cases_lt}
-use Rattle.lil_tree.specs.Resolved.{Resolved}
+use Rattle.lil_resolved.specs.Resolved.{Resolved}
 use Rattle.lil_meaning.specs.World.{World}
 use Rattle.lil_meaning.specs.Items.{Phase, Ended, Trapped, Source}
 use Rattle.lil_meaning.specs.Steps.{by_phase, next}
@@ -13,7 +13,7 @@ stays : (modules : List Resolved) (n : ℕ) (s : Source) → next modules s ≡ 
 stays modules zero s still = refl
 stays modules (suc n) s still = ap (λ (t : Source). after modules n t) still ∙ stays modules n s still
 
-after_sum : (modules : List Resolved) (n k : ℕ) (s : Source) → after modules (n + k) s ≡ after modules k (after modules n s)
+pub after_sum : (modules : List Resolved) (n k : ℕ) (s : Source) → after modules (n + k) s ≡ after modules k (after modules n s)
 after_sum modules zero k s = ap (λ (i : ℕ). after modules i s) (zero-add k)
 after_sum modules (suc n) k s = ap (λ (i : ℕ). after modules i s) (suc-add n k) ∙ after_sum modules n k (next modules s)
 

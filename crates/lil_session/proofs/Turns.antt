@@ -1,8 +1,8 @@
 -- A run, step by step.
 use Rattle.std.proofs.Common.{◌≡◌, ◌≢◌, ℕ, zero, suc, ◌+◌, ◌-◌, ◌<◌, option_and_then, Option, Some, None, Result, Ok, Err, OnErr, List, [], ◌++◌, refl, sym, ap, ◌∙◌, subst, arith}
 use Rattle.lil_meaning.specs.World.{World}
-use Rattle.lil_volume.specs.Told.{followed_by, FollowedByPrefix}
-use Rattle.lil_volume.proofs.Laws.{followed_twice, followed_nothing}
+use Rattle.lil_volume.specs.Told.{followed_by}
+use Rattle.lil_volume.specs.Laws.{followed_twice, followed_nothing}
 use Rattle.lil_mcode.specs.State.{State}
 use Rattle.lil_mcode.specs.Table.{mstep}
 use Rattle.lil_mcode.specs.Going.{went, next, gone, Ran}
@@ -10,10 +10,11 @@ use Rattle.lil_mcode.specs.declared.machine.Event.{Event}
 use Rattle.lil_mcode.specs.declared.machine.Event.TheVariants.{Went, Request, LevelEnded, Trap, Limit, BadCode}
 use Rattle.lil_session.specs.declared.run.Ending.{Ending}
 use Rattle.lil_session.specs.declared.run.Ending.TheVariants as ending
-use Rattle.lil_session.specs.Running.{Finish, Running, Run, mrun, running, advanced, finish_of, finish_by, IsStep, IsRefused, HasRun, IsCut, IsAlone}
-use Rattle.lil_session.proofs.Steps.{advances}
+use Rattle.lil_session.specs.Running.{finish_of, finish_by, IsStep, IsRefused, HasRun, IsCut, IsAlone}
+use Rattle.lil_match.specs.Running.{Finish, Running, Run, mrun, running, advanced}
+use Rattle.lil_match.specs.Steps.{advances}
 use Rattle.lil_session.proofs.Advancing.{moves_at}
-use Rattle.lil_session.proofs.Whole.{mrun_add, run_rests, run_over}
+use Rattle.lil_laws.specs.Whole.{mrun_add, run_rests, run_over}
 
 pub on_err : {T E P : Type 0} (r : Result T E) → P → OnErr r P
 on_err (Ok x) p = tt
@@ -61,21 +62,15 @@ run_spent from s k steps old mid w same come =
       shown = come.2 ∙ sym (ap (λ (x : Run). followed_by old x.world.screen) all);
     }
 
-pub run_cut : (from s : State) (k steps : ℕ) (old mid new : Option (List ℕ)) (w : World) → k < steps → Come from s k old mid w → ((v : World) → IsRefused s mid new v) → IsCut from steps old new w
-run_cut from s k steps old mid new w less come refused =
-    let one = refused come.0 in
-    let before : (mrun k (running from w)).world.screen ≡ come.0.screen = ap (λ (r : Run). r.world.screen) come.1 in
-    let e : suc k ≡ k + 1 = omega arith in
-    let next : mrun (suc k) (running from w) ≡ advanced (running s come.0) =
-    ap (λ (n : ℕ). mrun n (running from w)) e ∙ turned from s k w come.0 (advanced (running s come.0)) come.1 refl in
-    record {
-      done = k;
-      within = omega arith;
-      finish = ap (λ (r : Run). r.finish) come.1;
-      piece = one.piece;
-      adds = ap (λ (r : Run). r.world.screen) next ∙ one.adds ∙ ap (λ (x : List ℕ). x ++ one.piece) (sym before);
-      prefix = subst (λ (o : Option (List ℕ)). FollowedByPrefix o one.piece new) (come.2 ∙ ap (followed_by old) (sym before)) one.prefix;
-    }
+pub run_cut : (from s : State) (k steps : ℕ) (old mid new : Option (List ℕ)) (w : World) → k < steps → Come from s k old mid w → IsRefused s mid new → IsCut from steps old new w
+run_cut from s k steps old mid new w less come refused = record {
+  done = k;
+  within = omega arith;
+  finish = ap (λ (r : Run). r.finish) come.1;
+  refused =
+      subst (λ (r : Run). IsRefused r.machine (followed_by old r.world.screen) new) (sym come.1)
+      (subst (λ (o : Option (List ℕ)). IsRefused s o new) come.2 refused);
+}
 
 pub ending_over : (e : Ending) → Some e ≢ Some ending.Spent → finish_of e ≢ Running
 ending_over ending.Spent d = λ f. d refl

@@ -1,17 +1,21 @@
--- A text was run, and a command was done and its answer's lines were written.
-use Rattle.std.specs.Prelude.{◌≡◌, ◌⊎◌, ℕ, true, false, List, [], Option, Some, None, ⊤}
+-- A text was run, a command was done, its answer's lines were written, and what holds of the answer then.
+use Rattle.std.specs.Prelude.{◌≡◌, ◌≢◌, ◌⊎◌, ℕ, true, false, List, [], Option, Some, None, ⊤}
 use Rattle.std.specs.FinMap.{get}
 use Rattle.lil_base.specs.declared.fault.SourceFault.{SourceFault}
-use Rattle.lil_tree.specs.Resolved.{Resolved}
+use Rattle.lil_base.specs.declared.fault.TrapAt.{TrapAt}
+use Rattle.lil_resolved.specs.Resolved.{Resolved}
 use Rattle.lil_tree.specs.Structured.{IsStructured}
 use Rattle.lil_meaning.specs.World.{World}
-use Rattle.lil_volume.specs.Told.{Files}
+use Rattle.lil_meaning.specs.Items.{Ended, Trapped}
+use Rattle.lil_meaning.specs.Runs.{state_of}
+use Rattle.lil_volume.specs.Causes.{Rose}
+use Rattle.lil_volume.specs.Told.{Files, followed_by, FollowedByPrefix}
 use Rattle.lil_session.specs.declared.status.Status.{Status}
 use Rattle.lil_session.specs.declared.status.Status.TheVariants as a
 use Rattle.lil_session.specs.Words.{mod_file}
-use Rattle.lil_session.specs.Outcome.{Answers, Blames, Devices, Finds, Headline, IsRunAnswer, IsRunnable, Runs, Shows, TextAnswers, gives_way, not_built, settled}
-use Rattle.lil_session.specs.Counted.{MachineAnswers}
-use Rattle.lil_session.specs.Report.{Reported}
+use Rattle.lil_session.specs.Outcome.{Answers, Blames, Devices, EndsSo, Finds, Headline, IsRunAnswer, IsRunnable, ReportBlames, Runs, Shows, TextAnswers, gives_way, not_built, settled}
+use Rattle.lil_session.specs.Counted.{MachineAnswers, MachineRan}
+use Rattle.lil_session.specs.Report.{Reported, status_lines}
 
 -- the answers of the program: all but those of what isn't built
 abbrev pub IsAnswer : Status → Type 0
@@ -31,8 +35,17 @@ IsAnswer a.ReportFault = ⊤
 IsAnswer a.Memory = ⊤
 IsAnswer (a.BadCode _) = ⊥
 
+-- the answers where nothing was run, but for want of memory
+abbrev pub IsUnrun : Status → Type 0
+IsUnrun a.Usage = ⊤
+IsUnrun (a.NoFile _) = ⊤
+IsUnrun (a.SourceFault _) = ⊤
+IsUnrun a.VolumeFault = ⊤
+IsUnrun _ = ⊥
+
 -- The text of the file of this name was run where it is structured.
 pub record TextRan (file text : List ℕ) (steps : ℕ) (old : Option (List ℕ)) (old_faults : ℕ) (new : Option (List ℕ)) (new_faults : ℕ) (status : Status) : Type 0 where
+  pub one : settled status ≡ true → (p q : Resolved) → IsStructured file text p → IsStructured file text q → p ≡ q
   pub answer : (w : World) → w.screen ≡ [] → settled status ≡ true → (status ≡ a.StepsSpent) ⊎ TextAnswers file text w status
   pub fault_only : (f : SourceFault) → status ≡ a.SourceFault f → (f ≡ not_built) × ((p : Resolved) → IsStructured file text p → ⊥)
   pub fault_where : ((p : Resolved) → IsStructured file text p → ⊥) → gives_way status ≡ false → status ≡ a.SourceFault not_built
@@ -45,9 +58,11 @@ pub record TextRan (file text : List ℕ) (steps : ℕ) (old : Option (List ℕ)
   pub told : (status ≡ a.ScreenFault) ⊎ (new_faults ≡ old_faults)
 
 -- A command was done as far as the devices go, and its lines are still to be written.
-pub record Ran (name : Option (List ℕ)) (steps : ℕ) (before after : Devices) (status : Status) : Type 0 where
+pub record CommandRan (name : Option (List ℕ)) (steps : ℕ) (before after : Devices) (status : Status) : Type 0 where
   -- unless a device failed, memory was refused or the steps were spent, the answer is the command's
   pub answer : (w : World) → Finds before.files before.keys w → settled status ≡ true → (status ≡ a.StepsSpent) ⊎ Answers name w status
+  -- and of a structured text it is the end of its meaning, where that has one
+  pub ends_where : (w : World) (p : Resolved) (n : ℕ) (s : Status) → Finds before.files before.keys w → Runs name w p → EndsSo (state_of p w n).phase s → settled status ≡ true → (status ≡ a.StepsSpent) ⊎ (status ≡ s)
   -- usage comes exactly where the words name no module
   pub usage_only : status ≡ a.Usage → name ≡ None
   pub usage_where : name ≡ None → gives_way status ≡ false → status ≡ a.Usage
@@ -63,14 +78,14 @@ pub record Ran (name : Option (List ℕ)) (steps : ℕ) (before after : Devices)
   pub missed_is : (file : List ℕ) → status ≡ a.NoFile file → (x : List ℕ) × (name ≡ Some x) × (file ≡ mod_file x)
   pub fault_is : (f : SourceFault) → status ≡ a.SourceFault f → f ≡ not_built
   -- no other status comes
-  pub settles : (settled status ≡ true) ⊎ ((status ≡ a.VolumeFault) ⊎ ((status ≡ a.ScreenFault) ⊎ (status ≡ a.Memory)))
-  pub no_refusal : (status ≡ a.Usage) ⊎ (((file : List ℕ) × (status ≡ a.NoFile file)) ⊎ (((f : SourceFault) × (status ≡ a.SourceFault f)) ⊎ ((status ≡ a.VolumeFault) ⊎ IsRunAnswer status)))
+  pub kinds : IsAnswer status
+  pub not_report : status ≢ a.ReportFault
   -- what a structured text shows
   pub headline : (w : World) (p : Resolved) → Finds before.files before.keys w → Runs name w p → Headline p w before after status
   -- what the machine did for it
   pub machine : (w : World) (p : Resolved) → Finds before.files before.keys w → Runs name w p → MachineAnswers p w steps before.shown after.shown status
   -- nothing is shown where nothing was run
-  pub nothing : ((status ≡ a.Usage) ⊎ (((file : List ℕ) × (status ≡ a.NoFile file)) ⊎ (((f : SourceFault) × (status ≡ a.SourceFault f)) ⊎ (status ≡ a.VolumeFault)))) → after.shown ≡ before.shown
+  pub nothing : IsUnrun status → after.shown ≡ before.shown
   -- the screen is called only where a structured text was found, and the volume only where the words name a module
   pub called : ((after.shown ≡ before.shown) × (after.screen_faults ≡ before.screen_faults)) ⊎ IsRunnable name before.files
   pub asked : (after.volume_faults ≡ before.volume_faults) ⊎ ((x : List ℕ) × (name ≡ Some x))
@@ -97,7 +112,67 @@ pub record Call : Type 0 where
   pub new_faults : ℕ
 
 -- It was done with an answer as far as the devices go, and that answer's lines were written.
-pub record Told (call : Call) (result : Status) : Type 0 where
+pub record CommandReported (call : Call) (result : Status) : Type 0 where
   pub inner : Status
-  pub ran : Ran call.name call.steps call.before call.after inner
+  pub ran : CommandRan call.name call.steps call.before call.after inner
   pub reported : Reported call.file inner call.old call.old_faults call.new call.new_faults result
+
+-- WHAT HOLDS OF EACH ANSWER of a command, whatever the devices do. A field that begins with a world speaks of devices that tell their
+-- files and keys.
+pub record Answered (call : Call) (result : Status) : Type 0 where
+  -- What a structured text shows, and how it ends, is what its meaning says.
+  pub headline : (w : World) (p : Resolved) → Finds call.before.files call.before.keys w → Runs call.name w p → Headline p w call.before call.after result
+  -- Unless a device fails, memory is refused or the steps are spent, the answer is the command's.
+  pub answer : (w : World) → Finds call.before.files call.before.keys w → settled result ≡ true → (result ≡ a.StepsSpent) ⊎ Answers call.name w result
+  -- The machine ran a translation of the text within the budget, and the steps are spent exactly where that has no end.
+  pub machine : (w : World) (p : Resolved) → Finds call.before.files call.before.keys w → Runs call.name w p → MachineAnswers p w call.steps call.before.shown call.after.shown result
+  -- Usage comes exactly where the words name no module.
+  pub usage_only : result ≡ a.Usage → call.name ≡ None
+  pub usage_where : call.name ≡ None → settled result ≡ true → result ≡ a.Usage
+  -- A file is missed exactly where the volume doesn't have the source.
+  pub no_file_only : (m : Files) (file : List ℕ) → call.before.files ≡ Some m → result ≡ a.NoFile file → (x : List ℕ) × (call.name ≡ Some x) × (file ≡ mod_file x) × (get m file ≡ None)
+  pub no_file_where : (m : Files) (x : List ℕ) → call.before.files ≡ Some m → call.name ≡ Some x → get m (mod_file x) ≡ None → settled result ≡ true → result ≡ a.NoFile (mod_file x)
+  -- Fault 90 comes exactly where the source's text isn't structured, and no other fault comes.
+  pub fault_only : (m : Files) (f : SourceFault) → call.before.files ≡ Some m → result ≡ a.SourceFault f
+      → (f ≡ not_built) × ((x : List ℕ) × (call.name ≡ Some x) × ((text : List ℕ) × (get m (mod_file x) ≡ Some text) × ((p : Resolved) → IsStructured x text p → ⊥)))
+  pub fault_where : (m : Files) (x text : List ℕ) → call.before.files ≡ Some m → call.name ≡ Some x → get m (mod_file x) ≡ Some text → ((p : Resolved) → IsStructured x text p → ⊥)
+      → settled result ≡ true → result ≡ a.SourceFault not_built
+  -- Unless the steps are spent, Done comes exactly where the meaning ends, and a trap exactly where it traps so.
+  pub done_only : (w : World) (p : Resolved) → Finds call.before.files call.before.keys w → Runs call.name w p → result ≡ a.Done → (n : ℕ) × ((state_of p w n).phase ≡ Ended)
+  pub done_where : (w : World) (p : Resolved) (n : ℕ) → Finds call.before.files call.before.keys w → Runs call.name w p → (state_of p w n).phase ≡ Ended → settled result ≡ true → (result ≡ a.StepsSpent) ⊎ (result ≡ a.Done)
+  pub trapped_only : (w : World) (p : Resolved) (t : TrapAt) → Finds call.before.files call.before.keys w → Runs call.name w p → result ≡ a.Trapped t → (n : ℕ) × ((state_of p w n).phase ≡ Trapped t)
+  pub trapped_where : (w : World) (p : Resolved) (n : ℕ) (t : TrapAt) → Finds call.before.files call.before.keys w → Runs call.name w p → (state_of p w n).phase ≡ Trapped t → settled result ≡ true
+      → (result ≡ a.StepsSpent) ⊎ (result ≡ a.Trapped t)
+  -- No other status comes.
+  pub settles : (settled result ≡ true) ⊎ ((result ≡ a.VolumeFault) ⊎ ((result ≡ a.ScreenFault) ⊎ ((result ≡ a.ReportFault) ⊎ (result ≡ a.Memory))))
+  pub no_other : IsAnswer result
+  -- Nothing is shown where nothing was run.
+  pub nothing : IsUnrun result → call.after.shown ≡ call.before.shown
+  -- The screen is called only where a structured text was found, and the volume only where the words name a module.
+  pub called : ((call.after.shown ≡ call.before.shown) × (call.after.screen_faults ≡ call.before.screen_faults)) ⊎ IsRunnable call.name call.before.files
+  pub asked : (call.after.volume_faults ≡ call.before.volume_faults) ⊎ ((x : List ℕ) × (call.name ≡ Some x))
+  -- A missed file is the module's source, and a fault is number 90 at the text's start, whatever the volume tells.
+  pub missed_is : (file : List ℕ) → result ≡ a.NoFile file → (x : List ℕ) × (call.name ≡ Some x) × (file ≡ mod_file x)
+  pub fault_is : (f : SourceFault) → result ≡ a.SourceFault f → f ≡ not_built
+  -- Each fault has its cause, and at most one of the counts of the volume and the screen rises.
+  pub volume_cause : Blames a.VolumeFault call.before.volume_faults call.after.volume_faults result
+  pub screen_cause : Blames a.ScreenFault call.before.screen_faults call.after.screen_faults result
+  pub screen_told : (result ≡ a.ScreenFault) ⊎ (call.after.screen_faults ≡ call.before.screen_faults)
+  pub keys_cause : call.after.key_faults ≡ call.before.key_faults
+  pub one : (call.after.volume_faults ≡ call.before.volume_faults) ⊎ (call.after.screen_faults ≡ call.before.screen_faults)
+  pub report_cause : ReportBlames call.old_faults call.new_faults result
+  -- Files and keys stay.
+  pub files : call.after.files ≡ call.before.files
+  pub keys : call.after.keys ≡ call.before.keys
+  -- The report gets the answer's lines, and at its fault a prefix of the lines of the answer that all else is as at.
+  pub lines : settled result ≡ true → call.new ≡ followed_by call.old (status_lines call.file result)
+  pub fault_line : gives_way result ≡ true → FollowedByPrefix call.old (status_lines [] result) call.new
+  -- The line of a fault, or of want of memory, was tried: it stands whole, or the report failed.
+  pub line_tried : gives_way result ≡ true → (call.new ≡ followed_by call.old (status_lines [] result)) ⊎ Rose call.old_faults call.new_faults
+  -- The report fails only where there are lines to write: the answer isn't Done.
+  pub report_prefix : result ≡ a.ReportFault → (s : Status) × (settled s ≡ true) × (s ≢ a.Done) × IsAnswer s × FollowedByPrefix call.old (status_lines call.file s) call.new
+  pub report_fault : (w : World) → Finds call.before.files call.before.keys w → result ≡ a.ReportFault
+      → (s : Status) × (settled s ≡ true) × (s ≢ a.Done) × ((s ≡ a.StepsSpent) ⊎ Answers call.name w s) × FollowedByPrefix call.old (status_lines call.file s) call.new
+      × ((p : Resolved) → Runs call.name w p → Headline p w call.before call.after s × MachineRan p w call.steps call.before.shown call.after.shown s)
+  -- It was done with some answer, whose lines were then written.
+  pub reported : CommandReported call result

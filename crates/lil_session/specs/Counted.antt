@@ -1,15 +1,23 @@
 -- What the machine did, counted in instructions, and the answer of it.
-use Rattle.std.specs.Prelude.{◌≡◌, ◌≢◌, ◌⊎◌, ℕ, suc, ◌+◌, ◌*◌, ◌≤◌, true, List, Option}
-use Rattle.lil_tree.specs.Resolved.{Resolved}
+use Rattle.std.specs.Prelude.{◌≡◌, ◌≢◌, ◌⊎◌, ℕ, suc, ◌+◌, ◌*◌, ◌≤◌, true, List, Option, ⊤}
+use Rattle.lil_resolved.specs.Resolved.{Resolved}
 use Rattle.lil_meaning.specs.World.{World}
 use Rattle.lil_meaning.specs.Items.{Going}
 use Rattle.lil_volume.specs.Told.{followed_by}
 use Rattle.lil_session.specs.declared.status.Status.{Status}
 use Rattle.lil_session.specs.declared.status.Status.TheVariants as a
-use Rattle.lil_session.specs.Rows.{Translates}
-use Rattle.lil_session.specs.Running.{Finish, Running, Finished, TrappedBy, mrun, running}
-use Rattle.lil_session.specs.Loaded.{loaded}
-use Rattle.lil_session.specs.Outcome.{settled, state_of}
+use Rattle.lil_table.specs.Rows.{Translates}
+use Rattle.lil_match.specs.Running.{Finish, Running, Finished, TrappedBy, mrun, running}
+use Rattle.lil_laws.specs.Loading.{loaded}
+use Rattle.lil_session.specs.Outcome.{settled}
+use Rattle.lil_session.specs.Running.{IsRefused}
+use Rattle.lil_meaning.specs.Runs.{state_of}
+
+-- a run that has come to its end
+abbrev pub IsEnd : Finish → Type 0
+IsEnd Finished = ⊤
+IsEnd (TrappedBy k) = ⊤
+IsEnd _ = ⊥
 
 -- how far the run has come that an answer speaks of, after the instructions that were done within a budget
 abbrev pub FinishAnswers : Status → ℕ → ℕ → Finish → Type 0
@@ -18,7 +26,8 @@ FinishAnswers (a.Trapped t) steps done f = f ≡ TrappedBy t.kind
 FinishAnswers a.StepsSpent steps done f = (done ≡ steps) × (f ≡ Running)
 -- the request at hand failed
 FinishAnswers a.ScreenFault steps done f = (suc done ≤ steps) × (f ≡ Running)
-FinishAnswers a.Memory steps done f = Unit {0}
+-- memory was wanted while the answer and the lines of the end were made
+FinishAnswers a.Memory steps done f = IsEnd f
 FinishAnswers _ steps done f = ⊥
 
 -- What the machine did: a translation of the module was loaded and ran for some instructions within the budget.
@@ -30,12 +39,15 @@ pub record MachineRan (p : Resolved) (w : World) (steps : ℕ) (old new : Option
   pub within : done ≤ steps
   pub finish : FinishAnswers status steps done (mrun done (running (loaded p code).state w)).finish
   pub shown : status ≢ a.ScreenFault → new ≡ followed_by old (mrun done (running (loaded p code).state w)).world.screen
+  -- where the screen failed, a prefix of the piece of the request at hand may stand behind it
+  pub cut : status ≡ a.ScreenFault → IsRefused (mrun done (running (loaded p code).state w)).machine (followed_by old (mrun done (running (loaded p code).state w)).world.screen) new
   -- where the whole budget brings no end, a settled answer is StepsSpent
   pub spent : (mrun steps (running (loaded p code).state w)).finish ≡ Running → settled status ≡ true → status ≡ a.StepsSpent
   -- 32 instructions a step of the meaning, and 64 more, are enough: where they are spent, it goes on
   pub enough : status ≡ a.StepsSpent → (m : ℕ) → 32 * m + 64 ≤ steps → (state_of p w m).phase ≡ Going
 
--- What the machine did, by the answer of a command that runs a structured text: nothing where the volume failed.
+-- What the machine did, by the answer of a command that runs a structured text: nothing where the volume failed, and nothing, or the
+-- whole run, where memory was wanted. After a fault of the report it did what the answer says whose lines were written.
 abbrev pub MachineAnswers : Resolved → World → ℕ → Option (List ℕ) → Option (List ℕ) → Status → Type 0
 MachineAnswers p w steps old new a.Done = MachineRan p w steps old new a.Done
 MachineAnswers p w steps old new (a.Trapped t) = MachineRan p w steps old new (a.Trapped t)
@@ -43,5 +55,5 @@ MachineAnswers p w steps old new a.StepsSpent = MachineRan p w steps old new a.S
 MachineAnswers p w steps old new a.ScreenFault = MachineRan p w steps old new a.ScreenFault
 MachineAnswers p w steps old new a.Memory = (new ≡ old) ⊎ MachineRan p w steps old new a.Memory
 MachineAnswers p w steps old new a.VolumeFault = new ≡ old
-MachineAnswers p w steps old new a.ReportFault = (s : Status) × (settled s ≡ true) × MachineRan p w steps old new s
+MachineAnswers p w steps old new a.ReportFault = (s : Status) × (settled s ≡ true) × (s ≢ a.Done) × MachineRan p w steps old new s
 MachineAnswers p w steps old new _ = ⊥

@@ -1,10 +1,7 @@
-pub mod Rows
-pub mod Emitting
-pub mod Generating
-pub mod Running
-pub mod Loaded
-pub mod Words
-pub mod Outcome
-pub mod Counted
-pub mod Report
 pub mod Answered
+pub mod Counted
+pub mod Loaded
+pub mod Outcome
+pub mod Report
+pub mod Running
+pub mod Words

@@ -1,21 +1,14 @@
--- The machine after a program module was loaded alone: its data from word 1, its body begun.
-use Rattle.std.specs.Prelude.{◌≡◌, ◌⊎◌, ℕ, List, [], ◌∷◌, length, Option, Some, None}
+-- What the ending of a run answers.
+use Rattle.std.specs.Prelude.{◌≡◌, ◌⊎◌, Some, None}
 use Rattle.lil_base.specs.declared.fault.TrapKind.{TrapKind}
 use Rattle.lil_base.specs.declared.fault.TrapAt.{TrapAt}
-use Rattle.lil_tree.specs.Resolved.{Resolved}
 use Rattle.lil_mcode.specs.State.{Module, module_at}
+use Rattle.lil_laws.specs.Loading.{body_alone}
 use Rattle.lil_session.specs.declared.run.Ending.{Ending}
 use Rattle.lil_session.specs.declared.run.Ending.TheVariants as ending
 use Rattle.lil_session.specs.declared.status.Status.{Status}
 use Rattle.lil_session.specs.declared.status.Status.TheVariants as answer
-use Rattle.lil_mcode.specs.Calls.{Machine, fresh, with_level, with_module, with_bodies}
-
--- a body alone, at the beginning of the code
-abbrev pub body_alone : List (ℕ × Option (List ℕ))
-body_alone = (0, None) ∷ []
-
-abbrev pub loaded : Resolved → List ℕ → Machine
-loaded p code = with_bodies (with_module (with_level fresh) p.name body_alone code (length p.variables)) (1 ∷ [])
+use Rattle.lil_mcode.specs.Calls.{Machine}
 
 -- The machine looked last at an instruction of this module, which is a body alone.
 pub record IsAtBody (machine : Machine) (m : Module) : Type 0 where

@@ -1,12 +1,13 @@
 -- How an answer, what the devices hold and their counts go together.
-use Rattle.std.specs.Prelude.{◌≡◌, ◌≢◌, ◌⊎◌, ℕ, ◌≤◌, Bool, true, false, List, [], ◌∷◌, ◌++◌, Option, Some, None, ⊤}
+use Rattle.std.specs.Prelude.{◌≡◌, ◌≢◌, ◌⊎◌, ℕ, suc, ◌≤◌, Bool, true, false, List, [], ◌∷◌, ◌++◌, Option, Some, None, ⊤}
 use Rattle.std.specs.FinMap.{get}
+use Rattle.lil_base.specs.Faults.{fault}
 use Rattle.lil_base.specs.declared.fault.SourceFault.{SourceFault}
-use Rattle.lil_tree.specs.Resolved.{Resolved}
+use Rattle.lil_resolved.specs.Resolved.{Resolved}
 use Rattle.lil_tree.specs.Structured.{IsStructured}
 use Rattle.lil_meaning.specs.World.{World}
 use Rattle.lil_meaning.specs.Items.{Source, Phase, Going, Closing, Ended, Trapped}
-use Rattle.lil_meaning.specs.Runs.{src}
+use Rattle.lil_meaning.specs.Runs.{state_of}
 use Rattle.lil_volume.specs.Causes.{Rose}
 use Rattle.lil_volume.specs.Told.{Files, FileIs, with_file, followed_by, FollowedByPrefix}
 use Rattle.lil_session.specs.declared.status.Status.{Status}
@@ -52,7 +53,7 @@ settled _ = true
 
 -- the fault of a text whose form isn't built yet: number 90 at the text's start
 abbrev pub not_built : SourceFault
-not_built = record { number = 90; place = record { line = 1; column = 1; offset = 0 }; about = None; first = 0; second = 0 }
+not_built = fault 90 (record { line = 1; column = 1; offset = 0 })
 
 -- This fault is answered only where the count rose, and the count rises only where the answer is this fault or want of memory.
 pub record Blames (fault : Status) (before now : ℕ) (status : Status) : Type 0 where
@@ -93,10 +94,6 @@ pub record Finds (files : Option Files) (keys : Option (List ℕ)) (w : World) :
   pub nothing_written : w.writes ≡ []
   pub no_stream : w.streams ≡ []
   pub no_channel : w.channels ≡ []
-
--- the state of the meaning of a program module after n steps
-abbrev pub state_of : Resolved → World → ℕ → Source
-state_of p w n = src (p ∷ []) w n
 
 -- The answer that the end of a meaning is: Done where it ended, and the trap where it trapped.
 abbrev pub EndsSo : Phase → Status → Type 0
@@ -153,31 +150,43 @@ Allowed a.Done e = e ≡ Ended
 Allowed (a.Trapped t) e = e ≡ Trapped t
 Allowed _ e = Unit {0}
 
--- THE HEADLINE. What was shown is what a state of the meaning has shown; where the screen failed, a prefix of the piece that the
--- meaning adds next may stand behind it. The keys and the files are that state's. The answer Done comes only where that state has
--- ended, and a trap only where it has trapped with it.
+-- a meaning that is over
+abbrev pub IsOver : Phase → Type 0
+IsOver Ended = ⊤
+IsOver (Trapped t) = ⊤
+IsOver _ = ⊥
+
+-- The piece that the step from s to t adds to the screen was refused: a prefix of it stands behind what s has shown.
+pub record IsCutAt (s t : Source) (old new : Option (List ℕ)) : Type 0 where
+  pub piece : List ℕ
+  pub some : piece ≢ []
+  pub adds : t.world.screen ≡ s.world.screen ++ piece
+  pub prefix : FollowedByPrefix (followed_by old s.world.screen) piece new
+
+-- What is shown is what the state behind n steps of the meaning has shown.
+pub record Shown (p : Resolved) (w : World) (n : ℕ) (old new : Option (List ℕ)) (status : Status) : Type 0 where
+  pub whole : status ≢ a.ScreenFault → new ≡ followed_by old (state_of p w n).world.screen
+  -- where the screen failed, a prefix of the piece that the next step adds may stand behind it
+  pub cut : status ≡ a.ScreenFault → IsCutAt (state_of p w n) (state_of p w (suc n)) old new
+  pub ends : Allowed status (state_of p w n).phase
+  -- memory is wanted before anything is shown, or after the end
+  pub stops : status ≡ a.Memory → (new ≡ old) ⊎ IsOver (state_of p w n).phase
+
+-- THE HEADLINE. What was shown, the keys and the files are those of the state behind n steps of the meaning; where the screen failed, a
+-- prefix of the piece that the next step adds may stand behind it. The answer Done comes only where that state has ended, and a trap
+-- only where it has trapped with it.
 pub record Headline (p : Resolved) (w : World) (before after : Devices) (status : Status) : Type 0 where
   pub n : ℕ
-  pub piece : List ℕ
-  pub later : ℕ
-  pub adds : (state_of p w later).world.screen ≡ (state_of p w n).world.screen ++ piece
-  pub prefix : FollowedByPrefix (followed_by before.shown (state_of p w n).world.screen) piece after.shown
-  pub whole : status ≢ a.ScreenFault → after.shown ≡ followed_by before.shown (state_of p w n).world.screen
+  pub shown : Shown p w n before.shown after.shown status
   pub keys : after.keys ≡ Some (state_of p w n).world.keys
   pub files : after.files ≡ with_writes before.files (state_of p w n).world.writes
-  pub ends : Allowed status (state_of p w n).phase
 
 -- the same of the screen alone
 pub record Shows (p : Resolved) (w : World) (old new : Option (List ℕ)) (status : Status) : Type 0 where
   pub n : ℕ
-  pub piece : List ℕ
-  pub later : ℕ
-  pub adds : (state_of p w later).world.screen ≡ (state_of p w n).world.screen ++ piece
-  pub prefix : FollowedByPrefix (followed_by old (state_of p w n).world.screen) piece new
-  pub whole : status ≢ a.ScreenFault → new ≡ followed_by old (state_of p w n).world.screen
+  pub shown : Shown p w n old new status
   pub keys : (state_of p w n).world.keys ≡ w.keys
   pub writes : (state_of p w n).world.writes ≡ w.writes
-  pub ends : Allowed status (state_of p w n).phase
 
 -- the answers of a run within a budget of steps
 abbrev pub IsRunAnswer : Status → Type 0

@@ -1,5 +1,6 @@
 -- The lines of the report, each with its byte 10, and how they are written.
-use Rattle.std.specs.Prelude.{◌≡◌, ◌⊎◌, ℕ, ◌==◌, true, false, List, [], ◌∷◌, ◌++◌, codes, decimal, Option, Some, None, if◌then◌else◌}
+use Rattle.std.specs.Prelude.{◌≡◌, ◌≢◌, ◌⊎◌, ℕ, ◌≤◌, Bool, true, false, List, [], ◌∷◌, ◌++◌, codes, decimal, Option, Some, None}
+use Rattle.lil_base.specs.Faults.{fault_name}
 use Rattle.lil_base.specs.declared.fault.SourceFault.{SourceFault}
 use Rattle.lil_base.specs.declared.fault.TrapAt.{TrapAt}
 use Rattle.lil_base.specs.declared.fault.CodePlace.{CodePlace}
@@ -34,9 +35,6 @@ limit_name limit.Stack = codes "stack"
 limit_name limit.Store = codes "store"
 limit_name limit.Code = codes "code"
 limit_name limit.Words = codes "data"
-
-abbrev pub fault_name : ℕ → List ℕ
-fault_name number = if number == 90 then codes "NotBuilt" else []
 
 -- a blank and the name, where there is one
 abbrev pub about_text : Option (List ℕ) → List ℕ
@@ -87,6 +85,16 @@ status_lines file a.ReportFault = []
 status_lines file a.Memory = codes "memory" ++ 10 ∷ []
 status_lines file (a.BadCode p) = code_text p ++ 10 ∷ []
 
+-- whether an answer's lines are the same whatever the file at hand is, and have no name or number of the answer in them
+abbrev pub is_fixed : Status → Bool
+is_fixed (a.NoFile name) = false
+is_fixed (a.SourceFault s) = false
+is_fixed (a.LoadRefused r) = false
+is_fixed (a.Trapped t) = false
+is_fixed (a.Limit k) = false
+is_fixed (a.BadCode p) = false
+is_fixed _ = true
+
 -- a word, or no bytes where there is none
 abbrev pub bytes_or_none : Option (List ℕ) → List ℕ
 bytes_or_none None = []
@@ -96,11 +104,25 @@ bytes_or_none (Some word) = word
 abbrev pub file_of : List (List ℕ) → List ℕ
 file_of words = bytes_or_none (once_word words)
 
+-- What became of an answer: it stays, or its lines failed, or memory was wanted for them. An answer that gives way stays, Done has no
+-- lines, and fixed lines want no memory.
+abbrev pub Became : Status → Status → Type 0
+Became status result =
+    (result ≡ status)
+    ⊎ (((gives_way status ≡ false) × (status ≢ a.Done) × (result ≡ a.ReportFault))
+    ⊎ ((gives_way status ≡ false) × (is_fixed status ≡ false) × (result ≡ a.Memory)))
+
+-- These lines were put: the answer stays, or the report failed.
+abbrev pub Lined : List ℕ → Status → Option (List ℕ) → ℕ → Option (List ℕ) → ℕ → Status → Type 0
+Lined lines status old old_faults new new_faults result =
+    ((result ≡ status) × (new ≡ followed_by old lines) × (new_faults ≡ old_faults))
+    ⊎ ((result ≡ a.ReportFault) × FollowedByPrefix old lines new × (old_faults ≤ new_faults) × Rose old_faults new_faults)
+
 -- The lines of an answer were written, and this is the answer now. An answer that gives way stays, whether its line was written or
 -- not; but its line was tried, so it stands whole or the report failed. Another stays where its lines were written whole.
 pub record Reported (file : List ℕ) (status : Status) (old : Option (List ℕ)) (old_faults : ℕ) (new : Option (List ℕ)) (new_faults : ℕ) (result : Status) : Type 0 where
   pub passes : gives_way status ≡ true → result ≡ status
-  pub answer : (result ≡ status) ⊎ ((gives_way status ≡ false) × ((result ≡ a.ReportFault) ⊎ (result ≡ a.Memory)))
+  pub became : Became status result
   pub whole : settled result ≡ true → new ≡ followed_by old (status_lines file status)
   pub cut : result ≡ a.ReportFault → FollowedByPrefix old (status_lines file status) new
   pub still : gives_way result ≡ true → FollowedByPrefix old (status_lines [] result) new

@@ -1,72 +1,14 @@
--- A run of the machine, with its world.
-use Rattle.std.specs.Prelude.{◌≡◌, ℕ, zero, suc, ◌≤◌, true, List, [], ◌++◌, take, drop, reverse, Option, Some, None}
-use Rattle.lil_base.specs.declared.fault.TrapKind.{TrapKind}
-use Rattle.lil_base.specs.declared.fault.LimitKind.{LimitKind}
-use Rattle.lil_mcode.specs.declared.machine.Event.{Event}
-use Rattle.lil_mcode.specs.declared.machine.Event.TheVariants.{Went, Request, LevelEnded, Trap, Limit, BadCode}
+-- How a run goes on, is cut or ends, as the screen shows it.
+use Rattle.std.specs.Prelude.{◌≡◌, ◌≢◌, ℕ, suc, ◌≤◌, true, List, [], ◌++◌, Option, Some, None}
+use Rattle.lil_mcode.specs.declared.machine.Event.TheVariants.{Request}
 use Rattle.lil_mcode.specs.State.{State}
-use Rattle.lil_mcode.specs.Table.{mstep, request_words}
-use Rattle.lil_meaning.specs.World.{World, serve}
+use Rattle.lil_mcode.specs.Table.{mstep}
+use Rattle.lil_asm.specs.Requests.{request_words}
+use Rattle.lil_meaning.specs.World.{World, piece_of}
 use Rattle.lil_volume.specs.Told.{followed_by, FollowedByPrefix}
+use Rattle.lil_match.specs.Running.{Finish, Running, Finished, TrappedBy, Limited, Broken, words_taken, arguments, advanced, mrun, running}
 use Rattle.lil_session.specs.declared.run.Ending.{Ending}
 use Rattle.lil_session.specs.declared.run.Ending.TheVariants as ending
-
--- how far a run has come
-pub data Finish : Type 0 where
-  Running : Finish
-  Finished : Finish
-  TrappedBy : (k : TrapKind) → Finish
-  Limited : (k : LimitKind) → Finish
-  Broken : Finish
-
-pub record Run : Type 0 where
-  pub machine : State
-  pub world : World
-  pub finish : Finish
-
-abbrev pub words_taken : Option ℕ → ℕ
-words_taken None = 0
-words_taken (Some n) = n
-
--- the words of a request, in the order of its parameters
-abbrev pub arguments : ℕ → State → List ℕ
-arguments n s = reverse (take n s.stack)
-
--- the machine after a request, whose words are taken from the expression stack
-abbrev pub taken : ℕ → State → State
-taken n s = record s { stack = drop n s.stack }
-
-abbrev pub requested : ℕ → ℕ → State → Run → Run
-requested r n s run = record run { machine = taken n s; world = serve r (arguments n s) run.world }
-
--- what a step makes of a run
-abbrev pub react : Event → State → Run → Run
-react Went s run = record run { machine = s }
-react (Request r) s run = requested r (words_taken (request_words r)) s run
-react LevelEnded s run = record run { machine = s; finish = Finished }
-react (Trap k) s run = record run { machine = s; finish = TrappedBy k }
-react (Limit k) s run = record run { machine = s; finish = Limited k }
-react BadCode s run = record run { machine = s; finish = Broken }
-
-abbrev pub unless_over : Finish → Run → Run → Run
-unless_over Running old new = new
-unless_over Finished old new = old
-unless_over (TrappedBy k) old new = old
-unless_over (Limited k) old new = old
-unless_over Broken old new = old
-
--- one step
-abbrev pub advanced : Run → Run
-advanced run = unless_over run.finish run (react (mstep run.machine).0 (mstep run.machine).1 run)
-
--- n steps; after its end a run stays
-abbrev pub mrun : ℕ → Run → Run
-mrun zero run = run
-mrun (suc n) run = mrun n (advanced run)
-
--- a machine that runs in a world
-abbrev pub running : State → World → Run
-running s w = record { machine = s; world = w; finish = Running }
 
 -- a body that runs as the last of its level, with its mark
 pub record IsAlone (s : State) : Type 0 where
@@ -94,10 +36,14 @@ pub record IsStep (s t : State) (f : Finish) (old new : Option (List ℕ)) (w : 
   pub adds : world.screen ≡ w.screen ++ piece
   pub shown : new ≡ followed_by old piece
 
--- one step whose piece the screen refused: a prefix of it may have been shown
-pub record IsRefused (s : State) (old new : Option (List ℕ)) (w : World) : Type 0 where
+-- The step at hand is a request, and the screen refused the piece that it adds: a prefix of it was shown.
+pub record IsRefused (s : State) (old new : Option (List ℕ)) : Type 0 where
+  pub number : ℕ
+  pub asked : State
+  pub step : mstep s ≡ (Request number, asked)
   pub piece : List ℕ
-  pub adds : (advanced (running s w)).world.screen ≡ w.screen ++ piece
+  pub its : piece ≡ piece_of number (arguments (words_taken (request_words number)) asked)
+  pub some : piece ≢ []
   pub prefix : FollowedByPrefix old piece new
 
 -- at most so many steps, from s on: what they add to the screen was shown
@@ -105,11 +51,10 @@ pub record HasRun (s : State) (steps : ℕ) (f : Finish) (old new : Option (List
   pub finish : f ≡ (mrun steps (running s w)).finish
   pub shown : new ≡ followed_by old (mrun steps (running s w)).world.screen
 
--- a run that the screen stopped within so many steps: what the steps before had added was shown, and a prefix of the piece of the next one
+-- A run that the screen stopped within so many steps: what the steps before had added was shown, and then the piece of the request at
+-- hand was refused.
 pub record IsCut (s : State) (steps : ℕ) (old new : Option (List ℕ)) (w : World) : Type 0 where
   pub done : ℕ
   pub within : suc done ≤ steps
   pub finish : (mrun done (running s w)).finish ≡ Running
-  pub piece : List ℕ
-  pub adds : (mrun (suc done) (running s w)).world.screen ≡ (mrun done (running s w)).world.screen ++ piece
-  pub prefix : FollowedByPrefix (followed_by old (mrun done (running s w)).world.screen) piece new
+  pub refused : IsRefused (mrun done (running s w)).machine (followed_by old (mrun done (running s w)).world.screen) new

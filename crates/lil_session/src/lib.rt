@@ -1,7 +1,6 @@
 //! The top call: reading, translating and running programs.
 #![tactic(auto)]
 
-mod generator;
 mod lines;
 mod options;
 mod rack;
@@ -21,6 +20,3 @@ pub use rack::{Channel, ChannelFailed, Rack};
 pub use status::Status;
 pub use text_run::once;
 pub use top::lilith;
-
-#[cfg(test)]
-mod tests;

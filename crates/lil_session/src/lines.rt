@@ -1,11 +1,14 @@
-ghost use Rattle.std.specs.Prelude.{◌≡◌, ◌++◌, ◌∷◌, [], OnOk, IfOk, decimal, codes};
-ghost use Rattle.lil_session.specs.Report.{trap_name, limit_name, fault_name, about_text, procedure_text, place_text, fault_text, trap_text, code_text, refusal_text, status_lines};
+ghost use Rattle.std.specs.Prelude.{◌≡◌, ◌++◌, ◌∷◌, [], false, OnOk, IfOk, decimal, codes};
+ghost use Rattle.lil_session.specs.Report.{trap_name, limit_name, about_text, procedure_text, place_text, fault_text, trap_text, code_text, refusal_text, is_fixed, status_lines};
 
 use crate::Status;
 use lil_base::{
     Bytes, CodePlace, FileName, LimitKind, LoadRefusal, Memory, Name, SourceFault, TrapAt, TrapKind,
 };
 use std::alloc::Global;
+
+/// The byte that ends a line.
+pub(crate) const LINE_END: u8 = 10;
 
 fn trap_word(kind: TrapKind) -> &'static [u8]
     ensures { result.now ≡ trap_name kind }
@@ -34,12 +37,6 @@ fn limit_word(kind: LimitKind) -> &'static [u8]
         LimitKind::Code => b"code",
         LimitKind::Words => b"data",
     }
-}
-
-fn fault_word(number: u8) -> &'static [u8]
-    ensures { result.now ≡ fault_name number }
-{
-    if number == 90 { b"NotBuilt" } else { b"" }
 }
 
 fn put_number(alloc: Global, line: &mut Bytes, n: u32) -> Result<(), Memory>
@@ -98,7 +95,7 @@ fn put_fault(alloc: Global, line: &mut Bytes, s: &SourceFault) -> Result<(), Mem
 {
     put_number(alloc, line, s.number as u32)?;
     line.extend(b" ")?;
-    line.extend(fault_word(s.number))?;
+    line.extend(s.name())?;
     put_about(line, &s.about)
 }
 
@@ -168,20 +165,12 @@ fn put_refusal(alloc: Global, line: &mut Bytes, r: &LoadRefusal) -> Result<(), M
     }
 }
 
-fn fixed_line(alloc: Global, text: &[u8]) -> Result<Bytes, Memory>
-    ensures { IfOk result (λ line. line ≡ text.now ++ 10 ∷ []) }
-{
-    let mut line = Bytes::from_slice(alloc, text)?;
-    line.push(10)?;
-    Ok(line)
-}
-
 fn no_file_line(alloc: Global, name: &FileName) -> Result<Bytes, Memory>
     ensures { IfOk result (λ line. line ≡ codes "no file " ++ name.now ++ 10 ∷ []) }
 {
     let mut line = Bytes::from_slice(alloc, b"no file ")?;
     line.extend(name.text().as_slice())?;
-    line.push(10)?;
+    line.push(LINE_END)?;
     Ok(line)
 }
 
@@ -191,7 +180,7 @@ fn fault_line(alloc: Global, file: &[u8], s: &SourceFault) -> Result<Bytes, Memo
     let mut line = Bytes::new(alloc);
     put_place(alloc, &mut line, file, s)?;
     put_fault(alloc, &mut line, s)?;
-    line.push(10)?;
+    line.push(LINE_END)?;
     Ok(line)
 }
 
@@ -200,7 +189,7 @@ fn refusal_line(alloc: Global, r: &LoadRefusal) -> Result<Bytes, Memory>
 {
     let mut line = Bytes::new(alloc);
     put_refusal(alloc, &mut line, r)?;
-    line.push(10)?;
+    line.push(LINE_END)?;
     Ok(line)
 }
 
@@ -209,7 +198,7 @@ fn trap_line(alloc: Global, t: &TrapAt) -> Result<Bytes, Memory>
 {
     let mut line = Bytes::new(alloc);
     put_trap(&mut line, t)?;
-    line.push(10)?;
+    line.push(LINE_END)?;
     Ok(line)
 }
 
@@ -218,7 +207,7 @@ fn limit_line(alloc: Global, kind: LimitKind) -> Result<Bytes, Memory>
 {
     let mut line = Bytes::from_slice(alloc, b"limit ")?;
     line.extend(limit_word(kind))?;
-    line.push(10)?;
+    line.push(LINE_END)?;
     Ok(line)
 }
 
@@ -227,32 +216,22 @@ fn code_line(alloc: Global, p: &CodePlace) -> Result<Bytes, Memory>
 {
     let mut line = Bytes::new(alloc);
     put_at(alloc, &mut line, b"bad code in ", &p.module, p.place as u32)?;
-    line.push(10)?;
+    line.push(LINE_END)?;
     Ok(line)
 }
 
-/// What an answer reports, with the file at hand.
-pub(crate) fn lines(alloc: Global, file: &[u8], status: &Status) -> Result<Bytes, Memory>
+/// What an answer with a name or a number reports, with the file at hand.
+pub(crate) fn made_lines(alloc: Global, file: &[u8], status: &Status) -> Result<Bytes, Memory>
+    requires { is_fixed status.now ≡ false }
     ensures { IfOk result (λ all. all ≡ status_lines file.now status.now) }
 {
     match status {
-        Status::Done => Ok(Bytes::new(alloc)),
-        Status::Usage => fixed_line(
-            alloc,
-            b"usage: lilith compile or run or once or demo, NAME, --steps=N --count --screen",
-        ),
         Status::NoFile(name) => no_file_line(alloc, name),
         Status::SourceFault(s) => fault_line(alloc, file, s),
         Status::LoadRefused(r) => refusal_line(alloc, r),
         Status::Trapped(t) => trap_line(alloc, t),
         Status::Limit(kind) => limit_line(alloc, *kind),
-        Status::StepsSpent => fixed_line(alloc, b"steps spent"),
-        Status::VolumeFault => fixed_line(alloc, b"fault volume"),
-        Status::KeyFault => fixed_line(alloc, b"fault keyboard"),
-        Status::ScreenFault => fixed_line(alloc, b"fault screen"),
-        Status::ChannelFault => fixed_line(alloc, b"fault channel"),
-        Status::ReportFault => Ok(Bytes::new(alloc)),
-        Status::Memory => fixed_line(alloc, b"memory"),
         Status::BadCode(p) => code_line(alloc, p),
+        _ => unreachable!(),
     }
 }

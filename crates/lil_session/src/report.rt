@@ -1,11 +1,11 @@
-ghost use Rattle.std.specs.Prelude.{◌≡◌, ◌≢◌, ◌⊎◌, ◌≤◌, true, []};
+ghost use Rattle.std.specs.Prelude.{◌≡◌, ◌≢◌, ◌⊎◌, ◌≤◌, true, false};
 ghost use Rattle.lil_volume.specs.Causes.{Rose};
 ghost use Rattle.lil_volume.specs.Told.{followed_by, FollowedByPrefix};
 ghost use Rattle.lil_session.specs.Outcome.{gives_way};
-ghost use Rattle.lil_session.specs.Report.{status_lines, Reported};
+ghost use Rattle.lil_session.specs.Report.{is_fixed, Lined, Reported};
 
 use crate::Status;
-use crate::lines::lines;
+use crate::lines::made_lines;
 use lil_volume::Sink;
 use std::alloc::Global;
 
@@ -23,19 +23,6 @@ fn stays(status: &Status) -> bool
     }
 }
 
-/// The line of an answer that stays, which wants no memory.
-fn fixed_line(status: &Status) -> &'static [u8]
-    ensures { gives_way status.now ≡ true → result.now ≡ status_lines [] status.now }
-{
-    match status {
-        Status::VolumeFault => b"fault volume\n",
-        Status::KeyFault => b"fault keyboard\n",
-        Status::ScreenFault => b"fault screen\n",
-        Status::ChannelFault => b"fault channel\n",
-        _ => b"memory\n",
-    }
-}
-
 /// Puts a piece, and doesn't look whether that failed.
 fn try_put<R: Sink>(report: &mut R, piece: &[u8])
     ensures prefix { FollowedByPrefix (R.written report.old) piece.now (R.written report.new) }
@@ -45,24 +32,51 @@ fn try_put<R: Sink>(report: &mut R, piece: &[u8])
     let _ = report.put(piece);
 }
 
-/// Writes the lines of an answer, in one piece. The answer then is the same, or the report's fault, or
-/// want of memory.
-pub(crate) fn tell<R: Sink>(alloc: Global, file: &[u8], status: Status, report: &mut R) -> Status
-    requires { status ≢ Status.ReportFault }
+/// Puts the lines of an answer, which then is the same, or the report's fault.
+fn put_lines<R: Sink>(report: &mut R, lines: &[u8], status: Status) -> Status
+    ensures { Lined lines.now status (R.written report.old) (R.faults report.old) (R.written report.new) (R.faults report.new) result }
+{
+    match report.put(lines) {
+        Ok(()) => status,
+        Err(_) => Status::ReportFault,
+    }
+}
+
+/// Makes the lines of an answer and writes them.
+fn write_made<R: Sink>(alloc: Global, file: &[u8], status: Status, report: &mut R) -> Status
+    requires { is_fixed status ≡ false }
     ensures { Reported file.now status (R.written report.old) (R.faults report.old) (R.written report.new) (R.faults report.new) result }
 {
-    if stays(&status) {
-        try_put(report, fixed_line(&status));
-        return status;
-    }
-    match lines(alloc, file, &status) {
+    match made_lines(alloc, file, &status) {
+        Ok(lines) => put_lines(report, lines.as_slice(), status),
         Err(_) => {
             try_put(report, b"memory\n");
             Status::Memory
         }
-        Ok(all) => match report.put(all.as_slice()) {
-            Ok(()) => status,
-            Err(_) => Status::ReportFault,
-        },
     }
+}
+
+/// Writes the lines of an answer, in one piece. The answer then is the same, or the report's fault, or
+/// want of memory. Done has no lines: there the report isn't called.
+pub(crate) fn write_report<R: Sink>(
+    alloc: Global,
+    file: &[u8],
+    status: Status,
+    report: &mut R,
+) -> Status
+    requires { status ≢ Status.ReportFault }
+    ensures written { Reported file.now status (R.written report.old) (R.faults report.old) (R.written report.new) (R.faults report.new) result }
+    ensures silent { result ≡ Status.Done → report.new ≡ report.old }
+{
+    if let Status::Done = status {
+        return Status::Done;
+    }
+    let Some(line) = status.fixed_line() else {
+        return write_made(alloc, file, status, report);
+    };
+    if stays(&status) {
+        try_put(report, line);
+        return status;
+    }
+    put_lines(report, line, status)
 }

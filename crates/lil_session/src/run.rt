@@ -1,5 +1,5 @@
 ghost use Rattle.std.specs.Prelude.{◌≡◌, ◌≢◌, ◌⊎◌, ◌%◌, ◌≤◌, [], ◌∷◌, true, length, IfOk, OnOk, OnErr, Some};
-ghost use Rattle.lil_tree.specs.Views.{module_of};
+ghost use Rattle.lil_resolved.specs.Views.{module_of};
 ghost use Rattle.lil_meaning.specs.World.{World, byte_of, piece_of};
 ghost use Rattle.lil_mcode.specs.State.{Module, State};
 ghost use Rattle.lil_mcode.specs.Going.{Ran};
@@ -8,20 +8,29 @@ ghost use Rattle.lil_volume.specs.Causes.{HasCause};
 ghost use Rattle.lil_volume.specs.Told.{followed_by, FollowedByPrefix};
 ghost use Rattle.lil_base.specs.declared.fault.TrapKind.{TrapKind};
 ghost use Rattle.lil_session.specs.declared.run.Ending.TheVariants as ending;
-ghost use Rattle.lil_tree.specs.Sizes.{IsSmall, code_size};
-ghost use Rattle.lil_session.specs.Rows.{Translates};
-ghost use Rattle.lil_session.specs.Running.{arguments, taken, IsAlone, finish_of, finish_by, IsStep, IsRefused, HasRun, IsCut};
+ghost use Rattle.lil_resolved.specs.Sizes.{IsSmall, code_size};
+ghost use Rattle.lil_table.specs.Rows.{Translates};
+ghost use Rattle.lil_session.specs.Running.{IsAlone, finish_of, finish_by, IsStep, IsRefused, HasRun, IsCut};
+ghost use Rattle.lil_match.specs.Running.{arguments, taken};
 ghost use Rattle.lil_session.specs.Outcome.{settled, Blames, Shows, MeansAnswer, IsRunAnswer};
 ghost use Rattle.lil_session.specs.Counted.{MachineAnswers};
 ghost use Rattle.std.specs.Option.{option_copied};
-ghost use Rattle.lil_session.specs.Loaded.{loaded, IsAtBody, body_trap, EndingAnswers, IsPossible};
+ghost use Rattle.lil_session.specs.Loaded.{IsAtBody, body_trap, EndingAnswers, IsPossible};
+ghost use Rattle.lil_laws.specs.Loading.{loaded};
 
 use crate::Status;
+use crate::lines::LINE_END;
 use lil_base::{Bytes, LimitKind, Memory, Name, TrapAt, TrapKind};
 use lil_mcode::{Event, Machine};
-use lil_tree::RModule;
+use lil_resolved::RModule;
 use lil_volume::{Sink, SinkFailed};
 use std::alloc::Global;
+
+/// The character that ends a line, EOL.
+const END_OF_LINE: u8 = 30;
+
+/// The number of the request Write.
+const WRITE: u8 = 2;
 
 /// How a run of the machine ended.
 #[derive(Clone, Copy, Debug, PartialEq, Eq)]
@@ -33,11 +42,16 @@ pub(crate) enum Ending {
     Spent,
 }
 
+/// The byte that shows a word's character.
 fn shown_byte(word: u16) -> u8
     ensures { result ≡ byte_of (word % 256) }
 {
     let character = (word % 256) as u8;
-    if character == 30 { 10 } else { character }
+    if character == END_OF_LINE {
+        LINE_END
+    } else {
+        character
+    }
 }
 
 /// Serves request 2, Write: takes the topmost word, and shows its character.
@@ -65,7 +79,7 @@ fn serve<S: Sink>(number: u8, machine: &mut Machine, screen: &mut S) -> Result<(
     ensures cause { HasCause (S.faults screen.old) (S.faults screen.new) result }
 {
     match number {
-        2 => write_character(machine, screen),
+        WRITE => write_character(machine, screen),
         _ => unreachable!(),
     }
 }
@@ -78,7 +92,7 @@ fn answered<S: Sink>(
 ) -> Result<Option<Ending>, SinkFailed>
     requires { (u : State) × (mstep u ≡ (event, machine.old.state)) × IsAlone machine.old.state }
     ensures step { IfOk result (λ o. (u : State) → mstep u ≡ (event, machine.old.state) → (w : World) → IsStep u machine.new.state (finish_by o) (S.written screen.old) (S.written screen.new) w) }
-    ensures refused { OnErr result ((u : State) → mstep u ≡ (event, machine.old.state) → (w : World) → IsRefused u (S.written screen.old) (S.written screen.new) w) }
+    ensures refused { OnErr result ((u : State) → mstep u ≡ (event, machine.old.state) → IsRefused u (S.written screen.old) (S.written screen.new)) }
     ensures unspent { IfOk result (λ o. o ≢ Some ending.Spent) }
     ensures modules { machine.new.state.modules ≡ machine.old.state.modules }
     ensures running { machine.new.state.running ≡ machine.old.state.running }

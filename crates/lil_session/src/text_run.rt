@@ -1,8 +1,8 @@
 ghost use Rattle.std.specs.Prelude.{◌≡◌, ◌⊎◌, ℕ, List, [], Some, None, true, false};
-ghost use Rattle.lil_tree.specs.Resolved.{Resolved};
-ghost use Rattle.lil_tree.specs.Views.{module_of};
+ghost use Rattle.lil_resolved.specs.Resolved.{Resolved};
+ghost use Rattle.lil_resolved.specs.Views.{module_of};
 ghost use Rattle.lil_meaning.specs.World.{World};
-ghost use Rattle.lil_tree.specs.Sizes.{IsSound, IsSmall};
+ghost use Rattle.lil_resolved.specs.Sizes.{IsSound, IsSmall};
 ghost use Rattle.lil_session.specs.Words.{mod_file, name_of_word};
 ghost use Rattle.lil_base.specs.declared.fault.SourceFault.{SourceFault as Fault};
 ghost use Rattle.lil_session.specs.Outcome.{settled, gives_way, devices, not_built, Answers, Blames, Finds, Headline, IsRunAnswer, IsRunnable, MeansAnswer, ReportBlames, Runs, Shows};
@@ -10,16 +10,16 @@ ghost use Rattle.lil_session.specs.Counted.{MachineAnswers};
 ghost use Rattle.lil_volume.specs.Causes.{Rose};
 ghost use Rattle.lil_volume.specs.Told.{followed_by, FollowedByPrefix};
 ghost use Rattle.lil_session.specs.Report.{status_lines};
-ghost use Rattle.lil_session.specs.Answered.{TextRan, Ran, Call, Told};
+ghost use Rattle.lil_session.specs.Answered.{TextRan, CommandRan, CommandReported, Answered};
 
-use crate::generator::generate;
-use crate::report::tell;
+use crate::report::write_report;
 use crate::run::run_program;
 use crate::words::named;
 use crate::{Channel, Options, Rack, Status};
-use lil_base::{Name, Place, SourceFault, Text};
+use lil_base::{FaultKind, Name, Place, SourceFault, Text};
+use lil_resolved::RModule;
 use lil_structured::read_structured;
-use lil_tree::RModule;
+use lil_unit::generate;
 use lil_volume::{Keyboard, Sink, Volume, VolumeError};
 use std::alloc::Global;
 
@@ -27,17 +27,12 @@ use std::alloc::Global;
 fn fault_of_form() -> SourceFault
     ensures { result ≡ not_built }
 {
-    SourceFault {
-        number: 90,
-        place: Place {
-            line: 1,
-            column: 1,
-            offset: 0,
-        },
-        about: None,
-        first: 0,
-        second: 0,
-    }
+    let start = Place {
+        line: 1,
+        column: 1,
+        offset: 0,
+    };
+    SourceFault::at(FaultKind::NotBuilt, start)
 }
 
 /// Translates a program module and runs its code.
@@ -78,7 +73,7 @@ fn run_source<V: Volume, K: Keyboard, S: Sink>(
     screen: &mut S,
 ) -> Status
     ensures { let at = devices V.files V.faults K.left K.faults S.written S.faults in
-        Ran (Some name.now) steps (at volume.old keys.old screen.old) (at volume.new keys.new screen.new) result }
+        CommandRan (Some name.now) steps (at volume.old keys.old screen.old) (at volume.new keys.new screen.new) result }
 {
     let Ok(file) = name.mod_file(alloc) else {
         return Status::Memory;
@@ -92,7 +87,7 @@ fn run_source<V: Volume, K: Keyboard, S: Sink>(
 }
 
 /// Does a command `once` as far as the devices go.
-fn ran<V: Volume, K: Keyboard, S: Sink>(
+fn run_once<V: Volume, K: Keyboard, S: Sink>(
     alloc: Global,
     word: &Text,
     steps: u64,
@@ -101,7 +96,7 @@ fn ran<V: Volume, K: Keyboard, S: Sink>(
     screen: &mut S,
 ) -> Status
     ensures { let at = devices V.files V.faults K.left K.faults S.written S.faults in
-        Ran (name_of_word word.now) steps (at volume.old keys.old screen.old) (at volume.new keys.new screen.new) result }
+        CommandRan (name_of_word word.now) steps (at volume.old keys.old screen.old) (at volume.new keys.new screen.new) result }
 {
     match named(alloc, word.as_slice()) {
         Err(_) => Status::Memory,
@@ -111,7 +106,7 @@ fn ran<V: Volume, K: Keyboard, S: Sink>(
 }
 
 /// Does a command `once`, and writes its answer's lines.
-pub(crate) fn told<V: Volume, K: Keyboard, S: Sink, R: Sink>(
+pub(crate) fn report_once<V: Volume, K: Keyboard, S: Sink, R: Sink>(
     alloc: Global,
     word: &Text,
     steps: u64,
@@ -120,8 +115,8 @@ pub(crate) fn told<V: Volume, K: Keyboard, S: Sink, R: Sink>(
     screen: &mut S,
     report: &mut R,
 ) -> Status
-    ensures { let at = devices V.files V.faults K.left K.faults S.written S.faults in
-        Told (record {
+    ensures reported { let at = devices V.files V.faults K.left K.faults S.written S.faults in
+        CommandReported (record {
           name = name_of_word word.now;
           steps = steps;
           file = word.now;
@@ -132,9 +127,10 @@ pub(crate) fn told<V: Volume, K: Keyboard, S: Sink, R: Sink>(
           new = R.written report.new;
           new_faults = R.faults report.new;
         }) result }
+    ensures silent { result ≡ Status.Done → report.new ≡ report.old }
 {
-    let status = ran(alloc, word, steps, volume, keys, screen);
-    tell(alloc, word.as_slice(), status, report)
+    let status = run_once(alloc, word, steps, volume, keys, screen);
+    write_report(alloc, word.as_slice(), status, report)
 }
 
 /// Runs the program module X from its text, where the word is `X.MOD`, and writes its answer's lines to
@@ -149,13 +145,10 @@ pub fn once<V: Volume, K: Keyboard, S: Sink, R: Sink, C: Channel>(
     report: &mut R,
     rack: &mut Rack<C>,
 ) -> Status
-    // The report doesn't count instructions, and the screen is no grid.
     requires no_count { o.count ≡ false }
     requires no_grid { o.screen ≡ false }
-
-    // The command was done with some answer, whose lines were then written.
-    ensures told { let at = devices V.files V.faults K.left K.faults S.written S.faults in
-        Told (record {
+    ensures answered { let at = devices V.files V.faults K.left K.faults S.written S.faults in
+        Answered (record {
           name = name_of_word word.now;
           steps = o.steps;
           file = word.now;
@@ -166,43 +159,9 @@ pub fn once<V: Volume, K: Keyboard, S: Sink, R: Sink, C: Channel>(
           new = R.written report.new;
           new_faults = R.faults report.new;
         }) result }
-
-    // What a structured text shows, and how it ends, is what its meaning says.
-    ensures headline { let at = devices V.files V.faults K.left K.faults S.written S.faults in
-        (w : World) (p : Resolved) → Finds (V.files volume.old) (K.left keys.old) w → Runs (name_of_word word.now) w p → Headline p w (at volume.old keys.old screen.old) (at volume.new keys.new screen.new) result }
-
-    // Unless a device fails, memory is refused or the steps are spent, the answer is the command's.
-    ensures answer { (w : World) → Finds (V.files volume.old) (K.left keys.old) w → settled result ≡ true → (result ≡ Status.StepsSpent) ⊎ Answers (name_of_word word.now) w result }
-
-    // The machine ran a translation of the text within the budget, and the steps are spent exactly where that has no end.
-    ensures machine { (w : World) (p : Resolved) → Finds (V.files volume.old) (K.left keys.old) w → Runs (name_of_word word.now) w p → MachineAnswers p w o.steps (S.written screen.old) (S.written screen.new) result }
-
-    // The screen is called only where a structured text was found, and the volume only where the words name a module.
-    ensures called { ((S.written screen.new ≡ S.written screen.old) × (S.faults screen.new ≡ S.faults screen.old)) ⊎ IsRunnable (name_of_word word.now) (V.files volume.old) }
-    ensures asked { (V.faults volume.new ≡ V.faults volume.old) ⊎ ((x : List ℕ) × (name_of_word word.now ≡ Some x)) }
-
-    // A missed file is the module's source, and a fault is number 90 at the text's start, whatever the volume tells.
-    ensures missed_is { (file : List ℕ) → result ≡ Status.NoFile file → (x : List ℕ) × (name_of_word word.now ≡ Some x) × (file ≡ mod_file x) }
-    ensures fault_is { (f : Fault) → result ≡ Status.SourceFault f → f ≡ not_built }
-
-    // Each fault has its cause, and at most one of the counts of the volume and the screen rises.
-    ensures volume_cause { Blames Status.VolumeFault (V.faults volume.old) (V.faults volume.new) result }
-    ensures screen_cause { Blames Status.ScreenFault (S.faults screen.old) (S.faults screen.new) result }
-    ensures screen_told { (result ≡ Status.ScreenFault) ⊎ (S.faults screen.new ≡ S.faults screen.old) }
-    ensures keys_cause { K.faults keys.new ≡ K.faults keys.old }
-    ensures one { (V.faults volume.new ≡ V.faults volume.old) ⊎ (S.faults screen.new ≡ S.faults screen.old) }
-    ensures report_cause { ReportBlames (R.faults report.old) (R.faults report.new) result }
-
-    // Files, keys and channels stay.
-    ensures files { V.files volume.new ≡ V.files volume.old }
-    ensures keys { K.left keys.new ≡ K.left keys.old }
+    // Done has no lines: there the report isn't called.
+    ensures silent { result ≡ Status.Done → report.new ≡ report.old }
     ensures rack { rack.new ≡ rack.old }
-
-    // The report gets the answer's lines.
-    ensures lines { settled result ≡ true → R.written report.new ≡ followed_by (R.written report.old) (status_lines word.now result) }
-    ensures fault_line { gives_way result ≡ true → FollowedByPrefix (R.written report.old) (status_lines [] result) (R.written report.new) }
-    // The line of a fault, or of want of memory, was tried: it stands whole, or the report failed.
-    ensures line_tried { gives_way result ≡ true → (R.written report.new ≡ followed_by (R.written report.old) (status_lines [] result)) ⊎ Rose (R.faults report.old) (R.faults report.new) }
 {
-    told(alloc, word, o.steps, volume, keys, screen, report)
+    report_once(alloc, word, o.steps, volume, keys, screen, report)
 }

@@ -3,12 +3,12 @@ use Rattle.std.proofs.Common.{◌≡◌, ℕ, suc, ℤ, Bool, true, false, List,
 use Rattle.std.specs.Prelude.{int_lt}
 use Rattle.std.proofs.lemmas.Int.{ints}
 use Rattle.lil_base.specs.Words.{Integer, in_type, is_zero}
-use Rattle.lil_tree.specs.declared.tree.Range.{Range}
-use Rattle.lil_tree.specs.Kinds.{Kind, OfWhole}
-use Rattle.lil_tree.specs.Scalars.{within, scalar_of, ordinal_of}
-use Rattle.lil_tree.specs.Resolved.{Label}
-use Rattle.lil_tree.specs.Sizes.{IsSoundLabel, AreSoundLabels, IsStep}
-use Rattle.lil_tree.specs.Structured.{Scope, Meant, Whole', Fact, Evaluated, label_number, label_from, label_by, with_label, labels_mean, range_sense, step_number}
+use Rattle.lil_text.specs.declared.tree.Range.{Range}
+use Rattle.lil_resolved.specs.Kinds.{Kind, OfWhole}
+use Rattle.lil_resolved.specs.Scalars.{within, scalar_of, ordinal_of}
+use Rattle.lil_resolved.specs.Resolved.{Label}
+use Rattle.lil_resolved.specs.Sizes.{IsSoundLabel, AreSoundLabels, IsStep}
+use Rattle.lil_tree.specs.Structured.{Scope, Meant, Whole', Fact, label_number, label_from, label_by, with_label, labels_mean, range_sense, step_number}
 use Rattle.lil_structured.proofs.Worth.{IsSelectorKind, whole, truth}
 
 -- a number of a value of a kind

@@ -1,18 +1,12 @@
-pub mod Layers
-pub mod Numbers
-pub mod StatementLayers
-pub mod Parts
-pub mod Names
-pub mod Worth
-pub mod Weights
-pub mod ExpressionWorth
-pub mod LabelWorth
-pub mod StatementForms
-pub mod StatementWorth
-pub mod TokenWeights
-pub mod ModuleWorth
-pub mod Walks
-pub mod ProgramRules
-pub mod ProgramLaws
-pub mod Unique
-pub mod Endings
+mod Endings
+mod ExpressionWorth
+mod LabelWorth
+mod ModuleWorth
+mod Names
+mod Parts
+mod Pay
+mod StatementForms
+mod StatementLayers
+mod StatementWorth
+mod TokenPay
+mod Worth

@@ -2,10 +2,10 @@
 use Rattle.std.proofs.Common.{◌≡◌, ℕ, ◌+◌, ◌<◌, Bool, if◌then◌else◌, ◌&&◌, None, List, [], ◌∷◌, ◌++◌, length, map, take, get_or, sym, ap, ◌∙◌, refl, append_assoc}
 use Rattle.std.specs.List.{list_all}
 use Rattle.std.proofs.lemmas.List.{take_more}
-use Rattle.lil_tree.specs.declared.tree.Ident.{Ident}
+use Rattle.lil_text.specs.declared.tree.Ident.{Ident}
 use Rattle.lil_tree.specs.Structured.{names_of, is_named, is_permitted, module_by, declared_from, program_means}
-use Rattle.lil_structured.specs.declared.program.Program.{Program}
-use Rattle.lil_structured.specs.Programs.{imported, declared, program}
+use Rattle.lil_parse_unit.specs.declared.program.Program.{Program}
+use Rattle.lil_parse_unit.specs.Programs.{imported, declared, program}
 
 all_of_map : {A B : Type 0} (p : B → Bool) (f : A → B) (xs : List A) → list_all p (map f xs) ≡ list_all (λ x. p (f x)) xs
 all_of_map p f [] = refl

@@ -5,23 +5,23 @@ use Rattle.std.specs.List.{list_any}
 use Rattle.std.proofs.lemmas.List.{take_more, take_all, map-append}
 use Rattle.std.proofs.Math.Seq.{split_at}
 use Rattle.lil_base.specs.declared.fault.Place.{Place}
-use Rattle.lil_tree.specs.declared.tree.Range.{Range}
-use Rattle.lil_tree.specs.declared.tree.Guard.{Guard}
-use Rattle.lil_tree.specs.declared.tree.Arm.{Arm}
-use Rattle.lil_tree.specs.declared.tree.Expr.{Expr}
-use Rattle.lil_tree.specs.declared.tree.Stmt.{Stmt}
-use Rattle.lil_tree.specs.declared.tree.Stmt.TheVariants as st
-use Rattle.lil_tree.specs.declared.resolved.RExpr.{RExpr}
-use Rattle.lil_tree.specs.declared.resolved.RStmt.{RStmt}
-use Rattle.lil_tree.specs.declared.resolved.RStmt.TheVariants as s
-use Rattle.lil_tree.specs.declared.resolved.RGuard.{RGuard}
-use Rattle.lil_tree.specs.declared.resolved.RArm.{RArm}
-use Rattle.lil_tree.specs.declared.resolved.RLabel.{RLabel}
-use Rattle.lil_tree.specs.Kinds.{Kind, OfTruth}
-use Rattle.lil_tree.specs.Resolved.{Expression, Label, Statement, Statements, Empty, Then, If, Case, Arms, NoElse, Arm as An, kind_of}
+use Rattle.lil_text.specs.declared.tree.Range.{Range}
+use Rattle.lil_text.specs.declared.tree.Guard.{Guard}
+use Rattle.lil_text.specs.declared.tree.Arm.{Arm}
+use Rattle.lil_text.specs.declared.tree.Expr.{Expr}
+use Rattle.lil_text.specs.declared.tree.Stmt.{Stmt}
+use Rattle.lil_text.specs.declared.tree.Stmt.TheVariants as st
+use Rattle.lil_resolved.specs.declared.resolved.RExpr.{RExpr}
+use Rattle.lil_resolved.specs.declared.resolved.RStmt.{RStmt}
+use Rattle.lil_resolved.specs.declared.resolved.RStmt.TheVariants as s
+use Rattle.lil_resolved.specs.declared.resolved.RGuard.{RGuard}
+use Rattle.lil_resolved.specs.declared.resolved.RArm.{RArm}
+use Rattle.lil_resolved.specs.declared.resolved.RLabel.{RLabel}
+use Rattle.lil_resolved.specs.Kinds.{Kind, OfTruth}
+use Rattle.lil_resolved.specs.Resolved.{Expression, Label, Statement, Statements, Empty, Then, If, Case, Arms, NoElse, Arm as An, kind_of}
 use Rattle.lil_tree.specs.Structured.{Scope, Meant, sense, case_by, ArmMeaning, Meaning, all_mean, then_mean, alone, if_of, guards_mean, before_other, GuardMeaning, labels_mean, with_label, meets, all_apart, with_arm, last_arm, arms_mean, case_of, case_on, otherwise, typed, statement_means}
-use Rattle.lil_tree.specs.Views.{all_of, expression_of, statement_of, statements_of, guarded, guard_of, label_of, armed, arm_of, else_of}
-use Rattle.lil_tree.proofs.Views.{if_is, guard_is, case_is, arm_is}
+use Rattle.lil_resolved.specs.Views.{all_of, expression_of, statement_of, statements_of, guarded, guard_of, label_of, armed, arm_of, else_of}
+use Rattle.lil_resolved.specs.Forms.{if_is, guard_is, case_is, arm_is}
 use Rattle.lil_structured.specs.Lists.{all_some}
 use Rattle.lil_structured.specs.Forms.{paired, guard_parts, guard_pair, nested, conditional_of, label_means, apart, labels_of, chosen, case_with, arm_parts, arm_pair, selected_by, other_of}
 use Rattle.lil_structured.proofs.StatementLayers.{guard_means, arm_means}

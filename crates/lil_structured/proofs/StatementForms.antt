@@ -3,10 +3,10 @@ use Rattle.std.proofs.Common.{◌≡◌, ℕ, ◌+◌, ◌*◌, ◌≤◌, ◌<�
 use Rattle.std.specs.Option.{option_map}
 use Rattle.std.proofs.lemmas.List.{map-append}
 use Rattle.lil_base.specs.Words.{Cardinal}
-use Rattle.lil_tree.specs.Kinds.{Kind, OfWhole, OfTruth, OfCharacter}
-use Rattle.lil_tree.specs.Resolved.{Expression, Label, Case, Exit, Statements, Empty, Then, Arms, kind_of}
-use Rattle.lil_tree.specs.Sizes.{size, is_base, IsSoundWhole, IsStep, AreSoundLabels, IsSoundBody, AreSoundArms, body_size, arms_size}
-use Rattle.lil_tree.specs.Views.{joined, all_of}
+use Rattle.lil_resolved.specs.Kinds.{Kind, OfWhole, OfTruth, OfCharacter}
+use Rattle.lil_resolved.specs.Resolved.{Expression, Label, Case, Exit, Statements, Empty, Then, Arms, kind_of}
+use Rattle.lil_resolved.specs.Sizes.{size, is_base, IsSoundWhole, IsStep, AreSoundLabels, IsSoundBody, AreSoundArms, body_size, arms_size}
+use Rattle.lil_resolved.specs.Views.{joined, all_of}
 use Rattle.lil_tree.specs.Structured.{alone, assigned, written_if, while_of, repeat_of, loop_of, exit_of, for_of, all_apart, arm_of, Meaning, all_mean, otherwise}
 use Rattle.lil_structured.specs.Lists.{all_some}
 use Rattle.lil_structured.specs.Forms.{nested, conditional_of, paired, labels_of, chosen, case_with, other_of}

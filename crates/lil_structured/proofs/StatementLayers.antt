@@ -3,23 +3,23 @@ use Rattle.std.proofs.Common.{◌≡◌, Bool, true, List, map, Option, None, So
 use Rattle.std.specs.Option.{option_map}
 use Rattle.lil_base.specs.declared.fault.Place.{Place}
 use Rattle.lil_base.specs.Words.{Cardinal}
-use Rattle.lil_tree.specs.declared.tree.Expr.{Expr}
-use Rattle.lil_tree.specs.declared.tree.Designator.{Designator}
-use Rattle.lil_tree.specs.declared.tree.ForHead.{ForHead}
-use Rattle.lil_tree.specs.declared.tree.Guard.{Guard}
-use Rattle.lil_tree.specs.declared.tree.Arm.{Arm}
-use Rattle.lil_tree.specs.declared.tree.Stmt.{Stmt}
-use Rattle.lil_tree.specs.declared.tree.Stmt.TheVariants as s
-use Rattle.lil_tree.specs.declared.tree.Stmt.TheOpen as o
-use Rattle.lil_tree.specs.declared.tree.Stmt.TheOpen.{Stmt-F}
-use Rattle.lil_tree.specs.declared.tree.Stmt.TheFolds.{map-Stmt, fold-Arm, fold-Guard, fold-roll-Stmt, fold-roll-Arm, fold-roll-Guard}
-use Rattle.lil_tree.specs.declared.tree.Stmt.TheViews.{roll-Stmt}
-use Rattle.lil_tree.specs.Kinds.{Kind, OfWhole, OfTruth}
-use Rattle.lil_tree.specs.Resolved.{Statements}
+use Rattle.lil_text.specs.declared.tree.Expr.{Expr}
+use Rattle.lil_text.specs.declared.tree.Designator.{Designator}
+use Rattle.lil_text.specs.declared.tree.ForHead.{ForHead}
+use Rattle.lil_text.specs.declared.tree.Guard.{Guard}
+use Rattle.lil_text.specs.declared.tree.Arm.{Arm}
+use Rattle.lil_text.specs.declared.tree.Stmt.{Stmt}
+use Rattle.lil_text.specs.declared.tree.Stmt.TheVariants as s
+use Rattle.lil_text.specs.declared.tree.Stmt.TheOpen as o
+use Rattle.lil_text.specs.declared.tree.Stmt.TheOpen.{Stmt-F}
+use Rattle.lil_text.specs.declared.tree.Stmt.TheFolds.{map-Stmt, fold-Arm, fold-Guard, fold-roll-Stmt, fold-roll-Arm, fold-roll-Guard}
+use Rattle.lil_text.specs.declared.tree.Stmt.TheViews.{roll-Stmt}
+use Rattle.lil_resolved.specs.Kinds.{Kind, OfWhole, OfTruth}
+use Rattle.lil_resolved.specs.Resolved.{Statements}
 use Rattle.lil_tree.specs.Structured as t
 use Rattle.lil_tree.specs.Structured.{Scope, Meaning, GuardMeaning, ArmMeaning, statement_layer, arm_layer, guard_layer, statement_means, all_mean, typed, sense}
-use Rattle.lil_structured.specs.Meanings.{alone}
-use Rattle.lil_structured.proofs.Layers.{alone_is}
+use Rattle.lil_check_expr.specs.Meanings.{alone}
+use Rattle.lil_check_expr.specs.Layers.{alone_is}
 
 module _ (scope : Scope) where
   abbrev pub arm_means : Arm → ArmMeaning

@@ -1,20 +1,20 @@
--- What expressions mean is sound, and tokens pay for its code.
+-- What expressions mean is sound, and tokens token_pay for its code.
 use Rattle.std.proofs.Common.{◌≡◌, ℕ, ◌+◌, ◌*◌, ◌≤◌, ◌<◌, ℤ, pos, negsuc, ◌≤ℤ◌, ◌+ℤ◌, ◌-ℤ◌, ◌*ℤ◌, neg_ℤ, Bool, true, false, Option, Some, None, IfSome, if◌then◌else◌, refl, subst, sym, ap, ◌∙◌, arith}
 use Rattle.std.specs.Prelude.{nat_le}
 use Rattle.std.proofs.lemmas.Bool.{leb-true, le-leb}
 use Rattle.std.proofs.lemmas.Int.{ints}
 use Rattle.lil_base.specs.Words.{Whole, Cardinal, Integer, between, in_type, is_zero, word_of, whole_quotient, whole_rest}
-use Rattle.lil_tree.specs.declared.operator.OneOp.{OneOp}
-use Rattle.lil_tree.specs.declared.operator.OneOp.TheVariants as one
-use Rattle.lil_tree.specs.declared.operator.TwoOp.{TwoOp}
-use Rattle.lil_tree.specs.declared.operator.TwoOp.TheVariants.{Equal, Unequal, Less, AtMost, Greater, AtLeast, In, Plus, Minus, Or, Times, Slash, Div, Mod, And}
-use Rattle.lil_tree.specs.Kinds.{Kind, OfWhole, OfTruth, OfCharacter, OfEnumeration, OfRange}
-use Rattle.lil_tree.specs.Scalars.{Scalar, Number, Truth, Character, within, truth_number}
-use Rattle.lil_tree.specs.Resolved.{Expression, Constant, Two, Apply, Chr, kind_of}
-use Rattle.lil_tree.specs.Sizes.{depth, size, takes_one, takes_two, IsSoundExpression}
+use Rattle.lil_base.specs.declared.operator.OneOp.{OneOp}
+use Rattle.lil_base.specs.declared.operator.OneOp.TheVariants as one
+use Rattle.lil_base.specs.declared.operator.TwoOp.{TwoOp}
+use Rattle.lil_base.specs.declared.operator.TwoOp.TheVariants.{Equal, Unequal, Less, AtMost, Greater, AtLeast, In, Plus, Minus, Or, Times, Slash, Div, Mod, And}
+use Rattle.lil_resolved.specs.Kinds.{Kind, OfWhole, OfTruth, OfCharacter, OfEnumeration, OfRange}
+use Rattle.lil_resolved.specs.Scalars.{Scalar, Number, Truth, Character, within, truth_number}
+use Rattle.lil_resolved.specs.Resolved.{Expression, Constant, Two, Apply, Chr, kind_of}
+use Rattle.lil_resolved.specs.Sizes.{depth, size, takes_one, takes_two, IsSoundExpression}
 use Rattle.lil_tree.specs.Structured.{Meant, Whole', Fact, Evaluated, same_kind, of_kind, evaluated_if, computed, divided, two_numbers, fact_only, two_facts, takes, two_values, two_mean, one_mean, one_of_meant, two_of_meant, character_of, character_by, Sense, of_value, nothing, kind_if_any}
 use Rattle.lil_structured.specs.Forms.{selected_by}
-use Rattle.lil_tree.specs.Views.{one_of, two_of}
+use Rattle.lil_resolved.specs.Views.{one_of, two_of}
 
 -- ---- tests
 pub between_so : (low z high : ℤ) → between low z high ≡ true → (low ≤ℤ z) × (z ≤ℤ high)
@@ -28,7 +28,7 @@ same_kind_is OfCharacter OfCharacter h = refl
 same_kind_is _ _ h = cc
 
 -- ---- what is meant
--- an expression for which bytes from one number down to another pay
+-- an expression for which bytes from one number down to another token_pay
 pub record Held (n from to : ℕ) (e : Expression) : Type 0 where
   pub sound : IsSoundExpression n e
   pub shallow : depth e ≤ 12

@@ -2,17 +2,17 @@
 use Rattle.std.specs.Prelude.{ℕ, Bool, true, false, not, ◌&&◌, List, [], ◌∷◌, ◌++◌, map, codes, Option, Some, None, if◌then◌else◌}
 use Rattle.std.specs.List.{list_any}
 use Rattle.std.specs.Str.{bytes_eq}
-use Rattle.lil_tree.specs.declared.tree.Expr.{Expr}
-use Rattle.lil_tree.specs.declared.tree.Range.{Range}
-use Rattle.lil_tree.specs.declared.tree.Guard.{Guard}
-use Rattle.lil_tree.specs.declared.tree.Arm.{Arm}
-use Rattle.lil_tree.specs.declared.resolved.RGuard.{RGuard}
-use Rattle.lil_tree.specs.declared.resolved.RArm.{RArm}
-use Rattle.lil_tree.specs.declared.resolved.RLabel.{RLabel}
-use Rattle.lil_tree.specs.Kinds.{Kind, OfTruth}
-use Rattle.lil_tree.specs.Resolved.{Expression, Label, Statements, If, Case, Then, Empty, Arms, Else, Arm as An}
+use Rattle.lil_text.specs.declared.tree.Expr.{Expr}
+use Rattle.lil_text.specs.declared.tree.Range.{Range}
+use Rattle.lil_text.specs.declared.tree.Guard.{Guard}
+use Rattle.lil_text.specs.declared.tree.Arm.{Arm}
+use Rattle.lil_resolved.specs.declared.resolved.RGuard.{RGuard}
+use Rattle.lil_resolved.specs.declared.resolved.RArm.{RArm}
+use Rattle.lil_resolved.specs.declared.resolved.RLabel.{RLabel}
+use Rattle.lil_resolved.specs.Kinds.{Kind, OfTruth}
+use Rattle.lil_resolved.specs.Resolved.{Expression, Label, Statements, If, Case, Then, Empty, Arms, Else, Arm as An}
 use Rattle.lil_tree.specs.Structured.{Scope, Meant, selected, sense, typed, all_mean, statement_means, labels_mean, label_by, range_sense, arm_of, meets, all_apart}
-use Rattle.lil_tree.specs.Views.{expression_of, statements_of, label_of}
+use Rattle.lil_resolved.specs.Views.{expression_of, statements_of, label_of}
 
 -- Write stands for the imported procedure
 abbrev pub is_write : Scope → Option (List ℕ) → Bool

@@ -1,23 +1,20 @@
 ghost use Rattle.std.specs.Prelude.{◌≡◌, List, [], ◌∷◌, ℤ, pos, map, Some, None, IfOk};
 ghost use Rattle.std.specs.List.{list_any};
 ghost use Rattle.std.specs.Option.{option_map};
-ghost use Rattle.lil_tree.specs.Resolved.{Label};
+ghost use Rattle.lil_resolved.specs.Resolved.{Label};
 ghost use Rattle.lil_tree.specs.Structured as spec;
-ghost use Rattle.lil_tree.specs.Views as view;
+ghost use Rattle.lil_resolved.specs.Views as view;
 ghost use Rattle.lil_structured.specs.Forms as forms;
-ghost use Rattle.lil_structured.specs.Meanings as means;
-ghost use Rattle.lil_structured.specs.Sorts as sorts;
+ghost use Rattle.lil_check_expr.specs.Meanings as means;
+ghost use Rattle.lil_check_expr.specs.Sorts as sorts;
 
-use crate::expressions::expression;
-use crate::kinds::Kind;
-use crate::meant::Meant;
-use crate::scope::Scope;
 use lil_base::{Items, Memory};
+use lil_check_expr::{Kind, Scope, Value, expression};
 use lil_tree::{Expr, RLabel, Range};
 use std::alloc::Global;
 
 /// The number of a constant of a kind.
-fn label_number(kind: Kind, of: Option<Meant>) -> Option<i32>
+fn label_number(kind: Kind, of: Option<Value>) -> Option<i32>
     ensures { result ≡ spec.label_number (sorts.kind kind) (means.meant_if of) }
 {
     match of {
@@ -26,20 +23,20 @@ fn label_number(kind: Kind, of: Option<Meant>) -> Option<i32>
     }
 }
 
-fn number_of(kind: Kind, of: Meant) -> Option<i32>
+fn number_of(kind: Kind, of: Value) -> Option<i32>
     ensures { result ≡ spec.label_number (sorts.kind kind) (Some (means.meant of)) }
 {
     match kind {
         Kind::Cardinal => match of {
-            Meant::Whole(number) => number.if_within(0, 65535),
+            Value::Whole(number) => number.if_within(0, 65535),
             _ => None,
         },
         Kind::Integer => match of {
-            Meant::Whole(number) => number.if_within(-32768, 32767),
+            Value::Whole(number) => number.if_within(-32768, 32767),
             _ => None,
         },
         Kind::Truth => match of {
-            Meant::Fact(fact) => Some(i32::from(fact)),
+            Value::Fact(fact) => Some(i32::from(fact)),
             _ => None,
         },
     }

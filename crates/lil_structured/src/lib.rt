@@ -1,19 +1,11 @@
-//! Reads structured texts: parses the module around the statements, and resolves it.
+//! Reads structured texts, and resolves what they mean.
 #![tactic(auto)]
 
-mod expressions;
-mod kinds;
 mod labels;
-mod meant;
-mod operators;
-mod program;
 mod reading;
 mod resolver;
-mod scope;
-mod shell;
 mod statements;
 #[cfg(test)]
 mod tests;
-mod walk;
 
 pub use reading::read_structured;

@@ -1,20 +1,15 @@
-ghost use Rattle.std.specs.Prelude.{◌≡◌, ℕ, ◌≤◌, ◌<◌, nat_le, get_or, List, [], length, IfOk, IfSome, MatchOption};
-ghost use Rattle.lil_tree.specs.declared.token.Token.{Token};
-ghost use Rattle.lil_tree.specs.Lexical.{HasTokens};
-ghost use Rattle.lil_tree.specs.Nesting.{within};
-ghost use Rattle.lil_tree.specs.Program as grammar;
-ghost use Rattle.lil_tree.specs.Resolved.{Resolved};
-ghost use Rattle.lil_tree.specs.Sizes.{IsSound, IsSmall};
+ghost use Rattle.std.specs.Prelude.{◌≡◌, ℕ, ◌<◌, nat_le, get_or, List, length, Some, IfOk, IfSome, MatchOption};
+ghost use Rattle.lil_text.specs.declared.token.Token.{Token};
+ghost use Rattle.lil_text.specs.Lexical.{HasTokens};
+ghost use Rattle.lil_resolved.specs.Resolved.{Resolved};
+ghost use Rattle.lil_resolved.specs.Sizes.{IsSound, IsSmall};
 ghost use Rattle.lil_tree.specs.Structured.{IsStructured};
-ghost use Rattle.lil_tree.specs.Views.{module_of};
-ghost use Rattle.lil_structured.specs.Programs as programs;
+ghost use Rattle.lil_resolved.specs.Views.{module_of};
 
-use crate::program::Program;
 use crate::resolver::resolve;
-use crate::shell::whole;
-use crate::walk::Walk;
 use lil_base::{Memory, Name, Text};
 use lil_lexer::tokens;
+use lil_parse_unit::parse_program;
 use lil_tree::{RModule, ReadStop, Tokens};
 use std::alloc::Global;
 
@@ -31,7 +26,8 @@ fn is_short(text: &[u8]) -> bool
 
 /// The tokens of a text, or None where it has none.
 fn cut(alloc: Global, text: &Text) -> Result<Option<Tokens>, Memory>
-    ensures { IfOk result (λ o. MatchOption o ((ts : List Token) → HasTokens text.now ts → ⊥) (λ ts. HasTokens text.now ts)) }
+    ensures found { IfOk result (λ o. IfSome o (λ ts. HasTokens text.now ts)) }
+    ensures only { IfOk result (λ o. (ts : List Token) → HasTokens text.now ts → o ≡ Some ts) }
 {
     match tokens(alloc, text) {
         Ok(found) => Ok(Some(found)),
@@ -42,30 +38,10 @@ fn cut(alloc: Global, text: &Text) -> Result<Option<Tokens>, Memory>
     }
 }
 
-/// The program module that tokens derive, with parts that lie at most 48 deep, or None where they derive none.
-fn parse(alloc: Global, tokens: &Tokens) -> Result<Option<Program>, Memory>
-    requires { length tokens.now ≤ 65536 }
-    ensures { IfOk result (λ o. MatchOption o ((p : grammar.Program) → grammar.IsProgram (within 48) tokens.now p → ⊥) (λ p. grammar.IsProgram (within 48) tokens.now (programs.program p))) }
-{
-    let mut walk = Walk::new(tokens);
-    match whole(alloc, &mut walk) {
-        Ok(program) => {
-            if walk.left() == 0 {
-                Ok(Some(program))
-            } else {
-                Ok(None)
-            }
-        }
-        Err(stop) => match stop {
-            ReadStop::Fault(_fault) => Ok(None),
-            ReadStop::Memory => Err(Memory),
-        },
-    }
-}
-
 /// The resolved module of a structured text, or None where the text of the file of this name isn't structured.
 pub fn read_structured(alloc: Global, file: &Name, text: &Text) -> Result<Option<RModule>, Memory>
     ensures found { IfOk result (λ o. MatchOption o ((m : Resolved) → IsStructured file.now text.now m → ⊥) (λ m. IsStructured file.now text.now (module_of m))) }
+    ensures one { IfOk result (λ o. (m n : Resolved) → IsStructured file.now text.now m → IsStructured file.now text.now n → m ≡ n) }
     ensures sound { IfOk result (λ o. IfSome o (λ m. IsSound (module_of m))) }
     ensures small { IfOk result (λ o. IfSome o (λ m. IsSmall (module_of m))) }
 {
@@ -75,7 +51,7 @@ pub fn read_structured(alloc: Global, file: &Name, text: &Text) -> Result<Option
     let Some(tokens) = cut(alloc, text)? else {
         return Ok(None);
     };
-    let Some(program) = parse(alloc, &tokens)? else {
+    let Some(program) = parse_program(alloc, &tokens)? else {
         return Ok(None);
     };
     resolve(alloc, file, program)

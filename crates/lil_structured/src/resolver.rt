@@ -4,13 +4,13 @@ ghost use Rattle.std.specs.List.{list_all};
 ghost use Rattle.std.specs.Str.{bytes_eq};
 ghost use Rattle.lil_tree.specs.Names as rules;
 ghost use Rattle.lil_tree.specs.Structured as spec;
-ghost use Rattle.lil_tree.specs.Views as view;
-ghost use Rattle.lil_structured.specs.Programs as programs;
+ghost use Rattle.lil_resolved.specs.Views as view;
+ghost use Rattle.lil_parse_unit.specs.Programs as programs;
 
-use crate::program::{Declared, Imported, Program};
-use crate::scope::{Scope, listed};
 use crate::statements::body;
 use lil_base::{Items, Memory, Name};
+use lil_check_expr::{Scope, listed};
+use lil_parse_unit::{Declared, Imported, Program};
 use lil_tree::{Ident, Qualident, RModule, Stmt};
 use std::alloc::Global;
 

@@ -1,23 +1,20 @@
 ghost use Rattle.std.specs.Prelude.{◌≡◌, List, [], ◌∷◌, ℕ, ℤ, map, Some, None, IfOk};
 ghost use Rattle.std.specs.Option.{option_map};
-ghost use Rattle.lil_tree.specs.Resolved.{kind_of, Label, Statement, Statements};
+ghost use Rattle.lil_resolved.specs.Resolved.{kind_of, Label, Statement, Statements};
 ghost use Rattle.lil_tree.specs.Structured as spec;
-ghost use Rattle.lil_tree.specs.Views as view;
+ghost use Rattle.lil_resolved.specs.Views as view;
 ghost use Rattle.lil_structured.specs.Forms as forms;
 ghost use Rattle.lil_structured.specs.Lists.{all_some};
-ghost use Rattle.lil_structured.specs.Meanings as means;
-ghost use Rattle.lil_structured.specs.Sorts as sorts;
+ghost use Rattle.lil_check_expr.specs.Meanings as means;
+ghost use Rattle.lil_check_expr.specs.Sorts as sorts;
 
-use crate::expressions::{expression, name_alone};
-use crate::kinds::Kind;
 use crate::labels::{all_apart, labels};
-use crate::meant::{Meant, Operand, of_kind, selector};
-use crate::scope::Scope;
 use lil_base::{Items, Memory};
+use lil_check_expr::{Kind, Operand, Scope, Value, expression, name_alone, of_kind, selector};
 use lil_tree::{Arm, Designator, Expr, ForHead, Guard, RArm, RExpr, RGuard, RLabel, RStmt, Stmt};
 use std::alloc::Global;
 
-fn kind_if_any(kind: Kind, of: Option<Meant>) -> Option<RExpr>
+fn kind_if_any(kind: Kind, of: Option<Value>) -> Option<RExpr>
     ensures { option_map view.expression_of result ≡ spec.kind_if_any (sorts.kind kind) (means.meant_if of) }
 {
     match of {
@@ -148,7 +145,7 @@ fn selected(alloc: Global, scope: &Scope<'_>, x: &Expr) -> Result<Option<Operand
     Ok(selected_by(value))
 }
 
-fn selected_by(of: Option<Meant>) -> Option<Operand>
+fn selected_by(of: Option<Value>) -> Option<Operand>
     ensures { option_map view.expression_of result ≡ forms.selected_by (means.meant_if of) }
 {
     match of {
@@ -199,15 +196,15 @@ fn case_apart(
 }
 
 /// The step of a FOR.
-fn step_number(of: Option<Meant>) -> Option<i16>
+fn step_number(of: Option<Value>) -> Option<i16>
     ensures { result ≡ spec.step_number (means.meant_if of) }
 {
     match of {
         None => None,
         Some(meant) => match meant {
-            Meant::Whole(number) => number.step(),
-            Meant::Fact(_) => None,
-            Meant::Evaluated(_operand) => None,
+            Value::Whole(number) => number.step(),
+            Value::Fact(_) => None,
+            Value::Evaluated(_operand) => None,
         },
     }
 }

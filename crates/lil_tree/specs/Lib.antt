@@ -1,15 +1,2 @@
-pub mod Kinds
-pub mod Scalars
-pub mod Resolved
-pub mod Views
-pub mod Cuts
-pub mod Lexical
 pub mod Names
-pub mod Sizes
-pub mod Nesting
-pub mod Trees
-pub mod Operators
-pub mod Expressions
-pub mod Statements
-pub mod Program
 pub mod Structured

@@ -3,33 +3,33 @@ use Rattle.std.specs.Prelude.{◌≡◌, ℕ, ℤ, pos, negsuc, ◌+ℤ◌, ◌-
 use Rattle.std.specs.List.{list_any, list_all}
 use Rattle.std.specs.Str.{bytes_eq}
 use Rattle.lil_base.specs.Words.{Whole, Cardinal, Integer, between, in_type, is_zero, whole_quotient, whole_rest}
-use Rattle.lil_tree.specs.declared.token.Token.{Token}
-use Rattle.lil_tree.specs.declared.operator.OneOp.{OneOp}
-use Rattle.lil_tree.specs.declared.operator.OneOp.TheVariants as one
-use Rattle.lil_tree.specs.declared.operator.TwoOp.{TwoOp}
-use Rattle.lil_tree.specs.declared.operator.TwoOp.TheVariants.{Equal, Unequal, Less, AtMost, Greater, AtLeast, In, Plus, Minus, Or, Times, Slash, Div, Mod, And}
-use Rattle.lil_tree.specs.declared.tree.Ident.{Ident}
-use Rattle.lil_tree.specs.declared.tree.Qualident.{Qualident}
-use Rattle.lil_tree.specs.declared.tree.Expr.{Expr}
-use Rattle.lil_tree.specs.declared.tree.Expr.TheOpen as x
-use Rattle.lil_tree.specs.declared.tree.Expr.TheOpen.{Expr-F, Range-F, Designator-F, Selector-F}
-use Rattle.lil_tree.specs.declared.tree.Expr.TheFolds.{fold-Expr, fold-Range, fold-Designator}
-use Rattle.lil_tree.specs.declared.tree.Range.{Range}
-use Rattle.lil_tree.specs.declared.tree.Designator.{Designator}
-use Rattle.lil_tree.specs.declared.tree.Stmt.{Stmt}
-use Rattle.lil_tree.specs.declared.tree.Stmt.TheOpen as s
-use Rattle.lil_tree.specs.declared.tree.Stmt.TheOpen.{Stmt-F, Guard-F, Arm-F}
-use Rattle.lil_tree.specs.declared.tree.Stmt.TheFolds.{fold-Stmt}
-use Rattle.lil_tree.specs.declared.tree.ForHead.{ForHead}
-use Rattle.lil_tree.specs.Kinds.{Kind, OfWhole, OfTruth, OfCharacter}
-use Rattle.lil_tree.specs.Scalars.{Number, Truth, Character, truth_number}
-use Rattle.lil_tree.specs.Resolved.{Chr, Expression, Constant, Taken, Apply, Label, Statement, Assign, If, Case, While, Repeat, Loop, Exit, For, Statements, Empty, Then, Arms, NoElse, Else, Arm, Resolved, kind_of}
-use Rattle.lil_tree.specs.Sizes.{depth, takes_one, takes_two}
-use Rattle.lil_tree.specs.Views.{cardinal, cardinal_variable, write_of, one_of, two_of}
+use Rattle.lil_text.specs.declared.token.Token.{Token}
+use Rattle.lil_base.specs.declared.operator.OneOp.{OneOp}
+use Rattle.lil_base.specs.declared.operator.OneOp.TheVariants as one
+use Rattle.lil_base.specs.declared.operator.TwoOp.{TwoOp}
+use Rattle.lil_base.specs.declared.operator.TwoOp.TheVariants.{Equal, Unequal, Less, AtMost, Greater, AtLeast, In, Plus, Minus, Or, Times, Slash, Div, Mod, And}
+use Rattle.lil_text.specs.declared.tree.Ident.{Ident}
+use Rattle.lil_text.specs.declared.tree.Qualident.{Qualident}
+use Rattle.lil_text.specs.declared.tree.Expr.{Expr}
+use Rattle.lil_text.specs.declared.tree.Expr.TheOpen as x
+use Rattle.lil_text.specs.declared.tree.Expr.TheOpen.{Expr-F, Range-F, Designator-F, Selector-F}
+use Rattle.lil_text.specs.declared.tree.Expr.TheFolds.{fold-Expr, fold-Range, fold-Designator}
+use Rattle.lil_text.specs.declared.tree.Range.{Range}
+use Rattle.lil_text.specs.declared.tree.Designator.{Designator}
+use Rattle.lil_text.specs.declared.tree.Stmt.{Stmt}
+use Rattle.lil_text.specs.declared.tree.Stmt.TheOpen as s
+use Rattle.lil_text.specs.declared.tree.Stmt.TheOpen.{Stmt-F, Guard-F, Arm-F}
+use Rattle.lil_text.specs.declared.tree.Stmt.TheFolds.{fold-Stmt}
+use Rattle.lil_text.specs.declared.tree.ForHead.{ForHead}
+use Rattle.lil_resolved.specs.Kinds.{Kind, OfWhole, OfTruth, OfCharacter}
+use Rattle.lil_resolved.specs.Scalars.{Number, Truth, Character, truth_number}
+use Rattle.lil_resolved.specs.Resolved.{Chr, Expression, Constant, Taken, Apply, Label, Statement, Assign, If, Case, While, Repeat, Loop, Exit, For, Statements, Empty, Then, Arms, NoElse, Else, Arm, Resolved, kind_of}
+use Rattle.lil_resolved.specs.Sizes.{depth, takes_one, takes_two}
+use Rattle.lil_resolved.specs.Views.{cardinal, cardinal_variable, write_of, one_of, two_of}
 use Rattle.lil_tree.specs.Names.{listed, resident_names, all_differ}
-use Rattle.lil_tree.specs.Nesting.{within as limited}
-use Rattle.lil_tree.specs.Lexical.{HasTokens}
-use Rattle.lil_tree.specs.Program.{Imported, Declared, Program, IsProgram}
+use Rattle.lil_text.specs.Nesting.{within as limited}
+use Rattle.lil_text.specs.Lexical.{HasTokens}
+use Rattle.lil_text.specs.Program.{Imported, Declared, Program, IsProgram}
 
 -- ---- what expressions mean
 -- the names that a statement sees: the module's variables, and Write where it is imported
@@ -71,9 +71,6 @@ computed z = if between (negsuc 32767) z (pos 65535) then Some (Whole' z) else N
 
 abbrev pub divided : (ℤ → ℤ → ℤ) → ℤ → ℤ → Option Meant
 divided f a b = if is_zero b then None else computed (f a b)
-
-abbrev pub is_below : ℤ → ℤ → Bool
-is_below a b = int_lt a b
 
 -- an operator on two constant numbers
 abbrev pub two_numbers : TwoOp → ℤ → ℤ → Option Meant
@@ -463,7 +460,7 @@ are_free writes names = all_differ names && not (writes && listed names (codes "
 
 abbrev pub module_of_body : List ℕ → List (List ℕ) → Option Statements → Option Resolved
 module_of_body name variables None = None
-module_of_body name variables (Some body) = Some (record { name = name; variables = map cardinal variables; body = body })
+module_of_body name variables (Some body) = Some (record { name = name; names = variables; variables = map cardinal variables; body = body })
 
 abbrev pub module_by : Program → Option (List (List ℕ)) → Option Resolved
 module_by p None = None

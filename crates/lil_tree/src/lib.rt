@@ -1,24 +1,9 @@
-//! Tokens and trees.
+//! What trees mean: the structured texts, and the resolved module that one means.
 #![tactic(auto)]
 
-mod operator;
-mod resolved;
-mod stop;
-#[cfg(test)]
-mod tests;
-mod token;
-mod tree;
-mod unit;
-
-pub use operator::{OneOp, TwoOp};
-pub use resolved::{RArm, RExpr, RGuard, RLabel, RModule, RStmt, depth};
-pub use stop::ReadStop;
-pub use token::{Mark, Token, TokenKind, Tokens, Word};
-pub use tree::{
-    Arm, Designator, Expr, ForHead, Guard, Ident, Qualident, Range, Selector, Stmt, begun_at,
-    first_place,
-};
-pub use unit::{
-    Block, Decl, FieldList, Formal, Heading, Import, Section, Simple, Sort, Unit, UnitKind,
-    Variant, weight,
+pub use lil_resolved::{RArm, RExpr, RGuard, RLabel, RModule, RStmt, depth};
+pub use lil_text::{
+    Arm, Block, Decl, Designator, Expr, FieldList, ForHead, Formal, Guard, Heading, Ident, Import,
+    Mark, OneOp, Qualident, Range, ReadStop, Section, Selector, Simple, Sort, Stmt, Token,
+    TokenKind, Tokens, TwoOp, Unit, UnitKind, Variant, Word, begun_at, first_place, weight,
 };

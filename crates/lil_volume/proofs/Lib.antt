@@ -1,3 +1,2 @@
 mod Entries
 mod Known
-pub mod Laws

@@ -1,5 +1,5 @@
 -- Counts of faults, and what an answer says of them.
-use Rattle.std.specs.Prelude.{◌≡◌, ℕ, ◌+◌, ◌-◌, ◌^◌, ◌≤◌, min, Bool, true, false, Contains, Result, OnOk, OnErr, IsErr, IsErrOf}
+use Rattle.std.specs.Prelude.{◌≡◌, ℕ, ◌+◌, ◌-◌, ◌^◌, ◌≤◌, min, Bool, true, false, Contains, Result, OnOk, OnErr, IsErrOf}
 use Rattle.lil_volume.specs.declared.schedule.Schedule.{Schedule}
 use Rattle.lil_volume.specs.declared.outside.VolumeError.{VolumeError}
 use Rattle.lil_volume.specs.declared.outside.VolumeError.TheVariants.{Failed}
@@ -30,8 +30,11 @@ pub record Counted (before now : ℕ) (failed : Bool) : Type 0 where
   pub rose : failed ≡ true → Rose before now
   pub quiet : failed ≡ false → now ≡ before
 
--- a call of an object in memory: it counts, it fails where its number is listed, and the list stays
-pub record Scheduled {T E : Type 0} (before now : Schedule) (result : Result T E) : Type 0 where
+-- the next call of an object in memory is one of those that are to fail
+abbrev pub IsListed : Schedule → Type 0
+IsListed s = Contains s.failing.items (next_count s.calls)
+
+-- a call of an object in memory counts, and the list of the calls that are to fail stays
+pub record Scheduled (before now : Schedule) : Type 0 where
   pub counted : now.calls ≡ next_count before.calls
-  pub listed : Contains before.failing.items (next_count before.calls) → IsErr result
   pub kept : now.failing.items ≡ before.failing.items

@@ -10,8 +10,10 @@ use thiserror::Error;
 /// Why a volume gave no answer.
 #[derive(Clone, Copy, Debug, PartialEq, Eq, Error)]
 pub enum VolumeError {
+    /// The volume didn't do what it was asked for. That counts as a fault.
     #[error("the volume failed")]
     Failed,
+    /// There was no memory for the name or the bytes. That is no fault of the volume.
     #[error("memory")]
     Memory,
 }
@@ -34,7 +36,9 @@ pub struct KeyFailed;
 #[error("the sink failed")]
 pub struct SinkFailed;
 
-/// Files by their names.
+/// Files by their names, as Medos-2 has them (Knudsen; ETH report 40): a file is a row of bytes.
+/// Where Medos-2 reads and writes a file as a stream with a position in it, a volume gives and
+/// takes all of its bytes at once.
 pub trait Volume {
     /// The files, or None where they are not told.
     ghost files: { Self → Option Files };
@@ -42,13 +46,13 @@ pub trait Volume {
     /// How often the volume failed.
     ghost faults: { Self → ℕ };
 
-    /// The bytes of a file, or None where the volume has no file of that name.
+    /// The bytes of a file, or None where the volume has no file of that name. No file changes.
     fn read(&mut self, alloc: Global, name: &FileName) -> Result<Option<Bytes>, VolumeError>
         ensures found { IfOk result (λ found. FileIs (files self.old) name.now found) }
         ensures same { files self.new ≡ files self.old }
         ensures cause { VolumeCause (faults self.old) (faults self.new) result };
 
-    /// Makes a file, or gives it new bytes. After a refusal that file is as before or new, and all
+    /// Makes a file, or gives it new bytes. After an error that file is as before or new, and all
     /// others are as they were.
     fn write(&mut self, alloc: Global, name: &FileName, content: &Bytes) -> Result<(), VolumeError>
         ensures ok { OnOk result (files self.new ≡ with_file (files self.old) name.now content.now) }
@@ -56,7 +60,8 @@ pub trait Volume {
         ensures cause { VolumeCause (faults self.old) (faults self.new) result };
 }
 
-/// Keys, as bytes that are taken one by one.
+/// Keys, as bytes that are taken one by one, as by `Read` of the module Terminal (ETH report 40;
+/// Programming in Modula-2).
 pub trait Keyboard {
     /// The keys that are left, or None where they are not told.
     ghost left: { Self → Option (List ℕ) };
@@ -71,7 +76,8 @@ pub trait Keyboard {
         ensures cause { HasCause (faults self.old) (faults self.new) result };
 }
 
-/// Bytes that are written a piece at a time.
+/// Bytes that are written a piece at a time: a screen, as by `Write` of the module Terminal (ETH
+/// report 40; Programming in Modula-2), or the report of a command.
 pub trait Sink {
     /// The bytes written, or None where they are not told.
     ghost written: { Self → Option (List ℕ) };

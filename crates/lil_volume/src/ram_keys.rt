@@ -1,5 +1,5 @@
-ghost use Rattle.std.specs.Prelude.{◌≡◌, Some, IfOk, OnErr};
-ghost use Rattle.lil_volume.specs.Causes.{HasCause, Scheduled};
+ghost use Rattle.std.specs.Prelude.{◌≡◌, ◌↔◌, Some, IfOk, OnErr, IsErr};
+ghost use Rattle.lil_volume.specs.Causes.{HasCause, IsListed, Scheduled};
 ghost use Rattle.lil_volume.specs.Told.{KeyTaken};
 
 use crate::schedule::Schedule;
@@ -7,7 +7,7 @@ use crate::{KeyFailed, Keyboard};
 use lil_base::{Bytes, Memory};
 use std::alloc::Global;
 
-/// A keyboard in memory.
+/// A keyboard in memory. It fails at the calls that it was told to fail at, and at no other.
 #[derive(Debug, Drop)]
 pub struct RamKeys {
     left: Bytes,
@@ -23,7 +23,8 @@ impl Keyboard for RamKeys {
         ensures ok { IfOk result (λ key. KeyTaken (Some self.old.left) (Some self.new.left) key) }
         ensures err { OnErr result (self.new.left ≡ self.old.left) }
         ensures cause { HasCause self.old.schedule.faults self.new.schedule.faults result }
-        ensures schedule { Scheduled self.old.schedule self.new.schedule result }
+        ensures schedule { Scheduled self.old.schedule self.new.schedule }
+        ensures listed { IsErr result ↔ IsListed self.old.schedule }
     {
         if self.schedule.next_fails() {
             return Err(KeyFailed);

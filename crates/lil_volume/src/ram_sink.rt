@@ -1,13 +1,13 @@
-ghost use Rattle.std.specs.Prelude.{◌≡◌, ◌++◌, Some, IfOk, OnOk, OnErr};
-ghost use Rattle.lil_volume.specs.Causes.{HasCause, Scheduled};
-ghost use Rattle.lil_volume.specs.Told.{FollowedByPrefix};
+ghost use Rattle.std.specs.Prelude.{◌≡◌, ◌++◌, Some, IfOk, OnOk, OnErr, IsErr};
+ghost use Rattle.lil_volume.specs.Causes.{HasCause, IsListed, Scheduled};
 
 use crate::schedule::Schedule;
 use crate::{Sink, SinkFailed};
 use lil_base::{Bytes, Memory};
 use std::alloc::Global;
 
-/// A sink in memory.
+/// A sink in memory. It fails at the calls that it was told to fail at, and where memory is wanted.
+/// A piece whose call fails isn't written at all.
 #[derive(Debug, Drop)]
 pub struct RamSink {
     written: Bytes,
@@ -21,9 +21,10 @@ impl Sink for RamSink {
 
     fn put(&mut self, piece: &[u8]) -> Result<(), SinkFailed>
         ensures ok { OnOk result (self.new.written ≡ self.old.written ++ piece.now) }
-        ensures err { OnErr result (FollowedByPrefix (Some self.old.written) piece.now (Some self.new.written)) }
+        ensures err { OnErr result (self.new.written ≡ self.old.written) }
         ensures cause { HasCause self.old.schedule.faults self.new.schedule.faults result }
-        ensures schedule { Scheduled self.old.schedule self.new.schedule result }
+        ensures schedule { Scheduled self.old.schedule self.new.schedule }
+        ensures listed { IsListed self.old.schedule → IsErr result }
     {
         if self.schedule.next_fails() {
             return Err(SinkFailed);

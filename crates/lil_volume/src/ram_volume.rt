@@ -1,9 +1,9 @@
-ghost use Rattle.std.specs.Prelude.{◌≡◌, Some, IfOk, OnOk, OnErr};
+ghost use Rattle.std.specs.Prelude.{◌≡◌, ◌↔◌, Some, IfOk, OnOk, OnErr, IsErrOf};
 ghost use Rattle.std.specs.Ordering.{nat_cmp};
 ghost use Rattle.std.specs.Cmp.Lexicographic.{slice_cmp};
 ghost use Rattle.std.specs.Option.{option_copied};
 ghost use Rattle.std.specs.FinMap.{from_entries, find, get};
-ghost use Rattle.lil_volume.specs.Causes.{VolumeCause, Scheduled};
+ghost use Rattle.lil_volume.specs.Causes.{VolumeCause, IsListed, Scheduled};
 ghost use Rattle.lil_volume.specs.Told.{FileIs, with_file};
 
 use crate::schedule::Schedule;
@@ -11,7 +11,8 @@ use crate::{Volume, VolumeError};
 use lil_base::{Bytes, FileName, Memory, same_bytes};
 use std::alloc::Global;
 
-/// A volume in memory. Of two entries with the same name the first counts.
+/// A volume in memory. Of two entries with the same name the first counts. It fails at the calls
+/// that it was told to fail at, and at no other; any call may want memory.
 #[derive(Debug, Drop)]
 pub struct RamVolume {
     entries: Vec<(FileName, Bytes)>,
@@ -50,7 +51,8 @@ impl Volume for RamVolume {
         ensures found { IfOk result (λ found. FileIs (Some (from_entries self.old.entries.items)) name.now found) }
         ensures same { self.new.entries.items ≡ self.old.entries.items }
         ensures cause { VolumeCause self.old.schedule.faults self.new.schedule.faults result }
-        ensures schedule { Scheduled self.old.schedule self.new.schedule result }
+        ensures schedule { Scheduled self.old.schedule self.new.schedule }
+        ensures listed { IsErrOf result VolumeError.Failed ↔ IsListed self.old.schedule }
     {
         if self.schedule.next_fails() {
             return Err(VolumeError::Failed);
@@ -65,7 +67,8 @@ impl Volume for RamVolume {
         ensures ok { OnOk result (Some (from_entries self.new.entries.items) ≡ with_file (Some (from_entries self.old.entries.items)) name.now content.now) }
         ensures err { OnErr result (self.new.entries.items ≡ self.old.entries.items) }
         ensures cause { VolumeCause self.old.schedule.faults self.new.schedule.faults result }
-        ensures schedule { Scheduled self.old.schedule self.new.schedule result }
+        ensures schedule { Scheduled self.old.schedule self.new.schedule }
+        ensures listed { IsErrOf result VolumeError.Failed ↔ IsListed self.old.schedule }
     {
         if self.schedule.next_fails() {
             return Err(VolumeError::Failed);

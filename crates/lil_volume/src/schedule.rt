@@ -1,8 +1,8 @@
 ghost use Rattle.std.specs.Prelude.{◌≡◌, ◌↔◌, true, IsTrue, Contains, vec_items};
 ghost use Rattle.lil_volume.specs.Causes.{next_count, Counted};
 
-/// When an object in memory fails: the numbers, from 1, of the calls that fail, the calls so far and
-/// the faults so far. Both counts stop at the greatest u64.
+/// When an object in memory fails: the numbers, from 1, of the calls that fail, the calls so far
+/// and the faults so far. Both counts stop at the greatest u64.
 #[derive(Debug, Drop)]
 pub(crate) struct Schedule {
     pub(crate) failing: Vec<u64>,

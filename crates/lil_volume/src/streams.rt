@@ -32,21 +32,21 @@ fn next_byte<R: Read>(input: &mut R) -> Result<Option<u8>, KeyFailed>
     Err(KeyFailed)
 }
 
-/// Keys that are the bytes of a reader of the host.
+/// Keys that are the bytes of a reader of the host. Its end is the end of the keys.
 #[derive(Drop)]
 pub struct InputKeys<R: Read + Drop> {
     input: R,
     faults: u64,
 }
 
-/// The screen: a sink over a writer of the host.
+/// The screen: a sink over a writer of the host, which is flushed after each piece.
 #[derive(Drop)]
 pub struct OutputSink<W: Write + Drop> {
     output: W,
     faults: u64,
 }
 
-/// The report: a sink over a writer of the host.
+/// The report: a sink over a writer of the host, which is flushed after each piece.
 #[derive(Drop)]
 pub struct ErrorSink<W: Write + Drop> {
     report: W,

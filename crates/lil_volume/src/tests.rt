@@ -1,12 +1,16 @@
 use crate::{
-    FolderVolume, KeyFailed, Keyboard, RamKeys, RamSink, RamVolume, Sink, SinkFailed, Volume,
-    VolumeError,
+    ErrorSink, FolderVolume, InputKeys, KeyFailed, Keyboard, OutputSink, RamKeys, RamSink,
+    RamVolume, Sink, SinkFailed, Volume, VolumeError,
 };
 use lil_base::{Bytes, FileName, Text};
-use std::alloc::Global;
-use std::fs;
+use std::alloc::{Allocator, Global};
+use std::fs::{Metadata, OpenOptions};
+use std::io::{ErrorKind, Read, Write};
+use std::os::unix::fs::symlink;
 use std::process::Abort;
+use std::rt::Files;
 use std::test::Fail;
+use std::{fs, io};
 
 fn file_name(alloc: Global, text: &[u8]) -> Result<FileName, Fail> {
     Ok(FileName::new(alloc, &Text::from_slice(alloc, text)?)?.ok_or("no file name")?)
@@ -125,6 +129,112 @@ fn a_sink_in_memory(rt: HostRuntime) -> Result<(), Fail> {
     Ok(())
 }
 
+/// A reader that is interrupted, gives an a, fails, gives a b, and is at its end.
+#[derive(Drop)]
+struct Faulty {
+    calls: u64,
+}
+
+impl Read for Faulty {
+    fn read(&mut self, buf: &mut [u8]) -> io::Result<usize> {
+        self.calls = self.calls.saturating_add(1);
+        let byte = match self.calls {
+            1 => return Err(io::Error::from(ErrorKind::Interrupted)),
+            2 => b'a',
+            3 => return Err(io::Error::from(ErrorKind::TimedOut)),
+            4 => b'b',
+            _ => return Ok(0),
+        };
+        match buf {
+            [first, ..] => {
+                *first = byte;
+                Ok(1)
+            }
+            [] => Ok(0),
+        }
+    }
+}
+
+#[test]
+fn keys_of_a_reader(rt: HostRuntime) {
+    let mut keys = InputKeys::new(Faulty { calls: 0 });
+    expect_keys(
+        &rt,
+        &mut keys,
+        &[Ok(Some(b'a')), Err(KeyFailed), Ok(Some(b'b')), Ok(None)],
+    );
+    let mut keys = InputKeys::new(b"ab".as_slice());
+    expect_keys(
+        &rt,
+        &mut keys,
+        &[Ok(Some(b'a')), Ok(Some(b'b')), Ok(None), Ok(None)],
+    );
+}
+
+/// Three pieces, of which a writer with room for three bytes takes the first two.
+const PIECES: [(&[u8], Result<(), SinkFailed>); 3] = [
+    (b"ab", Ok(())),
+    (b"", Ok(())),
+    (b"cd", Err(SinkFailed)),
+];
+
+#[test]
+fn a_screen_over_a_writer(rt: HostRuntime) {
+    let mut held = Vec::new(rt.alloc());
+    let mut whole = OutputSink::new(&mut held);
+    put_all(&rt, &mut whole, &[(b"ab", Ok(())), (b"c", Ok(()))]);
+    assert_eq!(rt; held.as_slice(), b"abc".as_slice());
+    let mut room = [b'-'; 3];
+    let mut short = OutputSink::new(room.as_mut_slice());
+    put_all(&rt, &mut short, &PIECES);
+    assert_eq!(rt; room.as_slice(), b"abc".as_slice());
+}
+
+#[test]
+fn a_report_over_a_writer(rt: HostRuntime) {
+    let mut held = Vec::new(rt.alloc());
+    let mut whole = ErrorSink::new(&mut held);
+    put_all(&rt, &mut whole, &[(b"ab", Ok(())), (b"c", Ok(()))]);
+    assert_eq!(rt; held.as_slice(), b"abc".as_slice());
+    let mut room = [b'-'; 3];
+    let mut short = ErrorSink::new(room.as_mut_slice());
+    put_all(&rt, &mut short, &PIECES);
+    assert_eq!(rt; room.as_slice(), b"abc".as_slice());
+}
+
+/// A writer that takes all, and counts how often it is flushed.
+#[derive(Drop)]
+struct Flushed<'a> {
+    flushes: &'a mut u64,
+}
+
+impl Write for Flushed<'_> {
+    fn write(&mut self, buf: &[u8]) -> io::Result<usize> {
+        Ok(buf.len())
+    }
+
+    fn flush(&mut self) -> io::Result<()> {
+        *self.flushes = self.flushes.saturating_add(1);
+        Ok(())
+    }
+}
+
+#[test]
+fn each_piece_is_flushed(rt: HostRuntime) {
+    let pieces = [(b"a".as_slice(), Ok(())), (b"b", Ok(()))];
+    let (mut shown, mut reported) = (0, 0);
+    let mut screen = OutputSink::new(Flushed {
+        flushes: &mut shown,
+    });
+    put_all(&rt, &mut screen, &pieces);
+    assert_eq!(rt; shown, 2);
+    let mut report = ErrorSink::new(Flushed {
+        flushes: &mut reported,
+    });
+    put_all(&rt, &mut report, &pieces);
+    assert_eq!(rt; reported, 2);
+}
+
 #[test]
 fn a_folder(rt: HostRuntime) -> Result<(), Fail> {
     let alloc = rt.alloc();
@@ -135,12 +245,118 @@ fn a_folder(rt: HostRuntime) -> Result<(), Fail> {
     expect_file(&rt, alloc, &mut volume, b"FOUND.TXT", Some(b"again"))?;
     fs::remove_file(&rt, "FOUND.TXT")?;
     expect_file(&rt, alloc, &mut volume, b"FOUND.TXT", None)?;
-    fs::create_dir(&rt, "FOUND.TXT")?;
-    let written = write_file(alloc, &mut volume, b"FOUND.TXT", b"first")?;
-    let unread = volume.read(alloc, &file_name(alloc, b"FOUND.TXT")?);
-    fs::remove_dir(&rt, "FOUND.TXT")?;
-    assert!(rt; !written);
-    assert!(rt; matches!(unread, Err(VolumeError::Failed)));
     assert!(rt; !fs::exists(&rt, "lilith-new")?);
+    Ok(())
+}
+
+/// Whether both calls are faults.
+fn fails<V: Volume>(alloc: Global, volume: &mut V, name: &[u8]) -> Result<bool, Fail> {
+    let read = volume.read(alloc, &file_name(alloc, name)?);
+    let written = write_file(alloc, volume, name, b"new")?;
+    Ok(!written && matches!(read, Err(VolumeError::Failed)))
+}
+
+#[test]
+fn names_that_are_no_files(rt: HostRuntime) -> Result<(), Fail> {
+    let alloc = rt.alloc();
+    let mut volume = FolderVolume::new(rt.clone()?);
+    fs::create_dir(&rt, "X.MOD")?;
+    symlink(&rt, "/dev/null", "NULL.MOD")?;
+    symlink(&rt, "X.MOD", "LINK.MOD")?;
+    for name in [b"X.MOD".as_slice(), b"NULL.MOD", b"LINK.MOD"] {
+        assert!(rt; fails(alloc, &mut volume, name)?);
+    }
+    fs::remove_file(&rt, "LINK.MOD")?;
+    fs::remove_file(&rt, "NULL.MOD")?;
+    fs::remove_dir(&rt, "X.MOD")?;
+    assert!(rt; !fs::exists(&rt, "lilith-new")?);
+    Ok(())
+}
+
+/// What a link leads to is read, and a write takes neither the link nor what it leads to.
+#[test]
+fn links_to_files(rt: HostRuntime) -> Result<(), Fail> {
+    let alloc = rt.alloc();
+    let mut volume = FolderVolume::new(rt.clone()?);
+    assert!(rt; write_file(alloc, &mut volume, b"OLD.MOD", b"old")?);
+    symlink(&rt, "OLD.MOD", "LINK.MOD")?;
+    expect_file(&rt, alloc, &mut volume, b"LINK.MOD", Some(b"old"))?;
+    assert!(rt; !write_file(alloc, &mut volume, b"LINK.MOD", b"new")?);
+    assert!(rt; fs::symlink_metadata(&rt, "LINK.MOD")?.is_symlink());
+    fs::remove_file(&rt, "LINK.MOD")?;
+    symlink(&rt, "OLD.MOD", "lilith-new")?;
+    assert!(rt; !write_file(alloc, &mut volume, b"NEW.MOD", b"new")?);
+    fs::remove_file(&rt, "lilith-new")?;
+    expect_file(&rt, alloc, &mut volume, b"OLD.MOD", Some(b"old"))?;
+    expect_file(&rt, alloc, &mut volume, b"NEW.MOD", None)?;
+    fs::write(&rt, "lilith-new", "left")?;
+    assert!(rt; write_file(alloc, &mut volume, b"OLD.MOD", b"new")?);
+    expect_file(&rt, alloc, &mut volume, b"OLD.MOD", Some(b"new"))?;
+    fs::remove_file(&rt, "OLD.MOD")?;
+    Ok(())
+}
+
+/// The files of the host, but that nothing can be renamed.
+#[derive(Drop)]
+struct Unnaming<R: Files + Drop> {
+    files: R,
+}
+
+impl<R: Files + Drop> Files for Unnaming<R> {
+    type File = R::File;
+
+    type Dir = R::Dir;
+
+    fn open_file(&self, how: &OpenOptions, path: &str) -> io::Result<R::File> {
+        self.files.open_file(how, path)
+    }
+
+    fn open_dir(&self, path: &str) -> io::Result<R::Dir> {
+        self.files.open_dir(path)
+    }
+
+    fn metadata(&self, path: &str) -> io::Result<Metadata> {
+        self.files.metadata(path)
+    }
+
+    fn symlink_metadata(&self, path: &str) -> io::Result<Metadata> {
+        self.files.symlink_metadata(path)
+    }
+
+    fn copy(&self, from: &str, to: &str) -> io::Result<u64> {
+        self.files.copy(from, to)
+    }
+
+    fn rename(&self, _from: &str, _to: &str) -> io::Result<()> {
+        Err(io::Error::from(ErrorKind::PermissionDenied))
+    }
+
+    fn remove_file(&self, path: &str) -> io::Result<()> {
+        self.files.remove_file(path)
+    }
+
+    fn create_dir(&self, path: &str) -> io::Result<()> {
+        self.files.create_dir(path)
+    }
+
+    fn remove_dir(&self, path: &str) -> io::Result<()> {
+        self.files.remove_dir(path)
+    }
+
+    fn remove_dir_all<B: Allocator>(&self, alloc: B, path: &str) -> io::Result<()> {
+        self.files.remove_dir_all(alloc, path)
+    }
+}
+
+/// A write that fails when all bytes are there leaves the older file and nothing else.
+#[test]
+fn a_file_that_gets_no_name(rt: HostRuntime) -> Result<(), Fail> {
+    let alloc = rt.alloc();
+    let mut volume = FolderVolume::new(Unnaming { files: rt.clone()? });
+    fs::write(&rt, "KEPT.TXT", "old")?;
+    assert!(rt; !write_file(alloc, &mut volume, b"KEPT.TXT", b"new")?);
+    expect_file(&rt, alloc, &mut volume, b"KEPT.TXT", Some(b"old"))?;
+    assert!(rt; !fs::exists(&rt, "lilith-new")?);
+    fs::remove_file(&rt, "KEPT.TXT")?;
     Ok(())
 }

@@ -7,8 +7,8 @@ ghost use Rattle.lil_mcode.specs.Table.{going, on_one, on_three, jump, false_row
 
 use super::Processor;
 use crate::arithmetic::turns_left;
-use crate::instr::word_of_bytes;
 use crate::machine::Event;
+use lil_asm::word_of_bytes;
 use lil_base::TrapKind;
 
 impl Processor {
@@ -78,11 +78,7 @@ impl Processor {
         let Some(word) = self.topmost() else {
             return Event::BadCode;
         };
-        let code = self.running_code();
-        if code.len() < usize::from(next) + 6 * usize::from(count) {
-            return Event::BadCode;
-        }
-        match chosen_place(code, count, usize::from(next), word, other) {
+        match chosen_place(self.running_code(), count, usize::from(next), word, other) {
             None => Event::BadCode,
             Some(to) => self.jump(usize::from(to), 1),
         }

@@ -1,9 +1,9 @@
 use Rattle.std.proofs.Common.{◌≡◌, ◌-◌, ◌≤◌, List, length, take, drop, Err, subst, ap, sym, ◌∙◌, arith, length-take}
 use Rattle.std.proofs.lemmas.Bool.{eqb-true}
 use Rattle.std.proofs.lemmas.List.{length-take-le}
-use Rattle.lil_tree.specs.declared.stop.ReadStop.{ReadStop}
-use Rattle.lil_tree.specs.declared.token.Token.{Token}
-use Rattle.lil_tree.specs.Lexical.{start, CutsTo, here, stopped}
+use Rattle.lil_text.specs.declared.stop.ReadStop.{ReadStop}
+use Rattle.lil_text.specs.declared.token.Token.{Token}
+use Rattle.lil_text.specs.Lexical.{start, CutsTo, here, stopped}
 use Rattle.lil_lexer.proofs.CutLaws.{cut_next, cut_whole}
 use Rattle.lil_lexer.proofs.cutting.cut.Goals as goal
 

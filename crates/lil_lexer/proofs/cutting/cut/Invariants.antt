@@ -1,5 +1,5 @@
 use Rattle.std.proofs.Common.{◌≤◌, ◌+◌, length}
-use Rattle.lil_tree.specs.Lexical.{start, CutsTo}
+use Rattle.lil_text.specs.Lexical.{start, CutsTo}
 use Rattle.lil_lexer.proofs.cutting.cut.Given as goal
 
 abbrev pub invariant-loop-rest : goal.invariant-loop-rest

@@ -1,5 +1,5 @@
 use Rattle.std.proofs.Common.{◌≡◌, ◌≤◌, drop}
-use Rattle.lil_tree.specs.Lexical.{value, value_behind}
+use Rattle.lil_text.specs.Lexical.{value, value_behind}
 use Rattle.lil_lexer.proofs.numbers.value_within.Given as goal
 
 abbrev pub invariant-loop-digit : goal.invariant-loop-digit

@@ -1,5 +1,5 @@
 use Rattle.std.proofs.Common.{◌≡◌, ◌≤◌, ◌+◌, drop}
-use Rattle.lil_tree.specs.Lexical as lexical
+use Rattle.lil_text.specs.Lexical as lexical
 use Rattle.lil_lexer.proofs.pieces.behind.Given as goal
 
 abbrev pub invariant-loop-b : goal.invariant-loop-b

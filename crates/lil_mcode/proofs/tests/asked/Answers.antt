@@ -1,4 +1,4 @@
-use Rattle.lil_mcode.proofs.Requests.{request_has_one}
+use Rattle.lil_mcode.specs.Requests.{request_has_one}
 use Rattle.lil_mcode.proofs.tests.asked.Goals as goal
 
 pub argument-word-requires : goal.argument-word-requires

@@ -1,9 +1,9 @@
 use Rattle.std.proofs.Common.{◌≡◌, ◌+◌, ◌-◌, ◌*◌}
-use Rattle.lil_tree.specs.declared.token.Mark.TheVariants as m
-use Rattle.lil_tree.specs.Operators.{selects}
-use Rattle.lil_parse_body.specs.declared.kinds.Level.TheVariants as lv
-use Rattle.lil_parse_body.specs.Steps.{is_mark, loop}
-use Rattle.lil_parse_body.specs.Kinds.{is_operator}
+use Rattle.lil_text.specs.declared.token.Mark.TheVariants as m
+use Rattle.lil_text.specs.Operators.{selects}
+use Rattle.lil_parse_body.specs.declared.lookahead.Level.TheVariants as lv
+use Rattle.lil_grammar.specs.Steps.{is_mark, loop}
+use Rattle.lil_parse_body.specs.Lookahead.{is_operator}
 use Rattle.lil_parse_body.specs.ReadExpressions as spec
 use Rattle.lil_parse_body.proofs.expression.+expr.Given as goal
 

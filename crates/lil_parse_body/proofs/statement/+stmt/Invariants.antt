@@ -1,7 +1,7 @@
 use Rattle.std.proofs.Common.{◌≡◌, ◌+◌, ◌-◌, ◌*◌}
-use Rattle.lil_tree.specs.declared.token.Word.TheVariants as w
-use Rattle.lil_tree.specs.declared.token.Mark.TheVariants as m
-use Rattle.lil_parse_body.specs.Steps.{is_mark, is_word, loop}
+use Rattle.lil_text.specs.declared.token.Word.TheVariants as w
+use Rattle.lil_text.specs.declared.token.Mark.TheVariants as m
+use Rattle.lil_grammar.specs.Steps.{is_mark, is_word, loop}
 use Rattle.lil_parse_body.specs.ReadExpressions.{expr}
 use Rattle.lil_parse_body.specs.ReadStatements as spec
 use Rattle.lil_parse_body.proofs.statement.+stmt.Given as goal

@@ -1,9 +1,10 @@
 use Rattle.std.proofs.Common.{refl, ap}
 use Rattle.lil_mcode.specs.declared.machine.Event.TheVariants.{Went, Request, LevelEnded, Trap, Limit, BadCode}
 use Rattle.lil_mcode.specs.Calls.{Machine}
-use Rattle.lil_session.specs.Running.{Running, Finished, TrappedBy, Limited, Broken}
-use Rattle.lil_session.proofs.Advancing.{step_quiet, step_writes, as_event}
-use Rattle.lil_mcode.proofs.Requests.{request_is_two}
+use Rattle.lil_match.specs.Running.{Running, Finished, TrappedBy, Limited, Broken}
+use Rattle.lil_session.proofs.Advancing.{step_quiet, step_writes, step_refused, as_event}
+use Rattle.lil_mcode.specs.Requests.{request_is_two}
+use Rattle.lil_session.proofs.Turns.{on_err}
 use Rattle.lil_session.proofs.run.answered.Goals as goal
 
 pub serve-requires-clause-known : goal.serve-requires-clause-known
@@ -48,3 +49,11 @@ returns-in_ok-serve-in-Request-clause-step g c = λ u h.
     step_writes u t c.serve.new.machine.state c.in-Request.number (g.S.Sink.written c.args.screen.now) (g.S.Sink.written c.serve.new.screen) step
     (request_is_two u t c.in-Request.number step).0
     (ap (λ (m : Machine). m.state) c.serve.ensures.machine) c.in_ok-serve-in-Request.ensures.ok
+
+pub returns-in_err-serve-in-Request-clause-refused : goal.returns-in_err-serve-in-Request-clause-refused
+returns-in_err-serve-in-Request-clause-refused g c =
+    on_err c.from_residual.result
+    (λ u h.
+    let t = c.args.machine.now.state in
+    let step = as_event u t c.args.event (Request c.in-Request.number) h c.in-Request.is in
+    step_refused u t c.in-Request.number (g.S.Sink.written c.args.screen.now) (g.S.Sink.written c.serve.new.screen) step (request_is_two u t c.in-Request.number step).0 c.in_err-serve-in-Request.ensures.err)

@@ -1,7 +1,8 @@
 use Rattle.std.proofs.Common.{◌≡◌, ◌-◌, ◌≤◌, []}
 use Rattle.lil_meaning.specs.World.{World}
 use Rattle.lil_volume.specs.Told.{followed_by}
-use Rattle.lil_session.specs.Running.{mrun, running, IsAlone}
+use Rattle.lil_session.specs.Running.{IsAlone}
+use Rattle.lil_match.specs.Running.{mrun, running}
 use Rattle.lil_session.proofs.run.run_machine.Given as goal
 
 -- the machine has come so far, and what its steps added is shown

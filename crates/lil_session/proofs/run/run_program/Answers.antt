@@ -1,20 +1,22 @@
 use Rattle.std.proofs.Common.{◌≡◌, inl, [], refl, sym, ap, ◌∙◌, subst}
 use Rattle.lil_base.specs.declared.fault.TrapKind.{TrapKind}
-use Rattle.lil_tree.specs.Views.{module_of}
+use Rattle.lil_resolved.specs.Views.{module_of}
 use Rattle.lil_meaning.specs.World.{World}
 use Rattle.lil_mcode.specs.State.{Module, State}
 use Rattle.lil_mcode.specs.Calls.{Machine}
 use Rattle.lil_session.specs.declared.run.Ending.TheVariants as ending
+use Rattle.lil_session.specs.declared.status.Status.TheVariants.{Memory}
 use Rattle.lil_session.specs.Running.{IsAlone, IsCut, HasRun, finish_of}
-use Rattle.lil_session.specs.Loaded.{loaded, IsAtBody}
-use Rattle.lil_session.proofs.Shown.{nothing_shown}
-use Rattle.lil_session.proofs.Start.{own, begun_at, loaded_state}
+use Rattle.lil_session.specs.Loaded.{IsAtBody}
+use Rattle.lil_laws.specs.Loading.{loaded}
+use Rattle.lil_session.proofs.Doing.{shows_none}
+use Rattle.lil_laws.specs.Start.{own, begun_at, loaded_state}
 use Rattle.lil_session.proofs.Endings.{start_alone, at_body, possible, shows_end, means_end, kind_end, blames_end, shows_cut}
 use Rattle.lil_session.proofs.Counting.{machine_end, machine_cut}
 use Rattle.lil_session.proofs.run.run_program.Goals as goal
 
 pub returns-in_default-clause-shows : goal.returns-in_default-clause-shows
-returns-in_default-clause-shows g c = λ w e. nothing_shown (module_of c.args.m.now) w (g.S.Sink.written c.args.screen.now) e
+returns-in_default-clause-shows g c = λ w e. shows_none (module_of c.args.m.now) w (g.S.Sink.written c.args.screen.now) Memory e (λ f. cc) tt
 
 pub run_machine-requires : goal.run_machine-requires
 run_machine-requires g c =

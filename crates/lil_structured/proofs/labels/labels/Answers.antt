@@ -1,9 +1,9 @@
 use Rattle.std.proofs.Common.{rules, ◌∙◌, sym, ap, map, arith}
 use Rattle.std.proofs.lemmas.List.{take_all}
-use Rattle.lil_tree.specs.Views as view
+use Rattle.lil_resolved.specs.Views as view
 use Rattle.lil_structured.specs.Forms as forms
 use Rattle.lil_structured.specs.Lists.{all_some}
-use Rattle.lil_structured.specs.Sorts as sorts
+use Rattle.lil_check_expr.specs.Sorts as sorts
 use Rattle.lil_structured.proofs.Parts.{labels_are, pushed, none_at}
 use Rattle.lil_structured.proofs.labels.labels.Goals as goal
 

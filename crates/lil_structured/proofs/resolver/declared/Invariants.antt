@@ -1,6 +1,6 @@
 use Rattle.std.proofs.Common.{◌≡◌, [], drop, map}
 use Rattle.lil_tree.specs.Structured as spec
-use Rattle.lil_structured.specs.Programs as programs
+use Rattle.lil_parse_unit.specs.Programs as programs
 use Rattle.lil_structured.proofs.resolver.declared.Given as goal
 
 abbrev pub invariant-loop-declaration : goal.invariant-loop-declaration

@@ -1,9 +1,9 @@
 use Rattle.std.proofs.Common.{rules, ◌≡◌, ◌∙◌, [], map, Option, Some, None, true, sym, ap, subst, IfOk, if◌then◌else◌}
 use Rattle.std.specs.Option.{option_map}
-use Rattle.lil_tree.specs.Resolved.{Resolved}
+use Rattle.lil_resolved.specs.Resolved.{Resolved}
 use Rattle.lil_tree.specs.Structured as spec
-use Rattle.lil_tree.specs.Views as view
-use Rattle.lil_structured.specs.Programs as programs
+use Rattle.lil_resolved.specs.Views as view
+use Rattle.lil_parse_unit.specs.Programs as programs
 use Rattle.lil_structured.proofs.resolver.module_by.Goals as goal
 
 pub returns : goal.returns

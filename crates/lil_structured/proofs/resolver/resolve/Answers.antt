@@ -1,11 +1,11 @@
 use Rattle.std.proofs.Common.{rules, ◌≡◌, Option, true, false, subst, IfOk}
 use Rattle.std.specs.Option.{option_map}
 use Rattle.std.specs.List.{list_all}
-use Rattle.lil_tree.specs.Resolved.{Resolved}
+use Rattle.lil_resolved.specs.Resolved.{Resolved}
 use Rattle.lil_tree.specs.Structured as spec
-use Rattle.lil_tree.specs.Views as view
-use Rattle.lil_structured.specs.declared.program.Imported.{Imported}
-use Rattle.lil_structured.specs.Programs as programs
+use Rattle.lil_resolved.specs.Views as view
+use Rattle.lil_parse_unit.specs.declared.program.Imported.{Imported}
+use Rattle.lil_parse_unit.specs.Programs as programs
 use Rattle.lil_structured.proofs.Names.{means_by}
 use Rattle.lil_structured.proofs.resolver.resolve.Goals as goal
 

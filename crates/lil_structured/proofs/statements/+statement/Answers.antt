@@ -1,13 +1,13 @@
 use Rattle.std.proofs.Common.{rules, ◌≡◌, ◌∙◌, sym, ap, map, Option, Some, None, arith, subst, IfOk}
 use Rattle.std.specs.Option.{option_map}
-use Rattle.lil_tree.specs.declared.tree.Stmt.{Stmt}
-use Rattle.lil_tree.specs.declared.tree.Stmt.TheVariants as st
-use Rattle.lil_tree.specs.Resolved.{Statements, NoElse, kind_of}
+use Rattle.lil_text.specs.declared.tree.Stmt.{Stmt}
+use Rattle.lil_text.specs.declared.tree.Stmt.TheVariants as st
+use Rattle.lil_resolved.specs.Resolved.{Statements, NoElse, kind_of}
 use Rattle.lil_tree.specs.Structured as spec
-use Rattle.lil_tree.specs.Views as view
+use Rattle.lil_resolved.specs.Views as view
 use Rattle.lil_structured.specs.Forms as forms
 use Rattle.lil_structured.specs.Lists.{all_some}
-use Rattle.lil_structured.specs.Sorts as sorts
+use Rattle.lil_check_expr.specs.Sorts as sorts
 use Rattle.lil_structured.proofs.Parts.{pushed, none_at, all_found, all_are, if_with, if_without, case_without, case_with_other}
 use Rattle.lil_structured.proofs.statements.+statement.Goals as goal
 

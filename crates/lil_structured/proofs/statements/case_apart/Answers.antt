@@ -1,7 +1,7 @@
 use Rattle.std.proofs.Common.{rules, Bool, Option, Some, None, if◌then◌else◌, ap, sym, ◌∙◌, ◌≡◌, true, false}
-use Rattle.lil_tree.specs.Resolved.{Statements}
-use Rattle.lil_tree.specs.declared.resolved.RStmt.TheVariants as s
-use Rattle.lil_tree.specs.Views.{statement_of}
+use Rattle.lil_resolved.specs.Resolved.{Statements}
+use Rattle.lil_resolved.specs.declared.resolved.RStmt.TheVariants as s
+use Rattle.lil_resolved.specs.Views.{statement_of}
 use Rattle.lil_structured.specs.Forms.{apart}
 use Rattle.lil_structured.proofs.Parts.{case_made}
 use Rattle.lil_structured.proofs.statements.case_apart.Goals as goal

@@ -1,5 +1,5 @@
 use Rattle.std.proofs.Common.{◌≡◌, take, map}
-use Rattle.lil_tree.specs.Views as view
+use Rattle.lil_resolved.specs.Views as view
 use Rattle.lil_structured.specs.Forms as forms
 use Rattle.lil_structured.proofs.statements.labels_of.Given as goal
 

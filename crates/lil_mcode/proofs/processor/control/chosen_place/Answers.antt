@@ -1,7 +1,8 @@
 use Rattle.std.proofs.Common.{◌≡◌, ◌∙◌, false, sym, arith}
 use Rattle.std.proofs.lemmas.Bool.{lt-leb}
 use Rattle.lil_mcode.specs.Control.{above, is_in}
-use Rattle.lil_mcode.proofs.Search.{Entry, found_later}
+use Rattle.lil_mcode.proofs.Search.{found_later}
+use Rattle.lil_asm.specs.Bytes.{Entry}
 use Rattle.lil_mcode.proofs.processor.control.chosen_place.Goals as goal
 
 pub loop-left-preserved : goal.loop-left-preserved

@@ -1,0 +1,225 @@
+-- The byte table: which instruction stands at a place of a module's code, and which bytes an instruction has.
+use Rattle.std.specs.Prelude.{◌≡◌, ℕ, ◌+◌, ◌*◌, ◌/◌, ◌%◌, ◌<◌, nat_le, List, [], ◌∷◌, ◌++◌, length, Option, Some, None, option_and_then, slice_get, if◌then◌else◌, ◌==◌}
+use Rattle.lil_base.specs.Fields.{bytes16}
+use Rattle.lil_asm.specs.declared.instr.Instr.{Instr}
+use Rattle.lil_asm.specs.declared.instr.Instr.TheVariants.{Liw, Lib, Dup, Drp, Swp, Lis, Llw, Lgw, Sgw, Rgc, Rgi, Cap, Adc, Sbc, Mlc, Dvc, Mdc, Adi, Sbi, Mli, Dvi, Mdi, Ngi, Abi, Not, Equ, Neq, Lsc, Lec, Lsi, Lei, Ent, Rtn, Jmp, Jpf, Jan, Jor, Jms, Jfs, Cas, Fri, Frn, Trp, Svc}
+
+infixl 10 ◌>>=◌
+abbrev pub ◌>>=◌ : {A B : Type 0} → Option A → (A → Option B) → Option B
+o >>= f = option_and_then f o
+
+-- two bytes, the higher first
+abbrev pub word_at : List ℕ → ℕ → Option ℕ
+word_at code p = do
+  high ← slice_get code p
+  low ← slice_get code (p + 1)
+  Some (high * 256 + low)
+
+abbrev pub with_byte : (ℕ → Instr) → List ℕ → ℕ → Option (Instr × ℕ)
+with_byte make code p = do
+  b ← slice_get code (p + 1)
+  Some (make b, p + 2)
+
+abbrev pub with_word : (ℕ → Instr) → List ℕ → ℕ → Option (Instr × ℕ)
+with_word make code p = do
+  w ← word_at code (p + 1)
+  Some (make w, p + 3)
+
+abbrev pub with_two_words : (ℕ → ℕ → Instr) → List ℕ → ℕ → Option (Instr × ℕ)
+with_two_words make code p = do
+  v ← word_at code (p + 1)
+  w ← word_at code (p + 3)
+  Some (make v w, p + 5)
+
+-- the head of a loop: a word, a byte and a word
+abbrev pub with_loop : List ℕ → ℕ → Option (Instr × ℕ)
+with_loop code p = do
+  o ← word_at code (p + 1)
+  s ← slice_get code (p + 3)
+  t ← word_at code (p + 4)
+  Some (Fri o s t, p + 6)
+
+-- CASE: how many entries it has and the other place, where its entries, of six bytes each, lie whole in the code behind them
+abbrev pub with_entries : List ℕ → ℕ → Option (Instr × ℕ)
+with_entries code p = do
+  n ← word_at code (p + 1)
+  t ← word_at code (p + 3)
+  if nat_le (p + 5 + 6 * n) (length code) then Some (Cas n t, p + 5) else None
+
+-- two words, one behind the other
+abbrev pub two_words_at : List ℕ → ℕ → Option (ℕ × ℕ)
+two_words_at code p = do
+  v ← word_at code p
+  w ← word_at code (p + 2)
+  Some (v, w)
+
+-- the rows of the first bytes with one higher digit
+unfoldable pub row_0 : ℕ → List ℕ → ℕ → Option (Instr × ℕ)
+row_0 b code p =
+    if b == 0x01 then with_word Liw code p
+    else (if b == 0x02 then with_byte Lib code p
+    else (if b == 0x03 then Some (Dup, p + 1)
+    else (if b == 0x04 then Some (Drp, p + 1)
+    else (if b == 0x05 then Some (Swp, p + 1)
+    else None))))
+
+unfoldable pub row_2 : ℕ → List ℕ → ℕ → Option (Instr × ℕ)
+row_2 b code p =
+    if b == 0x20 then with_word Llw code p
+    else (if b == 0x24 then with_word Lgw code p
+    else (if b == 0x26 then with_word Sgw code p
+    else None))
+
+unfoldable pub row_3 : ℕ → List ℕ → ℕ → Option (Instr × ℕ)
+row_3 b code p =
+    if b == 0x39 then with_two_words Rgc code p
+    else (if b == 0x3a then with_two_words Rgi code p
+    else (if b == 0x3b then Some (Cap, p + 1)
+    else None))
+
+unfoldable pub row_4 : ℕ → ℕ → Option (Instr × ℕ)
+row_4 b p =
+    if b == 0x40 then Some (Adc, p + 1)
+    else (if b == 0x41 then Some (Sbc, p + 1)
+    else (if b == 0x42 then Some (Mlc, p + 1)
+    else (if b == 0x43 then Some (Dvc, p + 1)
+    else (if b == 0x44 then Some (Mdc, p + 1)
+    else (if b == 0x45 then Some (Adi, p + 1)
+    else (if b == 0x46 then Some (Sbi, p + 1)
+    else (if b == 0x47 then Some (Mli, p + 1)
+    else (if b == 0x48 then Some (Dvi, p + 1)
+    else (if b == 0x49 then Some (Mdi, p + 1)
+    else (if b == 0x4a then Some (Ngi, p + 1)
+    else (if b == 0x4b then Some (Abi, p + 1)
+    else None)))))))))))
+
+unfoldable pub row_5 : ℕ → ℕ → Option (Instr × ℕ)
+row_5 b p =
+    if b == 0x59 then Some (Not, p + 1)
+    else (if b == 0x5a then Some (Equ, p + 1)
+    else (if b == 0x5b then Some (Neq, p + 1)
+    else (if b == 0x5c then Some (Lsc, p + 1)
+    else (if b == 0x5d then Some (Lec, p + 1)
+    else (if b == 0x5e then Some (Lsi, p + 1)
+    else (if b == 0x5f then Some (Lei, p + 1)
+    else None))))))
+
+unfoldable pub row_6 : ℕ → List ℕ → ℕ → Option (Instr × ℕ)
+row_6 b code p =
+    if b == 0x68 then with_word Ent code p
+    else (if b == 0x6a then Some (Rtn, p + 1)
+    else None)
+
+unfoldable pub row_7 : ℕ → List ℕ → ℕ → Option (Instr × ℕ)
+row_7 b code p =
+    if b == 0x70 then with_word Jmp code p
+    else (if b == 0x71 then with_word Jpf code p
+    else (if b == 0x72 then with_word Jan code p
+    else (if b == 0x73 then with_word Jor code p
+    else (if b == 0x74 then with_byte Jms code p
+    else (if b == 0x75 then with_byte Jfs code p
+    else (if b == 0x76 then with_entries code p
+    else (if b == 0x77 then with_loop code p
+    else (if b == 0x78 then with_two_words Frn code p
+    else (if b == 0x79 then with_byte Trp code p
+    else (if b == 0x7d then with_byte Svc code p
+    else None))))))))))
+
+-- the row of a first byte, by its higher digit and then by itself
+abbrev pub row_of_digit : ℕ → ℕ → List ℕ → ℕ → Option (Instr × ℕ)
+row_of_digit d b code p =
+    if d == 0 then row_0 b code p
+    else (if d == 1 then Some (Lis (b % 16), p + 1)
+    else (if d == 2 then row_2 b code p
+    else (if d == 3 then row_3 b code p
+    else (if d == 4 then row_4 b p
+    else (if d == 5 then row_5 b p
+    else (if d == 6 then row_6 b code p
+    else (if d == 7 then row_7 b code p
+    else None)))))))
+
+abbrev pub row : ℕ → List ℕ → ℕ → Option (Instr × ℕ)
+row b code p = row_of_digit (b / 16) b code p
+
+-- the instruction whose bytes stand at a place, and the place behind it
+unfoldable pub decoded : List ℕ → ℕ → Option (Instr × ℕ)
+decoded code p = do
+  b ← slice_get code p
+  row b code p
+
+-- a first byte with a byte, and with one or two words
+abbrev pub byte_bytes : ℕ → ℕ → List ℕ
+byte_bytes b n = b ∷ n ∷ []
+
+abbrev pub word_bytes : ℕ → ℕ → List ℕ
+word_bytes b w = b ∷ bytes16 w
+
+abbrev pub two_word_bytes : ℕ → ℕ → ℕ → List ℕ
+two_word_bytes b v w = b ∷ bytes16 v ++ bytes16 w
+
+-- the head of a loop
+abbrev pub loop_bytes : ℕ → ℕ → ℕ → List ℕ
+loop_bytes o s t = word_bytes 0x77 o ++ word_bytes s t
+
+-- the bytes of an instruction
+abbrev pub bytes_of : Instr → List ℕ
+bytes_of (Liw w) = word_bytes 0x01 w
+bytes_of (Lib n) = byte_bytes 0x02 n
+bytes_of Dup = 0x03 ∷ []
+bytes_of Drp = 0x04 ∷ []
+bytes_of Swp = 0x05 ∷ []
+bytes_of (Lis n) = (0x10 + n % 16) ∷ []
+bytes_of (Llw w) = word_bytes 0x20 w
+bytes_of (Lgw w) = word_bytes 0x24 w
+bytes_of (Sgw w) = word_bytes 0x26 w
+bytes_of (Rgc v w) = two_word_bytes 0x39 v w
+bytes_of (Rgi v w) = two_word_bytes 0x3a v w
+bytes_of Cap = 0x3b ∷ []
+bytes_of Adc = 0x40 ∷ []
+bytes_of Sbc = 0x41 ∷ []
+bytes_of Mlc = 0x42 ∷ []
+bytes_of Dvc = 0x43 ∷ []
+bytes_of Mdc = 0x44 ∷ []
+bytes_of Adi = 0x45 ∷ []
+bytes_of Sbi = 0x46 ∷ []
+bytes_of Mli = 0x47 ∷ []
+bytes_of Dvi = 0x48 ∷ []
+bytes_of Mdi = 0x49 ∷ []
+bytes_of Ngi = 0x4a ∷ []
+bytes_of Abi = 0x4b ∷ []
+bytes_of Not = 0x59 ∷ []
+bytes_of Equ = 0x5a ∷ []
+bytes_of Neq = 0x5b ∷ []
+bytes_of Lsc = 0x5c ∷ []
+bytes_of Lec = 0x5d ∷ []
+bytes_of Lsi = 0x5e ∷ []
+bytes_of Lei = 0x5f ∷ []
+bytes_of (Ent w) = word_bytes 0x68 w
+bytes_of Rtn = 0x6a ∷ []
+bytes_of (Jmp t) = word_bytes 0x70 t
+bytes_of (Jpf t) = word_bytes 0x71 t
+bytes_of (Jan t) = word_bytes 0x72 t
+bytes_of (Jor t) = word_bytes 0x73 t
+bytes_of (Jms n) = byte_bytes 0x74 n
+bytes_of (Jfs n) = byte_bytes 0x75 n
+bytes_of (Cas n t) = two_word_bytes 0x76 n t
+bytes_of (Fri o s t) = loop_bytes o s t
+bytes_of (Frn o t) = two_word_bytes 0x78 o t
+bytes_of (Trp n) = byte_bytes 0x79 n
+bytes_of (Svc n) = byte_bytes 0x7d n
+
+-- An instruction whose bytes alone say it: the operand of LIS has just four bits, and CASE has entries behind its bytes.
+abbrev pub Sayable : Instr → Type 0
+Sayable (Lis n) = n < 16
+Sayable (Cas n t) = ⊥
+Sayable i = Unit {0}
+
+-- an entry of CAS: a range and the place for the words in it
+abbrev pub entry_bytes : ℕ → ℕ → ℕ → List ℕ
+entry_bytes low high target = bytes16 low ++ (bytes16 high ++ bytes16 target)
+
+-- what stands in an entry
+pub record Entry (code : List ℕ) (p low high target : ℕ) : Type 0 where
+  pub low_at : word_at code p ≡ Some low
+  pub high_at : word_at code (p + 2) ≡ Some high
+  pub target_at : word_at code (p + 4) ≡ Some target

@@ -1,0 +1,4 @@
+pub mod Bytes
+pub mod Decoding
+pub mod Requests
+pub mod Standing

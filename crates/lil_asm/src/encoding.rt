@@ -1,0 +1,96 @@
+//! The bytes of instructions.
+
+ghost use Rattle.std.specs.Prelude.{◌≡◌, ◌++◌, OnOk};
+ghost use Rattle.lil_asm.specs.Bytes.{bytes_of, byte_bytes, word_bytes, two_word_bytes, loop_bytes, entry_bytes};
+
+use crate::Instr;
+use lil_base::{Bytes, Memory, put16};
+
+/// Appends the bytes of an instruction. After a refusal the list may only be dropped.
+pub fn encode(code: &mut Bytes, instr: Instr) -> Result<(), Memory>
+    ensures { OnOk result (code.new ≡ code.old ++ bytes_of instr) }
+{
+    match instr {
+        Instr::Liw(word) => put_word(code, 0x01, word),
+        Instr::Lib(byte) => put_byte(code, 0x02, byte),
+        Instr::Dup => code.push(0x03),
+        Instr::Drp => code.push(0x04),
+        Instr::Swp => code.push(0x05),
+        Instr::Lis(word) => code.push(0x10 + word % 16),
+        Instr::Llw(offset) => put_word(code, 0x20, offset),
+        Instr::Lgw(offset) => put_word(code, 0x24, offset),
+        Instr::Sgw(offset) => put_word(code, 0x26, offset),
+        Instr::Rgc(low, high) => put_two_words(code, 0x39, low, high),
+        Instr::Rgi(low, high) => put_two_words(code, 0x3a, low, high),
+        Instr::Cap => code.push(0x3b),
+        Instr::Adc => code.push(0x40),
+        Instr::Sbc => code.push(0x41),
+        Instr::Mlc => code.push(0x42),
+        Instr::Dvc => code.push(0x43),
+        Instr::Mdc => code.push(0x44),
+        Instr::Adi => code.push(0x45),
+        Instr::Sbi => code.push(0x46),
+        Instr::Mli => code.push(0x47),
+        Instr::Dvi => code.push(0x48),
+        Instr::Mdi => code.push(0x49),
+        Instr::Ngi => code.push(0x4a),
+        Instr::Abi => code.push(0x4b),
+        Instr::Not => code.push(0x59),
+        Instr::Equ => code.push(0x5a),
+        Instr::Neq => code.push(0x5b),
+        Instr::Lsc => code.push(0x5c),
+        Instr::Lec => code.push(0x5d),
+        Instr::Lsi => code.push(0x5e),
+        Instr::Lei => code.push(0x5f),
+        Instr::Ent(words) => put_word(code, 0x68, words),
+        Instr::Rtn => code.push(0x6a),
+        Instr::Jmp(to) => put_word(code, 0x70, to),
+        Instr::Jpf(to) => put_word(code, 0x71, to),
+        Instr::Jan(to) => put_word(code, 0x72, to),
+        Instr::Jor(to) => put_word(code, 0x73, to),
+        Instr::Jms(bytes) => put_byte(code, 0x74, bytes),
+        Instr::Jfs(bytes) => put_byte(code, 0x75, bytes),
+        Instr::Cas(count, other) => put_two_words(code, 0x76, count, other),
+        Instr::Fri(offset, kind, to) => put_loop(code, offset, kind, to),
+        Instr::Frn(offset, to) => put_two_words(code, 0x78, offset, to),
+        Instr::Trp(number) => put_byte(code, 0x79, number),
+        Instr::Svc(request) => put_byte(code, 0x7d, request),
+    }
+}
+
+fn put_byte(code: &mut Bytes, first: u8, byte: u8) -> Result<(), Memory>
+    ensures { OnOk result (code.new ≡ code.old ++ byte_bytes first byte) }
+{
+    code.push(first)?;
+    code.push(byte)
+}
+
+fn put_word(code: &mut Bytes, first: u8, word: u16) -> Result<(), Memory>
+    ensures { OnOk result (code.new ≡ code.old ++ word_bytes first word) }
+{
+    code.push(first)?;
+    put16(code, word)
+}
+
+fn put_two_words(code: &mut Bytes, first: u8, one: u16, other: u16) -> Result<(), Memory>
+    ensures { OnOk result (code.new ≡ code.old ++ two_word_bytes first one other) }
+{
+    put_word(code, first, one)?;
+    put16(code, other)
+}
+
+fn put_loop(code: &mut Bytes, offset: u16, kind: u8, to: u16) -> Result<(), Memory>
+    ensures { OnOk result (code.new ≡ code.old ++ loop_bytes offset kind to) }
+{
+    put_word(code, 0x77, offset)?;
+    put_word(code, kind, to)
+}
+
+/// Appends an entry of CAS: a range and the place for the words in it. After a refusal the list may only be dropped.
+pub fn encode_entry(code: &mut Bytes, low: u16, high: u16, target: u16) -> Result<(), Memory>
+    ensures { OnOk result (code.new ≡ code.old ++ entry_bytes low high target) }
+{
+    put16(code, low)?;
+    put16(code, high)?;
+    put16(code, target)
+}

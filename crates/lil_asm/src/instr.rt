@@ -1,0 +1,240 @@
+ghost use Rattle.std.specs.Prelude.{◌≡◌, ◌+◌, ◌<◌, ◌^◌, length, OnSome};
+ghost use Rattle.lil_asm.specs.Bytes.{word_at, with_byte, with_word, with_two_words, with_entries, with_loop, row, row_0, row_2, row_3, row_4, row_5, row_6, row_7, decoded};
+
+/// One instruction, with its operands in the order of their bytes. Lis has its word, from 0 to 15, in its first byte.
+/// Cas has the number of its entries and the place for all other words; the entries follow it in the code.
+#[derive(Clone, Copy, Debug, PartialEq, Eq)]
+pub enum Instr {
+    Liw(u16),
+    Lib(u8),
+    Dup,
+    Drp,
+    Swp,
+    Lis(u8),
+    Llw(u16),
+    Lgw(u16),
+    Sgw(u16),
+    Rgc(u16, u16),
+    Rgi(u16, u16),
+    Cap,
+    Adc,
+    Sbc,
+    Mlc,
+    Dvc,
+    Mdc,
+    Adi,
+    Sbi,
+    Mli,
+    Dvi,
+    Mdi,
+    Ngi,
+    Abi,
+    Not,
+    Equ,
+    Neq,
+    Lsc,
+    Lec,
+    Lsi,
+    Lei,
+    Ent(u16),
+    Rtn,
+    Jmp(u16),
+    Jpf(u16),
+    Jan(u16),
+    Jor(u16),
+    Jms(u8),
+    Jfs(u8),
+    Cas(u16, u16),
+    Fri(u16, u8, u16),
+    Frn(u16, u16),
+    Trp(u8),
+    Svc(u8),
+}
+
+/// The word at a place of the code, its higher byte first.
+#[inline]
+pub fn word_of_bytes(code: &[u8], place: usize) -> Option<u16>
+    requires { place < 2 ^ 33 }
+    ensures value { result ≡ word_at code.now place }
+    ensures within { OnSome result (place + 1 < length code.now) }
+{
+    if place + 1 >= code.len() {
+        return None;
+    }
+    Some(u16::from(code[place]) * 256 + u16::from(code[place + 1]))
+}
+
+#[tactic(auto, unfolding(crate::specs::Bytes::row_0))]
+fn decode_words(first: u8, code: &[u8], place: usize) -> Option<(Instr, usize)>
+    requires { place < 2 ^ 32 }
+    ensures { result ≡ row_0 first code.now place }
+{
+    match first {
+        0x01 => Some((Instr::Liw(word_of_bytes(code, place + 1)?), place + 3)),
+        0x02 => Some((Instr::Lib(*code.get(place + 1)?), place + 2)),
+        0x03 => Some((Instr::Dup, place + 1)),
+        0x04 => Some((Instr::Drp, place + 1)),
+        0x05 => Some((Instr::Swp, place + 1)),
+        _ => None,
+    }
+}
+
+#[tactic(auto, unfolding(crate::specs::Bytes::row_2))]
+fn decode_places(first: u8, code: &[u8], place: usize) -> Option<(Instr, usize)>
+    requires { place < 2 ^ 32 }
+    ensures { result ≡ row_2 first code.now place }
+{
+    match first {
+        0x20 => Some((Instr::Llw(word_of_bytes(code, place + 1)?), place + 3)),
+        0x24 => Some((Instr::Lgw(word_of_bytes(code, place + 1)?), place + 3)),
+        0x26 => Some((Instr::Sgw(word_of_bytes(code, place + 1)?), place + 3)),
+        _ => None,
+    }
+}
+
+#[tactic(auto, unfolding(crate::specs::Bytes::row_3))]
+fn decode_tests(first: u8, code: &[u8], place: usize) -> Option<(Instr, usize)>
+    requires { place < 2 ^ 32 }
+    ensures { result ≡ row_3 first code.now place }
+{
+    match first {
+        0x39 => {
+            let low = word_of_bytes(code, place + 1)?;
+            let high = word_of_bytes(code, place + 3)?;
+            Some((Instr::Rgc(low, high), place + 5))
+        }
+        0x3a => {
+            let low = word_of_bytes(code, place + 1)?;
+            let high = word_of_bytes(code, place + 3)?;
+            Some((Instr::Rgi(low, high), place + 5))
+        }
+        0x3b => Some((Instr::Cap, place + 1)),
+        _ => None,
+    }
+}
+
+#[tactic(auto, unfolding(crate::specs::Bytes::row_4))]
+fn decode_operators(first: u8, place: usize) -> Option<(Instr, usize)>
+    requires { place < 2 ^ 32 }
+    ensures { result ≡ row_4 first place }
+{
+    match first {
+        0x40 => Some((Instr::Adc, place + 1)),
+        0x41 => Some((Instr::Sbc, place + 1)),
+        0x42 => Some((Instr::Mlc, place + 1)),
+        0x43 => Some((Instr::Dvc, place + 1)),
+        0x44 => Some((Instr::Mdc, place + 1)),
+        0x45 => Some((Instr::Adi, place + 1)),
+        0x46 => Some((Instr::Sbi, place + 1)),
+        0x47 => Some((Instr::Mli, place + 1)),
+        0x48 => Some((Instr::Dvi, place + 1)),
+        0x49 => Some((Instr::Mdi, place + 1)),
+        0x4a => Some((Instr::Ngi, place + 1)),
+        0x4b => Some((Instr::Abi, place + 1)),
+        _ => None,
+    }
+}
+
+#[tactic(auto, unfolding(crate::specs::Bytes::row_5))]
+fn decode_comparisons(first: u8, place: usize) -> Option<(Instr, usize)>
+    requires { place < 2 ^ 32 }
+    ensures { result ≡ row_5 first place }
+{
+    match first {
+        0x59 => Some((Instr::Not, place + 1)),
+        0x5a => Some((Instr::Equ, place + 1)),
+        0x5b => Some((Instr::Neq, place + 1)),
+        0x5c => Some((Instr::Lsc, place + 1)),
+        0x5d => Some((Instr::Lec, place + 1)),
+        0x5e => Some((Instr::Lsi, place + 1)),
+        0x5f => Some((Instr::Lei, place + 1)),
+        _ => None,
+    }
+}
+
+#[tactic(auto, unfolding(crate::specs::Bytes::row_6))]
+fn decode_frames(first: u8, code: &[u8], place: usize) -> Option<(Instr, usize)>
+    requires { place < 2 ^ 32 }
+    ensures { result ≡ row_6 first code.now place }
+{
+    match first {
+        0x68 => Some((Instr::Ent(word_of_bytes(code, place + 1)?), place + 3)),
+        0x6a => Some((Instr::Rtn, place + 1)),
+        _ => None,
+    }
+}
+
+fn decode_loop(code: &[u8], place: usize) -> Option<(Instr, usize)>
+    requires { place < 2 ^ 32 }
+    ensures { result ≡ with_loop code.now place }
+{
+    let offset = word_of_bytes(code, place + 1)?;
+    let kind = *code.get(place + 3)?;
+    let target = word_of_bytes(code, place + 4)?;
+    Some((Instr::Fri(offset, kind, target), place + 6))
+}
+
+fn decode_case(code: &[u8], place: usize) -> Option<(Instr, usize)>
+    requires { place < 2 ^ 32 }
+    ensures { result ≡ with_entries code.now place }
+{
+    let count = word_of_bytes(code, place + 1)?;
+    let target = word_of_bytes(code, place + 3)?;
+    if code.len() < place + 5 + 6 * usize::from(count) {
+        return None;
+    }
+    Some((Instr::Cas(count, target), place + 5))
+}
+
+#[tactic(auto, unfolding(crate::specs::Bytes::row_7))]
+fn decode_jumps(first: u8, code: &[u8], place: usize) -> Option<(Instr, usize)>
+    requires { place < 2 ^ 32 }
+    ensures { result ≡ row_7 first code.now place }
+{
+    match first {
+        0x70 => Some((Instr::Jmp(word_of_bytes(code, place + 1)?), place + 3)),
+        0x71 => Some((Instr::Jpf(word_of_bytes(code, place + 1)?), place + 3)),
+        0x72 => Some((Instr::Jan(word_of_bytes(code, place + 1)?), place + 3)),
+        0x73 => Some((Instr::Jor(word_of_bytes(code, place + 1)?), place + 3)),
+        0x74 => Some((Instr::Jms(*code.get(place + 1)?), place + 2)),
+        0x75 => Some((Instr::Jfs(*code.get(place + 1)?), place + 2)),
+        0x76 => decode_case(code, place),
+        0x77 => decode_loop(code, place),
+        0x78 => {
+            let offset = word_of_bytes(code, place + 1)?;
+            let target = word_of_bytes(code, place + 3)?;
+            Some((Instr::Frn(offset, target), place + 5))
+        }
+        0x79 => Some((Instr::Trp(*code.get(place + 1)?), place + 2)),
+        0x7d => Some((Instr::Svc(*code.get(place + 1)?), place + 2)),
+        _ => None,
+    }
+}
+
+fn decode_row(first: u8, code: &[u8], place: usize) -> Option<(Instr, usize)>
+    requires { place < 2 ^ 32 }
+    ensures { result ≡ row first code.now place }
+{
+    match first / 16 {
+        0 => decode_words(first, code, place),
+        1 => Some((Instr::Lis(first % 16), place + 1)),
+        2 => decode_places(first, code, place),
+        3 => decode_tests(first, code, place),
+        4 => decode_operators(first, place),
+        5 => decode_comparisons(first, place),
+        6 => decode_frames(first, code, place),
+        7 => decode_jumps(first, code, place),
+        _ => None,
+    }
+}
+
+/// The instruction whose bytes stand at a place of the code, and the place behind it; for CASE that of its entries.
+/// None where no row of the byte table has these bytes, or the entries of CASE don't lie whole in the code.
+#[tactic(auto, unfolding(crate::specs::Bytes::decoded))]
+pub fn decode(code: &[u8], place: usize) -> Option<(Instr, usize)>
+    requires { length code.now < 2 ^ 32 }
+    ensures { result ≡ decoded code.now place }
+{
+    let first = *code.get(place)?;
+    decode_row(first, code, place)
+}

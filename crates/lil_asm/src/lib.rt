@@ -1,0 +1,10 @@
+//! The instructions of M-code, and their bytes.
+#![tactic(auto)]
+
+mod encoding;
+mod instr;
+#[cfg(test)]
+mod tests;
+
+pub use encoding::{encode, encode_entry};
+pub use instr::{Instr, decode, word_of_bytes};

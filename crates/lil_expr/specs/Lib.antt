@@ -1,0 +1,4 @@
+pub mod Appending
+pub mod Emitting
+pub mod Generating
+pub mod Numbers

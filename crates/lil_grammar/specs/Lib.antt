@@ -1,0 +1,12 @@
+pub mod Places
+pub mod Rules
+pub mod RulesExact
+pub mod RulesFar
+pub mod RulesLimit
+pub mod RulesLists
+pub mod RulesMany
+pub mod RulesOne
+pub mod RulesTokens
+pub mod RulesUse
+pub mod Steps
+pub mod Turns

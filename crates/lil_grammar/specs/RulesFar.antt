@@ -1,0 +1,81 @@
+-- A parser refuses a part as too deep only where so many tokens stand.
+use Rattle.std.proofs.Common.{◌≡◌, ℕ, zero, suc, ◌≤◌, Bool, true, false, List, [], ◌∷◌, length, Option, Some, None, Ok, Err, refl, ap, ◌∙◌, arith}
+use Rattle.lil_base.specs.declared.fault.Place.{Place}
+use Rattle.lil_text.specs.declared.token.Token.{Token}
+use Rattle.lil_text.specs.declared.token.TokenKind.{TokenKind}
+use Rattle.lil_grammar.specs.Steps.{syntax, nested, Outcome, Parser, and_then, ◌>>=◌, pure, at, either, either_by, shallow, token, taken, place_of, loop, many}
+use Rattle.lil_grammar.specs.Rules.{ok_same, err_same, bind_ok, syntax_nested}
+use Rattle.lil_grammar.specs.RulesLists.{token_shrinks}
+
+pub record Far {A : Type 0} (m : ℕ) (p : Parser A) : Type 0 where
+  pub deep : (ts : List Token) (q : Place) → p ts ≡ Err (nested q) → m ≤ length ts
+  pub less : (ts : List Token) (a : A) (rest : List Token) → p ts ≡ Ok (a, rest) → length rest ≤ length ts
+
+pub far_less : {A : Type 0} {p : Parser A} {m : ℕ} (k : ℕ) → k ≤ m → Far m p → Far k p
+far_less k h x = record { deep = λ ts q is. omega (arith, x.deep ts q is); less = x.less }
+
+pub far_pure : {A : Type 0} (m : ℕ) (a : A) → Far m (pure a)
+far_pure m a = record { deep = λ ts q is. absurd (cc); less = λ ts b rest is. omega (arith, ap (λ y. length y.1) (ok_same is)) }
+
+taken_deep : {A : Type 0} (ts : List Token) (p q : Place) (o : Option A) → taken ts p o ≡ Err (nested q) → ⊥
+taken_deep ts p q None is = syntax_nested p q (err_same is)
+taken_deep ts p q (Some a) is = absurd (cc)
+
+token_deep : {A : Type 0} (f : Token → Option A) (ts : List Token) (q : Place) → token f ts ≡ Err (nested q) → ⊥
+unfolding token
+token_deep f [] q is = syntax_nested (place_of []) q (err_same is)
+token_deep f (t ∷ ts) q is = taken_deep ts t.place q (f t) is
+
+pub far_token : {A : Type 0} (m : ℕ) (f : Token → Option A) → Far m (token f)
+far_token m f = record { deep = λ ts q is. absurd (token_deep f ts q is); less = λ ts a rest is. omega (arith, token_shrinks f ts a rest is) }
+
+module _ {A B : Type 0} {m : ℕ} {q : A → Parser B} where
+  pub far_then : {p : Parser A} → Far m p → ((a : A) → Far m (q a)) → Far m (p >>= q)
+  far_then {p} x y = record {
+    deep = λ ts place is. deep ts place (p ts) refl is;
+    less = λ ts b rest is. let s = bind_ok (p ts) q (b, rest) is in omega (arith, x.less ts s.0.0 s.0.1 s.1, (y s.0.0).less s.0.1 b rest s.2);
+  }
+    where
+      deep : (ts : List Token) (place : Place) (o : Outcome A) → p ts ≡ o → and_then o q ≡ Err (nested place) → m ≤ length ts
+      deep ts place (Ok z) same is = omega (arith, x.less ts z.0 z.1 same, (y z.0).deep z.1 place is)
+      deep ts place (Err e) same is = x.deep ts place (same ∙ ap (λ e. Err e) (err_same is))
+
+  pub far_after : (f : Token → Option A) → ((a : A) → Far m (q a)) → Far (suc m) (token f >>= q)
+  far_after f y = record {
+    deep = λ ts place is. deep ts place (token f ts) refl is;
+    less = λ ts b rest is. let s = bind_ok (token f ts) q (b, rest) is in omega (arith, token_shrinks f ts s.0.0 s.0.1 s.1, (y s.0.0).less s.0.1 b rest s.2);
+  }
+    where
+      deep : (ts : List Token) (place : Place) (o : Outcome A) → token f ts ≡ o → and_then o q ≡ Err (nested place) → suc m ≤ length ts
+      deep ts place (Ok z) same is = omega (arith, token_shrinks f ts z.0 z.1 same, (y z.0).deep z.1 place is)
+      deep ts place (Err e) same is = absurd (token_deep f ts place (same ∙ ap (λ e. Err e) (err_same is)))
+
+pub far_map : {A B : Type 0} {m : ℕ} {p : Parser A} → Far m p → (f : A → B) → Far m (p >>= (λ a. pure (f a)))
+far_map {m = m} x f = far_then x (λ a. far_pure m (f a))
+
+pub far_by : {A C : Type 0} {m : ℕ} (class : List Token → C) {q : C → Parser A} → ((c : C) → Far m (q c)) → Far m (λ ts. q (class ts) ts)
+far_by class x = record { deep = λ ts q is. (x (class ts)).deep ts q is; less = λ ts a rest is. (x (class ts)).less ts a rest is }
+
+pub far_either : {A : Type 0} {m : ℕ} {p q : Parser A} (test : TokenKind → Bool) → Far m p → Far m q → Far m (either test p q)
+far_either {m = m} {p = p} {q = q} test x y = far_by (at test) by
+  where
+    by : (b : Bool) → Far m (either_by p q b)
+    by true = x
+    by false = y
+
+module _ {S : Type 0} {m : ℕ} (test : TokenKind → Bool) (turn : S → Parser S) (x : (s : S) → Far m (turn s)) where
+  far_loop : (n : ℕ) (s : S) → Far m (loop test turn n s)
+  unfolding loop
+  far_loop zero s = far_pure m s
+  far_loop (suc n) s = far_either test (far_then (x s) (far_loop n)) (far_pure m s)
+
+  pub far_many : (s : S) → Far m (many test turn s)
+  unfolding many
+  far_many s = record { deep = λ ts q is. (far_loop (length ts) s).deep ts q is; less = λ ts a rest is. (far_loop (length ts) s).less ts a rest is }
+
+pub far_shallow : {A : Type 0} (test : TokenKind → Bool) → Far {A = A} 0 (shallow test)
+far_shallow {A} test = record { deep = λ ts q is. omega arith; less = λ ts a rest is. none (at test ts) ts a rest is }
+  where
+    none : (b : Bool) (ts : List Token) (a : A) (rest : List Token) → either_by {A = A} (λ ts. Err (nested (place_of ts))) (λ ts. Err (syntax (place_of ts))) b ts ≡ Ok (a, rest) → length rest ≤ length ts
+    none true ts a rest is = absurd (cc)
+    none false ts a rest is = absurd (cc)

@@ -1,0 +1,32 @@
+-- Words that come to a place of the store.
+use Rattle.std.proofs.Common.{◌≡◌, ℕ, ◌+◌, ◌-◌, ◌<◌, ◌≤◌, List, ◌++◌, length, get_or, take, drop, ap, ◌∙◌, arith, length-append, length-drop}
+use Rattle.std.proofs.lemmas.List.{get_or-take, get_or_append_left, get_or-append_right, get_or-replicate, length-replicate, length-take-le}
+use Rattle.lil_mcode.specs.State.{spliced, zeros}
+
+pub spliced_length : (store : List ℕ) (a : ℕ) (ws : List ℕ) → a + length ws ≤ length store → length (spliced store a ws) ≡ length store
+unfolding spliced
+spliced_length store a ws room =
+    let front : length (take a store) ≡ a = length-take-le a store (omega (arith, room)) in
+    omega (arith, length-append (take a store) (ws ++ drop (a + length ws) store), length-append ws (drop (a + length ws) store), front, length-drop (a + length ws) store)
+
+pub spliced_before : (store : List ℕ) (a : ℕ) (ws : List ℕ) (b : ℕ) → a + length ws ≤ length store → b < a → get_or (spliced store a ws) b 0 ≡ get_or store b 0
+unfolding spliced
+spliced_before store a ws b room less =
+    let front : length (take a store) ≡ a = length-take-le a store (omega (arith, room)) in
+    get_or_append_left (take a store) (ws ++ drop (a + length ws) store) 0 b (omega (arith, front, less)) ∙ get_or-take a store b 0 less
+
+pub spliced_there : (store : List ℕ) (a : ℕ) (ws : List ℕ) (i : ℕ) → a + length ws ≤ length store → i < length ws → get_or (spliced store a ws) (a + i) 0 ≡ get_or ws i 0
+unfolding spliced
+spliced_there store a ws i room less =
+    let front : length (take a store) ≡ a = length-take-le a store (omega (arith, room)) in
+    get_or-append_right (take a store) (ws ++ drop (a + length ws) store) a (a + i) 0 front (omega arith)
+    ∙ ap (λ (z : ℕ). get_or (ws ++ drop (a + length ws) store) z 0) (let e : a + i - a ≡ i = omega arith in e)
+    ∙ get_or_append_left ws (drop (a + length ws) store) 0 i less
+
+pub zeros_length : (n : ℕ) → length (zeros n) ≡ n
+unfolding zeros
+zeros_length n = length-replicate n 0
+
+pub zeros_word : (n i : ℕ) → i < n → get_or (zeros n) i 0 ≡ 0
+unfolding zeros
+zeros_word n i less = get_or-replicate n i 0 0 less

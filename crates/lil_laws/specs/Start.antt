@@ -1,0 +1,292 @@
+-- From a loaded program.
+use Rattle.std.proofs.Common.{◌≡◌, ℕ, zero, suc, ◌+◌, ◌-◌, ◌*◌, ◌<◌, ◌≤◌, Bool, true, false, cond, Option, Some, None, List, [], ◌∷◌, length, get_or, refl, sym, ap, ◌∙◌, subst, arith}
+use Rattle.std.specs.Prelude.{pos, slice_get, nat_lt, nat_le}
+use Rattle.std.proofs.lemmas.Bool.{le-leb, le-ltb, lt-ltb, ltb-true}
+use Rattle.std.proofs.lemmas.Int.{ints}
+use Rattle.std.proofs.lemmas.Option.{slice_get_within}
+use Rattle.lil_base.specs.Words.{Cardinal, between}
+use Rattle.lil_resolved.specs.Kinds.{Kind, OfWhole, OfEnumeration, OfRange, base_of}
+use Rattle.lil_resolved.specs.Scalars.{within, scalar_word, zero_of}
+use Rattle.lil_resolved.specs.Resolved.{Statement, Assign, If, Case, While, Repeat, Loop, For, Statements, Empty, Then, Arms, NoElse, Else, Arm, Resolved}
+use Rattle.lil_meaning.specs.Cells.{Root, Global, Local, Object, zero_by, fresh_cells}
+use Rattle.lil_meaning.specs.World.{World}
+use Rattle.lil_meaning.specs.Items.{Perform, End, doing}
+use Rattle.lil_meaning.specs.Runs.{begun}
+use Rattle.lil_asm.specs.declared.instr.Instr.TheVariants.{Rtn}
+use Rattle.lil_mcode.specs.declared.machine.Event.TheVariants.{Went}
+use Rattle.lil_mcode.specs.State.{Module, State, spliced, zeros, cleared}
+use Rattle.lil_mcode.specs.Table.{begun_body}
+use Rattle.lil_resolved.specs.Depth.{statement_loops, body_loops, arms_loops, frame_words}
+use Rattle.lil_resolved.specs.Sizes.{IsSmall, statement_size, body_size, arms_size}
+use Rattle.lil_table.specs.Rows.{offsets_from, layout_of, Translates}
+use Rattle.lil_match.specs.Running.{Run, mrun, running, advanced}
+use Rattle.lil_laws.specs.Loading.{body_alone, loaded}
+use Rattle.lil_meaning.specs.Runs.{state_of}
+use Rattle.lil_match.specs.Homes.{word_for, plain_word, yes, no, Type', Absent, Word, Owner, Of, Own, Free, Home, Mem}
+use Rattle.lil_match.specs.Goes.{Shared}
+use Rattle.lil_match.specs.Waits.{Setting, Quiet, Around, Ahead}
+use Rattle.lil_match.specs.Steps.{advances, at_once, rows_ahead}
+use Rattle.lil_match.specs.Orders.{instr_within}
+use Rattle.lil_laws_stmt.specs.Control.{body_rows}
+use Rattle.lil_laws.specs.Splices.{spliced_length, spliced_before, spliced_there, zeros_length, zeros_word}
+use Rattle.lil_laws.specs.Whole.{Agrees, still_agrees, follows}
+
+abbrev typed_by : Option Kind → Type'
+typed_by None = Absent
+typed_by (Some k) = Word k
+
+-- the home of a program module whose data begin at word 1
+abbrev type_of : List Kind → Root → Type'
+type_of kinds (Global zero x) = Absent
+type_of kinds (Global (suc zero) x) = typed_by (slice_get kinds x)
+type_of kinds (Global (suc (suc m)) x) = Absent
+type_of kinds (Local a x) = Absent
+type_of kinds (Object o) = Absent
+
+abbrev place_of : Root → ℕ
+place_of (Global m x) = 1 + x
+place_of (Local a x) = 0
+place_of (Object o) = 0
+
+-- data, then the mark of the body, then room
+abbrev owner_at : ℕ → ℕ → Owner
+owner_at n a =
+    cond (nat_lt a 1) (Free (1 + n))
+    (cond (nat_lt a (1 + n)) (Of (Global 1 (a - 1)))
+    (cond (nat_lt a (5 + n)) Own (Free (1 + n))))
+
+typed_some : (o : Option Kind) (k : Kind) → typed_by o ≡ Word k → o ≡ Some k
+typed_some None k e = cc
+typed_some (Some j) k e = let same : j ≡ k = cc in ap Some same
+
+-- which roots live
+pub record Lives (kinds : List Kind) (r : Root) (k : Kind) : Type 0 where
+  pub x : ℕ
+  pub is : r ≡ Global 1 x
+  pub typed : slice_get kinds x ≡ Some k
+
+lives : (kinds : List Kind) (r : Root) (k : Kind) → type_of kinds r ≡ Word k → Lives kinds r k
+lives kinds (Global (suc zero) x) k e = record { x = x; is = refl; typed = typed_some (slice_get kinds x) k e }
+lives kinds _ k e = cc
+
+zero_word : (k : Kind) → scalar_word (zero_of k) ≡ 0
+zero_word (OfRange k low high) = zero_word k
+zero_word _ = refl
+
+zero_constant : (n : ℕ) → between (pos 0) (pos 0) (pos n) ≡ true
+zero_constant n = grind (arith, ints)
+
+zero_fits : (k : Kind) → within (base_of k) (zero_of k) ≡ true
+zero_fits (OfWhole Cardinal) = refl
+zero_fits (OfEnumeration n) = zero_constant (n - 1)
+zero_fits (OfRange k low high) = zero_fits k
+zero_fits _ = refl
+
+-- the words of the FORs are fewer than the bytes of the code
+mutual
+  statement_small : (s : Statement) → 3 * statement_loops s ≤ statement_size s
+  statement_small (Assign d e) = omega arith
+  statement_small (If c a b) = omega (arith, body_small a, body_small b)
+  statement_small (Case e arms) = omega (arith, arms_small arms)
+  statement_small (While c body) = omega (arith, body_small body)
+  statement_small (Repeat body c) = omega (arith, body_small body)
+  statement_small (Loop body) = omega (arith, body_small body)
+  statement_small (For d a b step body) = omega (arith, body_small body)
+  statement_small _ = omega arith
+
+  body_small : (b : Statements) → 3 * body_loops b ≤ body_size b
+  body_small Empty = omega arith
+  body_small (Then s ss) = omega (arith, statement_small s, body_small ss)
+
+  arms_small : (a : Arms) → 3 * arms_loops a ≤ arms_size a
+  arms_small NoElse = omega arith
+  arms_small (Else body) = omega (arith, body_small body)
+  arms_small (Arm labels body rest) = omega (arith, body_small body, arms_small rest)
+
+offset_is : (ks : List Kind) (n x o : ℕ) → slice_get (offsets_from n ks) x ≡ Some o → o ≡ n + x
+offset_is [] n x o e = cc
+offset_is (k ∷ ks) n zero o e = let same : n ≡ o = cc in omega arith
+offset_is (k ∷ ks) n (suc x) o e = omega (arith, offset_is ks (suc n) x o e)
+
+module _ (p : Resolved) (code : List ℕ) (small : IsSmall p) (t : Translates p code) where
+  abbrev pub count : ℕ
+  count = length p.variables
+
+  abbrev pub own : Module
+  own = record { name = p.name; procedures = body_alone; code = code; base = 1; words = count }
+
+  abbrev pub table : List Module
+  table = own ∷ []
+
+  -- the store with the mark of the body
+  pub store : List ℕ
+  store = spliced (cleared (zeros 65536) 1 (1 + count)) (1 + count) (0 ∷ 0 ∷ 0 ∷ 1 ∷ [])
+
+  abbrev pub begun_at : ℕ → State
+  begun_at place = record {
+    modules = table;
+    running = 1;
+    place = place;
+    stack = [];
+    store = store;
+    frame = 1 + count;
+    top = 1 + count + 4;
+    base = 1 + count;
+    limit = 65535;
+    bodies = [];
+    marked = true;
+  }
+
+  abbrev frame_size : ℕ
+  frame_size = frame_words p.body
+
+  frame_small : frame_size ≤ 32767
+  frame_small = omega (arith, body_small p.body, small.code)
+
+  -- the body is entered: the words of its FORs are zero
+  pub entered : List ℕ
+  entered = cleared store (1 + count + 4) (1 + count + frame_size)
+
+  abbrev pub entered_at : ℕ → State
+  entered_at place = record (begun_at place) { top = 1 + count + frame_size; store = entered }
+
+  -- what was loaded
+  pub loaded_state : (loaded p code).state ≡ begun_at 0
+  unfolding store
+  loaded_state =
+      let room : nat_le (1 + count + 4) 65535 ≡ true = le-leb (1 + count + 4) 65535 (omega (arith, small.variables)) in
+      yes _ _ _ room
+
+  cleared_length : length (cleared (zeros 65536) 1 (1 + count)) ≡ 65536
+  cleared_length =
+      let n : length (zeros (1 + count - 1)) ≡ 1 + count - 1 = zeros_length (1 + count - 1) in
+      spliced_length (zeros 65536) 1 (zeros (1 + count - 1)) (omega (arith, n, zeros_length 65536, small.variables)) ∙ zeros_length 65536
+
+  store_length : length store ≡ 65536
+  unfolding store
+  store_length = spliced_length (cleared (zeros 65536) 1 (1 + count)) (1 + count) (0 ∷ 0 ∷ 0 ∷ 1 ∷ []) (omega (arith, cleared_length, small.variables)) ∙ cleared_length
+
+  data_zero : (x : ℕ) → x < count → get_or store (1 + x) 0 ≡ 0
+  unfolding store
+  data_zero x less =
+      let n : length (zeros (1 + count - 1)) ≡ 1 + count - 1 = zeros_length (1 + count - 1) in
+      spliced_before (cleared (zeros 65536) 1 (1 + count)) (1 + count) (0 ∷ 0 ∷ 0 ∷ 1 ∷ []) (1 + x) (omega (arith, cleared_length, small.variables)) (omega arith)
+      ∙ spliced_there (zeros 65536) 1 (zeros (1 + count - 1)) x (omega (arith, n, zeros_length 65536, small.variables)) (omega (arith, n, less))
+      ∙ zeros_word (1 + count - 1) x (omega (arith, less))
+
+  home : Home
+  home = record { base = place_of; type = type_of p.variables; owner = owner_at count; shadow = λ a. get_or store a 0; reference = λ o. 0 }
+
+  owner_data : (x : ℕ) → x < count → owner_at count (1 + x) ≡ Of (Global 1 x)
+  owner_data x less =
+      no (nat_lt (1 + x) 1) _ _ (le-ltb (1 + x) 1 (omega arith))
+      ∙ yes (nat_lt (1 + x) (1 + count)) _ _ (lt-ltb (1 + x) (1 + count) (omega arith))
+      ∙ ap (λ (n : ℕ). Of (Global 1 n)) (let e : 1 + x - 1 ≡ x = omega arith in e)
+
+  fresh_zeros : length (zeros (1 + count + frame_size - (1 + count + 4))) ≡ 1 + count + frame_size - (1 + count + 4)
+  fresh_zeros = zeros_length (1 + count + frame_size - (1 + count + 4))
+
+  entered_before : (a : ℕ) → a < 1 + count + 4 → get_or entered a 0 ≡ get_or store a 0
+  unfolding entered
+  entered_before a less =
+      spliced_before store (1 + count + 4) (zeros (1 + count + frame_size - (1 + count + 4))) a (omega (arith, store_length, fresh_zeros, frame_small, small.variables)) less
+
+  entered_length : length entered ≡ 65536
+  unfolding entered
+  entered_length = spliced_length store (1 + count + 4) (zeros (1 + count + frame_size - (1 + count + 4))) (omega (arith, store_length, fresh_zeros, frame_small, small.variables)) ∙ store_length
+
+  -- the words of the machine's own are those of the mark
+  own_low : (a : ℕ) → owner_at count a ≡ Own → a < 1 + count + 4
+  own_low a e = by (nat_lt a 1) (nat_lt a (1 + count)) (nat_lt a (5 + count)) refl e
+    where
+      by : (x y z : Bool) → nat_lt a (5 + count) ≡ z → cond x (Free (1 + count)) (cond y (Of (Global 1 (a - 1))) (cond z Own (Free (1 + count)))) ≡ Own → a < 1 + count + 4
+      by true y z h e = cc
+      by false true z h e = cc
+      by false false true h e = omega (arith, ltb-true a (5 + count) h)
+      by false false false h e = cc
+
+  mem : Mem home (fresh_cells (p ∷ [])) entered
+  unfolding home
+  mem = record {
+    owned = λ r k e.
+        let a = lives p.variables r k e in
+        let less : a.x < count = slice_get_within p.variables a.x k a.typed in
+        ap (λ (z : Root). owner_at count (place_of z)) a.is ∙ owner_data a.x less ∙ ap Of (sym a.is);
+    inside = λ r k e.
+        let a = lives p.variables r k e in
+        let less : a.x < count = slice_get_within p.variables a.x k a.typed in
+        let at : place_of r ≡ 1 + a.x = ap place_of a.is in
+        omega (arith, small.variables);
+    holds = λ r k e.
+        let a = lives p.variables r k e in
+        let less : a.x < count = slice_get_within p.variables a.x k a.typed in
+        let cell : fresh_cells (p ∷ []) r [] ≡ zero_of k = ap (λ (z : Root). fresh_cells (p ∷ []) z []) a.is ∙ ap zero_by a.typed in
+        record {
+          word = ap (λ (z : Root). get_or entered (place_of z) 0) a.is ∙ entered_before (1 + a.x) (omega (arith, less)) ∙ data_zero a.x less ∙ sym (zero_word k) ∙ sym (plain_word home (base_of k) (zero_of k) (zero_fits k)) ∙ ap (word_for home) (sym cell);
+          fits = ap (within (base_of k)) cell ∙ zero_fits k;
+        };
+    kept = λ a e. entered_before a (own_low a e);
+    long = entered_length;
+  }
+
+  free_words : (i : ℕ) → 4 ≤ i → owner_at count (1 + count + i) ≡ Free (1 + count)
+  free_words i high =
+      no (nat_lt (1 + count + i) 1) _ _ (le-ltb (1 + count + i) 1 (omega arith))
+      ∙ no (nat_lt (1 + count + i) (1 + count)) _ _ (le-ltb (1 + count + i) (1 + count) (omega arith))
+      ∙ no (nat_lt (1 + count + i) (5 + count)) _ _ (le-ltb (1 + count + i) (5 + count) (omega (arith, high)))
+
+  abbrev ctx : Setting
+  ctx = record { modules = p ∷ []; layout = layout_of p; table = table; own = own; number = 1; home = home }
+
+  shared : (w : World) → Shared ctx (begun (p ∷ []) w) (entered_at t.start)
+  unfolding home
+  shared w = record {
+    mem = mem;
+    laid = record {
+      variables = λ x o k offset kind. record {
+        path = refl;
+        living = ap typed_by kind;
+        at = omega (arith, offset_is p.variables 0 x o offset);
+      };
+    };
+    program = record { table_is = refl; known = refl; running_is = refl; marked = refl; body = refl; last = refl };
+    frame = record { room = omega (arith, frame_small, small.variables); free = λ i high less. free_words i high };
+    owner = refl;
+    parked = tt;
+  }
+
+  -- the body is entered
+  enters : (w : World) → advanced (running (begun_at 0) w) ≡ running (entered_at t.start) w
+  unfolding entered
+  enters w =
+      advances (begun_at 0) w (Went, entered_at t.start) (
+      ap (Rattle.lil_mcode.specs.Table.performed (begun_at 0) own) t.enter
+      ∙ no _ _ _ (le-ltb (1 + count + frame_size) (1 + count + 4) (omega arith))
+      ∙ no _ _ _ (le-ltb 65535 (1 + count + frame_size) (omega (arith, frame_small, small.variables)))
+      )
+
+  abbrev outside : Around
+  outside = record { exit = None; fors = [] }
+
+  ahead : Ahead ctx (doing p.body (Perform (End 0) ∷ [])) Quiet t.start [] 0 outside
+  ahead =
+      rows_ahead ctx (doing p.body (Perform (End 0) ∷ [])) t.start [] 0 outside
+      (body_rows ctx p.body (Perform (End 0) ∷ []) t.start t.end 0 outside t.body (instr_within code t.end Rtn (length code) t.leave)
+      (at_once ctx _ Quiet t.end [] 0 outside
+      (record { quiet = refl; empty = refl; activation = refl; last = refl; alone = refl; end = length code; leave = t.leave })))
+
+  -- after any number of steps the run of a loaded program agrees with some state of the meaning
+  pub record Correct (w : World) (steps : ℕ) : Type 0 where
+    pub n : ℕ
+    pub agrees : Agrees p.name (state_of p w n) (mrun steps (running (begun_at 0) w))
+    pub far : steps < 32 * n + 33
+
+  pub correct : (w : World) (steps : ℕ) → Correct w steps
+  correct w zero = record { n = 0; agrees = still_agrees p.name (begun (p ∷ []) w) (doing p.body (Perform (End 0) ∷ [])) (running (begun_at 0) w) (record { world = refl; finish = refl }); far = omega arith }
+  correct w (suc steps) =
+      let f = follows ctx (begun (p ∷ []) w) (doing p.body (Perform (End 0) ∷ [])) (entered_at t.start) steps 0 outside (shared w) tt ahead in
+      record {
+        n = f.n;
+        agrees = subst (λ (r : Run). Agrees p.name (state_of p w f.n) (mrun steps r)) (sym (enters w)) f.agrees;
+        far = omega (arith, f.far);
+      }

@@ -1,0 +1,194 @@
+-- Whole runs: after any number of steps, the machine has shown what some state of the meaning has.
+use Rattle.std.proofs.Common.{◌≡◌, ◌≢◌, ℕ, zero, suc, ◌+◌, ◌-◌, ◌*◌, ◌<◌, ◌≤◌, List, Option, None, refl, sym, ap, ◌∙◌, subst, ⊎_elim, arith}
+use Rattle.std.proofs.lemmas.Bool.{cases_lt}
+use Rattle.lil_base.specs.declared.fault.TrapKind.{TrapKind}
+use Rattle.lil_base.specs.declared.fault.LimitKind.{LimitKind}
+use Rattle.lil_base.specs.declared.fault.TrapAt.{TrapAt}
+use Rattle.lil_resolved.specs.Resolved.{Resolved}
+use Rattle.lil_meaning.specs.Cells.{loaded_at}
+use Rattle.lil_meaning.specs.Items.{Item, Phase, Going, Closing, Ended, Trapped, Source}
+use Rattle.lil_meaning.specs.Steps.{next, by_phase, name_of}
+use Rattle.lil_meaning.specs.Runs.{after}
+use Rattle.lil_mcode.specs.State.{State}
+use Rattle.lil_mcode.specs.Table.{mstep}
+use Rattle.lil_match.specs.Running.{Finish, Running, Finished, TrappedBy, Limited, Broken, Run, mrun, running, react, advanced, unless_over}
+use Rattle.lil_match.specs.Goes.{HasFors, Shared, Lands, IsStill, Goes}
+use Rattle.lil_match.specs.Stutter.{stutter}
+use Rattle.lil_match.specs.Waits.{Setting, Quiet, Around, Ahead}
+use Rattle.lil_laws.specs.Each.{each_step}
+
+-- The run has the world of the source's state, and is over only where the source is, in the same way: a trap is in the body of a module.
+pub record Agrees (name : List ℕ) (t : Source) (run : Run) : Type 0 where
+  pub world : run.world ≡ t.world
+  pub runs : run.finish ≡ Running → t.phase ≡ Going
+  pub ends : run.finish ≡ Finished → t.phase ≡ Ended
+  pub traps : (k : TrapKind) → run.finish ≡ TrappedBy k → t.phase ≡ Trapped (record { kind = k; «module» = name; procedure = None })
+  pub never_limited : (k : LimitKind) → run.finish ≢ Limited k
+  pub never_broken : run.finish ≢ Broken
+
+pub mrun_add : (i n j : ℕ) (run : Run) → n ≡ i + j → mrun n run ≡ mrun j (mrun i run)
+mrun_add zero n j run e = let same : n ≡ j = omega arith in ap (λ (x : ℕ). mrun x run) same
+mrun_add (suc i) zero j run e = absurd (omega arith)
+mrun_add (suc i) (suc n) j run e = mrun_add i n j (advanced run) (omega arith)
+
+pub run_rests : (n : ℕ) (run : Run) → advanced run ≡ run → mrun n run ≡ run
+run_rests zero run e = refl
+run_rests (suc n) run e = ap (mrun n) e ∙ run_rests n run e
+
+pub run_over : (run : Run) (f : Finish) → run.finish ≡ f → f ≢ Running → advanced run ≡ run
+run_over run Running e d = absurd (d refl)
+run_over run _ e d = ap (λ (f : Finish). unless_over f run (react (mstep run.machine).0 (mstep run.machine).1 run)) e
+
+pub source_rests : (modules : List Resolved) (n : ℕ) (s : Source) → next modules s ≡ s → after modules n s ≡ s
+source_rests modules zero s e = refl
+source_rests modules (suc n) s e = ap (after modules n) e ∙ source_rests modules n s e
+
+pub ended_rests : (modules : List Resolved) (s : Source) → s.phase ≡ Ended → next modules s ≡ s
+ended_rests modules s e = ap (λ (p : Phase). by_phase modules p s) e
+
+pub trapped_rests : (modules : List Resolved) (s : Source) (t : TrapAt) → s.phase ≡ Trapped t → next modules s ≡ s
+trapped_rests modules s t e = ap (λ (p : Phase). by_phase modules p s) e
+
+pub still_agrees : (name : List ℕ) (s : Source) (k : List Item) (run : Run) → IsStill s.world run → Agrees name (record s { items = k; phase = Going }) run
+still_agrees name s k run h = record {
+  world = h.world;
+  runs = λ e. refl;
+  ends = λ e. absurd (let r = h.finish in cc);
+  traps = λ j e. absurd (let r = h.finish in cc);
+  never_limited = λ j e. let r = h.finish in cc;
+  never_broken = λ e. let r = h.finish in cc;
+}
+
+ended_agrees : (name : List ℕ) (s : Source) (run : Run) → s.phase ≡ Ended → run.finish ≡ Finished → run.world ≡ s.world → Agrees name s run
+ended_agrees name s run over f w = record {
+  world = w;
+  runs = λ e. absurd (let r = f in cc);
+  ends = λ e. over;
+  traps = λ j e. absurd (let r = f in cc);
+  never_limited = λ j e. let r = f in cc;
+  never_broken = λ e. let r = f in cc;
+}
+
+trapped_agrees : (name : List ℕ) (s : Source) (run : Run) (t : TrapAt) → s.phase ≡ Trapped t → run.finish ≡ TrappedBy t.kind → run.world ≡ s.world → t.«module» ≡ name → t.procedure ≡ None → Agrees name s run
+trapped_agrees name s run t over f w named bare = record {
+  world = w;
+  runs = λ e. absurd (let r = f in cc);
+  ends = λ e. absurd (let r = f in cc);
+  traps = λ j e.
+      let two : TrappedBy t.kind ≡ TrappedBy j = sym f ∙ e in
+      let kind : t.kind ≡ j = cc in
+      over
+      ∙ ap (λ (x : TrapKind). Trapped (record { kind = x; «module» = t.«module»; procedure = t.procedure })) kind
+      ∙ ap (λ (x : List ℕ). Trapped (record { kind = j; «module» = x; procedure = t.procedure })) named
+      ∙ ap (λ (x : Option (List ℕ)). Trapped (record { kind = j; «module» = name; procedure = x })) bare;
+  never_limited = λ j e. let r = f in cc;
+  never_broken = λ e. let r = f in cc;
+}
+
+module _ (ctx : Setting) where
+  open ctx use {modules, layout as l, table, own, number, home as h}
+
+  abbrev pub Name : List ℕ
+  Name = name_of (loaded_at modules number)
+
+  -- After so many steps of the machine, from a state of the meaning with so many jumps owed: some later state agrees, one that is far
+  -- enough.
+  pub record Follows (s : Source) (run : Run) (steps c : ℕ) : Type 0 where
+    pub n : ℕ
+    pub agrees : Agrees Name (after modules n s) (mrun steps run)
+    pub far : steps < 32 * n + 32 + c
+
+  -- where both are over, they stay
+  over_follows : (s : Source) (run : Run) (steps c : ℕ) → Agrees Name s run → next modules s ≡ s → advanced run ≡ run → Follows s run steps c
+  over_follows s run steps c a rs rr = record {
+    n = steps;
+    agrees =
+        subst (λ (t : Source). Agrees Name t (mrun steps run)) (sym (source_rests modules steps s rs))
+        (subst (λ (r : Run). Agrees Name s r) (sym (run_rests steps run rr)) a);
+    far = omega arith;
+  }
+
+  -- what is claimed of so many steps, from each matched state whose items have a property
+  abbrev Claim : ℕ → (List Item → Type 0) → Type 0
+  Claim steps P =
+      (s : Source) (k : List Item) (m : State) (c : ℕ) (a : Around) → Shared ctx s m → HasFors ctx m.frame m.store a.fors
+      → Ahead ctx k Quiet m.place m.stack c a → P k → Follows (record s { items = k; phase = Going }) (running m s.world) steps c
+
+  landed : (steps : ℕ) (P : List Item → Type 0) → Claim steps P → (p : Phase) (s : Source) (run : Run) (c : ℕ) → s.phase ≡ p → Lands ctx p s run c → P s.items
+      → Follows s run steps c
+  landed steps P claim Going s run c e lands has =
+      let same : record s { items = s.items; phase = Going } ≡ s = ap (λ (p : Phase). let t : Source = record s { phase = p } in t) (sym e) in
+      subst (λ (t : Source). Follows t run steps c) same
+      (subst (λ (r : Run). Follows (record s { items = s.items; phase = Going }) r steps c) (sym lands.is)
+      (claim s s.items lands.machine c lands.met.around lands.met.shared lands.met.fors lands.met.ahead has))
+  landed steps P claim Ended s run c e lands has =
+      over_follows s run steps c (ended_agrees Name s run e lands.finish lands.world) (ended_rests modules s e) (run_over run Finished lands.finish (λ f. cc))
+  landed steps P claim (Closing t) s run c e lands has =
+      let closed : Source = record s { phase = Trapped t } in
+      let step : next modules s ≡ closed = ap (λ (p : Phase). by_phase modules p s) e in
+      let f = over_follows closed run steps c (trapped_agrees Name closed run t refl lands.finish lands.world lands.name lands.procedure) (trapped_rests modules closed t refl) (run_over run (TrappedBy t.kind) lands.finish (λ g. cc)) in
+      record {
+        n = suc f.n;
+        agrees = subst (λ (x : Source). Agrees Name (after modules f.n x) (mrun steps run)) (sym step) f.agrees;
+        far = omega (arith, f.far);
+      }
+  landed steps P claim (Trapped t) s run c e lands has = absurd lands
+
+  abbrev At : Source → List Item → Source
+  At s k = record s { items = k; phase = Going }
+
+  module _ (s : Source) (k : List Item) (m : State) (c : ℕ) (g : Goes ctx s k m (c + 32)) where
+    -- fewer steps than those of this step of the source
+    short : (steps : ℕ) → steps < g.steps → Follows (At s k) (running m s.world) steps c
+    short steps less = record {
+      n = 0;
+      agrees = still_agrees Name s k (mrun steps (running m s.world)) (g.quiet steps less);
+      far = omega (arith, g.cost);
+    }
+
+    -- what follows from the next state of the source follows from this one
+    longer : (steps rest : ℕ) → steps ≡ g.steps + rest → Follows (next modules (At s k)) (mrun g.steps (running m s.world)) rest g.later → Follows (At s k) (running m s.world) steps c
+    longer steps rest e f = record {
+      n = suc f.n;
+      agrees = subst (λ (r : Run). Agrees Name (after modules f.n (next modules (At s k))) r) (sym (mrun_add g.steps steps rest (running m s.world) e)) f.agrees;
+      far = omega (arith, f.far, g.cost);
+    }
+
+  -- one step of the source, and the rest by fewer steps or by less that stutters
+  turn : (steps : ℕ) (s : Source) (k : List Item) (m : State) (c : ℕ) (a : Around) → ((rest : ℕ) → rest < steps → Claim rest (λ i. Unit {0})) → Claim steps (λ i. stutter i < stutter k)
+      → Shared ctx s m → HasFors ctx m.frame m.store a.fors → Ahead ctx k Quiet m.place m.stack c a
+      → Follows (At s k) (running m s.world) steps c
+  turn steps s k m c a fewer lighter shared fors ahead =
+      ⊎_elim (λ less. short s k m c g steps less) (λ more. ⊎_elim (λ some. by_step more some) (λ none. by_stutter more none) (cases_lt 0 g.steps)) (cases_lt steps g.steps)
+    where
+      g : Goes ctx s k m (c + 32)
+      g = each_step ctx s m c a shared fors k ahead
+
+      by_step : g.steps ≤ steps → 0 < g.steps → Follows (At s k) (running m s.world) steps c
+      by_step more some =
+          longer s k m c g steps (steps - g.steps) (omega arith)
+          (landed (steps - g.steps) (λ i. Unit {0}) (fewer (steps - g.steps) (omega arith)) (next modules (At s k)).phase (next modules (At s k)) (mrun g.steps (running m s.world)) g.later refl g.lands tt)
+
+      by_stutter : g.steps ≤ steps → g.steps ≤ 0 → Follows (At s k) (running m s.world) steps c
+      by_stutter more none =
+          longer s k m c g steps steps (omega arith)
+          (landed steps (λ i. stutter i < stutter k) lighter (next modules (At s k)).phase (next modules (At s k)) (mrun g.steps (running m s.world)) g.later refl g.lands (g.falls (omega arith)))
+
+  -- by the number of steps, and for each by how long the items can stutter
+  inner : (bound : ℕ) → ((steps : ℕ) → steps ≤ bound → Claim steps (λ i. Unit {0})) → (most : ℕ) (steps : ℕ) → steps ≤ suc bound → Claim steps (λ i. stutter i < most)
+  inner bound outer zero steps le s k m c a shared fors ahead has = absurd (omega arith)
+  inner bound outer (suc most) steps le s k m c a shared fors ahead has =
+      turn steps s k m c a (λ rest less. outer rest (omega arith))
+      (λ s' k' m' c' a' shared' fors' ahead' has'. inner bound outer most steps le s' k' m' c' a' shared' fors' ahead' (omega arith)) shared fors ahead
+
+  outer : (bound : ℕ) (steps : ℕ) → steps ≤ bound → Claim steps (λ i. Unit {0})
+  outer zero steps le s k m c a shared fors ahead has =
+      let e : 0 ≡ steps = omega arith in
+      subst (λ (n : ℕ). Follows (At s k) (running m s.world) n c) e
+      (record { n = 0; agrees = still_agrees Name s k (running m s.world) (record { world = refl; finish = refl }); far = omega arith })
+  outer (suc bound) steps le s k m c a shared fors ahead has = inner bound (outer bound) (suc (stutter k)) steps le s k m c a shared fors ahead (omega arith)
+
+  -- from a matched state the machine shows what the source means
+  pub follows : (s : Source) (k : List Item) (m : State) (steps c : ℕ) (a : Around) → Shared ctx s m → HasFors ctx m.frame m.store a.fors
+      → Ahead ctx k Quiet m.place m.stack c a → Follows (At s k) (running m s.world) steps c
+  follows s k m steps c a shared fors ahead = outer steps steps (omega arith) s k m c a shared fors ahead tt

@@ -1,0 +1,2 @@
+//! The laws of all rows, and of whole runs.
+#![tactic(auto)]

@@ -1,0 +1,330 @@
+-- The rows of expressions: from a matched state the machine comes to a matched state.
+use Rattle.std.proofs.Common.{◌≡◌, ◌≢◌, ℕ, ◌+◌, ◌<◌, ◌≤◌, Bool, true, false, cond, Result, Ok, Err, List, [], ◌∷◌, length, get_or, refl, sym, ap, ◌∙◌, subst, arith}
+use Rattle.std.specs.Prelude.{slice_get}
+use Rattle.std.proofs.lemmas.Bool.{lt-ltb}
+use Rattle.lil_base.specs.Words.{Cardinal}
+use Rattle.lil_base.specs.declared.fault.TrapKind.{TrapKind}
+use Rattle.lil_base.specs.declared.operator.OneOp.{OneOp}
+use Rattle.lil_base.specs.declared.operator.OneOp.TheVariants as one
+use Rattle.lil_base.specs.declared.operator.TwoOp.{TwoOp}
+use Rattle.lil_resolved.specs.Kinds.{Kind, OfWhole, OfTruth, OfCharacter, base_of}
+use Rattle.lil_resolved.specs.Scalars.{Scalar, Truth, within, scalar_word}
+use Rattle.lil_resolved.specs.Resolved.{Variable, Function, Abs, Chr, Expression, Constant, Taken, One, Two, Short, Apply, is_relation, result_kind}
+use Rattle.lil_meaning.specs.Cells.{Global, Place, got}
+use Rattle.lil_meaning.specs.Items.{Scalars, Places, Get, OneOf, LeftOf, RightOf, ShortOf, ApplyTo, Item, Value, Evaluate, PlaceOf, Fill, Going, Source}
+use Rattle.lil_meaning.specs.Steps.{next, answered, with_items, applied, one_applied, function_value, current, owner_of}
+use Rattle.lil_asm.specs.declared.instr.Instr.{Instr}
+use Rattle.lil_asm.specs.declared.instr.Instr.TheVariants.{Liw, Lgw, Rgc}
+use Rattle.lil_mcode.specs.declared.machine.Event.{Event}
+use Rattle.lil_mcode.specs.declared.machine.Event.TheVariants.{Went}
+use Rattle.lil_mcode.specs.State.{State}
+use Rattle.lil_mcode.specs.Table.{mstep, act, going, jump, push_row, on_one, and_row, or_row}
+use Rattle.lil_table.specs.Rows.{InstrsAt, one_code, two_code, short_code}
+use Rattle.lil_match.specs.Running.{running, react}
+use Rattle.lil_match.specs.Homes.{word_for, plain_word, yes}
+use Rattle.lil_match.specs.Goes.{HasFors, Shared, Goes, Lands}
+use Rattle.lil_match.specs.Waits.{Setting, Mode, Quiet, ValueOf, Direct, Around, Reach, AfterJumps, Rows, IsVariable, Waiting}
+use Rattle.lil_match.specs.Steps.{advances, pushes, at_step, at_once, shared_there, lands_on, goes_none, goes_one, goes_after, operand_goes}
+use Rattle.lil_match.specs.Orders.{instr_within, instrs_order, instrs_within, expression_stands, expression_within}
+use Rattle.lil_match.specs.Closing.{closed, both_trap}
+use Rattle.lil_laws_expr.specs.Operators.{answer_row, Gives, Fits, one_gives, one_fits, two_gives, two_length, two_fits, chr_gives, chr_value_fits}
+
+module _ (ctx : Setting) where
+  open ctx use {modules, layout as l, table, own, number, home as h}
+
+  module _ (s : Source) (k : List Item) (m : State) (c : ℕ) (a : Around) (shared : Shared ctx s m) (fors : HasFors ctx m.frame m.store a.fors) where
+    abbrev Rest : Reach
+    Rest = Rows ctx k
+
+    abbrev Now : List Item → Source
+    Now items = record s { items = items; phase = Going }
+
+    -- a row to which no jump leads
+    once : {row : Reach} {t : Mode} {p : ℕ} {stack : List ℕ} → row t p stack c a → AfterJumps ctx row t p stack c a
+    once {row} {t} {p} {stack} r = at_once ctx row t p stack c a r
+
+    widened : (items : List Item) (n : State) (budget more : ℕ) → Goes ctx s items n budget → budget ≤ more → Goes ctx s items n more
+    widened items n budget more g less = record { steps = g.steps; later = g.later; quiet = g.quiet; lands = g.lands; cost = omega (arith, g.cost, less); falls = g.falls }
+
+    -- the value that instructions give, or their trap
+    answer_lands : (items : List Item) → current items ≡ 0 → (r : Result Scalar TrapKind) (kind : Kind) → Fits kind r → (p : ℕ) (stack : List ℕ) (end : ℕ) (below : List ℕ) → Rest (ValueOf kind) end below c a
+        → Lands ctx (answered modules r k (Now items)).phase (answered modules r k (Now items))
+        (react (answer_row (going m p stack) end below r).0 (answer_row (going m p stack) end below r).1 (running (going m p stack) s.world)) c
+    answer_lands items close (Ok v) kind fits p stack end below rest =
+        lands_on ctx s m shared (Value (Scalars v) ∷ k) end (scalar_word v ∷ below) c a fors
+        (once (record { part = record { kind = kind; fits = fits; below = below; is = ap (λ (w : ℕ). w ∷ below) (sym (plain_word h kind v fits)) }; then = rest }))
+    answer_lands items close (Err t) kind fits p stack end below rest =
+        let there = both_trap ctx s items m t shared close in
+        record { finish = refl; world = refl; name = there.name; procedure = refl }
+
+    -- instructions that give a value, as the source does
+    instrs_go : (items : List Item) → current items ≡ 0 → (r : Result Scalar TrapKind) → next modules (Now items) ≡ answered modules r k (Now items) → (kind : Kind) → Fits kind r
+        → (end : ℕ) (below : List ℕ) → Rest (ValueOf kind) end below c a → (is : List Instr) (p : ℕ) (stack : List ℕ) → InstrsAt own.code is p end → Gives own is (going m p stack) below r
+        → Goes ctx s items (going m p stack) (c + length is)
+    instrs_go items close r becomes kind fits end below rest [] p stack here gives = absurd gives
+    instrs_go items close r becomes kind fits end below rest (i ∷ []) p stack here gives =
+        goes_one ctx s items (going m p stack) (c + 1) c _
+        (advances (going m p stack) s.world _ (
+        at_step ctx (going m p stack) (shared_there ctx s m shared items p stack).program i here.0 here.1
+        ∙ gives here.0
+        ))
+        (subst (λ (x : Source). Lands ctx x.phase x (react (answer_row (going m p stack) here.0 below r).0 (answer_row (going m p stack) here.0 below r).1 (running (going m p stack) s.world)) c) (sym becomes)
+        (answer_lands items close r kind fits p stack here.0 below (subst (λ (q : ℕ). Rest (ValueOf kind) q below c a) (sym here.2) rest)))
+        (omega arith)
+    instrs_go items close r becomes kind fits end below rest (i ∷ j ∷ is) p stack here gives =
+        goes_after ctx s items (going m p stack) (going m here.0 gives.0) (c + length (i ∷ j ∷ is)) (c + length (j ∷ is))
+        (advances (going m p stack) s.world _ (
+        at_step ctx (going m p stack) (shared_there ctx s m shared items p stack).program i here.0 here.1
+        ∙ gives.1 here.0
+        ))
+        (instrs_go items close r becomes kind fits end below rest (j ∷ is) here.0 gives.0 here.2 (gives.2 here.0))
+        (omega arith)
+
+    pub constant_goes : (kind : Kind) (v : Scalar) → Waiting ctx (Evaluate (Constant kind v)) Rest Quiet m.place m.stack c a → Goes ctx s (Evaluate (Constant kind v) ∷ k) m (c + 32)
+    constant_goes kind v row =
+        goes_one ctx s (Evaluate (Constant kind v) ∷ k) m (c + 32) c (running (going m row.part.end (scalar_word v ∷ m.stack)) s.world)
+        (advances m s.world _ (at_step ctx m shared.program (Liw (scalar_word v)) row.part.end row.part.here.load ∙ pushes (scalar_word v) row.part.end m (omega (arith, row.part.shallow))))
+        (lands_on ctx s m shared (Value (Scalars v) ∷ k) row.part.end (scalar_word v ∷ m.stack) c a fors
+        (once (record { part = record { kind = kind; fits = row.part.here.fits; below = m.stack; is = ap (λ (w : ℕ). w ∷ m.stack) (sym (plain_word h kind v row.part.here.fits)) }; then = row.then })))
+        (omega arith)
+
+    pub taken_goes : (x : ℕ) (kind : Kind) → Waiting ctx (Evaluate (Taken (Variable x kind))) Rest Quiet m.place m.stack c a → Goes ctx s (Evaluate (Taken (Variable x kind)) ∷ k) m (c + 32)
+    taken_goes x kind row =
+        goes_none ctx s (Evaluate (Taken (Variable x kind)) ∷ k) m (c + 32) c
+        (lands_on ctx s m shared (PlaceOf (Variable x kind) ∷ Fill Get ∷ k) m.place m.stack c a fors
+        (once (record {
+          part = record {
+            offset = row.part.here.offset;
+            known = row.part.here.known;
+            typed = row.part.here.typed;
+          };
+          then = once (record { part = record { end = row.part.end; load = row.part.here.load; shallow = row.part.shallow }; then = row.then });
+        })))
+        (omega arith)
+        (omega arith)
+
+    pub one_goes : (o : OneOp) (j : Kind) (e : Expression) → Waiting ctx (Evaluate (One o j e)) Rest Quiet m.place m.stack c a → Goes ctx s (Evaluate (One o j e) ∷ k) m (c + 32)
+    one_goes o j e row =
+        let first = expression_stands l own.code e m.place row.part.here.middle row.part.here.first in
+        let by = instrs_order own.code (one_code o j) row.part.here.middle row.part.end row.part.here.by first.1 in
+        operand_goes ctx s k m c a shared fors (Evaluate (One o j e) ∷ k) e (OneOf o j) refl (omega arith) row.part.here.middle row.part.here.first row.part.shallow (omega (arith, by.0, row.part.within))
+        (record { part = record { same = row.part.here.typed; takes = row.part.here.takes; end = row.part.end; by = row.part.here.by }; then = row.then })
+
+    pub two_goes : (o : TwoOp) (j : Kind) (e f : Expression) → Waiting ctx (Evaluate (Two o j e f)) Rest Quiet m.place m.stack c a → Goes ctx s (Evaluate (Two o j e f) ∷ k) m (c + 32)
+    two_goes o j e f row =
+        operand_goes ctx s k m c a shared fors (Evaluate (Two o j e f) ∷ k) e (LeftOf o j f) refl (omega arith) row.part.here.middle row.part.here.first (omega (arith, row.part.shallow))
+        (expression_within l own.code f row.part.here.middle row.part.here.last row.part.here.second)
+        (record {
+          part = record {
+            same = row.part.here.left_typed;
+            takes = row.part.here.takes;
+            typed = row.part.here.right_typed;
+            middle = row.part.here.last;
+            end = row.part.end;
+            here = row.part.here.second;
+            shallow = omega (arith, row.part.shallow);
+            by = row.part.here.by;
+          };
+          then = row.then;
+        })
+
+    pub short_begins : (d : Bool) (e f : Expression) → Waiting ctx (Evaluate (Short d e f)) Rest Quiet m.place m.stack c a → Goes ctx s (Evaluate (Short d e f) ∷ k) m (c + 32)
+    short_begins d e f row =
+        operand_goes ctx s k m c a shared fors (Evaluate (Short d e f) ∷ k) e (ShortOf d f) refl (omega arith) row.part.here.middle row.part.here.first (omega (arith, row.part.shallow))
+        (instr_within own.code row.part.here.middle (short_code d row.part.end) row.part.here.start row.part.here.test)
+        (record {
+          part = record {
+            same = row.part.here.left_typed;
+            typed = row.part.here.right_typed;
+            start = row.part.here.start;
+            end = row.part.end;
+            by = row.part.here.test;
+            here = row.part.here.second;
+            shallow = omega (arith, row.part.shallow);
+            within = row.part.within;
+          };
+          then = row.then;
+        })
+
+    pub apply_goes : (f : Function) (e : Expression) → Waiting ctx (Evaluate (Apply f e)) Rest Quiet m.place m.stack c a → Goes ctx s (Evaluate (Apply f e) ∷ k) m (c + 32)
+    apply_goes Chr e row =
+        operand_goes ctx s k m c a shared fors (Evaluate (Apply Chr e) ∷ k) e (ApplyTo Chr) refl (omega arith) row.part.here.middle row.part.here.first row.part.shallow
+        (instr_within own.code row.part.here.middle (Rgc 0 255) row.part.end row.part.here.test)
+        (record { part = record { same = row.part.here.typed; end = row.part.end; test = row.part.here.test }; then = row.then })
+    apply_goes (Abs t) e row = absurd row.part.here
+    apply_goes _ e row = absurd row.part.here
+
+    pub place_goes : (x : ℕ) (kind : Kind) → Waiting ctx (PlaceOf (Variable x kind)) Rest Quiet m.place m.stack c a → Goes ctx s (PlaceOf (Variable x kind) ∷ k) m (c + 32)
+    place_goes x kind row =
+        let now : Place = record { root = Global (owner_of (slice_get s.activations (current k))) x; path = [] } in
+        let here : owner_of (slice_get s.activations (current k)) ≡ number = ap (λ (n : ℕ). owner_of (slice_get s.activations n)) (closed ctx k _ _ _ _ _ row.then) ∙ shared.owner in
+        let known : IsVariable ctx now row.part.offset kind =
+        subst (λ (n : ℕ). let place : Place = record { root = Global n x; path = [] } in IsVariable ctx place row.part.offset kind) (sym here)
+        (shared.laid.variables x row.part.offset kind row.part.known row.part.typed) in
+        goes_none ctx s (PlaceOf (Variable x kind) ∷ k) m (c + 32) c
+        (lands_on ctx s m shared (Value (Places now) ∷ k) m.place m.stack c a fors
+        (once (record { part = record { kind = kind; offset = row.part.offset; variable = known }; then = row.then })))
+        (omega arith)
+        (omega arith)
+
+    pub get_goes : (place : Place) (kind : Kind) (offset : ℕ) → IsVariable ctx place offset kind → Waiting ctx (Fill Get) Rest (Direct offset kind) m.place m.stack c a
+        → Goes ctx s (Value (Places place) ∷ Fill Get ∷ k) m (c + 32)
+    get_goes place kind offset variable row =
+        let value : Scalar = got s.cells place in
+        let cell : value ≡ s.cells place.root [] = ap (s.cells place.root) variable.path in
+        let word = shared.mem.holds place.root kind variable.living in
+        let inside : own.base + offset < 65536 = omega (arith, shared.mem.inside place.root kind variable.living, variable.at) in
+        let address : own.base + offset ≡ h.base place.root = omega (arith, variable.at) in
+        let loaded : get_or m.store (own.base + offset) 0 ≡ word_for h value =
+        ap (λ (n : ℕ). get_or m.store n 0) address ∙ word.word ∙ ap (word_for h) (sym cell) in
+        goes_one ctx s (Value (Places place) ∷ Fill Get ∷ k) m (c + 32) c (running (going m row.part.end (word_for h value ∷ m.stack)) s.world)
+        (advances m s.world _ (
+        at_step ctx m shared.program (Lgw offset) row.part.end row.part.load
+        ∙ yes _ _ _ (lt-ltb (own.base + offset) 65536 inside)
+        ∙ ap (λ (w : ℕ). push_row w row.part.end m) loaded
+        ∙ pushes (word_for h value) row.part.end m (omega (arith, row.part.shallow))
+        ))
+        (lands_on ctx s m shared (Value (Scalars value) ∷ k) row.part.end (word_for h value ∷ m.stack) c a fors
+        (once (record {
+          part = record {
+            kind = base_of kind;
+            fits = ap (within (base_of kind)) cell ∙ word.fits;
+            below = m.stack;
+            is = refl;
+          };
+          then = row.then;
+        })))
+        (omega arith)
+
+    pub left_goes : (o : TwoOp) (j : Kind) (f : Expression) (v : Scalar) (kind : Kind) → within kind v ≡ true → (below : List ℕ) → m.stack ≡ word_for h v ∷ below → Waiting ctx (Fill (LeftOf o j f)) Rest (ValueOf kind) m.place below c a
+        → Goes ctx s (Value (Scalars v) ∷ Fill (LeftOf o j f) ∷ k) m (c + 32)
+    left_goes o j f v kind fits below is row =
+        let kinds : kind ≡ j = row.part.same in
+        operand_goes ctx s k m c a shared fors (Value (Scalars v) ∷ Fill (LeftOf o j f) ∷ k) f (RightOf o j v) refl (omega arith) row.part.middle row.part.here (omega (arith, row.part.shallow, ap length is))
+        (instrs_within own.code (two_code o j) row.part.middle row.part.end (two_length o j row.part.takes).0 row.part.by)
+        (record {
+          part = record {
+            same = row.part.typed;
+            takes = row.part.takes;
+            fits = ap (λ (i : Kind). within i v) (sym kinds) ∙ fits;
+            below = below;
+            is = is;
+            end = row.part.end;
+            by = row.part.by;
+          };
+          then = row.then;
+        })
+
+    pub right_goes : (o : TwoOp) (j : Kind) (u v : Scalar) (kind : Kind) → within kind v ≡ true → (below : List ℕ) → m.stack ≡ word_for h v ∷ below → Waiting ctx (Fill (RightOf o j u)) Rest (ValueOf kind) m.place below c a
+        → Goes ctx s (Value (Scalars v) ∷ Fill (RightOf o j u) ∷ k) m (c + 32)
+    right_goes o j u v kind fits below is row =
+        let good : within j v ≡ true = ap (λ (i : Kind). within i v) (sym row.part.same) ∙ fits in
+        let items : List Item = Value (Scalars v) ∷ Fill (RightOf o j u) ∷ k in
+        widened items m (c + length (two_code o j)) (c + 32)
+        (instrs_go items (closed ctx k _ _ _ _ _ row.then) (applied o j u v) refl (result_kind (is_relation o) j) (two_fits o j u v row.part.takes row.part.fits good)
+        row.part.end row.part.below row.then (two_code o j) m.place m.stack row.part.by
+        (two_gives own m row.part.below u v (is ∙ ap (λ (x : List ℕ). word_for h v ∷ x) row.part.is ∙ ap (λ (w : ℕ). w ∷ word_for h u ∷ row.part.below) (plain_word h j v good) ∙ ap (λ (w : ℕ). scalar_word v ∷ w ∷ row.part.below) (plain_word h j u row.part.fits)) o j row.part.takes row.part.fits good))
+        (omega (arith, (two_length o j row.part.takes).1))
+
+    pub chr_goes : (v : Scalar) (kind : Kind) → within kind v ≡ true → (below : List ℕ) → m.stack ≡ word_for h v ∷ below → Waiting ctx (Fill (ApplyTo Chr)) Rest (ValueOf kind) m.place below c a
+        → Goes ctx s (Value (Scalars v) ∷ Fill (ApplyTo Chr) ∷ k) m (c + 32)
+    chr_goes v kind fits below is row =
+        let kinds : kind ≡ OfWhole Cardinal = row.part.same in
+        let items : List Item = Value (Scalars v) ∷ Fill (ApplyTo Chr) ∷ k in
+        widened items m (c + 1) (c + 32)
+        (instrs_go items (closed ctx k _ _ _ _ _ row.then) (function_value Chr v) refl OfCharacter (chr_value_fits v)
+        row.part.end below row.then (Rgc 0 255 ∷ []) m.place m.stack (row.part.end, row.part.test, refl)
+        (chr_gives own m below v (is ∙ ap (λ (w : ℕ). w ∷ below) (plain_word h kind v fits)) (ap (λ (i : Kind). within i v) (sym kinds) ∙ fits)))
+        (omega arith)
+
+    -- the code of an operator on one value that has some
+    coded_goes : (o : OneOp) (j : Kind) → o ≢ one.Plus → length (one_code o j) ≤ 32 → (v : Scalar) (kind : Kind) → within kind v ≡ true → (below : List ℕ) → m.stack ≡ word_for h v ∷ below
+        → Waiting ctx (Fill (OneOf o j)) Rest (ValueOf kind) m.place below c a → Goes ctx s (Value (Scalars v) ∷ Fill (OneOf o j) ∷ k) m (c + 32)
+    coded_goes o j some short v kind fits below is row =
+        let kinds : kind ≡ j = row.part.same in
+        let good : within j v ≡ true = ap (λ (i : Kind). within i v) (sym kinds) ∙ fits in
+        let items : List Item = Value (Scalars v) ∷ Fill (OneOf o j) ∷ k in
+        widened items m (c + length (one_code o j)) (c + 32)
+        (instrs_go items (closed ctx k _ _ _ _ _ row.then) (one_applied o j v) refl j (one_fits o j v row.part.takes good)
+        row.part.end below row.then (one_code o j) m.place m.stack row.part.by
+        (one_gives own m below v (is ∙ ap (λ (w : ℕ). w ∷ below) (plain_word h kind v fits)) o j row.part.takes some good))
+        (omega (arith, short))
+
+    pub one_of_goes : (o : OneOp) (j : Kind) (v : Scalar) (kind : Kind) → within kind v ≡ true → (below : List ℕ) → m.stack ≡ word_for h v ∷ below → Waiting ctx (Fill (OneOf o j)) Rest (ValueOf kind) m.place below c a
+        → Goes ctx s (Value (Scalars v) ∷ Fill (OneOf o j) ∷ k) m (c + 32)
+    one_of_goes one.Plus j v kind fits below is row =
+        let kinds : kind ≡ j = row.part.same in
+        goes_none ctx s (Value (Scalars v) ∷ Fill (OneOf one.Plus j) ∷ k) m (c + 32) c
+        (lands_on ctx s m shared (Value (Scalars v) ∷ k) m.place m.stack c a fors
+        (once (record {
+          part = record {
+            kind = j;
+            fits = ap (λ (i : Kind). within i v) (sym kinds) ∙ fits;
+            below = below;
+            is = is;
+          };
+          then = subst (λ (q : ℕ). Rest (ValueOf j) q below c a) (sym row.part.by) row.then;
+        })))
+        (omega arith)
+        (omega arith)
+    one_of_goes one.Minus j v kind fits below is row = coded_goes one.Minus j (λ e. cc) (omega arith) v kind fits below is row
+    one_of_goes one.Not j v kind fits below is row = coded_goes one.Not j (λ e. cc) (omega arith) v kind fits below is row
+
+    -- A short circuit: where the left operand decides, it stays, and a jump leads over the right one; else the right one is to come.
+    short_goes : (d : Bool) (f : Expression) (items : List Item) (v : Scalar) (decides : Bool) → next modules (Now items) ≡ with_items (Now items) (cond decides (Value (Scalars v) ∷ k) (Evaluate f ∷ k))
+        → within OfTruth v ≡ true → (kind : Kind) (below : List ℕ) → m.stack ≡ word_for h v ∷ below → (row : Waiting ctx (Fill (ShortOf d f)) Rest (ValueOf kind) m.place below c a)
+        → mstep m ≡ cond decides (Went, going m row.part.end m.stack) (Went, going m row.part.start below) → Goes ctx s items m (c + 32)
+    short_goes d f items v true becomes fits kind below is row step =
+        goes_one ctx s items m (c + 32) c (running (going m row.part.end m.stack) s.world)
+        (advances m s.world _ step)
+        (subst (λ (x : Source). Lands ctx x.phase x (running (going m row.part.end m.stack) s.world) c) (sym becomes)
+        (lands_on ctx s m shared (Value (Scalars v) ∷ k) row.part.end m.stack c a fors
+        (once (record { part = record { kind = OfTruth; fits = fits; below = below; is = is }; then = row.then }))))
+        (omega arith)
+    short_goes d f items v false becomes fits kind below is row step =
+        goes_one ctx s items m (c + 32) c (running (going m row.part.start below) s.world)
+        (advances m s.world _ step)
+        (subst (λ (x : Source). Lands ctx x.phase x (running (going m row.part.start below) s.world) c) (sym becomes)
+        (lands_on ctx s m shared (Evaluate f ∷ k) row.part.start below c a fors
+        (once (record {
+          part = record {
+            end = row.part.end;
+            here = row.part.here;
+            shallow = row.part.shallow;
+            within = row.part.within;
+          };
+          then = subst (λ (j : Kind). Rest (ValueOf j) row.part.end below c a) (sym row.part.typed) row.then;
+        }))))
+        (omega arith)
+
+    -- the test of a short circuit finds the word of the left operand
+    tests : (d : Bool) (f : Expression) (v : Scalar) (kind : Kind) (below : List ℕ) → m.stack ≡ word_for h v ∷ below → (row : Waiting ctx (Fill (ShortOf d f)) Rest (ValueOf kind) m.place below c a)
+        → (look : ℕ → List ℕ → Event × State) → act (short_code d row.part.end) row.part.start own m ≡ on_one m m.stack look → mstep m ≡ look (word_for h v) below
+    tests d f v kind below is row look does =
+        at_step ctx m shared.program (short_code d row.part.end) row.part.start row.part.by
+        ∙ does
+        ∙ ap (λ (x : List ℕ). on_one m x look) is
+
+    -- the jump stays within the code
+    jumps : (q : ℕ) → q < length own.code → (let r : Event × State = jump own q m m in r) ≡ (Went, going m q m.stack)
+    jumps q inside = yes _ _ _ (lt-ltb q (length own.code) inside)
+
+    short_of_truth : (d : Bool) (f : Expression) (v : Scalar) → within OfTruth v ≡ true → (kind : Kind) (below : List ℕ) → m.stack ≡ word_for h v ∷ below → Waiting ctx (Fill (ShortOf d f)) Rest (ValueOf kind) m.place below c a
+        → Goes ctx s (Value (Scalars v) ∷ Fill (ShortOf d f) ∷ k) m (c + 32)
+    short_of_truth false f (Truth true) fits kind below is row =
+        short_goes false f (Value (Scalars (Truth true)) ∷ Fill (ShortOf false f) ∷ k) (Truth true) false refl fits kind below is row
+        (tests false f (Truth true) kind below is row (and_row own row.part.end row.part.start m) refl)
+    short_of_truth false f (Truth false) fits kind below is row =
+        short_goes false f (Value (Scalars (Truth false)) ∷ Fill (ShortOf false f) ∷ k) (Truth false) true refl fits kind below is row
+        (tests false f (Truth false) kind below is row (and_row own row.part.end row.part.start m) refl ∙ jumps row.part.end row.part.within)
+    short_of_truth true f (Truth true) fits kind below is row =
+        short_goes true f (Value (Scalars (Truth true)) ∷ Fill (ShortOf true f) ∷ k) (Truth true) true refl fits kind below is row
+        (tests true f (Truth true) kind below is row (or_row own row.part.end row.part.start m) refl ∙ jumps row.part.end row.part.within)
+    short_of_truth true f (Truth false) fits kind below is row =
+        short_goes true f (Value (Scalars (Truth false)) ∷ Fill (ShortOf true f) ∷ k) (Truth false) false refl fits kind below is row
+        (tests true f (Truth false) kind below is row (or_row own row.part.end row.part.start m) refl)
+    short_of_truth d f v fits kind below is row = cc
+
+    pub short_of_goes : (d : Bool) (f : Expression) (v : Scalar) (kind : Kind) → within kind v ≡ true → (below : List ℕ) → m.stack ≡ word_for h v ∷ below → Waiting ctx (Fill (ShortOf d f)) Rest (ValueOf kind) m.place below c a
+        → Goes ctx s (Value (Scalars v) ∷ Fill (ShortOf d f) ∷ k) m (c + 32)
+    short_of_goes d f v kind fits below is row = short_of_truth d f v (ap (λ (i : Kind). within i v) (sym row.part.same) ∙ fits) kind below is row

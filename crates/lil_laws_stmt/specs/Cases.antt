@@ -1,0 +1,197 @@
+-- The row of CASE: the table's first entry that has the word is that of the arm with the label.
+use Rattle.std.proofs.Common.{◌≡◌, ℕ, zero, suc, ◌+◌, ◌<◌, ℤ, pos, negsuc, ◌+ℤ◌, ◌-ℤ◌, ◌≤ℤ◌, ◌<ℤ◌, int_lt, Bool, true, false, cond, not, ◌&&◌, ◌||◌, Option, None, Some, List, [], ◌∷◌, length, refl, sym, ap, ◌∙◌, subst, arith}
+use Rattle.std.proofs.lemmas.Int.{ints}
+use Rattle.std.proofs.lemmas.Bool.{lt-ltb, le-leb, lt-leb}
+use Rattle.lil_base.specs.Words.{Whole, Cardinal, Integer, least, greatest, between, in_type, word_of}
+use Rattle.lil_base.specs.declared.fault.TrapKind.TheVariants as trap
+use Rattle.lil_resolved.specs.Kinds.{Kind}
+use Rattle.lil_resolved.specs.Scalars.{Scalar, within, ordinal_of}
+use Rattle.lil_resolved.specs.Resolved.{Expression, Label, Case, Statements, Arms, NoElse, Else, Arm, kind_of}
+use Rattle.lil_resolved.specs.Sound.{is_base}
+use Rattle.lil_meaning.specs.Items.{Scalars, Pick, Do, Item, Value, Fill, Perform, doing, Going, Source}
+use Rattle.lil_meaning.specs.Steps.{current, owner_of, name_of, trap_at, trapped, among, picked}
+use Rattle.lil_meaning.specs.Steps as meaning
+use Rattle.lil_asm.specs.declared.instr.Instr.TheVariants.{Jmp, Cas, Trp}
+use Rattle.lil_mcode.specs.declared.machine.Event.TheVariants.{Trap}
+use Rattle.lil_mcode.specs.Control as machine
+use Rattle.lil_mcode.specs.State.{State}
+use Rattle.lil_mcode.specs.Table.{going, on_one, case_row, chosen_row}
+use Rattle.lil_table.specs.LabelLaws.{ordinal_in, label_in}
+use Rattle.lil_table.specs.Rows.{Layout, IsAt, BodyAt, EntriesAt, ArmsAt, compared_as}
+use Rattle.lil_match.specs.Running.{running, advanced, react}
+use Rattle.lil_match.specs.Homes.{word_for, plain_word, yes}
+use Rattle.lil_match.specs.Goes.{HasFors, Shared, Goes, Lands}
+use Rattle.lil_match.specs.Waits.{Setting, Quiet, ValueOf, Around, Reach, Rows, Waiting}
+use Rattle.lil_match.specs.Orders.{instr_within, body_within}
+use Rattle.lil_match.specs.Closing.{closed, both_trap}
+use Rattle.lil_match.specs.Arithmetic.{word_is}
+use Rattle.lil_match.specs.Steps.{advances, at_step, rows_jump, rows_ahead, shared_there, lands_on, goes_one, goes_after, jumps_to, operand_goes}
+use Rattle.lil_laws_stmt.specs.Control.{body_rows}
+use Rattle.lil_base.specs.Laws.{bounds}
+
+-- how far a word lies above another one
+above_more : (t : Whole) (low z : ℤ) → in_type t low ≡ true → in_type t z ≡ true → low ≤ℤ z → pos (machine.above (word_of low) (word_of z)) ≡ z -ℤ low
+above_more t low z first second order = by t low z (bounds (least t) low (greatest t) first) (bounds (least t) z (greatest t) second) order
+  where
+    by : (t : Whole) (low z : ℤ) → (least t ≤ℤ low) × (low ≤ℤ greatest t) → (least t ≤ℤ z) × (z ≤ℤ greatest t) → low ≤ℤ z → pos (machine.above (word_of low) (word_of z)) ≡ z -ℤ low
+    by Cardinal (pos a) (pos b) l u order = omega (arith, ints)
+    by Cardinal (negsuc a) z l u order = absurd (omega (arith, ints))
+    by Cardinal (pos a) (negsuc b) l u order = absurd (omega (arith, ints))
+    by Integer (pos a) (pos b) l u order = omega (arith, ints)
+    by Integer (pos a) (negsuc b) l u order = absurd (omega (arith, ints))
+    by Integer (negsuc a) (pos b) l u order = omega (arith, ints)
+    by Integer (negsuc a) (negsuc b) l u order = omega (arith, ints)
+
+above_less : (t : Whole) (low z : ℤ) → in_type t low ≡ true → in_type t z ≡ true → z <ℤ low → pos (machine.above (word_of low) (word_of z)) +ℤ low ≡ z +ℤ pos 65536
+above_less t low z first second order = by t low z (bounds (least t) low (greatest t) first) (bounds (least t) z (greatest t) second) order
+  where
+    by : (t : Whole) (low z : ℤ) → (least t ≤ℤ low) × (low ≤ℤ greatest t) → (least t ≤ℤ z) × (z ≤ℤ greatest t) → z <ℤ low → pos (machine.above (word_of low) (word_of z)) +ℤ low ≡ z +ℤ pos 65536
+    by Cardinal (pos a) (pos b) l u order = omega (arith, ints)
+    by Cardinal (negsuc a) z l u order = absurd (omega (arith, ints))
+    by Cardinal (pos a) (negsuc b) l u order = absurd (omega (arith, ints))
+    by Integer (pos a) (pos b) l u order = omega (arith, ints)
+    by Integer (pos a) (negsuc b) l u order = omega (arith, ints)
+    by Integer (negsuc a) (pos b) l u order = absurd (omega (arith, ints))
+    by Integer (negsuc a) (negsuc b) l u order = omega (arith, ints)
+
+-- the machine's test of a range is the meaning's
+test_is : (t : Whole) (low high z : ℤ) → in_type t low ≡ true → in_type t high ≡ true → in_type t z ≡ true → low ≤ℤ high
+    → machine.is_in (word_of low) (word_of high) (word_of z) ≡ between low z high
+test_is t low high z first second third order = by (int_lt z low) (int_lt high z) refl refl
+  where
+    width : pos (machine.above (word_of low) (word_of high)) ≡ high -ℤ low
+    width = above_more t low high first second order
+
+    by : (a b : Bool) → int_lt z low ≡ a → int_lt high z ≡ b → machine.is_in (word_of low) (word_of high) (word_of z) ≡ (not a && not b)
+    by true b e f =
+        let d = above_less t low z first third (omega (arith, ints)) in
+        let u = bounds (least t) high (greatest t) second in
+        let v = bounds (least t) z (greatest t) third in
+        lt-leb _ _ (beyond t u.1 v.0 d)
+      where
+        beyond : (t : Whole) → high ≤ℤ greatest t → least t ≤ℤ z → pos (machine.above (word_of low) (word_of z)) +ℤ low ≡ z +ℤ pos 65536 → machine.above (word_of low) (word_of high) < machine.above (word_of low) (word_of z)
+        beyond Cardinal u v d = omega (arith, ints, width)
+        beyond Integer u v d = omega (arith, ints, width)
+    by false true e f = let d = above_more t low z first third (omega (arith, ints)) in lt-leb _ _ (omega (arith, ints, width))
+    by false false e f = let d = above_more t low z first third (omega (arith, ints)) in le-leb _ _ (omega (arith, ints, width))
+
+module _ (code : List ℕ) (k : Kind) (base : is_base k ≡ true) (z : ℤ) (inside : in_type (compared_as k) z ≡ true) (other to : ℕ) (rest : ℕ → ℕ → Type 0) where
+  -- an entry of the arm has the word, or the search goes on behind its entries
+  abbrev Searched : Bool → Option ℕ → Type 0
+  Searched true target = target ≡ Some to
+  Searched false target = (t : ℕ) × (w : ℕ) × rest t w × (target ≡ machine.chosen code w t (word_of z) other)
+
+  labels_found : (labels : List Label) (t w : ℕ) → EntriesAt code k labels to rest t w → Searched (among labels z) (machine.chosen code w t (word_of z) other)
+  labels_found [] t w h = (t, w, h, refl)
+  labels_found (label ∷ labels) t zero h = absurd h
+  labels_found (label ∷ labels) t (suc w) h = by_test (labels_found labels (t + 6) w h.1) (machine.is_in (word_of label.low) (word_of label.high) (word_of z)) refl
+    where
+      is : machine.is_in (word_of label.low) (word_of label.high) (word_of z) ≡ between label.low z label.high
+      is =
+          let ends = label_in k label base h.0.sound in
+          test_is (compared_as k) label.low label.high z ends.0 ends.1 inside h.0.sound.order
+
+      by_test : Searched (among labels z) (machine.chosen code w (t + 6) (word_of z) other) → (b : Bool) → machine.is_in (word_of label.low) (word_of label.high) (word_of z) ≡ b
+          → Searched (between label.low z label.high || among labels z) (machine.chosen code (suc w) t (word_of z) other)
+      by_test after true e =
+          let target : machine.chosen code (suc w) t (word_of z) other ≡ Some to = rw (h.0.low, h.0.high, h.0.target, e) refl in
+          subst (λ (b : Bool). Searched (b || among labels z) (machine.chosen code (suc w) t (word_of z) other)) (sym e ∙ is) target
+      by_test after false e =
+          let target : machine.chosen code (suc w) t (word_of z) other ≡ machine.chosen code w (t + 6) (word_of z) other = rw (h.0.low, h.0.high, h.0.target, e) refl in
+          subst (λ (b : Bool). Searched (b || among labels z) (machine.chosen code (suc w) t (word_of z) other)) (sym e ∙ is)
+          (subst (λ (o : Option ℕ). Searched (among labels z) o) (sym target) after)
+
+module _ (l : Layout) (code : List ℕ) (n : ℕ) (around : Option ℕ) (k : Kind) (base : is_base k ≡ true) (exit other table : ℕ) (z : ℤ) (inside : in_type (compared_as k) z ≡ true) where
+  -- the table leads to the arm that is done, which ends with a jump to the exit, or to the trap
+  abbrev Reached : Option Statements → Option ℕ → Type 0
+  Reached (Some body) target = (start : ℕ) × (end : ℕ) × (gap : ℕ) × (target ≡ Some start) × BodyAt l code n around body start end × IsAt code end (Jmp exit) gap
+  Reached None target = (start : ℕ) × (gap : ℕ) × (target ≡ Some start) × IsAt code start (Trp 7) gap
+
+  arms_found : (arms : Arms) (p t w : ℕ) → ArmsAt l code n around k arms exit other table p t w → Reached (meaning.chosen arms z) (machine.chosen code w t (word_of z) other)
+  arms_found NoElse p t w h = (p, table, ap (λ (v : ℕ). machine.chosen code v t (word_of z) other) h.none ∙ ap Some h.is, h.trap)
+  arms_found (Else body) p t w h = (p, h.end, table, ap (λ (v : ℕ). machine.chosen code v t (word_of z) other) h.none ∙ ap Some h.is, h.here, h.leave)
+  arms_found (Arm labels body rest) p t w h =
+      by_label (λ t w r. arms_found rest h.gap t w r) (among labels z)
+      (labels_found code k base z inside other p (ArmsAt l code n around k rest exit other table h.gap) labels t w h.entries)
+    where
+      by_label : ((t w : ℕ) → ArmsAt l code n around k rest exit other table h.gap t w → Reached (meaning.chosen rest z) (machine.chosen code w t (word_of z) other)) → (b : Bool)
+          → Searched code k base z inside other p (ArmsAt l code n around k rest exit other table h.gap) b (machine.chosen code w t (word_of z) other)
+          → Reached (cond b (Some body) (meaning.chosen rest z)) (machine.chosen code w t (word_of z) other)
+      by_label after true r = (p, h.end, h.gap, r, h.here, h.leave)
+      by_label after false r = subst (λ (o : Option ℕ). Reached (meaning.chosen rest z) o) (sym r.3) (after r.0 r.1 r.2)
+
+module _ (ctx : Setting) where
+  open ctx use {modules, layout as l, table, own, number, home as h}
+
+  module _ (s : Source) (k : List Item) (m : State) (c : ℕ) (a : Around) (shared : Shared ctx s m) (fors : HasFors ctx m.frame m.store a.fors) where
+    abbrev Rest : Reach
+    Rest = Rows ctx k
+
+    pub case_goes : (e : Expression) (arms : Arms) → Waiting ctx (Perform (Do (Case e arms))) Rest Quiet m.place m.stack c a → Goes ctx s (Perform (Do (Case e arms)) ∷ k) m (c + 32)
+    case_goes e arms row =
+        operand_goes ctx s k m c a shared fors (Perform (Do (Case e arms)) ∷ k) e (Pick arms) refl (omega arith) row.part.here.middle row.part.here.value.value (omega (arith, row.part.here.value.shallow, ap length row.part.empty))
+        (instr_within own.code row.part.here.middle (Jmp row.part.here.choices) row.part.here.exit row.part.here.dispatch)
+        (record { part = record { of = e; same = refl; from = m.place; did = row.part; at = refl }; then = row.then })
+
+    pub pick_goes : (arms : Arms) (v : Scalar) (kind : Kind) → within kind v ≡ true → (below : List ℕ) → m.stack ≡ word_for h v ∷ below
+        → Waiting ctx (Fill (Pick arms)) Rest (ValueOf kind) m.place below c a → Goes ctx s (Value (Scalars v) ∷ Fill (Pick arms) ∷ k) m (c + 32)
+    pick_goes arms v kind fit below is row =
+        by_choice (meaning.chosen arms (ordinal_of v)) refl
+        (arms_found l own.code (length a.fors) a.exit (kind_of row.part.of) row.part.did.here.base row.part.did.here.exit row.part.did.here.other row.part.did.here.choices (ordinal_of v) inside arms row.part.did.here.start row.part.did.here.entries row.part.did.here.count row.part.did.here.bodies)
+      where
+        items : List Item
+        items = Value (Scalars v) ∷ Fill (Pick arms) ∷ k
+
+        inside : in_type (compared_as (kind_of row.part.of)) (ordinal_of v) ≡ true
+        inside = ordinal_in (kind_of row.part.of) v row.part.did.here.base (ap (λ (j : Kind). within j v) (sym row.part.same) ∙ fit)
+
+        stack : m.stack ≡ word_of (ordinal_of v) ∷ []
+        stack = is ∙ ap (λ (st : List ℕ). word_for h v ∷ st) row.part.did.empty ∙ ap (λ (w : ℕ). w ∷ []) (plain_word h kind v fit ∙ word_is v)
+
+        choosing : State
+        choosing = going m row.part.did.here.choices m.stack
+
+        dispatched : advanced (running m s.world) ≡ running (going m row.part.did.here.choices m.stack) s.world
+        dispatched = jumps_to ctx m s.world shared.program row.part.did.here.choices row.part.did.here.exit (subst (λ (p : ℕ). IsAt own.code p (Jmp row.part.did.here.choices) row.part.did.here.exit) (sym row.part.at) row.part.did.here.dispatch) (instr_within own.code row.part.did.here.choices (Cas row.part.did.here.count row.part.did.here.other) row.part.did.here.entries row.part.did.here.choice)
+
+        chooses : (to : ℕ) → machine.chosen own.code row.part.did.here.count row.part.did.here.entries (word_of (ordinal_of v)) row.part.did.here.other ≡ Some to → to < length own.code
+            → advanced (running (going m row.part.did.here.choices m.stack) s.world) ≡ running (going m to []) s.world
+        chooses to target inside =
+            advances choosing s.world _ (
+            at_step ctx choosing (shared_there ctx s m shared items row.part.did.here.choices m.stack).program (Cas row.part.did.here.count row.part.did.here.other) row.part.did.here.entries row.part.did.here.choice
+            ∙ ap (λ (st : List ℕ). on_one choosing st (case_row own row.part.did.here.count row.part.did.here.other row.part.did.here.entries choosing)) stack
+            ∙ ap (chosen_row own choosing []) target
+            ∙ yes _ _ _ (lt-ltb to (length own.code) inside)
+            )
+
+        by_choice : (b : Option Statements) → meaning.chosen arms (ordinal_of v) ≡ b
+            → Reached l own.code (length a.fors) a.exit (kind_of row.part.of) row.part.did.here.base row.part.did.here.exit row.part.did.here.other row.part.did.here.choices (ordinal_of v) inside b (machine.chosen own.code row.part.did.here.count row.part.did.here.entries (word_of (ordinal_of v)) row.part.did.here.other)
+            → Goes ctx s (Value (Scalars v) ∷ Fill (Pick arms) ∷ k) m (c + 32)
+        by_choice (Some body) e (start, end, gap, target, here, leave) =
+            let ends : end < length own.code = instr_within own.code end (Jmp row.part.did.here.exit) gap leave in
+            let out : Source = record s { items = items; phase = Going } in
+            goes_after ctx s items m choosing (c + 32) (c + 31) dispatched
+            (goes_one ctx s items choosing (c + 31) (suc (suc c)) (running (going m start []) s.world)
+            (chooses start target (body_within l own.code (length a.fors) a.exit body start end here ends))
+            (subst (λ (b : Option Statements). Lands ctx (picked modules b k out).phase (picked modules b k out) (running (going m start []) s.world) (suc (suc c))) (sym e)
+            (lands_on ctx s m shared (doing body k) start [] (suc (suc c)) a fors
+            (rows_ahead ctx (doing body k) start [] (suc (suc c)) a
+            (body_rows ctx body k start end (suc (suc c)) a here ends
+            (rows_jump ctx k Quiet end row.part.did.here.exit gap [] (suc c) a leave (instr_within own.code row.part.did.here.exit (Jmp row.part.did.end) row.part.did.here.start row.part.did.here.leave)
+            (rows_jump ctx k Quiet row.part.did.here.exit row.part.did.end row.part.did.here.start [] c a row.part.did.here.leave row.part.did.within row.then))))))
+            (omega arith))
+            (omega arith)
+        by_choice None e (start, gap, target, trap_there) =
+            let n : State = going m start [] in
+            let out : Source = record s { items = items; phase = Going } in
+            let there = shared_there ctx s m shared items start [] in
+            goes_after ctx s items m choosing (c + 32) (c + 31) dispatched
+            (goes_after ctx s items choosing n (c + 31) (c + 30)
+            (chooses start target (instr_within own.code start (Trp 7) gap trap_there))
+            (goes_one ctx s items n (c + 30) c (react (Trap trap.Case) n (running n s.world))
+            (advances n s.world _ (at_step ctx n there.program (Trp 7) gap trap_there))
+            (subst (λ (b : Option Statements). Lands ctx (picked modules b k out).phase (picked modules b k out) (react (Trap trap.Case) n (running n s.world)) c) (sym e)
+            (both_trap ctx out items n trap.Case there (closed ctx k _ _ _ _ _ row.then)))
+            (omega arith))
+            (omega arith))
+            (omega arith)

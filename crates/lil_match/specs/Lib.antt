@@ -1,0 +1,9 @@
+pub mod Arithmetic
+pub mod Closing
+pub mod Goes
+pub mod Homes
+pub mod Orders
+pub mod Running
+pub mod Steps
+pub mod Stutter
+pub mod Waits

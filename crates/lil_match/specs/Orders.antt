@@ -1,0 +1,82 @@
+-- Where parts stand: behind their start, and within the code.
+use Rattle.std.proofs.Common.{ℕ, ◌<◌, ◌≤◌, List, [], ◌∷◌, length, Option, Some, arith}
+use Rattle.lil_resolved.specs.Resolved.{Variable, Chr, Expression, Constant, Taken, One, Two, Short, Apply, Argument, Statement, Assign, Request, If, Case, While, Repeat, Loop, Exit, For, Statements, Empty, Then}
+use Rattle.lil_asm.specs.declared.instr.Instr.{Instr}
+use Rattle.lil_asm.specs.declared.instr.Instr.TheVariants.{Rgc, Jmp, Svc}
+use Rattle.lil_asm.specs.Decoding.{decoded_stands}
+use Rattle.lil_table.specs.Rows.{Layout, IsAt, InstrsAt, one_code, two_code, ExpressionAt, ArgumentsAt, StatementAt, BodyAt, short_code}
+
+pub instr_order : (code : List ℕ) (p : ℕ) (i : Instr) (q : ℕ) → IsAt code p i q → (p < q) × (q ≤ length code)
+instr_order code p i q h =
+    let s = decoded_stands code p (i, q) h in
+    (s.later, s.within)
+
+pub instrs_order : (code : List ℕ) (is : List Instr) (p q : ℕ) → InstrsAt code is p q → p ≤ length code → (p ≤ q) × (q ≤ length code)
+instrs_order code [] p q h inside = (omega (arith, h), omega (arith, h, inside))
+instrs_order code (i ∷ is) p q h inside =
+    let one = instr_order code p i h.0 h.1 in
+    let more = instrs_order code is h.0 q h.2 one.1 in
+    (omega (arith, one.0, more.0), more.1)
+
+-- an operand, and an instruction that stands behind it
+behind : (code : List ℕ) (p middle : ℕ) (i : Instr) (q : ℕ) → (p < middle) × (middle ≤ length code) → IsAt code middle i q → (p < q) × (q ≤ length code)
+behind code p middle i q first h =
+    let one = instr_order code middle i q h in
+    (omega (arith, first.0, one.0), one.1)
+
+pub expression_stands : (l : Layout) (code : List ℕ) (e : Expression) (p q : ℕ) → ExpressionAt l code e p q → (p < q) × (q ≤ length code)
+expression_stands l code (Constant k v) p q h = instr_order code p _ q h.load
+expression_stands l code (Taken (Variable x k)) p q h = instr_order code p _ q h.load
+expression_stands l code (One o k a) p q h =
+    let first = expression_stands l code a p h.middle h.first in
+    let by = instrs_order code (one_code o k) h.middle q h.by first.1 in
+    (omega (arith, first.0, by.0), by.1)
+expression_stands l code (Two o k a b) p q h =
+    let first = expression_stands l code a p h.middle h.first in
+    let second = expression_stands l code b h.middle h.last h.second in
+    let by = instrs_order code (two_code o k) h.last q h.by second.1 in
+    (omega (arith, first.0, second.0, by.0), by.1)
+expression_stands l code (Short d a b) p q h =
+    let first = behind code p h.middle (short_code d q) h.start (expression_stands l code a p h.middle h.first) h.test in
+    let second = expression_stands l code b h.start q h.second in
+    (omega (arith, first.0, second.0), second.1)
+expression_stands l code (Apply Chr a) p q h = behind code p h.middle (Rgc 0 255) q (expression_stands l code a p h.middle h.first) h.test
+expression_stands l code _ p q h = absurd h
+
+-- the place where an expression begins lies within the code
+pub expression_within : (l : Layout) (code : List ℕ) (e : Expression) (p q : ℕ) → ExpressionAt l code e p q → p < length code
+expression_within l code e p q h =
+    let s = expression_stands l code e p q h in
+    omega (arith, s.0, s.1)
+
+pub instr_within : (code : List ℕ) (p : ℕ) (i : Instr) (q : ℕ) → IsAt code p i q → p < length code
+instr_within code p i q h =
+    let s = instr_order code p i q h in
+    omega (arith, s.0, s.1)
+
+-- so does that where instructions begin, if there are any
+pub instrs_within : (code : List ℕ) (is : List Instr) (p q : ℕ) → 0 < length is → InstrsAt code is p q → p < length code
+instrs_within code [] p q some h = absurd (omega (arith, some))
+instrs_within code (i ∷ is) p q some h = instr_within code p i h.0 h.1
+
+-- and that where arguments begin, where what follows them does
+pub arguments_within : (l : Layout) (code : List ℕ) (n : ℕ) (given : List Argument) (p q : ℕ) → ArgumentsAt l code n given p q → q < length code → p < length code
+arguments_within l code n [] p q h inside = omega (arith, h, inside)
+arguments_within l code n (a ∷ given) p q h inside = expression_within l code a.value p h.middle h.value.value
+
+-- so do those where a statement and statements begin
+mutual
+  pub statement_within : (l : Layout) (code : List ℕ) (n : ℕ) (exit : Option ℕ) (s : Statement) (p q : ℕ) → StatementAt l code n exit s p q → p < length code
+  statement_within l code n exit (Assign (Variable x k) e) p q h = expression_within l code e p h.middle h.value.value
+  statement_within l code n exit (Request r given) p q h = arguments_within l code 0 given p h.middle h.arguments (instr_within code h.middle (Svc r) q h.by)
+  statement_within l code n exit (If c a b) p q h = expression_within l code c p h.middle h.condition.value
+  statement_within l code n exit (Case e arms) p q h = expression_within l code e p h.middle h.value.value
+  statement_within l code n exit (While c body) p q h = expression_within l code c p h.middle h.condition.value
+  statement_within l code n exit (Repeat body c) p q h = body_within l code n exit body p h.end h.here (expression_within l code c h.end h.middle h.condition.value)
+  statement_within l code n exit (Loop body) p q h = body_within l code n (Some q) body p h.end h.here (instr_within code h.end (Jmp p) q h.back)
+  statement_within l code n exit Exit p q h = instr_within code p (Jmp h.to) q h.jump
+  statement_within l code n exit (For (Variable x k) a b step body) p q h = expression_within l code a p h.middle h.first.value
+
+  pub body_within : (l : Layout) (code : List ℕ) (n : ℕ) (exit : Option ℕ) (b : Statements) (p q : ℕ) → BodyAt l code n exit b p q → q < length code → p < length code
+  body_within l code n exit Empty p q h inside = omega (arith, h, inside)
+  body_within l code n exit (Then s ss) p q h inside = statement_within l code n exit s p h.middle h.here

@@ -1,0 +1,68 @@
+-- How long items can stutter: a count that falls at each step of the source that takes no step of the machine.
+use Rattle.std.proofs.Common.{ℕ, ◌+◌, List, [], ◌∷◌}
+use Rattle.lil_resolved.specs.Resolved.{Expression, Constant, Taken, One, Two, Short, Apply, Argument, Statement, Assign, Request, If, Case, While, Repeat, Loop, Exit, For, Statements, Empty, Then}
+use Rattle.lil_meaning.specs.Items.{Hole, Get, SetTo, StoreAt, OneOf, LeftOf, RightOf, ShortOf, ApplyTo, Pass, Choose, Turn, Again, Pick, StartOf, LimitOf, Task, Do, Passing, Until, Looping, Turns, End, Item, Value, Evaluate, PlaceOf, Fill, Perform}
+
+abbrev pub value_stutter : Expression → ℕ
+value_stutter (Constant k v) = 1
+value_stutter (Taken d) = 3
+value_stutter (One o k a) = 2 + value_stutter a
+value_stutter (Two o k a b) = 1 + value_stutter a + value_stutter b
+value_stutter (Short d a b) = 1 + value_stutter a + value_stutter b
+value_stutter (Apply f a) = 1 + value_stutter a
+
+abbrev pub passing_stutter : List Argument → ℕ
+passing_stutter [] = 0
+passing_stutter (a ∷ given) = 1 + value_stutter a.value + passing_stutter given
+
+abbrev mutual
+  pub statement_stutter : Statement → ℕ
+  statement_stutter (Assign d e) = 3 + value_stutter e
+  statement_stutter (Request r given) = 1 + passing_stutter given
+  statement_stutter (If c a b) = 1 + value_stutter c
+  statement_stutter (Case e arms) = 1 + value_stutter e
+  statement_stutter (While c body) = 1 + value_stutter c
+  statement_stutter (Repeat body c) = 2 + body_stutter body + value_stutter c
+  statement_stutter (Loop body) = 1 + body_stutter body
+  statement_stutter Exit = 1
+  statement_stutter (For d a b step body) = 1 + value_stutter a + value_stutter b
+
+  pub body_stutter : Statements → ℕ
+  body_stutter Empty = 0
+  body_stutter (Then s ss) = statement_stutter s + body_stutter ss
+
+abbrev pub hole_stutter : Hole → ℕ
+hole_stutter Get = 0
+hole_stutter (SetTo k e) = value_stutter e
+hole_stutter (StoreAt place k) = 0
+hole_stutter (OneOf o k) = 1
+hole_stutter (LeftOf o k f) = value_stutter f
+hole_stutter (RightOf o k u) = 0
+hole_stutter (ShortOf d f) = value_stutter f
+hole_stutter (ApplyTo f) = 0
+hole_stutter (Pass r k done left) = passing_stutter left
+hole_stutter (Choose a b) = 0
+hole_stutter (Turn c body) = 0
+hole_stutter (Again body c) = 0
+hole_stutter (Pick arms) = 0
+hole_stutter (StartOf d b step body) = value_stutter b
+hole_stutter (LimitOf d v step body) = 0
+
+abbrev pub task_stutter : Task → ℕ
+task_stutter (Do s) = statement_stutter s
+task_stutter (Passing r done left) = passing_stutter left
+task_stutter (Until body c) = 1 + value_stutter c
+task_stutter (Looping body) = 0
+task_stutter (Turns d x step left body) = 0
+task_stutter (End a) = 1
+
+abbrev pub item_stutter : Item → ℕ
+item_stutter (Value d) = 1
+item_stutter (Evaluate e) = value_stutter e
+item_stutter (PlaceOf d) = 2
+item_stutter (Fill o) = hole_stutter o
+item_stutter (Perform t) = task_stutter t
+
+abbrev pub stutter : List Item → ℕ
+stutter [] = 0
+stutter (i ∷ k) = item_stutter i + stutter k

@@ -1,0 +1,2 @@
+//! Matched states of the meaning and the machine.
+#![tactic(auto)]

@@ -1,0 +1,131 @@
+//! The rows of frames: the mark and the words of a body, and returns.
+
+ghost use Rattle.std.specs.Prelude.{◌≡◌, ◌+◌, ◌*◌, ◌<◌, ◌≤◌, ◌∷◌, length, false, option_map, OnSome, Some, []};
+ghost use Rattle.lil_mcode.specs.State.{cleared, spliced, module_at, body_entry};
+ghost use Rattle.lil_mcode.specs.Table.{enter_row, leave_row, end_row, return_row};
+
+use super::Processor;
+use super::fetching::loaded;
+use super::loading::body_place;
+use crate::arithmetic::{trap_of, truth_word};
+use crate::machine::Event;
+use lil_base::LimitKind;
+
+impl Processor {
+    pub(super) fn start_unmarked(&mut self, number: u8, place: u16)
+        requires { number ≤ length self.old.modules }
+        ensures { self.new ≡ record self.old { running = number; place = place; stack = []; frame = self.old.base; top = self.old.base; marked = false } }
+    {
+        self.run_in(number);
+        self.place = place;
+        self.stack.clear();
+        self.frame = self.base;
+        self.top = self.base;
+        self.marked = false;
+    }
+
+    pub(super) fn enter(&mut self, words: u16, next: u16) -> Event
+        ensures { enter_row words next self.old ≡ (result, self.new) }
+    {
+        let end = u32::from(self.frame) + u32::from(words);
+        if end < u32::from(self.top) {
+            return Event::BadCode;
+        }
+        if u32::from(self.limit) < end {
+            return Event::Limit(LimitKind::Stack);
+        }
+        clear(&mut self.store, usize::from(self.top), end as usize);
+        self.top = end as u16;
+        self.place = next;
+        Event::Went
+    }
+
+    pub(super) fn entry(&self, number: u8) -> Option<u16>
+        ensures known { OnSome result (number ≤ length self.now.modules) }
+        ensures value { result ≡ option_map body_entry (module_at self.now.modules number) }
+    {
+        let module = loaded(self.modules.as_slice(), number)?;
+        Some(body_place(module.procedures.as_slice()))
+    }
+
+    pub(super) fn start_body(&mut self, number: u8, place: u16)
+        requires room { self.old.base + 4 ≤ 65535 }
+        requires known { number ≤ length self.old.modules }
+        ensures { self.new ≡ record self.old { running = number; place = place; stack = []; store = spliced self.old.store self.old.base (0 ∷ 0 ∷ 0 ∷ number ∷ []); frame = self.old.base; top = self.old.base + 4 } }
+    {
+        write_mark(&mut self.store, usize::from(self.base), number);
+        self.run_in(number);
+        self.place = place;
+        self.stack.clear();
+        self.frame = self.base;
+        self.top = self.base + 4;
+    }
+
+    pub(super) fn next_body(&mut self) -> Event
+        ensures { end_row self.old self.old.bodies ≡ (result, self.new) }
+    {
+        let Some(number) = self.bodies.get(0) else {
+            return Event::LevelEnded;
+        };
+        let number = *number;
+        let Some(place) = self.entry(number) else {
+            return Event::BadCode;
+        };
+        if u32::from(self.limit) < u32::from(self.base) + 4 {
+            return Event::Limit(LimitKind::Stack);
+        }
+        self.bodies.take_first();
+        self.start_body(number, place);
+        Event::Went
+    }
+
+    pub(super) fn leave(&mut self) -> Event
+        ensures { leave_row self.old ≡ (result, self.new) }
+    {
+        if self.frame == self.base {
+            return self.next_body();
+        }
+        let frame = usize::from(self.frame);
+        if frame + 3 >= 65536 {
+            return Event::BadCode;
+        }
+        let to = self.store[frame + 1];
+        let place = self.store[frame + 2];
+        let number = self.store[frame + 3];
+        self.go_back(to, place, number)
+    }
+
+    #[tactic(auto, using(crate::proofs::Steps::is_loaded))]
+    pub(super) fn go_back(&mut self, frame: u16, place: u16, number: u16) -> Event
+        requires { self.old.frame + 3 < 65536 }
+        ensures { return_row self.old frame place number ≡ (result, self.new) }
+    {
+        if frame < self.base || u32::from(self.frame) < u32::from(frame) + 4 {
+            return Event::BadCode;
+        }
+        if number == 0 || usize::from(number) > self.modules.len() {
+            return Event::BadCode;
+        }
+        self.top = self.frame;
+        self.frame = frame;
+        self.place = place;
+        self.run_in(number as u8);
+        Event::Went
+    }
+}
+
+pub(super) fn clear(store: &mut [u16], from: usize, to: usize)
+    requires ordered { from ≤ to }
+    requires within { to ≤ length store.old }
+    ensures { store.new ≡ cleared store.old from to }
+{
+    store[from..to].fill(0);
+}
+
+fn write_mark(store: &mut [u16], at: usize, number: u8)
+    requires { at + 4 ≤ length store.old }
+    ensures { store.new ≡ spliced store.old at (0 ∷ 0 ∷ 0 ∷ number ∷ []) }
+{
+    let mark = [0, 0, 0, u16::from(number)];
+    store[at..at + 4].copy_from_slice(&mark);
+}

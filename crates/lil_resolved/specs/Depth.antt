@@ -1,0 +1,38 @@
+-- The words that a body takes: those of the expression stack, and those of its frame.
+use Rattle.std.specs.Prelude.{ℕ, ◌+◌, ◌*◌, max}
+use Rattle.lil_resolved.specs.Resolved.{Expression, Constant, Taken, One, Two, Short, Apply, Statement, Assign, Request, If, Case, While, Repeat, Loop, Exit, For, Statements, Empty, Then, Arms, NoElse, Else, Arm}
+
+-- how many words of the expression stack an expression takes
+abbrev pub depth : Expression → ℕ
+depth (Constant k v) = 1
+depth (Taken d) = 1
+depth (One o k a) = depth a
+depth (Two o k a b) = max (depth a) (1 + depth b)
+depth (Short d a b) = max (depth a) (1 + depth b)
+depth (Apply f a) = depth a
+
+-- how many FORs stand in statements, in one another too
+abbrev mutual
+  pub statement_loops : Statement → ℕ
+  statement_loops (Assign d e) = 0
+  statement_loops (Request r given) = 0
+  statement_loops (If c a b) = body_loops a + body_loops b
+  statement_loops (Case e arms) = arms_loops arms
+  statement_loops (While c body) = body_loops body
+  statement_loops (Repeat body c) = body_loops body
+  statement_loops (Loop body) = body_loops body
+  statement_loops Exit = 0
+  statement_loops (For d a b step body) = 1 + body_loops body
+
+  pub body_loops : Statements → ℕ
+  body_loops Empty = 0
+  body_loops (Then s ss) = statement_loops s + body_loops ss
+
+  pub arms_loops : Arms → ℕ
+  arms_loops NoElse = 0
+  arms_loops (Else body) = body_loops body
+  arms_loops (Arm labels body rest) = body_loops body + arms_loops rest
+
+-- the words of a body's frame: its mark, and three for each FOR
+abbrev pub frame_words : Statements → ℕ
+frame_words body = 4 + 3 * body_loops body

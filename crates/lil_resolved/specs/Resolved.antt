@@ -1,0 +1,125 @@
+-- Resolved modules: each name is replaced by the thing that it means, and each constant expression by its value.
+use Rattle.std.specs.Prelude.{ℕ, ℤ, Bool, true, false, List, [], ◌∷◌}
+use Rattle.lil_base.specs.Words.{Whole, Cardinal}
+use Rattle.lil_base.specs.declared.operator.OneOp.{OneOp}
+use Rattle.lil_base.specs.declared.operator.TwoOp.{TwoOp}
+use Rattle.lil_base.specs.declared.operator.TwoOp.TheVariants.{Equal, Unequal, Less, AtMost, Greater, AtLeast, In, Plus, Minus, Or, Times, Slash, Div, Mod, And}
+use Rattle.lil_resolved.specs.Kinds.{Kind, OfWhole, OfTruth, OfCharacter, base_of}
+use Rattle.lil_resolved.specs.Scalars.{Scalar}
+
+-- what names a place: a variable of the module, by its number
+pub data Designator : Type 0 where
+  Variable : (x : ℕ) (k : Kind) → Designator
+
+-- standard functions of one value
+pub data Function : Type 0 where
+  Abs : (t : Whole) → Function
+  Cap : Function
+  Chr : Function
+  Odd : Function
+  Ord : Function
+  Val : (k : Kind) → Function
+
+pub data Expression : Type 0 where
+  Constant : (k : Kind) (v : Scalar) → Expression
+  -- the value at a place
+  Taken : (d : Designator) → Expression
+  -- an operator on a value of a kind
+  One : (o : OneOp) (k : Kind) (a : Expression) → Expression
+  -- an operator on two values of a kind
+  Two : (o : TwoOp) (k : Kind) (a b : Expression) → Expression
+  -- a AND b, a OR b
+  -- the right operand counts only where the left one is not the value that decides: TRUE for OR, FALSE for AND
+  Short : (decides : Bool) (a b : Expression) → Expression
+  -- a standard function of a value
+  Apply : (f : Function) (a : Expression) → Expression
+
+-- a value argument, with its parameter's kind
+pub record Argument : Type 0 where
+  pub kind : Kind
+  pub value : Expression
+
+-- the labels from one number to another
+pub record Label : Type 0 where
+  pub low : ℤ
+  pub high : ℤ
+
+mutual
+  pub data Statement : Type 0 where
+    Assign : (d : Designator) (e : Expression) → Statement
+    -- a call of the resident procedure with this request
+    Request : (r : ℕ) (given : List Argument) → Statement
+    If : (c : Expression) (a b : Statements) → Statement
+    Case : (e : Expression) (arms : Arms) → Statement
+    While : (c : Expression) (body : Statements) → Statement
+    Repeat : (body : Statements) (c : Expression) → Statement
+    Loop : (body : Statements) → Statement
+    Exit : Statement
+    -- FOR d := a TO b BY step DO body END
+    For : (d : Designator) (a b : Expression) (step : ℤ) (body : Statements) → Statement
+
+  -- one behind another
+  pub data Statements : Type 0 where
+    Empty : Statements
+    Then : (s : Statement) (rest : Statements) → Statements
+
+  -- the arms of a CASE, and what stands behind ELSE
+  pub data Arms : Type 0 where
+    NoElse : Arms
+    Else : (body : Statements) → Arms
+    Arm : (labels : List Label) (body : Statements) (rest : Arms) → Arms
+
+-- a list of statements, in its order
+abbrev pub in_order : List Statement → Statements
+in_order [] = Empty
+in_order (s ∷ ss) = Then s (in_order ss)
+
+pub record Resolved : Type 0 where
+  pub name : List ℕ
+  -- the names of the variables in order, and their kinds
+  pub names : List (List ℕ)
+  pub variables : List Kind
+  pub body : Statements
+
+abbrev pub kind_of_place : Designator → Kind
+kind_of_place (Variable x k) = k
+
+-- an operator that compares
+abbrev pub is_relation : TwoOp → Bool
+is_relation Equal = true
+is_relation Unequal = true
+is_relation Less = true
+is_relation AtMost = true
+is_relation Greater = true
+is_relation AtLeast = true
+is_relation In = true
+is_relation Plus = false
+is_relation Minus = false
+is_relation Or = false
+is_relation Times = false
+is_relation Slash = false
+is_relation Div = false
+is_relation Mod = false
+is_relation And = false
+
+-- the kind of the value of an operator on operands of a kind
+abbrev pub result_kind : Bool → Kind → Kind
+result_kind true k = OfTruth
+result_kind false k = k
+
+abbrev pub function_kind : Function → Kind
+function_kind (Abs t) = OfWhole t
+function_kind Cap = OfCharacter
+function_kind Chr = OfCharacter
+function_kind Odd = OfTruth
+function_kind Ord = OfWhole Cardinal
+function_kind (Val k) = base_of k
+
+-- the kind of an expression's value
+abbrev pub kind_of : Expression → Kind
+kind_of (Constant k v) = k
+kind_of (Taken d) = base_of (kind_of_place d)
+kind_of (One o k a) = k
+kind_of (Two o k a b) = result_kind (is_relation o) k
+kind_of (Short d a b) = OfTruth
+kind_of (Apply f a) = function_kind f

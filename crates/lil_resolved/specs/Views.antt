@@ -1,0 +1,133 @@
+-- The resolved module that a tree of the program is.
+use Rattle.std.specs.Prelude.{ℕ, pos, List, [], ◌∷◌, map, Option, Some, None, true, false}
+use Rattle.lil_base.specs.Words.{Cardinal, Integer}
+use Rattle.lil_resolved.specs.Kinds.{Kind, OfWhole, OfTruth, OfCharacter}
+use Rattle.lil_resolved.specs.Scalars.{Number, Truth, Character}
+use Rattle.lil_resolved.specs.Resolved.{Designator, Variable, Chr, Expression, Constant, Taken, One, Two, Short, Apply, Label, Statement, Assign, Request, If, Case, While, Repeat, Loop, Exit, For, Statements, Empty, Then, Arms, NoElse, Else, Arm, Resolved, kind_of}
+use Rattle.lil_base.specs.declared.operator.OneOp.{OneOp}
+use Rattle.lil_base.specs.declared.operator.TwoOp.{TwoOp}
+use Rattle.lil_base.specs.declared.operator.TwoOp.TheVariants.{Equal, Unequal, Less, AtMost, Greater, AtLeast, In, Plus, Minus, Or, Times, Slash, Div, Mod, And}
+use Rattle.lil_resolved.specs.declared.resolved.RExpr.{RExpr}
+use Rattle.lil_resolved.specs.declared.resolved.RExpr.TheVariants as x
+use Rattle.lil_resolved.specs.declared.resolved.RStmt.{RStmt}
+use Rattle.lil_resolved.specs.declared.resolved.RStmt.TheOpen as o
+use Rattle.lil_resolved.specs.declared.resolved.RStmt.TheOpen.{RStmt-F, RArm-F, RGuard-F}
+use Rattle.lil_resolved.specs.declared.resolved.RStmt.TheFolds.{fold-RStmt, fold-RArm, fold-RGuard}
+use Rattle.lil_resolved.specs.declared.resolved.RGuard.{RGuard}
+use Rattle.lil_resolved.specs.declared.resolved.RArm.{RArm}
+use Rattle.lil_resolved.specs.declared.resolved.RLabel.{RLabel}
+use Rattle.lil_resolved.specs.declared.resolved.RModule.{RModule}
+
+-- the CARDINAL variable with this number
+abbrev pub cardinal_variable : ℕ → Designator
+cardinal_variable n = Variable n (OfWhole Cardinal)
+
+-- the statement that writes a character
+abbrev pub write_of : Expression → Statement
+write_of e = Request 2 (record { kind = OfCharacter; value = e } ∷ [])
+
+-- an operator on two expressions; AND and OR take their right one only where it is needed
+abbrev pub two_of : TwoOp → Expression → Expression → Expression
+two_of And a b = Short false a b
+two_of Or a b = Short true a b
+two_of Equal a b = Two Equal (kind_of a) a b
+two_of Unequal a b = Two Unequal (kind_of a) a b
+two_of Less a b = Two Less (kind_of a) a b
+two_of AtMost a b = Two AtMost (kind_of a) a b
+two_of Greater a b = Two Greater (kind_of a) a b
+two_of AtLeast a b = Two AtLeast (kind_of a) a b
+two_of In a b = Two In (kind_of a) a b
+two_of Plus a b = Two Plus (kind_of a) a b
+two_of Minus a b = Two Minus (kind_of a) a b
+two_of Times a b = Two Times (kind_of a) a b
+two_of Slash a b = Two Slash (kind_of a) a b
+two_of Div a b = Two Div (kind_of a) a b
+two_of Mod a b = Two Mod (kind_of a) a b
+
+abbrev pub one_of : OneOp → Expression → Expression
+one_of o a = One o (kind_of a) a
+
+abbrev pub expression_of : RExpr → Expression
+expression_of (x.Number n) = Constant (OfWhole Cardinal) (Number (pos n))
+expression_of (x.Character c) = Constant OfCharacter (Character c)
+expression_of (x.Variable n) = Taken (cardinal_variable n)
+expression_of (x.Integer n) = Constant (OfWhole Integer) (Number n)
+expression_of (x.Truth b) = Constant OfTruth (Truth b)
+expression_of (x.One' o u a) = one_of o (expression_of a)
+expression_of (x.Two' o u a v b) = two_of o (expression_of a) (expression_of b)
+expression_of (x.Chr' u a) = Apply Chr (expression_of a)
+
+abbrev pub label_of : RLabel → Label
+label_of l = record { low = l.low; high = l.high }
+
+-- statements behind statements
+abbrev pub joined : Statements → Statements → Statements
+joined Empty more = more
+joined (Then s ss) more = Then s (joined ss more)
+
+-- one behind another
+abbrev pub all_of : List Statements → Statements
+all_of [] = Empty
+all_of (s ∷ ss) = joined s (all_of ss)
+
+-- guards, each before what is done where its condition is FALSE; without any that is done
+abbrev pub guarded : List (Statements → Statements) → Statements → Statements
+guarded [] other = other
+guarded (g ∷ gs) other = g (guarded gs other)
+
+-- arms, each before the others
+abbrev pub armed : List (Arms → Arms) → Arms → Arms
+armed [] other = other
+armed (a ∷ rest) other = a (armed rest other)
+
+abbrev pub otherwise_of : Option (List Statements) → Arms
+otherwise_of None = NoElse
+otherwise_of (Some ss) = Else (all_of ss)
+
+-- what a statement, an arm and a guard are, where their parts are known
+abbrev pub statement_layer : RStmt-F Statements (Arms → Arms) (Statements → Statements) → Statements
+statement_layer (o.Assign n e) = Then (Assign (cardinal_variable n) (expression_of e)) Empty
+statement_layer (o.Write e) = Then (write_of (expression_of e)) Empty
+statement_layer (o.If gs ss) = guarded gs (all_of ss)
+statement_layer (o.Case e cases other) = Then (Case (expression_of e) (armed cases (otherwise_of other))) Empty
+statement_layer (o.While e ss) = Then (While (expression_of e) (all_of ss)) Empty
+statement_layer (o.Repeat ss e) = Then (Repeat (all_of ss) (expression_of e)) Empty
+statement_layer (o.Loop ss) = Then (Loop (all_of ss)) Empty
+statement_layer o.Exit = Then Exit Empty
+statement_layer (o.For n a b step ss) = Then (For (cardinal_variable n) (expression_of a) (expression_of b) step (all_of ss)) Empty
+
+abbrev pub arm_layer : RArm-F Statements (Arms → Arms) (Statements → Statements) → Arms → Arms
+arm_layer a other = Arm (map label_of a.labels) (all_of a.body) other
+
+abbrev pub guard_layer : RGuard-F Statements (Arms → Arms) (Statements → Statements) → Statements → Statements
+guard_layer g other = Then (If (expression_of g.condition) (all_of g.body) other) Empty
+
+-- the statements that a statement is: one, or for an IF without a condition those behind its ELSE
+abbrev pub statement_of : RStmt → Statements
+statement_of = fold-RStmt Statements (Arms → Arms) (Statements → Statements) statement_layer arm_layer guard_layer
+
+abbrev pub arm_of : RArm → Arms → Arms
+arm_of = fold-RArm Statements (Arms → Arms) (Statements → Statements) statement_layer arm_layer guard_layer
+
+abbrev pub guard_of : RGuard → Statements → Statements
+guard_of = fold-RGuard Statements (Arms → Arms) (Statements → Statements) statement_layer arm_layer guard_layer
+
+abbrev pub statements_of : List RStmt → Statements
+statements_of ss = all_of (map statement_of ss)
+
+-- guards with what stands behind ELSE, and arms with it
+abbrev pub guards_of : List RGuard → List RStmt → Statements
+guards_of gs other = guarded (map guard_of gs) (statements_of other)
+
+abbrev pub else_of : Option (List RStmt) → Arms
+else_of None = NoElse
+else_of (Some ss) = Else (statements_of ss)
+
+abbrev pub arms_of : List RArm → Option (List RStmt) → Arms
+arms_of cases other = armed (map arm_of cases) (else_of other)
+
+abbrev pub cardinal : List ℕ → Kind
+cardinal name = OfWhole Cardinal
+
+abbrev pub module_of : RModule → Resolved
+module_of m = record { name = m.name; names = m.variables; variables = map cardinal m.variables; body = statements_of m.body }

@@ -1,7 +1,0 @@
-use Rattle.lil_session.proofs.Appending.{with_ok}
-use Rattle.lil_session.proofs.Stating.{exit_emitted}
-use Rattle.lil_session.proofs.generator.emit_exit.Goals as goal
-
-pub returns-in-Some-clause-means : goal.returns-in-Some-clause-means
-returns-in-Some-clause-means c =
-    with_ok c.encode.result (exit_emitted c.args.around.loops c.in-Some.to c.args.around.exit _ _ c.in-Some.is) c.encode.ensures

@@ -1,0 +1,4 @@
+mod CaseEmitting
+mod Extents
+mod Nodes
+mod Stating

@@ -1,0 +1,362 @@
+-- The translation table: which bytes from one place to another are a translation of a part. It has one row for each construct.
+use Rattle.std.specs.Prelude.{◌≡◌, ℕ, zero, suc, ◌+◌, ◌*◌, ◌≤◌, ℤ, Bool, true, false, List, [], ◌∷◌, length, Option, Some, None, slice_get}
+use Rattle.lil_base.specs.Words.{Whole, Cardinal, Integer, word_of}
+use Rattle.lil_base.specs.declared.operator.OneOp.{OneOp}
+use Rattle.lil_base.specs.declared.operator.OneOp.TheVariants as one
+use Rattle.lil_base.specs.declared.operator.TwoOp.{TwoOp}
+use Rattle.lil_base.specs.declared.operator.TwoOp.TheVariants.{Equal, Unequal, Less, AtMost, Greater, AtLeast, Plus, Minus, Times, Div, Mod}
+use Rattle.lil_resolved.specs.Kinds.{Kind, OfWhole, OfTruth}
+use Rattle.lil_resolved.specs.Scalars.{Scalar, within, scalar_word}
+use Rattle.lil_resolved.specs.Resolved.{Designator, Variable, Function, Abs, Cap, Chr, Odd, Ord, Val, Expression, Constant, Taken, One, Two, Short, Apply, Argument, Label, Statement, Assign, Request, If, Case, While, Repeat, Loop, Exit, For, Statements, Empty, Then, Arms, NoElse, Else, Arm, Resolved, kind_of}
+use Rattle.lil_resolved.specs.Depth.{depth, frame_words}
+use Rattle.lil_resolved.specs.Sound.{is_base, takes_one, takes_two, IsSoundLabel, IsStep}
+use Rattle.lil_asm.specs.declared.instr.Instr.{Instr}
+use Rattle.lil_asm.specs.declared.instr.Instr.TheVariants.{Liw, Llw, Lgw, Sgw, Swp, Rgc, Adc, Sbc, Mlc, Dvc, Mdc, Adi, Sbi, Mli, Dvi, Mdi, Ngi, Not, Equ, Neq, Lsc, Lec, Lsi, Lei, Ent, Rtn, Jmp, Jpf, Jan, Jor, Cas, Fri, Frn, Trp, Svc}
+use Rattle.lil_asm.specs.Bytes.{word_at, decoded}
+use Rattle.lil_asm.specs.Requests.{request_words}
+
+-- where the variables of a module lie in its data frame, by their numbers, their kinds, and the words of its body's frame
+pub record Layout : Type 0 where
+  pub offsets : List ℕ
+  pub kinds : List Kind
+  pub words : ℕ
+  pub frame : ℕ
+
+-- one word for each variable, in order, from an offset on
+abbrev pub offsets_from : ℕ → List Kind → List ℕ
+offsets_from n [] = []
+offsets_from n (k ∷ ks) = n ∷ offsets_from (suc n) ks
+
+abbrev pub layout_of : Resolved → Layout
+layout_of m = record { offsets = offsets_from 0 m.variables; kinds = m.variables; words = length m.variables; frame = frame_words m.body }
+
+-- the bytes of the instruction stand from place p to place q
+abbrev pub IsAt : List ℕ → ℕ → Instr → ℕ → Type 0
+IsAt code p i q = decoded code p ≡ Some (i, q)
+
+-- what stands from one place to another
+abbrev pub Span : Type 1
+Span = ℕ → ℕ → Type 0
+
+-- instructions one behind another
+abbrev pub InstrsAt : List ℕ → List Instr → Span
+InstrsAt code [] p q = p ≡ q
+InstrsAt code (i ∷ is) p q = (r : ℕ) × IsAt code p i r × InstrsAt code is r q
+
+-- the type as which the words of a kind are compared
+abbrev pub compared_as : Kind → Whole
+compared_as (OfWhole t) = t
+compared_as _ = Cardinal
+
+abbrev pub less_code : Whole → Instr
+less_code Cardinal = Lsc
+less_code Integer = Lsi
+
+abbrev pub at_most_code : Whole → Instr
+at_most_code Cardinal = Lec
+at_most_code Integer = Lei
+
+-- the instructions of an operator on a value of a kind that it takes
+abbrev pub one_code : OneOp → Kind → List Instr
+one_code one.Plus k = []
+one_code one.Minus k = Ngi ∷ []
+one_code one.Not k = Not ∷ []
+
+-- the instruction of an operation on two whole numbers of a type
+abbrev pub whole_code : TwoOp → Whole → List Instr
+whole_code Plus Cardinal = Adc ∷ []
+whole_code Plus Integer = Adi ∷ []
+whole_code Minus Cardinal = Sbc ∷ []
+whole_code Minus Integer = Sbi ∷ []
+whole_code Times Cardinal = Mlc ∷ []
+whole_code Times Integer = Mli ∷ []
+whole_code Div Cardinal = Dvc ∷ []
+whole_code Div Integer = Dvi ∷ []
+whole_code Mod Cardinal = Mdc ∷ []
+whole_code Mod Integer = Mdi ∷ []
+whole_code _ t = []
+
+-- the instructions of an operator on two values of a kind that it takes
+abbrev pub two_code : TwoOp → Kind → List Instr
+two_code Equal k = Equ ∷ []
+two_code Unequal k = Neq ∷ []
+two_code Less k = less_code (compared_as k) ∷ []
+two_code AtMost k = at_most_code (compared_as k) ∷ []
+two_code Greater k = Swp ∷ less_code (compared_as k) ∷ []
+two_code AtLeast k = Swp ∷ at_most_code (compared_as k) ∷ []
+two_code o k = whole_code o (compared_as k)
+
+pub record ConstantRow (code : List ℕ) (k : Kind) (v : Scalar) (p q : ℕ) : Type 0 where
+  pub fits : within k v ≡ true
+  pub load : IsAt code p (Liw (scalar_word v)) q
+
+pub record VariableRow (l : Layout) (code : List ℕ) (x : ℕ) (k : Kind) (p q : ℕ) : Type 0 where
+  pub offset : ℕ
+  pub known : slice_get l.offsets x ≡ Some offset
+  pub typed : slice_get l.kinds x ≡ Some k
+  pub load : IsAt code p (Lgw offset) q
+
+pub record OneRow (code : List ℕ) (o : OneOp) (k : Kind) (a : Expression) (value : Span) (p q : ℕ) : Type 0 where
+  pub middle : ℕ
+  pub takes : takes_one o k ≡ true
+  pub typed : kind_of a ≡ k
+  pub first : value p middle
+  pub by : InstrsAt code (one_code o k) middle q
+
+pub record TwoRow (code : List ℕ) (o : TwoOp) (k : Kind) (a b : Expression) (left right : Span) (p q : ℕ) : Type 0 where
+  pub middle : ℕ
+  pub last : ℕ
+  pub takes : takes_two o k ≡ true
+  pub left_typed : kind_of a ≡ k
+  pub right_typed : kind_of b ≡ k
+  pub first : left p middle
+  pub second : right middle last
+  pub by : InstrsAt code (two_code o k) last q
+
+-- the jump over the right operand where the left one decides
+abbrev pub short_code : Bool → ℕ → Instr
+short_code true to = Jor to
+short_code false to = Jan to
+
+-- a jump over the right operand, where the left one decides
+pub record ShortRow (code : List ℕ) (d : Bool) (a b : Expression) (left right : Span) (p q : ℕ) : Type 0 where
+  pub middle : ℕ
+  pub start : ℕ
+  pub left_typed : kind_of a ≡ OfTruth
+  pub right_typed : kind_of b ≡ OfTruth
+  pub first : left p middle
+  pub test : IsAt code middle (short_code d q) start
+  pub second : right start q
+
+pub record ChrRow (code : List ℕ) (a : Expression) (value : Span) (p q : ℕ) : Type 0 where
+  pub middle : ℕ
+  pub typed : kind_of a ≡ OfWhole Cardinal
+  pub first : value p middle
+  pub test : IsAt code middle (Rgc 0 255) q
+
+-- the standard functions that have a row
+abbrev pub ApplyAt : List ℕ → Function → Expression → Span → Span
+ApplyAt code Chr a value p q = ChrRow code a value p q
+ApplyAt code (Abs t) a value p q = ⊥
+ApplyAt code Cap a value p q = ⊥
+ApplyAt code Odd a value p q = ⊥
+ApplyAt code Ord a value p q = ⊥
+ApplyAt code (Val k) a value p q = ⊥
+
+abbrev pub TakenAt : Layout → List ℕ → Designator → Span
+TakenAt l code (Variable x k) p q = VariableRow l code x k p q
+
+abbrev pub ExpressionAt : Layout → List ℕ → Expression → Span
+ExpressionAt l code (Constant k v) p q = ConstantRow code k v p q
+ExpressionAt l code (Taken d) p q = TakenAt l code d p q
+ExpressionAt l code (One o k a) p q = OneRow code o k a (ExpressionAt l code a) p q
+ExpressionAt l code (Two o k a b) p q = TwoRow code o k a b (ExpressionAt l code a) (ExpressionAt l code b) p q
+ExpressionAt l code (Short d a b) p q = ShortRow code d a b (ExpressionAt l code a) (ExpressionAt l code b) p q
+ExpressionAt l code (Apply f a) p q = ApplyAt code f a (ExpressionAt l code a) p q
+
+-- an expression of a kind, with n words of others below its own
+pub record WholeRow (l : Layout) (code : List ℕ) (n : ℕ) (e : Expression) (k : Kind) (p q : ℕ) : Type 0 where
+  pub typed : kind_of e ≡ k
+  pub shallow : n + depth e ≤ 16
+  pub value : ExpressionAt l code e p q
+
+pub record AssignRow (l : Layout) (code : List ℕ) (x : ℕ) (k : Kind) (e : Expression) (p q : ℕ) : Type 0 where
+  pub middle : ℕ
+  pub offset : ℕ
+  pub known : slice_get l.offsets x ≡ Some offset
+  pub typed : slice_get l.kinds x ≡ Some k
+  pub value : WholeRow l code 0 e k p middle
+  pub store : IsAt code middle (Sgw offset) q
+
+-- arguments one behind another, with n words of others below them
+pub record ArgumentRow (l : Layout) (code : List ℕ) (n : ℕ) (a : Argument) (rest : Span) (p q : ℕ) : Type 0 where
+  pub middle : ℕ
+  pub value : WholeRow l code n a.value a.kind p middle
+  pub then : rest middle q
+
+abbrev pub ArgumentsAt : Layout → List ℕ → ℕ → List Argument → Span
+ArgumentsAt l code n [] p q = p ≡ q
+ArgumentsAt l code n (a ∷ given) p q = ArgumentRow l code n a (ArgumentsAt l code (suc n) given) p q
+
+pub record RequestRow (l : Layout) (code : List ℕ) (r : ℕ) (given : List Argument) (p q : ℕ) : Type 0 where
+  pub middle : ℕ
+  pub words : request_words r ≡ Some (length given)
+  pub arguments : ArgumentsAt l code 0 given p middle
+  pub by : IsAt code middle (Svc r) q
+
+-- the condition, a jump to the second part where it is FALSE, the first part, and a jump over the second
+pub record IfRow (l : Layout) (code : List ℕ) (c : Expression) (first second : Span) (p q : ℕ) : Type 0 where
+  pub middle : ℕ
+  pub start : ℕ
+  pub end : ℕ
+  pub other : ℕ
+  pub condition : WholeRow l code 0 c OfTruth p middle
+  pub jump : IsAt code middle (Jpf other) start
+  pub chosen : first start end
+  pub skip : IsAt code end (Jmp q) other
+  pub otherwise : second other q
+
+-- the condition, a jump behind all where it is FALSE, the body, and a jump back
+pub record WhileRow (l : Layout) (code : List ℕ) (c : Expression) (body : Span) (p q : ℕ) : Type 0 where
+  pub middle : ℕ
+  pub start : ℕ
+  pub end : ℕ
+  pub condition : WholeRow l code 0 c OfTruth p middle
+  pub jump : IsAt code middle (Jpf q) start
+  pub here : body start end
+  pub back : IsAt code end (Jmp p) q
+
+-- the body, the condition, and a jump back where it is FALSE
+pub record RepeatRow (l : Layout) (code : List ℕ) (body : Span) (c : Expression) (p q : ℕ) : Type 0 where
+  pub end : ℕ
+  pub middle : ℕ
+  pub here : body p end
+  pub condition : WholeRow l code 0 c OfTruth end middle
+  pub back : IsAt code middle (Jpf p) q
+
+-- the body and a jump back
+pub record LoopRow (code : List ℕ) (body : Span) (p q : ℕ) : Type 0 where
+  pub end : ℕ
+  pub here : body p end
+  pub back : IsAt code end (Jmp p) q
+
+-- a jump behind the LOOP around
+pub record ExitRow (code : List ℕ) (exit : Option ℕ) (p q : ℕ) : Type 0 where
+  pub to : ℕ
+  pub known : exit ≡ Some to
+  pub jump : IsAt code p (Jmp to) q
+
+-- an entry of a table: a range of labels, and the place of its arm
+pub record EntryRow (code : List ℕ) (k : Kind) (label : Label) (to p : ℕ) : Type 0 where
+  pub sound : IsSoundLabel k label
+  pub low : word_at code p ≡ Some (word_of label.low)
+  pub high : word_at code (p + 2) ≡ Some (word_of label.high)
+  pub target : word_at code (p + 4) ≡ Some to
+
+-- what stands from a place on, whose entries stand from another place on, of which so many are left
+abbrev pub Arming : Type 1
+Arming = ℕ → ℕ → ℕ → Type 0
+
+-- an entry for each label, and then the others
+abbrev pub EntriesAt : List ℕ → Kind → List Label → ℕ → (ℕ → ℕ → Type 0) → ℕ → ℕ → Type 0
+EntriesAt code k [] to rest t w = rest t w
+EntriesAt code k (label ∷ labels) to rest t zero = ⊥
+EntriesAt code k (label ∷ labels) to rest t (suc w) = EntryRow code k label to t × EntriesAt code k labels to rest (t + 6) w
+
+-- an arm, and a jump to the exit
+pub record ArmRow (code : List ℕ) (k : Kind) (exit : ℕ) (labels : List Label) (body : Span) (rest : Arming) (p t w : ℕ) : Type 0 where
+  pub end : ℕ
+  pub gap : ℕ
+  pub here : body p end
+  pub leave : IsAt code end (Jmp exit) gap
+  pub entries : EntriesAt code k labels p (rest gap) t w
+
+-- what stands behind ELSE ends where the table stands
+pub record ElseRow (code : List ℕ) (exit other table : ℕ) (body : Span) (p w : ℕ) : Type 0 where
+  pub end : ℕ
+  pub here : body p end
+  pub leave : IsAt code end (Jmp exit) table
+  pub is : other ≡ p
+  pub none : w ≡ 0
+
+-- without ELSE a trap stands in its place
+pub record NoElseRow (code : List ℕ) (other table p w : ℕ) : Type 0 where
+  pub trap : IsAt code p (Trp 7) table
+  pub is : other ≡ p
+  pub none : w ≡ 0
+
+-- The value, a jump to the table, the exit, the arms, and right behind them the table with its entries. The table stands last, so that
+-- it knows the places of the arms, which know the exit, where the other values go, and where the table stands.
+pub record CaseRow (l : Layout) (code : List ℕ) (e : Expression) (arms : ℕ → ℕ → ℕ → Arming) (p q : ℕ) : Type 0 where
+  pub middle : ℕ
+  pub exit : ℕ
+  pub start : ℕ
+  pub choices : ℕ
+  pub entries : ℕ
+  pub count : ℕ
+  pub other : ℕ
+  pub base : is_base (kind_of e) ≡ true
+  pub value : WholeRow l code 0 e (kind_of e) p middle
+  pub dispatch : IsAt code middle (Jmp choices) exit
+  pub leave : IsAt code exit (Jmp q) start
+  pub bodies : arms exit other choices start entries count
+  pub choice : IsAt code choices (Cas count other) entries
+  pub whole : q ≡ entries + 6 * count
+
+-- the first of the three words of a FOR with n others around it, in the frame
+abbrev pub loop_place : ℕ → ℕ
+loop_place n = 4 + 3 * n
+
+-- how the machine reads the bounds of a FOR
+abbrev pub loop_sign : Whole → ℕ
+loop_sign Cardinal = 0
+loop_sign Integer = 1
+
+-- each turn: its value is stored in the variable, then comes the body, and the next turn
+pub record RoundRow (l : Layout) (code : List ℕ) (n x : ℕ) (k : Kind) (step : ℤ) (body : Span) (turn q : ℕ) : Type 0 where
+  pub loaded : ℕ
+  pub start : ℕ
+  pub end : ℕ
+  pub offset : ℕ
+  pub known : slice_get l.offsets x ≡ Some offset
+  pub typed : slice_get l.kinds x ≡ Some k
+  pub room : loop_place n + 3 ≤ l.frame
+  pub is_step : IsStep step
+  pub load : IsAt code turn (Llw (loop_place n)) loaded
+  pub store : IsAt code loaded (Sgw offset) start
+  pub here : body start end
+  pub next : IsAt code end (Frn (loop_place n) turn) q
+
+-- the step, the beginning of the turns, and the turns
+pub record TurnsRow (l : Layout) (code : List ℕ) (n x : ℕ) (t : Whole) (step : ℤ) (body : Span) (p q : ℕ) : Type 0 where
+  pub stepped : ℕ
+  pub turn : ℕ
+  pub load : IsAt code p (Liw (word_of step)) stepped
+  pub enter : IsAt code stepped (Fri (loop_place n) (loop_sign t) q) turn
+  pub round : RoundRow l code n x (OfWhole t) step body turn q
+
+-- both bounds and the turns; the variable is a whole number
+pub record ForRow (l : Layout) (code : List ℕ) (n x : ℕ) (k : Kind) (a b : Expression) (step : ℤ) (body : Span) (p q : ℕ) : Type 0 where
+  pub middle : ℕ
+  pub last : ℕ
+  pub type : Whole
+  pub is : k ≡ OfWhole type
+  pub first : WholeRow l code 0 a k p middle
+  pub limit : WholeRow l code 1 b k middle last
+  pub turns : TurnsRow l code n x type step body last q
+
+pub record ThenRow (first rest : Span) (p q : ℕ) : Type 0 where
+  pub middle : ℕ
+  pub here : first p middle
+  pub then : rest middle q
+
+-- Statements with n FORs around them, and the place behind the LOOP around them, if there is one.
+abbrev mutual
+  pub StatementAt : Layout → List ℕ → ℕ → Option ℕ → Statement → Span
+  StatementAt l code n exit (Assign (Variable x k) e) p q = AssignRow l code x k e p q
+  StatementAt l code n exit (Request r given) p q = RequestRow l code r given p q
+  StatementAt l code n exit (If c a b) p q = IfRow l code c (BodyAt l code n exit a) (BodyAt l code n exit b) p q
+  StatementAt l code n exit (Case e arms) p q = CaseRow l code e (ArmsAt l code n exit (kind_of e) arms) p q
+  StatementAt l code n exit (While c body) p q = WhileRow l code c (BodyAt l code n exit body) p q
+  StatementAt l code n exit (Repeat body c) p q = RepeatRow l code (BodyAt l code n exit body) c p q
+  StatementAt l code n exit (Loop body) p q = LoopRow code (BodyAt l code n (Some q) body) p q
+  StatementAt l code n exit Exit p q = ExitRow code exit p q
+  StatementAt l code n exit (For (Variable x k) a b step body) p q = ForRow l code n x k a b step (BodyAt l code (suc n) exit body) p q
+
+  -- one behind another
+  pub BodyAt : Layout → List ℕ → ℕ → Option ℕ → Statements → Span
+  BodyAt l code n exit Empty p q = p ≡ q
+  BodyAt l code n exit (Then s ss) p q = ThenRow (StatementAt l code n exit s) (BodyAt l code n exit ss) p q
+
+  pub ArmsAt : Layout → List ℕ → ℕ → Option ℕ → Kind → Arms → ℕ → ℕ → ℕ → Arming
+  ArmsAt l code n exit k NoElse leave other table p t w = NoElseRow code other table p w
+  ArmsAt l code n exit k (Else body) leave other table p t w = ElseRow code leave other table (BodyAt l code n exit body) p w
+  ArmsAt l code n exit k (Arm labels body rest) leave other table p t w = ArmRow code k leave labels (BodyAt l code n exit body) (ArmsAt l code n exit k rest leave other table) p t w
+
+-- the code of a program module: its frame, its statements, and the return
+pub record Translates (m : Resolved) (code : List ℕ) : Type 0 where
+  pub start : ℕ
+  pub end : ℕ
+  pub enter : IsAt code 0 (Ent (frame_words m.body)) start
+  pub body : BodyAt (layout_of m) code 0 None m.body start end
+  pub leave : IsAt code end Rtn (length code)

@@ -1,0 +1,6 @@
+//! The code of program modules.
+#![tactic(auto)]
+
+mod code;
+
+pub use code::generate;
