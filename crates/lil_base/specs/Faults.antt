@@ -3,7 +3,7 @@ use Rattle.std.specs.Prelude.{ℕ, None, List, [], ◌==◌, if◌then◌else◌
 use Rattle.lil_base.specs.declared.fault.Place.{Place}
 use Rattle.lil_base.specs.declared.fault.SourceFault.{SourceFault}
 use Rattle.lil_base.specs.declared.fault.FaultKind.{FaultKind}
-use Rattle.lil_base.specs.declared.fault.FaultKind.TheVariants.{BadChar, OpenComment, OpenString, BadNumber, NumberTooLarge, NameTooLong, Syntax, TooNested, TextTooLong, NotBuilt}
+use Rattle.lil_base.specs.declared.fault.FaultKind.TheVariants.{BadChar, OpenComment, OpenString, BadNumber, NumberTooLarge, NameTooLong, Syntax, EndName, TooNested, Unknown, Twice, NotExported, WrongKind, ExitOutside, ReturnKind, ForVariable, Operands, Assign, ArgCount, VarArgument, NotCallable, NotArray, NotRecord, NotPointer, NoField, SetBase, ResultType, ProcValue, LabelTwice, Opaque, ConstRange, NotConst, ConstArith, EmptyRange, ExprDeep, DataTooLong, TooManyProcs, TextTooLong, ReservedModule, FileName, UnitKind, NotBuilt}
 
 abbrev pub fault_number : FaultKind → ℕ
 fault_number BadChar = 1
@@ -13,8 +13,40 @@ fault_number BadNumber = 4
 fault_number NumberTooLarge = 5
 fault_number NameTooLong = 6
 fault_number Syntax = 10
+fault_number EndName = 11
 fault_number TooNested = 12
+fault_number Unknown = 20
+fault_number Twice = 21
+fault_number NotExported = 22
+fault_number WrongKind = 24
+fault_number ExitOutside = 25
+fault_number ReturnKind = 26
+fault_number ForVariable = 27
+fault_number Operands = 30
+fault_number Assign = 31
+fault_number ArgCount = 32
+fault_number VarArgument = 33
+fault_number NotCallable = 34
+fault_number NotArray = 35
+fault_number NotRecord = 36
+fault_number NotPointer = 37
+fault_number NoField = 38
+fault_number SetBase = 39
+fault_number ResultType = 40
+fault_number ProcValue = 41
+fault_number LabelTwice = 42
+fault_number Opaque = 43
+fault_number ConstRange = 50
+fault_number NotConst = 51
+fault_number ConstArith = 52
+fault_number EmptyRange = 53
+fault_number ExprDeep = 60
+fault_number DataTooLong = 61
+fault_number TooManyProcs = 62
 fault_number TextTooLong = 65
+fault_number ReservedModule = 76
+fault_number FileName = 77
+fault_number UnitKind = 80
 fault_number NotBuilt = 90
 
 -- the fault of a number at a place, about no name and with no values
@@ -31,7 +63,39 @@ fault_name n =
     else (if n == 5 then codes "NumberTooLarge"
     else (if n == 6 then codes "NameTooLong"
     else (if n == 10 then codes "Syntax"
+    else (if n == 11 then codes "EndName"
     else (if n == 12 then codes "TooNested"
+    else (if n == 20 then codes "Unknown"
+    else (if n == 21 then codes "Twice"
+    else (if n == 22 then codes "NotExported"
+    else (if n == 24 then codes "WrongKind"
+    else (if n == 25 then codes "ExitOutside"
+    else (if n == 26 then codes "ReturnKind"
+    else (if n == 27 then codes "ForVariable"
+    else (if n == 30 then codes "Operands"
+    else (if n == 31 then codes "Assign"
+    else (if n == 32 then codes "ArgCount"
+    else (if n == 33 then codes "VarArgument"
+    else (if n == 34 then codes "NotCallable"
+    else (if n == 35 then codes "NotArray"
+    else (if n == 36 then codes "NotRecord"
+    else (if n == 37 then codes "NotPointer"
+    else (if n == 38 then codes "NoField"
+    else (if n == 39 then codes "SetBase"
+    else (if n == 40 then codes "ResultType"
+    else (if n == 41 then codes "ProcValue"
+    else (if n == 42 then codes "LabelTwice"
+    else (if n == 43 then codes "Opaque"
+    else (if n == 50 then codes "ConstRange"
+    else (if n == 51 then codes "NotConst"
+    else (if n == 52 then codes "ConstArith"
+    else (if n == 53 then codes "EmptyRange"
+    else (if n == 60 then codes "ExprDeep"
+    else (if n == 61 then codes "DataTooLong"
+    else (if n == 62 then codes "TooManyProcs"
     else (if n == 65 then codes "TextTooLong"
+    else (if n == 76 then codes "ReservedModule"
+    else (if n == 77 then codes "FileName"
+    else (if n == 80 then codes "UnitKind"
     else (if n == 90 then codes "NotBuilt"
-    else [])))))))))
+    else [])))))))))))))))))))))))))))))))))))))))))

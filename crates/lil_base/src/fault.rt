@@ -43,10 +43,74 @@ pub enum FaultKind {
     NameTooLong,
     /// The tokens go on with nothing that may stand there.
     Syntax,
+    /// The name behind END is another than that of what ends there.
+    EndName,
     /// A part is nested too deep.
     TooNested,
+    /// A name isn't declared where it is looked for.
+    Unknown,
+    /// A name is bound a second time in one block, list of fields or list of parameters.
+    Twice,
+    /// A definition declares the name, but doesn't export it.
+    NotExported,
+    /// A name is of another kind than its place asks for.
+    WrongKind,
+    /// EXIT stands in no LOOP.
+    ExitOutside,
+    /// RETURN has no value in a function, or has one elsewhere.
+    ReturnKind,
+    /// A FOR can't count with this variable.
+    ForVariable,
+    /// An operator or standard procedure doesn't take operands of these types.
+    Operands,
+    /// A value can't be assigned to what it is meant for.
+    Assign,
+    /// A call has more or fewer arguments than there are parameters.
+    ArgCount,
+    /// An argument is no variable of the parameter's type.
+    VarArgument,
+    /// What is called is no procedure, or is of the other kind of procedure.
+    NotCallable,
+    /// What has an index is no array.
+    NotArray,
+    /// What has a field, or stands behind WITH, is no record.
+    NotRecord,
+    /// What is followed, or is given to NEW or DISPOSE, is no pointer.
+    NotPointer,
+    /// The record has no field of this name.
+    NoField,
+    /// The base of a set isn't ordinal, or has values outside 0 to 15.
+    SetBase,
+    /// The type of a result is an array or a record.
+    ResultType,
+    /// A nested, standard or resident procedure stands as a value.
+    ProcValue,
+    /// A label's value stands before in the same CASE.
+    LabelTwice,
+    /// An opaque type of another module is followed, or given to NEW or DISPOSE.
+    Opaque,
+    /// A constant lies outside the range that it meets, or a step is zero.
+    ConstRange,
+    /// An expression that must be constant isn't.
+    NotConst,
+    /// A constant result lies outside -32768 to 65535, or a constant divisor is zero.
+    ConstArith,
+    /// The lower bound of a range is greater than its upper bound.
+    EmptyRange,
+    /// An expression takes more than 12 words of the expression stack.
+    ExprDeep,
+    /// A type, or a unit's data, has more than 32,000 words.
+    DataTooLong,
+    /// The module has a 251st procedure.
+    TooManyProcs,
     /// The text has more than 262,144 bytes.
     TextTooLong,
+    /// The unit has the name of a resident module.
+    ReservedModule,
+    /// The unit's name isn't that of its file.
+    FileName,
+    /// The unit is of another kind than its file or its command asks for.
+    UnitKind,
     /// The text has a form that isn't built.
     NotBuilt,
 }
@@ -64,8 +128,40 @@ impl FaultKind {
             FaultKind::NumberTooLarge => 5,
             FaultKind::NameTooLong => 6,
             FaultKind::Syntax => 10,
+            FaultKind::EndName => 11,
             FaultKind::TooNested => 12,
+            FaultKind::Unknown => 20,
+            FaultKind::Twice => 21,
+            FaultKind::NotExported => 22,
+            FaultKind::WrongKind => 24,
+            FaultKind::ExitOutside => 25,
+            FaultKind::ReturnKind => 26,
+            FaultKind::ForVariable => 27,
+            FaultKind::Operands => 30,
+            FaultKind::Assign => 31,
+            FaultKind::ArgCount => 32,
+            FaultKind::VarArgument => 33,
+            FaultKind::NotCallable => 34,
+            FaultKind::NotArray => 35,
+            FaultKind::NotRecord => 36,
+            FaultKind::NotPointer => 37,
+            FaultKind::NoField => 38,
+            FaultKind::SetBase => 39,
+            FaultKind::ResultType => 40,
+            FaultKind::ProcValue => 41,
+            FaultKind::LabelTwice => 42,
+            FaultKind::Opaque => 43,
+            FaultKind::ConstRange => 50,
+            FaultKind::NotConst => 51,
+            FaultKind::ConstArith => 52,
+            FaultKind::EmptyRange => 53,
+            FaultKind::ExprDeep => 60,
+            FaultKind::DataTooLong => 61,
+            FaultKind::TooManyProcs => 62,
             FaultKind::TextTooLong => 65,
+            FaultKind::ReservedModule => 76,
+            FaultKind::FileName => 77,
+            FaultKind::UnitKind => 80,
             FaultKind::NotBuilt => 90,
         }
     }
@@ -97,8 +193,40 @@ impl SourceFault {
             5 => b"NumberTooLarge",
             6 => b"NameTooLong",
             10 => b"Syntax",
+            11 => b"EndName",
             12 => b"TooNested",
+            20 => b"Unknown",
+            21 => b"Twice",
+            22 => b"NotExported",
+            24 => b"WrongKind",
+            25 => b"ExitOutside",
+            26 => b"ReturnKind",
+            27 => b"ForVariable",
+            30 => b"Operands",
+            31 => b"Assign",
+            32 => b"ArgCount",
+            33 => b"VarArgument",
+            34 => b"NotCallable",
+            35 => b"NotArray",
+            36 => b"NotRecord",
+            37 => b"NotPointer",
+            38 => b"NoField",
+            39 => b"SetBase",
+            40 => b"ResultType",
+            41 => b"ProcValue",
+            42 => b"LabelTwice",
+            43 => b"Opaque",
+            50 => b"ConstRange",
+            51 => b"NotConst",
+            52 => b"ConstArith",
+            53 => b"EmptyRange",
+            60 => b"ExprDeep",
+            61 => b"DataTooLong",
+            62 => b"TooManyProcs",
             65 => b"TextTooLong",
+            76 => b"ReservedModule",
+            77 => b"FileName",
+            80 => b"UnitKind",
             90 => b"NotBuilt",
             _ => b"",
         }

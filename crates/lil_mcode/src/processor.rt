@@ -18,6 +18,21 @@ mod loading;
 mod operators;
 mod stack;
 
+/// How many modules may be loaded.
+const MOST_MODULES: usize = 63;
+
+/// The bytes of the code store.
+const CODE_BYTES: usize = 131_072;
+
+/// The words of the main store.
+const STORE_WORDS: usize = 65_536;
+
+/// The limit of a stack that nothing stands above.
+const TOP_LIMIT: u16 = 65_535;
+
+/// The highest base of a stack on which a mark has room.
+const LAST_MARK: u16 = TOP_LIMIT - 4;
+
 /// A module that is loaded: its part of the code store, in bytes, and its data frame, in words.
 #[derive(Drop)]
 pub struct LoadedModule {
@@ -80,9 +95,9 @@ impl Processor {
     pub fn new(alloc: Global) -> Result<Processor, Memory>
         ensures { IfOk result (λ p. p ≡ fresh.state) }
     {
-        let modules = Vec::with_capacity(alloc, 63)?;
-        let code = zero_bytes(alloc, 131072)?;
-        let store = zero_words(alloc, 65536)?;
+        let modules = Vec::with_capacity(alloc, MOST_MODULES)?;
+        let code = zero_bytes(alloc, CODE_BYTES)?;
+        let store = zero_words(alloc, STORE_WORDS)?;
         Ok(Processor {
             modules,
             code,
@@ -97,7 +112,7 @@ impl Processor {
             frame: 0,
             top: 0,
             base: 0,
-            limit: 65535,
+            limit: TOP_LIMIT,
             bodies: Bytes::new(alloc),
             marked: false,
         })

@@ -8,7 +8,7 @@ ghost use Rattle.lil_mcode.specs.State.{Module, cleared, spliced, module_at, fir
 
 use super::fetching::loaded;
 use super::frames::clear;
-use super::{LoadedModule, Processor};
+use super::{LAST_MARK, LoadedModule, Processor, TOP_LIMIT};
 use crate::arithmetic::{trap_of, truth_word};
 use lil_base::{Bytes, Name};
 
@@ -72,7 +72,7 @@ impl Processor {
         ensures { self.new ≡ with_first (record self.old { base = base; limit = 65535 }) bodies.items }
     {
         self.base = base;
-        self.limit = 65535;
+        self.limit = TOP_LIMIT;
         let mut bodies = Bytes::of_vec(bodies);
         let Some(number) = bodies.take_first() else {
             return;
@@ -81,7 +81,7 @@ impl Processor {
             return;
         };
         self.bodies = bodies;
-        if base <= 65531 {
+        if base <= LAST_MARK {
             self.start_body(number, place);
             self.marked = true;
         } else {
