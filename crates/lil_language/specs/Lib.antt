@@ -1,0 +1,5 @@
+pub mod Grammar
+pub mod Laws
+pub mod Sound
+pub mod Trees
+pub mod Units
