@@ -1,0 +1,8 @@
+use Rattle.std.proofs.Common.{◌≡◌, ◌-◌}
+use Rattle.lil_grammar.specs.Steps.{loop}
+use Rattle.lil_syntax.specs.Syntax.{give, ◌◃◌}
+use Rattle.lil_language.specs.Grammar as spec
+use Rattle.lil_read_decl.proofs.part.definition_types.Given as goal
+
+abbrev pub invariant-loop-turn : goal.invariant-loop-turn
+invariant-loop-turn l = spec.reading l.depth spec.definition_types l.fn.reader ≡ loop (spec.turns (give (λ x. x) ◃ spec.definition_type)) (spec.turned l.depth (give (λ x. x) ◃ spec.definition_type) spec.with_last) (l._turn-end - l._turn) l.found l.reader

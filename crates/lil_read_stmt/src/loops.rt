@@ -1,0 +1,113 @@
+ghost use Rattle.lil_grammar.specs.Steps.{Reads};
+ghost use Rattle.lil_language.specs.Grammar as spec;
+
+use crate::statement::statements;
+use lil_grammar::Reader;
+use lil_language::{Expr, ForHead, Stmt};
+use lil_read_expr::expr;
+use lil_text::{Mark, ReadStop, Word};
+use std::alloc::Global;
+
+/// WHILE up to its END.
+#[cycle(stmt)]
+#[tactic(auto, unfolding(lil_language::specs::Grammar::reading, lil_language::specs::Grammar::while_form, lil_syntax::specs::Syntax::reads, lil_syntax::specs::Syntax::before))]
+fn while_form(alloc: Global, reader: &mut Reader<'_>, depth: u8) -> Result<Stmt, ReadStop>
+    ensures { Reads (spec.reading depth spec.while_form reader.old) result reader.new }
+{
+    let place = reader.expect_word(Word::While)?;
+    let condition = expr(alloc, reader, depth)?;
+    reader.expect_word(Word::Do)?;
+    let body = statements(alloc, reader, depth)?;
+    reader.expect_word(Word::End)?;
+    Ok(Stmt::While(place, condition, body))
+}
+
+/// REPEAT up to the condition behind its UNTIL.
+#[cycle(stmt)]
+#[tactic(auto, unfolding(lil_language::specs::Grammar::reading, lil_language::specs::Grammar::repeat_form, lil_syntax::specs::Syntax::reads, lil_syntax::specs::Syntax::before))]
+fn repeat_form(alloc: Global, reader: &mut Reader<'_>, depth: u8) -> Result<Stmt, ReadStop>
+    ensures { Reads (spec.reading depth spec.repeat_form reader.old) result reader.new }
+{
+    let place = reader.expect_word(Word::Repeat)?;
+    let body = statements(alloc, reader, depth)?;
+    reader.expect_word(Word::Until)?;
+    let condition = expr(alloc, reader, depth)?;
+    Ok(Stmt::Repeat(place, body, condition))
+}
+
+/// LOOP up to its END.
+#[cycle(stmt)]
+#[tactic(auto, unfolding(lil_language::specs::Grammar::reading, lil_language::specs::Grammar::loop_form, lil_syntax::specs::Syntax::reads, lil_syntax::specs::Syntax::before))]
+fn loop_form(alloc: Global, reader: &mut Reader<'_>, depth: u8) -> Result<Stmt, ReadStop>
+    ensures { Reads (spec.reading depth spec.loop_form reader.old) result reader.new }
+{
+    let place = reader.expect_word(Word::Loop)?;
+    let body = statements(alloc, reader, depth)?;
+    reader.expect_word(Word::End)?;
+    Ok(Stmt::Loop(place, body))
+}
+
+/// What stands behind BY, where one stands here.
+#[tactic(auto, unfolding(lil_language::specs::Grammar::reading, lil_language::specs::Grammar::step, lil_syntax::specs::Syntax::reads, lil_syntax::specs::Syntax::before))]
+fn step(alloc: Global, reader: &mut Reader<'_>, depth: u8) -> Result<Option<Expr>, ReadStop>
+    ensures { Reads (spec.reading depth spec.step reader.old) result reader.new }
+{
+    if reader.sees_word(Word::By) {
+        reader.expect_word(Word::By)?;
+        let by = expr(alloc, reader, depth)?;
+        Ok(Some(by))
+    } else {
+        Ok(None)
+    }
+}
+
+/// What stands between FOR and DO.
+#[tactic(auto, unfolding(lil_language::specs::Grammar::reading, lil_language::specs::Grammar::a_for_head, lil_syntax::specs::Syntax::reads, lil_syntax::specs::Syntax::before))]
+fn a_for_head(alloc: Global, reader: &mut Reader<'_>, depth: u8) -> Result<ForHead, ReadStop>
+    ensures { Reads (spec.reading depth spec.a_for_head reader.old) result reader.new }
+{
+    let variable = reader.ident(alloc)?;
+    let becomes = reader.expect(Mark::Becomes)?;
+    let from = expr(alloc, reader, depth)?;
+    reader.expect_word(Word::To)?;
+    let to = expr(alloc, reader, depth)?;
+    let by = step(alloc, reader, depth)?;
+    Ok(ForHead {
+        variable,
+        becomes,
+        from,
+        to,
+        by,
+    })
+}
+
+/// FOR up to its END.
+#[cycle(stmt)]
+#[tactic(auto, unfolding(lil_language::specs::Grammar::reading, lil_language::specs::Grammar::for_form, lil_syntax::specs::Syntax::reads, lil_syntax::specs::Syntax::before))]
+fn for_form(alloc: Global, reader: &mut Reader<'_>, depth: u8) -> Result<Stmt, ReadStop>
+    ensures { Reads (spec.reading depth spec.for_form reader.old) result reader.new }
+{
+    let place = reader.expect_word(Word::For)?;
+    let head = a_for_head(alloc, reader, depth)?;
+    reader.expect_word(Word::Do)?;
+    let body = statements(alloc, reader, depth)?;
+    reader.expect_word(Word::End)?;
+    Ok(Stmt::For(place, head, body))
+}
+
+/// WHILE, REPEAT, LOOP or FOR.
+#[cycle(stmt)]
+#[tactic(auto, using(lil_language::specs::Laws::ways), unfolding(lil_language::specs::Grammar::loops_form, lil_language::specs::Grammar::while_form, lil_language::specs::Grammar::repeat_form, lil_language::specs::Grammar::loop_form))]
+pub fn loops_form(alloc: Global, reader: &mut Reader<'_>, depth: u8) -> Result<Stmt, ReadStop>
+    ensures { Reads (spec.reading depth spec.loops_form reader.old) result reader.new }
+{
+    if reader.sees_word(Word::While) {
+        while_form(alloc, reader, depth)
+    } else if reader.sees_word(Word::Repeat) {
+        repeat_form(alloc, reader, depth)
+    } else if reader.sees_word(Word::Loop) {
+        loop_form(alloc, reader, depth)
+    } else {
+        for_form(alloc, reader, depth)
+    }
+}

@@ -1,0 +1,6 @@
+pub mod Answering
+pub mod Counting
+pub mod Firsts
+pub mod Layers
+pub mod Soonest
+pub mod Wholes

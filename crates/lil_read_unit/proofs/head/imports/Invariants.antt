@@ -1,0 +1,8 @@
+use Rattle.std.proofs.Common.{◌≡◌, ◌-◌}
+use Rattle.lil_grammar.specs.Steps.{loop}
+use Rattle.lil_syntax.specs.Syntax.{give, ◌◃◌}
+use Rattle.lil_language.specs.Grammar as spec
+use Rattle.lil_read_unit.proofs.head.imports.Given as goal
+
+abbrev pub invariant-loop-turn : goal.invariant-loop-turn
+invariant-loop-turn l = spec.reading l.depth spec.imports l.fn.reader ≡ loop (spec.turns (give (λ x. x) ◃ spec.an_import)) (spec.turned l.depth (give (λ x. x) ◃ spec.an_import) spec.with_last) (l._turn-end - l._turn) l.found l.reader
