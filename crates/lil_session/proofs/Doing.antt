@@ -5,7 +5,6 @@ use Rattle.std.proofs.lemmas.Bool.{both_ways}
 use Rattle.std.proofs.lemmas.List.{append-nil}
 use Rattle.lil_base.specs.declared.fault.SourceFault.{SourceFault}
 use Rattle.lil_resolved.specs.Resolved.{Resolved}
-use Rattle.lil_tree.specs.Structured.{IsStructured}
 use Rattle.lil_meaning.specs.World.{World}
 use Rattle.lil_meaning.specs.Items.{Going}
 use Rattle.lil_meaning.specs.Runs.{state_of}
@@ -16,10 +15,15 @@ use Rattle.lil_volume.specs.Told.{Files, FileIs, followed_by}
 use Rattle.lil_session.specs.declared.status.Status.{Status}
 use Rattle.lil_session.specs.declared.status.Status.TheVariants as a
 use Rattle.lil_session.specs.Words.{mod_file}
-use Rattle.lil_session.specs.Outcome.{settled, gives_way, with_writes, not_built, Allowed, Answers, EndsSo, SourceAnswers, TextAnswers, Blames, Devices, Finds, Headline, IsRunAnswer, IsRunnable, MeansAnswer, Runs, Shows}
+use Rattle.lil_session.specs.Outcome.{settled, gives_way, with_writes, Allowed, Answers, EndsSo, SourceAnswers, TextAnswers, Blames, Devices, Finds, HasFault, Headline, IsRunAnswer, IsRunText, IsRunnable, MeansAnswer, ReadsOne, Runs, Shows, stopped_by}
 use Rattle.lil_session.specs.Counted.{MachineAnswers}
 use Rattle.lil_session.specs.Answered.{TextRan, CommandRan, IsAnswer, IsUnrun}
-use Rattle.lil_session.proofs.Agree.{MeansOne, texts_agree}
+use Rattle.lil_text.specs.declared.stop.ReadStop.{ReadStop}
+use Rattle.lil_text.specs.declared.stop.ReadStop.TheVariants.{Fault, Memory}
+use Rattle.lil_language.specs.declared.unit.Unit.{Unit as Tree}
+use Rattle.lil_language.specs.Units.{Reads, HasReadFault}
+use Rattle.lil_session.proofs.Agree.{texts_agree}
+use Rattle.lil_session.proofs.Faulty.{reads_fault}
 
 followed_none : (old : Option (List ℕ)) (more : List ℕ) → more ≡ [] → old ≡ followed_by old more
 followed_none None more none = refl
@@ -69,7 +73,7 @@ ran_not name steps before files faults s cause same later asked = record {
   no_file_only = λ m file told is. absurd (no is refl);
   no_file_where = λ m x told named none stays. absurd (not_stays stays);
   fault_only = λ m f told is. absurd (no is refl);
-  fault_where = λ m x text told named there none stays. absurd (not_stays stays);
+  fault_where = λ m x text f told named there has stays. absurd (not_stays stays);
   missed_is = λ file is. absurd (no is refl);
   fault_is = λ f is. absurd (no is refl);
   kinds = comes;
@@ -136,16 +140,16 @@ none_of {M} P Q o is holds = subst (λ (x : Option M). MatchOption x P Q) is hol
 same_fault : (f g : SourceFault) → a.SourceFault f ≡ a.SourceFault g → f ≡ g
 same_fault f g same = cc
 
--- a text that isn't structured was not run
-pub text_not : (file text : List ℕ) (steps : ℕ) (old : Option (List ℕ)) (faults : ℕ) (fault : SourceFault) → MeansOne file text → ((p : Resolved) → IsStructured file text p → ⊥) → fault ≡ not_built → TextRan file text steps old faults old faults (a.SourceFault fault)
-text_not file text steps old faults fault unique none is = record {
+-- a text with a fault was not run
+pub text_not : (file text : List ℕ) (steps : ℕ) (old : Option (List ℕ)) (faults : ℕ) (fault : SourceFault) → ReadsOne file text → HasFault file text fault → TextRan file text steps old faults old faults (a.SourceFault fault)
+text_not file text steps old faults fault unique has = record {
   one = λ settles. unique;
-  answer = λ w blank settles. inr (inl (none, ap a.SourceFault is));
-  fault_only = λ f same. (sym (same_fault fault f same) ∙ is, none);
-  fault_where = λ also stays. ap a.SourceFault is;
+  answer = λ w blank settles. inr (inl (fault, has, refl));
+  fault_only = λ f same. subst (λ (g : SourceFault). HasFault file text g) (same_fault fault f same) has;
+  fault_where = λ f also stays. ap a.SourceFault (unique.fault fault f has also);
   kinds = inl (fault, refl);
-  shows = λ w p blank structured. absurd (none p structured);
-  machine = λ w p blank structured. absurd (none p structured);
+  shows = λ w p blank runs. absurd (unique.apart fault p has runs);
+  machine = λ w p blank runs. absurd (unique.apart fault p has runs);
   nothing = λ f same. refl;
   called = inl (refl, refl);
   cause = record { later = omega arith; rose = λ same. cc; quiet = inl refl };
@@ -158,7 +162,7 @@ text_memory file text steps old faults = record {
   one = λ settles. absurd (no_true settles);
   answer = λ w blank settles. absurd (no_true settles);
   fault_only = λ f same. absurd (no_fault f same);
-  fault_where = λ none gives. absurd (no_true (sym gives));
+  fault_where = λ f has gives. absurd (no_true (sym gives));
   kinds = inr tt;
   shows = λ w p blank structured. shows_none p w old a.Memory blank (λ is. cc) tt;
   machine = λ w p blank structured. inl refl;
@@ -174,8 +178,14 @@ text_memory file text steps old faults = record {
     no_fault : (f : SourceFault) → a.Memory ≡ a.SourceFault f → ⊥
     no_fault f same = cc
 
+-- reading stopped
+pub text_stopped : (file text : List ℕ) (steps : ℕ) (old : Option (List ℕ)) (faults : ℕ) (e : ReadStop) → ((f : SourceFault) → e ≡ Fault f → HasReadFault text f)
+    → ((g : SourceFault) → HasReadFault text g → (e ≡ Fault g) ⊎ (e ≡ Memory)) → ((u : Tree) (f : SourceFault) → Reads text u → HasReadFault text f → ⊥) → TextRan file text steps old faults old faults (stopped_by e)
+text_stopped file text steps old faults (Fault f) has exact apart = text_not file text steps old faults f (reads_fault file text f (has f refl) exact apart) (inl (has f refl))
+text_stopped file text steps old faults Memory has exact apart = text_memory file text steps old faults
+
 -- a text that is structured was run
-pub text_ran : (file text : List ℕ) (m : Resolved) (steps : ℕ) (old : Option (List ℕ)) (old_faults : ℕ) (new : Option (List ℕ)) (new_faults : ℕ) (s : Status) → MeansOne file text → IsStructured file text m
+pub text_ran : (file text : List ℕ) (m : Resolved) (steps : ℕ) (old : Option (List ℕ)) (old_faults : ℕ) (new : Option (List ℕ)) (new_faults : ℕ) (s : Status) → ReadsOne file text → IsRunText file text m
     → ((w : World) → w.screen ≡ [] → Shows m w old new s)
     → ((w : World) → w.screen ≡ [] → settled s ≡ true → (s ≡ a.StepsSpent) ⊎ MeansAnswer m w s)
     → IsRunAnswer s → ((w : World) → w.screen ≡ [] → MachineAnswers m w steps old new s) → Blames a.ScreenFault old_faults new_faults s → (s ≡ a.ScreenFault) ⊎ (new_faults ≡ old_faults)
@@ -184,10 +194,10 @@ text_ran file text m steps old old_faults new new_faults s unique structured sho
   one = λ settles. unique;
   answer = λ w none is. either (answer w none is);
   fault_only = λ f is. absurd (no_fault f is);
-  fault_where = λ none stays. absurd (none m structured);
+  fault_where = λ f has stays. absurd (unique.apart f m has structured);
   kinds = inr kinds;
-  shows = λ w p none also. subst (λ (r : Resolved). Shows r w old new s) (unique m p structured also) (shows w none);
-  machine = λ w p none also. subst (λ (r : Resolved). MachineAnswers r w steps old new s) (unique m p structured also) (machine w none);
+  shows = λ w p none also. subst (λ (r : Resolved). Shows r w old new s) (unique.means m p structured also) (shows w none);
+  machine = λ w p none also. subst (λ (r : Resolved). MachineAnswers r w steps old new s) (unique.means m p structured also) (machine w none);
   nothing = λ f is. absurd (no_fault f is);
   called = inr (m, structured);
   cause = cause;
@@ -213,10 +223,10 @@ source_ran file text steps before files faults shown screen_faults s is same qui
   usage_where = λ none stays. cc;
   no_file_only = λ m x told missed. absurd (no missed (λ f e. cc) (λ h. h));
   no_file_where = λ m x told named none stays. absurd (there_not m x told named none);
-  fault_only = λ m f told fault. ((ran.fault_only f fault).0, (file, refl, (text, sym (found_as before.files m (mod_file file) (Some text) told is), (ran.fault_only f fault).1)));
-  fault_where = λ m x t told named there none stays. ran.fault_where (none_here m x t told named there none) stays;
+  fault_only = λ m f told fault. (file, refl, (text, sym (found_as before.files m (mod_file file) (Some text) told is), ran.fault_only f fault));
+  fault_where = λ m x t f told named there has stays. ran.fault_where f (fault_here m x t f told named there has) stays;
   missed_is = λ x missed. absurd (no missed (λ f e. cc) (λ h. h));
-  fault_is = λ f fault. (ran.fault_only f fault).0;
+  fault_is = λ f fault. (file, text, refl, ran.fault_only f fault);
   kinds = comes ran.kinds;
   not_report = λ report. absurd (no report (λ f e. cc) (λ h. h));
   headline = λ w p finds runs. headline_of p w before (record before { files = files; volume_faults = faults; shown = shown; screen_faults = screen_faults }) s finds (ran.shows w p finds.nothing_shown (structured_here w p finds runs)) refl same;
@@ -241,7 +251,7 @@ source_ran file text steps before files faults shown screen_faults s is same qui
     either w there (inl spent) = inl spent
     either w there (inr answers) = inr (subst (λ (o : Option (List ℕ)). SourceAnswers file w o s) there answers)
 
-    called : ((shown ≡ before.shown) × (screen_faults ≡ before.screen_faults)) ⊎ ((p : Resolved) × IsStructured file text p)
+    called : ((shown ≡ before.shown) × (screen_faults ≡ before.screen_faults)) ⊎ ((p : Resolved) × IsRunText file text p)
         → ((shown ≡ before.shown) × (screen_faults ≡ before.screen_faults)) ⊎ IsRunnable (Some file) before.files
     called (inl still) = inl still
     called (inr (p, structured)) = inr (record { file = file; named = refl; text = text; there = is; means = p; structured = structured })
@@ -252,21 +262,21 @@ source_ran file text steps before files faults shown screen_faults s is same qui
         let same_name : file ≡ x = some_same file x named in
         cc
 
-    none_here : (m : Files) (x t : List ℕ) → before.files ≡ Some m → Some file ≡ Some x → get m (mod_file x) ≡ Some t → ((p : Resolved) → IsStructured x t p → ⊥) → (p : Resolved) → IsStructured file text p → ⊥
-    none_here m x t told named there none p structured =
+    fault_here : (m : Files) (x t : List ℕ) (f : SourceFault) → before.files ≡ Some m → Some file ≡ Some x → get m (mod_file x) ≡ Some t → HasFault x t f → HasFault file text f
+    fault_here m x t f told named there has =
         let here : Some text ≡ get m (mod_file file) = found_as before.files m (mod_file file) (Some text) told is in
         let same_name : file ≡ x = some_same file x named in
         let same_text : text ≡ t = some_same text t (here ∙ ap (λ (n : List ℕ). get m (mod_file n)) same_name ∙ there) in
-        none p (subst (λ (u : List ℕ). IsStructured x u p) same_text (subst (λ (n : List ℕ). IsStructured n text p) same_name structured))
+        subst (λ (u : List ℕ). HasFault file u f) (sym same_text) (subst (λ (n : List ℕ). HasFault n t f) (sym same_name) has)
 
-    structured_here : (w : World) (p : Resolved) → Finds before.files before.keys w → Runs (Some file) w p → IsStructured file text p
+    structured_here : (w : World) (p : Resolved) → Finds before.files before.keys w → Runs (Some file) w p → IsRunText file text p
     structured_here w p finds runs =
         let here : Some text ≡ get w.files (mod_file file) = found_in before.files before.keys w (mod_file file) (Some text) finds is in
         let same_name : file ≡ runs.file = some_same file runs.file runs.named in
         let same_text : text ≡ runs.text = some_same text runs.text (here ∙ ap (λ (n : List ℕ). get w.files (mod_file n)) same_name ∙ runs.there) in
-        subst (λ (u : List ℕ). IsStructured file u p) (sym same_text) (subst (λ (n : List ℕ). IsStructured n runs.text p) (sym same_name) runs.structured)
+        subst (λ (u : List ℕ). IsRunText file u p) (sym same_text) (subst (λ (n : List ℕ). IsRunText n runs.text p) (sym same_name) runs.structured)
 
-    ended : (w : World) (p : Resolved) (n : ℕ) (t : Status) → Finds before.files before.keys w → Runs (Some file) w p → EndsSo (state_of p w n).phase t → MeansOne file text → (s ≡ a.StepsSpent) ⊎ TextAnswers file text w s → (s ≡ a.StepsSpent) ⊎ (s ≡ t)
+    ended : (w : World) (p : Resolved) (n : ℕ) (t : Status) → Finds before.files before.keys w → Runs (Some file) w p → EndsSo (state_of p w n).phase t → ReadsOne file text → (s ≡ a.StepsSpent) ⊎ TextAnswers file text w s → (s ≡ a.StepsSpent) ⊎ (s ≡ t)
     ended w p n t finds runs ends unique (inl spent) = inl spent
     ended w p n t finds runs ends unique (inr answers) =
         inr (texts_agree file text unique w s t answers (inr (p, structured_here w p finds runs, record { steps = n; ends = ends })))

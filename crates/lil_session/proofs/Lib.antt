@@ -3,6 +3,7 @@ mod Agree
 mod Alone
 mod Counting
 mod Doing
+mod Faulty
 mod Endings
 mod Enough
 mod Pieces

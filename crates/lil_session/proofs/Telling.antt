@@ -155,7 +155,7 @@ module _ {call : Call} {result : Status} (told : CommandReported call result) wh
     no_file_only = λ m file held is. told.ran.no_file_only m file held (inner_is (a.NoFile file) (λ e. cc) (λ e. cc) is);
     no_file_where = λ m x held named none ok. result_is _ ok (told.ran.no_file_where m x held named none);
     fault_only = λ m f held is. told.ran.fault_only m f held (inner_is (a.SourceFault f) (λ e. cc) (λ e. cc) is);
-    fault_where = λ m x text held named there none ok. result_is _ ok (told.ran.fault_where m x text held named there none);
+    fault_where = λ m x text f held named there has ok. result_is _ ok (told.ran.fault_where m x text f held named there has);
     done_only = λ w p finds runs is. phase_is w p finds runs a.Done is;
     done_where = λ w p n finds runs end ok. ends_where w p finds runs n a.Done (subst (λ (e : Phase). EndsSo e a.Done) (sym end) refl) ok;
     trapped_only = λ w p t finds runs is. phase_is w p finds runs (a.Trapped t) is;

@@ -4,7 +4,6 @@ use Rattle.std.specs.FinMap.{get}
 use Rattle.lil_base.specs.declared.fault.SourceFault.{SourceFault}
 use Rattle.lil_base.specs.declared.fault.TrapAt.{TrapAt}
 use Rattle.lil_resolved.specs.Resolved.{Resolved}
-use Rattle.lil_tree.specs.Structured.{IsStructured}
 use Rattle.lil_meaning.specs.World.{World}
 use Rattle.lil_meaning.specs.Items.{Ended, Trapped}
 use Rattle.lil_meaning.specs.Runs.{state_of}
@@ -13,7 +12,7 @@ use Rattle.lil_volume.specs.Told.{Files, followed_by, FollowedByPrefix}
 use Rattle.lil_session.specs.declared.status.Status.{Status}
 use Rattle.lil_session.specs.declared.status.Status.TheVariants as a
 use Rattle.lil_session.specs.Words.{mod_file}
-use Rattle.lil_session.specs.Outcome.{Answers, Blames, Devices, EndsSo, Finds, Headline, IsRunAnswer, IsRunnable, ReportBlames, Runs, Shows, TextAnswers, gives_way, not_built, settled}
+use Rattle.lil_session.specs.Outcome.{Answers, Blames, Devices, EndsSo, Finds, HasFault, Headline, IsRunAnswer, IsRunText, IsRunnable, ReadsOne, ReportBlames, Runs, Shows, TextAnswers, gives_way, settled}
 use Rattle.lil_session.specs.Counted.{MachineAnswers, MachineRan}
 use Rattle.lil_session.specs.Report.{Reported, status_lines}
 
@@ -45,15 +44,15 @@ IsUnrun _ = ⊥
 
 -- The text of the file of this name was run where it is structured.
 pub record TextRan (file text : List ℕ) (steps : ℕ) (old : Option (List ℕ)) (old_faults : ℕ) (new : Option (List ℕ)) (new_faults : ℕ) (status : Status) : Type 0 where
-  pub one : settled status ≡ true → (p q : Resolved) → IsStructured file text p → IsStructured file text q → p ≡ q
+  pub one : settled status ≡ true → ReadsOne file text
   pub answer : (w : World) → w.screen ≡ [] → settled status ≡ true → (status ≡ a.StepsSpent) ⊎ TextAnswers file text w status
-  pub fault_only : (f : SourceFault) → status ≡ a.SourceFault f → (f ≡ not_built) × ((p : Resolved) → IsStructured file text p → ⊥)
-  pub fault_where : ((p : Resolved) → IsStructured file text p → ⊥) → gives_way status ≡ false → status ≡ a.SourceFault not_built
+  pub fault_only : (f : SourceFault) → status ≡ a.SourceFault f → HasFault file text f
+  pub fault_where : (f : SourceFault) → HasFault file text f → gives_way status ≡ false → status ≡ a.SourceFault f
   pub kinds : ((f : SourceFault) × (status ≡ a.SourceFault f)) ⊎ IsRunAnswer status
-  pub shows : (w : World) (p : Resolved) → w.screen ≡ [] → IsStructured file text p → Shows p w old new status
-  pub machine : (w : World) (p : Resolved) → w.screen ≡ [] → IsStructured file text p → MachineAnswers p w steps old new status
+  pub shows : (w : World) (p : Resolved) → w.screen ≡ [] → IsRunText file text p → Shows p w old new status
+  pub machine : (w : World) (p : Resolved) → w.screen ≡ [] → IsRunText file text p → MachineAnswers p w steps old new status
   pub nothing : (f : SourceFault) → status ≡ a.SourceFault f → new ≡ old
-  pub called : ((new ≡ old) × (new_faults ≡ old_faults)) ⊎ ((p : Resolved) × IsStructured file text p)
+  pub called : ((new ≡ old) × (new_faults ≡ old_faults)) ⊎ ((p : Resolved) × IsRunText file text p)
   pub cause : Blames a.ScreenFault old_faults new_faults status
   pub told : (status ≡ a.ScreenFault) ⊎ (new_faults ≡ old_faults)
 
@@ -69,14 +68,14 @@ pub record CommandRan (name : Option (List ℕ)) (steps : ℕ) (before after : D
   -- a file is missed exactly where the source isn't there
   pub no_file_only : (m : Files) (file : List ℕ) → before.files ≡ Some m → status ≡ a.NoFile file → (x : List ℕ) × (name ≡ Some x) × (file ≡ mod_file x) × (get m file ≡ None)
   pub no_file_where : (m : Files) (x : List ℕ) → before.files ≡ Some m → name ≡ Some x → get m (mod_file x) ≡ None → gives_way status ≡ false → status ≡ a.NoFile (mod_file x)
-  -- fault 90 comes exactly where the text isn't structured, and no other fault comes
+  -- a fault comes exactly where the text has it
   pub fault_only : (m : Files) (f : SourceFault) → before.files ≡ Some m → status ≡ a.SourceFault f
-      → (f ≡ not_built) × ((x : List ℕ) × (name ≡ Some x) × ((text : List ℕ) × (get m (mod_file x) ≡ Some text) × ((p : Resolved) → IsStructured x text p → ⊥)))
-  pub fault_where : (m : Files) (x text : List ℕ) → before.files ≡ Some m → name ≡ Some x → get m (mod_file x) ≡ Some text → ((p : Resolved) → IsStructured x text p → ⊥)
-      → gives_way status ≡ false → status ≡ a.SourceFault not_built
-  -- a missed file is the source of the module that the words name, and a fault is fault 90, whatever the volume tells
+      → (x : List ℕ) × (name ≡ Some x) × ((text : List ℕ) × (get m (mod_file x) ≡ Some text) × HasFault x text f)
+  pub fault_where : (m : Files) (x text : List ℕ) (f : SourceFault) → before.files ≡ Some m → name ≡ Some x → get m (mod_file x) ≡ Some text → HasFault x text f
+      → gives_way status ≡ false → status ≡ a.SourceFault f
+  -- a missed file is the source of the module that the words name, and a fault is one of some text, whatever the volume tells
   pub missed_is : (file : List ℕ) → status ≡ a.NoFile file → (x : List ℕ) × (name ≡ Some x) × (file ≡ mod_file x)
-  pub fault_is : (f : SourceFault) → status ≡ a.SourceFault f → f ≡ not_built
+  pub fault_is : (f : SourceFault) → status ≡ a.SourceFault f → (x text : List ℕ) × (name ≡ Some x) × HasFault x text f
   -- no other status comes
   pub kinds : IsAnswer status
   pub not_report : status ≢ a.ReportFault
@@ -132,11 +131,11 @@ pub record Answered (call : Call) (result : Status) : Type 0 where
   -- A file is missed exactly where the volume doesn't have the source.
   pub no_file_only : (m : Files) (file : List ℕ) → call.before.files ≡ Some m → result ≡ a.NoFile file → (x : List ℕ) × (call.name ≡ Some x) × (file ≡ mod_file x) × (get m file ≡ None)
   pub no_file_where : (m : Files) (x : List ℕ) → call.before.files ≡ Some m → call.name ≡ Some x → get m (mod_file x) ≡ None → settled result ≡ true → result ≡ a.NoFile (mod_file x)
-  -- Fault 90 comes exactly where the source's text isn't structured, and no other fault comes.
+  -- A fault comes exactly where the source's text has it.
   pub fault_only : (m : Files) (f : SourceFault) → call.before.files ≡ Some m → result ≡ a.SourceFault f
-      → (f ≡ not_built) × ((x : List ℕ) × (call.name ≡ Some x) × ((text : List ℕ) × (get m (mod_file x) ≡ Some text) × ((p : Resolved) → IsStructured x text p → ⊥)))
-  pub fault_where : (m : Files) (x text : List ℕ) → call.before.files ≡ Some m → call.name ≡ Some x → get m (mod_file x) ≡ Some text → ((p : Resolved) → IsStructured x text p → ⊥)
-      → settled result ≡ true → result ≡ a.SourceFault not_built
+      → (x : List ℕ) × (call.name ≡ Some x) × ((text : List ℕ) × (get m (mod_file x) ≡ Some text) × HasFault x text f)
+  pub fault_where : (m : Files) (x text : List ℕ) (f : SourceFault) → call.before.files ≡ Some m → call.name ≡ Some x → get m (mod_file x) ≡ Some text → HasFault x text f
+      → settled result ≡ true → result ≡ a.SourceFault f
   -- Unless the steps are spent, Done comes exactly where the meaning ends, and a trap exactly where it traps so.
   pub done_only : (w : World) (p : Resolved) → Finds call.before.files call.before.keys w → Runs call.name w p → result ≡ a.Done → (n : ℕ) × ((state_of p w n).phase ≡ Ended)
   pub done_where : (w : World) (p : Resolved) (n : ℕ) → Finds call.before.files call.before.keys w → Runs call.name w p → (state_of p w n).phase ≡ Ended → settled result ≡ true → (result ≡ a.StepsSpent) ⊎ (result ≡ a.Done)
@@ -151,9 +150,9 @@ pub record Answered (call : Call) (result : Status) : Type 0 where
   -- The screen is called only where a structured text was found, and the volume only where the words name a module.
   pub called : ((call.after.shown ≡ call.before.shown) × (call.after.screen_faults ≡ call.before.screen_faults)) ⊎ IsRunnable call.name call.before.files
   pub asked : (call.after.volume_faults ≡ call.before.volume_faults) ⊎ ((x : List ℕ) × (call.name ≡ Some x))
-  -- A missed file is the module's source, and a fault is number 90 at the text's start, whatever the volume tells.
+  -- A missed file is the module's source, and a fault is one of some text of that, whatever the volume tells.
   pub missed_is : (file : List ℕ) → result ≡ a.NoFile file → (x : List ℕ) × (call.name ≡ Some x) × (file ≡ mod_file x)
-  pub fault_is : (f : SourceFault) → result ≡ a.SourceFault f → f ≡ not_built
+  pub fault_is : (f : SourceFault) → result ≡ a.SourceFault f → (x text : List ℕ) × (call.name ≡ Some x) × HasFault x text f
   -- Each fault has its cause, and at most one of the counts of the volume and the screen rises.
   pub volume_cause : Blames a.VolumeFault call.before.volume_faults call.after.volume_faults result
   pub screen_cause : Blames a.ScreenFault call.before.screen_faults call.after.screen_faults result

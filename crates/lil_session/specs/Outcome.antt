@@ -5,6 +5,10 @@ use Rattle.lil_base.specs.Faults.{fault}
 use Rattle.lil_base.specs.declared.fault.SourceFault.{SourceFault}
 use Rattle.lil_resolved.specs.Resolved.{Resolved}
 use Rattle.lil_tree.specs.Structured.{IsStructured}
+use Rattle.lil_text.specs.declared.stop.ReadStop.{ReadStop}
+use Rattle.lil_text.specs.declared.stop.ReadStop.TheVariants as why
+use Rattle.lil_language.specs.declared.unit.Unit.{Unit as Tree}
+use Rattle.lil_language.specs.Units.{Reads, HasReadFault}
 use Rattle.lil_meaning.specs.World.{World}
 use Rattle.lil_meaning.specs.Items.{Source, Phase, Going, Closing, Ended, Trapped}
 use Rattle.lil_meaning.specs.Runs.{state_of}
@@ -107,11 +111,30 @@ pub record MeansAnswer (p : Resolved) (w : World) (s : Status) : Type 0 where
   pub steps : ℕ
   pub ends : EndsSo (state_of p w steps).phase s
 
--- the answer of a text: its meaning's where it is structured, else fault 90
+-- the text of the file of this name is a unit, structured, and means p
+abbrev pub IsRunText : List ℕ → List ℕ → Resolved → Type 0
+IsRunText file text p = ((u : Tree) × Reads text u) × IsStructured file text p
+
+-- The fault of a text: the first of its bytes, its tokens or its names behind END; else fault 90 where it isn't structured.
+abbrev pub HasFault : List ℕ → List ℕ → SourceFault → Type 0
+HasFault file text f = HasReadFault text f ⊎ (((u : Tree) × Reads text u) × ((p : Resolved) → IsStructured file text p → ⊥) × (f ≡ not_built))
+
+-- the answer where reading stopped
+abbrev pub stopped_by : ReadStop → Status
+stopped_by (why.Fault f) = a.SourceFault f
+stopped_by why.Memory = a.Memory
+
+-- A text has one fault or one meaning.
+pub record ReadsOne (file text : List ℕ) : Type 0 where
+  pub means : (p q : Resolved) → IsRunText file text p → IsRunText file text q → p ≡ q
+  pub fault : (f g : SourceFault) → HasFault file text f → HasFault file text g → f ≡ g
+  pub apart : (f : SourceFault) (p : Resolved) → HasFault file text f → IsRunText file text p → ⊥
+
+-- the answer of a text: its fault, or its meaning's
 abbrev pub TextAnswers : List ℕ → List ℕ → World → Status → Type 0
 TextAnswers file text w s =
-    (((p : Resolved) → IsStructured file text p → ⊥) × (s ≡ a.SourceFault not_built))
-    ⊎ ((p : Resolved) × IsStructured file text p × MeansAnswer p w s)
+    ((f : SourceFault) × HasFault file text f × (s ≡ a.SourceFault f))
+    ⊎ ((p : Resolved) × IsRunText file text p × MeansAnswer p w s)
 
 abbrev pub SourceAnswers : List ℕ → World → Option (List ℕ) → Status → Type 0
 SourceAnswers file w None s = s ≡ a.NoFile (mod_file file)
@@ -128,7 +151,7 @@ pub record Runs (name : Option (List ℕ)) (w : World) (p : Resolved) : Type 0 w
   pub named : name ≡ Some file
   pub text : List ℕ
   pub there : get w.files (mod_file file) ≡ Some text
-  pub structured : IsStructured file text p
+  pub structured : IsRunText file text p
 
 -- the source of the module is there as far as the volume tells, and structured
 pub record IsRunnable (name : Option (List ℕ)) (files : Option Files) : Type 0 where
@@ -137,7 +160,7 @@ pub record IsRunnable (name : Option (List ℕ)) (files : Option Files) : Type 0
   pub text : List ℕ
   pub there : FileIs files (mod_file file) (Some text)
   pub means : Resolved
-  pub structured : IsStructured file text means
+  pub structured : IsRunText file text means
 
 -- files after a list of writes
 abbrev pub with_writes : Option Files → List (List ℕ × List ℕ) → Option Files

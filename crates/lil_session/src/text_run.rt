@@ -3,9 +3,11 @@ ghost use Rattle.lil_resolved.specs.Resolved.{Resolved};
 ghost use Rattle.lil_resolved.specs.Views.{module_of};
 ghost use Rattle.lil_meaning.specs.World.{World};
 ghost use Rattle.lil_resolved.specs.Sizes.{IsSound, IsSmall};
+ghost use Rattle.lil_language.specs.declared.unit.Unit.{Unit as Tree};
+ghost use Rattle.lil_language.specs.Units.{Reads, HasReadFault};
 ghost use Rattle.lil_session.specs.Words.{mod_file, name_of_word};
 ghost use Rattle.lil_base.specs.declared.fault.SourceFault.{SourceFault as Fault};
-ghost use Rattle.lil_session.specs.Outcome.{settled, gives_way, devices, not_built, Answers, Blames, Finds, Headline, IsRunAnswer, IsRunnable, MeansAnswer, ReportBlames, Runs, Shows};
+ghost use Rattle.lil_session.specs.Outcome.{settled, gives_way, devices, not_built, stopped_by, Answers, Blames, Finds, Headline, IsRunAnswer, IsRunnable, MeansAnswer, ReportBlames, Runs, Shows};
 ghost use Rattle.lil_session.specs.Counted.{MachineAnswers};
 ghost use Rattle.lil_volume.specs.Causes.{Rose};
 ghost use Rattle.lil_volume.specs.Told.{followed_by, FollowedByPrefix};
@@ -17,8 +19,10 @@ use crate::run::run_program;
 use crate::words::named;
 use crate::{Channel, Options, Rack, Status};
 use lil_base::{FaultKind, Name, Place, SourceFault, Text};
+use lil_read_unit::read;
 use lil_resolved::RModule;
 use lil_structured::read_structured;
+use lil_text::ReadStop;
 use lil_unit::generate;
 use lil_volume::{Keyboard, Sink, Volume, VolumeError};
 use std::alloc::Global;
@@ -52,14 +56,36 @@ fn run_module<S: Sink>(alloc: Global, m: &RModule, steps: u64, screen: &mut S) -
     }
 }
 
-/// Runs the text of the file of this name where it is structured.
-fn run_text<S: Sink>(alloc: Global, name: &Name, text: &Text, steps: u64, screen: &mut S) -> Status
+/// The answer where reading stopped.
+fn stopped(stop: ReadStop) -> Status
+    ensures { result ≡ stopped_by stop }
+{
+    match stop {
+        ReadStop::Fault(fault) => Status::SourceFault(fault),
+        ReadStop::Memory => Status::Memory,
+    }
+}
+
+/// Runs the text of the file of this name, which is a unit, where it is structured.
+fn run_unit<S: Sink>(alloc: Global, name: &Name, text: &Text, steps: u64, screen: &mut S) -> Status
+    requires reads { (u : Tree) × Reads text.now u }
+    requires one { (u : Tree) (f : Fault) → Reads text.now u → HasReadFault text.now f → ⊥ }
     ensures { TextRan name.now text.now steps (S.written screen.old) (S.faults screen.old) (S.written screen.new) (S.faults screen.new) result }
 {
     match read_structured(alloc, name, text) {
         Err(_) => Status::Memory,
         Ok(None) => Status::SourceFault(fault_of_form()),
         Ok(Some(m)) => run_module(alloc, &m, steps, screen),
+    }
+}
+
+/// Runs the text of the file of this name where it is structured.
+fn run_text<S: Sink>(alloc: Global, name: &Name, text: &Text, steps: u64, screen: &mut S) -> Status
+    ensures { TextRan name.now text.now steps (S.written screen.old) (S.faults screen.old) (S.written screen.new) (S.faults screen.new) result }
+{
+    match read(alloc, text) {
+        Err(stop) => stopped(stop),
+        Ok(_) => run_unit(alloc, name, text, steps, screen),
     }
 }
 

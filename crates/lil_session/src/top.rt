@@ -27,7 +27,7 @@ fn dispatch<V: Volume, K: Keyboard, S: Sink, R: Sink>(
     ensures reported { let at = devices V.files V.faults K.left K.faults S.written S.faults in
         CommandReported (record {
           name = source_name words.now;
-          steps = STEPS;
+          steps = 10000000;
           file = file_of words.now;
           before = at volume.old keys.old screen.old;
           after = at volume.new keys.new screen.new;
@@ -60,7 +60,7 @@ pub fn lilith<V: Volume, K: Keyboard, S: Sink, R: Sink, C: Channel>(
     ensures answered { let at = devices V.files V.faults K.left K.faults S.written S.faults in
         Answered (record {
           name = source_name words.now;
-          steps = STEPS;
+          steps = 10000000;
           file = file_of words.now;
           before = at volume.old keys.old screen.old;
           after = at volume.new keys.new screen.new;

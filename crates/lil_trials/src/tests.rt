@@ -265,6 +265,88 @@ fn commands(rt: HostRuntime) -> Result<(), Fail> {
     Ok(())
 }
 
+/// Texts of F.MOD that a fault of reading ends, and the line that is reported: one for each number, and of 10 and 11
+/// several.
+const FAULTS: &[(&[u8], &[u8])] = &[
+    (b"MODULE F; BEGIN ? END F.", b"F.MOD:1:17: 1 BadChar\n"),
+    (b"MODULE F; (* no end", b"F.MOD:1:11: 2 OpenComment\n"),
+    (b"MODULE F; (* (* *) END F.", b"F.MOD:1:11: 2 OpenComment\n"),
+    (
+        b"MODULE F; BEGIN Write(\"A) END F.",
+        b"F.MOD:1:23: 3 OpenString\n",
+    ),
+    (
+        b"MODULE F; BEGIN c := 10DO END F.",
+        b"F.MOD:1:22: 4 BadNumber\n",
+    ),
+    (
+        b"MODULE F; BEGIN c := 65536 END F.",
+        b"F.MOD:1:22: 5 NumberTooLarge\n",
+    ),
+    (
+        b"MODULE abcdefghijklmnopqrstuvwxyzabcdefghijklmnopqrstuvwxyzabcdefghijklm; END F.",
+        b"F.MOD:1:8: 6 NameTooLong\n",
+    ),
+    (b"MODULE F; BEGIN c := END F.", b"F.MOD:1:22: 10 Syntax\n"),
+    (
+        b"MODULE F; CONST c = 1; TYPE t = ARRAY OF CHAR; END F.",
+        b"F.MOD:1:39: 10 Syntax\n",
+    ),
+    (b"MODULE F; END F. F", b"F.MOD:1:18: 10 Syntax\n"),
+    (b"MODULE F; END F", b"F.MOD:1:16: 10 Syntax\n"),
+    (
+        b"DEFINITION MODULE F; PROCEDURE P; BEGIN END P; END F.",
+        b"F.MOD:1:35: 10 Syntax\n",
+    ),
+    (
+        b"MODULE F; PROCEDURE P; BEGIN END Q; END F.",
+        b"F.MOD:1:34: 11 EndName\n",
+    ),
+    (b"MODULE F; END G.", b"F.MOD:1:15: 11 EndName\n"),
+    (
+        b"MODULE F; PROCEDURE P; END Q; END G.",
+        b"F.MOD:1:28: 11 EndName\n",
+    ),
+    (
+        b"MODULE F; BEGIN c := (((((((((((((((((((((((((((((((((((((((((((((((1 END F.",
+        b"F.MOD:1:69: 12 TooNested\n",
+    ),
+    // units without such a fault, which aren't structured
+    (
+        b"DEFINITION MODULE F; TYPE t; PROCEDURE P(VAR a, b: t): t; END F.",
+        b"F.MOD:1:1: 90 NotBuilt\n",
+    ),
+    (
+        b"MODULE F; TYPE r = RECORD CASE k: CARDINAL OF 1: a: CHAR | 2 .. 3: b: SET OF [0 .. 7]; END END; END F.",
+        b"F.MOD:1:1: 90 NotBuilt\n",
+    ),
+];
+
+const FAULTY: Case = Case {
+    words: &[b"once", b"F.MOD"],
+    file: b"F.MOD",
+    content: b"",
+    fails: [0, 0, 0],
+    status: 3,
+    shown: b"",
+    reported: b"F.MOD:1:1: 65 TextTooLong\n",
+};
+
+/// The first fault of a text is reported, and nothing is shown.
+#[test]
+fn faults(rt: HostRuntime) -> Result<(), Fail> {
+    let alloc = rt.alloc();
+    for (text, reported) in FAULTS {
+        let case = Case { reported, ..FAULTY };
+        check(&rt, alloc, &case, Bytes::from_slice(alloc, text)?)?;
+    }
+    let mut blanks = Bytes::new(alloc);
+    for _blank in 0..262_145 {
+        blanks.push(b' ')?;
+    }
+    check(&rt, alloc, &FAULTY, blanks)
+}
+
 const BEFORE: &[u8] = b"MODULE K; FROM Terminal IMPORT Write; VAR a, b, c: CARDINAL; BEGIN ";
 
 const BEHIND: &[u8] = b" END K.";
@@ -399,7 +481,6 @@ const REFUSED: &[&[u8]] = &[
     // IF, WHILE, REPEAT, LOOP and EXIT, comments and empty statements
     b"EXIT",
     b"FOR c := 1 TO 2 DO EXIT END",
-    b"(* (* *) Write('y')",
 ];
 
 /// A program K of these statements.

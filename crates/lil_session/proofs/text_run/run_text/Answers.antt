@@ -1,21 +1,18 @@
-use Rattle.lil_resolved.specs.Resolved.{Resolved}
-use Rattle.lil_tree.specs.Structured.{IsStructured}
-use Rattle.lil_resolved.specs.Views.{module_of}
-use Rattle.lil_session.proofs.Doing.{none_of, some_of, text_memory, text_not, text_ran}
+use Rattle.std.proofs.Common.{◌≡◌, ◌⊎◌, Result, Err, subst, sym, ap, ◌∙◌, inl, inr}
+use Rattle.lil_base.specs.declared.fault.SourceFault.{SourceFault}
+use Rattle.lil_text.specs.declared.stop.ReadStop.{ReadStop}
+use Rattle.lil_text.specs.declared.stop.ReadStop.TheVariants.{Fault, Memory}
+use Rattle.lil_language.specs.declared.unit.Unit.{Unit as Tree}
+use Rattle.lil_session.specs.Answered.{TextRan}
+use Rattle.lil_session.proofs.Doing.{text_stopped}
 use Rattle.lil_session.proofs.text_run.run_text.Goals as goal
 
+refused_same : {e : ReadStop} {g : SourceFault} → (r : Result Tree ReadStop) → r ≡ Err e → (r ≡ Err (Fault g)) ⊎ (r ≡ Err Memory) → (e ≡ Fault g) ⊎ (e ≡ Memory)
+refused_same {e} {g} r is (inl h) = let same : e ≡ Fault g = cc in inl same
+refused_same {e} r is (inr h) = let same : e ≡ Memory = cc in inr same
+
 pub returns-in-Err : goal.returns-in-Err
-returns-in-Err g c = text_memory c.args.name.now c.args.text.now c.args.steps (g.S.Sink.written c.args.screen.now) (g.S.Sink.faults c.args.screen.now)
-
-pub returns-in-Ok-None : goal.returns-in-Ok-None
-returns-in-Ok-None g c =
-    let none : (m : Resolved) → IsStructured c.args.name.now c.args.text.now m → ⊥ =
-    none_of ((m : Resolved) → IsStructured c.args.name.now c.args.text.now m → ⊥) (λ m. IsStructured c.args.name.now c.args.text.now (module_of m)) c.in-Ok-None.field-0 c.in-Ok-None.field-0-is c.in-Ok-None.ensures.found in
-    text_not c.args.name.now c.args.text.now c.args.steps (g.S.Sink.written c.args.screen.now) (g.S.Sink.faults c.args.screen.now) c.fault_of_form.result c.in-Ok-None.ensures.one none c.fault_of_form.ensures
-
-pub returns-in-Ok-Some : goal.returns-in-Ok-Some
-returns-in-Ok-Some g c =
-    let structured : IsStructured c.args.name.now c.args.text.now (module_of c.in-Ok-Some.m) =
-    some_of ((m : Resolved) → IsStructured c.args.name.now c.args.text.now m → ⊥) (λ m. IsStructured c.args.name.now c.args.text.now (module_of m)) c.in-Ok-Some.field-0 c.in-Ok-Some.m c.in-Ok-Some.field-0-is c.in-Ok-Some.ensures.found in
-    text_ran c.args.name.now c.args.text.now (module_of c.in-Ok-Some.m) c.args.steps (g.S.Sink.written c.args.screen.now) (g.S.Sink.faults c.args.screen.now) (g.S.Sink.written c.run_module.new.screen) (g.S.Sink.faults c.run_module.new.screen) c.run_module.result
-    c.in-Ok-Some.ensures.one structured c.run_module.ensures.shows c.run_module.ensures.answer c.run_module.ensures.kinds c.run_module.ensures.machine c.run_module.ensures.cause c.run_module.ensures.told
+returns-in-Err g c =
+    subst (λ s. TextRan c.args.name.now c.args.text.now c.args.steps (g.S.Sink.written c.args.screen.now) (g.S.Sink.faults c.args.screen.now) (g.S.Sink.written c.args.screen.now) (g.S.Sink.faults c.args.screen.now) s) (sym c.stopped.ensures)
+    (text_stopped c.args.name.now c.args.text.now c.args.steps (g.S.Sink.written c.args.screen.now) (g.S.Sink.faults c.args.screen.now) c.in-Err.stop
+    (λ f e. c.read.ensures.fault f (c.in-Err.is ∙ ap (λ e. Err e) e)) (λ g h. refused_same c.read.result c.in-Err.is (c.read.ensures.exact g h)) c.read.ensures.apart)

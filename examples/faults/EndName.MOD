@@ -1,0 +1,5 @@
+MODULE EndName;
+FROM Terminal IMPORT Write;
+BEGIN
+  Write("A")
+END Endname.

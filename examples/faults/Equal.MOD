@@ -1,0 +1,5 @@
+MODULE Equal;
+VAR c: CARDINAL;
+BEGIN
+  c = 1
+END Equal.
