@@ -1,0 +1,41 @@
+-- The words of a record's fields, added up from the first one on, and tables that stay sound.
+use Rattle.std.proofs.Common.{◌≡◌, ℕ, ◌+◌, nat_le, Bool, true, false, ◌&&◌, List, [], ◌∷◌, ◌++◌, length, Option, Some, None, refl, append_assoc, arith}
+use Rattle.std.proofs.lemmas.List.{append-nil}
+use Rattle.std.proofs.lemmas.Bool.Decides.{nat_tests}
+use Rattle.lil_types.specs.declared.table.Facts.{Facts}
+use Rattle.lil_types.specs.declared.table.TypeEntry.{TypeEntry}
+use Rattle.lil_types.specs.Types.{Table, facts_of, record_facts, IsSound, IsSoundFrom}
+use Rattle.lil_types.specs.Adding.{fitting, is_short, limited}
+
+-- some words and, where they are known, more
+abbrev pub plus : ℕ → Option ℕ → Option ℕ
+plus n None = None
+plus n (Some m) = Some (n + m)
+
+pub record_fits : (n : ℕ) (words : Option ℕ) → record_facts n (limited words) ≡ fitting (record_facts n words)
+record_fits n None = refl
+record_fits n (Some w) = grind (arith, nat_tests)
+
+-- one more sound type at the end
+pub sound_more : (before : Table) (n : ℕ) (xs : List TypeEntry) (e : TypeEntry) → IsSoundFrom before n xs → facts_of (before ++ xs) (n + length xs) e.form ≡ Some e.facts → IsSoundFrom before n (xs ++ e ∷ [])
+sound_more before n [] e s h =
+    let at : n + 0 ≡ n = omega arith in
+    (rw (append-nil before, at) at h, tt)
+sound_more before n (x ∷ xs) e s h =
+    let at : n + 1 + length xs ≡ n + length (x ∷ xs) = omega arith in
+    let same : (before ++ x ∷ []) ++ xs ≡ before ++ x ∷ xs = append_assoc before (x ∷ []) xs in
+    (s.0, sound_more (before ++ x ∷ []) (n + 1) xs e s.1 (rw (at, same) h))
+
+pub sound_added : (t : Table) (e : TypeEntry) → IsSound t → facts_of t (length t + 16) e.form ≡ Some e.facts → IsSound (t ++ e ∷ [])
+sound_added t e s h =
+    let at : length t + 16 ≡ 16 + length t = omega arith in
+    sound_more [] 16 t e s (rw at at h)
+
+-- facts that fit are those of the form
+pub fitting_some : (o : Option Facts) (f : Facts) → Some f ≡ fitting o → o ≡ Some f
+fitting_some None f h = cc
+fitting_some (Some g) f h = by (nat_le g.words 32000 && is_short g.span) refl
+  where
+    by : (b : Bool) → (nat_le g.words 32000 && is_short g.span) ≡ b → Some g ≡ Some f
+    by true e = cc
+    by false e = cc

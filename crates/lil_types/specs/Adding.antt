@@ -1,0 +1,47 @@
+-- One more type at a table's end: which forms it takes, and what is then known.
+use Rattle.std.specs.Prelude.{ℕ, ◌+◌, nat_le, nat_lt, pos, negsuc, int_lt, Bool, true, not, ◌&&◌, [], ◌∷◌, ◌++◌, length, Option, Some, None, if◌then◌else◌}
+use Rattle.lil_types.specs.declared.table.Origin.{Origin}
+use Rattle.lil_types.specs.declared.table.Span.{Span}
+use Rattle.lil_types.specs.declared.table.Facts.{Facts}
+use Rattle.lil_types.specs.declared.table.TypeForm.{TypeForm}
+use Rattle.lil_types.specs.Types.{Table, facts_of}
+
+-- the number that the next type gets
+abbrev pub next : Table → ℕ
+next t = length t + 16
+
+-- every value of an ordinal type is a number of one word
+abbrev pub is_short : Option Span → Bool
+is_short None = true
+is_short (Some s) = not (int_lt s.low (negsuc 32767)) && not (int_lt (pos 65535) s.high)
+
+-- a type has at most 32,000 words
+abbrev pub fitting : Option Facts → Option Facts
+fitting None = None
+fitting (Some f) = if nat_le f.words 32000 && is_short f.span then Some f else None
+
+-- as many words as a type may have
+abbrev pub limited : Option ℕ → Option ℕ
+limited None = None
+limited (Some words) = if nat_le words 32000 then Some words else None
+
+-- the facts of a form as the next type of a table, None where its parts don't make a type, where it is too large, or where
+-- there is no number left
+abbrev pub next_facts : Table → TypeForm → Option Facts
+next_facts t form = if nat_lt 65519 (length t) then None else fitting (facts_of t (next t) form)
+
+abbrev pub number_by : Table → Option Facts → Option ℕ
+number_by t None = None
+number_by t (Some f) = Some (next t)
+
+abbrev pub with_facts : Table → Origin → TypeForm → Option Facts → Table
+with_facts t origin form None = t
+with_facts t origin form (Some f) = t ++ record { origin = origin; form = form; facts = f } ∷ []
+
+-- the number of a form's type, where the table takes it
+abbrev pub added_number : Table → TypeForm → Option ℕ
+added_number t form = number_by t (next_facts t form)
+
+-- the table with the type, where it takes it, and else as before
+abbrev pub added : Table → Origin → TypeForm → Table
+added t origin form = with_facts t origin form (next_facts t form)

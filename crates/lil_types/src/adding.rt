@@ -1,0 +1,149 @@
+ghost use Rattle.std.specs.Prelude.{◌≡◌, ◌*◌, ◌≤◌, length, Option, Some, None, IfOk, OnOk, OnErr};
+ghost use Rattle.lil_types.specs.Types as types;
+ghost use Rattle.lil_types.specs.Adding as spec;
+
+use crate::relations::known;
+use crate::table::{Facts, Field, Origin, Span, TypeEntry, TypeForm, TypeId, TypeTable};
+use lil_base::Memory;
+
+fn enumeration(n: TypeId, names: usize) -> Option<Facts>
+    ensures { result ≡ spec.fitting (Some (types.enumeration_facts n names)) }
+{
+    if names > 65536 {
+        return None;
+    }
+    let high = names as i32 - 1;
+    Some(Facts::ordinal(n, 0, high))
+}
+
+fn subrange(of: Option<Facts>, span: Span) -> Option<Facts>
+    ensures { result ≡ spec.fitting (types.subrange_facts of span) }
+{
+    match of {
+        Some(facts) if span.low >= -32768 && span.high <= 65535 => Some(Facts::ordinal(
+            facts.base, span.low, span.high,
+        )),
+        _ => None,
+    }
+}
+
+/// How many values a span of these ends has.
+fn values(low: i32, high: i32) -> u64
+    ensures number { result ≡ types.values (types.span low high) }
+    ensures most { result ≤ 4294967296 }
+{
+    let count = i64::from(high) - i64::from(low) + 1;
+    if count < 0 { 0 } else { count as u64 }
+}
+
+/// The words of an array.
+fn array_words(span: Span, words: u32) -> u64
+    ensures { result ≡ types.values span * words }
+{
+    values(span.low, span.high) * u64::from(words)
+}
+
+/// As many words as a type may have, None where there are more.
+fn limited(words: u64) -> Option<u32>
+    ensures { result ≡ spec.limited (Some words) }
+{
+    if words > 32_000 {
+        return None;
+    }
+    Some(words as u32)
+}
+
+fn record_of(n: TypeId, words: Option<u32>) -> Option<Facts>
+    ensures { result ≡ types.record_facts n words }
+{
+    match words {
+        Some(words) => Some(Facts::other(n, words)),
+        None => None,
+    }
+}
+
+#[tactic(auto, using(crate::proofs::Sums::record_fits))]
+fn array_of_span(n: TypeId, span: Span, element: Facts) -> Option<Facts>
+    ensures { result ≡ spec.fitting (types.array_of_span n (Some span) element) }
+{
+    record_of(n, limited(array_words(span, element.words)))
+}
+
+fn array(n: TypeId, index: Option<Facts>, element: Option<Facts>) -> Option<Facts>
+    ensures { result ≡ spec.fitting (types.array_facts n index element) }
+{
+    match (index, element) {
+        (Some(index), Some(element)) => match index.span {
+            Some(span) => array_of_span(n, span, element),
+            None => None,
+        },
+        _ => None,
+    }
+}
+
+/// The words of a field and of those before it, None where they are too many or the field has no type.
+fn more(sum: u32, field: Option<Facts>) -> Option<u32>
+    ensures { result ≡ spec.limited (types.sum_of field (Some sum)) }
+{
+    match field {
+        Some(facts) => limited(u64::from(facts.words) + u64::from(sum)),
+        None => None,
+    }
+}
+
+/// The words of fields one after another.
+fn fields_words(t: &TypeTable, fields: &[Field]) -> Option<u32>
+    ensures { result ≡ spec.limited (types.fields_words t.now fields.now) }
+{
+    let mut sum = 0;
+    for field in fields {
+        match more(sum, known(t, field.sort)) {
+            Some(longer) => sum = longer,
+            None => return None,
+        }
+    }
+    Some(sum)
+}
+
+/// The facts of a form that has the number `n`.
+#[tactic(auto, using(crate::proofs::Sums::record_fits))]
+fn facts_of(t: &TypeTable, n: TypeId, form: &TypeForm) -> Option<Facts>
+    ensures { result ≡ spec.fitting (types.facts_of t.now n form.now) }
+{
+    match form {
+        TypeForm::Enumeration(names) => enumeration(n, names.len()),
+        TypeForm::Subrange(of, span) => subrange(known(t, *of), *span),
+        TypeForm::Array(index, element) => array(n, known(t, *index), known(t, *element)),
+        TypeForm::Record(fields) => record_of(n, fields_words(t, fields.as_slice())),
+        TypeForm::SetOf(_)
+        | TypeForm::Pointer(_)
+        | TypeForm::Procedure(_, _)
+        | TypeForm::Opaque(_) => Some(Facts::other(n, 1)),
+    }
+}
+
+/// Appends a type, and gives its number. None where a part has no number in the table, an index isn't ordinal, the type has
+/// more than 32,000 words or values outside -32768 to 65535, or the table has no number left; then and after a refusal of
+/// memory the table is as before.
+pub fn add(t: &mut TypeTable, origin: Origin, form: TypeForm) -> Result<Option<TypeId>, Memory>
+    ensures number { IfOk result (λ n. n ≡ spec.added_number t.old form) }
+    ensures ok { OnOk result (t.new ≡ spec.added t.old origin form) }
+    ensures err { OnErr result (t.new ≡ t.old) }
+    ensures sound { types.IsSound t.old → types.IsSound t.new }
+{
+    if t.len() > 65519 {
+        return Ok(None);
+    }
+    let n = t.len() as TypeId + 16;
+    match facts_of(t, n, &form) {
+        None => Ok(None),
+        Some(facts) => {
+            t.push(TypeEntry {
+                origin,
+                form,
+                facts,
+            })?;
+            Ok(Some(n))
+        }
+    }
+}

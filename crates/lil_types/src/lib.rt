@@ -1,0 +1,17 @@
+//! Types by their numbers, how they go together, and constants.
+#![tactic(auto)]
+
+mod adding;
+mod folding;
+mod relations;
+mod table;
+#[cfg(test)]
+mod tests;
+
+pub use adding::add;
+pub use folding::{fold_one, fold_two};
+pub use relations::{assignable, base, compatible, entry, known, same, words};
+pub use table::{
+    BITSET, BOOLEAN, CARDINAL, CHAR, Const, Facts, Field, FoldStop, INTEGER, Origin, Parameter,
+    Span, TypeEntry, TypeForm, TypeId, TypeTable,
+};

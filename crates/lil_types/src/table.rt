@@ -1,0 +1,124 @@
+ghost use Rattle.std.specs.Prelude.{◌≡◌, Some, None};
+ghost use Rattle.lil_types.specs.Types.{facts, span};
+
+use lil_base::{Items, Name, Text};
+
+/// The number of a type. The numbers 0 to 7 are INTEGER, CARDINAL, BOOLEAN, CHAR, BITSET, PROC, ADDRESS and PROCESS; those
+/// of a unit's table begin at 16, in the order in which the types are complete.
+pub type TypeId = u16;
+
+/// INTEGER, with the values -32768 to 32767.
+pub const INTEGER: TypeId = 0;
+
+/// CARDINAL, with the values 0 to 65535.
+pub const CARDINAL: TypeId = 1;
+
+/// BOOLEAN, with FALSE as 0 and TRUE as 1.
+pub const BOOLEAN: TypeId = 2;
+
+/// CHAR, with the values 0 to 255.
+pub const CHAR: TypeId = 3;
+
+/// BITSET, a set of the numbers 0 to 15.
+pub const BITSET: TypeId = 4;
+
+/// The module to which a type belongs, 0 for the unit's own, and its number there.
+#[derive(Clone, Copy, Debug, PartialEq, Eq)]
+pub struct Origin {
+    pub module: u8,
+    pub number: TypeId,
+}
+
+/// The numbers of an ordinal type's values, from one to another.
+#[derive(Clone, Copy, Debug, PartialEq, Eq)]
+pub struct Span {
+    pub low: i32,
+    pub high: i32,
+}
+
+/// A field of a record.
+#[derive(Debug, Drop)]
+pub struct Field {
+    pub name: Name,
+    pub sort: TypeId,
+}
+
+/// A parameter of a procedure type.
+#[derive(Clone, Copy, Debug, PartialEq, Eq)]
+pub struct Parameter {
+    pub by_place: bool,
+    pub open_array: bool,
+    pub sort: TypeId,
+}
+
+/// How a type is built (Programming in Modula-2, Data types). The parts of all but pointers have smaller numbers. An opaque
+/// type may be another in its implementation.
+#[derive(Drop)]
+pub enum TypeForm {
+    Enumeration(Items<Name>),
+    Subrange(TypeId, Span),
+    Array(TypeId, TypeId),
+    Record(Items<Field>),
+    SetOf(TypeId),
+    Pointer(TypeId),
+    Procedure(Items<Parameter>, Option<TypeId>),
+    Opaque(Option<TypeId>),
+}
+
+/// What is often asked of a type: the type below all subranges, the words of a variable, and of an ordinal type its
+/// values.
+#[derive(Clone, Copy, Debug, PartialEq, Eq)]
+pub struct Facts {
+    pub base: TypeId,
+    pub words: u32,
+    pub span: Option<Span>,
+}
+
+impl Facts {
+    /// Of an ordinal type, by its lowest and highest value.
+    pub fn ordinal(base: TypeId, low: i32, high: i32) -> Facts
+        ensures { result ≡ facts base 1 (Some (span low high)) }
+    {
+        Facts {
+            base,
+            words: 1,
+            span: Some(Span { low, high }),
+        }
+    }
+
+    /// Of a type that isn't ordinal.
+    pub fn other(base: TypeId, words: u32) -> Facts
+        ensures { result ≡ facts base words None }
+    {
+        Facts {
+            base,
+            words,
+            span: None,
+        }
+    }
+}
+
+/// A type of a table.
+#[derive(Drop)]
+pub struct TypeEntry {
+    pub origin: Origin,
+    pub form: TypeForm,
+    pub facts: Facts,
+}
+
+/// The types of a unit, from number 16 on.
+pub type TypeTable = Items<TypeEntry>;
+
+/// A constant: a whole number of no type, a value of an ordinal or set type by its word, or a string.
+#[derive(Debug, Drop)]
+pub enum Const {
+    Whole(i32),
+    Scalar(TypeId, u16),
+    Chars(Text),
+}
+
+/// Why an operation on constants has no result: its fault's number.
+#[derive(Clone, Copy, Debug, PartialEq, Eq)]
+pub enum FoldStop {
+    Fault(u8),
+}
