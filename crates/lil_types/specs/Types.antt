@@ -1,5 +1,5 @@
 -- Types by their numbers: what each one is, when a table of them is sound, and which go together.
-use Rattle.std.specs.Prelude.{◌≡◌, ℕ, ◌+◌, ◌*◌, ◌-◌, ◌==◌, nat_lt, ℤ, pos, negsuc, ◌+ℤ◌, ◌-ℤ◌, Bool, ◌&&◌, ◌||◌, List, [], ◌∷◌, ◌++◌, length, slice_get, Option, Some, None, if◌then◌else◌, ⊤}
+use Rattle.std.specs.Prelude.{◌≡◌, ℕ, ◌+◌, ◌*◌, ◌-◌, ◌==◌, nat_lt, ℤ, pos, negsuc, true, false, ◌+ℤ◌, ◌-ℤ◌, Bool, ◌&&◌, ◌||◌, List, [], ◌∷◌, ◌++◌, length, slice_get, slice_set, Option, Some, None, if◌then◌else◌, ⊤}
 use Rattle.lil_types.specs.declared.table.Span.{Span}
 use Rattle.lil_types.specs.declared.table.Facts.{Facts}
 use Rattle.lil_types.specs.declared.table.Field.{Field}
@@ -113,6 +113,19 @@ IsSoundFrom t n (e ∷ es) = (facts_of t n e.form ≡ Some e.facts) × IsSoundFr
 
 abbrev pub IsSound : Table → Type 0
 IsSound t = IsSoundFrom [] 16 t
+
+-- ---- a pointer type whose target is known later
+abbrev pub is_pointer : TypeForm → Bool
+is_pointer (Pointer m) = true
+is_pointer _ = false
+
+abbrev pub aimed_by : Option TypeEntry → Table → ℕ → ℕ → Table
+aimed_by None t at target = t
+aimed_by (Some e) t at target = if is_pointer e.form then slice_set t at (record e { form = Pointer target }) else t
+
+-- the table where a pointer points to another type
+abbrev pub aimed : Table → ℕ → ℕ → Table
+aimed t n target = if nat_lt n 16 then t else aimed_by (slice_get t (n - 16)) t (n - 16) target
 
 -- ---- which types go together
 abbrev pub other_of : ℕ → TypeForm → ℕ

@@ -1,7 +1,10 @@
-ghost use Rattle.std.specs.Prelude.{◌≡◌, Some, None};
-ghost use Rattle.lil_types.specs.Types.{facts, span};
+ghost use Rattle.std.specs.Prelude.{◌≡◌, ◌++◌, ◌∷◌, ◌<◌, [], length, slice_get, Some, None, OnOk, OnErr, OnSome};
+ghost use Rattle.std.specs.Option.{option_copied};
+ghost use Rattle.lil_types.specs.Types.{facts, span, aimed, is_pointer as is_pointer_form};
 
-use lil_base::{Items, Name, Text};
+use lil_base::{Items, Memory, Name, Text};
+use std::alloc::Global;
+use std::marker::Model;
 
 /// The number of a type. The numbers 0 to 7 are INTEGER, CARDINAL, BOOLEAN, CHAR, BITSET, PROC, ADDRESS and PROCESS; those
 /// of a unit's table begin at 16, in the order in which the types are complete.
@@ -107,7 +110,76 @@ pub struct TypeEntry {
 }
 
 /// The types of a unit, from number 16 on.
-pub type TypeTable = Items<TypeEntry>;
+#[derive(Drop)]
+pub struct TypeTable {
+    entries: Vec<TypeEntry>,
+}
+
+impl Model for TypeTable {
+    ghost use Rattle.std.specs.Prelude.{List};
+    ghost use Rattle.lil_types.specs.declared.table.TypeEntry.{TypeEntry};
+
+    ghost Value = { List TypeEntry };
+
+    ghost view = { λ t. t.entries.items };
+}
+
+fn is_pointer(form: &TypeForm) -> bool
+    ensures { result ≡ is_pointer_form form.now }
+{
+    match form {
+        TypeForm::Pointer(_) => true,
+        _ => false,
+    }
+}
+
+impl TypeTable {
+    /// No types but the standard ones.
+    pub fn new(alloc: Global) -> TypeTable
+        ensures { result ≡ [] }
+    {
+        TypeTable {
+            entries: Vec::new(alloc),
+        }
+    }
+
+    /// How many types there are but the standard ones.
+    pub fn len(&self) -> usize
+        ensures { result ≡ length self.now }
+    {
+        self.entries.len()
+    }
+
+    /// The type at a place of the table, from 0.
+    pub fn get(&self, at: usize) -> Option<&TypeEntry>
+        ensures value { option_copied result ≡ slice_get self.now at }
+        ensures within { OnSome result (at < length self.now) }
+    {
+        self.entries.get(at)
+    }
+
+    /// A type more, at the end. After a refusal the table is as before.
+    pub(crate) fn push(&mut self, entry: TypeEntry) -> Result<(), Memory>
+        ensures ok { OnOk result (self.new ≡ self.old ++ entry ∷ []) }
+        ensures err { OnErr result (self.new ≡ self.old) }
+    {
+        self.entries.push(entry)?;
+        Ok(())
+    }
+
+    /// Lets a pointer type point to another type; the number of any other type changes nothing.
+    pub fn aim(&mut self, pointer: TypeId, target: TypeId)
+        ensures { self.new ≡ aimed self.old pointer target }
+    {
+        if pointer < 16 {
+            return;
+        }
+        let at = usize::from(pointer) - 16;
+        if at < self.entries.len() && is_pointer(&self.entries[at].form) {
+            self.entries[at].form = TypeForm::Pointer(target);
+        }
+    }
+}
 
 /// A constant: a whole number of no type, a value of an ordinal or set type by its word, or a string.
 #[derive(Debug, Drop)]

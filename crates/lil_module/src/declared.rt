@@ -1,0 +1,46 @@
+use crate::tree::{RBody, RStmt};
+use lil_base::{Items, Name, Text};
+use lil_types::{TypeId, TypeTable};
+
+/// Whether a variable is a parameter, and how it is handed over: a value, a place, or an open array as the one or the
+/// other.
+#[derive(Clone, Copy, Debug, PartialEq, Eq)]
+pub enum Mode {
+    Plain,
+    Value,
+    Place,
+    OpenValue,
+    OpenPlace,
+}
+
+/// A variable: its type, or the type of its elements where it is an open array, and the procedure to which it belongs, if it is
+/// no variable of the module.
+#[derive(Debug, Drop)]
+pub struct RVar {
+    pub name: Name,
+    pub sort: TypeId,
+    pub mode: Mode,
+    pub owner: Option<usize>,
+}
+
+/// A procedure: its name, the procedure that declares it, if it isn't the module, and its procedure type. Its parameters
+/// are the first of its variables.
+#[derive(Debug, Drop)]
+pub struct RProc {
+    pub name: Name,
+    pub outer: Option<usize>,
+    pub sort: TypeId,
+}
+
+/// A resolved module: its types, the texts of its constants, its variables and those of its procedures in the order of the text,
+/// its procedures in the order of their headings, their statements, and its own.
+#[derive(Drop)]
+pub struct RModule {
+    pub name: Name,
+    pub types: TypeTable,
+    pub texts: Items<Text>,
+    pub variables: Items<RVar>,
+    pub procedures: Items<RProc>,
+    pub bodies: Items<RBody>,
+    pub body: Items<RStmt>,
+}

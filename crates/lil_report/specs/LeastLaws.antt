@@ -1,0 +1,90 @@
+-- The least of all faults.
+use Rattle.std.proofs.Common.{◌≡◌, ◌⊎◌, ℕ, ◌<◌, ◌≤◌, Bool, true, false, cond, List, [], ◌∷◌, Option, Some, None, refl, subst, sym, inl, inr, arith}
+use Rattle.std.proofs.Common.{ltb, leb, eqb, ◌||◌, ◌&&◌}
+use Rattle.std.proofs.lemmas.Bool.{cases_order, ltb-true, ltb-false, leb-true, leb-false, eqb-true, eqb-false, or_cases, and_parts}
+use Rattle.lil_base.specs.declared.fault.Place.{Place}
+use Rattle.lil_base.specs.declared.fault.FaultKind.{FaultKind}
+use Rattle.lil_report.specs.declared.report.Fault.{Fault}
+use Rattle.lil_report.specs.Least.{number, is_up_to, least, worse, when, IsUpTo, Reports}
+use Rattle.lil_report.specs.Told.{Row, Stands, noted, tell}
+
+pub up_refl : (f : Fault) → IsUpTo f f
+up_refl f = inr (refl, omega arith)
+
+pub up_trans : (f g h : Fault) → IsUpTo f g → IsUpTo g h → IsUpTo f h
+up_trans f g h (inl a) (inl b) = inl (omega arith)
+up_trans f g h (inl a) (inr b) = inl (omega arith)
+up_trans f g h (inr a) (inl b) = inl (omega arith)
+up_trans f g h (inr a) (inr b) = inr (omega arith, omega arith)
+
+pub up_yes : (f g : Fault) → is_up_to f g ≡ true → IsUpTo f g
+up_yes f g e = elim (or_cases _ _ e) [ inl h ↦ inl (ltb-true _ _ h) | inr h ↦ (let p = and_parts _ _ h in inr (eqb-true _ _ p.0, leb-true _ _ p.1)) ]
+
+module _ (a b m n : ℕ) where
+  no_by : (x y z : Bool) → ltb a b ≡ x → eqb a b ≡ y → leb m n ≡ z → (x || (y && z)) ≡ false → (b < a) ⊎ ((b ≡ a) × (n ≤ m))
+  no_by true y z i j k e = absurd (cc)
+  no_by false true true i j k e = absurd (cc)
+  no_by false true false i j k e = inr (omega (arith, eqb-true a b j), omega (arith, leb-false m n k))
+  no_by false false z i j k e = elim (cases_order a b) [ inl h ↦ absurd (eqb-false a b j h) | inr h ↦ inl (elim h [ inl u ↦ omega (arith, ltb-false a b i) | inr u ↦ u ]) ]
+
+pub up_no : (f g : Fault) → is_up_to f g ≡ false → IsUpTo g f
+up_no f g e = no_by f.place.offset g.place.offset (number f) (number g) _ _ _ refl refl refl e
+
+module _ (P : Fault → Type 0) (f g : Fault) where
+  least_by : (b : Bool) → is_up_to f g ≡ b → (b ≡ true → P f) → (b ≡ false → P g) → P (cond b f g)
+  least_by true e x y = x refl
+  least_by false e x y = y refl
+
+  pub least_is : (is_up_to f g ≡ true → P f) → (is_up_to f g ≡ false → P g) → P (least f g)
+  unfolding least
+  least_is x y = least_by (is_up_to f g) refl x y
+
+pub least_left : (f g : Fault) → IsUpTo (least f g) f
+least_left f g = least_is (λ h. IsUpTo h f) f g (λ e. up_refl f) (λ e. up_no f g e)
+
+pub least_right : (f g : Fault) → IsUpTo (least f g) g
+least_right f g = least_is (λ h. IsUpTo h g) f g (λ e. up_yes f g e) (λ e. up_refl g)
+
+-- ---- reports of a node's own faults
+module _ (F G : Fault → Type 0) where
+  pub reports_worse : (a b : Option Fault) → Reports F a → Reports G b → Reports (λ f. F f ⊎ G f) (worse a b)
+  unfolding worse
+  reports_worse None None p q = λ g h. elim h [ inl x ↦ p g x | inr x ↦ q g x ]
+  reports_worse None (Some g) p q = (inr q.0, λ h x. elim x [ inl y ↦ absurd (p h y) | inr y ↦ q.1 h y ])
+  reports_worse (Some f) None p q = (inl p.0, λ h x. elim x [ inl y ↦ p.1 h y | inr y ↦ absurd (q h y) ])
+  reports_worse (Some f) (Some g) p q = (
+    least_is (λ f. F f ⊎ G f) f g (λ e. inl p.0) (λ e. inr q.0),
+    λ h x. elim x [ inl y ↦ up_trans (least f g) f h (least_left f g) (p.1 h y) | inr y ↦ up_trans (least f g) g h (least_right f g) (q.1 h y) ],
+  )
+
+  pub reports_as : (o : Option Fault) → ((f : Fault) → F f → G f) → ((f : Fault) → G f → F f) → Reports F o → Reports G o
+  reports_as None to from p = λ g h. p g (from g h)
+  reports_as (Some f) to from p = (to f p.0, λ g h. p.1 g (from g h))
+
+pub reports_when : (b : Bool) (p : Place) (n : FaultKind) → Reports (λ f. (b ≡ true) × (f ≡ record { place = p; kind = n })) (when b p n)
+unfolding when
+reports_when true p n = ((refl, refl), λ g h. subst (λ g. IsUpTo (record { place = p; kind = n }) g) (sym h.1) (up_refl (record { place = p; kind = n })))
+reports_when false p n = λ g h. absurd (cc)
+
+-- ---- what is told of tests is the least fault of those that stand
+abbrev pub Told : Row → Fault → Type 0
+Told r f = (r.wrong ≡ true) × (f ≡ record { place = r.place; kind = r.kind })
+
+from_left : (F : Fault → Type 0) (r : Row) (rs : List Row) (f : Fault) → (F f ⊎ Told r f) ⊎ Stands rs f → F f ⊎ Stands (r ∷ rs) f
+from_left F r rs f (inl (inl h)) = inl h
+from_left F r rs f (inl (inr h)) = inr (inl h)
+from_left F r rs f (inr h) = inr (inr h)
+
+from_right : (F : Fault → Type 0) (r : Row) (rs : List Row) (f : Fault) → F f ⊎ Stands (r ∷ rs) f → (F f ⊎ Told r f) ⊎ Stands rs f
+from_right F r rs f (inl h) = inl (inl h)
+from_right F r rs f (inr (inl h)) = inl (inr h)
+from_right F r rs f (inr (inr h)) = inr h
+
+reports_from : (F : Fault → Type 0) (o : Option Fault) (rs : List Row) → Reports F o → Reports (λ f. F f ⊎ Stands rs f) (tell o rs)
+unfolding tell
+reports_from F o [] p = reports_as F (λ f. F f ⊎ ⊥) o (λ f h. inl h) (λ f h. elim h [ inl x ↦ x | inr x ↦ absurd x ]) p
+reports_from F o (r ∷ rs) p = reports_as _ _ (tell (noted o r) rs) (from_left F r rs) (from_right F r rs)
+    (reports_from (λ f. F f ⊎ Told r f) (noted o r) rs (reports_worse F (Told r) o (when r.wrong r.place r.kind) p (reports_when r.wrong r.place r.kind)))
+
+pub reports_tell : (rs : List Row) → Reports (Stands rs) (tell None rs)
+reports_tell rs = reports_as _ _ (tell None rs) (λ f h. elim h [ inl x ↦ absurd x | inr x ↦ x ]) (λ f h. inr h) (reports_from (λ f. ⊥) None rs (λ g h. h))

@@ -1,0 +1,93 @@
+ghost use Rattle.std.specs.Prelude.{◌≡◌, None};
+ghost use Rattle.lil_report.specs.Least as spec;
+ghost use Rattle.lil_report.specs.Told.{row, noted};
+
+use lil_base::{FaultKind, Place};
+use std::marker::Model;
+
+/// What is wrong at a place.
+#[derive(Clone, Copy, Debug, PartialEq, Eq)]
+pub struct Fault {
+    pub place: Place,
+    pub kind: FaultKind,
+}
+
+/// Whether `f` speaks before `g`, or is as early.
+fn is_up_to(f: Fault, g: Fault) -> bool
+    ensures { result ≡ spec.is_up_to f g }
+{
+    f.place.offset < g.place.offset
+        || (f.place.offset == g.place.offset && f.kind.number() <= g.kind.number())
+}
+
+/// The one that speaks.
+#[tactic(auto, unfolding(crate::specs::Least::least))]
+fn least(f: Fault, g: Fault) -> Fault
+    ensures { result ≡ spec.least f g }
+{
+    if is_up_to(f, g) { f } else { g }
+}
+
+/// The one that speaks, if there is any.
+#[tactic(auto, unfolding(crate::specs::Least::worse))]
+fn worse(a: Option<Fault>, b: Option<Fault>) -> Option<Fault>
+    ensures { result ≡ spec.worse a b }
+{
+    match a {
+        None => b,
+        Some(f) => match b {
+            None => Some(f),
+            Some(g) => Some(least(f, g)),
+        },
+    }
+}
+
+/// A fault at `place`, where `wrong`.
+#[tactic(auto, unfolding(crate::specs::Least::when))]
+fn when(wrong: bool, place: Place, kind: FaultKind) -> Option<Fault>
+    ensures { result ≡ spec.when wrong place kind }
+{
+    if wrong {
+        Some(Fault { place, kind })
+    } else {
+        None
+    }
+}
+
+/// The least fault of those that were noted: the one at the least place, and there that of the least number.
+#[derive(Drop)]
+pub struct Report {
+    worst: Option<Fault>,
+}
+
+impl Model for Report {
+    ghost use Rattle.std.specs.Prelude.{Option};
+    ghost use Rattle.lil_report.specs.declared.report.Fault.{Fault};
+
+    ghost Value = { Option Fault };
+
+    ghost view = { λ r. r.worst };
+}
+
+impl Report {
+    /// No fault yet.
+    pub fn new() -> Report
+        ensures { result ≡ None }
+    {
+        Report { worst: None }
+    }
+
+    /// The one that speaks of all that were noted.
+    pub fn worst(&self) -> Option<Fault>
+        ensures { result ≡ self.now }
+    {
+        self.worst
+    }
+
+    /// One test more: where it finds something wrong, that is this fault.
+    pub fn note(&mut self, wrong: bool, place: Place, kind: FaultKind)
+        ensures { self.new ≡ noted self.old (row wrong place kind) }
+    {
+        self.worst = worse(self.worst, when(wrong, place, kind));
+    }
+}

@@ -1,0 +1,79 @@
+-- What names stand for in a list of blocks. A block is a list of names and things, in the order of declaration.
+use Rattle.std.specs.Prelude.{ℕ, is_none, slice_get, slice_set, nat_lt, length, Bool, not, List, [], ◌∷◌, ◌++◌, Option, Some, None, if◌then◌else◌, nat_eq}
+use Rattle.std.specs.Cmp.Lexicographic.{pointwise}
+use Rattle.lil_base.specs.declared.fault.FaultKind.TheVariants.{Twice}
+use Rattle.lil_text.specs.declared.tree.Ident.{Ident}
+use Rattle.lil_report.specs.Told.{Row, row}
+use Rattle.lil_scope.specs.declared.thing.Thing.{Thing}
+use Rattle.lil_scope.specs.declared.env.Env.{Env}
+use Rattle.lil_scope.specs.declared.scope.Scopes.{Scopes}
+
+abbrev pub same : List ℕ → List ℕ → Bool
+same a b = pointwise nat_eq a b
+
+abbrev pub Names : Type 0
+Names = List (List ℕ × Thing)
+
+-- what a name stands for in one block
+abbrev pub look_in : List (List ℕ × Thing) → List ℕ → Option Thing
+look_in [] n = None
+look_in (e ∷ es) n = if same n e.0 then Some e.1 else look_in es n
+
+abbrev pub inner_or : Option Thing → Option Thing → Option Thing
+inner_or None o = o
+inner_or (Some t) o = Some t
+
+abbrev pub block_by : Option (List (List ℕ × Thing)) → List (List ℕ × Thing)
+block_by None = []
+block_by (Some b) = b
+
+abbrev pub block_at : List (List (List ℕ × Thing)) → ℕ → List (List ℕ × Thing)
+block_at bs k = block_by (slice_get bs k)
+
+-- the innermost block that has the name speaks
+abbrev pub find_in : List (List (List ℕ × Thing)) → List ℕ → List ℕ → Option Thing
+find_in bs [] n = None
+find_in bs (k ∷ ks) n = inner_or (find_in bs ks n) (look_in (block_at bs k) n)
+
+abbrev pub find : Scopes → List ℕ → Option Thing
+find s n = inner_or (look_in (block_at s.blocks s.inner) n) (find_in s.blocks s.outer n)
+
+-- what a name of a module stands for, by the number of the module's block
+abbrev pub member : Scopes → ℕ → List ℕ → Option Thing
+member s k n = look_in (block_at s.blocks k) n
+
+-- a name that stands in the block isn't bound there again
+unfoldable pub is_new : List (List ℕ × Thing) → List ℕ → Bool
+is_new b n = is_none (look_in b n)
+
+abbrev pub bound : List (List ℕ × Thing) → List ℕ → Thing → List (List ℕ × Thing)
+bound b n t = if is_new b n then b ++ (n, t) ∷ [] else b
+
+abbrev pub bound_at : List (List (List ℕ × Thing)) → ℕ → List ℕ → Thing → List (List (List ℕ × Thing))
+bound_at bs k n t = if nat_lt k (length bs) then slice_set bs k (bound (block_at bs k) n t) else bs
+
+abbrev pub with_blocks : Env → List (List (List ℕ × Thing)) → Env
+with_blocks e bs = record e { scopes = record e.scopes { blocks = bs } }
+
+-- ---- 21 Twice: a name bound in a block where it stands before
+unfoldable pub bind_at : ℕ → Env → Ident → Thing → Env × List Row
+bind_at k e i t = (with_blocks e (bound_at e.scopes.blocks k i.name t), row (not (is_new (block_at e.scopes.blocks k) i.name)) i.place Twice ∷ [])
+
+-- a name bound in the block at hand
+abbrev pub bind : Env → Ident → Thing → Env × List Row
+bind e i t = bind_at e.scopes.inner e i t
+
+-- ---- blocks: one begun without names, entered, and left for the block around
+abbrev pub with_block : Env → Env
+with_block e = with_blocks e (e.scopes.blocks ++ [] ∷ [])
+
+-- how many blocks are around the one at hand: 0 for that of the standard names, 1 for the module's
+abbrev pub level : Env → ℕ
+level e = length e.scopes.outer
+
+abbrev pub inside : ℕ → Option ℕ → Env → Env
+inside k p e = record e { scopes = record e.scopes { outer = e.scopes.outer ++ e.scopes.inner ∷ []; inner = k }; waits = []; withs = []; procedure = p }
+
+-- what was declared inside, and the block at hand as it was in e
+abbrev pub outside : Env → Env → Env
+outside e f = record f { scopes = record f.scopes { outer = e.scopes.outer; inner = e.scopes.inner }; waits = e.waits; withs = e.withs; procedure = e.procedure }
