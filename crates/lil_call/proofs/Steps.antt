@@ -1,0 +1,96 @@
+-- One part of a call after the other.
+use Rattle.std.proofs.Common.{◌≡◌, ℕ, max, Bool, true, false, ◌&&◌, List, [], ◌∷◌, length, Option, None, subst, ap, sym, ◌∙◌}
+use Rattle.lil_base.specs.declared.fault.Place.{Place}
+use Rattle.lil_types.specs.Types.{Table}
+use Rattle.lil_module.specs.declared.tree.RArgument.{RArgument}
+use Rattle.lil_module.specs.declared.tree.RArgument.TheVariants as handed
+use Rattle.lil_module.specs.declared.tree.RStmt.{RStmt}
+use Rattle.lil_module.specs.declared.tree.Standard.{Standard}
+use Rattle.lil_report.specs.declared.report.Fault.{Fault}
+use Rattle.lil_report.specs.Told.{Row, after, Said}
+use Rattle.lil_report.specs.Laws.{said_after, said_as, said_to, said_map, said_pure}
+use Rattle.lil_kinds.specs.Forms.{result}
+use Rattle.lil_kinds.specs.declared.found.Found.{Found}
+use Rattle.lil_call.specs.declared.call.Argument.{Argument}
+use Rattle.lil_call.specs.declared.call.Callee.{Callee}
+use Rattle.lil_call.specs.declared.passing.Passed.{Passed}
+use Rattle.lil_call.specs.declared.routines.Invoked.{Invoked}
+use Rattle.lil_call.specs.Passing.{place_or_value, nothing_passed, arguments_mean}
+use Rattle.lil_call.specs.Functions.{standard_node, function_if, function_mean, of_all, ordinal_node, converted, converted_if, kept_if}
+use Rattle.lil_call.specs.Procedures.{procedure_if, procedure_mean, by_all, variable_node, operand_node, deep_node, done_if, with_variable, with_operand}
+use Rattle.lil_call.specs.Calls.{heading_node, depth_node, passed_if, routine_mean, call_found, routine_value, call_statement, routine_statement, value_of, statement_of}
+
+-- a part whose value is known, and what is built on that value
+said_at : {A B : Type 0} (m : A × List Row) (k : A → B × List Row) (x : A) {a : A} {b : B} {r s u : Option Fault} → Said m r a s → a ≡ x → Said (k x) s b u → Said (after m k) r b u
+said_at m k x {b = b} {s = s} {u = u} h e g = said_after m k h (subst (λ a. Said (k a) s b u) (sym e) g)
+
+module _ (t : Table) (p : Place) (of : Standard) where
+  -- ---- functions
+  pub is_function : (xs : List Argument) (n : ℕ) {b : Bool} {o : Option Found} {r s u : Option Fault}
+      → n ≡ length xs → Said (standard_node p true of n) r b s → b ≡ true → Said (of_all t p of xs) s o u → Said (function_mean t p of xs) r o u
+  is_function xs n {b = b} {r = r} {s = s} e h i g = said_at (standard_node p true of (length xs)) (function_if t p of xs) true (subst (λ n. Said (standard_node p true of n) r b s) e h) i g
+
+  pub no_function : (xs : List Argument) (n : ℕ) {b : Bool} {r s : Option Fault}
+      → n ≡ length xs → Said (standard_node p true of n) r b s → b ≡ false → Said (function_mean t p of xs) r None s
+  no_function xs n {b = b} {r = r} {s = s} e h i = said_at (standard_node p true of (length xs)) (function_if t p of xs) false (subst (λ n. Said (standard_node p true of n) r b s) e h) i (said_pure None s)
+
+  pub is_converted : (at : Place) (sort : ℕ) (x : Found) {is : Bool} {o q : Option Found} {r s u : Option Fault}
+      → Said (ordinal_node t at sort) r is s → Said (converted t p of sort x) s o u → q ≡ kept_if is o → Said (after (ordinal_node t at sort) (converted_if t p of sort x)) r q u
+  is_converted at sort x {is = is} h g e = said_after (ordinal_node t at sort) (converted_if t p of sort x) h (said_to (said_map (kept_if is) g) e)
+
+  -- ---- procedures
+  pub is_procedure : (xs : List Argument) (n : ℕ) {b : Bool} {o : Option RStmt} {r s u : Option Fault}
+      → n ≡ length xs → Said (standard_node p false of n) r b s → b ≡ true → Said (by_all t p of xs) s o u → Said (procedure_mean t p of xs) r o u
+  is_procedure xs n {b = b} {r = r} {s = s} e h i g = said_at (standard_node p false of (length xs)) (procedure_if t p of xs) true (subst (λ n. Said (standard_node p false of n) r b s) e h) i g
+
+  pub no_procedure : (xs : List Argument) (n : ℕ) {b : Bool} {r s : Option Fault}
+      → n ≡ length xs → Said (standard_node p false of n) r b s → b ≡ false → Said (procedure_mean t p of xs) r None s
+  no_procedure xs n {b = b} {r = r} {s = s} e h i = said_at (standard_node p false of (length xs)) (procedure_if t p of xs) false (subst (λ n. Said (standard_node p false of n) r b s) e h) i (said_pure None s)
+
+  pub is_changed : (x : Found) {a b : Bool} {q : Option RStmt} {r s u : Option Fault} (c : Bool) (v : RArgument) (zs : List RArgument)
+      → Said (variable_node t of x) r a s → Said (deep_node p x.depth) s b u → c ≡ (a && b) → v ≡ place_or_value x.form → zs ≡ v ∷ [] → q ≡ done_if c of zs
+      → Said (with_variable t p of x) r q u
+  is_changed x {a = a} {b = b} c v zs h g i j k e =
+      said_after (variable_node t of x) (λ a. after (deep_node p x.depth) (λ b. (done_if (a && b) of (place_or_value x.form ∷ []), []))) h
+      (said_to (said_map (λ b. done_if (a && b) of (place_or_value x.form ∷ [])) g) (e ∙ (λ n. done_if (i n) of ((k ∙ ap (λ v. v ∷ []) j) n))))
+
+  pub is_joined : (x y : Found) {a b c : Bool} {q : Option RStmt} {r s u w : Option Fault} (d : Bool) (depth : ℕ) (v : RArgument) (zs : List RArgument)
+      → Said (variable_node t of x) r a s → Said (operand_node t of x.kind y) s b u → Said (deep_node p depth) u c w → depth ≡ max x.depth y.depth
+      → d ≡ (a && (b && c)) → v ≡ place_or_value x.form → zs ≡ v ∷ handed.Value y.form ∷ [] → q ≡ done_if d of zs
+      → Said (with_operand t p of x y) r q w
+  is_joined x y {a = a} {b = b} {c = c} {u = u} {w = w} d depth v zs h g l m i j k e =
+      said_after (variable_node t of x) _ h
+      (said_after (operand_node t of x.kind y) _ g
+      (said_to (said_map (λ c. done_if (a && (b && c)) of (place_or_value x.form ∷ handed.Value y.form ∷ [])) (subst (λ n. Said (deep_node p n) u c w) m l)) (e ∙ (λ n. done_if (i n) of ((k ∙ ap (λ v. v ∷ handed.Value y.form ∷ []) j) n)))))
+
+-- ---- calls of procedures
+module _ (t : Table) (p : Place) (v : Invoked) where
+  pub is_routine_call : (wanted : Bool) (xs : List Argument) (n : ℕ) (start : Passed) {b : Bool} {q : Passed} {o : Option Passed} {r s u w : Option Fault}
+      → n ≡ length xs → Said (heading_node t p wanted v.sort n) r b s → b ≡ true → start ≡ nothing_passed v.depth
+      → Said (arguments_mean t v.resident v.sort start xs) s q u → Said (depth_node p q) u o w → Said (routine_mean t p wanted v xs) r o w
+  is_routine_call wanted xs n start {b = b} {q = q} {r = r} {s = s} {u = u} e h i j g l =
+      said_at (heading_node t p wanted v.sort (length xs)) (passed_if t p v xs) true (subst (λ n. Said (heading_node t p wanted v.sort n) r b s) e h) i
+      (said_after (arguments_mean t v.resident v.sort (nothing_passed v.depth) xs) (depth_node p) (subst (λ z. Said (arguments_mean t v.resident v.sort z xs) s q u) j g) l)
+
+  pub no_routine_call : (wanted : Bool) (xs : List Argument) (n : ℕ) {b : Bool} {r s : Option Fault}
+      → n ≡ length xs → Said (heading_node t p wanted v.sort n) r b s → b ≡ false → Said (routine_mean t p wanted v xs) r None s
+  no_routine_call wanted xs n {b = b} {r = r} {s = s} e h i =
+      said_at (heading_node t p wanted v.sort (length xs)) (passed_if t p v xs) false (subst (λ n. Said (heading_node t p wanted v.sort n) r b s) e h) i (said_pure None s)
+
+  pub is_value_call : (xs : List Argument) {s : Option Passed} {o : Option Found} {r u : Option Fault} (sort : Option ℕ)
+      → Said (routine_mean t p true v xs) r s u → sort ≡ result t v.sort → o ≡ call_found p v sort s → Said (routine_value t p v xs) r o u
+  is_value_call xs {s = s} sort h i e = said_to (said_map (call_found p v (result t v.sort)) h) (e ∙ ap (λ sort. call_found p v sort s) i)
+
+  pub is_statement_call : (xs : List Argument) {s : Option Passed} {o : Option RStmt} {r u : Option Fault}
+      → Said (routine_mean t p false v xs) r s u → o ≡ call_statement v s → Said (routine_statement t p v xs) r o u
+  is_statement_call xs h e = said_to (said_map (call_statement v) h) e
+
+-- ---- what is called
+module _ (t : Table) (p : Place) (xs : List Argument) where
+  pub value_as : (c d : Callee) (v w : Invoked) {o : Option Found} {r s : Option Fault}
+      → c ≡ d → v ≡ w → value_of t p d xs ≡ routine_value t p w xs → Said (routine_value t p v xs) r o s → Said (value_of t p c xs) r o s
+  value_as c d v w e i h g = said_as (ap (λ c. value_of t p c xs) e ∙ h ∙ ap (λ v. routine_value t p v xs) (sym i)) g
+
+  pub statement_as : (c d : Callee) (v w : Invoked) {o : Option RStmt} {r s : Option Fault}
+      → c ≡ d → v ≡ w → statement_of t p d xs ≡ routine_statement t p w xs → Said (routine_statement t p v xs) r o s → Said (statement_of t p c xs) r o s
+  statement_as c d v w e i h g = said_as (ap (λ c. statement_of t p c xs) e ∙ h ∙ ap (λ v. routine_statement t p v xs) (sym i)) g

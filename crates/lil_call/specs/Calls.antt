@@ -1,0 +1,105 @@
+-- What calls mean, from what is known of their arguments.
+use Rattle.std.specs.Prelude.{ℕ, ◌==◌, nat_lt, Bool, true, false, not, is_some, ◌&&◌, if◌then◌else◌, List, [], ◌∷◌, length, Option, Some, None}
+use Rattle.lil_base.specs.declared.fault.Place.{Place}
+use Rattle.lil_base.specs.declared.fault.FaultKind.TheVariants.{ArgCount, NotCallable, ExprDeep}
+use Rattle.lil_types.specs.Types.{Table}
+use Rattle.lil_module.specs.declared.tree.RDesignator.{RDesignator}
+use Rattle.lil_module.specs.declared.tree.Resident.{Resident}
+use Rattle.lil_module.specs.declared.tree.RStmt.{RStmt}
+use Rattle.lil_module.specs.declared.tree.RStmt.TheVariants as statement
+use Rattle.lil_module.specs.declared.tree.RExpr.TheVariants as form
+use Rattle.lil_module.specs.declared.tree.RCallee.TheVariants as resolved
+use Rattle.lil_report.specs.Told.{Row, row, after}
+use Rattle.lil_scope.specs.declared.thing.Kind.TheVariants as kind
+use Rattle.lil_kinds.specs.Forms.{is_routine, arity, result}
+use Rattle.lil_kinds.specs.declared.found.Found.{Found}
+use Rattle.lil_kinds.specs.declared.found.Standing.TheVariants as standing
+use Rattle.lil_call.specs.declared.call.Callee.{Callee}
+use Rattle.lil_call.specs.declared.call.Callee.TheVariants as callee
+use Rattle.lil_call.specs.declared.call.Argument.{Argument}
+use Rattle.lil_call.specs.declared.passing.Passed.{Passed}
+use Rattle.lil_call.specs.declared.routines.Invoked.{Invoked}
+use Rattle.lil_call.specs.Passing.{all_have_values, nothing_passed, arguments_mean}
+use Rattle.lil_call.specs.Functions.{agrees, function_mean}
+use Rattle.lil_call.specs.Procedures.{procedure_mean}
+
+-- ---- calls of procedures
+-- where a value is wanted a function is called, else a proper procedure
+abbrev pub is_callable : Table → Bool → ℕ → Bool
+is_callable t wanted sort = is_routine t sort && agrees wanted (is_some (result t sort))
+
+-- 32 ArgCount: another number of arguments than of parameters
+-- 34 NotCallable: no procedure, a function as a statement, or a proper procedure in an expression
+unfoldable pub heading_node : Table → Place → Bool → ℕ → ℕ → Bool × List Row
+heading_node t p wanted sort count = (
+  is_callable t wanted sort && arity t sort == count,
+  row (is_routine t sort && not (arity t sort == count)) p ArgCount ∷ row (not (is_callable t wanted sort)) p NotCallable ∷ [],
+)
+
+-- 60 ExprDeep: a depth above 12
+unfoldable pub depth_node : Place → Passed → Option Passed × List Row
+depth_node p s = (
+  if s.is_right && not (nat_lt 12 s.depth) then Some s else None,
+  row (nat_lt 12 s.depth) p ExprDeep ∷ [],
+)
+
+-- the arguments are looked at where their number is right
+abbrev pub passed_if : Table → Place → Invoked → List Argument → Bool → Option Passed × List Row
+passed_if t p v xs false = (None, [])
+passed_if t p v xs true = after (arguments_mean t v.resident v.sort (nothing_passed v.depth) xs) (depth_node p)
+
+abbrev pub routine_mean : Table → Place → Bool → Invoked → List Argument → Option Passed × List Row
+routine_mean t p wanted v xs = after (heading_node t p wanted v.sort (length xs)) (passed_if t p v xs)
+
+abbrev pub call_found : Place → Invoked → Option ℕ → Option Passed → Option Found
+call_found p v None s = None
+call_found p v (Some sort) None = None
+call_found p v (Some sort) (Some s) = Some (record { form = form.Call v.form s.arguments; kind = kind.Of sort; first = p; depth = s.depth; standing = standing.Value })
+
+abbrev pub routine_value : Table → Place → Invoked → List Argument → Option Found × List Row
+routine_value t p v xs = after (routine_mean t p true v xs) (λ s. (call_found p v (result t v.sort) s, []))
+
+abbrev pub call_statement : Invoked → Option Passed → Option RStmt
+call_statement v None = None
+call_statement v (Some s) = Some (statement.Call v.form s.arguments)
+
+abbrev pub routine_statement : Table → Place → Invoked → List Argument → Option RStmt × List Row
+routine_statement t p v xs = after (routine_mean t p false v xs) (λ s. (call_statement v s, []))
+
+-- ---- what is called
+-- 34 NotCallable: what is no procedure
+unfoldable pub no_call : {A : Type 0} → Place → Option A × List Row
+no_call p = (None, row true p NotCallable ∷ [])
+
+abbrev pub of_procedure : ℕ → ℕ → Invoked
+of_procedure n sort = record { form = resolved.Procedure n; sort = sort; depth = 1; resident = false }
+
+abbrev pub of_variable : RDesignator → ℕ → ℕ → Invoked
+of_variable d sort depth = record { form = resolved.Variable d; sort = sort; depth = depth; resident = false }
+
+abbrev pub of_resident : Resident → ℕ → Invoked
+of_resident r sort = record { form = resolved.Resident r; sort = sort; depth = 1; resident = true }
+
+abbrev pub value_of : Table → Place → Callee → List Argument → Option Found × List Row
+value_of t p (callee.Procedure n sort) xs = routine_value t p (of_procedure n sort) xs
+value_of t p (callee.Variable d sort depth) xs = routine_value t p (of_variable d sort depth) xs
+value_of t p (callee.Resident r sort) xs = routine_value t p (of_resident r sort) xs
+value_of t p (callee.Standard of) xs = function_mean t p of xs
+value_of t p callee.Other xs = no_call p
+
+abbrev pub statement_of : Table → Place → Callee → List Argument → Option RStmt × List Row
+statement_of t p (callee.Procedure n sort) xs = routine_statement t p (of_procedure n sort) xs
+statement_of t p (callee.Variable d sort depth) xs = routine_statement t p (of_variable d sort depth) xs
+statement_of t p (callee.Resident r sort) xs = routine_statement t p (of_resident r sort) xs
+statement_of t p (callee.Standard of) xs = procedure_mean t p of xs
+statement_of t p callee.Other xs = no_call p
+
+-- a call in an expression, at its designator's first token: it is tested only where all its parts have values
+unfoldable pub call_node : Table → Place → Option Callee → List Argument → Option Found × List Row
+call_node t p None xs = (None, [])
+call_node t p (Some c) xs = if all_have_values xs then value_of t p c xs else (None, [])
+
+-- a call that is a statement
+unfoldable pub statement_node : Table → Place → Option Callee → List Argument → Option RStmt × List Row
+statement_node t p None xs = (None, [])
+statement_node t p (Some c) xs = if all_have_values xs then statement_of t p c xs else (None, [])

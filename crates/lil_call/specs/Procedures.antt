@@ -1,0 +1,163 @@
+-- What calls of standard procedures mean.
+use Rattle.std.specs.Prelude.{ℕ, ℤ, ◌==◌, nat_lt, int_lt, max, Bool, true, false, not, is_none, ◌&&◌, ◌||◌, if◌then◌else◌, List, [], ◌∷◌, length, Option, Some, None}
+use Rattle.lil_base.specs.declared.fault.Place.{Place}
+use Rattle.lil_base.specs.declared.fault.FaultKind.TheVariants.{Operands, VarArgument, NotPointer, Opaque, ConstRange, ExprDeep}
+use Rattle.lil_types.specs.Types.{Table, integer, cardinal, base}
+use Rattle.lil_types.specs.declared.table.Span.{Span}
+use Rattle.lil_module.specs.declared.tree.RStmt.{RStmt}
+use Rattle.lil_module.specs.declared.tree.RStmt.TheVariants as statement
+use Rattle.lil_module.specs.declared.tree.RArgument.{RArgument}
+use Rattle.lil_module.specs.declared.tree.RArgument.TheVariants as handed
+use Rattle.lil_module.specs.declared.tree.Standard.{Standard}
+use Rattle.lil_module.specs.declared.tree.Standard.TheVariants.{Dec, Excl, Inc, Incl, New, Dispose}
+use Rattle.lil_report.specs.Told.{Row, row, after}
+use Rattle.lil_scope.specs.declared.thing.Kind.{Kind}
+use Rattle.lil_scope.specs.declared.thing.Kind.TheVariants as kind
+use Rattle.lil_kinds.specs.Forms.{target, set_base, element_span, is_opaque}
+use Rattle.lil_kinds.specs.Kinds.{compatible, is_ordinal, number}
+use Rattle.lil_kinds.specs.declared.found.Found.{Found}
+use Rattle.lil_call.specs.declared.call.Argument.{Argument}
+use Rattle.lil_call.specs.declared.call.Argument.TheVariants as argument
+use Rattle.lil_call.specs.Passing.{is_variable, place_or_value}
+use Rattle.lil_call.specs.Functions.{standard_node, no_value}
+
+-- ---- which standard procedures there are
+-- INC and DEC
+abbrev pub is_counting : Standard → Bool
+is_counting Inc = true
+is_counting Dec = true
+is_counting _ = false
+
+-- INCL and EXCL
+abbrev pub is_joining : Standard → Bool
+is_joining Incl = true
+is_joining Excl = true
+is_joining _ = false
+
+-- NEW and DISPOSE
+abbrev pub is_storing : Standard → Bool
+is_storing New = true
+is_storing Dispose = true
+is_storing _ = false
+
+-- ---- the variable
+-- the base type of a set, a constant one included
+abbrev pub base_of_set : Table → Kind → Option ℕ
+base_of_set t (kind.Of n) = set_base t n
+base_of_set t (kind.Scalar n word) = set_base t n
+base_of_set t _ = None
+
+abbrev pub span_of_set : Table → Kind → Option Span
+span_of_set t (kind.Of n) = element_span t n
+span_of_set t (kind.Scalar n word) = element_span t n
+span_of_set t _ = None
+
+abbrev pub target_of : Table → Kind → Option ℕ
+target_of t (kind.Of n) = target t n
+target_of t _ = None
+
+abbrev pub is_hidden : Table → Kind → Bool
+is_hidden t (kind.Of n) = is_opaque t n
+is_hidden t _ = false
+
+abbrev pub is_of_wrong_type : Table → Standard → Kind → Bool
+is_of_wrong_type t of a = (is_counting of && not (is_ordinal t a)) || (is_joining of && is_none (base_of_set t a))
+
+abbrev pub is_no_pointer : Table → Standard → Kind → Bool
+is_no_pointer t of a = is_storing of && (is_none (target_of t a) && not (is_hidden t a))
+
+abbrev pub is_behind_opaque : Table → Standard → Kind → Bool
+is_behind_opaque t of a = is_storing of && is_hidden t a
+
+abbrev pub is_changeable : Table → Standard → Found → Bool
+is_changeable t of x =
+    not (is_of_wrong_type t of x.kind) && (is_variable x.standing && (not (is_no_pointer t of x.kind) && not (is_behind_opaque t of x.kind)))
+
+-- 30 Operands: INC or DEC of what isn't ordinal, INCL or EXCL of no set
+-- 33 VarArgument: no variable, or a character of an ARRAY OF CHAR
+-- 37 NotPointer: NEW or DISPOSE of no pointer
+-- 43 Opaque: NEW or DISPOSE of an opaque type of another module
+unfoldable pub variable_node : Table → Standard → Found → Bool × List Row
+variable_node t of x = (
+  is_changeable t of x,
+  row (is_of_wrong_type t of x.kind) x.first Operands
+      ∷ row (not (is_variable x.standing)) x.first VarArgument
+      ∷ row (is_no_pointer t of x.kind) x.first NotPointer
+      ∷ row (is_behind_opaque t of x.kind) x.first Opaque ∷ [],
+)
+
+-- ---- the operand beside it
+-- INTEGER beside a variable whose base type that is, else CARDINAL
+abbrev pub counted_in : Table → Kind → ℕ
+counted_in t (kind.Of n) = if base t n == integer then integer else cardinal
+counted_in t _ = cardinal
+
+abbrev pub is_no_count : Table → Kind → Kind → Bool
+is_no_count t v a = not (compatible t (kind.Of (counted_in t v)) a)
+
+abbrev pub is_no_element : Table → Option ℕ → Kind → Bool
+is_no_element t None a = false
+is_no_element t (Some n) a = not (compatible t (kind.Of n) a)
+
+abbrev pub is_past : Option ℤ → Option Span → Bool
+is_past None s = false
+is_past (Some n) None = false
+is_past (Some n) (Some s) = int_lt n s.low || int_lt s.high n
+
+abbrev pub is_wrong_operand : Table → Standard → Kind → Kind → Bool
+is_wrong_operand t of v a = (is_counting of && is_no_count t v a) || (is_joining of && is_no_element t (base_of_set t v) a)
+
+abbrev pub is_past_elements : Table → Standard → Kind → Kind → Bool
+is_past_elements t of v a = is_joining of && is_past (number t a) (span_of_set t v)
+
+-- 30 Operands: a number that isn't compatible, or no element of the set
+-- 50 ConstRange: a constant that no set of the type has
+unfoldable pub operand_node : Table → Standard → Kind → Found → Bool × List Row
+operand_node t of v x = (
+  not (is_wrong_operand t of v x.kind) && not (is_past_elements t of v x.kind),
+  row (is_wrong_operand t of v x.kind) x.first Operands ∷ row (is_past_elements t of v x.kind) x.first ConstRange ∷ [],
+)
+
+-- ---- the statement
+-- 60 ExprDeep: a depth above 12
+unfoldable pub deep_node : Place → ℕ → Bool × List Row
+deep_node p depth = (not (nat_lt 12 depth), row (nat_lt 12 depth) p ExprDeep ∷ [])
+
+abbrev pub done_if : Bool → Standard → List RArgument → Option RStmt
+done_if is of xs = if is then Some (statement.Procedure of xs) else None
+
+abbrev pub with_variable : Table → Place → Standard → Found → Option RStmt × List Row
+with_variable t p of x =
+    after (variable_node t of x) (λ a. after (deep_node p x.depth) (λ b. (done_if (a && b) of (place_or_value x.form ∷ []), [])))
+
+abbrev pub with_operand : Table → Place → Standard → Found → Found → Option RStmt × List Row
+with_operand t p of x y =
+    after (variable_node t of x) (λ a.
+    after (operand_node t of x.kind y) (λ b.
+    after (deep_node p (max x.depth y.depth)) (λ c. (done_if (a && (b && c)) of (place_or_value x.form ∷ handed.Value y.form ∷ []), []))))
+
+abbrev pub by_one : Table → Place → Standard → Argument → Option RStmt × List Row
+by_one t p of (argument.Value None) = (None, [])
+by_one t p of (argument.Value (Some x)) = with_variable t p of x
+by_one t p of (argument.Type at n) = no_value at
+
+abbrev pub by_two : Table → Place → Standard → Argument → Argument → Option RStmt × List Row
+by_two t p of (argument.Value None) y = (None, [])
+by_two t p of (argument.Value (Some x)) (argument.Value None) = (None, [])
+by_two t p of (argument.Value (Some x)) (argument.Value (Some y)) = with_operand t p of x y
+by_two t p of (argument.Value (Some x)) (argument.Type at n) = no_value at
+by_two t p of (argument.Type at n) y = no_value at
+
+-- HALT has no argument
+abbrev pub by_all : Table → Place → Standard → List Argument → Option RStmt × List Row
+by_all t p of [] = (Some (statement.Procedure of []), [])
+by_all t p of (x ∷ []) = by_one t p of x
+by_all t p of (x ∷ y ∷ ys) = by_two t p of x y
+
+-- the arguments are looked at where their number is right
+abbrev pub procedure_if : Table → Place → Standard → List Argument → Bool → Option RStmt × List Row
+procedure_if t p of xs false = (None, [])
+procedure_if t p of xs true = by_all t p of xs
+
+abbrev pub procedure_mean : Table → Place → Standard → List Argument → Option RStmt × List Row
+procedure_mean t p of xs = after (standard_node p false of (length xs)) (procedure_if t p of xs)

@@ -1,0 +1,178 @@
+ghost use Rattle.std.specs.Prelude.{◌≡◌, IfOk};
+ghost use Rattle.lil_report.specs.Told.{Said};
+ghost use Rattle.lil_call.specs.Calls as spec;
+
+use crate::functions::function_call;
+use crate::passing::all_have_values;
+use crate::procedures::procedure_call;
+use crate::routines::{Invoked, statement_call, value_call};
+use lil_base::{FaultKind, Items, Memory, Place};
+use lil_kinds::Found;
+use lil_module::{RCallee, RDesignator, RStmt, Resident, Standard};
+use lil_report::Report;
+use lil_types::{TypeId, TypeTable};
+use std::alloc::Global;
+
+/// What is called: a procedure by its number and its procedure type; the value of a variable, with its type and its depth; a
+/// procedure of a resident module; a standard procedure; or what can't be called.
+#[derive(Drop)]
+pub enum Callee {
+    Procedure(usize, TypeId),
+    Variable(RDesignator, TypeId, usize),
+    Resident(Resident, TypeId),
+    Standard(Standard),
+    Other,
+}
+
+/// An argument: a value, or a type's name at its first token, each where it has no fault.
+#[derive(Drop)]
+pub enum Argument {
+    Value(Option<Found>),
+    Type(Place, Option<TypeId>),
+}
+
+fn of_procedure(number: usize, sort: TypeId) -> Invoked
+    ensures { result ≡ spec.of_procedure number sort }
+{
+    Invoked {
+        form: RCallee::Procedure(number),
+        sort,
+        depth: 1,
+        resident: false,
+    }
+}
+
+fn of_variable(designator: RDesignator, sort: TypeId, depth: usize) -> Invoked
+    ensures { result ≡ spec.of_variable designator sort depth }
+{
+    Invoked {
+        form: RCallee::Variable(designator),
+        sort,
+        depth,
+        resident: false,
+    }
+}
+
+fn of_resident(number: Resident, sort: TypeId) -> Invoked
+    ensures { result ≡ spec.of_resident number sort }
+{
+    Invoked {
+        form: RCallee::Resident(number),
+        sort,
+        depth: 1,
+        resident: true,
+    }
+}
+
+/// What is no procedure.
+#[tactic(auto, unfolding(crate::specs::Calls::no_call, lil_report::specs::Told::tell))]
+fn no_call<T>(report: &mut Report, first: Place) -> Option<T>
+    ensures { Said (spec.no_call {A = T} first) report.old result report.new }
+{
+    report.note(true, first, FaultKind::NotCallable);
+    None
+}
+
+fn value(
+    alloc: Global,
+    t: &TypeTable,
+    report: &mut Report,
+    first: Place,
+    callee: Callee,
+    arguments: Items<Argument>,
+) -> Result<Option<Found>, Memory>
+    ensures { IfOk result (λ o. Said (spec.value_of t.now first callee arguments) report.old o report.new) }
+{
+    match callee {
+        Callee::Procedure(number, sort) => {
+            let v = of_procedure(number, sort);
+            Ok(value_call(alloc, t, report, first, v, arguments)?)
+        }
+        Callee::Variable(designator, sort, depth) => {
+            let v = of_variable(designator, sort, depth);
+            Ok(value_call(alloc, t, report, first, v, arguments)?)
+        }
+        Callee::Resident(number, sort) => {
+            let v = of_resident(number, sort);
+            Ok(value_call(alloc, t, report, first, v, arguments)?)
+        }
+        Callee::Standard(of) => Ok(function_call(alloc, t, report, first, of, arguments)?),
+        Callee::Other => Ok(no_call(report, first)),
+    }
+}
+
+fn statement(
+    alloc: Global,
+    t: &TypeTable,
+    report: &mut Report,
+    first: Place,
+    callee: Callee,
+    arguments: Items<Argument>,
+) -> Result<Option<RStmt>, Memory>
+    ensures { IfOk result (λ o. Said (spec.statement_of t.now first callee arguments) report.old o report.new) }
+{
+    match callee {
+        Callee::Procedure(number, sort) => {
+            let v = of_procedure(number, sort);
+            Ok(statement_call(alloc, t, report, first, v, arguments)?)
+        }
+        Callee::Variable(designator, sort, depth) => {
+            let v = of_variable(designator, sort, depth);
+            Ok(statement_call(alloc, t, report, first, v, arguments)?)
+        }
+        Callee::Resident(number, sort) => {
+            let v = of_resident(number, sort);
+            Ok(statement_call(alloc, t, report, first, v, arguments)?)
+        }
+        Callee::Standard(of) => Ok(procedure_call(alloc, t, report, first, of, arguments)?),
+        Callee::Other => Ok(no_call(report, first)),
+    }
+}
+
+/// A call in an expression, at the designator's first token.
+#[tactic(auto, unfolding(crate::specs::Calls::call_node, lil_report::specs::Told::tell))]
+pub fn called(
+    alloc: Global,
+    t: &TypeTable,
+    report: &mut Report,
+    first: Place,
+    callee: Option<Callee>,
+    arguments: Items<Argument>,
+) -> Result<Option<Found>, Memory>
+    ensures { IfOk result (λ o. Said (spec.call_node t.now first callee arguments) report.old o report.new) }
+{
+    match callee {
+        None => Ok(None),
+        Some(c) => {
+            if all_have_values(arguments.as_slice()) {
+                Ok(value(alloc, t, report, first, c, arguments)?)
+            } else {
+                Ok(None)
+            }
+        }
+    }
+}
+
+/// A call that is a statement, at the designator's first token.
+#[tactic(auto, unfolding(crate::specs::Calls::statement_node, lil_report::specs::Told::tell))]
+pub fn stated(
+    alloc: Global,
+    t: &TypeTable,
+    report: &mut Report,
+    first: Place,
+    callee: Option<Callee>,
+    arguments: Items<Argument>,
+) -> Result<Option<RStmt>, Memory>
+    ensures { IfOk result (λ o. Said (spec.statement_node t.now first callee arguments) report.old o report.new) }
+{
+    match callee {
+        None => Ok(None),
+        Some(c) => {
+            if all_have_values(arguments.as_slice()) {
+                Ok(statement(alloc, t, report, first, c, arguments)?)
+            } else {
+                Ok(None)
+            }
+        }
+    }
+}

@@ -1,0 +1,343 @@
+ghost use Rattle.std.specs.Prelude.{◌≡◌};
+ghost use Rattle.std.specs.Option.{option_copied};
+ghost use Rattle.lil_types.specs.Types.{meant as meant_type, other_of as other_type};
+ghost use Rattle.lil_kinds.specs.Forms as spec;
+
+use lil_base::Name;
+use lil_types::{
+    BITSET, CARDINAL, CHAR, Field, Parameter, Span, TypeForm, TypeId, TypeTable, entry, known,
+};
+
+/// PROC, the procedure type without parameters.
+const PROC: TypeId = 5;
+
+/// ADDRESS, the type of the places of the store.
+const ADDRESS: TypeId = 6;
+
+/// The index type and the element type of an array.
+#[derive(Clone, Copy, Debug, PartialEq, Eq)]
+pub struct ArrayParts {
+    pub index: TypeId,
+    pub element: TypeId,
+}
+
+/// A field of a record: its number, from 0, and its type.
+#[derive(Clone, Copy, Debug, PartialEq, Eq)]
+pub struct FieldAt {
+    pub number: usize,
+    pub sort: TypeId,
+}
+
+fn other_of(n: TypeId, form: &TypeForm) -> TypeId
+    ensures { result ≡ other_type n form.now }
+{
+    match form {
+        TypeForm::Opaque(Some(other)) => *other,
+        _ => n,
+    }
+}
+
+/// The type that a number means: that of its implementation, where it is an opaque type that has one.
+fn meant(t: &TypeTable, n: TypeId) -> TypeId
+    ensures { result ≡ meant_type t.now n }
+{
+    match entry(t, n) {
+        Some(e) => other_of(n, &e.form),
+        None => n,
+    }
+}
+
+/// How a type is built, None for a standard type.
+#[tactic(auto, unfolding(crate::specs::Forms::shape))]
+fn shape(t: &TypeTable, n: TypeId) -> Option<&TypeForm>
+    ensures { option_copied result ≡ spec.shape t.now n }
+{
+    match entry(t, meant(t, n)) {
+        Some(e) => Some(&e.form),
+        None => None,
+    }
+}
+
+/// The numbers of an ordinal type's values, None for any other type.
+#[tactic(auto, unfolding(crate::specs::Forms::span_of))]
+pub fn span_of(t: &TypeTable, n: TypeId) -> Option<Span>
+    ensures { result ≡ spec.span_of t.now n }
+{
+    match known(t, meant(t, n)) {
+        Some(facts) => facts.span,
+        None => None,
+    }
+}
+
+fn array_of(form: &TypeForm) -> Option<ArrayParts>
+    ensures { result ≡ spec.array_of form.now }
+{
+    match form {
+        TypeForm::Array(index, element) => Some(ArrayParts {
+            index: *index,
+            element: *element,
+        }),
+        _ => None,
+    }
+}
+
+/// The parts of an array type, None for any other.
+#[tactic(auto, unfolding(crate::specs::Forms::array_parts))]
+pub fn array_parts(t: &TypeTable, n: TypeId) -> Option<ArrayParts>
+    ensures { result ≡ spec.array_parts t.now n }
+{
+    match shape(t, n) {
+        Some(form) => array_of(form),
+        None => None,
+    }
+}
+
+fn same_name(a: &[u8], b: &[u8]) -> bool
+    ensures { result ≡ spec.same_name a.now b.now }
+{
+    a == b
+}
+
+/// The first of these fields that has the name.
+fn field_in(fields: &[Field], name: &[u8]) -> Option<FieldAt>
+    ensures { result ≡ spec.field_from 0 fields.now name.now }
+{
+    let mut number = 0;
+    for field in fields {
+        if same_name(field.name.as_slice(), name) {
+            return Some(FieldAt {
+                number,
+                sort: field.sort,
+            });
+        }
+        number += 1;
+    }
+    None
+}
+
+fn field_of(name: &Name, form: &TypeForm) -> Option<FieldAt>
+    ensures { result ≡ spec.field_of name.now form.now }
+{
+    match form {
+        TypeForm::Record(fields) => field_in(fields.as_slice(), name.as_slice()),
+        _ => None,
+    }
+}
+
+/// The field of this name, None where the type is no record or has no such field.
+#[tactic(auto, unfolding(crate::specs::Forms::field))]
+pub fn field(t: &TypeTable, n: TypeId, name: &Name) -> Option<FieldAt>
+    ensures { result ≡ spec.field t.now n name.now }
+{
+    match shape(t, n) {
+        Some(form) => field_of(name, form),
+        None => None,
+    }
+}
+
+fn is_record_form(form: &TypeForm) -> bool
+    ensures { result ≡ spec.is_record_form form.now }
+{
+    match form {
+        TypeForm::Record(_) => true,
+        _ => false,
+    }
+}
+
+/// Whether the type is a record.
+#[tactic(auto, unfolding(crate::specs::Forms::is_record))]
+pub fn is_record(t: &TypeTable, n: TypeId) -> bool
+    ensures { result ≡ spec.is_record t.now n }
+{
+    match shape(t, n) {
+        Some(form) => is_record_form(form),
+        None => false,
+    }
+}
+
+fn target_of(form: &TypeForm) -> Option<TypeId>
+    ensures { result ≡ spec.target_of form.now }
+{
+    match form {
+        TypeForm::Pointer(target) => Some(*target),
+        _ => None,
+    }
+}
+
+/// The type to which a pointer type points, None for any other.
+#[tactic(auto, unfolding(crate::specs::Forms::target))]
+pub fn target(t: &TypeTable, n: TypeId) -> Option<TypeId>
+    ensures { result ≡ spec.target t.now n }
+{
+    match shape(t, n) {
+        Some(form) => target_of(form),
+        None => None,
+    }
+}
+
+fn is_opaque_form(form: &TypeForm) -> bool
+    ensures { result ≡ spec.is_opaque_form form.now }
+{
+    match form {
+        TypeForm::Opaque(_) => true,
+        _ => false,
+    }
+}
+
+/// Whether the type is an opaque type of another module.
+#[tactic(auto, unfolding(crate::specs::Forms::is_opaque))]
+pub fn is_opaque(t: &TypeTable, n: TypeId) -> bool
+    ensures { result ≡ spec.is_opaque t.now n }
+{
+    match shape(t, n) {
+        Some(form) => is_opaque_form(form),
+        None => false,
+    }
+}
+
+/// Whether the type has the value NIL: it is a pointer type, an opaque type, or ADDRESS.
+#[tactic(auto, unfolding(crate::specs::Forms::has_nil))]
+pub fn has_nil(t: &TypeTable, n: TypeId) -> bool
+    ensures { result ≡ spec.has_nil t.now n }
+{
+    meant(t, n) == ADDRESS || target(t, n).is_some() || is_opaque(t, n)
+}
+
+fn has_characters(parts: Option<ArrayParts>) -> bool
+    ensures { result ≡ spec.has_characters parts }
+{
+    match parts {
+        Some(parts) => parts.element == CHAR,
+        None => false,
+    }
+}
+
+/// Whether the type is an array whose elements are CHAR itself.
+#[tactic(auto, unfolding(crate::specs::Forms::is_char_array))]
+pub fn is_char_array(t: &TypeTable, n: TypeId) -> bool
+    ensures { result ≡ spec.is_char_array t.now n }
+{
+    has_characters(array_parts(t, n))
+}
+
+fn set_of(form: &TypeForm) -> Option<TypeId>
+    ensures { result ≡ spec.set_of form.now }
+{
+    match form {
+        TypeForm::SetOf(base) => Some(*base),
+        _ => None,
+    }
+}
+
+fn own_base(t: &TypeTable, n: TypeId) -> Option<TypeId>
+    ensures { result ≡ spec.of_form spec.set_of (spec.shape t.now n) }
+{
+    match shape(t, n) {
+        Some(form) => set_of(form),
+        None => None,
+    }
+}
+
+/// The type of a set's elements, None where the type is no set: CARDINAL for BITSET.
+#[tactic(auto, unfolding(crate::specs::Forms::set_base))]
+pub fn set_base(t: &TypeTable, n: TypeId) -> Option<TypeId>
+    ensures { result ≡ spec.set_base t.now n }
+{
+    if meant(t, n) == BITSET {
+        return Some(CARDINAL);
+    }
+    own_base(t, n)
+}
+
+/// The numbers that may be in a set, None where the type is no set: 0 to 15 for BITSET.
+#[tactic(auto, unfolding(crate::specs::Forms::element_span))]
+pub fn element_span(t: &TypeTable, n: TypeId) -> Option<Span>
+    ensures { result ≡ spec.element_span t.now n }
+{
+    if meant(t, n) == BITSET {
+        return Some(Span { low: 0, high: 15 });
+    }
+    match own_base(t, n) {
+        Some(base) => span_of(t, base),
+        None => None,
+    }
+}
+
+fn is_routine_form(form: &TypeForm) -> bool
+    ensures { result ≡ spec.is_routine_form form.now }
+{
+    match form {
+        TypeForm::Procedure(_, _) => true,
+        _ => false,
+    }
+}
+
+/// Whether the type is a procedure type.
+#[tactic(auto, unfolding(crate::specs::Forms::is_routine))]
+pub fn is_routine(t: &TypeTable, n: TypeId) -> bool
+    ensures { result ≡ spec.is_routine t.now n }
+{
+    if meant(t, n) == PROC {
+        return true;
+    }
+    match shape(t, n) {
+        Some(form) => is_routine_form(form),
+        None => false,
+    }
+}
+
+fn parameters_of(form: &TypeForm) -> &[Parameter]
+    ensures { result.now ≡ spec.parameters_of form.now }
+{
+    match form {
+        TypeForm::Procedure(parameters, _) => parameters.as_slice(),
+        _ => &[],
+    }
+}
+
+/// The parameters of a procedure type: PROC has none.
+#[tactic(auto, unfolding(crate::specs::Forms::parameters))]
+pub fn parameters(t: &TypeTable, n: TypeId) -> &[Parameter]
+    ensures { result.now ≡ spec.parameters t.now n }
+{
+    match shape(t, n) {
+        Some(form) => parameters_of(form),
+        None => &[],
+    }
+}
+
+/// How many parameters a procedure type has.
+#[tactic(auto, unfolding(crate::specs::Forms::arity))]
+pub fn arity(t: &TypeTable, n: TypeId) -> usize
+    ensures { result ≡ spec.arity t.now n }
+{
+    parameters(t, n).len()
+}
+
+/// A parameter of a procedure type by its place, from 0.
+#[tactic(auto, unfolding(crate::specs::Forms::parameter))]
+pub fn parameter(t: &TypeTable, n: TypeId, at: usize) -> Option<Parameter>
+    ensures { result ≡ spec.parameter t.now n at }
+{
+    parameters(t, n).get(at).copied()
+}
+
+fn result_of(form: &TypeForm) -> Option<TypeId>
+    ensures { result ≡ spec.result_of form.now }
+{
+    match form {
+        TypeForm::Procedure(_, result) => *result,
+        _ => None,
+    }
+}
+
+/// The type of what a function gives, None for a proper procedure.
+#[tactic(auto, unfolding(crate::specs::Forms::result))]
+pub fn result(t: &TypeTable, n: TypeId) -> Option<TypeId>
+    ensures { result ≡ spec.result t.now n }
+{
+    match shape(t, n) {
+        Some(form) => result_of(form),
+        None => None,
+    }
+}
