@@ -1,0 +1,92 @@
+-- What declarations mean: what is declared behind them, and the tests of their nodes.
+use Rattle.std.specs.Prelude.{ℕ, length, List, [], ◌∷◌, Option, Some, None}
+use Rattle.lil_text.specs.declared.tree.Ident.{Ident}
+use Rattle.lil_text.specs.declared.tree.Qualident.{Qualident}
+use Rattle.lil_language.specs.declared.unit.Sort.{Sort}
+use Rattle.lil_language.specs.declared.unit.TypeName.{TypeName}
+use Rattle.lil_language.specs.declared.unit.Variables.{Variables}
+use Rattle.lil_language.specs.declared.unit.Heading.{Heading}
+use Rattle.lil_language.specs.declared.unit.Decl.{Decl}
+use Rattle.lil_language.specs.declared.unit.Decl.TheOpen as d
+use Rattle.lil_language.specs.declared.unit.Decl.TheOpen.{Decl-F, Block-F}
+use Rattle.lil_language.specs.declared.unit.Decl.TheFolds.{fold-Decl}
+use Rattle.lil_types.specs.declared.table.TypeForm.TheVariants as form
+use Rattle.lil_types.specs.Types.{aimed}
+use Rattle.lil_report.specs.Told.{Row, after, walk}
+use Rattle.lil_scope.specs.declared.thing.Thing.{Thing}
+use Rattle.lil_scope.specs.declared.thing.Thing.TheVariants as t
+use Rattle.lil_scope.specs.declared.env.Env.{Env}
+use Rattle.lil_scope.specs.declared.env.Wait.{Wait}
+use Rattle.lil_scope.specs.Names.{bind, inside, outside}
+use Rattle.lil_check_value.specs.Looks.{type_named}
+use Rattle.lil_check_type.specs.Made.{Made, with_types, type_node}
+use Rattle.lil_check_type.specs.Sorts.{sort_means}
+use Rattle.lil_check_decl.specs.declared.decl.Around.{Around}
+use Rattle.lil_check_decl.specs.Constants.{constant_step}
+use Rattle.lil_check_decl.specs.Headings.{here, variable_step, heading_means}
+
+-- ---- types. One without a form is opaque
+abbrev pub type_thing : Option ℕ → Thing
+type_thing (Some n) = t.Type n
+type_thing None = t.Broken
+
+abbrev pub form_means : Env → Ident → Option Sort → Made × List Row
+form_means e i (Some x) = sort_means e x
+form_means e i None = type_node e i.place (form.Opaque None)
+
+-- a type, whose name is bound behind it
+abbrev pub type_step : Env → TypeName → Env × List Row
+type_step e x = after (form_means e x.name x.sort) (λ m. bind m.0 x.name (type_thing m.1))
+
+-- ---- variables, bound behind their type
+abbrev pub variables_step : Env → Variables → Env × List Row
+variables_step e x = after (sort_means e x.sort) (λ m. walk (variable_step (here m.0) m.1) m.0 x.names)
+
+-- ---- the end of a block: the bare names behind POINTER TO
+abbrev pub bare : Wait → Qualident
+bare w = record { owner = None; name = record { place = w.place; name = w.name } }
+
+abbrev pub pointing : Env → ℕ → Option ℕ → Env
+pointing e p (Some n) = with_types e (aimed e.types p n)
+pointing e p None = e
+
+abbrev pub wait_step : Env → Wait → Env × List Row
+wait_step e w = after (type_named e (bare w)) (λ o. (pointing e w.pointer o, []))
+
+abbrev pub settled : Env → Env
+settled e = record e { waits = [] }
+
+-- ---- procedures: what is declared inside is seen there
+abbrev pub procedure_means : Env → Heading → (Env → Env × List Row) → Env × List Row
+procedure_means e h body = after (heading_means e h) (λ g. after (body (inside (length e.scopes.blocks) (Some (length e.procedures)) g)) (λ w. (outside g w, [])))
+
+-- what stands around a block, and the block at hand again
+abbrev pub around : Env → Around
+around e = record { outer = e.scopes.outer; inner = e.scopes.inner; waits = e.waits; withs = e.withs; procedure = e.procedure }
+
+abbrev pub back : Around → Env → Env
+back a f = record f { scopes = record f.scopes { outer = a.outer; inner = a.inner }; waits = a.waits; withs = a.withs; procedure = a.procedure }
+
+abbrev pub routine_means : Env → Heading → Option (Env → Env × List Row) → Env × List Row
+routine_means e h (Some body) = procedure_means e h body
+routine_means e h None = heading_means e h
+
+-- ---- declarations
+abbrev pub decl_layer : Decl-F (Env → Env × List Row) (Env → Env × List Row) → Env → Env × List Row
+decl_layer (d.ConstIs p xs) e = walk constant_step e xs
+decl_layer (d.TypeIs p xs) e = walk type_step e xs
+decl_layer (d.VarsAre p xs) e = walk variables_step e xs
+decl_layer (d.ProcIs h body) e = routine_means e h body
+
+abbrev pub block_layer : Block-F (Env → Env × List Row) (Env → Env × List Row) → Env → Env × List Row
+block_layer b e = after (walk (λ e m. m e) e b.decls) (λ f. walk wait_step (settled f) f.waits)
+
+unfoldable pub decl_means : Decl → Env → Env × List Row
+decl_means = fold-Decl (Env → Env × List Row) (Env → Env × List Row) decl_layer block_layer
+
+-- the same of a block, over its trees
+abbrev pub decl_step : Env → Decl → Env × List Row
+decl_step e x = decl_means x e
+
+unfoldable pub decls_mean : Env → List Decl → Env × List Row
+decls_mean e ds = after (walk decl_step e ds) (λ f. walk wait_step (settled f) f.waits)

@@ -1,0 +1,88 @@
+-- Variables and parameters, and the headings of procedures.
+use Rattle.std.specs.Prelude.{ℕ, ◌+◌, nat_le, length, Bool, true, false, List, [], ◌∷◌, ◌++◌, Option, Some, None}
+use Rattle.lil_base.specs.declared.fault.FaultKind.TheVariants.{TooManyProcs}
+use Rattle.lil_text.specs.declared.tree.Ident.{Ident}
+use Rattle.lil_language.specs.declared.unit.Section.{Section}
+use Rattle.lil_language.specs.declared.unit.Heading.{Heading}
+use Rattle.lil_module.specs.declared.declared.Mode.{Mode}
+use Rattle.lil_module.specs.declared.declared.Mode.TheVariants.{Plain, Value, Place, OpenValue, OpenPlace}
+use Rattle.lil_report.specs.Told.{Row, row, after, walk}
+use Rattle.lil_scope.specs.declared.thing.Thing.{Thing}
+use Rattle.lil_scope.specs.declared.thing.Thing.TheVariants as t
+use Rattle.lil_scope.specs.declared.env.Env.{Env}
+use Rattle.lil_scope.specs.Names.{bind, bind_at, with_block, level}
+use Rattle.lil_check_value.specs.Looks.{type_named}
+use Rattle.lil_check_type.specs.declared.routines.Parameters.{Parameters}
+use Rattle.lil_check_type.specs.Made.{Made, form_node}
+use Rattle.lil_check_type.specs.Records.{sort_or}
+use Rattle.lil_check_type.specs.Routines.{no_parameters, with_parameter, result_means, procedure_form}
+use Rattle.lil_check_decl.specs.declared.home.Home.{Home}
+
+-- ---- variables, by their number
+abbrev pub variable_thing : Home → Option ℕ → Env → Thing
+variable_thing h (Some n) e = t.Variable (record { number = length e.variables; level = h.level; sort = n; mode = h.mode })
+variable_thing h None e = t.Broken
+
+-- one whose type has a fault has a number too
+abbrev pub with_variable : Home → Option ℕ → List ℕ → Env → Env
+with_variable h o name e = record e { variables = e.variables ++ record { name = name; sort = sort_or o; mode = h.mode; owner = h.owner } ∷ [] }
+
+abbrev pub variable_step : Home → Option ℕ → Env → Ident → Env × List Row
+variable_step h o e i = after (bind_at h.block e i (variable_thing h o e)) (λ f. (with_variable h o i.name f, []))
+
+-- the block at hand as home of its variables
+abbrev pub here : Env → Home
+here e = record { block = e.scopes.inner; level = level e; owner = e.procedure; mode = Plain }
+
+-- ---- parameters: names of one section have one type, which is looked for around the procedure
+abbrev pub mode_of : Bool → Bool → Mode
+mode_of false false = Value
+mode_of true false = Place
+mode_of false true = OpenValue
+mode_of true true = OpenPlace
+
+abbrev pub section_home : Home → Section → Home
+section_home h s = record { block = h.block; level = h.level; owner = h.owner; mode = mode_of s.by_place s.open_array }
+
+abbrev pub Headed : Type 0
+Headed = Env × Parameters
+
+abbrev pub parameter_step : Home → Section → Option ℕ → Headed → Ident → Headed × List Row
+parameter_step h s o q i = after (variable_step (section_home h s) o q.0 i) (λ f. ((f, with_parameter q.1 s.by_place s.open_array o), []))
+
+abbrev pub section_step : Home → Headed → Section → Headed × List Row
+section_step h q s = after (type_named q.0 s.sort) (λ o. walk (parameter_step h s o) q s.names)
+
+-- the block of the next procedure as home of its parameters
+abbrev pub home_at : Env → ℕ → Home
+home_at e block = record { block = block; level = level e + 1; owner = Some (length e.procedures); mode = Plain }
+
+-- ---- procedures, by their number
+abbrev pub procedure_thing : ℕ → Option ℕ → Env → Thing
+procedure_thing block (Some n) e = t.Procedure (record { number = length e.procedures; block = block; level = level e; sort = n })
+procedure_thing block None e = t.Broken
+
+-- PROC stands for the type of a heading that has a fault
+abbrev pub procedure_sort : Option ℕ → ℕ
+procedure_sort (Some n) = n
+procedure_sort None = 5
+
+abbrev pub with_procedure : List ℕ → Option ℕ → Env → Env
+with_procedure name o e = record e { procedures = e.procedures ++ record { name = name; outer = e.procedure; sort = procedure_sort o } ∷ [] }
+
+-- 62 TooManyProcs, at the name of a procedure before which 250 have headings
+unfoldable pub numbered_node : Ident → Option ℕ → Env → Env × List Row
+numbered_node i o e = (with_procedure i.name o e, row (nat_le 250 (length e.procedures)) i.place TooManyProcs ∷ [])
+
+abbrev pub named_means : ℕ → Ident → Made → Env × List Row
+named_means block i m = after (bind m.0 i (procedure_thing block m.1 m.0)) (numbered_node i m.1)
+
+-- a heading stands in the block around its procedure, and its name is bound there behind it
+abbrev pub sections_mean : Env → Heading → Headed × List Row
+sections_mean e h = walk (section_step (home_at e (length e.scopes.blocks))) (with_block e, no_parameters) h.sections
+
+abbrev pub heading_type : Headed → Heading → Made × List Row
+heading_type q h = after (result_means q.0 h.result) (λ n. form_node q.0 h.place (procedure_form q.1 n))
+
+abbrev pub heading_means : Env → Heading → Env × List Row
+heading_means e h = after (sections_mean e h) (λ q. after (heading_type q h) (named_means (length e.scopes.blocks) h.name))

@@ -1,0 +1,244 @@
+ghost use Rattle.std.specs.Prelude.{◌≡◌, Some, IfOk};
+ghost use Rattle.lil_report.specs.Told.{Said, walk};
+ghost use Rattle.lil_scope.specs.Names.{inside};
+ghost use Rattle.lil_check_decl.specs.Decls as spec;
+
+use crate::constants::constants;
+use crate::headings::{heading, here, variables};
+use lil_base::{Items, Memory};
+use lil_check_type::{add_type, sort};
+use lil_check_value::type_named;
+use lil_language::{Decl, Sort, TypeName, Variables};
+use lil_report::Report;
+use lil_scope::{Env, Thing, Wait, Withs, bind};
+use lil_text::{Ident, Qualident};
+use lil_types::{TypeForm, TypeId};
+use std::alloc::Global;
+
+fn type_thing(sort: Option<TypeId>) -> Thing
+    ensures { result ≡ spec.type_thing sort }
+{
+    match sort {
+        Some(sort) => Thing::Type(sort),
+        None => Thing::Broken,
+    }
+}
+
+/// The form of a type; without one it is opaque.
+fn form(
+    alloc: Global,
+    env: &mut Env,
+    report: &mut Report,
+    name: &Ident,
+    of: &Option<Sort>,
+) -> Result<Option<TypeId>, Memory>
+    ensures { IfOk result (λ o. Said (spec.form_means env.old name.now of.now) report.old (env.new, o) report.new) }
+{
+    match of {
+        Some(x) => {
+            let number = sort(alloc, env, report, x)?;
+            Ok(number)
+        }
+        None => {
+            let number = add_type(env, report, name.place, TypeForm::Opaque(None))?;
+            Ok(number)
+        }
+    }
+}
+
+fn type_name(alloc: Global, env: &mut Env, report: &mut Report, of: &TypeName) -> Result<(), Memory>
+    ensures { IfOk result (λ o. Said (spec.type_step env.old of.now) report.old env.new report.new) }
+{
+    let number = form(alloc, env, report, &of.name, &of.sort)?;
+    bind(alloc, env, report, &of.name, type_thing(number))?;
+    Ok(())
+}
+
+/// Types, each bound behind its form.
+fn types(alloc: Global, env: &mut Env, report: &mut Report, of: &[TypeName]) -> Result<(), Memory>
+    ensures { IfOk result (λ o. Said (walk spec.type_step env.old of.now) report.old env.new report.new) }
+{
+    for one in of {
+        type_name(alloc, env, report, one)?;
+    }
+    Ok(())
+}
+
+fn variables_of(
+    alloc: Global,
+    env: &mut Env,
+    report: &mut Report,
+    of: &Variables,
+) -> Result<(), Memory>
+    ensures { IfOk result (λ o. Said (spec.variables_step env.old of.now) report.old env.new report.new) }
+{
+    let number = sort(alloc, env, report, &of.sort)?;
+    let home = here(env);
+    variables(alloc, env, report, home, number, of.names.as_slice())?;
+    Ok(())
+}
+
+fn all_variables(
+    alloc: Global,
+    env: &mut Env,
+    report: &mut Report,
+    of: &[Variables],
+) -> Result<(), Memory>
+    ensures { IfOk result (λ o. Said (walk spec.variables_step env.old of.now) report.old env.new report.new) }
+{
+    for one in of {
+        variables_of(alloc, env, report, one)?;
+    }
+    Ok(())
+}
+
+fn bare(alloc: Global, of: &Wait) -> Result<Qualident, Memory>
+    ensures { IfOk result (λ q. q ≡ spec.bare of.now) }
+{
+    let name = of.name.copy(alloc)?;
+    Ok(Qualident {
+        owner: None,
+        name: Ident {
+            place: of.place,
+            name,
+        },
+    })
+}
+
+fn point(env: &mut Env, pointer: TypeId, target: Option<TypeId>)
+    ensures { env.new ≡ spec.pointing env.old pointer target }
+{
+    match target {
+        Some(target) => env.types.aim(pointer, target),
+        None => {}
+    }
+}
+
+/// A pointer type whose target's name is looked up now.
+fn settle(alloc: Global, env: &mut Env, report: &mut Report, of: &Wait) -> Result<(), Memory>
+    ensures { IfOk result (λ o. Said (spec.wait_step env.old of.now) report.old env.new report.new) }
+{
+    let name = bare(alloc, of)?;
+    let target = type_named(env, report, &name);
+    point(env, of.pointer, target);
+    Ok(())
+}
+
+fn settle_all(alloc: Global, env: &mut Env, report: &mut Report, of: &[Wait]) -> Result<(), Memory>
+    ensures { IfOk result (λ o. Said (walk spec.wait_step env.old of.now) report.old env.new report.new) }
+{
+    for wait in of {
+        settle(alloc, env, report, wait)?;
+    }
+    Ok(())
+}
+
+fn take_waits(alloc: Global, env: &mut Env) -> Items<Wait>
+    ensures waits { result ≡ env.old.waits }
+    ensures rest { env.new ≡ spec.settled env.old }
+{
+    std::mem::replace(&mut env.waits, Items::new(alloc))
+}
+
+/// What stands around a block.
+#[derive(Drop)]
+pub struct Around {
+    outer: Items<usize>,
+    inner: usize,
+    waits: Items<Wait>,
+    withs: Withs,
+    procedure: Option<usize>,
+}
+
+/// Enters a block.
+fn enter(alloc: Global, env: &mut Env, block: usize, procedure: usize) -> Result<Around, Memory>
+    ensures around { IfOk result (λ a. a ≡ spec.around env.old) }
+    ensures inside { IfOk result (λ a. env.new ≡ inside block (Some procedure) env.old) }
+{
+    let outer = Items::from_slice(alloc, env.scopes.outer.as_slice())?;
+    let inner = env.scopes.inner;
+    env.scopes.outer.push(inner)?;
+    env.scopes.inner = block;
+    let waits = std::mem::replace(&mut env.waits, Items::new(alloc));
+    let withs = std::mem::replace(&mut env.withs, Withs::new(alloc));
+    let around = env.procedure;
+    env.procedure = Some(procedure);
+    Ok(Around {
+        outer,
+        inner,
+        waits,
+        withs,
+        procedure: around,
+    })
+}
+
+/// Leaves a block.
+fn leave(env: &mut Env, around: Around)
+    ensures { env.new ≡ spec.back around env.old }
+{
+    env.scopes.outer = around.outer;
+    env.scopes.inner = around.inner;
+    env.waits = around.waits;
+    env.withs = around.withs;
+    env.procedure = around.procedure;
+}
+
+/// Declarations of one kind, or a procedure. One of a definition has no block.
+#[cycle(declarations)]
+fn decl(alloc: Global, env: &mut Env, report: &mut Report, of: &Decl) -> Result<(), Memory>
+    ensures { IfOk result (λ o. Said (spec.decl_step env.old of.now) report.old env.new report.new) }
+{
+    match of {
+        Decl::ConstIs(_, xs) => {
+            constants(alloc, env, report, xs.as_slice())?;
+            Ok(())
+        }
+        Decl::TypeIs(_, xs) => {
+            types(alloc, env, report, xs.as_slice())?;
+            Ok(())
+        }
+        Decl::VarsAre(_, xs) => {
+            all_variables(alloc, env, report, xs.as_slice())?;
+            Ok(())
+        }
+        Decl::ProcIs(head, body) => {
+            let number = env.procedures.len();
+            let block = heading(alloc, env, report, head)?;
+            match body {
+                Some(body) => {
+                    let around = enter(alloc, env, block, number)?;
+                    declarations(alloc, env, report, &body.decls)?;
+                    leave(env, around);
+                    Ok(())
+                }
+                None => Ok(()),
+            }
+        }
+    }
+}
+
+#[cycle(declarations)]
+fn each_decl(alloc: Global, env: &mut Env, report: &mut Report, of: &[Decl]) -> Result<(), Memory>
+    ensures { IfOk result (λ o. Said (walk spec.decl_step env.old of.now) report.old env.new report.new) }
+{
+    for one in of {
+        decl(alloc, env, report, one)?;
+    }
+    Ok(())
+}
+
+/// All that is declared behind the declarations of a block, those of the procedures in it included.
+#[cycle(declarations)]
+pub fn declarations(
+    alloc: Global,
+    env: &mut Env,
+    report: &mut Report,
+    of: &Items<Decl>,
+) -> Result<(), Memory>
+    ensures { IfOk result (λ o. Said (spec.decls_mean env.old of.now) report.old env.new report.new) }
+{
+    each_decl(alloc, env, report, of.as_slice())?;
+    let waits = take_waits(alloc, env);
+    settle_all(alloc, env, report, waits.as_slice())?;
+    Ok(())
+}

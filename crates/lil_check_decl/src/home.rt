@@ -1,0 +1,11 @@
+use lil_module::Mode;
+
+/// Where variables are declared: the number of their block, its level, the procedure to which they belong, if it isn't the
+/// module, and whether they are parameters.
+#[derive(Clone, Copy, Debug, PartialEq, Eq)]
+pub struct Home {
+    pub block: usize,
+    pub level: usize,
+    pub owner: Option<usize>,
+    pub mode: Mode,
+}

@@ -1,0 +1,146 @@
+-- What stands between FOR and DO.
+use Rattle.std.specs.Prelude.{◌-◌, ◌==◌, ℤ, pos, negsuc, int_lt, Bool, true, false, not, ◌&&◌, ◌||◌, List, [], ◌∷◌, Option, Some, None, if◌then◌else◌}
+use Rattle.lil_base.specs.declared.fault.Place.{Place}
+use Rattle.lil_base.specs.declared.fault.FaultKind.TheVariants.{Unknown, WrongKind, ForVariable, Assign, ConstRange, NotConst, Operands}
+use Rattle.lil_types.specs.Types.{Table}
+use Rattle.lil_language.specs.declared.tree.Expr.{Expr}
+use Rattle.lil_language.specs.declared.tree.ForHead.{ForHead}
+use Rattle.lil_module.specs.declared.declared.Mode.{Mode}
+use Rattle.lil_module.specs.declared.declared.Mode.TheVariants.{Plain}
+use Rattle.lil_module.specs.declared.tree.RExpr.{RExpr}
+use Rattle.lil_module.specs.declared.tree.RRoot.{RRoot}
+use Rattle.lil_module.specs.declared.tree.RRoot.TheVariants.{Global, Local}
+use Rattle.lil_module.specs.declared.tree.RStmt.{RStmt}
+use Rattle.lil_module.specs.declared.tree.RStmt.TheVariants as rs
+use Rattle.lil_report.specs.Told.{Row, row, after, pure}
+use Rattle.lil_scope.specs.declared.env.Env.{Env}
+use Rattle.lil_scope.specs.declared.thing.Kind.{Kind}
+use Rattle.lil_scope.specs.declared.thing.Kind.TheVariants as k
+use Rattle.lil_scope.specs.declared.thing.Thing.{Thing}
+use Rattle.lil_scope.specs.declared.thing.Thing.TheVariants as t
+use Rattle.lil_scope.specs.declared.thing.Variable.{Variable}
+use Rattle.lil_scope.specs.Names.{level}
+use Rattle.lil_kinds.specs.declared.found.Found.{Found}
+use Rattle.lil_kinds.specs.Kinds.{assignable, misses, compatible, is_ordinal, is_constant}
+use Rattle.lil_check_value.specs.declared.names.Looked.{Looked}
+use Rattle.lil_check_value.specs.declared.names.Looked.TheVariants as l
+use Rattle.lil_check_value.specs.Looks.{look}
+use Rattle.lil_check_value.specs.Values.{means}
+use Rattle.lil_check_stmt.specs.declared.counting.Counter.{Counter}
+use Rattle.lil_check_stmt.specs.declared.counting.Count.{Count}
+use Rattle.lil_check_stmt.specs.Nodes.{node}
+
+-- ---- the variable
+abbrev pub is_nothing : Looked → Bool
+is_nothing l.Nothing = true
+is_nothing _ = false
+
+-- a name whose declaration has a fault isn't asked for
+abbrev pub is_other_thing : Thing → Bool
+is_other_thing (t.Variable v) = false
+is_other_thing t.Broken = false
+is_other_thing _ = true
+
+abbrev pub is_other : Looked → Bool
+is_other (l.Thing th) = is_other_thing th
+is_other _ = false
+
+abbrev pub is_plain : Mode → Bool
+is_plain Plain = true
+is_plain _ = false
+
+abbrev pub is_unfit_thing : Table → Thing → Bool
+is_unfit_thing ts (t.Variable v) = not (is_plain v.mode) || not (is_ordinal ts (k.Of v.sort))
+is_unfit_thing ts _ = false
+
+-- a field, a parameter, or a variable that isn't ordinal
+abbrev pub is_unfit : Table → Looked → Bool
+is_unfit ts l.Nothing = false
+is_unfit ts (l.Field at n s) = true
+is_unfit ts (l.Thing th) = is_unfit_thing ts th
+
+-- a variable of the module, or of an activation by the levels between it and the block at hand
+abbrev pub root_of : Env → Variable → RRoot
+root_of e v = if v.level == 1 then Global v.number else Local (level e - v.level) v.number
+
+abbrev pub counter_thing : Env → Thing → Option Counter
+counter_thing e (t.Variable v) = Some (record { root = root_of e v; sort = v.sort })
+counter_thing e _ = None
+
+abbrev pub counter_of : Env → Looked → Option Counter
+counter_of e (l.Thing th) = counter_thing e th
+counter_of e _ = None
+
+-- 20 Unknown
+-- 24 WrongKind: a name of no variable
+-- 27 ForVariable
+abbrev pub counter_tests : Table → Place → Looked → List Row
+counter_tests ts p o =
+    row (is_nothing o) p Unknown
+    ∷ row (is_other o) p WrongKind
+    ∷ row (is_unfit ts o) p ForVariable
+    ∷ []
+
+unfoldable pub counter_node : Env → Place → Looked → Option Counter × List Row
+counter_node e p o = node (counter_tests e.types p o) (counter_of e o)
+
+-- ---- the first value is assigned
+-- 31 Assign, at `:=`
+-- 50 ConstRange
+unfoldable pub start_node : Table → Place → Option Counter → Option Found → Option RExpr × List Row
+start_node ts p (Some c) (Some a) = node (row (not (assignable ts c.sort a.kind)) p Assign ∷ row (misses ts c.sort a.kind) a.first ConstRange ∷ []) (Some a.form)
+start_node ts p (Some c) None = (None, [])
+start_node ts p None a = (None, [])
+
+-- ---- the last value is counted to
+-- 31 Assign: a limit that isn't compatible with the variable
+unfoldable pub limit_node : Table → Option Counter → Option Found → Option RExpr × List Row
+limit_node ts (Some c) (Some a) = node (row (not (compatible ts (k.Of c.sort) a.kind)) a.first Assign ∷ []) (Some a.form)
+limit_node ts (Some c) None = (None, [])
+limit_node ts None a = (None, [])
+
+-- ---- the step
+abbrev pub step_of : Kind → Option ℤ
+step_of (k.Whole z) = Some z
+step_of _ = None
+
+abbrev pub is_other_constant : Kind → Bool
+is_other_constant (k.Whole z) = false
+is_other_constant kind = is_constant kind
+
+abbrev pub is_no_step : Kind → Bool
+is_no_step (k.Whole z) = (not (int_lt z (pos 0)) && not (int_lt (pos 0) z)) || (int_lt z (negsuc 32767) || int_lt (pos 32767) z)
+is_no_step _ = false
+
+-- 51 NotConst
+-- 30 Operands: a constant that is no whole number
+-- 50 ConstRange: zero, or a number that no INTEGER has
+unfoldable pub step_node : Option Found → Option ℤ × List Row
+step_node (Some a) = node (row (not (is_constant a.kind)) a.first NotConst ∷ row (is_other_constant a.kind) a.first Operands ∷ row (is_no_step a.kind) a.first ConstRange ∷ []) (step_of a.kind)
+step_node None = (None, [])
+
+-- without BY it is 1
+abbrev pub step_means : Env → Option Expr → Option ℤ × List Row
+step_means e None = pure (Some (pos 1))
+step_means e (Some x) = after (means e x) step_node
+
+-- ---- the whole head
+abbrev pub count_of : Option Counter → Option RExpr → Option RExpr → Option ℤ → Option Count
+count_of (Some c) (Some a) (Some b) (Some n) = Some (record { root = c.root; from = a; to = b; by = n })
+count_of (Some c) (Some a) (Some b) None = None
+count_of (Some c) (Some a) None n = None
+count_of (Some c) None b n = None
+count_of None a b n = None
+
+unfoldable pub count_means : Env → ForHead → Option Count × List Row
+count_means e h =
+    after (counter_node e h.variable.place (look e h.variable.name)) (λ c.
+    after (means e h.from) (λ a.
+    after (start_node e.types h.becomes c a) (λ a.
+    after (means e h.to) (λ b.
+    after (limit_node e.types c b) (λ b.
+    after (step_means e h.by) (λ n. pure (count_of c a b n)))))))
+
+abbrev pub counted : Option Count → List RStmt → Option RStmt
+counted (Some c) ss = Some (rs.For c.root c.from c.to c.by ss)
+counted None ss = None

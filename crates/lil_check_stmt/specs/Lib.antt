@@ -1,0 +1,5 @@
+pub mod Nodes
+pub mod Labels
+pub mod Counting
+pub mod Statements
+pub mod Stmts

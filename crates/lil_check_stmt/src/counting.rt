@@ -1,0 +1,301 @@
+ghost use Rattle.std.specs.Prelude.{◌≡◌, IfOk};
+ghost use Rattle.lil_report.specs.Told.{Said};
+ghost use Rattle.lil_check_value.specs.Looks.{look as look_of};
+ghost use Rattle.lil_check_stmt.specs.Counting as spec;
+
+use lil_base::{FaultKind, Items, Memory, Place};
+use lil_check_value::{Looked, expression, look};
+use lil_kinds::{Found, assignable, compatible, is_constant, is_ordinal, misses};
+use lil_language::{Expr, ForHead};
+use lil_module::{Mode, RExpr, RRoot, RStmt};
+use lil_report::Report;
+use lil_scope::{Env, Kind, Thing, Variable};
+use lil_types::{TypeId, TypeTable};
+use std::alloc::Global;
+
+/// The variable of a FOR, and its type.
+#[derive(Clone, Copy, Debug, PartialEq, Eq)]
+pub(crate) struct Counter {
+    pub(crate) root: RRoot,
+    pub(crate) sort: TypeId,
+}
+
+/// What stands between FOR and DO: the variable, its first value, its last and the step.
+#[derive(Drop)]
+pub(crate) struct Count {
+    pub(crate) root: RRoot,
+    pub(crate) from: RExpr,
+    pub(crate) to: RExpr,
+    pub(crate) by: i32,
+}
+
+fn is_nothing(of: Looked) -> bool
+    ensures { result ≡ spec.is_nothing of }
+{
+    match of {
+        Looked::Nothing => true,
+        _ => false,
+    }
+}
+
+fn is_other_thing(of: Thing) -> bool
+    ensures { result ≡ spec.is_other_thing of }
+{
+    match of {
+        Thing::Variable(_) => false,
+        Thing::Broken => false,
+        _ => true,
+    }
+}
+
+/// Whether a name stands for something that is no variable.
+fn is_other(of: Looked) -> bool
+    ensures { result ≡ spec.is_other of }
+{
+    match of {
+        Looked::Thing(thing) => is_other_thing(thing),
+        _ => false,
+    }
+}
+
+fn is_plain(mode: Mode) -> bool
+    ensures { result ≡ spec.is_plain mode }
+{
+    match mode {
+        Mode::Plain => true,
+        _ => false,
+    }
+}
+
+fn is_unfit_thing(t: &TypeTable, of: Thing) -> bool
+    ensures { result ≡ spec.is_unfit_thing t.now of }
+{
+    match of {
+        Thing::Variable(variable) => {
+            !is_plain(variable.mode) || !is_ordinal(t, Kind::Of(variable.sort))
+        }
+        _ => false,
+    }
+}
+
+/// Whether a FOR can't count with what is found.
+fn is_unfit(t: &TypeTable, of: Looked) -> bool
+    ensures { result ≡ spec.is_unfit t.now of }
+{
+    match of {
+        Looked::Nothing => false,
+        Looked::Field(_, _, _) => true,
+        Looked::Thing(thing) => is_unfit_thing(t, thing),
+    }
+}
+
+fn root_of(env: &Env, variable: Variable) -> RRoot
+    ensures { result ≡ spec.root_of env.now variable }
+{
+    if variable.level == 1 {
+        RRoot::Global(variable.number)
+    } else {
+        let levels = env.scopes.outer.len().saturating_sub(variable.level);
+        RRoot::Local(levels, variable.number)
+    }
+}
+
+fn counter_of(env: &Env, of: Looked) -> Option<Counter>
+    ensures { result ≡ spec.counter_of env.now of }
+{
+    match of {
+        Looked::Thing(Thing::Variable(variable)) => Some(Counter {
+            root: root_of(env, variable),
+            sort: variable.sort,
+        }),
+        _ => None,
+    }
+}
+
+/// The variable that counts, by what its name means.
+#[tactic(auto, unfolding(crate::specs::Counting::counter_node, lil_report::specs::Told::tell))]
+fn counting_variable(env: &Env, report: &mut Report, at: Place, of: Looked) -> Option<Counter>
+    ensures { Said (spec.counter_node env.now at of) report.old result report.new }
+{
+    let unknown = is_nothing(of);
+    let other = is_other(of);
+    let unfit = is_unfit(&env.types, of);
+    report.note(unknown, at, FaultKind::Unknown);
+    report.note(other, at, FaultKind::WrongKind);
+    report.note(unfit, at, FaultKind::ForVariable);
+    if unknown || other || unfit {
+        return None;
+    }
+    counter_of(env, of)
+}
+
+/// The first value, at `:=`.
+#[tactic(auto, unfolding(crate::specs::Counting::start_node, lil_report::specs::Told::tell))]
+fn start(
+    t: &TypeTable,
+    report: &mut Report,
+    becomes: Place,
+    counter: Option<Counter>,
+    value: Option<Found>,
+) -> Option<RExpr>
+    ensures { Said (spec.start_node t.now becomes counter value) report.old result report.new }
+{
+    match (counter, value) {
+        (Some(counter), Some(value)) => {
+            let unlike = !assignable(t, counter.sort, value.kind);
+            let outside = misses(t, counter.sort, value.kind);
+            report.note(unlike, becomes, FaultKind::Assign);
+            report.note(outside, value.first, FaultKind::ConstRange);
+            if unlike || outside {
+                return None;
+            }
+            Some(value.form)
+        }
+        (Some(_), None) => None,
+        (None, _) => None,
+    }
+}
+
+/// The last value.
+#[tactic(auto, unfolding(crate::specs::Counting::limit_node, lil_report::specs::Told::tell))]
+fn limit(
+    t: &TypeTable,
+    report: &mut Report,
+    counter: Option<Counter>,
+    value: Option<Found>,
+) -> Option<RExpr>
+    ensures { Said (spec.limit_node t.now counter value) report.old result report.new }
+{
+    match (counter, value) {
+        (Some(counter), Some(value)) => {
+            let unlike = !compatible(t, Kind::Of(counter.sort), value.kind);
+            report.note(unlike, value.first, FaultKind::Assign);
+            if unlike {
+                return None;
+            }
+            Some(value.form)
+        }
+        (Some(_), None) => None,
+        (None, _) => None,
+    }
+}
+
+fn step_of(kind: Kind) -> Option<i32>
+    ensures { result ≡ spec.step_of kind }
+{
+    match kind {
+        Kind::Whole(value) => Some(value),
+        _ => None,
+    }
+}
+
+/// Whether a constant is no whole number.
+fn is_other_constant(kind: Kind) -> bool
+    ensures { result ≡ spec.is_other_constant kind }
+{
+    match kind {
+        Kind::Whole(_) => false,
+        _ => is_constant(kind),
+    }
+}
+
+/// Whether a whole number is no step.
+fn is_no_step(kind: Kind) -> bool
+    ensures { result ≡ spec.is_no_step kind }
+{
+    match kind {
+        Kind::Whole(value) => (!(value < 0) && !(0 < value)) || (value < -32768 || 32767 < value),
+        _ => false,
+    }
+}
+
+/// What stands behind BY.
+#[tactic(auto, unfolding(crate::specs::Counting::step_node, lil_report::specs::Told::tell))]
+fn step(report: &mut Report, of: Option<Found>) -> Option<i32>
+    ensures { Said (spec.step_node of) report.old result report.new }
+{
+    match of {
+        Some(of) => {
+            let open = !is_constant(of.kind);
+            let other = is_other_constant(of.kind);
+            let outside = is_no_step(of.kind);
+            report.note(open, of.first, FaultKind::NotConst);
+            report.note(other, of.first, FaultKind::Operands);
+            report.note(outside, of.first, FaultKind::ConstRange);
+            if open || other || outside {
+                return None;
+            }
+            step_of(of.kind)
+        }
+        None => None,
+    }
+}
+
+#[tactic(auto, unfolding(lil_report::specs::Told::tell))]
+fn step_by(
+    alloc: Global,
+    env: &Env,
+    report: &mut Report,
+    by: &Option<Expr>,
+) -> Result<Option<i32>, Memory>
+    ensures { IfOk result (λ o. Said (spec.step_means env.now by.now) report.old o report.new) }
+{
+    match by {
+        None => Ok(Some(1)),
+        Some(x) => {
+            let found = expression(alloc, env, report, x)?;
+            Ok(step(report, found))
+        }
+    }
+}
+
+fn count_of(
+    counter: Option<Counter>,
+    from: Option<RExpr>,
+    to: Option<RExpr>,
+    by: Option<i32>,
+) -> Option<Count>
+    ensures { result ≡ spec.count_of counter from to by }
+{
+    match (counter, from, to, by) {
+        (Some(counter), Some(from), Some(to), Some(by)) => Some(Count {
+            root: counter.root,
+            from,
+            to,
+            by,
+        }),
+        (Some(_), Some(_), Some(_), None) => None,
+        (Some(_), Some(_), None, _) => None,
+        (Some(_), None, _, _) => None,
+        (None, _, _, _) => None,
+    }
+}
+
+/// What stands between FOR and DO.
+pub(crate) fn counting(
+    alloc: Global,
+    env: &Env,
+    report: &mut Report,
+    head: &ForHead,
+) -> Result<Option<Count>, Memory>
+    ensures { IfOk result (λ o. Said (spec.count_means env.now head.now) report.old o report.new) }
+{
+    let looked = look(env, &head.variable.name);
+    let counter = counting_variable(env, report, head.variable.place, looked);
+    let from = expression(alloc, env, report, &head.from)?;
+    let from = start(&env.types, report, head.becomes, counter, from);
+    let to = expression(alloc, env, report, &head.to)?;
+    let to = limit(&env.types, report, counter, to);
+    let by = step_by(alloc, env, report, &head.by)?;
+    Ok(count_of(counter, from, to, by))
+}
+
+/// A FOR, of its head and its statements.
+pub(crate) fn counted(count: Option<Count>, body: Items<RStmt>) -> Option<RStmt>
+    ensures { result ≡ spec.counted count body }
+{
+    match count {
+        Some(count) => Some(RStmt::For(count.root, count.from, count.to, count.by, body)),
+        None => None,
+    }
+}

@@ -1,0 +1,241 @@
+ghost use Rattle.std.specs.Prelude.{◌≡◌};
+ghost use Rattle.lil_report.specs.Told.{Said};
+ghost use Rattle.lil_check_stmt.specs.Nodes as spec;
+
+use lil_base::{FaultKind, Place};
+use lil_kinds::{Found, assignable, is_ordinal, is_record, misses};
+use lil_module::{RDesignator, RExpr, RStmt};
+use lil_report::Report;
+use lil_scope::Kind;
+use lil_types::{BOOLEAN, TypeId, TypeTable, base};
+
+/// The place of a variable.
+#[tactic(auto, unfolding(crate::specs::Nodes::place_of))]
+fn place_of(form: RExpr) -> Option<RDesignator>
+    ensures { result ≡ spec.place_of form }
+{
+    match form {
+        RExpr::Whole(_) => None,
+        RExpr::Scalar(_, _) => None,
+        RExpr::Chars(_) => None,
+        RExpr::Named(_) => None,
+        RExpr::Nil => None,
+        RExpr::SetOf(_, _) => None,
+        RExpr::Value(place) => Some(place),
+        RExpr::Procedure(_) => None,
+        RExpr::Call(_, _) => None,
+        RExpr::Function(_, _, _) => None,
+        RExpr::One(_, _, _) => None,
+        RExpr::Chain(_, _) => None,
+    }
+}
+
+/// Whether a variable of this kind takes a value: an open array as a whole takes none.
+fn takes(t: &TypeTable, variable: Kind, value: Kind) -> bool
+    ensures { result ≡ spec.takes t.now variable value }
+{
+    match variable {
+        Kind::Of(sort) => assignable(t, sort, value),
+        _ => false,
+    }
+}
+
+/// Whether a constant lies outside the type of a variable.
+fn is_outside(t: &TypeTable, variable: Kind, value: Kind) -> bool
+    ensures { result ≡ spec.outside t.now variable value }
+{
+    match variable {
+        Kind::Of(sort) => misses(t, sort, value),
+        _ => false,
+    }
+}
+
+fn assignment(place: Option<RDesignator>, value: RExpr) -> Option<RStmt>
+    ensures { result ≡ spec.assignment place value }
+{
+    match place {
+        Some(place) => Some(RStmt::Assign(place, value)),
+        None => None,
+    }
+}
+
+/// An assignment of a value to a variable, at `:=`.
+#[tactic(auto, unfolding(crate::specs::Nodes::assign_node, lil_report::specs::Told::tell))]
+pub(crate) fn assign(
+    t: &TypeTable,
+    report: &mut Report,
+    becomes: Place,
+    variable: Option<Found>,
+    value: Option<Found>,
+) -> Option<RStmt>
+    ensures { Said (spec.assign_node t.now becomes variable value) report.old result report.new }
+{
+    match (variable, value) {
+        (Some(variable), Some(value)) => {
+            let unlike = !takes(t, variable.kind, value.kind);
+            let outside = is_outside(t, variable.kind, value.kind);
+            report.note(unlike, becomes, FaultKind::Assign);
+            report.note(outside, value.first, FaultKind::ConstRange);
+            if unlike || outside {
+                return None;
+            }
+            assignment(place_of(variable.form), value.form)
+        }
+        (Some(_), None) => None,
+        (None, _) => None,
+    }
+}
+
+fn is_truth(t: &TypeTable, kind: Kind) -> bool
+    ensures { result ≡ spec.is_truth t.now kind }
+{
+    match kind {
+        Kind::Of(sort) => base(t, sort) == BOOLEAN,
+        Kind::Scalar(sort, _) => base(t, sort) == BOOLEAN,
+        _ => false,
+    }
+}
+
+/// A condition.
+#[tactic(auto, unfolding(crate::specs::Nodes::condition_node, lil_report::specs::Told::tell))]
+pub(crate) fn condition(t: &TypeTable, report: &mut Report, of: Option<Found>) -> Option<RExpr>
+    ensures { Said (spec.condition_node t.now of) report.old result report.new }
+{
+    match of {
+        Some(of) => {
+            let unlike = !is_truth(t, of.kind);
+            report.note(unlike, of.first, FaultKind::Operands);
+            if unlike {
+                return None;
+            }
+            Some(of.form)
+        }
+        None => None,
+    }
+}
+
+/// What a CASE selects by.
+#[tactic(auto, unfolding(crate::specs::Nodes::selector_node, lil_report::specs::Told::tell))]
+pub(crate) fn selector(t: &TypeTable, report: &mut Report, of: Option<Found>) -> Option<Found>
+    ensures { Said (spec.selector_node t.now of) report.old result report.new }
+{
+    match of {
+        Some(of) => {
+            let unlike = !is_ordinal(t, of.kind);
+            report.note(unlike, of.first, FaultKind::Operands);
+            if unlike {
+                return None;
+            }
+            Some(of)
+        }
+        None => None,
+    }
+}
+
+/// The record of a WITH, and its type.
+#[derive(Drop)]
+pub(crate) struct Opened {
+    pub(crate) place: RDesignator,
+    pub(crate) sort: TypeId,
+}
+
+fn is_record_kind(t: &TypeTable, kind: Kind) -> bool
+    ensures { result ≡ spec.is_record_kind t.now kind }
+{
+    match kind {
+        Kind::Of(sort) => is_record(t, sort),
+        _ => false,
+    }
+}
+
+fn opening(place: Option<RDesignator>, kind: Kind) -> Option<Opened>
+    ensures { result ≡ spec.opening place kind }
+{
+    match place {
+        Some(place) => match kind {
+            Kind::Of(sort) => Some(Opened { place, sort }),
+            _ => None,
+        },
+        None => None,
+    }
+}
+
+/// What stands between WITH and DO.
+#[tactic(auto, unfolding(crate::specs::Nodes::record_node, lil_report::specs::Told::tell))]
+pub(crate) fn record_of(
+    t: &TypeTable,
+    report: &mut Report,
+    at: Place,
+    of: Option<Found>,
+) -> Option<Opened>
+    ensures { Said (spec.record_node t.now at of) report.old result report.new }
+{
+    match of {
+        Some(of) => {
+            let unlike = !is_record_kind(t, of.kind);
+            report.note(unlike, at, FaultKind::NotRecord);
+            if unlike {
+                return None;
+            }
+            opening(place_of(of.form), of.kind)
+        }
+        None => None,
+    }
+}
+
+/// An EXIT, in a LOOP or not.
+#[tactic(auto, unfolding(crate::specs::Nodes::exit_node, lil_report::specs::Told::tell))]
+pub(crate) fn exit(report: &mut Report, at: Place, looping: bool) -> Option<RStmt>
+    ensures { Said (spec.exit_node at looping) report.old result report.new }
+{
+    report.note(!looping, at, FaultKind::ExitOutside);
+    if looping { Some(RStmt::Exit) } else { None }
+}
+
+/// A RETURN without a value, where a function has this result.
+#[tactic(auto, unfolding(crate::specs::Nodes::end_node, lil_report::specs::Told::tell))]
+pub(crate) fn return_alone(
+    report: &mut Report,
+    at: Place,
+    result_type: Option<TypeId>,
+) -> Option<RStmt>
+    ensures { Said (spec.end_node at result_type) report.old result report.new }
+{
+    let wrong = result_type.is_some();
+    report.note(wrong, at, FaultKind::ReturnKind);
+    if wrong {
+        None
+    } else {
+        Some(RStmt::Return(None))
+    }
+}
+
+/// A RETURN with a value.
+#[tactic(auto, unfolding(crate::specs::Nodes::return_node, lil_report::specs::Told::tell))]
+pub(crate) fn return_value(
+    t: &TypeTable,
+    report: &mut Report,
+    at: Place,
+    result_type: Option<TypeId>,
+    value: Option<Found>,
+) -> Option<RStmt>
+    ensures { Said (spec.return_node t.now at result_type value) report.old result report.new }
+{
+    match (value, result_type) {
+        (Some(value), Some(sort)) => {
+            let unlike = !assignable(t, sort, value.kind);
+            let outside = misses(t, sort, value.kind);
+            report.note(unlike, at, FaultKind::Assign);
+            report.note(outside, value.first, FaultKind::ConstRange);
+            if unlike || outside {
+                return None;
+            }
+            Some(RStmt::Return(Some(value.form)))
+        }
+        (Some(_), None) => {
+            report.note(true, at, FaultKind::ReturnKind);
+            None
+        }
+        (None, _) => None,
+    }
+}

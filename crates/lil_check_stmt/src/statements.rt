@@ -1,0 +1,353 @@
+ghost use Rattle.std.specs.Prelude.{◌≡◌, [], ◌∷◌, ◌++◌, slice_get, true, IfOk, OnOk};
+ghost use Rattle.lil_scope.specs.declared.env.Env.{Env};
+ghost use Rattle.lil_report.specs.Told.{Said, walk};
+ghost use Rattle.lil_check_stmt.specs.Statements as spec;
+
+use crate::counting::{counted, counting};
+use crate::labels::{Arms, Labels, labels_of_arm};
+use crate::nodes::{
+    Opened, assign, condition, exit, record_of, return_alone, return_value, selector,
+};
+use lil_base::{Items, Memory, Place};
+use lil_check_value::{call, expression, variable};
+use lil_kinds::{Found, result};
+use lil_language::{Arm, Expr, Guard, Stmt};
+use lil_module::{RArm, RExpr, RGuard, RStmt};
+use lil_report::Report;
+use lil_scope::{Env, Kind};
+use lil_types::TypeId;
+use std::alloc::Global;
+
+fn condition_of(
+    alloc: Global,
+    env: &Env,
+    report: &mut Report,
+    x: &Expr,
+) -> Result<Option<RExpr>, Memory>
+    ensures { IfOk result (λ o. Said (spec.condition_means env.now x.now) report.old o report.new) }
+{
+    let found = expression(alloc, env, report, x)?;
+    Ok(condition(&env.types, report, found))
+}
+
+fn selector_of(
+    alloc: Global,
+    env: &Env,
+    report: &mut Report,
+    x: &Expr,
+) -> Result<Option<Found>, Memory>
+    ensures { IfOk result (λ o. Said (spec.selector_means env.now x.now) report.old o report.new) }
+{
+    let found = expression(alloc, env, report, x)?;
+    Ok(selector(&env.types, report, found))
+}
+
+fn kind_of(of: &Option<Found>) -> Option<Kind>
+    ensures { result ≡ spec.kind_of of.now }
+{
+    match of {
+        Some(found) => Some(found.kind),
+        None => None,
+    }
+}
+
+/// The type of what the procedure at hand returns, where it is a function.
+fn result_at(env: &Env) -> Option<TypeId>
+    ensures { result ≡ spec.result_at env.now }
+{
+    match env.procedure {
+        Some(number) => match env.procedures.get(number) {
+            Some(procedure) => result(&env.types, procedure.sort),
+            None => None,
+        },
+        None => None,
+    }
+}
+
+fn returned(
+    alloc: Global,
+    env: &Env,
+    report: &mut Report,
+    at: Place,
+    of: &Option<Expr>,
+) -> Result<Option<RStmt>, Memory>
+    ensures { IfOk result (λ o. Said (spec.return_means env.now at of.now) report.old o report.new) }
+{
+    match of {
+        None => Ok(return_alone(report, at, result_at(env))),
+        Some(x) => {
+            let found = expression(alloc, env, report, x)?;
+            Ok(return_value(&env.types, report, at, result_at(env), found))
+        }
+    }
+}
+
+fn guarded(condition: Option<RExpr>, body: Items<RStmt>) -> Option<RGuard>
+    ensures { result ≡ spec.guarded condition body }
+{
+    match condition {
+        Some(condition) => Some(RGuard { condition, body }),
+        None => None,
+    }
+}
+
+fn selected(found: Option<Found>, arms: Items<RArm>, other: Option<Items<RStmt>>) -> Option<RStmt>
+    ensures { result ≡ spec.selected found arms other }
+{
+    match found {
+        Some(found) => Some(RStmt::Case(found.form, arms, other)),
+        None => None,
+    }
+}
+
+fn repeated_while(condition: Option<RExpr>, body: Items<RStmt>) -> Option<RStmt>
+    ensures { result ≡ spec.repeated_while condition body }
+{
+    match condition {
+        Some(condition) => Some(RStmt::While(condition, body)),
+        None => None,
+    }
+}
+
+fn repeated_until(body: Items<RStmt>, condition: Option<RExpr>) -> Option<RStmt>
+    ensures { result ≡ spec.repeated_until body condition }
+{
+    match condition {
+        Some(condition) => Some(RStmt::Repeat(body, condition)),
+        None => None,
+    }
+}
+
+fn with_record(of: Option<Opened>, body: Items<RStmt>) -> Option<RStmt>
+    ensures { result ≡ spec.with_record of body }
+{
+    match of {
+        Some(opened) => Some(RStmt::With(opened.place, body)),
+        None => None,
+    }
+}
+
+fn with_arm(arms: Items<RArm>, labels: Labels, body: Items<RStmt>) -> Result<Arms, Memory>
+    ensures { IfOk result (λ a. a ≡ spec.with_arm arms labels body) }
+{
+    let Labels { seen, own } = labels;
+    let mut arms = arms;
+    arms.push(RArm { labels: own, body })?;
+    Ok(Arms { seen, arms })
+}
+
+fn add_one<T: Drop>(out: &mut Items<T>, one: Option<T>) -> Result<(), Memory>
+    ensures { IfOk result (λ u. out.new ≡ spec.with_one out.old one) }
+{
+    match one {
+        Some(one) => {
+            out.push(one)?;
+            Ok(())
+        }
+        None => Ok(()),
+    }
+}
+
+/// Begins a WITH, where its record has a type.
+fn enter(env: &mut Env, of: &Option<Opened>) -> Result<(), Memory>
+    ensures { IfOk result (λ u. env.new ≡ spec.within of.now env.old) }
+{
+    match of {
+        Some(opened) => {
+            env.withs.push(opened.sort)?;
+            Ok(())
+        }
+        None => Ok(()),
+    }
+}
+
+/// Ends what `enter` began.
+fn leave(env: &mut Env, of: &Option<Opened>)
+    ensures { (e : Env) → env.old ≡ spec.within of.now e → env.new ≡ e }
+{
+    match of {
+        Some(_) => {
+            env.withs.pop();
+        }
+        None => {}
+    }
+}
+
+/// What a statement means, in a LOOP or not. The record of each WITH is there for the statements in it alone.
+#[cycle(statement)]
+fn statement(
+    alloc: Global,
+    env: &mut Env,
+    report: &mut Report,
+    looping: bool,
+    x: &Stmt,
+) -> Result<Option<RStmt>, Memory>
+    ensures said { IfOk result (λ o. Said (spec.statement_means x.now env.old looping) report.old o report.new) }
+    ensures same { IfOk result (λ o. env.new ≡ env.old) }
+{
+    match x {
+        Stmt::Assign(place, becomes, value) => {
+            let found = variable(alloc, env, report, place)?;
+            let value = expression(alloc, env, report, value)?;
+            Ok(assign(&env.types, report, *becomes, found, value))
+        }
+        Stmt::Call(designator, arguments) => {
+            let meant = call(alloc, env, report, designator, arguments)?;
+            Ok(meant)
+        }
+        Stmt::If(_, guards, other) => {
+            let guards = all_guards(alloc, env, report, looping, guards.as_slice())?;
+            match other {
+                None => Ok(Some(RStmt::If(guards, None))),
+                Some(other) => {
+                    let other = statements(alloc, env, report, looping, other.as_slice())?;
+                    Ok(Some(RStmt::If(guards, Some(other))))
+                }
+            }
+        }
+        Stmt::Case(_, value, arms, other) => {
+            let found = selector_of(alloc, env, report, value)?;
+            let kind = kind_of(&found);
+            let arms = all_arms(alloc, env, report, looping, kind, arms.as_slice())?;
+            match other {
+                None => Ok(selected(found, arms.arms, None)),
+                Some(other) => {
+                    let other = statements(alloc, env, report, looping, other.as_slice())?;
+                    Ok(selected(found, arms.arms, Some(other)))
+                }
+            }
+        }
+        Stmt::While(_, value, body) => {
+            let condition = condition_of(alloc, env, report, value)?;
+            let body = statements(alloc, env, report, looping, body.as_slice())?;
+            Ok(repeated_while(condition, body))
+        }
+        Stmt::Repeat(_, body, value) => {
+            let body = statements(alloc, env, report, looping, body.as_slice())?;
+            let condition = condition_of(alloc, env, report, value)?;
+            Ok(repeated_until(body, condition))
+        }
+        Stmt::Loop(_, body) => {
+            let body = statements(alloc, env, report, true, body.as_slice())?;
+            Ok(Some(RStmt::Loop(body)))
+        }
+        Stmt::For(_, head, body) => {
+            let count = counting(alloc, env, report, head)?;
+            let body = statements(alloc, env, report, looping, body.as_slice())?;
+            Ok(counted(count, body))
+        }
+        Stmt::With(at, designator, body) => {
+            let found = variable(alloc, env, report, designator)?;
+            let opened = record_of(&env.types, report, *at, found);
+            enter(env, &opened)?;
+            let body = statements(alloc, env, report, looping, body.as_slice())?;
+            leave(env, &opened);
+            Ok(with_record(opened, body))
+        }
+        Stmt::Exit(at) => Ok(exit(report, *at, looping)),
+        Stmt::Return(at, value) => {
+            let meant = returned(alloc, env, report, *at, value)?;
+            Ok(meant)
+        }
+    }
+}
+
+/// What statements mean, one behind another.
+#[cycle(statement)]
+pub(crate) fn statements(
+    alloc: Global,
+    env: &mut Env,
+    report: &mut Report,
+    looping: bool,
+    of: &[Stmt],
+) -> Result<Items<RStmt>, Memory>
+    ensures said { IfOk result (λ o. Said (spec.statements_mean env.old looping of.now) report.old o report.new) }
+    ensures same { IfOk result (λ o. env.new ≡ env.old) }
+{
+    let mut out = Items::new(alloc);
+    for one in of {
+        let meant = statement(alloc, env, report, looping, one)?;
+        add_one(&mut out, meant)?;
+    }
+    Ok(out)
+}
+
+/// A condition, and the statements behind it.
+#[cycle(statement)]
+fn guard(
+    alloc: Global,
+    env: &mut Env,
+    report: &mut Report,
+    looping: bool,
+    of: &Guard,
+) -> Result<Option<RGuard>, Memory>
+    ensures said { IfOk result (λ o. Said (spec.guard_means of.now env.old looping) report.old o report.new) }
+    ensures same { IfOk result (λ o. env.new ≡ env.old) }
+{
+    let condition = condition_of(alloc, env, report, &of.condition)?;
+    let body = statements(alloc, env, report, looping, of.body.as_slice())?;
+    Ok(guarded(condition, body))
+}
+
+#[cycle(statement)]
+fn all_guards(
+    alloc: Global,
+    env: &mut Env,
+    report: &mut Report,
+    looping: bool,
+    of: &[Guard],
+) -> Result<Items<RGuard>, Memory>
+    ensures said { IfOk result (λ o. Said (walk (spec.guard_step env.old looping) [] of.now) report.old o report.new) }
+    ensures same { IfOk result (λ o. env.new ≡ env.old) }
+{
+    let mut out = Items::new(alloc);
+    for one in of {
+        let meant = guard(alloc, env, report, looping, one)?;
+        add_one(&mut out, meant)?;
+    }
+    Ok(out)
+}
+
+/// One arm more, behind others.
+#[cycle(statement)]
+fn arm(
+    alloc: Global,
+    env: &mut Env,
+    report: &mut Report,
+    looping: bool,
+    kind: Option<Kind>,
+    arms: Arms,
+    of: &Arm,
+) -> Result<Arms, Memory>
+    ensures said { IfOk result (λ o. Said (spec.arm_means of.now env.old looping kind arms) report.old o report.new) }
+    ensures same { IfOk result (λ o. env.new ≡ env.old) }
+{
+    let Arms { seen, arms } = arms;
+    let labels = labels_of_arm(alloc, env, report, kind, seen, of.labels.as_slice())?;
+    let body = statements(alloc, env, report, looping, of.body.as_slice())?;
+    let made = with_arm(arms, labels, body)?;
+    Ok(made)
+}
+
+#[cycle(statement)]
+fn all_arms(
+    alloc: Global,
+    env: &mut Env,
+    report: &mut Report,
+    looping: bool,
+    kind: Option<Kind>,
+    of: &[Arm],
+) -> Result<Arms, Memory>
+    ensures said { IfOk result (λ o. Said (walk (spec.arm_step env.old looping kind) (record { seen = []; arms = [] }) of.now) report.old o report.new) }
+    ensures same { IfOk result (λ o. env.new ≡ env.old) }
+{
+    let mut out = Arms {
+        seen: Items::new(alloc),
+        arms: Items::new(alloc),
+    };
+    for one in of {
+        let more = arm(alloc, env, report, looping, kind, out, one)?;
+        out = more;
+    }
+    Ok(out)
+}

@@ -1,0 +1,47 @@
+-- Lists that are searched from their begin, and arrays over several indexes.
+use Rattle.std.proofs.Common.{◌≡◌, ℕ, ◌+◌, ◌<◌, ◌≤◌, length, Bool, true, false, ◌||◌, List, [], ◌∷◌, ◌++◌, map, Option, drop, take, get_or, reverse, refl, sym, ap, subst, ◌∙◌}
+use Rattle.std.proofs.lemmas.List.{drop_more, drop_all, reverse-append}
+use Rattle.lil_base.specs.declared.fault.Place.{Place}
+use Rattle.lil_types.specs.declared.table.Span.{Span}
+use Rattle.lil_types.specs.declared.table.Field.{Field}
+use Rattle.lil_types.specs.declared.table.TypeForm.{TypeForm}
+use Rattle.lil_report.specs.declared.report.Fault.{Fault}
+use Rattle.lil_report.specs.Told.{Row, walk, Said}
+use Rattle.lil_report.specs.Laws.{said_value, said_after}
+use Rattle.lil_scope.specs.declared.env.Env.{Env}
+use Rattle.lil_scope.specs.Names.{same}
+use Rattle.lil_check_type.specs.Made.{Made, form_node}
+use Rattle.lil_check_type.specs.Bounds.{meets, has_value_of}
+use Rattle.lil_check_type.specs.Records.{has_field}
+use Rattle.lil_check_type.specs.Sorts.{array_form, array_step}
+
+left_from : {X : Type 0} (xs : List X) (i : ℕ) (x : X) → i < length xs → x ≡ get_or xs i x → drop i xs ≡ x ∷ drop (i + 1) xs
+left_from xs i x inside is = drop_more xs i x inside ∙ ap (λ y. y ∷ drop (i + 1) xs) (sym is)
+
+-- ---- values of labels
+pub value_at : (us : List Span) (s : Span) (i : ℕ) (d : Span) {b : Bool} → i < length us → has_value_of us s ≡ has_value_of (drop i us) s → meets s (get_or us i d) ≡ b
+    → has_value_of us s ≡ (b || has_value_of (drop (i + 1) us) s)
+value_at us s i d {b = b} inside h m = h ∙ ap (λ us. has_value_of us s) (drop_more us i d inside) ∙ ap (λ b. b || has_value_of (drop (i + 1) us) s) m
+
+pub no_value : (us : List Span) (s : Span) (i : ℕ) → length us ≤ i → has_value_of us s ≡ has_value_of (drop i us) s → has_value_of us s ≡ false
+no_value us s i done h = h ∙ ap (λ us. has_value_of us s) (drop_all i us done)
+
+-- ---- names of fields
+pub field_at : (fs : List Field) (n : List ℕ) (i : ℕ) (f : Field) {b : Bool} → i < length fs → f ≡ get_or fs i f → has_field fs n ≡ has_field (drop i fs) n → same n f.name ≡ b
+    → has_field fs n ≡ (b || has_field (drop (i + 1) fs) n)
+field_at fs n i f {b = b} inside is h m = h ∙ ap (λ fs. has_field fs n) (left_from fs i f inside is) ∙ ap (λ b. b || has_field (drop (i + 1) fs) n) m
+
+pub no_field : (fs : List Field) (n : List ℕ) (i : ℕ) → length fs ≤ i → has_field fs n ≡ has_field (drop i fs) n → has_field fs n ≡ false
+no_field fs n i done h = h ∙ ap (λ fs. has_field fs n) (drop_all i fs done)
+
+-- ---- arrays
+module _ (p : Place) {r : Option Fault} where
+  pub is_array : (e : Env) (o i : Option ℕ) {f : Option TypeForm} {n : Made} {s : Option Fault} → f ≡ array_form i o → Said (form_node e p f) r n s → Said (array_step p (e, o) i) r n s
+  is_array e o i {n = n} {s = s} is h = subst (λ f. Said (form_node e p f) r n s) is h
+
+  pub last_array : (m : Made) (left : List (Option ℕ)) (i : Option ℕ) {n b : Made} {all : List (Option ℕ)} {s t : Option Fault} → all ≡ left ++ i ∷ [] → Said (array_step p m i) r n s
+      → Said {A = Made} (walk (array_step p) n (reverse left)) s b t → Said {A = Made} (walk (array_step p) m (reverse all)) r b t
+  last_array m left i {b = b} {t = t} is h k = subst (λ xs. Said {A = Made} (walk (array_step p) m xs) r b t) (sym (ap reverse is ∙ reverse-append left (i ∷ []))) (said_after _ _ h k)
+
+  pub no_array : (m : Made) {left : List (Option ℕ)} → left ≡ [] → Said {A = Made} (walk (array_step p) m (reverse left)) r m r
+  no_array m is = subst (λ xs. Said {A = Made} (walk (array_step p) m (reverse xs)) r m r) (sym is) (said_value refl)

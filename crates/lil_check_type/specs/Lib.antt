@@ -1,0 +1,6 @@
+pub mod Made
+pub mod Bounds
+pub mod Simple
+pub mod Records
+pub mod Routines
+pub mod Sorts

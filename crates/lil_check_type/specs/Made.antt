@@ -1,0 +1,50 @@
+-- A type more in the table, and the parts of which one is made.
+use Rattle.std.specs.Prelude.{ℕ, nat_lt, length, Bool, true, false, not, List, [], ◌∷◌, Option, Some, None, is_none, is_some, if◌then◌else◌}
+use Rattle.lil_base.specs.declared.fault.Place.{Place}
+use Rattle.lil_base.specs.declared.fault.FaultKind.TheVariants.{WrongKind, DataTooLong}
+use Rattle.lil_types.specs.declared.table.Origin.{Origin}
+use Rattle.lil_types.specs.declared.table.Span.{Span}
+use Rattle.lil_types.specs.declared.table.Facts.{Facts}
+use Rattle.lil_types.specs.declared.table.TypeForm.{TypeForm}
+use Rattle.lil_types.specs.Types.{Table, known}
+use Rattle.lil_types.specs.Adding.{next, added, added_number}
+use Rattle.lil_report.specs.Told.{Row, row}
+use Rattle.lil_scope.specs.declared.env.Env.{Env}
+
+-- what is declared behind a type, and its number, if it has no fault
+abbrev pub Made : Type 0
+Made = Env × Option ℕ
+
+abbrev pub with_types : Env → Table → Env
+with_types e t = record e { types = t }
+
+-- the number of the next type, 0 where there is none left
+abbrev pub next_number : Table → ℕ
+next_number t = if nat_lt 65519 (length t) then 0 else next t
+
+-- a type of the unit's own
+abbrev pub own : Table → Origin
+own t = record { «module» = 0; number = next_number t }
+
+-- 61 DataTooLong, at the type's first token: it has more than 32,000 words, or there is no number left for it
+unfoldable pub type_node : Env → Place → TypeForm → Made × List Row
+type_node e p form = ((with_types e (added e.types (own e.types) form), added_number e.types form), row (is_none (added_number e.types form)) p DataTooLong ∷ [])
+
+-- a type whose parts may have a fault
+abbrev pub form_node : Env → Place → Option TypeForm → Made × List Row
+form_node e p (Some form) = type_node e p form
+form_node e p None = ((e, None), [])
+
+-- ---- ordinal types
+abbrev pub span_in : Option Facts → Option Span
+span_in (Some f) = f.span
+span_in None = None
+
+-- the values of an ordinal type, None for any other
+abbrev pub span_of : Table → ℕ → Option Span
+span_of t n = span_in (known t n)
+
+-- 24 WrongKind, at the name of a type that must be ordinal and isn't
+unfoldable pub ordinal_node : Table → Place → Option ℕ → Option ℕ × List Row
+ordinal_node t p (Some n) = (if is_some (span_of t n) then Some n else None, row (is_none (span_of t n)) p WrongKind ∷ [])
+ordinal_node t p None = (None, [])

@@ -1,0 +1,57 @@
+-- Fields of records, and the labels of their variants.
+use Rattle.std.specs.Prelude.{ℕ, Bool, true, false, ◌||◌, ◌&&◌, List, [], ◌∷◌, ◌++◌, Option, Some, None, is_some, if◌then◌else◌}
+use Rattle.lil_base.specs.declared.fault.FaultKind.TheVariants.{Twice}
+use Rattle.lil_text.specs.declared.tree.Ident.{Ident}
+use Rattle.lil_text.specs.declared.tree.Qualident.{Qualident}
+use Rattle.lil_language.specs.declared.tree.Expr.{Expr}
+use Rattle.lil_language.specs.declared.tree.Range.{Range, out-Range}
+use Rattle.lil_types.specs.declared.table.Span.{Span}
+use Rattle.lil_types.specs.declared.table.Field.{Field}
+use Rattle.lil_types.specs.declared.table.TypeForm.{TypeForm}
+use Rattle.lil_types.specs.declared.table.TypeForm.TheVariants as form
+use Rattle.lil_report.specs.Told.{Row, row, after, walk}
+use Rattle.lil_scope.specs.declared.env.Env.{Env}
+use Rattle.lil_scope.specs.Names.{same}
+use Rattle.lil_check_value.specs.Looks.{type_named}
+use Rattle.lil_check_value.specs.Values.{means}
+use Rattle.lil_check_type.specs.declared.records.Fields.{Fields}
+use Rattle.lil_check_type.specs.Made.{ordinal_node}
+use Rattle.lil_check_type.specs.declared.bounds.Bound.{Bound}
+use Rattle.lil_check_type.specs.Bounds.{bound_of, label_node, labels_node}
+
+abbrev pub no_fields : Fields
+no_fields = record { list = []; right = true }
+
+abbrev pub has_field : List Field → List ℕ → Bool
+has_field [] n = false
+has_field (f ∷ fs) n = same n f.name || has_field fs n
+
+abbrev pub sort_or : Option ℕ → ℕ
+sort_or (Some n) = n
+sort_or None = 0
+
+abbrev pub with_field : Fields → List ℕ → Option ℕ → Fields
+with_field fs name o = record { list = fs.list ++ record { name = name; sort = sort_or o } ∷ []; right = fs.right && is_some o }
+
+-- 21 Twice, at a field whose name stands before in the record
+unfoldable pub field_step : Option ℕ → Fields → Ident → Fields × List Row
+field_step o fs i = (with_field fs i.name o, row (has_field fs.list i.name) i.place Twice ∷ [])
+
+-- ---- the tag of variants: a field, where it has a name
+abbrev pub tag_field : Fields → Option Ident → Option ℕ → Fields × List Row
+tag_field fs (Some i) o = field_step o fs i
+tag_field fs None o = (record { list = fs.list; right = fs.right && is_some o }, [])
+
+abbrev pub tag_means : Env → Fields → Option Ident → Qualident → (Fields × Option ℕ) × List Row
+tag_means e fs i q = after (type_named e q) (λ o. after (ordinal_node e.types q.name.place o) (λ n. after (tag_field fs i n) (λ gs. ((gs, n), []))))
+
+-- ---- labels
+abbrev pub label_rest : Env → Option ℕ → List Span → Option Bound → Option Expr → List Span × List Row
+label_rest e n us a None = label_node e.types n us a
+label_rest e n us a (Some y) = after (means e y) (λ b. labels_node e.types n us a (bound_of b))
+
+abbrev pub label_step : Env → Option ℕ → List Span → Range → List Span × List Row
+label_step e n us r = after (means e (out-Range r).low) (λ a. label_rest e n us (bound_of a) (out-Range r).high)
+
+abbrev pub record_form : Fields → Option TypeForm
+record_form fs = if fs.right then Some (form.Record fs.list) else None

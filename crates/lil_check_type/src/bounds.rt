@@ -1,0 +1,328 @@
+ghost use Rattle.std.specs.Prelude.{◌≡◌, IfOk};
+ghost use Rattle.lil_report.specs.Told.{Said, tell};
+ghost use Rattle.lil_check_type.specs.Bounds as spec;
+
+use crate::named::NamedType;
+use lil_base::{FaultKind, Items, Memory, Place};
+use lil_kinds::{Found, compatible, is_constant, is_ordinal, misses, number};
+use lil_report::Report;
+use lil_scope::Kind;
+use lil_types::{CARDINAL, CHAR, INTEGER, Span, TypeForm, TypeId, TypeTable, base};
+
+/// The operand that stands as a bound or label: what is known of it, and its first token.
+#[derive(Clone, Copy, Debug, PartialEq, Eq)]
+pub struct Bound {
+    pub kind: Kind,
+    pub first: Place,
+}
+
+/// What is asked of a bound.
+pub fn bound_of(a: Option<Found>) -> Option<Bound>
+    ensures { result ≡ spec.bound_of a }
+{
+    match a {
+        Some(a) => Some(Bound {
+            kind: a.kind,
+            first: a.first,
+        }),
+        None => None,
+    }
+}
+
+fn whole_type(value: i32) -> TypeId
+    ensures { result ≡ spec.whole_type value }
+{
+    if value < 0 { INTEGER } else { CARDINAL }
+}
+
+/// The type below an operand.
+fn type_below(t: &TypeTable, of: Kind) -> Option<TypeId>
+    ensures { result ≡ spec.type_below t.now of }
+{
+    match of {
+        Kind::Whole(value) => Some(whole_type(value)),
+        Kind::Scalar(n, _) => Some(base(t, n)),
+        Kind::Chars(_) => Some(CHAR),
+        Kind::Nil => None,
+        Kind::Of(n) => Some(base(t, n)),
+        Kind::Open(_) => None,
+        Kind::Routine(_) => None,
+    }
+}
+
+/// The base of a subrange that begins with this bound.
+fn range_base(t: &TypeTable, named: NamedType, a: Kind) -> Option<TypeId>
+    ensures { result ≡ spec.range_base t.now named a }
+{
+    match named {
+        NamedType::Given(n) => Some(n),
+        NamedType::Absent => {
+            if is_ordinal(t, a) {
+                type_below(t, a)
+            } else {
+                None
+            }
+        }
+        NamedType::Faulty => None,
+    }
+}
+
+fn is_unlike(t: &TypeTable, of: Option<TypeId>, b: Kind) -> bool
+    ensures { result ≡ spec.is_unlike t.now of b }
+{
+    match of {
+        Some(n) => !compatible(t, Kind::Of(n), b),
+        None => true,
+    }
+}
+
+fn is_outside(t: &TypeTable, named: NamedType, b: Kind) -> bool
+    ensures { result ≡ spec.is_outside t.now named b }
+{
+    match named {
+        NamedType::Given(n) => misses(t, n, b),
+        NamedType::Absent => false,
+        NamedType::Faulty => false,
+    }
+}
+
+/// Whether values over these types can be compared.
+fn alike(a: Option<TypeId>, b: Option<TypeId>) -> bool
+    ensures { result ≡ spec.alike a b }
+{
+    match (a, b) {
+        (Some(m), Some(n)) => m == n || (m < 2 && n < 2),
+        _ => false,
+    }
+}
+
+fn goes_down(low: Option<i32>, high: Option<i32>) -> bool
+    ensures { result ≡ spec.goes_down low high }
+{
+    match (low, high) {
+        (Some(m), Some(n)) => n < m,
+        _ => false,
+    }
+}
+
+fn is_empty(t: &TypeTable, a: Kind, b: Kind) -> bool
+    ensures { result ≡ spec.is_empty t.now a b }
+{
+    alike(type_below(t, a), type_below(t, b)) && goes_down(number(t, a), number(t, b))
+}
+
+fn span_by(low: Option<i32>, high: Option<i32>) -> Option<Span>
+    ensures { result ≡ spec.span_by low high }
+{
+    match (low, high) {
+        (Some(low), Some(high)) => {
+            if high < low {
+                None
+            } else {
+                Some(Span { low, high })
+            }
+        }
+        _ => None,
+    }
+}
+
+/// All values from one constant to another.
+fn span_between(t: &TypeTable, a: Kind, b: Kind) -> Option<Span>
+    ensures { result ≡ spec.span_between t.now a b }
+{
+    if alike(type_below(t, a), type_below(t, b)) {
+        span_by(number(t, a), number(t, b))
+    } else {
+        None
+    }
+}
+
+/// The tests of a bound or label.
+#[tactic(auto, unfolding(lil_report::specs::Told::tell))]
+fn constant_tests(t: &TypeTable, report: &mut Report, of: Option<TypeId>, b: Bound)
+    ensures { report.new ≡ tell report.old (spec.constant_rows t.now of b) }
+{
+    report.note(is_unlike(t, of, b.kind), b.first, FaultKind::Assign);
+    report.note(!is_constant(b.kind), b.first, FaultKind::NotConst);
+}
+
+/// The tests of a bound.
+#[tactic(auto, unfolding(lil_report::specs::Told::tell))]
+fn bound_tests(t: &TypeTable, report: &mut Report, named: NamedType, of: Option<TypeId>, b: Bound)
+    ensures { report.new ≡ tell report.old (spec.bound_rows t.now named of b) }
+{
+    constant_tests(t, report, of, b);
+    report.note(is_outside(t, named, b.kind), b.first, FaultKind::ConstRange);
+}
+
+fn bound_right(t: &TypeTable, named: NamedType, of: Option<TypeId>, b: Kind) -> bool
+    ensures { result ≡ spec.bound_right t.now named of b }
+{
+    !is_unlike(t, of, b) && is_constant(b) && !is_outside(t, named, b)
+}
+
+fn range_by(of: Option<TypeId>, span: Option<Span>) -> Option<TypeForm>
+    ensures { result ≡ spec.range_by of span }
+{
+    match (of, span) {
+        (Some(n), Some(span)) => Some(TypeForm::Subrange(n, span)),
+        _ => None,
+    }
+}
+
+fn range_form(
+    t: &TypeTable,
+    named: NamedType,
+    of: Option<TypeId>,
+    a: Kind,
+    b: Kind,
+) -> Option<TypeForm>
+    ensures { result ≡ spec.range_form t.now named of a b }
+{
+    if bound_right(t, named, of, a) && bound_right(t, named, of, b) {
+        range_by(of, span_between(t, a, b))
+    } else {
+        None
+    }
+}
+
+/// The tests of a subrange.
+#[tactic(auto, unfolding(lil_report::specs::Told::tell))]
+fn range_tests(
+    t: &TypeTable,
+    report: &mut Report,
+    place: Place,
+    named: NamedType,
+    of: Option<TypeId>,
+    a: Bound,
+    b: Bound,
+)
+    ensures { report.new ≡ tell report.old (spec.range_rows t.now place named of a b) }
+{
+    bound_tests(t, report, named, of, a);
+    bound_tests(t, report, named, of, b);
+    report.note(is_empty(t, a.kind, b.kind), place, FaultKind::EmptyRange);
+}
+
+/// A subrange, from its bounds.
+fn range_over(
+    t: &TypeTable,
+    report: &mut Report,
+    place: Place,
+    named: NamedType,
+    a: Bound,
+    b: Bound,
+) -> Option<TypeForm>
+    ensures { Said (spec.range_over t.now place named (spec.range_base t.now named a.kind) a b) report.old result report.new }
+{
+    let of = range_base(t, named, a.kind);
+    range_tests(t, report, place, named, of, a, b);
+    range_form(t, named, of, a.kind, b.kind)
+}
+
+/// A subrange, if its base and bounds have no fault.
+#[tactic(auto, unfolding(lil_report::specs::Told::tell))]
+pub fn range(
+    t: &TypeTable,
+    report: &mut Report,
+    place: Place,
+    named: NamedType,
+    a: Option<Bound>,
+    b: Option<Bound>,
+) -> Option<TypeForm>
+    ensures { Said (spec.range_node t.now place named a b) report.old result report.new }
+{
+    match (named, a, b) {
+        (NamedType::Faulty, _, _) => None,
+        (NamedType::Absent, Some(a), Some(b)) => range_over(t, report, place, named, a, b),
+        (NamedType::Absent, Some(_), None) => None,
+        (NamedType::Absent, None, _) => None,
+        (NamedType::Given(_), Some(a), Some(b)) => range_over(t, report, place, named, a, b),
+        (NamedType::Given(_), Some(_), None) => None,
+        (NamedType::Given(_), None, _) => None,
+    }
+}
+
+fn meets(s: Span, u: Span) -> bool
+    ensures { result ≡ spec.meets s u }
+{
+    !(s.high < u.low) && !(u.high < s.low)
+}
+
+fn has_value_of(before: &[Span], s: Span) -> bool
+    ensures { result ≡ spec.has_value_of before.now s }
+{
+    for u in before {
+        if meets(s, *u) {
+            return true;
+        }
+    }
+    false
+}
+
+fn stands_before(before: &Items<Span>, s: Option<Span>) -> bool
+    ensures { result ≡ spec.stands_before before.now s }
+{
+    match s {
+        Some(s) => has_value_of(before.as_slice(), s),
+        None => false,
+    }
+}
+
+fn add_span(before: &mut Items<Span>, s: Option<Span>) -> Result<(), Memory>
+    ensures { IfOk result (λ o. before.new ≡ spec.with_span before.old s) }
+{
+    match s {
+        Some(s) => before.push(s),
+        None => Ok(()),
+    }
+}
+
+/// A label of one value, behind those of the same CASE.
+#[tactic(auto, unfolding(crate::specs::Bounds::label_node, lil_report::specs::Told::tell))]
+pub fn label(
+    t: &TypeTable,
+    report: &mut Report,
+    tag: Option<TypeId>,
+    before: &mut Items<Span>,
+    a: Option<Bound>,
+) -> Result<(), Memory>
+    ensures { IfOk result (λ o. Said (spec.label_node t.now tag before.old a) report.old before.new report.new) }
+{
+    match (tag, a) {
+        (Some(_), Some(a)) => {
+            constant_tests(t, report, tag, a);
+            let span = span_between(t, a.kind, a.kind);
+            report.note(stands_before(before, span), a.first, FaultKind::LabelTwice);
+            add_span(before, span)?;
+            Ok(())
+        }
+        _ => Ok(()),
+    }
+}
+
+/// A label from one value to another.
+#[tactic(auto, unfolding(crate::specs::Bounds::labels_node, lil_report::specs::Told::tell))]
+pub fn labels(
+    t: &TypeTable,
+    report: &mut Report,
+    tag: Option<TypeId>,
+    before: &mut Items<Span>,
+    a: Option<Bound>,
+    b: Option<Bound>,
+) -> Result<(), Memory>
+    ensures { IfOk result (λ o. Said (spec.labels_node t.now tag before.old a b) report.old before.new report.new) }
+{
+    match (tag, a, b) {
+        (Some(_), Some(a), Some(b)) => {
+            constant_tests(t, report, tag, a);
+            constant_tests(t, report, tag, b);
+            let span = span_between(t, a.kind, b.kind);
+            report.note(stands_before(before, span), a.first, FaultKind::LabelTwice);
+            report.note(is_empty(t, a.kind, b.kind), a.first, FaultKind::EmptyRange);
+            add_span(before, span)?;
+            Ok(())
+        }
+        _ => Ok(()),
+    }
+}

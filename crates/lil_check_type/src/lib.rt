@@ -1,0 +1,16 @@
+//! What types mean, and which faults they have.
+#![tactic(auto)]
+
+mod bounds;
+mod made;
+mod named;
+mod records;
+mod routines;
+mod simple;
+mod sorts;
+
+pub use made::{add_form, add_type};
+pub use named::NamedType;
+pub use records::sort_or;
+pub use routines::{Parameters, add_parameter, procedure_form, result_type};
+pub use sorts::sort;

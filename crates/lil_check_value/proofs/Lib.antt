@@ -1,0 +1,4 @@
+mod Forms
+mod Looking
+mod Meanings
+mod Spans

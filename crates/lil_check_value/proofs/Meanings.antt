@@ -1,0 +1,125 @@
+-- What calls say of the forms, from what they say of the parts.
+use Rattle.std.proofs.Common.{◌≡◌, ◌∷◌, ◌++◌, ℕ, Bool, false, List, [], Option, Some, None, pos, subst, ap, ◌∙◌, ◌≢◌, length}
+use Rattle.lil_base.specs.declared.fault.Place.{Place}
+use Rattle.lil_base.specs.declared.operator.OneOp.{OneOp}
+use Rattle.lil_text.specs.declared.tree.Ident.{Ident}
+use Rattle.lil_text.specs.declared.tree.Qualident.{Qualident}
+use Rattle.lil_language.specs.declared.tree.Expr.{Expr}
+use Rattle.lil_language.specs.declared.tree.Expr.TheVariants as v
+use Rattle.lil_language.specs.declared.tree.Selector.{Selector}
+use Rattle.lil_language.specs.declared.tree.Selector.TheVariants as w
+use Rattle.lil_language.specs.declared.tree.Designator.{Designator, out-Designator}
+use Rattle.lil_language.specs.declared.tree.Operation.{Operation, out-Operation}
+use Rattle.lil_language.specs.declared.tree.Range.{Range, out-Range}
+use Rattle.lil_types.specs.Types.{char}
+use Rattle.lil_module.specs.declared.tree.RStmt.{RStmt}
+use Rattle.lil_report.specs.declared.report.Fault.{Fault}
+use Rattle.lil_report.specs.Told.{Said, walk}
+use Rattle.lil_report.specs.Laws.{said_as, said_to, said_value, said_after, said_map}
+use Rattle.lil_scope.specs.declared.thing.Kind.TheVariants as k
+use Rattle.lil_scope.specs.declared.env.Env.{Env}
+use Rattle.lil_kinds.specs.declared.found.Found.{Found}
+use Rattle.lil_call.specs.declared.call.Callee.{Callee}
+use Rattle.lil_call.specs.declared.call.Argument.{Argument}
+use Rattle.lil_call.specs.declared.call.Argument.TheVariants as argument
+use Rattle.lil_call.specs.Calls.{call_node, statement_node}
+use Rattle.lil_check_value.specs.declared.designators.Reached.{Reached}
+use Rattle.lil_check_value.specs.declared.operations.Chained.{Chained}
+use Rattle.lil_check_value.specs.declared.sets.Elements.{Elements}
+use Rattle.lil_check_value.specs.declared.asked.Asked.{Asked}
+use Rattle.lil_check_value.specs.Designators.{root_means, field_node, index_node, follow_node}
+use Rattle.lil_check_value.specs.Uses.{constant_found, value_node, variable_node, callee_node, typed_node}
+use Rattle.lil_check_value.specs.Operations.{one_node, begun, two_node, chain_found}
+use Rattle.lil_check_value.specs.Sets.{set_sort, set_node, joined_one, joined_range}
+use Rattle.lil_check_value.specs.Values.{step, joins, means, typed_means, variable_means, call_means, reach_means, index_means, step_means, operation_means, elements_mean, argument_in, argument_means, arguments_mean, begins, text_found, asks, asks_at, begun_at}
+use Rattle.lil_check_value.proofs.Forms as f
+
+module _ (e : Env) {r : Option Fault} where
+  -- ---- selectors and designators
+  module _ {of : Selector} (a : Option Reached) {b : Option Reached} {s : Option Fault} where
+    pub is_field : {dot : Place} {i : Ident} → of ≡ w.Field dot i → Said (field_node e dot i a) r b s → Said (step e of a) r b s
+    is_field {dot = dot} {i = i} is h = said_as (ap (λ x. step e x a) is ∙ f.field_is e dot i a) h
+
+    pub is_index : (xs : List Expr) {bracket : Place} → of ≡ w.Index bracket xs → Said (walk (index_means e bracket) a xs) r b s → Said (step e of a) r b s
+    is_index xs {bracket = bracket} is h = said_as (ap (λ x. step e x a) is ∙ f.index_is e bracket xs a) h
+
+    pub is_follow : {arrow : Place} → of ≡ w.Follow arrow → Said (follow_node e.types arrow a) r b s → Said (step e of a) r b s
+    is_follow {arrow = arrow} is h = said_as (ap (λ x. step e x a) is ∙ f.follow_is e arrow a) h
+
+  pub is_reached : (p : Place) (d : Designator) (ss : List Selector) {a b : Option Reached} {s t : Option Fault} → ss ≡ (out-Designator d).selectors → Said (root_means e p (out-Designator d).first) r a s
+      → Said (walk (step_means e) a ss) s b t → Said (reach_means e p d) r b t
+  is_reached p d ss {a = a} {b = b} {s = s} {t = t} is h g = said_as (f.reach_is e p d) (said_after _ _ h (subst (λ ss. Said (walk (step_means e) a ss) s b t) is g))
+
+  -- ---- items of lists
+  pub is_indexed : (bracket : Place) (x : Expr) (a : Option Reached) {b : Option Reached} {i : Option Found} {s t : Option Fault} → Said (means e x) r i s → Said (index_node e.types bracket a i) s b t → Said (index_means e bracket a x) r b t
+  is_indexed bracket x a h g = said_after _ _ h g
+
+  pub is_operated : (p : Place) (x : Operation) (a : Option Chained) {b : Option Chained} {i : Option Found} {s t : Option Fault} → Said (means e (out-Operation x).operand) r i s
+      → Said (two_node e.types p (out-Operation x).operator (out-Operation x).place a i) s b t → Said (operation_means e p a x) r b t
+  is_operated p x a h g = said_as (f.operation_is e p a x) (said_after _ _ h g)
+
+  pub is_alone : (x : Range) (all : Option Elements) {more : Option Elements} {a : Option Found} {s : Option Fault} → (out-Range x).high ≡ None → Said (means e (out-Range x).low) r a s → more ≡ joined_one all a → Said (joins e x all) r more s
+  is_alone x all is h m = said_as (f.alone_is e x all is) (said_to (said_map (joined_one all) h) m)
+
+  pub is_range : (x : Range) (high : Expr) (all : Option Elements) {more : Option Elements} {a b : Option Found} {s t : Option Fault} → (out-Range x).high ≡ Some high → Said (means e (out-Range x).low) r a s → Said (means e high) s b t
+      → more ≡ joined_range all a b → Said (joins e x all) r more t
+  is_range x high all {a = a} is h g m = said_as (f.range_is e x high all is) (said_after _ _ h (said_to (said_map (joined_range all a) g) m))
+
+  -- ---- arguments
+  pub is_typed : {of : Expr} {p : Place} (d : Designator) {a : Option Reached} {b : Argument} {s t : Option Fault} → of ≡ v.Desig p d → Said (reach_means e p d) r a s → Said (typed_node p a) s b t → Said (typed_means e of) r b t
+  is_typed {p = p} d is h g = said_as (ap (typed_means e) is ∙ f.typed_desig e p d) (said_after _ _ h g)
+
+  pub is_valued : {of : Expr} {a : Option Found} {s : Option Fault} → ((p : Place) (d : Designator) → of ≢ v.Desig p d) → Said (means e of) r a s → Said (typed_means e of) r (argument.Value a) s
+  is_valued {of = of} other h = said_as (f.typed_default e of other) (said_map argument.Value h)
+
+  pub is_plain : (x : Expr) {asks' : Bool} {a : Option Found} {s : Option Fault} → asks' ≡ false → Said (means e x) r a s → Said (argument_in e asks' x) r (argument.Value a) s
+  is_plain x is h = said_as (ap (λ b. argument_in e b x) is) (said_map argument.Value h)
+
+  pub is_argument : (asked : Asked) (out all : List Argument) (x : Expr) {asks' : Bool} {a : Argument} {s : Option Fault} → asks' ≡ asks_at asked (length out)
+      → Said (argument_in e asks' x) r a s → all ≡ out ++ a ∷ [] → Said (argument_means e asked out x) r all s
+  is_argument asked out all x {a = a} {s = s} is h more = said_to (said_map (λ one. out ++ one ∷ []) (subst (λ z. Said (argument_in e z x) r a s) is h)) more
+
+  -- ---- expressions
+  module _ {of : Expr} where
+    pub is_whole : {p : Place} {n : ℕ} {a : Found} → of ≡ v.Whole p n → a ≡ constant_found p (k.Whole (pos n)) → Said (means e of) r (Some a) r
+    is_whole {p = p} {n = n} is h = said_as (ap (means e) is ∙ f.whole_is e p n) (said_value (ap Some h))
+
+    pub is_code : {p : Place} {c : ℕ} {a : Found} → of ≡ v.Code p c → a ≡ constant_found p (k.Scalar char c) → Said (means e of) r (Some a) r
+    is_code {p = p} {c = c} is h = said_as (ap (means e) is ∙ f.code_is e p c) (said_value (ap Some h))
+
+    pub is_chars : {p : Place} {text : List ℕ} {a : Found} → of ≡ v.Chars p text → a ≡ text_found p text → Said (means e of) r (Some a) r
+    is_chars {p = p} {text = text} is h = said_as (ap (means e) is ∙ f.chars_is e p text) (said_value (ap Some h))
+
+    pub is_set : {p : Place} {q : Option Qualident} (xs : List Range) {t : Option ℕ} {es : Option Elements} {a : Option Found} {s u w' : Option Fault} → of ≡ v.SetOf p q xs
+        → Said (set_sort e q) r t s → Said (elements_mean e xs) s es u → Said (set_node e.types p t es) u a w' → Said (means e of) r a w'
+    is_set {p = p} {q = q} xs is h g l = said_as (ap (means e) is ∙ f.set_is e p q xs) (said_after _ _ h (said_after _ _ g l))
+
+    pub is_desig : {p : Place} (d : Designator) {o : Option Reached} {a : Option Found} {s t : Option Fault} → of ≡ v.Desig p d → Said (reach_means e p d) r o s → Said (value_node o) s a t → Said (means e of) r a t
+    is_desig {p = p} d is h g = said_as (ap (means e) is ∙ f.desig_is e p d) (said_after _ _ h g)
+
+    pub is_one : {p : Place} {op : OneOp} {at : Place} (x : Expr) {a b : Option Found} {s t : Option Fault} → of ≡ v.One p op at x → Said (means e x) r a s → Said (one_node e.types p op at a) s b t → Said (means e of) r b t
+    is_one {p = p} {op = op} {at = at} x is h g = said_as (ap (means e) is ∙ f.one_is e p op at x) (said_after _ _ h g)
+
+    pub is_chain : {p : Place} (x : Expr) (xs : List Operation) {a : Option Found} {c d : Option Chained} {b : Option Found} {s t : Option Fault} → of ≡ v.Chain p x xs → Said (means e x) r a s → c ≡ begun a
+        → Said (walk (operation_means e p) c xs) s d t → b ≡ chain_found p d → Said (means e of) r b t
+    is_chain {p = p} x xs {a = a} {d = d} {s = s} {t = t} is h begins' g m = said_as (ap (means e) is ∙ f.chain_is e p x xs)
+        (said_to (said_map (chain_found p) (said_after _ _ h (subst (λ c. Said (walk (operation_means e p) c xs) s d t) begins' g))) m)
+
+    pub is_call : {p q : Place} (d : Designator) (xs : List Expr) {o : Option Reached} {c : Option Callee} {asked : Asked} {given : List Argument} {a b : Option Found} {s t u w' : Option Fault}
+        → of ≡ v.Call p d xs → q ≡ begins d → Said (reach_means e q d) r o s → Said (callee_node o) s c t → asked ≡ asks c → Said (arguments_mean e asked xs) t given u → Said (call_node e.types q c given) u a w'
+        → b ≡ begun_at p a → Said (means e of) r b w'
+    is_call {p = p} d xs {o = o} {c = c} {given = given} {a = a} {s = s} {t = t} {u = u} {w' = w'} is first h g asked g' l m = said_as (ap (means e) is ∙ f.call_is e p d xs)
+        (said_after _ _ (said_after _ _ (subst (λ q. Said (reach_means e q d) r o s) first h) g)
+        (said_to (said_map (begun_at p) (said_after _ _ (subst (λ z. Said (arguments_mean e z xs) t given u) asked g') (subst (λ q. Said (call_node e.types q c given) u a w') first l))) m))
+
+  -- ---- a variable, and a call that is a statement
+  pub is_variable : {q : Place} (d : Designator) {o : Option Reached} {a : Option Found} {s t : Option Fault} → q ≡ begins d → Said (reach_means e q d) r o s → Said (variable_node o) s a t → Said (variable_means e d) r a t
+  unfolding variable_means
+  is_variable d {o = o} {s = s} first h g = said_after _ _ (subst (λ q. Said (reach_means e q d) r o s) first h) g
+
+  pub is_stated : {q : Place} (d : Designator) (xs : List Expr) {ys : List Expr} {o : Option Reached} {c : Option Callee} {asked : Asked} {given : List Argument} {a : Option RStmt} {s t u w' : Option Fault}
+      → q ≡ begins d → ys ≡ xs → Said (reach_means e q d) r o s → Said (callee_node o) s c t → asked ≡ asks c → Said (arguments_mean e asked ys) t given u → Said (statement_node e.types q c given) u a w' → Said (call_means e d xs) r a w'
+  unfolding call_means
+  is_stated d xs {o = o} {c = c} {asked = k'} {given = given} {a = a} {s = s} {t = t} {u = u} {w' = w'} first these h g asked g' l =
+      said_after _ _ (said_after _ _ (subst (λ q. Said (reach_means e q d) r o s) first h) g)
+      (said_after _ _ (subst (λ z. Said (arguments_mean e z xs) t given u) asked (subst (λ ys. Said (arguments_mean e k' ys) t given u) these g')) (subst (λ q. Said (statement_node e.types q c given) u a w') first l))

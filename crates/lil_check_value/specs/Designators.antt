@@ -1,0 +1,232 @@
+-- What designators reach: the variable, or the part of one, or what else a name means.
+use Rattle.std.specs.Prelude.{ℕ, ◌-◌, ◌==◌, is_none, Bool, true, false, not, ◌&&◌, List, [], ◌∷◌, ◌++◌, Option, Some, None, if◌then◌else◌}
+use Rattle.lil_base.specs.declared.fault.Place.{Place}
+use Rattle.lil_base.specs.declared.fault.FaultKind.{FaultKind}
+use Rattle.lil_base.specs.declared.fault.FaultKind.TheVariants.{Unknown, NotExported, WrongKind, Assign, NotArray, NotRecord, NotPointer, NoField, Opaque, ConstRange, ExprDeep}
+use Rattle.lil_text.specs.declared.tree.Ident.{Ident}
+use Rattle.lil_types.specs.Types.{Table, cardinal, char}
+use Rattle.lil_module.specs.declared.declared.Mode.{Mode}
+use Rattle.lil_module.specs.declared.declared.Mode.TheVariants as mode
+use Rattle.lil_module.specs.declared.tree.RRoot.{RRoot}
+use Rattle.lil_module.specs.declared.tree.RRoot.TheVariants as root
+use Rattle.lil_module.specs.declared.tree.RSelector.TheVariants as r
+use Rattle.lil_report.specs.Told.{Row, row}
+use Rattle.lil_scope.specs.declared.thing.Kind.{Kind}
+use Rattle.lil_scope.specs.declared.thing.Kind.TheVariants as k
+use Rattle.lil_scope.specs.declared.thing.Thing.{Thing}
+use Rattle.lil_scope.specs.declared.thing.Thing.TheVariants as t
+use Rattle.lil_scope.specs.declared.thing.Variable.{Variable}
+use Rattle.lil_scope.specs.declared.env.Env.{Env}
+use Rattle.lil_scope.specs.Names.{level, member}
+use Rattle.lil_kinds.specs.declared.forms.ArrayParts.{ArrayParts}
+use Rattle.lil_kinds.specs.declared.forms.FieldAt.{FieldAt}
+use Rattle.lil_kinds.specs.declared.found.Found.{Found}
+use Rattle.lil_kinds.specs.declared.found.Standing.{Standing}
+use Rattle.lil_kinds.specs.declared.found.Standing.TheVariants as standing
+use Rattle.lil_kinds.specs.Forms.{array_parts, field, is_record, target, is_opaque}
+use Rattle.lil_kinds.specs.Kinds.{assignable, misses}
+use Rattle.lil_check_value.specs.declared.names.Looked.{Looked}
+use Rattle.lil_check_value.specs.declared.names.Looked.TheVariants.{Nothing, Field, Thing as Declared}
+use Rattle.lil_check_value.specs.declared.designators.Part.{Part}
+use Rattle.lil_check_value.specs.declared.designators.Named.{Named}
+use Rattle.lil_check_value.specs.declared.designators.Reached.{Reached}
+use Rattle.lil_check_value.specs.declared.designators.Reached.TheVariants as reached
+use Rattle.lil_check_value.specs.Depths.{raised}
+use Rattle.lil_check_value.specs.Looks.{look, looked_as, is_nothing, is_hidden}
+
+abbrev pub Reaches : Type 0
+Reaches = Option Reached × List Row
+
+-- ---- names
+-- a variable of the module, or one of the activation that is so many levels out
+abbrev pub variable_root : ℕ → Variable → RRoot
+variable_root here v = if v.level == 1 then root.Global v.number else root.Local (here - v.level) v.number
+
+abbrev pub kind_by : Mode → ℕ → Kind
+kind_by mode.Plain s = k.Of s
+kind_by mode.Value s = k.Of s
+kind_by mode.Place s = k.Of s
+kind_by mode.OpenValue s = k.Open s
+kind_by mode.OpenPlace s = k.Open s
+
+abbrev pub variable_kind : Variable → Kind
+variable_kind v = kind_by v.mode v.sort
+
+-- a variable as a whole: the place where the designator begins, that of its name, with what it begins, and its kind
+abbrev pub whole_part : Place → Place → RRoot → Kind → Part
+whole_part p q begin kind = record { first = p; name = q; root = begin; selectors = []; kind = kind; depth = 1; standing = standing.Variable }
+
+abbrev pub named : Place → Place → Thing → Reached
+named p q x = reached.Other (record { first = p; name = q; thing = x })
+
+-- no value where the declaration of the name has a fault
+abbrev pub thing_reached : ℕ → Place → Place → Thing → Option Reached
+thing_reached here p q (t.Variable v) = Some (reached.Part (whole_part p q (variable_root here v) (variable_kind v)))
+thing_reached here p q t.Hidden = None
+thing_reached here p q t.Broken = None
+thing_reached here p q (t.Constant c) = Some (named p q (t.Constant c))
+thing_reached here p q (t.Named n c) = Some (named p q (t.Named n c))
+thing_reached here p q t.Nil = Some (named p q t.Nil)
+thing_reached here p q (t.Type s) = Some (named p q (t.Type s))
+thing_reached here p q (t.Procedure x) = Some (named p q (t.Procedure x))
+thing_reached here p q (t.Resident x s) = Some (named p q (t.Resident x s))
+thing_reached here p q (t.Standard x) = Some (named p q (t.Standard x))
+thing_reached here p q (t.Module b) = Some (named p q (t.Module b))
+
+abbrev pub looked_reached : ℕ → Place → Place → Looked → Option Reached
+looked_reached here p q Nothing = None
+looked_reached here p q (Field w f s) = Some (reached.Part (whole_part p q (root.Field w f) (k.Of s)))
+looked_reached here p q (Declared x) = thing_reached here p q x
+
+-- a name at q in a designator that begins at p
+unfoldable pub name_node : ℕ → Place → Place → Looked → Reaches
+name_node here p q l = (looked_reached here p q l, row (is_nothing l) q Unknown ∷ row (is_hidden l) q NotExported ∷ [])
+
+abbrev pub root_means : Env → Place → Ident → Reaches
+root_means e p x = name_node (level e) p x.place (look e x.name)
+
+-- ---- selectors on what is no variable
+-- types and modules can't stand there, whatever is selected
+abbrev pub is_misplaced : Thing → Bool
+is_misplaced (t.Type s) = true
+is_misplaced (t.Module b) = true
+is_misplaced _ = false
+
+abbrev pub refused_rows : Named → Place → FaultKind → List Row
+refused_rows o p f =
+    -- 24 WrongKind, and what the selector asks for
+    row (is_misplaced o.thing) o.name WrongKind ∷ row (not (is_misplaced o.thing)) p f ∷ []
+
+-- ---- fields
+abbrev pub record_kind : Table → Kind → Bool
+record_kind types (k.Of s) = is_record types s
+record_kind types _ = false
+
+abbrev pub field_of : Table → Kind → List ℕ → Option FieldAt
+field_of types (k.Of s) n = field types s n
+field_of types _ n = None
+
+abbrev pub with_field : Part → FieldAt → Part
+with_field a f = record a { selectors = a.selectors ++ r.Field f.number ∷ []; kind = k.Of f.sort; standing = standing.Variable }
+
+abbrev pub field_found : Part → Option FieldAt → Option Reached
+field_found a None = None
+field_found a (Some f) = Some (reached.Part (with_field a f))
+
+abbrev pub field_value : Bool → Part → Option FieldAt → Option Reached
+field_value is_record a o = if is_record then field_found a o else None
+
+unfoldable pub part_field : Table → Place → Ident → Part → Reaches
+part_field types dot x a = (
+  field_value (record_kind types a.kind) a (field_of types a.kind x.name),
+  -- 36 NotRecord
+  row (not (record_kind types a.kind)) dot NotRecord
+      -- 38 NoField
+      ∷ row (record_kind types a.kind && is_none (field_of types a.kind x.name)) x.place NoField ∷ [],
+)
+
+abbrev pub module_block : Thing → Option ℕ
+module_block (t.Module b) = Some b
+module_block _ = None
+
+-- a name of a module is looked up there
+abbrev pub other_field_by : Env → Place → Ident → Named → Option ℕ → Reaches
+other_field_by e dot x o (Some b) = name_node (level e) o.first x.place (looked_as (member e.scopes b x.name))
+other_field_by e dot x o None = (None, refused_rows o dot NotRecord)
+
+unfoldable pub other_field : Env → Place → Ident → Named → Reaches
+other_field e dot x o = other_field_by e dot x o (module_block o.thing)
+
+abbrev pub field_node : Env → Place → Ident → Option Reached → Reaches
+field_node e dot x None = (None, [])
+field_node e dot x (Some (reached.Part a)) = part_field e.types dot x a
+field_node e dot x (Some (reached.Other o)) = other_field e dot x o
+
+-- ---- elements
+-- the index type and the element type; an open array has indexes of CARDINAL
+abbrev pub parts_of : Table → Kind → Option ArrayParts
+parts_of types (k.Of s) = array_parts types s
+parts_of types (k.Open s) = Some (record { index = cardinal; element = s })
+parts_of types _ = None
+
+-- an element of an array whose elements are CHAR itself is a character
+abbrev pub element_standing : ℕ → Standing
+element_standing s = if s == char then standing.Character else standing.Variable
+
+abbrev pub with_index : Part → Found → ArrayParts → ℕ → Part
+with_index a i parts d = record { first = a.first; name = a.name; root = a.root; selectors = a.selectors ++ r.Index i.form ∷ []; kind = k.Of parts.element; depth = d; standing = element_standing parts.element }
+
+abbrev pub deep_row : Option ℕ → Place → Row
+deep_row d p = row (is_none d) p ExprDeep
+
+abbrev pub index_fits : Table → ArrayParts → Kind → Bool
+index_fits types parts kind = assignable types parts.index kind && not (misses types parts.index kind)
+
+abbrev pub element_found : Table → Part → Found → ArrayParts → Option ℕ → Option Reached
+element_found types a i parts None = None
+element_found types a i parts (Some d) = if index_fits types parts i.kind then Some (reached.Part (with_index a i parts d)) else None
+
+abbrev pub element_value : Table → Part → Found → Option ArrayParts → Option ℕ → Option Reached
+element_value types a i None d = None
+element_value types a i (Some parts) d = element_found types a i parts d
+
+abbrev pub index_rows : Table → Place → Place → Kind → Option ArrayParts → List Row
+-- 35 NotArray
+index_rows types bracket first kind None = row true bracket NotArray ∷ []
+-- 31 Assign and 50 ConstRange
+index_rows types bracket first kind (Some parts) = row (not (assignable types parts.index kind)) first Assign ∷ row (misses types parts.index kind) first ConstRange ∷ []
+
+unfoldable pub part_index : Table → Place → Part → Found → Reaches
+part_index types bracket a i = (
+  element_value types a i (parts_of types a.kind) (raised a.depth 2 i.depth),
+  deep_row (raised a.depth 2 i.depth) a.first ∷ index_rows types bracket i.first i.kind (parts_of types a.kind),
+)
+
+abbrev pub other_index_rows : Place → Named → Option Found → List Row
+other_index_rows bracket o None = row (is_misplaced o.thing) o.name WrongKind ∷ []
+other_index_rows bracket o (Some i) = row (is_misplaced o.thing) o.name WrongKind ∷ row (not (is_misplaced o.thing) && is_none (raised 1 2 i.depth)) o.first ExprDeep ∷ row (not (is_misplaced o.thing)) bracket NotArray ∷ []
+
+unfoldable pub other_index : Place → Named → Option Found → Reaches
+other_index bracket o i = (None, other_index_rows bracket o i)
+
+abbrev pub index_node : Table → Place → Option Reached → Option Found → Reaches
+index_node types bracket None i = (None, [])
+index_node types bracket (Some (reached.Other o)) i = other_index bracket o i
+index_node types bracket (Some (reached.Part a)) None = (None, [])
+index_node types bracket (Some (reached.Part a)) (Some i) = part_index types bracket a i
+
+-- ---- what a pointer points to
+abbrev pub opaque_kind : Table → Kind → Bool
+opaque_kind types (k.Of s) = is_opaque types s
+opaque_kind types _ = false
+
+abbrev pub target_of : Table → Kind → Option ℕ
+target_of types (k.Of s) = target types s
+target_of types _ = None
+
+abbrev pub with_follow : Part → ℕ → Part
+with_follow a s = record a { selectors = a.selectors ++ r.Follow ∷ []; kind = k.Of s; standing = standing.Variable }
+
+abbrev pub target_found : Part → Option ℕ → Option Reached
+target_found a None = None
+target_found a (Some s) = Some (reached.Part (with_follow a s))
+
+abbrev pub target_value : Bool → Part → Option ℕ → Option Reached
+target_value is_opaque a o = if is_opaque then None else target_found a o
+
+unfoldable pub part_follow : Table → Place → Part → Reaches
+part_follow types arrow a = (
+  target_value (opaque_kind types a.kind) a (target_of types a.kind),
+  -- 43 Opaque
+  row (opaque_kind types a.kind) arrow Opaque
+      -- 37 NotPointer
+      ∷ row (not (opaque_kind types a.kind) && is_none (target_of types a.kind)) arrow NotPointer ∷ [],
+)
+
+unfoldable pub other_follow : Place → Named → Reaches
+other_follow arrow o = (None, refused_rows o arrow NotPointer)
+
+abbrev pub follow_node : Table → Place → Option Reached → Reaches
+follow_node types arrow None = (None, [])
+follow_node types arrow (Some (reached.Part a)) = part_follow types arrow a
+follow_node types arrow (Some (reached.Other o)) = other_follow arrow o

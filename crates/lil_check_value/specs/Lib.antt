@@ -1,0 +1,7 @@
+pub mod Depths
+pub mod Designators
+pub mod Looks
+pub mod Operations
+pub mod Sets
+pub mod Uses
+pub mod Values

@@ -1,0 +1,109 @@
+-- What names mean where they stand.
+use Rattle.std.specs.Prelude.{ℕ, ◌+◌, Bool, true, false, List, [], ◌∷◌, Option, Some, None}
+use Rattle.lil_base.specs.declared.fault.Place.{Place}
+use Rattle.lil_base.specs.declared.fault.FaultKind.TheVariants.{Unknown, NotExported, WrongKind}
+use Rattle.lil_text.specs.declared.tree.Ident.{Ident}
+use Rattle.lil_text.specs.declared.tree.Qualident.{Qualident}
+use Rattle.lil_types.specs.Types.{Table}
+use Rattle.lil_report.specs.Told.{Row, row, after}
+use Rattle.lil_scope.specs.declared.thing.Thing.{Thing}
+use Rattle.lil_scope.specs.declared.thing.Thing.TheVariants as t
+use Rattle.lil_scope.specs.declared.env.Env.{Env}
+use Rattle.lil_scope.specs.Names.{find, member}
+use Rattle.lil_kinds.specs.declared.forms.FieldAt.{FieldAt}
+use Rattle.lil_kinds.specs.Forms.{field}
+use Rattle.lil_check_value.specs.declared.names.Looked.{Looked}
+use Rattle.lil_check_value.specs.declared.names.Looked.TheVariants.{Nothing, Field, Thing as Declared}
+
+-- ---- the nearest WITH whose record has a field of this name comes before all declarations
+abbrev pub nearer : Option FieldAt → ℕ → Looked → Looked
+nearer None number outer = outer
+nearer (Some f) number outer = Field number f.number f.sort
+
+-- what a name means in the records of WITH from a number on, where it means this in those outside of them
+abbrev pub in_withs : Table → List ℕ → Looked → ℕ → List ℕ → Looked
+in_withs types name outer number [] = outer
+in_withs types name outer number (w ∷ ws) = in_withs types name (nearer (field types w name) number outer) (number + 1) ws
+
+abbrev pub nearest : Table → List ℕ → List ℕ → Looked
+nearest types name ws = in_withs types name Nothing 0 ws
+
+abbrev pub looked_as : Option Thing → Looked
+looked_as None = Nothing
+looked_as (Some x) = Declared x
+
+abbrev pub or_declared : Looked → Option Thing → Looked
+or_declared Nothing o = looked_as o
+or_declared (Field w f s) o = Field w f s
+or_declared (Declared x) o = Declared x
+
+unfoldable pub look : Env → List ℕ → Looked
+look e n = or_declared (nearest e.types n e.withs) (find e.scopes n)
+
+-- ---- 20 Unknown: nothing is declared of the name
+abbrev pub is_nothing : Looked → Bool
+is_nothing Nothing = true
+is_nothing (Field w f s) = false
+is_nothing (Declared x) = false
+
+-- ---- 22 NotExported: the definition declares the name, but doesn't export it
+abbrev pub is_hidden_thing : Thing → Bool
+is_hidden_thing t.Hidden = true
+is_hidden_thing _ = false
+
+abbrev pub is_hidden : Looked → Bool
+is_hidden Nothing = false
+is_hidden (Field w f s) = false
+is_hidden (Declared x) = is_hidden_thing x
+
+-- ---- 24 WrongKind: the name means something else than a type
+abbrev pub no_type_thing : Thing → Bool
+no_type_thing (t.Type s) = false
+no_type_thing t.Hidden = false
+no_type_thing t.Broken = false
+no_type_thing _ = true
+
+abbrev pub no_type : Looked → Bool
+no_type Nothing = false
+no_type (Field w f s) = true
+no_type (Declared x) = no_type_thing x
+
+-- ---- 24 WrongKind: the name means something else than a module
+abbrev pub no_module_thing : Thing → Bool
+no_module_thing (t.Module k) = false
+no_module_thing t.Hidden = false
+no_module_thing t.Broken = false
+no_module_thing _ = true
+
+abbrev pub no_module : Looked → Bool
+no_module Nothing = false
+no_module (Field w f s) = true
+no_module (Declared x) = no_module_thing x
+
+abbrev pub type_of : Looked → Option ℕ
+type_of (Declared (t.Type s)) = Some s
+type_of _ = None
+
+abbrev pub module_of : Looked → Option ℕ
+module_of (Declared (t.Module k)) = Some k
+module_of _ = None
+
+-- a name where a type's name is needed
+unfoldable pub type_node : Place → Looked → Option ℕ × List Row
+type_node p l = (type_of l, row (is_nothing l) p Unknown ∷ row (is_hidden l) p NotExported ∷ row (no_type l) p WrongKind ∷ [])
+
+-- a name where a module's name is needed
+unfoldable pub module_node : Place → Looked → Option ℕ × List Row
+module_node p l = (module_of l, row (is_nothing l) p Unknown ∷ row (is_hidden l) p NotExported ∷ row (no_module l) p WrongKind ∷ [])
+
+-- a name of a module where a type's name is needed
+abbrev pub member_type : Env → Ident → Option ℕ → Option ℕ × List Row
+member_type e x None = (None, [])
+member_type e x (Some k) = type_node x.place (looked_as (member e.scopes k x.name))
+
+abbrev pub type_by : Env → Option Ident → Ident → Option ℕ × List Row
+type_by e None x = type_node x.place (look e x.name)
+type_by e (Some m) x = after (module_node m.place (look e m.name)) (member_type e x)
+
+unfoldable pub type_named : Env → Qualident → Option ℕ × List Row
+type_named e q = type_by e q.owner q.name

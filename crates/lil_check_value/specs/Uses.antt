@@ -1,0 +1,130 @@
+-- What a designator is where it is used: as a value, as a variable, as what is called, and as a type's name.
+use Rattle.std.specs.Prelude.{ℕ, nat_lt, Bool, true, false, List, [], ◌∷◌, Option, Some, None, if◌then◌else◌}
+use Rattle.lil_base.specs.declared.fault.Place.{Place}
+use Rattle.lil_base.specs.declared.fault.FaultKind.TheVariants.{WrongKind, ProcValue}
+use Rattle.lil_module.specs.declared.tree.RExpr.{RExpr}
+use Rattle.lil_module.specs.declared.tree.RExpr.TheVariants as r
+use Rattle.lil_module.specs.declared.tree.RDesignator.{RDesignator, roll-RDesignator}
+use Rattle.lil_module.specs.declared.tree.RSelector.{RSelector}
+use Rattle.lil_report.specs.Told.{Row, row}
+use Rattle.lil_scope.specs.declared.thing.Kind.{Kind}
+use Rattle.lil_scope.specs.declared.thing.Kind.TheVariants as k
+use Rattle.lil_scope.specs.declared.thing.Routine.{Routine}
+use Rattle.lil_scope.specs.declared.thing.Thing.{Thing}
+use Rattle.lil_scope.specs.declared.thing.Thing.TheVariants as t
+use Rattle.lil_kinds.specs.declared.found.Found.{Found}
+use Rattle.lil_kinds.specs.declared.found.Standing.TheVariants as standing
+use Rattle.lil_call.specs.declared.call.Callee.{Callee}
+use Rattle.lil_call.specs.declared.call.Callee.TheVariants as callee
+use Rattle.lil_call.specs.declared.call.Argument.{Argument}
+use Rattle.lil_call.specs.declared.call.Argument.TheVariants as argument
+use Rattle.lil_check_value.specs.declared.designators.Part.{Part}
+use Rattle.lil_check_value.specs.declared.designators.Named.{Named}
+use Rattle.lil_check_value.specs.declared.designators.Reached.{Reached}
+use Rattle.lil_check_value.specs.declared.designators.Reached.TheVariants as reached
+use Rattle.lil_check_value.specs.Designators.{is_misplaced}
+
+abbrev pub Meaning : Type 0
+Meaning = Option Found × List Row
+
+-- ---- constants
+-- a constant stands in the resolved tree by its value
+abbrev pub constant_form : Kind → RExpr
+constant_form (k.Whole n) = r.Whole n
+constant_form (k.Scalar s w) = r.Scalar s w
+constant_form _ = r.Nil
+
+abbrev pub plain_found : Place → RExpr → Kind → Found
+plain_found p form kind = record { form = form; kind = kind; first = p; depth = 1; standing = standing.Value }
+
+abbrev pub constant_found : Place → Kind → Found
+constant_found p kind = plain_found p (constant_form kind) kind
+
+-- ---- values
+abbrev pub designator_of : Part → RDesignator
+designator_of a = roll-RDesignator (record { root = a.root; selectors = a.selectors })
+
+abbrev pub part_found : Part → Found
+part_found a = record { form = r.Value (designator_of a); kind = a.kind; first = a.first; depth = a.depth; standing = a.standing }
+
+-- a procedure that another one declares, or that the module doesn't declare, is no value
+abbrev pub no_value : Thing → Bool
+no_value (t.Procedure x) = nat_lt 1 x.level
+no_value (t.Resident x s) = true
+no_value (t.Standard x) = true
+no_value _ = false
+
+abbrev pub routine_found : Place → Routine → Option Found
+routine_found p x = if nat_lt 1 x.level then None else Some (plain_found p (r.Procedure x.number) (k.Routine x.sort))
+
+abbrev pub thing_found : Place → Thing → Option Found
+thing_found p (t.Constant kind) = Some (constant_found p kind)
+thing_found p (t.Named n c) = Some (plain_found p (r.Named n) (k.Chars c))
+thing_found p t.Nil = Some (plain_found p r.Nil k.Nil)
+thing_found p (t.Procedure x) = routine_found p x
+thing_found p _ = None
+
+unfoldable pub named_value : Named → Meaning
+named_value o = (
+  thing_found o.first o.thing,
+  -- 24 WrongKind
+  row (is_misplaced o.thing) o.name WrongKind
+      -- 41 ProcValue
+      ∷ row (no_value o.thing) o.name ProcValue ∷ [],
+)
+
+abbrev pub value_node : Option Reached → Meaning
+value_node None = (None, [])
+value_node (Some (reached.Part a)) = (Some (part_found a), [])
+value_node (Some (reached.Other o)) = named_value o
+
+-- ---- variables
+abbrev pub variable_node : Option Reached → Meaning
+variable_node None = (None, [])
+variable_node (Some (reached.Part a)) = (Some (part_found a), [])
+-- 24 WrongKind
+variable_node (Some (reached.Other o)) = (None, row true o.name WrongKind ∷ [])
+
+-- ---- what is called
+abbrev pub part_callee : Kind → Part → Callee
+part_callee (k.Of s) a = callee.Variable (designator_of a) s a.depth
+part_callee _ a = callee.Other
+
+abbrev pub thing_callee : Thing → Option Callee
+thing_callee (t.Procedure x) = Some (callee.Procedure x.number x.sort)
+thing_callee (t.Resident x s) = Some (callee.Resident x s)
+thing_callee (t.Standard x) = Some (callee.Standard x)
+thing_callee (t.Constant kind) = Some callee.Other
+thing_callee (t.Named n c) = Some callee.Other
+thing_callee t.Nil = Some callee.Other
+thing_callee _ = None
+
+abbrev pub callee_node : Option Reached → Option Callee × List Row
+callee_node None = (None, [])
+callee_node (Some (reached.Part a)) = (Some (part_callee a.kind a), [])
+-- 24 WrongKind
+callee_node (Some (reached.Other o)) = (thing_callee o.thing, row (is_misplaced o.thing) o.name WrongKind ∷ [])
+
+-- ---- an argument that should be a type's name, at its first token
+abbrev pub is_bare : List RSelector → Bool
+is_bare [] = true
+is_bare (s ∷ ss) = false
+
+abbrev pub type_in : Thing → Option ℕ
+type_in (t.Type s) = Some s
+type_in _ = None
+
+abbrev pub no_type_in : Thing → Bool
+no_type_in (t.Type s) = false
+no_type_in _ = true
+
+abbrev pub part_typed : Bool → Place → Part → Argument × List Row
+-- 24 WrongKind
+part_typed true p a = (argument.Type p None, row true a.name WrongKind ∷ [])
+part_typed false p a = (argument.Value (Some (part_found a)), [])
+
+abbrev pub typed_node : Place → Option Reached → Argument × List Row
+typed_node p None = (argument.Type p None, [])
+typed_node p (Some (reached.Part a)) = part_typed (is_bare a.selectors) p a
+-- 24 WrongKind
+typed_node p (Some (reached.Other o)) = (argument.Type p (type_in o.thing), row (no_type_in o.thing) o.name WrongKind ∷ [])

@@ -1,0 +1,351 @@
+ghost use Rattle.std.specs.Prelude.{◌≡◌, [], IfOk};
+ghost use Rattle.lil_report.specs.Told.{Said, walk};
+ghost use Rattle.lil_check_value.specs.Values as spec;
+
+use crate::asked::{Asked, asks, asks_at};
+use crate::designators::{Reached, field_node, follow_node, index_node, root};
+use crate::operations::{Chained, begun, chain_found, one_node, two_node};
+use crate::sets::{Elements, joined_one, joined_range, no_elements, set_node, set_sort};
+use crate::uses::{
+    callee_node, constant_found, plain_found, typed_node, value_node, variable_node,
+};
+use lil_base::{Items, Memory, Place, Text};
+use lil_call::{Argument, called, stated};
+use lil_kinds::Found;
+use lil_language::{Designator, Expr, Operation, Range, Selector};
+use lil_module::{RExpr, RStmt};
+use lil_report::Report;
+use lil_scope::{Chars, Env, Kind};
+use lil_types::CHAR;
+use std::alloc::Global;
+
+fn first_of(text: &[u8]) -> u8
+    ensures { result ≡ spec.first_of text.now }
+{
+    match text {
+        [] => 0,
+        [first, ..] => *first,
+    }
+}
+
+/// A text between two marks.
+fn text_found(alloc: Global, first: Place, text: &Text) -> Result<Found, Memory>
+    ensures { IfOk result (λ a. a ≡ spec.text_found first text.now) }
+{
+    let chars = Chars {
+        length: text.len(),
+        first: first_of(text.as_slice()),
+    };
+    let copy = Text::from_slice(alloc, text.as_slice())?;
+    Ok(plain_found(first, RExpr::Chars(copy), Kind::Chars(chars)))
+}
+
+/// The same value in parentheses that begin at this place.
+fn begun_at(first: Place, of: Option<Found>) -> Option<Found>
+    ensures { result ≡ spec.begun_at first of }
+{
+    match of {
+        None => None,
+        Some(a) => Some(Found {
+            form: a.form,
+            kind: a.kind,
+            first,
+            depth: a.depth,
+            standing: a.standing,
+        }),
+    }
+}
+
+/// All indexes behind one bracket.
+#[cycle(expression)]
+fn indexed(
+    alloc: Global,
+    env: &Env,
+    report: &mut Report,
+    bracket: Place,
+    of: Option<Reached>,
+    indexes: &[Expr],
+) -> Result<Option<Reached>, Memory>
+    ensures { IfOk result (λ o. Said (walk (spec.index_means env.now bracket) of indexes.now) report.old o report.new) }
+{
+    let mut of = of;
+    for one in indexes {
+        let index = expression(alloc, env, report, one)?;
+        of = index_node(&env.types, report, bracket, of, index)?;
+    }
+    Ok(of)
+}
+
+/// A selector behind what is reached.
+#[cycle(expression)]
+fn selected(
+    alloc: Global,
+    env: &Env,
+    report: &mut Report,
+    of: Option<Reached>,
+    selector: &Selector,
+) -> Result<Option<Reached>, Memory>
+    ensures { IfOk result (λ o. Said (spec.step env.now selector.now of) report.old o report.new) }
+{
+    match selector {
+        Selector::Field(dot, name) => {
+            let found = field_node(alloc, env, report, *dot, name, of)?;
+            Ok(found)
+        }
+        Selector::Index(bracket, indexes) => {
+            let found = indexed(alloc, env, report, *bracket, of, indexes.as_slice())?;
+            Ok(found)
+        }
+        Selector::Follow(arrow) => {
+            let found = follow_node(&env.types, report, *arrow, of)?;
+            Ok(found)
+        }
+    }
+}
+
+/// All selectors behind what is reached.
+#[cycle(expression)]
+fn all_selected(
+    alloc: Global,
+    env: &Env,
+    report: &mut Report,
+    of: Option<Reached>,
+    selectors: &[Selector],
+) -> Result<Option<Reached>, Memory>
+    ensures { IfOk result (λ o. Said (walk (spec.step_means env.now) of selectors.now) report.old o report.new) }
+{
+    let mut of = of;
+    for one in selectors {
+        of = selected(alloc, env, report, of, one)?;
+    }
+    Ok(of)
+}
+
+/// What a designator reaches, where it or its expression begins at this place.
+#[cycle(expression)]
+fn reached(
+    alloc: Global,
+    env: &Env,
+    report: &mut Report,
+    first: Place,
+    of: &Designator,
+) -> Result<Option<Reached>, Memory>
+    ensures { IfOk result (λ o. Said (spec.reach_means env.now first of.now) report.old o report.new) }
+{
+    let begin = root(alloc, env, report, first, &of.first);
+    let found = all_selected(alloc, env, report, begin, of.selectors.as_slice())?;
+    Ok(found)
+}
+
+/// All operations behind a first operand.
+#[cycle(expression)]
+fn operated(
+    alloc: Global,
+    env: &Env,
+    report: &mut Report,
+    first: Place,
+    of: Option<Chained>,
+    operations: &[Operation],
+) -> Result<Option<Chained>, Memory>
+    ensures { IfOk result (λ o. Said (walk (spec.operation_means env.now first) of operations.now) report.old o report.new) }
+{
+    let mut of = of;
+    for one in operations {
+        let operand = expression(alloc, env, report, &one.operand)?;
+        of = two_node(
+            alloc,
+            &env.types,
+            report,
+            first,
+            one.operator,
+            one.place,
+            of,
+            operand,
+        )?;
+    }
+    Ok(of)
+}
+
+/// Elements and one more.
+#[cycle(expression)]
+fn joined(
+    alloc: Global,
+    env: &Env,
+    report: &mut Report,
+    of: Option<Elements>,
+    element: &Range,
+) -> Result<Option<Elements>, Memory>
+    ensures { IfOk result (λ o. Said (spec.joins env.now element.now of) report.old o report.new) }
+{
+    let low = expression(alloc, env, report, &element.low)?;
+    match &element.high {
+        None => {
+            let all = joined_one(of, low)?;
+            Ok(all)
+        }
+        Some(high) => {
+            let high = expression(alloc, env, report, high)?;
+            let all = joined_range(of, low, high)?;
+            Ok(all)
+        }
+    }
+}
+
+/// All elements of a set.
+#[cycle(expression)]
+fn elements(
+    alloc: Global,
+    env: &Env,
+    report: &mut Report,
+    elements: &[Range],
+) -> Result<Option<Elements>, Memory>
+    ensures { IfOk result (λ o. Said (spec.elements_mean env.now elements.now) report.old o report.new) }
+{
+    let mut all = Some(no_elements(alloc));
+    for one in elements {
+        all = joined(alloc, env, report, all, one)?;
+    }
+    Ok(all)
+}
+
+/// An argument that should be a type's name.
+#[cycle(expression)]
+fn typed(alloc: Global, env: &Env, report: &mut Report, of: &Expr) -> Result<Argument, Memory>
+    ensures { IfOk result (λ a. Said (spec.typed_means env.now of.now) report.old a report.new) }
+{
+    match of {
+        Expr::Desig(first, designator) => {
+            let of = reached(alloc, env, report, *first, designator)?;
+            Ok(typed_node(report, *first, of))
+        }
+        _ => {
+            let value = expression(alloc, env, report, of)?;
+            Ok(Argument::Value(value))
+        }
+    }
+}
+
+/// An argument of a call.
+#[cycle(expression)]
+fn argument(
+    alloc: Global,
+    env: &Env,
+    report: &mut Report,
+    asks: bool,
+    of: &Expr,
+) -> Result<Argument, Memory>
+    ensures { IfOk result (λ a. Said (spec.argument_in env.now asks of.now) report.old a report.new) }
+{
+    if asks {
+        let named = typed(alloc, env, report, of)?;
+        Ok(named)
+    } else {
+        let value = expression(alloc, env, report, of)?;
+        Ok(Argument::Value(value))
+    }
+}
+
+/// The arguments of a call.
+#[cycle(expression)]
+fn all_arguments(
+    alloc: Global,
+    env: &Env,
+    report: &mut Report,
+    asked: Asked,
+    of: &[Expr],
+) -> Result<Items<Argument>, Memory>
+    ensures { IfOk result (λ all. Said (spec.arguments_mean env.now asked of.now) report.old all report.new) }
+{
+    let mut all = Items::new(alloc);
+    for one in of {
+        let asks = asks_at(asked, all.len());
+        let more = argument(alloc, env, report, asks, one)?;
+        all.push(more)?;
+    }
+    Ok(all)
+}
+
+/// What an expression means, None where something in it is wrong.
+#[cycle(expression)]
+pub fn expression(
+    alloc: Global,
+    env: &Env,
+    report: &mut Report,
+    of: &Expr,
+) -> Result<Option<Found>, Memory>
+    ensures { IfOk result (λ o. Said (spec.means env.now of.now) report.old o report.new) }
+{
+    match of {
+        Expr::Whole(first, value) => {
+            Ok(Some(constant_found(*first, Kind::Whole(i32::from(*value)))))
+        }
+        Expr::Code(first, code) => Ok(Some(constant_found(
+            *first,
+            Kind::Scalar(CHAR, u16::from(*code)),
+        ))),
+        Expr::Chars(first, text) => Ok(Some(text_found(alloc, *first, text)?)),
+        Expr::SetOf(first, name, ranges) => {
+            let sort = set_sort(env, report, name);
+            let all = elements(alloc, env, report, ranges.as_slice())?;
+            Ok(set_node(&env.types, report, *first, sort, all))
+        }
+        Expr::Desig(first, designator) => {
+            let of = reached(alloc, env, report, *first, designator)?;
+            Ok(value_node(report, of))
+        }
+        Expr::Call(first, designator, actuals) => {
+            let begin = designator.first.place;
+            let of = reached(alloc, env, report, begin, designator)?;
+            let callee = callee_node(report, of);
+            let asked = asks(&callee);
+            let all = all_arguments(alloc, env, report, asked, actuals.as_slice())?;
+            let value = called(alloc, &env.types, report, begin, callee, all)?;
+            Ok(begun_at(*first, value))
+        }
+        Expr::One(first, op, at, operand) => {
+            let a = expression(alloc, env, report, operand.get())?;
+            let value = one_node(alloc, &env.types, report, *first, *op, *at, a)?;
+            Ok(value)
+        }
+        Expr::Chain(first, operand, operations) => {
+            let a = expression(alloc, env, report, operand.get())?;
+            let begin = begun(alloc, a);
+            let chain = operated(alloc, env, report, *first, begin, operations.as_slice())?;
+            let value = chain_found(alloc, *first, chain)?;
+            Ok(value)
+        }
+    }
+}
+
+/// The variable, or part of one, that a designator means. Its form is a value of that place.
+pub fn variable(
+    alloc: Global,
+    env: &Env,
+    report: &mut Report,
+    of: &Designator,
+) -> Result<Option<Found>, Memory>
+    ensures { IfOk result (λ o. Said (spec.variable_means env.now of.now) report.old o report.new) }
+{
+    let begin = of.first.place;
+    let found = reached(alloc, env, report, begin, of)?;
+    Ok(variable_node(report, found))
+}
+
+/// What a call that is a statement means.
+pub fn call(
+    alloc: Global,
+    env: &Env,
+    report: &mut Report,
+    of: &Designator,
+    arguments: &Items<Expr>,
+) -> Result<Option<RStmt>, Memory>
+    ensures { IfOk result (λ o. Said (spec.call_means env.now of.now arguments.now) report.old o report.new) }
+{
+    let begin = of.first.place;
+    let found = reached(alloc, env, report, begin, of)?;
+    let callee = callee_node(report, found);
+    let asked = asks(&callee);
+    let all = all_arguments(alloc, env, report, asked, arguments.as_slice())?;
+    let value = stated(alloc, &env.types, report, begin, callee, all)?;
+    Ok(value)
+}
