@@ -1,0 +1,5 @@
+mod AddedTypes
+mod Blocks
+mod Imports
+mod Residents
+mod UnitFaults

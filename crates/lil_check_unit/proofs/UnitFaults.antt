@@ -1,0 +1,86 @@
+-- What is answered of a unit and of a program, by the classes of their faults.
+use Rattle.std.proofs.Common.{◌≡◌, ℕ, ◌+◌, ◌<◌, ◌≤◌, List, [], ◌∷◌, ◌++◌, Option, Some, None, length, get_or, drop, subst, sym, ap, ◌∙◌, refl}
+use Rattle.std.proofs.lemmas.List.{at_drop_more, at_drop_all}
+use Rattle.lil_text.specs.declared.tree.Ident.{Ident}
+use Rattle.lil_language.specs.declared.unit.Unit.{Unit as Tree}
+use Rattle.lil_language.specs.declared.unit.Import.{Import}
+use Rattle.lil_report.specs.declared.report.Fault.{Fault}
+use Rattle.lil_report.specs.Least.{Reports}
+use Rattle.lil_report.specs.LeastLaws.{reports_tell}
+use Rattle.lil_report.specs.Told.{Said, Stands, tell}
+use Rattle.lil_report.specs.Laws.{said_after, tell_append}
+use Rattle.lil_scope.specs.declared.env.Env.{Env}
+use Rattle.lil_check_decl.specs.Decls.{decls_mean}
+use Rattle.lil_check_stmt.specs.Stmts.{bodies_mean}
+use Rattle.lil_check_unit.specs.declared.surface.Interface.{Interface}
+use Rattle.lil_check_unit.specs.declared.importing.Imported.{Imported}
+use Rattle.lil_check_unit.specs.Interfaces.{residents}
+use Rattle.lil_check_unit.specs.Imports.{nothing_imported, imports_mean, exports_mean}
+use Rattle.lil_check_unit.specs.Units.{first_of, declared, stated, resolved, module_of, worst, imports_fault, program_fault, naming_rows, missing_row, missing_names, missing_by, missing_rows, HasInterfaces}
+
+module _ (u : Tree) (is : List Interface) where
+  pub is_declared : {s s' : Imported} {xs : List Import} {e f : Env} {r a b c : Option Fault} → s ≡ nothing_imported → xs ≡ u.head.imports → Said (imports_mean is s xs) r s' a → Said (decls_mean s'.env u.decls) a e b
+      → Said (exports_mean s'.taken e u.head.exports) b f c → Said (declared is u) r f c
+  unfolding declared
+  is_declared {s = s} {s' = s'} {r = r} {a = a} new these h k l = said_after _ _
+      (subst (λ s. Said (imports_mean is s u.head.imports) r s' a) new (subst (λ xs. Said (imports_mean is s xs) r s' a) these h)) (said_after _ _ k l)
+
+  module _ {r s : Option Fault} {e : Env} (new : r ≡ None) (h : Said (declared is u) r e s) where
+    first_is : s ≡ tell None (declared is u).1
+    first_is = h.told ∙ ap (λ r. tell r (declared is u).1) new
+
+    pub wrong_declarations : {f : Fault} → Some f ≡ s → worst u is ≡ Some f
+    unfolding worst
+    wrong_declarations wrong = ap (λ o. first_of o (tell None (stated is u).1)) (sym (wrong ∙ first_is))
+
+    pub then_statements : None ≡ s → worst u is ≡ tell None (bodies_mean e u.decls u.body).1
+    unfolding worst
+    then_statements fine = ap (λ o. first_of o (tell None (stated is u).1)) (sym (fine ∙ first_is)) ∙ ap (λ e. tell None (bodies_mean e u.decls u.body).1) (sym h.value)
+
+    pub module_is : resolved u.head.name.name e (bodies_mean e u.decls u.body).0 ≡ module_of u is
+    unfolding module_of
+    module_is = ap (λ e. resolved u.head.name.name e (bodies_mean e u.decls u.body).0) h.value
+
+-- ---- imports that have no interface
+tell_nil : (o : Option Fault) → tell o [] ≡ o
+unfolding tell
+tell_nil o = refl
+
+module _ (is : List Interface) (o : Option Fault) where
+  pub next_name : {p : Option Fault} (xs : List Ident) (i : ℕ) (x : Ident) → i < length xs → x ≡ get_or xs i x → p ≡ tell o (missing_row is x ∷ [])
+      → tell p (missing_names is (drop (i + 1) xs)) ≡ tell o (missing_names is (drop i xs))
+  next_name xs i x lt at e = ap (λ o. tell o (missing_names is (drop (i + 1) xs))) e ∙ sym (tell_append o (missing_row is x ∷ []) (missing_names is (drop (i + 1) xs)))
+      ∙ ap (λ y. tell o (missing_row is y ∷ missing_names is (drop (i + 1) xs))) at ∙ sym (at_drop_more (λ xs. tell o (missing_names is xs)) xs i x lt)
+
+  pub all_names : (xs : List Ident) (i : ℕ) → length xs ≤ i → o ≡ tell o (missing_names is (drop i xs))
+  all_names xs i le = sym (at_drop_all (λ xs. tell o (missing_names is xs)) xs i le ∙ tell_nil o)
+
+  pub next_import : {p : Option Fault} (xs : List Import) (i : ℕ) (x : Import) → i < length xs → x ≡ get_or xs i x → p ≡ tell o (missing_by is x.from x.names)
+      → tell p (missing_rows is (drop (i + 1) xs)) ≡ tell o (missing_rows is (drop i xs))
+  next_import xs i x lt at e = ap (λ o. tell o (missing_rows is (drop (i + 1) xs))) e ∙ sym (tell_append o (missing_by is x.from x.names) (missing_rows is (drop (i + 1) xs)))
+      ∙ ap (λ (y : Import). tell o (missing_by is y.from y.names ++ missing_rows is (drop (i + 1) xs))) at ∙ sym (at_drop_more (λ xs. tell o (missing_rows is xs)) xs i x lt)
+
+  pub all_imports : (xs : List Import) (i : ℕ) → length xs ≤ i → o ≡ tell o (missing_rows is (drop i xs))
+  all_imports xs i le = sym (at_drop_all (λ xs. tell o (missing_rows is xs)) xs i le ∙ tell_nil o)
+
+-- ---- a program
+module _ (u : Tree) {is : List Interface} (same : is ≡ residents) where
+  pub wrong_import : {f : Fault} → tell None (missing_rows is u.head.imports) ≡ Some f → imports_fault u ≡ Some f
+  unfolding imports_fault
+  wrong_import h = ap (λ o. first_of o (worst u residents)) (ap (λ is. tell None (missing_rows is u.head.imports)) (sym same) ∙ h)
+
+  pub then_unit : tell None (missing_rows is u.head.imports) ≡ None → imports_fault u ≡ worst u is
+  unfolding imports_fault
+  then_unit h = ap (λ o. first_of o (worst u residents)) (ap (λ is. tell None (missing_rows is u.head.imports)) (sym same) ∙ h) ∙ ap (worst u) (sym same)
+
+module _ (file : List ℕ) (u : Tree) where
+  pub wrong_name : {f : Fault} → tell None (naming_rows file u) ≡ Some f → program_fault file u ≡ Some f
+  unfolding program_fault
+  wrong_name h = ap (λ o. first_of o (imports_fault u)) h
+
+  pub then_imports : tell None (naming_rows file u) ≡ None → program_fault file u ≡ imports_fault u
+  unfolding program_fault
+  then_imports h = ap (λ o. first_of o (imports_fault u)) h
+
+pub has_interfaces : (is : List Interface) (u : Tree) → tell None (missing_rows is u.head.imports) ≡ None → HasInterfaces is u
+has_interfaces is u h = subst (Reports (Stands (missing_rows is u.head.imports))) h (reports_tell (missing_rows is u.head.imports))

@@ -1,0 +1,77 @@
+-- What is declared before a unit's imports: the standard names, in a block around the unit's own.
+use Rattle.std.specs.Prelude.{ℕ, List, [], ◌∷◌, ◌++◌, None, codes}
+use Rattle.lil_types.specs.Types.{boolean}
+use Rattle.lil_module.specs.declared.tree.Standard.TheVariants as s
+use Rattle.lil_scope.specs.declared.thing.Kind.TheVariants as k
+use Rattle.lil_scope.specs.declared.thing.Thing.{Thing}
+use Rattle.lil_scope.specs.declared.thing.Thing.TheVariants as t
+use Rattle.lil_scope.specs.declared.env.Env.{Env}
+use Rattle.lil_scope.specs.Names.{bound_at}
+
+abbrev pub Block : Type 0
+Block = List (List ℕ × Thing)
+
+abbrev pub standard_types : Block
+standard_types =
+    (codes "INTEGER", t.Type 0)
+    ∷ (codes "CARDINAL", t.Type 1)
+    ∷ (codes "BOOLEAN", t.Type 2)
+    ∷ (codes "CHAR", t.Type 3)
+    ∷ (codes "BITSET", t.Type 4)
+    ∷ (codes "PROC", t.Type 5)
+    ∷ []
+
+abbrev pub standard_constants : Block
+standard_constants =
+    (codes "TRUE", t.Constant (k.Scalar boolean 1))
+    ∷ (codes "FALSE", t.Constant (k.Scalar boolean 0))
+    ∷ (codes "NIL", t.Nil)
+    ∷ []
+
+abbrev pub standard_functions : Block
+standard_functions =
+    (codes "ABS", t.Standard s.Abs)
+    ∷ (codes "CAP", t.Standard s.Cap)
+    ∷ (codes "CHR", t.Standard s.Chr)
+    ∷ (codes "HIGH", t.Standard s.High)
+    ∷ (codes "MAX", t.Standard s.Max)
+    ∷ (codes "MIN", t.Standard s.Min)
+    ∷ (codes "ODD", t.Standard s.Odd)
+    ∷ (codes "ORD", t.Standard s.Ord)
+    ∷ (codes "VAL", t.Standard s.Val)
+    ∷ []
+
+abbrev pub standard_procedures : Block
+standard_procedures =
+    (codes "DEC", t.Standard s.Dec)
+    ∷ (codes "EXCL", t.Standard s.Excl)
+    ∷ (codes "HALT", t.Standard s.Halt)
+    ∷ (codes "INC", t.Standard s.Inc)
+    ∷ (codes "INCL", t.Standard s.Incl)
+    ∷ (codes "NEW", t.Standard s.New)
+    ∷ (codes "DISPOSE", t.Standard s.Dispose)
+    ∷ []
+
+abbrev pub standard_names : Block
+standard_names = standard_types ++ standard_constants ++ standard_functions ++ standard_procedures
+
+-- one name more in block 0
+unfoldable pub put : List Block → List ℕ → Thing → List Block
+put bs n t = bound_at bs 0 n t
+
+abbrev pub puts : List Block → Block → List Block
+puts bs [] = bs
+puts bs (e ∷ es) = puts (put bs e.0 e.1) es
+
+-- block 0 has the standard names, and block 1, the unit's own, is at hand and has none yet
+unfoldable pub start : Env
+start = record {
+  scopes = record { blocks = standard_names ∷ [] ∷ []; outer = 0 ∷ []; inner = 1 };
+  types = [];
+  texts = [];
+  variables = [];
+  procedures = [];
+  waits = [];
+  withs = [];
+  procedure = None;
+}

@@ -1,0 +1,121 @@
+-- A unit as a whole: what it is resolved to, and which fault speaks.
+use Rattle.std.specs.Prelude.{◌≡◌, ◌⊎◌, ℕ, Bool, true, false, not, ◌||◌, is_none, List, [], ◌∷◌, ◌++◌, Option, Some, None, codes}
+use Rattle.lil_base.specs.declared.fault.FaultKind.TheVariants.{ReservedModule, FileName, UnitKind, NotBuilt}
+use Rattle.lil_base.specs.declared.fault.SourceFault.{SourceFault}
+use Rattle.lil_base.specs.Faults.{fault}
+use Rattle.lil_text.specs.declared.tree.Ident.{Ident}
+use Rattle.lil_language.specs.declared.unit.Unit.{Unit as Tree}
+use Rattle.lil_language.specs.declared.unit.UnitKind.{UnitKind as Sort}
+use Rattle.lil_language.specs.declared.unit.UnitKind.TheVariants as kind
+use Rattle.lil_language.specs.declared.unit.Import.{Import}
+use Rattle.lil_report.specs.declared.report.Fault.{Fault}
+use Rattle.lil_report.specs.Least.{number, IsLeast}
+use Rattle.lil_report.specs.Told.{Row, row, Stands, after, tell}
+use Rattle.lil_module.specs.declared.declared.RModule.{RModule}
+use Rattle.lil_scope.specs.declared.env.Env.{Env}
+use Rattle.lil_scope.specs.Names.{same}
+use Rattle.lil_check_decl.specs.Decls.{decls_mean}
+use Rattle.lil_check_stmt.specs.Stmts.{bodies_mean}
+use Rattle.lil_check_stmt.specs.declared.stmt.Stated.{Stated}
+use Rattle.lil_check_unit.specs.declared.surface.Interface.{Interface}
+use Rattle.lil_check_unit.specs.Interfaces.{named, residents}
+use Rattle.lil_check_unit.specs.Imports.{nothing_imported, imports_mean, exports_mean}
+
+-- ---- classes: the first one that has a fault speaks
+abbrev pub first_of : Option Fault → Option Fault → Option Fault
+first_of None o = o
+first_of (Some f) o = Some f
+
+-- o is the least fault of the first of these classes that has one, and none where no class has one
+abbrev pub Speaks : List (Fault → Type 0) → Option Fault → Type 0
+Speaks [] o = o ≡ None
+Speaks (C ∷ Cs) o = ((f : Fault) × (o ≡ Some f) × IsLeast C f) ⊎ (((f : Fault) → C f → ⊥) × Speaks Cs o)
+
+-- the fault as it is told
+abbrev pub told : Fault → SourceFault
+told f = fault (number f) f.place
+
+-- ---- class 4: the unit's name and kind
+-- the names of all resident modules, of those that aren't built too
+abbrev pub is_reserved : List ℕ → Bool
+is_reserved n =
+    same n (codes "Terminal")
+    || (same n (codes "InOut")
+    || (same n (codes "FileSystem")
+    || (same n (codes "Storage")
+    || (same n (codes "Program")
+    || (same n (codes "Channels")
+    || same n (codes "SYSTEM"))))))
+
+abbrev pub is_program : Sort → Bool
+is_program kind.Program = true
+is_program kind.Definition = false
+is_program kind.Implementation = false
+
+-- 80 UnitKind: the unit is no program. 76 ReservedModule: it has a resident module's name. 77 FileName: it hasn't its file's name
+abbrev pub naming_rows : List ℕ → Tree → List Row
+naming_rows file u =
+    row (not (is_program u.head.kind)) u.head.place UnitKind
+    ∷ row (is_reserved u.head.name.name) u.head.name.place ReservedModule
+    ∷ row (not (same u.head.name.name file)) u.head.name.place FileName
+    ∷ []
+
+-- ---- class 5. 90 NotBuilt: a module is imported whose interface isn't there
+abbrev pub missing_row : List Interface → Ident → Row
+missing_row is i = row (is_none (named is i.name)) i.place NotBuilt
+
+abbrev pub missing_names : List Interface → List Ident → List Row
+missing_names is [] = []
+missing_names is (i ∷ xs) = missing_row is i ∷ missing_names is xs
+
+abbrev pub missing_by : List Interface → Option Ident → List Ident → List Row
+missing_by is None names = missing_names is names
+missing_by is (Some m) names = missing_row is m ∷ []
+
+abbrev pub missing_rows : List Interface → List Import → List Row
+missing_rows is [] = []
+missing_rows is (x ∷ xs) = missing_by is x.from x.names ++ missing_rows is xs
+
+-- each module that is imported has an interface
+abbrev pub HasInterfaces : List Interface → Tree → Type 0
+HasInterfaces is u = (f : Fault) → Stands (missing_rows is u.head.imports) f → ⊥
+
+-- ---- classes 6 and 7: imported and exported names and declarations, and then statements
+unfoldable pub declared : List Interface → Tree → Env × List Row
+declared is u = after (imports_mean is nothing_imported u.head.imports) (λ s. after (decls_mean s.env u.decls) (λ e. exports_mean s.taken e u.head.exports))
+
+abbrev pub stated : List Interface → Tree → Stated × List Row
+stated is u = bodies_mean (declared is u).0 u.decls u.body
+
+abbrev pub resolved : List ℕ → Env → Stated → RModule
+resolved n e b = record {
+  name = n;
+  types = e.types;
+  texts = e.texts;
+  variables = e.variables;
+  procedures = e.procedures;
+  bodies = b.procedures;
+  body = b.body;
+}
+
+-- what a unit without faults is resolved to
+unfoldable pub module_of : Tree → List Interface → RModule
+module_of u is = resolved u.head.name.name (declared is u).0 (stated is u).0
+
+-- the fault of a unit, of classes 6 and 7
+unfoldable pub worst : Tree → List Interface → Option Fault
+worst u is = first_of (tell None (declared is u).1) (tell None (stated is u).1)
+
+-- the fault of a program, of classes 5 to 7
+unfoldable pub imports_fault : Tree → Option Fault
+imports_fault u = first_of (tell None (missing_rows residents u.head.imports)) (worst u residents)
+
+-- the fault of a program in a file of this name, of classes 4 to 7
+unfoldable pub program_fault : List ℕ → Tree → Option Fault
+program_fault file u = first_of (tell None (naming_rows file u)) (imports_fault u)
+
+abbrev pub ClassesOfUnit : Tree → List Interface → List (Fault → Type 0)
+ClassesOfUnit u is = Stands (declared is u).1 ∷ Stands (stated is u).1 ∷ []
+
+abbrev pub ClassesOfProgram : List ℕ → Tree → List (Fault → Type 0)
+ClassesOfProgram file u = Stands (naming_rows file u) ∷ Stands (missing_rows residents u.head.imports) ∷ ClassesOfUnit u residents

@@ -1,0 +1,131 @@
+ghost use Rattle.std.specs.Prelude.{◌≡◌, ◌∷◌, [], Err, IfOk, None, Some, is_none};
+ghost use Rattle.lil_base.specs.declared.fault.SourceFault.{SourceFault as Told};
+ghost use Rattle.lil_text.specs.declared.stop.ReadStop.TheVariants as stop;
+ghost use Rattle.lil_report.specs.declared.report.Fault.{Fault as Found};
+ghost use Rattle.lil_report.specs.Told.{tell};
+ghost use Rattle.lil_check_unit.specs.Interfaces.{named, residents};
+ghost use Rattle.lil_check_unit.specs.Units as spec;
+
+use crate::checking::{check_module, told};
+use crate::resident_modules::all_resident;
+use crate::surface::{Interfaces, named, same_name, same_text};
+use lil_base::{FaultKind, Name};
+use lil_language::{Import, Unit, UnitKind};
+use lil_module::RModule;
+use lil_report::{Fault, Report};
+use lil_text::{Ident, ReadStop};
+use std::alloc::Global;
+
+fn is_program(kind: UnitKind) -> bool
+    ensures { result ≡ spec.is_program kind }
+{
+    match kind {
+        UnitKind::Program => true,
+        UnitKind::Definition | UnitKind::Implementation => false,
+    }
+}
+
+/// Whether this is the name of a resident module, of one that isn't built too.
+fn is_reserved(name: &[u8]) -> bool
+    ensures { result ≡ spec.is_reserved name.now }
+{
+    same_text(name, b"Terminal")
+        || (same_text(name, b"InOut")
+            || (same_text(name, b"FileSystem")
+                || (same_text(name, b"Storage")
+                    || (same_text(name, b"Program")
+                        || (same_text(name, b"Channels") || same_text(name, b"SYSTEM"))))))
+}
+
+/// The fault of a unit's name or kind, where the file has this name and has to be a program's.
+#[tactic(auto, unfolding(lil_report::specs::Told::tell))]
+fn naming_fault(file: &Name, u: &Unit) -> Option<Fault>
+    ensures { result ≡ tell None (spec.naming_rows file.now u.now) }
+{
+    let mut report = Report::new();
+    let of_program = is_program(u.head.kind);
+    let reserved = is_reserved(u.head.name.name.as_slice());
+    let of_file = same_name(&u.head.name.name, file);
+    report.note(!of_program, u.head.place, FaultKind::UnitKind);
+    report.note(reserved, u.head.name.place, FaultKind::ReservedModule);
+    report.note(!of_file, u.head.name.place, FaultKind::FileName);
+    report.worst()
+}
+
+fn is_missing(interfaces: &Interfaces, name: &Name) -> bool
+    ensures { result ≡ is_none (named interfaces.now name.now) }
+{
+    match named(interfaces.as_slice(), name) {
+        Some(_) => false,
+        None => true,
+    }
+}
+
+/// Tells fault 90 where the interface of an imported module isn't there.
+#[tactic(auto, unfolding(lil_report::specs::Told::tell))]
+fn look_for(interfaces: &Interfaces, report: &mut Report, at: &Ident)
+    ensures { report.new ≡ tell report.old (spec.missing_row interfaces.now at.now ∷ []) }
+{
+    let missing = is_missing(interfaces, &at.name);
+    report.note(missing, at.place, FaultKind::NotBuilt);
+}
+
+fn look_for_all(interfaces: &Interfaces, report: &mut Report, names: &[Ident])
+    ensures { report.new ≡ tell report.old (spec.missing_names interfaces.now names.now) }
+{
+    for at in names {
+        look_for(interfaces, report, at);
+    }
+}
+
+fn look_for_import(interfaces: &Interfaces, report: &mut Report, of: &Import)
+    ensures { report.new ≡ tell report.old (spec.missing_by interfaces.now of.now.from of.now.names) }
+{
+    match &of.from {
+        Some(owner) => look_for(interfaces, report, owner),
+        None => look_for_all(interfaces, report, of.names.as_slice()),
+    }
+}
+
+fn look_for_imports(interfaces: &Interfaces, report: &mut Report, of: &[Import])
+    ensures { report.new ≡ tell report.old (spec.missing_rows interfaces.now of.now) }
+{
+    for one in of {
+        look_for_import(interfaces, report, one);
+    }
+}
+
+/// The fault of a unit's imports: the first module whose interface isn't there.
+fn missing_fault(interfaces: &Interfaces, u: &Unit) -> Option<Fault>
+    ensures { result ≡ tell None (spec.missing_rows interfaces.now u.now.head.imports) }
+{
+    let mut report = Report::new();
+    look_for_imports(interfaces, &mut report, u.head.imports.as_slice());
+    report.worst()
+}
+
+/// The module that a program is, or its fault, where its kind and name are right.
+fn with_imports(alloc: Global, u: &Unit) -> Result<RModule, ReadStop>
+    ensures right { IfOk result (λ m. (m ≡ spec.module_of u.now residents) × (spec.imports_fault u.now ≡ None)) }
+    ensures wrong { (f : Told) → result ≡ Err (stop.Fault f) → (g : Found) × (spec.imports_fault u.now ≡ Some g) × (f ≡ spec.told g) }
+{
+    let interfaces = all_resident(alloc)?;
+    match missing_fault(&interfaces, u) {
+        Some(fault) => Err(told(fault)),
+        None => check_module(alloc, u, &interfaces),
+    }
+}
+
+/// The module that a program is, in the file of this name, or its fault: the unit's kind or name (80, 76, 77), else an import that
+/// isn't there (90), else imported names and declarations, else statements. Of each kind the one at the least place
+/// speaks, and there the one of the least number.
+pub fn check_program(alloc: Global, file: &Name, u: &Unit) -> Result<RModule, ReadStop>
+    ensures right { IfOk result (λ m. (m ≡ spec.module_of u.now residents) × (spec.program_fault file.now u.now ≡ None)) }
+    ensures wrong { (f : Told) → result ≡ Err (stop.Fault f) → (g : Found) × (spec.program_fault file.now u.now ≡ Some g) × (f ≡ spec.told g) }
+    ensures least { spec.Speaks (spec.ClassesOfProgram file.now u.now) (spec.program_fault file.now u.now) }
+{
+    match naming_fault(file, u) {
+        Some(fault) => Err(told(fault)),
+        None => with_imports(alloc, u),
+    }
+}
