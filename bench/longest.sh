@@ -1,6 +1,6 @@
 #!/bin/sh
-# Measures the built program on structured texts of 8,192 bytes, the longest that there are: the wall time from its start to its
-# end, the least of five runs, and the most memory that it held. It prints numbers and judges none.
+# Measures the built program on texts of 8,192 bytes that run, each with one long row: the wall time from its start to its end, the
+# least of five runs, and the most memory that it held. It prints numbers and judges none.
 set -u
 
 top=$(CDPATH= cd "$(dirname "$0")/.." && pwd -P) || exit 1

@@ -1,7 +1,7 @@
 #!/bin/sh
-# Measures how long the built program reads long texts that aren't structured, and how much memory it holds: texts of declarations,
-# procedures and statements mixed, and the longest rows of one kind, each of 65,536, 131,072 and 262,144 bytes. The least wall time
-# of three runs. It prints numbers and judges none.
+# Measures how long the built program reads and checks long texts, and how much memory it holds: texts of declarations, procedures
+# and statements mixed, and the longest rows of one kind, each of 65,536, 131,072 and 262,144 bytes. The least wall time of three
+# runs. It prints numbers, and the answer's line where there is one, and judges none.
 set -u
 
 top=$(CDPATH= cd "$(dirname "$0")/.." && pwd -P) || exit 1

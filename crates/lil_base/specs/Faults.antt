@@ -53,6 +53,10 @@ fault_number NotBuilt = 90
 abbrev pub fault : ℕ → Place → SourceFault
 fault n p = record { number = n; place = p; about = None; first = 0; second = 0 }
 
+-- 64 CodeTooLong, with the number of bytes
+abbrev pub code_too_long : Place → ℕ → SourceFault
+code_too_long p bytes = record { number = 64; place = p; about = None; first = bytes; second = 0 }
+
 -- the name of the fault of a number, where there is one
 abbrev pub fault_name : ℕ → List ℕ
 fault_name n =
@@ -93,9 +97,10 @@ fault_name n =
     else (if n == 60 then codes "ExprDeep"
     else (if n == 61 then codes "DataTooLong"
     else (if n == 62 then codes "TooManyProcs"
+    else (if n == 64 then codes "CodeTooLong"
     else (if n == 65 then codes "TextTooLong"
     else (if n == 76 then codes "ReservedModule"
     else (if n == 77 then codes "FileName"
     else (if n == 80 then codes "UnitKind"
     else (if n == 90 then codes "NotBuilt"
-    else [])))))))))))))))))))))))))))))))))))))))))
+    else []))))))))))))))))))))))))))))))))))))))))))

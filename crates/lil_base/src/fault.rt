@@ -1,5 +1,5 @@
 ghost use Rattle.std.specs.Prelude.{◌≡◌};
-ghost use Rattle.lil_base.specs.Faults.{fault, fault_number, fault_name};
+ghost use Rattle.lil_base.specs.Faults.{fault, fault_number, fault_name, code_too_long};
 
 use crate::Name;
 use thiserror::Error;
@@ -181,6 +181,19 @@ impl SourceFault {
         }
     }
 
+    /// Fault 64, at the name of a unit whose code has so many bytes.
+    pub fn code_too_long(place: Place, bytes: u32) -> SourceFault
+        ensures { result ≡ code_too_long place bytes }
+    {
+        SourceFault {
+            number: 64,
+            place,
+            about: None,
+            first: bytes,
+            second: 0,
+        }
+    }
+
     /// The name under which the fault is told; none for a number of no fault.
     pub fn name(&self) -> &'static [u8]
         ensures { result.now ≡ fault_name self.now.number }
@@ -223,6 +236,7 @@ impl SourceFault {
             60 => b"ExprDeep",
             61 => b"DataTooLong",
             62 => b"TooManyProcs",
+            64 => b"CodeTooLong",
             65 => b"TextTooLong",
             76 => b"ReservedModule",
             77 => b"FileName",

@@ -1,18 +1,20 @@
 -- What constants, variables and headings mean, from what their parts mean.
-use Rattle.std.proofs.Common.{◌≡◌, ℕ, Bool, List, [], Option, Some, None, length, subst, sym, ap, ◌∙◌}
+use Rattle.std.proofs.Common.{◌≡◌, ℕ, Bool, true, List, [], Option, Some, None, length, subst, sym, ap, ◌∙◌}
+use Rattle.lil_base.specs.declared.fault.FaultKind.TheVariants.{NotBuilt}
 use Rattle.lil_text.specs.declared.tree.Ident.{Ident}
 use Rattle.lil_language.specs.declared.unit.Constant.{Constant}
 use Rattle.lil_language.specs.declared.unit.Section.{Section}
 use Rattle.lil_language.specs.declared.unit.Heading.{Heading}
 use Rattle.lil_types.specs.declared.table.TypeForm.{TypeForm}
 use Rattle.lil_report.specs.declared.report.Fault.{Fault}
-use Rattle.lil_report.specs.Told.{Row, after, walk, Said}
+use Rattle.lil_report.specs.Told.{Row, row, noted, after, walk, Said}
 use Rattle.lil_report.specs.Laws.{said_as, said_to, said_after, said_map}
 use Rattle.lil_scope.specs.declared.thing.Thing.{Thing}
 use Rattle.lil_scope.specs.declared.env.Env.{Env}
 use Rattle.lil_scope.specs.Names.{bind, bind_at, with_block}
 use Rattle.lil_kinds.specs.declared.found.Found.{Found}
 use Rattle.lil_check_value.specs.Looks.{type_named}
+use Rattle.lil_check_value.specs.Unbuilt.{said_not_built}
 use Rattle.lil_check_value.specs.Values.{means}
 use Rattle.lil_check_type.specs.declared.named.NamedType.{NamedType}
 use Rattle.lil_check_type.specs.declared.routines.Parameters.{Parameters}
@@ -45,11 +47,11 @@ module _ (e : Env) {r : Option Fault} where
   pub is_name : (k : ℕ) (i : Ident) (o : Option ℕ) {t : Thing} {f g : Env} {s u : Option Fault} → t ≡ procedure_thing k o e → Said (bind e i t) r f u → Said (numbered_node i o f) u g s → Said (named_means k i (e, o)) r g s
   is_name k i o {f = f} {u = u} is h l = said_after _ _ (subst (λ t. Said (bind e i t) r f u) is h) l
 
-  pub is_heading : (h : Heading) (k : ℕ) (ss : List Section) {b : Env} {home : Home} {q : Headed} {m : Made} {f : Env} {s t u : Option Fault} → k ≡ length e.scopes.blocks → b ≡ with_block e → home ≡ home_at b k → ss ≡ h.sections
-      → Said {A = Headed} (walk (section_step home) (b, no_parameters) ss) r q t → Said (heading_type q h) t m u → Said (named_means k h.name m) u f s → Said (heading_means e h) r f s
-  is_heading h k ss {b = b} {home = home} {q = q} {m = m} {f = f} {s = s} {t = t} {u = u} num new is these l n p = said_after _ _
-      (subst (λ k. Said {A = Headed} (walk (section_step (home_at e k)) (with_block e, no_parameters) h.sections) r q t) num
-      (subst (λ b. Said {A = Headed} (walk (section_step (home_at b k)) (b, no_parameters) h.sections) r q t) new
-      (subst (λ home. Said {A = Headed} (walk (section_step home) (b, no_parameters) h.sections) r q t) is
-      (subst (λ ss. Said {A = Headed} (walk (section_step home) (b, no_parameters) ss) r q t) these l))))
-      (said_after _ _ n (subst (λ k. Said (named_means k h.name m) u f s) num p))
+  pub is_heading : (h : Heading) (k : ℕ) (ss : List Section) {b : Env} {home : Home} {q : Headed} {m : Made} {f : Env} {a s t u : Option Fault} → a ≡ noted r (row true h.place NotBuilt) → k ≡ length e.scopes.blocks → b ≡ with_block e → home ≡ home_at b k → ss ≡ h.sections
+      → Said {A = Headed} (walk (section_step home) (b, no_parameters) ss) a q t → Said (heading_type q h) t m u → Said (named_means k h.name m) u f s → Said (heading_means e h) r f s
+  is_heading h k ss {b = b} {home = home} {q = q} {m = m} {f = f} {a = a} {s = s} {t = t} {u = u} note num new is these l n p = said_not_built h.place note (said_after _ _
+      (subst (λ k. Said {A = Headed} (walk (section_step (home_at e k)) (with_block e, no_parameters) h.sections) a q t) num
+      (subst (λ b. Said {A = Headed} (walk (section_step (home_at b k)) (b, no_parameters) h.sections) a q t) new
+      (subst (λ home. Said {A = Headed} (walk (section_step home) (b, no_parameters) h.sections) a q t) is
+      (subst (λ ss. Said {A = Headed} (walk (section_step home) (b, no_parameters) ss) a q t) these l))))
+      (said_after _ _ n (subst (λ k. Said (named_means k h.name m) u f s) num p)))

@@ -12,6 +12,7 @@ use Rattle.lil_scope.specs.declared.thing.Thing.TheVariants as t
 use Rattle.lil_scope.specs.declared.env.Env.{Env}
 use Rattle.lil_scope.specs.Names.{bind, bind_at, with_block, level}
 use Rattle.lil_check_value.specs.Looks.{type_named}
+use Rattle.lil_check_value.specs.Unbuilt.{not_built}
 use Rattle.lil_check_type.specs.declared.routines.Parameters.{Parameters}
 use Rattle.lil_check_type.specs.Made.{Made, form_node}
 use Rattle.lil_check_type.specs.Records.{sort_or}
@@ -84,5 +85,6 @@ sections_mean e h = walk (section_step (home_at e (length e.scopes.blocks))) (wi
 abbrev pub heading_type : Headed → Heading → Made × List Row
 heading_type q h = after (result_means q.0 h.result) (λ n. form_node q.0 h.place (procedure_form q.1 n))
 
+-- 90 NotBuilt
 abbrev pub heading_means : Env → Heading → Env × List Row
-heading_means e h = after (sections_mean e h) (λ q. after (heading_type q h) (named_means (length e.scopes.blocks) h.name))
+heading_means e h = not_built h.place (after (sections_mean e h) (λ q. after (heading_type q h) (named_means (length e.scopes.blocks) h.name)))

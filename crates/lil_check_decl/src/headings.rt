@@ -311,6 +311,7 @@ pub fn heading(
     ensures said { IfOk result (λ n. Said (spec.heading_means env.old of.now) report.old env.new report.new) }
     ensures number { IfOk result (λ n. n ≡ length env.old.scopes.blocks) }
 {
+    report.note(true, of.place, FaultKind::NotBuilt);
     let block = begin(alloc, env)?;
     let home = home_at(env, block);
     let parameters = sections(alloc, env, report, home, of.sections.as_slice())?;

@@ -8,7 +8,7 @@ use crate::labels::{Arms, Labels, labels_of_arm};
 use crate::nodes::{
     Opened, assign, condition, exit, record_of, return_alone, return_value, selector,
 };
-use lil_base::{Items, Memory, Place};
+use lil_base::{FaultKind, Items, Memory, Place};
 use lil_check_value::{call, expression, variable};
 use lil_kinds::{Found, result};
 use lil_language::{Arm, Expr, Guard, Stmt};
@@ -237,6 +237,7 @@ fn statement(
             Ok(counted(count, body))
         }
         Stmt::With(at, designator, body) => {
+            report.note(true, *at, FaultKind::NotBuilt);
             let found = variable(alloc, env, report, designator)?;
             let opened = record_of(&env.types, report, *at, found);
             enter(env, &opened)?;

@@ -19,6 +19,7 @@ use Rattle.lil_scope.specs.declared.env.Env.{Env}
 use Rattle.lil_scope.specs.declared.thing.Thing.{Thing}
 use Rattle.lil_scope.specs.declared.thing.Thing.TheVariants as t
 use Rattle.lil_scope.specs.Names.{find}
+use Rattle.lil_check_value.specs.Unbuilt.{not_built}
 use Rattle.lil_check_type.specs.declared.records.Fields.{Fields}
 use Rattle.lil_check_type.specs.Made.{Made, type_node, form_node}
 use Rattle.lil_check_type.specs.Simple.{simple_means, index_means, set_means}
@@ -113,11 +114,12 @@ variant_layer v n c = after (walk (label_step c.0.0 n) c.1 v.labels) (λ us. aft
 
 abbrev pub sort_layer : Sort-F FieldSense Sense VariantSense → Sense
 sort_layer (o.Scalar x) = record { name = bare_name x; means = λ e. simple_means e x }
-sort_layer (o.ArrayOf p xs y) = record { name = None; means = λ e. array_means e p xs y.means }
-sort_layer (o.RecordOf p fs) = record { name = None; means = λ e. after (fields_by fs (e, no_fields)) (λ q. form_node q.0 p (record_form q.1)) }
-sort_layer (o.SetOver p x) = record { name = None; means = λ e. set_means e p x }
-sort_layer (o.PointerTo p y) = record { name = None; means = pointer_means p y.name y.means }
-sort_layer (o.ProcedureOf p fs q) = record { name = None; means = λ e. procedure_means e p fs q }
+-- 90 NotBuilt, of each of these
+sort_layer (o.ArrayOf p xs y) = record { name = None; means = λ e. not_built p (array_means e p xs y.means) }
+sort_layer (o.RecordOf p fs) = record { name = None; means = λ e. not_built p (after (fields_by fs (e, no_fields)) (λ q. form_node q.0 p (record_form q.1))) }
+sort_layer (o.SetOver p x) = record { name = None; means = λ e. not_built p (set_means e p x) }
+sort_layer (o.PointerTo p y) = record { name = None; means = λ e. not_built p (pointer_means p y.name y.means e) }
+sort_layer (o.ProcedureOf p fs q) = record { name = None; means = λ e. not_built p (procedure_means e p fs q) }
 
 unfoldable pub sense : Sort → Sense
 sense = fold-Sort FieldSense Sense VariantSense field_layer sort_layer variant_layer

@@ -6,7 +6,7 @@ use crate::made::{add_form, add_type};
 use crate::records::{Fields, add_fields, record_form, tag, variant_labels};
 use crate::routines::procedure;
 use crate::simple::{index, set, simple};
-use lil_base::{Items, Memory, Place};
+use lil_base::{FaultKind, Items, Memory, Place};
 use lil_language::{FieldList, Simple, Sort, Variant};
 use lil_report::Report;
 use lil_scope::{Env, Thing, Wait};
@@ -158,24 +158,29 @@ pub fn sort(
             Ok(sort)
         }
         Sort::ArrayOf(place, xs, y) => {
+            report.note(true, *place, FaultKind::NotBuilt);
             let indexes = indexes(alloc, env, report, xs.as_slice())?;
             let element = sort(alloc, env, report, y.get())?;
             let sort = arrays(env, report, *place, indexes, element)?;
             Ok(sort)
         }
         Sort::RecordOf(place, lists) => {
+            report.note(true, *place, FaultKind::NotBuilt);
             let sort = record_of(alloc, env, report, *place, lists.as_slice())?;
             Ok(sort)
         }
         Sort::SetOver(place, x) => {
+            report.note(true, *place, FaultKind::NotBuilt);
             let sort = set(alloc, env, report, *place, x)?;
             Ok(sort)
         }
         Sort::PointerTo(place, y) => {
+            report.note(true, *place, FaultKind::NotBuilt);
             let sort = pointer(alloc, env, report, *place, y.get())?;
             Ok(sort)
         }
         Sort::ProcedureOf(place, formals, outcome) => {
+            report.note(true, *place, FaultKind::NotBuilt);
             let sort = procedure(alloc, env, report, *place, formals.as_slice(), outcome)?;
             Ok(sort)
         }

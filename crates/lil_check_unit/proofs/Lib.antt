@@ -1,5 +1,6 @@
 mod AddedTypes
 mod Blocks
 mod Imports
+mod Limits
 mod Residents
 mod UnitFaults

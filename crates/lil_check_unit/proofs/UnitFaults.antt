@@ -5,10 +5,11 @@ use Rattle.lil_text.specs.declared.tree.Ident.{Ident}
 use Rattle.lil_language.specs.declared.unit.Unit.{Unit as Tree}
 use Rattle.lil_language.specs.declared.unit.Import.{Import}
 use Rattle.lil_report.specs.declared.report.Fault.{Fault}
-use Rattle.lil_report.specs.Least.{Reports}
+use Rattle.lil_report.specs.Least.{now_of, late_of, worse, Reports}
 use Rattle.lil_report.specs.LeastLaws.{reports_tell}
 use Rattle.lil_report.specs.Told.{Said, Stands, tell}
 use Rattle.lil_report.specs.Laws.{said_after, tell_append}
+use Rattle.lil_module.specs.declared.declared.RModule.{RModule}
 use Rattle.lil_scope.specs.declared.env.Env.{Env}
 use Rattle.lil_check_decl.specs.Decls.{decls_mean}
 use Rattle.lil_check_stmt.specs.Stmts.{bodies_mean}
@@ -16,7 +17,7 @@ use Rattle.lil_check_unit.specs.declared.surface.Interface.{Interface}
 use Rattle.lil_check_unit.specs.declared.importing.Imported.{Imported}
 use Rattle.lil_check_unit.specs.Interfaces.{residents}
 use Rattle.lil_check_unit.specs.Imports.{nothing_imported, imports_mean, exports_mean}
-use Rattle.lil_check_unit.specs.Units.{first_of, declared, stated, resolved, module_of, worst, imports_fault, program_fault, naming_rows, missing_row, missing_names, missing_by, missing_rows, HasInterfaces}
+use Rattle.lil_check_unit.specs.Units.{first_of, declared, stated, resolved, module_of, worst, late_fault, last_of, unit_fault, imports_fault, program_fault, naming_rows, missing_row, missing_names, missing_by, missing_rows, data_rows, HasInterfaces}
 
 module _ (u : Tree) (is : List Interface) where
   pub is_declared : {s s' : Imported} {xs : List Import} {e f : Env} {r a b c : Option Fault} → s ≡ nothing_imported → xs ≡ u.head.imports → Said (imports_mean is s xs) r s' a → Said (decls_mean s'.env u.decls) a e b
@@ -29,13 +30,17 @@ module _ (u : Tree) (is : List Interface) where
     first_is : s ≡ tell None (declared is u).1
     first_is = h.told ∙ ap (λ r. tell r (declared is u).1) new
 
-    pub wrong_declarations : {f : Fault} → Some f ≡ s → worst u is ≡ Some f
+    pub wrong_declarations : {f : Fault} → Some f ≡ now_of s → worst u is ≡ Some f
     unfolding worst
-    wrong_declarations wrong = ap (λ o. first_of o (tell None (stated is u).1)) (sym (wrong ∙ first_is))
+    wrong_declarations wrong = ap (λ o. first_of o (now_of (tell None (stated is u).1))) (sym (wrong ∙ ap now_of first_is))
 
-    pub then_statements : None ≡ s → worst u is ≡ tell None (bodies_mean e u.decls u.body).1
+    pub then_statements : None ≡ now_of s → worst u is ≡ now_of (tell None (bodies_mean e u.decls u.body).1)
     unfolding worst
-    then_statements fine = ap (λ o. first_of o (tell None (stated is u).1)) (sym (fine ∙ first_is)) ∙ ap (λ e. tell None (bodies_mean e u.decls u.body).1) (sym h.value)
+    then_statements fine = ap (λ o. first_of o (now_of (tell None (stated is u).1))) (sym (fine ∙ ap now_of first_is)) ∙ ap (λ e. now_of (tell None (bodies_mean e u.decls u.body).1)) (sym h.value)
+
+    pub late_is : worse (late_of s) (late_of (tell None (bodies_mean e u.decls u.body).1)) ≡ late_fault u is
+    unfolding late_fault
+    late_is = λ j. worse (late_of (first_is j)) (late_of (tell None (bodies_mean (h.value j) u.decls u.body).1))
 
     pub module_is : resolved u.head.name.name e (bodies_mean e u.decls u.body).0 ≡ module_of u is
     unfolding module_of
@@ -64,14 +69,30 @@ module _ (is : List Interface) (o : Option Fault) where
   all_imports xs i le = sym (at_drop_all (λ xs. tell o (missing_rows is xs)) xs i le ∙ tell_nil o)
 
 -- ---- a program
+module _ (u : Tree) (m : RModule) (o : Option Fault) where
+  pub wrong_data : {f : Fault} → tell None (data_rows u m) ≡ Some f → last_of u m o ≡ Some f
+  wrong_data h = ap (λ d. first_of d o) h
+
+  pub then_late : tell None (data_rows u m) ≡ None → last_of u m o ≡ o
+  then_late h = ap (λ d. first_of d o) h
+
+module _ (u : Tree) (is : List Interface) where
+  pub wrong_unit : {f : Fault} → worst u is ≡ Some f → unit_fault u is ≡ Some f
+  unfolding unit_fault
+  wrong_unit h = ap (λ o. first_of o (last_of u (module_of u is) (late_fault u is))) h
+
+  pub then_data : {m : RModule} {o : Option Fault} → worst u is ≡ None → m ≡ module_of u is → o ≡ late_fault u is → unit_fault u is ≡ last_of u m o
+  unfolding unit_fault
+  then_data h m o = ap (λ o. first_of o (last_of u (module_of u is) (late_fault u is))) h ∙ (λ j. last_of u (sym m j) (sym o j))
+
 module _ (u : Tree) {is : List Interface} (same : is ≡ residents) where
   pub wrong_import : {f : Fault} → tell None (missing_rows is u.head.imports) ≡ Some f → imports_fault u ≡ Some f
   unfolding imports_fault
-  wrong_import h = ap (λ o. first_of o (worst u residents)) (ap (λ is. tell None (missing_rows is u.head.imports)) (sym same) ∙ h)
+  wrong_import h = ap (λ o. first_of o (unit_fault u residents)) (ap (λ is. tell None (missing_rows is u.head.imports)) (sym same) ∙ h)
 
-  pub then_unit : tell None (missing_rows is u.head.imports) ≡ None → imports_fault u ≡ worst u is
+  pub then_unit : tell None (missing_rows is u.head.imports) ≡ None → imports_fault u ≡ unit_fault u is
   unfolding imports_fault
-  then_unit h = ap (λ o. first_of o (worst u residents)) (ap (λ is. tell None (missing_rows is u.head.imports)) (sym same) ∙ h) ∙ ap (worst u) (sym same)
+  then_unit h = ap (λ o. first_of o (unit_fault u residents)) (ap (λ is. tell None (missing_rows is u.head.imports)) (sym same) ∙ h) ∙ ap (unit_fault u) (sym same)
 
 module _ (file : List ℕ) (u : Tree) where
   pub wrong_name : {f : Fault} → tell None (naming_rows file u) ≡ Some f → program_fault file u ≡ Some f

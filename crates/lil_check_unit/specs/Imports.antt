@@ -1,13 +1,14 @@
 -- What the imports of a unit mean: the names that they bind, and the tests of these names.
 use Rattle.std.specs.Prelude.{ℕ, ◌+◌, ◌==◌, nat_lt, length, Bool, true, false, not, ◌||◌, is_none, List, [], ◌∷◌, ◌++◌, Option, Some, None, if◌then◌else◌}
-use Rattle.lil_base.specs.declared.fault.FaultKind.TheVariants.{Unknown, Twice, NotExported}
+use Rattle.lil_base.specs.declared.fault.FaultKind.TheVariants.{Unknown, Twice, NotExported, NotBuilt}
 use Rattle.lil_text.specs.declared.tree.Ident.{Ident}
 use Rattle.lil_language.specs.declared.unit.Import.{Import}
 use Rattle.lil_report.specs.Told.{Row, row, after, walk}
 use Rattle.lil_scope.specs.declared.env.Env.{Env}
 use Rattle.lil_scope.specs.declared.thing.Thing.{Thing}
 use Rattle.lil_scope.specs.declared.thing.Thing.TheVariants as t
-use Rattle.lil_scope.specs.Names.{same, member, bound_at, with_block, with_blocks}
+use Rattle.lil_scope.specs.Built.{built}
+use Rattle.lil_scope.specs.Names.{same, entry, member, bound_at, with_block, with_blocks}
 use Rattle.lil_check_unit.specs.declared.surface.Interface.{Interface}
 use Rattle.lil_check_unit.specs.declared.importing.Source.{Source}
 use Rattle.lil_check_unit.specs.declared.importing.Source.TheVariants as from
@@ -80,7 +81,7 @@ stands_for_another (Some there) before q x = not (comes_from before q || same_ty
 
 abbrev pub with_taken : Imported → Source → Ident → Thing → Imported
 with_taken s q i x = record {
-  env = with_blocks s.env (bound_at s.env.scopes.blocks s.env.scopes.inner i.name x);
+  env = with_blocks s.env (bound_at s.env.scopes.blocks s.env.scopes.inner i.name (entry x i.place));
   modules = s.modules;
   taken = s.taken ++ record { name = i.name; source = q } ∷ [];
 }
@@ -102,9 +103,16 @@ thing_or_broken (Some t.Hidden) = t.Broken
 thing_or_broken (Some x) = x
 thing_or_broken None = t.Broken
 
--- ---- 20 Unknown: the module has no such name. 22 NotExported: it has the name and doesn't export it
+-- ---- 20 Unknown: the module has no such name. 22 NotExported: it has the name and doesn't export it. 90 NotBuilt: what it
+-- stands for isn't built
 unfoldable pub found_node : Ident → Option Thing → Thing × List Row
-found_node i o = (thing_or_broken o, row (is_none o) i.place Unknown ∷ row (is_hidden o) i.place NotExported ∷ [])
+found_node i o = (
+  thing_or_broken o,
+  row (is_none o) i.place Unknown
+      ∷ row (is_hidden o) i.place NotExported
+      ∷ row (not (built (thing_or_broken o))) i.place NotBuilt
+      ∷ [],
+)
 
 -- a name of the module with block b
 abbrev pub name_step : ℕ → Imported → Ident → Imported × List Row

@@ -13,7 +13,7 @@ use Rattle.lil_scope.specs.declared.thing.Thing.{Thing}
 use Rattle.lil_scope.specs.declared.thing.Thing.TheVariants as t
 use Rattle.lil_scope.specs.Names.{bound_at}
 use Rattle.lil_check_unit.specs.declared.surface.Exported.{Exported}
-use Rattle.lil_check_unit.specs.Standard.{Block}
+use Rattle.lil_check_unit.specs.Standard.{Block, known}
 
 -- ---- numbers: standard ones stay, and own ones move by as many as stood in the table before. No table has the number 65535
 abbrev pub moved : ℕ → ℕ → ℕ
@@ -81,7 +81,7 @@ with_types m s t (e ∷ es) = with_types m s (with_type m s t e) es
 
 -- ---- the names of an interface in a block b
 unfoldable pub with_name : ℕ → ℕ → List Block → Exported → List Block
-with_name s b bs x = bound_at bs b x.name (seen_by s x.shown x.what)
+with_name s b bs x = bound_at bs b x.name (known (seen_by s x.shown x.what))
 
 abbrev pub with_names : ℕ → ℕ → List Block → List Exported → List Block
 with_names s b bs [] = bs

@@ -1,17 +1,29 @@
 -- What is declared before a unit's imports: the standard names, in a block around the unit's own.
-use Rattle.std.specs.Prelude.{ℕ, List, [], ◌∷◌, ◌++◌, None, codes}
+use Rattle.std.specs.Prelude.{ℕ, List, [], ◌∷◌, ◌++◌, map, None, codes}
+use Rattle.lil_base.specs.declared.fault.Place.{Place}
 use Rattle.lil_types.specs.Types.{boolean}
 use Rattle.lil_module.specs.declared.tree.Standard.TheVariants as s
 use Rattle.lil_scope.specs.declared.thing.Kind.TheVariants as k
+use Rattle.lil_scope.specs.declared.thing.Entry.{Entry}
 use Rattle.lil_scope.specs.declared.thing.Thing.{Thing}
 use Rattle.lil_scope.specs.declared.thing.Thing.TheVariants as t
 use Rattle.lil_scope.specs.declared.env.Env.{Env}
-use Rattle.lil_scope.specs.Names.{bound_at}
+use Rattle.lil_scope.specs.Names.{entry, bound_at}
 
 abbrev pub Block : Type 0
-Block = List (List ℕ × Thing)
+Block = List (List ℕ × Entry)
 
-abbrev pub standard_types : Block
+-- names that stand in no text have a place all the same
+abbrev pub text_start : Place
+text_start = record { line = 1; column = 1; offset = 0 }
+
+abbrev pub known : Thing → Entry
+known t = entry t text_start
+
+abbrev pub Things : Type 0
+Things = List (List ℕ × Thing)
+
+abbrev pub standard_types : Things
 standard_types =
     (codes "INTEGER", t.Type 0)
     ∷ (codes "CARDINAL", t.Type 1)
@@ -21,14 +33,14 @@ standard_types =
     ∷ (codes "PROC", t.Type 5)
     ∷ []
 
-abbrev pub standard_constants : Block
+abbrev pub standard_constants : Things
 standard_constants =
     (codes "TRUE", t.Constant (k.Scalar boolean 1))
     ∷ (codes "FALSE", t.Constant (k.Scalar boolean 0))
     ∷ (codes "NIL", t.Nil)
     ∷ []
 
-abbrev pub standard_functions : Block
+abbrev pub standard_functions : Things
 standard_functions =
     (codes "ABS", t.Standard s.Abs)
     ∷ (codes "CAP", t.Standard s.Cap)
@@ -41,7 +53,7 @@ standard_functions =
     ∷ (codes "VAL", t.Standard s.Val)
     ∷ []
 
-abbrev pub standard_procedures : Block
+abbrev pub standard_procedures : Things
 standard_procedures =
     (codes "DEC", t.Standard s.Dec)
     ∷ (codes "EXCL", t.Standard s.Excl)
@@ -52,14 +64,17 @@ standard_procedures =
     ∷ (codes "DISPOSE", t.Standard s.Dispose)
     ∷ []
 
+abbrev pub standard_things : Things
+standard_things = standard_types ++ standard_constants ++ standard_functions ++ standard_procedures
+
 abbrev pub standard_names : Block
-standard_names = standard_types ++ standard_constants ++ standard_functions ++ standard_procedures
+standard_names = map (λ e. (e.0, known e.1)) standard_things
 
 -- one name more in block 0
 unfoldable pub put : List Block → List ℕ → Thing → List Block
-put bs n t = bound_at bs 0 n t
+put bs n t = bound_at bs 0 n (known t)
 
-abbrev pub puts : List Block → Block → List Block
+abbrev pub puts : List Block → Things → List Block
 puts bs [] = bs
 puts bs (e ∷ es) = puts (put bs e.0 e.1) es
 

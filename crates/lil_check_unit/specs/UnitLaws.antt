@@ -1,13 +1,13 @@
 -- The fault that is told of a unit is the least one of the first class that has any.
-use Rattle.std.proofs.Common.{ℕ, List, [], ◌∷◌, Option, Some, None, refl, inl, inr}
+use Rattle.std.proofs.Common.{◌≡◌, ℕ, List, [], ◌∷◌, ◌++◌, Option, Some, None, refl, ap, sym, subst, inl, inr}
 use Rattle.lil_language.specs.declared.unit.Unit.{Unit as Tree}
 use Rattle.lil_report.specs.declared.report.Fault.{Fault}
-use Rattle.lil_report.specs.Least.{Reports}
-use Rattle.lil_report.specs.Told.{Stands}
-use Rattle.lil_report.specs.LeastLaws.{reports_tell}
+use Rattle.lil_report.specs.Least.{now_of, Reports}
+use Rattle.lil_report.specs.Told.{Stands, tell}
+use Rattle.lil_report.specs.LeastLaws.{reports_tell, reports_now, reports_late, reports_worse}
 use Rattle.lil_check_unit.specs.declared.surface.Interface.{Interface}
 use Rattle.lil_check_unit.specs.Interfaces.{residents}
-use Rattle.lil_check_unit.specs.Units.{first_of, Speaks, declared, stated, worst, imports_fault, program_fault, naming_rows, missing_rows, ClassesOfUnit, ClassesOfProgram}
+use Rattle.lil_check_unit.specs.Units.{first_of, Speaks, declared, stated, module_of, worst, unit_fault, imports_fault, program_fault, late_fault, naming_rows, missing_rows, data_rows, Now, Late, LateInUnit, ClassesOfUnit, ClassesOfProgram}
 
 pub speaks_first : (C : Fault → Type 0) (Cs : List (Fault → Type 0)) (a b : Option Fault) → Reports C a → Speaks Cs b → Speaks (C ∷ Cs) (first_of a b)
 speaks_first C Cs None b h k = inr (h, k)
@@ -17,11 +17,50 @@ speaks_last : (C : Fault → Type 0) (a : Option Fault) → Reports C a → Spea
 speaks_last C None h = inr (h, refl)
 speaks_last C (Some f) h = inl (f, refl, h)
 
-pub unit_speaks : (u : Tree) (is : List Interface) → Speaks (ClassesOfUnit u is) (worst u is)
-unfolding worst
-unit_speaks u is = speaks_first _ (Stands (stated is u).1 ∷ []) _ _ (reports_tell (declared is u).1) (speaks_last _ _ (reports_tell (stated is u).1))
+-- classes behind others, where those have no fault
+pub speaks_behind : (Cs Ds : List (Fault → Type 0)) (a b : Option Fault) → Speaks Cs a → (a ≡ None → Speaks Ds b) → Speaks (Cs ++ Ds) (first_of a b)
+speaks_behind [] Ds a b h k = subst (Speaks Ds) (ap (λ o. first_of o b) (sym h)) (k h)
+speaks_behind (C ∷ Cs) Ds a b (inl h) k = inl (h.0, ap (λ o. first_of o b) h.1, h.2)
+speaks_behind (C ∷ Cs) Ds a b (inr h) k = inr (h.0, speaks_behind Cs Ds a b h.1 k)
+
+-- ---- none is the first of two only where both are none
+none_before : (a b : Option Fault) → first_of a b ≡ None → a ≡ None
+none_before None b h = refl
+none_before (Some f) b h = h
+
+none_behind : (a b : Option Fault) → first_of a b ≡ None → b ≡ None
+none_behind None b h = h
+none_behind (Some f) b h = absurd (cc)
+
+module _ (u : Tree) (is : List Interface) where
+  pub unit_speaks : Speaks (ClassesOfUnit u is) (worst u is)
+  unfolding worst
+  unit_speaks = speaks_first _ (Now (stated is u).1 ∷ []) _ _ (reports_now _ _ (reports_tell (declared is u).1)) (speaks_last _ _ (reports_now _ _ (reports_tell (stated is u).1)))
+
+  no_declared : worst u is ≡ None → now_of (tell None (declared is u).1) ≡ None
+  unfolding worst
+  no_declared h = none_before _ _ h
+
+  no_stated : worst u is ≡ None → now_of (tell None (stated is u).1) ≡ None
+  unfolding worst
+  no_stated h = none_behind (now_of (tell None (declared is u).1)) _ h
+
+  late_speaks : worst u is ≡ None → Reports (LateInUnit u is) (late_fault u is)
+  unfolding late_fault
+  late_speaks h = reports_worse (Late (declared is u).1) (Late (stated is u).1) _ _
+      (reports_late (Stands (declared is u).1) _ (reports_tell (declared is u).1) (no_declared h))
+      (reports_late (Stands (stated is u).1) _ (reports_tell (stated is u).1) (no_stated h))
+
+  abbrev WholeClasses : List (Fault → Type 0)
+  WholeClasses = Now (declared is u).1 ∷ Now (stated is u).1 ∷ Stands (data_rows u (module_of u is)) ∷ LateInUnit u is ∷ []
+
+  whole_speaks : Speaks WholeClasses (unit_fault u is)
+  unfolding unit_fault
+  whole_speaks = speaks_behind (ClassesOfUnit u is) (Stands (data_rows u (module_of u is)) ∷ LateInUnit u is ∷ []) (worst u is) _ unit_speaks
+      (λ h. speaks_first _ (LateInUnit u is ∷ []) _ _ (reports_tell (data_rows u (module_of u is))) (speaks_last _ _ (late_speaks h)))
 
 pub program_speaks : (file : List ℕ) (u : Tree) → Speaks (ClassesOfProgram file u) (program_fault file u)
 unfolding program_fault imports_fault
-program_speaks file u = speaks_first _ (Stands (missing_rows residents u.head.imports) ∷ ClassesOfUnit u residents) _ _ (reports_tell (naming_rows file u))
-    (speaks_first _ (ClassesOfUnit u residents) _ _ (reports_tell (missing_rows residents u.head.imports)) (unit_speaks u residents))
+program_speaks file u =
+    speaks_first (Stands (naming_rows file u)) (Stands (missing_rows residents u.head.imports) ∷ WholeClasses u residents) _ (imports_fault u) (reports_tell (naming_rows file u))
+    (speaks_first (Stands (missing_rows residents u.head.imports)) (WholeClasses u residents) _ (unit_fault u residents) (reports_tell (missing_rows residents u.head.imports)) (whole_speaks u residents))

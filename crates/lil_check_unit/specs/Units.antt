@@ -1,6 +1,6 @@
 -- A unit as a whole: what it is resolved to, and which fault speaks.
-use Rattle.std.specs.Prelude.{◌≡◌, ◌⊎◌, ℕ, Bool, true, false, not, ◌||◌, is_none, List, [], ◌∷◌, ◌++◌, Option, Some, None, codes}
-use Rattle.lil_base.specs.declared.fault.FaultKind.TheVariants.{ReservedModule, FileName, UnitKind, NotBuilt}
+use Rattle.std.specs.Prelude.{◌≡◌, ◌⊎◌, ℕ, nat_lt, Bool, true, false, not, ◌||◌, is_none, List, [], ◌∷◌, ◌++◌, Option, Some, None, codes}
+use Rattle.lil_base.specs.declared.fault.FaultKind.TheVariants.{DataTooLong, ReservedModule, FileName, UnitKind, NotBuilt}
 use Rattle.lil_base.specs.declared.fault.SourceFault.{SourceFault}
 use Rattle.lil_base.specs.Faults.{fault}
 use Rattle.lil_text.specs.declared.tree.Ident.{Ident}
@@ -9,11 +9,12 @@ use Rattle.lil_language.specs.declared.unit.UnitKind.{UnitKind as Sort}
 use Rattle.lil_language.specs.declared.unit.UnitKind.TheVariants as kind
 use Rattle.lil_language.specs.declared.unit.Import.{Import}
 use Rattle.lil_report.specs.declared.report.Fault.{Fault}
-use Rattle.lil_report.specs.Least.{number, IsLeast}
+use Rattle.lil_report.specs.Least.{number, is_late, now_of, late_of, worse, IsLeast}
 use Rattle.lil_report.specs.Told.{Row, row, Stands, after, tell}
 use Rattle.lil_module.specs.declared.declared.RModule.{RModule}
 use Rattle.lil_scope.specs.declared.env.Env.{Env}
 use Rattle.lil_scope.specs.Names.{same}
+use Rattle.lil_layout.specs.Data.{data_words}
 use Rattle.lil_check_decl.specs.Decls.{decls_mean}
 use Rattle.lil_check_stmt.specs.Stmts.{bodies_mean}
 use Rattle.lil_check_stmt.specs.declared.stmt.Stated.{Stated}
@@ -80,7 +81,7 @@ missing_rows is (x ∷ xs) = missing_by is x.from x.names ++ missing_rows is xs
 abbrev pub HasInterfaces : List Interface → Tree → Type 0
 HasInterfaces is u = (f : Fault) → Stands (missing_rows is u.head.imports) f → ⊥
 
--- ---- classes 6 and 7: imported and exported names and declarations, and then statements
+-- ---- classes 6 and 7: imported and exported names and declarations, and then statements. A late fault isn't of these classes
 unfoldable pub declared : List Interface → Tree → Env × List Row
 declared is u = after (imports_mean is nothing_imported u.head.imports) (λ s. after (decls_mean s.env u.decls) (λ e. exports_mean s.taken e u.head.exports))
 
@@ -102,20 +103,53 @@ resolved n e b = record {
 unfoldable pub module_of : Tree → List Interface → RModule
 module_of u is = resolved u.head.name.name (declared is u).0 (stated is u).0
 
+abbrev pub Now : List Row → Fault → Type 0
+Now rs f = Stands rs f × (is_late f ≡ false)
+
 -- the fault of a unit, of classes 6 and 7
 unfoldable pub worst : Tree → List Interface → Option Fault
-worst u is = first_of (tell None (declared is u).1) (tell None (stated is u).1)
+worst u is = first_of (now_of (tell None (declared is u).1)) (now_of (tell None (stated is u).1))
 
--- the fault of a program, of classes 5 to 7
+abbrev pub ClassesOfUnit : Tree → List Interface → List (Fault → Type 0)
+ClassesOfUnit u is = Now (declared is u).1 ∷ Now (stated is u).1 ∷ []
+
+-- ---- class 8. 61 DataTooLong: the data of the unit's module have more than 32,000 words
+abbrev pub data_rows : Tree → RModule → List Row
+data_rows u m = row (nat_lt 32000 (data_words m)) u.head.name.place DataTooLong ∷ []
+
+-- ---- class 9: the late faults of declarations and statements
+abbrev pub Late : List Row → Fault → Type 0
+Late rs f = Stands rs f × (is_late f ≡ true)
+
+abbrev pub LateInUnit : Tree → List Interface → Fault → Type 0
+LateInUnit u is f = Late (declared is u).1 f ⊎ Late (stated is u).1 f
+
+unfoldable pub late_fault : Tree → List Interface → Option Fault
+late_fault u is = worse (late_of (tell None (declared is u).1)) (late_of (tell None (stated is u).1))
+
+-- ---- a program
+-- the fault of classes 8 and 9, where m is its module and o its late fault
+abbrev pub last_of : Tree → RModule → Option Fault → Option Fault
+last_of u m o = first_of (tell None (data_rows u m)) o
+
+-- the fault of a program, of classes 6 to 9
+unfoldable pub unit_fault : Tree → List Interface → Option Fault
+unit_fault u is = first_of (worst u is) (last_of u (module_of u is) (late_fault u is))
+
+-- the fault of a program, of classes 5 to 9
 unfoldable pub imports_fault : Tree → Option Fault
-imports_fault u = first_of (tell None (missing_rows residents u.head.imports)) (worst u residents)
+imports_fault u = first_of (tell None (missing_rows residents u.head.imports)) (unit_fault u residents)
 
--- the fault of a program in a file of this name, of classes 4 to 7
+-- the fault of a program in a file of this name, of classes 4 to 9
 unfoldable pub program_fault : List ℕ → Tree → Option Fault
 program_fault file u = first_of (tell None (naming_rows file u)) (imports_fault u)
 
-abbrev pub ClassesOfUnit : Tree → List Interface → List (Fault → Type 0)
-ClassesOfUnit u is = Stands (declared is u).1 ∷ Stands (stated is u).1 ∷ []
-
 abbrev pub ClassesOfProgram : List ℕ → Tree → List (Fault → Type 0)
-ClassesOfProgram file u = Stands (naming_rows file u) ∷ Stands (missing_rows residents u.head.imports) ∷ ClassesOfUnit u residents
+ClassesOfProgram file u =
+    Stands (naming_rows file u)
+    ∷ Stands (missing_rows residents u.head.imports)
+    ∷ Now (declared residents u).1
+    ∷ Now (stated residents u).1
+    ∷ Stands (data_rows u (module_of u residents))
+    ∷ LateInUnit u residents
+    ∷ []

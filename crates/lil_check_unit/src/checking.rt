@@ -2,6 +2,7 @@ ghost use Rattle.std.specs.Prelude.{◌≡◌, IfOk, Err, None, Some};
 ghost use Rattle.lil_base.specs.declared.fault.SourceFault.{SourceFault as Told};
 ghost use Rattle.lil_text.specs.declared.stop.ReadStop.TheVariants as stop;
 ghost use Rattle.lil_report.specs.declared.report.Fault.{Fault as Found};
+ghost use Rattle.lil_report.specs.Least.{now_of, late_of, worse};
 ghost use Rattle.lil_report.specs.Told.{Said, tell};
 ghost use Rattle.lil_check_stmt.specs.Stmts.{bodies_mean};
 ghost use Rattle.lil_check_unit.specs.Imports.{nothing_imported};
@@ -15,7 +16,7 @@ use lil_check_decl::declarations;
 use lil_check_stmt::{Stated, bodies};
 use lil_language::Unit;
 use lil_module::RModule;
-use lil_report::{Fault, Report};
+use lil_report::{Fault, Report, worse};
 use lil_scope::Env;
 use lil_text::ReadStop;
 use std::alloc::Global;
@@ -74,37 +75,70 @@ fn resolved(name: Name, env: Env, stated: Stated) -> RModule
     }
 }
 
+/// A module without faults of names, declarations and statements, and the first form of its unit that isn't built.
+#[derive(Drop)]
+pub(crate) struct Checked {
+    pub module: RModule,
+    pub late: Option<Fault>,
+}
+
 /// The rest of the check where all that is declared is right: the statements.
-fn with_statements(alloc: Global, u: &Unit, declared: Env) -> Result<RModule, ReadStop>
-    ensures right { IfOk result (λ m. (m ≡ spec.resolved u.now.head.name.name declared (bodies_mean declared u.now.decls u.now.body).0)
-        × (tell None (bodies_mean declared u.now.decls u.now.body).1 ≡ None)) }
-    ensures wrong { (f : Told) → result ≡ Err (stop.Fault f) → (g : Found) × (tell None (bodies_mean declared u.now.decls u.now.body).1 ≡ Some g) × (f ≡ spec.told g) }
+fn with_statements(
+    alloc: Global,
+    u: &Unit,
+    declared: Env,
+    late: Option<Fault>,
+) -> Result<Checked, ReadStop>
+    ensures right { IfOk result (λ c. (c.module ≡ spec.resolved u.now.head.name.name declared (bodies_mean declared u.now.decls u.now.body).0)
+        × (now_of (tell None (bodies_mean declared u.now.decls u.now.body).1) ≡ None)
+        × (c.late ≡ worse late (late_of (tell None (bodies_mean declared u.now.decls u.now.body).1)))) }
+    ensures wrong { (f : Told) → result ≡ Err (stop.Fault f) → (g : Found) × (now_of (tell None (bodies_mean declared u.now.decls u.now.body).1) ≡ Some g) × (f ≡ spec.told g) }
 {
     let mut env = declared;
     let mut report = Report::new();
     let stated = bodies(alloc, &mut env, &mut report, &u.decls, &u.body)?;
-    match report.worst() {
+    match report.worst_now() {
         Some(fault) => Err(told(fault)),
         None => {
+            let late = worse(late, report.worst_late());
             let name = u.head.name.name.copy(alloc)?;
-            Ok(resolved(name, env, stated))
+            let module = resolved(name, env, stated);
+            Ok(Checked { module, late })
         }
+    }
+}
+
+/// The module that a unit is, with its first form that isn't built, or its fault of names, declarations and statements. Each
+/// module that is imported has an interface.
+pub(crate) fn check_parts(
+    alloc: Global,
+    u: &Unit,
+    interfaces: &Interfaces,
+) -> Result<Checked, ReadStop>
+    requires { spec.HasInterfaces interfaces.now u.now }
+    ensures right { IfOk result (λ c. (c.module ≡ spec.module_of u.now interfaces.now) × (spec.worst u.now interfaces.now ≡ None)
+        × (c.late ≡ spec.late_fault u.now interfaces.now)) }
+    ensures wrong { (f : Told) → result ≡ Err (stop.Fault f) → (g : Found) × (spec.worst u.now interfaces.now ≡ Some g) × (f ≡ spec.told g) }
+{
+    let mut report = Report::new();
+    let env = declared(alloc, u, interfaces, &mut report)?;
+    match report.worst_now() {
+        Some(fault) => Err(told(fault)),
+        None => with_statements(alloc, u, env, report.worst_late()),
     }
 }
 
 /// The module that a unit is, or its fault of names, declarations and statements. The faults of imported and exported names and of
 /// declarations speak before those of statements, and of each kind the one at the least place, there the one of the least
-/// number. Each module that is imported has an interface.
+/// number. A form that isn't built is no fault here. Each module that is imported has an interface.
 pub fn check_module(alloc: Global, u: &Unit, interfaces: &Interfaces) -> Result<RModule, ReadStop>
     requires { spec.HasInterfaces interfaces.now u.now }
     ensures right { IfOk result (λ m. (m ≡ spec.module_of u.now interfaces.now) × (spec.worst u.now interfaces.now ≡ None)) }
     ensures wrong { (f : Told) → result ≡ Err (stop.Fault f) → (g : Found) × (spec.worst u.now interfaces.now ≡ Some g) × (f ≡ spec.told g) }
     ensures least { spec.Speaks (spec.ClassesOfUnit u.now interfaces.now) (spec.worst u.now interfaces.now) }
 {
-    let mut report = Report::new();
-    let env = declared(alloc, u, interfaces, &mut report)?;
-    match report.worst() {
-        Some(fault) => Err(told(fault)),
-        None => with_statements(alloc, u, env),
+    match check_parts(alloc, u, interfaces) {
+        Ok(checked) => Ok(checked.module),
+        Err(stop) => Err(stop),
     }
 }

@@ -9,7 +9,7 @@ use crate::surface::{Interface, Interfaces, named, same_name};
 use lil_base::{FaultKind, Items, Memory, Name};
 use lil_language::Import;
 use lil_report::Report;
-use lil_scope::{Env, Thing, find_in};
+use lil_scope::{Entry, Env, Thing, find_in, is_built};
 use lil_text::Ident;
 use std::alloc::Global;
 
@@ -209,11 +209,15 @@ fn take(
     let before = source_of(so_far.taken.as_slice(), &at.name);
     let another = stands_for_another(there, before, from, thing);
     report.note(another, at.place, FaultKind::Twice);
+    let entry = Entry {
+        thing,
+        place: at.place,
+    };
     so_far
         .env
         .scopes
         .blocks
-        .declare(alloc, inner, &at.name, thing)?;
+        .declare(alloc, inner, &at.name, entry)?;
     so_far.taken.push(Taken {
         name: at.name.copy(alloc)?,
         source: from,
@@ -240,14 +244,17 @@ fn thing_or_broken(of: Option<Thing>) -> Thing
     }
 }
 
-/// What a module's name stands for. Where there is none, that is fault 20, and where it isn't exported 22.
+/// What a module's name stands for. Where there is none, that is fault 20, where it isn't exported 22, and where it isn't
+/// built 90.
 #[tactic(auto, unfolding(crate::specs::Imports::found_node, lil_report::specs::Told::tell))]
 fn found(report: &mut Report, at: &Ident, of: Option<Thing>) -> Thing
     ensures { Said (spec.found_node at.now of) report.old result report.new }
 {
     report.note(of.is_none(), at.place, FaultKind::Unknown);
     report.note(is_hidden(of), at.place, FaultKind::NotExported);
-    thing_or_broken(of)
+    let thing = thing_or_broken(of);
+    report.note(!is_built(thing), at.place, FaultKind::NotBuilt);
+    thing
 }
 
 /// A name of the module with this block.

@@ -1,6 +1,7 @@
 ghost use Rattle.std.specs.Prelude.{◌≡◌, IfOk, map, slice_get};
 ghost use Rattle.lil_check_unit.specs.Moving as spec;
 
+use crate::standard::known;
 use crate::surface::Exported;
 use lil_base::{Items, Memory, Name};
 use lil_scope::{Blocks, Kind, Routine, Thing, Variable};
@@ -236,7 +237,8 @@ fn add_name(
 ) -> Result<(), Memory>
     ensures { IfOk result (λ u. to.new ≡ spec.with_name start block to.old of.now) }
 {
-    to.declare(alloc, block, &of.name, seen_by(start, of.shown, of.what))?;
+    let seen = seen_by(start, of.shown, of.what);
+    to.declare(alloc, block, &of.name, known(seen))?;
     Ok(())
 }
 

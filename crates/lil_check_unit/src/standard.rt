@@ -4,14 +4,26 @@ ghost use Rattle.lil_scope.specs.declared.thing.Thing.TheVariants as t;
 ghost use Rattle.lil_check_unit.specs.Standard as spec;
 
 use crate::surface::literal;
-use lil_base::{Items, Memory};
+use lil_base::{Items, Memory, Place};
 use lil_module::Standard;
-use lil_scope::{Blocks, Env, Kind, Scopes, Thing, Withs};
+use lil_scope::{Blocks, Entry, Env, Kind, Scopes, Thing, Withs};
 use lil_types::{BITSET, BOOLEAN, CARDINAL, CHAR, INTEGER, TypeId, TypeTable};
 use std::alloc::Global;
 
 /// PROC, the procedures without parameters.
 const PROC: TypeId = 5;
+
+/// What a name stands for that stands in no text.
+pub(crate) fn known(thing: Thing) -> Entry
+    ensures { result ≡ spec.known thing }
+{
+    let place = Place {
+        line: 1,
+        column: 1,
+        offset: 0,
+    };
+    Entry { thing, place }
+}
 
 /// One name more in block 0.
 #[tactic(auto, unfolding(crate::specs::Standard::put))]
@@ -20,7 +32,7 @@ fn put(alloc: Global, blocks: &mut Blocks, name: &[u8], thing: Thing) -> Result<
     ensures { IfOk result (λ u. blocks.new ≡ spec.put blocks.old name.now thing) }
 {
     let name = literal(alloc, name)?;
-    blocks.declare(alloc, 0, &name, thing)?;
+    blocks.declare(alloc, 0, &name, known(thing))?;
     Ok(())
 }
 

@@ -17,7 +17,7 @@ use Rattle.lil_check_value.specs.Looks.{look, module_node, member_type, type_by,
 use Rattle.lil_check_value.specs.Sets.{sort_node, set_sort, elements_tally, set_end, set_of}
 
 module _ {r s t : Option Fault} where
-  pub is_qualified : (e : Env) (q : Qualident) (m : Ident) {l : Looked} {b a : Option ℕ} → q.owner ≡ Some m → l ≡ look e m.name → Said (module_node m.place l) r b s → Said (member_type e q.name b) s a t
+  pub is_qualified : (e : Env) (q : Qualident) (m : Ident) {l : Looked} {b a : Option ℕ} → q.owner ≡ Some m → l ≡ look e m.name → Said (module_node m.place l) r b s → Said (member_type e m.place q.name b) s a t
       → Said (type_named e q) r a t
   unfolding type_named
   is_qualified e q m {b = b} is found h g = said_as (ap (λ o. type_by e o q.name) is) (said_after _ _ (subst (λ l. Said (module_node m.place l) r b s) found h) g)

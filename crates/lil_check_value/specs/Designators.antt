@@ -2,7 +2,7 @@
 use Rattle.std.specs.Prelude.{ℕ, ◌-◌, ◌==◌, is_none, Bool, true, false, not, ◌&&◌, List, [], ◌∷◌, ◌++◌, Option, Some, None, if◌then◌else◌}
 use Rattle.lil_base.specs.declared.fault.Place.{Place}
 use Rattle.lil_base.specs.declared.fault.FaultKind.{FaultKind}
-use Rattle.lil_base.specs.declared.fault.FaultKind.TheVariants.{Unknown, NotExported, WrongKind, Assign, NotArray, NotRecord, NotPointer, NoField, Opaque, ConstRange, ExprDeep}
+use Rattle.lil_base.specs.declared.fault.FaultKind.TheVariants.{Unknown, NotExported, WrongKind, Assign, NotArray, NotRecord, NotPointer, NoField, Opaque, ConstRange, ExprDeep, NotBuilt}
 use Rattle.lil_text.specs.declared.tree.Ident.{Ident}
 use Rattle.lil_types.specs.Types.{Table, cardinal, char}
 use Rattle.lil_module.specs.declared.declared.Mode.{Mode}
@@ -32,7 +32,7 @@ use Rattle.lil_check_value.specs.declared.designators.Named.{Named}
 use Rattle.lil_check_value.specs.declared.designators.Reached.{Reached}
 use Rattle.lil_check_value.specs.declared.designators.Reached.TheVariants as reached
 use Rattle.lil_check_value.specs.Depths.{raised}
-use Rattle.lil_check_value.specs.Looks.{look, looked_as, is_nothing, is_hidden}
+use Rattle.lil_check_value.specs.Looks.{look, looked_as, is_nothing, is_hidden, is_built_name}
 
 abbrev pub Reaches : Type 0
 Reaches = Option Reached × List Row
@@ -78,12 +78,17 @@ looked_reached here p q Nothing = None
 looked_reached here p q (Field w f s) = Some (reached.Part (whole_part p q (root.Field w f) (k.Of s)))
 looked_reached here p q (Declared x) = thing_reached here p q x
 
--- a name at q in a designator that begins at p
-unfoldable pub name_node : ℕ → Place → Place → Looked → Reaches
-name_node here p q l = (looked_reached here p q l, row (is_nothing l) q Unknown ∷ row (is_hidden l) q NotExported ∷ [])
+-- a name at q in a designator that begins at p; where it is one of a module, the module's name stands at another place
+unfoldable pub name_node : ℕ → Place → Place → Place → Looked → Reaches
+name_node here p at q l = (
+  looked_reached here p q l,
+  row (is_nothing l) q Unknown ∷ row (is_hidden l) q NotExported
+      -- 90 NotBuilt
+      ∷ row (not (is_built_name l)) at NotBuilt ∷ [],
+)
 
 abbrev pub root_means : Env → Place → Ident → Reaches
-root_means e p x = name_node (level e) p x.place (look e x.name)
+root_means e p x = name_node (level e) p x.place x.place (look e x.name)
 
 -- ---- selectors on what is no variable
 -- types and modules can't stand there, whatever is selected
@@ -131,7 +136,7 @@ module_block _ = None
 
 -- a name of a module is looked up there
 abbrev pub other_field_by : Env → Place → Ident → Named → Option ℕ → Reaches
-other_field_by e dot x o (Some b) = name_node (level e) o.first x.place (looked_as (member e.scopes b x.name))
+other_field_by e dot x o (Some b) = name_node (level e) o.first o.name x.place (looked_as (member e.scopes b x.name))
 other_field_by e dot x o None = (None, refused_rows o dot NotRecord)
 
 unfoldable pub other_field : Env → Place → Ident → Named → Reaches

@@ -3,5 +3,6 @@ pub mod Designators
 pub mod Looks
 pub mod Operations
 pub mod Sets
+pub mod Unbuilt
 pub mod Uses
 pub mod Values

@@ -1,7 +1,7 @@
 -- What names mean where they stand.
-use Rattle.std.specs.Prelude.{ℕ, ◌+◌, Bool, true, false, List, [], ◌∷◌, Option, Some, None}
+use Rattle.std.specs.Prelude.{ℕ, ◌+◌, Bool, true, false, not, List, [], ◌∷◌, Option, Some, None}
 use Rattle.lil_base.specs.declared.fault.Place.{Place}
-use Rattle.lil_base.specs.declared.fault.FaultKind.TheVariants.{Unknown, NotExported, WrongKind}
+use Rattle.lil_base.specs.declared.fault.FaultKind.TheVariants.{Unknown, NotExported, WrongKind, NotBuilt}
 use Rattle.lil_text.specs.declared.tree.Ident.{Ident}
 use Rattle.lil_text.specs.declared.tree.Qualident.{Qualident}
 use Rattle.lil_types.specs.Types.{Table}
@@ -9,6 +9,7 @@ use Rattle.lil_report.specs.Told.{Row, row, after}
 use Rattle.lil_scope.specs.declared.thing.Thing.{Thing}
 use Rattle.lil_scope.specs.declared.thing.Thing.TheVariants as t
 use Rattle.lil_scope.specs.declared.env.Env.{Env}
+use Rattle.lil_scope.specs.Built.{built}
 use Rattle.lil_scope.specs.Names.{find, member}
 use Rattle.lil_kinds.specs.declared.forms.FieldAt.{FieldAt}
 use Rattle.lil_kinds.specs.Forms.{field}
@@ -88,22 +89,33 @@ abbrev pub module_of : Looked → Option ℕ
 module_of (Declared (t.Module k)) = Some k
 module_of _ = None
 
--- a name where a type's name is needed
-unfoldable pub type_node : Place → Looked → Option ℕ × List Row
-type_node p l = (type_of l, row (is_nothing l) p Unknown ∷ row (is_hidden l) p NotExported ∷ row (no_type l) p WrongKind ∷ [])
+-- ---- 90 NotBuilt: no program with this name may run
+abbrev pub is_built_name : Looked → Bool
+is_built_name Nothing = true
+is_built_name (Field w f s) = true
+is_built_name (Declared x) = built x
+
+-- a name at p where a type's name is needed; the whole name begins at another place, where its module's name stands before it
+unfoldable pub type_node : Place → Place → Looked → Option ℕ × List Row
+type_node at p l = (
+  type_of l,
+  row (is_nothing l) p Unknown ∷ row (is_hidden l) p NotExported ∷ row (no_type l) p WrongKind
+      -- 90 NotBuilt
+      ∷ row (not (is_built_name l)) at NotBuilt ∷ [],
+)
 
 -- a name where a module's name is needed
 unfoldable pub module_node : Place → Looked → Option ℕ × List Row
 module_node p l = (module_of l, row (is_nothing l) p Unknown ∷ row (is_hidden l) p NotExported ∷ row (no_module l) p WrongKind ∷ [])
 
--- a name of a module where a type's name is needed
-abbrev pub member_type : Env → Ident → Option ℕ → Option ℕ × List Row
-member_type e x None = (None, [])
-member_type e x (Some k) = type_node x.place (looked_as (member e.scopes k x.name))
+-- a name of a module, whose own name stands at a place, where a type's name is needed
+abbrev pub member_type : Env → Place → Ident → Option ℕ → Option ℕ × List Row
+member_type e at x None = (None, [])
+member_type e at x (Some k) = type_node at x.place (looked_as (member e.scopes k x.name))
 
 abbrev pub type_by : Env → Option Ident → Ident → Option ℕ × List Row
-type_by e None x = type_node x.place (look e x.name)
-type_by e (Some m) x = after (module_node m.place (look e m.name)) (member_type e x)
+type_by e None x = type_node x.place x.place (look e x.name)
+type_by e (Some m) x = after (module_node m.place (look e m.name)) (member_type e m.place x)
 
 unfoldable pub type_named : Env → Qualident → Option ℕ × List Row
 type_named e q = type_by e q.owner q.name

@@ -4,7 +4,7 @@ ghost use Rattle.lil_scope.specs.Names.{level as level_of};
 ghost use Rattle.lil_check_value.specs.Designators as spec;
 
 use crate::depths::raised;
-use crate::names::{Looked, is_hidden, is_nothing, look, looked_as};
+use crate::names::{Looked, is_built_name, is_hidden, is_nothing, look, looked_as};
 use lil_base::{FaultKind, Items, Memory, Name, Place};
 use lil_kinds::{
     ArrayParts, FieldAt, Found, Standing, array_parts, assignable, field, is_opaque, is_record,
@@ -133,20 +133,22 @@ fn looked_reached(
     }
 }
 
-/// A name in a designator.
+/// A name in a designator. With that of its module it begins at `at`.
 #[tactic(auto, unfolding(crate::specs::Designators::name_node, lil_report::specs::Told::tell))]
 fn name_node(
     alloc: Global,
     report: &mut Report,
     here: usize,
     first: Place,
+    at: Place,
     name: Place,
     of: Looked,
 ) -> Option<Reached>
-    ensures { Said (spec.name_node here first name of) report.old result report.new }
+    ensures { Said (spec.name_node here first at name of) report.old result report.new }
 {
     report.note(is_nothing(of), name, FaultKind::Unknown);
     report.note(is_hidden(of), name, FaultKind::NotExported);
+    report.note(!is_built_name(of), at, FaultKind::NotBuilt);
     looked_reached(alloc, here, first, name, of)
 }
 
@@ -171,6 +173,7 @@ pub(crate) fn root(
         report,
         level(env),
         first,
+        of.place,
         of.place,
         look(env, &of.name),
     )
@@ -286,6 +289,7 @@ fn other_field(
             report,
             level(env),
             of.first,
+            of.name,
             name.place,
             looked_as(find_in(&env.scopes, block, &name.name)),
         ),

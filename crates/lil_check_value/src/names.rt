@@ -5,7 +5,7 @@ ghost use Rattle.lil_check_value.specs.Looks as spec;
 use lil_base::{FaultKind, Name, Place};
 use lil_kinds::{FieldAt, field};
 use lil_report::Report;
-use lil_scope::{Env, Thing, find_in};
+use lil_scope::{Env, Thing, find_in, is_built};
 use lil_text::{Ident, Qualident};
 use lil_types::{TypeId, TypeTable};
 
@@ -150,14 +150,26 @@ fn module_of(of: Looked) -> Option<usize>
     }
 }
 
-/// A name where a type's name is needed.
+/// Whether programs with this name may run.
+pub(crate) fn is_built_name(of: Looked) -> bool
+    ensures { result ≡ spec.is_built_name of }
+{
+    match of {
+        Looked::Nothing => true,
+        Looked::Field(_, _, _) => true,
+        Looked::Thing(thing) => is_built(thing),
+    }
+}
+
+/// A name where a type's name is needed. The whole name begins at `first`.
 #[tactic(auto, unfolding(crate::specs::Looks::type_node, lil_report::specs::Told::tell))]
-fn type_node(report: &mut Report, at: Place, of: Looked) -> Option<TypeId>
-    ensures { Said (spec.type_node at of) report.old result report.new }
+fn type_node(report: &mut Report, first: Place, at: Place, of: Looked) -> Option<TypeId>
+    ensures { Said (spec.type_node first at of) report.old result report.new }
 {
     report.note(is_nothing(of), at, FaultKind::Unknown);
     report.note(is_hidden(of), at, FaultKind::NotExported);
     report.note(no_type(of), at, FaultKind::WrongKind);
+    report.note(!is_built_name(of), first, FaultKind::NotBuilt);
     type_of(of)
 }
 
@@ -172,15 +184,23 @@ fn module_node(report: &mut Report, at: Place, of: Looked) -> Option<usize>
     module_of(of)
 }
 
-/// A name of a module, by the number of the module's block, where a type's name is needed.
+/// A name of a module, by the number of the module's block, where a type's name is needed. The module's own name stands at
+/// `first`.
 #[tactic(auto, unfolding(lil_report::specs::Told::tell))]
-fn member_type(env: &Env, report: &mut Report, of: &Ident, block: Option<usize>) -> Option<TypeId>
-    ensures { Said (spec.member_type env.now of.now block) report.old result report.new }
+fn member_type(
+    env: &Env,
+    report: &mut Report,
+    first: Place,
+    of: &Ident,
+    block: Option<usize>,
+) -> Option<TypeId>
+    ensures { Said (spec.member_type env.now first of.now block) report.old result report.new }
 {
     match block {
         None => None,
         Some(block) => type_node(
             report,
+            first,
             of.place,
             looked_as(find_in(&env.scopes, block, &of.name)),
         ),
@@ -193,10 +213,15 @@ pub fn type_named(env: &Env, report: &mut Report, of: &Qualident) -> Option<Type
     ensures { Said (spec.type_named env.now of.now) report.old result report.new }
 {
     match &of.owner {
-        None => type_node(report, of.name.place, look(env, &of.name.name)),
+        None => type_node(
+            report,
+            of.name.place,
+            of.name.place,
+            look(env, &of.name.name),
+        ),
         Some(owner) => {
             let block = module_node(report, owner.place, look(env, &owner.name));
-            member_type(env, report, &of.name, block)
+            member_type(env, report, owner.place, &of.name, block)
         }
     }
 }

@@ -9,7 +9,7 @@ use crate::sets::{Elements, joined_one, joined_range, no_elements, set_node, set
 use crate::uses::{
     callee_node, constant_found, plain_found, typed_node, value_node, variable_node,
 };
-use lil_base::{Items, Memory, Place, Text};
+use lil_base::{FaultKind, Items, Memory, Place, Text};
 use lil_call::{Argument, called, stated};
 use lil_kinds::Found;
 use lil_language::{Designator, Expr, Operation, Range, Selector};
@@ -285,6 +285,7 @@ pub fn expression(
         ))),
         Expr::Chars(first, text) => Ok(Some(text_found(alloc, *first, text)?)),
         Expr::SetOf(first, name, ranges) => {
+            report.note(true, *first, FaultKind::NotBuilt);
             let sort = set_sort(env, report, name);
             let all = elements(alloc, env, report, ranges.as_slice())?;
             Ok(set_node(&env.types, report, *first, sort, all))

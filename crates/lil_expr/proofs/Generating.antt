@@ -1,5 +1,5 @@
 -- The code of expressions, form by form.
-use Rattle.std.proofs.Common.{◌≡◌, ℕ, ◌+◌, true, Some, None, List, ◌++◌, length, refl, ap, ◌∙◌, subst, arith, Bool, false}
+use Rattle.std.proofs.Common.{◌≡◌, ℕ, ◌+◌, ◌≤◌, true, Some, None, List, ◌++◌, length, length-append, refl, ap, ◌∙◌, subst, arith, Bool, false}
 use Rattle.lil_base.specs.Words.{Whole, Cardinal, Integer}
 use Rattle.lil_base.specs.declared.operator.OneOp.{OneOp}
 use Rattle.lil_base.specs.declared.operator.OneOp.TheVariants as one
@@ -28,6 +28,9 @@ sound_one : (o : OneOp) (k : Kind) → IsCode (one_code o k) (one_size o)
 sound_one one.Plus k = record { say = tt; long = refl }
 sound_one _ k = record { say = (tt, tt); long = refl }
 
+pub one_long : (o : OneOp) (k : Kind) → length (all_bytes (one_code o k)) ≡ one_size o
+one_long o k = (sound_one o k).long
+
 -- the kind chooses no code of these
 one_same : (o : OneOp) (k j : Kind) → one_code o k ≡ one_code o j
 one_same one.Plus k j = refl
@@ -51,6 +54,9 @@ two_same Equal k = refl
 two_same _ k = refl
 
 -- ---- expressions
+pub bytes_more : (n : ℕ) (old new bytes : List ℕ) → new ≡ old ++ bytes → length bytes ≡ n → length new ≤ length old + n
+bytes_more n old new bytes e h = omega (arith, ap length e, length-append old bytes)
+
 pub constant_emitted : (k : Kind) (v : Scalar) (old new : List ℕ) → new ≡ old ++ bytes_of (Liw (scalar_word v)) → EmitsExpression old new (Constant k v)
 constant_emitted k v old new e l n plain sound =
     emits_as old new 3 3 _ _ refl (λ final load. record { fits = sound; load = load }) (emits_instr old new (Liw (scalar_word v)) tt e)

@@ -1,12 +1,14 @@
 -- What the generator of expressions adds to a code.
-use Rattle.std.specs.Prelude.{◌≡◌, ℕ, ◌<◌, List, Option, Some, None, slice_get}
+use Rattle.std.specs.Prelude.{◌≡◌, ℕ, ◌+◌, ◌<◌, Bool, true, false, ◌&&◌, List, [], ◌∷◌, map, Option, Some, None, slice_get}
 use Rattle.lil_base.specs.Words as words
 use Rattle.lil_base.specs.Words.{Whole, Cardinal}
 use Rattle.lil_base.specs.declared.operator.TwoOp.{TwoOp}
-use Rattle.lil_base.specs.declared.operator.TwoOp.TheVariants.{Or, And}
+use Rattle.lil_base.specs.declared.operator.TwoOp.TheVariants.{Plus, Minus, Or, Times, Slash, Div, Mod, And}
+use Rattle.lil_resolved.specs.declared.resolved.ROperation.{ROperation, out-ROperation}
 use Rattle.lil_resolved.specs.Kinds.{OfWhole}
 use Rattle.lil_resolved.specs.Resolved.{Expression}
 use Rattle.lil_resolved.specs.Sizes.{two_size, size, IsSoundExpression}
+use Rattle.lil_resolved.specs.Views.{chained, expression_of, operation_of}
 use Rattle.lil_asm.specs.declared.instr.Instr.{Instr}
 use Rattle.lil_asm.specs.declared.instr.Instr.TheVariants.{Jan, Jor}
 use Rattle.lil_expr.specs.declared.expressions.WholeType.{WholeType}
@@ -24,6 +26,28 @@ operator_size And = 3
 operator_size Or = 3
 operator_size o = two_size o
 
+-- how many bytes an operation adds to those of the value before it, and operations
+abbrev pub operation_size : ROperation → ℕ
+operation_size o = size (expression_of (out-ROperation o).operand) + operator_size (out-ROperation o).operator
+
+abbrev pub operations_size : List ROperation → ℕ
+operations_size [] = 0
+operations_size (o ∷ os) = operation_size o + operations_size os
+
+-- an operator whose value is of the kind of its operands
+abbrev pub is_arithmetic : TwoOp → Bool
+is_arithmetic Plus = true
+is_arithmetic Minus = true
+is_arithmetic Times = true
+is_arithmetic Slash = true
+is_arithmetic Div = true
+is_arithmetic Mod = true
+is_arithmetic _ = false
+
+abbrev pub all_arithmetic : List ROperation → Bool
+all_arithmetic [] = true
+all_arithmetic (o ∷ os) = is_arithmetic (out-ROperation o).operator && all_arithmetic os
+
 -- the jump over the right operand, where the left one may decide
 abbrev pub jump_of : TwoOp → ℕ → Option Instr
 jump_of And end = Some (Jan end)
@@ -38,3 +62,10 @@ pub record IsPlain (l : Layout) (n : ℕ) : Type 0 where
 -- In any plain layout that the expression is sound over, what was added is its code.
 abbrev pub EmitsExpression : List ℕ → List ℕ → Expression → Type 0
 EmitsExpression old new e = (l : Layout) (v : ℕ) → IsPlain l v → IsSoundExpression v e → Emits old new (size e) (λ final. ExpressionAt l final e)
+
+-- Behind the code of any value that it begins with, what was added makes it that of the operation's value, or of the last.
+abbrev pub EmitsOperation : List ℕ → List ℕ → ROperation → Type 0
+EmitsOperation old new o = (start : List ℕ) (a : Expression) → EmitsExpression start old a → EmitsExpression start new (operation_of o a)
+
+abbrev pub EmitsOperations : List ℕ → List ℕ → List ROperation → Type 0
+EmitsOperations old new os = (start : List ℕ) (a : Expression) → EmitsExpression start old a → EmitsExpression start new (chained a (map operation_of os))

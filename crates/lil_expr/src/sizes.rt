@@ -1,14 +1,14 @@
-//! How many bytes the code of an expression takes.
+//! How many bytes the code of an expression takes, counted up to 4,294,967,295.
 
-ghost use Rattle.std.specs.Prelude.{◌≡◌, ◌≤◌};
+ghost use Rattle.std.specs.Prelude.{◌≡◌, min};
 ghost use Rattle.lil_resolved.specs.Sizes as spec;
 ghost use Rattle.lil_resolved.specs.Views as view;
 ghost use Rattle.lil_expr.specs.Generating as emitted;
 
-use lil_resolved::{OneOp, RExpr, TwoOp};
+use lil_resolved::{OneOp, RExpr, ROperation, TwoOp};
 
 /// The bytes of an operator's code.
-fn one_size(operator: OneOp) -> usize
+fn one_size(operator: OneOp) -> u32
     ensures { result ≡ spec.one_size operator }
 {
     match operator {
@@ -18,7 +18,7 @@ fn one_size(operator: OneOp) -> usize
 }
 
 /// The bytes of an operator's code, with the jump of AND and OR.
-fn two_size(operator: TwoOp) -> usize
+fn two_size(operator: TwoOp) -> u32
     ensures { result ≡ emitted.operator_size operator }
 {
     match operator {
@@ -28,17 +28,35 @@ fn two_size(operator: TwoOp) -> usize
     }
 }
 
-/// The bytes of an expression's code.
-pub fn expression_size(e: &RExpr) -> usize
-    requires { spec.size (view.expression_of e.now) ≤ 32767 }
-    ensures { result ≡ spec.size (view.expression_of e.now) }
+/// The bytes of an expression's code, or 4,294,967,295 where they are more.
+#[cycle(sizing)]
+#[tactic(auto, using(crate::proofs::Chains::chain_size))]
+pub fn expression_size(e: &RExpr) -> u32
+    ensures { result ≡ min (spec.size (view.expression_of e.now)) 4294967295 }
 {
     match e {
-        RExpr::One(operator, value) => expression_size(value) + one_size(*operator),
-        RExpr::Two(operator, left, right) => {
-            expression_size(left) + expression_size(right) + two_size(*operator)
+        RExpr::One(operator, value) => {
+            expression_size(value.get()).saturating_add(one_size(*operator))
         }
-        RExpr::Chr(value) => expression_size(value) + 5,
+        RExpr::Chain(first, operations) => {
+            expression_size(first.get()).saturating_add(operations_size(operations.as_slice()))
+        }
+        RExpr::Chr(value) => expression_size(value.get()).saturating_add(5),
         _ => 3,
     }
+}
+
+/// The bytes of the code of operations.
+#[cycle(sizing)]
+#[tactic(auto, using(crate::proofs::Chains::operations_left))]
+fn operations_size(operations: &[ROperation]) -> u32
+    ensures { result ≡ min (emitted.operations_size operations.now) 4294967295 }
+{
+    let mut size: u32 = 0;
+    for operation in operations {
+        size = size
+            .saturating_add(expression_size(&operation.operand))
+            .saturating_add(two_size(operation.operator));
+    }
+    size
 }

@@ -1,11 +1,11 @@
 -- Each answer of a parser comes exactly where it is described.
-use Rattle.std.proofs.Common.{◌≡◌, ◌⊎◌, ℕ, suc, ◌<◌, List, [], ◌∷◌, ◌++◌, length, length-append, append_assoc, append-nil, Some, None, Result, Ok, Err, refl, subst, ap, sym, ◌∙◌, inl, inr, arith}
+use Rattle.std.proofs.Common.{◌≡◌, ◌⊎◌, ℕ, suc, ◌<◌, List, [], ◌∷◌, ◌++◌, length, length-append, append_assoc, append-nil, Some, None, Ok, Err, refl, subst, ap, sym, ◌∙◌, inl, inr, arith}
 use Rattle.lil_base.specs.declared.fault.Place.{Place}
 use Rattle.lil_text.specs.declared.token.Token.{Token}
 use Rattle.lil_text.specs.declared.stop.ReadStop.{ReadStop}
 use Rattle.lil_text.specs.declared.stop.ReadStop.TheVariants.{Fault, Memory}
 use Rattle.lil_text.specs.Nesting.{within}
-use Rattle.lil_grammar.specs.Steps.{syntax, nested, Outcome, Parser, Reads, first, place_of}
+use Rattle.lil_grammar.specs.Steps.{syntax, nested, Outcome, Parser, first, place_of}
 use Rattle.lil_grammar.specs.Places.{Grammar, IsRun, RefusedAt, TooDeepAt, AnswersAt}
 use Rattle.lil_grammar.specs.Rules.{Took, Fell, IsSyntax, IsDeep, Rule, Nested, ok_same, err_same, ok_err, syntax_nested, first-append}
 use Rattle.lil_grammar.specs.RulesLimit.{limit}
@@ -172,7 +172,3 @@ module _ {A : Type 0} {p : Parser A} (G : Grammar A) {E : List Token → Type 0}
   exactly ts (Err (Fault f)) (inl h) = refused_is ts f.place h.1 ∙ ap (λ e. Err e) (sym h.0)
   exactly ts (Err (Fault f)) (inr h) = too_deep_is ts f.place h.1 ∙ ap (λ e. Err e) (sym h.0)
   exactly ts (Err Memory) h = absurd h
-
-  -- and by a function that reads by the parser
-  pub reads_exactly : (ts new : List Token) (result : Result A ReadStop) → Reads (p ts) result new → (o : Outcome A) → AnswersAt G n ts o → Reads o result new
-  reads_exactly ts new result reads o h = subst (λ o. Reads o result new) (exactly ts o h) reads

@@ -11,9 +11,6 @@ pub record Far {A : Type 0} (m : ℕ) (p : Parser A) : Type 0 where
   pub deep : (ts : List Token) (q : Place) → p ts ≡ Err (nested q) → m ≤ length ts
   pub less : (ts : List Token) (a : A) (rest : List Token) → p ts ≡ Ok (a, rest) → length rest ≤ length ts
 
-pub far_less : {A : Type 0} {p : Parser A} {m : ℕ} (k : ℕ) → k ≤ m → Far m p → Far k p
-far_less k h x = record { deep = λ ts q is. omega (arith, x.deep ts q is); less = x.less }
-
 pub far_pure : {A : Type 0} (m : ℕ) (a : A) → Far m (pure a)
 far_pure m a = record { deep = λ ts q is. absurd (cc); less = λ ts b rest is. omega (arith, ap (λ y. length y.1) (ok_same is)) }
 
@@ -39,16 +36,6 @@ module _ {A B : Type 0} {m : ℕ} {q : A → Parser B} where
       deep : (ts : List Token) (place : Place) (o : Outcome A) → p ts ≡ o → and_then o q ≡ Err (nested place) → m ≤ length ts
       deep ts place (Ok z) same is = omega (arith, x.less ts z.0 z.1 same, (y z.0).deep z.1 place is)
       deep ts place (Err e) same is = x.deep ts place (same ∙ ap (λ e. Err e) (err_same is))
-
-  pub far_after : (f : Token → Option A) → ((a : A) → Far m (q a)) → Far (suc m) (token f >>= q)
-  far_after f y = record {
-    deep = λ ts place is. deep ts place (token f ts) refl is;
-    less = λ ts b rest is. let s = bind_ok (token f ts) q (b, rest) is in omega (arith, token_shrinks f ts s.0.0 s.0.1 s.1, (y s.0.0).less s.0.1 b rest s.2);
-  }
-    where
-      deep : (ts : List Token) (place : Place) (o : Outcome A) → token f ts ≡ o → and_then o q ≡ Err (nested place) → suc m ≤ length ts
-      deep ts place (Ok z) same is = omega (arith, token_shrinks f ts z.0 z.1 same, (y z.0).deep z.1 place is)
-      deep ts place (Err e) same is = absurd (token_deep f ts place (same ∙ ap (λ e. Err e) (err_same is)))
 
 pub far_map : {A B : Type 0} {m : ℕ} {p : Parser A} → Far m p → (f : A → B) → Far m (p >>= (λ a. pure (f a)))
 far_map {m = m} x f = far_then x (λ a. far_pure m (f a))

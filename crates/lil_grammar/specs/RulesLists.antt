@@ -86,11 +86,6 @@ module _ {A B : Type 0} {p : Parser A} {P : Relation A} {E : List Token → Type
   pub rule_after : {q : A → Parser B} {Q : A → Relation B} → Rule p P Anything → ((a : A) → Rule (q a) (Q a) E) → Rule (p >>= q) (Then P Q) E
   rule_after x y = rule_then x y E (λ late ts rest a b h e. tt) (λ a rest e. e)
 
-  -- before what begins with a token of the test
-  pub rule_before : {q : A → Parser B} {Q : A → Relation B} {F : List Token → Type 0} (test : TokenKind → Bool) → ((ts : List Token) → at test ts ≡ true → E ts)
-      → ((late : Late) (ts rest : List Token) (a : A) (b : B) → Q a late ts rest b → at test ts ≡ true) → Rule p P E → ((a : A) → Rule (q a) (Q a) F) → Rule (p >>= q) (Then P Q) F
-  rule_before {F = F} test goes begins x y = rule_then x y F (λ late ts rest a b h e. goes ts (begins late ts rest a b h)) (λ a rest e. e)
-
 -- ---- what is left is no longer, and shorter behind a token
 pub no_longer : {A : Type 0} {p : Parser A} {R : Relation A} {E : List Token → Type 0} → Rule p R E → (ts : List Token) (a : A) (rest : List Token) → p ts ≡ Ok (a, rest) → length rest ≤ length ts
 no_longer x ts a rest is = let y = x.took ts a rest is in omega (arith, ap length y.cut, length-append y.front rest)

@@ -1,7 +1,6 @@
 -- What follows from a rule: what is read and nothing else, one reading, and the exact places of the faults.
 use Rattle.std.proofs.Common.{◌≡◌, ◌⊎◌, ℕ, suc, ◌≤◌, ◌<◌, List, [], ◌∷◌, ◌++◌, length, append-nil, Some, None, Result, Ok, Err, IfOk, IfErr, subst, ap, sym, ◌∙◌, inl, inr, arith}
 use Rattle.lil_base.specs.declared.fault.Place.{Place}
-use Rattle.lil_base.specs.declared.fault.SourceFault.{SourceFault}
 use Rattle.lil_text.specs.declared.token.Token.{Token}
 use Rattle.lil_text.specs.declared.stop.ReadStop.{ReadStop}
 use Rattle.lil_text.specs.declared.stop.ReadStop.TheVariants.{Fault, Memory}

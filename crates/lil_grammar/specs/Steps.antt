@@ -80,11 +80,6 @@ either test p q = λ ts. either_by p q (at test ts) ts
 abbrev pub shallow : {A : Type 0} → (TokenKind → Bool) → Parser A
 shallow test = either test too_deep refuse
 
--- the class of the first token, and that of none
-unfoldable pub class_at : {C : Type 0} → C → (TokenKind → C) → List Token → C
-class_at none f [] = none
-class_at none f (t ∷ ts) = f t.what
-
 -- ---- one token
 abbrev pub taken : {A : Type 0} → List Token → Place → Option A → Outcome A
 taken rest p None = Err (syntax p)

@@ -8,9 +8,24 @@ use Rattle.lil_report.specs.declared.report.Fault.{Fault}
 abbrev pub number : Fault → ℕ
 number f = fault_number f.kind
 
--- the lesser place speaks, and at one place the lesser number
+-- 90 NotBuilt: it comes behind all other faults
+abbrev pub is_late : Fault → Bool
+is_late f = nat_eq (number f) 90
+
+-- the lesser place is before the greater, and at one place the lesser number
+abbrev pub is_before : Fault → Fault → Bool
+is_before f g = nat_lt f.place.offset g.place.offset || (nat_eq f.place.offset g.place.offset && nat_le (number f) (number g))
+
+-- of a late fault and one that isn't, the one that isn't speaks, whatever their places
+abbrev pub is_up_by : Bool → Bool → Bool → Bool
+is_up_by false true b = true
+is_up_by true false b = false
+is_up_by false false b = b
+is_up_by true true b = b
+
+-- f speaks before g, or is as early
 abbrev pub is_up_to : Fault → Fault → Bool
-is_up_to f g = nat_lt f.place.offset g.place.offset || (nat_eq f.place.offset g.place.offset && nat_le (number f) (number g))
+is_up_to f g = is_up_by (is_late f) (is_late g) (is_before f g)
 
 unfoldable pub least : Fault → Fault → Fault
 least f g = if is_up_to f g then f else g
@@ -24,8 +39,28 @@ unfoldable pub when : Bool → Place → FaultKind → Option Fault
 when true p k = Some (record { place = p; kind = k })
 when false p k = None
 
+-- the fault that speaks, where it isn't late
+abbrev pub now_of : Option Fault → Option Fault
+now_of None = None
+now_of (Some f) = if is_late f then None else Some f
+
+-- the fault that speaks, where it is late
+abbrev pub late_of : Option Fault → Option Fault
+late_of None = None
+late_of (Some f) = if is_late f then Some f else None
+
+-- ---- the same order as types
+abbrev pub IsBefore : Fault → Fault → Type 0
+IsBefore f g = (f.place.offset < g.place.offset) ⊎ ((f.place.offset ≡ g.place.offset) × (number f ≤ number g))
+
+abbrev pub IsUpBy : Bool → Bool → Type 0 → Type 0
+IsUpBy false true P = Unit {0}
+IsUpBy true false P = ⊥
+IsUpBy false false P = P
+IsUpBy true true P = P
+
 abbrev pub IsUpTo : Fault → Fault → Type 0
-IsUpTo f g = (f.place.offset < g.place.offset) ⊎ ((f.place.offset ≡ g.place.offset) × (number f ≤ number g))
+IsUpTo f g = IsUpBy (is_late f) (is_late g) (IsBefore f g)
 
 -- f is the least of the faults that F tells
 abbrev pub IsLeast : (Fault → Type 0) → Fault → Type 0

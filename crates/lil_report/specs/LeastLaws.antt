@@ -1,24 +1,25 @@
 -- The least of all faults.
-use Rattle.std.proofs.Common.{◌≡◌, ◌⊎◌, ℕ, ◌<◌, ◌≤◌, Bool, true, false, cond, List, [], ◌∷◌, Option, Some, None, refl, subst, sym, inl, inr, arith}
+use Rattle.std.proofs.Common.{◌≡◌, ◌⊎◌, ℕ, ◌<◌, ◌≤◌, Bool, true, false, cond, List, [], ◌∷◌, Option, Some, None, if◌then◌else◌, refl, subst, sym, inl, inr, arith}
 use Rattle.std.proofs.Common.{ltb, leb, eqb, ◌||◌, ◌&&◌}
 use Rattle.std.proofs.lemmas.Bool.{cases_order, ltb-true, ltb-false, leb-true, leb-false, eqb-true, eqb-false, or_cases, and_parts}
 use Rattle.lil_base.specs.declared.fault.Place.{Place}
 use Rattle.lil_base.specs.declared.fault.FaultKind.{FaultKind}
 use Rattle.lil_report.specs.declared.report.Fault.{Fault}
-use Rattle.lil_report.specs.Least.{number, is_up_to, least, worse, when, IsUpTo, Reports}
+use Rattle.lil_report.specs.Least.{number, is_late, is_before, is_up_by, is_up_to, least, worse, when, now_of, late_of, IsBefore, IsUpBy, IsUpTo, IsLeast, Reports}
 use Rattle.lil_report.specs.Told.{Row, Stands, noted, tell}
 
-pub up_refl : (f : Fault) → IsUpTo f f
-up_refl f = inr (refl, omega arith)
+-- ---- faults that are both late, or both not
+before_refl : (f : Fault) → IsBefore f f
+before_refl f = inr (refl, omega arith)
 
-pub up_trans : (f g h : Fault) → IsUpTo f g → IsUpTo g h → IsUpTo f h
-up_trans f g h (inl a) (inl b) = inl (omega arith)
-up_trans f g h (inl a) (inr b) = inl (omega arith)
-up_trans f g h (inr a) (inl b) = inl (omega arith)
-up_trans f g h (inr a) (inr b) = inr (omega arith, omega arith)
+before_trans : (f g h : Fault) → IsBefore f g → IsBefore g h → IsBefore f h
+before_trans f g h (inl a) (inl b) = inl (omega arith)
+before_trans f g h (inl a) (inr b) = inl (omega arith)
+before_trans f g h (inr a) (inl b) = inl (omega arith)
+before_trans f g h (inr a) (inr b) = inr (omega arith, omega arith)
 
-pub up_yes : (f g : Fault) → is_up_to f g ≡ true → IsUpTo f g
-up_yes f g e = elim (or_cases _ _ e) [ inl h ↦ inl (ltb-true _ _ h) | inr h ↦ (let p = and_parts _ _ h in inr (eqb-true _ _ p.0, leb-true _ _ p.1)) ]
+before_yes : (f g : Fault) → is_before f g ≡ true → IsBefore f g
+before_yes f g e = elim (or_cases _ _ e) [ inl h ↦ inl (ltb-true _ _ h) | inr h ↦ (let p = and_parts _ _ h in inr (eqb-true _ _ p.0, leb-true _ _ p.1)) ]
 
 module _ (a b m n : ℕ) where
   no_by : (x y z : Bool) → ltb a b ≡ x → eqb a b ≡ y → leb m n ≡ z → (x || (y && z)) ≡ false → (b < a) ⊎ ((b ≡ a) × (n ≤ m))
@@ -27,8 +28,46 @@ module _ (a b m n : ℕ) where
   no_by false true false i j k e = inr (omega (arith, eqb-true a b j), omega (arith, leb-false m n k))
   no_by false false z i j k e = elim (cases_order a b) [ inl h ↦ absurd (eqb-false a b j h) | inr h ↦ inl (elim h [ inl u ↦ omega (arith, ltb-false a b i) | inr u ↦ u ]) ]
 
+before_no : (f g : Fault) → is_before f g ≡ false → IsBefore g f
+before_no f g e = no_by f.place.offset g.place.offset (number f) (number g) _ _ _ refl refl refl e
+
+-- ---- all faults: a late one comes behind one that isn't
+refl_by : {P : Type 0} (a : Bool) → P → IsUpBy a a P
+refl_by false p = p
+refl_by true p = p
+
+trans_by : {P Q R : Type 0} (a b c : Bool) → (P → Q → R) → IsUpBy a b P → IsUpBy b c Q → IsUpBy a c R
+trans_by false false false k p q = k p q
+trans_by false false true k p q = tt
+trans_by false true false k p q = absurd q
+trans_by false true true k p q = tt
+trans_by true false c k p q = absurd p
+trans_by true true false k p q = absurd q
+trans_by true true true k p q = k p q
+
+yes_by : {P : Type 0} (a b x : Bool) → (x ≡ true → P) → is_up_by a b x ≡ true → IsUpBy a b P
+yes_by false false x k e = k e
+yes_by false true x k e = tt
+yes_by true false x k e = absurd (cc)
+yes_by true true x k e = k e
+
+swap_by : {P : Type 0} (a b x : Bool) → (x ≡ false → P) → is_up_by a b x ≡ false → IsUpBy b a P
+swap_by false false x k e = k e
+swap_by false true x k e = absurd (cc)
+swap_by true false x k e = tt
+swap_by true true x k e = k e
+
+pub up_refl : (f : Fault) → IsUpTo f f
+up_refl f = refl_by (is_late f) (before_refl f)
+
+pub up_trans : (f g h : Fault) → IsUpTo f g → IsUpTo g h → IsUpTo f h
+up_trans f g h p q = trans_by (is_late f) (is_late g) (is_late h) (before_trans f g h) p q
+
+pub up_yes : (f g : Fault) → is_up_to f g ≡ true → IsUpTo f g
+up_yes f g e = yes_by (is_late f) (is_late g) (is_before f g) (before_yes f g) e
+
 pub up_no : (f g : Fault) → is_up_to f g ≡ false → IsUpTo g f
-up_no f g e = no_by f.place.offset g.place.offset (number f) (number g) _ _ _ refl refl refl e
+up_no f g e = swap_by (is_late f) (is_late g) (is_before f g) (before_no f g) e
 
 module _ (P : Fault → Type 0) (f g : Fault) where
   least_by : (b : Bool) → is_up_to f g ≡ b → (b ≡ true → P f) → (b ≡ false → P g) → P (cond b f g)
@@ -88,3 +127,23 @@ reports_from F o (r ∷ rs) p = reports_as _ _ (tell (noted o r) rs) (from_left 
 
 pub reports_tell : (rs : List Row) → Reports (Stands rs) (tell None rs)
 reports_tell rs = reports_as _ _ (tell None rs) (λ f h. elim h [ inl x ↦ absurd x | inr x ↦ x ]) (λ f h. inr h) (reports_from (λ f. ⊥) None rs (λ g h. h))
+
+-- ---- the faults that aren't late, and those that are
+module _ (F : Fault → Type 0) where
+  -- of those that aren't late, the least is the least of all, unless that is late
+  now_by : (f : Fault) (b : Bool) → is_late f ≡ b → IsLeast F f → Reports (λ g. F g × (is_late g ≡ false)) (if b then None else Some f)
+  now_by f false e h = ((h.0, e), λ g k. h.1 g k.0)
+  now_by f true e h = λ g k. subst (λ a. IsUpBy a false (IsBefore f g)) e (subst (λ b. IsUpBy (is_late f) b (IsBefore f g)) k.1 (h.1 g k.0))
+
+  pub reports_now : (o : Option Fault) → Reports F o → Reports (λ g. F g × (is_late g ≡ false)) (now_of o)
+  reports_now None h = λ g k. h g k.0
+  reports_now (Some f) h = now_by f (is_late f) refl h
+
+  late_by : (f : Fault) (b : Bool) → is_late f ≡ b → IsLeast F f → (if b then None else Some f) ≡ None → Reports (λ g. F g × (is_late g ≡ true)) (if b then Some f else None)
+  late_by f false e h none = absurd (cc)
+  late_by f true e h none = ((h.0, e), λ g k. h.1 g k.0)
+
+  -- where all are late
+  pub reports_late : (o : Option Fault) → Reports F o → now_of o ≡ None → Reports (λ g. F g × (is_late g ≡ true)) (late_of o)
+  reports_late None h none = λ g k. h g k.0
+  reports_late (Some f) h none = late_by f (is_late f) refl h none

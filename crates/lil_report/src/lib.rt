@@ -3,4 +3,4 @@
 
 mod report;
 
-pub use report::{Fault, Report};
+pub use report::{Fault, Report, worse};

@@ -12,12 +12,30 @@ pub struct Fault {
     pub kind: FaultKind,
 }
 
+/// Whether a fault comes behind all others: the form isn't built.
+fn is_late(f: Fault) -> bool
+    ensures { result ≡ spec.is_late f }
+{
+    f.kind.number() == FaultKind::NotBuilt.number()
+}
+
+/// Whether `f` stands before `g`, or is as early.
+fn is_before(f: Fault, g: Fault) -> bool
+    ensures { result ≡ spec.is_before f g }
+{
+    f.place.offset < g.place.offset
+        || (f.place.offset == g.place.offset && f.kind.number() <= g.kind.number())
+}
+
 /// Whether `f` speaks before `g`, or is as early.
 fn is_up_to(f: Fault, g: Fault) -> bool
     ensures { result ≡ spec.is_up_to f g }
 {
-    f.place.offset < g.place.offset
-        || (f.place.offset == g.place.offset && f.kind.number() <= g.kind.number())
+    match (is_late(f), is_late(g)) {
+        (false, true) => true,
+        (true, false) => false,
+        _ => is_before(f, g),
+    }
 }
 
 /// The one that speaks.
@@ -28,9 +46,9 @@ fn least(f: Fault, g: Fault) -> Fault
     if is_up_to(f, g) { f } else { g }
 }
 
-/// The one that speaks, if there is any.
+/// The one of two faults that speaks, if there is any.
 #[tactic(auto, unfolding(crate::specs::Least::worse))]
-fn worse(a: Option<Fault>, b: Option<Fault>) -> Option<Fault>
+pub fn worse(a: Option<Fault>, b: Option<Fault>) -> Option<Fault>
     ensures { result ≡ spec.worse a b }
 {
     match a {
@@ -54,7 +72,8 @@ fn when(wrong: bool, place: Place, kind: FaultKind) -> Option<Fault>
     }
 }
 
-/// The least fault of those that were noted: the one at the least place, and there that of the least number.
+/// The least fault of those that were noted: the one at the least place, and there that of the least number. A form that
+/// isn't built (90) comes behind all other faults.
 #[derive(Drop)]
 pub struct Report {
     worst: Option<Fault>,
@@ -82,6 +101,26 @@ impl Report {
         ensures { result ≡ self.now }
     {
         self.worst
+    }
+
+    /// The one that speaks, unless it is a form that isn't built.
+    pub fn worst_now(&self) -> Option<Fault>
+        ensures { result ≡ spec.now_of self.now }
+    {
+        match self.worst {
+            Some(fault) => { if is_late(fault) { None } else { Some(fault) } }
+            None => None,
+        }
+    }
+
+    /// The one that speaks, where it is a form that isn't built.
+    pub fn worst_late(&self) -> Option<Fault>
+        ensures { result ≡ spec.late_of self.now }
+    {
+        match self.worst {
+            Some(fault) => { if is_late(fault) { Some(fault) } else { None } }
+            None => None,
+        }
     }
 
     /// One test more: where it finds something wrong, that is this fault.

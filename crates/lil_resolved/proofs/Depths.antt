@@ -1,11 +1,32 @@
--- How deep an operator on two expressions is.
-use Rattle.std.proofs.Common.{◌≡◌, ◌+◌, max, refl}
+-- How deep an operator on two expressions is, and a chain.
+use Rattle.std.proofs.Common.{◌≡◌, ℕ, ◌+◌, ◌<◌, max, List, [], ◌∷◌, map, drop, length, get_or, refl, sym, ap, ◌∙◌, arith}
+use Rattle.std.proofs.lemmas.List.{drop_more}
 use Rattle.lil_base.specs.declared.operator.TwoOp.{TwoOp}
 use Rattle.lil_base.specs.declared.operator.TwoOp.TheVariants.{And}
+use Rattle.lil_resolved.specs.declared.resolved.RExpr.{RExpr}
+use Rattle.lil_resolved.specs.declared.resolved.RExpr.TheVariants as e
+use Rattle.lil_resolved.specs.declared.resolved.ROperation.{ROperation, out-ROperation}
 use Rattle.lil_resolved.specs.Resolved.{Expression}
 use Rattle.lil_resolved.specs.Depth.{depth}
-use Rattle.lil_resolved.specs.Views.{two_of}
+use Rattle.lil_resolved.specs.Chains.{operations_depth}
+use Rattle.lil_resolved.specs.Forms.{chain_is, operation_is}
+use Rattle.lil_resolved.specs.Views.{two_of, chained, expression_of, operation_of}
 
-pub two_depth : (o : TwoOp) (a b : Expression) → depth (two_of o a b) ≡ max (depth a) (1 + depth b)
+two_depth : (o : TwoOp) (a b : Expression) → depth (two_of o a b) ≡ max (depth a) (1 + depth b)
 two_depth And a b = refl
 two_depth _ a b = refl
+
+operation_depth : (o : ROperation) (a : Expression) → depth (operation_of o a) ≡ max (depth a) (1 + depth (expression_of (out-ROperation o).operand))
+operation_depth o a = ap depth (operation_is o a) ∙ two_depth (out-ROperation o).operator a (expression_of (out-ROperation o).operand)
+
+chained_depth : (a : Expression) (os : List ROperation) → depth (chained a (map operation_of os)) ≡ max (depth a) (operations_depth os)
+chained_depth a [] = omega arith
+chained_depth a (o ∷ os) = omega (arith, chained_depth (operation_of o a) os, operation_depth o a)
+
+pub chain_depth : (a : RExpr) (os : List ROperation) → depth (expression_of (e.Chain a os)) ≡ max (depth (expression_of a)) (operations_depth os)
+chain_depth a os = ap depth (chain_is a os) ∙ chained_depth (expression_of a) os
+
+-- what is left of operations from one on
+pub operations_left : (os : List ROperation) (i : ℕ) (o : ROperation) → i < length os → o ≡ get_or os i o
+    → operations_depth (drop i os) ≡ max (1 + depth (expression_of (out-ROperation o).operand)) (operations_depth (drop (i + 1) os))
+operations_left os i o inside is = ap operations_depth (drop_more os i o inside ∙ ap (λ y. y ∷ drop (i + 1) os) (sym is))

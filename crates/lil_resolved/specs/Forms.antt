@@ -1,6 +1,14 @@
--- What each form of statement, a guard and an arm are.
-use Rattle.std.proofs.Common.{◌≡◌, ℕ, ℤ, List, map, Option, None, Some, sym, ap, ◌∙◌}
+-- What each form of expression, an operation, each form of statement, a guard and an arm are.
+use Rattle.std.proofs.Common.{◌≡◌, ℕ, ℤ, pos, Bool, List, map, Option, None, Some, sym, ap, ◌∙◌}
+use Rattle.lil_base.specs.Words.{Cardinal, Integer}
+use Rattle.lil_base.specs.declared.operator.OneOp.{OneOp}
 use Rattle.lil_resolved.specs.declared.resolved.RExpr.{RExpr}
+use Rattle.lil_resolved.specs.declared.resolved.RExpr.TheVariants as e
+use Rattle.lil_resolved.specs.declared.resolved.RExpr.TheOpen as x
+use Rattle.lil_resolved.specs.declared.resolved.RExpr.TheOpen.{RExpr-F}
+use Rattle.lil_resolved.specs.declared.resolved.RExpr.TheFolds.{map-RExpr, fold-roll-RExpr, fold_out-ROperation}
+use Rattle.lil_resolved.specs.declared.resolved.RExpr.TheViews.{roll-RExpr}
+use Rattle.lil_resolved.specs.declared.resolved.ROperation.{ROperation, out-ROperation}
 use Rattle.lil_resolved.specs.declared.resolved.RStmt.{RStmt}
 use Rattle.lil_resolved.specs.declared.resolved.RStmt.TheVariants as s
 use Rattle.lil_resolved.specs.declared.resolved.RStmt.TheOpen as o
@@ -9,8 +17,41 @@ use Rattle.lil_resolved.specs.declared.resolved.RStmt.TheFolds.{map-RStmt, fold-
 use Rattle.lil_resolved.specs.declared.resolved.RStmt.TheViews.{roll-RStmt}
 use Rattle.lil_resolved.specs.declared.resolved.RGuard.{RGuard}
 use Rattle.lil_resolved.specs.declared.resolved.RArm.{RArm}
-use Rattle.lil_resolved.specs.Resolved.{Assign, If, Case, While, Repeat, Loop, Exit, For, Statements, Empty, Then, Arms, Arm}
-use Rattle.lil_resolved.specs.Views.{cardinal_variable, write_of, expression_of, label_of, statement_layer, arm_layer, guard_layer, statement_of, arm_of, guard_of, statements_of, guards_of, arms_of}
+use Rattle.lil_resolved.specs.Kinds.{OfWhole, OfTruth, OfCharacter}
+use Rattle.lil_resolved.specs.Scalars.{Number, Truth, Character}
+use Rattle.lil_resolved.specs.Resolved.{Expression, Constant, Taken, Apply, Chr, Assign, If, Case, While, Repeat, Loop, Exit, For, Statements, Empty, Then, Arms, Arm}
+use Rattle.lil_resolved.specs.Views.{cardinal_variable, write_of, one_of, two_of, chained, expression_layer, operation_layer, expression_of, operation_of, label_of, statement_layer, arm_layer, guard_layer, statement_of, arm_of, guard_of, statements_of, guards_of, arms_of}
+
+-- a layer's value comes from the values of its parts
+rolled_value : (y : RExpr-F RExpr ROperation) → expression_of (roll-RExpr y) ≡ expression_layer (map-RExpr RExpr ROperation Expression (Expression → Expression) expression_of operation_of y)
+rolled_value = fold-roll-RExpr Expression (Expression → Expression) expression_layer operation_layer
+
+pub number_is : (n : ℕ) → expression_of (e.Number n) ≡ Constant (OfWhole Cardinal) (Number (pos n))
+number_is n = ap expression_of (sym (e.rolls-Number n)) ∙ rolled_value (x.Number n)
+
+pub integer_is : (z : ℤ) → expression_of (e.Integer z) ≡ Constant (OfWhole Integer) (Number z)
+integer_is z = ap expression_of (sym (e.rolls-Integer z)) ∙ rolled_value (x.Integer z)
+
+pub truth_is : (b : Bool) → expression_of (e.Truth b) ≡ Constant OfTruth (Truth b)
+truth_is b = ap expression_of (sym (e.rolls-Truth b)) ∙ rolled_value (x.Truth b)
+
+pub character_is : (c : ℕ) → expression_of (e.Character c) ≡ Constant OfCharacter (Character c)
+character_is c = ap expression_of (sym (e.rolls-Character c)) ∙ rolled_value (x.Character c)
+
+pub variable_is : (n : ℕ) → expression_of (e.Variable n) ≡ Taken (cardinal_variable n)
+variable_is n = ap expression_of (sym (e.rolls-Variable n)) ∙ rolled_value (x.Variable n)
+
+pub one_is : (o : OneOp) (a : RExpr) → expression_of (e.One o a) ≡ one_of o (expression_of a)
+one_is o a = ap expression_of (sym (e.rolls-One o a)) ∙ rolled_value (x.One o a)
+
+pub chr_is : (a : RExpr) → expression_of (e.Chr a) ≡ Apply Chr (expression_of a)
+chr_is a = ap expression_of (sym (e.rolls-Chr a)) ∙ rolled_value (x.Chr a)
+
+pub chain_is : (a : RExpr) (os : List ROperation) → expression_of (e.Chain a os) ≡ chained (expression_of a) (map operation_of os)
+chain_is a os = ap expression_of (sym (e.rolls-Chain a os)) ∙ rolled_value (x.Chain a os)
+
+pub operation_is : (o : ROperation) (a : Expression) → operation_of o a ≡ two_of (out-ROperation o).operator a (expression_of (out-ROperation o).operand)
+operation_is o a = ap (λ (f : Expression → Expression). f a) (fold_out-ROperation Expression (Expression → Expression) expression_layer operation_layer o)
 
 -- a layer's value comes from the values of its parts
 rolled : (x : RStmt-F RStmt RArm RGuard)

@@ -1,3 +1,4 @@
+pub mod Chains
 pub mod Depth
 pub mod Forms
 pub mod Kinds

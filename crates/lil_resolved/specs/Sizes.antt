@@ -61,4 +61,4 @@ code_size m = 4 + body_size m.body
 
 pub record IsSmall (m : Resolved) : Type 0 where
   pub code : code_size m ≤ 32767
-  pub variables : length m.variables ≤ 8192
+  pub variables : length m.variables ≤ 32000

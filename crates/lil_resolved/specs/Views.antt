@@ -8,7 +8,10 @@ use Rattle.lil_base.specs.declared.operator.OneOp.{OneOp}
 use Rattle.lil_base.specs.declared.operator.TwoOp.{TwoOp}
 use Rattle.lil_base.specs.declared.operator.TwoOp.TheVariants.{Equal, Unequal, Less, AtMost, Greater, AtLeast, In, Plus, Minus, Or, Times, Slash, Div, Mod, And}
 use Rattle.lil_resolved.specs.declared.resolved.RExpr.{RExpr}
-use Rattle.lil_resolved.specs.declared.resolved.RExpr.TheVariants as x
+use Rattle.lil_resolved.specs.declared.resolved.RExpr.TheOpen as x
+use Rattle.lil_resolved.specs.declared.resolved.RExpr.TheOpen.{RExpr-F, ROperation-F}
+use Rattle.lil_resolved.specs.declared.resolved.RExpr.TheFolds.{fold-RExpr, fold-ROperation}
+use Rattle.lil_resolved.specs.declared.resolved.ROperation.{ROperation}
 use Rattle.lil_resolved.specs.declared.resolved.RStmt.{RStmt}
 use Rattle.lil_resolved.specs.declared.resolved.RStmt.TheOpen as o
 use Rattle.lil_resolved.specs.declared.resolved.RStmt.TheOpen.{RStmt-F, RArm-F, RGuard-F}
@@ -47,15 +50,30 @@ two_of Mod a b = Two Mod (kind_of a) a b
 abbrev pub one_of : OneOp → Expression → Expression
 one_of o a = One o (kind_of a) a
 
+-- operations, each on what stands before it
+abbrev pub chained : Expression → List (Expression → Expression) → Expression
+chained a [] = a
+chained a (f ∷ fs) = chained (f a) fs
+
+-- what an expression and an operation are, where their parts are known
+abbrev pub expression_layer : RExpr-F Expression (Expression → Expression) → Expression
+expression_layer (x.Number n) = Constant (OfWhole Cardinal) (Number (pos n))
+expression_layer (x.Integer n) = Constant (OfWhole Integer) (Number n)
+expression_layer (x.Truth b) = Constant OfTruth (Truth b)
+expression_layer (x.Character c) = Constant OfCharacter (Character c)
+expression_layer (x.Variable n) = Taken (cardinal_variable n)
+expression_layer (x.One o a) = one_of o a
+expression_layer (x.Chain a os) = chained a os
+expression_layer (x.Chr a) = Apply Chr a
+
+abbrev pub operation_layer : ROperation-F Expression (Expression → Expression) → Expression → Expression
+operation_layer o a = two_of o.operator a o.operand
+
 abbrev pub expression_of : RExpr → Expression
-expression_of (x.Number n) = Constant (OfWhole Cardinal) (Number (pos n))
-expression_of (x.Character c) = Constant OfCharacter (Character c)
-expression_of (x.Variable n) = Taken (cardinal_variable n)
-expression_of (x.Integer n) = Constant (OfWhole Integer) (Number n)
-expression_of (x.Truth b) = Constant OfTruth (Truth b)
-expression_of (x.One' o u a) = one_of o (expression_of a)
-expression_of (x.Two' o u a v b) = two_of o (expression_of a) (expression_of b)
-expression_of (x.Chr' u a) = Apply Chr (expression_of a)
+expression_of = fold-RExpr Expression (Expression → Expression) expression_layer operation_layer
+
+abbrev pub operation_of : ROperation → Expression → Expression
+operation_of = fold-ROperation Expression (Expression → Expression) expression_layer operation_layer
 
 abbrev pub label_of : RLabel → Label
 label_of l = record { low = l.low; high = l.high }

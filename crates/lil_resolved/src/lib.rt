@@ -6,4 +6,4 @@ mod resolved;
 mod tests;
 
 pub use lil_base::{OneOp, TwoOp};
-pub use resolved::{RArm, RExpr, RGuard, RLabel, RModule, RStmt, depth};
+pub use resolved::{RArm, RExpr, RGuard, RLabel, RModule, ROperation, RStmt, depth};

@@ -1,12 +1,15 @@
 ghost use Rattle.std.specs.Prelude.{◌≡◌, min};
 ghost use Rattle.lil_resolved.specs.Depth.{depth as depth_of};
+ghost use Rattle.lil_resolved.specs.Chains as chain;
 ghost use Rattle.lil_resolved.specs.Views.{expression_of};
 
 use crate::{OneOp, TwoOp};
-use lil_base::{Items, Name};
+use lil_base::{Boxed, Items, Name};
 
 /// An expression with each name replaced by its thing, and each constant expression by its value.
-/// A number is a CARDINAL, an integer an INTEGER, and a variable is its number among the module's.
+/// A number is a CARDINAL, an integer an INTEGER, and a variable is its number among the module's. A chain is its first
+/// operand, and then each operation in its order on what stands before it.
+#[cycle(value)]
 #[derive(Drop)]
 pub enum RExpr {
     Number(u16),
@@ -14,9 +17,17 @@ pub enum RExpr {
     Truth(bool),
     Character(u8),
     Variable(u16),
-    One(OneOp, Box<RExpr>),
-    Two(TwoOp, Box<RExpr>, Box<RExpr>),
-    Chr(Box<RExpr>),
+    One(OneOp, Boxed<RExpr>),
+    Chain(Boxed<RExpr>, Items<ROperation>),
+    Chr(Boxed<RExpr>),
+}
+
+/// What an operator does to the value before it: the operator, and its right operand.
+#[cycle(value)]
+#[derive(Drop)]
+pub struct ROperation {
+    pub operator: TwoOp,
+    pub operand: RExpr,
 }
 
 /// A resolved statement. IF has its conditions in order, a CASE or an IF without ELSE has none, and FOR has its variable,
@@ -67,18 +78,30 @@ pub struct RModule {
 }
 
 /// How many words of the expression stack an expression takes, or 4,294,967,295 where they are more. It takes no memory.
-#[tactic(auto, using(crate::proofs::Depths::two_depth))]
+#[cycle(depth)]
+#[tactic(auto, using(crate::proofs::Depths::chain_depth))]
 pub fn depth(e: &RExpr) -> u32
     ensures { result ≡ min (depth_of (expression_of e.now)) 4294967295 }
 {
     match e {
-        RExpr::One(_, value) => depth(value),
-        RExpr::Chr(value) => depth(value),
-        RExpr::Two(_, left, right) => {
-            let left = depth(left);
-            let right = depth(right).saturating_add(1);
-            if left < right { right } else { left }
+        RExpr::One(_, value) => depth(value.get()),
+        RExpr::Chr(value) => depth(value.get()),
+        RExpr::Chain(first, operations) => {
+            depth(first.get()).max(operations_depth(operations.as_slice()))
         }
         _ => 1,
     }
+}
+
+/// How many words operations take, where each holds what stands before it.
+#[cycle(depth)]
+#[tactic(auto, using(crate::proofs::Depths::operations_left))]
+fn operations_depth(operations: &[ROperation]) -> u32
+    ensures { result ≡ min (chain.operations_depth operations.now) 4294967295 }
+{
+    let mut most: u32 = 0;
+    for operation in operations {
+        most = most.max(depth(&operation.operand).saturating_add(1));
+    }
+    most
 }

@@ -1,15 +1,42 @@
-use crate::{RExpr, TwoOp, depth};
+use crate::{RExpr, ROperation, TwoOp, depth};
+use lil_base::{Boxed, Items};
 use std::test::Fail;
 
 #[test]
 fn depths(rt: HostRuntime) -> Result<(), Fail> {
     let alloc = rt.alloc();
-    let left = Box::new(alloc, RExpr::Number(1))?;
-    let right = Box::new(alloc, RExpr::Number(2))?;
-    let sum = RExpr::Two(TwoOp::Plus, left, right);
+    let mut operations = Items::new(alloc);
+    operations.push(ROperation {
+        operator: TwoOp::Plus,
+        operand: RExpr::Number(2),
+    })?;
+    operations.push(ROperation {
+        operator: TwoOp::Minus,
+        operand: RExpr::Variable(0),
+    })?;
+    let sum = RExpr::Chain(Boxed::new(alloc, RExpr::Number(1))?, operations);
     assert!(rt; depth(&sum) == 2);
-    let left = Box::new(alloc, sum)?;
-    let right = Box::new(alloc, RExpr::Variable(0))?;
-    assert!(rt; depth(&RExpr::Two(TwoOp::Minus, left, right)) == 2);
+    let mut operations = Items::new(alloc);
+    operations.push(ROperation {
+        operator: TwoOp::Times,
+        operand: sum,
+    })?;
+    let product = RExpr::Chain(Boxed::new(alloc, RExpr::Number(3))?, operations);
+    assert!(rt; depth(&product) == 3);
+    Ok(())
+}
+
+#[test]
+fn long_sum(rt: HostRuntime) -> Result<(), Fail> {
+    let alloc = rt.alloc();
+    let mut operations = Items::new(alloc);
+    for _ in 0..130000 {
+        operations.push(ROperation {
+            operator: TwoOp::Plus,
+            operand: RExpr::Variable(0),
+        })?;
+    }
+    let sum = RExpr::Chain(Boxed::new(alloc, RExpr::Number(1))?, operations);
+    assert!(rt; depth(&sum) == 2);
     Ok(())
 }

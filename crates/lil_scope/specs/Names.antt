@@ -1,9 +1,12 @@
--- What names stand for in a list of blocks. A block is a list of names and things, in the order of declaration.
+-- What names stand for in a list of blocks. A block is a list of names, in the order of declaration, each with what it stands for
+-- and the place where it is bound.
 use Rattle.std.specs.Prelude.{ℕ, is_none, slice_get, slice_set, nat_lt, length, Bool, not, List, [], ◌∷◌, ◌++◌, Option, Some, None, if◌then◌else◌, nat_eq}
 use Rattle.std.specs.Cmp.Lexicographic.{pointwise}
+use Rattle.lil_base.specs.declared.fault.Place.{Place}
 use Rattle.lil_base.specs.declared.fault.FaultKind.TheVariants.{Twice}
 use Rattle.lil_text.specs.declared.tree.Ident.{Ident}
 use Rattle.lil_report.specs.Told.{Row, row}
+use Rattle.lil_scope.specs.declared.thing.Entry.{Entry}
 use Rattle.lil_scope.specs.declared.thing.Thing.{Thing}
 use Rattle.lil_scope.specs.declared.env.Env.{Env}
 use Rattle.lil_scope.specs.declared.scope.Scopes.{Scopes}
@@ -12,26 +15,42 @@ abbrev pub same : List ℕ → List ℕ → Bool
 same a b = pointwise nat_eq a b
 
 abbrev pub Names : Type 0
-Names = List (List ℕ × Thing)
+Names = List (List ℕ × Entry)
+
+-- a name's entry in one block
+abbrev pub entry_in : List (List ℕ × Entry) → List ℕ → Option Entry
+entry_in [] n = None
+entry_in (e ∷ es) n = if same n e.0 then Some e.1 else entry_in es n
+
+abbrev pub thing_of : Option Entry → Option Thing
+thing_of None = None
+thing_of (Some e) = Some e.thing
+
+abbrev pub place_of : Option Entry → Option Place
+place_of None = None
+place_of (Some e) = Some e.place
 
 -- what a name stands for in one block
-abbrev pub look_in : List (List ℕ × Thing) → List ℕ → Option Thing
-look_in [] n = None
-look_in (e ∷ es) n = if same n e.0 then Some e.1 else look_in es n
+abbrev pub look_in : List (List ℕ × Entry) → List ℕ → Option Thing
+look_in b n = thing_of (entry_in b n)
+
+-- where a name is bound in one block
+abbrev pub place_in : List (List ℕ × Entry) → List ℕ → Option Place
+place_in b n = place_of (entry_in b n)
 
 abbrev pub inner_or : Option Thing → Option Thing → Option Thing
 inner_or None o = o
 inner_or (Some t) o = Some t
 
-abbrev pub block_by : Option (List (List ℕ × Thing)) → List (List ℕ × Thing)
+abbrev pub block_by : Option (List (List ℕ × Entry)) → List (List ℕ × Entry)
 block_by None = []
 block_by (Some b) = b
 
-abbrev pub block_at : List (List (List ℕ × Thing)) → ℕ → List (List ℕ × Thing)
+abbrev pub block_at : List (List (List ℕ × Entry)) → ℕ → List (List ℕ × Entry)
 block_at bs k = block_by (slice_get bs k)
 
 -- the innermost block that has the name speaks
-abbrev pub find_in : List (List (List ℕ × Thing)) → List ℕ → List ℕ → Option Thing
+abbrev pub find_in : List (List (List ℕ × Entry)) → List ℕ → List ℕ → Option Thing
 find_in bs [] n = None
 find_in bs (k ∷ ks) n = inner_or (find_in bs ks n) (look_in (block_at bs k) n)
 
@@ -43,21 +62,35 @@ abbrev pub member : Scopes → ℕ → List ℕ → Option Thing
 member s k n = look_in (block_at s.blocks k) n
 
 -- a name that stands in the block isn't bound there again
-unfoldable pub is_new : List (List ℕ × Thing) → List ℕ → Bool
-is_new b n = is_none (look_in b n)
+unfoldable pub is_new : List (List ℕ × Entry) → List ℕ → Bool
+is_new b n = is_none (entry_in b n)
 
-abbrev pub bound : List (List ℕ × Thing) → List ℕ → Thing → List (List ℕ × Thing)
-bound b n t = if is_new b n then b ++ (n, t) ∷ [] else b
+abbrev pub entry : Thing → Place → Entry
+entry t p = record { thing = t; place = p }
 
-abbrev pub bound_at : List (List (List ℕ × Thing)) → ℕ → List ℕ → Thing → List (List (List ℕ × Thing))
-bound_at bs k n t = if nat_lt k (length bs) then slice_set bs k (bound (block_at bs k) n t) else bs
+abbrev pub bound : List (List ℕ × Entry) → List ℕ → Entry → List (List ℕ × Entry)
+bound b n e = if is_new b n then b ++ (n, e) ∷ [] else b
 
-abbrev pub with_blocks : Env → List (List (List ℕ × Thing)) → Env
+abbrev pub bound_at : List (List (List ℕ × Entry)) → ℕ → List ℕ → Entry → List (List (List ℕ × Entry))
+bound_at bs k n e = if nat_lt k (length bs) then slice_set bs k (bound (block_at bs k) n e) else bs
+
+abbrev pub with_blocks : Env → List (List (List ℕ × Entry)) → Env
 with_blocks e bs = record e { scopes = record e.scopes { blocks = bs } }
 
--- ---- 21 Twice: a name bound in a block where it stands before
+-- the place that comes later in the text
+abbrev pub later : Place → Place → Place
+later p q = if nat_lt p.offset q.offset then q else p
+
+abbrev pub later_of : Place → Option Place → Place
+later_of p None = p
+later_of p (Some q) = later p q
+
+-- ---- 21 Twice: a name bound in a block where it stands before, at the one of both that comes later in the text
 unfoldable pub bind_at : ℕ → Env → Ident → Thing → Env × List Row
-bind_at k e i t = (with_blocks e (bound_at e.scopes.blocks k i.name t), row (not (is_new (block_at e.scopes.blocks k) i.name)) i.place Twice ∷ [])
+bind_at k e i t = (
+  with_blocks e (bound_at e.scopes.blocks k i.name (entry t i.place)),
+  row (not (is_new (block_at e.scopes.blocks k) i.name)) (later_of i.place (place_in (block_at e.scopes.blocks k) i.name)) Twice ∷ [],
+)
 
 -- a name bound in the block at hand
 abbrev pub bind : Env → Ident → Thing → Env × List Row

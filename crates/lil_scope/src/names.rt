@@ -4,14 +4,30 @@ ghost use Rattle.lil_scope.specs.Names as spec;
 
 use crate::env::Env;
 use crate::scope::Scopes;
-use crate::thing::Thing;
-use lil_base::{FaultKind, Memory, Name};
+use crate::thing::{Entry, Thing};
+use lil_base::{FaultKind, Memory, Name, Place};
 use lil_report::Report;
 use lil_text::Ident;
 use std::alloc::Global;
 
-#[tactic(auto, unfolding(crate::specs::Names::bind_at, lil_report::specs::Told::tell))]
-/// Binds a name in a block, unless it stands there before: that is fault 21.
+/// The later one of two places of a text.
+fn later(p: Place, q: Place) -> Place
+    ensures { result ≡ spec.later p q }
+{
+    if p.offset < q.offset { q } else { p }
+}
+
+fn later_of(p: Place, before: Option<Place>) -> Place
+    ensures { result ≡ spec.later_of p before }
+{
+    match before {
+        Some(q) => later(p, q),
+        None => p,
+    }
+}
+
+/// Binds a name in a block, unless it stands there before: that is fault 21, at the one of both that comes later in the text.
+#[tactic(auto, unfolding(crate::specs::Names::bind_at, lil_report::specs::Told::tell), using(crate::proofs::Entries::is_twice))]
 pub fn bind_at(
     alloc: Global,
     env: &mut Env,
@@ -22,8 +38,13 @@ pub fn bind_at(
 ) -> Result<(), Memory>
     ensures { IfOk result (λ o. Said (spec.bind_at block env.old name.now thing) report.old env.new report.new) }
 {
-    let new = env.scopes.blocks.declare(alloc, block, &name.name, thing)?;
-    report.note(!new, name.place, FaultKind::Twice);
+    let entry = Entry {
+        thing,
+        place: name.place,
+    };
+    let before = env.scopes.blocks.declare(alloc, block, &name.name, entry)?;
+    let place = later_of(name.place, before);
+    report.note(before.is_some(), place, FaultKind::Twice);
     Ok(())
 }
 

@@ -1,33 +1,53 @@
 ghost use Rattle.std.specs.Prelude.{◌≡◌, ◌<◌, ◌++◌, ◌∷◌, [], length, if◌then◌else◌, IfOk, MatchOption};
 ghost use Rattle.lil_scope.specs.Names as spec;
 
-use crate::thing::Thing;
+use crate::thing::{Entry, Thing};
 use indexmap::IndexMap;
-use lil_base::{Items, Memory, Name};
+use lil_base::{Items, Memory, Name, Place};
 use std::alloc::Global;
 use std::marker::Model;
 
 /// The names of one block, in the order of declaration.
 #[derive(Drop)]
 pub struct Block {
-    names: IndexMap<Vec<u8>, Thing>,
+    names: IndexMap<Vec<u8>, Entry>,
 }
 
 impl Model for Block {
     ghost use Rattle.std.specs.Prelude.{List, ℕ, map};
-    ghost use Rattle.lil_scope.specs.declared.thing.Thing.{Thing};
+    ghost use Rattle.lil_scope.specs.declared.thing.Entry.{Entry};
 
-    ghost Value = { List (List ℕ × Thing) };
+    ghost Value = { List (List ℕ × Entry) };
 
     ghost view = { λ b. map (λ p. (p.0.items, p.1)) b.names.entries };
 }
 
 impl Block {
     #[tactic(auto, using(crate::proofs::Entries::look_map))]
+    fn entry(&self, name: &Name) -> Option<Entry>
+        ensures { result ≡ spec.entry_in self.now name.now }
+    {
+        self.names.get(name.as_slice()).copied()
+    }
+
+    /// What a name stands for here.
     pub fn find(&self, name: &Name) -> Option<Thing>
         ensures { result ≡ spec.look_in self.now name.now }
     {
-        self.names.get(name.as_slice()).copied()
+        match self.entry(name) {
+            Some(entry) => Some(entry.thing),
+            None => None,
+        }
+    }
+
+    /// Where a name is bound here.
+    fn place(&self, name: &Name) -> Option<Place>
+        ensures { result ≡ spec.place_in self.now name.now }
+    {
+        match self.entry(name) {
+            Some(entry) => Some(entry.place),
+            None => None,
+        }
     }
 
     pub fn new(alloc: Global) -> Block
@@ -38,17 +58,24 @@ impl Block {
         }
     }
 
-    /// Binds a name, unless it stands here before.
-    pub fn declare(&mut self, alloc: Global, name: &Name, thing: Thing) -> Result<bool, Memory>
-        ensures told { IfOk result (λ new. new ≡ spec.is_new self.old name.now) }
-        ensures entries { IfOk result (λ new. self.new ≡ (if new then self.old ++ (name.now, thing) ∷ [] else self.old)) }
+    /// Binds a name, unless it stands here before: then it answers where.
+    pub fn declare(
+        &mut self,
+        alloc: Global,
+        name: &Name,
+        entry: Entry,
+    ) -> Result<Option<Place>, Memory>
+        ensures told { IfOk result (λ before. before ≡ spec.place_in self.old name.now) }
+        ensures entries { IfOk result (λ before. self.new ≡ spec.bound self.old name.now entry) }
     {
-        if self.find(name).is_some() {
-            return Ok(false);
+        match self.place(name) {
+            Some(before) => Ok(Some(before)),
+            None => {
+                let key = Vec::from_slice(alloc, name.as_slice())?;
+                self.names.insert(key, entry)?;
+                Ok(None)
+            }
         }
-        let key = Vec::from_slice(alloc, name.as_slice())?;
-        self.names.insert(key, thing)?;
-        Ok(true)
     }
 }
 
@@ -60,9 +87,9 @@ pub struct Blocks {
 
 impl Model for Blocks {
     ghost use Rattle.std.specs.Prelude.{List, ℕ};
-    ghost use Rattle.lil_scope.specs.declared.thing.Thing.{Thing};
+    ghost use Rattle.lil_scope.specs.declared.thing.Entry.{Entry};
 
-    ghost Value = { List (List (List ℕ × Thing)) };
+    ghost Value = { List (List (List ℕ × Entry)) };
 
     ghost view = { λ b. b.list.items };
 }
@@ -95,23 +122,31 @@ impl Blocks {
         }
     }
 
-    /// Binds a name in a block, unless it stands there before.
-    #[tactic(auto, unfolding(crate::specs::Names::is_new))]
+    fn place(&self, number: usize, name: &Name) -> Option<Place>
+        ensures { result ≡ spec.place_in (spec.block_at self.now number) name.now }
+    {
+        match self.list.get(number) {
+            Some(block) => block.place(name),
+            None => None,
+        }
+    }
+
+    /// Binds a name in a block, unless it stands there before: then it answers where.
     pub fn declare(
         &mut self,
         alloc: Global,
         number: usize,
         name: &Name,
-        thing: Thing,
-    ) -> Result<bool, Memory>
-        ensures told { IfOk result (λ new. new ≡ spec.is_new (spec.block_at self.old number) name.now) }
-        ensures entries { IfOk result (λ new. self.new ≡ spec.bound_at self.old number name.now thing) }
+        entry: Entry,
+    ) -> Result<Option<Place>, Memory>
+        ensures told { IfOk result (λ before. before ≡ spec.place_in (spec.block_at self.old number) name.now) }
+        ensures entries { IfOk result (λ before. self.new ≡ spec.bound_at self.old number name.now entry) }
     {
         if number < self.list.len() {
-            let new = self.list[number].declare(alloc, name, thing)?;
-            Ok(new)
+            let before = self.list[number].declare(alloc, name, entry)?;
+            Ok(before)
         } else {
-            Ok(self.find(number, name).is_none())
+            Ok(self.place(number, name))
         }
     }
 }

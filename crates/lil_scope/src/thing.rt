@@ -1,3 +1,4 @@
+use lil_base::Place;
 use lil_module::{Mode, Resident, Standard};
 use lil_types::TypeId;
 
@@ -58,4 +59,11 @@ pub enum Thing {
     Module(usize),
     Hidden,
     Broken,
+}
+
+/// What a name of a block stands for, and where it is bound.
+#[derive(Clone, Copy, Debug, PartialEq, Eq)]
+pub struct Entry {
+    pub thing: Thing,
+    pub place: Place,
 }

@@ -15,15 +15,10 @@ use Rattle.lil_volume.specs.Told.{Files, FileIs, followed_by}
 use Rattle.lil_session.specs.declared.status.Status.{Status}
 use Rattle.lil_session.specs.declared.status.Status.TheVariants as a
 use Rattle.lil_session.specs.Words.{mod_file}
-use Rattle.lil_session.specs.Outcome.{settled, gives_way, with_writes, Allowed, Answers, EndsSo, SourceAnswers, TextAnswers, Blames, Devices, Finds, HasFault, Headline, IsRunAnswer, IsRunText, IsRunnable, MeansAnswer, ReadsOne, Runs, Shows, stopped_by}
+use Rattle.lil_session.specs.Outcome.{settled, gives_way, with_writes, Allowed, Answers, EndsSo, SourceAnswers, TextAnswers, Blames, Devices, Finds, HasFault, HasMeaning, Headline, IsRunAnswer, IsRunnable, MeansAnswer, ReadsOne, Runs, Shows}
 use Rattle.lil_session.specs.Counted.{MachineAnswers}
 use Rattle.lil_session.specs.Answered.{TextRan, CommandRan, IsAnswer, IsUnrun}
-use Rattle.lil_text.specs.declared.stop.ReadStop.{ReadStop}
-use Rattle.lil_text.specs.declared.stop.ReadStop.TheVariants.{Fault, Memory}
-use Rattle.lil_language.specs.declared.unit.Unit.{Unit as Tree}
-use Rattle.lil_language.specs.Units.{Reads, HasReadFault}
 use Rattle.lil_session.proofs.Agree.{texts_agree}
-use Rattle.lil_session.proofs.Faulty.{reads_fault}
 
 followed_none : (old : Option (List ℕ)) (more : List ℕ) → more ≡ [] → old ≡ followed_by old more
 followed_none None more none = refl
@@ -164,8 +159,8 @@ text_memory file text steps old faults = record {
   fault_only = λ f same. absurd (no_fault f same);
   fault_where = λ f has gives. absurd (no_true (sym gives));
   kinds = inr tt;
-  shows = λ w p blank structured. shows_none p w old a.Memory blank (λ is. cc) tt;
-  machine = λ w p blank structured. inl refl;
+  shows = λ w p blank also. shows_none p w old a.Memory blank (λ is. cc) tt;
+  machine = λ w p blank also. inl refl;
   nothing = λ f same. refl;
   called = inl (refl, refl);
   cause = record { later = omega arith; rose = λ same. cc; quiet = inl refl };
@@ -178,35 +173,29 @@ text_memory file text steps old faults = record {
     no_fault : (f : SourceFault) → a.Memory ≡ a.SourceFault f → ⊥
     no_fault f same = cc
 
--- reading stopped
-pub text_stopped : (file text : List ℕ) (steps : ℕ) (old : Option (List ℕ)) (faults : ℕ) (e : ReadStop) → ((f : SourceFault) → e ≡ Fault f → HasReadFault text f)
-    → ((g : SourceFault) → HasReadFault text g → (e ≡ Fault g) ⊎ (e ≡ Memory)) → ((u : Tree) (f : SourceFault) → Reads text u → HasReadFault text f → ⊥) → TextRan file text steps old faults old faults (stopped_by e)
-text_stopped file text steps old faults (Fault f) has exact apart = text_not file text steps old faults f (reads_fault file text f (has f refl) exact apart) (inl (has f refl))
-text_stopped file text steps old faults Memory has exact apart = text_memory file text steps old faults
-
--- a text that is structured was run
-pub text_ran : (file text : List ℕ) (m : Resolved) (steps : ℕ) (old : Option (List ℕ)) (old_faults : ℕ) (new : Option (List ℕ)) (new_faults : ℕ) (s : Status) → ReadsOne file text → IsRunText file text m
+-- a text that has a meaning was run
+pub text_ran : (file text : List ℕ) (m : Resolved) (steps : ℕ) (old : Option (List ℕ)) (old_faults : ℕ) (new : Option (List ℕ)) (new_faults : ℕ) (s : Status) → ReadsOne file text → HasMeaning file text m
     → ((w : World) → w.screen ≡ [] → Shows m w old new s)
     → ((w : World) → w.screen ≡ [] → settled s ≡ true → (s ≡ a.StepsSpent) ⊎ MeansAnswer m w s)
     → IsRunAnswer s → ((w : World) → w.screen ≡ [] → MachineAnswers m w steps old new s) → Blames a.ScreenFault old_faults new_faults s → (s ≡ a.ScreenFault) ⊎ (new_faults ≡ old_faults)
     → TextRan file text steps old old_faults new new_faults s
-text_ran file text m steps old old_faults new new_faults s unique structured shows answer kinds machine cause told = record {
+text_ran file text m steps old old_faults new new_faults s unique meaning shows answer kinds machine cause told = record {
   one = λ settles. unique;
   answer = λ w none is. either (answer w none is);
   fault_only = λ f is. absurd (no_fault f is);
-  fault_where = λ f has stays. absurd (unique.apart f m has structured);
+  fault_where = λ f has stays. absurd (unique.apart f m has meaning);
   kinds = inr kinds;
-  shows = λ w p none also. subst (λ (r : Resolved). Shows r w old new s) (unique.means m p structured also) (shows w none);
-  machine = λ w p none also. subst (λ (r : Resolved). MachineAnswers r w steps old new s) (unique.means m p structured also) (machine w none);
+  shows = λ w p none also. subst (λ (r : Resolved). Shows r w old new s) (unique.means m p meaning also) (shows w none);
+  machine = λ w p none also. subst (λ (r : Resolved). MachineAnswers r w steps old new s) (unique.means m p meaning also) (machine w none);
   nothing = λ f is. absurd (no_fault f is);
-  called = inr (m, structured);
+  called = inr (m, meaning);
   cause = cause;
   told = told;
 }
   where
     either : {w : World} → (s ≡ a.StepsSpent) ⊎ MeansAnswer m w s → (s ≡ a.StepsSpent) ⊎ TextAnswers file text w s
     either (inl is) = inl is
-    either (inr means) = inr (inr (m, structured, means))
+    either (inr means) = inr (inr (m, meaning, means))
 
     no_fault : (f : SourceFault) → s ≡ a.SourceFault f → ⊥
     no_fault f is = subst (λ (t : Status). IsRunAnswer t) is kinds
@@ -229,8 +218,8 @@ source_ran file text steps before files faults shown screen_faults s is same qui
   fault_is = λ f fault. (file, text, refl, ran.fault_only f fault);
   kinds = comes ran.kinds;
   not_report = λ report. absurd (no report (λ f e. cc) (λ h. h));
-  headline = λ w p finds runs. headline_of p w before (record before { files = files; volume_faults = faults; shown = shown; screen_faults = screen_faults }) s finds (ran.shows w p finds.nothing_shown (structured_here w p finds runs)) refl same;
-  machine = λ w p finds runs. ran.machine w p finds.nothing_shown (structured_here w p finds runs);
+  headline = λ w p finds runs. headline_of p w before (record before { files = files; volume_faults = faults; shown = shown; screen_faults = screen_faults }) s finds (ran.shows w p finds.nothing_shown (meaning_here w p finds runs)) refl same;
+  machine = λ w p finds runs. ran.machine w p finds.nothing_shown (meaning_here w p finds runs);
   nothing = quietly ran.kinds;
   called = called ran.called;
   asked = inl quiet;
@@ -251,10 +240,10 @@ source_ran file text steps before files faults shown screen_faults s is same qui
     either w there (inl spent) = inl spent
     either w there (inr answers) = inr (subst (λ (o : Option (List ℕ)). SourceAnswers file w o s) there answers)
 
-    called : ((shown ≡ before.shown) × (screen_faults ≡ before.screen_faults)) ⊎ ((p : Resolved) × IsRunText file text p)
+    called : ((shown ≡ before.shown) × (screen_faults ≡ before.screen_faults)) ⊎ ((p : Resolved) × HasMeaning file text p)
         → ((shown ≡ before.shown) × (screen_faults ≡ before.screen_faults)) ⊎ IsRunnable (Some file) before.files
     called (inl still) = inl still
-    called (inr (p, structured)) = inr (record { file = file; named = refl; text = text; there = is; means = p; structured = structured })
+    called (inr (p, meaning)) = inr (record { file = file; named = refl; text = text; there = is; means = p; meaning = meaning })
 
     there_not : (m : Files) (x : List ℕ) → before.files ≡ Some m → Some file ≡ Some x → get m (mod_file x) ≡ None → ⊥
     there_not m x told named none =
@@ -269,17 +258,17 @@ source_ran file text steps before files faults shown screen_faults s is same qui
         let same_text : text ≡ t = some_same text t (here ∙ ap (λ (n : List ℕ). get m (mod_file n)) same_name ∙ there) in
         subst (λ (u : List ℕ). HasFault file u f) (sym same_text) (subst (λ (n : List ℕ). HasFault n t f) (sym same_name) has)
 
-    structured_here : (w : World) (p : Resolved) → Finds before.files before.keys w → Runs (Some file) w p → IsRunText file text p
-    structured_here w p finds runs =
+    meaning_here : (w : World) (p : Resolved) → Finds before.files before.keys w → Runs (Some file) w p → HasMeaning file text p
+    meaning_here w p finds runs =
         let here : Some text ≡ get w.files (mod_file file) = found_in before.files before.keys w (mod_file file) (Some text) finds is in
         let same_name : file ≡ runs.file = some_same file runs.file runs.named in
         let same_text : text ≡ runs.text = some_same text runs.text (here ∙ ap (λ (n : List ℕ). get w.files (mod_file n)) same_name ∙ runs.there) in
-        subst (λ (u : List ℕ). IsRunText file u p) (sym same_text) (subst (λ (n : List ℕ). IsRunText n runs.text p) (sym same_name) runs.structured)
+        subst (λ (u : List ℕ). HasMeaning file u p) (sym same_text) (subst (λ (n : List ℕ). HasMeaning n runs.text p) (sym same_name) runs.meaning)
 
     ended : (w : World) (p : Resolved) (n : ℕ) (t : Status) → Finds before.files before.keys w → Runs (Some file) w p → EndsSo (state_of p w n).phase t → ReadsOne file text → (s ≡ a.StepsSpent) ⊎ TextAnswers file text w s → (s ≡ a.StepsSpent) ⊎ (s ≡ t)
     ended w p n t finds runs ends unique (inl spent) = inl spent
     ended w p n t finds runs ends unique (inr answers) =
-        inr (texts_agree file text unique w s t answers (inr (p, structured_here w p finds runs, record { steps = n; ends = ends })))
+        inr (texts_agree file text unique w s t answers (inr (p, meaning_here w p finds runs, record { steps = n; ends = ends })))
 
     run_comes : (t : Status) → IsRunAnswer t → IsAnswer t
     run_comes a.Done kind = tt

@@ -1,37 +1,144 @@
--- A text has one fault or one meaning.
-use Rattle.std.proofs.Common.{◌≡◌, ◌⊎◌, ℕ, List, sym, ◌∙◌, inl, inr}
+-- A text has one fault or one meaning, and what it says is carried out.
+use Rattle.std.proofs.Common.{◌≡◌, ◌⊎◌, ℕ, ◌≤◌, ◌<◌, length, nat_le, min, Bool, true, false, List, [], Option, Some, None, Result, Ok, Err, IfOk, if◌then◌else◌, refl, sym, ap, subst, ◌∙◌, inl, inr, arith}
+use Rattle.std.proofs.lemmas.Bool.{leb-true, le-leb}
+use Rattle.std.proofs.lemmas.List.{length-map}
+use Rattle.lil_base.specs.declared.fault.Place.{Place}
 use Rattle.lil_base.specs.declared.fault.SourceFault.{SourceFault}
+use Rattle.lil_base.specs.Faults.{fault, code_too_long}
+use Rattle.lil_text.specs.declared.stop.ReadStop.{ReadStop}
 use Rattle.lil_text.specs.declared.stop.ReadStop.TheVariants.{Fault, Memory}
 use Rattle.lil_resolved.specs.Resolved.{Resolved}
-use Rattle.lil_tree.specs.Structured.{IsStructured}
+use Rattle.lil_resolved.specs.Sizes.{code_size, IsSmall}
+use Rattle.lil_resolved.specs.Views.{module_of, cardinal}
+use Rattle.lil_resolved.specs.declared.resolved.RModule.{RModule}
 use Rattle.lil_language.specs.declared.unit.Unit.{Unit as Tree}
 use Rattle.lil_language.specs.Units.{Reads, HasReadFault}
-use Rattle.lil_session.specs.Outcome.{HasFault, ReadsOne, not_built}
+use Rattle.lil_meaning.specs.World.{World}
+use Rattle.lil_session.specs.declared.status.Status.{Status}
+use Rattle.lil_session.specs.declared.status.Status.TheVariants as a
+use Rattle.lil_report.specs.declared.report.Fault.{Fault as Checked}
+use Rattle.lil_module.specs.declared.declared.RModule.{RModule as Checks}
+use Rattle.lil_check_unit.specs.Interfaces.{residents}
+use Rattle.lil_check_unit.specs.Units.{module_of as resolved, program_fault, told}
+use Rattle.lil_lower.specs.Lowered.{lowered}
+use Rattle.lil_unit.specs.declared.stop.GenStop.{GenStop}
+use Rattle.lil_unit.specs.declared.stop.GenStop.TheVariants as gen
+use Rattle.lil_session.specs.Outcome.{Verdict, Refused, Means, coded, lowered_says, checked_says, says, HasFault, HasMeaning, ReadsOne, stopped_by, ungenerated_by}
+use Rattle.lil_session.specs.Answered.{Carried, ModuleRan, TextRan}
+use Rattle.lil_session.proofs.Doing.{shows_none, text_memory, text_not, text_ran}
 
-pub not_structured : (file text : List ℕ) (f : SourceFault) → (u : Tree) × Reads text u → ((p : Resolved) → IsStructured file text p → ⊥) → f ≡ not_built → HasFault file text f
-not_structured file text f reads none is = inr (reads, none, is)
+same_fault : (f g : SourceFault) → Refused f ≡ Refused g → f ≡ g
+same_fault f g e = cc
 
--- a text that is a unit
-pub reads_one : (file text : List ℕ) → (u : Tree) × Reads text u → ((u : Tree) (f : SourceFault) → Reads text u → HasReadFault text f → ⊥) → ((p q : Resolved) → IsStructured file text p → IsStructured file text q → p ≡ q) → ReadsOne file text
-reads_one file text reads apart one = record { means = λ p q h k. one p q h.1 k.1; fault = faults; apart = λ f p h k. both f p h k.1 }
-  where
-    faults : (f g : SourceFault) → HasFault file text f → HasFault file text g → f ≡ g
-    faults f g (inl h) k = absurd (apart reads.0 f reads.1 h)
-    faults f g (inr h) (inl k) = absurd (apart reads.0 g reads.1 k)
-    faults f g (inr h) (inr k) = h.2 ∙ sym k.2
+same_module : (p q : Resolved) → Means p ≡ Means q → p ≡ q
+same_module p q e = cc
 
-    both : (f : SourceFault) (p : Resolved) → HasFault file text f → IsStructured file text p → ⊥
-    both f p (inl h) s = apart reads.0 f reads.1 h
-    both f p (inr h) s = h.1 p s
+two : (f : SourceFault) (p : Resolved) → Refused f ≡ Means p → ⊥
+two f p e = cc
 
--- a text whose fault is that of its bytes, its tokens or its names
-pub reads_fault : (file text : List ℕ) (f : SourceFault) → HasReadFault text f → ((g : SourceFault) → HasReadFault text g → (Fault f ≡ Fault g) ⊎ (Fault f ≡ Memory)) → ((u : Tree) (f : SourceFault) → Reads text u → HasReadFault text f → ⊥) → ReadsOne file text
-reads_fault file text f has exact apart = record { means = λ p q h k. absurd (apart h.0.0 f h.0.1 has); fault = λ g i h k. sym (here g h) ∙ here i k; apart = λ g p h k. apart k.0.0 f k.0.1 has }
-  where
-    same : (g : SourceFault) → (Fault f ≡ Fault g) ⊎ (Fault f ≡ Memory) → f ≡ g
-    same g (inl e) = cc
-    same g (inr e) = absurd (cc)
+module _ (file text : List ℕ) (apart : (u : Tree) (f : SourceFault) → Reads text u → HasReadFault text f → ⊥) where
+  -- a text that is a unit
+  pub unit_one : (one : (u v : Tree) → Reads text u → Reads text v → u ≡ v) (u : Tree) → Reads text u → ReadsOne file text
+  unit_one one u reads = record {
+    means = λ p q h k. same_module p q (sym h.1.1 ∙ ap (λ v. says file v) (one h.0 k.0 h.1.0 k.1.0) ∙ k.1.1);
+    fault = faults;
+    apart = both;
+  }
+    where
+      faults : (f g : SourceFault) → HasFault file text f → HasFault file text g → f ≡ g
+      faults f g (inl h) k = absurd (apart u f reads h)
+      faults f g (inr h) (inl k) = absurd (apart u g reads k)
+      faults f g (inr h) (inr k) = same_fault f g (sym h.1.1 ∙ ap (λ v. says file v) (one h.0 k.0 h.1.0 k.1.0) ∙ k.1.1)
 
-    here : (g : SourceFault) → HasFault file text g → f ≡ g
-    here g (inl h) = same g (exact g h)
-    here g (inr h) = absurd (apart h.0.0 f h.0.1 has)
+      both : (f : SourceFault) (p : Resolved) → HasFault file text f → HasMeaning file text p → ⊥
+      both f p (inl h) k = apart u f reads h
+      both f p (inr h) k = two f p (sym h.1.1 ∙ ap (λ v. says file v) (one h.0 k.0 h.1.0 k.1.0) ∙ k.1.1)
+
+  -- a text whose fault is that of its bytes, its tokens or its names
+  fault_one : (f : SourceFault) → HasReadFault text f → ((g : SourceFault) → HasReadFault text g → (Fault f ≡ Fault g) ⊎ (Fault f ≡ Memory)) → ReadsOne file text
+  fault_one f has exact = record { means = λ p q h k. absurd (apart h.0 f h.1.0 has); fault = λ g i h k. sym (here g h) ∙ here i k; apart = λ g p h k. apart k.0 f k.1.0 has }
+    where
+      same : (g : SourceFault) → (Fault f ≡ Fault g) ⊎ (Fault f ≡ Memory) → f ≡ g
+      same g (inl e) = cc
+      same g (inr e) = absurd (cc)
+
+      here : (g : SourceFault) → HasFault file text g → f ≡ g
+      here g (inl h) = same g (exact g h)
+      here g (inr h) = absurd (apart h.0 f h.1.0 has)
+
+  module _ (steps : ℕ) (old : Option (List ℕ)) (old_faults : ℕ) where
+    -- reading stopped
+    pub text_stopped : (e : ReadStop) → ((f : SourceFault) → e ≡ Fault f → HasReadFault text f) → ((g : SourceFault) → HasReadFault text g → (e ≡ Fault g) ⊎ (e ≡ Memory))
+        → TextRan file text steps old old_faults old old_faults (stopped_by e)
+    text_stopped (Fault f) has exact = text_not file text steps old old_faults f (fault_one f (has f refl) exact) (inl (has f refl))
+    text_stopped Memory has exact = text_memory file text steps old old_faults
+
+    -- what the unit says was carried out
+    module _ (one : (u v : Tree) → Reads text u → Reads text v → u ≡ v) (u : Tree) (reads : Reads text u) (new : Option (List ℕ)) (new_faults : ℕ) (s : Status) where
+      at_old : new ≡ old → new_faults ≡ old_faults → TextRan file text steps old old_faults old old_faults s → TextRan file text steps old old_faults new new_faults s
+      at_old shown faults ran =
+          subst (λ n. TextRan file text steps old old_faults new n s) (sym faults) (subst (λ o. TextRan file text steps old old_faults o old_faults s) (sym shown) ran)
+
+      carried_by : (v : Verdict) → says file u ≡ v → Carried v steps old old_faults new new_faults s → TextRan file text steps old old_faults new new_faults s
+      carried_by (Refused f) is (inl same, (shown, faults)) =
+          at_old shown faults (subst (λ s. TextRan file text steps old old_faults old old_faults s) (sym same) (text_not file text steps old old_faults f (unit_one one u reads) (inr (u, (reads, is)))))
+      carried_by (Refused f) is (inr same, (shown, faults)) = at_old shown faults (subst (λ s. TextRan file text steps old old_faults old old_faults s) (sym same) (text_memory file text steps old old_faults))
+      carried_by (Means p) is ran = text_ran file text p steps old old_faults new new_faults s (unit_one one u reads) (u, (reads, is)) ran.shows ran.answer ran.kinds ran.machine ran.cause ran.told
+
+      pub text_carried : Carried (says file u) steps old old_faults new new_faults s → TextRan file text steps old old_faults new new_faults s
+      text_carried c = carried_by (says file u) refl c
+
+-- ---- memory was wanted before anything was run
+pub carried_memory : (v : Verdict) (steps : ℕ) (old : Option (List ℕ)) (faults : ℕ) → Carried v steps old faults old faults a.Memory
+carried_memory (Refused f) steps old faults = (inr refl, (refl, refl))
+carried_memory (Means p) steps old faults = record {
+  shows = λ w blank. shows_none p w old a.Memory blank (λ is. cc) tt;
+  answer = λ w blank settles. absurd (cc);
+  kinds = tt;
+  machine = λ w blank. inl refl;
+  cause = record { later = omega arith; rose = λ same. absurd (cc); quiet = inl refl };
+  told = inr refl;
+}
+
+-- the fault is answered
+pub carried_fault : {v : Verdict} (f : SourceFault) (steps : ℕ) (old : Option (List ℕ)) (faults : ℕ) → v ≡ Refused f → Carried v steps old faults old faults (a.SourceFault f)
+carried_fault f steps old faults is = subst (λ v. Carried v steps old faults old faults (a.SourceFault f)) (sym is) (inl refl, (refl, refl))
+
+-- ---- by how long the code is
+pub small_of : (m : RModule) → code_size (module_of m) ≤ 32767 → length m.variables ≤ 32000 → IsSmall (module_of m)
+small_of m short few = record { code = short; variables = omega (arith, few, length-map m.variables cardinal) }
+
+module _ (name : Place) (p : Resolved) where
+  pub coded_short : code_size p ≤ 32767 → coded name p ≡ Means p
+  coded_short le = ap (λ b. if b then Means p else Refused (code_too_long name (min (code_size p) 4294967295))) (le-leb (code_size p) 32767 le)
+
+  coded_long : (bytes : ℕ) → 32767 < code_size p → bytes ≡ min (code_size p) 4294967295 → coded name p ≡ Refused (code_too_long name bytes)
+  coded_long bytes lt is = by (nat_le (code_size p) 32767) refl ∙ ap (λ n. Refused (code_too_long name n)) (sym is)
+    where
+      by : (b : Bool) → nat_le (code_size p) 32767 ≡ b → (if b then Means p else Refused (code_too_long name (min (code_size p) 4294967295))) ≡ Refused (code_too_long name (min (code_size p) 4294967295))
+      by true e = absurd (omega (arith, lt, leb-true (code_size p) 32767 e))
+      by false e = refl
+
+  -- no code was made
+  pub carried_ungenerated : (r : Result (List ℕ) GenStop) (e : GenStop) → r ≡ Err e → ((bytes : ℕ) → r ≡ Err (gen.CodeTooLong bytes) → (32767 < code_size p) × (bytes ≡ min (code_size p) 4294967295))
+      → (steps : ℕ) (old : Option (List ℕ)) (faults : ℕ) → Carried (coded name p) steps old faults old faults (ungenerated_by name e)
+  carried_ungenerated r (gen.CodeTooLong bytes) is long steps old faults = let h = long bytes is in carried_fault (code_too_long name bytes) steps old faults (coded_long bytes h.0 h.1)
+  carried_ungenerated r gen.Memory is long steps old faults = carried_memory (coded name p) steps old faults
+
+-- ---- by what the check found
+module _ (file : List ℕ) (u : Tree) where
+  pub carried_stopped : (e : ReadStop) → ((f : SourceFault) → e ≡ Fault f → (g : Checked) × (program_fault file u ≡ Some g) × (f ≡ told g))
+      → (steps : ℕ) (old : Option (List ℕ)) (faults : ℕ) → Carried (says file u) steps old faults old faults (stopped_by e)
+  unfolding says
+  carried_stopped (Fault f) h steps old faults = let p = h f refl in carried_fault f steps old faults (ap (λ o. checked_says u o) p.1 ∙ ap (λ f. Refused f) (sym p.2))
+  carried_stopped Memory h steps old faults = carried_memory (says file u) steps old faults
+
+  says_checked : (m : Checks) → (m ≡ resolved u residents) × (program_fault file u ≡ None) → lowered_says u (lowered m) ≡ says file u
+  unfolding says
+  says_checked m h = ap (λ m. lowered_says u (lowered m)) h.0 ∙ sym (ap (λ o. checked_says u o) h.1)
+
+  pub carried_checked : (r : Result Checks ReadStop) (m : Checks) → r ≡ Ok m → IfOk r (λ m. (m ≡ resolved u residents) × (program_fault file u ≡ None))
+      → (steps : ℕ) (old : Option (List ℕ)) (old_faults : ℕ) (new : Option (List ℕ)) (new_faults : ℕ) (s : Status)
+      → Carried (lowered_says u (lowered m)) steps old old_faults new new_faults s → Carried (says file u) steps old old_faults new new_faults s
+  carried_checked r m is right steps old old_faults new new_faults s c =
+      subst (λ v. Carried v steps old old_faults new new_faults s) (says_checked m (subst (λ r. IfOk r (λ m. (m ≡ resolved u residents) × (program_fault file u ≡ None))) is right)) c

@@ -12,7 +12,7 @@ use Rattle.lil_volume.specs.Told.{Files, followed_by, FollowedByPrefix}
 use Rattle.lil_session.specs.declared.status.Status.{Status}
 use Rattle.lil_session.specs.declared.status.Status.TheVariants as a
 use Rattle.lil_session.specs.Words.{mod_file}
-use Rattle.lil_session.specs.Outcome.{Answers, Blames, Devices, EndsSo, Finds, HasFault, Headline, IsRunAnswer, IsRunText, IsRunnable, ReadsOne, ReportBlames, Runs, Shows, TextAnswers, gives_way, settled}
+use Rattle.lil_session.specs.Outcome.{Answers, Blames, Devices, EndsSo, Finds, HasFault, HasMeaning, Headline, IsRunAnswer, IsRunnable, ReadsOne, ReportBlames, MeansAnswer, Runs, Shows, TextAnswers, Verdict, Refused, Means, gives_way, settled}
 use Rattle.lil_session.specs.Counted.{MachineAnswers, MachineRan}
 use Rattle.lil_session.specs.Report.{Reported, status_lines}
 
@@ -42,17 +42,31 @@ IsUnrun (a.SourceFault _) = ⊤
 IsUnrun a.VolumeFault = ⊤
 IsUnrun _ = ⊥
 
--- The text of the file of this name was run where it is structured.
+-- A module was run.
+pub record ModuleRan (p : Resolved) (steps : ℕ) (old : Option (List ℕ)) (old_faults : ℕ) (new : Option (List ℕ)) (new_faults : ℕ) (status : Status) : Type 0 where
+  pub shows : (w : World) → w.screen ≡ [] → Shows p w old new status
+  pub answer : (w : World) → w.screen ≡ [] → settled status ≡ true → (status ≡ a.StepsSpent) ⊎ MeansAnswer p w status
+  pub kinds : IsRunAnswer status
+  pub machine : (w : World) → w.screen ≡ [] → MachineAnswers p w steps old new status
+  pub cause : Blames a.ScreenFault old_faults new_faults status
+  pub told : (status ≡ a.ScreenFault) ⊎ (new_faults ≡ old_faults)
+
+-- What was said was carried out: a fault is the answer, unless memory is wanted, and nothing is shown; a module was run.
+abbrev pub Carried : Verdict → ℕ → Option (List ℕ) → ℕ → Option (List ℕ) → ℕ → Status → Type 0
+Carried (Refused f) steps old old_faults new new_faults s = ((s ≡ a.SourceFault f) ⊎ (s ≡ a.Memory)) × ((new ≡ old) × (new_faults ≡ old_faults))
+Carried (Means p) steps old old_faults new new_faults s = ModuleRan p steps old old_faults new new_faults s
+
+-- The text of the file of this name was run where it has no fault.
 pub record TextRan (file text : List ℕ) (steps : ℕ) (old : Option (List ℕ)) (old_faults : ℕ) (new : Option (List ℕ)) (new_faults : ℕ) (status : Status) : Type 0 where
   pub one : settled status ≡ true → ReadsOne file text
   pub answer : (w : World) → w.screen ≡ [] → settled status ≡ true → (status ≡ a.StepsSpent) ⊎ TextAnswers file text w status
   pub fault_only : (f : SourceFault) → status ≡ a.SourceFault f → HasFault file text f
   pub fault_where : (f : SourceFault) → HasFault file text f → gives_way status ≡ false → status ≡ a.SourceFault f
   pub kinds : ((f : SourceFault) × (status ≡ a.SourceFault f)) ⊎ IsRunAnswer status
-  pub shows : (w : World) (p : Resolved) → w.screen ≡ [] → IsRunText file text p → Shows p w old new status
-  pub machine : (w : World) (p : Resolved) → w.screen ≡ [] → IsRunText file text p → MachineAnswers p w steps old new status
+  pub shows : (w : World) (p : Resolved) → w.screen ≡ [] → HasMeaning file text p → Shows p w old new status
+  pub machine : (w : World) (p : Resolved) → w.screen ≡ [] → HasMeaning file text p → MachineAnswers p w steps old new status
   pub nothing : (f : SourceFault) → status ≡ a.SourceFault f → new ≡ old
-  pub called : ((new ≡ old) × (new_faults ≡ old_faults)) ⊎ ((p : Resolved) × IsRunText file text p)
+  pub called : ((new ≡ old) × (new_faults ≡ old_faults)) ⊎ ((p : Resolved) × HasMeaning file text p)
   pub cause : Blames a.ScreenFault old_faults new_faults status
   pub told : (status ≡ a.ScreenFault) ⊎ (new_faults ≡ old_faults)
 
@@ -60,7 +74,7 @@ pub record TextRan (file text : List ℕ) (steps : ℕ) (old : Option (List ℕ)
 pub record CommandRan (name : Option (List ℕ)) (steps : ℕ) (before after : Devices) (status : Status) : Type 0 where
   -- unless a device failed, memory was refused or the steps were spent, the answer is the command's
   pub answer : (w : World) → Finds before.files before.keys w → settled status ≡ true → (status ≡ a.StepsSpent) ⊎ Answers name w status
-  -- and of a structured text it is the end of its meaning, where that has one
+  -- and of a text with a meaning it is the meaning's end, where that has one
   pub ends_where : (w : World) (p : Resolved) (n : ℕ) (s : Status) → Finds before.files before.keys w → Runs name w p → EndsSo (state_of p w n).phase s → settled status ≡ true → (status ≡ a.StepsSpent) ⊎ (status ≡ s)
   -- usage comes exactly where the words name no module
   pub usage_only : status ≡ a.Usage → name ≡ None
@@ -79,13 +93,13 @@ pub record CommandRan (name : Option (List ℕ)) (steps : ℕ) (before after : D
   -- no other status comes
   pub kinds : IsAnswer status
   pub not_report : status ≢ a.ReportFault
-  -- what a structured text shows
+  -- what a text with a meaning shows
   pub headline : (w : World) (p : Resolved) → Finds before.files before.keys w → Runs name w p → Headline p w before after status
   -- what the machine did for it
   pub machine : (w : World) (p : Resolved) → Finds before.files before.keys w → Runs name w p → MachineAnswers p w steps before.shown after.shown status
   -- nothing is shown where nothing was run
   pub nothing : IsUnrun status → after.shown ≡ before.shown
-  -- the screen is called only where a structured text was found, and the volume only where the words name a module
+  -- the screen is called only where a text with a meaning was found, and the volume only where the words name a module
   pub called : ((after.shown ≡ before.shown) × (after.screen_faults ≡ before.screen_faults)) ⊎ IsRunnable name before.files
   pub asked : (after.volume_faults ≡ before.volume_faults) ⊎ ((x : List ℕ) × (name ≡ Some x))
   pub files : after.files ≡ before.files
@@ -119,7 +133,7 @@ pub record CommandReported (call : Call) (result : Status) : Type 0 where
 -- WHAT HOLDS OF EACH ANSWER of a command, whatever the devices do. A field that begins with a world speaks of devices that tell their
 -- files and keys.
 pub record Answered (call : Call) (result : Status) : Type 0 where
-  -- What a structured text shows, and how it ends, is what its meaning says.
+  -- What a text with a meaning shows, and how it ends, is what its meaning says.
   pub headline : (w : World) (p : Resolved) → Finds call.before.files call.before.keys w → Runs call.name w p → Headline p w call.before call.after result
   -- Unless a device fails, memory is refused or the steps are spent, the answer is the command's.
   pub answer : (w : World) → Finds call.before.files call.before.keys w → settled result ≡ true → (result ≡ a.StepsSpent) ⊎ Answers call.name w result
@@ -147,7 +161,7 @@ pub record Answered (call : Call) (result : Status) : Type 0 where
   pub no_other : IsAnswer result
   -- Nothing is shown where nothing was run.
   pub nothing : IsUnrun result → call.after.shown ≡ call.before.shown
-  -- The screen is called only where a structured text was found, and the volume only where the words name a module.
+  -- The screen is called only where a text with a meaning was found, and the volume only where the words name a module.
   pub called : ((call.after.shown ≡ call.before.shown) × (call.after.screen_faults ≡ call.before.screen_faults)) ⊎ IsRunnable call.name call.before.files
   pub asked : (call.after.volume_faults ≡ call.before.volume_faults) ⊎ ((x : List ℕ) × (call.name ≡ Some x))
   -- A missed file is the module's source, and a fault is one of some text of that, whatever the volume tells.

@@ -46,7 +46,7 @@ pub record MachineRan (p : Resolved) (w : World) (steps : ℕ) (old new : Option
   -- 32 instructions a step of the meaning, and 64 more, are enough: where they are spent, it goes on
   pub enough : status ≡ a.StepsSpent → (m : ℕ) → 32 * m + 64 ≤ steps → (state_of p w m).phase ≡ Going
 
--- What the machine did, by the answer of a command that runs a structured text: nothing where the volume failed, and nothing, or the
+-- What the machine did, by the answer of a command that runs a text with a meaning: nothing where the volume failed, and nothing, or the
 -- whole run, where memory was wanted. After a fault of the report it did what the answer says whose lines were written.
 abbrev pub MachineAnswers : Resolved → World → ℕ → Option (List ℕ) → Option (List ℕ) → Status → Type 0
 MachineAnswers p w steps old new a.Done = MachineRan p w steps old new a.Done

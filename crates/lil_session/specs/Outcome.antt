@@ -1,14 +1,21 @@
 -- How an answer, what the devices hold and their counts go together.
-use Rattle.std.specs.Prelude.{◌≡◌, ◌≢◌, ◌⊎◌, ℕ, suc, ◌≤◌, Bool, true, false, List, [], ◌∷◌, ◌++◌, Option, Some, None, ⊤}
+use Rattle.std.specs.Prelude.{◌≡◌, ◌≢◌, ◌⊎◌, ℕ, suc, ◌≤◌, nat_le, min, Bool, true, false, List, [], ◌∷◌, ◌++◌, Option, Some, None, if◌then◌else◌, ⊤}
 use Rattle.std.specs.FinMap.{get}
-use Rattle.lil_base.specs.Faults.{fault}
+use Rattle.lil_base.specs.Faults.{fault, code_too_long}
+use Rattle.lil_base.specs.declared.fault.Place.{Place}
 use Rattle.lil_base.specs.declared.fault.SourceFault.{SourceFault}
 use Rattle.lil_resolved.specs.Resolved.{Resolved}
-use Rattle.lil_tree.specs.Structured.{IsStructured}
+use Rattle.lil_resolved.specs.Sizes.{code_size}
+use Rattle.lil_lower.specs.Lowered.{lowered}
+use Rattle.lil_unit.specs.declared.stop.GenStop.{GenStop}
+use Rattle.lil_unit.specs.declared.stop.GenStop.TheVariants as gen
 use Rattle.lil_text.specs.declared.stop.ReadStop.{ReadStop}
 use Rattle.lil_text.specs.declared.stop.ReadStop.TheVariants as why
 use Rattle.lil_language.specs.declared.unit.Unit.{Unit as Tree}
 use Rattle.lil_language.specs.Units.{Reads, HasReadFault}
+use Rattle.lil_report.specs.declared.report.Fault.{Fault as Checked}
+use Rattle.lil_check_unit.specs.Interfaces.{residents}
+use Rattle.lil_check_unit.specs.Units.{module_of as resolved, program_fault, told}
 use Rattle.lil_meaning.specs.World.{World}
 use Rattle.lil_meaning.specs.Items.{Source, Phase, Going, Closing, Ended, Trapped}
 use Rattle.lil_meaning.specs.Runs.{state_of}
@@ -54,10 +61,6 @@ settled a.ChannelFault = false
 settled a.ReportFault = false
 settled a.Memory = false
 settled _ = true
-
--- the fault of a text whose form isn't built yet: number 90 at the text's start
-abbrev pub not_built : SourceFault
-not_built = fault 90 (record { line = 1; column = 1; offset = 0 })
 
 -- This fault is answered only where the count rose, and the count rises only where the answer is this fault or want of memory.
 pub record Blames (fault : Status) (before now : ℕ) (status : Status) : Type 0 where
@@ -111,30 +114,57 @@ pub record MeansAnswer (p : Resolved) (w : World) (s : Status) : Type 0 where
   pub steps : ℕ
   pub ends : EndsSo (state_of p w steps).phase s
 
--- the text of the file of this name is a unit, structured, and means p
-abbrev pub IsRunText : List ℕ → List ℕ → Resolved → Type 0
-IsRunText file text p = ((u : Tree) × Reads text u) × IsStructured file text p
+-- ---- what a unit says: it is refused with a fault, or means a module
+pub data Verdict : Type 0 where
+  Refused : (f : SourceFault) → Verdict
+  Means : (p : Resolved) → Verdict
 
--- The fault of a text: the first of its bytes, its tokens or its names behind END; else fault 90 where it isn't structured.
+-- 64 CodeTooLong, at the unit's name: the code has more than 32,767 bytes
+abbrev pub coded : Place → Resolved → Verdict
+coded name p = if nat_le (code_size p) 32767 then Means p else Refused (code_too_long name (min (code_size p) 4294967295))
+
+-- 90 NotBuilt, at the unit's first token: some form has no code yet
+abbrev pub lowered_says : Tree → Option Resolved → Verdict
+lowered_says u None = Refused (fault 90 u.head.place)
+lowered_says u (Some p) = coded u.head.name.place p
+
+abbrev pub checked_says : Tree → Option Checked → Verdict
+checked_says u (Some g) = Refused (told g)
+checked_says u None = lowered_says u (lowered (resolved u residents))
+
+-- what a unit in the file of this name says: the fault that its check tells, else that it has no code, else the module
+unfoldable pub says : List ℕ → Tree → Verdict
+says file u = checked_says u (program_fault file u)
+
+-- The first fault of a text: of its bytes, its tokens or its names behind END, else that of the unit that it is.
 abbrev pub HasFault : List ℕ → List ℕ → SourceFault → Type 0
-HasFault file text f = HasReadFault text f ⊎ (((u : Tree) × Reads text u) × ((p : Resolved) → IsStructured file text p → ⊥) × (f ≡ not_built))
+HasFault file text f = HasReadFault text f ⊎ ((u : Tree) × (Reads text u × (says file u ≡ Refused f)))
 
--- the answer where reading stopped
+-- the module that a text without faults means
+abbrev pub HasMeaning : List ℕ → List ℕ → Resolved → Type 0
+HasMeaning file text p = (u : Tree) × (Reads text u × (says file u ≡ Means p))
+
+-- the answer where reading or checking stopped
 abbrev pub stopped_by : ReadStop → Status
 stopped_by (why.Fault f) = a.SourceFault f
 stopped_by why.Memory = a.Memory
 
+-- the answer where no code was made
+abbrev pub ungenerated_by : Place → GenStop → Status
+ungenerated_by name (gen.CodeTooLong bytes) = a.SourceFault (code_too_long name bytes)
+ungenerated_by name gen.Memory = a.Memory
+
 -- A text has one fault or one meaning.
 pub record ReadsOne (file text : List ℕ) : Type 0 where
-  pub means : (p q : Resolved) → IsRunText file text p → IsRunText file text q → p ≡ q
+  pub means : (p q : Resolved) → HasMeaning file text p → HasMeaning file text q → p ≡ q
   pub fault : (f g : SourceFault) → HasFault file text f → HasFault file text g → f ≡ g
-  pub apart : (f : SourceFault) (p : Resolved) → HasFault file text f → IsRunText file text p → ⊥
+  pub apart : (f : SourceFault) (p : Resolved) → HasFault file text f → HasMeaning file text p → ⊥
 
 -- the answer of a text: its fault, or its meaning's
 abbrev pub TextAnswers : List ℕ → List ℕ → World → Status → Type 0
 TextAnswers file text w s =
     ((f : SourceFault) × HasFault file text f × (s ≡ a.SourceFault f))
-    ⊎ ((p : Resolved) × IsRunText file text p × MeansAnswer p w s)
+    ⊎ ((p : Resolved) × HasMeaning file text p × MeansAnswer p w s)
 
 abbrev pub SourceAnswers : List ℕ → World → Option (List ℕ) → Status → Type 0
 SourceAnswers file w None s = s ≡ a.NoFile (mod_file file)
@@ -145,22 +175,22 @@ abbrev pub Answers : Option (List ℕ) → World → Status → Type 0
 Answers None w s = s ≡ a.Usage
 Answers (Some file) w s = SourceAnswers file w (get w.files (mod_file file)) s
 
--- the source of the module is there, structured, and means p
+-- the source of the module is there, and means p
 pub record Runs (name : Option (List ℕ)) (w : World) (p : Resolved) : Type 0 where
   pub file : List ℕ
   pub named : name ≡ Some file
   pub text : List ℕ
   pub there : get w.files (mod_file file) ≡ Some text
-  pub structured : IsRunText file text p
+  pub meaning : HasMeaning file text p
 
--- the source of the module is there as far as the volume tells, and structured
+-- the source of the module is there as far as the volume tells, and has a meaning
 pub record IsRunnable (name : Option (List ℕ)) (files : Option Files) : Type 0 where
   pub file : List ℕ
   pub named : name ≡ Some file
   pub text : List ℕ
   pub there : FileIs files (mod_file file) (Some text)
   pub means : Resolved
-  pub structured : IsRunText file text means
+  pub meaning : HasMeaning file text means
 
 -- files after a list of writes
 abbrev pub with_writes : Option Files → List (List ℕ × List ℕ) → Option Files

@@ -1,5 +1,5 @@
 -- The lines of the report, each with its byte 10, and how they are written.
-use Rattle.std.specs.Prelude.{◌≡◌, ◌≢◌, ◌⊎◌, ℕ, ◌≤◌, Bool, true, false, List, [], ◌∷◌, ◌++◌, codes, decimal, Option, Some, None}
+use Rattle.std.specs.Prelude.{◌≡◌, ◌≢◌, ◌⊎◌, ℕ, ◌==◌, if◌then◌else◌, ◌≤◌, Bool, true, false, List, [], ◌∷◌, ◌++◌, codes, decimal, Option, Some, None}
 use Rattle.lil_base.specs.Faults.{fault_name}
 use Rattle.lil_base.specs.declared.fault.SourceFault.{SourceFault}
 use Rattle.lil_base.specs.declared.fault.TrapAt.{TrapAt}
@@ -49,8 +49,12 @@ procedure_text (Some name) = codes "." ++ name
 abbrev pub place_text : List ℕ → SourceFault → List ℕ
 place_text file s = file ++ codes ":" ++ decimal s.place.line ++ codes ":" ++ decimal s.place.column ++ codes ": "
 
+-- a blank and the number of bytes, for 64 alone
+abbrev pub value_text : ℕ → ℕ → List ℕ
+value_text number value = if number == 64 then codes " " ++ decimal value else []
+
 abbrev pub fault_text : SourceFault → List ℕ
-fault_text s = decimal s.number ++ codes " " ++ fault_name s.number ++ about_text s.about
+fault_text s = decimal s.number ++ codes " " ++ fault_name s.number ++ about_text s.about ++ value_text s.number s.first
 
 abbrev pub trap_text : TrapAt → List ℕ
 trap_text t = codes "trap " ++ trap_name t.kind ++ codes " in " ++ t.module ++ procedure_text t.procedure

@@ -1,5 +1,5 @@
 ghost use Rattle.std.specs.Prelude.{◌≡◌, ◌++◌, ◌∷◌, [], false, OnOk, IfOk, decimal, codes};
-ghost use Rattle.lil_session.specs.Report.{trap_name, limit_name, about_text, procedure_text, place_text, fault_text, trap_text, code_text, refusal_text, is_fixed, status_lines};
+ghost use Rattle.lil_session.specs.Report.{trap_name, limit_name, about_text, value_text, procedure_text, place_text, fault_text, trap_text, code_text, refusal_text, is_fixed, status_lines};
 
 use crate::Status;
 use lil_base::{
@@ -67,6 +67,17 @@ fn put_about(line: &mut Bytes, about: &Option<Name>) -> Result<(), Memory>
     }
 }
 
+/// The value of a fault of this number, where it has one.
+fn put_value(alloc: Global, line: &mut Bytes, number: u8, value: u32) -> Result<(), Memory>
+    ensures { OnOk result (line.new ≡ line.old ++ value_text number value) }
+{
+    if number != 64 {
+        return Ok(());
+    }
+    line.extend(b" ")?;
+    put_number(alloc, line, value)
+}
+
 fn put_procedure(line: &mut Bytes, procedure: &Option<Name>) -> Result<(), Memory>
     ensures { OnOk result (line.new ≡ line.old ++ procedure_text procedure.now) }
 {
@@ -96,7 +107,8 @@ fn put_fault(alloc: Global, line: &mut Bytes, s: &SourceFault) -> Result<(), Mem
     put_number(alloc, line, s.number as u32)?;
     line.extend(b" ")?;
     line.extend(s.name())?;
-    put_about(line, &s.about)
+    put_about(line, &s.about)?;
+    put_value(alloc, line, s.number, s.first)
 }
 
 fn put_trap(line: &mut Bytes, t: &TrapAt) -> Result<(), Memory>

@@ -1,62 +1,28 @@
-ghost use Rattle.std.specs.Prelude.{◌≡◌, ◌⊎◌, ℕ, List, [], Some, None, true, false};
-ghost use Rattle.lil_resolved.specs.Resolved.{Resolved};
+ghost use Rattle.std.specs.Prelude.{◌≡◌, ◌≤◌, length, Some, None, false};
 ghost use Rattle.lil_resolved.specs.Views.{module_of};
-ghost use Rattle.lil_meaning.specs.World.{World};
-ghost use Rattle.lil_resolved.specs.Sizes.{IsSound, IsSmall};
-ghost use Rattle.lil_language.specs.declared.unit.Unit.{Unit as Tree};
-ghost use Rattle.lil_language.specs.Units.{Reads, HasReadFault};
+ghost use Rattle.lil_resolved.specs.Sizes.{IsSound};
+ghost use Rattle.lil_lower.specs.Lowered.{lowered};
 ghost use Rattle.lil_session.specs.Words.{mod_file, name_of_word};
-ghost use Rattle.lil_base.specs.declared.fault.SourceFault.{SourceFault as Fault};
-ghost use Rattle.lil_session.specs.Outcome.{settled, gives_way, devices, not_built, stopped_by, Answers, Blames, Finds, Headline, IsRunAnswer, IsRunnable, MeansAnswer, ReportBlames, Runs, Shows};
-ghost use Rattle.lil_session.specs.Counted.{MachineAnswers};
-ghost use Rattle.lil_volume.specs.Causes.{Rose};
-ghost use Rattle.lil_volume.specs.Told.{followed_by, FollowedByPrefix};
-ghost use Rattle.lil_session.specs.Report.{status_lines};
-ghost use Rattle.lil_session.specs.Answered.{TextRan, CommandRan, CommandReported, Answered};
+ghost use Rattle.lil_session.specs.Outcome.{devices, stopped_by, ungenerated_by, coded, lowered_says, says};
+ghost use Rattle.lil_session.specs.Answered.{Carried, TextRan, CommandRan, CommandReported, Answered};
 
 use crate::report::write_report;
 use crate::run::run_program;
 use crate::words::named;
 use crate::{Channel, Options, Rack, Status};
 use lil_base::{FaultKind, Name, Place, SourceFault, Text};
+use lil_check_unit::check_program;
+use lil_language::Unit;
+use lil_lower::lower;
+use lil_module::RModule as Checked;
 use lil_read_unit::read;
 use lil_resolved::RModule;
-use lil_structured::read_structured;
 use lil_text::ReadStop;
-use lil_unit::generate;
+use lil_unit::{GenStop, generate};
 use lil_volume::{Keyboard, Sink, Volume, VolumeError};
 use std::alloc::Global;
 
-/// The fault of a text that isn't structured.
-fn fault_of_form() -> SourceFault
-    ensures { result ≡ not_built }
-{
-    let start = Place {
-        line: 1,
-        column: 1,
-        offset: 0,
-    };
-    SourceFault::at(FaultKind::NotBuilt, start)
-}
-
-/// Translates a program module and runs its code.
-fn run_module<S: Sink>(alloc: Global, m: &RModule, steps: u64, screen: &mut S) -> Status
-    requires sound { IsSound (module_of m.now) }
-    requires small { IsSmall (module_of m.now) }
-    ensures shows { (w : World) → w.screen ≡ [] → Shows (module_of m.now) w (S.written screen.old) (S.written screen.new) result }
-    ensures answer { (w : World) → w.screen ≡ [] → settled result ≡ true → (result ≡ Status.StepsSpent) ⊎ MeansAnswer (module_of m.now) w result }
-    ensures kinds { IsRunAnswer result }
-    ensures machine { (w : World) → w.screen ≡ [] → MachineAnswers (module_of m.now) w steps (S.written screen.old) (S.written screen.new) result }
-    ensures cause { Blames Status.ScreenFault (S.faults screen.old) (S.faults screen.new) result }
-    ensures told { (result ≡ Status.ScreenFault) ⊎ (S.faults screen.new ≡ S.faults screen.old) }
-{
-    match generate(alloc, m) {
-        Err(_) => Status::Memory,
-        Ok(code) => run_program(alloc, m, &code, steps, screen),
-    }
-}
-
-/// The answer where reading stopped.
+/// The answer where reading or checking stopped.
 fn stopped(stop: ReadStop) -> Status
     ensures { result ≡ stopped_by stop }
 {
@@ -66,26 +32,71 @@ fn stopped(stop: ReadStop) -> Status
     }
 }
 
-/// Runs the text of the file of this name, which is a unit, where it is structured.
-fn run_unit<S: Sink>(alloc: Global, name: &Name, text: &Text, steps: u64, screen: &mut S) -> Status
-    requires reads { (u : Tree) × Reads text.now u }
-    requires one { (u : Tree) (f : Fault) → Reads text.now u → HasReadFault text.now f → ⊥ }
-    ensures { TextRan name.now text.now steps (S.written screen.old) (S.faults screen.old) (S.written screen.new) (S.faults screen.new) result }
+/// The answer where no code was made of a unit whose name stands at this place.
+fn not_generated(stop: GenStop, name: Place) -> Status
+    ensures { result ≡ ungenerated_by name stop }
 {
-    match read_structured(alloc, name, text) {
-        Err(_) => Status::Memory,
-        Ok(None) => Status::SourceFault(fault_of_form()),
-        Ok(Some(m)) => run_module(alloc, &m, steps, screen),
+    match stop {
+        GenStop::CodeTooLong { bytes } => {
+            Status::SourceFault(SourceFault::code_too_long(name, bytes))
+        }
+        GenStop::Memory => Status::Memory,
     }
 }
 
-/// Runs the text of the file of this name where it is structured.
+/// Translates a program module, whose name stands at this place, and runs its code.
+#[tactic(auto, using(crate::proofs::Faulty::small_of))]
+fn run_module<S: Sink>(
+    alloc: Global,
+    name: Place,
+    m: &RModule,
+    steps: u64,
+    screen: &mut S,
+) -> Status
+    requires sound { IsSound (module_of m.now) }
+    requires few { length m.now.variables ≤ 32000 }
+    ensures { Carried (coded name (module_of m.now)) steps (S.written screen.old) (S.faults screen.old) (S.written screen.new) (S.faults screen.new) result }
+{
+    match generate(alloc, m) {
+        Err(stop) => not_generated(stop, name),
+        Ok(code) => run_program(alloc, m, &code, steps, screen),
+    }
+}
+
+/// Runs a checked module, which this unit is, where code can be made of it.
+fn run_checked<S: Sink>(
+    alloc: Global,
+    unit: &Unit,
+    m: &Checked,
+    steps: u64,
+    screen: &mut S,
+) -> Status
+    ensures { Carried (lowered_says unit.now (lowered m.now)) steps (S.written screen.old) (S.faults screen.old) (S.written screen.new) (S.faults screen.new) result }
+{
+    match lower(alloc, m) {
+        Err(_) => Status::Memory,
+        Ok(None) => { Status::SourceFault(SourceFault::at(FaultKind::NotBuilt, unit.head.place)) }
+        Ok(Some(found)) => run_module(alloc, unit.head.name.place, &found, steps, screen),
+    }
+}
+
+/// Checks a unit in the file of this name, and runs it where it has no fault.
+fn run_unit<S: Sink>(alloc: Global, file: &Name, unit: &Unit, steps: u64, screen: &mut S) -> Status
+    ensures { Carried (says file.now unit.now) steps (S.written screen.old) (S.faults screen.old) (S.written screen.new) (S.faults screen.new) result }
+{
+    match check_program(alloc, file, unit) {
+        Err(stop) => stopped(stop),
+        Ok(m) => run_checked(alloc, unit, &m, steps, screen),
+    }
+}
+
+/// Runs the text of the file of this name where it has no fault.
 fn run_text<S: Sink>(alloc: Global, name: &Name, text: &Text, steps: u64, screen: &mut S) -> Status
     ensures { TextRan name.now text.now steps (S.written screen.old) (S.faults screen.old) (S.written screen.new) (S.faults screen.new) result }
 {
     match read(alloc, text) {
         Err(stop) => stopped(stop),
-        Ok(_) => run_unit(alloc, name, text, steps, screen),
+        Ok(unit) => run_unit(alloc, name, &unit, steps, screen),
     }
 }
 

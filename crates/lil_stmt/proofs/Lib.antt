@@ -1,4 +1,5 @@
 mod CaseEmitting
 mod Extents
 mod Nodes
+mod Saturating
 mod Stating

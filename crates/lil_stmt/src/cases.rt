@@ -35,9 +35,9 @@ pub(crate) fn case_places(start: usize, arms: &[RArm], otherwise: &Option<Items<
     let entries = entry_count(arms);
     let leave = start + 3;
     let first = leave + 3;
-    let other = first + arms_size(arms);
-    let table = other + else_size(otherwise);
-    let end = table + 5 + 6 * entries;
+    let other = first + arms_size(arms) as usize;
+    let table = other + else_size(otherwise) as usize;
+    let end = table + 5 + 6 * entries as usize;
     Places {
         end: end as u16,
         leave: leave as u16,
@@ -67,7 +67,7 @@ fn emit_table(code: &mut Bytes, arms: &[RArm], first: usize) -> Result<(), Memor
     let mut place = first;
     for arm in arms {
         emit_labels(code, arm.labels.as_slice(), place as u16)?;
-        place += body_size(arm.body.as_slice()) + 3;
+        place += body_size(arm.body.as_slice()) as usize + 3;
     }
     Ok(())
 }

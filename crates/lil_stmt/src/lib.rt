@@ -6,5 +6,5 @@ mod cases;
 mod sizes;
 mod statements;
 
-pub use sizes::frame_words;
+pub use sizes::{body_size, frame_words};
 pub use statements::{Around, emit_body};

@@ -1,55 +1,58 @@
-//! How many bytes the code of a part takes, and how many words of the frame.
+//! How many bytes the code of a part takes, and how many words of the frame. Bytes are counted up to 4,294,967,295.
 
-ghost use Rattle.std.specs.Prelude.{◌≡◌, ◌≤◌, [], None};
+ghost use Rattle.std.specs.Prelude.{◌≡◌, ◌≤◌, [], None, length, min};
 ghost use Rattle.lil_resolved.specs.Sizes as spec;
 ghost use Rattle.lil_resolved.specs.Views as view;
 ghost use Rattle.lil_stmt.specs.Generating as emitted;
 
 use lil_base::Items;
 use lil_expr::expression_size;
-use lil_resolved::{RArm, RGuard, RStmt};
+use lil_resolved::{RArm, RGuard, RLabel, RStmt};
 
 /// The bytes of a statement's code.
 #[cycle(sizing)]
 #[tactic(auto, using(crate::proofs::Extents::if_size, crate::proofs::Extents::case_size))]
-fn statement_size(statement: &RStmt) -> usize
-    requires { spec.body_size (view.statement_of statement.now) ≤ 32767 }
-    ensures { result ≡ spec.body_size (view.statement_of statement.now) }
+fn statement_size(statement: &RStmt) -> u32
+    ensures { result ≡ min (spec.body_size (view.statement_of statement.now)) 4294967295 }
 {
     match statement {
-        RStmt::Assign(_, value) => expression_size(value) + 3,
-        RStmt::Write(value) => expression_size(value) + 2,
+        RStmt::Assign(_, value) => expression_size(value).saturating_add(3),
+        RStmt::Write(value) => expression_size(value).saturating_add(2),
         RStmt::If(guards, otherwise) => {
-            guards_size(guards.as_slice()) + body_size(otherwise.as_slice())
+            guards_size(guards.as_slice()).saturating_add(body_size(otherwise.as_slice()))
         }
         RStmt::Case(value, arms, otherwise) => {
-            let bodies = arms_size(arms.as_slice()) + 6 * entry_count(arms.as_slice());
-            expression_size(value) + 6 + bodies + else_size(otherwise) + 5
+            let bodies = arms_size(arms.as_slice()).saturating_add(else_size(otherwise));
+            let entries = entry_count(arms.as_slice()).saturating_mul(6);
+            expression_size(value)
+                .saturating_add(bodies)
+                .saturating_add(entries)
+                .saturating_add(11)
         }
-        RStmt::While(condition, body) => {
-            expression_size(condition) + 3 + body_size(body.as_slice()) + 3
-        }
-        RStmt::Repeat(body, condition) => {
-            body_size(body.as_slice()) + expression_size(condition) + 3
-        }
-        RStmt::Loop(body) => body_size(body.as_slice()) + 3,
+        RStmt::While(condition, body) => expression_size(condition)
+            .saturating_add(body_size(body.as_slice()))
+            .saturating_add(6),
+        RStmt::Repeat(body, condition) => body_size(body.as_slice())
+            .saturating_add(expression_size(condition))
+            .saturating_add(3),
+        RStmt::Loop(body) => body_size(body.as_slice()).saturating_add(3),
         RStmt::Exit => 3,
-        RStmt::For(_, from, to, _, body) => {
-            expression_size(from) + expression_size(to) + 15 + body_size(body.as_slice()) + 5
-        }
+        RStmt::For(_, from, to, _, body) => expression_size(from)
+            .saturating_add(expression_size(to))
+            .saturating_add(body_size(body.as_slice()))
+            .saturating_add(20),
     }
 }
 
-/// The bytes of the code of statements.
+/// The bytes of the code of statements, or 4,294,967,295 where they are more.
 #[cycle(sizing)]
 #[tactic(auto, using(crate::proofs::Extents::body_size_next))]
-pub(crate) fn body_size(body: &[RStmt]) -> usize
-    requires { spec.body_size (view.statements_of body.now) ≤ 32767 }
-    ensures { result ≡ spec.body_size (view.statements_of body.now) }
+pub fn body_size(body: &[RStmt]) -> u32
+    ensures { result ≡ min (spec.body_size (view.statements_of body.now)) 4294967295 }
 {
-    let mut size = 0;
+    let mut size: u32 = 0;
     for statement in body {
-        size += statement_size(statement);
+        size = size.saturating_add(statement_size(statement));
     }
     size
 }
@@ -57,13 +60,15 @@ pub(crate) fn body_size(body: &[RStmt]) -> usize
 /// The bytes of the code of guards, up to what stands behind ELSE.
 #[cycle(sizing)]
 #[tactic(auto, using(crate::proofs::Extents::guards_size_next))]
-pub(crate) fn guards_size(guards: &[RGuard]) -> usize
-    requires { spec.body_size (view.guards_of guards.now []) ≤ 32767 }
-    ensures { result ≡ spec.body_size (view.guards_of guards.now []) }
+pub(crate) fn guards_size(guards: &[RGuard]) -> u32
+    ensures { result ≡ min (spec.body_size (view.guards_of guards.now [])) 4294967295 }
 {
-    let mut size = 0;
+    let mut size: u32 = 0;
     for guard in guards {
-        size += expression_size(&guard.condition) + 3 + body_size(guard.body.as_slice()) + 3;
+        size = size
+            .saturating_add(expression_size(&guard.condition))
+            .saturating_add(body_size(guard.body.as_slice()))
+            .saturating_add(6);
     }
     size
 }
@@ -71,38 +76,44 @@ pub(crate) fn guards_size(guards: &[RGuard]) -> usize
 /// The bytes of the bodies of arms, each with its jump, up to what stands behind ELSE.
 #[cycle(sizing)]
 #[tactic(auto, using(crate::proofs::Extents::arms_before_next))]
-pub(crate) fn arms_size(arms: &[RArm]) -> usize
-    requires { emitted.before_else (view.arms_of arms.now None) ≤ 32767 }
-    ensures { result ≡ emitted.before_else (view.arms_of arms.now None) }
+pub(crate) fn arms_size(arms: &[RArm]) -> u32
+    ensures { result ≡ min (emitted.before_else (view.arms_of arms.now None)) 4294967295 }
 {
-    let mut size = 0;
+    let mut size: u32 = 0;
     for arm in arms {
-        size += body_size(arm.body.as_slice()) + 3;
+        size = size
+            .saturating_add(body_size(arm.body.as_slice()))
+            .saturating_add(3);
     }
     size
 }
 
 /// The bytes of what stands behind ELSE, with its jump, or of the trap in its place.
 #[cycle(sizing)]
-pub(crate) fn else_size(otherwise: &Option<Items<RStmt>>) -> usize
-    requires { spec.arms_size (view.else_of otherwise.now) ≤ 32767 }
-    ensures { result ≡ spec.arms_size (view.else_of otherwise.now) }
+pub(crate) fn else_size(otherwise: &Option<Items<RStmt>>) -> u32
+    ensures { result ≡ min (spec.arms_size (view.else_of otherwise.now)) 4294967295 }
 {
     match otherwise {
         None => 2,
-        Some(body) => body_size(body.as_slice()) + 3,
+        Some(body) => body_size(body.as_slice()).saturating_add(3),
     }
+}
+
+/// How many labels there are.
+fn label_count(labels: &[RLabel]) -> u32
+    ensures { result ≡ min (length labels.now) 4294967295 }
+{
+    u32::try_from(labels.len()).unwrap_or(u32::MAX)
 }
 
 /// How many entries the labels of arms have.
 #[tactic(auto, using(crate::proofs::Extents::entries_next))]
-pub(crate) fn entry_count(arms: &[RArm]) -> usize
-    requires { emitted.entry_count (view.arms_of arms.now None) ≤ 32767 }
-    ensures { result ≡ emitted.entry_count (view.arms_of arms.now None) }
+pub(crate) fn entry_count(arms: &[RArm]) -> u32
+    ensures { result ≡ min (emitted.entry_count (view.arms_of arms.now None)) 4294967295 }
 {
-    let mut count = 0;
+    let mut count: u32 = 0;
     for arm in arms {
-        count += arm.labels.len();
+        count = count.saturating_add(label_count(arm.labels.as_slice()));
     }
     count
 }

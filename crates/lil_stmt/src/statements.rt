@@ -49,7 +49,7 @@ fn emit_statement(code: &mut Bytes, statement: &RStmt, around: Around) -> Result
         RStmt::If(guards, otherwise) => {
             let guards = guards.as_slice();
             let otherwise = otherwise.as_slice();
-            let end = code.len() + guards_size(guards) + body_size(otherwise);
+            let end = code.len() + guards_size(guards) as usize + body_size(otherwise) as usize;
             emit_guards(code, guards, end as u16, around)?;
             emit_body(code, otherwise, around)
         }
@@ -124,7 +124,7 @@ fn emit_guard(code: &mut Bytes, guard: &RGuard, end: u16, around: Around) -> Res
 {
     emit_expression(code, &guard.condition)?;
     let body = guard.body.as_slice();
-    let other = code.len() + 3 + body_size(body) + 3;
+    let other = code.len() + 3 + body_size(body) as usize + 3;
     encode(code, Instr::Jpf(other as u16))?;
     emit_body(code, body, around)?;
     encode(code, Instr::Jmp(end))
@@ -190,7 +190,7 @@ fn emit_while(
 {
     let again = code.len();
     emit_expression(code, condition)?;
-    let end = code.len() + 3 + body_size(body) + 3;
+    let end = code.len() + 3 + body_size(body) as usize + 3;
     encode(code, Instr::Jpf(end as u16))?;
     emit_body(code, body, around)?;
     encode(code, Instr::Jmp(again as u16))
@@ -224,7 +224,7 @@ fn emit_loop(code: &mut Bytes, body: &[RStmt], around: Around) -> Result<(), Mem
     ensures means { OnOk result (EmitsStatement code.old code.new around.fors around.exit (Loop (statements_of body.now))) }
 {
     let again = code.len();
-    let end = again + body_size(body) + 3;
+    let end = again + body_size(body) as usize + 3;
     let inside = Around {
         fors: around.fors,
         exit: Some(end as u16),
@@ -266,7 +266,7 @@ fn emit_for(
     encode(code, Instr::Liw(word_of_number(i32::from(step))))?;
     let place = 4 + 3 * around.fors;
     let turn = code.len() + 6;
-    let end = turn + 6 + body_size(body) + 5;
+    let end = turn + 6 + body_size(body) as usize + 5;
     encode(code, Instr::Fri(place, 0, end as u16))?;
     encode(code, Instr::Llw(place))?;
     encode(code, Instr::Sgw(variable))?;

@@ -42,46 +42,9 @@ sign (k.Mark m.Plus) = Some one.Plus
 sign (k.Mark m.Minus) = Some one.Minus
 sign _ = None
 
--- a factor begins with it
-abbrev pub begins_factor : TokenKind → Bool
-begins_factor (k.Number v) = true
-begins_factor (k.CharCode c) = true
-begins_factor (k.Chars text) = true
-begins_factor (k.Ident name) = true
-begins_factor (k.Mark m.OpenBrace) = true
-begins_factor (k.Mark m.Open) = true
-begins_factor (k.Word w.Not) = true
-begins_factor _ = false
-
--- an expression begins with it
-abbrev pub begins_expression : TokenKind → Bool
-begins_expression (k.Mark m.Plus) = true
-begins_expression (k.Mark m.Minus) = true
-begins_expression t = begins_factor t
-
 -- a designator may go on with it
 abbrev pub selects : TokenKind → Bool
 selects (k.Mark m.Dot) = true
 selects (k.Mark m.OpenBracket) = true
 selects (k.Mark m.Arrow) = true
 selects _ = false
-
--- a factor may go on with it
-abbrev pub joins_factor : TokenKind → Bool
-joins_factor (k.Mark m.Open) = true
-joins_factor (k.Mark m.OpenBrace) = true
-joins_factor t = selects t
-
--- a statement begins with it
-abbrev pub begins_statement : TokenKind → Bool
-begins_statement (k.Ident name) = true
-begins_statement (k.Word w.Exit) = true
-begins_statement (k.Word w.Return) = true
-begins_statement (k.Word w.Loop) = true
-begins_statement (k.Word w.If) = true
-begins_statement (k.Word w.Case) = true
-begins_statement (k.Word w.While) = true
-begins_statement (k.Word w.Repeat) = true
-begins_statement (k.Word w.For) = true
-begins_statement (k.Word w.With) = true
-begins_statement _ = false

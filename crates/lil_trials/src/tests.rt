@@ -20,7 +20,7 @@ const ENDLESS: &[u8] = b"MODULE L; FROM Terminal IMPORT Write; BEGIN LOOP Write(
 /// What the endless program shows in 1000 steps.
 const ALL_X: [u8; 333] = [b'x'; 333];
 
-const NOT_STRUCTURED: &[u8] = b"MODULE N; BEGIN RETURN END N.";
+const NOT_BUILT: &[u8] = b"MODULE N; BEGIN RETURN END N.";
 
 const USAGE: &[u8] =
     b"usage: lilith compile or run or once or demo, NAME, --steps=N --count --screen\n";
@@ -131,7 +131,7 @@ const OVERFLOWS: Case = Case {
 const ISNT_BUILT: Case = Case {
     words: &[b"once", b"N.MOD"],
     file: b"N.MOD",
-    content: NOT_STRUCTURED,
+    content: NOT_BUILT,
     fails: [0, 0, 0],
     status: 3,
     shown: b"",
@@ -311,15 +311,138 @@ const FAULTS: &[(&[u8], &[u8])] = &[
         b"MODULE F; BEGIN c := (((((((((((((((((((((((((((((((((((((((((((((((1 END F.",
         b"F.MOD:1:69: 12 TooNested\n",
     ),
-    // units without such a fault, which aren't structured
+    // units without such a fault, which aren't built or no programs
     (
         b"DEFINITION MODULE F; TYPE t; PROCEDURE P(VAR a, b: t): t; END F.",
-        b"F.MOD:1:1: 90 NotBuilt\n",
+        b"F.MOD:1:1: 80 UnitKind\n",
     ),
     (
         b"MODULE F; TYPE r = RECORD CASE k: CARDINAL OF 1: a: CHAR | 2 .. 3: b: SET OF [0 .. 7]; END END; END F.",
-        b"F.MOD:1:1: 90 NotBuilt\n",
+        b"F.MOD:1:20: 90 NotBuilt\n",
     ),
+];
+
+/// The smallest texts of faults of names, types and statements, of the unit, and of what isn't built, in a file X.MOD.
+const CHECKED: &[(&[u8], &[u8])] = &[
+    (b"MODULE X;BEGIN a:=1 END X.", b"X.MOD:1:16: 20 Unknown\n"),
+    (b"MODULE X;VAR a,a:CHAR;END X.", b"X.MOD:1:16: 21 Twice\n"),
+    (
+        b"MODULE X;CONST c=CHAR;END X.",
+        b"X.MOD:1:18: 24 WrongKind\n",
+    ),
+    (
+        b"MODULE X;BEGIN EXIT END X.",
+        b"X.MOD:1:16: 25 ExitOutside\n",
+    ),
+    (
+        b"MODULE X;BEGIN RETURN 1 END X.",
+        b"X.MOD:1:16: 26 ReturnKind\n",
+    ),
+    (
+        b"MODULE X;VAR s:BITSET;BEGIN FOR s:=1 TO 2 DO END END X.",
+        b"X.MOD:1:33: 27 ForVariable\n",
+    ),
+    (
+        b"MODULE X;CONST c=1+\"a\";END X.",
+        b"X.MOD:1:19: 30 Operands\n",
+    ),
+    (
+        b"MODULE X;VAR c:CHAR;BEGIN c:=1 END X.",
+        b"X.MOD:1:28: 31 Assign\n",
+    ),
+    (
+        b"MODULE X;BEGIN HALT(1) END X.",
+        b"X.MOD:1:16: 32 ArgCount\n",
+    ),
+    (
+        b"MODULE X;BEGIN INC(1) END X.",
+        b"X.MOD:1:20: 33 VarArgument\n",
+    ),
+    (
+        b"MODULE X;CONST c=1;BEGIN c END X.",
+        b"X.MOD:1:26: 34 NotCallable\n",
+    ),
+    (
+        b"MODULE X;CONST c=1;BEGIN c[0]:=1 END X.",
+        b"X.MOD:1:27: 35 NotArray\n",
+    ),
+    (
+        b"MODULE X;CONST c=1;BEGIN c.f:=1 END X.",
+        b"X.MOD:1:27: 36 NotRecord\n",
+    ),
+    (
+        b"MODULE X;CONST c=1;BEGIN c^:=1 END X.",
+        b"X.MOD:1:27: 37 NotPointer\n",
+    ),
+    (
+        b"MODULE X;VAR r:RECORD END;BEGIN r.f:=1 END X.",
+        b"X.MOD:1:35: 38 NoField\n",
+    ),
+    (
+        b"MODULE X;TYPE t=SET OF CHAR;END X.",
+        b"X.MOD:1:24: 39 SetBase\n",
+    ),
+    (
+        b"MODULE X;TYPE r=RECORD END;p=PROCEDURE():r;END X.",
+        b"X.MOD:1:42: 40 ResultType\n",
+    ),
+    (
+        b"MODULE X;VAR p:PROC;BEGIN p:=HALT END X.",
+        b"X.MOD:1:30: 41 ProcValue\n",
+    ),
+    (
+        b"MODULE X;BEGIN CASE 1 OF 1:|1: END END X.",
+        b"X.MOD:1:29: 42 LabelTwice\n",
+    ),
+    (
+        b"MODULE X;VAR c:CARDINAL;BEGIN c:=-1 END X.",
+        b"X.MOD:1:34: 50 ConstRange\n",
+    ),
+    (b"MODULE X;CONST c=NIL;END X.", b"X.MOD:1:18: 51 NotConst\n"),
+    (
+        b"MODULE X;CONST c=1 DIV 0;END X.",
+        b"X.MOD:1:20: 52 ConstArith\n",
+    ),
+    (
+        b"MODULE X;TYPE t=[1..0];END X.",
+        b"X.MOD:1:17: 53 EmptyRange\n",
+    ),
+    (
+        b"MODULE X;VAR a:ARRAY CARDINAL OF CHAR;END X.",
+        b"X.MOD:1:16: 61 DataTooLong\n",
+    ),
+    (
+        b"MODULE InOut;END InOut.",
+        b"X.MOD:1:8: 76 ReservedModule\n",
+    ),
+    (b"MODULE Y;END Y.", b"X.MOD:1:8: 77 FileName\n"),
+    (b"DEFINITION MODULE X;END X.", b"X.MOD:1:1: 80 UnitKind\n"),
+    // data above 32,000 words
+    (
+        b"MODULE X;VAR a,b:ARRAY[0..19999] OF CARDINAL;END X.",
+        b"X.MOD:1:8: 61 DataTooLong\n",
+    ),
+    // the later name in the text is the second, also where it is bound first
+    (b"MODULE X;VAR x:(a,x);END X.", b"X.MOD:1:19: 21 Twice\n"),
+    // what isn't there, and what isn't built
+    (b"MODULE X;IMPORT Y;END X.", b"X.MOD:1:17: 90 NotBuilt\n"),
+    (
+        b"MODULE X;TYPE t=SET OF BOOLEAN;END X.",
+        b"X.MOD:1:17: 90 NotBuilt\n",
+    ),
+    (
+        b"MODULE X;IMPORT InOut;VAR s:BITSET;BEGIN InOut.WriteString(\"a\") END X.",
+        b"X.MOD:1:29: 90 NotBuilt\n",
+    ),
+    (
+        b"MODULE X;IMPORT InOut;BEGIN InOut.WriteString(\"a\") END X.",
+        b"X.MOD:1:29: 90 NotBuilt\n",
+    ),
+    (
+        b"MODULE X;PROCEDURE P;BEGIN HALT(1) END P;END X.",
+        b"X.MOD:1:28: 32 ArgCount\n",
+    ),
+    (b"MODULE X;BEGIN HALT END X.", b"X.MOD:1:1: 90 NotBuilt\n"),
 ];
 
 const FAULTY: Case = Case {
@@ -338,6 +461,15 @@ fn faults(rt: HostRuntime) -> Result<(), Fail> {
     let alloc = rt.alloc();
     for (text, reported) in FAULTS {
         let case = Case { reported, ..FAULTY };
+        check(&rt, alloc, &case, Bytes::from_slice(alloc, text)?)?;
+    }
+    for (text, reported) in CHECKED {
+        let case = Case {
+            words: &[b"once", b"X.MOD"],
+            file: b"X.MOD",
+            reported,
+            ..FAULTY
+        };
         check(&rt, alloc, &case, Bytes::from_slice(alloc, text)?)?;
     }
     let mut blanks = Bytes::new(alloc);
@@ -397,8 +529,8 @@ const DONE: &[(&[u8], &[u8])] = &[
         b"-/",
     ),
     (
-        b"Write(CHR(101B)); Write(CHR(42H)); Write(CHR(67)); Write(\"D\")",
-        b"ABCD",
+        b"Write(CHR(101B)); Write(CHR(42H)); Write(CHR(67)); Write(\"D\"); Write(105C)",
+        b"ABCDE",
     ),
     (
         b"IF (c # 0) AND (7 DIV c > 1) THEN Write('x') ELSE Write('a') END; IF (c = 0) OR (7 DIV c > 1) THEN Write('o') END",
@@ -459,28 +591,36 @@ const TRAPS: &[(&[u8], &[u8], &[u8])] = &[
     ),
 ];
 
-/// Statements that aren't built.
-const REFUSED: &[&[u8]] = &[
+/// Statements with a fault.
+const REFUSED: &[(&[u8], &[u8])] = &[
     // how often FOR turns, and what it leaves in its variable
-    b"FOR c := 1 TO 3 BY 0 DO END",
-    b"FOR c := 1 TO 3 BY a DO END",
-    b"FOR c := 0 TO 0 - 1 DO END",
+    (
+        b"FOR c := 1 TO 3 BY 0 DO END",
+        b"K.MOD:1:87: 50 ConstRange\n",
+    ),
+    (b"FOR c := 1 TO 3 BY a DO END", b"K.MOD:1:87: 51 NotConst\n"),
+    (b"FOR c := 0 TO 0 - 1 DO END", b"K.MOD:1:82: 31 Assign\n"),
     // which arm of CASE is done
-    b"CASE c OF 1 .. 4: | 3: END",
-    b"CASE c OF 4 .. 1: END",
-    b"CASE c OF -1: END",
-    b"CASE 65535 OF -1: END",
+    (
+        b"CASE c OF 1 .. 4: | 3: END",
+        b"K.MOD:1:88: 42 LabelTwice\n",
+    ),
+    (b"CASE c OF 4 .. 1: END", b"K.MOD:1:78: 53 EmptyRange\n"),
+    (b"CASE c OF -1: END", b"K.MOD:1:78: 31 Assign\n"),
+    (b"CASE 65535 OF -1: END", b"K.MOD:1:82: 31 Assign\n"),
     // operators, constants, and operands that aren't evaluated
-    b"c := 1 DIV 0",
-    b"c := 65535 + 1",
-    b"c := -c",
-    b"IF c THEN END",
-    b"Write(c)",
-    b"Write(101C)",
-    b"Write('ab')",
+    (b"c := 1 DIV 0", b"K.MOD:1:75: 52 ConstArith\n"),
+    (b"c := 65535 + 1", b"K.MOD:1:79: 52 ConstArith\n"),
+    (b"c := -c", b"K.MOD:1:73: 30 Operands\n"),
+    (b"IF c THEN END", b"K.MOD:1:71: 30 Operands\n"),
+    (b"Write(c)", b"K.MOD:1:74: 31 Assign\n"),
+    (b"Write('ab')", b"K.MOD:1:74: 31 Assign\n"),
     // IF, WHILE, REPEAT, LOOP and EXIT, comments and empty statements
-    b"EXIT",
-    b"FOR c := 1 TO 2 DO EXIT END",
+    (b"EXIT", b"K.MOD:1:68: 25 ExitOutside\n"),
+    (
+        b"FOR c := 1 TO 2 DO EXIT END",
+        b"K.MOD:1:87: 25 ExitOutside\n",
+    ),
 ];
 
 /// A program K of these statements.
@@ -519,10 +659,10 @@ fn statements(rt: HostRuntime) -> Result<(), Fail> {
         };
         check(&rt, alloc, &case, program(alloc, body)?)?;
     }
-    for body in REFUSED {
+    for (body, reported) in REFUSED {
         let case = Case {
             status: 3,
-            reported: b"K.MOD:1:1: 90 NotBuilt\n",
+            reported,
             ..RUNS_K
         };
         check(&rt, alloc, &case, program(alloc, body)?)?;
@@ -530,20 +670,51 @@ fn statements(rt: HostRuntime) -> Result<(), Fail> {
     Ok(())
 }
 
-/// The longest sums: their operands nest deepest, on the left.
+/// So many assignments of 10 bytes of code each, in a module that has 4 bytes beside them.
+fn assignments(alloc: Global, count: usize) -> Result<Bytes, Fail> {
+    let mut text = Bytes::from_slice(alloc, b"MODULE K; VAR c: CARDINAL; BEGIN ")?;
+    for _ in 0..count {
+        text.extend(b"c:=c+1;")?;
+    }
+    text.extend(b" END K.")?;
+    Ok(text)
+}
+
+/// The longest code, and code that is too long.
+#[test]
+fn longest_code(rt: HostRuntime) -> Result<(), Fail> {
+    let alloc = rt.alloc();
+    check(&rt, alloc, &RUNS_K, assignments(alloc, 3276)?)?;
+    let case = Case {
+        status: 3,
+        reported: b"K.MOD:1:8: 64 CodeTooLong 32774\n",
+        ..RUNS_K
+    };
+    check(&rt, alloc, &case, assignments(alloc, 3277)?)
+}
+
+/// An assignment of a sum with so many operands behind the first one.
+fn sum(alloc: Global, operand: &[u8], count: usize) -> Result<Bytes, Fail> {
+    let mut text = Bytes::from_slice(alloc, b"MODULE K; VAR c: CARDINAL; BEGIN c := c")?;
+    for _ in 0..count {
+        text.extend(operand)?;
+    }
+    text.extend(b" END K.")?;
+    Ok(text)
+}
+
+/// The longest sums that run, and a longer one: no sum is too long to be read, counted and given back.
 #[test]
 fn longest_sums(rt: HostRuntime) -> Result<(), Fail> {
     let alloc = rt.alloc();
-    let operands: [&[u8]; 2] = [b"+1", b"+c"];
-    for operand in &operands {
-        let mut text = Bytes::from_slice(alloc, b"MODULE K; VAR c: CARDINAL; BEGIN c := c")?;
-        for _ in 0..4072 {
-            text.extend(operand)?;
-        }
-        text.extend(b" END K.")?;
-        check(&rt, alloc, &RUNS_K, text)?;
-    }
-    Ok(())
+    check(&rt, alloc, &RUNS_K, sum(alloc, b"+1", 8180)?)?;
+    check(&rt, alloc, &RUNS_K, sum(alloc, b"+c", 8180)?)?;
+    let case = Case {
+        status: 3,
+        reported: b"K.MOD:1:8: 64 CodeTooLong 400010\n",
+        ..RUNS_K
+    };
+    check(&rt, alloc, &case, sum(alloc, b"+c", 100_000)?)
 }
 
 /// A run of a program L within a budget, and what is wanted of it.

@@ -2,5 +2,7 @@
 #![tactic(auto)]
 
 mod code;
+mod stop;
 
 pub use code::generate;
+pub use stop::GenStop;

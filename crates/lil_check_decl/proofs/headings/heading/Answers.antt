@@ -2,4 +2,4 @@ use Rattle.lil_check_decl.proofs.Parts.{is_heading}
 use Rattle.lil_check_decl.proofs.headings.heading.Goals as goal
 
 pub returns-clause-said : goal.returns-clause-said
-returns-clause-said c = is_heading _ c.args.of.now c.in_ok-block.block c.as_slice.result.now c.in_ok-block.ensures.number c.in_ok-block.ensures.more c.home_at-home.ensures c.as_slice.ensures c.in_ok-parameters.ensures c.in_ok-sort.ensures c.in_ok-named.ensures
+returns-clause-said c = is_heading _ c.args.of.now c.in_ok-block.block c.as_slice.result.now c.note.ensures c.in_ok-block.ensures.number c.in_ok-block.ensures.more c.home_at-home.ensures c.as_slice.ensures c.in_ok-parameters.ensures c.in_ok-sort.ensures c.in_ok-named.ensures

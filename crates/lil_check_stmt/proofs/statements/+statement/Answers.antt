@@ -100,7 +100,7 @@ pub statement-returns-in-For-clause-said : goal.statement-returns-in-For-clause-
 statement-returns-in-For-clause-said t c = is_for c.args.env.now c.args.looping c.in-For.field-0 c.in-For.head c.in-For.body c.as_slice-in-For.result.now c.in-For.is c.in_ok-count-in-For.ensures c.as_slice-in-For.ensures c.in_ok-body-in-For.ensures.said c.counted.ensures
 
 pub statement-returns-in-With-clause-said : goal.statement-returns-in-With-clause-said
-statement-returns-in-With-clause-said t c = is_with c.args.env.now c.args.looping c.in-With.at c.in-With.designator c.in-With.body c.as_slice-in-With.result.now c.in-With.is c.in_ok-found-in-With.ensures c.record_of-opened.ensures (search rules)
+statement-returns-in-With-clause-said t c = is_with c.args.env.now c.args.looping c.in-With.at c.in-With.designator c.in-With.body c.as_slice-in-With.result.now c.in-With.is c.note.ensures c.in_ok-found-in-With.ensures c.record_of-opened.ensures (search rules)
     c.as_slice-in-With.ensures c.in_ok-body-in-With.ensures.said c.with_record.ensures
 
 pub statement-returns-clause-said : goal.statement-returns-clause-said

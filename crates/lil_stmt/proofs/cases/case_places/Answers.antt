@@ -11,8 +11,8 @@ returns c =
     record {
       leave = omega arith;
       first = omega arith;
-      other = omega (arith, before, c.arms_size.ensures);
-      table = omega (arith, bodies, c.arms_size.ensures, c.else_size.ensures);
-      entries = omega (arith, count, c.entry_count-entries.ensures);
+      other = omega (arith, all, before, c.arms_size.ensures);
+      table = omega (arith, all, bodies, c.arms_size.ensures, c.else_size.ensures);
+      entries = omega (arith, all, count, c.entry_count-entries.ensures);
       end = omega (arith, all, c.arms_size.ensures, c.else_size.ensures, c.entry_count-entries.ensures);
     }

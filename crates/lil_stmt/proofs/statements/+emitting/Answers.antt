@@ -1,4 +1,4 @@
-use Rattle.std.proofs.Common.{rules, arith, w16, to_z, of_z, OnOk, refl, suc, ℤ, pos, negsuc, ◌≤ℤ◌, ◌≡◌, ◌+◌, ◌<◌, ◌≤◌, ℕ, List, [], length, drop, sym, ap, ◌∙◌, subst, None, Option}
+use Rattle.std.proofs.Common.{rules, arith, w16, to_z, of_z, OnOk, refl, suc, ℤ, pos, negsuc, ◌≤ℤ◌, ◌≡◌, ◌+◌, ◌<◌, ◌≤◌, ℕ, List, [], length, drop, min, sym, ap, ◌∙◌, subst, None, Option}
 use mir.Val.{SFits}
 use Rattle.std.proofs.lemmas.Int.{to_z-of_z}
 use Rattle.std.proofs.lemmas.List.{drop_all}
@@ -14,11 +14,12 @@ use Rattle.lil_asm.specs.declared.instr.Instr.TheVariants.{Jmp}
 use Rattle.lil_asm.specs.Bytes.{bytes_of}
 use Rattle.lil_stmt.specs.Generating.{EmitsStatement, EmitsBody, EmitsGuards, IsPlaced, EmitsArm, EmitsArms, EmitsBodies, EmitsChoice, before_else, entry_count}
 use Rattle.lil_expr.specs.Appending.{with_ok}
-use Rattle.lil_stmt.proofs.Extents.{body_size_next, body_size_left, guard_next, guards_size_left, if_size, guards_size_apart, arms_before_next, arms_before_left, case_size}
+use Rattle.lil_stmt.proofs.Extents.{body_size_next, body_size_left, guard_next, guard_size_is, guards_size_left, if_size, guards_size_apart, arms_before_next, arms_before_left, case_size}
 use Rattle.lil_expr.specs.Numbers.{number_word}
 use Rattle.lil_stmt.proofs.CaseEmitting.{longer, arm_emitted, no_else_emitted, next_arm_emitted, no_arms_left, case_emitted, case_short}
 use Rattle.lil_stmt.proofs.Stating.{next_emitted, while_emitted, repeat_emitted, loop_emitted, for_emitted, guard_emitted, no_guard_emitted, next_guard_emitted, if_emitted, form_emitted}
 use Rattle.lil_stmt.proofs.Nodes.{nodes, body_nodes, guards_nodes, statement_in, guard_in, if_nodes, arms_nodes, else_nodes, arm_in, arm_nodes_are, case_nodes}
+use Rattle.lil_stmt.proofs.Saturating.{counted}
 use Rattle.lil_stmt.proofs.statements.+emitting.Goals as goal
 
 pub emit_body-emit_statement-requires : goal.emit_body-emit_statement-requires
@@ -70,7 +71,8 @@ emit_guards-returns-clause-means t c =
 pub emit_guard-returns-clause-means : goal.emit_guard-returns-clause-means
 emit_guard-returns-clause-means t c =
     let body = subst (λ (ss : List RStmt). EmitsBody c.encode.new.code c.emit_body.new.code c.args.around.fors c.args.around.exit (statements_of ss)) c.as_slice-body.ensures c.in_ok-emit_body.ensures.means in
-    let long = c.body_size.ensures ∙ ap (λ (ss : List RStmt). spec.body_size (statements_of ss)) c.as_slice-body.ensures in
+    let long = c.body_size.ensures ∙ ap (λ (ss : List RStmt). min (spec.body_size (statements_of ss)) 4294967295) c.as_slice-body.ensures
+    ∙ counted (spec.body_size (statements_of c.args.guard.now.body)) (omega (arith, guard_size_is c.args.guard.now, c.requires.room)) in
     let place : c.len.result + 3 + c.body_size.result + 3 ≡ length c.emit_expression.new.code + 3 + spec.body_size (statements_of c.args.guard.now.body) + 3 = omega (arith, c.len.ensures, long) in
     with_ok c.encode-2.result
     (guard_emitted c.args.around.fors c.args.around.exit c.args.guard.now _ c.args.end _ _ _ _ _ c.in_ok-emit_expression.ensures.means place c.in_ok-encode.ensures body) c.encode-2.ensures
@@ -143,26 +145,12 @@ emit_statement-returns-in-For-clause-means t c =
     (For (cardinal_variable c.in-For.variable) (expression_of c.in-For.from) (expression_of c.in-For.to) z (statements_of c.as_slice-in-For.result.now)))) same c.emit_for.ensures.means in
     with_ok c.emit_for.result (form_emitted c.args.around.fors c.args.around.exit (For (cardinal_variable c.in-For.variable) (expression_of c.in-For.from) (expression_of c.in-For.to) c.in-For.step (statements_of c.as_slice-in-For.result.now)) _ _ _ is) means
 
-pub emit_statement-guards_size-requires : goal.emit_statement-guards_size-requires
-emit_statement-guards_size-requires t c =
-    let whole = ap (λ (s : RStmt). spec.body_size (statement_of s)) c.in-If.is ∙ if_size c.in-If.guards c.in-If.otherwise in
-    let first = ap (λ (gs : List RGuard). spec.body_size (guards_of gs [])) c.as_slice-guards.ensures in
-    let second = ap (λ (ss : List RStmt). spec.body_size (statements_of ss)) c.as_slice-otherwise.ensures in
-    omega (arith, whole, first, c.requires.room)
-
 pub emit_statement-overflow_add-end : goal.emit_statement-overflow_add-end
 emit_statement-overflow_add-end t c =
     let whole = ap (λ (s : RStmt). spec.body_size (statement_of s)) c.in-If.is ∙ if_size c.in-If.guards c.in-If.otherwise in
     let first = ap (λ (gs : List RGuard). spec.body_size (guards_of gs [])) c.as_slice-guards.ensures in
     let second = ap (λ (ss : List RStmt). spec.body_size (statements_of ss)) c.as_slice-otherwise.ensures in
     omega (arith, whole, first, c.len.ensures, c.guards_size.ensures, c.requires.room)
-
-pub emit_statement-body_size-requires : goal.emit_statement-body_size-requires
-emit_statement-body_size-requires t c =
-    let whole = ap (λ (s : RStmt). spec.body_size (statement_of s)) c.in-If.is ∙ if_size c.in-If.guards c.in-If.otherwise in
-    let first = ap (λ (gs : List RGuard). spec.body_size (guards_of gs [])) c.as_slice-guards.ensures in
-    let second = ap (λ (ss : List RStmt). spec.body_size (statements_of ss)) c.as_slice-otherwise.ensures in
-    omega (arith, whole, second, c.requires.room)
 
 pub emit_statement-overflow_add-end-in-If : goal.emit_statement-overflow_add-end-in-If
 emit_statement-overflow_add-end-in-If t c =
@@ -171,8 +159,8 @@ emit_statement-overflow_add-end-in-If t c =
     let second = ap (λ (ss : List RStmt). spec.body_size (statements_of ss)) c.as_slice-otherwise.ensures in
     omega (arith, whole, first, second, c.len.ensures, c.guards_size.ensures, c.body_size.ensures, c.requires.room)
 
-pub emit_statement-overflow_cast-end : goal.emit_statement-overflow_cast-end
-emit_statement-overflow_cast-end t c =
+pub emit_statement-overflow_cast-end-in-If-2 : goal.emit_statement-overflow_cast-end-in-If-2
+emit_statement-overflow_cast-end-in-If-2 t c =
     let whole = ap (λ (s : RStmt). spec.body_size (statement_of s)) c.in-If.is ∙ if_size c.in-If.guards c.in-If.otherwise in
     let first = ap (λ (gs : List RGuard). spec.body_size (guards_of gs [])) c.as_slice-guards.ensures in
     let second = ap (λ (ss : List RStmt). spec.body_size (statements_of ss)) c.as_slice-otherwise.ensures in
@@ -210,7 +198,11 @@ emit_statement-returns-in_ok-emit_guards-in-If-clause-means t c =
     let gs = c.as_slice-guards.result.now in
     let other = c.as_slice-otherwise.result.now in
     let end : ℕ = c.len.result + c.guards_size.result + c.body_size.result in
-    let place : end ≡ length c.args.code.now + spec.body_size (guards_of gs other) = omega (arith, c.len.ensures, c.guards_size.ensures, c.body_size.ensures, guards_size_apart gs other) in
+    let whole = ap (λ (s : RStmt). spec.body_size (statement_of s)) c.in-If.is ∙ if_size c.in-If.guards c.in-If.otherwise in
+    let first = ap (λ (gs : List RGuard). spec.body_size (guards_of gs [])) c.as_slice-guards.ensures in
+    let second = ap (λ (ss : List RStmt). spec.body_size (statements_of ss)) c.as_slice-otherwise.ensures in
+    let place : end ≡ length c.args.code.now + spec.body_size (guards_of gs other) =
+    omega (arith, whole, first, second, c.requires.room, c.len.ensures, c.guards_size.ensures, c.body_size.ensures, guards_size_apart gs other) in
     let is = ap statement_of c.in-If.is ∙ if_is c.in-If.guards c.in-If.otherwise
     ∙ ap (λ (gs : List RGuard). guards_of gs c.in-If.otherwise) (sym c.as_slice-guards.ensures) ∙ ap (guards_of gs) (sym c.as_slice-otherwise.ensures) in
     subst (λ (ss : Statements). OnOk c.emit_body.result (EmitsBody c.args.code.now c.emit_body.new.code c.args.around.fors c.args.around.exit ss)) (sym is)

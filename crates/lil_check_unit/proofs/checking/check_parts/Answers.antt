@@ -1,0 +1,27 @@
+use Rattle.std.proofs.Common.{None, sym, ap, ◌∙◌}
+use Rattle.std.proofs.lemmas.Result.{IfOk-weaker}
+use Rattle.lil_report.specs.Least.{late_of, worse}
+use Rattle.lil_report.specs.Told.{tell}
+use Rattle.lil_check_stmt.specs.Stmts.{bodies_mean}
+use Rattle.lil_check_unit.proofs.UnitFaults.{wrong_declarations, then_statements, late_is, module_is}
+use Rattle.lil_check_unit.proofs.checking.check_parts.Goals as goal
+
+pub returns-in-Some-clause-wrong : goal.returns-in-Some-clause-wrong
+returns-in-Some-clause-wrong c f e =
+    let as_told = c.told.ensures in
+    (c.in-Some.fault, wrong_declarations c.args.u.now c.args.interfaces.now c.new-report.ensures c.in_ok-env.ensures (sym c.in-Some.is ∙ c.worst_now.ensures), cc)
+
+pub returns-in-None-clause-right : goal.returns-in-None-clause-right
+returns-in-None-clause-right c =
+    IfOk-weaker c.with_statements.result _ _
+    (λ m p. (
+      p.0 ∙ module_is c.args.u.now c.args.interfaces.now c.new-report.ensures c.in_ok-env.ensures,
+      then_statements c.args.u.now c.args.interfaces.now c.new-report.ensures c.in_ok-env.ensures (sym c.in-None.is ∙ c.worst_now.ensures) ∙ p.1,
+      p.2 ∙ ap (λ o. worse o (late_of (tell None (bodies_mean c.in_ok-env.env c.args.u.now.decls c.args.u.now.body).1))) c.worst_late.ensures ∙ late_is c.args.u.now c.args.interfaces.now c.new-report.ensures c.in_ok-env.ensures,
+    ))
+    c.with_statements.ensures.right
+
+pub returns-in-None-clause-wrong : goal.returns-in-None-clause-wrong
+returns-in-None-clause-wrong c f e =
+    let p = c.with_statements.ensures.wrong f e in
+    (p.0, then_statements c.args.u.now c.args.interfaces.now c.new-report.ensures c.in_ok-env.ensures (sym c.in-None.is ∙ c.worst_now.ensures) ∙ p.1, p.2)

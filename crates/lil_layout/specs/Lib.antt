@@ -1,0 +1,3 @@
+pub mod Data
+pub mod Places
+pub mod Strings

@@ -1,0 +1,12 @@
+//! How many words the data of a module take.
+#![tactic(auto)]
+
+mod data;
+mod expressions;
+mod places;
+mod statements;
+#[cfg(test)]
+mod tests;
+mod texts;
+
+pub use data::data_words;

@@ -1,0 +1,74 @@
+-- Lists of parts: whether all are there, and what they are together.
+use Rattle.std.proofs.Common.{◌≡◌, ℕ, suc, ◌+◌, ◌<◌, ◌≤◌, List, [], ◌∷◌, ◌++◌, length, map, take, drop, get_or, Option, None, Some, sym, ap, ◌∙◌, refl}
+use Rattle.std.specs.Option.{option_map}
+use Rattle.std.proofs.lemmas.List.{take_more, take_all, map-append}
+use Rattle.std.proofs.Math.Seq.{split_at}
+use Rattle.lil_resolved.specs.declared.resolved.RStmt.{RStmt}
+use Rattle.lil_resolved.specs.declared.resolved.RStmt.TheVariants as s
+use Rattle.lil_resolved.specs.declared.resolved.RGuard.{RGuard}
+use Rattle.lil_resolved.specs.declared.resolved.RArm.{RArm}
+use Rattle.lil_resolved.specs.declared.resolved.RExpr.{RExpr}
+use Rattle.lil_resolved.specs.Resolved.{Statements, Empty, Then, If, Case, Arms, Arm}
+use Rattle.lil_resolved.specs.Views.{expression_of, statement_of, statements_of, guarded, guard_of, label_of, armed, arm_of, else_of}
+use Rattle.lil_resolved.specs.Forms.{if_is, guard_is, case_is, arm_is}
+use Rattle.lil_lower.specs.Lowered.{all_some, nested, chosen}
+use Rattle.lil_lower.specs.Parts.{guard_pair, arm_pair}
+
+swapped : {A : Type 0} (o a : A) (found : Option (List A))
+    → option_map (λ rest. o ∷ rest) (option_map (λ rest. rest ++ a ∷ []) found) ≡ option_map (λ rest. rest ++ a ∷ []) (option_map (λ rest. o ∷ rest) found)
+swapped o a None = refl
+swapped o a (Some found) = refl
+
+some_push : {A : Type 0} (os : List (Option A)) (a : A) → all_some (os ++ Some a ∷ []) ≡ option_map (λ rest. rest ++ a ∷ []) (all_some os)
+some_push (Some o ∷ os) a = ap (option_map (λ rest. o ∷ rest)) (some_push os a) ∙ swapped o a (all_some os)
+some_push _ a = refl
+
+none_among : {A : Type 0} (os rest : List (Option A)) → all_some (os ++ None ∷ rest) ≡ None
+none_among (Some a ∷ os) rest = ap (option_map (λ found. a ∷ found)) (none_among os rest)
+none_among _ rest = refl
+
+pub map_of_map : {A B C : Type 0} (f : B → C) (g : A → B) (xs : List A) → map f (map g xs) ≡ map (λ x. f (g x)) xs
+map_of_map f g [] = refl
+map_of_map f g (x ∷ xs) = ap (λ rest. f (g x) ∷ rest) (map_of_map f g xs)
+
+-- a loop over parts of which each is there so far
+module _ {X B : Type 0} (F : X → Option B) where
+  some_more : (xs : List X) (i : ℕ) (x : X) (b : B) (found : List B) → i < length xs → x ≡ get_or xs i x → F x ≡ Some b → all_some (map F (take i xs)) ≡ Some found
+      → all_some (map F (take (i + 1) xs)) ≡ Some (found ++ b ∷ [])
+  some_more xs i x b found h is there so_far =
+      ap (λ ys. all_some (map F ys)) (take_more xs i x h ∙ ap (λ y. take i xs ++ y ∷ []) (sym is))
+      ∙ ap all_some (map-append F (take i xs) (x ∷ []))
+      ∙ ap (λ o. all_some (map F (take i xs) ++ o ∷ [])) there
+      ∙ some_push (map F (take i xs)) b
+      ∙ ap (option_map (λ rest. rest ++ b ∷ [])) so_far
+
+  pub pushed : {R : Type 0} (V : R → B) (xs : List X) (i : ℕ) (x : X) (r : R) (found new : List R) → i < length xs → x ≡ get_or xs i x → Some (V r) ≡ F x → new ≡ found ++ r ∷ []
+      → all_some (map F (take i xs)) ≡ Some (map V found) → all_some (map F (take (i + 1) xs)) ≡ Some (map V new)
+  pushed V xs i x r found new h is there made so_far =
+      some_more xs i x (V r) (map V found) h is (sym there) so_far ∙ ap Some (sym (ap (map V) made ∙ map-append V found (r ∷ [])))
+
+  pub all_found : {R : Type 0} (V : R → B) (xs : List X) (i : ℕ) (found : List R) → length xs ≤ i → all_some (map F (take i xs)) ≡ Some (map V found)
+      → all_some (map F xs) ≡ Some (map V found)
+  all_found V xs i found h so_far = ap (λ ys. all_some (map F ys)) (sym (take_all i xs h)) ∙ so_far
+
+  pub none_at : (xs : List X) (i : ℕ) (x : X) → i < length xs → x ≡ get_or xs i x → F x ≡ None → all_some (map F xs) ≡ None
+  none_at xs i x h is gone =
+      ap (λ ys. all_some (map F ys)) (split_at xs i x h ∙ ap (λ y. take i xs ++ y ∷ drop (suc i) xs) (sym is))
+      ∙ ap all_some (map-append F (take i xs) (x ∷ drop (suc i) xs))
+      ∙ ap (λ o. all_some (map F (take i xs) ++ o ∷ map F (drop (suc i) xs))) gone
+      ∙ none_among (map F (take i xs)) (map F (drop (suc i) xs))
+
+-- guards and arms as the generator has them
+nested_are : (gs : List RGuard) (other : Statements) → guarded (map guard_of gs) other ≡ nested (map guard_pair gs) other
+nested_are [] other = refl
+nested_are (g ∷ gs) other = guard_is g (guarded (map guard_of gs) other) ∙ ap (λ rest. Then (If (expression_of g.condition) (statements_of g.body) rest) Empty) (nested_are gs other)
+
+pub made_if : (gs : List RGuard) (other : List RStmt) → statement_of (s.If gs other) ≡ nested (map guard_pair gs) (statements_of other)
+made_if gs other = if_is gs other ∙ nested_are gs (statements_of other)
+
+chosen_are : (arms : List RArm) (other : Arms) → armed (map arm_of arms) other ≡ chosen (map arm_pair arms) other
+chosen_are [] other = refl
+chosen_are (a ∷ rest) other = arm_is a (armed (map arm_of rest) other) ∙ ap (Arm (map label_of a.labels) (statements_of a.body)) (chosen_are rest other)
+
+pub made_case : (e : RExpr) (arms : List RArm) (other : Option (List RStmt)) → statement_of (s.Case e arms other) ≡ Then (Case (expression_of e) (chosen (map arm_pair arms) (else_of other))) Empty
+made_case e arms other = case_is e arms other ∙ ap (λ r. Then (Case (expression_of e) r) Empty) (chosen_are arms (else_of other))

@@ -1,0 +1,4 @@
+pub mod Built
+pub mod Lowered
+pub mod Parts
+pub mod Values

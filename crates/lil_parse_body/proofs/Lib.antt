@@ -1,4 +1,0 @@
-mod ExpressionFar
-mod ExpressionPlain
-mod StatementFar
-mod StatementPlain

@@ -1,3 +1,0 @@
-mod Endings
-mod ProgramLaws
-mod ProgramRules

@@ -1,0 +1,8 @@
+use Rattle.std.proofs.Common.{◌≡◌, ◌≤◌, min, max, drop}
+use Rattle.lil_resolved.specs.Chains as chain
+use Rattle.lil_resolved.proofs.resolved.+depth.Given as goal
+
+-- the most so far and what is left are the most of all
+abbrev pub invariant-operations_depth-loop-operation : goal.invariant-operations_depth-loop-operation
+invariant-operations_depth-loop-operation l =
+    (l.most ≤ 4294967295) × (min (max l.most (chain.operations_depth (drop l.operation-index l.operations))) 4294967295 ≡ min (chain.operations_depth l.operations) 4294967295)

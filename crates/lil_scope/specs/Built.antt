@@ -1,0 +1,28 @@
+-- Whose names may stand in a program that runs.
+use Rattle.std.specs.Prelude.{nat_lt, Bool, true, false, ◌||◌}
+use Rattle.lil_module.specs.declared.tree.Standard.{Standard}
+use Rattle.lil_module.specs.declared.tree.Standard.TheVariants as s
+use Rattle.lil_module.specs.declared.tree.Resident.{Resident}
+use Rattle.lil_module.specs.declared.tree.Resident.TheVariants as r
+use Rattle.lil_scope.specs.declared.thing.Thing.{Thing}
+use Rattle.lil_scope.specs.declared.thing.Thing.TheVariants as t
+
+abbrev pub standard_built : Standard → Bool
+standard_built s.High = false
+standard_built s.Excl = false
+standard_built s.Incl = false
+standard_built s.New = false
+standard_built s.Dispose = false
+standard_built _ = true
+
+abbrev pub resident_built : Resident → Bool
+resident_built r.Read = false
+resident_built r.WriteString = false
+resident_built _ = true
+
+-- BITSET, PROC and ADDRESS have the numbers 4, 5 and 6
+abbrev pub built : Thing → Bool
+built (t.Type n) = nat_lt n 4 || nat_lt 6 n
+built (t.Standard x) = standard_built x
+built (t.Resident x n) = resident_built x
+built _ = true

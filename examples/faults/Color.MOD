@@ -1,0 +1,6 @@
+MODULE Color;
+TYPE Colour = (red, green, blue);
+VAR c: Color;
+BEGIN
+  c := red
+END Color.

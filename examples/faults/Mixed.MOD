@@ -1,0 +1,7 @@
+MODULE Mixed;
+VAR letter: CHAR;
+    count: CARDINAL;
+BEGIN
+  letter := "A";
+  count := letter
+END Mixed.

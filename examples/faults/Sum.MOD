@@ -1,0 +1,6 @@
+MODULE Sum;
+VAR signed: INTEGER;
+    plain: CARDINAL;
+BEGIN
+  signed := signed + plain
+END Sum.
