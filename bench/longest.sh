@@ -1,6 +1,6 @@
 #!/bin/sh
-# Measures the built program on texts of 8,192 bytes that run, each with one long row: the wall time from its start to its end, the
-# least of five runs, and the most memory that it held. It prints numbers and judges none.
+# Measures the built program on long texts that run, each with one row that is nearly as long as code, data and constants allow: the
+# wall time from its start to its end, the least of five runs, and the most memory that it held. It prints numbers and judges none.
 set -u
 
 top=$(CDPATH= cd "$(dirname "$0")/.." && pwd -P) || exit 1
@@ -13,10 +13,10 @@ folder=$(mktemp -d) || exit 1
 trap 'rm -rf "$folder"' EXIT
 cd "$folder" || exit 1
 
-# Writes a text NAME.MOD: name, kind of piece, mark between pieces, what stands before them and what behind. It takes as many
-# pieces as there is room for, and fills up with blanks. The pieces are all the same, or names of variables, of which there are 2,574.
+# Writes a text NAME.MOD: name, kind of piece, how many, mark between pieces, what stands before them and what behind. The pieces
+# are all the same, or names of variables, of which there are 2,574.
 text() {
-    awk -v name="$1" -v kind="$2" -v mark="$3" -v head="$4" -v tail="$5" '
+    awk -v name="$1" -v kind="$2" -v count="$3" -v mark="$4" -v head="$5" -v tail="$6" '
         # the n-th name, from 0: one byte, then two
         function variable(n,    letters, digits, m) {
             letters = "abcdefghijklmnopqrstuvwxyz"
@@ -34,27 +34,17 @@ text() {
             return kind
         }
         BEGIN {
-            head = "MODULE " name "; " head
-            tail = tail " END " name "."
-            room = 8192 - length(head) - length(tail)
-            middle = piece(0)
-            size = length(middle)
-            for (n = 1; kind != "variable" || n < 2574; n++) {
-                next_piece = mark piece(n)
-                if (size + length(next_piece) > room) break
-                middle = middle next_piece
-                size += length(next_piece)
-            }
-            printf "%s%s%s", head, middle, tail
-            for (; size < room; size++) printf " "
+            printf "MODULE %s; %s%s", name, head, piece(0)
+            for (n = 1; n < count; n++) printf "%s%s", mark, piece(n)
+            printf "%s END %s.", tail, name
         }' >"$1.MOD"
 }
 
-text Numbers 1 + "VAR c: CARDINAL; BEGIN c := " ""
-text Sum c - "VAR c: CARDINAL; BEGIN c := c + " ""
-text Writes "Write(CHR(42))" "; " "FROM Terminal IMPORT Write; BEGIN " ""
-text Assigns "c := c + 1" "; " "VAR c: CARDINAL; BEGIN " ""
-text Variables variable , "VAR " ": CARDINAL; BEGIN a := z;  b := a"
+text Numbers 1 65535 + "VAR c: CARDINAL; BEGIN c := " ""
+text Sum c 8180 - "VAR c: CARDINAL; BEGIN c := c + " ""
+text Writes "Write(CHR(42))" 6552 "; " "FROM Terminal IMPORT Write; BEGIN " ""
+text Assigns "c := c + 1" 3276 "; " "VAR c: CARDINAL; BEGIN " ""
+text Variables variable 2574 , "VAR " ": CARDINAL; BEGIN a := z;  b := a"
 
 echo "text       bytes  milliseconds  kilobytes  status"
 for name in Numbers Sum Writes Assigns Variables; do
