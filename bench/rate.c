@@ -1,17 +1,17 @@
-/* The loop of rate.sh for comparison: the same bytes of code on a plain interpreter in C, a switch over the first byte of each
-   instruction. It has the nine instructions of that code and tests what the machine tests: the expression stack, addresses, sums
-   and places. It prints how many instructions it did and the nanoseconds that the fastest of its runs took. With a number from 1 to
-   255 it does one run, with so many turns of the outer loop. */
+/* The loops of rate.sh for comparison: the same bytes of code on a plain interpreter in C, a switch over the first byte of each
+   instruction. It has the ten instructions of that code and tests what the machine tests: the expression stack, addresses, sums
+   and places. Its first word is the loop, Sum or Range. It prints how many instructions it did and the nanoseconds that the fastest
+   of its runs took. With a number from 1 to 255 behind that word it does one run, with so many turns of the outer loop. */
 #include <stdint.h>
 #include <stdio.h>
 #include <stdlib.h>
 #include <string.h>
 #include <time.h>
 
-/* FOR outer := 1 TO 70 DO sum := 0; FOR inner := 1 TO 20000 DO sum := sum + 3 END END, with outer, inner and sum at 0, 1 and 2 */
-static uint8_t code[] = {
+/* FOR outer := 1 TO 60 DO sum := 0; FOR inner := 1 TO 20000 DO sum := sum + 3 END END, with outer, inner and sum at 0, 1 and 2 */
+static uint8_t plain[] = {
     0x68, 0, 10,                                                /*  0  ENT 10 */
-    0x01, 0, 1, 0x01, 0, 70, 0x01, 0, 1, 0x77, 0, 4, 0, 0, 71,  /*  3  LIW 1, LIW 70, LIW 1, FRI 4 0 71 */
+    0x01, 0, 1, 0x01, 0, 60, 0x01, 0, 1, 0x77, 0, 4, 0, 0, 71,  /*  3  LIW 1, LIW 60, LIW 1, FRI 4 0 71 */
     0x20, 0, 4, 0x26, 0, 0,                                     /* 18  LLW 4, SGW 0 */
     0x01, 0, 0, 0x26, 0, 2,                                     /* 24  LIW 0, SGW 2 */
     0x01, 0, 1, 0x01, 78, 32, 0x01, 0, 1, 0x77, 0, 7, 0, 0, 66, /* 30  LIW 1, LIW 20000, LIW 1, FRI 7 0 66 */
@@ -20,6 +20,20 @@ static uint8_t code[] = {
     0x78, 0, 7, 0, 45,                                          /* 61  FRN 7 45 */
     0x78, 0, 4, 0, 18,                                          /* 66  FRN 4 18 */
     0x6a,                                                       /* 71  RTN */
+};
+
+/* the same where sum is of the subrange [0 .. 60000] */
+static uint8_t ranged[] = {
+    0x68, 0, 10,                                                      /*  0  ENT 10 */
+    0x01, 0, 1, 0x01, 0, 60, 0x01, 0, 1, 0x77, 0, 4, 0, 0, 81,        /*  3  LIW 1, LIW 60, LIW 1, FRI 4 0 81 */
+    0x20, 0, 4, 0x26, 0, 0,                                           /* 18  LLW 4, SGW 0 */
+    0x01, 0, 0, 0x39, 0, 0, 0xea, 0x60, 0x26, 0, 2,                   /* 24  LIW 0, RGC 0 60000, SGW 2 */
+    0x01, 0, 1, 0x01, 78, 32, 0x01, 0, 1, 0x77, 0, 7, 0, 0, 76,       /* 35  LIW 1, LIW 20000, LIW 1, FRI 7 0 76 */
+    0x20, 0, 7, 0x26, 0, 1,                                           /* 50  LLW 7, SGW 1 */
+    0x24, 0, 2, 0x01, 0, 3, 0x40, 0x39, 0, 0, 0xea, 0x60, 0x26, 0, 2, /* 56  LGW 2, LIW 3, ADC, RGC 0 60000, SGW 2 */
+    0x78, 0, 7, 0, 50,                                                /* 71  FRN 7 50 */
+    0x78, 0, 4, 0, 18,                                                /* 76  FRN 4 18 */
+    0x6a,                                                             /* 81  RTN */
 };
 
 enum { OUTER = 8, VARIABLES = 3, BUDGET = 10000000, RUNS = 15 };
@@ -101,6 +115,14 @@ static enum ending run(struct machine *m, const uint8_t *c, uint32_t length, uin
                 return BAD;
             m->store[a] = m->stack[--m->words];
             m->place = p + 3;
+            break;
+        case 0x39:
+            if (!has(m, length, 5, 1))
+                return BAD;
+            x = m->stack[m->words - 1];
+            if (x < word(c + p + 1) || x > word(c + p + 3))
+                return TRAPPED;
+            m->place = p + 5;
             break;
         case 0x40:
             if (!has(m, length, 1, 2))
@@ -186,14 +208,21 @@ int main(int count, char **words)
     static struct machine m;
     uint64_t best = UINT64_MAX;
     int runs = RUNS;
-    if (count > 1) {
-        code[OUTER] = (uint8_t)atoi(words[1]);
+    if (count < 2 || (strcmp(words[1], "Sum") && strcmp(words[1], "Range"))) {
+        fprintf(stderr, "usage: rate Sum or Range, turns of the outer loop\n");
+        return 1;
+    }
+    int with_test = words[1][0] == 'R';
+    uint8_t *code = with_test ? ranged : plain;
+    uint32_t length = with_test ? sizeof ranged : sizeof plain;
+    if (count > 2) {
+        code[OUTER] = (uint8_t)atoi(words[2]);
         runs = 1;
     }
     for (int turn = 0; turn < runs; turn++) {
         begin(&m);
         uint64_t before = now();
-        enum ending e = run(&m, code, sizeof code, BUDGET);
+        enum ending e = run(&m, code, length, BUDGET);
         uint64_t took = now() - before;
         if (e != ENDED || m.store[m.data + 2] != 60000) {
             fprintf(stderr, "rate: the loop ended otherwise\n");

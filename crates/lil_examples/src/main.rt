@@ -8,13 +8,17 @@ use std::io::Input;
 use std::process::ExitCode;
 
 /// The sources, which lie in the folder that the program is run in.
-const EXAMPLES: [&[u8]; 8] = [
+const EXAMPLES: [&[u8]; 12] = [
     b"Alphabet.MOD",
+    b"Ascii.MOD",
     b"Bubble.MOD",
+    b"Calendar.MOD",
+    b"Clock.MOD",
     b"Collatz.MOD",
     b"Countdown.MOD",
     b"Greeting.MOD",
     b"Hello.MOD",
+    b"Notations.MOD",
     b"Steps.MOD",
     b"Table.MOD",
 ];

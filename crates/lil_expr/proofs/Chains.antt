@@ -1,13 +1,12 @@
--- The bytes, the kind and the code of a chain, operation by operation.
-use Rattle.std.proofs.Common.{◌≡◌, ℕ, ◌+◌, ◌<◌, ◌≤◌, Bool, true, false, ◌&&◌, if◌then◌else◌, Some, None, List, [], ◌∷◌, ◌++◌, map, take, drop, length, get_or, refl, sym, ap, ◌∙◌, subst, arith}
+-- The bytes and the code of a chain, operation by operation.
+use Rattle.std.proofs.Common.{◌≡◌, ℕ, ◌+◌, ◌<◌, ◌≤◌, Some, None, List, [], ◌∷◌, ◌++◌, map, take, drop, length, get_or, refl, sym, ap, ◌∙◌, subst, arith}
 use Rattle.std.proofs.lemmas.List.{drop_more, take_more, map-append}
-use Rattle.lil_base.specs.Words.{Whole, Cardinal}
 use Rattle.lil_base.specs.declared.operator.TwoOp.{TwoOp}
 use Rattle.lil_base.specs.declared.operator.TwoOp.TheVariants.{Greater, AtLeast, Or, And}
 use Rattle.lil_resolved.specs.declared.resolved.RExpr.{RExpr}
 use Rattle.lil_resolved.specs.declared.resolved.RExpr.TheVariants as e
 use Rattle.lil_resolved.specs.declared.resolved.ROperation.{ROperation, out-ROperation}
-use Rattle.lil_resolved.specs.Kinds.{OfWhole}
+use Rattle.lil_resolved.specs.Kinds.{Kind}
 use Rattle.lil_resolved.specs.Resolved.{Expression, Two, Short, kind_of}
 use Rattle.lil_resolved.specs.Sizes.{size}
 use Rattle.lil_resolved.specs.Forms.{chain_is, operation_is}
@@ -15,9 +14,9 @@ use Rattle.lil_resolved.specs.Views.{two_of, chained, expression_of, operation_o
 use Rattle.lil_asm.specs.declared.instr.Instr.{Instr}
 use Rattle.lil_asm.specs.declared.instr.Instr.TheVariants.{Jan, Jor}
 use Rattle.lil_asm.specs.Bytes.{bytes_of}
-use Rattle.lil_table.specs.Rows.{compared_as, two_code}
+use Rattle.lil_table.specs.Rows.{two_code}
 use Rattle.lil_expr.specs.Emitting.{all_bytes}
-use Rattle.lil_expr.specs.Generating.{jump_of, EmitsExpression, EmitsOperation, EmitsOperations, operator_size, operation_size, operations_size, is_arithmetic, all_arithmetic}
+use Rattle.lil_expr.specs.Generating.{jump_of, EmitsExpression, EmitsOperation, EmitsOperations, operator_size, operation_size, operations_size}
 use Rattle.lil_expr.proofs.Generating.{bytes_more, short_emitted, two_emitted, short_is, two_is}
 
 -- ---- what is left of operations from one on, and those before it
@@ -27,9 +26,6 @@ module _ (os : List ROperation) (i : ℕ) (o : ROperation) (inside : i < length 
 
   pub operations_left : operations_size (drop i os) ≡ operation_size o + operations_size (drop (i + 1) os)
   operations_left = ap operations_size left
-
-  pub arithmetic_left : all_arithmetic (drop i os) ≡ (is_arithmetic (out-ROperation o).operator && all_arithmetic (drop (i + 1) os))
-  arithmetic_left = ap all_arithmetic left
 
 -- ---- bytes
 two_sized : (o : TwoOp) (a b : Expression) → size (two_of o a b) ≡ size a + size b + operator_size o
@@ -48,29 +44,6 @@ chained_size a (o ∷ os) = omega (arith, chained_size (operation_of o a) os, op
 
 pub chain_size : (a : RExpr) (os : List ROperation) → size (expression_of (e.Chain a os)) ≡ size (expression_of a) + operations_size os
 chain_size a os = ap size (chain_is a os) ∙ chained_size (expression_of a) os
-
--- ---- kinds
-two_compared : (o : TwoOp) (a b : Expression) → compared_as (kind_of (two_of o a b)) ≡ (if is_arithmetic o then compared_as (kind_of a) else Cardinal)
-two_compared And a b = refl
-two_compared Or a b = refl
-two_compared _ a b = refl
-
-operation_compared : (o : ROperation) (a : Expression) → compared_as (kind_of (operation_of o a)) ≡ (if is_arithmetic (out-ROperation o).operator then compared_as (kind_of a) else Cardinal)
-operation_compared o a = ap (λ (x : Expression). compared_as (kind_of x)) (operation_is o a) ∙ two_compared (out-ROperation o).operator a (expression_of (out-ROperation o).operand)
-
-twice : (b c : Bool) (t : Whole) → (if c then (if b then t else Cardinal) else Cardinal) ≡ (if b && c then t else Cardinal)
-twice true c t = refl
-twice false true t = refl
-twice false false t = refl
-
-chained_compared : (a : Expression) (os : List ROperation) → compared_as (kind_of (chained a (map operation_of os))) ≡ (if all_arithmetic os then compared_as (kind_of a) else Cardinal)
-chained_compared a [] = refl
-chained_compared a (o ∷ os) =
-    chained_compared (operation_of o a) os ∙ ap (λ (t : Whole). if all_arithmetic os then t else Cardinal) (operation_compared o a)
-    ∙ twice (is_arithmetic (out-ROperation o).operator) (all_arithmetic os) (compared_as (kind_of a))
-
-pub chain_compared : (a : RExpr) (os : List ROperation) → compared_as (kind_of (expression_of (e.Chain a os))) ≡ (if all_arithmetic os then compared_as (kind_of (expression_of a)) else Cardinal)
-chain_compared a os = ap (λ (x : Expression). compared_as (kind_of x)) (chain_is a os) ∙ chained_compared (expression_of a) os
 
 -- ---- code
 pub as_is : (a b : Expression) (old new : List ℕ) → a ≡ b → EmitsExpression old new b → EmitsExpression old new a
@@ -107,10 +80,10 @@ short_operation o end i c1 c2 c3 jumps e place right start a left =
     (operation_is o a ∙ short.is)
     (short_emitted short.decides a b end start c1 c2 c3 left (e ∙ ap (λ (i : Instr). c1 ++ bytes_of i) short.code) place right)
 
-pub two_operation : (o : ROperation) (end : ℕ) (t : Whole) (c1 c2 c3 : List ℕ) → jump_of (out-ROperation o).operator end ≡ None → t ≡ compared_as (kind_of (expression_of (out-ROperation o).operand))
-    → EmitsExpression c1 c2 (expression_of (out-ROperation o).operand) → c3 ≡ c2 ++ all_bytes (two_code (out-ROperation o).operator (OfWhole t)) → EmitsOperation c1 c3 o
-two_operation o end t c1 c2 c3 jumps typed right e start a left =
+pub two_operation : (o : ROperation) (end : ℕ) (k : Kind) (c1 c2 c3 : List ℕ) → jump_of (out-ROperation o).operator end ≡ None → k ≡ kind_of (expression_of (out-ROperation o).operand)
+    → EmitsExpression c1 c2 (expression_of (out-ROperation o).operand) → c3 ≡ c2 ++ all_bytes (two_code (out-ROperation o).operator k) → EmitsOperation c1 c3 o
+two_operation o end k c1 c2 c3 jumps typed right e start a left =
     let b = expression_of (out-ROperation o).operand in
     as_is (operation_of o a) (Two (out-ROperation o).operator (kind_of a) a b) start c3
     (operation_is o a ∙ two_is (out-ROperation o).operator a b end jumps)
-    (two_emitted (out-ROperation o).operator t a b start c1 c2 c3 typed left right e)
+    (two_emitted (out-ROperation o).operator k a b start c1 c2 c3 typed left right e)

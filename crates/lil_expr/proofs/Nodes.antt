@@ -1,6 +1,7 @@
 -- How many operators and operands an expression and its operations have: what falls where a function goes into parts.
 use Rattle.std.proofs.Common.{◌≡◌, ℕ, ◌+◌, ◌<◌, ◌≤◌, zero, suc, List, [], ◌∷◌, length, map, get_or, sym, ap, ◌∙◌, arith}
 use Rattle.lil_base.specs.declared.operator.OneOp.{OneOp}
+use Rattle.lil_resolved.specs.declared.resolved.RFunction.{RFunction}
 use Rattle.lil_resolved.specs.declared.resolved.RExpr.{RExpr}
 use Rattle.lil_resolved.specs.declared.resolved.RExpr.TheVariants as e
 use Rattle.lil_resolved.specs.declared.resolved.RExpr.TheOpen as x
@@ -16,7 +17,7 @@ sum (n ∷ ns) = n + sum ns
 abbrev expression_layer : RExpr-F ℕ ℕ → ℕ
 expression_layer (x.One o a) = 1 + a
 expression_layer (x.Chain a os) = 1 + (a + sum os)
-expression_layer (x.Chr a) = 1 + a
+expression_layer (x.Apply f a) = 1 + a
 expression_layer _ = 1
 
 abbrev operation_layer : ROperation-F ℕ ℕ → ℕ
@@ -49,8 +50,8 @@ one_nodes o a = ap nodes (sym (e.rolls-One o a)) ∙ rolled (x.One o a)
 pub chain_nodes : (a : RExpr) (os : List ROperation) → nodes (e.Chain a os) ≡ 1 + (nodes a + operations_nodes os)
 chain_nodes a os = ap nodes (sym (e.rolls-Chain a os)) ∙ rolled (x.Chain a os)
 
-pub chr_nodes : (a : RExpr) → nodes (e.Chr a) ≡ 1 + nodes a
-chr_nodes a = ap nodes (sym (e.rolls-Chr a)) ∙ rolled (x.Chr a)
+pub apply_nodes : (f : RFunction) (a : RExpr) → nodes (e.Apply f a) ≡ 1 + nodes a
+apply_nodes f a = ap nodes (sym (e.rolls-Apply f a)) ∙ rolled (x.Apply f a)
 
 pub operand_nodes : (o : ROperation) → operation_nodes o ≡ 1 + nodes (out-ROperation o).operand
 operand_nodes o = fold_out-ROperation ℕ ℕ expression_layer operation_layer o

@@ -1,5 +1,5 @@
 -- Code that is written piece by piece.
-use Rattle.std.specs.Prelude.{◌≡◌, ℕ, ◌+◌, ◌<◌, ◌≤◌, List, [], ◌∷◌, ◌++◌, length, slice_get}
+use Rattle.std.specs.Prelude.{◌≡◌, ℕ, ◌+◌, ◌<◌, ◌≤◌, List, [], ◌∷◌, ◌++◌, length, Option, None, Some, slice_get}
 use Rattle.lil_asm.specs.declared.instr.Instr.{Instr}
 use Rattle.lil_asm.specs.Bytes.{bytes_of}
 use Rattle.lil_table.specs.Rows.{Span}
@@ -8,6 +8,11 @@ use Rattle.lil_table.specs.Rows.{Span}
 abbrev pub all_bytes : List Instr → List ℕ
 all_bytes [] = []
 all_bytes (i ∷ is) = bytes_of i ++ all_bytes is
+
+-- an instruction, or none
+abbrev pub only : Option Instr → List Instr
+only None = []
+only (Some i) = i ∷ []
 
 -- the second has the bytes of the first from one place to another
 abbrev pub Agrees : List ℕ → List ℕ → ℕ → ℕ → Type 0

@@ -3,25 +3,18 @@
 ghost use Rattle.std.specs.Prelude.{◌≡◌, ◌+◌, ◌≤◌, ◌++◌, length, OnOk};
 ghost use Rattle.lil_base.specs.Words as words;
 ghost use Rattle.lil_resolved.specs.Kinds.{OfWhole};
-ghost use Rattle.lil_resolved.specs.Resolved.{kind_of};
 ghost use Rattle.lil_resolved.specs.Sizes.{size, two_size};
-ghost use Rattle.lil_resolved.specs.Views.{expression_of};
-ghost use Rattle.lil_table.specs.Rows.{compared_as, two_code, one_code};
+ghost use Rattle.lil_resolved.specs.Views.{base_view, expression_of};
+ghost use Rattle.lil_table.specs.Rows.{two_code, one_code};
 ghost use Rattle.lil_expr.specs.Emitting.{all_bytes};
-ghost use Rattle.lil_expr.specs.Generating.{EmitsExpression, EmitsOperation, EmitsOperations, operation_size, operations_size, is_arithmetic, all_arithmetic, whole_of, jump_of};
+ghost use Rattle.lil_expr.specs.Generating.{EmitsExpression, EmitsOperation, EmitsOperations, operation_size, operations_size, jump_of};
 
-use crate::numbers::word_of_number;
+use crate::functions::emit_function;
+use crate::numbers::constant_word;
 use crate::sizes::expression_size;
 use lil_asm::{Instr, encode};
 use lil_base::{Bytes, Memory};
-use lil_resolved::{OneOp, RExpr, ROperation, TwoOp};
-
-/// The type of whole numbers as which words are computed with and compared.
-#[derive(Clone, Copy)]
-pub(crate) enum WholeType {
-    Cardinal,
-    Integer,
-}
+use lil_resolved::{OneOp, RBase, RExpr, ROperation, TwoOp, base};
 
 /// Appends the code that leaves an expression's value on the expression stack.
 #[cycle(emitting)]
@@ -31,11 +24,8 @@ pub fn emit_expression(code: &mut Bytes, e: &RExpr) -> Result<(), Memory>
     ensures means { OnOk result (EmitsExpression code.old code.new (expression_of e.now)) }
 {
     match e {
-        RExpr::Number(number) => encode(code, Instr::Liw(*number)),
-        RExpr::Integer(number) => encode(code, Instr::Liw(word_of_number(i32::from(*number)))),
-        RExpr::Truth(holds) => encode(code, Instr::Liw(u16::from(*holds))),
-        RExpr::Character(character) => encode(code, Instr::Liw(u16::from(*character))),
-        RExpr::Variable(variable) => encode(code, Instr::Lgw(*variable)),
+        RExpr::Constant(base, number) => encode(code, Instr::Liw(constant_word(*base, *number))),
+        RExpr::Variable(variable) => encode(code, Instr::Lgw(variable.number)),
         RExpr::One(operator, value) => {
             emit_expression(code, value.get())?;
             emit_one(code, *operator)
@@ -44,9 +34,9 @@ pub fn emit_expression(code: &mut Bytes, e: &RExpr) -> Result<(), Memory>
             emit_expression(code, first.get())?;
             emit_operations(code, operations.as_slice())
         }
-        RExpr::Chr(value) => {
+        RExpr::Apply(function, value) => {
             emit_expression(code, value.get())?;
-            encode(code, Instr::Rgc(0, 255))
+            emit_function(code, *function, base(value.get()))
         }
     }
 }
@@ -80,10 +70,10 @@ fn emit_operation(code: &mut Bytes, operation: &ROperation) -> Result<(), Memory
             encode(code, jump)?;
             emit_expression(code, operand)
         }
-        // the operand has the type of the value before it
+        // the operand has the kind of the value before it
         None => {
             emit_expression(code, operand)?;
-            emit_two(code, operator, compared_type(operand))
+            emit_two(code, operator, base(operand))
         }
     }
 }
@@ -99,48 +89,6 @@ fn jump_over(operator: TwoOp, end: u16) -> Option<Instr>
     }
 }
 
-/// The type as which words of an expression's kind are compared.
-#[tactic(auto, using(crate::proofs::Chains::chain_compared))]
-fn compared_type(e: &RExpr) -> WholeType
-    ensures { whole_of result ≡ compared_as (kind_of (expression_of e.now)) }
-{
-    match e {
-        RExpr::Integer(_) => WholeType::Integer,
-        RExpr::One(_, value) => compared_type(value.get()),
-        RExpr::Chain(first, operations) => {
-            if compute_all(operations.as_slice()) {
-                compared_type(first.get())
-            } else {
-                WholeType::Cardinal
-            }
-        }
-        _ => WholeType::Cardinal,
-    }
-}
-
-/// Whether operations all compute, so that they leave a value of the kind that they begin with.
-#[tactic(auto, using(crate::proofs::Chains::arithmetic_left))]
-fn compute_all(operations: &[ROperation]) -> bool
-    ensures { result ≡ all_arithmetic operations.now }
-{
-    for operation in operations {
-        if !computes(operation.operator) {
-            return false;
-        }
-    }
-    true
-}
-
-/// Whether an operator is one of arithmetic.
-fn computes(operator: TwoOp) -> bool
-    ensures { result ≡ is_arithmetic operator }
-{
-    match operator {
-        TwoOp::Plus | TwoOp::Minus | TwoOp::Times | TwoOp::Slash | TwoOp::Div | TwoOp::Mod => true,
-        _ => false,
-    }
-}
-
 /// Appends the instructions of an operator on one value.
 fn emit_one(code: &mut Bytes, operator: OneOp) -> Result<(), Memory>
     ensures { OnOk result (code.new ≡ code.old ++ all_bytes (one_code operator (OfWhole words.Integer))) }
@@ -152,14 +100,17 @@ fn emit_one(code: &mut Bytes, operator: OneOp) -> Result<(), Memory>
     }
 }
 
-/// Appends the instructions of an operator on two values that are compared as numbers of a type.
-fn emit_two(code: &mut Bytes, operator: TwoOp, whole: WholeType) -> Result<(), Memory>
+/// Appends the instructions of an operator on two values of a base.
+#[tactic(auto, using(crate::proofs::Generating::two_same))]
+fn emit_two(code: &mut Bytes, operator: TwoOp, base: RBase) -> Result<(), Memory>
     ensures short { OnOk result (length code.new ≤ length code.old + two_size operator) }
-    ensures code { OnOk result (code.new ≡ code.old ++ all_bytes (two_code operator (OfWhole (whole_of whole)))) }
+    ensures code { OnOk result (code.new ≡ code.old ++ all_bytes (two_code operator (base_view base))) }
 {
-    match whole {
-        WholeType::Cardinal => emit_cardinal(code, operator),
-        WholeType::Integer => emit_integer(code, operator),
+    match base {
+        RBase::Integer => emit_integer(code, operator),
+        RBase::Cardinal | RBase::Truth | RBase::Character | RBase::Enumeration(_) => {
+            emit_cardinal(code, operator)
+        }
     }
 }
 

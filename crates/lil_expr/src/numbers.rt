@@ -1,11 +1,30 @@
 //! The words of numbers.
 
-ghost use Rattle.std.specs.Prelude.{◌≡◌, pos, negsuc, ◌≤ℤ◌};
+ghost use Rattle.std.specs.Prelude.{◌≡◌, pos, ◌≤ℤ◌, true};
 ghost use Rattle.lil_base.specs.Words.{word_of};
+ghost use Rattle.lil_resolved.specs.Scalars.{scalar_of, scalar_word, within};
+ghost use Rattle.lil_resolved.specs.Views.{base_view};
 
-/// The word of a number from -32768 to 65535.
+use lil_resolved::RBase;
+
+/// The word of a number up to 65535: the number itself, or 65536 more where it is negative, and 0 below -65536.
 pub fn word_of_number(number: i32) -> u16
-    ensures { negsuc 32767 ≤ℤ number → number ≤ℤ pos 65535 → result ≡ word_of number }
+    ensures { number ≤ℤ pos 65535 → result ≡ word_of number }
 {
+    if number < -65536 {
+        return 0;
+    }
     number.rem_euclid(65536) as u16
+}
+
+/// The word of a constant of a base, by its number.
+pub(crate) fn constant_word(base: RBase, number: i32) -> u16
+    ensures { within (base_view base) (scalar_of (base_view base) number) ≡ true → result ≡ scalar_word (scalar_of (base_view base) number) }
+{
+    match base {
+        RBase::Truth => u16::from(number != 0),
+        RBase::Cardinal | RBase::Integer | RBase::Character | RBase::Enumeration(_) => {
+            word_of_number(number)
+        }
+    }
 }

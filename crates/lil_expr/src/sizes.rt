@@ -5,7 +5,8 @@ ghost use Rattle.lil_resolved.specs.Sizes as spec;
 ghost use Rattle.lil_resolved.specs.Views as view;
 ghost use Rattle.lil_expr.specs.Generating as emitted;
 
-use lil_resolved::{OneOp, RExpr, ROperation, TwoOp};
+use crate::functions::function_size;
+use lil_resolved::{OneOp, RExpr, ROperation, TwoOp, base};
 
 /// The bytes of an operator's code.
 fn one_size(operator: OneOp) -> u32
@@ -35,14 +36,17 @@ pub fn expression_size(e: &RExpr) -> u32
     ensures { result ≡ min (spec.size (view.expression_of e.now)) 4294967295 }
 {
     match e {
+        RExpr::Constant(_, _) | RExpr::Variable(_) => 3,
         RExpr::One(operator, value) => {
             expression_size(value.get()).saturating_add(one_size(*operator))
         }
         RExpr::Chain(first, operations) => {
             expression_size(first.get()).saturating_add(operations_size(operations.as_slice()))
         }
-        RExpr::Chr(value) => expression_size(value.get()).saturating_add(5),
-        _ => 3,
+        RExpr::Apply(function, value) => {
+            let applied = function_size(*function, base(value.get()));
+            expression_size(value.get()).saturating_add(applied)
+        }
     }
 }
 

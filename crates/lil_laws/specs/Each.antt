@@ -3,21 +3,24 @@ use Rattle.std.proofs.Common.{◌≡◌, ℕ, ◌+◌, true, List, [], ◌∷◌
 use Rattle.std.specs.Prelude.{ℤ}
 use Rattle.lil_resolved.specs.Kinds.{Kind}
 use Rattle.lil_resolved.specs.Scalars.{Scalar, within}
-use Rattle.lil_resolved.specs.Resolved.{Variable, Chr, Expression, Constant, Taken, One, Two, Short, Apply, Assign, Request, If, Case, While, Repeat, Loop, Exit, For, Statements}
+use Rattle.lil_resolved.specs.Resolved.{Variable, Expression, Constant, Taken, One, Two, Short, Apply, Assign, Change, Request, If, Case, While, Repeat, Loop, Exit, Halt, Return, For, Statements}
 use Rattle.lil_meaning.specs.Cells.{Place}
-use Rattle.lil_meaning.specs.Items.{Scalars, Places, Hole, Get, SetTo, StoreAt, OneOf, LeftOf, RightOf, ShortOf, ApplyTo, Pass, Choose, Turn, Again, Pick, StartOf, LimitOf, Task, Do, Passing, Until, Looping, Turns, End, Item, Value, Evaluate, PlaceOf, Fill, Perform, Source}
+use Rattle.lil_meaning.specs.Items.{Scalars, Places, Hole, Get, SetTo, StoreAt, ChangeBy, ChangeAt, OneOf, LeftOf, RightOf, ShortOf, ApplyTo, Pass, Choose, Turn, Again, Pick, StartOf, LimitOf, Task, Do, Passing, Until, Looping, Turns, End, Item, Value, Evaluate, PlaceOf, Fill, Perform, Source}
 use Rattle.lil_mcode.specs.State.{State}
 use Rattle.lil_mcode.specs.Table.{going}
 use Rattle.lil_match.specs.Homes.{word_for}
 use Rattle.lil_match.specs.Goes.{HasFors, Shared, Goes}
 use Rattle.lil_match.specs.Waits.{Setting, Mode, Quiet, ValueOf, Direct, Around, Reach, AfterJumps, BeginWaits, NextWaits, ItemWaits, Rows, Ahead, IsVariable, Waiting}
 use Rattle.lil_match.specs.Steps.{jumped}
-use Rattle.lil_laws_expr.specs.Expressions.{constant_goes, taken_goes, one_goes, two_goes, short_begins, apply_goes, place_goes, get_goes, one_of_goes, left_goes, right_goes, short_of_goes, chr_goes}
+use Rattle.lil_laws_expr.specs.Expressions.{constant_goes, taken_goes, one_goes, two_goes, short_begins, apply_goes, place_goes, get_goes, one_of_goes, left_goes, right_goes, short_of_goes, apply_of_goes}
 use Rattle.lil_laws_stmt.specs.Tasks.{assign_goes, set_goes, store_goes, request_goes, passing_goes, pass_goes, serve_goes, end_goes, ended_goes}
 use Rattle.lil_laws_stmt.specs.Control.{if_goes, choose_goes, while_goes, turn_goes, repeat_goes, until_goes, again_goes, loop_goes, looping_goes}
+use Rattle.lil_laws_stmt.specs.Changes.{change_goes, change_by_goes, change_at_goes}
 use Rattle.lil_laws_stmt.specs.Exits.{exit_goes}
+use Rattle.lil_laws_stmt.specs.Leaving.{halt_goes, return_goes}
 use Rattle.lil_laws_stmt.specs.Cases.{case_goes, pick_goes}
-use Rattle.lil_laws_stmt.specs.Fors.{for_goes, start_goes, limit_goes, begin_goes, next_goes}
+use Rattle.lil_laws_stmt.specs.Fors.{for_goes, start_goes, limit_goes, next_goes}
+use Rattle.lil_laws_stmt.specs.Begins.{begin_goes}
 
 value_quiet : (k : Kind) → ValueOf k ≡ Quiet → ⊥
 value_quiet k e = cc
@@ -51,11 +54,12 @@ module _ (ctx : Setting) where
     scalar_step : (v : Scalar) (o : Hole) (kind : Kind) → within kind v ≡ true → (below : List ℕ) → m.stack ≡ word_for h v ∷ below
         → Waiting ctx (Fill o) (Rows ctx k) (ValueOf kind) m.place below c a → Goes ctx s (Value (Scalars v) ∷ Fill o ∷ k) m (c + 32)
     scalar_step v (StoreAt place j) kind fits below is r = store_goes ctx s k m c a shared fors place j v kind fits below is r
+    scalar_step v (ChangeAt down place j) kind fits below is r = change_at_goes ctx s k m c a shared fors down place j v kind fits below is r
     scalar_step v (OneOf o j) kind fits below is r = one_of_goes ctx s k m c a shared fors o j v kind fits below is r
     scalar_step v (LeftOf o j f) kind fits below is r = left_goes ctx s k m c a shared fors o j f v kind fits below is r
     scalar_step v (RightOf o j u) kind fits below is r = right_goes ctx s k m c a shared fors o j u v kind fits below is r
     scalar_step v (ShortOf d f) kind fits below is r = short_of_goes ctx s k m c a shared fors d f v kind fits below is r
-    scalar_step v (ApplyTo Chr) kind fits below is r = chr_goes ctx s k m c a shared fors v kind fits below is r
+    scalar_step v (ApplyTo f) kind fits below is r = apply_of_goes ctx s k m c a shared fors f v kind fits below is r
     scalar_step v (Pass q j done left) kind fits below is r = pass_goes ctx s k m c a shared fors q j done left v kind fits below is r
     scalar_step v (Choose first second) kind fits below is r = choose_goes ctx s k m c a shared fors first second v kind fits below is r
     scalar_step v (Turn e body) kind fits below is r = turn_goes ctx s k m c a shared fors e body v kind fits below is r
@@ -70,6 +74,7 @@ module _ (ctx : Setting) where
         → Waiting ctx (Fill o) (Rows ctx k) (Direct offset kind) m.place m.stack c a → Goes ctx s (Value (Places place) ∷ Fill o ∷ k) m (c + 32)
     place_step place Get kind offset variable r = get_goes ctx s k m c a shared fors place kind offset variable r
     place_step place (SetTo j e) kind offset variable r = set_goes ctx s k m c a shared fors j e place kind offset variable r
+    place_step place (ChangeBy down j e) kind offset variable r = change_by_goes ctx s k m c a shared fors down j e place kind offset variable r
     place_step place o kind offset variable r = absurd r.part
 
     expression_step : (e : Expression) → Waiting ctx (Evaluate e) (Rows ctx k) Quiet m.place m.stack c a → Goes ctx s (Evaluate e ∷ k) m (c + 32)
@@ -78,11 +83,11 @@ module _ (ctx : Setting) where
     expression_step (One o kind e) r = one_goes ctx s k m c a shared fors o kind e r
     expression_step (Two o kind e f) r = two_goes ctx s k m c a shared fors o kind e f r
     expression_step (Short d e f) r = short_begins ctx s k m c a shared fors d e f r
-    expression_step (Apply Chr e) r = apply_goes ctx s k m c a shared fors Chr e r
-    expression_step _ r = absurd r.part.here
+    expression_step (Apply f e) r = apply_goes ctx s k m c a shared fors f e r
 
     task_step : (t : Task) → ItemWaits ctx (Perform t) k (Rows ctx k) Quiet m.place m.stack c a → Goes ctx s (Perform t ∷ k) m (c + 32)
     task_step (Do (Assign (Variable x kind) e)) r = assign_goes ctx s k m c a shared fors x kind e r
+    task_step (Do (Change down (Variable x kind) e)) r = change_goes ctx s k m c a shared fors down x kind e r
     task_step (Do (Request q given)) r = request_goes ctx s k m c a shared fors q given r
     task_step (Do (If e first second)) r = if_goes ctx s k m c a shared fors e first second r
     task_step (Do (Case e arms)) r = case_goes ctx s k m c a shared fors e arms r
@@ -90,6 +95,8 @@ module _ (ctx : Setting) where
     task_step (Do (Repeat body e)) r = repeat_goes ctx s k m c a shared fors body e r
     task_step (Do (Loop body)) r = loop_goes ctx s k m c a shared fors body r
     task_step (Do Exit) r = exit_goes ctx s k m c a shared fors r
+    task_step (Do Halt) r = halt_goes ctx s k m c a shared fors r
+    task_step (Do Return) r = return_goes ctx s k m c a shared fors r
     task_step (Do (For (Variable x kind) e f step body)) r = for_goes ctx s k m c a shared fors x kind e f step body r
     task_step (Passing q done []) r = serve_goes ctx s k m c a shared fors q done r
     task_step (Passing q done (x ∷ left)) r = passing_goes ctx s k m c a shared fors q done x left r

@@ -29,7 +29,7 @@ use Rattle.lil_match.specs.Steps.{advances, at_once, rows_ahead}
 use Rattle.lil_match.specs.Orders.{instr_within}
 use Rattle.lil_laws_stmt.specs.Control.{body_rows}
 use Rattle.lil_laws.specs.Splices.{spliced_length, spliced_before, spliced_there, zeros_length, zeros_word}
-use Rattle.lil_laws.specs.Whole.{Agrees, still_agrees, follows}
+use Rattle.lil_laws.specs.Whole.{Agrees, still_agrees, follows, reaches}
 
 abbrev typed_by : Option Kind → Type'
 typed_by None = Absent
@@ -290,3 +290,13 @@ module _ (p : Resolved) (code : List ℕ) (small : IsSmall p) (t : Translates p 
         agrees = subst (λ (r : Run). Agrees p.name (state_of p w f.n) (mrun steps r)) (sym (enters w)) f.agrees;
         far = omega (arith, f.far);
       }
+
+  -- each state of the meaning has the world that the run of a loaded program has after some number of steps
+  pub record Reached (w : World) (n : ℕ) : Type 0 where
+    pub steps : ℕ
+    pub world : (mrun steps (running (begun_at 0) w)).world ≡ (state_of p w n).world
+
+  pub reached : (w : World) (n : ℕ) → Reached w n
+  reached w n =
+      let r = reaches ctx n (begun (p ∷ []) w) (doing p.body (Perform (End 0) ∷ [])) (entered_at t.start) 0 outside (shared w) tt ahead in
+      record { steps = suc r.steps; world = ap (λ (x : Run). (mrun r.steps x).world) (enters w) ∙ r.world }

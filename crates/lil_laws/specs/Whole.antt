@@ -192,3 +192,42 @@ module _ (ctx : Setting) where
   pub follows : (s : Source) (k : List Item) (m : State) (steps c : ℕ) (a : Around) → Shared ctx s m → HasFors ctx m.frame m.store a.fors
       → Ahead ctx k Quiet m.place m.stack c a → Follows (At s k) (running m s.world) steps c
   follows s k m steps c a shared fors ahead = outer steps steps (omega arith) s k m c a shared fors ahead tt
+
+  -- Each later state of the source has the world that the run has after some number of steps.
+  pub record Reaches (s : Source) (run : Run) (n : ℕ) : Type 0 where
+    pub steps : ℕ
+    pub world : (mrun steps run).world ≡ (after modules n s).world
+
+  -- a source that stays keeps its world
+  rests_there : (n : ℕ) (s : Source) (run : Run) → next modules s ≡ s → run.world ≡ s.world → Reaches s run n
+  rests_there n s run rests same = record { steps = 0; world = same ∙ ap (λ (t : Source). t.world) (sym (source_rests modules n s rests)) }
+
+  reaches_landed : (n : ℕ)
+      → ((s : Source) (k : List Item) (m : State) (c : ℕ) (a : Around) → Shared ctx s m → HasFors ctx m.frame m.store a.fors → Ahead ctx k Quiet m.place m.stack c a
+      → Reaches (At s k) (running m s.world) n)
+      → (p : Phase) (s : Source) (run : Run) (c : ℕ) → s.phase ≡ p → Lands ctx p s run c → Reaches s run n
+  reaches_landed n claim Going s run c e lands =
+      let same : At s s.items ≡ s = ap (λ (p : Phase). let t : Source = record s { phase = p } in t) (sym e) in
+      subst (λ (t : Source). Reaches t run n) same
+      (subst (λ (r : Run). Reaches (At s s.items) r n) (sym lands.is)
+      (claim s s.items lands.machine c lands.met.around lands.met.shared lands.met.fors lands.met.ahead))
+  reaches_landed n claim Ended s run c e lands = rests_there n s run (ended_rests modules s e) lands.world
+  reaches_landed zero claim (Closing t) s run c e lands = record { steps = 0; world = lands.world }
+  reaches_landed (suc n) claim (Closing t) s run c e lands =
+      let closed : Source = record s { phase = Trapped t } in
+      let step : next modules s ≡ closed = ap (λ (p : Phase). by_phase modules p s) e in
+      let r = rests_there n closed run (trapped_rests modules closed t refl) lands.world in
+      record { steps = r.steps; world = r.world ∙ ap (λ (x : Source). (after modules n x).world) (sym step) }
+  reaches_landed n claim (Trapped t) s run c e lands = absurd lands
+
+  -- from a matched state the machine shows all that the source means
+  pub reaches : (n : ℕ) (s : Source) (k : List Item) (m : State) (c : ℕ) (a : Around) → Shared ctx s m → HasFors ctx m.frame m.store a.fors
+      → Ahead ctx k Quiet m.place m.stack c a → Reaches (At s k) (running m s.world) n
+  reaches zero s k m c a shared fors ahead = record { steps = 0; world = refl }
+  reaches (suc n) s k m c a shared fors ahead =
+      let g = each_step ctx s m c a shared fors k ahead in
+      let r = reaches_landed n (reaches n) (next modules (At s k)).phase (next modules (At s k)) (mrun g.steps (running m s.world)) g.later refl g.lands in
+      record {
+        steps = g.steps + r.steps;
+        world = ap (λ (x : Run). x.world) (mrun_add g.steps (g.steps + r.steps) r.steps (running m s.world) refl) ∙ r.world;
+      }

@@ -2,32 +2,32 @@
 use Rattle.std.proofs.Common.{◌≡◌, ◌≢◌, ℕ, ◌+◌, ◌<◌, ◌≤◌, Bool, true, false, cond, Result, Ok, Err, List, [], ◌∷◌, length, get_or, refl, sym, ap, ◌∙◌, subst, arith}
 use Rattle.std.specs.Prelude.{slice_get}
 use Rattle.std.proofs.lemmas.Bool.{lt-ltb}
-use Rattle.lil_base.specs.Words.{Cardinal}
 use Rattle.lil_base.specs.declared.fault.TrapKind.{TrapKind}
 use Rattle.lil_base.specs.declared.operator.OneOp.{OneOp}
 use Rattle.lil_base.specs.declared.operator.OneOp.TheVariants as one
 use Rattle.lil_base.specs.declared.operator.TwoOp.{TwoOp}
-use Rattle.lil_resolved.specs.Kinds.{Kind, OfWhole, OfTruth, OfCharacter, base_of}
+use Rattle.lil_resolved.specs.Kinds.{Kind, OfTruth, base_of}
 use Rattle.lil_resolved.specs.Scalars.{Scalar, Truth, within, scalar_word}
-use Rattle.lil_resolved.specs.Resolved.{Variable, Function, Abs, Chr, Expression, Constant, Taken, One, Two, Short, Apply, is_relation, result_kind}
+use Rattle.lil_resolved.specs.Resolved.{Variable, Function, Expression, Constant, Taken, One, Two, Short, Apply, kind_of, is_relation, result_kind, function_kind}
 use Rattle.lil_meaning.specs.Cells.{Global, Place, got}
 use Rattle.lil_meaning.specs.Items.{Scalars, Places, Get, OneOf, LeftOf, RightOf, ShortOf, ApplyTo, Item, Value, Evaluate, PlaceOf, Fill, Going, Source}
 use Rattle.lil_meaning.specs.Steps.{next, answered, with_items, applied, one_applied, function_value, current, owner_of}
 use Rattle.lil_asm.specs.declared.instr.Instr.{Instr}
-use Rattle.lil_asm.specs.declared.instr.Instr.TheVariants.{Liw, Lgw, Rgc}
+use Rattle.lil_asm.specs.declared.instr.Instr.TheVariants.{Liw, Lgw}
 use Rattle.lil_mcode.specs.declared.machine.Event.{Event}
 use Rattle.lil_mcode.specs.declared.machine.Event.TheVariants.{Went}
 use Rattle.lil_mcode.specs.State.{State}
 use Rattle.lil_mcode.specs.Table.{mstep, act, going, jump, push_row, on_one, and_row, or_row}
-use Rattle.lil_table.specs.Rows.{InstrsAt, one_code, two_code, short_code}
+use Rattle.lil_table.specs.Rows.{InstrsAt, one_code, two_code, function_code, short_code}
 use Rattle.lil_match.specs.Running.{running, react}
 use Rattle.lil_match.specs.Homes.{word_for, plain_word, yes}
+use Rattle.lil_match.specs.Stutter.{stutter}
 use Rattle.lil_match.specs.Goes.{HasFors, Shared, Goes, Lands}
 use Rattle.lil_match.specs.Waits.{Setting, Mode, Quiet, ValueOf, Direct, Around, Reach, AfterJumps, Rows, IsVariable, Waiting}
 use Rattle.lil_match.specs.Steps.{advances, pushes, at_step, at_once, shared_there, lands_on, goes_none, goes_one, goes_after, operand_goes}
 use Rattle.lil_match.specs.Orders.{instr_within, instrs_order, instrs_within, expression_stands, expression_within}
 use Rattle.lil_match.specs.Closing.{closed, both_trap}
-use Rattle.lil_laws_expr.specs.Operators.{answer_row, Gives, Fits, one_gives, one_fits, two_gives, two_length, two_fits, chr_gives, chr_value_fits}
+use Rattle.lil_laws_expr.specs.Operators.{answer_row, Gives, Fits, one_gives, one_fits, two_gives, two_length, two_fits, function_gives, function_fits, function_none, function_length}
 
 module _ (ctx : Setting) where
   open ctx use {modules, layout as l, table, own, number, home as h}
@@ -93,11 +93,7 @@ module _ (ctx : Setting) where
         goes_none ctx s (Evaluate (Taken (Variable x kind)) ∷ k) m (c + 32) c
         (lands_on ctx s m shared (PlaceOf (Variable x kind) ∷ Fill Get ∷ k) m.place m.stack c a fors
         (once (record {
-          part = record {
-            offset = row.part.here.offset;
-            known = row.part.here.known;
-            typed = row.part.here.typed;
-          };
+          part = row.part.here.known;
           then = once (record { part = record { end = row.part.end; load = row.part.here.load; shallow = row.part.shallow }; then = row.then });
         })))
         (omega arith)
@@ -147,12 +143,11 @@ module _ (ctx : Setting) where
         })
 
     pub apply_goes : (f : Function) (e : Expression) → Waiting ctx (Evaluate (Apply f e)) Rest Quiet m.place m.stack c a → Goes ctx s (Evaluate (Apply f e) ∷ k) m (c + 32)
-    apply_goes Chr e row =
-        operand_goes ctx s k m c a shared fors (Evaluate (Apply Chr e) ∷ k) e (ApplyTo Chr) refl (omega arith) row.part.here.middle row.part.here.first row.part.shallow
-        (instr_within own.code row.part.here.middle (Rgc 0 255) row.part.end row.part.here.test)
-        (record { part = record { same = row.part.here.typed; end = row.part.end; test = row.part.here.test }; then = row.then })
-    apply_goes (Abs t) e row = absurd row.part.here
-    apply_goes _ e row = absurd row.part.here
+    apply_goes f e row =
+        let first = expression_stands l own.code e m.place row.part.here.middle row.part.here.first in
+        let by = instrs_order own.code (function_code f (kind_of e)) row.part.here.middle row.part.end row.part.here.by first.1 in
+        operand_goes ctx s k m c a shared fors (Evaluate (Apply f e) ∷ k) e (ApplyTo f) refl (omega arith) row.part.here.middle row.part.here.first (omega (arith, row.part.shallow)) (omega (arith, by.0, row.part.within))
+        (record { part = record { takes = row.part.here.takes; shallow = omega (arith, row.part.shallow); end = row.part.end; by = row.part.here.by }; then = row.then })
 
     pub place_goes : (x : ℕ) (kind : Kind) → Waiting ctx (PlaceOf (Variable x kind)) Rest Quiet m.place m.stack c a → Goes ctx s (PlaceOf (Variable x kind) ∷ k) m (c + 32)
     place_goes x kind row =
@@ -160,7 +155,7 @@ module _ (ctx : Setting) where
         let here : owner_of (slice_get s.activations (current k)) ≡ number = ap (λ (n : ℕ). owner_of (slice_get s.activations n)) (closed ctx k _ _ _ _ _ row.then) ∙ shared.owner in
         let known : IsVariable ctx now row.part.offset kind =
         subst (λ (n : ℕ). let place : Place = record { root = Global n x; path = [] } in IsVariable ctx place row.part.offset kind) (sym here)
-        (shared.laid.variables x row.part.offset kind row.part.known row.part.typed) in
+        (shared.laid.variables x row.part.offset kind row.part.at row.part.typed) in
         goes_none ctx s (PlaceOf (Variable x kind) ∷ k) m (c + 32) c
         (lands_on ctx s m shared (Value (Places now) ∷ k) m.place m.stack c a fors
         (once (record { part = record { kind = kind; offset = row.part.offset; variable = known }; then = row.then })))
@@ -226,16 +221,42 @@ module _ (ctx : Setting) where
         (two_gives own m row.part.below u v (is ∙ ap (λ (x : List ℕ). word_for h v ∷ x) row.part.is ∙ ap (λ (w : ℕ). w ∷ word_for h u ∷ row.part.below) (plain_word h j v good) ∙ ap (λ (w : ℕ). scalar_word v ∷ w ∷ row.part.below) (plain_word h j u row.part.fits)) o j row.part.takes row.part.fits good))
         (omega (arith, (two_length o j row.part.takes).1))
 
-    pub chr_goes : (v : Scalar) (kind : Kind) → within kind v ≡ true → (below : List ℕ) → m.stack ≡ word_for h v ∷ below → Waiting ctx (Fill (ApplyTo Chr)) Rest (ValueOf kind) m.place below c a
-        → Goes ctx s (Value (Scalars v) ∷ Fill (ApplyTo Chr) ∷ k) m (c + 32)
-    chr_goes v kind fits below is row =
-        let kinds : kind ≡ OfWhole Cardinal = row.part.same in
-        let items : List Item = Value (Scalars v) ∷ Fill (ApplyTo Chr) ∷ k in
-        widened items m (c + 1) (c + 32)
-        (instrs_go items (closed ctx k _ _ _ _ _ row.then) (function_value Chr v) refl OfCharacter (chr_value_fits v)
-        row.part.end below row.then (Rgc 0 255 ∷ []) m.place m.stack (row.part.end, row.part.test, refl)
-        (chr_gives own m below v (is ∙ ap (λ (w : ℕ). w ∷ below) (plain_word h kind v fits)) (ap (λ (i : Kind). within i v) (sym kinds) ∙ fits)))
+    -- a standard function that has no code
+    kept_goes : (f : Function) (v : Scalar) (kind : Kind) → within kind v ≡ true → (below : List ℕ) → m.stack ≡ word_for h v ∷ below
+        → (row : Waiting ctx (Fill (ApplyTo f)) Rest (ValueOf kind) m.place below c a) → function_code f kind ≡ [] → Goes ctx s (Value (Scalars v) ∷ Fill (ApplyTo f) ∷ k) m (c + 32)
+    kept_goes f v kind fits below is row none =
+        let items : List Item = Value (Scalars v) ∷ Fill (ApplyTo f) ∷ k in
+        let kept = function_none f kind v row.part.takes fits none in
+        let u : Scalar = kept.0 in
+        let becomes : next modules (Now items) ≡ with_items (Now items) (Value (Scalars u) ∷ k) = ap (λ (r : Result Scalar TrapKind). answered modules r k (Now items)) kept.1 in
+        let end : m.place ≡ row.part.end = subst (λ (is : List Instr). InstrsAt own.code is m.place row.part.end) none row.part.by in
+        let word : word_for h v ≡ word_for h u = plain_word h kind v fits ∙ sym kept.2 ∙ sym (plain_word h (function_kind f) u kept.3) in
+        goes_none ctx s items m (c + 32) c
+        (subst (λ (x : Source). Lands ctx x.phase x (running m s.world) c) (sym becomes)
+        (lands_on ctx s m shared (Value (Scalars u) ∷ k) m.place m.stack c a fors
+        (once (record {
+          part = record { kind = function_kind f; fits = kept.3; below = below; is = is ∙ ap (λ (w : ℕ). w ∷ below) word };
+          then = subst (λ (q : ℕ). Rest (ValueOf (function_kind f)) q below c a) (sym end) row.then;
+        }))))
         (omega arith)
+        (subst (λ (x : Source). stutter x.items < stutter items) (sym becomes) (omega arith))
+
+    pub apply_of_goes : (f : Function) (v : Scalar) (kind : Kind) → within kind v ≡ true → (below : List ℕ) → m.stack ≡ word_for h v ∷ below → Waiting ctx (Fill (ApplyTo f)) Rest (ValueOf kind) m.place below c a
+        → Goes ctx s (Value (Scalars v) ∷ Fill (ApplyTo f) ∷ k) m (c + 32)
+    apply_of_goes f v kind fits below is row = by (function_code f kind) refl
+      where
+        items : List Item
+        items = Value (Scalars v) ∷ Fill (ApplyTo f) ∷ k
+
+        by : (code : List Instr) → function_code f kind ≡ code → Goes ctx s items m (c + 32)
+        by [] e = kept_goes f v kind fits below is row e
+        by (i ∷ code) e =
+            widened items m (c + length (function_code f kind)) (c + 32)
+            (instrs_go items (closed ctx k _ _ _ _ _ row.then) (function_value f v) refl (function_kind f) (function_fits f kind v row.part.takes fits)
+            row.part.end below row.then (function_code f kind) m.place m.stack row.part.by
+            (function_gives own m below v (is ∙ ap (λ (w : ℕ). w ∷ below) (plain_word h kind v fits)) f kind row.part.takes fits row.part.shallow
+            (λ none. let clash : [] ≡ i ∷ code = sym none ∙ e in cc)))
+            (omega (arith, function_length f kind))
 
     -- the code of an operator on one value that has some
     coded_goes : (o : OneOp) (j : Kind) → o ≢ one.Plus → length (one_code o j) ≤ 32 → (v : Scalar) (kind : Kind) → within kind v ≡ true → (below : List ℕ) → m.stack ≡ word_for h v ∷ below

@@ -1,7 +1,12 @@
 -- The machine's operators on words are the meaning's on scalars.
-use Rattle.std.proofs.Common.{◌≡◌, ℕ, ◌==◌, ◌≢◌, ◌<◌, ◌≤◌, length, arith, Bool, true, false, cond, not, Option, Some, None, Result, Ok, Err, List, [], ◌∷◌, refl, sym, ap, ◌∙◌, subst}
-use Rattle.std.specs.Prelude.{ℤ, pos, int_lt}
-use Rattle.lil_base.specs.Words.{Whole, Cardinal, Integer, between, sum, difference, product, quotient, remainder, negation, number_of, word_of}
+use Rattle.std.proofs.Common.{◌≡◌, ℕ, zero, suc, ◌==◌, ◌≢◌, ◌<◌, ◌≤◌, length, arith, Bool, true, false, cond, not, Option, Some, None, Result, Ok, Err, List, [], ◌∷◌, refl, sym, ap, ◌∙◌, subst}
+use Rattle.std.proofs.lemmas.Nat.{mod_below}
+use Rattle.std.proofs.lemmas.Bool.{and_parts}
+use Rattle.std.proofs.lemmas.Bool.Decides.{nat_tests}
+use Rattle.std.proofs.lemmas.Int.{ints, quot-rem}
+use Rattle.std.specs.Prelude.{ℤ, pos, negsuc, neg_ℤ, int_lt, int_rem, nat_le, ◌%◌, ◌-◌, ◌+◌}
+use Rattle.lil_base.specs.Words.{Whole, Cardinal, Integer, in_type, is_zero, kept, whole_rest, sum, difference, product, quotient, remainder, negation, absolute, number_of, word_of}
+use Rattle.lil_base.specs.Laws.{in_type_card, kept_in}
 use Rattle.lil_base.specs.declared.fault.ArithFault.{ArithFault}
 use Rattle.lil_base.specs.declared.fault.TrapKind.{TrapKind}
 use Rattle.lil_base.specs.declared.fault.TrapKind.TheVariants as trap
@@ -9,19 +14,25 @@ use Rattle.lil_base.specs.declared.operator.OneOp.{OneOp}
 use Rattle.lil_base.specs.declared.operator.OneOp.TheVariants as one
 use Rattle.lil_base.specs.declared.operator.TwoOp.{TwoOp}
 use Rattle.lil_base.specs.declared.operator.TwoOp.TheVariants.{Equal, Unequal, Less, AtMost, Greater, AtLeast, Plus, Minus, Times, Div, Mod}
-use Rattle.lil_resolved.specs.Kinds.{Kind, OfWhole, OfTruth, OfCharacter, OfEnumeration}
-use Rattle.lil_resolved.specs.Scalars.{Scalar, Truth, Character, Number, within, scalar_word, ordinal_of, truth_number, truth_of}
-use Rattle.lil_resolved.specs.Resolved.{Chr, is_relation, result_kind}
-use Rattle.lil_resolved.specs.Sound.{is_base, takes_one, takes_two}
-use Rattle.lil_meaning.specs.Steps.{whole_of, outcome, compared_number, related, applied, one_applied, valued, function_value, is_same, is_other, is_at_most, is_greater, is_at_least}
+use Rattle.lil_resolved.specs.Kinds.{Kind, OfWhole, OfTruth, OfCharacter, OfEnumeration, base_of, is_base, is_whole, compared_as, shared, covers}
+use Rattle.lil_resolved.specs.Scalars.{Scalar, Truth, Character, Number, within, scalar_of, scalar_word, ordinal_of, truth_number, truth_of}
+use Rattle.lil_resolved.specs.Resolved.{Function, Abs, Cap, Chr, Odd, Ord, Val, is_relation, result_kind, function_kind}
+use Rattle.lil_resolved.specs.Depth.{function_depth}
+use Rattle.lil_resolved.specs.Sound.{takes_one, takes_two, takes_function}
+use Rattle.lil_meaning.specs.Steps.{whole_of, outcome, compared_number, related, applied, one_applied, capital, valued, ranged, function_value, is_same, is_other, is_at_most, is_greater, is_at_least}
 use Rattle.lil_asm.specs.declared.instr.Instr.{Instr}
-use Rattle.lil_asm.specs.declared.instr.Instr.TheVariants.{Swp, Rgc, Adc, Sbc, Mlc, Dvc, Mdc, Adi, Sbi, Mli, Dvi, Mdi, Ngi, Not, Equ, Neq}
+use Rattle.lil_asm.specs.declared.instr.Instr.TheVariants as instr
+use Rattle.lil_asm.specs.declared.instr.Instr.TheVariants.{Liw, Swp, Adc, Sbc, Mlc, Dvc, Mdc, Adi, Sbi, Mli, Dvi, Mdi, Ngi, Abi, Not, Equ, Neq}
 use Rattle.lil_mcode.specs.declared.machine.Event.{Event}
 use Rattle.lil_mcode.specs.declared.machine.Event.TheVariants.{Went, Trap}
 use Rattle.lil_mcode.specs.State.{Module, State}
-use Rattle.lil_mcode.specs.Table.{act, going, on_one, on_two, swap_row, result_row, two_row, sign_row, change_row, denied, range_row, compare_row, truth, equal, unequal, less, at_most}
-use Rattle.lil_table.specs.Rows.{compared_as, less_code, at_most_code, one_code, two_code}
-use Rattle.lil_match.specs.Arithmetic.{word_is, whole_word, reads_ordinal, reads, same_words, other_is, sum_fits, difference_fits, product_fits, quotient_fits, remainder_fits, negation_fits, chr_fits}
+use Rattle.lil_mcode.specs.Table.{act, going, on_one, on_two, swap_row, result_row, two_row, sign_row, change_row, denied, compare_row, truth, equal, unequal, less, at_most}
+use Rattle.lil_table.specs.Rows.{less_code, at_most_code, one_code, two_code, range_code, test_code, function_code}
+use Rattle.lil_match.specs.Arithmetic.{word_is, reads_ordinal, reads, same_words, other_is, sum_fits, difference_fits, product_fits, quotient_fits, remainder_fits, negation_fits, absolute_fits}
+use Rattle.lil_match.specs.Homes.{within_base}
+use Rattle.lil_match.specs.Ranges.{has, value_where, value_is, number_is, value_fits, fits_has}
+use Rattle.lil_match.specs.Tests.{covered, test_act}
+use Rattle.lil_match.specs.Steps.{pushes}
 
 -- the word of a value in place of its operands, which stood above others, or its trap
 abbrev pub answer_row : State → ℕ → List ℕ → Result Scalar TrapKind → Event × State
@@ -64,19 +75,19 @@ at_most_row Cardinal own m q = refl
 at_most_row Integer own m q = refl
 
 -- a value of a kind that compares has a number as which it is compared
-number_is : (k : Kind) (v : Scalar) → is_base k ≡ true → within k v ≡ true → compared_number k v ≡ Some (ordinal_of v)
-number_is (OfWhole t) (Number z) base h = refl
-number_is OfTruth (Truth b) base h = refl
-number_is OfCharacter (Character c) base h = refl
-number_is (OfEnumeration n) (Number z) base h = refl
-number_is k v base h = cc
+compared_is : (k : Kind) (v : Scalar) → is_base k ≡ true → within k v ≡ true → compared_number k v ≡ Some (ordinal_of v)
+compared_is (OfWhole t) (Number z) base h = refl
+compared_is OfTruth (Truth b) base h = refl
+compared_is OfCharacter (Character c) base h = refl
+compared_is (OfEnumeration n) (Number z) base h = refl
+compared_is k v base h = cc
 
 -- relations of values of a kind that compares are those of their words
 module _ (k : Kind) (u v : Scalar) (base : is_base k ≡ true) (left : within k u ≡ true) (right : within k v ≡ true) where
   relates : (r : ℤ → ℤ → Bool) → related r (compared_number k u) (compared_number k v) ≡ Ok (Truth (r (ordinal_of u) (ordinal_of v)))
   relates r =
-      ap (λ (x : Option ℤ). related r x (compared_number k v)) (number_is k u base left)
-      ∙ ap (related r (Some (ordinal_of u))) (number_is k v base right)
+      ap (λ (x : Option ℤ). related r x (compared_number k v)) (compared_is k u base left)
+      ∙ ap (related r (Some (ordinal_of u))) (compared_is k v base right)
 
   relation_fits : (r : ℤ → ℤ → Bool) → Fits OfTruth (related r (compared_number k u) (compared_number k v))
   relation_fits r = subst (Fits OfTruth) (sym (relates r)) refl
@@ -101,11 +112,14 @@ module _ (k : Kind) (u v : Scalar) (base : is_base k ≡ true) (left : within k 
 
 -- an operator on one value
 module _ (own : Module) (m : State) (below : List ℕ) (v : Scalar) (is : m.stack ≡ scalar_word v ∷ below) where
-  minus_gives : within (OfWhole Integer) v ≡ true → Gives own (Ngi ∷ []) m below (outcome (negation Integer (whole_of v)))
-  minus_gives fits = λ q.
-      ap (λ (x : List ℕ). on_one m x (sign_row negation q m)) is
-      ∙ ap (λ (z : ℤ). result_row m q below (negation Integer z)) (reads Integer v fits)
-      ∙ answers m q below (negation Integer (whole_of v))
+  -- an operation on an INTEGER
+  sign_gives : (f : Whole → ℤ → Result ℤ ArithFault) (i : Instr) → ((q : ℕ) → act i q own m ≡ on_one m m.stack (sign_row f q m))
+      → within (OfWhole Integer) v ≡ true → Gives own (i ∷ []) m below (outcome (f Integer (whole_of v)))
+  sign_gives f i row fits = λ q.
+      row q
+      ∙ ap (λ (x : List ℕ). on_one m x (sign_row f q m)) is
+      ∙ ap (λ (z : ℤ). result_row m q below (f Integer z)) (reads Integer v fits)
+      ∙ answers m q below (f Integer (whole_of v))
 
   not_gives : (b : Bool) → v ≡ Truth b → Gives own (Not ∷ []) m below (Ok (Truth (not b)))
   not_gives b e = λ q.
@@ -115,24 +129,13 @@ module _ (own : Module) (m : State) (below : List ℕ) (v : Scalar) (is : m.stac
   -- the sign has no code where it changes nothing
   pub one_gives : (o : OneOp) (k : Kind) → takes_one o k ≡ true → o ≢ one.Plus → within k v ≡ true → Gives own (one_code o k) m below (one_applied o k v)
   one_gives one.Plus k takes some fits = absurd (some refl)
-  one_gives one.Minus (OfWhole Integer) takes some fits = minus_gives fits
+  one_gives one.Minus (OfWhole Integer) takes some fits = sign_gives negation Ngi (λ q. refl) fits
   one_gives one.Not OfTruth takes some fits = by v refl fits
     where
       by : (x : Scalar) → v ≡ x → within OfTruth x ≡ true → Gives own (Not ∷ []) m below (Ok (Truth (not (truth_of x))))
       by (Truth b) e h = not_gives b e
       by x e h = cc
   one_gives o k takes some fits = cc
-
-  pub chr_gives : within (OfWhole Cardinal) v ≡ true → Gives own (Rgc 0 255 ∷ []) m below (function_value Chr v)
-  chr_gives fits = λ q.
-      ap (λ (x : List ℕ). on_one m x (range_row Cardinal 0 255 q m)) is
-      ∙ ap (λ (z : ℤ). let r : Event × State = cond (between (pos 0) z (pos 255)) (Went, going m q m.stack) (Trap trap.Range, m) in r) (reads Cardinal v fits)
-      ∙ by (between (pos 0) (whole_of v) (pos 255)) q
-    where
-      by : (b : Bool) (q : ℕ) → (let r : Event × State = cond b (Went, going m q m.stack) (Trap trap.Range, m) in r) ≡ answer_row m q below (valued (cond b (Some (Character (word_of (whole_of v)))) None))
-      by true q =
-          ap (λ (x : List ℕ). let r : Event × State = (Went, going m q x) in r) (is ∙ ap (λ (w : ℕ). w ∷ below) (sym (whole_word Cardinal v fits)))
-      by false q = refl
 
 -- an operator on two values
 module _ (own : Module) (m : State) (below : List ℕ) (u v : Scalar) (is : m.stack ≡ scalar_word v ∷ scalar_word u ∷ below) where
@@ -237,9 +240,170 @@ two_fits Div (OfWhole t) u v takes left right = outcome_fits t _ (quotient_fits 
 two_fits Mod (OfWhole t) u v takes left right = outcome_fits t _ (remainder_fits t (whole_of u) (whole_of v))
 two_fits _ k u v takes left right = cc
 
-pub chr_value_fits : (v : Scalar) → Fits OfCharacter (function_value Chr v)
-chr_value_fits v = by (between (pos 0) (whole_of v) (pos 255)) refl
+-- ---- standard functions
+-- what comes of a number of a kind
+ranged_fits : (k : Kind) (z : ℤ) → Fits (base_of k) (ranged k z)
+ranged_fits k z = subst (λ (x : Option Scalar). Fits (base_of k) (valued x)) (sym (value_where k z)) (by (has k z) refl)
   where
-    by : (b : Bool) → between (pos 0) (whole_of v) (pos 255) ≡ b → Fits OfCharacter (valued (cond b (Some (Character (word_of (whole_of v)))) None))
-    by true e = chr_fits (whole_of v) e
+    by : (b : Bool) → has k z ≡ b → Fits (base_of k) (valued (cond b (Some (scalar_of k z)) None))
+    by true e = within_base k (scalar_of k z) (value_fits k z e)
     by false e = tt
+
+-- its word is the number's
+same_word : (k : Kind) (v : Scalar) → has k (ordinal_of v) ≡ true → scalar_word (scalar_of k (ordinal_of v)) ≡ scalar_word v
+same_word k v h = word_is (scalar_of k (ordinal_of v)) ∙ ap word_of (number_is k (ordinal_of v) h) ∙ sym (word_is v)
+
+-- a value with the same word, which is one of a kind
+abbrev pub Same : Kind → Scalar → Result Scalar TrapKind → Type 0
+Same k v r = (u : Scalar) × (r ≡ Ok u) × (scalar_word u ≡ scalar_word v) × (within k u ≡ true)
+
+-- where a test is left out, the value stays
+untested : (k j : Kind) (v : Scalar) → within j v ≡ true → test_code k j ≡ [] → Same (base_of k) v (ranged k (ordinal_of v))
+untested k j v fits none = by (covers k j) refl none
+  where
+    by : (b : Bool) → covers k j ≡ b → cond b [] (range_code (compared_as j) (shared k j) ∷ []) ≡ [] → Same (base_of k) v (ranged k (ordinal_of v))
+    by true e none =
+        let h : has k (ordinal_of v) ≡ true = covered k j (ordinal_of v) e (fits_has j v fits) in
+        (scalar_of k (ordinal_of v), ap valued (value_is k (ordinal_of v) h), same_word k v h, within_base k (scalar_of k (ordinal_of v)) (value_fits k (ordinal_of v) h))
+    by false e none = cc
+
+whole_base : (j : Kind) → is_whole j ≡ true → is_base j ≡ true
+whole_base (OfWhole t) h = refl
+whole_base j h = cc
+
+whole_ordinal : (j : Kind) (v : Scalar) → is_whole j ≡ true → within j v ≡ true → ordinal_of v ≡ whole_of v
+whole_ordinal (OfWhole t) (Number z) whole h = refl
+whole_ordinal j v whole h = cc
+
+capital_fits : (c : ℕ) → nat_le c 255 ≡ true → nat_le (capital c) 255 ≡ true
+capital_fits c h = grind (arith, nat_tests)
+
+cap_fits : (j : Kind) (v : Scalar) → takes_function Cap j ≡ true → within j v ≡ true → Fits OfCharacter (function_value Cap v)
+cap_fits OfCharacter (Character c) takes h = capital_fits c h
+cap_fits j v takes h = cc
+
+-- what a standard function gives is a value of its kind
+pub function_fits : (f : Function) (j : Kind) (v : Scalar) → takes_function f j ≡ true → within j v ≡ true → Fits (function_kind f) (function_value f v)
+function_fits (Abs t) j v takes h = outcome_fits t _ (absolute_fits t (whole_of v))
+function_fits Cap j v takes h = cap_fits j v takes h
+function_fits Chr j v takes h = ranged_fits OfCharacter (whole_of v)
+function_fits Odd j v takes h = refl
+function_fits Ord j v takes h = ranged_fits (OfWhole Cardinal) (ordinal_of v)
+function_fits (Val k) j v takes h = ranged_fits k (ordinal_of v)
+
+-- a CARDINAL is its own absolute value
+absolute_same : (j : Kind) (v : Scalar) → takes_function (Abs Cardinal) j ≡ true → within j v ≡ true → Same (OfWhole Cardinal) v (function_value (Abs Cardinal) v)
+absolute_same (OfWhole Cardinal) (Number (pos n)) takes h = (Number (pos n), ap outcome (kept_in Cardinal (pos n) h), refl, h)
+absolute_same j v takes h = cc
+
+-- where a standard function has no code, the value that it gives has the word of what it was given
+pub function_none : (f : Function) (j : Kind) (v : Scalar) → takes_function f j ≡ true → within j v ≡ true → function_code f j ≡ [] → Same (function_kind f) v (function_value f v)
+function_none (Abs Cardinal) j v takes h none = absolute_same j v takes h
+function_none (Abs Integer) j v takes h none = cc
+function_none Cap j v takes h none = cc
+function_none Chr j v takes h none = subst (λ (z : ℤ). Same OfCharacter v (ranged OfCharacter z)) (whole_ordinal j v takes h) (untested OfCharacter j v h none)
+function_none Odd j v takes h none = cc
+function_none Ord j v takes h none = untested (OfWhole Cardinal) j v h none
+function_none (Val k) j v takes h none = untested k j v h none
+
+test_length : (k j : Kind) → length (test_code k j) ≤ 1
+test_length k j = by (covers k j)
+  where
+    by : (b : Bool) → length (cond b [] (range_code (compared_as j) (shared k j) ∷ [])) ≤ 1
+    by true = omega arith
+    by false = omega arith
+
+pub function_length : (f : Function) (j : Kind) → length (function_code f j) ≤ 32
+function_length (Abs Cardinal) j = omega arith
+function_length (Abs Integer) j = omega arith
+function_length Cap j = omega arith
+function_length Chr j = omega (arith, test_length OfCharacter j)
+function_length Odd j = omega arith
+function_length Ord j = omega (arith, test_length (OfWhole Cardinal) j)
+function_length (Val k) j = omega (arith, test_length k j)
+
+-- what 2 leaves of a number
+rest_is : (z : ℤ) → whole_rest z (pos 2) ≡ int_rem z (pos 2)
+rest_is z = let e = quot-rem z (pos 2) in omega (arith, ints)
+
+-- whether that is zero
+one_bit : (r : ℕ) → r < 2 → r ≡ truth_number (not (is_zero (pos r)))
+one_bit zero h = refl
+one_bit (suc zero) h = refl
+one_bit (suc (suc r)) h = absurd (omega arith)
+
+one_bit_below : (r : ℕ) → r < 2 → r ≡ truth_number (not (is_zero (neg_ℤ (pos r))))
+one_bit_below zero h = refl
+one_bit_below (suc zero) h = refl
+one_bit_below (suc (suc r)) h = absurd (omega arith)
+
+-- a number is odd where its word is
+odd_word : (t : Whole) (z : ℤ) → in_type t z ≡ true → word_of z % 2 ≡ truth_number (not (is_zero (int_rem z (pos 2))))
+odd_word t (pos n) h = one_bit (n % 2) (mod_below n 2 (omega arith))
+odd_word Cardinal (negsuc n) h = cc
+odd_word Integer (negsuc n) h =
+    let e : (65535 - n) % 2 ≡ suc n % 2 = grind (arith, nat_tests) in
+    e ∙ one_bit_below (suc n % 2) (mod_below (suc n) 2 (omega arith))
+
+odd_is : (t : Whole) (v : Scalar) → within (OfWhole t) v ≡ true → scalar_word v % 2 ≡ truth_number (not (is_zero (whole_rest (whole_of v) (pos 2))))
+odd_is t (Number z) h = odd_word t z h ∙ ap (λ (x : ℤ). truth_number (not (is_zero x))) (sym (rest_is z))
+odd_is t v h = cc
+
+-- what MOD 2 makes of a word
+word_rest : (w : ℕ) → remainder Cardinal (pos w) (pos 2) ≡ Ok (pos (w % 2))
+word_rest w = ap (kept Cardinal) (rest_is (pos w)) ∙ kept_in Cardinal (pos (w % 2)) (in_type_card (w % 2) (omega (arith, mod_below w 2)))
+
+-- a standard function's code does what the function means
+module _ (own : Module) (m : State) (below : List ℕ) (v : Scalar) (is : m.stack ≡ scalar_word v ∷ below) where
+  -- the test that a number is one of a kind
+  tested_gives : (k j : Kind) → is_base j ≡ true → within j v ≡ true → test_code k j ≢ [] → Gives own (test_code k j) m below (ranged k (ordinal_of v))
+  tested_gives k j base fits some = by (covers k j) some
+    where
+      answered : (q : ℕ) (b : Bool) → has k (ordinal_of v) ≡ b
+          → (let r : Event × State = cond b (Went, going m q m.stack) (Trap trap.Range, m) in r) ≡ answer_row m q below (valued (cond b (Some (scalar_of k (ordinal_of v))) None))
+      answered q true e =
+          ap (λ (x : List ℕ). let r : Event × State = (Went, going m q x) in r) (is ∙ ap (λ (w : ℕ). w ∷ below) (sym (same_word k v e)))
+      answered q false e = refl
+
+      by : (b : Bool) → cond b [] (range_code (compared_as j) (shared k j) ∷ []) ≢ [] → Gives own (cond b [] (range_code (compared_as j) (shared k j) ∷ [])) m below (ranged k (ordinal_of v))
+      by true some = absurd (some refl)
+      by false some = λ q.
+          test_act k j v own m below q base fits is
+          ∙ answered q (has k (ordinal_of v)) refl
+          ∙ ap (λ (x : Option Scalar). answer_row m q below (valued x)) (sym (value_where k (ordinal_of v)))
+
+  absolute_gives : (j : Kind) → takes_function (Abs Integer) j ≡ true → within j v ≡ true → Gives own (Abi ∷ []) m below (function_value (Abs Integer) v)
+  absolute_gives (OfWhole Integer) takes fits = sign_gives own m below v is absolute Abi (λ q. refl) fits
+  absolute_gives j takes fits = cc
+
+  capital_gives : (j : Kind) → takes_function Cap j ≡ true → within j v ≡ true → Gives own (instr.Cap ∷ []) m below (function_value Cap v)
+  capital_gives j takes fits = by j v refl takes fits
+    where
+      by : (j : Kind) (x : Scalar) → v ≡ x → takes_function Cap j ≡ true → within j x ≡ true → Gives own (instr.Cap ∷ []) m below (function_value Cap x)
+      by OfCharacter (Character c) e takes h = λ q.
+          ap (λ (x : List ℕ). on_one m x (change_row capital q m)) (is ∙ ap (λ (x : Scalar). scalar_word x ∷ below) e)
+      by j x e takes h = cc
+
+  odd_gives : (j : Kind) → is_whole j ≡ true → within j v ≡ true → length below + 2 ≤ 16 → Gives own (Liw 2 ∷ Mdc ∷ []) m below (function_value Odd v)
+  odd_gives (OfWhole t) whole fits room = (
+    2 ∷ scalar_word v ∷ below,
+    λ q.
+        pushes 2 q m (omega (arith, room, ap length is))
+        ∙ ap (λ (x : List ℕ). let r : Event × State = (Went, going m q (2 ∷ x)) in r) is,
+    λ q p.
+        ap (result_row (going m q (2 ∷ scalar_word v ∷ below)) p below) (word_rest (scalar_word v))
+        ∙ ap (λ (w : ℕ). let r : Event × State = (Went, going m p (w ∷ below)) in r) (odd_is t v fits),
+  )
+  odd_gives j whole fits room = cc
+
+  pub function_gives : (f : Function) (j : Kind) → takes_function f j ≡ true → within j v ≡ true → length below + function_depth f ≤ 16 → function_code f j ≢ []
+      → Gives own (function_code f j) m below (function_value f v)
+  function_gives (Abs Cardinal) j takes fits room some = absurd (some refl)
+  function_gives (Abs Integer) j takes fits room some = absolute_gives j takes fits
+  function_gives Cap j takes fits room some = capital_gives j takes fits
+  function_gives Chr j takes fits room some =
+      subst (λ (z : ℤ). Gives own (test_code OfCharacter j) m below (ranged OfCharacter z)) (whole_ordinal j v takes fits)
+      (tested_gives OfCharacter j (whole_base j takes) fits some)
+  function_gives Odd j takes fits room some = odd_gives j takes fits room
+  function_gives Ord j takes fits room some = tested_gives (OfWhole Cardinal) j takes fits some
+  function_gives (Val k) j takes fits room some = tested_gives k j (and_parts (is_base j) (is_base (base_of k)) takes).0 fits some

@@ -4,12 +4,11 @@ use Rattle.std.proofs.lemmas.Int.{ints}
 use Rattle.std.proofs.lemmas.Bool.{lt-ltb, le-leb, lt-leb}
 use Rattle.lil_base.specs.Words.{Whole, Cardinal, Integer, least, greatest, between, in_type, word_of}
 use Rattle.lil_base.specs.declared.fault.TrapKind.TheVariants as trap
-use Rattle.lil_resolved.specs.Kinds.{Kind}
+use Rattle.lil_resolved.specs.Kinds.{Kind, is_base, compared_as}
 use Rattle.lil_resolved.specs.Scalars.{Scalar, within, ordinal_of}
 use Rattle.lil_resolved.specs.Resolved.{Expression, Label, Case, Statements, Arms, NoElse, Else, Arm, kind_of}
-use Rattle.lil_resolved.specs.Sound.{is_base}
 use Rattle.lil_meaning.specs.Items.{Scalars, Pick, Do, Item, Value, Fill, Perform, doing, Going, Source}
-use Rattle.lil_meaning.specs.Steps.{current, owner_of, name_of, trap_at, trapped, among, picked}
+use Rattle.lil_meaning.specs.Steps.{among, picked}
 use Rattle.lil_meaning.specs.Steps as meaning
 use Rattle.lil_asm.specs.declared.instr.Instr.TheVariants.{Jmp, Cas, Trp}
 use Rattle.lil_mcode.specs.declared.machine.Event.TheVariants.{Trap}
@@ -17,7 +16,7 @@ use Rattle.lil_mcode.specs.Control as machine
 use Rattle.lil_mcode.specs.State.{State}
 use Rattle.lil_mcode.specs.Table.{going, on_one, case_row, chosen_row}
 use Rattle.lil_table.specs.LabelLaws.{ordinal_in, label_in}
-use Rattle.lil_table.specs.Rows.{Layout, IsAt, BodyAt, EntriesAt, ArmsAt, compared_as}
+use Rattle.lil_table.specs.Rows.{Layout, IsAt, BodyAt, EntriesAt, ArmsAt}
 use Rattle.lil_match.specs.Running.{running, advanced, react}
 use Rattle.lil_match.specs.Homes.{word_for, plain_word, yes}
 use Rattle.lil_match.specs.Goes.{HasFors, Shared, Goes, Lands}

@@ -3,13 +3,15 @@ use Rattle.std.proofs.Common.{◌≡◌, ℕ, zero, suc, ◌+◌, ◌-◌, ◌*�
 use Rattle.std.proofs.lemmas.Int.{ints}
 use Rattle.std.proofs.lemmas.Bool.{ne_eqb, cases_lt, le-ltb}
 use Rattle.std.proofs.Math.Nat.{mul-div-le, div-le_self}
-use Rattle.lil_base.specs.Words.{Whole, Cardinal, Integer, least, greatest, in_type, number_of, word_of}
+use Rattle.lil_base.specs.Words.{Whole, Cardinal, Integer, in_type, number_of, word_of}
 use Rattle.lil_base.specs.Laws.{number_of-word, bounds, in_range}
+use Rattle.lil_resolved.specs.Kinds.{Kind, is_base, compared_as, least, greatest}
 use Rattle.lil_resolved.specs.Sound.{IsStep}
 use Rattle.lil_meaning.specs.Steps as meaning
 use Rattle.lil_mcode.specs.Control as machine
 use Rattle.lil_table.specs.Rows.{loop_sign}
 use Rattle.lil_match.specs.Homes.{no}
+use Rattle.lil_match.specs.Ranges.{has, has_type}
 use Rattle.lil_match.specs.Waits.{TurnsFit}
 
 -- a number in its type has a word of 16 bits
@@ -97,26 +99,26 @@ turns_read t a b step fits limit s =
     ∙ ap (machine.turns a b) (number_of-word Integer step (step_in step s))
     ∙ same_turns a b step
 
--- So many turns up, whose steps pass no limit, have values of the type
-fits_up : (t : Whole) (n left d : ℕ) (x : ℤ) → n * left ≤ d → in_type t x ≡ true → in_type t (x +ℤ pos d) ≡ true → TurnsFit t (x +ℤ pos n) (pos n) left
-fits_up t n zero d x few low high = tt
-fits_up t n (suc left) d x few low high =
+-- So many turns up, whose steps pass no limit, have numbers of the kind
+fits_up : (k : Kind) (n left d : ℕ) (x : ℤ) → n * left ≤ d → has k x ≡ true → has k (x +ℤ pos d) ≡ true → TurnsFit k (x +ℤ pos n) (pos n) left
+fits_up k n zero d x few low high = tt
+fits_up k n (suc left) d x few low high =
     let e : n * suc left ≡ n + n * left = omega arith in
     let same : (x +ℤ pos n) +ℤ pos (d - n) ≡ x +ℤ pos d = omega (arith, ints) in
-    let l = bounds (least t) x (greatest t) low in
-    let u = bounds (least t) (x +ℤ pos d) (greatest t) high in
-    let here : in_type t (x +ℤ pos n) ≡ true = in_range (least t) (x +ℤ pos n) (greatest t) (omega (arith, ints, l.0)) (omega (arith, ints, u.1)) in
-    (here, fits_up t n left (d - n) (x +ℤ pos n) (omega arith) here (ap (in_type t) same ∙ high))
+    let l = bounds (least k) x (greatest k) low in
+    let u = bounds (least k) (x +ℤ pos d) (greatest k) high in
+    let here : has k (x +ℤ pos n) ≡ true = in_range (least k) (x +ℤ pos n) (greatest k) (omega (arith, ints, l.0)) (omega (arith, ints, u.1)) in
+    (here, fits_up k n left (d - n) (x +ℤ pos n) (omega arith) here (ap (has k) same ∙ high))
 
-fits_down : (t : Whole) (n left d : ℕ) (x : ℤ) → suc n * left ≤ d → in_type t x ≡ true → in_type t (x -ℤ pos d) ≡ true → TurnsFit t (x +ℤ negsuc n) (negsuc n) left
-fits_down t n zero d x few low high = tt
-fits_down t n (suc left) d x few low high =
+fits_down : (k : Kind) (n left d : ℕ) (x : ℤ) → suc n * left ≤ d → has k x ≡ true → has k (x -ℤ pos d) ≡ true → TurnsFit k (x +ℤ negsuc n) (negsuc n) left
+fits_down k n zero d x few low high = tt
+fits_down k n (suc left) d x few low high =
     let e : suc n * suc left ≡ suc n + suc n * left = omega arith in
     let same : (x +ℤ negsuc n) -ℤ pos (d - suc n) ≡ x -ℤ pos d = omega (arith, ints) in
-    let l = bounds (least t) x (greatest t) low in
-    let u = bounds (least t) (x -ℤ pos d) (greatest t) high in
-    let here : in_type t (x +ℤ negsuc n) ≡ true = in_range (least t) (x +ℤ negsuc n) (greatest t) (omega (arith, ints, u.0)) (omega (arith, ints, l.1)) in
-    (here, fits_down t n left (d - suc n) (x +ℤ negsuc n) (omega arith) here (ap (in_type t) same ∙ high))
+    let l = bounds (least k) x (greatest k) low in
+    let u = bounds (least k) (x -ℤ pos d) (greatest k) high in
+    let here : has k (x +ℤ negsuc n) ≡ true = in_range (least k) (x +ℤ negsuc n) (greatest k) (omega (arith, ints, u.0)) (omega (arith, ints, l.1)) in
+    (here, fits_down k n left (d - suc n) (x +ℤ negsuc n) (omega arith) here (ap (has k) same ∙ high))
 
 -- the turns behind the first one come as far as the distance of the bounds at most
 climbed : (a b : ℤ) (n left : ℕ) → climb a b n ≡ suc left → (d : ℕ) × (b -ℤ a ≡ pos d) × (n * left ≤ d) × (left ≤ d)
@@ -140,13 +142,15 @@ apart Integer a b d low high e =
     let u = bounds (negsuc 32767) b (pos 32767) high in
     omega (arith, ints, l.0, u.1, e)
 
--- the turns behind the first one have values of the type, and are fewer than 65536
-pub turns_few : (t : Whole) (a b step : ℤ) (left : ℕ) → in_type t a ≡ true → in_type t b ≡ true → meaning.turns a b step ≡ suc left → TurnsFit t (a +ℤ step) step left × (left < 65536)
-turns_few t a b (pos n) left fits limit h =
+-- the turns behind the first one have numbers of the kind, and are fewer than 65536
+pub turns_few : (k : Kind) (a b step : ℤ) (left : ℕ) → is_base k ≡ true → has k a ≡ true → has k b ≡ true → meaning.turns a b step ≡ suc left → TurnsFit k (a +ℤ step) step left × (left < 65536)
+turns_few k a b (pos n) left base fits limit h =
     let c = climbed a b n left h in
     let same : a +ℤ pos c.0 ≡ b = omega (arith, ints, c.1) in
-    (fits_up t n left c.0 a c.2 fits (ap (in_type t) same ∙ limit), omega (arith, c.3, apart t a b c.0 fits limit c.1))
-turns_few t a b (negsuc n) left fits limit h =
+    (fits_up k n left c.0 a c.2 fits (ap (has k) same ∙ limit), omega (arith, c.3, apart (compared_as k) a b c.0 (has_type k a base fits) (has_type k b base limit) c.1))
+turns_few k a b (negsuc n) left base fits limit h =
     let c = climbed b a (n + 1) left h in
-    let same : a -ℤ pos c.0 ≡ b = omega (arith, ints, c.1) in
-    (fits_down t n left c.0 a (subst (λ (k : ℕ). k * left ≤ c.0) (let e : n + 1 ≡ suc n = omega arith in e) c.2) fits (ap (in_type t) same ∙ limit), omega (arith, c.3, apart t b a c.0 limit fits c.1))
+    let same : a -ℤ pos c.0 ≡ b = omega (arith, ints, c.1) in (
+      fits_down k n left c.0 a (subst (λ (i : ℕ). i * left ≤ c.0) (let e : n + 1 ≡ suc n = omega arith in e) c.2) fits (ap (has k) same ∙ limit),
+      omega (arith, c.3, apart (compared_as k) b a c.0 (has_type k b base limit) (has_type k a base fits) c.1),
+    )

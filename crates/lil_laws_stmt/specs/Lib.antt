@@ -1,6 +1,11 @@
+pub mod Begins
 pub mod Cases
+pub mod Changes
 pub mod Control
 pub mod Exits
 pub mod ForWords
 pub mod Fors
+pub mod Leaving
+pub mod Starts
+pub mod Stores
 pub mod Tasks

@@ -1,28 +1,30 @@
--- The rows of assignments, requests and their arguments, of a store, and of the end of the last body.
-use Rattle.std.proofs.Common.{◌≡◌, ℕ, suc, ◌+◌, ◌<◌, ◌≤◌, Bool, true, cond, Option, Some, List, [], ◌∷◌, ◌++◌, length, map, reverse, take, drop, get_or, set, refl, sym, ap, ◌∙◌, subst, arith, eq-eqb, length-append}
+-- The rows of assignments, requests and their arguments, and of the end of the last body.
+use Rattle.std.proofs.Common.{◌≡◌, ℕ, suc, ◌+◌, ◌<◌, Bool, true, cond, Option, Some, List, [], ◌∷◌, ◌++◌, length, map, reverse, take, drop, refl, sym, ap, ◌∙◌, subst, arith, eq-eqb, length-append}
 use Rattle.std.specs.Prelude.{nat_le}
-use Rattle.std.proofs.lemmas.Bool.{lt-ltb, le-leb}
-use Rattle.std.proofs.lemmas.List.{reverse-append, reverse-reverse, length-reverse, map-append, length-map, take_all, drop_all, get_or-set_other}
+use Rattle.std.proofs.lemmas.Bool.{le-leb}
+use Rattle.std.proofs.lemmas.List.{reverse-append, reverse-reverse, length-reverse, map-append, length-map, take_all, drop_all}
 use Rattle.lil_base.specs.declared.fault.TrapKind.TheVariants as trap
 use Rattle.lil_resolved.specs.Kinds.{Kind}
 use Rattle.lil_resolved.specs.Scalars.{Scalar, within, scalar_word}
-use Rattle.lil_resolved.specs.Resolved.{Variable, Expression, Argument, Assign, Request}
-use Rattle.lil_meaning.specs.Cells.{Root, Place, stored, alone}
+use Rattle.lil_resolved.specs.Resolved.{Variable, Expression, Argument, Assign, Request, kind_of}
+use Rattle.lil_meaning.specs.Cells.{Place, stored, alone}
 use Rattle.lil_meaning.specs.World.{World, serve}
 use Rattle.lil_meaning.specs.Items.{Scalars, Places, SetTo, StoreAt, Pass, Do, Passing, End, Item, Value, PlaceOf, Fill, Perform, Going, Source}
 use Rattle.lil_meaning.specs.Steps.{trapped, with_items}
 use Rattle.lil_asm.specs.declared.instr.Instr.TheVariants.{Sgw, Rtn, Svc}
 use Rattle.lil_mcode.specs.declared.machine.Event.TheVariants.{LevelEnded}
 use Rattle.lil_mcode.specs.State.{State}
-use Rattle.lil_mcode.specs.Table.{going, on_one, store_row, request_row, end_row}
-use Rattle.lil_table.specs.Rows.{IsAt, ArgumentsAt, loop_place}
+use Rattle.lil_mcode.specs.Table.{going, request_row, end_row}
+use Rattle.lil_table.specs.Rows.{IsAt, ValueRow, ArgumentsAt, test_code}
 use Rattle.lil_match.specs.Running.{Running, Finished, Run, running, requested, words_taken}
-use Rattle.lil_match.specs.Homes.{word_for, plain_word, yes, Of, Word, Mem, whole_root, mem_stored, of_free}
-use Rattle.lil_match.specs.Goes.{HasFrame, HasFors, Shared, Goes, Lands}
+use Rattle.lil_match.specs.Homes.{word_for, plain_word, yes, Word}
+use Rattle.lil_match.specs.Goes.{HasFors, Shared, Goes, Lands}
 use Rattle.lil_match.specs.Stutter.{stutter}
-use Rattle.lil_match.specs.Waits.{Setting, Quiet, ValueOf, Direct, ForWords, Around, Reach, Rows, Ahead, words_on, EndWaits, EndedWaits, IsVariable, Waiting}
-use Rattle.lil_match.specs.Orders.{instr_within, arguments_within}
+use Rattle.lil_match.specs.Waits.{Setting, Quiet, ValueOf, Direct, Around, Reach, Rows, Ahead, words_on, EndWaits, EndedWaits, IsVariable, Waiting}
+use Rattle.lil_match.specs.Orders.{instr_within, instrs_order, expression_stands, arguments_within}
+use Rattle.lil_match.specs.Closing.{closed}
 use Rattle.lil_match.specs.Steps.{advances, at_step, at_once, rows_ahead, lands_on, goes_none, goes_one, operand_goes}
+use Rattle.lil_laws_stmt.specs.Stores.{tested, stored_goes}
 
 -- one more word on the expression stack
 words_more : (done : List Scalar) (v : Scalar) → scalar_word v ∷ words_on done ≡ words_on (done ++ v ∷ [])
@@ -34,30 +36,15 @@ words_length done = length-reverse (map scalar_word done) ∙ length-map done sc
 done_length : (done : List Scalar) (v : Scalar) → length (done ++ v ∷ []) ≡ suc (length done)
 done_length done v = omega (arith, length-append done (v ∷ []))
 
-module _ (ctx : Setting) (m : State) (frame : HasFrame ctx m) (r : Root) (owned : ctx.home.owner (ctx.home.base r) ≡ Of r) (x : ℕ) where
-  open ctx use {modules, layout as l, table, own, number, home as h}
-
-  -- a word of the frame behind its mark is no root's
-  frame_word : (i a : ℕ) → a ≡ m.frame + i → 4 ≤ i → i < l.frame → get_or (set m.store (h.base r) x) a 0 ≡ get_or m.store a 0
-  frame_word i a at low high =
-      get_or-set_other m.store (h.base r) a x 0
-      (λ e. of_free r m.base (sym owned ∙ ap h.owner (sym e ∙ at) ∙ frame.free i low high))
-
-  -- a store at a root's home leaves the words of the FORs as they are
-  pub fors_stored : (ws : List ForWords) → HasFors ctx m.frame m.store ws → HasFors ctx m.frame (set m.store (h.base r) x) ws
-  fors_stored [] has = tt
-  fors_stored (w ∷ ws) has =
-      let n : ℕ = loop_place (length ws) in
-      let room : n + 3 ≤ l.frame = has.0 in (
-        room,
-        frame_word n (m.frame + n) refl (omega arith) (omega arith) ∙ has.1,
-        frame_word (n + 1) (m.frame + n + 1) (omega arith) (omega arith) (omega arith) ∙ has.2,
-        frame_word (n + 2) (m.frame + n + 2) (omega arith) (omega arith) (omega arith) ∙ has.3,
-        fors_stored ws has.4,
-      )
-
 module _ (ctx : Setting) where
   open ctx use {modules, layout as l, table, own, number, home as h}
+
+  -- a test begins within the code where what follows it does
+  value_within : (n : ℕ) (e : Expression) (kind : Kind) (p q : ℕ) (r : ValueRow l own.code n e kind p q) → q < length own.code → r.middle < length own.code
+  value_within n e kind p q r inside =
+      let value = expression_stands l own.code e p r.middle r.value.value in
+      let test = instrs_order own.code (test_code kind (kind_of e)) r.middle q r.test value.1 in
+      omega (arith, test.0, inside)
 
   module _ (s : Source) (k : List Item) (m : State) (c : ℕ) (a : Around) (shared : Shared ctx s m) (fors : HasFors ctx m.frame m.store a.fors) where
     abbrev Rest : Reach
@@ -70,12 +57,8 @@ module _ (ctx : Setting) where
         (lands_on ctx s m shared (PlaceOf (Variable x kind) ∷ Fill (SetTo kind e) ∷ k) m.place m.stack c a fors
         (at_once ctx _ Quiet m.place m.stack c a
         (record {
-          part = record {
-            offset = row.part.here.offset;
-            known = row.part.here.known;
-            typed = row.part.here.typed;
-          };
-          then = at_once ctx _ (Direct row.part.here.offset kind) m.place m.stack c a
+          part = row.part.here.known;
+          then = at_once ctx _ (Direct row.part.here.known.offset kind) m.place m.stack c a
               (record {
                 part = record {
                   same = refl;
@@ -101,15 +84,19 @@ module _ (ctx : Setting) where
           living = is.living ∙ ap Word same_kind;
           at = is.at;
         } in
-        operand_goes ctx s k m c a shared fors (Value (Places place) ∷ Fill (SetTo to e) ∷ k) e (StoreAt place to) refl (omega arith) row.part.middle row.part.value.value (omega (arith, row.part.value.shallow, ap length row.part.empty))
-        (instr_within own.code row.part.middle (Sgw offset) row.part.end row.part.store)
+        let value = row.part.value in
+        operand_goes ctx s k m c a shared fors (Value (Places place) ∷ Fill (SetTo to e) ∷ k) e (StoreAt place to) refl (omega arith) value.middle value.value.value
+        (omega (arith, value.value.shallow, ap length row.part.empty))
+        (value_within 0 e to m.place row.part.middle value (instr_within own.code row.part.middle (Sgw offset) row.part.end row.part.store))
         (record {
           part = record {
-            same = row.part.value.typed;
+            takes = value.takes;
             empty = row.part.empty;
             offset = offset;
             variable = variable;
+            middle = row.part.middle;
             end = row.part.end;
+            test = value.test;
             store = row.part.store;
             within = row.part.within;
           };
@@ -119,54 +106,17 @@ module _ (ctx : Setting) where
     pub store_goes : (place : Place) (to : Kind) (v : Scalar) (kind : Kind) → within kind v ≡ true → (below : List ℕ) → m.stack ≡ word_for h v ∷ below
         → Waiting ctx (Fill (StoreAt place to)) Rest (ValueOf kind) m.place below c a → Goes ctx s (Value (Scalars v) ∷ Fill (StoreAt place to) ∷ k) m (c + 32)
     store_goes place to v kind fit below is row =
-        let same_kind : kind ≡ to = row.part.same in
-        let fits : within to v ≡ true = ap (λ (j : Kind). within j v) (sym same_kind) ∙ fit in
-        let inside : own.base + row.part.offset < 65536 = omega (arith, shared.mem.inside place.root to row.part.variable.living, row.part.variable.at) in
-        let store : List ℕ = set m.store (own.base + row.part.offset) (word_for h v) in
-        let entire : place ≡ whole_root place.root = ap (λ (p : List ℕ). let x : Place = record { root = place.root; path = p } in x) row.part.variable.path in
-        let mem_there : Mem h (stored s.cells (whole_root place.root) (alone v)) (set m.store (h.base place.root) (word_for h v)) =
-        mem_stored h s.cells m.store place.root to v shared.mem row.part.variable.living fits in
-        let mem_at : Mem h (stored s.cells (whole_root place.root) (alone v)) store =
-        subst (λ (w : ℕ). Mem h (stored s.cells (whole_root place.root) (alone v)) (set m.store w (word_for h v))) row.part.variable.at mem_there in
-        let mem : Mem h (stored s.cells place (alone v)) store =
-        subst (λ (p : Place). Mem h (stored s.cells p (alone v)) store) (sym entire) mem_at in
-        let fors_there : HasFors ctx m.frame (set m.store (h.base place.root) (word_for h v)) a.fors =
-        fors_stored ctx m shared.frame place.root (shared.mem.owned place.root to row.part.variable.living) (word_for h v) a.fors fors in
+        let items : List Item = Value (Scalars v) ∷ Fill (StoreAt place to) ∷ k in
+        let now : Source = record s { items = items; phase = Going } in
         let after : Source = record s { items = k; cells = stored s.cells place (alone v); phase = Going } in
-        let machine : State = record m { place = row.part.end; stack = below; store = store } in
-        let here : Source = record s { items = Value (Scalars v) ∷ Fill (StoreAt place to) ∷ k; phase = Going } in
-        goes_one ctx s (Value (Scalars v) ∷ Fill (StoreAt place to) ∷ k) m (c + 32) c (running machine s.world)
-        (advances m s.world _ (
-        at_step ctx m shared.program (Sgw row.part.offset) row.part.end row.part.store
-        ∙ ap (λ (x : List ℕ). on_one m x (store_row (own.base + row.part.offset) row.part.end m)) is
-        ∙ yes _ _ _ (lt-ltb (own.base + row.part.offset) 65536 inside)
-        ))
-        (subst (λ (b : Bool). Lands ctx (cond b after (trapped modules here trap.Range)).phase (cond b after (trapped modules here trap.Range)) (running machine s.world) c) (sym fits)
-        (record {
-          machine = machine;
-          is = refl;
-          met = record {
-            shared = record {
-              mem = mem;
-              laid = shared.laid;
-              program = record {
-                table_is = shared.program.table_is;
-                known = shared.program.known;
-                running_is = shared.program.running_is;
-                marked = shared.program.marked;
-                body = shared.program.body;
-                last = shared.program.last;
-              };
-              frame = record { room = shared.frame.room; free = shared.frame.free };
-              owner = shared.owner;
-              parked = shared.parked;
-            };
-            around = a;
-            fors = subst (λ (w : ℕ). HasFors ctx m.frame (set m.store w (word_for h v)) a.fors) row.part.variable.at fors_there;
-            ahead = rows_ahead ctx k row.part.end below c a
-                (subst (λ (x : List ℕ). Rest Quiet row.part.end x c a) (sym row.part.empty) row.then);
-          };
-        }))
+        let becomes : Bool → Source = λ b. cond b after (trapped modules now trap.Range) in
+        tested ctx s items m shared m.place m.stack to kind v row.part.takes fit below (is ∙ ap (λ (w : ℕ). w ∷ below) (plain_word h kind v fit))
+        row.part.middle (c + 32) (c + 1) row.part.test (closed ctx k _ _ _ _ _ row.then)
+        (λ out. ap becomes out)
+        (λ one.
+        stored_goes ctx s items m shared row.part.middle m.stack place row.part.offset to row.part.variable v one below is
+        row.part.end row.part.store k (ap becomes one) c (c + 1) a fors
+        (subst (λ (x : List ℕ). Rest Quiet row.part.end x c a) (sym row.part.empty) row.then) (omega arith))
         (omega arith)
 
     pub request_goes : (r : ℕ) (given : List Argument) → Waiting ctx (Perform (Do (Request r given))) Rest Quiet m.place m.stack c a
@@ -190,15 +140,22 @@ module _ (ctx : Setting) where
     pub passing_goes : (r : ℕ) (done : List Scalar) (x : Argument) (left : List Argument) → Waiting ctx (Perform (Passing r done (x ∷ left))) Rest Quiet m.place m.stack c a
         → Goes ctx s (Perform (Passing r done (x ∷ left)) ∷ k) m (c + 32)
     passing_goes r done x left row =
-        operand_goes ctx s k m c a shared fors (Perform (Passing r done (x ∷ left)) ∷ k) x.value (Pass r x.kind done left) refl (omega arith) row.part.given.middle row.part.given.value.value (omega (arith, row.part.given.value.shallow, ap length row.part.is, words_length done))
-        (arguments_within l own.code (suc (length done)) left row.part.given.middle row.part.middle row.part.given.then (instr_within own.code row.part.middle (Svc r) row.part.serve.end row.part.serve.by))
+        let value = row.part.given.value in
+        let serve = row.part.serve in
+        let behind = arguments_within l own.code (suc (length done)) left row.part.given.middle row.part.middle row.part.given.then (instr_within own.code row.part.middle (Svc r) serve.end serve.by) in
+        let count : length done + suc (length left) ≡ suc (length done) + length left = omega arith in
+        operand_goes ctx s k m c a shared fors (Perform (Passing r done (x ∷ left)) ∷ k) x.value (Pass r x.kind done left) refl (omega arith) value.middle value.value.value
+        (omega (arith, value.value.shallow, ap length row.part.is, words_length done))
+        (value_within (length done) x.value x.kind m.place row.part.given.middle value behind)
         (record {
           part = record {
-            same = row.part.given.value.typed;
+            takes = value.takes;
             is = row.part.is;
+            tested = row.part.given.middle;
+            test = value.test;
             middle = row.part.middle;
             given = row.part.given.then;
-            serve = record { words = row.part.serve.words ∙ ap Some (let e : length done + suc (length left) ≡ suc (length done) + length left = omega arith in e); end = row.part.serve.end; by = row.part.serve.by; within = row.part.serve.within };
+            serve = record { words = serve.words ∙ ap Some count; end = serve.end; by = serve.by; within = serve.within };
           };
           then = row.then;
         })
@@ -206,27 +163,34 @@ module _ (ctx : Setting) where
     pub pass_goes : (r : ℕ) (to : Kind) (done : List Scalar) (left : List Argument) (v : Scalar) (kind : Kind) → within kind v ≡ true → (below : List ℕ) → m.stack ≡ word_for h v ∷ below
         → Waiting ctx (Fill (Pass r to done left)) Rest (ValueOf kind) m.place below c a → Goes ctx s (Value (Scalars v) ∷ Fill (Pass r to done left) ∷ k) m (c + 32)
     pass_goes r to done left v kind fit below is row =
-        let same_kind : kind ≡ to = row.part.same in
-        let fits : within to v ≡ true = ap (λ (j : Kind). within j v) (sym same_kind) ∙ fit in
-        let here : Source = record s { items = Value (Scalars v) ∷ Fill (Pass r to done left) ∷ k; phase = Going } in
+        let items : List Item = Value (Scalars v) ∷ Fill (Pass r to done left) ∷ k in
+        let now : Source = record s { items = items; phase = Going } in
         let after : List Item = Perform (Passing r (done ++ v ∷ []) left) ∷ k in
+        let becomes : Bool → Source = λ b. cond b (with_items now after) (trapped modules now trap.Range) in
         let count : suc (length done) ≡ length (done ++ v ∷ []) = sym (done_length done v) in
-        let falls : stutter after < stutter (Value (Scalars v) ∷ Fill (Pass r to done left) ∷ k) = omega arith in
-        goes_none ctx s (Value (Scalars v) ∷ Fill (Pass r to done left) ∷ k) m (c + 32) c
-        (subst (λ (b : Bool). Lands ctx (cond b (with_items here after) (trapped modules here trap.Range)).phase (cond b (with_items here after) (trapped modules here trap.Range)) (running m s.world) c) (sym fits)
-        (lands_on ctx s m shared after m.place m.stack c a fors
-        (at_once ctx _ Quiet m.place m.stack c a
+        let stack_is : m.stack ≡ scalar_word v ∷ below = is ∙ ap (λ (w : ℕ). w ∷ below) (plain_word h kind v fit) in
+        let serve = row.part.serve in
+        let falls : stutter after < stutter items = omega arith in
+        tested ctx s items m shared m.place m.stack to kind v row.part.takes fit below stack_is
+        row.part.tested (c + 32) c row.part.test (closed ctx k _ _ _ _ _ row.then)
+        (λ out. ap becomes out)
+        (λ one.
+        goes_none ctx s items (going m row.part.tested m.stack) c c
+        (subst (λ (t : Source). Lands ctx t.phase t (running (going m row.part.tested m.stack) s.world) c) (sym (ap becomes one))
+        (lands_on ctx s m shared after row.part.tested m.stack c a fors
+        (at_once ctx _ Quiet row.part.tested m.stack c a
         (record {
           part = record {
-            is = is ∙ ap (λ (w : ℕ). w ∷ below) (plain_word h to v fits) ∙ ap (λ (x : List ℕ). scalar_word v ∷ x) row.part.is ∙ words_more done v;
+            is = stack_is ∙ ap (λ (x : List ℕ). scalar_word v ∷ x) row.part.is ∙ words_more done v;
             middle = row.part.middle;
-            given = subst (λ (n : ℕ). ArgumentsAt l own.code n left m.place row.part.middle) count row.part.given;
-            serve = record { words = row.part.serve.words ∙ ap (λ (n : ℕ). Some (n + length left)) count; end = row.part.serve.end; by = row.part.serve.by; within = row.part.serve.within };
+            given = subst (λ (n : ℕ). ArgumentsAt l own.code n left row.part.tested row.part.middle) count row.part.given;
+            serve = record { words = serve.words ∙ ap (λ (n : ℕ). Some (n + length left)) count; end = serve.end; by = serve.by; within = serve.within };
           };
           then = row.then;
         }))))
         (omega arith)
-        (subst (λ (b : Bool). stutter (cond b (with_items here after) (trapped modules here trap.Range)).items < stutter (Value (Scalars v) ∷ Fill (Pass r to done left) ∷ k)) (sym fits) falls)
+        (subst (λ (t : Source). stutter t.items < stutter items) (sym (ap becomes one)) falls))
+        (omega arith)
 
     pub serve_goes : (r : ℕ) (done : List Scalar) → Waiting ctx (Perform (Passing r done [])) Rest Quiet m.place m.stack c a
         → Goes ctx s (Perform (Passing r done []) ∷ k) m (c + 32)

@@ -1,5 +1,5 @@
 -- A chain with an operation more.
-use Rattle.std.proofs.Common.{◌≡◌, List, [], ◌∷◌, ◌++◌, map, ap, ◌∙◌}
+use Rattle.std.proofs.Common.{◌≡◌, List, [], ◌∷◌, ◌++◌, map}
 use Rattle.lil_resolved.specs.Resolved.{Expression}
 use Rattle.lil_resolved.specs.Views.{two_of, chained, expression_of, operation_of}
 use Rattle.lil_resolved.specs.Forms.{operation_is}

@@ -1,3 +1,5 @@
+pub mod BaseLaws
+pub mod CallSound
 pub mod Chained
 pub mod Lists
 pub mod ModuleForms

@@ -47,6 +47,10 @@ module _ {X B : Type 0} (F : X → Option B) where
   pushed V xs i x r found new h is there made so_far =
       some_more xs i x (V r) (map V found) h is (sym there) so_far ∙ ap Some (sym (ap (map V) made ∙ map-append V found (r ∷ [])))
 
+  pub pushed_same : (xs : List X) (i : ℕ) (x : X) (b : B) (found new : List B) → i < length xs → x ≡ get_or xs i x → Some b ≡ F x → new ≡ found ++ b ∷ []
+      → all_some (map F (take i xs)) ≡ Some found → all_some (map F (take (i + 1) xs)) ≡ Some new
+  pushed_same xs i x b found new h is there made so_far = some_more xs i x b found h is (sym there) so_far ∙ ap Some (sym made)
+
   pub all_found : {R : Type 0} (V : R → B) (xs : List X) (i : ℕ) (found : List R) → length xs ≤ i → all_some (map F (take i xs)) ≡ Some (map V found)
       → all_some (map F xs) ≡ Some (map V found)
   all_found V xs i found h so_far = ap (λ ys. all_some (map F ys)) (sym (take_all i xs h)) ∙ so_far

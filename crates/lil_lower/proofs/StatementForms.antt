@@ -18,9 +18,11 @@ use Rattle.lil_module.specs.declared.tree.RArm.{RArm}
 use Rattle.lil_module.specs.declared.tree.RGuard.{RGuard}
 use Rattle.lil_resolved.specs.Resolved.{Else}
 use Rattle.lil_resolved.specs.Views.{all_of}
-use Rattle.lil_lower.specs.declared.value_kind.Kind.{Kind}
-use Rattle.lil_lower.specs.declared.value_kind.Kind.TheVariants as k
+use Rattle.lil_types.specs.Types.{boolean}
+use Rattle.lil_resolved.specs.declared.resolved.RBase.{RBase}
+use Rattle.lil_lower.specs.declared.selectors.Ordinal.{Ordinal}
 use Rattle.lil_lower.specs.Values.{root, designator}
+use Rattle.lil_lower.specs.Calls.{called, procedure}
 use Rattle.lil_lower.specs.Lowered as s
 use Rattle.lil_lower.specs.Lowered.{Meaning, GuardMeaning, ArmMeaning, all_some, value, statement_layer, arm_layer, guard_layer, statement, arm, guard, statements}
 use Rattle.lil_lower.proofs.Lists.{map_of_map}
@@ -37,20 +39,20 @@ module _ (m : RModule) where
     at : {f g : Meaning} → f ≡ g → f looping ≡ g looping
     at h = ap (λ (f : Meaning). f looping) h
 
-    pub assign_is : (d : RDesignator) (x : RExpr) → statement m (v.Assign d x) looping ≡ s.assigned (designator m d) (value m x k.Cardinal)
+    pub assign_is : (d : RDesignator) (x : RExpr) → statement m (v.Assign d x) looping ≡ s.assigned m (designator m d) x
     assign_is d x = at (ap (statement m) (sym (v.rolls-Assign d x)) ∙ rolled (o.Assign d x))
 
-    pub call_is : (c : RCallee) (xs : List RArgument) → statement m (v.Call c xs) looping ≡ s.called m c xs
+    pub call_is : (c : RCallee) (xs : List RArgument) → statement m (v.Call c xs) looping ≡ called m c xs
     call_is c xs = at (ap (statement m) (sym (v.rolls-Call c xs)) ∙ rolled (o.Call c xs))
 
-    pub procedure_is : (p : Standard) (xs : List RArgument) → statement m (v.Procedure p xs) looping ≡ None
+    pub procedure_is : (p : Standard) (xs : List RArgument) → statement m (v.Procedure p xs) looping ≡ procedure m p xs
     procedure_is p xs = at (ap (statement m) (sym (v.rolls-Procedure p xs)) ∙ rolled (o.Procedure p xs))
 
     guards_are : (gs : List RGuard) → all_some (map (λ (g : GuardMeaning). g looping) (map (guard m) gs)) ≡ all_some (map (λ g. guard m g looping) gs)
     guards_are gs = ap all_some (map_of_map (λ (g : GuardMeaning). g looping) (guard m) gs)
 
-    arms_are : (kind : Kind) (arms : List RArm) → all_some (map (λ (a : ArmMeaning). a looping kind) (map (arm m) arms)) ≡ all_some (map (λ a. arm m a looping kind) arms)
-    arms_are kind arms = ap all_some (map_of_map (λ (a : ArmMeaning). a looping kind) (arm m) arms)
+    arms_are : (k : RBase) (arms : List RArm) → all_some (map (λ (a : ArmMeaning). a looping k) (map (arm m) arms)) ≡ all_some (map (λ a. arm m a looping k) arms)
+    arms_are k arms = ap all_some (map_of_map (λ (a : ArmMeaning). a looping k) (arm m) arms)
 
     pub if_without : (gs : List RGuard) → statement m (v.If gs None) looping ≡ s.conditional (all_some (map (λ g. guard m g looping) gs)) (s.else_body looping None)
     if_without gs = at (ap (statement m) (sym (v.rolls-If gs None)) ∙ rolled (o.If gs None)) ∙ ap (λ os. s.conditional os (s.else_body looping None)) (guards_are gs)
@@ -58,30 +60,30 @@ module _ (m : RModule) where
     pub if_with : (gs : List RGuard) (ss : List RStmt) → statement m (v.If gs (Some ss)) looping ≡ s.conditional (all_some (map (λ g. guard m g looping) gs)) (statements m looping ss)
     if_with gs ss = at (ap (statement m) (sym (v.rolls-If gs (Some ss))) ∙ rolled (o.If gs (Some ss))) ∙ (λ j. s.conditional (guards_are gs j) (body_is ss j))
 
-    case_at : (kind : Option Kind) (x : RExpr) (arms : List RArm) (other : Option (List RStmt)) → s.own_kind x ≡ kind
-        → statement m (v.Case x arms other) looping ≡ s.case_by m kind x looping (map (arm m) arms) (option_map (map (statement m)) other)
-    case_at kind x arms None is = at (ap (statement m) (sym (v.rolls-Case x arms None)) ∙ rolled (o.Case x arms None)) ∙ ap (λ n. s.case_by m n x looping (map (arm m) arms) None) is
-    case_at kind x arms (Some ss) is = at (ap (statement m) (sym (v.rolls-Case x arms (Some ss))) ∙ rolled (o.Case x arms (Some ss))) ∙ ap (λ n. s.case_by m n x looping (map (arm m) arms) (Some (map (statement m) ss))) is
+    case_at : (by : Option Ordinal) (x : RExpr) (arms : List RArm) (other : Option (List RStmt)) → s.selector m x ≡ by
+        → statement m (v.Case x arms other) looping ≡ s.case_by m by x looping (map (arm m) arms) (option_map (map (statement m)) other)
+    case_at by x arms None is = at (ap (statement m) (sym (v.rolls-Case x arms None)) ∙ rolled (o.Case x arms None)) ∙ ap (λ n. s.case_by m n x looping (map (arm m) arms) None) is
+    case_at by x arms (Some ss) is = at (ap (statement m) (sym (v.rolls-Case x arms (Some ss))) ∙ rolled (o.Case x arms (Some ss))) ∙ ap (λ n. s.case_by m n x looping (map (arm m) arms) (Some (map (statement m) ss))) is
 
-    pub case_none : (x : RExpr) (arms : List RArm) (other : Option (List RStmt)) → s.own_kind x ≡ None → statement m (v.Case x arms other) looping ≡ None
+    pub case_none : (x : RExpr) (arms : List RArm) (other : Option (List RStmt)) → s.selector m x ≡ None → statement m (v.Case x arms other) looping ≡ None
     case_none x arms other is = case_at None x arms other is
 
-    pub case_without : (kind : Kind) (x : RExpr) (arms : List RArm) → s.own_kind x ≡ Some kind
-        → statement m (v.Case x arms None) looping ≡ s.selected (value m x kind) (all_some (map (λ a. arm m a looping kind) arms)) (s.else_arms looping None)
-    case_without kind x arms is = case_at (Some kind) x arms None is ∙ ap (λ os. s.selected (value m x kind) os (s.else_arms looping None)) (arms_are kind arms)
+    pub case_without : (by : Ordinal) (x : RExpr) (arms : List RArm) → s.selector m x ≡ Some by
+        → statement m (v.Case x arms None) looping ≡ s.selected (value m x by.sort) (all_some (map (λ a. arm m a looping by.base) arms)) (s.else_arms looping None)
+    case_without by x arms is = case_at (Some by) x arms None is ∙ ap (λ os. s.selected (value m x by.sort) os (s.else_arms looping None)) (arms_are by.base arms)
 
-    pub case_with : (kind : Kind) (x : RExpr) (arms : List RArm) (ss : List RStmt) → s.own_kind x ≡ Some kind
-        → statement m (v.Case x arms (Some ss)) looping ≡ s.selected (value m x kind) (all_some (map (λ a. arm m a looping kind) arms)) (option_map Else (statements m looping ss))
-    case_with kind x arms ss is = case_at (Some kind) x arms (Some ss) is ∙ (λ j. s.selected (value m x kind) (arms_are kind arms j) (option_map Else (body_is ss j)))
+    pub case_with : (by : Ordinal) (x : RExpr) (arms : List RArm) (ss : List RStmt) → s.selector m x ≡ Some by
+        → statement m (v.Case x arms (Some ss)) looping ≡ s.selected (value m x by.sort) (all_some (map (λ a. arm m a looping by.base) arms)) (option_map Else (statements m looping ss))
+    case_with by x arms ss is = case_at (Some by) x arms (Some ss) is ∙ (λ j. s.selected (value m x by.sort) (arms_are by.base arms j) (option_map Else (body_is ss j)))
 
-    pub while_is : (x : RExpr) (ss : List RStmt) → statement m (v.While x ss) looping ≡ s.repeated_while (value m x k.Truth) (statements m looping ss)
-    while_is x ss = at (ap (statement m) (sym (v.rolls-While x ss)) ∙ rolled (o.While x ss)) ∙ ap (s.repeated_while (value m x k.Truth)) (body_is ss)
+    pub while_is : (x : RExpr) (ss : List RStmt) → statement m (v.While x ss) looping ≡ s.repeated_while (value m x boolean) (statements m looping ss)
+    while_is x ss = at (ap (statement m) (sym (v.rolls-While x ss)) ∙ rolled (o.While x ss)) ∙ ap (s.repeated_while (value m x boolean)) (body_is ss)
 
-    pub repeat_is : (ss : List RStmt) (x : RExpr) → statement m (v.Repeat ss x) looping ≡ s.repeated_until (statements m looping ss) (value m x k.Truth)
-    repeat_is ss x = at (ap (statement m) (sym (v.rolls-Repeat ss x)) ∙ rolled (o.Repeat ss x)) ∙ ap (λ b. s.repeated_until b (value m x k.Truth)) (body_is ss)
+    pub repeat_is : (ss : List RStmt) (x : RExpr) → statement m (v.Repeat ss x) looping ≡ s.repeated_until (statements m looping ss) (value m x boolean)
+    repeat_is ss x = at (ap (statement m) (sym (v.rolls-Repeat ss x)) ∙ rolled (o.Repeat ss x)) ∙ ap (λ b. s.repeated_until b (value m x boolean)) (body_is ss)
 
-    pub for_is : (r : RRoot) (a b : RExpr) (z : ℤ) (ss : List RStmt) → statement m (v.For r a b z ss) looping ≡ s.counted (root m r) (value m a k.Cardinal) (value m b k.Cardinal) z (statements m looping ss)
-    for_is r a b z ss = at (ap (statement m) (sym (v.rolls-For r a b z ss)) ∙ rolled (o.For r a b z ss)) ∙ ap (s.counted (root m r) (value m a k.Cardinal) (value m b k.Cardinal) z) (body_is ss)
+    pub for_is : (r : RRoot) (a b : RExpr) (z : ℤ) (ss : List RStmt) → statement m (v.For r a b z ss) looping ≡ s.for_by m (root m r) a b z (statements m looping ss)
+    for_is r a b z ss = at (ap (statement m) (sym (v.rolls-For r a b z ss)) ∙ rolled (o.For r a b z ss)) ∙ ap (s.for_by m (root m r) a b z) (body_is ss)
 
     pub with_is : (d : RDesignator) (ss : List RStmt) → statement m (v.With d ss) looping ≡ None
     with_is d ss = at (ap (statement m) (sym (v.rolls-With d ss)) ∙ rolled (o.With d ss))
@@ -89,19 +91,19 @@ module _ (m : RModule) where
     pub exit_is : statement m v.Exit looping ≡ s.exited looping
     exit_is = at (ap (statement m) (sym v.rolls-Exit) ∙ rolled o.Exit)
 
-    pub return_is : (x : Option RExpr) → statement m (v.Return x) looping ≡ None
+    pub return_is : (x : Option RExpr) → statement m (v.Return x) looping ≡ s.returned x
     return_is None = at (ap (statement m) (sym (v.rolls-Return None)) ∙ rolled (o.Return None))
     return_is (Some x) = at (ap (statement m) (sym (v.rolls-Return (Some x))) ∙ rolled (o.Return (Some x)))
 
-    pub guard_is : (g : RGuard) → guard m g looping ≡ s.paired (value m g.condition k.Truth) (statements m looping g.body)
+    pub guard_is : (g : RGuard) → guard m g looping ≡ s.paired (value m g.condition boolean) (statements m looping g.body)
     unfolding statement arm guard
     guard_is g = ap (λ (f : GuardMeaning). f looping) (fold-roll-RGuard Meaning ArmMeaning GuardMeaning (statement_layer m) (arm_layer m) (guard_layer m) (record { condition = g.condition; body = g.body }))
-        ∙ ap (s.paired (value m g.condition k.Truth)) (body_is g.body)
+        ∙ ap (s.paired (value m g.condition boolean)) (body_is g.body)
 
-    pub arm_is : (kind : Kind) (a : RArm) → arm m a looping kind ≡ s.paired (s.labels kind a.labels) (statements m looping a.body)
+    pub arm_is : (k : RBase) (a : RArm) → arm m a looping k ≡ s.paired (s.labels k a.labels) (statements m looping a.body)
     unfolding statement arm guard
-    arm_is kind a = ap (λ (f : ArmMeaning). f looping kind) (fold-roll-RArm Meaning ArmMeaning GuardMeaning (statement_layer m) (arm_layer m) (guard_layer m) (record { labels = a.labels; body = a.body }))
-        ∙ ap (s.paired (s.labels kind a.labels)) (body_is a.body)
+    arm_is k a = ap (λ (f : ArmMeaning). f looping k) (fold-roll-RArm Meaning ArmMeaning GuardMeaning (statement_layer m) (arm_layer m) (guard_layer m) (record { labels = a.labels; body = a.body }))
+        ∙ ap (s.paired (s.labels k a.labels)) (body_is a.body)
 
   pub loop_is : (looping : Bool) (ss : List RStmt) → statement m (v.Loop ss) looping ≡ s.looped (statements m true ss)
   loop_is looping ss = at looping (ap (statement m) (sym (v.rolls-Loop ss)) ∙ rolled (o.Loop ss)) ∙ ap s.looped (body_is true ss)

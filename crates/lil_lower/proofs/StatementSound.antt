@@ -1,16 +1,15 @@
 -- Statements and modules that are lowered are sound.
-use Rattle.std.proofs.Common.{◌≡◌, ℕ, zero, suc, ◌<◌, ℤ, pos, negsuc, Bool, true, false, not, ◌&&◌, List, [], ◌∷◌, length, map, Option, None, Some, IfSome, refl, sym, ap, subst, ◌∙◌, arith, true≢false, if◌then◌else◌}
-use Rattle.std.specs.Prelude.{int_lt, nat_le, ◌≤ℤ◌}
+use Rattle.std.proofs.Common.{◌≡◌, ℕ, zero, suc, ℤ, pos, negsuc, Bool, true, false, not, ◌&&◌, List, [], ◌∷◌, length, map, Option, None, Some, IfSome, refl, sym, ap, subst, ◌∙◌, arith, true≢false, if◌then◌else◌}
+use Rattle.std.specs.Prelude.{int_lt, nat_le, ◌≤ℤ◌, slice_get}
 use Rattle.std.specs.Option.{option_map}
 use Rattle.std.specs.List.{list_all}
 use Rattle.std.proofs.lemmas.Int.{ints}
-use Rattle.std.proofs.lemmas.Bool.Decides.{nat_tests}
-use Rattle.lil_base.specs.Words.{Cardinal, Integer, between, in_type, is_zero}
+use Rattle.std.proofs.lemmas.Option.{none-some, same_Some}
+use Rattle.lil_base.specs.Words.{Integer, in_type, is_zero}
 use Rattle.lil_base.specs.Laws.{bounds}
+use Rattle.lil_types.specs.Types.{Table, boolean}
 use Rattle.lil_module.specs.declared.declared.RModule.{RModule}
 use Rattle.lil_module.specs.declared.declared.RVar.{RVar}
-use Rattle.lil_module.specs.declared.tree.RCallee.{RCallee}
-use Rattle.lil_module.specs.declared.tree.RArgument.{RArgument}
 use Rattle.lil_module.specs.declared.tree.RExpr.{RExpr}
 use Rattle.lil_module.specs.declared.tree.RLabel.{RLabel}
 use Rattle.lil_module.specs.declared.tree.RStmt.{RStmt}
@@ -20,21 +19,28 @@ use Rattle.lil_module.specs.declared.tree.RStmt.TheFolds.{map-RStmt, map-RArm, m
 use Rattle.lil_module.specs.declared.tree.RStmt.TheViews.{roll-RStmt}
 use Rattle.lil_module.specs.declared.tree.RArm.{RArm, roll-RArm}
 use Rattle.lil_module.specs.declared.tree.RGuard.{RGuard, roll-RGuard}
-use Rattle.lil_resolved.specs.Kinds as kinds
-use Rattle.lil_resolved.specs.Kinds.{OfWhole, OfTruth, OfCharacter}
-use Rattle.lil_resolved.specs.Scalars.{within, scalar_of, ordinal_of}
-use Rattle.lil_resolved.specs.Resolved.{Expression, Label, Statements, Empty, Then, Arms, Else, Resolved}
-use Rattle.lil_resolved.specs.Sound.{is_base, IsSoundWhole, IsSoundLabel, AreSoundLabels, IsStep, IsSoundBody, AreSoundArms, IsSound}
-use Rattle.lil_resolved.specs.Views.{joined, all_of}
-use Rattle.lil_lower.specs.declared.value_kind.Kind.{Kind}
-use Rattle.lil_lower.specs.declared.value_kind.Kind.TheVariants as k
-use Rattle.lil_lower.specs.Values as v
-use Rattle.lil_lower.specs.Values.{view, root, designator, argument}
+use Rattle.lil_resolved.specs.Bases.{own_base}
+use Rattle.lil_resolved.specs.Kinds.{Kind, OfTruth}
+use Rattle.lil_resolved.specs.Resolved.{Expression, Label, Statements, Empty, Then, Arms, Else, Resolved, kind_of}
+use Rattle.lil_resolved.specs.Sound.{is_base, takes_value, IsSoundWhole, IsSoundValue, IsSoundLabel, AreSoundLabels, IsStep, IsSoundBody, AreSoundArms, IsSound}
+use Rattle.lil_resolved.specs.Views.{base_view, kind_view, kind_declared, joined, all_of}
+use Rattle.lil_resolved.specs.declared.resolved.RBase.{RBase}
+use Rattle.lil_resolved.specs.declared.resolved.RBase.TheVariants as b
+use Rattle.lil_resolved.specs.declared.resolved.RKind.{RKind}
+use Rattle.lil_resolved.specs.declared.resolved.RDeclared.{RDeclared}
+use Rattle.lil_lower.specs.declared.variables.Variable.{Variable}
+use Rattle.lil_lower.specs.declared.selectors.Ordinal.{Ordinal}
+use Rattle.lil_lower.specs.Bases.{base_at, kind_at}
+use Rattle.lil_lower.specs.Operators.{has_number}
+use Rattle.lil_lower.specs.Values.{root, designator, expression}
+use Rattle.lil_lower.specs.Calls.{own_or}
 use Rattle.lil_lower.specs.Lowered as s
 use Rattle.lil_lower.specs.Lowered.{Meaning, GuardMeaning, ArmMeaning, all_some, value, statement_layer, statement, arm, guard}
+use Rattle.lil_lower.proofs.BaseLaws.{if_true, base_words, number_sound}
 use Rattle.lil_lower.proofs.StatementForms.{rolled, guard_is, arm_is}
-use Rattle.lil_lower.proofs.ValueSound.{if_true, both_left, both_right, root_below, designator_below, shallow_held}
-use Rattle.lil_lower.proofs.TreeSound.{value_sound, sole_sound}
+use Rattle.lil_lower.proofs.ValueSound.{Kept, IsKnown, both_left, both_right, variable_sound, kept_whole, kept_alone}
+use Rattle.lil_lower.proofs.TreeSound.{Fits, root_known, designator_known, value_sound}
+use Rattle.lil_lower.proofs.CallSound.{stored_sound, called_sound, procedure_sound}
 
 -- ---- lists of parts
 module _ {B : Type 0} (IsFine : B → Type 0) where
@@ -56,42 +62,23 @@ module _ {B : Type 0} (IsFine : B → Type 0) where
   some_fine (Some b ∷ bs) h = linked_fine b (all_some bs) h.0 (some_fine bs h.1)
 
 -- ---- labels and steps
-abbrev IsNumber : kinds.Kind → ℤ → Type 0
-IsNumber kind z = (within kind (scalar_of kind z) ≡ true) × (ordinal_of (scalar_of kind z) ≡ z)
-
-truth_number : (z : ℤ) → pos 0 ≤ℤ z → z ≤ℤ pos 1 → IsNumber OfTruth z
-truth_number (pos zero) h j = (refl, refl)
-truth_number (pos (suc zero)) h j = (refl, refl)
-truth_number (pos (suc (suc i))) h j = absurd (omega (arith, ints))
-truth_number (negsuc i) h j = absurd (omega (arith, ints))
-
-character_number : (z : ℤ) → pos 0 ≤ℤ z → z ≤ℤ pos 255 → IsNumber OfCharacter z
-character_number (pos i) h j = (grind (arith, nat_tests, ints), refl)
-character_number (negsuc i) h j = absurd (omega (arith, ints))
-
-number_sound : (kind : Kind) (z : ℤ) → between (s.least kind) z (s.greatest kind) ≡ true → IsNumber (view kind) z
-number_sound k.Cardinal z h = (h, refl)
-number_sound k.Integer z h = (h, refl)
-number_sound k.Truth z h = let b = bounds (pos 0) z (pos 1) h in truth_number z b.0 b.1
-number_sound k.Character z h = let b = bounds (pos 0) z (pos 255) h in character_number z b.0 b.1
-
 not_less : (a b : ℤ) → not (int_lt b a) ≡ true → a ≤ℤ b
 not_less a b h = grind (arith, ints)
 
-label_sound : (kind : Kind) (l : RLabel) → s.fits kind l ≡ true → IsSoundLabel (view kind) (s.label_of l)
-label_sound kind l h =
-    let order = both_left (not (int_lt l.high l.low)) (between (s.least kind) l.low (s.greatest kind) && between (s.least kind) l.high (s.greatest kind)) h in
-    let ends = both_right (not (int_lt l.high l.low)) (between (s.least kind) l.low (s.greatest kind) && between (s.least kind) l.high (s.greatest kind)) h in
-    let low = number_sound kind l.low (both_left (between (s.least kind) l.low (s.greatest kind)) (between (s.least kind) l.high (s.greatest kind)) ends) in
-    let high = number_sound kind l.high (both_right (between (s.least kind) l.low (s.greatest kind)) (between (s.least kind) l.high (s.greatest kind)) ends) in
-    record { order = not_less l.low l.high order; lower = low.0; upper = high.0; lower_number = low.1; upper_number = high.1 }
+label_sound : (k : RBase) (l : RLabel) → s.fits k l ≡ true → IsSoundLabel (base_view k) (s.label_of l)
+label_sound k l h =
+    let ends = both_right (not (int_lt l.high l.low)) (has_number k l.low && has_number k l.high) h in
+    let low = number_sound k l.low (both_left (has_number k l.low) (has_number k l.high) ends) in
+    let high = number_sound k l.high (both_right (has_number k l.low) (has_number k l.high) ends) in
+    let order = not_less l.low l.high (both_left (not (int_lt l.high l.low)) (has_number k l.low && has_number k l.high) h) in
+    record { order = order; lower = low.0; upper = high.0; lower_number = low.1; upper_number = high.1 }
 
-all_labels : (kind : Kind) (ls : List RLabel) → list_all (s.fits kind) ls ≡ true → AreSoundLabels (view kind) (map s.label_of ls)
-all_labels kind [] h = tt
-all_labels kind (l ∷ ls) h = (label_sound kind l (both_left (s.fits kind l) (list_all (s.fits kind) ls) h), all_labels kind ls (both_right (s.fits kind l) (list_all (s.fits kind) ls) h))
+all_labels : (k : RBase) (ls : List RLabel) → list_all (s.fits k) ls ≡ true → AreSoundLabels (base_view k) (map s.label_of ls)
+all_labels k [] h = tt
+all_labels k (l ∷ ls) h = (label_sound k l (both_left (s.fits k l) (list_all (s.fits k) ls) h), all_labels k ls (both_right (s.fits k l) (list_all (s.fits k) ls) h))
 
-labels_sound : (kind : Kind) (ls : List RLabel) → IfSome (s.labels kind ls) (AreSoundLabels (view kind))
-labels_sound kind ls = if_true (AreSoundLabels (view kind)) (list_all (s.fits kind) ls) (map s.label_of ls) (all_labels kind ls)
+labels_sound : (k : RBase) (ls : List RLabel) → IfSome (s.labels k ls) (AreSoundLabels (base_view k))
+labels_sound k ls = if_true (AreSoundLabels (base_view k)) (list_all (s.fits k) ls) (map s.label_of ls) (all_labels k ls)
 
 step_sound : (z : ℤ) → s.is_step z ≡ true → IsStep z
 step_sound z h =
@@ -99,63 +86,45 @@ step_sound z h =
     let b = bounds (negsuc 32767) z (pos 32767) (both_right (not (is_zero z)) (in_type Integer z) h) in
     record { some = λ e. true≢false (sym some ∙ ap (λ z. not (is_zero z)) e); lower = b.0; upper = b.1 }
 
-base : (kind : Kind) → is_base (view kind) ≡ true
-base k.Cardinal = refl
-base k.Integer = refl
-base k.Truth = refl
-base k.Character = refl
-
-module _ (n : ℕ) where
-  abbrev Whole : kinds.Kind → Option Expression → Type 0
-  Whole kind e = IfSome e (λ e. IsSoundWhole n e kind)
+module _ (ks : List Kind) where
+  abbrev Whole : Kind → Option Expression → Type 0
+  Whole kind e = IfSome e (λ e. IsSoundWhole ks e kind)
 
   abbrev Body : Bool → Option Statements → Type 0
-  Body looping b = IfSome b (IsSoundBody n looping)
+  Body looping b = IfSome b (IsSoundBody ks looping)
 
   abbrev IsSoundGuard : Bool → Expression × Statements → Type 0
-  IsSoundGuard looping g = IsSoundWhole n g.0 OfTruth × IsSoundBody n looping g.1
+  IsSoundGuard looping g = IsSoundWhole ks g.0 OfTruth × IsSoundBody ks looping g.1
 
-  abbrev IsSoundArm : Bool → Kind → List Label × Statements → Type 0
-  IsSoundArm looping kind a = AreSoundLabels (view kind) a.0 × IsSoundBody n looping a.1
+  abbrev IsSoundArm : Bool → RBase → List Label × Statements → Type 0
+  IsSoundArm looping k a = AreSoundLabels (base_view k) a.0 × IsSoundBody ks looping a.1
 
   -- ---- bodies
-  joined_sound : (looping : Bool) (a b : Statements) → IsSoundBody n looping a → IsSoundBody n looping b → IsSoundBody n looping (joined a b)
+  joined_sound : (looping : Bool) (a b : Statements) → IsSoundBody ks looping a → IsSoundBody ks looping b → IsSoundBody ks looping (joined a b)
   joined_sound looping Empty b h j = j
   joined_sound looping (Then s ss) b h j = (h.0, joined_sound looping ss b h.1 j)
 
-  all_sound : (looping : Bool) (bs : List Statements) → AllFine (IsSoundBody n looping) bs → IsSoundBody n looping (all_of bs)
+  all_sound : (looping : Bool) (bs : List Statements) → AllFine (IsSoundBody ks looping) bs → IsSoundBody ks looping (all_of bs)
   all_sound looping [] h = tt
   all_sound looping (b ∷ bs) h = joined_sound looping b (all_of bs) h.0 (all_sound looping bs h.1)
 
-  body_sound : (looping : Bool) (bs : List (Option Statements)) → AllIf (IsSoundBody n looping) bs → Body looping (option_map all_of (all_some bs))
-  body_sound looping bs h = by (all_some bs) (some_fine (IsSoundBody n looping) bs h)
+  body_sound : (looping : Bool) (bs : List (Option Statements)) → AllIf (IsSoundBody ks looping) bs → Body looping (option_map all_of (all_some bs))
+  body_sound looping bs h = by (all_some bs) (some_fine (IsSoundBody ks looping) bs h)
     where
-      by : (o : Option (List Statements)) → IfSome o (AllFine (IsSoundBody n looping)) → Body looping (option_map all_of o)
+      by : (o : Option (List Statements)) → IfSome o (AllFine (IsSoundBody ks looping)) → Body looping (option_map all_of o)
       by None j = tt
       by (Some bs) j = all_sound looping bs j
 
   -- ---- forms
-  assigned_sound : (looping : Bool) (d : Option ℕ) (e : Option Expression) → IfSome d (λ i. i < n) → Whole (OfWhole Cardinal) e → Body looping (s.assigned d e)
-  assigned_sound looping (Some i) (Some e) h j = ((h, refl, j), tt)
-  assigned_sound looping _ _ h j = tt
-
-  written_sound : (looping : Bool) (e : Option Expression) → Whole OfCharacter e → Body looping (s.written e)
-  written_sound looping (Some e) h = ((refl, e, refl, h), tt)
-  written_sound looping None h = tt
-
-  if_body : (looping : Bool) (b : Bool) (o : Option Statements) → Body looping o → Body looping (if b then o else None)
-  if_body looping true o h = h
-  if_body looping false o h = tt
-
   paired_guard : (looping : Bool) (e : Option Expression) (b : Option Statements) → Whole OfTruth e → Body looping b → IfSome (s.paired e b) (IsSoundGuard looping)
   paired_guard looping (Some e) (Some b) h j = (h, j)
   paired_guard looping _ _ h j = tt
 
-  paired_arm : (looping : Bool) (kind : Kind) (ls : Option (List Label)) (b : Option Statements) → IfSome ls (AreSoundLabels (view kind)) → Body looping b → IfSome (s.paired ls b) (IsSoundArm looping kind)
-  paired_arm looping kind (Some ls) (Some b) h j = (h, j)
-  paired_arm looping kind _ _ h j = tt
+  paired_arm : (looping : Bool) (k : RBase) (ls : Option (List Label)) (b : Option Statements) → IfSome ls (AreSoundLabels (base_view k)) → Body looping b → IfSome (s.paired ls b) (IsSoundArm looping k)
+  paired_arm looping k (Some ls) (Some b) h j = (h, j)
+  paired_arm looping k _ _ h j = tt
 
-  nested_sound : (looping : Bool) (gs : List (Expression × Statements)) (other : Statements) → AllFine (IsSoundGuard looping) gs → IsSoundBody n looping other → IsSoundBody n looping (s.nested gs other)
+  nested_sound : (looping : Bool) (gs : List (Expression × Statements)) (other : Statements) → AllFine (IsSoundGuard looping) gs → IsSoundBody ks looping other → IsSoundBody ks looping (s.nested gs other)
   nested_sound looping [] other h j = j
   nested_sound looping (g ∷ gs) other h j = ((h.0.0, h.0.1, nested_sound looping gs other h.1 j), tt)
 
@@ -163,16 +132,16 @@ module _ (n : ℕ) where
   conditional_sound looping (Some gs) (Some other) h j = nested_sound looping gs other h j
   conditional_sound looping _ _ h j = tt
 
-  chosen_sound : (looping : Bool) (kind : Kind) (as' : List (List Label × Statements)) (other : Arms) → AllFine (IsSoundArm looping kind) as' → AreSoundArms n looping (view kind) other
-      → AreSoundArms n looping (view kind) (s.chosen as' other)
-  chosen_sound looping kind [] other h j = j
-  chosen_sound looping kind (a ∷ rest) other h j = (h.0.0, h.0.1, chosen_sound looping kind rest other h.1 j)
+  chosen_sound : (looping : Bool) (k : RBase) (as' : List (List Label × Statements)) (other : Arms) → AllFine (IsSoundArm looping k) as' → AreSoundArms ks looping (base_view k) other
+      → AreSoundArms ks looping (base_view k) (s.chosen as' other)
+  chosen_sound looping k [] other h j = j
+  chosen_sound looping k (a ∷ rest) other h j = (h.0.0, h.0.1, chosen_sound looping k rest other h.1 j)
 
-  selected_sound : (looping : Bool) (kind : Kind) (e : Option Expression) (as' : Option (List (List Label × Statements))) (other : Option Arms) → Whole (view kind) e → IfSome as' (AllFine (IsSoundArm looping kind))
-      → IfSome other (AreSoundArms n looping (view kind)) → Body looping (s.selected e as' other)
-  selected_sound looping kind (Some e) (Some as') (Some other) h j i =
-      (subst (λ k. (is_base k ≡ true) × IsSoundWhole n e k × AreSoundArms n looping k (s.chosen as' other)) (sym h.kind) (base kind, h, chosen_sound looping kind as' other j i), tt)
-  selected_sound looping kind _ _ _ h j i = tt
+  selected_sound : (looping : Bool) (k : RBase) (e : Option Expression) (as' : Option (List (List Label × Statements))) (other : Option Arms) → is_base (base_view k) ≡ true → Whole (base_view k) e → IfSome as' (AllFine (IsSoundArm looping k))
+      → IfSome other (AreSoundArms ks looping (base_view k)) → Body looping (s.selected e as' other)
+  selected_sound looping k (Some e) (Some as') (Some other) w h j i =
+      (subst (λ k. (is_base k ≡ true) × IsSoundWhole ks e k × AreSoundArms ks looping k (s.chosen as' other)) (sym h.kind) (w, h, chosen_sound looping k as' other j i), tt)
+  selected_sound looping k _ _ _ w h j i = tt
 
   while_sound : (looping : Bool) (e : Option Expression) (b : Option Statements) → Whole OfTruth e → Body looping b → Body looping (s.repeated_while e b)
   while_sound looping (Some e) (Some b) h j = ((h, j), tt)
@@ -190,28 +159,37 @@ module _ (n : ℕ) where
   exit_sound true = (refl, tt)
   exit_sound false = tt
 
-  for_sound : (looping : Bool) (d : Option ℕ) (a b : Option Expression) (z : ℤ) (body : Option Statements) → IfSome d (λ i. i < n) → Whole (OfWhole Cardinal) a → Whole (OfWhole Cardinal) b → Body looping body
-      → Body looping (s.counted d a b z body)
-  for_sound looping (Some i) (Some a) (Some b) z (Some body) h j p q = if_true (IsSoundBody n looping) (s.is_step z) _ (λ e. ((h, refl, j, p, step_sound z e, q), tt))
-  for_sound looping _ _ _ z _ h j p q = tt
+  -- a start that may be stored in a variable
+  abbrev IsStart : Variable → Expression → Type 0
+  IsStart d e = IsSoundValue ks e (kind_view d.place.kind)
 
-  else_sound : (looping : Bool) (kind : kinds.Kind) (b : Option Statements) → Body looping b → IfSome (option_map Else b) (AreSoundArms n looping kind)
-  else_sound looping kind None h = tt
-  else_sound looping kind (Some b) h = h
+  started_sound : (t : Table) (d : Variable) (sort : ℕ) (o : Option Expression) → IfSome o (Kept t ks sort) → IfSome (s.started d o) (IsStart d)
+  started_sound t d sort None h = tt
+  started_sound t d sort (Some e) h = if_true (IsStart d) (takes_value (kind_view d.place.kind) (kind_of e)) e (λ takes. record { takes = takes; whole = kept_alone t ks sort e h })
+
+  for_sound : (looping : Bool) (t : Table) (d : Variable) (a b : Option Expression) (z : ℤ) (body : Option Statements) → IsKnown t ks d → IfSome a (IsStart d) → IfSome b (Kept t ks d.sort) → Body looping body
+      → Body looping (s.repeated_for d a b z body)
+  for_sound looping t d (Some a) (Some b) z (Some body) h j p q = if_true (IsSoundBody ks looping) (s.is_step z) _ (λ e.
+      let end = λ (x : Expression) (i : Kept t ks d.sort x). subst (IsSoundWhole ks x) (sym (own_base d.place.kind)) (kept_whole t ks d.sort x d.place.kind.base i h.type) in
+      ((variable_sound t ks d h, j, end b p, step_sound z e, q), tt))
+  for_sound looping t d None _ z _ h j p q = tt
+  for_sound looping t d (Some a) None z _ h j p q = tt
+  for_sound looping t d (Some a) (Some b) z None h j p q = tt
+
+  else_sound : (looping : Bool) (k : Kind) (b : Option Statements) → Body looping b → IfSome (option_map Else b) (AreSoundArms ks looping k)
+  else_sound looping k None h = tt
+  else_sound looping k (Some b) h = h
 
 -- ---- the induction
-module _ (m : RModule) where
-  abbrev n : ℕ
-  n = length m.variables
-
+module _ (m : RModule) (ks : List Kind) (kinds : Fits m ks) where
   abbrev StatementSound : RStmt → Type 0
-  StatementSound x = (looping : Bool) → Body n looping (statement m x looping)
+  StatementSound x = (looping : Bool) → Body ks looping (statement m x looping)
 
   abbrev ArmSound : RArm → Type 0
-  ArmSound a = (looping : Bool) (kind : Kind) → IfSome (arm m a looping kind) (IsSoundArm n looping kind)
+  ArmSound a = (looping : Bool) (k : RBase) → IfSome (arm m a looping k) (IsSoundArm ks looping k)
 
   abbrev GuardSound : RGuard → Type 0
-  GuardSound g = (looping : Bool) → IfSome (guard m g looping) (IsSoundGuard n looping)
+  GuardSound g = (looping : Bool) → IfSome (guard m g looping) (IsSoundGuard ks looping)
 
   -- trees, each with its proof
   abbrev Stmt : Type 0
@@ -223,60 +201,86 @@ module _ (m : RModule) where
   abbrev Guard : Type 0
   Guard = (g : RGuard) × GuardSound g
 
-  each : (looping : Bool) (xs : List Stmt) → AllIf (IsSoundBody n looping) (map (λ (f : Meaning). f looping) (map (statement m) (map (λ e. e.0) xs)))
+  whole : (x : RExpr) (sort : ℕ) (k : RBase) → base_at m.types sort ≡ Some k → Whole ks (base_view k) (value m x sort)
+  whole x sort k is = by (value m x sort) (value_sound m ks kinds x sort)
+    where
+      by : (o : Option Expression) → IfSome o (Kept m.types ks sort) → Whole ks (base_view k) o
+      by None h = tt
+      by (Some e) h = kept_whole m.types ks sort e k h is
+
+  condition : (x : RExpr) → Whole ks OfTruth (value m x boolean)
+  condition x = whole x boolean b.Truth refl
+
+  each : (looping : Bool) (xs : List Stmt) → AllIf (IsSoundBody ks looping) (map (λ (f : Meaning). f looping) (map (statement m) (map (λ e. e.0) xs)))
   each looping [] = tt
   each looping (x ∷ xs) = (x.1 looping, each looping xs)
 
-  bodies : (looping : Bool) (xs : List Stmt) → Body n looping (s.body looping (map (statement m) (map (λ e. e.0) xs)))
-  bodies looping xs = body_sound n looping (map (λ (f : Meaning). f looping) (map (statement m) (map (λ e. e.0) xs))) (each looping xs)
+  bodies : (looping : Bool) (xs : List Stmt) → Body ks looping (s.body looping (map (statement m) (map (λ e. e.0) xs)))
+  bodies looping xs = body_sound ks looping (map (λ (f : Meaning). f looping) (map (statement m) (map (λ e. e.0) xs))) (each looping xs)
 
-  each_guard : (looping : Bool) (gs : List Guard) → AllIf (IsSoundGuard n looping) (map (λ (f : GuardMeaning). f looping) (map (guard m) (map (λ e. e.0) gs)))
+  each_guard : (looping : Bool) (gs : List Guard) → AllIf (IsSoundGuard ks looping) (map (λ (f : GuardMeaning). f looping) (map (guard m) (map (λ e. e.0) gs)))
   each_guard looping [] = tt
   each_guard looping (g ∷ gs) = (g.1 looping, each_guard looping gs)
 
-  guards : (looping : Bool) (gs : List Guard) → IfSome (all_some (map (λ (f : GuardMeaning). f looping) (map (guard m) (map (λ e. e.0) gs)))) (AllFine (IsSoundGuard n looping))
-  guards looping gs = some_fine (IsSoundGuard n looping) (map (λ (f : GuardMeaning). f looping) (map (guard m) (map (λ e. e.0) gs))) (each_guard looping gs)
+  guards : (looping : Bool) (gs : List Guard) → IfSome (all_some (map (λ (f : GuardMeaning). f looping) (map (guard m) (map (λ e. e.0) gs)))) (AllFine (IsSoundGuard ks looping))
+  guards looping gs = some_fine (IsSoundGuard ks looping) (map (λ (f : GuardMeaning). f looping) (map (guard m) (map (λ e. e.0) gs))) (each_guard looping gs)
 
-  each_arm : (looping : Bool) (kind : Kind) (as' : List Arm) → AllIf (IsSoundArm n looping kind) (map (λ (f : ArmMeaning). f looping kind) (map (arm m) (map (λ e. e.0) as')))
-  each_arm looping kind [] = tt
-  each_arm looping kind (a ∷ as') = (a.1 looping kind, each_arm looping kind as')
+  each_arm : (looping : Bool) (k : RBase) (as' : List Arm) → AllIf (IsSoundArm ks looping k) (map (λ (f : ArmMeaning). f looping k) (map (arm m) (map (λ e. e.0) as')))
+  each_arm looping k [] = tt
+  each_arm looping k (a ∷ as') = (a.1 looping k, each_arm looping k as')
 
-  arms : (looping : Bool) (kind : Kind) (as' : List Arm) → IfSome (all_some (map (λ (f : ArmMeaning). f looping kind) (map (arm m) (map (λ e. e.0) as')))) (AllFine (IsSoundArm n looping kind))
-  arms looping kind as' = some_fine (IsSoundArm n looping kind) (map (λ (f : ArmMeaning). f looping kind) (map (arm m) (map (λ e. e.0) as'))) (each_arm looping kind as')
+  arms : (looping : Bool) (k : RBase) (as' : List Arm) → IfSome (all_some (map (λ (f : ArmMeaning). f looping k) (map (arm m) (map (λ e. e.0) as')))) (AllFine (IsSoundArm ks looping k))
+  arms looping k as' = some_fine (IsSoundArm ks looping k) (map (λ (f : ArmMeaning). f looping k) (map (arm m) (map (λ e. e.0) as'))) (each_arm looping k as')
 
-  case_sound : (looping : Bool) (o : Option Kind) (x : RExpr) (as' : List Arm) (other : Option (List Meaning)) → ((kind : Kind) → IfSome (s.else_arms looping other) (AreSoundArms n looping (view kind)))
-      → Body n looping (s.case_by m o x looping (map (arm m) (map (λ e. e.0) as')) other)
-  case_sound looping None x as' other h = tt
-  case_sound looping (Some kind) x as' other h =
-      selected_sound n looping kind (value m x kind) (all_some (map (λ (f : ArmMeaning). f looping kind) (map (arm m) (map (λ e. e.0) as')))) (s.else_arms looping other) (value_sound m x kind) (arms looping kind as') (h kind)
+  case_sound : (looping : Bool) (o : Option Ordinal) (x : RExpr) (as' : List Arm) (other : Option (List Meaning)) → IfSome o (λ i. base_at m.types i.sort ≡ Some i.base)
+      → ((k : RBase) → IfSome (s.else_arms looping other) (AreSoundArms ks looping (base_view k))) → Body ks looping (s.case_by m o x looping (map (arm m) (map (λ e. e.0) as')) other)
+  case_sound looping None x as' other i h = tt
+  case_sound looping (Some by) x as' other i h =
+      selected_sound ks looping by.base (value m x by.sort) (all_some (map (λ (f : ArmMeaning). f looping by.base) (map (arm m) (map (λ e. e.0) as')))) (s.else_arms looping other)
+      (base_words m.types by.sort by.base i) (whole x by.sort by.base i) (arms looping by.base as') (h by.base)
 
-  called_sound : (looping : Bool) (c : RCallee) (xs : List RArgument) → Body n looping (s.called m c xs)
-  called_sound looping c xs =
-      let of = v.shallow (v.sole (map (argument m) xs) k.Character) in
-      if_body n looping (s.writes c) (s.written of) (written_sound n looping of (shallow_held n OfCharacter (v.sole (map (argument m) xs) k.Character) (sole_sound m xs k.Character)))
+  sort_known : (o : Option ℕ) → IfSome (s.selector_by m.types o) (λ i. base_at m.types i.sort ≡ Some i.base)
+  sort_known None = tt
+  sort_known (Some sort) = by (base_at m.types sort) refl
+    where
+      by : (o : Option RBase) → base_at m.types sort ≡ o → IfSome (option_map (s.selector_with sort) o) (λ i. base_at m.types i.sort ≡ Some i.base)
+      by None h = tt
+      by (Some k) h = h
+
+  assigned_sound : (looping : Bool) (o : Option Variable) (x : RExpr) → IfSome o (IsKnown m.types ks) → Body ks looping (s.assigned m o x)
+  assigned_sound looping None x h = tt
+  assigned_sound looping (Some d) x h =
+      let sort = own_or (expression m x).own d.sort in
+      stored_sound m ks kinds looping d sort (value m x sort) h (value_sound m ks kinds x sort)
+
+  counted_sound : (looping : Bool) (o : Option Variable) (a b : RExpr) (z : ℤ) (body : Option Statements) → IfSome o (IsKnown m.types ks) → Body ks looping body → Body ks looping (s.for_by m o a b z body)
+  counted_sound looping None a b z body h j = tt
+  counted_sound looping (Some d) a b z body h j =
+      let sort = own_or (expression m a).own d.sort in
+      for_sound ks looping m.types d (s.started d (value m a sort)) (value m b d.sort) z body h (started_sound ks m.types d sort (value m a sort) (value_sound m ks kinds a sort)) (value_sound m ks kinds b d.sort) j
 
   abbrev bare : RStmt-F Stmt Arm Guard → RStmt-F RStmt RArm RGuard
   bare = map-RStmt Stmt Arm Guard RStmt RArm RGuard (λ e. e.0) (λ e. e.0) (λ e. e.0)
 
-  layer_sound : (y : RStmt-F Stmt Arm Guard) (looping : Bool) → Body n looping (statement_layer m (map-RStmt RStmt RArm RGuard Meaning ArmMeaning GuardMeaning (statement m) (arm m) (guard m) (bare y)) looping)
-  layer_sound (o.Assign d x) looping = assigned_sound n looping (designator m d) (value m x k.Cardinal) (designator_below m d) (value_sound m x k.Cardinal)
-  layer_sound (o.Call c xs) looping = called_sound looping c xs
-  layer_sound (o.Procedure p xs) looping = tt
-  layer_sound (o.If gs None) looping = conditional_sound n looping (all_some (map (λ (f : GuardMeaning). f looping) (map (guard m) (map (λ e. e.0) gs)))) (Some Empty) (guards looping gs) tt
-  layer_sound (o.If gs (Some xs)) looping = conditional_sound n looping (all_some (map (λ (f : GuardMeaning). f looping) (map (guard m) (map (λ e. e.0) gs)))) (s.body looping (map (statement m) (map (λ e. e.0) xs))) (guards looping gs) (bodies looping xs)
-  layer_sound (o.Case x as' None) looping = case_sound looping (s.own_kind x) x as' None (λ kind. tt)
-  layer_sound (o.Case x as' (Some xs)) looping = case_sound looping (s.own_kind x) x as' (Some (map (statement m) (map (λ e. e.0) xs))) (λ kind. else_sound n looping (view kind) (s.body looping (map (statement m) (map (λ e. e.0) xs))) (bodies looping xs))
-  layer_sound (o.While x xs) looping = while_sound n looping (value m x k.Truth) (s.body looping (map (statement m) (map (λ e. e.0) xs))) (value_sound m x k.Truth) (bodies looping xs)
-  layer_sound (o.Repeat xs x) looping = repeat_sound n looping (s.body looping (map (statement m) (map (λ e. e.0) xs))) (value m x k.Truth) (bodies looping xs) (value_sound m x k.Truth)
-  layer_sound (o.Loop xs) looping = loop_sound n looping (s.body true (map (statement m) (map (λ e. e.0) xs))) (bodies true xs)
-  layer_sound (o.For r a b z xs) looping = for_sound n looping (root m r) (value m a k.Cardinal) (value m b k.Cardinal) z (s.body looping (map (statement m) (map (λ e. e.0) xs))) (root_below m r) (value_sound m a k.Cardinal) (value_sound m b k.Cardinal) (bodies looping xs)
+  layer_sound : (y : RStmt-F Stmt Arm Guard) (looping : Bool) → Body ks looping (statement_layer m (map-RStmt RStmt RArm RGuard Meaning ArmMeaning GuardMeaning (statement m) (arm m) (guard m) (bare y)) looping)
+  layer_sound (o.Assign d x) looping = assigned_sound looping (designator m d) x (designator_known m ks kinds d)
+  layer_sound (o.Call c xs) looping = called_sound m ks kinds looping c xs
+  layer_sound (o.Procedure p xs) looping = procedure_sound m ks kinds looping p xs
+  layer_sound (o.If gs None) looping = conditional_sound ks looping (all_some (map (λ (f : GuardMeaning). f looping) (map (guard m) (map (λ e. e.0) gs)))) (Some Empty) (guards looping gs) tt
+  layer_sound (o.If gs (Some xs)) looping = conditional_sound ks looping (all_some (map (λ (f : GuardMeaning). f looping) (map (guard m) (map (λ e. e.0) gs)))) (s.body looping (map (statement m) (map (λ e. e.0) xs))) (guards looping gs) (bodies looping xs)
+  layer_sound (o.Case x as' None) looping = case_sound looping (s.selector m x) x as' None (sort_known (s.selector_sort m x)) (λ k. tt)
+  layer_sound (o.Case x as' (Some xs)) looping = case_sound looping (s.selector m x) x as' (Some (map (statement m) (map (λ e. e.0) xs))) (sort_known (s.selector_sort m x)) (λ k. else_sound ks looping (base_view k) (s.body looping (map (statement m) (map (λ e. e.0) xs))) (bodies looping xs))
+  layer_sound (o.While x xs) looping = while_sound ks looping (value m x boolean) (s.body looping (map (statement m) (map (λ e. e.0) xs))) (condition x) (bodies looping xs)
+  layer_sound (o.Repeat xs x) looping = repeat_sound ks looping (s.body looping (map (statement m) (map (λ e. e.0) xs))) (value m x boolean) (bodies looping xs) (condition x)
+  layer_sound (o.Loop xs) looping = loop_sound ks looping (s.body true (map (statement m) (map (λ e. e.0) xs))) (bodies true xs)
+  layer_sound (o.For r a b z xs) looping = counted_sound looping (root m r) a b z (s.body looping (map (statement m) (map (λ e. e.0) xs))) (root_known m ks kinds r) (bodies looping xs)
   layer_sound (o.With d xs) looping = tt
-  layer_sound o.Exit looping = exit_sound n looping
-  layer_sound (o.Return None) looping = tt
+  layer_sound o.Exit looping = exit_sound ks looping
+  layer_sound (o.Return None) looping = (tt, tt)
   layer_sound (o.Return (Some x)) looping = tt
 
   statement_holds : (y : RStmt-F Stmt Arm Guard) → StatementSound (roll-RStmt (bare y))
-  statement_holds y = subst (λ (f : Meaning). (looping : Bool) → Body n looping (f looping)) (sym (rolled m (bare y))) (layer_sound y)
+  statement_holds y = subst (λ (f : Meaning). (looping : Bool) → Body ks looping (f looping)) (sym (rolled m (bare y))) (layer_sound y)
 
   abbrev bare_arm : RArm-F Stmt Arm Guard → RArm-F RStmt RArm RGuard
   bare_arm = map-RArm Stmt Arm Guard RStmt RArm RGuard (λ e. e.0) (λ e. e.0) (λ e. e.0)
@@ -284,20 +288,20 @@ module _ (m : RModule) where
   abbrev bare_guard : RGuard-F Stmt Arm Guard → RGuard-F RStmt RArm RGuard
   bare_guard = map-RGuard Stmt Arm Guard RStmt RArm RGuard (λ e. e.0) (λ e. e.0) (λ e. e.0)
 
-  statements_sound : (looping : Bool) (xs : List Stmt) → Body n looping (s.statements m looping (map (λ e. e.0) xs))
-  statements_sound looping xs = body_sound n looping (map (λ x. statement m x looping) (map (λ e. e.0) xs)) (by xs)
+  statements_sound : (looping : Bool) (xs : List Stmt) → Body ks looping (s.statements m looping (map (λ e. e.0) xs))
+  statements_sound looping xs = body_sound ks looping (map (λ x. statement m x looping) (map (λ e. e.0) xs)) (by xs)
     where
-      by : (xs : List Stmt) → AllIf (IsSoundBody n looping) (map (λ x. statement m x looping) (map (λ e. e.0) xs))
+      by : (xs : List Stmt) → AllIf (IsSoundBody ks looping) (map (λ x. statement m x looping) (map (λ e. e.0) xs))
       by [] = tt
       by (x ∷ xs) = (x.1 looping, by xs)
 
   arm_holds : (y : RArm-F Stmt Arm Guard) → ArmSound (roll-RArm (bare_arm y))
-  arm_holds y looping kind = subst (λ o. IfSome o (IsSoundArm n looping kind)) (sym (arm_is m looping kind (roll-RArm (bare_arm y))))
-      (paired_arm n looping kind (s.labels kind y.labels) (s.statements m looping (map (λ e. e.0) y.body)) (labels_sound kind y.labels) (statements_sound looping y.body))
+  arm_holds y looping k = subst (λ o. IfSome o (IsSoundArm ks looping k)) (sym (arm_is m looping k (roll-RArm (bare_arm y))))
+      (paired_arm ks looping k (s.labels k y.labels) (s.statements m looping (map (λ e. e.0) y.body)) (labels_sound k y.labels) (statements_sound looping y.body))
 
   guard_holds : (y : RGuard-F Stmt Arm Guard) → GuardSound (roll-RGuard (bare_guard y))
-  guard_holds y looping = subst (λ o. IfSome o (IsSoundGuard n looping)) (sym (guard_is m looping (roll-RGuard (bare_guard y))))
-      (paired_guard n looping (value m y.condition k.Truth) (s.statements m looping (map (λ e. e.0) y.body)) (value_sound m y.condition k.Truth) (statements_sound looping y.body))
+  guard_holds y looping = subst (λ o. IfSome o (IsSoundGuard ks looping)) (sym (guard_is m looping (roll-RGuard (bare_guard y))))
+      (paired_guard ks looping (value m y.condition boolean) (s.statements m looping (map (λ e. e.0) y.body)) (condition y.condition) (statements_sound looping y.body))
 
   statement_sound : (x : RStmt) → StatementSound x
   statement_sound = ind-RStmt StatementSound ArmSound GuardSound
@@ -305,25 +309,49 @@ module _ (m : RModule) where
       (λ x y is. subst (λ z. ArmSound (roll-RArm z)) is (arm_holds y))
       (λ x y is. subst (λ z. GuardSound (roll-RGuard z)) is (guard_holds y))
 
-  each_sound : (xs : List RStmt) → AllIf (IsSoundBody n false) (map (λ x. statement m x false) xs)
+  each_sound : (xs : List RStmt) → AllIf (IsSoundBody ks false) (map (λ x. statement m x false) xs)
   each_sound [] = tt
   each_sound (x ∷ xs) = (statement_sound x false, each_sound xs)
 
-  -- ---- modules
-  counts : (vs : List RVar) → length (map s.cardinal_kind vs) ≡ length vs
-  counts [] = refl
-  counts (v ∷ vs) = ap suc (counts vs)
+  pub body_is_sound : Body ks false (s.statements m false m.body)
+  body_is_sound = body_sound ks false (map (λ x. statement m x false) m.body) (each_sound m.body)
 
-  pub lowered_sound : (r : Resolved) → Some r ≡ s.lowered m → IsSound r
-  unfolding s.lowered
-  lowered_sound r is = by (nat_le (length m.variables) 32000) is
-    where
-      of : (o : Option Statements) → IfSome o (IsSoundBody n false) → Some r ≡ option_map (s.module_with m) o → IsSound r
-      of None h e = absurd (cc)
-      of (Some ss) h e =
-          let same : r ≡ s.module_with m ss = cc in
-          subst IsSound (sym same) (subst (λ i. IsSoundBody i false ss) (sym (counts m.variables)) h)
+-- ---- modules
+-- a variable that is there has its kind among those that are declared
+declared_at : (t : Table) (vs : List RVar) (ds : List RDeclared) (i : ℕ) (a : RVar) (k : RKind) → s.all_declared t vs ≡ Some ds → slice_get vs i ≡ Some a → kind_at t a.sort ≡ Some k
+    → slice_get (map kind_declared ds) i ≡ Some (kind_view k)
+declared_at t [] ds i a k h is of = absurd (none-some a is)
+declared_at t (c ∷ vs) ds i a k h is of = by (kind_at t c.sort) refl (s.all_declared t vs) refl h (λ rest i there is. declared_at t vs rest i a k there is of)
+  where
+    Others : Type 0
+    Others = (rest : List RDeclared) (i : ℕ) → s.all_declared t vs ≡ Some rest → slice_get vs i ≡ Some a → slice_get (map kind_declared rest) i ≡ Some (kind_view k)
 
-      by : (b : Bool) → Some r ≡ (if b then option_map (s.module_with m) (s.statements m false m.body) else None) → IsSound r
-      by true e = of (s.statements m false m.body) (body_sound n false (map (λ x. statement m x false) m.body) (each_sound m.body)) e
-      by false e = absurd (cc)
+    at : (j : RKind) (rest : List RDeclared) (i : ℕ) → kind_at t c.sort ≡ Some j → s.all_declared t vs ≡ Some rest → slice_get (c ∷ vs) i ≡ Some a → Others
+        → slice_get (kind_view j ∷ map kind_declared rest) i ≡ Some (kind_view k)
+    at j rest zero here there is others = ap (option_map kind_view) (sym here ∙ ap (λ d. kind_at t d.sort) (same_Some c a is) ∙ of)
+    at j rest (suc i) here there is others = others rest i there is
+
+    by : (o : Option RKind) → kind_at t c.sort ≡ o → (rest : Option (List RDeclared)) → s.all_declared t vs ≡ rest → all_some (option_map (s.declared_with c.name) o ∷ map (s.declared t) vs) ≡ Some ds
+        → Others
+        → slice_get (map kind_declared ds) i ≡ Some (kind_view k)
+    by None here rest there e others = absurd (none-some ds e)
+    by (Some j) here None there e others = absurd (none-some ds (ap (option_map (λ rest. s.declared_with c.name j ∷ rest)) (sym there) ∙ e))
+    by (Some j) here (Some rest) there e others =
+        subst (λ ds. slice_get (map kind_declared ds) i ≡ Some (kind_view k))
+        (same_Some (s.declared_with c.name j ∷ rest) ds (ap (option_map (λ rest. s.declared_with c.name j ∷ rest)) (sym there) ∙ e)) (at j rest i here there is others)
+
+pub lowered_sound : (m : RModule) (r : Resolved) → Some r ≡ s.lowered m → IsSound r
+unfolding s.lowered
+lowered_sound m r is = by (nat_le (length m.variables) 32000) is
+  where
+    of : (vs : Option (List RDeclared)) → s.all_declared m.types m.variables ≡ vs → (ss : Option Statements) → s.statements m false m.body ≡ ss → Some r ≡ s.laid_out m vs ss → IsSound r
+    of None there ss h e = absurd (cc)
+    of (Some vs) there None h e = absurd (cc)
+    of (Some vs) there (Some ss) h e =
+        let ks = map kind_declared vs in
+        let same : r ≡ s.module_with m vs ss = cc in
+        subst IsSound (sym same) (subst (λ o. Body ks false o) h (body_is_sound m ks (λ i a k. declared_at m.types m.variables vs i a k there)))
+
+    by : (b : Bool) → Some r ≡ (if b then s.laid_out m (s.all_declared m.types m.variables) (s.statements m false m.body) else None) → IsSound r
+    by true e = of (s.all_declared m.types m.variables) refl (s.statements m false m.body) refl e
+    by false e = absurd (cc)

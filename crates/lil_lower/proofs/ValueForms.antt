@@ -1,6 +1,8 @@
 -- What each form of expression is, from what its parts are.
-use Rattle.std.proofs.Common.{◌≡◌, ℕ, ◌≤◌, ℤ, List, [], ◌∷◌, length, map, get_or, arith, Option, None, refl, sym, ap, ◌∙◌}
-use Rattle.std.specs.Prelude.{slice_get}
+use Rattle.std.proofs.Common.{◌≡◌, ℕ, ◌≤◌, ℤ, List, [], ◌∷◌, length, map, get_or, arith, Option, None, Some, refl, sym, ap, ◌∙◌}
+use Rattle.std.specs.Prelude.{slice_get, ◌-◌}
+use Rattle.std.specs.Option.{option_map}
+use Rattle.lil_types.specs.Types.{base}
 use Rattle.lil_base.specs.declared.operator.OneOp.{OneOp}
 use Rattle.lil_module.specs.declared.declared.RModule.{RModule}
 use Rattle.lil_module.specs.declared.tree.Standard.{Standard}
@@ -17,98 +19,211 @@ use Rattle.lil_module.specs.declared.tree.RSelector.{RSelector}
 use Rattle.lil_module.specs.declared.tree.RDesignator.{RDesignator, out-RDesignator}
 use Rattle.lil_module.specs.declared.tree.RElement.{RElement}
 use Rattle.lil_module.specs.declared.tree.ROperation.{ROperation, out-ROperation}
+use Rattle.std.proofs.lemmas.List.{length-map}
+use Rattle.std.proofs.lemmas.Option.{slice_get-map}
+use Rattle.lil_lower.specs.Operators.{result_sort}
 use Rattle.lil_lower.specs.Values as s
-use Rattle.lil_lower.specs.Values.{Lowers, Operation, argument_layer, expression_layer, designator_layer, operation_layer, expression, argument, designator, operation}
+use Rattle.lil_lower.specs.declared.variables.Variable.{Variable}
+use Rattle.lil_lower.specs.Values.{Value, Lowers, Operation, argument_layer, expression_layer, designator_layer, operation_layer, expression, argument, designator, operation}
 
 abbrev callee : RCallee → Unit {0}
 callee c = tt
 
-bare_is : {S T : Type 0} (f : S → T) (ss : List S) (o : Option ℕ) → s.bare (map f ss) o ≡ s.bare ss o
+bare_is : {S T : Type 0} (f : S → T) (ss : List S) (o : Option Variable) → s.bare (map f ss) o ≡ s.bare ss o
 bare_is f [] o = refl
 bare_is f (s ∷ ss) o = refl
 
 module _ (m : RModule) where
   pub callees : RCallee → Unit {0}
-  callees = fold-RCallee Lowers (Unit {0}) Lowers (Unit {0}) (Option ℕ) (Unit {0}) Operation (argument_layer m) (λ c. tt) (expression_layer m) (λ s. tt) (designator_layer m) (λ e. tt) (operation_layer m)
+  callees = fold-RCallee Value (Unit {0}) Value (Unit {0}) (Option Variable) (Unit {0}) Operation (argument_layer m) (λ c. tt) (expression_layer m) (λ s. tt) (designator_layer m) (λ e. tt) (operation_layer m)
 
   pub selectors : RSelector → Unit {0}
-  selectors = fold-RSelector Lowers (Unit {0}) Lowers (Unit {0}) (Option ℕ) (Unit {0}) Operation (argument_layer m) (λ c. tt) (expression_layer m) (λ s. tt) (designator_layer m) (λ e. tt) (operation_layer m)
+  selectors = fold-RSelector Value (Unit {0}) Value (Unit {0}) (Option Variable) (Unit {0}) Operation (argument_layer m) (λ c. tt) (expression_layer m) (λ s. tt) (designator_layer m) (λ e. tt) (operation_layer m)
 
   pub elements : RElement → Unit {0}
-  elements = fold-RElement Lowers (Unit {0}) Lowers (Unit {0}) (Option ℕ) (Unit {0}) Operation (argument_layer m) (λ c. tt) (expression_layer m) (λ s. tt) (designator_layer m) (λ e. tt) (operation_layer m)
+  elements = fold-RElement Value (Unit {0}) Value (Unit {0}) (Option Variable) (Unit {0}) Operation (argument_layer m) (λ c. tt) (expression_layer m) (λ s. tt) (designator_layer m) (λ e. tt) (operation_layer m)
 
   pub rolled : (x : RExpr-F RArgument RCallee RExpr RSelector RDesignator RElement ROperation) → expression m (roll-RExpr x)
-      ≡ expression_layer m (map-RExpr RArgument RCallee RExpr RSelector RDesignator RElement ROperation Lowers (Unit {0}) Lowers (Unit {0}) (Option ℕ) (Unit {0}) Operation (argument m) callees (expression m) selectors (designator m) elements (operation m) x)
+      ≡ expression_layer m (map-RExpr RArgument RCallee RExpr RSelector RDesignator RElement ROperation Value (Unit {0}) Value (Unit {0}) (Option Variable) (Unit {0}) Operation (argument m) callees (expression m) selectors (designator m) elements (operation m) x)
   unfolding callees selectors elements expression argument designator operation
-  rolled = fold-roll-RExpr Lowers (Unit {0}) Lowers (Unit {0}) (Option ℕ) (Unit {0}) Operation (argument_layer m) (λ c. tt) (expression_layer m) (λ s. tt) (designator_layer m) (λ e. tt) (operation_layer m)
+  rolled = fold-roll-RExpr Value (Unit {0}) Value (Unit {0}) (Option Variable) (Unit {0}) Operation (argument_layer m) (λ c. tt) (expression_layer m) (λ s. tt) (designator_layer m) (λ e. tt) (operation_layer m)
 
   pub argument_rolled : (x : RArgument-F RArgument RCallee RExpr RSelector RDesignator RElement ROperation) → argument m (roll-RArgument x)
-      ≡ argument_layer m (map-RArgument RArgument RCallee RExpr RSelector RDesignator RElement ROperation Lowers (Unit {0}) Lowers (Unit {0}) (Option ℕ) (Unit {0}) Operation (argument m) callees (expression m) selectors (designator m) elements (operation m) x)
+      ≡ argument_layer m (map-RArgument RArgument RCallee RExpr RSelector RDesignator RElement ROperation Value (Unit {0}) Value (Unit {0}) (Option Variable) (Unit {0}) Operation (argument m) callees (expression m) selectors (designator m) elements (operation m) x)
   unfolding callees selectors elements expression argument designator operation
-  argument_rolled = fold-roll-RArgument Lowers (Unit {0}) Lowers (Unit {0}) (Option ℕ) (Unit {0}) Operation (argument_layer m) (λ c. tt) (expression_layer m) (λ s. tt) (designator_layer m) (λ e. tt) (operation_layer m)
+  argument_rolled = fold-roll-RArgument Value (Unit {0}) Value (Unit {0}) (Option Variable) (Unit {0}) Operation (argument_layer m) (λ c. tt) (expression_layer m) (λ s. tt) (designator_layer m) (λ e. tt) (operation_layer m)
 
   opened : (d : RDesignator) → designator m d ≡ s.bare (map selectors (out-RDesignator d).selectors) (s.root m (out-RDesignator d).root)
   unfolding callees selectors elements expression argument designator operation
-  opened d = fold_out-RDesignator Lowers (Unit {0}) Lowers (Unit {0}) (Option ℕ) (Unit {0}) Operation (argument_layer m) (λ c. tt) (expression_layer m) (λ s. tt) (designator_layer m) (λ e. tt) (operation_layer m) d
+  opened d = fold_out-RDesignator Value (Unit {0}) Value (Unit {0}) (Option Variable) (Unit {0}) Operation (argument_layer m) (λ c. tt) (expression_layer m) (λ s. tt) (designator_layer m) (λ e. tt) (operation_layer m) d
 
   pub designator_is : (d : RDesignator) → designator m d ≡ s.bare (out-RDesignator d).selectors (s.root m (out-RDesignator d).root)
   designator_is d = opened d ∙ bare_is selectors (out-RDesignator d).selectors (s.root m (out-RDesignator d).root)
 
-  pub operation_is : (x : ROperation) → operation m x ≡ record { operator = (out-ROperation x).operator; sort = (out-ROperation x).sort; operand = expression m (out-ROperation x).operand }
+  pub operation_is : (x : ROperation) → operation m x ≡ record { operator = (out-ROperation x).operator; sort = (out-ROperation x).sort; operand = (expression m (out-ROperation x).operand).lowers }
   unfolding callees selectors elements expression argument designator operation
-  operation_is x = fold_out-ROperation Lowers (Unit {0}) Lowers (Unit {0}) (Option ℕ) (Unit {0}) Operation (argument_layer m) (λ c. tt) (expression_layer m) (λ s. tt) (designator_layer m) (λ e. tt) (operation_layer m) x
+  operation_is x = fold_out-ROperation Value (Unit {0}) Value (Unit {0}) (Option Variable) (Unit {0}) Operation (argument_layer m) (λ c. tt) (expression_layer m) (λ s. tt) (designator_layer m) (λ e. tt) (operation_layer m) x
 
-  module _ (kind : _) where
-    at : {f g : Lowers} → f ≡ g → f kind ≡ g kind
-    at h = ap (λ (f : Lowers). f kind) h
+  -- what each form is, as a whole
+  whole_form : (z : ℤ) → expression m (v.Whole z) ≡ s.valued None (s.whole m.types z)
+  whole_form z = ap (expression m) (sym (v.rolls-Whole z)) ∙ rolled (o.Whole z)
 
-    pub whole_is : (z : ℤ) → expression m (v.Whole z) kind ≡ s.whole z kind
-    whole_is z = at (ap (expression m) (sym (v.rolls-Whole z)) ∙ rolled (o.Whole z))
+  scalar_form : (t w : ℕ) → expression m (v.Scalar t w) ≡ s.valued (Some (base m.types t)) (s.scalar m.types t w)
+  scalar_form t w = ap (expression m) (sym (v.rolls-Scalar t w)) ∙ rolled (o.Scalar t w)
 
-    pub scalar_is : (t w : ℕ) → expression m (v.Scalar t w) kind ≡ s.scalar t w kind
-    scalar_is t w = at (ap (expression m) (sym (v.rolls-Scalar t w)) ∙ rolled (o.Scalar t w))
+  chars_form : (t : List ℕ) → expression m (v.Chars t) ≡ s.valued None (s.text t)
+  chars_form t = ap (expression m) (sym (v.rolls-Chars t)) ∙ rolled (o.Chars t)
 
-    pub chars_is : (t : List ℕ) → expression m (v.Chars t) kind ≡ s.text t kind
-    chars_is t = at (ap (expression m) (sym (v.rolls-Chars t)) ∙ rolled (o.Chars t))
+  named_form : (n : ℕ) → expression m (v.Named n) ≡ s.valued None (s.named (slice_get m.texts n))
+  named_form n = ap (expression m) (sym (v.rolls-Named n)) ∙ rolled (o.Named n)
 
-    pub named_is : (n : ℕ) → expression m (v.Named n) kind ≡ s.named (slice_get m.texts n) kind
-    named_is n = at (ap (expression m) (sym (v.rolls-Named n)) ∙ rolled (o.Named n))
+  nil_form : expression m v.Nil ≡ s.nothing
+  nil_form = ap (expression m) (sym v.rolls-Nil) ∙ rolled o.Nil
 
-    pub nil_is : expression m v.Nil kind ≡ None
-    nil_is = at (ap (expression m) (sym v.rolls-Nil) ∙ rolled o.Nil)
+  set_form : (t : ℕ) (es : List RElement) → expression m (v.SetOf t es) ≡ s.nothing
+  set_form t es = ap (expression m) (sym (v.rolls-SetOf t es)) ∙ rolled (o.SetOf t es)
 
-    pub set_is : (t : ℕ) (es : List RElement) → expression m (v.SetOf t es) kind ≡ None
-    set_is t es = at (ap (expression m) (sym (v.rolls-SetOf t es)) ∙ rolled (o.SetOf t es))
+  value_form : (d : RDesignator) → expression m (v.Value d) ≡ s.valued (option_map s.sort_of (designator m d)) (s.taken (designator m d))
+  value_form d = ap (expression m) (sym (v.rolls-Value d)) ∙ rolled (o.RExpr::Value d)
 
-    pub value_is : (d : RDesignator) → expression m (v.Value d) kind ≡ s.variable (designator m d) kind
-    value_is d = at (ap (expression m) (sym (v.rolls-Value d)) ∙ rolled (o.RExpr::Value d))
+  procedure_form : (n : ℕ) → expression m (v.Procedure n) ≡ s.nothing
+  procedure_form n = ap (expression m) (sym (v.rolls-Procedure n)) ∙ rolled (o.RExpr::Procedure n)
 
-    pub procedure_is : (n : ℕ) → expression m (v.Procedure n) kind ≡ None
-    procedure_is n = at (ap (expression m) (sym (v.rolls-Procedure n)) ∙ rolled (o.RExpr::Procedure n))
+  call_form : (c : RCallee) (xs : List RArgument) → expression m (v.Call c xs) ≡ s.nothing
+  call_form c xs = ap (expression m) (sym (v.rolls-Call c xs)) ∙ rolled (o.Call c xs)
 
-    pub call_is : (c : RCallee) (xs : List RArgument) → expression m (v.Call c xs) kind ≡ None
-    call_is c xs = at (ap (expression m) (sym (v.rolls-Call c xs)) ∙ rolled (o.Call c xs))
+  function_form : (f : Standard) (t : ℕ) (xs : List RArgument) → expression m (v.Function f t xs) ≡ s.valued (Some (base m.types t)) (s.function m.types f t (map (argument m) xs))
+  function_form f t xs = ap (expression m) (sym (v.rolls-Function f t xs)) ∙ rolled (o.Function f t xs)
 
-    pub function_is : (f : Standard) (t : ℕ) (xs : List RArgument) → expression m (v.Function f t xs) kind ≡ s.function f (map (argument m) xs) kind
-    function_is f t xs = at (ap (expression m) (sym (v.rolls-Function f t xs)) ∙ rolled (o.Function f t xs))
+  one_form : (op : OneOp) (t : ℕ) (x : RExpr) → expression m (v.One op t x) ≡ s.valued (Some t) (λ w. s.one m.types op t w ((expression m x).lowers w))
+  one_form op t x = ap (expression m) (sym (v.rolls-One op t x)) ∙ rolled (o.One op t x)
 
-    pub one_is : (op : OneOp) (t : ℕ) (x : RExpr) → expression m (v.One op t x) kind ≡ s.one op t kind (expression m x kind)
-    one_is op t x = at (ap (expression m) (sym (v.rolls-One op t x)) ∙ rolled (o.One op t x))
+  chain_form : (x : RExpr) (xs : List ROperation) → expression m (v.Chain x xs) ≡ s.valued (s.last_sort (map (operation m) xs)) (s.chain m.types (expression m x).lowers (map (operation m) xs))
+  chain_form x xs = ap (expression m) (sym (v.rolls-Chain x xs)) ∙ rolled (o.Chain x xs)
 
-    pub chain_is : (x : RExpr) (xs : List ROperation) → expression m (v.Chain x xs) kind ≡ s.chain (expression m x) (map (operation m) xs) kind
-    chain_is x xs = at (ap (expression m) (sym (v.rolls-Chain x xs)) ∙ rolled (o.Chain x xs))
+  pub handed_form : (x : RExpr) → argument m (handed.Value x) ≡ expression m x
+  handed_form x = ap (argument m) (sym (handed.rolls-Value x)) ∙ argument_rolled (o.RArgument::Value x)
 
-    pub handed_is : (x : RExpr) → argument m (handed.Value x) kind ≡ expression m x kind
-    handed_is x = at (ap (argument m) (sym (handed.rolls-Value x)) ∙ argument_rolled (o.RArgument::Value x))
+  pub place_form : (d : RDesignator) → argument m (handed.Place d) ≡ s.nothing
+  place_form d = ap (argument m) (sym (handed.rolls-Place d)) ∙ argument_rolled (o.Place d)
 
-    pub place_is : (d : RDesignator) → argument m (handed.Place d) kind ≡ None
-    place_is d = at (ap (argument m) (sym (handed.rolls-Place d)) ∙ argument_rolled (o.Place d))
+  pub type_form : (t : ℕ) → argument m (handed.Type t) ≡ s.nothing
+  type_form t = ap (argument m) (sym (handed.rolls-Type t)) ∙ argument_rolled (o.Type t)
 
-    pub type_is : (t : ℕ) → argument m (handed.Type t) kind ≡ None
-    type_is t = at (ap (argument m) (sym (handed.rolls-Type t)) ∙ argument_rolled (o.Type t))
+  module _ (w : ℕ) where
+    at : {a b : Value} → a ≡ b → a.lowers w ≡ b.lowers w
+    at h = ap (λ (a : Value). a.lowers w) h
+
+    pub whole_is : (z : ℤ) → (expression m (v.Whole z)).lowers w ≡ s.whole m.types z w
+    whole_is z = at (whole_form z)
+
+    pub scalar_is : (t n : ℕ) → (expression m (v.Scalar t n)).lowers w ≡ s.scalar m.types t n w
+    scalar_is t n = at (scalar_form t n)
+
+    pub chars_is : (t : List ℕ) → (expression m (v.Chars t)).lowers w ≡ s.text t w
+    chars_is t = at (chars_form t)
+
+    pub named_is : (n : ℕ) → (expression m (v.Named n)).lowers w ≡ s.named (slice_get m.texts n) w
+    named_is n = at (named_form n)
+
+    pub nil_is : (expression m v.Nil).lowers w ≡ None
+    nil_is = at nil_form
+
+    pub set_is : (t : ℕ) (es : List RElement) → (expression m (v.SetOf t es)).lowers w ≡ None
+    set_is t es = at (set_form t es)
+
+    pub value_is : (d : RDesignator) → (expression m (v.Value d)).lowers w ≡ s.taken (designator m d) w
+    value_is d = at (value_form d)
+
+    pub procedure_is : (n : ℕ) → (expression m (v.Procedure n)).lowers w ≡ None
+    procedure_is n = at (procedure_form n)
+
+    pub call_is : (c : RCallee) (xs : List RArgument) → (expression m (v.Call c xs)).lowers w ≡ None
+    call_is c xs = at (call_form c xs)
+
+    pub function_is : (f : Standard) (t : ℕ) (xs : List RArgument) → (expression m (v.Function f t xs)).lowers w ≡ s.function m.types f t (map (argument m) xs) w
+    function_is f t xs = at (function_form f t xs)
+
+    pub one_is : (op : OneOp) (t : ℕ) (x : RExpr) → (expression m (v.One op t x)).lowers w ≡ s.one m.types op t w ((expression m x).lowers w)
+    one_is op t x = at (one_form op t x)
+
+    pub chain_is : (x : RExpr) (xs : List ROperation) → (expression m (v.Chain x xs)).lowers w ≡ s.chain m.types (expression m x).lowers (map (operation m) xs) w
+    chain_is x xs = at (chain_form x xs)
+
+    pub handed_is : (x : RExpr) → (argument m (handed.Value x)).lowers w ≡ (expression m x).lowers w
+    handed_is x = at (handed_form x)
+
+    pub place_is : (d : RDesignator) → (argument m (handed.Place d)).lowers w ≡ None
+    place_is d = at (place_form d)
+
+    pub type_is : (t : ℕ) → (argument m (handed.Type t)).lowers w ≡ None
+    type_is t = at (type_form t)
+
+  -- the own type of each form
+  own : {a b : Value} → a ≡ b → a.own ≡ b.own
+  own h = ap (λ (a : Value). a.own) h
+
+  pub whole_own : (z : ℤ) → (expression m (v.Whole z)).own ≡ None
+  whole_own z = own (whole_form z)
+
+  pub scalar_own : (t n : ℕ) → (expression m (v.Scalar t n)).own ≡ Some (base m.types t)
+  scalar_own t n = own (scalar_form t n)
+
+  pub chars_own : (t : List ℕ) → (expression m (v.Chars t)).own ≡ None
+  chars_own t = own (chars_form t)
+
+  pub named_own : (n : ℕ) → (expression m (v.Named n)).own ≡ None
+  named_own n = own (named_form n)
+
+  pub nil_own : (expression m v.Nil).own ≡ None
+  nil_own = own nil_form
+
+  pub set_own : (t : ℕ) (es : List RElement) → (expression m (v.SetOf t es)).own ≡ None
+  set_own t es = own (set_form t es)
+
+  pub value_own : (d : RDesignator) → (expression m (v.Value d)).own ≡ option_map s.sort_of (designator m d)
+  value_own d = own (value_form d)
+
+  pub procedure_own : (n : ℕ) → (expression m (v.Procedure n)).own ≡ None
+  procedure_own n = own (procedure_form n)
+
+  pub call_own : (c : RCallee) (xs : List RArgument) → (expression m (v.Call c xs)).own ≡ None
+  call_own c xs = own (call_form c xs)
+
+  pub function_own : (f : Standard) (t : ℕ) (xs : List RArgument) → (expression m (v.Function f t xs)).own ≡ Some (base m.types t)
+  function_own f t xs = own (function_form f t xs)
+
+  pub one_own : (op : OneOp) (t : ℕ) (x : RExpr) → (expression m (v.One op t x)).own ≡ Some t
+  one_own op t x = own (one_form op t x)
+
+  pub chain_own : (x : RExpr) (xs : List ROperation) → (expression m (v.Chain x xs)).own ≡ s.last_sort (map (operation m) xs)
+  chain_own x xs = own (chain_form x xs)
+
+  pub handed_own : (x : RExpr) → (argument m (handed.Value x)).own ≡ (expression m x).own
+  handed_own x = own (handed_form x)
+
+  pub place_own : (d : RDesignator) → (argument m (handed.Place d)).own ≡ None
+  place_own d = own (place_form d)
+
+  pub type_own : (t : ℕ) → (argument m (handed.Type t)).own ≡ None
+  type_own t = own (type_form t)
 
 pub ruleset forms = (whole_is, scalar_is, chars_is, named_is, nil_is, set_is, value_is, procedure_is, call_is, function_is, one_is, chain_is, handed_is, place_is, type_is)
 
-pub first_is : (m : RModule) (xs : List ROperation) (x : ROperation) → 1 ≤ length xs → x ≡ get_or xs 0 x → s.first_kind (map (operation m) xs) ≡ s.kind_of_sort (out-ROperation x).sort
+pub ruleset owns = (whole_own, scalar_own, chars_own, named_own, nil_own, set_own, value_own, procedure_own, call_own, function_own, one_own, chain_own, handed_own, place_own, type_own)
+
+pub first_is : (m : RModule) (xs : List ROperation) (x : ROperation) → 1 ≤ length xs → x ≡ get_or xs 0 x → s.first_sort (map (operation m) xs) ≡ Some (out-ROperation x).sort
 first_is m [] x h e = absurd (omega arith)
-first_is m (y ∷ ys) x h e = ap (λ o. s.kind_of_sort o.sort) (operation_is m y) ∙ ap (λ z. s.kind_of_sort (out-ROperation z).sort) (sym e)
+first_is m (y ∷ ys) x h e = ap (λ o. Some o.sort) (operation_is m y) ∙ ap (λ z. Some (out-ROperation z).sort) (sym e)
+
+-- the type of the last of all operations
+pub last_is : (m : RModule) (xs : List ROperation) (x : Option ROperation) → slice_get xs (length xs - 1) ≡ x
+    → s.last_sort (map (operation m) xs) ≡ option_map (λ x. result_sort (out-ROperation x).operator (out-ROperation x).sort) x
+last_is m xs x is =
+    ap (λ n. option_map s.result_of (slice_get (map (operation m) xs) (n - 1))) (length-map xs (operation m))
+    ∙ ap (option_map s.result_of) (slice_get-map (operation m) xs (length xs - 1) ∙ ap (option_map (operation m)) is)
+    ∙ by x
+  where
+    by : (x : Option ROperation) → option_map s.result_of (option_map (operation m) x) ≡ option_map (λ x. result_sort (out-ROperation x).operator (out-ROperation x).sort) x
+    by None = refl
+    by (Some x) = ap (λ y. Some (s.result_of y)) (operation_is m x)

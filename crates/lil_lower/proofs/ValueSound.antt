@@ -1,45 +1,55 @@
--- Expressions that are lowered are sound, and of the wanted kind.
-use Rattle.std.proofs.Common.{◌≡◌, ℕ, ◌<◌, ℤ, Bool, true, false, ◌&&◌, arith, List, [], ◌∷◌, length, Option, None, Some, IfSome, if◌then◌else◌, refl, sym, subst, ◌∙◌}
-use Rattle.std.specs.Prelude.{◌==◌, nat_le, slice_get, not}
+-- Expressions that are lowered are sound, and of the wanted type.
+use Rattle.std.proofs.Common.{◌≡◌, ℕ, ◌≤◌, ℤ, pos, Bool, true, false, ◌&&◌, arith, List, [], ◌∷◌, Option, None, Some, IfSome, refl, sym, ap, subst, ◌∙◌}
+use Rattle.std.specs.Prelude.{◌==◌, nat_le, slice_get}
+use Rattle.std.specs.Option.{option_map}
 use Rattle.std.specs.List.{fold}
-use Rattle.std.proofs.lemmas.Option.{slice_get_within}
 use Rattle.std.proofs.lemmas.Bool.Decides.{nat_tests}
 use Rattle.lil_base.specs.Words.{Cardinal, Integer}
 use Rattle.lil_base.specs.declared.operator.OneOp.{OneOp}
 use Rattle.lil_base.specs.declared.operator.TwoOp.{TwoOp}
 use Rattle.lil_base.specs.declared.operator.TwoOp.TheVariants.{Equal, Unequal, Less, AtMost, Greater, AtLeast, In, Plus, Minus, Or, Times, Slash, Div, Mod, And}
-use Rattle.lil_types.specs.Types.{cardinal, boolean, char}
-use Rattle.lil_module.specs.declared.declared.RModule.{RModule}
-use Rattle.lil_module.specs.declared.declared.RVar.{RVar}
+use Rattle.lil_types.specs.Types.{Table, char}
+use Rattle.lil_types.specs.Types as types
 use Rattle.lil_module.specs.declared.tree.Standard.{Standard}
-use Rattle.lil_module.specs.declared.tree.RRoot.{RRoot}
-use Rattle.lil_module.specs.declared.tree.RRoot.TheVariants.{Global, Local, Field}
-use Rattle.lil_module.specs.declared.tree.RDesignator.{RDesignator, out-RDesignator}
-use Rattle.lil_resolved.specs.Kinds as kinds
-use Rattle.lil_resolved.specs.Kinds.{OfWhole, OfTruth, OfCharacter}
-use Rattle.lil_resolved.specs.Scalars.{Scalar, within, Number, Truth, Character}
-use Rattle.lil_resolved.specs.Resolved.{Expression, Constant, Two, kind_of}
+use Rattle.lil_module.specs.declared.tree.Standard.TheVariants as standard
+use Rattle.lil_resolved.specs.Bases.{own_base}
+use Rattle.lil_resolved.specs.Kinds.{Kind, OfWhole, OfTruth, OfCharacter, OfEnumeration, OfRange, compared_as, is_base}
+use Rattle.lil_resolved.specs.Scalars.{scalar_of}
+use Rattle.lil_resolved.specs.Resolved.{Expression, Constant, Taken, Two, Abs, kind_of}
 use Rattle.lil_resolved.specs.Depth.{depth}
 use Rattle.lil_resolved.specs.Sound as sound
-use Rattle.lil_resolved.specs.Sound.{IsSoundExpression, IsSoundWhole}
-use Rattle.lil_resolved.specs.Views.{one_of, two_of}
-use Rattle.lil_lower.specs.declared.value_kind.Kind.{Kind}
-use Rattle.lil_lower.specs.declared.value_kind.Kind.TheVariants as k
-use Rattle.lil_lower.specs.Values as s
-use Rattle.lil_lower.specs.Values.{Lowers, Built, Operation, view, sort_of, takes_one, takes_two, result_kind, is_truth}
-use Rattle.lil_lower.proofs.ValueForms.{designator_is}
+use Rattle.lil_resolved.specs.Sound.{IsSoundVariable, IsSoundExpression, IsSoundWhole}
+use Rattle.lil_resolved.specs.Views.{base_view, kind_view, variable_of, function_of, one_of, two_of}
+use Rattle.lil_resolved.specs.declared.resolved.RBase.{RBase}
+use Rattle.lil_resolved.specs.declared.resolved.RBase.TheVariants as b
+use Rattle.lil_resolved.specs.declared.resolved.RKind.{RKind}
+use Rattle.lil_resolved.specs.declared.resolved.RFunction.TheVariants as f
+use Rattle.lil_lower.specs.declared.variables.Variable.{Variable}
+use Rattle.lil_lower.specs.Bases.{base_at, kind_at}
+use Rattle.lil_lower.specs.Operators.{takes_two, result_sort, is_truth, has_number}
+use Rattle.lil_lower.specs.Values as spec
+use Rattle.lil_lower.specs.Values.{Lowers, Value, Built, Operation}
+use Rattle.lil_lower.proofs.BaseLaws.{if_so, if_true, same_sort, base_words, kind_base, number_sound}
 
--- over so many variables, an expression is sound and of a kind
-pub record Held (n : ℕ) (kind : kinds.Kind) (e : Expression) : Type 0 where
-  pub of : kind_of e ≡ kind
-  pub good : IsSoundExpression n e
+-- over variables of these kinds, an expression is sound and of a type
+pub record Held (t : Table) (ks : List Kind) (s : ℕ) (e : Expression) : Type 0 where
+  pub base : RBase
+  pub known : base_at t s ≡ Some base
+  pub of : kind_of e ≡ base_view base
+  pub good : IsSoundExpression ks e
 
-abbrev pub Holds : ℕ → Lowers → Type 0
-Holds n f = (kind : Kind) → IfSome (f kind) (Held n (view kind))
+-- and there is room for it
+pub record Kept (t : Table) (ks : List Kind) (s : ℕ) (e : Expression) : Type 0 where
+  pub held : Held t ks s e
+  pub room : depth e ≤ 12
 
-pub if_true : {A : Type 0} (P : A → Type 0) (b : Bool) (x : A) → (b ≡ true → P x) → IfSome (if b then Some x else None) P
-if_true P true x h = h refl
-if_true P false x h = tt
+-- a variable has its kind among these, and its type is that of its base
+pub record IsKnown (t : Table) (ks : List Kind) (v : Variable) : Type 0 where
+  pub type : base_at t v.sort ≡ Some v.place.kind.base
+  pub kind : slice_get ks v.place.number ≡ Some (kind_view v.place.kind)
+
+abbrev pub Holds : Table → List Kind → Lowers → Type 0
+Holds t ks l = (s : ℕ) → IfSome (l s) (Held t ks s)
 
 pub both_left : (a b : Bool) → (a && b) ≡ true → a ≡ true
 both_left true b h = refl
@@ -49,147 +59,226 @@ pub both_right : (a b : Bool) → (a && b) ≡ true → b ≡ true
 both_right true b h = h
 both_right false b h = cc
 
-module _ (n : ℕ) where
-  -- ---- constants and variables
-  constant_held : (kind : kinds.Kind) (v : Scalar) → IfSome (s.constant kind v) (Held n kind)
-  constant_held kind v = if_true (Held n kind) (within kind v) (Constant kind v) (λ h. record { of = refl; good = h })
+-- ABS gives a number of the type that it takes
+abs_kind : (k : Kind) → sound.takes_function (Abs (compared_as k)) k ≡ true → OfWhole (compared_as k) ≡ k
+abs_kind (OfWhole Cardinal) h = refl
+abs_kind (OfWhole Integer) h = refl
+abs_kind OfTruth h = cc
+abs_kind OfCharacter h = cc
+abs_kind (OfEnumeration n) h = cc
+abs_kind (OfRange k low high) h = cc
 
-  pub whole_held : (z : ℤ) → Holds n (s.whole z)
-  whole_held z k.Cardinal = constant_held (OfWhole Cardinal) (Number z)
-  whole_held z k.Integer = constant_held (OfWhole Integer) (Number z)
-  whole_held z k.Truth = tt
-  whole_held z k.Character = tt
+of_truth : (k : RBase) → is_truth k ≡ true → base_view k ≡ OfTruth
+of_truth b.Truth h = refl
+of_truth b.Cardinal h = cc
+of_truth b.Integer h = cc
+of_truth b.Character h = cc
+of_truth (b.Enumeration n) h = cc
 
-  if_held : (b : Bool) (kind : kinds.Kind) (o : Option Expression) → IfSome o (Held n kind) → IfSome (if b then o else None) (Held n kind)
-  if_held true kind o h = h
-  if_held false kind o h = tt
+module _ (t : Table) (ks : List Kind) where
+  -- ---- constants
+  constant_held : (k : RBase) (s : ℕ) → base_at t s ≡ Some k → (z : ℤ) → IfSome (spec.constant k z) (Held t ks s)
+  constant_held k s is z = if_true (Held t ks s) (has_number k z) (Constant (base_view k) (scalar_of (base_view k) z))
+      (λ h. record { base = k; known = is; of = refl; good = (number_sound k z h).0 })
 
-  pub scalar_held : (t w : ℕ) → Holds n (s.scalar t w)
-  scalar_held t w k.Truth = if_held (t == boolean) OfTruth (s.constant OfTruth (Truth (not (w == 0)))) (constant_held OfTruth (Truth (not (w == 0))))
-  scalar_held t w k.Character = if_held (t == char) OfCharacter (s.constant OfCharacter (Character w)) (constant_held OfCharacter (Character w))
-  scalar_held t w k.Cardinal = tt
-  scalar_held t w k.Integer = tt
+  pub whole_held : (z : ℤ) → Holds t ks (spec.whole t z)
+  whole_held z s = by (base_at t s) refl
+    where
+      by : (o : Option RBase) → base_at t s ≡ o → IfSome (spec.whole_by z o) (Held t ks s)
+      by None h = tt
+      by (Some b.Cardinal) h = constant_held b.Cardinal s h z
+      by (Some b.Integer) h = constant_held b.Integer s h z
+      by (Some b.Truth) h = tt
+      by (Some b.Character) h = tt
+      by (Some (b.Enumeration n)) h = tt
 
-  pub text_held : (t : List ℕ) → Holds n (s.text t)
-  text_held (c ∷ []) k.Character = constant_held OfCharacter (Character c)
-  text_held _ _ = tt
+  pub scalar_held : (sort w : ℕ) → Holds t ks (spec.scalar t sort w)
+  scalar_held sort w s = if_so (Held t ks s) (types.base t sort == s) (spec.scalar_by w (base_at t s)) (λ e. by (base_at t s) refl)
+    where
+      by : (o : Option RBase) → base_at t s ≡ o → IfSome (spec.scalar_by w o) (Held t ks s)
+      by None h = tt
+      by (Some b.Cardinal) h = tt
+      by (Some b.Integer) h = tt
+      by (Some b.Truth) h = constant_held b.Truth s h (pos w)
+      by (Some b.Character) h = constant_held b.Character s h (pos w)
+      by (Some (b.Enumeration n)) h = constant_held (b.Enumeration n) s h (pos w)
 
-  pub named_held : (o : Option (List ℕ)) → Holds n (s.named o)
-  named_held (Some t) kind = text_held t kind
-  named_held None kind = tt
+  pub text_held : (c : List ℕ) → Holds t ks (spec.text c)
+  text_held (c ∷ []) s = if_so (Held t ks s) (s == char) (spec.constant b.Character (pos c))
+      (λ e. subst (λ i. IfSome (spec.constant b.Character (pos c)) (Held t ks i)) (sym (same_sort s char e)) (constant_held b.Character char refl (pos c)))
+  text_held [] s = tt
+  text_held (c ∷ d ∷ cs) s = tt
 
-  pub variable_held : (o : Option ℕ) → IfSome o (λ i. i < n) → Holds n (s.variable o)
-  variable_held (Some i) h k.Cardinal = record { of = refl; good = (h, refl) }
-  variable_held _ h _ = tt
+  pub named_held : (o : Option (List ℕ)) → Holds t ks (spec.named o)
+  named_held (Some c) s = text_held c s
+  named_held None s = tt
 
-  -- ---- CHR and operators
-  chr_held : (o : Option Expression) → IfSome o (Held n (OfWhole Cardinal)) → Holds n (s.chr o)
-  chr_held (Some a) h k.Character = record { of = refl; good = (h.of, h.good) }
-  chr_held _ h _ = tt
+  -- ---- variables
+  pub variable_sound : (v : Variable) → IsKnown t ks v → IsSoundVariable ks v.place.number (kind_view v.place.kind)
+  variable_sound v h = record { known = h.kind; base = ap is_base (own_base v.place.kind) ∙ base_words t v.sort v.place.kind.base h.type }
 
-  pub function_held : (f : Standard) (xs : List Lowers) → Holds n (s.sole xs) → Holds n (s.function f xs)
-  function_held f xs h kind = if_held (s.is_chr f) (view kind) (s.chr (s.sole xs k.Cardinal) kind) (chr_held (s.sole xs k.Cardinal) (h k.Cardinal) kind)
+  pub taken_held : (o : Option Variable) → IfSome o (IsKnown t ks) → Holds t ks (spec.taken o)
+  taken_held None h s = tt
+  taken_held (Some v) h s = if_true (Held t ks s) (v.sort == s) (Taken (variable_of v.place))
+      (λ e. subst (λ i. Held t ks i (Taken (variable_of v.place))) (same_sort v.sort s e)
+      (record { base = v.place.kind.base; known = h.type; of = own_base v.place.kind; good = variable_sound v h }))
 
-  pub one_held : (op : OneOp) (t : ℕ) (kind : Kind) (o : Option Expression) → IfSome o (Held n (view kind)) → IfSome (s.one op t kind o) (Held n (view kind))
-  one_held op t kind None h = tt
-  one_held op t kind (Some a) h = if_true (Held n (view kind)) (t == sort_of kind && takes_one op kind) (one_of op a)
-      (λ e. record { of = h.of; good = (subst (λ k. sound.takes_one op k ≡ true) (sym h.of) (both_right (t == sort_of kind) (takes_one op kind) e), refl, h.good) })
+  -- ---- standard functions
+  applied_held : (g : Standard) (sort o : ℕ) (e : Option Expression) → IfSome e (Held t ks o) → IfSome (spec.applied (spec.form_of t g sort) e) (Held t ks (spec.value_sort t g sort o))
+  applied_held standard.Abs sort o None h = tt
+  applied_held standard.Abs sort o (Some a) h = if_true _ (sound.takes_function (Abs (compared_as (kind_of a))) (kind_of a)) _
+      (λ e. record { base = h.base; known = h.known; of = abs_kind (kind_of a) e ∙ h.of; good = (e, h.good) })
+  applied_held standard.Cap sort o None h = tt
+  applied_held standard.Cap sort o (Some a) h = if_true _ (sound.takes_function (function_of f.Cap (kind_of a)) (kind_of a)) _
+      (λ e. record { base = b.Character; known = refl; of = refl; good = (e, h.good) })
+  applied_held standard.Chr sort o None h = tt
+  applied_held standard.Chr sort o (Some a) h = if_true _ (sound.takes_function (function_of f.Chr (kind_of a)) (kind_of a)) _
+      (λ e. record { base = b.Character; known = refl; of = refl; good = (e, h.good) })
+  applied_held standard.Odd sort o None h = tt
+  applied_held standard.Odd sort o (Some a) h = if_true _ (sound.takes_function (function_of f.Odd (kind_of a)) (kind_of a)) _
+      (λ e. record { base = b.Truth; known = refl; of = refl; good = (e, h.good) })
+  applied_held standard.Ord sort o None h = tt
+  applied_held standard.Ord sort o (Some a) h = if_true _ (sound.takes_function (function_of f.Ord (kind_of a)) (kind_of a)) _
+      (λ e. record { base = b.Cardinal; known = refl; of = refl; good = (e, h.good) })
+  applied_held standard.Val sort o e h = by (kind_at t sort) refl e h
+    where
+      by : (k : Option RKind) → kind_at t sort ≡ k → (e : Option Expression) → IfSome e (Held t ks o) → IfSome (spec.applied (option_map f.Val k) e) (Held t ks (types.base t sort))
+      by None is e h = tt
+      by (Some j) is None h = tt
+      by (Some j) is (Some a) h = if_true _ (sound.takes_function (function_of (f.Val j) (kind_of a)) (kind_of a)) _
+          (λ e. record { base = j.base; known = kind_base t sort j is; of = own_base j; good = (e, h.good) })
+  applied_held standard.High sort o e h = tt
+  applied_held standard.Max sort o e h = tt
+  applied_held standard.Min sort o e h = tt
+  applied_held standard.Dec sort o e h = tt
+  applied_held standard.Excl sort o e h = tt
+  applied_held standard.Halt sort o e h = tt
+  applied_held standard.Inc sort o e h = tt
+  applied_held standard.Incl sort o e h = tt
+  applied_held standard.New sort o e h = tt
+  applied_held standard.Dispose sort o e h = tt
 
-  plain : (op : TwoOp) (kind : kinds.Kind) (a b : Expression) → sound.takes_two op kind ≡ true → Held n kind a → Held n kind b → IsSoundExpression n (Two op (kind_of a) a b)
-  plain op kind a b takes h j = (subst (λ k. sound.takes_two op k ≡ true) (sym h.of) takes, refl, j.of ∙ sym h.of, h.good, j.good)
+  over_held : (g : Standard) (sort w : ℕ) (own : Option ℕ) (a : Lowers) → Holds t ks a → IfSome (spec.function_over t g sort w own a) (Held t ks w)
+  over_held g sort w None a h = tt
+  over_held g sort w (Some o) a h = if_so (Held t ks w) (spec.value_sort t g sort o == w) (spec.applied (spec.form_of t g sort) (a o))
+      (λ e. subst (λ i. IfSome (spec.applied (spec.form_of t g sort) (a o)) (Held t ks i)) (same_sort (spec.value_sort t g sort o) w e) (applied_held g sort o (a o) (h o)))
 
-  of_truth : (kind : Kind) → is_truth kind ≡ true → view kind ≡ OfTruth
-  of_truth k.Truth h = refl
-  of_truth k.Cardinal h = cc
-  of_truth k.Integer h = cc
-  of_truth k.Character h = cc
+  abbrev pub AllValues : List Value → Type 0
+  AllValues [] = Unit {0}
+  AllValues (a ∷ xs) = Holds t ks a.lowers × AllValues xs
 
-  two_held : (op : TwoOp) (kind : Kind) (a b : Expression) → takes_two op kind ≡ true → Held n (view kind) a → Held n (view kind) b → Held n (view (result_kind op kind)) (two_of op a b)
-  two_held Equal kind a b t h j = record { of = refl; good = plain Equal (view kind) a b t h j }
-  two_held Unequal kind a b t h j = record { of = refl; good = plain Unequal (view kind) a b t h j }
-  two_held Less kind a b t h j = record { of = refl; good = plain Less (view kind) a b t h j }
-  two_held AtMost kind a b t h j = record { of = refl; good = plain AtMost (view kind) a b t h j }
-  two_held Greater kind a b t h j = record { of = refl; good = plain Greater (view kind) a b t h j }
-  two_held AtLeast kind a b t h j = record { of = refl; good = plain AtLeast (view kind) a b t h j }
-  two_held In kind a b t h j = absurd (cc)
-  two_held Plus kind a b t h j = record { of = h.of; good = plain Plus (view kind) a b t h j }
-  two_held Minus kind a b t h j = record { of = h.of; good = plain Minus (view kind) a b t h j }
-  two_held Or kind a b t h j = let e = of_truth kind t in record { of = sym e; good = (h.of ∙ e, j.of ∙ e, h.good, j.good) }
-  two_held Times kind a b t h j = record { of = h.of; good = plain Times (view kind) a b t h j }
-  two_held Slash kind a b t h j = absurd (cc)
-  two_held Div kind a b t h j = record { of = h.of; good = plain Div (view kind) a b t h j }
-  two_held Mod kind a b t h j = record { of = h.of; good = plain Mod (view kind) a b t h j }
-  two_held And kind a b t h j = let e = of_truth kind t in record { of = sym e; good = (h.of ∙ e, j.of ∙ e, h.good, j.good) }
+  sole_held : (xs : List Value) → AllValues xs → IfSome (spec.sole xs) (λ a. Holds t ks a.lowers)
+  sole_held [] h = tt
+  sole_held (a ∷ []) h = h.0
+  sole_held (a ∷ c ∷ xs) h = tt
+
+  second_held : (xs : List Value) → AllValues xs → IfSome (spec.second xs) (λ a. Holds t ks a.lowers)
+  second_held [] h = tt
+  second_held (a ∷ []) h = tt
+  second_held (a ∷ c ∷ []) h = h.1.0
+  second_held (a ∷ c ∷ d ∷ xs) h = tt
+
+  operand_held : (g : Standard) (xs : List Value) → AllValues xs → IfSome (spec.operand_of g xs) (λ a. Holds t ks a.lowers)
+  operand_held standard.Val xs h = second_held xs h
+  operand_held _ xs h = sole_held xs h
+
+  pub function_held : (g : Standard) (sort : ℕ) (xs : List Value) → AllValues xs → Holds t ks (spec.function t g sort xs)
+  function_held g sort xs h w = by (spec.operand_of g xs) (operand_held g xs h)
+    where
+      by : (o : Option Value) → IfSome o (λ a. Holds t ks a.lowers) → IfSome (spec.function_by t g sort w o) (Held t ks w)
+      by None h = tt
+      by (Some a) h = over_held g sort w a.own a.lowers h
+
+  -- ---- operators
+  pub one_held : (op : OneOp) (sort w : ℕ) (o : Option Expression) → IfSome o (Held t ks w) → IfSome (spec.one t op sort w o) (Held t ks w)
+  one_held op sort w None h = tt
+  one_held op sort w (Some a) h = if_true (Held t ks w) (sort == w && spec.takes_one_at op (base_at t w)) (one_of op a)
+      (λ e. record {
+        base = h.base;
+        known = h.known;
+        of = h.of;
+        good = (ap (sound.takes_one op) h.of ∙ sym (ap (spec.takes_one_at op) h.known) ∙ both_right (sort == w) (spec.takes_one_at op (base_at t w)) e, refl, h.good);
+      })
+
+  -- operands of one type
+  abbrev Pair : Kind → Expression → Expression → Type 0
+  Pair k a c = (kind_of a ≡ k) × (kind_of c ≡ k) × IsSoundExpression ks a × IsSoundExpression ks c
+
+  plain : (op : TwoOp) (k : Kind) (a c : Expression) → sound.takes_two op k ≡ true → Pair k a c → IsSoundExpression ks (Two op (kind_of a) a c)
+  plain op k a c takes h = (subst (λ k. sound.takes_two op k ≡ true) (sym h.0) takes, refl, h.1 ∙ sym h.0, h.2, h.3)
+
+  relation_held : (op : TwoOp) (k : Kind) (a c : Expression) → sound.takes_two op k ≡ true → Pair k a c → kind_of (Two op (kind_of a) a c) ≡ OfTruth → Held t ks types.boolean (Two op (kind_of a) a c)
+  relation_held op k a c takes h is = record { base = b.Truth; known = refl; of = is; good = plain op k a c takes h }
+
+  two_held : (op : TwoOp) (k : RBase) (sort : ℕ) (a c : Expression) → base_at t sort ≡ Some k → takes_two op k ≡ true → Pair (base_view k) a c → Held t ks (result_sort op sort) (two_of op a c)
+  two_held Equal k sort a c is takes h = relation_held Equal (base_view k) a c takes h refl
+  two_held Unequal k sort a c is takes h = relation_held Unequal (base_view k) a c takes h refl
+  two_held Less k sort a c is takes h = relation_held Less (base_view k) a c takes h refl
+  two_held AtMost k sort a c is takes h = relation_held AtMost (base_view k) a c takes h refl
+  two_held Greater k sort a c is takes h = relation_held Greater (base_view k) a c takes h refl
+  two_held AtLeast k sort a c is takes h = relation_held AtLeast (base_view k) a c takes h refl
+  two_held In k sort a c is takes h = absurd (cc)
+  two_held Plus k sort a c is takes h = record { base = k; known = is; of = h.0; good = plain Plus (base_view k) a c takes h }
+  two_held Minus k sort a c is takes h = record { base = k; known = is; of = h.0; good = plain Minus (base_view k) a c takes h }
+  two_held Or k sort a c is takes h = let e = of_truth k takes in record { base = k; known = is; of = sym e; good = (h.0 ∙ e, h.1 ∙ e, h.2, h.3) }
+  two_held Times k sort a c is takes h = record { base = k; known = is; of = h.0; good = plain Times (base_view k) a c takes h }
+  two_held Slash k sort a c is takes h = absurd (cc)
+  two_held Div k sort a c is takes h = record { base = k; known = is; of = h.0; good = plain Div (base_view k) a c takes h }
+  two_held Mod k sort a c is takes h = record { base = k; known = is; of = h.0; good = plain Mod (base_view k) a c takes h }
+  two_held And k sort a c is takes h = let e = of_truth k takes in record { base = k; known = is; of = sym e; good = (h.0 ∙ e, h.1 ∙ e, h.2, h.3) }
+
+  -- what is held has the base of its type
+  pub held_base : (sort : ℕ) (e : Expression) (k : RBase) → Held t ks sort e → base_at t sort ≡ Some k → kind_of e ≡ base_view k
+  held_base sort e k h is = h.of ∙ ap base_view (same (sym h.known ∙ is))
+    where
+      same : Some h.base ≡ Some k → h.base ≡ k
+      same e = cc
 
   -- ---- chains
   abbrev HeldSo : Built → Type 0
-  HeldSo b = Held n (view b.kind) b.form
+  HeldSo x = Held t ks x.sort x.form
 
   abbrev pub AllHold : List Operation → Type 0
   AllHold [] = Unit {0}
-  AllHold (o ∷ os) = Holds n o.operand × AllHold os
+  AllHold (o ∷ os) = Holds t ks o.operand × AllHold os
 
-  right_held : (op : TwoOp) (b : Built) (o : Option Expression) → takes_two op b.kind ≡ true → HeldSo b → IfSome o (Held n (view b.kind)) → IfSome (s.with_right op b o) HeldSo
-  right_held op b None t h j = tt
-  right_held op b (Some a) t h j = two_held op b.kind b.form a t h j
+  right_held : (op : TwoOp) (x : Built) (o : Option Expression)
+      → spec.takes_two_at op (base_at t x.sort) ≡ true → HeldSo x → IfSome o (Held t ks x.sort) → IfSome (spec.with_right op x o) HeldSo
+  right_held op x None takes h j = tt
+  right_held op x (Some a) takes h j =
+      two_held op h.base x.sort x.form a h.known (sym (ap (spec.takes_two_at op) h.known) ∙ takes) (h.of, held_base x.sort a h.base j h.known, h.good, j.good)
 
-  if_so : (b : Bool) (o : Option Built) → (b ≡ true → IfSome o HeldSo) → IfSome (if b then o else None) HeldSo
-  if_so true o h = h refl
-  if_so false o h = tt
-
-  operate_held : (o : Option Built) (x : Operation) → IfSome o HeldSo → Holds n x.operand → IfSome (s.operate o x) HeldSo
+  operate_held : (o : Option Built) (x : Operation) → IfSome o HeldSo → Holds t ks x.operand → IfSome (spec.operate t o x) HeldSo
   operate_held None x h j = tt
-  operate_held (Some b) x h j = if_so (x.sort == sort_of b.kind && takes_two x.operator b.kind) (s.with_right x.operator b (x.operand b.kind))
-      (λ e. right_held x.operator b (x.operand b.kind) (both_right (x.sort == sort_of b.kind) (takes_two x.operator b.kind) e) h (j b.kind))
+  operate_held (Some y) x h j = if_so HeldSo (x.sort == y.sort && spec.takes_two_at x.operator (base_at t y.sort)) (spec.with_right x.operator y (x.operand y.sort))
+      (λ e. right_held x.operator y (x.operand y.sort) (both_right (x.sort == y.sort) (spec.takes_two_at x.operator (base_at t y.sort)) e) h (j y.sort))
 
-  all_held : (o : Option Built) (xs : List Operation) → IfSome o HeldSo → AllHold xs → IfSome (fold s.operate o xs) HeldSo
+  all_held : (o : Option Built) (xs : List Operation) → IfSome o HeldSo → AllHold xs → IfSome (fold (spec.operate t) o xs) HeldSo
   all_held o [] h j = h
-  all_held o (x ∷ xs) h j = all_held (s.operate o x) xs (operate_held o x h j.0) j.1
+  all_held o (x ∷ xs) h j = all_held (spec.operate t o x) xs (operate_held o x h j.0) j.1
 
-  begin_held : (o : Option Kind) (a : Lowers) → Holds n a → IfSome (s.begin o a) HeldSo
+  begin_held : (o : Option ℕ) (a : Lowers) → Holds t ks a → IfSome (spec.begin o a) HeldSo
   begin_held None a h = tt
-  begin_held (Some kind) a h = by (a kind) (h kind)
+  begin_held (Some sort) a h = by (a sort) (h sort)
     where
-      by : (e : Option Expression) → IfSome e (Held n (view kind)) → IfSome (s.begun kind e) HeldSo
+      by : (e : Option Expression) → IfSome e (Held t ks sort) → IfSome (spec.begun sort e) HeldSo
       by None j = tt
       by (Some e) j = j
 
-  same_kind : (a b : Kind) → (sort_of a == sort_of b) ≡ true → view a ≡ view b
-  same_kind k.Cardinal k.Cardinal h = refl
-  same_kind k.Integer k.Integer h = refl
-  same_kind k.Truth k.Truth h = refl
-  same_kind k.Character k.Character h = refl
-  same_kind k.Cardinal _ h = cc
-  same_kind k.Integer _ h = cc
-  same_kind k.Truth _ h = cc
-  same_kind k.Character _ h = cc
+  wanted_held : (w : ℕ) (o : Option Built) → IfSome o HeldSo → IfSome (spec.wanted w o) (Held t ks w)
+  wanted_held w None h = tt
+  wanted_held w (Some x) h = if_true (Held t ks w) (x.sort == w) x.form (λ e. subst (λ i. Held t ks i x.form) (same_sort x.sort w e) h)
 
-  wanted_held : (kind : Kind) (o : Option Built) → IfSome o HeldSo → IfSome (s.wanted kind o) (Held n (view kind))
-  wanted_held kind None h = tt
-  wanted_held kind (Some b) h = if_true (Held n (view kind)) (sort_of b.kind == sort_of kind) b.form (λ e. subst (λ k. Held n k b.form) (same_kind b.kind kind e) h)
-
-  pub chain_held : (a : Lowers) (os : List Operation) → Holds n a → AllHold os → Holds n (s.chain a os)
-  chain_held a os h j kind = wanted_held kind (fold s.operate (s.begin (s.first_kind os) a) os) (all_held (s.begin (s.first_kind os) a) os (begin_held (s.first_kind os) a h) j)
+  pub chain_held : (a : Lowers) (os : List Operation) → Holds t ks a → AllHold os → Holds t ks (spec.chain t a os)
+  chain_held a os h j w = wanted_held w (fold (spec.operate t) (spec.begin (spec.first_sort os) a) os) (all_held (spec.begin (spec.first_sort os) a) os (begin_held (spec.first_sort os) a h) j)
 
   -- ---- whole expressions
-  pub shallow_held : (kind : kinds.Kind) (o : Option Expression) → IfSome o (Held n kind) → IfSome (s.shallow o) (λ e. IsSoundWhole n e kind)
-  shallow_held kind None h = tt
-  shallow_held kind (Some e) h = if_true (λ e. IsSoundWhole n e kind) (nat_le (depth e) 12) e (λ j. record { kind = h.of; shallow = grind (arith, nat_tests); sound = h.good })
+  pub shallow_kept : (sort : ℕ) (o : Option Expression) → IfSome o (Held t ks sort) → IfSome (spec.shallow o) (Kept t ks sort)
+  shallow_kept sort None h = tt
+  shallow_kept sort (Some e) h = if_true (Kept t ks sort) (nat_le (depth e) 12) e (λ j. record { held = h; room = grind (arith, nat_tests) })
 
--- ---- variables of the module
-module _ (m : RModule) where
-  cardinal_below : (i : ℕ) (o : Option RVar) → slice_get m.variables i ≡ o → IfSome (s.cardinal_by i o) (λ i. i < length m.variables)
-  cardinal_below i None h = tt
-  cardinal_below i (Some v) h = if_true (λ i. i < length m.variables) (v.sort == cardinal) i (λ e. slice_get_within m.variables i v h)
+  pub kept_whole : (sort : ℕ) (e : Expression) (k : RBase) → Kept t ks sort e → base_at t sort ≡ Some k → IsSoundWhole ks e (base_view k)
+  kept_whole sort e k h is = record { kind = held_base sort e k h.held is; shallow = h.room; sound = h.held.good }
 
-  pub root_below : (d : RRoot) → IfSome (s.root m d) (λ i. i < length m.variables)
-  root_below (Global i) = cardinal_below i (slice_get m.variables i) refl
-  root_below (Local l i) = tt
-  root_below (Field b i) = tt
-
-  bare_below : {S : Type 0} (ss : List S) (o : Option ℕ) → IfSome o (λ i. i < length m.variables) → IfSome (s.bare ss o) (λ i. i < length m.variables)
-  bare_below [] o h = h
-  bare_below (s ∷ ss) o h = tt
-
-  pub designator_below : (d : RDesignator) → IfSome (s.designator m d) (λ i. i < length m.variables)
-  designator_below d = subst (λ o. IfSome o (λ i. i < length m.variables)) (sym (designator_is m d)) (bare_below (out-RDesignator d).selectors (s.root m (out-RDesignator d).root) (root_below (out-RDesignator d).root))
+  pub kept_alone : (sort : ℕ) (e : Expression) → Kept t ks sort e → IsSoundWhole ks e (kind_of e)
+  kept_alone sort e h = record { kind = refl; shallow = h.room; sound = h.held.good }

@@ -5,4 +5,4 @@ use Rattle.lil_lower.specs.declared.values.Built.{Built as Held}
 use Rattle.lil_lower.specs.Values.{Built}
 
 abbrev pub built : Held → Built
-built b = record { form = chained (expression_of b.first) (map operation_of b.operations); kind = b.kind }
+built b = record { form = chained (expression_of b.first) (map operation_of b.operations); sort = b.sort }

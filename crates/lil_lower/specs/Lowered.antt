@@ -1,21 +1,20 @@
 -- What statements and modules are for the generator, where it has their forms.
-use Rattle.std.specs.Prelude.{ℕ, ◌-◌, nat_le, ℤ, pos, negsuc, int_lt, Bool, true, false, not, ◌&&◌, List, [], ◌∷◌, length, map, slice_get, Option, Some, None, if◌then◌else◌}
+use Rattle.std.specs.Prelude.{ℕ, nat_le, ℤ, pos, int_lt, Bool, true, false, not, ◌&&◌, List, [], ◌∷◌, length, map, slice_get, Option, Some, None, if◌then◌else◌}
 use Rattle.std.specs.Option.{option_map}
 use Rattle.std.specs.List.{list_all}
-use Rattle.lil_base.specs.Words.{Cardinal, Integer, between, in_type, is_zero}
+use Rattle.lil_base.specs.Words.{Integer, in_type, is_zero}
+use Rattle.lil_types.specs.Types.{Table, integer, cardinal, boolean, char}
 use Rattle.lil_module.specs.declared.declared.RModule.{RModule}
 use Rattle.lil_module.specs.declared.declared.RVar.{RVar}
-use Rattle.lil_module.specs.declared.tree.Resident.{Resident}
-use Rattle.lil_module.specs.declared.tree.Resident.TheVariants.{Write}
 use Rattle.lil_module.specs.declared.tree.RArgument.{RArgument}
 use Rattle.lil_module.specs.declared.tree.RArgument.TheOpen as x
-use Rattle.lil_module.specs.declared.tree.RArgument.TheOpen.{RCallee-F, RExpr-F}
+use Rattle.lil_module.specs.declared.tree.RArgument.TheOpen.{RExpr-F}
 use Rattle.lil_module.specs.declared.tree.RExpr.{RExpr, out-RExpr}
-use Rattle.lil_module.specs.declared.tree.RCallee.{RCallee, out-RCallee}
+use Rattle.lil_module.specs.declared.tree.RCallee.{RCallee}
 use Rattle.lil_module.specs.declared.tree.RSelector.{RSelector}
 use Rattle.lil_module.specs.declared.tree.RDesignator.{RDesignator}
 use Rattle.lil_module.specs.declared.tree.RElement.{RElement}
-use Rattle.lil_module.specs.declared.tree.ROperation.{ROperation, out-ROperation}
+use Rattle.lil_module.specs.declared.tree.ROperation.{ROperation}
 use Rattle.lil_module.specs.declared.tree.RLabel.{RLabel}
 use Rattle.lil_module.specs.declared.tree.RGuard.{RGuard}
 use Rattle.lil_module.specs.declared.tree.RArm.{RArm}
@@ -23,15 +22,20 @@ use Rattle.lil_module.specs.declared.tree.RStmt.{RStmt}
 use Rattle.lil_module.specs.declared.tree.RStmt.TheOpen as s
 use Rattle.lil_module.specs.declared.tree.RStmt.TheOpen.{RStmt-F, RArm-F, RGuard-F}
 use Rattle.lil_module.specs.declared.tree.RStmt.TheFolds.{fold-RStmt, fold-RArm, fold-RGuard}
-use Rattle.lil_resolved.specs.Kinds as kinds
-use Rattle.lil_resolved.specs.Kinds.{OfWhole}
-use Rattle.lil_resolved.specs.Resolved.{Expression, Label, Assign, If, Case, While, Repeat, Loop, Exit, For, Statements, Empty, Then, Arms, NoElse, Else, Arm, Resolved}
-use Rattle.lil_resolved.specs.Views.{cardinal_variable, write_of, all_of}
-use Rattle.lil_lower.specs.declared.value_kind.Kind.{Kind}
-use Rattle.lil_lower.specs.declared.value_kind.Kind.TheVariants as k
-use Rattle.lil_lower.specs.Values.{kind_of_sort, result_kind, is_chr, root, sole, expression, argument, designator, shallow}
+use Rattle.lil_resolved.specs.Resolved.{Expression, Label, If, Case, While, Repeat, Loop, Exit, Return, For, Statements, Empty, Then, Arms, NoElse, Else, Arm, Resolved, kind_of}
+use Rattle.lil_resolved.specs.Sound.{takes_value}
+use Rattle.lil_resolved.specs.Views.{kind_view, variable_of, all_of, name_of, kind_declared}
+use Rattle.lil_resolved.specs.declared.resolved.RBase.{RBase}
+use Rattle.lil_resolved.specs.declared.resolved.RKind.{RKind}
+use Rattle.lil_resolved.specs.declared.resolved.RDeclared.{RDeclared}
+use Rattle.lil_lower.specs.declared.variables.Variable.{Variable}
+use Rattle.lil_lower.specs.declared.selectors.Ordinal.{Ordinal}
+use Rattle.lil_lower.specs.Bases.{base_at, kind_at}
+use Rattle.lil_lower.specs.Operators.{has_number}
+use Rattle.lil_lower.specs.Values.{root, expression, designator, shallow}
+use Rattle.lil_lower.specs.Calls.{own_or, stored, called, procedure}
 
--- a statement inside of a LOOP or not, a condition with the statements behind it, and an arm by the selector's kind
+-- a statement inside of a LOOP or not, a condition with the statements behind it, and an arm by the selector's base
 abbrev pub Meaning : Type 0
 Meaning = Bool → Option Statements
 
@@ -39,7 +43,7 @@ abbrev pub GuardMeaning : Type 0
 GuardMeaning = Bool → Option (Expression × Statements)
 
 abbrev pub ArmMeaning : Type 0
-ArmMeaning = Bool → Kind → Option (List Label × Statements)
+ArmMeaning = Bool → RBase → Option (List Label × Statements)
 
 -- ---- lists
 -- all values, if each is there
@@ -70,50 +74,57 @@ conditional (Some gs) (Some other) = Some (nested gs other)
 conditional _ _ = None
 
 -- ---- CASE
-abbrev pub result_of : Option ROperation → Option Kind
-result_of (Some o) = option_map (result_kind (out-ROperation o).operator) (kind_of_sort (out-ROperation o).sort)
-result_of None = None
+-- the type of a constant that has none
+abbrev pub text_sort : List ℕ → Option ℕ
+text_sort (c ∷ []) = Some char
+text_sort _ = None
 
-abbrev pub kind_in : RExpr-F RArgument RCallee RExpr RSelector RDesignator RElement ROperation → Option Kind
-kind_in (x.Whole z) = if int_lt z (pos 0) then Some k.Integer else Some k.Cardinal
-kind_in (x.Scalar s w) = kind_of_sort s
-kind_in (x.Chars t) = None
-kind_in (x.Named n) = None
-kind_in x.Nil = None
-kind_in (x.SetOf s es) = None
-kind_in (x.RExpr::Value d) = Some k.Cardinal
-kind_in (x.RExpr::Procedure n) = None
-kind_in (x.Call c xs) = None
-kind_in (x.Function f s xs) = if is_chr f then Some k.Character else None
-kind_in (x.One op s a) = kind_of_sort s
-kind_in (x.Chain a os) = result_of (slice_get os (length os - 1))
+abbrev pub named_sort : Option (List ℕ) → Option ℕ
+named_sort (Some t) = text_sort t
+named_sort None = None
 
--- the kind of what a CASE selects by
-abbrev pub own_kind : RExpr → Option Kind
-own_kind x = kind_in (out-RExpr x)
+abbrev pub literal_in : RModule → RExpr-F RArgument RCallee RExpr RSelector RDesignator RElement ROperation → Option ℕ
+literal_in m (x.Whole z) = Some (if int_lt z (pos 0) then integer else cardinal)
+literal_in m (x.Scalar s w) = None
+literal_in m (x.Chars t) = text_sort t
+literal_in m (x.Named n) = named_sort (slice_get m.texts n)
+literal_in m x.Nil = None
+literal_in m (x.SetOf s es) = None
+literal_in m (x.RExpr::Value d) = None
+literal_in m (x.RExpr::Procedure n) = None
+literal_in m (x.Call c xs) = None
+literal_in m (x.Function g s xs) = None
+literal_in m (x.One op s a) = None
+literal_in m (x.Chain a os) = None
 
--- the numbers of a kind's values
-abbrev pub least : Kind → ℤ
-least k.Cardinal = pos 0
-least k.Integer = negsuc 32767
-least k.Truth = pos 0
-least k.Character = pos 0
+abbrev pub first_of : Option ℕ → Option ℕ → Option ℕ
+first_of (Some s) other = Some s
+first_of None other = other
 
-abbrev pub greatest : Kind → ℤ
-greatest k.Cardinal = pos 65535
-greatest k.Integer = pos 32767
-greatest k.Truth = pos 1
-greatest k.Character = pos 255
+-- the type of what a CASE selects by
+abbrev pub selector_sort : RModule → RExpr → Option ℕ
+selector_sort m a = first_of (expression m a).own (literal_in m (out-RExpr a))
 
--- a label isn't empty, and its ends are numbers of values of the kind
-abbrev pub fits : Kind → RLabel → Bool
-fits kind l = not (int_lt l.high l.low) && (between (least kind) l.low (greatest kind) && between (least kind) l.high (greatest kind))
+abbrev pub selector_with : ℕ → RBase → Ordinal
+selector_with s k = record { sort = s; base = k }
+
+abbrev pub selector_by : Table → Option ℕ → Option Ordinal
+selector_by t None = None
+selector_by t (Some s) = option_map (selector_with s) (base_at t s)
+
+-- that type, and what its values are
+abbrev pub selector : RModule → RExpr → Option Ordinal
+selector m a = selector_by m.types (selector_sort m a)
+
+-- a label isn't empty, and its ends are numbers of values of the base
+abbrev pub fits : RBase → RLabel → Bool
+fits k l = not (int_lt l.high l.low) && (has_number k l.low && has_number k l.high)
 
 abbrev pub label_of : RLabel → Label
 label_of l = record { low = l.low; high = l.high }
 
-abbrev pub labels : Kind → List RLabel → Option (List Label)
-labels kind ls = if list_all (fits kind) ls then Some (map label_of ls) else None
+abbrev pub labels : RBase → List RLabel → Option (List Label)
+labels k ls = if list_all (fits k) ls then Some (map label_of ls) else None
 
 abbrev pub else_arms : Bool → Option (List Meaning) → Option Arms
 else_arms looping None = Some NoElse
@@ -129,27 +140,6 @@ selected (Some e) (Some arms) (Some other) = Some (Then (Case e (chosen arms oth
 selected _ _ _ = None
 
 -- ---- the other forms
-abbrev pub assigned : Option ℕ → Option Expression → Option Statements
-assigned (Some n) (Some e) = Some (Then (Assign (cardinal_variable n) e) Empty)
-assigned _ _ = None
-
-abbrev pub is_write : Resident → Bool
-is_write Write = true
-is_write _ = false
-
-abbrev pub writes_in : RCallee-F RArgument RCallee RExpr RSelector RDesignator RElement ROperation → Bool
-writes_in (x.RCallee::Procedure n) = false
-writes_in (x.Variable d) = false
-writes_in (x.Resident r) = is_write r
-
--- what is called is Terminal's Write
-abbrev pub writes : RCallee → Bool
-writes c = writes_in (out-RCallee c)
-
-abbrev pub written : Option Expression → Option Statements
-written (Some e) = Some (Then (write_of e) Empty)
-written None = None
-
 abbrev pub repeated_while : Option Expression → Option Statements → Option Statements
 repeated_while (Some e) (Some ss) = Some (Then (While e ss) Empty)
 repeated_while _ _ = None
@@ -165,44 +155,61 @@ looped None = None
 abbrev pub exited : Bool → Option Statements
 exited looping = if looping then Some (Then Exit Empty) else None
 
+-- RETURN in the module's body
+abbrev pub returned : Option RExpr → Option Statements
+returned None = Some (Then Return Empty)
+returned (Some a) = None
+
 abbrev pub is_step : ℤ → Bool
 is_step z = not (is_zero z) && in_type Integer z
 
-abbrev pub counted : Option ℕ → Option Expression → Option Expression → ℤ → Option Statements → Option Statements
-counted (Some n) (Some a) (Some b) z (Some ss) = if is_step z then Some (Then (For (cardinal_variable n) a b z ss) Empty) else None
-counted _ _ _ z _ = None
+-- a start that may be stored in the variable
+abbrev pub started : Variable → Option Expression → Option Expression
+started v (Some e) = if takes_value (kind_view v.place.kind) (kind_of e) then Some e else None
+started v None = None
+
+abbrev pub repeated_for : Variable → Option Expression → Option Expression → ℤ → Option Statements → Option Statements
+repeated_for v (Some a) (Some b) z (Some ss) = if is_step z then Some (Then (For (variable_of v.place) a b z ss) Empty) else None
+repeated_for v _ _ z _ = None
 
 -- ---- all forms
 module _ (m : RModule) where
-  abbrev pub value : RExpr → Kind → Option Expression
-  value x kind = shallow (expression m x kind)
+  abbrev pub value : RExpr → ℕ → Option Expression
+  value a s = shallow ((expression m a).lowers s)
 
-  abbrev pub called : RCallee → List RArgument → Option Statements
-  called c xs = if writes c then written (shallow (sole (map (argument m) xs) k.Character)) else None
+  -- a value in its own type, or a constant in that of the variable
+  abbrev pub assigned : Option Variable → RExpr → Option Statements
+  assigned None a = None
+  assigned (Some v) a = stored v (value a (own_or (expression m a).own v.sort))
 
-  abbrev pub case_by : Option Kind → RExpr → Bool → List ArmMeaning → Option (List Meaning) → Option Statements
-  case_by None x looping arms other = None
-  case_by (Some kind) x looping arms other = selected (value x kind) (all_some (map (λ a. a looping kind) arms)) (else_arms looping other)
+  abbrev pub case_by : Option Ordinal → RExpr → Bool → List ArmMeaning → Option (List Meaning) → Option Statements
+  case_by None a looping arms other = None
+  case_by (Some by) a looping arms other = selected (value a by.sort) (all_some (map (λ f. f looping by.base) arms)) (else_arms looping other)
+
+  -- a start in its own type, or a constant in that of the variable, and a limit in that of the variable
+  abbrev pub for_by : Option Variable → RExpr → RExpr → ℤ → Option Statements → Option Statements
+  for_by None a b z ss = None
+  for_by (Some v) a b z ss = repeated_for v (started v (value a (own_or (expression m a).own v.sort))) (value b v.sort) z ss
 
   abbrev pub statement_layer : RStmt-F Meaning ArmMeaning GuardMeaning → Meaning
-  statement_layer (s.Assign d x) looping = assigned (designator m d) (value x k.Cardinal)
-  statement_layer (s.Call c xs) looping = called c xs
-  statement_layer (s.Procedure p xs) looping = None
+  statement_layer (s.Assign d a) looping = assigned (designator m d) a
+  statement_layer (s.Call c xs) looping = called m c xs
+  statement_layer (s.Procedure p xs) looping = procedure m p xs
   statement_layer (s.If gs other) looping = conditional (all_some (map (λ g. g looping) gs)) (else_body looping other)
-  statement_layer (s.Case x arms other) looping = case_by (own_kind x) x looping arms other
-  statement_layer (s.While x ss) looping = repeated_while (value x k.Truth) (body looping ss)
-  statement_layer (s.Repeat ss x) looping = repeated_until (body looping ss) (value x k.Truth)
+  statement_layer (s.Case a arms other) looping = case_by (selector m a) a looping arms other
+  statement_layer (s.While a ss) looping = repeated_while (value a boolean) (body looping ss)
+  statement_layer (s.Repeat ss a) looping = repeated_until (body looping ss) (value a boolean)
   statement_layer (s.Loop ss) looping = looped (body true ss)
-  statement_layer (s.For r a b z ss) looping = counted (root m r) (value a k.Cardinal) (value b k.Cardinal) z (body looping ss)
+  statement_layer (s.For r a b z ss) looping = for_by (root m r) a b z (body looping ss)
   statement_layer (s.With d ss) looping = None
   statement_layer s.Exit looping = exited looping
-  statement_layer (s.Return o) looping = None
+  statement_layer (s.Return o) looping = returned o
 
   abbrev pub guard_layer : RGuard-F Meaning ArmMeaning GuardMeaning → GuardMeaning
-  guard_layer g looping = paired (value g.condition k.Truth) (body looping g.body)
+  guard_layer g looping = paired (value g.condition boolean) (body looping g.body)
 
   abbrev pub arm_layer : RArm-F Meaning ArmMeaning GuardMeaning → ArmMeaning
-  arm_layer a looping kind = paired (labels kind a.labels) (body looping a.body)
+  arm_layer a looping k = paired (labels k a.labels) (body looping a.body)
 
   unfoldable pub statement : RStmt → Meaning
   statement = fold-RStmt Meaning ArmMeaning GuardMeaning statement_layer arm_layer guard_layer
@@ -217,15 +224,22 @@ module _ (m : RModule) where
   abbrev pub statements : Bool → List RStmt → Option Statements
   statements looping ss = option_map all_of (all_some (map (λ x. statement x looping) ss))
 
--- ---- modules: at most 32,000 variables
-abbrev pub name_of : RVar → List ℕ
-name_of v = v.name
+-- ---- modules: at most 32,000 variables, each of a kind that the generator has
+abbrev pub declared_with : List ℕ → RKind → RDeclared
+declared_with name k = record { name = name; kind = k }
 
-abbrev pub cardinal_kind : RVar → kinds.Kind
-cardinal_kind v = OfWhole Cardinal
+abbrev pub declared : Table → RVar → Option RDeclared
+declared t v = option_map (declared_with v.name) (kind_at t v.sort)
 
-abbrev pub module_with : RModule → Statements → Resolved
-module_with m ss = record { name = m.name; names = map name_of m.variables; variables = map cardinal_kind m.variables; body = ss }
+abbrev pub all_declared : Table → List RVar → Option (List RDeclared)
+all_declared t vs = all_some (map (declared t) vs)
+
+abbrev pub module_with : RModule → List RDeclared → Statements → Resolved
+module_with m vs ss = record { name = m.name; names = map name_of vs; variables = map kind_declared vs; body = ss }
+
+abbrev pub laid_out : RModule → Option (List RDeclared) → Option Statements → Option Resolved
+laid_out m (Some vs) (Some ss) = Some (module_with m vs ss)
+laid_out m _ _ = None
 
 unfoldable pub lowered : RModule → Option Resolved
-lowered m = if nat_le (length m.variables) 32000 then option_map (module_with m) (statements m false m.body) else None
+lowered m = if nat_le (length m.variables) 32000 then laid_out m (all_declared m.types m.variables) (statements m false m.body) else None

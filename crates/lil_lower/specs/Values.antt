@@ -1,15 +1,14 @@
--- What values are for the generator: expressions of a wanted kind, where it has their form.
-use Rattle.std.specs.Prelude.{ℕ, ◌==◌, nat_le, ℤ, Bool, true, false, not, ◌&&◌, List, [], ◌∷◌, slice_get, Option, Some, None, if◌then◌else◌}
+-- What values are for the generator: expressions of a wanted base type, where it has their form.
+use Rattle.std.specs.Prelude.{ℕ, ◌-◌, ◌==◌, nat_le, ℤ, pos, Bool, false, ◌&&◌, List, [], ◌∷◌, length, slice_get, Option, Some, None, if◌then◌else◌}
+use Rattle.std.specs.Option.{option_map}
 use Rattle.std.specs.List.{fold}
-use Rattle.lil_base.specs.Words.{Cardinal, Integer}
 use Rattle.lil_base.specs.declared.operator.OneOp.{OneOp}
 use Rattle.lil_base.specs.declared.operator.TwoOp.{TwoOp}
-use Rattle.lil_base.specs.declared.operator.TwoOp.TheVariants.{Or, And}
-use Rattle.lil_types.specs.Types.{integer, cardinal, boolean, char}
+use Rattle.lil_types.specs.Types.{Table, cardinal, boolean, char, base}
 use Rattle.lil_module.specs.declared.declared.RModule.{RModule}
 use Rattle.lil_module.specs.declared.declared.RVar.{RVar}
 use Rattle.lil_module.specs.declared.tree.Standard.{Standard}
-use Rattle.lil_module.specs.declared.tree.Standard.TheVariants.{Chr}
+use Rattle.lil_module.specs.declared.tree.Standard.TheVariants as standard
 use Rattle.lil_module.specs.declared.tree.RRoot.{RRoot}
 use Rattle.lil_module.specs.declared.tree.RRoot.TheVariants.{Global, Local, Field}
 use Rattle.lil_module.specs.declared.tree.RArgument.{RArgument}
@@ -19,134 +18,160 @@ use Rattle.lil_module.specs.declared.tree.RArgument.TheFolds.{fold-RArgument, fo
 use Rattle.lil_module.specs.declared.tree.RExpr.{RExpr}
 use Rattle.lil_module.specs.declared.tree.RDesignator.{RDesignator}
 use Rattle.lil_module.specs.declared.tree.ROperation.{ROperation}
-use Rattle.lil_resolved.specs.Kinds as kinds
-use Rattle.lil_resolved.specs.Kinds.{OfWhole, OfTruth, OfCharacter}
-use Rattle.lil_resolved.specs.Scalars.{Scalar, Number, Truth, Character, within}
-use Rattle.lil_resolved.specs.Resolved as r
-use Rattle.lil_resolved.specs.Resolved.{Expression, Constant, Taken, Apply, is_relation}
+use Rattle.lil_resolved.specs.Scalars.{scalar_of}
+use Rattle.lil_resolved.specs.Resolved.{Expression, Constant, Taken, Apply, kind_of}
 use Rattle.lil_resolved.specs.Depth.{depth}
 use Rattle.lil_resolved.specs.Sound as sound
-use Rattle.lil_resolved.specs.Views.{cardinal_variable, one_of, two_of}
-use Rattle.lil_lower.specs.declared.value_kind.Kind.{Kind}
-use Rattle.lil_lower.specs.declared.value_kind.Kind.TheVariants as k
+use Rattle.lil_resolved.specs.Views.{base_view, variable_of, function_of, one_of, two_of}
+use Rattle.lil_resolved.specs.declared.resolved.RBase.{RBase}
+use Rattle.lil_resolved.specs.declared.resolved.RBase.TheVariants as b
+use Rattle.lil_resolved.specs.declared.resolved.RKind.{RKind}
+use Rattle.lil_resolved.specs.declared.resolved.RFunction.{RFunction}
+use Rattle.lil_resolved.specs.declared.resolved.RFunction.TheVariants as f
+use Rattle.lil_lower.specs.declared.variables.Variable.{Variable}
+use Rattle.lil_lower.specs.Bases.{base_at, kind_at}
+use Rattle.lil_lower.specs.Operators.{takes_two, result_sort, has_number}
 
--- ---- kinds
--- as the generator has them
-abbrev pub view : Kind → kinds.Kind
-view k.Cardinal = OfWhole Cardinal
-view k.Integer = OfWhole Integer
-view k.Truth = OfTruth
-view k.Character = OfCharacter
-
--- the standard type of a kind
-abbrev pub sort_of : Kind → ℕ
-sort_of k.Cardinal = cardinal
-sort_of k.Integer = integer
-sort_of k.Truth = boolean
-sort_of k.Character = char
-
-abbrev pub kind_of_sort : ℕ → Option Kind
-kind_of_sort s =
-    if s == integer then Some k.Integer
-    else (if s == cardinal then Some k.Cardinal
-    else (if s == boolean then Some k.Truth
-    else (if s == char then Some k.Character else None)))
-
-abbrev pub takes_one : OneOp → Kind → Bool
-takes_one op kind = sound.takes_one op (view kind)
-
-abbrev pub is_truth : Kind → Bool
-is_truth k.Truth = true
-is_truth k.Cardinal = false
-is_truth k.Integer = false
-is_truth k.Character = false
-
--- AND and OR take truth values
-abbrev pub takes_two : TwoOp → Kind → Bool
-takes_two And kind = is_truth kind
-takes_two Or kind = is_truth kind
-takes_two op kind = sound.takes_two op (view kind)
-
-abbrev pub result_kind : TwoOp → Kind → Kind
-result_kind op kind = if is_relation op then k.Truth else kind
-
--- ---- constants and variables
+-- the expression of a base type, by its number
 abbrev pub Lowers : Type 0
-Lowers = Kind → Option Expression
+Lowers = ℕ → Option Expression
 
-abbrev pub nothing : Lowers
-nothing kind = None
+-- a value: its own base type, which whole constants and texts have none of, and its expression of a wanted one
+pub record Value : Type 0 where
+  pub own : Option ℕ
+  pub lowers : Lowers
 
--- a constant, where it is one of its kind
-abbrev pub constant : kinds.Kind → Scalar → Option Expression
-constant kind v = if within kind v then Some (Constant kind v) else None
+abbrev pub valued : Option ℕ → Lowers → Value
+valued s l = record { own = s; lowers = l }
 
-abbrev pub whole : ℤ → Lowers
-whole z k.Cardinal = constant (OfWhole Cardinal) (Number z)
-whole z k.Integer = constant (OfWhole Integer) (Number z)
-whole z k.Truth = None
-whole z k.Character = None
+abbrev pub nothing : Value
+nothing = valued None (λ s. None)
 
--- a BOOLEAN or a CHAR by its word
-abbrev pub scalar : ℕ → ℕ → Lowers
-scalar s w k.Truth = if s == boolean then constant OfTruth (Truth (not (w == 0))) else None
-scalar s w k.Character = if s == char then constant OfCharacter (Character w) else None
-scalar s w k.Cardinal = None
-scalar s w k.Integer = None
+-- ---- constants
+-- the constant with a number, where it is one of its base
+abbrev pub constant : RBase → ℤ → Option Expression
+constant k z = if has_number k z then Some (Constant (base_view k) (scalar_of (base_view k) z)) else None
+
+abbrev pub whole_by : ℤ → Option RBase → Option Expression
+whole_by z (Some b.Cardinal) = constant b.Cardinal z
+whole_by z (Some b.Integer) = constant b.Integer z
+whole_by z _ = None
+
+-- a number of no type
+abbrev pub whole : Table → ℤ → Lowers
+whole t z s = whole_by z (base_at t s)
+
+abbrev pub scalar_by : ℕ → Option RBase → Option Expression
+scalar_by w (Some b.Truth) = constant b.Truth (pos w)
+scalar_by w (Some b.Character) = constant b.Character (pos w)
+scalar_by w (Some (b.Enumeration n)) = constant (b.Enumeration n) (pos w)
+scalar_by w _ = None
+
+-- a BOOLEAN, a CHAR or a constant of an enumeration by its word
+abbrev pub scalar : Table → ℕ → ℕ → Lowers
+scalar t sort w s = if base t sort == s then scalar_by w (base_at t s) else None
 
 -- a text of one character
 abbrev pub text : List ℕ → Lowers
-text (c ∷ []) k.Character = constant OfCharacter (Character c)
-text _ _ = None
+text (c ∷ []) s = if s == char then constant b.Character (pos c) else None
+text _ s = None
 
 abbrev pub named : Option (List ℕ) → Lowers
-named (Some t) kind = text t kind
-named None kind = None
+named (Some t) s = text t s
+named None s = None
 
--- the number of a CARDINAL variable of the module
-abbrev pub cardinal_by : ℕ → Option RVar → Option ℕ
-cardinal_by n (Some v) = if v.sort == cardinal then Some n else None
-cardinal_by n None = None
+-- ---- variables
+abbrev pub variable_with : ℕ → ℕ → RKind → Variable
+variable_with n s k = record { place = record { number = n; kind = k }; sort = s }
 
-abbrev pub root : RModule → RRoot → Option ℕ
-root m (Global n) = cardinal_by n (slice_get m.variables n)
+abbrev pub variable_by : Table → ℕ → Option RVar → Option Variable
+variable_by t n None = None
+variable_by t n (Some v) = option_map (variable_with n (base t v.sort)) (kind_at t v.sort)
+
+-- a variable of the module, and its base type
+abbrev pub root : RModule → RRoot → Option Variable
+root m (Global n) = variable_by m.types n (slice_get m.variables n)
 root m (Local levels n) = None
 root m (Field block n) = None
 
-abbrev pub bare : {S : Type 0} → List S → Option ℕ → Option ℕ
+abbrev pub bare : {S : Type 0} → List S → Option Variable → Option Variable
 bare [] o = o
 bare (s ∷ ss) o = None
 
-abbrev pub variable : Option ℕ → Lowers
-variable (Some n) k.Cardinal = Some (Taken (cardinal_variable n))
-variable _ _ = None
+abbrev pub sort_of : Variable → ℕ
+sort_of v = v.sort
 
--- ---- CHR, and operators
--- the only one's value
-abbrev pub sole : List Lowers → Lowers
-sole (a ∷ []) kind = a kind
-sole _ kind = None
+abbrev pub taken : Option Variable → Lowers
+taken (Some v) s = if v.sort == s then Some (Taken (variable_of v.place)) else None
+taken None s = None
 
-abbrev pub chr : Option Expression → Lowers
-chr (Some a) k.Character = Some (Apply r.Chr a)
-chr _ _ = None
+-- ---- standard functions
+-- the argument whose value counts: the second of VAL, or the only one
+abbrev pub sole : List Value → Option Value
+sole (a ∷ []) = Some a
+sole _ = None
 
-abbrev pub is_chr : Standard → Bool
-is_chr Chr = true
-is_chr _ = false
+abbrev pub second : List Value → Option Value
+second (a ∷ c ∷ []) = Some c
+second _ = None
 
-abbrev pub function : Standard → List Lowers → Lowers
-function f xs kind = if is_chr f then chr (sole xs k.Cardinal) kind else None
+abbrev pub operand_of : Standard → List Value → Option Value
+operand_of standard.Val xs = second xs
+operand_of _ xs = sole xs
 
--- an operator on a value of the wanted kind
-abbrev pub one : OneOp → ℕ → Kind → Option Expression → Option Expression
-one op s kind None = None
-one op s kind (Some a) = if s == sort_of kind && takes_one op kind then Some (one_of op a) else None
+-- the function, where it is one of a value; VAL gives values of the type that the call has
+abbrev pub form_of : Table → Standard → ℕ → Option RFunction
+form_of t standard.Abs s = Some f.Abs
+form_of t standard.Cap s = Some f.Cap
+form_of t standard.Chr s = Some f.Chr
+form_of t standard.Odd s = Some f.Odd
+form_of t standard.Ord s = Some f.Ord
+form_of t standard.Val s = option_map f.Val (kind_at t s)
+form_of t _ s = None
 
--- the value of a chain so far, and its kind
+-- the base type of the value of a call that has a type, of an operand of another
+abbrev pub value_sort : Table → Standard → ℕ → ℕ → ℕ
+value_sort t standard.Abs s o = o
+value_sort t standard.Cap s o = char
+value_sort t standard.Chr s o = char
+value_sort t standard.Odd s o = boolean
+value_sort t standard.Ord s o = cardinal
+value_sort t _ s o = base t s
+
+abbrev pub applied : Option RFunction → Option Expression → Option Expression
+applied (Some g) (Some a) = if sound.takes_function (function_of g (kind_of a)) (kind_of a) then Some (Apply (function_of g (kind_of a)) a) else None
+applied _ _ = None
+
+abbrev pub function_over : Table → Standard → ℕ → ℕ → Option ℕ → Lowers → Option Expression
+function_over t g s w None a = None
+function_over t g s w (Some o) a = if value_sort t g s o == w then applied (form_of t g s) (a o) else None
+
+abbrev pub function_by : Table → Standard → ℕ → ℕ → Option Value → Option Expression
+function_by t g s w None = None
+function_by t g s w (Some a) = function_over t g s w a.own a.lowers
+
+-- a standard function of a value in its own type
+abbrev pub function : Table → Standard → ℕ → List Value → Lowers
+function t g s xs w = function_by t g s w (operand_of g xs)
+
+-- ---- operators
+abbrev pub takes_one_at : OneOp → Option RBase → Bool
+takes_one_at op None = false
+takes_one_at op (Some k) = sound.takes_one op (base_view k)
+
+abbrev pub takes_two_at : TwoOp → Option RBase → Bool
+takes_two_at op None = false
+takes_two_at op (Some k) = takes_two op k
+
+-- an operator on a value of the wanted type
+abbrev pub one : Table → OneOp → ℕ → ℕ → Option Expression → Option Expression
+one t op s w None = None
+one t op s w (Some a) = if s == w && takes_one_at op (base_at t w) then Some (one_of op a) else None
+
+-- the value of a chain so far, and its base type
 pub record Built : Type 0 where
   pub form : Expression
-  pub kind : Kind
+  pub sort : ℕ
 
 -- an operation: the type of its operands, and its right operand
 pub record Operation : Type 0 where
@@ -156,71 +181,78 @@ pub record Operation : Type 0 where
 
 abbrev pub with_right : TwoOp → Built → Option Expression → Option Built
 with_right op b None = None
-with_right op b (Some a) = Some (record { form = two_of op b.form a; kind = result_kind op b.kind })
+with_right op b (Some a) = Some (record { form = two_of op b.form a; sort = result_sort op b.sort })
 
 -- an operation on what stands before it
-abbrev pub operate : Option Built → Operation → Option Built
-operate None o = None
-operate (Some b) o = if o.sort == sort_of b.kind && takes_two o.operator b.kind then with_right o.operator b (o.operand b.kind) else None
+abbrev pub operate : Table → Option Built → Operation → Option Built
+operate t None o = None
+operate t (Some b) o = if o.sort == b.sort && takes_two_at o.operator (base_at t b.sort) then with_right o.operator b (o.operand b.sort) else None
 
--- the first operation gives its kind to the first operand
-abbrev pub first_kind : List Operation → Option Kind
-first_kind [] = None
-first_kind (o ∷ os) = kind_of_sort o.sort
+-- the first operation gives its type to the first operand
+abbrev pub first_sort : List Operation → Option ℕ
+first_sort [] = None
+first_sort (o ∷ os) = Some o.sort
 
-abbrev pub begun : Kind → Option Expression → Option Built
-begun kind None = None
-begun kind (Some a) = Some (record { form = a; kind = kind })
+abbrev pub begun : ℕ → Option Expression → Option Built
+begun s None = None
+begun s (Some a) = Some (record { form = a; sort = s })
 
-abbrev pub begin : Option Kind → Lowers → Option Built
+abbrev pub begin : Option ℕ → Lowers → Option Built
 begin None a = None
-begin (Some kind) a = begun kind (a kind)
+begin (Some s) a = begun s (a s)
 
-abbrev pub wanted : Kind → Option Built → Option Expression
-wanted kind None = None
-wanted kind (Some b) = if sort_of b.kind == sort_of kind then Some b.form else None
+abbrev pub wanted : ℕ → Option Built → Option Expression
+wanted w None = None
+wanted w (Some b) = if b.sort == w then Some b.form else None
 
-abbrev pub chain : Lowers → List Operation → Lowers
-chain a os kind = wanted kind (fold operate (begin (first_kind os) a) os)
+abbrev pub chain : Table → Lowers → List Operation → Lowers
+chain t a os w = wanted w (fold (operate t) (begin (first_sort os) a) os)
+
+-- the type of the last operation's value
+abbrev pub result_of : Operation → ℕ
+result_of o = result_sort o.operator o.sort
+
+abbrev pub last_sort : List Operation → Option ℕ
+last_sort os = option_map result_of (slice_get os (length os - 1))
 
 -- ---- all forms
 module _ (m : RModule) where
-  abbrev pub expression_layer : RExpr-F Lowers (Unit {0}) Lowers (Unit {0}) (Option ℕ) (Unit {0}) Operation → Lowers
-  expression_layer (x.Whole z) = whole z
-  expression_layer (x.Scalar s w) = scalar s w
-  expression_layer (x.Chars t) = text t
-  expression_layer (x.Named n) = named (slice_get m.texts n)
+  abbrev pub expression_layer : RExpr-F Value (Unit {0}) Value (Unit {0}) (Option Variable) (Unit {0}) Operation → Value
+  expression_layer (x.Whole z) = valued None (whole m.types z)
+  expression_layer (x.Scalar s w) = valued (Some (base m.types s)) (scalar m.types s w)
+  expression_layer (x.Chars t) = valued None (text t)
+  expression_layer (x.Named n) = valued None (named (slice_get m.texts n))
   expression_layer x.Nil = nothing
   expression_layer (x.SetOf s es) = nothing
-  expression_layer (x.RExpr::Value d) = variable d
+  expression_layer (x.RExpr::Value d) = valued (option_map sort_of d) (taken d)
   expression_layer (x.RExpr::Procedure n) = nothing
   expression_layer (x.Call c xs) = nothing
-  expression_layer (x.Function f s xs) = function f xs
-  expression_layer (x.One op s a) = λ kind. one op s kind (a kind)
-  expression_layer (x.Chain a os) = chain a os
+  expression_layer (x.Function g s xs) = valued (Some (base m.types s)) (function m.types g s xs)
+  expression_layer (x.One op s a) = valued (Some s) (λ w. one m.types op s w (a.lowers w))
+  expression_layer (x.Chain a os) = valued (last_sort os) (chain m.types a.lowers os)
 
-  abbrev pub argument_layer : RArgument-F Lowers (Unit {0}) Lowers (Unit {0}) (Option ℕ) (Unit {0}) Operation → Lowers
+  abbrev pub argument_layer : RArgument-F Value (Unit {0}) Value (Unit {0}) (Option Variable) (Unit {0}) Operation → Value
   argument_layer (x.RArgument::Value a) = a
   argument_layer (x.Place d) = nothing
   argument_layer (x.Type s) = nothing
 
-  abbrev pub designator_layer : RDesignator-F Lowers (Unit {0}) Lowers (Unit {0}) (Option ℕ) (Unit {0}) Operation → Option ℕ
+  abbrev pub designator_layer : RDesignator-F Value (Unit {0}) Value (Unit {0}) (Option Variable) (Unit {0}) Operation → Option Variable
   designator_layer d = bare d.selectors (root m d.root)
 
-  abbrev pub operation_layer : ROperation-F Lowers (Unit {0}) Lowers (Unit {0}) (Option ℕ) (Unit {0}) Operation → Operation
-  operation_layer o = record { operator = o.operator; sort = o.sort; operand = o.operand }
+  abbrev pub operation_layer : ROperation-F Value (Unit {0}) Value (Unit {0}) (Option Variable) (Unit {0}) Operation → Operation
+  operation_layer o = record { operator = o.operator; sort = o.sort; operand = o.operand.lowers }
 
-  unfoldable pub expression : RExpr → Lowers
-  expression = fold-RExpr Lowers (Unit {0}) Lowers (Unit {0}) (Option ℕ) (Unit {0}) Operation argument_layer (λ c. tt) expression_layer (λ s. tt) designator_layer (λ e. tt) operation_layer
+  unfoldable pub expression : RExpr → Value
+  expression = fold-RExpr Value (Unit {0}) Value (Unit {0}) (Option Variable) (Unit {0}) Operation argument_layer (λ c. tt) expression_layer (λ s. tt) designator_layer (λ e. tt) operation_layer
 
-  unfoldable pub argument : RArgument → Lowers
-  argument = fold-RArgument Lowers (Unit {0}) Lowers (Unit {0}) (Option ℕ) (Unit {0}) Operation argument_layer (λ c. tt) expression_layer (λ s. tt) designator_layer (λ e. tt) operation_layer
+  unfoldable pub argument : RArgument → Value
+  argument = fold-RArgument Value (Unit {0}) Value (Unit {0}) (Option Variable) (Unit {0}) Operation argument_layer (λ c. tt) expression_layer (λ s. tt) designator_layer (λ e. tt) operation_layer
 
-  unfoldable pub designator : RDesignator → Option ℕ
-  designator = fold-RDesignator Lowers (Unit {0}) Lowers (Unit {0}) (Option ℕ) (Unit {0}) Operation argument_layer (λ c. tt) expression_layer (λ s. tt) designator_layer (λ e. tt) operation_layer
+  unfoldable pub designator : RDesignator → Option Variable
+  designator = fold-RDesignator Value (Unit {0}) Value (Unit {0}) (Option Variable) (Unit {0}) Operation argument_layer (λ c. tt) expression_layer (λ s. tt) designator_layer (λ e. tt) operation_layer
 
   unfoldable pub operation : ROperation → Operation
-  operation = fold-ROperation Lowers (Unit {0}) Lowers (Unit {0}) (Option ℕ) (Unit {0}) Operation argument_layer (λ c. tt) expression_layer (λ s. tt) designator_layer (λ e. tt) operation_layer
+  operation = fold-ROperation Value (Unit {0}) Value (Unit {0}) (Option Variable) (Unit {0}) Operation argument_layer (λ c. tt) expression_layer (λ s. tt) designator_layer (λ e. tt) operation_layer
 
 -- ---- whole expressions: the expression stack has room for them
 abbrev pub shallow : Option Expression → Option Expression

@@ -1,10 +1,18 @@
 //! The trees of which the generator makes code, from those of the whole language.
 #![tactic(auto)]
 
+mod bases;
+mod calls;
+mod changes;
+mod constants;
+mod functions;
 mod labels;
+mod operators;
 mod program;
+mod room;
+mod selectors;
 mod statements;
-mod value_kind;
 mod values;
+mod variables;
 
 pub use program::lower;

@@ -4,29 +4,55 @@ ghost use Rattle.lil_resolved.specs.Views.{module_of, statements_of};
 ghost use Rattle.lil_resolved.specs.Sizes.{IsSound};
 ghost use Rattle.lil_lower.specs.Lowered as spec;
 
+use crate::bases::kind_at;
 use crate::statements::body;
-use lil_base::{Items, Memory, Name};
+use lil_base::{Items, Memory};
 use lil_module::{RModule as Tree, RVar};
-use lil_resolved::{RModule, RStmt};
+use lil_resolved::{RDeclared, RModule, RStmt};
+use lil_types::TypeTable;
 use std::alloc::Global;
 
-fn names(alloc: Global, of: &[RVar]) -> Result<Items<Name>, Memory>
-    ensures { IfOk result (λ ns. ns ≡ map spec.name_of of.now) }
+/// A variable, where it has a kind.
+fn declared(alloc: Global, t: &TypeTable, of: &RVar) -> Result<Option<RDeclared>, Memory>
+    ensures { IfOk result (λ o. o ≡ spec.declared t.now of.now) }
 {
-    let mut all = Items::new(alloc);
-    for one in of {
-        all.push(one.name.copy(alloc)?)?;
+    match kind_at(t, of.sort) {
+        None => Ok(None),
+        Some(kind) => {
+            let name = of.name.copy(alloc)?;
+            Ok(Some(RDeclared { name, kind }))
+        }
     }
-    Ok(all)
 }
 
-/// A module with the variables of a tree.
-fn with_body(alloc: Global, m: &Tree, body: Items<RStmt>) -> Result<RModule, Memory>
-    ensures means { IfOk result (λ r. module_of r ≡ spec.module_with m.now (statements_of body)) }
-    ensures count { IfOk result (λ r. length r.variables ≡ length m.now.variables) }
+fn all_declared(
+    alloc: Global,
+    t: &TypeTable,
+    of: &[RVar],
+) -> Result<Option<Items<RDeclared>>, Memory>
+    ensures { IfOk result (λ o. o ≡ spec.all_declared t.now of.now) }
+{
+    let mut found = Items::new(alloc);
+    for one in of {
+        match declared(alloc, t, one)? {
+            None => return Ok(None),
+            Some(declared) => found.push(declared)?,
+        }
+    }
+    Ok(Some(found))
+}
+
+/// A module with the name of a tree.
+fn named(
+    alloc: Global,
+    m: &Tree,
+    variables: Items<RDeclared>,
+    body: Items<RStmt>,
+) -> Result<RModule, Memory>
+    ensures means { IfOk result (λ r. module_of r ≡ spec.module_with m.now variables (statements_of body)) }
+    ensures count { IfOk result (λ r. length r.variables ≡ length variables) }
 {
     let name = m.name.copy(alloc)?;
-    let variables = names(alloc, m.variables.as_slice())?;
     Ok(RModule {
         name,
         variables,
@@ -44,10 +70,13 @@ pub fn lower(alloc: Global, m: &Tree) -> Result<Option<RModule>, Memory>
     if m.variables.len() > 32000 {
         return Ok(None);
     }
+    let Some(variables) = all_declared(alloc, &m.types, m.variables.as_slice())? else {
+        return Ok(None);
+    };
     match body(alloc, m, false, m.body.as_slice())? {
         None => Ok(None),
         Some(body) => {
-            let made = with_body(alloc, m, body)?;
+            let made = named(alloc, m, variables, body)?;
             Ok(Some(made))
         }
     }

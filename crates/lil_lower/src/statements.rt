@@ -1,137 +1,49 @@
-ghost use Rattle.std.specs.Prelude.{◌≡◌, ◌-◌, ◌≤◌, length, map, slice_get, Some, None, IfOk, if◌then◌else◌};
+ghost use Rattle.std.specs.Prelude.{◌≡◌, ◌≤◌, length, map, Some, None, IfOk, if◌then◌else◌};
 ghost use Rattle.std.specs.Option.{option_map};
 ghost use Rattle.lil_resolved.specs.Resolved.{Else};
 ghost use Rattle.lil_resolved.specs.Views as view;
 ghost use Rattle.lil_lower.specs.Lowered as spec;
 ghost use Rattle.lil_lower.specs.Parts as parts;
-ghost use Rattle.lil_lower.specs.Values as values;
 
+use crate::calls::{called, own_or};
+use crate::changes::{procedure, stored};
 use crate::labels::labels;
-use crate::value_kind::{Kind, kind_of_sort, result_kind};
-use crate::values::{designator, expression, is_chr, root, sole};
+use crate::operators::takes_value;
+use crate::room::shallow;
+use crate::selectors::selector;
+use crate::values::{expression, own_sort};
+use crate::variables::{Variable, designator, root};
 use lil_base::{Items, Memory};
-use lil_module::{
-    RArgument, RArm as Arm, RCallee, RExpr as Value, RGuard as Guard, RModule, ROperation,
-    RStmt as Tree, Resident,
-};
-use lil_resolved::{RArm, RExpr, RGuard, RStmt, depth};
+use lil_module::{RArm as Arm, RExpr as Value, RGuard as Guard, RModule, RStmt as Tree};
+use lil_resolved::{RArm, RBase, RExpr, RGuard, RStmt, base};
+use lil_types::{BOOLEAN, TypeId};
 use std::alloc::Global;
 
-/// An expression for which the expression stack has room.
-fn shallow(of: Option<RExpr>) -> Option<RExpr>
-    ensures { option_map view.expression_of result ≡ values.shallow (option_map view.expression_of of) }
-{
-    match of {
-        Some(of) if depth(&of) <= 12 => Some(of),
-        _ => None,
-    }
-}
-
-/// A whole expression as a value of a wanted kind.
-fn value(alloc: Global, m: &RModule, kind: Kind, of: &Value) -> Result<Option<RExpr>, Memory>
+/// A whole expression as a value of a wanted base type.
+fn value(alloc: Global, m: &RModule, wanted: TypeId, of: &Value) -> Result<Option<RExpr>, Memory>
     requires { length m.now.variables ≤ 32000 }
-    ensures { IfOk result (λ o. option_map view.expression_of o ≡ spec.value m.now of.now kind) }
+    ensures { IfOk result (λ o. option_map view.expression_of o ≡ spec.value m.now of.now wanted) }
 {
-    Ok(shallow(expression(alloc, m, kind, of)?))
+    Ok(shallow(expression(alloc, m, wanted, of)?))
 }
 
-fn result_of(of: &ROperation) -> Option<Kind>
-    ensures { result ≡ spec.result_of (Some of.now) }
-{
-    match kind_of_sort(of.sort) {
-        None => None,
-        Some(kind) => Some(result_kind(of.operator, kind)),
-    }
-}
-
-/// The kind of the last operation's value.
-fn last_kind(of: &[ROperation]) -> Option<Kind>
-    ensures { result ≡ spec.result_of (slice_get of.now (length of.now - 1)) }
-{
-    match of.last() {
-        None => None,
-        Some(last) => result_of(last),
-    }
-}
-
-/// The kind of what a CASE selects by.
-fn own_kind(of: &Value) -> Option<Kind>
-    ensures { result ≡ spec.own_kind of.now }
-{
-    match of {
-        Value::Whole(value) => {
-            if *value < 0 {
-                Some(Kind::Integer)
-            } else {
-                Some(Kind::Cardinal)
-            }
-        }
-        Value::Scalar(sort, _) => kind_of_sort(*sort),
-        Value::Value(_) => Some(Kind::Cardinal),
-        Value::Function(function, _, _) => {
-            if is_chr(*function) {
-                Some(Kind::Character)
-            } else {
-                None
-            }
-        }
-        Value::One(_, sort, _) => kind_of_sort(*sort),
-        Value::Chain(_, operations) => last_kind(operations.as_slice()),
-        _ => None,
-    }
-}
-
-fn assigned(variable: Option<u16>, value: Option<RExpr>) -> Option<RStmt>
-    ensures { option_map view.statement_of result ≡ spec.assigned variable (option_map view.expression_of value) }
-{
-    match (variable, value) {
-        (Some(variable), Some(value)) => Some(RStmt::Assign(variable, value)),
-        _ => None,
-    }
-}
-
-fn is_write(of: Resident) -> bool
-    ensures { result ≡ spec.is_write of }
-{
-    match of {
-        Resident::Write => true,
-        _ => false,
-    }
-}
-
-/// Whether what is called is Terminal's Write.
-fn writes(of: &RCallee) -> bool
-    ensures { result ≡ spec.writes of.now }
-{
-    match of {
-        RCallee::Resident(of) => is_write(*of),
-        _ => false,
-    }
-}
-
-fn written(of: Option<RExpr>) -> Option<RStmt>
-    ensures { option_map view.statement_of result ≡ spec.written (option_map view.expression_of of) }
-{
-    match of {
-        None => None,
-        Some(of) => Some(RStmt::Write(of)),
-    }
-}
-
-fn called(
+/// An assignment of a value in its own type, or of a constant in that of the variable.
+fn assigned(
     alloc: Global,
     m: &RModule,
-    callee: &RCallee,
-    arguments: &[RArgument],
+    variable: Option<Variable>,
+    of: &Value,
 ) -> Result<Option<RStmt>, Memory>
     requires { length m.now.variables ≤ 32000 }
-    ensures { IfOk result (λ o. option_map view.statement_of o ≡ spec.called m.now callee.now arguments.now) }
+    ensures { IfOk result (λ o. option_map view.statement_of o ≡ spec.assigned m.now variable of.now) }
 {
-    if !writes(callee) {
-        return Ok(None);
+    match variable {
+        None => Ok(None),
+        Some(variable) => {
+            let of = value(alloc, m, own_or(own_sort(m, of), variable.sort), of)?;
+            Ok(stored(variable, of))
+        }
     }
-    let of = sole(alloc, m, Kind::Character, arguments)?;
-    Ok(written(shallow(of)))
 }
 
 #[tactic(auto, using(crate::proofs::Lists::made_if))]
@@ -200,6 +112,17 @@ fn exited(looping: bool) -> Option<RStmt>
     if looping { Some(RStmt::Exit) } else { None }
 }
 
+/// RETURN in the module's body.
+#[tactic(auto, using(lil_resolved::specs::Forms::return_is))]
+fn returned(of: &Option<Value>) -> Option<RStmt>
+    ensures { option_map view.statement_of result ≡ spec.returned of.now }
+{
+    match of {
+        None => Some(RStmt::Return),
+        Some(_) => None,
+    }
+}
+
 /// The step of a FOR: an INTEGER that isn't zero.
 fn step(value: i32) -> Option<i16>
     ensures { result ≡ (if spec.is_step value then Some value else None) }
@@ -211,21 +134,55 @@ fn step(value: i32) -> Option<i16>
     }
 }
 
-fn counted(
-    variable: Option<u16>,
+/// A start that may be stored in the variable.
+fn started(variable: Variable, from: Option<RExpr>) -> Option<RExpr>
+    ensures { option_map view.expression_of result ≡ spec.started variable (option_map view.expression_of from) }
+{
+    match from {
+        Some(from) if takes_value(variable.place.kind, base(&from)) => Some(from),
+        _ => None,
+    }
+}
+
+fn repeated_for(
+    variable: Variable,
     from: Option<RExpr>,
     to: Option<RExpr>,
     by: i32,
     body: Option<Items<RStmt>>,
 ) -> Option<RStmt>
-    ensures { option_map view.statement_of result ≡ spec.counted variable (option_map view.expression_of from) (option_map view.expression_of to) by (option_map view.statements_of body) }
+    ensures { option_map view.statement_of result ≡ spec.repeated_for variable (option_map view.expression_of from) (option_map view.expression_of to) by (option_map view.statements_of body) }
 {
-    match (variable, from, to, body) {
-        (Some(variable), Some(from), Some(to), Some(body)) => match step(by) {
+    match (from, to, body) {
+        (Some(from), Some(to), Some(body)) => match step(by) {
             None => None,
-            Some(by) => Some(RStmt::For(variable, from, to, by, body)),
+            Some(by) => Some(RStmt::For(variable.place, from, to, by, body)),
         },
         _ => None,
+    }
+}
+
+/// A FOR, with a start of its own type and a limit of the variable's.
+fn counted(
+    alloc: Global,
+    m: &RModule,
+    variable: Option<Variable>,
+    from: &Value,
+    to: &Value,
+    by: i32,
+    body: Option<Items<RStmt>>,
+) -> Result<Option<RStmt>, Memory>
+    requires { length m.now.variables ≤ 32000 }
+    ensures { IfOk result (λ o. option_map view.statement_of o ≡ spec.for_by m.now variable from.now to.now by (option_map view.statements_of body)) }
+{
+    match variable {
+        None => Ok(None),
+        Some(variable) => {
+            let from = value(alloc, m, own_or(own_sort(m, from), variable.sort), from)?;
+            let from = started(variable, from);
+            let to = value(alloc, m, variable.sort, to)?;
+            Ok(repeated_for(variable, from, to, by, body))
+        }
     }
 }
 
@@ -237,12 +194,9 @@ fn statement(alloc: Global, m: &RModule, looping: bool, of: &Tree) -> Result<Opt
     ensures { IfOk result (λ o. option_map view.statement_of o ≡ spec.statement m.now of.now looping) }
 {
     match of {
-        Tree::Assign(place, of) => {
-            let of = value(alloc, m, Kind::Cardinal, of)?;
-            Ok(assigned(designator(m, place), of))
-        }
+        Tree::Assign(place, of) => assigned(alloc, m, designator(m, place), of),
         Tree::Call(callee, arguments) => called(alloc, m, callee, arguments.as_slice()),
-        Tree::Procedure(_, _) => Ok(None),
+        Tree::Procedure(of, arguments) => procedure(alloc, m, *of, arguments.as_slice()),
         Tree::If(guards, other) => {
             let guards = all_guards(alloc, m, looping, guards.as_slice())?;
             match other {
@@ -254,11 +208,11 @@ fn statement(alloc: Global, m: &RModule, looping: bool, of: &Tree) -> Result<Opt
             }
         }
         Tree::Case(of, arms, other) => {
-            let Some(kind) = own_kind(of) else {
+            let Some(by) = selector(m, of) else {
                 return Ok(None);
             };
-            let of = value(alloc, m, kind, of)?;
-            let arms = all_arms(alloc, m, looping, kind, arms.as_slice())?;
+            let of = value(alloc, m, by.sort, of)?;
+            let arms = all_arms(alloc, m, looping, by.base, arms.as_slice())?;
             match other {
                 None => Ok(selected(of, arms, Some(None))),
                 Some(other) => {
@@ -268,13 +222,13 @@ fn statement(alloc: Global, m: &RModule, looping: bool, of: &Tree) -> Result<Opt
             }
         }
         Tree::While(of, statements) => {
-            let of = value(alloc, m, Kind::Truth, of)?;
+            let of = value(alloc, m, BOOLEAN, of)?;
             let statements = body(alloc, m, looping, statements.as_slice())?;
             Ok(repeated_while(of, statements))
         }
         Tree::Repeat(statements, of) => {
             let statements = body(alloc, m, looping, statements.as_slice())?;
-            let of = value(alloc, m, Kind::Truth, of)?;
+            let of = value(alloc, m, BOOLEAN, of)?;
             Ok(repeated_until(statements, of))
         }
         Tree::Loop(statements) => {
@@ -282,14 +236,12 @@ fn statement(alloc: Global, m: &RModule, looping: bool, of: &Tree) -> Result<Opt
             Ok(looped(statements))
         }
         Tree::For(variable, from, to, by, statements) => {
-            let from = value(alloc, m, Kind::Cardinal, from)?;
-            let to = value(alloc, m, Kind::Cardinal, to)?;
             let statements = body(alloc, m, looping, statements.as_slice())?;
-            Ok(counted(root(m, *variable), from, to, *by, statements))
+            counted(alloc, m, root(m, *variable), from, to, *by, statements)
         }
         Tree::With(_, _) => Ok(None),
         Tree::Exit => Ok(exited(looping)),
-        Tree::Return(_) => Ok(None),
+        Tree::Return(of) => Ok(returned(of)),
     }
 }
 
@@ -321,7 +273,7 @@ fn guard(alloc: Global, m: &RModule, looping: bool, of: &Guard) -> Result<Option
     requires { length m.now.variables ≤ 32000 }
     ensures { IfOk result (λ o. option_map parts.guard_pair o ≡ spec.guard m.now of.now looping) }
 {
-    let Some(condition) = value(alloc, m, Kind::Truth, &of.condition)? else {
+    let Some(condition) = value(alloc, m, BOOLEAN, &of.condition)? else {
         return Ok(None);
     };
     match body(alloc, m, looping, of.body.as_slice())? {
@@ -357,13 +309,13 @@ fn arm(
     alloc: Global,
     m: &RModule,
     looping: bool,
-    kind: Kind,
+    base: RBase,
     of: &Arm,
 ) -> Result<Option<RArm>, Memory>
     requires { length m.now.variables ≤ 32000 }
-    ensures { IfOk result (λ o. option_map parts.arm_pair o ≡ spec.arm m.now of.now looping kind) }
+    ensures { IfOk result (λ o. option_map parts.arm_pair o ≡ spec.arm m.now of.now looping base) }
 {
-    let Some(labels) = labels(alloc, kind, of.labels.as_slice())? else {
+    let Some(labels) = labels(alloc, base, of.labels.as_slice())? else {
         return Ok(None);
     };
     match body(alloc, m, looping, of.body.as_slice())? {
@@ -377,15 +329,15 @@ fn all_arms(
     alloc: Global,
     m: &RModule,
     looping: bool,
-    kind: Kind,
+    base: RBase,
     of: &[Arm],
 ) -> Result<Option<Items<RArm>>, Memory>
     requires { length m.now.variables ≤ 32000 }
-    ensures { IfOk result (λ o. option_map (map parts.arm_pair) o ≡ spec.all_some (map (λ a. spec.arm m.now a looping kind) of.now)) }
+    ensures { IfOk result (λ o. option_map (map parts.arm_pair) o ≡ spec.all_some (map (λ a. spec.arm m.now a looping base) of.now)) }
 {
     let mut found = Items::new(alloc);
     for one in of {
-        match arm(alloc, m, looping, kind, one)? {
+        match arm(alloc, m, looping, base, one)? {
             None => return Ok(None),
             Some(arm) => found.push(arm)?,
         }

@@ -1,142 +1,62 @@
-ghost use Rattle.std.specs.Prelude.{◌≡◌, ◌≤◌, length, map, slice_get, pos, IfOk, Option, Some, None};
-ghost use Rattle.std.specs.Option.{option_map, option_copied};
+ghost use Rattle.std.specs.Prelude.{◌≡◌, ◌-◌, ◌≤◌, length, map, slice_get, IfOk, Some};
+ghost use Rattle.std.specs.Option.{option_map};
 ghost use Rattle.std.specs.List.{fold};
 ghost use Rattle.lil_resolved.specs.Views.{expression_of};
 ghost use Rattle.lil_lower.specs.Values as spec;
+ghost use Rattle.lil_lower.specs.Bases as bases;
 ghost use Rattle.lil_lower.specs.Built.{built};
 
-use crate::value_kind::{Kind, kind_of_sort, result_kind, sort_of, takes_one, takes_two};
+use crate::bases::base_at;
+use crate::constants::{named, scalar, text, whole};
+use crate::functions::{applied, form_of, value_sort};
+use crate::operators::{result_sort, takes_one, takes_two};
+use crate::variables::{designator, sort_of, taken};
 use lil_base::{Boxed, Items, Memory, OneOp, TwoOp};
-use lil_module::{
-    RArgument, RDesignator, RExpr as Tree, RModule, ROperation as Operation, RRoot, RVar, Standard,
-};
-use lil_resolved::{RExpr, ROperation, depth};
-use lil_types::{BOOLEAN, CARDINAL, CHAR, TypeId};
+use lil_module::{RArgument, RExpr as Tree, RModule, ROperation as Operation, Standard};
+use lil_resolved::{RExpr, ROperation};
+use lil_types::{TypeId, TypeTable, base};
 use std::alloc::Global;
 
-/// The value of a chain so far, and its kind.
+/// The value of a chain so far, and its base type.
 #[derive(Drop)]
 pub(crate) struct Built {
     pub(crate) first: RExpr,
     pub(crate) operations: Items<ROperation>,
-    pub(crate) kind: Kind,
+    pub(crate) sort: TypeId,
 }
 
-#[tactic(auto, using(lil_resolved::specs::Forms::number_is, lil_resolved::specs::Forms::integer_is))]
-fn whole(value: i32, kind: Kind) -> Option<RExpr>
-    ensures { option_map expression_of result ≡ spec.whole value kind }
+fn takes_one_at(t: &TypeTable, operator: OneOp, sort: TypeId) -> bool
+    ensures { result ≡ spec.takes_one_at operator (bases.base_at t.now sort) }
 {
-    match kind {
-        Kind::Cardinal => {
-            if !(value < 0) && !(65535 < value) {
-                Some(RExpr::Number(value as u16))
-            } else {
-                None
-            }
-        }
-        Kind::Integer => {
-            if !(value < -32768) && !(32767 < value) {
-                Some(RExpr::Integer(value as i16))
-            } else {
-                None
-            }
-        }
-        Kind::Truth => None,
-        Kind::Character => None,
+    match base_at(t, sort) {
+        None => false,
+        Some(base) => takes_one(operator, base),
     }
 }
 
-/// A BOOLEAN or a CHAR by its word.
-#[tactic(auto, using(lil_resolved::specs::Forms::truth_is, lil_resolved::specs::Forms::character_is))]
-fn scalar(sort: TypeId, word: u16, kind: Kind) -> Option<RExpr>
-    ensures { option_map expression_of result ≡ spec.scalar sort word kind }
+fn takes_two_at(t: &TypeTable, operator: TwoOp, sort: TypeId) -> bool
+    ensures { result ≡ spec.takes_two_at operator (bases.base_at t.now sort) }
 {
-    match kind {
-        Kind::Truth if sort == BOOLEAN => Some(RExpr::Truth(word != 0)),
-        Kind::Character if sort == CHAR && word <= 255 => Some(RExpr::Character(word as u8)),
-        _ => None,
+    match base_at(t, sort) {
+        None => false,
+        Some(base) => takes_two(operator, base),
     }
 }
 
-/// A text of one character.
-#[tactic(auto, using(lil_resolved::specs::Forms::character_is))]
-fn text(of: &[u8], kind: Kind) -> Option<RExpr>
-    ensures { option_map expression_of result ≡ spec.text of.now kind }
-{
-    match (of, kind) {
-        ([byte], Kind::Character) => Some(RExpr::Character(*byte)),
-        _ => None,
-    }
-}
-
-fn named(m: &RModule, number: usize, kind: Kind) -> Option<RExpr>
-    ensures { option_map expression_of result ≡ spec.named (slice_get m.now.texts number) kind }
-{
-    match m.texts.get(number) {
-        Some(of) => text(of.as_slice(), kind),
-        None => None,
-    }
-}
-
-/// The number of a CARDINAL variable of the module.
-pub(crate) fn root(m: &RModule, of: RRoot) -> Option<u16>
-    requires { length m.now.variables ≤ 32000 }
-    ensures { result ≡ spec.root m.now of }
-{
-    match of {
-        RRoot::Global(number) => match m.variables.get(number) {
-            Some(variable) if variable.sort == CARDINAL => Some(number as u16),
-            _ => None,
-        },
-        _ => None,
-    }
-}
-
-#[tactic(auto, using(crate::proofs::ValueForms::designator_is))]
-pub(crate) fn designator(m: &RModule, of: &RDesignator) -> Option<u16>
-    requires { length m.now.variables ≤ 32000 }
-    ensures { result ≡ spec.designator m.now of.now }
-{
-    if of.selectors.is_empty() {
-        root(m, of.root)
-    } else {
-        None
-    }
-}
-
-#[tactic(auto, using(lil_resolved::specs::Forms::variable_is))]
-fn variable(of: Option<u16>, kind: Kind) -> Option<RExpr>
-    ensures { option_map expression_of result ≡ spec.variable of kind }
-{
-    match (of, kind) {
-        (Some(number), Kind::Cardinal) => Some(RExpr::Variable(number)),
-        _ => None,
-    }
-}
-
-#[tactic(auto, using(lil_resolved::specs::Forms::chr_is))]
-fn chr(alloc: Global, of: Option<RExpr>, kind: Kind) -> Result<Option<RExpr>, Memory>
-    ensures { IfOk result (λ o. option_map expression_of o ≡ spec.chr (option_map expression_of of) kind) }
-{
-    match (of, kind) {
-        (Some(of), Kind::Character) => Ok(Some(RExpr::Chr(Boxed::new(alloc, of)?))),
-        _ => Ok(None),
-    }
-}
-
-/// An operator on a value of the wanted kind.
+/// An operator on a value of the wanted type.
 #[tactic(auto, using(lil_resolved::specs::Forms::one_is))]
 fn one(
     alloc: Global,
+    t: &TypeTable,
     operator: OneOp,
     sort: TypeId,
-    kind: Kind,
+    wanted: TypeId,
     of: Option<RExpr>,
 ) -> Result<Option<RExpr>, Memory>
-    ensures { IfOk result (λ o. option_map expression_of o ≡ spec.one operator sort kind (option_map expression_of of)) }
+    ensures { IfOk result (λ o. option_map expression_of o ≡ spec.one t.now operator sort wanted (option_map expression_of of)) }
 {
     match of {
-        Some(of) if sort == sort_of(kind) && takes_one(operator, kind) => {
+        Some(of) if sort == wanted && takes_one_at(t, operator, wanted) => {
             Ok(Some(RExpr::One(operator, Boxed::new(alloc, of)?)))
         }
         _ => Ok(None),
@@ -151,47 +71,47 @@ fn with_right(operator: TwoOp, before: Built, of: Option<RExpr>) -> Result<Optio
     match of {
         None => Ok(None),
         Some(operand) => {
-            let kind = result_kind(operator, before.kind);
+            let sort = result_sort(operator, before.sort);
             let first = before.first;
             let mut operations = before.operations;
             operations.push(ROperation { operator, operand })?;
             Ok(Some(Built {
                 first,
                 operations,
-                kind,
+                sort,
             }))
         }
     }
 }
 
-fn first_kind(of: &[Operation]) -> Option<Kind>
-    ensures { (m : _) → result ≡ spec.first_kind (map (spec.operation m) of.now) }
+fn first_sort(of: &[Operation]) -> Option<TypeId>
+    ensures { (m : _) → result ≡ spec.first_sort (map (spec.operation m) of.now) }
 {
     match of {
         [] => None,
-        [first, ..] => kind_of_sort(first.sort),
+        [first, ..] => Some(first.sort),
     }
 }
 
-fn begun(alloc: Global, kind: Kind, of: Option<RExpr>) -> Option<Built>
-    ensures { option_map built result ≡ spec.begun kind (option_map expression_of of) }
+fn begun(alloc: Global, sort: TypeId, of: Option<RExpr>) -> Option<Built>
+    ensures { option_map built result ≡ spec.begun sort (option_map expression_of of) }
 {
     match of {
         None => None,
         Some(first) => Some(Built {
             first,
             operations: Items::new(alloc),
-            kind,
+            sort,
         }),
     }
 }
 
 #[tactic(auto, using(lil_resolved::specs::Forms::chain_is))]
-fn wanted(alloc: Global, kind: Kind, of: Option<Built>) -> Result<Option<RExpr>, Memory>
-    ensures { IfOk result (λ o. option_map expression_of o ≡ spec.wanted kind (option_map built of)) }
+fn wanted_chain(alloc: Global, sort: TypeId, of: Option<Built>) -> Result<Option<RExpr>, Memory>
+    ensures { IfOk result (λ o. option_map expression_of o ≡ spec.wanted sort (option_map built of)) }
 {
     match of {
-        Some(of) if sort_of(of.kind) == sort_of(kind) => {
+        Some(of) if of.sort == sort => {
             let first = Boxed::new(alloc, of.first)?;
             Ok(Some(RExpr::Chain(first, of.operations)))
         }
@@ -199,96 +119,169 @@ fn wanted(alloc: Global, kind: Kind, of: Option<Built>) -> Result<Option<RExpr>,
     }
 }
 
-pub(crate) fn is_chr(function: Standard) -> bool
-    ensures { result ≡ spec.is_chr function }
+/// The type of the last operation's value.
+fn last_sort(of: &[Operation]) -> Option<TypeId>
+    ensures { (m : _) → result ≡ spec.last_sort (map (spec.operation m) of.now) }
 {
-    match function {
-        Standard::Chr => true,
-        _ => false,
+    match of.last() {
+        None => None,
+        Some(last) => Some(result_sort(last.operator, last.sort)),
     }
 }
 
-/// An expression as a value of a wanted kind.
+/// The base type of an expression's own value, None for a whole constant or a text.
+#[tactic(auto, using(crate::proofs::ValueForms::owns))]
+pub(crate) fn own_sort(m: &RModule, of: &Tree) -> Option<TypeId>
+    requires { length m.now.variables ≤ 32000 }
+    ensures { result ≡ (spec.expression m.now of.now).own }
+{
+    match of {
+        Tree::Whole(_) => None,
+        Tree::Scalar(sort, _) => Some(base(&m.types, *sort)),
+        Tree::Chars(_) => None,
+        Tree::Named(_) => None,
+        Tree::Nil => None,
+        Tree::SetOf(_, _) => None,
+        Tree::Value(of) => sort_of(designator(m, of)),
+        Tree::Procedure(_) => None,
+        Tree::Call(_, _) => None,
+        Tree::Function(_, sort, _) => Some(base(&m.types, *sort)),
+        Tree::One(_, sort, _) => Some(*sort),
+        Tree::Chain(_, operations) => last_sort(operations.as_slice()),
+    }
+}
+
+/// The base type of an argument's own value.
+#[tactic(auto, using(crate::proofs::ValueForms::owns))]
+pub(crate) fn argument_sort(m: &RModule, of: &RArgument) -> Option<TypeId>
+    requires { length m.now.variables ≤ 32000 }
+    ensures { result ≡ (spec.argument m.now of.now).own }
+{
+    match of {
+        RArgument::Value(of) => own_sort(m, of),
+        RArgument::Place(_) => None,
+        RArgument::Type(_) => None,
+    }
+}
+
+/// An expression as a value of a wanted base type.
 #[cycle(value)]
 #[tactic(auto, using(crate::proofs::ValueForms::forms))]
 pub(crate) fn expression(
     alloc: Global,
     m: &RModule,
-    kind: Kind,
+    wanted: TypeId,
     of: &Tree,
 ) -> Result<Option<RExpr>, Memory>
     requires { length m.now.variables ≤ 32000 }
-    ensures { IfOk result (λ o. option_map expression_of o ≡ spec.expression m.now of.now kind) }
+    ensures { IfOk result (λ o. option_map expression_of o ≡ (spec.expression m.now of.now).lowers wanted) }
 {
     match of {
-        Tree::Whole(value) => Ok(whole(*value, kind)),
-        Tree::Scalar(sort, word) => Ok(scalar(*sort, *word, kind)),
-        Tree::Chars(of) => Ok(text(of.as_slice(), kind)),
-        Tree::Named(number) => Ok(named(m, *number, kind)),
+        Tree::Whole(number) => Ok(whole(&m.types, *number, wanted)),
+        Tree::Scalar(sort, word) => Ok(scalar(&m.types, *sort, *word, wanted)),
+        Tree::Chars(of) => Ok(text(of.as_slice(), wanted)),
+        Tree::Named(number) => Ok(named(m, *number, wanted)),
         Tree::Nil => Ok(None),
         Tree::SetOf(_, _) => Ok(None),
-        Tree::Value(of) => Ok(variable(designator(m, of), kind)),
+        Tree::Value(of) => Ok(taken(designator(m, of), wanted)),
         Tree::Procedure(_) => Ok(None),
         Tree::Call(_, _) => Ok(None),
-        Tree::Function(of, _, arguments) => {
-            if !is_chr(*of) {
-                return Ok(None);
-            }
-            let of = sole(alloc, m, Kind::Cardinal, arguments.as_slice())?;
-            chr(alloc, of, kind)
+        Tree::Function(of, sort, arguments) => {
+            function(alloc, m, *of, *sort, wanted, arguments.as_slice())
         }
         Tree::One(operator, sort, of) => {
-            let of = expression(alloc, m, kind, of.get())?;
-            one(alloc, *operator, *sort, kind, of)
+            let of = expression(alloc, m, wanted, of.get())?;
+            one(alloc, &m.types, *operator, *sort, wanted, of)
         }
         Tree::Chain(first, operations) => {
-            let begin = begin(alloc, m, first_kind(operations.as_slice()), first.get())?;
+            let begin = begin(alloc, m, first_sort(operations.as_slice()), first.get())?;
             let all = operated(alloc, m, begin, operations.as_slice())?;
-            wanted(alloc, kind, all)
+            wanted_chain(alloc, wanted, all)
         }
     }
 }
 
-/// The only argument as a value.
+/// A standard function of the argument whose value counts: the second of VAL, or the only one.
 #[cycle(value)]
-pub(crate) fn sole(
+fn function(
     alloc: Global,
     m: &RModule,
-    kind: Kind,
-    of: &[RArgument],
+    of: Standard,
+    sort: TypeId,
+    wanted: TypeId,
+    arguments: &[RArgument],
 ) -> Result<Option<RExpr>, Memory>
     requires { length m.now.variables ≤ 32000 }
-    ensures { IfOk result (λ o. option_map expression_of o ≡ spec.sole (map (spec.argument m.now) of.now) kind) }
+    ensures { IfOk result (λ o. option_map expression_of o ≡ spec.function m.now.types of sort (map (spec.argument m.now) arguments.now) wanted) }
 {
     match of {
-        [only] => argument(alloc, m, kind, only),
+        Standard::Val => match arguments {
+            [_, operand] => function_of(alloc, m, of, sort, wanted, operand),
+            _ => Ok(None),
+        },
+        _ => match arguments {
+            [operand] => function_of(alloc, m, of, sort, wanted, operand),
+            _ => Ok(None),
+        },
+    }
+}
+
+#[cycle(value)]
+fn function_of(
+    alloc: Global,
+    m: &RModule,
+    of: Standard,
+    sort: TypeId,
+    wanted: TypeId,
+    operand: &RArgument,
+) -> Result<Option<RExpr>, Memory>
+    requires { length m.now.variables ≤ 32000 }
+    ensures { IfOk result (λ o. option_map expression_of o ≡ spec.function_by m.now.types of sort wanted (Some (spec.argument m.now operand.now))) }
+{
+    let t = &m.types;
+    match argument_sort(m, operand) {
+        Some(own) if value_sort(t, of, sort, own) == wanted => {
+            let operand = argument(alloc, m, own, operand)?;
+            applied(alloc, form_of(t, of, sort), operand)
+        }
         _ => Ok(None),
     }
 }
 
+/// An argument as a value of a wanted base type.
 #[cycle(value)]
 #[tactic(auto, using(crate::proofs::ValueForms::forms))]
-fn argument(alloc: Global, m: &RModule, kind: Kind, of: &RArgument) -> Result<Option<RExpr>, Memory>
+pub(crate) fn argument(
+    alloc: Global,
+    m: &RModule,
+    wanted: TypeId,
+    of: &RArgument,
+) -> Result<Option<RExpr>, Memory>
     requires { length m.now.variables ≤ 32000 }
-    ensures { IfOk result (λ o. option_map expression_of o ≡ spec.argument m.now of.now kind) }
+    ensures { IfOk result (λ o. option_map expression_of o ≡ (spec.argument m.now of.now).lowers wanted) }
 {
     match of {
-        RArgument::Value(of) => expression(alloc, m, kind, of),
+        RArgument::Value(of) => expression(alloc, m, wanted, of),
         RArgument::Place(_) => Ok(None),
         RArgument::Type(_) => Ok(None),
     }
 }
 
 #[cycle(value)]
-fn begin(alloc: Global, m: &RModule, kind: Option<Kind>, of: &Tree) -> Result<Option<Built>, Memory>
+fn begin(
+    alloc: Global,
+    m: &RModule,
+    sort: Option<TypeId>,
+    of: &Tree,
+) -> Result<Option<Built>, Memory>
     requires { length m.now.variables ≤ 32000 }
-    ensures { IfOk result (λ o. option_map built o ≡ spec.begin kind (spec.expression m.now of.now)) }
+    ensures { IfOk result (λ o. option_map built o ≡ spec.begin sort (spec.expression m.now of.now).lowers) }
 {
-    match kind {
+    match sort {
         None => Ok(None),
-        Some(kind) => {
-            let of = expression(alloc, m, kind, of)?;
-            Ok(begun(alloc, kind, of))
+        Some(sort) => {
+            let of = expression(alloc, m, sort, of)?;
+            Ok(begun(alloc, sort, of))
         }
     }
 }
@@ -302,7 +295,7 @@ fn operated(
     operations: &[Operation],
 ) -> Result<Option<Built>, Memory>
     requires { length m.now.variables ≤ 32000 }
-    ensures { IfOk result (λ o. option_map built o ≡ fold spec.operate (option_map built begin) (map (spec.operation m.now) operations.now)) }
+    ensures { IfOk result (λ o. option_map built o ≡ fold (spec.operate m.now.types) (option_map built begin) (map (spec.operation m.now) operations.now)) }
 {
     let mut so_far = begin;
     for one in operations {
@@ -320,11 +313,12 @@ fn operate(
     of: &Operation,
 ) -> Result<Option<Built>, Memory>
     requires { length m.now.variables ≤ 32000 }
-    ensures { IfOk result (λ o. option_map built o ≡ spec.operate (option_map built before) (spec.operation m.now of.now)) }
+    ensures { IfOk result (λ o. option_map built o ≡ spec.operate m.now.types (option_map built before) (spec.operation m.now of.now)) }
 {
     match before {
-        Some(before) if of.sort == sort_of(before.kind) && takes_two(of.operator, before.kind) => {
-            let right = expression(alloc, m, before.kind, &of.operand)?;
+        Some(before)
+            if of.sort == before.sort && takes_two_at(&m.types, of.operator, before.sort) => {
+            let right = expression(alloc, m, before.sort, &of.operand)?;
             with_right(of.operator, before, right)
         }
         _ => Ok(None),

@@ -1,18 +1,15 @@
 -- The words of values say their numbers, and results lie in their type.
 use Rattle.std.proofs.Common.{◌≡◌, ◌==◌, Bool, true, false, cond, not, ◌&&◌, ◌||◌, Result, Ok, Err, refl, sym, ap, ◌∙◌, ◌⊎◌, inl, inr, arith}
-use Rattle.std.specs.Prelude.{ℤ, pos, negsuc, int_lt, nat_le}
+use Rattle.std.specs.Prelude.{ℤ, pos, int_lt, nat_abs}
 use Rattle.std.proofs.lemmas.Bool.{cases_Bool, eqb-true, eq-eqb, false_from_ne_true, true≢false}
-use Rattle.std.proofs.lemmas.Bool.Decides.{nat_tests}
 use Rattle.std.proofs.lemmas.Int.{ints}
-use Rattle.lil_base.specs.Words.{Whole, in_type, between, is_zero, kept, sum, difference, product, quotient, remainder, negation, number_of, word_of}
+use Rattle.lil_base.specs.Words.{Whole, in_type, is_zero, kept, sum, difference, product, quotient, remainder, negation, absolute, number_of, word_of}
 use Rattle.lil_base.specs.declared.fault.ArithFault.{ArithFault}
 use Rattle.lil_base.specs.declared.fault.ArithFault.TheVariants.{DivZero}
 use Rattle.lil_base.specs.Laws.{number_of-word, kept_ok}
-use Rattle.lil_resolved.specs.Kinds.{Kind, OfWhole, OfTruth, OfCharacter, OfEnumeration}
+use Rattle.lil_resolved.specs.Kinds.{Kind, OfWhole, OfTruth, OfCharacter, OfEnumeration, is_base, compared_as}
 use Rattle.lil_resolved.specs.Scalars.{Scalar, Number, Truth, Character, within, scalar_word, ordinal_of}
-use Rattle.lil_resolved.specs.Sound.{is_base}
 use Rattle.lil_meaning.specs.Steps.{whole_of, is_same, is_other}
-use Rattle.lil_table.specs.Rows.{compared_as}
 
 -- a value's word is its number's
 pub word_is : (v : Scalar) → scalar_word v ≡ word_of (ordinal_of v)
@@ -95,7 +92,5 @@ remainder_fits t x y z e = divided_fits t (is_zero y) _ z e
 pub negation_fits : (t : Whole) (x z : ℤ) → negation t x ≡ Ok z → in_type t z ≡ true
 negation_fits t x z e = kept_fits t _ z e
 
--- a number that CHR takes is a character's
-pub chr_fits : (z : ℤ) → between (pos 0) z (pos 255) ≡ true → nat_le (word_of z) 255 ≡ true
-chr_fits (pos n) h = grind (arith, nat_tests)
-chr_fits (negsuc n) h = cc
+pub absolute_fits : (t : Whole) (x z : ℤ) → absolute t x ≡ Ok z → in_type t z ≡ true
+absolute_fits t x z e = kept_fits t (pos (nat_abs x)) z e

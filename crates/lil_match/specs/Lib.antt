@@ -3,7 +3,9 @@ pub mod Closing
 pub mod Goes
 pub mod Homes
 pub mod Orders
+pub mod Ranges
 pub mod Running
 pub mod Steps
 pub mod Stutter
+pub mod Tests
 pub mod Waits

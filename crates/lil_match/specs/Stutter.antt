@@ -1,7 +1,7 @@
 -- How long items can stutter: a count that falls at each step of the source that takes no step of the machine.
 use Rattle.std.proofs.Common.{ℕ, ◌+◌, List, [], ◌∷◌}
-use Rattle.lil_resolved.specs.Resolved.{Expression, Constant, Taken, One, Two, Short, Apply, Argument, Statement, Assign, Request, If, Case, While, Repeat, Loop, Exit, For, Statements, Empty, Then}
-use Rattle.lil_meaning.specs.Items.{Hole, Get, SetTo, StoreAt, OneOf, LeftOf, RightOf, ShortOf, ApplyTo, Pass, Choose, Turn, Again, Pick, StartOf, LimitOf, Task, Do, Passing, Until, Looping, Turns, End, Item, Value, Evaluate, PlaceOf, Fill, Perform}
+use Rattle.lil_resolved.specs.Resolved.{Expression, Constant, Taken, One, Two, Short, Apply, Argument, Statement, Assign, Change, Request, If, Case, While, Repeat, Loop, Exit, Halt, Return, For, Statements, Empty, Then}
+use Rattle.lil_meaning.specs.Items.{Hole, Get, SetTo, StoreAt, ChangeBy, ChangeAt, OneOf, LeftOf, RightOf, ShortOf, ApplyTo, Pass, Choose, Turn, Again, Pick, StartOf, LimitOf, Task, Do, Passing, Until, Looping, Turns, End, Item, Value, Evaluate, PlaceOf, Fill, Perform}
 
 abbrev pub value_stutter : Expression → ℕ
 value_stutter (Constant k v) = 1
@@ -9,7 +9,7 @@ value_stutter (Taken d) = 3
 value_stutter (One o k a) = 2 + value_stutter a
 value_stutter (Two o k a b) = 1 + value_stutter a + value_stutter b
 value_stutter (Short d a b) = 1 + value_stutter a + value_stutter b
-value_stutter (Apply f a) = 1 + value_stutter a
+value_stutter (Apply f a) = 2 + value_stutter a
 
 abbrev pub passing_stutter : List Argument → ℕ
 passing_stutter [] = 0
@@ -18,6 +18,7 @@ passing_stutter (a ∷ given) = 1 + value_stutter a.value + passing_stutter give
 abbrev mutual
   pub statement_stutter : Statement → ℕ
   statement_stutter (Assign d e) = 3 + value_stutter e
+  statement_stutter (Change down d e) = 3 + value_stutter e
   statement_stutter (Request r given) = 1 + passing_stutter given
   statement_stutter (If c a b) = 1 + value_stutter c
   statement_stutter (Case e arms) = 1 + value_stutter e
@@ -25,6 +26,8 @@ abbrev mutual
   statement_stutter (Repeat body c) = 2 + body_stutter body + value_stutter c
   statement_stutter (Loop body) = 1 + body_stutter body
   statement_stutter Exit = 1
+  statement_stutter Halt = 1
+  statement_stutter Return = 2
   statement_stutter (For d a b step body) = 1 + value_stutter a + value_stutter b
 
   pub body_stutter : Statements → ℕ
@@ -35,11 +38,13 @@ abbrev pub hole_stutter : Hole → ℕ
 hole_stutter Get = 0
 hole_stutter (SetTo k e) = value_stutter e
 hole_stutter (StoreAt place k) = 0
+hole_stutter (ChangeBy down k e) = value_stutter e
+hole_stutter (ChangeAt down place k) = 0
 hole_stutter (OneOf o k) = 1
 hole_stutter (LeftOf o k f) = value_stutter f
 hole_stutter (RightOf o k u) = 0
 hole_stutter (ShortOf d f) = value_stutter f
-hole_stutter (ApplyTo f) = 0
+hole_stutter (ApplyTo f) = 1
 hole_stutter (Pass r k done left) = passing_stutter left
 hole_stutter (Choose a b) = 0
 hole_stutter (Turn c body) = 0

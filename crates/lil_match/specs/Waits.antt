@@ -1,22 +1,22 @@
 -- What items need from the code: where they stand, and where the items behind them go on. This speaks of homes and of the expression
 -- stack, and never of the store or of the cells.
 use Rattle.std.proofs.Common.{◌≡◌, ℕ, zero, suc, ◌+◌, ◌%◌, ◌<◌, ◌≤◌, ◌⊎◌, true, Some, None, List, [], ◌∷◌, length, map, reverse, Bool}
-use Rattle.std.specs.Prelude.{ℤ, ◌+ℤ◌, Option, slice_get}
-use Rattle.lil_base.specs.Words.{Whole, Cardinal, in_type, word_of}
+use Rattle.std.specs.Prelude.{ℤ, ◌+ℤ◌, Option}
+use Rattle.lil_base.specs.Words.{between, word_of}
 use Rattle.lil_base.specs.declared.operator.OneOp.{OneOp}
 use Rattle.lil_base.specs.declared.operator.TwoOp.{TwoOp}
-use Rattle.lil_resolved.specs.Kinds.{Kind, OfWhole, OfTruth, OfCharacter, base_of}
+use Rattle.lil_resolved.specs.Kinds.{Kind, OfWhole, OfTruth, base_of, is_base, takes_value, least, greatest}
 use Rattle.lil_resolved.specs.Scalars.{Scalar, within, scalar_word}
-use Rattle.lil_resolved.specs.Resolved.{Designator, Variable, Chr, Expression, Argument, Statement, If, Case, While, Repeat, Loop, Statements, Arms, Resolved, kind_of, is_relation, result_kind}
-use Rattle.lil_resolved.specs.Depth.{depth}
-use Rattle.lil_resolved.specs.Sound.{takes_one, takes_two}
+use Rattle.lil_resolved.specs.Resolved.{Designator, Variable, Function, Expression, Argument, Statement, If, Case, While, Repeat, Loop, Statements, Arms, Resolved, kind_of, is_relation, result_kind, function_kind, counted_as}
+use Rattle.lil_resolved.specs.Depth.{depth, function_depth}
+use Rattle.lil_resolved.specs.Sound.{takes_one, takes_two, takes_function}
 use Rattle.lil_meaning.specs.Cells.{Place}
-use Rattle.lil_meaning.specs.Items.{Scalars, Places, Get, SetTo, StoreAt, OneOf, LeftOf, RightOf, ShortOf, ApplyTo, Pass, Choose, Turn, Again, Pick, StartOf, LimitOf, Do, Passing, Until, Looping, Turns, End, Item, Value, Evaluate, PlaceOf, Fill, Perform}
+use Rattle.lil_meaning.specs.Items.{Scalars, Places, Get, SetTo, StoreAt, ChangeBy, ChangeAt, OneOf, LeftOf, RightOf, ShortOf, ApplyTo, Pass, Choose, Turn, Again, Pick, StartOf, LimitOf, Do, Passing, Until, Looping, Turns, End, Item, Value, Evaluate, PlaceOf, Fill, Perform}
 use Rattle.lil_meaning.specs.Steps.{turns}
-use Rattle.lil_asm.specs.declared.instr.Instr.TheVariants.{Lgw, Sgw, Rgc, Rtn, Jmp, Svc}
+use Rattle.lil_asm.specs.declared.instr.Instr.TheVariants.{Lgw, Sgw, Rtn, Jmp, Svc}
 use Rattle.lil_mcode.specs.State.{Module}
 use Rattle.lil_asm.specs.Requests.{request_words}
-use Rattle.lil_table.specs.Rows.{Layout, IsAt, InstrsAt, one_code, two_code, ExpressionAt, WholeRow, ArgumentsAt, StatementAt, BodyAt, TurnsRow, RoundRow, short_code}
+use Rattle.lil_table.specs.Rows.{Layout, IsAt, InstrsAt, one_code, two_code, test_code, function_code, change_code, KnownRow, ExpressionAt, WholeRow, ValueRow, ArgumentsAt, StatementAt, BodyAt, TurnsRow, RoundRow, short_code}
 use Rattle.lil_match.specs.Homes.{word_for, Home, Word}
 
 -- What comes from the items before: nothing, a value of a kind, or the place of a variable of the module at hand, which needs no word.
@@ -49,10 +49,10 @@ abbrev pub Jumps : List ℕ → ℕ → ℕ → ℕ → Type 0
 Jumps code zero p q = p ≡ q
 Jumps code (suc j) p q = (to : ℕ) × (gap : ℕ) × IsAt code p (Jmp to) gap × (to < length code) × Jumps code j to q
 
--- each of so many turns has a number of the type, from x on
-abbrev pub TurnsFit : Whole → ℤ → ℤ → ℕ → Type 0
-TurnsFit t x step zero = Unit {0}
-TurnsFit t x step (suc left) = (in_type t x ≡ true) × TurnsFit t (x +ℤ step) step left
+-- each of so many turns has a number of the kind, from x on
+abbrev pub TurnsFit : Kind → ℤ → ℤ → ℕ → Type 0
+TurnsFit k x step zero = Unit {0}
+TurnsFit k x step (suc left) = (between (least k) x (greatest k) ≡ true) × TurnsFit k (x +ℤ step) step left
 
 -- Where the items behind go on: with what, and from which place and expression stack.
 pub record Onward : Type 0 where
@@ -106,11 +106,6 @@ module _ (ctx : Setting) where
     pub here : StatementAt l own.code (length a.fors) a.exit s p end
     pub within : end < length own.code
 
-  pub record PlacePart (x : ℕ) (k : Kind) : Type 0 where
-    pub offset : ℕ
-    pub known : slice_get l.offsets x ≡ Some offset
-    pub typed : slice_get l.kinds x ≡ Some k
-
   pub record EvaluatePart (e : Expression) (p : ℕ) (stack : List ℕ) : Type 0 where
     pub end : ℕ
     pub here : ExpressionAt l own.code e p end
@@ -159,10 +154,11 @@ module _ (ctx : Setting) where
     pub shallow : length stack + depth f ≤ 16
     pub within : end < length own.code
 
-  pub record ChrPart (j : Kind) (p : ℕ) : Type 0 where
-    pub same : j ≡ OfWhole Cardinal
+  pub record ApplyPart (j : Kind) (f : Function) (p : ℕ) (stack : List ℕ) : Type 0 where
+    pub takes : takes_function f j ≡ true
+    pub shallow : length stack + function_depth f ≤ 16
     pub end : ℕ
-    pub test : IsAt own.code p (Rgc 0 255) end
+    pub by : InstrsAt own.code (function_code f j) p end
 
   pub record GetPart (offset p : ℕ) (stack : List ℕ) : Type 0 where
     pub end : ℕ
@@ -174,8 +170,19 @@ module _ (ctx : Setting) where
     pub empty : stack ≡ []
     pub middle : ℕ
     pub end : ℕ
-    pub value : WholeRow l own.code 0 e k p middle
+    pub value : ValueRow l own.code 0 e k p middle
     pub store : IsAt own.code middle (Sgw offset) end
+    pub within : end < length own.code
+
+  -- the number that INC or DEC takes is to come
+  pub record ChangeByPart (offset : ℕ) (j : Kind) (down : Bool) (k : Kind) (e : Expression) (p : ℕ) (stack : List ℕ) : Type 0 where
+    pub same : j ≡ k
+    pub empty : stack ≡ []
+    pub base : is_base (base_of k) ≡ true
+    pub middle : ℕ
+    pub end : ℕ
+    pub value : WholeRow l own.code 0 e (OfWhole (counted_as k)) p middle
+    pub by : InstrsAt own.code (change_code down k offset) middle end
     pub within : end < length own.code
 
   -- what follows the last argument of a request
@@ -186,10 +193,12 @@ module _ (ctx : Setting) where
     pub within : end < length own.code
 
   pub record PassPart (j : Kind) (r : ℕ) (k : Kind) (done : List Scalar) (left : List Argument) (p : ℕ) (stack : List ℕ) : Type 0 where
-    pub same : j ≡ k
+    pub takes : takes_value k j ≡ true
     pub is : stack ≡ words_on done
+    pub tested : ℕ
+    pub test : InstrsAt own.code (test_code k j) p tested
     pub middle : ℕ
-    pub given : ArgumentsAt l own.code (suc (length done)) left p middle
+    pub given : ArgumentsAt l own.code (suc (length done)) left tested middle
     pub serve : ServePart r (suc (length done) + length left) middle
 
   pub record PassingPart (r : ℕ) (done : List Scalar) (left : List Argument) (p : ℕ) (stack : List ℕ) : Type 0 where
@@ -248,38 +257,36 @@ module _ (ctx : Setting) where
 
   -- the start of a FOR is there, and then its limit
   pub record StartPart (j : Kind) (x : ℕ) (k : Kind) (b : Expression) (step : ℤ) (body : Statements) (p : ℕ) (stack : List ℕ) (a : Around) : Type 0 where
-    pub type : Whole
-    pub is : k ≡ OfWhole type
-    pub same : j ≡ k
+    pub takes : takes_value k j ≡ true
     pub empty : stack ≡ []
     pub last : ℕ
     pub end : ℕ
-    pub limit : WholeRow l own.code 1 b k p last
-    pub turns : TurnsRow l own.code (length a.fors) x type step (BodyAt l own.code (suc (length a.fors)) a.exit body) last end
+    pub limit : WholeRow l own.code 1 b (base_of k) p last
+    pub turns : TurnsRow l own.code (length a.fors) x k j step (BodyAt l own.code (suc (length a.fors)) a.exit body) last end
     pub within : end < length own.code
 
   pub record LimitPart (j : Kind) (x : ℕ) (k : Kind) (v : Scalar) (step : ℤ) (body : Statements) (p : ℕ) (stack : List ℕ) (a : Around) : Type 0 where
-    pub type : Whole
-    pub is : k ≡ OfWhole type
-    pub same : j ≡ k
-    pub fits : within k v ≡ true
+    pub same : j ≡ base_of k
+    pub from : Kind
+    pub takes : takes_value k from ≡ true
+    pub fits : within from v ≡ true
     pub stack_is : stack ≡ word_for h v ∷ []
     pub end : ℕ
-    pub turns : TurnsRow l own.code (length a.fors) x type step (BodyAt l own.code (suc (length a.fors)) a.exit body) p end
+    pub turns : TurnsRow l own.code (length a.fors) x k from step (BodyAt l own.code (suc (length a.fors)) a.exit body) p end
     pub within : end < length own.code
 
   -- the turns of a FOR are to begin: its bounds stand on the expression stack
   pub record BeginWaits (x : ℕ) (k : Kind) (first step : ℤ) (left : ℕ) (body : Statements) (rest : Reach) (t : Mode) (p : ℕ) (stack : List ℕ) (c : ℕ) (a : Around) : Type 0 where
     pub quiet : t ≡ Quiet
-    pub type : Whole
-    pub is : k ≡ OfWhole type
+    pub from : Kind
+    pub takes : takes_value k from ≡ true
     pub limit : ℤ
-    pub fits : in_type type first ≡ true
-    pub limit_fits : in_type type limit ≡ true
+    pub fits : between (least from) first (greatest from) ≡ true
+    pub limit_fits : between (least (base_of k)) limit (greatest (base_of k)) ≡ true
     pub stack_is : stack ≡ word_of limit ∷ word_of first ∷ []
     pub count : left ≡ turns first limit step
     pub end : ℕ
-    pub turns : TurnsRow l own.code (length a.fors) x type step (BodyAt l own.code (suc (length a.fors)) a.exit body) p end
+    pub turns : TurnsRow l own.code (length a.fors) x k from step (BodyAt l own.code (suc (length a.fors)) a.exit body) p end
     pub within : end < length own.code
     pub then : rest Quiet end [] c a
 
@@ -287,8 +294,6 @@ module _ (ctx : Setting) where
   pub record NextWaits (x : ℕ) (k : Kind) (z step : ℤ) (left : ℕ) (body : Statements) (rest : Reach) (t : Mode) (p : ℕ) (stack : List ℕ) (c : ℕ) (a : Around) : Type 0 where
     pub quiet : t ≡ Quiet
     pub empty : stack ≡ []
-    pub type : Whole
-    pub is : k ≡ OfWhole type
     pub outer : Around
     pub words : ForWords
     pub around : a ≡ record { exit = outer.exit; fors = words ∷ outer.fors }
@@ -296,7 +301,7 @@ module _ (ctx : Setting) where
     pub small : left < 65536
     pub step_is : words.step ≡ word_of step
     pub next_is : (words.now + word_of step) % 65536 ≡ word_of z % 65536
-    pub fit : TurnsFit type z step left
+    pub fit : TurnsFit (base_of k) z step left
     pub turn : ℕ
     pub end : ℕ
     pub round : RoundRow l own.code (length outer.fors) x k step (BodyAt l own.code (suc (length outer.fors)) outer.exit body) turn end
@@ -334,12 +339,25 @@ module _ (ctx : Setting) where
     pub variable : IsVariable place offset kind
 
   pub record StorePart (j : Kind) (place : Place) (k : Kind) (p : ℕ) (stack : List ℕ) : Type 0 where
-    pub same : j ≡ k
+    pub takes : takes_value k j ≡ true
     pub empty : stack ≡ []
     pub offset : ℕ
     pub variable : IsVariable place offset k
+    pub middle : ℕ
     pub end : ℕ
-    pub store : IsAt own.code p (Sgw offset) end
+    pub test : InstrsAt own.code (test_code k j) p middle
+    pub store : IsAt own.code middle (Sgw offset) end
+    pub within : end < length own.code
+
+  -- the number that INC or DEC takes is there
+  pub record ChangePart (j : Kind) (down : Bool) (place : Place) (k : Kind) (p : ℕ) (stack : List ℕ) : Type 0 where
+    pub same : j ≡ OfWhole (counted_as k)
+    pub empty : stack ≡ []
+    pub base : is_base (base_of k) ≡ true
+    pub offset : ℕ
+    pub variable : IsVariable place offset k
+    pub end : ℕ
+    pub by : InstrsAt own.code (change_code down k offset) p end
     pub within : end < length own.code
 
   -- what an item needs, by what comes from the items before
@@ -347,18 +365,20 @@ module _ (ctx : Setting) where
   needs Quiet (Value (Scalars v)) p stack a = part (ScalarPart v stack) (λ r. on (ValueOf r.kind) p r.below)
   needs Quiet (Value (Places place)) p stack a = part (DirectPart place) (λ r. on (Direct r.offset r.kind) p stack)
   needs Quiet (Evaluate e) p stack a = part (EvaluatePart e p stack) (λ r. on (ValueOf (kind_of e)) r.end stack)
-  needs Quiet (PlaceOf (Variable x k)) p stack a = part (PlacePart x k) (λ r. on (Direct r.offset k) p stack)
+  needs Quiet (PlaceOf (Variable x k)) p stack a = part (KnownRow l x k) (λ r. on (Direct r.offset k) p stack)
   needs Quiet (Perform (Do s)) p stack a = part (DoPart s p stack a) (λ r. on Quiet r.end [])
   needs Quiet (Perform (Passing q done left)) p stack a = part (PassingPart q done left p stack) (λ r. on Quiet r.serve.end [])
   needs Quiet (Perform (Until body e)) p stack a = part (UntilPart body e p stack a) (λ r. on Quiet r.did.end [])
   needs (Direct offset j) (Fill Get) p stack a = part (GetPart offset p stack) (λ r. on (ValueOf (base_of j)) r.end stack)
   needs (Direct offset j) (Fill (SetTo k e)) p stack a = part (SetPart offset j k e p stack) (λ r. on Quiet r.end [])
+  needs (Direct offset j) (Fill (ChangeBy down k e)) p stack a = part (ChangeByPart offset j down k e p stack) (λ r. on Quiet r.end [])
+  needs (ValueOf j) (Fill (ChangeAt down place k)) p stack a = part (ChangePart j down place k p stack) (λ r. on Quiet r.end [])
   needs (ValueOf j) (Fill (StoreAt place k)) p stack a = part (StorePart j place k p stack) (λ r. on Quiet r.end [])
   needs (ValueOf j) (Fill (OneOf o k)) p stack a = part (OnePart j o k p) (λ r. on (ValueOf k) r.end stack)
   needs (ValueOf j) (Fill (LeftOf o k f)) p stack a = part (LeftPart j o k f p stack) (λ r. on (ValueOf (result_kind (is_relation o) k)) r.end stack)
   needs (ValueOf j) (Fill (RightOf o k u)) p stack a = part (RightPart j o k u p stack) (λ r. on (ValueOf (result_kind (is_relation o) k)) r.end r.below)
   needs (ValueOf j) (Fill (ShortOf d f)) p stack a = part (ShortPart j d f p stack) (λ r. on (ValueOf OfTruth) r.end stack)
-  needs (ValueOf j) (Fill (ApplyTo Chr)) p stack a = part (ChrPart j p) (λ r. on (ValueOf OfCharacter) r.end stack)
+  needs (ValueOf j) (Fill (ApplyTo f)) p stack a = part (ApplyPart j f p stack) (λ r. on (ValueOf (function_kind f)) r.end stack)
   needs (ValueOf j) (Fill (Pass q k done left)) p stack a = part (PassPart j q k done left p stack) (λ r. on Quiet r.serve.end [])
   needs (ValueOf j) (Fill (Choose first second)) p stack a = part (ChoosePart j first second p stack a) (λ r. on Quiet r.did.end [])
   needs (ValueOf j) (Fill (Turn e body)) p stack a = part (TurnPart j e body p stack a) (λ r. on Quiet r.did.end [])

@@ -1,7 +1,7 @@
 -- A request has its words on the expression stack.
-use Rattle.std.proofs.Common.{◌≡◌, ℕ, ◌+◌, ◌-◌, ◌%◌, ◌≤◌, not, List, [], ◌∷◌, length, Bool, true, false, ◌&&◌, nat_lt, nat_le, ◌==◌, if◌then◌else◌, Option, None, Some, Result, Ok, Err, slice_index, slice_set, is_some, refl, subst, arith}
+use Rattle.std.proofs.Common.{◌≡◌, ℕ, ◌+◌, ◌-◌, ◌%◌, ◌≤◌, not, List, [], ◌∷◌, length, Bool, true, false, ◌&&◌, nat_lt, nat_le, ◌==◌, if◌then◌else◌, Option, None, Some, Result, Ok, Err, slice_index, slice_set, is_some, refl, subst}
 use Rattle.std.specs.Prelude.{ℤ}
-use Rattle.std.proofs.lemmas.Bool.{leb-true, eqb-true}
+use Rattle.std.proofs.lemmas.Bool.{leb-true}
 use Rattle.lil_base.specs.Words.{Whole, Cardinal, Integer, sum, difference, product, quotient, remainder, between, number_of}
 use Rattle.lil_base.specs.declared.fault.ArithFault.{ArithFault}
 use Rattle.lil_base.specs.declared.fault.TrapKind.{TrapKind}
@@ -154,19 +154,3 @@ step_asks s = choice_row s.marked _ _ (fetched_asks s (module_at s.modules s.run
 -- after a request its words stand on the stack
 pub request_has : (s t : State) (r : ℕ) → mstep s ≡ (Request r, t) → (n : ℕ) × (request_words r ≡ Some n) × (n ≤ length t.stack)
 request_has s t r h = let P : Event × State → Type 0 = λ x. Asks x.0 x.1 in subst P h (step_asks s)
-
-two_words : (r n : ℕ) (two : Bool) → (r == 2) ≡ two → (if two then Some 1 else None) ≡ Some n → (r ≡ 2) × (n ≡ 1)
-two_words r n true h e = (eqb-true r 2 h, cc)
-two_words r n false h e = cc
-
--- each request of this machine is the second and has one word
-pub request_is_two : (s t : State) (r : ℕ) → mstep s ≡ (Request r, t) → (r ≡ 2) × (1 ≤ length t.stack)
-request_is_two s t r h =
-    let a = request_has s t r h in
-    let two = two_words r a.0 (r == 2) refl a.1 in
-    let one : a.0 ≡ 1 = two.1 in
-    let there : a.0 ≤ length t.stack = a.2 in
-    (two.0, omega arith)
-
-pub request_has_one : (s t : State) (r : ℕ) → mstep s ≡ (Request r, t) → 1 ≤ length t.stack
-request_has_one s t r h = (request_is_two s t r h).1

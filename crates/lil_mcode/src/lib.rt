@@ -4,8 +4,10 @@
 mod arithmetic;
 mod machine;
 mod processor;
+mod request;
 #[cfg(test)]
 mod tests;
 
 pub use lil_asm::{Instr, decode, encode, encode_entry};
 pub use machine::{CodeAt, Event, Machine};
+pub use request::words_of_request;

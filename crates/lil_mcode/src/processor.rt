@@ -6,6 +6,7 @@ ghost use Rattle.lil_asm.specs.Requests.{request_words};
 
 use crate::arithmetic::{trap_of, truth_word};
 use crate::machine::Event;
+use crate::request::words_of_request;
 use arrayvec::ArrayVec;
 use lil_base::{Bytes, Memory, Name};
 use std::alloc::Global;
@@ -153,7 +154,10 @@ impl Processor {
     fn request(&mut self, number: u8, next: u16) -> Event
         ensures { request_row number next self.old (request_words number) ≡ (result, self.new) }
     {
-        if number != 2 || self.stack.is_empty() {
+        let Some(words) = words_of_request(number) else {
+            return Event::BadCode;
+        };
+        if self.stack.len() < usize::from(words) {
             return Event::BadCode;
         }
         self.place = next;

@@ -19,7 +19,7 @@ fn begun(alloc: Global, code: &[u8; 32]) -> Result<Option<Machine>, Memory> {
 
 fn asked(machine: &mut Machine) -> Option<u16> {
     match machine.step() {
-        Event::Request(_) => {
+        Event::Request(2) => {
             let word = machine.argument(0);
             machine.drop_arguments(1);
             Some(word)
@@ -197,5 +197,51 @@ fn shows(rt: HostRuntime) {
     for trial in &trials {
         let word = shown(rt.alloc(), trial).expect(&rt, "memory");
         assert!(rt; word == Some(trial.word));
+    }
+}
+
+// What comes of a request where so many words, at most three, stand on the expression stack.
+fn requested(alloc: Global, words: u8, number: u8) -> Result<Option<Event>, Memory> {
+    // LIS 7 for each word; SVC number
+    let mut code = [0x17; 32];
+    let at = usize::from(words % 4);
+    code[at] = 0x7d;
+    code[at + 1] = number;
+    let Some(mut machine) = begun(alloc, &code)? else {
+        return Ok(None);
+    };
+    for _ in 0..words {
+        let _ = machine.step();
+    }
+    Ok(Some(machine.step()))
+}
+
+#[test]
+fn asks(rt: HostRuntime) {
+    let requests = [(2, 1), (4, 0), (5, 2), (6, 2), (7, 2), (8, 2)];
+    for (number, words) in requests {
+        let event = requested(rt.alloc(), words, number).expect(&rt, "memory");
+        assert!(rt; event == Some(Event::Request(number)));
+        let more = requested(rt.alloc(), words + 1, number).expect(&rt, "memory");
+        assert!(rt; more == Some(Event::Request(number)));
+    }
+}
+
+#[test]
+fn asks_in_vain(rt: HostRuntime) {
+    let wrong = [
+        (2, 0),
+        (5, 1),
+        (6, 1),
+        (7, 1),
+        (8, 0),
+        (0, 3),
+        (1, 3),
+        (3, 3),
+        (9, 3),
+    ];
+    for (number, words) in wrong {
+        let event = requested(rt.alloc(), words, number).expect(&rt, "memory");
+        assert!(rt; event == Some(Event::BadCode));
     }
 }

@@ -6,9 +6,9 @@ use Rattle.lil_base.specs.declared.fault.TrapKind.TheVariants as trap
 use Rattle.lil_base.specs.declared.operator.TwoOp.TheVariants.{Equal, Less, AtLeast, Div, Mod}
 use Rattle.lil_resolved.specs.Kinds.{OfWhole, OfTruth, OfCharacter, OfRange}
 use Rattle.lil_resolved.specs.Scalars.{Number, Truth, Character, SetOf, ToObject, Nothing, value_with}
-use Rattle.lil_resolved.specs.Resolved.{Designator, Variable, Chr, Val, Expression, Constant, Statement, Assign, Request, For, Statements, Empty, Arms, NoElse, Else, Arm, Resolved, in_order}
+use Rattle.lil_resolved.specs.Resolved.{Designator, Variable, Chr, Val, Expression, Constant, Statement, Assign, Change, Request, Loop, Halt, Return, For, Statements, Empty, Then, Arms, NoElse, Else, Arm, Resolved, in_order}
 use Rattle.lil_meaning.specs.Cells.{Global, got}
-use Rattle.lil_meaning.specs.World.{World}
+use Rattle.lil_meaning.specs.World.{World, piece_of}
 use Rattle.lil_meaning.specs.Items.{Looping, Turns, Item, Perform, Ended, Trapped}
 use Rattle.lil_meaning.specs.Steps.{applied, function_value, chosen, turns, exited}
 use Rattle.lil_meaning.specs.Runs.{src}
@@ -130,3 +130,30 @@ last_turn w = refl
 -- a FOR over truth values stops where its kind has no more
 a_turn_too_many : (w : World) → (src (program (For (Variable 0 OfTruth) (cardinal 0) (cardinal 2) (pos 1) Empty ∷ []) ∷ []) w 20).phase ≡ Trapped (record { kind = trap.Range; «module» = []; procedure = None })
 a_turn_too_many w = refl
+
+-- ---- INC, DEC, HALT and RETURN
+-- INC tests the sum against its type first, and then against the variable's
+past_the_last : (w : World) → (src (program (Change false (Variable 0 OfTruth) (cardinal 2) ∷ []) ∷ []) w 20).phase ≡ Trapped (record { kind = trap.Range; «module» = []; procedure = None })
+past_the_last w = refl
+
+below_zero : (w : World) → (src (program (Change true c (cardinal 1) ∷ []) ∷ []) w 20).phase ≡ Trapped (record { kind = trap.Overflow; «module» = []; procedure = None })
+below_zero w = refl
+
+a_halt : (w : World) → (src (program (Halt ∷ writes_x ∷ []) ∷ []) w 20).phase ≡ Trapped (record { kind = trap.Halted; «module» = []; procedure = None })
+a_halt w = refl
+
+a_return : (w : World) → (src (program (Loop (Then Return Empty) ∷ writes_x ∷ []) ∷ []) w 20).phase ≡ Ended
+a_return w = refl
+
+-- ---- pieces
+seventeen : piece_of 5 (17 ∷ 4 ∷ []) ≡ 32 ∷ 32 ∷ 49 ∷ 55 ∷ []
+seventeen = refl
+
+the_least_integer : piece_of 6 (32768 ∷ 1 ∷ []) ≡ 45 ∷ 51 ∷ 50 ∷ 55 ∷ 54 ∷ 56 ∷ []
+the_least_integer = refl
+
+the_greatest_word : piece_of 7 (65535 ∷ 0 ∷ []) ≡ 49 ∷ 55 ∷ 55 ∷ 55 ∷ 55 ∷ 55 ∷ []
+the_greatest_word = refl
+
+in_hexadecimal : piece_of 8 (48879 ∷ 5 ∷ []) ≡ 32 ∷ 66 ∷ 69 ∷ 69 ∷ 70 ∷ []
+in_hexadecimal = refl

@@ -22,6 +22,10 @@ pub data Hole : Type 0 where
   SetTo : (k : Kind) (e : Expression) → Hole
   -- · goes to the place
   StoreAt : (p : Place) (k : Kind) → Hole
+  -- the number of the place ·, of this kind, grows or falls by e
+  ChangeBy : (down : Bool) (k : Kind) (e : Expression) → Hole
+  -- the number at the place grows or falls by ·
+  ChangeAt : (down : Bool) (p : Place) (k : Kind) → Hole
   -- op ·
   OneOf : (o : OneOp) (k : Kind) → Hole
   -- · op f

@@ -13,10 +13,10 @@ use Rattle.lil_base.specs.declared.operator.TwoOp.{TwoOp}
 use Rattle.lil_base.specs.declared.operator.TwoOp.TheVariants.{Equal, Unequal, Less, AtMost, Greater, AtLeast, Plus, Minus, Times, Div, Mod}
 use Rattle.lil_resolved.specs.Kinds.{Kind, OfWhole, OfTruth, OfCharacter, OfEnumeration, OfRange}
 use Rattle.lil_resolved.specs.Scalars.{Scalar, Number, Truth, Character, Nothing, within, scalar_word, value_with, ordinal_of, truth_number, truth_of}
-use Rattle.lil_resolved.specs.Resolved.{Designator, Variable, Function, Abs, Cap, Chr, Odd, Ord, Val, Expression, Constant, Taken, One, Two, Short, Apply, Label, Statement, Assign, Request, If, Case, While, Repeat, Loop, Exit, For, Statements, Arms, NoElse, Else, Arm, Resolved, kind_of_place}
+use Rattle.lil_resolved.specs.Resolved.{Designator, Variable, Function, Abs, Cap, Chr, Odd, Ord, Val, Expression, Constant, Taken, One, Two, Short, Apply, Label, Statement, Assign, Change, Request, If, Case, While, Repeat, Loop, Exit, Halt, Return, For, Statements, Arms, NoElse, Else, Arm, Resolved, kind_of_place, counted_as}
 use Rattle.lil_meaning.specs.Cells.{Global, Place, stored, got, alone, loaded_at}
 use Rattle.lil_meaning.specs.World.{serve}
-use Rattle.lil_meaning.specs.Items.{Datum, Scalars, Places, Hole, Get, SetTo, StoreAt, OneOf, LeftOf, RightOf, ShortOf, ApplyTo, Pass, Choose, Turn, Again, Pick, StartOf, LimitOf, Task, Do, Passing, Until, Looping, Turns, End, Item, Value, Evaluate, PlaceOf, Fill, Perform, doing, Activation, Phase, Going, Closing, Ended, Trapped, Source}
+use Rattle.lil_meaning.specs.Items.{Datum, Scalars, Places, Hole, Get, SetTo, StoreAt, ChangeBy, ChangeAt, OneOf, LeftOf, RightOf, ShortOf, ApplyTo, Pass, Choose, Turn, Again, Pick, StartOf, LimitOf, Task, Do, Passing, Until, Looping, Turns, End, Item, Value, Evaluate, PlaceOf, Fill, Perform, doing, Activation, Phase, Going, Closing, Ended, Trapped, Source}
 
 -- the activation at hand: that of the nearest end
 abbrev pub current : List Item → ℕ
@@ -177,6 +177,12 @@ exited [] = []
 exited (Perform (Looping body) ∷ k) = k
 exited (i ∷ k) = exited k
 
+-- RETURN: all items up to the first end go, which then is the next
+abbrev pub returned : List Item → List Item
+returned [] = []
+returned (Perform (End a) ∷ k) = Perform (End a) ∷ k
+returned (i ∷ k) = returned k
+
 abbrev pub answered : List Resolved → Result Scalar TrapKind → List Item → Source → Source
 answered modules (Ok v) k s = with_items s (Value (Scalars v) ∷ k)
 answered modules (Err t) k s = trapped modules s t
@@ -195,6 +201,21 @@ evaluated (One o kind a) k s = with_items s (Evaluate a ∷ Fill (OneOf o kind) 
 evaluated (Two o kind a b) k s = with_items s (Evaluate a ∷ Fill (LeftOf o kind b) ∷ k)
 evaluated (Short d a b) k s = with_items s (Evaluate a ∷ Fill (ShortOf d b) ∷ k)
 evaluated (Apply f a) k s = with_items s (Evaluate a ∷ Fill (ApplyTo f) ∷ k)
+
+-- what INC and DEC make of two numbers
+abbrev pub changed : Bool → Whole → ℤ → ℤ → Result ℤ ArithFault
+changed false = sum
+changed true = difference
+
+-- a value is stored at a place, or there is none
+abbrev pub stored_with : List Resolved → Place → Result Scalar TrapKind → List Item → Source → Source
+stored_with modules p (Ok v) k s = record s { items = k; cells = stored s.cells p (alone v) }
+stored_with modules p (Err t) k s = trapped modules s t
+
+-- a number of a whole type, where there is one, is stored as a value of a kind, if it has it
+abbrev pub value_of : Kind → Result ℤ ArithFault → Result Scalar TrapKind
+value_of k (Ok z) = ranged k z
+value_of k (Err e) = Err (arith_trap e)
 
 -- the chosen arm is done, or there is none
 abbrev pub picked : List Resolved → Option Statements → List Item → Source → Source
@@ -222,6 +243,7 @@ decided false b = not b
 -- a scalar goes into a hole
 abbrev pub filled : List Resolved → Hole → Scalar → List Item → Source → Source
 filled modules (StoreAt p kind) v k s = if within kind v then record s { items = k; cells = stored s.cells p (alone v) } else trapped modules s trap.Range
+filled modules (ChangeAt down p kind) v k s = stored_with modules p (value_of kind (changed down (counted_as kind) (ordinal_of (got s.cells p)) (whole_of v))) k s
 filled modules (OneOf o kind) v k s = answered modules (one_applied o kind v) k s
 filled modules (LeftOf o kind f) v k s = with_items s (Evaluate f ∷ Fill (RightOf o kind v) ∷ k)
 filled modules (RightOf o kind u) v k s = answered modules (applied o kind u v) k s
@@ -236,11 +258,14 @@ filled modules (StartOf d b step body) v k s = with_items s (Evaluate b ∷ Fill
 filled modules (LimitOf d u step body) v k s = with_items s (Perform (Turns d (ordinal_of u) step (turns (ordinal_of u) (ordinal_of v) step) body) ∷ k)
 filled modules Get v k s = s
 filled modules (SetTo kind e) v k s = s
+filled modules (ChangeBy down kind e) v k s = s
 
 -- a place goes into a hole
 abbrev pub filled_place : Hole → Place → List Item → Source → Source
 filled_place Get p k s = with_items s (Value (Scalars (got s.cells p)) ∷ k)
 filled_place (SetTo kind e) p k s = with_items s (Evaluate e ∷ Fill (StoreAt p kind) ∷ k)
+filled_place (ChangeBy down kind e) p k s = with_items s (Evaluate e ∷ Fill (ChangeAt down p kind) ∷ k)
+filled_place (ChangeAt down q kind) p k s = s
 filled_place (StoreAt q kind) p k s = s
 filled_place (OneOf o kind) p k s = s
 filled_place (LeftOf o kind f) p k s = s
@@ -259,19 +284,22 @@ abbrev pub fill : List Resolved → Datum → Hole → List Item → Source → 
 fill modules (Scalars v) h k s = filled modules h v k s
 fill modules (Places p) h k s = filled_place h p k s
 
-abbrev pub did : Statement → List Item → Source → Source
-did (Assign d e) k s = with_items s (PlaceOf d ∷ Fill (SetTo (kind_of_place d) e) ∷ k)
-did (Request r given) k s = with_items s (Perform (Passing r [] given) ∷ k)
-did (If c a b) k s = with_items s (Evaluate c ∷ Fill (Choose a b) ∷ k)
-did (Case e arms) k s = with_items s (Evaluate e ∷ Fill (Pick arms) ∷ k)
-did (While c body) k s = with_items s (Evaluate c ∷ Fill (Turn c body) ∷ k)
-did (Repeat body c) k s = with_items s (doing body (Perform (Until body c) ∷ k))
-did (Loop body) k s = with_items s (doing body (Perform (Looping body) ∷ k))
-did Exit k s = with_items s (exited k)
-did (For d a b step body) k s = with_items s (Evaluate a ∷ Fill (StartOf d b step body) ∷ k)
+abbrev pub did : List Resolved → Statement → List Item → Source → Source
+did modules (Assign d e) k s = with_items s (PlaceOf d ∷ Fill (SetTo (kind_of_place d) e) ∷ k)
+did modules (Request r given) k s = with_items s (Perform (Passing r [] given) ∷ k)
+did modules (If c a b) k s = with_items s (Evaluate c ∷ Fill (Choose a b) ∷ k)
+did modules (Case e arms) k s = with_items s (Evaluate e ∷ Fill (Pick arms) ∷ k)
+did modules (While c body) k s = with_items s (Evaluate c ∷ Fill (Turn c body) ∷ k)
+did modules (Repeat body c) k s = with_items s (doing body (Perform (Until body c) ∷ k))
+did modules (Loop body) k s = with_items s (doing body (Perform (Looping body) ∷ k))
+did modules (Change down d e) k s = with_items s (PlaceOf d ∷ Fill (ChangeBy down (kind_of_place d) e) ∷ k)
+did modules Halt k s = trapped modules s trap.Halted
+did modules Return k s = with_items s (returned k)
+did modules Exit k s = with_items s (exited k)
+did modules (For d a b step body) k s = with_items s (Evaluate a ∷ Fill (StartOf d b step body) ∷ k)
 
 abbrev pub performed : List Resolved → Task → List Item → Source → Source
-performed modules (Do t) k s = did t k s
+performed modules (Do t) k s = did modules t k s
 performed modules (Passing r done []) k s = record s { items = k; world = serve r (map scalar_word done) s.world }
 performed modules (Passing r done (a ∷ left)) k s = with_items s (Evaluate a.value ∷ Fill (Pass r a.kind done left) ∷ k)
 performed modules (Until body c) k s = with_items s (Evaluate c ∷ Fill (Again body c) ∷ k)

@@ -1,14 +1,15 @@
 -- How deep an operator on two expressions is, and a chain.
-use Rattle.std.proofs.Common.{◌≡◌, ℕ, ◌+◌, ◌<◌, max, List, [], ◌∷◌, map, drop, length, get_or, refl, sym, ap, ◌∙◌, arith}
+use Rattle.std.proofs.Common.{◌≡◌, ℕ, ◌+◌, ◌<◌, max, Bool, true, false, ◌&&◌, if◌then◌else◌, List, [], ◌∷◌, map, drop, length, get_or, refl, sym, ap, ◌∙◌, arith}
 use Rattle.std.proofs.lemmas.List.{drop_more}
 use Rattle.lil_base.specs.declared.operator.TwoOp.{TwoOp}
 use Rattle.lil_base.specs.declared.operator.TwoOp.TheVariants.{And}
 use Rattle.lil_resolved.specs.declared.resolved.RExpr.{RExpr}
 use Rattle.lil_resolved.specs.declared.resolved.RExpr.TheVariants as e
 use Rattle.lil_resolved.specs.declared.resolved.ROperation.{ROperation, out-ROperation}
-use Rattle.lil_resolved.specs.Resolved.{Expression}
+use Rattle.lil_resolved.specs.Kinds.{Kind, OfTruth}
+use Rattle.lil_resolved.specs.Resolved.{Expression, kind_of}
 use Rattle.lil_resolved.specs.Depth.{depth}
-use Rattle.lil_resolved.specs.Chains.{operations_depth}
+use Rattle.lil_resolved.specs.Chains.{operations_depth, is_arithmetic, all_arithmetic}
 use Rattle.lil_resolved.specs.Forms.{chain_is, operation_is}
 use Rattle.lil_resolved.specs.Views.{two_of, chained, expression_of, operation_of}
 
@@ -26,7 +27,33 @@ chained_depth a (o ∷ os) = omega (arith, chained_depth (operation_of o a) os, 
 pub chain_depth : (a : RExpr) (os : List ROperation) → depth (expression_of (e.Chain a os)) ≡ max (depth (expression_of a)) (operations_depth os)
 chain_depth a os = ap depth (chain_is a os) ∙ chained_depth (expression_of a) os
 
+-- ---- kinds
+two_kind : (o : TwoOp) (a b : Expression) → kind_of (two_of o a b) ≡ (if is_arithmetic o then kind_of a else OfTruth)
+two_kind And a b = refl
+two_kind _ a b = refl
+
+operation_kind : (o : ROperation) (a : Expression) → kind_of (operation_of o a) ≡ (if is_arithmetic (out-ROperation o).operator then kind_of a else OfTruth)
+operation_kind o a = ap kind_of (operation_is o a) ∙ two_kind (out-ROperation o).operator a (expression_of (out-ROperation o).operand)
+
+twice : (b c : Bool) (k : Kind) → (if c then (if b then k else OfTruth) else OfTruth) ≡ (if b && c then k else OfTruth)
+twice true c k = refl
+twice false true k = refl
+twice false false k = refl
+
+chained_kind : (a : Expression) (os : List ROperation) → kind_of (chained a (map operation_of os)) ≡ (if all_arithmetic os then kind_of a else OfTruth)
+chained_kind a [] = refl
+chained_kind a (o ∷ os) =
+    chained_kind (operation_of o a) os ∙ ap (λ (k : Kind). if all_arithmetic os then k else OfTruth) (operation_kind o a)
+    ∙ twice (is_arithmetic (out-ROperation o).operator) (all_arithmetic os) (kind_of a)
+
+pub chain_kind : (a : RExpr) (os : List ROperation) → kind_of (expression_of (e.Chain a os)) ≡ (if all_arithmetic os then kind_of (expression_of a) else OfTruth)
+chain_kind a os = ap kind_of (chain_is a os) ∙ chained_kind (expression_of a) os
+
 -- what is left of operations from one on
 pub operations_left : (os : List ROperation) (i : ℕ) (o : ROperation) → i < length os → o ≡ get_or os i o
     → operations_depth (drop i os) ≡ max (1 + depth (expression_of (out-ROperation o).operand)) (operations_depth (drop (i + 1) os))
 operations_left os i o inside is = ap operations_depth (drop_more os i o inside ∙ ap (λ y. y ∷ drop (i + 1) os) (sym is))
+
+pub arithmetic_left : (os : List ROperation) (i : ℕ) (o : ROperation) → i < length os → o ≡ get_or os i o
+    → all_arithmetic (drop i os) ≡ (is_arithmetic (out-ROperation o).operator && all_arithmetic (drop (i + 1) os))
+arithmetic_left os i o inside is = ap all_arithmetic (drop_more os i o inside ∙ ap (λ y. y ∷ drop (i + 1) os) (sym is))

@@ -1,6 +1,11 @@
 -- The words that a body takes: those of the expression stack, and those of its frame.
 use Rattle.std.specs.Prelude.{ℕ, ◌+◌, ◌*◌, max}
-use Rattle.lil_resolved.specs.Resolved.{Expression, Constant, Taken, One, Two, Short, Apply, Statement, Assign, Request, If, Case, While, Repeat, Loop, Exit, For, Statements, Empty, Then, Arms, NoElse, Else, Arm}
+use Rattle.lil_resolved.specs.Resolved.{Function, Odd, Expression, Constant, Taken, One, Two, Short, Apply, Statement, Assign, Change, Request, If, Case, While, Repeat, Loop, Exit, Halt, Return, For, Statements, Empty, Then, Arms, NoElse, Else, Arm}
+
+-- how many words of the expression stack the code of a standard function takes, its argument's included
+abbrev pub function_depth : Function → ℕ
+function_depth Odd = 2
+function_depth _ = 1
 
 -- how many words of the expression stack an expression takes
 abbrev pub depth : Expression → ℕ
@@ -9,12 +14,13 @@ depth (Taken d) = 1
 depth (One o k a) = depth a
 depth (Two o k a b) = max (depth a) (1 + depth b)
 depth (Short d a b) = max (depth a) (1 + depth b)
-depth (Apply f a) = depth a
+depth (Apply f a) = max (depth a) (function_depth f)
 
 -- how many FORs stand in statements, in one another too
 abbrev mutual
   pub statement_loops : Statement → ℕ
   statement_loops (Assign d e) = 0
+  statement_loops (Change down d e) = 0
   statement_loops (Request r given) = 0
   statement_loops (If c a b) = body_loops a + body_loops b
   statement_loops (Case e arms) = arms_loops arms
@@ -22,6 +28,8 @@ abbrev mutual
   statement_loops (Repeat body c) = body_loops body
   statement_loops (Loop body) = body_loops body
   statement_loops Exit = 0
+  statement_loops Halt = 0
+  statement_loops Return = 0
   statement_loops (For d a b step body) = 1 + body_loops body
 
   pub body_loops : Statements → ℕ

@@ -1,6 +1,5 @@
 -- What each form of expression, an operation, each form of statement, a guard and an arm are.
-use Rattle.std.proofs.Common.{◌≡◌, ℕ, ℤ, pos, Bool, List, map, Option, None, Some, sym, ap, ◌∙◌}
-use Rattle.lil_base.specs.Words.{Cardinal, Integer}
+use Rattle.std.proofs.Common.{◌≡◌, ℤ, List, map, Option, None, Some, sym, ap, ◌∙◌}
 use Rattle.lil_base.specs.declared.operator.OneOp.{OneOp}
 use Rattle.lil_resolved.specs.declared.resolved.RExpr.{RExpr}
 use Rattle.lil_resolved.specs.declared.resolved.RExpr.TheVariants as e
@@ -17,35 +16,31 @@ use Rattle.lil_resolved.specs.declared.resolved.RStmt.TheFolds.{map-RStmt, fold-
 use Rattle.lil_resolved.specs.declared.resolved.RStmt.TheViews.{roll-RStmt}
 use Rattle.lil_resolved.specs.declared.resolved.RGuard.{RGuard}
 use Rattle.lil_resolved.specs.declared.resolved.RArm.{RArm}
-use Rattle.lil_resolved.specs.Kinds.{OfWhole, OfTruth, OfCharacter}
-use Rattle.lil_resolved.specs.Scalars.{Number, Truth, Character}
-use Rattle.lil_resolved.specs.Resolved.{Expression, Constant, Taken, Apply, Chr, Assign, If, Case, While, Repeat, Loop, Exit, For, Statements, Empty, Then, Arms, Arm}
-use Rattle.lil_resolved.specs.Views.{cardinal_variable, write_of, one_of, two_of, chained, expression_layer, operation_layer, expression_of, operation_of, label_of, statement_layer, arm_layer, guard_layer, statement_of, arm_of, guard_of, statements_of, guards_of, arms_of}
+use Rattle.lil_resolved.specs.declared.resolved.RBase.{RBase}
+use Rattle.lil_resolved.specs.declared.resolved.RVariable.{RVariable}
+use Rattle.lil_resolved.specs.declared.resolved.RFunction.{RFunction}
+use Rattle.lil_resolved.specs.declared.resolved.RRequest.{RRequest}
+use Rattle.lil_resolved.specs.declared.resolved.Direction.{Direction}
+use Rattle.lil_resolved.specs.declared.resolved.RArgument.{RArgument}
+use Rattle.lil_resolved.specs.Scalars.{scalar_of}
+use Rattle.lil_resolved.specs.Resolved.{Expression, Constant, Taken, Apply, Assign, Change, Request, If, Case, While, Repeat, Loop, Exit, Halt, Return, For, Statements, Empty, Then, Arms, Arm, kind_of}
+use Rattle.lil_resolved.specs.Views.{base_view, variable_of, function_of, request_number, is_down, argument_of, one_of, two_of, chained, expression_layer, operation_layer, expression_of, operation_of, label_of, statement_layer, arm_layer, guard_layer, statement_of, arm_of, guard_of, statements_of, guards_of, arms_of}
 
 -- a layer's value comes from the values of its parts
 rolled_value : (y : RExpr-F RExpr ROperation) → expression_of (roll-RExpr y) ≡ expression_layer (map-RExpr RExpr ROperation Expression (Expression → Expression) expression_of operation_of y)
 rolled_value = fold-roll-RExpr Expression (Expression → Expression) expression_layer operation_layer
 
-pub number_is : (n : ℕ) → expression_of (e.Number n) ≡ Constant (OfWhole Cardinal) (Number (pos n))
-number_is n = ap expression_of (sym (e.rolls-Number n)) ∙ rolled_value (x.Number n)
+pub constant_is : (b : RBase) (z : ℤ) → expression_of (e.Constant b z) ≡ Constant (base_view b) (scalar_of (base_view b) z)
+constant_is b z = ap expression_of (sym (e.rolls-Constant b z)) ∙ rolled_value (x.Constant b z)
 
-pub integer_is : (z : ℤ) → expression_of (e.Integer z) ≡ Constant (OfWhole Integer) (Number z)
-integer_is z = ap expression_of (sym (e.rolls-Integer z)) ∙ rolled_value (x.Integer z)
-
-pub truth_is : (b : Bool) → expression_of (e.Truth b) ≡ Constant OfTruth (Truth b)
-truth_is b = ap expression_of (sym (e.rolls-Truth b)) ∙ rolled_value (x.Truth b)
-
-pub character_is : (c : ℕ) → expression_of (e.Character c) ≡ Constant OfCharacter (Character c)
-character_is c = ap expression_of (sym (e.rolls-Character c)) ∙ rolled_value (x.Character c)
-
-pub variable_is : (n : ℕ) → expression_of (e.Variable n) ≡ Taken (cardinal_variable n)
-variable_is n = ap expression_of (sym (e.rolls-Variable n)) ∙ rolled_value (x.Variable n)
+pub variable_is : (v : RVariable) → expression_of (e.Variable v) ≡ Taken (variable_of v)
+variable_is v = ap expression_of (sym (e.rolls-Variable v)) ∙ rolled_value (x.Variable v)
 
 pub one_is : (o : OneOp) (a : RExpr) → expression_of (e.One o a) ≡ one_of o (expression_of a)
 one_is o a = ap expression_of (sym (e.rolls-One o a)) ∙ rolled_value (x.One o a)
 
-pub chr_is : (a : RExpr) → expression_of (e.Chr a) ≡ Apply Chr (expression_of a)
-chr_is a = ap expression_of (sym (e.rolls-Chr a)) ∙ rolled_value (x.Chr a)
+pub apply_is : (f : RFunction) (a : RExpr) → expression_of (e.Apply f a) ≡ Apply (function_of f (kind_of (expression_of a))) (expression_of a)
+apply_is f a = ap expression_of (sym (e.rolls-Apply f a)) ∙ rolled_value (x.Apply f a)
 
 pub chain_is : (a : RExpr) (os : List ROperation) → expression_of (e.Chain a os) ≡ chained (expression_of a) (map operation_of os)
 chain_is a os = ap expression_of (sym (e.rolls-Chain a os)) ∙ rolled_value (x.Chain a os)
@@ -58,11 +53,14 @@ rolled : (x : RStmt-F RStmt RArm RGuard)
     → statement_of (roll-RStmt x) ≡ statement_layer (map-RStmt RStmt RArm RGuard Statements (Arms → Arms) (Statements → Statements) statement_of arm_of guard_of x)
 rolled = fold-roll-RStmt Statements (Arms → Arms) (Statements → Statements) statement_layer arm_layer guard_layer
 
-pub assign_is : (n : ℕ) (e : RExpr) → statement_of (s.Assign n e) ≡ Then (Assign (cardinal_variable n) (expression_of e)) Empty
-assign_is n e = ap statement_of (sym (s.rolls-Assign n e)) ∙ rolled (o.Assign n e)
+pub assign_is : (v : RVariable) (e : RExpr) → statement_of (s.Assign v e) ≡ Then (Assign (variable_of v) (expression_of e)) Empty
+assign_is v e = ap statement_of (sym (s.rolls-Assign v e)) ∙ rolled (o.Assign v e)
 
-pub write_is : (e : RExpr) → statement_of (s.Write e) ≡ Then (write_of (expression_of e)) Empty
-write_is e = ap statement_of (sym (s.rolls-Write e)) ∙ rolled (o.Write e)
+pub change_is : (d : Direction) (v : RVariable) (e : RExpr) → statement_of (s.Change d v e) ≡ Then (Change (is_down d) (variable_of v) (expression_of e)) Empty
+change_is d v e = ap statement_of (sym (s.rolls-Change d v e)) ∙ rolled (o.Change d v e)
+
+pub request_is : (r : RRequest) (given : List RArgument) → statement_of (s.Request r given) ≡ Then (Request (request_number r) (map argument_of given)) Empty
+request_is r given = ap statement_of (sym (s.rolls-Request r given)) ∙ rolled (o.Request r given)
 
 pub if_is : (gs : List RGuard) (other : List RStmt) → statement_of (s.If gs other) ≡ guards_of gs other
 if_is gs other = ap statement_of (sym (s.rolls-If gs other)) ∙ rolled (o.If gs other)
@@ -83,9 +81,15 @@ loop_is ss = ap statement_of (sym (s.rolls-Loop ss)) ∙ rolled (o.Loop ss)
 pub exit_is : statement_of s.Exit ≡ Then Exit Empty
 exit_is = ap statement_of (sym s.rolls-Exit) ∙ rolled o.Exit
 
-pub for_is : (n : ℕ) (a b : RExpr) (step : ℤ) (ss : List RStmt)
-    → statement_of (s.For n a b step ss) ≡ Then (For (cardinal_variable n) (expression_of a) (expression_of b) step (statements_of ss)) Empty
-for_is n a b step ss = ap statement_of (sym (s.rolls-For n a b step ss)) ∙ rolled (o.For n a b step ss)
+pub halt_is : statement_of s.Halt ≡ Then Halt Empty
+halt_is = ap statement_of (sym s.rolls-Halt) ∙ rolled o.Halt
+
+pub return_is : statement_of s.Return ≡ Then Return Empty
+return_is = ap statement_of (sym s.rolls-Return) ∙ rolled o.Return
+
+pub for_is : (v : RVariable) (a b : RExpr) (step : ℤ) (ss : List RStmt)
+    → statement_of (s.For v a b step ss) ≡ Then (For (variable_of v) (expression_of a) (expression_of b) step (statements_of ss)) Empty
+for_is v a b step ss = ap statement_of (sym (s.rolls-For v a b step ss)) ∙ rolled (o.For v a b step ss)
 
 pub guard_is : (g : RGuard) (other : Statements) → guard_of g other ≡ Then (If (expression_of g.condition) (statements_of g.body) other) Empty
 guard_is g other =

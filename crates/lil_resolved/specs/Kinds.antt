@@ -1,6 +1,7 @@
 -- What sort of value a scalar variable, parameter or expression has.
-use Rattle.std.specs.Prelude.{ℕ, ℤ}
-use Rattle.lil_base.specs.Words.{Whole}
+use Rattle.std.specs.Prelude.{ℕ, ◌-◌, ◌==◌, nat_le, ℤ, pos, int_lt, Bool, true, false, not, ◌&&◌, if◌then◌else◌}
+use Rattle.lil_base.specs.Words as words
+use Rattle.lil_base.specs.Words.{Whole, Cardinal, Integer}
 
 pub data Kind : Type 0 where
   OfWhole : (t : Whole) → Kind
@@ -18,3 +19,71 @@ base_of OfTruth = OfTruth
 base_of OfCharacter = OfCharacter
 base_of (OfEnumeration n) = OfEnumeration n
 base_of (OfRange base low high) = base_of base
+
+-- kinds that aren't a part of another, whose values are words
+abbrev pub is_base : Kind → Bool
+is_base (OfWhole t) = true
+is_base OfTruth = true
+is_base OfCharacter = true
+is_base (OfEnumeration n) = nat_le n 65535
+is_base (OfRange base low high) = false
+
+abbrev pub is_whole : Kind → Bool
+is_whole (OfWhole t) = true
+is_whole _ = false
+
+-- values of the second kind, a base, may become values of the first: both are whole, or one kind
+abbrev pub alike : Kind → Kind → Bool
+alike (OfWhole s) (OfWhole t) = true
+alike OfTruth OfTruth = true
+alike OfCharacter OfCharacter = true
+alike (OfEnumeration m) (OfEnumeration n) = (m == n) && nat_le n 65535
+alike _ _ = false
+
+-- a value of the second kind may be stored where one of the first is wanted, if its number is there
+abbrev pub takes_value : Kind → Kind → Bool
+takes_value k j = alike (base_of k) j
+
+-- ---- numbers
+-- the type as which the words of a kind are compared
+abbrev pub compared_as : Kind → Whole
+compared_as (OfWhole t) = t
+compared_as _ = Cardinal
+
+abbrev pub lesser : ℤ → ℤ → ℤ
+lesser x y = if int_lt y x then y else x
+
+abbrev pub larger : ℤ → ℤ → ℤ
+larger x y = if int_lt x y then y else x
+
+-- the least and the greatest number of a kind's values
+abbrev pub least : Kind → ℤ
+least (OfWhole t) = words.least t
+least OfTruth = pos 0
+least OfCharacter = pos 0
+least (OfEnumeration n) = pos 0
+least (OfRange base low high) = larger low (least base)
+
+abbrev pub greatest : Kind → ℤ
+greatest (OfWhole t) = words.greatest t
+greatest OfTruth = pos 1
+greatest OfCharacter = pos 255
+greatest (OfEnumeration n) = pos (n - 1)
+greatest (OfRange base low high) = lesser high (greatest base)
+
+-- each number of the second kind is one of the first
+abbrev pub covers : Kind → Kind → Bool
+covers k j = not (int_lt (least j) (least k)) && not (int_lt (greatest k) (greatest j))
+
+-- Whether a start of FOR that isn't a number of the limit's type has turns: one below CARDINAL by a positive step, one above INTEGER by a
+-- negative step.
+abbrev pub outside_turns : Whole → ℤ → Bool
+outside_turns Cardinal step = int_lt (pos 0) step
+outside_turns Integer step = int_lt step (pos 0)
+
+-- the numbers that two kinds share, as their least and their greatest; where they share none, from 1 to 0
+abbrev pub shared_from : ℤ → ℤ → ℤ × ℤ
+shared_from low high = if int_lt high low then (pos 1, pos 0) else (low, high)
+
+abbrev pub shared : Kind → Kind → ℤ × ℤ
+shared k j = shared_from (larger (least k) (least j)) (lesser (greatest k) (greatest j))

@@ -1,3 +1,4 @@
+pub mod Bases
 pub mod Chains
 pub mod Depth
 pub mod Forms

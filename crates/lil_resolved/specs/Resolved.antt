@@ -4,7 +4,7 @@ use Rattle.lil_base.specs.Words.{Whole, Cardinal}
 use Rattle.lil_base.specs.declared.operator.OneOp.{OneOp}
 use Rattle.lil_base.specs.declared.operator.TwoOp.{TwoOp}
 use Rattle.lil_base.specs.declared.operator.TwoOp.TheVariants.{Equal, Unequal, Less, AtMost, Greater, AtLeast, In, Plus, Minus, Or, Times, Slash, Div, Mod, And}
-use Rattle.lil_resolved.specs.Kinds.{Kind, OfWhole, OfTruth, OfCharacter, base_of}
+use Rattle.lil_resolved.specs.Kinds.{Kind, OfWhole, OfTruth, OfCharacter, base_of, compared_as}
 use Rattle.lil_resolved.specs.Scalars.{Scalar}
 
 -- what names a place: a variable of the module, by its number
@@ -47,6 +47,8 @@ pub record Label : Type 0 where
 mutual
   pub data Statement : Type 0 where
     Assign : (d : Designator) (e : Expression) → Statement
+    -- INC(d, e) adds e to d's number, DEC(d, e) takes it away
+    Change : (down : Bool) (d : Designator) (e : Expression) → Statement
     -- a call of the resident procedure with this request
     Request : (r : ℕ) (given : List Argument) → Statement
     If : (c : Expression) (a b : Statements) → Statement
@@ -55,6 +57,10 @@ mutual
     Repeat : (body : Statements) (c : Expression) → Statement
     Loop : (body : Statements) → Statement
     Exit : Statement
+    -- HALT
+    Halt : Statement
+    -- RETURN in a body
+    Return : Statement
     -- FOR d := a TO b BY step DO body END
     For : (d : Designator) (a b : Expression) (step : ℤ) (body : Statements) → Statement
 
@@ -114,6 +120,10 @@ function_kind Chr = OfCharacter
 function_kind Odd = OfTruth
 function_kind Ord = OfWhole Cardinal
 function_kind (Val k) = base_of k
+
+-- the kind of the numbers that INC and DEC of a variable compute with: INTEGERs beside one of INTEGER, else CARDINALs
+abbrev pub counted_as : Kind → Whole
+counted_as k = compared_as (base_of k)
 
 -- the kind of an expression's value
 abbrev pub kind_of : Expression → Kind

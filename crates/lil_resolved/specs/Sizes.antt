@@ -1,12 +1,14 @@
 -- The bytes that code takes, and modules that are small. Depths, frames and soundness are passed on.
-use Rattle.std.specs.Prelude.{ℕ, ◌+◌, ◌*◌, ◌≤◌, List, [], ◌∷◌, length}
+use Rattle.std.specs.Prelude.{ℕ, ◌+◌, ◌*◌, ◌≤◌, ℤ, List, [], ◌∷◌, length, if◌then◌else◌}
 use Rattle.lil_base.specs.declared.operator.OneOp.{OneOp}
 use Rattle.lil_base.specs.declared.operator.OneOp.TheVariants as one
 use Rattle.lil_base.specs.declared.operator.TwoOp.{TwoOp}
 use Rattle.lil_base.specs.declared.operator.TwoOp.TheVariants.{Greater, AtLeast}
-use Rattle.lil_resolved.specs.Resolved.{Expression, Constant, Taken, One, Two, Short, Apply, Argument, Statement, Assign, Request, If, Case, While, Repeat, Loop, Exit, For, Statements, Empty, Then, Arms, NoElse, Else, Arm, Resolved}
+use Rattle.lil_resolved.specs.Resolved.{Function, Abs, Cap, Chr, Odd, Ord, Val, Expression, Constant, Taken, One, Two, Short, Apply, Argument, Statement, Assign, Change, Request, If, Case, While, Repeat, Loop, Exit, Halt, Return, For, Statements, Empty, Then, Arms, NoElse, Else, Arm, Resolved, kind_of_place, kind_of, counted_as}
+use Rattle.lil_base.specs.Words.{Cardinal, Integer}
+use Rattle.lil_resolved.specs.Kinds.{Kind, OfWhole, OfCharacter, base_of, compared_as, covers, outside_turns}
 pub use Rattle.lil_resolved.specs.Depth.{depth, statement_loops, body_loops, arms_loops, frame_words}
-pub use Rattle.lil_resolved.specs.Sound.{is_base, is_whole, takes_one, takes_two, IsSoundPlace, IsSoundFunction, IsSoundExpression, IsSoundWhole, IsSoundLabel, AreSoundLabels, IsStep, IsSoundStatement, IsSoundBody, AreSoundArms, IsSound}
+pub use Rattle.lil_resolved.specs.Sound.{is_base, is_whole, takes_one, takes_two, takes_value, takes_function, IsSoundVariable, IsSoundPlace, IsSoundExpression, IsSoundWhole, IsSoundValue, request_kinds, AreSoundArguments, IsSoundLabel, AreSoundLabels, IsStep, IsSoundStatement, IsSoundBody, AreSoundArms, IsSound}
 
 -- how many bytes the code of an operator takes
 abbrev pub one_size : OneOp → ℕ
@@ -19,6 +21,24 @@ two_size Greater = 2
 two_size AtLeast = 2
 two_size _ = 1
 
+-- how many bytes the test takes that a value of the second kind is one of the first, where it isn't always
+abbrev pub test_size : Kind → Kind → ℕ
+test_size k j = if covers k j then 0 else 5
+
+-- how many bytes it takes to bring the start of a FOR to its limit's type, where it is a whole number of the other
+abbrev pub align_size : Kind → Kind → ℤ → ℕ
+align_size k j step = if covers (base_of k) j then 0 else (if outside_turns (compared_as (base_of k)) step then 7 else 15)
+
+-- how many bytes the code of a standard function of a value of a kind takes
+abbrev pub function_size : Function → Kind → ℕ
+function_size (Abs Cardinal) k = 0
+function_size (Abs Integer) k = 1
+function_size Cap k = 1
+function_size Chr k = test_size OfCharacter k
+function_size Odd k = 4
+function_size Ord k = test_size (OfWhole Cardinal) k
+function_size (Val j) k = test_size j k
+
 -- how many bytes an expression's code takes
 abbrev pub size : Expression → ℕ
 size (Constant k v) = 3
@@ -26,16 +46,17 @@ size (Taken d) = 3
 size (One o k a) = size a + one_size o
 size (Two o k a b) = size a + size b + two_size o
 size (Short d a b) = size a + size b + 3
-size (Apply f a) = size a + 5
+size (Apply f a) = size a + function_size f (kind_of a)
 
 abbrev pub arguments_size : List Argument → ℕ
 arguments_size [] = 0
-arguments_size (a ∷ given) = size a.value + arguments_size given
+arguments_size (a ∷ given) = size a.value + test_size a.kind (kind_of a.value) + arguments_size given
 
 -- how many bytes the code of a statement takes
 abbrev mutual
   pub statement_size : Statement → ℕ
-  statement_size (Assign d e) = size e + 3
+  statement_size (Assign d e) = size e + test_size (kind_of_place d) (kind_of e) + 3
+  statement_size (Change down d e) = size e + 5 + test_size (kind_of_place d) (OfWhole (counted_as (kind_of_place d))) + 3
   statement_size (Request r given) = arguments_size given + 2
   statement_size (If c a b) = size c + 3 + body_size a + 3 + body_size b
   statement_size (Case e arms) = size e + 3 + 3 + arms_size arms + 5
@@ -43,7 +64,9 @@ abbrev mutual
   statement_size (Repeat body c) = body_size body + size c + 3
   statement_size (Loop body) = body_size body + 3
   statement_size Exit = 3
-  statement_size (For d a b step body) = size a + size b + 15 + body_size body + 5
+  statement_size Halt = 2
+  statement_size Return = 1
+  statement_size (For d a b step body) = size a + size b + align_size (kind_of_place d) (kind_of a) step + 15 + test_size (kind_of_place d) (base_of (kind_of_place d)) + body_size body + 5
 
   pub body_size : Statements → ℕ
   body_size Empty = 0

@@ -1,26 +1,15 @@
 -- Sound resolved modules: variables are known, operands have their operator's kind, and constants fit theirs.
-use Rattle.std.specs.Prelude.{◌≡◌, ◌≢◌, ℕ, ◌<◌, ◌≤◌, ℤ, pos, negsuc, ◌≤ℤ◌, nat_le, Bool, true, false, List, [], ◌∷◌, length}
+use Rattle.std.specs.Prelude.{◌≡◌, ◌≢◌, ℕ, ◌≤◌, ◌==◌, ℤ, pos, negsuc, ◌≤ℤ◌, Bool, true, false, ◌&&◌, ◌||◌, List, [], ◌∷◌, map, Option, Some, None, slice_get, if◌then◌else◌}
 use Rattle.lil_base.specs.Words.{Cardinal, Integer}
 use Rattle.lil_base.specs.declared.operator.OneOp.{OneOp}
 use Rattle.lil_base.specs.declared.operator.OneOp.TheVariants as one
 use Rattle.lil_base.specs.declared.operator.TwoOp.{TwoOp}
 use Rattle.lil_base.specs.declared.operator.TwoOp.TheVariants.{Equal, Unequal, Less, AtMost, Greater, AtLeast, In, Plus, Minus, Or, Times, Slash, Div, Mod, And}
-use Rattle.lil_resolved.specs.Kinds.{Kind, OfWhole, OfTruth, OfCharacter, OfEnumeration, OfRange}
+pub use Rattle.lil_resolved.specs.Kinds.{is_base, is_whole, alike, takes_value}
+use Rattle.lil_resolved.specs.Kinds.{Kind, OfWhole, OfTruth, OfCharacter, base_of}
 use Rattle.lil_resolved.specs.Scalars.{within, scalar_of, ordinal_of}
-use Rattle.lil_resolved.specs.Resolved.{Designator, Variable, Function, Abs, Cap, Chr, Odd, Ord, Val, Expression, Constant, Taken, One, Two, Short, Apply, Label, Statement, Assign, Request, If, Case, While, Repeat, Loop, Exit, For, Statements, Empty, Then, Arms, NoElse, Else, Arm, Resolved, kind_of}
+use Rattle.lil_resolved.specs.Resolved.{Designator, Variable, Function, Abs, Cap, Chr, Odd, Ord, Val, Expression, Constant, Taken, One, Two, Short, Apply, Label, Argument, Statement, Assign, Change, Request, If, Case, While, Repeat, Loop, Exit, Halt, Return, For, Statements, Empty, Then, Arms, NoElse, Else, Arm, Resolved, kind_of, counted_as}
 use Rattle.lil_resolved.specs.Depth.{depth}
-
--- kinds that aren't a part of another, whose values are words
-abbrev pub is_base : Kind → Bool
-is_base (OfWhole t) = true
-is_base OfTruth = true
-is_base OfCharacter = true
-is_base (OfEnumeration n) = nat_le n 65535
-is_base (OfRange base low high) = false
-
-abbrev pub is_whole : Kind → Bool
-is_whole (OfWhole t) = true
-is_whole _ = false
 
 -- an operator takes operands of this kind
 abbrev pub takes_one : OneOp → Kind → Bool
@@ -47,32 +36,44 @@ takes_two Or k = false
 takes_two Slash k = false
 takes_two And k = false
 
--- Over so many variables, all CARDINAL: variables are known, operands have their operator's kind, and constants fit theirs.
-abbrev pub IsSoundPlace : ℕ → Designator → Type 0
-IsSoundPlace n (Variable x k) = (x < n) × (k ≡ OfWhole Cardinal)
+-- a standard function takes a value of this kind
+abbrev pub takes_function : Function → Kind → Bool
+takes_function (Abs Cardinal) (OfWhole Cardinal) = true
+takes_function (Abs Integer) (OfWhole Integer) = true
+takes_function (Abs t) k = false
+takes_function Cap OfCharacter = true
+takes_function Cap k = false
+takes_function Chr k = is_whole k
+takes_function Odd k = is_whole k
+takes_function Ord k = is_base k
+takes_function (Val j) k = is_base k && is_base (base_of j)
 
--- the standard functions that have a code
-abbrev pub IsSoundFunction : Function → Kind → Type 0
-IsSoundFunction Chr k = k ≡ OfWhole Cardinal
-IsSoundFunction (Abs t) k = ⊥
-IsSoundFunction Cap k = ⊥
-IsSoundFunction Odd k = ⊥
-IsSoundFunction Ord k = ⊥
-IsSoundFunction (Val j) k = ⊥
+-- over variables of these kinds, whose bases have words: variables are known, operands have their operator's kind, and constants fit theirs
+pub record IsSoundVariable (ks : List Kind) (x : ℕ) (k : Kind) : Type 0 where
+  pub known : slice_get ks x ≡ Some k
+  pub base : is_base (base_of k) ≡ true
 
-abbrev pub IsSoundExpression : ℕ → Expression → Type 0
-IsSoundExpression n (Constant k v) = within k v ≡ true
-IsSoundExpression n (Taken d) = IsSoundPlace n d
-IsSoundExpression n (One o k a) = (takes_one o k ≡ true) × (kind_of a ≡ k) × IsSoundExpression n a
-IsSoundExpression n (Two o k a b) = (takes_two o k ≡ true) × (kind_of a ≡ k) × (kind_of b ≡ k) × IsSoundExpression n a × IsSoundExpression n b
-IsSoundExpression n (Short d a b) = (kind_of a ≡ OfTruth) × (kind_of b ≡ OfTruth) × IsSoundExpression n a × IsSoundExpression n b
-IsSoundExpression n (Apply f a) = IsSoundFunction f (kind_of a) × IsSoundExpression n a
+abbrev pub IsSoundPlace : List Kind → Designator → Type 0
+IsSoundPlace ks (Variable x k) = IsSoundVariable ks x k
+
+abbrev pub IsSoundExpression : List Kind → Expression → Type 0
+IsSoundExpression ks (Constant k v) = within k v ≡ true
+IsSoundExpression ks (Taken d) = IsSoundPlace ks d
+IsSoundExpression ks (One o k a) = (takes_one o k ≡ true) × (kind_of a ≡ k) × IsSoundExpression ks a
+IsSoundExpression ks (Two o k a b) = (takes_two o k ≡ true) × (kind_of a ≡ k) × (kind_of b ≡ k) × IsSoundExpression ks a × IsSoundExpression ks b
+IsSoundExpression ks (Short d a b) = (kind_of a ≡ OfTruth) × (kind_of b ≡ OfTruth) × IsSoundExpression ks a × IsSoundExpression ks b
+IsSoundExpression ks (Apply f a) = (takes_function f (kind_of a) ≡ true) × IsSoundExpression ks a
 
 -- an expression of a kind that stands alone
-pub record IsSoundWhole (n : ℕ) (e : Expression) (k : Kind) : Type 0 where
+pub record IsSoundWhole (ks : List Kind) (e : Expression) (k : Kind) : Type 0 where
   pub kind : kind_of e ≡ k
   pub shallow : depth e ≤ 12
-  pub sound : IsSoundExpression n e
+  pub sound : IsSoundExpression ks e
+
+-- an expression whose value may be stored where one of a kind is wanted
+pub record IsSoundValue (ks : List Kind) (e : Expression) (k : Kind) : Type 0 where
+  pub takes : takes_value k (kind_of e) ≡ true
+  pub whole : IsSoundWhole ks e (kind_of e)
 
 -- a range of labels isn't empty, and its ends are numbers of values of the kind
 pub record IsSoundLabel (k : Kind) (l : Label) : Type 0 where
@@ -92,27 +93,45 @@ pub record IsStep (z : ℤ) : Type 0 where
   pub lower : negsuc 32767 ≤ℤ z
   pub upper : z ≤ℤ pos 32767
 
--- statements over n variables, inside a LOOP or not
+-- the kinds of the parameters of a request for words alone
+abbrev pub request_kinds : ℕ → Option (List Kind)
+request_kinds r =
+    if r == 2 then Some (OfCharacter ∷ [])
+    else (if r == 4 then Some []
+    else (if r == 6 then Some (OfWhole Integer ∷ OfWhole Cardinal ∷ [])
+    else (if r == 5 || r == 7 || r == 8 then Some (OfWhole Cardinal ∷ OfWhole Cardinal ∷ []) else None)))
+
+abbrev pub AreSoundArguments : List Kind → List Argument → Type 0
+AreSoundArguments ks [] = Unit {0}
+AreSoundArguments ks (a ∷ given) = IsSoundValue ks a.value a.kind × AreSoundArguments ks given
+
+abbrev pub argument_kind : Argument → Kind
+argument_kind a = a.kind
+
+-- statements over variables of these kinds, inside a LOOP or not
 abbrev mutual
-  pub IsSoundStatement : ℕ → Bool → Statement → Type 0
-  IsSoundStatement n looping (Assign (Variable x k) e) = (x < n) × (k ≡ OfWhole Cardinal) × IsSoundWhole n e k
-  IsSoundStatement n looping (Request r given) = (r ≡ 2) × (e : Expression) × (given ≡ record { kind = OfCharacter; value = e } ∷ []) × IsSoundWhole n e OfCharacter
-  IsSoundStatement n looping (If c a b) = IsSoundWhole n c OfTruth × IsSoundBody n looping a × IsSoundBody n looping b
-  IsSoundStatement n looping (Case e arms) = (is_base (kind_of e) ≡ true) × IsSoundWhole n e (kind_of e) × AreSoundArms n looping (kind_of e) arms
-  IsSoundStatement n looping (While c body) = IsSoundWhole n c OfTruth × IsSoundBody n looping body
-  IsSoundStatement n looping (Repeat body c) = IsSoundBody n looping body × IsSoundWhole n c OfTruth
-  IsSoundStatement n looping (Loop body) = IsSoundBody n true body
-  IsSoundStatement n looping Exit = looping ≡ true
-  IsSoundStatement n looping (For (Variable x k) a b step body) = (x < n) × (k ≡ OfWhole Cardinal) × IsSoundWhole n a k × IsSoundWhole n b k × IsStep step × IsSoundBody n looping body
+  pub IsSoundStatement : List Kind → Bool → Statement → Type 0
+  IsSoundStatement ks looping (Assign (Variable x k) e) = IsSoundVariable ks x k × IsSoundValue ks e k
+  IsSoundStatement ks looping (Change down (Variable x k) e) = IsSoundVariable ks x k × IsSoundWhole ks e (OfWhole (counted_as k))
+  IsSoundStatement ks looping (Request r given) = (request_kinds r ≡ Some (map argument_kind given)) × AreSoundArguments ks given
+  IsSoundStatement ks looping (If c a b) = IsSoundWhole ks c OfTruth × IsSoundBody ks looping a × IsSoundBody ks looping b
+  IsSoundStatement ks looping (Case e arms) = (is_base (kind_of e) ≡ true) × IsSoundWhole ks e (kind_of e) × AreSoundArms ks looping (kind_of e) arms
+  IsSoundStatement ks looping (While c body) = IsSoundWhole ks c OfTruth × IsSoundBody ks looping body
+  IsSoundStatement ks looping (Repeat body c) = IsSoundBody ks looping body × IsSoundWhole ks c OfTruth
+  IsSoundStatement ks looping (Loop body) = IsSoundBody ks true body
+  IsSoundStatement ks looping Exit = looping ≡ true
+  IsSoundStatement ks looping Halt = Unit {0}
+  IsSoundStatement ks looping Return = Unit {0}
+  IsSoundStatement ks looping (For (Variable x k) a b step body) = IsSoundVariable ks x k × IsSoundValue ks a k × IsSoundWhole ks b (base_of k) × IsStep step × IsSoundBody ks looping body
 
-  pub IsSoundBody : ℕ → Bool → Statements → Type 0
-  IsSoundBody n looping Empty = Unit {0}
-  IsSoundBody n looping (Then s ss) = IsSoundStatement n looping s × IsSoundBody n looping ss
+  pub IsSoundBody : List Kind → Bool → Statements → Type 0
+  IsSoundBody ks looping Empty = Unit {0}
+  IsSoundBody ks looping (Then s ss) = IsSoundStatement ks looping s × IsSoundBody ks looping ss
 
-  pub AreSoundArms : ℕ → Bool → Kind → Arms → Type 0
-  AreSoundArms n looping k NoElse = Unit {0}
-  AreSoundArms n looping k (Else body) = IsSoundBody n looping body
-  AreSoundArms n looping k (Arm labels body rest) = AreSoundLabels k labels × IsSoundBody n looping body × AreSoundArms n looping k rest
+  pub AreSoundArms : List Kind → Bool → Kind → Arms → Type 0
+  AreSoundArms ks looping k NoElse = Unit {0}
+  AreSoundArms ks looping k (Else body) = IsSoundBody ks looping body
+  AreSoundArms ks looping k (Arm labels body rest) = AreSoundLabels k labels × IsSoundBody ks looping body × AreSoundArms ks looping k rest
 
 abbrev pub IsSound : Resolved → Type 0
-IsSound m = IsSoundBody (length m.variables) false m.body
+IsSound m = IsSoundBody m.variables false m.body

@@ -1,12 +1,25 @@
 -- The resolved module that a tree of the program is.
-use Rattle.std.specs.Prelude.{ℕ, pos, List, [], ◌∷◌, map, Option, Some, None, true, false}
+use Rattle.std.specs.Prelude.{ℕ, Bool, List, [], ◌∷◌, map, Option, Some, None, true, false}
 use Rattle.lil_base.specs.Words.{Cardinal, Integer}
-use Rattle.lil_resolved.specs.Kinds.{Kind, OfWhole, OfTruth, OfCharacter}
-use Rattle.lil_resolved.specs.Scalars.{Number, Truth, Character}
-use Rattle.lil_resolved.specs.Resolved.{Designator, Variable, Chr, Expression, Constant, Taken, One, Two, Short, Apply, Label, Statement, Assign, Request, If, Case, While, Repeat, Loop, Exit, For, Statements, Empty, Then, Arms, NoElse, Else, Arm, Resolved, kind_of}
+use Rattle.lil_resolved.specs.Kinds.{Kind, OfWhole, OfTruth, OfCharacter, OfEnumeration, OfRange, compared_as}
+use Rattle.lil_resolved.specs.Scalars.{scalar_of}
+use Rattle.lil_resolved.specs.Resolved.{Designator, Variable, Function, Abs, Cap, Chr, Odd, Ord, Val, Expression, Constant, Taken, One, Two, Short, Apply, Argument, Label, Assign, Change, Request, If, Case, While, Repeat, Loop, Exit, Halt, Return, For, Statements, Empty, Then, Arms, NoElse, Else, Arm, Resolved, kind_of}
 use Rattle.lil_base.specs.declared.operator.OneOp.{OneOp}
 use Rattle.lil_base.specs.declared.operator.TwoOp.{TwoOp}
 use Rattle.lil_base.specs.declared.operator.TwoOp.TheVariants.{Equal, Unequal, Less, AtMost, Greater, AtLeast, In, Plus, Minus, Or, Times, Slash, Div, Mod, And}
+use Rattle.lil_resolved.specs.declared.resolved.RBase.{RBase}
+use Rattle.lil_resolved.specs.declared.resolved.RBase.TheVariants as b
+use Rattle.lil_resolved.specs.declared.resolved.RRange.{RRange}
+use Rattle.lil_resolved.specs.declared.resolved.RKind.{RKind}
+use Rattle.lil_resolved.specs.declared.resolved.RVariable.{RVariable}
+use Rattle.lil_resolved.specs.declared.resolved.RFunction.{RFunction}
+use Rattle.lil_resolved.specs.declared.resolved.RFunction.TheVariants as f
+use Rattle.lil_resolved.specs.declared.resolved.RRequest.{RRequest}
+use Rattle.lil_resolved.specs.declared.resolved.RRequest.TheVariants as q
+use Rattle.lil_resolved.specs.declared.resolved.Direction.{Direction}
+use Rattle.lil_resolved.specs.declared.resolved.Direction.TheVariants as d
+use Rattle.lil_resolved.specs.declared.resolved.RArgument.{RArgument}
+use Rattle.lil_resolved.specs.declared.resolved.RDeclared.{RDeclared}
 use Rattle.lil_resolved.specs.declared.resolved.RExpr.{RExpr}
 use Rattle.lil_resolved.specs.declared.resolved.RExpr.TheOpen as x
 use Rattle.lil_resolved.specs.declared.resolved.RExpr.TheOpen.{RExpr-F, ROperation-F}
@@ -21,14 +34,46 @@ use Rattle.lil_resolved.specs.declared.resolved.RArm.{RArm}
 use Rattle.lil_resolved.specs.declared.resolved.RLabel.{RLabel}
 use Rattle.lil_resolved.specs.declared.resolved.RModule.{RModule}
 
--- the CARDINAL variable with this number
-abbrev pub cardinal_variable : ℕ → Designator
-cardinal_variable n = Variable n (OfWhole Cardinal)
+-- ---- kinds, variables, functions and requests
+abbrev pub base_view : RBase → Kind
+base_view b.Cardinal = OfWhole Cardinal
+base_view b.Integer = OfWhole Integer
+base_view b.Truth = OfTruth
+base_view b.Character = OfCharacter
+base_view (b.Enumeration n) = OfEnumeration n
 
--- the statement that writes a character
-abbrev pub write_of : Expression → Statement
-write_of e = Request 2 (record { kind = OfCharacter; value = e } ∷ [])
+abbrev pub ranged_view : Kind → Option RRange → Kind
+ranged_view k None = k
+ranged_view k (Some r) = OfRange k r.low r.high
 
+abbrev pub kind_view : RKind → Kind
+kind_view k = ranged_view (base_view k.base) k.range
+
+abbrev pub variable_of : RVariable → Designator
+variable_of v = Variable v.number (kind_view v.kind)
+
+-- a function of a value of a kind
+abbrev pub function_of : RFunction → Kind → Function
+function_of f.Abs k = Abs (compared_as k)
+function_of f.Cap k = Cap
+function_of f.Chr k = Chr
+function_of f.Odd k = Odd
+function_of f.Ord k = Ord
+function_of (f.Val j) k = Val (kind_view j)
+
+abbrev pub request_number : RRequest → ℕ
+request_number q.Write = 2
+request_number q.WriteLn = 4
+request_number q.WriteCard = 5
+request_number q.WriteInt = 6
+request_number q.WriteOct = 7
+request_number q.WriteHex = 8
+
+abbrev pub is_down : Direction → Bool
+is_down d.Up = false
+is_down d.Down = true
+
+-- ---- expressions
 -- an operator on two expressions; AND and OR take their right one only where it is needed
 abbrev pub two_of : TwoOp → Expression → Expression → Expression
 two_of And a b = Short false a b
@@ -57,14 +102,11 @@ chained a (f ∷ fs) = chained (f a) fs
 
 -- what an expression and an operation are, where their parts are known
 abbrev pub expression_layer : RExpr-F Expression (Expression → Expression) → Expression
-expression_layer (x.Number n) = Constant (OfWhole Cardinal) (Number (pos n))
-expression_layer (x.Integer n) = Constant (OfWhole Integer) (Number n)
-expression_layer (x.Truth b) = Constant OfTruth (Truth b)
-expression_layer (x.Character c) = Constant OfCharacter (Character c)
-expression_layer (x.Variable n) = Taken (cardinal_variable n)
+expression_layer (x.Constant base z) = Constant (base_view base) (scalar_of (base_view base) z)
+expression_layer (x.Variable v) = Taken (variable_of v)
 expression_layer (x.One o a) = one_of o a
 expression_layer (x.Chain a os) = chained a os
-expression_layer (x.Chr a) = Apply Chr a
+expression_layer (x.Apply f a) = Apply (function_of f (kind_of a)) a
 
 abbrev pub operation_layer : ROperation-F Expression (Expression → Expression) → Expression → Expression
 operation_layer o a = two_of o.operator a o.operand
@@ -74,6 +116,9 @@ expression_of = fold-RExpr Expression (Expression → Expression) expression_lay
 
 abbrev pub operation_of : ROperation → Expression → Expression
 operation_of = fold-ROperation Expression (Expression → Expression) expression_layer operation_layer
+
+abbrev pub argument_of : RArgument → Argument
+argument_of a = record { kind = kind_view a.kind; value = expression_of a.value }
 
 abbrev pub label_of : RLabel → Label
 label_of l = record { low = l.low; high = l.high }
@@ -104,15 +149,18 @@ otherwise_of (Some ss) = Else (all_of ss)
 
 -- what a statement, an arm and a guard are, where their parts are known
 abbrev pub statement_layer : RStmt-F Statements (Arms → Arms) (Statements → Statements) → Statements
-statement_layer (o.Assign n e) = Then (Assign (cardinal_variable n) (expression_of e)) Empty
-statement_layer (o.Write e) = Then (write_of (expression_of e)) Empty
+statement_layer (o.Assign v e) = Then (Assign (variable_of v) (expression_of e)) Empty
+statement_layer (o.Change way v e) = Then (Change (is_down way) (variable_of v) (expression_of e)) Empty
+statement_layer (o.Request r given) = Then (Request (request_number r) (map argument_of given)) Empty
 statement_layer (o.If gs ss) = guarded gs (all_of ss)
 statement_layer (o.Case e cases other) = Then (Case (expression_of e) (armed cases (otherwise_of other))) Empty
 statement_layer (o.While e ss) = Then (While (expression_of e) (all_of ss)) Empty
 statement_layer (o.Repeat ss e) = Then (Repeat (all_of ss) (expression_of e)) Empty
 statement_layer (o.Loop ss) = Then (Loop (all_of ss)) Empty
 statement_layer o.Exit = Then Exit Empty
-statement_layer (o.For n a b step ss) = Then (For (cardinal_variable n) (expression_of a) (expression_of b) step (all_of ss)) Empty
+statement_layer o.Halt = Then Halt Empty
+statement_layer o.Return = Then Return Empty
+statement_layer (o.For v a b step ss) = Then (For (variable_of v) (expression_of a) (expression_of b) step (all_of ss)) Empty
 
 abbrev pub arm_layer : RArm-F Statements (Arms → Arms) (Statements → Statements) → Arms → Arms
 arm_layer a other = Arm (map label_of a.labels) (all_of a.body) other
@@ -144,8 +192,11 @@ else_of (Some ss) = Else (statements_of ss)
 abbrev pub arms_of : List RArm → Option (List RStmt) → Arms
 arms_of cases other = armed (map arm_of cases) (else_of other)
 
-abbrev pub cardinal : List ℕ → Kind
-cardinal name = OfWhole Cardinal
+abbrev pub name_of : RDeclared → List ℕ
+name_of v = v.name
+
+abbrev pub kind_declared : RDeclared → Kind
+kind_declared v = kind_view v.kind
 
 abbrev pub module_of : RModule → Resolved
-module_of m = record { name = m.name; names = m.variables; variables = map cardinal m.variables; body = statements_of m.body }
+module_of m = record { name = m.name; names = map name_of m.variables; variables = map kind_declared m.variables; body = statements_of m.body }

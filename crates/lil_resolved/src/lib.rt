@@ -6,4 +6,7 @@ mod resolved;
 mod tests;
 
 pub use lil_base::{OneOp, TwoOp};
-pub use resolved::{RArm, RExpr, RGuard, RLabel, RModule, ROperation, RStmt, depth};
+pub use resolved::{
+    Direction, RArgument, RArm, RBase, RDeclared, RExpr, RFunction, RGuard, RKind, RLabel, RModule,
+    ROperation, RRange, RRequest, RStmt, RVariable, base, depth, whole_base,
+};

@@ -1,25 +1,84 @@
 ghost use Rattle.std.specs.Prelude.{◌≡◌, min};
-ghost use Rattle.lil_resolved.specs.Depth.{depth as depth_of};
+ghost use Rattle.lil_resolved.specs.Depth.{depth as depth_of, function_depth as function_depth_of};
 ghost use Rattle.lil_resolved.specs.Chains as chain;
-ghost use Rattle.lil_resolved.specs.Views.{expression_of};
+ghost use Rattle.lil_resolved.specs.Kinds.{Kind, OfWhole, compared_as};
+ghost use Rattle.lil_resolved.specs.Resolved.{kind_of, function_kind};
+ghost use Rattle.lil_resolved.specs.Views.{base_view, function_of, expression_of};
 
 use crate::{OneOp, TwoOp};
 use lil_base::{Boxed, Items, Name};
 
-/// An expression with each name replaced by its thing, and each constant expression by its value.
-/// A number is a CARDINAL, an integer an INTEGER, and a variable is its number among the module's. A chain is its first
-/// operand, and then each operation in its order on what stands before it.
+/// What values are: numbers of a type of whole numbers, truth values, characters, or the constants of an enumeration
+/// with so many of them.
+#[derive(Clone, Copy, Debug, PartialEq, Eq)]
+pub enum RBase {
+    Cardinal,
+    Integer,
+    Truth,
+    Character,
+    Enumeration(u16),
+}
+
+/// The numbers of a subrange, its ends included.
+#[derive(Clone, Copy, Debug, PartialEq, Eq)]
+pub struct RRange {
+    pub low: i32,
+    pub high: i32,
+}
+
+/// The kind of a variable: what its values are, and their range where it is a subrange.
+#[derive(Clone, Copy, Debug, PartialEq, Eq)]
+pub struct RKind {
+    pub base: RBase,
+    pub range: Option<RRange>,
+}
+
+/// A variable of the module: its number, and its kind.
+#[derive(Clone, Copy, Debug, PartialEq, Eq)]
+pub struct RVariable {
+    pub number: u16,
+    pub kind: RKind,
+}
+
+/// A standard function of one value. VAL has the kind of which its value is.
+#[derive(Clone, Copy, Debug, PartialEq, Eq)]
+pub enum RFunction {
+    Abs,
+    Cap,
+    Chr,
+    Odd,
+    Ord,
+    Val(RKind),
+}
+
+/// A procedure of a resident module that takes words alone (Medos-2, Terminal and InOut).
+#[derive(Clone, Copy, Debug, PartialEq, Eq)]
+pub enum RRequest {
+    Write,
+    WriteLn,
+    WriteCard,
+    WriteInt,
+    WriteOct,
+    WriteHex,
+}
+
+/// Whether a variable's number grows, by INC, or falls, by DEC.
+#[derive(Clone, Copy, Debug, PartialEq, Eq)]
+pub enum Direction {
+    Up,
+    Down,
+}
+
+/// An expression with each name replaced by its thing, and each constant expression by its value, which stands by its
+/// number. A chain is its first operand, and then each operation in its order on what stands before it.
 #[cycle(value)]
 #[derive(Drop)]
 pub enum RExpr {
-    Number(u16),
-    Integer(i16),
-    Truth(bool),
-    Character(u8),
-    Variable(u16),
+    Constant(RBase, i32),
+    Variable(RVariable),
     One(OneOp, Boxed<RExpr>),
     Chain(Boxed<RExpr>, Items<ROperation>),
-    Chr(Boxed<RExpr>),
+    Apply(RFunction, Boxed<RExpr>),
 }
 
 /// What an operator does to the value before it: the operator, and its right operand.
@@ -30,20 +89,30 @@ pub struct ROperation {
     pub operand: RExpr,
 }
 
+/// A value argument, and its parameter's kind.
+#[derive(Drop)]
+pub struct RArgument {
+    pub kind: RKind,
+    pub value: RExpr,
+}
+
 /// A resolved statement. IF has its conditions in order, a CASE or an IF without ELSE has none, and FOR has its variable,
 /// its first value, its last and its step.
 #[cycle(resolved)]
 #[derive(Drop)]
 pub enum RStmt {
-    Assign(u16, RExpr),
-    Write(RExpr),
+    Assign(RVariable, RExpr),
+    Change(Direction, RVariable, RExpr),
+    Request(RRequest, Items<RArgument>),
     If(Items<RGuard>, Items<RStmt>),
     Case(RExpr, Items<RArm>, Option<Items<RStmt>>),
     While(RExpr, Items<RStmt>),
     Repeat(Items<RStmt>, RExpr),
     Loop(Items<RStmt>),
     Exit,
-    For(u16, RExpr, RExpr, i16, Items<RStmt>),
+    Halt,
+    Return,
+    For(RVariable, RExpr, RExpr, i16, Items<RStmt>),
 }
 
 /// A condition, and the statements behind its THEN.
@@ -69,12 +138,29 @@ pub struct RLabel {
     pub high: i32,
 }
 
+/// A variable of a module.
+#[derive(Drop)]
+pub struct RDeclared {
+    pub name: Name,
+    pub kind: RKind,
+}
+
 /// A resolved program module.
 #[derive(Drop)]
 pub struct RModule {
     pub name: Name,
-    pub variables: Items<Name>,
+    pub variables: Items<RDeclared>,
     pub body: Items<RStmt>,
+}
+
+/// How many words of the expression stack the code of a standard function takes, its argument's included.
+fn function_depth(function: RFunction) -> u32
+    ensures { (k : Kind) → result ≡ function_depth_of (function_of function k) }
+{
+    match function {
+        RFunction::Odd => 2,
+        RFunction::Abs | RFunction::Cap | RFunction::Chr | RFunction::Ord | RFunction::Val(_) => 1,
+    }
 }
 
 /// How many words of the expression stack an expression takes, or 4,294,967,295 where they are more. It takes no memory.
@@ -84,12 +170,12 @@ pub fn depth(e: &RExpr) -> u32
     ensures { result ≡ min (depth_of (expression_of e.now)) 4294967295 }
 {
     match e {
+        RExpr::Constant(_, _) | RExpr::Variable(_) => 1,
         RExpr::One(_, value) => depth(value.get()),
-        RExpr::Chr(value) => depth(value.get()),
+        RExpr::Apply(function, value) => depth(value.get()).max(function_depth(*function)),
         RExpr::Chain(first, operations) => {
             depth(first.get()).max(operations_depth(operations.as_slice()))
         }
-        _ => 1,
     }
 }
 
@@ -104,4 +190,74 @@ fn operations_depth(operations: &[ROperation]) -> u32
         most = most.max(depth(&operation.operand).saturating_add(1));
     }
     most
+}
+
+/// The base of the values of an expression: that of its first operand, where all its operators give values of their
+/// operands' kind.
+#[cycle(kinds)]
+#[tactic(auto, using(crate::proofs::Depths::chain_kind, crate::specs::Bases::own_base))]
+pub fn base(e: &RExpr) -> RBase
+    ensures { base_view result ≡ kind_of (expression_of e.now) }
+{
+    match e {
+        RExpr::Constant(base, _) => *base,
+        RExpr::Variable(variable) => variable.kind.base,
+        RExpr::One(_, value) => base(value.get()),
+        RExpr::Apply(function, value) => function_base(*function, value.get()),
+        RExpr::Chain(first, operations) => {
+            if compute_all(operations.as_slice()) {
+                base(first.get())
+            } else {
+                RBase::Truth
+            }
+        }
+    }
+}
+
+/// The base of the value of a standard function.
+#[cycle(kinds)]
+#[tactic(auto, using(crate::specs::Bases::own_base))]
+fn function_base(function: RFunction, value: &RExpr) -> RBase
+    ensures { base_view result ≡ function_kind (function_of function (kind_of (expression_of value.now))) }
+{
+    match function {
+        RFunction::Abs => whole_base(base(value)),
+        RFunction::Cap | RFunction::Chr => RBase::Character,
+        RFunction::Odd => RBase::Truth,
+        RFunction::Ord => RBase::Cardinal,
+        RFunction::Val(kind) => kind.base,
+    }
+}
+
+/// The whole numbers as which words of a base are compared.
+pub fn whole_base(base: RBase) -> RBase
+    ensures { base_view result ≡ OfWhole (compared_as (base_view base)) }
+{
+    match base {
+        RBase::Integer => RBase::Integer,
+        _ => RBase::Cardinal,
+    }
+}
+
+/// Whether operations all compute, so that they leave a value of the kind that they begin with.
+#[tactic(auto, using(crate::proofs::Depths::arithmetic_left))]
+fn compute_all(operations: &[ROperation]) -> bool
+    ensures { result ≡ chain.all_arithmetic operations.now }
+{
+    for operation in operations {
+        if !computes(operation.operator) {
+            return false;
+        }
+    }
+    true
+}
+
+/// Whether an operator is one of arithmetic.
+fn computes(operator: TwoOp) -> bool
+    ensures { result ≡ chain.is_arithmetic operator }
+{
+    match operator {
+        TwoOp::Plus | TwoOp::Minus | TwoOp::Times | TwoOp::Slash | TwoOp::Div | TwoOp::Mod => true,
+        _ => false,
+    }
 }

@@ -1,5 +1,5 @@
 -- One step of a run, as it is shown.
-use Rattle.std.proofs.Common.{◌≡◌, ◌≢◌, ℕ, Option, List, [], refl, sym, ap, ◌∙◌, subst}
+use Rattle.std.proofs.Common.{◌≡◌, ℕ, Option, Some, List, [], refl, sym, ap, ◌∙◌, subst}
 use Rattle.std.proofs.lemmas.List.{append-nil}
 use Rattle.lil_meaning.specs.World.{World, serve, piece_of}
 use Rattle.lil_volume.specs.Told.{followed_by, FollowedByPrefix}
@@ -9,6 +9,7 @@ use Rattle.lil_mcode.specs.declared.machine.Event.TheVariants.{Request}
 use Rattle.lil_mcode.specs.State.{State}
 use Rattle.lil_mcode.specs.Table.{mstep}
 use Rattle.lil_asm.specs.Requests.{request_words}
+use Rattle.lil_kernel.specs.Pieces.{some_piece}
 use Rattle.lil_session.specs.Running.{IsAlone, IsStep, IsRefused}
 use Rattle.lil_match.specs.Running.{Finish, Running, Run, running, react, requested, words_taken, arguments, taken}
 use Rattle.lil_match.specs.Steps.{advances}
@@ -24,34 +25,30 @@ step_quiet s t e f old step reacts w = record {
   shown = sym (followed_nothing old);
 }
 
-one_word : (q : ℕ) → q ≡ 2 → words_taken (request_words q) ≡ 1
-one_word q two = ap (λ (n : ℕ). words_taken (request_words n)) two
-
--- a step that writes a character
-pub step_writes : (s t t' : State) (q : ℕ) (old new : Option (List ℕ)) → mstep s ≡ (Request q, t) → q ≡ 2 → t' ≡ taken 1 t → new ≡ followed_by old (piece_of q (arguments 1 t)) → (w : World) → IsStep s t' Running old new w
-step_writes s t t' q old new step two is shown w =
-    let at : (n : ℕ) → Run = λ n. requested q n t (running s w) in
-    let after : (x : State) → Run = λ x. record { machine = x; world = serve q (arguments 1 t) w; finish = Running } in
+-- a step whose request was served
+pub step_writes : (s t t' : State) (q n : ℕ) (old new : Option (List ℕ)) → mstep s ≡ (Request q, t) → request_words q ≡ Some n → t' ≡ taken n t
+    → new ≡ followed_by old (piece_of q (arguments n t)) → (w : World) → IsStep s t' Running old new w
+step_writes s t t' q n old new step has is shown w =
+    let at : Option ℕ → Run = λ o. requested q (words_taken o) t (running s w) in
+    let after : State → Run = λ x. record { machine = x; world = serve q (arguments n t) w; finish = Running } in
     record {
-      world = serve q (arguments 1 t) w;
-      run = advances s w (Request q, t) step ∙ ap at (one_word q two) ∙ ap after (sym is);
-      piece = piece_of q (arguments 1 t);
+      world = serve q (arguments n t) w;
+      run = advances s w (Request q, t) step ∙ ap at has ∙ ap after (sym is);
+      piece = piece_of q (arguments n t);
       adds = refl;
       shown = shown;
     }
 
-some_piece : (q : ℕ) (words : List ℕ) → q ≡ 2 → piece_of q words ≢ []
-some_piece q words two none = let e = ap (λ (n : ℕ). piece_of n words) (sym two) ∙ none in cc
-
--- a step whose character was refused
-pub step_refused : (s t : State) (q : ℕ) (old new : Option (List ℕ)) → mstep s ≡ (Request q, t) → q ≡ 2 → FollowedByPrefix old (piece_of q (arguments 1 t)) new → IsRefused s old new
-step_refused s t q old new step two prefix = record {
+-- a step whose piece was refused
+pub step_refused : (s t : State) (q n : ℕ) (old new : Option (List ℕ)) → mstep s ≡ (Request q, t) → request_words q ≡ Some n
+    → FollowedByPrefix old (piece_of q (arguments n t)) new → IsRefused s old new
+step_refused s t q n old new step has prefix = record {
   number = q;
   asked = t;
   step = step;
-  piece = piece_of q (arguments 1 t);
-  its = ap (λ (n : ℕ). piece_of q (arguments n t)) (sym (one_word q two));
-  some = some_piece q (arguments 1 t) two;
+  piece = piece_of q (arguments n t);
+  its = ap (λ (o : Option ℕ). piece_of q (arguments (words_taken o) t)) (sym has);
+  some = some_piece q n (arguments n t) has;
   prefix = prefix;
 }
 

@@ -9,7 +9,6 @@ use Rattle.lil_meaning.specs.World.{World}
 use Rattle.lil_meaning.specs.Items.{Phase, Source}
 use Rattle.lil_volume.specs.Told.{followed_by, FollowedByPrefix}
 use Rattle.lil_mcode.specs.declared.machine.Event.{Event}
-use Rattle.lil_asm.specs.Requests.{request_words}
 use Rattle.lil_mcode.specs.State.{Module, State, module_at}
 use Rattle.lil_mcode.specs.Table.{mstep}
 use Rattle.std.specs.Prelude.{slice_get, option_and_then}
@@ -21,14 +20,15 @@ use Rattle.lil_session.specs.declared.status.Status.TheVariants as a
 use Rattle.lil_resolved.specs.Sizes.{IsSmall}
 use Rattle.lil_table.specs.Rows.{Translates}
 use Rattle.lil_session.specs.Running.{IsAlone, finish_of, HasRun, IsCut, IsRefused}
-use Rattle.lil_match.specs.Running.{Finish, Running, Run, mrun, running, react, advanced, unless_over, words_taken, arguments}
+use Rattle.lil_match.specs.Running.{Finish, Running, Run, mrun, running, react, advanced, unless_over}
 use Rattle.lil_session.specs.Loaded.{IsAtBody, EndingAnswers, IsPossible}
 use Rattle.lil_laws.specs.Loading.{body_alone}
 use Rattle.lil_session.specs.Outcome.{settled, Shows, Allowed, EndsSo, IsOver, MeansAnswer, IsRunAnswer, Blames}
 use Rattle.lil_meaning.specs.Runs.{begun, state_of}
-use Rattle.lil_session.proofs.Screens.{after_grows, next_piece, one_byte}
+use Rattle.lil_session.proofs.Screens.{after_grows, next_piece}
+use Rattle.lil_session.proofs.Cuts.{whole_piece}
 use Rattle.lil_laws.specs.Whole.{Agrees, mrun_add}
-use Rattle.lil_laws.specs.Start.{own, begun_at, correct}
+use Rattle.lil_laws.specs.Start.{own, begun_at, correct, reached}
 
 -- some world in which nothing was shown
 some_world : World
@@ -134,27 +134,30 @@ module _ (p : Resolved) (code : List ℕ) (small : IsSmall p) (t : Translates p 
   -- what is shown where the screen failed
   pub shows_cut : (steps : ℕ) (old new : Option (List ℕ)) (w : World) → IsCut start steps old new w → Shows p w old new a.ScreenFault
   shows_cut steps old new w cut =
-      let run : Run = mrun cut.done (running start w) in
+      let from : Run = running start w in
+      let run : Run = mrun cut.done from in
+      let piece = cut.refused.piece in
       let c = correct p code small t w cut.done in
       let d = correct p code small t w (suc cut.done) in
-      let byte = one_byte cut.refused.number (arguments (words_taken (request_words cut.refused.number)) cut.refused.asked) (λ none. cut.refused.some (cut.refused.its ∙ none)) in
-      let is : cut.refused.piece ≡ byte.0 ∷ [] = cut.refused.its ∙ byte.1 in
-      let next_run : mrun (suc cut.done) (running start w) ≡ advanced run = mrun_add cut.done (suc cut.done) 1 (running start w) (omega arith) in
-      let grown : (state_of p w d.n).world.screen ≡ (state_of p w c.n).world.screen ++ byte.0 ∷ [] =
-      ap (λ (x : World). x.screen) (sym d.agrees.world) ∙ ap (λ (r : Run). r.world.screen) next_run ∙ refused_adds run cut.finish cut.refused
-      ∙ ap (λ (l : List ℕ). run.world.screen ++ l) is ∙ ap (λ (x : World). x.screen ++ byte.0 ∷ []) c.agrees.world in
-      let f = next_piece (p ∷ []) (begun (p ∷ []) w) c.n d.n byte.0 grown in
+      let shown = (state_of p w c.n).world.screen in
+      let at : run.world.screen ≡ shown = ap (λ (x : World). x.screen) c.agrees.world in
+      let next_run : mrun (suc cut.done) from ≡ advanced run = mrun_add cut.done (suc cut.done) 1 from (omega arith) in
+      let behind : (mrun (suc cut.done) from).world.screen ≡ shown ++ piece =
+      ap (λ (r : Run). r.world.screen) next_run ∙ refused_adds run cut.finish cut.refused ∙ ap (λ (l : List ℕ). l ++ piece) at in
+      let f = next_piece (p ∷ []) (begun (p ∷ []) w) c.n d.n piece cut.refused.some (ap (λ (x : World). x.screen) (sym d.agrees.world) ∙ behind) in
+      let r = reached p code small t w (suc f.m) in
+      let is : f.first ≡ piece =
+      whole_piece from cut.done r.steps shown piece f.first f.rest at behind f.whole f.some (ap (λ (x : World). x.screen) r.world ∙ f.behind) in
       let grows = after_grows (p ∷ []) f.m (begun (p ∷ []) w) in
-      let same : run.world.screen ≡ (state_of p w f.m).world.screen = ap (λ (x : World). x.screen) c.agrees.world ∙ sym f.before in
       record {
         n = f.m;
         shown = record {
           whole = λ differs. absurd (differs refl);
           cut = λ _. record {
-            piece = cut.refused.piece;
+            piece = piece;
             some = cut.refused.some;
-            adds = f.behind ∙ ap (λ (l : List ℕ). l ++ byte.0 ∷ []) (sym f.before) ∙ ap (λ (l : List ℕ). (state_of p w f.m).world.screen ++ l) (sym is);
-            prefix = subst (λ (l : List ℕ). FollowedByPrefix (followed_by old l) cut.refused.piece new) same cut.refused.prefix;
+            adds = f.behind ∙ ap (λ (l : List ℕ). l ++ f.first) (sym f.before) ∙ ap (λ (l : List ℕ). (state_of p w f.m).world.screen ++ l) is;
+            prefix = subst (λ (l : List ℕ). FollowedByPrefix (followed_by old l) piece new) (at ∙ sym f.before) cut.refused.prefix;
           };
           ends = tt;
           stops = λ memory. cc;

@@ -9,7 +9,7 @@ use Rattle.lil_text.specs.declared.stop.ReadStop.{ReadStop}
 use Rattle.lil_text.specs.declared.stop.ReadStop.TheVariants.{Fault, Memory}
 use Rattle.lil_resolved.specs.Resolved.{Resolved}
 use Rattle.lil_resolved.specs.Sizes.{code_size, IsSmall}
-use Rattle.lil_resolved.specs.Views.{module_of, cardinal}
+use Rattle.lil_resolved.specs.Views.{module_of, kind_declared}
 use Rattle.lil_resolved.specs.declared.resolved.RModule.{RModule}
 use Rattle.lil_language.specs.declared.unit.Unit.{Unit as Tree}
 use Rattle.lil_language.specs.Units.{Reads, HasReadFault}
@@ -106,7 +106,7 @@ carried_fault f steps old faults is = subst (λ v. Carried v steps old faults ol
 
 -- ---- by how long the code is
 pub small_of : (m : RModule) → code_size (module_of m) ≤ 32767 → length m.variables ≤ 32000 → IsSmall (module_of m)
-small_of m short few = record { code = short; variables = omega (arith, few, length-map m.variables cardinal) }
+small_of m short few = record { code = short; variables = omega (arith, few, length-map m.variables kind_declared) }
 
 module _ (name : Place) (p : Resolved) where
   pub coded_short : code_size p ≤ 32767 → coded name p ≡ Means p

@@ -2,6 +2,7 @@ mod Advancing
 mod Agree
 mod Alone
 mod Counting
+mod Cuts
 mod Doing
 mod Faulty
 mod Endings

@@ -1,15 +1,15 @@
 -- Each step of the meaning adds a piece to the screen, and keeps the keys and the writes: no request reads or writes them yet.
-use Rattle.std.proofs.Common.{◌≡◌, ◌≢◌, ◌⊎◌, inl, inr, ℕ, zero, suc, ◌+◌, ◌-◌, ◌%◌, ◌<◌, ◌≤◌, ◌==◌, Bool, true, false, if◌then◌else◌, List, [], ◌∷◌, ◌++◌, length, Result, Ok, Err, Option, Some, None, refl, sym, ap, ◌∙◌, arith, append_assoc}
+use Rattle.std.proofs.Common.{◌≡◌, ◌≢◌, ◌⊎◌, inl, inr, ℕ, zero, suc, ◌+◌, ◌-◌, ◌<◌, ◌≤◌, Bool, true, false, if◌then◌else◌, List, [], ◌∷◌, ◌++◌, Result, Ok, Err, Option, Some, None, refl, sym, ap, ◌∙◌, arith, append_assoc}
 use Rattle.std.specs.Prelude.{ℤ, map}
 use Rattle.std.proofs.lemmas.Bool.{cases_lt}
-use Rattle.std.proofs.lemmas.List.{append-nil, append_cancel_left, length-append}
+use Rattle.std.proofs.lemmas.List.{append-nil, append_cancel_left}
 use Rattle.lil_base.specs.declared.fault.TrapKind.{TrapKind}
 use Rattle.lil_resolved.specs.Scalars.{Scalar, within, value_with, scalar_word, ordinal_of}
-use Rattle.lil_resolved.specs.Resolved.{Designator, Variable, Expression, Taken, Statement, Exit, Statements, Resolved}
-use Rattle.lil_meaning.specs.Cells.{Place}
-use Rattle.lil_meaning.specs.World.{World, serve, piece_of, byte_of, first_word}
-use Rattle.lil_meaning.specs.Items.{Datum, Scalars, Places, Hole, Get, StoreAt, OneOf, RightOf, ApplyTo, Pass, Pick, Task, Do, Passing, Turns, Item, Value, Evaluate, PlaceOf, Fill, Perform, Phase, Going, Source}
-use Rattle.lil_meaning.specs.Steps.{next, by_phase, first, given, fill, filled, filled_place, performed, did, turned_with, turned_on, picked, placed, evaluated, answered, applied, one_applied, function_value, chosen}
+use Rattle.lil_resolved.specs.Resolved.{Designator, Variable, Expression, Taken, Statement, Exit, Statements, Resolved, counted_as}
+use Rattle.lil_meaning.specs.Cells.{Place, got}
+use Rattle.lil_meaning.specs.World.{World, serve, piece_of}
+use Rattle.lil_meaning.specs.Items.{Datum, Scalars, Places, Hole, Get, StoreAt, ChangeAt, OneOf, RightOf, ApplyTo, Pass, Pick, Task, Do, Passing, Turns, Item, Value, Evaluate, PlaceOf, Fill, Perform, Phase, Going, Source}
+use Rattle.lil_meaning.specs.Steps.{next, by_phase, first, given, fill, filled, filled_place, performed, did, turned_with, turned_on, picked, placed, evaluated, answered, applied, one_applied, function_value, chosen, stored_with, value_of, changed, whole_of}
 use Rattle.lil_meaning.specs.Runs.{after}
 use Rattle.lil_session.proofs.Stays.{after_sum}
 
@@ -26,6 +26,10 @@ module _ (modules : List Resolved) (s : Source) where
   answered_serves (Ok v) k = inl refl
   answered_serves (Err t) k = inl refl
 
+  stored_serves : (p : Place) (r : Result Scalar TrapKind) (k : List Item) → Serves s (stored_with modules p r k s)
+  stored_serves p (Ok v) k = inl refl
+  stored_serves p (Err t) k = inl refl
+
   picked_serves : (o : Option Statements) (k : List Item) → Serves s (picked modules o k s)
   picked_serves None k = inl refl
   picked_serves (Some body) k = inl refl
@@ -40,6 +44,7 @@ module _ (modules : List Resolved) (s : Source) where
 
   filled_serves : (h : Hole) (v : Scalar) (k : List Item) → Serves s (filled modules h v k s)
   filled_serves (StoreAt p kind) v k = choice_serves s (within kind v) _ _ (inl refl) (inl refl)
+  filled_serves (ChangeAt down p kind) v k = stored_serves p (value_of kind (changed down (counted_as kind) (ordinal_of (got s.cells p)) (whole_of v))) k
   filled_serves (OneOf o kind) v k = answered_serves (one_applied o kind v) k
   filled_serves (RightOf o kind u) v k = answered_serves (applied o kind u v) k
   filled_serves (ApplyTo f) v k = answered_serves (function_value f v) k
@@ -55,7 +60,7 @@ module _ (modules : List Resolved) (s : Source) where
   fill_serves (Scalars v) h k = filled_serves h v k
   fill_serves (Places p) h k = placed_fill h p k
 
-  did_serves : (t : Statement) (k : List Item) → Serves s (did t k s)
+  did_serves : (t : Statement) (k : List Item) → Serves s (did modules t k s)
   did_serves Exit k = inl refl
   did_serves _ k = inl refl
 
@@ -125,80 +130,77 @@ after_grows modules (suc n) s =
       writes = rest.writes ∙ one.writes;
     }
 
--- the piece of a request is one byte, or nothing
-pub one_byte : (r : ℕ) (words : List ℕ) → piece_of r words ≢ [] → (b : ℕ) × (piece_of r words ≡ b ∷ [])
-one_byte r words = by_test (r == 2)
-  where
-    by_test : (test : Bool) → (if test then byte_of (first_word words % 256) ∷ [] else []) ≢ [] → (b : ℕ) × ((if test then byte_of (first_word words % 256) ∷ [] else []) ≡ b ∷ [])
-    by_test true some = (byte_of (first_word words % 256), refl)
-    by_test false some = absurd (some refl)
-
--- the step that adds a byte
-pub record Adds (modules : List Resolved) (s : Source) (shown : List ℕ) (b : ℕ) : Type 0 where
+-- A step that shows something where so much was shown before: the first of those by which a piece came.
+pub record Adds (modules : List Resolved) (s : Source) (shown piece : List ℕ) : Type 0 where
   pub m : ℕ
   pub before : (after modules m s).world.screen ≡ shown
-  pub behind : (after modules (suc m) s).world.screen ≡ shown ++ b ∷ []
+  pub first : List ℕ
+  pub some : first ≢ []
+  pub behind : (after modules (suc m) s).world.screen ≡ shown ++ first
+  -- what came after it
+  pub rest : List ℕ
+  pub whole : piece ≡ first ++ rest
 
-more_than_none : (l : List ℕ) (b : ℕ) → l ≢ l ++ b ∷ []
-more_than_none l b e =
-    let n : length l ≡ length (l ++ b ∷ []) = ap length e in
-    let one : length (b ∷ []) ≡ 1 = refl in
-    absurd (omega (arith, n, length-append l (b ∷ []), one))
+longer : (piece more : List ℕ) → piece ≢ [] → [] ≢ piece ++ more
+longer [] more some e = some refl
+longer (b ∷ piece) more some e = cc
 
-first_of_two : (b c : ℕ) (rest : List ℕ) → b ∷ [] ≡ c ∷ rest → c ≡ b
-first_of_two b c rest e = cc
+more_than_none : (l piece : List ℕ) → piece ≢ [] → l ≢ l ++ piece
+more_than_none l piece some e = some (sym (append_cancel_left l [] piece (append-nil l ∙ e)))
 
-found : (modules : List Resolved) (k : ℕ) (s : Source) (shown : List ℕ) (b : ℕ) → s.world.screen ≡ shown → (after modules k s).world.screen ≡ shown ++ b ∷ [] → Adds modules s shown b
-found modules zero s shown b at e = absurd (more_than_none shown b (sym at ∙ e))
-found modules (suc k) s shown b at e = by_cases (λ same. found modules k (next modules s) shown b (same ∙ at) e) (next_serves modules s)
+found : (modules : List Resolved) (k : ℕ) (s : Source) (shown piece : List ℕ) → piece ≢ [] → s.world.screen ≡ shown → (after modules k s).world.screen ≡ shown ++ piece → Adds modules s shown piece
+found modules zero s shown piece some at e = absurd (more_than_none shown piece some (sym at ∙ e))
+found modules (suc k) s shown piece some at e = by_cases (λ same. found modules k (next modules s) shown piece some (same ∙ at) e) (next_serves modules s)
   where
     t : Source
     t = next modules s
 
-    quiet : Adds modules t shown b → Adds modules s shown b
-    quiet f = record { m = suc f.m; before = f.before; behind = f.behind }
+    quiet : Adds modules t shown piece → Adds modules s shown piece
+    quiet f = record { m = suc f.m; before = f.before; first = f.first; some = f.some; behind = f.behind; rest = f.rest; whole = f.whole }
 
-    adds : (c : ℕ) → t.world.screen ≡ s.world.screen ++ c ∷ [] → Adds modules s shown b
-    adds c is =
+    adds : (first : List ℕ) → first ≢ [] → t.world.screen ≡ s.world.screen ++ first → Adds modules s shown piece
+    adds first more is =
         let g = after_grows modules k t in
-        let here : t.world.screen ≡ shown ++ c ∷ [] = is ∙ ap (λ (l : List ℕ). l ++ c ∷ []) at in
-        let both : shown ++ b ∷ [] ≡ shown ++ c ∷ g.piece = sym e ∙ g.adds ∙ ap (λ (l : List ℕ). l ++ g.piece) here ∙ append_assoc shown (c ∷ []) g.piece in
-        let same : c ≡ b = first_of_two b c g.piece (append_cancel_left shown (b ∷ []) (c ∷ g.piece) both) in
-        record { m = 0; before = at; behind = here ∙ ap (λ (x : ℕ). shown ++ x ∷ []) same }
+        let here : t.world.screen ≡ shown ++ first = is ∙ ap (λ (l : List ℕ). l ++ first) at in
+        let both : shown ++ piece ≡ shown ++ (first ++ g.piece) = sym e ∙ g.adds ∙ ap (λ (l : List ℕ). l ++ g.piece) here ∙ append_assoc shown first g.piece in
+        record { m = 0; before = at; first = first; some = more; behind = here; rest = g.piece; whole = append_cancel_left shown piece (first ++ g.piece) both }
 
-    by_test : (t.world.screen ≡ s.world.screen → Adds modules t shown b) → (test : Bool) (c : ℕ) → t.world.screen ≡ s.world.screen ++ (if test then c ∷ [] else []) → Adds modules s shown b
-    by_test rest true c is = adds c is
-    by_test rest false c is = quiet (rest (is ∙ append-nil s.world.screen))
+    by_piece : (t.world.screen ≡ s.world.screen → Adds modules t shown piece) → (first : List ℕ) → t.world.screen ≡ s.world.screen ++ first → Adds modules s shown piece
+    by_piece rest [] is = quiet (rest (is ∙ append-nil s.world.screen))
+    by_piece rest (b ∷ more) is = adds (b ∷ more) (λ none. cc) is
 
-    by_cases : (t.world.screen ≡ s.world.screen → Adds modules t shown b) → (t.world ≡ s.world) ⊎ ((r : ℕ) × (words : List ℕ) × (t.world ≡ serve r words s.world)) → Adds modules s shown b
+    by_cases : (t.world.screen ≡ s.world.screen → Adds modules t shown piece) → (t.world ≡ s.world) ⊎ ((r : ℕ) × (words : List ℕ) × (t.world ≡ serve r words s.world)) → Adds modules s shown piece
     by_cases rest (inl same) = quiet (rest (ap (λ (w : World). w.screen) same))
-    by_cases rest (inr (r, words, is)) = by_test rest (r == 2) (byte_of (first_word words % 256)) (ap (λ (w : World). w.screen) is)
+    by_cases rest (inr (r, words, is)) = by_piece rest (piece_of r words) (ap (λ (w : World). w.screen) is)
 
--- Where one state has shown a byte more than another, some step added it to what that other has shown.
-pub next_piece : (modules : List Resolved) (s : Source) (c d : ℕ) (b : ℕ) → (after modules d s).world.screen ≡ (after modules c s).world.screen ++ b ∷ [] → Adds modules s (after modules c s).world.screen b
-next_piece modules s c d b e = by_order (cases_lt c d)
+-- Where one state has shown a piece more than another, some step began it behind what that other has shown.
+pub next_piece : (modules : List Resolved) (s : Source) (c d : ℕ) (piece : List ℕ) → piece ≢ [] → (after modules d s).world.screen ≡ (after modules c s).world.screen ++ piece
+    → Adds modules s (after modules c s).world.screen piece
+next_piece modules s c d piece some e = by_order (cases_lt c d)
   where
     shown : List ℕ
     shown = (after modules c s).world.screen
 
-    by_order : (c < d) ⊎ (d ≤ c) → Adds modules s shown b
+    by_order : (c < d) ⊎ (d ≤ c) → Adds modules s shown piece
     by_order (inl less) =
         let sum : d ≡ c + (d - c) = omega arith in
-        let there : (after modules (d - c) (after modules c s)).world.screen ≡ shown ++ b ∷ [] =
+        let there : (after modules (d - c) (after modules c s)).world.screen ≡ shown ++ piece =
         ap (λ (t : Source). t.world.screen) (sym (after_sum modules c (d - c) s) ∙ ap (λ (n : ℕ). after modules n s) (sym sum)) ∙ e in
-        let f = found modules (d - c) (after modules c s) shown b refl there in
+        let f = found modules (d - c) (after modules c s) shown piece some refl there in
         let next_one : suc (c + f.m) ≡ c + suc f.m = omega arith in
         record {
           m = c + f.m;
           before = ap (λ (t : Source). t.world.screen) (after_sum modules c f.m s) ∙ f.before;
+          first = f.first;
+          some = f.some;
           behind = ap (λ (n : ℕ). (after modules n s).world.screen) next_one ∙ ap (λ (t : Source). t.world.screen) (after_sum modules c (suc f.m) s) ∙ f.behind;
+          rest = f.rest;
+          whole = f.whole;
         }
     by_order (inr less) =
         let sum : c ≡ d + (c - d) = omega arith in
         let g = after_grows modules (c - d) (after modules d s) in
         let there : shown ≡ (after modules d s).world.screen ++ g.piece =
         ap (λ (n : ℕ). (after modules n s).world.screen) sum ∙ ap (λ (t : Source). t.world.screen) (after_sum modules d (c - d) s) ∙ g.adds in
-        let n : length shown ≡ length ((after modules d s).world.screen ++ g.piece) = ap length there in
-        let m : length (after modules d s).world.screen ≡ length (shown ++ b ∷ []) = ap length e in
-        let one : length (b ∷ []) ≡ 1 = refl in
-        absurd (omega (arith, n, m, one, length-append shown (b ∷ []), length-append (after modules d s).world.screen g.piece))
+        let whole : shown ++ [] ≡ shown ++ (piece ++ g.piece) = append-nil shown ∙ there ∙ ap (λ (l : List ℕ). l ++ g.piece) e ∙ append_assoc shown piece g.piece in
+        absurd (longer piece g.piece some (append_cancel_left shown [] (piece ++ g.piece) whole))

@@ -1,17 +1,15 @@
-ghost use Rattle.std.specs.Prelude.{◌≡◌, ◌≢◌, ◌⊎◌, ◌%◌, ◌≤◌, [], ◌∷◌, true, length, IfOk, OnOk, OnErr, Some};
+ghost use Rattle.std.specs.Prelude.{◌≡◌, ◌≢◌, ◌⊎◌, ◌≤◌, [], true, length, IfOk, OnErr, Some};
 ghost use Rattle.lil_resolved.specs.Views.{module_of};
-ghost use Rattle.lil_meaning.specs.World.{World, byte_of, piece_of};
+ghost use Rattle.lil_meaning.specs.World.{World};
 ghost use Rattle.lil_mcode.specs.State.{Module, State};
 ghost use Rattle.lil_mcode.specs.Going.{Ran};
 ghost use Rattle.lil_mcode.specs.Table.{mstep};
 ghost use Rattle.lil_volume.specs.Causes.{HasCause};
-ghost use Rattle.lil_volume.specs.Told.{followed_by, FollowedByPrefix};
 ghost use Rattle.lil_base.specs.declared.fault.TrapKind.{TrapKind};
 ghost use Rattle.lil_session.specs.declared.run.Ending.TheVariants as ending;
 ghost use Rattle.lil_resolved.specs.Sizes.{IsSmall, code_size};
 ghost use Rattle.lil_table.specs.Rows.{Translates};
 ghost use Rattle.lil_session.specs.Running.{IsAlone, finish_of, finish_by, IsStep, IsRefused, HasRun, IsCut};
-ghost use Rattle.lil_match.specs.Running.{arguments, taken};
 ghost use Rattle.lil_session.specs.Outcome.{settled, Blames, Shows, MeansAnswer, IsRunAnswer};
 ghost use Rattle.lil_session.specs.Counted.{MachineAnswers};
 ghost use Rattle.std.specs.Option.{option_copied};
@@ -19,18 +17,12 @@ ghost use Rattle.lil_session.specs.Loaded.{IsAtBody, body_trap, EndingAnswers, I
 ghost use Rattle.lil_laws.specs.Loading.{loaded};
 
 use crate::Status;
-use crate::lines::LINE_END;
 use lil_base::{Bytes, LimitKind, Memory, Name, TrapAt, TrapKind};
+use lil_kernel::serve;
 use lil_mcode::{Event, Machine};
 use lil_resolved::RModule;
 use lil_volume::{Sink, SinkFailed};
 use std::alloc::Global;
-
-/// The character that ends a line, EOL.
-const END_OF_LINE: u8 = 30;
-
-/// The number of the request Write.
-const WRITE: u8 = 2;
 
 /// How a run of the machine ended.
 #[derive(Clone, Copy, Debug, PartialEq, Eq)]
@@ -40,48 +32,6 @@ pub(crate) enum Ending {
     Limited(LimitKind),
     Broken,
     Spent,
-}
-
-/// The byte that shows a word's character.
-fn shown_byte(word: u16) -> u8
-    ensures { result ≡ byte_of (word % 256) }
-{
-    let character = (word % 256) as u8;
-    if character == END_OF_LINE {
-        LINE_END
-    } else {
-        character
-    }
-}
-
-/// Serves request 2, Write: takes the topmost word, and shows its character.
-fn write_character<S: Sink>(machine: &mut Machine, screen: &mut S) -> Result<(), SinkFailed>
-    requires { 1 ≤ length machine.old.state.stack }
-    ensures machine { machine.new ≡ record machine.old { state = taken 1 machine.old.state } }
-    ensures ok { OnOk result (S.written screen.new ≡ followed_by (S.written screen.old) (piece_of 2 (arguments 1 machine.old.state))) }
-    ensures err { OnErr result (FollowedByPrefix (S.written screen.old) (piece_of 2 (arguments 1 machine.old.state)) (S.written screen.new)) }
-    ensures cause { HasCause (S.faults screen.old) (S.faults screen.new) result }
-{
-    let byte = shown_byte(machine.argument(0));
-    machine.drop_arguments(1);
-    screen.put(&[byte])
-}
-
-/// Serves a request.
-#[cold]
-#[inline(never)]
-fn serve<S: Sink>(number: u8, machine: &mut Machine, screen: &mut S) -> Result<(), SinkFailed>
-    requires known { number ≡ 2 }
-    requires words { 1 ≤ length machine.old.state.stack }
-    ensures machine { machine.new ≡ record machine.old { state = taken 1 machine.old.state } }
-    ensures ok { OnOk result (S.written screen.new ≡ followed_by (S.written screen.old) (piece_of number (arguments 1 machine.old.state))) }
-    ensures err { OnErr result (FollowedByPrefix (S.written screen.old) (piece_of number (arguments 1 machine.old.state)) (S.written screen.new)) }
-    ensures cause { HasCause (S.faults screen.old) (S.faults screen.new) result }
-{
-    match number {
-        WRITE => write_character(machine, screen),
-        _ => unreachable!(),
-    }
 }
 
 /// What the last step of a body that runs alone shows. None where the run goes on.

@@ -9,7 +9,7 @@ use Rattle.lil_resolved.specs.declared.resolved.RStmt.{RStmt}
 use Rattle.lil_resolved.specs.declared.resolved.RStmt.TheVariants as s
 use Rattle.lil_resolved.specs.declared.resolved.RArm.{RArm}
 use Rattle.lil_resolved.specs.declared.resolved.RLabel.{RLabel}
-use Rattle.lil_resolved.specs.Kinds.{Kind}
+use Rattle.lil_resolved.specs.Kinds.{Kind, compared_as}
 use Rattle.lil_resolved.specs.Resolved.{Expression, Label, Statements, Arms, NoElse, Else, Arm, Case, kind_of}
 use Rattle.lil_resolved.specs.Views.{expression_of, label_of, statement_of, statements_of, else_of, arms_of}
 use Rattle.lil_resolved.specs.Sizes.{size, body_size, arms_size, is_base, IsSoundLabel}
@@ -18,7 +18,7 @@ use Rattle.lil_asm.specs.declared.instr.Instr.TheVariants.{Jmp, Cas, Trp}
 use Rattle.lil_asm.specs.Bytes.{bytes_of, entry_bytes}
 use Rattle.lil_asm.specs.Standing.{cas_decodes, entry_stands}
 use Rattle.lil_stmt.specs.declared.cases.Places.{Places}
-use Rattle.lil_table.specs.Rows.{Layout, IsAt, BodyAt, EntryRow, EntriesAt, ArmsAt, compared_as}
+use Rattle.lil_table.specs.Rows.{Layout, IsAt, BodyAt, EntryRow, EntriesAt, ArmsAt}
 use Rattle.lil_expr.specs.Emitting.{Emits}
 use Rattle.lil_stmt.specs.Generating.{bodies_size, before_else, entry_count, behind, BodiesAt, LabelsAt, TableAt, ArmBodyAt, IsPlaced, EmitsStatement, EmitsBody, EmitsArm, EmitsArms, EmitsBodies, EmitsLabels, EmitsTable, EmitsChoice}
 use Rattle.lil_expr.specs.Generating.{EmitsExpression}
@@ -82,8 +82,8 @@ no_labels_left labels i to code end = subst (λ (ls : List RLabel). EmitsLabels 
 
 -- ---- tables
 no_arms_in_table : (code : List ℕ) (place : ℕ) (other : Arms) → before_else other ≡ 0 → EmitsTable code code place other
-no_arms_in_table code place (Arm labels body rest) e k v looping base sound = absurd (omega (arith, e))
-no_arms_in_table code place _ e k v looping base sound = emits_none code
+no_arms_in_table code place (Arm labels body rest) e k ks looping base sound = absurd (omega (arith, e))
+no_arms_in_table code place _ e k ks looping base sound = emits_none code
 
 none_before : (other : Option (List RStmt)) → before_else (else_of other) ≡ 0
 none_before None = refl
@@ -91,7 +91,7 @@ none_before (Some body) = refl
 
 -- the entries of an arm before those of others
 arm_in_table : (labels : List Label) (body : Statements) (rest : Arms) (place : ℕ) (c0 c1 c2 : List ℕ) → EmitsLabels c0 c1 place labels → EmitsTable c1 c2 (behind place body) rest → EmitsTable c0 c2 place (Arm labels body rest)
-arm_in_table labels body rest place c0 c1 c2 mine others k v looping base sound =
+arm_in_table labels body rest place c0 c1 c2 mine others k ks looping base sound =
     let first = mine k base sound.0 in
     emits_as c0 c2 (6 * length labels + 6 * entry_count rest) (6 * entry_count (Arm labels body rest)) _ _
     (omega arith)
@@ -99,7 +99,7 @@ arm_in_table labels body rest place c0 c1 c2 mine others k v looping base sound 
       subst (λ (q : ℕ). LabelsAt final k labels place (length c0) q) first.grows t.0,
       subst (λ (p : ℕ). TableAt final k rest (behind place body) p (length c2)) first.grows t.1,
     ))
-    (emits_both c0 c1 c2 _ _ _ _ first (others k v looping base sound.2))
+    (emits_both c0 c1 c2 _ _ _ _ first (others k ks looping base sound.2))
 
 module _ (arms : List RArm) (i : ℕ) where
   pub next_table_emitted : (arm : RArm) (other : Option (List RStmt)) (place : ℕ) (c0 c1 c2 : List ℕ) → i < length arms → arm ≡ get_or arms i arm → EmitsLabels c0 c1 place (map label_of arm.labels)
@@ -113,8 +113,8 @@ module _ (arms : List RArm) (i : ℕ) where
 
 -- ---- the choice
 pub choice_emitted : (places : Places) (arms : Arms) (c0 c1 c2 : List ℕ) → c1 ≡ c0 ++ bytes_of (Cas places.entries places.other) → EmitsTable c1 c2 places.first arms → EmitsChoice c0 c2 places arms
-choice_emitted places arms c0 c1 c2 e table k v looping base sound count =
-    let entries = table k v looping base sound in
+choice_emitted places arms c0 c1 c2 e table k ks looping base sound count =
+    let entries = table k ks looping base sound in
     let head = longer c0 c1 (bytes_of (Cas places.entries places.other)) e in
     emits_as c0 c2 (length (bytes_of (Cas places.entries places.other)) + 6 * entry_count arms) (5 + 6 * entry_count arms) _ _ refl
     (λ final t. (t.0, subst (λ (p : ℕ). TableAt final k arms places.first p (length c2)) head t.1))
@@ -123,8 +123,8 @@ choice_emitted places arms c0 c1 c2 e table k v looping base sound count =
 
 -- ---- arms
 pub arm_emitted : (n : ℕ) (exit : Option ℕ) (leave : ℕ) (body : Statements) (c0 c1 c2 : List ℕ) → EmitsBody c0 c1 n exit body → c2 ≡ c1 ++ bytes_of (Jmp leave) → EmitsArm c0 c2 n exit leave body
-arm_emitted n exit leave body c0 c1 c2 here e l v plain sound room =
-    let first = here l v plain sound room in
+arm_emitted n exit leave body c0 c1 c2 here e l ks plain sound room =
+    let first = here l ks plain sound room in
     emits_as c0 c2 (body_size body + 3) (body_size body + 3) _ _
     refl
     (λ final t. (
@@ -134,20 +134,23 @@ arm_emitted n exit leave body c0 c1 c2 here e l v plain sound room =
     (emits_both c0 c1 c2 (body_size body) 3 _ _ first (emits_instr c1 c2 (Jmp leave) tt e))
 
 pub no_else_emitted : (n : ℕ) (exit : Option ℕ) (leave : ℕ) (c0 c1 : List ℕ) → c1 ≡ c0 ++ bytes_of (Trp 7) → EmitsBodies c0 c1 n exit leave NoElse
-no_else_emitted n exit leave c0 c1 e l v k plain sound room = emits_instr c0 c1 (Trp 7) tt e
+no_else_emitted n exit leave c0 c1 e l ks k plain sound room = emits_instr c0 c1 (Trp 7) tt e
+
+pub else_emitted : (n : ℕ) (exit : Option ℕ) (leave : ℕ) (body : Statements) (c0 c1 : List ℕ) → EmitsArm c0 c1 n exit leave body → EmitsBodies c0 c1 n exit leave (Else body)
+else_emitted n exit leave body c0 c1 mine l ks k plain sound room = mine l ks plain sound room
 
 -- an arm before others
 arm_before : (labels : List Label) (body : Statements) (rest : Arms) (n : ℕ) (exit : Option ℕ) (leave : ℕ) (c0 c1 c2 : List ℕ) → EmitsArm c0 c1 n exit leave body → EmitsBodies c1 c2 n exit leave rest
     → EmitsBodies c0 c2 n exit leave (Arm labels body rest)
-arm_before labels body rest n exit leave c0 c1 c2 mine others l v k plain sound room =
-    let first = mine l v plain sound.1 (omega (arith, room)) in
+arm_before labels body rest n exit leave c0 c1 c2 mine others l ks k plain sound room =
+    let first = mine l ks plain sound.1 (omega (arith, room)) in
     emits_as c0 c2 (body_size body + 3 + bodies_size rest) (bodies_size (Arm labels body rest)) _ _
     refl
     (λ final t. (
       subst (λ (q : ℕ). ArmBodyAt l final n exit leave body (length c0) q) first.grows t.0,
       subst (λ (p : ℕ). BodiesAt l final n exit leave rest p (length c2)) first.grows t.1,
     ))
-    (emits_both c0 c1 c2 _ _ _ _ first (others l v k plain sound.2 (omega (arith, room))))
+    (emits_both c0 c1 c2 _ _ _ _ first (others l ks k plain sound.2 (omega (arith, room))))
 
 module _ (arms : List RArm) (i : ℕ) (n : ℕ) (exit : Option ℕ) (leave : ℕ) where
   -- what is left of a list from an arm on
@@ -195,12 +198,12 @@ arms_size_is (Arm labels body rest) = omega (arith, arms_size_is rest)
 case_emitted_as : (e : Expression) (arms : Arms) (places : Places) (n : ℕ) (exit : Option ℕ) (c0 c1 c2 c3 c4 c5 : List ℕ) → EmitsExpression c0 c1 e → IsPlaced (length c1) arms places
     → c2 ≡ c1 ++ bytes_of (Jmp places.table) → c3 ≡ c2 ++ bytes_of (Jmp places.end) → EmitsBodies c3 c4 n exit places.leave arms → EmitsChoice c4 c5 places arms
     → EmitsStatement c0 c5 n exit (Case e arms)
-case_emitted_as e arms places n exit c0 c1 c2 c3 c4 c5 value placed first second bodies choice l v plain sound room =
+case_emitted_as e arms places n exit c0 c1 c2 c3 c4 c5 value placed first second bodies choice l ks plain sound room =
     let k = kind_of e in
     let to_table = emits_instr c1 c2 (Jmp places.table) tt first in
     let leave = emits_instr c2 c3 (Jmp places.end) tt second in
-    let arms_there = bodies l v k plain sound.2 room in
-    let table = choice k v (is_some exit) sound.0 sound.2 placed.entries in
+    let arms_there = bodies l ks k plain sound.2 room in
+    let table = choice k ks (is_some exit) sound.0 sound.2 placed.entries in
     let total = arms_size_is arms in
     let exit_is : places.leave ≡ length c2 = omega (arith, placed.leave, to_table.grows) in
     let start_is : places.first ≡ length c3 = omega (arith, placed.first, to_table.grows, leave.grows) in
@@ -227,7 +230,7 @@ case_emitted_as e arms places n exit c0 c1 c2 c3 c4 c5 value placed first second
       choice = subst (λ (count : ℕ). IsAt final (length c4) (Cas count places.other) (length c4 + 5)) placed.entries r.1.1.1.1.0;
       whole = omega (arith, table.grows);
     })
-    (emits_both c0 c1 c5 (size e) _ _ _ (value l v plain sound.1.sound)
+    (emits_both c0 c1 c5 (size e) _ _ _ (value l ks plain sound.1.sound)
     (emits_both c1 c2 c5 3 _ _ _ to_table
     (emits_both c2 c3 c5 3 _ _ _ leave
     (emits_both c3 c4 c5 (bodies_size arms) _ _ _ arms_there table))))

@@ -2,16 +2,17 @@
 use Rattle.std.proofs.Common.{◌≡◌, ℕ, zero, suc, ◌+◌, ◌*◌, ◌<◌, ◌≤◌, List, [], ◌∷◌, length, map, drop, get_or, Option, Some, None, refl, sym, ap, ◌∙◌, arith}
 use Rattle.std.proofs.lemmas.List.{drop_more, length-map}
 use Rattle.lil_resolved.specs.declared.resolved.RExpr.{RExpr}
+use Rattle.lil_resolved.specs.declared.resolved.RArgument.{RArgument}
 use Rattle.lil_resolved.specs.declared.resolved.RStmt.{RStmt}
 use Rattle.lil_resolved.specs.declared.resolved.RStmt.TheVariants as s
 use Rattle.lil_resolved.specs.declared.resolved.RGuard.{RGuard}
 use Rattle.lil_resolved.specs.declared.resolved.RArm.{RArm}
 use Rattle.lil_resolved.specs.Resolved as r
 use Rattle.lil_resolved.specs.Resolved.{Statement, Statements, Empty, Then, Arms, Arm}
-use Rattle.lil_resolved.specs.Views.{joined, expression_of, label_of, statement_of, guard_of, statements_of, guards_of, else_of, arms_of}
-use Rattle.lil_resolved.specs.Sizes.{size, statement_size, body_size, arms_size, statement_loops, body_loops, arms_loops}
+use Rattle.lil_resolved.specs.Views.{kind_view, argument_of, joined, expression_of, label_of, statement_of, guard_of, statements_of, guards_of, else_of, arms_of}
+use Rattle.lil_resolved.specs.Sizes.{size, arguments_size, statement_size, body_size, arms_size, statement_loops, body_loops, arms_loops}
 use Rattle.lil_resolved.specs.Forms.{if_is, case_is, guard_is, arm_is}
-use Rattle.lil_stmt.specs.Generating.{entry_count, before_else, bodies_size}
+use Rattle.lil_stmt.specs.Generating.{value_size, entry_count, before_else, bodies_size}
 
 -- what is left of a list from an item on
 pub left_from : {X : Type 0} (xs : List X) (i : ℕ) (x : X) → i < length xs → x ≡ get_or xs i x → drop i xs ≡ x ∷ drop (i + 1) xs
@@ -24,6 +25,10 @@ joined_size (Then s a) b = omega (arith, joined_size a b)
 pub joined_loops : (a b : Statements) → body_loops (joined a b) ≡ body_loops a + body_loops b
 joined_loops Empty b = omega arith
 joined_loops (Then s a) b = omega (arith, joined_loops a b)
+
+pub arguments_next : (given : List RArgument) (i : ℕ) (a : RArgument) → i < length given → a ≡ get_or given i a
+    → arguments_size (map argument_of (drop i given)) ≡ value_size (expression_of a.value) (kind_view a.kind) + arguments_size (map argument_of (drop (i + 1) given))
+arguments_next given i a inside is = ap (λ (left : List RArgument). arguments_size (map argument_of left)) (left_from given i a inside is)
 
 module _ (ss : List RStmt) (i : ℕ) (s : RStmt) (inside : i < length ss) (is : s ≡ get_or ss i s) where
   pub body_size_next : body_size (statements_of (drop i ss)) ≡ body_size (statement_of s) + body_size (statements_of (drop (i + 1) ss))

@@ -2,4 +2,6 @@ mod CaseEmitting
 mod Extents
 mod Nodes
 mod Saturating
+mod Starting
 mod Stating
+mod Storing

@@ -19,15 +19,18 @@ sum_in None = 0
 sum_in (Some ns) = sum ns
 
 abbrev statement_layer : RStmt-F ℕ ℕ ℕ → ℕ
-statement_layer (o.Assign n e) = 1
-statement_layer (o.Write e) = 1
+statement_layer (o.Assign v e) = 1
+statement_layer (o.Change way v e) = 1
+statement_layer (o.Request r given) = 1
 statement_layer (o.If gs ss) = 1 + (sum gs + sum ss)
 statement_layer (o.Case e cases other) = 1 + (sum cases + sum_in other)
 statement_layer (o.While e ss) = 1 + sum ss
 statement_layer (o.Repeat ss e) = 1 + sum ss
 statement_layer (o.Loop ss) = 1 + sum ss
 statement_layer o.Exit = 1
-statement_layer (o.For n a b step ss) = 1 + sum ss
+statement_layer o.Halt = 1
+statement_layer o.Return = 1
+statement_layer (o.For v a b step ss) = 1 + sum ss
 
 abbrev arm_layer : RArm-F ℕ ℕ ℕ → ℕ
 arm_layer a = 1 + sum a.body

@@ -1,31 +1,57 @@
 -- What the generator of statements adds to a code.
-use Rattle.std.specs.Prelude.{◌≡◌, ℕ, ◌+◌, ◌*◌, ◌≤◌, Bool, true, List, [], ◌∷◌, length, Option}
+use Rattle.std.specs.Prelude.{◌≡◌, ℕ, ◌+◌, ◌*◌, ◌≤◌, ℤ, Bool, true, List, [], ◌∷◌, length, Option, if◌then◌else◌}
 use Rattle.std.specs.Option.{is_some}
 use Rattle.lil_resolved.specs.declared.resolved.RStmt.{RStmt}
 use Rattle.lil_resolved.specs.declared.resolved.RGuard.{RGuard}
 use Rattle.lil_resolved.specs.declared.resolved.RArm.{RArm}
-use Rattle.lil_resolved.specs.Kinds.{Kind}
-use Rattle.lil_resolved.specs.Resolved.{Label, Statement, Statements, Arms, NoElse, Else, Arm}
+use Rattle.lil_resolved.specs.Kinds.{Kind, base_of, compared_as, covers, outside_turns}
+use Rattle.lil_resolved.specs.Resolved.{Expression, Argument, Label, Statement, Statements, Arms, NoElse, Else, Arm, kind_of}
 use Rattle.lil_resolved.specs.Views.{guard_of, statements_of, guards_of, else_of, arms_of}
-use Rattle.lil_resolved.specs.Sizes.{statement_size, body_size, statement_loops, body_loops, arms_size, arms_loops, is_base, IsSoundStatement, IsSoundBody, AreSoundArms, AreSoundLabels}
+use Rattle.lil_resolved.specs.Sizes.{size, test_size, arguments_size, statement_size, body_size, statement_loops, body_loops, arms_size, arms_loops, is_base, IsSoundValue, AreSoundArguments, IsSoundStatement, IsSoundBody, AreSoundArms, AreSoundLabels}
 use Rattle.lil_asm.specs.declared.instr.Instr.TheVariants.{Jmp, Cas, Trp}
 use Rattle.lil_stmt.specs.declared.cases.Places.{Places}
-use Rattle.lil_table.specs.Rows.{Layout, Span, IsAt, EntryRow, StatementAt, BodyAt, loop_place}
+use Rattle.lil_table.specs.Rows.{Layout, Span, IsAt, ValueRow, ArgumentsAt, EntryRow, LeaveRow, AlignAt, StatementAt, BodyAt, loop_place}
 use Rattle.lil_expr.specs.Emitting.{Emits}
 use Rattle.lil_expr.specs.Generating.{IsPlain}
+
+-- how many bytes a value's code takes with its test, where one of a kind is wanted
+abbrev pub value_size : Expression → Kind → ℕ
+value_size e k = size e + test_size k (kind_of e)
+
+-- In any plain layout that a value is sound over, and with up to 4 words of others below its own, what was added is its code.
+abbrev pub EmitsValue : List ℕ → List ℕ → Expression → Kind → Type 0
+EmitsValue old new e k = (l : Layout) (ks : List Kind) (n : ℕ) → IsPlain l ks → IsSoundValue ks e k → n ≤ 4 → Emits old new (value_size e k) (λ final. ValueRow l final n e k)
+
+-- the same of arguments, with n words of others below them
+abbrev pub EmitsArguments : List ℕ → List ℕ → ℕ → List Argument → Type 0
+EmitsArguments old new n given =
+    (l : Layout) (ks : List Kind) → IsPlain l ks → AreSoundArguments ks given → n + length given ≤ 4 → Emits old new (arguments_size given) (λ final. ArgumentsAt l final n given)
 
 -- In any plain layout that a statement is sound over, with n FORs around it and the end of the LOOP around it, and in a frame with
 -- room for its own FORs, what was added is its code.
 abbrev pub EmitsStatement : List ℕ → List ℕ → ℕ → Option ℕ → Statement → Type 0
 EmitsStatement old new n exit s =
-    (l : Layout) (v : ℕ) → IsPlain l v → IsSoundStatement v (is_some exit) s → loop_place n + 3 * statement_loops s ≤ l.frame
+    (l : Layout) (ks : List Kind) → IsPlain l ks → IsSoundStatement ks (is_some exit) s → loop_place n + 3 * statement_loops s ≤ l.frame
     → Emits old new (statement_size s) (λ final. StatementAt l final n exit s)
 
 -- the same of statements
 abbrev pub EmitsBody : List ℕ → List ℕ → ℕ → Option ℕ → Statements → Type 0
 EmitsBody old new n exit ss =
-    (l : Layout) (v : ℕ) → IsPlain l v → IsSoundBody v (is_some exit) ss → loop_place n + 3 * body_loops ss ≤ l.frame
+    (l : Layout) (ks : List Kind) → IsPlain l ks → IsSoundBody ks (is_some exit) ss → loop_place n + 3 * body_loops ss ≤ l.frame
     → Emits old new (body_size ss) (λ final. BodyAt l final n exit ss)
+
+-- What was added leaves a FOR that ends at a place where its start isn't a number of both types of whole numbers.
+abbrev pub EmitsLeave : List ℕ → List ℕ → ℕ → Type 0
+EmitsLeave old new end = Emits old new 15 (λ final p q. LeaveRow final p q end)
+
+-- What was added brings a start to its limit's type in a FOR that ends at a place, by whether the limit's kind covers the start's and
+-- whether another start has turns.
+abbrev pub EmitsAligned : List ℕ → List ℕ → (same turns : Bool) → ℕ → Type 0
+EmitsAligned old new same turns end = Emits old new (if same then 0 else (if turns then 7 else 15)) (λ final p q. AlignAt final same turns p q end)
+
+-- the same of a start of the second kind in a FOR over a variable of the first
+abbrev pub EmitsAlign : List ℕ → List ℕ → Kind → Kind → ℤ → ℕ → Type 0
+EmitsAlign old new k j step end = EmitsAligned old new (covers (base_of k) j) (outside_turns (compared_as (base_of k)) step) end
 
 -- With statements behind it that end at a place, what was added is the code of a guard before them.
 abbrev pub EmitsGuard : List ℕ → List ℕ → ℕ → Option ℕ → ℕ → RGuard → Type 0
@@ -66,7 +92,7 @@ ArmBodyAt l code n exit leave body p q = BodyAt l code n exit body p (p + body_s
 
 abbrev pub EmitsArm : List ℕ → List ℕ → ℕ → Option ℕ → ℕ → Statements → Type 0
 EmitsArm old new n exit leave body =
-    (l : Layout) (v : ℕ) → IsPlain l v → IsSoundBody v (is_some exit) body → loop_place n + 3 * body_loops body ≤ l.frame
+    (l : Layout) (ks : List Kind) → IsPlain l ks → IsSoundBody ks (is_some exit) body → loop_place n + 3 * body_loops body ≤ l.frame
     → Emits old new (body_size body + 3) (λ final. ArmBodyAt l final n exit leave body)
 
 -- arms one behind another, and what stands behind ELSE or a trap
@@ -77,7 +103,7 @@ BodiesAt l code n exit leave (Arm labels body rest) p q = ArmBodyAt l code n exi
 
 abbrev pub EmitsBodies : List ℕ → List ℕ → ℕ → Option ℕ → ℕ → Arms → Type 0
 EmitsBodies old new n exit leave arms =
-    (l : Layout) (v : ℕ) (k : Kind) → IsPlain l v → AreSoundArms v (is_some exit) k arms → loop_place n + 3 * arms_loops arms ≤ l.frame
+    (l : Layout) (ks : List Kind) (k : Kind) → IsPlain l ks → AreSoundArms ks (is_some exit) k arms → loop_place n + 3 * arms_loops arms ≤ l.frame
     → Emits old new (bodies_size arms) (λ final. BodiesAt l final n exit leave arms)
 
 -- with what stands behind ELSE behind them, what was added is the code of arms
@@ -110,10 +136,10 @@ TableAt code k (Arm labels body rest) place t u = LabelsAt code k labels place t
 
 abbrev pub EmitsTable : List ℕ → List ℕ → ℕ → Arms → Type 0
 EmitsTable old new place arms =
-    (k : Kind) (v : ℕ) (looping : Bool) → is_base k ≡ true → AreSoundArms v looping k arms → Emits old new (6 * entry_count arms) (λ final. TableAt final k arms place)
+    (k : Kind) (ks : List Kind) (looping : Bool) → is_base k ≡ true → AreSoundArms ks looping k arms → Emits old new (6 * entry_count arms) (λ final. TableAt final k arms place)
 
 -- the instruction that chooses an arm, and its table, which lies whole in any code that has these bytes
 abbrev pub EmitsChoice : List ℕ → List ℕ → Places → Arms → Type 0
 EmitsChoice old new places arms =
-    (k : Kind) (v : ℕ) (looping : Bool) → is_base k ≡ true → AreSoundArms v looping k arms → places.entries ≡ entry_count arms
+    (k : Kind) (ks : List Kind) (looping : Bool) → is_base k ≡ true → AreSoundArms ks looping k arms → places.entries ≡ entry_count arms
     → Emits old new (5 + 6 * entry_count arms) (λ final p q. IsAt final p (Cas places.entries places.other) (p + 5) × TableAt final k arms places.first (p + 5) q)

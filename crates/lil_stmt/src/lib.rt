@@ -3,7 +3,10 @@
 #![tactic(auto)]
 
 mod cases;
+mod kinds;
+mod simple;
 mod sizes;
+mod starts;
 mod statements;
 
 pub use sizes::{body_size, frame_words};

@@ -1,13 +1,45 @@
 //! How many bytes the code of a part takes, and how many words of the frame. Bytes are counted up to 4,294,967,295.
 
-ghost use Rattle.std.specs.Prelude.{◌≡◌, ◌≤◌, [], None, length, min};
+ghost use Rattle.std.specs.Prelude.{◌≡◌, ◌≤◌, Bool, [], None, length, map, min};
+ghost use Rattle.lil_resolved.specs.Resolved.{Change};
 ghost use Rattle.lil_resolved.specs.Sizes as spec;
 ghost use Rattle.lil_resolved.specs.Views as view;
 ghost use Rattle.lil_stmt.specs.Generating as emitted;
 
+use crate::kinds::{counted_base, turn_test_size};
+use crate::starts::align_size;
 use lil_base::Items;
-use lil_expr::expression_size;
-use lil_resolved::{RArm, RGuard, RLabel, RStmt};
+use lil_expr::{expression_size, test_size};
+use lil_resolved::{RArgument, RArm, RExpr, RGuard, RKind, RLabel, RStmt, RVariable, base};
+
+/// The bytes of the code of a value and of its test, where one of a kind is wanted.
+fn value_size(value: &RExpr, kind: RKind) -> u32
+    ensures { result ≡ min (emitted.value_size (view.expression_of value.now) (view.kind_view kind)) 4294967295 }
+{
+    expression_size(value).saturating_add(test_size(kind, base(value)))
+}
+
+/// The bytes of the code of INC or DEC.
+fn change_size(variable: RVariable, value: &RExpr) -> u32
+    ensures { (down : Bool) → result ≡ min (spec.statement_size (Change down (view.variable_of variable) (view.expression_of value.now))) 4294967295 }
+{
+    let tested = test_size(variable.kind, counted_base(variable.kind));
+    expression_size(value)
+        .saturating_add(tested)
+        .saturating_add(8)
+}
+
+/// The bytes of the code of arguments, each with its test.
+#[tactic(auto, using(crate::proofs::Extents::arguments_next))]
+fn arguments_size(given: &[RArgument]) -> u32
+    ensures { result ≡ min (spec.arguments_size (map view.argument_of given.now)) 4294967295 }
+{
+    let mut size: u32 = 0;
+    for argument in given {
+        size = size.saturating_add(value_size(&argument.value, argument.kind));
+    }
+    size
+}
 
 /// The bytes of a statement's code.
 #[cycle(sizing)]
@@ -16,8 +48,9 @@ fn statement_size(statement: &RStmt) -> u32
     ensures { result ≡ min (spec.body_size (view.statement_of statement.now)) 4294967295 }
 {
     match statement {
-        RStmt::Assign(_, value) => expression_size(value).saturating_add(3),
-        RStmt::Write(value) => expression_size(value).saturating_add(2),
+        RStmt::Assign(variable, value) => value_size(value, variable.kind).saturating_add(3),
+        RStmt::Change(_, variable, value) => change_size(*variable, value),
+        RStmt::Request(_, given) => arguments_size(given.as_slice()).saturating_add(2),
         RStmt::If(guards, otherwise) => {
             guards_size(guards.as_slice()).saturating_add(body_size(otherwise.as_slice()))
         }
@@ -37,8 +70,12 @@ fn statement_size(statement: &RStmt) -> u32
             .saturating_add(3),
         RStmt::Loop(body) => body_size(body.as_slice()).saturating_add(3),
         RStmt::Exit => 3,
-        RStmt::For(_, from, to, _, body) => expression_size(from)
+        RStmt::Halt => 2,
+        RStmt::Return => 1,
+        RStmt::For(variable, from, to, step, body) => expression_size(from)
             .saturating_add(expression_size(to))
+            .saturating_add(align_size(variable.kind, from, *step))
+            .saturating_add(turn_test_size(variable.kind))
             .saturating_add(body_size(body.as_slice()))
             .saturating_add(20),
     }
@@ -143,7 +180,12 @@ fn statement_fors(statement: &RStmt) -> usize
             body_fors(body.as_slice())
         }
         RStmt::For(_, _, _, _, body) => 1 + body_fors(body.as_slice()),
-        RStmt::Assign(_, _) | RStmt::Write(_) | RStmt::Exit => 0,
+        RStmt::Assign(_, _)
+        | RStmt::Change(_, _, _)
+        | RStmt::Request(_, _)
+        | RStmt::Exit
+        | RStmt::Halt
+        | RStmt::Return => 0,
     }
 }
 

@@ -2,17 +2,20 @@
 //! forward has its place at once.
 
 ghost use Rattle.std.specs.Prelude.{◌≡◌, ℕ, Option, ◌+◌, ◌*◌, ◌≤◌, [], length, None, OnOk, IfOk};
-ghost use Rattle.lil_resolved.specs.Resolved.{Assign, While, Repeat, Loop, Exit, For, Empty};
-ghost use Rattle.lil_resolved.specs.Views.{cardinal_variable, write_of, expression_of, statement_of, statements_of, guard_of, guards_of, arms_of, else_of};
+ghost use Rattle.lil_resolved.specs.Resolved.{While, Repeat, Loop, For, Empty};
+ghost use Rattle.lil_resolved.specs.Views.{variable_of, expression_of, statement_of, statements_of, guard_of, guards_of, arms_of, else_of};
 ghost use Rattle.lil_resolved.specs.Sizes as spec;
 ghost use Rattle.lil_stmt.specs.Generating.{EmitsStatement, EmitsBody, EmitsGuard, EmitsGuards, EmitsArm, EmitsArms, EmitsBodies, before_else};
 
 use crate::cases::{case_places, emit_choice};
+use crate::kinds::{emit_turn_test, loop_sign, turn_test_size};
+use crate::simple::{emit_assign, emit_change, emit_exit, emit_request};
 use crate::sizes::{body_size, guards_size};
+use crate::starts::{align_size, emit_align};
 use lil_asm::{Instr, encode};
 use lil_base::{Bytes, Items, Memory};
 use lil_expr::{emit_expression, word_of_number};
-use lil_resolved::{RArm, RExpr, RGuard, RStmt};
+use lil_resolved::{RArm, RExpr, RGuard, RStmt, RVariable};
 
 /// What stands around a statement: so many FORs, and the place behind the LOOP, where there is one.
 #[derive(Clone, Copy)]
@@ -45,7 +48,10 @@ fn emit_statement(code: &mut Bytes, statement: &RStmt, around: Around) -> Result
 {
     match statement {
         RStmt::Assign(variable, value) => emit_assign(code, *variable, value),
-        RStmt::Write(value) => emit_write(code, value),
+        RStmt::Change(direction, variable, value) => {
+            emit_change(code, *direction, *variable, value)
+        }
+        RStmt::Request(request, given) => emit_request(code, *request, given.as_slice()),
         RStmt::If(guards, otherwise) => {
             let guards = guards.as_slice();
             let otherwise = otherwise.as_slice();
@@ -67,6 +73,8 @@ fn emit_statement(code: &mut Bytes, statement: &RStmt, around: Around) -> Result
         RStmt::Repeat(body, condition) => emit_repeat(code, body.as_slice(), condition, around),
         RStmt::Loop(body) => emit_loop(code, body.as_slice(), around),
         RStmt::Exit => emit_exit(code, around),
+        RStmt::Halt => encode(code, Instr::Trp(9)),
+        RStmt::Return => encode(code, Instr::Rtn),
         RStmt::For(variable, from, to, step, body) => emit_for(
             code,
             *variable,
@@ -77,26 +85,6 @@ fn emit_statement(code: &mut Bytes, statement: &RStmt, around: Around) -> Result
             around,
         ),
     }
-}
-
-/// Appends the code of an assignment: the value, and the instruction that stores it.
-fn emit_assign(code: &mut Bytes, variable: u16, value: &RExpr) -> Result<(), Memory>
-    requires { length code.old + spec.statement_size (Assign (cardinal_variable variable) (expression_of value.now)) ≤ 32767 }
-    ensures short { OnOk result (length code.new ≤ length code.old + spec.statement_size (Assign (cardinal_variable variable) (expression_of value.now))) }
-    ensures means { OnOk result ((n : ℕ) (exit : Option ℕ) → EmitsStatement code.old code.new n exit (Assign (cardinal_variable variable) (expression_of value.now))) }
-{
-    emit_expression(code, value)?;
-    encode(code, Instr::Sgw(variable))
-}
-
-/// Appends the code of a call of Write: the value, and the request.
-fn emit_write(code: &mut Bytes, value: &RExpr) -> Result<(), Memory>
-    requires { length code.old + spec.statement_size (write_of (expression_of value.now)) ≤ 32767 }
-    ensures short { OnOk result (length code.new ≤ length code.old + spec.statement_size (write_of (expression_of value.now))) }
-    ensures means { OnOk result ((n : ℕ) (exit : Option ℕ) → EmitsStatement code.old code.new n exit (write_of (expression_of value.now))) }
-{
-    emit_expression(code, value)?;
-    encode(code, Instr::Svc(2))
 }
 
 /// Appends the code of the guards of an IF that ends at a place.
@@ -233,43 +221,35 @@ fn emit_loop(code: &mut Bytes, body: &[RStmt], around: Around) -> Result<(), Mem
     encode(code, Instr::Jmp(again as u16))
 }
 
-/// Appends the code of an EXIT: a jump behind the LOOP around it.
-fn emit_exit(code: &mut Bytes, around: Around) -> Result<(), Memory>
-    ensures short { OnOk result (length code.new ≤ length code.old + spec.statement_size Exit) }
-    ensures means { OnOk result (EmitsStatement code.old code.new around.fors around.exit Exit) }
-{
-    match around.exit {
-        None => Ok(()),
-        Some(to) => encode(code, Instr::Jmp(to)),
-    }
-}
-
-/// Appends the code of a FOR: the first value, the last, the step, and the turns. Each turn stores its value in the
-/// variable, and the statements follow.
+/// Appends the code of a FOR: the first value, the last, what brings the first to the type of the last, the step, and the
+/// turns. Each turn tests its value and stores it in the variable, and the statements follow.
 #[cycle(emitting)]
 fn emit_for(
     code: &mut Bytes,
-    variable: u16,
+    variable: RVariable,
     from: &RExpr,
     to: &RExpr,
     step: i16,
     body: &[RStmt],
     around: Around,
 ) -> Result<(), Memory>
-    requires room { length code.old + spec.statement_size (For (cardinal_variable variable) (expression_of from.now) (expression_of to.now) step (statements_of body.now)) ≤ 32767 }
-    requires nested { 3 * around.fors + spec.statement_size (For (cardinal_variable variable) (expression_of from.now) (expression_of to.now) step (statements_of body.now)) ≤ 32767 }
-    ensures short { OnOk result (length code.new ≤ length code.old + spec.statement_size (For (cardinal_variable variable) (expression_of from.now) (expression_of to.now) step (statements_of body.now))) }
-    ensures means { OnOk result (EmitsStatement code.old code.new around.fors around.exit (For (cardinal_variable variable) (expression_of from.now) (expression_of to.now) step (statements_of body.now))) }
+    requires room { length code.old + spec.statement_size (For (variable_of variable) (expression_of from.now) (expression_of to.now) step (statements_of body.now)) ≤ 32767 }
+    requires nested { 3 * around.fors + spec.statement_size (For (variable_of variable) (expression_of from.now) (expression_of to.now) step (statements_of body.now)) ≤ 32767 }
+    ensures short { OnOk result (length code.new ≤ length code.old + spec.statement_size (For (variable_of variable) (expression_of from.now) (expression_of to.now) step (statements_of body.now))) }
+    ensures means { OnOk result (EmitsStatement code.old code.new around.fors around.exit (For (variable_of variable) (expression_of from.now) (expression_of to.now) step (statements_of body.now))) }
 {
     emit_expression(code, from)?;
     emit_expression(code, to)?;
+    let turn = code.len() + align_size(variable.kind, from, step) as usize + 3 + 6;
+    let stored = turn + 3 + turn_test_size(variable.kind) as usize + 3;
+    let end = (stored + body_size(body) as usize + 5) as u16;
+    emit_align(code, variable.kind, from, step, end)?;
     encode(code, Instr::Liw(word_of_number(i32::from(step))))?;
     let place = 4 + 3 * around.fors;
-    let turn = code.len() + 6;
-    let end = turn + 6 + body_size(body) as usize + 5;
-    encode(code, Instr::Fri(place, 0, end as u16))?;
+    encode(code, Instr::Fri(place, loop_sign(variable.kind), end))?;
     encode(code, Instr::Llw(place))?;
-    encode(code, Instr::Sgw(variable))?;
+    emit_turn_test(code, variable.kind)?;
+    encode(code, Instr::Sgw(variable.number))?;
     let inside = Around {
         fors: around.fors + 1,
         exit: around.exit,

@@ -1,17 +1,17 @@
 -- The translation table: which bytes from one place to another are a translation of a part. It has one row for each construct.
-use Rattle.std.specs.Prelude.{◌≡◌, ℕ, zero, suc, ◌+◌, ◌*◌, ◌≤◌, ℤ, Bool, true, false, List, [], ◌∷◌, length, Option, Some, None, slice_get}
+use Rattle.std.specs.Prelude.{◌≡◌, ℕ, zero, suc, ◌+◌, ◌*◌, ◌≤◌, ℤ, Bool, true, false, List, [], ◌∷◌, ◌++◌, length, Option, Some, None, slice_get, cond}
 use Rattle.lil_base.specs.Words.{Whole, Cardinal, Integer, word_of}
 use Rattle.lil_base.specs.declared.operator.OneOp.{OneOp}
 use Rattle.lil_base.specs.declared.operator.OneOp.TheVariants as one
 use Rattle.lil_base.specs.declared.operator.TwoOp.{TwoOp}
 use Rattle.lil_base.specs.declared.operator.TwoOp.TheVariants.{Equal, Unequal, Less, AtMost, Greater, AtLeast, Plus, Minus, Times, Div, Mod}
-use Rattle.lil_resolved.specs.Kinds.{Kind, OfWhole, OfTruth}
+use Rattle.lil_resolved.specs.Kinds.{Kind, OfWhole, OfTruth, OfCharacter, base_of, is_base, takes_value, compared_as, covers, shared, outside_turns}
 use Rattle.lil_resolved.specs.Scalars.{Scalar, within, scalar_word}
-use Rattle.lil_resolved.specs.Resolved.{Designator, Variable, Function, Abs, Cap, Chr, Odd, Ord, Val, Expression, Constant, Taken, One, Two, Short, Apply, Argument, Label, Statement, Assign, Request, If, Case, While, Repeat, Loop, Exit, For, Statements, Empty, Then, Arms, NoElse, Else, Arm, Resolved, kind_of}
+use Rattle.lil_resolved.specs.Resolved.{Designator, Variable, Function, Abs, Cap, Chr, Odd, Ord, Val, Expression, Constant, Taken, One, Two, Short, Apply, Argument, Label, Statement, Assign, Change, Request, If, Case, While, Repeat, Loop, Exit, Halt, Return, For, Statements, Empty, Then, Arms, NoElse, Else, Arm, Resolved, kind_of, counted_as}
 use Rattle.lil_resolved.specs.Depth.{depth, frame_words}
-use Rattle.lil_resolved.specs.Sound.{is_base, takes_one, takes_two, IsSoundLabel, IsStep}
+use Rattle.lil_resolved.specs.Sound.{takes_one, takes_two, takes_function, IsSoundLabel, IsStep}
 use Rattle.lil_asm.specs.declared.instr.Instr.{Instr}
-use Rattle.lil_asm.specs.declared.instr.Instr.TheVariants.{Liw, Llw, Lgw, Sgw, Swp, Rgc, Adc, Sbc, Mlc, Dvc, Mdc, Adi, Sbi, Mli, Dvi, Mdi, Ngi, Not, Equ, Neq, Lsc, Lec, Lsi, Lei, Ent, Rtn, Jmp, Jpf, Jan, Jor, Cas, Fri, Frn, Trp, Svc}
+use Rattle.lil_asm.specs.declared.instr.Instr.TheVariants.{Liw, Dup, Drp, Llw, Lgw, Sgw, Swp, Rgc, Rgi, Cap, Adc, Sbc, Mlc, Dvc, Mdc, Adi, Sbi, Mli, Dvi, Mdi, Ngi, Abi, Not, Equ, Neq, Lsc, Lec, Lsi, Lei, Ent, Rtn, Jmp, Jpf, Jan, Jor, Cas, Fri, Frn, Trp, Svc}
 use Rattle.lil_asm.specs.Bytes.{word_at, decoded}
 use Rattle.lil_asm.specs.Requests.{request_words}
 
@@ -42,11 +42,6 @@ Span = ℕ → ℕ → Type 0
 abbrev pub InstrsAt : List ℕ → List Instr → Span
 InstrsAt code [] p q = p ≡ q
 InstrsAt code (i ∷ is) p q = (r : ℕ) × IsAt code p i r × InstrsAt code is r q
-
--- the type as which the words of a kind are compared
-abbrev pub compared_as : Kind → Whole
-compared_as (OfWhole t) = t
-compared_as _ = Cardinal
 
 abbrev pub less_code : Whole → Instr
 less_code Cardinal = Lsc
@@ -86,15 +81,48 @@ two_code Greater k = Swp ∷ less_code (compared_as k) ∷ []
 two_code AtLeast k = Swp ∷ at_most_code (compared_as k) ∷ []
 two_code o k = whole_code o (compared_as k)
 
+-- the instruction that tests a number between two others
+abbrev pub range_code : Whole → ℤ × ℤ → Instr
+range_code Cardinal r = Rgc (word_of r.0) (word_of r.1)
+range_code Integer r = Rgi (word_of r.0) (word_of r.1)
+
+-- the test that the number of a value of the second kind is one of the first, where it isn't always
+abbrev pub test_code : Kind → Kind → List Instr
+test_code k j = cond (covers k j) [] (range_code (compared_as j) (shared k j) ∷ [])
+
+-- The instructions of a standard function of a value of a kind that it takes. Also an INTEGER is odd where its word is.
+abbrev pub function_code : Function → Kind → List Instr
+function_code (Abs Cardinal) k = []
+function_code (Abs Integer) k = Abi ∷ []
+function_code Cap k = Cap ∷ []
+function_code Chr k = test_code OfCharacter k
+function_code Odd k = Liw 2 ∷ Mdc ∷ []
+function_code Ord k = test_code (OfWhole Cardinal) k
+function_code (Val j) k = test_code j k
+
+-- the instructions of INC and DEC of a variable at an offset, behind the number that they add or take away: the variable's number comes
+-- below it, the sum or the difference is tested, and stored
+abbrev pub change_operator : Bool → TwoOp
+change_operator false = Plus
+change_operator true = Minus
+
+abbrev pub change_code : Bool → Kind → ℕ → List Instr
+change_code down k offset = Lgw offset ∷ Swp ∷ whole_code (change_operator down) (counted_as k) ++ test_code k (OfWhole (counted_as k)) ++ Sgw offset ∷ []
+
 pub record ConstantRow (code : List ℕ) (k : Kind) (v : Scalar) (p q : ℕ) : Type 0 where
   pub fits : within k v ≡ true
   pub load : IsAt code p (Liw (scalar_word v)) q
 
-pub record VariableRow (l : Layout) (code : List ℕ) (x : ℕ) (k : Kind) (p q : ℕ) : Type 0 where
+-- where a variable lies, whose values have words
+pub record KnownRow (l : Layout) (x : ℕ) (k : Kind) : Type 0 where
   pub offset : ℕ
-  pub known : slice_get l.offsets x ≡ Some offset
+  pub at : slice_get l.offsets x ≡ Some offset
   pub typed : slice_get l.kinds x ≡ Some k
-  pub load : IsAt code p (Lgw offset) q
+  pub base : is_base (base_of k) ≡ true
+
+pub record VariableRow (l : Layout) (code : List ℕ) (x : ℕ) (k : Kind) (p q : ℕ) : Type 0 where
+  pub known : KnownRow l x k
+  pub load : IsAt code p (Lgw known.offset) q
 
 pub record OneRow (code : List ℕ) (o : OneOp) (k : Kind) (a : Expression) (value : Span) (p q : ℕ) : Type 0 where
   pub middle : ℕ
@@ -128,20 +156,11 @@ pub record ShortRow (code : List ℕ) (d : Bool) (a b : Expression) (left right 
   pub test : IsAt code middle (short_code d q) start
   pub second : right start q
 
-pub record ChrRow (code : List ℕ) (a : Expression) (value : Span) (p q : ℕ) : Type 0 where
+pub record ApplyRow (code : List ℕ) (f : Function) (a : Expression) (value : Span) (p q : ℕ) : Type 0 where
   pub middle : ℕ
-  pub typed : kind_of a ≡ OfWhole Cardinal
+  pub takes : takes_function f (kind_of a) ≡ true
   pub first : value p middle
-  pub test : IsAt code middle (Rgc 0 255) q
-
--- the standard functions that have a row
-abbrev pub ApplyAt : List ℕ → Function → Expression → Span → Span
-ApplyAt code Chr a value p q = ChrRow code a value p q
-ApplyAt code (Abs t) a value p q = ⊥
-ApplyAt code Cap a value p q = ⊥
-ApplyAt code Odd a value p q = ⊥
-ApplyAt code Ord a value p q = ⊥
-ApplyAt code (Val k) a value p q = ⊥
+  pub by : InstrsAt code (function_code f (kind_of a)) middle q
 
 abbrev pub TakenAt : Layout → List ℕ → Designator → Span
 TakenAt l code (Variable x k) p q = VariableRow l code x k p q
@@ -152,7 +171,7 @@ ExpressionAt l code (Taken d) p q = TakenAt l code d p q
 ExpressionAt l code (One o k a) p q = OneRow code o k a (ExpressionAt l code a) p q
 ExpressionAt l code (Two o k a b) p q = TwoRow code o k a b (ExpressionAt l code a) (ExpressionAt l code b) p q
 ExpressionAt l code (Short d a b) p q = ShortRow code d a b (ExpressionAt l code a) (ExpressionAt l code b) p q
-ExpressionAt l code (Apply f a) p q = ApplyAt code f a (ExpressionAt l code a) p q
+ExpressionAt l code (Apply f a) p q = ApplyRow code f a (ExpressionAt l code a) p q
 
 -- an expression of a kind, with n words of others below its own
 pub record WholeRow (l : Layout) (code : List ℕ) (n : ℕ) (e : Expression) (k : Kind) (p q : ℕ) : Type 0 where
@@ -160,18 +179,29 @@ pub record WholeRow (l : Layout) (code : List ℕ) (n : ℕ) (e : Expression) (k
   pub shallow : n + depth e ≤ 16
   pub value : ExpressionAt l code e p q
 
-pub record AssignRow (l : Layout) (code : List ℕ) (x : ℕ) (k : Kind) (e : Expression) (p q : ℕ) : Type 0 where
+-- a value that may be stored where one of a kind is wanted, and its test
+pub record ValueRow (l : Layout) (code : List ℕ) (n : ℕ) (e : Expression) (k : Kind) (p q : ℕ) : Type 0 where
   pub middle : ℕ
-  pub offset : ℕ
-  pub known : slice_get l.offsets x ≡ Some offset
-  pub typed : slice_get l.kinds x ≡ Some k
-  pub value : WholeRow l code 0 e k p middle
-  pub store : IsAt code middle (Sgw offset) q
+  pub takes : takes_value k (kind_of e) ≡ true
+  pub value : WholeRow l code n e (kind_of e) p middle
+  pub test : InstrsAt code (test_code k (kind_of e)) middle q
+
+pub record AssignRow (l : Layout) (code : List ℕ) (x : ℕ) (k : Kind) (e : Expression) (p q : ℕ) : Type 0 where
+  pub known : KnownRow l x k
+  pub middle : ℕ
+  pub value : ValueRow l code 0 e k p middle
+  pub store : IsAt code middle (Sgw known.offset) q
+
+pub record ChangeRow (l : Layout) (code : List ℕ) (down : Bool) (x : ℕ) (k : Kind) (e : Expression) (p q : ℕ) : Type 0 where
+  pub known : KnownRow l x k
+  pub middle : ℕ
+  pub value : WholeRow l code 0 e (OfWhole (counted_as k)) p middle
+  pub by : InstrsAt code (change_code down k known.offset) middle q
 
 -- arguments one behind another, with n words of others below them
 pub record ArgumentRow (l : Layout) (code : List ℕ) (n : ℕ) (a : Argument) (rest : Span) (p q : ℕ) : Type 0 where
   pub middle : ℕ
-  pub value : WholeRow l code n a.value a.kind p middle
+  pub value : ValueRow l code n a.value a.kind p middle
   pub then : rest middle q
 
 abbrev pub ArgumentsAt : Layout → List ℕ → ℕ → List Argument → Span
@@ -292,38 +322,58 @@ abbrev pub loop_sign : Whole → ℕ
 loop_sign Cardinal = 0
 loop_sign Integer = 1
 
--- each turn: its value is stored in the variable, then comes the body, and the next turn
+-- each turn: its value is tested and stored in the variable, then comes the body, and the next turn
 pub record RoundRow (l : Layout) (code : List ℕ) (n x : ℕ) (k : Kind) (step : ℤ) (body : Span) (turn q : ℕ) : Type 0 where
+  pub known : KnownRow l x k
   pub loaded : ℕ
+  pub tested : ℕ
   pub start : ℕ
   pub end : ℕ
-  pub offset : ℕ
-  pub known : slice_get l.offsets x ≡ Some offset
-  pub typed : slice_get l.kinds x ≡ Some k
   pub room : loop_place n + 3 ≤ l.frame
   pub is_step : IsStep step
   pub load : IsAt code turn (Llw (loop_place n)) loaded
-  pub store : IsAt code loaded (Sgw offset) start
+  pub test : InstrsAt code (test_code k (base_of k)) loaded tested
+  pub store : IsAt code tested (Sgw known.offset) start
   pub here : body start end
   pub next : IsAt code end (Frn (loop_place n) turn) q
 
--- the step, the beginning of the turns, and the turns
-pub record TurnsRow (l : Layout) (code : List ℕ) (n x : ℕ) (t : Whole) (step : ℤ) (body : Span) (p q : ℕ) : Type 0 where
+-- a start that has no turn leaves the FOR
+pub record LeaveRow (code : List ℕ) (p start q : ℕ) : Type 0 where
+  pub tested : ℕ
+  pub skip : ℕ
+  pub dropped : ℕ
+  pub other : ℕ
+  pub look : InstrsAt code (Swp ∷ Dup ∷ Liw 0 ∷ Lsi ∷ []) p tested
+  pub jump : IsAt code tested (Jpf other) skip
+  pub drop : InstrsAt code (Drp ∷ Drp ∷ []) skip dropped
+  pub leave : IsAt code dropped (Jmp q) other
+  pub back : IsAt code other Swp start
+
+-- What brings a start to the limit's type, which is the same or the other type of whole numbers; the numbers of both are those from 0 to
+-- 32767. Where another start has turns the first one traps.
+abbrev pub AlignAt : List ℕ → (same turns : Bool) → ℕ → ℕ → ℕ → Type 0
+AlignAt code true turns p start q = p ≡ start
+AlignAt code false true p start q = InstrsAt code (Swp ∷ Rgc 0 32767 ∷ Swp ∷ []) p start
+AlignAt code false false p start q = LeaveRow code p start q
+
+-- both bounds stand on the expression stack, the start with a kind: the step, the beginning of the turns, and the turns
+pub record TurnsRow (l : Layout) (code : List ℕ) (n x : ℕ) (k j : Kind) (step : ℤ) (body : Span) (p q : ℕ) : Type 0 where
+  pub aligned : ℕ
   pub stepped : ℕ
   pub turn : ℕ
-  pub load : IsAt code p (Liw (word_of step)) stepped
-  pub enter : IsAt code stepped (Fri (loop_place n) (loop_sign t) q) turn
-  pub round : RoundRow l code n x (OfWhole t) step body turn q
+  pub align : AlignAt code (covers (base_of k) j) (outside_turns (compared_as (base_of k)) step) p aligned q
+  pub load : IsAt code aligned (Liw (word_of step)) stepped
+  pub enter : IsAt code stepped (Fri (loop_place n) (loop_sign (compared_as (base_of k))) q) turn
+  pub round : RoundRow l code n x k step body turn q
 
--- both bounds and the turns; the variable is a whole number
+-- both bounds and the turns: a start that may be stored in the variable, and a limit of the kind that the variable's was taken from
 pub record ForRow (l : Layout) (code : List ℕ) (n x : ℕ) (k : Kind) (a b : Expression) (step : ℤ) (body : Span) (p q : ℕ) : Type 0 where
   pub middle : ℕ
   pub last : ℕ
-  pub type : Whole
-  pub is : k ≡ OfWhole type
-  pub first : WholeRow l code 0 a k p middle
-  pub limit : WholeRow l code 1 b k middle last
-  pub turns : TurnsRow l code n x type step body last q
+  pub takes : takes_value k (kind_of a) ≡ true
+  pub first : WholeRow l code 0 a (kind_of a) p middle
+  pub limit : WholeRow l code 1 b (base_of k) middle last
+  pub turns : TurnsRow l code n x k (kind_of a) step body last q
 
 pub record ThenRow (first rest : Span) (p q : ℕ) : Type 0 where
   pub middle : ℕ
@@ -334,6 +384,7 @@ pub record ThenRow (first rest : Span) (p q : ℕ) : Type 0 where
 abbrev mutual
   pub StatementAt : Layout → List ℕ → ℕ → Option ℕ → Statement → Span
   StatementAt l code n exit (Assign (Variable x k) e) p q = AssignRow l code x k e p q
+  StatementAt l code n exit (Change down (Variable x k) e) p q = ChangeRow l code down x k e p q
   StatementAt l code n exit (Request r given) p q = RequestRow l code r given p q
   StatementAt l code n exit (If c a b) p q = IfRow l code c (BodyAt l code n exit a) (BodyAt l code n exit b) p q
   StatementAt l code n exit (Case e arms) p q = CaseRow l code e (ArmsAt l code n exit (kind_of e) arms) p q
@@ -341,6 +392,8 @@ abbrev mutual
   StatementAt l code n exit (Repeat body c) p q = RepeatRow l code (BodyAt l code n exit body) c p q
   StatementAt l code n exit (Loop body) p q = LoopRow code (BodyAt l code n (Some q) body) p q
   StatementAt l code n exit Exit p q = ExitRow code exit p q
+  StatementAt l code n exit Halt p q = IsAt code p (Trp 9) q
+  StatementAt l code n exit Return p q = IsAt code p Rtn q
   StatementAt l code n exit (For (Variable x k) a b step body) p q = ForRow l code n x k a b step (BodyAt l code (suc n) exit body) p q
 
   -- one behind another

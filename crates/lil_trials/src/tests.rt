@@ -20,7 +20,7 @@ const ENDLESS: &[u8] = b"MODULE L; FROM Terminal IMPORT Write; BEGIN LOOP Write(
 /// What the endless program shows in 1000 steps.
 const ALL_X: [u8; 333] = [b'x'; 333];
 
-const NOT_BUILT: &[u8] = b"MODULE N; BEGIN RETURN END N.";
+const NOT_BUILT: &[u8] = b"MODULE N; PROCEDURE P; END P; END N.";
 
 const USAGE: &[u8] =
     b"usage: lilith compile or run or once or demo, NAME, --steps=N --count --screen\n";
@@ -135,7 +135,7 @@ const ISNT_BUILT: Case = Case {
     fails: [0, 0, 0],
     status: 3,
     shown: b"",
-    reported: b"N.MOD:1:1: 90 NotBuilt\n",
+    reported: b"N.MOD:1:11: 90 NotBuilt\n",
 };
 
 /// Commands, with devices that fail at one call.
@@ -442,7 +442,6 @@ const CHECKED: &[(&[u8], &[u8])] = &[
         b"MODULE X;PROCEDURE P;BEGIN HALT(1) END P;END X.",
         b"X.MOD:1:28: 32 ArgCount\n",
     ),
-    (b"MODULE X;BEGIN HALT END X.", b"X.MOD:1:1: 90 NotBuilt\n"),
 ];
 
 const FAULTY: Case = Case {
@@ -623,14 +622,6 @@ const REFUSED: &[(&[u8], &[u8])] = &[
     ),
 ];
 
-/// A program K of these statements.
-fn program(alloc: Global, statements: &[u8]) -> Result<Bytes, Fail> {
-    let mut text = Bytes::from_slice(alloc, BEFORE)?;
-    text.extend(statements)?;
-    text.extend(BEHIND)?;
-    Ok(text)
-}
-
 /// A run of the program K, that ends and shows nothing.
 const RUNS_K: Case = Case {
     words: &[b"once", b"K.MOD"],
@@ -648,7 +639,7 @@ fn statements(rt: HostRuntime) -> Result<(), Fail> {
     let alloc = rt.alloc();
     for (body, shown) in DONE {
         let case = Case { shown, ..RUNS_K };
-        check(&rt, alloc, &case, program(alloc, body)?)?;
+        check(&rt, alloc, &case, around(alloc, BEFORE, body, BEHIND)?)?;
     }
     for (body, shown, reported) in TRAPS {
         let case = Case {
@@ -657,7 +648,7 @@ fn statements(rt: HostRuntime) -> Result<(), Fail> {
             reported,
             ..RUNS_K
         };
-        check(&rt, alloc, &case, program(alloc, body)?)?;
+        check(&rt, alloc, &case, around(alloc, BEFORE, body, BEHIND)?)?;
     }
     for (body, reported) in REFUSED {
         let case = Case {
@@ -665,7 +656,275 @@ fn statements(rt: HostRuntime) -> Result<(), Fail> {
             reported,
             ..RUNS_K
         };
-        check(&rt, alloc, &case, program(alloc, body)?)?;
+        check(&rt, alloc, &case, around(alloc, BEFORE, body, BEHIND)?)?;
+    }
+    Ok(())
+}
+
+/// What stands around the statements of a program S, with variables of all scalar types.
+const SCALARS_BEFORE: &[u8] =
+    b"MODULE S; FROM InOut IMPORT Write, WriteLn, WriteCard, WriteInt, WriteOct, WriteHex; TYPE day = (mo, tu, we, th); VAR i, j: INTEGER; c, k: CARDINAL; b: BOOLEAN; h: CHAR; x: day; y: [tu .. we]; u, v: [5 .. 9]; w: [-3 .. 3]; l: ['b' .. 'd']; f: [FALSE .. FALSE]; BEGIN ";
+
+const SCALARS_BEHIND: &[u8] = b" END S.";
+
+/// Statements over scalars that end, and what they show.
+const SCALARS: &[(&[u8], &[u8])] = &[
+    // numbers as texts
+    (
+        b"WriteCard(0, 1); WriteCard(65535, 8); WriteCard(17, 2); WriteCard(5, 0)",
+        b"0   65535175",
+    ),
+    (
+        b"WriteInt(MIN(INTEGER), 8); WriteInt(-1, 1); WriteInt(32767, 6); WriteInt(0, 2)",
+        b"  -32768-1 32767 0",
+    ),
+    (
+        b"WriteOct(65535, 1); WriteOct(8, 4); WriteHex(48879, 6); WriteHex(0, 1)",
+        b"177777  10  BEEF0",
+    ),
+    (
+        b"WriteCard(7, 100)",
+        b"                                                                               7",
+    ),
+    (b"Write('a'); WriteLn; Write(36C); Write('b')", b"a\n\nb"),
+    // operators and standard functions of every type
+    (
+        b"i := -7; WriteInt(i DIV 2, 1); WriteInt(i MOD 2, 3); WriteInt(-i, 2); WriteInt(i + 3 * i, 4)",
+        b"-3 -1 7 -28",
+    ),
+    (
+        b"FOR i := -2 TO 2 DO IF ODD(i) THEN Write('o') ELSE Write('e') END; WriteInt(ABS(i), 1) END",
+        b"e2o1e0o1e2",
+    ),
+    (
+        b"FOR c := 65534 TO 65535 DO IF ODD(c) THEN Write('o') ELSE Write('e') END; WriteCard(c, 1) END",
+        b"e65534o65535",
+    ),
+    (
+        b"Write(CAP('a')); h := 'z'; Write(CAP(h)); h := '{'; Write(CAP(h)); h := '`'; Write(CAP(h)); h := 'Q'; Write(CAP(h))",
+        b"AZ{`Q",
+    ),
+    (
+        b"x := VAL(day, 2); WriteCard(ORD(x), 1); i := 1; x := VAL(day, i); IF x = tu THEN Write('t') END; WriteCard(ORD(TRUE), 1); b := VAL(BOOLEAN, 1); IF b THEN Write('b') END",
+        b"2t1b",
+    ),
+    (
+        b"WriteCard(ORD(MAX(day)), 1); WriteInt(MAX(INTEGER), 1); WriteCard(ORD(MIN(CHAR)), 1); WriteCard(MAX(CARDINAL), 1)",
+        b"332767065535",
+    ),
+    (
+        b"x := tu; IF (x < we) AND (x >= tu) AND NOT (x # tu) AND (mo <= x) THEN Write('y') END; b := x > we; IF b = FALSE THEN Write('z') END",
+        b"yz",
+    ),
+    (
+        b"h := 'm'; b := (h > 'a') AND (h < 'z'); IF b THEN Write(h) END; IF b > FALSE THEN Write('t') END; i := -1; IF i < 0 THEN Write('n') END",
+        b"mtn",
+    ),
+    (
+        b"c := 3; h := CHR(c + 62); Write(h); WriteCard(ORD(h) + 1, 3); h := VAL(CHAR, ORD(h) + 1); Write(h)",
+        b"A 66B",
+    ),
+    // whole numbers of one type stored as the other, and subranges
+    (
+        b"i := 5; c := i; WriteCard(c, 1); c := 32767; i := c; WriteInt(i, 6); u := i - 32760; WriteCard(u, 2); w := -3; i := w; WriteInt(i, 3)",
+        b"5 32767 7 -3",
+    ),
+    (
+        b"u := 5; v := u; INC(v, 4); WriteCard(v, 1); y := tu; x := y; y := we; WriteCard(ORD(y) + ORD(x), 1); l := 'b'; INC(l); h := l; Write(h)",
+        b"93c",
+    ),
+    // INC and DEC
+    (
+        b"INC(c); INC(c, 5); DEC(c, 2); WriteCard(c, 1); DEC(i); DEC(i, 2); INC(i, -1); WriteInt(i, 3); INC(x, 3); DEC(x); WriteCard(ORD(x), 2); h := 'a'; INC(h, 2); Write(h); INC(b); IF b THEN Write('t') END",
+        b"4 -4 2ct",
+    ),
+    // FOR and CASE over every type
+    (
+        b"FOR x := mo TO th DO WriteCard(ORD(x), 1) END; FOR x := th TO mo BY -1 DO WriteCard(ORD(x), 1) END; FOR x := we TO tu DO Write('x') END",
+        b"01233210",
+    ),
+    (
+        b"FOR h := 'a' TO 'g' BY 3 DO Write(h) END; FOR b := FALSE TO TRUE DO WriteCard(ORD(b), 1) END; FOR i := 3 TO -3 BY -3 DO WriteInt(i, 1) END; FOR u := 5 TO 9 DO WriteCard(u, 1) END",
+        b"adg0130-356789",
+    ),
+    (
+        b"FOR h := MIN(CHAR) TO MAX(CHAR) DO INC(c) END; WriteCard(c, 1); FOR i := 32766 TO 32767 DO WriteInt(i, 6) END; FOR i := -32768 TO -32767 DO WriteInt(i, 7) END",
+        b"256 32766 32767 -32768 -32767",
+    ),
+    (
+        b"FOR x := mo TO th DO CASE x OF mo, th: Write('e') | tu .. we: Write('m') END END; FOR i := -2 TO 2 DO CASE i OF -2 .. -1: Write('n') | 0: Write('z') ELSE Write('p') END END",
+        b"emmennzpp",
+    ),
+    (
+        b"FOR h := 'a' TO 'e' DO CASE h OF 'a', 'e': Write('v') | 'b' .. 'd': Write('c') END END; CASE c = 0 OF TRUE: Write('t') | FALSE: Write('f') END",
+        b"vcccvt",
+    ),
+    (
+        b"CASE CAP('x') OF 'X': Write('y') END; CASE ORD('a') OF 97: Write('n') END; CASE ODD(3) OF TRUE: Write('o') | FALSE: END",
+        b"yno",
+    ),
+    // FOR from a start of the other type of whole numbers
+    (
+        b"i := 2; FOR c := i TO 4 DO WriteCard(c, 1) END; c := 3; FOR w := c TO 1 BY -1 DO WriteInt(w, 1) END",
+        b"234321",
+    ),
+    (
+        b"i := -2; c := 7; FOR c := i TO 3 BY -1 DO Write('x') END; WriteCard(c, 1)",
+        b"7",
+    ),
+    (
+        b"c := 40000; i := 7; FOR i := c TO 5 DO Write('x') END; WriteInt(i, 1)",
+        b"7",
+    ),
+    (
+        b"c := 32767; FOR i := c TO 32767 DO WriteInt(i, 1) END; i := 5; FOR c := i TO 65535 BY 32767 DO WriteCard(c, 6) END",
+        b"32767     5 32772",
+    ),
+    // the end of the body
+    (b"Write('a'); IF c = 0 THEN RETURN END; Write('b')", b"a"),
+    (
+        b"LOOP FOR x := mo TO th DO IF x = we THEN RETURN END; WriteCard(ORD(x), 1) END END",
+        b"01",
+    ),
+];
+
+/// Statements over scalars that trap: what they show before, and the kind of the trap.
+const SCALAR_TRAPS: &[(&[u8], &[u8], &[u8])] = &[
+    // stores and arguments
+    (
+        b"WriteCard(c, 1); i := -1; c := i",
+        b"0",
+        b"trap range in S\n",
+    ),
+    (b"c := 32768; i := c", b"", b"trap range in S\n"),
+    (b"u := v", b"", b"trap range in S\n"),
+    (b"c := 10; u := c", b"", b"trap range in S\n"),
+    (b"i := -4; w := i", b"", b"trap range in S\n"),
+    (b"c := 65535; w := c", b"", b"trap range in S\n"),
+    (b"i := -32768; u := i", b"", b"trap range in S\n"),
+    (b"b := TRUE; f := b", b"", b"trap range in S\n"),
+    (b"x := th; y := x", b"", b"trap range in S\n"),
+    (b"h := 'e'; l := h", b"", b"trap range in S\n"),
+    (b"i := -1; WriteCard(i, 1)", b"", b"trap range in S\n"),
+    (b"c := 40000; WriteInt(c, 1)", b"", b"trap range in S\n"),
+    (b"i := -1; WriteCard(1, i)", b"", b"trap range in S\n"),
+    // standard functions
+    (b"i := -1; c := ORD(i)", b"", b"trap range in S\n"),
+    (b"c := 256; h := CHR(c)", b"", b"trap range in S\n"),
+    (b"i := -1; h := VAL(CHAR, i)", b"", b"trap range in S\n"),
+    (b"c := 4; x := VAL(day, c)", b"", b"trap range in S\n"),
+    (b"c := 2; b := VAL(BOOLEAN, c)", b"", b"trap range in S\n"),
+    (
+        b"c := 40000; i := VAL(INTEGER, c)",
+        b"",
+        b"trap range in S\n",
+    ),
+    (
+        b"i := MIN(INTEGER); i := ABS(i)",
+        b"",
+        b"trap overflow in S\n",
+    ),
+    (b"i := MIN(INTEGER); i := -i", b"", b"trap overflow in S\n"),
+    (
+        b"i := MIN(INTEGER); j := -1; i := i DIV j",
+        b"",
+        b"trap overflow in S\n",
+    ),
+    (b"i := 5 MOD i", b"", b"trap divisor in S\n"),
+    // INC and DEC
+    (b"DEC(c)", b"", b"trap overflow in S\n"),
+    (b"c := 65535; INC(c)", b"", b"trap overflow in S\n"),
+    (b"i := 32767; INC(i)", b"", b"trap overflow in S\n"),
+    (b"i := MIN(INTEGER); DEC(i)", b"", b"trap overflow in S\n"),
+    (b"u := 9; INC(u)", b"", b"trap range in S\n"),
+    (b"u := 5; DEC(u)", b"", b"trap range in S\n"),
+    (b"u := 5; DEC(u, 6)", b"", b"trap overflow in S\n"),
+    (b"x := th; INC(x)", b"", b"trap range in S\n"),
+    (b"DEC(x)", b"", b"trap overflow in S\n"),
+    (b"h := 'a'; INC(h, 200)", b"", b"trap range in S\n"),
+    (b"b := TRUE; INC(b)", b"", b"trap range in S\n"),
+    (b"w := 3; INC(w)", b"", b"trap range in S\n"),
+    // FOR, CASE and HALT
+    (
+        b"FOR u := 8 TO 12 DO WriteCard(u, 1) END",
+        b"89",
+        b"trap range in S\n",
+    ),
+    (
+        b"FOR l := 'c' TO 'z' DO Write(l) END",
+        b"cd",
+        b"trap range in S\n",
+    ),
+    (
+        b"FOR w := 2 TO 5 DO WriteInt(w, 1) END",
+        b"23",
+        b"trap range in S\n",
+    ),
+    (
+        b"i := -2; FOR c := i TO 3 DO Write('x') END",
+        b"",
+        b"trap range in S\n",
+    ),
+    (
+        b"c := 40000; FOR i := c TO 5 BY -1 DO Write('x') END",
+        b"",
+        b"trap range in S\n",
+    ),
+    (
+        b"i := -2; FOR c := i TO 3 DIV (c - c) DO Write('x') END",
+        b"",
+        b"trap divisor in S\n",
+    ),
+    (b"CASE x OF tu: END", b"", b"trap case in S\n"),
+    (
+        b"h := 'q'; CASE h OF 'a' .. 'p': Write('x') END",
+        b"",
+        b"trap case in S\n",
+    ),
+    (b"Write('a'); HALT; Write('b')", b"a", b"trap halted in S\n"),
+];
+
+/// Statements between two texts.
+fn around(alloc: Global, before: &[u8], statements: &[u8], behind: &[u8]) -> Result<Bytes, Fail> {
+    let mut text = Bytes::from_slice(alloc, before)?;
+    text.extend(statements)?;
+    text.extend(behind)?;
+    Ok(text)
+}
+
+/// A run of the program S, that ends and shows nothing.
+const RUNS_S: Case = Case {
+    words: &[b"once", b"S.MOD"],
+    file: b"S.MOD",
+    ..RUNS_K
+};
+
+/// What statements over scalars show, and which traps they come to.
+#[test]
+fn scalars(rt: HostRuntime) -> Result<(), Fail> {
+    let alloc = rt.alloc();
+    for (body, shown) in SCALARS {
+        let case = Case { shown, ..RUNS_S };
+        check(
+            &rt,
+            alloc,
+            &case,
+            around(alloc, SCALARS_BEFORE, body, SCALARS_BEHIND)?,
+        )?;
+    }
+    for (body, shown, reported) in SCALAR_TRAPS {
+        let case = Case {
+            status: 5,
+            shown,
+            reported,
+            ..RUNS_S
+        };
+        check(
+            &rt,
+            alloc,
+            &case,
+            around(alloc, SCALARS_BEFORE, body, SCALARS_BEHIND)?,
+        )?;
     }
     Ok(())
 }

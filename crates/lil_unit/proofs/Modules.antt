@@ -1,10 +1,9 @@
 -- The code of a whole module.
-use Rattle.std.proofs.Common.{◌≡◌, ℕ, zero, suc, ◌+◌, ◌<◌, Some, None, List, [], ◌∷◌, ◌++◌, length, map, refl, ap, ◌∙◌, subst, arith}
+use Rattle.std.proofs.Common.{◌≡◌, ℕ, zero, suc, ◌+◌, ◌<◌, Some, None, List, [], ◌∷◌, ◌++◌, length, refl, ap, ◌∙◌, subst, arith}
 use Rattle.std.specs.Prelude.{slice_get}
-use Rattle.lil_base.specs.Words.{Cardinal}
-use Rattle.lil_resolved.specs.Kinds.{Kind, OfWhole}
+use Rattle.lil_resolved.specs.Kinds.{Kind}
 use Rattle.lil_resolved.specs.declared.resolved.RModule.{RModule}
-use Rattle.lil_resolved.specs.Views.{cardinal, statements_of, module_of}
+use Rattle.lil_resolved.specs.Views.{statements_of, module_of}
 use Rattle.lil_resolved.specs.Sizes.{body_size, frame_words, code_size, IsSound}
 use Rattle.lil_asm.specs.declared.instr.Instr.TheVariants.{Ent, Rtn}
 use Rattle.lil_asm.specs.Bytes.{bytes_of}
@@ -19,16 +18,11 @@ offset_at [] first x h = absurd (omega arith)
 offset_at (k ∷ kinds) first zero h = ap Some (omega arith)
 offset_at (k ∷ kinds) first (suc x) h = offset_at kinds (suc first) x (omega arith) ∙ ap Some (omega arith)
 
-kind_at : (names : List (List ℕ)) (x : ℕ) → x < length (map cardinal names) → slice_get (map cardinal names) x ≡ Some (OfWhole Cardinal)
-kind_at [] x h = absurd (omega arith)
-kind_at (name ∷ names) zero h = refl
-kind_at (name ∷ names) (suc x) h = kind_at names x (omega arith)
-
 -- the layout of a program module is plain
-layout_plain : (m : RModule) → IsPlain (layout_of (module_of m)) (length (module_of m).variables)
+layout_plain : (m : RModule) → IsPlain (layout_of (module_of m)) (module_of m).variables
 layout_plain m = record {
-  offset = λ x h. offset_at (map cardinal m.variables) 0 x h ∙ ap Some (omega arith);
-  kind = λ x h. kind_at m.variables x h;
+  offset = λ x h. offset_at (module_of m).variables 0 x h ∙ ap Some (omega arith);
+  kinds = refl;
 }
 
 module _ (m : RModule) (words : ℕ) (c0 c1 c2 c3 : List ℕ) (sound : IsSound (module_of m)) (none : c0 ≡ []) (framed : words ≡ frame_words (statements_of m.body))
@@ -36,7 +30,7 @@ module _ (m : RModule) (words : ℕ) (c0 c1 c2 c3 : List ℕ) (sound : IsSound (
   all_emitted : Emits c0 c3 (3 + (body_size (statements_of m.body) + 1))
       (λ final p q. IsAt final p (Ent words) (length c1) × (BodyAt (layout_of (module_of m)) final 0 None (statements_of m.body) (length c1) (length c2) × IsAt final (length c2) Rtn q))
   all_emitted =
-      let inner = body (layout_of (module_of m)) (length (module_of m).variables) (layout_plain m) sound (omega arith) in
+      let inner = body (layout_of (module_of m)) (module_of m).variables (layout_plain m) sound (omega arith) in
       emits_both c0 c1 c3 3 _ _ _ (emits_instr c0 c1 (Ent words) tt entered) (emits_both c1 c2 c3 (body_size (statements_of m.body)) 1 _ _ inner (emits_instr c2 c3 Rtn tt left))
 
   pub module_translates : Translates (module_of m) c3

@@ -1,75 +1,37 @@
-use Rattle.std.proofs.Common.{rules, arith, w16, Bool, true, false, refl, ◌≤ℤ◌, ◌≡◌, ◌<◌, ◌++◌, ◌+◌, ◌≤◌, ℕ, pos, negsuc, List, length, length-append, take, sym, ap, ◌∙◌, subst, OnOk}
-use mir.Val.{SFits, bool_byte}
+use Rattle.std.proofs.Common.{rules, arith, w32, true, ℤ, ◌≡◌, ◌<◌, ◌++◌, ◌+◌, ◌≤◌, ℕ, List, length, length-append, take, sym, ap, ◌∙◌, subst, OnOk}
+use mir.Val.{SFits}
 use Rattle.std.proofs.lemmas.Int.{to_z-of_z}
 use Rattle.std.proofs.lemmas.List.{take_all}
-use Rattle.lil_base.specs.Words.{Cardinal, Integer, word_of}
-use Rattle.lil_resolved.specs.Kinds.{OfWhole, OfTruth, OfCharacter}
-use Rattle.lil_resolved.specs.Scalars.{Number, Truth, Character, truth_number}
-use Rattle.lil_resolved.specs.Sizes.{size}
-use Rattle.lil_resolved.specs.Views.{expression_of}
-use Rattle.lil_resolved.specs.Forms.{number_is, integer_is, truth_is, character_is, variable_is, one_is, chain_is, chr_is}
+use Rattle.lil_base.specs.Words.{Integer}
+use Rattle.lil_resolved.specs.Kinds.{Kind, OfWhole}
+use Rattle.lil_resolved.specs.Resolved.{kind_of}
+use Rattle.lil_resolved.specs.Scalars.{scalar_of, scalar_word, within}
+use Rattle.lil_resolved.specs.Sizes.{size, function_size}
+use Rattle.lil_resolved.specs.Views.{base_view, kind_view, function_of, expression_of}
+use Rattle.lil_resolved.specs.Forms.{constant_is, variable_is, one_is, chain_is, apply_is}
 use Rattle.lil_resolved.specs.declared.resolved.RExpr.{RExpr}
 use Rattle.lil_resolved.specs.declared.resolved.ROperation.{ROperation}
-use Rattle.lil_asm.specs.declared.instr.Instr.TheVariants.{Liw, Rgc}
-use Rattle.lil_asm.specs.Bytes.{bytes_of}
 use Rattle.lil_expr.specs.Emitting.{all_bytes}
-use Rattle.lil_expr.specs.Generating.{EmitsExpression, EmitsOperations, operator_size, operations_size, whole_of}
-use Rattle.lil_table.specs.Rows.{one_code}
+use Rattle.lil_expr.specs.Generating.{EmitsExpression, EmitsOperations, operator_size, operations_size}
+use Rattle.lil_table.specs.Rows.{one_code, function_code}
 use Rattle.lil_expr.specs.Appending.{with_ok}
-use Rattle.lil_expr.specs.Numbers.{number_word}
 use Rattle.lil_expr.proofs.Chains.{operations_left, chain_size, as_is, next_operation, jump_short, short_operation, two_operation}
-use Rattle.lil_expr.proofs.Nodes.{nodes, operations_nodes, operation_in, one_nodes, chain_nodes, chr_nodes, operand_nodes}
-use Rattle.lil_expr.proofs.Generating.{one_long, bytes_more, constant_emitted, variable_emitted, one_emitted, chr_emitted}
+use Rattle.lil_expr.proofs.Nodes.{nodes, operations_nodes, operation_in, one_nodes, chain_nodes, apply_nodes, operand_nodes}
+use Rattle.lil_expr.proofs.Generating.{one_long, bytes_more, constant_emitted, variable_emitted, one_emitted, function_coded, apply_emitted}
 use Rattle.lil_expr.proofs.expressions.+emitting.Goals as goal
 
-pub emit_expression-returns-in-Number-clause-short : goal.emit_expression-returns-in-Number-clause-short
-emit_expression-returns-in-Number-clause-short t c =
-    let is = ap expression_of c.in-Number.is ∙ number_is c.in-Number.number in
+pub emit_expression-returns-in-Constant-clause-short : goal.emit_expression-returns-in-Constant-clause-short
+emit_expression-returns-in-Constant-clause-short t c =
+    let is = ap expression_of c.in-Constant.is ∙ constant_is c.in-Constant.base c.in-Constant.number in
     with_ok c.encode.result (λ h. bytes_more (size (expression_of c.args.e.now)) _ _ _ h (sym (ap size is))) c.encode.ensures
 
-pub emit_expression-returns-in-Number-clause-means : goal.emit_expression-returns-in-Number-clause-means
-emit_expression-returns-in-Number-clause-means t c =
-    let is = ap expression_of c.in-Number.is ∙ number_is c.in-Number.number in
-    with_ok c.encode.result (λ h. as_is _ _ _ _ is (constant_emitted (OfWhole Cardinal) (Number (pos c.in-Number.number)) _ _ h)) c.encode.ensures
-
-pub emit_expression-returns-in-Integer-clause-short : goal.emit_expression-returns-in-Integer-clause-short
-emit_expression-returns-in-Integer-clause-short t c =
-    let is = ap expression_of c.in-Integer.is ∙ integer_is c.in-Integer.number in
-    with_ok c.encode-in-Integer.result (λ h. bytes_more (size (expression_of c.args.e.now)) _ _ _ h (sym (ap size is))) c.encode-in-Integer.ensures
-
-pub emit_expression-returns-in-Integer-clause-means : goal.emit_expression-returns-in-Integer-clause-means
-emit_expression-returns-in-Integer-clause-means t c =
-    let is = ap expression_of c.in-Integer.is ∙ integer_is c.in-Integer.number in
-    let small : SFits w16 c.in-Integer.number = search rules in
-    let taken : c.from.result ≡ c.in-Integer.number = grind (arith, to_z-of_z) in
-    let fits : (negsuc 32767 ≤ℤ c.from.result) × (c.from.result ≤ℤ pos 65535) = search rules in
-    let same : c.word_of_number.result ≡ word_of c.in-Integer.number = number_word c.from.result c.word_of_number.result c.word_of_number.ensures fits ∙ ap word_of taken in
-    with_ok c.encode-in-Integer.result (λ h. as_is _ _ _ _ is (constant_emitted (OfWhole Integer) (Number c.in-Integer.number) _ _ (h ∙ ap (λ (w : ℕ). c.args.code.now ++ bytes_of (Liw w)) same))) c.encode-in-Integer.ensures
-
-truth_byte : (b : Bool) → bool_byte b ≡ truth_number b
-truth_byte true = refl
-truth_byte false = refl
-
-pub emit_expression-returns-in-Truth-clause-short : goal.emit_expression-returns-in-Truth-clause-short
-emit_expression-returns-in-Truth-clause-short t c =
-    let is = ap expression_of c.in-Truth.is ∙ truth_is c.in-Truth.holds in
-    with_ok c.encode-in-Truth.result (λ h. bytes_more (size (expression_of c.args.e.now)) _ _ _ h (sym (ap size is))) c.encode-in-Truth.ensures
-
-pub emit_expression-returns-in-Truth-clause-means : goal.emit_expression-returns-in-Truth-clause-means
-emit_expression-returns-in-Truth-clause-means t c =
-    let is = ap expression_of c.in-Truth.is ∙ truth_is c.in-Truth.holds in
-    let same : c.from-in-Truth.result ≡ truth_number c.in-Truth.holds = c.from-in-Truth.ensures ∙ truth_byte c.in-Truth.holds in
-    with_ok c.encode-in-Truth.result (λ h. as_is _ _ _ _ is (constant_emitted OfTruth (Truth c.in-Truth.holds) _ _ (h ∙ ap (λ (w : ℕ). c.args.code.now ++ bytes_of (Liw w)) same))) c.encode-in-Truth.ensures
-
-pub emit_expression-returns-in-Character-clause-short : goal.emit_expression-returns-in-Character-clause-short
-emit_expression-returns-in-Character-clause-short t c =
-    let is = ap expression_of c.in-Character.is ∙ character_is c.in-Character.character in
-    with_ok c.encode-in-Character.result (λ h. bytes_more (size (expression_of c.args.e.now)) _ _ _ h (sym (ap size is))) c.encode-in-Character.ensures
-
-pub emit_expression-returns-in-Character-clause-means : goal.emit_expression-returns-in-Character-clause-means
-emit_expression-returns-in-Character-clause-means t c =
-    let is = ap expression_of c.in-Character.is ∙ character_is c.in-Character.character in
-    with_ok c.encode-in-Character.result (λ h. as_is _ _ _ _ is (constant_emitted OfCharacter (Character c.in-Character.character) _ _ (h ∙ ap (λ (w : ℕ). c.args.code.now ++ bytes_of (Liw w)) c.from-in-Character.ensures))) c.encode-in-Character.ensures
+pub emit_expression-returns-in-Constant-clause-means : goal.emit_expression-returns-in-Constant-clause-means
+emit_expression-returns-in-Constant-clause-means t c =
+    let is = ap expression_of c.in-Constant.is ∙ constant_is c.in-Constant.base c.in-Constant.number in
+    let k = base_view c.in-Constant.base in
+    let small : SFits w32 c.in-Constant.number = search rules in
+    let word = subst (λ (z : ℤ). within k (scalar_of k z) ≡ true → c.constant_word.result ≡ scalar_word (scalar_of k z)) (to_z-of_z w32 c.in-Constant.number small) c.constant_word.ensures in
+    with_ok c.encode.result (λ h. as_is _ _ _ _ is (constant_emitted k (scalar_of k c.in-Constant.number) c.constant_word.result _ _ word h)) c.encode.ensures
 
 pub emit_expression-returns-in-Variable-clause-short : goal.emit_expression-returns-in-Variable-clause-short
 emit_expression-returns-in-Variable-clause-short t c =
@@ -79,7 +41,7 @@ emit_expression-returns-in-Variable-clause-short t c =
 pub emit_expression-returns-in-Variable-clause-means : goal.emit_expression-returns-in-Variable-clause-means
 emit_expression-returns-in-Variable-clause-means t c =
     let is = ap expression_of c.in-Variable.is ∙ variable_is c.in-Variable.variable in
-    with_ok c.encode-in-Variable.result (λ h. as_is _ _ _ _ is (variable_emitted c.in-Variable.variable _ _ h)) c.encode-in-Variable.ensures
+    with_ok c.encode-in-Variable.result (λ h. as_is _ _ _ _ is (variable_emitted c.in-Variable.variable.number (kind_view c.in-Variable.variable.kind) _ _ h)) c.encode-in-Variable.ensures
 
 pub emit_expression-emit_expression-requires : goal.emit_expression-emit_expression-requires
 emit_expression-emit_expression-requires t c =
@@ -129,23 +91,32 @@ emit_expression-returns-in_ok-emit_expression-in-Chain-clause-means t c =
     let rest = subst (λ (os : List ROperation). OnOk c.emit_operations.result (EmitsOperations c.emit_expression-in-Chain.new.code c.emit_operations.new.code os)) c.as_slice.ensures c.emit_operations.ensures.means in
     with_ok c.emit_operations.result (λ h. as_is _ _ _ _ is (h c.args.code.now (expression_of c.in-Chain.first) first)) rest
 
-pub emit_expression-emit_expression-requires-in-Chr : goal.emit_expression-emit_expression-requires-in-Chr
-emit_expression-emit_expression-requires-in-Chr t c =
-    let whole = ap (λ (e : RExpr). size (expression_of e)) c.in-Chr.is ∙ ap size (chr_is c.in-Chr.value) in
-    let part = ap nodes c.in-Chr.is ∙ chr_nodes c.in-Chr.value in
-    (omega (arith, c.decreases, part, ap nodes c.get-in-Chr.ensures), omega (arith, whole, ap (λ (e : RExpr). size (expression_of e)) c.get-in-Chr.ensures, c.requires.room))
+pub emit_expression-emit_expression-requires-in-Apply : goal.emit_expression-emit_expression-requires-in-Apply
+emit_expression-emit_expression-requires-in-Apply t c =
+    let whole = ap (λ (e : RExpr). size (expression_of e)) c.in-Apply.is ∙ ap size (apply_is c.in-Apply.function c.in-Apply.value) in
+    let part = ap nodes c.in-Apply.is ∙ apply_nodes c.in-Apply.function c.in-Apply.value in
+    (omega (arith, c.decreases, part, ap nodes c.get-in-Apply.ensures), omega (arith, whole, ap (λ (e : RExpr). size (expression_of e)) c.get-in-Apply.ensures, c.requires.room))
 
-pub emit_expression-returns-in_ok-emit_expression-in-Chr-clause-short : goal.emit_expression-returns-in_ok-emit_expression-in-Chr-clause-short
-emit_expression-returns-in_ok-emit_expression-in-Chr-clause-short t c =
-    let is = ap expression_of c.in-Chr.is ∙ chr_is c.in-Chr.value in
-    let value = ap (λ (e : RExpr). size (expression_of e)) c.get-in-Chr.ensures in
-    with_ok c.encode-in-Chr.result (λ h. omega (arith, ap size is, value, c.in_ok-emit_expression-in-Chr.ensures.short, bytes_more 5 c.emit_expression-in-Chr.new.code c.encode-in-Chr.new.code (bytes_of (Rgc 0 255)) h refl)) c.encode-in-Chr.ensures
+pub emit_expression-returns-in_ok-emit_expression-in-Apply-clause-short : goal.emit_expression-returns-in_ok-emit_expression-in-Apply-clause-short
+emit_expression-returns-in_ok-emit_expression-in-Apply-clause-short t c =
+    let is = ap expression_of c.in-Apply.is ∙ apply_is c.in-Apply.function c.in-Apply.value in
+    let value = ap (λ (e : RExpr). size (expression_of e)) c.get-in-Apply.ensures in
+    let typed : base_view c.base.result ≡ kind_of (expression_of c.in-Apply.value) = c.base.ensures ∙ ap (λ (e : RExpr). kind_of (expression_of e)) c.get-in-Apply-2.ensures in
+    let function = function_of c.in-Apply.function (base_view c.base.result) in
+    let long = (function_coded function (base_view c.base.result)).long ∙ ap (λ (k : Kind). function_size (function_of c.in-Apply.function k) k) typed in
+    with_ok c.emit_function.result
+    (λ h. omega (arith, ap size is, value, c.in_ok-emit_expression-in-Apply.ensures.short, long, ap length h, length-append c.emit_expression-in-Apply.new.code (all_bytes (function_code function (base_view c.base.result)))))
+    c.emit_function.ensures
 
-pub emit_expression-returns-in_ok-emit_expression-in-Chr-clause-means : goal.emit_expression-returns-in_ok-emit_expression-in-Chr-clause-means
-emit_expression-returns-in_ok-emit_expression-in-Chr-clause-means t c =
-    let is = ap expression_of c.in-Chr.is ∙ chr_is c.in-Chr.value in
-    let value = subst (λ (e : RExpr). EmitsExpression c.args.code.now c.emit_expression-in-Chr.new.code (expression_of e)) c.get-in-Chr.ensures c.in_ok-emit_expression-in-Chr.ensures.means in
-    with_ok c.encode-in-Chr.result (λ h. as_is _ _ _ _ is (chr_emitted (expression_of c.in-Chr.value) _ _ _ value h)) c.encode-in-Chr.ensures
+pub emit_expression-returns-in_ok-emit_expression-in-Apply-clause-means : goal.emit_expression-returns-in_ok-emit_expression-in-Apply-clause-means
+emit_expression-returns-in_ok-emit_expression-in-Apply-clause-means t c =
+    let is = ap expression_of c.in-Apply.is ∙ apply_is c.in-Apply.function c.in-Apply.value in
+    let value = subst (λ (e : RExpr). EmitsExpression c.args.code.now c.emit_expression-in-Apply.new.code (expression_of e)) c.get-in-Apply.ensures c.in_ok-emit_expression-in-Apply.ensures.means in
+    let typed : base_view c.base.result ≡ kind_of (expression_of c.in-Apply.value) = c.base.ensures ∙ ap (λ (e : RExpr). kind_of (expression_of e)) c.get-in-Apply-2.ensures in
+    let code = ap (λ (k : Kind). c.emit_expression-in-Apply.new.code ++ all_bytes (function_code (function_of c.in-Apply.function k) k)) typed in
+    with_ok c.emit_function.result
+    (λ h. as_is _ _ _ _ is (apply_emitted (function_of c.in-Apply.function (kind_of (expression_of c.in-Apply.value))) (expression_of c.in-Apply.value) _ _ _ value (h ∙ code)))
+    c.emit_function.ensures
 
 pub emit_operations-emit_operation-requires : goal.emit_operations-emit_operation-requires
 emit_operations-emit_operation-requires t c =
@@ -188,5 +159,5 @@ emit_operation-returns-in_ok-encode-in-Some-clause-means t c =
 pub emit_operation-returns-in_ok-emit_expression-in-None-clause-means : goal.emit_operation-returns-in_ok-emit_expression-in-None-clause-means
 emit_operation-returns-in_ok-emit_expression-in-None-clause-means t c =
     with_ok c.emit_two.result
-    (two_operation c.args.operation.now (c.len.result + 3 + c.expression_size.result) (whole_of c.compared_type.result) _ _ _
-    (sym c.jump_over.ensures ∙ c.in-None.is) c.compared_type.ensures c.in_ok-emit_expression-in-None.ensures.means) c.emit_two.ensures.code
+    (two_operation c.args.operation.now (c.len.result + 3 + c.expression_size.result) (base_view c.base.result) _ _ _
+    (sym c.jump_over.ensures ∙ c.in-None.is) c.base.ensures c.in_ok-emit_expression-in-None.ensures.means) c.emit_two.ensures.code

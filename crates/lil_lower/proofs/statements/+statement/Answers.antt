@@ -1,19 +1,20 @@
-use Rattle.std.proofs.Common.{rules, ◌≡◌, ◌∙◌, sym, ap, map, Some, None, arith}
+use Rattle.std.proofs.Common.{rules, ◌≡◌, ◌∙◌, sym, ap, subst, map, Some, None, IfOk, arith, to_z, of_z, w32}
 use Rattle.std.specs.Option.{option_map}
 use Rattle.lil_module.specs.declared.tree.RStmt.TheVariants as v
 use Rattle.lil_resolved.specs.Resolved.{NoElse, Else}
 use Rattle.lil_resolved.specs.Views as view
+use Rattle.lil_lower.specs.Values.{root}
 use Rattle.lil_lower.specs.Lowered as spec
 use Rattle.lil_lower.specs.Parts as parts
 use Rattle.lil_lower.proofs.Lists.{pushed, none_at, all_found}
-use Rattle.lil_lower.proofs.StatementForms.{if_without, if_with, case_none, case_without, case_with}
+use Rattle.lil_lower.proofs.StatementForms.{if_without, if_with, case_none, case_without, case_with, for_is}
 use Rattle.lil_lower.proofs.statements.+statement.Goals as goal
 
 pub all_arms-returns-in-None : goal.all_arms-returns-in-None
-all_arms-returns-in-None t c = sym (none_at (λ a. spec.arm c.args.m.now a c.args.looping c.args.kind) c.args.of.now c.loop-one.one-index c.one-item.result c.loop-one-test.true (search rules) (search rules))
+all_arms-returns-in-None t c = sym (none_at (λ a. spec.arm c.args.m.now a c.args.looping c.args.base) c.args.of.now c.loop-one.one-index c.one-item.result c.loop-one-test.true (search rules) (search rules))
 
 pub all_arms-loop-one-preserved : goal.all_arms-loop-one-preserved
-all_arms-loop-one-preserved t c = pushed (λ a. spec.arm c.args.m.now a c.args.looping c.args.kind) parts.arm_pair c.args.of.now c.loop-one.one-index c.one-item.result
+all_arms-loop-one-preserved t c = pushed (λ a. spec.arm c.args.m.now a c.args.looping c.args.base) parts.arm_pair c.args.of.now c.loop-one.one-index c.one-item.result
     c.in-Some.arm c.loop-one.found c.push.new.self c.loop-one-test.true (search rules) (search rules) (search rules) c.loop-one.invariant
 
 pub all_guards-returns-in-None : goal.all_guards-returns-in-None
@@ -64,21 +65,21 @@ statement-returns-in_ok-other-in-Some t c =
 pub statement-returns-in_default : goal.statement-returns-in_default
 statement-returns-in_default t c =
     let a = c.in-Case in
-    sym (ap (λ x. spec.statement c.args.m.now x c.args.looping) a.is ∙ case_none c.args.m.now c.args.looping a.of a.arms a.other (sym c.own_kind.ensures ∙ c.in_default.is))
+    sym (ap (λ x. spec.statement c.args.m.now x c.args.looping) a.is ∙ case_none c.args.m.now c.args.looping a.of a.arms a.other (sym c.selector.ensures ∙ c.in_default.is))
 
 pub statement-returns-in-None-other : goal.statement-returns-in-None-other
 statement-returns-in-None-other t c =
     let a = c.in-Case in
     let m = c.args.m.now in
     let looping = c.args.looping in
-    let kind = c.in-Some-own_kind.kind in
+    let by = c.in-Some-selector.by in
     let is : c.args.of.now ≡ v.Case a.of a.arms None = a.is ∙ ap (v.Case a.of a.arms) c.in-None-other.is in
-    let own : spec.own_kind a.of ≡ Some kind = search rules in
-    let of : option_map view.expression_of c.in_ok-of-in-Case.of ≡ spec.value m a.of kind = search rules in
-    let arms : option_map (map parts.arm_pair) c.in_ok-arms-in-Case.arms ≡ spec.all_some (map (λ b. spec.arm m b looping kind) a.arms) = search rules in
+    let own : spec.selector m a.of ≡ Some by = search rules in
+    let of : option_map view.expression_of c.in_ok-of-in-Case.of ≡ spec.value m a.of by.sort = search rules in
+    let arms : option_map (map parts.arm_pair) c.in_ok-arms-in-Case.arms ≡ spec.all_some (map (λ b. spec.arm m b looping by.base) a.arms) = search rules in
     c.selected.ensures
     ∙ (λ j. spec.selected (of j) (arms j) (Some NoElse))
-    ∙ sym (case_without m looping kind a.of a.arms own)
+    ∙ sym (case_without m looping by a.of a.arms own)
     ∙ ap (λ x. spec.statement m x looping) (sym is)
 
 pub statement-returns-in_ok-other-in-Some-other : goal.statement-returns-in_ok-other-in-Some-other
@@ -86,14 +87,25 @@ statement-returns-in_ok-other-in-Some-other t c =
     let a = c.in-Case in
     let m = c.args.m.now in
     let looping = c.args.looping in
-    let kind = c.in-Some-own_kind.kind in
+    let by = c.in-Some-selector.by in
     let is : c.args.of.now ≡ v.Case a.of a.arms (Some c.in-Some-other.other) = a.is ∙ ap (v.Case a.of a.arms) c.in-Some-other.is in
-    let own : spec.own_kind a.of ≡ Some kind = search rules in
-    let of : option_map view.expression_of c.in_ok-of-in-Case.of ≡ spec.value m a.of kind = search rules in
-    let arms : option_map (map parts.arm_pair) c.in_ok-arms-in-Case.arms ≡ spec.all_some (map (λ b. spec.arm m b looping kind) a.arms) = search rules in
+    let own : spec.selector m a.of ≡ Some by = search rules in
+    let of : option_map view.expression_of c.in_ok-of-in-Case.of ≡ spec.value m a.of by.sort = search rules in
+    let arms : option_map (map parts.arm_pair) c.in_ok-arms-in-Case.arms ≡ spec.all_some (map (λ b. spec.arm m b looping by.base) a.arms) = search rules in
     let other : option_map view.statements_of c.in_ok-other-in-Some-other.other ≡ spec.statements m looping c.in-Some-other.other = search rules in
     let behind : option_map view.else_of c.behind_else.result ≡ option_map Else (spec.statements m looping c.in-Some-other.other) = c.behind_else.ensures ∙ ap (option_map Else) other in
     c.selected-in-Some-other.ensures
     ∙ (λ j. spec.selected (of j) (arms j) (behind j))
-    ∙ sym (case_with m looping kind a.of a.arms c.in-Some-other.other own)
+    ∙ sym (case_with m looping by a.of a.arms c.in-Some-other.other own)
     ∙ ap (λ x. spec.statement m x looping) (sym is)
+
+pub statement-returns-in_ok-statements-in-For : goal.statement-returns-in_ok-statements-in-For
+statement-returns-in_ok-statements-in-For t c =
+    let a = c.in-For in
+    let m = c.args.m.now in
+    let looping = c.args.looping in
+    let found : c.root.result ≡ root m a.variable = search rules in
+    let by : to_z w32 (of_z w32 a.by) ≡ a.by = search rules in
+    let body : option_map view.statements_of c.in_ok-statements-in-For.statements ≡ spec.statements m looping a.statements = search rules in
+    let is = (λ j. spec.for_by m (found j) a.from a.to (by j) (body j)) ∙ sym (for_is m looping a.variable a.from a.to a.by a.statements) ∙ ap (λ x. spec.statement m x looping) (sym a.is) in
+    subst (λ s. IfOk c.counted.result (λ o. option_map view.statement_of o ≡ s)) is c.counted.ensures

@@ -11,4 +11,4 @@ abbrev pub invariant-all_guards-loop-one : goal.invariant-all_guards-loop-one
 invariant-all_guards-loop-one l = spec.all_some (map (λ g. spec.guard l.m g l.looping) (take l.one-index l.of)) ≡ Some (map parts.guard_pair l.found)
 
 abbrev pub invariant-all_arms-loop-one : goal.invariant-all_arms-loop-one
-invariant-all_arms-loop-one l = spec.all_some (map (λ a. spec.arm l.m a l.looping l.kind) (take l.one-index l.of)) ≡ Some (map parts.arm_pair l.found)
+invariant-all_arms-loop-one l = spec.all_some (map (λ a. spec.arm l.m a l.looping l.base) (take l.one-index l.of)) ≡ Some (map parts.arm_pair l.found)

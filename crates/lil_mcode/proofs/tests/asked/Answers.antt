@@ -1,5 +1,15 @@
-use Rattle.lil_mcode.specs.Requests.{request_has_one}
+use Rattle.std.proofs.Common.{◌≡◌, ℕ, ◌≤◌, Some, length, sym, ap, ◌∙◌, arith}
+use Rattle.lil_asm.specs.Requests.{request_words}
+use Rattle.lil_mcode.specs.Requests.{request_has}
 use Rattle.lil_mcode.proofs.tests.asked.Goals as goal
 
 pub argument-word-requires : goal.argument-word-requires
-argument-word-requires c = request_has_one c.args.machine.now.state c.step.new.self.state c.in-Request.field-0 c.in-Request.ensures.row
+argument-word-requires c =
+    let t = c.step.new.self.state in
+    let r = c.in-Request-eq2.field-0 in
+    let two : r ≡ 2 = c.in-Request-eq2.field-0-test in
+    let a = request_has c.args.machine.now.state t r c.in-Request-eq2.ensures.row in
+    let same : Some 1 ≡ Some a.0 = ap (λ (n : ℕ). request_words n) (sym two) ∙ a.1 in
+    let one : 1 ≡ a.0 = cc in
+    let there : a.0 ≤ length t.stack = a.2 in
+    omega arith

@@ -3,19 +3,14 @@ use Rattle.lil_mcode.specs.declared.machine.Event.TheVariants.{Went, Request, Le
 use Rattle.lil_mcode.specs.Calls.{Machine}
 use Rattle.lil_match.specs.Running.{Running, Finished, TrappedBy, Limited, Broken}
 use Rattle.lil_session.proofs.Advancing.{step_quiet, step_writes, step_refused, as_event}
-use Rattle.lil_mcode.specs.Requests.{request_is_two}
+use Rattle.lil_mcode.specs.Requests.{request_has}
 use Rattle.lil_session.proofs.Turns.{on_err}
 use Rattle.lil_session.proofs.run.answered.Goals as goal
 
-pub serve-requires-clause-known : goal.serve-requires-clause-known
-serve-requires-clause-known g c =
+pub serve-requires : goal.serve-requires
+serve-requires g c =
     let t = c.args.machine.now.state in
-    (request_is_two c.requires.0 t c.in-Request.number (as_event c.requires.0 t c.args.event (Request c.in-Request.number) c.requires.1 c.in-Request.is)).0
-
-pub serve-requires-clause-words : goal.serve-requires-clause-words
-serve-requires-clause-words g c =
-    let t = c.args.machine.now.state in
-    (request_is_two c.requires.0 t c.in-Request.number (as_event c.requires.0 t c.args.event (Request c.in-Request.number) c.requires.1 c.in-Request.is)).1
+    request_has c.requires.0 t c.in-Request.number (as_event c.requires.0 t c.args.event (Request c.in-Request.number) c.requires.1 c.in-Request.is)
 
 pub returns-in-Went-clause-step : goal.returns-in-Went-clause-step
 returns-in-Went-clause-step g c = λ u h.
@@ -45,15 +40,19 @@ returns-in-BadCode-clause-step g c = λ u h.
 pub returns-in_ok-serve-in-Request-clause-step : goal.returns-in_ok-serve-in-Request-clause-step
 returns-in_ok-serve-in-Request-clause-step g c = λ u h.
     let t = c.args.machine.now.state in
-    let step = as_event u t c.args.event (Request c.in-Request.number) h c.in-Request.is in
-    step_writes u t c.serve.new.machine.state c.in-Request.number (g.S.Sink.written c.args.screen.now) (g.S.Sink.written c.serve.new.screen) step
-    (request_is_two u t c.in-Request.number step).0
-    (ap (λ (m : Machine). m.state) c.serve.ensures.machine) c.in_ok-serve-in-Request.ensures.ok
+    let q = c.in-Request.number in
+    let step = as_event u t c.args.event (Request q) h c.in-Request.is in
+    let words = c.serve.ensures.machine in
+    step_writes u t c.serve.new.machine.state q words.0 (g.S.Sink.written c.args.screen.now) (g.S.Sink.written c.serve.new.screen) step words.1
+    (ap (λ (m : Machine). m.state) words.2) (c.in_ok-serve-in-Request.ensures.ok words.0 words.1)
 
 pub returns-in_err-serve-in-Request-clause-refused : goal.returns-in_err-serve-in-Request-clause-refused
 returns-in_err-serve-in-Request-clause-refused g c =
     on_err c.from_residual.result
     (λ u h.
     let t = c.args.machine.now.state in
-    let step = as_event u t c.args.event (Request c.in-Request.number) h c.in-Request.is in
-    step_refused u t c.in-Request.number (g.S.Sink.written c.args.screen.now) (g.S.Sink.written c.serve.new.screen) step (request_is_two u t c.in-Request.number step).0 c.in_err-serve-in-Request.ensures.err)
+    let q = c.in-Request.number in
+    let step = as_event u t c.args.event (Request q) h c.in-Request.is in
+    let words = c.serve.ensures.machine in
+    step_refused u t q words.0 (g.S.Sink.written c.args.screen.now) (g.S.Sink.written c.serve.new.screen) step words.1
+    (c.in_err-serve-in-Request.ensures.err words.0 words.1))

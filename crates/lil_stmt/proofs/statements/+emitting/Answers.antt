@@ -1,23 +1,26 @@
-use Rattle.std.proofs.Common.{rules, arith, w16, to_z, of_z, OnOk, refl, suc, ℤ, pos, negsuc, ◌≤ℤ◌, ◌≡◌, ◌+◌, ◌<◌, ◌≤◌, ℕ, List, [], length, drop, min, sym, ap, ◌∙◌, subst, None, Option}
+use Rattle.std.proofs.Common.{rules, arith, w16, to_z, of_z, OnOk, refl, suc, ℤ, pos, negsuc, ◌≤ℤ◌, ◌≡◌, ◌+◌, ◌<◌, ◌≤◌, ℕ, List, [], length, map, drop, min, sym, ap, ◌∙◌, subst, None, Option}
 use mir.Val.{SFits}
 use Rattle.std.proofs.lemmas.Int.{to_z-of_z}
 use Rattle.std.proofs.lemmas.List.{drop_all}
 use Rattle.lil_base.specs.Words.{word_of}
 use Rattle.lil_resolved.specs.declared.resolved.RStmt.{RStmt}
+use Rattle.lil_resolved.specs.declared.resolved.RArgument.{RArgument}
 use Rattle.lil_resolved.specs.declared.resolved.RGuard.{RGuard}
 use Rattle.lil_resolved.specs.declared.resolved.RArm.{RArm}
-use Rattle.lil_resolved.specs.Resolved.{Assign, While, Repeat, Loop, Exit, For, Statements, Empty, Then}
+use Rattle.lil_resolved.specs.Resolved as resolved
+use Rattle.lil_resolved.specs.Resolved.{Assign, Change, While, Repeat, Loop, Exit, Halt, Return, For, Statements, Empty, Then, kind_of}
 use Rattle.lil_resolved.specs.Sizes as spec
-use Rattle.lil_resolved.specs.Views.{cardinal_variable, write_of, expression_of, statement_of, statements_of, guards_of, arms_of, else_of}
-use Rattle.lil_resolved.specs.Forms.{assign_is, write_is, if_is, while_is, repeat_is, loop_is, exit_is, for_is}
+use Rattle.lil_resolved.specs.Views.{kind_view, variable_of, is_down, request_number, argument_of, expression_of, statement_of, statements_of, guards_of, arms_of, else_of}
+use Rattle.lil_resolved.specs.Forms.{assign_is, change_is, request_is, halt_is, return_is, if_is, while_is, repeat_is, loop_is, exit_is, for_is}
 use Rattle.lil_asm.specs.declared.instr.Instr.TheVariants.{Jmp}
 use Rattle.lil_asm.specs.Bytes.{bytes_of}
-use Rattle.lil_stmt.specs.Generating.{EmitsStatement, EmitsBody, EmitsGuards, IsPlaced, EmitsArm, EmitsArms, EmitsBodies, EmitsChoice, before_else, entry_count}
+use Rattle.lil_stmt.specs.Generating.{EmitsStatement, EmitsBody, EmitsAlign, EmitsGuards, IsPlaced, EmitsArm, EmitsArms, EmitsBodies, EmitsChoice, before_else, entry_count}
 use Rattle.lil_expr.specs.Appending.{with_ok}
 use Rattle.lil_stmt.proofs.Extents.{body_size_next, body_size_left, guard_next, guard_size_is, guards_size_left, if_size, guards_size_apart, arms_before_next, arms_before_left, case_size}
 use Rattle.lil_expr.specs.Numbers.{number_word}
-use Rattle.lil_stmt.proofs.CaseEmitting.{longer, arm_emitted, no_else_emitted, next_arm_emitted, no_arms_left, case_emitted, case_short}
-use Rattle.lil_stmt.proofs.Stating.{next_emitted, while_emitted, repeat_emitted, loop_emitted, for_emitted, guard_emitted, no_guard_emitted, next_guard_emitted, if_emitted, form_emitted}
+use Rattle.lil_stmt.proofs.CaseEmitting.{longer, arm_emitted, else_emitted, no_else_emitted, next_arm_emitted, no_arms_left, case_emitted, case_short}
+use Rattle.lil_stmt.proofs.Stating.{no_statement_emitted, next_emitted, while_emitted, repeat_emitted, loop_emitted, for_emitted, guard_emitted, no_guard_emitted, next_guard_emitted, if_emitted, form_emitted}
+use Rattle.lil_stmt.proofs.Storing.{halt_emitted, return_emitted}
 use Rattle.lil_stmt.proofs.Nodes.{nodes, body_nodes, guards_nodes, statement_in, guard_in, if_nodes, arms_nodes, else_nodes, arm_in, arm_nodes_are, case_nodes}
 use Rattle.lil_stmt.proofs.Saturating.{counted}
 use Rattle.lil_stmt.proofs.statements.+emitting.Goals as goal
@@ -41,6 +44,14 @@ emit_body-loop-statement-preserved t c =
       λ last rest. c.loop-statement.invariant.1 last
           (next_emitted c.args.around.fors c.args.around.exit c.args.body.now c.loop-statement.statement-index c.statement-item.result _ _ last inside c.statement-item.is c.in_ok-emit_statement.ensures.means rest),
     )
+
+pub emit_body-returns-clause-means : goal.emit_body-returns-clause-means
+emit_body-returns-clause-means t c =
+    let n = c.args.around.fors in
+    let exit = c.args.around.exit in
+    let code = c.loop-statement.code in
+    let none : drop c.loop-statement.statement-index c.args.body.now ≡ [] = drop_all c.loop-statement.statement-index c.args.body.now (omega arith) in
+    c.loop-statement.invariant.1 code (subst (λ (ss : List RStmt). EmitsBody code code n exit (statements_of ss)) (sym none) (no_statement_emitted n exit code))
 
 pub emit_guards-emit_guard-requires : goal.emit_guards-emit_guard-requires
 emit_guards-emit_guard-requires t c =
@@ -94,37 +105,64 @@ emit_loop-returns-clause-means t c =
 
 pub emit_for-returns-clause-means : goal.emit_for-returns-clause-means
 emit_for-returns-clause-means t c =
+    let k = kind_view c.args.variable.kind in
+    let j = kind_of (expression_of c.args.from.now) in
     let small : SFits w16 c.args.step = search rules in
+    let same = to_z-of_z w16 c.args.step small in
     let taken : c.from.result ≡ c.args.step = grind (arith, to_z-of_z) in
     let fits : (negsuc 32767 ≤ℤ c.from.result) × (c.from.result ≤ℤ pos 65535) = search rules in
     let stepped : c.word_of_number.result ≡ word_of c.args.step = number_word c.from.result c.word_of_number.result c.word_of_number.ensures fits ∙ ap word_of taken in
+    let sized = c.align_size.ensures ∙ ap (spec.align_size k j) same in
+    let end : ℕ = c.len.result + c.align_size.result + 3 + 6 + 3 + c.turn_test_size.result + 3 + c.body_size.result + 5 in
+    let align = subst (λ (z : ℤ). EmitsAlign c.emit_expression-2.new.code c.emit_align.new.code k j z end) same c.in_ok-emit_align.ensures.means in
     let more : c.args.around.fors + 1 ≡ suc c.args.around.fors = omega arith in
     let inner = subst (λ (n : ℕ). EmitsBody c.encode-4.new.code c.emit_body.new.code n c.args.around.exit (statements_of c.args.body.now)) more c.in_ok-emit_body.ensures.means in
     with_ok c.encode-5.result
-    (for_emitted c.args.around.fors c.args.around.exit c.args.variable (expression_of c.args.from.now) (expression_of c.args.to.now) c.args.step (statements_of c.args.body.now)
-    c.word_of_number.result _ _ _ _ _ _ _ _ _ _ _ _ stepped refl (omega (arith, c.len-turn.ensures)) (omega (arith, c.body_size.ensures))
-    c.in_ok-emit_expression.ensures.means c.in_ok-emit_expression-2.ensures.means c.in_ok-encode.ensures c.in_ok-encode-2.ensures c.in_ok-encode-3.ensures c.in_ok-encode-4.ensures inner)
+    (for_emitted c.args.around.fors c.args.around.exit c.args.variable.number k (expression_of c.args.from.now) (expression_of c.args.to.now) c.args.step (statements_of c.args.body.now)
+    c.word_of_number.result _ c.loop_sign.result _ _ _ _ _ _ _ _ _ _ _ _ _ stepped refl c.loop_sign.ensures (omega (arith, c.len.ensures, sized))
+    (omega (arith, c.turn_test_size.ensures, c.body_size.ensures))
+    c.in_ok-emit_expression.ensures.means c.in_ok-emit_expression-2.ensures.means align c.in_ok-encode.ensures c.in_ok-encode-2.ensures c.in_ok-encode-3.ensures
+    c.in_ok-emit_turn_test.ensures.code c.in_ok-encode-4.ensures inner)
     c.encode-5.ensures
 
 pub emit_statement-returns-in-Assign-clause-means : goal.emit_statement-returns-in-Assign-clause-means
 emit_statement-returns-in-Assign-clause-means t c =
     let is = ap statement_of c.in-Assign.is ∙ assign_is c.in-Assign.variable c.in-Assign.value in
-    with_ok c.emit_assign.result (λ h. form_emitted c.args.around.fors c.args.around.exit (Assign (cardinal_variable c.in-Assign.variable) (expression_of c.in-Assign.value)) _ _ _ is (h c.args.around.fors c.args.around.exit)) c.emit_assign.ensures.means
+    with_ok c.emit_assign.result (λ h. form_emitted c.args.around.fors c.args.around.exit (Assign (variable_of c.in-Assign.variable) (expression_of c.in-Assign.value)) _ _ _ is (h c.args.around.fors c.args.around.exit)) c.emit_assign.ensures.means
 
-pub emit_statement-returns-in-Write-clause-means : goal.emit_statement-returns-in-Write-clause-means
-emit_statement-returns-in-Write-clause-means t c =
-    let is = ap statement_of c.in-Write.is ∙ write_is c.in-Write.value in
-    with_ok c.emit_write.result (λ h. form_emitted c.args.around.fors c.args.around.exit (write_of (expression_of c.in-Write.value)) _ _ _ is (h c.args.around.fors c.args.around.exit)) c.emit_write.ensures.means
+pub emit_statement-returns-in-Change-clause-means : goal.emit_statement-returns-in-Change-clause-means
+emit_statement-returns-in-Change-clause-means t c =
+    let form = Change (is_down c.in-Change.direction) (variable_of c.in-Change.variable) (expression_of c.in-Change.value) in
+    let is = ap statement_of c.in-Change.is ∙ change_is c.in-Change.direction c.in-Change.variable c.in-Change.value in
+    with_ok c.emit_change.result (λ h. form_emitted c.args.around.fors c.args.around.exit form _ _ _ is (h c.args.around.fors c.args.around.exit)) c.emit_change.ensures.means
+
+pub emit_statement-returns-in-Request-clause-means : goal.emit_statement-returns-in-Request-clause-means
+emit_statement-returns-in-Request-clause-means t c =
+    let r = request_number c.in-Request.request in
+    let is = ap statement_of c.in-Request.is ∙ request_is c.in-Request.request c.in-Request.given
+    ∙ ap (λ (given : List RArgument). Then (resolved.Request r (map argument_of given)) Empty) (sym c.as_slice.ensures) in
+    with_ok c.emit_request.result
+    (λ h. form_emitted c.args.around.fors c.args.around.exit (resolved.Request r (map argument_of c.as_slice.result.now)) _ _ _ is (h c.args.around.fors c.args.around.exit)) c.emit_request.ensures.means
 
 pub emit_statement-returns-in-Exit-clause-means : goal.emit_statement-returns-in-Exit-clause-means
 emit_statement-returns-in-Exit-clause-means t c =
     let is = ap statement_of c.in-Exit.is ∙ exit_is in
     with_ok c.emit_exit.result (form_emitted c.args.around.fors c.args.around.exit (Exit) _ _ _ is) c.emit_exit.ensures.means
 
+pub emit_statement-returns-in-Halt-clause-means : goal.emit_statement-returns-in-Halt-clause-means
+emit_statement-returns-in-Halt-clause-means t c =
+    let is = ap statement_of c.in-Halt.is ∙ halt_is in
+    with_ok c.encode-in-Halt.result (λ h. form_emitted c.args.around.fors c.args.around.exit Halt _ _ _ is (halt_emitted c.args.around.fors c.args.around.exit _ _ h)) c.encode-in-Halt.ensures
+
+pub emit_statement-returns-in-Return-clause-means : goal.emit_statement-returns-in-Return-clause-means
+emit_statement-returns-in-Return-clause-means t c =
+    let is = ap statement_of c.in-Return.is ∙ return_is in
+    with_ok c.encode-in-Return.result (λ h. form_emitted c.args.around.fors c.args.around.exit Return _ _ _ is (return_emitted c.args.around.fors c.args.around.exit _ _ h)) c.encode-in-Return.ensures
+
 pub emit_statement-returns-in-While-clause-means : goal.emit_statement-returns-in-While-clause-means
 emit_statement-returns-in-While-clause-means t c =
-    let is = ap statement_of c.in-While.is ∙ while_is c.in-While.condition c.in-While.body ∙ ap (λ (ss : List RStmt). Then (While (expression_of c.in-While.condition) (statements_of ss)) Empty) (sym c.as_slice.ensures) in
-    with_ok c.emit_while.result (form_emitted c.args.around.fors c.args.around.exit (While (expression_of c.in-While.condition) (statements_of c.as_slice.result.now)) _ _ _ is) c.emit_while.ensures.means
+    let is = ap statement_of c.in-While.is ∙ while_is c.in-While.condition c.in-While.body ∙ ap (λ (ss : List RStmt). Then (While (expression_of c.in-While.condition) (statements_of ss)) Empty) (sym c.as_slice-in-While.ensures) in
+    with_ok c.emit_while.result (form_emitted c.args.around.fors c.args.around.exit (While (expression_of c.in-While.condition) (statements_of c.as_slice-in-While.result.now)) _ _ _ is) c.emit_while.ensures.means
 
 pub emit_statement-returns-in-Repeat-clause-means : goal.emit_statement-returns-in-Repeat-clause-means
 emit_statement-returns-in-Repeat-clause-means t c =
@@ -138,12 +176,12 @@ emit_statement-returns-in-Loop-clause-means t c =
 
 pub emit_statement-returns-in-For-clause-means : goal.emit_statement-returns-in-For-clause-means
 emit_statement-returns-in-For-clause-means t c =
-    let is = ap statement_of c.in-For.is ∙ for_is c.in-For.variable c.in-For.from c.in-For.to c.in-For.step c.in-For.body ∙ ap (λ (ss : List RStmt). Then (For (cardinal_variable c.in-For.variable) (expression_of c.in-For.from) (expression_of c.in-For.to) c.in-For.step (statements_of ss)) Empty) (sym c.as_slice-in-For.ensures) in
+    let is = ap statement_of c.in-For.is ∙ for_is c.in-For.variable c.in-For.from c.in-For.to c.in-For.step c.in-For.body ∙ ap (λ (ss : List RStmt). Then (For (variable_of c.in-For.variable) (expression_of c.in-For.from) (expression_of c.in-For.to) c.in-For.step (statements_of ss)) Empty) (sym c.as_slice-in-For.ensures) in
     let small : SFits w16 c.in-For.step = search rules in
     let same : to_z w16 (of_z w16 c.in-For.step) ≡ c.in-For.step = grind (arith, to_z-of_z) in
     let means = subst (λ (z : ℤ). OnOk c.emit_for.result (EmitsStatement c.args.code.now c.emit_for.new.code c.args.around.fors c.args.around.exit
-    (For (cardinal_variable c.in-For.variable) (expression_of c.in-For.from) (expression_of c.in-For.to) z (statements_of c.as_slice-in-For.result.now)))) same c.emit_for.ensures.means in
-    with_ok c.emit_for.result (form_emitted c.args.around.fors c.args.around.exit (For (cardinal_variable c.in-For.variable) (expression_of c.in-For.from) (expression_of c.in-For.to) c.in-For.step (statements_of c.as_slice-in-For.result.now)) _ _ _ is) means
+    (For (variable_of c.in-For.variable) (expression_of c.in-For.from) (expression_of c.in-For.to) z (statements_of c.as_slice-in-For.result.now)))) same c.emit_for.ensures.means in
+    with_ok c.emit_for.result (form_emitted c.args.around.fors c.args.around.exit (For (variable_of c.in-For.variable) (expression_of c.in-For.from) (expression_of c.in-For.to) c.in-For.step (statements_of c.as_slice-in-For.result.now)) _ _ _ is) means
 
 pub emit_statement-overflow_add-end : goal.emit_statement-overflow_add-end
 emit_statement-overflow_add-end t c =
@@ -223,6 +261,16 @@ pub emit_else-returns-in-None-clause-means : goal.emit_else-returns-in-None-clau
 emit_else-returns-in-None-clause-means t c =
     subst (λ (o : Option (List RStmt)). OnOk c.encode.result (EmitsBodies c.args.code.now c.encode.new.code c.args.around.fors c.args.around.exit c.args.leave (else_of o))) (sym c.in-None.is)
     (with_ok c.encode.result (no_else_emitted c.args.around.fors c.args.around.exit c.args.leave _ _) c.encode.ensures)
+
+pub emit_else-returns-in-Some-clause-means : goal.emit_else-returns-in-Some-clause-means
+emit_else-returns-in-Some-clause-means t c =
+    let n = c.args.around.fors in
+    let exit = c.args.around.exit in
+    let old = c.args.code.now in
+    let new = c.emit_arm.new.code in
+    let body = subst (λ (ss : List RStmt). OnOk c.emit_arm.result (EmitsArm old new n exit c.args.leave (statements_of ss))) c.as_slice.ensures c.emit_arm.ensures.means in
+    subst (λ (o : Option (List RStmt)). OnOk c.emit_arm.result (EmitsBodies old new n exit c.args.leave (else_of o))) (sym c.in-Some.is)
+    (with_ok c.emit_arm.result (else_emitted n exit c.args.leave (statements_of c.in-Some.body) old new) body)
 
 pub emit_arms-emit_arm-requires : goal.emit_arms-emit_arm-requires
 emit_arms-emit_arm-requires t c =

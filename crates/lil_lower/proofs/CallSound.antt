@@ -1,0 +1,153 @@
+-- Assignments, INC, DEC, HALT and calls that are lowered are sound.
+use Rattle.std.proofs.Common.{◌≡◌, ℕ, pos, Bool, List, [], ◌∷◌, map, Option, None, Some, IfSome, refl, sym, ap, subst, ◌∙◌}
+use Rattle.lil_types.specs.Types.{Table}
+use Rattle.lil_module.specs.declared.declared.RModule.{RModule}
+use Rattle.lil_module.specs.declared.tree.Standard.{Standard}
+use Rattle.lil_module.specs.declared.tree.Standard.TheVariants as standard
+use Rattle.lil_module.specs.declared.tree.RArgument.{RArgument, out-RArgument}
+use Rattle.lil_module.specs.declared.tree.RArgument.TheOpen as x
+use Rattle.lil_module.specs.declared.tree.RArgument.TheOpen.{RArgument-F}
+use Rattle.lil_module.specs.declared.tree.RExpr.{RExpr}
+use Rattle.lil_module.specs.declared.tree.RCallee.{RCallee}
+use Rattle.lil_module.specs.declared.tree.RSelector.{RSelector}
+use Rattle.lil_module.specs.declared.tree.RDesignator.{RDesignator}
+use Rattle.lil_module.specs.declared.tree.RElement.{RElement}
+use Rattle.lil_module.specs.declared.tree.ROperation.{ROperation}
+use Rattle.lil_resolved.specs.Bases.{own_base}
+use Rattle.lil_resolved.specs.Kinds.{Kind, OfWhole, compared_as}
+use Rattle.lil_resolved.specs.Resolved.{Expression, Argument, Statements, kind_of, counted_as}
+use Rattle.lil_resolved.specs.Sound.{takes_value, request_kinds, argument_kind, IsSoundWhole, IsSoundValue, AreSoundArguments, IsSoundBody}
+use Rattle.lil_resolved.specs.Views.{base_view, kind_view, request_number}
+use Rattle.lil_resolved.specs.declared.resolved.RBase.{RBase}
+use Rattle.lil_resolved.specs.declared.resolved.RBase.TheVariants as b
+use Rattle.lil_resolved.specs.declared.resolved.RKind.{RKind}
+use Rattle.lil_resolved.specs.declared.resolved.RRequest.{RRequest}
+use Rattle.lil_resolved.specs.declared.resolved.RRequest.TheVariants as q
+use Rattle.lil_resolved.specs.declared.resolved.Direction.{Direction}
+use Rattle.lil_resolved.specs.declared.resolved.Direction.TheVariants.{Up, Down}
+use Rattle.lil_lower.specs.declared.variables.Variable.{Variable}
+use Rattle.lil_lower.specs.Bases.{base_at}
+use Rattle.lil_lower.specs.Operators.{counted}
+use Rattle.lil_lower.specs.Values as v
+use Rattle.lil_lower.specs.Values.{Lowers, argument}
+use Rattle.lil_lower.specs.Calls as s
+use Rattle.lil_lower.proofs.BaseLaws.{if_true}
+use Rattle.lil_lower.proofs.ValueSound.{Kept, IsKnown, variable_sound, whole_held, shallow_kept, kept_whole, kept_alone}
+use Rattle.lil_lower.proofs.TreeSound.{Fits, designator_known, handed_sound}
+
+-- the whole numbers that go with a base
+counted_base : (t : Table) (k : RBase) → (j : RBase) × (base_at t (counted k) ≡ Some j) × (base_view j ≡ OfWhole (compared_as (base_view k)))
+counted_base t b.Integer = (b.Integer, refl, refl)
+counted_base t b.Cardinal = (b.Cardinal, refl, refl)
+counted_base t b.Truth = (b.Cardinal, refl, refl)
+counted_base t b.Character = (b.Cardinal, refl, refl)
+counted_base t (b.Enumeration n) = (b.Cardinal, refl, refl)
+
+counted_kind : (k : RKind) → OfWhole (compared_as (base_view k.base)) ≡ OfWhole (counted_as (kind_view k))
+counted_kind k = ap (λ j. OfWhole (compared_as j)) (sym (own_base k))
+
+-- what the parameters' values are
+abbrev bases : List (RBase × ℕ) → List Kind
+bases ps = map (λ p. base_view p.0) ps
+
+parameters_are : (r : RRequest) → request_kinds (request_number r) ≡ Some (bases (s.parameters r))
+parameters_are q.Write = refl
+parameters_are q.WriteLn = refl
+parameters_are q.WriteCard = refl
+parameters_are q.WriteInt = refl
+parameters_are q.WriteOct = refl
+parameters_are q.WriteHex = refl
+
+module _ (m : RModule) (ks : List Kind) (kinds : Fits m ks) where
+  abbrev Body : Bool → Option Statements → Type 0
+  Body looping o = IfSome o (IsSoundBody ks looping)
+
+  abbrev Known : Option Variable → Type 0
+  Known o = IfSome o (IsKnown m.types ks)
+
+  -- ---- assignments
+  pub stored_sound : (looping : Bool) (a : Variable) (sort : ℕ) (o : Option Expression) → IsKnown m.types ks a → IfSome o (Kept m.types ks sort) → Body looping (s.stored a o)
+  stored_sound looping a sort None h j = tt
+  stored_sound looping a sort (Some e) h j = if_true (IsSoundBody ks looping) (takes_value (kind_view a.place.kind) (kind_of e)) _
+      (λ takes. ((variable_sound m.types ks a h, record { takes = takes; whole = kept_alone m.types ks sort e j }), tt))
+
+  -- ---- INC, DEC and HALT
+  changed_sound : (looping : Bool) (way : Direction) (o : Option Variable) (by : Lowers) → Known o
+      → ((w : ℕ) → IfSome (v.shallow (by w)) (Kept m.types ks w)) → Body looping (s.changed_by way o by)
+  changed_sound looping way None by h j = tt
+  changed_sound looping way (Some a) by h j = over (v.shallow (by (counted a.place.kind.base))) (j (counted a.place.kind.base))
+    where
+      over : (o : Option Expression) → IfSome o (Kept m.types ks (counted a.place.kind.base)) → Body looping (s.changed way a o)
+      over None i = tt
+      over (Some e) i =
+          let of = counted_base m.types a.place.kind.base in (
+            (
+              variable_sound m.types ks a h,
+              subst (IsSoundWhole ks e) (of.2 ∙ counted_kind a.place.kind) (kept_whole m.types ks (counted a.place.kind.base) e of.0 i of.1),
+            ),
+            tt,
+          )
+
+  place_known : (a : RArgument) → Known (s.place m a)
+  place_known a = by (out-RArgument a)
+    where
+      by : (y : RArgument-F RArgument RCallee RExpr RSelector RDesignator RElement ROperation) → Known (s.place_in m y)
+      by (x.RArgument::Value e) = tt
+      by (x.Place d) = designator_known m ks kinds d
+      by (x.Type i) = tt
+
+  change_sound : (looping : Bool) (way : Direction) (xs : List RArgument) → Body looping (s.change m way xs)
+  change_sound looping way [] = tt
+  change_sound looping way (a ∷ []) =
+      changed_sound looping way (s.place m a) (v.whole m.types (pos 1)) (place_known a) (λ w. shallow_kept m.types ks w (v.whole m.types (pos 1) w) (whole_held m.types ks (pos 1) w))
+  change_sound looping way (a ∷ c ∷ []) = changed_sound looping way (s.place m a) (argument m c).lowers (place_known a) (handed_sound m ks kinds c)
+  change_sound looping way (a ∷ c ∷ d ∷ xs) = tt
+
+  halted_sound : (looping : Bool) (xs : List RArgument) → Body looping (s.halted xs)
+  halted_sound looping [] = (tt, tt)
+  halted_sound looping (a ∷ xs) = tt
+
+  pub procedure_sound : (looping : Bool) (p : Standard) (xs : List RArgument) → Body looping (s.procedure m p xs)
+  procedure_sound looping standard.Inc xs = change_sound looping Up xs
+  procedure_sound looping standard.Dec xs = change_sound looping Down xs
+  procedure_sound looping standard.Halt xs = halted_sound looping xs
+  procedure_sound looping _ xs = tt
+
+  -- ---- calls of resident procedures
+  abbrev Given : Kind → Argument → Type 0
+  Given k a = IsSoundValue ks a.value a.kind × (a.kind ≡ k)
+
+  given_sound : (k : RBase) (sort : ℕ) (o : Option Expression) → IfSome o (Kept m.types ks sort) → IfSome (s.given k o) (Given (base_view k))
+  given_sound k sort None h = tt
+  given_sound k sort (Some e) h = if_true (Given (base_view k)) (takes_value (base_view k) (kind_of e)) _ (λ takes. (record { takes = takes; whole = kept_alone m.types ks sort e h }, refl))
+
+  one_sound : (k : RBase) (sort : ℕ) (a : RArgument) → IfSome (s.handed m k sort a) (Given (base_view k))
+  one_sound k sort a =
+      let own = s.own_or (argument m a).own sort in
+      given_sound k own (v.shallow ((argument m a).lowers own)) (handed_sound m ks kinds a own)
+
+  abbrev AllGiven : List (RBase × ℕ) → List Argument → Type 0
+  AllGiven ps given = AreSoundArguments ks given × (map argument_kind given ≡ bases ps)
+
+  linked_sound : (p : RBase × ℕ) (ps : List (RBase × ℕ)) (a : Option Argument) (rest : Option (List Argument))
+      → IfSome a (Given (base_view p.0)) → IfSome rest (AllGiven ps) → IfSome (s.linked a rest) (AllGiven (p ∷ ps))
+  linked_sound p ps None rest h j = tt
+  linked_sound p ps (Some a) None h j = tt
+  linked_sound p ps (Some a) (Some rest) h j = ((h.0, j.0), (λ i. h.1 i ∷ j.1 i))
+
+  arguments_sound : (ps : List (RBase × ℕ)) (xs : List RArgument) → IfSome (s.arguments m ps xs) (AllGiven ps)
+  arguments_sound [] [] = (tt, refl)
+  arguments_sound [] (a ∷ xs) = tt
+  arguments_sound (p ∷ ps) [] = tt
+  arguments_sound (p ∷ ps) (a ∷ xs) = linked_sound p ps (s.handed m p.0 p.1 a) (s.arguments m ps xs) (one_sound p.0 p.1 a) (arguments_sound ps xs)
+
+  requested_sound : (looping : Bool) (r : RRequest) (o : Option (List Argument)) → IfSome o (AllGiven (s.parameters r)) → Body looping (s.requested r o)
+  requested_sound looping r None h = tt
+  requested_sound looping r (Some given) h = ((parameters_are r ∙ ap Some (sym h.1), h.0), tt)
+
+  pub called_sound : (looping : Bool) (c : RCallee) (xs : List RArgument) → Body looping (s.called m c xs)
+  called_sound looping c xs = by (s.request c)
+    where
+      by : (o : Option RRequest) → Body looping (s.called_by m o xs)
+      by None = tt
+      by (Some r) = requested_sound looping r (s.arguments m (s.parameters r) xs) (arguments_sound (s.parameters r) xs)

@@ -1,0 +1,130 @@
+-- What assignments, INC and DEC, HALT, and calls of resident procedures are for the generator.
+use Rattle.std.specs.Prelude.{ℕ, pos, List, [], ◌∷◌, Option, Some, None, if◌then◌else◌}
+use Rattle.lil_types.specs.Types.{integer, cardinal, char}
+use Rattle.lil_module.specs.declared.declared.RModule.{RModule}
+use Rattle.lil_module.specs.declared.tree.Standard.{Standard}
+use Rattle.lil_module.specs.declared.tree.Standard.TheVariants as standard
+use Rattle.lil_module.specs.declared.tree.Resident.{Resident}
+use Rattle.lil_module.specs.declared.tree.Resident.TheVariants as resident
+use Rattle.lil_module.specs.declared.tree.RArgument.{RArgument, out-RArgument}
+use Rattle.lil_module.specs.declared.tree.RArgument.TheOpen as x
+use Rattle.lil_module.specs.declared.tree.RArgument.TheOpen.{RArgument-F, RCallee-F}
+use Rattle.lil_module.specs.declared.tree.RExpr.{RExpr}
+use Rattle.lil_module.specs.declared.tree.RCallee.{RCallee, out-RCallee}
+use Rattle.lil_module.specs.declared.tree.RSelector.{RSelector}
+use Rattle.lil_module.specs.declared.tree.RDesignator.{RDesignator}
+use Rattle.lil_module.specs.declared.tree.RElement.{RElement}
+use Rattle.lil_module.specs.declared.tree.ROperation.{ROperation}
+use Rattle.lil_resolved.specs.Resolved.{Expression, Argument, Assign, Change, Request, Halt, Statements, Empty, Then, kind_of}
+use Rattle.lil_resolved.specs.Sound.{takes_value}
+use Rattle.lil_resolved.specs.Views.{base_view, kind_view, variable_of, request_number, is_down}
+use Rattle.lil_resolved.specs.declared.resolved.RBase.{RBase}
+use Rattle.lil_resolved.specs.declared.resolved.RBase.TheVariants as b
+use Rattle.lil_resolved.specs.declared.resolved.RRequest.{RRequest}
+use Rattle.lil_resolved.specs.declared.resolved.RRequest.TheVariants as q
+use Rattle.lil_resolved.specs.declared.resolved.Direction.{Direction}
+use Rattle.lil_resolved.specs.declared.resolved.Direction.TheVariants.{Up, Down}
+use Rattle.lil_lower.specs.declared.variables.Variable.{Variable}
+use Rattle.lil_lower.specs.Operators.{counted}
+use Rattle.lil_lower.specs.Values.{Lowers, whole, argument, designator, shallow}
+
+-- a type, or another where there is none
+abbrev pub own_or : Option ℕ → ℕ → ℕ
+own_or (Some s) other = s
+own_or None other = other
+
+-- ---- assignments
+abbrev pub stored : Variable → Option Expression → Option Statements
+stored v (Some e) = if takes_value (kind_view v.place.kind) (kind_of e) then Some (Then (Assign (variable_of v.place) e) Empty) else None
+stored v None = None
+
+-- ---- INC, DEC and HALT
+abbrev pub changed : Direction → Variable → Option Expression → Option Statements
+changed way v (Some e) = Some (Then (Change (is_down way) (variable_of v.place) e) Empty)
+changed way v None = None
+
+-- by a number of the type that goes with the variable
+abbrev pub changed_by : Direction → Option Variable → Lowers → Option Statements
+changed_by way None by = None
+changed_by way (Some v) by = changed way v (shallow (by (counted v.place.kind.base)))
+
+abbrev pub halted : List RArgument → Option Statements
+halted [] = Some (Then Halt Empty)
+halted (x ∷ xs) = None
+
+-- ---- calls of resident procedures
+-- those that take words alone
+abbrev pub request_of : Resident → Option RRequest
+request_of resident.Read = None
+request_of resident.Write = Some q.Write
+request_of resident.WriteString = None
+request_of resident.WriteLn = Some q.WriteLn
+request_of resident.WriteCard = Some q.WriteCard
+request_of resident.WriteInt = Some q.WriteInt
+request_of resident.WriteOct = Some q.WriteOct
+request_of resident.WriteHex = Some q.WriteHex
+
+-- the parameters: what their values are, and their types
+abbrev pub parameters : RRequest → List (RBase × ℕ)
+parameters q.Write = (b.Character, char) ∷ []
+parameters q.WriteLn = []
+parameters q.WriteInt = (b.Integer, integer) ∷ (b.Cardinal, cardinal) ∷ []
+parameters _ = (b.Cardinal, cardinal) ∷ (b.Cardinal, cardinal) ∷ []
+
+abbrev pub request_in : RCallee-F RArgument RCallee RExpr RSelector RDesignator RElement ROperation → Option RRequest
+request_in (x.RCallee::Procedure n) = None
+request_in (x.Variable d) = None
+request_in (x.Resident r) = request_of r
+
+abbrev pub request : RCallee → Option RRequest
+request c = request_in (out-RCallee c)
+
+abbrev pub given : RBase → Option Expression → Option Argument
+given k (Some e) = if takes_value (base_view k) (kind_of e) then Some (record { kind = base_view k; value = e }) else None
+given k None = None
+
+abbrev pub linked : {A : Type 0} → Option A → Option (List A) → Option (List A)
+linked (Some a) (Some rest) = Some (a ∷ rest)
+linked _ _ = None
+
+abbrev pub requested : RRequest → Option (List Argument) → Option Statements
+requested r (Some xs) = Some (Then (Request (request_number r) xs) Empty)
+requested r None = None
+
+module _ (m : RModule) where
+  -- an argument: a constant has its parameter's type, any other value its own
+  abbrev pub handed : RBase → ℕ → RArgument → Option Argument
+  handed k s x = given k (shallow ((argument m x).lowers (own_or (argument m x).own s)))
+
+  abbrev pub arguments : List (RBase × ℕ) → List RArgument → Option (List Argument)
+  arguments [] [] = Some []
+  arguments (p ∷ ps) (x ∷ xs) = linked (handed p.0 p.1 x) (arguments ps xs)
+  arguments _ _ = None
+
+  abbrev pub called_by : Option RRequest → List RArgument → Option Statements
+  called_by None xs = None
+  called_by (Some r) xs = requested r (arguments (parameters r) xs)
+
+  abbrev pub called : RCallee → List RArgument → Option Statements
+  called c xs = called_by (request c) xs
+
+  abbrev pub place_in : RArgument-F RArgument RCallee RExpr RSelector RDesignator RElement ROperation → Option Variable
+  place_in (x.RArgument::Value a) = None
+  place_in (x.Place d) = designator m d
+  place_in (x.Type s) = None
+
+  -- the variable that an argument is
+  abbrev pub place : RArgument → Option Variable
+  place a = place_in (out-RArgument a)
+
+  -- INC and DEC by 1, or by a second argument
+  abbrev pub change : Direction → List RArgument → Option Statements
+  change way (a ∷ []) = changed_by way (place a) (whole m.types (pos 1))
+  change way (a ∷ c ∷ []) = changed_by way (place a) (argument m c).lowers
+  change way _ = None
+
+  abbrev pub procedure : Standard → List RArgument → Option Statements
+  procedure standard.Inc xs = change Up xs
+  procedure standard.Dec xs = change Down xs
+  procedure standard.Halt xs = halted xs
+  procedure _ xs = None

@@ -1,0 +1,203 @@
+ghost use Rattle.std.specs.Prelude.{◌≡◌, ◌≤◌, [], ◌∷◌, length, map, IfOk, Some};
+ghost use Rattle.std.specs.Option.{option_map};
+ghost use Rattle.lil_types.specs.Types.{cardinal};
+ghost use Rattle.lil_resolved.specs.declared.resolved.RBase.TheVariants as b;
+ghost use Rattle.lil_resolved.specs.Views as view;
+ghost use Rattle.lil_lower.specs.Calls as spec;
+
+use crate::operators::takes_value;
+use crate::room::shallow;
+use crate::values::{argument, argument_sort};
+use lil_base::{Items, Memory};
+use lil_module::{RArgument as Given, RCallee, RModule, Resident};
+use lil_resolved::{RArgument, RBase, RExpr, RKind, RRequest, RStmt, base as base_of};
+use lil_types::{CARDINAL, CHAR, INTEGER, TypeId};
+use std::alloc::Global;
+
+/// A type, or another where there is none.
+pub(crate) fn own_or(sort: Option<TypeId>, other: TypeId) -> TypeId
+    ensures { result ≡ spec.own_or sort other }
+{
+    match sort {
+        Some(sort) => sort,
+        None => other,
+    }
+}
+
+/// A resident procedure that takes words alone.
+fn request_of(of: Resident) -> Option<RRequest>
+    ensures { result ≡ spec.request_of of }
+{
+    match of {
+        Resident::Read => None,
+        Resident::Write => Some(RRequest::Write),
+        Resident::WriteString => None,
+        Resident::WriteLn => Some(RRequest::WriteLn),
+        Resident::WriteCard => Some(RRequest::WriteCard),
+        Resident::WriteInt => Some(RRequest::WriteInt),
+        Resident::WriteOct => Some(RRequest::WriteOct),
+        Resident::WriteHex => Some(RRequest::WriteHex),
+    }
+}
+
+fn request(of: &RCallee) -> Option<RRequest>
+    ensures { result ≡ spec.request of.now }
+{
+    match of {
+        RCallee::Resident(of) => request_of(*of),
+        _ => None,
+    }
+}
+
+/// An argument of a parameter of a base.
+fn given(base: RBase, of: Option<RExpr>) -> Option<RArgument>
+    ensures { option_map view.argument_of result ≡ spec.given base (option_map view.expression_of of) }
+{
+    let kind = RKind { base, range: None };
+    match of {
+        Some(value) if takes_value(kind, base_of(&value)) => Some(RArgument { kind, value }),
+        _ => None,
+    }
+}
+
+/// An argument: a constant has its parameter's type, any other value its own.
+fn handed(
+    alloc: Global,
+    m: &RModule,
+    base: RBase,
+    sort: TypeId,
+    of: &Given,
+) -> Result<Option<RArgument>, Memory>
+    requires { length m.now.variables ≤ 32000 }
+    ensures { IfOk result (λ o. option_map view.argument_of o ≡ spec.handed m.now base sort of.now) }
+{
+    let sort = own_or(argument_sort(m, of), sort);
+    let value = argument(alloc, m, sort, of)?;
+    Ok(given(base, shallow(value)))
+}
+
+fn alone(alloc: Global, first: Option<RArgument>) -> Result<Option<Items<RArgument>>, Memory>
+    ensures { IfOk result (λ o. option_map (map view.argument_of) o ≡ spec.linked (option_map view.argument_of first) (Some [])) }
+{
+    match first {
+        None => Ok(None),
+        Some(first) => {
+            let mut all = Items::new(alloc);
+            all.push(first)?;
+            Ok(Some(all))
+        }
+    }
+}
+
+fn both(
+    alloc: Global,
+    first: Option<RArgument>,
+    second: Option<RArgument>,
+) -> Result<Option<Items<RArgument>>, Memory>
+    ensures { IfOk result (λ o. option_map (map view.argument_of) o ≡ spec.linked (option_map view.argument_of first) (spec.linked (option_map view.argument_of second) (Some []))) }
+{
+    match (first, second) {
+        (Some(first), Some(second)) => {
+            let mut all = Items::new(alloc);
+            all.push(first)?;
+            all.push(second)?;
+            Ok(Some(all))
+        }
+        _ => Ok(None),
+    }
+}
+
+fn no_arguments(alloc: Global, of: &[Given]) -> Option<Items<RArgument>>
+    ensures { (m : _) → option_map (map view.argument_of) result ≡ spec.arguments m [] of.now }
+{
+    match of {
+        [] => Some(Items::new(alloc)),
+        _ => None,
+    }
+}
+
+fn one_argument(
+    alloc: Global,
+    m: &RModule,
+    base: RBase,
+    sort: TypeId,
+    of: &[Given],
+) -> Result<Option<Items<RArgument>>, Memory>
+    requires { length m.now.variables ≤ 32000 }
+    ensures { IfOk result (λ o. option_map (map view.argument_of) o ≡ spec.arguments m.now ((base, sort) ∷ []) of.now) }
+{
+    match of {
+        [only] => alone(alloc, handed(alloc, m, base, sort, only)?),
+        _ => Ok(None),
+    }
+}
+
+/// A number, and how many columns it fills.
+fn number_argument(
+    alloc: Global,
+    m: &RModule,
+    base: RBase,
+    sort: TypeId,
+    of: &[Given],
+) -> Result<Option<Items<RArgument>>, Memory>
+    requires { length m.now.variables ≤ 32000 }
+    ensures { IfOk result (λ o. option_map (map view.argument_of) o ≡ spec.arguments m.now ((base, sort) ∷ (b.Cardinal, cardinal) ∷ []) of.now) }
+{
+    match of {
+        [number, columns] => {
+            let number = handed(alloc, m, base, sort, number)?;
+            let columns = handed(alloc, m, RBase::Cardinal, CARDINAL, columns)?;
+            both(alloc, number, columns)
+        }
+        _ => Ok(None),
+    }
+}
+
+/// The arguments of a request.
+fn arguments(
+    alloc: Global,
+    m: &RModule,
+    request: RRequest,
+    of: &[Given],
+) -> Result<Option<Items<RArgument>>, Memory>
+    requires { length m.now.variables ≤ 32000 }
+    ensures { IfOk result (λ o. option_map (map view.argument_of) o ≡ spec.arguments m.now (spec.parameters request) of.now) }
+{
+    match request {
+        RRequest::Write => one_argument(alloc, m, RBase::Character, CHAR, of),
+        RRequest::WriteLn => Ok(no_arguments(alloc, of)),
+        RRequest::WriteInt => number_argument(alloc, m, RBase::Integer, INTEGER, of),
+        RRequest::WriteCard | RRequest::WriteOct | RRequest::WriteHex => {
+            number_argument(alloc, m, RBase::Cardinal, CARDINAL, of)
+        }
+    }
+}
+
+#[tactic(auto, using(lil_resolved::specs::Forms::request_is))]
+fn requested(request: RRequest, given: Option<Items<RArgument>>) -> Option<RStmt>
+    ensures { option_map view.statement_of result ≡ spec.requested request (option_map (map view.argument_of) given) }
+{
+    match given {
+        None => None,
+        Some(given) => Some(RStmt::Request(request, given)),
+    }
+}
+
+/// A call of a resident procedure.
+pub(crate) fn called(
+    alloc: Global,
+    m: &RModule,
+    callee: &RCallee,
+    of: &[Given],
+) -> Result<Option<RStmt>, Memory>
+    requires { length m.now.variables ≤ 32000 }
+    ensures { IfOk result (λ o. option_map view.statement_of o ≡ spec.called m.now callee.now of.now) }
+{
+    match request(callee) {
+        None => Ok(None),
+        Some(request) => {
+            let given = arguments(alloc, m, request, of)?;
+            Ok(requested(request, given))
+        }
+    }
+}

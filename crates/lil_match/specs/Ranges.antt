@@ -1,0 +1,193 @@
+-- The numbers of a kind: its values are those from its least to its greatest.
+use Rattle.std.proofs.Common.{◌≡◌, zero, suc, ◌-◌, ◌==◌, Bool, true, false, cond, ◌&&◌, Some, None, refl, sym, ap, ◌∙◌, arith}
+use Rattle.std.specs.Prelude.{ℤ, pos, negsuc, ◌≤ℤ◌, int_lt, nat_le}
+use Rattle.std.proofs.lemmas.Bool.{and_parts, and_from, eq-eqb, leb-true}
+use Rattle.std.proofs.lemmas.Bool.Decides.{nat_tests}
+use Rattle.std.proofs.lemmas.Int.{ints}
+use Rattle.lil_base.specs.Words.{in_type, between}
+use Rattle.lil_base.specs.Laws.{in_range, bounds}
+use Rattle.lil_resolved.specs.Kinds.{Kind, OfWhole, OfTruth, OfCharacter, OfEnumeration, OfRange, base_of, is_base, takes_value, compared_as, lesser, larger, least, greatest}
+use Rattle.lil_resolved.specs.Scalars.{Scalar, Number, Truth, Character, within, scalar_of, ordinal_of, value_with}
+
+-- a number is one of the kind's
+abbrev pub has : Kind → ℤ → Bool
+has k z = between (least k) z (greatest k)
+
+-- ---- the lesser and the larger of two
+pub larger_left : (x y : ℤ) → x ≤ℤ larger x y
+larger_left x y = by (int_lt x y) refl
+  where
+    by : (b : Bool) → int_lt x y ≡ b → x ≤ℤ cond b y x
+    by true e = omega (arith, ints)
+    by false e = omega (arith, ints)
+
+pub larger_right : (x y : ℤ) → y ≤ℤ larger x y
+larger_right x y = by (int_lt x y) refl
+  where
+    by : (b : Bool) → int_lt x y ≡ b → y ≤ℤ cond b y x
+    by true e = omega (arith, ints)
+    by false e = omega (arith, ints)
+
+pub larger_least : (x y z : ℤ) → x ≤ℤ z → y ≤ℤ z → larger x y ≤ℤ z
+larger_least x y z a b = by (int_lt x y)
+  where
+    by : (c : Bool) → cond c y x ≤ℤ z
+    by true = b
+    by false = a
+
+pub lesser_left : (x y : ℤ) → lesser x y ≤ℤ x
+lesser_left x y = by (int_lt y x) refl
+  where
+    by : (b : Bool) → int_lt y x ≡ b → cond b y x ≤ℤ x
+    by true e = omega (arith, ints)
+    by false e = omega (arith, ints)
+
+pub lesser_right : (x y : ℤ) → lesser x y ≤ℤ y
+lesser_right x y = by (int_lt y x) refl
+  where
+    by : (b : Bool) → int_lt y x ≡ b → cond b y x ≤ℤ y
+    by true e = omega (arith, ints)
+    by false e = omega (arith, ints)
+
+pub lesser_greatest : (x y z : ℤ) → z ≤ℤ x → z ≤ℤ y → z ≤ℤ lesser x y
+lesser_greatest x y z a b = by (int_lt y x)
+  where
+    by : (c : Bool) → z ≤ℤ cond c y x
+    by true = b
+    by false = a
+
+-- ---- tests of numbers
+pub same_tests : (a b : Bool) → (a ≡ true → b ≡ true) → (b ≡ true → a ≡ true) → a ≡ b
+same_tests true b f g = sym (f refl)
+same_tests false true f g = g refl
+same_tests false false f g = refl
+
+-- a number lies in a part exactly where it lies in the range and in what the part was taken from
+pub has_range : (base : Kind) (low high z : ℤ) → has (OfRange base low high) z ≡ (between low z high && has base z)
+has_range base low high z = same_tests _ _
+    (λ h.
+    let b = bounds (larger low (least base)) z (lesser high (greatest base)) h in
+    and_from (between low z high) (has base z)
+    (in_range low z high (omega (arith, ints, b.0, larger_left low (least base))) (omega (arith, ints, b.1, lesser_left high (greatest base))))
+    (in_range (least base) z (greatest base) (omega (arith, ints, b.0, larger_right low (least base))) (omega (arith, ints, b.1, lesser_right high (greatest base)))))
+    (λ h.
+    let p = and_parts (between low z high) (has base z) h in
+    let a = bounds low z high p.0 in
+    let b = bounds (least base) z (greatest base) p.1 in
+    in_range (larger low (least base)) z (lesser high (greatest base)) (larger_least low (least base) z a.0 b.0) (lesser_greatest high (greatest base) z a.1 b.1))
+
+-- ---- values
+-- the value with a number is there exactly where the number is the kind's
+pub value_where : (k : Kind) (z : ℤ) → value_with k z ≡ cond (has k z) (Some (scalar_of k z)) None
+value_where (OfWhole t) z = refl
+value_where OfTruth z = refl
+value_where OfCharacter z = refl
+value_where (OfEnumeration n) z = refl
+value_where (OfRange base low high) z =
+    by (between low z high) (value_where base z)
+    ∙ ap (λ (b : Bool). cond b (Some (scalar_of base z)) None) (sym (has_range base low high z))
+  where
+    by : (a : Bool) → value_with base z ≡ cond (has base z) (Some (scalar_of base z)) None → cond a (value_with base z) None ≡ cond (a && has base z) (Some (scalar_of base z)) None
+    by true e = e
+    by false e = refl
+
+pub value_is : (k : Kind) (z : ℤ) → has k z ≡ true → value_with k z ≡ Some (scalar_of k z)
+value_is k z h = value_where k z ∙ ap (λ (b : Bool). cond b (Some (scalar_of k z)) None) h
+
+pub value_none : (k : Kind) (z : ℤ) → has k z ≡ false → value_with k z ≡ None
+value_none k z h = value_where k z ∙ ap (λ (b : Bool). cond b (Some (scalar_of k z)) None) h
+
+-- it has that number
+pub number_is : (k : Kind) (z : ℤ) → has k z ≡ true → ordinal_of (scalar_of k z) ≡ z
+number_is (OfWhole t) z h = refl
+number_is OfTruth (pos zero) h = refl
+number_is OfTruth (pos (suc zero)) h = refl
+number_is OfTruth (pos (suc (suc n))) h = let b = bounds (pos 0) (pos (suc (suc n))) (pos 1) h in absurd (omega (arith, ints, b.1))
+number_is OfTruth (negsuc n) h = cc
+number_is OfCharacter (pos n) h = refl
+number_is OfCharacter (negsuc n) h = cc
+number_is (OfEnumeration n) z h = refl
+number_is (OfRange base low high) z h = number_is base z (and_parts (between low z high) (has base z) (sym (has_range base low high z) ∙ h)).1
+
+-- and is one of the kind
+pub value_fits : (k : Kind) (z : ℤ) → has k z ≡ true → within k (scalar_of k z) ≡ true
+value_fits (OfWhole t) z h = h
+value_fits OfTruth z h = refl
+value_fits OfCharacter (pos n) h = grind (arith, nat_tests)
+value_fits OfCharacter (negsuc n) h = cc
+value_fits (OfEnumeration n) z h = h
+value_fits (OfRange base low high) z h =
+    let p = and_parts (between low z high) (has base z) (sym (has_range base low high z) ∙ h) in
+    and_from (within base (scalar_of base z)) (between low (ordinal_of (scalar_of base z)) high)
+    (value_fits base z p.1)
+    (ap (λ (y : ℤ). between low y high) (number_is base z p.1) ∙ p.0)
+
+-- a value of a kind has one of its numbers
+pub fits_has : (k : Kind) (v : Scalar) → within k v ≡ true → has k (ordinal_of v) ≡ true
+fits_has (OfWhole t) (Number z) h = h
+fits_has OfTruth (Truth true) h = refl
+fits_has OfTruth (Truth false) h = refl
+fits_has OfCharacter (Character c) h = let e = leb-true c 255 h in in_range (pos 0) (pos c) (pos 255) (omega (arith, ints)) (omega (arith, ints, e))
+fits_has (OfEnumeration n) (Number z) h = h
+fits_has (OfRange base low high) v h =
+    let p = and_parts (within base v) (between low (ordinal_of v) high) h in
+    has_range base low high (ordinal_of v) ∙ and_from (between low (ordinal_of v) high) (has base (ordinal_of v)) p.1 (fits_has base v p.0)
+fits_has k v h = cc
+
+-- its numbers are numbers of the type as which its words are compared
+pub has_type : (j : Kind) (z : ℤ) → is_base j ≡ true → has j z ≡ true → in_type (compared_as j) z ≡ true
+has_type (OfWhole t) z base h = h
+has_type OfTruth z base h = let b = bounds (pos 0) z (pos 1) h in in_range (pos 0) z (pos 65535) b.0 (omega (arith, ints, b.1))
+has_type OfCharacter z base h = let b = bounds (pos 0) z (pos 255) h in in_range (pos 0) z (pos 65535) b.0 (omega (arith, ints, b.1))
+has_type (OfEnumeration n) z base h =
+    let b = bounds (pos 0) z (pos (n - 1)) h in
+    let e = leb-true n 65535 base in
+    in_range (pos 0) z (pos 65535) b.0 (omega (arith, ints, b.1, e))
+has_type (OfRange part low high) z base h = cc
+
+-- ---- a value of one kind where another is wanted
+-- a value that may be stored is one of the kind where its number is
+pub taken_where : (k j : Kind) (v : Scalar) → takes_value k j ≡ true → within j v ≡ true → within k v ≡ has k (ordinal_of v)
+taken_where (OfRange base low high) j v takes fits =
+    swapped (within base v) (between low (ordinal_of v) high)
+    ∙ ap (λ (b : Bool). between low (ordinal_of v) high && b) (taken_where base j v takes fits)
+    ∙ sym (has_range base low high (ordinal_of v))
+  where
+    swapped : (a b : Bool) → (a && b) ≡ (b && a)
+    swapped true true = refl
+    swapped true false = refl
+    swapped false true = refl
+    swapped false false = refl
+taken_where (OfWhole s) (OfWhole t) (Number z) takes fits = refl
+taken_where OfTruth OfTruth (Truth true) takes fits = refl
+taken_where OfTruth OfTruth (Truth false) takes fits = refl
+taken_where OfCharacter OfCharacter (Character c) takes fits = fits ∙ sym (fits_has OfCharacter (Character c) fits)
+taken_where (OfEnumeration m) (OfEnumeration n) (Number z) takes fits = refl
+taken_where k j v takes fits = cc
+
+-- it is the value of the kind with its number
+pub taken_is : (k j : Kind) (v : Scalar) → takes_value k j ≡ true → within j v ≡ true → scalar_of k (ordinal_of v) ≡ v
+taken_is (OfRange base low high) j v takes fits = taken_is base j v takes fits
+taken_is (OfWhole s) (OfWhole t) (Number z) takes fits = refl
+taken_is OfTruth OfTruth (Truth true) takes fits = refl
+taken_is OfTruth OfTruth (Truth false) takes fits = refl
+taken_is OfCharacter OfCharacter (Character c) takes fits = refl
+taken_is (OfEnumeration m) (OfEnumeration n) (Number z) takes fits = refl
+taken_is k j v takes fits = cc
+
+-- where a value may be stored its own kind is a base
+pub takes_base : (k j : Kind) → takes_value k j ≡ true → is_base j ≡ true
+takes_base (OfRange base low high) j h = takes_base base j h
+takes_base (OfWhole s) (OfWhole t) h = refl
+takes_base OfTruth OfTruth h = refl
+takes_base OfCharacter OfCharacter h = refl
+takes_base (OfEnumeration m) (OfEnumeration n) h = (and_parts (m == n) (nat_le n 65535) h).1
+takes_base k j h = cc
+
+-- a kind whose values are words is that of values of its base
+pub takes_own : (k : Kind) → is_base (base_of k) ≡ true → takes_value k (base_of k) ≡ true
+takes_own (OfRange base low high) h = takes_own base h
+takes_own (OfWhole t) h = refl
+takes_own OfTruth h = refl
+takes_own OfCharacter h = refl
+takes_own (OfEnumeration n) h = and_from (n == n) (nat_le n 65535) (eq-eqb n n refl) h
