@@ -3,7 +3,7 @@ ghost use Rattle.lil_asm.specs.Bytes.{word_at, with_byte, with_word, with_two_wo
 
 /// One instruction, with its operands in the order of their bytes. Lis has its word, from 0 to 15, in its first byte.
 /// Cas has the number of its entries and the place for all other words; the entries follow it in the code.
-#[derive(Clone, Copy, Debug, PartialEq, Eq)]
+#[derive(Clone, Copy)]
 pub enum Instr {
     Liw(u16),
     Lib(u8),

@@ -3,8 +3,6 @@
 
 mod encoding;
 mod instr;
-#[cfg(test)]
-mod tests;
 
 pub use encoding::{encode, encode_entry};
 pub use instr::{Instr, decode, word_of_bytes};

@@ -5,7 +5,7 @@ use crate::Name;
 use thiserror::Error;
 
 /// A place in a text: line and column from 1, in bytes, and the offset from 0.
-#[derive(Clone, Copy, Debug, PartialEq, Eq)]
+#[derive(Clone, Copy, PartialEq, Eq)]
 pub struct Place {
     pub line: u32,
     pub column: u32,
@@ -13,11 +13,11 @@ pub struct Place {
 }
 
 /// The number of a definition in its volume's book, from 1; 0 for programs and resident modules.
-#[derive(Clone, Copy, Debug, PartialEq, Eq)]
+#[derive(Clone, Copy, PartialEq, Eq)]
 pub struct Key(pub u32);
 
 /// A fault of a source text, with zeros where its number has no values.
-#[derive(Debug, Drop)]
+#[derive(Drop)]
 pub struct SourceFault {
     pub number: u8,
     pub place: Place,
@@ -27,7 +27,7 @@ pub struct SourceFault {
 }
 
 /// The faults of source texts that are told of a place alone. `docs/LANGUAGE.md` has their table.
-#[derive(Clone, Copy, Debug, PartialEq, Eq)]
+#[derive(Clone, Copy, PartialEq, Eq)]
 pub enum FaultKind {
     /// A byte begins no token, or may not stand in a string.
     BadChar,
@@ -259,7 +259,7 @@ pub enum ArithFault {
 }
 
 /// The traps of the machine, in the order of their numbers from 1.
-#[derive(Clone, Copy, Debug, PartialEq, Eq)]
+#[derive(Clone, Copy, PartialEq, Eq)]
 pub enum TrapKind {
     /// A value lies outside the range that it meets.
     Range,
@@ -286,7 +286,7 @@ pub enum TrapKind {
 }
 
 /// A trap, and where it happened. A module's body has no procedure.
-#[derive(Debug, Drop)]
+#[derive(Drop)]
 pub struct TrapAt {
     pub kind: TrapKind,
     pub module: Name,
@@ -294,7 +294,7 @@ pub struct TrapAt {
 }
 
 /// What was used up.
-#[derive(Clone, Copy, Debug, PartialEq, Eq)]
+#[derive(Clone, Copy, PartialEq, Eq)]
 pub enum LimitKind {
     /// The room of a stack for activations.
     Stack,
@@ -307,14 +307,14 @@ pub enum LimitKind {
 }
 
 /// A place in a module's code, in bytes.
-#[derive(Debug, Drop)]
+#[derive(Drop)]
 pub struct CodePlace {
     pub module: Name,
     pub place: u16,
 }
 
 /// Why a program was not loaded.
-#[derive(Debug, Drop)]
+#[derive(Drop)]
 pub enum LoadRefusal {
     /// A module has no object file.
     Missing(Name),

@@ -6,7 +6,7 @@ use std::alloc::Global;
 use std::marker::Model;
 
 /// A `Vec` that contracts see as the list of its items, so that two are equal where their lists are.
-#[derive(Debug, Drop)]
+#[derive(Drop)]
 pub struct Items<T> {
     inner: Vec<T>,
 }
@@ -70,11 +70,15 @@ impl<T> Items<T> {
 }
 
 impl<T: Drop> Items<T> {
-    /// One more at the end. After a refusal the list is as before.
+    /// One more at the end. After a refusal the list is as before. The first takes room for itself alone: most lists of a
+    /// tree have one item.
     pub fn push(&mut self, item: T) -> Result<(), Memory>
         ensures ok { OnOk result (self.new ≡ self.old ++ item ∷ []) }
         ensures err { OnErr result (self.new ≡ self.old) }
     {
+        if self.inner.is_empty() {
+            self.inner.try_reserve_exact(1)?;
+        }
         self.inner.push(item)?;
         Ok(())
     }

@@ -4,13 +4,12 @@
 mod boxed;
 mod fault;
 mod fields;
+mod found;
 mod items;
 mod memory;
 mod name;
 mod operator;
 mod sets;
-#[cfg(test)]
-mod tests;
 mod words;
 
 pub use boxed::Boxed;
@@ -19,6 +18,7 @@ pub use fault::{
     TrapAt, TrapKind,
 };
 pub use fields::{get16, get32, put16, put32};
+pub use found::beside;
 pub use items::{Items, same_bytes};
 pub use memory::Memory;
 pub use name::{FileName, Name};

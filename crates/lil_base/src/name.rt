@@ -7,7 +7,7 @@ use std::alloc::Global;
 use std::marker::Model;
 
 /// The name of a module or of another thing of a text: 1 to 64 letters and digits that begin with a letter.
-#[derive(Debug, Drop)]
+#[derive(Drop)]
 pub struct Name {
     text: Text,
 }
@@ -24,7 +24,7 @@ impl Model for Name {
 }
 
 /// The name of a file: 1 to 68 letters, digits and full stops that begin with a letter.
-#[derive(Debug, Drop)]
+#[derive(Drop)]
 pub struct FileName {
     text: Text,
 }

@@ -1,5 +1,5 @@
 /// An operator with one operand: a sign, or NOT.
-#[derive(Clone, Copy, Debug, PartialEq, Eq)]
+#[derive(Clone, Copy, PartialEq, Eq)]
 pub enum OneOp {
     Plus,
     Minus,
@@ -7,7 +7,7 @@ pub enum OneOp {
 }
 
 /// An operator with two operands (Programming in Modula-2, Expressions).
-#[derive(Clone, Copy, Debug, PartialEq, Eq)]
+#[derive(Clone, Copy, PartialEq, Eq)]
 pub enum TwoOp {
     Equal,
     Unequal,

@@ -1,5 +1,6 @@
 -- One part of a call after the other.
-use Rattle.std.proofs.Common.{◌≡◌, ℕ, max, Bool, true, false, ◌&&◌, List, [], ◌∷◌, length, Option, None, subst, ap, sym, ◌∙◌}
+use Rattle.std.proofs.Common.{◌≡◌, ℕ, max, Bool, true, false, ◌&&◌, List, [], ◌∷◌, length, Option, None, Result, IfOk, subst, ap, sym, ◌∙◌}
+use Rattle.std.proofs.lemmas.Result.{IfOk-weaker}
 use Rattle.lil_base.specs.declared.fault.Place.{Place}
 use Rattle.lil_types.specs.Types.{Table}
 use Rattle.lil_module.specs.declared.tree.RArgument.{RArgument}
@@ -87,10 +88,12 @@ module _ (t : Table) (p : Place) (v : Invoked) where
 
 -- ---- what is called
 module _ (t : Table) (p : Place) (xs : List Argument) where
-  pub value_as : (c d : Callee) (v w : Invoked) {o : Option Found} {r s : Option Fault}
-      → c ≡ d → v ≡ w → value_of t p d xs ≡ routine_value t p w xs → Said (routine_value t p v xs) r o s → Said (value_of t p c xs) r o s
-  value_as c d v w e i h g = said_as (ap (λ c. value_of t p c xs) e ∙ h ∙ ap (λ v. routine_value t p v xs) (sym i)) g
+  pub value_as : {E : Type 0} (c d : Callee) (v w : Invoked) (q : Result (Option Found) E) (r s : Option Fault)
+      → c ≡ d → v ≡ w → value_of t p d xs ≡ routine_value t p w xs → IfOk q (λ o. Said (routine_value t p v xs) r o s) → IfOk q (λ o. Said (value_of t p c xs) r o s)
+  value_as c d v w q r s e i h = IfOk-weaker q (λ o. Said (routine_value t p v xs) r o s) (λ o. Said (value_of t p c xs) r o s)
+      (λ o g. said_as (ap (λ c. value_of t p c xs) e ∙ h ∙ ap (λ v. routine_value t p v xs) (sym i)) g)
 
-  pub statement_as : (c d : Callee) (v w : Invoked) {o : Option RStmt} {r s : Option Fault}
-      → c ≡ d → v ≡ w → statement_of t p d xs ≡ routine_statement t p w xs → Said (routine_statement t p v xs) r o s → Said (statement_of t p c xs) r o s
-  statement_as c d v w e i h g = said_as (ap (λ c. statement_of t p c xs) e ∙ h ∙ ap (λ v. routine_statement t p v xs) (sym i)) g
+  pub statement_as : {E : Type 0} (c d : Callee) (v w : Invoked) (q : Result (Option RStmt) E) (r s : Option Fault)
+      → c ≡ d → v ≡ w → statement_of t p d xs ≡ routine_statement t p w xs → IfOk q (λ o. Said (routine_statement t p v xs) r o s) → IfOk q (λ o. Said (statement_of t p c xs) r o s)
+  statement_as c d v w q r s e i h = IfOk-weaker q (λ o. Said (routine_statement t p v xs) r o s) (λ o. Said (statement_of t p c xs) r o s)
+      (λ o g. said_as (ap (λ c. statement_of t p c xs) e ∙ h ∙ ap (λ v. routine_statement t p v xs) (sym i)) g)

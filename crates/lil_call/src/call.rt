@@ -86,17 +86,17 @@ fn value(
     match callee {
         Callee::Procedure(number, sort) => {
             let v = of_procedure(number, sort);
-            Ok(value_call(alloc, t, report, first, v, arguments)?)
+            value_call(alloc, t, report, first, v, arguments)
         }
         Callee::Variable(designator, sort, depth) => {
             let v = of_variable(designator, sort, depth);
-            Ok(value_call(alloc, t, report, first, v, arguments)?)
+            value_call(alloc, t, report, first, v, arguments)
         }
         Callee::Resident(number, sort) => {
             let v = of_resident(number, sort);
-            Ok(value_call(alloc, t, report, first, v, arguments)?)
+            value_call(alloc, t, report, first, v, arguments)
         }
-        Callee::Standard(of) => Ok(function_call(alloc, t, report, first, of, arguments)?),
+        Callee::Standard(of) => function_call(alloc, t, report, first, of, arguments),
         Callee::Other => Ok(no_call(report, first)),
     }
 }
@@ -114,17 +114,17 @@ fn statement(
     match callee {
         Callee::Procedure(number, sort) => {
             let v = of_procedure(number, sort);
-            Ok(statement_call(alloc, t, report, first, v, arguments)?)
+            statement_call(alloc, t, report, first, v, arguments)
         }
         Callee::Variable(designator, sort, depth) => {
             let v = of_variable(designator, sort, depth);
-            Ok(statement_call(alloc, t, report, first, v, arguments)?)
+            statement_call(alloc, t, report, first, v, arguments)
         }
         Callee::Resident(number, sort) => {
             let v = of_resident(number, sort);
-            Ok(statement_call(alloc, t, report, first, v, arguments)?)
+            statement_call(alloc, t, report, first, v, arguments)
         }
-        Callee::Standard(of) => Ok(procedure_call(alloc, t, report, first, of, arguments)?),
+        Callee::Standard(of) => procedure_call(alloc, t, report, first, of, arguments),
         Callee::Other => Ok(no_call(report, first)),
     }
 }
@@ -145,7 +145,7 @@ pub fn called(
         None => Ok(None),
         Some(c) => {
             if all_have_values(arguments.as_slice()) {
-                Ok(value(alloc, t, report, first, c, arguments)?)
+                value(alloc, t, report, first, c, arguments)
             } else {
                 Ok(None)
             }
@@ -169,7 +169,7 @@ pub fn stated(
         None => Ok(None),
         Some(c) => {
             if all_have_values(arguments.as_slice()) {
-                Ok(statement(alloc, t, report, first, c, arguments)?)
+                statement(alloc, t, report, first, c, arguments)
             } else {
                 Ok(None)
             }

@@ -4,7 +4,7 @@ ghost use Rattle.lil_call.specs.Functions as spec;
 
 use crate::call::Argument;
 use crate::passing::place_or_value;
-use lil_base::{FaultKind, Items, Memory, Place};
+use lil_base::{FaultKind, Items, Memory, Place, beside};
 use lil_kinds::{Applied, Found, Standing, extreme, function, is_constant, is_ordinal};
 use lil_module::{RArgument, RExpr, Standard};
 use lil_report::Report;
@@ -193,7 +193,7 @@ pub(crate) fn listed_two(
     ensures { IfOk result (λ xs. xs ≡ x ∷ y ∷ []) }
 {
     let mut xs = Items::new(alloc);
-    xs.push(x)?;
+    let (y, _) = beside(y, xs.push(x))?;
     xs.push(y)?;
     Ok(xs)
 }
@@ -239,7 +239,9 @@ fn of_value(
     ensures { IfOk result (λ o. Said (spec.of_value t.now first of x) report.old o report.new) }
 {
     if is_extreme(of) {
-        return Ok(no_type(report, x.first));
+        let at = x.first;
+        drop(x);
+        return Ok(no_type(report, at));
     }
     let made = function(t, of, INTEGER, x.kind);
     let arguments = listed(alloc, function_argument(of, x.form))?;
@@ -259,9 +261,9 @@ fn of_one(
 {
     match x {
         Argument::Value(None) => Ok(None),
-        Argument::Value(Some(x)) => Ok(of_value(alloc, t, report, first, of, x)?),
+        Argument::Value(Some(x)) => of_value(alloc, t, report, first, of, x),
         Argument::Type(_, None) => Ok(None),
-        Argument::Type(at, Some(sort)) => Ok(of_type(alloc, t, report, first, of, at, sort)?),
+        Argument::Type(at, Some(sort)) => of_type(alloc, t, report, first, of, at, sort),
     }
 }
 
@@ -277,7 +279,12 @@ fn ordinal(t: &TypeTable, report: &mut Report, at: Place, sort: TypeId) -> bool
 fn kept_if(is: bool, o: Option<Found>) -> Option<Found>
     ensures { result ≡ spec.kept_if is o }
 {
-    if is { o } else { None }
+    if is {
+        o
+    } else {
+        drop(o);
+        None
+    }
 }
 
 /// A value in another type.
@@ -328,9 +335,19 @@ fn of_two(
     ensures { IfOk result (λ o. Said (spec.of_two t.now first of x y) report.old o report.new) }
 {
     match x {
-        Argument::Value(None) => Ok(None),
-        Argument::Value(Some(x)) => Ok(no_type(report, x.first)),
-        Argument::Type(_, None) => Ok(None),
+        Argument::Value(None) => {
+            drop(y);
+            Ok(None)
+        }
+        Argument::Value(Some(x)) => {
+            let at = x.first;
+            drop((x, y));
+            Ok(no_type(report, at))
+        }
+        Argument::Type(_, None) => {
+            drop(y);
+            Ok(None)
+        }
         Argument::Type(at, Some(sort)) => match y {
             Argument::Value(None) => Ok(None),
             Argument::Value(Some(y)) => {
@@ -356,8 +373,8 @@ fn of_all(
     match left.take_first() {
         None => Ok(None),
         Some(x) => match left.take_first() {
-            None => Ok(of_one(alloc, t, report, first, of, x)?),
-            Some(y) => Ok(of_two(alloc, t, report, first, of, x, y)?),
+            None => of_one(alloc, t, report, first, of, x),
+            Some(y) => of_two(alloc, t, report, first, of, x, y),
         },
     }
 }

@@ -270,8 +270,11 @@ fn pass(
 {
     match x {
         Argument::Value(Some(x)) => match parameter(t, sort, s.arguments.len()) {
-            Some(p) => Ok(with_argument(t, report, resident, p, s, x)?),
-            None => Ok(without_more(s)),
+            Some(p) => with_argument(t, report, resident, p, s, x),
+            None => {
+                drop(x);
+                Ok(without_more(s))
+            }
         },
         Argument::Value(None) => Ok(without_more(s)),
         Argument::Type(place, _) => {

@@ -261,7 +261,7 @@ fn by_one(
 {
     match x {
         Argument::Value(None) => Ok(None),
-        Argument::Value(Some(x)) => Ok(with_variable(alloc, t, report, first, of, x)?),
+        Argument::Value(Some(x)) => with_variable(alloc, t, report, first, of, x),
         Argument::Type(at, _) => Ok(no_value(report, at)),
     }
 }
@@ -279,13 +279,25 @@ fn by_two(
     ensures { IfOk result (λ o. Said (spec.by_two t.now first of x y) report.old o report.new) }
 {
     match x {
-        Argument::Value(None) => Ok(None),
+        Argument::Value(None) => {
+            drop(y);
+            Ok(None)
+        }
         Argument::Value(Some(x)) => match y {
-            Argument::Value(None) => Ok(None),
+            Argument::Value(None) => {
+                drop(x);
+                Ok(None)
+            }
             Argument::Value(Some(y)) => Ok(with_operand(alloc, t, report, first, of, x, y)?),
-            Argument::Type(at, _) => Ok(no_value(report, at)),
+            Argument::Type(at, _) => {
+                drop(x);
+                Ok(no_value(report, at))
+            }
         },
-        Argument::Type(at, _) => Ok(no_value(report, at)),
+        Argument::Type(at, _) => {
+            drop(y);
+            Ok(no_value(report, at))
+        }
     }
 }
 
@@ -304,8 +316,8 @@ fn by_all(
     match left.take_first() {
         None => Ok(Some(RStmt::Procedure(of, Items::new(alloc)))),
         Some(x) => match left.take_first() {
-            None => Ok(by_one(alloc, t, report, first, of, x)?),
-            Some(y) => Ok(by_two(alloc, t, report, first, of, x, y)?),
+            None => by_one(alloc, t, report, first, of, x),
+            Some(y) => by_two(alloc, t, report, first, of, x, y),
         },
     }
 }

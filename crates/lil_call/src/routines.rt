@@ -87,9 +87,15 @@ fn call_found(first: Place, v: Invoked, sort: Option<TypeId>, s: Option<Passed>)
     ensures { result ≡ spec.call_found first v sort s }
 {
     match sort {
-        None => None,
+        None => {
+            drop((v, s));
+            None
+        }
         Some(sort) => match s {
-            None => None,
+            None => {
+                drop(v);
+                None
+            }
             Some(s) => Some(Found {
                 form: RExpr::Call(v.form, s.arguments),
                 kind: Kind::Of(sort),
@@ -121,7 +127,10 @@ fn call_statement(v: Invoked, s: Option<Passed>) -> Option<RStmt>
     ensures { result ≡ spec.call_statement v s }
 {
     match s {
-        None => None,
+        None => {
+            drop(v);
+            None
+        }
         Some(s) => Some(RStmt::Call(v.form, s.arguments)),
     }
 }

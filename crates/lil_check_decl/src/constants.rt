@@ -47,16 +47,34 @@ fn constant_thing(env: &mut Env, form: RExpr, kind: Kind) -> Result<Thing, Memor
     ensures { IfOk result (λ th. (env.new, th) ≡ spec.constant_thing env.old form kind) }
 {
     match kind {
-        Kind::Whole(value) => Ok(Thing::Constant(Kind::Whole(value))),
-        Kind::Scalar(sort, word) => Ok(Thing::Constant(Kind::Scalar(sort, word))),
+        Kind::Whole(value) => {
+            drop(form);
+            Ok(Thing::Constant(Kind::Whole(value)))
+        }
+        Kind::Scalar(sort, word) => {
+            drop(form);
+            Ok(Thing::Constant(Kind::Scalar(sort, word)))
+        }
         Kind::Chars(c) => {
             let thing = text_thing(env, c, form)?;
             Ok(thing)
         }
-        Kind::Nil => Ok(Thing::Broken),
-        Kind::Of(_) => Ok(Thing::Broken),
-        Kind::Open(_) => Ok(Thing::Broken),
-        Kind::Routine(_) => Ok(Thing::Broken),
+        Kind::Nil => {
+            drop(form);
+            Ok(Thing::Broken)
+        }
+        Kind::Of(_) => {
+            drop(form);
+            Ok(Thing::Broken)
+        }
+        Kind::Open(_) => {
+            drop(form);
+            Ok(Thing::Broken)
+        }
+        Kind::Routine(_) => {
+            drop(form);
+            Ok(Thing::Broken)
+        }
     }
 }
 
@@ -67,6 +85,7 @@ fn if_constant(env: &mut Env, form: RExpr, kind: Kind) -> Result<Thing, Memory>
         let thing = constant_thing(env, form, kind)?;
         Ok(thing)
     } else {
+        drop(form);
         Ok(Thing::Broken)
     }
 }

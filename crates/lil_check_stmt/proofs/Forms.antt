@@ -15,6 +15,7 @@ use Rattle.lil_language.specs.declared.tree.Stmt.TheOpen.{Stmt-F}
 use Rattle.lil_language.specs.declared.tree.Stmt.TheFolds.{map-Stmt, fold-roll-Stmt, fold-roll-Guard, fold-roll-Arm}
 use Rattle.lil_language.specs.declared.tree.Stmt.TheViews.{roll-Stmt}
 use Rattle.lil_module.specs.declared.tree.RExpr.{RExpr}
+use Rattle.lil_module.specs.declared.tree.RArm.{RArm}
 use Rattle.lil_module.specs.declared.tree.RGuard.{RGuard}
 use Rattle.lil_module.specs.declared.tree.RStmt.{RStmt}
 use Rattle.lil_module.specs.declared.tree.RStmt.TheVariants as rs
@@ -111,15 +112,17 @@ module _ (e : Env) (l : Bool) where
   arm_is k out a = ap (λ (f : ArmMeaning). f e l k out) (fold-roll-Arm Meaning ArmMeaning GuardMeaning statement_layer arm_layer guard_layer (record { labels = a.labels; body = a.body }))
       ∙ (λ j. after (labels_mean e k out.seen a.labels) (λ ls. after (list_is e l a.body j) (λ ss. pure (with_arm out.arms ls ss))))
 
+pub selected_as : {o : Option RStmt} {p q : Option Found × List RArm} (ss : Option (List RStmt)) → p ≡ q → o ≡ selected p.0 p.1 ss → o ≡ selected q.0 q.1 ss
+selected_as ss same value = value ∙ ap (λ (p : Option Found × List RArm). selected p.0 p.1 ss) same
+
 -- ---- as the code has them
 module _ (e : Env) (l : Bool) {r : Option Fault} where
   module _ {of : Stmt} {o : Option RStmt} where
     as_is : {x : Stmt} {m : Option RStmt × List Row} {s : Option Fault} → of ≡ x → statement_means x e l ≡ m → Said m r o s → Said (statement_means of e l) r o s
     as_is is meant h = said_as (ap (λ (x : Stmt). statement_means x e l) is ∙ meant) h
 
-    pub is_assign : (d : Designator) (p : Place) (x : Expr) {a v : Option Found} {s t u : Option Fault} → of ≡ st.Assign d p x → Said (variable_means e d) r a t → Said (means e x) t v u → Said (assign_node e.types p a v) u o s
-        → Said (statement_means of e l) r o s
-    is_assign d p x is h k m = as_is is (assign_is e l d p x) (said_after _ _ h (said_after _ _ k m))
+    pub is_assign : (d : Designator) (p : Place) (x : Expr) {s : Option Fault} → of ≡ st.Assign d p x → Said (after (variable_means e d) (λ a. after (means e x) (λ v. assign_node e.types p a v))) r o s → Said (statement_means of e l) r o s
+    is_assign d p x is h = as_is is (assign_is e l d p x) h
 
     pub is_call : (d : Designator) (xs : List Expr) {s : Option Fault} → of ≡ st.Call d xs → Said (call_means e d xs) r o s → Said (statement_means of e l) r o s
     is_call d xs is h = as_is is (call_is e l d xs) h
@@ -136,34 +139,51 @@ module _ (e : Env) (l : Bool) {r : Option Fault} where
         (said_after _ _ h (said_after _ _ (subst (λ k. Said (walk (arm_step e l k) (record { seen = []; arms = [] }) bs) t out u) kind (subst (λ z. Said (walk (arm_step e l k) (record { seen = []; arms = [] }) z) t out u) these m))
         (said_to (said_map (λ ss. selected v out.arms ss) (subst (λ f. Said (behind_else f l other) u ss s) same n)) value)))
 
-    pub is_while : (p : Place) (x : Expr) (xs given : List Stmt) {c : Option RExpr} {ss : List RStmt} {s t : Option Fault} → of ≡ st.While p x xs
-        → Said (condition_means e x) r c t → given ≡ xs → Said (statements_mean e l given) t ss s → o ≡ repeated_while c ss → Said (statement_means of e l) r o s
-    is_while p x xs given {c = c} {ss = ss} {s = s} {t = t} is h these k value = as_is is (while_is e l p x xs)
-        (said_after _ _ h (said_to (said_map (repeated_while c) (subst (λ z. Said (statements_mean e l z) t ss s) these k)) value))
+    pub is_while : (p : Place) (x : Expr) (xs : List Stmt) {s : Option Fault} → of ≡ st.While p x xs → Said (after (condition_means e x) (λ c. after (statements_mean e l xs) (λ ss. pure (repeated_while c ss)))) r o s → Said (statement_means of e l) r o s
+    is_while p x xs is h = as_is is (while_is e l p x xs) h
 
-    pub is_repeat : (p : Place) (xs given : List Stmt) (x : Expr) {f : Env} {c : Option RExpr} {ss : List RStmt} {s t : Option Fault} → of ≡ st.Repeat p xs x
-        → given ≡ xs → Said (statements_mean e l given) r ss t → f ≡ e → Said (condition_means f x) t c s → o ≡ repeated_until ss c → Said (statement_means of e l) r o s
-    is_repeat p xs given x {c = c} {ss = ss} {s = s} {t = t} is these h same k value = as_is is (repeat_is e l p xs x)
-        (said_after _ _ (subst (λ z. Said (statements_mean e l z) r ss t) these h) (said_to (said_map (repeated_until ss) (subst (λ f. Said (condition_means f x) t c s) same k)) value))
+    pub is_repeat : (p : Place) (xs : List Stmt) (x : Expr) {s : Option Fault} → of ≡ st.Repeat p xs x → Said (after (statements_mean e l xs) (λ ss. after (condition_means e x) (λ c. pure (repeated_until ss c)))) r o s → Said (statement_means of e l) r o s
+    is_repeat p xs x is h = as_is is (repeat_is e l p xs x) h
 
-    pub is_loop : (p : Place) (xs given : List Stmt) {ss : List RStmt} {s : Option Fault} → of ≡ st.Loop p xs → given ≡ xs → Said (statements_mean e true given) r ss s → o ≡ Some (rs.Loop ss) → Said (statement_means of e l) r o s
-    is_loop p xs given {ss = ss} {s = s} is these h value = as_is is (loop_is e l p xs) (said_to (said_map (λ ss. Some (rs.Loop ss)) (subst (λ z. Said (statements_mean e true z) r ss s) these h)) value)
+    pub is_loop : (p : Place) (xs : List Stmt) {s : Option Fault} → of ≡ st.Loop p xs → Said (after (statements_mean e true xs) (λ ss. pure (Some (rs.Loop ss)))) r o s → Said (statement_means of e l) r o s
+    is_loop p xs is h = as_is is (loop_is e l p xs) h
 
-    pub is_for : (p : Place) (h : ForHead) (xs given : List Stmt) {c : Option Count} {ss : List RStmt} {s t : Option Fault} → of ≡ st.For p h xs
-        → Said (count_means e h) r c t → given ≡ xs → Said (statements_mean e l given) t ss s → o ≡ counted c ss → Said (statement_means of e l) r o s
-    is_for p head xs given {c = c} {ss = ss} {s = s} {t = t} is h these k value = as_is is (for_is e l p head xs)
-        (said_after _ _ h (said_to (said_map (counted c) (subst (λ z. Said (statements_mean e l z) t ss s) these k)) value))
+    pub is_for : (p : Place) (h : ForHead) (xs : List Stmt) {s : Option Fault} → of ≡ st.For p h xs → Said (after (count_means e h) (λ c. after (statements_mean e l xs) (λ ss. pure (counted c ss)))) r o s → Said (statement_means of e l) r o s
+    is_for p head xs is h = as_is is (for_is e l p head xs) h
 
-    pub is_with : (p : Place) (d : Designator) (xs given : List Stmt) {a : Option Found} {v : Option Opened} {f : Env} {ss : List RStmt} {n s t u : Option Fault} → of ≡ st.With p d xs
-        → n ≡ noted r (row true p NotBuilt) → Said (variable_means e d) n a t → Said (record_node e.types p a) t v u → f ≡ within v e → given ≡ xs → Said (statements_mean f l given) u ss s → o ≡ with_record v ss → Said (statement_means of e l) r o s
-    is_with p d xs given {v = v} {f = f} {ss = ss} {s = s} {u = u} is note h k enters these m value = as_is is (with_is e l p d xs)
-        (said_not_built p note (said_after _ _ h (said_after _ _ k (said_to (said_map (with_record v) (subst (λ f. Said (statements_mean f l xs) u ss s) enters (subst (λ z. Said (statements_mean f l z) u ss s) these m))) value))))
+    pub is_with : (p : Place) (d : Designator) (xs : List Stmt) {s : Option Fault} → of ≡ st.With p d xs
+        → Said (not_built p (after (variable_means e d) (λ a. after (record_node e.types p a) (λ r. after (statements_mean (within r e) l xs) (λ ss. pure (with_record r ss)))))) r o s → Said (statement_means of e l) r o s
+    is_with p d xs is h = as_is is (with_is e l p d xs) h
 
     pub is_exit : (p : Place) {s : Option Fault} → of ≡ st.Exit p → Said (exit_node p l) r o s → Said (statement_means of e l) r o s
     is_exit p is h = as_is is (exit_is e l p) h
 
     pub is_return : (p : Place) (x : Option Expr) {s : Option Fault} → of ≡ st.Return p x → Said (return_means e p x) r o s → Said (statement_means of e l) r o s
     is_return p x is h = as_is is (return_is e l p x) h
+
+  -- of the parts of each
+  module _ {o : Option RStmt} where
+    pub of_while : (x : Expr) (xs given : List Stmt) {c : Option RExpr} {ss : List RStmt} {s t : Option Fault} → Said (condition_means e x) r c t → given ≡ xs → Said (statements_mean e l given) t ss s → o ≡ repeated_while c ss
+        → Said (after (condition_means e x) (λ c. after (statements_mean e l xs) (λ ss. pure (repeated_while c ss)))) r o s
+    of_while x xs given {c = c} {ss = ss} {s = s} {t = t} h these k value = said_after _ _ h (said_to (said_map (repeated_while c) (subst (λ z. Said (statements_mean e l z) t ss s) these k)) value)
+
+    pub of_repeat : (xs given : List Stmt) (x : Expr) {f : Env} {c : Option RExpr} {ss : List RStmt} {s t : Option Fault} → given ≡ xs → Said (statements_mean e l given) r ss t → f ≡ e → Said (condition_means f x) t c s → o ≡ repeated_until ss c
+        → Said (after (statements_mean e l xs) (λ ss. after (condition_means e x) (λ c. pure (repeated_until ss c)))) r o s
+    of_repeat xs given x {c = c} {ss = ss} {s = s} {t = t} these h same k value =
+        said_after _ _ (subst (λ z. Said (statements_mean e l z) r ss t) these h) (said_to (said_map (repeated_until ss) (subst (λ f. Said (condition_means f x) t c s) same k)) value)
+
+    pub of_loop : (xs given : List Stmt) {ss : List RStmt} {s : Option Fault} → given ≡ xs → Said (statements_mean e true given) r ss s → o ≡ Some (rs.Loop ss) → Said (after (statements_mean e true xs) (λ ss. pure (Some (rs.Loop ss)))) r o s
+    of_loop xs given {ss = ss} {s = s} these h value = said_to (said_map (λ ss. Some (rs.Loop ss)) (subst (λ z. Said (statements_mean e true z) r ss s) these h)) value
+
+    pub of_for : (h : ForHead) (xs given : List Stmt) {c : Option Count} {ss : List RStmt} {s t : Option Fault} → Said (count_means e h) r c t → given ≡ xs → Said (statements_mean e l given) t ss s → o ≡ counted c ss
+        → Said (after (count_means e h) (λ c. after (statements_mean e l xs) (λ ss. pure (counted c ss)))) r o s
+    of_for head xs given {c = c} {ss = ss} {s = s} {t = t} h these k value = said_after _ _ h (said_to (said_map (counted c) (subst (λ z. Said (statements_mean e l z) t ss s) these k)) value)
+
+    pub of_with : (p : Place) (d : Designator) (xs given : List Stmt) {a : Option Found} {v : Option Opened} {f : Env} {ss : List RStmt} {n s t u : Option Fault} → n ≡ noted r (row true p NotBuilt)
+        → Said (variable_means e d) n a t → Said (record_node e.types p a) t v u → f ≡ within v e → given ≡ xs → Said (statements_mean f l given) u ss s → o ≡ with_record v ss
+        → Said (not_built p (after (variable_means e d) (λ a. after (record_node e.types p a) (λ r. after (statements_mean (within r e) l xs) (λ ss. pure (with_record r ss)))))) r o s
+    of_with p d xs given {v = v} {f = f} {ss = ss} {s = s} {u = u} note h k enters these m value =
+        said_not_built p note (said_after _ _ h (said_after _ _ k (said_to (said_map (with_record v) (subst (λ f. Said (statements_mean f l xs) u ss s) enters (subst (λ z. Said (statements_mean f l z) u ss s) these m))) value)))
 
   -- without ELSE, and with it
   pub no_else : {other : Option (List Stmt)} → other ≡ None → Said (behind_else e l other) r None r

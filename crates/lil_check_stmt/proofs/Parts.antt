@@ -1,5 +1,5 @@
 -- What labels, the head of a FOR and a RETURN mean, from what their parts mean.
-use Rattle.std.proofs.Common.{◌≡◌, ℕ, ℤ, List, Option, Some, None, subst, sym}
+use Rattle.std.proofs.Common.{◌≡◌, ℕ, ℤ, List, Option, Some, None, Result, Ok, Err, IfOk, subst, sym}
 use Rattle.lil_base.specs.declared.fault.Place.{Place}
 use Rattle.lil_language.specs.declared.tree.Expr.{Expr}
 use Rattle.lil_language.specs.declared.tree.ForHead.{ForHead}
@@ -23,6 +23,14 @@ use Rattle.lil_check_stmt.specs.Labels.{one_node, range_node, high_means, label_
 use Rattle.lil_check_stmt.specs.Counting.{counter_node, start_node, limit_node, step_node, step_means, count_of, count_means}
 use Rattle.lil_check_stmt.specs.Nodes.{end_node, return_node}
 use Rattle.lil_check_stmt.specs.Statements.{result_at, return_means}
+
+-- of what a call gave, when it gave something
+pub is_given : {A E : Type 0} {r : Result A E} {a : A} (P : A → Type 0) → r ≡ Ok a → IfOk r P → P a
+is_given P is h = subst (λ r. IfOk r P) is h
+
+pub on_ok : {A E : Type 0} (P Q : A → Type 0) (r : Result A E) → ((a : A) → P a → Q a) → IfOk r P → IfOk r Q
+on_ok P Q (Ok a) more h = more a h
+on_ok P Q (Err e) more h = h
 
 module _ (e : Env) (seen : List RLabel) (k : Option Kind) (of : Range) {r : Option Fault} where
   pub is_one : {a : Option Found} {o : Option RLabel} {s t : Option Fault} → Said (means e of.low) r a t → of.high ≡ None → Said (one_node e.types seen k a) t o s → Said (label_means e seen k of) r o s

@@ -1,9 +1,11 @@
 ghost use Rattle.std.specs.Prelude.{◌≡◌, IfOk};
+ghost use Rattle.std.specs.Option.{option_map};
 ghost use Rattle.lil_report.specs.Told.{Said};
 ghost use Rattle.lil_check_value.specs.Looks.{look as look_of};
 ghost use Rattle.lil_check_stmt.specs.Counting as spec;
 
-use lil_base::{FaultKind, Items, Memory, Place};
+use crate::held::only_where;
+use lil_base::{FaultKind, Items, Memory, Place, beside};
 use lil_check_value::{Looked, expression, look};
 use lil_kinds::{Found, assignable, compatible, is_constant, is_ordinal, misses};
 use lil_language::{Expr, ForHead};
@@ -14,7 +16,7 @@ use lil_types::{TypeId, TypeTable};
 use std::alloc::Global;
 
 /// The variable of a FOR, and its type.
-#[derive(Clone, Copy, Debug, PartialEq, Eq)]
+#[derive(Clone, Copy)]
 pub(crate) struct Counter {
     pub(crate) root: RRoot,
     pub(crate) sort: TypeId,
@@ -140,19 +142,21 @@ fn start(
 ) -> Option<RExpr>
     ensures { Said (spec.start_node t.now becomes counter value) report.old result report.new }
 {
-    match (counter, value) {
-        (Some(counter), Some(value)) => {
-            let unlike = !assignable(t, counter.sort, value.kind);
-            let outside = misses(t, counter.sort, value.kind);
-            report.note(unlike, becomes, FaultKind::Assign);
-            report.note(outside, value.first, FaultKind::ConstRange);
-            if unlike || outside {
-                return None;
+    match counter {
+        Some(counter) => match value {
+            Some(value) => {
+                let unlike = !assignable(t, counter.sort, value.kind);
+                let outside = misses(t, counter.sort, value.kind);
+                report.note(unlike, becomes, FaultKind::Assign);
+                report.note(outside, value.first, FaultKind::ConstRange);
+                only_where(!unlike && !outside, value.form)
             }
-            Some(value.form)
+            None => None,
+        },
+        None => {
+            drop(value);
+            None
         }
-        (Some(_), None) => None,
-        (None, _) => None,
     }
 }
 
@@ -166,17 +170,19 @@ fn limit(
 ) -> Option<RExpr>
     ensures { Said (spec.limit_node t.now counter value) report.old result report.new }
 {
-    match (counter, value) {
-        (Some(counter), Some(value)) => {
-            let unlike = !compatible(t, Kind::Of(counter.sort), value.kind);
-            report.note(unlike, value.first, FaultKind::Assign);
-            if unlike {
-                return None;
+    match counter {
+        Some(counter) => match value {
+            Some(value) => {
+                let unlike = !compatible(t, Kind::Of(counter.sort), value.kind);
+                report.note(unlike, value.first, FaultKind::Assign);
+                only_where(!unlike, value.form)
             }
-            Some(value.form)
+            None => None,
+        },
+        None => {
+            drop(value);
+            None
         }
-        (Some(_), None) => None,
-        (None, _) => None,
     }
 }
 
@@ -211,8 +217,8 @@ fn is_no_step(kind: Kind) -> bool
 
 /// What stands behind BY.
 #[tactic(auto, unfolding(crate::specs::Counting::step_node, lil_report::specs::Told::tell))]
-fn step(report: &mut Report, of: Option<Found>) -> Option<i32>
-    ensures { Said (spec.step_node of) report.old result report.new }
+fn step(report: &mut Report, of: &Option<Found>) -> Option<i32>
+    ensures { Said (spec.step_node of.now) report.old result report.new }
 {
     match of {
         Some(of) => {
@@ -244,7 +250,21 @@ fn step_by(
         None => Ok(Some(1)),
         Some(x) => {
             let found = expression(alloc, env, report, x)?;
-            Ok(step(report, found))
+            let by = step(report, &found);
+            drop(found);
+            Ok(by)
+        }
+    }
+}
+
+fn count_by(root: RRoot, from: RExpr, to: RExpr, by: Option<i32>) -> Option<Count>
+    ensures { result ≡ option_map (λ n. record { root = root; from = from; to = to; by = n }) by }
+{
+    match by {
+        Some(by) => Some(Count { root, from, to, by }),
+        None => {
+            drop((from, to));
+            None
         }
     }
 }
@@ -257,17 +277,24 @@ fn count_of(
 ) -> Option<Count>
     ensures { result ≡ spec.count_of counter from to by }
 {
-    match (counter, from, to, by) {
-        (Some(counter), Some(from), Some(to), Some(by)) => Some(Count {
-            root: counter.root,
-            from,
-            to,
-            by,
-        }),
-        (Some(_), Some(_), Some(_), None) => None,
-        (Some(_), Some(_), None, _) => None,
-        (Some(_), None, _, _) => None,
-        (None, _, _, _) => None,
+    match counter {
+        Some(counter) => match from {
+            Some(from) => match to {
+                Some(to) => count_by(counter.root, from, to, by),
+                None => {
+                    drop(from);
+                    None
+                }
+            },
+            None => {
+                drop(to);
+                None
+            }
+        },
+        None => {
+            drop((from, to));
+            None
+        }
     }
 }
 
@@ -284,9 +311,9 @@ pub(crate) fn counting(
     let counter = counting_variable(env, report, head.variable.place, looked);
     let from = expression(alloc, env, report, &head.from)?;
     let from = start(&env.types, report, head.becomes, counter, from);
-    let to = expression(alloc, env, report, &head.to)?;
+    let (from, to) = beside(from, expression(alloc, env, report, &head.to))?;
     let to = limit(&env.types, report, counter, to);
-    let by = step_by(alloc, env, report, &head.by)?;
+    let ((from, to), by) = beside((from, to), step_by(alloc, env, report, &head.by))?;
     Ok(count_of(counter, from, to, by))
 }
 

@@ -3,7 +3,7 @@ ghost use Rattle.std.specs.List.{list_any};
 ghost use Rattle.lil_report.specs.Told.{Said};
 ghost use Rattle.lil_check_stmt.specs.Labels as spec;
 
-use lil_base::{FaultKind, Items, Memory};
+use lil_base::{FaultKind, Items, Memory, beside};
 use lil_check_value::expression;
 use lil_kinds::{Found, compatible, is_constant, number};
 use lil_language::Range;
@@ -105,9 +105,9 @@ fn one(
     report: &mut Report,
     seen: &[RLabel],
     selector: Option<Kind>,
-    of: Option<Found>,
+    of: &Option<Found>,
 ) -> Option<RLabel>
-    ensures { Said (spec.one_node t.now seen.now selector of) report.old result report.new }
+    ensures { Said (spec.one_node t.now seen.now selector of.now) report.old result report.new }
 {
     match (selector, of) {
         (Some(selector), Some(of)) => {
@@ -135,10 +135,10 @@ fn range(
     report: &mut Report,
     seen: &[RLabel],
     selector: Option<Kind>,
-    low: Option<Found>,
-    high: Option<Found>,
+    low: &Option<Found>,
+    high: &Option<Found>,
 ) -> Option<RLabel>
-    ensures { Said (spec.range_node t.now seen.now selector low high) report.old result report.new }
+    ensures { Said (spec.range_node t.now seen.now selector low.now high.now) report.old result report.new }
 {
     match (selector, low, high) {
         (Some(selector), Some(low), Some(high)) => {
@@ -180,10 +180,16 @@ fn label(
 {
     let low = expression(alloc, env, report, &of.low)?;
     match &of.high {
-        None => Ok(one(&env.types, report, seen, selector, low)),
+        None => {
+            let label = one(&env.types, report, seen, selector, &low);
+            drop(low);
+            Ok(label)
+        }
         Some(high) => {
-            let high = expression(alloc, env, report, high)?;
-            Ok(range(&env.types, report, seen, selector, low, high))
+            let (low, high) = beside(low, expression(alloc, env, report, high))?;
+            let label = range(&env.types, report, seen, selector, &low, &high);
+            drop((low, high));
+            Ok(label)
         }
     }
 }

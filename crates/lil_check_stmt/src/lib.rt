@@ -2,6 +2,7 @@
 #![tactic(auto)]
 
 mod counting;
+mod held;
 mod labels;
 mod nodes;
 mod statements;

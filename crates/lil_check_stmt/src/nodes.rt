@@ -2,6 +2,7 @@ ghost use Rattle.std.specs.Prelude.{◌≡◌};
 ghost use Rattle.lil_report.specs.Told.{Said};
 ghost use Rattle.lil_check_stmt.specs.Nodes as spec;
 
+use crate::held::only_where;
 use lil_base::{FaultKind, Place};
 use lil_kinds::{Found, assignable, is_ordinal, is_record, misses};
 use lil_module::{RDesignator, RExpr, RStmt};
@@ -55,7 +56,10 @@ fn assignment(place: Option<RDesignator>, value: RExpr) -> Option<RStmt>
 {
     match place {
         Some(place) => Some(RStmt::Assign(place, value)),
-        None => None,
+        None => {
+            drop(value);
+            None
+        }
     }
 }
 
@@ -70,19 +74,27 @@ pub(crate) fn assign(
 ) -> Option<RStmt>
     ensures { Said (spec.assign_node t.now becomes variable value) report.old result report.new }
 {
-    match (variable, value) {
-        (Some(variable), Some(value)) => {
-            let unlike = !takes(t, variable.kind, value.kind);
-            let outside = is_outside(t, variable.kind, value.kind);
-            report.note(unlike, becomes, FaultKind::Assign);
-            report.note(outside, value.first, FaultKind::ConstRange);
-            if unlike || outside {
-                return None;
+    match variable {
+        Some(variable) => match value {
+            Some(value) => {
+                let unlike = !takes(t, variable.kind, value.kind);
+                let outside = is_outside(t, variable.kind, value.kind);
+                report.note(unlike, becomes, FaultKind::Assign);
+                report.note(outside, value.first, FaultKind::ConstRange);
+                match only_where(!unlike && !outside, (variable.form, value.form)) {
+                    Some((place, value)) => assignment(place_of(place), value),
+                    None => None,
+                }
             }
-            assignment(place_of(variable.form), value.form)
+            None => {
+                drop(variable);
+                None
+            }
+        },
+        None => {
+            drop(value);
+            None
         }
-        (Some(_), None) => None,
-        (None, _) => None,
     }
 }
 
@@ -105,10 +117,7 @@ pub(crate) fn condition(t: &TypeTable, report: &mut Report, of: Option<Found>) -
         Some(of) => {
             let unlike = !is_truth(t, of.kind);
             report.note(unlike, of.first, FaultKind::Operands);
-            if unlike {
-                return None;
-            }
-            Some(of.form)
+            only_where(!unlike, of.form)
         }
         None => None,
     }
@@ -123,10 +132,7 @@ pub(crate) fn selector(t: &TypeTable, report: &mut Report, of: Option<Found>) ->
         Some(of) => {
             let unlike = !is_ordinal(t, of.kind);
             report.note(unlike, of.first, FaultKind::Operands);
-            if unlike {
-                return None;
-            }
-            Some(of)
+            only_where(!unlike, of)
         }
         None => None,
     }
@@ -174,10 +180,10 @@ pub(crate) fn record_of(
         Some(of) => {
             let unlike = !is_record_kind(t, of.kind);
             report.note(unlike, at, FaultKind::NotRecord);
-            if unlike {
-                return None;
+            match only_where(!unlike, of.form) {
+                Some(form) => opening(place_of(form), of.kind),
+                None => None,
             }
-            opening(place_of(of.form), of.kind)
         }
         None => None,
     }
@@ -221,21 +227,24 @@ pub(crate) fn return_value(
 ) -> Option<RStmt>
     ensures { Said (spec.return_node t.now at result_type value) report.old result report.new }
 {
-    match (value, result_type) {
-        (Some(value), Some(sort)) => {
-            let unlike = !assignable(t, sort, value.kind);
-            let outside = misses(t, sort, value.kind);
-            report.note(unlike, at, FaultKind::Assign);
-            report.note(outside, value.first, FaultKind::ConstRange);
-            if unlike || outside {
-                return None;
+    match value {
+        Some(value) => match result_type {
+            Some(sort) => {
+                let unlike = !assignable(t, sort, value.kind);
+                let outside = misses(t, sort, value.kind);
+                report.note(unlike, at, FaultKind::Assign);
+                report.note(outside, value.first, FaultKind::ConstRange);
+                match only_where(!unlike && !outside, value.form) {
+                    Some(form) => Some(RStmt::Return(Some(form))),
+                    None => None,
+                }
             }
-            Some(RStmt::Return(Some(value.form)))
-        }
-        (Some(_), None) => {
-            report.note(true, at, FaultKind::ReturnKind);
-            None
-        }
-        (None, _) => None,
+            None => {
+                drop(value);
+                report.note(true, at, FaultKind::ReturnKind);
+                None
+            }
+        },
+        None => None,
     }
 }

@@ -1,6 +1,11 @@
-ghost use Rattle.std.specs.Prelude.{◌≡◌, [], ◌∷◌, ◌++◌, slice_get, true, IfOk, OnOk};
+ghost use Rattle.std.specs.Prelude.{◌≡◌, [], ◌∷◌, ◌++◌, slice_get, true, Some, IfOk, OnOk};
 ghost use Rattle.lil_scope.specs.declared.env.Env.{Env};
-ghost use Rattle.lil_report.specs.Told.{Said, walk};
+ghost use Rattle.lil_report.specs.Told.{Said, walk, after, pure};
+ghost use Rattle.lil_module.specs.declared.tree.RStmt.TheVariants as rs;
+ghost use Rattle.lil_check_value.specs.Unbuilt.{not_built};
+ghost use Rattle.lil_check_value.specs.Values.{means, variable_means};
+ghost use Rattle.lil_check_stmt.specs.Nodes.{assign_node, record_node};
+ghost use Rattle.lil_check_stmt.specs.Counting as heads;
 ghost use Rattle.lil_check_stmt.specs.Statements as spec;
 
 use crate::counting::{counted, counting};
@@ -8,10 +13,10 @@ use crate::labels::{Arms, Labels, labels_of_arm};
 use crate::nodes::{
     Opened, assign, condition, exit, record_of, return_alone, return_value, selector,
 };
-use lil_base::{FaultKind, Items, Memory, Place};
+use lil_base::{FaultKind, Items, Memory, Place, beside};
 use lil_check_value::{call, expression, variable};
 use lil_kinds::{Found, result};
-use lil_language::{Arm, Expr, Guard, Stmt};
+use lil_language::{Arm, Designator, Expr, ForHead, Guard, Stmt};
 use lil_module::{RArm, RExpr, RGuard, RStmt};
 use lil_report::Report;
 use lil_scope::{Env, Kind};
@@ -80,6 +85,21 @@ fn returned(
             Ok(return_value(&env.types, report, at, result_at(env), found))
         }
     }
+}
+
+fn assigned(
+    alloc: Global,
+    env: &Env,
+    report: &mut Report,
+    place: &Designator,
+    becomes: Place,
+    value: &Expr,
+) -> Result<Option<RStmt>, Memory>
+    ensures { IfOk result (λ o. Said (after (variable_means env.now place.now) (λ a. after (means env.now value.now) (λ v. assign_node env.now.types becomes a v))) report.old o report.new) }
+{
+    let found = variable(alloc, env, report, place)?;
+    let (found, value) = beside(found, expression(alloc, env, report, value))?;
+    Ok(assign(&env.types, report, becomes, found, value))
 }
 
 fn guarded(condition: Option<RExpr>, body: Items<RStmt>) -> Option<RGuard>
@@ -187,20 +207,16 @@ fn statement(
 {
     match x {
         Stmt::Assign(place, becomes, value) => {
-            let found = variable(alloc, env, report, place)?;
-            let value = expression(alloc, env, report, value)?;
-            Ok(assign(&env.types, report, *becomes, found, value))
+            assigned(alloc, env, report, place, *becomes, value)
         }
-        Stmt::Call(designator, arguments) => {
-            let meant = call(alloc, env, report, designator, arguments)?;
-            Ok(meant)
-        }
+        Stmt::Call(designator, arguments) => call(alloc, env, report, designator, arguments),
         Stmt::If(_, guards, other) => {
             let guards = all_guards(alloc, env, report, looping, guards.as_slice())?;
             match other {
                 None => Ok(Some(RStmt::If(guards, None))),
                 Some(other) => {
-                    let other = statements(alloc, env, report, looping, other.as_slice())?;
+                    let other = statements(alloc, env, report, looping, other.as_slice());
+                    let (guards, other) = beside(guards, other)?;
                     Ok(Some(RStmt::If(guards, Some(other))))
                 }
             }
@@ -208,49 +224,118 @@ fn statement(
         Stmt::Case(_, value, arms, other) => {
             let found = selector_of(alloc, env, report, value)?;
             let kind = kind_of(&found);
-            let arms = all_arms(alloc, env, report, looping, kind, arms.as_slice())?;
+            let arms = all_arms(alloc, env, report, looping, kind, arms.as_slice());
+            let (found, arms) = beside(found, arms)?;
             match other {
                 None => Ok(selected(found, arms.arms, None)),
                 Some(other) => {
-                    let other = statements(alloc, env, report, looping, other.as_slice())?;
-                    Ok(selected(found, arms.arms, Some(other)))
+                    let other = statements(alloc, env, report, looping, other.as_slice());
+                    let ((found, arms), other) = beside((found, arms.arms), other)?;
+                    Ok(selected(found, arms, Some(other)))
                 }
             }
         }
-        Stmt::While(_, value, body) => {
-            let condition = condition_of(alloc, env, report, value)?;
-            let body = statements(alloc, env, report, looping, body.as_slice())?;
-            Ok(repeated_while(condition, body))
-        }
-        Stmt::Repeat(_, body, value) => {
-            let body = statements(alloc, env, report, looping, body.as_slice())?;
-            let condition = condition_of(alloc, env, report, value)?;
-            Ok(repeated_until(body, condition))
-        }
-        Stmt::Loop(_, body) => {
-            let body = statements(alloc, env, report, true, body.as_slice())?;
-            Ok(Some(RStmt::Loop(body)))
-        }
-        Stmt::For(_, head, body) => {
-            let count = counting(alloc, env, report, head)?;
-            let body = statements(alloc, env, report, looping, body.as_slice())?;
-            Ok(counted(count, body))
-        }
+        Stmt::While(_, value, body) => while_true(alloc, env, report, looping, body, value),
+        Stmt::Repeat(_, body, value) => until(alloc, env, report, looping, body, value),
+        Stmt::Loop(_, body) => endless(alloc, env, report, body),
+        Stmt::For(_, head, body) => for_each(alloc, env, report, looping, body, head),
         Stmt::With(at, designator, body) => {
-            report.note(true, *at, FaultKind::NotBuilt);
-            let found = variable(alloc, env, report, designator)?;
-            let opened = record_of(&env.types, report, *at, found);
-            enter(env, &opened)?;
-            let body = statements(alloc, env, report, looping, body.as_slice())?;
-            leave(env, &opened);
-            Ok(with_record(opened, body))
+            with(alloc, env, report, looping, body, *at, designator)
         }
         Stmt::Exit(at) => Ok(exit(report, *at, looping)),
-        Stmt::Return(at, value) => {
-            let meant = returned(alloc, env, report, *at, value)?;
-            Ok(meant)
-        }
+        Stmt::Return(at, value) => returned(alloc, env, report, *at, value),
     }
+}
+
+#[cycle(statement)]
+fn while_true(
+    alloc: Global,
+    env: &mut Env,
+    report: &mut Report,
+    looping: bool,
+    body: &Items<Stmt>,
+    value: &Expr,
+) -> Result<Option<RStmt>, Memory>
+    ensures said { IfOk result (λ o. Said (after (spec.condition_means env.old value.now) (λ c. after (spec.statements_mean env.old looping body.now) (λ ss. pure (spec.repeated_while c ss)))) report.old o report.new) }
+    ensures same { IfOk result (λ o. env.new ≡ env.old) }
+{
+    let condition = condition_of(alloc, env, report, value)?;
+    let body = statements(alloc, env, report, looping, body.as_slice());
+    let (condition, body) = beside(condition, body)?;
+    Ok(repeated_while(condition, body))
+}
+
+#[cycle(statement)]
+fn until(
+    alloc: Global,
+    env: &mut Env,
+    report: &mut Report,
+    looping: bool,
+    body: &Items<Stmt>,
+    value: &Expr,
+) -> Result<Option<RStmt>, Memory>
+    ensures said { IfOk result (λ o. Said (after (spec.statements_mean env.old looping body.now) (λ ss. after (spec.condition_means env.old value.now) (λ c. pure (spec.repeated_until ss c)))) report.old o report.new) }
+    ensures same { IfOk result (λ o. env.new ≡ env.old) }
+{
+    let body = statements(alloc, env, report, looping, body.as_slice())?;
+    let (body, condition) = beside(body, condition_of(alloc, env, report, value))?;
+    Ok(repeated_until(body, condition))
+}
+
+#[cycle(statement)]
+fn endless(
+    alloc: Global,
+    env: &mut Env,
+    report: &mut Report,
+    body: &Items<Stmt>,
+) -> Result<Option<RStmt>, Memory>
+    ensures said { IfOk result (λ o. Said (after (spec.statements_mean env.old true body.now) (λ ss. pure (Some (rs.Loop ss)))) report.old o report.new) }
+    ensures same { IfOk result (λ o. env.new ≡ env.old) }
+{
+    let body = statements(alloc, env, report, true, body.as_slice())?;
+    Ok(Some(RStmt::Loop(body)))
+}
+
+#[cycle(statement)]
+fn for_each(
+    alloc: Global,
+    env: &mut Env,
+    report: &mut Report,
+    looping: bool,
+    body: &Items<Stmt>,
+    head: &ForHead,
+) -> Result<Option<RStmt>, Memory>
+    ensures said { IfOk result (λ o. Said (after (heads.count_means env.old head.now) (λ c. after (spec.statements_mean env.old looping body.now) (λ ss. pure (heads.counted c ss)))) report.old o report.new) }
+    ensures same { IfOk result (λ o. env.new ≡ env.old) }
+{
+    let count = counting(alloc, env, report, head)?;
+    let body = statements(alloc, env, report, looping, body.as_slice());
+    let (count, body) = beside(count, body)?;
+    Ok(counted(count, body))
+}
+
+/// The statements in a WITH, at its place.
+#[cycle(statement)]
+fn with(
+    alloc: Global,
+    env: &mut Env,
+    report: &mut Report,
+    looping: bool,
+    body: &Items<Stmt>,
+    at: Place,
+    designator: &Designator,
+) -> Result<Option<RStmt>, Memory>
+    ensures said { IfOk result (λ o. Said (not_built at (after (variable_means env.old designator.now) (λ a. after (record_node env.old.types at a) (λ r. after (spec.statements_mean (spec.within r env.old) looping body.now) (λ ss. pure (spec.with_record r ss)))))) report.old o report.new) }
+    ensures same { IfOk result (λ o. env.new ≡ env.old) }
+{
+    report.note(true, at, FaultKind::NotBuilt);
+    let found = variable(alloc, env, report, designator)?;
+    let opened = record_of(&env.types, report, at, found);
+    enter(env, &opened)?;
+    let body = statements(alloc, env, report, looping, body.as_slice());
+    let (opened, body) = beside(opened, body)?;
+    leave(env, &opened);
+    Ok(with_record(opened, body))
 }
 
 /// What statements mean, one behind another.
@@ -286,7 +371,8 @@ fn guard(
     ensures same { IfOk result (λ o. env.new ≡ env.old) }
 {
     let condition = condition_of(alloc, env, report, &of.condition)?;
-    let body = statements(alloc, env, report, looping, of.body.as_slice())?;
+    let body = statements(alloc, env, report, looping, of.body.as_slice());
+    let (condition, body) = beside(condition, body)?;
     Ok(guarded(condition, body))
 }
 

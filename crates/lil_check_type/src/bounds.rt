@@ -10,7 +10,7 @@ use lil_scope::Kind;
 use lil_types::{CARDINAL, CHAR, INTEGER, Span, TypeForm, TypeId, TypeTable, base};
 
 /// The operand that stands as a bound or label: what is known of it, and its first token.
-#[derive(Clone, Copy, Debug, PartialEq, Eq)]
+#[derive(Clone, Copy)]
 pub struct Bound {
     pub kind: Kind,
     pub first: Place,

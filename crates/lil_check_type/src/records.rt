@@ -15,7 +15,7 @@ use lil_types::{Field, Span, TypeForm, TypeId};
 use std::alloc::Global;
 
 /// The fields of a record so far, and whether the types of all have no fault.
-#[derive(Debug, Drop)]
+#[derive(Drop)]
 pub struct Fields {
     pub list: Items<Field>,
     pub right: bool,

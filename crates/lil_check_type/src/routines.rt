@@ -15,7 +15,7 @@ use lil_types::{Parameter, TypeForm, TypeId, TypeTable};
 use std::alloc::Global;
 
 /// The parameters of a procedure type so far, and whether the types of all have no fault.
-#[derive(Debug, Drop)]
+#[derive(Drop)]
 pub struct Parameters {
     pub list: Items<Parameter>,
     pub right: bool,

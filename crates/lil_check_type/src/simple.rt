@@ -115,8 +115,9 @@ pub fn simple(
         Simple::Subrange(place, q, x, y) => {
             let named = range_base(env, report, q);
             let a = expression(alloc, env, report, x)?;
+            let a = bound_of(a);
             let b = expression(alloc, env, report, y)?;
-            let form = range(&env.types, report, *place, named, bound_of(a), bound_of(b));
+            let form = range(&env.types, report, *place, named, a, bound_of(b));
             let sort = add_form(env, report, *place, form)?;
             Ok(sort)
         }

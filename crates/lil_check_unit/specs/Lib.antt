@@ -1,6 +1,10 @@
 pub mod Imports
 pub mod Interfaces
+pub mod Kept
 pub mod Moving
 pub mod Standard
+pub mod UnitFound
 pub mod UnitLaws
+pub mod UnitNames
+pub mod UnitStart
 pub mod Units

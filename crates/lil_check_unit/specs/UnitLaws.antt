@@ -24,11 +24,11 @@ speaks_behind (C ∷ Cs) Ds a b (inl h) k = inl (h.0, ap (λ o. first_of o b) h.
 speaks_behind (C ∷ Cs) Ds a b (inr h) k = inr (h.0, speaks_behind Cs Ds a b h.1 k)
 
 -- ---- none is the first of two only where both are none
-none_before : (a b : Option Fault) → first_of a b ≡ None → a ≡ None
+pub none_before : (a b : Option Fault) → first_of a b ≡ None → a ≡ None
 none_before None b h = refl
 none_before (Some f) b h = h
 
-none_behind : (a b : Option Fault) → first_of a b ≡ None → b ≡ None
+pub none_behind : (a b : Option Fault) → first_of a b ≡ None → b ≡ None
 none_behind None b h = h
 none_behind (Some f) b h = absurd (cc)
 
@@ -37,11 +37,11 @@ module _ (u : Tree) (is : List Interface) where
   unfolding worst
   unit_speaks = speaks_first _ (Now (stated is u).1 ∷ []) _ _ (reports_now _ _ (reports_tell (declared is u).1)) (speaks_last _ _ (reports_now _ _ (reports_tell (stated is u).1)))
 
-  no_declared : worst u is ≡ None → now_of (tell None (declared is u).1) ≡ None
+  pub no_declared : worst u is ≡ None → now_of (tell None (declared is u).1) ≡ None
   unfolding worst
   no_declared h = none_before _ _ h
 
-  no_stated : worst u is ≡ None → now_of (tell None (stated is u).1) ≡ None
+  pub no_stated : worst u is ≡ None → now_of (tell None (stated is u).1) ≡ None
   unfolding worst
   no_stated h = none_behind (now_of (tell None (declared is u).1)) _ h
 

@@ -6,12 +6,14 @@ ghost use Rattle.lil_report.specs.Least.{now_of, late_of, worse};
 ghost use Rattle.lil_report.specs.Told.{Said, tell};
 ghost use Rattle.lil_check_stmt.specs.Stmts.{bodies_mean};
 ghost use Rattle.lil_check_unit.specs.Imports.{nothing_imported};
+ghost use Rattle.lil_check_unit.specs.Kept.{Kept};
+ghost use Rattle.lil_check_unit.specs.UnitNames.{AreSurfaces};
 ghost use Rattle.lil_check_unit.specs.Units as spec;
 
 use crate::importing::{Imported, exports, imports};
 use crate::standard::start;
 use crate::surface::Interfaces;
-use lil_base::{Items, Memory, Name, SourceFault};
+use lil_base::{Items, Memory, Name, SourceFault, beside};
 use lil_check_decl::declarations;
 use lil_check_stmt::{Stated, bodies};
 use lil_language::Unit;
@@ -39,6 +41,23 @@ fn nothing_imported(alloc: Global) -> Result<Imported, Memory>
     })
 }
 
+/// All that a unit imports and declares, where nothing is imported yet.
+fn declare(
+    alloc: Global,
+    u: &Unit,
+    interfaces: &Interfaces,
+    so_far: &mut Imported,
+    report: &mut Report,
+) -> Result<(), Memory>
+    requires { so_far.old ≡ nothing_imported }
+    ensures { IfOk result (λ o. Said (spec.declared interfaces.now u.now) report.old so_far.new.env report.new) }
+{
+    imports(alloc, interfaces, so_far, report, u.head.imports.as_slice())?;
+    declarations(alloc, &mut so_far.env, report, &u.decls)?;
+    exports(&so_far.taken, &so_far.env, report, &u.head.exports);
+    Ok(())
+}
+
 /// All that a unit imports and declares.
 fn declared(
     alloc: Global,
@@ -49,15 +68,8 @@ fn declared(
     ensures { IfOk result (λ e. Said (spec.declared interfaces.now u.now) report.old e report.new) }
 {
     let mut so_far = nothing_imported(alloc)?;
-    imports(
-        alloc,
-        interfaces,
-        &mut so_far,
-        report,
-        u.head.imports.as_slice(),
-    )?;
-    declarations(alloc, &mut so_far.env, report, &u.decls)?;
-    exports(&so_far.taken, &so_far.env, report, &u.head.exports);
+    let outcome = declare(alloc, u, interfaces, &mut so_far, report);
+    let (so_far, _) = beside(so_far, outcome)?;
     Ok(so_far.env)
 }
 
@@ -96,12 +108,17 @@ fn with_statements(
 {
     let mut env = declared;
     let mut report = Report::new();
-    let stated = bodies(alloc, &mut env, &mut report, &u.decls, &u.body)?;
+    let stated = bodies(alloc, &mut env, &mut report, &u.decls, &u.body);
+    let found = beside(env, stated)?;
     match report.worst_now() {
-        Some(fault) => Err(told(fault)),
+        Some(fault) => {
+            drop(found);
+            Err(told(fault))
+        }
         None => {
             let late = worse(late, report.worst_late());
-            let name = u.head.name.name.copy(alloc)?;
+            let (found, name) = beside(found, u.head.name.name.copy(alloc))?;
+            let (env, stated) = found;
             let module = resolved(name, env, stated);
             Ok(Checked { module, late })
         }
@@ -123,17 +140,22 @@ pub(crate) fn check_parts(
     let mut report = Report::new();
     let env = declared(alloc, u, interfaces, &mut report)?;
     match report.worst_now() {
-        Some(fault) => Err(told(fault)),
+        Some(fault) => {
+            drop(env);
+            Err(told(fault))
+        }
         None => with_statements(alloc, u, env, report.worst_late()),
     }
 }
 
 /// The module that a unit is, or its fault of names, declarations and statements. The faults of imported and exported names and of
 /// declarations speak before those of statements, and of each kind the one at the least place, there the one of the least
-/// number. A form that isn't built is no fault here. Each module that is imported has an interface.
+/// number. A form that isn't built is no fault here. Each module that is imported has an interface. The module keeps all of its unit,
+/// where no interface shows a name with a fault, or has a subrange.
 pub fn check_module(alloc: Global, u: &Unit, interfaces: &Interfaces) -> Result<RModule, ReadStop>
     requires { spec.HasInterfaces interfaces.now u.now }
     ensures right { IfOk result (λ m. (m ≡ spec.module_of u.now interfaces.now) × (spec.worst u.now interfaces.now ≡ None)) }
+    ensures kept { IfOk result (λ m. AreSurfaces interfaces.now → Kept interfaces.now u.now m) }
     ensures wrong { (f : Told) → result ≡ Err (stop.Fault f) → (g : Found) × (spec.worst u.now interfaces.now ≡ Some g) × (f ≡ spec.told g) }
     ensures least { spec.Speaks (spec.ClassesOfUnit u.now interfaces.now) (spec.worst u.now interfaces.now) }
 {

@@ -21,7 +21,7 @@ pub struct Entered {
 }
 
 /// Where an imported name comes from: it is that of a module, or stands in a module's block.
-#[derive(Clone, Copy, Debug, PartialEq, Eq)]
+#[derive(Clone, Copy)]
 pub enum Source {
     Itself,
     Block(usize),

@@ -1,9 +1,10 @@
-ghost use Rattle.std.specs.Prelude.{◌≡◌, IfOk, true};
+ghost use Rattle.std.specs.Prelude.{◌≡◌, IfOk, true, codes};
 ghost use Rattle.lil_base.specs.Names.{is_name};
+ghost use Rattle.lil_types.specs.Types.{char};
 ghost use Rattle.lil_check_unit.specs.Interfaces as spec;
 
 use crate::surface::{Exported, Interface, Interfaces, literal, same_text};
-use lil_base::{Items, Memory, Name};
+use lil_base::{Items, Memory, Name, beside};
 use lil_module::Resident;
 use lil_scope::{Kind, Thing};
 use lil_types::{CARDINAL, CHAR, INTEGER, Origin, Parameter, TypeForm, TypeId, TypeTable, add};
@@ -129,6 +130,25 @@ fn number_writers(alloc: Global, of: &mut Interface) -> Result<(), Memory>
     Ok(())
 }
 
+fn common_procedures(alloc: Global, of: &mut Interface) -> Result<(), Memory>
+    ensures { IfOk result (λ u. of.new ≡ spec.with_procedures of.old spec.common_procedures) }
+{
+    let variable = [place(CHAR)];
+    let character = [value(CHAR)];
+    let characters = [open_value(CHAR)];
+    procedure(alloc, of, b"Read", Resident::Read, &variable)?;
+    procedure(alloc, of, b"Write", Resident::Write, &character)?;
+    procedure(
+        alloc,
+        of,
+        b"WriteString",
+        Resident::WriteString,
+        &characters,
+    )?;
+    procedure(alloc, of, b"WriteLn", Resident::WriteLn, &[])?;
+    Ok(())
+}
+
 fn terminal(alloc: Global, name: Name) -> Result<Interface, Memory>
     ensures { IfOk result (λ i. i ≡ spec.terminal name) }
 {
@@ -137,28 +157,26 @@ fn terminal(alloc: Global, name: Name) -> Result<Interface, Memory>
         types: TypeTable::new(alloc),
         names: Items::new(alloc),
     };
-    let variable = [place(CHAR)];
-    let character = [value(CHAR)];
-    let characters = [open_value(CHAR)];
-    procedure(alloc, &mut of, b"Read", Resident::Read, &variable)?;
-    procedure(alloc, &mut of, b"Write", Resident::Write, &character)?;
-    procedure(
-        alloc,
-        &mut of,
-        b"WriteString",
-        Resident::WriteString,
-        &characters,
-    )?;
-    procedure(alloc, &mut of, b"WriteLn", Resident::WriteLn, &[])?;
+    let outcome = common_procedures(alloc, &mut of);
+    let (of, _) = beside(of, outcome)?;
     Ok(of)
+}
+
+/// What InOut has beside the names of Terminal.
+fn more_names(alloc: Global, of: &mut Interface) -> Result<(), Memory>
+    ensures { IfOk result (λ u. of.new ≡ spec.with_procedures (spec.with_constant of.old (codes "EOL") char 30) spec.number_writers) }
+{
+    constant(alloc, of, b"EOL", CHAR, 30)?;
+    number_writers(alloc, of)?;
+    Ok(())
 }
 
 fn in_out(alloc: Global, name: Name) -> Result<Interface, Memory>
     ensures { IfOk result (λ i. i ≡ spec.in_out name) }
 {
     let mut of = terminal(alloc, name)?;
-    constant(alloc, &mut of, b"EOL", CHAR, 30)?;
-    number_writers(alloc, &mut of)?;
+    let outcome = more_names(alloc, &mut of);
+    let (of, _) = beside(of, outcome)?;
     Ok(of)
 }
 
@@ -166,11 +184,12 @@ fn in_out(alloc: Global, name: Name) -> Result<Interface, Memory>
 pub fn all_resident(alloc: Global) -> Result<Interfaces, Memory>
     ensures { IfOk result (λ is. is ≡ spec.residents) }
 {
+    let first = terminal(alloc, literal(alloc, b"Terminal")?)?;
+    let (first, name) = beside(first, literal(alloc, b"InOut"))?;
+    let (first, second) = beside(first, in_out(alloc, name))?;
     let mut all = Items::new(alloc);
-    let name = literal(alloc, b"Terminal")?;
-    all.push(terminal(alloc, name)?)?;
-    let name = literal(alloc, b"InOut")?;
-    all.push(in_out(alloc, name)?)?;
+    let (second, _) = beside(second, all.push(first))?;
+    all.push(second)?;
     Ok(all)
 }
 

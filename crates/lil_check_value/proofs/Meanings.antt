@@ -1,5 +1,6 @@
 -- What calls say of the forms, from what they say of the parts.
-use Rattle.std.proofs.Common.{◌≡◌, ◌∷◌, ◌++◌, ℕ, Bool, true, false, List, [], Option, Some, None, pos, subst, ap, ◌∙◌, ◌≢◌, length}
+use Rattle.std.proofs.Common.{◌≡◌, ◌∷◌, ◌++◌, ℕ, Bool, true, false, List, [], Option, Some, None, Result, Ok, IfOk, pos, subst, ap, ◌∙◌, ◌≢◌, length}
+use Rattle.std.proofs.lemmas.Result.{IfOk-at_ok}
 use Rattle.lil_base.specs.declared.fault.Place.{Place}
 use Rattle.lil_base.specs.declared.fault.FaultKind.TheVariants.{NotBuilt}
 use Rattle.lil_base.specs.declared.operator.OneOp.{OneOp}
@@ -53,19 +54,25 @@ module _ (e : Env) {r : Option Fault} where
   is_reached p d ss {a = a} {b = b} {s = s} {t = t} is h g = said_as (f.reach_is e p d) (said_after _ _ h (subst (λ ss. Said (walk (step_means e) a ss) s b t) is g))
 
   -- ---- items of lists
-  pub is_indexed : (bracket : Place) (x : Expr) (a : Option Reached) {b : Option Reached} {i : Option Found} {s t : Option Fault} → Said (means e x) r i s → Said (index_node e.types bracket a i) s b t → Said (index_means e bracket a x) r b t
-  is_indexed bracket x a h g = said_after _ _ h g
+  pub is_indexed : {E : Type 0} (bracket : Place) (x : Expr) (a : Option Reached) {kept b : Option Reached} {found : Result (Option Found) E} {i : Option Found} {s t : Option Fault} → (kept ≡ a) × (found ≡ Ok i)
+      → IfOk found (λ i. Said (means e x) r i s) → Said (index_node e.types bracket kept i) s b t → Said (index_means e bracket a x) r b t
+  is_indexed bracket x a {b = b} {i = i} {s = s} {t = t} held h g = said_after _ _ (IfOk-at_ok (λ i. Said (means e x) r i s) held.1 h) (subst (λ a. Said (index_node e.types bracket a i) s b t) held.0 g)
 
-  pub is_operated : (p : Place) (x : Operation) (a : Option Chained) {b : Option Chained} {i : Option Found} {s t : Option Fault} → Said (means e (out-Operation x).operand) r i s
-      → Said (two_node e.types p (out-Operation x).operator (out-Operation x).place a i) s b t → Said (operation_means e p a x) r b t
-  is_operated p x a h g = said_as (f.operation_is e p a x) (said_after _ _ h g)
+  pub is_operated : {E : Type 0} (p : Place) (x : Operation) (a : Option Chained) {kept b : Option Chained} {found : Result (Option Found) E} {i : Option Found} {s t : Option Fault} → (kept ≡ a) × (found ≡ Ok i)
+      → IfOk found (λ i. Said (means e (out-Operation x).operand) r i s) → Said (two_node e.types p (out-Operation x).operator (out-Operation x).place kept i) s b t → Said (operation_means e p a x) r b t
+  is_operated p x a {b = b} {i = i} {s = s} {t = t} held h g = said_as (f.operation_is e p a x) (said_after _ _ (IfOk-at_ok (λ i. Said (means e (out-Operation x).operand) r i s) held.1 h)
+      (subst (λ a. Said (two_node e.types p (out-Operation x).operator (out-Operation x).place a i) s b t) held.0 g))
 
-  pub is_alone : (x : Range) (all : Option Elements) {more : Option Elements} {a : Option Found} {s : Option Fault} → (out-Range x).high ≡ None → Said (means e (out-Range x).low) r a s → more ≡ joined_one all a → Said (joins e x all) r more s
-  is_alone x all is h m = said_as (f.alone_is e x all is) (said_to (said_map (joined_one all) h) m)
+  pub is_alone : {E : Type 0} (x : Range) (all : Option Elements) {kept more : Option Elements} {found : Result (Option Found) E} {a : Option Found} {s : Option Fault} → (out-Range x).high ≡ None → (kept ≡ all) × (found ≡ Ok a)
+      → IfOk found (λ a. Said (means e (out-Range x).low) r a s) → more ≡ joined_one kept a → Said (joins e x all) r more s
+  is_alone x all {a = a} {s = s} is held h m = said_as (f.alone_is e x all is)
+      (said_to (said_map (joined_one all) (IfOk-at_ok (λ a. Said (means e (out-Range x).low) r a s) held.1 h)) (m ∙ ap (λ all. joined_one all a) held.0))
 
-  pub is_range : (x : Range) (high : Expr) (all : Option Elements) {more : Option Elements} {a b : Option Found} {s t : Option Fault} → (out-Range x).high ≡ Some high → Said (means e (out-Range x).low) r a s → Said (means e high) s b t
-      → more ≡ joined_range all a b → Said (joins e x all) r more t
-  is_range x high all {a = a} is h g m = said_as (f.range_is e x high all is) (said_after _ _ h (said_to (said_map (joined_range all a) g) m))
+  pub is_range : {E : Type 0} (x : Range) (high : Expr) (all : Option Elements) (s : Option Fault) {kept more : Option Elements} {both : Option Elements × Option Found} {low_found high_found : Result (Option Found) E} {a b : Option Found} {t : Option Fault}
+      → (out-Range x).high ≡ Some high → (kept ≡ all) × (low_found ≡ Ok a) → IfOk low_found (λ a. Said (means e (out-Range x).low) r a s) → (both ≡ (kept, a)) × (high_found ≡ Ok b) → IfOk high_found (λ b. Said (means e high) s b t)
+      → more ≡ joined_range both.0 both.1 b → Said (joins e x all) r more t
+  is_range x high all s {a = a} {b = b} {t = t} is held h held' g m = said_as (f.range_is e x high all is) (said_after _ _ (IfOk-at_ok (λ a. Said (means e (out-Range x).low) r a s) held.1 h)
+      (said_to (said_map (joined_range all a) (IfOk-at_ok (λ b. Said (means e high) s b t) held'.1 g)) ((m ∙ ap (λ both. joined_range both.0 both.1 b) held'.0) ∙ ap (λ all. joined_range all a b) held.0)))
 
   -- ---- arguments
   pub is_typed : {of : Expr} {p : Place} (d : Designator) {a : Option Reached} {b : Argument} {s t : Option Fault} → of ≡ v.Desig p d → Said (reach_means e p d) r a s → Said (typed_node p a) s b t → Said (typed_means e of) r b t
@@ -107,21 +114,24 @@ module _ (e : Env) {r : Option Fault} where
     is_chain {p = p} x xs {a = a} {d = d} {s = s} {t = t} is h begins' g m = said_as (ap (means e) is ∙ f.chain_is e p x xs)
         (said_to (said_map (chain_found p) (said_after _ _ h (subst (λ c. Said (walk (operation_means e p) c xs) s d t) begins' g))) m)
 
-    pub is_call : {p q : Place} (d : Designator) (xs : List Expr) {o : Option Reached} {c : Option Callee} {asked : Asked} {given : List Argument} {a b : Option Found} {s t u w' : Option Fault}
-        → of ≡ v.Call p d xs → q ≡ begins d → Said (reach_means e q d) r o s → Said (callee_node o) s c t → asked ≡ asks c → Said (arguments_mean e asked xs) t given u → Said (call_node e.types q c given) u a w'
-        → b ≡ begun_at p a → Said (means e of) r b w'
-    is_call {p = p} d xs {o = o} {c = c} {given = given} {a = a} {s = s} {t = t} {u = u} {w' = w'} is first h g asked g' l m = said_as (ap (means e) is ∙ f.call_is e p d xs)
+    pub is_call : {E : Type 0} {p q : Place} (d : Designator) (xs : List Expr) {o : Option Reached} {c kept : Option Callee} {asked : Asked} {found : Result (List Argument) E} {given : List Argument} {a b : Option Found} {s t u w' : Option Fault}
+        → of ≡ v.Call p d xs → q ≡ begins d → Said (reach_means e q d) r o s → Said (callee_node o) s c t → asked ≡ asks c → (kept ≡ c) × (found ≡ Ok given) → IfOk found (λ given. Said (arguments_mean e asked xs) t given u)
+        → Said (call_node e.types q kept given) u a w' → b ≡ begun_at p a → Said (means e of) r b w'
+    is_call {p = p} {q = q} d xs {o = o} {c = c} {asked = k'} {given = given} {a = a} {s = s} {t = t} {u = u} {w' = w'} is first h g asked held g' l m = said_as (ap (means e) is ∙ f.call_is e p d xs)
         (said_after _ _ (said_after _ _ (subst (λ q. Said (reach_means e q d) r o s) first h) g)
-        (said_to (said_map (begun_at p) (said_after _ _ (subst (λ z. Said (arguments_mean e z xs) t given u) asked g') (subst (λ q. Said (call_node e.types q c given) u a w') first l))) m))
+        (said_to (said_map (begun_at p) (said_after _ _ (subst (λ z. Said (arguments_mean e z xs) t given u) asked (IfOk-at_ok (λ given. Said (arguments_mean e k' xs) t given u) held.1 g'))
+        (subst (λ q. Said (call_node e.types q c given) u a w') first (subst (λ c. Said (call_node e.types q c given) u a w') held.0 l)))) m))
 
   -- ---- a variable, and a call that is a statement
   pub is_variable : {q : Place} (d : Designator) {o : Option Reached} {a : Option Found} {s t : Option Fault} → q ≡ begins d → Said (reach_means e q d) r o s → Said (variable_node o) s a t → Said (variable_means e d) r a t
   unfolding variable_means
   is_variable d {o = o} {s = s} first h g = said_after _ _ (subst (λ q. Said (reach_means e q d) r o s) first h) g
 
-  pub is_stated : {q : Place} (d : Designator) (xs : List Expr) {ys : List Expr} {o : Option Reached} {c : Option Callee} {asked : Asked} {given : List Argument} {a : Option RStmt} {s t u w' : Option Fault}
-      → q ≡ begins d → ys ≡ xs → Said (reach_means e q d) r o s → Said (callee_node o) s c t → asked ≡ asks c → Said (arguments_mean e asked ys) t given u → Said (statement_node e.types q c given) u a w' → Said (call_means e d xs) r a w'
+  pub is_stated : {E : Type 0} {q : Place} (d : Designator) (xs : List Expr) {ys : List Expr} {o : Option Reached} {c kept : Option Callee} {asked : Asked} {found : Result (List Argument) E} {given : List Argument} {a : Option RStmt}
+      {s t u w' : Option Fault} → q ≡ begins d → ys ≡ xs → Said (reach_means e q d) r o s → Said (callee_node o) s c t → asked ≡ asks c → (kept ≡ c) × (found ≡ Ok given) → IfOk found (λ given. Said (arguments_mean e asked ys) t given u)
+      → Said (statement_node e.types q kept given) u a w' → Said (call_means e d xs) r a w'
   unfolding call_means
-  is_stated d xs {o = o} {c = c} {asked = k'} {given = given} {a = a} {s = s} {t = t} {u = u} {w' = w'} first these h g asked g' l =
+  is_stated {q = q} d xs {ys = ys} {o = o} {c = c} {asked = k'} {given = given} {a = a} {s = s} {t = t} {u = u} {w' = w'} first these h g asked held g' l =
       said_after _ _ (said_after _ _ (subst (λ q. Said (reach_means e q d) r o s) first h) g)
-      (said_after _ _ (subst (λ z. Said (arguments_mean e z xs) t given u) asked (subst (λ ys. Said (arguments_mean e k' ys) t given u) these g')) (subst (λ q. Said (statement_node e.types q c given) u a w') first l))
+      (said_after _ _ (subst (λ z. Said (arguments_mean e z xs) t given u) asked (subst (λ ys. Said (arguments_mean e k' ys) t given u) these (IfOk-at_ok (λ given. Said (arguments_mean e k' ys) t given u) held.1 g')))
+      (subst (λ q. Said (statement_node e.types q c given) u a w') first (subst (λ c. Said (statement_node e.types q c given) u a w') held.0 l)))

@@ -5,7 +5,7 @@ use lil_call::Callee;
 use lil_module::Standard;
 
 /// Whether the first argument of a call should be a type's name.
-#[derive(Clone, Copy, Debug, PartialEq, Eq)]
+#[derive(Clone, Copy)]
 pub enum Asked {
     Never,
     First,

@@ -31,7 +31,7 @@ pub struct Part {
 }
 
 /// What a name means that is no variable, where its designator begins, and where it stands.
-#[derive(Clone, Copy, Debug, PartialEq, Eq)]
+#[derive(Clone, Copy)]
 pub struct Named {
     pub first: Place,
     pub name: Place,
@@ -392,10 +392,14 @@ fn element_value(
             if index_fits(types, parts, index.kind) {
                 Ok(Some(Reached::Part(with_index(of, index, parts, depth)?)))
             } else {
+                drop((of, index));
                 Ok(None)
             }
         }
-        _ => Ok(None),
+        _ => {
+            drop((of, index));
+            Ok(None)
+        }
     }
 }
 
@@ -453,9 +457,9 @@ fn other_index(
     report: &mut Report,
     bracket: Place,
     of: Named,
-    index: Option<Found>,
+    index: &Option<Found>,
 ) -> Option<Reached>
-    ensures { Said (spec.other_index bracket of index) report.old result report.new }
+    ensures { Said (spec.other_index bracket of index.now) report.old result report.new }
 {
     let misplaced = is_misplaced(of.thing);
     report.note(misplaced, of.name, FaultKind::WrongKind);
@@ -482,10 +486,20 @@ pub(crate) fn index_node(
     ensures { IfOk result (λ o. Said (spec.index_node types.now bracket of index) report.old o report.new) }
 {
     match of {
-        None => Ok(None),
-        Some(Reached::Other(named)) => Ok(other_index(report, bracket, named, index)),
+        None => {
+            drop(index);
+            Ok(None)
+        }
+        Some(Reached::Other(named)) => {
+            let value = other_index(report, bracket, named, &index);
+            drop(index);
+            Ok(value)
+        }
         Some(Reached::Part(part)) => match index {
-            None => Ok(None),
+            None => {
+                drop(part);
+                Ok(None)
+            }
             Some(index) => {
                 let value = part_index(types, report, bracket, part, index)?;
                 Ok(value)

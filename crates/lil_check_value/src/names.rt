@@ -11,7 +11,7 @@ use lil_types::{TypeId, TypeTable};
 
 /// What a name means where it stands: a field of the record of a WITH around it, by the number of the WITH, the field's
 /// number and its type; what is declared of it; or nothing.
-#[derive(Clone, Copy, Debug, PartialEq, Eq)]
+#[derive(Clone, Copy)]
 pub enum Looked {
     Nothing,
     Field(usize, usize, TypeId),

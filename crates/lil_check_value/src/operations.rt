@@ -4,7 +4,7 @@ ghost use Rattle.lil_check_value.specs.Operations as spec;
 
 use crate::depths::raised;
 use crate::uses::{constant_form, constant_found};
-use lil_base::{Boxed, FaultKind, Items, Memory, OneOp, Place, TwoOp};
+use lil_base::{Boxed, FaultKind, Items, Memory, OneOp, Place, TwoOp, beside};
 use lil_kinds::{Applied, Found, Standing, one, operand_type, two};
 use lil_module::{RExpr, ROperation};
 use lil_report::Report;
@@ -55,7 +55,10 @@ fn one_found(alloc: Global, first: Place, op: OneOp, a: Found, kind: Kind) -> Re
                 standing: Standing::Value,
             })
         }
-        _ => Ok(constant_found(first, kind)),
+        _ => {
+            drop(a);
+            Ok(constant_found(first, kind))
+        }
     }
 }
 
@@ -69,9 +72,11 @@ fn one_value(
     ensures { IfOk result (λ x. x ≡ spec.one_value first op a of) }
 {
     match of {
-        Applied::Refused => Ok(None),
-        Applied::Outside => Ok(None),
         Applied::Gives(kind) => Ok(Some(one_found(alloc, first, op, a, kind)?)),
+        _ => {
+            drop(a);
+            Ok(None)
+        }
     }
 }
 
@@ -153,21 +158,30 @@ fn two_chained(
 {
     match kind {
         Kind::Of(_) => {
-            let mut operations = a.operations;
-            operations.push(more)?;
+            let Chained {
+                begin,
+                operations,
+                kind: _,
+                depth: _,
+            } = a;
+            let mut operations = operations;
+            let (begin, _) = beside(begin, operations.push(more))?;
             Ok(Chained {
-                begin: a.begin,
+                begin,
                 operations,
                 kind,
                 depth,
             })
         }
-        _ => Ok(Chained {
-            begin: constant_form(kind),
-            operations: Items::new(alloc),
-            kind,
-            depth: 1,
-        }),
+        _ => {
+            drop((more, a));
+            Ok(Chained {
+                begin: constant_form(kind),
+                operations: Items::new(alloc),
+                kind,
+                depth: 1,
+            })
+        }
     }
 }
 
@@ -184,7 +198,10 @@ fn two_value(
         (Applied::Gives(kind), Some(depth)) => {
             Ok(Some(two_chained(alloc, more, a, kind, depth)?))
         }
-        _ => Ok(None),
+        _ => {
+            drop((more, a));
+            Ok(None)
+        }
     }
 }
 
@@ -227,12 +244,12 @@ pub(crate) fn two_node(
 ) -> Result<Option<Chained>, Memory>
     ensures { IfOk result (λ o. Said (spec.two_node types.now first op at a b) report.old o report.new) }
 {
-    match (a, b) {
-        (Some(a), Some(b)) => {
+    match a.zip(b) {
+        None => Ok(None),
+        Some((a, b)) => {
             let value = two_applied(alloc, types, report, first, op, at, a, b)?;
             Ok(value)
         }
-        _ => Ok(None),
     }
 }
 

@@ -14,7 +14,7 @@ use lil_types::{BITSET, Span, TypeId, TypeTable};
 use std::alloc::Global;
 
 /// What is known of a value that is an element, or the first or the last of several.
-#[derive(Clone, Copy, Debug, PartialEq, Eq)]
+#[derive(Clone, Copy)]
 pub struct Operand {
     pub kind: Kind,
     pub first: Place,
@@ -22,7 +22,7 @@ pub struct Operand {
 }
 
 /// An element: a value, or all from one to another.
-#[derive(Clone, Copy, Debug, PartialEq, Eq)]
+#[derive(Clone, Copy)]
 pub struct Bounds {
     pub low: Operand,
     pub high: Option<Operand>,
@@ -37,7 +37,7 @@ pub struct Elements {
 
 /// What is known of elements together: whether all of them fit, the depth, None where it is too great, and the set's word, None
 /// where an element isn't constant.
-#[derive(Clone, Copy, Debug, PartialEq, Eq)]
+#[derive(Clone, Copy)]
 pub struct Tally {
     pub fits: bool,
     pub depth: Option<usize>,
@@ -130,8 +130,9 @@ pub(crate) fn joined_one(
 ) -> Result<Option<Elements>, Memory>
     ensures { IfOk result (λ x. x ≡ spec.joined_one of low) }
 {
-    match (of, low) {
-        (Some(of), Some(low)) => {
+    match of.zip(low) {
+        None => Ok(None),
+        Some((of, low)) => {
             let a = operand_of(&low);
             let form = RElement {
                 low: low.form,
@@ -139,7 +140,6 @@ pub(crate) fn joined_one(
             };
             Ok(Some(with_element(of, form, a, None)?))
         }
-        _ => Ok(None),
     }
 }
 
@@ -151,8 +151,9 @@ pub(crate) fn joined_range(
 ) -> Result<Option<Elements>, Memory>
     ensures { IfOk result (λ x. x ≡ spec.joined_range of low high) }
 {
-    match (of, low, high) {
-        (Some(of), Some(low), Some(high)) => {
+    match of.zip(low.zip(high)) {
+        None => Ok(None),
+        Some((of, (low, high))) => {
             let a = operand_of(&low);
             let b = operand_of(&high);
             let form = RElement {
@@ -161,7 +162,6 @@ pub(crate) fn joined_range(
             };
             Ok(Some(with_element(of, form, a, Some(b))?))
         }
-        _ => Ok(None),
     }
 }
 

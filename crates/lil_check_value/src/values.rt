@@ -9,7 +9,7 @@ use crate::sets::{Elements, joined_one, joined_range, no_elements, set_node, set
 use crate::uses::{
     callee_node, constant_found, plain_found, typed_node, value_node, variable_node,
 };
-use lil_base::{FaultKind, Items, Memory, Place, Text};
+use lil_base::{FaultKind, Items, Memory, Place, Text, beside};
 use lil_call::{Argument, called, stated};
 use lil_kinds::Found;
 use lil_language::{Designator, Expr, Operation, Range, Selector};
@@ -70,8 +70,8 @@ fn indexed(
 {
     let mut of = of;
     for one in indexes {
-        let index = expression(alloc, env, report, one)?;
-        of = index_node(&env.types, report, bracket, of, index)?;
+        let (before, index) = beside(of, expression(alloc, env, report, one))?;
+        of = index_node(&env.types, report, bracket, before, index)?;
     }
     Ok(of)
 }
@@ -151,7 +151,7 @@ fn operated(
 {
     let mut of = of;
     for one in operations {
-        let operand = expression(alloc, env, report, &one.operand)?;
+        let (before, operand) = beside(of, expression(alloc, env, report, &one.operand))?;
         of = two_node(
             alloc,
             &env.types,
@@ -159,7 +159,7 @@ fn operated(
             first,
             one.operator,
             one.place,
-            of,
+            before,
             operand,
         )?;
     }
@@ -177,15 +177,15 @@ fn joined(
 ) -> Result<Option<Elements>, Memory>
     ensures { IfOk result (λ o. Said (spec.joins env.now element.now of) report.old o report.new) }
 {
-    let low = expression(alloc, env, report, &element.low)?;
+    let (of, low) = beside(of, expression(alloc, env, report, &element.low))?;
     match &element.high {
         None => {
             let all = joined_one(of, low)?;
             Ok(all)
         }
         Some(high) => {
-            let high = expression(alloc, env, report, high)?;
-            let all = joined_range(of, low, high)?;
+            let (before, high) = beside((of, low), expression(alloc, env, report, high))?;
+            let all = joined_range(before.0, before.1, high)?;
             Ok(all)
         }
     }
@@ -299,7 +299,8 @@ pub fn expression(
             let of = reached(alloc, env, report, begin, designator)?;
             let callee = callee_node(report, of);
             let asked = asks(&callee);
-            let all = all_arguments(alloc, env, report, asked, actuals.as_slice())?;
+            let all = all_arguments(alloc, env, report, asked, actuals.as_slice());
+            let (callee, all) = beside(callee, all)?;
             let value = called(alloc, &env.types, report, begin, callee, all)?;
             Ok(begun_at(*first, value))
         }
@@ -346,7 +347,8 @@ pub fn call(
     let found = reached(alloc, env, report, begin, of)?;
     let callee = callee_node(report, found);
     let asked = asks(&callee);
-    let all = all_arguments(alloc, env, report, asked, arguments.as_slice())?;
+    let all = all_arguments(alloc, env, report, asked, arguments.as_slice());
+    let (callee, all) = beside(callee, all)?;
     let value = stated(alloc, &env.types, report, begin, callee, all)?;
     Ok(value)
 }

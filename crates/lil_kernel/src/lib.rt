@@ -5,8 +5,6 @@
 mod numbers;
 mod pieces;
 mod service;
-#[cfg(test)]
-mod tests;
 
 pub use pieces::{Piece, piece};
 pub use service::serve;

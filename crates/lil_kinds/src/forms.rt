@@ -15,14 +15,14 @@ const PROC: TypeId = 5;
 const ADDRESS: TypeId = 6;
 
 /// The index type and the element type of an array.
-#[derive(Clone, Copy, Debug, PartialEq, Eq)]
+#[derive(Clone, Copy)]
 pub struct ArrayParts {
     pub index: TypeId,
     pub element: TypeId,
 }
 
 /// A field of a record: its number, from 0, and its type.
-#[derive(Clone, Copy, Debug, PartialEq, Eq)]
+#[derive(Clone, Copy)]
 pub struct FieldAt {
     pub number: usize,
     pub sort: TypeId,

@@ -4,7 +4,7 @@ use lil_scope::Kind;
 
 /// Whether an expression is the place of a variable or of a part of one: a value is none, and a character of an ARRAY OF CHAR
 /// can't be handed over as a variable.
-#[derive(Clone, Copy, Debug, PartialEq, Eq)]
+#[derive(Clone, Copy)]
 pub enum Standing {
     Value,
     Variable,
@@ -23,7 +23,7 @@ pub struct Found {
 
 /// What an operator or a standard function makes of its operands: it doesn't take them, the constant result lies outside, or a value
 /// of this kind.
-#[derive(Clone, Copy, Debug, PartialEq, Eq)]
+#[derive(Clone, Copy)]
 pub enum Applied {
     Refused,
     Outside,

@@ -5,8 +5,6 @@ mod forms;
 mod found;
 mod operators;
 mod relations;
-#[cfg(test)]
-mod tests;
 
 pub use forms::{
     ArrayParts, FieldAt, arity, array_parts, element_span, field, has_nil, is_char_array,

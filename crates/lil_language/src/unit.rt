@@ -5,7 +5,7 @@ use lil_base::{Boxed, Items, Place};
 use lil_text::{Ident, Qualident};
 
 /// The three kinds of unit (Programming in Modula-2, Compilation units).
-#[derive(Clone, Copy, Debug, PartialEq, Eq)]
+#[derive(Clone, Copy, PartialEq, Eq)]
 pub enum UnitKind {
     Definition,
     Implementation,
@@ -13,7 +13,7 @@ pub enum UnitKind {
 }
 
 /// An import of modules, or of names from one, at FROM or IMPORT.
-#[derive(Debug, Drop)]
+#[derive(Drop)]
 pub struct Import {
     pub place: Place,
     pub from: Option<Ident>,
@@ -21,7 +21,7 @@ pub struct Import {
 }
 
 /// A parameter of a procedure type, at its first token: VAR, ARRAY or its type's name.
-#[derive(Debug, Drop)]
+#[derive(Drop)]
 pub struct Formal {
     pub place: Place,
     pub by_place: bool,
@@ -30,7 +30,7 @@ pub struct Formal {
 }
 
 /// Parameters of a heading that have one type, at VAR or their first name.
-#[derive(Debug, Drop)]
+#[derive(Drop)]
 pub struct Section {
     pub place: Place,
     pub by_place: bool,
@@ -40,7 +40,7 @@ pub struct Section {
 }
 
 /// The heading of a procedure, at PROCEDURE. One without parentheses has no parameters.
-#[derive(Debug, Drop)]
+#[derive(Drop)]
 pub struct Heading {
     pub place: Place,
     pub name: Ident,
@@ -127,7 +127,7 @@ pub struct Block {
 }
 
 /// What stands before a unit's declarations, at its first word. Only a definition has exports.
-#[derive(Debug, Drop)]
+#[derive(Drop)]
 pub struct Head {
     pub place: Place,
     pub kind: UnitKind,

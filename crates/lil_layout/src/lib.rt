@@ -5,8 +5,6 @@ mod data;
 mod expressions;
 mod places;
 mod statements;
-#[cfg(test)]
-mod tests;
 mod texts;
 
 pub use data::data_words;

@@ -12,7 +12,7 @@ use lil_module::{Mode, RCallee, RDesignator, RModule, RRoot, RSelector, RVar, Re
 use lil_types::{CHAR, Parameter, TypeForm, TypeId, TypeTable, entry};
 
 /// What is named: something of a type, or an open array with elements of a type.
-#[derive(Clone, Copy, Debug, PartialEq, Eq)]
+#[derive(Clone, Copy, PartialEq, Eq)]
 pub(crate) enum Sort {
     Of(TypeId),
     Open(TypeId),

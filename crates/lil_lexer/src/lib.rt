@@ -5,8 +5,6 @@ mod bytes;
 mod cutting;
 mod numbers;
 mod pieces;
-#[cfg(test)]
-mod tests;
 mod words;
 
 pub use cutting::tokens;

@@ -8,7 +8,7 @@ ghost use Rattle.lil_lower.specs.Calls as spec;
 use crate::operators::takes_value;
 use crate::room::shallow;
 use crate::values::{argument, argument_sort};
-use lil_base::{Items, Memory};
+use lil_base::{Items, Memory, beside};
 use lil_module::{RArgument as Given, RCallee, RModule, Resident};
 use lil_resolved::{RArgument, RBase, RExpr, RKind, RRequest, RStmt, base as base_of};
 use lil_types::{CARDINAL, CHAR, INTEGER, TypeId};
@@ -56,7 +56,10 @@ fn given(base: RBase, of: Option<RExpr>) -> Option<RArgument>
     let kind = RKind { base, range: None };
     match of {
         Some(value) if takes_value(kind, base_of(&value)) => Some(RArgument { kind, value }),
-        _ => None,
+        rest => {
+            drop(rest);
+            None
+        }
     }
 }
 
@@ -96,15 +99,18 @@ fn both(
 ) -> Result<Option<Items<RArgument>>, Memory>
     ensures { IfOk result (λ o. option_map (map view.argument_of) o ≡ spec.linked (option_map view.argument_of first) (spec.linked (option_map view.argument_of second) (Some []))) }
 {
-    match (first, second) {
-        (Some(first), Some(second)) => {
-            let mut all = Items::new(alloc);
-            all.push(first)?;
-            all.push(second)?;
-            Ok(Some(all))
-        }
-        _ => Ok(None),
-    }
+    let Some(first) = first else {
+        drop(second);
+        return Ok(None);
+    };
+    let Some(second) = second else {
+        drop(first);
+        return Ok(None);
+    };
+    let mut all = Items::new(alloc);
+    let (second, _) = beside(second, all.push(first))?;
+    all.push(second)?;
+    Ok(Some(all))
 }
 
 fn no_arguments(alloc: Global, of: &[Given]) -> Option<Items<RArgument>>
@@ -146,7 +152,8 @@ fn number_argument(
     match of {
         [number, columns] => {
             let number = handed(alloc, m, base, sort, number)?;
-            let columns = handed(alloc, m, RBase::Cardinal, CARDINAL, columns)?;
+            let columns = handed(alloc, m, RBase::Cardinal, CARDINAL, columns);
+            let (number, columns) = beside(number, columns)?;
             both(alloc, number, columns)
         }
         _ => Ok(None),

@@ -23,7 +23,10 @@ pub(crate) fn stored(variable: Variable, value: Option<RExpr>) -> Option<RStmt>
         Some(value) if takes_value(variable.place.kind, base(&value)) => {
             Some(RStmt::Assign(variable.place, value))
         }
-        _ => None,
+        rest => {
+            drop(rest);
+            None
+        }
     }
 }
 

@@ -57,9 +57,13 @@ pub(crate) fn applied(
             if takes_function(function, base_of(&of)) {
                 Ok(Some(RExpr::Apply(function, Boxed::new(alloc, of)?)))
             } else {
+                drop(of);
                 Ok(None)
             }
         }
-        _ => Ok(None),
+        rest => {
+            drop(rest);
+            Ok(None)
+        }
     }
 }

@@ -11,6 +11,9 @@ pub(crate) fn shallow(of: Option<RExpr>) -> Option<RExpr>
 {
     match of {
         Some(of) if depth(&of) <= 12 => Some(of),
-        _ => None,
+        rest => {
+            drop(rest);
+            None
+        }
     }
 }

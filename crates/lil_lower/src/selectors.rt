@@ -10,7 +10,7 @@ use lil_resolved::RBase;
 use lil_types::{CARDINAL, CHAR, INTEGER, TypeId, TypeTable};
 
 /// The base type of what a CASE selects by, and what its values are.
-#[derive(Clone, Copy, Debug, PartialEq, Eq)]
+#[derive(Clone, Copy)]
 pub(crate) struct Ordinal {
     pub(crate) sort: TypeId,
     pub(crate) base: RBase,

@@ -13,7 +13,7 @@ use crate::room::shallow;
 use crate::selectors::selector;
 use crate::values::{expression, own_sort};
 use crate::variables::{Variable, designator, root};
-use lil_base::{Items, Memory};
+use lil_base::{Items, Memory, beside};
 use lil_module::{RArm as Arm, RExpr as Value, RGuard as Guard, RModule, RStmt as Tree};
 use lil_resolved::{RArm, RBase, RExpr, RGuard, RStmt, base};
 use lil_types::{BOOLEAN, TypeId};
@@ -64,10 +64,19 @@ fn selected(
 ) -> Option<RStmt>
     ensures { option_map view.statement_of result ≡ spec.selected (option_map view.expression_of of) (option_map (map parts.arm_pair) arms) (option_map view.else_of other) }
 {
-    match (of, arms, other) {
-        (Some(of), Some(arms), Some(other)) => Some(RStmt::Case(of, arms, other)),
-        _ => None,
-    }
+    let Some(of) = of else {
+        drop((arms, other));
+        return None;
+    };
+    let Some(arms) = arms else {
+        drop((of, other));
+        return None;
+    };
+    let Some(other) = other else {
+        drop((of, arms));
+        return None;
+    };
+    Some(RStmt::Case(of, arms, other))
 }
 
 fn behind_else(statements: Option<Items<RStmt>>) -> Option<Option<Items<RStmt>>>
@@ -82,19 +91,29 @@ fn behind_else(statements: Option<Items<RStmt>>) -> Option<Option<Items<RStmt>>>
 fn repeated_while(condition: Option<RExpr>, body: Option<Items<RStmt>>) -> Option<RStmt>
     ensures { option_map view.statement_of result ≡ spec.repeated_while (option_map view.expression_of condition) (option_map view.statements_of body) }
 {
-    match (condition, body) {
-        (Some(condition), Some(body)) => Some(RStmt::While(condition, body)),
-        _ => None,
-    }
+    let Some(condition) = condition else {
+        drop(body);
+        return None;
+    };
+    let Some(body) = body else {
+        drop(condition);
+        return None;
+    };
+    Some(RStmt::While(condition, body))
 }
 
 fn repeated_until(body: Option<Items<RStmt>>, condition: Option<RExpr>) -> Option<RStmt>
     ensures { option_map view.statement_of result ≡ spec.repeated_until (option_map view.statements_of body) (option_map view.expression_of condition) }
 {
-    match (body, condition) {
-        (Some(body), Some(condition)) => Some(RStmt::Repeat(body, condition)),
-        _ => None,
-    }
+    let Some(body) = body else {
+        drop(condition);
+        return None;
+    };
+    let Some(condition) = condition else {
+        drop(body);
+        return None;
+    };
+    Some(RStmt::Repeat(body, condition))
 }
 
 fn looped(body: Option<Items<RStmt>>) -> Option<RStmt>
@@ -140,7 +159,10 @@ fn started(variable: Variable, from: Option<RExpr>) -> Option<RExpr>
 {
     match from {
         Some(from) if takes_value(variable.place.kind, base(&from)) => Some(from),
-        _ => None,
+        rest => {
+            drop(rest);
+            None
+        }
     }
 }
 
@@ -153,13 +175,23 @@ fn repeated_for(
 ) -> Option<RStmt>
     ensures { option_map view.statement_of result ≡ spec.repeated_for variable (option_map view.expression_of from) (option_map view.expression_of to) by (option_map view.statements_of body) }
 {
-    match (from, to, body) {
-        (Some(from), Some(to), Some(body)) => match step(by) {
-            None => None,
-            Some(by) => Some(RStmt::For(variable.place, from, to, by, body)),
-        },
-        _ => None,
-    }
+    let Some(from) = from else {
+        drop((to, body));
+        return None;
+    };
+    let Some(to) = to else {
+        drop((from, body));
+        return None;
+    };
+    let Some(body) = body else {
+        drop((from, to));
+        return None;
+    };
+    let Some(by) = step(by) else {
+        drop((from, to, body));
+        return None;
+    };
+    Some(RStmt::For(variable.place, from, to, by, body))
 }
 
 /// A FOR, with a start of its own type and a limit of the variable's.
@@ -180,7 +212,7 @@ fn counted(
         Some(variable) => {
             let from = value(alloc, m, own_or(own_sort(m, from), variable.sort), from)?;
             let from = started(variable, from);
-            let to = value(alloc, m, variable.sort, to)?;
+            let (from, to) = beside(from, value(alloc, m, variable.sort, to))?;
             Ok(repeated_for(variable, from, to, by, body))
         }
     }
@@ -211,19 +243,22 @@ fn statement(alloc: Global, m: &RModule, looping: bool, of: &Tree) -> Result<Opt
             let Some(by) = selector(m, of) else {
                 return Ok(None);
             };
-            let of = value(alloc, m, by.sort, of)?;
             let arms = all_arms(alloc, m, looping, by.base, arms.as_slice())?;
             match other {
-                None => Ok(selected(of, arms, Some(None))),
+                None => {
+                    let of = value(alloc, m, by.sort, of)?;
+                    Ok(selected(of, arms, Some(None)))
+                }
                 Some(other) => {
                     let other = body(alloc, m, looping, other.as_slice())?;
+                    let of = value(alloc, m, by.sort, of)?;
                     Ok(selected(of, arms, behind_else(other)))
                 }
             }
         }
         Tree::While(of, statements) => {
-            let of = value(alloc, m, BOOLEAN, of)?;
             let statements = body(alloc, m, looping, statements.as_slice())?;
+            let of = value(alloc, m, BOOLEAN, of)?;
             Ok(repeated_while(of, statements))
         }
         Tree::Repeat(statements, of) => {
@@ -273,12 +308,12 @@ fn guard(alloc: Global, m: &RModule, looping: bool, of: &Guard) -> Result<Option
     requires { length m.now.variables ≤ 32000 }
     ensures { IfOk result (λ o. option_map parts.guard_pair o ≡ spec.guard m.now of.now looping) }
 {
-    let Some(condition) = value(alloc, m, BOOLEAN, &of.condition)? else {
+    let Some(body) = body(alloc, m, looping, of.body.as_slice())? else {
         return Ok(None);
     };
-    match body(alloc, m, looping, of.body.as_slice())? {
+    match value(alloc, m, BOOLEAN, &of.condition)? {
         None => Ok(None),
-        Some(body) => Ok(Some(RGuard { condition, body })),
+        Some(condition) => Ok(Some(RGuard { condition, body })),
     }
 }
 

@@ -11,7 +11,7 @@ use crate::constants::{named, scalar, text, whole};
 use crate::functions::{applied, form_of, value_sort};
 use crate::operators::{result_sort, takes_one, takes_two};
 use crate::variables::{designator, sort_of, taken};
-use lil_base::{Boxed, Items, Memory, OneOp, TwoOp};
+use lil_base::{Boxed, Items, Memory, OneOp, TwoOp, beside};
 use lil_module::{RArgument, RExpr as Tree, RModule, ROperation as Operation, Standard};
 use lil_resolved::{RExpr, ROperation};
 use lil_types::{TypeId, TypeTable, base};
@@ -59,7 +59,10 @@ fn one(
         Some(of) if sort == wanted && takes_one_at(t, operator, wanted) => {
             Ok(Some(RExpr::One(operator, Boxed::new(alloc, of)?)))
         }
-        _ => Ok(None),
+        rest => {
+            drop(rest);
+            Ok(None)
+        }
     }
 }
 
@@ -69,12 +72,16 @@ fn with_right(operator: TwoOp, before: Built, of: Option<RExpr>) -> Result<Optio
     ensures { IfOk result (λ o. option_map built o ≡ spec.with_right operator (built before) (option_map expression_of of)) }
 {
     match of {
-        None => Ok(None),
+        None => {
+            drop(before);
+            Ok(None)
+        }
         Some(operand) => {
             let sort = result_sort(operator, before.sort);
             let first = before.first;
             let mut operations = before.operations;
-            operations.push(ROperation { operator, operand })?;
+            let pushed = operations.push(ROperation { operator, operand });
+            let (first, _) = beside(first, pushed)?;
             Ok(Some(Built {
                 first,
                 operations,
@@ -115,7 +122,10 @@ fn wanted_chain(alloc: Global, sort: TypeId, of: Option<Built>) -> Result<Option
             let first = Boxed::new(alloc, of.first)?;
             Ok(Some(RExpr::Chain(first, of.operations)))
         }
-        _ => Ok(None),
+        rest => {
+            drop(rest);
+            Ok(None)
+        }
     }
 }
 
@@ -318,9 +328,13 @@ fn operate(
     match before {
         Some(before)
             if of.sort == before.sort && takes_two_at(&m.types, of.operator, before.sort) => {
-            let right = expression(alloc, m, before.sort, &of.operand)?;
+            let right = expression(alloc, m, before.sort, &of.operand);
+            let (before, right) = beside(before, right)?;
             with_right(of.operator, before, right)
         }
-        _ => Ok(None),
+        rest => {
+            drop(rest);
+            Ok(None)
+        }
     }
 }

@@ -9,7 +9,7 @@ use lil_resolved::{RExpr, RVariable};
 use lil_types::{TypeId, TypeTable, base};
 
 /// A variable of the module, and its base type.
-#[derive(Clone, Copy, Debug, PartialEq, Eq)]
+#[derive(Clone, Copy)]
 pub(crate) struct Variable {
     pub(crate) place: RVariable,
     pub(crate) sort: TypeId,

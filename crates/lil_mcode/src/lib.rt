@@ -5,8 +5,6 @@ mod arithmetic;
 mod machine;
 mod processor;
 mod request;
-#[cfg(test)]
-mod tests;
 
 pub use lil_asm::{Instr, decode, encode, encode_entry};
 pub use machine::{CodeAt, Event, Machine};

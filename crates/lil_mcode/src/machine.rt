@@ -13,7 +13,7 @@ use std::alloc::Global;
 use std::marker::Model;
 
 /// What one step did.
-#[derive(Clone, Copy, Debug, PartialEq, Eq)]
+#[derive(Clone, Copy, PartialEq, Eq)]
 pub enum Event {
     Went,
     Request(u8),
@@ -24,7 +24,7 @@ pub enum Event {
 }
 
 /// A place in the code: the number of a module from 1, that of one of its procedures from 0, and a place in bytes.
-#[derive(Clone, Copy, Debug, PartialEq, Eq)]
+#[derive(Clone, Copy, PartialEq, Eq)]
 pub struct CodeAt {
     pub module: u8,
     pub procedure: u8,

@@ -4,7 +4,7 @@ use lil_types::{TypeId, TypeTable};
 
 /// Whether a variable is a parameter, and how it is handed over: a value, a place, or an open array as the one or the
 /// other.
-#[derive(Clone, Copy, Debug, PartialEq, Eq)]
+#[derive(Clone, Copy, PartialEq, Eq)]
 pub enum Mode {
     Plain,
     Value,
@@ -15,7 +15,7 @@ pub enum Mode {
 
 /// A variable: its type, or the type of its elements where it is an open array, and the procedure to which it belongs, if it is
 /// no variable of the module.
-#[derive(Debug, Drop)]
+#[derive(Drop)]
 pub struct RVar {
     pub name: Name,
     pub sort: TypeId,
@@ -25,7 +25,7 @@ pub struct RVar {
 
 /// A procedure: its name, the procedure that declares it, if it isn't the module, and its procedure type. Its parameters
 /// are the first of its variables.
-#[derive(Debug, Drop)]
+#[derive(Drop)]
 pub struct RProc {
     pub name: Name,
     pub outer: Option<usize>,

@@ -2,7 +2,7 @@ use lil_base::{Boxed, Items, OneOp, Text, TwoOp};
 use lil_types::TypeId;
 
 /// A procedure of a resident module.
-#[derive(Clone, Copy, Debug, PartialEq, Eq)]
+#[derive(Clone, Copy, PartialEq, Eq)]
 pub enum Resident {
     Read,
     Write,
@@ -15,7 +15,7 @@ pub enum Resident {
 }
 
 /// A standard procedure, or a standard function (Programming in Modula-2, Standard procedures).
-#[derive(Clone, Copy, Debug, PartialEq, Eq)]
+#[derive(Clone, Copy, PartialEq, Eq)]
 pub enum Standard {
     Abs,
     Cap,
@@ -38,7 +38,7 @@ pub enum Standard {
 /// With what a designator begins: a variable of the module by its number; one of the activation that is so many
 /// levels out, by its number; or a field of the record of a WITH, counted from the outermost WITH around it in the
 /// same block, by the field's number.
-#[derive(Clone, Copy, Debug, PartialEq, Eq)]
+#[derive(Clone, Copy)]
 pub enum RRoot {
     Global(usize),
     Local(usize, usize),
@@ -151,7 +151,7 @@ pub struct RArm {
 }
 
 /// Labels: the numbers of all values from one to another.
-#[derive(Clone, Copy, Debug, PartialEq, Eq)]
+#[derive(Clone, Copy)]
 pub struct RLabel {
     pub low: i32,
     pub high: i32,

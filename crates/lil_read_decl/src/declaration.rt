@@ -7,7 +7,7 @@ ghost use Rattle.lil_language.specs.Grammar as spec;
 use crate::lookahead::{sees_decl, sees_definition_decl};
 use crate::part::{constant_part, definition_type_part, type_part, variable_part};
 use crate::procedure_heading::{definition_heading, heading};
-use lil_base::Items;
+use lil_base::{Items, beside};
 use lil_grammar::{Reader, nested, syntax};
 use lil_language::{Block, Decl, Stmt};
 use lil_read_stmt::statements;
@@ -43,9 +43,9 @@ fn a_procedure(alloc: Global, reader: &mut Reader<'_>, depth: u8) -> Result<Decl
     ensures { Reads (spec.reading depth (spec.produced spec.procedure) reader.old) result reader.new }
 {
     let heading = heading(alloc, reader, depth)?;
-    reader.expect(Mark::Semicolon)?;
-    let (decls, body) = block(alloc, reader, depth)?;
-    let end = reader.ident(alloc)?;
+    let (heading, _) = beside(heading, reader.expect(Mark::Semicolon))?;
+    let (heading, (decls, body)) = beside(heading, block(alloc, reader, depth))?;
+    let ((heading, decls, body), end) = beside((heading, decls, body), reader.ident(alloc))?;
     Ok(Decl::ProcIs(heading, Some(Block { decls, body, end })))
 }
 
@@ -55,7 +55,7 @@ fn procedure_part(alloc: Global, reader: &mut Reader<'_>, depth: u8) -> Result<D
     ensures { Reads (spec.reading depth spec.procedure_part reader.old) result reader.new }
 {
     let found = procedure(alloc, reader, depth)?;
-    reader.expect(Mark::Semicolon)?;
+    let (found, _) = beside(found, reader.expect(Mark::Semicolon))?;
     Ok(found)
 }
 
@@ -115,9 +115,9 @@ pub fn block(
     ensures { Reads (spec.reading depth spec.block reader.old) result reader.new }
 {
     let decls = decls(alloc, reader, depth)?;
-    let body = body(alloc, reader, depth)?;
-    reader.expect_word(Word::End)?;
-    Ok((decls, body))
+    let (decls, body) = beside(decls, body(alloc, reader, depth))?;
+    let (both, _) = beside((decls, body), reader.expect_word(Word::End))?;
+    Ok(both)
 }
 
 #[tactic(auto, using(lil_syntax::specs::Choices::choices), unfolding(lil_language::specs::Grammar::reading, lil_language::specs::Grammar::definition_decl, lil_language::specs::Grammar::constant_part, lil_language::specs::Grammar::definition_type_part, lil_language::specs::Grammar::variable_part, lil_syntax::specs::Syntax::reads, lil_syntax::specs::Syntax::before))]

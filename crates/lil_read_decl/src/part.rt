@@ -1,7 +1,7 @@
 ghost use Rattle.lil_grammar.specs.Steps.{Reads};
 ghost use Rattle.lil_language.specs.Grammar as spec;
 
-use lil_base::Items;
+use lil_base::{Items, beside};
 use lil_grammar::Reader;
 use lil_language::{Constant, Decl, Sort, TypeName, Variables};
 use lil_read_expr::{expr, names};
@@ -17,7 +17,7 @@ fn constant(alloc: Global, reader: &mut Reader<'_>, depth: u8) -> Result<Constan
     let name = reader.ident(alloc)?;
     reader.expect(Mark::Equal)?;
     let value = expr(alloc, reader, depth)?;
-    reader.expect(Mark::Semicolon)?;
+    let (value, _) = beside(value, reader.expect(Mark::Semicolon))?;
     Ok(Constant { name, value })
 }
 
@@ -53,9 +53,11 @@ fn a_type(alloc: Global, reader: &mut Reader<'_>, depth: u8) -> Result<TypeName,
     let name = reader.ident(alloc)?;
     reader.expect(Mark::Equal)?;
     let sort = sort(alloc, reader, depth)?;
-    reader.expect(Mark::Semicolon)?;
-    let sort = Some(sort);
-    Ok(TypeName { name, sort })
+    let (sort, _) = beside(sort, reader.expect(Mark::Semicolon))?;
+    Ok(TypeName {
+        name,
+        sort: Some(sort),
+    })
 }
 
 #[tactic(auto, using(lil_grammar::specs::Turns::turns), unfolding(lil_language::specs::Grammar::reading, lil_language::specs::Grammar::types, lil_language::specs::Grammar::a_type, lil_syntax::specs::Syntax::reads, lil_syntax::specs::Syntax::before, lil_grammar::specs::Steps::many))]
@@ -102,7 +104,7 @@ fn definition_type(alloc: Global, reader: &mut Reader<'_>, depth: u8) -> Result<
 {
     let name = reader.ident(alloc)?;
     let sort = type_form(alloc, reader, depth)?;
-    reader.expect(Mark::Semicolon)?;
+    let (sort, _) = beside(sort, reader.expect(Mark::Semicolon))?;
     Ok(TypeName { name, sort })
 }
 
@@ -146,7 +148,7 @@ fn variable(alloc: Global, reader: &mut Reader<'_>, depth: u8) -> Result<Variabl
     let names = names(alloc, reader, depth)?;
     reader.expect(Mark::Colon)?;
     let sort = sort(alloc, reader, depth)?;
-    reader.expect(Mark::Semicolon)?;
+    let (sort, _) = beside(sort, reader.expect(Mark::Semicolon))?;
     Ok(Variables { names, sort })
 }
 

@@ -4,7 +4,7 @@ ghost use Rattle.lil_language.specs.Grammar as spec;
 ghost use Rattle.lil_language.specs.Trees as tree;
 
 use crate::lookahead::sees_section;
-use lil_base::{Items, Place};
+use lil_base::{Items, Place, beside};
 use lil_grammar::Reader;
 use lil_language::{Decl, Heading, Section};
 use lil_read_expr::{names, qualident};
@@ -128,6 +128,6 @@ pub fn definition_heading(
     ensures { Reads (spec.reading depth spec.definition_heading reader.old) result reader.new }
 {
     let heading = heading(alloc, reader, depth)?;
-    reader.expect(Mark::Semicolon)?;
+    let (heading, _) = beside(heading, reader.expect(Mark::Semicolon))?;
     Ok(Decl::ProcIs(heading, None))
 }

@@ -10,7 +10,7 @@ use crate::lookahead::{
     sees_literal,
 };
 use crate::named::named;
-use lil_base::{Items, OneOp};
+use lil_base::{Items, OneOp, beside};
 use lil_grammar::Reader;
 use lil_language::{Expr, Operation, begun_at};
 use lil_syntax::{addition, multiplication, relation, sees_sign, sign};
@@ -48,7 +48,7 @@ fn related(alloc: Global, reader: &mut Reader<'_>, depth: u8) -> Result<Expr, Re
 {
     let first = sum(alloc, reader, depth)?;
     if begins_comparison(reader) {
-        let comparison = comparison(alloc, reader, depth)?;
+        let (first, comparison) = beside(first, comparison(alloc, reader, depth))?;
         Ok(compared(alloc, first, comparison)?)
     } else {
         Ok(first)
@@ -75,7 +75,7 @@ fn sum(alloc: Global, reader: &mut Reader<'_>, depth: u8) -> Result<Expr, ReadSt
     ensures { Reads (spec.reading depth spec.sum reader.old) result reader.new }
 {
     let first = signed(alloc, reader, depth)?;
-    let more = additions(alloc, reader, depth)?;
+    let (first, more) = beside(first, additions(alloc, reader, depth))?;
     Ok(chained(alloc, first, more)?)
 }
 
@@ -133,7 +133,7 @@ fn term(alloc: Global, reader: &mut Reader<'_>, depth: u8) -> Result<Expr, ReadS
     ensures { Reads (spec.reading depth spec.term reader.old) result reader.new }
 {
     let first = factor(alloc, reader, depth)?;
-    let more = multiplications(alloc, reader, depth)?;
+    let (first, more) = beside(first, multiplications(alloc, reader, depth))?;
     Ok(chained(alloc, first, more)?)
 }
 
@@ -200,7 +200,7 @@ fn inner(alloc: Global, reader: &mut Reader<'_>, depth: u8) -> Result<Expr, Read
 {
     let place = reader.expect(Mark::Open)?;
     let inside = expr(alloc, reader, depth)?;
-    reader.expect(Mark::Close)?;
+    let (inside, _) = beside(inside, reader.expect(Mark::Close))?;
     Ok(begun_at(place, inside))
 }
 

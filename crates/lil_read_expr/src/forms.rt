@@ -3,7 +3,7 @@ ghost use Rattle.lil_language.specs.declared.tree.Expr.TheVariants as e;
 ghost use Rattle.lil_language.specs.Grammar.{compared};
 ghost use Rattle.lil_language.specs.Trees as spec;
 
-use lil_base::{Boxed, Items, Memory, OneOp, Place};
+use lil_base::{Boxed, Items, Memory, OneOp, Place, beside};
 use lil_language::{Designator, Expr, Operation, Selector, first_place};
 use lil_text::{Ident, Qualident};
 use std::alloc::Global;
@@ -24,7 +24,7 @@ pub fn chained(alloc: Global, operand: Expr, operations: Items<Operation>) -> Re
 pub fn compared(alloc: Global, operand: Expr, comparison: Operation) -> Result<Expr, Memory>
     ensures { IfOk result (λ x. x ≡ compared operand (Some comparison)) }
 {
-    let operations = alone(alloc, comparison)?;
+    let (operand, operations) = beside(operand, alone(alloc, comparison))?;
     chained(alloc, operand, operations)
 }
 

@@ -4,7 +4,7 @@ ghost use Rattle.lil_language.specs.Grammar as spec;
 use crate::expression::expr;
 use crate::forms::alone;
 use crate::lookahead::sees_expression;
-use lil_base::Items;
+use lil_base::{Items, beside};
 use lil_grammar::Reader;
 use lil_language::{Expr, Range};
 use lil_text::{Mark, ReadStop};
@@ -17,8 +17,8 @@ fn element(alloc: Global, reader: &mut Reader<'_>, depth: u8) -> Result<Range, R
 {
     let low = expr(alloc, reader, depth)?;
     if reader.sees(Mark::Through) {
-        reader.expect(Mark::Through)?;
-        let high = expr(alloc, reader, depth)?;
+        let (low, _) = beside(low, reader.expect(Mark::Through))?;
+        let (low, high) = beside(low, expr(alloc, reader, depth))?;
         Ok(Range {
             low,
             high: Some(high),

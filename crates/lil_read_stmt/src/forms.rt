@@ -3,7 +3,7 @@ ghost use Rattle.lil_language.specs.Grammar as spec;
 
 use crate::lookahead::sees_arm;
 use crate::statement::statements;
-use lil_base::Items;
+use lil_base::{Items, beside};
 use lil_grammar::Reader;
 use lil_language::{Arm, Guard, Stmt};
 use lil_read_expr::{add_read, expr, labels};
@@ -17,8 +17,8 @@ fn guarded(alloc: Global, reader: &mut Reader<'_>, depth: u8) -> Result<Guard, R
     ensures { Reads (spec.reading depth spec.guarded reader.old) result reader.new }
 {
     let condition = expr(alloc, reader, depth)?;
-    reader.expect_word(Word::Then)?;
-    let body = statements(alloc, reader, depth)?;
+    let (condition, _) = beside(condition, reader.expect_word(Word::Then))?;
+    let (condition, body) = beside(condition, statements(alloc, reader, depth))?;
     Ok(Guard { condition, body })
 }
 
@@ -69,9 +69,9 @@ fn if_form(alloc: Global, reader: &mut Reader<'_>, depth: u8) -> Result<Stmt, Re
 {
     let place = reader.expect_word(Word::If)?;
     let guards = guards(alloc, reader, depth)?;
-    let otherwise = otherwise(alloc, reader, depth)?;
-    reader.expect_word(Word::End)?;
-    Ok(Stmt::If(place, guards, otherwise))
+    let (guards, otherwise) = beside(guards, otherwise(alloc, reader, depth))?;
+    let (held, _) = beside((guards, otherwise), reader.expect_word(Word::End))?;
+    Ok(Stmt::If(place, held.0, held.1))
 }
 
 /// Labels, and the statements behind their colon.
@@ -82,7 +82,7 @@ fn an_arm(alloc: Global, reader: &mut Reader<'_>, depth: u8) -> Result<Arm, Read
 {
     let labels = labels(alloc, reader, depth)?;
     reader.expect(Mark::Colon)?;
-    let body = statements(alloc, reader, depth)?;
+    let (labels, body) = beside(labels, statements(alloc, reader, depth))?;
     Ok(Arm { labels, body })
 }
 
@@ -128,10 +128,11 @@ fn case_form(alloc: Global, reader: &mut Reader<'_>, depth: u8) -> Result<Stmt, 
 {
     let place = reader.expect_word(Word::Case)?;
     let selector = expr(alloc, reader, depth)?;
-    reader.expect_word(Word::Of)?;
-    let arms = arms(alloc, reader, depth)?;
-    let otherwise = otherwise(alloc, reader, depth)?;
-    reader.expect_word(Word::End)?;
+    let (selector, _) = beside(selector, reader.expect_word(Word::Of))?;
+    let (selector, arms) = beside(selector, arms(alloc, reader, depth))?;
+    let (held, otherwise) = beside((selector, arms), otherwise(alloc, reader, depth))?;
+    let (held, _) = beside((held, otherwise), reader.expect_word(Word::End))?;
+    let ((selector, arms), otherwise) = held;
     Ok(Stmt::Case(place, selector, arms, otherwise))
 }
 

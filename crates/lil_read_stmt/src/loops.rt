@@ -2,6 +2,7 @@ ghost use Rattle.lil_grammar.specs.Steps.{Reads};
 ghost use Rattle.lil_language.specs.Grammar as spec;
 
 use crate::statement::statements;
+use lil_base::beside;
 use lil_grammar::Reader;
 use lil_language::{Expr, ForHead, Stmt};
 use lil_read_expr::expr;
@@ -16,10 +17,10 @@ fn while_form(alloc: Global, reader: &mut Reader<'_>, depth: u8) -> Result<Stmt,
 {
     let place = reader.expect_word(Word::While)?;
     let condition = expr(alloc, reader, depth)?;
-    reader.expect_word(Word::Do)?;
-    let body = statements(alloc, reader, depth)?;
-    reader.expect_word(Word::End)?;
-    Ok(Stmt::While(place, condition, body))
+    let (condition, _) = beside(condition, reader.expect_word(Word::Do))?;
+    let (condition, body) = beside(condition, statements(alloc, reader, depth))?;
+    let (held, _) = beside((condition, body), reader.expect_word(Word::End))?;
+    Ok(Stmt::While(place, held.0, held.1))
 }
 
 /// REPEAT up to the condition behind its UNTIL.
@@ -67,11 +68,12 @@ fn a_for_head(alloc: Global, reader: &mut Reader<'_>, depth: u8) -> Result<ForHe
     ensures { Reads (spec.reading depth spec.a_for_head reader.old) result reader.new }
 {
     let variable = reader.ident(alloc)?;
-    let becomes = reader.expect(Mark::Becomes)?;
-    let from = expr(alloc, reader, depth)?;
-    reader.expect_word(Word::To)?;
-    let to = expr(alloc, reader, depth)?;
-    let by = step(alloc, reader, depth)?;
+    let (named, becomes) = beside(variable, reader.expect(Mark::Becomes))?;
+    let (named, from) = beside(named, expr(alloc, reader, depth))?;
+    let (begun, _) = beside((named, from), reader.expect_word(Word::To))?;
+    let (begun, to) = beside(begun, expr(alloc, reader, depth))?;
+    let (bounded, by) = beside((begun, to), step(alloc, reader, depth))?;
+    let ((variable, from), to) = bounded;
     Ok(ForHead {
         variable,
         becomes,
@@ -89,10 +91,10 @@ fn for_form(alloc: Global, reader: &mut Reader<'_>, depth: u8) -> Result<Stmt, R
 {
     let place = reader.expect_word(Word::For)?;
     let head = a_for_head(alloc, reader, depth)?;
-    reader.expect_word(Word::Do)?;
-    let body = statements(alloc, reader, depth)?;
-    reader.expect_word(Word::End)?;
-    Ok(Stmt::For(place, head, body))
+    let (head, _) = beside(head, reader.expect_word(Word::Do))?;
+    let (head, body) = beside(head, statements(alloc, reader, depth))?;
+    let (held, _) = beside((head, body), reader.expect_word(Word::End))?;
+    Ok(Stmt::For(place, held.0, held.1))
 }
 
 /// WHILE, REPEAT, LOOP or FOR.

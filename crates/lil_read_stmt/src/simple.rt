@@ -1,7 +1,7 @@
 ghost use Rattle.lil_grammar.specs.Steps.{Reads};
 ghost use Rattle.lil_language.specs.Grammar as spec;
 
-use lil_base::Items;
+use lil_base::{Items, beside};
 use lil_grammar::Reader;
 use lil_language::Stmt;
 use lil_read_expr::{actuals, designator, expr, sees_expression};
@@ -38,11 +38,11 @@ pub fn named_form(alloc: Global, reader: &mut Reader<'_>, depth: u8) -> Result<S
 {
     let designator = designator(alloc, reader, depth)?;
     if reader.sees(Mark::Becomes) {
-        let place = reader.expect(Mark::Becomes)?;
-        let value = expr(alloc, reader, depth)?;
+        let (designator, place) = beside(designator, reader.expect(Mark::Becomes))?;
+        let (designator, value) = beside(designator, expr(alloc, reader, depth))?;
         Ok(Stmt::Assign(designator, place, value))
     } else if reader.sees(Mark::Open) {
-        let arguments = actuals(alloc, reader, depth)?;
+        let (designator, arguments) = beside(designator, actuals(alloc, reader, depth))?;
         Ok(Stmt::Call(designator, arguments))
     } else {
         Ok(Stmt::Call(designator, Items::new(alloc)))

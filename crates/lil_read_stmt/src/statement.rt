@@ -6,7 +6,7 @@ use crate::forms::choice_form;
 use crate::lookahead::{deep_form, sees_choice, sees_loop, sees_other_word, sees_statement};
 use crate::loops::loops_form;
 use crate::simple::{exit_form, named_form, return_form};
-use lil_base::Items;
+use lil_base::{Items, beside};
 use lil_grammar::Reader;
 use lil_language::Stmt;
 use lil_read_expr::{add_read, designator};
@@ -103,8 +103,8 @@ fn with_form(alloc: Global, reader: &mut Reader<'_>, depth: u8) -> Result<Stmt, 
 {
     let place = reader.expect_word(Word::With)?;
     let record = designator(alloc, reader, depth)?;
-    reader.expect_word(Word::Do)?;
-    let body = statements(alloc, reader, depth)?;
-    reader.expect_word(Word::End)?;
-    Ok(Stmt::With(place, record, body))
+    let (record, _) = beside(record, reader.expect_word(Word::Do))?;
+    let (record, body) = beside(record, statements(alloc, reader, depth))?;
+    let (held, _) = beside((record, body), reader.expect_word(Word::End))?;
+    Ok(Stmt::With(place, held.0, held.1))
 }

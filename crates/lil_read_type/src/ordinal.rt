@@ -3,7 +3,7 @@ ghost use Rattle.lil_grammar.specs.Steps.{Reads};
 ghost use Rattle.lil_language.specs.Grammar as spec;
 ghost use Rattle.lil_language.specs.Trees as tree;
 
-use lil_base::{Items, Place};
+use lil_base::{Items, Place, beside};
 use lil_grammar::Reader;
 use lil_language::{Expr, Simple};
 use lil_read_expr::{expr, names, qualident};
@@ -31,9 +31,9 @@ fn bounds(
 {
     let place = reader.expect(Mark::OpenBracket)?;
     let low = expr(alloc, reader, depth)?;
-    reader.expect(Mark::Through)?;
-    let high = expr(alloc, reader, depth)?;
-    reader.expect(Mark::CloseBracket)?;
+    let (low, _) = beside(low, reader.expect(Mark::Through))?;
+    let (low, high) = beside(low, expr(alloc, reader, depth))?;
+    let ((low, high), _) = beside((low, high), reader.expect(Mark::CloseBracket))?;
     Ok((place, low, high))
 }
 
@@ -45,7 +45,7 @@ fn named_type(alloc: Global, reader: &mut Reader<'_>, depth: u8) -> Result<Simpl
     let name = qualident(alloc, reader, depth)?;
     if reader.sees(Mark::OpenBracket) {
         let place = qualident_place(&name);
-        let (_, low, high) = bounds(alloc, reader, depth)?;
+        let (name, (_, low, high)) = beside(name, bounds(alloc, reader, depth))?;
         Ok(Simple::Subrange(place, Some(name), low, high))
     } else {
         Ok(Simple::Named(name))

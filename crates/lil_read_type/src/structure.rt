@@ -7,7 +7,7 @@ ghost use Rattle.lil_language.specs.Grammar as spec;
 use crate::lookahead::{sees_fields, sees_sort, sees_structured};
 use crate::ordinal::{simple, simples};
 use crate::parameter::formal_part;
-use lil_base::{Boxed, Items};
+use lil_base::{Boxed, Items, beside};
 use lil_grammar::{Reader, nested, syntax};
 use lil_language::{FieldList, Sort, Variant};
 use lil_read_expr::{add_read, labels, names, qualident, sees_expression};
@@ -86,8 +86,8 @@ fn array(alloc: Global, reader: &mut Reader<'_>, depth: u8) -> Result<Sort, Read
     let place = reader.expect_word(Word::Array)?;
     let indices = simples(alloc, reader, depth)?;
     reader.expect_word(Word::Of)?;
-    let element = sort(alloc, reader, depth)?;
-    let element = Boxed::new(alloc, element)?;
+    let (indices, element) = beside(indices, sort(alloc, reader, depth))?;
+    let (indices, element) = beside(indices, Boxed::new(alloc, element))?;
     Ok(Sort::ArrayOf(place, indices, element))
 }
 
@@ -213,7 +213,7 @@ fn field_row(alloc: Global, reader: &mut Reader<'_>, depth: u8) -> Result<FieldL
 {
     let names = names(alloc, reader, depth)?;
     reader.expect(Mark::Colon)?;
-    let sort = sort(alloc, reader, depth)?;
+    let (names, sort) = beside(names, sort(alloc, reader, depth))?;
     Ok(FieldList::Fields(names, sort))
 }
 
@@ -224,7 +224,7 @@ fn a_variant(alloc: Global, reader: &mut Reader<'_>, depth: u8) -> Result<Varian
 {
     let labels = labels(alloc, reader, depth)?;
     reader.expect(Mark::Colon)?;
-    let fields = fields(alloc, reader, depth)?;
+    let (labels, fields) = beside(labels, fields(alloc, reader, depth))?;
     Ok(Variant { labels, fields })
 }
 
@@ -305,12 +305,12 @@ fn named_tag(
 {
     let first = reader.ident(alloc)?;
     if reader.sees(Mark::Colon) {
-        reader.expect(Mark::Colon)?;
-        let sort = qualident(alloc, reader, depth)?;
+        let (first, _) = beside(first, reader.expect(Mark::Colon))?;
+        let (first, sort) = beside(first, qualident(alloc, reader, depth))?;
         Ok((Some(first), sort))
     } else if reader.sees(Mark::Dot) {
-        reader.expect(Mark::Dot)?;
-        let name = reader.ident(alloc)?;
+        let (first, _) = beside(first, reader.expect(Mark::Dot))?;
+        let (first, name) = beside(first, reader.ident(alloc))?;
         let owner = Some(first);
         Ok((None, Qualident { owner, name }))
     } else {
@@ -341,10 +341,11 @@ fn field_variants(alloc: Global, reader: &mut Reader<'_>, depth: u8) -> Result<F
     ensures { Reads (spec.reading depth spec.field_variants reader.old) result reader.new }
 {
     let place = reader.expect_word(Word::Case)?;
-    let (name, sort) = tag(alloc, reader, depth)?;
-    reader.expect_word(Word::Of)?;
-    let variants = variants(alloc, reader, depth)?;
-    let others = other_fields(alloc, reader, depth)?;
-    reader.expect_word(Word::End)?;
+    let tag = tag(alloc, reader, depth)?;
+    let (tag, _) = beside(tag, reader.expect_word(Word::Of))?;
+    let (tag, variants) = beside(tag, variants(alloc, reader, depth))?;
+    let ((tag, variants), others) = beside((tag, variants), other_fields(alloc, reader, depth))?;
+    let (held, _) = beside((tag, variants, others), reader.expect_word(Word::End))?;
+    let ((name, sort), variants, others) = held;
     Ok(FieldList::Variants(place, name, sort, variants, others))
 }

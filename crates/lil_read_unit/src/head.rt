@@ -5,7 +5,7 @@ ghost use Rattle.lil_grammar.specs.Steps.{Reads};
 ghost use Rattle.lil_syntax.specs.Terminals.{Kind as k, among};
 ghost use Rattle.lil_language.specs.Grammar as spec;
 
-use lil_base::Items;
+use lil_base::{Items, beside};
 use lil_grammar::Reader;
 use lil_language::{Head, Import, UnitKind};
 use lil_read_expr::names;
@@ -19,9 +19,9 @@ fn import_from(alloc: Global, reader: &mut Reader<'_>, depth: u8) -> Result<Impo
 {
     let place = reader.expect_word(Word::From)?;
     let from = reader.ident(alloc)?;
-    reader.expect_word(Word::Import)?;
-    let names = names(alloc, reader, depth)?;
-    reader.expect(Mark::Semicolon)?;
+    let (from, _) = beside(from, reader.expect_word(Word::Import))?;
+    let (from, names) = beside(from, names(alloc, reader, depth))?;
+    let ((from, names), _) = beside((from, names), reader.expect(Mark::Semicolon))?;
     Ok(Import {
         place,
         from: Some(from),
@@ -117,9 +117,9 @@ pub fn definition_head(alloc: Global, reader: &mut Reader<'_>, depth: u8) -> Res
     let place = reader.expect_word(Word::Definition)?;
     reader.expect_word(Word::Module)?;
     let name = reader.ident(alloc)?;
-    reader.expect(Mark::Semicolon)?;
-    let imports = imports(alloc, reader, depth)?;
-    let exports = exports(alloc, reader, depth)?;
+    let (name, _) = beside(name, reader.expect(Mark::Semicolon))?;
+    let (name, imports) = beside(name, imports(alloc, reader, depth))?;
+    let ((name, imports), exports) = beside((name, imports), exports(alloc, reader, depth))?;
     Ok(Head {
         place,
         kind: UnitKind::Definition,
@@ -137,8 +137,8 @@ fn implementation_head(alloc: Global, reader: &mut Reader<'_>, depth: u8) -> Res
     let place = reader.expect_word(Word::Implementation)?;
     reader.expect_word(Word::Module)?;
     let name = reader.ident(alloc)?;
-    reader.expect(Mark::Semicolon)?;
-    let imports = imports(alloc, reader, depth)?;
+    let (name, _) = beside(name, reader.expect(Mark::Semicolon))?;
+    let (name, imports) = beside(name, imports(alloc, reader, depth))?;
     Ok(Head {
         place,
         kind: UnitKind::Implementation,
@@ -155,8 +155,8 @@ fn program_head(alloc: Global, reader: &mut Reader<'_>, depth: u8) -> Result<Hea
 {
     let place = reader.expect_word(Word::Module)?;
     let name = reader.ident(alloc)?;
-    reader.expect(Mark::Semicolon)?;
-    let imports = imports(alloc, reader, depth)?;
+    let (name, _) = beside(name, reader.expect(Mark::Semicolon))?;
+    let (name, imports) = beside(name, imports(alloc, reader, depth))?;
     Ok(Head {
         place,
         kind: UnitKind::Program,

@@ -6,7 +6,7 @@ ghost use Rattle.lil_language.specs.Units.{IsRightUnit, HasUnitFault};
 
 use crate::ends::wrong_end;
 use crate::units::text;
-use lil_base::{FaultKind, SourceFault};
+use lil_base::{FaultKind, SourceFault, beside};
 use lil_grammar::Reader;
 use lil_language::Unit;
 use lil_text::{ReadStop, Tokens};
@@ -20,10 +20,12 @@ fn with_ends(read: Result<Unit, ReadStop>) -> Result<Unit, ReadStop>
     ensures { result ≡ settled read }
 {
     let unit = read?;
-    match wrong_end(&unit) {
-        None => Ok(unit),
+    let right = match wrong_end(&unit) {
+        None => Ok(()),
         Some(place) => Err(ReadStop::Fault(SourceFault::at(FaultKind::EndName, place))),
-    }
+    };
+    let (unit, ()) = beside(unit, right)?;
+    Ok(unit)
 }
 
 /// The unit that the tokens of a text are (Programming in Modula-2, Compilation units), or its fault: 10 at the first token

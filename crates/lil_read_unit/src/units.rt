@@ -2,7 +2,7 @@ ghost use Rattle.lil_grammar.specs.Steps.{Reads};
 ghost use Rattle.lil_language.specs.Grammar as spec;
 
 use crate::head::{definition_head, module_head};
-use lil_base::Items;
+use lil_base::{Items, beside};
 use lil_grammar::Reader;
 use lil_language::Unit;
 use lil_read_decl::{block, definition_decls};
@@ -21,10 +21,11 @@ fn definition(
     ensures { Reads (spec.reading depth (spec.definition weight) reader.old) result reader.new }
 {
     let head = definition_head(alloc, reader, depth)?;
-    let decls = definition_decls(alloc, reader, depth)?;
-    reader.expect_word(Word::End)?;
-    let end = reader.ident(alloc)?;
-    reader.expect(Mark::Dot)?;
+    let (head, decls) = beside(head, definition_decls(alloc, reader, depth))?;
+    let (held, _) = beside((head, decls), reader.expect_word(Word::End))?;
+    let (held, end) = beside(held, reader.ident(alloc))?;
+    let ((held, end), _) = beside((held, end), reader.expect(Mark::Dot))?;
+    let (head, decls) = held;
     Ok(Unit {
         head,
         decls,
@@ -45,9 +46,10 @@ fn other_unit(
     ensures { Reads (spec.reading depth (spec.other_unit weight) reader.old) result reader.new }
 {
     let head = module_head(alloc, reader, depth)?;
-    let (decls, body) = block(alloc, reader, depth)?;
-    let end = reader.ident(alloc)?;
-    reader.expect(Mark::Dot)?;
+    let (head, parts) = beside(head, block(alloc, reader, depth))?;
+    let (held, end) = beside((head, parts), reader.ident(alloc))?;
+    let ((held, end), _) = beside((held, end), reader.expect(Mark::Dot))?;
+    let (head, (decls, body)) = held;
     Ok(Unit {
         head,
         decls,
@@ -85,6 +87,6 @@ pub fn text(
     ensures { Reads (spec.reading depth (spec.text weight) reader.old) result reader.new }
 {
     let unit = some_unit(alloc, reader, depth, weight)?;
-    finish(reader)?;
+    let (unit, _) = beside(unit, finish(reader))?;
     Ok(unit)
 }

@@ -6,7 +6,7 @@ use lil_base::{FaultKind, Place};
 use std::marker::Model;
 
 /// What is wrong at a place.
-#[derive(Clone, Copy, Debug, PartialEq, Eq)]
+#[derive(Clone, Copy, PartialEq, Eq)]
 pub struct Fault {
     pub place: Place,
     pub kind: FaultKind,

@@ -2,8 +2,6 @@
 #![tactic(auto)]
 
 mod resolved;
-#[cfg(test)]
-mod tests;
 
 pub use lil_base::{OneOp, TwoOp};
 pub use resolved::{

@@ -10,7 +10,7 @@ use lil_base::{Boxed, Items, Name};
 
 /// What values are: numbers of a type of whole numbers, truth values, characters, or the constants of an enumeration
 /// with so many of them.
-#[derive(Clone, Copy, Debug, PartialEq, Eq)]
+#[derive(Clone, Copy, PartialEq, Eq)]
 pub enum RBase {
     Cardinal,
     Integer,
@@ -20,28 +20,28 @@ pub enum RBase {
 }
 
 /// The numbers of a subrange, its ends included.
-#[derive(Clone, Copy, Debug, PartialEq, Eq)]
+#[derive(Clone, Copy, PartialEq, Eq)]
 pub struct RRange {
     pub low: i32,
     pub high: i32,
 }
 
 /// The kind of a variable: what its values are, and their range where it is a subrange.
-#[derive(Clone, Copy, Debug, PartialEq, Eq)]
+#[derive(Clone, Copy, PartialEq, Eq)]
 pub struct RKind {
     pub base: RBase,
     pub range: Option<RRange>,
 }
 
 /// A variable of the module: its number, and its kind.
-#[derive(Clone, Copy, Debug, PartialEq, Eq)]
+#[derive(Clone, Copy)]
 pub struct RVariable {
     pub number: u16,
     pub kind: RKind,
 }
 
 /// A standard function of one value. VAL has the kind of which its value is.
-#[derive(Clone, Copy, Debug, PartialEq, Eq)]
+#[derive(Clone, Copy)]
 pub enum RFunction {
     Abs,
     Cap,
@@ -52,7 +52,7 @@ pub enum RFunction {
 }
 
 /// A procedure of a resident module that takes words alone (Medos-2, Terminal and InOut).
-#[derive(Clone, Copy, Debug, PartialEq, Eq)]
+#[derive(Clone, Copy, PartialEq, Eq)]
 pub enum RRequest {
     Write,
     WriteLn,
@@ -63,7 +63,7 @@ pub enum RRequest {
 }
 
 /// Whether a variable's number grows, by INC, or falls, by DEC.
-#[derive(Clone, Copy, Debug, PartialEq, Eq)]
+#[derive(Clone, Copy, PartialEq, Eq)]
 pub enum Direction {
     Up,
     Down,
@@ -132,7 +132,7 @@ pub struct RArm {
 }
 
 /// Labels: the numbers of all values from one to another.
-#[derive(Clone, Copy, Debug, PartialEq, Eq)]
+#[derive(Clone, Copy)]
 pub struct RLabel {
     pub low: i32,
     pub high: i32,

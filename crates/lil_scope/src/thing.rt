@@ -3,7 +3,7 @@ use lil_module::{Mode, Resident, Standard};
 use lil_types::TypeId;
 
 /// A text between two marks: how many characters it has, and its first one, 0 where it has none.
-#[derive(Clone, Copy, Debug, PartialEq, Eq)]
+#[derive(Clone, Copy)]
 pub struct Chars {
     pub length: usize,
     pub first: u8,
@@ -12,7 +12,7 @@ pub struct Chars {
 /// What is known of an operand: a whole constant, which has no type; a constant of an ordinal or set type, by its word;
 /// a text; NIL; a value of a type; an open array as a whole, by the type of its elements; or a procedure itself, by its
 /// procedure type.
-#[derive(Clone, Copy, Debug, PartialEq, Eq)]
+#[derive(Clone, Copy)]
 pub enum Kind {
     Whole(i32),
     Scalar(TypeId, u16),
@@ -25,7 +25,7 @@ pub enum Kind {
 
 /// A variable: its number among all variables of the module, the level of the block that declares it, 1 for that of
 /// the module, and its type, or that of its elements where it is an open array.
-#[derive(Clone, Copy, Debug, PartialEq, Eq)]
+#[derive(Clone, Copy)]
 pub struct Variable {
     pub number: usize,
     pub level: usize,
@@ -35,7 +35,7 @@ pub struct Variable {
 
 /// A procedure: its number in the order of headings, the number of its block, the level of the block that declares
 /// it, and its procedure type.
-#[derive(Clone, Copy, Debug, PartialEq, Eq)]
+#[derive(Clone, Copy)]
 pub struct Routine {
     pub number: usize,
     pub block: usize,
@@ -46,7 +46,7 @@ pub struct Routine {
 /// What a name stands for. The constant of a text has the text's number. A resident procedure has its procedure type, and
 /// a module the number of the block of its names. A name that a definition declares and doesn't export is
 /// hidden, and one whose declaration has a fault is broken.
-#[derive(Clone, Copy, Debug, PartialEq, Eq)]
+#[derive(Clone, Copy)]
 pub enum Thing {
     Constant(Kind),
     Named(usize, Chars),
@@ -62,7 +62,7 @@ pub enum Thing {
 }
 
 /// What a name of a block stands for, and where it is bound.
-#[derive(Clone, Copy, Debug, PartialEq, Eq)]
+#[derive(Clone, Copy)]
 pub struct Entry {
     pub thing: Thing,
     pub place: Place,

@@ -1,5 +1,5 @@
 /// How a program is run.
-#[derive(Clone, Copy, Debug, PartialEq, Eq)]
+#[derive(Clone, Copy, PartialEq, Eq)]
 pub struct Options {
     /// The most instructions that it may take.
     pub steps: u64,

@@ -25,7 +25,7 @@ use lil_volume::{Sink, SinkFailed};
 use std::alloc::Global;
 
 /// How a run of the machine ended.
-#[derive(Clone, Copy, Debug, PartialEq, Eq)]
+#[derive(Clone, Copy, PartialEq, Eq)]
 pub(crate) enum Ending {
     Done,
     Trapped(TrapKind),

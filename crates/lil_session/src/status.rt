@@ -1,7 +1,7 @@
 use lil_base::{CodePlace, FileName, LimitKind, LoadRefusal, SourceFault, TrapAt};
 
 /// The answer of a command.
-#[derive(Debug, Drop)]
+#[derive(Drop)]
 pub enum Status {
     /// The command was done, and a program came to its end.
     Done,

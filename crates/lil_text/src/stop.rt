@@ -4,7 +4,7 @@ ghost use Rattle.lil_text.specs.declared.stop.ReadStop.TheVariants as why;
 use lil_base::{Memory, SourceFault};
 
 /// Why reading a text stopped: its fault, or want of memory.
-#[derive(Debug, Drop)]
+#[derive(Drop)]
 pub enum ReadStop {
     Fault(SourceFault),
     Memory,

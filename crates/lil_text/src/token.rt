@@ -76,7 +76,7 @@ pub enum Mark {
 
 /// What a token is (Programming in Modula-2, Representation). A string has the bytes between its marks.
 /// Finish stands behind the last token of a text.
-#[derive(Debug, Drop)]
+#[derive(Drop)]
 pub enum TokenKind {
     Word(Word),
     Ident(Name),
@@ -88,7 +88,7 @@ pub enum TokenKind {
 }
 
 /// A token, and the place of its first byte.
-#[derive(Debug, Drop)]
+#[derive(Drop)]
 pub struct Token {
     pub what: TokenKind,
     pub place: Place,

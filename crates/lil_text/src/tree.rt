@@ -1,14 +1,14 @@
 use lil_base::{Name, Place};
 
 /// A name where it stands.
-#[derive(Debug, Drop)]
+#[derive(Drop)]
 pub struct Ident {
     pub place: Place,
     pub name: Name,
 }
 
 /// A name, with its module's name before it where one stands there.
-#[derive(Debug, Drop)]
+#[derive(Drop)]
 pub struct Qualident {
     pub owner: Option<Ident>,
     pub name: Ident,

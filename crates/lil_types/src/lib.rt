@@ -5,8 +5,6 @@ mod adding;
 mod folding;
 mod relations;
 mod table;
-#[cfg(test)]
-mod tests;
 
 pub use adding::add;
 pub use folding::{fold_one, fold_two};

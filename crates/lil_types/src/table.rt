@@ -26,28 +26,28 @@ pub const CHAR: TypeId = 3;
 pub const BITSET: TypeId = 4;
 
 /// The module to which a type belongs, 0 for the unit's own, and its number there.
-#[derive(Clone, Copy, Debug, PartialEq, Eq)]
+#[derive(Clone, Copy, PartialEq, Eq)]
 pub struct Origin {
     pub module: u8,
     pub number: TypeId,
 }
 
 /// The numbers of an ordinal type's values, from one to another.
-#[derive(Clone, Copy, Debug, PartialEq, Eq)]
+#[derive(Clone, Copy, PartialEq, Eq)]
 pub struct Span {
     pub low: i32,
     pub high: i32,
 }
 
 /// A field of a record.
-#[derive(Debug, Drop)]
+#[derive(Drop)]
 pub struct Field {
     pub name: Name,
     pub sort: TypeId,
 }
 
 /// A parameter of a procedure type.
-#[derive(Clone, Copy, Debug, PartialEq, Eq)]
+#[derive(Clone, Copy, PartialEq, Eq)]
 pub struct Parameter {
     pub by_place: bool,
     pub open_array: bool,
@@ -70,7 +70,7 @@ pub enum TypeForm {
 
 /// What is often asked of a type: the type below all subranges, the words of a variable, and of an ordinal type its
 /// values.
-#[derive(Clone, Copy, Debug, PartialEq, Eq)]
+#[derive(Clone, Copy, PartialEq, Eq)]
 pub struct Facts {
     pub base: TypeId,
     pub words: u32,
@@ -182,7 +182,7 @@ impl TypeTable {
 }
 
 /// A constant: a whole number of no type, a value of an ordinal or set type by its word, or a string.
-#[derive(Debug, Drop)]
+#[derive(Drop)]
 pub enum Const {
     Whole(i32),
     Scalar(TypeId, u16),
@@ -190,7 +190,7 @@ pub enum Const {
 }
 
 /// Why an operation on constants has no result: its fault's number.
-#[derive(Clone, Copy, Debug, PartialEq, Eq)]
+#[derive(Clone, Copy, PartialEq, Eq)]
 pub enum FoldStop {
     Fault(u8),
 }

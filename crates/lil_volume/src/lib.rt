@@ -8,8 +8,6 @@ mod ram_sink;
 mod ram_volume;
 mod schedule;
 mod streams;
-#[cfg(test)]
-mod tests;
 
 pub use folder::FolderVolume;
 pub use outside::{KeyFailed, Keyboard, Sink, SinkFailed, Volume, VolumeError};

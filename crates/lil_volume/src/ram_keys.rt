@@ -8,7 +8,7 @@ use lil_base::{Bytes, Memory};
 use std::alloc::Global;
 
 /// A keyboard in memory. It fails at the calls that it was told to fail at, and at no other.
-#[derive(Debug, Drop)]
+#[derive(Drop)]
 pub struct RamKeys {
     left: Bytes,
     schedule: Schedule,

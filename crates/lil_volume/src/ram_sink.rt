@@ -8,7 +8,7 @@ use std::alloc::Global;
 
 /// A sink in memory. It fails at the calls that it was told to fail at, and where memory is wanted.
 /// A piece whose call fails isn't written at all.
-#[derive(Debug, Drop)]
+#[derive(Drop)]
 pub struct RamSink {
     written: Bytes,
     schedule: Schedule,

@@ -13,7 +13,7 @@ use std::alloc::Global;
 
 /// A volume in memory. Of two entries with the same name the first counts. It fails at the calls
 /// that it was told to fail at, and at no other; any call may want memory.
-#[derive(Debug, Drop)]
+#[derive(Drop)]
 pub struct RamVolume {
     entries: Vec<(FileName, Bytes)>,
     schedule: Schedule,

@@ -3,7 +3,7 @@ ghost use Rattle.lil_volume.specs.Causes.{next_count, Counted};
 
 /// When an object in memory fails: the numbers, from 1, of the calls that fail, the calls so far
 /// and the faults so far. Both counts stop at the greatest u64.
-#[derive(Debug, Drop)]
+#[derive(Drop)]
 pub(crate) struct Schedule {
     pub(crate) failing: Vec<u64>,
     pub(crate) calls: u64,

@@ -39,7 +39,7 @@ indexed-loop-one-init t c = said_value refl
 
 pub indexed-loop-one-preserved : goal.indexed-loop-one-preserved
 indexed-loop-one-preserved t c = said_more (index_means c.args.env.now c.args.bracket) _ c.args.indexes.now c.loop-one.one-index c.one-item.result c.loop-one-test.true (search rules) c.loop-one.invariant
-    (is_indexed c.args.env.now c.args.bracket c.one-item.result c.loop-one.of c.in_ok-index.ensures c.in_ok-of.ensures)
+    (is_indexed c.args.env.now c.args.bracket c.one-item.result c.loop-one.of c.in_ok-before.ensures.ok c.expression.ensures c.in_ok-of.ensures)
 
 pub indexed-returns : goal.indexed-returns
 indexed-returns t c = said_all (index_means c.args.env.now c.args.bracket) _ c.args.indexes.now c.loop-one.one-index (omega arith) c.loop-one.invariant
@@ -49,7 +49,7 @@ operated-loop-one-init t c = said_value refl
 
 pub operated-loop-one-preserved : goal.operated-loop-one-preserved
 operated-loop-one-preserved t c = said_more (operation_means c.args.env.now c.args.first) _ c.args.operations.now c.loop-one.one-index c.one-item.result c.loop-one-test.true (search rules) c.loop-one.invariant
-    (is_operated c.args.env.now c.args.first c.one-item.result c.loop-one.of c.in_ok-operand.ensures c.in_ok-of.ensures)
+    (is_operated c.args.env.now c.args.first c.one-item.result c.loop-one.of c.in_ok-before.ensures.ok c.expression.ensures c.in_ok-of.ensures)
 
 pub operated-returns : goal.operated-returns
 operated-returns t c = said_all (operation_means c.args.env.now c.args.first) _ c.args.operations.now c.loop-one.one-index (omega arith) c.loop-one.invariant
@@ -73,7 +73,7 @@ pub expression-returns-in_ok-of-in-Desig : goal.expression-returns-in_ok-of-in-D
 expression-returns-in_ok-of-in-Desig t c = is_desig c.args.env.now _ c.in-Desig.is c.in_ok-of-in-Desig.ensures c.value_node.ensures
 
 pub expression-returns-in_ok-value-in-Call : goal.expression-returns-in_ok-value-in-Call
-expression-returns-in_ok-value-in-Call t c = is_call c.args.env.now _ c.as_slice-in-Call.result.now (search rules) refl c.in_ok-of-in-Call.ensures c.callee_node-callee.ensures c.asks-asked.ensures c.in_ok-all-in-Call.ensures c.in_ok-value-in-Call.ensures c.begun_at.ensures
+expression-returns-in_ok-value-in-Call t c = is_call c.args.env.now _ c.as_slice-in-Call.result.now (search rules) refl c.in_ok-of-in-Call.ensures c.callee_node-callee.ensures c.asks-asked.ensures c.in_ok-callee-in-Call.ensures.ok c.all_arguments-all.ensures c.in_ok-value-in-Call.ensures c.begun_at.ensures
 
 pub expression-returns-in_ok-value-in-One : goal.expression-returns-in_ok-value-in-One
 expression-returns-in_ok-value-in-One t c = is_one c.args.env.now c.get.result.now (search rules) c.in_ok-a-in-One.ensures c.in_ok-value-in-One.ensures
@@ -82,10 +82,10 @@ pub expression-returns-in_ok-value-in-Chain : goal.expression-returns-in_ok-valu
 expression-returns-in_ok-value-in-Chain t c = is_chain c.args.env.now c.get-in-Chain.result.now c.as_slice-in-Chain.result.now (search rules) c.in_ok-a-in-Chain.ensures c.begun-begin.ensures c.in_ok-chain-in-Chain.ensures c.in_ok-value-in-Chain.ensures
 
 pub joined-returns-in_ok-all-in-None : goal.joined-returns-in_ok-all-in-None
-joined-returns-in_ok-all-in-None t c = is_alone c.args.env.now c.args.element.now c.args.of c.in-None.is c.in_ok-low.ensures c.in_ok-all-in-None.ensures
+joined-returns-in_ok-all-in-None t c = is_alone c.args.env.now c.args.element.now c.args.of c.in-None.is c.in_ok-of.ensures.ok c.expression.ensures c.in_ok-all-in-None.ensures
 
 pub joined-returns-in_ok-all-in-Some : goal.joined-returns-in_ok-all-in-Some
-joined-returns-in_ok-all-in-Some t c = is_range c.args.env.now c.args.element.now c.in-Some.high c.args.of c.in-Some.is c.in_ok-low.ensures c.in_ok-high-in-Some.ensures c.in_ok-all-in-Some.ensures
+joined-returns-in_ok-all-in-Some t c = is_range c.args.env.now c.args.element.now c.in-Some.high c.args.of c.expression.new.report c.in-Some.is c.in_ok-of.ensures.ok c.expression.ensures c.in_ok-before-in-Some.ensures.ok c.expression-in-Some.ensures c.in_ok-all-in-Some.ensures
 
 pub reached-returns : goal.reached-returns
 reached-returns t c = is_reached c.args.env.now c.args.first c.args.of.now c.as_slice.result.now c.as_slice.ensures c.root-begin.ensures c.in_ok-found.ensures

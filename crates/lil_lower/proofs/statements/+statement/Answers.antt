@@ -67,30 +67,30 @@ statement-returns-in_default t c =
     let a = c.in-Case in
     sym (ap (λ x. spec.statement c.args.m.now x c.args.looping) a.is ∙ case_none c.args.m.now c.args.looping a.of a.arms a.other (sym c.selector.ensures ∙ c.in_default.is))
 
-pub statement-returns-in-None-other : goal.statement-returns-in-None-other
-statement-returns-in-None-other t c =
+pub statement-returns-in_ok-of-in-None-other : goal.statement-returns-in_ok-of-in-None-other
+statement-returns-in_ok-of-in-None-other t c =
     let a = c.in-Case in
     let m = c.args.m.now in
     let looping = c.args.looping in
     let by = c.in-Some-selector.by in
     let is : c.args.of.now ≡ v.Case a.of a.arms None = a.is ∙ ap (v.Case a.of a.arms) c.in-None-other.is in
     let own : spec.selector m a.of ≡ Some by = search rules in
-    let of : option_map view.expression_of c.in_ok-of-in-Case.of ≡ spec.value m a.of by.sort = search rules in
+    let of : option_map view.expression_of c.in_ok-of-in-None-other.of ≡ spec.value m a.of by.sort = search rules in
     let arms : option_map (map parts.arm_pair) c.in_ok-arms-in-Case.arms ≡ spec.all_some (map (λ b. spec.arm m b looping by.base) a.arms) = search rules in
     c.selected.ensures
     ∙ (λ j. spec.selected (of j) (arms j) (Some NoElse))
     ∙ sym (case_without m looping by a.of a.arms own)
     ∙ ap (λ x. spec.statement m x looping) (sym is)
 
-pub statement-returns-in_ok-other-in-Some-other : goal.statement-returns-in_ok-other-in-Some-other
-statement-returns-in_ok-other-in-Some-other t c =
+pub statement-returns-in_ok-of-in-Some-other : goal.statement-returns-in_ok-of-in-Some-other
+statement-returns-in_ok-of-in-Some-other t c =
     let a = c.in-Case in
     let m = c.args.m.now in
     let looping = c.args.looping in
     let by = c.in-Some-selector.by in
     let is : c.args.of.now ≡ v.Case a.of a.arms (Some c.in-Some-other.other) = a.is ∙ ap (v.Case a.of a.arms) c.in-Some-other.is in
     let own : spec.selector m a.of ≡ Some by = search rules in
-    let of : option_map view.expression_of c.in_ok-of-in-Case.of ≡ spec.value m a.of by.sort = search rules in
+    let of : option_map view.expression_of c.in_ok-of-in-Some-other.of ≡ spec.value m a.of by.sort = search rules in
     let arms : option_map (map parts.arm_pair) c.in_ok-arms-in-Case.arms ≡ spec.all_some (map (λ b. spec.arm m b looping by.base) a.arms) = search rules in
     let other : option_map view.statements_of c.in_ok-other-in-Some-other.other ≡ spec.statements m looping c.in-Some-other.other = search rules in
     let behind : option_map view.else_of c.behind_else.result ≡ option_map Else (spec.statements m looping c.in-Some-other.other) = c.behind_else.ensures ∙ ap (option_map Else) other in

@@ -1,5 +1,0 @@
-use Rattle.lil_check_unit.proofs.UnitFaults.{is_declared}
-use Rattle.lil_check_unit.proofs.checking.declared.Goals as goal
-
-pub returns : goal.returns
-returns c = is_declared c.args.u.now c.args.interfaces.now c.in_ok-so_far.ensures c.as_slice.ensures c.in_ok-imports.ensures c.in_ok-declarations.ensures c.exports.ensures

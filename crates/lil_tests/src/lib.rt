@@ -1,0 +1,25 @@
+//! The tests of single crates, by their public functions: a crate with tests of its own is proved twice.
+#![tactic(auto)]
+
+#[cfg(test)]
+mod asm;
+#[cfg(test)]
+mod base;
+#[cfg(test)]
+mod kernel;
+#[cfg(test)]
+mod kinds;
+#[cfg(test)]
+mod layout;
+#[cfg(test)]
+mod lexer;
+#[cfg(test)]
+mod made;
+#[cfg(test)]
+mod mcode;
+#[cfg(test)]
+mod resolved;
+#[cfg(test)]
+mod types;
+#[cfg(test)]
+mod volume;
