@@ -4,7 +4,7 @@ ghost use Rattle.lil_call.specs.Functions as spec;
 
 use crate::call::Argument;
 use crate::passing::place_or_value;
-use lil_base::{FaultKind, Items, Memory, Place, beside};
+use lil_base::{Boxed, FaultKind, Items, Memory, Place, beside};
 use lil_kinds::{Applied, Found, Standing, extreme, function, is_constant, is_ordinal};
 use lil_module::{RArgument, RExpr, Standard};
 use lil_report::Report;
@@ -102,24 +102,25 @@ fn function_depth(kind: Kind, depth: usize) -> usize
 }
 
 fn applied_value(
+    alloc: Global,
     first: Place,
     of: Standard,
     depth: usize,
     arguments: Items<RArgument>,
     a: Applied,
-) -> Option<Found>
-    ensures { result ≡ spec.applied_value first of depth arguments a }
+) -> Result<Option<Found>, Memory>
+    ensures { IfOk result (λ o. o ≡ spec.applied_value first of depth arguments a) }
 {
     match a {
-        Applied::Refused => None,
-        Applied::Outside => None,
-        Applied::Gives(kind) => Some(Found {
-            form: function_form(of, arguments, kind),
+        Applied::Refused => Ok(None),
+        Applied::Outside => Ok(None),
+        Applied::Gives(kind) => Ok(Some(Found {
+            form: Boxed::new(alloc, function_form(of, arguments, kind))?,
             kind,
             first,
             depth: function_depth(kind, depth),
             standing: Standing::Value,
-        }),
+        })),
     }
 }
 
@@ -144,6 +145,7 @@ fn lies_outside(a: Applied) -> bool
 /// What a function makes of its argument.
 #[tactic(auto, unfolding(crate::specs::Functions::applied_node, lil_report::specs::Told::tell))]
 fn applied(
+    alloc: Global,
     report: &mut Report,
     first: Place,
     of: Standard,
@@ -151,12 +153,12 @@ fn applied(
     depth: usize,
     arguments: Items<RArgument>,
     a: Applied,
-) -> Option<Found>
-    ensures { Said (spec.applied_node first of at depth arguments a) report.old result report.new }
+) -> Result<Option<Found>, Memory>
+    ensures { IfOk result (λ o. Said (spec.applied_node first of at depth arguments a) report.old o report.new) }
 {
     report.note(is_refused(a), at, FaultKind::Operands);
     report.note(lies_outside(a), at, FaultKind::ConstRange);
-    applied_value(first, of, depth, arguments, a)
+    applied_value(alloc, first, of, depth, arguments, a)
 }
 
 /// A type's name where a value is needed.
@@ -212,7 +214,16 @@ fn of_type(
 {
     if is_extreme(of) {
         let arguments = listed(alloc, RArgument::Type(sort))?;
-        Ok(applied(report, first, of, at, 1, arguments, extreme(t, of, sort)))
+        applied(
+            alloc,
+            report,
+            first,
+            of,
+            at,
+            1,
+            arguments,
+            extreme(t, of, sort),
+        )
     } else {
         Ok(no_value(report, at))
     }
@@ -244,8 +255,9 @@ fn of_value(
         return Ok(no_type(report, at));
     }
     let made = function(t, of, INTEGER, x.kind);
-    let arguments = listed(alloc, function_argument(of, x.form))?;
-    Ok(applied(report, first, of, x.first, x.depth, arguments, made))
+    let (at, depth) = (x.first, x.depth);
+    let arguments = listed(alloc, function_argument(of, x.form.into_inner()))?;
+    applied(alloc, report, first, of, at, depth, arguments, made)
 }
 
 #[tactic(auto, unfolding(lil_report::specs::Told::tell))]
@@ -300,8 +312,10 @@ fn converted(
     ensures { IfOk result (λ o. Said (spec.converted t.now first of sort x) report.old o report.new) }
 {
     let made = function(t, of, sort, x.kind);
-    let arguments = listed_two(alloc, RArgument::Type(sort), RArgument::Value(x.form))?;
-    Ok(applied(report, first, of, x.first, x.depth, arguments, made))
+    let (at, depth) = (x.first, x.depth);
+    let value = RArgument::Value(x.form.into_inner());
+    let arguments = listed_two(alloc, RArgument::Type(sort), value)?;
+    applied(alloc, report, first, of, at, depth, arguments, made)
 }
 
 /// VAL of a type and a value.

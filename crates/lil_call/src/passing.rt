@@ -247,7 +247,7 @@ fn with_argument(
     report.note(wrong_place, x.first, FaultKind::VarArgument);
     report.note(outside, x.first, FaultKind::ConstRange);
     let mut arguments = s.arguments;
-    arguments.push(handed_over(p, x.form))?;
+    arguments.push(handed_over(p, x.form.into_inner()))?;
     Ok(Passed {
         arguments,
         words: words_after(resident, p, s.words),

@@ -220,7 +220,8 @@ fn with_variable(
     let a = changeable(t, report, of, &x);
     let b = shallow(report, first, x.depth);
     let is = both(a, b);
-    let place = place_or_value(x.form);
+    let form = x.form.into_inner();
+    let place = place_or_value(form);
     let arguments = listed(alloc, place)?;
     Ok(done_if(is, of, arguments))
 }
@@ -243,8 +244,10 @@ fn with_operand(
     let c = shallow(report, first, depth);
     let rest = both(b, c);
     let is = both(a, rest);
-    let place = place_or_value(x.form);
-    let arguments = listed_two(alloc, place, RArgument::Value(y.form))?;
+    let form = x.form.into_inner();
+    let place = place_or_value(form);
+    let value = y.form.into_inner();
+    let arguments = listed_two(alloc, place, RArgument::Value(value))?;
     Ok(done_if(is, of, arguments))
 }
 

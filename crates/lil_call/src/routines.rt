@@ -5,7 +5,7 @@ ghost use Rattle.lil_call.specs.Calls as spec;
 use crate::call::Argument;
 use crate::functions::agrees;
 use crate::passing::{Passed, nothing_passed, pass_all};
-use lil_base::{FaultKind, Items, Memory, Place};
+use lil_base::{Boxed, FaultKind, Items, Memory, Place};
 use lil_kinds::{Found, Standing, arity, is_routine, result};
 use lil_module::{RCallee, RExpr, RStmt};
 use lil_report::Report;
@@ -83,26 +83,32 @@ fn routine(
     }
 }
 
-fn call_found(first: Place, v: Invoked, sort: Option<TypeId>, s: Option<Passed>) -> Option<Found>
-    ensures { result ≡ spec.call_found first v sort s }
+fn call_found(
+    alloc: Global,
+    first: Place,
+    v: Invoked,
+    sort: Option<TypeId>,
+    s: Option<Passed>,
+) -> Result<Option<Found>, Memory>
+    ensures { IfOk result (λ o. o ≡ spec.call_found first v sort s) }
 {
     match sort {
         None => {
             drop((v, s));
-            None
+            Ok(None)
         }
         Some(sort) => match s {
             None => {
                 drop(v);
-                None
+                Ok(None)
             }
-            Some(s) => Some(Found {
-                form: RExpr::Call(v.form, s.arguments),
+            Some(s) => Ok(Some(Found {
+                form: Boxed::new(alloc, RExpr::Call(v.form, s.arguments))?,
                 kind: Kind::Of(sort),
                 first,
                 depth: s.depth,
                 standing: Standing::Value,
-            }),
+            })),
         },
     }
 }
@@ -120,7 +126,8 @@ pub(crate) fn value_call(
 {
     let s = routine(alloc, t, report, first, true, &v, arguments)?;
     let sort = result(t, v.sort);
-    Ok(call_found(first, v, sort, s))
+    let found = call_found(alloc, first, v, sort, s)?;
+    Ok(found)
 }
 
 fn call_statement(v: Invoked, s: Option<Passed>) -> Option<RStmt>

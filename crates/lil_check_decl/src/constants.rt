@@ -3,7 +3,7 @@ ghost use Rattle.lil_report.specs.Told.{Said, walk};
 ghost use Rattle.lil_check_decl.specs.Constants as spec;
 
 use lil_base::{FaultKind, Memory, Text};
-use lil_check_value::expression;
+use lil_check_value::boxed_expression;
 use lil_kinds::{Found, is_constant};
 use lil_language::Constant;
 use lil_module::RExpr;
@@ -98,7 +98,7 @@ fn constant_value(env: &mut Env, report: &mut Report, of: Option<Found>) -> Resu
     match of {
         Some(a) => {
             report.note(!is_constant(a.kind), a.first, FaultKind::NotConst);
-            let thing = if_constant(env, a.form, a.kind)?;
+            let thing = if_constant(env, a.form.into_inner(), a.kind)?;
             Ok(thing)
         }
         None => Ok(Thing::Broken),
@@ -108,7 +108,7 @@ fn constant_value(env: &mut Env, report: &mut Report, of: Option<Found>) -> Resu
 fn constant(alloc: Global, env: &mut Env, report: &mut Report, of: &Constant) -> Result<(), Memory>
     ensures { IfOk result (λ o. Said (spec.constant_step env.old of.now) report.old env.new report.new) }
 {
-    let found = expression(alloc, env, report, &of.value)?;
+    let found = boxed_expression(alloc, env, report, &of.value)?;
     let thing = constant_value(env, report, found)?;
     bind(alloc, env, report, &of.name, thing)?;
     Ok(())

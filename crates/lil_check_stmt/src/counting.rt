@@ -5,8 +5,8 @@ ghost use Rattle.lil_check_value.specs.Looks.{look as look_of};
 ghost use Rattle.lil_check_stmt.specs.Counting as spec;
 
 use crate::held::only_where;
-use lil_base::{FaultKind, Items, Memory, Place, beside};
-use lil_check_value::{Looked, expression, look};
+use lil_base::{Boxed, FaultKind, Items, Memory, Place, beside};
+use lil_check_value::{Looked, boxed_expression, look};
 use lil_kinds::{Found, assignable, compatible, is_constant, is_ordinal, misses};
 use lil_language::{Expr, ForHead};
 use lil_module::{Mode, RExpr, RRoot, RStmt};
@@ -26,8 +26,8 @@ pub(crate) struct Counter {
 #[derive(Drop)]
 pub(crate) struct Count {
     pub(crate) root: RRoot,
-    pub(crate) from: RExpr,
-    pub(crate) to: RExpr,
+    pub(crate) from: Boxed<RExpr>,
+    pub(crate) to: Boxed<RExpr>,
     pub(crate) by: i32,
 }
 
@@ -139,7 +139,7 @@ fn start(
     becomes: Place,
     counter: Option<Counter>,
     value: Option<Found>,
-) -> Option<RExpr>
+) -> Option<Boxed<RExpr>>
     ensures { Said (spec.start_node t.now becomes counter value) report.old result report.new }
 {
     match counter {
@@ -167,7 +167,7 @@ fn limit(
     report: &mut Report,
     counter: Option<Counter>,
     value: Option<Found>,
-) -> Option<RExpr>
+) -> Option<Boxed<RExpr>>
     ensures { Said (spec.limit_node t.now counter value) report.old result report.new }
 {
     match counter {
@@ -242,14 +242,14 @@ fn step_by(
     alloc: Global,
     env: &Env,
     report: &mut Report,
-    by: &Option<Expr>,
+    by: &Option<Boxed<Expr>>,
 ) -> Result<Option<i32>, Memory>
     ensures { IfOk result (λ o. Said (spec.step_means env.now by.now) report.old o report.new) }
 {
     match by {
         None => Ok(Some(1)),
         Some(x) => {
-            let found = expression(alloc, env, report, x)?;
+            let found = boxed_expression(alloc, env, report, x)?;
             let by = step(report, &found);
             drop(found);
             Ok(by)
@@ -257,7 +257,7 @@ fn step_by(
     }
 }
 
-fn count_by(root: RRoot, from: RExpr, to: RExpr, by: Option<i32>) -> Option<Count>
+fn count_by(root: RRoot, from: Boxed<RExpr>, to: Boxed<RExpr>, by: Option<i32>) -> Option<Count>
     ensures { result ≡ option_map (λ n. record { root = root; from = from; to = to; by = n }) by }
 {
     match by {
@@ -271,8 +271,8 @@ fn count_by(root: RRoot, from: RExpr, to: RExpr, by: Option<i32>) -> Option<Coun
 
 fn count_of(
     counter: Option<Counter>,
-    from: Option<RExpr>,
-    to: Option<RExpr>,
+    from: Option<Boxed<RExpr>>,
+    to: Option<Boxed<RExpr>>,
     by: Option<i32>,
 ) -> Option<Count>
     ensures { result ≡ spec.count_of counter from to by }
@@ -309,9 +309,9 @@ pub(crate) fn counting(
 {
     let looked = look(env, &head.variable.name);
     let counter = counting_variable(env, report, head.variable.place, looked);
-    let from = expression(alloc, env, report, &head.from)?;
+    let from = boxed_expression(alloc, env, report, &head.from)?;
     let from = start(&env.types, report, head.becomes, counter, from);
-    let (from, to) = beside(from, expression(alloc, env, report, &head.to))?;
+    let (from, to) = beside(from, boxed_expression(alloc, env, report, &head.to))?;
     let to = limit(&env.types, report, counter, to);
     let ((from, to), by) = beside((from, to), step_by(alloc, env, report, &head.by))?;
     Ok(count_of(counter, from, to, by))

@@ -4,7 +4,7 @@ ghost use Rattle.lil_report.specs.Told.{Said};
 ghost use Rattle.lil_check_stmt.specs.Labels as spec;
 
 use lil_base::{FaultKind, Items, Memory, beside};
-use lil_check_value::expression;
+use lil_check_value::{boxed_expression, expression};
 use lil_kinds::{Found, compatible, is_constant, number};
 use lil_language::Range;
 use lil_module::{RArm, RLabel};
@@ -186,7 +186,7 @@ fn label(
             Ok(label)
         }
         Some(high) => {
-            let (low, high) = beside(low, expression(alloc, env, report, high))?;
+            let (low, high) = beside(low, boxed_expression(alloc, env, report, high))?;
             let label = range(&env.types, report, seen, selector, &low, &high);
             drop((low, high));
             Ok(label)

@@ -3,7 +3,7 @@ ghost use Rattle.lil_report.specs.Told.{Said};
 ghost use Rattle.lil_check_stmt.specs.Nodes as spec;
 
 use crate::held::only_where;
-use lil_base::{FaultKind, Place};
+use lil_base::{Boxed, FaultKind, Place};
 use lil_kinds::{Found, assignable, is_ordinal, is_record, misses};
 use lil_module::{RDesignator, RExpr, RStmt};
 use lil_report::Report;
@@ -51,7 +51,7 @@ fn is_outside(t: &TypeTable, variable: Kind, value: Kind) -> bool
     }
 }
 
-fn assignment(place: Option<RDesignator>, value: RExpr) -> Option<RStmt>
+fn assignment(place: Option<RDesignator>, value: Boxed<RExpr>) -> Option<RStmt>
     ensures { result ≡ spec.assignment place value }
 {
     match place {
@@ -82,7 +82,7 @@ pub(crate) fn assign(
                 report.note(unlike, becomes, FaultKind::Assign);
                 report.note(outside, value.first, FaultKind::ConstRange);
                 match only_where(!unlike && !outside, (variable.form, value.form)) {
-                    Some((place, value)) => assignment(place_of(place), value),
+                    Some((place, value)) => assignment(place_of(place.into_inner()), value),
                     None => None,
                 }
             }
@@ -110,7 +110,11 @@ fn is_truth(t: &TypeTable, kind: Kind) -> bool
 
 /// A condition.
 #[tactic(auto, unfolding(crate::specs::Nodes::condition_node, lil_report::specs::Told::tell))]
-pub(crate) fn condition(t: &TypeTable, report: &mut Report, of: Option<Found>) -> Option<RExpr>
+pub(crate) fn condition(
+    t: &TypeTable,
+    report: &mut Report,
+    of: Option<Found>,
+) -> Option<Boxed<RExpr>>
     ensures { Said (spec.condition_node t.now of) report.old result report.new }
 {
     match of {
@@ -181,7 +185,7 @@ pub(crate) fn record_of(
             let unlike = !is_record_kind(t, of.kind);
             report.note(unlike, at, FaultKind::NotRecord);
             match only_where(!unlike, of.form) {
-                Some(form) => opening(place_of(form), of.kind),
+                Some(form) => opening(place_of(form.into_inner()), of.kind),
                 None => None,
             }
         }

@@ -13,8 +13,8 @@ use crate::labels::{Arms, Labels, labels_of_arm};
 use crate::nodes::{
     Opened, assign, condition, exit, record_of, return_alone, return_value, selector,
 };
-use lil_base::{FaultKind, Items, Memory, Place, beside};
-use lil_check_value::{call, expression, variable};
+use lil_base::{Boxed, FaultKind, Items, Memory, Place, beside};
+use lil_check_value::{boxed_expression, call, variable};
 use lil_kinds::{Found, result};
 use lil_language::{Arm, Designator, Expr, ForHead, Guard, Stmt};
 use lil_module::{RArm, RExpr, RGuard, RStmt};
@@ -27,11 +27,11 @@ fn condition_of(
     alloc: Global,
     env: &Env,
     report: &mut Report,
-    x: &Expr,
-) -> Result<Option<RExpr>, Memory>
+    x: &Boxed<Expr>,
+) -> Result<Option<Boxed<RExpr>>, Memory>
     ensures { IfOk result (λ o. Said (spec.condition_means env.now x.now) report.old o report.new) }
 {
-    let found = expression(alloc, env, report, x)?;
+    let found = boxed_expression(alloc, env, report, x)?;
     Ok(condition(&env.types, report, found))
 }
 
@@ -39,11 +39,11 @@ fn selector_of(
     alloc: Global,
     env: &Env,
     report: &mut Report,
-    x: &Expr,
+    x: &Boxed<Expr>,
 ) -> Result<Option<Found>, Memory>
     ensures { IfOk result (λ o. Said (spec.selector_means env.now x.now) report.old o report.new) }
 {
-    let found = expression(alloc, env, report, x)?;
+    let found = boxed_expression(alloc, env, report, x)?;
     Ok(selector(&env.types, report, found))
 }
 
@@ -74,14 +74,14 @@ fn returned(
     env: &Env,
     report: &mut Report,
     at: Place,
-    of: &Option<Expr>,
+    of: &Option<Boxed<Expr>>,
 ) -> Result<Option<RStmt>, Memory>
     ensures { IfOk result (λ o. Said (spec.return_means env.now at of.now) report.old o report.new) }
 {
     match of {
         None => Ok(return_alone(report, at, result_at(env))),
         Some(x) => {
-            let found = expression(alloc, env, report, x)?;
+            let found = boxed_expression(alloc, env, report, x)?;
             Ok(return_value(&env.types, report, at, result_at(env), found))
         }
     }
@@ -93,16 +93,16 @@ fn assigned(
     report: &mut Report,
     place: &Designator,
     becomes: Place,
-    value: &Expr,
+    value: &Boxed<Expr>,
 ) -> Result<Option<RStmt>, Memory>
     ensures { IfOk result (λ o. Said (after (variable_means env.now place.now) (λ a. after (means env.now value.now) (λ v. assign_node env.now.types becomes a v))) report.old o report.new) }
 {
     let found = variable(alloc, env, report, place)?;
-    let (found, value) = beside(found, expression(alloc, env, report, value))?;
+    let (found, value) = beside(found, boxed_expression(alloc, env, report, value))?;
     Ok(assign(&env.types, report, becomes, found, value))
 }
 
-fn guarded(condition: Option<RExpr>, body: Items<RStmt>) -> Option<RGuard>
+fn guarded(condition: Option<Boxed<RExpr>>, body: Items<RStmt>) -> Option<RGuard>
     ensures { result ≡ spec.guarded condition body }
 {
     match condition {
@@ -120,7 +120,7 @@ fn selected(found: Option<Found>, arms: Items<RArm>, other: Option<Items<RStmt>>
     }
 }
 
-fn repeated_while(condition: Option<RExpr>, body: Items<RStmt>) -> Option<RStmt>
+fn repeated_while(condition: Option<Boxed<RExpr>>, body: Items<RStmt>) -> Option<RStmt>
     ensures { result ≡ spec.repeated_while condition body }
 {
     match condition {
@@ -129,7 +129,7 @@ fn repeated_while(condition: Option<RExpr>, body: Items<RStmt>) -> Option<RStmt>
     }
 }
 
-fn repeated_until(body: Items<RStmt>, condition: Option<RExpr>) -> Option<RStmt>
+fn repeated_until(body: Items<RStmt>, condition: Option<Boxed<RExpr>>) -> Option<RStmt>
     ensures { result ≡ spec.repeated_until body condition }
 {
     match condition {
@@ -254,7 +254,7 @@ fn while_true(
     report: &mut Report,
     looping: bool,
     body: &Items<Stmt>,
-    value: &Expr,
+    value: &Boxed<Expr>,
 ) -> Result<Option<RStmt>, Memory>
     ensures said { IfOk result (λ o. Said (after (spec.condition_means env.old value.now) (λ c. after (spec.statements_mean env.old looping body.now) (λ ss. pure (spec.repeated_while c ss)))) report.old o report.new) }
     ensures same { IfOk result (λ o. env.new ≡ env.old) }
@@ -272,7 +272,7 @@ fn until(
     report: &mut Report,
     looping: bool,
     body: &Items<Stmt>,
-    value: &Expr,
+    value: &Boxed<Expr>,
 ) -> Result<Option<RStmt>, Memory>
     ensures said { IfOk result (λ o. Said (after (spec.statements_mean env.old looping body.now) (λ ss. after (spec.condition_means env.old value.now) (λ c. pure (spec.repeated_until ss c)))) report.old o report.new) }
     ensures same { IfOk result (λ o. env.new ≡ env.old) }

@@ -5,8 +5,8 @@ ghost use Rattle.lil_check_type.specs.Records as spec;
 
 use crate::bounds::{Bound, bound_of, label, labels};
 use crate::made::ordinal;
-use lil_base::{FaultKind, Items, Memory, Name};
-use lil_check_value::{expression, type_named};
+use lil_base::{Boxed, FaultKind, Items, Memory, Name};
+use lil_check_value::{boxed_expression, expression, type_named};
 use lil_language::{Expr, Range};
 use lil_report::Report;
 use lil_scope::Env;
@@ -152,13 +152,13 @@ fn label_rest(
     tag: Option<TypeId>,
     before: &mut Items<Span>,
     a: Option<Bound>,
-    high: &Option<Expr>,
+    high: &Option<Boxed<Expr>>,
 ) -> Result<(), Memory>
     ensures { IfOk result (λ o. Said (spec.label_rest env.now tag before.old a high.now) report.old before.new report.new) }
 {
     match high {
         Some(y) => {
-            let b = expression(alloc, env, report, y)?;
+            let b = boxed_expression(alloc, env, report, y)?;
             labels(&env.types, report, tag, before, a, bound_of(b))?;
             Ok(())
         }

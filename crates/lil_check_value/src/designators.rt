@@ -360,7 +360,7 @@ fn with_index(of: Part, index: Found, parts: ArrayParts, depth: usize) -> Result
         standing: _,
     } = of;
     let mut selectors = selectors;
-    selectors.push(RSelector::Index(index.form))?;
+    selectors.push(RSelector::Index(index.form.into_inner()))?;
     Ok(Part {
         first,
         name,

@@ -15,4 +15,4 @@ pub use designators::{Named, Part, Reached};
 pub use names::{Looked, look, type_named};
 pub use operations::Chained;
 pub use sets::{Bounds, Elements, Operand, Tally};
-pub use values::{call, expression, variable};
+pub use values::{boxed_expression, call, expression, variable};

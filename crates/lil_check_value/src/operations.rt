@@ -15,7 +15,7 @@ use std::alloc::Global;
 /// A chain so far: its first operand and the operations behind it, what is known of its value, and its depth.
 #[derive(Drop)]
 pub struct Chained {
-    pub begin: RExpr,
+    pub begin: Boxed<RExpr>,
     pub operations: Items<ROperation>,
     pub kind: Kind,
     pub depth: usize,
@@ -48,7 +48,7 @@ fn one_found(alloc: Global, first: Place, op: OneOp, a: Found, kind: Kind) -> Re
         Kind::Of(sort) => {
             let depth = a.depth;
             Ok(Found {
-                form: RExpr::One(op, sort, Boxed::new(alloc, a.form)?),
+                form: Boxed::new(alloc, RExpr::One(op, sort, a.form))?,
                 kind,
                 first,
                 depth,
@@ -57,7 +57,7 @@ fn one_found(alloc: Global, first: Place, op: OneOp, a: Found, kind: Kind) -> Re
         }
         _ => {
             drop(a);
-            Ok(constant_found(first, kind))
+            constant_found(alloc, first, kind)
         }
     }
 }
@@ -176,7 +176,7 @@ fn two_chained(
         _ => {
             drop((more, a));
             Ok(Chained {
-                begin: constant_form(kind),
+                begin: Boxed::new(alloc, constant_form(kind))?,
                 operations: Items::new(alloc),
                 kind,
                 depth: 1,
@@ -225,7 +225,7 @@ fn two_applied(
     report.note(depth.is_none(), first, FaultKind::ExprDeep);
     report.note(is_refused(of), at, FaultKind::Operands);
     report.note(is_outside(of), at, FaultKind::ConstArith);
-    let more = operation(op, sort, b.form);
+    let more = operation(op, sort, b.form.into_inner());
     let value = two_value(alloc, more, a, of, depth)?;
     Ok(value)
 }
@@ -253,13 +253,17 @@ pub(crate) fn two_node(
     }
 }
 
-fn chain_form(alloc: Global, begin: RExpr, operations: Items<ROperation>) -> Result<RExpr, Memory>
+fn chain_form(
+    alloc: Global,
+    begin: Boxed<RExpr>,
+    operations: Items<ROperation>,
+) -> Result<Boxed<RExpr>, Memory>
     ensures { IfOk result (λ x. x ≡ spec.chain_form begin operations) }
 {
     if operations.is_empty() {
         Ok(begin)
     } else {
-        Ok(RExpr::Chain(Boxed::new(alloc, begin)?, operations))
+        Ok(Boxed::new(alloc, RExpr::Chain(begin, operations))?)
     }
 }
 

@@ -4,7 +4,7 @@ ghost use Rattle.lil_check_value.specs.Sets as spec;
 
 use crate::depths::raised;
 use crate::names::type_named;
-use lil_base::{FaultKind, Items, Memory, Place};
+use lil_base::{Boxed, FaultKind, Items, Memory, Place, beside};
 use lil_kinds::{Found, Standing, compatible, element_span, number, set_base};
 use lil_module::{RElement, RExpr};
 use lil_report::Report;
@@ -22,10 +22,10 @@ pub struct Operand {
 }
 
 /// An element: a value, or all from one to another.
-#[derive(Clone, Copy)]
+#[derive(Drop)]
 pub struct Bounds {
     pub low: Operand,
-    pub high: Option<Operand>,
+    pub high: Option<Boxed<Operand>>,
 }
 
 /// The elements of a set: their forms, and what is known of them.
@@ -111,7 +111,7 @@ fn with_element(
     of: Elements,
     form: RElement,
     low: Operand,
-    high: Option<Operand>,
+    high: Option<Boxed<Operand>>,
 ) -> Result<Elements, Memory>
     ensures { IfOk result (λ x. x ≡ spec.with_element of form low high) }
 {
@@ -121,6 +121,19 @@ fn with_element(
     forms.push(form)?;
     bounds.push(Bounds { low, high })?;
     Ok(Elements { forms, bounds })
+}
+
+fn with_range(
+    alloc: Global,
+    of: Elements,
+    form: RElement,
+    low: Operand,
+    high: Operand,
+) -> Result<Elements, Memory>
+    ensures { IfOk result (λ x. x ≡ spec.with_element of form low (Some high)) }
+{
+    let ((of, form), high) = beside((of, form), Boxed::new(alloc, high))?;
+    with_element(of, form, low, Some(high))
 }
 
 /// Elements and a value more.
@@ -135,7 +148,7 @@ pub(crate) fn joined_one(
         Some((of, low)) => {
             let a = operand_of(&low);
             let form = RElement {
-                low: low.form,
+                low: low.form.into_inner(),
                 high: None,
             };
             Ok(Some(with_element(of, form, a, None)?))
@@ -145,6 +158,7 @@ pub(crate) fn joined_one(
 
 /// Elements, and all from one value to another.
 pub(crate) fn joined_range(
+    alloc: Global,
     of: Option<Elements>,
     low: Option<Found>,
     high: Option<Found>,
@@ -157,10 +171,10 @@ pub(crate) fn joined_range(
             let a = operand_of(&low);
             let b = operand_of(&high);
             let form = RElement {
-                low: low.form,
+                low: low.form.into_inner(),
                 high: Some(high.form),
             };
-            Ok(Some(with_element(of, form, a, Some(b))?))
+            Ok(Some(with_range(alloc, of, form, a, b)?))
         }
     }
 }
@@ -282,19 +296,19 @@ fn bounds_node(
     report: &mut Report,
     sort: TypeId,
     tally: Tally,
-    of: Bounds,
+    of: &Bounds,
 ) -> Tally
-    ensures { Said (spec.bounds_node types.now sort tally of) report.old result report.new }
+    ensures { Said (spec.bounds_node types.now sort tally of.now) report.old result report.new }
 {
-    match of.high {
+    match &of.high {
         None => {
             test_operand(types, report, sort, of.low);
             alone_tally(types, sort, tally, of.low)
         }
         Some(high) => {
             test_operand(types, report, sort, of.low);
-            test_operand(types, report, sort, high);
-            range_tally(types, sort, tally, of.low, high)
+            test_operand(types, report, sort, *high.get());
+            range_tally(types, sort, tally, of.low, *high.get())
         }
     }
 }
@@ -309,83 +323,91 @@ fn elements_tally(types: &TypeTable, report: &mut Report, sort: TypeId, bounds: 
         word: Some(0),
     };
     for one in bounds {
-        tally = bounds_node(types, report, sort, tally, *one);
+        tally = bounds_node(types, report, sort, tally, one);
     }
     tally
 }
 
 fn set_found(
+    alloc: Global,
     first: Place,
     sort: TypeId,
     forms: Items<RElement>,
     word: Option<u16>,
     depth: usize,
-) -> Found
-    ensures { result ≡ spec.set_found first sort forms word depth }
+) -> Result<Found, Memory>
+    ensures { IfOk result (λ a. a ≡ spec.set_found first sort forms word depth) }
 {
     match word {
-        Some(word) => Found {
-            form: RExpr::Scalar(sort, word),
+        Some(word) => Ok(Found {
+            form: Boxed::new(alloc, RExpr::Scalar(sort, word))?,
             kind: Kind::Scalar(sort, word),
             first,
             depth: 1,
             standing: Standing::Value,
-        },
-        None => Found {
-            form: RExpr::SetOf(sort, forms),
+        }),
+        None => Ok(Found {
+            form: Boxed::new(alloc, RExpr::SetOf(sort, forms))?,
             kind: Kind::Of(sort),
             first,
             depth,
             standing: Standing::Value,
-        },
+        }),
     }
 }
 
 #[tactic(auto, unfolding(crate::specs::Sets::set_end, lil_report::specs::Told::tell))]
 fn set_end(
+    alloc: Global,
     report: &mut Report,
     first: Place,
     sort: TypeId,
     forms: Items<RElement>,
     tally: Tally,
-) -> Option<Found>
-    ensures { Said (spec.set_end first sort forms tally) report.old result report.new }
+) -> Result<Option<Found>, Memory>
+    ensures { IfOk result (λ o. Said (spec.set_end first sort forms tally) report.old o report.new) }
 {
     report.note(tally.depth.is_none(), first, FaultKind::ExprDeep);
     match tally.depth {
-        Some(depth) if tally.fits => Some(set_found(first, sort, forms, tally.word, depth)),
-        _ => None,
+        Some(depth) if tally.fits => {
+            let found = set_found(alloc, first, sort, forms, tally.word, depth)?;
+            Ok(Some(found))
+        }
+        _ => Ok(None),
     }
 }
 
 /// A set whose type and whose elements have values.
 #[tactic(auto, using(lil_report::specs::Laws::said_after))]
 fn set_given(
+    alloc: Global,
     types: &TypeTable,
     report: &mut Report,
     first: Place,
     sort: TypeId,
     elements: Elements,
-) -> Option<Found>
-    ensures { Said (spec.set_of types.now first sort elements) report.old result report.new }
+) -> Result<Option<Found>, Memory>
+    ensures { IfOk result (λ o. Said (spec.set_of types.now first sort elements) report.old o report.new) }
 {
     let tally = elements_tally(types, report, sort, elements.bounds.as_slice());
-    set_end(report, first, sort, elements.forms, tally)
+    let found = set_end(alloc, report, first, sort, elements.forms, tally)?;
+    Ok(found)
 }
 
 /// A set.
 #[tactic(auto, unfolding(lil_report::specs::Told::tell))]
 pub(crate) fn set_node(
+    alloc: Global,
     types: &TypeTable,
     report: &mut Report,
     first: Place,
     sort: Option<TypeId>,
     elements: Option<Elements>,
-) -> Option<Found>
-    ensures { Said (spec.set_node types.now first sort elements) report.old result report.new }
+) -> Result<Option<Found>, Memory>
+    ensures { IfOk result (λ o. Said (spec.set_node types.now first sort elements) report.old o report.new) }
 {
     match (sort, elements) {
-        (Some(sort), Some(elements)) => set_given(types, report, first, sort, elements),
-        _ => None,
+        (Some(sort), Some(elements)) => set_given(alloc, types, report, first, sort, elements),
+        _ => Ok(None),
     }
 }

@@ -3,13 +3,14 @@ ghost use Rattle.lil_report.specs.Told.{Said};
 ghost use Rattle.lil_check_value.specs.Uses as spec;
 
 use crate::designators::{Named, Part, Reached, is_misplaced};
-use lil_base::{FaultKind, Place};
+use lil_base::{Boxed, FaultKind, Memory, Place};
 use lil_call::{Argument, Callee};
 use lil_kinds::{Found, Standing};
 use lil_module::{RDesignator, RExpr};
 use lil_report::Report;
 use lil_scope::{Kind, Routine, Thing};
 use lil_types::TypeId;
+use std::alloc::Global;
 
 /// A constant in the resolved tree.
 pub(crate) fn constant_form(kind: Kind) -> RExpr
@@ -22,37 +23,43 @@ pub(crate) fn constant_form(kind: Kind) -> RExpr
     }
 }
 
-pub(crate) fn plain_found(first: Place, form: RExpr, kind: Kind) -> Found
-    ensures { result ≡ spec.plain_found first form kind }
+pub(crate) fn plain_found(
+    alloc: Global,
+    first: Place,
+    form: RExpr,
+    kind: Kind,
+) -> Result<Found, Memory>
+    ensures { IfOk result (λ a. a ≡ spec.plain_found first form kind) }
 {
-    Found {
-        form,
+    Ok(Found {
+        form: Boxed::new(alloc, form)?,
         kind,
         first,
         depth: 1,
         standing: Standing::Value,
-    }
+    })
 }
 
-pub(crate) fn constant_found(first: Place, kind: Kind) -> Found
-    ensures { result ≡ spec.constant_found first kind }
+pub(crate) fn constant_found(alloc: Global, first: Place, kind: Kind) -> Result<Found, Memory>
+    ensures { IfOk result (λ a. a ≡ spec.constant_found first kind) }
 {
-    plain_found(first, constant_form(kind), kind)
+    plain_found(alloc, first, constant_form(kind), kind)
 }
 
-fn part_found(of: Part) -> Found
-    ensures { result ≡ spec.part_found of }
+fn part_found(alloc: Global, of: Part) -> Result<Found, Memory>
+    ensures { IfOk result (λ a. a ≡ spec.part_found of) }
 {
-    Found {
-        form: RExpr::Value(RDesignator {
-            root: of.root,
-            selectors: of.selectors,
-        }),
+    let designator = RDesignator {
+        root: of.root,
+        selectors: of.selectors,
+    };
+    Ok(Found {
+        form: Boxed::new(alloc, RExpr::Value(designator))?,
         kind: of.kind,
         first: of.first,
         depth: of.depth,
         standing: of.standing,
-    }
+    })
 }
 
 fn no_value(of: Thing) -> bool
@@ -66,65 +73,73 @@ fn no_value(of: Thing) -> bool
     }
 }
 
-fn routine_found(first: Place, of: Routine) -> Option<Found>
-    ensures { result ≡ spec.routine_found first of }
+fn routine_found(alloc: Global, first: Place, of: Routine) -> Result<Option<Found>, Memory>
+    ensures { IfOk result (λ o. o ≡ spec.routine_found first of) }
 {
     if of.level > 1 {
-        None
+        Ok(None)
     } else {
-        Some(plain_found(first, RExpr::Procedure(of.number), Kind::Routine(of.sort)))
+        let form = RExpr::Procedure(of.number);
+        Ok(Some(plain_found(alloc, first, form, Kind::Routine(of.sort))?))
     }
 }
 
-fn thing_found(first: Place, of: Thing) -> Option<Found>
-    ensures { result ≡ spec.thing_found first of }
+fn thing_found(alloc: Global, first: Place, of: Thing) -> Result<Option<Found>, Memory>
+    ensures { IfOk result (λ o. o ≡ spec.thing_found first of) }
 {
     match of {
-        Thing::Constant(kind) => Some(constant_found(first, kind)),
-        Thing::Named(number, chars) => Some(plain_found(
-            first,
-            RExpr::Named(number),
-            Kind::Chars(chars),
-        )),
-        Thing::Nil => Some(plain_found(first, RExpr::Nil, Kind::Nil)),
-        Thing::Procedure(routine) => routine_found(first, routine),
-        _ => None,
+        Thing::Constant(kind) => Ok(Some(constant_found(alloc, first, kind)?)),
+        Thing::Named(number, chars) => {
+            let form = RExpr::Named(number);
+            Ok(Some(plain_found(alloc, first, form, Kind::Chars(chars))?))
+        }
+        Thing::Nil => Ok(Some(plain_found(alloc, first, RExpr::Nil, Kind::Nil)?)),
+        Thing::Procedure(routine) => routine_found(alloc, first, routine),
+        _ => Ok(None),
     }
 }
 
 /// A name that is no variable, as a value.
 #[tactic(auto, unfolding(crate::specs::Uses::named_value, lil_report::specs::Told::tell))]
-fn named_value(report: &mut Report, of: Named) -> Option<Found>
-    ensures { Said (spec.named_value of) report.old result report.new }
+fn named_value(alloc: Global, report: &mut Report, of: Named) -> Result<Option<Found>, Memory>
+    ensures { IfOk result (λ o. Said (spec.named_value of) report.old o report.new) }
 {
     report.note(is_misplaced(of.thing), of.name, FaultKind::WrongKind);
     report.note(no_value(of.thing), of.name, FaultKind::ProcValue);
-    thing_found(of.first, of.thing)
+    thing_found(alloc, of.first, of.thing)
 }
 
 /// What a designator reaches, as a value.
 #[tactic(auto, unfolding(lil_report::specs::Told::tell))]
-pub(crate) fn value_node(report: &mut Report, of: Option<Reached>) -> Option<Found>
-    ensures { Said (spec.value_node of) report.old result report.new }
+pub(crate) fn value_node(
+    alloc: Global,
+    report: &mut Report,
+    of: Option<Reached>,
+) -> Result<Option<Found>, Memory>
+    ensures { IfOk result (λ o. Said (spec.value_node of) report.old o report.new) }
 {
     match of {
-        None => None,
-        Some(Reached::Part(part)) => Some(part_found(part)),
-        Some(Reached::Other(named)) => named_value(report, named),
+        None => Ok(None),
+        Some(Reached::Part(part)) => Ok(Some(part_found(alloc, part)?)),
+        Some(Reached::Other(named)) => named_value(alloc, report, named),
     }
 }
 
 /// What a designator reaches, as a variable.
 #[tactic(auto, unfolding(lil_report::specs::Told::tell))]
-pub(crate) fn variable_node(report: &mut Report, of: Option<Reached>) -> Option<Found>
-    ensures { Said (spec.variable_node of) report.old result report.new }
+pub(crate) fn variable_node(
+    alloc: Global,
+    report: &mut Report,
+    of: Option<Reached>,
+) -> Result<Option<Found>, Memory>
+    ensures { IfOk result (λ o. Said (spec.variable_node of) report.old o report.new) }
 {
     match of {
-        None => None,
-        Some(Reached::Part(part)) => Some(part_found(part)),
+        None => Ok(None),
+        Some(Reached::Part(part)) => Ok(Some(part_found(alloc, part)?)),
         Some(Reached::Other(named)) => {
             report.note(true, named.name, FaultKind::WrongKind);
-            None
+            Ok(None)
         }
     }
 }
@@ -193,28 +208,38 @@ fn no_type_in(of: Thing) -> bool
 }
 
 #[tactic(auto, unfolding(lil_report::specs::Told::tell))]
-fn part_typed(report: &mut Report, first: Place, of: Part) -> Argument
-    ensures { Said (spec.part_typed (spec.is_bare of.selectors) first of) report.old result report.new }
+fn part_typed(
+    alloc: Global,
+    report: &mut Report,
+    first: Place,
+    of: Part,
+) -> Result<Argument, Memory>
+    ensures { IfOk result (λ a. Said (spec.part_typed (spec.is_bare of.selectors) first of) report.old a report.new) }
 {
     if of.selectors.is_empty() {
         report.note(true, of.name, FaultKind::WrongKind);
-        Argument::Type(first, None)
+        Ok(Argument::Type(first, None))
     } else {
-        Argument::Value(Some(part_found(of)))
+        Ok(Argument::Value(Some(part_found(alloc, of)?)))
     }
 }
 
 /// What a designator reaches, where it should be a type's name.
 #[tactic(auto, unfolding(lil_report::specs::Told::tell))]
-pub(crate) fn typed_node(report: &mut Report, first: Place, of: Option<Reached>) -> Argument
-    ensures { Said (spec.typed_node first of) report.old result report.new }
+pub(crate) fn typed_node(
+    alloc: Global,
+    report: &mut Report,
+    first: Place,
+    of: Option<Reached>,
+) -> Result<Argument, Memory>
+    ensures { IfOk result (λ a. Said (spec.typed_node first of) report.old a report.new) }
 {
     match of {
-        None => Argument::Type(first, None),
-        Some(Reached::Part(part)) => part_typed(report, first, part),
+        None => Ok(Argument::Type(first, None)),
+        Some(Reached::Part(part)) => part_typed(alloc, report, first, part),
         Some(Reached::Other(named)) => {
             report.note(no_type_in(named.thing), named.name, FaultKind::WrongKind);
-            Argument::Type(first, type_in(named.thing))
+            Ok(Argument::Type(first, type_in(named.thing)))
         }
     }
 }

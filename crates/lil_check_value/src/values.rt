@@ -9,7 +9,7 @@ use crate::sets::{Elements, joined_one, joined_range, no_elements, set_node, set
 use crate::uses::{
     callee_node, constant_found, plain_found, typed_node, value_node, variable_node,
 };
-use lil_base::{FaultKind, Items, Memory, Place, Text, beside};
+use lil_base::{Boxed, FaultKind, Items, Memory, Place, Text, beside};
 use lil_call::{Argument, called, stated};
 use lil_kinds::Found;
 use lil_language::{Designator, Expr, Operation, Range, Selector};
@@ -37,7 +37,7 @@ fn text_found(alloc: Global, first: Place, text: &Text) -> Result<Found, Memory>
         first: first_of(text.as_slice()),
     };
     let copy = Text::from_slice(alloc, text.as_slice())?;
-    Ok(plain_found(first, RExpr::Chars(copy), Kind::Chars(chars)))
+    plain_found(alloc, first, RExpr::Chars(copy), Kind::Chars(chars))
 }
 
 /// The same value in parentheses that begin at this place.
@@ -184,8 +184,8 @@ fn joined(
             Ok(all)
         }
         Some(high) => {
-            let (before, high) = beside((of, low), expression(alloc, env, report, high))?;
-            let all = joined_range(before.0, before.1, high)?;
+            let (before, high) = beside((of, low), expression(alloc, env, report, high.get()))?;
+            let all = joined_range(alloc, before.0, before.1, high)?;
             Ok(all)
         }
     }
@@ -216,7 +216,8 @@ fn typed(alloc: Global, env: &Env, report: &mut Report, of: &Expr) -> Result<Arg
     match of {
         Expr::Desig(first, designator) => {
             let of = reached(alloc, env, report, *first, designator)?;
-            Ok(typed_node(report, *first, of))
+            let named = typed_node(alloc, report, *first, of)?;
+            Ok(named)
         }
         _ => {
             let value = expression(alloc, env, report, of)?;
@@ -277,22 +278,25 @@ pub fn expression(
 {
     match of {
         Expr::Whole(first, value) => {
-            Ok(Some(constant_found(*first, Kind::Whole(i32::from(*value)))))
+            let kind = Kind::Whole(i32::from(*value));
+            Ok(Some(constant_found(alloc, *first, kind)?))
         }
-        Expr::Code(first, code) => Ok(Some(constant_found(
-            *first,
-            Kind::Scalar(CHAR, u16::from(*code)),
-        ))),
+        Expr::Code(first, code) => {
+            let kind = Kind::Scalar(CHAR, u16::from(*code));
+            Ok(Some(constant_found(alloc, *first, kind)?))
+        }
         Expr::Chars(first, text) => Ok(Some(text_found(alloc, *first, text)?)),
         Expr::SetOf(first, name, ranges) => {
             report.note(true, *first, FaultKind::NotBuilt);
             let sort = set_sort(env, report, name);
             let all = elements(alloc, env, report, ranges.as_slice())?;
-            Ok(set_node(&env.types, report, *first, sort, all))
+            let value = set_node(alloc, &env.types, report, *first, sort, all)?;
+            Ok(value)
         }
         Expr::Desig(first, designator) => {
             let of = reached(alloc, env, report, *first, designator)?;
-            Ok(value_node(report, of))
+            let value = value_node(alloc, report, of)?;
+            Ok(value)
         }
         Expr::Call(first, designator, actuals) => {
             let begin = designator.first.place;
@@ -319,6 +323,19 @@ pub fn expression(
     }
 }
 
+/// What an expression in a block of its own means, as `expression` tells it.
+pub fn boxed_expression(
+    alloc: Global,
+    env: &Env,
+    report: &mut Report,
+    of: &Boxed<Expr>,
+) -> Result<Option<Found>, Memory>
+    ensures { IfOk result (λ o. Said (spec.means env.now of.now) report.old o report.new) }
+{
+    let found = expression(alloc, env, report, of.get())?;
+    Ok(found)
+}
+
 /// The variable, or part of one, that a designator means. Its form is a value of that place.
 pub fn variable(
     alloc: Global,
@@ -330,7 +347,8 @@ pub fn variable(
 {
     let begin = of.first.place;
     let found = reached(alloc, env, report, begin, of)?;
-    Ok(variable_node(report, found))
+    let value = variable_node(alloc, report, found)?;
+    Ok(value)
 }
 
 /// What a call that is a statement means.

@@ -1,4 +1,4 @@
-use lil_base::Place;
+use lil_base::{Boxed, Place};
 use lil_module::RExpr;
 use lil_scope::Kind;
 
@@ -14,7 +14,7 @@ pub enum Standing {
 /// An expression that has a type: its resolved form, what is known of its value, its first token, and its depth.
 #[derive(Drop)]
 pub struct Found {
-    pub form: RExpr,
+    pub form: Boxed<RExpr>,
     pub kind: Kind,
     pub first: Place,
     pub depth: usize,

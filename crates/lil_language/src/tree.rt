@@ -34,7 +34,7 @@ pub struct Operation {
 #[derive(Drop)]
 pub struct Range {
     pub low: Expr,
-    pub high: Option<Expr>,
+    pub high: Option<Boxed<Expr>>,
 }
 
 /// A name and what is selected of it.
@@ -59,24 +59,24 @@ pub enum Selector {
 #[cycle(statement)]
 #[derive(Drop)]
 pub enum Stmt {
-    Assign(Designator, Place, Expr),
+    Assign(Designator, Place, Boxed<Expr>),
     Call(Designator, Items<Expr>),
     If(Place, Items<Guard>, Option<Items<Stmt>>),
-    Case(Place, Expr, Items<Arm>, Option<Items<Stmt>>),
-    While(Place, Expr, Items<Stmt>),
-    Repeat(Place, Items<Stmt>, Expr),
+    Case(Place, Boxed<Expr>, Items<Arm>, Option<Items<Stmt>>),
+    While(Place, Boxed<Expr>, Items<Stmt>),
+    Repeat(Place, Items<Stmt>, Boxed<Expr>),
     Loop(Place, Items<Stmt>),
     For(Place, ForHead, Items<Stmt>),
     With(Place, Designator, Items<Stmt>),
     Exit(Place),
-    Return(Place, Option<Expr>),
+    Return(Place, Option<Boxed<Expr>>),
 }
 
 /// A condition, and the statements behind its THEN.
 #[cycle(statement)]
 #[derive(Drop)]
 pub struct Guard {
-    pub condition: Expr,
+    pub condition: Boxed<Expr>,
     pub body: Items<Stmt>,
 }
 
@@ -93,9 +93,9 @@ pub struct Arm {
 pub struct ForHead {
     pub variable: Ident,
     pub becomes: Place,
-    pub from: Expr,
-    pub to: Expr,
-    pub by: Option<Expr>,
+    pub from: Boxed<Expr>,
+    pub to: Boxed<Expr>,
+    pub by: Option<Boxed<Expr>>,
 }
 
 /// The place of an expression's first token, a parenthesis around it included.

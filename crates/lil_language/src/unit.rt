@@ -53,7 +53,7 @@ pub struct Heading {
 pub enum Simple {
     Named(Qualident),
     Enumeration(Place, Items<Ident>),
-    Subrange(Place, Option<Qualident>, Expr, Expr),
+    Subrange(Place, Option<Qualident>, Boxed<Expr>, Boxed<Expr>),
 }
 
 /// A type as it is written, at its first word (Programming in Modula-2, Data types).
@@ -89,7 +89,7 @@ pub struct Variant {
 #[derive(Drop)]
 pub struct Constant {
     pub name: Ident,
-    pub value: Expr,
+    pub value: Boxed<Expr>,
 }
 
 /// A type's name, and its form. One without a form is opaque.

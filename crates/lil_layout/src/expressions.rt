@@ -120,7 +120,7 @@ fn element_words(m: &RModule, withs: &Withs, of: &RElement) -> u32
 {
     let low = expression_words(m, withs, &of.low);
     match &of.high {
-        Some(high) => low.saturating_add(expression_words(m, withs, high)),
+        Some(high) => low.saturating_add(expression_words(m, withs, high.get())),
         None => low,
     }
 }

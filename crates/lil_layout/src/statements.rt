@@ -8,23 +8,30 @@ ghost use Rattle.lil_layout.specs.Strings as spec;
 use crate::expressions::{arguments_words, call_words, designator_words, expression_words};
 use crate::places::{Withs, holds_array, sort_of};
 use crate::texts::{taken, text_length};
+use lil_base::Boxed;
 use lil_module::{RArm, RDesignator, RExpr, RGuard, RModule, RStmt};
 
 /// The words of the string that a text becomes, where it is assigned to an array.
-fn assigned(m: &RModule, withs: &Withs, place: &RDesignator, value: &RExpr) -> u32
+fn assigned(m: &RModule, withs: &Withs, place: &RDesignator, value: &Boxed<RExpr>) -> u32
     ensures { result ≡ min (spec.assigned m.now (in_order withs.now) place.now value.now) 4294967295 }
 {
     taken(
         holds_array(&m.types, sort_of(m, withs, place)),
-        text_length(m, value),
+        text_length(m, value.get()),
     )
 }
 
-fn value_words(m: &RModule, withs: &Withs, of: &Option<RExpr>) -> u32
+fn boxed_words(m: &RModule, withs: &Withs, of: &Boxed<RExpr>) -> u32
+    ensures { result ≡ min (spec.expression_words m.now (in_order withs.now) of.now) 4294967295 }
+{
+    expression_words(m, withs, of.get())
+}
+
+fn value_words(m: &RModule, withs: &Withs, of: &Option<Boxed<RExpr>>) -> u32
     ensures { result ≡ min (spec.value_words m.now (in_order withs.now) of.now) 4294967295 }
 {
     match of {
-        Some(value) => expression_words(m, withs, value),
+        Some(value) => boxed_words(m, withs, value),
         None => 0,
     }
 }
@@ -38,7 +45,7 @@ fn statement_words(m: &RModule, withs: &Withs, of: &RStmt) -> u32
         RStmt::Assign(place, value) => {
             let inside = designator_words(m, withs, place);
             let own = assigned(m, withs, place, value);
-            inside.saturating_add(expression_words(m, withs, value).saturating_add(own))
+            inside.saturating_add(boxed_words(m, withs, value).saturating_add(own))
         }
         RStmt::Call(callee, arguments) => call_words(m, withs, callee, arguments.as_slice()),
         RStmt::Procedure(_, arguments) => arguments_words(m, withs, &[], arguments.as_slice()),
@@ -50,7 +57,7 @@ fn statement_words(m: &RModule, withs: &Withs, of: &RStmt) -> u32
             }
         }
         RStmt::Case(value, arms, otherwise) => {
-            let selector = expression_words(m, withs, value);
+            let selector = boxed_words(m, withs, value);
             let bodies = selector.saturating_add(arms_words(m, withs, arms.as_slice()));
             match otherwise {
                 Some(body) => bodies.saturating_add(body_words(m, withs, body.as_slice())),
@@ -58,17 +65,17 @@ fn statement_words(m: &RModule, withs: &Withs, of: &RStmt) -> u32
             }
         }
         RStmt::While(condition, body) => {
-            let tested = expression_words(m, withs, condition);
+            let tested = boxed_words(m, withs, condition);
             tested.saturating_add(body_words(m, withs, body.as_slice()))
         }
         RStmt::Repeat(body, condition) => {
             let repeated = body_words(m, withs, body.as_slice());
-            repeated.saturating_add(expression_words(m, withs, condition))
+            repeated.saturating_add(boxed_words(m, withs, condition))
         }
         RStmt::Loop(body) => body_words(m, withs, body.as_slice()),
         RStmt::For(_, from, to, _, body) => {
-            let first = expression_words(m, withs, from);
-            let last = expression_words(m, withs, to);
+            let first = boxed_words(m, withs, from);
+            let last = boxed_words(m, withs, to);
             first.saturating_add(last.saturating_add(body_words(m, withs, body.as_slice())))
         }
         RStmt::With(place, body) => {
@@ -97,7 +104,7 @@ pub(crate) fn body_words(m: &RModule, withs: &Withs, of: &[RStmt]) -> u32
 fn guard_words(m: &RModule, withs: &Withs, of: &RGuard) -> u32
     ensures { result ≡ min (spec.guard_words m.now of.now (in_order withs.now)) 4294967295 }
 {
-    let condition = expression_words(m, withs, &of.condition);
+    let condition = boxed_words(m, withs, &of.condition);
     condition.saturating_add(body_words(m, withs, of.body.as_slice()))
 }
 

@@ -5,6 +5,7 @@ ghost use Rattle.lil_lower.specs.Lowered as spec;
 
 use crate::bases::base_at;
 use crate::values::own_sort;
+use lil_base::Boxed;
 use lil_module::{RExpr as Value, RModule};
 use lil_resolved::RBase;
 use lil_types::{CARDINAL, CHAR, INTEGER, TypeId, TypeTable};
@@ -75,9 +76,9 @@ fn selector_by(t: &TypeTable, sort: Option<TypeId>) -> Option<Ordinal>
 }
 
 /// The type of what a CASE selects by, None where the generator has none.
-pub(crate) fn selector(m: &RModule, of: &Value) -> Option<Ordinal>
+pub(crate) fn selector(m: &RModule, of: &Boxed<Value>) -> Option<Ordinal>
     requires { length m.now.variables ≤ 32000 }
     ensures { result ≡ spec.selector m.now of.now }
 {
-    selector_by(&m.types, selector_sort(m, of))
+    selector_by(&m.types, selector_sort(m, of.get()))
 }

@@ -13,18 +13,23 @@ use crate::room::shallow;
 use crate::selectors::selector;
 use crate::values::{expression, own_sort};
 use crate::variables::{Variable, designator, root};
-use lil_base::{Items, Memory, beside};
+use lil_base::{Boxed, Items, Memory, beside};
 use lil_module::{RArm as Arm, RExpr as Value, RGuard as Guard, RModule, RStmt as Tree};
 use lil_resolved::{RArm, RBase, RExpr, RGuard, RStmt, base};
 use lil_types::{BOOLEAN, TypeId};
 use std::alloc::Global;
 
 /// A whole expression as a value of a wanted base type.
-fn value(alloc: Global, m: &RModule, wanted: TypeId, of: &Value) -> Result<Option<RExpr>, Memory>
+fn value(
+    alloc: Global,
+    m: &RModule,
+    wanted: TypeId,
+    of: &Boxed<Value>,
+) -> Result<Option<RExpr>, Memory>
     requires { length m.now.variables ≤ 32000 }
     ensures { IfOk result (λ o. option_map view.expression_of o ≡ spec.value m.now of.now wanted) }
 {
-    Ok(shallow(expression(alloc, m, wanted, of)?))
+    Ok(shallow(expression(alloc, m, wanted, of.get())?))
 }
 
 /// An assignment of a value in its own type, or of a constant in that of the variable.
@@ -32,7 +37,7 @@ fn assigned(
     alloc: Global,
     m: &RModule,
     variable: Option<Variable>,
-    of: &Value,
+    of: &Boxed<Value>,
 ) -> Result<Option<RStmt>, Memory>
     requires { length m.now.variables ≤ 32000 }
     ensures { IfOk result (λ o. option_map view.statement_of o ≡ spec.assigned m.now variable of.now) }
@@ -40,7 +45,7 @@ fn assigned(
     match variable {
         None => Ok(None),
         Some(variable) => {
-            let of = value(alloc, m, own_or(own_sort(m, of), variable.sort), of)?;
+            let of = value(alloc, m, own_or(own_sort(m, of.get()), variable.sort), of)?;
             Ok(stored(variable, of))
         }
     }
@@ -133,7 +138,7 @@ fn exited(looping: bool) -> Option<RStmt>
 
 /// RETURN in the module's body.
 #[tactic(auto, using(lil_resolved::specs::Forms::return_is))]
-fn returned(of: &Option<Value>) -> Option<RStmt>
+fn returned(of: &Option<Boxed<Value>>) -> Option<RStmt>
     ensures { option_map view.statement_of result ≡ spec.returned of.now }
 {
     match of {
@@ -199,8 +204,8 @@ fn counted(
     alloc: Global,
     m: &RModule,
     variable: Option<Variable>,
-    from: &Value,
-    to: &Value,
+    from: &Boxed<Value>,
+    to: &Boxed<Value>,
     by: i32,
     body: Option<Items<RStmt>>,
 ) -> Result<Option<RStmt>, Memory>
@@ -210,7 +215,12 @@ fn counted(
     match variable {
         None => Ok(None),
         Some(variable) => {
-            let from = value(alloc, m, own_or(own_sort(m, from), variable.sort), from)?;
+            let from = value(
+                alloc,
+                m,
+                own_or(own_sort(m, from.get()), variable.sort),
+                from,
+            )?;
             let from = started(variable, from);
             let (from, to) = beside(from, value(alloc, m, variable.sort, to))?;
             Ok(repeated_for(variable, from, to, by, body))

@@ -78,7 +78,7 @@ pub struct ROperation {
 #[derive(Drop)]
 pub struct RElement {
     pub low: RExpr,
-    pub high: Option<RExpr>,
+    pub high: Option<Boxed<RExpr>>,
 }
 
 /// A variable, or a part of one.
@@ -120,25 +120,25 @@ pub enum RArgument {
 #[cycle(statement)]
 #[derive(Drop)]
 pub enum RStmt {
-    Assign(RDesignator, RExpr),
+    Assign(RDesignator, Boxed<RExpr>),
     Call(RCallee, Items<RArgument>),
     Procedure(Standard, Items<RArgument>),
     If(Items<RGuard>, Option<Items<RStmt>>),
-    Case(RExpr, Items<RArm>, Option<Items<RStmt>>),
-    While(RExpr, Items<RStmt>),
-    Repeat(Items<RStmt>, RExpr),
+    Case(Boxed<RExpr>, Items<RArm>, Option<Items<RStmt>>),
+    While(Boxed<RExpr>, Items<RStmt>),
+    Repeat(Items<RStmt>, Boxed<RExpr>),
     Loop(Items<RStmt>),
-    For(RRoot, RExpr, RExpr, i32, Items<RStmt>),
+    For(RRoot, Boxed<RExpr>, Boxed<RExpr>, i32, Items<RStmt>),
     With(RDesignator, Items<RStmt>),
     Exit,
-    Return(Option<RExpr>),
+    Return(Option<Boxed<RExpr>>),
 }
 
 /// A condition, and the statements behind its THEN.
 #[cycle(statement)]
 #[derive(Drop)]
 pub struct RGuard {
-    pub condition: RExpr,
+    pub condition: Boxed<RExpr>,
     pub body: Items<RStmt>,
 }
 

@@ -4,7 +4,7 @@ ghost use Rattle.lil_language.specs.Grammar as spec;
 use lil_base::{Items, beside};
 use lil_grammar::Reader;
 use lil_language::{Constant, Decl, Sort, TypeName, Variables};
-use lil_read_expr::{expr, names};
+use lil_read_expr::{boxed_expr, names};
 use lil_read_type::sort;
 use lil_syntax::sees_name;
 use lil_text::{Mark, ReadStop, Word};
@@ -16,7 +16,7 @@ fn constant(alloc: Global, reader: &mut Reader<'_>, depth: u8) -> Result<Constan
 {
     let name = reader.ident(alloc)?;
     reader.expect(Mark::Equal)?;
-    let value = expr(alloc, reader, depth)?;
+    let value = boxed_expr(alloc, reader, depth)?;
     let (value, _) = beside(value, reader.expect(Mark::Semicolon))?;
     Ok(Constant { name, value })
 }

@@ -10,7 +10,7 @@ use crate::lookahead::{
     sees_literal,
 };
 use crate::named::named;
-use lil_base::{Items, OneOp, beside};
+use lil_base::{Boxed, Items, OneOp, beside};
 use lil_grammar::Reader;
 use lil_language::{Expr, Operation, begun_at};
 use lil_syntax::{addition, multiplication, relation, sees_sign, sign};
@@ -27,6 +27,18 @@ pub fn expr(alloc: Global, reader: &mut Reader<'_>, depth: u8) -> Result<Expr, R
         return deep_expression(reader);
     }
     related(alloc, reader, depth - 1)
+}
+
+/// An expression, as `expr` reads it, in a block of memory of its own.
+pub fn boxed_expr(
+    alloc: Global,
+    reader: &mut Reader<'_>,
+    depth: u8,
+) -> Result<Boxed<Expr>, ReadStop>
+    ensures { Reads (read spec.grammar depth spec.expression reader.old) result reader.new }
+{
+    let read = expr(alloc, reader, depth)?;
+    Ok(Boxed::new(alloc, read)?)
 }
 
 /// A factor behind NOT, with at most `depth` parts in one another.

@@ -12,7 +12,7 @@ mod named;
 mod selectors;
 
 pub use adding::add_read;
-pub use expression::expr;
+pub use expression::{boxed_expr, expr};
 pub use idents::{names, qualident};
 pub use lists::{actuals, labels};
 pub use lookahead::sees_expression;

@@ -4,7 +4,7 @@ ghost use Rattle.lil_language.specs.Grammar as spec;
 use crate::expression::expr;
 use crate::forms::alone;
 use crate::lookahead::sees_expression;
-use lil_base::{Items, beside};
+use lil_base::{Boxed, Items, beside};
 use lil_grammar::Reader;
 use lil_language::{Expr, Range};
 use lil_text::{Mark, ReadStop};
@@ -19,6 +19,7 @@ fn element(alloc: Global, reader: &mut Reader<'_>, depth: u8) -> Result<Range, R
     if reader.sees(Mark::Through) {
         let (low, _) = beside(low, reader.expect(Mark::Through))?;
         let (low, high) = beside(low, expr(alloc, reader, depth))?;
+        let (low, high) = beside(low, Boxed::new(alloc, high))?;
         Ok(Range {
             low,
             high: Some(high),

@@ -6,7 +6,7 @@ use crate::statement::statements;
 use lil_base::{Items, beside};
 use lil_grammar::Reader;
 use lil_language::{Arm, Guard, Stmt};
-use lil_read_expr::{add_read, expr, labels};
+use lil_read_expr::{add_read, boxed_expr, labels};
 use lil_text::{Mark, ReadStop, Word};
 use std::alloc::Global;
 
@@ -16,7 +16,7 @@ use std::alloc::Global;
 fn guarded(alloc: Global, reader: &mut Reader<'_>, depth: u8) -> Result<Guard, ReadStop>
     ensures { Reads (spec.reading depth spec.guarded reader.old) result reader.new }
 {
-    let condition = expr(alloc, reader, depth)?;
+    let condition = boxed_expr(alloc, reader, depth)?;
     let (condition, _) = beside(condition, reader.expect_word(Word::Then))?;
     let (condition, body) = beside(condition, statements(alloc, reader, depth))?;
     Ok(Guard { condition, body })
@@ -127,7 +127,7 @@ fn case_form(alloc: Global, reader: &mut Reader<'_>, depth: u8) -> Result<Stmt, 
     ensures { Reads (spec.reading depth spec.case_form reader.old) result reader.new }
 {
     let place = reader.expect_word(Word::Case)?;
-    let selector = expr(alloc, reader, depth)?;
+    let selector = boxed_expr(alloc, reader, depth)?;
     let (selector, _) = beside(selector, reader.expect_word(Word::Of))?;
     let (selector, arms) = beside(selector, arms(alloc, reader, depth))?;
     let (held, otherwise) = beside((selector, arms), otherwise(alloc, reader, depth))?;

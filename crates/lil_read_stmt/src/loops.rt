@@ -2,10 +2,10 @@ ghost use Rattle.lil_grammar.specs.Steps.{Reads};
 ghost use Rattle.lil_language.specs.Grammar as spec;
 
 use crate::statement::statements;
-use lil_base::beside;
+use lil_base::{Boxed, beside};
 use lil_grammar::Reader;
 use lil_language::{Expr, ForHead, Stmt};
-use lil_read_expr::expr;
+use lil_read_expr::boxed_expr;
 use lil_text::{Mark, ReadStop, Word};
 use std::alloc::Global;
 
@@ -16,7 +16,7 @@ fn while_form(alloc: Global, reader: &mut Reader<'_>, depth: u8) -> Result<Stmt,
     ensures { Reads (spec.reading depth spec.while_form reader.old) result reader.new }
 {
     let place = reader.expect_word(Word::While)?;
-    let condition = expr(alloc, reader, depth)?;
+    let condition = boxed_expr(alloc, reader, depth)?;
     let (condition, _) = beside(condition, reader.expect_word(Word::Do))?;
     let (condition, body) = beside(condition, statements(alloc, reader, depth))?;
     let (held, _) = beside((condition, body), reader.expect_word(Word::End))?;
@@ -32,7 +32,7 @@ fn repeat_form(alloc: Global, reader: &mut Reader<'_>, depth: u8) -> Result<Stmt
     let place = reader.expect_word(Word::Repeat)?;
     let body = statements(alloc, reader, depth)?;
     reader.expect_word(Word::Until)?;
-    let condition = expr(alloc, reader, depth)?;
+    let condition = boxed_expr(alloc, reader, depth)?;
     Ok(Stmt::Repeat(place, body, condition))
 }
 
@@ -50,12 +50,12 @@ fn loop_form(alloc: Global, reader: &mut Reader<'_>, depth: u8) -> Result<Stmt, 
 
 /// What stands behind BY, where one stands here.
 #[tactic(auto, unfolding(lil_language::specs::Grammar::reading, lil_language::specs::Grammar::step, lil_syntax::specs::Syntax::reads, lil_syntax::specs::Syntax::before))]
-fn step(alloc: Global, reader: &mut Reader<'_>, depth: u8) -> Result<Option<Expr>, ReadStop>
+fn step(alloc: Global, reader: &mut Reader<'_>, depth: u8) -> Result<Option<Boxed<Expr>>, ReadStop>
     ensures { Reads (spec.reading depth spec.step reader.old) result reader.new }
 {
     if reader.sees_word(Word::By) {
         reader.expect_word(Word::By)?;
-        let by = expr(alloc, reader, depth)?;
+        let by = boxed_expr(alloc, reader, depth)?;
         Ok(Some(by))
     } else {
         Ok(None)
@@ -69,9 +69,9 @@ fn a_for_head(alloc: Global, reader: &mut Reader<'_>, depth: u8) -> Result<ForHe
 {
     let variable = reader.ident(alloc)?;
     let (named, becomes) = beside(variable, reader.expect(Mark::Becomes))?;
-    let (named, from) = beside(named, expr(alloc, reader, depth))?;
+    let (named, from) = beside(named, boxed_expr(alloc, reader, depth))?;
     let (begun, _) = beside((named, from), reader.expect_word(Word::To))?;
-    let (begun, to) = beside(begun, expr(alloc, reader, depth))?;
+    let (begun, to) = beside(begun, boxed_expr(alloc, reader, depth))?;
     let (bounded, by) = beside((begun, to), step(alloc, reader, depth))?;
     let ((variable, from), to) = bounded;
     Ok(ForHead {

@@ -4,7 +4,7 @@ ghost use Rattle.lil_language.specs.Grammar as spec;
 use lil_base::{Items, beside};
 use lil_grammar::Reader;
 use lil_language::Stmt;
-use lil_read_expr::{actuals, designator, expr, sees_expression};
+use lil_read_expr::{actuals, boxed_expr, designator, sees_expression};
 use lil_text::{Mark, ReadStop, Word};
 use std::alloc::Global;
 
@@ -24,7 +24,7 @@ pub fn return_form(alloc: Global, reader: &mut Reader<'_>, depth: u8) -> Result<
 {
     let place = reader.expect_word(Word::Return)?;
     if sees_expression(reader) {
-        let value = expr(alloc, reader, depth)?;
+        let value = boxed_expr(alloc, reader, depth)?;
         Ok(Stmt::Return(place, Some(value)))
     } else {
         Ok(Stmt::Return(place, None))
@@ -39,7 +39,7 @@ pub fn named_form(alloc: Global, reader: &mut Reader<'_>, depth: u8) -> Result<S
     let designator = designator(alloc, reader, depth)?;
     if reader.sees(Mark::Becomes) {
         let (designator, place) = beside(designator, reader.expect(Mark::Becomes))?;
-        let (designator, value) = beside(designator, expr(alloc, reader, depth))?;
+        let (designator, value) = beside(designator, boxed_expr(alloc, reader, depth))?;
         Ok(Stmt::Assign(designator, place, value))
     } else if reader.sees(Mark::Open) {
         let (designator, arguments) = beside(designator, actuals(alloc, reader, depth))?;

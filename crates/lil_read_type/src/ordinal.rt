@@ -3,10 +3,10 @@ ghost use Rattle.lil_grammar.specs.Steps.{Reads};
 ghost use Rattle.lil_language.specs.Grammar as spec;
 ghost use Rattle.lil_language.specs.Trees as tree;
 
-use lil_base::{Items, Place, beside};
+use lil_base::{Boxed, Items, Place, beside};
 use lil_grammar::Reader;
 use lil_language::{Expr, Simple};
-use lil_read_expr::{expr, names, qualident};
+use lil_read_expr::{boxed_expr, names, qualident};
 use lil_text::{Mark, Qualident, ReadStop};
 use std::alloc::Global;
 
@@ -26,13 +26,13 @@ fn bounds(
     alloc: Global,
     reader: &mut Reader<'_>,
     depth: u8,
-) -> Result<(Place, Expr, Expr), ReadStop>
+) -> Result<(Place, Boxed<Expr>, Boxed<Expr>), ReadStop>
     ensures { Reads (spec.reading depth spec.bounds reader.old) result reader.new }
 {
     let place = reader.expect(Mark::OpenBracket)?;
-    let low = expr(alloc, reader, depth)?;
+    let low = boxed_expr(alloc, reader, depth)?;
     let (low, _) = beside(low, reader.expect(Mark::Through))?;
-    let (low, high) = beside(low, expr(alloc, reader, depth))?;
+    let (low, high) = beside(low, boxed_expr(alloc, reader, depth))?;
     let ((low, high), _) = beside((low, high), reader.expect(Mark::CloseBracket))?;
     Ok((place, low, high))
 }

@@ -1,8 +1,4 @@
-use crate::mcode::begun;
-use lil_base::Bytes;
-use lil_kernel::{piece, serve};
-use lil_mcode::{Event, Machine};
-use lil_volume::RamSink;
+use lil_kernel::piece;
 
 /// A digit at the end of eighty columns.
 const WIDE: &[u8] =
@@ -48,30 +44,4 @@ fn shows(rt: HostRuntime) {
     for (number, first, second, wanted) in PIECES {
         assert!(rt; piece(*number, *first, *second).as_slice() == *wanted);
     }
-}
-
-// One step, and the request that it makes.
-fn go_on(machine: &mut Machine, screen: &mut RamSink) -> bool {
-    match machine.step() {
-        Event::Went => true,
-        Event::Request(number) => serve(number, machine, screen).is_ok(),
-        _ => false,
-    }
-}
-
-#[test]
-fn serves(rt: HostRuntime) {
-    // LIB 33; LIB 65; LIB 4; SVC 5; SVC 4; SVC 2; RTN
-    let code = [
-        2, 33, 2, 65, 2, 4, 0x7d, 5, 0x7d, 4, 0x7d, 2, 0x6a, 0, 0, 0, 0, 0, 0, 0, 0, 0, 0, 0, 0, 0,
-        0, 0, 0, 0, 0, 0,
-    ];
-    let mut machine = begun(rt.alloc(), &code).expect(&rt, "memory");
-    let fails = Vec::new(rt.alloc());
-    let mut screen = RamSink::new(rt.alloc(), Bytes::new(rt.alloc()), fails).expect(&rt, "memory");
-    for _ in 0..6 {
-        assert!(rt; go_on(&mut machine, &mut screen));
-    }
-    assert!(rt; screen.calls() == 3 && screen.written().as_slice() == b"  65\n!".as_slice());
-    assert!(rt; !go_on(&mut machine, &mut screen));
 }

@@ -1,9 +1,7 @@
 use crate::made::{Form, name, single, table};
-use lil_base::{Items, Memory, Name, Text, beside};
+use lil_base::{Boxed, Items, Memory, Name, Text, beside};
 use lil_layout::data_words;
-use lil_module::{
-    Mode, RArgument, RCallee, RDesignator, RExpr, RModule, RRoot, RSelector, RStmt, RVar, Resident,
-};
+use lil_module::{Mode, RDesignator, RExpr, RModule, RRoot, RStmt, RVar};
 use lil_types::{CARDINAL, CHAR, Span, TypeId, TypeTable};
 use std::alloc::Global;
 use std::test::Fail;
@@ -17,8 +15,6 @@ const FIVE: TypeId = 18;
 
 const TEXT: TypeId = 19;
 
-const PERSON: TypeId = 20;
-
 const FORMS: &[Form] = &[
     Form::Range(
         CARDINAL,
@@ -30,7 +26,6 @@ const FORMS: &[Form] = &[
     Form::Array(RANGE, CARDINAL),
     Form::Range(CARDINAL, Span { low: 0, high: 4 }),
     Form::Array(FIVE, CHAR),
-    Form::Record(&[(b"name", TEXT)]),
 ];
 
 fn variable(alloc: Global, sort: TypeId, owner: Option<usize>) -> Result<RVar, Memory> {
@@ -88,6 +83,7 @@ fn whole(alloc: Global, root: RRoot) -> RDesignator {
 
 fn assigned(alloc: Global, place: RDesignator, of: &[u8]) -> Result<RStmt, Memory> {
     let (place, value) = beside(place, text(alloc, of))?;
+    let (place, value) = beside(place, Boxed::new(alloc, value))?;
     Ok(RStmt::Assign(place, value))
 }
 
@@ -112,39 +108,5 @@ fn assignments(rt: HostRuntime) -> Result<(), Fail> {
         let body = single(alloc, assigned(alloc, place, of))?;
         assert!(rt; words(alloc, &[TEXT, CHAR], body)? == *wanted);
     }
-    Ok(())
-}
-
-/// name := "ab"; name[0] := "a"
-fn of_name(alloc: Global) -> Result<Items<RStmt>, Memory> {
-    let root = RRoot::Field(0, 0);
-    let mut inner = single(alloc, assigned(alloc, whole(alloc, root), b"ab"))?;
-    let selectors = single(alloc, Ok(RSelector::Index(RExpr::Scalar(FIVE, 0))))?;
-    inner.push(assigned(alloc, RDesignator { root, selectors }, b"a")?)?;
-    Ok(inner)
-}
-
-#[test]
-fn parts(rt: HostRuntime) -> Result<(), Fail> {
-    let alloc = rt.alloc();
-    // VAR p: RECORD name: ARRAY [0..4] OF CHAR END; WITH p DO name := "ab"; name[0] := "a" END
-    let with = RStmt::With(whole(alloc, RRoot::Global(0)), of_name(alloc)?);
-    let body = single(alloc, Ok(with))?;
-    assert!(rt; words(alloc, &[PERSON], body)? == 7);
-    Ok(())
-}
-
-fn call(alloc: Global, of: Resident, argument: &[u8]) -> Result<RStmt, Memory> {
-    let value = RArgument::Value(text(alloc, argument)?);
-    Ok(RStmt::Call(RCallee::Resident(of), single(alloc, Ok(value))?))
-}
-
-#[test]
-fn arguments(rt: HostRuntime) -> Result<(), Fail> {
-    let alloc = rt.alloc();
-    // WriteString(""); Write("a")
-    let mut body = single(alloc, call(alloc, Resident::WriteString, b""))?;
-    body.push(call(alloc, Resident::Write, b"a")?)?;
-    assert!(rt; words(alloc, &[CARDINAL], body)? == 2);
     Ok(())
 }

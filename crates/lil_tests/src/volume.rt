@@ -1,7 +1,7 @@
 use lil_base::{Bytes, FileName, Memory, Text};
 use lil_volume::{
-    ErrorSink, FolderVolume, InputKeys, KeyFailed, Keyboard, OutputSink, RamKeys, RamSink,
-    RamVolume, Sink, SinkFailed, Volume, VolumeError,
+    ErrorSink, FolderVolume, InputKeys, KeyFailed, Keyboard, OutputSink, Sink, SinkFailed, Volume,
+    VolumeError,
 };
 use std::alloc::{Allocator, Global};
 use std::fs::{Metadata, OpenOptions};
@@ -19,12 +19,6 @@ fn named(alloc: Global, text: &[u8]) -> Result<Option<FileName>, Memory> {
 
 fn file_name(alloc: Global, text: &[u8]) -> Result<FileName, Fail> {
     Ok(named(alloc, text)?.ok_or("no file name")?)
-}
-
-fn failing(alloc: Global, at: u64) -> Result<Vec<u64>, Fail> {
-    let mut calls = Vec::new(alloc);
-    calls.push(at)?;
-    Ok(calls)
 }
 
 /// Whether a file has these bytes; None stands for no file.
@@ -86,58 +80,10 @@ fn call_all<V: Volume>(
     Ok(())
 }
 
-/// A volume of one file, whose third call fails.
-fn one_file(alloc: Global) -> Result<RamVolume, Fail> {
-    let mut files = Vec::new(alloc);
-    files.push((
-        file_name(alloc, b"A.MOD")?,
-        Bytes::from_slice(alloc, b"one")?,
-    ))?;
-    Ok(RamVolume::new(alloc, files, failing(alloc, 3)?)?)
-}
-
-#[test]
-fn a_volume_in_memory(rt: HostRuntime) -> Result<(), Fail> {
-    let alloc = rt.alloc();
-    let mut volume = one_file(alloc)?;
-    let calls = &[
-        Call::Read(b"A.MOD", Some(b"one")),
-        Call::Read(b"B.MOD", None),
-        Call::Write(b"A.MOD", b"two", false),
-        Call::Read(b"A.MOD", Some(b"one")),
-        Call::Write(b"A.MOD", b"two", true),
-        Call::Write(b"B.MOD", b"", true),
-        Call::Read(b"A.MOD", Some(b"two")),
-        Call::Read(b"B.MOD", Some(b"")),
-    ];
-    call_all(&rt, alloc, &mut volume, calls)?;
-    assert!(rt; volume.calls() == 8);
-    Ok(())
-}
-
 fn expect_keys<K: Keyboard>(rt: &impl Abort, keys: &mut K, want: &[Result<Option<u8>, KeyFailed>]) {
     for answer in want {
         assert!(rt; keys.key() == *answer);
     }
-}
-
-#[test]
-fn keys_in_memory(rt: HostRuntime) -> Result<(), Fail> {
-    let alloc = rt.alloc();
-    let mut keys = RamKeys::new(alloc, Bytes::from_slice(alloc, b"ab")?, failing(alloc, 2)?)?;
-    expect_keys(
-        &rt,
-        &mut keys,
-        &[
-            Ok(Some(b'a')),
-            Err(KeyFailed),
-            Ok(Some(b'b')),
-            Ok(None),
-            Ok(None),
-        ],
-    );
-    assert!(rt; keys.calls() == 5);
-    Ok(())
 }
 
 fn put_all<S: Sink>(
@@ -148,24 +94,6 @@ fn put_all<S: Sink>(
     for (piece, answer) in pieces {
         assert!(rt; sink.put(piece) == *answer);
     }
-}
-
-#[test]
-fn a_sink_in_memory(rt: HostRuntime) -> Result<(), Fail> {
-    let alloc = rt.alloc();
-    let mut sink = RamSink::new(alloc, Bytes::from_slice(alloc, b"<")?, failing(alloc, 2)?)?;
-    put_all(
-        &rt,
-        &mut sink,
-        &[
-            (b"ab", Ok(())),
-            (b"cd", Err(SinkFailed)),
-            (b"", Ok(())),
-            (b"e", Ok(())),
-        ],
-    );
-    assert!(rt; sink.written().as_slice() == b"<abe".as_slice() && sink.calls() == 4);
-    Ok(())
 }
 
 /// A reader that is interrupted, gives an a, fails, gives a b, and is at its end.

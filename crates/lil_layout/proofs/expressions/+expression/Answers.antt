@@ -1,4 +1,4 @@
-use Rattle.std.proofs.Common.{sym, ap, refl}
+use Rattle.std.proofs.Common.{sym, ap, refl, rules}
 use Rattle.lil_layout.specs.Places.{in_order}
 use Rattle.lil_layout.specs.Strings.{Phrase, Called, passed, argument, operation_words}
 use Rattle.lil_layout.proofs.Sums.{upto, added, kept, more}
@@ -40,7 +40,7 @@ arguments_words-loop-at-preserved t c = given_more c.args.m.now (in_order c.args
     (kept c.passed.ensures (ap (λ p. passed c.args.m.now p (argument c.args.m.now (in_order c.args.withs.now) c.index-of-at.result)) (sym c.parameter_at-by.ensures))) c.saturating_add-words.ensures
 
 pub element_words-returns-in-Some : goal.element_words-returns-in-Some
-element_words-returns-in-Some t c = added _ _ c.expression_words-low.ensures c.expression_words.ensures c.saturating_add.ensures (range_is c.args.m.now (in_order c.args.withs.now) c.args.of.now c.in-Some.high c.in-Some.is)
+element_words-returns-in-Some t c = added _ _ c.expression_words-low.ensures c.expression_words.ensures c.saturating_add.ensures (range_is c.args.m.now (in_order c.args.withs.now) c.args.of.now c.get.result.now (search rules))
 
 pub element_words-returns-in-None : goal.element_words-returns-in-None
 element_words-returns-in-None t c = kept c.expression_words-low.ensures (alone_is c.args.m.now (in_order c.args.withs.now) c.args.of.now c.in-None.is)
