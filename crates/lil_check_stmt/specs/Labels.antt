@@ -2,7 +2,8 @@
 use Rattle.std.specs.Prelude.{ℤ, pos, int_lt, Bool, false, not, ◌&&◌, List, [], ◌∷◌, ◌++◌, Option, Some, None, if◌then◌else◌}
 use Rattle.std.specs.List.{list_any}
 use Rattle.lil_base.specs.declared.fault.FaultKind.TheVariants.{Assign, NotConst, EmptyRange, LabelTwice}
-use Rattle.lil_types.specs.Types.{Table, integer, cardinal, char}
+use Rattle.lil_types.specs.declared.table.Span.{Span}
+use Rattle.lil_types.specs.Types.{Table, integer, cardinal, char, meets}
 use Rattle.lil_language.specs.declared.tree.Expr.{Expr}
 use Rattle.lil_language.specs.declared.tree.Range.{Range}
 use Rattle.lil_module.specs.declared.tree.RLabel.{RLabel}
@@ -39,13 +40,16 @@ abbrev pub is_empty_span : Option RLabel → Bool
 is_empty_span (Some l) = is_empty l
 is_empty_span None = false
 
+abbrev pub values_of : RLabel → Span
+values_of l = record { low = l.low; high = l.high }
+
 -- a value is in both
-abbrev pub meets : RLabel → RLabel → Bool
-meets a b = not (int_lt a.high b.low) && not (int_lt b.high a.low)
+abbrev pub labels_meet : RLabel → RLabel → Bool
+labels_meet a b = meets (values_of a) (values_of b)
 
 -- a value stands before
 abbrev pub stands : List RLabel → Option RLabel → Bool
-stands seen (Some l) = not (is_empty l) && list_any (meets l) seen
+stands seen (Some l) = not (is_empty l) && list_any (labels_meet l) seen
 stands seen None = false
 
 -- 51 NotConst

@@ -10,7 +10,7 @@ use lil_language::Range;
 use lil_module::{RArm, RLabel};
 use lil_report::Report;
 use lil_scope::{Env, Kind};
-use lil_types::{CARDINAL, CHAR, INTEGER, TypeTable};
+use lil_types::{CARDINAL, CHAR, INTEGER, Span, TypeTable, meets};
 use std::alloc::Global;
 
 /// The labels of all arms so far, and those of the arm at hand.
@@ -75,17 +75,26 @@ fn is_empty_span(label: Option<RLabel>) -> bool
     }
 }
 
-/// Whether a value is in both.
-fn meets(a: &RLabel, b: &RLabel) -> bool
-    ensures { result ≡ spec.meets a.now b.now }
+fn values_of(label: &RLabel) -> Span
+    ensures { result ≡ spec.values_of label.now }
 {
-    !(a.high < b.low) && !(b.high < a.low)
+    Span {
+        low: label.low,
+        high: label.high,
+    }
+}
+
+/// Whether a value is in both.
+fn labels_meet(a: &RLabel, b: &RLabel) -> bool
+    ensures { result ≡ spec.labels_meet a.now b.now }
+{
+    meets(values_of(a), values_of(b))
 }
 
 fn meets_any(label: &RLabel, seen: &[RLabel]) -> bool
-    ensures { result ≡ list_any (spec.meets label.now) seen.now }
+    ensures { result ≡ list_any (spec.labels_meet label.now) seen.now }
 {
-    seen.iter().any(|other| meets(label, other))
+    seen.iter().any(|other| labels_meet(label, other))
 }
 
 /// Whether a value of a label stands before.

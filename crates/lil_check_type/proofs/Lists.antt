@@ -5,13 +5,14 @@ use Rattle.lil_base.specs.declared.fault.Place.{Place}
 use Rattle.lil_types.specs.declared.table.Span.{Span}
 use Rattle.lil_types.specs.declared.table.Field.{Field}
 use Rattle.lil_types.specs.declared.table.TypeForm.{TypeForm}
+use Rattle.lil_types.specs.Types.{meets}
 use Rattle.lil_report.specs.declared.report.Fault.{Fault}
 use Rattle.lil_report.specs.Told.{Row, walk, Said}
 use Rattle.lil_report.specs.Laws.{said_value, said_after}
 use Rattle.lil_scope.specs.declared.env.Env.{Env}
 use Rattle.lil_scope.specs.Names.{same}
 use Rattle.lil_check_type.specs.Made.{Made, form_node}
-use Rattle.lil_check_type.specs.Bounds.{meets, has_value_of}
+use Rattle.lil_check_type.specs.Bounds.{has_value_of}
 use Rattle.lil_check_type.specs.Records.{has_field}
 use Rattle.lil_check_type.specs.Sorts.{array_form, array_step}
 

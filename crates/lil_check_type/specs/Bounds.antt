@@ -5,7 +5,7 @@ use Rattle.lil_base.specs.declared.fault.FaultKind.TheVariants.{Assign, LabelTwi
 use Rattle.lil_types.specs.declared.table.Span.{Span}
 use Rattle.lil_types.specs.declared.table.TypeForm.{TypeForm}
 use Rattle.lil_types.specs.declared.table.TypeForm.TheVariants as form
-use Rattle.lil_types.specs.Types.{Table, integer, cardinal, char, base, span}
+use Rattle.lil_types.specs.Types.{Table, integer, cardinal, char, base, span, meets}
 use Rattle.lil_report.specs.Told.{Row, row}
 use Rattle.lil_scope.specs.declared.thing.Kind.{Kind}
 use Rattle.lil_scope.specs.declared.thing.Kind.TheVariants as k
@@ -114,9 +114,6 @@ range_node t p (Given n) (Some a) None = (None, [])
 range_node t p (Given n) None b = (None, [])
 
 -- ---- labels: the values of those before, and of one more
-abbrev pub meets : Span → Span → Bool
-meets s u = not (int_lt s.high u.low) && not (int_lt u.high s.low)
-
 abbrev pub has_value_of : List Span → Span → Bool
 has_value_of [] s = false
 has_value_of (u ∷ us) s = meets s u || has_value_of us s

@@ -7,7 +7,7 @@ use lil_base::{FaultKind, Items, Memory, Place};
 use lil_kinds::{Found, compatible, is_constant, is_ordinal, misses, number};
 use lil_report::Report;
 use lil_scope::Kind;
-use lil_types::{CARDINAL, CHAR, INTEGER, Span, TypeForm, TypeId, TypeTable, base};
+use lil_types::{CARDINAL, CHAR, INTEGER, Span, TypeForm, TypeId, TypeTable, base, meets};
 
 /// The operand that stands as a bound or label: what is known of it, and its first token.
 #[derive(Clone, Copy)]
@@ -241,12 +241,6 @@ pub fn range(
         (NamedType::Given(_), Some(_), None) => None,
         (NamedType::Given(_), None, _) => None,
     }
-}
-
-fn meets(s: Span, u: Span) -> bool
-    ensures { result ≡ spec.meets s u }
-{
-    !(s.high < u.low) && !(u.high < s.low)
 }
 
 fn has_value_of(before: &[Span], s: Span) -> bool

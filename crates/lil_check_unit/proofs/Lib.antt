@@ -1,6 +1,2 @@
-mod AddedTypes
-mod Blocks
-mod Imports
 mod Limits
-mod Residents
 mod UnitFaults

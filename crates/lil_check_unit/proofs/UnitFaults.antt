@@ -13,10 +13,10 @@ use Rattle.lil_module.specs.declared.declared.RModule.{RModule}
 use Rattle.lil_scope.specs.declared.env.Env.{Env}
 use Rattle.lil_check_decl.specs.Decls.{decls_mean}
 use Rattle.lil_check_stmt.specs.Stmts.{bodies_mean}
-use Rattle.lil_check_unit.specs.declared.surface.Interface.{Interface}
-use Rattle.lil_check_unit.specs.declared.importing.Imported.{Imported}
-use Rattle.lil_check_unit.specs.Interfaces.{residents}
-use Rattle.lil_check_unit.specs.Imports.{nothing_imported, imports_mean, exports_mean}
+use Rattle.lil_interfaces.specs.declared.surface.Interface.{Interface}
+use Rattle.lil_interfaces.specs.declared.importing.Imported.{Imported}
+use Rattle.lil_interfaces.specs.Interfaces.{residents}
+use Rattle.lil_interfaces.specs.Imports.{nothing_imported, imports_mean, exports_mean}
 use Rattle.lil_check_unit.specs.Units.{first_of, declared, stated, resolved, module_of, worst, late_fault, last_of, unit_fault, imports_fault, program_fault, naming_rows, missing_row, missing_names, missing_by, missing_rows, data_rows, HasInterfaces}
 
 module _ (u : Tree) (is : List Interface) where

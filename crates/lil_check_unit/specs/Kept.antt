@@ -16,8 +16,8 @@ use Rattle.lil_laws_check.specs.Clear.{Passes, Clear}
 use Rattle.lil_laws_check.specs.Counts.{Weights, count_all, kept_all, sizes, procs_in, weight, procs_number}
 use Rattle.lil_laws_check.specs.Procs.{Found}
 use Rattle.lil_laws_check.specs.Sound.{Fine, find_sound}
-use Rattle.lil_check_unit.specs.declared.surface.Interface.{Interface}
-use Rattle.lil_check_unit.specs.Interfaces.{residents}
+use Rattle.lil_interfaces.specs.declared.surface.Interface.{Interface}
+use Rattle.lil_interfaces.specs.Interfaces.{residents}
 use Rattle.lil_check_unit.specs.UnitLaws.{none_before, none_behind, no_declared, no_stated}
 use Rattle.lil_check_unit.specs.UnitFound.{declared_found}
 use Rattle.lil_check_unit.specs.UnitNames as Names

@@ -1,8 +1,4 @@
-pub mod Imports
-pub mod Interfaces
 pub mod Kept
-pub mod Moving
-pub mod Standard
 pub mod UnitFound
 pub mod UnitLaws
 pub mod UnitNames

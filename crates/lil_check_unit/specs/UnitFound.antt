@@ -10,16 +10,16 @@ use Rattle.lil_scope.specs.declared.env.Env.{Env}
 use Rattle.lil_scope.specs.declared.scope.Scopes.{Scopes}
 use Rattle.lil_scope.specs.Names.{entry, member, with_block}
 use Rattle.lil_check_decl.specs.Decls.{decls_mean}
-use Rattle.lil_check_unit.specs.declared.surface.Interface.{Interface}
-use Rattle.lil_check_unit.specs.declared.surface.Exported.{Exported}
-use Rattle.lil_check_unit.specs.declared.importing.Source.{Source}
-use Rattle.lil_check_unit.specs.declared.importing.Source.TheVariants as from
-use Rattle.lil_check_unit.specs.declared.importing.Taken.{Taken}
-use Rattle.lil_check_unit.specs.declared.importing.Imported.{Imported}
-use Rattle.lil_check_unit.specs.Standard.{Block, known, start}
-use Rattle.lil_check_unit.specs.Moving.{seen_by, with_name, with_names}
-use Rattle.lil_check_unit.specs.Interfaces.{named}
-use Rattle.lil_check_unit.specs.Imports.{block_of, next_import, filled, entered_by, entered, take_node, found_node, name_step, module_step, import_by, import_step, imports_mean, nothing_imported, export_step, exports_mean}
+use Rattle.lil_interfaces.specs.declared.surface.Interface.{Interface}
+use Rattle.lil_interfaces.specs.declared.surface.Exported.{Exported}
+use Rattle.lil_interfaces.specs.declared.importing.Source.{Source}
+use Rattle.lil_interfaces.specs.declared.importing.Source.TheVariants as from
+use Rattle.lil_interfaces.specs.declared.importing.Taken.{Taken}
+use Rattle.lil_interfaces.specs.declared.importing.Imported.{Imported}
+use Rattle.lil_interfaces.specs.Standard.{Block, known, start}
+use Rattle.lil_interfaces.specs.Moving.{seen_by, with_name, with_names}
+use Rattle.lil_interfaces.specs.Interfaces.{named}
+use Rattle.lil_interfaces.specs.Imports.{block_of, next_import, filled, entered_by, entered, take_node, found_node, name_step, module_step, import_by, import_step, imports_mean, nothing_imported, export_step, exports_mean}
 use Rattle.lil_check_unit.specs.Units.{declared}
 use Rattle.lil_laws_check.specs.Clear.{Clear}
 use Rattle.lil_laws_check.specs.Held.{good_after}

@@ -5,8 +5,8 @@ use Rattle.lil_report.specs.declared.report.Fault.{Fault}
 use Rattle.lil_report.specs.Least.{now_of, Reports}
 use Rattle.lil_report.specs.Told.{Stands, tell}
 use Rattle.lil_report.specs.LeastLaws.{reports_tell, reports_now, reports_late, reports_worse}
-use Rattle.lil_check_unit.specs.declared.surface.Interface.{Interface}
-use Rattle.lil_check_unit.specs.Interfaces.{residents}
+use Rattle.lil_interfaces.specs.declared.surface.Interface.{Interface}
+use Rattle.lil_interfaces.specs.Interfaces.{residents}
 use Rattle.lil_check_unit.specs.Units.{first_of, Speaks, declared, stated, module_of, worst, unit_fault, imports_fault, program_fault, late_fault, naming_rows, missing_rows, data_rows, Now, Late, LateInUnit, ClassesOfUnit, ClassesOfProgram}
 
 pub speaks_first : (C : Fault → Type 0) (Cs : List (Fault → Type 0)) (a b : Option Fault) → Reports C a → Speaks Cs b → Speaks (C ∷ Cs) (first_of a b)

@@ -3,8 +3,8 @@ use Rattle.std.proofs.Common.{◌≡◌, Bool, true, false, ◌&&◌, [], ◌∷
 use Rattle.lil_scope.specs.declared.thing.Thing.{Thing}
 use Rattle.lil_scope.specs.declared.thing.Kind.TheVariants as k
 use Rattle.lil_scope.specs.declared.thing.Thing.TheVariants as t
-use Rattle.lil_check_unit.specs.Standard as Standard
-use Rattle.lil_check_unit.specs.Standard.{Things, standard_things, standard_names, start}
+use Rattle.lil_interfaces.specs.Standard as Standard
+use Rattle.lil_interfaces.specs.Standard.{Things, standard_things, standard_names, start}
 use Rattle.lil_laws_check.specs.NoTypes.{nothing_regular}
 use Rattle.lil_laws_check.specs.Scoped.{AllIn}
 use Rattle.lil_laws_check.specs.Sound.{IsWhole, Fine}

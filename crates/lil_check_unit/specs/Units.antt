@@ -18,9 +18,9 @@ use Rattle.lil_layout.specs.Data.{data_words}
 use Rattle.lil_check_decl.specs.Decls.{decls_mean}
 use Rattle.lil_check_stmt.specs.Stmts.{bodies_mean}
 use Rattle.lil_check_stmt.specs.declared.stmt.Stated.{Stated}
-use Rattle.lil_check_unit.specs.declared.surface.Interface.{Interface}
-use Rattle.lil_check_unit.specs.Interfaces.{named, residents}
-use Rattle.lil_check_unit.specs.Imports.{nothing_imported, imports_mean, exports_mean}
+use Rattle.lil_interfaces.specs.declared.surface.Interface.{Interface}
+use Rattle.lil_interfaces.specs.Interfaces.{named, residents}
+use Rattle.lil_interfaces.specs.Imports.{nothing_imported, imports_mean, exports_mean}
 
 -- ---- classes: the first one that has a fault speaks
 abbrev pub first_of : Option Fault → Option Fault → Option Fault

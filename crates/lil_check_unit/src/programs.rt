@@ -4,14 +4,13 @@ ghost use Rattle.lil_text.specs.declared.stop.ReadStop.TheVariants as stop;
 ghost use Rattle.lil_report.specs.declared.report.Fault.{Fault as Found};
 ghost use Rattle.lil_report.specs.Told.{tell};
 ghost use Rattle.lil_layout.specs.Data.{data_words};
-ghost use Rattle.lil_check_unit.specs.Interfaces.{named, residents};
+ghost use Rattle.lil_interfaces.specs.Interfaces.{named, residents};
 ghost use Rattle.lil_check_unit.specs.Kept.{Kept};
 ghost use Rattle.lil_check_unit.specs.Units as spec;
 
 use crate::checking::{Checked, check_parts, told};
-use crate::resident_modules::all_resident;
-use crate::surface::{Interfaces, named, same_name, same_text};
 use lil_base::{FaultKind, Name};
+use lil_interfaces::{Interfaces, all_resident, named, same_name, same_text};
 use lil_language::{Import, Unit, UnitKind};
 use lil_layout::data_words;
 use lil_module::RModule;

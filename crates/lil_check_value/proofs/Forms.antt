@@ -22,13 +22,15 @@ use Rattle.lil_scope.specs.declared.thing.Kind.TheVariants as k
 use Rattle.lil_scope.specs.declared.env.Env.{Env}
 use Rattle.lil_call.specs.Calls.{call_node}
 use Rattle.lil_check_value.specs.declared.designators.Reached.{Reached}
-use Rattle.lil_check_value.specs.declared.operations.Chained.{Chained}
-use Rattle.lil_check_value.specs.declared.sets.Elements.{Elements}
+use Rattle.lil_operators.specs.declared.operations.Chained.{Chained}
+use Rattle.lil_operators.specs.declared.sets.Elements.{Elements}
 use Rattle.lil_check_value.specs.declared.asked.Asked.{Asked}
 use Rattle.lil_check_value.specs.Designators.{root_means, field_node, follow_node}
-use Rattle.lil_check_value.specs.Uses.{constant_found, value_node, callee_node, typed_node}
-use Rattle.lil_check_value.specs.Operations.{one_node, begun, two_node, chain_found}
-use Rattle.lil_check_value.specs.Sets.{set_sort, set_node, no_elements, joined_one, joined_range}
+use Rattle.lil_operators.specs.Constants.{constant_found}
+use Rattle.lil_check_value.specs.Uses.{value_node, callee_node, typed_node}
+use Rattle.lil_operators.specs.Operations.{one_node, begun, two_node, chain_found}
+use Rattle.lil_operators.specs.Sets.{set_node, no_elements, joined_one, joined_range}
+use Rattle.lil_check_value.specs.SetTypes.{set_sort}
 use Rattle.lil_check_value.specs.Unbuilt.{not_built}
 use Rattle.lil_check_value.specs.Values as s
 use Rattle.lil_check_value.specs.Values.{Sense, Way, Step, Operates, Joins, expression_layer, selector_layer, designator_layer, operation_layer, range_layer, sense, step, way, operates, joins, means, typed_means, reach_means, index_means, step_means, operation_means, joins_mean, elements_mean, argument_in, argument_means, arguments_mean, begins, text_found, as_argument, asks, asks_at, begun_at}

@@ -1,4 +1,3 @@
 mod Forms
 mod Looking
 mod Meanings
-mod Spans

@@ -1,20 +1,14 @@
 -- Qualified names of types, and sets of named types.
-use Rattle.std.proofs.Common.{◌≡◌, ℕ, List, Option, Some, subst, ap}
-use Rattle.lil_base.specs.declared.fault.Place.{Place}
+use Rattle.std.proofs.Common.{◌≡◌, ℕ, Option, Some, subst, ap}
 use Rattle.lil_text.specs.declared.tree.Ident.{Ident}
 use Rattle.lil_text.specs.declared.tree.Qualident.{Qualident}
-use Rattle.lil_types.specs.Types.{Table}
 use Rattle.lil_report.specs.declared.report.Fault.{Fault}
 use Rattle.lil_report.specs.Told.{Said}
 use Rattle.lil_report.specs.Laws.{said_as, said_after}
 use Rattle.lil_scope.specs.declared.env.Env.{Env}
-use Rattle.lil_kinds.specs.declared.found.Found.{Found}
 use Rattle.lil_check_value.specs.declared.names.Looked.{Looked}
-use Rattle.lil_check_value.specs.declared.sets.Bounds.{Bounds}
-use Rattle.lil_check_value.specs.declared.sets.Elements.{Elements}
-use Rattle.lil_check_value.specs.declared.sets.Tally.{Tally}
 use Rattle.lil_check_value.specs.Looks.{look, module_node, member_type, type_by, type_named}
-use Rattle.lil_check_value.specs.Sets.{sort_node, set_sort, elements_tally, set_end, set_of}
+use Rattle.lil_check_value.specs.SetTypes.{sort_node, set_sort}
 
 module _ {r s t : Option Fault} where
   pub is_qualified : (e : Env) (q : Qualident) (m : Ident) {l : Looked} {b a : Option ℕ} → q.owner ≡ Some m → l ≡ look e m.name → Said (module_node m.place l) r b s → Said (member_type e m.place q.name b) s a t
@@ -24,7 +18,3 @@ module _ {r s t : Option Fault} where
 
   pub is_set_named : (e : Env) (of : Option Qualident) (q : Qualident) {b a : Option ℕ} → of ≡ Some q → Said (type_named e q) r b s → Said (sort_node e.types q.name.place b) s a t → Said (set_sort e of) r a t
   is_set_named e of q is h g = said_as (ap (set_sort e) is) (said_after _ _ h g)
-
-  pub is_set_of : (types : Table) (p : Place) (n : ℕ) (es : Elements) {bs : List Bounds} {y : Tally} {a : Option Found} → bs ≡ es.bounds → Said (elements_tally types n bs) r y s → Said (set_end p n es.forms y) s a t
-      → Said (set_of types p n es) r a t
-  is_set_of types p n es {y = y} is h g = said_after _ _ (subst (λ bs. Said (elements_tally types n bs) r y s) is h) g

@@ -26,13 +26,15 @@ use Rattle.lil_call.specs.declared.call.Argument.{Argument}
 use Rattle.lil_call.specs.declared.call.Argument.TheVariants as argument
 use Rattle.lil_call.specs.Calls.{call_node, statement_node}
 use Rattle.lil_check_value.specs.declared.designators.Reached.{Reached}
-use Rattle.lil_check_value.specs.declared.operations.Chained.{Chained}
-use Rattle.lil_check_value.specs.declared.sets.Elements.{Elements}
+use Rattle.lil_operators.specs.declared.operations.Chained.{Chained}
+use Rattle.lil_operators.specs.declared.sets.Elements.{Elements}
 use Rattle.lil_check_value.specs.declared.asked.Asked.{Asked}
 use Rattle.lil_check_value.specs.Designators.{root_means, field_node, index_node, follow_node}
-use Rattle.lil_check_value.specs.Uses.{constant_found, value_node, variable_node, callee_node, typed_node}
-use Rattle.lil_check_value.specs.Operations.{one_node, begun, two_node, chain_found}
-use Rattle.lil_check_value.specs.Sets.{set_sort, set_node, joined_one, joined_range}
+use Rattle.lil_operators.specs.Constants.{constant_found}
+use Rattle.lil_check_value.specs.Uses.{value_node, variable_node, callee_node, typed_node}
+use Rattle.lil_operators.specs.Operations.{one_node, begun, two_node, chain_found}
+use Rattle.lil_operators.specs.Sets.{set_node, joined_one, joined_range}
+use Rattle.lil_check_value.specs.SetTypes.{set_sort}
 use Rattle.lil_check_value.specs.Unbuilt.{said_not_built}
 use Rattle.lil_check_value.specs.Values.{step, joins, means, typed_means, variable_means, call_means, reach_means, index_means, step_means, operation_means, elements_mean, argument_in, argument_means, arguments_mean, begins, text_found, asks, asks_at, begun_at}
 use Rattle.lil_check_value.proofs.Forms as f

@@ -31,7 +31,7 @@ use Rattle.lil_check_value.specs.declared.designators.Part.{Part}
 use Rattle.lil_check_value.specs.declared.designators.Named.{Named}
 use Rattle.lil_check_value.specs.declared.designators.Reached.{Reached}
 use Rattle.lil_check_value.specs.declared.designators.Reached.TheVariants as reached
-use Rattle.lil_check_value.specs.Depths.{raised}
+use Rattle.lil_operators.specs.Depths.{raised}
 use Rattle.lil_check_value.specs.Looks.{look, looked_as, is_nothing, is_hidden, is_built_name}
 
 abbrev pub Reaches : Type 0

@@ -18,27 +18,12 @@ use Rattle.lil_call.specs.declared.call.Callee.{Callee}
 use Rattle.lil_call.specs.declared.call.Callee.TheVariants as callee
 use Rattle.lil_call.specs.declared.call.Argument.{Argument}
 use Rattle.lil_call.specs.declared.call.Argument.TheVariants as argument
+use Rattle.lil_operators.specs.Constants.{Meaning, plain_found, constant_found}
 use Rattle.lil_check_value.specs.declared.designators.Part.{Part}
 use Rattle.lil_check_value.specs.declared.designators.Named.{Named}
 use Rattle.lil_check_value.specs.declared.designators.Reached.{Reached}
 use Rattle.lil_check_value.specs.declared.designators.Reached.TheVariants as reached
 use Rattle.lil_check_value.specs.Designators.{is_misplaced}
-
-abbrev pub Meaning : Type 0
-Meaning = Option Found × List Row
-
--- ---- constants
--- a constant stands in the resolved tree by its value
-abbrev pub constant_form : Kind → RExpr
-constant_form (k.Whole n) = r.Whole n
-constant_form (k.Scalar s w) = r.Scalar s w
-constant_form _ = r.Nil
-
-abbrev pub plain_found : Place → RExpr → Kind → Found
-plain_found p form kind = record { form = form; kind = kind; first = p; depth = 1; standing = standing.Value }
-
-abbrev pub constant_found : Place → Kind → Found
-constant_found p kind = plain_found p (constant_form kind) kind
 
 -- ---- values
 abbrev pub designator_of : Part → RDesignator

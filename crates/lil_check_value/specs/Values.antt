@@ -25,14 +25,16 @@ use Rattle.lil_call.specs.declared.call.Argument.{Argument}
 use Rattle.lil_call.specs.declared.call.Argument.TheVariants as argument
 use Rattle.lil_call.specs.Calls.{call_node, statement_node}
 use Rattle.lil_check_value.specs.declared.designators.Reached.{Reached}
-use Rattle.lil_check_value.specs.declared.operations.Chained.{Chained}
-use Rattle.lil_check_value.specs.declared.sets.Elements.{Elements}
+use Rattle.lil_operators.specs.declared.operations.Chained.{Chained}
+use Rattle.lil_operators.specs.declared.sets.Elements.{Elements}
 use Rattle.lil_check_value.specs.declared.asked.Asked.{Asked}
 use Rattle.lil_check_value.specs.declared.asked.Asked.TheVariants as asked
 use Rattle.lil_check_value.specs.Designators.{Reaches, root_means, field_node, index_node, follow_node}
-use Rattle.lil_check_value.specs.Uses.{Meaning, constant_found, plain_found, value_node, variable_node, callee_node, typed_node}
-use Rattle.lil_check_value.specs.Operations.{one_node, begun, two_node, chain_found}
-use Rattle.lil_check_value.specs.Sets.{set_sort, no_elements, joined_one, joined_range, set_node}
+use Rattle.lil_operators.specs.Constants.{Meaning, constant_found, plain_found}
+use Rattle.lil_check_value.specs.Uses.{value_node, variable_node, callee_node, typed_node}
+use Rattle.lil_operators.specs.Operations.{one_node, begun, two_node, chain_found}
+use Rattle.lil_operators.specs.Sets.{no_elements, joined_one, joined_range, set_node}
+use Rattle.lil_check_value.specs.SetTypes.{set_sort}
 use Rattle.lil_check_value.specs.Unbuilt.{not_built}
 
 -- An expression means a value, and something as an argument where a type's name may stand. A selector leads from what is

@@ -3,7 +3,6 @@ ghost use Rattle.lil_report.specs.Told.{Said, tell};
 ghost use Rattle.lil_scope.specs.Names.{level as level_of};
 ghost use Rattle.lil_check_value.specs.Designators as spec;
 
-use crate::depths::raised;
 use crate::names::{Looked, is_built_name, is_hidden, is_nothing, look, looked_as};
 use lil_base::{FaultKind, Items, Memory, Name, Place};
 use lil_kinds::{
@@ -11,6 +10,7 @@ use lil_kinds::{
     misses, target,
 };
 use lil_module::{Mode, RRoot, RSelector};
+use lil_operators::raised;
 use lil_report::Report;
 use lil_scope::{Env, Kind, Thing, Variable, find_in};
 use lil_text::Ident;

@@ -7,44 +7,11 @@ use lil_base::{Boxed, FaultKind, Memory, Place};
 use lil_call::{Argument, Callee};
 use lil_kinds::{Found, Standing};
 use lil_module::{RDesignator, RExpr};
+use lil_operators::{constant_found, plain_found};
 use lil_report::Report;
 use lil_scope::{Kind, Routine, Thing};
 use lil_types::TypeId;
 use std::alloc::Global;
-
-/// A constant in the resolved tree.
-pub(crate) fn constant_form(kind: Kind) -> RExpr
-    ensures { result ≡ spec.constant_form kind }
-{
-    match kind {
-        Kind::Whole(value) => RExpr::Whole(value),
-        Kind::Scalar(sort, word) => RExpr::Scalar(sort, word),
-        _ => RExpr::Nil,
-    }
-}
-
-pub(crate) fn plain_found(
-    alloc: Global,
-    first: Place,
-    form: RExpr,
-    kind: Kind,
-) -> Result<Found, Memory>
-    ensures { IfOk result (λ a. a ≡ spec.plain_found first form kind) }
-{
-    Ok(Found {
-        form: Boxed::new(alloc, form)?,
-        kind,
-        first,
-        depth: 1,
-        standing: Standing::Value,
-    })
-}
-
-pub(crate) fn constant_found(alloc: Global, first: Place, kind: Kind) -> Result<Found, Memory>
-    ensures { IfOk result (λ a. a ≡ spec.constant_found first kind) }
-{
-    plain_found(alloc, first, constant_form(kind), kind)
-}
 
 fn part_found(alloc: Global, of: Part) -> Result<Found, Memory>
     ensures { IfOk result (λ a. a ≡ spec.part_found of) }

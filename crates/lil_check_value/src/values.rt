@@ -4,16 +4,17 @@ ghost use Rattle.lil_check_value.specs.Values as spec;
 
 use crate::asked::{Asked, asks, asks_at};
 use crate::designators::{Reached, field_node, follow_node, index_node, root};
-use crate::operations::{Chained, begun, chain_found, one_node, two_node};
-use crate::sets::{Elements, joined_one, joined_range, no_elements, set_node, set_sort};
-use crate::uses::{
-    callee_node, constant_found, plain_found, typed_node, value_node, variable_node,
-};
+use crate::set_types::set_sort;
+use crate::uses::{callee_node, typed_node, value_node, variable_node};
 use lil_base::{Boxed, FaultKind, Items, Memory, Place, Text, beside};
 use lil_call::{Argument, called, stated};
 use lil_kinds::Found;
 use lil_language::{Designator, Expr, Operation, Range, Selector};
 use lil_module::{RExpr, RStmt};
+use lil_operators::{
+    Chained, Elements, begun, chain_found, constant_found, joined_one, joined_range, no_elements,
+    one_node, plain_found, set_node, two_node,
+};
 use lil_report::Report;
 use lil_scope::{Chars, Env, Kind};
 use lil_types::CHAR;

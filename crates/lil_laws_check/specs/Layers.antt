@@ -15,13 +15,15 @@ use Rattle.lil_call.specs.declared.call.Argument.TheVariants as argument
 use Rattle.lil_call.specs.Passing.{has_value, all_have_values}
 use Rattle.lil_call.specs.Calls.{call_node}
 use Rattle.lil_check_value.specs.declared.designators.Reached.{Reached}
-use Rattle.lil_check_value.specs.declared.operations.Chained.{Chained}
-use Rattle.lil_check_value.specs.declared.sets.Elements.{Elements}
+use Rattle.lil_operators.specs.declared.operations.Chained.{Chained}
+use Rattle.lil_operators.specs.declared.sets.Elements.{Elements}
 use Rattle.lil_check_value.specs.declared.asked.Asked.{Asked}
 use Rattle.lil_check_value.specs.Designators.{root_means, index_node}
-use Rattle.lil_check_value.specs.Uses.{Meaning, value_node, callee_node, typed_node}
-use Rattle.lil_check_value.specs.Operations.{one_node, begun, two_node, chain_found}
-use Rattle.lil_check_value.specs.Sets.{set_sort, no_elements, joined_one, joined_range, set_node}
+use Rattle.lil_operators.specs.Constants.{Meaning}
+use Rattle.lil_check_value.specs.Uses.{value_node, callee_node, typed_node}
+use Rattle.lil_operators.specs.Operations.{one_node, begun, two_node, chain_found}
+use Rattle.lil_operators.specs.Sets.{no_elements, joined_one, joined_range, set_node}
+use Rattle.lil_check_value.specs.SetTypes.{set_sort}
 use Rattle.lil_check_value.specs.Values.{Sense, Way, Step, Operates, Joins, asks, asks_at, as_argument, argument_by, argument_step, given, begun_at, call_of, called, of_value, chain_means, expression_layer, index_step, selector_layer, designator_layer, operation_layer, joined, range_layer}
 use Rattle.lil_laws_check.specs.Held.{Has, Is, Good, good_after, good_walk, never}
 use Rattle.lil_laws_check.specs.Known.{Whole}

@@ -16,9 +16,9 @@ use Rattle.lil_scope.specs.declared.env.Env.{Env}
 use Rattle.lil_kinds.specs.declared.found.Found.{Found}
 use Rattle.lil_call.specs.declared.call.Argument.{Argument}
 use Rattle.lil_call.specs.Calls.{statement_node}
-use Rattle.lil_check_value.specs.declared.sets.Elements.{Elements}
+use Rattle.lil_operators.specs.declared.sets.Elements.{Elements}
 use Rattle.lil_check_value.specs.declared.asked.Asked.{Asked}
-use Rattle.lil_check_value.specs.Sets.{no_elements}
+use Rattle.lil_operators.specs.Sets.{no_elements}
 use Rattle.lil_check_value.specs.Uses.{variable_node, callee_node}
 use Rattle.lil_check_value.specs.Values.{Sense, Way, Step, Operates, Joins, expression_layer, selector_layer, designator_layer, operation_layer, range_layer, sense, step, way, operates, joins, means, typed_means, reach_means, joins_mean, elements_mean, begins, asks, asks_at, argument_in, argument_means, arguments_mean, variable_means, call_means}
 use Rattle.lil_laws_check.specs.Clear.{Clear}

@@ -18,7 +18,7 @@ use Rattle.lil_check_value.specs.declared.designators.Part.{Part}
 use Rattle.lil_check_value.specs.declared.designators.Named.{Named}
 use Rattle.lil_check_value.specs.declared.designators.Reached.{Reached}
 use Rattle.lil_check_value.specs.declared.designators.Reached.TheVariants as reached
-use Rattle.lil_check_value.specs.Depths.{raised}
+use Rattle.lil_operators.specs.Depths.{raised}
 use Rattle.lil_check_value.specs.Looks.{look, looked_as}
 use Rattle.lil_check_value.specs.Designators.{name_node, root_means, is_misplaced, record_kind, field_of, field_value, part_field, module_block, other_field_by, other_field, field_node, parts_of, index_fits, element_value, index_rows, deep_row, with_index, part_index, other_index, index_node, opaque_kind, target_of, target_value, part_follow, other_follow, follow_node}
 use Rattle.lil_laws_check.specs.Clear.{Clear}

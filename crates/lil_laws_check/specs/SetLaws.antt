@@ -9,11 +9,12 @@ use Rattle.lil_report.specs.Told.{Row}
 use Rattle.lil_scope.specs.declared.env.Env.{Env}
 use Rattle.lil_kinds.specs.declared.found.Found.{Found}
 use Rattle.lil_kinds.specs.Forms.{set_base}
-use Rattle.lil_check_value.specs.declared.sets.Operand.{Operand}
-use Rattle.lil_check_value.specs.declared.sets.Elements.{Elements}
-use Rattle.lil_check_value.specs.declared.sets.Tally.{Tally}
+use Rattle.lil_operators.specs.declared.sets.Operand.{Operand}
+use Rattle.lil_operators.specs.declared.sets.Elements.{Elements}
+use Rattle.lil_operators.specs.declared.sets.Tally.{Tally}
 use Rattle.lil_check_value.specs.Looks.{type_named}
-use Rattle.lil_check_value.specs.Sets.{is_no_set, sort_node, set_sort, joined_one, joined_range, fits_base, operand_misses, operand_fits, operand_rows, no_tally, bounds_node, set_found, set_given, set_end, elements_tally, set_of, set_node}
+use Rattle.lil_operators.specs.Sets.{joined_one, joined_range, fits_base, operand_misses, operand_fits, operand_rows, no_tally, bounds_node, set_found, set_given, set_end, elements_tally, set_of, set_node}
+use Rattle.lil_check_value.specs.SetTypes.{is_no_set, sort_node, set_sort}
 use Rattle.lil_check_value.specs.Unbuilt.{not_built}
 use Rattle.lil_laws_check.specs.Clear.{Clear, clear_left, clear_right}
 use Rattle.lil_laws_check.specs.Held.{Is, Good, good_after, good_walk, held, both, never}

@@ -54,15 +54,17 @@ use Rattle.lil_check_value.specs.declared.designators.Part.{Part}
 use Rattle.lil_check_value.specs.declared.designators.Named.{Named}
 use Rattle.lil_check_value.specs.declared.designators.Reached.{Reached}
 use Rattle.lil_check_value.specs.declared.designators.Reached.TheVariants as reached
-use Rattle.lil_check_value.specs.declared.operations.Chained.{Chained}
-use Rattle.lil_check_value.specs.declared.sets.Elements.{Elements}
-use Rattle.lil_check_value.specs.Depths.{raised}
+use Rattle.lil_operators.specs.declared.operations.Chained.{Chained}
+use Rattle.lil_operators.specs.declared.sets.Elements.{Elements}
+use Rattle.lil_operators.specs.Depths.{raised}
 use Rattle.lil_check_value.specs.Looks.{nearer, in_withs, nearest, looked_as, or_declared, look}
 use Rattle.lil_check_value.specs.Designators.{kind_by, name_node, root_means, record_kind, field_of, field_value, part_field, module_block, other_field_by, other_field, field_node, parts_of, index_fits, with_index, element_value, part_index, other_index, index_node, opaque_kind, target_of, target_value, part_follow, other_follow, follow_node}
-use Rattle.lil_check_value.specs.Uses.{Meaning, constant_form, plain_found, designator_of, routine_found, thing_found, named_value, value_node}
-use Rattle.lil_check_value.specs.Operations.{one_value, one_applied, one_node, begun, two_chained, two_value, two_applied, two_node, chain_form, chain_found}
-use Rattle.lil_check_value.specs.Sets.{set_sort, no_elements, set_found, set_given, set_end, elements_tally, set_node}
-use Rattle.lil_check_value.specs.declared.sets.Tally.{Tally}
+use Rattle.lil_operators.specs.Constants.{Meaning, constant_form, plain_found}
+use Rattle.lil_check_value.specs.Uses.{designator_of, routine_found, thing_found, named_value, value_node}
+use Rattle.lil_operators.specs.Operations.{one_value, one_applied, one_node, begun, two_chained, two_value, two_applied, two_node, chain_form, chain_found}
+use Rattle.lil_operators.specs.Sets.{no_elements, set_found, set_given, set_end, elements_tally, set_node}
+use Rattle.lil_check_value.specs.SetTypes.{set_sort}
+use Rattle.lil_operators.specs.declared.sets.Tally.{Tally}
 use Rattle.lil_check_value.specs.Unbuilt.{not_built}
 use Rattle.lil_check_value.specs.Values.{Sense, Way, Step, Operates, Joins, chars_of, begun_at, asks, given, call_of, called, expression_layer, index_step, selector_layer, designator_layer, operation_layer, range_layer, sense, step, way, operates, joins, means}
 use Rattle.lil_check_value.specs.Uses.{callee_node}

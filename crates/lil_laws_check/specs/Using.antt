@@ -21,10 +21,11 @@ use Rattle.lil_call.specs.Passing.{has_value}
 use Rattle.lil_check_value.specs.declared.designators.Part.{Part}
 use Rattle.lil_check_value.specs.declared.designators.Reached.{Reached}
 use Rattle.lil_check_value.specs.declared.designators.Reached.TheVariants as reached
-use Rattle.lil_check_value.specs.declared.operations.Chained.{Chained}
-use Rattle.lil_check_value.specs.Depths.{raised}
-use Rattle.lil_check_value.specs.Uses.{plain_found, part_found, routine_found, named_value, value_node, variable_node, callee_node, is_bare, part_typed, typed_node}
-use Rattle.lil_check_value.specs.Operations.{one_value, applied_rows, one_applied, one_node, operation, begun, two_value, two_applied, two_node, chain_found}
+use Rattle.lil_operators.specs.declared.operations.Chained.{Chained}
+use Rattle.lil_operators.specs.Depths.{raised}
+use Rattle.lil_operators.specs.Constants.{plain_found}
+use Rattle.lil_check_value.specs.Uses.{part_found, routine_found, named_value, value_node, variable_node, callee_node, is_bare, part_typed, typed_node}
+use Rattle.lil_operators.specs.Operations.{one_value, applied_rows, one_applied, one_node, operation, begun, two_value, two_applied, two_node, chain_found}
 use Rattle.lil_laws_check.specs.Clear.{Clear}
 use Rattle.lil_laws_check.specs.Held.{Has, Is, Good, never}
 use Rattle.lil_laws_check.specs.Reaching.{IsOther, Fine}

@@ -18,7 +18,7 @@ use Rattle.lil_session.specs.declared.status.Status.{Status}
 use Rattle.lil_session.specs.declared.status.Status.TheVariants as a
 use Rattle.lil_report.specs.declared.report.Fault.{Fault as Checked}
 use Rattle.lil_module.specs.declared.declared.RModule.{RModule as Checks}
-use Rattle.lil_check_unit.specs.Interfaces.{residents}
+use Rattle.lil_interfaces.specs.Interfaces.{residents}
 use Rattle.lil_check_unit.specs.Units.{module_of as resolved, program_fault, told}
 use Rattle.lil_lower.specs.Lowered.{lowered}
 use Rattle.lil_unit.specs.declared.stop.GenStop.{GenStop}

@@ -14,7 +14,7 @@ use Rattle.lil_text.specs.declared.stop.ReadStop.TheVariants as why
 use Rattle.lil_language.specs.declared.unit.Unit.{Unit as Tree}
 use Rattle.lil_language.specs.Units.{Reads, HasReadFault}
 use Rattle.lil_report.specs.declared.report.Fault.{Fault as Checked}
-use Rattle.lil_check_unit.specs.Interfaces.{residents}
+use Rattle.lil_interfaces.specs.Interfaces.{residents}
 use Rattle.lil_check_unit.specs.Units.{module_of as resolved, program_fault, told}
 use Rattle.lil_meaning.specs.World.{World}
 use Rattle.lil_meaning.specs.Items.{Source, Phase, Going, Closing, Ended, Trapped}

@@ -1,5 +1,5 @@
 -- Types by their numbers: what each one is, when a table of them is sound, and which go together.
-use Rattle.std.specs.Prelude.{◌≡◌, ℕ, ◌+◌, ◌*◌, ◌-◌, ◌==◌, nat_lt, ℤ, pos, negsuc, true, false, ◌+ℤ◌, ◌-ℤ◌, Bool, ◌&&◌, ◌||◌, List, [], ◌∷◌, ◌++◌, length, slice_get, slice_set, Option, Some, None, if◌then◌else◌, ⊤}
+use Rattle.std.specs.Prelude.{◌≡◌, ℕ, ◌+◌, ◌*◌, ◌-◌, ◌==◌, nat_lt, ℤ, pos, negsuc, int_lt, true, false, not, ◌+ℤ◌, ◌-ℤ◌, Bool, ◌&&◌, ◌||◌, List, [], ◌∷◌, ◌++◌, length, slice_get, slice_set, Option, Some, None, if◌then◌else◌, ⊤}
 use Rattle.lil_types.specs.declared.table.Span.{Span}
 use Rattle.lil_types.specs.declared.table.Facts.{Facts}
 use Rattle.lil_types.specs.declared.table.Field.{Field}
@@ -64,6 +64,10 @@ nat_of (negsuc n) = 0
 -- how many values
 abbrev pub values : Span → ℕ
 values s = nat_of ((s.high -ℤ s.low) +ℤ pos 1)
+
+-- a number is in both
+abbrev pub meets : Span → Span → Bool
+meets s u = not (int_lt s.high u.low) && not (int_lt u.high s.low)
 
 abbrev pub plain : ℕ → Facts
 plain n = facts n 1 None

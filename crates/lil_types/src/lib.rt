@@ -11,5 +11,5 @@ pub use folding::{fold_one, fold_two};
 pub use relations::{assignable, base, compatible, entry, known, same, words};
 pub use table::{
     BITSET, BOOLEAN, CARDINAL, CHAR, Const, Facts, Field, FoldStop, INTEGER, Origin, Parameter,
-    Span, TypeEntry, TypeForm, TypeId, TypeTable,
+    Span, TypeEntry, TypeForm, TypeId, TypeTable, meets,
 };

@@ -1,6 +1,6 @@
 ghost use Rattle.std.specs.Prelude.{◌≡◌, ◌++◌, ◌∷◌, ◌<◌, [], length, slice_get, Some, None, OnOk, OnErr, OnSome};
 ghost use Rattle.std.specs.Option.{option_copied};
-ghost use Rattle.lil_types.specs.Types.{facts, span, aimed, is_pointer as is_pointer_form};
+ghost use Rattle.lil_types.specs.Types.{facts, span, aimed, meets as spec_meets, is_pointer as is_pointer_form};
 
 use lil_base::{Items, Memory, Name, Text};
 use std::alloc::Global;
@@ -37,6 +37,13 @@ pub struct Origin {
 pub struct Span {
     pub low: i32,
     pub high: i32,
+}
+
+/// Whether a number is in both.
+pub fn meets(s: Span, u: Span) -> bool
+    ensures { result ≡ spec_meets s u }
+{
+    !(s.high < u.low) && !(u.high < s.low)
 }
 
 /// A field of a record.

@@ -1,6 +1,6 @@
 use Rattle.std.proofs.Common.{subst, sym, ◌∙◌}
 use Rattle.std.proofs.lemmas.Result.{IfOk-weaker}
-use Rattle.lil_check_unit.specs.Interfaces.{residents}
+use Rattle.lil_interfaces.specs.Interfaces.{residents}
 use Rattle.lil_check_unit.specs.Kept.{Kept, imports_kept}
 use Rattle.lil_check_unit.specs.UnitLaws.{program_speaks}
 use Rattle.lil_check_unit.proofs.UnitFaults.{wrong_name, then_imports}

@@ -1,6 +1,0 @@
-use Rattle.std.proofs.lemmas.Result.{IfOk-weaker}
-use Rattle.lil_check_unit.proofs.Imports.{is_module}
-use Rattle.lil_check_unit.proofs.importing.import_module.Goals as goal
-
-pub returns : goal.returns
-returns c = IfOk-weaker c.take.result _ _ (λ u h. is_module c.args.so_far.now c.args.interfaces.now c.args.at.now c.in_ok-block.ensures h) c.take.ensures

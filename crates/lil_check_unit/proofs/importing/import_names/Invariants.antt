@@ -1,7 +1,0 @@
-use Rattle.std.proofs.Common.{take}
-use Rattle.lil_report.specs.Told.{Said, walk}
-use Rattle.lil_check_unit.specs.Imports.{name_step}
-use Rattle.lil_check_unit.proofs.importing.import_names.Given as goal
-
-abbrev pub invariant-loop-at : goal.invariant-loop-at
-invariant-loop-at l = Said (walk (name_step l.block) l.fn.so_far (take l.at-index l.names)) l.fn.report l.so_far l.report

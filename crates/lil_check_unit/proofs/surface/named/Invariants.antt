@@ -1,7 +1,0 @@
-use Rattle.std.proofs.Common.{◌≡◌, drop}
-use Rattle.lil_check_unit.specs.Interfaces.{named}
-use Rattle.lil_check_unit.proofs.surface.named.Given as goal
-
--- none of those before has the name
-abbrev pub invariant-loop-one : goal.invariant-loop-one
-invariant-loop-one l = named (drop l.one-index l.interfaces) l.name ≡ named l.interfaces l.name

@@ -1,5 +1,0 @@
-use Rattle.lil_check_value.proofs.Looking.{is_set_of}
-use Rattle.lil_check_value.proofs.sets.set_given.Goals as goal
-
-pub returns : goal.returns
-returns c = is_set_of c.args.types.now c.args.first c.args.sort c.args.elements c.as_slice.ensures c.elements_tally-tally.ensures c.in_ok-found.ensures

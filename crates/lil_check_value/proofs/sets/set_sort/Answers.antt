@@ -1,5 +1,0 @@
-use Rattle.lil_check_value.proofs.Looking.{is_set_named}
-use Rattle.lil_check_value.proofs.sets.set_sort.Goals as goal
-
-pub returns-in-Some : goal.returns-in-Some
-returns-in-Some c = is_set_named c.args.env.now c.args.of.now c.in-Some.name c.in-Some.is c.type_named-sort.ensures c.sort_node.ensures

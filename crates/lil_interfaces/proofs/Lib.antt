@@ -1,0 +1,4 @@
+mod AddedTypes
+mod Blocks
+mod ImportForms
+mod Residents

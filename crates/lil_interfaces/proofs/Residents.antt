@@ -1,0 +1,17 @@
+-- Which names are those of resident modules.
+use Rattle.std.proofs.Common.{◌≡◌, ℕ, true, false, List, Some, None, ◌∙◌, codes}
+use Rattle.std.proofs.lemmas.Bool.{cond-true, cond-false}
+use Rattle.lil_scope.specs.Names.{same}
+use Rattle.lil_interfaces.specs.Interfaces.{terminal, in_out, resident, with_procedure, with_constant}
+
+pub resident_terminal : (n : List ℕ) → same n (codes "Terminal") ≡ true → resident n ≡ Some (terminal (codes "Terminal"))
+unfolding resident with_procedure with_constant
+resident_terminal n h = cond-true (same n (codes "Terminal")) _ _ h
+
+pub resident_in_out : (n : List ℕ) → same n (codes "Terminal") ≡ false → same n (codes "InOut") ≡ true → resident n ≡ Some (in_out (codes "InOut"))
+unfolding resident with_procedure with_constant
+resident_in_out n h k = cond-false (same n (codes "Terminal")) _ _ h ∙ cond-true (same n (codes "InOut")) _ _ k
+
+pub resident_none : (n : List ℕ) → same n (codes "Terminal") ≡ false → same n (codes "InOut") ≡ false → resident n ≡ None
+unfolding resident with_procedure with_constant
+resident_none n h k = cond-false (same n (codes "Terminal")) _ _ h ∙ cond-false (same n (codes "InOut")) _ _ k

@@ -1,0 +1,103 @@
+-- Interfaces of modules, and those of the resident modules Terminal and InOut.
+use Rattle.std.specs.Prelude.{ℕ, true, false, nat_lt, length, List, [], ◌∷◌, ◌++◌, Option, Some, None, if◌then◌else◌, codes}
+use Rattle.lil_types.specs.declared.table.Origin.{Origin}
+use Rattle.lil_types.specs.declared.table.Parameter.{Parameter}
+use Rattle.lil_types.specs.declared.table.TypeForm.TheVariants.{Procedure}
+use Rattle.lil_types.specs.Types.{Table, char, cardinal, integer}
+use Rattle.lil_types.specs.Adding.{next, added, added_number}
+use Rattle.lil_module.specs.declared.tree.Resident.{Resident}
+use Rattle.lil_module.specs.declared.tree.Resident.TheVariants as r
+use Rattle.lil_scope.specs.declared.thing.Kind.TheVariants as k
+use Rattle.lil_scope.specs.declared.thing.Thing.{Thing}
+use Rattle.lil_scope.specs.declared.thing.Thing.TheVariants as t
+use Rattle.lil_scope.specs.Names.{same}
+use Rattle.lil_interfaces.specs.declared.surface.Interface.{Interface}
+use Rattle.lil_interfaces.specs.declared.surface.Exported.{Exported}
+
+-- the interface of this name
+abbrev pub named : List Interface → List ℕ → Option Interface
+named [] n = None
+named (x ∷ xs) n = if same n x.name then Some x else named xs n
+
+-- ---- how a resident module is written
+abbrev pub value : ℕ → Parameter
+value n = record { by_place = false; open_array = false; sort = n }
+
+abbrev pub place : ℕ → Parameter
+place n = record { by_place = true; open_array = false; sort = n }
+
+abbrev pub open_value : ℕ → Parameter
+open_value n = record { by_place = false; open_array = true; sort = n }
+
+pub record Resided : Type 0 where
+  pub name : List ℕ
+  pub request : Resident
+  pub parameters : List Parameter
+
+abbrev pub resided : List ℕ → Resident → List Parameter → Resided
+resided n r ps = record { name = n; request = r; parameters = ps }
+
+-- the procedures of both modules
+abbrev pub common_procedures : List Resided
+common_procedures =
+    resided (codes "Read") r.Read (place char ∷ [])
+    ∷ resided (codes "Write") r.Write (value char ∷ [])
+    ∷ resided (codes "WriteString") r.WriteString (open_value char ∷ [])
+    ∷ resided (codes "WriteLn") r.WriteLn []
+    ∷ []
+
+-- the writers of numbers: what is written, and on how many places at least
+abbrev pub number_writers : List Resided
+number_writers =
+    resided (codes "WriteCard") r.WriteCard (value cardinal ∷ value cardinal ∷ [])
+    ∷ resided (codes "WriteInt") r.WriteInt (value integer ∷ value cardinal ∷ [])
+    ∷ resided (codes "WriteOct") r.WriteOct (value cardinal ∷ value cardinal ∷ [])
+    ∷ resided (codes "WriteHex") r.WriteHex (value cardinal ∷ value cardinal ∷ [])
+    ∷ []
+
+-- ---- interfaces as they are built
+abbrev pub shown : List ℕ → Thing → Exported
+shown n t = record { shown = true; name = n; what = t }
+
+abbrev pub empty : List ℕ → Interface
+empty n = record { name = n; types = []; names = [] }
+
+unfoldable pub with_constant : Interface → List ℕ → ℕ → ℕ → Interface
+with_constant i n sort word = record { name = i.name; types = i.types; names = i.names ++ shown n (t.Constant (k.Scalar sort word)) ∷ [] }
+
+-- the number that a table's next type gets in its own module
+abbrev pub own_number : Table → ℕ
+own_number t = if nat_lt 65519 (length t) then 0 else next t
+
+abbrev pub own_origin : Table → Origin
+own_origin t = record { «module» = 0; number = own_number t }
+
+abbrev pub with_resident : List Exported → List ℕ → Resident → Option ℕ → List Exported
+with_resident ns n r None = ns
+with_resident ns n r (Some sort) = ns ++ shown n (t.Resident r sort) ∷ []
+
+-- a procedure more, and the procedure type of its heading
+unfoldable pub with_procedure : Interface → List ℕ → Resident → List Parameter → Interface
+with_procedure i n r ps = record {
+  name = i.name;
+  types = added i.types (own_origin i.types) (Procedure ps None);
+  names = with_resident i.names n r (added_number i.types (Procedure ps None));
+}
+
+abbrev pub with_procedures : Interface → List Resided → Interface
+with_procedures i [] = i
+with_procedures i (p ∷ ps) = with_procedures (with_procedure i p.name p.request p.parameters) ps
+
+abbrev pub terminal : List ℕ → Interface
+terminal n = with_procedures (empty n) common_procedures
+
+-- EOL is 36C
+abbrev pub in_out : List ℕ → Interface
+in_out n = with_procedures (with_constant (terminal n) (codes "EOL") char 30) number_writers
+
+-- the interfaces of resident modules
+abbrev pub residents : List Interface
+residents = terminal (codes "Terminal") ∷ in_out (codes "InOut") ∷ []
+
+unfoldable pub resident : List ℕ → Option Interface
+resident n = named residents n

@@ -1,0 +1,4 @@
+pub mod Imports
+pub mod Interfaces
+pub mod Moving
+pub mod Standard

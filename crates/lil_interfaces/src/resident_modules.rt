@@ -1,0 +1,210 @@
+ghost use Rattle.std.specs.Prelude.{◌≡◌, IfOk, true, codes};
+ghost use Rattle.lil_base.specs.Names.{is_name};
+ghost use Rattle.lil_types.specs.Types.{char};
+ghost use Rattle.lil_interfaces.specs.Interfaces as spec;
+
+use crate::surface::{Exported, Interface, Interfaces, literal, same_text};
+use lil_base::{Items, Memory, Name, beside};
+use lil_module::Resident;
+use lil_scope::{Kind, Thing};
+use lil_types::{CARDINAL, CHAR, INTEGER, Origin, Parameter, TypeForm, TypeId, TypeTable, add};
+use std::alloc::Global;
+
+fn value(sort: TypeId) -> Parameter
+    ensures { result ≡ spec.value sort }
+{
+    Parameter {
+        by_place: false,
+        open_array: false,
+        sort,
+    }
+}
+
+fn place(sort: TypeId) -> Parameter
+    ensures { result ≡ spec.place sort }
+{
+    Parameter {
+        by_place: true,
+        open_array: false,
+        sort,
+    }
+}
+
+fn open_value(sort: TypeId) -> Parameter
+    ensures { result ≡ spec.open_value sort }
+{
+    Parameter {
+        by_place: false,
+        open_array: true,
+        sort,
+    }
+}
+
+/// The origin of a table's next type, where it is the module's own.
+fn own_origin(t: &TypeTable) -> Origin
+    ensures { result ≡ spec.own_origin t.now }
+{
+    if t.len() > 65519 {
+        Origin {
+            module: 0,
+            number: 0,
+        }
+    } else {
+        Origin {
+            module: 0,
+            number: t.len() as TypeId + 16,
+        }
+    }
+}
+
+fn name_resident(
+    names: &mut Items<Exported>,
+    name: Name,
+    what: Resident,
+    sort: Option<TypeId>,
+) -> Result<(), Memory>
+    ensures { IfOk result (λ u. names.new ≡ spec.with_resident names.old name what sort) }
+{
+    match sort {
+        Some(sort) => {
+            names.push(Exported {
+                shown: true,
+                name,
+                what: Thing::Resident(what, sort),
+            })?;
+            Ok(())
+        }
+        None => Ok(()),
+    }
+}
+
+/// A procedure more, and the procedure type of its heading.
+#[tactic(auto, unfolding(crate::specs::Interfaces::with_procedure))]
+fn procedure(
+    alloc: Global,
+    of: &mut Interface,
+    name: &[u8],
+    what: Resident,
+    parameters: &[Parameter],
+) -> Result<(), Memory>
+    requires { is_name name.now ≡ true }
+    ensures { IfOk result (λ u. of.new ≡ spec.with_procedure of.old name.now what parameters.now) }
+{
+    let name = literal(alloc, name)?;
+    let parameters = Items::from_slice(alloc, parameters)?;
+    let origin = own_origin(&of.types);
+    let sort = add(&mut of.types, origin, TypeForm::Procedure(parameters, None))?;
+    name_resident(&mut of.names, name, what, sort)?;
+    Ok(())
+}
+
+#[tactic(auto, unfolding(crate::specs::Interfaces::with_constant))]
+fn constant(
+    alloc: Global,
+    of: &mut Interface,
+    name: &[u8],
+    sort: TypeId,
+    word: u16,
+) -> Result<(), Memory>
+    requires { is_name name.now ≡ true }
+    ensures { IfOk result (λ u. of.new ≡ spec.with_constant of.old name.now sort word) }
+{
+    let name = literal(alloc, name)?;
+    of.names.push(Exported {
+        shown: true,
+        name,
+        what: Thing::Constant(Kind::Scalar(sort, word)),
+    })?;
+    Ok(())
+}
+
+fn number_writers(alloc: Global, of: &mut Interface) -> Result<(), Memory>
+    ensures { IfOk result (λ u. of.new ≡ spec.with_procedures of.old spec.number_writers) }
+{
+    let cardinals = [value(CARDINAL), value(CARDINAL)];
+    let integers = [value(INTEGER), value(CARDINAL)];
+    procedure(alloc, of, b"WriteCard", Resident::WriteCard, &cardinals)?;
+    procedure(alloc, of, b"WriteInt", Resident::WriteInt, &integers)?;
+    procedure(alloc, of, b"WriteOct", Resident::WriteOct, &cardinals)?;
+    procedure(alloc, of, b"WriteHex", Resident::WriteHex, &cardinals)?;
+    Ok(())
+}
+
+fn common_procedures(alloc: Global, of: &mut Interface) -> Result<(), Memory>
+    ensures { IfOk result (λ u. of.new ≡ spec.with_procedures of.old spec.common_procedures) }
+{
+    let variable = [place(CHAR)];
+    let character = [value(CHAR)];
+    let characters = [open_value(CHAR)];
+    procedure(alloc, of, b"Read", Resident::Read, &variable)?;
+    procedure(alloc, of, b"Write", Resident::Write, &character)?;
+    procedure(
+        alloc,
+        of,
+        b"WriteString",
+        Resident::WriteString,
+        &characters,
+    )?;
+    procedure(alloc, of, b"WriteLn", Resident::WriteLn, &[])?;
+    Ok(())
+}
+
+fn terminal(alloc: Global, name: Name) -> Result<Interface, Memory>
+    ensures { IfOk result (λ i. i ≡ spec.terminal name) }
+{
+    let mut of = Interface {
+        name,
+        types: TypeTable::new(alloc),
+        names: Items::new(alloc),
+    };
+    let outcome = common_procedures(alloc, &mut of);
+    let (of, _) = beside(of, outcome)?;
+    Ok(of)
+}
+
+/// What InOut has beside the names of Terminal.
+fn more_names(alloc: Global, of: &mut Interface) -> Result<(), Memory>
+    ensures { IfOk result (λ u. of.new ≡ spec.with_procedures (spec.with_constant of.old (codes "EOL") char 30) spec.number_writers) }
+{
+    constant(alloc, of, b"EOL", CHAR, 30)?;
+    number_writers(alloc, of)?;
+    Ok(())
+}
+
+fn in_out(alloc: Global, name: Name) -> Result<Interface, Memory>
+    ensures { IfOk result (λ i. i ≡ spec.in_out name) }
+{
+    let mut of = terminal(alloc, name)?;
+    let outcome = more_names(alloc, &mut of);
+    let (of, _) = beside(of, outcome)?;
+    Ok(of)
+}
+
+/// The interfaces of all resident modules that are built.
+pub fn all_resident(alloc: Global) -> Result<Interfaces, Memory>
+    ensures { IfOk result (λ is. is ≡ spec.residents) }
+{
+    let first = terminal(alloc, literal(alloc, b"Terminal")?)?;
+    let (first, name) = beside(first, literal(alloc, b"InOut"))?;
+    let (first, second) = beside(first, in_out(alloc, name))?;
+    let mut all = Items::new(alloc);
+    let (second, _) = beside(second, all.push(first))?;
+    all.push(second)?;
+    Ok(all)
+}
+
+/// The interface of a resident module, None where no resident module of this name is built.
+#[tactic(auto, unfolding(crate::specs::Interfaces::resident))]
+pub fn resident(alloc: Global, name: &Name) -> Result<Option<Interface>, Memory>
+    ensures { IfOk result (λ i. i ≡ spec.resident name.now) }
+{
+    if same_text(name.as_slice(), b"Terminal") {
+        let name = literal(alloc, b"Terminal")?;
+        Ok(Some(terminal(alloc, name)?))
+    } else if same_text(name.as_slice(), b"InOut") {
+        let name = literal(alloc, b"InOut")?;
+        Ok(Some(in_out(alloc, name)?))
+    } else {
+        Ok(None)
+    }
+}

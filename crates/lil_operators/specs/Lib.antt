@@ -1,0 +1,4 @@
+pub mod Constants
+pub mod Depths
+pub mod Operations
+pub mod Sets
