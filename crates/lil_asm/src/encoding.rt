@@ -1,6 +1,6 @@
 //! The bytes of instructions.
 
-ghost use Rattle.std.specs.Prelude.{◌≡◌, ◌++◌, OnOk};
+ghost use Rattle.std.specs.Prelude.{◌≡◌, ◌++◌, ◌≤◌, length, OnOk};
 ghost use Rattle.lil_asm.specs.Bytes.{bytes_of, byte_bytes, word_bytes, two_word_bytes, loop_bytes, entry_bytes};
 
 use crate::Instr;
@@ -8,7 +8,8 @@ use lil_base::{Bytes, Memory, put16};
 
 /// Appends the bytes of an instruction. After a refusal the list may only be dropped.
 pub fn encode(code: &mut Bytes, instr: Instr) -> Result<(), Memory>
-    ensures { OnOk result (code.new ≡ code.old ++ bytes_of instr) }
+    ensures bytes { OnOk result (code.new ≡ code.old ++ bytes_of instr) }
+    ensures grows { length code.old ≤ length code.new }
 {
     match instr {
         Instr::Liw(word) => put_word(code, 0x01, word),
@@ -59,28 +60,32 @@ pub fn encode(code: &mut Bytes, instr: Instr) -> Result<(), Memory>
 }
 
 fn put_byte(code: &mut Bytes, first: u8, byte: u8) -> Result<(), Memory>
-    ensures { OnOk result (code.new ≡ code.old ++ byte_bytes first byte) }
+    ensures bytes { OnOk result (code.new ≡ code.old ++ byte_bytes first byte) }
+    ensures grows { length code.old ≤ length code.new }
 {
     code.push(first)?;
     code.push(byte)
 }
 
 fn put_word(code: &mut Bytes, first: u8, word: u16) -> Result<(), Memory>
-    ensures { OnOk result (code.new ≡ code.old ++ word_bytes first word) }
+    ensures bytes { OnOk result (code.new ≡ code.old ++ word_bytes first word) }
+    ensures grows { length code.old ≤ length code.new }
 {
     code.push(first)?;
     put16(code, word)
 }
 
 fn put_two_words(code: &mut Bytes, first: u8, one: u16, other: u16) -> Result<(), Memory>
-    ensures { OnOk result (code.new ≡ code.old ++ two_word_bytes first one other) }
+    ensures bytes { OnOk result (code.new ≡ code.old ++ two_word_bytes first one other) }
+    ensures grows { length code.old ≤ length code.new }
 {
     put_word(code, first, one)?;
     put16(code, other)
 }
 
 fn put_loop(code: &mut Bytes, offset: u16, kind: u8, to: u16) -> Result<(), Memory>
-    ensures { OnOk result (code.new ≡ code.old ++ loop_bytes offset kind to) }
+    ensures bytes { OnOk result (code.new ≡ code.old ++ loop_bytes offset kind to) }
+    ensures grows { length code.old ≤ length code.new }
 {
     put_word(code, 0x77, offset)?;
     put_word(code, kind, to)
@@ -88,7 +93,8 @@ fn put_loop(code: &mut Bytes, offset: u16, kind: u8, to: u16) -> Result<(), Memo
 
 /// Appends an entry of CAS: a range and the place for the words in it. After a refusal the list may only be dropped.
 pub fn encode_entry(code: &mut Bytes, low: u16, high: u16, target: u16) -> Result<(), Memory>
-    ensures { OnOk result (code.new ≡ code.old ++ entry_bytes low high target) }
+    ensures bytes { OnOk result (code.new ≡ code.old ++ entry_bytes low high target) }
+    ensures grows { length code.old ≤ length code.new }
 {
     put16(code, low)?;
     put16(code, high)?;

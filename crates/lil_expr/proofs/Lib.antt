@@ -1,3 +1,3 @@
-mod Chains
-mod Generating
-mod Nodes
+pub mod Operators
+pub mod Forms
+pub mod Chains

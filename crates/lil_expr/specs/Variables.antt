@@ -1,16 +1,15 @@
 -- Where a sound variable lies in a plain layout.
-use Rattle.std.proofs.Common.{ℕ, List, ap, ◌∙◌}
-use Rattle.std.specs.Prelude.{slice_get}
+use Rattle.std.proofs.Common.{ℕ}
 use Rattle.std.proofs.lemmas.Option.{slice_get_within}
 use Rattle.lil_resolved.specs.Kinds.{Kind}
-use Rattle.lil_resolved.specs.Sizes.{IsSoundVariable}
+use Rattle.lil_resolved.specs.Sound.{IsSoundVariable}
 use Rattle.lil_table.specs.Rows.{Layout, KnownRow}
-use Rattle.lil_expr.specs.Generating.{IsPlain}
+use Rattle.lil_labels.specs.Drafts.{IsPlain}
 
-abbrev pub known_row : (l : Layout) (ks : List Kind) (x : ℕ) (k : Kind) → IsPlain l ks → IsSoundVariable ks x k → KnownRow l x k
-known_row l ks x k plain sound = record {
+abbrev pub known_row : (l : Layout) (x : ℕ) (k : Kind) → IsPlain l → IsSoundVariable l.kinds x k → KnownRow l x k
+known_row l x k plain sound = record {
   offset = x;
-  at = plain.offset x (slice_get_within ks x k sound.known);
-  typed = ap (λ (kinds : List Kind). slice_get kinds x) plain.kinds ∙ sound.known;
+  at = plain x (slice_get_within l.kinds x k sound.known);
+  typed = sound.known;
   base = sound.base;
 }

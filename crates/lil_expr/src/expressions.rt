@@ -1,31 +1,28 @@
 //! The code of expressions.
 
-ghost use Rattle.std.specs.Prelude.{◌≡◌, ◌+◌, ◌≤◌, ◌++◌, length, OnOk};
+ghost use Rattle.std.specs.Prelude.{◌≡◌, OnOk};
 ghost use Rattle.lil_base.specs.Words as words;
 ghost use Rattle.lil_resolved.specs.Kinds.{OfWhole};
-ghost use Rattle.lil_resolved.specs.Sizes.{size, two_size};
 ghost use Rattle.lil_resolved.specs.Views.{base_view, expression_of};
 ghost use Rattle.lil_table.specs.Rows.{two_code, one_code};
-ghost use Rattle.lil_expr.specs.Emitting.{all_bytes};
-ghost use Rattle.lil_expr.specs.Generating.{EmitsExpression, EmitsOperation, EmitsOperations, operation_size, operations_size, jump_of};
+ghost use Rattle.lil_labels.specs.Drafts.{DoingAll, Emits};
+ghost use Rattle.lil_expr.specs.Generating.{Value, Operating, OperatingAll, aim_of};
 
 use crate::functions::emit_function;
 use crate::numbers::constant_word;
-use crate::sizes::expression_size;
-use lil_asm::{Instr, encode};
-use lil_base::{Bytes, Memory};
+use lil_asm::Instr;
+use lil_base::Memory;
+use lil_labels::{Aim, CodeBuffer};
 use lil_resolved::{OneOp, RBase, RExpr, ROperation, TwoOp, base};
 
 /// Appends the code that leaves an expression's value on the expression stack.
 #[cycle(emitting)]
-pub fn emit_expression(code: &mut Bytes, e: &RExpr) -> Result<(), Memory>
-    requires room { length code.old + size (expression_of e.now) ≤ 32767 }
-    ensures short { OnOk result (length code.new ≤ length code.old + size (expression_of e.now)) }
-    ensures means { OnOk result (EmitsExpression code.old code.new (expression_of e.now)) }
+pub fn emit_expression(code: &mut CodeBuffer, e: &RExpr) -> Result<(), Memory>
+    ensures { OnOk result (Emits code.old code.new (Value (expression_of e.now))) }
 {
     match e {
-        RExpr::Constant(base, number) => encode(code, Instr::Liw(constant_word(*base, *number))),
-        RExpr::Variable(variable) => encode(code, Instr::Lgw(variable.number)),
+        RExpr::Constant(base, number) => code.put(Instr::Liw(constant_word(*base, *number))),
+        RExpr::Variable(variable) => code.put(Instr::Lgw(variable.number)),
         RExpr::One(operator, value) => {
             emit_expression(code, value.get())?;
             emit_one(code, *operator)
@@ -43,10 +40,8 @@ pub fn emit_expression(code: &mut Bytes, e: &RExpr) -> Result<(), Memory>
 
 /// Appends the code of operations, each on the value that stands on the expression stack before it.
 #[cycle(emitting)]
-fn emit_operations(code: &mut Bytes, operations: &[ROperation]) -> Result<(), Memory>
-    requires room { length code.old + operations_size operations.now ≤ 32767 }
-    ensures short { OnOk result (length code.new ≤ length code.old + operations_size operations.now) }
-    ensures means { OnOk result (EmitsOperations code.old code.new operations.now) }
+fn emit_operations(code: &mut CodeBuffer, operations: &[ROperation]) -> Result<(), Memory>
+    ensures { OnOk result (Emits code.old code.new (OperatingAll operations.now)) }
 {
     for operation in operations {
         emit_operation(code, operation)?;
@@ -57,54 +52,50 @@ fn emit_operations(code: &mut Bytes, operations: &[ROperation]) -> Result<(), Me
 /// Appends the code of an operation: the operand and an instruction, or a jump over the operand where the value before
 /// it may decide.
 #[cycle(emitting)]
-fn emit_operation(code: &mut Bytes, operation: &ROperation) -> Result<(), Memory>
-    requires room { length code.old + operation_size operation.now ≤ 32767 }
-    ensures short { OnOk result (length code.new ≤ length code.old + operation_size operation.now) }
-    ensures means { OnOk result (EmitsOperation code.old code.new operation.now) }
+fn emit_operation(code: &mut CodeBuffer, operation: &ROperation) -> Result<(), Memory>
+    ensures { OnOk result (Emits code.old code.new (Operating operation.now)) }
 {
-    let operator = operation.operator;
-    let operand = &operation.operand;
-    let end = code.len() + 3 + expression_size(operand) as usize;
-    match jump_over(operator, end as u16) {
-        Some(jump) => {
-            encode(code, jump)?;
-            emit_expression(code, operand)
+    match jump_over(operation.operator) {
+        Some(aim) => {
+            let end = code.fresh()?;
+            code.jump(aim, end)?;
+            emit_expression(code, &operation.operand)?;
+            code.here(end)
         }
         // the operand has the kind of the value before it
         None => {
-            emit_expression(code, operand)?;
-            emit_two(code, operator, base(operand))
+            emit_expression(code, &operation.operand)?;
+            emit_two(code, operation.operator, base(&operation.operand))
         }
     }
 }
 
 /// The jump over the right operand, where the left one may decide.
-fn jump_over(operator: TwoOp, end: u16) -> Option<Instr>
-    ensures { result ≡ jump_of operator end }
+fn jump_over(operator: TwoOp) -> Option<Aim>
+    ensures { result ≡ aim_of operator }
 {
     match operator {
-        TwoOp::And => Some(Instr::Jan(end)),
-        TwoOp::Or => Some(Instr::Jor(end)),
+        TwoOp::And => Some(Aim::And),
+        TwoOp::Or => Some(Aim::Or),
         _ => None,
     }
 }
 
 /// Appends the instructions of an operator on one value.
-fn emit_one(code: &mut Bytes, operator: OneOp) -> Result<(), Memory>
-    ensures { OnOk result (code.new ≡ code.old ++ all_bytes (one_code operator (OfWhole words.Integer))) }
+fn emit_one(code: &mut CodeBuffer, operator: OneOp) -> Result<(), Memory>
+    ensures { OnOk result (Emits code.old code.new (DoingAll (one_code operator (OfWhole words.Integer)))) }
 {
     match operator {
         OneOp::Plus => Ok(()),
-        OneOp::Minus => encode(code, Instr::Ngi),
-        OneOp::Not => encode(code, Instr::Not),
+        OneOp::Minus => code.put_all(&[Instr::Ngi]),
+        OneOp::Not => code.put_all(&[Instr::Not]),
     }
 }
 
 /// Appends the instructions of an operator on two values of a base.
-#[tactic(auto, using(crate::proofs::Generating::two_same))]
-fn emit_two(code: &mut Bytes, operator: TwoOp, base: RBase) -> Result<(), Memory>
-    ensures short { OnOk result (length code.new ≤ length code.old + two_size operator) }
-    ensures code { OnOk result (code.new ≡ code.old ++ all_bytes (two_code operator (base_view base))) }
+#[tactic(auto, using(crate::proofs::Operators::two_same))]
+fn emit_two(code: &mut CodeBuffer, operator: TwoOp, base: RBase) -> Result<(), Memory>
+    ensures { OnOk result (Emits code.old code.new (DoingAll (two_code operator (base_view base)))) }
 {
     match base {
         RBase::Integer => emit_integer(code, operator),
@@ -114,54 +105,40 @@ fn emit_two(code: &mut Bytes, operator: TwoOp, base: RBase) -> Result<(), Memory
     }
 }
 
-fn emit_cardinal(code: &mut Bytes, operator: TwoOp) -> Result<(), Memory>
-    ensures short { OnOk result (length code.new ≤ length code.old + two_size operator) }
-    ensures code { OnOk result (code.new ≡ code.old ++ all_bytes (two_code operator (OfWhole words.Cardinal))) }
+fn emit_cardinal(code: &mut CodeBuffer, operator: TwoOp) -> Result<(), Memory>
+    ensures { OnOk result (Emits code.old code.new (DoingAll (two_code operator (OfWhole words.Cardinal)))) }
 {
     match operator {
-        TwoOp::Equal => encode(code, Instr::Equ),
-        TwoOp::Unequal => encode(code, Instr::Neq),
-        TwoOp::Less => encode(code, Instr::Lsc),
-        TwoOp::AtMost => encode(code, Instr::Lec),
-        TwoOp::Greater => {
-            encode(code, Instr::Swp)?;
-            encode(code, Instr::Lsc)
-        }
-        TwoOp::AtLeast => {
-            encode(code, Instr::Swp)?;
-            encode(code, Instr::Lec)
-        }
-        TwoOp::Plus => encode(code, Instr::Adc),
-        TwoOp::Minus => encode(code, Instr::Sbc),
-        TwoOp::Times => encode(code, Instr::Mlc),
-        TwoOp::Div => encode(code, Instr::Dvc),
-        TwoOp::Mod => encode(code, Instr::Mdc),
+        TwoOp::Equal => code.put_all(&[Instr::Equ]),
+        TwoOp::Unequal => code.put_all(&[Instr::Neq]),
+        TwoOp::Less => code.put_all(&[Instr::Lsc]),
+        TwoOp::AtMost => code.put_all(&[Instr::Lec]),
+        TwoOp::Greater => code.put_all(&[Instr::Swp, Instr::Lsc]),
+        TwoOp::AtLeast => code.put_all(&[Instr::Swp, Instr::Lec]),
+        TwoOp::Plus => code.put_all(&[Instr::Adc]),
+        TwoOp::Minus => code.put_all(&[Instr::Sbc]),
+        TwoOp::Times => code.put_all(&[Instr::Mlc]),
+        TwoOp::Div => code.put_all(&[Instr::Dvc]),
+        TwoOp::Mod => code.put_all(&[Instr::Mdc]),
         TwoOp::And | TwoOp::Or | TwoOp::In | TwoOp::Slash => Ok(()),
     }
 }
 
-fn emit_integer(code: &mut Bytes, operator: TwoOp) -> Result<(), Memory>
-    ensures short { OnOk result (length code.new ≤ length code.old + two_size operator) }
-    ensures code { OnOk result (code.new ≡ code.old ++ all_bytes (two_code operator (OfWhole words.Integer))) }
+fn emit_integer(code: &mut CodeBuffer, operator: TwoOp) -> Result<(), Memory>
+    ensures { OnOk result (Emits code.old code.new (DoingAll (two_code operator (OfWhole words.Integer)))) }
 {
     match operator {
-        TwoOp::Equal => encode(code, Instr::Equ),
-        TwoOp::Unequal => encode(code, Instr::Neq),
-        TwoOp::Less => encode(code, Instr::Lsi),
-        TwoOp::AtMost => encode(code, Instr::Lei),
-        TwoOp::Greater => {
-            encode(code, Instr::Swp)?;
-            encode(code, Instr::Lsi)
-        }
-        TwoOp::AtLeast => {
-            encode(code, Instr::Swp)?;
-            encode(code, Instr::Lei)
-        }
-        TwoOp::Plus => encode(code, Instr::Adi),
-        TwoOp::Minus => encode(code, Instr::Sbi),
-        TwoOp::Times => encode(code, Instr::Mli),
-        TwoOp::Div => encode(code, Instr::Dvi),
-        TwoOp::Mod => encode(code, Instr::Mdi),
+        TwoOp::Equal => code.put_all(&[Instr::Equ]),
+        TwoOp::Unequal => code.put_all(&[Instr::Neq]),
+        TwoOp::Less => code.put_all(&[Instr::Lsi]),
+        TwoOp::AtMost => code.put_all(&[Instr::Lei]),
+        TwoOp::Greater => code.put_all(&[Instr::Swp, Instr::Lsi]),
+        TwoOp::AtLeast => code.put_all(&[Instr::Swp, Instr::Lei]),
+        TwoOp::Plus => code.put_all(&[Instr::Adi]),
+        TwoOp::Minus => code.put_all(&[Instr::Sbi]),
+        TwoOp::Times => code.put_all(&[Instr::Mli]),
+        TwoOp::Div => code.put_all(&[Instr::Dvi]),
+        TwoOp::Mod => code.put_all(&[Instr::Mdi]),
         TwoOp::And | TwoOp::Or | TwoOp::In | TwoOp::Slash => Ok(()),
     }
 }

@@ -1,15 +1,15 @@
 //! The tests that a number is one of a kind.
 
-ghost use Rattle.std.specs.Prelude.{◌≡◌, ◌+◌, ◌≤◌, ◌++◌, ◌≤ℤ◌, length, pos, OnOk};
+ghost use Rattle.std.specs.Prelude.{◌≡◌, ◌≤ℤ◌, pos, OnOk};
 ghost use Rattle.lil_resolved.specs.Kinds as kinds;
-ghost use Rattle.lil_resolved.specs.Sizes as spec;
 ghost use Rattle.lil_resolved.specs.Views.{base_view, kind_view};
 ghost use Rattle.lil_table.specs.Rows.{range_code, test_code};
-ghost use Rattle.lil_expr.specs.Emitting.{all_bytes, only};
+ghost use Rattle.lil_labels.specs.Drafts.{DoingAll, Emits};
 
 use crate::numbers::word_of_number;
-use lil_asm::{Instr, encode};
-use lil_base::{Bytes, Memory};
+use lil_asm::Instr;
+use lil_base::Memory;
+use lil_labels::CodeBuffer;
 use lil_resolved::{RBase, RKind, RRange};
 
 /// The least number of the values of a base.
@@ -106,30 +106,12 @@ fn range_test(from: RBase, range: RRange) -> Instr
     }
 }
 
-/// The test that the number of a value of a base is one of a kind, where it isn't always.
-pub fn test_of(to: RKind, from: RBase) -> Option<Instr>
-    ensures { test_code (kind_view to) (base_view from) ≡ only result }
+/// Appends the test that the number of a value of a base is one of a kind, where it isn't always.
+pub fn emit_test(code: &mut CodeBuffer, to: RKind, from: RBase) -> Result<(), Memory>
+    ensures { OnOk result (Emits code.old code.new (DoingAll (test_code (kind_view to) (base_view from)))) }
 {
     if covers(to, from) {
-        return None;
+        return Ok(());
     }
-    Some(range_test(from, shared(to, from)))
-}
-
-/// How many bytes that test takes.
-pub fn test_size(to: RKind, from: RBase) -> u32
-    ensures { result ≡ spec.test_size (kind_view to) (base_view from) }
-{
-    if covers(to, from) { 0 } else { 5 }
-}
-
-/// Appends that test.
-pub fn emit_test(code: &mut Bytes, to: RKind, from: RBase) -> Result<(), Memory>
-    ensures short { OnOk result (length code.new ≤ length code.old + spec.test_size (kind_view to) (base_view from)) }
-    ensures code { OnOk result (code.new ≡ code.old ++ all_bytes (test_code (kind_view to) (base_view from))) }
-{
-    match test_of(to, from) {
-        None => Ok(()),
-        Some(test) => encode(code, test),
-    }
+    code.put_all(&[range_test(from, shared(to, from))])
 }

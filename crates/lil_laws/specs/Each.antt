@@ -29,7 +29,7 @@ direct_quiet : (n : ℕ) (k : Kind) → Direct n k ≡ Quiet → ⊥
 direct_quiet n k e = cc
 
 module _ (ctx : Setting) where
-  open ctx use {modules, layout as l, table, own, number, home as h}
+  open ctx use {modules, table, own, number, home as h}
 
   -- what all stacks share stays where the place changes alone
   shared_at : (s : Source) (m : State) (q : ℕ) → Shared ctx s m → Shared ctx s (going m q m.stack)

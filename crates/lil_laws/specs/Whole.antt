@@ -86,7 +86,7 @@ trapped_agrees name s run t over f w named bare = record {
 }
 
 module _ (ctx : Setting) where
-  open ctx use {modules, layout as l, table, own, number, home as h}
+  open ctx use {modules, table, own, number, home as h}
 
   abbrev pub Name : List ℕ
   Name = name_of (loaded_at modules number)

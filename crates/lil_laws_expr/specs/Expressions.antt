@@ -23,14 +23,15 @@ use Rattle.lil_match.specs.Running.{running, react}
 use Rattle.lil_match.specs.Homes.{word_for, plain_word, yes}
 use Rattle.lil_match.specs.Stutter.{stutter}
 use Rattle.lil_match.specs.Goes.{HasFors, Shared, Goes, Lands}
-use Rattle.lil_match.specs.Waits.{Setting, Mode, Quiet, ValueOf, Direct, Around, Reach, AfterJumps, Rows, IsVariable, Waiting}
+use Rattle.lil_match.specs.Waits.{Setting, laid_out, Mode, Quiet, ValueOf, Direct, Around, Reach, AfterJumps, Rows, IsVariable, Waiting}
 use Rattle.lil_match.specs.Steps.{advances, pushes, at_step, at_once, shared_there, lands_on, goes_none, goes_one, goes_after, operand_goes}
 use Rattle.lil_match.specs.Orders.{instr_within, instrs_order, instrs_within, expression_stands, expression_within}
 use Rattle.lil_match.specs.Closing.{closed, both_trap}
 use Rattle.lil_laws_expr.specs.Operators.{answer_row, Gives, Fits, one_gives, one_fits, two_gives, two_length, two_fits, function_gives, function_fits, function_none, function_length}
 
 module _ (ctx : Setting) where
-  open ctx use {modules, layout as l, table, own, number, home as h}
+  open ctx use {modules, table, own, number, home as h}
+  open laid_out ctx use {layout as l}
 
   module _ (s : Source) (k : List Item) (m : State) (c : ℕ) (a : Around) (shared : Shared ctx s m) (fors : HasFors ctx m.frame m.store a.fors) where
     abbrev Rest : Reach

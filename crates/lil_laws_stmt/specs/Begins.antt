@@ -20,7 +20,7 @@ use Rattle.lil_match.specs.Homes.{yes}
 use Rattle.lil_match.specs.Ranges.{has, value_none}
 use Rattle.lil_match.specs.Tests.{covered}
 use Rattle.lil_match.specs.Goes.{HasFors, Shared, Goes, Lands}
-use Rattle.lil_match.specs.Waits.{Setting, Quiet, Around, Rows, BeginWaits}
+use Rattle.lil_match.specs.Waits.{Setting, laid_out, Quiet, Around, Rows, BeginWaits}
 use Rattle.lil_match.specs.Orders.{instr_within}
 use Rattle.lil_match.specs.Closing.{closed, both_trap}
 use Rattle.lil_match.specs.Steps.{advances, at_step, rows_ahead, lands_on, goes_one, goes_after}
@@ -28,7 +28,8 @@ use Rattle.lil_laws_stmt.specs.Starts.{has_base, is_small, small_has, IsOutside,
 use Rattle.lil_laws_stmt.specs.Fors.{shared_stored, goes_more, bounded_goes}
 
 module _ (ctx : Setting) where
-  open ctx use {modules, layout as l, table, own, number, home as h}
+  open ctx use {modules, table, own, number, home as h}
+  open laid_out ctx use {layout as l}
 
   -- ---- a start of another type of whole numbers
   module _ (s : Source) (k : List Item) (m : State) (c : ℕ) (a : Around) (shared : Shared ctx s m) (fors : HasFors ctx m.frame m.store a.fors)
@@ -123,7 +124,7 @@ module _ (ctx : Setting) where
                 (omega arith)
 
       -- ---- a start outside has no turn
-      module _ (way : outside_turns (compared_as base) step ≡ false) (leave : LeaveRow own.code m.place row.turns.aligned row.end) where
+      module _ (way : outside_turns (compared_as base) step ≡ false) (leave : LeaveRow l own.code m.place row.turns.aligned row.end) where
         leaves : (u : ℕ) → turns first row.limit step ≡ u → has base first ≡ false
             → Lands ctx (next modules (record s { items = Perform (Turns (Variable x kind) first step u body) ∷ k; phase = Going })).phase
             (next modules (record s { items = Perform (Turns (Variable x kind) first step u body) ∷ k; phase = Going })) (running (at row.end []) s.world) c
@@ -168,7 +169,7 @@ module _ (ctx : Setting) where
             (omega arith)
 
     -- whichever way a start of another type goes
-    other_goes : (apart : covers base row.from ≡ false) (b : Bool) → outside_turns (compared_as base) step ≡ b → AlignAt own.code false b m.place row.turns.aligned row.end
+    other_goes : (apart : covers base row.from ≡ false) (b : Bool) → outside_turns (compared_as base) step ≡ b → AlignAt l own.code false b m.place row.turns.aligned row.end
         → Goes ctx s here (at m.place (word_of row.limit ∷ word_of first ∷ [])) (c + 32)
     other_goes apart true way align =
         does Swp m.place align.0 (word_of row.limit ∷ word_of first ∷ []) (word_of first ∷ word_of row.limit ∷ []) (c + 32) (c + 31) align.1 refl
@@ -176,7 +177,7 @@ module _ (ctx : Setting) where
         (omega arith)
     other_goes apart false way align = looks apart way align
 
-    by_kind : (b : Bool) → covers base row.from ≡ b → AlignAt own.code b (outside_turns (compared_as base) step) m.place row.turns.aligned row.end
+    by_kind : (b : Bool) → covers base row.from ≡ b → AlignAt l own.code b (outside_turns (compared_as base) step) m.place row.turns.aligned row.end
         → Goes ctx s here (at m.place (word_of row.limit ∷ word_of first ∷ [])) (c + 32)
     by_kind true covering align =
         goes_more ctx s here (at m.place (word_of row.limit ∷ word_of first ∷ [])) (c + 24) (c + 32)

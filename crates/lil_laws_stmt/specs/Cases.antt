@@ -20,7 +20,7 @@ use Rattle.lil_table.specs.Rows.{Layout, IsAt, BodyAt, EntriesAt, ArmsAt}
 use Rattle.lil_match.specs.Running.{running, advanced, react}
 use Rattle.lil_match.specs.Homes.{word_for, plain_word, yes}
 use Rattle.lil_match.specs.Goes.{HasFors, Shared, Goes, Lands}
-use Rattle.lil_match.specs.Waits.{Setting, Quiet, ValueOf, Around, Reach, Rows, Waiting}
+use Rattle.lil_match.specs.Waits.{Setting, laid_out, Quiet, ValueOf, Around, Reach, Rows, Waiting}
 use Rattle.lil_match.specs.Orders.{instr_within, body_within}
 use Rattle.lil_match.specs.Closing.{closed, both_trap}
 use Rattle.lil_match.specs.Arithmetic.{word_is}
@@ -103,24 +103,25 @@ module _ (code : List ℕ) (k : Kind) (base : is_base k ≡ true) (z : ℤ) (ins
 module _ (l : Layout) (code : List ℕ) (n : ℕ) (around : Option ℕ) (k : Kind) (base : is_base k ≡ true) (exit other table : ℕ) (z : ℤ) (inside : in_type (compared_as k) z ≡ true) where
   -- the table leads to the arm that is done, which ends with a jump to the exit, or to the trap
   abbrev Reached : Option Statements → Option ℕ → Type 0
-  Reached (Some body) target = (start : ℕ) × (end : ℕ) × (gap : ℕ) × (target ≡ Some start) × BodyAt l code n around body start end × IsAt code end (Jmp exit) gap
-  Reached None target = (start : ℕ) × (gap : ℕ) × (target ≡ Some start) × IsAt code start (Trp 7) gap
+  Reached (Some body) target = (start : ℕ) × (end : ℕ) × (gap : ℕ) × (target ≡ Some (l.target start)) × BodyAt l code n around body start end × IsAt code end (Jmp (l.target exit)) gap
+  Reached None target = (start : ℕ) × (gap : ℕ) × (target ≡ Some (l.target start)) × IsAt code start (Trp 7) gap
 
-  arms_found : (arms : Arms) (p t w : ℕ) → ArmsAt l code n around k arms exit other table p t w → Reached (meaning.chosen arms z) (machine.chosen code w t (word_of z) other)
-  arms_found NoElse p t w h = (p, table, ap (λ (v : ℕ). machine.chosen code v t (word_of z) other) h.none ∙ ap Some h.is, h.trap)
-  arms_found (Else body) p t w h = (p, h.end, table, ap (λ (v : ℕ). machine.chosen code v t (word_of z) other) h.none ∙ ap Some h.is, h.here, h.leave)
+  arms_found : (arms : Arms) (p t w : ℕ) → ArmsAt l code n around k arms exit other table p t w → Reached (meaning.chosen arms z) (machine.chosen code w t (word_of z) (l.target other))
+  arms_found NoElse p t w h = (p, table, ap (λ (v : ℕ). machine.chosen code v t (word_of z) (l.target other)) h.none ∙ ap (λ (q : ℕ). Some (l.target q)) h.is, h.trap)
+  arms_found (Else body) p t w h = (p, h.end, table, ap (λ (v : ℕ). machine.chosen code v t (word_of z) (l.target other)) h.none ∙ ap (λ (q : ℕ). Some (l.target q)) h.is, h.here, h.leave)
   arms_found (Arm labels body rest) p t w h =
       by_label (λ t w r. arms_found rest h.gap t w r) (among labels z)
-      (labels_found code k base z inside other p (ArmsAt l code n around k rest exit other table h.gap) labels t w h.entries)
+      (labels_found code k base z inside (l.target other) (l.target p) (ArmsAt l code n around k rest exit other table h.gap) labels t w h.entries)
     where
-      by_label : ((t w : ℕ) → ArmsAt l code n around k rest exit other table h.gap t w → Reached (meaning.chosen rest z) (machine.chosen code w t (word_of z) other)) → (b : Bool)
-          → Searched code k base z inside other p (ArmsAt l code n around k rest exit other table h.gap) b (machine.chosen code w t (word_of z) other)
-          → Reached (cond b (Some body) (meaning.chosen rest z)) (machine.chosen code w t (word_of z) other)
+      by_label : ((t w : ℕ) → ArmsAt l code n around k rest exit other table h.gap t w → Reached (meaning.chosen rest z) (machine.chosen code w t (word_of z) (l.target other))) → (b : Bool)
+          → Searched code k base z inside (l.target other) (l.target p) (ArmsAt l code n around k rest exit other table h.gap) b (machine.chosen code w t (word_of z) (l.target other))
+          → Reached (cond b (Some body) (meaning.chosen rest z)) (machine.chosen code w t (word_of z) (l.target other))
       by_label after true r = (p, h.end, h.gap, r, h.here, h.leave)
       by_label after false r = subst (λ (o : Option ℕ). Reached (meaning.chosen rest z) o) (sym r.3) (after r.0 r.1 r.2)
 
 module _ (ctx : Setting) where
-  open ctx use {modules, layout as l, table, own, number, home as h}
+  open ctx use {modules, table, own, number, home as h}
+  open laid_out ctx use {layout as l}
 
   module _ (s : Source) (k : List Item) (m : State) (c : ℕ) (a : Around) (shared : Shared ctx s m) (fors : HasFors ctx m.frame m.store a.fors) where
     abbrev Rest : Reach

@@ -56,7 +56,7 @@ split code [] js p q h = (p, refl, h)
 split code (i ∷ is) js p q h = let more = split code is js h.0 q h.2 in (more.0, (h.0, h.1, more.1), more.2)
 
 module _ (ctx : Setting) where
-  open ctx use {modules, layout as l, table, own, number, home as h}
+  open ctx use {modules, table, own, number, home as h}
 
   module _ (s : Source) (k : List Item) (m : State) (c : ℕ) (a : Around) (shared : Shared ctx s m) (fors : HasFors ctx m.frame m.store a.fors) where
     abbrev Rest : Reach

@@ -16,7 +16,7 @@ use Rattle.lil_match.specs.Running.{running, advanced}
 use Rattle.lil_match.specs.Homes.{word_for, yes}
 use Rattle.lil_match.specs.Goes.{HasFors, Shared, Goes, Lands}
 use Rattle.lil_match.specs.Stutter.{stutter, body_stutter}
-use Rattle.lil_match.specs.Waits.{Setting, Quiet, ValueOf, Around, Reach, Rows, Ahead, LoopingWaits, Waiting}
+use Rattle.lil_match.specs.Waits.{Setting, laid_out, Quiet, ValueOf, Around, Reach, Rows, Ahead, LoopingWaits, Waiting}
 use Rattle.lil_match.specs.Orders.{instr_within, expression_within, statement_within, body_within}
 use Rattle.lil_match.specs.Steps.{advances, at_step, at_once, rows_jump, rows_ahead, lands_on, goes_none, goes_one, jumps_to, operand_goes}
 
@@ -30,7 +30,8 @@ doing_stutter Empty k = omega arith
 doing_stutter (Then s ss) k = omega (arith, doing_stutter ss k)
 
 module _ (ctx : Setting) where
-  open ctx use {modules, layout as l, table, own, number, home as h}
+  open ctx use {modules, table, own, number, home as h}
+  open laid_out ctx use {layout as l}
 
   -- statements stand before what is left
   pub body_rows : (ss : Statements) (k : List Item) (p q c : ℕ) (a : Around) → BodyAt l own.code (length a.fors) a.exit ss p q → q < length own.code

@@ -17,7 +17,7 @@ some_same : (x y : ℕ) → Some x ≡ Some y → x ≡ y
 some_same x y e = cc
 
 module _ (ctx : Setting) where
-  open ctx use {modules, layout as l, table, own, number, home as h}
+  open ctx use {modules, table, own, number, home as h}
 
   -- Items that are left behind a LOOP stand at the place behind it, with at most so many jumps owed. The FORs around it are among those at hand.
   pub record Leaves (k : List Item) (to c : ℕ) (a : Around) : Type 0 where

@@ -19,14 +19,14 @@ use Rattle.lil_mcode.specs.declared.machine.Event.TheVariants.{Went, Trap}
 use Rattle.lil_mcode.specs.Control.{after_first}
 use Rattle.lil_mcode.specs.State.{State}
 use Rattle.lil_mcode.specs.Table.{mstep, going, push_row, on_three, loop_row, begun_row, turn_row}
-use Rattle.lil_table.specs.Rows.{IsAt, InstrsAt, AlignAt, BodyAt, RoundRow, range_code, loop_place, loop_sign}
+use Rattle.lil_table.specs.Rows.{Layout, IsAt, InstrsAt, AlignAt, BodyAt, RoundRow, range_code, loop_place, loop_sign}
 use Rattle.lil_match.specs.Running.{Run, running, react, advanced}
 use Rattle.lil_match.specs.Homes.{word_for, plain_word, yes, no, Home, Own, Free, Mem, mem_stored, of_free}
 use Rattle.lil_match.specs.Arithmetic.{word_is}
 use Rattle.lil_match.specs.Ranges.{has, value_is, value_none, number_is, value_fits, fits_has, has_type}
 use Rattle.lil_match.specs.Tests.{covered, test_act}
 use Rattle.lil_match.specs.Goes.{HasFrame, HasFors, Shared, Goes, Lands}
-use Rattle.lil_match.specs.Waits.{Setting, Quiet, ValueOf, ForWords, Around, Reach, TurnsFit, Rows, NextWaits, IsVariable, Waiting}
+use Rattle.lil_match.specs.Waits.{Setting, laid_out, Quiet, ValueOf, ForWords, Around, Reach, TurnsFit, Rows, NextWaits, IsVariable, Waiting}
 use Rattle.lil_match.specs.Orders.{instr_within, expression_within}
 use Rattle.lil_match.specs.Closing.{closed, both_trap}
 use Rattle.lil_match.specs.Steps.{advances, pushes, at_step, at_once, rows_ahead, lands_on, goes_none, goes_one, goes_after, operand_goes}
@@ -65,7 +65,8 @@ mem_free h cells store p b x free mem = record {
 }
 
 module _ (ctx : Setting) where
-  open ctx use {modules, layout as l, table, own, number, home as h}
+  open ctx use {modules, table, own, number, home as h}
+  open laid_out ctx use {layout as l}
 
   -- a word above those of the FORs at hand
   fors_above : (ws : List ForWords) (frame p x : ℕ) (store : List ℕ) → frame + loop_place (length ws) ≤ p → HasFors ctx frame store ws → HasFors ctx frame (set store p x) ws
@@ -112,13 +113,14 @@ module _ (ctx : Setting) where
   }
 
 -- where a start is brought to its limit's type lies within the code
-pub align_within : (code : List ℕ) (same turns : Bool) (p start q : ℕ) → AlignAt code same turns p start q → start < length code → p < length code
-align_within code true turns p start q e inside = omega (arith, e, inside)
-align_within code false true p start q e inside = instr_within code p Swp e.0 e.1
-align_within code false false p start q e inside = instr_within code p Swp e.look.0 e.look.1
+pub align_within : (l : Layout) (code : List ℕ) (same turns : Bool) (p start q : ℕ) → AlignAt l code same turns p start q → start < length code → p < length code
+align_within l code true turns p start q e inside = omega (arith, e, inside)
+align_within l code false true p start q e inside = instr_within code p Swp e.0 e.1
+align_within l code false false p start q e inside = instr_within code p Swp e.look.0 e.look.1
 
 module _ (ctx : Setting) where
-  open ctx use {modules, layout as l, table, own, number, home as h}
+  open ctx use {modules, table, own, number, home as h}
+  open laid_out ctx use {layout as l}
 
   -- within a budget, and so within a larger one
   pub goes_more : (s : Source) (k : List Item) (m : State) (less more : ℕ) → Goes ctx s k m less → less ≤ more → Goes ctx s k m more
@@ -312,7 +314,7 @@ module _ (ctx : Setting) where
     start_goes x to limit step body v kind fit below is row =
         let stack : m.stack ≡ word_for h v ∷ [] = is ∙ ap (λ (st : List ℕ). word_for h v ∷ st) row.part.empty in
         operand_goes ctx s k m c a shared fors (Value (Scalars v) ∷ Fill (StartOf (Variable x to) limit step body) ∷ k) limit (LimitOf (Variable x to) v step body) refl (omega arith) row.part.last row.part.limit.value (omega (arith, row.part.limit.shallow, ap length stack))
-        (align_within own.code (covers (base_of to) kind) (outside_turns (compared_as (base_of to)) step) row.part.last row.part.turns.aligned row.part.end row.part.turns.align
+        (align_within l own.code (covers (base_of to) kind) (outside_turns (compared_as (base_of to)) step) row.part.last row.part.turns.aligned row.part.end row.part.turns.align
         (instr_within own.code row.part.turns.aligned (Liw (word_of step)) row.part.turns.stepped row.part.turns.load))
         (record {
           part = record {

@@ -14,7 +14,7 @@ use Rattle.lil_match.specs.Steps.{at_step, at_once, lands_on, goes_none}
 use Rattle.lil_laws_stmt.specs.Stores.{trap_goes}
 
 module _ (ctx : Setting) where
-  open ctx use {modules, layout as l, table, own, number, home as h}
+  open ctx use {modules, table, own, number, home as h}
 
   -- items that have rows end with the end of the one activation
   pub returns : (k : List Item) (t : Mode) (p : ℕ) (stack : List ℕ) (c : ℕ) (a : Around) → Rows ctx k t p stack c a → returned k ≡ Perform (End 0) ∷ []

@@ -18,14 +18,15 @@ use Rattle.lil_table.specs.Rows.{IsAt, InstrsAt, range_code, test_code, loop_pla
 use Rattle.lil_match.specs.Running.{Run, running, react}
 use Rattle.lil_match.specs.Homes.{word_for, yes, Of, Mem, whole_root, mem_stored, of_free}
 use Rattle.lil_match.specs.Goes.{IsProgram, HasFrame, HasFors, Shared, Goes, Lands}
-use Rattle.lil_match.specs.Waits.{Setting, Quiet, ForWords, Around, Rows, IsVariable}
+use Rattle.lil_match.specs.Waits.{Setting, laid_out, Quiet, ForWords, Around, Rows, IsVariable}
 use Rattle.lil_match.specs.Ranges.{has, fits_has, taken_where, takes_base}
 use Rattle.lil_match.specs.Tests.{covered, test_act}
 use Rattle.lil_match.specs.Closing.{both_trap}
 use Rattle.lil_match.specs.Steps.{advances, at_step, rows_ahead, shared_there, goes_one, goes_after}
 
 module _ (ctx : Setting) (m : State) (frame : HasFrame ctx m) (r : Root) (owned : ctx.home.owner (ctx.home.base r) ≡ Of r) (x : ℕ) where
-  open ctx use {modules, layout as l, table, own, number, home as h}
+  open ctx use {modules, table, own, number, home as h}
+  open laid_out ctx use {layout as l}
 
   -- a word of the frame behind its mark is no root's
   frame_word : (i a : ℕ) → a ≡ m.frame + i → 4 ≤ i → i < l.frame → get_or (set m.store (h.base r) x) a 0 ≡ get_or m.store a 0
@@ -47,7 +48,7 @@ module _ (ctx : Setting) (m : State) (frame : HasFrame ctx m) (r : Root) (owned 
       )
 
 module _ (ctx : Setting) where
-  open ctx use {modules, layout as l, table, own, number, home as h}
+  open ctx use {modules, table, own, number, home as h}
 
   -- steps of the machine from a place and an expression stack, while the source has these items
   module _ (s : Source) (items : List Item) (m : State) (all : Shared ctx s m) (p : ℕ) (stack : List ℕ) where

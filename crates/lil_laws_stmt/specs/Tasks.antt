@@ -20,7 +20,7 @@ use Rattle.lil_match.specs.Running.{Running, Finished, Run, running, requested, 
 use Rattle.lil_match.specs.Homes.{word_for, plain_word, yes, Word}
 use Rattle.lil_match.specs.Goes.{HasFors, Shared, Goes, Lands}
 use Rattle.lil_match.specs.Stutter.{stutter}
-use Rattle.lil_match.specs.Waits.{Setting, Quiet, ValueOf, Direct, Around, Reach, Rows, Ahead, words_on, EndWaits, EndedWaits, IsVariable, Waiting}
+use Rattle.lil_match.specs.Waits.{Setting, laid_out, Quiet, ValueOf, Direct, Around, Reach, Rows, Ahead, words_on, EndWaits, EndedWaits, IsVariable, Waiting}
 use Rattle.lil_match.specs.Orders.{instr_within, instrs_order, expression_stands, arguments_within}
 use Rattle.lil_match.specs.Closing.{closed}
 use Rattle.lil_match.specs.Steps.{advances, at_step, at_once, rows_ahead, lands_on, goes_none, goes_one, operand_goes}
@@ -37,7 +37,8 @@ done_length : (done : List Scalar) (v : Scalar) → length (done ++ v ∷ []) �
 done_length done v = omega (arith, length-append done (v ∷ []))
 
 module _ (ctx : Setting) where
-  open ctx use {modules, layout as l, table, own, number, home as h}
+  open ctx use {modules, table, own, number, home as h}
+  open laid_out ctx use {layout as l}
 
   -- a test begins within the code where what follows it does
   value_within : (n : ℕ) (e : Expression) (kind : Kind) (p q : ℕ) (r : ValueRow l own.code n e kind p q) → q < length own.code → r.middle < length own.code

@@ -13,7 +13,7 @@ use Rattle.lil_match.specs.Goes.{Shared, IsTrapped}
 use Rattle.lil_match.specs.Waits.{Setting, Mode, Around, Rows}
 
 module _ (ctx : Setting) where
-  open ctx use {modules, layout as l, table, own, number, home as h}
+  open ctx use {modules, table, own, number, home as h}
 
   -- items that have rows end with the end of activation 0
   pub closed : (k : List Item) (t : Mode) (p : ℕ) (stack : List ℕ) (c : ℕ) (a : Around) → Rows ctx k t p stack c a → current k ≡ 0

@@ -13,7 +13,7 @@ use Rattle.lil_table.specs.Rows.{loop_place}
 use Rattle.lil_match.specs.Running.{Finish, Running, Finished, TrappedBy, Run, mrun, running}
 use Rattle.lil_match.specs.Homes.{Mem, Free}
 use Rattle.lil_match.specs.Stutter.{stutter}
-use Rattle.lil_match.specs.Waits.{Setting, Quiet, ForWords, Around, Ahead, IsVariable}
+use Rattle.lil_match.specs.Waits.{Setting, laid_out, Quiet, ForWords, Around, Ahead, IsVariable}
 
 -- a run that has shown no more, and goes on
 pub record IsStill (w : World) (run : Run) : Type 0 where
@@ -21,7 +21,8 @@ pub record IsStill (w : World) (run : Run) : Type 0 where
   pub finish : run.finish ≡ Running
 
 module _ (ctx : Setting) where
-  open ctx use {modules, layout as l, table, own, number, home as h}
+  open ctx use {modules, table, own, number, home as h}
+  open laid_out ctx use {layout as l}
 
   -- the registers and tables that stay
   pub record IsProgram (m : State) : Type 0 where

@@ -37,7 +37,7 @@ expression_stands l code (Two o k a b) p q h =
     let by = instrs_order code (two_code o k) h.last q h.by second.1 in
     (omega (arith, first.0, second.0, by.0), by.1)
 expression_stands l code (Short d a b) p q h =
-    let first = behind code p h.middle (short_code d q) h.start (expression_stands l code a p h.middle h.first) h.test in
+    let first = behind code p h.middle (short_code d (l.target q)) h.start (expression_stands l code a p h.middle h.first) h.test in
     let second = expression_stands l code b h.start q h.second in
     (omega (arith, first.0, second.0), second.1)
 expression_stands l code (Apply f a) p q h =
@@ -76,7 +76,7 @@ mutual
   statement_within l code n exit (Case e arms) p q h = expression_within l code e p h.middle h.value.value
   statement_within l code n exit (While c body) p q h = expression_within l code c p h.middle h.condition.value
   statement_within l code n exit (Repeat body c) p q h = body_within l code n exit body p h.end h.here (expression_within l code c h.end h.middle h.condition.value)
-  statement_within l code n exit (Loop body) p q h = body_within l code n (Some q) body p h.end h.here (instr_within code h.end (Jmp p) q h.back)
+  statement_within l code n exit (Loop body) p q h = body_within l code n (Some (l.target q)) body p h.end h.here (instr_within code h.end (Jmp (l.target p)) q h.back)
   statement_within l code n exit Exit p q h = instr_within code p (Jmp h.to) q h.jump
   statement_within l code n exit Halt p q h = instr_within code p (Trp 9) q h
   statement_within l code n exit Return p q h = instr_within code p Rtn q h

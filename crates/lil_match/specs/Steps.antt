@@ -18,7 +18,7 @@ use Rattle.lil_match.specs.Running.{Run, mrun, running, react, advanced}
 use Rattle.lil_match.specs.Homes.{yes}
 use Rattle.lil_match.specs.Goes.{IsProgram, HasFors, Shared, GoesOn, Lands, IsStill, Goes}
 use Rattle.lil_match.specs.Stutter.{stutter}
-use Rattle.lil_match.specs.Waits.{Setting, Mode, Quiet, ValueOf, Around, Reach, Jumps, AfterJumps, Rows, Ahead, Waiting}
+use Rattle.lil_match.specs.Waits.{Setting, laid_out, Mode, Quiet, ValueOf, Around, Reach, Jumps, AfterJumps, Rows, Ahead, Waiting}
 
 -- a step of the machine, as its row says
 pub advances : (m : State) (w : World) (r : Event × State) → mstep m ≡ r → advanced (running m w) ≡ react r.0 r.1 (running m w)
@@ -28,7 +28,8 @@ pub pushes : (w q : ℕ) (m : State) → length m.stack < 16 → push_row w q m 
 pushes w q m room = yes _ _ _ (lt-ltb (length m.stack) 16 room)
 
 module _ (ctx : Setting) where
-  open ctx use {modules, layout as l, table, own, number, home as h}
+  open ctx use {modules, table, own, number, home as h}
+  open laid_out ctx use {layout as l}
 
   -- the row of the instruction at hand
   pub at_step : (m : State) → IsProgram ctx m → (i : Instr) (q : ℕ) → IsAt own.code m.place i q → mstep m ≡ act i q own m

@@ -16,7 +16,7 @@ use Rattle.lil_meaning.specs.Steps.{turns}
 use Rattle.lil_asm.specs.declared.instr.Instr.TheVariants.{Lgw, Sgw, Rtn, Jmp, Svc}
 use Rattle.lil_mcode.specs.State.{Module}
 use Rattle.lil_asm.specs.Requests.{request_words}
-use Rattle.lil_table.specs.Rows.{Layout, IsAt, InstrsAt, one_code, two_code, test_code, function_code, change_code, KnownRow, ExpressionAt, WholeRow, ValueRow, ArgumentsAt, StatementAt, BodyAt, TurnsRow, RoundRow, short_code}
+use Rattle.lil_table.specs.Rows.{Layout, exactly, IsAt, InstrsAt, one_code, two_code, test_code, function_code, change_code, KnownRow, ExpressionAt, WholeRow, ValueRow, ArgumentsAt, StatementAt, BodyAt, TurnsRow, RoundRow, short_code}
 use Rattle.lil_match.specs.Homes.{word_for, Home, Word}
 
 -- What comes from the items before: nothing, a value of a kind, or the place of a variable of the module at hand, which needs no word.
@@ -88,8 +88,13 @@ pub record Setting : Type 0 where
   pub number : ℕ
   pub home : Home
 
+-- its layout where jumps have the places themselves
+abbrev pub laid_out : Setting → record { layout : Layout }
+laid_out ctx = record { layout = record (ctx.layout) { target = exactly } }
+
 module _ (ctx : Setting) where
-  open ctx use {modules, layout as l, table, own, number, home as h}
+  open ctx use {modules, table, own, number, home as h}
+  open laid_out ctx use {layout as l}
 
   -- jumps, and then a row
   pub record AfterJumps (row : Reach) (t : Mode) (p : ℕ) (stack : List ℕ) (c : ℕ) (a : Around) : Type 0 where

@@ -1,7 +1,6 @@
-mod CaseEmitting
-mod Extents
-mod Nodes
-mod Saturating
-mod Starting
-mod Stating
-mod Storing
+pub mod Counting
+pub mod Storing
+pub mod Starting
+pub mod Stating
+pub mod Words
+pub mod Arms

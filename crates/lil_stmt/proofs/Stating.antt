@@ -1,33 +1,31 @@
 -- The code of statements, form by form.
-use Rattle.std.proofs.Common.{◌≡◌, ℕ, suc, ◌+◌, ◌<◌, ℤ, Bool, List, [], ◌++◌, length, drop, get_or, Option, Some, refl, sym, ap, ◌∙◌, subst, arith}
-use Rattle.std.specs.Option.{is_some}
+use Rattle.std.proofs.Common.{◌≡◌, ℕ, suc, ◌+◌, ◌*◌, ◌<◌, ◌≤◌, ℤ, Bool, List, [], ◌∷◌, length, drop, get_or, Option, Some, refl, sym, ap, ◌∙◌, subst, arith}
+use Rattle.std.specs.Option.{is_some, option_map}
+use Rattle.std.proofs.lemmas.List.{drop_all}
 use Rattle.lil_base.specs.Words.{word_of}
 use Rattle.lil_resolved.specs.declared.resolved.RStmt.{RStmt}
 use Rattle.lil_resolved.specs.declared.resolved.RGuard.{RGuard}
-use Rattle.lil_resolved.specs.Kinds.{Kind, base_of, compared_as, covers, outside_turns}
-use Rattle.lil_resolved.specs.Resolved.{Variable, Expression, Statement, If, While, Repeat, Loop, For, Statements, Empty, Then, kind_of}
-use Rattle.lil_resolved.specs.Views.{joined, expression_of, statement_of, statements_of, guards_of}
-use Rattle.lil_resolved.specs.Sizes.{size, test_size, align_size, statement_size, body_size, IsSoundBody}
+use Rattle.lil_resolved.specs.Kinds.{Kind, OfTruth, base_of, compared_as, covers, outside_turns}
+use Rattle.lil_resolved.specs.Resolved.{Variable, Expression, Statement, While, Repeat, Loop, For, Statements, Empty, Then, kind_of}
+use Rattle.lil_resolved.specs.Views.{joined, expression_of, statement_of, statements_of, guard_of, guards_of}
+use Rattle.lil_resolved.specs.Sound.{IsSoundBody}
 use Rattle.lil_resolved.specs.Forms.{guard_is}
 use Rattle.lil_asm.specs.declared.instr.Instr.{Instr}
 use Rattle.lil_asm.specs.declared.instr.Instr.TheVariants.{Liw, Llw, Sgw, Jmp, Jpf, Fri, Frn}
-use Rattle.lil_asm.specs.Bytes.{bytes_of}
-use Rattle.lil_table.specs.Rows.{Layout, IsAt, AlignAt, BodyAt, loop_place, loop_sign, test_code}
-use Rattle.lil_stmt.specs.Generating.{EmitsStatement, EmitsBody, EmitsAlign, EmitsGuard, EmitsGuards}
-use Rattle.lil_expr.specs.Emitting.{all_bytes}
-use Rattle.lil_expr.specs.Generating.{EmitsExpression}
-use Rattle.lil_expr.specs.Appending.{emits_instr, emits_instrs, emits_none, emits_both, emits_as}
-use Rattle.lil_expr.specs.Tests.{test_coded}
+use Rattle.lil_table.specs.Rows.{Layout, IsAt, WholeRow, BodyAt, loop_place, loop_sign, test_code}
+use Rattle.lil_labels.specs.Drafts.{Draft, Final, Emits, Nothing, Doing, DoingAll, Marking, Makes, Places}
+use Rattle.lil_labels.specs.Emitting.{emits_none, emits_then, emits_as, emits_here, emits_fresh, emits_mark}
+use Rattle.lil_expr.specs.Generating.{Value}
 use Rattle.lil_expr.specs.Variables.{known_row}
-use Rattle.lil_stmt.proofs.Extents.{left_from, joined_size, joined_loops}
+use Rattle.lil_stmt.specs.Generating.{Stated, Body, Awaiting, Turning, Aligning, nothing_before, guards_before}
+use Rattle.lil_stmt.proofs.Counting.{left_from, joined_loops}
+use Rattle.lil_stmt.proofs.Storing.{whole}
 
 -- ---- one behind another
-pub one_emitted : (n : ℕ) (exit : Option ℕ) (s : Statement) (c0 c1 : List ℕ) → EmitsStatement c0 c1 n exit s → EmitsBody c0 c1 n exit (Then s Empty)
-one_emitted n exit s c0 c1 one l ks plain sound room =
-    emits_as c0 c1 (statement_size s) (statement_size s + 0) _ _
-    (omega arith)
-    (λ final t. record { middle = length c1; here = t; then = refl })
-    (one l ks plain sound.0 (omega (arith, room)))
+pub one_emitted : (n : ℕ) (exit : Option ℕ) (s : Statement) (ss : Statements) (a b : Draft) → ss ≡ Then s Empty → Emits a b (Stated n exit s) → Emits a b (Body n exit ss)
+one_emitted n exit s ss a b is t =
+    subst (λ (ss : Statements). Emits a b (Body n exit ss)) (sym is)
+    (emits_as a b _ (Body n exit (Then s Empty)) (λ x t sound room. record { middle = length b.bytes; here = t sound.0 (omega (arith, room)); then = refl }) t)
 
 sound_joined : (ks : List Kind) (looping : Bool) (a b : Statements) → IsSoundBody ks looping (joined a b) → IsSoundBody ks looping a × IsSoundBody ks looping b
 sound_joined ks looping Empty b h = (tt, h)
@@ -37,200 +35,177 @@ joined_at : (l : Layout) (code : List ℕ) (n : ℕ) (exit : Option ℕ) (a b : 
 joined_at l code n exit Empty b p q r first rest = subst (λ (m : ℕ). BodyAt l code n exit b m r) (sym first) rest
 joined_at l code n exit (Then s a) b p q r first rest = record { middle = first.middle; here = first.here; then = joined_at l code n exit a b first.middle q r first.then rest }
 
-pub joined_emitted : (n : ℕ) (exit : Option ℕ) (a b : Statements) (c0 c1 c2 : List ℕ) → EmitsBody c0 c1 n exit a → EmitsBody c1 c2 n exit b → EmitsBody c0 c2 n exit (joined a b)
-joined_emitted n exit a b c0 c1 c2 first rest l ks plain sound room =
-    let parts = sound_joined ks (is_some exit) a b sound in
-    let loops = joined_loops a b in
-    emits_as c0 c2 (body_size a + body_size b) (body_size (joined a b)) _ _
-    (sym (joined_size a b))
-    (λ final t. joined_at l final n exit a b (length c0) (length c1) (length c2) t.0 t.1)
-    (emits_both c0 c1 c2 (body_size a) (body_size b) _ _ (first l ks plain parts.0 (omega (arith, loops, room))) (rest l ks plain parts.1 (omega (arith, loops, room))))
+pub first_awaiting : (n : ℕ) (exit : Option ℕ) (d : Draft) (ss : Statements) → Emits d d (Awaiting n exit ss ss)
+first_awaiting n exit d ss = emits_as d d _ (Awaiting n exit ss ss) (λ x same r rest. rest) (emits_none d)
 
-pub no_statement_emitted : (n : ℕ) (exit : Option ℕ) (code : List ℕ) → EmitsBody code code n exit Empty
-no_statement_emitted n exit code l ks plain sound room = emits_none code
+-- the next of a list of statements
+pub next_emitted : (n : ℕ) (exit : Option ℕ) (ss : List RStmt) (i : ℕ) (s : RStmt) (all : Statements) (a b c : Draft) → i < length ss → s ≡ get_or ss i s
+    → Emits a b (Awaiting n exit (statements_of (drop i ss)) all) → Emits b c (Body n exit (statement_of s)) → Emits a c (Awaiting n exit (statements_of (drop (i + 1) ss)) all)
+next_emitted n exit ss i s all a b c inside is so_far next =
+    let rest = statements_of (drop (i + 1) ss) in
+    emits_as a c _ (Awaiting n exit rest all)
+    (λ x t r more. t.0 r
+    (subst (λ (left : List RStmt). Body n exit (statements_of left) x (length b.bytes) r) (sym (left_from ss i s inside is))
+    (λ sound room.
+    let parts = sound_joined x.layout.kinds (is_some exit) (statement_of s) rest sound in
+    let loops = joined_loops (statement_of s) rest in
+    joined_at x.layout x.code n _ (statement_of s) rest _ _ r (t.1 parts.0 (omega (arith, loops, room))) (more parts.1 (omega (arith, loops, room))))))
+    (emits_then a b c _ _ so_far next)
 
--- what is left of a list from a statement on
-pub next_emitted : (n : ℕ) (exit : Option ℕ) (ss : List RStmt) (i : ℕ) (s : RStmt) (c0 c1 c2 : List ℕ) → i < length ss → s ≡ get_or ss i s
-    → EmitsBody c0 c1 n exit (statement_of s) → EmitsBody c1 c2 n exit (statements_of (drop (i + 1) ss)) → EmitsBody c0 c2 n exit (statements_of (drop i ss))
-next_emitted n exit ss i s c0 c1 c2 inside is first rest =
-    subst (λ (left : List RStmt). EmitsBody c0 c2 n exit (statements_of left)) (sym (left_from ss i s inside is))
-    (joined_emitted n exit (statement_of s) (statements_of (drop (i + 1) ss)) c0 c1 c2 first rest)
+-- none is left
+pub all_emitted : (n : ℕ) (exit : Option ℕ) (ss : List RStmt) (i : ℕ) (all : Statements) (a b : Draft) → length ss ≤ i → Emits a b (Awaiting n exit (statements_of (drop i ss)) all) → Emits a b (Body n exit all)
+all_emitted n exit ss i all a b past =
+    emits_as a b _ (Body n exit all)
+    (λ x t. t (length b.bytes) (subst (λ (left : List RStmt). Body n exit (statements_of left) x (length b.bytes) (length b.bytes)) (sym (drop_all i ss past)) (λ sound room. refl)))
 
 -- ---- loops
-module _ (n : ℕ) (exit : Option ℕ) (c : Expression) (b : Statements) where
-  pub while_emitted : (again end : ℕ) (c0 c1 c2 c3 c4 : List ℕ) → again ≡ length c0 → EmitsExpression c0 c1 c → end ≡ length c1 + 3 + body_size b + 3
-      → c2 ≡ c1 ++ bytes_of (Jpf end) → EmitsBody c2 c3 n exit b → c4 ≡ c3 ++ bytes_of (Jmp again) → EmitsStatement c0 c4 n exit (While c b)
-  while_emitted again end c0 c1 c2 c3 c4 start test place e body back l ks plain sound room =
-      let condition = test l ks plain sound.0.sound in
-      let jump = emits_instr c1 c2 (Jpf end) tt e in
-      let here = body l ks plain sound.1 room in
-      let return = emits_instr c3 c4 (Jmp again) tt back in
-      let is : end ≡ length c4 = omega (arith, place, jump.grows, here.grows, return.grows) in
-      emits_as c0 c4 (size c + (3 + (body_size b + 3))) (size c + 3 + body_size b + 3) _ _
-      (omega arith)
-      (λ final t. record {
-        middle = length c1;
-        start = length c2;
-        end = length c3;
-        condition = record { typed = sound.0.kind; shallow = omega (arith, sound.0.shallow); value = t.0 };
-        jump = subst (λ (q : ℕ). IsAt final (length c1) (Jpf q) (length c2)) is t.1.0;
-        here = t.1.1.0;
-        back = subst (λ (p : ℕ). IsAt final (length c3) (Jmp p) (length c4)) start t.1.1.1;
+module _ (n : ℕ) (exit : Option ℕ) (k : Expression) (s : Statements) where
+  pub while_emitted : (again end : ℕ) (a b c d e f g h : Draft) → Emits a b (Marking again) → Emits b c (Value k) → Emits c d Nothing → Makes c d end → Emits d e (Doing (λ w. Jpf (w end)))
+      → Emits e f (Body n exit s) → Emits f g (Doing (λ w. Jmp (w again))) → Places g h end → Emits a h (Stated n exit (While k s))
+  while_emitted again end a b c d e f g h mark test new makes jump body back put =
+      emits_as a h _ (Stated n exit (While k s))
+      (λ x t sound room. record {
+        middle = length c.bytes;
+        start = length e.bytes;
+        end = length f.bytes;
+        condition = whole x 0 k OfTruth _ _ (omega arith) sound.0 t.0.1.0;
+        jump = subst (λ (w : ℕ). IsAt x.code (length c.bytes) (Jpf w) (length e.bytes)) t.1 t.0.1.1.0;
+        here = t.0.1.1.1.0 sound.1 room;
+        back = subst (λ (w : ℕ). IsAt x.code (length f.bytes) (Jmp w) (length h.bytes)) t.0.0 t.0.1.1.1.1;
       })
-      (emits_both c0 c1 c4 (size c) _ _ _ condition (emits_both c1 c2 c4 3 _ _ _ jump (emits_both c2 c3 c4 (body_size b) 3 _ _ here return)))
+      (emits_here a g h _ end
+      (emits_mark a b g again _ mark (emits_then b c g _ _ test (emits_fresh c d g _ new (emits_then d e g _ _ jump (emits_then e f g _ _ body back)))))
+      (omega (arith, makes.is, mark.made, test.made)) put)
 
-  pub repeat_emitted : (again : ℕ) (c0 c1 c2 c3 : List ℕ) → again ≡ length c0 → EmitsBody c0 c1 n exit b → EmitsExpression c1 c2 c → c3 ≡ c2 ++ bytes_of (Jpf again)
-      → EmitsStatement c0 c3 n exit (Repeat b c)
-  repeat_emitted again c0 c1 c2 c3 start body test back l ks plain sound room =
-      let here = body l ks plain sound.0 room in
-      let condition = test l ks plain sound.1.sound in
-      let return = emits_instr c2 c3 (Jpf again) tt back in
-      emits_as c0 c3 (body_size b + (size c + 3)) (body_size b + size c + 3) _ _
-      (omega arith)
-      (λ final t. record {
-        end = length c1;
-        middle = length c2;
-        here = t.0;
-        condition = record { typed = sound.1.kind; shallow = omega (arith, sound.1.shallow); value = t.1.0 };
-        back = subst (λ (p : ℕ). IsAt final (length c2) (Jpf p) (length c3)) start t.1.1;
+  pub repeat_emitted : (again : ℕ) (a b c d e : Draft) → Emits a b (Marking again) → Emits b c (Body n exit s) → Emits c d (Value k) → Emits d e (Doing (λ w. Jpf (w again))) → Emits a e (Stated n exit (Repeat s k))
+  repeat_emitted again a b c d e mark body test back =
+      emits_as a e _ (Stated n exit (Repeat s k))
+      (λ x t sound room. record {
+        end = length c.bytes;
+        middle = length d.bytes;
+        here = t.1.0 sound.0 room;
+        condition = whole x 0 k OfTruth _ _ (omega arith) sound.1 t.1.1.0;
+        back = subst (λ (w : ℕ). IsAt x.code (length d.bytes) (Jpf w) (length e.bytes)) t.0 t.1.1.1;
       })
-      (emits_both c0 c1 c3 (body_size b) _ _ _ here (emits_both c1 c2 c3 (size c) 3 _ _ condition return))
+      (emits_mark a b e again _ mark (emits_then b c e _ _ body (emits_then c d e _ _ test back)))
 
-pub loop_emitted : (n : ℕ) (exit : Option ℕ) (b : Statements) (again end : ℕ) (c0 c1 c2 : List ℕ) → again ≡ length c0 → end ≡ again + body_size b + 3
-    → EmitsBody c0 c1 n (Some end) b → c2 ≡ c1 ++ bytes_of (Jmp again) → EmitsStatement c0 c2 n exit (Loop b)
-loop_emitted n exit b again end c0 c1 c2 start place body back l ks plain sound room =
-    let here = body l ks plain sound room in
-    let return = emits_instr c1 c2 (Jmp again) tt back in
-    let is : end ≡ length c2 = omega (arith, start, place, here.grows, return.grows) in
-    emits_as c0 c2 (body_size b + 3) (body_size b + 3) _ _ refl
-    (λ final t. record {
-      end = length c1;
-      here = subst (λ (q : ℕ). BodyAt l final n (Some q) b (length c0) (length c1)) is t.0;
-      back = subst (λ (p : ℕ). IsAt final (length c1) (Jmp p) (length c2)) start t.1;
+pub loop_emitted : (n : ℕ) (exit : Option ℕ) (s : Statements) (again end : ℕ) (a b c d e f : Draft)
+    → Emits a b (Marking again) → Emits b c Nothing → Makes b c end → Emits c d (Body n (Some end) s) → Emits d e (Doing (λ w. Jmp (w again))) → Places e f end → Emits a f (Stated n exit (Loop s))
+loop_emitted n exit s again end a b c d e f mark new makes body back put =
+    emits_as a f _ (Stated n exit (Loop s))
+    (λ x t sound room. record {
+      end = length d.bytes;
+      here = subst (λ (w : ℕ). BodyAt x.layout x.code n (Some w) s (length a.bytes) (length d.bytes)) t.1 (t.0.1.0 sound room);
+      back = subst (λ (w : ℕ). IsAt x.code (length d.bytes) (Jmp w) (length f.bytes)) t.0.0 t.0.1.1;
     })
-    (emits_both c0 c1 c2 (body_size b) 3 _ _ here return)
+    (emits_here a e f _ end (emits_mark a b e again _ mark (emits_fresh b c e _ new (emits_then c d e _ _ body back))) (omega (arith, makes.is, mark.made)) put)
+
+-- ---- IF
+-- a guard before whatever statements end at a label
+pub guard_emitted : (n : ℕ) (exit : Option ℕ) (g : RGuard) (end other : ℕ) (a b c d e f h : Draft)
+    → Emits a b (Value (expression_of g.condition)) → Emits b c Nothing → Makes b c other → Emits c d (Doing (λ w. Jpf (w other)))
+    → Emits d e (Body n exit (statements_of g.body)) → Emits e f (Doing (λ w. Jmp (w end))) → Places f h other → Emits a h (Turning n exit end nothing_before (guard_of g))
+guard_emitted n exit g end other a b c d e f h test new makes jump body skip put =
+    emits_as a h _ (Turning n exit end nothing_before (guard_of g))
+    (λ x t rest r ended more.
+    subst (λ (ss : Statements). Body n exit ss x (length a.bytes) r) (sym (guard_is g rest))
+    (λ sound room. record {
+      middle = r;
+      here = record {
+        middle = length b.bytes;
+        start = length d.bytes;
+        end = length e.bytes;
+        other = length h.bytes;
+        condition = whole x 0 _ OfTruth _ _ (omega arith) sound.0.0 t.0.0;
+        jump = subst (λ (w : ℕ). IsAt x.code (length b.bytes) (Jpf w) (length d.bytes)) t.1 t.0.1.0;
+        chosen = t.0.1.1.0 sound.0.1 (omega (arith, room));
+        skip = subst (λ (w : ℕ). IsAt x.code (length e.bytes) (Jmp w) (length h.bytes)) ended t.0.1.1.1;
+        otherwise = more sound.0.2 (omega (arith, room));
+      };
+      then = refl;
+    }))
+    (emits_here a f h _ other (emits_then a b f _ _ test (emits_fresh b c f _ new (emits_then c d f _ _ jump (emits_then d e f _ _ body skip)))) (omega (arith, makes.is, test.made)) put)
+
+pub if_emitted : (n : ℕ) (exit : Option ℕ) (gs : List RGuard) (other : List RStmt) (end : ℕ) (a b c d e : Draft)
+    → Emits a b Nothing → Makes a b end → Emits b c (Turning n exit end nothing_before (guards_before gs)) → Emits c d (Body n exit (statements_of other)) → Places d e end
+    → Emits a e (Body n exit (guards_of gs other))
+if_emitted n exit gs other end a b c d e new makes guards otherwise put =
+    emits_as a e _ (Body n exit (guards_of gs other))
+    (λ x t. t.0.0 (statements_of other) _ t.1 t.0.1)
+    (emits_here a d e _ end (emits_fresh a b d _ new (emits_then b c d _ _ guards otherwise)) (omega (arith, makes.is)) put)
+
+module _ (n : ℕ) (exit : Option ℕ) (end : ℕ) (gs : List RGuard) where
+  pub first_guard : (d : Draft) → Emits d d (Turning n exit end (guards_before gs) (guards_before gs))
+  first_guard d = emits_as d d _ (Turning n exit end (guards_before gs) (guards_before gs)) (λ x same rest r ended more. more) (emits_none d)
+
+  pub next_guard_emitted : (i : ℕ) (g : RGuard) (all : Statements → Statements) (a b c : Draft) → i < length gs → g ≡ get_or gs i g
+      → Emits a b (Turning n exit end (guards_before (drop i gs)) all) → Emits b c (Turning n exit end nothing_before (guard_of g)) → Emits a c (Turning n exit end (guards_before (drop (i + 1) gs)) all)
+  next_guard_emitted i g all a b c inside is so_far next =
+      emits_as a c _ (Turning n exit end (guards_before (drop (i + 1) gs)) all)
+      (λ x t rest r ended more. t.0 rest r ended
+      (subst (λ (left : List RGuard). Body n exit (guards_before left rest) x (length b.bytes) r) (sym (left_from gs i g inside is)) (t.1 (guards_before (drop (i + 1) gs) rest) r ended more)))
+      (emits_then a b c _ _ so_far next)
+
+  pub all_guards_emitted : (i : ℕ) (all : Statements → Statements) (a b : Draft) → length gs ≤ i → Emits a b (Turning n exit end (guards_before (drop i gs)) all) → Emits a b (Turning n exit end nothing_before all)
+  all_guards_emitted i all a b past =
+      emits_as a b _ (Turning n exit end nothing_before all)
+      (λ x t rest r ended more. t rest r ended (subst (λ (left : List RGuard). Body n exit (guards_before left rest) x (length b.bytes) r) (sym (drop_all i gs past)) more))
 
 -- ---- FOR
-module _ (n : ℕ) (exit : Option ℕ) (x : ℕ) (k : Kind) (a b : Expression) (step : ℤ) (body : Statements) where
-  pub for_emitted : (word place sign turn end : ℕ) (c0 c1 c2 c3 c4 c5 c6 c7 c8 c9 c10 : List ℕ) → word ≡ word_of step → place ≡ loop_place n
-      → sign ≡ loop_sign (compared_as (base_of k)) → turn ≡ length c2 + align_size k (kind_of a) step + 9 → end ≡ turn + 6 + test_size k (base_of k) + body_size body + 5
-      → EmitsExpression c0 c1 a → EmitsExpression c1 c2 b → EmitsAlign c2 c3 k (kind_of a) step end → c4 ≡ c3 ++ bytes_of (Liw word) → c5 ≡ c4 ++ bytes_of (Fri place sign end) → c6 ≡ c5 ++ bytes_of (Llw place)
-      → c7 ≡ c6 ++ all_bytes (test_code k (base_of k)) → c8 ≡ c7 ++ bytes_of (Sgw x) → EmitsBody c8 c9 (suc n) exit body → c10 ≡ c9 ++ bytes_of (Frn place turn)
-      → EmitsStatement c0 c10 n exit (For (Variable x k) a b step body)
-  for_emitted word place sign turn end c0 c1 c2 c3 c4 c5 c6 c7 c8 c9 c10 stepped placed signed turned ended first last align e4 e5 e6 e7 e8 inner e10 l ks plain sound room =
-      let from = first l ks plain sound.1.whole.sound in
-      let to = last l ks plain sound.2.sound in
-      let load = emits_instr c3 c4 (Liw word) tt e4 in
-      let enter = emits_instr c4 c5 (Fri place sign end) tt e5 in
-      let value = emits_instr c5 c6 (Llw place) tt e6 in
-      let is = test_coded k (base_of k) in
-      let test = emits_instrs (test_code k (base_of k)) c6 c7 is.say e7 in
-      let store = emits_instr c7 c8 (Sgw x) tt e8 in
-      let here = inner l ks plain sound.4 (omega (arith, room)) in
-      let next = emits_instr c9 c10 (Frn place turn) tt e10 in
-      let longer : length c3 ≡ length c2 + align_size k (kind_of a) step = align.grows in
-      let at_turn : turn ≡ length c5 = omega (arith, turned, longer, load.grows, enter.grows) in
-      let at_end : end ≡ length c10 = omega (arith, ended, at_turn, value.grows, test.grows, is.long, store.grows, here.grows, next.grows) in
-      let long = is.long in
-      emits_as c0 c10 (size a + (size b + (align_size k (kind_of a) step + (3 + (6 + (3 + (length (all_bytes (test_code k (base_of k))) + (3 + (body_size body + 5)))))))))
-      (size a + size b + align_size k (kind_of a) step + 15 + test_size k (base_of k) + body_size body + 5) _ _
-      (omega (arith, long))
-      (λ final t. record {
-        middle = length c1;
-        last = length c2;
+module _ (n : ℕ) (exit : Option ℕ) (v : ℕ) (k : Kind) (from to : Expression) (step : ℤ) (body : Statements) where
+  pub for_emitted : (word place sign inner end turn : ℕ) (c0 c1 c2 c3 c4 c5 c6 c7 c8 c9 c10 c11 c12 c13 : Draft) → word ≡ word_of step → (loop_place n ≤ 65535 → place ≡ loop_place n)
+      → sign ≡ loop_sign (compared_as (base_of k)) → (n ≤ 65535 → inner ≡ suc n) → Emits c0 c1 (Value from) → Emits c1 c2 (Value to) → Emits c2 c3 Nothing → Makes c2 c3 end
+      → Emits c3 c4 (Aligning (covers (base_of k) (kind_of from)) (outside_turns (compared_as (base_of k)) step) end) → Emits c4 c5 (Doing (λ w. Liw word)) → Emits c5 c6 (Doing (λ w. Fri place sign (w end)))
+      → Emits c6 c7 (Marking turn) → Emits c7 c8 (Doing (λ w. Llw place)) → Emits c8 c9 (DoingAll (test_code k (base_of k))) → Emits c9 c10 (Doing (λ w. Sgw v)) → Emits c10 c11 (Body inner exit body)
+      → Emits c11 c12 (Doing (λ w. Frn place (w turn))) → Places c12 c13 end → Emits c0 c13 (Stated n exit (For (Variable v k) from to step body))
+  for_emitted word place sign inner end turn c0 c1 c2 c3 c4 c5 c6 c7 c8 c9 c10 c11 c12 c13 stepped placed signed more first last new makes align load enter mark value test store here next put =
+      emits_as c0 c13 _ (Stated n exit (For (Variable v k) from to step body))
+      (λ x t sound room.
+      let framed = x.framed in
+      let at_place : place ≡ loop_place n = placed (omega (arith, room, framed)) in
+      let within : inner ≡ suc n = more (omega (arith, room, framed)) in
+      let turns = t.0.1.1 in
+      let marked = turns.1.1.1 in
+      record {
+        middle = length c1.bytes;
+        last = length c2.bytes;
         takes = sound.1.takes;
-        first = record { typed = refl; shallow = omega (arith, sound.1.whole.shallow); value = t.0 };
-        limit = record { typed = sound.2.kind; shallow = omega (arith, sound.2.shallow); value = t.1.0 };
+        first = whole x 0 from (kind_of from) _ _ (omega arith) sound.1.whole t.0.0;
+        limit = whole x 1 to (base_of k) _ _ (omega arith) sound.2 t.0.1.0;
         turns = record {
-          aligned = length c3;
-          stepped = length c4;
-          turn = length c5;
-          align = subst (λ (q : ℕ). AlignAt final (covers (base_of k) (kind_of a)) (outside_turns (compared_as (base_of k)) step) (length c2) (length c3) q) at_end t.1.1.0;
-          load = subst (λ (w : ℕ). IsAt final (length c3) (Liw w) (length c4)) stepped t.1.1.1.0;
-          enter = subst (λ (i : Instr). IsAt final (length c4) i (length c5))
-              (ap (λ (p : ℕ). Fri p sign end) placed ∙ ap (λ (s : ℕ). Fri (loop_place n) s end) signed ∙ ap (λ (q : ℕ). Fri (loop_place n) (loop_sign (compared_as (base_of k))) q) at_end) t.1.1.1.1.0;
+          aligned = length c4.bytes;
+          stepped = length c5.bytes;
+          turn = length c6.bytes;
+          align = turns.0 (length c13.bytes) t.1;
+          load = subst (λ (w : ℕ). IsAt x.code (length c4.bytes) (Liw w) (length c5.bytes)) stepped turns.1.0;
+          enter = subst (λ (i : Instr). IsAt x.code (length c5.bytes) i (length c6.bytes))
+              (ap (λ (p : ℕ). Fri p sign (x.word end)) at_place ∙ ap (λ (s : ℕ). Fri (loop_place n) s (x.word end)) signed ∙ ap (λ (w : ℕ). Fri (loop_place n) (loop_sign (compared_as (base_of k))) w) t.1) turns.1.1.0;
           round = record {
-            known = known_row l ks x k plain sound.0;
-            loaded = length c6;
-            tested = length c7;
-            start = length c8;
-            end = length c9;
+            known = known_row x.layout v k x.plain sound.0;
+            loaded = length c8.bytes;
+            tested = length c9.bytes;
+            start = length c10.bytes;
+            end = length c11.bytes;
             room = omega (arith, room);
             is_step = sound.3;
-            load = subst (λ (p : ℕ). IsAt final (length c5) (Llw p) (length c6)) placed t.1.1.1.1.1.0;
-            test = t.1.1.1.1.1.1.0;
-            store = t.1.1.1.1.1.1.1.0;
-            here = t.1.1.1.1.1.1.1.1.0;
-            next = subst (λ (i : Instr). IsAt final (length c9) i (length c10)) (ap (λ (p : ℕ). Frn p turn) placed ∙ ap (λ (q : ℕ). Frn (loop_place n) q) at_turn) t.1.1.1.1.1.1.1.1.1;
+            load = subst (λ (p : ℕ). IsAt x.code (length c6.bytes) (Llw p) (length c8.bytes)) at_place marked.1.0;
+            test = marked.1.1.0;
+            store = marked.1.1.1.0;
+            here = subst (λ (m : ℕ). BodyAt x.layout x.code m (option_map x.word exit) body (length c10.bytes) (length c11.bytes)) within (marked.1.1.1.1.0 sound.4 (omega (arith, room, within)));
+            next = subst (λ (i : Instr). IsAt x.code (length c11.bytes) i (length c13.bytes)) (ap (λ (p : ℕ). Frn p (x.word turn)) at_place ∙ ap (λ (w : ℕ). Frn (loop_place n) w) marked.0) marked.1.1.1.1.1;
           };
         };
       })
-      (emits_both c0 c1 c10 (size a) _ _ _ from
-      (emits_both c1 c2 c10 (size b) _ _ _ to
-      (emits_both c2 c3 c10 (align_size k (kind_of a) step) _ _ _ align
-      (emits_both c3 c4 c10 3 _ _ _ load
-      (emits_both c4 c5 c10 6 _ _ _ enter
-      (emits_both c5 c6 c10 3 _ _ _ value
-      (emits_both c6 c7 c10 _ _ _ _ test
-      (emits_both c7 c8 c10 3 _ _ _ store
-      (emits_both c8 c9 c10 (body_size body) 5 _ _ here next)))))))))
-
--- ---- IF
--- a guard before what follows it
-guard_emitted_as : (n : ℕ) (exit : Option ℕ) (c : Expression) (b rest : Statements) (other end : ℕ) (c0 c1 c2 c3 c4 last : List ℕ)
-    → EmitsExpression c0 c1 c → other ≡ length c1 + 3 + body_size b + 3 → c2 ≡ c1 ++ bytes_of (Jpf other) → EmitsBody c2 c3 n exit b → c4 ≡ c3 ++ bytes_of (Jmp end)
-    → (length c4 + body_size rest ≡ end → EmitsBody c4 last n exit rest) → length c0 + statement_size (If c b rest) ≡ end → EmitsStatement c0 last n exit (If c b rest)
-guard_emitted_as n exit c b rest other end c0 c1 c2 c3 c4 last test place e2 body e4 more whole l ks plain sound room =
-    let condition = test l ks plain sound.0.sound in
-    let jump = emits_instr c1 c2 (Jpf other) tt e2 in
-    let here = body l ks plain sound.1 (omega (arith, room)) in
-    let skip = emits_instr c3 c4 (Jmp end) tt e4 in
-    let behind : length c4 + body_size rest ≡ end = omega (arith, condition.grows, jump.grows, here.grows, skip.grows, whole) in
-    let otherwise = more behind l ks plain sound.2 (omega (arith, room)) in
-    let at_other : other ≡ length c4 = omega (arith, place, jump.grows, here.grows, skip.grows) in
-    let at_end : end ≡ length last = omega (arith, behind, otherwise.grows) in
-    emits_as c0 last (size c + (3 + (body_size b + (3 + body_size rest)))) (size c + 3 + body_size b + 3 + body_size rest) _ _
-    (omega arith)
-    (λ final t. record {
-      middle = length c1;
-      start = length c2;
-      end = length c3;
-      other = length c4;
-      condition = record { typed = sound.0.kind; shallow = omega (arith, sound.0.shallow); value = t.0 };
-      jump = subst (λ (q : ℕ). IsAt final (length c1) (Jpf q) (length c2)) at_other t.1.0;
-      chosen = t.1.1.0;
-      skip = subst (λ (q : ℕ). IsAt final (length c3) (Jmp q) (length c4)) at_end t.1.1.1.0;
-      otherwise = t.1.1.1.1;
-    })
-    (emits_both c0 c1 last (size c) _ _ _ condition
-    (emits_both c1 c2 last 3 _ _ _ jump
-    (emits_both c2 c3 last (body_size b) _ _ _ here
-    (emits_both c3 c4 last 3 (body_size rest) _ _ skip otherwise))))
-
-pub guard_emitted : (n : ℕ) (exit : Option ℕ) (g : RGuard) (other end : ℕ) (c0 c1 c2 c3 c4 : List ℕ)
-    → EmitsExpression c0 c1 (expression_of g.condition) → other ≡ length c1 + 3 + body_size (statements_of g.body) + 3 → c2 ≡ c1 ++ bytes_of (Jpf other)
-    → EmitsBody c2 c3 n exit (statements_of g.body) → c4 ≡ c3 ++ bytes_of (Jmp end) → EmitsGuard c0 c4 n exit end g
-guard_emitted n exit g other end c0 c1 c2 c3 c4 test place e2 body e4 rest last more whole =
-    let is = guard_is g rest in
-    let long : length c0 + statement_size (If (expression_of g.condition) (statements_of g.body) rest) ≡ end = omega (arith, whole, ap body_size is) in
-    subst (EmitsBody c0 last n exit) (sym is)
-    (one_emitted n exit (If (expression_of g.condition) (statements_of g.body) rest) c0 last
-    (guard_emitted_as n exit (expression_of g.condition) (statements_of g.body) rest other end c0 c1 c2 c3 c4 last test place e2 body e4 more long))
-
-pub no_guard_emitted : (n : ℕ) (exit : Option ℕ) (end : ℕ) (c0 : List ℕ) → EmitsGuards c0 c0 n exit end []
-no_guard_emitted n exit end c0 other last more whole = more whole
-
--- what is left of a list from a guard on
-pub next_guard_emitted : (n : ℕ) (exit : Option ℕ) (end : ℕ) (gs : List RGuard) (i : ℕ) (g : RGuard) (c0 c1 c2 : List ℕ) → i < length gs → g ≡ get_or gs i g
-    → EmitsGuard c0 c1 n exit end g → EmitsGuards c1 c2 n exit end (drop (i + 1) gs) → EmitsGuards c0 c2 n exit end (drop i gs)
-next_guard_emitted n exit end gs i g c0 c1 c2 inside is first rest =
-    subst (λ (left : List RGuard). EmitsGuards c0 c2 n exit end left) (sym (left_from gs i g inside is))
-    (λ other last more whole. first (guards_of (drop (i + 1) gs) other) last (λ behind. rest other last more behind) whole)
-
-pub if_emitted : (n : ℕ) (exit : Option ℕ) (gs : List RGuard) (other : List RStmt) (end : ℕ) (c0 c1 c2 : List ℕ) → end ≡ length c0 + body_size (guards_of gs other)
-    → EmitsGuards c0 c1 n exit end gs → EmitsBody c1 c2 n exit (statements_of other) → EmitsBody c0 c2 n exit (guards_of gs other)
-if_emitted n exit gs other end c0 c1 c2 place guards otherwise = guards other c2 (λ behind. otherwise) (sym place)
-
--- ---- a form of statement, as the statements that it is
-pub form_emitted : (n : ℕ) (exit : Option ℕ) (s : Statement) (ss : Statements) (c0 c1 : List ℕ) → ss ≡ Then s Empty → EmitsStatement c0 c1 n exit s → EmitsBody c0 c1 n exit ss
-form_emitted n exit s ss c0 c1 is one = subst (EmitsBody c0 c1 n exit) (sym is) (one_emitted n exit s c0 c1 one)
+      (emits_here c0 c12 c13 _ end
+      (emits_then c0 c1 c12 _ _ first
+      (emits_then c1 c2 c12 _ _ last
+      (emits_fresh c2 c3 c12 _ new
+      (emits_then c3 c4 c12 _ _ align
+      (emits_then c4 c5 c12 _ _ load
+      (emits_then c5 c6 c12 _ _ enter
+      (emits_mark c6 c7 c12 turn _ mark
+      (emits_then c7 c8 c12 _ _ value
+      (emits_then c8 c9 c12 _ _ test
+      (emits_then c9 c10 c12 _ _ store
+      (emits_then c10 c11 c12 _ _ here next)))))))))))
+      (omega (arith, makes.is, first.made, last.made)) put)

@@ -1,46 +1,45 @@
 -- The code of values with their tests, and of the statements without statements in them.
-use Rattle.std.proofs.Common.{◌≡◌, ℕ, suc, ◌+◌, ◌<◌, ◌≤◌, Bool, true, false, List, [], ◌∷◌, ◌++◌, length, map, drop, get_or, Option, Some, refl, sym, ap, ◌∙◌, subst, arith}
+use Rattle.std.proofs.Common.{◌≡◌, ℕ, suc, ◌+◌, ◌<◌, ◌≤◌, Bool, List, [], ◌∷◌, ◌++◌, length, map, drop, get_or, Option, Some, refl, sym, ap, ◌∙◌, subst, arith}
+use Rattle.std.specs.Option.{option_map}
 use Rattle.std.proofs.lemmas.List.{length-map, drop_all}
-use Rattle.lil_base.specs.Words.{Whole, Cardinal, Integer}
 use Rattle.lil_resolved.specs.declared.resolved.RArgument.{RArgument}
 use Rattle.lil_resolved.specs.declared.resolved.RRequest.{RRequest}
 use Rattle.lil_resolved.specs.declared.resolved.RRequest.TheVariants as q
 use Rattle.lil_resolved.specs.Kinds.{Kind, OfWhole}
-use Rattle.lil_resolved.specs.Resolved.{Variable, Expression, Argument, Assign, Change, Request, Exit, Halt, Return, kind_of, counted_as}
+use Rattle.lil_resolved.specs.Resolved.{Variable, Expression, Argument, Assign, Change, Request, Exit, kind_of, counted_as}
 use Rattle.lil_resolved.specs.Views.{request_number, argument_of}
-use Rattle.lil_resolved.specs.Sizes.{size, test_size, arguments_size, request_kinds}
-use Rattle.lil_resolved.specs.Sound.{argument_kind}
+use Rattle.lil_resolved.specs.Sound.{IsSoundWhole, argument_kind, request_kinds}
 use Rattle.lil_asm.specs.declared.instr.Instr.{Instr}
-use Rattle.lil_asm.specs.declared.instr.Instr.TheVariants.{Lgw, Sgw, Swp, Jmp, Rtn, Trp, Svc}
-use Rattle.lil_asm.specs.Bytes.{bytes_of}
+use Rattle.lil_asm.specs.declared.instr.Instr.TheVariants.{Lgw, Sgw, Swp, Jmp, Svc}
 use Rattle.lil_asm.specs.Requests.{request_words}
-use Rattle.lil_table.specs.Rows.{InstrsAt, whole_code, change_operator, test_code}
-use Rattle.lil_expr.specs.Emitting.{all_bytes}
-use Rattle.lil_expr.specs.Generating.{EmitsExpression}
-use Rattle.lil_expr.specs.Appending.{emits_instr, emits_instrs, emits_none, emits_both, emits_as}
-use Rattle.lil_expr.specs.Tests.{IsCode, test_coded}
+use Rattle.lil_table.specs.Rows.{InstrsAt, WholeRow, whole_code, change_operator, test_code}
+use Rattle.lil_labels.specs.Drafts.{Draft, Final, Meaning, Emits, Doing, DoingAll}
+use Rattle.lil_labels.specs.Emitting.{emits_none, emits_then, emits_as}
+use Rattle.lil_expr.specs.Generating.{Value}
 use Rattle.lil_expr.specs.Variables.{known_row}
-use Rattle.lil_stmt.specs.Generating.{value_size, EmitsValue, EmitsArguments, EmitsStatement}
-use Rattle.lil_stmt.proofs.Extents.{left_from}
+use Rattle.lil_stmt.specs.Generating.{Stored, Passed, Stated}
+use Rattle.lil_stmt.proofs.Counting.{left_from}
 
-pub value_emitted : (e : Expression) (k : Kind) (c0 c1 c2 : List ℕ) → EmitsExpression c0 c1 e → c2 ≡ c1 ++ all_bytes (test_code k (kind_of e)) → EmitsValue c0 c2 e k
-value_emitted e k c0 c1 c2 value test l ks n plain sound low =
-    let is = test_coded k (kind_of e) in
-    emits_as c0 c2 (size e + length (all_bytes (test_code k (kind_of e)))) (value_size e k) _ _
-    (omega (arith, is.long))
-    (λ final t. record {
-      middle = length c1;
+-- a value that stands alone
+pub whole : (x : Final) (n : ℕ) (e : Expression) (k : Kind) (p q : ℕ) → n ≤ 4 → IsSoundWhole x.layout.kinds e k → Value e x p q → WholeRow x.layout x.code n e k p q
+whole x n e k p q low sound t = record { typed = sound.kind; shallow = omega (arith, sound.shallow, low); value = t sound.sound }
+
+pub value_emitted : (e : Expression) (k j : Kind) (a b c : Draft) → j ≡ kind_of e → Emits a b (Value e) → Emits b c (DoingAll (test_code k j)) → Emits a c (Stored e k)
+value_emitted e k j a b c typed value test =
+    emits_as a c _ (Stored e k)
+    (λ x t n sound low. record {
+      middle = length b.bytes;
       takes = sound.takes;
-      value = record { typed = refl; shallow = omega (arith, sound.whole.shallow, low); value = t.0 };
-      test = t.1;
+      value = whole x n e (kind_of e) _ _ low sound.whole t.0;
+      test = subst (λ (j : Kind). InstrsAt x.code (test_code k j) (length b.bytes) (length c.bytes)) typed t.1;
     })
-    (emits_both c0 c1 c2 (size e) _ _ _ (value l ks plain sound.whole.sound) (emits_instrs (test_code k (kind_of e)) c1 c2 is.say test))
+    (emits_then a b c _ _ value test)
 
-pub assign_emitted : (x : ℕ) (k : Kind) (n : ℕ) (exit : Option ℕ) (a : Expression) (c0 c1 c2 : List ℕ) → EmitsValue c0 c1 a k → c2 ≡ c1 ++ bytes_of (Sgw x) → EmitsStatement c0 c2 n exit (Assign (Variable x k) a)
-assign_emitted x k n exit a c0 c1 c2 value e l ks plain sound room =
-    emits_as c0 c2 (value_size a k + 3) (value_size a k + 3) _ _ refl
-    (λ final t. record { known = known_row l ks x k plain sound.0; middle = length c1; value = t.0; store = t.1 })
-    (emits_both c0 c1 c2 (value_size a k) 3 _ _ (value l ks 0 plain sound.1 (omega arith)) (emits_instr c1 c2 (Sgw x) tt e))
+pub assign_emitted : (v : ℕ) (k : Kind) (n : ℕ) (exit : Option ℕ) (e : Expression) (a b c : Draft) → Emits a b (Stored e k) → Emits b c (Doing (λ w. Sgw v)) → Emits a c (Stated n exit (Assign (Variable v k) e))
+assign_emitted v k n exit e a b c value store =
+    emits_as a c _ (Stated n exit (Assign (Variable v k) e))
+    (λ x t sound room. record { known = known_row x.layout v k x.plain sound.0; middle = length b.bytes; value = t.0 0 sound.1 (omega arith); store = t.1 })
+    (emits_then a b c _ _ value store)
 
 -- ---- INC and DEC
 -- instructions behind others
@@ -48,65 +47,59 @@ instrs_join : (is js : List Instr) (code : List ℕ) (p q r : ℕ) → InstrsAt 
 instrs_join [] js code p q r here rest = subst (λ (p : ℕ). InstrsAt code js p r) (sym here) rest
 instrs_join (i ∷ is) js code p q r here rest = (here.0, here.1, instrs_join is js code here.0 q r here.2 rest)
 
-operator_coded : (down : Bool) (t : Whole) → IsCode (whole_code (change_operator down) t) 1
-operator_coded false Cardinal = record { say = (tt, tt); long = refl }
-operator_coded false Integer = record { say = (tt, tt); long = refl }
-operator_coded true Cardinal = record { say = (tt, tt); long = refl }
-operator_coded true Integer = record { say = (tt, tt); long = refl }
-
-pub operator_long : (down : Bool) (t : Whole) → length (all_bytes (whole_code (change_operator down) t)) ≡ 1
-operator_long down t = (operator_coded down t).long
-
-module _ (down : Bool) (x : ℕ) (k : Kind) (a : Expression) where
-  pub change_emitted : (n : ℕ) (exit : Option ℕ) (c0 c1 c2 c3 c4 c5 c6 : List ℕ) → EmitsExpression c0 c1 a → c2 ≡ c1 ++ bytes_of (Lgw x) → c3 ≡ c2 ++ bytes_of Swp
-      → c4 ≡ c3 ++ all_bytes (whole_code (change_operator down) (counted_as k)) → c5 ≡ c4 ++ all_bytes (test_code k (OfWhole (counted_as k))) → c6 ≡ c5 ++ bytes_of (Sgw x)
-      → EmitsStatement c0 c6 n exit (Change down (Variable x k) a)
-  change_emitted n exit c0 c1 c2 c3 c4 c5 c6 value e2 e3 e4 e5 e6 l ks plain sound room =
-      let computes = operator_coded down (counted_as k) in
-      let tests = test_coded k (OfWhole (counted_as k)) in
-      emits_as c0 c6 (size a + (3 + (1 + (length (all_bytes (whole_code (change_operator down) (counted_as k))) + (length (all_bytes (test_code k (OfWhole (counted_as k)))) + 3)))))
-      (size a + 5 + test_size k (OfWhole (counted_as k)) + 3) _ _
-      (omega (arith, computes.long, tests.long))
-      (λ final t. record {
-        known = known_row l ks x k plain sound.0;
-        middle = length c1;
-        value = record { typed = sound.1.kind; shallow = omega (arith, sound.1.shallow); value = t.0 };
-        by = (
-          length c2,
-          t.1.0,
-          (
-            length c3,
-            t.1.1.0,
-            instrs_join (whole_code (change_operator down) (counted_as k) ++ test_code k (OfWhole (counted_as k))) (Sgw x ∷ []) final (length c3) (length c5) (length c6)
-                (instrs_join (whole_code (change_operator down) (counted_as k)) (test_code k (OfWhole (counted_as k))) final (length c3) (length c4) (length c5) t.1.1.1.0 t.1.1.1.1.0)
-                (length c6, t.1.1.1.1.1, refl),
-          ),
-        );
-      })
-      (emits_both c0 c1 c6 (size a) _ _ _ (value l ks plain sound.1.sound)
-      (emits_both c1 c2 c6 3 _ _ _ (emits_instr c1 c2 (Lgw x) tt e2)
-      (emits_both c2 c3 c6 1 _ _ _ (emits_instr c2 c3 Swp tt e3)
-      (emits_both c3 c4 c6 _ _ _ _ (emits_instrs (whole_code (change_operator down) (counted_as k)) c3 c4 computes.say e4)
-      (emits_both c4 c5 c6 _ 3 _ _ (emits_instrs (test_code k (OfWhole (counted_as k))) c4 c5 tests.say e5) (emits_instr c5 c6 (Sgw x) tt e6))))))
+pub change_emitted : (down : Bool) (v : ℕ) (k j : Kind) (e : Expression) (i : Instr) (n : ℕ) (exit : Option ℕ) (a b c d f : Draft) → whole_code (change_operator down) (counted_as k) ≡ i ∷ [] → j ≡ OfWhole (counted_as k)
+    → Emits a b (Value e) → Emits b c (DoingAll (Lgw v ∷ Swp ∷ i ∷ [])) → Emits c d (DoingAll (test_code k j)) → Emits d f (Doing (λ w. Sgw v))
+    → Emits a f (Stated n exit (Change down (Variable v k) e))
+change_emitted down v k j e i n exit a b c d f computes typed value loads test store =
+    emits_as a f _ (Stated n exit (Change down (Variable v k) e))
+    (λ x t sound room.
+    let first = t.1.0 in
+    let stored : InstrsAt x.code (Sgw v ∷ []) (length d.bytes) (length f.bytes) = (length f.bytes, t.1.1.1, refl) in
+    let tested = subst (λ (j : Kind). InstrsAt x.code (test_code k j) (length c.bytes) (length d.bytes)) typed t.1.1.0 in
+    let computed = subst (λ (is : List Instr). InstrsAt x.code is first.2.0 (length c.bytes)) (sym computes) first.2.2 in
+    record {
+      known = known_row x.layout v k x.plain sound.0;
+      middle = length b.bytes;
+      value = whole x 0 e (OfWhole (counted_as k)) _ _ (omega arith) sound.1 t.0;
+      by = (
+        first.0,
+        first.1,
+        (
+          first.2.0,
+          first.2.1,
+          instrs_join (whole_code (change_operator down) (counted_as k) ++ test_code k (OfWhole (counted_as k))) (Sgw v ∷ []) x.code first.2.0 (length d.bytes) (length f.bytes)
+              (instrs_join (whole_code (change_operator down) (counted_as k)) (test_code k (OfWhole (counted_as k))) x.code first.2.0 (length c.bytes) (length d.bytes) computed tested) stored,
+        ),
+      );
+    })
+    (emits_then a b f _ _ value (emits_then b c f _ _ loads (emits_then c d f _ _ test store)))
 
 -- ---- requests
-argument_before : (a : Argument) (given : List Argument) (n : ℕ) (c0 c1 c2 : List ℕ) → EmitsValue c0 c1 a.value a.kind → EmitsArguments c1 c2 (suc n) given → EmitsArguments c0 c2 n (a ∷ given)
-argument_before a given n c0 c1 c2 value rest l ks plain sound low =
-    emits_as c0 c2 (value_size a.value a.kind + arguments_size given) (arguments_size (a ∷ given)) _ _
-    refl
-    (λ final t. record { middle = length c1; value = t.0; then = t.1 })
-    (emits_both c0 c1 c2 _ _ _ _ (value l ks n plain sound.0 (omega (arith, low))) (rest l ks plain sound.1 (omega (arith, low))))
+-- with the code of arguments from a number on behind it, it is that of all
+abbrev pub Passing : ℕ → List Argument → List Argument → Meaning
+Passing n rest all x p q = (r : ℕ) → Passed n rest x q r → Passed 0 all x p r
 
--- what is left of arguments from one on
-pub next_argument_emitted : (given : List RArgument) (i : ℕ) (a : RArgument) (c0 c1 c2 : List ℕ) → i < length given → a ≡ get_or given i a → EmitsValue c0 c1 (argument_of a).value (argument_of a).kind
-    → EmitsArguments c1 c2 (suc i) (map argument_of (drop (i + 1) given)) → EmitsArguments c0 c2 i (map argument_of (drop i given))
-next_argument_emitted given i a c0 c1 c2 inside is value rest =
-    subst (λ (left : List RArgument). EmitsArguments c0 c2 i (map argument_of left)) (sym (left_from given i a inside is))
-    (argument_before (argument_of a) (map argument_of (drop (i + 1) given)) i c0 c1 c2 value rest)
+pub next_argument : (given : List RArgument) (i : ℕ) (g : RArgument) (all : List Argument) (a b c : Draft) → i < length given → g ≡ get_or given i g
+    → Emits a b (Passing i (map argument_of (drop i given)) all) → Emits b c (Stored (argument_of g).value (argument_of g).kind) → Emits a c (Passing (i + 1) (map argument_of (drop (i + 1) given)) all)
+next_argument given i g all a b c inside is so_far value =
+    let more : i + 1 ≡ suc i = omega arith in
+    emits_as a c _ (Passing (i + 1) (map argument_of (drop (i + 1) given)) all)
+    (λ x t r rest. t.0 r
+    (subst (λ (left : List RArgument). Passed i (map argument_of left) x (length b.bytes) r) (sym (left_from given i g inside is))
+    (λ sound low. record {
+      middle = length c.bytes;
+      value = t.1 i sound.0 (omega (arith, low));
+      then = subst (λ (n : ℕ). Passed n (map argument_of (drop (i + 1) given)) x (length c.bytes) r) more rest sound.1 (omega (arith, low));
+    })))
+    (emits_then a b c _ _ so_far value)
 
-pub no_argument_left : (given : List RArgument) (i : ℕ) (code : List ℕ) → length given ≤ i → EmitsArguments code code i (map argument_of (drop i given))
-no_argument_left given i code end =
-    subst (λ (left : List RArgument). EmitsArguments code code i (map argument_of left)) (sym (drop_all i given end)) (λ l ks plain sound low. emits_none code)
+pub first_argument : (d : Draft) (given : List Argument) → Emits d d (Passing 0 given given)
+first_argument d given = emits_as d d _ (Passing 0 given given) (λ x same r rest. rest) (emits_none d)
+
+pub all_arguments : (given : List RArgument) (i : ℕ) (all : List Argument) (a b : Draft) → length given ≤ i → Emits a b (Passing i (map argument_of (drop i given)) all) → Emits a b (Passed 0 all)
+all_arguments given i all a b past =
+    emits_as a b _ (Passed 0 all)
+    (λ x t. t (length b.bytes) (subst (λ (left : List RArgument). Passed i (map argument_of left) x (length b.bytes) (length b.bytes)) (sym (drop_all i given past)) (λ sound low. refl)))
 
 -- a request takes as many words as it has parameters
 request_known : (r : RRequest) (given : List Argument) → request_kinds (request_number r) ≡ Some (map argument_kind given) → (request_words (request_number r) ≡ Some (length given)) × (length given ≤ 4)
@@ -126,21 +119,14 @@ request_known r given known = by r known
     by q.WriteOct e = fits _ 2 e refl (omega arith)
     by q.WriteHex e = fits _ 2 e refl (omega arith)
 
-pub request_emitted : (r : RRequest) (given : List Argument) (n : ℕ) (exit : Option ℕ) (c0 c1 c2 : List ℕ) → EmitsArguments c0 c1 0 given → c2 ≡ c1 ++ bytes_of (Svc (request_number r))
-    → EmitsStatement c0 c2 n exit (Request (request_number r) given)
-request_emitted r given n exit c0 c1 c2 arguments e l ks plain sound room =
-    let known = request_known r given sound.0 in
-    emits_as c0 c2 (arguments_size given + 2) (arguments_size given + 2) _ _ refl
-    (λ final t. record { middle = length c1; words = known.0; arguments = t.0; by = t.1 })
-    (emits_both c0 c1 c2 (arguments_size given) 2 _ _ (arguments l ks plain sound.1 (omega (arith, known.1))) (emits_instr c1 c2 (Svc (request_number r)) tt e))
+pub request_emitted : (r : RRequest) (number : ℕ) (given : List Argument) (n : ℕ) (exit : Option ℕ) (a b c : Draft) → number ≡ request_number r → Emits a b (Passed 0 given) → Emits b c (Doing (λ w. Svc number))
+    → Emits a c (Stated n exit (Request (request_number r) given))
+request_emitted r number given n exit a b c is arguments by =
+    let called = subst (λ (number : ℕ). Emits b c (Doing (λ w. Svc number))) is by in
+    emits_as a c _ (Stated n exit (Request (request_number r) given))
+    (λ x t sound room. let known = request_known r given sound.0 in record { middle = length b.bytes; words = known.0; arguments = t.0 sound.1 (omega (arith, known.1)); by = t.1 })
+    (emits_then a b c _ _ arguments called)
 
--- ---- EXIT, HALT and RETURN
-pub exit_emitted : (n to : ℕ) (exit : Option ℕ) (c0 c1 : List ℕ) → exit ≡ Some to → c1 ≡ c0 ++ bytes_of (Jmp to) → EmitsStatement c0 c1 n exit Exit
-exit_emitted n to exit c0 c1 known e l ks plain sound room =
-    emits_as c0 c1 3 3 _ _ refl (λ final jump. record { to = to; known = known; jump = jump }) (emits_instr c0 c1 (Jmp to) tt e)
-
-pub halt_emitted : (n : ℕ) (exit : Option ℕ) (c0 c1 : List ℕ) → c1 ≡ c0 ++ bytes_of (Trp 9) → EmitsStatement c0 c1 n exit Halt
-halt_emitted n exit c0 c1 e l ks plain sound room = emits_instr c0 c1 (Trp 9) tt e
-
-pub return_emitted : (n : ℕ) (exit : Option ℕ) (c0 c1 : List ℕ) → c1 ≡ c0 ++ bytes_of Rtn → EmitsStatement c0 c1 n exit Return
-return_emitted n exit c0 c1 e l ks plain sound room = emits_instr c0 c1 Rtn tt e
+-- ---- EXIT
+pub exit_emitted : (n to : ℕ) (exit : Option ℕ) (a b : Draft) → exit ≡ Some to → Emits a b (Doing (λ w. Jmp (w to))) → Emits a b (Stated n exit Exit)
+exit_emitted n to exit a b known = emits_as a b _ (Stated n exit Exit) (λ x jump sound room. record { to = x.word to; known = ap (option_map x.word) known; jump = jump })

@@ -1,18 +1,19 @@
 //! What the kind of a variable says of the code of INC, DEC and FOR.
 
-ghost use Rattle.std.specs.Prelude.{◌≡◌, ◌+◌, ◌≤◌, ◌++◌, length, OnOk};
+ghost use Rattle.std.specs.Prelude.{◌≡◌, [], ◌∷◌, OnOk};
 ghost use Rattle.lil_resolved.specs.Kinds as kinds;
 ghost use Rattle.lil_resolved.specs.Kinds.{OfWhole, base_of};
 ghost use Rattle.lil_resolved.specs.Resolved.{counted_as};
-ghost use Rattle.lil_resolved.specs.Sizes as spec;
 ghost use Rattle.lil_resolved.specs.Views.{base_view, kind_view, is_down};
+ghost use Rattle.lil_asm.specs.Bytes.{Sayable};
 ghost use Rattle.lil_table.specs.Rows as rows;
 ghost use Rattle.lil_table.specs.Rows.{change_operator, test_code, whole_code};
-ghost use Rattle.lil_expr.specs.Emitting.{all_bytes};
+ghost use Rattle.lil_labels.specs.Drafts.{DoingAll, Emits};
 
-use lil_asm::{Instr, encode};
-use lil_base::{Bytes, Memory};
-use lil_expr::{emit_test, test_size};
+use lil_asm::Instr;
+use lil_base::Memory;
+use lil_expr::emit_test;
+use lil_labels::CodeBuffer;
 use lil_resolved::{Direction, RBase, RKind, whole_base};
 
 /// The base of the numbers that INC and DEC of a variable compute with.
@@ -23,23 +24,20 @@ pub(crate) fn counted_base(kind: RKind) -> RBase
     whole_base(kind.base)
 }
 
-/// Appends the instruction by which INC or DEC of a variable computes.
+/// The instruction by which INC or DEC of a variable computes.
 #[tactic(auto, using(lil_resolved::specs::Bases::own_base))]
-pub(crate) fn emit_change_operator(
-    code: &mut Bytes,
-    direction: Direction,
-    kind: RKind,
-) -> Result<(), Memory>
-    ensures { OnOk result (code.new ≡ code.old ++ all_bytes (whole_code (change_operator (is_down direction)) (counted_as (kind_view kind)))) }
+pub(crate) fn change_instr(direction: Direction, kind: RKind) -> Instr
+    ensures is { whole_code (change_operator (is_down direction)) (counted_as (kind_view kind)) ≡ result ∷ [] }
+    ensures sayable { Sayable result }
 {
     match direction {
         Direction::Up => match kind.base {
-            RBase::Integer => encode(code, Instr::Adi),
-            _ => encode(code, Instr::Adc),
+            RBase::Integer => Instr::Adi,
+            _ => Instr::Adc,
         },
         Direction::Down => match kind.base {
-            RBase::Integer => encode(code, Instr::Sbi),
-            _ => encode(code, Instr::Sbc),
+            RBase::Integer => Instr::Sbi,
+            _ => Instr::Sbc,
         },
     }
 }
@@ -55,19 +53,10 @@ pub(crate) fn loop_sign(kind: RKind) -> u8
     }
 }
 
-/// How many bytes the test takes that a value of FOR may be stored in its variable.
+/// Appends the test that a value of FOR may be stored in its variable.
 #[tactic(auto, using(lil_resolved::specs::Bases::own_base))]
-pub(crate) fn turn_test_size(kind: RKind) -> u32
-    ensures { result ≡ spec.test_size (kind_view kind) (base_of (kind_view kind)) }
-{
-    test_size(kind, kind.base)
-}
-
-/// Appends that test.
-#[tactic(auto, using(lil_resolved::specs::Bases::own_base))]
-pub(crate) fn emit_turn_test(code: &mut Bytes, kind: RKind) -> Result<(), Memory>
-    ensures short { OnOk result (length code.new ≤ length code.old + spec.test_size (kind_view kind) (base_of (kind_view kind))) }
-    ensures code { OnOk result (code.new ≡ code.old ++ all_bytes (test_code (kind_view kind) (base_of (kind_view kind)))) }
+pub(crate) fn emit_turn_test(code: &mut CodeBuffer, kind: RKind) -> Result<(), Memory>
+    ensures { OnOk result (Emits code.old code.new (DoingAll (test_code (kind_view kind) (base_of (kind_view kind))))) }
 {
     emit_test(code, kind, kind.base)
 }

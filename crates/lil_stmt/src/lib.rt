@@ -1,13 +1,12 @@
-//! The code of statements. How many bytes each part takes is known before it is written, so that a jump forward has its
-//! place at once.
+//! The code of statements.
 #![tactic(auto)]
 
 mod cases;
 mod kinds;
+mod loops;
 mod simple;
-mod sizes;
 mod starts;
 mod statements;
 
-pub use sizes::{body_size, frame_words};
+pub use loops::frame_words;
 pub use statements::{Around, emit_body};

@@ -1,18 +1,17 @@
 //! How the start of a FOR, which stands below the limit on the expression stack, is brought to the limit's type.
 
-ghost use Rattle.std.specs.Prelude.{◌≡◌, ◌+◌, ◌≤◌, ◌++◌, [], ◌∷◌, length, OnOk};
+ghost use Rattle.std.specs.Prelude.{◌≡◌, [], ◌∷◌, OnOk};
 ghost use Rattle.lil_resolved.specs.Kinds as kinds;
 ghost use Rattle.lil_resolved.specs.Kinds.{base_of};
 ghost use Rattle.lil_resolved.specs.Resolved.{kind_of};
-ghost use Rattle.lil_resolved.specs.Sizes as spec;
 ghost use Rattle.lil_resolved.specs.Views.{kind_view, expression_of};
-ghost use Rattle.lil_asm.specs.declared.instr.Instr.TheVariants.{Swp, Rgc};
-ghost use Rattle.lil_expr.specs.Emitting.{all_bytes};
-ghost use Rattle.lil_stmt.specs.Generating.{EmitsAlign, EmitsLeave};
+ghost use Rattle.lil_labels.specs.Drafts.{Emits};
+ghost use Rattle.lil_stmt.specs.Generating.{Aligning, Leaving};
 
-use lil_asm::{Instr, encode};
-use lil_base::{Bytes, Memory};
+use lil_asm::Instr;
+use lil_base::Memory;
 use lil_expr::covers;
+use lil_labels::{Aim, CodeBuffer};
 use lil_resolved::{RBase, RExpr, RKind, base};
 
 /// Whether each value of the start is one of the kind that the variable's was taken from, which is the limit's.
@@ -38,63 +37,36 @@ fn outside_turns(kind: RKind, step: i16) -> bool
     }
 }
 
-/// How many bytes the code takes that brings a start to the limit's type.
-pub(crate) fn align_size(kind: RKind, from: &RExpr, step: i16) -> u32
-    ensures { result ≡ spec.align_size (kind_view kind) (kind_of (expression_of from.now)) step }
-{
-    if limit_covers(kind, from) {
-        0
-    } else if outside_turns(kind, step) {
-        7
-    } else {
-        15
-    }
-}
-
-/// Appends that code, in a FOR that ends at a place: none where the start always is a number of the limit's type. Another
-/// start traps where it has turns, and leaves the FOR where it has none.
+/// Appends the code that does it, in a FOR that ends at a label: none where the start always is a number of the limit's
+/// type. Another start traps where it has turns, and leaves the FOR where it has none.
 pub(crate) fn emit_align(
-    code: &mut Bytes,
+    code: &mut CodeBuffer,
     kind: RKind,
     from: &RExpr,
     step: i16,
-    end: u16,
+    end: u32,
 ) -> Result<(), Memory>
-    requires { length code.old + spec.align_size (kind_view kind) (kind_of (expression_of from.now)) step ≤ 32767 }
-    ensures short { OnOk result (length code.new ≤ length code.old + spec.align_size (kind_view kind) (kind_of (expression_of from.now)) step) }
-    ensures means { OnOk result (EmitsAlign code.old code.new (kind_view kind) (kind_of (expression_of from.now)) step end) }
+    ensures { OnOk result (Emits code.old code.new (Aligning (kinds.covers (base_of (kind_view kind)) (kind_of (expression_of from.now))) (kinds.outside_turns (kinds.compared_as (base_of (kind_view kind))) step) end)) }
 {
     if limit_covers(kind, from) {
         Ok(())
     } else if outside_turns(kind, step) {
-        emit_trap(code)
+        code.put_all(&[Instr::Swp, Instr::Rgc(0, 32_767), Instr::Swp])
     } else {
         emit_leave(code, end)
     }
 }
 
-/// Appends the test that a start is a number of both types of whole numbers.
-fn emit_trap(code: &mut Bytes) -> Result<(), Memory>
-    ensures { OnOk result (code.new ≡ code.old ++ all_bytes (Swp ∷ Rgc 0 32767 ∷ Swp ∷ [])) }
+/// Appends the test that a start is a number of both types of whole numbers, where another start drops both bounds and
+/// leads to a label.
+fn emit_leave(code: &mut CodeBuffer, end: u32) -> Result<(), Memory>
+    ensures { OnOk result (Emits code.old code.new (Leaving end)) }
 {
-    encode(code, Instr::Swp)?;
-    encode(code, Instr::Rgc(0, 32_767))?;
-    encode(code, Instr::Swp)
-}
-
-/// Appends the same test, where a start that isn't such a number drops both bounds and jumps to a place.
-fn emit_leave(code: &mut Bytes, end: u16) -> Result<(), Memory>
-    requires { length code.old + 15 ≤ 32767 }
-    ensures { OnOk result (EmitsLeave code.old code.new end) }
-{
-    let other = code.len() + 14;
-    encode(code, Instr::Swp)?;
-    encode(code, Instr::Dup)?;
-    encode(code, Instr::Liw(0))?;
-    encode(code, Instr::Lsi)?;
-    encode(code, Instr::Jpf(other as u16))?;
-    encode(code, Instr::Drp)?;
-    encode(code, Instr::Drp)?;
-    encode(code, Instr::Jmp(end))?;
-    encode(code, Instr::Swp)
+    code.put_all(&[Instr::Swp, Instr::Dup, Instr::Liw(0), Instr::Lsi])?;
+    let other = code.fresh()?;
+    code.jump(Aim::IfFalse, other)?;
+    code.put_all(&[Instr::Drp, Instr::Drp])?;
+    code.jump(Aim::Always, end)?;
+    code.here(other)?;
+    code.put(Instr::Swp)
 }

@@ -1,5 +1,6 @@
--- The translation table: which bytes from one place to another are a translation of a part. It has one row for each construct.
-use Rattle.std.specs.Prelude.{◌≡◌, ℕ, zero, suc, ◌+◌, ◌*◌, ◌≤◌, ℤ, Bool, true, false, List, [], ◌∷◌, ◌++◌, length, Option, Some, None, slice_get, cond}
+-- The translation table: which bytes from one place to another are a translation of a part. It has one row for each construct. A jump has
+-- the word of its target's place: the place itself, or in code that is too long for that the place cut to 16 bits.
+use Rattle.std.specs.Prelude.{◌≡◌, ℕ, zero, suc, ◌+◌, ◌*◌, ◌%◌, ◌≤◌, ℤ, Bool, true, false, List, [], ◌∷◌, ◌++◌, length, Option, Some, None, slice_get, cond}
 use Rattle.lil_base.specs.Words.{Whole, Cardinal, Integer, word_of}
 use Rattle.lil_base.specs.declared.operator.OneOp.{OneOp}
 use Rattle.lil_base.specs.declared.operator.OneOp.TheVariants as one
@@ -15,20 +16,32 @@ use Rattle.lil_asm.specs.declared.instr.Instr.TheVariants.{Liw, Dup, Drp, Llw, L
 use Rattle.lil_asm.specs.Bytes.{word_at, decoded}
 use Rattle.lil_asm.specs.Requests.{request_words}
 
--- where the variables of a module lie in its data frame, by their numbers, their kinds, and the words of its body's frame
+-- where the variables of a module lie in its data frame, by their numbers, their kinds, the words of its body's frame, and how a place is
+-- written in a jump
 pub record Layout : Type 0 where
   pub offsets : List ℕ
   pub kinds : List Kind
   pub words : ℕ
   pub frame : ℕ
+  pub target : ℕ → ℕ
 
 -- one word for each variable, in order, from an offset on
 abbrev pub offsets_from : ℕ → List Kind → List ℕ
 offsets_from n [] = []
 offsets_from n (k ∷ ks) = n ∷ offsets_from (suc n) ks
 
+-- a place as it is, and cut to 16 bits
+abbrev pub exactly : ℕ → ℕ
+exactly q = q
+
+abbrev pub cut : ℕ → ℕ
+cut q = q % 65536
+
+abbrev pub layout_by : (ℕ → ℕ) → Resolved → Layout
+layout_by target m = record { offsets = offsets_from 0 m.variables; kinds = m.variables; words = length m.variables; frame = frame_words m.body; target = target }
+
 abbrev pub layout_of : Resolved → Layout
-layout_of m = record { offsets = offsets_from 0 m.variables; kinds = m.variables; words = length m.variables; frame = frame_words m.body }
+layout_of m = layout_by exactly m
 
 -- the bytes of the instruction stand from place p to place q
 abbrev pub IsAt : List ℕ → ℕ → Instr → ℕ → Type 0
@@ -147,13 +160,13 @@ short_code true to = Jor to
 short_code false to = Jan to
 
 -- a jump over the right operand, where the left one decides
-pub record ShortRow (code : List ℕ) (d : Bool) (a b : Expression) (left right : Span) (p q : ℕ) : Type 0 where
+pub record ShortRow (l : Layout) (code : List ℕ) (d : Bool) (a b : Expression) (left right : Span) (p q : ℕ) : Type 0 where
   pub middle : ℕ
   pub start : ℕ
   pub left_typed : kind_of a ≡ OfTruth
   pub right_typed : kind_of b ≡ OfTruth
   pub first : left p middle
-  pub test : IsAt code middle (short_code d q) start
+  pub test : IsAt code middle (short_code d (l.target q)) start
   pub second : right start q
 
 pub record ApplyRow (code : List ℕ) (f : Function) (a : Expression) (value : Span) (p q : ℕ) : Type 0 where
@@ -170,7 +183,7 @@ ExpressionAt l code (Constant k v) p q = ConstantRow code k v p q
 ExpressionAt l code (Taken d) p q = TakenAt l code d p q
 ExpressionAt l code (One o k a) p q = OneRow code o k a (ExpressionAt l code a) p q
 ExpressionAt l code (Two o k a b) p q = TwoRow code o k a b (ExpressionAt l code a) (ExpressionAt l code b) p q
-ExpressionAt l code (Short d a b) p q = ShortRow code d a b (ExpressionAt l code a) (ExpressionAt l code b) p q
+ExpressionAt l code (Short d a b) p q = ShortRow l code d a b (ExpressionAt l code a) (ExpressionAt l code b) p q
 ExpressionAt l code (Apply f a) p q = ApplyRow code f a (ExpressionAt l code a) p q
 
 -- an expression of a kind, with n words of others below its own
@@ -221,9 +234,9 @@ pub record IfRow (l : Layout) (code : List ℕ) (c : Expression) (first second :
   pub end : ℕ
   pub other : ℕ
   pub condition : WholeRow l code 0 c OfTruth p middle
-  pub jump : IsAt code middle (Jpf other) start
+  pub jump : IsAt code middle (Jpf (l.target other)) start
   pub chosen : first start end
-  pub skip : IsAt code end (Jmp q) other
+  pub skip : IsAt code end (Jmp (l.target q)) other
   pub otherwise : second other q
 
 -- the condition, a jump behind all where it is FALSE, the body, and a jump back
@@ -232,9 +245,9 @@ pub record WhileRow (l : Layout) (code : List ℕ) (c : Expression) (body : Span
   pub start : ℕ
   pub end : ℕ
   pub condition : WholeRow l code 0 c OfTruth p middle
-  pub jump : IsAt code middle (Jpf q) start
+  pub jump : IsAt code middle (Jpf (l.target q)) start
   pub here : body start end
-  pub back : IsAt code end (Jmp p) q
+  pub back : IsAt code end (Jmp (l.target p)) q
 
 -- the body, the condition, and a jump back where it is FALSE
 pub record RepeatRow (l : Layout) (code : List ℕ) (body : Span) (c : Expression) (p q : ℕ) : Type 0 where
@@ -242,21 +255,21 @@ pub record RepeatRow (l : Layout) (code : List ℕ) (body : Span) (c : Expressio
   pub middle : ℕ
   pub here : body p end
   pub condition : WholeRow l code 0 c OfTruth end middle
-  pub back : IsAt code middle (Jpf p) q
+  pub back : IsAt code middle (Jpf (l.target p)) q
 
 -- the body and a jump back
-pub record LoopRow (code : List ℕ) (body : Span) (p q : ℕ) : Type 0 where
+pub record LoopRow (l : Layout) (code : List ℕ) (body : Span) (p q : ℕ) : Type 0 where
   pub end : ℕ
   pub here : body p end
-  pub back : IsAt code end (Jmp p) q
+  pub back : IsAt code end (Jmp (l.target p)) q
 
--- a jump behind the LOOP around
+-- a jump behind the LOOP around, by the word of that place
 pub record ExitRow (code : List ℕ) (exit : Option ℕ) (p q : ℕ) : Type 0 where
   pub to : ℕ
   pub known : exit ≡ Some to
   pub jump : IsAt code p (Jmp to) q
 
--- an entry of a table: a range of labels, and the place of its arm
+-- an entry of a table: a range of labels, and the word of its arm's place
 pub record EntryRow (code : List ℕ) (k : Kind) (label : Label) (to p : ℕ) : Type 0 where
   pub sound : IsSoundLabel k label
   pub low : word_at code p ≡ Some (word_of label.low)
@@ -274,18 +287,18 @@ EntriesAt code k (label ∷ labels) to rest t zero = ⊥
 EntriesAt code k (label ∷ labels) to rest t (suc w) = EntryRow code k label to t × EntriesAt code k labels to rest (t + 6) w
 
 -- an arm, and a jump to the exit
-pub record ArmRow (code : List ℕ) (k : Kind) (exit : ℕ) (labels : List Label) (body : Span) (rest : Arming) (p t w : ℕ) : Type 0 where
+pub record ArmRow (l : Layout) (code : List ℕ) (k : Kind) (exit : ℕ) (labels : List Label) (body : Span) (rest : Arming) (p t w : ℕ) : Type 0 where
   pub end : ℕ
   pub gap : ℕ
   pub here : body p end
-  pub leave : IsAt code end (Jmp exit) gap
-  pub entries : EntriesAt code k labels p (rest gap) t w
+  pub leave : IsAt code end (Jmp (l.target exit)) gap
+  pub entries : EntriesAt code k labels (l.target p) (rest gap) t w
 
 -- what stands behind ELSE ends where the table stands
-pub record ElseRow (code : List ℕ) (exit other table : ℕ) (body : Span) (p w : ℕ) : Type 0 where
+pub record ElseRow (l : Layout) (code : List ℕ) (exit other table : ℕ) (body : Span) (p w : ℕ) : Type 0 where
   pub end : ℕ
   pub here : body p end
-  pub leave : IsAt code end (Jmp exit) table
+  pub leave : IsAt code end (Jmp (l.target exit)) table
   pub is : other ≡ p
   pub none : w ≡ 0
 
@@ -307,10 +320,10 @@ pub record CaseRow (l : Layout) (code : List ℕ) (e : Expression) (arms : ℕ �
   pub other : ℕ
   pub base : is_base (kind_of e) ≡ true
   pub value : WholeRow l code 0 e (kind_of e) p middle
-  pub dispatch : IsAt code middle (Jmp choices) exit
-  pub leave : IsAt code exit (Jmp q) start
+  pub dispatch : IsAt code middle (Jmp (l.target choices)) exit
+  pub leave : IsAt code exit (Jmp (l.target q)) start
   pub bodies : arms exit other choices start entries count
-  pub choice : IsAt code choices (Cas count other) entries
+  pub choice : IsAt code choices (Cas count (l.target other)) entries
   pub whole : q ≡ entries + 6 * count
 
 -- the first of the three words of a FOR with n others around it, in the frame
@@ -335,35 +348,35 @@ pub record RoundRow (l : Layout) (code : List ℕ) (n x : ℕ) (k : Kind) (step 
   pub test : InstrsAt code (test_code k (base_of k)) loaded tested
   pub store : IsAt code tested (Sgw known.offset) start
   pub here : body start end
-  pub next : IsAt code end (Frn (loop_place n) turn) q
+  pub next : IsAt code end (Frn (loop_place n) (l.target turn)) q
 
 -- a start that has no turn leaves the FOR
-pub record LeaveRow (code : List ℕ) (p start q : ℕ) : Type 0 where
+pub record LeaveRow (l : Layout) (code : List ℕ) (p start q : ℕ) : Type 0 where
   pub tested : ℕ
   pub skip : ℕ
   pub dropped : ℕ
   pub other : ℕ
   pub look : InstrsAt code (Swp ∷ Dup ∷ Liw 0 ∷ Lsi ∷ []) p tested
-  pub jump : IsAt code tested (Jpf other) skip
+  pub jump : IsAt code tested (Jpf (l.target other)) skip
   pub drop : InstrsAt code (Drp ∷ Drp ∷ []) skip dropped
-  pub leave : IsAt code dropped (Jmp q) other
+  pub leave : IsAt code dropped (Jmp (l.target q)) other
   pub back : IsAt code other Swp start
 
 -- What brings a start to the limit's type, which is the same or the other type of whole numbers; the numbers of both are those from 0 to
 -- 32767. Where another start has turns the first one traps.
-abbrev pub AlignAt : List ℕ → (same turns : Bool) → ℕ → ℕ → ℕ → Type 0
-AlignAt code true turns p start q = p ≡ start
-AlignAt code false true p start q = InstrsAt code (Swp ∷ Rgc 0 32767 ∷ Swp ∷ []) p start
-AlignAt code false false p start q = LeaveRow code p start q
+abbrev pub AlignAt : Layout → List ℕ → (same turns : Bool) → ℕ → ℕ → ℕ → Type 0
+AlignAt l code true turns p start q = p ≡ start
+AlignAt l code false true p start q = InstrsAt code (Swp ∷ Rgc 0 32767 ∷ Swp ∷ []) p start
+AlignAt l code false false p start q = LeaveRow l code p start q
 
 -- both bounds stand on the expression stack, the start with a kind: the step, the beginning of the turns, and the turns
 pub record TurnsRow (l : Layout) (code : List ℕ) (n x : ℕ) (k j : Kind) (step : ℤ) (body : Span) (p q : ℕ) : Type 0 where
   pub aligned : ℕ
   pub stepped : ℕ
   pub turn : ℕ
-  pub align : AlignAt code (covers (base_of k) j) (outside_turns (compared_as (base_of k)) step) p aligned q
+  pub align : AlignAt l code (covers (base_of k) j) (outside_turns (compared_as (base_of k)) step) p aligned q
   pub load : IsAt code aligned (Liw (word_of step)) stepped
-  pub enter : IsAt code stepped (Fri (loop_place n) (loop_sign (compared_as (base_of k))) q) turn
+  pub enter : IsAt code stepped (Fri (loop_place n) (loop_sign (compared_as (base_of k))) (l.target q)) turn
   pub round : RoundRow l code n x k step body turn q
 
 -- both bounds and the turns: a start that may be stored in the variable, and a limit of the kind that the variable's was taken from
@@ -380,7 +393,7 @@ pub record ThenRow (first rest : Span) (p q : ℕ) : Type 0 where
   pub here : first p middle
   pub then : rest middle q
 
--- Statements with n FORs around them, and the place behind the LOOP around them, if there is one.
+-- Statements with n FORs around them, and the word of the place behind the LOOP around them, if there is one.
 abbrev mutual
   pub StatementAt : Layout → List ℕ → ℕ → Option ℕ → Statement → Span
   StatementAt l code n exit (Assign (Variable x k) e) p q = AssignRow l code x k e p q
@@ -390,7 +403,7 @@ abbrev mutual
   StatementAt l code n exit (Case e arms) p q = CaseRow l code e (ArmsAt l code n exit (kind_of e) arms) p q
   StatementAt l code n exit (While c body) p q = WhileRow l code c (BodyAt l code n exit body) p q
   StatementAt l code n exit (Repeat body c) p q = RepeatRow l code (BodyAt l code n exit body) c p q
-  StatementAt l code n exit (Loop body) p q = LoopRow code (BodyAt l code n (Some q) body) p q
+  StatementAt l code n exit (Loop body) p q = LoopRow l code (BodyAt l code n (Some (l.target q)) body) p q
   StatementAt l code n exit Exit p q = ExitRow code exit p q
   StatementAt l code n exit Halt p q = IsAt code p (Trp 9) q
   StatementAt l code n exit Return p q = IsAt code p Rtn q
@@ -403,13 +416,17 @@ abbrev mutual
 
   pub ArmsAt : Layout → List ℕ → ℕ → Option ℕ → Kind → Arms → ℕ → ℕ → ℕ → Arming
   ArmsAt l code n exit k NoElse leave other table p t w = NoElseRow code other table p w
-  ArmsAt l code n exit k (Else body) leave other table p t w = ElseRow code leave other table (BodyAt l code n exit body) p w
-  ArmsAt l code n exit k (Arm labels body rest) leave other table p t w = ArmRow code k leave labels (BodyAt l code n exit body) (ArmsAt l code n exit k rest leave other table) p t w
+  ArmsAt l code n exit k (Else body) leave other table p t w = ElseRow l code leave other table (BodyAt l code n exit body) p w
+  ArmsAt l code n exit k (Arm labels body rest) leave other table p t w = ArmRow l code k leave labels (BodyAt l code n exit body) (ArmsAt l code n exit k rest leave other table) p t w
 
--- the code of a program module: its frame, its statements, and the return
-pub record Translates (m : Resolved) (code : List ℕ) : Type 0 where
+-- code of a program module: its frame, its statements, and the return
+pub record TranslatesBy (l : Layout) (m : Resolved) (code : List ℕ) : Type 0 where
   pub start : ℕ
   pub end : ℕ
   pub enter : IsAt code 0 (Ent (frame_words m.body)) start
-  pub body : BodyAt (layout_of m) code 0 None m.body start end
+  pub body : BodyAt l code 0 None m.body start end
   pub leave : IsAt code end Rtn (length code)
+
+-- the code of a program module, whose jumps have the places themselves
+abbrev pub Translates : Resolved → List ℕ → Type 0
+Translates m code = TranslatesBy (layout_of m) m code

@@ -1,1 +1,1 @@
-mod Modules
+pub mod Modules

@@ -1,17 +1,17 @@
--- The code of a whole module.
-use Rattle.std.proofs.Common.{◌≡◌, ℕ, zero, suc, ◌+◌, ◌<◌, Some, None, List, [], ◌∷◌, ◌++◌, length, refl, ap, ◌∙◌, subst, arith}
+-- The code of a whole module, settled.
+use Rattle.std.proofs.Common.{◌≡◌, ℕ, zero, suc, ◌+◌, ◌*◌, ◌%◌, ◌<◌, ◌≤◌, List, [], ◌∷◌, length, Some, None, min, refl, sym, ap, ◌∙◌, subst, arith, append-nil}
 use Rattle.std.specs.Prelude.{slice_get}
 use Rattle.lil_resolved.specs.Kinds.{Kind}
-use Rattle.lil_resolved.specs.declared.resolved.RModule.{RModule}
-use Rattle.lil_resolved.specs.Views.{statements_of, module_of}
-use Rattle.lil_resolved.specs.Sizes.{body_size, frame_words, code_size, IsSound}
+use Rattle.lil_resolved.specs.Resolved.{Resolved}
+use Rattle.lil_resolved.specs.Sizes.{frame_words, code_size, IsSound}
 use Rattle.lil_asm.specs.declared.instr.Instr.TheVariants.{Ent, Rtn}
-use Rattle.lil_asm.specs.Bytes.{bytes_of}
-use Rattle.lil_table.specs.Rows.{IsAt, BodyAt, Translates, offsets_from, layout_of}
-use Rattle.lil_expr.specs.Emitting.{Emits}
-use Rattle.lil_stmt.specs.Generating.{EmitsBody}
-use Rattle.lil_expr.specs.Generating.{IsPlain}
-use Rattle.lil_expr.specs.Appending.{emits_instr, emits_both}
+use Rattle.lil_table.specs.Rows.{IsAt, TranslatesBy, Translates, offsets_from, layout_by, exactly, cut}
+use Rattle.lil_table.specs.Lengths.{module_long}
+use Rattle.lil_labels.specs.Drafts.{Draft, empty, Final, Fits, IsPlain, Emits, Doing, code_of, settled_word, word_in}
+use Rattle.lil_labels.specs.Settling.{written_long}
+use Rattle.lil_labels.specs.Emitting.{emits_then, emits_as}
+use Rattle.lil_stmt.specs.Generating.{Body}
+use Rattle.lil_unit.specs.Framing.{Framed}
 
 offset_at : (kinds : List Kind) (first x : ℕ) → x < length kinds → slice_get (offsets_from first kinds) x ≡ Some (first + x)
 offset_at [] first x h = absurd (omega arith)
@@ -19,30 +19,48 @@ offset_at (k ∷ kinds) first zero h = ap Some (omega arith)
 offset_at (k ∷ kinds) first (suc x) h = offset_at kinds (suc first) x (omega arith) ∙ ap Some (omega arith)
 
 -- the layout of a program module is plain
-layout_plain : (m : RModule) → IsPlain (layout_of (module_of m)) (module_of m).variables
-layout_plain m = record {
-  offset = λ x h. offset_at (module_of m).variables 0 x h ∙ ap Some (omega arith);
-  kinds = refl;
-}
+layout_plain : (target : ℕ → ℕ) (m : Resolved) → IsPlain (layout_by target m)
+layout_plain target m x h = offset_at m.variables 0 x h ∙ ap Some (omega arith)
 
-module _ (m : RModule) (words : ℕ) (c0 c1 c2 c3 : List ℕ) (sound : IsSound (module_of m)) (none : c0 ≡ []) (framed : words ≡ frame_words (statements_of m.body))
-    (entered : c1 ≡ c0 ++ bytes_of (Ent words)) (body : EmitsBody c1 c2 0 None (statements_of m.body)) (left : c3 ≡ c2 ++ bytes_of Rtn) where
-  all_emitted : Emits c0 c3 (3 + (body_size (statements_of m.body) + 1))
-      (λ final p q. IsAt final p (Ent words) (length c1) × (BodyAt (layout_of (module_of m)) final 0 None (statements_of m.body) (length c1) (length c2) × IsAt final (length c2) Rtn q))
-  all_emitted =
-      let inner = body (layout_of (module_of m)) (module_of m).variables (layout_plain m) sound (omega arith) in
-      emits_both c0 c1 c3 3 _ _ _ (emits_instr c0 c1 (Ent words) tt entered) (emits_both c1 c2 c3 (body_size (statements_of m.body)) 1 _ _ inner (emits_instr c2 c3 Rtn tt left))
+pub framed : (m : Resolved) (words : ℕ) (a b c : Draft) → words ≡ frame_words m.body → Emits empty a (Doing (λ w. Ent words)) → Emits a b (Body 0 None m.body) → Emits b c (Doing (λ w. Rtn)) → Emits empty c (Framed m)
+framed m words a b c is enter body leave =
+    emits_as empty c _ (Framed m)
+    (λ x t. record { start = length a.bytes; end = length b.bytes; enter = subst (λ (w : ℕ). IsAt x.code 0 (Ent w) (length a.bytes)) is t.0; body = t.1.0; leave = t.1.1 })
+    (emits_then empty a c _ _ enter (emits_then a b c _ _ body leave))
 
-  pub module_translates : Translates (module_of m) c3
-  module_translates =
-      let t = all_emitted.meant c3 (λ i from to. refl) in
+module _ (m : Resolved) (d : Draft) (sound : IsSound m) (frame : frame_words m.body ≤ 65535) (emitted : Emits empty d (Framed m)) where
+  abbrev code : List ℕ
+  code = code_of d (settled_word d.places)
+
+  settled : (ℕ → ℕ) → Final
+  settled target = record {
+    layout = layout_by target m;
+    plain = layout_plain target m;
+    framed = frame;
+    word = settled_word d.places;
+    code = code;
+  }
+
+  -- where each place has its word, the settled code is a translation
+  settled_translates : (target : ℕ → ℕ) → ((l q : ℕ) → slice_get d.places l ≡ Some (Some q) → q % 65536 ≡ target q) → TranslatesBy (layout_by target m) m code
+  unfolding settled
+  settled_translates target words =
+      let fits : Fits d (settled target) = record { rest = []; begins = sym (append-nil code); placed = λ l q h. ap word_in h ∙ words l q h } in
+      let t = emitted.meant (settled target) fits in
       record {
-        start = length c1;
-        end = length c2;
-        enter = subst (λ (w : ℕ). IsAt c3 0 (Ent w) (length c1)) framed (subst (λ (p : ℕ). IsAt c3 p (Ent words) (length c1)) (ap length none) t.0);
-        body = t.1.0;
-        leave = t.1.1;
+        start = t.start;
+        end = t.end;
+        enter = t.enter;
+        body = t.body sound (omega arith);
+        leave = subst (λ (q : ℕ). IsAt code t.end Rtn q) (sym (written_long (settled_word d.places) d.bytes d.jumps)) t.leave;
       }
 
-  pub module_long : length c3 ≡ code_size (module_of m)
-  module_long = omega (arith, all_emitted.grows, ap length none)
+  pub settled_long : length code ≡ code_size m
+  settled_long = module_long (layout_by cut m) m code (settled_translates cut (λ l q h. refl))
+
+  pub draft_long : length d.bytes ≡ code_size m
+  draft_long = sym (written_long (settled_word d.places) d.bytes d.jumps) ∙ settled_long
+
+  -- where the code is short, that is with the places as they are
+  pub exact : ((l q : ℕ) → slice_get d.places l ≡ Some (Some q) → q ≤ 32767) → Translates m code
+  exact small = settled_translates exactly (λ l q h. omega (arith, small l q h))

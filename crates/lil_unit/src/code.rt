@@ -5,33 +5,41 @@ ghost use Rattle.lil_resolved.specs.Views.{module_of};
 ghost use Rattle.lil_resolved.specs.Sizes as spec;
 ghost use Rattle.lil_resolved.specs.Sizes.{IsSound};
 ghost use Rattle.lil_table.specs.Rows.{Translates};
+ghost use Rattle.lil_labels.specs.Drafts.{Emits, empty};
+ghost use Rattle.lil_unit.specs.Framing.{Framed};
 
 use crate::GenStop;
-use lil_asm::{Instr, encode};
+use lil_asm::Instr;
 use lil_base::{Bytes, Memory};
+use lil_labels::CodeBuffer;
 use lil_resolved::RModule;
-use lil_stmt::{Around, body_size, emit_body, frame_words};
+use lil_stmt::{Around, emit_body, frame_words};
 use std::alloc::Global;
 
 /// How many bytes a module's code may have.
-const LONGEST: u32 = 32_767;
+const LONGEST: usize = 32_767;
 
-/// The code of a program module that isn't too long.
-fn emit_module(alloc: Global, m: &RModule) -> Result<Bytes, Memory>
-    requires sound { IsSound (module_of m.now) }
-    requires short { spec.code_size (module_of m.now) ≤ 32767 }
-    ensures translates { IfOk result (λ code. Translates (module_of m.now) code) }
-    ensures long { IfOk result (λ code. length code ≡ spec.code_size (module_of m.now)) }
+/// A number of bytes, or 4,294,967,295 where it is more.
+fn counted(bytes: usize) -> u32
+    ensures { result ≡ min bytes 4294967295 }
+{
+    u32::try_from(bytes).unwrap_or(u32::MAX)
+}
+
+/// The code of a program module, with labels.
+fn emit_module(alloc: Global, m: &RModule) -> Result<CodeBuffer, Memory>
+    ensures frame { IfOk result (λ code. spec.frame_words (module_of m.now).body ≤ 65535) }
+    ensures emits { IfOk result (λ code. Emits empty code (Framed (module_of m.now))) }
 {
     let body = m.body.as_slice();
     let around = Around {
         fors: 0,
         exit: None,
     };
-    let mut code = Bytes::new(alloc);
-    encode(&mut code, Instr::Ent(frame_words(body)))?;
+    let mut code = CodeBuffer::new(alloc);
+    code.put(Instr::Ent(frame_words(body)?))?;
     emit_body(&mut code, body, around)?;
-    encode(&mut code, Instr::Rtn)?;
+    code.put(Instr::Rtn)?;
     Ok(code)
 }
 
@@ -43,9 +51,12 @@ pub fn generate(alloc: Global, m: &RModule) -> Result<Bytes, GenStop>
     ensures short { IfOk result (λ code. spec.code_size (module_of m.now) ≤ 32767) }
     ensures too_long { (bytes : ℕ) → result ≡ Err (GenStop.CodeTooLong bytes) → (32767 < spec.code_size (module_of m.now)) × (bytes ≡ min (spec.code_size (module_of m.now)) 4294967295) }
 {
-    let bytes = body_size(m.body.as_slice()).saturating_add(4);
+    let code = emit_module(alloc, m)?;
+    let bytes = code.len();
     if LONGEST < bytes {
-        return Err(GenStop::CodeTooLong { bytes });
+        return Err(GenStop::CodeTooLong {
+            bytes: counted(bytes),
+        });
     }
-    Ok(emit_module(alloc, m)?)
+    Ok(code.settle(alloc)?)
 }

@@ -1,10 +1,7 @@
-use Rattle.std.proofs.Common.{ℕ, ◌+◌, ◌*◌, ◌≤◌, List, length, map, drop}
-use Rattle.lil_resolved.specs.Views.{label_of}
-use Rattle.lil_stmt.specs.Generating.{EmitsLabels}
+use Rattle.std.proofs.Common.{take}
+use Rattle.lil_labels.specs.Drafts.{Emits}
+use Rattle.lil_stmt.specs.Generating.{Each, LabelEntry}
 use Rattle.lil_stmt.proofs.cases.emit_labels.Given as goal
 
--- each label has an entry, and what is left makes the whole
 abbrev pub invariant-loop-label : goal.invariant-loop-label
-invariant-loop-label l =
-    (length l.code ≤ length l.fn.code + 6 * l.label-index)
-    × ((last : List ℕ) → EmitsLabels l.code last l.place (map label_of (drop l.label-index l.labels)) → EmitsLabels l.fn.code last l.place (map label_of l.labels))
+invariant-loop-label l = Emits l.fn.code l.code (Each (LabelEntry l.arm) (take l.label-index l.labels))

@@ -1,11 +1,9 @@
-use Rattle.std.proofs.Common.{arith}
-use Rattle.lil_expr.specs.Appending.{with_ok}
+use Rattle.lil_labels.specs.Emitting.{with_ok}
 use Rattle.lil_stmt.proofs.Starting.{leave_emitted}
 use Rattle.lil_stmt.proofs.starts.emit_leave.Goals as goal
 
 pub returns : goal.returns
 returns c =
-    with_ok c.encode-9.result
-    (leave_emitted _ c.args.end _ _ _ _ _ _ _ _ _ _ (omega (arith, c.len-other.ensures)) c.in_ok-encode.ensures c.in_ok-encode-2.ensures c.in_ok-encode-3.ensures
-    c.in_ok-encode-4.ensures c.in_ok-encode-5.ensures c.in_ok-encode-6.ensures c.in_ok-encode-7.ensures c.in_ok-encode-8.ensures)
-    c.encode-9.ensures
+    with_ok c.put.result
+    (leave_emitted c.in_ok-other.other c.args.end _ _ _ _ _ _ _ _ c.in_ok-put_all.ensures c.in_ok-other.ensures.emits c.in_ok-other.ensures.makes c.in_ok-jump.ensures c.in_ok-put_all-2.ensures c.in_ok-jump-2.ensures c.in_ok-here.ensures)
+    c.put.ensures

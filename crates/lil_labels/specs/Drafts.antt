@@ -1,0 +1,153 @@
+-- Code that is being written with labels. What is said of it holds in each final code that begins with it, whatever words its labels have.
+use Rattle.std.specs.Prelude.{◌≡◌, refl, ℕ, ◌+◌, ◌*◌, ◌/◌, ◌%◌, ◌<◌, ◌≤◌, List, [], ◌∷◌, ◌++◌, length, Option, Some, None, slice_get, slice_set}
+use Rattle.std.specs.Coded.{Coded, code_by, coded×, coded_ℕ, coded_list, coded_option}
+use Rattle.lil_asm.specs.declared.instr.Instr.{Instr}
+use Rattle.lil_asm.specs.declared.instr.Instr.TheVariants.{Jmp, Jpf, Jan, Jor, Cas, Fri, Frn}
+use Rattle.lil_asm.specs.Bytes.{Entry, Sayable}
+use Rattle.lil_table.specs.Rows.{Layout, Span, IsAt, InstrsAt}
+use Rattle.lil_labels.specs.declared.buffer.Jump.{Jump}
+use Rattle.lil_labels.specs.declared.buffer.Aim.{Aim}
+use Rattle.lil_labels.specs.declared.buffer.Aim.TheVariants as aim
+
+-- the bytes, the place of each label that has one, and the jumps
+pub record Draft : Type 0 where
+  pub bytes : List ℕ
+  pub places : List (Option ℕ)
+  pub jumps : List Jump
+
+abbrev jump_code : Coded Jump
+jump_code = code_by (ℕ × ℕ) (coded× coded_ℕ coded_ℕ) (λ j. (j.label, j.at)) (λ p. record { label = p.0; at = p.1 }) (λ _. refl)
+
+abbrev pub draft_code : Coded Draft
+draft_code =
+    code_by (List ℕ × (List (Option ℕ) × List Jump)) (coded× (coded_list coded_ℕ) (coded× (coded_list (coded_option coded_ℕ)) (coded_list jump_code)))
+    (λ d. (d.bytes, (d.places, d.jumps))) (λ p. record { bytes = p.0; places = p.1.0; jumps = p.1.1 }) (λ _. refl)
+
+abbrev pub empty : Draft
+empty = record { bytes = []; places = []; jumps = [] }
+
+-- the jumps lie in so many bytes
+abbrev pub AreInside : ℕ → List Jump → Type 0
+AreInside n [] = Unit {0}
+AreInside n (j ∷ js) = (j.at + 2 ≤ n) × AreInside n js
+
+pub record IsSound (n : ℕ) (places : List (Option ℕ)) (jumps : List Jump) : Type 0 where
+  pub inside : AreInside n jumps
+  pub behind : (l q : ℕ) → slice_get places l ≡ Some (Some q) → q ≤ n
+
+-- the bytes with a word written over two of them
+abbrev pub with_word : List ℕ → ℕ → ℕ → List ℕ
+with_word bytes at w = slice_set (slice_set bytes at (w / 256)) (at + 1) (w % 256)
+
+-- the bytes where each jump has the word of its label
+abbrev pub written : (ℕ → ℕ) → List ℕ → List Jump → List ℕ
+written word bytes [] = bytes
+written word bytes (j ∷ js) = written word (with_word bytes j.at (word j.label)) js
+
+abbrev pub code_of : Draft → (ℕ → ℕ) → List ℕ
+code_of d word = written word d.bytes d.jumps
+
+-- the label has no place yet
+abbrev pub IsOpen : Draft → ℕ → Type 0
+IsOpen d l = slice_get d.places l ≡ Some None
+
+-- each variable lies at the offset that is its number
+abbrev pub IsPlain : Layout → Type 0
+IsPlain l = (x : ℕ) → x < length l.kinds → slice_get l.offsets x ≡ Some x
+
+-- a final code, and the word that each label has there
+pub record Final : Type 0 where
+  pub layout : Layout
+  pub plain : IsPlain layout
+  pub framed : layout.frame ≤ 65535
+  pub word : ℕ → ℕ
+  pub code : List ℕ
+
+-- the final code begins with this one, and its labels have their places
+pub record Fits (d : Draft) (x : Final) : Type 0 where
+  pub rest : List ℕ
+  pub begins : x.code ≡ code_of d x.word ++ rest
+  pub placed : (l q : ℕ) → slice_get d.places l ≡ Some (Some q) → x.word l ≡ x.layout.target q
+
+-- what is said of a final code from one place to another
+abbrev pub Meaning : Type 1
+Meaning = Final → Span
+
+-- What was added means this in each final code, and places no label that was made before.
+pub record Emits (old new : Draft) (T : Meaning) : Type 0 where
+  pub keeps : (l : ℕ) → IsOpen old l → IsOpen new l
+  pub made : length old.places ≤ length new.places
+  pub back : (x : Final) → Fits new x → Fits old x
+  pub meant : (x : Final) → Fits new x → T x (length old.bytes) (length new.bytes)
+
+abbrev pub Nothing : Meaning
+Nothing x p q = p ≡ q
+
+-- an instruction, by the words of labels
+abbrev pub Doing : ((ℕ → ℕ) → Instr) → Meaning
+Doing i x p q = IsAt x.code p (i x.word) q
+
+abbrev pub AreSayable : List Instr → Type 0
+AreSayable [] = Unit {0}
+AreSayable (i ∷ is) = Sayable i × AreSayable is
+
+-- instructions one behind another
+abbrev pub DoingAll : List Instr → Meaning
+DoingAll is x p q = InstrsAt x.code is p q
+
+-- CAS, which stands there where the code has its entries
+pub record ChoiceAt (code : List ℕ) (count other p q : ℕ) : Type 0 where
+  pub behind : q ≡ p + 5
+  pub at : q + 6 * count ≤ length code → IsAt code p (Cas count other) q
+
+abbrev pub Choosing : ℕ → ℕ → Meaning
+Choosing count label x p q = ChoiceAt x.code count (x.word label) p q
+
+-- a label at a place
+abbrev pub Marking : ℕ → Meaning
+Marking l x p q = (p ≡ q) × (x.word l ≡ x.layout.target p)
+
+-- an entry of CAS
+pub record EntryAt (code : List ℕ) (low high target p q : ℕ) : Type 0 where
+  pub entry : Entry code p low high target
+  pub behind : q ≡ p + 6
+
+abbrev pub Entering : ℕ → ℕ → ℕ → Meaning
+Entering low high label x p q = EntryAt x.code low high (x.word label) p q
+
+-- a new label
+pub record Makes (old new : Draft) (l : ℕ) : Type 0 where
+  pub is : l ≡ length old.places
+  pub fresh : IsOpen new l
+
+-- an open label gets the place of the end
+pub record Places (old new : Draft) (l : ℕ) : Type 0 where
+  pub bytes : new.bytes ≡ old.bytes
+  pub jumps : new.jumps ≡ old.jumps
+  pub places : new.places ≡ slice_set old.places l (Some (length old.bytes))
+  pub was : IsOpen old l
+
+-- the instruction that leads to a label, with its word
+abbrev pub aimed : Aim → ℕ → Instr
+aimed aim.Always w = Jmp w
+aimed aim.IfFalse w = Jpf w
+aimed aim.And w = Jan w
+aimed aim.Or w = Jor w
+aimed (aim.Enter o s) w = Fri o s w
+aimed (aim.Turn o) w = Frn o w
+
+-- the word of a label: its place, cut to 16 bits
+abbrev pub word_in : Option (Option ℕ) → ℕ
+word_in (Some (Some q)) = q % 65536
+word_in o = 0
+
+abbrev pub settled_word : List (Option ℕ) → ℕ → ℕ
+settled_word places l = word_in (slice_get places l)
+
+-- one jump more, over the last two bytes
+pub record Notes (old new : Draft) (l : ℕ) : Type 0 where
+  pub bytes : new.bytes ≡ old.bytes
+  pub places : new.places ≡ old.places
+  pub at : ℕ
+  pub is : at + 2 ≡ length old.bytes
+  pub jumps : new.jumps ≡ old.jumps ++ record { label = l; at = at } ∷ []

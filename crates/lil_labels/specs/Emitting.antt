@@ -1,0 +1,83 @@
+-- How pieces of code that are emitted one behind another make one piece.
+use Rattle.std.proofs.Common.{◌≡◌, ◌≢◌, ℕ, zero, suc, ◌<◌, ◌≤◌, List, [], ◌∷◌, ◌++◌, length, Option, Some, None, refl, sym, ap, ◌∙◌, subst, arith, length-append, Result, Ok, Err, OnOk, IfOk}
+use Rattle.std.specs.Prelude.{slice_get, slice_set}
+use Rattle.std.proofs.lemmas.Option.{slice_get_within}
+use Rattle.std.proofs.lemmas.List.{length-set}
+use Rattle.lil_labels.specs.Drafts.{Draft, written, code_of, Final, Fits, Meaning, Emits, Nothing, Marking, Makes, Places}
+use Rattle.lil_labels.specs.Settling.{written_long}
+
+pub emits_none : (d : Draft) → Emits d d Nothing
+emits_none d = record { keeps = λ l h. h; made = omega arith; back = λ x fits. fits; meant = λ x fits. refl }
+
+-- a piece behind a piece
+pub emits_then : (a b c : Draft) (T U : Meaning) → Emits a b T → Emits b c U → Emits a c (λ x p q. T x p (length b.bytes) × U x (length b.bytes) q)
+emits_then a b c T U t u = record {
+  keeps = λ l h. u.keeps l (t.keeps l h);
+  made = omega (arith, t.made, u.made);
+  back = λ x fits. t.back x (u.back x fits);
+  meant = λ x fits. (t.meant x (u.back x fits), u.meant x fits);
+}
+
+-- the same piece with another meaning that follows
+pub emits_as : (a b : Draft) (T U : Meaning) → ((x : Final) → T x (length a.bytes) (length b.bytes) → U x (length a.bytes) (length b.bytes)) → Emits a b T → Emits a b U
+emits_as a b T U f t = record { keeps = t.keeps; made = t.made; back = t.back; meant = λ x fits. f x (t.meant x fits) }
+
+-- it lies within the final code
+pub emits_within : (a b : Draft) (T : Meaning) → Emits a b T → Emits a b (λ x p q. T x p q × (q ≤ length x.code))
+emits_within a b T t = record {
+  keeps = t.keeps;
+  made = t.made;
+  back = t.back;
+  meant = λ x fits. (t.meant x fits, omega (arith, ap length fits.begins, length-append (code_of b x.word) fits.rest, written_long x.word b.bytes b.jumps));
+}
+
+set_get : (xs : List (Option ℕ)) (l : ℕ) (v : Option ℕ) → l < length xs → slice_get (slice_set xs l v) l ≡ Some v
+set_get [] l v h = absurd (omega arith)
+set_get (x ∷ xs) zero v h = refl
+set_get (x ∷ xs) (suc l) v h = set_get xs l v (omega arith)
+
+set_other : (xs : List (Option ℕ)) (k l : ℕ) (v : Option ℕ) → k ≢ l → slice_get (slice_set xs l v) k ≡ slice_get xs k
+set_other [] k l v h = refl
+set_other (x ∷ xs) zero zero v h = absurd (h refl)
+set_other (x ∷ xs) zero (suc l) v h = refl
+set_other (x ∷ xs) (suc k) zero v h = refl
+set_other (x ∷ xs) (suc k) (suc l) v h = set_other xs k l v (λ e. h (ap suc e))
+
+-- a label that was made in the piece gets its place at the end of it
+pub emits_here : (a b c : Draft) (T : Meaning) (l : ℕ) → Emits a b T → length a.places ≤ l → Places b c l → Emits a c (λ x p q. T x p q × (x.word l ≡ x.layout.target q))
+emits_here a b c T l t new put =
+    let place : Option ℕ = Some (length b.bytes) in
+    let at : (k : ℕ) → slice_get c.places k ≡ slice_get (slice_set b.places l place) k = λ k. ap (λ (ps : List (Option ℕ)). slice_get ps k) put.places in
+    let other : (k : ℕ) → k ≢ l → slice_get c.places k ≡ slice_get b.places k = λ k ne. at k ∙ set_other b.places k l place ne in
+    let same : (word : ℕ → ℕ) → code_of c word ≡ code_of b word = λ word. ap (λ (bs : List ℕ). written word bs c.jumps) put.bytes ∙ ap (written word b.bytes) put.jumps in
+    let earlier : (x : Final) → Fits c x → Fits b x = λ x fits. record {
+      rest = fits.rest;
+      begins = fits.begins ∙ ap (λ (code : List ℕ). code ++ fits.rest) (same x.word);
+      placed = λ k q h. fits.placed k q (other k (λ (e : k ≡ l). cc (h, e, put.was)) ∙ h);
+    } in
+    record {
+      keeps = λ k h. let within = slice_get_within a.places k None h in other k (λ (e : k ≡ l). omega (arith, within, e, new)) ∙ t.keeps k h;
+      made = omega (arith, t.made, ap (λ (ps : List (Option ℕ)). length ps) put.places, length-set b.places l place);
+      back = λ x fits. t.back x (earlier x fits);
+      meant = λ x fits.
+          subst (λ (q : ℕ). T x (length a.bytes) q × (x.word l ≡ x.layout.target q)) (sym (ap length put.bytes))
+          (t.meant x (earlier x fits), fits.placed l (length b.bytes) (at l ∙ set_get b.places l place (slice_get_within b.places l None put.was)));
+    }
+
+-- a new label at the end of the code
+pub mark_emits : (a b c : Draft) (l : ℕ) → Emits a b Nothing → Makes a b l → Places b c l → Emits a c (Marking l)
+mark_emits a b c l t makes put =
+    emits_as a c _ (Marking l) (λ x h. (h.0, h.1 ∙ ap x.layout.target (sym h.0))) (emits_here a b c Nothing l t (omega (arith, makes.is)) put)
+
+-- a piece behind a new label
+pub emits_fresh : (a b c : Draft) (T : Meaning) → Emits a b Nothing → Emits b c T → Emits a c T
+emits_fresh a b c T new t = emits_as a c _ T (λ x h. subst (λ (p : ℕ). T x p (length c.bytes)) (sym h.0) h.1) (emits_then a b c Nothing T new t)
+
+-- a piece behind a label that has its place there
+pub emits_mark : (a b c : Draft) (l : ℕ) (T : Meaning) → Emits a b (Marking l) → Emits b c T → Emits a c (λ x p q. (x.word l ≡ x.layout.target p) × T x p q)
+emits_mark a b c l T mark t = emits_as a c _ _ (λ x h. (h.0.1, subst (λ (p : ℕ). T x p (length c.bytes)) (sym h.0.0) h.1)) (emits_then a b c (Marking l) T mark t)
+
+-- what follows from what holds at an Ok
+pub with_ok : {T E P Q : Type 0} (r : Result T E) → (P → Q) → OnOk r P → OnOk r Q
+with_ok (Ok x) f h = f h
+with_ok (Err e) f h = tt

@@ -1,0 +1,191 @@
+-- How many bytes a translation has, however the places in its jumps are written.
+use Rattle.std.proofs.Common.{◌≡◌, ℕ, zero, suc, ◌+◌, ◌*◌, Bool, true, false, cond, if◌then◌else◌, List, [], ◌∷◌, ◌++◌, Option, Some, None, length, refl, sym, ap, ◌∙◌, arith}
+use Rattle.lil_base.specs.Words.{Whole, Cardinal, Integer, word_of}
+use Rattle.lil_base.specs.declared.operator.OneOp.{OneOp}
+use Rattle.lil_base.specs.declared.operator.OneOp.TheVariants as one
+use Rattle.lil_base.specs.declared.operator.TwoOp.{TwoOp}
+use Rattle.lil_base.specs.declared.operator.TwoOp.TheVariants.{Equal, In, Or, Slash, And}
+use Rattle.lil_resolved.specs.Kinds.{Kind, OfWhole, OfCharacter, base_of, compared_as, covers, shared, outside_turns}
+use Rattle.lil_resolved.specs.Resolved.{Variable, Function, Abs, Cap, Chr, Odd, Ord, Val, Expression, Constant, Taken, One, Two, Short, Apply, Argument, Label, Statement, Assign, Change, Request, If, Case, While, Repeat, Loop, Exit, Halt, Return, For, Statements, Empty, Then, Arms, NoElse, Else, Arm, Resolved, kind_of, counted_as}
+use Rattle.lil_resolved.specs.Depth.{frame_words}
+use Rattle.lil_resolved.specs.Sound.{takes_two}
+use Rattle.lil_resolved.specs.Sizes.{one_size, two_size, test_size, function_size, size, arguments_size, statement_size, body_size, arms_size, code_size}
+use Rattle.lil_asm.specs.declared.instr.Instr.{Instr}
+use Rattle.lil_asm.specs.declared.instr.Instr.TheVariants.{Liw, Dup, Drp, Llw, Sgw, Swp, Rgc, Lsi, Ent, Rtn, Jmp, Jpf, Cas, Fri, Frn, Trp, Svc}
+use Rattle.lil_asm.specs.Bytes.{bytes_of}
+use Rattle.lil_asm.specs.Decoding.{decoded_stands}
+use Rattle.lil_table.specs.Rows.{Layout, IsAt, InstrsAt, one_code, whole_code, two_code, range_code, test_code, function_code, change_operator, change_code, short_code, loop_place, loop_sign, ValueRow, EntriesAt, AlignAt, ExpressionAt, ArgumentsAt, StatementAt, BodyAt, ArmsAt, TranslatesBy}
+
+-- the bytes of an instruction, and of several
+abbrev pub instr_size : Instr → ℕ
+instr_size i = length (bytes_of i)
+
+abbrev pub instrs_size : List Instr → ℕ
+instrs_size [] = 0
+instrs_size (i ∷ is) = instr_size i + instrs_size is
+
+-- ---- the instructions of an operation
+instrs_both : (is js : List Instr) → instrs_size (is ++ js) ≡ instrs_size is + instrs_size js
+instrs_both [] js = omega arith
+instrs_both (i ∷ is) js = omega (arith, instrs_both is js)
+
+one_sized : (o : OneOp) (k : Kind) → instrs_size (one_code o k) ≡ one_size o
+one_sized one.Plus k = refl
+one_sized one.Minus k = refl
+one_sized one.Not k = refl
+
+two_sized : (o : TwoOp) (k : Kind) → takes_two o k ≡ true → instrs_size (two_code o k) ≡ two_size o
+two_sized o k h = sym (ap instrs_size (by_type o)) ∙ by o (compared_as k) h
+  where
+    by_type : (o : TwoOp) → two_code o (OfWhole (compared_as k)) ≡ two_code o k
+    by_type Equal = refl
+    by_type _ = refl
+
+    by : (o : TwoOp) (t : Whole) → takes_two o k ≡ true → instrs_size (two_code o (OfWhole t)) ≡ two_size o
+    by In t h = absurd (cc)
+    by Or t h = absurd (cc)
+    by Slash t h = absurd (cc)
+    by And t h = absurd (cc)
+    by _ Cardinal h = refl
+    by _ Integer h = refl
+
+short_sized : (d : Bool) (to : ℕ) → instr_size (short_code d to) ≡ 3
+short_sized true to = refl
+short_sized false to = refl
+
+test_sized : (k j : Kind) → instrs_size (test_code k j) ≡ test_size k j
+test_sized k j = by (covers k j) (compared_as j)
+  where
+    by : (b : Bool) (t : Whole) → instrs_size (cond b [] (range_code t (shared k j) ∷ [])) ≡ (if b then 0 else 5)
+    by true t = refl
+    by false Cardinal = refl
+    by false Integer = refl
+
+function_sized : (f : Function) (k : Kind) → instrs_size (function_code f k) ≡ function_size f k
+function_sized (Abs Cardinal) k = refl
+function_sized (Abs Integer) k = refl
+function_sized Cap k = refl
+function_sized Chr k = test_sized OfCharacter k
+function_sized Odd k = refl
+function_sized Ord k = test_sized (OfWhole Cardinal) k
+function_sized (Val j) k = test_sized j k
+
+change_sized : (down : Bool) (k : Kind) (offset : ℕ) → instrs_size (change_code down k offset) ≡ 5 + test_size k (OfWhole (counted_as k)) + 3
+change_sized down k offset =
+    omega (
+      arith,
+      instrs_both (whole_code (change_operator down) (counted_as k) ++ test_code k (OfWhole (counted_as k))) (Sgw offset ∷ []),
+      instrs_both (whole_code (change_operator down) (counted_as k)) (test_code k (OfWhole (counted_as k))),
+      by down (counted_as k),
+      test_sized k (OfWhole (counted_as k)),
+    )
+  where
+    by : (down : Bool) (t : Whole) → instrs_size (whole_code (change_operator down) t) ≡ 1
+    by false Cardinal = refl
+    by false Integer = refl
+    by true Cardinal = refl
+    by true Integer = refl
+
+-- ---- where they end
+pub instr_long : (code : List ℕ) (p : ℕ) (i : Instr) (q : ℕ) → IsAt code p i q → q ≡ p + instr_size i
+instr_long code p i q h = (decoded_stands code p (i, q) h).long
+
+pub instrs_long : (code : List ℕ) (is : List Instr) (p q : ℕ) → InstrsAt code is p q → q ≡ p + instrs_size is
+instrs_long code [] p q h = omega (arith, h)
+instrs_long code (i ∷ is) p q h = omega (arith, instr_long code p i h.0 h.1, instrs_long code is h.0 q h.2)
+
+test_long : (code : List ℕ) (k j : Kind) (p q : ℕ) → InstrsAt code (test_code k j) p q → q ≡ p + test_size k j
+test_long code k j p q h = omega (arith, instrs_long code (test_code k j) p q h, test_sized k j)
+
+pub expression_long : (l : Layout) (code : List ℕ) (e : Expression) (p q : ℕ) → ExpressionAt l code e p q → q ≡ p + size e
+expression_long l code (Constant k v) p q h = instr_long code p _ q h.load
+expression_long l code (Taken (Variable x k)) p q h = instr_long code p _ q h.load
+expression_long l code (One o k a) p q h =
+    omega (arith, expression_long l code a p h.middle h.first, instrs_long code (one_code o k) h.middle q h.by, one_sized o k)
+expression_long l code (Two o k a b) p q h =
+    omega (arith, expression_long l code a p h.middle h.first, expression_long l code b h.middle h.last h.second, instrs_long code (two_code o k) h.last q h.by, two_sized o k h.takes)
+expression_long l code (Short d a b) p q h =
+    omega (arith, expression_long l code a p h.middle h.first, instr_long code h.middle (short_code d (l.target q)) h.start h.test, short_sized d (l.target q), expression_long l code b h.start q h.second)
+expression_long l code (Apply f a) p q h =
+    omega (arith, expression_long l code a p h.middle h.first, instrs_long code (function_code f (kind_of a)) h.middle q h.by, function_sized f (kind_of a))
+
+value_long : (l : Layout) (code : List ℕ) (n : ℕ) (e : Expression) (k : Kind) (p q : ℕ) → ValueRow l code n e k p q → q ≡ p + (size e + test_size k (kind_of e))
+value_long l code n e k p q h = omega (arith, expression_long l code e p h.middle h.value.value, test_long code k (kind_of e) h.middle q h.test)
+
+arguments_long : (l : Layout) (code : List ℕ) (n : ℕ) (given : List Argument) (p q : ℕ) → ArgumentsAt l code n given p q → q ≡ p + arguments_size given
+arguments_long l code n [] p q h = omega (arith, h)
+arguments_long l code n (a ∷ given) p q h = omega (arith, value_long l code n a.value a.kind p h.middle h.value, arguments_long l code (suc n) given h.middle q h.then)
+
+align_long : (l : Layout) (code : List ℕ) (same turns : Bool) (p start q : ℕ) → AlignAt l code same turns p start q → start ≡ p + (if same then 0 else (if turns then 7 else 15))
+align_long l code true turns p start q h = omega (arith, h)
+align_long l code false true p start q h = instrs_long code (Swp ∷ Rgc 0 32767 ∷ Swp ∷ []) p start h
+align_long l code false false p start q h =
+    omega (arith, instrs_long code (Swp ∷ Dup ∷ Liw 0 ∷ Lsi ∷ []) p h.tested h.look, instr_long code h.tested (Jpf (l.target h.other)) h.skip h.jump, instrs_long code (Drp ∷ Drp ∷ []) h.skip h.dropped h.drop, instr_long code h.dropped (Jmp (l.target q)) h.other h.leave, instr_long code h.other Swp start h.back)
+
+-- the entries of an arm's labels, and those that are left
+entries_end : (code : List ℕ) (k : Kind) (labels : List Label) (to : ℕ) (rest : ℕ → ℕ → Type 0) (t w : ℕ) → EntriesAt code k labels to rest t w → (u : ℕ) × (v : ℕ) × (w ≡ length labels + v) × rest u v
+entries_end code k [] to rest t w h = (t, w, omega arith, h)
+entries_end code k (label ∷ labels) to rest t zero h = absurd h
+entries_end code k (label ∷ labels) to rest t (suc w) h =
+    let left = entries_end code k labels to rest (t + 6) w h.1 in
+    (left.0, left.1, omega (arith, left.2), left.3)
+
+mutual
+  pub statement_long : (l : Layout) (code : List ℕ) (n : ℕ) (exit : Option ℕ) (s : Statement) (p q : ℕ) → StatementAt l code n exit s p q → q ≡ p + statement_size s
+  statement_long l code n exit (Assign (Variable x k) e) p q h = omega (arith, value_long l code 0 e k p h.middle h.value, instr_long code h.middle (Sgw h.known.offset) q h.store)
+  statement_long l code n exit (Change down (Variable x k) e) p q h =
+      omega (arith, expression_long l code e p h.middle h.value.value, instrs_long code (change_code down k h.known.offset) h.middle q h.by, change_sized down k h.known.offset)
+  statement_long l code n exit (Request r given) p q h = omega (arith, arguments_long l code 0 given p h.middle h.arguments, instr_long code h.middle (Svc r) q h.by)
+  statement_long l code n exit (If c a b) p q h =
+      omega (arith, expression_long l code c p h.middle h.condition.value, instr_long code h.middle (Jpf (l.target h.other)) h.start h.jump, body_long l code n exit a h.start h.end h.chosen, instr_long code h.end (Jmp (l.target q)) h.other h.skip, body_long l code n exit b h.other q h.otherwise)
+  statement_long l code n exit (Case e arms) p q h =
+      omega (
+        arith,
+        expression_long l code e p h.middle h.value.value,
+        instr_long code h.middle (Jmp (l.target h.choices)) h.exit h.dispatch,
+        instr_long code h.exit (Jmp (l.target q)) h.start h.leave,
+        arms_long l code n exit (kind_of e) arms h.exit h.other h.choices h.start h.entries h.count h.bodies,
+        instr_long code h.choices (Cas h.count (l.target h.other)) h.entries h.choice,
+        h.whole,
+      )
+  statement_long l code n exit (While c body) p q h =
+      omega (arith, expression_long l code c p h.middle h.condition.value, instr_long code h.middle (Jpf (l.target q)) h.start h.jump, body_long l code n exit body h.start h.end h.here, instr_long code h.end (Jmp (l.target p)) q h.back)
+  statement_long l code n exit (Repeat body c) p q h =
+      omega (arith, body_long l code n exit body p h.end h.here, expression_long l code c h.end h.middle h.condition.value, instr_long code h.middle (Jpf (l.target p)) q h.back)
+  statement_long l code n exit (Loop body) p q h = omega (arith, body_long l code n (Some (l.target q)) body p h.end h.here, instr_long code h.end (Jmp (l.target p)) q h.back)
+  statement_long l code n exit Exit p q h = instr_long code p (Jmp h.to) q h.jump
+  statement_long l code n exit Halt p q h = instr_long code p (Trp 9) q h
+  statement_long l code n exit Return p q h = instr_long code p Rtn q h
+  statement_long l code n exit (For (Variable x k) a b step body) p q h =
+      let t = h.turns in
+      let r = t.round in
+      omega (
+        arith,
+        expression_long l code a p h.middle h.first.value,
+        expression_long l code b h.middle h.last h.limit.value,
+        align_long l code (covers (base_of k) (kind_of a)) (outside_turns (compared_as (base_of k)) step) h.last t.aligned q t.align,
+        instr_long code t.aligned (Liw (word_of step)) t.stepped t.load,
+        instr_long code t.stepped (Fri (loop_place n) (loop_sign (compared_as (base_of k))) (l.target q)) t.turn t.enter,
+        instr_long code t.turn (Llw (loop_place n)) r.loaded r.load,
+        test_long code k (base_of k) r.loaded r.tested r.test,
+        instr_long code r.tested (Sgw r.known.offset) r.start r.store,
+        body_long l code (suc n) exit body r.start r.end r.here,
+        instr_long code r.end (Frn (loop_place n) (l.target t.turn)) q r.next,
+      )
+
+  pub body_long : (l : Layout) (code : List ℕ) (n : ℕ) (exit : Option ℕ) (ss : Statements) (p q : ℕ) → BodyAt l code n exit ss p q → q ≡ p + body_size ss
+  body_long l code n exit Empty p q h = omega (arith, h)
+  body_long l code n exit (Then s ss) p q h = omega (arith, statement_long l code n exit s p h.middle h.here, body_long l code n exit ss h.middle q h.then)
+
+  -- the bodies of arms, and as many bytes as their entries have
+  arms_long : (l : Layout) (code : List ℕ) (n : ℕ) (exit : Option ℕ) (k : Kind) (arms : Arms) (leave other table p t w : ℕ) → ArmsAt l code n exit k arms leave other table p t w → table + 6 * w ≡ p + arms_size arms
+  arms_long l code n exit k NoElse leave other table p t w h = omega (arith, instr_long code p (Trp 7) table h.trap, h.none)
+  arms_long l code n exit k (Else body) leave other table p t w h = omega (arith, body_long l code n exit body p h.end h.here, instr_long code h.end (Jmp (l.target leave)) table h.leave, h.none)
+  arms_long l code n exit k (Arm labels body rest) leave other table p t w h =
+      let left = entries_end code k labels (l.target p) (ArmsAt l code n exit k rest leave other table h.gap) t w h.entries in
+      omega (arith, body_long l code n exit body p h.end h.here, instr_long code h.end (Jmp (l.target leave)) h.gap h.leave, left.2, arms_long l code n exit k rest leave other table h.gap left.0 left.1 left.3)
+
+-- any translation of a module has as many bytes as its size says
+pub module_long : (l : Layout) (m : Resolved) (code : List ℕ) → TranslatesBy l m code → length code ≡ code_size m
+module_long l m code h =
+    omega (arith, instr_long code 0 (Ent (frame_words m.body)) h.start h.enter, body_long l code 0 None m.body h.start h.end h.body, instr_long code h.end Rtn (length code) h.leave)

@@ -1,0 +1,19 @@
+-- What the code means that the generator of modules adds.
+use Rattle.std.specs.Prelude.{ℕ, None}
+use Rattle.lil_resolved.specs.Resolved.{Resolved}
+use Rattle.lil_resolved.specs.Depth.{frame_words}
+use Rattle.lil_asm.specs.declared.instr.Instr.TheVariants.{Ent, Rtn}
+use Rattle.lil_table.specs.Rows.{IsAt}
+use Rattle.lil_labels.specs.Drafts.{Final, Meaning}
+use Rattle.lil_stmt.specs.Generating.{Body}
+
+-- the statements of a module, with the instructions that enter and leave its body
+pub record FramedAt (m : Resolved) (x : Final) (p q : ℕ) : Type 0 where
+  pub start : ℕ
+  pub end : ℕ
+  pub enter : IsAt x.code p (Ent (frame_words m.body)) start
+  pub body : Body 0 None m.body x start end
+  pub leave : IsAt x.code end Rtn q
+
+abbrev pub Framed : Resolved → Meaning
+Framed m x p q = FramedAt m x p q
