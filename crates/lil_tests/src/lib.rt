@@ -8,18 +8,6 @@ mod base;
 #[cfg(test)]
 mod kernel;
 #[cfg(test)]
-mod kinds;
-#[cfg(test)]
-mod layout;
-#[cfg(test)]
-mod lexer;
-#[cfg(test)]
-mod made;
-#[cfg(test)]
 mod mcode;
-#[cfg(test)]
-mod resolved;
-#[cfg(test)]
-mod types;
 #[cfg(test)]
 mod volume;

@@ -1,12 +1,11 @@
-use crate::made::name;
-use lil_base::{Bytes, Memory, TrapKind};
+use lil_base::{Bytes, Memory, Name, TrapKind};
 use lil_mcode::{Event, Machine};
 use std::alloc::Global;
 
 // A machine at the body of a module with two data words.
 fn begun(alloc: Global, code: &[u8; 32]) -> Result<Machine, Memory> {
     let mut machine = Machine::new(alloc)?;
-    let name = name(alloc, b"Main")?;
+    let name = Name::of_slice(alloc, b"Main")?.ok_or(Memory)?;
     let code = Bytes::from_slice(alloc, code)?;
     let procedures = vec![in alloc; (0u16, None)]?;
     let bodies = vec![in alloc; 1u8]?;
