@@ -5,19 +5,19 @@ use Rattle.lil_resolved.specs.Kinds.{Kind}
 use Rattle.lil_resolved.specs.Scalars.{Scalar, within}
 use Rattle.lil_resolved.specs.Resolved.{Variable, Expression, Constant, Taken, One, Two, Short, Apply, Assign, Change, Request, If, Case, While, Repeat, Loop, Exit, Halt, Return, For, Statements}
 use Rattle.lil_meaning.specs.Cells.{Place}
-use Rattle.lil_meaning.specs.Items.{Scalars, Places, Hole, Get, SetTo, StoreAt, ChangeBy, ChangeAt, OneOf, LeftOf, RightOf, ShortOf, ApplyTo, Pass, Choose, Turn, Again, Pick, StartOf, LimitOf, Task, Do, Passing, Until, Looping, Turns, End, Item, Value, Evaluate, PlaceOf, Fill, Perform, Source}
+use Rattle.lil_meaning.specs.Items.{Scalars, Places, Wholes, Opens, Hole, Get, SetTo, StoreAt, ChangeBy, ChangeAt, OneOf, LeftOf, RightOf, ShortOf, ApplyTo, Pass, Choose, Turn, Again, Pick, StartOf, LimitOf, Task, Do, Passing, Until, Looping, Turns, End, Item, Value, Evaluate, PlaceOf, Fill, Perform, Source}
 use Rattle.lil_mcode.specs.State.{State}
 use Rattle.lil_mcode.specs.Table.{going}
 use Rattle.lil_match.specs.Homes.{word_for}
-use Rattle.lil_match.specs.Goes.{HasFors, Shared, Goes}
-use Rattle.lil_match.specs.Waits.{Setting, Mode, Quiet, ValueOf, Direct, Around, Reach, AfterJumps, BeginWaits, NextWaits, ItemWaits, Rows, Ahead, IsVariable, Waiting}
+use Rattle.lil_match.specs.Goes.{Shared, Goes}
+use Rattle.lil_match.specs.Waits.{Setting, frame_of, Mode, Quiet, ValueOf, Direct, Around, Reach, AfterJumps, BeginWaits, NextWaits, ItemWaits, RowsOf, Rows, Ahead, IsVariable, Waiting}
 use Rattle.lil_match.specs.Steps.{jumped}
 use Rattle.lil_laws_expr.specs.Expressions.{constant_goes, taken_goes, one_goes, two_goes, short_begins, apply_goes, place_goes, get_goes, one_of_goes, left_goes, right_goes, short_of_goes, apply_of_goes}
-use Rattle.lil_laws_stmt.specs.Tasks.{assign_goes, set_goes, store_goes, request_goes, passing_goes, pass_goes, serve_goes, end_goes, ended_goes}
+use Rattle.lil_laws_stmt.specs.Tasks.{assign_goes, set_goes, store_goes, request_goes, passing_goes, pass_goes, serve_goes}
 use Rattle.lil_laws_stmt.specs.Control.{if_goes, choose_goes, while_goes, turn_goes, repeat_goes, until_goes, again_goes, loop_goes, looping_goes}
 use Rattle.lil_laws_stmt.specs.Changes.{change_goes, change_by_goes, change_at_goes}
 use Rattle.lil_laws_stmt.specs.Exits.{exit_goes}
-use Rattle.lil_laws_stmt.specs.Leaving.{halt_goes, return_goes}
+use Rattle.lil_laws_stmt.specs.Ends.{halt_goes, return_goes, end_goes, ended_goes}
 use Rattle.lil_laws_stmt.specs.Cases.{case_goes, pick_goes}
 use Rattle.lil_laws_stmt.specs.Fors.{for_goes, start_goes, limit_goes, next_goes}
 use Rattle.lil_laws_stmt.specs.Begins.{begin_goes}
@@ -29,132 +29,117 @@ direct_quiet : (n : ℕ) (k : Kind) → Direct n k ≡ Quiet → ⊥
 direct_quiet n k e = cc
 
 module _ (ctx : Setting) where
-  open ctx use {modules, table, own, number, home as h}
+  open ctx use {modules, table, home as h}
+  open frame_of ctx use {own, number}
 
-  -- what all stacks share stays where the place changes alone
-  shared_at : (s : Source) (m : State) (q : ℕ) → Shared ctx s m → Shared ctx s (going m q m.stack)
-  shared_at s m q shared = record {
-    mem = shared.mem;
-    laid = shared.laid;
-    program = record {
-      table_is = shared.program.table_is;
-      known = shared.program.known;
-      running_is = shared.program.running_is;
-      marked = shared.program.marked;
-      body = shared.program.body;
-      last = shared.program.last;
-    };
-    frame = record { room = shared.frame.room; free = shared.frame.free };
-    owner = shared.owner;
-    parked = shared.parked;
-  }
-
-  module _ (s : Source) (k : List Item) (m : State) (c : ℕ) (a : Around) (shared : Shared ctx s m) (fors : HasFors ctx m.frame m.store a.fors) where
+  module _ (s : Source) (k : List Item) (m : State) (c : ℕ) (a : Around) (shared : Shared ctx s m) where
     -- a value goes into a hole
     scalar_step : (v : Scalar) (o : Hole) (kind : Kind) → within kind v ≡ true → (below : List ℕ) → m.stack ≡ word_for h v ∷ below
         → Waiting ctx (Fill o) (Rows ctx k) (ValueOf kind) m.place below c a → Goes ctx s (Value (Scalars v) ∷ Fill o ∷ k) m (c + 32)
-    scalar_step v (StoreAt place j) kind fits below is r = store_goes ctx s k m c a shared fors place j v kind fits below is r
-    scalar_step v (ChangeAt down place j) kind fits below is r = change_at_goes ctx s k m c a shared fors down place j v kind fits below is r
-    scalar_step v (OneOf o j) kind fits below is r = one_of_goes ctx s k m c a shared fors o j v kind fits below is r
-    scalar_step v (LeftOf o j f) kind fits below is r = left_goes ctx s k m c a shared fors o j f v kind fits below is r
-    scalar_step v (RightOf o j u) kind fits below is r = right_goes ctx s k m c a shared fors o j u v kind fits below is r
-    scalar_step v (ShortOf d f) kind fits below is r = short_of_goes ctx s k m c a shared fors d f v kind fits below is r
-    scalar_step v (ApplyTo f) kind fits below is r = apply_of_goes ctx s k m c a shared fors f v kind fits below is r
-    scalar_step v (Pass q j done left) kind fits below is r = pass_goes ctx s k m c a shared fors q j done left v kind fits below is r
-    scalar_step v (Choose first second) kind fits below is r = choose_goes ctx s k m c a shared fors first second v kind fits below is r
-    scalar_step v (Turn e body) kind fits below is r = turn_goes ctx s k m c a shared fors e body v kind fits below is r
-    scalar_step v (Again body e) kind fits below is r = again_goes ctx s k m c a shared fors body e v kind fits below is r
-    scalar_step v (Pick arms) kind fits below is r = pick_goes ctx s k m c a shared fors arms v kind fits below is r
-    scalar_step v (StartOf (Variable x j) b step body) kind fits below is r = start_goes ctx s k m c a shared fors x j b step body v kind fits below is r
-    scalar_step v (LimitOf (Variable x j) u step body) kind fits below is r = limit_goes ctx s k m c a shared fors x j u step body v kind fits below is r
+    scalar_step v (StoreAt place j) kind fits below is r = store_goes ctx s k m c a shared place j v kind fits below is r
+    scalar_step v (ChangeAt down place j) kind fits below is r = change_at_goes ctx s k m c a shared down place j v kind fits below is r
+    scalar_step v (OneOf o j) kind fits below is r = one_of_goes ctx s k m c a shared o j v kind fits below is r
+    scalar_step v (LeftOf o j f) kind fits below is r = left_goes ctx s k m c a shared o j f v kind fits below is r
+    scalar_step v (RightOf o j u) kind fits below is r = right_goes ctx s k m c a shared o j u v kind fits below is r
+    scalar_step v (ShortOf d f) kind fits below is r = short_of_goes ctx s k m c a shared d f v kind fits below is r
+    scalar_step v (ApplyTo f) kind fits below is r = apply_of_goes ctx s k m c a shared f v kind fits below is r
+    scalar_step v (Pass q j done left) kind fits below is r = pass_goes ctx s k m c a shared q j done left v kind fits below is r
+    scalar_step v (Choose first second) kind fits below is r = choose_goes ctx s k m c a shared first second v kind fits below is r
+    scalar_step v (Turn e body) kind fits below is r = turn_goes ctx s k m c a shared e body v kind fits below is r
+    scalar_step v (Again body e) kind fits below is r = again_goes ctx s k m c a shared body e v kind fits below is r
+    scalar_step v (Pick arms) kind fits below is r = pick_goes ctx s k m c a shared arms v kind fits below is r
+    scalar_step v (StartOf (Variable x j) b step body) kind fits below is r = start_goes ctx s k m c a shared x j b step body v kind fits below is r
+    scalar_step v (LimitOf (Variable x j) u step body) kind fits below is r = limit_goes ctx s k m c a shared x j u step body v kind fits below is r
     scalar_step v o kind fits below is r = absurd r.part
 
     -- a place goes into a hole
     place_step : (place : Place) (o : Hole) (kind : Kind) (offset : ℕ) → IsVariable ctx place offset kind
         → Waiting ctx (Fill o) (Rows ctx k) (Direct offset kind) m.place m.stack c a → Goes ctx s (Value (Places place) ∷ Fill o ∷ k) m (c + 32)
-    place_step place Get kind offset variable r = get_goes ctx s k m c a shared fors place kind offset variable r
-    place_step place (SetTo j e) kind offset variable r = set_goes ctx s k m c a shared fors j e place kind offset variable r
-    place_step place (ChangeBy down j e) kind offset variable r = change_by_goes ctx s k m c a shared fors down j e place kind offset variable r
+    place_step place Get kind offset variable r = get_goes ctx s k m c a shared place kind offset variable r
+    place_step place (SetTo j e) kind offset variable r = set_goes ctx s k m c a shared j e place kind offset variable r
+    place_step place (ChangeBy down j e) kind offset variable r = change_by_goes ctx s k m c a shared down j e place kind offset variable r
     place_step place o kind offset variable r = absurd r.part
 
     expression_step : (e : Expression) → Waiting ctx (Evaluate e) (Rows ctx k) Quiet m.place m.stack c a → Goes ctx s (Evaluate e ∷ k) m (c + 32)
-    expression_step (Constant kind v) r = constant_goes ctx s k m c a shared fors kind v r
-    expression_step (Taken (Variable x kind)) r = taken_goes ctx s k m c a shared fors x kind r
-    expression_step (One o kind e) r = one_goes ctx s k m c a shared fors o kind e r
-    expression_step (Two o kind e f) r = two_goes ctx s k m c a shared fors o kind e f r
-    expression_step (Short d e f) r = short_begins ctx s k m c a shared fors d e f r
-    expression_step (Apply f e) r = apply_goes ctx s k m c a shared fors f e r
+    expression_step (Constant kind v) r = constant_goes ctx s k m c a shared kind v r
+    expression_step (Taken (Variable x kind)) r = taken_goes ctx s k m c a shared x kind r
+    expression_step (One o kind e) r = one_goes ctx s k m c a shared o kind e r
+    expression_step (Two o kind e f) r = two_goes ctx s k m c a shared o kind e f r
+    expression_step (Short d e f) r = short_begins ctx s k m c a shared d e f r
+    expression_step (Apply f e) r = apply_goes ctx s k m c a shared f e r
 
-    task_step : (t : Task) → ItemWaits ctx (Perform t) k (Rows ctx k) Quiet m.place m.stack c a → Goes ctx s (Perform t ∷ k) m (c + 32)
-    task_step (Do (Assign (Variable x kind) e)) r = assign_goes ctx s k m c a shared fors x kind e r
-    task_step (Do (Change down (Variable x kind) e)) r = change_goes ctx s k m c a shared fors down x kind e r
-    task_step (Do (Request q given)) r = request_goes ctx s k m c a shared fors q given r
-    task_step (Do (If e first second)) r = if_goes ctx s k m c a shared fors e first second r
-    task_step (Do (Case e arms)) r = case_goes ctx s k m c a shared fors e arms r
-    task_step (Do (While e body)) r = while_goes ctx s k m c a shared fors e body r
-    task_step (Do (Repeat body e)) r = repeat_goes ctx s k m c a shared fors body e r
-    task_step (Do (Loop body)) r = loop_goes ctx s k m c a shared fors body r
-    task_step (Do Exit) r = exit_goes ctx s k m c a shared fors r
-    task_step (Do Halt) r = halt_goes ctx s k m c a shared fors r
-    task_step (Do Return) r = return_goes ctx s k m c a shared fors r
-    task_step (Do (For (Variable x kind) e f step body)) r = for_goes ctx s k m c a shared fors x kind e f step body r
-    task_step (Passing q done []) r = serve_goes ctx s k m c a shared fors q done r
-    task_step (Passing q done (x ∷ left)) r = passing_goes ctx s k m c a shared fors q done x left r
-    task_step (Until body e) r = until_goes ctx s k m c a shared fors body e r
-    task_step (Looping body) r = looping_goes ctx s k m c a shared fors body r
+    task_step : (t : Task) → ItemWaits ctx (Perform t) k (RowsOf k) Quiet m.place m.stack c a → Goes ctx s (Perform t ∷ k) m (c + 32)
+    task_step (Do (Assign (Variable x kind) e)) r = assign_goes ctx s k m c a shared x kind e r
+    task_step (Do (Change down (Variable x kind) e)) r = change_goes ctx s k m c a shared down x kind e r
+    task_step (Do (Request q given)) r = request_goes ctx s k m c a shared q given r
+    task_step (Do (If e first second)) r = if_goes ctx s k m c a shared e first second r
+    task_step (Do (Case e arms)) r = case_goes ctx s k m c a shared e arms r
+    task_step (Do (While e body)) r = while_goes ctx s k m c a shared e body r
+    task_step (Do (Repeat body e)) r = repeat_goes ctx s k m c a shared body e r
+    task_step (Do (Loop body)) r = loop_goes ctx s k m c a shared body r
+    task_step (Do Exit) r = exit_goes ctx s k m c a shared r
+    task_step (Do Halt) r = halt_goes ctx s k m c a shared r
+    task_step (Do Return) r = return_goes ctx s k m c a shared r
+    task_step (Do (For (Variable x kind) e f step body)) r = for_goes ctx s k m c a shared x kind e f step body r
+    task_step (Passing q done []) r = serve_goes ctx s k m c a shared q done r
+    task_step (Passing q done (x ∷ left)) r = passing_goes ctx s k m c a shared q done x left r
+    task_step (Until body e) r = until_goes ctx s k m c a shared body e r
+    task_step (Looping body) r = looping_goes ctx s k m c a shared body r
     task_step (Turns (Variable x kind) z step left body) r =
-        ⊎_elim (λ r. begin_goes ctx s k m c a shared fors x kind z step left body r) (λ r. next_goes ctx s k m c a shared fors x kind z step left body r) r
-    task_step (End n) r = end_goes ctx s k m c a shared fors n r
+        ⊎_elim (λ r. begin_goes ctx s k m c a shared x kind z step left body r) (λ r. next_goes ctx s k m c a shared x kind z step left body r) r
+    task_step (End n) r = end_goes ctx s k m c a shared n r
 
   -- an item into which no value comes
   no_turns : (x : ℕ) (kind : Kind) (z step : ℤ) (left : ℕ) (body : Statements) (rest : Reach) (t : Mode) (p : ℕ) (stack : List ℕ) (c : ℕ) (a : Around) → (t ≡ Quiet → ⊥)
       → BeginWaits ctx x kind z step left body rest t p stack c a ⊎ NextWaits ctx x kind z step left body rest t p stack c a → ⊥
   no_turns x kind z step left body rest t p stack c a apart r = ⊎_elim (λ (b : BeginWaits ctx x kind z step left body rest t p stack c a). apart b.quiet) (λ (n : NextWaits ctx x kind z step left body rest t p stack c a). apart n.quiet) r
 
-  no_task : (t : Task) (k : List Item) (mode : Mode) (p : ℕ) (stack : List ℕ) (c : ℕ) (a : Around) → (mode ≡ Quiet → ⊥) → ItemWaits ctx (Perform t) k (Rows ctx k) mode p stack c a → ⊥
+  no_task : (t : Task) (k : List Item) (mode : Mode) (p : ℕ) (stack : List ℕ) (c : ℕ) (a : Around) → (mode ≡ Quiet → ⊥) → ItemWaits ctx (Perform t) k (RowsOf k) mode p stack c a → ⊥
   no_task (Turns (Variable x kind) z step left body) k mode p stack c a apart r = no_turns x kind z step left body (Rows ctx k) mode p stack c a apart r
   no_task (Looping body) k mode p stack c a apart r = apart r.quiet
   no_task (End n) k mode p stack c a apart r = apart r.quiet
   no_task t k Quiet p stack c a apart r = apart refl
   no_task t k mode p stack c a apart r = r.part
 
-  module _ (s : Source) (m : State) (c : ℕ) (a : Around) (shared : Shared ctx s m) (fors : HasFors ctx m.frame m.store a.fors) where
+  module _ (s : Source) (m : State) (c : ℕ) (a : Around) (shared : Shared ctx s m) where
     -- what goes from where the jumps lead
-    from_there : (k : List Item) (row : Reach) (t : Mode) (stack : List ℕ) (r : AfterJumps ctx row t m.place stack c a)
+    from_there : (k : List Item) (row : Reach) (t : Mode) (stack : List ℕ) (r : AfterJumps own.code row t m.place stack c a)
         → Goes ctx s k (going m r.start m.stack) (r.later + 32) → Goes ctx s k m (c + 32)
     from_there k row t stack r goes = jumped ctx s k r.jumps m r.start (c + 32) (r.later + 32) shared.program r.way goes (omega (arith, r.count))
 
-  value_row : (s : Source) (m : State) (c : ℕ) (a : Around) → Shared ctx s m → HasFors ctx m.frame m.store a.fors → (v : Scalar) (i : Item) (k : List Item)
+  value_row : (s : Source) (m : State) (c : ℕ) (a : Around) → Shared ctx s m → (v : Scalar) (i : Item) (k : List Item)
       → Waiting ctx (Value (Scalars v)) (Rows ctx (i ∷ k)) Quiet m.place m.stack c a → Goes ctx s (Value (Scalars v) ∷ i ∷ k) m (c + 32)
-  value_row s m c a shared fors v (Fill o) k r =
-      from_there s m c a shared fors (Value (Scalars v) ∷ Fill o ∷ k) (Waiting ctx (Fill o) (Rows ctx k)) (ValueOf r.part.kind) r.part.below r.then
-      (scalar_step s k (going m r.then.start m.stack) r.then.later a (shared_at s m r.then.start shared) fors v o r.part.kind r.part.fits r.part.below r.part.is r.then.there)
-  value_row s m c a shared fors v (Perform t) k r = absurd (no_task t k (ValueOf r.part.kind) _ _ _ _ (value_quiet r.part.kind) r.then.there)
-  value_row s m c a shared fors v i k r = absurd r.then.there.part
+  value_row s m c a shared v (Fill o) k r =
+      from_there s m c a shared (Value (Scalars v) ∷ Fill o ∷ k) (Waiting ctx (Fill o) (Rows ctx k)) (ValueOf r.part.kind) r.part.below r.then
+      (scalar_step s k (going m r.then.start m.stack) r.then.later a shared v o r.part.kind r.part.fits r.part.below r.part.is r.then.there)
+  value_row s m c a shared v (Perform t) k r = absurd (no_task t k (ValueOf r.part.kind) _ _ _ _ (value_quiet r.part.kind) r.then.there)
+  value_row s m c a shared v i k r = absurd r.then.there.part
 
-  place_row : (s : Source) (m : State) (c : ℕ) (a : Around) → Shared ctx s m → HasFors ctx m.frame m.store a.fors → (place : Place) (i : Item) (k : List Item)
+  place_row : (s : Source) (m : State) (c : ℕ) (a : Around) → Shared ctx s m → (place : Place) (i : Item) (k : List Item)
       → Waiting ctx (Value (Places place)) (Rows ctx (i ∷ k)) Quiet m.place m.stack c a → Goes ctx s (Value (Places place) ∷ i ∷ k) m (c + 32)
-  place_row s m c a shared fors place (Fill o) k r =
-      from_there s m c a shared fors (Value (Places place) ∷ Fill o ∷ k) (Waiting ctx (Fill o) (Rows ctx k)) (Direct r.part.offset r.part.kind) m.stack r.then
-      (place_step s k (going m r.then.start m.stack) r.then.later a (shared_at s m r.then.start shared) fors place o r.part.kind r.part.offset r.part.variable r.then.there)
-  place_row s m c a shared fors place (Perform t) k r = absurd (no_task t k (Direct r.part.offset r.part.kind) _ _ _ _ (direct_quiet r.part.offset r.part.kind) r.then.there)
-  place_row s m c a shared fors place i k r = absurd r.then.there.part
+  place_row s m c a shared place (Fill o) k r =
+      from_there s m c a shared (Value (Places place) ∷ Fill o ∷ k) (Waiting ctx (Fill o) (Rows ctx k)) (Direct r.part.offset r.part.kind) m.stack r.then
+      (place_step s k (going m r.then.start m.stack) r.then.later a shared place o r.part.kind r.part.offset r.part.variable r.then.there)
+  place_row s m c a shared place (Perform t) k r = absurd (no_task t k (Direct r.part.offset r.part.kind) _ _ _ _ (direct_quiet r.part.offset r.part.kind) r.then.there)
+  place_row s m c a shared place i k r = absurd r.then.there.part
 
   -- an item at whose code the machine is
-  item_step : (s : Source) (m : State) (c : ℕ) (a : Around) → Shared ctx s m → HasFors ctx m.frame m.store a.fors → (i : Item) (k : List Item)
-      → ItemWaits ctx i k (Rows ctx k) Quiet m.place m.stack c a → Goes ctx s (i ∷ k) m (c + 32)
-  item_step s m c a shared fors (Value (Scalars v)) (i ∷ k) r = value_row s m c a shared fors v i k r
-  item_step s m c a shared fors (Value (Places p)) (i ∷ k) r = place_row s m c a shared fors p i k r
-  item_step s m c a shared fors (Evaluate e) k r = expression_step s k m c a shared fors e r
-  item_step s m c a shared fors (PlaceOf (Variable x kind)) k r = place_goes ctx s k m c a shared fors x kind r
-  item_step s m c a shared fors (Fill o) k r = absurd r.part
-  item_step s m c a shared fors (Perform t) k r = task_step s k m c a shared fors t r
-  item_step s m c a shared fors _ _ r = absurd r.then
+  item_step : (s : Source) (m : State) (c : ℕ) (a : Around) → Shared ctx s m → (i : Item) (k : List Item)
+      → ItemWaits ctx i k (RowsOf k) Quiet m.place m.stack c a → Goes ctx s (i ∷ k) m (c + 32)
+  item_step s m c a shared (Value (Scalars v)) (i ∷ k) r = value_row s m c a shared v i k r
+  item_step s m c a shared (Value (Places p)) (i ∷ k) r = place_row s m c a shared p i k r
+  item_step s m c a shared (Value (Wholes u)) k r = absurd r.part
+  item_step s m c a shared (Value (Opens p n)) k r = absurd r.part
+  item_step s m c a shared (Evaluate e) k r = expression_step s k m c a shared e r
+  item_step s m c a shared (PlaceOf (Variable x kind)) k r = place_goes ctx s k m c a shared x kind r
+  item_step s m c a shared (Fill o) k r = absurd r.part
+  item_step s m c a shared (Perform t) k r = task_step s k m c a shared t r
+  item_step s m c a shared _ _ r = absurd r.then
 
   -- THE STEP
-  pub each_step : (s : Source) (m : State) (c : ℕ) (a : Around) → Shared ctx s m → HasFors ctx m.frame m.store a.fors → (k : List Item)
+  pub each_step : (s : Source) (m : State) (c : ℕ) (a : Around) → Shared ctx s m → (k : List Item)
       → Ahead ctx k Quiet m.place m.stack c a → Goes ctx s k m (c + 32)
-  each_step s m c a shared fors [] r = ended_goes ctx s m c a shared r
-  each_step s m c a shared fors (i ∷ k) r =
-      from_there s m c a shared fors (i ∷ k) (ItemWaits ctx i k (Rows ctx k)) Quiet m.stack r
-      (item_step s (going m r.start m.stack) r.later a (shared_at s m r.start shared) fors i k r.there)
+  each_step s m c a shared [] r = ended_goes ctx s m c a shared r
+  each_step s m c a shared (i ∷ k) r =
+      from_there s m c a shared (i ∷ k) (ItemWaits ctx i k (RowsOf k)) Quiet m.stack r
+      (item_step s (going m r.start m.stack) r.later a shared i k r.there)

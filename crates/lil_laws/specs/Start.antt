@@ -1,20 +1,22 @@
 -- From a loaded program.
-use Rattle.std.proofs.Common.{◌≡◌, ℕ, zero, suc, ◌+◌, ◌-◌, ◌*◌, ◌<◌, ◌≤◌, Bool, true, false, cond, Option, Some, None, List, [], ◌∷◌, length, get_or, refl, sym, ap, ◌∙◌, subst, arith}
+use Rattle.std.proofs.Common.{◌≡◌, ℕ, zero, suc, ◌+◌, ◌-◌, ◌*◌, ◌<◌, ◌≤◌, true, cond, Option, Some, None, List, [], ◌∷◌, length, get_or, refl, sym, ap, ◌∙◌, subst, arith}
 use Rattle.std.specs.Prelude.{pos, slice_get, nat_lt, nat_le}
-use Rattle.std.proofs.lemmas.Bool.{le-leb, le-ltb, lt-ltb, ltb-true}
+use Rattle.std.proofs.lemmas.Bool.{le-leb, le-ltb, lt-ltb}
 use Rattle.std.proofs.lemmas.Int.{ints}
 use Rattle.std.proofs.lemmas.Option.{slice_get_within}
 use Rattle.lil_base.specs.Words.{Cardinal, between}
 use Rattle.lil_resolved.specs.Kinds.{Kind, OfWhole, OfEnumeration, OfRange, base_of}
 use Rattle.lil_resolved.specs.Scalars.{within, scalar_word, zero_of}
 use Rattle.lil_resolved.specs.Resolved.{Statement, Assign, If, Case, While, Repeat, Loop, For, Statements, Empty, Then, Arms, NoElse, Else, Arm, Resolved}
-use Rattle.lil_meaning.specs.Cells.{Root, Global, Local, Object, zero_by, fresh_cells}
+use Rattle.lil_base.specs.declared.fault.TrapKind.{TrapKind}
+use Rattle.lil_meaning.specs.Shapes.{Shape, Absent, Word, words, part_at, offset}
+use Rattle.lil_meaning.specs.Cells.{Root, Global, Local, Object, shape_by, zero_in, fresh_cells}
 use Rattle.lil_meaning.specs.World.{World}
-use Rattle.lil_meaning.specs.Items.{Perform, End, doing}
-use Rattle.lil_meaning.specs.Runs.{begun}
+use Rattle.lil_meaning.specs.Items.{Perform, End, Phase, Trapped, doing}
+use Rattle.lil_meaning.specs.Runs.{begun, body_activations}
 use Rattle.lil_asm.specs.declared.instr.Instr.TheVariants.{Rtn}
 use Rattle.lil_mcode.specs.declared.machine.Event.TheVariants.{Went}
-use Rattle.lil_mcode.specs.State.{Module, State, spliced, zeros, cleared}
+use Rattle.lil_mcode.specs.State.{Module, State, module_at, spliced, zeros, cleared}
 use Rattle.lil_mcode.specs.Table.{begun_body}
 use Rattle.lil_resolved.specs.Depth.{statement_loops, body_loops, arms_loops, frame_words}
 use Rattle.lil_resolved.specs.Sizes.{IsSmall, statement_size, body_size, arms_size}
@@ -22,52 +24,73 @@ use Rattle.lil_table.specs.Rows.{offsets_from, layout_of, Translates}
 use Rattle.lil_match.specs.Running.{Run, mrun, running, advanced}
 use Rattle.lil_laws.specs.Loading.{body_alone, loaded}
 use Rattle.lil_meaning.specs.Runs.{state_of}
-use Rattle.lil_match.specs.Homes.{word_for, plain_word, yes, no, Type', Absent, Word, Owner, Of, Own, Free, Home, Mem}
+use Rattle.lil_match.specs.Parts.{yes, no}
+use Rattle.lil_match.specs.Homes.{word_for, plain_word, Owner, Of, Own, Free, Home, Mem}
 use Rattle.lil_match.specs.Goes.{Shared}
-use Rattle.lil_match.specs.Waits.{Setting, Quiet, Around, Ahead}
+use Rattle.lil_match.specs.Waits.{Frame, Setting, Quiet, outside, Ahead}
 use Rattle.lil_match.specs.Steps.{advances, at_once, rows_ahead}
 use Rattle.lil_match.specs.Orders.{instr_within}
 use Rattle.lil_laws_stmt.specs.Control.{body_rows}
-use Rattle.lil_laws.specs.Splices.{spliced_length, spliced_before, spliced_there, zeros_length, zeros_word}
-use Rattle.lil_laws.specs.Whole.{Agrees, still_agrees, follows, reaches}
-
-abbrev typed_by : Option Kind → Type'
-typed_by None = Absent
-typed_by (Some k) = Word k
+use Rattle.lil_match.specs.Splices.{spliced_length, spliced_before, spliced_there, zeros_length, zeros_word}
+use Rattle.lil_laws.specs.Whole.{TrapsIn, Agrees, still_agrees, follows, reaches}
 
 -- the home of a program module whose data begin at word 1
-abbrev type_of : List Kind → Root → Type'
-type_of kinds (Global zero x) = Absent
-type_of kinds (Global (suc zero) x) = typed_by (slice_get kinds x)
-type_of kinds (Global (suc (suc m)) x) = Absent
-type_of kinds (Local a x) = Absent
-type_of kinds (Object o) = Absent
+abbrev shape_in : List Kind → Root → Shape
+shape_in kinds (Global (suc zero) x) = shape_by (slice_get kinds x)
+shape_in kinds _ = Absent
 
 abbrev place_of : Root → ℕ
 place_of (Global m x) = 1 + x
-place_of (Local a x) = 0
-place_of (Object o) = 0
+place_of _ = 0
 
--- data, then the mark of the body, then room
-abbrev owner_at : ℕ → ℕ → Owner
-owner_at n a =
+-- data, then the frame of the body, then room
+abbrev owner_at : ℕ → ℕ → ℕ → Owner
+owner_at n size a =
     cond (nat_lt a 1) (Free (1 + n))
     (cond (nat_lt a (1 + n)) (Of (Global 1 (a - 1)))
-    (cond (nat_lt a (5 + n)) Own (Free (1 + n))))
+    (cond (nat_lt a (1 + n + size)) Own (Free (1 + n))))
 
-typed_some : (o : Option Kind) (k : Kind) → typed_by o ≡ Word k → o ≡ Some k
-typed_some None k e = cc
-typed_some (Some j) k e = let same : j ≡ k = cc in ap Some same
+shape_some : (o : Option Kind) (q : List ℕ) (k : Kind) → part_at (shape_by o) q ≡ Word k → (o ≡ Some k) × (q ≡ [])
+shape_some (Some j) [] k e = let same : j ≡ k = cc in (ap Some same, refl)
+shape_some None [] k e = cc
+shape_some None (x ∷ q) k e = cc
+shape_some (Some j) (x ∷ q) k e = cc
 
 -- which roots live
-pub record Lives (kinds : List Kind) (r : Root) (k : Kind) : Type 0 where
+pub record Lives (kinds : List Kind) (r : Root) (q : List ℕ) (k : Kind) : Type 0 where
   pub x : ℕ
   pub is : r ≡ Global 1 x
+  pub path : q ≡ []
   pub typed : slice_get kinds x ≡ Some k
 
-lives : (kinds : List Kind) (r : Root) (k : Kind) → type_of kinds r ≡ Word k → Lives kinds r k
-lives kinds (Global (suc zero) x) k e = record { x = x; is = refl; typed = typed_some (slice_get kinds x) k e }
-lives kinds _ k e = cc
+absent_none : (q : List ℕ) (k : Kind) → part_at Absent q ≡ Word k → ⊥
+absent_none [] k e = cc
+absent_none (x ∷ q) k e = cc
+
+lives : (kinds : List Kind) (r : Root) (q : List ℕ) (k : Kind) → part_at (shape_in kinds r) q ≡ Word k → Lives kinds r q k
+lives kinds (Global (suc zero) x) q k e = let o = shape_some (slice_get kinds x) q k e in record { x = x; is = refl; path = o.1; typed = o.0 }
+lives kinds (Global zero x) q k e = absurd (absent_none q k e)
+lives kinds (Global (suc (suc m)) x) q k e = absurd (absent_none q k e)
+lives kinds (Local a x) q k e = absurd (absent_none q k e)
+lives kinds (Object o) q k e = absurd (absent_none q k e)
+
+-- where a word of a root is
+pub record HasWord (kinds : List Kind) (r : Root) (i : ℕ) : Type 0 where
+  pub x : ℕ
+  pub is : r ≡ Global 1 x
+  pub first : i ≡ 0
+  pub within : x < length kinds
+
+has_word : (kinds : List Kind) (r : Root) (i : ℕ) → i < words (shape_in kinds r) → HasWord kinds r i
+has_word kinds (Global (suc zero) x) i less = by (slice_get kinds x) refl less
+  where
+    by : (o : Option Kind) → slice_get kinds x ≡ o → i < words (shape_by o) → HasWord kinds (Global 1 x) i
+    by None e less = absurd (omega (arith, less))
+    by (Some k) e less = record { x = x; is = refl; first = omega (arith, less); within = slice_get_within kinds x k e }
+has_word kinds (Global zero x) i less = absurd (omega (arith, less))
+has_word kinds (Global (suc (suc m)) x) i less = absurd (omega (arith, less))
+has_word kinds (Local a x) i less = absurd (omega (arith, less))
+has_word kinds (Object o) i less = absurd (omega (arith, less))
 
 zero_word : (k : Kind) → scalar_word (zero_of k) ≡ 0
 zero_word (OfRange k low high) = zero_word k
@@ -135,6 +158,9 @@ module _ (p : Resolved) (code : List ℕ) (small : IsSmall p) (t : Translates p 
     limit = 65535;
     bodies = [];
     marked = true;
+    blocks = [];
+    parked = [];
+    waiting = [];
   }
 
   abbrev frame_size : ℕ
@@ -174,15 +200,6 @@ module _ (p : Resolved) (code : List ℕ) (small : IsSmall p) (t : Translates p 
       ∙ spliced_there (zeros 65536) 1 (zeros (1 + count - 1)) x (omega (arith, n, zeros_length 65536, small.variables)) (omega (arith, n, less))
       ∙ zeros_word (1 + count - 1) x (omega (arith, less))
 
-  home : Home
-  home = record { base = place_of; type = type_of p.variables; owner = owner_at count; shadow = λ a. get_or store a 0; reference = λ o. 0 }
-
-  owner_data : (x : ℕ) → x < count → owner_at count (1 + x) ≡ Of (Global 1 x)
-  owner_data x less =
-      no (nat_lt (1 + x) 1) _ _ (le-ltb (1 + x) 1 (omega arith))
-      ∙ yes (nat_lt (1 + x) (1 + count)) _ _ (lt-ltb (1 + x) (1 + count) (omega arith))
-      ∙ ap (λ (n : ℕ). Of (Global 1 n)) (let e : 1 + x - 1 ≡ x = omega arith in e)
-
   fresh_zeros : length (zeros (1 + count + frame_size - (1 + count + 4))) ≡ 1 + count + frame_size - (1 + count + 4)
   fresh_zeros = zeros_length (1 + count + frame_size - (1 + count + 4))
 
@@ -195,64 +212,89 @@ module _ (p : Resolved) (code : List ℕ) (small : IsSmall p) (t : Translates p 
   unfolding entered
   entered_length = spliced_length store (1 + count + 4) (zeros (1 + count + frame_size - (1 + count + 4))) (omega (arith, store_length, fresh_zeros, frame_small, small.variables)) ∙ store_length
 
-  -- the words of the machine's own are those of the mark
-  own_low : (a : ℕ) → owner_at count a ≡ Own → a < 1 + count + 4
-  own_low a e = by (nat_lt a 1) (nat_lt a (1 + count)) (nat_lt a (5 + count)) refl e
-    where
-      by : (x y z : Bool) → nat_lt a (5 + count) ≡ z → cond x (Free (1 + count)) (cond y (Of (Global 1 (a - 1))) (cond z Own (Free (1 + count)))) ≡ Own → a < 1 + count + 4
-      by true y z h e = cc
-      by false true z h e = cc
-      by false false true h e = omega (arith, ltb-true a (5 + count) h)
-      by false false false h e = cc
+  home : Home
+  home = record { base = place_of; shape = shape_in p.variables; owner = owner_at count frame_size; shadow = λ a. get_or entered a 0; reference = λ o. 0 }
+
+  owner_data : (x : ℕ) → x < count → owner_at count frame_size (1 + x) ≡ Of (Global 1 x)
+  owner_data x less =
+      no (nat_lt (1 + x) 1) _ _ (le-ltb (1 + x) 1 (omega arith))
+      ∙ yes (nat_lt (1 + x) (1 + count)) _ _ (lt-ltb (1 + x) (1 + count) (omega arith))
+      ∙ ap (λ (n : ℕ). Of (Global 1 n)) (let e : 1 + x - 1 ≡ x = omega arith in e)
+
+  owner_own : (a : ℕ) → 1 + count ≤ a → a < 1 + count + frame_size → owner_at count frame_size a ≡ Own
+  owner_own a from below =
+      no (nat_lt a 1) _ _ (le-ltb a 1 (omega (arith, from)))
+      ∙ no (nat_lt a (1 + count)) _ _ (le-ltb a (1 + count) from)
+      ∙ yes (nat_lt a (1 + count + frame_size)) _ _ (lt-ltb a (1 + count + frame_size) below)
+
+  owner_free : (a : ℕ) → 1 + count + frame_size ≤ a → owner_at count frame_size a ≡ Free (1 + count)
+  owner_free a from =
+      no (nat_lt a 1) _ _ (le-ltb a 1 (omega (arith, from)))
+      ∙ no (nat_lt a (1 + count)) _ _ (le-ltb a (1 + count) (omega (arith, from)))
+      ∙ no (nat_lt a (1 + count + frame_size)) _ _ (le-ltb a (1 + count + frame_size) from)
 
   mem : Mem home (fresh_cells (p ∷ [])) entered
   unfolding home
   mem = record {
-    owned = λ r k e.
-        let a = lives p.variables r k e in
+    owned = λ r i l.
+        let a = has_word p.variables r i l in
+        ap (owner_at count frame_size) (let e : place_of r + i ≡ 1 + a.x = omega (arith, ap place_of a.is, a.first) in e) ∙ owner_data a.x a.within ∙ ap Of (sym a.is);
+    inside = λ r i l.
+        let a = has_word p.variables r i l in
+        omega (arith, small.variables, ap place_of a.is, a.first, a.within);
+    holds = λ r q k e.
+        let a = lives p.variables r q k e in
         let less : a.x < count = slice_get_within p.variables a.x k a.typed in
-        ap (λ (z : Root). owner_at count (place_of z)) a.is ∙ owner_data a.x less ∙ ap Of (sym a.is);
-    inside = λ r k e.
-        let a = lives p.variables r k e in
-        let less : a.x < count = slice_get_within p.variables a.x k a.typed in
-        let at : place_of r ≡ 1 + a.x = ap place_of a.is in
-        omega (arith, small.variables);
-    holds = λ r k e.
-        let a = lives p.variables r k e in
-        let less : a.x < count = slice_get_within p.variables a.x k a.typed in
-        let cell : fresh_cells (p ∷ []) r [] ≡ zero_of k = ap (λ (z : Root). fresh_cells (p ∷ []) z []) a.is ∙ ap zero_by a.typed in
+        let cell : fresh_cells (p ∷ []) r q ≡ zero_of k = ap (λ (z : Root). fresh_cells (p ∷ []) z q) a.is ∙ ap (fresh_cells (p ∷ []) (Global 1 a.x)) a.path ∙ ap (λ (o : Option Kind). zero_in (shape_by o)) a.typed in
+        let at : place_of r + offset (shape_in p.variables r) q ≡ 1 + a.x = omega (arith, ap place_of a.is, ap (offset (shape_in p.variables r)) a.path) in
         record {
-          word = ap (λ (z : Root). get_or entered (place_of z) 0) a.is ∙ entered_before (1 + a.x) (omega (arith, less)) ∙ data_zero a.x less ∙ sym (zero_word k) ∙ sym (plain_word home (base_of k) (zero_of k) (zero_fits k)) ∙ ap (word_for home) (sym cell);
+          word = ap (λ (z : ℕ). get_or entered z 0) at ∙ entered_before (1 + a.x) (omega (arith, less)) ∙ data_zero a.x less ∙ sym (zero_word k) ∙ sym (plain_word home (base_of k) (zero_of k) (zero_fits k)) ∙ ap (word_for home) (sym cell);
           fits = ap (within (base_of k)) cell ∙ zero_fits k;
         };
-    kept = λ a e. entered_before a (own_low a e);
+    kept = λ a e. refl;
     long = entered_length;
   }
 
-  free_words : (i : ℕ) → 4 ≤ i → owner_at count (1 + count + i) ≡ Free (1 + count)
-  free_words i high =
-      no (nat_lt (1 + count + i) 1) _ _ (le-ltb (1 + count + i) 1 (omega arith))
-      ∙ no (nat_lt (1 + count + i) (1 + count)) _ _ (le-ltb (1 + count + i) (1 + count) (omega arith))
-      ∙ no (nat_lt (1 + count + i) (5 + count)) _ _ (le-ltb (1 + count + i) (5 + count) (omega (arith, high)))
+  abbrev frame : Frame
+  frame = record { activation = 0; number = 1; own = own; layout = layout_of p; at = 1 + count; back = 0 }
 
   abbrev ctx : Setting
-  ctx = record { modules = p ∷ []; layout = layout_of p; table = table; own = own; number = 1; home = home }
+  ctx = record {
+    modules = p ∷ [];
+    table = table;
+    activations = body_activations 1 (p ∷ []);
+    parked = [];
+    kept = [];
+    home = home;
+    stack = record { base = 1 + count; limit = 65535; frame = frame; callers = []; bodies = [] };
+  }
 
   shared : (w : World) → Shared ctx (begun (p ∷ []) w) (entered_at t.start)
   unfolding home
   shared w = record {
     mem = mem;
-    laid = record {
-      variables = λ x o k offset kind. record {
-        path = refl;
-        living = ap typed_by kind;
-        at = omega (arith, offset_is p.variables 0 x o offset);
+    program = record { table_is = refl; known = refl; running_is = refl; marked_is = refl };
+    standing = record {
+      frame_is = refl;
+      base_is = refl;
+      limit_is = refl;
+      bodies_are = refl;
+      known = record {
+        known = refl;
+        named = refl;
+        owner = refl;
+        variables = λ x o k offset kind. (ap shape_by kind, omega (arith, offset_is p.variables 0 x o offset));
       };
+      callers = tt;
+      comes = tt;
+      stands = (record { mark = omega arith; below = omega arith; own = λ i l. owner_own (1 + count + i) (omega arith) (omega (arith, l)) }, refl);
+      room = λ a from below. owner_free a (omega (arith, from));
+      low = omega (arith, frame_small, small.variables);
+      high = omega arith;
     };
-    program = record { table_is = refl; known = refl; running_is = refl; marked = refl; body = refl; last = refl };
-    frame = record { room = omega (arith, frame_small, small.variables); free = λ i high less. free_words i high };
-    owner = refl;
-    parked = tt;
+    activations_are = refl;
+    parked_are = refl;
+    kept_are = refl;
   }
 
   -- the body is entered
@@ -265,29 +307,26 @@ module _ (p : Resolved) (code : List ℕ) (small : IsSmall p) (t : Translates p 
       ∙ no _ _ _ (le-ltb 65535 (1 + count + frame_size) (omega (arith, frame_small, small.variables)))
       )
 
-  abbrev outside : Around
-  outside = record { exit = None; fors = [] }
-
   ahead : Ahead ctx (doing p.body (Perform (End 0) ∷ [])) Quiet t.start [] 0 outside
   ahead =
       rows_ahead ctx (doing p.body (Perform (End 0) ∷ [])) t.start [] 0 outside
       (body_rows ctx p.body (Perform (End 0) ∷ []) t.start t.end 0 outside t.body (instr_within code t.end Rtn (length code) t.leave)
       (at_once ctx _ Quiet t.end [] 0 outside
-      (record { quiet = refl; empty = refl; activation = refl; last = refl; alone = refl; end = length code; leave = t.leave })))
+      (record { quiet = refl; empty = refl; activation = refl; alone = refl; end = length code; leave = t.leave; behind = refl })))
 
   -- after any number of steps the run of a loaded program agrees with some state of the meaning
   pub record Correct (w : World) (steps : ℕ) : Type 0 where
     pub n : ℕ
-    pub agrees : Agrees p.name (state_of p w n) (mrun steps (running (begun_at 0) w))
+    pub agrees : Agrees table (state_of p w n) (mrun steps (running (begun_at 0) w))
     pub far : steps < 32 * n + 33
 
   pub correct : (w : World) (steps : ℕ) → Correct w steps
-  correct w zero = record { n = 0; agrees = still_agrees p.name (begun (p ∷ []) w) (doing p.body (Perform (End 0) ∷ [])) (running (begun_at 0) w) (record { world = refl; finish = refl }); far = omega arith }
+  correct w zero = record { n = 0; agrees = still_agrees table (begun (p ∷ []) w) (doing p.body (Perform (End 0) ∷ [])) (running (begun_at 0) w) (record { world = refl; finish = refl }); far = omega arith }
   correct w (suc steps) =
-      let f = follows ctx (begun (p ∷ []) w) (doing p.body (Perform (End 0) ∷ [])) (entered_at t.start) steps 0 outside (shared w) tt ahead in
+      let f = follows ctx (begun (p ∷ []) w) (doing p.body (Perform (End 0) ∷ [])) (entered_at t.start) steps 0 outside tt (shared w) ahead in
       record {
         n = f.n;
-        agrees = subst (λ (r : Run). Agrees p.name (state_of p w f.n) (mrun steps r)) (sym (enters w)) f.agrees;
+        agrees = subst (λ (r : Run). Agrees table (state_of p w f.n) (mrun steps r)) (sym (enters w)) f.agrees;
         far = omega (arith, f.far);
       }
 
@@ -298,5 +337,14 @@ module _ (p : Resolved) (code : List ℕ) (small : IsSmall p) (t : Translates p 
 
   pub reached : (w : World) (n : ℕ) → Reached w n
   reached w n =
-      let r = reaches ctx n (begun (p ∷ []) w) (doing p.body (Perform (End 0) ∷ [])) (entered_at t.start) 0 outside (shared w) tt ahead in
+      let r = reaches ctx n (begun (p ∷ []) w) (doing p.body (Perform (End 0) ∷ [])) (entered_at t.start) 0 outside tt (shared w) ahead in
       record { steps = suc r.steps; world = ap (λ (x : Run). (mrun r.steps x).world) (enters w) ∙ r.world }
+
+  -- a trap in a table of one module is in that one
+  pub alone_traps : (k : TrapKind) (e : Phase) → TrapsIn (own ∷ []) k e → e ≡ Trapped (record { kind = k; «module» = p.name; procedure = None })
+  alone_traps k e r = by r.number r.known
+    where
+      by : (n : ℕ) → module_at (own ∷ []) n ≡ Some r.own → e ≡ Trapped (record { kind = k; «module» = p.name; procedure = None })
+      by zero there = cc
+      by (suc zero) there = let same : own ≡ r.own = cc in r.is ∙ ap (λ (m : Module). Trapped (record { kind = k; «module» = m.name; procedure = None })) (sym same)
+      by (suc (suc n)) there = cc

@@ -1,28 +1,36 @@
 -- Whole runs: after any number of steps, the machine has shown what some state of the meaning has.
-use Rattle.std.proofs.Common.{◌≡◌, ◌≢◌, ℕ, zero, suc, ◌+◌, ◌-◌, ◌*◌, ◌<◌, ◌≤◌, List, Option, None, refl, sym, ap, ◌∙◌, subst, ⊎_elim, arith}
+use Rattle.std.proofs.Common.{◌≡◌, ◌≢◌, ℕ, zero, suc, ◌+◌, ◌-◌, ◌*◌, ◌<◌, ◌≤◌, List, Option, Some, None, refl, sym, ap, ◌∙◌, subst, ⊎_elim, arith}
 use Rattle.std.proofs.lemmas.Bool.{cases_lt}
 use Rattle.lil_base.specs.declared.fault.TrapKind.{TrapKind}
 use Rattle.lil_base.specs.declared.fault.LimitKind.{LimitKind}
 use Rattle.lil_base.specs.declared.fault.TrapAt.{TrapAt}
 use Rattle.lil_resolved.specs.Resolved.{Resolved}
-use Rattle.lil_meaning.specs.Cells.{loaded_at}
 use Rattle.lil_meaning.specs.Items.{Item, Phase, Going, Closing, Ended, Trapped, Source}
-use Rattle.lil_meaning.specs.Steps.{next, by_phase, name_of}
+use Rattle.lil_meaning.specs.Steps.{next, by_phase}
 use Rattle.lil_meaning.specs.Runs.{after}
-use Rattle.lil_mcode.specs.State.{State}
+use Rattle.lil_mcode.specs.State.{Module, State, module_at}
 use Rattle.lil_mcode.specs.Table.{mstep}
 use Rattle.lil_match.specs.Running.{Finish, Running, Finished, TrappedBy, Limited, Broken, Run, mrun, running, react, advanced, unless_over}
-use Rattle.lil_match.specs.Goes.{HasFors, Shared, Lands, IsStill, Goes}
+use Rattle.lil_match.specs.Homes.{Home}
+use Rattle.lil_match.specs.Goes.{Shared, Lands, IsStill, Goes}
 use Rattle.lil_match.specs.Stutter.{stutter}
-use Rattle.lil_match.specs.Waits.{Setting, Quiet, Around, Ahead}
+use Rattle.lil_match.specs.Waits.{Stack, Setting, Quiet, Around, Ahead}
+use Rattle.lil_match.specs.Resting.{EachRests, each_rests}
 use Rattle.lil_laws.specs.Each.{each_step}
 
--- The run has the world of the source's state, and is over only where the source is, in the same way: a trap is in the body of a module.
-pub record Agrees (name : List ℕ) (t : Source) (run : Run) : Type 0 where
+-- a state that has trapped, in a module of the table
+pub record TrapsIn (table : List Module) (k : TrapKind) (p : Phase) : Type 0 where
+  pub number : ℕ
+  pub own : Module
+  pub known : module_at table number ≡ Some own
+  pub is : p ≡ Trapped (record { kind = k; «module» = own.name; procedure = None })
+
+-- the run has the world of the source's state, and is over only where the source is, in the same way
+pub record Agrees (table : List Module) (t : Source) (run : Run) : Type 0 where
   pub world : run.world ≡ t.world
   pub runs : run.finish ≡ Running → t.phase ≡ Going
   pub ends : run.finish ≡ Finished → t.phase ≡ Ended
-  pub traps : (k : TrapKind) → run.finish ≡ TrappedBy k → t.phase ≡ Trapped (record { kind = k; «module» = name; procedure = None })
+  pub traps : (k : TrapKind) → run.finish ≡ TrappedBy k → TrapsIn table k t.phase
   pub never_limited : (k : LimitKind) → run.finish ≢ Limited k
   pub never_broken : run.finish ≢ Broken
 
@@ -49,8 +57,8 @@ ended_rests modules s e = ap (λ (p : Phase). by_phase modules p s) e
 pub trapped_rests : (modules : List Resolved) (s : Source) (t : TrapAt) → s.phase ≡ Trapped t → next modules s ≡ s
 trapped_rests modules s t e = ap (λ (p : Phase). by_phase modules p s) e
 
-pub still_agrees : (name : List ℕ) (s : Source) (k : List Item) (run : Run) → IsStill s.world run → Agrees name (record s { items = k; phase = Going }) run
-still_agrees name s k run h = record {
+pub still_agrees : (table : List Module) (s : Source) (k : List Item) (run : Run) → IsStill s.world run → Agrees table (record s { items = k; phase = Going }) run
+still_agrees table s k run h = record {
   world = h.world;
   runs = λ e. refl;
   ends = λ e. absurd (let r = h.finish in cc);
@@ -59,8 +67,8 @@ still_agrees name s k run h = record {
   never_broken = λ e. let r = h.finish in cc;
 }
 
-ended_agrees : (name : List ℕ) (s : Source) (run : Run) → s.phase ≡ Ended → run.finish ≡ Finished → run.world ≡ s.world → Agrees name s run
-ended_agrees name s run over f w = record {
+ended_agrees : (table : List Module) (s : Source) (run : Run) → s.phase ≡ Ended → run.finish ≡ Finished → run.world ≡ s.world → Agrees table s run
+ended_agrees table s run over f w = record {
   world = w;
   runs = λ e. absurd (let r = f in cc);
   ends = λ e. over;
@@ -69,80 +77,90 @@ ended_agrees name s run over f w = record {
   never_broken = λ e. let r = f in cc;
 }
 
-trapped_agrees : (name : List ℕ) (s : Source) (run : Run) (t : TrapAt) → s.phase ≡ Trapped t → run.finish ≡ TrappedBy t.kind → run.world ≡ s.world → t.«module» ≡ name → t.procedure ≡ None → Agrees name s run
-trapped_agrees name s run t over f w named bare = record {
+trapped_agrees : (table : List Module) (s : Source) (run : Run) (t : TrapAt) (number : ℕ) (own : Module) → s.phase ≡ Trapped t → run.finish ≡ TrappedBy t.kind → run.world ≡ s.world
+    → module_at table number ≡ Some own → t.«module» ≡ own.name → t.procedure ≡ None → Agrees table s run
+trapped_agrees table s run t number own over f w known named bare = record {
   world = w;
   runs = λ e. absurd (let r = f in cc);
   ends = λ e. absurd (let r = f in cc);
   traps = λ j e.
       let two : TrappedBy t.kind ≡ TrappedBy j = sym f ∙ e in
       let kind : t.kind ≡ j = cc in
-      over
-      ∙ ap (λ (x : TrapKind). Trapped (record { kind = x; «module» = t.«module»; procedure = t.procedure })) kind
-      ∙ ap (λ (x : List ℕ). Trapped (record { kind = j; «module» = x; procedure = t.procedure })) named
-      ∙ ap (λ (x : Option (List ℕ)). Trapped (record { kind = j; «module» = name; procedure = x })) bare;
+      record {
+        number = number;
+        own = own;
+        known = known;
+        is = over
+            ∙ ap (λ (x : TrapKind). Trapped (record { kind = x; «module» = t.«module»; procedure = t.procedure })) kind
+            ∙ ap (λ (x : List ℕ). Trapped (record { kind = j; «module» = x; procedure = t.procedure })) named
+            ∙ ap (λ (x : Option (List ℕ)). Trapped (record { kind = j; «module» = own.name; procedure = x })) bare;
+      };
   never_limited = λ j e. let r = f in cc;
   never_broken = λ e. let r = f in cc;
 }
 
 module _ (ctx : Setting) where
-  open ctx use {modules, table, own, number, home as h}
+  open ctx use {modules, table}
 
-  abbrev pub Name : List ℕ
-  Name = name_of (loaded_at modules number)
+  -- the setting with the home and the stack that a step has come to
+  abbrev at : Home → Stack → Setting
+  at x y = record ctx { home = x; stack = y }
+
+  -- a matched state, with all stacks that don't run
+  abbrev Matched : Home → Stack → Source → List Item → State → ℕ → Around → Type 0
+  Matched x y s k m c a = EachRests (at x y) ctx.parked ctx.kept × Shared (at x y) s m × Ahead (at x y) k Quiet m.place m.stack c a
 
   -- After so many steps of the machine, from a state of the meaning with so many jumps owed: some later state agrees, one that is far
   -- enough.
   pub record Follows (s : Source) (run : Run) (steps c : ℕ) : Type 0 where
     pub n : ℕ
-    pub agrees : Agrees Name (after modules n s) (mrun steps run)
+    pub agrees : Agrees table (after modules n s) (mrun steps run)
     pub far : steps < 32 * n + 32 + c
 
   -- where both are over, they stay
-  over_follows : (s : Source) (run : Run) (steps c : ℕ) → Agrees Name s run → next modules s ≡ s → advanced run ≡ run → Follows s run steps c
+  over_follows : (s : Source) (run : Run) (steps c : ℕ) → Agrees table s run → next modules s ≡ s → advanced run ≡ run → Follows s run steps c
   over_follows s run steps c a rs rr = record {
     n = steps;
     agrees =
-        subst (λ (t : Source). Agrees Name t (mrun steps run)) (sym (source_rests modules steps s rs))
-        (subst (λ (r : Run). Agrees Name s r) (sym (run_rests steps run rr)) a);
+        subst (λ (t : Source). Agrees table t (mrun steps run)) (sym (source_rests modules steps s rs))
+        (subst (λ (r : Run). Agrees table s r) (sym (run_rests steps run rr)) a);
     far = omega arith;
   }
 
   -- what is claimed of so many steps, from each matched state whose items have a property
   abbrev Claim : ℕ → (List Item → Type 0) → Type 0
   Claim steps P =
-      (s : Source) (k : List Item) (m : State) (c : ℕ) (a : Around) → Shared ctx s m → HasFors ctx m.frame m.store a.fors
-      → Ahead ctx k Quiet m.place m.stack c a → P k → Follows (record s { items = k; phase = Going }) (running m s.world) steps c
+      (x : Home) (y : Stack) (s : Source) (k : List Item) (m : State) (c : ℕ) (a : Around) → Matched x y s k m c a → P k → Follows (record s { items = k; phase = Going }) (running m s.world) steps c
 
-  landed : (steps : ℕ) (P : List Item → Type 0) → Claim steps P → (p : Phase) (s : Source) (run : Run) (c : ℕ) → s.phase ≡ p → Lands ctx p s run c → P s.items
-      → Follows s run steps c
-  landed steps P claim Going s run c e lands has =
+  landed : (steps : ℕ) (P : List Item → Type 0) → Claim steps P → (x : Home) (y : Stack) → EachRests (at x y) ctx.parked ctx.kept → (p : Phase) (s : Source) (run : Run) (c : ℕ) → s.phase ≡ p
+      → Lands (at x y) p s run c → P s.items → Follows s run steps c
+  landed steps P claim x y rests Going s run c e lands has =
       let same : record s { items = s.items; phase = Going } ≡ s = ap (λ (p : Phase). let t : Source = record s { phase = p } in t) (sym e) in
       subst (λ (t : Source). Follows t run steps c) same
       (subst (λ (r : Run). Follows (record s { items = s.items; phase = Going }) r steps c) (sym lands.is)
-      (claim s s.items lands.machine c lands.met.around lands.met.shared lands.met.fors lands.met.ahead has))
-  landed steps P claim Ended s run c e lands has =
-      over_follows s run steps c (ended_agrees Name s run e lands.finish lands.world) (ended_rests modules s e) (run_over run Finished lands.finish (λ f. cc))
-  landed steps P claim (Closing t) s run c e lands has =
+      (claim x y s s.items lands.machine c lands.met.around (rests, lands.met.shared, lands.met.ahead) has))
+  landed steps P claim x y rests Ended s run c e lands has =
+      over_follows s run steps c (ended_agrees table s run e lands.finish lands.world) (ended_rests modules s e) (run_over run Finished lands.finish (λ f. cc))
+  landed steps P claim x y rests (Closing t) s run c e lands has =
       let closed : Source = record s { phase = Trapped t } in
       let step : next modules s ≡ closed = ap (λ (p : Phase). by_phase modules p s) e in
-      let f = over_follows closed run steps c (trapped_agrees Name closed run t refl lands.finish lands.world lands.name lands.procedure) (trapped_rests modules closed t refl) (run_over run (TrappedBy t.kind) lands.finish (λ g. cc)) in
+      let f = over_follows closed run steps c (trapped_agrees table closed run t y.frame.number y.frame.own refl lands.finish lands.world lands.known lands.name lands.procedure) (trapped_rests modules closed t refl) (run_over run (TrappedBy t.kind) lands.finish (λ g. cc)) in
       record {
         n = suc f.n;
-        agrees = subst (λ (x : Source). Agrees Name (after modules f.n x) (mrun steps run)) (sym step) f.agrees;
+        agrees = subst (λ (x : Source). Agrees table (after modules f.n x) (mrun steps run)) (sym step) f.agrees;
         far = omega (arith, f.far);
       }
-  landed steps P claim (Trapped t) s run c e lands has = absurd lands
+  landed steps P claim x y rests (Trapped t) s run c e lands has = absurd lands
 
   abbrev At : Source → List Item → Source
   At s k = record s { items = k; phase = Going }
 
-  module _ (s : Source) (k : List Item) (m : State) (c : ℕ) (g : Goes ctx s k m (c + 32)) where
+  module _ (x : Home) (y : Stack) (s : Source) (k : List Item) (m : State) (c : ℕ) (g : Goes (at x y) s k m (c + 32)) where
     -- fewer steps than those of this step of the source
     short : (steps : ℕ) → steps < g.steps → Follows (At s k) (running m s.world) steps c
     short steps less = record {
       n = 0;
-      agrees = still_agrees Name s k (mrun steps (running m s.world)) (g.quiet steps less);
+      agrees = still_agrees table s k (mrun steps (running m s.world)) (g.quiet steps less);
       far = omega (arith, g.cost);
     }
 
@@ -150,48 +168,50 @@ module _ (ctx : Setting) where
     longer : (steps rest : ℕ) → steps ≡ g.steps + rest → Follows (next modules (At s k)) (mrun g.steps (running m s.world)) rest g.later → Follows (At s k) (running m s.world) steps c
     longer steps rest e f = record {
       n = suc f.n;
-      agrees = subst (λ (r : Run). Agrees Name (after modules f.n (next modules (At s k))) r) (sym (mrun_add g.steps steps rest (running m s.world) e)) f.agrees;
+      agrees = subst (λ (r : Run). Agrees table (after modules f.n (next modules (At s k))) r) (sym (mrun_add g.steps steps rest (running m s.world) e)) f.agrees;
       far = omega (arith, f.far, g.cost);
     }
 
   -- one step of the source, and the rest by fewer steps or by less that stutters
-  turn : (steps : ℕ) (s : Source) (k : List Item) (m : State) (c : ℕ) (a : Around) → ((rest : ℕ) → rest < steps → Claim rest (λ i. Unit {0})) → Claim steps (λ i. stutter i < stutter k)
-      → Shared ctx s m → HasFors ctx m.frame m.store a.fors → Ahead ctx k Quiet m.place m.stack c a
-      → Follows (At s k) (running m s.world) steps c
-  turn steps s k m c a fewer lighter shared fors ahead =
-      ⊎_elim (λ less. short s k m c g steps less) (λ more. ⊎_elim (λ some. by_step more some) (λ none. by_stutter more none) (cases_lt 0 g.steps)) (cases_lt steps g.steps)
+  turn : (steps : ℕ) (x : Home) (y : Stack) (s : Source) (k : List Item) (m : State) (c : ℕ) (a : Around) → ((rest : ℕ) → rest < steps → Claim rest (λ i. Unit {0})) → Claim steps (λ i. stutter i < stutter k)
+      → Matched x y s k m c a → Follows (At s k) (running m s.world) steps c
+  turn steps x y s k m c a fewer lighter met =
+      ⊎_elim (λ less. short x y s k m c g steps less) (λ more. ⊎_elim (λ some. by_step more some) (λ none. by_stutter more none) (cases_lt 0 g.steps)) (cases_lt steps g.steps)
     where
-      g : Goes ctx s k m (c + 32)
-      g = each_step ctx s m c a shared fors k ahead
+      g : Goes (at x y) s k m (c + 32)
+      g = each_step (at x y) s m c a met.1 k met.2
+
+      rests : EachRests (at g.home g.stack) ctx.parked ctx.kept
+      rests = each_rests (at x y) g.home g.stack g.touch g.same ctx.parked ctx.kept met.0
 
       by_step : g.steps ≤ steps → 0 < g.steps → Follows (At s k) (running m s.world) steps c
       by_step more some =
-          longer s k m c g steps (steps - g.steps) (omega arith)
-          (landed (steps - g.steps) (λ i. Unit {0}) (fewer (steps - g.steps) (omega arith)) (next modules (At s k)).phase (next modules (At s k)) (mrun g.steps (running m s.world)) g.later refl g.lands tt)
+          longer x y s k m c g steps (steps - g.steps) (omega arith)
+          (landed (steps - g.steps) (λ i. Unit {0}) (fewer (steps - g.steps) (omega arith)) g.home g.stack rests (next modules (At s k)).phase (next modules (At s k)) (mrun g.steps (running m s.world)) g.later refl g.lands tt)
 
       by_stutter : g.steps ≤ steps → g.steps ≤ 0 → Follows (At s k) (running m s.world) steps c
       by_stutter more none =
-          longer s k m c g steps steps (omega arith)
-          (landed steps (λ i. stutter i < stutter k) lighter (next modules (At s k)).phase (next modules (At s k)) (mrun g.steps (running m s.world)) g.later refl g.lands (g.falls (omega arith)))
+          longer x y s k m c g steps steps (omega arith)
+          (landed steps (λ i. stutter i < stutter k) lighter g.home g.stack rests (next modules (At s k)).phase (next modules (At s k)) (mrun g.steps (running m s.world)) g.later refl g.lands (g.falls (omega arith)))
 
   -- by the number of steps, and for each by how long the items can stutter
   inner : (bound : ℕ) → ((steps : ℕ) → steps ≤ bound → Claim steps (λ i. Unit {0})) → (most : ℕ) (steps : ℕ) → steps ≤ suc bound → Claim steps (λ i. stutter i < most)
-  inner bound outer zero steps le s k m c a shared fors ahead has = absurd (omega arith)
-  inner bound outer (suc most) steps le s k m c a shared fors ahead has =
-      turn steps s k m c a (λ rest less. outer rest (omega arith))
-      (λ s' k' m' c' a' shared' fors' ahead' has'. inner bound outer most steps le s' k' m' c' a' shared' fors' ahead' (omega arith)) shared fors ahead
+  inner bound outer zero steps le x y s k m c a met has = absurd (omega arith)
+  inner bound outer (suc most) steps le x y s k m c a met has =
+      turn steps x y s k m c a (λ rest less. outer rest (omega arith))
+      (λ x' y' s' k' m' c' a' met' has'. inner bound outer most steps le x' y' s' k' m' c' a' met' (omega arith)) met
 
   outer : (bound : ℕ) (steps : ℕ) → steps ≤ bound → Claim steps (λ i. Unit {0})
-  outer zero steps le s k m c a shared fors ahead has =
+  outer zero steps le x y s k m c a met has =
       let e : 0 ≡ steps = omega arith in
       subst (λ (n : ℕ). Follows (At s k) (running m s.world) n c) e
-      (record { n = 0; agrees = still_agrees Name s k (running m s.world) (record { world = refl; finish = refl }); far = omega arith })
-  outer (suc bound) steps le s k m c a shared fors ahead has = inner bound (outer bound) (suc (stutter k)) steps le s k m c a shared fors ahead (omega arith)
+      (record { n = 0; agrees = still_agrees table s k (running m s.world) (record { world = refl; finish = refl }); far = omega arith })
+  outer (suc bound) steps le x y s k m c a met has = inner bound (outer bound) (suc (stutter k)) steps le x y s k m c a met (omega arith)
 
   -- from a matched state the machine shows what the source means
-  pub follows : (s : Source) (k : List Item) (m : State) (steps c : ℕ) (a : Around) → Shared ctx s m → HasFors ctx m.frame m.store a.fors
-      → Ahead ctx k Quiet m.place m.stack c a → Follows (At s k) (running m s.world) steps c
-  follows s k m steps c a shared fors ahead = outer steps steps (omega arith) s k m c a shared fors ahead tt
+  pub follows : (s : Source) (k : List Item) (m : State) (steps c : ℕ) (a : Around) → EachRests ctx ctx.parked ctx.kept → Shared ctx s m → Ahead ctx k Quiet m.place m.stack c a
+      → Follows (At s k) (running m s.world) steps c
+  follows s k m steps c a rests shared ahead = outer steps steps (omega arith) ctx.home ctx.stack s k m c a (rests, shared, ahead) tt
 
   -- Each later state of the source has the world that the run has after some number of steps.
   pub record Reaches (s : Source) (run : Run) (n : ℕ) : Type 0 where
@@ -202,32 +222,34 @@ module _ (ctx : Setting) where
   rests_there : (n : ℕ) (s : Source) (run : Run) → next modules s ≡ s → run.world ≡ s.world → Reaches s run n
   rests_there n s run rests same = record { steps = 0; world = same ∙ ap (λ (t : Source). t.world) (sym (source_rests modules n s rests)) }
 
-  reaches_landed : (n : ℕ)
-      → ((s : Source) (k : List Item) (m : State) (c : ℕ) (a : Around) → Shared ctx s m → HasFors ctx m.frame m.store a.fors → Ahead ctx k Quiet m.place m.stack c a
-      → Reaches (At s k) (running m s.world) n)
-      → (p : Phase) (s : Source) (run : Run) (c : ℕ) → s.phase ≡ p → Lands ctx p s run c → Reaches s run n
-  reaches_landed n claim Going s run c e lands =
+  reaches_landed : (n : ℕ) → ((x : Home) (y : Stack) (s : Source) (k : List Item) (m : State) (c : ℕ) (a : Around) → Matched x y s k m c a → Reaches (At s k) (running m s.world) n)
+      → (x : Home) (y : Stack) → EachRests (at x y) ctx.parked ctx.kept → (p : Phase) (s : Source) (run : Run) (c : ℕ) → s.phase ≡ p → Lands (at x y) p s run c → Reaches s run n
+  reaches_landed n claim x y rests Going s run c e lands =
       let same : At s s.items ≡ s = ap (λ (p : Phase). let t : Source = record s { phase = p } in t) (sym e) in
       subst (λ (t : Source). Reaches t run n) same
       (subst (λ (r : Run). Reaches (At s s.items) r n) (sym lands.is)
-      (claim s s.items lands.machine c lands.met.around lands.met.shared lands.met.fors lands.met.ahead))
-  reaches_landed n claim Ended s run c e lands = rests_there n s run (ended_rests modules s e) lands.world
-  reaches_landed zero claim (Closing t) s run c e lands = record { steps = 0; world = lands.world }
-  reaches_landed (suc n) claim (Closing t) s run c e lands =
+      (claim x y s s.items lands.machine c lands.met.around (rests, lands.met.shared, lands.met.ahead)))
+  reaches_landed n claim x y rests Ended s run c e lands = rests_there n s run (ended_rests modules s e) lands.world
+  reaches_landed zero claim x y rests (Closing t) s run c e lands = record { steps = 0; world = lands.world }
+  reaches_landed (suc n) claim x y rests (Closing t) s run c e lands =
       let closed : Source = record s { phase = Trapped t } in
       let step : next modules s ≡ closed = ap (λ (p : Phase). by_phase modules p s) e in
       let r = rests_there n closed run (trapped_rests modules closed t refl) lands.world in
       record { steps = r.steps; world = r.world ∙ ap (λ (x : Source). (after modules n x).world) (sym step) }
-  reaches_landed n claim (Trapped t) s run c e lands = absurd lands
+  reaches_landed n claim x y rests (Trapped t) s run c e lands = absurd lands
 
-  -- from a matched state the machine shows all that the source means
-  pub reaches : (n : ℕ) (s : Source) (k : List Item) (m : State) (c : ℕ) (a : Around) → Shared ctx s m → HasFors ctx m.frame m.store a.fors
-      → Ahead ctx k Quiet m.place m.stack c a → Reaches (At s k) (running m s.world) n
-  reaches zero s k m c a shared fors ahead = record { steps = 0; world = refl }
-  reaches (suc n) s k m c a shared fors ahead =
-      let g = each_step ctx s m c a shared fors k ahead in
-      let r = reaches_landed n (reaches n) (next modules (At s k)).phase (next modules (At s k)) (mrun g.steps (running m s.world)) g.later refl g.lands in
+  reaches_in : (n : ℕ) (x : Home) (y : Stack) (s : Source) (k : List Item) (m : State) (c : ℕ) (a : Around) → Matched x y s k m c a → Reaches (At s k) (running m s.world) n
+  reaches_in zero x y s k m c a met = record { steps = 0; world = refl }
+  reaches_in (suc n) x y s k m c a met =
+      let g = each_step (at x y) s m c a met.1 k met.2 in
+      let r = reaches_landed n (reaches_in n) g.home g.stack (each_rests (at x y) g.home g.stack g.touch g.same ctx.parked ctx.kept met.0)
+      (next modules (At s k)).phase (next modules (At s k)) (mrun g.steps (running m s.world)) g.later refl g.lands in
       record {
         steps = g.steps + r.steps;
         world = ap (λ (x : Run). x.world) (mrun_add g.steps (g.steps + r.steps) r.steps (running m s.world) refl) ∙ r.world;
       }
+
+  -- from a matched state the machine shows all that the source means
+  pub reaches : (n : ℕ) (s : Source) (k : List Item) (m : State) (c : ℕ) (a : Around) → EachRests ctx ctx.parked ctx.kept → Shared ctx s m → Ahead ctx k Quiet m.place m.stack c a
+      → Reaches (At s k) (running m s.world) n
+  reaches n s k m c a rests shared ahead = reaches_in n ctx.home ctx.stack s k m c a (rests, shared, ahead)

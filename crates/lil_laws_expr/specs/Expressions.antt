@@ -20,20 +20,22 @@ use Rattle.lil_mcode.specs.State.{State}
 use Rattle.lil_mcode.specs.Table.{mstep, act, going, jump, push_row, on_one, and_row, or_row}
 use Rattle.lil_table.specs.Rows.{InstrsAt, one_code, two_code, function_code, short_code}
 use Rattle.lil_match.specs.Running.{running, react}
-use Rattle.lil_match.specs.Homes.{word_for, plain_word, yes}
+use Rattle.lil_match.specs.Parts.{yes}
+use Rattle.lil_match.specs.Homes.{word_for, plain_word, scalar_owned}
 use Rattle.lil_match.specs.Stutter.{stutter}
-use Rattle.lil_match.specs.Goes.{HasFors, Shared, Goes, Lands}
-use Rattle.lil_match.specs.Waits.{Setting, laid_out, Mode, Quiet, ValueOf, Direct, Around, Reach, AfterJumps, Rows, IsVariable, Waiting}
-use Rattle.lil_match.specs.Steps.{advances, pushes, at_step, at_once, shared_there, lands_on, goes_none, goes_one, goes_after, operand_goes}
+use Rattle.lil_match.specs.Goes.{Shared, Goes, Lands}
+use Rattle.lil_match.specs.Waits.{Setting, frame_of, laid_out, Mode, Quiet, ValueOf, Direct, Around, Reach, AfterJumps, Rows, IsVariable, Waiting}
+use Rattle.lil_match.specs.Steps.{advances, pushes, at_step, at_once, lands_on, goes_none, goes_one, goes_after, goes_more, operand_goes}
 use Rattle.lil_match.specs.Orders.{instr_within, instrs_order, instrs_within, expression_stands, expression_within}
-use Rattle.lil_match.specs.Closing.{closed, both_trap}
+use Rattle.lil_match.specs.Closing.{closed, variable_here, both_trap}
 use Rattle.lil_laws_expr.specs.Operators.{answer_row, Gives, Fits, one_gives, one_fits, two_gives, two_length, two_fits, function_gives, function_fits, function_none, function_length}
 
 module _ (ctx : Setting) where
-  open ctx use {modules, table, own, number, home as h}
+  open ctx use {modules, table, home as h}
+  open frame_of ctx use {own, number}
   open laid_out ctx use {layout as l}
 
-  module _ (s : Source) (k : List Item) (m : State) (c : ℕ) (a : Around) (shared : Shared ctx s m) (fors : HasFors ctx m.frame m.store a.fors) where
+  module _ (s : Source) (k : List Item) (m : State) (c : ℕ) (a : Around) (shared : Shared ctx s m) where
     abbrev Rest : Reach
     Rest = Rows ctx k
 
@@ -41,32 +43,29 @@ module _ (ctx : Setting) where
     Now items = record s { items = items; phase = Going }
 
     -- a row to which no jump leads
-    once : {row : Reach} {t : Mode} {p : ℕ} {stack : List ℕ} → row t p stack c a → AfterJumps ctx row t p stack c a
+    once : {row : Reach} {t : Mode} {p : ℕ} {stack : List ℕ} → row t p stack c a → AfterJumps own.code row t p stack c a
     once {row} {t} {p} {stack} r = at_once ctx row t p stack c a r
 
-    widened : (items : List Item) (n : State) (budget more : ℕ) → Goes ctx s items n budget → budget ≤ more → Goes ctx s items n more
-    widened items n budget more g less = record { steps = g.steps; later = g.later; quiet = g.quiet; lands = g.lands; cost = omega (arith, g.cost, less); falls = g.falls }
-
     -- the value that instructions give, or their trap
-    answer_lands : (items : List Item) → current items ≡ 0 → (r : Result Scalar TrapKind) (kind : Kind) → Fits kind r → (p : ℕ) (stack : List ℕ) (end : ℕ) (below : List ℕ) → Rest (ValueOf kind) end below c a
+    answer_lands : (items : List Item) → current items ≡ ctx.stack.frame.activation → (r : Result Scalar TrapKind) (kind : Kind) → Fits kind r → (p : ℕ) (stack : List ℕ) (end : ℕ) (below : List ℕ) → Rest (ValueOf kind) end below c a
         → Lands ctx (answered modules r k (Now items)).phase (answered modules r k (Now items))
         (react (answer_row (going m p stack) end below r).0 (answer_row (going m p stack) end below r).1 (running (going m p stack) s.world)) c
     answer_lands items close (Ok v) kind fits p stack end below rest =
-        lands_on ctx s m shared (Value (Scalars v) ∷ k) end (scalar_word v ∷ below) c a fors
+        lands_on ctx s m shared (Value (Scalars v) ∷ k) end (scalar_word v ∷ below) c a
         (once (record { part = record { kind = kind; fits = fits; below = below; is = ap (λ (w : ℕ). w ∷ below) (sym (plain_word h kind v fits)) }; then = rest }))
     answer_lands items close (Err t) kind fits p stack end below rest =
         let there = both_trap ctx s items m t shared close in
-        record { finish = refl; world = refl; name = there.name; procedure = refl }
+        record { finish = refl; world = refl; known = there.known; name = there.name; procedure = refl }
 
     -- instructions that give a value, as the source does
-    instrs_go : (items : List Item) → current items ≡ 0 → (r : Result Scalar TrapKind) → next modules (Now items) ≡ answered modules r k (Now items) → (kind : Kind) → Fits kind r
+    instrs_go : (items : List Item) → current items ≡ ctx.stack.frame.activation → (r : Result Scalar TrapKind) → next modules (Now items) ≡ answered modules r k (Now items) → (kind : Kind) → Fits kind r
         → (end : ℕ) (below : List ℕ) → Rest (ValueOf kind) end below c a → (is : List Instr) (p : ℕ) (stack : List ℕ) → InstrsAt own.code is p end → Gives own is (going m p stack) below r
         → Goes ctx s items (going m p stack) (c + length is)
     instrs_go items close r becomes kind fits end below rest [] p stack here gives = absurd gives
     instrs_go items close r becomes kind fits end below rest (i ∷ []) p stack here gives =
         goes_one ctx s items (going m p stack) (c + 1) c _
         (advances (going m p stack) s.world _ (
-        at_step ctx (going m p stack) (shared_there ctx s m shared items p stack).program i here.0 here.1
+        at_step ctx (going m p stack) shared.program i here.0 here.1
         ∙ gives here.0
         ))
         (subst (λ (x : Source). Lands ctx x.phase x (react (answer_row (going m p stack) here.0 below r).0 (answer_row (going m p stack) here.0 below r).1 (running (going m p stack) s.world)) c) (sym becomes)
@@ -75,7 +74,7 @@ module _ (ctx : Setting) where
     instrs_go items close r becomes kind fits end below rest (i ∷ j ∷ is) p stack here gives =
         goes_after ctx s items (going m p stack) (going m here.0 gives.0) (c + length (i ∷ j ∷ is)) (c + length (j ∷ is))
         (advances (going m p stack) s.world _ (
-        at_step ctx (going m p stack) (shared_there ctx s m shared items p stack).program i here.0 here.1
+        at_step ctx (going m p stack) shared.program i here.0 here.1
         ∙ gives.1 here.0
         ))
         (instrs_go items close r becomes kind fits end below rest (j ∷ is) here.0 gives.0 here.2 (gives.2 here.0))
@@ -85,14 +84,14 @@ module _ (ctx : Setting) where
     constant_goes kind v row =
         goes_one ctx s (Evaluate (Constant kind v) ∷ k) m (c + 32) c (running (going m row.part.end (scalar_word v ∷ m.stack)) s.world)
         (advances m s.world _ (at_step ctx m shared.program (Liw (scalar_word v)) row.part.end row.part.here.load ∙ pushes (scalar_word v) row.part.end m (omega (arith, row.part.shallow))))
-        (lands_on ctx s m shared (Value (Scalars v) ∷ k) row.part.end (scalar_word v ∷ m.stack) c a fors
+        (lands_on ctx s m shared (Value (Scalars v) ∷ k) row.part.end (scalar_word v ∷ m.stack) c a
         (once (record { part = record { kind = kind; fits = row.part.here.fits; below = m.stack; is = ap (λ (w : ℕ). w ∷ m.stack) (sym (plain_word h kind v row.part.here.fits)) }; then = row.then })))
         (omega arith)
 
     pub taken_goes : (x : ℕ) (kind : Kind) → Waiting ctx (Evaluate (Taken (Variable x kind))) Rest Quiet m.place m.stack c a → Goes ctx s (Evaluate (Taken (Variable x kind)) ∷ k) m (c + 32)
     taken_goes x kind row =
         goes_none ctx s (Evaluate (Taken (Variable x kind)) ∷ k) m (c + 32) c
-        (lands_on ctx s m shared (PlaceOf (Variable x kind) ∷ Fill Get ∷ k) m.place m.stack c a fors
+        (lands_on ctx s m shared (PlaceOf (Variable x kind) ∷ Fill Get ∷ k) m.place m.stack c a
         (once (record {
           part = row.part.here.known;
           then = once (record { part = record { end = row.part.end; load = row.part.here.load; shallow = row.part.shallow }; then = row.then });
@@ -104,12 +103,12 @@ module _ (ctx : Setting) where
     one_goes o j e row =
         let first = expression_stands l own.code e m.place row.part.here.middle row.part.here.first in
         let by = instrs_order own.code (one_code o j) row.part.here.middle row.part.end row.part.here.by first.1 in
-        operand_goes ctx s k m c a shared fors (Evaluate (One o j e) ∷ k) e (OneOf o j) refl (omega arith) row.part.here.middle row.part.here.first row.part.shallow (omega (arith, by.0, row.part.within))
+        operand_goes ctx s k m c a shared (Evaluate (One o j e) ∷ k) e (OneOf o j) refl (omega arith) row.part.here.middle row.part.here.first row.part.shallow (omega (arith, by.0, row.part.within))
         (record { part = record { same = row.part.here.typed; takes = row.part.here.takes; end = row.part.end; by = row.part.here.by }; then = row.then })
 
     pub two_goes : (o : TwoOp) (j : Kind) (e f : Expression) → Waiting ctx (Evaluate (Two o j e f)) Rest Quiet m.place m.stack c a → Goes ctx s (Evaluate (Two o j e f) ∷ k) m (c + 32)
     two_goes o j e f row =
-        operand_goes ctx s k m c a shared fors (Evaluate (Two o j e f) ∷ k) e (LeftOf o j f) refl (omega arith) row.part.here.middle row.part.here.first (omega (arith, row.part.shallow))
+        operand_goes ctx s k m c a shared (Evaluate (Two o j e f) ∷ k) e (LeftOf o j f) refl (omega arith) row.part.here.middle row.part.here.first (omega (arith, row.part.shallow))
         (expression_within l own.code f row.part.here.middle row.part.here.last row.part.here.second)
         (record {
           part = record {
@@ -127,7 +126,7 @@ module _ (ctx : Setting) where
 
     pub short_begins : (d : Bool) (e f : Expression) → Waiting ctx (Evaluate (Short d e f)) Rest Quiet m.place m.stack c a → Goes ctx s (Evaluate (Short d e f) ∷ k) m (c + 32)
     short_begins d e f row =
-        operand_goes ctx s k m c a shared fors (Evaluate (Short d e f) ∷ k) e (ShortOf d f) refl (omega arith) row.part.here.middle row.part.here.first (omega (arith, row.part.shallow))
+        operand_goes ctx s k m c a shared (Evaluate (Short d e f) ∷ k) e (ShortOf d f) refl (omega arith) row.part.here.middle row.part.here.first (omega (arith, row.part.shallow))
         (instr_within own.code row.part.here.middle (short_code d row.part.end) row.part.here.start row.part.here.test)
         (record {
           part = record {
@@ -147,18 +146,15 @@ module _ (ctx : Setting) where
     apply_goes f e row =
         let first = expression_stands l own.code e m.place row.part.here.middle row.part.here.first in
         let by = instrs_order own.code (function_code f (kind_of e)) row.part.here.middle row.part.end row.part.here.by first.1 in
-        operand_goes ctx s k m c a shared fors (Evaluate (Apply f e) ∷ k) e (ApplyTo f) refl (omega arith) row.part.here.middle row.part.here.first (omega (arith, row.part.shallow)) (omega (arith, by.0, row.part.within))
+        operand_goes ctx s k m c a shared (Evaluate (Apply f e) ∷ k) e (ApplyTo f) refl (omega arith) row.part.here.middle row.part.here.first (omega (arith, row.part.shallow)) (omega (arith, by.0, row.part.within))
         (record { part = record { takes = row.part.here.takes; shallow = omega (arith, row.part.shallow); end = row.part.end; by = row.part.here.by }; then = row.then })
 
     pub place_goes : (x : ℕ) (kind : Kind) → Waiting ctx (PlaceOf (Variable x kind)) Rest Quiet m.place m.stack c a → Goes ctx s (PlaceOf (Variable x kind) ∷ k) m (c + 32)
     place_goes x kind row =
         let now : Place = record { root = Global (owner_of (slice_get s.activations (current k))) x; path = [] } in
-        let here : owner_of (slice_get s.activations (current k)) ≡ number = ap (λ (n : ℕ). owner_of (slice_get s.activations n)) (closed ctx k _ _ _ _ _ row.then) ∙ shared.owner in
-        let known : IsVariable ctx now row.part.offset kind =
-        subst (λ (n : ℕ). let place : Place = record { root = Global n x; path = [] } in IsVariable ctx place row.part.offset kind) (sym here)
-        (shared.laid.variables x row.part.offset kind row.part.at row.part.typed) in
+        let known : IsVariable ctx now row.part.offset kind = variable_here ctx s k m shared x row.part.offset kind (closed ctx k _ _ _ _ _ row.then) row.part.at row.part.typed in
         goes_none ctx s (PlaceOf (Variable x kind) ∷ k) m (c + 32) c
-        (lands_on ctx s m shared (Value (Places now) ∷ k) m.place m.stack c a fors
+        (lands_on ctx s m shared (Value (Places now) ∷ k) m.place m.stack c a
         (once (record { part = record { kind = kind; offset = row.part.offset; variable = known }; then = row.then })))
         (omega arith)
         (omega arith)
@@ -167,12 +163,9 @@ module _ (ctx : Setting) where
         → Goes ctx s (Value (Places place) ∷ Fill Get ∷ k) m (c + 32)
     get_goes place kind offset variable row =
         let value : Scalar = got s.cells place in
-        let cell : value ≡ s.cells place.root [] = ap (s.cells place.root) variable.path in
-        let word = shared.mem.holds place.root kind variable.living in
-        let inside : own.base + offset < 65536 = omega (arith, shared.mem.inside place.root kind variable.living, variable.at) in
-        let address : own.base + offset ≡ h.base place.root = omega (arith, variable.at) in
-        let loaded : get_or m.store (own.base + offset) 0 ≡ word_for h value =
-        ap (λ (n : ℕ). get_or m.store n 0) address ∙ word.word ∙ ap (word_for h) (sym cell) in
+        let word = shared.mem.holds place.root place.path kind variable.living in
+        let inside : own.base + offset < 65536 = omega (arith, (scalar_owned h s.cells m.store place.root place.path kind shared.mem variable.living).1, variable.at) in
+        let loaded : get_or m.store (own.base + offset) 0 ≡ word_for h value = ap (λ (n : ℕ). get_or m.store n 0) (sym variable.at) ∙ word.word in
         goes_one ctx s (Value (Places place) ∷ Fill Get ∷ k) m (c + 32) c (running (going m row.part.end (word_for h value ∷ m.stack)) s.world)
         (advances m s.world _ (
         at_step ctx m shared.program (Lgw offset) row.part.end row.part.load
@@ -180,11 +173,11 @@ module _ (ctx : Setting) where
         ∙ ap (λ (w : ℕ). push_row w row.part.end m) loaded
         ∙ pushes (word_for h value) row.part.end m (omega (arith, row.part.shallow))
         ))
-        (lands_on ctx s m shared (Value (Scalars value) ∷ k) row.part.end (word_for h value ∷ m.stack) c a fors
+        (lands_on ctx s m shared (Value (Scalars value) ∷ k) row.part.end (word_for h value ∷ m.stack) c a
         (once (record {
           part = record {
             kind = base_of kind;
-            fits = ap (within (base_of kind)) cell ∙ word.fits;
+            fits = word.fits;
             below = m.stack;
             is = refl;
           };
@@ -196,7 +189,7 @@ module _ (ctx : Setting) where
         → Goes ctx s (Value (Scalars v) ∷ Fill (LeftOf o j f) ∷ k) m (c + 32)
     left_goes o j f v kind fits below is row =
         let kinds : kind ≡ j = row.part.same in
-        operand_goes ctx s k m c a shared fors (Value (Scalars v) ∷ Fill (LeftOf o j f) ∷ k) f (RightOf o j v) refl (omega arith) row.part.middle row.part.here (omega (arith, row.part.shallow, ap length is))
+        operand_goes ctx s k m c a shared (Value (Scalars v) ∷ Fill (LeftOf o j f) ∷ k) f (RightOf o j v) refl (omega arith) row.part.middle row.part.here (omega (arith, row.part.shallow, ap length is))
         (instrs_within own.code (two_code o j) row.part.middle row.part.end (two_length o j row.part.takes).0 row.part.by)
         (record {
           part = record {
@@ -216,7 +209,7 @@ module _ (ctx : Setting) where
     right_goes o j u v kind fits below is row =
         let good : within j v ≡ true = ap (λ (i : Kind). within i v) (sym row.part.same) ∙ fits in
         let items : List Item = Value (Scalars v) ∷ Fill (RightOf o j u) ∷ k in
-        widened items m (c + length (two_code o j)) (c + 32)
+        goes_more ctx s items m (c + length (two_code o j)) (c + 32)
         (instrs_go items (closed ctx k _ _ _ _ _ row.then) (applied o j u v) refl (result_kind (is_relation o) j) (two_fits o j u v row.part.takes row.part.fits good)
         row.part.end row.part.below row.then (two_code o j) m.place m.stack row.part.by
         (two_gives own m row.part.below u v (is ∙ ap (λ (x : List ℕ). word_for h v ∷ x) row.part.is ∙ ap (λ (w : ℕ). w ∷ word_for h u ∷ row.part.below) (plain_word h j v good) ∙ ap (λ (w : ℕ). scalar_word v ∷ w ∷ row.part.below) (plain_word h j u row.part.fits)) o j row.part.takes row.part.fits good))
@@ -234,7 +227,7 @@ module _ (ctx : Setting) where
         let word : word_for h v ≡ word_for h u = plain_word h kind v fits ∙ sym kept.2 ∙ sym (plain_word h (function_kind f) u kept.3) in
         goes_none ctx s items m (c + 32) c
         (subst (λ (x : Source). Lands ctx x.phase x (running m s.world) c) (sym becomes)
-        (lands_on ctx s m shared (Value (Scalars u) ∷ k) m.place m.stack c a fors
+        (lands_on ctx s m shared (Value (Scalars u) ∷ k) m.place m.stack c a
         (once (record {
           part = record { kind = function_kind f; fits = kept.3; below = below; is = is ∙ ap (λ (w : ℕ). w ∷ below) word };
           then = subst (λ (q : ℕ). Rest (ValueOf (function_kind f)) q below c a) (sym end) row.then;
@@ -252,7 +245,7 @@ module _ (ctx : Setting) where
         by : (code : List Instr) → function_code f kind ≡ code → Goes ctx s items m (c + 32)
         by [] e = kept_goes f v kind fits below is row e
         by (i ∷ code) e =
-            widened items m (c + length (function_code f kind)) (c + 32)
+            goes_more ctx s items m (c + length (function_code f kind)) (c + 32)
             (instrs_go items (closed ctx k _ _ _ _ _ row.then) (function_value f v) refl (function_kind f) (function_fits f kind v row.part.takes fits)
             row.part.end below row.then (function_code f kind) m.place m.stack row.part.by
             (function_gives own m below v (is ∙ ap (λ (w : ℕ). w ∷ below) (plain_word h kind v fits)) f kind row.part.takes fits row.part.shallow
@@ -266,7 +259,7 @@ module _ (ctx : Setting) where
         let kinds : kind ≡ j = row.part.same in
         let good : within j v ≡ true = ap (λ (i : Kind). within i v) (sym kinds) ∙ fits in
         let items : List Item = Value (Scalars v) ∷ Fill (OneOf o j) ∷ k in
-        widened items m (c + length (one_code o j)) (c + 32)
+        goes_more ctx s items m (c + length (one_code o j)) (c + 32)
         (instrs_go items (closed ctx k _ _ _ _ _ row.then) (one_applied o j v) refl j (one_fits o j v row.part.takes good)
         row.part.end below row.then (one_code o j) m.place m.stack row.part.by
         (one_gives own m below v (is ∙ ap (λ (w : ℕ). w ∷ below) (plain_word h kind v fits)) o j row.part.takes some good))
@@ -277,7 +270,7 @@ module _ (ctx : Setting) where
     one_of_goes one.Plus j v kind fits below is row =
         let kinds : kind ≡ j = row.part.same in
         goes_none ctx s (Value (Scalars v) ∷ Fill (OneOf one.Plus j) ∷ k) m (c + 32) c
-        (lands_on ctx s m shared (Value (Scalars v) ∷ k) m.place m.stack c a fors
+        (lands_on ctx s m shared (Value (Scalars v) ∷ k) m.place m.stack c a
         (once (record {
           part = record {
             kind = j;
@@ -300,14 +293,14 @@ module _ (ctx : Setting) where
         goes_one ctx s items m (c + 32) c (running (going m row.part.end m.stack) s.world)
         (advances m s.world _ step)
         (subst (λ (x : Source). Lands ctx x.phase x (running (going m row.part.end m.stack) s.world) c) (sym becomes)
-        (lands_on ctx s m shared (Value (Scalars v) ∷ k) row.part.end m.stack c a fors
+        (lands_on ctx s m shared (Value (Scalars v) ∷ k) row.part.end m.stack c a
         (once (record { part = record { kind = OfTruth; fits = fits; below = below; is = is }; then = row.then }))))
         (omega arith)
     short_goes d f items v false becomes fits kind below is row step =
         goes_one ctx s items m (c + 32) c (running (going m row.part.start below) s.world)
         (advances m s.world _ step)
         (subst (λ (x : Source). Lands ctx x.phase x (running (going m row.part.start below) s.world) c) (sym becomes)
-        (lands_on ctx s m shared (Evaluate f ∷ k) row.part.start below c a fors
+        (lands_on ctx s m shared (Evaluate f ∷ k) row.part.start below c a
         (once (record {
           part = record {
             end = row.part.end;

@@ -16,23 +16,24 @@ use Rattle.lil_mcode.specs.State.{State}
 use Rattle.lil_mcode.specs.Table.{act, truth, going}
 use Rattle.lil_table.specs.Rows.{IsAt, LeaveRow, AlignAt}
 use Rattle.lil_match.specs.Running.{Run, running, react}
-use Rattle.lil_match.specs.Homes.{yes}
+use Rattle.lil_match.specs.Parts.{yes}
 use Rattle.lil_match.specs.Ranges.{has, value_none}
 use Rattle.lil_match.specs.Tests.{covered}
-use Rattle.lil_match.specs.Goes.{HasFors, Shared, Goes, Lands}
-use Rattle.lil_match.specs.Waits.{Setting, laid_out, Quiet, Around, Rows, BeginWaits}
+use Rattle.lil_match.specs.Goes.{Shared, Goes, Lands}
+use Rattle.lil_match.specs.Waits.{Setting, frame_of, laid_out, Quiet, Around, Rows, BeginWaits}
 use Rattle.lil_match.specs.Orders.{instr_within}
 use Rattle.lil_match.specs.Closing.{closed, both_trap}
-use Rattle.lil_match.specs.Steps.{advances, at_step, rows_ahead, lands_on, goes_one, goes_after}
+use Rattle.lil_match.specs.Steps.{advances, at_step, rows_ahead, lands_on, goes_one, goes_after, goes_more}
 use Rattle.lil_laws_stmt.specs.Starts.{has_base, is_small, small_has, IsOutside, outside, outside_none, outside_some, small_between, small_less}
-use Rattle.lil_laws_stmt.specs.Fors.{shared_stored, goes_more, bounded_goes}
+use Rattle.lil_laws_stmt.specs.Fors.{bounded_goes}
 
 module _ (ctx : Setting) where
-  open ctx use {modules, table, own, number, home as h}
+  open ctx use {modules, table, home as h}
+  open frame_of ctx use {own, number}
   open laid_out ctx use {layout as l}
 
   -- ---- a start of another type of whole numbers
-  module _ (s : Source) (k : List Item) (m : State) (c : ℕ) (a : Around) (shared : Shared ctx s m) (fors : HasFors ctx m.frame m.store a.fors)
+  module _ (s : Source) (k : List Item) (m : State) (c : ℕ) (a : Around) (shared : Shared ctx s m)
       (x : ℕ) (kind : Kind) (first step : ℤ) (left : ℕ) (body : Statements) (row : BeginWaits ctx x kind first step left body (Rows ctx k) Quiet m.place m.stack c a) where
     abbrev here : List Item
     here = Perform (Turns (Variable x kind) first step left body) ∷ k
@@ -44,14 +45,11 @@ module _ (ctx : Setting) where
     abbrev at : ℕ → List ℕ → State
     at p stack = going m p stack
 
-    there : (p : ℕ) (stack : List ℕ) → Shared ctx s (at p stack)
-    there p stack = shared_stored ctx s m shared p stack m.store shared.mem
-
     -- an instruction that changes the place and the expression stack alone
     leads : (i : Instr) (p gap q : ℕ) (stack next : List ℕ) (budget rest : ℕ) → IsAt own.code p i gap → act i gap own (at p stack) ≡ (Went, at q next) → Goes ctx s here (at q next) rest → rest + 1 ≤ budget
         → Goes ctx s here (at p stack) budget
     leads i p gap q stack next budget rest stands row goes less =
-        goes_after ctx s here (at p stack) (at q next) budget rest (advances (at p stack) s.world _ (at_step ctx (at p stack) (there p stack).program i gap stands ∙ row)) goes less
+        goes_after ctx s here (at p stack) (at q next) budget rest (advances (at p stack) s.world _ (at_step ctx (at p stack) shared.program i gap stands ∙ row)) goes less
 
     -- one that goes on behind itself
     does : (i : Instr) (p q : ℕ) (stack next : List ℕ) (budget rest : ℕ) → IsAt own.code p i q → act i q own (at p stack) ≡ (Went, at q next) → Goes ctx s here (at q next) rest → rest + 1 ≤ budget
@@ -61,7 +59,7 @@ module _ (ctx : Setting) where
     -- both bounds are numbers of one kind
     aligned : has base first ≡ true → Goes ctx s here (at row.turns.aligned (word_of row.limit ∷ word_of first ∷ [])) (c + 24)
     aligned fits =
-        bounded_goes ctx s k (at row.turns.aligned (word_of row.limit ∷ word_of first ∷ [])) c a (there row.turns.aligned (word_of row.limit ∷ word_of first ∷ [])) fors x kind first step left body
+        bounded_goes ctx s k (at row.turns.aligned (word_of row.limit ∷ word_of first ∷ [])) c a shared x kind first step left body
         (record {
           limit = row.limit;
           fits = fits;
@@ -98,7 +96,7 @@ module _ (ctx : Setting) where
             subst (λ (o : Option Scalar). Lands ctx (turned_with modules o x body (Perform (Turns (Variable x kind) (first +ℤ step) step u body) ∷ k) (record s { items = items; phase = Going })).phase
             (turned_with modules o x body (Perform (Turns (Variable x kind) (first +ℤ step) step u body) ∷ k) (record s { items = items; phase = Going })) run c)
             (sym (value_none kind first none_there))
-            (both_trap ctx s items (at p stack) trap.Range (there p stack) (closed ctx k Quiet row.end [] c a row.then))
+            (both_trap ctx s items (at p stack) trap.Range shared (closed ctx k Quiet row.end [] c a row.then))
 
         tested : (b : Bool) → has base first ≡ b → (p q r : ℕ) → IsAt own.code p (Rgc 0 32767) q → IsAt own.code q Swp r → r ≡ row.turns.aligned
             → Goes ctx s here (at p (word_of first ∷ word_of row.limit ∷ [])) (c + 31)
@@ -119,7 +117,7 @@ module _ (ctx : Setting) where
                 (omega arith)
             by false e =
                 goes_one ctx s here (at p (word_of first ∷ word_of row.limit ∷ [])) (c + 31) c _
-                (advances (at p (word_of first ∷ word_of row.limit ∷ [])) s.world _ (at_step ctx (at p (word_of first ∷ word_of row.limit ∷ [])) (there p (word_of first ∷ word_of row.limit ∷ [])).program (Rgc 0 32767) q one ∙ does_test false e))
+                (advances (at p (word_of first ∷ word_of row.limit ∷ [])) s.world _ (at_step ctx (at p (word_of first ∷ word_of row.limit ∷ [])) shared.program (Rgc 0 32767) q one ∙ does_test false e))
                 (traps left (sym row.count) e p (word_of first ∷ word_of row.limit ∷ []))
                 (omega arith)
 
@@ -128,7 +126,7 @@ module _ (ctx : Setting) where
         leaves : (u : ℕ) → turns first row.limit step ≡ u → has base first ≡ false
             → Lands ctx (next modules (record s { items = Perform (Turns (Variable x kind) first step u body) ∷ k; phase = Going })).phase
             (next modules (record s { items = Perform (Turns (Variable x kind) first step u body) ∷ k; phase = Going })) (running (at row.end []) s.world) c
-        leaves zero e none = lands_on ctx s m shared k row.end [] c a fors (rows_ahead ctx k row.end [] c a row.then)
+        leaves zero e none = lands_on ctx s m shared k row.end [] c a (rows_ahead ctx k row.end [] c a row.then)
         leaves (suc u) e none = absurd (let z = sym e ∙ outside_none (compared_as base) first row.limit step (lies none) way row.turns.round.is_step in omega (arith, z))
 
         jumps : (b : Bool) → has base first ≡ b → Goes ctx s here (at leave.tested (truth (not b) ∷ word_of first ∷ word_of row.limit ∷ [])) (c + 28)
@@ -143,7 +141,7 @@ module _ (ctx : Setting) where
             (does Drp leave.drop.0 leave.drop.2.0 (word_of row.limit ∷ []) [] (c + 26) (c + 25) leave.drop.2.1 refl
             (goes_one ctx s here (at leave.drop.2.0 []) (c + 25) c (running (at row.end []) s.world)
             (advances (at leave.drop.2.0 []) s.world _ (
-            at_step ctx (at leave.drop.2.0 []) (there leave.drop.2.0 []).program (Jmp row.end) leave.other (subst (λ (q : ℕ). IsAt own.code q (Jmp row.end) leave.other) (sym leave.drop.2.2) leave.leave)
+            at_step ctx (at leave.drop.2.0 []) shared.program (Jmp row.end) leave.other (subst (λ (q : ℕ). IsAt own.code q (Jmp row.end) leave.other) (sym leave.drop.2.2) leave.leave)
             ∙ yes _ _ _ (lt-ltb row.end (length own.code) row.within)
             ))
             (leaves left (sym row.count) e)

@@ -18,13 +18,14 @@ use Rattle.lil_mcode.specs.Table.{going, on_one, case_row, chosen_row}
 use Rattle.lil_table.specs.LabelLaws.{ordinal_in, label_in}
 use Rattle.lil_table.specs.Rows.{Layout, IsAt, BodyAt, EntriesAt, ArmsAt}
 use Rattle.lil_match.specs.Running.{running, advanced, react}
-use Rattle.lil_match.specs.Homes.{word_for, plain_word, yes}
-use Rattle.lil_match.specs.Goes.{HasFors, Shared, Goes, Lands}
-use Rattle.lil_match.specs.Waits.{Setting, laid_out, Quiet, ValueOf, Around, Reach, Rows, Waiting}
+use Rattle.lil_match.specs.Parts.{yes}
+use Rattle.lil_match.specs.Homes.{word_for, plain_word}
+use Rattle.lil_match.specs.Goes.{Shared, Goes, Lands}
+use Rattle.lil_match.specs.Waits.{Setting, frame_of, laid_out, Quiet, ValueOf, Around, Reach, Rows, Waiting}
 use Rattle.lil_match.specs.Orders.{instr_within, body_within}
 use Rattle.lil_match.specs.Closing.{closed, both_trap}
 use Rattle.lil_match.specs.Arithmetic.{word_is}
-use Rattle.lil_match.specs.Steps.{advances, at_step, rows_jump, rows_ahead, shared_there, lands_on, goes_one, goes_after, jumps_to, operand_goes}
+use Rattle.lil_match.specs.Steps.{advances, at_step, rows_jump, rows_ahead, lands_on, goes_one, goes_after, jumps_to, operand_goes}
 use Rattle.lil_laws_stmt.specs.Control.{body_rows}
 use Rattle.lil_base.specs.Laws.{bounds}
 
@@ -120,16 +121,17 @@ module _ (l : Layout) (code : List ℕ) (n : ℕ) (around : Option ℕ) (k : Kin
       by_label after false r = subst (λ (o : Option ℕ). Reached (meaning.chosen rest z) o) (sym r.3) (after r.0 r.1 r.2)
 
 module _ (ctx : Setting) where
-  open ctx use {modules, table, own, number, home as h}
+  open ctx use {modules, table, home as h}
+  open frame_of ctx use {own, number}
   open laid_out ctx use {layout as l}
 
-  module _ (s : Source) (k : List Item) (m : State) (c : ℕ) (a : Around) (shared : Shared ctx s m) (fors : HasFors ctx m.frame m.store a.fors) where
+  module _ (s : Source) (k : List Item) (m : State) (c : ℕ) (a : Around) (shared : Shared ctx s m) where
     abbrev Rest : Reach
     Rest = Rows ctx k
 
     pub case_goes : (e : Expression) (arms : Arms) → Waiting ctx (Perform (Do (Case e arms))) Rest Quiet m.place m.stack c a → Goes ctx s (Perform (Do (Case e arms)) ∷ k) m (c + 32)
     case_goes e arms row =
-        operand_goes ctx s k m c a shared fors (Perform (Do (Case e arms)) ∷ k) e (Pick arms) refl (omega arith) row.part.here.middle row.part.here.value.value (omega (arith, row.part.here.value.shallow, ap length row.part.empty))
+        operand_goes ctx s k m c a shared (Perform (Do (Case e arms)) ∷ k) e (Pick arms) refl (omega arith) row.part.here.middle row.part.here.value.value (omega (arith, row.part.here.value.shallow, ap length row.part.empty))
         (instr_within own.code row.part.here.middle (Jmp row.part.here.choices) row.part.here.exit row.part.here.dispatch)
         (record { part = record { of = e; same = refl; from = m.place; did = row.part; at = refl }; then = row.then })
 
@@ -137,7 +139,7 @@ module _ (ctx : Setting) where
         → Waiting ctx (Fill (Pick arms)) Rest (ValueOf kind) m.place below c a → Goes ctx s (Value (Scalars v) ∷ Fill (Pick arms) ∷ k) m (c + 32)
     pick_goes arms v kind fit below is row =
         by_choice (meaning.chosen arms (ordinal_of v)) refl
-        (arms_found l own.code (length a.fors) a.exit (kind_of row.part.of) row.part.did.here.base row.part.did.here.exit row.part.did.here.other row.part.did.here.choices (ordinal_of v) inside arms row.part.did.here.start row.part.did.here.entries row.part.did.here.count row.part.did.here.bodies)
+        (arms_found l own.code (a.loops) a.exit (kind_of row.part.of) row.part.did.here.base row.part.did.here.exit row.part.did.here.other row.part.did.here.choices (ordinal_of v) inside arms row.part.did.here.start row.part.did.here.entries row.part.did.here.count row.part.did.here.bodies)
       where
         items : List Item
         items = Value (Scalars v) ∷ Fill (Pick arms) ∷ k
@@ -158,23 +160,23 @@ module _ (ctx : Setting) where
             → advanced (running (going m row.part.did.here.choices m.stack) s.world) ≡ running (going m to []) s.world
         chooses to target inside =
             advances choosing s.world _ (
-            at_step ctx choosing (shared_there ctx s m shared items row.part.did.here.choices m.stack).program (Cas row.part.did.here.count row.part.did.here.other) row.part.did.here.entries row.part.did.here.choice
+            at_step ctx choosing shared.program (Cas row.part.did.here.count row.part.did.here.other) row.part.did.here.entries row.part.did.here.choice
             ∙ ap (λ (st : List ℕ). on_one choosing st (case_row own row.part.did.here.count row.part.did.here.other row.part.did.here.entries choosing)) stack
             ∙ ap (chosen_row own choosing []) target
             ∙ yes _ _ _ (lt-ltb to (length own.code) inside)
             )
 
         by_choice : (b : Option Statements) → meaning.chosen arms (ordinal_of v) ≡ b
-            → Reached l own.code (length a.fors) a.exit (kind_of row.part.of) row.part.did.here.base row.part.did.here.exit row.part.did.here.other row.part.did.here.choices (ordinal_of v) inside b (machine.chosen own.code row.part.did.here.count row.part.did.here.entries (word_of (ordinal_of v)) row.part.did.here.other)
+            → Reached l own.code (a.loops) a.exit (kind_of row.part.of) row.part.did.here.base row.part.did.here.exit row.part.did.here.other row.part.did.here.choices (ordinal_of v) inside b (machine.chosen own.code row.part.did.here.count row.part.did.here.entries (word_of (ordinal_of v)) row.part.did.here.other)
             → Goes ctx s (Value (Scalars v) ∷ Fill (Pick arms) ∷ k) m (c + 32)
         by_choice (Some body) e (start, end, gap, target, here, leave) =
             let ends : end < length own.code = instr_within own.code end (Jmp row.part.did.here.exit) gap leave in
             let out : Source = record s { items = items; phase = Going } in
             goes_after ctx s items m choosing (c + 32) (c + 31) dispatched
             (goes_one ctx s items choosing (c + 31) (suc (suc c)) (running (going m start []) s.world)
-            (chooses start target (body_within l own.code (length a.fors) a.exit body start end here ends))
+            (chooses start target (body_within l own.code (a.loops) a.exit body start end here ends))
             (subst (λ (b : Option Statements). Lands ctx (picked modules b k out).phase (picked modules b k out) (running (going m start []) s.world) (suc (suc c))) (sym e)
-            (lands_on ctx s m shared (doing body k) start [] (suc (suc c)) a fors
+            (lands_on ctx s m shared (doing body k) start [] (suc (suc c)) a
             (rows_ahead ctx (doing body k) start [] (suc (suc c)) a
             (body_rows ctx body k start end (suc (suc c)) a here ends
             (rows_jump ctx k Quiet end row.part.did.here.exit gap [] (suc c) a leave (instr_within own.code row.part.did.here.exit (Jmp row.part.did.end) row.part.did.here.start row.part.did.here.leave)
@@ -184,14 +186,13 @@ module _ (ctx : Setting) where
         by_choice None e (start, gap, target, trap_there) =
             let n : State = going m start [] in
             let out : Source = record s { items = items; phase = Going } in
-            let there = shared_there ctx s m shared items start [] in
             goes_after ctx s items m choosing (c + 32) (c + 31) dispatched
             (goes_after ctx s items choosing n (c + 31) (c + 30)
             (chooses start target (instr_within own.code start (Trp 7) gap trap_there))
             (goes_one ctx s items n (c + 30) c (react (Trap trap.Case) n (running n s.world))
-            (advances n s.world _ (at_step ctx n there.program (Trp 7) gap trap_there))
+            (advances n s.world _ (at_step ctx n shared.program (Trp 7) gap trap_there))
             (subst (λ (b : Option Statements). Lands ctx (picked modules b k out).phase (picked modules b k out) (react (Trap trap.Case) n (running n s.world)) c) (sym e)
-            (both_trap ctx out items n trap.Case there (closed ctx k _ _ _ _ _ row.then)))
+            (both_trap ctx out items n trap.Case shared (closed ctx k _ _ _ _ _ row.then)))
             (omega arith))
             (omega arith))
             (omega arith)

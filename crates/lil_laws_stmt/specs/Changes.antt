@@ -8,6 +8,7 @@ use Rattle.lil_base.specs.declared.fault.ArithFault.{ArithFault}
 use Rattle.lil_resolved.specs.Kinds.{Kind, OfWhole, base_of}
 use Rattle.lil_resolved.specs.Scalars.{Scalar, Number, within, scalar_of, scalar_word, ordinal_of}
 use Rattle.lil_resolved.specs.Resolved.{Variable, Expression, Change, counted_as}
+use Rattle.lil_meaning.specs.Shapes.{Word}
 use Rattle.lil_meaning.specs.Cells.{Place, got}
 use Rattle.lil_meaning.specs.Items.{Scalars, Places, ChangeBy, ChangeAt, Do, Item, Value, PlaceOf, Fill, Perform, Going, Source}
 use Rattle.lil_meaning.specs.Steps.{current, whole_of, changed, value_of, valued, stored_with}
@@ -17,14 +18,15 @@ use Rattle.lil_mcode.specs.State.{Module, State}
 use Rattle.lil_mcode.specs.Table.{mstep, act, going, push_row, result_row, two_row}
 use Rattle.lil_table.specs.Rows.{IsAt, InstrsAt, whole_code, change_operator, change_code, test_code}
 use Rattle.lil_match.specs.Running.{running, advanced}
-use Rattle.lil_match.specs.Homes.{word_for, plain_word, yes, Word}
-use Rattle.lil_match.specs.Goes.{IsProgram, HasFors, Shared, Goes}
-use Rattle.lil_match.specs.Waits.{Setting, Quiet, ValueOf, Direct, Around, Reach, Rows, IsVariable, Waiting}
+use Rattle.lil_match.specs.Parts.{yes}
+use Rattle.lil_match.specs.Homes.{word_for, plain_word, address, IsWord, scalar_owned}
+use Rattle.lil_match.specs.Goes.{Shared, Goes}
+use Rattle.lil_match.specs.Waits.{Setting, frame_of, Quiet, ValueOf, Direct, Around, Reach, Rows, IsVariable, Waiting}
 use Rattle.lil_match.specs.Orders.{instrs_within}
 use Rattle.lil_match.specs.Arithmetic.{word_is, reads_ordinal, reads, sum_fits, difference_fits}
 use Rattle.lil_match.specs.Ranges.{has, value_is, value_none, value_fits, number_is}
 use Rattle.lil_match.specs.Closing.{closed}
-use Rattle.lil_match.specs.Steps.{advances, pushes, at_step, at_once, shared_there, lands_on, goes_none, goes_after, operand_goes}
+use Rattle.lil_match.specs.Steps.{advances, pushes, at_step, at_once, lands_on, goes_none, goes_after, operand_goes}
 use Rattle.lil_laws_stmt.specs.Stores.{trap_goes, number_tested, stored_goes}
 
 -- the one instruction of the sum or the difference
@@ -56,9 +58,10 @@ split code [] js p q h = (p, refl, h)
 split code (i ∷ is) js p q h = let more = split code is js h.0 q h.2 in (more.0, (h.0, h.1, more.1), more.2)
 
 module _ (ctx : Setting) where
-  open ctx use {modules, table, own, number, home as h}
+  open ctx use {modules, table, home as h}
+  open frame_of ctx use {own, number}
 
-  module _ (s : Source) (k : List Item) (m : State) (c : ℕ) (a : Around) (shared : Shared ctx s m) (fors : HasFors ctx m.frame m.store a.fors) where
+  module _ (s : Source) (k : List Item) (m : State) (c : ℕ) (a : Around) (shared : Shared ctx s m) where
     abbrev Rest : Reach
     Rest = Rows ctx k
 
@@ -66,7 +69,7 @@ module _ (ctx : Setting) where
         → Waiting ctx (Perform (Do (Change down (Variable x kind) e))) Rest Quiet m.place m.stack c a → Goes ctx s (Perform (Do (Change down (Variable x kind) e)) ∷ k) m (c + 32)
     change_goes down x kind e row =
         goes_none ctx s (Perform (Do (Change down (Variable x kind) e)) ∷ k) m (c + 32) c
-        (lands_on ctx s m shared (PlaceOf (Variable x kind) ∷ Fill (ChangeBy down kind e) ∷ k) m.place m.stack c a fors
+        (lands_on ctx s m shared (PlaceOf (Variable x kind) ∷ Fill (ChangeBy down kind e) ∷ k) m.place m.stack c a
         (at_once ctx _ Quiet m.place m.stack c a
         (record {
           part = row.part.here.known;
@@ -92,8 +95,8 @@ module _ (ctx : Setting) where
         → Waiting ctx (Fill (ChangeBy down to e)) Rest (Direct offset kind) m.place m.stack c a → Goes ctx s (Value (Places place) ∷ Fill (ChangeBy down to e) ∷ k) m (c + 32)
     change_by_goes down to e place kind offset is row =
         let same_kind : kind ≡ to = row.part.same in
-        let variable : IsVariable ctx place offset to = record { path = is.path; living = is.living ∙ ap Word same_kind; at = is.at } in
-        operand_goes ctx s k m c a shared fors (Value (Places place) ∷ Fill (ChangeBy down to e) ∷ k) e (ChangeAt down place to) refl (omega arith)
+        let variable : IsVariable ctx place offset to = record { seen = is.seen; living = is.living ∙ ap Word same_kind; at = is.at } in
+        operand_goes ctx s k m c a shared (Value (Places place) ∷ Fill (ChangeBy down to e) ∷ k) e (ChangeAt down place to) refl (omega arith)
         row.part.middle row.part.value.value (omega (arith, row.part.value.shallow, ap length row.part.empty))
         (instrs_within own.code (change_code down to offset) row.part.middle row.part.end (omega arith) row.part.by)
         (record {
@@ -144,34 +147,27 @@ module _ (ctx : Setting) where
       abbrev done : ℤ → State
       done z = going m operation.0 (word_of z ∷ [])
 
-      program : (p : ℕ) (stack : List ℕ) → IsProgram ctx (going m p stack)
-      program p stack = (shared_there ctx s m shared items p stack).program
-
-      close : current items ≡ 0
+      close : current items ≡ ctx.stack.frame.activation
       close = closed ctx k _ _ _ _ _ row.then
 
       good : within (OfWhole t) v ≡ true
       good = ap (λ (j : Kind). within j v) (sym row.part.same) ∙ fit
 
-      cell : old ≡ s.cells place.root []
-      cell = ap (s.cells place.root) row.part.variable.path
+      kept_word : IsWord h to old (get_or m.store (address h place) 0)
+      kept_word = shared.mem.holds place.root place.path to row.part.variable.living
 
       old_fits : within (base_of to) old ≡ true
-      old_fits = ap (within (base_of to)) cell ∙ (shared.mem.holds place.root to row.part.variable.living).fits
+      old_fits = kept_word.fits
 
       old_word : get_or m.store (own.base + row.part.offset) 0 ≡ scalar_word old
-      old_word =
-          ap (λ (n : ℕ). get_or m.store n 0) (sym row.part.variable.at)
-          ∙ (shared.mem.holds place.root to row.part.variable.living).word
-          ∙ ap (word_for h) (sym cell)
-          ∙ plain_word h (base_of to) old old_fits
+      old_word = ap (λ (n : ℕ). get_or m.store n 0) (sym row.part.variable.at) ∙ kept_word.word ∙ plain_word h (base_of to) old old_fits
 
       stack_is : m.stack ≡ scalar_word v ∷ []
       stack_is = is ∙ ap (λ (x : List ℕ). word_for h v ∷ x) row.part.empty ∙ ap (λ (w : ℕ). w ∷ []) (plain_word h kind v fit)
 
       loads : advanced (running m s.world) ≡ running first s.world
       loads =
-          let inside : own.base + row.part.offset < 65536 = omega (arith, shared.mem.inside place.root to row.part.variable.living, row.part.variable.at) in
+          let inside : own.base + row.part.offset < 65536 = omega (arith, (scalar_owned h s.cells m.store place.root place.path to shared.mem row.part.variable.living).1, row.part.variable.at) in
           advances m s.world _ (
           at_step ctx m shared.program (Lgw row.part.offset) row.part.by.0 row.part.by.1
           ∙ yes _ _ _ (lt-ltb (own.base + row.part.offset) 65536 inside)
@@ -181,11 +177,11 @@ module _ (ctx : Setting) where
           ∙ ap (λ (x : List ℕ). running (going m row.part.by.0 (scalar_word old ∷ x)) s.world) stack_is
 
       swaps : advanced (running first s.world) ≡ running both s.world
-      swaps = advances first s.world _ (at_step ctx first (program first.place first.stack) Swp row.part.by.2.0 row.part.by.2.1)
+      swaps = advances first s.world _ (at_step ctx first shared.program Swp row.part.by.2.0 row.part.by.2.1)
 
       operates : mstep both ≡ result_row both operation.0 [] result
       operates =
-          at_step ctx both (program both.place both.stack) (change_instr down t) operation.0 operation.1
+          at_step ctx both shared.program (change_instr down t) operation.0 operation.1
           ∙ change_act down t operation.0 own both
           ∙ ap (λ (z : ℤ). result_row both operation.0 [] (changed down t z (number_of t (scalar_word v)))) (reads_ordinal (base_of to) old row.part.base old_fits)
           ∙ ap (λ (z : ℤ). result_row both operation.0 [] (changed down t (ordinal_of old) z)) (reads t v good)
@@ -209,7 +205,7 @@ module _ (ctx : Setting) where
           (λ none. ap store_result e ∙ ap store_value (value_none to z none))
           (λ one.
           stored_goes ctx s items m shared parts.0 (word_of z ∷ []) place row.part.offset to row.part.variable (scalar_of to z) (value_fits to z one) []
-          (ap (λ (w : ℕ). w ∷ []) (new_word z one)) row.part.end store k (ap store_result e ∙ ap store_value (value_is to z one)) c (c + 1) a fors row.then (omega arith))
+          (ap (λ (w : ℕ). w ∷ []) (new_word z one)) row.part.end store k (ap store_result e ∙ ap store_value (value_is to z one)) c (c + 1) a row.then (omega arith))
           (omega arith)
 
       -- the operation gives a number, or traps

@@ -13,10 +13,11 @@ use Rattle.lil_mcode.specs.State.{State}
 use Rattle.lil_mcode.specs.Table.{going, on_one, false_row}
 use Rattle.lil_table.specs.Rows.{IsAt, StatementAt, BodyAt, ExpressionAt}
 use Rattle.lil_match.specs.Running.{running, advanced}
-use Rattle.lil_match.specs.Homes.{word_for, yes}
-use Rattle.lil_match.specs.Goes.{HasFors, Shared, Goes, Lands}
+use Rattle.lil_match.specs.Parts.{yes}
+use Rattle.lil_match.specs.Homes.{word_for}
+use Rattle.lil_match.specs.Goes.{Shared, Goes, Lands}
 use Rattle.lil_match.specs.Stutter.{stutter, body_stutter}
-use Rattle.lil_match.specs.Waits.{Setting, laid_out, Quiet, ValueOf, Around, Reach, Rows, Ahead, LoopingWaits, Waiting}
+use Rattle.lil_match.specs.Waits.{Setting, frame_of, laid_out, Quiet, ValueOf, Around, Reach, Rows, Ahead, LoopingWaits, Waiting}
 use Rattle.lil_match.specs.Orders.{instr_within, expression_within, statement_within, body_within}
 use Rattle.lil_match.specs.Steps.{advances, at_step, at_once, rows_jump, rows_ahead, lands_on, goes_none, goes_one, jumps_to, operand_goes}
 
@@ -30,11 +31,12 @@ doing_stutter Empty k = omega arith
 doing_stutter (Then s ss) k = omega (arith, doing_stutter ss k)
 
 module _ (ctx : Setting) where
-  open ctx use {modules, table, own, number, home as h}
+  open ctx use {modules, table, home as h}
+  open frame_of ctx use {own, number}
   open laid_out ctx use {layout as l}
 
   -- statements stand before what is left
-  pub body_rows : (ss : Statements) (k : List Item) (p q c : ℕ) (a : Around) → BodyAt l own.code (length a.fors) a.exit ss p q → q < length own.code
+  pub body_rows : (ss : Statements) (k : List Item) (p q c : ℕ) (a : Around) → BodyAt l own.code (a.loops) a.exit ss p q → q < length own.code
       → Rows ctx k Quiet q [] c a → Rows ctx (doing ss k) Quiet p [] c a
   body_rows Empty k p q c a here inside rest = subst (λ (x : ℕ). Rows ctx k Quiet x [] c a) (sym here) rest
   body_rows (Then s ss) k p q c a here inside rest =
@@ -44,7 +46,7 @@ module _ (ctx : Setting) where
           empty = refl;
           end = here.middle;
           here = here.here;
-          within = body_within l own.code (length a.fors) a.exit ss here.middle q here.then inside;
+          within = body_within l own.code (a.loops) a.exit ss here.middle q here.then inside;
         };
         then = body_rows ss k here.middle q c a here.then inside rest;
       })
@@ -52,14 +54,14 @@ module _ (ctx : Setting) where
   -- a step of the machine to a place with an empty expression stack, where the items stand with which the source goes on
   pub goes_to : (s : Source) (m : State) (shared : Shared ctx s m) (i after : List Item) (q budget later : ℕ) (a : Around)
       → next modules (record s { items = i; phase = Going }) ≡ record s { items = after; phase = Going } → advanced (running m s.world) ≡ running (going m q []) s.world
-      → HasFors ctx m.frame m.store a.fors → Rows ctx after Quiet q [] later a → later + 1 ≤ budget → Goes ctx s i m budget
-  goes_to s m shared i after q budget later a source machine fors rows less =
+      → Rows ctx after Quiet q [] later a → later + 1 ≤ budget → Goes ctx s i m budget
+  goes_to s m shared i after q budget later a source machine rows less =
       goes_one ctx s i m budget later (running (going m q []) s.world) machine
       (subst (λ (t : Source). Lands ctx t.phase t (running (going m q []) s.world) later) (sym source)
-      (lands_on ctx s m shared after q [] later a fors (rows_ahead ctx after q [] later a rows)))
+      (lands_on ctx s m shared after q [] later a (rows_ahead ctx after q [] later a rows)))
       less
 
-  module _ (s : Source) (k : List Item) (m : State) (c : ℕ) (a : Around) (shared : Shared ctx s m) (fors : HasFors ctx m.frame m.store a.fors) where
+  module _ (s : Source) (k : List Item) (m : State) (c : ℕ) (a : Around) (shared : Shared ctx s m) where
     abbrev Rest : Reach
     Rest = Rows ctx k
 
@@ -91,7 +93,7 @@ module _ (ctx : Setting) where
 
     pub if_goes : (x : Expression) (first second : Statements) → Waiting ctx (Perform (Do (If x first second))) Rest Quiet m.place m.stack c a → Claim (Perform (Do (If x first second)) ∷ k)
     if_goes x first second row =
-        operand_goes ctx s k m c a shared fors (Perform (Do (If x first second)) ∷ k) x (Choose first second) refl (omega arith) row.part.here.middle row.part.here.condition.value (omega (arith, row.part.here.condition.shallow, ap length row.part.empty))
+        operand_goes ctx s k m c a shared (Perform (Do (If x first second)) ∷ k) x (Choose first second) refl (omega arith) row.part.here.middle row.part.here.condition.value (omega (arith, row.part.here.condition.shallow, ap length row.part.empty))
         (instr_within own.code row.part.here.middle (Jpf row.part.here.other) row.part.here.start row.part.here.jump)
         (record { part = record { same = row.part.here.condition.typed; of = x; from = m.place; did = row.part; at = refl }; then = row.then })
 
@@ -100,26 +102,24 @@ module _ (ctx : Setting) where
     choose_goes first second v kind fits below is row = by_truth (Choose first second) v kind fits below is row.part.same row.part.did.empty by
       where
         other_within : row.part.did.here.other < length own.code
-        other_within = body_within l own.code (length a.fors) a.exit second row.part.did.here.other row.part.did.end row.part.did.here.otherwise row.part.did.within
+        other_within = body_within l own.code (a.loops) a.exit second row.part.did.here.other row.part.did.end row.part.did.here.otherwise row.part.did.within
 
         by : (b : Bool) → m.stack ≡ truth_number b ∷ [] → Claim (Value (Scalars (Truth b)) ∷ Fill (Choose first second) ∷ k)
         by true here =
             goes_to s m shared (Value (Scalars (Truth true)) ∷ Fill (Choose first second) ∷ k) (doing first k) row.part.did.here.start (c + 32) (suc c) a refl
             (tests true row.part.did.here.other row.part.did.here.start (moved row.part.at row.part.did.here.jump) other_within here)
-            fors
             (body_rows first k row.part.did.here.start row.part.did.here.end (suc c) a row.part.did.here.chosen (instr_within own.code row.part.did.here.end (Jmp row.part.did.end) row.part.did.here.other row.part.did.here.skip)
             (rows_jump ctx k Quiet row.part.did.here.end row.part.did.end row.part.did.here.other [] c a row.part.did.here.skip row.part.did.within row.then))
             (omega arith)
         by false here =
             goes_to s m shared (Value (Scalars (Truth false)) ∷ Fill (Choose first second) ∷ k) (doing second k) row.part.did.here.other (c + 32) c a refl
             (tests false row.part.did.here.other row.part.did.here.start (moved row.part.at row.part.did.here.jump) other_within here)
-            fors
             (body_rows second k row.part.did.here.other row.part.did.end c a row.part.did.here.otherwise row.part.did.within row.then)
             (omega arith)
 
     pub while_goes : (x : Expression) (body : Statements) → Waiting ctx (Perform (Do (While x body))) Rest Quiet m.place m.stack c a → Claim (Perform (Do (While x body)) ∷ k)
     while_goes x body row =
-        operand_goes ctx s k m c a shared fors (Perform (Do (While x body)) ∷ k) x (Turn x body) refl (omega arith) row.part.here.middle row.part.here.condition.value (omega (arith, row.part.here.condition.shallow, ap length row.part.empty))
+        operand_goes ctx s k m c a shared (Perform (Do (While x body)) ∷ k) x (Turn x body) refl (omega arith) row.part.here.middle row.part.here.condition.value (omega (arith, row.part.here.condition.shallow, ap length row.part.empty))
         (instr_within own.code row.part.here.middle (Jpf row.part.end) row.part.here.start row.part.here.jump)
         (record { part = record { same = row.part.here.condition.typed; from = m.place; did = row.part; at = refl }; then = row.then })
 
@@ -131,20 +131,19 @@ module _ (ctx : Setting) where
         by true here =
             goes_to s m shared (Value (Scalars (Truth true)) ∷ Fill (Turn x body) ∷ k) (doing body (Perform (Do (While x body)) ∷ k)) row.part.did.here.start (c + 32) (suc c) a refl
             (tests true row.part.did.end row.part.did.here.start (moved row.part.at row.part.did.here.jump) row.part.did.within here)
-            fors
             (body_rows body (Perform (Do (While x body)) ∷ k) row.part.did.here.start row.part.did.here.end (suc c) a row.part.did.here.here (instr_within own.code row.part.did.here.end (Jmp row.part.from) row.part.did.end row.part.did.here.back)
             (rows_jump ctx (Perform (Do (While x body)) ∷ k) Quiet row.part.did.here.end row.part.from row.part.did.end [] c a row.part.did.here.back
-            (statement_within l own.code (length a.fors) a.exit (While x body) row.part.from row.part.did.end row.part.did.here)
+            (statement_within l own.code (a.loops) a.exit (While x body) row.part.from row.part.did.end row.part.did.here)
             (at_once ctx _ Quiet row.part.from [] c a
             (record { part = record { empty = refl; end = row.part.did.end; here = row.part.did.here; within = row.part.did.within }; then = row.then }))))
             (omega arith)
         by false here =
             goes_to s m shared (Value (Scalars (Truth false)) ∷ Fill (Turn x body) ∷ k) k row.part.did.end (c + 32) c a refl
             (tests false row.part.did.end row.part.did.here.start (moved row.part.at row.part.did.here.jump) row.part.did.within here)
-            fors row.then (omega arith)
+            row.then (omega arith)
 
     -- a body that begins where the machine stands
-    body_here : (ss : Statements) (i : List Item) (q : ℕ) (b : Around) → m.stack ≡ [] → BodyAt l own.code (length b.fors) b.exit ss m.place q → q < length own.code
+    body_here : (ss : Statements) (i : List Item) (q : ℕ) (b : Around) → m.stack ≡ [] → BodyAt l own.code (b.loops) b.exit ss m.place q → q < length own.code
         → Rows ctx i Quiet q [] c b → Ahead ctx (doing ss i) Quiet m.place m.stack c b
     body_here ss i q b empty here inside rows =
         rows_ahead ctx (doing ss i) m.place m.stack c b
@@ -153,7 +152,7 @@ module _ (ctx : Setting) where
     pub repeat_goes : (body : Statements) (x : Expression) → Waiting ctx (Perform (Do (Repeat body x))) Rest Quiet m.place m.stack c a → Claim (Perform (Do (Repeat body x)) ∷ k)
     repeat_goes body x row =
         goes_none ctx s (Perform (Do (Repeat body x)) ∷ k) m (c + 32) c
-        (lands_on ctx s m shared (doing body (Perform (Until body x) ∷ k)) m.place m.stack c a fors
+        (lands_on ctx s m shared (doing body (Perform (Until body x) ∷ k)) m.place m.stack c a
         (body_here body (Perform (Until body x) ∷ k) row.part.here.end a row.part.empty row.part.here.here (expression_within l own.code x row.part.here.end row.part.here.middle row.part.here.condition.value)
         (at_once ctx _ Quiet row.part.here.end [] c a
         (record { part = record { from = m.place; did = record { empty = refl; end = row.part.end; here = row.part.here; within = row.part.within }; at = refl }; then = row.then }))))
@@ -162,7 +161,7 @@ module _ (ctx : Setting) where
 
     pub until_goes : (body : Statements) (x : Expression) → Waiting ctx (Perform (Until body x)) Rest Quiet m.place m.stack c a → Claim (Perform (Until body x) ∷ k)
     until_goes body x row =
-        operand_goes ctx s k m c a shared fors (Perform (Until body x) ∷ k) x (Again body x) refl (omega arith) row.part.did.here.middle (subst (λ (p : ℕ). ExpressionAt l own.code x p row.part.did.here.middle) (sym row.part.at) row.part.did.here.condition.value) (omega (arith, row.part.did.here.condition.shallow, ap length row.part.did.empty))
+        operand_goes ctx s k m c a shared (Perform (Until body x) ∷ k) x (Again body x) refl (omega arith) row.part.did.here.middle (subst (λ (p : ℕ). ExpressionAt l own.code x p row.part.did.here.middle) (sym row.part.at) row.part.did.here.condition.value) (omega (arith, row.part.did.here.condition.shallow, ap length row.part.did.empty))
         (instr_within own.code row.part.did.here.middle (Jpf row.part.from) row.part.did.end row.part.did.here.back)
         (record { part = record { same = row.part.did.here.condition.typed; from = row.part.from; did = row.part.did; at = refl }; then = row.then })
 
@@ -171,27 +170,26 @@ module _ (ctx : Setting) where
     again_goes body x v kind fits below is row = by_truth (Again body x) v kind fits below is row.part.same row.part.did.empty by
       where
         top_within : row.part.from < length own.code
-        top_within = statement_within l own.code (length a.fors) a.exit (Repeat body x) row.part.from row.part.did.end row.part.did.here
+        top_within = statement_within l own.code (a.loops) a.exit (Repeat body x) row.part.from row.part.did.end row.part.did.here
 
         by : (b : Bool) → m.stack ≡ truth_number b ∷ [] → Claim (Value (Scalars (Truth b)) ∷ Fill (Again body x) ∷ k)
         by true here =
             goes_to s m shared (Value (Scalars (Truth true)) ∷ Fill (Again body x) ∷ k) k row.part.did.end (c + 32) c a refl
             (tests true row.part.from row.part.did.end (moved row.part.at row.part.did.here.back) top_within here)
-            fors row.then (omega arith)
+            row.then (omega arith)
         by false here =
             goes_to s m shared (Value (Scalars (Truth false)) ∷ Fill (Again body x) ∷ k) (Perform (Do (Repeat body x)) ∷ k) row.part.from (c + 32) c a refl
             (tests false row.part.from row.part.did.end (moved row.part.at row.part.did.here.back) top_within here)
-            fors
             (at_once ctx _ Quiet row.part.from [] c a
             (record { part = record { empty = refl; end = row.part.did.end; here = row.part.did.here; within = row.part.did.within }; then = row.then }))
             (omega arith)
 
     -- what is around the body of a LOOP
     abbrev inside_loop : ℕ → Around → Around
-    inside_loop end outer = record { exit = Some end; fors = outer.fors }
+    inside_loop end outer = record { exit = Some end; loops = outer.loops }
 
     -- the end of a LOOP's body, and what is behind the LOOP
-    looping_row : (body : Statements) (top end : ℕ) (outer : Around) → (again : StatementAt l own.code (length outer.fors) outer.exit (Loop body) top end) → end < length own.code
+    looping_row : (body : Statements) (top end : ℕ) (outer : Around) → (again : StatementAt l own.code (outer.loops) outer.exit (Loop body) top end) → end < length own.code
         → Rest Quiet end [] c outer → Rows ctx (Perform (Looping body) ∷ k) Quiet again.end [] c (inside_loop end outer)
     looping_row body top end outer again inside then' =
         at_once ctx _ Quiet again.end [] c (inside_loop end outer)
@@ -211,21 +209,19 @@ module _ (ctx : Setting) where
     pub loop_goes : (body : Statements) → Waiting ctx (Perform (Do (Loop body))) Rest Quiet m.place m.stack c a → Claim (Perform (Do (Loop body)) ∷ k)
     loop_goes body row =
         goes_none ctx s (Perform (Do (Loop body)) ∷ k) m (c + 32) c
-        (lands_on ctx s m shared (doing body (Perform (Looping body) ∷ k)) m.place m.stack c (inside_loop row.part.end a) fors
+        (lands_on ctx s m shared (doing body (Perform (Looping body) ∷ k)) m.place m.stack c (inside_loop row.part.end a)
         (body_here body (Perform (Looping body) ∷ k) row.part.here.end (inside_loop row.part.end a) row.part.empty row.part.here.here
         (instr_within own.code row.part.here.end (Jmp m.place) row.part.end row.part.here.back)
         (looping_row body m.place row.part.end a row.part.here row.part.within row.then)))
         (omega arith)
         (omega (arith, doing_stutter body (Perform (Looping body) ∷ k)))
 
-    pub looping_goes : (body : Statements) → LoopingWaits ctx body Rest Quiet m.place m.stack c a → Claim (Perform (Looping body) ∷ k)
+    pub looping_goes : (body : Statements) → LoopingWaits ctx.stack.frame body Rest Quiet m.place m.stack c a → Claim (Perform (Looping body) ∷ k)
     looping_goes body row =
-        let outer_fors : HasFors ctx m.frame m.store row.outer.fors = subst (λ (x : Around). HasFors ctx m.frame m.store x.fors) row.is fors in
         goes_to s m shared (Perform (Looping body) ∷ k) (doing body (Perform (Looping body) ∷ k)) row.top (c + 32) c (inside_loop row.end row.outer) refl
         (jumps_to ctx m s.world shared.program row.top row.end row.back
-        (statement_within l own.code (length row.outer.fors) row.outer.exit (Loop body) row.top row.end row.again)
+        (statement_within l own.code (row.outer.loops) row.outer.exit (Loop body) row.top row.end row.again)
         ∙ ap (λ (x : List ℕ). running (going m row.top x) s.world) row.empty)
-        outer_fors
         (body_rows body (Perform (Looping body) ∷ k) row.top row.again.end c (inside_loop row.end row.outer) row.again.here
         (instr_within own.code row.again.end (Jmp row.top) row.end row.again.back)
         (looping_row body row.top row.end row.outer row.again row.within row.then))

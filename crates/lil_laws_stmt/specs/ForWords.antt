@@ -10,7 +10,7 @@ use Rattle.lil_resolved.specs.Sound.{IsStep}
 use Rattle.lil_meaning.specs.Steps as meaning
 use Rattle.lil_mcode.specs.Control as machine
 use Rattle.lil_table.specs.Rows.{loop_sign}
-use Rattle.lil_match.specs.Homes.{no}
+use Rattle.lil_match.specs.Parts.{no}
 use Rattle.lil_match.specs.Ranges.{has, has_type}
 use Rattle.lil_match.specs.Waits.{TurnsFit}
 

@@ -1,15 +1,14 @@
 -- The rows of FOR.
-use Rattle.std.proofs.Common.{◌≡◌, ℕ, zero, suc, ◌+◌, ◌-◌, ◌%◌, ◌<◌, ◌≤◌, ℤ, ◌+ℤ◌, Bool, true, false, cond, not, Option, List, [], ◌∷◌, length, get_or, set, refl, sym, ap, ◌∙◌, subst, inl, inr, arith, length-set}
+use Rattle.std.proofs.Common.{◌≡◌, ℕ, zero, suc, ◌+◌, ◌-◌, ◌%◌, ◌<◌, ◌≤◌, ℤ, ◌+ℤ◌, Bool, true, false, cond, eqb, not, Option, List, [], ◌∷◌, length, get_or, set, refl, sym, ap, ◌∙◌, subst, inl, inr, arith}
 use Rattle.std.specs.Prelude.{nat_lt, slice_get}
-use Rattle.std.proofs.lemmas.Bool.{lt-ltb, ne_eqb, and_from}
-use Rattle.std.proofs.lemmas.List.{get_or-set_same, get_or-set_other}
+use Rattle.std.proofs.lemmas.Bool.{eq-eqb, lt-ltb, ne_eqb, and_from}
 use Rattle.lil_base.specs.declared.fault.TrapKind.TheVariants as trap
 use Rattle.lil_base.specs.Words.{Whole, Cardinal, Integer, word_of}
 use Rattle.lil_resolved.specs.Kinds as kinds
 use Rattle.lil_resolved.specs.Kinds.{Kind, base_of, is_base, compared_as, covers, outside_turns}
 use Rattle.lil_resolved.specs.Scalars.{Scalar, within, scalar_word, scalar_of, ordinal_of}
 use Rattle.lil_resolved.specs.Resolved.{Variable, Expression, For, Statements}
-use Rattle.lil_meaning.specs.Cells.{Global, Place, Cells, stored, alone}
+use Rattle.lil_meaning.specs.Cells.{Global, Place, stored, alone}
 use Rattle.lil_meaning.specs.Items.{Scalars, StartOf, LimitOf, Do, Turns, Item, Value, Fill, Perform, doing, Going, Source}
 use Rattle.lil_meaning.specs.Steps.{current, owner_of, turned_with, turns}
 use Rattle.lil_asm.specs.declared.instr.Instr.{Instr}
@@ -21,16 +20,17 @@ use Rattle.lil_mcode.specs.State.{State}
 use Rattle.lil_mcode.specs.Table.{mstep, going, push_row, on_three, loop_row, begun_row, turn_row}
 use Rattle.lil_table.specs.Rows.{Layout, IsAt, InstrsAt, AlignAt, BodyAt, RoundRow, range_code, loop_place, loop_sign}
 use Rattle.lil_match.specs.Running.{Run, running, react, advanced}
-use Rattle.lil_match.specs.Homes.{word_for, plain_word, yes, no, Home, Own, Free, Mem, mem_stored, of_free}
+use Rattle.lil_match.specs.Parts.{yes, no}
+use Rattle.lil_match.specs.Homes.{word_for, plain_word, Home, Mem, scalar_owned, mem_stored, replaced, shadowed}
 use Rattle.lil_match.specs.Arithmetic.{word_is}
 use Rattle.lil_match.specs.Ranges.{has, value_is, value_none, number_is, value_fits, fits_has, has_type}
 use Rattle.lil_match.specs.Tests.{covered, test_act}
-use Rattle.lil_match.specs.Goes.{HasFrame, HasFors, Shared, Goes, Lands}
-use Rattle.lil_match.specs.Waits.{Setting, laid_out, Quiet, ValueOf, ForWords, Around, Reach, TurnsFit, Rows, NextWaits, IsVariable, Waiting}
+use Rattle.lil_match.specs.Goes.{Shared, Touches, Goes, Lands}
+use Rattle.lil_match.specs.Waits.{Setting, frame_of, laid_out, Quiet, ValueOf, Around, Reach, TurnsFit, Rows, at_home, LoopWords, NextWaits, IsVariable, Waiting}
 use Rattle.lil_match.specs.Orders.{instr_within, expression_within}
-use Rattle.lil_match.specs.Closing.{closed, both_trap}
-use Rattle.lil_match.specs.Steps.{advances, pushes, at_step, at_once, rows_ahead, lands_on, goes_none, goes_one, goes_after, operand_goes}
-use Rattle.lil_laws_stmt.specs.Stores.{fors_stored}
+use Rattle.lil_match.specs.Closing.{closed, variable_here, both_trap}
+use Rattle.lil_match.specs.Steps.{advances, pushes, at_step, at_once, rows_ahead, lands_on, goes_none, shared_with, untouched, touched, goes_one, goes_after_in, goes_after, goes_more, operand_goes}
+use Rattle.lil_match.specs.Kept.{own_word, own_inside, shared_shadowed, touches_shadowed, rows_shadowed}
 use Rattle.lil_laws_stmt.specs.Control.{body_rows}
 use Rattle.lil_laws_stmt.specs.ForWords.{word_small, next_word, step_some, turns_read, turns_few}
 
@@ -46,72 +46,6 @@ sign_small : (t : Whole) → nat_lt (loop_sign t) 2 ≡ true
 sign_small Cardinal = refl
 sign_small Integer = refl
 
-own_free : (b : ℕ) → Own ≡ Free b → ⊥
-own_free b e = cc
-
--- a word in no use changes no cell
-mem_free : (h : Home) (cells : Cells) (store : List ℕ) (p b x : ℕ) → h.owner p ≡ Free b → Mem h cells store → Mem h cells (set store p x)
-mem_free h cells store p b x free mem = record {
-  owned = mem.owned;
-  inside = mem.inside;
-  holds = λ r k living.
-      let old = mem.holds r k living in
-      let other : h.base r ≡ p → ⊥ = λ e. of_free r b (sym (mem.owned r k living) ∙ ap h.owner e ∙ free) in
-      record { word = get_or-set_other store p (h.base r) x 0 other ∙ old.word; fits = old.fits };
-  kept = λ q own.
-      let other : q ≡ p → ⊥ = λ e. own_free b (sym own ∙ ap h.owner e ∙ free) in
-      get_or-set_other store p q x 0 other ∙ mem.kept q own;
-  long = length-set store p x ∙ mem.long;
-}
-
-module _ (ctx : Setting) where
-  open ctx use {modules, table, own, number, home as h}
-  open laid_out ctx use {layout as l}
-
-  -- a word above those of the FORs at hand
-  fors_above : (ws : List ForWords) (frame p x : ℕ) (store : List ℕ) → frame + loop_place (length ws) ≤ p → HasFors ctx frame store ws → HasFors ctx frame (set store p x) ws
-  fors_above [] frame p x store above has = tt
-  fors_above (w ∷ ws) frame p x store above has =
-      let q : ℕ = frame + loop_place (length ws) in
-      let first : q ≡ p → ⊥ = λ e. omega (arith, above, e) in
-      let second : q + 1 ≡ p → ⊥ = λ e. omega (arith, above, e) in
-      let third : q + 2 ≡ p → ⊥ = λ e. omega (arith, above, e) in (
-        has.0,
-        get_or-set_other store p q x 0 first ∙ has.1,
-        get_or-set_other store p (q + 1) x 0 second ∙ has.2,
-        get_or-set_other store p (q + 2) x 0 third ∙ has.3,
-        fors_above ws frame p x store (omega (arith, above)) has.4,
-      )
-
-  -- words of the frame, above those of the FORs at hand
-  pub record Kept (s : Source) (m : State) (ws : List ForWords) (store : List ℕ) : Type 0 where
-    pub mem : Mem h s.cells store
-    pub fors : HasFors ctx m.frame store ws
-
-  keeps : (s : Source) (m : State) (ws : List ForWords) (store : List ℕ) (i p x : ℕ) → HasFrame ctx m → p ≡ m.frame + i → loop_place (length ws) ≤ i → i < l.frame → Kept s m ws store → Kept s m ws (set store p x)
-  keeps s m ws store i p x frame at low high kept = record {
-    mem = mem_free h s.cells store p m.base x (ap h.owner at ∙ frame.free i (omega (arith, low)) high) kept.mem;
-    fors = fors_above ws m.frame p x store (omega (arith, low, at)) kept.fors;
-  }
-
-  -- the same but for the place, the expression stack and the store
-  pub shared_stored : (s : Source) (m : State) → Shared ctx s m → (q : ℕ) (stack store : List ℕ) → Mem h s.cells store → Shared ctx s (record m { place = q; stack = stack; store = store })
-  shared_stored s m shared q stack store mem = record {
-    mem = mem;
-    laid = shared.laid;
-    program = record {
-      table_is = shared.program.table_is;
-      known = shared.program.known;
-      running_is = shared.program.running_is;
-      marked = shared.program.marked;
-      body = shared.program.body;
-      last = shared.program.last;
-    };
-    frame = record { room = shared.frame.room; free = shared.frame.free };
-    owner = shared.owner;
-    parked = shared.parked;
-  }
-
 -- where a start is brought to its limit's type lies within the code
 pub align_within : (l : Layout) (code : List ℕ) (same turns : Bool) (p start q : ℕ) → AlignAt l code same turns p start q → start < length code → p < length code
 align_within l code true turns p start q e inside = omega (arith, e, inside)
@@ -119,12 +53,18 @@ align_within l code false true p start q e inside = instr_within code p Swp e.0 
 align_within l code false false p start q e inside = instr_within code p Swp e.look.0 e.look.1
 
 module _ (ctx : Setting) where
-  open ctx use {modules, table, own, number, home as h}
+  open ctx use {modules, table, home as h}
+  open frame_of ctx use {own, number}
   open laid_out ctx use {layout as l}
 
-  -- within a budget, and so within a larger one
-  pub goes_more : (s : Source) (k : List Item) (m : State) (less more : ℕ) → Goes ctx s k m less → less ≤ more → Goes ctx s k m more
-  goes_more s k m less more g rises = record { steps = g.steps; later = g.later; quiet = g.quiet; lands = g.lands; cost = omega (arith, g.cost, rises); falls = g.falls }
+  -- a word of the running frame
+  own_read : (s : Source) (m : State) → Shared ctx s m → (i a : ℕ) → a ≡ m.frame + i → i < l.frame → get_or m.store a 0 ≡ h.shadow (ctx.stack.frame.at + i)
+  own_read s m shared i a at less =
+      ap (λ (n : ℕ). get_or m.store n 0) (at ∙ ap (λ (n : ℕ). n + i) shared.standing.frame_is) ∙ shared.mem.kept (ctx.stack.frame.at + i) (own_word ctx s m shared i 0 less)
+
+  -- the running frame lies in the store
+  inside : (s : Source) (m : State) → Shared ctx s m → (i : ℕ) → i < l.frame → m.frame + i < 65536
+  inside s m shared i less = omega (arith, shared.standing.frame_is, (own_inside ctx s m shared i 0 less).1, shared.standing.high)
 
   module _ (s : Source) (k : List Item) (m : State) (c : ℕ) (a : Around) (shared : Shared ctx s m) where
     abbrev Rest : Reach
@@ -134,9 +74,9 @@ module _ (ctx : Setting) where
     Turning x kind z step left body = Perform (Turns (Variable x kind) z step left body) ∷ k
 
     module _ (x : ℕ) (kind : Kind) (z step : ℤ) (left : ℕ) (body : Statements)
-        (fors : HasFors ctx m.frame m.store (record { now = word_of z; left = left; step = word_of step } ∷ a.fors)) (empty : m.stack ≡ [])
+        (words : LoopWords ctx a.loops left (word_of step)) (now : words.now ≡ word_of z) (empty : m.stack ≡ [])
         (fit : TurnsFit (base_of kind) z step (suc left)) (small : left < 65536) (end : ℕ)
-        (round : RoundRow l own.code (length a.fors) x kind step (BodyAt l own.code (suc (length a.fors)) a.exit body) m.place end) (ends : end < length own.code)
+        (round : RoundRow l own.code (a.loops) x kind step (BodyAt l own.code (suc (a.loops)) a.exit body) m.place end) (ends : end < length own.code)
         (then : Rest Quiet end [] c a) where
       abbrev base : Kind
       base = base_of kind
@@ -158,37 +98,25 @@ module _ (ctx : Setting) where
       abbrev holding : ℕ → State
       holding q = going m q (word_of z ∷ m.stack)
 
-      held : (q : ℕ) → Shared ctx s (holding q)
-      held q = shared_stored ctx s m shared q (word_of z ∷ m.stack) m.store shared.mem
-
       -- the store of the value, and then the body
       stores : has kind z ≡ true → Goes ctx s items (holding round.tested) (c + 18)
       stores there =
           let v : Scalar = scalar_of kind z in
           let fits : within kind v ≡ true = value_fits kind z there in
           let word : word_for h v ≡ word_of z = plain_word h kind v fits ∙ number_word kind z there in
-          let words : ForWords = record { now = word_of z; left = left; step = word_of step } in
-          let inner : Around = record { exit = a.exit; fors = words ∷ a.fors } in
+          let inner : Around = record { exit = a.exit; loops = suc a.loops } in
           let offset : ℕ = round.known.offset in
           let store : List ℕ = set m.store (own.base + offset) (word_of z) in
           let machine : State = record m { place = round.start; store = store } in
           let place : Place = record { root = Global (owner_of (slice_get s.activations (current k))) x; path = [] } in
-          let here : owner_of (slice_get s.activations (current k)) ≡ number =
-          ap (λ (n : ℕ). owner_of (slice_get s.activations n)) (closed ctx k Quiet end [] c a then) ∙ shared.owner in
-          let variable : IsVariable ctx place offset kind =
-          subst (λ (n : ℕ). let p : Place = record { root = Global n x; path = [] } in IsVariable ctx p offset kind) (sym here)
-          (shared.laid.variables x offset kind round.known.at round.known.typed) in
-          let inside : own.base + offset < 65536 = omega (arith, shared.mem.inside place.root kind variable.living, variable.at) in
-          let stored_at : set m.store (h.base place.root) (word_for h v) ≡ store =
-          ap (λ (b : ℕ). set m.store b (word_for h v)) variable.at ∙ ap (set m.store (own.base + offset)) word in
+          let variable : IsVariable ctx place offset kind = variable_here ctx s k m shared x offset kind (closed ctx k Quiet end [] c a then) round.known.at round.known.typed in
+          let small_there : own.base + offset < 65536 = omega (arith, (scalar_owned h s.cells m.store place.root place.path kind shared.mem variable.living).1, variable.at) in
           let mem : Mem h (stored s.cells place (alone v)) store =
-          subst (λ (st : List ℕ). Mem h (stored s.cells place (alone v)) st) stored_at (mem_stored h s.cells m.store place.root kind v shared.mem variable.living fits) in
-          let fors_there : HasFors ctx m.frame store (words ∷ a.fors) =
-          subst (λ (st : List ℕ). HasFors ctx m.frame st (words ∷ a.fors)) stored_at
-          (fors_stored ctx m shared.frame place.root (shared.mem.owned place.root kind variable.living) (word_for h v) (words ∷ a.fors) fors) in
+          subst (λ (st : List ℕ). Mem h (stored s.cells place (alone v)) st) (ap (λ (b : ℕ). set m.store b (word_for h v)) variable.at ∙ ap (set m.store (own.base + offset)) word)
+          (mem_stored h s.cells m.store place kind v shared.mem variable.living fits) in
           let rows : Rows ctx after Quiet round.start [] c inner =
           body_rows ctx body (Turning x kind (z +ℤ step) step left body) round.start round.end c inner round.here
-          (instr_within own.code round.end (Frn (loop_place (length a.fors)) m.place) end round.next)
+          (instr_within own.code round.end (Frn (loop_place (a.loops)) m.place) end round.next)
           (at_once ctx _ Quiet round.end [] c inner
           (inr (record {
             quiet = refl;
@@ -196,10 +124,8 @@ module _ (ctx : Setting) where
             outer = a;
             words = words;
             around = refl;
-            left_is = refl;
             small = small;
-            step_is = refl;
-            next_is = next_word (compared_as base) z step (has_type base z round.known.base fit.0) round.is_step;
+            next_is = ap (λ (w : ℕ). (w + word_of step) % 65536) now ∙ next_word (compared_as base) z step (has_type base z round.known.base fit.0) round.is_step;
             fit = fit.1;
             turn = m.place;
             end = end;
@@ -210,31 +136,16 @@ module _ (ctx : Setting) where
           }))) in
           goes_one ctx s items (holding round.tested) (c + 18) c (running machine s.world)
           (advances (holding round.tested) s.world _ (
-          at_step ctx (holding round.tested) (held round.tested).program (Sgw offset) round.start round.store
-          ∙ yes _ _ _ (lt-ltb (own.base + offset) 65536 inside)
+          at_step ctx (holding round.tested) shared.program (Sgw offset) round.start round.store
+          ∙ yes _ _ _ (lt-ltb (own.base + offset) 65536 small_there)
           ))
           (subst (λ (o : Option Scalar). Lands ctx (turned_there o).phase (turned_there o) (running machine s.world) c) (sym (value_is kind z there))
           (record {
             machine = machine;
             is = refl;
             met = record {
-              shared = record {
-                mem = mem;
-                laid = shared.laid;
-                program = record {
-                  table_is = shared.program.table_is;
-                  known = shared.program.known;
-                  running_is = shared.program.running_is;
-                  marked = shared.program.marked;
-                  body = shared.program.body;
-                  last = shared.program.last;
-                };
-                frame = record { room = shared.frame.room; free = shared.frame.free };
-                owner = shared.owner;
-                parked = shared.parked;
-              };
+              shared = shared_with ctx s m shared mem;
               around = inner;
-              fors = fors_there;
               ahead = rows_ahead ctx after round.start m.stack c inner
                   (subst (λ (st : List ℕ). Rows ctx after Quiet round.start st c inner) (sym empty) rows);
             };
@@ -247,7 +158,7 @@ module _ (ctx : Setting) where
 
       tests : IsAt own.code round.loaded test round.tested → mstep (holding round.loaded) ≡ outcome (has kind z)
       tests here =
-          at_step ctx (holding round.loaded) (held round.loaded).program test round.tested here
+          at_step ctx (holding round.loaded) shared.program test round.tested here
           ∙ test_act kind base (scalar_of base z) own (holding round.loaded) m.stack round.tested round.known.base (value_fits base z fit.0)
           (ap (λ (w : ℕ). w ∷ m.stack) (sym (number_word base z fit.0)))
           ∙ ap (λ (y : ℤ). outcome (has kind y)) (number_is base z fit.0)
@@ -263,13 +174,13 @@ module _ (ctx : Setting) where
           goes_one ctx s items (holding round.loaded) (c + 19) c run
           (advances (holding round.loaded) s.world _ (tests here ∙ ap outcome none))
           (subst (λ (o : Option Scalar). Lands ctx (turned_there o).phase (turned_there o) run c) (sym (value_none kind z none))
-          (both_trap ctx s items (holding round.loaded) trap.Range (held round.loaded) (closed ctx k Quiet end [] c a then)))
+          (both_trap ctx s items (holding round.loaded) trap.Range shared (closed ctx k Quiet end [] c a then)))
           (omega arith)
 
       -- where each number of the base is the kind's there is no test
       by_test : (b : Bool) → covers kind base ≡ b → InstrsAt own.code (cond b [] (test ∷ [])) round.loaded round.tested → Goes ctx s items (holding round.loaded) (c + 19)
       by_test true covering here =
-          goes_more s items (holding round.loaded) (c + 18) (c + 19)
+          goes_more ctx s items (holding round.loaded) (c + 18) (c + 19)
           (subst (λ (q : ℕ). Goes ctx s items (holding q) (c + 18)) (sym here) (stores (covered kind base z covering fit.0)))
           (omega arith)
       by_test false covering here = tested (has kind z) refl (subst (IsAt own.code round.loaded test) here.2 here.1)
@@ -279,22 +190,77 @@ module _ (ctx : Setting) where
       turn_goes =
           goes_after ctx s items m (holding round.loaded) (c + 20) (c + 19)
           (advances m s.world _ (
-          at_step ctx m shared.program (Llw (loop_place (length a.fors))) round.loaded round.load
-          ∙ yes _ _ _ (lt-ltb (m.frame + loop_place (length a.fors)) 65536 (omega (arith, shared.frame.room, round.room)))
-          ∙ ap (λ (w : ℕ). push_row w round.loaded m) fors.1
+          at_step ctx m shared.program (Llw (loop_place (a.loops))) round.loaded round.load
+          ∙ yes _ _ _ (lt-ltb (m.frame + loop_place (a.loops)) 65536 (inside s m shared (loop_place a.loops) (omega (arith, round.room))))
+          ∙ ap (λ (w : ℕ). push_row w round.loaded m) (own_read s m shared (loop_place a.loops) (m.frame + loop_place a.loops) refl (omega (arith, round.room)) ∙ words.now_is ∙ now)
           ∙ pushes (word_of z) round.loaded m (omega (arith, ap length empty))
           ))
           (by_test (covers kind base) refl round.test)
           (omega arith)
 
-  module _ (s : Source) (k : List Item) (m : State) (c : ℕ) (a : Around) (shared : Shared ctx s m) (fors : HasFors ctx m.frame m.store a.fors) where
+-- own words of the running frame, from the n-th on, are set
+record Written (ctx : Setting) (s : Source) (m : State) (n : ℕ) (store : List ℕ) (x : Home) : Type 0 where
+  pub shared : Shared (at_home ctx x) s (record m { store = store })
+  pub touch : Touches ctx.home x ctx.stack.base ctx.stack.limit
+  pub rows : (k : List Item) (p c : ℕ) (a : Around) → loop_place a.loops ≤ n → Rows ctx k Quiet p [] c a → Rows (at_home ctx x) k Quiet p [] c a
+
+written_none : (ctx : Setting) (s : Source) (m : State) (n : ℕ) → Shared ctx s m → Written ctx s m n m.store ctx.home
+written_none ctx s m n shared = record { shared = shared; touch = untouched ctx.home ctx.stack.base ctx.stack.limit; rows = λ k p c a le r. r }
+
+written : (ctx : Setting) (s : Source) (m : State) (n : ℕ) {store : List ℕ} {x : Home} → Written ctx s m n store x → (i w : ℕ) → n ≤ i → i < ctx.stack.frame.layout.frame
+    → Written ctx s m n (set store (ctx.stack.frame.at + i) w) (shadowed x (ctx.stack.frame.at + i) w)
+written ctx s m n {store} {x} old i w above less =
+    let there : State = record m { store = store } in
+    record {
+      shared = shared_shadowed (at_home ctx x) s there old.shared i w less;
+      touch = touched ctx.home x (shadowed x (ctx.stack.frame.at + i) w) ctx.stack.base ctx.stack.limit old.touch (touches_shadowed (at_home ctx x) s there old.shared i w less);
+      rows = λ k p c a le r. rows_shadowed (at_home ctx x) s there old.shared i w less k Quiet p [] c a (omega (arith, le, above)) (old.rows k p c a le r);
+    }
+
+-- a word that was set, and another one
+set_there : (f : ℕ → ℕ) (a w b : ℕ) → a ≡ b → replaced f a w b ≡ w
+set_there f a w b e = yes (eqb a b) w (f b) (eq-eqb a b e)
+
+set_beside : (f : ℕ → ℕ) (a w b : ℕ) → (a ≡ b → ⊥) → replaced f a w b ≡ f b
+set_beside f a w b d = no (eqb a b) w (f b) (ne_eqb a b d)
+
+-- the three words of a FOR that begins, and of one that turns
+begun_words : (f : ℕ → ℕ) (at n p q r : ℕ)
+    → (replaced (replaced (replaced f (at + n) p) (at + (n + 1)) q) (at + (n + 2)) r (at + n) ≡ p)
+    × (replaced (replaced (replaced f (at + n) p) (at + (n + 1)) q) (at + (n + 2)) r (at + n + 1) ≡ q)
+    × (replaced (replaced (replaced f (at + n) p) (at + (n + 1)) q) (at + (n + 2)) r (at + n + 2) ≡ r)
+begun_words f at n p q r =
+    let one : ℕ → ℕ = replaced f (at + n) p in
+    let two : ℕ → ℕ = replaced one (at + (n + 1)) q in (
+      set_beside two (at + (n + 2)) r (at + n) (λ d. omega (arith, d)) ∙ set_beside one (at + (n + 1)) q (at + n) (λ d. omega (arith, d)) ∙ set_there f (at + n) p (at + n) refl,
+      set_beside two (at + (n + 2)) r (at + n + 1) (λ d. omega (arith, d)) ∙ set_there one (at + (n + 1)) q (at + n + 1) (omega arith),
+      set_there two (at + (n + 2)) r (at + n + 2) (omega arith),
+    )
+
+turned_words : (f : ℕ → ℕ) (at n p q : ℕ)
+    → (replaced (replaced f (at + (n + 1)) q) (at + n) p (at + n) ≡ p)
+    × (replaced (replaced f (at + (n + 1)) q) (at + n) p (at + n + 1) ≡ q)
+    × (replaced (replaced f (at + (n + 1)) q) (at + n) p (at + n + 2) ≡ f (at + n + 2))
+turned_words f at n p q =
+    let one : ℕ → ℕ = replaced f (at + (n + 1)) q in (
+      set_there one (at + n) p (at + n) refl,
+      set_beside one (at + n) p (at + n + 1) (λ d. omega (arith, d)) ∙ set_there f (at + (n + 1)) q (at + n + 1) (omega arith),
+      set_beside one (at + n) p (at + n + 2) (λ d. omega (arith, d)) ∙ set_beside f (at + (n + 1)) q (at + n + 2) (λ d. omega (arith, d)),
+    )
+
+module _ (ctx : Setting) where
+  open ctx use {modules, table, home as h}
+  open frame_of ctx use {own, number}
+  open laid_out ctx use {layout as l}
+
+  module _ (s : Source) (k : List Item) (m : State) (c : ℕ) (a : Around) (shared : Shared ctx s m) where
     abbrev Left : Reach
     Left = Rows ctx k
 
     pub for_goes : (x : ℕ) (kind : Kind) (first limit : Expression) (step : ℤ) (body : Statements) → Waiting ctx (Perform (Do (For (Variable x kind) first limit step body))) Left Quiet m.place m.stack c a
         → Goes ctx s (Perform (Do (For (Variable x kind) first limit step body)) ∷ k) m (c + 32)
     for_goes x kind first limit step body row =
-        operand_goes ctx s k m c a shared fors (Perform (Do (For (Variable x kind) first limit step body)) ∷ k) first (StartOf (Variable x kind) limit step body) refl (omega arith) row.part.here.middle row.part.here.first.value (omega (arith, row.part.here.first.shallow, ap length row.part.empty))
+        operand_goes ctx s k m c a shared (Perform (Do (For (Variable x kind) first limit step body)) ∷ k) first (StartOf (Variable x kind) limit step body) refl (omega arith) row.part.here.middle row.part.here.first.value (omega (arith, row.part.here.first.shallow, ap length row.part.empty))
         (expression_within l own.code limit row.part.here.middle row.part.here.last row.part.here.limit.value)
         (record {
           part = record {
@@ -313,7 +279,7 @@ module _ (ctx : Setting) where
         → Waiting ctx (Fill (StartOf (Variable x to) limit step body)) Left (ValueOf kind) m.place below c a → Goes ctx s (Value (Scalars v) ∷ Fill (StartOf (Variable x to) limit step body) ∷ k) m (c + 32)
     start_goes x to limit step body v kind fit below is row =
         let stack : m.stack ≡ word_for h v ∷ [] = is ∙ ap (λ (st : List ℕ). word_for h v ∷ st) row.part.empty in
-        operand_goes ctx s k m c a shared fors (Value (Scalars v) ∷ Fill (StartOf (Variable x to) limit step body) ∷ k) limit (LimitOf (Variable x to) v step body) refl (omega arith) row.part.last row.part.limit.value (omega (arith, row.part.limit.shallow, ap length stack))
+        operand_goes ctx s k m c a shared (Value (Scalars v) ∷ Fill (StartOf (Variable x to) limit step body) ∷ k) limit (LimitOf (Variable x to) v step body) refl (omega arith) row.part.last row.part.limit.value (omega (arith, row.part.limit.shallow, ap length stack))
         (align_within l own.code (covers (base_of to) kind) (outside_turns (compared_as (base_of to)) step) row.part.last row.part.turns.aligned row.part.end row.part.turns.align
         (instr_within own.code row.part.turns.aligned (Liw (word_of step)) row.part.turns.stepped row.part.turns.load))
         (record {
@@ -336,7 +302,7 @@ module _ (ctx : Setting) where
         let same_kind : kind ≡ base_of to = row.part.same in
         let fits : within (base_of to) v ≡ true = ap (λ (j : Kind). within j v) (sym same_kind) ∙ fit in
         goes_none ctx s (Value (Scalars v) ∷ Fill (LimitOf (Variable x to) u step body) ∷ k) m (c + 32) c
-        (lands_on ctx s m shared (Perform (Turns (Variable x to) (ordinal_of u) step (turns (ordinal_of u) (ordinal_of v) step) body) ∷ k) m.place m.stack c a fors
+        (lands_on ctx s m shared (Perform (Turns (Variable x to) (ordinal_of u) step (turns (ordinal_of u) (ordinal_of v) step) body) ∷ k) m.place m.stack c a
         (at_once ctx _ Quiet m.place m.stack c a
         (inl (record {
           quiet = refl;
@@ -368,20 +334,20 @@ module _ (ctx : Setting) where
       pub turn : ℕ
       pub end : ℕ
       pub load : IsAt own.code m.place (Liw (word_of step)) stepped
-      pub enter : IsAt own.code stepped (Fri (loop_place (length a.fors)) (loop_sign (compared_as (base_of kind))) end) turn
-      pub round : RoundRow l own.code (length a.fors) x kind step (BodyAt l own.code (suc (length a.fors)) a.exit body) turn end
+      pub enter : IsAt own.code stepped (Fri (loop_place a.loops) (loop_sign (compared_as (base_of kind))) end) turn
+      pub round : RoundRow l own.code (a.loops) x kind step (BodyAt l own.code (suc (a.loops)) a.exit body) turn end
       pub within : end < length own.code
       pub then : Left Quiet end [] c a
 
     pub bounded_goes : (x : ℕ) (kind : Kind) (first step : ℤ) (left : ℕ) (body : Statements) → Bounded x kind first step left body
         → Goes ctx s (Perform (Turns (Variable x kind) first step left body) ∷ k) m (c + 24)
-    bounded_goes x kind first step left body row = by_left left (sym row.count)
+    bounded_goes x' kind first step left body row = by_left left (sym row.count)
       where
         at : ℕ
-        at = m.frame + loop_place (length a.fors)
+        at = m.frame + loop_place a.loops
 
         n : ℕ
-        n = loop_place (length a.fors)
+        n = loop_place a.loops
 
         based : is_base (base_of kind) ≡ true
         based = row.round.known.base
@@ -393,7 +359,7 @@ module _ (ctx : Setting) where
         room = row.round.room
 
         deep : m.frame + n + 2 < 65536
-        deep = omega (arith, shared.frame.room, room)
+        deep = omega (arith, inside ctx s m shared (n + 2) (omega (arith, room)))
 
         pushed : advanced (running m s.world) ≡ running (going m row.stepped (word_of step ∷ m.stack)) s.world
         pushed =
@@ -403,120 +369,119 @@ module _ (ctx : Setting) where
             )
 
         enters : (u : ℕ) → turns first row.limit step ≡ u
-            → mstep (going m row.stepped (word_of step ∷ m.stack)) ≡ begun_row own (m.frame + loop_place (length a.fors)) row.end row.turn (going m row.stepped (word_of step ∷ m.stack)) (word_of first) (word_of step) [] (after_first u)
+            → mstep (going m row.stepped (word_of step ∷ m.stack)) ≡ begun_row own (m.frame + loop_place a.loops) row.end row.turn (going m row.stepped (word_of step ∷ m.stack)) (word_of first) (word_of step) [] (after_first u)
         enters u e =
-            at_step ctx stepped (shared_stored ctx s m shared row.stepped (word_of step ∷ m.stack) m.store shared.mem).program (Fri n (loop_sign (compared_as (base_of kind))) row.end) row.turn row.enter
+            at_step ctx stepped shared.program (Fri n (loop_sign (compared_as (base_of kind))) row.end) row.turn row.enter
             ∙ ap (λ (st : List ℕ). on_three stepped (word_of step ∷ st) (loop_row own at (loop_sign (compared_as (base_of kind))) row.end row.turn stepped)) row.stack_is
             ∙ yes _ _ _ (and_from _ _ (sign_small (compared_as (base_of kind))) (ap not (step_some step row.round.is_step)))
             ∙ ap (λ (u : ℕ). begun_row own at row.end row.turn stepped (word_of first) (word_of step) [] (after_first u))
             (turns_read (compared_as (base_of kind)) first row.limit step
             (has_type (base_of kind) first based row.fits) (has_type (base_of kind) row.limit based row.limit_fits) row.round.is_step ∙ e)
 
-        by_left : (u : ℕ) → turns first row.limit step ≡ u → Goes ctx s (Perform (Turns (Variable x kind) first step u body) ∷ k) m (c + 24)
+        by_left : (u : ℕ) → turns first row.limit step ≡ u → Goes ctx s (Perform (Turns (Variable x' kind) first step u body) ∷ k) m (c + 24)
         by_left zero e =
-            goes_after ctx s (Perform (Turns (Variable x kind) first step zero body) ∷ k) m stepped (c + 24) (c + 23) pushed
-            (goes_one ctx s (Perform (Turns (Variable x kind) first step zero body) ∷ k) stepped (c + 23) c (running (going m row.end []) s.world)
+            goes_after ctx s (Perform (Turns (Variable x' kind) first step zero body) ∷ k) m stepped (c + 24) (c + 23) pushed
+            (goes_one ctx s (Perform (Turns (Variable x' kind) first step zero body) ∷ k) stepped (c + 23) c (running (going m row.end []) s.world)
             (advances stepped s.world _ (enters zero e ∙ yes _ _ _ (lt-ltb row.end (length own.code) row.within)))
-            (lands_on ctx s m shared k row.end [] c a fors (rows_ahead ctx k row.end [] c a row.then))
+            (lands_on ctx s m shared k row.end [] c a (rows_ahead ctx k row.end [] c a row.then))
             (omega arith))
             (omega arith)
         by_left (suc u) e =
-            let words : ForWords = record { now = word_of first; left = u; step = word_of step } in
-            let one : List ℕ = set m.store at (word_of first) in
-            let two : List ℕ = set one (at + 1) u in
-            let three : List ℕ = set two (at + 2) (word_of step) in
-            let begun : State = record m { place = row.turn; stack = []; store = three } in
-            let long_one : length one ≡ 65536 = length-set m.store at (word_of first) ∙ shared.mem.long in
-            let long_two : length two ≡ 65536 = length-set one (at + 1) u ∙ long_one in
-            let first_second : at ≡ at + 1 → ⊥ = λ d. omega (arith, d) in
-            let first_third : at ≡ at + 2 → ⊥ = λ d. omega (arith, d) in
-            let second_third : at + 1 ≡ at + 2 → ⊥ = λ d. omega (arith, d) in
-            let kept : Kept ctx s m a.fors three =
-            keeps ctx s m a.fors two (n + 2) (at + 2) (word_of step) shared.frame (omega arith) (omega arith) (omega (arith, room))
-            (keeps ctx s m a.fors one (n + 1) (at + 1) u shared.frame (omega arith) (omega arith) (omega (arith, room))
-            (keeps ctx s m a.fors m.store n at (word_of first) shared.frame refl (omega arith) (omega (arith, room))
-            (record { mem = shared.mem; fors = fors }))) in
+            let one = written ctx s m n (written_none ctx s m n shared) n (word_of first) (omega arith) (omega (arith, room)) in
+            let two = written ctx s m n one (n + 1) u (omega arith) (omega (arith, room)) in
+            let three = written ctx s m n two (n + 2) (word_of step) (omega arith) (omega (arith, room)) in
+            let x : Home = shadowed (shadowed (shadowed h (ctx.stack.frame.at + n) (word_of first)) (ctx.stack.frame.at + (n + 1)) u) (ctx.stack.frame.at + (n + 2)) (word_of step) in
+            let store : List ℕ = set (set (set m.store (ctx.stack.frame.at + n) (word_of first)) (ctx.stack.frame.at + (n + 1)) u) (ctx.stack.frame.at + (n + 2)) (word_of step) in
+            let begun : State = record m { place = row.turn; stack = []; store = store } in
+            let first_at : m.frame + n ≡ ctx.stack.frame.at + n = omega (arith, shared.standing.frame_is) in
+            let second_at : m.frame + n + 1 ≡ ctx.stack.frame.at + (n + 1) = omega (arith, shared.standing.frame_is) in
+            let third_at : m.frame + n + 2 ≡ ctx.stack.frame.at + (n + 2) = omega (arith, shared.standing.frame_is) in
+            let same : set (set (set m.store (m.frame + n) (word_of first)) (m.frame + n + 1) u) (m.frame + n + 2) (word_of step) ≡ store =
+            ap (λ (z : ℕ). set (set (set m.store z (word_of first)) (m.frame + n + 1) u) (m.frame + n + 2) (word_of step)) first_at
+            ∙ ap (λ (z : ℕ). set (set (set m.store (ctx.stack.frame.at + n) (word_of first)) z u) (m.frame + n + 2) (word_of step)) second_at
+            ∙ ap (λ (z : ℕ). set (set (set m.store (ctx.stack.frame.at + n) (word_of first)) (ctx.stack.frame.at + (n + 1)) u) z (word_of step)) third_at in
+            let words = begun_words h.shadow ctx.stack.frame.at n (word_of first) u (word_of step) in
             let few = turns_few (base_of kind) first row.limit step u based row.fits row.limit_fits e in
-            goes_after ctx s (Perform (Turns (Variable x kind) first step (suc u) body) ∷ k) m stepped (c + 24) (c + 23) pushed
-            (goes_after ctx s (Perform (Turns (Variable x kind) first step (suc u) body) ∷ k) stepped begun (c + 23) (c + 20)
-            (advances stepped s.world _ (enters (suc u) e ∙ yes _ _ _ (lt-ltb (at + 2) 65536 deep)))
-            (turn_goes s k begun c a (shared_stored ctx s m shared row.turn [] three kept.mem) x kind first step u body (
-              room,
-              get_or-set_other two (at + 2) at (word_of step) 0 first_third ∙ get_or-set_other one (at + 1) at u 0 first_second ∙ get_or-set_same m.store at (word_of first) 0 (omega (arith, deep, shared.mem.long)),
-              get_or-set_other two (at + 2) (at + 1) (word_of step) 0 second_third ∙ get_or-set_same one (at + 1) u 0 (omega (arith, deep, long_one)),
-              get_or-set_same two (at + 2) (word_of step) 0 (omega (arith, deep, long_two)),
-              kept.fors,
-            )
-            refl
-            (row.fits, few.0) few.1 row.end row.round row.within row.then)
+            goes_after ctx s (Perform (Turns (Variable x' kind) first step (suc u) body) ∷ k) m stepped (c + 24) (c + 23) pushed
+            (goes_after_in ctx s (Perform (Turns (Variable x' kind) first step (suc u) body) ∷ k) stepped begun x (c + 23) (c + 20)
+            (advances stepped s.world _ (
+            enters (suc u) e
+            ∙ yes _ _ _ (lt-ltb (at + 2) 65536 deep)
+            ∙ ap (λ (st : List ℕ). let r : Event × State = (Went, record m { place = row.turn; stack = []; store = st }) in r) same
+            ))
+            three.touch
+            (turn_goes (at_home ctx x) s k begun c a three.shared x' kind first step u body (record {
+              now = word_of first;
+              now_is = words.0;
+              left_is = words.1;
+              step_is = words.2;
+            }) refl refl
+            (row.fits, few.0) few.1 row.end row.round row.within (three.rows k row.end c a (omega arith) row.then))
             (omega arith))
             (omega arith)
 
     pub next_goes : (x : ℕ) (kind : Kind) (z step : ℤ) (left : ℕ) (body : Statements) → NextWaits ctx x kind z step left body Left Quiet m.place m.stack c a
         → Goes ctx s (Perform (Turns (Variable x kind) z step left body) ∷ k) m (c + 32)
-    next_goes x kind z step left body row = by_left left row.left_is row.fit row.small
+    next_goes x' kind z step left body row = by_left left refl row.fit row.small
       where
         n : ℕ
-        n = loop_place (length row.outer.fors)
+        n = loop_place row.outer.loops
 
         at : ℕ
-        at = m.frame + loop_place (length row.outer.fors)
+        at = m.frame + loop_place row.outer.loops
 
-        room : n + 3 ≤ l.frame
+        room : loop_place row.outer.loops + 3 ≤ l.frame
         room = row.round.room
 
-        deep : m.frame + loop_place (length row.outer.fors) + 2 < 65536
-        deep = omega (arith, shared.frame.room, room)
+        deep : m.frame + loop_place row.outer.loops + 2 < 65536
+        deep = omega (arith, inside ctx s m shared (loop_place row.outer.loops + 2) (omega (arith, room)))
 
-        inner : HasFors ctx m.frame m.store (row.words ∷ row.outer.fors)
-        inner = subst (λ (b : Around). HasFors ctx m.frame m.store b.fors) row.around fors
-
-        again : (u : ℕ) → row.words.left ≡ u → mstep m ≡ turn_row own (m.frame + loop_place (length row.outer.fors)) row.turn row.end m row.words.now u (word_of step)
+        again : (u : ℕ) → left ≡ u → mstep m ≡ turn_row own (m.frame + loop_place row.outer.loops) row.turn row.end m row.words.now u (word_of step)
         again u e =
             at_step ctx m shared.program (Frn n row.turn) row.end (subst (λ (p : ℕ). IsAt own.code p (Frn n row.turn) row.end) (sym row.at) row.round.next)
             ∙ yes _ _ _ (lt-ltb (at + 1) 65536 (omega (arith, deep)))
-            ∙ ap (λ (w : ℕ). turn_row own at row.turn row.end m w (get_or m.store (at + 1) 0) (get_or m.store (at + 2) 0)) inner.1
-            ∙ ap (λ (w : ℕ). turn_row own at row.turn row.end m row.words.now w (get_or m.store (at + 2) 0)) (inner.2 ∙ e)
-            ∙ ap (λ (w : ℕ). turn_row own at row.turn row.end m row.words.now u w) (inner.3 ∙ row.step_is)
+            ∙ ap (λ (w : ℕ). turn_row own at row.turn row.end m w (get_or m.store (at + 1) 0) (get_or m.store (at + 2) 0)) (own_read ctx s m shared n at refl (omega (arith, room)) ∙ row.words.now_is)
+            ∙ ap (λ (w : ℕ). turn_row own at row.turn row.end m row.words.now w (get_or m.store (at + 2) 0)) (own_read ctx s m shared (n + 1) (at + 1) (omega arith) (omega (arith, room)) ∙ ap h.shadow (omega arith) ∙ row.words.left_is ∙ e)
+            ∙ ap (λ (w : ℕ). turn_row own at row.turn row.end m row.words.now u w) (own_read ctx s m shared (n + 2) (at + 2) (omega arith) (omega (arith, room)) ∙ ap h.shadow (omega arith) ∙ row.words.step_is)
 
-        by_left : (u : ℕ) → row.words.left ≡ u → TurnsFit (base_of kind) z step u → u < 65536 → Goes ctx s (Perform (Turns (Variable x kind) z step u body) ∷ k) m (c + 32)
+        by_left : (u : ℕ) → left ≡ u → TurnsFit (base_of kind) z step u → u < 65536 → Goes ctx s (Perform (Turns (Variable x' kind) z step u body) ∷ k) m (c + 32)
         by_left zero e fit small =
-            goes_one ctx s (Perform (Turns (Variable x kind) z step zero body) ∷ k) m (c + 32) c (running (going m row.end m.stack) s.world)
+            goes_one ctx s (Perform (Turns (Variable x' kind) z step zero body) ∷ k) m (c + 32) c (running (going m row.end m.stack) s.world)
             (advances m s.world _ (again zero e))
-            (lands_on ctx s m shared k row.end m.stack c row.outer inner.4
+            (lands_on ctx s m shared k row.end m.stack c row.outer
             (rows_ahead ctx k row.end m.stack c row.outer
             (subst (λ (st : List ℕ). Left Quiet row.end st c row.outer) (sym row.empty) row.then)))
             (omega arith)
         by_left (suc u) e fit small =
-            let words : ForWords = record { now = word_of z; left = u; step = word_of step } in
             let sum : (row.words.now + word_of step) % 65536 ≡ word_of z = row.next_is ∙ omega (arith, word_small (compared_as (base_of kind)) z (has_type (base_of kind) z row.round.known.base fit.0)) in
             let fewer : suc u - 1 ≡ u = omega arith in
-            let one : List ℕ = set m.store (at + 1) u in
-            let two : List ℕ = set one at (word_of z) in
-            let turning : State = record m { place = row.turn; store = two } in
-            let long_one : length one ≡ 65536 = length-set m.store (at + 1) u ∙ shared.mem.long in
-            let second_first : at + 1 ≡ at → ⊥ = λ d. omega (arith, d) in
-            let third_first : at + 2 ≡ at → ⊥ = λ d. omega (arith, d) in
-            let third_second : at + 2 ≡ at + 1 → ⊥ = λ d. omega (arith, d) in
-            let kept : Kept ctx s m row.outer.fors two =
-            keeps ctx s m row.outer.fors one n at (word_of z) shared.frame refl (omega arith) (omega (arith, room))
-            (keeps ctx s m row.outer.fors m.store (n + 1) (at + 1) u shared.frame (omega arith) (omega arith) (omega (arith, room))
-            (record { mem = shared.mem; fors = inner.4 })) in
-            goes_after ctx s (Perform (Turns (Variable x kind) z step (suc u) body) ∷ k) m turning (c + 32) (c + 20)
+            let one = written ctx s m n (written_none ctx s m n shared) (n + 1) u (omega arith) (omega (arith, room)) in
+            let two = written ctx s m n one n (word_of z) (omega arith) (omega (arith, room)) in
+            let x : Home = shadowed (shadowed h (ctx.stack.frame.at + (n + 1)) u) (ctx.stack.frame.at + n) (word_of z) in
+            let store : List ℕ = set (set m.store (ctx.stack.frame.at + (n + 1)) u) (ctx.stack.frame.at + n) (word_of z) in
+            let turning : State = record m { place = row.turn; store = store } in
+            let first_at : m.frame + n ≡ ctx.stack.frame.at + n = omega (arith, shared.standing.frame_is) in
+            let second_at : m.frame + n + 1 ≡ ctx.stack.frame.at + (n + 1) = omega (arith, shared.standing.frame_is) in
+            let same : set (set m.store (m.frame + n + 1) (suc u - 1)) (m.frame + n) ((row.words.now + word_of step) % 65536) ≡ store =
+            ap (λ (w : ℕ). set (set m.store (m.frame + n + 1) w) (m.frame + n) ((row.words.now + word_of step) % 65536)) fewer
+            ∙ ap (set (set m.store (m.frame + n + 1) u) (m.frame + n)) sum
+            ∙ ap (λ (y : ℕ). set (set m.store y u) (m.frame + n) (word_of z)) second_at
+            ∙ ap (λ (y : ℕ). set (set m.store (ctx.stack.frame.at + (n + 1)) u) y (word_of z)) first_at in
+            let words = turned_words h.shadow ctx.stack.frame.at n (word_of z) u in
+            goes_after_in ctx s (Perform (Turns (Variable x' kind) z step (suc u) body) ∷ k) m turning x (c + 32) (c + 20)
             (advances m s.world _ (
             again (suc u) e
             ∙ no _ _ _ (ne_eqb (suc u) 0 (λ d. omega (arith, d)))
             ∙ yes _ _ _ (lt-ltb (at + 2) 65536 deep)
             ∙ yes _ _ _ (lt-ltb row.turn (length own.code) (instr_within own.code row.turn (Llw n) row.round.loaded row.round.load))
-            ∙ ap (λ (st : List ℕ). let r : Event × State = (Went, record m { place = row.turn; store = st }) in r)
-            (ap (λ (w : ℕ). set (set m.store (at + 1) w) at ((row.words.now + word_of step) % 65536)) fewer ∙ ap (set one at) sum)
+            ∙ ap (λ (st : List ℕ). let r : Event × State = (Went, record m { place = row.turn; store = st }) in r) same
             ))
-            (turn_goes s k turning c row.outer (shared_stored ctx s m shared row.turn m.stack two kept.mem) x kind z step u body (
-              room,
-              get_or-set_same one at (word_of z) 0 (omega (arith, deep, long_one)),
-              get_or-set_other one at (at + 1) (word_of z) 0 second_first ∙ get_or-set_same m.store (at + 1) u 0 (omega (arith, deep, shared.mem.long)),
-              get_or-set_other one at (at + 2) (word_of z) 0 third_first ∙ get_or-set_other m.store (at + 1) (at + 2) u 0 third_second ∙ inner.3 ∙ row.step_is,
-              kept.fors,
-            )
-            row.empty fit (omega (arith, small)) row.end row.round row.within row.then)
+            two.touch
+            (turn_goes (at_home ctx x) s k turning c row.outer two.shared x' kind z step u body (record {
+              now = word_of z;
+              now_is = words.0;
+              left_is = words.1;
+              step_is = words.2 ∙ row.words.step_is;
+            }) refl
+            row.empty fit (omega (arith, small)) row.end row.round row.within (two.rows k row.end c row.outer (omega arith) row.then))
             (omega arith)

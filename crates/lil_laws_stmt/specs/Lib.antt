@@ -1,11 +1,14 @@
 pub mod Begins
+pub mod Bodies
 pub mod Cases
 pub mod Changes
 pub mod Control
+pub mod Ends
 pub mod Exits
 pub mod ForWords
 pub mod Fors
-pub mod Leaving
+pub mod Painting
+pub mod Returns
 pub mod Starts
 pub mod Stores
 pub mod Tasks

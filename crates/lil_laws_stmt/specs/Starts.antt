@@ -9,7 +9,7 @@ use Rattle.lil_base.specs.Laws.{in_range, bounds}
 use Rattle.lil_resolved.specs.Kinds.{Kind, OfWhole, OfTruth, OfCharacter, OfEnumeration, OfRange, base_of, takes_value, compared_as, covers, outside_turns}
 use Rattle.lil_resolved.specs.Sound.{IsStep}
 use Rattle.lil_meaning.specs.Steps.{turns}
-use Rattle.lil_match.specs.Homes.{yes, no}
+use Rattle.lil_match.specs.Parts.{yes, no}
 use Rattle.lil_match.specs.Ranges.{has, has_range}
 
 -- a number of a kind is one of the kind that it was taken from

@@ -1,5 +1,5 @@
--- The rows of assignments, requests and their arguments, and of the end of the last body.
-use Rattle.std.proofs.Common.{◌≡◌, ℕ, suc, ◌+◌, ◌<◌, Bool, true, cond, Option, Some, List, [], ◌∷◌, ◌++◌, length, map, reverse, take, drop, refl, sym, ap, ◌∙◌, subst, arith, eq-eqb, length-append}
+-- The rows of assignments, and of requests and their arguments.
+use Rattle.std.proofs.Common.{◌≡◌, ℕ, suc, ◌+◌, ◌<◌, Bool, true, cond, Option, Some, List, [], ◌∷◌, ◌++◌, length, map, reverse, take, drop, refl, sym, ap, ◌∙◌, subst, arith, length-append}
 use Rattle.std.specs.Prelude.{nat_le}
 use Rattle.std.proofs.lemmas.Bool.{le-leb}
 use Rattle.std.proofs.lemmas.List.{reverse-append, reverse-reverse, length-reverse, map-append, length-map, take_all, drop_all}
@@ -7,37 +7,39 @@ use Rattle.lil_base.specs.declared.fault.TrapKind.TheVariants as trap
 use Rattle.lil_resolved.specs.Kinds.{Kind}
 use Rattle.lil_resolved.specs.Scalars.{Scalar, within, scalar_word}
 use Rattle.lil_resolved.specs.Resolved.{Variable, Expression, Argument, Assign, Request, kind_of}
+use Rattle.lil_meaning.specs.Shapes.{Word}
 use Rattle.lil_meaning.specs.Cells.{Place, stored, alone}
 use Rattle.lil_meaning.specs.World.{World, serve}
-use Rattle.lil_meaning.specs.Items.{Scalars, Places, SetTo, StoreAt, Pass, Do, Passing, End, Item, Value, PlaceOf, Fill, Perform, Going, Source}
-use Rattle.lil_meaning.specs.Steps.{trapped, with_items}
-use Rattle.lil_asm.specs.declared.instr.Instr.TheVariants.{Sgw, Rtn, Svc}
-use Rattle.lil_mcode.specs.declared.machine.Event.TheVariants.{LevelEnded}
+use Rattle.lil_meaning.specs.Items.{Datum, Scalars, Places, SetTo, StoreAt, Pass, Do, Passing, Item, Value, PlaceOf, Fill, Perform, Going, Source}
+use Rattle.lil_meaning.specs.Steps.{trapped, with_items, datum_word}
+use Rattle.lil_asm.specs.declared.instr.Instr.TheVariants.{Sgw, Svc}
 use Rattle.lil_mcode.specs.State.{State}
-use Rattle.lil_mcode.specs.Table.{going, request_row, end_row}
+use Rattle.lil_mcode.specs.Table.{going, request_row}
 use Rattle.lil_table.specs.Rows.{IsAt, ValueRow, ArgumentsAt, test_code}
-use Rattle.lil_match.specs.Running.{Running, Finished, Run, running, requested, words_taken}
-use Rattle.lil_match.specs.Homes.{word_for, plain_word, yes, Word}
-use Rattle.lil_match.specs.Goes.{HasFors, Shared, Goes, Lands}
+use Rattle.lil_match.specs.Running.{Running, Run, running, requested, words_taken}
+use Rattle.lil_match.specs.Parts.{yes}
+use Rattle.lil_match.specs.Homes.{word_for, plain_word}
+use Rattle.lil_match.specs.Goes.{Shared, Goes, Lands}
 use Rattle.lil_match.specs.Stutter.{stutter}
-use Rattle.lil_match.specs.Waits.{Setting, laid_out, Quiet, ValueOf, Direct, Around, Reach, Rows, Ahead, words_on, EndWaits, EndedWaits, IsVariable, Waiting}
+use Rattle.lil_match.specs.Waits.{Setting, frame_of, laid_out, Quiet, ValueOf, Direct, Around, Reach, Rows, words_on, IsVariable, Waiting}
 use Rattle.lil_match.specs.Orders.{instr_within, instrs_order, expression_stands, arguments_within}
 use Rattle.lil_match.specs.Closing.{closed}
 use Rattle.lil_match.specs.Steps.{advances, at_step, at_once, rows_ahead, lands_on, goes_none, goes_one, operand_goes}
 use Rattle.lil_laws_stmt.specs.Stores.{tested, stored_goes}
 
 -- one more word on the expression stack
-words_more : (done : List Scalar) (v : Scalar) → scalar_word v ∷ words_on done ≡ words_on (done ++ v ∷ [])
-words_more done v = sym (ap (λ (x : List ℕ). reverse x) (map-append scalar_word done (v ∷ [])) ∙ reverse-append (map scalar_word done) (scalar_word v ∷ []))
+words_more : (done : List Datum) (v : Scalar) → scalar_word v ∷ words_on done ≡ words_on (done ++ Scalars v ∷ [])
+words_more done v = sym (ap (λ (x : List ℕ). reverse x) (map-append datum_word done (Scalars v ∷ [])) ∙ reverse-append (map datum_word done) (scalar_word v ∷ []))
 
-words_length : (done : List Scalar) → length (words_on done) ≡ length done
-words_length done = length-reverse (map scalar_word done) ∙ length-map done scalar_word
+words_length : (done : List Datum) → length (words_on done) ≡ length done
+words_length done = length-reverse (map datum_word done) ∙ length-map done datum_word
 
-done_length : (done : List Scalar) (v : Scalar) → length (done ++ v ∷ []) ≡ suc (length done)
-done_length done v = omega (arith, length-append done (v ∷ []))
+done_length : (done : List Datum) (v : Scalar) → length (done ++ Scalars v ∷ []) ≡ suc (length done)
+done_length done v = omega (arith, length-append done (Scalars v ∷ []))
 
 module _ (ctx : Setting) where
-  open ctx use {modules, table, own, number, home as h}
+  open ctx use {modules, table, home as h}
+  open frame_of ctx use {own, number}
   open laid_out ctx use {layout as l}
 
   -- a test begins within the code where what follows it does
@@ -47,7 +49,7 @@ module _ (ctx : Setting) where
       let test = instrs_order own.code (test_code kind (kind_of e)) r.middle q r.test value.1 in
       omega (arith, test.0, inside)
 
-  module _ (s : Source) (k : List Item) (m : State) (c : ℕ) (a : Around) (shared : Shared ctx s m) (fors : HasFors ctx m.frame m.store a.fors) where
+  module _ (s : Source) (k : List Item) (m : State) (c : ℕ) (a : Around) (shared : Shared ctx s m) where
     abbrev Rest : Reach
     Rest = Rows ctx k
 
@@ -55,7 +57,7 @@ module _ (ctx : Setting) where
         → Goes ctx s (Perform (Do (Assign (Variable x kind) e)) ∷ k) m (c + 32)
     assign_goes x kind e row =
         goes_none ctx s (Perform (Do (Assign (Variable x kind) e)) ∷ k) m (c + 32) c
-        (lands_on ctx s m shared (PlaceOf (Variable x kind) ∷ Fill (SetTo kind e) ∷ k) m.place m.stack c a fors
+        (lands_on ctx s m shared (PlaceOf (Variable x kind) ∷ Fill (SetTo kind e) ∷ k) m.place m.stack c a
         (at_once ctx _ Quiet m.place m.stack c a
         (record {
           part = row.part.here.known;
@@ -80,13 +82,9 @@ module _ (ctx : Setting) where
         → Waiting ctx (Fill (SetTo to e)) Rest (Direct offset kind) m.place m.stack c a → Goes ctx s (Value (Places place) ∷ Fill (SetTo to e) ∷ k) m (c + 32)
     set_goes to e place kind offset is row =
         let same_kind : kind ≡ to = row.part.same in
-        let variable : IsVariable ctx place offset to = record {
-          path = is.path;
-          living = is.living ∙ ap Word same_kind;
-          at = is.at;
-        } in
+        let variable : IsVariable ctx place offset to = record { seen = is.seen; living = is.living ∙ ap Word same_kind; at = is.at } in
         let value = row.part.value in
-        operand_goes ctx s k m c a shared fors (Value (Places place) ∷ Fill (SetTo to e) ∷ k) e (StoreAt place to) refl (omega arith) value.middle value.value.value
+        operand_goes ctx s k m c a shared (Value (Places place) ∷ Fill (SetTo to e) ∷ k) e (StoreAt place to) refl (omega arith) value.middle value.value.value
         (omega (arith, value.value.shallow, ap length row.part.empty))
         (value_within 0 e to m.place row.part.middle value (instr_within own.code row.part.middle (Sgw offset) row.part.end row.part.store))
         (record {
@@ -116,7 +114,7 @@ module _ (ctx : Setting) where
         (λ out. ap becomes out)
         (λ one.
         stored_goes ctx s items m shared row.part.middle m.stack place row.part.offset to row.part.variable v one below is
-        row.part.end row.part.store k (ap becomes one) c (c + 1) a fors
+        row.part.end row.part.store k (ap becomes one) c (c + 1) a
         (subst (λ (x : List ℕ). Rest Quiet row.part.end x c a) (sym row.part.empty) row.then) (omega arith))
         (omega arith)
 
@@ -124,7 +122,7 @@ module _ (ctx : Setting) where
         → Goes ctx s (Perform (Do (Request r given)) ∷ k) m (c + 32)
     request_goes r given row =
         goes_none ctx s (Perform (Do (Request r given)) ∷ k) m (c + 32) c
-        (lands_on ctx s m shared (Perform (Passing r [] given) ∷ k) m.place m.stack c a fors
+        (lands_on ctx s m shared (Perform (Passing r [] given) ∷ k) m.place m.stack c a
         (at_once ctx _ Quiet m.place m.stack c a
         (record {
           part = record {
@@ -138,14 +136,14 @@ module _ (ctx : Setting) where
         (omega arith)
         (omega arith)
 
-    pub passing_goes : (r : ℕ) (done : List Scalar) (x : Argument) (left : List Argument) → Waiting ctx (Perform (Passing r done (x ∷ left))) Rest Quiet m.place m.stack c a
+    pub passing_goes : (r : ℕ) (done : List Datum) (x : Argument) (left : List Argument) → Waiting ctx (Perform (Passing r done (x ∷ left))) Rest Quiet m.place m.stack c a
         → Goes ctx s (Perform (Passing r done (x ∷ left)) ∷ k) m (c + 32)
     passing_goes r done x left row =
         let value = row.part.given.value in
         let serve = row.part.serve in
         let behind = arguments_within l own.code (suc (length done)) left row.part.given.middle row.part.middle row.part.given.then (instr_within own.code row.part.middle (Svc r) serve.end serve.by) in
         let count : length done + suc (length left) ≡ suc (length done) + length left = omega arith in
-        operand_goes ctx s k m c a shared fors (Perform (Passing r done (x ∷ left)) ∷ k) x.value (Pass r x.kind done left) refl (omega arith) value.middle value.value.value
+        operand_goes ctx s k m c a shared (Perform (Passing r done (x ∷ left)) ∷ k) x.value (Pass r x.kind done left) refl (omega arith) value.middle value.value.value
         (omega (arith, value.value.shallow, ap length row.part.is, words_length done))
         (value_within (length done) x.value x.kind m.place row.part.given.middle value behind)
         (record {
@@ -161,14 +159,14 @@ module _ (ctx : Setting) where
           then = row.then;
         })
 
-    pub pass_goes : (r : ℕ) (to : Kind) (done : List Scalar) (left : List Argument) (v : Scalar) (kind : Kind) → within kind v ≡ true → (below : List ℕ) → m.stack ≡ word_for h v ∷ below
+    pub pass_goes : (r : ℕ) (to : Kind) (done : List Datum) (left : List Argument) (v : Scalar) (kind : Kind) → within kind v ≡ true → (below : List ℕ) → m.stack ≡ word_for h v ∷ below
         → Waiting ctx (Fill (Pass r to done left)) Rest (ValueOf kind) m.place below c a → Goes ctx s (Value (Scalars v) ∷ Fill (Pass r to done left) ∷ k) m (c + 32)
     pass_goes r to done left v kind fit below is row =
         let items : List Item = Value (Scalars v) ∷ Fill (Pass r to done left) ∷ k in
         let now : Source = record s { items = items; phase = Going } in
-        let after : List Item = Perform (Passing r (done ++ v ∷ []) left) ∷ k in
+        let after : List Item = Perform (Passing r (done ++ Scalars v ∷ []) left) ∷ k in
         let becomes : Bool → Source = λ b. cond b (with_items now after) (trapped modules now trap.Range) in
-        let count : suc (length done) ≡ length (done ++ v ∷ []) = sym (done_length done v) in
+        let count : suc (length done) ≡ length (done ++ Scalars v ∷ []) = sym (done_length done v) in
         let stack_is : m.stack ≡ scalar_word v ∷ below = is ∙ ap (λ (w : ℕ). w ∷ below) (plain_word h kind v fit) in
         let serve = row.part.serve in
         let falls : stutter after < stutter items = omega arith in
@@ -178,7 +176,7 @@ module _ (ctx : Setting) where
         (λ one.
         goes_none ctx s items (going m row.part.tested m.stack) c c
         (subst (λ (t : Source). Lands ctx t.phase t (running (going m row.part.tested m.stack) s.world) c) (sym (ap becomes one))
-        (lands_on ctx s m shared after row.part.tested m.stack c a fors
+        (lands_on ctx s m shared after row.part.tested m.stack c a
         (at_once ctx _ Quiet row.part.tested m.stack c a
         (record {
           part = record {
@@ -193,7 +191,7 @@ module _ (ctx : Setting) where
         (subst (λ (t : Source). stutter t.items < stutter items) (sym (ap becomes one)) falls))
         (omega arith)
 
-    pub serve_goes : (r : ℕ) (done : List Scalar) → Waiting ctx (Perform (Passing r done [])) Rest Quiet m.place m.stack c a
+    pub serve_goes : (r : ℕ) (done : List Datum) → Waiting ctx (Perform (Passing r done [])) Rest Quiet m.place m.stack c a
         → Goes ctx s (Perform (Passing r done []) ∷ k) m (c + 32)
     serve_goes r done row =
         let count : ℕ = length done + 0 in
@@ -201,10 +199,10 @@ module _ (ctx : Setting) where
         let by = subst (λ (p : ℕ). IsAt own.code p (Svc r) row.part.serve.end) (sym row.part.given) row.part.serve.by in
         let enough : nat_le count (length m.stack) ≡ true = le-leb count (length m.stack) (omega (arith, room)) in
         let none_left : drop count m.stack ≡ [] = drop_all count m.stack (omega (arith, room)) in
-        let words : reverse (take count m.stack) ≡ map scalar_word done =
-        ap reverse (take_all count m.stack (omega (arith, room)) ∙ row.part.is) ∙ reverse-reverse (map scalar_word done) in
+        let words : reverse (take count m.stack) ≡ map datum_word done =
+        ap reverse (take_all count m.stack (omega (arith, room)) ∙ row.part.is) ∙ reverse-reverse (map datum_word done) in
         let machine : State = record m { place = row.part.serve.end; stack = [] } in
-        let w : World = serve r (map scalar_word done) s.world in
+        let w : World = serve r (map datum_word done) s.world in
         goes_one ctx s (Perform (Passing r done []) ∷ k) m (c + 32) c (running machine w)
         (advances m s.world _ (
         at_step ctx m shared.program (Svc r) row.part.serve.end by
@@ -218,45 +216,9 @@ module _ (ctx : Setting) where
           machine = machine;
           is = refl;
           met = record {
-            shared = record {
-              mem = shared.mem;
-              laid = shared.laid;
-              program = record {
-                table_is = shared.program.table_is;
-                known = shared.program.known;
-                running_is = shared.program.running_is;
-                marked = shared.program.marked;
-                body = shared.program.body;
-                last = shared.program.last;
-              };
-              frame = record { room = shared.frame.room; free = shared.frame.free };
-              owner = shared.owner;
-              parked = shared.parked;
-            };
+            shared = shared;
             around = a;
-            fors = fors;
             ahead = rows_ahead ctx k row.part.serve.end [] c a row.then;
           };
         })
         (omega arith)
-
-    -- the end of the last body
-    pub end_goes : (n : ℕ) → EndWaits ctx n k Quiet m.place m.stack c a → Goes ctx s (Perform (End n) ∷ k) m (c + 32)
-    end_goes n row =
-        goes_none ctx s (Perform (End n) ∷ k) m (c + 32) c
-        (lands_on ctx s m shared k m.place m.stack c a fors
-        (subst (λ (x : List Item). Ahead ctx x Quiet m.place m.stack c a) (sym row.last) (record { empty = row.empty; end = row.end; leave = row.leave })))
-        (omega arith)
-        (omega arith)
-
-  -- nothing is left
-  pub ended_goes : (s : Source) (m : State) (c : ℕ) (a : Around) → Shared ctx s m → EndedWaits ctx Quiet m.place m.stack c a → Goes ctx s [] m (c + 32)
-  ended_goes s m c a shared row =
-      goes_one ctx s [] m (c + 32) 0 (record { machine = m; world = s.world; finish = Finished })
-      (advances m s.world (LevelEnded, m) (
-      at_step ctx m shared.program Rtn row.end row.leave
-      ∙ yes _ _ _ (eq-eqb m.frame m.base shared.program.body)
-      ∙ ap (end_row m) shared.program.last
-      ))
-      (record { finish = refl; world = refl })
-      (omega arith)

@@ -1,77 +1,104 @@
--- Matched states: the code at hand does the items that are left, the store has the cells, and the registers stay. One step of the source
--- leads from one to the next.
-use Rattle.std.proofs.Common.{◌≡◌, ℕ, ◌+◌, ◌<◌, ◌≤◌, true, Some, None, List, [], ◌∷◌, length, get_or}
+-- Matched states: the code at hand does the items that are left, the store has the cells, and frames stand one over another. One step of
+-- the source leads from one to the next.
+use Rattle.std.proofs.Common.{◌≡◌, ℕ, ◌+◌, ◌<◌, ◌≤◌, ◌⊎◌, Bool, true, Some, None, List, [], ◌∷◌, map}
 use Rattle.std.specs.Prelude.{slice_get}
 use Rattle.lil_base.specs.declared.fault.TrapAt.{TrapAt}
 use Rattle.lil_resolved.specs.Kinds.{Kind}
-use Rattle.lil_meaning.specs.Cells.{Global, loaded_at}
+use Rattle.lil_resolved.specs.Resolved.{Resolved}
+use Rattle.lil_meaning.specs.Shapes.{Shape, Word}
+use Rattle.lil_meaning.specs.Cells.{Root, Global, Cells, loaded_at}
 use Rattle.lil_meaning.specs.World.{World}
-use Rattle.lil_meaning.specs.Items.{Item, Parked, Phase, Going, Closing, Ended, Trapped, Source}
+use Rattle.lil_meaning.specs.Items.{Item, Activation, Parked, Phase, Going, Closing, Ended, Trapped, Source}
 use Rattle.lil_meaning.specs.Steps.{next, owner_of, name_of}
-use Rattle.lil_mcode.specs.State.{State, module_at}
-use Rattle.lil_table.specs.Rows.{loop_place}
+use Rattle.lil_mcode.specs.State.{Module, StackRegisters, Kept, State, stack_of, module_at}
 use Rattle.lil_match.specs.Running.{Finish, Running, Finished, TrappedBy, Run, mrun, running}
-use Rattle.lil_match.specs.Homes.{Mem, Free}
+use Rattle.lil_match.specs.Homes.{Owner, Own, Free, Home, Mem}
 use Rattle.lil_match.specs.Stutter.{stutter}
-use Rattle.lil_match.specs.Waits.{Setting, laid_out, Quiet, ForWords, Around, Ahead, IsVariable}
+use Rattle.lil_match.specs.Waits.{Frame, Stack, Setting, Quiet, Around, Ahead}
 
 -- a run that has shown no more, and goes on
 pub record IsStill (w : World) (run : Run) : Type 0 where
   pub world : run.world ≡ w
   pub finish : run.finish ≡ Running
 
+-- a frame's words, and those above it up to a place, are the machine's own
+pub record OwnWords (owner : ℕ → Owner) (f : Frame) (top : ℕ) : Type 0 where
+  pub mark : 4 ≤ f.layout.frame
+  pub below : f.at + f.layout.frame ≤ top
+  pub own : (i : ℕ) → f.at + i < top → owner (f.at + i) ≡ Own
+
+-- frames stand one over another, the lowest at the base
+abbrev pub Stands : (ℕ → Owner) → ℕ → ℕ → Frame → List Frame → Type 0
+Stands owner base top f [] = OwnWords owner f top × (f.at ≡ base)
+Stands owner base top f (g ∷ gs) = OwnWords owner f top × Stands owner base f.at g gs
+
+abbrev pub number_of : Frame → ℕ
+number_of f = f.number
+
+module _ (modules : List Resolved) (table : List Module) (activations : List Activation) (base : Root → ℕ) (shape : Root → Shape) where
+  -- a frame's module is loaded, its activation runs in it, and its variables live where its layout says
+  pub record IsKnown (f : Frame) : Type 0 where
+    pub known : module_at table f.number ≡ Some f.own
+    pub named : name_of (loaded_at modules f.number) ≡ f.own.name
+    pub owner : owner_of (slice_get activations f.activation) ≡ f.number
+    pub variables : (x offset : ℕ) (k : Kind) → slice_get f.layout.offsets x ≡ Some offset → slice_get f.layout.kinds x ≡ Some k
+        → (shape (Global f.number x) ≡ Word k) × (base (Global f.number x) ≡ f.own.base + offset)
+
+  abbrev pub EachKnown : List Frame → Type 0
+  EachKnown [] = Unit {0}
+  EachKnown (f ∷ fs) = IsKnown f × EachKnown fs
+
+  -- a body that is to run stands at the stack's base, and has room
+  pub record Comes (low limit : ℕ) (b : Frame) : Type 0 where
+    pub known : IsKnown b
+    pub at : b.at ≡ low
+    pub mark : 4 ≤ b.layout.frame
+    pub room : b.at + b.layout.frame ≤ limit
+
+  abbrev pub EachComes : ℕ → ℕ → List Frame → Type 0
+  EachComes low limit [] = Unit {0}
+  EachComes low limit (b ∷ bs) = Comes low limit b × EachComes low limit bs
+
 module _ (ctx : Setting) where
-  open ctx use {modules, table, own, number, home as h}
-  open laid_out ctx use {layout as l}
+  open ctx use {modules, table, activations, home as h, stack as st}
 
-  -- the registers and tables that stay
-  pub record IsProgram (m : State) : Type 0 where
-    pub table_is : m.modules ≡ table
-    pub known : module_at table number ≡ Some own
-    pub running_is : m.running ≡ number
-    pub marked : m.marked ≡ true
-    pub body : m.frame ≡ m.base
-    pub last : m.bodies ≡ []
+  -- the registers of a stack are those of its frames
+  pub record Standing (r : StackRegisters) : Type 0 where
+    pub frame_is : r.frame ≡ st.frame.at
+    pub base_is : r.base ≡ st.base
+    pub limit_is : r.limit ≡ st.limit
+    pub bodies_are : r.bodies ≡ map number_of st.bodies
+    pub known : IsKnown modules table activations h.base h.shape st.frame
+    pub callers : EachKnown modules table activations h.base h.shape st.callers
+    pub comes : EachComes modules table activations h.base h.shape st.base st.limit st.bodies
+    pub stands : Stands h.owner st.base r.top st.frame st.callers
+    pub room : (a : ℕ) → r.top ≤ a → a < st.limit → h.owner a ≡ Free st.base
+    pub low : r.top ≤ st.limit
+    pub high : st.limit ≤ 65535
 
-  -- no coroutine is parked: there is no row for one yet
-  abbrev pub EachParked : List Parked → Type 0
-  EachParked [] = Unit {0}
-  EachParked (c ∷ cs) = ⊥
+  -- the module of the running frame runs
+  pub record IsProgram (loaded : List Module) (number : ℕ) (marked : Bool) : Type 0 where
+    pub table_is : loaded ≡ table
+    pub known : module_at table st.frame.number ≡ Some st.frame.own
+    pub running_is : number ≡ st.frame.number
+    pub marked_is : marked ≡ true
 
-  -- the variables of the module at hand live where its layout says
-  pub record IsLaid : Type 0 where
-    pub variables : (x offset : ℕ) (k : Kind) → slice_get l.offsets x ≡ Some offset → slice_get l.kinds x ≡ Some k
-        → IsVariable ctx (record { root = Global number x; path = [] }) offset k
+  -- what stays while the place, the expression stack and the items change
+  pub record IsShared (cells : Cells) (activations' : List Activation) (parked : List Parked) (loaded : List Module) (kept : List Kept) (marked : Bool) (store : List ℕ) (stack : StackRegisters) : Type 0 where
+    pub mem : Mem h cells store
+    pub program : IsProgram loaded stack.running marked
+    pub standing : Standing stack
+    pub activations_are : activations' ≡ activations
+    pub parked_are : parked ≡ ctx.parked
+    pub kept_are : kept ≡ ctx.kept
 
-  -- the words of the frame behind its mark are no variable's
-  pub record HasFrame (m : State) : Type 0 where
-    pub room : m.frame + l.frame ≤ 65535
-    pub free : (i : ℕ) → 4 ≤ i → i < l.frame → h.owner (m.frame + i) ≡ Free m.base
-
-  -- the FORs at hand have their words in the frame, the outer ones lower
-  abbrev pub HasFors : ℕ → List ℕ → List ForWords → Type 0
-  HasFors frame store [] = Unit {0}
-  HasFors frame store (w ∷ ws) =
-      (loop_place (length ws) + 3 ≤ l.frame)
-      × (get_or store (frame + loop_place (length ws)) 0 ≡ w.now)
-      × (get_or store (frame + loop_place (length ws) + 1) 0 ≡ w.left)
-      × (get_or store (frame + loop_place (length ws) + 2) 0 ≡ w.step)
-      × HasFors frame store ws
-
-  -- what all stacks share
-  pub record Shared (s : Source) (m : State) : Type 0 where
-    pub mem : Mem h s.cells m.store
-    pub laid : IsLaid
-    pub program : IsProgram m
-    pub frame : HasFrame m
-    pub owner : owner_of (slice_get s.activations 0) ≡ number
-    pub parked : EachParked s.parked
+  abbrev pub Shared : Source → State → Type 0
+  Shared s m = IsShared s.cells s.activations s.parked m.modules m.parked m.marked m.store (stack_of m)
 
   -- with so many jumps owed
   pub record IsMatched (s : Source) (k : List Item) (m : State) (c : ℕ) : Type 0 where
     pub shared : Shared s m
     pub around : Around
-    pub fors : HasFors m.frame m.store around.fors
     pub ahead : Ahead ctx k Quiet m.place m.stack c around
 
   pub record GoesOn (s : Source) (run : Run) (c : ℕ) : Type 0 where
@@ -84,10 +111,12 @@ module _ (ctx : Setting) where
     pub finish : run.finish ≡ f
     pub world : run.world ≡ s.world
 
+  -- a trap in the module of the running frame
   pub record IsTrapped (t : TrapAt) (s : Source) (run : Run) : Type 0 where
     pub finish : run.finish ≡ TrappedBy t.kind
     pub world : run.world ≡ s.world
-    pub name : t.«module» ≡ name_of (loaded_at modules number)
+    pub known : module_at table st.frame.number ≡ Some st.frame.own
+    pub name : t.«module» ≡ st.frame.own.name
     pub procedure : t.procedure ≡ None
 
   -- the machine has come to where the source is, with so many jumps owed
@@ -97,12 +126,24 @@ module _ (ctx : Setting) where
   Lands Ended s run c = IsOver Finished s run
   Lands (Trapped t) s run c = ⊥
 
-  -- One step of the source, in so many steps of the machine, with so many jumps owed then, both within a budget. The world changes in
-  -- the last step alone.
-  pub record Goes (s : Source) (k : List Item) (m : State) (budget : ℕ) : Type 0 where
-    pub steps : ℕ
-    pub later : ℕ
-    pub quiet : (i : ℕ) → i < steps → IsStill s.world (mrun i (running m s.world))
-    pub lands : Lands (next modules (record s { items = k; phase = Going })).phase (next modules (record s { items = k; phase = Going })) (mrun steps (running m s.world)) later
-    pub cost : steps + later ≤ budget
-    pub falls : steps ≡ 0 → stutter (next modules (record s { items = k; phase = Going })).items < stutter k
+-- what a step of the stack between two words may change: the words between them and their owners
+pub record Touches (h h' : Home) (low high : ℕ) : Type 0 where
+  pub owner : (a : ℕ) → (a < low) ⊎ (high ≤ a) → h'.owner a ≡ h.owner a
+  pub shadow : (a : ℕ) → (a < low) ⊎ (high ≤ a) → h'.shadow a ≡ h.shadow a
+  pub base : (r : Root) → h'.base r ≡ h.base r
+  pub shape : (r : Root) → h'.shape r ≡ h.shape r
+  pub reference : (o : ℕ) → h'.reference o ≡ h.reference o
+
+-- One step of the source, in so many steps of the machine, with so many jumps owed then, both within a budget. The world changes in
+-- the last step alone; the home changes between the stack's base and its limit alone.
+pub record Goes (ctx : Setting) (s : Source) (k : List Item) (m : State) (budget : ℕ) : Type 0 where
+  pub steps : ℕ
+  pub later : ℕ
+  pub home : Home
+  pub stack : Stack
+  pub quiet : (i : ℕ) → i < steps → IsStill s.world (mrun i (running m s.world))
+  pub lands : Lands (record ctx { home = home; stack = stack }) (next ctx.modules (record s { items = k; phase = Going })).phase (next ctx.modules (record s { items = k; phase = Going })) (mrun steps (running m s.world)) later
+  pub touch : Touches ctx.home home ctx.stack.base ctx.stack.limit
+  pub same : (stack.base ≡ ctx.stack.base) × (stack.limit ≡ ctx.stack.limit)
+  pub cost : steps + later ≤ budget
+  pub falls : steps ≡ 0 → stutter (next ctx.modules (record s { items = k; phase = Going })).items < stutter k

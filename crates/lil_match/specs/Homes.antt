@@ -1,22 +1,14 @@
 -- Where the meaning's cells lie in the store.
-use Rattle.std.proofs.Common.{◌≡◌, ℕ, ◌<◌, Bool, true, false, cond, eqb, List, [], length, get_or, set, refl, sym, ap, ◌∙◌, ◌⊎◌, inl, inr, arith, length-set}
-use Rattle.std.proofs.lemmas.Bool.{eq-eqb, cases_Bool, eqb-true, and_parts, and_from}
+use Rattle.std.proofs.Common.{◌≡◌, ℕ, ◌+◌, ◌<◌, ◌≤◌, true, false, eqb, List, [], ◌∷◌, length, get_or, set, refl, sym, ap, ◌∙◌, subst, ◌⊎◌, inl, inr, ⊎_elim, arith, length-set}
+use Rattle.std.proofs.lemmas.Bool.{eq-eqb, ne_eqb, cases_Bool, cases_eq, eqb-true, and_parts, and_from}
 use Rattle.std.proofs.lemmas.List.{get_or-set_same, get_or-set_other}
+use Rattle.std.specs.Prelude.{◌==◌, if◌then◌else◌}
 use Rattle.lil_base.specs.Words.{between}
 use Rattle.lil_resolved.specs.Kinds.{Kind, OfWhole, OfTruth, OfCharacter, OfEnumeration, OfRange, base_of}
 use Rattle.lil_resolved.specs.Scalars.{Scalar, ToObject, within, scalar_word, ordinal_of}
-use Rattle.lil_meaning.specs.Cells.{Root, Global, Local, Object, Place, Cells, same_root, stored, alone}
-
-pub yes : {A : Type 0} (b : Bool) (x y : A) → b ≡ true → cond b x y ≡ x
-yes b x y h = ap (λ (t : Bool). cond t x y) h
-
-pub no : {A : Type 0} (b : Bool) (x y : A) → b ≡ false → cond b x y ≡ y
-no b x y h = ap (λ (t : Bool). cond t x y) h
-
--- the type of a root: a scalar of a kind, or none where the root does not live
-pub data Type' : Type 0 where
-  Absent : Type'
-  Word : (k : Kind) → Type'
+use Rattle.lil_meaning.specs.Shapes.{Shape, Absent, Word, words, part_at, offset}
+use Rattle.lil_meaning.specs.Cells.{Root, Global, Local, Object, Place, Cells, rest_behind, at_rest, same_root, stored, alone}
+use Rattle.lil_match.specs.Parts.{yes, no, part_fits, Inside, Outside, word_long, parts}
 
 -- whose a word of the store is: a root's, the machine's own, or in no use, as room of the stack with this base
 pub data Owner : Type 0 where
@@ -26,19 +18,27 @@ pub data Owner : Type 0 where
 
 pub record Home : Type 0 where
   pub base : Root → ℕ
-  pub type : Root → Type'
+  -- absent where the root does not live
+  pub shape : Root → Shape
   pub owner : ℕ → Owner
   -- what the machine's own words are
   pub shadow : ℕ → ℕ
   -- the word of a reference
   pub reference : ℕ → ℕ
 
--- A scalar of a kind, as a word. A fresh cell of a range may lie outside of it, so the scalar is one of the kind that the range was taken from.
+-- the first word of a place, and what lies there
+abbrev pub address : Home → Place → ℕ
+address h p = h.base p.root + offset (h.shape p.root) p.path
+
+abbrev pub shape_of : Home → Place → Shape
+shape_of h p = part_at (h.shape p.root) p.path
+
 -- the word of a scalar: of a reference what the home says, else its number
 abbrev pub word_for : Home → Scalar → ℕ
 word_for h (ToObject o) = h.reference o
 word_for h v = scalar_word v
 
+-- A scalar of a kind, as a word. A fresh cell of a range may lie outside of it, so the scalar is one of the kind that the range was taken from.
 pub record IsWord (h : Home) (k : Kind) (v : Scalar) (w : ℕ) : Type 0 where
   pub word : w ≡ word_for h v
   pub fits : within (base_of k) v ≡ true
@@ -57,11 +57,11 @@ pub within_base : (k : Kind) (v : Scalar) → within k v ≡ true → within (ba
 within_base (OfRange base low high) v h = within_base base v (and_parts (within base v) (between low (ordinal_of v) high) h).0
 within_base _ v h = h
 
--- the store has the cells
+-- the store has the cells, and the machine's own words
 pub record Mem (h : Home) (cells : Cells) (store : List ℕ) : Type 0 where
-  pub owned : (r : Root) (k : Kind) → h.type r ≡ Word k → h.owner (h.base r) ≡ Of r
-  pub inside : (r : Root) (k : Kind) → h.type r ≡ Word k → h.base r < 65536
-  pub holds : (r : Root) (k : Kind) → h.type r ≡ Word k → IsWord h k (cells r []) (get_or store (h.base r) 0)
+  pub owned : (r : Root) (i : ℕ) → i < words (h.shape r) → h.owner (h.base r + i) ≡ Of r
+  pub inside : (r : Root) (i : ℕ) → i < words (h.shape r) → h.base r + i < 65536
+  pub holds : (r : Root) (q : List ℕ) (k : Kind) → part_at (h.shape r) q ≡ Word k → IsWord h k (cells r q) (get_or store (h.base r + offset (h.shape r) q) 0)
   pub kept : (a : ℕ) → h.owner a ≡ Own → get_or store a 0 ≡ h.shadow a
   pub long : length store ≡ 65536
 
@@ -93,47 +93,111 @@ own_of_none r e = cc
 pub of_free : (r : Root) (b : ℕ) → Of r ≡ Free b → ⊥
 of_free r b e = cc
 
-abbrev pub whole_root : Root → Place
-whole_root r = record { root = r; path = [] }
+absent_no : (k : Kind) → Absent ≡ Word k → ⊥
+absent_no k e = cc
 
--- a scalar that is stored at a living root changes that root's cell and word alone
-pub mem_stored : (h : Home) (cells : Cells) (store : List ℕ) (r : Root) (k : Kind) (v : Scalar) → Mem h cells store → h.type r ≡ Word k → within k v ≡ true → Mem h (stored cells (whole_root r) (alone v)) (set store (h.base r) (word_for h v))
-mem_stored h cells store r k v mem living fits = record {
+-- homes that have the same references have the same words
+pub word_same : (h h' : Home) → ((o : ℕ) → h'.reference o ≡ h.reference o) → (v : Scalar) → word_for h v ≡ word_for h' v
+word_same h h' same (ToObject o) = sym (same o)
+word_same h h' same v = refl
+
+-- under a scalar there is that scalar alone
+alone_path : (q : List ℕ) (k j : Kind) → part_at (Word k) q ≡ Word j → (k ≡ j) × (offset (Word k) q ≡ 0)
+alone_path [] k j e = (let same : k ≡ j = cc in same, refl)
+alone_path (x ∷ q) k j e = absurd (absent_no j e)
+
+-- the word of a scalar's place is its root's, and lies in the store
+pub scalar_owned : (h : Home) (cells : Cells) (store : List ℕ) (r : Root) (q : List ℕ) (k : Kind) → Mem h cells store → part_at (h.shape r) q ≡ Word k
+    → (h.owner (h.base r + offset (h.shape r) q) ≡ Of r) × (h.base r + offset (h.shape r) q < 65536)
+scalar_owned h cells store r q k mem is =
+    let long = word_long (part_at (h.shape r) q) k is in
+    let fits : offset (h.shape r) q < words (h.shape r) = omega (arith, part_fits (h.shape r) q long, long) in
+    (mem.owned r (offset (h.shape r) q) fits, mem.inside r (offset (h.shape r) q) fits)
+
+-- a scalar that is stored at a place changes the cell and the word of that place alone
+module _ (h : Home) (cells : Cells) (store : List ℕ) (p : Place) (k : Kind) (v : Scalar) (mem : Mem h cells store) (living : shape_of h p ≡ Word k) (fits : within k v ≡ true) where
+  at : (h.owner (address h p) ≡ Of p.root) × (address h p < 65536)
+  at = scalar_owned h cells store p.root p.path k mem living
+
+  written : get_or (set store (address h p) (word_for h v)) (address h p) 0 ≡ word_for h v
+  written = get_or-set_same store (address h p) (word_for h v) 0 (omega (arith, at.1, mem.long))
+
+  abbrev Holds : Root → List ℕ → Kind → Type 0
+  Holds s q j = IsWord h j (stored cells p (alone v) s q) (get_or (set store (address h p) (word_for h v)) (h.base s + offset (h.shape s) q) 0)
+
+  -- another word
+  beside : (s : Root) (q : List ℕ) (j : Kind) → part_at (h.shape s) q ≡ Word j → stored cells p (alone v) s q ≡ cells s q → (h.base s + offset (h.shape s) q ≡ address h p → ⊥) → Holds s q j
+  beside s q j e value apart =
+      let old = mem.holds s q j e in
+      record {
+        word = get_or-set_other store (address h p) (h.base s + offset (h.shape s) q) (word_for h v) 0 apart ∙ old.word ∙ ap (word_for h) (sym value);
+        fits = ap (within (base_of j)) value ∙ old.fits;
+      }
+
+  -- a scalar of the same root
+  own_root : (q : List ℕ) (j : Kind) → part_at (h.shape p.root) q ≡ Word j → Inside (h.shape p.root) p.path q ⊎ Outside (h.shape p.root) p.path q → Holds p.root q j
+  own_root q j e (inl i) =
+      let here = yes (same_root p.root p.root) (at_rest (alone v) (cells p.root q) (rest_behind p.path q)) (cells p.root q) (same_root_refl p.root) in
+      let value : stored cells p (alone v) p.root q ≡ v = here ∙ ap (at_rest (alone v) (cells p.root q)) i.is in
+      let only = alone_path i.rest k j (sym (ap (λ (t : Shape). part_at t i.rest) living) ∙ sym i.part ∙ e) in
+      let same : h.base p.root + offset (h.shape p.root) q ≡ address h p = omega (arith, i.at, ap (λ (t : Shape). offset t i.rest) living, only.1) in
+      record {
+        word = ap (λ (a : ℕ). get_or (set store (address h p) (word_for h v)) a 0) same ∙ written ∙ ap (word_for h) (sym value);
+        fits = ap (within (base_of j)) value ∙ ap (λ (z : Kind). within (base_of z) v) (sym only.0) ∙ within_base k v fits;
+      }
+  own_root q j e (inr o) =
+      let here = yes (same_root p.root p.root) (at_rest (alone v) (cells p.root q) (rest_behind p.path q)) (cells p.root q) (same_root_refl p.root) in
+      beside p.root q j e (here ∙ ap (at_rest (alone v) (cells p.root q)) o.is)
+      (λ at. ⊎_elim (λ (l : offset (h.shape p.root) q < offset (h.shape p.root) p.path). omega (arith, l, at))
+      (λ (g : offset (h.shape p.root) p.path + words (shape_of h p) ≤ offset (h.shape p.root) q). omega (arith, g, at, word_long (shape_of h p) k living)) o.apart)
+
+  by : (s : Root) (q : List ℕ) (j : Kind) → part_at (h.shape s) q ≡ Word j → (same_root p.root s ≡ true) ⊎ (same_root p.root s ≡ false) → Holds s q j
+  by s q j e (inl is) =
+      let one : p.root ≡ s = same_root_eq p.root s is in
+      subst (λ (z : Root). Holds z q j) one
+      (own_root q j (ap (λ (z : Root). part_at (h.shape z) q) one ∙ e)
+      (parts (h.shape p.root) p.path q j (word_long (shape_of h p) k living) (ap (λ (z : Root). part_at (h.shape z) q) one ∙ e)))
+  by s q j e (inr is) =
+      beside s q j e (no (same_root p.root s) (at_rest (alone v) (cells s q) (rest_behind p.path q)) (cells s q) is)
+      (λ same.
+      let one : p.root ≡ s = of_same p.root s (sym at.0 ∙ ap h.owner (sym same) ∙ (scalar_owned h cells store s q j mem e).0) in
+      let two : same_root p.root s ≡ true = ap (same_root p.root) (sym one) ∙ same_root_refl p.root in
+      (let clash : true ≡ false = sym two ∙ is in cc))
+
+  pub mem_stored : Mem h (stored cells p (alone v)) (set store (address h p) (word_for h v))
+  mem_stored = record {
+    owned = mem.owned;
+    inside = mem.inside;
+    holds = λ s q j e. by s q j e (cases_Bool (same_root p.root s));
+    kept = λ a own.
+        get_or-set_other store (address h p) a (word_for h v) 0
+        (λ e. own_of_none p.root (sym at.0 ∙ ap h.owner (sym e) ∙ own))
+        ∙ mem.kept a own;
+    long = length-set store (address h p) (word_for h v) ∙ mem.long;
+  }
+
+-- a function that is another number at one place
+abbrev pub replaced : (ℕ → ℕ) → ℕ → ℕ → ℕ → ℕ
+replaced f a w b = if a == b then w else f b
+
+-- one of the machine's own words becomes another
+abbrev pub shadowed : Home → ℕ → ℕ → Home
+shadowed h a w = record h { shadow = replaced h.shadow a w }
+
+-- one of the machine's own words that is set changes no cell
+pub mem_shadowed : (h : Home) (cells : Cells) (store : List ℕ) (a w : ℕ) → h.owner a ≡ Own → a < 65536 → Mem h cells store → Mem (shadowed h a w) cells (set store a w)
+mem_shadowed h cells store a w own small mem = record {
   owned = mem.owned;
   inside = mem.inside;
-  holds = λ s j e. by s j e (cases_Bool (same_root r s));
-  kept = λ a own.
-      get_or-set_other store (h.base r) a (word_for h v) 0
-      (λ e. own_of_none r (sym (mem.owned r k living) ∙ ap h.owner (sym e) ∙ own))
-      ∙ mem.kept a own;
-  long = length-set store (h.base r) (word_for h v) ∙ mem.long;
+  holds = λ r q k e.
+      let old = mem.holds r q k e in
+      let other : h.base r + offset (h.shape r) q ≡ a → ⊥ = λ at. own_of_none r (sym (scalar_owned h cells store r q k mem e).0 ∙ ap h.owner at ∙ own) in
+      record { word = get_or-set_other store a (h.base r + offset (h.shape r) q) w 0 other ∙ old.word ∙ word_same h (shadowed h a w) (λ o. refl) (cells r q); fits = old.fits };
+  kept = λ b mine. by b mine (cases_eq a b);
+  long = length-set store a w ∙ mem.long;
 }
   where
-    within_store : h.base r < length store
-    within_store = omega (arith, mem.inside r k living, mem.long)
-
-    same_kind : (s : Root) (j : Kind) → h.type s ≡ Word j → r ≡ s → k ≡ j
-    same_kind s j e one =
-        let two : h.type r ≡ Word j = ap h.type one ∙ e in
-        let three : Word k ≡ Word j = sym living ∙ two in
-        cc
-
-    by : (s : Root) (j : Kind) → h.type s ≡ Word j → (same_root r s ≡ true) ⊎ (same_root r s ≡ false) → IsWord h j (stored cells (whole_root r) (alone v) s []) (get_or (set store (h.base r) (word_for h v)) (h.base s) 0)
-    by s j e (inl is) =
-        let one : r ≡ s = same_root_eq r s is in
-        let value : stored cells (whole_root r) (alone v) s [] ≡ v = yes (same_root r s) v (cells s []) is in
-        record {
-          word = ap (λ (z : Root). get_or (set store (h.base r) (word_for h v)) (h.base z) 0) (sym one) ∙ get_or-set_same store (h.base r) (word_for h v) 0 within_store ∙ ap (word_for h) (sym value);
-          fits = ap (within (base_of j)) value ∙ ap (λ (z : Kind). within (base_of z) v) (sym (same_kind s j e one)) ∙ within_base k v fits;
-        }
-    by s j e (inr is) =
-        let value : stored cells (whole_root r) (alone v) s [] ≡ cells s [] = no (same_root r s) v (cells s []) is in
-        let apart : h.base s ≡ h.base r → ⊥ = λ at.
-        let one : r ≡ s = of_same r s (sym (mem.owned r k living) ∙ ap h.owner (sym at) ∙ mem.owned s j e) in
-        let two : same_root r s ≡ true = ap (same_root r) (sym one) ∙ same_root_refl r in
-        (let clash : true ≡ false = sym two ∙ is in cc) in
-        let old = mem.holds s j e in
-        record {
-          word = get_or-set_other store (h.base r) (h.base s) (word_for h v) 0 apart ∙ old.word ∙ ap (word_for h) (sym value);
-          fits = ap (within (base_of j)) value ∙ old.fits;
-        }
+    by : (b : ℕ) → h.owner b ≡ Own → (a ≡ b) ⊎ (a ≡ b → ⊥) → get_or (set store a w) b 0 ≡ replaced h.shadow a w b
+    by b mine (inl e) =
+        ap (λ (x : ℕ). get_or (set store a w) x 0) (sym e) ∙ get_or-set_same store a w 0 (omega (arith, small, mem.long)) ∙ sym (yes (eqb a b) w (h.shadow b) (eq-eqb a b e))
+    by b mine (inr d) = get_or-set_other store a b w 0 (λ e. d (sym e)) ∙ mem.kept b mine ∙ sym (no (eqb a b) w (h.shadow b) (ne_eqb a b d))

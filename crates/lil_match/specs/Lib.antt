@@ -2,9 +2,13 @@ pub mod Arithmetic
 pub mod Closing
 pub mod Goes
 pub mod Homes
+pub mod Kept
 pub mod Orders
+pub mod Parts
 pub mod Ranges
+pub mod Resting
 pub mod Running
+pub mod Splices
 pub mod Steps
 pub mod Stutter
 pub mod Tests

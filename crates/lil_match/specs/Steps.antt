@@ -4,6 +4,7 @@ use Rattle.std.proofs.lemmas.Bool.{lt-ltb}
 use Rattle.lil_base.specs.declared.fault.LimitKind.TheVariants as limit
 use Rattle.lil_resolved.specs.Resolved.{Expression, kind_of}
 use Rattle.lil_resolved.specs.Depth.{depth}
+use Rattle.lil_meaning.specs.Cells.{Cells}
 use Rattle.lil_meaning.specs.World.{World}
 use Rattle.lil_meaning.specs.Items.{Hole, Evaluate, Fill, Item, Going, Source}
 use Rattle.lil_meaning.specs.Steps.{next}
@@ -15,10 +16,11 @@ use Rattle.lil_mcode.specs.State.{Module, State, module_at}
 use Rattle.lil_mcode.specs.Table.{mstep, act, fetched, performed, going, push_row}
 use Rattle.lil_table.specs.Rows.{IsAt, ExpressionAt}
 use Rattle.lil_match.specs.Running.{Run, mrun, running, react, advanced}
-use Rattle.lil_match.specs.Homes.{yes}
-use Rattle.lil_match.specs.Goes.{IsProgram, HasFors, Shared, GoesOn, Lands, IsStill, Goes}
+use Rattle.lil_match.specs.Parts.{yes}
+use Rattle.lil_match.specs.Homes.{Home, Mem}
+use Rattle.lil_match.specs.Goes.{IsProgram, Shared, GoesOn, Lands, IsStill, Touches, Goes}
 use Rattle.lil_match.specs.Stutter.{stutter}
-use Rattle.lil_match.specs.Waits.{Setting, laid_out, Mode, Quiet, ValueOf, Around, Reach, Jumps, AfterJumps, Rows, Ahead, Waiting}
+use Rattle.lil_match.specs.Waits.{Stack, Setting, frame_of, laid_out, at_home, Mode, Quiet, ValueOf, Around, Reach, Jumps, AfterJumps, Rows, Ahead, Waiting}
 
 -- a step of the machine, as its row says
 pub advances : (m : State) (w : World) (r : Event × State) → mstep m ≡ r → advanced (running m w) ≡ react r.0 r.1 (running m w)
@@ -27,19 +29,33 @@ advances m w r e = ap (λ (x : Event × State). react x.0 x.1 (running m w)) e
 pub pushes : (w q : ℕ) (m : State) → length m.stack < 16 → push_row w q m ≡ (Went, going m q (w ∷ m.stack))
 pushes w q m room = yes _ _ _ (lt-ltb (length m.stack) 16 room)
 
+-- a home that stays
+pub untouched : (h : Home) (low high : ℕ) → Touches h h low high
+untouched h low high = record { owner = λ a o. refl; shadow = λ a o. refl; base = λ r. refl; shape = λ r. refl; reference = λ o. refl }
+
+pub touched : (h g i : Home) (low high : ℕ) → Touches h g low high → Touches g i low high → Touches h i low high
+touched h g i low high first second = record {
+  owner = λ a o. second.owner a o ∙ first.owner a o;
+  shadow = λ a o. second.shadow a o ∙ first.shadow a o;
+  base = λ r. second.base r ∙ first.base r;
+  shape = λ r. second.shape r ∙ first.shape r;
+  reference = λ o. second.reference o ∙ first.reference o;
+}
+
 module _ (ctx : Setting) where
-  open ctx use {modules, table, own, number, home as h}
+  open ctx use {modules, table, home as h, stack as st}
+  open frame_of ctx use {own}
   open laid_out ctx use {layout as l}
 
   -- the row of the instruction at hand
-  pub at_step : (m : State) → IsProgram ctx m → (i : Instr) (q : ℕ) → IsAt own.code m.place i q → mstep m ≡ act i q own m
+  pub at_step : (m : State) → IsProgram ctx m.modules m.running m.marked → (i : Instr) (q : ℕ) → IsAt own.code m.place i q → mstep m ≡ act i q own m
   at_step m g i q e =
-      yes m.marked (fetched m (module_at m.modules m.running)) (Limit limit.Stack, m) g.marked
+      yes m.marked (fetched m (module_at m.modules m.running)) (Limit limit.Stack, m) g.marked_is
       ∙ ap (fetched m) (ap (λ (ms : List Module). module_at ms m.running) g.table_is ∙ ap (module_at table) g.running_is ∙ g.known)
       ∙ ap (performed m own) e
 
   -- a row to which no jump leads
-  pub at_once : (row : Reach) (t : Mode) (p : ℕ) (stack : List ℕ) (c : ℕ) (a : Around) → row t p stack c a → AfterJumps ctx row t p stack c a
+  pub at_once : (row : Reach) (t : Mode) (p : ℕ) (stack : List ℕ) (c : ℕ) (a : Around) → row t p stack c a → AfterJumps own.code row t p stack c a
   at_once row t p stack c a r = record { start = p; jumps = 0; later = c; way = refl; there = r; count = omega arith }
 
   -- one more jump before
@@ -53,34 +69,24 @@ module _ (ctx : Setting) where
   rows_ahead [] p stack c a r = absurd r
   rows_ahead (i ∷ k) p stack c a r = r
 
-  -- what all stacks share stays where the place and the expression stack change alone
-  pub shared_there : (s : Source) (m : State) → Shared ctx s m → (k : List Item) (q : ℕ) (stack : List ℕ)
-      → Shared ctx (record s { items = k; phase = Going }) (going m q stack)
-  shared_there s m shared k q stack = record {
-    mem = shared.mem;
-    laid = shared.laid;
-    program = record {
-      table_is = shared.program.table_is;
-      known = shared.program.known;
-      running_is = shared.program.running_is;
-      marked = shared.program.marked;
-      body = shared.program.body;
-      last = shared.program.last;
-    };
-    frame = record { room = shared.frame.room; free = shared.frame.free };
-    owner = shared.owner;
-    parked = shared.parked;
-  }
+  -- other cells, in another store
+  pub shared_with : (s : Source) (m : State) → Shared ctx s m → {cells : Cells} {store : List ℕ} → Mem h cells store → Shared ctx (record s { cells = cells }) (record m { store = store })
+  shared_with s m shared mem =
+      record { mem = mem; program = shared.program; standing = shared.standing; activations_are = shared.activations_are; parked_are = shared.parked_are; kept_are = shared.kept_are }
 
   -- the source goes on with these items, and the machine from that place
   pub lands_on : (s : Source) (m : State) → Shared ctx s m → (k : List Item) (q : ℕ) (stack : List ℕ) (c : ℕ) (a : Around)
-      → HasFors ctx m.frame m.store a.fors → Ahead ctx k Quiet q stack c a
+      → Ahead ctx k Quiet q stack c a
       → GoesOn ctx (record s { items = k; phase = Going }) (running (going m q stack) s.world) c
-  lands_on s m shared k q stack c a fors ahead = record {
+  lands_on s m shared k q stack c a ahead = record {
     machine = going m q stack;
     is = refl;
-    met = record { shared = shared_there s m shared k q stack; around = a; fors = fors; ahead = ahead };
+    met = record { shared = shared; around = a; ahead = ahead };
   }
+
+  abbrev pub LandsIn : Home → Stack → Source → List Item → Run → ℕ → Type 0
+  LandsIn x y s k run c =
+      Lands (record ctx { home = x; stack = y }) (next modules (record s { items = k; phase = Going })).phase (next modules (record s { items = k; phase = Going })) run c
 
   abbrev pub LandsAt : Source → List Item → Run → ℕ → Type 0
   LandsAt s k run c =
@@ -93,32 +99,40 @@ module _ (ctx : Setting) where
     steps = 0;
     later = c;
     quiet = λ i less. absurd (omega arith);
+    home = h;
+    stack = st;
     lands = lands;
+    touch = untouched h st.base st.limit;
+    same = (refl, refl);
     cost = omega (arith, less);
     falls = λ e. falls;
   }
 
   -- no step of the machine: an expression is to come, and then a hole
-  pub operand_goes : (s : Source) (k : List Item) (m : State) (c : ℕ) (a : Around) → Shared ctx s m → HasFors ctx m.frame m.store a.fors → (items : List Item) (e : Expression) (o : Hole)
+  pub operand_goes : (s : Source) (k : List Item) (m : State) (c : ℕ) (a : Around) → Shared ctx s m → (items : List Item) (e : Expression) (o : Hole)
       → next modules (record s { items = items; phase = Going }) ≡ record s { items = Evaluate e ∷ Fill o ∷ k; phase = Going } → stutter (Evaluate e ∷ Fill o ∷ k) < stutter items → (middle : ℕ)
       → ExpressionAt l own.code e m.place middle → length m.stack + depth e ≤ 16 → middle < length own.code → Waiting ctx (Fill o) (Rows ctx k) (ValueOf (kind_of e)) middle m.stack c a → Goes ctx s items m (c + 32)
-  operand_goes s k m c a shared fors items e o becomes lighter middle here shallow within row =
+  operand_goes s k m c a shared items e o becomes lighter middle here shallow within row =
       goes_none s items m (c + 32) c
       (subst (λ (y : Source). Lands ctx y.phase y (running m s.world) c) (sym becomes)
-      (lands_on s m shared (Evaluate e ∷ Fill o ∷ k) m.place m.stack c a fors
+      (lands_on s m shared (Evaluate e ∷ Fill o ∷ k) m.place m.stack c a
       (at_once _ Quiet m.place m.stack c a
       (record { part = record { end = middle; here = here; shallow = shallow; within = within }; then = at_once _ _ middle m.stack c a row }))))
       (omega arith)
       (subst (λ (y : Source). stutter y.items < stutter items) (sym becomes) lighter)
 
-  -- one step
-  pub goes_one : (s : Source) (k : List Item) (m : State) (budget c : ℕ) (run : Run) → advanced (running m s.world) ≡ run → LandsAt s k run c → c + 1 ≤ budget
-      → Goes ctx s k m budget
-  goes_one s k m budget c run e lands less = record {
+  -- one step, to another home and stack
+  pub goes_one_in : (s : Source) (k : List Item) (m : State) (x : Home) (y : Stack) (budget c : ℕ) (run : Run) → advanced (running m s.world) ≡ run → LandsIn x y s k run c
+      → Touches h x st.base st.limit → (y.base ≡ st.base) × (y.limit ≡ st.limit) → c + 1 ≤ budget → Goes ctx s k m budget
+  goes_one_in s k m x y budget c run e lands touch same less = record {
     steps = 1;
     later = c;
+    home = x;
+    stack = y;
     quiet = quiet;
-    lands = subst (λ (r : Run). LandsAt s k r c) (sym e) lands;
+    lands = subst (λ (r : Run). LandsIn x y s k r c) (sym e) lands;
+    touch = touch;
+    same = same;
     cost = omega (arith, less);
     falls = λ e. absurd (omega arith);
   }
@@ -127,14 +141,23 @@ module _ (ctx : Setting) where
       quiet zero less = record { world = refl; finish = refl }
       quiet (suc i) less = absurd (omega arith)
 
-  -- one step that shows nothing, and then what goes from there
-  pub goes_after : (s : Source) (k : List Item) (m n : State) (budget rest : ℕ) → advanced (running m s.world) ≡ running n s.world
-      → Goes ctx s k n rest → rest + 1 ≤ budget → Goes ctx s k m budget
-  goes_after s k m n budget rest e g less = record {
+  -- one step
+  pub goes_one : (s : Source) (k : List Item) (m : State) (budget c : ℕ) (run : Run) → advanced (running m s.world) ≡ run → LandsAt s k run c → c + 1 ≤ budget
+      → Goes ctx s k m budget
+  goes_one s k m budget c run e lands less = goes_one_in s k m h st budget c run e lands (untouched h st.base st.limit) (refl, refl) less
+
+  -- one step that shows nothing, and then what goes from there, in another home
+  pub goes_after_in : (s : Source) (k : List Item) (m n : State) (x : Home) (budget rest : ℕ) → advanced (running m s.world) ≡ running n s.world
+      → Touches h x st.base st.limit → Goes (at_home ctx x) s k n rest → rest + 1 ≤ budget → Goes ctx s k m budget
+  goes_after_in s k m n x budget rest e first g less = record {
     steps = suc g.steps;
     later = g.later;
     quiet = quiet;
-    lands = subst (λ (r : Run). LandsAt s k (mrun g.steps r) g.later) (sym e) g.lands;
+    home = g.home;
+    stack = g.stack;
+    lands = subst (λ (r : Run). LandsIn g.home g.stack s k (mrun g.steps r) g.later) (sym e) g.lands;
+    touch = touched h x g.home st.base st.limit first g.touch;
+    same = g.same;
     cost = omega (arith, less, g.cost);
     falls = λ e. absurd (omega arith);
   }
@@ -143,21 +166,27 @@ module _ (ctx : Setting) where
       quiet zero less = record { world = refl; finish = refl }
       quiet (suc i) less = subst (λ (r : Run). IsStill s.world (mrun i r)) (sym e) (g.quiet i (omega arith))
 
+  pub goes_after : (s : Source) (k : List Item) (m n : State) (budget rest : ℕ) → advanced (running m s.world) ≡ running n s.world
+      → Goes ctx s k n rest → rest + 1 ≤ budget → Goes ctx s k m budget
+  goes_after s k m n budget rest e g less = goes_after_in s k m n h budget rest e (untouched h st.base st.limit) g less
+
+  -- within a budget, and so within a larger one
+  pub goes_more : (s : Source) (k : List Item) (m : State) (less more : ℕ) → Goes ctx s k m less → less ≤ more → Goes ctx s k m more
+  goes_more s k m less more g rises =
+      record { steps = g.steps; later = g.later; home = g.home; stack = g.stack; quiet = g.quiet; lands = g.lands; touch = g.touch; same = g.same; cost = omega (arith, g.cost, rises); falls = g.falls }
+
   -- a jump of the machine
-  pub jumps_to : (m : State) (w : World) → IsProgram ctx m → (to gap : ℕ) → IsAt own.code m.place (Jmp to) gap → to < length own.code
+  pub jumps_to : (m : State) (w : World) → IsProgram ctx m.modules m.running m.marked → (to gap : ℕ) → IsAt own.code m.place (Jmp to) gap → to < length own.code
       → advanced (running m w) ≡ running (going m to m.stack) w
   jumps_to m w g to gap e within = advances m w _ (at_step m g (Jmp to) gap e ∙ yes _ _ _ (lt-ltb to (length own.code) within))
 
   -- jumps, and then what goes from where they lead
-  pub jumped : (s : Source) (k : List Item) (j : ℕ) (m : State) (start budget rest : ℕ) → IsProgram ctx m → Jumps own.code j m.place start
+  pub jumped : (s : Source) (k : List Item) (j : ℕ) (m : State) (start budget rest : ℕ) → IsProgram ctx m.modules m.running m.marked → Jumps own.code j m.place start
       → Goes ctx s k (going m start m.stack) rest → rest + j ≤ budget → Goes ctx s k m budget
   jumped s k zero m start budget rest g way goes less =
-      let there = subst (λ (p : ℕ). Goes ctx s k (going m p m.stack) rest) (sym way) goes in
-      record { steps = there.steps; later = there.later; quiet = there.quiet; lands = there.lands; cost = omega (arith, there.cost, less); falls = there.falls }
+      goes_more s k m rest budget (subst (λ (p : ℕ). Goes ctx s k (going m p m.stack) rest) (sym way) goes) (omega (arith, less))
   jumped s k (suc j) m start budget rest g way goes less =
       goes_after s k m (going m way.0 m.stack) budget (rest + j)
       (jumps_to m s.world g way.0 way.1 way.2 way.3)
-      (jumped s k j (going m way.0 m.stack) start (rest + j) rest
-      (record { table_is = g.table_is; known = g.known; running_is = g.running_is; marked = g.marked; body = g.body; last = g.last })
-      way.4 goes (omega arith))
+      (jumped s k j (going m way.0 m.stack) start (rest + j) rest g way.4 goes (omega arith))
       (omega (arith, less))

@@ -1,23 +1,25 @@
 -- What items need from the code: where they stand, and where the items behind them go on. This speaks of homes and of the expression
 -- stack, and never of the store or of the cells.
-use Rattle.std.proofs.Common.{◌≡◌, ℕ, zero, suc, ◌+◌, ◌%◌, ◌<◌, ◌≤◌, ◌⊎◌, true, Some, None, List, [], ◌∷◌, length, map, reverse, Bool}
-use Rattle.std.specs.Prelude.{ℤ, ◌+ℤ◌, Option}
+use Rattle.std.proofs.Common.{◌≡◌, ℕ, zero, suc, ◌+◌, ◌%◌, ◌<◌, ◌≤◌, ◌⊎◌, true, Some, None, List, [], ◌∷◌, ◌++◌, length, map, reverse, Bool}
+use Rattle.std.specs.Prelude.{ℤ, ◌+ℤ◌, Option, ◌==◌}
+use Rattle.std.specs.List.{list_any}
 use Rattle.lil_base.specs.Words.{between, word_of}
 use Rattle.lil_base.specs.declared.operator.OneOp.{OneOp}
 use Rattle.lil_base.specs.declared.operator.TwoOp.{TwoOp}
 use Rattle.lil_resolved.specs.Kinds.{Kind, OfWhole, OfTruth, base_of, is_base, takes_value, least, greatest}
-use Rattle.lil_resolved.specs.Scalars.{Scalar, within, scalar_word}
+use Rattle.lil_resolved.specs.Scalars.{Scalar, within}
 use Rattle.lil_resolved.specs.Resolved.{Designator, Variable, Function, Expression, Argument, Statement, If, Case, While, Repeat, Loop, Statements, Arms, Resolved, kind_of, is_relation, result_kind, function_kind, counted_as}
 use Rattle.lil_resolved.specs.Depth.{depth, function_depth}
 use Rattle.lil_resolved.specs.Sound.{takes_one, takes_two, takes_function}
-use Rattle.lil_meaning.specs.Cells.{Place}
-use Rattle.lil_meaning.specs.Items.{Scalars, Places, Get, SetTo, StoreAt, ChangeBy, ChangeAt, OneOf, LeftOf, RightOf, ShortOf, ApplyTo, Pass, Choose, Turn, Again, Pick, StartOf, LimitOf, Do, Passing, Until, Looping, Turns, End, Item, Value, Evaluate, PlaceOf, Fill, Perform}
-use Rattle.lil_meaning.specs.Steps.{turns}
-use Rattle.lil_asm.specs.declared.instr.Instr.TheVariants.{Lgw, Sgw, Rtn, Jmp, Svc}
-use Rattle.lil_mcode.specs.State.{Module}
+use Rattle.lil_meaning.specs.Shapes.{Word}
+use Rattle.lil_meaning.specs.Cells.{Root, Local, Place}
+use Rattle.lil_meaning.specs.Items.{Datum, Scalars, Places, Get, SetTo, StoreAt, ChangeBy, ChangeAt, OneOf, LeftOf, RightOf, ShortOf, ApplyTo, Pass, Choose, Turn, Again, Pick, StartOf, LimitOf, Do, Passing, Until, Looping, Turns, End, Item, Value, Evaluate, PlaceOf, Fill, Perform, Activation, Parked}
+use Rattle.lil_meaning.specs.Steps.{turns, datum_word}
+use Rattle.lil_asm.specs.declared.instr.Instr.TheVariants.{Lgw, Sgw, Ent, Rtn, Jmp, Svc}
+use Rattle.lil_mcode.specs.State.{Module, Kept, body_entry}
 use Rattle.lil_asm.specs.Requests.{request_words}
-use Rattle.lil_table.specs.Rows.{Layout, exactly, IsAt, InstrsAt, one_code, two_code, test_code, function_code, change_code, KnownRow, ExpressionAt, WholeRow, ValueRow, ArgumentsAt, StatementAt, BodyAt, TurnsRow, RoundRow, short_code}
-use Rattle.lil_match.specs.Homes.{word_for, Home, Word}
+use Rattle.lil_table.specs.Rows.{Layout, exactly, IsAt, InstrsAt, one_code, two_code, test_code, function_code, change_code, KnownRow, ExpressionAt, WholeRow, ValueRow, ArgumentsAt, StatementAt, BodyAt, TurnsRow, RoundRow, loop_place, short_code}
+use Rattle.lil_match.specs.Homes.{word_for, Home, address, shape_of}
 
 -- What comes from the items before: nothing, a value of a kind, or the place of a variable of the module at hand, which needs no word.
 pub data Mode : Type 0 where
@@ -25,24 +27,21 @@ pub data Mode : Type 0 where
   ValueOf : (k : Kind) → Mode
   Direct : (offset : ℕ) (k : Kind) → Mode
 
--- the three words of a FOR whose turns go on: the value that it stored last, the turns left, and the step
-pub record ForWords : Type 0 where
-  pub now : ℕ
-  pub left : ℕ
-  pub step : ℕ
-
--- what is around the items that are left: the place behind the LOOP, if there is one, and the FORs, the innermost first
+-- what is around the items that are left: the place behind the LOOP, if there is one, and how many FORs
 pub record Around : Type 0 where
   pub exit : Option ℕ
-  pub fors : List ForWords
+  pub loops : ℕ
+
+abbrev pub outside : Around
+outside = record { exit = None; loops = 0 }
 
 -- from a place of the code, with an expression stack, with so many jumps owed, inside of what is around
 abbrev pub Reach : Type 1
 Reach = Mode → ℕ → List ℕ → ℕ → Around → Type 0
 
--- words of scalars on the expression stack, the first lowest
-abbrev pub words_on : List Scalar → List ℕ
-words_on vs = reverse (map scalar_word vs)
+-- words of arguments on the expression stack, the first lowest
+abbrev pub words_on : List Datum → List ℕ
+words_on ds = reverse (map datum_word ds)
 
 -- so many jumps lead from one place to another
 abbrev pub Jumps : List ℕ → ℕ → ℕ → ℕ → Type 0
@@ -79,36 +78,83 @@ pub record Waits (w : Part) (rest : Reach) (c : ℕ) (a : Around) : Type 0 where
   pub part : w.Here
   pub then : rest (w.onto part).mode (w.onto part).place (w.onto part).stack c a
 
--- What all stands in: the modules of the source, and the module whose body runs, as its layout says, in a table of modules.
+-- A procedure or a body that runs or is to run: its activation, its module's number, entry in the table and layout, the first word of its
+-- frame, and the place where its return goes on.
+pub record Frame : Type 0 where
+  pub activation : ℕ
+  pub number : ℕ
+  pub own : Module
+  pub layout : Layout
+  pub at : ℕ
+  pub back : ℕ
+
+-- a stack of frames: its words, the running frame, those under it from the topmost down, and the bodies that are to run behind
+pub record Stack : Type 0 where
+  pub base : ℕ
+  pub limit : ℕ
+  pub frame : Frame
+  pub callers : List Frame
+  pub bodies : List Frame
+
+-- all its frames, those of the bodies last
+abbrev pub frames_of : Stack → List Frame
+frames_of s = s.frame ∷ (s.callers ++ s.bodies)
+
+-- What all stands in: the modules of the source, the table of modules, the activations, what doesn't run on both sides, where the cells
+-- lie, and the stack that runs.
 pub record Setting : Type 0 where
   pub modules : List Resolved
-  pub layout : Layout
   pub table : List Module
-  pub own : Module
-  pub number : ℕ
+  pub activations : List Activation
+  pub parked : List Parked
+  pub kept : List Kept
   pub home : Home
+  pub stack : Stack
 
--- its layout where jumps have the places themselves
+abbrev pub frame_of : Setting → Frame
+frame_of ctx = ctx.stack.frame
+
+-- the layout of the running frame, where jumps have the places themselves
+abbrev pub laid : Frame → record { layout : Layout }
+laid f = record { layout = record (f.layout) { target = exactly } }
+
 abbrev pub laid_out : Setting → record { layout : Layout }
-laid_out ctx = record { layout = record (ctx.layout) { target = exactly } }
+laid_out ctx = laid ctx.stack.frame
 
-module _ (ctx : Setting) where
-  open ctx use {modules, table, own, number, home as h}
-  open laid_out ctx use {layout as l}
+-- the same with another home
+abbrev pub at_home : Setting → Home → Setting
+at_home ctx h = record ctx { home = h }
 
-  -- jumps, and then a row
-  pub record AfterJumps (row : Reach) (t : Mode) (p : ℕ) (stack : List ℕ) (c : ℕ) (a : Around) : Type 0 where
-    pub start : ℕ
-    pub jumps : ℕ
-    pub later : ℕ
-    pub way : Jumps own.code jumps p start
-    pub there : row t start stack later a
-    pub count : c ≡ jumps + later
+-- another frame runs, with these under it and these bodies behind
+abbrev pub with_frames : Setting → Frame → List Frame → List Frame → Setting
+with_frames ctx f gs bs = record ctx { stack = record (ctx.stack) { frame = f; callers = gs; bodies = bs } }
+
+abbrev pub is_of : ℕ → Frame → Bool
+is_of a f = f.activation == a
+
+-- the roots that the items of frames can name
+abbrev pub sees : List Frame → Root → Bool
+sees fs (Local a x) = list_any (is_of a) fs
+sees fs _ = true
+
+-- jumps, and then a row
+pub record AfterJumps (code : List ℕ) (row : Reach) (t : Mode) (p : ℕ) (stack : List ℕ) (c : ℕ) (a : Around) : Type 0 where
+  pub start : ℕ
+  pub jumps : ℕ
+  pub later : ℕ
+  pub way : Jumps code jumps p start
+  pub there : row t start stack later a
+  pub count : c ≡ jumps + later
+
+-- what items need of the code of a frame alone
+module _ (frame : Frame) where
+  open frame use {own}
+  open laid frame use {layout as l}
 
   pub record DoPart (s : Statement) (p : ℕ) (stack : List ℕ) (a : Around) : Type 0 where
     pub empty : stack ≡ []
     pub end : ℕ
-    pub here : StatementAt l own.code (length a.fors) a.exit s p end
+    pub here : StatementAt l own.code (a.loops) a.exit s p end
     pub within : end < length own.code
 
   pub record EvaluatePart (e : Expression) (p : ℕ) (stack : List ℕ) : Type 0 where
@@ -116,12 +162,6 @@ module _ (ctx : Setting) where
     pub here : ExpressionAt l own.code e p end
     pub shallow : length stack + depth e ≤ 16
     pub within : end < length own.code
-
-  pub record ScalarPart (v : Scalar) (stack : List ℕ) : Type 0 where
-    pub kind : Kind
-    pub fits : within kind v ≡ true
-    pub below : List ℕ
-    pub is : stack ≡ word_for h v ∷ below
 
   pub record OnePart (j : Kind) (o : OneOp) (k : Kind) (p : ℕ) : Type 0 where
     pub same : j ≡ k
@@ -138,15 +178,6 @@ module _ (ctx : Setting) where
     pub here : ExpressionAt l own.code f p middle
     pub shallow : length stack + 1 + depth f ≤ 16
     pub by : InstrsAt own.code (two_code o k) middle end
-
-  pub record RightPart (j : Kind) (o : TwoOp) (k : Kind) (u : Scalar) (p : ℕ) (stack : List ℕ) : Type 0 where
-    pub same : j ≡ k
-    pub takes : takes_two o k ≡ true
-    pub fits : within k u ≡ true
-    pub below : List ℕ
-    pub is : stack ≡ word_for h u ∷ below
-    pub end : ℕ
-    pub by : InstrsAt own.code (two_code o k) p end
 
   -- a jump over the right operand
   pub record ShortPart (j : Kind) (d : Bool) (f : Expression) (p : ℕ) (stack : List ℕ) : Type 0 where
@@ -197,7 +228,7 @@ module _ (ctx : Setting) where
     pub by : IsAt own.code p (Svc r) end
     pub within : end < length own.code
 
-  pub record PassPart (j : Kind) (r : ℕ) (k : Kind) (done : List Scalar) (left : List Argument) (p : ℕ) (stack : List ℕ) : Type 0 where
+  pub record PassPart (j : Kind) (r : ℕ) (k : Kind) (done : List Datum) (left : List Argument) (p : ℕ) (stack : List ℕ) : Type 0 where
     pub takes : takes_value k j ≡ true
     pub is : stack ≡ words_on done
     pub tested : ℕ
@@ -206,7 +237,7 @@ module _ (ctx : Setting) where
     pub given : ArgumentsAt l own.code (suc (length done)) left tested middle
     pub serve : ServePart r (suc (length done) + length left) middle
 
-  pub record PassingPart (r : ℕ) (done : List Scalar) (left : List Argument) (p : ℕ) (stack : List ℕ) : Type 0 where
+  pub record PassingPart (r : ℕ) (done : List Datum) (left : List Argument) (p : ℕ) (stack : List ℕ) : Type 0 where
     pub is : stack ≡ words_on done
     pub middle : ℕ
     pub given : ArgumentsAt l own.code (length done) left p middle
@@ -246,9 +277,9 @@ module _ (ctx : Setting) where
     pub outer : Around
     pub top : ℕ
     pub end : ℕ
-    pub is : a ≡ record { exit = Some end; fors = outer.fors }
+    pub is : a ≡ record { exit = Some end; loops = outer.loops }
     pub back : IsAt own.code p (Jmp top) end
-    pub again : StatementAt l own.code (length outer.fors) outer.exit (Loop body) top end
+    pub again : StatementAt l own.code (outer.loops) outer.exit (Loop body) top end
     pub within : end < length own.code
     pub then : rest Quiet end [] c outer
 
@@ -267,8 +298,32 @@ module _ (ctx : Setting) where
     pub last : ℕ
     pub end : ℕ
     pub limit : WholeRow l own.code 1 b (base_of k) p last
-    pub turns : TurnsRow l own.code (length a.fors) x k j step (BodyAt l own.code (suc (length a.fors)) a.exit body) last end
+    pub turns : TurnsRow l own.code (a.loops) x k j step (BodyAt l own.code (suc (a.loops)) a.exit body) last end
     pub within : end < length own.code
+
+-- what they need of the home too
+module _ (ctx : Setting) where
+  open ctx use {home as h}
+  open frame_of ctx use {own}
+  open laid_out ctx use {layout as l}
+
+  abbrev active : Frame
+  active = ctx.stack.frame
+
+  pub record ScalarPart (v : Scalar) (stack : List ℕ) : Type 0 where
+    pub kind : Kind
+    pub fits : within kind v ≡ true
+    pub below : List ℕ
+    pub is : stack ≡ word_for h v ∷ below
+
+  pub record RightPart (j : Kind) (o : TwoOp) (k : Kind) (u : Scalar) (p : ℕ) (stack : List ℕ) : Type 0 where
+    pub same : j ≡ k
+    pub takes : takes_two o k ≡ true
+    pub fits : within k u ≡ true
+    pub below : List ℕ
+    pub is : stack ≡ word_for h u ∷ below
+    pub end : ℕ
+    pub by : InstrsAt own.code (two_code o k) p end
 
   pub record LimitPart (j : Kind) (x : ℕ) (k : Kind) (v : Scalar) (step : ℤ) (body : Statements) (p : ℕ) (stack : List ℕ) (a : Around) : Type 0 where
     pub same : j ≡ base_of k
@@ -277,7 +332,7 @@ module _ (ctx : Setting) where
     pub fits : within from v ≡ true
     pub stack_is : stack ≡ word_for h v ∷ []
     pub end : ℕ
-    pub turns : TurnsRow l own.code (length a.fors) x k from step (BodyAt l own.code (suc (length a.fors)) a.exit body) p end
+    pub turns : TurnsRow l own.code (a.loops) x k from step (BodyAt l own.code (suc (a.loops)) a.exit body) p end
     pub within : end < length own.code
 
   -- the turns of a FOR are to begin: its bounds stand on the expression stack
@@ -291,25 +346,31 @@ module _ (ctx : Setting) where
     pub stack_is : stack ≡ word_of limit ∷ word_of first ∷ []
     pub count : left ≡ turns first limit step
     pub end : ℕ
-    pub turns : TurnsRow l own.code (length a.fors) x k from step (BodyAt l own.code (suc (length a.fors)) a.exit body) p end
+    pub turns : TurnsRow l own.code (a.loops) x k from step (BodyAt l own.code (suc (a.loops)) a.exit body) p end
     pub within : end < length own.code
     pub then : rest Quiet end [] c a
+
+  -- the words of a FOR with so many around it: its value, the turns that are left, and its step
+  pub record LoopWords (n left step : ℕ) : Type 0 where
+    pub now : ℕ
+    pub now_is : h.shadow (active.at + loop_place n) ≡ now
+    pub left_is : h.shadow (active.at + loop_place n + 1) ≡ left
+    pub step_is : h.shadow (active.at + loop_place n + 2) ≡ step
 
   -- a turn of a FOR is done: what is around its body, and what is around the FOR
   pub record NextWaits (x : ℕ) (k : Kind) (z step : ℤ) (left : ℕ) (body : Statements) (rest : Reach) (t : Mode) (p : ℕ) (stack : List ℕ) (c : ℕ) (a : Around) : Type 0 where
     pub quiet : t ≡ Quiet
     pub empty : stack ≡ []
     pub outer : Around
-    pub words : ForWords
-    pub around : a ≡ record { exit = outer.exit; fors = words ∷ outer.fors }
-    pub left_is : words.left ≡ left
+    pub around : a ≡ record { exit = outer.exit; loops = suc outer.loops }
+    -- its words in the frame: the value that it stored last, the turns left, and the step
+    pub words : LoopWords outer.loops left (word_of step)
     pub small : left < 65536
-    pub step_is : words.step ≡ word_of step
     pub next_is : (words.now + word_of step) % 65536 ≡ word_of z % 65536
     pub fit : TurnsFit (base_of k) z step left
     pub turn : ℕ
     pub end : ℕ
-    pub round : RoundRow l own.code (length outer.fors) x k step (BodyAt l own.code (suc (length outer.fors)) outer.exit body) turn end
+    pub round : RoundRow l own.code (outer.loops) x k step (BodyAt l own.code (suc (outer.loops)) outer.exit body) turn end
     pub at : p ≡ round.end
     pub within : end < length own.code
     pub then : rest Quiet end [] c outer
@@ -317,26 +378,11 @@ module _ (ctx : Setting) where
   abbrev pub TurnsTask : Designator → ℤ → ℤ → ℕ → Statements → Reach → Reach
   TurnsTask (Variable x k) z step left body rest t p stack c a = BeginWaits x k z step left body rest t p stack c a ⊎ NextWaits x k z step left body rest t p stack c a
 
-  -- the end of the last body
-  pub record EndWaits (n : ℕ) (k : List Item) (t : Mode) (p : ℕ) (stack : List ℕ) (c : ℕ) (a : Around) : Type 0 where
-    pub quiet : t ≡ Quiet
-    pub empty : stack ≡ []
-    pub activation : n ≡ 0
-    pub last : k ≡ []
-    pub alone : a ≡ record { exit = None; fors = [] }
-    pub end : ℕ
-    pub leave : IsAt own.code p Rtn end
-
-  pub record EndedWaits (t : Mode) (p : ℕ) (stack : List ℕ) (c : ℕ) (a : Around) : Type 0 where
-    pub empty : stack ≡ []
-    pub end : ℕ
-    pub leave : IsAt own.code p Rtn end
-
-  -- the place of a living variable of the module at hand
+  -- the place of a scalar in the data of the module at hand, which the stack's items may name
   pub record IsVariable (place : Place) (offset : ℕ) (k : Kind) : Type 0 where
-    pub path : place.path ≡ []
-    pub living : h.type place.root ≡ Word k
-    pub at : h.base place.root ≡ own.base + offset
+    pub seen : sees (frames_of ctx.stack) place.root ≡ true
+    pub living : shape_of h place ≡ Word k
+    pub at : address h place ≡ own.base + offset
 
   pub record DirectPart (place : Place) : Type 0 where
     pub kind : Kind
@@ -369,46 +415,88 @@ module _ (ctx : Setting) where
   abbrev pub needs : Mode → Item → ℕ → List ℕ → Around → Part
   needs Quiet (Value (Scalars v)) p stack a = part (ScalarPart v stack) (λ r. on (ValueOf r.kind) p r.below)
   needs Quiet (Value (Places place)) p stack a = part (DirectPart place) (λ r. on (Direct r.offset r.kind) p stack)
-  needs Quiet (Evaluate e) p stack a = part (EvaluatePart e p stack) (λ r. on (ValueOf (kind_of e)) r.end stack)
+  needs Quiet (Evaluate e) p stack a = part (EvaluatePart active e p stack) (λ r. on (ValueOf (kind_of e)) r.end stack)
   needs Quiet (PlaceOf (Variable x k)) p stack a = part (KnownRow l x k) (λ r. on (Direct r.offset k) p stack)
-  needs Quiet (Perform (Do s)) p stack a = part (DoPart s p stack a) (λ r. on Quiet r.end [])
-  needs Quiet (Perform (Passing q done left)) p stack a = part (PassingPart q done left p stack) (λ r. on Quiet r.serve.end [])
-  needs Quiet (Perform (Until body e)) p stack a = part (UntilPart body e p stack a) (λ r. on Quiet r.did.end [])
-  needs (Direct offset j) (Fill Get) p stack a = part (GetPart offset p stack) (λ r. on (ValueOf (base_of j)) r.end stack)
-  needs (Direct offset j) (Fill (SetTo k e)) p stack a = part (SetPart offset j k e p stack) (λ r. on Quiet r.end [])
-  needs (Direct offset j) (Fill (ChangeBy down k e)) p stack a = part (ChangeByPart offset j down k e p stack) (λ r. on Quiet r.end [])
+  needs Quiet (Perform (Do s)) p stack a = part (DoPart active s p stack a) (λ r. on Quiet r.end [])
+  needs Quiet (Perform (Passing q done left)) p stack a = part (PassingPart active q done left p stack) (λ r. on Quiet r.serve.end [])
+  needs Quiet (Perform (Until body e)) p stack a = part (UntilPart active body e p stack a) (λ r. on Quiet r.did.end [])
+  needs (Direct offset j) (Fill Get) p stack a = part (GetPart active offset p stack) (λ r. on (ValueOf (base_of j)) r.end stack)
+  needs (Direct offset j) (Fill (SetTo k e)) p stack a = part (SetPart active offset j k e p stack) (λ r. on Quiet r.end [])
+  needs (Direct offset j) (Fill (ChangeBy down k e)) p stack a = part (ChangeByPart active offset j down k e p stack) (λ r. on Quiet r.end [])
   needs (ValueOf j) (Fill (ChangeAt down place k)) p stack a = part (ChangePart j down place k p stack) (λ r. on Quiet r.end [])
   needs (ValueOf j) (Fill (StoreAt place k)) p stack a = part (StorePart j place k p stack) (λ r. on Quiet r.end [])
-  needs (ValueOf j) (Fill (OneOf o k)) p stack a = part (OnePart j o k p) (λ r. on (ValueOf k) r.end stack)
-  needs (ValueOf j) (Fill (LeftOf o k f)) p stack a = part (LeftPart j o k f p stack) (λ r. on (ValueOf (result_kind (is_relation o) k)) r.end stack)
+  needs (ValueOf j) (Fill (OneOf o k)) p stack a = part (OnePart active j o k p) (λ r. on (ValueOf k) r.end stack)
+  needs (ValueOf j) (Fill (LeftOf o k f)) p stack a = part (LeftPart active j o k f p stack) (λ r. on (ValueOf (result_kind (is_relation o) k)) r.end stack)
   needs (ValueOf j) (Fill (RightOf o k u)) p stack a = part (RightPart j o k u p stack) (λ r. on (ValueOf (result_kind (is_relation o) k)) r.end r.below)
-  needs (ValueOf j) (Fill (ShortOf d f)) p stack a = part (ShortPart j d f p stack) (λ r. on (ValueOf OfTruth) r.end stack)
-  needs (ValueOf j) (Fill (ApplyTo f)) p stack a = part (ApplyPart j f p stack) (λ r. on (ValueOf (function_kind f)) r.end stack)
-  needs (ValueOf j) (Fill (Pass q k done left)) p stack a = part (PassPart j q k done left p stack) (λ r. on Quiet r.serve.end [])
-  needs (ValueOf j) (Fill (Choose first second)) p stack a = part (ChoosePart j first second p stack a) (λ r. on Quiet r.did.end [])
-  needs (ValueOf j) (Fill (Turn e body)) p stack a = part (TurnPart j e body p stack a) (λ r. on Quiet r.did.end [])
-  needs (ValueOf j) (Fill (Again body e)) p stack a = part (AgainPart j body e p stack a) (λ r. on Quiet r.did.end [])
-  needs (ValueOf j) (Fill (Pick arms)) p stack a = part (PickPart j arms p stack a) (λ r. on Quiet r.did.end [])
-  needs (ValueOf j) (Fill (StartOf (Variable x k) b step body)) p stack a = part (StartPart j x k b step body p stack a) (λ r. on Quiet r.end [])
+  needs (ValueOf j) (Fill (ShortOf d f)) p stack a = part (ShortPart active j d f p stack) (λ r. on (ValueOf OfTruth) r.end stack)
+  needs (ValueOf j) (Fill (ApplyTo f)) p stack a = part (ApplyPart active j f p stack) (λ r. on (ValueOf (function_kind f)) r.end stack)
+  needs (ValueOf j) (Fill (Pass q k done left)) p stack a = part (PassPart active j q k done left p stack) (λ r. on Quiet r.serve.end [])
+  needs (ValueOf j) (Fill (Choose first second)) p stack a = part (ChoosePart active j first second p stack a) (λ r. on Quiet r.did.end [])
+  needs (ValueOf j) (Fill (Turn e body)) p stack a = part (TurnPart active j e body p stack a) (λ r. on Quiet r.did.end [])
+  needs (ValueOf j) (Fill (Again body e)) p stack a = part (AgainPart active j body e p stack a) (λ r. on Quiet r.did.end [])
+  needs (ValueOf j) (Fill (Pick arms)) p stack a = part (PickPart active j arms p stack a) (λ r. on Quiet r.did.end [])
+  needs (ValueOf j) (Fill (StartOf (Variable x k) b step body)) p stack a = part (StartPart active j x k b step body p stack a) (λ r. on Quiet r.end [])
   needs (ValueOf j) (Fill (LimitOf (Variable x k) v step body)) p stack a = part (LimitPart j x k v step body p stack a) (λ r. on Quiet r.end [])
   needs t i p stack a = never
 
   abbrev pub Waiting : Item → Reach → Reach
   Waiting i rest t p stack c a = Waits (needs t i p stack a) rest c a
 
+  pub record EndedWaits (t : Mode) (p : ℕ) (stack : List ℕ) (c : ℕ) (a : Around) : Type 0 where
+    pub empty : stack ≡ []
+    pub callers : ctx.stack.callers ≡ []
+    pub bodies : ctx.stack.bodies ≡ []
+    pub end : ℕ
+    pub leave : IsAt own.code p Rtn end
+
+  -- the body that is to run next begins by its ENT, and then come its items
+  pub record NextBody (b : Frame) (rest : Reach) (c : ℕ) : Type 0 where
+    pub low : b.at ≤ active.at
+    pub start : ℕ
+    pub enter : IsAt b.own.code (body_entry b.own) (Ent b.layout.frame) start
+    pub then : rest Quiet start [] c outside
+
+  -- the frame under this one goes on where the mark says, with its own FORs around
+  pub record Back (g : Frame) (rest : Reach) (c : ℕ) : Type 0 where
+    pub outer : Around
+    pub under : g.at + loop_place outer.loops ≤ active.at
+    pub frame : h.shadow (active.at + 1) ≡ g.at
+    pub place : h.shadow (active.at + 2) ≡ active.back
+    pub module' : h.shadow (active.at + 3) ≡ g.number
+    pub then : rest Quiet active.back [] c outer
+
+  -- What is left behind the end of the running frame: the items of the frame under it, those of the next body, or none.
+  abbrev pub Behind : List Item → (Setting → Reach) → ℕ → List Frame → List Frame → Type 0
+  Behind k rest c (g ∷ gs) bs = Back g (rest (with_frames ctx g gs bs)) c
+  Behind k rest c [] (b ∷ bs) = NextBody b (rest (with_frames ctx b [] bs)) c
+  Behind k rest c [] [] = k ≡ []
+
+  -- the end of a procedure or a body
+  pub record EndWaits (n : ℕ) (k : List Item) (rest : Setting → Reach) (t : Mode) (p : ℕ) (stack : List ℕ) (c : ℕ) (a : Around) : Type 0 where
+    pub quiet : t ≡ Quiet
+    pub empty : stack ≡ []
+    pub activation : n ≡ active.activation
+    pub alone : a ≡ outside
+    pub end : ℕ
+    pub leave : IsAt own.code p Rtn end
+    pub behind : Behind k rest c ctx.stack.callers ctx.stack.bodies
+
   -- the row of an item, with what is left behind it
-  abbrev pub ItemWaits : Item → List Item → Reach → Reach
-  ItemWaits (Perform (Looping body)) k rest = LoopingWaits body rest
-  ItemWaits (Perform (Turns d z step left body)) k rest = TurnsTask d z step left body rest
-  ItemWaits (Perform (End n)) k rest = EndWaits n k
-  ItemWaits i k rest = Waiting i rest
+  abbrev pub ItemWaits : Item → List Item → (Setting → Reach) → Reach
+  ItemWaits (Perform (Looping body)) k rest = LoopingWaits active body (rest ctx)
+  ItemWaits (Perform (Turns d z step left body)) k rest = TurnsTask d z step left body (rest ctx)
+  ItemWaits (Perform (End n)) k rest = EndWaits n k rest
+  ItemWaits i k rest = Waiting i (rest ctx)
 
-  -- Items that are left; the last is an end. Jumps may lead to the code of each.
-  abbrev pub Rows : List Item → Reach
-  Rows [] = λ t p stack c a. ⊥
-  Rows (i ∷ k) = AfterJumps (ItemWaits i k (Rows k))
+-- Items that are left; the last is an end. Jumps may lead to the code of each.
+abbrev pub RowsOf : List Item → Setting → Reach
+RowsOf [] ctx = λ t p stack c a. ⊥
+RowsOf (i ∷ k) ctx = AfterJumps ctx.stack.frame.own.code (ItemWaits ctx i k (RowsOf k))
 
-  -- all that is left, or nothing
-  abbrev pub Ahead : List Item → Reach
-  Ahead [] = EndedWaits
-  Ahead (i ∷ k) = Rows (i ∷ k)
+abbrev pub Rows : Setting → List Item → Reach
+Rows ctx k = RowsOf k ctx
+
+-- all that is left, or nothing
+abbrev pub Ahead : Setting → List Item → Reach
+Ahead ctx [] = EndedWaits ctx
+Ahead ctx (i ∷ k) = Rows ctx (i ∷ k)

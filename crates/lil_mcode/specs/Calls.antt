@@ -34,6 +34,9 @@ fresh = record {
     limit = 65535;
     bodies = [];
     marked = false;
+    blocks = [];
+    parked = [];
+    waiting = [];
   };
   levels = 0;
   begun = false;

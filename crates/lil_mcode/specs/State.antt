@@ -10,6 +10,27 @@ pub record Module : Type 0 where
   pub base : ℕ
   pub words : ℕ
 
+-- the registers of a stack of frames: the running frame with its module's number, the first free word, the base and the limit, and the
+-- bodies that are to run behind the one at hand
+pub record StackRegisters : Type 0 where
+  pub running : ℕ
+  pub frame : ℕ
+  pub top : ℕ
+  pub base : ℕ
+  pub limit : ℕ
+  pub bodies : List ℕ
+
+-- what is kept of a coroutine that doesn't run: where it goes on, with no word on the expression stack
+pub record Kept : Type 0 where
+  pub place : ℕ
+  pub stack : StackRegisters
+
+-- a block of the store that is taken: its address, its words, and those that its coroutine got, where it carries one
+pub record Block : Type 0 where
+  pub address : ℕ
+  pub size : ℕ
+  pub carries : Option ℕ
+
 pub record State : Type 0 where
   -- the k-th has number k, from 1
   pub modules : List Module
@@ -28,6 +49,14 @@ pub record State : Type 0 where
   pub bodies : List ℕ
   -- whether the first body has its mark
   pub marked : Bool
+  pub blocks : List Block
+  -- the coroutines of the highest level that don't run, and for each level below it the one that began the next
+  pub parked : List Kept
+  pub waiting : List Kept
+
+-- the registers of the stack that runs
+abbrev pub stack_of : State → StackRegisters
+stack_of s = record { running = s.running; frame = s.frame; top = s.top; base = s.base; limit = s.limit; bodies = s.bodies }
 
 -- the module with this number
 abbrev pub module_at : List Module → ℕ → Option Module

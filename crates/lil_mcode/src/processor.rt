@@ -67,7 +67,7 @@ pub struct Processor {
 }
 
 impl Model for Processor {
-    ghost use Rattle.std.specs.Prelude.{◌≡◌, ◌≤◌, length, reverse, map, vec_len, vec_capacity};
+    ghost use Rattle.std.specs.Prelude.{◌≡◌, ◌≤◌, length, reverse, map, vec_len, vec_capacity, []};
     ghost use Rattle.lil_mcode.specs.State.{State};
 
     ghost Value = { State };
@@ -86,6 +86,9 @@ impl Model for Processor {
       limit = p.limit;
       bodies = p.bodies;
       marked = p.marked;
+      blocks = [];
+      parked = [];
+      waiting = [];
     } };
 
     ghost invariant = { λ p. (length p.code.items ≡ 131072) × (length p.store.items ≡ 65536) × (length p.modules.items ≤ 63) × (63 ≤ vec_capacity p.modules) × (p.code_end ≤ 131072) × Lies 0 p.modules.items p.code_end × Runs p.modules.items p.running p.code_start p.code_size p.code_base };

@@ -124,7 +124,7 @@ s19 w = refl
 s20 : (w : World) → (at w 20).items ≡ Value (Scalars (Character 65)) ∷ pass
 s20 w = refl
 
-s21 : (w : World) → (at w 21).items ≡ Perform (Passing 2 (Character 65 ∷ []) []) ∷ end
+s21 : (w : World) → (at w 21).items ≡ Perform (Passing 2 (Scalars (Character 65) ∷ []) []) ∷ end
 s21 w = refl
 
 x21 : (w : World) → (at w 21).world.screen ≡ w.screen

@@ -3,6 +3,7 @@ use Rattle.std.specs.Prelude.{ℕ, zero, suc, ◌==◌, Bool, false, ◌&&◌, L
 use Rattle.lil_resolved.specs.Kinds.{Kind}
 use Rattle.lil_resolved.specs.Scalars.{Scalar, Nothing, zero_of}
 use Rattle.lil_resolved.specs.Resolved.{Resolved}
+use Rattle.lil_meaning.specs.Shapes.{Shape, Absent, Word, part_at}
 
 -- a variable of a module that is loaded, a variable of an activation, or an object
 pub data Root : Type 0 where
@@ -49,9 +50,10 @@ got cells p = cells p.root p.path
 abbrev pub alone : Scalar → Under
 alone v q = v
 
-abbrev pub zero_by : Option Kind → Scalar
-zero_by None = Nothing
-zero_by (Some k) = zero_of k
+-- zero of its kind in each scalar of a shape
+abbrev pub zero_in : Shape → Scalar
+zero_in (Word k) = zero_of k
+zero_in _ = Nothing
 
 -- the module that is loaded with this number, from 1
 abbrev pub loaded_at : List Resolved → ℕ → Option Resolved
@@ -62,8 +64,16 @@ abbrev pub variables_of : Option Resolved → List Kind
 variables_of None = []
 variables_of (Some m) = m.variables
 
--- fresh cells: zero of its kind in each variable
+abbrev pub shape_by : Option Kind → Shape
+shape_by None = Absent
+shape_by (Some k) = Word k
+
+-- the shapes of the roots that live where a level begins: the variables of its modules
+abbrev pub first_shape : List Resolved → Root → Shape
+first_shape modules (Global m x) = shape_by (slice_get (variables_of (loaded_at modules m)) x)
+first_shape modules (Local a x) = Absent
+first_shape modules (Object o) = Absent
+
+-- fresh cells: zero of its kind in each scalar
 abbrev pub fresh_cells : List Resolved → Cells
-fresh_cells modules (Global m x) q = zero_by (slice_get (variables_of (loaded_at modules m)) x)
-fresh_cells modules (Local a x) q = Nothing
-fresh_cells modules (Object o) q = Nothing
+fresh_cells modules r q = zero_in (part_at (first_shape modules r) q)

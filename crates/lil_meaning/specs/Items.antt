@@ -6,13 +6,15 @@ use Rattle.lil_base.specs.declared.operator.TwoOp.{TwoOp}
 use Rattle.lil_resolved.specs.Kinds.{Kind}
 use Rattle.lil_resolved.specs.Scalars.{Scalar}
 use Rattle.lil_resolved.specs.Resolved.{Designator, Function, Expression, Argument, Statement, Statements, Empty, Then, Arms}
-use Rattle.lil_meaning.specs.Cells.{Cells, Place}
+use Rattle.lil_meaning.specs.Cells.{Cells, Place, Under}
 use Rattle.lil_meaning.specs.World.{World}
 
--- what stands in a hole: a scalar or a place
+-- what stands in a hole: a scalar, a place, all scalars under a place, or the place of an open array with the number of its last element
 pub data Datum : Type 0 where
   Scalars : (v : Scalar) → Datum
   Places : (p : Place) → Datum
+  Wholes : (u : Under) → Datum
+  Opens : (p : Place) (high : ℕ) → Datum
 
 -- the items with a hole
 pub data Hole : Type 0 where
@@ -37,7 +39,7 @@ pub data Hole : Type 0 where
   -- a standard function of ·
   ApplyTo : (f : Function) → Hole
   -- · is the next argument of the request
-  Pass : (r : ℕ) (k : Kind) (done : List Scalar) (left : List Argument) → Hole
+  Pass : (r : ℕ) (k : Kind) (done : List Datum) (left : List Argument) → Hole
   -- the first statements where · is TRUE, else the second
   Choose : (a b : Statements) → Hole
   -- the body and the whole WHILE again where · is TRUE
@@ -55,7 +57,7 @@ pub data Hole : Type 0 where
 pub data Task : Type 0 where
   Do : (s : Statement) → Task
   -- the arguments of a request that are done, and those that are left
-  Passing : (r : ℕ) (done : List Scalar) (left : List Argument) → Task
+  Passing : (r : ℕ) (done : List Datum) (left : List Argument) → Task
   -- the condition of a REPEAT, behind its body
   Until : (body : Statements) (c : Expression) → Task
   -- the end of a LOOP's body, which begins again
@@ -77,11 +79,19 @@ abbrev pub doing : Statements → List Item → List Item
 doing Empty k = k
 doing (Then s ss) k = Perform (Do s) ∷ doing ss k
 
--- a running procedure: its module's number, its own number, and the activation that surrounds it
+-- what a parameter or variable of an activation is: one of its own cells, or the place that was handed in, with the number of its last
+-- element where it is an open array
+pub data Slot : Type 0 where
+  Here : Slot
+  At : (p : Place) → Slot
+  Along : (p : Place) (high : ℕ) → Slot
+
+-- a running procedure: its module's number, its own number, the activation that surrounds it, and its slots in order
 pub record Activation : Type 0 where
   pub owner : ℕ
   pub procedure : ℕ
   pub outer : Option ℕ
+  pub slots : List Slot
 
 -- a workspace's words, and the words that NEWPROCESS gave to the coroutine that it carries
 pub record Workspace : Type 0 where

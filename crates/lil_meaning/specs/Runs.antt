@@ -14,7 +14,7 @@ bodies a (m ∷ ms) = doing m.body (Perform (End a) ∷ bodies (suc a) ms)
 -- the activations of the bodies, whose modules have numbers from n on
 abbrev pub body_activations : ℕ → List Resolved → List Activation
 body_activations n [] = []
-body_activations n (m ∷ ms) = record { owner = n; procedure = 0; outer = None } ∷ body_activations (suc n) ms
+body_activations n (m ∷ ms) = record { owner = n; procedure = 0; outer = None; slots = [] } ∷ body_activations (suc n) ms
 
 -- level 1 of a program whose modules are these, in a world
 abbrev pub begun : List Resolved → World → Source

@@ -249,40 +249,26 @@ filled modules (LeftOf o kind f) v k s = with_items s (Evaluate f ∷ Fill (Righ
 filled modules (RightOf o kind u) v k s = answered modules (applied o kind u v) k s
 filled modules (ShortOf d f) v k s = with_items s (if decided d (truth_of v) then Value (Scalars v) ∷ k else Evaluate f ∷ k)
 filled modules (ApplyTo f) v k s = answered modules (function_value f v) k s
-filled modules (Pass r kind done left) v k s = if within kind v then with_items s (Perform (Passing r (done ++ v ∷ []) left) ∷ k) else trapped modules s trap.Range
+filled modules (Pass r kind done left) v k s = if within kind v then with_items s (Perform (Passing r (done ++ Scalars v ∷ []) left) ∷ k) else trapped modules s trap.Range
 filled modules (Choose a b) v k s = with_items s (if truth_of v then doing a k else doing b k)
 filled modules (Turn c body) v k s = with_items s (if truth_of v then doing body (Perform (Do (While c body)) ∷ k) else k)
 filled modules (Again body c) v k s = with_items s (if truth_of v then k else Perform (Do (Repeat body c)) ∷ k)
 filled modules (Pick arms) v k s = picked modules (chosen arms (ordinal_of v)) k s
 filled modules (StartOf d b step body) v k s = with_items s (Evaluate b ∷ Fill (LimitOf d v step body) ∷ k)
 filled modules (LimitOf d u step body) v k s = with_items s (Perform (Turns d (ordinal_of u) step (turns (ordinal_of u) (ordinal_of v) step) body) ∷ k)
-filled modules Get v k s = s
-filled modules (SetTo kind e) v k s = s
-filled modules (ChangeBy down kind e) v k s = s
+filled modules _ v k s = s
 
 -- a place goes into a hole
 abbrev pub filled_place : Hole → Place → List Item → Source → Source
 filled_place Get p k s = with_items s (Value (Scalars (got s.cells p)) ∷ k)
 filled_place (SetTo kind e) p k s = with_items s (Evaluate e ∷ Fill (StoreAt p kind) ∷ k)
 filled_place (ChangeBy down kind e) p k s = with_items s (Evaluate e ∷ Fill (ChangeAt down p kind) ∷ k)
-filled_place (ChangeAt down q kind) p k s = s
-filled_place (StoreAt q kind) p k s = s
-filled_place (OneOf o kind) p k s = s
-filled_place (LeftOf o kind f) p k s = s
-filled_place (RightOf o kind u) p k s = s
-filled_place (ShortOf d f) p k s = s
-filled_place (Choose a b) p k s = s
-filled_place (Turn c body) p k s = s
-filled_place (Again body c) p k s = s
-filled_place (Pick arms) p k s = s
-filled_place (StartOf d b step body) p k s = s
-filled_place (LimitOf d u step body) p k s = s
-filled_place (ApplyTo f) p k s = s
-filled_place (Pass r kind done left) p k s = s
+filled_place _ p k s = s
 
 abbrev pub fill : List Resolved → Datum → Hole → List Item → Source → Source
 fill modules (Scalars v) h k s = filled modules h v k s
 fill modules (Places p) h k s = filled_place h p k s
+fill modules _ h k s = s
 
 abbrev pub did : List Resolved → Statement → List Item → Source → Source
 did modules (Assign d e) k s = with_items s (PlaceOf d ∷ Fill (SetTo (kind_of_place d) e) ∷ k)
@@ -298,9 +284,14 @@ did modules Return k s = with_items s (returned k)
 did modules Exit k s = with_items s (exited k)
 did modules (For d a b step body) k s = with_items s (Evaluate a ∷ Fill (StartOf d b step body) ∷ k)
 
+-- the word that a request is given of a datum; the others get theirs with the requests that use them
+abbrev pub datum_word : Datum → ℕ
+datum_word (Scalars v) = scalar_word v
+datum_word _ = 0
+
 abbrev pub performed : List Resolved → Task → List Item → Source → Source
 performed modules (Do t) k s = did modules t k s
-performed modules (Passing r done []) k s = record s { items = k; world = serve r (map scalar_word done) s.world }
+performed modules (Passing r done []) k s = record s { items = k; world = serve r (map datum_word done) s.world }
 performed modules (Passing r done (a ∷ left)) k s = with_items s (Evaluate a.value ∷ Fill (Pass r a.kind done left) ∷ k)
 performed modules (Until body c) k s = with_items s (Evaluate c ∷ Fill (Again body c) ∷ k)
 performed modules (Looping body) k s = with_items s (doing body (Perform (Looping body) ∷ k))
@@ -310,10 +301,7 @@ performed modules (End a) k s = with_items s k
 -- a value goes into the next item
 abbrev pub given : List Resolved → Datum → Item → List Item → Source → Source
 given modules d (Fill h) k s = fill modules d h k s
-given modules d (Value e) k s = s
-given modules d (Evaluate e) k s = s
-given modules d (PlaceOf e) k s = s
-given modules d (Perform t) k s = s
+given modules d _ k s = s
 
 -- the row of the first item. Where nothing is left, the level ends
 abbrev pub first : List Resolved → List Item → Source → Source

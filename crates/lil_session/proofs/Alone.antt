@@ -15,7 +15,7 @@ use Rattle.lil_mcode.specs.State.{Module, State, module_at}
 use Rattle.lil_mcode.specs.Table.{mstep, act, fetched, performed, result_row, operator_row, two_row, truth_row, on_one, on_two, on_three, push_row, load_row, range_row, store_row, double_row, drop_row, swap_row, sign_row, change_row, capital, denied, equal, unequal, less, at_most, jump, false_row, and_row, or_row, case_row, chosen_row, loop_row, begun_row, called_trap, trap_row, request_row, leave_row, end_row}
 use Rattle.lil_asm.specs.Requests.{request_words}
 use Rattle.lil_session.specs.Running.{IsAlone}
-use Rattle.lil_match.specs.Homes.{yes}
+use Rattle.lil_match.specs.Parts.{yes}
 
 -- what a step leaves, wherever it goes
 pub record Moves (s : State) (r : Event × State) : Type 0 where

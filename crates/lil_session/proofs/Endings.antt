@@ -28,7 +28,7 @@ use Rattle.lil_meaning.specs.Runs.{begun, state_of}
 use Rattle.lil_session.proofs.Screens.{after_grows, next_piece}
 use Rattle.lil_session.proofs.Cuts.{whole_piece}
 use Rattle.lil_laws.specs.Whole.{Agrees, mrun_add}
-use Rattle.lil_laws.specs.Start.{own, begun_at, correct, reached}
+use Rattle.lil_laws.specs.Start.{own, begun_at, correct, reached, alone_traps}
 
 -- some world in which nothing was shown
 some_world : World
@@ -67,11 +67,11 @@ module _ (p : Resolved) (code : List ℕ) (small : IsSmall p) (t : Translates p 
     possible ending.Broken ran at = absurd ((correct p code small t some_world steps).agrees.never_broken (sym (ran some_world some_blank).finish))
     possible _ ran at = tt
 
-    allowed : (e : Ending) (s : Status) (x : Source) (run : Run) → EndingAnswers machine e s → ((k : TrapKind) → e ≡ ending.Trapped k → IsAtBody machine (own p code small t)) → Agrees p.name x run → finish_of e ≡ run.finish → Allowed s x.phase
+    allowed : (e : Ending) (s : Status) (x : Source) (run : Run) → EndingAnswers machine e s → ((k : TrapKind) → e ≡ ending.Trapped k → IsAtBody machine (own p code small t)) → Agrees (own p code small t ∷ []) x run → finish_of e ≡ run.finish → Allowed s x.phase
     allowed ending.Done s x run is at agrees f = subst (λ (y : Status). Allowed y x.phase) (sym is) (agrees.ends (sym f))
     allowed (ending.Trapped k) s x run (inl memory) at agrees f = subst (λ (y : Status). Allowed y x.phase) (sym memory) tt
     allowed (ending.Trapped k) s x run (inr is) at agrees f =
-        subst (λ (y : Status). Allowed y x.phase) (sym (is (own p code small t) (at k refl))) (agrees.traps k (sym f))
+        subst (λ (y : Status). Allowed y x.phase) (sym (is (own p code small t) (at k refl))) (alone_traps p code small t k x.phase (agrees.traps k (sym f)))
     allowed ending.Spent s x run is at agrees f = subst (λ (y : Status). Allowed y x.phase) (sym is) tt
     allowed _ s x run is at agrees f = absurd is
 
@@ -82,9 +82,9 @@ module _ (p : Resolved) (code : List ℕ) (small : IsSmall p) (t : Translates p 
     no_fault ending.Broken s is at f = is
     no_fault _ s is at f = let e = sym is ∙ f in cc
 
-    stops : (e : Ending) (s : Status) (x : Source) (run : Run) → EndingAnswers machine e s → ((k : TrapKind) → e ≡ ending.Trapped k → IsAtBody machine (own p code small t)) → Agrees p.name x run → finish_of e ≡ run.finish → s ≡ a.Memory → IsOver x.phase
+    stops : (e : Ending) (s : Status) (x : Source) (run : Run) → EndingAnswers machine e s → ((k : TrapKind) → e ≡ ending.Trapped k → IsAtBody machine (own p code small t)) → Agrees (own p code small t ∷ []) x run → finish_of e ≡ run.finish → s ≡ a.Memory → IsOver x.phase
     stops ending.Done s x run is at agrees f memory = absurd (let e = sym is ∙ memory in cc)
-    stops (ending.Trapped k) s x run is at agrees f memory = subst IsOver (sym (agrees.traps k (sym f))) tt
+    stops (ending.Trapped k) s x run is at agrees f memory = subst IsOver (sym (alone_traps p code small t k x.phase (agrees.traps k (sym f)))) tt
     stops ending.Spent s x run is at agrees f memory = absurd (let e = sym is ∙ memory in cc)
     stops _ s x run is at agrees f memory = absurd is
 
@@ -113,7 +113,7 @@ module _ (p : Resolved) (code : List ℕ) (small : IsSmall p) (t : Translates p 
     means_end (ending.Trapped k) s w ran (inl memory) at ok = absurd (let e = ap settled memory in cc)
     means_end (ending.Trapped k) s w ran (inr is) at ok =
         let c = correct p code small t w steps in
-        inr (record { steps = c.n; ends = subst (λ (x : Phase). EndsSo x s) (sym (c.agrees.traps k (sym ran.finish))) (is (own p code small t) (at k refl)) })
+        inr (record { steps = c.n; ends = subst (λ (x : Phase). EndsSo x s) (sym (alone_traps p code small t k (state_of p w c.n).phase (c.agrees.traps k (sym ran.finish)))) (is (own p code small t) (at k refl)) })
     means_end ending.Spent s w ran is at ok = inl is
     means_end _ s w ran is at ok = absurd is
 

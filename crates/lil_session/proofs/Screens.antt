@@ -4,12 +4,12 @@ use Rattle.std.specs.Prelude.{ℤ, map}
 use Rattle.std.proofs.lemmas.Bool.{cases_lt}
 use Rattle.std.proofs.lemmas.List.{append-nil, append_cancel_left}
 use Rattle.lil_base.specs.declared.fault.TrapKind.{TrapKind}
-use Rattle.lil_resolved.specs.Scalars.{Scalar, within, value_with, scalar_word, ordinal_of}
+use Rattle.lil_resolved.specs.Scalars.{Scalar, within, value_with, ordinal_of}
 use Rattle.lil_resolved.specs.Resolved.{Designator, Variable, Expression, Taken, Statement, Exit, Statements, Resolved, counted_as}
 use Rattle.lil_meaning.specs.Cells.{Place, got}
 use Rattle.lil_meaning.specs.World.{World, serve, piece_of}
 use Rattle.lil_meaning.specs.Items.{Datum, Scalars, Places, Hole, Get, StoreAt, ChangeAt, OneOf, RightOf, ApplyTo, Pass, Pick, Task, Do, Passing, Turns, Item, Value, Evaluate, PlaceOf, Fill, Perform, Phase, Going, Source}
-use Rattle.lil_meaning.specs.Steps.{next, by_phase, first, given, fill, filled, filled_place, performed, did, turned_with, turned_on, picked, placed, evaluated, answered, applied, one_applied, function_value, chosen, stored_with, value_of, changed, whole_of}
+use Rattle.lil_meaning.specs.Steps.{next, by_phase, first, given, fill, filled, filled_place, performed, did, turned_with, turned_on, picked, placed, evaluated, answered, applied, one_applied, function_value, chosen, stored_with, value_of, changed, whole_of, datum_word}
 use Rattle.lil_meaning.specs.Runs.{after}
 use Rattle.lil_session.proofs.Stays.{after_sum}
 
@@ -59,6 +59,7 @@ module _ (modules : List Resolved) (s : Source) where
   fill_serves : (d : Datum) (h : Hole) (k : List Item) → Serves s (fill modules d h k s)
   fill_serves (Scalars v) h k = filled_serves h v k
   fill_serves (Places p) h k = placed_fill h p k
+  fill_serves _ h k = inl refl
 
   did_serves : (t : Statement) (k : List Item) → Serves s (did modules t k s)
   did_serves Exit k = inl refl
@@ -66,7 +67,7 @@ module _ (modules : List Resolved) (s : Source) where
 
   performed_serves : (t : Task) (k : List Item) → Serves s (performed modules t k s)
   performed_serves (Do t) k = did_serves t k
-  performed_serves (Passing r done []) k = inr (r, map scalar_word done, refl)
+  performed_serves (Passing r done []) k = inr (r, map datum_word done, refl)
   performed_serves (Turns d x step left body) k = turned_serves d x step left body k
   performed_serves _ k = inl refl
 

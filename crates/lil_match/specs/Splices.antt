@@ -1,6 +1,6 @@
 -- Words that come to a place of the store.
-use Rattle.std.proofs.Common.{◌≡◌, ℕ, ◌+◌, ◌-◌, ◌<◌, ◌≤◌, List, ◌++◌, length, get_or, take, drop, ap, ◌∙◌, arith, length-append, length-drop}
-use Rattle.std.proofs.lemmas.List.{get_or-take, get_or_append_left, get_or-append_right, get_or-replicate, length-replicate, length-take-le}
+use Rattle.std.proofs.Common.{◌≡◌, ℕ, ◌+◌, ◌-◌, ◌<◌, ◌≤◌, List, ◌++◌, length, get_or, take, drop, refl, ap, ◌∙◌, arith, length-append, length-drop}
+use Rattle.std.proofs.lemmas.List.{get_or-take, get_or_append_left, get_or-append_right, get_or-drop, get_or-replicate, length-replicate, length-take-le}
 use Rattle.lil_mcode.specs.State.{spliced, zeros}
 
 pub spliced_length : (store : List ℕ) (a : ℕ) (ws : List ℕ) → a + length ws ≤ length store → length (spliced store a ws) ≡ length store
@@ -22,6 +22,15 @@ spliced_there store a ws i room less =
     get_or-append_right (take a store) (ws ++ drop (a + length ws) store) a (a + i) 0 front (omega arith)
     ∙ ap (λ (z : ℕ). get_or (ws ++ drop (a + length ws) store) z 0) (let e : a + i - a ≡ i = omega arith in e)
     ∙ get_or_append_left ws (drop (a + length ws) store) 0 i less
+
+pub spliced_after : (store : List ℕ) (a : ℕ) (ws : List ℕ) (b : ℕ) → a + length ws ≤ length store → a + length ws ≤ b → get_or (spliced store a ws) b 0 ≡ get_or store b 0
+unfolding spliced
+spliced_after store a ws b room behind =
+    let front : length (take a store) ≡ a = length-take-le a store (omega (arith, room)) in
+    get_or-append_right (take a store) (ws ++ drop (a + length ws) store) a b 0 front (omega (arith, behind))
+    ∙ get_or-append_right ws (drop (a + length ws) store) (length ws) (b - a) 0 refl (omega (arith, behind))
+    ∙ get_or-drop (a + length ws) store (b - a - length ws) 0
+    ∙ ap (λ (z : ℕ). get_or store z 0) (let e : a + length ws + (b - a - length ws) ≡ b = omega (arith, behind) in e)
 
 pub zeros_length : (n : ℕ) → length (zeros n) ≡ n
 unfolding zeros

@@ -1,0 +1,106 @@
+-- The ends of procedures and bodies, RETURN and HALT.
+use Rattle.std.proofs.Common.{◌≡◌, ℕ, ◌+◌, ◌≤◌, List, [], ◌∷◌, map, ⊎_elim, refl, sym, ap, ◌∙◌, subst, arith, eq-eqb}
+use Rattle.lil_base.specs.declared.fault.TrapKind.TheVariants as trap
+use Rattle.lil_resolved.specs.Resolved.{Variable, Halt, Return}
+use Rattle.lil_meaning.specs.Items.{Do, Turns, End, Item, Perform, Source}
+use Rattle.lil_meaning.specs.Steps.{returned}
+use Rattle.lil_asm.specs.declared.instr.Instr.TheVariants.{Rtn, Trp}
+use Rattle.lil_mcode.specs.declared.machine.Event.TheVariants.{LevelEnded}
+use Rattle.lil_mcode.specs.State.{State}
+use Rattle.lil_mcode.specs.Table.{end_row}
+use Rattle.lil_match.specs.Running.{Finished}
+use Rattle.lil_match.specs.Parts.{yes}
+use Rattle.lil_match.specs.Goes.{Stands, number_of, Shared, Goes}
+use Rattle.lil_match.specs.Stutter.{stutter}
+use Rattle.lil_match.specs.Waits.{Mode, Quiet, Around, outside, Frame, Setting, with_frames, RowsOf, Rows, Ahead, Behind, EndWaits, EndedWaits, Waiting}
+use Rattle.lil_match.specs.Closing.{closed}
+use Rattle.lil_match.specs.Steps.{advances, at_step, at_once, lands_on, goes_none, goes_one}
+use Rattle.lil_laws_stmt.specs.Stores.{trap_goes}
+use Rattle.lil_laws_stmt.specs.Returns.{goes_back}
+use Rattle.lil_laws_stmt.specs.Bodies.{goes_next}
+
+returned_less : (k : List Item) → stutter (returned k) ≤ stutter k
+returned_less [] = omega arith
+returned_less (Perform (End a) ∷ k) = omega arith
+returned_less (i ∷ k) = omega (arith, returned_less k)
+
+module _ (ctx : Setting) where
+  pub halt_goes : (s : Source) (k : List Item) (m : State) (c : ℕ) (a : Around) → Shared ctx s m → Waiting ctx (Perform (Do Halt)) (Rows ctx k) Quiet m.place m.stack c a
+      → Goes ctx s (Perform (Do Halt) ∷ k) m (c + 32)
+  halt_goes s k m c a shared row =
+      trap_goes ctx s (Perform (Do Halt) ∷ k) m shared m.place m.stack trap.Halted (c + 32) (closed ctx k _ _ _ _ _ row.then) refl
+      (at_step ctx m shared.program (Trp 9) row.part.end row.part.here)
+      (omega arith)
+
+  -- the end of the running frame, by what is behind it
+  pub end_goes : (s : Source) (k : List Item) (m : State) (c : ℕ) (a : Around) → Shared ctx s m → (n : ℕ) → EndWaits ctx n k (RowsOf k) Quiet m.place m.stack c a → Goes ctx s (Perform (End n) ∷ k) m (c + 32)
+  end_goes s k m c a shared n row = by ctx.stack.callers ctx.stack.bodies shared row.behind
+    where
+      by : (gs bs : List Frame) → Shared (with_frames ctx ctx.stack.frame gs bs) s m → Behind (with_frames ctx ctx.stack.frame gs bs) k (RowsOf k) c gs bs
+          → Goes (with_frames ctx ctx.stack.frame gs bs) s (Perform (End n) ∷ k) m (c + 32)
+      by (g ∷ gs) bs there back = goes_back ctx ctx.stack.frame g gs bs s m there n k c row.end row.leave row.empty back
+      by [] (b ∷ bs) there next = goes_next ctx ctx.stack.frame b bs s m there n k c row.end row.leave next
+      by [] [] there last =
+          goes_none (with_frames ctx ctx.stack.frame [] []) s (Perform (End n) ∷ k) m (c + 32) c
+          (lands_on (with_frames ctx ctx.stack.frame [] []) s m there k m.place m.stack c a
+          (subst (λ (x : List Item). Ahead (with_frames ctx ctx.stack.frame [] []) x Quiet m.place m.stack c a) (sym last)
+          (record { empty = row.empty; callers = refl; bodies = refl; end = row.end; leave = row.leave })))
+          (omega arith)
+          (omega arith)
+
+  -- nothing is left
+  pub ended_goes : (s : Source) (m : State) (c : ℕ) (a : Around) → Shared ctx s m → EndedWaits ctx Quiet m.place m.stack c a → Goes ctx s [] m (c + 32)
+  ended_goes s m c a shared row =
+      let last : ctx.stack.frame.at ≡ ctx.stack.base = lowest ctx.stack.callers row.callers shared.standing.stands in
+      goes_one ctx s [] m (c + 32) 0 (record { machine = m; world = s.world; finish = Finished })
+      (advances m s.world (LevelEnded, m) (
+      at_step ctx m shared.program Rtn row.end row.leave
+      ∙ yes _ _ _ (eq-eqb m.frame m.base (shared.standing.frame_is ∙ last ∙ sym shared.standing.base_is))
+      ∙ ap (end_row m) (shared.standing.bodies_are ∙ ap (map number_of) row.bodies)
+      ))
+      (record { finish = refl; world = refl })
+      (omega arith)
+    where
+      lowest : (gs : List Frame) → gs ≡ [] → Stands ctx.home.owner ctx.stack.base m.top ctx.stack.frame gs → ctx.stack.frame.at ≡ ctx.stack.base
+      lowest [] e s = s.1
+      lowest (g ∷ gs) e s = absurd (let clash : g ∷ gs ≡ [] = e in cc)
+
+  -- where items that have rows go on behind the end of the running frame, with at most so many jumps owed
+  pub record Returns (k : List Item) (c : ℕ) : Type 0 where
+    pub rest : List Item
+    pub is : returned k ≡ Perform (End ctx.stack.frame.activation) ∷ rest
+    pub later : ℕ
+    pub less : later ≤ c
+    pub behind : Behind ctx rest (RowsOf rest) later ctx.stack.callers ctx.stack.bodies
+
+  more : (k i : List Item) (c later : ℕ) → later ≤ c → returned i ≡ returned k → Returns k later → Returns i c
+  more k i c later le same r = record { rest = r.rest; is = same ∙ r.is; later = r.later; less = omega (arith, le, r.less); behind = r.behind }
+
+  returns : (k : List Item) (t : Mode) (p : ℕ) (stack : List ℕ) (c : ℕ) (a : Around) → Rows ctx k t p stack c a → Returns k c
+  returns [] t p stack c a r = absurd r
+  returns (Perform (Turns (Variable x kind) z step left body) ∷ k) t p stack c a r =
+      more k (Perform (Turns (Variable x kind) z step left body) ∷ k) c r.later (omega (arith, r.count)) refl (⊎_elim (λ b. returns k _ _ _ _ _ b.then) (λ n. returns k _ _ _ _ _ n.then) r.there)
+  returns (Perform (End n) ∷ k) t p stack c a r =
+      record { rest = k; is = ap (λ (x : ℕ). Perform (End x) ∷ k) r.there.activation; later = r.later; less = omega (arith, r.count); behind = r.there.behind }
+  returns (i ∷ k) t p stack c a r = more k (i ∷ k) c r.later (omega (arith, r.count)) refl (returns k _ _ _ _ _ r.there.then)
+
+  -- the machine is at a return, as at the end of the body
+  pub return_goes : (s : Source) (k : List Item) (m : State) (c : ℕ) (a : Around) → Shared ctx s m → Waiting ctx (Perform (Do Return)) (Rows ctx k) Quiet m.place m.stack c a
+      → Goes ctx s (Perform (Do Return) ∷ k) m (c + 32)
+  return_goes s k m c a shared row =
+      let r = returns k _ _ _ _ _ row.then in
+      goes_none ctx s (Perform (Do Return) ∷ k) m (c + 32) r.later
+      (lands_on ctx s m shared (returned k) m.place m.stack r.later outside
+      (subst (λ (x : List Item). Ahead ctx x Quiet m.place m.stack r.later outside) (sym r.is)
+      (at_once ctx _ Quiet m.place m.stack r.later outside
+      (record {
+        quiet = refl;
+        empty = row.part.empty;
+        activation = refl;
+        alone = refl;
+        end = row.part.end;
+        leave = row.part.here;
+        behind = r.behind;
+      }))))
+      (omega (arith, r.less))
+      (omega (arith, returned_less k))

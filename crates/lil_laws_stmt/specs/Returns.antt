@@ -1,0 +1,153 @@
+-- The end of a procedure: a return to the frame below.
+use Rattle.std.proofs.Common.{◌≡◌, ℕ, ◌+◌, ◌-◌, ◌<◌, ◌≤◌, ◌⊎◌, inl, inr, Some, List, [], ◌∷◌, ◌++◌, get_or, refl, sym, ap, ◌∙◌, subst, arith}
+use Rattle.std.specs.Prelude.{is_some}
+use Rattle.std.proofs.lemmas.Bool.{ne_eqb, lt-ltb, le-leb, and_from}
+use Rattle.lil_meaning.specs.Shapes.{offset}
+use Rattle.lil_meaning.specs.Cells.{Root}
+use Rattle.lil_meaning.specs.Items.{End, Item, Perform, Source}
+use Rattle.lil_asm.specs.declared.instr.Instr.TheVariants.{Rtn}
+use Rattle.lil_mcode.specs.State.{Module, State, stack_of, module_at}
+use Rattle.lil_mcode.specs.Table.{return_row}
+use Rattle.lil_table.specs.Rows.{IsAt}
+use Rattle.lil_match.specs.Running.{running, advanced}
+use Rattle.lil_match.specs.Parts.{yes, no}
+use Rattle.lil_match.specs.Homes.{Of, Own, Free, Home, Mem, word_same}
+use Rattle.lil_match.specs.Goes.{OwnWords, Stands, Shared, Goes}
+use Rattle.lil_match.specs.Waits.{Quiet, Frame, Setting, at_home, with_frames, Rows, RowsOf, Back}
+use Rattle.lil_match.specs.Kept.{EachAbove, first_words, stands_above, all_above, stands_kept, rows_kept}
+use Rattle.lil_match.specs.Steps.{advances, at_step, rows_ahead, goes_one_in}
+use Rattle.lil_laws_stmt.specs.Painting.{own_free, of_own, painted, painted_there, painted_beside, Side, Before, Between, Behind', side}
+
+module _ (ctx : Setting) (f g : Frame) (gs bs : List Frame) where
+  abbrev called : Setting
+  called = with_frames ctx f (g ∷ gs) bs
+
+  abbrev returning : Setting
+  returning = with_frames ctx g gs bs
+
+  module _ (s : Source) (m : State) (shared : Shared called s m) (n : ℕ) (k : List Item) (c : ℕ) (end : ℕ) (leave : IsAt f.own.code m.place Rtn end) (empty : m.stack ≡ [])
+      (back : Back called g (RowsOf k returning) c) where
+    abbrev h : Home
+    h = ctx.home
+
+    abbrev base : ℕ
+    base = ctx.stack.base
+
+    -- the frame's words are in use no more
+    abbrev x : Home
+    x = record (ctx.home) { owner = painted ctx.home.owner f.at m.top (λ a. Free ctx.stack.base) }
+
+    there_is : (a : ℕ) → f.at ≤ a → a < m.top → x.owner a ≡ Free ctx.stack.base
+    there_is a from below = painted_there ctx.home.owner f.at m.top (λ b. Free ctx.stack.base) a from below
+
+    beside_is : (a : ℕ) → (a < f.at) ⊎ ((f.at ≤ a) × (m.top ≤ a)) → x.owner a ≡ ctx.home.owner a
+    beside_is a o = painted_beside ctx.home.owner f.at m.top (λ b. Free ctx.stack.base) a o
+
+    words : OwnWords ctx.home.owner f m.top
+    words = shared.standing.stands.0
+
+    low : (ctx.stack.base ≤ g.at) × EachAbove (ctx.stack.base + 4) (g ∷ (gs ++ bs))
+    low = stands_above h.owner base f.at g gs bs shared.standing.stands.1 (all_above called (stack_of m) shared.standing)
+
+    under : OwnWords ctx.home.owner g f.at
+    under = first_words h.owner base f.at g gs shared.standing.stands.1
+
+    mark : (i : ℕ) → i < 4 → get_or m.store (m.frame + i) 0 ≡ ctx.home.shadow (f.at + i)
+    mark i less =
+        ap (λ (a : ℕ). get_or m.store (a + i) 0) shared.standing.frame_is ∙ shared.mem.kept (f.at + i) (words.own i (omega (arith, less, words.mark, words.below)))
+
+    abbrev machine : State
+    machine = record m { top = m.frame; frame = g.at; place = f.back; running = g.number }
+
+    steps : advanced (running m s.world) ≡ running machine s.world
+    steps =
+        let there : module_at m.modules g.number ≡ Some g.own = ap (λ (ms : List Module). module_at ms g.number) shared.program.table_is ∙ shared.standing.callers.0.known in
+        advances m s.world _ (
+        at_step called m shared.program Rtn end leave
+        ∙ no _ _ _ (ne_eqb m.frame m.base (λ e. omega (arith, e, shared.standing.frame_is, shared.standing.base_is, low.0, under.below, under.mark)))
+        ∙ ap (λ (z : ℕ). return_row m z (get_or m.store (m.frame + 2) 0) (get_or m.store (m.frame + 3) 0)) (mark 1 (omega arith) ∙ back.frame)
+        ∙ ap (λ (z : ℕ). return_row m g.at z (get_or m.store (m.frame + 3) 0)) (mark 2 (omega arith) ∙ back.place)
+        ∙ ap (λ (z : ℕ). return_row m g.at f.back z) (mark 3 (omega arith) ∙ back.module')
+        ∙ yes _ _ _
+        (and_from _ _ (lt-ltb (m.frame + 3) 65536 (omega (arith, shared.standing.frame_is, words.mark, words.below, shared.standing.low, shared.standing.high)))
+        (and_from _ _ (le-leb m.base g.at (omega (arith, shared.standing.base_is, low.0)))
+        (and_from _ _ (le-leb (g.at + 4) m.frame (omega (arith, shared.standing.frame_is, under.mark, under.below))) (ap is_some there))))
+        )
+
+    mem : Mem x s.cells m.store
+    mem = record {
+      owned = λ r i l. by r i l (side f.at m.top (h.base r + i));
+      inside = shared.mem.inside;
+      holds = λ r q j e.
+          let old = shared.mem.holds r q j e in
+          record { word = old.word ∙ word_same h x (λ o. refl) (s.cells r q); fits = old.fits };
+      kept = λ a own. kept a own (side f.at m.top a);
+      long = shared.mem.long;
+    }
+      where
+        by : (r : Root) (i : ℕ) → i < Rattle.lil_meaning.specs.Shapes.words (ctx.home.shape r) → Side f.at m.top (ctx.home.base r + i) → x.owner (ctx.home.base r + i) ≡ Of r
+        by r i l (Before z) = beside_is (ctx.home.base r + i) (inl z) ∙ shared.mem.owned r i l
+        by r i l (Between z y) =
+            absurd (of_own r (sym (shared.mem.owned r i l) ∙ ap ctx.home.owner (let e : ctx.home.base r + i ≡ f.at + (ctx.home.base r + i - f.at) = omega (arith, z) in e) ∙ words.own (ctx.home.base r + i - f.at) (omega (arith, z, y))))
+        by r i l (Behind' z y) = beside_is (ctx.home.base r + i) (inr (z, y)) ∙ shared.mem.owned r i l
+
+        kept : (a : ℕ) → x.owner a ≡ Own → Side f.at m.top a → get_or m.store a 0 ≡ ctx.home.shadow a
+        kept a own (Before z) = shared.mem.kept a (sym (beside_is a (inl z)) ∙ own)
+        kept a own (Between z y) = absurd (own_free ctx.stack.base (sym own ∙ there_is a z y))
+        kept a own (Behind' z y) = shared.mem.kept a (sym (beside_is a (inr (z, y))) ∙ own)
+
+    pub goes_back : Goes called s (Perform (End n) ∷ k) m (c + 32)
+    goes_back =
+        let g' = shared.standing in
+        goes_one_in called s (Perform (End n) ∷ k) m x (record (ctx.stack) { frame = g; callers = gs; bodies = bs }) (c + 32) c (running machine s.world) steps
+        (record {
+          machine = machine;
+          is = refl;
+          met = record {
+            shared = record {
+              mem = mem;
+              program = record { table_is = shared.program.table_is; known = g'.callers.0.known; running_is = refl; marked_is = shared.program.marked_is };
+              standing = record {
+                frame_is = refl;
+                base_is = g'.base_is;
+                limit_is = g'.limit_is;
+                bodies_are = g'.bodies_are;
+                known = g'.callers.0;
+                callers = g'.callers.1;
+                comes = g'.comes;
+                stands = subst (λ (t : ℕ). Stands x.owner base t g gs) (sym g'.frame_is)
+                    (stands_kept h.owner x.owner base f.at g gs (λ a from below. beside_is a (inl below)) g'.stands.1);
+                room = λ a from below. room a (omega (arith, from, g'.frame_is)) below (side f.at m.top a);
+                low = omega (arith, g'.frame_is, words.below, g'.low);
+                high = g'.high;
+              };
+              activations_are = shared.activations_are;
+              parked_are = shared.parked_are;
+              kept_are = shared.kept_are;
+            };
+            around = back.outer;
+            ahead = rows_ahead (at_home returning x) k f.back m.stack c back.outer
+                (subst (λ (z : List ℕ). Rows (at_home returning x) k Quiet f.back z c back.outer) (sym empty)
+                (rows_kept k returning x (base + 4) low.1 Quiet f.back [] c back.outer
+                (record { shadow = λ a from below. refl; base = λ r e. refl; shape = λ r e. refl; reference = λ o. refl })
+                back.then));
+          };
+        })
+        (record {
+          owner = λ a o. beside_is a (beside a o);
+          shadow = λ a o. refl;
+          base = λ r. refl;
+          shape = λ r. refl;
+          reference = λ o. refl;
+        })
+        (refl, refl)
+        (omega arith)
+      where
+        room : (a : ℕ) → f.at ≤ a → a < ctx.stack.limit → Side f.at m.top a → x.owner a ≡ Free ctx.stack.base
+        room a from below (Before z) = absurd (omega (arith, z, from))
+        room a from below (Between z y) = there_is a z y
+        room a from below (Behind' z y) = beside_is a (inr (z, y)) ∙ shared.standing.room a y below
+
+        beside : (a : ℕ) → (a < ctx.stack.base) ⊎ (ctx.stack.limit ≤ a) → (a < f.at) ⊎ ((f.at ≤ a) × (m.top ≤ a))
+        beside a (inl l) = inl (omega (arith, l, low.0, under.below))
+        beside a (inr o) = inr (omega (arith, o, words.below, shared.standing.low), omega (arith, o, shared.standing.low))

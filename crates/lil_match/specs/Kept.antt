@@ -1,0 +1,381 @@
+-- What is left stays where homes agree on what it speaks of: this carries rows and frames over every change of the machine's own words.
+use Rattle.std.proofs.Common.{◌≡◌, ℕ, suc, ◌+◌, ◌<◌, ◌≤◌, inl, inr, true, false, ◌||◌, eqb, List, [], ◌∷◌, ◌++◌, set, refl, ap, ◌∙◌, subst, ⊎_elim, arith}
+use Rattle.std.proofs.lemmas.Bool.{ne_eqb}
+use Rattle.std.specs.List.{list_any}
+use Rattle.std.specs.Prelude.{Bool}
+use Rattle.lil_resolved.specs.Kinds.{Kind}
+use Rattle.lil_resolved.specs.Resolved.{Variable, Resolved}
+use Rattle.lil_meaning.specs.Shapes.{Shape, part_at, offset}
+use Rattle.lil_meaning.specs.Cells.{Root, Global, Local, Object, Place}
+use Rattle.lil_meaning.specs.Items.{Scalars, Places, StoreAt, ChangeAt, RightOf, StartOf, LimitOf, Looping, Turns, End, Item, Value, PlaceOf, Fill, Perform, Activation, Source}
+use Rattle.lil_mcode.specs.State.{Module, StackRegisters, State, stack_of}
+use Rattle.lil_table.specs.Rows.{loop_place}
+use Rattle.lil_match.specs.Parts.{no}
+use Rattle.lil_match.specs.Homes.{word_same, Owner, Own, Home, mem_shadowed, shadowed, replaced}
+use Rattle.lil_match.specs.Waits.{Mode, Quiet, ValueOf, Onward, Part, Around, outside, Frame, frames_of, Setting, at_home, with_frames, sees, is_of, TurnsTask, IsVariable, needs, Behind, RowsOf, Rows}
+use Rattle.lil_match.specs.Goes.{OwnWords, Stands, EachComes, Standing, Shared, Touches}
+
+-- homes that agree on the roots that frames can name, and on the machine's own words from one place to another
+pub record Keeps (h x : Home) (fs : List Frame) (low top : ℕ) : Type 0 where
+  pub shadow : (a : ℕ) → low ≤ a → a < top → x.shadow a ≡ h.shadow a
+  pub base : (r : Root) → sees fs r ≡ true → x.base r ≡ h.base r
+  pub shape : (r : Root) → sees fs r ≡ true → x.shape r ≡ h.shape r
+  pub reference : (o : ℕ) → x.reference o ≡ h.reference o
+
+-- frames whose own words but their marks lie from a place on
+abbrev pub EachAbove : ℕ → List Frame → Type 0
+EachAbove low [] = Unit {0}
+EachAbove low (f ∷ fs) = (low ≤ f.at + 4) × EachAbove low fs
+
+or_later : (a b : Bool) → b ≡ true → (a || b) ≡ true
+or_later true b e = refl
+or_later false b e = e
+
+sees_more : (f : Frame) (fs : List Frame) (r : Root) → sees fs r ≡ true → sees (f ∷ fs) r ≡ true
+sees_more f fs (Local a x) e = or_later (is_of a f) (list_any (is_of a) fs) e
+sees_more f fs (Global m x) e = refl
+sees_more f fs (Object o) e = refl
+
+pub keeps_under : (h x : Home) (f : Frame) (fs : List Frame) (low top less : ℕ) → less ≤ top → Keeps h x (f ∷ fs) low top → Keeps h x fs low less
+keeps_under h x f fs low top less le keeps = record {
+  shadow = λ a from below. keeps.shadow a from (omega (arith, le, below));
+  base = λ r e. keeps.base r (sees_more f fs r e);
+  shape = λ r e. keeps.shape r (sees_more f fs r e);
+  reference = keeps.reference;
+}
+
+pub keeps_lower : (h x : Home) (fs : List Frame) (low top less : ℕ) → less ≤ top → Keeps h x fs low top → Keeps h x fs low less
+keeps_lower h x fs low top less le keeps =
+    record { shadow = λ a from below. keeps.shadow a from (omega (arith, le, below)); base = keeps.base; shape = keeps.shape; reference = keeps.reference }
+
+-- a part that is met in another home, and leads to the same
+pub record IsMet (w v : Part) (r : w.Here) : Type 0 where
+  pub part : v.Here
+  pub onto : w.onto r ≡ v.onto part
+
+module _ (ctx : Setting) (x : Home) (low top : ℕ) (keeps : Keeps ctx.home x (frames_of ctx.stack) low top) where
+  open ctx use {home as h}
+
+  variable_kept : (place : Place) (n : ℕ) (k : Kind) → IsVariable ctx place n k → IsVariable (at_home ctx x) place n k
+  variable_kept place n k r =
+      let same = keeps.shape place.root r.seen in
+      record {
+        seen = r.seen;
+        living = ap (λ (t : Shape). part_at t place.path) same ∙ r.living;
+        at = omega (arith, r.at, keeps.base place.root r.seen, ap (λ (t : Shape). offset t place.path) same);
+      }
+
+  met : (t : Mode) (i : Item) (p : ℕ) (stack : List ℕ) (a : Around) → (r : (needs ctx t i p stack a).Here) → IsMet (needs ctx t i p stack a) (needs (at_home ctx x) t i p stack a) r
+  met Quiet (Value (Scalars v)) p stack a r =
+      record { part = record { kind = r.kind; fits = r.fits; below = r.below; is = r.is ∙ ap (λ (w : ℕ). w ∷ r.below) (word_same h x keeps.reference v) }; onto = refl }
+  met Quiet (Value (Places place)) p stack a r =
+      record { part = record { kind = r.kind; offset = r.offset; variable = variable_kept place r.offset r.kind r.variable }; onto = refl }
+  met Quiet (PlaceOf (Variable n k)) p stack a r = record { part = r; onto = refl }
+  met (ValueOf j) (Fill (RightOf o k u)) p stack a r =
+      record {
+        part = record { same = r.same; takes = r.takes; fits = r.fits; below = r.below; is = r.is ∙ ap (λ (w : ℕ). w ∷ r.below) (word_same h x keeps.reference u); end = r.end; by = r.by };
+        onto = refl;
+      }
+  met (ValueOf j) (Fill (StoreAt place k)) p stack a r =
+      record {
+        part = record {
+          takes = r.takes;
+          empty = r.empty;
+          offset = r.offset;
+          variable = variable_kept place r.offset k r.variable;
+          middle = r.middle;
+          end = r.end;
+          test = r.test;
+          store = r.store;
+          within = r.within;
+        };
+        onto = refl;
+      }
+  met (ValueOf j) (Fill (ChangeAt down place k)) p stack a r =
+      record {
+        part = record {
+          same = r.same;
+          empty = r.empty;
+          base = r.base;
+          offset = r.offset;
+          variable = variable_kept place r.offset k r.variable;
+          end = r.end;
+          by = r.by;
+          within = r.within;
+        };
+        onto = refl;
+      }
+  met (ValueOf j) (Fill (StartOf (Variable n k) b step body)) p stack a r = record { part = r; onto = refl }
+  met (ValueOf j) (Fill (LimitOf (Variable n k) v step body)) p stack a r =
+      record {
+        part = record {
+          same = r.same;
+          from = r.from;
+          takes = r.takes;
+          fits = r.fits;
+          stack_is = r.stack_is ∙ ap (λ (w : ℕ). w ∷ []) (word_same h x keeps.reference v);
+          end = r.end;
+          turns = r.turns;
+          within = r.within;
+        };
+        onto = refl;
+      }
+  met t i p stack a r = record { part = r; onto = refl }
+
+-- what the rows of items give in another home
+abbrev pub Stays : List Item → Setting → Home → ℕ → Type 0
+Stays k ctx x low =
+    (t : Mode) (p : ℕ) (stack : List ℕ) (c : ℕ) (a : Around) → Keeps ctx.home x (frames_of ctx.stack) low (ctx.stack.frame.at + loop_place a.loops)
+    → Rows ctx k t p stack c a → Rows (at_home ctx x) k t p stack c a
+
+abbrev pub Again : List Item → Setting → Home → ℕ → Type 0
+Again k ctx x low = EachAbove low (frames_of ctx.stack) → Stays k ctx x low
+
+behind_kept : (k : List Item) (rows : (ctx : Setting) (x : Home) (low : ℕ) → Again k ctx x low) (ctx : Setting) (x : Home) (low c : ℕ) → EachAbove low (frames_of ctx.stack)
+    → Keeps ctx.home x (frames_of ctx.stack) low (ctx.stack.frame.at + 4) → Behind ctx k (RowsOf k) c ctx.stack.callers ctx.stack.bodies
+    → Behind (at_home ctx x) k (RowsOf k) c ctx.stack.callers ctx.stack.bodies
+behind_kept k rows ctx x low c above keeps r = by ctx.stack.callers ctx.stack.bodies above keeps r
+  where
+    by : (gs bs : List Frame) → EachAbove low (ctx.stack.frame ∷ (gs ++ bs)) → Keeps ctx.home x (ctx.stack.frame ∷ (gs ++ bs)) low (ctx.stack.frame.at + 4) → Behind ctx k (RowsOf k) c gs bs
+        → Behind (at_home ctx x) k (RowsOf k) c gs bs
+    by (g ∷ gs) bs above keeps r =
+        let from : low ≤ ctx.stack.frame.at + 1 = omega (arith, r.under, above.1.0) in
+        record {
+          outer = r.outer;
+          under = r.under;
+          frame = keeps.shadow (ctx.stack.frame.at + 1) from (omega arith) ∙ r.frame;
+          place = keeps.shadow (ctx.stack.frame.at + 2) (omega (arith, from)) (omega arith) ∙ r.place;
+          module' = keeps.shadow (ctx.stack.frame.at + 3) (omega (arith, from)) (omega arith) ∙ r.module';
+          then = rows (with_frames ctx g gs bs) x low above.1 Quiet ctx.stack.frame.back [] c r.outer
+              (keeps_under ctx.home x ctx.stack.frame (g ∷ (gs ++ bs)) low (ctx.stack.frame.at + 4) (g.at + loop_place r.outer.loops) (omega (arith, r.under)) keeps) r.then;
+        }
+    by [] (b ∷ bs) above keeps r =
+        record {
+          low = r.low;
+          start = r.start;
+          enter = r.enter;
+          then = rows (with_frames ctx b [] bs) x low above.1 Quiet r.start [] c outside
+              (keeps_under ctx.home x ctx.stack.frame (b ∷ bs) low (ctx.stack.frame.at + 4) (b.at + 4) (omega (arith, r.low)) keeps) r.then;
+        }
+    by [] [] above keeps r = r
+
+-- THE law of what is left to do
+pub rows_kept : (k : List Item) (ctx : Setting) (x : Home) (low : ℕ) → Again k ctx x low
+rows_kept [] ctx x low above t p stack c a keeps r = absurd r
+rows_kept (Perform (Looping body) ∷ k) ctx x low above t p stack c a keeps r =
+    let w = r.there in
+    record {
+      start = r.start;
+      jumps = r.jumps;
+      later = r.later;
+      way = r.way;
+      there = record {
+        quiet = w.quiet;
+        empty = w.empty;
+        outer = w.outer;
+        top = w.top;
+        end = w.end;
+        is = w.is;
+        back = w.back;
+        again = w.again;
+        within = w.within;
+        then = rows_kept k ctx x low above Quiet w.end [] r.later w.outer
+            (keeps_lower ctx.home x (frames_of ctx.stack) low (ctx.stack.frame.at + loop_place a.loops) (ctx.stack.frame.at + loop_place w.outer.loops) (omega (arith, ap (λ (o : Around). o.loops) w.is)) keeps)
+            w.then;
+      };
+      count = r.count;
+    }
+rows_kept (Perform (Turns (Variable n kind) z step left body) ∷ k) ctx x low above t p stack c a keeps r =
+    record { start = r.start; jumps = r.jumps; later = r.later; way = r.way; there = by (rows_kept k ctx x low above) r.there; count = r.count }
+  where
+    at : ℕ
+    at = ctx.stack.frame.at
+
+    by : Stays k ctx x low → TurnsTask ctx (Variable n kind) z step left body (Rows ctx k) t r.start stack r.later a
+        → TurnsTask (at_home ctx x) (Variable n kind) z step left body (Rows (at_home ctx x) k) t r.start stack r.later a
+    by rest (inl w) = inl (record {
+      quiet = w.quiet;
+      from = w.from;
+      takes = w.takes;
+      limit = w.limit;
+      fits = w.fits;
+      limit_fits = w.limit_fits;
+      stack_is = w.stack_is;
+      count = w.count;
+      end = w.end;
+      turns = w.turns;
+      within = w.within;
+      then = rest Quiet w.end [] r.later a keeps w.then;
+    })
+    by rest (inr w) =
+        let inner : a.loops ≡ suc w.outer.loops = ap (λ (o : Around). o.loops) w.around in
+        let word : (i : ℕ) → i < 3 → x.shadow (ctx.stack.frame.at + loop_place w.outer.loops + i) ≡ ctx.home.shadow (ctx.stack.frame.at + loop_place w.outer.loops + i) =
+        λ i less. keeps.shadow (ctx.stack.frame.at + loop_place w.outer.loops + i) (omega (arith, above.0)) (omega (arith, inner, less)) in
+        inr (record {
+          quiet = w.quiet;
+          empty = w.empty;
+          outer = w.outer;
+          around = w.around;
+          words = record {
+            now = w.words.now;
+            now_is = keeps.shadow (ctx.stack.frame.at + loop_place w.outer.loops) (omega (arith, above.0)) (omega (arith, inner)) ∙ w.words.now_is;
+            left_is = word 1 (omega arith) ∙ w.words.left_is;
+            step_is = word 2 (omega arith) ∙ w.words.step_is;
+          };
+          small = w.small;
+          next_is = w.next_is;
+          fit = w.fit;
+          turn = w.turn;
+          end = w.end;
+          round = w.round;
+          at = w.at;
+          within = w.within;
+          then = rest Quiet w.end [] r.later w.outer
+              (keeps_lower ctx.home x (frames_of ctx.stack) low (ctx.stack.frame.at + loop_place a.loops) (ctx.stack.frame.at + loop_place w.outer.loops) (omega (arith, inner)) keeps)
+              w.then;
+        })
+rows_kept (Perform (End n) ∷ k) ctx x low above t p stack c a keeps r =
+    let w = r.there in
+    record {
+      start = r.start;
+      jumps = r.jumps;
+      later = r.later;
+      way = r.way;
+      there = record {
+        quiet = w.quiet;
+        empty = w.empty;
+        activation = w.activation;
+        alone = w.alone;
+        end = w.end;
+        leave = w.leave;
+        behind = behind_kept k (λ y z l. rows_kept k y z l) ctx x low r.later above
+            (keeps_lower ctx.home x (frames_of ctx.stack) low (ctx.stack.frame.at + loop_place a.loops) (ctx.stack.frame.at + 4) (omega arith) keeps) w.behind;
+      };
+      count = r.count;
+    }
+rows_kept (i ∷ k) ctx x low above t p stack c a keeps r =
+    let m = met ctx x low (ctx.stack.frame.at + loop_place a.loops) keeps t i r.start stack a r.there.part in
+    record {
+      start = r.start;
+      jumps = r.jumps;
+      later = r.later;
+      way = r.way;
+      there = record {
+        part = m.part;
+        then = subst (λ (o : Onward). Rows (at_home ctx x) k o.mode o.place o.stack r.later a) m.onto
+            (rows_kept k ctx x low above _ _ _ r.later a keeps r.there.then);
+      };
+      count = r.count;
+    }
+
+-- ---- frames
+pub first_words : (owner : ℕ → Owner) (base top : ℕ) (f : Frame) (gs : List Frame) → Stands owner base top f gs → OwnWords owner f top
+first_words owner base top f [] s = s.0
+first_words owner base top f (g ∷ gs) s = s.0
+
+pub stands_above : (owner : ℕ → Owner) (base top : ℕ) (f : Frame) (gs bs : List Frame) → Stands owner base top f gs → EachAbove (base + 4) bs → (base ≤ f.at) × EachAbove (base + 4) (f ∷ (gs ++ bs))
+stands_above owner base top f [] bs s above = (omega (arith, s.1), (omega (arith, s.1), above))
+stands_above owner base top f (g ∷ gs) bs s above =
+    let r = stands_above owner base f.at g gs bs s.1 above in
+    let w = first_words owner base f.at g gs s.1 in
+    (omega (arith, r.0, w.below), (omega (arith, r.0, w.below), r.1))
+
+-- frames stand as long as their words are the machine's own
+words_kept : (owner new : ℕ → Owner) (base top : ℕ) (f : Frame) → base ≤ f.at → ((a : ℕ) → base ≤ a → a < top → new a ≡ owner a) → OwnWords owner f top → OwnWords new f top
+words_kept owner new base top f low same w =
+    record { mark = w.mark; below = w.below; own = λ i l. same (f.at + i) (omega (arith, low)) l ∙ w.own i l }
+
+pub stands_kept : (owner new : ℕ → Owner) (base top : ℕ) (f : Frame) (gs : List Frame) → ((a : ℕ) → base ≤ a → a < top → new a ≡ owner a) → Stands owner base top f gs → Stands new base top f gs
+stands_kept owner new base top f [] same s = (words_kept owner new base top f (omega (arith, s.1)) same s.0, s.1)
+stands_kept owner new base top f (g ∷ gs) same s =
+    let w = first_words owner base top f (g ∷ gs) s in (
+      words_kept owner new base top f (stands_above owner base top f (g ∷ gs) [] s tt).0 same s.0,
+      stands_kept owner new base f.at g gs (λ a from below. same a from (omega (arith, below, w.below))) s.1,
+    )
+
+comes_above : (modules : List Resolved) (table : List Module) (activations : List Activation) (base : Root → ℕ) (shape : Root → Shape) (low limit : ℕ) (bs : List Frame)
+    → EachComes modules table activations base shape low limit bs → EachAbove (low + 4) bs
+comes_above modules table activations base shape low limit [] c = tt
+comes_above modules table activations base shape low limit (b ∷ bs) c = (omega (arith, c.0.at), comes_above modules table activations base shape low limit bs c.1)
+
+pub all_above : (ctx : Setting) (r : StackRegisters) → Standing ctx r → EachAbove (ctx.stack.base + 4) ctx.stack.bodies
+all_above ctx r s = comes_above ctx.modules ctx.table ctx.activations ctx.home.base ctx.home.shape ctx.stack.base ctx.stack.limit ctx.stack.bodies s.comes
+
+pub stack_above : (ctx : Setting) (r : StackRegisters) → Standing ctx r → (ctx.stack.base ≤ ctx.stack.frame.at) × EachAbove (ctx.stack.base + 4) (frames_of ctx.stack)
+stack_above ctx r s = stands_above ctx.home.owner ctx.stack.base r.top ctx.stack.frame ctx.stack.callers ctx.stack.bodies s.stands (all_above ctx r s)
+
+-- the words of the FORs around lie in the frame
+pub loops_fit : (k : List Item) (ctx : Setting) (t : Mode) (p : ℕ) (stack : List ℕ) (c : ℕ) (a : Around) → 4 ≤ ctx.stack.frame.layout.frame → Rows ctx k t p stack c a
+    → loop_place a.loops ≤ ctx.stack.frame.layout.frame
+loops_fit [] ctx t p stack c a mark r = absurd r
+loops_fit (Perform (Looping body) ∷ k) ctx t p stack c a mark r =
+    omega (arith, ap (λ (o : Around). o.loops) r.there.is, loops_fit k ctx _ _ _ _ r.there.outer mark r.there.then)
+loops_fit (Perform (Turns (Variable n kind) z step left body) ∷ k) ctx t p stack c a mark r =
+    ⊎_elim (λ w. loops_fit k ctx _ _ _ _ _ mark w.then) (λ w. omega (arith, ap (λ (o : Around). o.loops) w.around, w.round.room)) r.there
+loops_fit (Perform (End n) ∷ k) ctx t p stack c a mark r = omega (arith, ap (λ (o : Around). o.loops) r.there.alone, mark)
+loops_fit (i ∷ k) ctx t p stack c a mark r = loops_fit k ctx _ _ _ _ _ mark r.there.then
+
+-- ---- one of the running frame's own words is set
+module _ (ctx : Setting) (s : Source) (m : State) (shared : Shared ctx s m) (i w : ℕ) (less : i < ctx.stack.frame.layout.frame) where
+  open ctx use {home as h, stack as st}
+
+  abbrev at : ℕ
+  at = st.frame.at + i
+
+  words : OwnWords h.owner st.frame m.top
+  words = first_words h.owner st.base m.top st.frame st.callers shared.standing.stands
+
+  pub own_word : h.owner (st.frame.at + i) ≡ Own
+  own_word = words.own i (omega (arith, words.below, less))
+
+  pub own_inside : (st.base ≤ st.frame.at + i) × (st.frame.at + i < st.limit)
+  own_inside = (omega (arith, (stack_above ctx (stack_of m) shared.standing).0), omega (arith, words.below, less, shared.standing.low))
+
+  pub shared_shadowed : Shared (at_home ctx (shadowed ctx.home (ctx.stack.frame.at + i) w)) s (record m { store = set m.store (ctx.stack.frame.at + i) w })
+  shared_shadowed =
+      let g = shared.standing in
+      record {
+        mem = mem_shadowed h s.cells m.store at w own_word (omega (arith, own_inside.1, g.high)) shared.mem;
+        program = record { table_is = shared.program.table_is; known = shared.program.known; running_is = shared.program.running_is; marked_is = shared.program.marked_is };
+        standing = record {
+          frame_is = g.frame_is;
+          base_is = g.base_is;
+          limit_is = g.limit_is;
+          bodies_are = g.bodies_are;
+          known = g.known;
+          callers = g.callers;
+          comes = g.comes;
+          stands = g.stands;
+          room = g.room;
+          low = g.low;
+          high = g.high;
+        };
+        activations_are = shared.activations_are;
+        parked_are = shared.parked_are;
+        kept_are = shared.kept_are;
+      }
+
+  other_word : (a : ℕ) → (at ≡ a → ⊥) → replaced h.shadow at w a ≡ h.shadow a
+  other_word a d = no (eqb at a) w (h.shadow a) (ne_eqb at a d)
+
+  pub touches_shadowed : Touches ctx.home (shadowed ctx.home (ctx.stack.frame.at + i) w) ctx.stack.base ctx.stack.limit
+  touches_shadowed = record {
+    owner = λ a o. refl;
+    shadow = λ a o. other_word a (λ e. ⊎_elim (λ (l : a < st.base). omega (arith, own_inside.0, e, l)) (λ (g : st.limit ≤ a). omega (arith, own_inside.1, e, g)) o);
+    base = λ r. refl;
+    shape = λ r. refl;
+    reference = λ o. refl;
+  }
+
+  -- rows speak of the words below their FORs'
+  pub rows_shadowed : (k : List Item) (t : Mode) (p : ℕ) (stack : List ℕ) (c : ℕ) (a : Around) → loop_place a.loops ≤ i → Rows ctx k t p stack c a
+      → Rows (at_home ctx (shadowed ctx.home (ctx.stack.frame.at + i) w)) k t p stack c a
+  rows_shadowed k t p stack c a below r =
+      rows_kept k ctx (shadowed h at w) (st.base + 4) (stack_above ctx (stack_of m) shared.standing).1 t p stack c a
+      (record {
+        shadow = λ b from under. other_word b (λ e. omega (arith, e, under, below));
+        base = λ q e. refl;
+        shape = λ q e. refl;
+        reference = λ o. refl;
+      })
+      r
