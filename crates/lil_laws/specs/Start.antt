@@ -32,7 +32,7 @@ use Rattle.lil_match.specs.Steps.{advances, at_once, rows_ahead}
 use Rattle.lil_match.specs.Orders.{instr_within}
 use Rattle.lil_laws_stmt.specs.Control.{body_rows}
 use Rattle.lil_match.specs.Splices.{spliced_length, spliced_before, spliced_there, zeros_length, zeros_word}
-use Rattle.lil_laws.specs.Whole.{TrapsIn, Agrees, still_agrees, follows, reaches}
+use Rattle.lil_laws.specs.Whole.{TrapsIn, Unlimited, Agrees, still_agrees, follows, reaches}
 
 -- the home of a program module whose data begin at word 1
 abbrev shape_in : List Kind → Root → Shape
@@ -317,17 +317,17 @@ module _ (p : Resolved) (code : List ℕ) (small : IsSmall p) (t : Translates p 
   -- after any number of steps the run of a loaded program agrees with some state of the meaning
   pub record Correct (w : World) (steps : ℕ) : Type 0 where
     pub n : ℕ
-    pub agrees : Agrees table (state_of p w n) (mrun steps (running (begun_at 0) w))
-    pub far : steps < 32 * n + 33
+    pub agrees : Agrees table true (state_of p w n) (mrun steps (running (begun_at 0) w))
+    pub far : Unlimited (mrun steps (running (begun_at 0) w)) → steps < 32 * n + 33
 
   pub correct : (w : World) (steps : ℕ) → Correct w steps
-  correct w zero = record { n = 0; agrees = still_agrees table (begun (p ∷ []) w) (doing p.body (Perform (End 0) ∷ [])) (running (begun_at 0) w) (record { world = refl; finish = refl }); far = omega arith }
+  correct w zero = record { n = 0; agrees = still_agrees table true (begun (p ∷ []) w) (doing p.body (Perform (End 0) ∷ [])) (running (begun_at 0) w) (record { world = refl; finish = refl }); far = λ u. omega arith }
   correct w (suc steps) =
       let f = follows ctx (begun (p ∷ []) w) (doing p.body (Perform (End 0) ∷ [])) (entered_at t.start) steps 0 outside tt (shared w) ahead in
       record {
         n = f.n;
-        agrees = subst (λ (r : Run). Agrees table (state_of p w f.n) (mrun steps r)) (sym (enters w)) f.agrees;
-        far = omega (arith, f.far);
+        agrees = subst (λ (r : Run). Agrees table true (state_of p w f.n) (mrun steps r)) (sym (enters w)) f.agrees;
+        far = λ u. omega (arith, f.far (subst (λ (r : Run). Unlimited (mrun steps r)) (enters w) u));
       }
 
   -- each state of the meaning has the world that the run of a loaded program has after some number of steps
@@ -337,7 +337,7 @@ module _ (p : Resolved) (code : List ℕ) (small : IsSmall p) (t : Translates p 
 
   pub reached : (w : World) (n : ℕ) → Reached w n
   reached w n =
-      let r = reaches ctx n (begun (p ∷ []) w) (doing p.body (Perform (End 0) ∷ [])) (entered_at t.start) 0 outside tt (shared w) ahead in
+      let r = reaches ctx n (begun (p ∷ []) w) (doing p.body (Perform (End 0) ∷ [])) (entered_at t.start) 0 outside refl tt (shared w) ahead in
       record { steps = suc r.steps; world = ap (λ (x : Run). (mrun r.steps x).world) (enters w) ∙ r.world }
 
   -- a trap in a table of one module is in that one

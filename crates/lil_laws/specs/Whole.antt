@@ -1,6 +1,6 @@
 -- Whole runs: after any number of steps, the machine has shown what some state of the meaning has.
-use Rattle.std.proofs.Common.{◌≡◌, ◌≢◌, ℕ, zero, suc, ◌+◌, ◌-◌, ◌*◌, ◌<◌, ◌≤◌, List, Option, Some, None, refl, sym, ap, ◌∙◌, subst, ⊎_elim, arith}
-use Rattle.std.proofs.lemmas.Bool.{cases_lt}
+use Rattle.std.proofs.Common.{◌≡◌, ◌≢◌, ℕ, zero, suc, ◌+◌, ◌-◌, ◌*◌, ◌<◌, ◌≤◌, Bool, true, false, List, Option, Some, None, refl, sym, ap, ◌∙◌, subst, ⊎_elim, arith}
+use Rattle.std.proofs.lemmas.Bool.{cases_lt, true≢false}
 use Rattle.lil_base.specs.declared.fault.TrapKind.{TrapKind}
 use Rattle.lil_base.specs.declared.fault.LimitKind.{LimitKind}
 use Rattle.lil_base.specs.declared.fault.TrapAt.{TrapAt}
@@ -12,7 +12,7 @@ use Rattle.lil_mcode.specs.State.{Module, State, module_at}
 use Rattle.lil_mcode.specs.Table.{mstep}
 use Rattle.lil_match.specs.Running.{Finish, Running, Finished, TrappedBy, Limited, Broken, Run, mrun, running, react, advanced, unless_over}
 use Rattle.lil_match.specs.Homes.{Home}
-use Rattle.lil_match.specs.Goes.{Shared, Lands, IsStill, Goes}
+use Rattle.lil_match.specs.Goes.{Shared, Lands, IsStill, fits, IsFull, Goes}
 use Rattle.lil_match.specs.Stutter.{stutter}
 use Rattle.lil_match.specs.Waits.{Stack, Setting, Quiet, Around, Ahead}
 use Rattle.lil_match.specs.Resting.{EachRests, each_rests}
@@ -25,13 +25,14 @@ pub record TrapsIn (table : List Module) (k : TrapKind) (p : Phase) : Type 0 whe
   pub known : module_at table number ≡ Some own
   pub is : p ≡ Trapped (record { kind = k; «module» = own.name; procedure = None })
 
--- the run has the world of the source's state, and is over only where the source is, in the same way
-pub record Agrees (table : List Module) (t : Source) (run : Run) : Type 0 where
+-- The run has the world of the source's state, and is over only where the source is, in the same way, but at a limit: it comes only where
+-- not all bodies have room.
+pub record Agrees (table : List Module) (roomy : Bool) (t : Source) (run : Run) : Type 0 where
   pub world : run.world ≡ t.world
   pub runs : run.finish ≡ Running → t.phase ≡ Going
   pub ends : run.finish ≡ Finished → t.phase ≡ Ended
   pub traps : (k : TrapKind) → run.finish ≡ TrappedBy k → TrapsIn table k t.phase
-  pub never_limited : (k : LimitKind) → run.finish ≢ Limited k
+  pub limits : (k : LimitKind) → run.finish ≡ Limited k → roomy ≡ false
   pub never_broken : run.finish ≢ Broken
 
 pub mrun_add : (i n j : ℕ) (run : Run) → n ≡ i + j → mrun n run ≡ mrun j (mrun i run)
@@ -57,29 +58,29 @@ ended_rests modules s e = ap (λ (p : Phase). by_phase modules p s) e
 pub trapped_rests : (modules : List Resolved) (s : Source) (t : TrapAt) → s.phase ≡ Trapped t → next modules s ≡ s
 trapped_rests modules s t e = ap (λ (p : Phase). by_phase modules p s) e
 
-pub still_agrees : (table : List Module) (s : Source) (k : List Item) (run : Run) → IsStill s.world run → Agrees table (record s { items = k; phase = Going }) run
-still_agrees table s k run h = record {
+pub still_agrees : (table : List Module) (roomy : Bool) (s : Source) (k : List Item) (run : Run) → IsStill s.world run → Agrees table roomy (record s { items = k; phase = Going }) run
+still_agrees table roomy s k run h = record {
   world = h.world;
   runs = λ e. refl;
   ends = λ e. absurd (let r = h.finish in cc);
   traps = λ j e. absurd (let r = h.finish in cc);
-  never_limited = λ j e. let r = h.finish in cc;
+  limits = λ j e. absurd (let r = h.finish in cc);
   never_broken = λ e. let r = h.finish in cc;
 }
 
-ended_agrees : (table : List Module) (s : Source) (run : Run) → s.phase ≡ Ended → run.finish ≡ Finished → run.world ≡ s.world → Agrees table s run
-ended_agrees table s run over f w = record {
+ended_agrees : (table : List Module) (roomy : Bool) (s : Source) (run : Run) → s.phase ≡ Ended → run.finish ≡ Finished → run.world ≡ s.world → Agrees table roomy s run
+ended_agrees table roomy s run over f w = record {
   world = w;
   runs = λ e. absurd (let r = f in cc);
   ends = λ e. over;
   traps = λ j e. absurd (let r = f in cc);
-  never_limited = λ j e. let r = f in cc;
+  limits = λ j e. absurd (let r = f in cc);
   never_broken = λ e. let r = f in cc;
 }
 
-trapped_agrees : (table : List Module) (s : Source) (run : Run) (t : TrapAt) (number : ℕ) (own : Module) → s.phase ≡ Trapped t → run.finish ≡ TrappedBy t.kind → run.world ≡ s.world
-    → module_at table number ≡ Some own → t.«module» ≡ own.name → t.procedure ≡ None → Agrees table s run
-trapped_agrees table s run t number own over f w known named bare = record {
+trapped_agrees : (table : List Module) (roomy : Bool) (s : Source) (run : Run) (t : TrapAt) (number : ℕ) (own : Module) → s.phase ≡ Trapped t → run.finish ≡ TrappedBy t.kind → run.world ≡ s.world
+    → module_at table number ≡ Some own → t.«module» ≡ own.name → t.procedure ≡ None → Agrees table roomy s run
+trapped_agrees table roomy s run t number own over f w known named bare = record {
   world = w;
   runs = λ e. absurd (let r = f in cc);
   ends = λ e. absurd (let r = f in cc);
@@ -95,9 +96,13 @@ trapped_agrees table s run t number own over f w known named bare = record {
             ∙ ap (λ (x : List ℕ). Trapped (record { kind = j; «module» = x; procedure = t.procedure })) named
             ∙ ap (λ (x : Option (List ℕ)). Trapped (record { kind = j; «module» = own.name; procedure = x })) bare;
       };
-  never_limited = λ j e. let r = f in cc;
+  limits = λ j e. absurd (let r = f in cc);
   never_broken = λ e. let r = f in cc;
 }
+
+-- a run that met no limit
+abbrev pub Unlimited : Run → Type 0
+Unlimited run = (k : LimitKind) → run.finish ≢ Limited k
 
 module _ (ctx : Setting) where
   open ctx use {modules, table}
@@ -106,25 +111,30 @@ module _ (ctx : Setting) where
   abbrev at : Home → Stack → Setting
   at x y = record ctx { home = x; stack = y }
 
+  -- whether all bodies that are to run have room
+  abbrev pub roomy : Bool
+  roomy = fits ctx.stack.limit ctx.stack.bodies
+
   -- a matched state, with all stacks that don't run
   abbrev Matched : Home → Stack → Source → List Item → State → ℕ → Around → Type 0
-  Matched x y s k m c a = EachRests (at x y) ctx.parked ctx.kept × Shared (at x y) s m × Ahead (at x y) k Quiet m.place m.stack c a
+  Matched x y s k m c a =
+      EachRests (at x y) ctx.parked ctx.kept × Shared (at x y) s m × Ahead (at x y) k Quiet m.place m.stack c a × (fits y.limit y.bodies ≡ false → fits ctx.stack.limit ctx.stack.bodies ≡ false)
 
   -- After so many steps of the machine, from a state of the meaning with so many jumps owed: some later state agrees, one that is far
   -- enough.
   pub record Follows (s : Source) (run : Run) (steps c : ℕ) : Type 0 where
     pub n : ℕ
-    pub agrees : Agrees table (after modules n s) (mrun steps run)
-    pub far : steps < 32 * n + 32 + c
+    pub agrees : Agrees table roomy (after modules n s) (mrun steps run)
+    pub far : Unlimited (mrun steps run) → steps < 32 * n + 32 + c
 
   -- where both are over, they stay
-  over_follows : (s : Source) (run : Run) (steps c : ℕ) → Agrees table s run → next modules s ≡ s → advanced run ≡ run → Follows s run steps c
+  over_follows : (s : Source) (run : Run) (steps c : ℕ) → Agrees table roomy s run → next modules s ≡ s → advanced run ≡ run → Follows s run steps c
   over_follows s run steps c a rs rr = record {
     n = steps;
     agrees =
-        subst (λ (t : Source). Agrees table t (mrun steps run)) (sym (source_rests modules steps s rs))
-        (subst (λ (r : Run). Agrees table s r) (sym (run_rests steps run rr)) a);
-    far = omega arith;
+        subst (λ (t : Source). Agrees table roomy t (mrun steps run)) (sym (source_rests modules steps s rs))
+        (subst (λ (r : Run). Agrees table roomy s r) (sym (run_rests steps run rr)) a);
+    far = λ u. omega arith;
   }
 
   -- what is claimed of so many steps, from each matched state whose items have a property
@@ -132,25 +142,25 @@ module _ (ctx : Setting) where
   Claim steps P =
       (x : Home) (y : Stack) (s : Source) (k : List Item) (m : State) (c : ℕ) (a : Around) → Matched x y s k m c a → P k → Follows (record s { items = k; phase = Going }) (running m s.world) steps c
 
-  landed : (steps : ℕ) (P : List Item → Type 0) → Claim steps P → (x : Home) (y : Stack) → EachRests (at x y) ctx.parked ctx.kept → (p : Phase) (s : Source) (run : Run) (c : ℕ) → s.phase ≡ p
+  landed : (steps : ℕ) (P : List Item → Type 0) → Claim steps P → (x : Home) (y : Stack) → EachRests (at x y) ctx.parked ctx.kept → (fits y.limit y.bodies ≡ false → fits ctx.stack.limit ctx.stack.bodies ≡ false) → (p : Phase) (s : Source) (run : Run) (c : ℕ) → s.phase ≡ p
       → Lands (at x y) p s run c → P s.items → Follows s run steps c
-  landed steps P claim x y rests Going s run c e lands has =
+  landed steps P claim x y rests fewer Going s run c e lands has =
       let same : record s { items = s.items; phase = Going } ≡ s = ap (λ (p : Phase). let t : Source = record s { phase = p } in t) (sym e) in
       subst (λ (t : Source). Follows t run steps c) same
       (subst (λ (r : Run). Follows (record s { items = s.items; phase = Going }) r steps c) (sym lands.is)
-      (claim x y s s.items lands.machine c lands.met.around (rests, lands.met.shared, lands.met.ahead) has))
-  landed steps P claim x y rests Ended s run c e lands has =
-      over_follows s run steps c (ended_agrees table s run e lands.finish lands.world) (ended_rests modules s e) (run_over run Finished lands.finish (λ f. cc))
-  landed steps P claim x y rests (Closing t) s run c e lands has =
+      (claim x y s s.items lands.machine c lands.met.around (rests, lands.met.shared, lands.met.ahead, fewer) has))
+  landed steps P claim x y rests fewer Ended s run c e lands has =
+      over_follows s run steps c (ended_agrees table roomy s run e lands.finish lands.world) (ended_rests modules s e) (run_over run Finished lands.finish (λ f. cc))
+  landed steps P claim x y rests fewer (Closing t) s run c e lands has =
       let closed : Source = record s { phase = Trapped t } in
       let step : next modules s ≡ closed = ap (λ (p : Phase). by_phase modules p s) e in
-      let f = over_follows closed run steps c (trapped_agrees table closed run t y.frame.number y.frame.own refl lands.finish lands.world lands.known lands.name lands.procedure) (trapped_rests modules closed t refl) (run_over run (TrappedBy t.kind) lands.finish (λ g. cc)) in
+      let f = over_follows closed run steps c (trapped_agrees table roomy closed run t y.frame.number y.frame.own refl lands.finish lands.world lands.known lands.name lands.procedure) (trapped_rests modules closed t refl) (run_over run (TrappedBy t.kind) lands.finish (λ g. cc)) in
       record {
         n = suc f.n;
-        agrees = subst (λ (x : Source). Agrees table (after modules f.n x) (mrun steps run)) (sym step) f.agrees;
-        far = omega (arith, f.far);
+        agrees = subst (λ (x : Source). Agrees table roomy (after modules f.n x) (mrun steps run)) (sym step) f.agrees;
+        far = λ u. omega (arith, f.far u);
       }
-  landed steps P claim x y rests (Trapped t) s run c e lands has = absurd lands
+  landed steps P claim x y rests fewer (Trapped t) s run c e lands has = absurd lands
 
   abbrev At : Source → List Item → Source
   At s k = record s { items = k; phase = Going }
@@ -160,23 +170,44 @@ module _ (ctx : Setting) where
     short : (steps : ℕ) → steps < g.steps → Follows (At s k) (running m s.world) steps c
     short steps less = record {
       n = 0;
-      agrees = still_agrees table s k (mrun steps (running m s.world)) (g.quiet steps less);
-      far = omega (arith, g.cost);
+      agrees = still_agrees table roomy s k (mrun steps (running m s.world)) (g.quiet steps less);
+      far = λ u. omega (arith, g.cost);
     }
 
     -- what follows from the next state of the source follows from this one
     longer : (steps rest : ℕ) → steps ≡ g.steps + rest → Follows (next modules (At s k)) (mrun g.steps (running m s.world)) rest g.later → Follows (At s k) (running m s.world) steps c
     longer steps rest e f = record {
       n = suc f.n;
-      agrees = subst (λ (r : Run). Agrees table (after modules f.n (next modules (At s k))) r) (sym (mrun_add g.steps steps rest (running m s.world) e)) f.agrees;
-      far = omega (arith, f.far, g.cost);
+      agrees = subst (λ (r : Run). Agrees table roomy (after modules f.n (next modules (At s k))) r) (sym (mrun_add g.steps steps rest (running m s.world) e)) f.agrees;
+      far = λ u. omega (arith, f.far (subst Unlimited (mrun_add g.steps steps rest (running m s.world) e) u), g.cost);
     }
+
+    -- a limit that was met
+    full : (steps : ℕ) → IsFull y.limit y.bodies s.world (mrun g.steps (running m s.world)) → (fits y.limit y.bodies ≡ false → fits ctx.stack.limit ctx.stack.bodies ≡ false) → g.steps ≤ steps
+        → Follows (At s k) (running m s.world) steps c
+    full steps f fewer more =
+        let over : Run = mrun g.steps (running m s.world) in
+        let stays : mrun steps (running m s.world) ≡ over =
+        mrun_add g.steps steps (steps - g.steps) (running m s.world) (omega (arith, more)) ∙ run_rests (steps - g.steps) (mrun g.steps (running m s.world)) (run_over (mrun g.steps (running m s.world)) (Limited f.kind) f.finish (λ e. cc)) in
+        let finish : (mrun steps (running m s.world)).finish ≡ Limited f.kind = ap (λ (r : Run). r.finish) stays ∙ f.finish in
+        record {
+          n = 0;
+          agrees = record {
+            world = ap (λ (r : Run). r.world) stays ∙ f.world;
+            runs = λ e. absurd (let r = finish in cc);
+            ends = λ e. absurd (let r = finish in cc);
+            traps = λ j e. absurd (let r = finish in cc);
+            limits = λ j e. fewer f.short;
+            never_broken = λ e. let r = finish in cc;
+          };
+          far = λ u. absurd (u f.kind finish);
+        }
 
   -- one step of the source, and the rest by fewer steps or by less that stutters
   turn : (steps : ℕ) (x : Home) (y : Stack) (s : Source) (k : List Item) (m : State) (c : ℕ) (a : Around) → ((rest : ℕ) → rest < steps → Claim rest (λ i. Unit {0})) → Claim steps (λ i. stutter i < stutter k)
       → Matched x y s k m c a → Follows (At s k) (running m s.world) steps c
   turn steps x y s k m c a fewer lighter met =
-      ⊎_elim (λ less. short x y s k m c g steps less) (λ more. ⊎_elim (λ some. by_step more some) (λ none. by_stutter more none) (cases_lt 0 g.steps)) (cases_lt steps g.steps)
+      ⊎_elim (λ less. short x y s k m c g steps less) (λ more. ⊎_elim (λ lands. by_lands more lands) (λ f. full x y s k m c g steps f met.3 more) g.lands) (cases_lt steps g.steps)
     where
       g : Goes (at x y) s k m (c + 32)
       g = each_step (at x y) s m c a met.1 k met.2
@@ -184,15 +215,18 @@ module _ (ctx : Setting) where
       rests : EachRests (at g.home g.stack) ctx.parked ctx.kept
       rests = each_rests (at x y) g.home g.stack g.touch g.same ctx.parked ctx.kept met.0
 
-      by_step : g.steps ≤ steps → 0 < g.steps → Follows (At s k) (running m s.world) steps c
-      by_step more some =
-          longer x y s k m c g steps (steps - g.steps) (omega arith)
-          (landed (steps - g.steps) (λ i. Unit {0}) (fewer (steps - g.steps) (omega arith)) g.home g.stack rests (next modules (At s k)).phase (next modules (At s k)) (mrun g.steps (running m s.world)) g.later refl g.lands tt)
+      wider : fits g.stack.limit g.stack.bodies ≡ false → fits ctx.stack.limit ctx.stack.bodies ≡ false
+      wider e = met.3 (g.fewer e)
 
-      by_stutter : g.steps ≤ steps → g.steps ≤ 0 → Follows (At s k) (running m s.world) steps c
-      by_stutter more none =
-          longer x y s k m c g steps steps (omega arith)
-          (landed steps (λ i. stutter i < stutter k) lighter g.home g.stack rests (next modules (At s k)).phase (next modules (At s k)) (mrun g.steps (running m s.world)) g.later refl g.lands (g.falls (omega arith)))
+      by_lands : g.steps ≤ steps → Lands (at g.home g.stack) (next modules (At s k)).phase (next modules (At s k)) (mrun g.steps (running m s.world)) g.later → Follows (At s k) (running m s.world) steps c
+      by_lands more lands =
+          ⊎_elim (λ (some : 0 < g.steps).
+          longer x y s k m c g steps (steps - g.steps) (omega (arith, more))
+          (landed (steps - g.steps) (λ i. Unit {0}) (fewer (steps - g.steps) (omega (arith, more, some))) g.home g.stack rests wider (next modules (At s k)).phase (next modules (At s k)) (mrun g.steps (running m s.world)) g.later refl lands tt))
+          (λ (none : g.steps ≤ 0).
+          longer x y s k m c g steps steps (omega (arith, none))
+          (landed steps (λ i. stutter i < stutter k) lighter g.home g.stack rests wider (next modules (At s k)).phase (next modules (At s k)) (mrun g.steps (running m s.world)) g.later refl lands (g.falls (omega (arith, none)))))
+          (cases_lt 0 g.steps)
 
   -- by the number of steps, and for each by how long the items can stutter
   inner : (bound : ℕ) → ((steps : ℕ) → steps ≤ bound → Claim steps (λ i. Unit {0})) → (most : ℕ) (steps : ℕ) → steps ≤ suc bound → Claim steps (λ i. stutter i < most)
@@ -205,13 +239,13 @@ module _ (ctx : Setting) where
   outer zero steps le x y s k m c a met has =
       let e : 0 ≡ steps = omega arith in
       subst (λ (n : ℕ). Follows (At s k) (running m s.world) n c) e
-      (record { n = 0; agrees = still_agrees table s k (running m s.world) (record { world = refl; finish = refl }); far = omega arith })
+      (record { n = 0; agrees = still_agrees table roomy s k (running m s.world) (record { world = refl; finish = refl }); far = λ u. omega arith })
   outer (suc bound) steps le x y s k m c a met has = inner bound (outer bound) (suc (stutter k)) steps le x y s k m c a met (omega arith)
 
   -- from a matched state the machine shows what the source means
   pub follows : (s : Source) (k : List Item) (m : State) (steps c : ℕ) (a : Around) → EachRests ctx ctx.parked ctx.kept → Shared ctx s m → Ahead ctx k Quiet m.place m.stack c a
       → Follows (At s k) (running m s.world) steps c
-  follows s k m steps c a rests shared ahead = outer steps steps (omega arith) ctx.home ctx.stack s k m c a (rests, shared, ahead) tt
+  follows s k m steps c a rests shared ahead = outer steps steps (omega arith) ctx.home ctx.stack s k m c a (rests, shared, ahead, λ e. e) tt
 
   -- Each later state of the source has the world that the run has after some number of steps.
   pub record Reaches (s : Source) (run : Run) (n : ℕ) : Type 0 where
@@ -223,33 +257,37 @@ module _ (ctx : Setting) where
   rests_there n s run rests same = record { steps = 0; world = same ∙ ap (λ (t : Source). t.world) (sym (source_rests modules n s rests)) }
 
   reaches_landed : (n : ℕ) → ((x : Home) (y : Stack) (s : Source) (k : List Item) (m : State) (c : ℕ) (a : Around) → Matched x y s k m c a → Reaches (At s k) (running m s.world) n)
-      → (x : Home) (y : Stack) → EachRests (at x y) ctx.parked ctx.kept → (p : Phase) (s : Source) (run : Run) (c : ℕ) → s.phase ≡ p → Lands (at x y) p s run c → Reaches s run n
-  reaches_landed n claim x y rests Going s run c e lands =
+      → (x : Home) (y : Stack) → EachRests (at x y) ctx.parked ctx.kept → (fits y.limit y.bodies ≡ false → fits ctx.stack.limit ctx.stack.bodies ≡ false) → (p : Phase) (s : Source) (run : Run) (c : ℕ) → s.phase ≡ p → Lands (at x y) p s run c
+      → Reaches s run n
+  reaches_landed n claim x y rests fewer Going s run c e lands =
       let same : At s s.items ≡ s = ap (λ (p : Phase). let t : Source = record s { phase = p } in t) (sym e) in
       subst (λ (t : Source). Reaches t run n) same
       (subst (λ (r : Run). Reaches (At s s.items) r n) (sym lands.is)
-      (claim x y s s.items lands.machine c lands.met.around (rests, lands.met.shared, lands.met.ahead)))
-  reaches_landed n claim x y rests Ended s run c e lands = rests_there n s run (ended_rests modules s e) lands.world
-  reaches_landed zero claim x y rests (Closing t) s run c e lands = record { steps = 0; world = lands.world }
-  reaches_landed (suc n) claim x y rests (Closing t) s run c e lands =
+      (claim x y s s.items lands.machine c lands.met.around (rests, lands.met.shared, lands.met.ahead, fewer)))
+  reaches_landed n claim x y rests fewer Ended s run c e lands = rests_there n s run (ended_rests modules s e) lands.world
+  reaches_landed zero claim x y rests fewer (Closing t) s run c e lands = record { steps = 0; world = lands.world }
+  reaches_landed (suc n) claim x y rests fewer (Closing t) s run c e lands =
       let closed : Source = record s { phase = Trapped t } in
       let step : next modules s ≡ closed = ap (λ (p : Phase). by_phase modules p s) e in
       let r = rests_there n closed run (trapped_rests modules closed t refl) lands.world in
       record { steps = r.steps; world = r.world ∙ ap (λ (x : Source). (after modules n x).world) (sym step) }
-  reaches_landed n claim x y rests (Trapped t) s run c e lands = absurd lands
+  reaches_landed n claim x y rests fewer (Trapped t) s run c e lands = absurd lands
 
-  reaches_in : (n : ℕ) (x : Home) (y : Stack) (s : Source) (k : List Item) (m : State) (c : ℕ) (a : Around) → Matched x y s k m c a → Reaches (At s k) (running m s.world) n
-  reaches_in zero x y s k m c a met = record { steps = 0; world = refl }
-  reaches_in (suc n) x y s k m c a met =
+  reaches_in : (roomy ≡ true) → (n : ℕ) (x : Home) (y : Stack) (s : Source) (k : List Item) (m : State) (c : ℕ) (a : Around) → Matched x y s k m c a → Reaches (At s k) (running m s.world) n
+  reaches_in room zero x y s k m c a met = record { steps = 0; world = refl }
+  reaches_in room (suc n) x y s k m c a met =
       let g = each_step (at x y) s m c a met.1 k met.2 in
-      let r = reaches_landed n (reaches_in n) g.home g.stack (each_rests (at x y) g.home g.stack g.touch g.same ctx.parked ctx.kept met.0)
-      (next modules (At s k)).phase (next modules (At s k)) (mrun g.steps (running m s.world)) g.later refl g.lands in
-      record {
+      ⊎_elim (λ lands.
+      let r = reaches_landed n (reaches_in room n) g.home g.stack (each_rests (at x y) g.home g.stack g.touch g.same ctx.parked ctx.kept met.0) (λ e. met.3 (g.fewer e))
+      (next modules (At s k)).phase (next modules (At s k)) (mrun g.steps (running m s.world)) g.later refl lands in
+      let there : Reaches (At s k) (running m s.world) (suc n) = record {
         steps = g.steps + r.steps;
         world = ap (λ (x : Run). x.world) (mrun_add g.steps (g.steps + r.steps) r.steps (running m s.world) refl) ∙ r.world;
-      }
+      } in
+      there)
+      (λ f. absurd (true≢false (sym room ∙ met.3 f.short))) g.lands
 
-  -- from a matched state the machine shows all that the source means
-  pub reaches : (n : ℕ) (s : Source) (k : List Item) (m : State) (c : ℕ) (a : Around) → EachRests ctx ctx.parked ctx.kept → Shared ctx s m → Ahead ctx k Quiet m.place m.stack c a
+  -- from a matched state the machine shows all that the source means, where all bodies have room
+  pub reaches : (n : ℕ) (s : Source) (k : List Item) (m : State) (c : ℕ) (a : Around) → roomy ≡ true → EachRests ctx ctx.parked ctx.kept → Shared ctx s m → Ahead ctx k Quiet m.place m.stack c a
       → Reaches (At s k) (running m s.world) n
-  reaches n s k m c a rests shared ahead = reaches_in n ctx.home ctx.stack s k m c a (rests, shared, ahead)
+  reaches n s k m c a room rests shared ahead = reaches_in room n ctx.home ctx.stack s k m c a (rests, shared, ahead, λ e. e)

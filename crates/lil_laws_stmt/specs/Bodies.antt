@@ -1,23 +1,29 @@
 -- The end of a body that others follow: the next one begins.
-use Rattle.std.proofs.Common.{◌≡◌, ℕ, ◌+◌, ◌-◌, ◌<◌, ◌≤◌, ◌⊎◌, inl, inr, Some, List, [], ◌∷◌, length, map, get_or, refl, sym, ap, ◌∙◌, ⊎_elim, arith, eq-eqb}
-use Rattle.std.proofs.lemmas.Bool.{le-ltb, cases_lt}
+use Rattle.std.proofs.Common.{◌≡◌, ℕ, ◌+◌, ◌-◌, ◌<◌, ◌≤◌, ◌⊎◌, inl, inr, Bool, true, false, ◌&&◌, Some, List, [], ◌∷◌, length, map, get_or, refl, sym, ap, ◌∙◌, ⊎_elim, arith, eq-eqb}
+use Rattle.std.specs.Prelude.{nat_le}
+use Rattle.std.proofs.lemmas.Bool.{le-ltb, lt-ltb, lt-leb, cases_lt}
+use Rattle.lil_base.specs.declared.fault.LimitKind.TheVariants as limit
 use Rattle.lil_meaning.specs.Shapes.{offset}
 use Rattle.lil_meaning.specs.Cells.{Root}
 use Rattle.lil_meaning.specs.Items.{End, Item, Perform, Source}
 use Rattle.lil_asm.specs.declared.instr.Instr.TheVariants.{Ent, Rtn}
 use Rattle.lil_mcode.specs.declared.machine.Event.TheVariants.{Went}
 use Rattle.lil_mcode.specs.State.{Module, State, stack_of, module_at, zeros, cleared}
-use Rattle.lil_mcode.specs.Table.{end_row, body_row, begun_body}
+use Rattle.lil_mcode.specs.Table.{mstep, end_row, body_row, begun_body, enter_row}
 use Rattle.lil_table.specs.Rows.{IsAt}
 use Rattle.lil_match.specs.Running.{running, advanced}
 use Rattle.lil_match.specs.Parts.{yes, no}
 use Rattle.lil_match.specs.Homes.{Of, Own, Free, Home, Mem, word_same, of_free, scalar_owned}
 use Rattle.lil_match.specs.Splices.{spliced_length, spliced_before, spliced_after, zeros_length}
-use Rattle.lil_match.specs.Goes.{OwnWords, Comes, Shared, Goes, number_of}
+use Rattle.lil_match.specs.Goes.{OwnWords, Comes, Shared, fits, Goes, number_of}
 use Rattle.lil_match.specs.Waits.{Quiet, outside, Frame, Setting, at_home, with_frames, RowsOf, NextBody}
 use Rattle.lil_match.specs.Kept.{all_above, rows_kept}
-use Rattle.lil_match.specs.Steps.{advances, at_step, rows_ahead, goes_one_in, goes_after}
+use Rattle.lil_match.specs.Steps.{advances, at_step, rows_ahead, goes_one_in, goes_full, goes_after}
 use Rattle.lil_laws_stmt.specs.Painting.{own_free, of_own, painted, painted_there, painted_beside, Side, Before, Between, Behind', side}
+
+and_later : (a b : Bool) → b ≡ false → (a && b) ≡ false
+and_later true b e = e
+and_later false b e = refl
 
 module _ (ctx : Setting) (f b : Frame) (bs : List Frame) where
   abbrev ending : Setting
@@ -32,9 +38,6 @@ module _ (ctx : Setting) (f b : Frame) (bs : List Frame) where
 
     abbrev base : ℕ
     base = ctx.stack.base
-
-    abbrev limit : ℕ
-    limit = ctx.stack.limit
 
     abbrev size : ℕ
     size = b.layout.frame
@@ -51,158 +54,186 @@ module _ (ctx : Setting) (f b : Frame) (bs : List Frame) where
     abbrev entered : State
     entered = record begun { place = next.start; top = m.base + b.layout.frame; store = cleared begun.store begun.top (m.base + b.layout.frame) }
 
-    -- the words of the stack are the new frame's, and then in no use
-    abbrev x : Home
-    x = record (ctx.home) {
-      owner = painted (painted ctx.home.owner ctx.stack.base (ctx.stack.base + b.layout.frame) (λ a. Own)) (ctx.stack.base + b.layout.frame) ctx.stack.limit (λ a. Free ctx.stack.base);
-      shadow = painted ctx.home.shadow ctx.stack.base (ctx.stack.base + b.layout.frame) (λ a. get_or entered.store a 0);
-    }
-
-    comes : Comes ctx.modules ctx.table ctx.activations ctx.home.base ctx.home.shape ctx.stack.base ctx.stack.limit b
+    comes : Comes ctx.modules ctx.table ctx.activations ctx.home.base ctx.home.shape ctx.stack.base b
     comes = shared.standing.comes.0
 
-    words : OwnWords ctx.home.owner f m.top
-    words = shared.standing.stands.0
-
-    owner_own : (a : ℕ) → ctx.stack.base ≤ a → a < ctx.stack.base + b.layout.frame → x.owner a ≡ Own
-    owner_own a from below =
-        painted_beside (painted ctx.home.owner ctx.stack.base (ctx.stack.base + b.layout.frame) (λ a. Own)) (ctx.stack.base + b.layout.frame) ctx.stack.limit (λ a. Free ctx.stack.base) a (inl below)
-        ∙ painted_there ctx.home.owner ctx.stack.base (ctx.stack.base + b.layout.frame) (λ a. Own) a from below
-
-    owner_free : (a : ℕ) → ctx.stack.base + b.layout.frame ≤ a → a < ctx.stack.limit → x.owner a ≡ Free ctx.stack.base
-    owner_free a from below =
-        painted_there (painted ctx.home.owner ctx.stack.base (ctx.stack.base + b.layout.frame) (λ a. Own)) (ctx.stack.base + b.layout.frame) ctx.stack.limit (λ a. Free ctx.stack.base) a from below
-
-    owner_beside : (a : ℕ) → (a < ctx.stack.base) ⊎ (ctx.stack.limit ≤ a) → x.owner a ≡ ctx.home.owner a
-    owner_beside a o =
-        painted_beside (painted ctx.home.owner ctx.stack.base (ctx.stack.base + b.layout.frame) (λ a. Own)) (ctx.stack.base + b.layout.frame) ctx.stack.limit (λ a. Free ctx.stack.base) a
-        (⊎_elim (λ (l : a < ctx.stack.base). inl (omega (arith, l))) (λ (g : ctx.stack.limit ≤ a). inr (omega (arith, g, comes.at, comes.room), g)) o)
-        ∙ painted_beside ctx.home.owner ctx.stack.base (ctx.stack.base + b.layout.frame) (λ a. Own) a
-        (⊎_elim (λ (l : a < ctx.stack.base). inl l) (λ (g : ctx.stack.limit ≤ a). inr (omega (arith, g, comes.at, comes.room), omega (arith, g, comes.at, comes.room))) o)
-
-    shadow_there : (a : ℕ) → ctx.stack.base ≤ a → a < ctx.stack.base + b.layout.frame → x.shadow a ≡ get_or entered.store a 0
-    shadow_there a from below = painted_there ctx.home.shadow ctx.stack.base (ctx.stack.base + b.layout.frame) (λ a. get_or entered.store a 0) a from below
-
-    shadow_beside : (a : ℕ) → (a < ctx.stack.base) ⊎ ((ctx.stack.base ≤ a) × (ctx.stack.base + b.layout.frame ≤ a)) → x.shadow a ≡ ctx.home.shadow a
-    shadow_beside a o = painted_beside ctx.home.shadow ctx.stack.base (ctx.stack.base + b.layout.frame) (λ a. get_or entered.store a 0) a o
-
-    -- no root's word is one of the stack
-    no_root : (r : Root) (a : ℕ) → ctx.stack.base ≤ a → a < ctx.stack.limit → ctx.home.owner a ≡ Of r → ⊥
-    no_root r a from below is =
-        ⊎_elim (λ (l : a < m.top).
-        of_own r (sym is ∙ ap ctx.home.owner (let e : a ≡ f.at + (a - f.at) = omega (arith, from, shared.standing.stands.1) in e) ∙ words.own (a - f.at) (omega (arith, from, l, shared.standing.stands.1))))
-        (λ (g : m.top ≤ a). of_free r ctx.stack.base (sym is ∙ shared.standing.room a g below)) (cases_lt a m.top)
-
-    fits : (m.base ≡ ctx.stack.base) × (m.base + b.layout.frame < 65536)
-    fits = (shared.standing.base_is, omega (arith, shared.standing.base_is, comes.at, comes.room, shared.standing.high))
-
-    mark_long : length begun.store ≡ 65536
-    mark_long = spliced_length m.store m.base mark (omega (arith, shared.mem.long, fits.1, comes.mark)) ∙ shared.mem.long
-
-    zero_long : length zero_words ≡ m.base + b.layout.frame - (m.base + 4)
-    zero_long = zeros_length (m.base + b.layout.frame - (m.base + 4))
-
-    long : length entered.store ≡ 65536
-    long = spliced_length begun.store (m.base + 4) zero_words (omega (arith, mark_long, zero_long, fits.1, comes.mark)) ∙ mark_long
-
-    stays : (a : ℕ) → (a < ctx.stack.base) ⊎ (ctx.stack.base + b.layout.frame ≤ a) → get_or entered.store a 0 ≡ get_or m.store a 0
-    stays a (inl l) =
-        spliced_before begun.store (m.base + 4) zero_words a (omega (arith, mark_long, zero_long, fits.1, comes.mark)) (omega (arith, l, fits.0))
-        ∙ spliced_before m.store m.base mark a (omega (arith, shared.mem.long, fits.1, comes.mark)) (omega (arith, l, fits.0))
-    stays a (inr g) =
-        spliced_after begun.store (m.base + 4) zero_words a (omega (arith, mark_long, zero_long, fits.1, comes.mark)) (omega (arith, zero_long, g, fits.0, comes.mark))
-        ∙ spliced_after m.store m.base mark a (omega (arith, shared.mem.long, fits.1, comes.mark)) (omega (arith, g, fits.0, comes.mark))
-
-    -- where a word lies that isn't the stack's
-    outside_is : (a : ℕ) (r : Root) → ctx.home.owner a ≡ Of r → (a < ctx.stack.base) ⊎ (ctx.stack.limit ≤ a)
-    outside_is a r is = ⊎_elim (λ (l : a < ctx.stack.base). inl l) (λ (g : ctx.stack.base ≤ a). ⊎_elim (λ (l : a < ctx.stack.limit). absurd (no_root r a g l is)) (λ (o : ctx.stack.limit ≤ a). inr o) (cases_lt a ctx.stack.limit)) (cases_lt a ctx.stack.base)
-
-    mem : Mem x s.cells entered.store
-    mem = record {
-      owned = λ r i l. owner_beside (h.base r + i) (outside_is (h.base r + i) r (shared.mem.owned r i l)) ∙ shared.mem.owned r i l;
-      inside = shared.mem.inside;
-      holds = λ r q j e.
-          let old = shared.mem.holds r q j e in
-          let a : ℕ = h.base r + offset (h.shape r) q in
-          let at = outside_is (h.base r + offset (h.shape r) q) r (scalar_owned h s.cells m.store r q j shared.mem e).0 in
-          record {
-            word = stays (h.base r + offset (h.shape r) q) (⊎_elim (λ (l : h.base r + offset (h.shape r) q < ctx.stack.base). inl l) (λ (g : ctx.stack.limit ≤ h.base r + offset (h.shape r) q). inr (omega (arith, g, comes.at, comes.room))) at)
-                ∙ old.word ∙ word_same h x (λ o. refl) (s.cells r q);
-            fits = old.fits;
-          };
-      kept = λ a own. kept a own (side ctx.stack.base (ctx.stack.base + b.layout.frame) a) (cases_lt a ctx.stack.limit);
-      long = long;
-    }
-      where
-        kept : (a : ℕ) → x.owner a ≡ Own → Side ctx.stack.base (ctx.stack.base + b.layout.frame) a → (a < ctx.stack.limit) ⊎ (ctx.stack.limit ≤ a) → get_or entered.store a 0 ≡ x.shadow a
-        kept a own (Before l) o = stays a (inl l) ∙ shared.mem.kept a (sym (owner_beside a (inl l)) ∙ own) ∙ sym (shadow_beside a (inl l))
-        kept a own (Between g l) o = sym (shadow_there a g l)
-        kept a own (Behind' g l) (inl o) = absurd (own_free ctx.stack.base (sym own ∙ owner_free a l o))
-        kept a own (Behind' g l) (inr o) = stays a (inr l) ∙ shared.mem.kept a (sym (owner_beside a (inr o)) ∙ own) ∙ sym (shadow_beside a (inr (g, l)))
-
-    -- the machine leaves the body, and enters the next one
-    leaves : advanced (running m s.world) ≡ running begun s.world
-    leaves =
+    -- the row of the return, by the room of the next body's mark
+    leaving : mstep m ≡ body_row m b.number (map number_of bs) (Some b.own)
+    leaving =
         let there : module_at m.modules b.number ≡ Some b.own = ap (λ (ms : List Module). module_at ms b.number) shared.program.table_is ∙ comes.known.known in
-        advances m s.world _ (
         at_step ending m shared.program Rtn end leave
         ∙ yes _ _ _ (eq-eqb m.frame m.base (shared.standing.frame_is ∙ shared.standing.stands.1 ∙ sym shared.standing.base_is))
         ∙ ap (end_row m) shared.standing.bodies_are
         ∙ ap (body_row m b.number (map number_of bs)) there
-        ∙ no _ _ _ (le-ltb m.limit (m.base + 4) (omega (arith, shared.standing.limit_is, fits.0, comes.at, comes.room, comes.mark)))
-        )
 
-    enters : advanced (running begun s.world) ≡ running entered s.world
-    enters =
-        advances begun s.world (Went, entered) (
+    leaves : ctx.stack.base + 4 ≤ ctx.stack.limit → advanced (running m s.world) ≡ running begun s.world
+    leaves mark_room = advances m s.world _ (leaving ∙ no _ _ _ (le-ltb m.limit (m.base + 4) (omega (arith, shared.standing.limit_is, shared.standing.base_is, mark_room))))
+
+    -- the row of ENT
+    entering : mstep begun ≡ enter_row b.layout.frame next.start begun
+    entering =
         at_step beginning begun (record { table_is = shared.program.table_is; known = comes.known.known; running_is = refl; marked_is = shared.program.marked_is }) (Ent b.layout.frame) next.start next.enter
-        ∙ no _ _ _ (le-ltb (m.base + b.layout.frame) (m.base + 4) (omega (arith, comes.mark)))
-        ∙ no _ _ _ (le-ltb m.limit (m.base + b.layout.frame) (omega (arith, shared.standing.limit_is, fits.0, comes.at, comes.room)))
-        )
 
-    pub goes_next : Goes ending s (Perform (End n) ∷ k) m (c + 32)
-    goes_next =
-        let g = shared.standing in
-        goes_after ending s (Perform (End n) ∷ k) m begun (c + 32) (c + 1) leaves
-        (goes_one_in ending s (Perform (End n) ∷ k) begun x (record (ctx.stack) { frame = b; callers = []; bodies = bs }) (c + 1) c (running entered s.world) enters
-        (record {
-          machine = entered;
-          is = refl;
-          met = record {
-            shared = record {
-              mem = mem;
-              program = record { table_is = shared.program.table_is; known = comes.known.known; running_is = refl; marked_is = shared.program.marked_is };
-              standing = record {
-                frame_is = g.base_is ∙ sym comes.at;
-                base_is = g.base_is;
-                limit_is = g.limit_is;
-                bodies_are = refl;
-                known = comes.known;
-                callers = tt;
-                comes = g.comes.1;
-                stands = (record { mark = comes.mark; below = omega (arith, comes.at, g.base_is); own = λ i l. owner_own (b.at + i) (omega (arith, comes.at)) (omega (arith, l, g.base_is)) }, comes.at);
-                room = λ a from below. owner_free a (omega (arith, from, g.base_is)) below;
-                low = omega (arith, g.base_is, comes.at, comes.room);
-                high = g.high;
-              };
-              activations_are = shared.activations_are;
-              parked_are = shared.parked_are;
-              kept_are = shared.kept_are;
+    -- ---- without room
+    short_row : nat_le (b.at + b.layout.frame) ctx.stack.limit ≡ false → fits ctx.stack.limit (b ∷ bs) ≡ false
+    short_row e = ap (λ (t : Bool). t && fits ctx.stack.limit bs) e
+
+    pub goes_short : ctx.stack.limit < b.at + b.layout.frame → Goes ending s (Perform (End n) ∷ k) m (c + 32)
+    goes_short less =
+        ⊎_elim (λ (none : m.limit < m.base + 4).
+        goes_full ending s (Perform (End n) ∷ k) m (c + 32) limit.Stack (leaving ∙ yes _ _ _ (lt-ltb m.limit (m.base + 4) none)) short (omega arith))
+        (λ (some : m.base + 4 ≤ m.limit).
+        goes_after ending s (Perform (End n) ∷ k) m begun (c + 32) (c + 1) (leaves (omega (arith, shared.standing.limit_is, shared.standing.base_is, some)))
+        (goes_full ending s (Perform (End n) ∷ k) begun (c + 1) limit.Stack
+        (entering
+        ∙ no _ _ _ (le-ltb (m.base + b.layout.frame) (m.base + 4) (omega (arith, comes.mark)))
+        ∙ yes _ _ _ (lt-ltb m.limit (m.base + b.layout.frame) (omega (arith, shared.standing.limit_is, shared.standing.base_is, comes.at, less))))
+        short (omega arith))
+        (omega arith)) (cases_lt m.limit (m.base + 4))
+      where
+        short : fits ctx.stack.limit (b ∷ bs) ≡ false
+        short = short_row (lt-leb (b.at + b.layout.frame) ctx.stack.limit less)
+
+    -- ---- with room
+    module _ (room : b.at + b.layout.frame ≤ ctx.stack.limit) where
+      -- the words of the stack are the new frame's, and then in no use
+      abbrev x : Home
+      x = record (ctx.home) {
+        owner = painted (painted ctx.home.owner ctx.stack.base (ctx.stack.base + b.layout.frame) (λ a. Own)) (ctx.stack.base + b.layout.frame) ctx.stack.limit (λ a. Free ctx.stack.base);
+        shadow = painted ctx.home.shadow ctx.stack.base (ctx.stack.base + b.layout.frame) (λ a. get_or entered.store a 0);
+      }
+
+      words : OwnWords ctx.home.owner f m.top
+      words = shared.standing.stands.0
+
+      owner_own : (a : ℕ) → ctx.stack.base ≤ a → a < ctx.stack.base + b.layout.frame → x.owner a ≡ Own
+      owner_own a from below =
+          painted_beside (painted ctx.home.owner ctx.stack.base (ctx.stack.base + b.layout.frame) (λ a. Own)) (ctx.stack.base + b.layout.frame) ctx.stack.limit (λ a. Free ctx.stack.base) a (inl below)
+          ∙ painted_there ctx.home.owner ctx.stack.base (ctx.stack.base + b.layout.frame) (λ a. Own) a from below
+
+      owner_free : (a : ℕ) → ctx.stack.base + b.layout.frame ≤ a → a < ctx.stack.limit → x.owner a ≡ Free ctx.stack.base
+      owner_free a from below =
+          painted_there (painted ctx.home.owner ctx.stack.base (ctx.stack.base + b.layout.frame) (λ a. Own)) (ctx.stack.base + b.layout.frame) ctx.stack.limit (λ a. Free ctx.stack.base) a from below
+
+      owner_beside : (a : ℕ) → (a < ctx.stack.base) ⊎ (ctx.stack.limit ≤ a) → x.owner a ≡ ctx.home.owner a
+      owner_beside a o =
+          painted_beside (painted ctx.home.owner ctx.stack.base (ctx.stack.base + b.layout.frame) (λ a. Own)) (ctx.stack.base + b.layout.frame) ctx.stack.limit (λ a. Free ctx.stack.base) a
+          (⊎_elim (λ (l : a < ctx.stack.base). inl (omega (arith, l))) (λ (g : ctx.stack.limit ≤ a). inr (omega (arith, g, comes.at, room), g)) o)
+          ∙ painted_beside ctx.home.owner ctx.stack.base (ctx.stack.base + b.layout.frame) (λ a. Own) a
+          (⊎_elim (λ (l : a < ctx.stack.base). inl l) (λ (g : ctx.stack.limit ≤ a). inr (omega (arith, g, comes.at, room), omega (arith, g, comes.at, room))) o)
+
+      shadow_there : (a : ℕ) → ctx.stack.base ≤ a → a < ctx.stack.base + b.layout.frame → x.shadow a ≡ get_or entered.store a 0
+      shadow_there a from below = painted_there ctx.home.shadow ctx.stack.base (ctx.stack.base + b.layout.frame) (λ a. get_or entered.store a 0) a from below
+
+      shadow_beside : (a : ℕ) → (a < ctx.stack.base) ⊎ ((ctx.stack.base ≤ a) × (ctx.stack.base + b.layout.frame ≤ a)) → x.shadow a ≡ ctx.home.shadow a
+      shadow_beside a o = painted_beside ctx.home.shadow ctx.stack.base (ctx.stack.base + b.layout.frame) (λ a. get_or entered.store a 0) a o
+
+      -- no root's word is one of the stack
+      no_root : (r : Root) (a : ℕ) → ctx.stack.base ≤ a → a < ctx.stack.limit → ctx.home.owner a ≡ Of r → ⊥
+      no_root r a from below is =
+          ⊎_elim (λ (l : a < m.top).
+          of_own r (sym is ∙ ap ctx.home.owner (let e : a ≡ f.at + (a - f.at) = omega (arith, from, shared.standing.stands.1) in e) ∙ words.own (a - f.at) (omega (arith, from, l, shared.standing.stands.1))))
+          (λ (g : m.top ≤ a). of_free r ctx.stack.base (sym is ∙ shared.standing.room a g below)) (cases_lt a m.top)
+
+      based : (m.base ≡ ctx.stack.base) × (m.base + b.layout.frame < 65536)
+      based = (shared.standing.base_is, omega (arith, shared.standing.base_is, comes.at, room, shared.standing.high))
+
+      mark_long : length begun.store ≡ 65536
+      mark_long = spliced_length m.store m.base mark (omega (arith, shared.mem.long, based.1, comes.mark)) ∙ shared.mem.long
+
+      zero_long : length zero_words ≡ m.base + b.layout.frame - (m.base + 4)
+      zero_long = zeros_length (m.base + b.layout.frame - (m.base + 4))
+
+      long : length entered.store ≡ 65536
+      long = spliced_length begun.store (m.base + 4) zero_words (omega (arith, mark_long, zero_long, based.1, comes.mark)) ∙ mark_long
+
+      stays : (a : ℕ) → (a < ctx.stack.base) ⊎ (ctx.stack.base + b.layout.frame ≤ a) → get_or entered.store a 0 ≡ get_or m.store a 0
+      stays a (inl l) =
+          spliced_before begun.store (m.base + 4) zero_words a (omega (arith, mark_long, zero_long, based.1, comes.mark)) (omega (arith, l, based.0))
+          ∙ spliced_before m.store m.base mark a (omega (arith, shared.mem.long, based.1, comes.mark)) (omega (arith, l, based.0))
+      stays a (inr g) =
+          spliced_after begun.store (m.base + 4) zero_words a (omega (arith, mark_long, zero_long, based.1, comes.mark)) (omega (arith, zero_long, g, based.0, comes.mark))
+          ∙ spliced_after m.store m.base mark a (omega (arith, shared.mem.long, based.1, comes.mark)) (omega (arith, g, based.0, comes.mark))
+
+      -- where a word lies that isn't the stack's
+      outside_is : (a : ℕ) (r : Root) → ctx.home.owner a ≡ Of r → (a < ctx.stack.base) ⊎ (ctx.stack.limit ≤ a)
+      outside_is a r is = ⊎_elim (λ (l : a < ctx.stack.base). inl l) (λ (g : ctx.stack.base ≤ a). ⊎_elim (λ (l : a < ctx.stack.limit). absurd (no_root r a g l is)) (λ (o : ctx.stack.limit ≤ a). inr o) (cases_lt a ctx.stack.limit)) (cases_lt a ctx.stack.base)
+
+      mem : Mem x s.cells entered.store
+      mem = record {
+        owned = λ r i l. owner_beside (h.base r + i) (outside_is (h.base r + i) r (shared.mem.owned r i l)) ∙ shared.mem.owned r i l;
+        inside = shared.mem.inside;
+        holds = λ r q j e.
+            let old = shared.mem.holds r q j e in
+            let a : ℕ = h.base r + offset (h.shape r) q in
+            let at = outside_is (h.base r + offset (h.shape r) q) r (scalar_owned h s.cells m.store r q j shared.mem e).0 in
+            record {
+              word = stays (h.base r + offset (h.shape r) q) (⊎_elim (λ (l : h.base r + offset (h.shape r) q < ctx.stack.base). inl l) (λ (g : ctx.stack.limit ≤ h.base r + offset (h.shape r) q). inr (omega (arith, g, comes.at, room))) at)
+                  ∙ old.word ∙ word_same h x (λ o. refl) (s.cells r q);
+              fits = old.fits;
             };
-            around = outside;
-            ahead = rows_ahead (at_home beginning x) k next.start [] c outside
-                (rows_kept k beginning x (base + 4) (omega (arith, comes.at), (all_above ending (stack_of m) g).1) Quiet next.start [] c outside
-                (record { shadow = λ a from below. absurd (omega (arith, from, below, comes.at)); base = λ r e. refl; shape = λ r e. refl; reference = λ o. refl })
-                next.then);
-          };
-        })
-        (record {
-          owner = λ a o. owner_beside a o;
-          shadow = λ a o. shadow_beside a (⊎_elim (λ (l : a < ctx.stack.base). inl l) (λ (g : ctx.stack.limit ≤ a). inr (omega (arith, g, comes.at, comes.room), omega (arith, g, comes.at, comes.room))) o);
-          base = λ r. refl;
-          shape = λ r. refl;
-          reference = λ o. refl;
-        })
-        (refl, refl)
-        (omega arith))
-        (omega arith)
+        kept = λ a own. kept a own (side ctx.stack.base (ctx.stack.base + b.layout.frame) a) (cases_lt a ctx.stack.limit);
+        long = long;
+      }
+        where
+          kept : (a : ℕ) → x.owner a ≡ Own → Side ctx.stack.base (ctx.stack.base + b.layout.frame) a → (a < ctx.stack.limit) ⊎ (ctx.stack.limit ≤ a) → get_or entered.store a 0 ≡ x.shadow a
+          kept a own (Before l) o = stays a (inl l) ∙ shared.mem.kept a (sym (owner_beside a (inl l)) ∙ own) ∙ sym (shadow_beside a (inl l))
+          kept a own (Between g l) o = sym (shadow_there a g l)
+          kept a own (Behind' g l) (inl o) = absurd (own_free ctx.stack.base (sym own ∙ owner_free a l o))
+          kept a own (Behind' g l) (inr o) = stays a (inr l) ∙ shared.mem.kept a (sym (owner_beside a (inr o)) ∙ own) ∙ sym (shadow_beside a (inr (g, l)))
+
+      enters : advanced (running begun s.world) ≡ running entered s.world
+      enters =
+          advances begun s.world (Went, entered) (
+          entering
+          ∙ no _ _ _ (le-ltb (m.base + b.layout.frame) (m.base + 4) (omega (arith, comes.mark)))
+          ∙ no _ _ _ (le-ltb m.limit (m.base + b.layout.frame) (omega (arith, shared.standing.limit_is, shared.standing.base_is, comes.at, room)))
+          )
+
+      pub goes_next : Goes ending s (Perform (End n) ∷ k) m (c + 32)
+      goes_next =
+          let g = shared.standing in
+          goes_after ending s (Perform (End n) ∷ k) m begun (c + 32) (c + 1) (leaves (omega (arith, comes.at, comes.mark, room)))
+          (goes_one_in ending s (Perform (End n) ∷ k) begun x (record (ctx.stack) { frame = b; callers = []; bodies = bs }) (c + 1) c (running entered s.world) enters
+          (record {
+            machine = entered;
+            is = refl;
+            met = record {
+              shared = record {
+                mem = mem;
+                program = record { table_is = shared.program.table_is; known = comes.known.known; running_is = refl; marked_is = shared.program.marked_is };
+                standing = record {
+                  frame_is = g.base_is ∙ sym comes.at;
+                  base_is = g.base_is;
+                  limit_is = g.limit_is;
+                  bodies_are = refl;
+                  known = comes.known;
+                  callers = tt;
+                  comes = g.comes.1;
+                  stands = (record { mark = comes.mark; below = omega (arith, comes.at, g.base_is); own = λ i l. owner_own (b.at + i) (omega (arith, comes.at)) (omega (arith, l, g.base_is)) }, comes.at);
+                  room = λ a from below. owner_free a (omega (arith, from, g.base_is)) below;
+                  low = omega (arith, g.base_is, comes.at, room);
+                  high = g.high;
+                };
+                activations_are = shared.activations_are;
+                parked_are = shared.parked_are;
+                kept_are = shared.kept_are;
+              };
+              around = outside;
+              ahead = rows_ahead (at_home beginning x) k next.start [] c outside
+                  (rows_kept k beginning x (base + 4) (omega (arith, comes.at), (all_above ending (stack_of m) g).1) Quiet next.start [] c outside
+                  (record { shadow = λ a from below. absurd (omega (arith, from, below, comes.at)); base = λ r e. refl; shape = λ r e. refl; reference = λ o. refl })
+                  next.then);
+            };
+          })
+          (record {
+            owner = λ a o. owner_beside a o;
+            shadow = λ a o. shadow_beside a (⊎_elim (λ (l : a < ctx.stack.base). inl l) (λ (g : ctx.stack.limit ≤ a). inr (omega (arith, g, comes.at, room), omega (arith, g, comes.at, room))) o);
+            base = λ r. refl;
+            shape = λ r. refl;
+            reference = λ o. refl;
+          })
+          (refl, refl)
+          (λ e. and_later (nat_le (b.at + b.layout.frame) ctx.stack.limit) (fits ctx.stack.limit bs) e)
+          (omega arith))
+          (omega arith)

@@ -133,7 +133,7 @@ module _ (ctx : Setting) where
             (tests true row.part.did.end row.part.did.here.start (moved row.part.at row.part.did.here.jump) row.part.did.within here)
             (body_rows body (Perform (Do (While x body)) ∷ k) row.part.did.here.start row.part.did.here.end (suc c) a row.part.did.here.here (instr_within own.code row.part.did.here.end (Jmp row.part.from) row.part.did.end row.part.did.here.back)
             (rows_jump ctx (Perform (Do (While x body)) ∷ k) Quiet row.part.did.here.end row.part.from row.part.did.end [] c a row.part.did.here.back
-            (statement_within l own.code (a.loops) a.exit (While x body) row.part.from row.part.did.end row.part.did.here)
+            (statement_within l own.code (a.loops) a.exit (While x body) row.part.from row.part.did.end row.part.did.here row.part.did.within)
             (at_once ctx _ Quiet row.part.from [] c a
             (record { part = record { empty = refl; end = row.part.did.end; here = row.part.did.here; within = row.part.did.within }; then = row.then }))))
             (omega arith)
@@ -170,7 +170,7 @@ module _ (ctx : Setting) where
     again_goes body x v kind fits below is row = by_truth (Again body x) v kind fits below is row.part.same row.part.did.empty by
       where
         top_within : row.part.from < length own.code
-        top_within = statement_within l own.code (a.loops) a.exit (Repeat body x) row.part.from row.part.did.end row.part.did.here
+        top_within = statement_within l own.code (a.loops) a.exit (Repeat body x) row.part.from row.part.did.end row.part.did.here row.part.did.within
 
         by : (b : Bool) → m.stack ≡ truth_number b ∷ [] → Claim (Value (Scalars (Truth b)) ∷ Fill (Again body x) ∷ k)
         by true here =
@@ -220,7 +220,7 @@ module _ (ctx : Setting) where
     looping_goes body row =
         goes_to s m shared (Perform (Looping body) ∷ k) (doing body (Perform (Looping body) ∷ k)) row.top (c + 32) c (inside_loop row.end row.outer) refl
         (jumps_to ctx m s.world shared.program row.top row.end row.back
-        (statement_within l own.code (row.outer.loops) row.outer.exit (Loop body) row.top row.end row.again)
+        (statement_within l own.code (row.outer.loops) row.outer.exit (Loop body) row.top row.end row.again row.within)
         ∙ ap (λ (x : List ℕ). running (going m row.top x) s.world) row.empty)
         (body_rows body (Perform (Looping body) ∷ k) row.top row.again.end c (inside_loop row.end row.outer) row.again.here
         (instr_within own.code row.again.end (Jmp row.top) row.end row.again.back)

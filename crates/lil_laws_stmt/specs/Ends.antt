@@ -1,5 +1,6 @@
 -- The ends of procedures and bodies, RETURN and HALT.
-use Rattle.std.proofs.Common.{◌≡◌, ℕ, ◌+◌, ◌≤◌, List, [], ◌∷◌, map, ⊎_elim, refl, sym, ap, ◌∙◌, subst, arith, eq-eqb}
+use Rattle.std.proofs.Common.{◌≡◌, ℕ, ◌+◌, ◌<◌, ◌≤◌, List, [], ◌∷◌, map, ⊎_elim, refl, sym, ap, ◌∙◌, subst, arith, eq-eqb}
+use Rattle.std.proofs.lemmas.Bool.{cases_lt}
 use Rattle.lil_base.specs.declared.fault.TrapKind.TheVariants as trap
 use Rattle.lil_resolved.specs.Resolved.{Variable, Halt, Return}
 use Rattle.lil_meaning.specs.Items.{Do, Turns, End, Item, Perform, Source}
@@ -17,7 +18,7 @@ use Rattle.lil_match.specs.Closing.{closed}
 use Rattle.lil_match.specs.Steps.{advances, at_step, at_once, lands_on, goes_none, goes_one}
 use Rattle.lil_laws_stmt.specs.Stores.{trap_goes}
 use Rattle.lil_laws_stmt.specs.Returns.{goes_back}
-use Rattle.lil_laws_stmt.specs.Bodies.{goes_next}
+use Rattle.lil_laws_stmt.specs.Bodies.{goes_next, goes_short}
 
 returned_less : (k : List Item) → stutter (returned k) ≤ stutter k
 returned_less [] = omega arith
@@ -39,7 +40,10 @@ module _ (ctx : Setting) where
       by : (gs bs : List Frame) → Shared (with_frames ctx ctx.stack.frame gs bs) s m → Behind (with_frames ctx ctx.stack.frame gs bs) k (RowsOf k) c gs bs
           → Goes (with_frames ctx ctx.stack.frame gs bs) s (Perform (End n) ∷ k) m (c + 32)
       by (g ∷ gs) bs there back = goes_back ctx ctx.stack.frame g gs bs s m there n k c row.end row.leave row.empty back
-      by [] (b ∷ bs) there next = goes_next ctx ctx.stack.frame b bs s m there n k c row.end row.leave next
+      by [] (b ∷ bs) there next =
+          ⊎_elim (λ (less : ctx.stack.limit < b.at + b.layout.frame). goes_short ctx ctx.stack.frame b bs s m there n k c row.end row.leave next less)
+          (λ (room : b.at + b.layout.frame ≤ ctx.stack.limit). goes_next ctx ctx.stack.frame b bs s m there n k c row.end row.leave next room)
+          (cases_lt ctx.stack.limit (b.at + b.layout.frame))
       by [] [] there last =
           goes_none (with_frames ctx ctx.stack.frame [] []) s (Perform (End n) ∷ k) m (c + 32) c
           (lands_on (with_frames ctx ctx.stack.frame [] []) s m there k m.place m.stack c a

@@ -141,6 +141,7 @@ module _ (ctx : Setting) (f g : Frame) (gs bs : List Frame) where
           reference = λ o. refl;
         })
         (refl, refl)
+        (λ e. e)
         (omega arith)
       where
         room : (a : ℕ) → f.at ≤ a → a < ctx.stack.limit → Side f.at m.top a → x.owner a ≡ Free ctx.stack.base

@@ -1,7 +1,8 @@
 -- Matched states: the code at hand does the items that are left, the store has the cells, and frames stand one over another. One step of
 -- the source leads from one to the next.
-use Rattle.std.proofs.Common.{◌≡◌, ℕ, ◌+◌, ◌<◌, ◌≤◌, ◌⊎◌, Bool, true, Some, None, List, [], ◌∷◌, map}
-use Rattle.std.specs.Prelude.{slice_get}
+use Rattle.std.proofs.Common.{◌≡◌, ℕ, ◌+◌, ◌<◌, ◌≤◌, ◌⊎◌, Bool, true, false, Some, None, List, [], ◌∷◌, map}
+use Rattle.std.specs.Prelude.{slice_get, nat_le, ◌&&◌}
+use Rattle.lil_base.specs.declared.fault.LimitKind.{LimitKind}
 use Rattle.lil_base.specs.declared.fault.TrapAt.{TrapAt}
 use Rattle.lil_resolved.specs.Kinds.{Kind}
 use Rattle.lil_resolved.specs.Resolved.{Resolved}
@@ -11,7 +12,7 @@ use Rattle.lil_meaning.specs.World.{World}
 use Rattle.lil_meaning.specs.Items.{Item, Activation, Parked, Phase, Going, Closing, Ended, Trapped, Source}
 use Rattle.lil_meaning.specs.Steps.{next, owner_of, name_of}
 use Rattle.lil_mcode.specs.State.{Module, StackRegisters, Kept, State, stack_of, module_at}
-use Rattle.lil_match.specs.Running.{Finish, Running, Finished, TrappedBy, Run, mrun, running}
+use Rattle.lil_match.specs.Running.{Finish, Running, Finished, TrappedBy, Limited, Run, mrun, running}
 use Rattle.lil_match.specs.Homes.{Owner, Own, Free, Home, Mem}
 use Rattle.lil_match.specs.Stutter.{stutter}
 use Rattle.lil_match.specs.Waits.{Frame, Stack, Setting, Quiet, Around, Ahead}
@@ -32,6 +33,11 @@ abbrev pub Stands : (ℕ → Owner) → ℕ → ℕ → Frame → List Frame →
 Stands owner base top f [] = OwnWords owner f top × (f.at ≡ base)
 Stands owner base top f (g ∷ gs) = OwnWords owner f top × Stands owner base f.at g gs
 
+-- whether bodies that are to run have room below a limit
+abbrev pub fits : ℕ → List Frame → Bool
+fits limit [] = true
+fits limit (b ∷ bs) = nat_le (b.at + b.layout.frame) limit && fits limit bs
+
 abbrev pub number_of : Frame → ℕ
 number_of f = f.number
 
@@ -48,16 +54,15 @@ module _ (modules : List Resolved) (table : List Module) (activations : List Act
   EachKnown [] = Unit {0}
   EachKnown (f ∷ fs) = IsKnown f × EachKnown fs
 
-  -- a body that is to run stands at the stack's base, and has room
-  pub record Comes (low limit : ℕ) (b : Frame) : Type 0 where
+  -- a body that is to run stands at the stack's base
+  pub record Comes (low : ℕ) (b : Frame) : Type 0 where
     pub known : IsKnown b
     pub at : b.at ≡ low
     pub mark : 4 ≤ b.layout.frame
-    pub room : b.at + b.layout.frame ≤ limit
 
-  abbrev pub EachComes : ℕ → ℕ → List Frame → Type 0
-  EachComes low limit [] = Unit {0}
-  EachComes low limit (b ∷ bs) = Comes low limit b × EachComes low limit bs
+  abbrev pub EachComes : ℕ → List Frame → Type 0
+  EachComes low [] = Unit {0}
+  EachComes low (b ∷ bs) = Comes low b × EachComes low bs
 
 module _ (ctx : Setting) where
   open ctx use {modules, table, activations, home as h, stack as st}
@@ -70,7 +75,7 @@ module _ (ctx : Setting) where
     pub bodies_are : r.bodies ≡ map number_of st.bodies
     pub known : IsKnown modules table activations h.base h.shape st.frame
     pub callers : EachKnown modules table activations h.base h.shape st.callers
-    pub comes : EachComes modules table activations h.base h.shape st.base st.limit st.bodies
+    pub comes : EachComes modules table activations h.base h.shape st.base st.bodies
     pub stands : Stands h.owner st.base r.top st.frame st.callers
     pub room : (a : ℕ) → r.top ≤ a → a < st.limit → h.owner a ≡ Free st.base
     pub low : r.top ≤ st.limit
@@ -126,6 +131,13 @@ module _ (ctx : Setting) where
   Lands Ended s run c = IsOver Finished s run
   Lands (Trapped t) s run c = ⊥
 
+-- The machine met a limit, with the same world: a body that is to run has no room.
+pub record IsFull (limit : ℕ) (bodies : List Frame) (w : World) (run : Run) : Type 0 where
+  pub kind : LimitKind
+  pub finish : run.finish ≡ Limited kind
+  pub world : run.world ≡ w
+  pub short : fits limit bodies ≡ false
+
 -- what a step of the stack between two words may change: the words between them and their owners
 pub record Touches (h h' : Home) (low high : ℕ) : Type 0 where
   pub owner : (a : ℕ) → (a < low) ⊎ (high ≤ a) → h'.owner a ≡ h.owner a
@@ -134,7 +146,7 @@ pub record Touches (h h' : Home) (low high : ℕ) : Type 0 where
   pub shape : (r : Root) → h'.shape r ≡ h.shape r
   pub reference : (o : ℕ) → h'.reference o ≡ h.reference o
 
--- One step of the source, in so many steps of the machine, with so many jumps owed then, both within a budget. The world changes in
+-- One step of the source, in so many steps of the machine, with so many jumps owed then, both within a budget, or else a limit. The world changes in
 -- the last step alone; the home changes between the stack's base and its limit alone.
 pub record Goes (ctx : Setting) (s : Source) (k : List Item) (m : State) (budget : ℕ) : Type 0 where
   pub steps : ℕ
@@ -143,7 +155,9 @@ pub record Goes (ctx : Setting) (s : Source) (k : List Item) (m : State) (budget
   pub stack : Stack
   pub quiet : (i : ℕ) → i < steps → IsStill s.world (mrun i (running m s.world))
   pub lands : Lands (record ctx { home = home; stack = stack }) (next ctx.modules (record s { items = k; phase = Going })).phase (next ctx.modules (record s { items = k; phase = Going })) (mrun steps (running m s.world)) later
+      ⊎ IsFull ctx.stack.limit ctx.stack.bodies s.world (mrun steps (running m s.world))
   pub touch : Touches ctx.home home ctx.stack.base ctx.stack.limit
   pub same : (stack.base ≡ ctx.stack.base) × (stack.limit ≡ ctx.stack.limit)
+  pub fewer : fits stack.limit stack.bodies ≡ false → fits ctx.stack.limit ctx.stack.bodies ≡ false
   pub cost : steps + later ≤ budget
   pub falls : steps ≡ 0 → stutter (next ctx.modules (record s { items = k; phase = Going })).items < stutter k

@@ -293,13 +293,13 @@ stands_kept owner new base top f (g ∷ gs) same s =
       stands_kept owner new base f.at g gs (λ a from below. same a from (omega (arith, below, w.below))) s.1,
     )
 
-comes_above : (modules : List Resolved) (table : List Module) (activations : List Activation) (base : Root → ℕ) (shape : Root → Shape) (low limit : ℕ) (bs : List Frame)
-    → EachComes modules table activations base shape low limit bs → EachAbove (low + 4) bs
-comes_above modules table activations base shape low limit [] c = tt
-comes_above modules table activations base shape low limit (b ∷ bs) c = (omega (arith, c.0.at), comes_above modules table activations base shape low limit bs c.1)
+comes_above : (modules : List Resolved) (table : List Module) (activations : List Activation) (base : Root → ℕ) (shape : Root → Shape) (low : ℕ) (bs : List Frame)
+    → EachComes modules table activations base shape low bs → EachAbove (low + 4) bs
+comes_above modules table activations base shape low [] c = tt
+comes_above modules table activations base shape low (b ∷ bs) c = (omega (arith, c.0.at), comes_above modules table activations base shape low bs c.1)
 
 pub all_above : (ctx : Setting) (r : StackRegisters) → Standing ctx r → EachAbove (ctx.stack.base + 4) ctx.stack.bodies
-all_above ctx r s = comes_above ctx.modules ctx.table ctx.activations ctx.home.base ctx.home.shape ctx.stack.base ctx.stack.limit ctx.stack.bodies s.comes
+all_above ctx r s = comes_above ctx.modules ctx.table ctx.activations ctx.home.base ctx.home.shape ctx.stack.base ctx.stack.bodies s.comes
 
 pub stack_above : (ctx : Setting) (r : StackRegisters) → Standing ctx r → (ctx.stack.base ≤ ctx.stack.frame.at) × EachAbove (ctx.stack.base + 4) (frames_of ctx.stack)
 stack_above ctx r s = stands_above ctx.home.owner ctx.stack.base r.top ctx.stack.frame ctx.stack.callers ctx.stack.bodies s.stands (all_above ctx r s)

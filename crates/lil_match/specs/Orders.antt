@@ -1,9 +1,10 @@
 -- Where parts stand: behind their start, and within the code.
 use Rattle.std.proofs.Common.{ℕ, ◌<◌, ◌≤◌, List, [], ◌∷◌, length, Option, Some, arith}
-use Rattle.lil_resolved.specs.Resolved.{Variable, Expression, Constant, Taken, One, Two, Short, Apply, Argument, Statement, Assign, Change, Request, If, Case, While, Repeat, Loop, Exit, Halt, Return, For, Statements, Empty, Then, kind_of}
+use Rattle.lil_resolved.specs.Resolved.{Variable, Expression, Constant, Taken, One, Two, Short, Apply, Argument, Statement, Statements, kind_of}
 use Rattle.lil_asm.specs.declared.instr.Instr.{Instr}
-use Rattle.lil_asm.specs.declared.instr.Instr.TheVariants.{Jmp, Trp, Rtn, Svc}
+use Rattle.lil_asm.specs.declared.instr.Instr.TheVariants.{Jmp}
 use Rattle.lil_asm.specs.Decoding.{decoded_stands}
+use Rattle.lil_table.specs.Lengths.{statement_long, body_long}
 use Rattle.lil_table.specs.Rows.{Layout, IsAt, InstrsAt, one_code, two_code, function_code, ExpressionAt, ArgumentsAt, StatementAt, BodyAt, short_code}
 
 pub instr_order : (code : List ℕ) (p : ℕ) (i : Instr) (q : ℕ) → IsAt code p i q → (p < q) × (q ≤ length code)
@@ -67,21 +68,8 @@ arguments_within l code n [] p q h inside = omega (arith, h, inside)
 arguments_within l code n (a ∷ given) p q h inside = expression_within l code a.value p h.value.middle h.value.value.value
 
 -- so do those where a statement and statements begin
-mutual
-  pub statement_within : (l : Layout) (code : List ℕ) (n : ℕ) (exit : Option ℕ) (s : Statement) (p q : ℕ) → StatementAt l code n exit s p q → p < length code
-  statement_within l code n exit (Assign (Variable x k) e) p q h = expression_within l code e p h.value.middle h.value.value.value
-  statement_within l code n exit (Change down (Variable x k) e) p q h = expression_within l code e p h.middle h.value.value
-  statement_within l code n exit (Request r given) p q h = arguments_within l code 0 given p h.middle h.arguments (instr_within code h.middle (Svc r) q h.by)
-  statement_within l code n exit (If c a b) p q h = expression_within l code c p h.middle h.condition.value
-  statement_within l code n exit (Case e arms) p q h = expression_within l code e p h.middle h.value.value
-  statement_within l code n exit (While c body) p q h = expression_within l code c p h.middle h.condition.value
-  statement_within l code n exit (Repeat body c) p q h = body_within l code n exit body p h.end h.here (expression_within l code c h.end h.middle h.condition.value)
-  statement_within l code n exit (Loop body) p q h = body_within l code n (Some (l.target q)) body p h.end h.here (instr_within code h.end (Jmp (l.target p)) q h.back)
-  statement_within l code n exit Exit p q h = instr_within code p (Jmp h.to) q h.jump
-  statement_within l code n exit Halt p q h = instr_within code p (Trp 9) q h
-  statement_within l code n exit Return p q h = instr_within code p Rtn q h
-  statement_within l code n exit (For (Variable x k) a b step body) p q h = expression_within l code a p h.middle h.first.value
+pub statement_within : (l : Layout) (code : List ℕ) (n : ℕ) (exit : Option ℕ) (s : Statement) (p q : ℕ) → StatementAt l code n exit s p q → q < length code → p < length code
+statement_within l code n exit s p q h inside = omega (arith, statement_long l code n exit s p q h, inside)
 
-  pub body_within : (l : Layout) (code : List ℕ) (n : ℕ) (exit : Option ℕ) (b : Statements) (p q : ℕ) → BodyAt l code n exit b p q → q < length code → p < length code
-  body_within l code n exit Empty p q h inside = omega (arith, h, inside)
-  body_within l code n exit (Then s ss) p q h inside = statement_within l code n exit s p h.middle h.here
+pub body_within : (l : Layout) (code : List ℕ) (n : ℕ) (exit : Option ℕ) (b : Statements) (p q : ℕ) → BodyAt l code n exit b p q → q < length code → p < length code
+body_within l code n exit b p q h inside = omega (arith, body_long l code n exit b p q h, inside)

@@ -43,9 +43,9 @@ module _ (modules : List Resolved) (table : List Module) (activations : List Act
   each_known [] e = tt
   each_known (f ∷ fs) e = (known_kept f e.0, each_known fs e.1)
 
-  pub each_comes : (low limit : ℕ) (fs : List Frame) → EachComes modules table activations h.base h.shape low limit fs → EachComes modules table activations x.base x.shape low limit fs
-  each_comes low limit [] e = tt
-  each_comes low limit (f ∷ fs) e = (record { known = known_kept f e.0.known; at = e.0.at; mark = e.0.mark; room = e.0.room }, each_comes low limit fs e.1)
+  pub each_comes : (low : ℕ) (fs : List Frame) → EachComes modules table activations h.base h.shape low fs → EachComes modules table activations x.base x.shape low fs
+  each_comes low [] e = tt
+  each_comes low (f ∷ fs) e = (record { known = known_kept f e.0.known; at = e.0.at; mark = e.0.mark }, each_comes low fs e.1)
 
 -- THE law of what rests: a step of the running stack keeps the others
 pub rests_kept : (ctx : Setting) (x : Home) (y : Stack) → Touches ctx.home x ctx.stack.base ctx.stack.limit → (y.base ≡ ctx.stack.base) × (y.limit ≡ ctx.stack.limit) → (p : Parked) (r : Kept) → Rests ctx p r
@@ -59,7 +59,7 @@ rests_kept ctx x y touch same p r rests = record {
     bodies_are = g.bodies_are;
     known = known_kept ctx.modules ctx.table ctx.activations ctx.home x touch.base touch.shape d.frame g.known;
     callers = each_known ctx.modules ctx.table ctx.activations ctx.home x touch.base touch.shape d.callers g.callers;
-    comes = each_comes ctx.modules ctx.table ctx.activations ctx.home x touch.base touch.shape d.base d.limit d.bodies g.comes;
+    comes = each_comes ctx.modules ctx.table ctx.activations ctx.home x touch.base touch.shape d.base d.bodies g.comes;
     stands = stands_kept ctx.home.owner x.owner d.base r.stack.top d.frame d.callers (λ a from below. touch.owner a (far a from (omega (arith, below, g.low)))) g.stands;
     room = λ a from below. touch.owner a (far a (omega (arith, from, high.0, words.below)) below) ∙ g.room a from below;
     low = g.low;

@@ -1,6 +1,7 @@
 -- One step of the source from steps of the machine.
-use Rattle.std.proofs.Common.{◌≡◌, ℕ, zero, suc, ◌+◌, ◌<◌, ◌≤◌, List, [], ◌∷◌, length, refl, sym, ap, ◌∙◌, subst, arith}
+use Rattle.std.proofs.Common.{◌≡◌, ℕ, zero, suc, ◌+◌, ◌<◌, ◌≤◌, List, [], ◌∷◌, length, inl, inr, ⊎_elim, false, refl, sym, ap, ◌∙◌, subst, arith}
 use Rattle.std.proofs.lemmas.Bool.{lt-ltb}
+use Rattle.lil_base.specs.declared.fault.LimitKind.{LimitKind}
 use Rattle.lil_base.specs.declared.fault.LimitKind.TheVariants as limit
 use Rattle.lil_resolved.specs.Resolved.{Expression, kind_of}
 use Rattle.lil_resolved.specs.Depth.{depth}
@@ -18,7 +19,7 @@ use Rattle.lil_table.specs.Rows.{IsAt, ExpressionAt}
 use Rattle.lil_match.specs.Running.{Run, mrun, running, react, advanced}
 use Rattle.lil_match.specs.Parts.{yes}
 use Rattle.lil_match.specs.Homes.{Home, Mem}
-use Rattle.lil_match.specs.Goes.{IsProgram, Shared, GoesOn, Lands, IsStill, Touches, Goes}
+use Rattle.lil_match.specs.Goes.{IsProgram, Shared, GoesOn, Lands, IsStill, Touches, fits, IsFull, Goes}
 use Rattle.lil_match.specs.Stutter.{stutter}
 use Rattle.lil_match.specs.Waits.{Stack, Setting, frame_of, laid_out, at_home, Mode, Quiet, ValueOf, Around, Reach, Jumps, AfterJumps, Rows, Ahead, Waiting}
 
@@ -101,7 +102,8 @@ module _ (ctx : Setting) where
     quiet = λ i less. absurd (omega arith);
     home = h;
     stack = st;
-    lands = lands;
+    lands = inl lands;
+    fewer = λ e. e;
     touch = untouched h st.base st.limit;
     same = (refl, refl);
     cost = omega (arith, less);
@@ -123,16 +125,17 @@ module _ (ctx : Setting) where
 
   -- one step, to another home and stack
   pub goes_one_in : (s : Source) (k : List Item) (m : State) (x : Home) (y : Stack) (budget c : ℕ) (run : Run) → advanced (running m s.world) ≡ run → LandsIn x y s k run c
-      → Touches h x st.base st.limit → (y.base ≡ st.base) × (y.limit ≡ st.limit) → c + 1 ≤ budget → Goes ctx s k m budget
-  goes_one_in s k m x y budget c run e lands touch same less = record {
+      → Touches h x st.base st.limit → (y.base ≡ st.base) × (y.limit ≡ st.limit) → (fits y.limit y.bodies ≡ false → fits st.limit st.bodies ≡ false) → c + 1 ≤ budget → Goes ctx s k m budget
+  goes_one_in s k m x y budget c run e lands touch same fewer less = record {
     steps = 1;
     later = c;
     home = x;
     stack = y;
     quiet = quiet;
-    lands = subst (λ (r : Run). LandsIn x y s k r c) (sym e) lands;
+    lands = inl (subst (λ (r : Run). LandsIn x y s k r c) (sym e) lands);
     touch = touch;
     same = same;
+    fewer = fewer;
     cost = omega (arith, less);
     falls = λ e. absurd (omega arith);
   }
@@ -144,7 +147,27 @@ module _ (ctx : Setting) where
   -- one step
   pub goes_one : (s : Source) (k : List Item) (m : State) (budget c : ℕ) (run : Run) → advanced (running m s.world) ≡ run → LandsAt s k run c → c + 1 ≤ budget
       → Goes ctx s k m budget
-  goes_one s k m budget c run e lands less = goes_one_in s k m h st budget c run e lands (untouched h st.base st.limit) (refl, refl) less
+  goes_one s k m budget c run e lands less = goes_one_in s k m h st budget c run e lands (untouched h st.base st.limit) (refl, refl) (λ e. e) less
+
+  -- one step to a limit
+  pub goes_full : (s : Source) (k : List Item) (m : State) (budget : ℕ) (kind : LimitKind) → mstep m ≡ (Limit kind, m) → fits st.limit st.bodies ≡ false → 1 ≤ budget → Goes ctx s k m budget
+  goes_full s k m budget kind e short less = record {
+    steps = 1;
+    later = 0;
+    home = h;
+    stack = st;
+    quiet = quiet;
+    lands = inr (subst (λ (r : Run). IsFull st.limit st.bodies s.world r) (sym (advances m s.world (Limit kind, m) e)) (record { kind = kind; finish = refl; world = refl; short = short }));
+    touch = untouched h st.base st.limit;
+    same = (refl, refl);
+    fewer = λ e. e;
+    cost = omega (arith, less);
+    falls = λ e. absurd (omega arith);
+  }
+    where
+      quiet : (i : ℕ) → i < 1 → IsStill s.world (mrun i (running m s.world))
+      quiet zero less = record { world = refl; finish = refl }
+      quiet (suc i) less = absurd (omega arith)
 
   -- one step that shows nothing, and then what goes from there, in another home
   pub goes_after_in : (s : Source) (k : List Item) (m n : State) (x : Home) (budget rest : ℕ) → advanced (running m s.world) ≡ running n s.world
@@ -155,7 +178,9 @@ module _ (ctx : Setting) where
     quiet = quiet;
     home = g.home;
     stack = g.stack;
-    lands = subst (λ (r : Run). LandsIn g.home g.stack s k (mrun g.steps r) g.later) (sym e) g.lands;
+    lands = ⊎_elim (λ l. inl (subst (λ (r : Run). LandsIn g.home g.stack s k (mrun g.steps r) g.later) (sym e) l))
+        (λ f. inr (subst (λ (r : Run). IsFull st.limit st.bodies s.world (mrun g.steps r)) (sym e) f)) g.lands;
+    fewer = g.fewer;
     touch = touched h x g.home st.base st.limit first g.touch;
     same = g.same;
     cost = omega (arith, less, g.cost);
@@ -173,7 +198,7 @@ module _ (ctx : Setting) where
   -- within a budget, and so within a larger one
   pub goes_more : (s : Source) (k : List Item) (m : State) (less more : ℕ) → Goes ctx s k m less → less ≤ more → Goes ctx s k m more
   goes_more s k m less more g rises =
-      record { steps = g.steps; later = g.later; home = g.home; stack = g.stack; quiet = g.quiet; lands = g.lands; touch = g.touch; same = g.same; cost = omega (arith, g.cost, rises); falls = g.falls }
+      record { steps = g.steps; later = g.later; home = g.home; stack = g.stack; quiet = g.quiet; lands = g.lands; touch = g.touch; same = g.same; fewer = g.fewer; cost = omega (arith, g.cost, rises); falls = g.falls }
 
   -- a jump of the machine
   pub jumps_to : (m : State) (w : World) → IsProgram ctx m.modules m.running m.marked → (to gap : ℕ) → IsAt own.code m.place (Jmp to) gap → to < length own.code

@@ -3,6 +3,7 @@ use Rattle.std.proofs.Common.{◌≡◌, ◌≢◌, ℕ, zero, suc, true, Option
 use Rattle.std.specs.Ordering.{nat_cmp}
 use Rattle.std.specs.Cmp.Lexicographic.{slice_cmp}
 use Rattle.std.specs.FinMap.{from_entries}
+use Rattle.std.proofs.lemmas.Bool.{true≢false}
 use Rattle.lil_base.specs.declared.fault.TrapKind.{TrapKind}
 use Rattle.lil_resolved.specs.Resolved.{Resolved}
 use Rattle.lil_meaning.specs.World.{World}
@@ -63,11 +64,11 @@ module _ (p : Resolved) (code : List ℕ) (small : IsSmall p) (t : Translates p 
     -- a limit and bad code never come
     pub possible : (e : Ending) → ((w : World) → w.screen ≡ [] → HasRun start steps (finish_of e) old new w) → ((k : TrapKind) → e ≡ ending.Trapped k → IsAtBody machine (own p code small t)) → IsPossible machine e
     possible (ending.Trapped k) ran at = (own p code small t, at k refl)
-    possible (ending.Limited k) ran at = absurd ((correct p code small t some_world steps).agrees.never_limited k (sym (ran some_world some_blank).finish))
+    possible (ending.Limited k) ran at = absurd (true≢false ((correct p code small t some_world steps).agrees.limits k (sym (ran some_world some_blank).finish)))
     possible ending.Broken ran at = absurd ((correct p code small t some_world steps).agrees.never_broken (sym (ran some_world some_blank).finish))
     possible _ ran at = tt
 
-    allowed : (e : Ending) (s : Status) (x : Source) (run : Run) → EndingAnswers machine e s → ((k : TrapKind) → e ≡ ending.Trapped k → IsAtBody machine (own p code small t)) → Agrees (own p code small t ∷ []) x run → finish_of e ≡ run.finish → Allowed s x.phase
+    allowed : (e : Ending) (s : Status) (x : Source) (run : Run) → EndingAnswers machine e s → ((k : TrapKind) → e ≡ ending.Trapped k → IsAtBody machine (own p code small t)) → Agrees (own p code small t ∷ []) true x run → finish_of e ≡ run.finish → Allowed s x.phase
     allowed ending.Done s x run is at agrees f = subst (λ (y : Status). Allowed y x.phase) (sym is) (agrees.ends (sym f))
     allowed (ending.Trapped k) s x run (inl memory) at agrees f = subst (λ (y : Status). Allowed y x.phase) (sym memory) tt
     allowed (ending.Trapped k) s x run (inr is) at agrees f =
@@ -82,7 +83,7 @@ module _ (p : Resolved) (code : List ℕ) (small : IsSmall p) (t : Translates p 
     no_fault ending.Broken s is at f = is
     no_fault _ s is at f = let e = sym is ∙ f in cc
 
-    stops : (e : Ending) (s : Status) (x : Source) (run : Run) → EndingAnswers machine e s → ((k : TrapKind) → e ≡ ending.Trapped k → IsAtBody machine (own p code small t)) → Agrees (own p code small t ∷ []) x run → finish_of e ≡ run.finish → s ≡ a.Memory → IsOver x.phase
+    stops : (e : Ending) (s : Status) (x : Source) (run : Run) → EndingAnswers machine e s → ((k : TrapKind) → e ≡ ending.Trapped k → IsAtBody machine (own p code small t)) → Agrees (own p code small t ∷ []) true x run → finish_of e ≡ run.finish → s ≡ a.Memory → IsOver x.phase
     stops ending.Done s x run is at agrees f memory = absurd (let e = sym is ∙ memory in cc)
     stops (ending.Trapped k) s x run is at agrees f memory = subst IsOver (sym (alone_traps p code small t k x.phase (agrees.traps k (sym f)))) tt
     stops ending.Spent s x run is at agrees f memory = absurd (let e = sym is ∙ memory in cc)

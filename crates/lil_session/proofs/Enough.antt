@@ -34,4 +34,4 @@ module _ (p : Resolved) (code : List ℕ) (small : IsSmall p) (t : Translates p 
   enough w steps runs m le =
       let c = correct p code small t w steps in
       let here = ap (λ (s : State). (mrun steps (running s w)).finish) (sym (loaded_state p code small t)) ∙ runs in
-      going_until (p ∷ []) m c.n (begun (p ∷ []) w) (omega (arith, le, c.far)) (c.agrees.runs here)
+      going_until (p ∷ []) m c.n (begun (p ∷ []) w) (omega (arith, le, c.far (λ k e. let r = here in cc))) (c.agrees.runs here)
