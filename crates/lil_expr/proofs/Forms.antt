@@ -23,8 +23,8 @@ pub constant_emitted : (k : Kind) (v : Scalar) (w : ℕ) (a b : Draft) → (with
 constant_emitted k v w a b is =
     emits_as a b _ (Value (Constant k v)) (λ x load sound. record { fits = sound; load = subst (λ (w : ℕ). IsAt x.code (length a.bytes) (Liw w) (length b.bytes)) (is sound) load })
 
-pub variable_emitted : (n : ℕ) (k : Kind) (a b : Draft) → Emits a b (Doing (λ word. Lgw n)) → Emits a b (Value (Taken (Variable n k)))
-variable_emitted n k a b = emits_as a b _ (Value (Taken (Variable n k))) (λ x load sound. record { known = known_row x.layout n k x.plain sound; load = load })
+pub variable_emitted : (n : ℕ) (k : Kind) (a b : Draft) → Emits a b (Doing (λ word. Lgw n)) → Emits a b (Value (Taken (Variable n) k))
+variable_emitted n k a b = emits_as a b _ (Value (Taken (Variable n) k)) (λ x load sound. record { known = known_row x.layout n k x.plain sound; load = load })
 
 pub one_emitted : (o : OneOp) (k : Kind) (e : Expression) (a b c : Draft) → Emits a b (Value e) → Emits b c (DoingAll (one_code o k)) → Emits a c (Value (One o (kind_of e) e))
 one_emitted o k e a b c value by =

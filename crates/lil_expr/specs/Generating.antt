@@ -13,7 +13,7 @@ use Rattle.lil_labels.specs.Drafts.{Meaning}
 
 -- a sound expression has its code
 abbrev pub Value : Expression → Meaning
-Value e x p q = IsSoundExpression x.layout.kinds e → ExpressionAt x.layout x.code e p q
+Value e x p q = IsSoundExpression x.layout.shapes e → ExpressionAt x.layout x.code e p q
 
 -- behind the code of any value, it makes it that of the operation's value, or of the last
 abbrev pub Operating : ROperation → Meaning

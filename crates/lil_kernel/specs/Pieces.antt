@@ -3,7 +3,7 @@ use Rattle.std.proofs.Common.{◌≡◌, ◌≢◌, ℕ, zero, suc, ◌%◌, ◌
 use Rattle.std.specs.Prelude.{ℤ, pos, negsuc, ◌-◌, length, min}
 use Rattle.lil_base.specs.Words.{Integer, number_of}
 use Rattle.lil_asm.specs.Requests.{request_words}
-use Rattle.lil_meaning.specs.World.{digit, digits, natural, signed, filled, byte_of, first_word, second_word, piece_of}
+use Rattle.lil_meaning.specs.World.{Given, digit, digits, natural, signed, filled, byte_of, first_word, second_word, piece_of}
 
 ends_in : (xs : List ℕ) (x : ℕ) → xs ++ x ∷ [] ≢ []
 ends_in [] x e = cc
@@ -41,7 +41,7 @@ by_tests x y n z c false false false false false true is e = some_filled y (natu
 by_tests x y n z c false false false false false false is e = cc
 
 -- the piece of a request isn't empty
-pub some_piece : (r n : ℕ) (words : List ℕ) → request_words r ≡ Some n → piece_of r words ≢ []
-some_piece r n words is =
-    by_tests (first_word words) (second_word words) n (number_of Integer (first_word words)) (byte_of (first_word words % 256))
+pub some_piece : (r n : ℕ) (given : List Given) → request_words r ≡ Some n → piece_of r given ≢ []
+some_piece r n given is =
+    by_tests (first_word given) (second_word given) n (number_of Integer (first_word given)) (byte_of (first_word given % 256))
     (r == 2) (r == 4) (r == 5) (r == 6) (r == 7) (r == 8) is

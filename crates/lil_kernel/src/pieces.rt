@@ -1,7 +1,7 @@
 //! What each request shows.
 
 ghost use Rattle.std.specs.Prelude.{◌≡◌, ◌≤◌, ◌%◌, [], ◌∷◌, length};
-ghost use Rattle.lil_meaning.specs.World.{byte_of, piece_of, filled as filled_text};
+ghost use Rattle.lil_meaning.specs.World.{byte_of, shown_by, filled as filled_text};
 
 use crate::numbers::{natural, signed};
 use arrayvec::ArrayVec;
@@ -57,7 +57,7 @@ fn filled(columns: u16, text: &[u8]) -> Piece
 /// The piece that a request shows, by its number and its first and its second word; a word that it
 /// doesn't take is not read. It is empty where the number is no request's.
 pub fn piece(number: u8, first: u16, second: u16) -> Piece
-    ensures { result.items ≡ piece_of number (first ∷ second ∷ []) }
+    ensures { result.items ≡ shown_by number first second }
 {
     match number {
         2 => one_byte(shown_byte(first)),

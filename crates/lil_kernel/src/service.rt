@@ -1,8 +1,8 @@
 //! Serving a request of the machine.
 
-ghost use Rattle.std.specs.Prelude.{◌≡◌, ℕ, ◌≤◌, length, take, drop, reverse, Some, OnOk, OnErr};
+ghost use Rattle.std.specs.Prelude.{◌≡◌, ℕ, ◌≤◌, length, map, take, drop, reverse, Some, OnOk, OnErr};
 ghost use Rattle.lil_asm.specs.Requests.{request_words};
-ghost use Rattle.lil_meaning.specs.World.{piece_of, first_word, second_word};
+ghost use Rattle.lil_meaning.specs.World.{Single, piece_of, first_word, second_word};
 ghost use Rattle.lil_volume.specs.Causes.{HasCause};
 ghost use Rattle.lil_volume.specs.Told.{followed_by, FollowedByPrefix};
 
@@ -15,8 +15,8 @@ use lil_volume::{Sink, SinkFailed};
 fn words(machine: &Machine, count: u8) -> (u16, u16)
     requires few { count ≤ 2 }
     requires there { count ≤ length machine.now.state.stack }
-    ensures first { result.0 ≡ first_word (reverse (take count machine.now.state.stack)) }
-    ensures second { result.1 ≡ second_word (reverse (take count machine.now.state.stack)) }
+    ensures first { result.0 ≡ first_word (map Single (reverse (take count machine.now.state.stack))) }
+    ensures second { result.1 ≡ second_word (map Single (reverse (take count machine.now.state.stack))) }
 {
     match count {
         0 => (0, 0),
@@ -33,8 +33,8 @@ fn words(machine: &Machine, count: u8) -> (u16, u16)
 pub fn serve<S: Sink>(number: u8, machine: &mut Machine, screen: &mut S) -> Result<(), SinkFailed>
     requires { (n : ℕ) × (request_words number ≡ Some n) × (n ≤ length machine.old.state.stack) }
     ensures machine { (n : ℕ) × (request_words number ≡ Some n) × (machine.new ≡ record machine.old { state = record machine.old.state { stack = drop n machine.old.state.stack } }) }
-    ensures ok { OnOk result ((n : ℕ) → request_words number ≡ Some n → S.written screen.new ≡ followed_by (S.written screen.old) (piece_of number (reverse (take n machine.old.state.stack)))) }
-    ensures err { OnErr result ((n : ℕ) → request_words number ≡ Some n → FollowedByPrefix (S.written screen.old) (piece_of number (reverse (take n machine.old.state.stack))) (S.written screen.new)) }
+    ensures ok { OnOk result ((n : ℕ) → request_words number ≡ Some n → S.written screen.new ≡ followed_by (S.written screen.old) (piece_of number (map Single (reverse (take n machine.old.state.stack))))) }
+    ensures err { OnErr result ((n : ℕ) → request_words number ≡ Some n → FollowedByPrefix (S.written screen.old) (piece_of number (map Single (reverse (take n machine.old.state.stack)))) (S.written screen.new)) }
     ensures cause { HasCause (S.faults screen.old) (S.faults screen.new) result }
 {
     let Some(count) = words_of_request(number) else {

@@ -53,7 +53,7 @@ IsOpen d l = slice_get d.places l ≡ Some None
 
 -- each variable lies at the offset that is its number
 abbrev pub IsPlain : Layout → Type 0
-IsPlain l = (x : ℕ) → x < length l.kinds → slice_get l.offsets x ≡ Some x
+IsPlain l = (x : ℕ) → x < length l.shapes → slice_get l.offsets x ≡ Some x
 
 -- a final code, and the word that each label has there
 pub record Final : Type 0 where

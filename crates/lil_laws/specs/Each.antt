@@ -29,7 +29,7 @@ direct_quiet : (n : ℕ) (k : Kind) → Direct n k ≡ Quiet → ⊥
 direct_quiet n k e = cc
 
 module _ (ctx : Setting) where
-  open ctx use {modules, table, home as h}
+  open ctx use {library, table, home as h}
   open frame_of ctx use {own, number}
 
   module _ (s : Source) (k : List Item) (m : State) (c : ℕ) (a : Around) (shared : Shared ctx s m) where
@@ -48,8 +48,8 @@ module _ (ctx : Setting) where
     scalar_step v (Turn e body) kind fits below is r = turn_goes ctx s k m c a shared e body v kind fits below is r
     scalar_step v (Again body e) kind fits below is r = again_goes ctx s k m c a shared body e v kind fits below is r
     scalar_step v (Pick arms) kind fits below is r = pick_goes ctx s k m c a shared arms v kind fits below is r
-    scalar_step v (StartOf (Variable x j) b step body) kind fits below is r = start_goes ctx s k m c a shared x j b step body v kind fits below is r
-    scalar_step v (LimitOf (Variable x j) u step body) kind fits below is r = limit_goes ctx s k m c a shared x j u step body v kind fits below is r
+    scalar_step v (StartOf (Variable x) j b step body) kind fits below is r = start_goes ctx s k m c a shared x j b step body v kind fits below is r
+    scalar_step v (LimitOf (Variable x) j u step body) kind fits below is r = limit_goes ctx s k m c a shared x j u step body v kind fits below is r
     scalar_step v o kind fits below is r = absurd r.part
 
     -- a place goes into a hole
@@ -62,15 +62,15 @@ module _ (ctx : Setting) where
 
     expression_step : (e : Expression) → Waiting ctx (Evaluate e) (Rows ctx k) Quiet m.place m.stack c a → Goes ctx s (Evaluate e ∷ k) m (c + 32)
     expression_step (Constant kind v) r = constant_goes ctx s k m c a shared kind v r
-    expression_step (Taken (Variable x kind)) r = taken_goes ctx s k m c a shared x kind r
+    expression_step (Taken (Variable x) kind) r = taken_goes ctx s k m c a shared x kind r
     expression_step (One o kind e) r = one_goes ctx s k m c a shared o kind e r
     expression_step (Two o kind e f) r = two_goes ctx s k m c a shared o kind e f r
     expression_step (Short d e f) r = short_begins ctx s k m c a shared d e f r
     expression_step (Apply f e) r = apply_goes ctx s k m c a shared f e r
 
     task_step : (t : Task) → ItemWaits ctx (Perform t) k (RowsOf k) Quiet m.place m.stack c a → Goes ctx s (Perform t ∷ k) m (c + 32)
-    task_step (Do (Assign (Variable x kind) e)) r = assign_goes ctx s k m c a shared x kind e r
-    task_step (Do (Change down (Variable x kind) e)) r = change_goes ctx s k m c a shared down x kind e r
+    task_step (Do (Assign (Variable x) kind e)) r = assign_goes ctx s k m c a shared x kind e r
+    task_step (Do (Change down (Variable x) kind e)) r = change_goes ctx s k m c a shared down x kind e r
     task_step (Do (Request q given)) r = request_goes ctx s k m c a shared q given r
     task_step (Do (If e first second)) r = if_goes ctx s k m c a shared e first second r
     task_step (Do (Case e arms)) r = case_goes ctx s k m c a shared e arms r
@@ -80,12 +80,12 @@ module _ (ctx : Setting) where
     task_step (Do Exit) r = exit_goes ctx s k m c a shared r
     task_step (Do Halt) r = halt_goes ctx s k m c a shared r
     task_step (Do Return) r = return_goes ctx s k m c a shared r
-    task_step (Do (For (Variable x kind) e f step body)) r = for_goes ctx s k m c a shared x kind e f step body r
+    task_step (Do (For (Variable x) kind e f step body)) r = for_goes ctx s k m c a shared x kind e f step body r
     task_step (Passing q done []) r = serve_goes ctx s k m c a shared q done r
     task_step (Passing q done (x ∷ left)) r = passing_goes ctx s k m c a shared q done x left r
     task_step (Until body e) r = until_goes ctx s k m c a shared body e r
     task_step (Looping body) r = looping_goes ctx s k m c a shared body r
-    task_step (Turns (Variable x kind) z step left body) r =
+    task_step (Turns (Variable x) kind z step left body) r =
         ⊎_elim (λ r. begin_goes ctx s k m c a shared x kind z step left body r) (λ r. next_goes ctx s k m c a shared x kind z step left body r) r
     task_step (End n) r = end_goes ctx s k m c a shared n r
 
@@ -95,7 +95,7 @@ module _ (ctx : Setting) where
   no_turns x kind z step left body rest t p stack c a apart r = ⊎_elim (λ (b : BeginWaits ctx x kind z step left body rest t p stack c a). apart b.quiet) (λ (n : NextWaits ctx x kind z step left body rest t p stack c a). apart n.quiet) r
 
   no_task : (t : Task) (k : List Item) (mode : Mode) (p : ℕ) (stack : List ℕ) (c : ℕ) (a : Around) → (mode ≡ Quiet → ⊥) → ItemWaits ctx (Perform t) k (RowsOf k) mode p stack c a → ⊥
-  no_task (Turns (Variable x kind) z step left body) k mode p stack c a apart r = no_turns x kind z step left body (Rows ctx k) mode p stack c a apart r
+  no_task (Turns (Variable x) kind z step left body) k mode p stack c a apart r = no_turns x kind z step left body (Rows ctx k) mode p stack c a apart r
   no_task (Looping body) k mode p stack c a apart r = apart r.quiet
   no_task (End n) k mode p stack c a apart r = apart r.quiet
   no_task t k Quiet p stack c a apart r = apart refl
@@ -131,7 +131,7 @@ module _ (ctx : Setting) where
   item_step s m c a shared (Value (Wholes u)) k r = absurd r.part
   item_step s m c a shared (Value (Opens p n)) k r = absurd r.part
   item_step s m c a shared (Evaluate e) k r = expression_step s k m c a shared e r
-  item_step s m c a shared (PlaceOf (Variable x kind)) k r = place_goes ctx s k m c a shared x kind r
+  item_step s m c a shared (PlaceOf (Variable x)) k r = place_goes ctx s k m c a shared x r
   item_step s m c a shared (Fill o) k r = absurd r.part
   item_step s m c a shared (Perform t) k r = task_step s k m c a shared t r
   item_step s m c a shared _ _ r = absurd r.then

@@ -1,4 +1,6 @@
+pub mod Alone
 pub mod Each
 pub mod Loading
+pub mod Placing
 pub mod Start
 pub mod Whole

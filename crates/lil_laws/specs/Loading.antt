@@ -1,11 +1,71 @@
--- The machine after a program module was loaded alone: its data from word 1, its body begun.
-use Rattle.std.specs.Prelude.{ℕ, List, [], ◌∷◌, length, Option, None}
+-- The machine after modules were loaded: their data from word 1 one behind another, and the first body begun.
+use Rattle.std.specs.Prelude.{◌≡◌, true, ℕ, zero, suc, ◌+◌, List, [], ◌∷◌, map, Option, None, Some, slice_get}
+use Rattle.lil_resolved.specs.Shapes.{all_words}
 use Rattle.lil_resolved.specs.Resolved.{Resolved}
+use Rattle.lil_mcode.specs.State.{Module, State, spliced, zeros, cleared}
 use Rattle.lil_mcode.specs.Calls.{Machine, fresh, with_level, with_module, with_bodies}
+use Rattle.lil_table.specs.Rows.{Translates}
 
+-- A text with its code and the table of its procedures, of which the body is the first and stands at the beginning.
+pub record Compiled : Type 0 where
+  pub text : Resolved
+  pub code : List ℕ
+  pub procedures : List (ℕ × Option (List ℕ))
+  pub body : slice_get procedures 0 ≡ Some (0, None)
+  pub translates : Translates text code
+
+abbrev pub text_of : Compiled → Resolved
+text_of o = o.text
+
+abbrev pub data_of : Compiled → ℕ
+data_of o = all_words o.text.variables
+
+-- the place behind the data of modules, which begin at a place
+abbrev pub data_end : ℕ → List Compiled → ℕ
+data_end base [] = base
+data_end base (o ∷ os) = data_end (base + data_of o) os
+
+-- their entries in the table of the machine
+abbrev pub entry_for : Compiled → ℕ → Module
+entry_for o base = record { name = o.text.name; procedures = o.procedures; code = o.code; base = base; words = data_of o }
+
+abbrev pub table_from : ℕ → List Compiled → List Module
+table_from base [] = []
+table_from base (o ∷ os) = entry_for o base ∷ table_from (base + data_of o) os
+
+-- each is one of the library
+abbrev pub numbers_from : ℕ → List Compiled → List ℕ
+numbers_from n [] = []
+numbers_from n (o ∷ os) = n ∷ numbers_from (suc n) os
+
+-- their data are zero
+abbrev pub data_cleared : List ℕ → ℕ → List Compiled → List ℕ
+data_cleared store base [] = store
+data_cleared store base (o ∷ os) = data_cleared (cleared store base (base + data_of o)) (base + data_of o) os
+
+-- the machine, where the body of the module with this number is the first of those that run
+abbrev pub image : List Compiled → (first : ℕ) (rest : List ℕ) → State
+image os first rest = record {
+  modules = table_from 1 os;
+  running = first;
+  place = 0;
+  stack = [];
+  store = spliced (data_cleared (zeros 65536) 1 os) (data_end 1 os) (0 ∷ 0 ∷ 0 ∷ first ∷ []);
+  frame = data_end 1 os;
+  top = data_end 1 os + 4;
+  base = data_end 1 os;
+  limit = 65535;
+  bodies = rest;
+  marked = true;
+  blocks = [];
+  parked = [];
+  waiting = [];
+}
+
+-- ---- a program module that is loaded alone
 -- a body alone, at the beginning of the code
 abbrev pub body_alone : List (ℕ × Option (List ℕ))
 body_alone = (0, None) ∷ []
 
 abbrev pub loaded : Resolved → List ℕ → Machine
-loaded p code = with_bodies (with_module (with_level fresh) p.name body_alone code (length p.variables)) (1 ∷ [])
+loaded p code = with_bodies (with_module (with_level fresh) p.name body_alone code (all_words p.variables)) (1 ∷ [])

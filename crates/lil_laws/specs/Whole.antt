@@ -1,29 +1,34 @@
 -- Whole runs: after any number of steps, the machine has shown what some state of the meaning has.
-use Rattle.std.proofs.Common.{◌≡◌, ◌≢◌, ℕ, zero, suc, ◌+◌, ◌-◌, ◌*◌, ◌<◌, ◌≤◌, Bool, true, false, List, Option, Some, None, refl, sym, ap, ◌∙◌, subst, ⊎_elim, arith}
+use Rattle.std.proofs.Common.{◌≡◌, ◌≢◌, ℕ, zero, suc, ◌+◌, ◌-◌, ◌*◌, ◌<◌, ◌≤◌, Bool, true, false, List, [], length, Option, Some, None, refl, sym, ap, ◌∙◌, subst, ⊎_elim, arith, zero-add, suc-add}
 use Rattle.std.proofs.lemmas.Bool.{cases_lt, true≢false}
 use Rattle.lil_base.specs.declared.fault.TrapKind.{TrapKind}
 use Rattle.lil_base.specs.declared.fault.LimitKind.{LimitKind}
 use Rattle.lil_base.specs.declared.fault.TrapAt.{TrapAt}
 use Rattle.lil_resolved.specs.Resolved.{Resolved}
-use Rattle.lil_meaning.specs.Items.{Item, Phase, Going, Closing, Ended, Trapped, Source}
-use Rattle.lil_meaning.specs.Steps.{next, by_phase}
+use Rattle.lil_meaning.specs.World.{World, closing, closings_left, all_closed}
+use Rattle.lil_meaning.specs.Closings.{none_left, all_none, all_some, fewer_left, some_left, closing_shuts, all_screen}
+use Rattle.lil_meaning.specs.Items.{Item, Level, Phase, Going, Closing, Ended, Trapped, Source}
+use Rattle.lil_meaning.specs.Steps.{next, by_phase, left_by, over, over_by}
 use Rattle.lil_meaning.specs.Runs.{after}
 use Rattle.lil_mcode.specs.State.{Module, State, module_at}
 use Rattle.lil_mcode.specs.Table.{mstep}
 use Rattle.lil_match.specs.Running.{Finish, Running, Finished, TrappedBy, Limited, Broken, Run, mrun, running, react, advanced, unless_over}
 use Rattle.lil_match.specs.Homes.{Home}
-use Rattle.lil_match.specs.Goes.{Shared, Lands, IsStill, fits, IsFull, Goes}
+use Rattle.lil_match.specs.Goes.{HasName, Shared, Lands, IsLeft, IsStill, fits, IsFull, Goes}
 use Rattle.lil_match.specs.Stutter.{stutter}
 use Rattle.lil_match.specs.Waits.{Stack, Setting, Quiet, Around, Ahead}
 use Rattle.lil_match.specs.Resting.{EachRests, each_rests}
 use Rattle.lil_laws.specs.Each.{each_step}
 
--- a state that has trapped, in a module of the table
-pub record TrapsIn (table : List Module) (k : TrapKind) (p : Phase) : Type 0 where
-  pub number : ℕ
+-- a state that has trapped, in a procedure of the module of the table that runs
+pub record TrapsIn (table : List Module) (k : TrapKind) (machine : State) (p : Phase) : Type 0 where
+  pub table_is : machine.modules ≡ table
   pub own : Module
-  pub known : module_at table number ≡ Some own
-  pub is : p ≡ Trapped (record { kind = k; «module» = own.name; procedure = None })
+  pub known : module_at table machine.running ≡ Some own
+  pub number : ℕ
+  pub name : Option (List ℕ)
+  pub procedure : HasName own.procedures number name
+  pub is : p ≡ Trapped (record { kind = k; «module» = own.name; procedure = name })
 
 -- The run has the world of the source's state, and is over only where the source is, in the same way, but at a limit: it comes only where
 -- not all bodies have room.
@@ -31,7 +36,7 @@ pub record Agrees (table : List Module) (roomy : Bool) (t : Source) (run : Run) 
   pub world : run.world ≡ t.world
   pub runs : run.finish ≡ Running → t.phase ≡ Going
   pub ends : run.finish ≡ Finished → t.phase ≡ Ended
-  pub traps : (k : TrapKind) → run.finish ≡ TrappedBy k → TrapsIn table k t.phase
+  pub traps : (k : TrapKind) → run.finish ≡ TrappedBy k → TrapsIn table k run.machine t.phase
   pub limits : (k : LimitKind) → run.finish ≡ Limited k → roomy ≡ false
   pub never_broken : run.finish ≢ Broken
 
@@ -48,15 +53,71 @@ pub run_over : (run : Run) (f : Finish) → run.finish ≡ f → f ≢ Running �
 run_over run Running e d = absurd (d refl)
 run_over run _ e d = ap (λ (f : Finish). unless_over f run (react (mstep run.machine).0 (mstep run.machine).1 run)) e
 
-pub source_rests : (modules : List Resolved) (n : ℕ) (s : Source) → next modules s ≡ s → after modules n s ≡ s
-source_rests modules zero s e = refl
-source_rests modules (suc n) s e = ap (after modules n) e ∙ source_rests modules n s e
+pub source_rests : (library : List Resolved) (n : ℕ) (s : Source) → next library s ≡ s → after library n s ≡ s
+source_rests library zero s e = refl
+source_rests library (suc n) s e = ap (after library n) e ∙ source_rests library n s e
 
-pub ended_rests : (modules : List Resolved) (s : Source) → s.phase ≡ Ended → next modules s ≡ s
-ended_rests modules s e = ap (λ (p : Phase). by_phase modules p s) e
+pub ended_rests : (library : List Resolved) (s : Source) → s.phase ≡ Ended → next library s ≡ s
+ended_rests library s e = ap (λ (p : Phase). by_phase library p s) e
 
-pub trapped_rests : (modules : List Resolved) (s : Source) (t : TrapAt) → s.phase ≡ Trapped t → next modules s ≡ s
-trapped_rests modules s t e = ap (λ (p : Phase). by_phase modules p s) e
+pub trapped_rests : (library : List Resolved) (s : Source) (t : TrapAt) → s.phase ≡ Trapped t → next library s ≡ s
+trapped_rests library s t e = ap (λ (p : Phase). by_phase library p s) e
+
+-- n steps and then k
+pub after_sum : (library : List Resolved) (n k : ℕ) (s : Source) → after library (n + k) s ≡ after library k (after library n s)
+after_sum library zero k s = ap (λ (i : ℕ). after library i s) (zero-add k)
+after_sum library (suc n) k s = ap (λ (i : ℕ). after library i s) (suc-add n k) ∙ after_sum library n k (next library s)
+
+-- ---- the closings of the first level
+-- a step that closes something, and the last one
+one_closed : (library : List Resolved) (end : Option TrapAt) (s : Source) (v : World) → s.phase ≡ Closing end → s.waiting ≡ [] → closing 1 s.world ≡ Some v → next library s ≡ record s { world = v; phase = Closing end }
+one_closed library end s v e first is =
+    ap (λ (p : Phase). by_phase library p s) e ∙ ap (λ (l : List Level). left_by end (closing (suc (length l)) s.world) s) first ∙ ap (λ (o : Option World). left_by end o s) is
+
+none_closed : (library : List Resolved) (end : Option TrapAt) (s : Source) → s.phase ≡ Closing end → s.waiting ≡ [] → closing 1 s.world ≡ None → next library s ≡ record s { phase = over_by end }
+none_closed library end s e first is =
+    ap (λ (p : Phase). by_phase library p s) e ∙ ap (λ (l : List Level). left_by end (closing (suc (length l)) s.world) s) first ∙ ap (λ (o : Option World). left_by end o s) is
+    ∙ ap (λ (l : List Level). over l end s) first
+
+-- so many steps close all that is open, and the level is over
+pub record IsClosed (library : List Resolved) (end : Option TrapAt) (s : Source) : Type 0 where
+  pub steps : ℕ
+  pub is : after library steps s ≡ record s { world = all_closed 1 s.world; phase = over_by end }
+
+is_closed : (library : List Resolved) (end : Option TrapAt) (n : ℕ) (s : Source) → s.phase ≡ Closing end → s.waiting ≡ [] → closings_left 1 s.world ≡ n → IsClosed library end s
+is_closed library end zero s e first left =
+    let none : closing 1 s.world ≡ None = some_left 1 s.world left in
+    record {
+      steps = 1;
+      is = none_closed library end s e first none ∙ ap (λ (w : World). let t : Source = record s { world = w; phase = over_by end } in t) (sym (all_none 1 s.world none));
+    }
+is_closed library end (suc n) s e first left = by (closing 1 s.world) refl (λ v is. is_closed library end n (record s { world = v; phase = Closing end }) refl first (fewer_left 1 s.world v n is left))
+  where
+    by : (o : Option World) → closing 1 s.world ≡ o → ((v : World) → closing 1 s.world ≡ Some v → IsClosed library end (record s { world = v; phase = Closing end })) → IsClosed library end s
+    by None is rest = absurd (omega (arith, none_left 1 s.world is, left))
+    by (Some v) is rest =
+        let r = rest v is in
+        record {
+          steps = suc r.steps;
+          is = ap (after library r.steps) (one_closed library end s v e first is) ∙ r.is
+              ∙ ap (λ (w : World). let t : Source = record s { world = w; phase = over_by end } in t) (sym (all_some 1 s.world v is));
+        }
+
+over_rests : (library : List Resolved) (end : Option TrapAt) (s : Source) → s.phase ≡ over_by end → next library s ≡ s
+over_rests library None s e = ended_rests library s e
+over_rests library (Some t) s e = trapped_rests library s t e
+
+-- closings show nothing
+closed_screen : (library : List Resolved) (end : Option TrapAt) (n : ℕ) (s : Source) → s.phase ≡ Closing end → s.waiting ≡ [] → (after library n s).world.screen ≡ s.world.screen
+closed_screen library end zero s e first = refl
+closed_screen library end (suc n) s e first = by (closing 1 s.world) refl (λ v. closed_screen library end n (record s { world = v; phase = Closing end }) refl first)
+  where
+    by : (o : Option World) → closing 1 s.world ≡ o → ((v : World) → (after library n (record s { world = v; phase = Closing end })).world.screen ≡ v.screen) → (after library n (next library s)).world.screen ≡ s.world.screen
+    by None is rest =
+        let closed : Source = record s { phase = over_by end } in
+        ap (λ (t : Source). (after library n t).world.screen) (none_closed library end s e first is)
+        ∙ ap (λ (t : Source). t.world.screen) (source_rests library n closed (over_rests library end closed refl))
+    by (Some v) is rest = ap (λ (t : Source). (after library n t).world.screen) (one_closed library end s v e first is) ∙ rest v ∙ (closing_shuts 1 s.world v is).screen
 
 pub still_agrees : (table : List Module) (roomy : Bool) (s : Source) (k : List Item) (run : Run) → IsStill s.world run → Agrees table roomy (record s { items = k; phase = Going }) run
 still_agrees table roomy s k run h = record {
@@ -79,8 +140,8 @@ ended_agrees table roomy s run over f w = record {
 }
 
 trapped_agrees : (table : List Module) (roomy : Bool) (s : Source) (run : Run) (t : TrapAt) (number : ℕ) (own : Module) → s.phase ≡ Trapped t → run.finish ≡ TrappedBy t.kind → run.world ≡ s.world
-    → module_at table number ≡ Some own → t.«module» ≡ own.name → t.procedure ≡ None → Agrees table roomy s run
-trapped_agrees table roomy s run t number own over f w known named bare = record {
+    → run.machine.modules ≡ table → module_at table run.machine.running ≡ Some own → t.«module» ≡ own.name → HasName own.procedures number t.procedure → Agrees table roomy s run
+trapped_agrees table roomy s run t number own over f w same_table known named procedure = record {
   world = w;
   runs = λ e. absurd (let r = f in cc);
   ends = λ e. absurd (let r = f in cc);
@@ -88,13 +149,15 @@ trapped_agrees table roomy s run t number own over f w known named bare = record
       let two : TrappedBy t.kind ≡ TrappedBy j = sym f ∙ e in
       let kind : t.kind ≡ j = cc in
       record {
-        number = number;
+        table_is = same_table;
         own = own;
         known = known;
+        number = number;
+        name = t.procedure;
+        procedure = procedure;
         is = over
             ∙ ap (λ (x : TrapKind). Trapped (record { kind = x; «module» = t.«module»; procedure = t.procedure })) kind
-            ∙ ap (λ (x : List ℕ). Trapped (record { kind = j; «module» = x; procedure = t.procedure })) named
-            ∙ ap (λ (x : Option (List ℕ)). Trapped (record { kind = j; «module» = own.name; procedure = x })) bare;
+            ∙ ap (λ (x : List ℕ). Trapped (record { kind = j; «module» = x; procedure = t.procedure })) named;
       };
   limits = λ j e. absurd (let r = f in cc);
   never_broken = λ e. let r = f in cc;
@@ -105,7 +168,7 @@ abbrev pub Unlimited : Run → Type 0
 Unlimited run = (k : LimitKind) → run.finish ≢ Limited k
 
 module _ (ctx : Setting) where
-  open ctx use {modules, table}
+  open ctx use {library, table}
 
   -- the setting with the home and the stack that a step has come to
   abbrev at : Home → Stack → Setting
@@ -124,17 +187,25 @@ module _ (ctx : Setting) where
   -- enough.
   pub record Follows (s : Source) (run : Run) (steps c : ℕ) : Type 0 where
     pub n : ℕ
-    pub agrees : Agrees table roomy (after modules n s) (mrun steps run)
+    pub agrees : Agrees table roomy (after library n s) (mrun steps run)
     pub far : Unlimited (mrun steps run) → steps < 32 * n + 32 + c
 
   -- where both are over, they stay
-  over_follows : (s : Source) (run : Run) (steps c : ℕ) → Agrees table roomy s run → next modules s ≡ s → advanced run ≡ run → Follows s run steps c
+  over_follows : (s : Source) (run : Run) (steps c : ℕ) → Agrees table roomy s run → next library s ≡ s → advanced run ≡ run → Follows s run steps c
   over_follows s run steps c a rs rr = record {
     n = steps;
     agrees =
-        subst (λ (t : Source). Agrees table roomy t (mrun steps run)) (sym (source_rests modules steps s rs))
+        subst (λ (t : Source). Agrees table roomy t (mrun steps run)) (sym (source_rests library steps s rs))
         (subst (λ (r : Run). Agrees table roomy s r) (sym (run_rests steps run rr)) a);
     far = λ u. omega arith;
+  }
+
+  -- the same from an earlier state of the source
+  later_follows : (s t : Source) (run : Run) (steps c n : ℕ) → after library n s ≡ t → Follows t run steps c → Follows s run steps c
+  later_follows s t run steps c n is f = record {
+    n = n + f.n;
+    agrees = subst (λ (x : Source). Agrees table roomy x (mrun steps run)) (sym (after_sum library n f.n s ∙ ap (after library f.n) is)) f.agrees;
+    far = λ u. omega (arith, f.far u);
   }
 
   -- what is claimed of so many steps, from each matched state whose items have a property
@@ -150,16 +221,20 @@ module _ (ctx : Setting) where
       (subst (λ (r : Run). Follows (record s { items = s.items; phase = Going }) r steps c) (sym lands.is)
       (claim x y s s.items lands.machine c lands.met.around (rests, lands.met.shared, lands.met.ahead, fewer) has))
   landed steps P claim x y rests fewer Ended s run c e lands has =
-      over_follows s run steps c (ended_agrees table roomy s run e lands.finish lands.world) (ended_rests modules s e) (run_over run Finished lands.finish (λ f. cc))
-  landed steps P claim x y rests fewer (Closing t) s run c e lands has =
-      let closed : Source = record s { phase = Trapped t } in
-      let step : next modules s ≡ closed = ap (λ (p : Phase). by_phase modules p s) e in
-      let f = over_follows closed run steps c (trapped_agrees table roomy closed run t y.frame.number y.frame.own refl lands.finish lands.world lands.known lands.name lands.procedure) (trapped_rests modules closed t refl) (run_over run (TrappedBy t.kind) lands.finish (λ g. cc)) in
-      record {
-        n = suc f.n;
-        agrees = subst (λ (x : Source). Agrees table roomy (after modules f.n x) (mrun steps run)) (sym step) f.agrees;
-        far = λ u. omega (arith, f.far u);
-      }
+      over_follows s run steps c (ended_agrees table roomy s run e lands.finish lands.world) (ended_rests library s e) (run_over run Finished lands.finish (λ f. cc))
+  landed steps P claim x y rests fewer (Closing None) s run c e lands has =
+      let closed : Source = record s { world = all_closed 1 s.world; phase = Ended } in
+      let is = is_closed library None (closings_left 1 s.world) s e lands.first refl in
+      later_follows s closed run steps c is.steps is.is
+      (over_follows closed run steps c (ended_agrees table roomy closed run refl lands.finish lands.world) (ended_rests library closed refl) (run_over run Finished lands.finish (λ f. cc)))
+  landed steps P claim x y rests fewer (Closing (Some t)) s run c e lands has =
+      let closed : Source = record s { world = all_closed 1 s.world; phase = Trapped t } in
+      let gone = lands.is_left in
+      let is = is_closed library (Some t) (closings_left 1 s.world) s e gone.first refl in
+      later_follows s closed run steps c is.steps is.is
+      (over_follows closed run steps c
+      (trapped_agrees table roomy closed run t y.frame.procedure y.frame.own refl gone.finish gone.world lands.table_is (ap (module_at table) lands.running_is ∙ lands.known) lands.name lands.procedure)
+      (trapped_rests library closed t refl) (run_over run (TrappedBy t.kind) gone.finish (λ g. cc)))
   landed steps P claim x y rests fewer (Trapped t) s run c e lands has = absurd lands
 
   abbrev At : Source → List Item → Source
@@ -175,10 +250,10 @@ module _ (ctx : Setting) where
     }
 
     -- what follows from the next state of the source follows from this one
-    longer : (steps rest : ℕ) → steps ≡ g.steps + rest → Follows (next modules (At s k)) (mrun g.steps (running m s.world)) rest g.later → Follows (At s k) (running m s.world) steps c
+    longer : (steps rest : ℕ) → steps ≡ g.steps + rest → Follows (next library (At s k)) (mrun g.steps (running m s.world)) rest g.later → Follows (At s k) (running m s.world) steps c
     longer steps rest e f = record {
       n = suc f.n;
-      agrees = subst (λ (r : Run). Agrees table roomy (after modules f.n (next modules (At s k))) r) (sym (mrun_add g.steps steps rest (running m s.world) e)) f.agrees;
+      agrees = subst (λ (r : Run). Agrees table roomy (after library f.n (next library (At s k))) r) (sym (mrun_add g.steps steps rest (running m s.world) e)) f.agrees;
       far = λ u. omega (arith, f.far (subst Unlimited (mrun_add g.steps steps rest (running m s.world) e) u), g.cost);
     }
 
@@ -218,14 +293,14 @@ module _ (ctx : Setting) where
       wider : fits g.stack.limit g.stack.bodies ≡ false → fits ctx.stack.limit ctx.stack.bodies ≡ false
       wider e = met.3 (g.fewer e)
 
-      by_lands : g.steps ≤ steps → Lands (at g.home g.stack) (next modules (At s k)).phase (next modules (At s k)) (mrun g.steps (running m s.world)) g.later → Follows (At s k) (running m s.world) steps c
+      by_lands : g.steps ≤ steps → Lands (at g.home g.stack) (next library (At s k)).phase (next library (At s k)) (mrun g.steps (running m s.world)) g.later → Follows (At s k) (running m s.world) steps c
       by_lands more lands =
           ⊎_elim (λ (some : 0 < g.steps).
           longer x y s k m c g steps (steps - g.steps) (omega (arith, more))
-          (landed (steps - g.steps) (λ i. Unit {0}) (fewer (steps - g.steps) (omega (arith, more, some))) g.home g.stack rests wider (next modules (At s k)).phase (next modules (At s k)) (mrun g.steps (running m s.world)) g.later refl lands tt))
+          (landed (steps - g.steps) (λ i. Unit {0}) (fewer (steps - g.steps) (omega (arith, more, some))) g.home g.stack rests wider (next library (At s k)).phase (next library (At s k)) (mrun g.steps (running m s.world)) g.later refl lands tt))
           (λ (none : g.steps ≤ 0).
           longer x y s k m c g steps steps (omega (arith, none))
-          (landed steps (λ i. stutter i < stutter k) lighter g.home g.stack rests wider (next modules (At s k)).phase (next modules (At s k)) (mrun g.steps (running m s.world)) g.later refl lands (g.falls (omega (arith, none)))))
+          (landed steps (λ i. stutter i < stutter k) lighter g.home g.stack rests wider (next library (At s k)).phase (next library (At s k)) (mrun g.steps (running m s.world)) g.later refl lands (g.falls (omega (arith, none)))))
           (cases_lt 0 g.steps)
 
   -- by the number of steps, and for each by how long the items can stutter
@@ -247,14 +322,14 @@ module _ (ctx : Setting) where
       → Follows (At s k) (running m s.world) steps c
   follows s k m steps c a rests shared ahead = outer steps steps (omega arith) ctx.home ctx.stack s k m c a (rests, shared, ahead, λ e. e) tt
 
-  -- Each later state of the source has the world that the run has after some number of steps.
+  -- Each later state of the source has shown what the run has shown after some number of steps.
   pub record Reaches (s : Source) (run : Run) (n : ℕ) : Type 0 where
     pub steps : ℕ
-    pub world : (mrun steps run).world ≡ (after modules n s).world
+    pub screen : (mrun steps run).world.screen ≡ (after library n s).world.screen
 
-  -- a source that stays keeps its world
-  rests_there : (n : ℕ) (s : Source) (run : Run) → next modules s ≡ s → run.world ≡ s.world → Reaches s run n
-  rests_there n s run rests same = record { steps = 0; world = same ∙ ap (λ (t : Source). t.world) (sym (source_rests modules n s rests)) }
+  -- the closings of a run that has ended show nothing
+  closed_there : (n : ℕ) (end : Option TrapAt) (f : Finish) (s : Source) (run : Run) → s.phase ≡ Closing end → IsLeft f s run → Reaches s run n
+  closed_there n end f s run e gone = record { steps = 0; screen = ap (λ (w : World). w.screen) gone.world ∙ all_screen 1 s.world ∙ sym (closed_screen library end n s e gone.first) }
 
   reaches_landed : (n : ℕ) → ((x : Home) (y : Stack) (s : Source) (k : List Item) (m : State) (c : ℕ) (a : Around) → Matched x y s k m c a → Reaches (At s k) (running m s.world) n)
       → (x : Home) (y : Stack) → EachRests (at x y) ctx.parked ctx.kept → (fits y.limit y.bodies ≡ false → fits ctx.stack.limit ctx.stack.bodies ≡ false) → (p : Phase) (s : Source) (run : Run) (c : ℕ) → s.phase ≡ p → Lands (at x y) p s run c
@@ -264,25 +339,22 @@ module _ (ctx : Setting) where
       subst (λ (t : Source). Reaches t run n) same
       (subst (λ (r : Run). Reaches (At s s.items) r n) (sym lands.is)
       (claim x y s s.items lands.machine c lands.met.around (rests, lands.met.shared, lands.met.ahead, fewer)))
-  reaches_landed n claim x y rests fewer Ended s run c e lands = rests_there n s run (ended_rests modules s e) lands.world
-  reaches_landed zero claim x y rests fewer (Closing t) s run c e lands = record { steps = 0; world = lands.world }
-  reaches_landed (suc n) claim x y rests fewer (Closing t) s run c e lands =
-      let closed : Source = record s { phase = Trapped t } in
-      let step : next modules s ≡ closed = ap (λ (p : Phase). by_phase modules p s) e in
-      let r = rests_there n closed run (trapped_rests modules closed t refl) lands.world in
-      record { steps = r.steps; world = r.world ∙ ap (λ (x : Source). (after modules n x).world) (sym step) }
+  reaches_landed n claim x y rests fewer Ended s run c e lands =
+      record { steps = 0; screen = ap (λ (w : World). w.screen) lands.world ∙ ap (λ (t : Source). t.world.screen) (sym (source_rests library n s (ended_rests library s e))) }
+  reaches_landed n claim x y rests fewer (Closing None) s run c e lands = closed_there n None Finished s run e lands
+  reaches_landed n claim x y rests fewer (Closing (Some t)) s run c e lands = closed_there n (Some t) (TrappedBy t.kind) s run e lands.is_left
   reaches_landed n claim x y rests fewer (Trapped t) s run c e lands = absurd lands
 
   reaches_in : (roomy ≡ true) → (n : ℕ) (x : Home) (y : Stack) (s : Source) (k : List Item) (m : State) (c : ℕ) (a : Around) → Matched x y s k m c a → Reaches (At s k) (running m s.world) n
-  reaches_in room zero x y s k m c a met = record { steps = 0; world = refl }
+  reaches_in room zero x y s k m c a met = record { steps = 0; screen = refl }
   reaches_in room (suc n) x y s k m c a met =
       let g = each_step (at x y) s m c a met.1 k met.2 in
       ⊎_elim (λ lands.
       let r = reaches_landed n (reaches_in room n) g.home g.stack (each_rests (at x y) g.home g.stack g.touch g.same ctx.parked ctx.kept met.0) (λ e. met.3 (g.fewer e))
-      (next modules (At s k)).phase (next modules (At s k)) (mrun g.steps (running m s.world)) g.later refl lands in
+      (next library (At s k)).phase (next library (At s k)) (mrun g.steps (running m s.world)) g.later refl lands in
       let there : Reaches (At s k) (running m s.world) (suc n) = record {
         steps = g.steps + r.steps;
-        world = ap (λ (x : Run). x.world) (mrun_add g.steps (g.steps + r.steps) r.steps (running m s.world) refl) ∙ r.world;
+        screen = ap (λ (x : Run). x.world.screen) (mrun_add g.steps (g.steps + r.steps) r.steps (running m s.world) refl) ∙ r.screen;
       } in
       there)
       (λ f. absurd (true≢false (sym room ∙ met.3 f.short))) g.lands

@@ -31,7 +31,7 @@ use Rattle.lil_match.specs.Closing.{closed, variable_here, both_trap}
 use Rattle.lil_laws_expr.specs.Operators.{answer_row, Gives, Fits, one_gives, one_fits, two_gives, two_length, two_fits, function_gives, function_fits, function_none, function_length}
 
 module _ (ctx : Setting) where
-  open ctx use {modules, table, home as h}
+  open ctx use {library, table, home as h}
   open frame_of ctx use {own, number}
   open laid_out ctx use {layout as l}
 
@@ -48,17 +48,16 @@ module _ (ctx : Setting) where
 
     -- the value that instructions give, or their trap
     answer_lands : (items : List Item) → current items ≡ ctx.stack.frame.activation → (r : Result Scalar TrapKind) (kind : Kind) → Fits kind r → (p : ℕ) (stack : List ℕ) (end : ℕ) (below : List ℕ) → Rest (ValueOf kind) end below c a
-        → Lands ctx (answered modules r k (Now items)).phase (answered modules r k (Now items))
+        → Lands ctx (answered library r k (Now items)).phase (answered library r k (Now items))
         (react (answer_row (going m p stack) end below r).0 (answer_row (going m p stack) end below r).1 (running (going m p stack) s.world)) c
     answer_lands items close (Ok v) kind fits p stack end below rest =
         lands_on ctx s m shared (Value (Scalars v) ∷ k) end (scalar_word v ∷ below) c a
         (once (record { part = record { kind = kind; fits = fits; below = below; is = ap (λ (w : ℕ). w ∷ below) (sym (plain_word h kind v fits)) }; then = rest }))
     answer_lands items close (Err t) kind fits p stack end below rest =
-        let there = both_trap ctx s items m t shared close in
-        record { finish = refl; world = refl; known = there.known; name = there.name; procedure = refl }
+        both_trap ctx s items (going m p stack) t shared close
 
     -- instructions that give a value, as the source does
-    instrs_go : (items : List Item) → current items ≡ ctx.stack.frame.activation → (r : Result Scalar TrapKind) → next modules (Now items) ≡ answered modules r k (Now items) → (kind : Kind) → Fits kind r
+    instrs_go : (items : List Item) → current items ≡ ctx.stack.frame.activation → (r : Result Scalar TrapKind) → next library (Now items) ≡ answered library r k (Now items) → (kind : Kind) → Fits kind r
         → (end : ℕ) (below : List ℕ) → Rest (ValueOf kind) end below c a → (is : List Instr) (p : ℕ) (stack : List ℕ) → InstrsAt own.code is p end → Gives own is (going m p stack) below r
         → Goes ctx s items (going m p stack) (c + length is)
     instrs_go items close r becomes kind fits end below rest [] p stack here gives = absurd gives
@@ -88,12 +87,12 @@ module _ (ctx : Setting) where
         (once (record { part = record { kind = kind; fits = row.part.here.fits; below = m.stack; is = ap (λ (w : ℕ). w ∷ m.stack) (sym (plain_word h kind v row.part.here.fits)) }; then = row.then })))
         (omega arith)
 
-    pub taken_goes : (x : ℕ) (kind : Kind) → Waiting ctx (Evaluate (Taken (Variable x kind))) Rest Quiet m.place m.stack c a → Goes ctx s (Evaluate (Taken (Variable x kind)) ∷ k) m (c + 32)
+    pub taken_goes : (x : ℕ) (kind : Kind) → Waiting ctx (Evaluate (Taken (Variable x) kind)) Rest Quiet m.place m.stack c a → Goes ctx s (Evaluate (Taken (Variable x) kind) ∷ k) m (c + 32)
     taken_goes x kind row =
-        goes_none ctx s (Evaluate (Taken (Variable x kind)) ∷ k) m (c + 32) c
-        (lands_on ctx s m shared (PlaceOf (Variable x kind) ∷ Fill Get ∷ k) m.place m.stack c a
+        goes_none ctx s (Evaluate (Taken (Variable x) kind) ∷ k) m (c + 32) c
+        (lands_on ctx s m shared (PlaceOf (Variable x) ∷ Fill Get ∷ k) m.place m.stack c a
         (once (record {
-          part = row.part.here.known;
+          part = record { kind = kind; known = row.part.here.known };
           then = once (record { part = record { end = row.part.end; load = row.part.here.load; shallow = row.part.shallow }; then = row.then });
         })))
         (omega arith)
@@ -149,13 +148,14 @@ module _ (ctx : Setting) where
         operand_goes ctx s k m c a shared (Evaluate (Apply f e) ∷ k) e (ApplyTo f) refl (omega arith) row.part.here.middle row.part.here.first (omega (arith, row.part.shallow)) (omega (arith, by.0, row.part.within))
         (record { part = record { takes = row.part.here.takes; shallow = omega (arith, row.part.shallow); end = row.part.end; by = row.part.here.by }; then = row.then })
 
-    pub place_goes : (x : ℕ) (kind : Kind) → Waiting ctx (PlaceOf (Variable x kind)) Rest Quiet m.place m.stack c a → Goes ctx s (PlaceOf (Variable x kind) ∷ k) m (c + 32)
-    place_goes x kind row =
+    pub place_goes : (x : ℕ) → Waiting ctx (PlaceOf (Variable x)) Rest Quiet m.place m.stack c a → Goes ctx s (PlaceOf (Variable x) ∷ k) m (c + 32)
+    place_goes x row =
+        let known_row = row.part.known in
         let now : Place = record { root = Global (owner_of (slice_get s.activations (current k))) x; path = [] } in
-        let known : IsVariable ctx now row.part.offset kind = variable_here ctx s k m shared x row.part.offset kind (closed ctx k _ _ _ _ _ row.then) row.part.at row.part.typed in
-        goes_none ctx s (PlaceOf (Variable x kind) ∷ k) m (c + 32) c
+        let known : IsVariable ctx now known_row.offset row.part.kind = variable_here ctx s k m shared x known_row.offset row.part.kind (closed ctx k _ _ _ _ _ row.then) known_row.at known_row.typed in
+        goes_none ctx s (PlaceOf (Variable x) ∷ k) m (c + 32) c
         (lands_on ctx s m shared (Value (Places now) ∷ k) m.place m.stack c a
-        (once (record { part = record { kind = kind; offset = row.part.offset; variable = known }; then = row.then })))
+        (once (record { part = record { kind = row.part.kind; offset = known_row.offset; variable = known }; then = row.then })))
         (omega arith)
         (omega arith)
 
@@ -222,7 +222,7 @@ module _ (ctx : Setting) where
         let items : List Item = Value (Scalars v) ∷ Fill (ApplyTo f) ∷ k in
         let kept = function_none f kind v row.part.takes fits none in
         let u : Scalar = kept.0 in
-        let becomes : next modules (Now items) ≡ with_items (Now items) (Value (Scalars u) ∷ k) = ap (λ (r : Result Scalar TrapKind). answered modules r k (Now items)) kept.1 in
+        let becomes : next library (Now items) ≡ with_items (Now items) (Value (Scalars u) ∷ k) = ap (λ (r : Result Scalar TrapKind). answered library r k (Now items)) kept.1 in
         let end : m.place ≡ row.part.end = subst (λ (is : List Instr). InstrsAt own.code is m.place row.part.end) none row.part.by in
         let word : word_for h v ≡ word_for h u = plain_word h kind v fits ∙ sym kept.2 ∙ sym (plain_word h (function_kind f) u kept.3) in
         goes_none ctx s items m (c + 32) c
@@ -286,7 +286,7 @@ module _ (ctx : Setting) where
     one_of_goes one.Not j v kind fits below is row = coded_goes one.Not j (λ e. cc) (omega arith) v kind fits below is row
 
     -- A short circuit: where the left operand decides, it stays, and a jump leads over the right one; else the right one is to come.
-    short_goes : (d : Bool) (f : Expression) (items : List Item) (v : Scalar) (decides : Bool) → next modules (Now items) ≡ with_items (Now items) (cond decides (Value (Scalars v) ∷ k) (Evaluate f ∷ k))
+    short_goes : (d : Bool) (f : Expression) (items : List Item) (v : Scalar) (decides : Bool) → next library (Now items) ≡ with_items (Now items) (cond decides (Value (Scalars v) ∷ k) (Evaluate f ∷ k))
         → within OfTruth v ≡ true → (kind : Kind) (below : List ℕ) → m.stack ≡ word_for h v ∷ below → (row : Waiting ctx (Fill (ShortOf d f)) Rest (ValueOf kind) m.place below c a)
         → mstep m ≡ cond decides (Went, going m row.part.end m.stack) (Went, going m row.part.start below) → Goes ctx s items m (c + 32)
     short_goes d f items v true becomes fits kind below is row step =

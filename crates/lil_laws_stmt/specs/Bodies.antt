@@ -3,7 +3,7 @@ use Rattle.std.proofs.Common.{◌≡◌, ℕ, ◌+◌, ◌-◌, ◌<◌, ◌≤�
 use Rattle.std.specs.Prelude.{nat_le}
 use Rattle.std.proofs.lemmas.Bool.{le-ltb, lt-ltb, lt-leb, cases_lt}
 use Rattle.lil_base.specs.declared.fault.LimitKind.TheVariants as limit
-use Rattle.lil_meaning.specs.Shapes.{offset}
+use Rattle.lil_resolved.specs.Shapes.{offset}
 use Rattle.lil_meaning.specs.Cells.{Root}
 use Rattle.lil_meaning.specs.Items.{End, Item, Perform, Source}
 use Rattle.lil_asm.specs.declared.instr.Instr.TheVariants.{Ent, Rtn}
@@ -54,7 +54,7 @@ module _ (ctx : Setting) (f b : Frame) (bs : List Frame) where
     abbrev entered : State
     entered = record begun { place = next.start; top = m.base + b.layout.frame; store = cleared begun.store begun.top (m.base + b.layout.frame) }
 
-    comes : Comes ctx.modules ctx.table ctx.activations ctx.home.base ctx.home.shape ctx.stack.base b
+    comes : Comes ctx.library ctx.loaded ctx.table ctx.activations ctx.home.base ctx.home.shape ctx.stack.base b
     comes = shared.standing.comes.0
 
     -- the row of the return, by the room of the next body's mark
@@ -216,6 +216,8 @@ module _ (ctx : Setting) (f b : Frame) (bs : List Frame) where
                   high = g.high;
                 };
                 activations_are = shared.activations_are;
+                loaded_are = shared.loaded_are;
+                levels = shared.levels;
                 parked_are = shared.parked_are;
                 kept_are = shared.kept_are;
               };

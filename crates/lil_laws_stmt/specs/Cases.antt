@@ -121,7 +121,7 @@ module _ (l : Layout) (code : List ℕ) (n : ℕ) (around : Option ℕ) (k : Kin
       by_label after false r = subst (λ (o : Option ℕ). Reached (meaning.chosen rest z) o) (sym r.3) (after r.0 r.1 r.2)
 
 module _ (ctx : Setting) where
-  open ctx use {modules, table, home as h}
+  open ctx use {library, table, home as h}
   open frame_of ctx use {own, number}
   open laid_out ctx use {layout as l}
 
@@ -175,7 +175,7 @@ module _ (ctx : Setting) where
             goes_after ctx s items m choosing (c + 32) (c + 31) dispatched
             (goes_one ctx s items choosing (c + 31) (suc (suc c)) (running (going m start []) s.world)
             (chooses start target (body_within l own.code (a.loops) a.exit body start end here ends))
-            (subst (λ (b : Option Statements). Lands ctx (picked modules b k out).phase (picked modules b k out) (running (going m start []) s.world) (suc (suc c))) (sym e)
+            (subst (λ (b : Option Statements). Lands ctx (picked library b k out).phase (picked library b k out) (running (going m start []) s.world) (suc (suc c))) (sym e)
             (lands_on ctx s m shared (doing body k) start [] (suc (suc c)) a
             (rows_ahead ctx (doing body k) start [] (suc (suc c)) a
             (body_rows ctx body k start end (suc (suc c)) a here ends
@@ -191,7 +191,7 @@ module _ (ctx : Setting) where
             (chooses start target (instr_within own.code start (Trp 7) gap trap_there))
             (goes_one ctx s items n (c + 30) c (react (Trap trap.Case) n (running n s.world))
             (advances n s.world _ (at_step ctx n shared.program (Trp 7) gap trap_there))
-            (subst (λ (b : Option Statements). Lands ctx (picked modules b k out).phase (picked modules b k out) (react (Trap trap.Case) n (running n s.world)) c) (sym e)
+            (subst (λ (b : Option Statements). Lands ctx (picked library b k out).phase (picked library b k out) (react (Trap trap.Case) n (running n s.world)) c) (sym e)
             (both_trap ctx out items n trap.Case shared (closed ctx k _ _ _ _ _ row.then)))
             (omega arith))
             (omega arith))

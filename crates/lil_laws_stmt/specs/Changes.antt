@@ -8,7 +8,7 @@ use Rattle.lil_base.specs.declared.fault.ArithFault.{ArithFault}
 use Rattle.lil_resolved.specs.Kinds.{Kind, OfWhole, base_of}
 use Rattle.lil_resolved.specs.Scalars.{Scalar, Number, within, scalar_of, scalar_word, ordinal_of}
 use Rattle.lil_resolved.specs.Resolved.{Variable, Expression, Change, counted_as}
-use Rattle.lil_meaning.specs.Shapes.{Word}
+use Rattle.lil_resolved.specs.Shapes.{Word}
 use Rattle.lil_meaning.specs.Cells.{Place, got}
 use Rattle.lil_meaning.specs.Items.{Scalars, Places, ChangeBy, ChangeAt, Do, Item, Value, PlaceOf, Fill, Perform, Going, Source}
 use Rattle.lil_meaning.specs.Steps.{current, whole_of, changed, value_of, valued, stored_with}
@@ -58,7 +58,7 @@ split code [] js p q h = (p, refl, h)
 split code (i ∷ is) js p q h = let more = split code is js h.0 q h.2 in (more.0, (h.0, h.1, more.1), more.2)
 
 module _ (ctx : Setting) where
-  open ctx use {modules, table, home as h}
+  open ctx use {library, table, home as h}
   open frame_of ctx use {own, number}
 
   module _ (s : Source) (k : List Item) (m : State) (c : ℕ) (a : Around) (shared : Shared ctx s m) where
@@ -66,13 +66,13 @@ module _ (ctx : Setting) where
     Rest = Rows ctx k
 
     pub change_goes : (down : Bool) (x : ℕ) (kind : Kind) (e : Expression)
-        → Waiting ctx (Perform (Do (Change down (Variable x kind) e))) Rest Quiet m.place m.stack c a → Goes ctx s (Perform (Do (Change down (Variable x kind) e)) ∷ k) m (c + 32)
+        → Waiting ctx (Perform (Do (Change down (Variable x) kind e))) Rest Quiet m.place m.stack c a → Goes ctx s (Perform (Do (Change down (Variable x) kind e)) ∷ k) m (c + 32)
     change_goes down x kind e row =
-        goes_none ctx s (Perform (Do (Change down (Variable x kind) e)) ∷ k) m (c + 32) c
-        (lands_on ctx s m shared (PlaceOf (Variable x kind) ∷ Fill (ChangeBy down kind e) ∷ k) m.place m.stack c a
+        goes_none ctx s (Perform (Do (Change down (Variable x) kind e)) ∷ k) m (c + 32) c
+        (lands_on ctx s m shared (PlaceOf (Variable x) ∷ Fill (ChangeBy down kind e) ∷ k) m.place m.stack c a
         (at_once ctx _ Quiet m.place m.stack c a
         (record {
-          part = row.part.here.known;
+          part = record { kind = kind; known = row.part.here.known };
           then = at_once ctx _ (Direct row.part.here.known.offset kind) m.place m.stack c a
               (record {
                 part = record {
@@ -187,10 +187,10 @@ module _ (ctx : Setting) where
           ∙ ap (λ (z : ℤ). result_row both operation.0 [] (changed down t (ordinal_of old) z)) (reads t v good)
 
       abbrev store_result : Result ℤ ArithFault → Source
-      store_result r = stored_with modules place (value_of to r) k Now
+      store_result r = stored_with library place (value_of to r) k Now
 
       abbrev store_value : Option Scalar → Source
-      store_value o = stored_with modules place (valued o) k Now
+      store_value o = stored_with library place (valued o) k Now
 
       new_word : (z : ℤ) → has to z ≡ true → word_of z ≡ word_for h (scalar_of to z)
       new_word z one = ap word_of (sym (number_is to z one)) ∙ sym (word_is (scalar_of to z)) ∙ sym (plain_word h to (scalar_of to z) (value_fits to z one))

@@ -31,7 +31,7 @@ doing_stutter Empty k = omega arith
 doing_stutter (Then s ss) k = omega (arith, doing_stutter ss k)
 
 module _ (ctx : Setting) where
-  open ctx use {modules, table, home as h}
+  open ctx use {library, table, home as h}
   open frame_of ctx use {own, number}
   open laid_out ctx use {layout as l}
 
@@ -53,7 +53,7 @@ module _ (ctx : Setting) where
 
   -- a step of the machine to a place with an empty expression stack, where the items stand with which the source goes on
   pub goes_to : (s : Source) (m : State) (shared : Shared ctx s m) (i after : List Item) (q budget later : ℕ) (a : Around)
-      → next modules (record s { items = i; phase = Going }) ≡ record s { items = after; phase = Going } → advanced (running m s.world) ≡ running (going m q []) s.world
+      → next library (record s { items = i; phase = Going }) ≡ record s { items = after; phase = Going } → advanced (running m s.world) ≡ running (going m q []) s.world
       → Rows ctx after Quiet q [] later a → later + 1 ≤ budget → Goes ctx s i m budget
   goes_to s m shared i after q budget later a source machine rows less =
       goes_one ctx s i m budget later (running (going m q []) s.world) machine

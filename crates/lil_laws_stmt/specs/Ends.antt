@@ -1,17 +1,19 @@
 -- The ends of procedures and bodies, RETURN and HALT.
-use Rattle.std.proofs.Common.{◌≡◌, ℕ, ◌+◌, ◌<◌, ◌≤◌, List, [], ◌∷◌, map, ⊎_elim, refl, sym, ap, ◌∙◌, subst, arith, eq-eqb}
+use Rattle.std.proofs.Common.{◌≡◌, ℕ, suc, ◌+◌, ◌<◌, ◌≤◌, Option, Some, None, List, [], ◌∷◌, map, length, ⊎_elim, refl, sym, ap, ◌∙◌, subst, arith, eq-eqb}
 use Rattle.std.proofs.lemmas.Bool.{cases_lt}
 use Rattle.lil_base.specs.declared.fault.TrapKind.TheVariants as trap
 use Rattle.lil_resolved.specs.Resolved.{Variable, Halt, Return}
-use Rattle.lil_meaning.specs.Items.{Do, Turns, End, Item, Perform, Source}
-use Rattle.lil_meaning.specs.Steps.{returned}
+use Rattle.lil_meaning.specs.World.{World, closing, all_closed}
+use Rattle.lil_meaning.specs.Closings.{all_none, all_some}
+use Rattle.lil_meaning.specs.Items.{Do, Turns, End, Item, Perform, Level, Phase, Going, Closing, Ended, Source}
+use Rattle.lil_meaning.specs.Steps.{next, returned, left_by, over}
 use Rattle.lil_asm.specs.declared.instr.Instr.TheVariants.{Rtn, Trp}
 use Rattle.lil_mcode.specs.declared.machine.Event.TheVariants.{LevelEnded}
-use Rattle.lil_mcode.specs.State.{State}
+use Rattle.lil_mcode.specs.State.{Kept, State}
 use Rattle.lil_mcode.specs.Table.{end_row}
-use Rattle.lil_match.specs.Running.{Finished}
+use Rattle.lil_match.specs.Running.{Finished, Run, running, advanced}
 use Rattle.lil_match.specs.Parts.{yes}
-use Rattle.lil_match.specs.Goes.{Stands, number_of, Shared, Goes}
+use Rattle.lil_match.specs.Goes.{Stands, number_of, Shared, Lands, Goes}
 use Rattle.lil_match.specs.Stutter.{stutter}
 use Rattle.lil_match.specs.Waits.{Mode, Quiet, Around, outside, Frame, Setting, with_frames, RowsOf, Rows, Ahead, Behind, EndWaits, EndedWaits, Waiting}
 use Rattle.lil_match.specs.Closing.{closed}
@@ -55,19 +57,40 @@ module _ (ctx : Setting) where
   -- nothing is left
   pub ended_goes : (s : Source) (m : State) (c : ℕ) (a : Around) → Shared ctx s m → EndedWaits ctx Quiet m.place m.stack c a → Goes ctx s [] m (c + 32)
   ended_goes s m c a shared row =
-      let last : ctx.stack.frame.at ≡ ctx.stack.base = lowest ctx.stack.callers row.callers shared.standing.stands in
-      goes_one ctx s [] m (c + 32) 0 (record { machine = m; world = s.world; finish = Finished })
-      (advances m s.world (LevelEnded, m) (
-      at_step ctx m shared.program Rtn row.end row.leave
-      ∙ yes _ _ _ (eq-eqb m.frame m.base (shared.standing.frame_is ∙ last ∙ sym shared.standing.base_is))
-      ∙ ap (end_row m) (shared.standing.bodies_are ∙ ap (map number_of) row.bodies)
-      ))
-      (record { finish = refl; world = refl })
-      (omega arith)
+      by (closing 1 s.world) refl
     where
       lowest : (gs : List Frame) → gs ≡ [] → Stands ctx.home.owner ctx.stack.base m.top ctx.stack.frame gs → ctx.stack.frame.at ≡ ctx.stack.base
       lowest [] e s = s.1
       lowest (g ∷ gs) e s = absurd (let clash : g ∷ gs ≡ [] = e in cc)
+
+      now : Source
+      now = record s { items = []; phase = Going }
+
+      run : Run
+      run = record { machine = m; world = all_closed 1 s.world; finish = Finished }
+
+      leaves : advanced (running m s.world) ≡ run
+      leaves =
+          advances m s.world (LevelEnded, m) (
+          at_step ctx m shared.program Rtn row.end row.leave
+          ∙ yes _ _ _ (eq-eqb m.frame m.base (shared.standing.frame_is ∙ lowest ctx.stack.callers row.callers shared.standing.stands ∙ sym shared.standing.base_is))
+          ∙ ap (end_row m) (shared.standing.bodies_are ∙ ap (map number_of) row.bodies)
+          )
+          ∙ ap (λ (below : List Kept). let r : Run = record { machine = m; world = all_closed (suc (length below)) s.world; finish = Finished } in r) shared.levels.none_below
+
+      first_level : next ctx.library now ≡ left_by None (closing 1 s.world) now
+      first_level = ap (λ (l : List Level). left_by None (closing (suc (length l)) s.world) now) shared.levels.none
+
+      ends : (t : Source) → next ctx.library now ≡ t → Lands ctx t.phase t run 0 → Goes ctx s [] m (c + 32)
+      ends t is lands = goes_one ctx s [] m (c + 32) 0 run leaves (subst (λ (t : Source). Lands ctx t.phase t run 0) (sym is) lands) (omega arith)
+
+      by : (o : Option World) → closing 1 s.world ≡ o → Goes ctx s [] m (c + 32)
+      by (Some w) e =
+          ends (record now { world = w; phase = Closing None }) (first_level ∙ ap (λ (o : Option World). left_by None o now) e)
+          (record { finish = refl; first = shared.levels.none; world = all_some 1 s.world w e })
+      by None e =
+          ends (record now { phase = Ended }) (first_level ∙ ap (λ (o : Option World). left_by None o now) e ∙ ap (λ (l : List Level). over l None now) shared.levels.none)
+          (record { finish = refl; world = all_none 1 s.world e })
 
   -- where items that have rows go on behind the end of the running frame, with at most so many jumps owed
   pub record Returns (k : List Item) (c : ℕ) : Type 0 where
@@ -82,8 +105,8 @@ module _ (ctx : Setting) where
 
   returns : (k : List Item) (t : Mode) (p : ℕ) (stack : List ℕ) (c : ℕ) (a : Around) → Rows ctx k t p stack c a → Returns k c
   returns [] t p stack c a r = absurd r
-  returns (Perform (Turns (Variable x kind) z step left body) ∷ k) t p stack c a r =
-      more k (Perform (Turns (Variable x kind) z step left body) ∷ k) c r.later (omega (arith, r.count)) refl (⊎_elim (λ b. returns k _ _ _ _ _ b.then) (λ n. returns k _ _ _ _ _ n.then) r.there)
+  returns (Perform (Turns (Variable x) kind z step left body) ∷ k) t p stack c a r =
+      more k (Perform (Turns (Variable x) kind z step left body) ∷ k) c r.later (omega (arith, r.count)) refl (⊎_elim (λ b. returns k _ _ _ _ _ b.then) (λ n. returns k _ _ _ _ _ n.then) r.there)
   returns (Perform (End n) ∷ k) t p stack c a r =
       record { rest = k; is = ap (λ (x : ℕ). Perform (End x) ∷ k) r.there.activation; later = r.later; less = omega (arith, r.count); behind = r.there.behind }
   returns (i ∷ k) t p stack c a r = more k (i ∷ k) c r.later (omega (arith, r.count)) refl (returns k _ _ _ _ _ r.there.then)

@@ -53,7 +53,7 @@ align_within l code false true p start q e inside = instr_within code p Swp e.0 
 align_within l code false false p start q e inside = instr_within code p Swp e.look.0 e.look.1
 
 module _ (ctx : Setting) where
-  open ctx use {modules, table, home as h}
+  open ctx use {library, table, home as h}
   open frame_of ctx use {own, number}
   open laid_out ctx use {layout as l}
 
@@ -71,7 +71,7 @@ module _ (ctx : Setting) where
     Rest = Rows ctx k
 
     abbrev pub Turning : ℕ → Kind → ℤ → ℤ → ℕ → Statements → List Item
-    Turning x kind z step left body = Perform (Turns (Variable x kind) z step left body) ∷ k
+    Turning x kind z step left body = Perform (Turns (Variable x) kind z step left body) ∷ k
 
     module _ (x : ℕ) (kind : Kind) (z step : ℤ) (left : ℕ) (body : Statements)
         (words : LoopWords ctx a.loops left (word_of step)) (now : words.now ≡ word_of z) (empty : m.stack ≡ [])
@@ -92,7 +92,7 @@ module _ (ctx : Setting) where
 
       -- what the turn makes of its value
       abbrev turned_there : Option Scalar → Source
-      turned_there o = turned_with modules o x body (Turning x kind (z +ℤ step) step left body) (record s { items = items; phase = Going })
+      turned_there o = turned_with library o x body (Turning x kind (z +ℤ step) step left body) (record s { items = items; phase = Going })
 
       -- the word of the turn's number is on the expression stack
       abbrev holding : ℕ → State
@@ -249,7 +249,7 @@ turned_words f at n p q =
     )
 
 module _ (ctx : Setting) where
-  open ctx use {modules, table, home as h}
+  open ctx use {library, table, home as h}
   open frame_of ctx use {own, number}
   open laid_out ctx use {layout as l}
 
@@ -257,10 +257,10 @@ module _ (ctx : Setting) where
     abbrev Left : Reach
     Left = Rows ctx k
 
-    pub for_goes : (x : ℕ) (kind : Kind) (first limit : Expression) (step : ℤ) (body : Statements) → Waiting ctx (Perform (Do (For (Variable x kind) first limit step body))) Left Quiet m.place m.stack c a
-        → Goes ctx s (Perform (Do (For (Variable x kind) first limit step body)) ∷ k) m (c + 32)
+    pub for_goes : (x : ℕ) (kind : Kind) (first limit : Expression) (step : ℤ) (body : Statements) → Waiting ctx (Perform (Do (For (Variable x) kind first limit step body))) Left Quiet m.place m.stack c a
+        → Goes ctx s (Perform (Do (For (Variable x) kind first limit step body)) ∷ k) m (c + 32)
     for_goes x kind first limit step body row =
-        operand_goes ctx s k m c a shared (Perform (Do (For (Variable x kind) first limit step body)) ∷ k) first (StartOf (Variable x kind) limit step body) refl (omega arith) row.part.here.middle row.part.here.first.value (omega (arith, row.part.here.first.shallow, ap length row.part.empty))
+        operand_goes ctx s k m c a shared (Perform (Do (For (Variable x) kind first limit step body)) ∷ k) first (StartOf (Variable x) kind limit step body) refl (omega arith) row.part.here.middle row.part.here.first.value (omega (arith, row.part.here.first.shallow, ap length row.part.empty))
         (expression_within l own.code limit row.part.here.middle row.part.here.last row.part.here.limit.value)
         (record {
           part = record {
@@ -276,10 +276,10 @@ module _ (ctx : Setting) where
         })
 
     pub start_goes : (x : ℕ) (to : Kind) (limit : Expression) (step : ℤ) (body : Statements) (v : Scalar) (kind : Kind) → within kind v ≡ true → (below : List ℕ) → m.stack ≡ word_for h v ∷ below
-        → Waiting ctx (Fill (StartOf (Variable x to) limit step body)) Left (ValueOf kind) m.place below c a → Goes ctx s (Value (Scalars v) ∷ Fill (StartOf (Variable x to) limit step body) ∷ k) m (c + 32)
+        → Waiting ctx (Fill (StartOf (Variable x) to limit step body)) Left (ValueOf kind) m.place below c a → Goes ctx s (Value (Scalars v) ∷ Fill (StartOf (Variable x) to limit step body) ∷ k) m (c + 32)
     start_goes x to limit step body v kind fit below is row =
         let stack : m.stack ≡ word_for h v ∷ [] = is ∙ ap (λ (st : List ℕ). word_for h v ∷ st) row.part.empty in
-        operand_goes ctx s k m c a shared (Value (Scalars v) ∷ Fill (StartOf (Variable x to) limit step body) ∷ k) limit (LimitOf (Variable x to) v step body) refl (omega arith) row.part.last row.part.limit.value (omega (arith, row.part.limit.shallow, ap length stack))
+        operand_goes ctx s k m c a shared (Value (Scalars v) ∷ Fill (StartOf (Variable x) to limit step body) ∷ k) limit (LimitOf (Variable x) to v step body) refl (omega arith) row.part.last row.part.limit.value (omega (arith, row.part.limit.shallow, ap length stack))
         (align_within l own.code (covers (base_of to) kind) (outside_turns (compared_as (base_of to)) step) row.part.last row.part.turns.aligned row.part.end row.part.turns.align
         (instr_within own.code row.part.turns.aligned (Liw (word_of step)) row.part.turns.stepped row.part.turns.load))
         (record {
@@ -297,12 +297,12 @@ module _ (ctx : Setting) where
         })
 
     pub limit_goes : (x : ℕ) (to : Kind) (u : Scalar) (step : ℤ) (body : Statements) (v : Scalar) (kind : Kind) → within kind v ≡ true → (below : List ℕ) → m.stack ≡ word_for h v ∷ below
-        → Waiting ctx (Fill (LimitOf (Variable x to) u step body)) Left (ValueOf kind) m.place below c a → Goes ctx s (Value (Scalars v) ∷ Fill (LimitOf (Variable x to) u step body) ∷ k) m (c + 32)
+        → Waiting ctx (Fill (LimitOf (Variable x) to u step body)) Left (ValueOf kind) m.place below c a → Goes ctx s (Value (Scalars v) ∷ Fill (LimitOf (Variable x) to u step body) ∷ k) m (c + 32)
     limit_goes x to u step body v kind fit below is row =
         let same_kind : kind ≡ base_of to = row.part.same in
         let fits : within (base_of to) v ≡ true = ap (λ (j : Kind). within j v) (sym same_kind) ∙ fit in
-        goes_none ctx s (Value (Scalars v) ∷ Fill (LimitOf (Variable x to) u step body) ∷ k) m (c + 32) c
-        (lands_on ctx s m shared (Perform (Turns (Variable x to) (ordinal_of u) step (turns (ordinal_of u) (ordinal_of v) step) body) ∷ k) m.place m.stack c a
+        goes_none ctx s (Value (Scalars v) ∷ Fill (LimitOf (Variable x) to u step body) ∷ k) m (c + 32) c
+        (lands_on ctx s m shared (Perform (Turns (Variable x) to (ordinal_of u) step (turns (ordinal_of u) (ordinal_of v) step) body) ∷ k) m.place m.stack c a
         (at_once ctx _ Quiet m.place m.stack c a
         (inl (record {
           quiet = refl;
@@ -340,7 +340,7 @@ module _ (ctx : Setting) where
       pub then : Left Quiet end [] c a
 
     pub bounded_goes : (x : ℕ) (kind : Kind) (first step : ℤ) (left : ℕ) (body : Statements) → Bounded x kind first step left body
-        → Goes ctx s (Perform (Turns (Variable x kind) first step left body) ∷ k) m (c + 24)
+        → Goes ctx s (Perform (Turns (Variable x) kind first step left body) ∷ k) m (c + 24)
     bounded_goes x' kind first step left body row = by_left left (sym row.count)
       where
         at : ℕ
@@ -378,10 +378,10 @@ module _ (ctx : Setting) where
             (turns_read (compared_as (base_of kind)) first row.limit step
             (has_type (base_of kind) first based row.fits) (has_type (base_of kind) row.limit based row.limit_fits) row.round.is_step ∙ e)
 
-        by_left : (u : ℕ) → turns first row.limit step ≡ u → Goes ctx s (Perform (Turns (Variable x' kind) first step u body) ∷ k) m (c + 24)
+        by_left : (u : ℕ) → turns first row.limit step ≡ u → Goes ctx s (Perform (Turns (Variable x') kind first step u body) ∷ k) m (c + 24)
         by_left zero e =
-            goes_after ctx s (Perform (Turns (Variable x' kind) first step zero body) ∷ k) m stepped (c + 24) (c + 23) pushed
-            (goes_one ctx s (Perform (Turns (Variable x' kind) first step zero body) ∷ k) stepped (c + 23) c (running (going m row.end []) s.world)
+            goes_after ctx s (Perform (Turns (Variable x') kind first step zero body) ∷ k) m stepped (c + 24) (c + 23) pushed
+            (goes_one ctx s (Perform (Turns (Variable x') kind first step zero body) ∷ k) stepped (c + 23) c (running (going m row.end []) s.world)
             (advances stepped s.world _ (enters zero e ∙ yes _ _ _ (lt-ltb row.end (length own.code) row.within)))
             (lands_on ctx s m shared k row.end [] c a (rows_ahead ctx k row.end [] c a row.then))
             (omega arith))
@@ -402,8 +402,8 @@ module _ (ctx : Setting) where
             ∙ ap (λ (z : ℕ). set (set (set m.store (ctx.stack.frame.at + n) (word_of first)) (ctx.stack.frame.at + (n + 1)) u) z (word_of step)) third_at in
             let words = begun_words h.shadow ctx.stack.frame.at n (word_of first) u (word_of step) in
             let few = turns_few (base_of kind) first row.limit step u based row.fits row.limit_fits e in
-            goes_after ctx s (Perform (Turns (Variable x' kind) first step (suc u) body) ∷ k) m stepped (c + 24) (c + 23) pushed
-            (goes_after_in ctx s (Perform (Turns (Variable x' kind) first step (suc u) body) ∷ k) stepped begun x (c + 23) (c + 20)
+            goes_after ctx s (Perform (Turns (Variable x') kind first step (suc u) body) ∷ k) m stepped (c + 24) (c + 23) pushed
+            (goes_after_in ctx s (Perform (Turns (Variable x') kind first step (suc u) body) ∷ k) stepped begun x (c + 23) (c + 20)
             (advances stepped s.world _ (
             enters (suc u) e
             ∙ yes _ _ _ (lt-ltb (at + 2) 65536 deep)
@@ -421,7 +421,7 @@ module _ (ctx : Setting) where
             (omega arith)
 
     pub next_goes : (x : ℕ) (kind : Kind) (z step : ℤ) (left : ℕ) (body : Statements) → NextWaits ctx x kind z step left body Left Quiet m.place m.stack c a
-        → Goes ctx s (Perform (Turns (Variable x kind) z step left body) ∷ k) m (c + 32)
+        → Goes ctx s (Perform (Turns (Variable x) kind z step left body) ∷ k) m (c + 32)
     next_goes x' kind z step left body row = by_left left refl row.fit row.small
       where
         n : ℕ
@@ -444,9 +444,9 @@ module _ (ctx : Setting) where
             ∙ ap (λ (w : ℕ). turn_row own at row.turn row.end m row.words.now w (get_or m.store (at + 2) 0)) (own_read ctx s m shared (n + 1) (at + 1) (omega arith) (omega (arith, room)) ∙ ap h.shadow (omega arith) ∙ row.words.left_is ∙ e)
             ∙ ap (λ (w : ℕ). turn_row own at row.turn row.end m row.words.now u w) (own_read ctx s m shared (n + 2) (at + 2) (omega arith) (omega (arith, room)) ∙ ap h.shadow (omega arith) ∙ row.words.step_is)
 
-        by_left : (u : ℕ) → left ≡ u → TurnsFit (base_of kind) z step u → u < 65536 → Goes ctx s (Perform (Turns (Variable x' kind) z step u body) ∷ k) m (c + 32)
+        by_left : (u : ℕ) → left ≡ u → TurnsFit (base_of kind) z step u → u < 65536 → Goes ctx s (Perform (Turns (Variable x') kind z step u body) ∷ k) m (c + 32)
         by_left zero e fit small =
-            goes_one ctx s (Perform (Turns (Variable x' kind) z step zero body) ∷ k) m (c + 32) c (running (going m row.end m.stack) s.world)
+            goes_one ctx s (Perform (Turns (Variable x') kind z step zero body) ∷ k) m (c + 32) c (running (going m row.end m.stack) s.world)
             (advances m s.world _ (again zero e))
             (lands_on ctx s m shared k row.end m.stack c row.outer
             (rows_ahead ctx k row.end m.stack c row.outer
@@ -468,7 +468,7 @@ module _ (ctx : Setting) where
             ∙ ap (λ (y : ℕ). set (set m.store y u) (m.frame + n) (word_of z)) second_at
             ∙ ap (λ (y : ℕ). set (set m.store (ctx.stack.frame.at + (n + 1)) u) y (word_of z)) first_at in
             let words = turned_words h.shadow ctx.stack.frame.at n (word_of z) u in
-            goes_after_in ctx s (Perform (Turns (Variable x' kind) z step (suc u) body) ∷ k) m turning x (c + 32) (c + 20)
+            goes_after_in ctx s (Perform (Turns (Variable x') kind z step (suc u) body) ∷ k) m turning x (c + 32) (c + 20)
             (advances m s.world _ (
             again (suc u) e
             ∙ no _ _ _ (ne_eqb (suc u) 0 (λ d. omega (arith, d)))

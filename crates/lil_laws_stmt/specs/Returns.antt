@@ -2,7 +2,7 @@
 use Rattle.std.proofs.Common.{◌≡◌, ℕ, ◌+◌, ◌-◌, ◌<◌, ◌≤◌, ◌⊎◌, inl, inr, Some, List, [], ◌∷◌, ◌++◌, get_or, refl, sym, ap, ◌∙◌, subst, arith}
 use Rattle.std.specs.Prelude.{is_some}
 use Rattle.std.proofs.lemmas.Bool.{ne_eqb, lt-ltb, le-leb, and_from}
-use Rattle.lil_meaning.specs.Shapes.{offset}
+use Rattle.lil_resolved.specs.Shapes.{offset}
 use Rattle.lil_meaning.specs.Cells.{Root}
 use Rattle.lil_meaning.specs.Items.{End, Item, Perform, Source}
 use Rattle.lil_asm.specs.declared.instr.Instr.TheVariants.{Rtn}
@@ -85,7 +85,7 @@ module _ (ctx : Setting) (f g : Frame) (gs bs : List Frame) where
       long = shared.mem.long;
     }
       where
-        by : (r : Root) (i : ℕ) → i < Rattle.lil_meaning.specs.Shapes.words (ctx.home.shape r) → Side f.at m.top (ctx.home.base r + i) → x.owner (ctx.home.base r + i) ≡ Of r
+        by : (r : Root) (i : ℕ) → i < Rattle.lil_resolved.specs.Shapes.words (ctx.home.shape r) → Side f.at m.top (ctx.home.base r + i) → x.owner (ctx.home.base r + i) ≡ Of r
         by r i l (Before z) = beside_is (ctx.home.base r + i) (inl z) ∙ shared.mem.owned r i l
         by r i l (Between z y) =
             absurd (of_own r (sym (shared.mem.owned r i l) ∙ ap ctx.home.owner (let e : ctx.home.base r + i ≡ f.at + (ctx.home.base r + i - f.at) = omega (arith, z) in e) ∙ words.own (ctx.home.base r + i - f.at) (omega (arith, z, y))))
@@ -122,6 +122,8 @@ module _ (ctx : Setting) (f g : Frame) (gs bs : List Frame) where
                 high = g'.high;
               };
               activations_are = shared.activations_are;
+              loaded_are = shared.loaded_are;
+              levels = shared.levels;
               parked_are = shared.parked_are;
               kept_are = shared.kept_are;
             };

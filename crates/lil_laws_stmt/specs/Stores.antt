@@ -25,7 +25,7 @@ use Rattle.lil_match.specs.Closing.{both_trap}
 use Rattle.lil_match.specs.Steps.{advances, at_step, rows_ahead, shared_with, goes_one, goes_after, goes_more}
 
 module _ (ctx : Setting) where
-  open ctx use {modules, table, home as h}
+  open ctx use {library, table, home as h}
   open frame_of ctx use {own, number}
 
   -- steps of the machine from a place and an expression stack, while the source has these items
@@ -37,20 +37,19 @@ module _ (ctx : Setting) where
     here = going m p stack
 
     -- both sides trap
-    pub trap_goes : (kind : TrapKind) (budget : ℕ) → current items ≡ ctx.stack.frame.activation → next modules Now ≡ trapped modules Now kind → mstep here ≡ (Trap kind, here) → 1 ≤ budget
+    pub trap_goes : (kind : TrapKind) (budget : ℕ) → current items ≡ ctx.stack.frame.activation → next library Now ≡ trapped library Now kind → mstep here ≡ (Trap kind, here) → 1 ≤ budget
         → Goes ctx s items here budget
     trap_goes kind budget close source machine less =
         let run : Run = react (Trap kind) here (running here s.world) in
-        let there = both_trap ctx s items m kind all close in
         goes_one ctx s items here budget 0 run (advances here s.world _ machine)
         (subst (λ (t : Source). Lands ctx t.phase t run 0) (sym source)
-        (record { finish = refl; world = refl; known = there.known; name = there.name; procedure = refl }))
+        (both_trap ctx s items here kind all close))
         (omega (arith, less))
 
     -- The test that the number of a value is one of the kind's: it traps, or goes on at the place behind it with the same stack.
     pub number_tested : (k j : Kind) (v : Scalar) → is_base j ≡ true → within j v ≡ true → (below : List ℕ) → stack ≡ scalar_word v ∷ below
         → (middle budget rest : ℕ) → InstrsAt own.code (test_code k j) p middle → current items ≡ ctx.stack.frame.activation
-        → (has k (ordinal_of v) ≡ false → next modules Now ≡ trapped modules Now trap.Range)
+        → (has k (ordinal_of v) ≡ false → next library Now ≡ trapped library Now trap.Range)
         → (has k (ordinal_of v) ≡ true → Goes ctx s items (going m middle stack) rest) → rest + 1 ≤ budget → Goes ctx s items here budget
     number_tested k j v base fits below is middle budget rest test close traps goes less = by (covers k j) refl test
       where
@@ -75,7 +74,7 @@ module _ (ctx : Setting) where
     -- the test of a value that may be stored where one of the kind is wanted
     pub tested : (k j : Kind) (v : Scalar) → takes_value k j ≡ true → within j v ≡ true → (below : List ℕ) → stack ≡ scalar_word v ∷ below
         → (middle budget rest : ℕ) → InstrsAt own.code (test_code k j) p middle → current items ≡ ctx.stack.frame.activation
-        → (within k v ≡ false → next modules Now ≡ trapped modules Now trap.Range)
+        → (within k v ≡ false → next library Now ≡ trapped library Now trap.Range)
         → (within k v ≡ true → Goes ctx s items (going m middle stack) rest) → rest + 1 ≤ budget → Goes ctx s items here budget
     tested k j v takes fits below is middle budget rest test close traps goes less =
         let same : within k v ≡ has k (ordinal_of v) = taken_where k j v takes fits in
@@ -84,7 +83,7 @@ module _ (ctx : Setting) where
     -- a value of the kind of a variable is stored there
     pub stored_goes : (place : Place) (offset : ℕ) (k : Kind) → IsVariable ctx place offset k → (v : Scalar) → within k v ≡ true
         → (below : List ℕ) → stack ≡ word_for h v ∷ below → (end : ℕ) → IsAt own.code p (Sgw offset) end
-        → (after : List Item) → next modules Now ≡ record s { items = after; cells = stored s.cells place (alone v); phase = Going }
+        → (after : List Item) → next library Now ≡ record s { items = after; cells = stored s.cells place (alone v); phase = Going }
         → (c budget : ℕ) (a : Around) → Rows ctx after Quiet end below c a → c + 1 ≤ budget → Goes ctx s items here budget
     stored_goes place offset k variable v fits below is end at after becomes c budget a rows less =
         let inside : own.base + offset < 65536 = omega (arith, (scalar_owned h s.cells m.store place.root place.path k all.mem variable.living).1, variable.at) in

@@ -7,11 +7,11 @@ use Rattle.lil_base.specs.declared.fault.TrapKind.TheVariants as trap
 use Rattle.lil_resolved.specs.Kinds.{Kind}
 use Rattle.lil_resolved.specs.Scalars.{Scalar, within, scalar_word}
 use Rattle.lil_resolved.specs.Resolved.{Variable, Expression, Argument, Assign, Request, kind_of}
-use Rattle.lil_meaning.specs.Shapes.{Word}
+use Rattle.lil_resolved.specs.Shapes.{Word}
 use Rattle.lil_meaning.specs.Cells.{Place, stored, alone}
-use Rattle.lil_meaning.specs.World.{World, serve}
+use Rattle.lil_meaning.specs.World.{World, Given, Single, serve}
 use Rattle.lil_meaning.specs.Items.{Datum, Scalars, Places, SetTo, StoreAt, Pass, Do, Passing, Item, Value, PlaceOf, Fill, Perform, Going, Source}
-use Rattle.lil_meaning.specs.Steps.{trapped, with_items, datum_word}
+use Rattle.lil_meaning.specs.Steps.{trapped, with_items, given_of, level_of}
 use Rattle.lil_asm.specs.declared.instr.Instr.TheVariants.{Sgw, Svc}
 use Rattle.lil_mcode.specs.State.{State}
 use Rattle.lil_mcode.specs.Table.{going, request_row}
@@ -21,24 +21,29 @@ use Rattle.lil_match.specs.Parts.{yes}
 use Rattle.lil_match.specs.Homes.{word_for, plain_word}
 use Rattle.lil_match.specs.Goes.{Shared, Goes, Lands}
 use Rattle.lil_match.specs.Stutter.{stutter}
-use Rattle.lil_match.specs.Waits.{Setting, frame_of, laid_out, Quiet, ValueOf, Direct, Around, Reach, Rows, words_on, IsVariable, Waiting}
+use Rattle.lil_match.specs.Waits.{Setting, frame_of, laid_out, Quiet, ValueOf, Direct, Around, Reach, Rows, HasWords, IsVariable, Waiting}
 use Rattle.lil_match.specs.Orders.{instr_within, instrs_order, expression_stands, arguments_within}
 use Rattle.lil_match.specs.Closing.{closed}
 use Rattle.lil_match.specs.Steps.{advances, at_step, at_once, rows_ahead, lands_on, goes_none, goes_one, operand_goes}
 use Rattle.lil_laws_stmt.specs.Stores.{tested, stored_goes}
 
 -- one more word on the expression stack
-words_more : (done : List Datum) (v : Scalar) → scalar_word v ∷ words_on done ≡ words_on (done ++ Scalars v ∷ [])
-words_more done v = sym (ap (λ (x : List ℕ). reverse x) (map-append datum_word done (Scalars v ∷ [])) ∙ reverse-append (map datum_word done) (scalar_word v ∷ []))
+words_more : (done : List Datum) (stack : List ℕ) (v : Scalar) → HasWords done stack → HasWords (done ++ Scalars v ∷ []) (scalar_word v ∷ stack)
+words_more done stack v h = record {
+  words = h.words ++ scalar_word v ∷ [];
+  are = map-append given_of done (Scalars v ∷ []) ∙ ap (λ (x : List Given). x ++ Single (scalar_word v) ∷ []) h.are ∙ sym (map-append Single h.words (scalar_word v ∷ []));
+  on = ap (λ (x : List ℕ). scalar_word v ∷ x) h.on ∙ sym (reverse-append h.words (scalar_word v ∷ []));
+}
 
-words_length : (done : List Datum) → length (words_on done) ≡ length done
-words_length done = length-reverse (map datum_word done) ∙ length-map done datum_word
+words_length : (done : List Datum) (stack : List ℕ) → HasWords done stack → length stack ≡ length done
+words_length done stack h =
+    ap length h.on ∙ length-reverse h.words ∙ sym (length-map h.words Single) ∙ sym (ap length h.are) ∙ length-map done given_of
 
 done_length : (done : List Datum) (v : Scalar) → length (done ++ Scalars v ∷ []) ≡ suc (length done)
 done_length done v = omega (arith, length-append done (Scalars v ∷ []))
 
 module _ (ctx : Setting) where
-  open ctx use {modules, table, home as h}
+  open ctx use {library, table, home as h}
   open frame_of ctx use {own, number}
   open laid_out ctx use {layout as l}
 
@@ -53,14 +58,14 @@ module _ (ctx : Setting) where
     abbrev Rest : Reach
     Rest = Rows ctx k
 
-    pub assign_goes : (x : ℕ) (kind : Kind) (e : Expression) → Waiting ctx (Perform (Do (Assign (Variable x kind) e))) Rest Quiet m.place m.stack c a
-        → Goes ctx s (Perform (Do (Assign (Variable x kind) e)) ∷ k) m (c + 32)
+    pub assign_goes : (x : ℕ) (kind : Kind) (e : Expression) → Waiting ctx (Perform (Do (Assign (Variable x) kind e))) Rest Quiet m.place m.stack c a
+        → Goes ctx s (Perform (Do (Assign (Variable x) kind e)) ∷ k) m (c + 32)
     assign_goes x kind e row =
-        goes_none ctx s (Perform (Do (Assign (Variable x kind) e)) ∷ k) m (c + 32) c
-        (lands_on ctx s m shared (PlaceOf (Variable x kind) ∷ Fill (SetTo kind e) ∷ k) m.place m.stack c a
+        goes_none ctx s (Perform (Do (Assign (Variable x) kind e)) ∷ k) m (c + 32) c
+        (lands_on ctx s m shared (PlaceOf (Variable x) ∷ Fill (SetTo kind e) ∷ k) m.place m.stack c a
         (at_once ctx _ Quiet m.place m.stack c a
         (record {
-          part = row.part.here.known;
+          part = record { kind = kind; known = row.part.here.known };
           then = at_once ctx _ (Direct row.part.here.known.offset kind) m.place m.stack c a
               (record {
                 part = record {
@@ -108,7 +113,7 @@ module _ (ctx : Setting) where
         let items : List Item = Value (Scalars v) ∷ Fill (StoreAt place to) ∷ k in
         let now : Source = record s { items = items; phase = Going } in
         let after : Source = record s { items = k; cells = stored s.cells place (alone v); phase = Going } in
-        let becomes : Bool → Source = λ b. cond b after (trapped modules now trap.Range) in
+        let becomes : Bool → Source = λ b. cond b after (trapped library now trap.Range) in
         tested ctx s items m shared m.place m.stack to kind v row.part.takes fit below (is ∙ ap (λ (w : ℕ). w ∷ below) (plain_word h kind v fit))
         row.part.middle (c + 32) (c + 1) row.part.test (closed ctx k _ _ _ _ _ row.then)
         (λ out. ap becomes out)
@@ -126,7 +131,7 @@ module _ (ctx : Setting) where
         (at_once ctx _ Quiet m.place m.stack c a
         (record {
           part = record {
-            is = row.part.empty;
+            on = record { words = []; are = refl; on = row.part.empty };
             middle = row.part.here.middle;
             given = row.part.here.arguments;
             serve = record { words = row.part.here.words ∙ ap Some (let e : length given ≡ 0 + length given = omega arith in e); end = row.part.end; by = row.part.here.by; within = row.part.within };
@@ -144,12 +149,12 @@ module _ (ctx : Setting) where
         let behind = arguments_within l own.code (suc (length done)) left row.part.given.middle row.part.middle row.part.given.then (instr_within own.code row.part.middle (Svc r) serve.end serve.by) in
         let count : length done + suc (length left) ≡ suc (length done) + length left = omega arith in
         operand_goes ctx s k m c a shared (Perform (Passing r done (x ∷ left)) ∷ k) x.value (Pass r x.kind done left) refl (omega arith) value.middle value.value.value
-        (omega (arith, value.value.shallow, ap length row.part.is, words_length done))
+        (omega (arith, value.value.shallow, words_length done m.stack row.part.on))
         (value_within (length done) x.value x.kind m.place row.part.given.middle value behind)
         (record {
           part = record {
             takes = value.takes;
-            is = row.part.is;
+            on = row.part.on;
             tested = row.part.given.middle;
             test = value.test;
             middle = row.part.middle;
@@ -165,7 +170,7 @@ module _ (ctx : Setting) where
         let items : List Item = Value (Scalars v) ∷ Fill (Pass r to done left) ∷ k in
         let now : Source = record s { items = items; phase = Going } in
         let after : List Item = Perform (Passing r (done ++ Scalars v ∷ []) left) ∷ k in
-        let becomes : Bool → Source = λ b. cond b (with_items now after) (trapped modules now trap.Range) in
+        let becomes : Bool → Source = λ b. cond b (with_items now after) (trapped library now trap.Range) in
         let count : suc (length done) ≡ length (done ++ Scalars v ∷ []) = sym (done_length done v) in
         let stack_is : m.stack ≡ scalar_word v ∷ below = is ∙ ap (λ (w : ℕ). w ∷ below) (plain_word h kind v fit) in
         let serve = row.part.serve in
@@ -180,7 +185,7 @@ module _ (ctx : Setting) where
         (at_once ctx _ Quiet row.part.tested m.stack c a
         (record {
           part = record {
-            is = stack_is ∙ ap (λ (x : List ℕ). scalar_word v ∷ x) row.part.is ∙ words_more done v;
+            on = subst (HasWords (done ++ Scalars v ∷ [])) (sym stack_is) (words_more done below v row.part.on);
             middle = row.part.middle;
             given = subst (λ (n : ℕ). ArgumentsAt l own.code n left row.part.tested row.part.middle) count row.part.given;
             serve = record { words = serve.words ∙ ap (λ (n : ℕ). Some (n + length left)) count; end = serve.end; by = serve.by; within = serve.within };
@@ -195,14 +200,15 @@ module _ (ctx : Setting) where
         → Goes ctx s (Perform (Passing r done []) ∷ k) m (c + 32)
     serve_goes r done row =
         let count : ℕ = length done + 0 in
-        let room : length m.stack ≡ count = omega (arith, ap length row.part.is, words_length done) in
+        let room : length m.stack ≡ count = omega (arith, words_length done m.stack row.part.on) in
         let by = subst (λ (p : ℕ). IsAt own.code p (Svc r) row.part.serve.end) (sym row.part.given) row.part.serve.by in
         let enough : nat_le count (length m.stack) ≡ true = le-leb count (length m.stack) (omega (arith, room)) in
         let none_left : drop count m.stack ≡ [] = drop_all count m.stack (omega (arith, room)) in
-        let words : reverse (take count m.stack) ≡ map datum_word done =
-        ap reverse (take_all count m.stack (omega (arith, room)) ∙ row.part.is) ∙ reverse-reverse (map datum_word done) in
+        let words : map Single (reverse (take count m.stack)) ≡ map given_of done =
+        ap (λ (x : List ℕ). map Single (reverse x)) (take_all count m.stack (omega (arith, room)) ∙ row.part.on.on) ∙ ap (map Single) (reverse-reverse row.part.on.words) ∙ sym row.part.on.are in
         let machine : State = record m { place = row.part.serve.end; stack = [] } in
-        let w : World = serve r (map datum_word done) s.world in
+        let w : World = (serve (level_of s) r (map given_of done) s.world).0 in
+        let at : List ℕ → List Given → Run = λ x given. record { machine = record m { place = row.part.serve.end; stack = x }; world = (serve (level_of s) r given s.world).0; finish = Running } in
         goes_one ctx s (Perform (Passing r done []) ∷ k) m (c + 32) c (running machine w)
         (advances m s.world _ (
         at_step ctx m shared.program (Svc r) row.part.serve.end by
@@ -210,8 +216,8 @@ module _ (ctx : Setting) where
         ∙ yes _ _ _ enough
         )
         ∙ ap (λ (o : Option ℕ). requested r (words_taken o) (going m row.part.serve.end m.stack) (running m s.world)) row.part.serve.words
-        ∙ ap (λ (x : List ℕ). let run : Run = record { machine = record m { place = row.part.serve.end; stack = x }; world = serve r (reverse (take count m.stack)) s.world; finish = Running } in run) none_left
-        ∙ ap (λ (x : List ℕ). let run : Run = record { machine = machine; world = serve r x s.world; finish = Running } in run) words)
+        ∙ ap (λ (x : List ℕ). at x (map Single (reverse (take count m.stack)))) none_left
+        ∙ ap (at []) words)
         (record {
           machine = machine;
           is = refl;

@@ -17,6 +17,7 @@ use Rattle.lil_resolved.specs.Bases.{own_base}
 use Rattle.lil_resolved.specs.Kinds.{Kind, OfWhole, compared_as}
 use Rattle.lil_resolved.specs.Resolved.{Expression, Argument, Statements, kind_of, counted_as}
 use Rattle.lil_resolved.specs.Sound.{takes_value, request_kinds, argument_kind, IsSoundWhole, IsSoundValue, AreSoundArguments, IsSoundBody}
+use Rattle.lil_resolved.specs.Shapes.{Shape, Word}
 use Rattle.lil_resolved.specs.Views.{base_view, kind_view, request_number}
 use Rattle.lil_resolved.specs.declared.resolved.RBase.{RBase}
 use Rattle.lil_resolved.specs.declared.resolved.RBase.TheVariants as b
@@ -58,32 +59,32 @@ parameters_are q.WriteInt = refl
 parameters_are q.WriteOct = refl
 parameters_are q.WriteHex = refl
 
-module _ (m : RModule) (ks : List Kind) (kinds : Fits m ks) where
+module _ (m : RModule) (ts : List Shape) (kinds : Fits m ts) where
   abbrev Body : Bool → Option Statements → Type 0
-  Body looping o = IfSome o (IsSoundBody ks looping)
+  Body looping o = IfSome o (IsSoundBody ts looping)
 
   abbrev Known : Option Variable → Type 0
-  Known o = IfSome o (IsKnown m.types ks)
+  Known o = IfSome o (IsKnown m.types ts)
 
   -- ---- assignments
-  pub stored_sound : (looping : Bool) (a : Variable) (sort : ℕ) (o : Option Expression) → IsKnown m.types ks a → IfSome o (Kept m.types ks sort) → Body looping (s.stored a o)
+  pub stored_sound : (looping : Bool) (a : Variable) (sort : ℕ) (o : Option Expression) → IsKnown m.types ts a → IfSome o (Kept m.types ts sort) → Body looping (s.stored a o)
   stored_sound looping a sort None h j = tt
-  stored_sound looping a sort (Some e) h j = if_true (IsSoundBody ks looping) (takes_value (kind_view a.place.kind) (kind_of e)) _
-      (λ takes. ((variable_sound m.types ks a h, record { takes = takes; whole = kept_alone m.types ks sort e j }), tt))
+  stored_sound looping a sort (Some e) h j = if_true (IsSoundBody ts looping) (takes_value (kind_view a.place.kind) (kind_of e)) _
+      (λ takes. ((variable_sound m.types ts a h, record { takes = takes; whole = kept_alone m.types ts sort e j }), tt))
 
   -- ---- INC, DEC and HALT
   changed_sound : (looping : Bool) (way : Direction) (o : Option Variable) (by : Lowers) → Known o
-      → ((w : ℕ) → IfSome (v.shallow (by w)) (Kept m.types ks w)) → Body looping (s.changed_by way o by)
+      → ((w : ℕ) → IfSome (v.shallow (by w)) (Kept m.types ts w)) → Body looping (s.changed_by way o by)
   changed_sound looping way None by h j = tt
   changed_sound looping way (Some a) by h j = over (v.shallow (by (counted a.place.kind.base))) (j (counted a.place.kind.base))
     where
-      over : (o : Option Expression) → IfSome o (Kept m.types ks (counted a.place.kind.base)) → Body looping (s.changed way a o)
+      over : (o : Option Expression) → IfSome o (Kept m.types ts (counted a.place.kind.base)) → Body looping (s.changed way a o)
       over None i = tt
       over (Some e) i =
           let of = counted_base m.types a.place.kind.base in (
             (
-              variable_sound m.types ks a h,
-              subst (IsSoundWhole ks e) (of.2 ∙ counted_kind a.place.kind) (kept_whole m.types ks (counted a.place.kind.base) e of.0 i of.1),
+              variable_sound m.types ts a h,
+              subst (IsSoundWhole ts e) (of.2 ∙ counted_kind a.place.kind) (kept_whole m.types ts (counted a.place.kind.base) e of.0 i of.1),
             ),
             tt,
           )
@@ -93,14 +94,14 @@ module _ (m : RModule) (ks : List Kind) (kinds : Fits m ks) where
     where
       by : (y : RArgument-F RArgument RCallee RExpr RSelector RDesignator RElement ROperation) → Known (s.place_in m y)
       by (x.RArgument::Value e) = tt
-      by (x.Place d) = designator_known m ks kinds d
+      by (x.Place d) = designator_known m ts kinds d
       by (x.Type i) = tt
 
   change_sound : (looping : Bool) (way : Direction) (xs : List RArgument) → Body looping (s.change m way xs)
   change_sound looping way [] = tt
   change_sound looping way (a ∷ []) =
-      changed_sound looping way (s.place m a) (v.whole m.types (pos 1)) (place_known a) (λ w. shallow_kept m.types ks w (v.whole m.types (pos 1) w) (whole_held m.types ks (pos 1) w))
-  change_sound looping way (a ∷ c ∷ []) = changed_sound looping way (s.place m a) (argument m c).lowers (place_known a) (handed_sound m ks kinds c)
+      changed_sound looping way (s.place m a) (v.whole m.types (pos 1)) (place_known a) (λ w. shallow_kept m.types ts w (v.whole m.types (pos 1) w) (whole_held m.types ts (pos 1) w))
+  change_sound looping way (a ∷ c ∷ []) = changed_sound looping way (s.place m a) (argument m c).lowers (place_known a) (handed_sound m ts kinds c)
   change_sound looping way (a ∷ c ∷ d ∷ xs) = tt
 
   halted_sound : (looping : Bool) (xs : List RArgument) → Body looping (s.halted xs)
@@ -115,19 +116,19 @@ module _ (m : RModule) (ks : List Kind) (kinds : Fits m ks) where
 
   -- ---- calls of resident procedures
   abbrev Given : Kind → Argument → Type 0
-  Given k a = IsSoundValue ks a.value a.kind × (a.kind ≡ k)
+  Given k a = IsSoundValue ts a.value a.kind × (a.kind ≡ k)
 
-  given_sound : (k : RBase) (sort : ℕ) (o : Option Expression) → IfSome o (Kept m.types ks sort) → IfSome (s.given k o) (Given (base_view k))
+  given_sound : (k : RBase) (sort : ℕ) (o : Option Expression) → IfSome o (Kept m.types ts sort) → IfSome (s.given k o) (Given (base_view k))
   given_sound k sort None h = tt
-  given_sound k sort (Some e) h = if_true (Given (base_view k)) (takes_value (base_view k) (kind_of e)) _ (λ takes. (record { takes = takes; whole = kept_alone m.types ks sort e h }, refl))
+  given_sound k sort (Some e) h = if_true (Given (base_view k)) (takes_value (base_view k) (kind_of e)) _ (λ takes. (record { takes = takes; whole = kept_alone m.types ts sort e h }, refl))
 
   one_sound : (k : RBase) (sort : ℕ) (a : RArgument) → IfSome (s.handed m k sort a) (Given (base_view k))
   one_sound k sort a =
       let own = s.own_or (argument m a).own sort in
-      given_sound k own (v.shallow ((argument m a).lowers own)) (handed_sound m ks kinds a own)
+      given_sound k own (v.shallow ((argument m a).lowers own)) (handed_sound m ts kinds a own)
 
   abbrev AllGiven : List (RBase × ℕ) → List Argument → Type 0
-  AllGiven ps given = AreSoundArguments ks given × (map argument_kind given ≡ bases ps)
+  AllGiven ps given = AreSoundArguments ts given × (map argument_kind given ≡ bases ps)
 
   linked_sound : (p : RBase × ℕ) (ps : List (RBase × ℕ)) (a : Option Argument) (rest : Option (List Argument))
       → IfSome a (Given (base_view p.0)) → IfSome rest (AllGiven ps) → IfSome (s.linked a rest) (AllGiven (p ∷ ps))

@@ -23,7 +23,8 @@ use Rattle.lil_resolved.specs.Bases.{own_base}
 use Rattle.lil_resolved.specs.Kinds.{Kind, OfTruth}
 use Rattle.lil_resolved.specs.Resolved.{Expression, Label, Statements, Empty, Then, Arms, Else, Resolved, kind_of}
 use Rattle.lil_resolved.specs.Sound.{is_base, takes_value, IsSoundWhole, IsSoundValue, IsSoundLabel, AreSoundLabels, IsStep, IsSoundBody, AreSoundArms, IsSound}
-use Rattle.lil_resolved.specs.Views.{base_view, kind_view, kind_declared, joined, all_of}
+use Rattle.lil_resolved.specs.Shapes.{Shape, Word}
+use Rattle.lil_resolved.specs.Views.{base_view, kind_view, shape_declared, joined, all_of}
 use Rattle.lil_resolved.specs.declared.resolved.RBase.{RBase}
 use Rattle.lil_resolved.specs.declared.resolved.RBase.TheVariants as b
 use Rattle.lil_resolved.specs.declared.resolved.RKind.{RKind}
@@ -86,32 +87,32 @@ step_sound z h =
     let b = bounds (negsuc 32767) z (pos 32767) (both_right (not (is_zero z)) (in_type Integer z) h) in
     record { some = λ e. true≢false (sym some ∙ ap (λ z. not (is_zero z)) e); lower = b.0; upper = b.1 }
 
-module _ (ks : List Kind) where
+module _ (ts : List Shape) where
   abbrev Whole : Kind → Option Expression → Type 0
-  Whole kind e = IfSome e (λ e. IsSoundWhole ks e kind)
+  Whole kind e = IfSome e (λ e. IsSoundWhole ts e kind)
 
   abbrev Body : Bool → Option Statements → Type 0
-  Body looping b = IfSome b (IsSoundBody ks looping)
+  Body looping b = IfSome b (IsSoundBody ts looping)
 
   abbrev IsSoundGuard : Bool → Expression × Statements → Type 0
-  IsSoundGuard looping g = IsSoundWhole ks g.0 OfTruth × IsSoundBody ks looping g.1
+  IsSoundGuard looping g = IsSoundWhole ts g.0 OfTruth × IsSoundBody ts looping g.1
 
   abbrev IsSoundArm : Bool → RBase → List Label × Statements → Type 0
-  IsSoundArm looping k a = AreSoundLabels (base_view k) a.0 × IsSoundBody ks looping a.1
+  IsSoundArm looping k a = AreSoundLabels (base_view k) a.0 × IsSoundBody ts looping a.1
 
   -- ---- bodies
-  joined_sound : (looping : Bool) (a b : Statements) → IsSoundBody ks looping a → IsSoundBody ks looping b → IsSoundBody ks looping (joined a b)
+  joined_sound : (looping : Bool) (a b : Statements) → IsSoundBody ts looping a → IsSoundBody ts looping b → IsSoundBody ts looping (joined a b)
   joined_sound looping Empty b h j = j
   joined_sound looping (Then s ss) b h j = (h.0, joined_sound looping ss b h.1 j)
 
-  all_sound : (looping : Bool) (bs : List Statements) → AllFine (IsSoundBody ks looping) bs → IsSoundBody ks looping (all_of bs)
+  all_sound : (looping : Bool) (bs : List Statements) → AllFine (IsSoundBody ts looping) bs → IsSoundBody ts looping (all_of bs)
   all_sound looping [] h = tt
   all_sound looping (b ∷ bs) h = joined_sound looping b (all_of bs) h.0 (all_sound looping bs h.1)
 
-  body_sound : (looping : Bool) (bs : List (Option Statements)) → AllIf (IsSoundBody ks looping) bs → Body looping (option_map all_of (all_some bs))
-  body_sound looping bs h = by (all_some bs) (some_fine (IsSoundBody ks looping) bs h)
+  body_sound : (looping : Bool) (bs : List (Option Statements)) → AllIf (IsSoundBody ts looping) bs → Body looping (option_map all_of (all_some bs))
+  body_sound looping bs h = by (all_some bs) (some_fine (IsSoundBody ts looping) bs h)
     where
-      by : (o : Option (List Statements)) → IfSome o (AllFine (IsSoundBody ks looping)) → Body looping (option_map all_of o)
+      by : (o : Option (List Statements)) → IfSome o (AllFine (IsSoundBody ts looping)) → Body looping (option_map all_of o)
       by None j = tt
       by (Some bs) j = all_sound looping bs j
 
@@ -124,7 +125,7 @@ module _ (ks : List Kind) where
   paired_arm looping k (Some ls) (Some b) h j = (h, j)
   paired_arm looping k _ _ h j = tt
 
-  nested_sound : (looping : Bool) (gs : List (Expression × Statements)) (other : Statements) → AllFine (IsSoundGuard looping) gs → IsSoundBody ks looping other → IsSoundBody ks looping (s.nested gs other)
+  nested_sound : (looping : Bool) (gs : List (Expression × Statements)) (other : Statements) → AllFine (IsSoundGuard looping) gs → IsSoundBody ts looping other → IsSoundBody ts looping (s.nested gs other)
   nested_sound looping [] other h j = j
   nested_sound looping (g ∷ gs) other h j = ((h.0.0, h.0.1, nested_sound looping gs other h.1 j), tt)
 
@@ -132,15 +133,15 @@ module _ (ks : List Kind) where
   conditional_sound looping (Some gs) (Some other) h j = nested_sound looping gs other h j
   conditional_sound looping _ _ h j = tt
 
-  chosen_sound : (looping : Bool) (k : RBase) (as' : List (List Label × Statements)) (other : Arms) → AllFine (IsSoundArm looping k) as' → AreSoundArms ks looping (base_view k) other
-      → AreSoundArms ks looping (base_view k) (s.chosen as' other)
+  chosen_sound : (looping : Bool) (k : RBase) (as' : List (List Label × Statements)) (other : Arms) → AllFine (IsSoundArm looping k) as' → AreSoundArms ts looping (base_view k) other
+      → AreSoundArms ts looping (base_view k) (s.chosen as' other)
   chosen_sound looping k [] other h j = j
   chosen_sound looping k (a ∷ rest) other h j = (h.0.0, h.0.1, chosen_sound looping k rest other h.1 j)
 
   selected_sound : (looping : Bool) (k : RBase) (e : Option Expression) (as' : Option (List (List Label × Statements))) (other : Option Arms) → is_base (base_view k) ≡ true → Whole (base_view k) e → IfSome as' (AllFine (IsSoundArm looping k))
-      → IfSome other (AreSoundArms ks looping (base_view k)) → Body looping (s.selected e as' other)
+      → IfSome other (AreSoundArms ts looping (base_view k)) → Body looping (s.selected e as' other)
   selected_sound looping k (Some e) (Some as') (Some other) w h j i =
-      (subst (λ k. (is_base k ≡ true) × IsSoundWhole ks e k × AreSoundArms ks looping k (s.chosen as' other)) (sym h.kind) (w, h, chosen_sound looping k as' other j i), tt)
+      (subst (λ k. (is_base k ≡ true) × IsSoundWhole ts e k × AreSoundArms ts looping k (s.chosen as' other)) (sym h.kind) (w, h, chosen_sound looping k as' other j i), tt)
   selected_sound looping k _ _ _ w h j i = tt
 
   while_sound : (looping : Bool) (e : Option Expression) (b : Option Statements) → Whole OfTruth e → Body looping b → Body looping (s.repeated_while e b)
@@ -161,35 +162,35 @@ module _ (ks : List Kind) where
 
   -- a start that may be stored in a variable
   abbrev IsStart : Variable → Expression → Type 0
-  IsStart d e = IsSoundValue ks e (kind_view d.place.kind)
+  IsStart d e = IsSoundValue ts e (kind_view d.place.kind)
 
-  started_sound : (t : Table) (d : Variable) (sort : ℕ) (o : Option Expression) → IfSome o (Kept t ks sort) → IfSome (s.started d o) (IsStart d)
+  started_sound : (t : Table) (d : Variable) (sort : ℕ) (o : Option Expression) → IfSome o (Kept t ts sort) → IfSome (s.started d o) (IsStart d)
   started_sound t d sort None h = tt
-  started_sound t d sort (Some e) h = if_true (IsStart d) (takes_value (kind_view d.place.kind) (kind_of e)) e (λ takes. record { takes = takes; whole = kept_alone t ks sort e h })
+  started_sound t d sort (Some e) h = if_true (IsStart d) (takes_value (kind_view d.place.kind) (kind_of e)) e (λ takes. record { takes = takes; whole = kept_alone t ts sort e h })
 
-  for_sound : (looping : Bool) (t : Table) (d : Variable) (a b : Option Expression) (z : ℤ) (body : Option Statements) → IsKnown t ks d → IfSome a (IsStart d) → IfSome b (Kept t ks d.sort) → Body looping body
+  for_sound : (looping : Bool) (t : Table) (d : Variable) (a b : Option Expression) (z : ℤ) (body : Option Statements) → IsKnown t ts d → IfSome a (IsStart d) → IfSome b (Kept t ts d.sort) → Body looping body
       → Body looping (s.repeated_for d a b z body)
-  for_sound looping t d (Some a) (Some b) z (Some body) h j p q = if_true (IsSoundBody ks looping) (s.is_step z) _ (λ e.
-      let end = λ (x : Expression) (i : Kept t ks d.sort x). subst (IsSoundWhole ks x) (sym (own_base d.place.kind)) (kept_whole t ks d.sort x d.place.kind.base i h.type) in
-      ((variable_sound t ks d h, j, end b p, step_sound z e, q), tt))
+  for_sound looping t d (Some a) (Some b) z (Some body) h j p q = if_true (IsSoundBody ts looping) (s.is_step z) _ (λ e.
+      let end = λ (x : Expression) (i : Kept t ts d.sort x). subst (IsSoundWhole ts x) (sym (own_base d.place.kind)) (kept_whole t ts d.sort x d.place.kind.base i h.type) in
+      ((variable_sound t ts d h, j, end b p, step_sound z e, q), tt))
   for_sound looping t d None _ z _ h j p q = tt
   for_sound looping t d (Some a) None z _ h j p q = tt
   for_sound looping t d (Some a) (Some b) z None h j p q = tt
 
-  else_sound : (looping : Bool) (k : Kind) (b : Option Statements) → Body looping b → IfSome (option_map Else b) (AreSoundArms ks looping k)
+  else_sound : (looping : Bool) (k : Kind) (b : Option Statements) → Body looping b → IfSome (option_map Else b) (AreSoundArms ts looping k)
   else_sound looping k None h = tt
   else_sound looping k (Some b) h = h
 
 -- ---- the induction
-module _ (m : RModule) (ks : List Kind) (kinds : Fits m ks) where
+module _ (m : RModule) (ts : List Shape) (kinds : Fits m ts) where
   abbrev StatementSound : RStmt → Type 0
-  StatementSound x = (looping : Bool) → Body ks looping (statement m x looping)
+  StatementSound x = (looping : Bool) → Body ts looping (statement m x looping)
 
   abbrev ArmSound : RArm → Type 0
-  ArmSound a = (looping : Bool) (k : RBase) → IfSome (arm m a looping k) (IsSoundArm ks looping k)
+  ArmSound a = (looping : Bool) (k : RBase) → IfSome (arm m a looping k) (IsSoundArm ts looping k)
 
   abbrev GuardSound : RGuard → Type 0
-  GuardSound g = (looping : Bool) → IfSome (guard m g looping) (IsSoundGuard ks looping)
+  GuardSound g = (looping : Bool) → IfSome (guard m g looping) (IsSoundGuard ts looping)
 
   -- trees, each with its proof
   abbrev Stmt : Type 0
@@ -201,42 +202,42 @@ module _ (m : RModule) (ks : List Kind) (kinds : Fits m ks) where
   abbrev Guard : Type 0
   Guard = (g : RGuard) × GuardSound g
 
-  whole : (x : RExpr) (sort : ℕ) (k : RBase) → base_at m.types sort ≡ Some k → Whole ks (base_view k) (value m x sort)
-  whole x sort k is = by (value m x sort) (value_sound m ks kinds x sort)
+  whole : (x : RExpr) (sort : ℕ) (k : RBase) → base_at m.types sort ≡ Some k → Whole ts (base_view k) (value m x sort)
+  whole x sort k is = by (value m x sort) (value_sound m ts kinds x sort)
     where
-      by : (o : Option Expression) → IfSome o (Kept m.types ks sort) → Whole ks (base_view k) o
+      by : (o : Option Expression) → IfSome o (Kept m.types ts sort) → Whole ts (base_view k) o
       by None h = tt
-      by (Some e) h = kept_whole m.types ks sort e k h is
+      by (Some e) h = kept_whole m.types ts sort e k h is
 
-  condition : (x : RExpr) → Whole ks OfTruth (value m x boolean)
+  condition : (x : RExpr) → Whole ts OfTruth (value m x boolean)
   condition x = whole x boolean b.Truth refl
 
-  each : (looping : Bool) (xs : List Stmt) → AllIf (IsSoundBody ks looping) (map (λ (f : Meaning). f looping) (map (statement m) (map (λ e. e.0) xs)))
+  each : (looping : Bool) (xs : List Stmt) → AllIf (IsSoundBody ts looping) (map (λ (f : Meaning). f looping) (map (statement m) (map (λ e. e.0) xs)))
   each looping [] = tt
   each looping (x ∷ xs) = (x.1 looping, each looping xs)
 
-  bodies : (looping : Bool) (xs : List Stmt) → Body ks looping (s.body looping (map (statement m) (map (λ e. e.0) xs)))
-  bodies looping xs = body_sound ks looping (map (λ (f : Meaning). f looping) (map (statement m) (map (λ e. e.0) xs))) (each looping xs)
+  bodies : (looping : Bool) (xs : List Stmt) → Body ts looping (s.body looping (map (statement m) (map (λ e. e.0) xs)))
+  bodies looping xs = body_sound ts looping (map (λ (f : Meaning). f looping) (map (statement m) (map (λ e. e.0) xs))) (each looping xs)
 
-  each_guard : (looping : Bool) (gs : List Guard) → AllIf (IsSoundGuard ks looping) (map (λ (f : GuardMeaning). f looping) (map (guard m) (map (λ e. e.0) gs)))
+  each_guard : (looping : Bool) (gs : List Guard) → AllIf (IsSoundGuard ts looping) (map (λ (f : GuardMeaning). f looping) (map (guard m) (map (λ e. e.0) gs)))
   each_guard looping [] = tt
   each_guard looping (g ∷ gs) = (g.1 looping, each_guard looping gs)
 
-  guards : (looping : Bool) (gs : List Guard) → IfSome (all_some (map (λ (f : GuardMeaning). f looping) (map (guard m) (map (λ e. e.0) gs)))) (AllFine (IsSoundGuard ks looping))
-  guards looping gs = some_fine (IsSoundGuard ks looping) (map (λ (f : GuardMeaning). f looping) (map (guard m) (map (λ e. e.0) gs))) (each_guard looping gs)
+  guards : (looping : Bool) (gs : List Guard) → IfSome (all_some (map (λ (f : GuardMeaning). f looping) (map (guard m) (map (λ e. e.0) gs)))) (AllFine (IsSoundGuard ts looping))
+  guards looping gs = some_fine (IsSoundGuard ts looping) (map (λ (f : GuardMeaning). f looping) (map (guard m) (map (λ e. e.0) gs))) (each_guard looping gs)
 
-  each_arm : (looping : Bool) (k : RBase) (as' : List Arm) → AllIf (IsSoundArm ks looping k) (map (λ (f : ArmMeaning). f looping k) (map (arm m) (map (λ e. e.0) as')))
+  each_arm : (looping : Bool) (k : RBase) (as' : List Arm) → AllIf (IsSoundArm ts looping k) (map (λ (f : ArmMeaning). f looping k) (map (arm m) (map (λ e. e.0) as')))
   each_arm looping k [] = tt
   each_arm looping k (a ∷ as') = (a.1 looping k, each_arm looping k as')
 
-  arms : (looping : Bool) (k : RBase) (as' : List Arm) → IfSome (all_some (map (λ (f : ArmMeaning). f looping k) (map (arm m) (map (λ e. e.0) as')))) (AllFine (IsSoundArm ks looping k))
-  arms looping k as' = some_fine (IsSoundArm ks looping k) (map (λ (f : ArmMeaning). f looping k) (map (arm m) (map (λ e. e.0) as'))) (each_arm looping k as')
+  arms : (looping : Bool) (k : RBase) (as' : List Arm) → IfSome (all_some (map (λ (f : ArmMeaning). f looping k) (map (arm m) (map (λ e. e.0) as')))) (AllFine (IsSoundArm ts looping k))
+  arms looping k as' = some_fine (IsSoundArm ts looping k) (map (λ (f : ArmMeaning). f looping k) (map (arm m) (map (λ e. e.0) as'))) (each_arm looping k as')
 
   case_sound : (looping : Bool) (o : Option Ordinal) (x : RExpr) (as' : List Arm) (other : Option (List Meaning)) → IfSome o (λ i. base_at m.types i.sort ≡ Some i.base)
-      → ((k : RBase) → IfSome (s.else_arms looping other) (AreSoundArms ks looping (base_view k))) → Body ks looping (s.case_by m o x looping (map (arm m) (map (λ e. e.0) as')) other)
+      → ((k : RBase) → IfSome (s.else_arms looping other) (AreSoundArms ts looping (base_view k))) → Body ts looping (s.case_by m o x looping (map (arm m) (map (λ e. e.0) as')) other)
   case_sound looping None x as' other i h = tt
   case_sound looping (Some by) x as' other i h =
-      selected_sound ks looping by.base (value m x by.sort) (all_some (map (λ (f : ArmMeaning). f looping by.base) (map (arm m) (map (λ e. e.0) as')))) (s.else_arms looping other)
+      selected_sound ts looping by.base (value m x by.sort) (all_some (map (λ (f : ArmMeaning). f looping by.base) (map (arm m) (map (λ e. e.0) as')))) (s.else_arms looping other)
       (base_words m.types by.sort by.base i) (whole x by.sort by.base i) (arms looping by.base as') (h by.base)
 
   sort_known : (o : Option ℕ) → IfSome (s.selector_by m.types o) (λ i. base_at m.types i.sort ≡ Some i.base)
@@ -247,40 +248,40 @@ module _ (m : RModule) (ks : List Kind) (kinds : Fits m ks) where
       by None h = tt
       by (Some k) h = h
 
-  assigned_sound : (looping : Bool) (o : Option Variable) (x : RExpr) → IfSome o (IsKnown m.types ks) → Body ks looping (s.assigned m o x)
+  assigned_sound : (looping : Bool) (o : Option Variable) (x : RExpr) → IfSome o (IsKnown m.types ts) → Body ts looping (s.assigned m o x)
   assigned_sound looping None x h = tt
   assigned_sound looping (Some d) x h =
       let sort = own_or (expression m x).own d.sort in
-      stored_sound m ks kinds looping d sort (value m x sort) h (value_sound m ks kinds x sort)
+      stored_sound m ts kinds looping d sort (value m x sort) h (value_sound m ts kinds x sort)
 
-  counted_sound : (looping : Bool) (o : Option Variable) (a b : RExpr) (z : ℤ) (body : Option Statements) → IfSome o (IsKnown m.types ks) → Body ks looping body → Body ks looping (s.for_by m o a b z body)
+  counted_sound : (looping : Bool) (o : Option Variable) (a b : RExpr) (z : ℤ) (body : Option Statements) → IfSome o (IsKnown m.types ts) → Body ts looping body → Body ts looping (s.for_by m o a b z body)
   counted_sound looping None a b z body h j = tt
   counted_sound looping (Some d) a b z body h j =
       let sort = own_or (expression m a).own d.sort in
-      for_sound ks looping m.types d (s.started d (value m a sort)) (value m b d.sort) z body h (started_sound ks m.types d sort (value m a sort) (value_sound m ks kinds a sort)) (value_sound m ks kinds b d.sort) j
+      for_sound ts looping m.types d (s.started d (value m a sort)) (value m b d.sort) z body h (started_sound ts m.types d sort (value m a sort) (value_sound m ts kinds a sort)) (value_sound m ts kinds b d.sort) j
 
   abbrev bare : RStmt-F Stmt Arm Guard → RStmt-F RStmt RArm RGuard
   bare = map-RStmt Stmt Arm Guard RStmt RArm RGuard (λ e. e.0) (λ e. e.0) (λ e. e.0)
 
-  layer_sound : (y : RStmt-F Stmt Arm Guard) (looping : Bool) → Body ks looping (statement_layer m (map-RStmt RStmt RArm RGuard Meaning ArmMeaning GuardMeaning (statement m) (arm m) (guard m) (bare y)) looping)
-  layer_sound (o.Assign d x) looping = assigned_sound looping (designator m d) x (designator_known m ks kinds d)
-  layer_sound (o.Call c xs) looping = called_sound m ks kinds looping c xs
-  layer_sound (o.Procedure p xs) looping = procedure_sound m ks kinds looping p xs
-  layer_sound (o.If gs None) looping = conditional_sound ks looping (all_some (map (λ (f : GuardMeaning). f looping) (map (guard m) (map (λ e. e.0) gs)))) (Some Empty) (guards looping gs) tt
-  layer_sound (o.If gs (Some xs)) looping = conditional_sound ks looping (all_some (map (λ (f : GuardMeaning). f looping) (map (guard m) (map (λ e. e.0) gs)))) (s.body looping (map (statement m) (map (λ e. e.0) xs))) (guards looping gs) (bodies looping xs)
+  layer_sound : (y : RStmt-F Stmt Arm Guard) (looping : Bool) → Body ts looping (statement_layer m (map-RStmt RStmt RArm RGuard Meaning ArmMeaning GuardMeaning (statement m) (arm m) (guard m) (bare y)) looping)
+  layer_sound (o.Assign d x) looping = assigned_sound looping (designator m d) x (designator_known m ts kinds d)
+  layer_sound (o.Call c xs) looping = called_sound m ts kinds looping c xs
+  layer_sound (o.Procedure p xs) looping = procedure_sound m ts kinds looping p xs
+  layer_sound (o.If gs None) looping = conditional_sound ts looping (all_some (map (λ (f : GuardMeaning). f looping) (map (guard m) (map (λ e. e.0) gs)))) (Some Empty) (guards looping gs) tt
+  layer_sound (o.If gs (Some xs)) looping = conditional_sound ts looping (all_some (map (λ (f : GuardMeaning). f looping) (map (guard m) (map (λ e. e.0) gs)))) (s.body looping (map (statement m) (map (λ e. e.0) xs))) (guards looping gs) (bodies looping xs)
   layer_sound (o.Case x as' None) looping = case_sound looping (s.selector m x) x as' None (sort_known (s.selector_sort m x)) (λ k. tt)
-  layer_sound (o.Case x as' (Some xs)) looping = case_sound looping (s.selector m x) x as' (Some (map (statement m) (map (λ e. e.0) xs))) (sort_known (s.selector_sort m x)) (λ k. else_sound ks looping (base_view k) (s.body looping (map (statement m) (map (λ e. e.0) xs))) (bodies looping xs))
-  layer_sound (o.While x xs) looping = while_sound ks looping (value m x boolean) (s.body looping (map (statement m) (map (λ e. e.0) xs))) (condition x) (bodies looping xs)
-  layer_sound (o.Repeat xs x) looping = repeat_sound ks looping (s.body looping (map (statement m) (map (λ e. e.0) xs))) (value m x boolean) (bodies looping xs) (condition x)
-  layer_sound (o.Loop xs) looping = loop_sound ks looping (s.body true (map (statement m) (map (λ e. e.0) xs))) (bodies true xs)
-  layer_sound (o.For r a b z xs) looping = counted_sound looping (root m r) a b z (s.body looping (map (statement m) (map (λ e. e.0) xs))) (root_known m ks kinds r) (bodies looping xs)
+  layer_sound (o.Case x as' (Some xs)) looping = case_sound looping (s.selector m x) x as' (Some (map (statement m) (map (λ e. e.0) xs))) (sort_known (s.selector_sort m x)) (λ k. else_sound ts looping (base_view k) (s.body looping (map (statement m) (map (λ e. e.0) xs))) (bodies looping xs))
+  layer_sound (o.While x xs) looping = while_sound ts looping (value m x boolean) (s.body looping (map (statement m) (map (λ e. e.0) xs))) (condition x) (bodies looping xs)
+  layer_sound (o.Repeat xs x) looping = repeat_sound ts looping (s.body looping (map (statement m) (map (λ e. e.0) xs))) (value m x boolean) (bodies looping xs) (condition x)
+  layer_sound (o.Loop xs) looping = loop_sound ts looping (s.body true (map (statement m) (map (λ e. e.0) xs))) (bodies true xs)
+  layer_sound (o.For r a b z xs) looping = counted_sound looping (root m r) a b z (s.body looping (map (statement m) (map (λ e. e.0) xs))) (root_known m ts kinds r) (bodies looping xs)
   layer_sound (o.With d xs) looping = tt
-  layer_sound o.Exit looping = exit_sound ks looping
+  layer_sound o.Exit looping = exit_sound ts looping
   layer_sound (o.Return None) looping = (tt, tt)
   layer_sound (o.Return (Some x)) looping = tt
 
   statement_holds : (y : RStmt-F Stmt Arm Guard) → StatementSound (roll-RStmt (bare y))
-  statement_holds y = subst (λ (f : Meaning). (looping : Bool) → Body ks looping (f looping)) (sym (rolled m (bare y))) (layer_sound y)
+  statement_holds y = subst (λ (f : Meaning). (looping : Bool) → Body ts looping (f looping)) (sym (rolled m (bare y))) (layer_sound y)
 
   abbrev bare_arm : RArm-F Stmt Arm Guard → RArm-F RStmt RArm RGuard
   bare_arm = map-RArm Stmt Arm Guard RStmt RArm RGuard (λ e. e.0) (λ e. e.0) (λ e. e.0)
@@ -288,20 +289,20 @@ module _ (m : RModule) (ks : List Kind) (kinds : Fits m ks) where
   abbrev bare_guard : RGuard-F Stmt Arm Guard → RGuard-F RStmt RArm RGuard
   bare_guard = map-RGuard Stmt Arm Guard RStmt RArm RGuard (λ e. e.0) (λ e. e.0) (λ e. e.0)
 
-  statements_sound : (looping : Bool) (xs : List Stmt) → Body ks looping (s.statements m looping (map (λ e. e.0) xs))
-  statements_sound looping xs = body_sound ks looping (map (λ x. statement m x looping) (map (λ e. e.0) xs)) (by xs)
+  statements_sound : (looping : Bool) (xs : List Stmt) → Body ts looping (s.statements m looping (map (λ e. e.0) xs))
+  statements_sound looping xs = body_sound ts looping (map (λ x. statement m x looping) (map (λ e. e.0) xs)) (by xs)
     where
-      by : (xs : List Stmt) → AllIf (IsSoundBody ks looping) (map (λ x. statement m x looping) (map (λ e. e.0) xs))
+      by : (xs : List Stmt) → AllIf (IsSoundBody ts looping) (map (λ x. statement m x looping) (map (λ e. e.0) xs))
       by [] = tt
       by (x ∷ xs) = (x.1 looping, by xs)
 
   arm_holds : (y : RArm-F Stmt Arm Guard) → ArmSound (roll-RArm (bare_arm y))
-  arm_holds y looping k = subst (λ o. IfSome o (IsSoundArm ks looping k)) (sym (arm_is m looping k (roll-RArm (bare_arm y))))
-      (paired_arm ks looping k (s.labels k y.labels) (s.statements m looping (map (λ e. e.0) y.body)) (labels_sound k y.labels) (statements_sound looping y.body))
+  arm_holds y looping k = subst (λ o. IfSome o (IsSoundArm ts looping k)) (sym (arm_is m looping k (roll-RArm (bare_arm y))))
+      (paired_arm ts looping k (s.labels k y.labels) (s.statements m looping (map (λ e. e.0) y.body)) (labels_sound k y.labels) (statements_sound looping y.body))
 
   guard_holds : (y : RGuard-F Stmt Arm Guard) → GuardSound (roll-RGuard (bare_guard y))
-  guard_holds y looping = subst (λ o. IfSome o (IsSoundGuard ks looping)) (sym (guard_is m looping (roll-RGuard (bare_guard y))))
-      (paired_guard ks looping (value m y.condition boolean) (s.statements m looping (map (λ e. e.0) y.body)) (condition y.condition) (statements_sound looping y.body))
+  guard_holds y looping = subst (λ o. IfSome o (IsSoundGuard ts looping)) (sym (guard_is m looping (roll-RGuard (bare_guard y))))
+      (paired_guard ts looping (value m y.condition boolean) (s.statements m looping (map (λ e. e.0) y.body)) (condition y.condition) (statements_sound looping y.body))
 
   statement_sound : (x : RStmt) → StatementSound x
   statement_sound = ind-RStmt StatementSound ArmSound GuardSound
@@ -309,35 +310,35 @@ module _ (m : RModule) (ks : List Kind) (kinds : Fits m ks) where
       (λ x y is. subst (λ z. ArmSound (roll-RArm z)) is (arm_holds y))
       (λ x y is. subst (λ z. GuardSound (roll-RGuard z)) is (guard_holds y))
 
-  each_sound : (xs : List RStmt) → AllIf (IsSoundBody ks false) (map (λ x. statement m x false) xs)
+  each_sound : (xs : List RStmt) → AllIf (IsSoundBody ts false) (map (λ x. statement m x false) xs)
   each_sound [] = tt
   each_sound (x ∷ xs) = (statement_sound x false, each_sound xs)
 
-  pub body_is_sound : Body ks false (s.statements m false m.body)
-  body_is_sound = body_sound ks false (map (λ x. statement m x false) m.body) (each_sound m.body)
+  pub body_is_sound : Body ts false (s.statements m false m.body)
+  body_is_sound = body_sound ts false (map (λ x. statement m x false) m.body) (each_sound m.body)
 
 -- ---- modules
 -- a variable that is there has its kind among those that are declared
 declared_at : (t : Table) (vs : List RVar) (ds : List RDeclared) (i : ℕ) (a : RVar) (k : RKind) → s.all_declared t vs ≡ Some ds → slice_get vs i ≡ Some a → kind_at t a.sort ≡ Some k
-    → slice_get (map kind_declared ds) i ≡ Some (kind_view k)
+    → slice_get (map shape_declared ds) i ≡ Some (Word (kind_view k))
 declared_at t [] ds i a k h is of = absurd (none-some a is)
 declared_at t (c ∷ vs) ds i a k h is of = by (kind_at t c.sort) refl (s.all_declared t vs) refl h (λ rest i there is. declared_at t vs rest i a k there is of)
   where
     Others : Type 0
-    Others = (rest : List RDeclared) (i : ℕ) → s.all_declared t vs ≡ Some rest → slice_get vs i ≡ Some a → slice_get (map kind_declared rest) i ≡ Some (kind_view k)
+    Others = (rest : List RDeclared) (i : ℕ) → s.all_declared t vs ≡ Some rest → slice_get vs i ≡ Some a → slice_get (map shape_declared rest) i ≡ Some (Word (kind_view k))
 
     at : (j : RKind) (rest : List RDeclared) (i : ℕ) → kind_at t c.sort ≡ Some j → s.all_declared t vs ≡ Some rest → slice_get (c ∷ vs) i ≡ Some a → Others
-        → slice_get (kind_view j ∷ map kind_declared rest) i ≡ Some (kind_view k)
-    at j rest zero here there is others = ap (option_map kind_view) (sym here ∙ ap (λ d. kind_at t d.sort) (same_Some c a is) ∙ of)
+        → slice_get (Word (kind_view j) ∷ map shape_declared rest) i ≡ Some (Word (kind_view k))
+    at j rest zero here there is others = ap (option_map (λ k. Word (kind_view k))) (sym here ∙ ap (λ d. kind_at t d.sort) (same_Some c a is) ∙ of)
     at j rest (suc i) here there is others = others rest i there is
 
     by : (o : Option RKind) → kind_at t c.sort ≡ o → (rest : Option (List RDeclared)) → s.all_declared t vs ≡ rest → all_some (option_map (s.declared_with c.name) o ∷ map (s.declared t) vs) ≡ Some ds
         → Others
-        → slice_get (map kind_declared ds) i ≡ Some (kind_view k)
+        → slice_get (map shape_declared ds) i ≡ Some (Word (kind_view k))
     by None here rest there e others = absurd (none-some ds e)
     by (Some j) here None there e others = absurd (none-some ds (ap (option_map (λ rest. s.declared_with c.name j ∷ rest)) (sym there) ∙ e))
     by (Some j) here (Some rest) there e others =
-        subst (λ ds. slice_get (map kind_declared ds) i ≡ Some (kind_view k))
+        subst (λ ds. slice_get (map shape_declared ds) i ≡ Some (Word (kind_view k)))
         (same_Some (s.declared_with c.name j ∷ rest) ds (ap (option_map (λ rest. s.declared_with c.name j ∷ rest)) (sym there) ∙ e)) (at j rest i here there is others)
 
 pub lowered_sound : (m : RModule) (r : Resolved) → Some r ≡ s.lowered m → IsSound r
@@ -348,9 +349,9 @@ lowered_sound m r is = by (nat_le (length m.variables) 32000) is
     of None there ss h e = absurd (cc)
     of (Some vs) there None h e = absurd (cc)
     of (Some vs) there (Some ss) h e =
-        let ks = map kind_declared vs in
+        let ts = map shape_declared vs in
         let same : r ≡ s.module_with m vs ss = cc in
-        subst IsSound (sym same) (subst (λ o. Body ks false o) h (body_is_sound m ks (λ i a k. declared_at m.types m.variables vs i a k there)))
+        subst IsSound (sym same) (subst (λ o. Body ts false o) h (body_is_sound m ts (λ i a k. declared_at m.types m.variables vs i a k there)))
 
     by : (b : Bool) → Some r ≡ (if b then s.laid_out m (s.all_declared m.types m.variables) (s.statements m false m.body) else None) → IsSound r
     by true e = of (s.all_declared m.types m.variables) refl (s.statements m false m.body) refl e

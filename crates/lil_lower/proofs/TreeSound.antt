@@ -21,6 +21,7 @@ use Rattle.lil_module.specs.declared.tree.RDesignator.{out-RDesignator}
 use Rattle.lil_types.specs.Types.{base}
 use Rattle.lil_resolved.specs.Kinds.{Kind}
 use Rattle.lil_resolved.specs.Resolved.{Expression}
+use Rattle.lil_resolved.specs.Shapes.{Shape, Word}
 use Rattle.lil_resolved.specs.Views.{kind_view}
 use Rattle.lil_resolved.specs.declared.resolved.RKind.{RKind}
 use Rattle.lil_lower.specs.declared.variables.Variable.{Variable}
@@ -32,33 +33,33 @@ use Rattle.lil_lower.proofs.ValueForms.{callees, selectors, elements, rolled, ar
 use Rattle.lil_lower.proofs.ValueSound.{Holds, Kept, IsKnown, AllValues, AllHold, whole_held, scalar_held, text_held, named_held, taken_held, function_held, one_held, chain_held, shallow_kept}
 
 -- each variable has its kind among these
-abbrev pub Fits : RModule → List Kind → Type 0
-Fits m ks = (i : ℕ) (v : RVar) (k : RKind) → slice_get m.variables i ≡ Some v → kind_at m.types v.sort ≡ Some k → slice_get ks i ≡ Some (kind_view k)
+abbrev pub Fits : RModule → List Shape → Type 0
+Fits m ts = (i : ℕ) (v : RVar) (k : RKind) → slice_get m.variables i ≡ Some v → kind_at m.types v.sort ≡ Some k → slice_get ts i ≡ Some (Word (kind_view k))
 
-module _ (m : RModule) (ks : List Kind) (kinds : Fits m ks) where
+module _ (m : RModule) (ts : List Shape) (kinds : Fits m ts) where
   abbrev HoldsHere : (ℕ → Option Expression) → Type 0
-  HoldsHere l = Holds m.types ks l
+  HoldsHere l = Holds m.types ts l
 
   -- ---- variables
-  variable_known : (i : ℕ) (o : Option RVar) → slice_get m.variables i ≡ o → IfSome (s.variable_by m.types i o) (IsKnown m.types ks)
+  variable_known : (i : ℕ) (o : Option RVar) → slice_get m.variables i ≡ o → IfSome (s.variable_by m.types i o) (IsKnown m.types ts)
   variable_known i None is = tt
   variable_known i (Some v) is = by (kind_at m.types v.sort) refl
     where
-      by : (o : Option RKind) → kind_at m.types v.sort ≡ o → IfSome (option_map (s.variable_with i (base m.types v.sort)) o) (IsKnown m.types ks)
+      by : (o : Option RKind) → kind_at m.types v.sort ≡ o → IfSome (option_map (s.variable_with i (base m.types v.sort)) o) (IsKnown m.types ts)
       by None h = tt
       by (Some k) h = record { type = kind_base m.types v.sort k h; kind = kinds i v k is h }
 
-  pub root_known : (r : RRoot) → IfSome (s.root m r) (IsKnown m.types ks)
+  pub root_known : (r : RRoot) → IfSome (s.root m r) (IsKnown m.types ts)
   root_known (Global i) = variable_known i (slice_get m.variables i) refl
   root_known (Local l i) = tt
   root_known (Field f i) = tt
 
-  bare_known : {S : Type 0} (ss : List S) (o : Option Variable) → IfSome o (IsKnown m.types ks) → IfSome (s.bare ss o) (IsKnown m.types ks)
+  bare_known : {S : Type 0} (ss : List S) (o : Option Variable) → IfSome o (IsKnown m.types ts) → IfSome (s.bare ss o) (IsKnown m.types ts)
   bare_known [] o h = h
   bare_known (s ∷ ss) o h = tt
 
-  pub designator_known : (d : RDesignator) → IfSome (designator m d) (IsKnown m.types ks)
-  designator_known d = subst (λ o. IfSome o (IsKnown m.types ks)) (sym (designator_is m d)) (bare_known (out-RDesignator d).selectors (s.root m (out-RDesignator d).root) (root_known (out-RDesignator d).root))
+  pub designator_known : (d : RDesignator) → IfSome (designator m d) (IsKnown m.types ts)
+  designator_known d = subst (λ o. IfSome o (IsKnown m.types ts)) (sym (designator_is m d)) (bare_known (out-RDesignator d).selectors (s.root m (out-RDesignator d).root) (root_known (out-RDesignator d).root))
 
   abbrev ArgumentHolds : RArgument → Type 0
   ArgumentHolds a = HoldsHere (argument m a).lowers
@@ -91,11 +92,11 @@ module _ (m : RModule) (ks : List Kind) (kinds : Fits m ks) where
   abbrev Operates : Type 0
   Operates = (x : ROperation) × OperationHolds x
 
-  values_hold : (xs : List Argument) → AllValues m.types ks (map (argument m) (map (λ e. e.0) xs))
+  values_hold : (xs : List Argument) → AllValues m.types ts (map (argument m) (map (λ e. e.0) xs))
   values_hold [] = tt
   values_hold (x ∷ xs) = (x.1, values_hold xs)
 
-  all_hold : (xs : List Operates) → AllHold m.types ks (map (operation m) (map (λ e. e.0) xs))
+  all_hold : (xs : List Operates) → AllHold m.types ts (map (operation m) (map (λ e. e.0) xs))
   all_hold [] = tt
   all_hold (x ∷ xs) = (x.1, all_hold xs)
 
@@ -106,18 +107,18 @@ module _ (m : RModule) (ks : List Kind) (kinds : Fits m ks) where
   lowers = map-RExpr RArgument RCallee RExpr RSelector RDesignator RElement ROperation Meant (Unit {0}) Meant (Unit {0}) (Option Variable) (Unit {0}) Operation (argument m) (callees m) (expression m) (selectors m) (designator m) (elements m) (operation m)
 
   layer_holds : (y : RExpr-F Argument Callee Value Selector Place Element Operates) → HoldsHere (expression_layer m (lowers (bare y))).lowers
-  layer_holds (o.Whole z) w = whole_held m.types ks z w
-  layer_holds (o.Scalar t n) w = scalar_held m.types ks t n w
-  layer_holds (o.Chars t) w = text_held m.types ks t w
-  layer_holds (o.Named i) w = named_held m.types ks (slice_get m.texts i) w
+  layer_holds (o.Whole z) w = whole_held m.types ts z w
+  layer_holds (o.Scalar t n) w = scalar_held m.types ts t n w
+  layer_holds (o.Chars t) w = text_held m.types ts t w
+  layer_holds (o.Named i) w = named_held m.types ts (slice_get m.texts i) w
   layer_holds o.Nil w = tt
   layer_holds (o.SetOf t es) w = tt
-  layer_holds (o.RExpr::Value d) w = taken_held m.types ks (designator m d.0) (designator_known d.0) w
+  layer_holds (o.RExpr::Value d) w = taken_held m.types ts (designator m d.0) (designator_known d.0) w
   layer_holds (o.RExpr::Procedure i) w = tt
   layer_holds (o.Call c xs) w = tt
-  layer_holds (o.Function f t xs) w = function_held m.types ks f t (map (argument m) (map (λ e. e.0) xs)) (values_hold xs) w
-  layer_holds (o.One op t a) w = one_held m.types ks op t w ((expression m a.0).lowers w) (a.1 w)
-  layer_holds (o.Chain a xs) w = chain_held m.types ks (expression m a.0).lowers (map (operation m) (map (λ e. e.0) xs)) a.1 (all_hold xs) w
+  layer_holds (o.Function f t xs) w = function_held m.types ts f t (map (argument m) (map (λ e. e.0) xs)) (values_hold xs) w
+  layer_holds (o.One op t a) w = one_held m.types ts op t w ((expression m a.0).lowers w) (a.1 w)
+  layer_holds (o.Chain a xs) w = chain_held m.types ts (expression m a.0).lowers (map (operation m) (map (λ e. e.0) xs)) a.1 (all_hold xs) w
 
   abbrev bare_argument : RArgument-F Argument Callee Value Selector Place Element Operates → RArgument-F RArgument RCallee RExpr RSelector RDesignator RElement ROperation
   bare_argument = map-RArgument Argument Callee Value Selector Place Element Operates RArgument RCallee RExpr RSelector RDesignator RElement ROperation (λ e. e.0) (λ e. e.0) (λ e. e.0) (λ e. e.0) (λ e. e.0) (λ e. e.0) (λ e. e.0)
@@ -156,8 +157,8 @@ module _ (m : RModule) (ks : List Kind) (kinds : Fits m ks) where
       (λ x y is. tt)
       (λ x y is. subst (λ z. OperationHolds (roll-ROperation z)) is (operation_holds y))
 
-  pub value_sound : (x : RExpr) (w : ℕ) → IfSome (s.shallow ((expression m x).lowers w)) (Kept m.types ks w)
-  value_sound x w = shallow_kept m.types ks w ((expression m x).lowers w) (expression_sound x w)
+  pub value_sound : (x : RExpr) (w : ℕ) → IfSome (s.shallow ((expression m x).lowers w)) (Kept m.types ts w)
+  value_sound x w = shallow_kept m.types ts w ((expression m x).lowers w) (expression_sound x w)
 
-  pub handed_sound : (a : RArgument) (w : ℕ) → IfSome (s.shallow ((argument m a).lowers w)) (Kept m.types ks w)
-  handed_sound a w = shallow_kept m.types ks w ((argument m a).lowers w) (argument_sound a w)
+  pub handed_sound : (a : RArgument) (w : ℕ) → IfSome (s.shallow ((argument m a).lowers w)) (Kept m.types ts w)
+  handed_sound a w = shallow_kept m.types ts w ((argument m a).lowers w) (argument_sound a w)

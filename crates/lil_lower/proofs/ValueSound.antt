@@ -19,7 +19,8 @@ use Rattle.lil_resolved.specs.Resolved.{Expression, Constant, Taken, Two, Abs, k
 use Rattle.lil_resolved.specs.Depth.{depth}
 use Rattle.lil_resolved.specs.Sound as sound
 use Rattle.lil_resolved.specs.Sound.{IsSoundVariable, IsSoundExpression, IsSoundWhole}
-use Rattle.lil_resolved.specs.Views.{base_view, kind_view, variable_of, function_of, one_of, two_of}
+use Rattle.lil_resolved.specs.Shapes.{Shape, Word}
+use Rattle.lil_resolved.specs.Views.{base_view, kind_view, variable_of, variable_kind, function_of, one_of, two_of}
 use Rattle.lil_resolved.specs.declared.resolved.RBase.{RBase}
 use Rattle.lil_resolved.specs.declared.resolved.RBase.TheVariants as b
 use Rattle.lil_resolved.specs.declared.resolved.RKind.{RKind}
@@ -32,24 +33,24 @@ use Rattle.lil_lower.specs.Values.{Lowers, Value, Built, Operation}
 use Rattle.lil_lower.proofs.BaseLaws.{if_so, if_true, same_sort, base_words, kind_base, number_sound}
 
 -- over variables of these kinds, an expression is sound and of a type
-pub record Held (t : Table) (ks : List Kind) (s : ℕ) (e : Expression) : Type 0 where
+pub record Held (t : Table) (ts : List Shape) (s : ℕ) (e : Expression) : Type 0 where
   pub base : RBase
   pub known : base_at t s ≡ Some base
   pub of : kind_of e ≡ base_view base
-  pub good : IsSoundExpression ks e
+  pub good : IsSoundExpression ts e
 
 -- and there is room for it
-pub record Kept (t : Table) (ks : List Kind) (s : ℕ) (e : Expression) : Type 0 where
-  pub held : Held t ks s e
+pub record Kept (t : Table) (ts : List Shape) (s : ℕ) (e : Expression) : Type 0 where
+  pub held : Held t ts s e
   pub room : depth e ≤ 12
 
 -- a variable has its kind among these, and its type is that of its base
-pub record IsKnown (t : Table) (ks : List Kind) (v : Variable) : Type 0 where
+pub record IsKnown (t : Table) (ts : List Shape) (v : Variable) : Type 0 where
   pub type : base_at t v.sort ≡ Some v.place.kind.base
-  pub kind : slice_get ks v.place.number ≡ Some (kind_view v.place.kind)
+  pub kind : slice_get ts v.place.number ≡ Some (Word (kind_view v.place.kind))
 
-abbrev pub Holds : Table → List Kind → Lowers → Type 0
-Holds t ks l = (s : ℕ) → IfSome (l s) (Held t ks s)
+abbrev pub Holds : Table → List Shape → Lowers → Type 0
+Holds t ts l = (s : ℕ) → IfSome (l s) (Held t ts s)
 
 pub both_left : (a b : Bool) → (a && b) ≡ true → a ≡ true
 both_left true b h = refl
@@ -75,16 +76,16 @@ of_truth b.Integer h = cc
 of_truth b.Character h = cc
 of_truth (b.Enumeration n) h = cc
 
-module _ (t : Table) (ks : List Kind) where
+module _ (t : Table) (ts : List Shape) where
   -- ---- constants
-  constant_held : (k : RBase) (s : ℕ) → base_at t s ≡ Some k → (z : ℤ) → IfSome (spec.constant k z) (Held t ks s)
-  constant_held k s is z = if_true (Held t ks s) (has_number k z) (Constant (base_view k) (scalar_of (base_view k) z))
+  constant_held : (k : RBase) (s : ℕ) → base_at t s ≡ Some k → (z : ℤ) → IfSome (spec.constant k z) (Held t ts s)
+  constant_held k s is z = if_true (Held t ts s) (has_number k z) (Constant (base_view k) (scalar_of (base_view k) z))
       (λ h. record { base = k; known = is; of = refl; good = (number_sound k z h).0 })
 
-  pub whole_held : (z : ℤ) → Holds t ks (spec.whole t z)
+  pub whole_held : (z : ℤ) → Holds t ts (spec.whole t z)
   whole_held z s = by (base_at t s) refl
     where
-      by : (o : Option RBase) → base_at t s ≡ o → IfSome (spec.whole_by z o) (Held t ks s)
+      by : (o : Option RBase) → base_at t s ≡ o → IfSome (spec.whole_by z o) (Held t ts s)
       by None h = tt
       by (Some b.Cardinal) h = constant_held b.Cardinal s h z
       by (Some b.Integer) h = constant_held b.Integer s h z
@@ -92,10 +93,10 @@ module _ (t : Table) (ks : List Kind) where
       by (Some b.Character) h = tt
       by (Some (b.Enumeration n)) h = tt
 
-  pub scalar_held : (sort w : ℕ) → Holds t ks (spec.scalar t sort w)
-  scalar_held sort w s = if_so (Held t ks s) (types.base t sort == s) (spec.scalar_by w (base_at t s)) (λ e. by (base_at t s) refl)
+  pub scalar_held : (sort w : ℕ) → Holds t ts (spec.scalar t sort w)
+  scalar_held sort w s = if_so (Held t ts s) (types.base t sort == s) (spec.scalar_by w (base_at t s)) (λ e. by (base_at t s) refl)
     where
-      by : (o : Option RBase) → base_at t s ≡ o → IfSome (spec.scalar_by w o) (Held t ks s)
+      by : (o : Option RBase) → base_at t s ≡ o → IfSome (spec.scalar_by w o) (Held t ts s)
       by None h = tt
       by (Some b.Cardinal) h = tt
       by (Some b.Integer) h = tt
@@ -103,28 +104,28 @@ module _ (t : Table) (ks : List Kind) where
       by (Some b.Character) h = constant_held b.Character s h (pos w)
       by (Some (b.Enumeration n)) h = constant_held (b.Enumeration n) s h (pos w)
 
-  pub text_held : (c : List ℕ) → Holds t ks (spec.text c)
-  text_held (c ∷ []) s = if_so (Held t ks s) (s == char) (spec.constant b.Character (pos c))
-      (λ e. subst (λ i. IfSome (spec.constant b.Character (pos c)) (Held t ks i)) (sym (same_sort s char e)) (constant_held b.Character char refl (pos c)))
+  pub text_held : (c : List ℕ) → Holds t ts (spec.text c)
+  text_held (c ∷ []) s = if_so (Held t ts s) (s == char) (spec.constant b.Character (pos c))
+      (λ e. subst (λ i. IfSome (spec.constant b.Character (pos c)) (Held t ts i)) (sym (same_sort s char e)) (constant_held b.Character char refl (pos c)))
   text_held [] s = tt
   text_held (c ∷ d ∷ cs) s = tt
 
-  pub named_held : (o : Option (List ℕ)) → Holds t ks (spec.named o)
+  pub named_held : (o : Option (List ℕ)) → Holds t ts (spec.named o)
   named_held (Some c) s = text_held c s
   named_held None s = tt
 
   -- ---- variables
-  pub variable_sound : (v : Variable) → IsKnown t ks v → IsSoundVariable ks v.place.number (kind_view v.place.kind)
+  pub variable_sound : (v : Variable) → IsKnown t ts v → IsSoundVariable ts v.place.number (kind_view v.place.kind)
   variable_sound v h = record { known = h.kind; base = ap is_base (own_base v.place.kind) ∙ base_words t v.sort v.place.kind.base h.type }
 
-  pub taken_held : (o : Option Variable) → IfSome o (IsKnown t ks) → Holds t ks (spec.taken o)
+  pub taken_held : (o : Option Variable) → IfSome o (IsKnown t ts) → Holds t ts (spec.taken o)
   taken_held None h s = tt
-  taken_held (Some v) h s = if_true (Held t ks s) (v.sort == s) (Taken (variable_of v.place))
-      (λ e. subst (λ i. Held t ks i (Taken (variable_of v.place))) (same_sort v.sort s e)
+  taken_held (Some v) h s = if_true (Held t ts s) (v.sort == s) (Taken (variable_of v.place) (variable_kind v.place))
+      (λ e. subst (λ i. Held t ts i (Taken (variable_of v.place) (variable_kind v.place))) (same_sort v.sort s e)
       (record { base = v.place.kind.base; known = h.type; of = own_base v.place.kind; good = variable_sound v h }))
 
   -- ---- standard functions
-  applied_held : (g : Standard) (sort o : ℕ) (e : Option Expression) → IfSome e (Held t ks o) → IfSome (spec.applied (spec.form_of t g sort) e) (Held t ks (spec.value_sort t g sort o))
+  applied_held : (g : Standard) (sort o : ℕ) (e : Option Expression) → IfSome e (Held t ts o) → IfSome (spec.applied (spec.form_of t g sort) e) (Held t ts (spec.value_sort t g sort o))
   applied_held standard.Abs sort o None h = tt
   applied_held standard.Abs sort o (Some a) h = if_true _ (sound.takes_function (Abs (compared_as (kind_of a))) (kind_of a)) _
       (λ e. record { base = h.base; known = h.known; of = abs_kind (kind_of a) e ∙ h.of; good = (e, h.good) })
@@ -142,7 +143,7 @@ module _ (t : Table) (ks : List Kind) where
       (λ e. record { base = b.Cardinal; known = refl; of = refl; good = (e, h.good) })
   applied_held standard.Val sort o e h = by (kind_at t sort) refl e h
     where
-      by : (k : Option RKind) → kind_at t sort ≡ k → (e : Option Expression) → IfSome e (Held t ks o) → IfSome (spec.applied (option_map f.Val k) e) (Held t ks (types.base t sort))
+      by : (k : Option RKind) → kind_at t sort ≡ k → (e : Option Expression) → IfSome e (Held t ts o) → IfSome (spec.applied (option_map f.Val k) e) (Held t ts (types.base t sort))
       by None is e h = tt
       by (Some j) is None h = tt
       by (Some j) is (Some a) h = if_true _ (sound.takes_function (function_of (f.Val j) (kind_of a)) (kind_of a)) _
@@ -158,41 +159,41 @@ module _ (t : Table) (ks : List Kind) where
   applied_held standard.New sort o e h = tt
   applied_held standard.Dispose sort o e h = tt
 
-  over_held : (g : Standard) (sort w : ℕ) (own : Option ℕ) (a : Lowers) → Holds t ks a → IfSome (spec.function_over t g sort w own a) (Held t ks w)
+  over_held : (g : Standard) (sort w : ℕ) (own : Option ℕ) (a : Lowers) → Holds t ts a → IfSome (spec.function_over t g sort w own a) (Held t ts w)
   over_held g sort w None a h = tt
-  over_held g sort w (Some o) a h = if_so (Held t ks w) (spec.value_sort t g sort o == w) (spec.applied (spec.form_of t g sort) (a o))
-      (λ e. subst (λ i. IfSome (spec.applied (spec.form_of t g sort) (a o)) (Held t ks i)) (same_sort (spec.value_sort t g sort o) w e) (applied_held g sort o (a o) (h o)))
+  over_held g sort w (Some o) a h = if_so (Held t ts w) (spec.value_sort t g sort o == w) (spec.applied (spec.form_of t g sort) (a o))
+      (λ e. subst (λ i. IfSome (spec.applied (spec.form_of t g sort) (a o)) (Held t ts i)) (same_sort (spec.value_sort t g sort o) w e) (applied_held g sort o (a o) (h o)))
 
   abbrev pub AllValues : List Value → Type 0
   AllValues [] = Unit {0}
-  AllValues (a ∷ xs) = Holds t ks a.lowers × AllValues xs
+  AllValues (a ∷ xs) = Holds t ts a.lowers × AllValues xs
 
-  sole_held : (xs : List Value) → AllValues xs → IfSome (spec.sole xs) (λ a. Holds t ks a.lowers)
+  sole_held : (xs : List Value) → AllValues xs → IfSome (spec.sole xs) (λ a. Holds t ts a.lowers)
   sole_held [] h = tt
   sole_held (a ∷ []) h = h.0
   sole_held (a ∷ c ∷ xs) h = tt
 
-  second_held : (xs : List Value) → AllValues xs → IfSome (spec.second xs) (λ a. Holds t ks a.lowers)
+  second_held : (xs : List Value) → AllValues xs → IfSome (spec.second xs) (λ a. Holds t ts a.lowers)
   second_held [] h = tt
   second_held (a ∷ []) h = tt
   second_held (a ∷ c ∷ []) h = h.1.0
   second_held (a ∷ c ∷ d ∷ xs) h = tt
 
-  operand_held : (g : Standard) (xs : List Value) → AllValues xs → IfSome (spec.operand_of g xs) (λ a. Holds t ks a.lowers)
+  operand_held : (g : Standard) (xs : List Value) → AllValues xs → IfSome (spec.operand_of g xs) (λ a. Holds t ts a.lowers)
   operand_held standard.Val xs h = second_held xs h
   operand_held _ xs h = sole_held xs h
 
-  pub function_held : (g : Standard) (sort : ℕ) (xs : List Value) → AllValues xs → Holds t ks (spec.function t g sort xs)
+  pub function_held : (g : Standard) (sort : ℕ) (xs : List Value) → AllValues xs → Holds t ts (spec.function t g sort xs)
   function_held g sort xs h w = by (spec.operand_of g xs) (operand_held g xs h)
     where
-      by : (o : Option Value) → IfSome o (λ a. Holds t ks a.lowers) → IfSome (spec.function_by t g sort w o) (Held t ks w)
+      by : (o : Option Value) → IfSome o (λ a. Holds t ts a.lowers) → IfSome (spec.function_by t g sort w o) (Held t ts w)
       by None h = tt
       by (Some a) h = over_held g sort w a.own a.lowers h
 
   -- ---- operators
-  pub one_held : (op : OneOp) (sort w : ℕ) (o : Option Expression) → IfSome o (Held t ks w) → IfSome (spec.one t op sort w o) (Held t ks w)
+  pub one_held : (op : OneOp) (sort w : ℕ) (o : Option Expression) → IfSome o (Held t ts w) → IfSome (spec.one t op sort w o) (Held t ts w)
   one_held op sort w None h = tt
-  one_held op sort w (Some a) h = if_true (Held t ks w) (sort == w && spec.takes_one_at op (base_at t w)) (one_of op a)
+  one_held op sort w (Some a) h = if_true (Held t ts w) (sort == w && spec.takes_one_at op (base_at t w)) (one_of op a)
       (λ e. record {
         base = h.base;
         known = h.known;
@@ -202,15 +203,15 @@ module _ (t : Table) (ks : List Kind) where
 
   -- operands of one type
   abbrev Pair : Kind → Expression → Expression → Type 0
-  Pair k a c = (kind_of a ≡ k) × (kind_of c ≡ k) × IsSoundExpression ks a × IsSoundExpression ks c
+  Pair k a c = (kind_of a ≡ k) × (kind_of c ≡ k) × IsSoundExpression ts a × IsSoundExpression ts c
 
-  plain : (op : TwoOp) (k : Kind) (a c : Expression) → sound.takes_two op k ≡ true → Pair k a c → IsSoundExpression ks (Two op (kind_of a) a c)
+  plain : (op : TwoOp) (k : Kind) (a c : Expression) → sound.takes_two op k ≡ true → Pair k a c → IsSoundExpression ts (Two op (kind_of a) a c)
   plain op k a c takes h = (subst (λ k. sound.takes_two op k ≡ true) (sym h.0) takes, refl, h.1 ∙ sym h.0, h.2, h.3)
 
-  relation_held : (op : TwoOp) (k : Kind) (a c : Expression) → sound.takes_two op k ≡ true → Pair k a c → kind_of (Two op (kind_of a) a c) ≡ OfTruth → Held t ks types.boolean (Two op (kind_of a) a c)
+  relation_held : (op : TwoOp) (k : Kind) (a c : Expression) → sound.takes_two op k ≡ true → Pair k a c → kind_of (Two op (kind_of a) a c) ≡ OfTruth → Held t ts types.boolean (Two op (kind_of a) a c)
   relation_held op k a c takes h is = record { base = b.Truth; known = refl; of = is; good = plain op k a c takes h }
 
-  two_held : (op : TwoOp) (k : RBase) (sort : ℕ) (a c : Expression) → base_at t sort ≡ Some k → takes_two op k ≡ true → Pair (base_view k) a c → Held t ks (result_sort op sort) (two_of op a c)
+  two_held : (op : TwoOp) (k : RBase) (sort : ℕ) (a c : Expression) → base_at t sort ≡ Some k → takes_two op k ≡ true → Pair (base_view k) a c → Held t ts (result_sort op sort) (two_of op a c)
   two_held Equal k sort a c is takes h = relation_held Equal (base_view k) a c takes h refl
   two_held Unequal k sort a c is takes h = relation_held Unequal (base_view k) a c takes h refl
   two_held Less k sort a c is takes h = relation_held Less (base_view k) a c takes h refl
@@ -228,7 +229,7 @@ module _ (t : Table) (ks : List Kind) where
   two_held And k sort a c is takes h = let e = of_truth k takes in record { base = k; known = is; of = sym e; good = (h.0 ∙ e, h.1 ∙ e, h.2, h.3) }
 
   -- what is held has the base of its type
-  pub held_base : (sort : ℕ) (e : Expression) (k : RBase) → Held t ks sort e → base_at t sort ≡ Some k → kind_of e ≡ base_view k
+  pub held_base : (sort : ℕ) (e : Expression) (k : RBase) → Held t ts sort e → base_at t sort ≡ Some k → kind_of e ≡ base_view k
   held_base sort e k h is = h.of ∙ ap base_view (same (sym h.known ∙ is))
     where
       same : Some h.base ≡ Some k → h.base ≡ k
@@ -236,19 +237,19 @@ module _ (t : Table) (ks : List Kind) where
 
   -- ---- chains
   abbrev HeldSo : Built → Type 0
-  HeldSo x = Held t ks x.sort x.form
+  HeldSo x = Held t ts x.sort x.form
 
   abbrev pub AllHold : List Operation → Type 0
   AllHold [] = Unit {0}
-  AllHold (o ∷ os) = Holds t ks o.operand × AllHold os
+  AllHold (o ∷ os) = Holds t ts o.operand × AllHold os
 
   right_held : (op : TwoOp) (x : Built) (o : Option Expression)
-      → spec.takes_two_at op (base_at t x.sort) ≡ true → HeldSo x → IfSome o (Held t ks x.sort) → IfSome (spec.with_right op x o) HeldSo
+      → spec.takes_two_at op (base_at t x.sort) ≡ true → HeldSo x → IfSome o (Held t ts x.sort) → IfSome (spec.with_right op x o) HeldSo
   right_held op x None takes h j = tt
   right_held op x (Some a) takes h j =
       two_held op h.base x.sort x.form a h.known (sym (ap (spec.takes_two_at op) h.known) ∙ takes) (h.of, held_base x.sort a h.base j h.known, h.good, j.good)
 
-  operate_held : (o : Option Built) (x : Operation) → IfSome o HeldSo → Holds t ks x.operand → IfSome (spec.operate t o x) HeldSo
+  operate_held : (o : Option Built) (x : Operation) → IfSome o HeldSo → Holds t ts x.operand → IfSome (spec.operate t o x) HeldSo
   operate_held None x h j = tt
   operate_held (Some y) x h j = if_so HeldSo (x.sort == y.sort && spec.takes_two_at x.operator (base_at t y.sort)) (spec.with_right x.operator y (x.operand y.sort))
       (λ e. right_held x.operator y (x.operand y.sort) (both_right (x.sort == y.sort) (spec.takes_two_at x.operator (base_at t y.sort)) e) h (j y.sort))
@@ -257,28 +258,28 @@ module _ (t : Table) (ks : List Kind) where
   all_held o [] h j = h
   all_held o (x ∷ xs) h j = all_held (spec.operate t o x) xs (operate_held o x h j.0) j.1
 
-  begin_held : (o : Option ℕ) (a : Lowers) → Holds t ks a → IfSome (spec.begin o a) HeldSo
+  begin_held : (o : Option ℕ) (a : Lowers) → Holds t ts a → IfSome (spec.begin o a) HeldSo
   begin_held None a h = tt
   begin_held (Some sort) a h = by (a sort) (h sort)
     where
-      by : (e : Option Expression) → IfSome e (Held t ks sort) → IfSome (spec.begun sort e) HeldSo
+      by : (e : Option Expression) → IfSome e (Held t ts sort) → IfSome (spec.begun sort e) HeldSo
       by None j = tt
       by (Some e) j = j
 
-  wanted_held : (w : ℕ) (o : Option Built) → IfSome o HeldSo → IfSome (spec.wanted w o) (Held t ks w)
+  wanted_held : (w : ℕ) (o : Option Built) → IfSome o HeldSo → IfSome (spec.wanted w o) (Held t ts w)
   wanted_held w None h = tt
-  wanted_held w (Some x) h = if_true (Held t ks w) (x.sort == w) x.form (λ e. subst (λ i. Held t ks i x.form) (same_sort x.sort w e) h)
+  wanted_held w (Some x) h = if_true (Held t ts w) (x.sort == w) x.form (λ e. subst (λ i. Held t ts i x.form) (same_sort x.sort w e) h)
 
-  pub chain_held : (a : Lowers) (os : List Operation) → Holds t ks a → AllHold os → Holds t ks (spec.chain t a os)
+  pub chain_held : (a : Lowers) (os : List Operation) → Holds t ts a → AllHold os → Holds t ts (spec.chain t a os)
   chain_held a os h j w = wanted_held w (fold (spec.operate t) (spec.begin (spec.first_sort os) a) os) (all_held (spec.begin (spec.first_sort os) a) os (begin_held (spec.first_sort os) a h) j)
 
   -- ---- whole expressions
-  pub shallow_kept : (sort : ℕ) (o : Option Expression) → IfSome o (Held t ks sort) → IfSome (spec.shallow o) (Kept t ks sort)
+  pub shallow_kept : (sort : ℕ) (o : Option Expression) → IfSome o (Held t ts sort) → IfSome (spec.shallow o) (Kept t ts sort)
   shallow_kept sort None h = tt
-  shallow_kept sort (Some e) h = if_true (Kept t ks sort) (nat_le (depth e) 12) e (λ j. record { held = h; room = grind (arith, nat_tests) })
+  shallow_kept sort (Some e) h = if_true (Kept t ts sort) (nat_le (depth e) 12) e (λ j. record { held = h; room = grind (arith, nat_tests) })
 
-  pub kept_whole : (sort : ℕ) (e : Expression) (k : RBase) → Kept t ks sort e → base_at t sort ≡ Some k → IsSoundWhole ks e (base_view k)
+  pub kept_whole : (sort : ℕ) (e : Expression) (k : RBase) → Kept t ts sort e → base_at t sort ≡ Some k → IsSoundWhole ts e (base_view k)
   kept_whole sort e k h is = record { kind = held_base sort e k h.held is; shallow = h.room; sound = h.held.good }
 
-  pub kept_alone : (sort : ℕ) (e : Expression) → Kept t ks sort e → IsSoundWhole ks e (kind_of e)
+  pub kept_alone : (sort : ℕ) (e : Expression) → Kept t ts sort e → IsSoundWhole ts e (kind_of e)
   kept_alone sort e h = record { kind = refl; shallow = h.room; sound = h.held.good }

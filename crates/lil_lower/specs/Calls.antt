@@ -17,7 +17,7 @@ use Rattle.lil_module.specs.declared.tree.RElement.{RElement}
 use Rattle.lil_module.specs.declared.tree.ROperation.{ROperation}
 use Rattle.lil_resolved.specs.Resolved.{Expression, Argument, Assign, Change, Request, Halt, Statements, Empty, Then, kind_of}
 use Rattle.lil_resolved.specs.Sound.{takes_value}
-use Rattle.lil_resolved.specs.Views.{base_view, kind_view, variable_of, request_number, is_down}
+use Rattle.lil_resolved.specs.Views.{base_view, kind_view, variable_of, variable_kind, request_number, is_down}
 use Rattle.lil_resolved.specs.declared.resolved.RBase.{RBase}
 use Rattle.lil_resolved.specs.declared.resolved.RBase.TheVariants as b
 use Rattle.lil_resolved.specs.declared.resolved.RRequest.{RRequest}
@@ -35,12 +35,12 @@ own_or None other = other
 
 -- ---- assignments
 abbrev pub stored : Variable → Option Expression → Option Statements
-stored v (Some e) = if takes_value (kind_view v.place.kind) (kind_of e) then Some (Then (Assign (variable_of v.place) e) Empty) else None
+stored v (Some e) = if takes_value (kind_view v.place.kind) (kind_of e) then Some (Then (Assign (variable_of v.place) (variable_kind v.place) e) Empty) else None
 stored v None = None
 
 -- ---- INC, DEC and HALT
 abbrev pub changed : Direction → Variable → Option Expression → Option Statements
-changed way v (Some e) = Some (Then (Change (is_down way) (variable_of v.place) e) Empty)
+changed way v (Some e) = Some (Then (Change (is_down way) (variable_of v.place) (variable_kind v.place) e) Empty)
 changed way v None = None
 
 -- by a number of the type that goes with the variable

@@ -24,7 +24,7 @@ use Rattle.lil_module.specs.declared.tree.RStmt.TheOpen.{RStmt-F, RArm-F, RGuard
 use Rattle.lil_module.specs.declared.tree.RStmt.TheFolds.{fold-RStmt, fold-RArm, fold-RGuard}
 use Rattle.lil_resolved.specs.Resolved.{Expression, Label, If, Case, While, Repeat, Loop, Exit, Return, For, Statements, Empty, Then, Arms, NoElse, Else, Arm, Resolved, kind_of}
 use Rattle.lil_resolved.specs.Sound.{takes_value}
-use Rattle.lil_resolved.specs.Views.{kind_view, variable_of, all_of, name_of, kind_declared}
+use Rattle.lil_resolved.specs.Views.{kind_view, variable_of, variable_kind, all_of, name_of, shape_declared}
 use Rattle.lil_resolved.specs.declared.resolved.RBase.{RBase}
 use Rattle.lil_resolved.specs.declared.resolved.RKind.{RKind}
 use Rattle.lil_resolved.specs.declared.resolved.RDeclared.{RDeclared}
@@ -169,7 +169,7 @@ started v (Some e) = if takes_value (kind_view v.place.kind) (kind_of e) then So
 started v None = None
 
 abbrev pub repeated_for : Variable → Option Expression → Option Expression → ℤ → Option Statements → Option Statements
-repeated_for v (Some a) (Some b) z (Some ss) = if is_step z then Some (Then (For (variable_of v.place) a b z ss) Empty) else None
+repeated_for v (Some a) (Some b) z (Some ss) = if is_step z then Some (Then (For (variable_of v.place) (variable_kind v.place) a b z ss) Empty) else None
 repeated_for v _ _ z _ = None
 
 -- ---- all forms
@@ -235,7 +235,7 @@ abbrev pub all_declared : Table → List RVar → Option (List RDeclared)
 all_declared t vs = all_some (map (declared t) vs)
 
 abbrev pub module_with : RModule → List RDeclared → Statements → Resolved
-module_with m vs ss = record { name = m.name; names = map name_of vs; variables = map kind_declared vs; body = ss }
+module_with m vs ss = record { name = m.name; names = map name_of vs; variables = map shape_declared vs; procedures = []; body = ss }
 
 abbrev pub laid_out : RModule → Option (List RDeclared) → Option Statements → Option Resolved
 laid_out m (Some vs) (Some ss) = Some (module_with m vs ss)

@@ -22,7 +22,7 @@ use Rattle.lil_resolved.specs.Scalars.{scalar_of}
 use Rattle.lil_resolved.specs.Resolved.{Expression, Constant, Taken, Apply, kind_of}
 use Rattle.lil_resolved.specs.Depth.{depth}
 use Rattle.lil_resolved.specs.Sound as sound
-use Rattle.lil_resolved.specs.Views.{base_view, variable_of, function_of, one_of, two_of}
+use Rattle.lil_resolved.specs.Views.{base_view, variable_of, variable_kind, function_of, one_of, two_of}
 use Rattle.lil_resolved.specs.declared.resolved.RBase.{RBase}
 use Rattle.lil_resolved.specs.declared.resolved.RBase.TheVariants as b
 use Rattle.lil_resolved.specs.declared.resolved.RKind.{RKind}
@@ -102,7 +102,7 @@ abbrev pub sort_of : Variable → ℕ
 sort_of v = v.sort
 
 abbrev pub taken : Option Variable → Lowers
-taken (Some v) s = if v.sort == s then Some (Taken (variable_of v.place)) else None
+taken (Some v) s = if v.sort == s then Some (Taken (variable_of v.place) (variable_kind v.place)) else None
 taken None s = None
 
 -- ---- standard functions

@@ -1,16 +1,16 @@
 -- Matched states: the code at hand does the items that are left, the store has the cells, and frames stand one over another. One step of
 -- the source leads from one to the next.
-use Rattle.std.proofs.Common.{◌≡◌, ℕ, ◌+◌, ◌<◌, ◌≤◌, ◌⊎◌, Bool, true, false, Some, None, List, [], ◌∷◌, map}
+use Rattle.std.proofs.Common.{◌≡◌, ℕ, ◌+◌, ◌<◌, ◌≤◌, ◌⊎◌, Bool, true, false, Option, Some, None, List, [], ◌∷◌, map}
 use Rattle.std.specs.Prelude.{slice_get, nat_le, ◌&&◌}
 use Rattle.lil_base.specs.declared.fault.LimitKind.{LimitKind}
 use Rattle.lil_base.specs.declared.fault.TrapAt.{TrapAt}
 use Rattle.lil_resolved.specs.Kinds.{Kind}
 use Rattle.lil_resolved.specs.Resolved.{Resolved}
-use Rattle.lil_meaning.specs.Shapes.{Shape, Word}
+use Rattle.lil_resolved.specs.Shapes.{Shape, Word}
 use Rattle.lil_meaning.specs.Cells.{Root, Global, Cells, loaded_at}
-use Rattle.lil_meaning.specs.World.{World}
-use Rattle.lil_meaning.specs.Items.{Item, Activation, Parked, Phase, Going, Closing, Ended, Trapped, Source}
-use Rattle.lil_meaning.specs.Steps.{next, owner_of, name_of}
+use Rattle.lil_meaning.specs.World.{World, all_closed}
+use Rattle.lil_meaning.specs.Items.{Item, Activation, Parked, Level, Phase, Going, Closing, Ended, Trapped, Source}
+use Rattle.lil_meaning.specs.Steps.{next, owner_of, procedure_of, name_of, procedure_name}
 use Rattle.lil_mcode.specs.State.{Module, StackRegisters, Kept, State, stack_of, module_at}
 use Rattle.lil_match.specs.Running.{Finish, Running, Finished, TrappedBy, Limited, Run, mrun, running}
 use Rattle.lil_match.specs.Homes.{Owner, Own, Free, Home, Mem}
@@ -41,14 +41,21 @@ fits limit (b ∷ bs) = nat_le (b.at + b.layout.frame) limit && fits limit bs
 abbrev pub number_of : Frame → ℕ
 number_of f = f.number
 
-module _ (modules : List Resolved) (table : List Module) (activations : List Activation) (base : Root → ℕ) (shape : Root → Shape) where
+-- a procedure of a module's table has this name, and an entry
+pub record HasName (procedures : List (ℕ × Option (List ℕ))) (p : ℕ) (name : Option (List ℕ)) : Type 0 where
+  pub entry : ℕ
+  pub there : slice_get procedures p ≡ Some (entry, name)
+
+module _ (library : List Resolved) (loaded : List ℕ) (table : List Module) (activations : List Activation) (base : Root → ℕ) (shape : Root → Shape) where
   -- a frame's module is loaded, its activation runs in it, and its variables live where its layout says
   pub record IsKnown (f : Frame) : Type 0 where
     pub known : module_at table f.number ≡ Some f.own
-    pub named : name_of (loaded_at modules f.number) ≡ f.own.name
+    pub named : name_of (loaded_at library loaded f.number) ≡ f.own.name
     pub owner : owner_of (slice_get activations f.activation) ≡ f.number
-    pub variables : (x offset : ℕ) (k : Kind) → slice_get f.layout.offsets x ≡ Some offset → slice_get f.layout.kinds x ≡ Some k
-        → (shape (Global f.number x) ≡ Word k) × (base (Global f.number x) ≡ f.own.base + offset)
+    pub called : procedure_of (slice_get activations f.activation) ≡ f.procedure
+    pub entered : HasName f.own.procedures f.procedure (procedure_name (loaded_at library loaded f.number) f.procedure)
+    pub variables : (x offset : ℕ) (t : Shape) → slice_get f.layout.offsets x ≡ Some offset → slice_get f.layout.shapes x ≡ Some t
+        → (shape (Global f.number x) ≡ t) × (base (Global f.number x) ≡ f.own.base + offset)
 
   abbrev pub EachKnown : List Frame → Type 0
   EachKnown [] = Unit {0}
@@ -64,8 +71,24 @@ module _ (modules : List Resolved) (table : List Module) (activations : List Act
   EachComes low [] = Unit {0}
   EachComes low (b ∷ bs) = Comes low b × EachComes low bs
 
+-- no level waits: the running one is the first
+pub record IsFirst (waiting : List Level) (below : List Kept) : Type 0 where
+  pub none : waiting ≡ []
+  pub none_below : below ≡ []
+
+-- the run has come to its end, with the same world
+pub record IsEnded (s : Source) (run : Run) : Type 0 where
+  pub finish : run.finish ≡ Finished
+  pub world : run.world ≡ s.world
+
+-- or the level is still to be closed, which the machine has done
+pub record IsLeft (f : Finish) (s : Source) (run : Run) : Type 0 where
+  pub finish : run.finish ≡ f
+  pub first : s.waiting ≡ []
+  pub world : run.world ≡ all_closed 1 s.world
+
 module _ (ctx : Setting) where
-  open ctx use {modules, table, activations, home as h, stack as st}
+  open ctx use {library, loaded, table, activations, home as h, stack as st}
 
   -- the registers of a stack are those of its frames
   pub record Standing (r : StackRegisters) : Type 0 where
@@ -73,32 +96,35 @@ module _ (ctx : Setting) where
     pub base_is : r.base ≡ st.base
     pub limit_is : r.limit ≡ st.limit
     pub bodies_are : r.bodies ≡ map number_of st.bodies
-    pub known : IsKnown modules table activations h.base h.shape st.frame
-    pub callers : EachKnown modules table activations h.base h.shape st.callers
-    pub comes : EachComes modules table activations h.base h.shape st.base st.bodies
+    pub known : IsKnown library loaded table activations h.base h.shape st.frame
+    pub callers : EachKnown library loaded table activations h.base h.shape st.callers
+    pub comes : EachComes library loaded table activations h.base h.shape st.base st.bodies
     pub stands : Stands h.owner st.base r.top st.frame st.callers
     pub room : (a : ℕ) → r.top ≤ a → a < st.limit → h.owner a ≡ Free st.base
     pub low : r.top ≤ st.limit
     pub high : st.limit ≤ 65535
 
   -- the module of the running frame runs
-  pub record IsProgram (loaded : List Module) (number : ℕ) (marked : Bool) : Type 0 where
-    pub table_is : loaded ≡ table
+  pub record IsProgram (modules : List Module) (number : ℕ) (marked : Bool) : Type 0 where
+    pub table_is : modules ≡ table
     pub known : module_at table st.frame.number ≡ Some st.frame.own
     pub running_is : number ≡ st.frame.number
     pub marked_is : marked ≡ true
 
   -- what stays while the place, the expression stack and the items change
-  pub record IsShared (cells : Cells) (activations' : List Activation) (parked : List Parked) (loaded : List Module) (kept : List Kept) (marked : Bool) (store : List ℕ) (stack : StackRegisters) : Type 0 where
+  pub record IsShared (numbers : List ℕ) (cells : Cells) (activations' : List Activation) (parked : List Parked) (waiting : List Level)
+      (modules : List Module) (kept below : List Kept) (marked : Bool) (store : List ℕ) (stack : StackRegisters) : Type 0 where
     pub mem : Mem h cells store
-    pub program : IsProgram loaded stack.running marked
+    pub program : IsProgram modules stack.running marked
     pub standing : Standing stack
+    pub loaded_are : numbers ≡ loaded
     pub activations_are : activations' ≡ activations
     pub parked_are : parked ≡ ctx.parked
     pub kept_are : kept ≡ ctx.kept
+    pub levels : IsFirst waiting below
 
   abbrev pub Shared : Source → State → Type 0
-  Shared s m = IsShared s.cells s.activations s.parked m.modules m.parked m.marked m.store (stack_of m)
+  Shared s m = IsShared s.loaded s.cells s.activations s.parked s.waiting m.modules m.parked m.waiting m.marked m.store (stack_of m)
 
   -- with so many jumps owed
   pub record IsMatched (s : Source) (k : List Item) (m : State) (c : ℕ) : Type 0 where
@@ -111,24 +137,21 @@ module _ (ctx : Setting) where
     pub is : run ≡ running machine s.world
     pub met : IsMatched s s.items machine c
 
-  -- the run has come to an end, with the same world
-  pub record IsOver (f : Finish) (s : Source) (run : Run) : Type 0 where
-    pub finish : run.finish ≡ f
-    pub world : run.world ≡ s.world
-
-  -- a trap in the module of the running frame
+  -- a trap in the procedure of the running frame
   pub record IsTrapped (t : TrapAt) (s : Source) (run : Run) : Type 0 where
-    pub finish : run.finish ≡ TrappedBy t.kind
-    pub world : run.world ≡ s.world
+    pub is_left : IsLeft (TrappedBy t.kind) s run
+    pub table_is : run.machine.modules ≡ table
+    pub running_is : run.machine.running ≡ st.frame.number
     pub known : module_at table st.frame.number ≡ Some st.frame.own
     pub name : t.«module» ≡ st.frame.own.name
-    pub procedure : t.procedure ≡ None
+    pub procedure : HasName st.frame.own.procedures st.frame.procedure t.procedure
 
   -- the machine has come to where the source is, with so many jumps owed
   abbrev pub Lands : Phase → Source → Run → ℕ → Type 0
   Lands Going s run c = GoesOn s run c
-  Lands (Closing t) s run c = IsTrapped t s run
-  Lands Ended s run c = IsOver Finished s run
+  Lands (Closing None) s run c = IsLeft Finished s run
+  Lands (Closing (Some t)) s run c = IsTrapped t s run
+  Lands Ended s run c = IsEnded s run
   Lands (Trapped t) s run c = ⊥
 
 -- The machine met a limit, with the same world: a body that is to run has no room.
@@ -154,10 +177,10 @@ pub record Goes (ctx : Setting) (s : Source) (k : List Item) (m : State) (budget
   pub home : Home
   pub stack : Stack
   pub quiet : (i : ℕ) → i < steps → IsStill s.world (mrun i (running m s.world))
-  pub lands : Lands (record ctx { home = home; stack = stack }) (next ctx.modules (record s { items = k; phase = Going })).phase (next ctx.modules (record s { items = k; phase = Going })) (mrun steps (running m s.world)) later
+  pub lands : Lands (record ctx { home = home; stack = stack }) (next ctx.library (record s { items = k; phase = Going })).phase (next ctx.library (record s { items = k; phase = Going })) (mrun steps (running m s.world)) later
       ⊎ IsFull ctx.stack.limit ctx.stack.bodies s.world (mrun steps (running m s.world))
   pub touch : Touches ctx.home home ctx.stack.base ctx.stack.limit
   pub same : (stack.base ≡ ctx.stack.base) × (stack.limit ≡ ctx.stack.limit)
   pub fewer : fits stack.limit stack.bodies ≡ false → fits ctx.stack.limit ctx.stack.bodies ≡ false
   pub cost : steps + later ≤ budget
-  pub falls : steps ≡ 0 → stutter (next ctx.modules (record s { items = k; phase = Going })).items < stutter k
+  pub falls : steps ≡ 0 → stutter (next ctx.library (record s { items = k; phase = Going })).items < stutter k

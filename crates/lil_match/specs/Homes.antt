@@ -6,7 +6,7 @@ use Rattle.std.specs.Prelude.{◌==◌, if◌then◌else◌}
 use Rattle.lil_base.specs.Words.{between}
 use Rattle.lil_resolved.specs.Kinds.{Kind, OfWhole, OfTruth, OfCharacter, OfEnumeration, OfRange, base_of}
 use Rattle.lil_resolved.specs.Scalars.{Scalar, ToObject, within, scalar_word, ordinal_of}
-use Rattle.lil_meaning.specs.Shapes.{Shape, Absent, Word, words, part_at, offset}
+use Rattle.lil_resolved.specs.Shapes.{Shape, Absent, Word, words, part_at, offset}
 use Rattle.lil_meaning.specs.Cells.{Root, Global, Local, Object, Place, Cells, rest_behind, at_rest, same_root, stored, alone}
 use Rattle.lil_match.specs.Parts.{yes, no, part_fits, Inside, Outside, word_long, parts}
 

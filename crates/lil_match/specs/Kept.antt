@@ -5,7 +5,7 @@ use Rattle.std.specs.List.{list_any}
 use Rattle.std.specs.Prelude.{Bool}
 use Rattle.lil_resolved.specs.Kinds.{Kind}
 use Rattle.lil_resolved.specs.Resolved.{Variable, Resolved}
-use Rattle.lil_meaning.specs.Shapes.{Shape, part_at, offset}
+use Rattle.lil_resolved.specs.Shapes.{Shape, part_at, offset}
 use Rattle.lil_meaning.specs.Cells.{Root, Global, Local, Object, Place}
 use Rattle.lil_meaning.specs.Items.{Scalars, Places, StoreAt, ChangeAt, RightOf, StartOf, LimitOf, Looping, Turns, End, Item, Value, PlaceOf, Fill, Perform, Activation, Source}
 use Rattle.lil_mcode.specs.State.{Module, StackRegisters, State, stack_of}
@@ -70,7 +70,7 @@ module _ (ctx : Setting) (x : Home) (low top : ℕ) (keeps : Keeps ctx.home x (f
       record { part = record { kind = r.kind; fits = r.fits; below = r.below; is = r.is ∙ ap (λ (w : ℕ). w ∷ r.below) (word_same h x keeps.reference v) }; onto = refl }
   met Quiet (Value (Places place)) p stack a r =
       record { part = record { kind = r.kind; offset = r.offset; variable = variable_kept place r.offset r.kind r.variable }; onto = refl }
-  met Quiet (PlaceOf (Variable n k)) p stack a r = record { part = r; onto = refl }
+  met Quiet (PlaceOf (Variable n)) p stack a r = record { part = r; onto = refl }
   met (ValueOf j) (Fill (RightOf o k u)) p stack a r =
       record {
         part = record { same = r.same; takes = r.takes; fits = r.fits; below = r.below; is = r.is ∙ ap (λ (w : ℕ). w ∷ r.below) (word_same h x keeps.reference u); end = r.end; by = r.by };
@@ -105,8 +105,8 @@ module _ (ctx : Setting) (x : Home) (low top : ℕ) (keeps : Keeps ctx.home x (f
         };
         onto = refl;
       }
-  met (ValueOf j) (Fill (StartOf (Variable n k) b step body)) p stack a r = record { part = r; onto = refl }
-  met (ValueOf j) (Fill (LimitOf (Variable n k) v step body)) p stack a r =
+  met (ValueOf j) (Fill (StartOf (Variable n) k b step body)) p stack a r = record { part = r; onto = refl }
+  met (ValueOf j) (Fill (LimitOf (Variable n) k v step body)) p stack a r =
       record {
         part = record {
           same = r.same;
@@ -185,14 +185,14 @@ rows_kept (Perform (Looping body) ∷ k) ctx x low above t p stack c a keeps r =
       };
       count = r.count;
     }
-rows_kept (Perform (Turns (Variable n kind) z step left body) ∷ k) ctx x low above t p stack c a keeps r =
+rows_kept (Perform (Turns (Variable n) kind z step left body) ∷ k) ctx x low above t p stack c a keeps r =
     record { start = r.start; jumps = r.jumps; later = r.later; way = r.way; there = by (rows_kept k ctx x low above) r.there; count = r.count }
   where
     at : ℕ
     at = ctx.stack.frame.at
 
-    by : Stays k ctx x low → TurnsTask ctx (Variable n kind) z step left body (Rows ctx k) t r.start stack r.later a
-        → TurnsTask (at_home ctx x) (Variable n kind) z step left body (Rows (at_home ctx x) k) t r.start stack r.later a
+    by : Stays k ctx x low → TurnsTask ctx (Variable n) kind z step left body (Rows ctx k) t r.start stack r.later a
+        → TurnsTask (at_home ctx x) (Variable n) kind z step left body (Rows (at_home ctx x) k) t r.start stack r.later a
     by rest (inl w) = inl (record {
       quiet = w.quiet;
       from = w.from;
@@ -293,13 +293,13 @@ stands_kept owner new base top f (g ∷ gs) same s =
       stands_kept owner new base f.at g gs (λ a from below. same a from (omega (arith, below, w.below))) s.1,
     )
 
-comes_above : (modules : List Resolved) (table : List Module) (activations : List Activation) (base : Root → ℕ) (shape : Root → Shape) (low : ℕ) (bs : List Frame)
-    → EachComes modules table activations base shape low bs → EachAbove (low + 4) bs
-comes_above modules table activations base shape low [] c = tt
-comes_above modules table activations base shape low (b ∷ bs) c = (omega (arith, c.0.at), comes_above modules table activations base shape low bs c.1)
+comes_above : (library : List Resolved) (loaded : List ℕ) (table : List Module) (activations : List Activation) (base : Root → ℕ) (shape : Root → Shape) (low : ℕ) (bs : List Frame)
+    → EachComes library loaded table activations base shape low bs → EachAbove (low + 4) bs
+comes_above library loaded table activations base shape low [] c = tt
+comes_above library loaded table activations base shape low (b ∷ bs) c = (omega (arith, c.0.at), comes_above library loaded table activations base shape low bs c.1)
 
 pub all_above : (ctx : Setting) (r : StackRegisters) → Standing ctx r → EachAbove (ctx.stack.base + 4) ctx.stack.bodies
-all_above ctx r s = comes_above ctx.modules ctx.table ctx.activations ctx.home.base ctx.home.shape ctx.stack.base ctx.stack.bodies s.comes
+all_above ctx r s = comes_above ctx.library ctx.loaded ctx.table ctx.activations ctx.home.base ctx.home.shape ctx.stack.base ctx.stack.bodies s.comes
 
 pub stack_above : (ctx : Setting) (r : StackRegisters) → Standing ctx r → (ctx.stack.base ≤ ctx.stack.frame.at) × EachAbove (ctx.stack.base + 4) (frames_of ctx.stack)
 stack_above ctx r s = stands_above ctx.home.owner ctx.stack.base r.top ctx.stack.frame ctx.stack.callers ctx.stack.bodies s.stands (all_above ctx r s)
@@ -310,7 +310,7 @@ pub loops_fit : (k : List Item) (ctx : Setting) (t : Mode) (p : ℕ) (stack : Li
 loops_fit [] ctx t p stack c a mark r = absurd r
 loops_fit (Perform (Looping body) ∷ k) ctx t p stack c a mark r =
     omega (arith, ap (λ (o : Around). o.loops) r.there.is, loops_fit k ctx _ _ _ _ r.there.outer mark r.there.then)
-loops_fit (Perform (Turns (Variable n kind) z step left body) ∷ k) ctx t p stack c a mark r =
+loops_fit (Perform (Turns (Variable n) kind z step left body) ∷ k) ctx t p stack c a mark r =
     ⊎_elim (λ w. loops_fit k ctx _ _ _ _ _ mark w.then) (λ w. omega (arith, ap (λ (o : Around). o.loops) w.around, w.round.room)) r.there
 loops_fit (Perform (End n) ∷ k) ctx t p stack c a mark r = omega (arith, ap (λ (o : Around). o.loops) r.there.alone, mark)
 loops_fit (i ∷ k) ctx t p stack c a mark r = loops_fit k ctx _ _ _ _ _ mark r.there.then
@@ -336,6 +336,8 @@ module _ (ctx : Setting) (s : Source) (m : State) (shared : Shared ctx s m) (i w
       let g = shared.standing in
       record {
         mem = mem_shadowed h s.cells m.store at w own_word (omega (arith, own_inside.1, g.high)) shared.mem;
+        loaded_are = shared.loaded_are;
+        levels = shared.levels;
         program = record { table_is = shared.program.table_is; known = shared.program.known; running_is = shared.program.running_is; marked_is = shared.program.marked_is };
         standing = record {
           frame_is = g.frame_is;

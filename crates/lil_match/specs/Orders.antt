@@ -27,7 +27,7 @@ behind code p middle i q first h =
 
 pub expression_stands : (l : Layout) (code : List ℕ) (e : Expression) (p q : ℕ) → ExpressionAt l code e p q → (p < q) × (q ≤ length code)
 expression_stands l code (Constant k v) p q h = instr_order code p _ q h.load
-expression_stands l code (Taken (Variable x k)) p q h = instr_order code p _ q h.load
+expression_stands l code (Taken (Variable x) k) p q h = instr_order code p _ q h.load
 expression_stands l code (One o k a) p q h =
     let first = expression_stands l code a p h.middle h.first in
     let by = instrs_order code (one_code o k) h.middle q h.by first.1 in

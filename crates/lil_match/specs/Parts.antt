@@ -3,7 +3,7 @@ use Rattle.std.proofs.Common.{◌≡◌, ℕ, zero, suc, ◌+◌, ◌*◌, ◌<�
 use Rattle.std.proofs.lemmas.Bool.{eq-eqb, ne_eqb, cases_eq, lt-ltb, le-ltb, cases_lt, cases_order}
 use Rattle.std.proofs.lemmas.Nat.{row_fits}
 use Rattle.lil_resolved.specs.Kinds.{Kind}
-use Rattle.lil_meaning.specs.Shapes.{Shape, Absent, Word, Join, Row, words, part_at, offset}
+use Rattle.lil_resolved.specs.Shapes.{Shape, Absent, Word, Join, Row, words, part_at, offset}
 use Rattle.lil_meaning.specs.Cells.{rest_behind}
 
 pub yes : {A : Type 0} (b : Bool) (x y : A) → b ≡ true → cond b x y ≡ x

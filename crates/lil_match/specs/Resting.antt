@@ -29,21 +29,23 @@ EachRests ctx [] [] = Unit {0}
 EachRests ctx (p ∷ ps) (r ∷ rs) = Rests ctx p r × EachRests ctx ps rs
 EachRests ctx ps rs = ⊥
 
-module _ (modules : List Resolved) (table : List Module) (activations : List Activation) (h x : Home)
+module _ (library : List Resolved) (loaded : List ℕ) (table : List Module) (activations : List Activation) (h x : Home)
     (base : (r : Root) → x.base r ≡ h.base r) (shape : (r : Root) → x.shape r ≡ h.shape r) where
-  pub known_kept : (f : Frame) → IsKnown modules table activations h.base h.shape f → IsKnown modules table activations x.base x.shape f
+  pub known_kept : (f : Frame) → IsKnown library loaded table activations h.base h.shape f → IsKnown library loaded table activations x.base x.shape f
   known_kept f g = record {
     known = g.known;
     named = g.named;
     owner = g.owner;
+    called = g.called;
+    entered = g.entered;
     variables = λ n o k offset kind. let v = g.variables n o k offset kind in (shape (Global f.number n) ∙ v.0, base (Global f.number n) ∙ v.1);
   }
 
-  pub each_known : (fs : List Frame) → EachKnown modules table activations h.base h.shape fs → EachKnown modules table activations x.base x.shape fs
+  pub each_known : (fs : List Frame) → EachKnown library loaded table activations h.base h.shape fs → EachKnown library loaded table activations x.base x.shape fs
   each_known [] e = tt
   each_known (f ∷ fs) e = (known_kept f e.0, each_known fs e.1)
 
-  pub each_comes : (low : ℕ) (fs : List Frame) → EachComes modules table activations h.base h.shape low fs → EachComes modules table activations x.base x.shape low fs
+  pub each_comes : (low : ℕ) (fs : List Frame) → EachComes library loaded table activations h.base h.shape low fs → EachComes library loaded table activations x.base x.shape low fs
   each_comes low [] e = tt
   each_comes low (f ∷ fs) e = (record { known = known_kept f e.0.known; at = e.0.at; mark = e.0.mark }, each_comes low fs e.1)
 
@@ -57,9 +59,9 @@ rests_kept ctx x y touch same p r rests = record {
     base_is = g.base_is;
     limit_is = g.limit_is;
     bodies_are = g.bodies_are;
-    known = known_kept ctx.modules ctx.table ctx.activations ctx.home x touch.base touch.shape d.frame g.known;
-    callers = each_known ctx.modules ctx.table ctx.activations ctx.home x touch.base touch.shape d.callers g.callers;
-    comes = each_comes ctx.modules ctx.table ctx.activations ctx.home x touch.base touch.shape d.base d.bodies g.comes;
+    known = known_kept ctx.library ctx.loaded ctx.table ctx.activations ctx.home x touch.base touch.shape d.frame g.known;
+    callers = each_known ctx.library ctx.loaded ctx.table ctx.activations ctx.home x touch.base touch.shape d.callers g.callers;
+    comes = each_comes ctx.library ctx.loaded ctx.table ctx.activations ctx.home x touch.base touch.shape d.base d.bodies g.comes;
     stands = stands_kept ctx.home.owner x.owner d.base r.stack.top d.frame d.callers (λ a from below. touch.owner a (far a from (omega (arith, below, g.low)))) g.stands;
     room = λ a from below. touch.owner a (far a (omega (arith, from, high.0, words.below)) below) ∙ g.room a from below;
     low = g.low;

@@ -1,5 +1,5 @@
 -- A run of the machine, with its world.
-use Rattle.std.specs.Prelude.{ℕ, zero, suc, List, take, drop, reverse, Option, Some, None}
+use Rattle.std.specs.Prelude.{ℕ, zero, suc, List, [], ◌∷◌, map, length, take, drop, reverse, Option, Some, None}
 use Rattle.lil_base.specs.declared.fault.TrapKind.{TrapKind}
 use Rattle.lil_base.specs.declared.fault.LimitKind.{LimitKind}
 use Rattle.lil_mcode.specs.declared.machine.Event.{Event}
@@ -7,7 +7,7 @@ use Rattle.lil_mcode.specs.declared.machine.Event.TheVariants.{Went, Request, Le
 use Rattle.lil_mcode.specs.State.{State}
 use Rattle.lil_mcode.specs.Table.{mstep}
 use Rattle.lil_asm.specs.Requests.{request_words}
-use Rattle.lil_meaning.specs.World.{World, serve}
+use Rattle.lil_meaning.specs.World.{World, Given, Single, serve, all_closed}
 
 -- how far a run has come
 pub data Finish : Type 0 where
@@ -27,22 +27,38 @@ words_taken None = 0
 words_taken (Some n) = n
 
 -- the words of a request, in the order of its parameters
-abbrev pub arguments : ℕ → State → List ℕ
-arguments n s = reverse (take n s.stack)
+abbrev pub arguments : ℕ → State → List Given
+arguments n s = map Single (reverse (take n s.stack))
+
+-- the number of the running level
+abbrev pub level_of : State → ℕ
+level_of s = suc (length s.waiting)
 
 -- the machine after a request, whose words are taken from the expression stack
 abbrev pub taken : ℕ → State → State
 taken n s = record s { stack = drop n s.stack }
 
+-- a request was served; one that answers gets its row with its answers
+abbrev pub replied : ℕ → State → List Given → World → Run → Run
+replied n s [] w run = record run { machine = taken n s; world = w }
+replied n s answers w run = run
+
+abbrev pub served : ℕ → State → World × List Given → Run → Run
+served n s r run = replied n s r.1 r.0 run
+
 abbrev pub requested : ℕ → ℕ → State → Run → Run
-requested r n s run = record run { machine = taken n s; world = serve r (arguments n s) run.world }
+requested r n s run = served n s (serve (level_of s) r (arguments n s) run.world) run
+
+-- the run ends with its level, whose streams and channels are closed
+abbrev pub left : Finish → State → Run → Run
+left f s run = record { machine = s; world = all_closed (level_of s) run.world; finish = f }
 
 -- what a step makes of a run
 abbrev pub react : Event → State → Run → Run
 react Went s run = record run { machine = s }
 react (Request r) s run = requested r (words_taken (request_words r)) s run
-react LevelEnded s run = record run { machine = s; finish = Finished }
-react (Trap k) s run = record run { machine = s; finish = TrappedBy k }
+react LevelEnded s run = left Finished s run
+react (Trap k) s run = left (TrappedBy k) s run
 react (Limit k) s run = record run { machine = s; finish = Limited k }
 react BadCode s run = record run { machine = s; finish = Broken }
 

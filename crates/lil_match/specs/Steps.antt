@@ -44,7 +44,7 @@ touched h g i low high first second = record {
 }
 
 module _ (ctx : Setting) where
-  open ctx use {modules, table, home as h, stack as st}
+  open ctx use {library, table, home as h, stack as st}
   open frame_of ctx use {own}
   open laid_out ctx use {layout as l}
 
@@ -73,7 +73,7 @@ module _ (ctx : Setting) where
   -- other cells, in another store
   pub shared_with : (s : Source) (m : State) → Shared ctx s m → {cells : Cells} {store : List ℕ} → Mem h cells store → Shared ctx (record s { cells = cells }) (record m { store = store })
   shared_with s m shared mem =
-      record { mem = mem; program = shared.program; standing = shared.standing; activations_are = shared.activations_are; parked_are = shared.parked_are; kept_are = shared.kept_are }
+      record { mem = mem; program = shared.program; standing = shared.standing; activations_are = shared.activations_are; parked_are = shared.parked_are; kept_are = shared.kept_are; loaded_are = shared.loaded_are; levels = shared.levels }
 
   -- the source goes on with these items, and the machine from that place
   pub lands_on : (s : Source) (m : State) → Shared ctx s m → (k : List Item) (q : ℕ) (stack : List ℕ) (c : ℕ) (a : Around)
@@ -87,15 +87,15 @@ module _ (ctx : Setting) where
 
   abbrev pub LandsIn : Home → Stack → Source → List Item → Run → ℕ → Type 0
   LandsIn x y s k run c =
-      Lands (record ctx { home = x; stack = y }) (next modules (record s { items = k; phase = Going })).phase (next modules (record s { items = k; phase = Going })) run c
+      Lands (record ctx { home = x; stack = y }) (next library (record s { items = k; phase = Going })).phase (next library (record s { items = k; phase = Going })) run c
 
   abbrev pub LandsAt : Source → List Item → Run → ℕ → Type 0
   LandsAt s k run c =
-      Lands ctx (next modules (record s { items = k; phase = Going })).phase (next modules (record s { items = k; phase = Going })) run c
+      Lands ctx (next library (record s { items = k; phase = Going })).phase (next library (record s { items = k; phase = Going })) run c
 
   -- no step of the machine
   pub goes_none : (s : Source) (k : List Item) (m : State) (budget c : ℕ) → LandsAt s k (running m s.world) c → c ≤ budget
-      → stutter (next modules (record s { items = k; phase = Going })).items < stutter k → Goes ctx s k m budget
+      → stutter (next library (record s { items = k; phase = Going })).items < stutter k → Goes ctx s k m budget
   goes_none s k m budget c lands less falls = record {
     steps = 0;
     later = c;
@@ -112,7 +112,7 @@ module _ (ctx : Setting) where
 
   -- no step of the machine: an expression is to come, and then a hole
   pub operand_goes : (s : Source) (k : List Item) (m : State) (c : ℕ) (a : Around) → Shared ctx s m → (items : List Item) (e : Expression) (o : Hole)
-      → next modules (record s { items = items; phase = Going }) ≡ record s { items = Evaluate e ∷ Fill o ∷ k; phase = Going } → stutter (Evaluate e ∷ Fill o ∷ k) < stutter items → (middle : ℕ)
+      → next library (record s { items = items; phase = Going }) ≡ record s { items = Evaluate e ∷ Fill o ∷ k; phase = Going } → stutter (Evaluate e ∷ Fill o ∷ k) < stutter items → (middle : ℕ)
       → ExpressionAt l own.code e m.place middle → length m.stack + depth e ≤ 16 → middle < length own.code → Waiting ctx (Fill o) (Rows ctx k) (ValueOf (kind_of e)) middle m.stack c a → Goes ctx s items m (c + 32)
   operand_goes s k m c a shared items e o becomes lighter middle here shallow within row =
       goes_none s items m (c + 32) c

@@ -5,7 +5,7 @@ use Rattle.lil_meaning.specs.Items.{Hole, Get, SetTo, StoreAt, ChangeBy, ChangeA
 
 abbrev pub value_stutter : Expression → ℕ
 value_stutter (Constant k v) = 1
-value_stutter (Taken d) = 3
+value_stutter (Taken d k) = 3
 value_stutter (One o k a) = 2 + value_stutter a
 value_stutter (Two o k a b) = 1 + value_stutter a + value_stutter b
 value_stutter (Short d a b) = 1 + value_stutter a + value_stutter b
@@ -17,8 +17,8 @@ passing_stutter (a ∷ given) = 1 + value_stutter a.value + passing_stutter give
 
 abbrev mutual
   pub statement_stutter : Statement → ℕ
-  statement_stutter (Assign d e) = 3 + value_stutter e
-  statement_stutter (Change down d e) = 3 + value_stutter e
+  statement_stutter (Assign d k e) = 3 + value_stutter e
+  statement_stutter (Change down d k e) = 3 + value_stutter e
   statement_stutter (Request r given) = 1 + passing_stutter given
   statement_stutter (If c a b) = 1 + value_stutter c
   statement_stutter (Case e arms) = 1 + value_stutter e
@@ -28,7 +28,7 @@ abbrev mutual
   statement_stutter Exit = 1
   statement_stutter Halt = 1
   statement_stutter Return = 2
-  statement_stutter (For d a b step body) = 1 + value_stutter a + value_stutter b
+  statement_stutter (For d k a b step body) = 1 + value_stutter a + value_stutter b
 
   pub body_stutter : Statements → ℕ
   body_stutter Empty = 0
@@ -50,15 +50,15 @@ hole_stutter (Choose a b) = 0
 hole_stutter (Turn c body) = 0
 hole_stutter (Again body c) = 0
 hole_stutter (Pick arms) = 0
-hole_stutter (StartOf d b step body) = value_stutter b
-hole_stutter (LimitOf d v step body) = 0
+hole_stutter (StartOf d k b step body) = value_stutter b
+hole_stutter (LimitOf d k v step body) = 0
 
 abbrev pub task_stutter : Task → ℕ
 task_stutter (Do s) = statement_stutter s
 task_stutter (Passing r done left) = passing_stutter left
 task_stutter (Until body c) = 1 + value_stutter c
 task_stutter (Looping body) = 0
-task_stutter (Turns d x step left body) = 0
+task_stutter (Turns d k x step left body) = 0
 task_stutter (End a) = 1
 
 abbrev pub item_stutter : Item → ℕ

@@ -11,10 +11,11 @@ use Rattle.lil_resolved.specs.Scalars.{Scalar, within}
 use Rattle.lil_resolved.specs.Resolved.{Designator, Variable, Function, Expression, Argument, Statement, If, Case, While, Repeat, Loop, Statements, Arms, Resolved, kind_of, is_relation, result_kind, function_kind, counted_as}
 use Rattle.lil_resolved.specs.Depth.{depth, function_depth}
 use Rattle.lil_resolved.specs.Sound.{takes_one, takes_two, takes_function}
-use Rattle.lil_meaning.specs.Shapes.{Word}
+use Rattle.lil_resolved.specs.Shapes.{Word}
 use Rattle.lil_meaning.specs.Cells.{Root, Local, Place}
 use Rattle.lil_meaning.specs.Items.{Datum, Scalars, Places, Get, SetTo, StoreAt, ChangeBy, ChangeAt, OneOf, LeftOf, RightOf, ShortOf, ApplyTo, Pass, Choose, Turn, Again, Pick, StartOf, LimitOf, Do, Passing, Until, Looping, Turns, End, Item, Value, Evaluate, PlaceOf, Fill, Perform, Activation, Parked}
-use Rattle.lil_meaning.specs.Steps.{turns, datum_word}
+use Rattle.lil_meaning.specs.World.{Single}
+use Rattle.lil_meaning.specs.Steps.{turns, given_of}
 use Rattle.lil_asm.specs.declared.instr.Instr.TheVariants.{Lgw, Sgw, Ent, Rtn, Jmp, Svc}
 use Rattle.lil_mcode.specs.State.{Module, Kept, body_entry}
 use Rattle.lil_asm.specs.Requests.{request_words}
@@ -39,9 +40,11 @@ outside = record { exit = None; loops = 0 }
 abbrev pub Reach : Type 1
 Reach = Mode → ℕ → List ℕ → ℕ → Around → Type 0
 
--- words of arguments on the expression stack, the first lowest
-abbrev pub words_on : List Datum → List ℕ
-words_on ds = reverse (map datum_word ds)
+-- the words that arguments are, on the expression stack, the first lowest
+pub record HasWords (ds : List Datum) (stack : List ℕ) : Type 0 where
+  pub words : List ℕ
+  pub are : map given_of ds ≡ map Single words
+  pub on : stack ≡ reverse words
 
 -- so many jumps lead from one place to another
 abbrev pub Jumps : List ℕ → ℕ → ℕ → ℕ → Type 0
@@ -78,11 +81,12 @@ pub record Waits (w : Part) (rest : Reach) (c : ℕ) (a : Around) : Type 0 where
   pub part : w.Here
   pub then : rest (w.onto part).mode (w.onto part).place (w.onto part).stack c a
 
--- A procedure or a body that runs or is to run: its activation, its module's number, entry in the table and layout, the first word of its
--- frame, and the place where its return goes on.
+-- A procedure or a body that runs or is to run: its activation, its module's number, its own number in there, its module's entry in the
+-- table, its layout, the first word of its frame, and the place where its return goes on.
 pub record Frame : Type 0 where
   pub activation : ℕ
   pub number : ℕ
+  pub procedure : ℕ
   pub own : Module
   pub layout : Layout
   pub at : ℕ
@@ -100,10 +104,11 @@ pub record Stack : Type 0 where
 abbrev pub frames_of : Stack → List Frame
 frames_of s = s.frame ∷ (s.callers ++ s.bodies)
 
--- What all stands in: the modules of the source, the table of modules, the activations, what doesn't run on both sides, where the cells
+-- What all stands in: the library of the source, the table of library, the activations, what doesn't run on both sides, where the cells
 -- lie, and the stack that runs.
 pub record Setting : Type 0 where
-  pub modules : List Resolved
+  pub library : List Resolved
+  pub loaded : List ℕ
   pub table : List Module
   pub activations : List Activation
   pub parked : List Parked
@@ -196,6 +201,10 @@ module _ (frame : Frame) where
     pub end : ℕ
     pub by : InstrsAt own.code (function_code f j) p end
 
+  pub record NamedPart (x : ℕ) : Type 0 where
+    pub kind : Kind
+    pub known : KnownRow l x kind
+
   pub record GetPart (offset p : ℕ) (stack : List ℕ) : Type 0 where
     pub end : ℕ
     pub load : IsAt own.code p (Lgw offset) end
@@ -230,7 +239,7 @@ module _ (frame : Frame) where
 
   pub record PassPart (j : Kind) (r : ℕ) (k : Kind) (done : List Datum) (left : List Argument) (p : ℕ) (stack : List ℕ) : Type 0 where
     pub takes : takes_value k j ≡ true
-    pub is : stack ≡ words_on done
+    pub on : HasWords done stack
     pub tested : ℕ
     pub test : InstrsAt own.code (test_code k j) p tested
     pub middle : ℕ
@@ -238,7 +247,7 @@ module _ (frame : Frame) where
     pub serve : ServePart r (suc (length done) + length left) middle
 
   pub record PassingPart (r : ℕ) (done : List Datum) (left : List Argument) (p : ℕ) (stack : List ℕ) : Type 0 where
-    pub is : stack ≡ words_on done
+    pub on : HasWords done stack
     pub middle : ℕ
     pub given : ArgumentsAt l own.code (length done) left p middle
     pub serve : ServePart r (length done + length left) middle
@@ -375,8 +384,8 @@ module _ (ctx : Setting) where
     pub within : end < length own.code
     pub then : rest Quiet end [] c outer
 
-  abbrev pub TurnsTask : Designator → ℤ → ℤ → ℕ → Statements → Reach → Reach
-  TurnsTask (Variable x k) z step left body rest t p stack c a = BeginWaits x k z step left body rest t p stack c a ⊎ NextWaits x k z step left body rest t p stack c a
+  abbrev pub TurnsTask : Designator → Kind → ℤ → ℤ → ℕ → Statements → Reach → Reach
+  TurnsTask (Variable x) k z step left body rest t p stack c a = BeginWaits x k z step left body rest t p stack c a ⊎ NextWaits x k z step left body rest t p stack c a
 
   -- the place of a scalar in the data of the module at hand, which the stack's items may name
   pub record IsVariable (place : Place) (offset : ℕ) (k : Kind) : Type 0 where
@@ -416,7 +425,7 @@ module _ (ctx : Setting) where
   needs Quiet (Value (Scalars v)) p stack a = part (ScalarPart v stack) (λ r. on (ValueOf r.kind) p r.below)
   needs Quiet (Value (Places place)) p stack a = part (DirectPart place) (λ r. on (Direct r.offset r.kind) p stack)
   needs Quiet (Evaluate e) p stack a = part (EvaluatePart active e p stack) (λ r. on (ValueOf (kind_of e)) r.end stack)
-  needs Quiet (PlaceOf (Variable x k)) p stack a = part (KnownRow l x k) (λ r. on (Direct r.offset k) p stack)
+  needs Quiet (PlaceOf (Variable x)) p stack a = part (NamedPart active x) (λ r. on (Direct r.known.offset r.kind) p stack)
   needs Quiet (Perform (Do s)) p stack a = part (DoPart active s p stack a) (λ r. on Quiet r.end [])
   needs Quiet (Perform (Passing q done left)) p stack a = part (PassingPart active q done left p stack) (λ r. on Quiet r.serve.end [])
   needs Quiet (Perform (Until body e)) p stack a = part (UntilPart active body e p stack a) (λ r. on Quiet r.did.end [])
@@ -435,8 +444,8 @@ module _ (ctx : Setting) where
   needs (ValueOf j) (Fill (Turn e body)) p stack a = part (TurnPart active j e body p stack a) (λ r. on Quiet r.did.end [])
   needs (ValueOf j) (Fill (Again body e)) p stack a = part (AgainPart active j body e p stack a) (λ r. on Quiet r.did.end [])
   needs (ValueOf j) (Fill (Pick arms)) p stack a = part (PickPart active j arms p stack a) (λ r. on Quiet r.did.end [])
-  needs (ValueOf j) (Fill (StartOf (Variable x k) b step body)) p stack a = part (StartPart active j x k b step body p stack a) (λ r. on Quiet r.end [])
-  needs (ValueOf j) (Fill (LimitOf (Variable x k) v step body)) p stack a = part (LimitPart j x k v step body p stack a) (λ r. on Quiet r.end [])
+  needs (ValueOf j) (Fill (StartOf (Variable x) k b step body)) p stack a = part (StartPart active j x k b step body p stack a) (λ r. on Quiet r.end [])
+  needs (ValueOf j) (Fill (LimitOf (Variable x) k v step body)) p stack a = part (LimitPart j x k v step body p stack a) (λ r. on Quiet r.end [])
   needs t i p stack a = never
 
   abbrev pub Waiting : Item → Reach → Reach
@@ -484,7 +493,7 @@ module _ (ctx : Setting) where
   -- the row of an item, with what is left behind it
   abbrev pub ItemWaits : Item → List Item → (Setting → Reach) → Reach
   ItemWaits (Perform (Looping body)) k rest = LoopingWaits active body (rest ctx)
-  ItemWaits (Perform (Turns d z step left body)) k rest = TurnsTask d z step left body (rest ctx)
+  ItemWaits (Perform (Turns d kind z step left body)) k rest = TurnsTask d kind z step left body (rest ctx)
   ItemWaits (Perform (End n)) k rest = EndWaits n k rest
   ItemWaits i k rest = Waiting i (rest ctx)
 

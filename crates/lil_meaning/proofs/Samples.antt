@@ -4,14 +4,15 @@ use Rattle.std.specs.Prelude.{Ok, Err}
 use Rattle.lil_base.specs.Words.{Cardinal, Integer}
 use Rattle.lil_base.specs.declared.fault.TrapKind.TheVariants as trap
 use Rattle.lil_base.specs.declared.operator.TwoOp.TheVariants.{Equal, Less, AtLeast, Div, Mod}
-use Rattle.lil_resolved.specs.Kinds.{OfWhole, OfTruth, OfCharacter, OfRange}
+use Rattle.lil_resolved.specs.Kinds.{Kind, OfWhole, OfTruth, OfCharacter, OfRange}
 use Rattle.lil_resolved.specs.Scalars.{Number, Truth, Character, SetOf, ToObject, Nothing, value_with}
 use Rattle.lil_resolved.specs.Resolved.{Designator, Variable, Chr, Val, Expression, Constant, Statement, Assign, Change, Request, Loop, Halt, Return, For, Statements, Empty, Then, Arms, NoElse, Else, Arm, Resolved, in_order}
+use Rattle.lil_resolved.specs.Shapes.{Word}
 use Rattle.lil_meaning.specs.Cells.{Global, got}
-use Rattle.lil_meaning.specs.World.{World, piece_of}
+use Rattle.lil_meaning.specs.World.{World, Single, piece_of, Stream, Channel, OpenBy, Closed, closing, all_closed}
 use Rattle.lil_meaning.specs.Items.{Looping, Turns, Item, Perform, Ended, Trapped}
 use Rattle.lil_meaning.specs.Steps.{applied, function_value, chosen, turns, exited}
-use Rattle.lil_meaning.specs.Runs.{src}
+use Rattle.lil_meaning.specs.Runs.{state_of}
 
 -- ---- the turns of FOR
 up_to_the_greatest : turns (pos 65534) (pos 65535) (pos 1) ≡ 2
@@ -97,63 +98,94 @@ no_arm : (a b : Statements) → chosen (arms a b NoElse) (pos 7) ≡ None
 no_arm a b = refl
 
 -- ---- EXIT leaves all that stands before the end of the LOOP around, and that end
-out_of_turns : (d : Designator) (body inner : Statements) (k : List Item) → exited (Perform (Turns d (pos 2) (pos 1) 7 body) ∷ Perform (Looping inner) ∷ k) ≡ k
-out_of_turns d body inner k = refl
+out_of_turns : (d : Designator) (kind : Kind) (body inner : Statements) (k : List Item) → exited (Perform (Turns d kind (pos 2) (pos 1) 7 body) ∷ Perform (Looping inner) ∷ k) ≡ k
+out_of_turns d kind body inner k = refl
 
--- ---- whole runs
+-- ---- whole runs, in a world where nothing is open
+abbrev idle : World → World
+idle w = record w { streams = []; channels = [] }
+
 abbrev c : Designator
-c = Variable 0 (OfWhole Cardinal)
+c = Variable 0
+
+abbrev kc : Kind
+kc = OfWhole Cardinal
 
 abbrev cardinal : ℕ → Expression
 cardinal n = Constant (OfWhole Cardinal) (Number (pos n))
 
 abbrev program : List Statement → Resolved
-program statements = record { name = []; names = (99 ∷ []) ∷ []; variables = OfWhole Cardinal ∷ []; body = in_order statements }
+program statements = record { name = []; names = (99 ∷ []) ∷ []; variables = Word kc ∷ []; procedures = []; body = in_order statements }
 
 abbrev writes_x : Statement
 writes_x = Request 2 (record { kind = OfCharacter; value = Constant OfCharacter (Character 120) } ∷ [])
 
-a_character : (w : World) → (src (program (writes_x ∷ []) ∷ []) w 5).world.screen ≡ w.screen ++ 120 ∷ []
+a_character : (w : World) → (state_of (program (writes_x ∷ [])) w 5).world.screen ≡ w.screen ++ 120 ∷ []
 a_character w = refl
 
-an_end : (w : World) → (src (program (writes_x ∷ []) ∷ []) w 7).phase ≡ Ended
+an_end : (w : World) → (state_of (program (writes_x ∷ [])) (idle w) 7).phase ≡ Ended
 an_end w = refl
 
 -- a FOR without a turn leaves its variable
-no_turn : (w : World) → got (src (program (Assign c (cardinal 7) ∷ For c (cardinal 3) (cardinal 1) (pos 1) Empty ∷ []) ∷ []) w 20).cells (record { root = Global 1 0; path = [] }) ≡ Number (pos 7)
+no_turn : (w : World) → got (state_of (program (Assign c kc (cardinal 7) ∷ For c kc (cardinal 3) (cardinal 1) (pos 1) Empty ∷ [])) (idle w) 20).cells (record { root = Global 1 0; path = [] }) ≡ Number (pos 7)
 no_turn w = refl
 
 -- a FOR with turns leaves the value of the last one
-last_turn : (w : World) → got (src (program (For c (cardinal 1) (cardinal 6) (pos 2) Empty ∷ []) ∷ []) w 20).cells (record { root = Global 1 0; path = [] }) ≡ Number (pos 5)
+last_turn : (w : World) → got (state_of (program (For c kc (cardinal 1) (cardinal 6) (pos 2) Empty ∷ [])) (idle w) 20).cells (record { root = Global 1 0; path = [] }) ≡ Number (pos 5)
 last_turn w = refl
 
 -- a FOR over truth values stops where its kind has no more
-a_turn_too_many : (w : World) → (src (program (For (Variable 0 OfTruth) (cardinal 0) (cardinal 2) (pos 1) Empty ∷ []) ∷ []) w 20).phase ≡ Trapped (record { kind = trap.Range; «module» = []; procedure = None })
+a_turn_too_many : (w : World) → (state_of (program (For c OfTruth (cardinal 0) (cardinal 2) (pos 1) Empty ∷ [])) (idle w) 20).phase ≡ Trapped (record { kind = trap.Range; «module» = []; procedure = None })
 a_turn_too_many w = refl
 
 -- ---- INC, DEC, HALT and RETURN
 -- INC tests the sum against its type first, and then against the variable's
-past_the_last : (w : World) → (src (program (Change false (Variable 0 OfTruth) (cardinal 2) ∷ []) ∷ []) w 20).phase ≡ Trapped (record { kind = trap.Range; «module» = []; procedure = None })
+past_the_last : (w : World) → (state_of (program (Change false c OfTruth (cardinal 2) ∷ [])) (idle w) 20).phase ≡ Trapped (record { kind = trap.Range; «module» = []; procedure = None })
 past_the_last w = refl
 
-below_zero : (w : World) → (src (program (Change true c (cardinal 1) ∷ []) ∷ []) w 20).phase ≡ Trapped (record { kind = trap.Overflow; «module» = []; procedure = None })
+below_zero : (w : World) → (state_of (program (Change true c kc (cardinal 1) ∷ [])) (idle w) 20).phase ≡ Trapped (record { kind = trap.Overflow; «module» = []; procedure = None })
 below_zero w = refl
 
-a_halt : (w : World) → (src (program (Halt ∷ writes_x ∷ []) ∷ []) w 20).phase ≡ Trapped (record { kind = trap.Halted; «module» = []; procedure = None })
+a_halt : (w : World) → (state_of (program (Halt ∷ writes_x ∷ [])) (idle w) 20).phase ≡ Trapped (record { kind = trap.Halted; «module» = []; procedure = None })
 a_halt w = refl
 
-a_return : (w : World) → (src (program (Loop (Then Return Empty) ∷ writes_x ∷ []) ∷ []) w 20).phase ≡ Ended
+a_return : (w : World) → (state_of (program (Loop (Then Return Empty) ∷ writes_x ∷ [])) (idle w) 20).phase ≡ Ended
 a_return w = refl
 
+-- ---- the end of a level closes its stream first, and then its channels, a step each; a channel of another level stays
+abbrev stream : Stream
+stream = record { number = 1; level = 1; name = 70 ∷ []; content = 72 ∷ []; place = 0; changed = true }
+
+abbrev channel : ℕ → Channel
+channel level = record { phase = OpenBy level; taken = []; give = [] }
+
+abbrev busy : World → World
+busy w = record w { streams = stream ∷ []; channels = channel 2 ∷ channel 1 ∷ [] }
+
+abbrev halts : Resolved
+halts = program (Halt ∷ [])
+
+a_stream_first : (w : World) → ((state_of halts (busy w) 2).world.writes ≡ w.writes ++ (70 ∷ [], 72 ∷ []) ∷ []) × ((state_of halts (busy w) 2).world.channels ≡ channel 2 ∷ channel 1 ∷ [])
+a_stream_first w = (refl, refl)
+
+a_last_closing : (w : World) → ((state_of halts (busy w) 3).world ≡ all_closed 1 (busy w)) × ((state_of halts (busy w) 3).world.channels ≡ channel 2 ∷ record (channel 1) { phase = Closed } ∷ [])
+a_last_closing w = (refl, refl)
+
+a_trap_behind_closings : (w : World) → (state_of halts (busy w) 4).phase ≡ Trapped (record { kind = trap.Halted; «module» = []; procedure = None })
+a_trap_behind_closings w = refl
+
+an_end_behind_closings : (w : World) → (state_of (program []) (busy w) 4).phase ≡ Ended
+an_end_behind_closings w = refl
+
 -- ---- pieces
-seventeen : piece_of 5 (17 ∷ 4 ∷ []) ≡ 32 ∷ 32 ∷ 49 ∷ 55 ∷ []
+seventeen : piece_of 5 (Single 17 ∷ Single 4 ∷ []) ≡ 32 ∷ 32 ∷ 49 ∷ 55 ∷ []
 seventeen = refl
 
-the_least_integer : piece_of 6 (32768 ∷ 1 ∷ []) ≡ 45 ∷ 51 ∷ 50 ∷ 55 ∷ 54 ∷ 56 ∷ []
+the_least_integer : piece_of 6 (Single 32768 ∷ Single 1 ∷ []) ≡ 45 ∷ 51 ∷ 50 ∷ 55 ∷ 54 ∷ 56 ∷ []
 the_least_integer = refl
 
-the_greatest_word : piece_of 7 (65535 ∷ 0 ∷ []) ≡ 49 ∷ 55 ∷ 55 ∷ 55 ∷ 55 ∷ 55 ∷ []
+the_greatest_word : piece_of 7 (Single 65535 ∷ Single 0 ∷ []) ≡ 49 ∷ 55 ∷ 55 ∷ 55 ∷ 55 ∷ 55 ∷ []
 the_greatest_word = refl
 
-in_hexadecimal : piece_of 8 (48879 ∷ 5 ∷ []) ≡ 32 ∷ 66 ∷ 69 ∷ 69 ∷ 70 ∷ []
+in_hexadecimal : piece_of 8 (Single 48879 ∷ Single 5 ∷ []) ≡ 32 ∷ 66 ∷ 69 ∷ 69 ∷ 70 ∷ []
 in_hexadecimal = refl

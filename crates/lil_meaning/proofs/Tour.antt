@@ -5,16 +5,17 @@ use Rattle.lil_base.specs.declared.operator.TwoOp.TheVariants.{Plus, Times}
 use Rattle.lil_resolved.specs.Kinds.{Kind, OfWhole, OfCharacter}
 use Rattle.lil_resolved.specs.Scalars.{Number, Character}
 use Rattle.lil_resolved.specs.Resolved.{Designator, Variable, Chr, Expression, Constant, Taken, Two, Apply, Argument, Assign, Request, Resolved, in_order}
+use Rattle.lil_resolved.specs.Shapes.{Word}
 use Rattle.lil_meaning.specs.Cells.{Global, Place, got}
 use Rattle.lil_meaning.specs.World.{World}
 use Rattle.lil_meaning.specs.Items.{Source, Item, Scalars, Places, Get, StoreAt, SetTo, LeftOf, RightOf, ApplyTo, Pass, Do, Passing, End, Value, Evaluate, PlaceOf, Fill, Perform, Ended, Going}
-use Rattle.lil_meaning.specs.Runs.{src}
+use Rattle.lil_meaning.specs.Runs.{state_of}
 
 abbrev k : Kind
 k = OfWhole Cardinal
 
 abbrev c : Designator
-c = Variable 0 k
+c = Variable 0
 
 abbrev n : ℕ → Expression
 n x = Constant k (Number (pos x))
@@ -23,7 +24,7 @@ abbrev v : ℕ → Item
 v x = Value (Scalars (Number (pos x)))
 
 abbrev times : Expression
-times = Two Times k (Taken c) (n 9)
+times = Two Times k (Taken c k) (n 9)
 
 abbrev plus : Expression
 plus = Two Plus k times (n 2)
@@ -32,10 +33,10 @@ abbrev given : List Argument
 given = record { kind = OfCharacter; value = Apply Chr plus } ∷ []
 
 abbrev tour : Resolved
-tour = record { name = []; names = []; variables = k ∷ []; body = in_order (Assign c (n 7) ∷ Request 2 given ∷ []) }
+tour = record { name = []; names = []; variables = Word k ∷ []; procedures = []; body = in_order (Assign c k (n 7) ∷ Request 2 given ∷ []) }
 
 abbrev at : World → ℕ → Source
-at w i = src (tour ∷ []) w i
+at w i = state_of tour (record w { streams = []; channels = [] }) i
 
 abbrev place : Place
 place = record { root = Global 1 0; path = [] }
@@ -58,7 +59,7 @@ sum = Fill (LeftOf Plus k (n 2)) ∷ chr
 abbrev product : List Item
 product = Fill (LeftOf Times k (n 9)) ∷ sum
 
-s0 : (w : World) → (at w 0).items ≡ Perform (Do (Assign c (n 7))) ∷ rest
+s0 : (w : World) → (at w 0).items ≡ Perform (Do (Assign c k (n 7))) ∷ rest
 s0 w = refl
 
 s1 : (w : World) → (at w 1).items ≡ PlaceOf c ∷ Fill (SetTo k (n 7)) ∷ rest
@@ -91,7 +92,7 @@ s8 w = refl
 s9 : (w : World) → (at w 9).items ≡ Evaluate times ∷ sum
 s9 w = refl
 
-s10 : (w : World) → (at w 10).items ≡ Evaluate (Taken c) ∷ product
+s10 : (w : World) → (at w 10).items ≡ Evaluate (Taken c k) ∷ product
 s10 w = refl
 
 s11 : (w : World) → (at w 11).items ≡ PlaceOf c ∷ Fill Get ∷ product

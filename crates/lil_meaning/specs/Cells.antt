@@ -1,9 +1,9 @@
 -- Cells: what each variable and object holds, by its root and the fields and positions from there.
-use Rattle.std.specs.Prelude.{ℕ, zero, suc, ◌==◌, Bool, false, ◌&&◌, List, [], ◌∷◌, Option, Some, None, slice_get, if◌then◌else◌}
+use Rattle.std.specs.Prelude.{ℕ, zero, suc, ◌==◌, Bool, false, ◌&&◌, List, [], ◌∷◌, Option, Some, None, slice_get, option_and_then, if◌then◌else◌}
 use Rattle.lil_resolved.specs.Kinds.{Kind}
 use Rattle.lil_resolved.specs.Scalars.{Scalar, Nothing, zero_of}
 use Rattle.lil_resolved.specs.Resolved.{Resolved}
-use Rattle.lil_meaning.specs.Shapes.{Shape, Absent, Word, part_at}
+use Rattle.lil_resolved.specs.Shapes.{Shape, Absent, Word, part_at}
 
 -- a variable of a module that is loaded, a variable of an activation, or an object
 pub data Root : Type 0 where
@@ -55,25 +55,25 @@ abbrev pub zero_in : Shape → Scalar
 zero_in (Word k) = zero_of k
 zero_in _ = Nothing
 
--- the module that is loaded with this number, from 1
-abbrev pub loaded_at : List Resolved → ℕ → Option Resolved
-loaded_at modules zero = None
-loaded_at modules (suc n) = slice_get modules n
+-- the module that is loaded with this number, from 1, by its number in the library
+abbrev pub loaded_at : List Resolved → List ℕ → ℕ → Option Resolved
+loaded_at library loaded zero = None
+loaded_at library loaded (suc n) = option_and_then (slice_get library) (slice_get loaded n)
 
-abbrev pub variables_of : Option Resolved → List Kind
+abbrev pub variables_of : Option Resolved → List Shape
 variables_of None = []
 variables_of (Some m) = m.variables
 
-abbrev pub shape_by : Option Kind → Shape
+abbrev pub shape_by : Option Shape → Shape
 shape_by None = Absent
-shape_by (Some k) = Word k
+shape_by (Some t) = t
 
--- the shapes of the roots that live where a level begins: the variables of its modules
-abbrev pub first_shape : List Resolved → Root → Shape
-first_shape modules (Global m x) = shape_by (slice_get (variables_of (loaded_at modules m)) x)
-first_shape modules (Local a x) = Absent
-first_shape modules (Object o) = Absent
+-- the shapes of the roots that live where the first level begins: the variables of its modules
+abbrev pub first_shape : List Resolved → List ℕ → Root → Shape
+first_shape library loaded (Global m x) = shape_by (slice_get (variables_of (loaded_at library loaded m)) x)
+first_shape library loaded (Local a x) = Absent
+first_shape library loaded (Object o) = Absent
 
 -- fresh cells: zero of its kind in each scalar
-abbrev pub fresh_cells : List Resolved → Cells
-fresh_cells modules r q = zero_in (part_at (first_shape modules r) q)
+abbrev pub fresh_cells : List Resolved → List ℕ → Cells
+fresh_cells library loaded r q = zero_in (part_at (first_shape library loaded r) q)

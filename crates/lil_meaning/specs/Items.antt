@@ -49,9 +49,9 @@ pub data Hole : Type 0 where
   -- the arm with the label ·
   Pick : (arms : Arms) → Hole
   -- FOR d := · TO b BY step DO body END
-  StartOf : (d : Designator) (b : Expression) (step : ℤ) (body : Statements) → Hole
+  StartOf : (d : Designator) (k : Kind) (b : Expression) (step : ℤ) (body : Statements) → Hole
   -- FOR d := v TO · BY step DO body END
-  LimitOf : (d : Designator) (v : Scalar) (step : ℤ) (body : Statements) → Hole
+  LimitOf : (d : Designator) (k : Kind) (v : Scalar) (step : ℤ) (body : Statements) → Hole
 
 -- the items without one
 pub data Task : Type 0 where
@@ -63,7 +63,7 @@ pub data Task : Type 0 where
   -- the end of a LOOP's body, which begins again
   Looping : (body : Statements) → Task
   -- so many turns of a FOR, the next one with this value
-  Turns : (d : Designator) (x step : ℤ) (left : ℕ) (body : Statements) → Task
+  Turns : (d : Designator) (k : Kind) (x step : ℤ) (left : ℕ) (body : Statements) → Task
   -- closes the items of an activation
   End : (a : ℕ) → Task
 
@@ -104,14 +104,24 @@ pub record Parked : Type 0 where
   pub level : ℕ
   pub items : List Item
 
+-- A level that waits for the end of the next one: the coroutine that called it, with what that has left to do, the place that takes the
+-- status, and how many modules were loaded.
+pub record Level : Type 0 where
+  pub running : ℕ
+  pub items : List Item
+  pub status : Place
+  pub loaded : ℕ
+
 pub data Phase : Type 0 where
   Going : Phase
-  -- level 1 has trapped, and is to be closed
-  Closing : (t : TrapAt) → Phase
+  -- the running level has ended, or has trapped, and is to be closed
+  Closing : (by : Option TrapAt) → Phase
   Ended : Phase
   Trapped : (t : TrapAt) → Phase
 
 pub record Source : Type 0 where
+  -- the modules that are loaded, by their numbers in the library; the k-th of them has number k
+  pub loaded : List ℕ
   pub cells : Cells
   -- by their numbers
   pub activations : List Activation
@@ -121,6 +131,7 @@ pub record Source : Type 0 where
   pub running : ℕ
   pub items : List Item
   pub parked : List Parked
-  pub level : ℕ
+  -- the levels below the running one, the highest first
+  pub waiting : List Level
   pub world : World
   pub phase : Phase

@@ -1,6 +1,6 @@
 pub mod Cells
+pub mod Closings
 pub mod Items
 pub mod Runs
-pub mod Shapes
 pub mod Steps
 pub mod World

@@ -1,47 +1,52 @@
 -- Runs of loaded modules: the state after n steps.
-use Rattle.std.specs.Prelude.{ℕ, zero, suc, List, [], ◌∷◌, None}
-use Rattle.lil_resolved.specs.Resolved.{Resolved}
-use Rattle.lil_meaning.specs.Cells.{fresh_cells}
+use Rattle.std.specs.Prelude.{ℕ, zero, suc, List, [], ◌∷◌, Option, None, Some}
+use Rattle.lil_resolved.specs.Resolved.{Statements, Empty, Resolved}
+use Rattle.lil_meaning.specs.Cells.{loaded_at, fresh_cells}
 use Rattle.lil_meaning.specs.World.{World, Output, world_output}
 use Rattle.lil_meaning.specs.Items.{doing, End, Item, Perform, Activation, Going, Source}
 use Rattle.lil_meaning.specs.Steps.{next}
 
--- the bodies of modules in the order in which they run, each with its end; the activations have numbers from a on
-abbrev pub bodies : ℕ → List Resolved → List Item
-bodies a [] = []
-bodies a (m ∷ ms) = doing m.body (Perform (End a) ∷ bodies (suc a) ms)
+abbrev pub body_of : Option Resolved → Statements
+body_of None = Empty
+body_of (Some m) = m.body
 
--- the activations of the bodies, whose modules have numbers from n on
-abbrev pub body_activations : ℕ → List Resolved → List Activation
-body_activations n [] = []
-body_activations n (m ∷ ms) = record { owner = n; procedure = 0; outer = None; slots = [] } ∷ body_activations (suc n) ms
+-- the bodies of loaded modules in the order in which they run, each with its end; the activations have numbers from a on
+abbrev pub bodies : List Resolved → List ℕ → ℕ → List ℕ → List Item
+bodies library loaded a [] = []
+bodies library loaded a (n ∷ order) = doing (body_of (loaded_at library loaded n)) (Perform (End a) ∷ bodies library loaded (suc a) order)
 
--- level 1 of a program whose modules are these, in a world
-abbrev pub begun : List Resolved → World → Source
-begun modules w = record {
-  cells = fresh_cells modules;
-  activations = body_activations 1 modules;
+-- the activations of the bodies of the modules with these numbers
+abbrev pub body_activations : List ℕ → List Activation
+body_activations [] = []
+body_activations (n ∷ order) = record { owner = n; procedure = 0; outer = None; slots = [] } ∷ body_activations order
+
+-- level 1, in a world: these modules of the library are loaded, and their bodies run in an order
+abbrev pub begun : List Resolved → (loaded order : List ℕ) → World → Source
+begun library loaded order w = record {
+  loaded = loaded;
+  cells = fresh_cells library loaded;
+  activations = body_activations order;
   objects = 0;
   workspaces = [];
   running = 0;
-  items = bodies 0 modules;
+  items = bodies library loaded 0 order;
   parked = [];
-  level = 1;
+  waiting = [];
   world = w;
   phase = Going;
 }
 
 -- n steps
 abbrev pub after : List Resolved → ℕ → Source → Source
-after modules zero s = s
-after modules (suc n) s = after modules n (next modules s)
+after library zero s = s
+after library (suc n) s = after library n (next library s)
 
-abbrev pub src : List Resolved → World → ℕ → Source
-src modules w n = after modules n (begun modules w)
+abbrev pub src : List Resolved → (loaded order : List ℕ) → World → ℕ → Source
+src library loaded order w n = after library n (begun library loaded order w)
 
 abbrev pub out : Source → Output
 out s = world_output s.world
 
--- the state of the meaning of a program module after n steps
+-- the state of the meaning of a program module that is loaded alone, after n steps
 abbrev pub state_of : Resolved → World → ℕ → Source
-state_of p w n = src (p ∷ []) w n
+state_of p w n = src (p ∷ []) (0 ∷ []) (1 ∷ []) w n

@@ -1,5 +1,5 @@
 -- One step: the first item becomes what its row shows, or a value goes into the hole of the next item.
-use Rattle.std.specs.Prelude.{ℕ, zero, suc, ◌+◌, ◌-◌, ◌/◌, ℤ, pos, negsuc, ◌+ℤ◌, ◌-ℤ◌, int_lt, nat_abs, Bool, true, false, not, ◌&&◌, ◌||◌, nat_le, List, [], ◌∷◌, ◌++◌, map, Option, Some, None, Result, Ok, Err, slice_get, if◌then◌else◌}
+use Rattle.std.specs.Prelude.{ℕ, zero, suc, ◌+◌, ◌-◌, ◌/◌, ℤ, pos, negsuc, ◌+ℤ◌, ◌-ℤ◌, int_lt, nat_abs, Bool, true, false, not, ◌&&◌, ◌||◌, nat_le, List, [], ◌∷◌, ◌++◌, map, length, take, Option, Some, None, option_map, Result, Ok, Err, slice_get, if◌then◌else◌}
 use Rattle.std.specs.List.{list_any}
 use Rattle.lil_base.specs.Words.{Whole, Cardinal, sum, difference, product, quotient, remainder, negation, absolute, whole_rest, is_zero, between}
 use Rattle.lil_base.specs.Traps.{arith_trap}
@@ -13,10 +13,10 @@ use Rattle.lil_base.specs.declared.operator.TwoOp.{TwoOp}
 use Rattle.lil_base.specs.declared.operator.TwoOp.TheVariants.{Equal, Unequal, Less, AtMost, Greater, AtLeast, Plus, Minus, Times, Div, Mod}
 use Rattle.lil_resolved.specs.Kinds.{Kind, OfWhole, OfTruth, OfCharacter, OfEnumeration, OfRange}
 use Rattle.lil_resolved.specs.Scalars.{Scalar, Number, Truth, Character, Nothing, within, scalar_word, value_with, ordinal_of, truth_number, truth_of}
-use Rattle.lil_resolved.specs.Resolved.{Designator, Variable, Function, Abs, Cap, Chr, Odd, Ord, Val, Expression, Constant, Taken, One, Two, Short, Apply, Label, Statement, Assign, Change, Request, If, Case, While, Repeat, Loop, Exit, Halt, Return, For, Statements, Arms, NoElse, Else, Arm, Resolved, kind_of_place, counted_as}
+use Rattle.lil_resolved.specs.Resolved.{Designator, Variable, Function, Abs, Cap, Chr, Odd, Ord, Val, Expression, Constant, Taken, One, Two, Short, Apply, Label, Statement, Assign, Change, Request, If, Case, While, Repeat, Loop, Exit, Halt, Return, For, Statements, Arms, NoElse, Else, Arm, Procedure, Resolved, counted_as}
 use Rattle.lil_meaning.specs.Cells.{Global, Place, stored, got, alone, loaded_at}
-use Rattle.lil_meaning.specs.World.{serve}
-use Rattle.lil_meaning.specs.Items.{Datum, Scalars, Places, Hole, Get, SetTo, StoreAt, ChangeBy, ChangeAt, OneOf, LeftOf, RightOf, ShortOf, ApplyTo, Pass, Choose, Turn, Again, Pick, StartOf, LimitOf, Task, Do, Passing, Until, Looping, Turns, End, Item, Value, Evaluate, PlaceOf, Fill, Perform, doing, Activation, Phase, Going, Closing, Ended, Trapped, Source}
+use Rattle.lil_meaning.specs.World.{World, Given, Single, Text, serve, closing}
+use Rattle.lil_meaning.specs.Items.{Datum, Scalars, Places, Hole, Get, SetTo, StoreAt, ChangeBy, ChangeAt, OneOf, LeftOf, RightOf, ShortOf, ApplyTo, Pass, Choose, Turn, Again, Pick, StartOf, LimitOf, Task, Do, Passing, Until, Looping, Turns, End, Item, Value, Evaluate, PlaceOf, Fill, Perform, doing, Activation, Parked, Level, Phase, Going, Closing, Ended, Trapped, Source}
 
 -- the activation at hand: that of the nearest end
 abbrev pub current : List Item → ℕ
@@ -32,16 +32,37 @@ owner_of (Some a) = a.owner
 abbrev pub module_now : Source → ℕ
 module_now s = owner_of (slice_get s.activations (current s.items))
 
+-- the number of the procedure at hand, 0 for a body
+abbrev pub procedure_of : Option Activation → ℕ
+procedure_of None = 0
+procedure_of (Some a) = a.procedure
+
 abbrev pub name_of : Option Resolved → List ℕ
 name_of None = []
 name_of (Some m) = m.name
 
--- where a trap happens: in the procedure at hand, which has no name where it is a body
+-- the name of a procedure of a module; a body has none
+abbrev pub its_name : Procedure → List ℕ
+its_name p = p.name
+
+abbrev pub procedure_name : Option Resolved → ℕ → Option (List ℕ)
+procedure_name m zero = None
+procedure_name None (suc n) = None
+procedure_name (Some m) (suc n) = option_map its_name (slice_get m.procedures n)
+
+-- where a trap happens: in the procedure at hand
+abbrev pub trap_in : Option Resolved → Option Activation → TrapKind → TrapAt
+trap_in m a kind = record { kind = kind; «module» = name_of m; procedure = procedure_name m (procedure_of a) }
+
 abbrev pub trap_at : List Resolved → Source → TrapKind → TrapAt
-trap_at modules s kind = record { kind = kind; «module» = name_of (loaded_at modules (module_now s)); procedure = None }
+trap_at library s kind = trap_in (loaded_at library s.loaded (module_now s)) (slice_get s.activations (current s.items)) kind
 
 abbrev pub trapped : List Resolved → Source → TrapKind → Source
-trapped modules s kind = record s { phase = Closing (trap_at modules s kind) }
+trapped library s kind = record s { phase = Closing (Some (trap_at library s kind)) }
+
+-- the number of the running level
+abbrev pub level_of : Source → ℕ
+level_of s = suc (length s.waiting)
 
 abbrev pub with_items : Source → List Item → Source
 with_items s k = record s { items = k }
@@ -184,19 +205,19 @@ returned (Perform (End a) ∷ k) = Perform (End a) ∷ k
 returned (i ∷ k) = returned k
 
 abbrev pub answered : List Resolved → Result Scalar TrapKind → List Item → Source → Source
-answered modules (Ok v) k s = with_items s (Value (Scalars v) ∷ k)
-answered modules (Err t) k s = trapped modules s t
+answered library (Ok v) k s = with_items s (Value (Scalars v) ∷ k)
+answered library (Err t) k s = trapped library s t
 
 -- a variable of the module at hand
 abbrev pub variable_place : Source → ℕ → Place
 variable_place s x = record { root = Global (module_now s) x; path = [] }
 
 abbrev pub placed : Designator → List Item → Source → Source
-placed (Variable x kind) k s = with_items s (Value (Places (variable_place s x)) ∷ k)
+placed (Variable x) k s = with_items s (Value (Places (variable_place s x)) ∷ k)
 
 abbrev pub evaluated : Expression → List Item → Source → Source
 evaluated (Constant kind v) k s = with_items s (Value (Scalars v) ∷ k)
-evaluated (Taken d) k s = with_items s (PlaceOf d ∷ Fill Get ∷ k)
+evaluated (Taken d kind) k s = with_items s (PlaceOf d ∷ Fill Get ∷ k)
 evaluated (One o kind a) k s = with_items s (Evaluate a ∷ Fill (OneOf o kind) ∷ k)
 evaluated (Two o kind a b) k s = with_items s (Evaluate a ∷ Fill (LeftOf o kind b) ∷ k)
 evaluated (Short d a b) k s = with_items s (Evaluate a ∷ Fill (ShortOf d b) ∷ k)
@@ -209,8 +230,8 @@ changed true = difference
 
 -- a value is stored at a place, or there is none
 abbrev pub stored_with : List Resolved → Place → Result Scalar TrapKind → List Item → Source → Source
-stored_with modules p (Ok v) k s = record s { items = k; cells = stored s.cells p (alone v) }
-stored_with modules p (Err t) k s = trapped modules s t
+stored_with library p (Ok v) k s = record s { items = k; cells = stored s.cells p (alone v) }
+stored_with library p (Err t) k s = trapped library s t
 
 -- a number of a whole type, where there is one, is stored as a value of a kind, if it has it
 abbrev pub value_of : Kind → Result ℤ ArithFault → Result Scalar TrapKind
@@ -219,21 +240,21 @@ value_of k (Err e) = Err (arith_trap e)
 
 -- the chosen arm is done, or there is none
 abbrev pub picked : List Resolved → Option Statements → List Item → Source → Source
-picked modules None k s = trapped modules s trap.Case
-picked modules (Some body) k s = with_items s (doing body k)
+picked library None k s = trapped library s trap.Case
+picked library (Some body) k s = with_items s (doing body k)
 
 -- a turn of a FOR: its value, if there is one, is stored as by an assignment, then comes the body and what is behind it
 abbrev pub turned_with : List Resolved → Option Scalar → ℕ → Statements → List Item → Source → Source
-turned_with modules (Some v) x body k s = record s { items = doing body k; cells = stored s.cells (variable_place s x) (alone v) }
-turned_with modules None x body k s = trapped modules s trap.Range
+turned_with library (Some v) x body k s = record s { items = doing body k; cells = stored s.cells (variable_place s x) (alone v) }
+turned_with library None x body k s = trapped library s trap.Range
 
-abbrev pub turned : List Resolved → Designator → ℤ → ℤ → ℕ → Statements → List Item → Source → Source
-turned modules (Variable x kind) z step left body k s =
-    turned_with modules (value_with kind z) x body (Perform (Turns (Variable x kind) (z +ℤ step) step left body) ∷ k) s
+abbrev pub turned : List Resolved → Designator → Kind → ℤ → ℤ → ℕ → Statements → List Item → Source → Source
+turned library (Variable x) kind z step left body k s =
+    turned_with library (value_with kind z) x body (Perform (Turns (Variable x) kind (z +ℤ step) step left body) ∷ k) s
 
-abbrev pub turned_on : List Resolved → Designator → ℤ → ℤ → ℕ → Statements → List Item → Source → Source
-turned_on modules d z step zero body k s = with_items s k
-turned_on modules d z step (suc left) body k s = turned modules d z step left body k s
+abbrev pub turned_on : List Resolved → Designator → Kind → ℤ → ℤ → ℕ → Statements → List Item → Source → Source
+turned_on library d kind z step zero body k s = with_items s k
+turned_on library d kind z step (suc left) body k s = turned library d kind z step left body k s
 
 -- whether the left operand decides
 abbrev pub decided : Bool → Bool → Bool
@@ -242,21 +263,21 @@ decided false b = not b
 
 -- a scalar goes into a hole
 abbrev pub filled : List Resolved → Hole → Scalar → List Item → Source → Source
-filled modules (StoreAt p kind) v k s = if within kind v then record s { items = k; cells = stored s.cells p (alone v) } else trapped modules s trap.Range
-filled modules (ChangeAt down p kind) v k s = stored_with modules p (value_of kind (changed down (counted_as kind) (ordinal_of (got s.cells p)) (whole_of v))) k s
-filled modules (OneOf o kind) v k s = answered modules (one_applied o kind v) k s
-filled modules (LeftOf o kind f) v k s = with_items s (Evaluate f ∷ Fill (RightOf o kind v) ∷ k)
-filled modules (RightOf o kind u) v k s = answered modules (applied o kind u v) k s
-filled modules (ShortOf d f) v k s = with_items s (if decided d (truth_of v) then Value (Scalars v) ∷ k else Evaluate f ∷ k)
-filled modules (ApplyTo f) v k s = answered modules (function_value f v) k s
-filled modules (Pass r kind done left) v k s = if within kind v then with_items s (Perform (Passing r (done ++ Scalars v ∷ []) left) ∷ k) else trapped modules s trap.Range
-filled modules (Choose a b) v k s = with_items s (if truth_of v then doing a k else doing b k)
-filled modules (Turn c body) v k s = with_items s (if truth_of v then doing body (Perform (Do (While c body)) ∷ k) else k)
-filled modules (Again body c) v k s = with_items s (if truth_of v then k else Perform (Do (Repeat body c)) ∷ k)
-filled modules (Pick arms) v k s = picked modules (chosen arms (ordinal_of v)) k s
-filled modules (StartOf d b step body) v k s = with_items s (Evaluate b ∷ Fill (LimitOf d v step body) ∷ k)
-filled modules (LimitOf d u step body) v k s = with_items s (Perform (Turns d (ordinal_of u) step (turns (ordinal_of u) (ordinal_of v) step) body) ∷ k)
-filled modules _ v k s = s
+filled library (StoreAt p kind) v k s = if within kind v then record s { items = k; cells = stored s.cells p (alone v) } else trapped library s trap.Range
+filled library (ChangeAt down p kind) v k s = stored_with library p (value_of kind (changed down (counted_as kind) (ordinal_of (got s.cells p)) (whole_of v))) k s
+filled library (OneOf o kind) v k s = answered library (one_applied o kind v) k s
+filled library (LeftOf o kind f) v k s = with_items s (Evaluate f ∷ Fill (RightOf o kind v) ∷ k)
+filled library (RightOf o kind u) v k s = answered library (applied o kind u v) k s
+filled library (ShortOf d f) v k s = with_items s (if decided d (truth_of v) then Value (Scalars v) ∷ k else Evaluate f ∷ k)
+filled library (ApplyTo f) v k s = answered library (function_value f v) k s
+filled library (Pass r kind done left) v k s = if within kind v then with_items s (Perform (Passing r (done ++ Scalars v ∷ []) left) ∷ k) else trapped library s trap.Range
+filled library (Choose a b) v k s = with_items s (if truth_of v then doing a k else doing b k)
+filled library (Turn c body) v k s = with_items s (if truth_of v then doing body (Perform (Do (While c body)) ∷ k) else k)
+filled library (Again body c) v k s = with_items s (if truth_of v then k else Perform (Do (Repeat body c)) ∷ k)
+filled library (Pick arms) v k s = picked library (chosen arms (ordinal_of v)) k s
+filled library (StartOf d kind b step body) v k s = with_items s (Evaluate b ∷ Fill (LimitOf d kind v step body) ∷ k)
+filled library (LimitOf d kind u step body) v k s = with_items s (Perform (Turns d kind (ordinal_of u) step (turns (ordinal_of u) (ordinal_of v) step) body) ∷ k)
+filled library _ v k s = s
 
 -- a place goes into a hole
 abbrev pub filled_place : Hole → Place → List Item → Source → Source
@@ -266,59 +287,116 @@ filled_place (ChangeBy down kind e) p k s = with_items s (Evaluate e ∷ Fill (C
 filled_place _ p k s = s
 
 abbrev pub fill : List Resolved → Datum → Hole → List Item → Source → Source
-fill modules (Scalars v) h k s = filled modules h v k s
-fill modules (Places p) h k s = filled_place h p k s
-fill modules _ h k s = s
+fill library (Scalars v) h k s = filled library h v k s
+fill library (Places p) h k s = filled_place h p k s
+fill library _ h k s = s
 
 abbrev pub did : List Resolved → Statement → List Item → Source → Source
-did modules (Assign d e) k s = with_items s (PlaceOf d ∷ Fill (SetTo (kind_of_place d) e) ∷ k)
-did modules (Request r given) k s = with_items s (Perform (Passing r [] given) ∷ k)
-did modules (If c a b) k s = with_items s (Evaluate c ∷ Fill (Choose a b) ∷ k)
-did modules (Case e arms) k s = with_items s (Evaluate e ∷ Fill (Pick arms) ∷ k)
-did modules (While c body) k s = with_items s (Evaluate c ∷ Fill (Turn c body) ∷ k)
-did modules (Repeat body c) k s = with_items s (doing body (Perform (Until body c) ∷ k))
-did modules (Loop body) k s = with_items s (doing body (Perform (Looping body) ∷ k))
-did modules (Change down d e) k s = with_items s (PlaceOf d ∷ Fill (ChangeBy down (kind_of_place d) e) ∷ k)
-did modules Halt k s = trapped modules s trap.Halted
-did modules Return k s = with_items s (returned k)
-did modules Exit k s = with_items s (exited k)
-did modules (For d a b step body) k s = with_items s (Evaluate a ∷ Fill (StartOf d b step body) ∷ k)
+did library (Assign d kind e) k s = with_items s (PlaceOf d ∷ Fill (SetTo kind e) ∷ k)
+did library (Request r given) k s = with_items s (Perform (Passing r [] given) ∷ k)
+did library (If c a b) k s = with_items s (Evaluate c ∷ Fill (Choose a b) ∷ k)
+did library (Case e arms) k s = with_items s (Evaluate e ∷ Fill (Pick arms) ∷ k)
+did library (While c body) k s = with_items s (Evaluate c ∷ Fill (Turn c body) ∷ k)
+did library (Repeat body c) k s = with_items s (doing body (Perform (Until body c) ∷ k))
+did library (Loop body) k s = with_items s (doing body (Perform (Looping body) ∷ k))
+did library (Change down d kind e) k s = with_items s (PlaceOf d ∷ Fill (ChangeBy down kind e) ∷ k)
+did library Halt k s = trapped library s trap.Halted
+did library Return k s = with_items s (returned k)
+did library Exit k s = with_items s (exited k)
+did library (For d kind a b step body) k s = with_items s (Evaluate a ∷ Fill (StartOf d kind b step body) ∷ k)
 
--- the word that a request is given of a datum; the others get theirs with the requests that use them
-abbrev pub datum_word : Datum → ℕ
-datum_word (Scalars v) = scalar_word v
-datum_word _ = 0
+-- what a request is given of a datum; those that aren't scalars get theirs with the requests that take them
+abbrev pub given_of : Datum → Given
+given_of (Scalars v) = Single (scalar_word v)
+given_of _ = Text []
+
+-- a request was served; one that answers gets its row with its answers
+abbrev pub replied : List Datum → List Given → World → List Item → Source → Source
+replied done [] w k s = record s { items = k; world = w }
+replied done answers w k s = s
+
+abbrev pub served : List Datum → World × List Given → List Item → Source → Source
+served done r k s = replied done r.1 r.0 k s
 
 abbrev pub performed : List Resolved → Task → List Item → Source → Source
-performed modules (Do t) k s = did modules t k s
-performed modules (Passing r done []) k s = record s { items = k; world = serve r (map datum_word done) s.world }
-performed modules (Passing r done (a ∷ left)) k s = with_items s (Evaluate a.value ∷ Fill (Pass r a.kind done left) ∷ k)
-performed modules (Until body c) k s = with_items s (Evaluate c ∷ Fill (Again body c) ∷ k)
-performed modules (Looping body) k s = with_items s (doing body (Perform (Looping body) ∷ k))
-performed modules (Turns d x step left body) k s = turned_on modules d x step left body k s
-performed modules (End a) k s = with_items s k
+performed library (Do t) k s = did library t k s
+performed library (Passing r done []) k s = served done (serve (level_of s) r (map given_of done) s.world) k s
+performed library (Passing r done (a ∷ left)) k s = with_items s (Evaluate a.value ∷ Fill (Pass r a.kind done left) ∷ k)
+performed library (Until body c) k s = with_items s (Evaluate c ∷ Fill (Again body c) ∷ k)
+performed library (Looping body) k s = with_items s (doing body (Perform (Looping body) ∷ k))
+performed library (Turns d kind x step left body) k s = turned_on library d kind x step left body k s
+performed library (End a) k s = with_items s k
 
 -- a value goes into the next item
 abbrev pub given : List Resolved → Datum → Item → List Item → Source → Source
-given modules d (Fill h) k s = fill modules d h k s
-given modules d _ k s = s
+given library d (Fill h) k s = fill library d h k s
+given library d _ k s = s
+
+-- ---- the end of a level
+-- the last step of a level: level 1 has ended or trapped; else all that is the level's goes, and the level below goes on with the status
+abbrev pub over_by : Option TrapAt → Phase
+over_by None = Ended
+over_by (Some t) = Trapped t
+
+-- the number of a trap; the status that a level leaves is 0 where it ended, else its trap's number
+abbrev pub trap_number : TrapKind → ℕ
+trap_number trap.Range = 1
+trap_number trap.Overflow = 2
+trap_number trap.Divisor = 3
+trap_number trap.Nil = 4
+trap_number trap.NoProcedure = 5
+trap_number trap.NoProcess = 6
+trap_number trap.Case = 7
+trap_number trap.Function = 8
+trap_number trap.Halted = 9
+trap_number trap.Workspace = 10
+trap_number trap.CoroutineEnd = 11
+
+abbrev pub status_number : Option TrapAt → ℕ
+status_number None = 0
+status_number (Some t) = trap_number t.kind
+
+-- the coroutines of the levels up to one
+abbrev pub of_levels : ℕ → List Parked → List Parked
+of_levels n [] = []
+of_levels n (p ∷ ps) = if nat_le p.level n then p ∷ of_levels n ps else of_levels n ps
+
+abbrev pub over : List Level → Option TrapAt → Source → Source
+over [] end s = record s { phase = over_by end }
+over (l ∷ ls) end s = record s {
+  loaded = take l.loaded s.loaded;
+  cells = stored s.cells l.status (alone (Number (pos (status_number end))));
+  running = l.running;
+  items = l.items;
+  parked = of_levels (suc (length ls)) s.parked;
+  waiting = ls;
+  phase = Going;
+}
+
+-- a stream or a channel of the level is closed, or none is left
+abbrev pub left_by : Option TrapAt → Option World → Source → Source
+left_by end (Some w) s = record s { world = w; phase = Closing end }
+left_by end None s = over s.waiting end s
+
+abbrev pub leave : Option TrapAt → Source → Source
+leave end s = left_by end (closing (level_of s) s.world) s
 
 -- the row of the first item. Where nothing is left, the level ends
 abbrev pub first : List Resolved → List Item → Source → Source
-first modules [] s = record s { phase = Ended }
-first modules (Value d ∷ []) s = s
-first modules (Value d ∷ i ∷ k) s = given modules d i k s
-first modules (Evaluate e ∷ k) s = evaluated e k s
-first modules (PlaceOf d ∷ k) s = placed d k s
-first modules (Fill h ∷ k) s = s
-first modules (Perform t ∷ k) s = performed modules t k s
+first library [] s = leave None s
+first library (Value d ∷ []) s = s
+first library (Value d ∷ i ∷ k) s = given library d i k s
+first library (Evaluate e ∷ k) s = evaluated e k s
+first library (PlaceOf d ∷ k) s = placed d k s
+first library (Fill h ∷ k) s = s
+first library (Perform t ∷ k) s = performed library t k s
 
--- a level that trapped is closed; after its end a state stays
+-- after its end a state stays
 abbrev pub by_phase : List Resolved → Phase → Source → Source
-by_phase modules Going s = first modules s.items s
-by_phase modules (Closing t) s = record s { phase = Trapped t }
-by_phase modules Ended s = s
-by_phase modules (Trapped t) s = s
+by_phase library Going s = first library s.items s
+by_phase library (Closing end) s = leave end s
+by_phase library Ended s = s
+by_phase library (Trapped t) s = s
 
 abbrev pub next : List Resolved → Source → Source
-next modules s = by_phase modules s.phase s
+next library s = by_phase library s.phase s

@@ -1,8 +1,8 @@
 -- The world outside a program: keys, screen, files, streams and channels, and what a request does to it.
-use Rattle.std.specs.Prelude.{ℕ, zero, suc, ◌+◌, ◌-◌, ◌/◌, ◌%◌, ◌==◌, min, nat_lt, ℤ, pos, negsuc, Bool, true, false, List, [], ◌∷◌, ◌++◌, map, length, replicate, if◌then◌else◌}
+use Rattle.std.specs.Prelude.{ℕ, zero, suc, ◌+◌, ◌-◌, ◌/◌, ◌%◌, ◌==◌, min, nat_lt, ℤ, pos, negsuc, Bool, true, false, List, [], ◌∷◌, ◌++◌, map, length, replicate, Option, Some, None, option_map, if◌then◌else◌}
 use Rattle.std.specs.Ordering.{nat_cmp}
 use Rattle.std.specs.Cmp.Lexicographic.{slice_cmp}
-use Rattle.std.specs.FinMap.{FinMap}
+use Rattle.std.specs.FinMap.{FinMap, insert}
 use Rattle.lil_base.specs.Words.{Integer, number_of}
 
 -- a finite map from names to bytes
@@ -37,6 +37,7 @@ pub record World : Type 0 where
   pub files : Files
   -- the writes of files: names and whole contents
   pub writes : List (List ℕ × List ℕ)
+  -- in the order of their numbers
   pub streams : List Stream
   pub channels : List Channel
 
@@ -84,25 +85,99 @@ abbrev pub filled : ℕ → List ℕ → List ℕ
 filled columns text = replicate (min columns 80 - length text) 32 ++ text
 
 -- ---- requests
-abbrev pub first_word : List ℕ → ℕ
+-- what a request is given, and what it answers: a word, or the characters of an array
+pub data Given : Type 0 where
+  Single : (w : ℕ) → Given
+  Text : (cs : List ℕ) → Given
+
+-- an array isn't a word
+abbrev pub word_in : Given → ℕ
+word_in (Single w) = w
+word_in (Text cs) = 0
+
+abbrev pub first_word : List Given → ℕ
 first_word [] = 0
-first_word (w ∷ ws) = w
+first_word (g ∷ gs) = word_in g
 
-abbrev pub second_word : List ℕ → ℕ
+abbrev pub second_word : List Given → ℕ
 second_word [] = 0
-second_word (w ∷ ws) = first_word ws
+second_word (g ∷ gs) = first_word gs
 
--- The piece that a request shows: Write a character, WriteLn a line end, WriteCard and WriteInt a number in decimal, WriteOct in octal
--- and WriteHex in hexadecimal, each filled to the columns that its second word says.
-abbrev pub piece_of : ℕ → List ℕ → List ℕ
-piece_of r words =
-    if r == 2 then byte_of (first_word words % 256) ∷ []
+-- The piece that a request with two words shows: Write a character, WriteLn a line end, WriteCard and WriteInt a number in decimal, WriteOct
+-- in octal and WriteHex in hexadecimal, each filled to the columns that its second word says.
+abbrev pub shown_by : (r x y : ℕ) → List ℕ
+shown_by r x y =
+    if r == 2 then byte_of (x % 256) ∷ []
     else (if r == 4 then 10 ∷ []
-    else (if r == 5 then filled (second_word words) (natural 10 (first_word words))
-    else (if r == 6 then filled (second_word words) (signed (number_of Integer (first_word words)))
-    else (if r == 7 then filled (second_word words) (natural 8 (first_word words))
-    else (if r == 8 then filled (second_word words) (natural 16 (first_word words)) else [])))))
+    else (if r == 5 then filled y (natural 10 x)
+    else (if r == 6 then filled y (signed (number_of Integer x))
+    else (if r == 7 then filled y (natural 8 x)
+    else (if r == 8 then filled y (natural 16 x) else [])))))
 
--- a request with its words
-abbrev pub serve : ℕ → List ℕ → World → World
-serve r words w = record w { screen = w.screen ++ piece_of r words }
+abbrev pub piece_of : ℕ → List Given → List ℕ
+piece_of r given = shown_by r (first_word given) (second_word given)
+
+-- a request of a level: the world behind it, and what it answers. Those that only write answer nothing
+abbrev pub serve : (level r : ℕ) → List Given → World → World × List Given
+serve level r given w = (record w { screen = w.screen ++ piece_of r given }, [])
+
+-- ---- the end of a level: its streams are closed in the order of their numbers, and then its channels
+-- the first stream of a level, and the others
+abbrev pub stream_of : ℕ → List Stream → Option Stream
+stream_of level [] = None
+stream_of level (s ∷ ss) = if s.level == level then Some s else stream_of level ss
+
+abbrev pub other_streams : ℕ → List Stream → List Stream
+other_streams level [] = []
+other_streams level (s ∷ ss) = if s.level == level then ss else s ∷ other_streams level ss
+
+-- a stream's file has its content, where that was changed
+abbrev pub written_back : Stream → World → World
+written_back s w = if s.changed then record w { files = insert w.files s.name s.content; writes = w.writes ++ (s.name, s.content) ∷ [] } else w
+
+abbrev pub is_open : ℕ → Phase → Bool
+is_open level (OpenBy l) = l == level
+is_open level _ = false
+
+-- a level's first channel is closed, if it has one
+abbrev pub first_shut : ℕ → List Channel → Option (List Channel)
+first_shut level [] = None
+first_shut level (c ∷ cs) = if is_open level c.phase then Some (record c { phase = Closed } ∷ cs) else option_map (λ ds. c ∷ ds) (first_shut level cs)
+
+-- one closing, where one is left
+abbrev pub closed_channel : World → Option (List Channel) → Option World
+closed_channel w o = option_map (λ cs. record w { channels = cs }) o
+
+abbrev pub closed_stream : ℕ → World → Option Stream → Option World
+closed_stream level w None = closed_channel w (first_shut level w.channels)
+closed_stream level w (Some s) = Some (written_back s (record w { streams = other_streams level w.streams }))
+
+abbrev pub closing : ℕ → World → Option World
+closing level w = closed_stream level w (stream_of level w.streams)
+
+-- how many closings are left
+abbrev pub streams_open : ℕ → List Stream → ℕ
+streams_open level [] = 0
+streams_open level (s ∷ ss) = if s.level == level then suc (streams_open level ss) else streams_open level ss
+
+abbrev pub channels_open : ℕ → List Channel → ℕ
+channels_open level [] = 0
+channels_open level (c ∷ cs) = if is_open level c.phase then suc (channels_open level cs) else channels_open level cs
+
+abbrev pub closings_left : ℕ → World → ℕ
+closings_left level w = streams_open level w.streams + channels_open level w.channels
+
+-- one, so many and all closings
+abbrev pub or_else : World → Option World → World
+or_else w None = w
+or_else w (Some v) = v
+
+abbrev pub closed_once : ℕ → World → World
+closed_once level w = or_else w (closing level w)
+
+abbrev pub closed_times : ℕ → ℕ → World → World
+closed_times level zero w = w
+closed_times level (suc n) w = closed_times level n (closed_once level w)
+
+abbrev pub all_closed : ℕ → World → World
+all_closed level w = closed_times level (closings_left level w) w

@@ -10,7 +10,7 @@ function_depth _ = 1
 -- how many words of the expression stack an expression takes
 abbrev pub depth : Expression → ℕ
 depth (Constant k v) = 1
-depth (Taken d) = 1
+depth (Taken d k) = 1
 depth (One o k a) = depth a
 depth (Two o k a b) = max (depth a) (1 + depth b)
 depth (Short d a b) = max (depth a) (1 + depth b)
@@ -19,8 +19,8 @@ depth (Apply f a) = max (depth a) (function_depth f)
 -- how many FORs stand in statements, in one another too
 abbrev mutual
   pub statement_loops : Statement → ℕ
-  statement_loops (Assign d e) = 0
-  statement_loops (Change down d e) = 0
+  statement_loops (Assign d k e) = 0
+  statement_loops (Change down d k e) = 0
   statement_loops (Request r given) = 0
   statement_loops (If c a b) = body_loops a + body_loops b
   statement_loops (Case e arms) = arms_loops arms
@@ -30,7 +30,7 @@ abbrev mutual
   statement_loops Exit = 0
   statement_loops Halt = 0
   statement_loops Return = 0
-  statement_loops (For d a b step body) = 1 + body_loops body
+  statement_loops (For d k a b step body) = 1 + body_loops body
 
   pub body_loops : Statements → ℕ
   body_loops Empty = 0

@@ -24,7 +24,7 @@ use Rattle.lil_resolved.specs.declared.resolved.Direction.{Direction}
 use Rattle.lil_resolved.specs.declared.resolved.RArgument.{RArgument}
 use Rattle.lil_resolved.specs.Scalars.{scalar_of}
 use Rattle.lil_resolved.specs.Resolved.{Expression, Constant, Taken, Apply, Assign, Change, Request, If, Case, While, Repeat, Loop, Exit, Halt, Return, For, Statements, Empty, Then, Arms, Arm, kind_of}
-use Rattle.lil_resolved.specs.Views.{base_view, variable_of, function_of, request_number, is_down, argument_of, one_of, two_of, chained, expression_layer, operation_layer, expression_of, operation_of, label_of, statement_layer, arm_layer, guard_layer, statement_of, arm_of, guard_of, statements_of, guards_of, arms_of}
+use Rattle.lil_resolved.specs.Views.{base_view, variable_of, variable_kind, function_of, request_number, is_down, argument_of, one_of, two_of, chained, expression_layer, operation_layer, expression_of, operation_of, label_of, statement_layer, arm_layer, guard_layer, statement_of, arm_of, guard_of, statements_of, guards_of, arms_of}
 
 -- a layer's value comes from the values of its parts
 rolled_value : (y : RExpr-F RExpr ROperation) → expression_of (roll-RExpr y) ≡ expression_layer (map-RExpr RExpr ROperation Expression (Expression → Expression) expression_of operation_of y)
@@ -33,7 +33,7 @@ rolled_value = fold-roll-RExpr Expression (Expression → Expression) expression
 pub constant_is : (b : RBase) (z : ℤ) → expression_of (e.Constant b z) ≡ Constant (base_view b) (scalar_of (base_view b) z)
 constant_is b z = ap expression_of (sym (e.rolls-Constant b z)) ∙ rolled_value (x.Constant b z)
 
-pub variable_is : (v : RVariable) → expression_of (e.Variable v) ≡ Taken (variable_of v)
+pub variable_is : (v : RVariable) → expression_of (e.Variable v) ≡ Taken (variable_of v) (variable_kind v)
 variable_is v = ap expression_of (sym (e.rolls-Variable v)) ∙ rolled_value (x.Variable v)
 
 pub one_is : (o : OneOp) (a : RExpr) → expression_of (e.One o a) ≡ one_of o (expression_of a)
@@ -53,10 +53,10 @@ rolled : (x : RStmt-F RStmt RArm RGuard)
     → statement_of (roll-RStmt x) ≡ statement_layer (map-RStmt RStmt RArm RGuard Statements (Arms → Arms) (Statements → Statements) statement_of arm_of guard_of x)
 rolled = fold-roll-RStmt Statements (Arms → Arms) (Statements → Statements) statement_layer arm_layer guard_layer
 
-pub assign_is : (v : RVariable) (e : RExpr) → statement_of (s.Assign v e) ≡ Then (Assign (variable_of v) (expression_of e)) Empty
+pub assign_is : (v : RVariable) (e : RExpr) → statement_of (s.Assign v e) ≡ Then (Assign (variable_of v) (variable_kind v) (expression_of e)) Empty
 assign_is v e = ap statement_of (sym (s.rolls-Assign v e)) ∙ rolled (o.Assign v e)
 
-pub change_is : (d : Direction) (v : RVariable) (e : RExpr) → statement_of (s.Change d v e) ≡ Then (Change (is_down d) (variable_of v) (expression_of e)) Empty
+pub change_is : (d : Direction) (v : RVariable) (e : RExpr) → statement_of (s.Change d v e) ≡ Then (Change (is_down d) (variable_of v) (variable_kind v) (expression_of e)) Empty
 change_is d v e = ap statement_of (sym (s.rolls-Change d v e)) ∙ rolled (o.Change d v e)
 
 pub request_is : (r : RRequest) (given : List RArgument) → statement_of (s.Request r given) ≡ Then (Request (request_number r) (map argument_of given)) Empty
@@ -88,7 +88,7 @@ pub return_is : statement_of s.Return ≡ Then Return Empty
 return_is = ap statement_of (sym s.rolls-Return) ∙ rolled o.Return
 
 pub for_is : (v : RVariable) (a b : RExpr) (step : ℤ) (ss : List RStmt)
-    → statement_of (s.For v a b step ss) ≡ Then (For (variable_of v) (expression_of a) (expression_of b) step (statements_of ss)) Empty
+    → statement_of (s.For v a b step ss) ≡ Then (For (variable_of v) (variable_kind v) (expression_of a) (expression_of b) step (statements_of ss)) Empty
 for_is v a b step ss = ap statement_of (sym (s.rolls-For v a b step ss)) ∙ rolled (o.For v a b step ss)
 
 pub guard_is : (g : RGuard) (other : Statements) → guard_of g other ≡ Then (If (expression_of g.condition) (statements_of g.body) other) Empty

@@ -5,6 +5,7 @@ pub mod Forms
 pub mod Kinds
 pub mod Resolved
 pub mod Scalars
+pub mod Shapes
 pub mod Sizes
 pub mod Sound
 pub mod Views

@@ -6,10 +6,11 @@ use Rattle.lil_base.specs.declared.operator.TwoOp.{TwoOp}
 use Rattle.lil_base.specs.declared.operator.TwoOp.TheVariants.{Equal, Unequal, Less, AtMost, Greater, AtLeast, In, Plus, Minus, Or, Times, Slash, Div, Mod, And}
 use Rattle.lil_resolved.specs.Kinds.{Kind, OfWhole, OfTruth, OfCharacter, base_of, compared_as}
 use Rattle.lil_resolved.specs.Scalars.{Scalar}
+use Rattle.lil_resolved.specs.Shapes.{Shape}
 
 -- what names a place: a variable of the module, by its number
 pub data Designator : Type 0 where
-  Variable : (x : ℕ) (k : Kind) → Designator
+  Variable : (x : ℕ) → Designator
 
 -- standard functions of one value
 pub data Function : Type 0 where
@@ -22,8 +23,8 @@ pub data Function : Type 0 where
 
 pub data Expression : Type 0 where
   Constant : (k : Kind) (v : Scalar) → Expression
-  -- the value at a place
-  Taken : (d : Designator) → Expression
+  -- the value of a kind at a place
+  Taken : (d : Designator) (k : Kind) → Expression
   -- an operator on a value of a kind
   One : (o : OneOp) (k : Kind) (a : Expression) → Expression
   -- an operator on two values of a kind
@@ -46,9 +47,10 @@ pub record Label : Type 0 where
 
 mutual
   pub data Statement : Type 0 where
-    Assign : (d : Designator) (e : Expression) → Statement
+    -- to a place of a kind
+    Assign : (d : Designator) (k : Kind) (e : Expression) → Statement
     -- INC(d, e) adds e to d's number, DEC(d, e) takes it away
-    Change : (down : Bool) (d : Designator) (e : Expression) → Statement
+    Change : (down : Bool) (d : Designator) (k : Kind) (e : Expression) → Statement
     -- a call of the resident procedure with this request
     Request : (r : ℕ) (given : List Argument) → Statement
     If : (c : Expression) (a b : Statements) → Statement
@@ -62,7 +64,7 @@ mutual
     -- RETURN in a body
     Return : Statement
     -- FOR d := a TO b BY step DO body END
-    For : (d : Designator) (a b : Expression) (step : ℤ) (body : Statements) → Statement
+    For : (d : Designator) (k : Kind) (a b : Expression) (step : ℤ) (body : Statements) → Statement
 
   -- one behind another
   pub data Statements : Type 0 where
@@ -80,15 +82,18 @@ abbrev pub in_order : List Statement → Statements
 in_order [] = Empty
 in_order (s ∷ ss) = Then s (in_order ss)
 
+-- a procedure, of which there is the name alone yet
+pub record Procedure : Type 0 where
+  pub name : List ℕ
+
 pub record Resolved : Type 0 where
   pub name : List ℕ
-  -- the names of the variables in order, and their kinds
+  -- the names of the variables in order, and their shapes
   pub names : List (List ℕ)
-  pub variables : List Kind
+  pub variables : List Shape
+  -- the procedures, from number 1; the body has number 0
+  pub procedures : List Procedure
   pub body : Statements
-
-abbrev pub kind_of_place : Designator → Kind
-kind_of_place (Variable x k) = k
 
 -- an operator that compares
 abbrev pub is_relation : TwoOp → Bool
@@ -128,7 +133,7 @@ counted_as k = compared_as (base_of k)
 -- the kind of an expression's value
 abbrev pub kind_of : Expression → Kind
 kind_of (Constant k v) = k
-kind_of (Taken d) = base_of (kind_of_place d)
+kind_of (Taken d k) = base_of k
 kind_of (One o k a) = k
 kind_of (Two o k a b) = result_kind (is_relation o) k
 kind_of (Short d a b) = OfTruth

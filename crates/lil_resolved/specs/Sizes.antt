@@ -4,9 +4,10 @@ use Rattle.lil_base.specs.declared.operator.OneOp.{OneOp}
 use Rattle.lil_base.specs.declared.operator.OneOp.TheVariants as one
 use Rattle.lil_base.specs.declared.operator.TwoOp.{TwoOp}
 use Rattle.lil_base.specs.declared.operator.TwoOp.TheVariants.{Greater, AtLeast}
-use Rattle.lil_resolved.specs.Resolved.{Function, Abs, Cap, Chr, Odd, Ord, Val, Expression, Constant, Taken, One, Two, Short, Apply, Argument, Statement, Assign, Change, Request, If, Case, While, Repeat, Loop, Exit, Halt, Return, For, Statements, Empty, Then, Arms, NoElse, Else, Arm, Resolved, kind_of_place, kind_of, counted_as}
+use Rattle.lil_resolved.specs.Resolved.{Function, Abs, Cap, Chr, Odd, Ord, Val, Expression, Constant, Taken, One, Two, Short, Apply, Argument, Statement, Assign, Change, Request, If, Case, While, Repeat, Loop, Exit, Halt, Return, For, Statements, Empty, Then, Arms, NoElse, Else, Arm, Resolved, kind_of, counted_as}
 use Rattle.lil_base.specs.Words.{Cardinal, Integer}
 use Rattle.lil_resolved.specs.Kinds.{Kind, OfWhole, OfCharacter, base_of, compared_as, covers, outside_turns}
+use Rattle.lil_resolved.specs.Shapes.{all_words}
 pub use Rattle.lil_resolved.specs.Depth.{depth, statement_loops, body_loops, arms_loops, frame_words}
 pub use Rattle.lil_resolved.specs.Sound.{is_base, is_whole, takes_one, takes_two, takes_value, takes_function, IsSoundVariable, IsSoundPlace, IsSoundExpression, IsSoundWhole, IsSoundValue, request_kinds, AreSoundArguments, IsSoundLabel, AreSoundLabels, IsStep, IsSoundStatement, IsSoundBody, AreSoundArms, IsSound}
 
@@ -42,7 +43,7 @@ function_size (Val j) k = test_size j k
 -- how many bytes an expression's code takes
 abbrev pub size : Expression → ℕ
 size (Constant k v) = 3
-size (Taken d) = 3
+size (Taken d k) = 3
 size (One o k a) = size a + one_size o
 size (Two o k a b) = size a + size b + two_size o
 size (Short d a b) = size a + size b + 3
@@ -55,8 +56,8 @@ arguments_size (a ∷ given) = size a.value + test_size a.kind (kind_of a.value)
 -- how many bytes the code of a statement takes
 abbrev mutual
   pub statement_size : Statement → ℕ
-  statement_size (Assign d e) = size e + test_size (kind_of_place d) (kind_of e) + 3
-  statement_size (Change down d e) = size e + 5 + test_size (kind_of_place d) (OfWhole (counted_as (kind_of_place d))) + 3
+  statement_size (Assign d k e) = size e + test_size k (kind_of e) + 3
+  statement_size (Change down d k e) = size e + 5 + test_size k (OfWhole (counted_as k)) + 3
   statement_size (Request r given) = arguments_size given + 2
   statement_size (If c a b) = size c + 3 + body_size a + 3 + body_size b
   statement_size (Case e arms) = size e + 3 + 3 + arms_size arms + 5
@@ -66,7 +67,7 @@ abbrev mutual
   statement_size Exit = 3
   statement_size Halt = 2
   statement_size Return = 1
-  statement_size (For d a b step body) = size a + size b + align_size (kind_of_place d) (kind_of a) step + 15 + test_size (kind_of_place d) (base_of (kind_of_place d)) + body_size body + 5
+  statement_size (For d k a b step body) = size a + size b + align_size k (kind_of a) step + 15 + test_size k (base_of k) + body_size body + 5
 
   pub body_size : Statements → ℕ
   body_size Empty = 0
@@ -84,4 +85,4 @@ code_size m = 4 + body_size m.body
 
 pub record IsSmall (m : Resolved) : Type 0 where
   pub code : code_size m ≤ 32767
-  pub variables : length m.variables ≤ 32000
+  pub variables : all_words m.variables ≤ 32000

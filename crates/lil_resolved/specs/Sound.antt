@@ -8,6 +8,7 @@ use Rattle.lil_base.specs.declared.operator.TwoOp.TheVariants.{Equal, Unequal, L
 pub use Rattle.lil_resolved.specs.Kinds.{is_base, is_whole, alike, takes_value}
 use Rattle.lil_resolved.specs.Kinds.{Kind, OfWhole, OfTruth, OfCharacter, base_of}
 use Rattle.lil_resolved.specs.Scalars.{within, scalar_of, ordinal_of}
+use Rattle.lil_resolved.specs.Shapes.{Shape, Word}
 use Rattle.lil_resolved.specs.Resolved.{Designator, Variable, Function, Abs, Cap, Chr, Odd, Ord, Val, Expression, Constant, Taken, One, Two, Short, Apply, Label, Argument, Statement, Assign, Change, Request, If, Case, While, Repeat, Loop, Exit, Halt, Return, For, Statements, Empty, Then, Arms, NoElse, Else, Arm, Resolved, kind_of, counted_as}
 use Rattle.lil_resolved.specs.Depth.{depth}
 
@@ -48,32 +49,33 @@ takes_function Odd k = is_whole k
 takes_function Ord k = is_base k
 takes_function (Val j) k = is_base k && is_base (base_of j)
 
--- over variables of these kinds, whose bases have words: variables are known, operands have their operator's kind, and constants fit theirs
-pub record IsSoundVariable (ks : List Kind) (x : ℕ) (k : Kind) : Type 0 where
-  pub known : slice_get ks x ≡ Some k
+-- over variables of these shapes: a designator is that of a place of a kind, whose base has words, operands have their operator's kind, and
+-- constants fit theirs
+pub record IsSoundVariable (ts : List Shape) (x : ℕ) (k : Kind) : Type 0 where
+  pub known : slice_get ts x ≡ Some (Word k)
   pub base : is_base (base_of k) ≡ true
 
-abbrev pub IsSoundPlace : List Kind → Designator → Type 0
-IsSoundPlace ks (Variable x k) = IsSoundVariable ks x k
+abbrev pub IsSoundPlace : List Shape → Designator → Kind → Type 0
+IsSoundPlace ts (Variable x) k = IsSoundVariable ts x k
 
-abbrev pub IsSoundExpression : List Kind → Expression → Type 0
-IsSoundExpression ks (Constant k v) = within k v ≡ true
-IsSoundExpression ks (Taken d) = IsSoundPlace ks d
-IsSoundExpression ks (One o k a) = (takes_one o k ≡ true) × (kind_of a ≡ k) × IsSoundExpression ks a
-IsSoundExpression ks (Two o k a b) = (takes_two o k ≡ true) × (kind_of a ≡ k) × (kind_of b ≡ k) × IsSoundExpression ks a × IsSoundExpression ks b
-IsSoundExpression ks (Short d a b) = (kind_of a ≡ OfTruth) × (kind_of b ≡ OfTruth) × IsSoundExpression ks a × IsSoundExpression ks b
-IsSoundExpression ks (Apply f a) = (takes_function f (kind_of a) ≡ true) × IsSoundExpression ks a
+abbrev pub IsSoundExpression : List Shape → Expression → Type 0
+IsSoundExpression ts (Constant k v) = within k v ≡ true
+IsSoundExpression ts (Taken d k) = IsSoundPlace ts d k
+IsSoundExpression ts (One o k a) = (takes_one o k ≡ true) × (kind_of a ≡ k) × IsSoundExpression ts a
+IsSoundExpression ts (Two o k a b) = (takes_two o k ≡ true) × (kind_of a ≡ k) × (kind_of b ≡ k) × IsSoundExpression ts a × IsSoundExpression ts b
+IsSoundExpression ts (Short d a b) = (kind_of a ≡ OfTruth) × (kind_of b ≡ OfTruth) × IsSoundExpression ts a × IsSoundExpression ts b
+IsSoundExpression ts (Apply f a) = (takes_function f (kind_of a) ≡ true) × IsSoundExpression ts a
 
 -- an expression of a kind that stands alone
-pub record IsSoundWhole (ks : List Kind) (e : Expression) (k : Kind) : Type 0 where
+pub record IsSoundWhole (ts : List Shape) (e : Expression) (k : Kind) : Type 0 where
   pub kind : kind_of e ≡ k
   pub shallow : depth e ≤ 12
-  pub sound : IsSoundExpression ks e
+  pub sound : IsSoundExpression ts e
 
 -- an expression whose value may be stored where one of a kind is wanted
-pub record IsSoundValue (ks : List Kind) (e : Expression) (k : Kind) : Type 0 where
+pub record IsSoundValue (ts : List Shape) (e : Expression) (k : Kind) : Type 0 where
   pub takes : takes_value k (kind_of e) ≡ true
-  pub whole : IsSoundWhole ks e (kind_of e)
+  pub whole : IsSoundWhole ts e (kind_of e)
 
 -- a range of labels isn't empty, and its ends are numbers of values of the kind
 pub record IsSoundLabel (k : Kind) (l : Label) : Type 0 where
@@ -101,37 +103,37 @@ request_kinds r =
     else (if r == 6 then Some (OfWhole Integer ∷ OfWhole Cardinal ∷ [])
     else (if r == 5 || r == 7 || r == 8 then Some (OfWhole Cardinal ∷ OfWhole Cardinal ∷ []) else None)))
 
-abbrev pub AreSoundArguments : List Kind → List Argument → Type 0
-AreSoundArguments ks [] = Unit {0}
-AreSoundArguments ks (a ∷ given) = IsSoundValue ks a.value a.kind × AreSoundArguments ks given
+abbrev pub AreSoundArguments : List Shape → List Argument → Type 0
+AreSoundArguments ts [] = Unit {0}
+AreSoundArguments ts (a ∷ given) = IsSoundValue ts a.value a.kind × AreSoundArguments ts given
 
 abbrev pub argument_kind : Argument → Kind
 argument_kind a = a.kind
 
--- statements over variables of these kinds, inside a LOOP or not
+-- statements over variables of these shapes, inside a LOOP or not
 abbrev mutual
-  pub IsSoundStatement : List Kind → Bool → Statement → Type 0
-  IsSoundStatement ks looping (Assign (Variable x k) e) = IsSoundVariable ks x k × IsSoundValue ks e k
-  IsSoundStatement ks looping (Change down (Variable x k) e) = IsSoundVariable ks x k × IsSoundWhole ks e (OfWhole (counted_as k))
-  IsSoundStatement ks looping (Request r given) = (request_kinds r ≡ Some (map argument_kind given)) × AreSoundArguments ks given
-  IsSoundStatement ks looping (If c a b) = IsSoundWhole ks c OfTruth × IsSoundBody ks looping a × IsSoundBody ks looping b
-  IsSoundStatement ks looping (Case e arms) = (is_base (kind_of e) ≡ true) × IsSoundWhole ks e (kind_of e) × AreSoundArms ks looping (kind_of e) arms
-  IsSoundStatement ks looping (While c body) = IsSoundWhole ks c OfTruth × IsSoundBody ks looping body
-  IsSoundStatement ks looping (Repeat body c) = IsSoundBody ks looping body × IsSoundWhole ks c OfTruth
-  IsSoundStatement ks looping (Loop body) = IsSoundBody ks true body
-  IsSoundStatement ks looping Exit = looping ≡ true
-  IsSoundStatement ks looping Halt = Unit {0}
-  IsSoundStatement ks looping Return = Unit {0}
-  IsSoundStatement ks looping (For (Variable x k) a b step body) = IsSoundVariable ks x k × IsSoundValue ks a k × IsSoundWhole ks b (base_of k) × IsStep step × IsSoundBody ks looping body
+  pub IsSoundStatement : List Shape → Bool → Statement → Type 0
+  IsSoundStatement ts looping (Assign d k e) = IsSoundPlace ts d k × IsSoundValue ts e k
+  IsSoundStatement ts looping (Change down d k e) = IsSoundPlace ts d k × IsSoundWhole ts e (OfWhole (counted_as k))
+  IsSoundStatement ts looping (Request r given) = (request_kinds r ≡ Some (map argument_kind given)) × AreSoundArguments ts given
+  IsSoundStatement ts looping (If c a b) = IsSoundWhole ts c OfTruth × IsSoundBody ts looping a × IsSoundBody ts looping b
+  IsSoundStatement ts looping (Case e arms) = (is_base (kind_of e) ≡ true) × IsSoundWhole ts e (kind_of e) × AreSoundArms ts looping (kind_of e) arms
+  IsSoundStatement ts looping (While c body) = IsSoundWhole ts c OfTruth × IsSoundBody ts looping body
+  IsSoundStatement ts looping (Repeat body c) = IsSoundBody ts looping body × IsSoundWhole ts c OfTruth
+  IsSoundStatement ts looping (Loop body) = IsSoundBody ts true body
+  IsSoundStatement ts looping Exit = looping ≡ true
+  IsSoundStatement ts looping Halt = Unit {0}
+  IsSoundStatement ts looping Return = Unit {0}
+  IsSoundStatement ts looping (For d k a b step body) = IsSoundPlace ts d k × IsSoundValue ts a k × IsSoundWhole ts b (base_of k) × IsStep step × IsSoundBody ts looping body
 
-  pub IsSoundBody : List Kind → Bool → Statements → Type 0
-  IsSoundBody ks looping Empty = Unit {0}
-  IsSoundBody ks looping (Then s ss) = IsSoundStatement ks looping s × IsSoundBody ks looping ss
+  pub IsSoundBody : List Shape → Bool → Statements → Type 0
+  IsSoundBody ts looping Empty = Unit {0}
+  IsSoundBody ts looping (Then s ss) = IsSoundStatement ts looping s × IsSoundBody ts looping ss
 
-  pub AreSoundArms : List Kind → Bool → Kind → Arms → Type 0
-  AreSoundArms ks looping k NoElse = Unit {0}
-  AreSoundArms ks looping k (Else body) = IsSoundBody ks looping body
-  AreSoundArms ks looping k (Arm labels body rest) = AreSoundLabels k labels × IsSoundBody ks looping body × AreSoundArms ks looping k rest
+  pub AreSoundArms : List Shape → Bool → Kind → Arms → Type 0
+  AreSoundArms ts looping k NoElse = Unit {0}
+  AreSoundArms ts looping k (Else body) = IsSoundBody ts looping body
+  AreSoundArms ts looping k (Arm labels body rest) = AreSoundLabels k labels × IsSoundBody ts looping body × AreSoundArms ts looping k rest
 
 abbrev pub IsSound : Resolved → Type 0
 IsSound m = IsSoundBody m.variables false m.body

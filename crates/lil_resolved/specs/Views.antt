@@ -3,6 +3,7 @@ use Rattle.std.specs.Prelude.{ℕ, Bool, List, [], ◌∷◌, map, Option, Some,
 use Rattle.lil_base.specs.Words.{Cardinal, Integer}
 use Rattle.lil_resolved.specs.Kinds.{Kind, OfWhole, OfTruth, OfCharacter, OfEnumeration, OfRange, compared_as}
 use Rattle.lil_resolved.specs.Scalars.{scalar_of}
+use Rattle.lil_resolved.specs.Shapes.{Shape, Word}
 use Rattle.lil_resolved.specs.Resolved.{Designator, Variable, Function, Abs, Cap, Chr, Odd, Ord, Val, Expression, Constant, Taken, One, Two, Short, Apply, Argument, Label, Assign, Change, Request, If, Case, While, Repeat, Loop, Exit, Halt, Return, For, Statements, Empty, Then, Arms, NoElse, Else, Arm, Resolved, kind_of}
 use Rattle.lil_base.specs.declared.operator.OneOp.{OneOp}
 use Rattle.lil_base.specs.declared.operator.TwoOp.{TwoOp}
@@ -50,7 +51,10 @@ abbrev pub kind_view : RKind → Kind
 kind_view k = ranged_view (base_view k.base) k.range
 
 abbrev pub variable_of : RVariable → Designator
-variable_of v = Variable v.number (kind_view v.kind)
+variable_of v = Variable v.number
+
+abbrev pub variable_kind : RVariable → Kind
+variable_kind v = kind_view v.kind
 
 -- a function of a value of a kind
 abbrev pub function_of : RFunction → Kind → Function
@@ -103,7 +107,7 @@ chained a (f ∷ fs) = chained (f a) fs
 -- what an expression and an operation are, where their parts are known
 abbrev pub expression_layer : RExpr-F Expression (Expression → Expression) → Expression
 expression_layer (x.Constant base z) = Constant (base_view base) (scalar_of (base_view base) z)
-expression_layer (x.Variable v) = Taken (variable_of v)
+expression_layer (x.Variable v) = Taken (variable_of v) (variable_kind v)
 expression_layer (x.One o a) = one_of o a
 expression_layer (x.Chain a os) = chained a os
 expression_layer (x.Apply f a) = Apply (function_of f (kind_of a)) a
@@ -149,8 +153,8 @@ otherwise_of (Some ss) = Else (all_of ss)
 
 -- what a statement, an arm and a guard are, where their parts are known
 abbrev pub statement_layer : RStmt-F Statements (Arms → Arms) (Statements → Statements) → Statements
-statement_layer (o.Assign v e) = Then (Assign (variable_of v) (expression_of e)) Empty
-statement_layer (o.Change way v e) = Then (Change (is_down way) (variable_of v) (expression_of e)) Empty
+statement_layer (o.Assign v e) = Then (Assign (variable_of v) (variable_kind v) (expression_of e)) Empty
+statement_layer (o.Change way v e) = Then (Change (is_down way) (variable_of v) (variable_kind v) (expression_of e)) Empty
 statement_layer (o.Request r given) = Then (Request (request_number r) (map argument_of given)) Empty
 statement_layer (o.If gs ss) = guarded gs (all_of ss)
 statement_layer (o.Case e cases other) = Then (Case (expression_of e) (armed cases (otherwise_of other))) Empty
@@ -160,7 +164,7 @@ statement_layer (o.Loop ss) = Then (Loop (all_of ss)) Empty
 statement_layer o.Exit = Then Exit Empty
 statement_layer o.Halt = Then Halt Empty
 statement_layer o.Return = Then Return Empty
-statement_layer (o.For v a b step ss) = Then (For (variable_of v) (expression_of a) (expression_of b) step (all_of ss)) Empty
+statement_layer (o.For v a b step ss) = Then (For (variable_of v) (variable_kind v) (expression_of a) (expression_of b) step (all_of ss)) Empty
 
 abbrev pub arm_layer : RArm-F Statements (Arms → Arms) (Statements → Statements) → Arms → Arms
 arm_layer a other = Arm (map label_of a.labels) (all_of a.body) other
@@ -195,8 +199,8 @@ arms_of cases other = armed (map arm_of cases) (else_of other)
 abbrev pub name_of : RDeclared → List ℕ
 name_of v = v.name
 
-abbrev pub kind_declared : RDeclared → Kind
-kind_declared v = kind_view v.kind
+abbrev pub shape_declared : RDeclared → Shape
+shape_declared v = Word (kind_view v.kind)
 
 abbrev pub module_of : RModule → Resolved
-module_of m = record { name = m.name; names = map name_of m.variables; variables = map kind_declared m.variables; body = statements_of m.body }
+module_of m = record { name = m.name; names = map name_of m.variables; variables = map shape_declared m.variables; procedures = []; body = statements_of m.body }

@@ -1,7 +1,8 @@
 -- One step of a run, as it is shown.
 use Rattle.std.proofs.Common.{◌≡◌, ℕ, Option, Some, List, [], refl, sym, ap, ◌∙◌, subst}
 use Rattle.std.proofs.lemmas.List.{append-nil}
-use Rattle.lil_meaning.specs.World.{World, serve, piece_of}
+use Rattle.lil_meaning.specs.World.{World, serve, piece_of, all_closed}
+use Rattle.lil_meaning.specs.Closings.{all_screen}
 use Rattle.lil_volume.specs.Told.{followed_by, FollowedByPrefix}
 use Rattle.lil_volume.specs.Laws.{followed_nothing}
 use Rattle.lil_mcode.specs.declared.machine.Event.{Event}
@@ -10,10 +11,9 @@ use Rattle.lil_mcode.specs.State.{State}
 use Rattle.lil_mcode.specs.Table.{mstep}
 use Rattle.lil_asm.specs.Requests.{request_words}
 use Rattle.lil_kernel.specs.Pieces.{some_piece}
-use Rattle.lil_session.specs.Running.{IsAlone, IsStep, IsRefused}
-use Rattle.lil_match.specs.Running.{Finish, Running, Run, running, react, requested, words_taken, arguments, taken}
+use Rattle.lil_session.specs.Running.{IsStep, IsRefused}
+use Rattle.lil_match.specs.Running.{Finish, Running, Run, running, react, requested, words_taken, arguments, taken, level_of, left}
 use Rattle.lil_match.specs.Steps.{advances}
-use Rattle.lil_session.proofs.Alone.{Moves, mstep_moves}
 
 -- a step that shows nothing
 pub step_quiet : (s t : State) (e : Event) (f : Finish) (old : Option (List ℕ)) → mstep s ≡ (e, t) → ((w : World) → react e t (running s w) ≡ record { machine = t; world = w; finish = f }) → (w : World) → IsStep s t f old old w
@@ -25,14 +25,25 @@ step_quiet s t e f old step reacts w = record {
   shown = sym (followed_nothing old);
 }
 
+-- a step with which the run ends: what is open is closed, and nothing is shown
+pub step_left : (s t : State) (e : Event) (f : Finish) (old : Option (List ℕ)) → mstep s ≡ (e, t) → ((w : World) → react e t (running s w) ≡ left f t (running s w)) → (w : World) → IsStep s t f old old w
+step_left s t e f old step reacts w = record {
+  world = all_closed (level_of t) w;
+  run = advances s w (e, t) step ∙ reacts w;
+  piece = [];
+  adds = all_screen (level_of t) w ∙ sym (append-nil w.screen);
+  shown = sym (followed_nothing old);
+}
+
 -- a step whose request was served
 pub step_writes : (s t t' : State) (q n : ℕ) (old new : Option (List ℕ)) → mstep s ≡ (Request q, t) → request_words q ≡ Some n → t' ≡ taken n t
     → new ≡ followed_by old (piece_of q (arguments n t)) → (w : World) → IsStep s t' Running old new w
 step_writes s t t' q n old new step has is shown w =
     let at : Option ℕ → Run = λ o. requested q (words_taken o) t (running s w) in
-    let after : State → Run = λ x. record { machine = x; world = serve q (arguments n t) w; finish = Running } in
+    let v : World = (serve (level_of t) q (arguments n t) w).0 in
+    let after : State → Run = λ x. record { machine = x; world = v; finish = Running } in
     record {
-      world = serve q (arguments n t) w;
+      world = v;
       run = advances s w (Request q, t) step ∙ ap at has ∙ ap after (sym is);
       piece = piece_of q (arguments n t);
       adds = refl;
@@ -51,13 +62,6 @@ step_refused s t q n old new step has prefix = record {
   some = some_piece q n (arguments n t) has;
   prefix = prefix;
 }
-
--- what a step gives, by its equation
-pub moves_at : (s t : State) (e : Event) → IsAlone s → mstep s ≡ (e, t) → Moves s (e, t)
-moves_at s t e a step = subst (λ (r : Event × State). Moves s r) step (mstep_moves s a)
-
-pub alone_taken : (s : State) (n : ℕ) → IsAlone s → IsAlone (taken n s)
-alone_taken s n a = record { body = a.body; last = a.last; marked = a.marked }
 
 -- the same step, whose event is known
 pub as_event : (s t : State) (e f : Event) → mstep s ≡ (e, t) → e ≡ f → mstep s ≡ (f, t)

@@ -8,7 +8,7 @@ use Rattle.lil_session.specs.Outcome.{MeansAnswer, ReadsOne, TextAnswers}
 use Rattle.lil_session.proofs.Stays.{ends_agree}
 
 means_agree : (p : Resolved) (w : World) (x y : Status) → MeansAnswer p w x → MeansAnswer p w y → x ≡ y
-means_agree p w x y one other = ends_agree (p ∷ []) w one.steps other.steps x y one.ends other.ends
+means_agree p w x y one other = ends_agree p w one.steps other.steps x y one.ends other.ends
 
 pub texts_agree : (file text : List ℕ) → ReadsOne file text → (w : World) (x y : Status) → TextAnswers file text w x → TextAnswers file text w y → x ≡ y
 texts_agree file text unique w x y (inl (f, has, one)) (inl (g, also, other)) = one ∙ ap a.SourceFault (unique.fault f g has also) ∙ sym other

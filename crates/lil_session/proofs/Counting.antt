@@ -1,5 +1,5 @@
 -- What the machine did, by the answer of its run.
-use Rattle.std.proofs.Common.{◌≡◌, ◌≢◌, inl, inr, ℕ, true, false, List, Option, refl, sym, ◌∙◌, subst, arith}
+use Rattle.std.proofs.Common.{◌≡◌, ◌≢◌, inl, inr, ℕ, true, false, List, Option, refl, sym, ap, ◌∙◌, subst, arith}
 use Rattle.lil_base.specs.declared.fault.TrapKind.{TrapKind}
 use Rattle.lil_resolved.specs.Resolved.{Resolved}
 use Rattle.lil_resolved.specs.Sizes.{IsSmall}
@@ -13,8 +13,8 @@ use Rattle.lil_session.specs.declared.status.Status.{Status}
 use Rattle.lil_session.specs.declared.status.Status.TheVariants as a
 use Rattle.lil_table.specs.Rows.{Translates}
 use Rattle.lil_session.specs.Running.{finish_of, HasRun, IsCut}
-use Rattle.lil_match.specs.Running.{Finish, Running}
-use Rattle.lil_session.specs.Loaded.{IsAtBody, body_trap, EndingAnswers}
+use Rattle.lil_match.specs.Running.{Finish, Running, TrappedBy}
+use Rattle.lil_session.specs.Loaded.{EndingAnswers}
 use Rattle.lil_laws.specs.Loading.{loaded}
 use Rattle.lil_session.specs.Outcome.{settled, Allowed, IsOver}
 use Rattle.lil_session.specs.Counted.{IsEnd, FinishAnswers, MachineRan, MachineAnswers}
@@ -26,8 +26,8 @@ module _ (p : Resolved) (code : List ℕ) (small : IsSmall p) (t : Translates p 
   start = (loaded p code).state
 
   -- a run that took its budget or came to its end
-  ran_all : (f : Finish) (s : Status) → HasRun start steps f old new w → FinishAnswers s steps steps f → (f ≡ Running → settled s ≡ true → s ≡ a.StepsSpent) → (s ≡ a.StepsSpent → f ≡ Running) → s ≢ a.ScreenFault → MachineRan p w steps old new s
-  ran_all f s ran fits spent goes no_cut = record {
+  ran_all : (end : State) (f : Finish) (s : Status) → HasRun start end steps f old new w → FinishAnswers s steps steps f → (f ≡ Running → settled s ≡ true → s ≡ a.StepsSpent) → (s ≡ a.StepsSpent → f ≡ Running) → s ≢ a.ScreenFault → MachineRan p w steps old new s
+  ran_all end f s ran fits spent goes no_cut = record {
     code = code;
     translates = t;
     done = steps;
@@ -39,17 +39,17 @@ module _ (p : Resolved) (code : List ℕ) (small : IsSmall p) (t : Translates p 
     enough = λ is. enough p code small t w steps (sym ran.finish ∙ goes is);
   }
 
-  pub machine_end : (machine : Machine) (e : Ending) (s : Status) → HasRun start steps (finish_of e) old new w → EndingAnswers machine e s → ((k : TrapKind) → e ≡ ending.Trapped k → (m : Module) × IsAtBody machine m) → MachineAnswers p w steps old new s
-  machine_end machine ending.Done s ran is at =
-      subst (λ (x : Status). MachineAnswers p w steps old new x) (sym is) (ran_all (finish_of ending.Done) a.Done ran refl (λ goes ok. cc) (λ is. cc) (λ is. cc))
-  machine_end machine (ending.Trapped k) s ran (inl memory) at =
-      subst (λ (x : Status). MachineAnswers p w steps old new x) (sym memory) (inr (ran_all (finish_of (ending.Trapped k)) a.Memory ran tt (λ goes ok. cc) (λ is. cc) (λ is. cc)))
-  machine_end machine (ending.Trapped k) s ran (inr is) at =
-      let body = at k refl in
-      subst (λ (x : Status). MachineAnswers p w steps old new x) (sym (is body.0 body.1)) (ran_all (finish_of (ending.Trapped k)) (a.Trapped (body_trap body.0 k)) ran refl (λ goes ok. cc) (λ is. cc) (λ is. cc))
-  machine_end machine ending.Spent s ran is at =
-      subst (λ (x : Status). MachineAnswers p w steps old new x) (sym is) (ran_all (finish_of ending.Spent) a.StepsSpent ran (refl, refl) (λ goes ok. refl) (λ is. refl) (λ is. cc))
-  machine_end machine _ s ran is at = absurd is
+  pub machine_end : (machine : Machine) (e : Ending) (s : Status) → HasRun start machine.state steps (finish_of e) old new w → EndingAnswers machine e s → MachineAnswers p w steps old new s
+  machine_end machine ending.Done s ran is =
+      subst (λ (x : Status). MachineAnswers p w steps old new x) (sym is) (ran_all machine.state (finish_of ending.Done) a.Done ran refl (λ goes ok. cc) (λ is. cc) (λ is. cc))
+  machine_end machine (ending.Trapped k) s ran (inl memory) =
+      subst (λ (x : Status). MachineAnswers p w steps old new x) (sym memory) (inr (ran_all machine.state (finish_of (ending.Trapped k)) a.Memory ran tt (λ goes ok. cc) (λ is. cc) (λ is. cc)))
+  machine_end machine (ending.Trapped k) s ran (inr (u, is, it)) =
+      subst (λ (x : Status). MachineAnswers p w steps old new x) (sym is)
+      (ran_all machine.state (finish_of (ending.Trapped k)) (a.Trapped u) ran (ap (λ (x : TrapKind). TrappedBy x) (sym it.same)) (λ goes ok. cc) (λ is. cc) (λ is. cc))
+  machine_end machine ending.Spent s ran is =
+      subst (λ (x : Status). MachineAnswers p w steps old new x) (sym is) (ran_all machine.state (finish_of ending.Spent) a.StepsSpent ran (refl, refl) (λ goes ok. refl) (λ is. refl) (λ is. cc))
+  machine_end machine _ s ran is = absurd is
 
   -- a run that the screen stopped: its request failed
   pub machine_cut : IsCut start steps old new w → MachineAnswers p w steps old new a.ScreenFault

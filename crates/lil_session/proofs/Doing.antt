@@ -1,5 +1,5 @@
 -- What a command that was done says of its answer and its devices.
-use Rattle.std.proofs.Common.{◌≡◌, ◌≢◌, ◌⊎◌, inl, inr, ℕ, ◌≤◌, true, false, List, [], ◌++◌, Option, None, Some, MatchOption, Result, Ok, Err, refl, sym, ◌∙◌, ap, subst, arith}
+use Rattle.std.proofs.Common.{◌≡◌, ◌≢◌, ◌⊎◌, inl, inr, ℕ, ◌≤◌, true, false, List, [], ◌∷◌, ◌++◌, Option, None, Some, MatchOption, Result, Ok, Err, refl, sym, ◌∙◌, ap, subst, arith}
 use Rattle.std.specs.FinMap.{get}
 use Rattle.std.proofs.lemmas.Bool.{both_ways}
 use Rattle.std.proofs.lemmas.List.{append-nil}
@@ -7,7 +7,7 @@ use Rattle.lil_base.specs.declared.fault.SourceFault.{SourceFault}
 use Rattle.lil_resolved.specs.Resolved.{Resolved}
 use Rattle.lil_meaning.specs.World.{World}
 use Rattle.lil_meaning.specs.Items.{Going}
-use Rattle.lil_meaning.specs.Runs.{state_of}
+use Rattle.lil_meaning.specs.Runs.{begun, state_of}
 use Rattle.lil_volume.specs.Causes.{Rose, VolumeCause}
 use Rattle.lil_volume.specs.declared.outside.VolumeError.{VolumeError}
 use Rattle.lil_volume.specs.declared.outside.VolumeError.TheVariants.{Failed}
@@ -19,6 +19,7 @@ use Rattle.lil_session.specs.Outcome.{settled, gives_way, with_writes, Allowed, 
 use Rattle.lil_session.specs.Counted.{MachineAnswers}
 use Rattle.lil_session.specs.Answered.{TextRan, CommandRan, IsAnswer, IsUnrun}
 use Rattle.lil_session.proofs.Agree.{texts_agree}
+use Rattle.lil_session.proofs.Screens.{after_grows, after_writes}
 
 followed_none : (old : Option (List ℕ)) (more : List ℕ) → more ≡ [] → old ≡ followed_by old more
 followed_none None more none = refl
@@ -34,8 +35,6 @@ shows_none p w old s none no_screen ends = record {
     ends = ends;
     stops = λ _. inl refl;
   };
-  keys = refl;
-  writes = refl;
 }
 
 -- a run that shows so, and takes no keys and writes no files
@@ -43,8 +42,8 @@ pub headline_of : (p : Resolved) (w : World) (before after : Devices) (s : Statu
 headline_of p w before after s finds shows same_keys same_files = record {
   n = shows.n;
   shown = shows.shown;
-  keys = same_keys ∙ finds.keys_told ∙ ap (λ (l : List ℕ). Some l) (sym shows.keys);
-  files = same_files ∙ ap (λ (l : List (List ℕ × List ℕ)). with_writes before.files l) (sym (shows.writes ∙ finds.nothing_written));
+  keys = same_keys ∙ finds.keys_told ∙ ap (λ (l : List ℕ). Some l) (sym (after_grows (p ∷ []) shows.n (begun (p ∷ []) (0 ∷ []) (1 ∷ []) w)).keys);
+  files = same_files ∙ ap (λ (l : List (List ℕ × List ℕ)). with_writes before.files l) (sym (after_writes (p ∷ []) shows.n (begun (p ∷ []) (0 ∷ []) (1 ∷ []) w) finds.no_stream finds.no_channel ∙ finds.nothing_written));
 }
 
 some_same : {A : Type 0} (x y : A) → Some x ≡ Some y → x ≡ y

@@ -1,32 +1,42 @@
 -- A budget of steps is spent only where the meaning goes on for long enough.
-use Rattle.std.proofs.Common.{◌≡◌, ℕ, zero, suc, ◌+◌, ◌*◌, ◌≤◌, List, [], ◌∷◌, refl, sym, ap, ◌∙◌, arith}
+use Rattle.std.proofs.Common.{◌≡◌, ℕ, zero, suc, ◌+◌, ◌*◌, ◌≤◌, Option, Some, None, List, [], ◌∷◌, refl, sym, ap, ◌∙◌, arith}
 use Rattle.lil_resolved.specs.Resolved.{Resolved}
 use Rattle.lil_resolved.specs.Sizes.{IsSmall}
-use Rattle.lil_meaning.specs.World.{World}
-use Rattle.lil_meaning.specs.Items.{Phase, Going, Closing, Trapped, Source}
-use Rattle.lil_meaning.specs.Steps.{next, by_phase}
+use Rattle.lil_base.specs.declared.fault.TrapAt.{TrapAt}
+use Rattle.lil_meaning.specs.World.{World, closing}
+use Rattle.lil_meaning.specs.Items.{Level, Phase, Going, Closing, Source}
+use Rattle.lil_meaning.specs.Steps.{next, by_phase, level_of, left_by, over, over_by}
 use Rattle.lil_meaning.specs.Runs.{after, begun}
 use Rattle.lil_mcode.specs.State.{State}
 use Rattle.lil_table.specs.Rows.{Translates}
 use Rattle.lil_match.specs.Running.{Running, mrun, running}
 use Rattle.lil_laws.specs.Loading.{loaded}
 use Rattle.lil_meaning.specs.Runs.{state_of}
-use Rattle.lil_laws.specs.Start.{loaded_state, correct}
+use Rattle.lil_laws.specs.Alone.{loaded_state, correct}
+use Rattle.lil_session.proofs.Screens.{after_first}
 
 -- a state that goes on came from one that went on
-going_before : (modules : List Resolved) (s : Source) (p : Phase) → s.phase ≡ p → (next modules s).phase ≡ Going → p ≡ Going
-going_before modules s Going e h = refl
-going_before modules s (Closing t) e h = let at = ap (λ (x : Phase). (by_phase modules x s).phase) (sym e) in let clash : Trapped t ≡ Going = at ∙ h in cc
-going_before modules s _ e h = let at = ap (λ (x : Phase). (by_phase modules x s).phase) (sym e) in sym e ∙ (at ∙ h)
+going_before : (library : List Resolved) (s : Source) (p : Phase) → s.waiting ≡ [] → s.phase ≡ p → (next library s).phase ≡ Going → p ≡ Going
+going_before library s Going none e h = refl
+going_before library s (Closing end) none e h = absurd (by (closing (level_of s) s.world) (ap (λ (x : Phase). (by_phase library x s).phase) (sym e) ∙ h))
+  where
+    over_not : (end : Option TrapAt) → over_by end ≡ Going → ⊥
+    over_not None e = cc
+    over_not (Some t) e = cc
 
-going_first : (modules : List Resolved) (n : ℕ) (s : Source) → (after modules n s).phase ≡ Going → s.phase ≡ Going
-going_first modules zero s h = h
-going_first modules (suc n) s h = going_before modules s s.phase refl (going_first modules n (next modules s) h)
+    by : (o : Option World) → (left_by end o s).phase ≡ Going → ⊥
+    by (Some w) h = let clash : Closing end ≡ Going = h in cc
+    by None h = over_not end (ap (λ (l : List Level). (over l end s).phase) (sym none) ∙ h)
+going_before library s _ none e h = let at = ap (λ (x : Phase). (by_phase library x s).phase) (sym e) in sym e ∙ (at ∙ h)
 
-going_until : (modules : List Resolved) (m n : ℕ) (s : Source) → m ≤ n → (after modules n s).phase ≡ Going → (after modules m s).phase ≡ Going
-going_until modules zero n s le h = going_first modules n s h
-going_until modules (suc m) zero s le h = absurd (omega arith)
-going_until modules (suc m) (suc n) s le h = going_until modules m n (next modules s) (omega arith) h
+going_first : (library : List Resolved) (n : ℕ) (s : Source) → s.waiting ≡ [] → (after library n s).phase ≡ Going → s.phase ≡ Going
+going_first library zero s none h = h
+going_first library (suc n) s none h = going_before library s s.phase none refl (going_first library n (next library s) (after_first library 1 s none) h)
+
+going_until : (library : List Resolved) (m n : ℕ) (s : Source) → s.waiting ≡ [] → m ≤ n → (after library n s).phase ≡ Going → (after library m s).phase ≡ Going
+going_until library zero n s none le h = going_first library n s none h
+going_until library (suc m) zero s none le h = absurd (omega arith)
+going_until library (suc m) (suc n) s none le h = going_until library m n (next library s) (after_first library 1 s none) (omega arith) h
 
 module _ (p : Resolved) (code : List ℕ) (small : IsSmall p) (t : Translates p code) where
   -- where the machine runs on after a budget, the meaning does after as many steps as the budget is enough for
@@ -34,4 +44,4 @@ module _ (p : Resolved) (code : List ℕ) (small : IsSmall p) (t : Translates p 
   enough w steps runs m le =
       let c = correct p code small t w steps in
       let here = ap (λ (s : State). (mrun steps (running s w)).finish) (sym (loaded_state p code small t)) ∙ runs in
-      going_until (p ∷ []) m c.n (begun (p ∷ []) w) (omega (arith, le, c.far (λ k e. let r = here in cc))) (c.agrees.runs here)
+      going_until (p ∷ []) m c.n (begun (p ∷ []) (0 ∷ []) (1 ∷ []) w) refl (omega (arith, le, c.far (λ k e. let r = here in cc))) (c.agrees.runs here)

@@ -1,7 +1,6 @@
 -- A text has one fault or one meaning, and what it says is carried out.
 use Rattle.std.proofs.Common.{◌≡◌, ◌⊎◌, ℕ, ◌≤◌, ◌<◌, length, nat_le, min, Bool, true, false, List, [], Option, Some, None, Result, Ok, Err, IfOk, if◌then◌else◌, refl, sym, ap, subst, ◌∙◌, inl, inr, arith}
 use Rattle.std.proofs.lemmas.Bool.{leb-true, le-leb}
-use Rattle.std.proofs.lemmas.List.{length-map}
 use Rattle.lil_base.specs.declared.fault.Place.{Place}
 use Rattle.lil_base.specs.declared.fault.SourceFault.{SourceFault}
 use Rattle.lil_base.specs.Faults.{fault, code_too_long}
@@ -9,11 +8,12 @@ use Rattle.lil_text.specs.declared.stop.ReadStop.{ReadStop}
 use Rattle.lil_text.specs.declared.stop.ReadStop.TheVariants.{Fault, Memory}
 use Rattle.lil_resolved.specs.Resolved.{Resolved}
 use Rattle.lil_resolved.specs.Sizes.{code_size, IsSmall}
-use Rattle.lil_resolved.specs.Views.{module_of, kind_declared}
+use Rattle.lil_resolved.specs.Views.{module_of}
 use Rattle.lil_resolved.specs.declared.resolved.RModule.{RModule}
 use Rattle.lil_language.specs.declared.unit.Unit.{Unit as Tree}
 use Rattle.lil_language.specs.Units.{Reads, HasReadFault}
 use Rattle.lil_meaning.specs.World.{World}
+use Rattle.lil_session.proofs.Declared.{declared_words}
 use Rattle.lil_session.specs.declared.status.Status.{Status}
 use Rattle.lil_session.specs.declared.status.Status.TheVariants as a
 use Rattle.lil_report.specs.declared.report.Fault.{Fault as Checked}
@@ -106,7 +106,7 @@ carried_fault f steps old faults is = subst (λ v. Carried v steps old faults ol
 
 -- ---- by how long the code is
 pub small_of : (m : RModule) → code_size (module_of m) ≤ 32767 → length m.variables ≤ 32000 → IsSmall (module_of m)
-small_of m short few = record { code = short; variables = omega (arith, few, length-map m.variables kind_declared) }
+small_of m short few = record { code = short; variables = omega (arith, few, declared_words m.variables) }
 
 module _ (name : Place) (p : Resolved) where
   pub coded_short : code_size p ≤ 32767 → coded name p ≡ Means p

@@ -1,8 +1,8 @@
 mod Advancing
 mod Agree
-mod Alone
 mod Counting
 mod Cuts
+mod Declared
 mod Doing
 mod Faulty
 mod Endings

@@ -5,15 +5,14 @@ use Rattle.lil_volume.specs.Told.{followed_by}
 use Rattle.lil_volume.specs.Laws.{followed_twice, followed_nothing}
 use Rattle.lil_mcode.specs.State.{State}
 use Rattle.lil_mcode.specs.Table.{mstep}
-use Rattle.lil_mcode.specs.Going.{went, next, gone, Ran}
+use Rattle.lil_mcode.specs.Going.{went, next, gone}
 use Rattle.lil_mcode.specs.declared.machine.Event.{Event}
 use Rattle.lil_mcode.specs.declared.machine.Event.TheVariants.{Went, Request, LevelEnded, Trap, Limit, BadCode}
 use Rattle.lil_session.specs.declared.run.Ending.{Ending}
 use Rattle.lil_session.specs.declared.run.Ending.TheVariants as ending
-use Rattle.lil_session.specs.Running.{finish_of, finish_by, IsStep, IsRefused, HasRun, IsCut, IsAlone}
+use Rattle.lil_session.specs.Running.{finish_of, finish_by, IsStep, IsRefused, HasRun, IsCut}
 use Rattle.lil_match.specs.Running.{Finish, Running, Run, mrun, running, advanced}
 use Rattle.lil_match.specs.Steps.{advances}
-use Rattle.lil_session.proofs.Advancing.{moves_at}
 use Rattle.lil_laws.specs.Whole.{mrun_add, run_rests, run_over}
 
 pub on_err : {T E P : Type 0} (r : Result T E) → P → OnErr r P
@@ -42,7 +41,7 @@ come_next from s t k old mid new w come step =
       more_shown old mid new come.0 one.world one.piece come.2 one.adds one.shown,
     )
 
-pub run_ends : (from s t : State) (k steps : ℕ) (f : Finish) (old mid new : Option (List ℕ)) (w : World) → k < steps → f ≢ Running → Come from s k old mid w → ((v : World) → IsStep s t f mid new v) → HasRun from steps f old new w
+pub run_ends : (from s t : State) (k steps : ℕ) (f : Finish) (old mid new : Option (List ℕ)) (w : World) → k < steps → f ≢ Running → Come from s k old mid w → ((v : World) → IsStep s t f mid new v) → HasRun from t steps f old new w
 run_ends from s t k steps f old mid new w less over come step =
     let one = step come.0 in
     let r : Run = record { machine = t; world = one.world; finish = f } in
@@ -50,14 +49,16 @@ run_ends from s t k steps f old mid new w less over come step =
     let all : mrun steps (running from w) ≡ r =
     mrun_add (k + 1) steps (steps - (k + 1)) (running from w) (omega arith) ∙ ap (mrun (steps - (k + 1))) there ∙ run_rests (steps - (k + 1)) r (run_over r f refl over) in
     record {
+      machine = sym (ap (λ (x : Run). x.machine) all);
       finish = sym (ap (λ (x : Run). x.finish) all);
       shown = more_shown old mid new come.0 one.world one.piece come.2 one.adds one.shown ∙ sym (ap (λ (x : Run). followed_by old x.world.screen) all);
     }
 
-pub run_spent : (from s : State) (k steps : ℕ) (old mid : Option (List ℕ)) (w : World) → k ≡ steps → Come from s k old mid w → HasRun from steps Running old mid w
+pub run_spent : (from s : State) (k steps : ℕ) (old mid : Option (List ℕ)) (w : World) → k ≡ steps → Come from s k old mid w → HasRun from s steps Running old mid w
 run_spent from s k steps old mid w same come =
     let all : mrun steps (running from w) ≡ running s come.0 = ap (λ (n : ℕ). mrun n (running from w)) (sym same) ∙ come.1 in
     record {
+      machine = sym (ap (λ (x : Run). x.machine) all);
       finish = sym (ap (λ (x : Run). x.finish) all);
       shown = come.2 ∙ sym (ap (λ (x : Run). followed_by old x.world.screen) all);
     }
@@ -120,28 +121,3 @@ come_gone from s u k n old mid w come h = (
   mrun_add k (k + n) n (running from w) refl ∙ ap (mrun n) come.1 ∙ gone_runs n s u come.0 h,
   come.2,
 )
-
-pub record Stays (s u : State) : Type 0 where
-  pub alone : IsAlone u
-  pub modules : u.modules ≡ s.modules
-  pub running : u.running ≡ s.running
-
-pub gone_stays : (n : ℕ) (s u : State) → IsAlone s → gone n s ≡ Some u → Stays s u
-gone_stays zero s u a h = subst (λ (x : State). Stays s x) (some_is s u h) (record { alone = a; modules = refl; running = refl })
-gone_stays (suc n) s u a h =
-    let x = goes_on s (gone n s) u h in
-    let before = gone_stays n s x.0 a x.1 in
-    let m = moves_at x.0 u Went before.alone x.2 in
-    record { alone = m.alone; modules = m.modules ∙ before.modules; running = m.running ∙ before.running }
-
-pub record RanMoves (s t : State) (at_module : ℕ) : Type 0 where
-  pub alone : IsAlone t
-  pub modules : t.modules ≡ s.modules
-  pub running : t.running ≡ s.running
-  pub at : at_module ≡ s.running
-
-pub ran_moves : (s : State) (n : ℕ) (e : Event) (t : State) (m p : ℕ) → IsAlone s → Ran s n e t m p → RanMoves s t m
-ran_moves s n e t m p a r =
-    let before = gone_stays r.others s r.before a r.came in
-    let moves = moves_at r.before t e before.alone r.last in
-    record { alone = moves.alone; modules = moves.modules ∙ before.modules; running = moves.running ∙ before.running; at = r.in_module ∙ before.running }

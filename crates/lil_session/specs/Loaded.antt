@@ -1,28 +1,32 @@
 -- What the ending of a run answers.
-use Rattle.std.specs.Prelude.{◌≡◌, ◌⊎◌, Some, None}
+use Rattle.std.specs.Prelude.{◌≡◌, ◌⊎◌, ℕ, List, Option, Some, None, slice_get}
 use Rattle.lil_base.specs.declared.fault.TrapKind.{TrapKind}
 use Rattle.lil_base.specs.declared.fault.TrapAt.{TrapAt}
 use Rattle.lil_mcode.specs.State.{Module, module_at}
-use Rattle.lil_laws.specs.Loading.{body_alone}
+use Rattle.lil_mcode.specs.Calls.{Machine, IsRunning, names_of}
 use Rattle.lil_session.specs.declared.run.Ending.{Ending}
 use Rattle.lil_session.specs.declared.run.Ending.TheVariants as ending
 use Rattle.lil_session.specs.declared.status.Status.{Status}
 use Rattle.lil_session.specs.declared.status.Status.TheVariants as answer
-use Rattle.lil_mcode.specs.Calls.{Machine}
 
--- The machine looked last at an instruction of this module, which is a body alone.
-pub record IsAtBody (machine : Machine) (m : Module) : Type 0 where
+-- the machine looked last at an instruction of this module, which has procedures
+pub record IsIn (machine : Machine) (m : Module) : Type 0 where
   pub known : module_at machine.state.modules machine.at_module ≡ Some m
-  pub alone : m.procedures ≡ body_alone
+  pub entry : ℕ
+  pub name : Option (List ℕ)
+  pub first : slice_get m.procedures 0 ≡ Some (entry, name)
 
--- a trap in the body of a module
-abbrev pub body_trap : Module → TrapKind → TrapAt
-body_trap m kind = record { kind = kind; «module» = m.name; procedure = None }
+-- the trap of the procedure at which the machine looked last
+pub record IsTrapOf (machine : Machine) (kind : TrapKind) (t : TrapAt) : Type 0 where
+  pub same : t.kind ≡ kind
+  pub procedure : ℕ
+  pub runs : (m : Module) → module_at machine.state.modules machine.at_module ≡ Some m → IsRunning m.procedures machine.at_place procedure
+  pub names : names_of machine.state.modules machine.at_module procedure ≡ Some (t.«module», t.procedure)
 
 -- the answer of an ending. A run that keeps to a translation meets no limit and no bad code
 abbrev pub EndingAnswers : Machine → Ending → Status → Type 0
 EndingAnswers machine ending.Done s = s ≡ answer.Done
-EndingAnswers machine (ending.Trapped k) s = (s ≡ answer.Memory) ⊎ ((m : Module) → IsAtBody machine m → s ≡ answer.Trapped (body_trap m k))
+EndingAnswers machine (ending.Trapped k) s = (s ≡ answer.Memory) ⊎ ((t : TrapAt) × (s ≡ answer.Trapped t) × IsTrapOf machine k t)
 EndingAnswers machine (ending.Limited k) s = ⊥
 EndingAnswers machine ending.Broken s = ⊥
 EndingAnswers machine ending.Spent s = s ≡ answer.StepsSpent
@@ -30,7 +34,7 @@ EndingAnswers machine ending.Spent s = s ≡ answer.StepsSpent
 -- an ending that the run of a translation can have
 abbrev pub IsPossible : Machine → Ending → Type 0
 IsPossible machine ending.Done = Unit {0}
-IsPossible machine (ending.Trapped k) = (m : Module) × IsAtBody machine m
+IsPossible machine (ending.Trapped k) = (m : Module) × IsIn machine m
 IsPossible machine (ending.Limited k) = ⊥
 IsPossible machine ending.Broken = ⊥
 IsPossible machine ending.Spent = Unit {0}

@@ -105,7 +105,7 @@ pub record Finds (files : Option Files) (keys : Option (List ℕ)) (w : World) :
 -- The answer that the end of a meaning is: Done where it ended, and the trap where it trapped.
 abbrev pub EndsSo : Phase → Status → Type 0
 EndsSo Going s = ⊥
-EndsSo (Closing t) s = ⊥
+EndsSo (Closing by) s = ⊥
 EndsSo Ended s = s ≡ a.Done
 EndsSo (Trapped t) s = s ≡ a.Trapped t
 
@@ -238,8 +238,6 @@ pub record Headline (p : Resolved) (w : World) (before after : Devices) (status 
 pub record Shows (p : Resolved) (w : World) (old new : Option (List ℕ)) (status : Status) : Type 0 where
   pub n : ℕ
   pub shown : Shown p w n old new status
-  pub keys : (state_of p w n).world.keys ≡ w.keys
-  pub writes : (state_of p w n).world.writes ≡ w.writes
 
 -- the answers of a run within a budget of steps
 abbrev pub IsRunAnswer : Status → Type 0

@@ -10,12 +10,6 @@ use Rattle.lil_match.specs.Running.{Finish, Running, Finished, TrappedBy, Limite
 use Rattle.lil_session.specs.declared.run.Ending.{Ending}
 use Rattle.lil_session.specs.declared.run.Ending.TheVariants as ending
 
--- a body that runs as the last of its level, with its mark
-pub record IsAlone (s : State) : Type 0 where
-  pub body : s.frame ≡ s.base
-  pub last : s.bodies ≡ []
-  pub marked : s.marked ≡ true
-
 -- how far a run has come, by its ending
 abbrev pub finish_of : Ending → Finish
 finish_of ending.Done = Finished
@@ -46,8 +40,9 @@ pub record IsRefused (s : State) (old new : Option (List ℕ)) : Type 0 where
   pub some : piece ≢ []
   pub prefix : FollowedByPrefix old piece new
 
--- at most so many steps, from s on: what they add to the screen was shown
-pub record HasRun (s : State) (steps : ℕ) (f : Finish) (old new : Option (List ℕ)) (w : World) : Type 0 where
+-- at most so many steps, from s to t: what they add to the screen was shown
+pub record HasRun (s t : State) (steps : ℕ) (f : Finish) (old new : Option (List ℕ)) (w : World) : Type 0 where
+  pub machine : t ≡ (mrun steps (running s w)).machine
   pub finish : f ≡ (mrun steps (running s w)).finish
   pub shown : new ≡ followed_by old (mrun steps (running s w)).world.screen
 

@@ -1,19 +1,18 @@
-ghost use Rattle.std.specs.Prelude.{◌≡◌, ◌≢◌, ◌⊎◌, ◌≤◌, [], true, length, IfOk, OnErr, Some};
+ghost use Rattle.std.specs.Prelude.{◌≡◌, ◌≢◌, ◌⊎◌, ◌≤◌, [], true, length, IfOk, OnErr, Ok, Some};
 ghost use Rattle.lil_resolved.specs.Views.{module_of};
 ghost use Rattle.lil_meaning.specs.World.{World};
 ghost use Rattle.lil_mcode.specs.State.{Module, State};
-ghost use Rattle.lil_mcode.specs.Going.{Ran};
 ghost use Rattle.lil_mcode.specs.Table.{mstep};
 ghost use Rattle.lil_volume.specs.Causes.{HasCause};
 ghost use Rattle.lil_base.specs.declared.fault.TrapKind.{TrapKind};
 ghost use Rattle.lil_session.specs.declared.run.Ending.TheVariants as ending;
 ghost use Rattle.lil_resolved.specs.Sizes.{IsSmall, code_size};
 ghost use Rattle.lil_table.specs.Rows.{Translates};
-ghost use Rattle.lil_session.specs.Running.{IsAlone, finish_of, finish_by, IsStep, IsRefused, HasRun, IsCut};
+ghost use Rattle.lil_session.specs.Running.{finish_of, finish_by, IsStep, IsRefused, HasRun, IsCut};
 ghost use Rattle.lil_session.specs.Outcome.{settled, Blames, Shows, MeansAnswer, IsRunAnswer};
 ghost use Rattle.lil_session.specs.Counted.{MachineAnswers};
 ghost use Rattle.std.specs.Option.{option_copied};
-ghost use Rattle.lil_session.specs.Loaded.{IsAtBody, body_trap, EndingAnswers, IsPossible};
+ghost use Rattle.lil_session.specs.Loaded.{IsIn, IsTrapOf, EndingAnswers, IsPossible};
 ghost use Rattle.lil_laws.specs.Loading.{loaded};
 
 use crate::Status;
@@ -34,20 +33,17 @@ pub(crate) enum Ending {
     Spent,
 }
 
-/// What the last step of a body that runs alone shows. None where the run goes on.
+/// What the last step of a run shows. None where the run goes on.
 fn answered<S: Sink>(
     event: Event,
     machine: &mut Machine,
     screen: &mut S,
 ) -> Result<Option<Ending>, SinkFailed>
-    requires { (u : State) × (mstep u ≡ (event, machine.old.state)) × IsAlone machine.old.state }
+    requires { (u : State) × (mstep u ≡ (event, machine.old.state)) }
     ensures step { IfOk result (λ o. (u : State) → mstep u ≡ (event, machine.old.state) → (w : World) → IsStep u machine.new.state (finish_by o) (S.written screen.old) (S.written screen.new) w) }
     ensures refused { OnErr result ((u : State) → mstep u ≡ (event, machine.old.state) → IsRefused u (S.written screen.old) (S.written screen.new)) }
     ensures unspent { IfOk result (λ o. o ≢ Some ending.Spent) }
-    ensures modules { machine.new.state.modules ≡ machine.old.state.modules }
-    ensures running { machine.new.state.running ≡ machine.old.state.running }
-    ensures alone { IsAlone machine.new.state }
-    ensures at { machine.new.at_module ≡ machine.old.at_module }
+    ensures at { (k : TrapKind) → result ≡ Ok (Some (ending.Trapped k)) → (event ≡ Event.Trap k) × (machine.new ≡ machine.old) }
     ensures cause { HasCause (S.faults screen.old) (S.faults screen.new) result }
 {
     match event {
@@ -63,36 +59,20 @@ fn answered<S: Sink>(
     }
 }
 
-/// At most so many steps of a body that runs alone, while they go on: what the last one did, and how many there were.
-fn run_alone(machine: &mut Machine, most: u64) -> (Event, u64)
-    requires some { 1 ≤ most }
-    requires alone { IsAlone machine.old.state }
-    ensures ran { Ran machine.old.state result.1 result.0 machine.new.state machine.new.at_module machine.new.at_place }
-    ensures within { result.1 ≤ most }
-    ensures modules { machine.new.state.modules ≡ machine.old.state.modules }
-    ensures running { machine.new.state.running ≡ machine.old.state.running }
-    ensures alone { IsAlone machine.new.state }
-    ensures at { machine.new.at_module ≡ machine.old.state.running }
-{
-    machine.run(most)
-}
-
 /// Steps until the run ends, for at most so many steps.
 fn run_machine<S: Sink>(
     machine: &mut Machine,
     steps: u64,
     screen: &mut S,
 ) -> Result<Ending, SinkFailed>
-    requires { IsAlone machine.old.state }
-    ensures ran { IfOk result (λ e. (w : World) → w.screen ≡ [] → HasRun machine.old.state steps (finish_of e) (S.written screen.old) (S.written screen.new) w) }
+    ensures ran { IfOk result (λ e. (w : World) → w.screen ≡ [] → HasRun machine.old.state machine.new.state steps (finish_of e) (S.written screen.old) (S.written screen.new) w) }
     ensures cut { OnErr result ((w : World) → w.screen ≡ [] → IsCut machine.old.state steps (S.written screen.old) (S.written screen.new) w) }
-    ensures modules { machine.new.state.modules ≡ machine.old.state.modules }
-    ensures at { IfOk result (λ e. (k : TrapKind) → e ≡ ending.Trapped k → machine.new.at_module ≡ machine.old.state.running) }
+    ensures at { IfOk result (λ e. (k : TrapKind) → e ≡ ending.Trapped k → machine.new.at_module ≡ machine.new.state.running) }
     ensures cause { HasCause (S.faults screen.old) (S.faults screen.new) result }
 {
     let mut left = steps;
     while left > 0 {
-        let (event, done) = run_alone(machine, left);
+        let (event, done) = machine.run(left);
         left -= done;
         if let Some(end) = answered(event, machine, screen)? {
             return Ok(end);
@@ -102,6 +82,7 @@ fn run_machine<S: Sink>(
 }
 
 /// A machine in which the module is loaded alone and begun.
+#[tactic(auto, using(crate::proofs::Declared::declared_words))]
 fn load(alloc: Global, m: &RModule, code: &Bytes) -> Result<Machine, Memory>
     requires small { IsSmall (module_of m.now) }
     requires long { length code.now ≡ code_size (module_of m.now) }
@@ -128,10 +109,10 @@ fn copied(alloc: Global, name: Option<&Name>) -> Result<Option<Name>, Memory>
     }
 }
 
-/// The trap of the body that the machine runs.
+/// The trap of the procedure that the machine runs.
 fn trap_of(alloc: Global, machine: &Machine, kind: TrapKind) -> Result<TrapAt, Memory>
-    requires { (m : Module) × IsAtBody machine.now m }
-    ensures { IfOk result (λ t. (m : Module) → IsAtBody machine.now m → t ≡ body_trap m kind) }
+    requires { (m : Module) × IsIn machine.now m }
+    ensures { IfOk result (λ t. IsTrapOf machine.now kind t) }
 {
     match machine.names(machine.place()) {
         None => unreachable!(),

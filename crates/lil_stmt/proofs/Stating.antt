@@ -7,6 +7,7 @@ use Rattle.lil_resolved.specs.declared.resolved.RStmt.{RStmt}
 use Rattle.lil_resolved.specs.declared.resolved.RGuard.{RGuard}
 use Rattle.lil_resolved.specs.Kinds.{Kind, OfTruth, base_of, compared_as, covers, outside_turns}
 use Rattle.lil_resolved.specs.Resolved.{Variable, Expression, Statement, While, Repeat, Loop, For, Statements, Empty, Then, kind_of}
+use Rattle.lil_resolved.specs.Shapes.{Shape}
 use Rattle.lil_resolved.specs.Views.{joined, expression_of, statement_of, statements_of, guard_of, guards_of}
 use Rattle.lil_resolved.specs.Sound.{IsSoundBody}
 use Rattle.lil_resolved.specs.Forms.{guard_is}
@@ -27,9 +28,9 @@ one_emitted n exit s ss a b is t =
     subst (λ (ss : Statements). Emits a b (Body n exit ss)) (sym is)
     (emits_as a b _ (Body n exit (Then s Empty)) (λ x t sound room. record { middle = length b.bytes; here = t sound.0 (omega (arith, room)); then = refl }) t)
 
-sound_joined : (ks : List Kind) (looping : Bool) (a b : Statements) → IsSoundBody ks looping (joined a b) → IsSoundBody ks looping a × IsSoundBody ks looping b
-sound_joined ks looping Empty b h = (tt, h)
-sound_joined ks looping (Then s a) b h = let rest = sound_joined ks looping a b h.1 in ((h.0, rest.0), rest.1)
+sound_joined : (ts : List Shape) (looping : Bool) (a b : Statements) → IsSoundBody ts looping (joined a b) → IsSoundBody ts looping a × IsSoundBody ts looping b
+sound_joined ts looping Empty b h = (tt, h)
+sound_joined ts looping (Then s a) b h = let rest = sound_joined ts looping a b h.1 in ((h.0, rest.0), rest.1)
 
 joined_at : (l : Layout) (code : List ℕ) (n : ℕ) (exit : Option ℕ) (a b : Statements) (p q r : ℕ) → BodyAt l code n exit a p q → BodyAt l code n exit b q r → BodyAt l code n exit (joined a b) p r
 joined_at l code n exit Empty b p q r first rest = subst (λ (m : ℕ). BodyAt l code n exit b m r) (sym first) rest
@@ -47,7 +48,7 @@ next_emitted n exit ss i s all a b c inside is so_far next =
     (λ x t r more. t.0 r
     (subst (λ (left : List RStmt). Body n exit (statements_of left) x (length b.bytes) r) (sym (left_from ss i s inside is))
     (λ sound room.
-    let parts = sound_joined x.layout.kinds (is_some exit) (statement_of s) rest sound in
+    let parts = sound_joined x.layout.shapes (is_some exit) (statement_of s) rest sound in
     let loops = joined_loops (statement_of s) rest in
     joined_at x.layout x.code n _ (statement_of s) rest _ _ r (t.1 parts.0 (omega (arith, loops, room))) (more parts.1 (omega (arith, loops, room))))))
     (emits_then a b c _ _ so_far next)
@@ -157,9 +158,9 @@ module _ (n : ℕ) (exit : Option ℕ) (v : ℕ) (k : Kind) (from to : Expressio
       → sign ≡ loop_sign (compared_as (base_of k)) → (n ≤ 65535 → inner ≡ suc n) → Emits c0 c1 (Value from) → Emits c1 c2 (Value to) → Emits c2 c3 Nothing → Makes c2 c3 end
       → Emits c3 c4 (Aligning (covers (base_of k) (kind_of from)) (outside_turns (compared_as (base_of k)) step) end) → Emits c4 c5 (Doing (λ w. Liw word)) → Emits c5 c6 (Doing (λ w. Fri place sign (w end)))
       → Emits c6 c7 (Marking turn) → Emits c7 c8 (Doing (λ w. Llw place)) → Emits c8 c9 (DoingAll (test_code k (base_of k))) → Emits c9 c10 (Doing (λ w. Sgw v)) → Emits c10 c11 (Body inner exit body)
-      → Emits c11 c12 (Doing (λ w. Frn place (w turn))) → Places c12 c13 end → Emits c0 c13 (Stated n exit (For (Variable v k) from to step body))
+      → Emits c11 c12 (Doing (λ w. Frn place (w turn))) → Places c12 c13 end → Emits c0 c13 (Stated n exit (For (Variable v) k from to step body))
   for_emitted word place sign inner end turn c0 c1 c2 c3 c4 c5 c6 c7 c8 c9 c10 c11 c12 c13 stepped placed signed more first last new makes align load enter mark value test store here next put =
-      emits_as c0 c13 _ (Stated n exit (For (Variable v k) from to step body))
+      emits_as c0 c13 _ (Stated n exit (For (Variable v) k from to step body))
       (λ x t sound room.
       let framed = x.framed in
       let at_place : place ≡ loop_place n = placed (omega (arith, room, framed)) in

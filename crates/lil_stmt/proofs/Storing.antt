@@ -21,7 +21,7 @@ use Rattle.lil_stmt.specs.Generating.{Stored, Passed, Stated}
 use Rattle.lil_stmt.proofs.Counting.{left_from}
 
 -- a value that stands alone
-pub whole : (x : Final) (n : ℕ) (e : Expression) (k : Kind) (p q : ℕ) → n ≤ 4 → IsSoundWhole x.layout.kinds e k → Value e x p q → WholeRow x.layout x.code n e k p q
+pub whole : (x : Final) (n : ℕ) (e : Expression) (k : Kind) (p q : ℕ) → n ≤ 4 → IsSoundWhole x.layout.shapes e k → Value e x p q → WholeRow x.layout x.code n e k p q
 whole x n e k p q low sound t = record { typed = sound.kind; shallow = omega (arith, sound.shallow, low); value = t sound.sound }
 
 pub value_emitted : (e : Expression) (k j : Kind) (a b c : Draft) → j ≡ kind_of e → Emits a b (Value e) → Emits b c (DoingAll (test_code k j)) → Emits a c (Stored e k)
@@ -35,9 +35,9 @@ value_emitted e k j a b c typed value test =
     })
     (emits_then a b c _ _ value test)
 
-pub assign_emitted : (v : ℕ) (k : Kind) (n : ℕ) (exit : Option ℕ) (e : Expression) (a b c : Draft) → Emits a b (Stored e k) → Emits b c (Doing (λ w. Sgw v)) → Emits a c (Stated n exit (Assign (Variable v k) e))
+pub assign_emitted : (v : ℕ) (k : Kind) (n : ℕ) (exit : Option ℕ) (e : Expression) (a b c : Draft) → Emits a b (Stored e k) → Emits b c (Doing (λ w. Sgw v)) → Emits a c (Stated n exit (Assign (Variable v) k e))
 assign_emitted v k n exit e a b c value store =
-    emits_as a c _ (Stated n exit (Assign (Variable v k) e))
+    emits_as a c _ (Stated n exit (Assign (Variable v) k e))
     (λ x t sound room. record { known = known_row x.layout v k x.plain sound.0; middle = length b.bytes; value = t.0 0 sound.1 (omega arith); store = t.1 })
     (emits_then a b c _ _ value store)
 
@@ -49,9 +49,9 @@ instrs_join (i ∷ is) js code p q r here rest = (here.0, here.1, instrs_join is
 
 pub change_emitted : (down : Bool) (v : ℕ) (k j : Kind) (e : Expression) (i : Instr) (n : ℕ) (exit : Option ℕ) (a b c d f : Draft) → whole_code (change_operator down) (counted_as k) ≡ i ∷ [] → j ≡ OfWhole (counted_as k)
     → Emits a b (Value e) → Emits b c (DoingAll (Lgw v ∷ Swp ∷ i ∷ [])) → Emits c d (DoingAll (test_code k j)) → Emits d f (Doing (λ w. Sgw v))
-    → Emits a f (Stated n exit (Change down (Variable v k) e))
+    → Emits a f (Stated n exit (Change down (Variable v) k e))
 change_emitted down v k j e i n exit a b c d f computes typed value loads test store =
-    emits_as a f _ (Stated n exit (Change down (Variable v k) e))
+    emits_as a f _ (Stated n exit (Change down (Variable v) k e))
     (λ x t sound room.
     let first = t.1.0 in
     let stored : InstrsAt x.code (Sgw v ∷ []) (length d.bytes) (length f.bytes) = (length f.bytes, t.1.1.1, refl) in

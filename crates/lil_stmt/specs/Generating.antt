@@ -17,20 +17,20 @@ use Rattle.lil_labels.specs.Drafts.{Final, Meaning, EntryAt, ChoiceAt}
 
 -- a sound value has its code and its test, where one of a kind is wanted and up to 4 words of others stand below its own
 abbrev pub Stored : Expression → Kind → Meaning
-Stored e k x p q = (n : ℕ) → IsSoundValue x.layout.kinds e k → n ≤ 4 → ValueRow x.layout x.code n e k p q
+Stored e k x p q = (n : ℕ) → IsSoundValue x.layout.shapes e k → n ≤ 4 → ValueRow x.layout x.code n e k p q
 
 -- the same of arguments, with n words of others below them
 abbrev pub Passed : ℕ → List Argument → Meaning
-Passed n given x p q = AreSoundArguments x.layout.kinds given → n + length given ≤ 4 → ArgumentsAt x.layout x.code n given p q
+Passed n given x p q = AreSoundArguments x.layout.shapes given → n + length given ≤ 4 → ArgumentsAt x.layout x.code n given p q
 
 -- With n FORs around it, a sound statement has its code where the frame has room for its own FORs. An EXIT leads to a label.
 abbrev pub Stated : ℕ → Option ℕ → Statement → Meaning
 Stated n exit s x p q =
-    IsSoundStatement x.layout.kinds (is_some exit) s → loop_place n + 3 * statement_loops s ≤ x.layout.frame → StatementAt x.layout x.code n (option_map x.word exit) s p q
+    IsSoundStatement x.layout.shapes (is_some exit) s → loop_place n + 3 * statement_loops s ≤ x.layout.frame → StatementAt x.layout x.code n (option_map x.word exit) s p q
 
 -- the same of statements
 abbrev pub Body : ℕ → Option ℕ → Statements → Meaning
-Body n exit ss x p q = IsSoundBody x.layout.kinds (is_some exit) ss → loop_place n + 3 * body_loops ss ≤ x.layout.frame → BodyAt x.layout x.code n (option_map x.word exit) ss p q
+Body n exit ss x p q = IsSoundBody x.layout.shapes (is_some exit) ss → loop_place n + 3 * body_loops ss ≤ x.layout.frame → BodyAt x.layout x.code n (option_map x.word exit) ss p q
 
 -- with the code of some statements behind it, it is the code of others
 abbrev pub Awaiting : ℕ → Option ℕ → Statements → Statements → Meaning

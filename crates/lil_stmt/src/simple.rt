@@ -3,7 +3,7 @@
 ghost use Rattle.std.specs.Prelude.{◌≡◌, ℕ, Option, map, OnOk};
 ghost use Rattle.lil_resolved.specs.Resolved as resolved;
 ghost use Rattle.lil_resolved.specs.Resolved.{Assign, Change, Exit};
-ghost use Rattle.lil_resolved.specs.Views.{kind_view, variable_of, is_down, request_number, argument_of, expression_of};
+ghost use Rattle.lil_resolved.specs.Views.{kind_view, variable_of, variable_kind, is_down, request_number, argument_of, expression_of};
 ghost use Rattle.lil_labels.specs.Drafts.{Emits};
 ghost use Rattle.lil_stmt.specs.Generating.{Stated, Stored, Passed};
 
@@ -29,7 +29,7 @@ pub(crate) fn emit_assign(
     variable: RVariable,
     value: &RExpr,
 ) -> Result<(), Memory>
-    ensures { OnOk result ((n : ℕ) (exit : Option ℕ) → Emits code.old code.new (Stated n exit (Assign (variable_of variable) (expression_of value.now)))) }
+    ensures { OnOk result ((n : ℕ) (exit : Option ℕ) → Emits code.old code.new (Stated n exit (Assign (variable_of variable) (variable_kind variable) (expression_of value.now)))) }
 {
     emit_value(code, value, variable.kind)?;
     code.put(Instr::Sgw(variable.number))
@@ -43,7 +43,7 @@ pub(crate) fn emit_change(
     variable: RVariable,
     value: &RExpr,
 ) -> Result<(), Memory>
-    ensures { OnOk result ((n : ℕ) (exit : Option ℕ) → Emits code.old code.new (Stated n exit (Change (is_down direction) (variable_of variable) (expression_of value.now)))) }
+    ensures { OnOk result ((n : ℕ) (exit : Option ℕ) → Emits code.old code.new (Stated n exit (Change (is_down direction) (variable_of variable) (variable_kind variable) (expression_of value.now)))) }
 {
     let computes = change_instr(direction, variable.kind);
     emit_expression(code, value)?;

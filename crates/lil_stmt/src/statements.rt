@@ -2,7 +2,7 @@
 
 ghost use Rattle.std.specs.Prelude.{◌≡◌, length, IfOk, OnOk};
 ghost use Rattle.lil_resolved.specs.Resolved.{While, Repeat, Loop, For};
-ghost use Rattle.lil_resolved.specs.Views.{variable_of, expression_of, statement_of, statements_of, guard_of};
+ghost use Rattle.lil_resolved.specs.Views.{variable_of, variable_kind, expression_of, statement_of, statements_of, guard_of};
 ghost use Rattle.lil_labels.specs.Drafts.{Emits};
 ghost use Rattle.lil_stmt.specs.Generating.{Stated, Body, Turning, Each, ArmPart, ArmBody, nothing_before, guards_before, paired};
 
@@ -217,7 +217,7 @@ fn emit_for(
     step: i16,
     around: Around,
 ) -> Result<(), Memory>
-    ensures { OnOk result (Emits code.old code.new (Stated around.fors around.exit (For (variable_of variable) (expression_of from.now) (expression_of to.now) step (statements_of body.now)))) }
+    ensures { OnOk result (Emits code.old code.new (Stated around.fors around.exit (For (variable_of variable) (variable_kind variable) (expression_of from.now) (expression_of to.now) step (statements_of body.now)))) }
 {
     emit_expression(code, from)?;
     emit_expression(code, to)?;

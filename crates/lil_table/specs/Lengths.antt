@@ -99,7 +99,7 @@ test_long code k j p q h = omega (arith, instrs_long code (test_code k j) p q h,
 
 pub expression_long : (l : Layout) (code : List ℕ) (e : Expression) (p q : ℕ) → ExpressionAt l code e p q → q ≡ p + size e
 expression_long l code (Constant k v) p q h = instr_long code p _ q h.load
-expression_long l code (Taken (Variable x k)) p q h = instr_long code p _ q h.load
+expression_long l code (Taken (Variable x) k) p q h = instr_long code p _ q h.load
 expression_long l code (One o k a) p q h =
     omega (arith, expression_long l code a p h.middle h.first, instrs_long code (one_code o k) h.middle q h.by, one_sized o k)
 expression_long l code (Two o k a b) p q h =
@@ -132,8 +132,8 @@ entries_end code k (label ∷ labels) to rest t (suc w) h =
 
 mutual
   pub statement_long : (l : Layout) (code : List ℕ) (n : ℕ) (exit : Option ℕ) (s : Statement) (p q : ℕ) → StatementAt l code n exit s p q → q ≡ p + statement_size s
-  statement_long l code n exit (Assign (Variable x k) e) p q h = omega (arith, value_long l code 0 e k p h.middle h.value, instr_long code h.middle (Sgw h.known.offset) q h.store)
-  statement_long l code n exit (Change down (Variable x k) e) p q h =
+  statement_long l code n exit (Assign (Variable x) k e) p q h = omega (arith, value_long l code 0 e k p h.middle h.value, instr_long code h.middle (Sgw h.known.offset) q h.store)
+  statement_long l code n exit (Change down (Variable x) k e) p q h =
       omega (arith, expression_long l code e p h.middle h.value.value, instrs_long code (change_code down k h.known.offset) h.middle q h.by, change_sized down k h.known.offset)
   statement_long l code n exit (Request r given) p q h = omega (arith, arguments_long l code 0 given p h.middle h.arguments, instr_long code h.middle (Svc r) q h.by)
   statement_long l code n exit (If c a b) p q h =
@@ -156,7 +156,7 @@ mutual
   statement_long l code n exit Exit p q h = instr_long code p (Jmp h.to) q h.jump
   statement_long l code n exit Halt p q h = instr_long code p (Trp 9) q h
   statement_long l code n exit Return p q h = instr_long code p Rtn q h
-  statement_long l code n exit (For (Variable x k) a b step body) p q h =
+  statement_long l code n exit (For (Variable x) k a b step body) p q h =
       let t = h.turns in
       let r = t.round in
       omega (

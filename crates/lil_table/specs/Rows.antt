@@ -8,6 +8,7 @@ use Rattle.lil_base.specs.declared.operator.TwoOp.{TwoOp}
 use Rattle.lil_base.specs.declared.operator.TwoOp.TheVariants.{Equal, Unequal, Less, AtMost, Greater, AtLeast, Plus, Minus, Times, Div, Mod}
 use Rattle.lil_resolved.specs.Kinds.{Kind, OfWhole, OfTruth, OfCharacter, base_of, is_base, takes_value, compared_as, covers, shared, outside_turns}
 use Rattle.lil_resolved.specs.Scalars.{Scalar, within, scalar_word}
+use Rattle.lil_resolved.specs.Shapes.{Shape, Word, words, all_words}
 use Rattle.lil_resolved.specs.Resolved.{Designator, Variable, Function, Abs, Cap, Chr, Odd, Ord, Val, Expression, Constant, Taken, One, Two, Short, Apply, Argument, Label, Statement, Assign, Change, Request, If, Case, While, Repeat, Loop, Exit, Halt, Return, For, Statements, Empty, Then, Arms, NoElse, Else, Arm, Resolved, kind_of, counted_as}
 use Rattle.lil_resolved.specs.Depth.{depth, frame_words}
 use Rattle.lil_resolved.specs.Sound.{takes_one, takes_two, takes_function, IsSoundLabel, IsStep}
@@ -16,19 +17,19 @@ use Rattle.lil_asm.specs.declared.instr.Instr.TheVariants.{Liw, Dup, Drp, Llw, L
 use Rattle.lil_asm.specs.Bytes.{word_at, decoded}
 use Rattle.lil_asm.specs.Requests.{request_words}
 
--- where the variables of a module lie in its data frame, by their numbers, their kinds, the words of its body's frame, and how a place is
+-- where the variables of a module lie in its data frame, by their numbers, their shapes, the words of its body's frame, and how a place is
 -- written in a jump
 pub record Layout : Type 0 where
   pub offsets : List ℕ
-  pub kinds : List Kind
+  pub shapes : List Shape
   pub words : ℕ
   pub frame : ℕ
   pub target : ℕ → ℕ
 
--- one word for each variable, in order, from an offset on
-abbrev pub offsets_from : ℕ → List Kind → List ℕ
+-- variables one behind another, from an offset on
+abbrev pub offsets_from : ℕ → List Shape → List ℕ
 offsets_from n [] = []
-offsets_from n (k ∷ ks) = n ∷ offsets_from (suc n) ks
+offsets_from n (t ∷ ts) = n ∷ offsets_from (n + words t) ts
 
 -- a place as it is, and cut to 16 bits
 abbrev pub exactly : ℕ → ℕ
@@ -38,7 +39,7 @@ abbrev pub cut : ℕ → ℕ
 cut q = q % 65536
 
 abbrev pub layout_by : (ℕ → ℕ) → Resolved → Layout
-layout_by target m = record { offsets = offsets_from 0 m.variables; kinds = m.variables; words = length m.variables; frame = frame_words m.body; target = target }
+layout_by target m = record { offsets = offsets_from 0 m.variables; shapes = m.variables; words = all_words m.variables; frame = frame_words m.body; target = target }
 
 abbrev pub layout_of : Resolved → Layout
 layout_of m = layout_by exactly m
@@ -130,7 +131,7 @@ pub record ConstantRow (code : List ℕ) (k : Kind) (v : Scalar) (p q : ℕ) : T
 pub record KnownRow (l : Layout) (x : ℕ) (k : Kind) : Type 0 where
   pub offset : ℕ
   pub at : slice_get l.offsets x ≡ Some offset
-  pub typed : slice_get l.kinds x ≡ Some k
+  pub typed : slice_get l.shapes x ≡ Some (Word k)
   pub base : is_base (base_of k) ≡ true
 
 pub record VariableRow (l : Layout) (code : List ℕ) (x : ℕ) (k : Kind) (p q : ℕ) : Type 0 where
@@ -175,12 +176,12 @@ pub record ApplyRow (code : List ℕ) (f : Function) (a : Expression) (value : S
   pub first : value p middle
   pub by : InstrsAt code (function_code f (kind_of a)) middle q
 
-abbrev pub TakenAt : Layout → List ℕ → Designator → Span
-TakenAt l code (Variable x k) p q = VariableRow l code x k p q
+abbrev pub TakenAt : Layout → List ℕ → Designator → Kind → Span
+TakenAt l code (Variable x) k p q = VariableRow l code x k p q
 
 abbrev pub ExpressionAt : Layout → List ℕ → Expression → Span
 ExpressionAt l code (Constant k v) p q = ConstantRow code k v p q
-ExpressionAt l code (Taken d) p q = TakenAt l code d p q
+ExpressionAt l code (Taken d k) p q = TakenAt l code d k p q
 ExpressionAt l code (One o k a) p q = OneRow code o k a (ExpressionAt l code a) p q
 ExpressionAt l code (Two o k a b) p q = TwoRow code o k a b (ExpressionAt l code a) (ExpressionAt l code b) p q
 ExpressionAt l code (Short d a b) p q = ShortRow l code d a b (ExpressionAt l code a) (ExpressionAt l code b) p q
@@ -396,8 +397,8 @@ pub record ThenRow (first rest : Span) (p q : ℕ) : Type 0 where
 -- Statements with n FORs around them, and the word of the place behind the LOOP around them, if there is one.
 abbrev mutual
   pub StatementAt : Layout → List ℕ → ℕ → Option ℕ → Statement → Span
-  StatementAt l code n exit (Assign (Variable x k) e) p q = AssignRow l code x k e p q
-  StatementAt l code n exit (Change down (Variable x k) e) p q = ChangeRow l code down x k e p q
+  StatementAt l code n exit (Assign (Variable x) k e) p q = AssignRow l code x k e p q
+  StatementAt l code n exit (Change down (Variable x) k e) p q = ChangeRow l code down x k e p q
   StatementAt l code n exit (Request r given) p q = RequestRow l code r given p q
   StatementAt l code n exit (If c a b) p q = IfRow l code c (BodyAt l code n exit a) (BodyAt l code n exit b) p q
   StatementAt l code n exit (Case e arms) p q = CaseRow l code e (ArmsAt l code n exit (kind_of e) arms) p q
@@ -407,7 +408,7 @@ abbrev mutual
   StatementAt l code n exit Exit p q = ExitRow code exit p q
   StatementAt l code n exit Halt p q = IsAt code p (Trp 9) q
   StatementAt l code n exit Return p q = IsAt code p Rtn q
-  StatementAt l code n exit (For (Variable x k) a b step body) p q = ForRow l code n x k a b step (BodyAt l code (suc n) exit body) p q
+  StatementAt l code n exit (For (Variable x) k a b step body) p q = ForRow l code n x k a b step (BodyAt l code (suc n) exit body) p q
 
   -- one behind another
   pub BodyAt : Layout → List ℕ → ℕ → Option ℕ → Statements → Span

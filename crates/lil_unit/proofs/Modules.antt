@@ -1,8 +1,10 @@
 -- The code of a whole module, settled.
 use Rattle.std.proofs.Common.{◌≡◌, ℕ, zero, suc, ◌+◌, ◌*◌, ◌%◌, ◌<◌, ◌≤◌, List, [], ◌∷◌, length, Some, None, min, refl, sym, ap, ◌∙◌, subst, arith, append-nil}
-use Rattle.std.specs.Prelude.{slice_get}
-use Rattle.lil_resolved.specs.Kinds.{Kind}
+use Rattle.std.specs.Prelude.{slice_get, map}
+use Rattle.lil_resolved.specs.declared.resolved.RModule.{RModule}
+use Rattle.lil_resolved.specs.declared.resolved.RDeclared.{RDeclared}
 use Rattle.lil_resolved.specs.Resolved.{Resolved}
+use Rattle.lil_resolved.specs.Views.{shape_declared, module_of}
 use Rattle.lil_resolved.specs.Sizes.{frame_words, code_size, IsSound}
 use Rattle.lil_asm.specs.declared.instr.Instr.TheVariants.{Ent, Rtn}
 use Rattle.lil_table.specs.Rows.{IsAt, TranslatesBy, Translates, offsets_from, layout_by, exactly, cut}
@@ -13,13 +15,13 @@ use Rattle.lil_labels.specs.Emitting.{emits_then, emits_as}
 use Rattle.lil_stmt.specs.Generating.{Body}
 use Rattle.lil_unit.specs.Framing.{Framed}
 
-offset_at : (kinds : List Kind) (first x : ℕ) → x < length kinds → slice_get (offsets_from first kinds) x ≡ Some (first + x)
+offset_at : (vs : List RDeclared) (first x : ℕ) → x < length (map shape_declared vs) → slice_get (offsets_from first (map shape_declared vs)) x ≡ Some (first + x)
 offset_at [] first x h = absurd (omega arith)
-offset_at (k ∷ kinds) first zero h = ap Some (omega arith)
-offset_at (k ∷ kinds) first (suc x) h = offset_at kinds (suc first) x (omega arith) ∙ ap Some (omega arith)
+offset_at (v ∷ vs) first zero h = ap Some (omega arith)
+offset_at (v ∷ vs) first (suc x) h = offset_at vs (first + 1) x (omega arith) ∙ ap Some (omega arith)
 
 -- the layout of a program module is plain
-layout_plain : (target : ℕ → ℕ) (m : Resolved) → IsPlain (layout_by target m)
+layout_plain : (target : ℕ → ℕ) (m : RModule) → IsPlain (layout_by target (module_of m))
 layout_plain target m x h = offset_at m.variables 0 x h ∙ ap Some (omega arith)
 
 pub framed : (m : Resolved) (words : ℕ) (a b c : Draft) → words ≡ frame_words m.body → Emits empty a (Doing (λ w. Ent words)) → Emits a b (Body 0 None m.body) → Emits b c (Doing (λ w. Rtn)) → Emits empty c (Framed m)
@@ -28,14 +30,17 @@ framed m words a b c is enter body leave =
     (λ x t. record { start = length a.bytes; end = length b.bytes; enter = subst (λ (w : ℕ). IsAt x.code 0 (Ent w) (length a.bytes)) is t.0; body = t.1.0; leave = t.1.1 })
     (emits_then empty a c _ _ enter (emits_then a b c _ _ body leave))
 
-module _ (m : Resolved) (d : Draft) (sound : IsSound m) (frame : frame_words m.body ≤ 65535) (emitted : Emits empty d (Framed m)) where
+module _ (r : RModule) (d : Draft) (sound : IsSound (module_of r)) (frame : frame_words (module_of r).body ≤ 65535) (emitted : Emits empty d (Framed (module_of r))) where
+  abbrev m : Resolved
+  m = module_of r
+
   abbrev code : List ℕ
   code = code_of d (settled_word d.places)
 
   settled : (ℕ → ℕ) → Final
   settled target = record {
     layout = layout_by target m;
-    plain = layout_plain target m;
+    plain = layout_plain target r;
     framed = frame;
     word = settled_word d.places;
     code = code;

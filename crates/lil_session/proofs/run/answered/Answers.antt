@@ -2,7 +2,7 @@ use Rattle.std.proofs.Common.{refl, ap}
 use Rattle.lil_mcode.specs.declared.machine.Event.TheVariants.{Went, Request, LevelEnded, Trap, Limit, BadCode}
 use Rattle.lil_mcode.specs.Calls.{Machine}
 use Rattle.lil_match.specs.Running.{Running, Finished, TrappedBy, Limited, Broken}
-use Rattle.lil_session.proofs.Advancing.{step_quiet, step_writes, step_refused, as_event}
+use Rattle.lil_session.proofs.Advancing.{step_quiet, step_left, step_writes, step_refused, as_event}
 use Rattle.lil_mcode.specs.Requests.{request_has}
 use Rattle.lil_session.proofs.Turns.{on_err}
 use Rattle.lil_session.proofs.run.answered.Goals as goal
@@ -20,12 +20,12 @@ returns-in-Went-clause-step g c = λ u h.
 pub returns-in-LevelEnded-clause-step : goal.returns-in-LevelEnded-clause-step
 returns-in-LevelEnded-clause-step g c = λ u h.
     let t = c.args.machine.now.state in
-    step_quiet u t LevelEnded Finished (g.S.Sink.written c.args.screen.now) (as_event u t c.args.event LevelEnded h c.in-LevelEnded.is) (λ w. refl)
+    step_left u t LevelEnded Finished (g.S.Sink.written c.args.screen.now) (as_event u t c.args.event LevelEnded h c.in-LevelEnded.is) (λ w. refl)
 
 pub returns-in-Trap-clause-step : goal.returns-in-Trap-clause-step
 returns-in-Trap-clause-step g c = λ u h.
     let t = c.args.machine.now.state in
-    step_quiet u t (Trap c.in-Trap.kind) (TrappedBy c.in-Trap.kind) (g.S.Sink.written c.args.screen.now) (as_event u t c.args.event (Trap c.in-Trap.kind) h c.in-Trap.is) (λ w. refl)
+    step_left u t (Trap c.in-Trap.kind) (TrappedBy c.in-Trap.kind) (g.S.Sink.written c.args.screen.now) (as_event u t c.args.event (Trap c.in-Trap.kind) h c.in-Trap.is) (λ w. refl)
 
 pub returns-in-Limit-clause-step : goal.returns-in-Limit-clause-step
 returns-in-Limit-clause-step g c = λ u h.

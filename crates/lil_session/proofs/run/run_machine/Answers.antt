@@ -1,4 +1,8 @@
-use Rattle.std.proofs.Common.{◌≡◌, ◌≢◌, ℕ, ◌+◌, ◌-◌, Some, None, refl, subst, ◌∙◌, arith}
+use Rattle.std.proofs.Common.{◌≡◌, ◌≢◌, ℕ, ◌+◌, ◌-◌, Option, Some, None, Ok, refl, sym, ap, subst, ◌∙◌, arith}
+use Rattle.lil_mcode.specs.State.{State}
+use Rattle.lil_mcode.specs.Calls.{Machine}
+use Rattle.lil_mcode.specs.Stops.{IsStop, stop_stays}
+use Rattle.lil_session.specs.declared.run.Ending.{Ending}
 use Rattle.lil_session.specs.declared.run.Ending.TheVariants as ending
 use Rattle.lil_session.specs.Running.{finish_of}
 use Rattle.lil_session.proofs.Turns.{Come, on_err, come_first, come_next, come_gone, run_ends, run_spent, run_cut, ending_over, ap_some, step_as, step_goes, is_none}
@@ -11,9 +15,6 @@ loop-left-init g c =
     let none : 0 ≡ c.args.steps - c.args.steps = omega arith in
     record {
       within = omega arith;
-      same_modules = refl;
-      same_module = refl;
-      alone = c.requires;
       quiet = refl;
       come = λ w e. subst (λ (k : ℕ). Come s s k old old w) none (come_first s old w e);
     }
@@ -25,11 +26,11 @@ returns-in_err-end-clause-cut g c =
     let old = g.S.Sink.written c.args.screen.now in
     let mid = g.S.Sink.written c.loop-left.screen in
     let k = c.args.steps - c.loop-left.left in
-    let ran = c.run_alone-event.ensures.ran in
+    let ran = c.run-event.ensures.ran in
     on_err c.from_residual.result
     (λ w e.
     run_cut from ran.before (k + ran.others) c.args.steps old mid (g.S.Sink.written c.answered.new.screen) w
-    (omega (arith, ran.count, c.run_alone-event.ensures.within, c.loop-left.invariant.within))
+    (omega (arith, ran.count, c.run-event.ensures.within, c.loop-left.invariant.within))
     (come_gone from s ran.before k ran.others old mid w (c.loop-left.invariant.come w e) ran.came) (c.in_err-end.ensures.refused ran.before ran.last))
 
 pub returns-in-Some-clause-ran : goal.returns-in-Some-clause-ran
@@ -42,10 +43,10 @@ returns-in-Some-clause-ran g c =
     let mid = g.S.Sink.written c.loop-left.screen in
     let new = g.S.Sink.written c.answered.new.screen in
     let k = c.args.steps - c.loop-left.left in
-    let ran = c.run_alone-event.ensures.ran in
+    let ran = c.run-event.ensures.ran in
     let differs : Some c.in-Some.end ≢ Some ending.Spent = ap_some c.in_ok-end.field-0 c.in-Some.end c.in-Some.is c.in_ok-end.ensures.unspent in
     run_ends from ran.before t (k + ran.others) c.args.steps (finish_of c.in-Some.end) old mid new w
-    (omega (arith, ran.count, c.run_alone-event.ensures.within, c.loop-left.invariant.within)) (ending_over c.in-Some.end differs)
+    (omega (arith, ran.count, c.run-event.ensures.within, c.loop-left.invariant.within)) (ending_over c.in-Some.end differs)
     (come_gone from s ran.before k ran.others old mid w (c.loop-left.invariant.come w e) ran.came)
     (step_as c.in_ok-end.field-0 c.in-Some.end c.in-Some.is ran.before t mid new (c.in_ok-end.ensures.step ran.before ran.last))
 
@@ -58,14 +59,11 @@ loop-left-preserved g c =
     let mid = g.S.Sink.written c.loop-left.screen in
     let new = g.S.Sink.written c.answered.new.screen in
     let k = c.args.steps - c.loop-left.left in
-    let ran = c.run_alone-event.ensures.ran in
+    let ran = c.run-event.ensures.ran in
     let none : c.in_ok-end.field-0 ≡ None = is_none c.in_ok-end.field-0 c.in_default.not-Some in
-    let far : k + ran.others + 1 ≡ c.args.steps - (c.loop-left.left - c.run_alone-event.result.1) = omega (arith, ran.count, c.run_alone-event.ensures.within, c.loop-left.invariant.within) in
+    let far : k + ran.others + 1 ≡ c.args.steps - (c.loop-left.left - c.run-event.result.1) = omega (arith, ran.count, c.run-event.ensures.within, c.loop-left.invariant.within) in
     record {
       within = omega (arith, c.loop-left.invariant.within);
-      same_modules = c.in_ok-end.ensures.modules ∙ (c.run_alone-event.ensures.modules ∙ c.loop-left.invariant.same_modules);
-      same_module = c.in_ok-end.ensures.running ∙ (c.run_alone-event.ensures.running ∙ c.loop-left.invariant.same_module);
-      alone = c.in_ok-end.ensures.alone;
       quiet = c.in_ok-end.ensures.cause.quiet ∙ c.loop-left.invariant.quiet;
       come = λ w e.
           subst (λ (n : ℕ). Come from t n old new w) far
@@ -80,3 +78,11 @@ returns-clause-ran g c =
     let k = c.args.steps - c.loop-left.left in
     run_spent c.args.machine.now.state c.loop-left.machine.state k c.args.steps (g.S.Sink.written c.args.screen.now) (g.S.Sink.written c.loop-left.screen) w
     (omega (arith, c.loop-left.invariant.within, c.loop-left-test.false)) (c.loop-left.invariant.come w e)
+
+-- a trap changes nothing, so the module looked at last is the one that runs
+pub returns-in-Some-clause-at : goal.returns-in-Some-clause-at
+returns-in-Some-clause-at g c = λ k e.
+    let looked = c.in_ok-end.ensures.at k (ap (λ (o : Option Ending). Ok o) (c.in-Some.is ∙ ap (λ (x : Ending). Some x) e)) in
+    let ran = c.run-event.ensures.ran in
+    let stopped : c.run-event.new.self.state ≡ ran.before = stop_stays ran.before c.run-event.new.self.state c.run-event.result.0 ran.last (subst IsStop (sym looked.0) tt) in
+    ap (λ (m : Machine). m.at_module) looked.1 ∙ ran.in_module ∙ ap (λ (s : State). s.running) (sym stopped) ∙ ap (λ (m : Machine). m.state.running) (sym looked.1)

@@ -1,7 +1,6 @@
 use Rattle.std.proofs.Common.{◌≡◌, ◌-◌, ◌≤◌, []}
 use Rattle.lil_meaning.specs.World.{World}
 use Rattle.lil_volume.specs.Told.{followed_by}
-use Rattle.lil_session.specs.Running.{IsAlone}
 use Rattle.lil_match.specs.Running.{mrun, running}
 use Rattle.lil_session.proofs.run.run_machine.Given as goal
 
@@ -9,9 +8,6 @@ use Rattle.lil_session.proofs.run.run_machine.Given as goal
 abbrev pub invariant-loop-left : goal.invariant-loop-left
 invariant-loop-left g l = record {
   within : l.left ≤ l.fn.steps;
-  same_modules : l.machine.state.modules ≡ l.fn.machine.state.modules;
-  same_module : l.machine.state.running ≡ l.fn.machine.state.running;
-  alone : IsAlone l.machine.state;
   quiet : g.S.Sink.faults l.screen ≡ g.S.Sink.faults l.fn.screen;
   come : (w : World) → w.screen ≡ [] → (v : World) × (mrun (l.fn.steps - l.left) (running l.fn.machine.state w) ≡ running l.machine.state v) × (g.S.Sink.written l.screen ≡ followed_by (g.S.Sink.written l.fn.screen) v.screen);
 }

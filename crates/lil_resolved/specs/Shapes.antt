@@ -1,4 +1,4 @@
--- Shapes: which scalars lie under a root, by their paths, and how many words they take.
+-- Shapes: which scalars lie in a variable or an object, by their paths, and how many words they take.
 use Rattle.std.specs.Prelude.{ℕ, zero, suc, ◌+◌, ◌*◌, List, [], ◌∷◌, nat_lt, if◌then◌else◌}
 use Rattle.lil_resolved.specs.Kinds.{Kind}
 
@@ -30,3 +30,8 @@ offset (Join a b) (zero ∷ p) = offset a p
 offset (Join a b) (suc x ∷ p) = words a + offset b (x ∷ p)
 offset (Row n t) (x ∷ p) = x * words t + offset t p
 offset _ (x ∷ p) = 0
+
+-- the words of variables one behind another
+abbrev pub all_words : List Shape → ℕ
+all_words [] = 0
+all_words (t ∷ ts) = words t + all_words ts

@@ -1,0 +1,105 @@
+-- From a program module that is loaded alone.
+use Rattle.std.proofs.Common.{◌≡◌, ℕ, zero, suc, ◌+◌, ◌*◌, ◌<◌, ◌≤◌, true, Option, Some, None, List, [], ◌∷◌, map, refl, sym, ap, ◌∙◌, arith}
+use Rattle.std.specs.Prelude.{nat_le, slice_get}
+use Rattle.std.proofs.lemmas.Bool.{le-leb}
+use Rattle.std.proofs.lemmas.Option.{none-some, same_Some}
+use Rattle.lil_base.specs.declared.fault.TrapKind.{TrapKind}
+use Rattle.lil_resolved.specs.Shapes.{all_words}
+use Rattle.lil_resolved.specs.Resolved.{Statement, Assign, If, Case, While, Repeat, Loop, For, Statements, Empty, Then, Arms, NoElse, Else, Arm, Resolved}
+use Rattle.lil_resolved.specs.Depth.{statement_loops, body_loops, arms_loops, frame_words}
+use Rattle.lil_resolved.specs.Sizes.{IsSmall, statement_size, body_size, arms_size}
+use Rattle.lil_meaning.specs.World.{World}
+use Rattle.lil_meaning.specs.Items.{Phase, Trapped}
+use Rattle.lil_meaning.specs.Runs.{state_of}
+use Rattle.lil_mcode.specs.State.{Module, State, module_at}
+use Rattle.lil_table.specs.Rows.{Translates}
+use Rattle.lil_match.specs.Running.{mrun, running}
+use Rattle.lil_match.specs.Parts.{yes}
+use Rattle.lil_laws.specs.Loading.{Compiled, entry_for, table_from, image, body_alone, loaded}
+use Rattle.lil_laws.specs.Whole.{TrapsIn, Unlimited, Agrees}
+use Rattle.lil_laws.specs.Start as all
+use Rattle.lil_laws.specs.Start.{Body}
+
+-- the words of the FORs are fewer than the bytes of the code
+mutual
+  statement_small : (s : Statement) → 3 * statement_loops s ≤ statement_size s
+  statement_small (Assign d k e) = omega arith
+  statement_small (If c a b) = omega (arith, body_small a, body_small b)
+  statement_small (Case e arms) = omega (arith, arms_small arms)
+  statement_small (While c body) = omega (arith, body_small body)
+  statement_small (Repeat body c) = omega (arith, body_small body)
+  statement_small (Loop body) = omega (arith, body_small body)
+  statement_small (For d k a b step body) = omega (arith, body_small body)
+  statement_small _ = omega arith
+
+  body_small : (b : Statements) → 3 * body_loops b ≤ body_size b
+  body_small Empty = omega arith
+  body_small (Then s ss) = omega (arith, statement_small s, body_small ss)
+
+  arms_small : (a : Arms) → 3 * arms_loops a ≤ arms_size a
+  arms_small NoElse = omega arith
+  arms_small (Else body) = omega (arith, body_small body)
+  arms_small (Arm labels body rest) = omega (arith, body_small body, arms_small rest)
+
+module _ (p : Resolved) (code : List ℕ) (small : IsSmall p) (t : Translates p code) where
+  abbrev one : Compiled
+  one = record { text = p; code = code; procedures = body_alone; body = refl; translates = t }
+
+  abbrev its_body : Body (one ∷ [])
+  its_body = record { index = 0; its = one; there = refl }
+
+  abbrev pub table : List Module
+  table = table_from 1 (one ∷ [])
+
+  abbrev pub begins : State
+  begins = image (one ∷ []) 1 []
+
+  room : 1 + all_words p.variables + frame_words p.body ≤ 65535
+  room = omega (arith, body_small p.body, small.code, small.variables)
+
+  -- what was loaded
+  pub loaded_state : (loaded p code).state ≡ begins
+  loaded_state =
+      let room : nat_le (1 + all_words p.variables + 4) 65535 ≡ true = le-leb (1 + all_words p.variables + 4) 65535 (omega (arith, small.variables)) in
+      yes _ _ _ room
+
+  pub record Correct (w : World) (steps : ℕ) : Type 0 where
+    pub n : ℕ
+    pub agrees : Agrees table true (state_of p w n) (mrun steps (running begins w))
+    pub far : Unlimited (mrun steps (running begins w)) → steps < 32 * n + 33
+
+  pub correct : (w : World) (steps : ℕ) → Correct w steps
+  correct w steps = let c = all.correct (one ∷ []) its_body [] room w steps in record { n = c.n; agrees = c.agrees; far = c.far }
+
+  pub record Reached (w : World) (n : ℕ) : Type 0 where
+    pub steps : ℕ
+    pub screen : (mrun steps (running begins w)).world.screen ≡ (state_of p w n).world.screen
+
+  pub reached : (w : World) (n : ℕ) → Reached w n
+  reached w n = let r = all.reached (one ∷ []) its_body [] room refl w n in record { steps = r.steps; screen = r.screen }
+
+  -- the one module of the table
+  abbrev pub own : Module
+  own = entry_for one 1
+
+  -- a trap is in its body
+  pub own_traps : (k : TrapKind) (m : State) (e : Phase) → (r : TrapsIn table k m e) → own ≡ r.own
+  own_traps k m e r = by m.running r.known
+    where
+      by : (n : ℕ) → module_at table n ≡ Some r.own → own ≡ r.own
+      by zero there = cc
+      by (suc zero) there = same_Some own r.own there
+      by (suc (suc n)) there = cc
+
+  pub alone_traps : (k : TrapKind) (m : State) (e : Phase) → TrapsIn table k m e → e ≡ Trapped (record { kind = k; «module» = p.name; procedure = None })
+  alone_traps k m e r =
+      let same = own_traps k m e r in
+      let bare : r.name ≡ None = in_body r.number r.own.procedures (ap (λ (m : Module). m.procedures) same) r.procedure.there in
+      r.is
+      ∙ ap (λ (m : Module). Trapped (record { kind = k; «module» = m.name; procedure = r.name })) (sym same)
+      ∙ ap (λ (x : Option (List ℕ)). Trapped (record { kind = k; «module» = p.name; procedure = x })) bare
+    where
+      in_body : (n : ℕ) (ps : List (ℕ × Option (List ℕ))) → body_alone ≡ ps → slice_get ps n ≡ Some (r.procedure.entry, r.name) → r.name ≡ None
+      in_body zero ps same there =
+          sym (ap (λ (x : ℕ × Option (List ℕ)). x.1) (same_Some (0, None) (r.procedure.entry, r.name) (ap (λ (x : List (ℕ × Option (List ℕ))). slice_get x 0) same ∙ there)))
+      in_body (suc n) ps same there = absurd (none-some (r.procedure.entry, r.name) (ap (λ (x : List (ℕ × Option (List ℕ))). slice_get x (suc n)) same ∙ there))

@@ -1,0 +1,239 @@
+-- Where the variables of loaded modules lie, and that their fresh cells are there.
+use Rattle.std.proofs.Common.{◌≡◌, ℕ, zero, suc, ◌+◌, ◌-◌, ◌<◌, ◌≤◌, true, cond, Option, Some, None, List, [], ◌∷◌, length, map, get_or, refl, sym, ap, ◌∙◌, subst, arith, ◌⊎◌, ⊎_elim}
+use Rattle.std.specs.Prelude.{pos, slice_get, nat_lt, option_map, option_and_then}
+use Rattle.std.proofs.lemmas.Bool.{le-ltb, lt-ltb, cases_lt}
+use Rattle.std.proofs.lemmas.Int.{ints}
+use Rattle.std.proofs.lemmas.Option.{slice_get-map}
+use Rattle.lil_base.specs.Words.{Cardinal, between}
+use Rattle.lil_resolved.specs.Kinds.{Kind, OfWhole, OfEnumeration, OfRange, base_of}
+use Rattle.lil_resolved.specs.Scalars.{within, scalar_word, zero_of}
+use Rattle.lil_resolved.specs.Shapes.{Shape, Word, words, all_words, part_at, offset}
+use Rattle.lil_resolved.specs.Resolved.{Resolved}
+use Rattle.lil_meaning.specs.Cells.{Root, Global, Local, Object, loaded_at, variables_of, shape_by, first_shape, zero_in, fresh_cells}
+use Rattle.lil_mcode.specs.State.{Module, zeros, cleared, spliced}
+use Rattle.lil_table.specs.Rows.{offsets_from}
+use Rattle.lil_match.specs.Parts.{yes, no, part_fits, word_long}
+use Rattle.lil_match.specs.Homes.{word_for, plain_word, Owner, Of, Own, Free, Home, Mem}
+use Rattle.lil_match.specs.Splices.{spliced_length, spliced_before, spliced_there, spliced_after, zeros_length, zeros_word}
+use Rattle.lil_laws.specs.Loading.{Compiled, text_of, data_of, data_end, entry_for, table_from, numbers_from, data_cleared}
+
+-- the first word of a module's data
+abbrev pub place_from : ℕ → List Compiled → ℕ → ℕ
+place_from base [] n = base
+place_from base (o ∷ os) zero = base
+place_from base (o ∷ os) (suc n) = place_from (base + data_of o) os n
+
+-- the first word of a variable, behind a place
+abbrev pub variable_from : ℕ → List Shape → ℕ → ℕ
+variable_from base [] x = base
+variable_from base (t ∷ ts) zero = base
+variable_from base (t ∷ ts) (suc x) = variable_from (base + words t) ts x
+
+abbrev variables_in : Option Compiled → List Shape
+variables_in o = variables_of (option_map text_of o)
+
+abbrev pub place_of : List Compiled → Root → ℕ
+place_of os (Global (suc n) x) = variable_from (place_from 1 os n) (variables_in (slice_get os n)) x
+place_of os _ = 0
+
+-- the variable that has a word
+abbrev variable_at : ℕ → List Shape → (m x a : ℕ) → Option Root
+variable_at base [] m x a = None
+variable_at base (t ∷ ts) m x a = cond (nat_lt a (base + words t)) (Some (Global m x)) (variable_at (base + words t) ts m (suc x) a)
+
+abbrev root_at : ℕ → List Compiled → (m a : ℕ) → Option Root
+root_at base [] m a = None
+root_at base (o ∷ os) m a = cond (nat_lt a (base + data_of o)) (variable_at base o.text.variables m 0 a) (root_at (base + data_of o) os (suc m) a)
+
+abbrev owner_by : ℕ → Option Root → Owner
+owner_by base None = Free base
+owner_by base (Some r) = Of r
+
+-- ---- what is loaded
+pub number_at : (n : ℕ) (os : List Compiled) (i : ℕ) → slice_get (numbers_from n os) i ≡ option_map (λ o. n + i) (slice_get os i)
+number_at n [] i = refl
+number_at n (o ∷ os) zero = ap Some (let e : n ≡ n + 0 = omega arith in e)
+number_at n (o ∷ os) (suc i) = number_at (suc n) os i ∙ by (slice_get os i)
+  where
+    by : (p : Option Compiled) → option_map (λ o. suc n + i) p ≡ option_map (λ o. n + suc i) p
+    by None = refl
+    by (Some o) = ap Some (let e : suc n + i ≡ n + suc i = omega arith in e)
+
+pub text_at : (os : List Compiled) (i : ℕ) → loaded_at (map text_of os) (numbers_from 0 os) (suc i) ≡ option_map text_of (slice_get os i)
+text_at os i = ap (option_and_then (slice_get (map text_of os))) (number_at 0 os i) ∙ by (slice_get os i) refl
+  where
+    by : (p : Option Compiled) → slice_get os i ≡ p → option_and_then (slice_get (map text_of os)) (option_map (λ o. 0 + i) p) ≡ option_map text_of p
+    by None e = refl
+    by (Some o) e = ap (slice_get (map text_of os)) (let z : 0 + i ≡ i = omega arith in z) ∙ slice_get-map text_of os i ∙ ap (option_map text_of) e
+
+pub table_there : (base : ℕ) (os : List Compiled) (n : ℕ) (o : Compiled) → slice_get os n ≡ Some o → slice_get (table_from base os) n ≡ Some (entry_for o (place_from base os n))
+table_there base [] n o e = cc
+table_there base (x ∷ os) zero o e = ap (λ (y : Compiled). Some (entry_for y base)) (let same : x ≡ o = cc in same)
+table_there base (x ∷ os) (suc n) o e = table_there (base + data_of x) os n o e
+
+-- a variable lies where its offset says
+pub variable_offset : (ts : List Shape) (base first x o : ℕ) → slice_get (offsets_from first ts) x ≡ Some o → variable_from (base + first) ts x ≡ base + o
+variable_offset [] base first x o e = cc
+variable_offset (t ∷ ts) base first zero o e = let same : first ≡ o = cc in omega arith
+variable_offset (t ∷ ts) base first (suc x) o e =
+    ap (λ (b : ℕ). variable_from b ts x) (let sum : base + first + words t ≡ base + (first + words t) = omega arith in sum) ∙ variable_offset ts base (first + words t) x o e
+
+-- ---- each word of a variable is its own
+pub record IsIn (low high a : ℕ) : Type 0 where
+  pub from : low ≤ a
+  pub below : a < high
+
+variable_owned : (base : ℕ) (ts : List Shape) (m y x i : ℕ) → i < words (shape_by (slice_get ts x))
+    → (variable_at base ts m y (variable_from base ts x + i) ≡ Some (Global m (y + x))) × IsIn base (base + all_words ts) (variable_from base ts x + i)
+variable_owned base [] m y x i less = absurd (omega (arith, less))
+variable_owned base (t ∷ ts) m y zero i less = (
+  yes _ _ _ (lt-ltb (base + i) (base + words t) (omega (arith, less))) ∙ ap (λ (n : ℕ). Some (Global m n)) (let e : y ≡ y + 0 = omega arith in e),
+  record { from = omega arith; below = omega (arith, less) },
+)
+variable_owned base (t ∷ ts) m y (suc x) i less =
+    let rest = variable_owned (base + words t) ts m (suc y) x i less in (
+      no _ _ _ (le-ltb (variable_from (base + words t) ts x + i) (base + words t) (omega (arith, rest.1.from))) ∙ rest.0 ∙ ap (λ (n : ℕ). Some (Global m n)) (let e : suc y + x ≡ y + suc x = omega arith in e),
+      record { from = omega (arith, rest.1.from); below = omega (arith, rest.1.below) },
+    )
+
+end_above : (base : ℕ) (os : List Compiled) → base ≤ data_end base os
+end_above base [] = omega arith
+end_above base (o ∷ os) = omega (arith, end_above (base + data_of o) os)
+
+root_owned : (base : ℕ) (os : List Compiled) (m n x i : ℕ) (o : Compiled) → slice_get os n ≡ Some o → i < words (shape_by (slice_get o.text.variables x))
+    → (root_at base os m (variable_from (place_from base os n) o.text.variables x + i) ≡ Some (Global (m + n) x)) × IsIn base (data_end base os) (variable_from (place_from base os n) o.text.variables x + i)
+root_owned base [] m n x i o e less = cc
+root_owned base (p ∷ os) m zero x i o e less =
+    let same : p ≡ o = cc in
+    let there = variable_owned base p.text.variables m 0 x i (subst (λ (q : Compiled). i < words (shape_by (slice_get q.text.variables x))) (sym same) less) in
+    let above = end_above (base + data_of p) os in
+    subst (λ (q : Compiled). (root_at base (p ∷ os) m (variable_from base q.text.variables x + i) ≡ Some (Global (m + 0) x)) × IsIn base (data_end base (p ∷ os)) (variable_from base q.text.variables x + i)) same (
+      yes _ _ _ (lt-ltb (variable_from base p.text.variables x + i) (base + data_of p) (omega (arith, there.1.below))) ∙ there.0
+          ∙ ap (λ (y : ℕ). Some (Global m y)) (let e : 0 + x ≡ x = omega arith in e) ∙ ap (λ (n : ℕ). Some (Global n x)) (let e : m ≡ m + 0 = omega arith in e),
+      record { from = there.1.from; below = omega (arith, there.1.below, above) },
+    )
+root_owned base (p ∷ os) m (suc n) x i o e less =
+    let rest = root_owned (base + data_of p) os (suc m) n x i o e less in (
+      no _ _ _ (le-ltb (variable_from (place_from (base + data_of p) os n) o.text.variables x + i) (base + data_of p) (omega (arith, rest.1.from))) ∙ rest.0 ∙ ap (λ (n : ℕ). Some (Global n x)) (let e : suc m + n ≡ m + suc n = omega arith in e),
+      record { from = omega (arith, rest.1.from); below = rest.1.below },
+    )
+
+-- ---- words that are zero
+pub record IsBlank (store : List ℕ) : Type 0 where
+  pub long : length store ≡ 65536
+  pub zero_at : (a : ℕ) → a < 65536 → get_or store a 0 ≡ 0
+
+cleared_blank : (store : List ℕ) (from to : ℕ) → from ≤ to → to ≤ 65536 → IsBlank store → IsBlank (cleared store from to)
+cleared_blank store from to order within' blank = record {
+  long = spliced_length store from (zeros (to - from)) (omega (arith, room)) ∙ blank.long;
+  zero_at = λ a less. by a less (cases_lt a from) (cases_lt a to);
+}
+  where
+    room : from + length (zeros (to - from)) ≤ length store
+    room = omega (arith, zeros_length (to - from), order, within', blank.long)
+
+    by : (a : ℕ) → a < 65536 → (a < from) ⊎ (from ≤ a) → (a < to) ⊎ (to ≤ a) → get_or (cleared store from to) a 0 ≡ 0
+    by a less below here = ⊎_elim
+        (λ (b : a < from). spliced_before store from (zeros (to - from)) a room b ∙ blank.zero_at a less)
+        (λ (f : from ≤ a). ⊎_elim
+        (λ (b : a < to).
+        ap (λ (z : ℕ). get_or (cleared store from to) z 0) (let e : a ≡ from + (a - from) = omega (arith, f) in e)
+        ∙ spliced_there store from (zeros (to - from)) (a - from) room (omega (arith, zeros_length (to - from), f, b))
+        ∙ zeros_word (to - from) (a - from) (omega (arith, f, b)))
+        (λ (b : to ≤ a). spliced_after store from (zeros (to - from)) a room (omega (arith, zeros_length (to - from), order, b)) ∙ blank.zero_at a less)
+        here)
+        below
+
+pub data_blank : (store : List ℕ) (base : ℕ) (os : List Compiled) → data_end base os ≤ 65536 → IsBlank store → IsBlank (data_cleared store base os)
+data_blank store base [] room blank = blank
+data_blank store base (o ∷ os) room blank =
+    data_blank (cleared store base (base + data_of o)) (base + data_of o) os room
+    (cleared_blank store base (base + data_of o) (omega arith) (omega (arith, room, end_above (base + data_of o) os)) blank)
+
+pub zeros_blank : IsBlank (zeros 65536)
+zeros_blank = record { long = zeros_length 65536; zero_at = λ a less. zeros_word 65536 a less }
+
+-- ---- zero as a word
+zero_word : (k : Kind) → scalar_word (zero_of k) ≡ 0
+zero_word (OfRange k low high) = zero_word k
+zero_word _ = refl
+
+zero_constant : (n : ℕ) → between (pos 0) (pos 0) (pos n) ≡ true
+zero_constant n = grind (arith, ints)
+
+zero_fits : (k : Kind) → within (base_of k) (zero_of k) ≡ true
+zero_fits (OfWhole Cardinal) = refl
+zero_fits (OfEnumeration n) = zero_constant (n - 1)
+zero_fits (OfRange k low high) = zero_fits k
+zero_fits _ = refl
+
+-- ---- the home where the first body begins: data, then its frame of so many words, then room
+module _ (os : List Compiled) (size : ℕ) (store : List ℕ) where
+  abbrev pub end : ℕ
+  end = data_end 1 os
+
+  abbrev owner_at : ℕ → Owner
+  owner_at a = cond (nat_lt a 1) (Free end) (cond (nat_lt a end) (owner_by end (root_at 1 os 1 a)) (cond (nat_lt a (end + size)) Own (Free end)))
+
+  abbrev pub home : Home
+  home = record { base = place_of os; shape = first_shape (map text_of os) (numbers_from 0 os); owner = owner_at; shadow = λ a. get_or store a 0; reference = λ o. 0 }
+
+  pub above : 1 ≤ data_end 1 os
+  above = end_above 1 os
+
+  pub owner_own : (a : ℕ) → data_end 1 os ≤ a → a < data_end 1 os + size → home.owner a ≡ Own
+  owner_own a from below =
+      no (nat_lt a 1) _ _ (le-ltb a 1 (omega (arith, from, above)))
+      ∙ no (nat_lt a end) _ _ (le-ltb a end from)
+      ∙ yes (nat_lt a (end + size)) _ _ (lt-ltb a (end + size) below)
+
+  pub owner_free : (a : ℕ) → data_end 1 os + size ≤ a → home.owner a ≡ Free (data_end 1 os)
+  owner_free a from =
+      no (nat_lt a 1) _ _ (le-ltb a 1 (omega (arith, from, above)))
+      ∙ no (nat_lt a end) _ _ (le-ltb a end (omega (arith, from)))
+      ∙ no (nat_lt a (end + size)) _ _ (le-ltb a (end + size) from)
+
+  -- a word of a root that lives is a word of a module's variable
+  record HasWord (r : Root) (i : ℕ) : Type 0 where
+    pub owned : root_at 1 os 1 (place_of os r + i) ≡ Some r
+    pub inside : IsIn 1 (data_end 1 os) (place_of os r + i)
+
+  has_word : (r : Root) (i : ℕ) → i < words (home.shape r) → HasWord r i
+  has_word (Global zero x) i less = absurd (omega (arith, less))
+  has_word (Global (suc n) x) i less =
+      by (slice_get os n) refl (subst (λ (o : Option Resolved). i < words (shape_by (slice_get (variables_of o) x))) (text_at os n) less)
+    where
+      by : (o : Option Compiled) → slice_get os n ≡ o → i < words (shape_by (slice_get (variables_in (slice_get os n)) x)) → HasWord (Global (suc n) x) i
+      by None e less = absurd (let l = subst (λ (o : Option Compiled). i < words (shape_by (slice_get (variables_in o) x))) e less in omega (arith, l))
+      by (Some o) e less =
+          let w = root_owned 1 os 1 n x i o e (subst (λ (o : Option Compiled). i < words (shape_by (slice_get (variables_in o) x))) e less) in
+          let at : variable_from (place_from 1 os n) o.text.variables x + i ≡ place_of os (Global (suc n) x) + i =
+          ap (λ (p : Option Compiled). variable_from (place_from 1 os n) (variables_in p) x + i) (sym e) in
+          record {
+            owned = ap (root_at 1 os 1) (sym at) ∙ w.0 ∙ ap (λ (m : ℕ). Some (Global m x)) (let e : 1 + n ≡ suc n = omega arith in e);
+            inside = subst (IsIn 1 (data_end 1 os)) at w.1;
+          }
+  has_word (Local a x) i less = absurd (omega (arith, less))
+  has_word (Object o) i less = absurd (omega (arith, less))
+
+  -- the cells of what was loaded are there where all data are zero
+  pub mem : data_end 1 os ≤ 65536 → length store ≡ 65536 → ((a : ℕ) → a < data_end 1 os → get_or store a 0 ≡ 0) → Mem home (fresh_cells (map text_of os) (numbers_from 0 os)) store
+  mem room long blank = record {
+    owned = λ r i l.
+        let w = has_word r i l in
+        no (nat_lt (place_of os r + i) 1) _ _ (le-ltb (place_of os r + i) 1 w.inside.from)
+        ∙ yes (nat_lt (place_of os r + i) end) _ _ (lt-ltb (place_of os r + i) end w.inside.below)
+        ∙ ap (owner_by end) w.owned;
+    inside = λ r i l. let w = has_word r i l in omega (arith, w.inside.below, room);
+    holds = λ r q k e.
+        let long = word_long (part_at (home.shape r) q) k e in
+        let fits : offset (home.shape r) q < words (home.shape r) = omega (arith, part_fits (home.shape r) q long, long) in
+        let w = has_word r (offset (home.shape r) q) fits in
+        let cell : fresh_cells (map text_of os) (numbers_from 0 os) r q ≡ zero_of k = ap zero_in e in
+        record {
+          word = blank (place_of os r + offset (home.shape r) q) w.inside.below ∙ sym (zero_word k) ∙ sym (plain_word home (base_of k) (zero_of k) (zero_fits k)) ∙ ap (word_for home) (sym cell);
+          fits = ap (within (base_of k)) cell ∙ zero_fits k;
+        };
+    kept = λ a e. refl;
+    long = long;
+  }
