@@ -49,7 +49,7 @@ fn meant(t: &TypeTable, n: TypeId) -> TypeId
 
 /// How a type is built, None for a standard type.
 #[tactic(auto, unfolding(crate::specs::Forms::shape))]
-fn shape(t: &TypeTable, n: TypeId) -> Option<&TypeForm>
+pub fn shape(t: &TypeTable, n: TypeId) -> Option<&TypeForm>
     ensures { option_copied result ≡ spec.shape t.now n }
 {
     match entry(t, meant(t, n)) {

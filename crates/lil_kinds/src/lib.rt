@@ -8,7 +8,8 @@ mod relations;
 
 pub use forms::{
     ArrayParts, FieldAt, arity, array_parts, element_span, field, has_nil, is_char_array,
-    is_opaque, is_record, is_routine, parameter, parameters, result, set_base, span_of, target,
+    is_opaque, is_record, is_routine, parameter, parameters, result, set_base, shape, span_of,
+    target,
 };
 pub use found::{Applied, Found, Standing};
 pub use operators::{extreme, function, one, operand_type, two};

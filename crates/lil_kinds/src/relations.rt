@@ -7,7 +7,7 @@ ghost use Rattle.lil_kinds.specs.Kinds as spec;
 
 use crate::forms::{ArrayParts, array_parts, has_nil, is_routine, parameters, result, span_of};
 use lil_scope::Kind;
-use lil_types::{CARDINAL, CHAR, INTEGER, Parameter, Span, TypeId, TypeTable, base, same};
+use lil_types::{CARDINAL, CHAR, INTEGER, Parameter, Span, TypeId, TypeTable, base, same, values};
 
 /// The type of an operand, where it has one.
 pub(crate) fn sort_of(a: Kind) -> Option<TypeId>
@@ -108,14 +108,6 @@ fn conforms(t: &TypeTable, s: TypeId, r: TypeId) -> bool
         && is_routine(t, r)
         && same_parameters(t, parameters(t, s), parameters(t, r))
         && same_result(t, result(t, s), result(t, r))
-}
-
-/// How many numbers there are from one to another.
-fn values(low: i32, high: i32) -> u64
-    ensures { result ≡ types.values (types.span low high) }
-{
-    let count = i64::from(high) - i64::from(low) + 1;
-    if count < 0 { 0 } else { count as u64 }
 }
 
 fn has_room(span: Option<Span>, count: usize) -> bool

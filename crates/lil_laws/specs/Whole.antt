@@ -30,15 +30,24 @@ pub record TrapsIn (table : List Module) (k : TrapKind) (machine : State) (p : P
   pub procedure : HasName own.procedures number name
   pub is : p ≡ Trapped (record { kind = k; «module» = own.name; procedure = name })
 
--- The run has the world of the source's state, and is over only where the source is, in the same way, but at a limit: it comes only where
--- not all bodies have room.
+-- what is said of the source by how the run stands: a limit comes only where not all bodies have room
+abbrev pub Claims : List Module → Bool → State → Phase → Finish → Type 0
+Claims table roomy machine p Running = p ≡ Going
+Claims table roomy machine p Finished = p ≡ Ended
+Claims table roomy machine p (TrappedBy k) = TrapsIn table k machine p
+Claims table roomy machine p (Limited k) = roomy ≡ false
+Claims table roomy machine p Broken = ⊥
+
+-- The run has the world of the source's state, and is over only where the source is, in the same way, but at a limit.
 pub record Agrees (table : List Module) (roomy : Bool) (t : Source) (run : Run) : Type 0 where
   pub world : run.world ≡ t.world
-  pub runs : run.finish ≡ Running → t.phase ≡ Going
-  pub ends : run.finish ≡ Finished → t.phase ≡ Ended
-  pub traps : (k : TrapKind) → run.finish ≡ TrappedBy k → TrapsIn table k run.machine t.phase
-  pub limits : (k : LimitKind) → run.finish ≡ Limited k → roomy ≡ false
-  pub never_broken : run.finish ≢ Broken
+  pub claims : Claims table roomy run.machine t.phase run.finish
+
+pub claimed : {table : List Module} {roomy : Bool} {t : Source} {run : Run} (f : Finish) → Agrees table roomy t run → run.finish ≡ f → Claims table roomy run.machine t.phase f
+claimed {table} {roomy} {t} {run} f a is = subst (λ (x : Finish). Claims table roomy run.machine t.phase x) is a.claims
+
+agree : (table : List Module) (roomy : Bool) (t : Source) (run : Run) (f : Finish) → run.world ≡ t.world → run.finish ≡ f → Claims table roomy run.machine t.phase f → Agrees table roomy t run
+agree table roomy t run f w is claims = record { world = w; claims = subst (λ (x : Finish). Claims table roomy run.machine t.phase x) (sym is) claims }
 
 pub mrun_add : (i n j : ℕ) (run : Run) → n ≡ i + j → mrun n run ≡ mrun j (mrun i run)
 mrun_add zero n j run e = let same : n ≡ j = omega arith in ap (λ (x : ℕ). mrun x run) same
@@ -120,48 +129,21 @@ closed_screen library end (suc n) s e first = by (closing 1 s.world) refl (λ v.
     by (Some v) is rest = ap (λ (t : Source). (after library n t).world.screen) (one_closed library end s v e first is) ∙ rest v ∙ (closing_shuts 1 s.world v is).screen
 
 pub still_agrees : (table : List Module) (roomy : Bool) (s : Source) (k : List Item) (run : Run) → IsStill s.world run → Agrees table roomy (record s { items = k; phase = Going }) run
-still_agrees table roomy s k run h = record {
-  world = h.world;
-  runs = λ e. refl;
-  ends = λ e. absurd (let r = h.finish in cc);
-  traps = λ j e. absurd (let r = h.finish in cc);
-  limits = λ j e. absurd (let r = h.finish in cc);
-  never_broken = λ e. let r = h.finish in cc;
-}
-
-ended_agrees : (table : List Module) (roomy : Bool) (s : Source) (run : Run) → s.phase ≡ Ended → run.finish ≡ Finished → run.world ≡ s.world → Agrees table roomy s run
-ended_agrees table roomy s run over f w = record {
-  world = w;
-  runs = λ e. absurd (let r = f in cc);
-  ends = λ e. over;
-  traps = λ j e. absurd (let r = f in cc);
-  limits = λ j e. absurd (let r = f in cc);
-  never_broken = λ e. let r = f in cc;
-}
+still_agrees table roomy s k run h = agree table roomy (record s { items = k; phase = Going }) run Running h.world h.finish refl
 
 trapped_agrees : (table : List Module) (roomy : Bool) (s : Source) (run : Run) (t : TrapAt) (number : ℕ) (own : Module) → s.phase ≡ Trapped t → run.finish ≡ TrappedBy t.kind → run.world ≡ s.world
     → run.machine.modules ≡ table → module_at table run.machine.running ≡ Some own → t.«module» ≡ own.name → HasName own.procedures number t.procedure → Agrees table roomy s run
-trapped_agrees table roomy s run t number own over f w same_table known named procedure = record {
-  world = w;
-  runs = λ e. absurd (let r = f in cc);
-  ends = λ e. absurd (let r = f in cc);
-  traps = λ j e.
-      let two : TrappedBy t.kind ≡ TrappedBy j = sym f ∙ e in
-      let kind : t.kind ≡ j = cc in
-      record {
-        table_is = same_table;
-        own = own;
-        known = known;
-        number = number;
-        name = t.procedure;
-        procedure = procedure;
-        is = over
-            ∙ ap (λ (x : TrapKind). Trapped (record { kind = x; «module» = t.«module»; procedure = t.procedure })) kind
-            ∙ ap (λ (x : List ℕ). Trapped (record { kind = j; «module» = x; procedure = t.procedure })) named;
-      };
-  limits = λ j e. absurd (let r = f in cc);
-  never_broken = λ e. let r = f in cc;
-}
+trapped_agrees table roomy s run t number own over f w same_table known named procedure =
+    agree table roomy s run (TrappedBy t.kind) w f
+    (record {
+      table_is = same_table;
+      own = own;
+      known = known;
+      number = number;
+      name = t.procedure;
+      procedure = procedure;
+      is = over ∙ ap (λ (x : List ℕ). Trapped (record t { «module» = x })) named;
+    })
 
 -- a run that met no limit
 abbrev pub Unlimited : Run → Type 0
@@ -221,12 +203,12 @@ module _ (ctx : Setting) where
       (subst (λ (r : Run). Follows (record s { items = s.items; phase = Going }) r steps c) (sym lands.is)
       (claim x y s s.items lands.machine c lands.met.around (rests, lands.met.shared, lands.met.ahead, fewer) has))
   landed steps P claim x y rests fewer Ended s run c e lands has =
-      over_follows s run steps c (ended_agrees table roomy s run e lands.finish lands.world) (ended_rests library s e) (run_over run Finished lands.finish (λ f. cc))
+      over_follows s run steps c (agree table roomy s run Finished lands.world lands.finish e) (ended_rests library s e) (run_over run Finished lands.finish (λ f. cc))
   landed steps P claim x y rests fewer (Closing None) s run c e lands has =
       let closed : Source = record s { world = all_closed 1 s.world; phase = Ended } in
       let is = is_closed library None (closings_left 1 s.world) s e lands.first refl in
       later_follows s closed run steps c is.steps is.is
-      (over_follows closed run steps c (ended_agrees table roomy closed run refl lands.finish lands.world) (ended_rests library closed refl) (run_over run Finished lands.finish (λ f. cc)))
+      (over_follows closed run steps c (agree table roomy closed run Finished lands.world lands.finish refl) (ended_rests library closed refl) (run_over run Finished lands.finish (λ f. cc)))
   landed steps P claim x y rests fewer (Closing (Some t)) s run c e lands has =
       let closed : Source = record s { world = all_closed 1 s.world; phase = Trapped t } in
       let gone = lands.is_left in
@@ -267,14 +249,7 @@ module _ (ctx : Setting) where
         let finish : (mrun steps (running m s.world)).finish ≡ Limited f.kind = ap (λ (r : Run). r.finish) stays ∙ f.finish in
         record {
           n = 0;
-          agrees = record {
-            world = ap (λ (r : Run). r.world) stays ∙ f.world;
-            runs = λ e. absurd (let r = finish in cc);
-            ends = λ e. absurd (let r = finish in cc);
-            traps = λ j e. absurd (let r = finish in cc);
-            limits = λ j e. fewer f.short;
-            never_broken = λ e. let r = finish in cc;
-          };
+          agrees = agree table roomy (At s k) (mrun steps (running m s.world)) (Limited f.kind) (ap (λ (r : Run). r.world) stays ∙ f.world) finish (fewer f.short);
           far = λ u. absurd (u f.kind finish);
         }
 

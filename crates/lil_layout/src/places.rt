@@ -1,15 +1,12 @@
 //! What designators name.
 
 ghost use Rattle.std.specs.Prelude.{◌≡◌, slice_get};
-ghost use Rattle.std.specs.Option.{option_copied};
-ghost use Rattle.lil_types.specs.Types.{meant as meant_type, other_of as other_type};
-ghost use Rattle.lil_kinds.specs.Forms.{shape as form_of};
 ghost use Rattle.lil_layout.specs.Places as spec;
 ghost use Rattle.lil_layout.specs.Strings as strings;
 
-use lil_kinds::{array_parts, parameters, target};
+use lil_kinds::{array_parts, parameters, shape, target};
 use lil_module::{Mode, RCallee, RDesignator, RModule, RRoot, RSelector, RVar, Resident};
-use lil_types::{CHAR, Parameter, TypeForm, TypeId, TypeTable, entry};
+use lil_types::{CHAR, Parameter, TypeForm, TypeId, TypeTable};
 
 /// What is named: something of a type, or an open array with elements of a type.
 #[derive(Clone, Copy, PartialEq, Eq)]
@@ -23,36 +20,6 @@ pub(crate) enum Sort {
 pub(crate) enum Withs<'a> {
     Outermost,
     Inside(&'a Withs<'a>, Option<Sort>),
-}
-
-fn other_of(n: TypeId, form: &TypeForm) -> TypeId
-    ensures { result ≡ other_type n form.now }
-{
-    match form {
-        TypeForm::Opaque(Some(other)) => *other,
-        _ => n,
-    }
-}
-
-/// The type that a number means: that of its implementation, where it is an opaque type that has one.
-fn meant(t: &TypeTable, n: TypeId) -> TypeId
-    ensures { result ≡ meant_type t.now n }
-{
-    match entry(t, n) {
-        Some(e) => other_of(n, &e.form),
-        None => n,
-    }
-}
-
-/// How a type is built, None for a standard type.
-#[tactic(auto, unfolding(lil_kinds::specs::Forms::shape))]
-fn shape(t: &TypeTable, n: TypeId) -> Option<&TypeForm>
-    ensures { option_copied result ≡ form_of t.now n }
-{
-    match entry(t, meant(t, n)) {
-        Some(e) => Some(&e.form),
-        None => None,
-    }
 }
 
 fn field_of(number: usize, form: &TypeForm) -> Option<TypeId>

@@ -1,6 +1,6 @@
 -- Samples of the definitions, computed.
 use Rattle.std.proofs.Common.{◌≡◌, ℕ, pos, negsuc, Bool, true, false, List, [], ◌∷◌, ◌++◌, Some, None, refl}
-use Rattle.std.specs.Prelude.{Ok, Err}
+use Rattle.std.specs.Prelude.{Result, Ok, Err, codes}
 use Rattle.lil_base.specs.Words.{Cardinal, Integer}
 use Rattle.lil_base.specs.declared.fault.TrapKind.TheVariants as trap
 use Rattle.lil_base.specs.declared.operator.TwoOp.TheVariants.{Equal, Less, AtLeast, Div, Mod}
@@ -14,63 +14,28 @@ use Rattle.lil_meaning.specs.Items.{Looping, Turns, Item, Perform, Ended, Trappe
 use Rattle.lil_meaning.specs.Steps.{applied, function_value, chosen, turns, exited}
 use Rattle.lil_meaning.specs.Runs.{state_of}
 
--- ---- the turns of FOR
-up_to_the_greatest : turns (pos 65534) (pos 65535) (pos 1) ≡ 2
-up_to_the_greatest = refl
-
-none_downward : turns (pos 3) (pos 1) (pos 1) ≡ 0
-none_downward = refl
-
-down_by_two : turns (pos 5) (pos 1) (negsuc 1) ≡ 3
-down_by_two = refl
-
-past_the_limit : turns (pos 1) (pos 6) (pos 2) ≡ 3
-past_the_limit = refl
+-- ---- the turns of FOR: up to the greatest number, none downward, down by two, and past the limit
+turn_counts : turns (pos 65534) (pos 65535) (pos 1) ∷ turns (pos 3) (pos 1) (pos 1) ∷ turns (pos 5) (pos 1) (negsuc 1) ∷ turns (pos 1) (pos 6) (pos 2) ∷ [] ≡ 2 ∷ 0 ∷ 3 ∷ 3 ∷ []
+turn_counts = refl
 
 -- ---- DIV rounds toward zero, and MOD is what it leaves
-quotient_of_seven : applied Div (OfWhole Integer) (Number (negsuc 6)) (Number (pos 2)) ≡ Ok (Number (negsuc 2))
-quotient_of_seven = refl
-
-rest_of_seven : applied Mod (OfWhole Integer) (Number (negsuc 6)) (Number (pos 2)) ≡ Ok (Number (negsuc 0))
-rest_of_seven = refl
-
-least_by_minus_one : applied Div (OfWhole Integer) (Number (negsuc 32767)) (Number (negsuc 0)) ≡ Err trap.Overflow
-least_by_minus_one = refl
-
-by_zero : applied Mod (OfWhole Cardinal) (Number (pos 7)) (Number (pos 0)) ≡ Err trap.Divisor
-by_zero = refl
+whole_numbers : applied Div (OfWhole Integer) (Number (negsuc 6)) (Number (pos 2)) ∷ applied Mod (OfWhole Integer) (Number (negsuc 6)) (Number (pos 2)) ∷ applied Div (OfWhole Integer) (Number (negsuc 32767)) (Number (negsuc 0))
+    ∷ applied Mod (OfWhole Cardinal) (Number (pos 7)) (Number (pos 0)) ∷ [] ≡ Ok (Number (negsuc 2)) ∷ Ok (Number (negsuc 0)) ∷ Err trap.Overflow ∷ Err trap.Divisor ∷ []
+whole_numbers = refl
 
 -- ---- a number that no value of a kind has is tested before it becomes one
-no_truth_value : function_value (Val OfTruth) (Number (pos 2)) ≡ Err trap.Range
-no_truth_value = refl
-
-below_truth_values : function_value (Val OfTruth) (Number (negsuc 0)) ≡ Err trap.Range
-below_truth_values = refl
-
-a_truth_value : function_value (Val OfTruth) (Number (pos 1)) ≡ Ok (Truth true)
-a_truth_value = refl
-
-no_value_of_a_range : function_value (Val (OfRange OfTruth (pos 1) (pos 1))) (Number (pos 2)) ≡ Err trap.Range
-no_value_of_a_range = refl
-
-false_outside_a_range : function_value (Val (OfRange OfTruth (pos 1) (pos 1))) (Number (pos 0)) ≡ Err trap.Range
-false_outside_a_range = refl
-
-no_character : function_value Chr (Number (pos 256)) ≡ Err trap.Range
-no_character = refl
+no_values : function_value (Val OfTruth) (Number (pos 2)) ∷ function_value (Val OfTruth) (Number (negsuc 0)) ∷ function_value (Val OfTruth) (Number (pos 1)) ∷ function_value (Val (OfRange OfTruth (pos 1) (pos 1))) (Number (pos 2))
+    ∷ function_value (Val (OfRange OfTruth (pos 1) (pos 1))) (Number (pos 0)) ∷ function_value Chr (Number (pos 256)) ∷ []
+    ≡ Err trap.Range ∷ Err trap.Range ∷ Ok (Truth true) ∷ Err trap.Range ∷ Err trap.Range ∷ Err trap.Range ∷ []
+no_values = refl
 
 a_character_of_a_range : value_with (OfRange OfCharacter (pos 65) (pos 90)) (pos 65) ≡ Some (Character 65)
 a_character_of_a_range = refl
 
 -- ---- values are compared as their kind says, and what has no number isn't compared
-same_characters : applied Equal OfCharacter (Character 65) (Character 65) ≡ Ok (Truth true)
-same_characters = refl
-
-other_truth_values : applied Less OfTruth (Truth false) (Truth true) ≡ Ok (Truth true)
-other_truth_values = refl
-
-in_a_range : applied AtLeast (OfRange (OfWhole Integer) (negsuc 4) (pos 4)) (Number (negsuc 0)) (Number (pos 3)) ≡ Ok (Truth false)
-in_a_range = refl
+comparisons : applied Equal OfCharacter (Character 65) (Character 65) ∷ applied Less OfTruth (Truth false) (Truth true) ∷ applied AtLeast (OfRange (OfWhole Integer) (negsuc 4) (pos 4)) (Number (negsuc 0)) (Number (pos 3)) ∷ []
+    ≡ Ok (Truth true) ∷ Ok (Truth true) ∷ Ok (Truth false) ∷ []
+comparisons = refl
 
 sets_are_no_numbers : (s t : ℕ → Bool) → applied Equal (OfWhole Cardinal) (SetOf s) (SetOf t) ≡ Ok Nothing
 sets_are_no_numbers s t = refl
@@ -177,15 +142,7 @@ a_trap_behind_closings w = refl
 an_end_behind_closings : (w : World) → (state_of (program []) (busy w) 4).phase ≡ Ended
 an_end_behind_closings w = refl
 
--- ---- pieces
-seventeen : piece_of 5 (Single 17 ∷ Single 4 ∷ []) ≡ 32 ∷ 32 ∷ 49 ∷ 55 ∷ []
-seventeen = refl
-
-the_least_integer : piece_of 6 (Single 32768 ∷ Single 1 ∷ []) ≡ 45 ∷ 51 ∷ 50 ∷ 55 ∷ 54 ∷ 56 ∷ []
-the_least_integer = refl
-
-the_greatest_word : piece_of 7 (Single 65535 ∷ Single 0 ∷ []) ≡ 49 ∷ 55 ∷ 55 ∷ 55 ∷ 55 ∷ 55 ∷ []
-the_greatest_word = refl
-
-in_hexadecimal : piece_of 8 (Single 48879 ∷ Single 5 ∷ []) ≡ 32 ∷ 66 ∷ 69 ∷ 69 ∷ 70 ∷ []
-in_hexadecimal = refl
+-- ---- pieces: a number with blanks before it, the least INTEGER, the greatest word in octal, and one in hexadecimal
+pieces : piece_of 5 (Single 17 ∷ Single 4 ∷ []) ∷ piece_of 6 (Single 32768 ∷ Single 1 ∷ []) ∷ piece_of 7 (Single 65535 ∷ Single 0 ∷ []) ∷ piece_of 8 (Single 48879 ∷ Single 5 ∷ []) ∷ []
+    ≡ codes "  17" ∷ codes "-32768" ∷ codes "177777" ∷ codes " BEEF" ∷ []
+pieces = refl

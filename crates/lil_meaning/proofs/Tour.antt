@@ -1,5 +1,5 @@
 -- The program of docs/TOUR.md, step by step.
-use Rattle.std.proofs.Common.{◌≡◌, ℕ, pos, List, [], ◌∷◌, ◌++◌, refl}
+use Rattle.std.proofs.Common.{◌≡◌, ℕ, pos, List, [], ◌∷◌, ◌++◌, map, refl}
 use Rattle.lil_base.specs.Words.{Cardinal}
 use Rattle.lil_base.specs.declared.operator.TwoOp.TheVariants.{Plus, Times}
 use Rattle.lil_resolved.specs.Kinds.{Kind, OfWhole, OfCharacter}
@@ -59,89 +59,44 @@ sum = Fill (LeftOf Plus k (n 2)) ∷ chr
 abbrev product : List Item
 product = Fill (LeftOf Times k (n 9)) ∷ sum
 
-s0 : (w : World) → (at w 0).items ≡ Perform (Do (Assign c k (n 7))) ∷ rest
-s0 w = refl
+abbrev left : World → ℕ → List Item
+left w i = (at w i).items
 
-s1 : (w : World) → (at w 1).items ≡ PlaceOf c ∷ Fill (SetTo k (n 7)) ∷ rest
-s1 w = refl
+-- what is left to do after each number of steps
+steps : (w : World) → map (left w) (0 ∷ 1 ∷ 2 ∷ 3 ∷ 4 ∷ 5 ∷ 6 ∷ 7 ∷ 8 ∷ 9 ∷ 10 ∷ 11 ∷ 12 ∷ 13 ∷ 14 ∷ 15 ∷ 16 ∷ 17 ∷ 18 ∷ 19 ∷ 20 ∷ 21 ∷ 22 ∷ 23 ∷ []) ≡
+    (Perform (Do (Assign c k (n 7))) ∷ rest) ∷
+    (PlaceOf c ∷ Fill (SetTo k (n 7)) ∷ rest) ∷
+    (Value (Places place) ∷ Fill (SetTo k (n 7)) ∷ rest) ∷
+    (Evaluate (n 7) ∷ Fill (StoreAt place k) ∷ rest) ∷
+    (v 7 ∷ Fill (StoreAt place k) ∷ rest) ∷
+    (rest) ∷
+    (Perform (Passing 2 [] given) ∷ end) ∷
+    (Evaluate (Apply Chr plus) ∷ pass) ∷
+    (Evaluate plus ∷ chr) ∷
+    (Evaluate times ∷ sum) ∷
+    (Evaluate (Taken c k) ∷ product) ∷
+    (PlaceOf c ∷ Fill Get ∷ product) ∷
+    (Value (Places place) ∷ Fill Get ∷ product) ∷
+    (v 7 ∷ product) ∷
+    (Evaluate (n 9) ∷ Fill (RightOf Times k (Number (pos 7))) ∷ sum) ∷
+    (v 9 ∷ Fill (RightOf Times k (Number (pos 7))) ∷ sum) ∷
+    (v 63 ∷ sum) ∷
+    (Evaluate (n 2) ∷ Fill (RightOf Plus k (Number (pos 63))) ∷ chr) ∷
+    (v 2 ∷ Fill (RightOf Plus k (Number (pos 63))) ∷ chr) ∷
+    (v 65 ∷ chr) ∷
+    (Value (Scalars (Character 65)) ∷ pass) ∷
+    (Perform (Passing 2 (Scalars (Character 65) ∷ []) []) ∷ end) ∷
+    (end) ∷
+    ([]) ∷
+    []
+steps w = refl
 
-s2 : (w : World) → (at w 2).items ≡ Value (Places place) ∷ Fill (SetTo k (n 7)) ∷ rest
-s2 w = refl
+-- what is stored, shown, and how it ends
+stored : (w : World) → got (at w 5).cells place ≡ Number (pos 7)
+stored w = refl
 
-s3 : (w : World) → (at w 3).items ≡ Evaluate (n 7) ∷ Fill (StoreAt place k) ∷ rest
-s3 w = refl
+shown : (w : World) → ((at w 21).world.screen ≡ w.screen) × ((at w 22).world.screen ≡ w.screen ++ 65 ∷ [])
+shown w = (refl, refl)
 
-s4 : (w : World) → (at w 4).items ≡ v 7 ∷ Fill (StoreAt place k) ∷ rest
-s4 w = refl
-
-s5 : (w : World) → (at w 5).items ≡ rest
-s5 w = refl
-
-c5 : (w : World) → got (at w 5).cells place ≡ Number (pos 7)
-c5 w = refl
-
-s6 : (w : World) → (at w 6).items ≡ Perform (Passing 2 [] given) ∷ end
-s6 w = refl
-
-s7 : (w : World) → (at w 7).items ≡ Evaluate (Apply Chr plus) ∷ pass
-s7 w = refl
-
-s8 : (w : World) → (at w 8).items ≡ Evaluate plus ∷ chr
-s8 w = refl
-
-s9 : (w : World) → (at w 9).items ≡ Evaluate times ∷ sum
-s9 w = refl
-
-s10 : (w : World) → (at w 10).items ≡ Evaluate (Taken c k) ∷ product
-s10 w = refl
-
-s11 : (w : World) → (at w 11).items ≡ PlaceOf c ∷ Fill Get ∷ product
-s11 w = refl
-
-s12 : (w : World) → (at w 12).items ≡ Value (Places place) ∷ Fill Get ∷ product
-s12 w = refl
-
-s13 : (w : World) → (at w 13).items ≡ v 7 ∷ product
-s13 w = refl
-
-s14 : (w : World) → (at w 14).items ≡ Evaluate (n 9) ∷ Fill (RightOf Times k (Number (pos 7))) ∷ sum
-s14 w = refl
-
-s15 : (w : World) → (at w 15).items ≡ v 9 ∷ Fill (RightOf Times k (Number (pos 7))) ∷ sum
-s15 w = refl
-
-s16 : (w : World) → (at w 16).items ≡ v 63 ∷ sum
-s16 w = refl
-
-s17 : (w : World) → (at w 17).items ≡ Evaluate (n 2) ∷ Fill (RightOf Plus k (Number (pos 63))) ∷ chr
-s17 w = refl
-
-s18 : (w : World) → (at w 18).items ≡ v 2 ∷ Fill (RightOf Plus k (Number (pos 63))) ∷ chr
-s18 w = refl
-
-s19 : (w : World) → (at w 19).items ≡ v 65 ∷ chr
-s19 w = refl
-
-s20 : (w : World) → (at w 20).items ≡ Value (Scalars (Character 65)) ∷ pass
-s20 w = refl
-
-s21 : (w : World) → (at w 21).items ≡ Perform (Passing 2 (Scalars (Character 65) ∷ []) []) ∷ end
-s21 w = refl
-
-x21 : (w : World) → (at w 21).world.screen ≡ w.screen
-x21 w = refl
-
-s22 : (w : World) → (at w 22).items ≡ end
-s22 w = refl
-
-x22 : (w : World) → (at w 22).world.screen ≡ w.screen ++ 65 ∷ []
-x22 w = refl
-
-s23 : (w : World) → (at w 23).items ≡ []
-s23 w = refl
-
-p23 : (w : World) → (at w 23).phase ≡ Going
-p23 w = refl
-
-p24 : (w : World) → (at w 24).phase ≡ Ended
-p24 w = refl
+ends : (w : World) → ((at w 23).phase ≡ Going) × ((at w 24).phase ≡ Ended)
+ends w = (refl, refl)

@@ -23,14 +23,14 @@ use Rattle.lil_session.specs.declared.status.Status.TheVariants as a
 use Rattle.lil_resolved.specs.Sizes.{IsSmall}
 use Rattle.lil_table.specs.Rows.{Translates}
 use Rattle.lil_session.specs.Running.{finish_of, HasRun, IsCut, IsRefused}
-use Rattle.lil_match.specs.Running.{Finish, Running, Run, mrun, running, react, advanced, unless_over}
+use Rattle.lil_match.specs.Running.{Finish, Running, Finished, TrappedBy, Limited, Broken, Run, mrun, running, react, advanced, unless_over}
 use Rattle.lil_session.specs.Loaded.{IsIn, IsTrapOf, EndingAnswers, IsPossible}
 use Rattle.lil_laws.specs.Loading.{body_alone}
 use Rattle.lil_session.specs.Outcome.{settled, Shows, Allowed, EndsSo, IsOver, MeansAnswer, IsRunAnswer, Blames}
 use Rattle.lil_meaning.specs.Runs.{begun, state_of}
 use Rattle.lil_session.proofs.Screens.{next_piece}
 use Rattle.lil_session.proofs.Cuts.{whole_piece}
-use Rattle.lil_laws.specs.Whole.{TrapsIn, mrun_add}
+use Rattle.lil_laws.specs.Whole.{TrapsIn, claimed, mrun_add}
 use Rattle.lil_laws.specs.Alone.{table, own, own_traps, begins, correct, reached, alone_traps}
 
 -- some world in which nothing was shown
@@ -96,14 +96,14 @@ module _ (p : Resolved) (code : List ℕ) (small : IsSmall p) (t : Translates p 
     traps : (k : TrapKind) (w : World) → Ran (ending.Trapped k) w → TrapsIn its k machine.state (state_of p w (correct p code small t w steps).n).phase
     traps k w ran =
         let c = correct p code small t w steps in
-        subst (λ (m : State). TrapsIn its k m (state_of p w c.n).phase) (sym ran.machine) (c.agrees.traps k (sym ran.finish))
+        subst (λ (m : State). TrapsIn its k m (state_of p w c.n).phase) (sym ran.machine) (claimed (TrappedBy k) c.agrees (sym ran.finish))
 
     -- a limit and bad code never come
     pub possible : (e : Ending) → ((w : World) → w.screen ≡ [] → Ran e w) → Looked e → IsPossible machine e
     possible (ending.Trapped k) ran at =
         (own p code small t, is_in machine k (state_of p some_world (correct p code small t some_world steps).n).phase (at k refl) (traps k some_world (ran some_world some_blank)))
-    possible (ending.Limited k) ran at = absurd (true≢false ((correct p code small t some_world steps).agrees.limits k (sym (ran some_world some_blank).finish)))
-    possible ending.Broken ran at = absurd ((correct p code small t some_world steps).agrees.never_broken (sym (ran some_world some_blank).finish))
+    possible (ending.Limited k) ran at = absurd (true≢false (claimed (Limited k) (correct p code small t some_world steps).agrees (sym (ran some_world some_blank).finish)))
+    possible ending.Broken ran at = absurd (claimed Broken (correct p code small t some_world steps).agrees (sym (ran some_world some_blank).finish))
     possible _ ran at = tt
 
     -- the phase that the meaning has come to
@@ -111,7 +111,7 @@ module _ (p : Resolved) (code : List ℕ) (small : IsSmall p) (t : Translates p 
     there w = (state_of p w (correct p code small t w steps).n).phase
 
     allowed : (e : Ending) (s : Status) (w : World) → Ran e w → EndingAnswers machine e s → Looked e → Allowed s (there w)
-    allowed ending.Done s w ran is at = subst (λ (y : Status). Allowed y (there w)) (sym is) ((correct p code small t w steps).agrees.ends (sym ran.finish))
+    allowed ending.Done s w ran is at = subst (λ (y : Status). Allowed y (there w)) (sym is) (claimed Finished (correct p code small t w steps).agrees (sym ran.finish))
     allowed (ending.Trapped k) s w ran (inl memory) at = subst (λ (y : Status). Allowed y (there w)) (sym memory) tt
     allowed (ending.Trapped k) s w ran (inr (u, is, it)) at = subst (λ (y : Status). Allowed y (there w)) (sym is) (one_trap machine k (there w) (at k refl) (traps k w ran) u it)
     allowed ending.Spent s w ran is at = subst (λ (y : Status). Allowed y (there w)) (sym is) tt
@@ -148,7 +148,7 @@ module _ (p : Resolved) (code : List ℕ) (small : IsSmall p) (t : Translates p 
     pub means_end : (e : Ending) (s : Status) (w : World) → Ran e w → EndingAnswers machine e s → Looked e → settled s ≡ true → (s ≡ a.StepsSpent) ⊎ MeansAnswer p w s
     means_end ending.Done s w ran is at ok =
         let c = correct p code small t w steps in
-        inr (record { steps = c.n; ends = subst (λ (x : Phase). EndsSo x s) (sym (c.agrees.ends (sym ran.finish))) is })
+        inr (record { steps = c.n; ends = subst (λ (x : Phase). EndsSo x s) (sym (claimed Finished c.agrees (sym ran.finish))) is })
     means_end (ending.Trapped k) s w ran (inl memory) at ok = absurd (let e = ap settled memory in cc)
     means_end (ending.Trapped k) s w ran (inr (u, is, it)) at ok =
         inr (record { steps = (correct p code small t w steps).n; ends = subst (λ (x : Phase). EndsSo x s) (sym (one_trap machine k (there w) (at k refl) (traps k w ran) u it)) is })

@@ -12,6 +12,7 @@ use Rattle.lil_table.specs.Rows.{Translates}
 use Rattle.lil_match.specs.Running.{Running, mrun, running}
 use Rattle.lil_laws.specs.Loading.{loaded}
 use Rattle.lil_meaning.specs.Runs.{state_of}
+use Rattle.lil_laws.specs.Whole.{claimed}
 use Rattle.lil_laws.specs.Alone.{loaded_state, correct}
 use Rattle.lil_session.proofs.Screens.{after_first}
 
@@ -44,4 +45,4 @@ module _ (p : Resolved) (code : List ℕ) (small : IsSmall p) (t : Translates p 
   enough w steps runs m le =
       let c = correct p code small t w steps in
       let here = ap (λ (s : State). (mrun steps (running s w)).finish) (sym (loaded_state p code small t)) ∙ runs in
-      going_until (p ∷ []) m c.n (begun (p ∷ []) (0 ∷ []) (1 ∷ []) w) refl (omega (arith, le, c.far (λ k e. let r = here in cc))) (c.agrees.runs here)
+      going_until (p ∷ []) m c.n (begun (p ∷ []) (0 ∷ []) (1 ∷ []) w) refl (omega (arith, le, c.far (λ k e. let r = here in cc))) (claimed Running c.agrees here)

@@ -22,21 +22,40 @@ const ALL_X: [u8; 333] = [b'x'; 333];
 
 const NOT_BUILT: &[u8] = b"MODULE N; PROCEDURE P; END P; END N.";
 
+const HELLO_MOD: &[u8] = b"Hello.MOD";
+
+const TOO_MANY: &[u8] = b"once Hello.MOD Hello.MOD";
+
+const OVERFLOWS: &[u8] = b"trap overflow in C\n";
+
+const ISNT_BUILT: &[u8] = b"N.MOD:1:11: 90 NotBuilt\n";
+
+const NO_FILE: &[u8] = b"no file Q.MOD\n";
+
+const NO_VOLUME: &[u8] = b"fault volume\n";
+
+const NO_SCREEN: &[u8] = b"fault screen\n";
+
 const USAGE: &[u8] =
     b"usage: lilith compile or run or once or demo, NAME, --steps=N --count --screen\n";
 
-/// A command over a volume of one file, and what is wanted of it.
+/// What is wanted of a command.
 #[derive(Clone, Copy)]
-struct Case {
-    words: &'static [&'static [u8]],
-    file: &'static [u8],
-    content: &'static [u8],
+struct Want<'a> {
     /// The numbers of the calls of the volume, the screen and the report that fail; 0 for none.
     fails: [u64; 3],
     status: u8,
-    shown: &'static [u8],
-    reported: &'static [u8],
+    shown: &'a [u8],
+    reported: &'a [u8],
 }
+
+/// Of one that ends and shows nothing.
+const NOTHING: Want<'static> = Want {
+    fails: [0, 0, 0],
+    status: 0,
+    shown: b"",
+    reported: b"",
+};
 
 fn one(alloc: Global, number: u64) -> Result<Vec<u64>, Fail> {
     let mut numbers = Vec::new(alloc);
@@ -53,610 +72,402 @@ fn volume_of(alloc: Global, file: &[u8], text: Bytes, fails: u64) -> Result<RamV
     Ok(RamVolume::new(alloc, files, one(alloc, fails)?)?)
 }
 
-/// Does the command of a case with this text in its file.
-fn check(rt: &impl Abort, alloc: Global, case: &Case, text: Bytes) -> Result<(), Fail> {
-    let [volume_fails, screen_fails, report_fails] = case.fails;
-    let mut volume = volume_of(alloc, case.file, text, volume_fails)?;
+/// The words of a line, of which there is none where it is empty.
+fn words_of(alloc: Global, line: &[u8]) -> Result<Vec<Text>, Fail> {
+    let mut words = Vec::new(alloc);
+    let mut word = Text::new(alloc);
+    for byte in line {
+        if *byte == b' ' {
+            words.push(word)?;
+            word = Text::new(alloc);
+        } else {
+            word.push(*byte)?;
+        }
+    }
+    if !line.is_empty() {
+        words.push(word)?;
+    }
+    Ok(words)
+}
+
+/// A text between two others.
+fn around(alloc: Global, before: &[u8], middle: &[u8], behind: &[u8]) -> Result<Bytes, Fail> {
+    let mut text = Bytes::from_slice(alloc, before)?;
+    text.extend(middle)?;
+    text.extend(behind)?;
+    Ok(text)
+}
+
+/// Does a command over a volume of one file with this text.
+fn check(
+    rt: &impl Abort,
+    alloc: Global,
+    line: &[u8],
+    file: &[u8],
+    text: Bytes,
+    want: Want<'_>,
+) -> Result<(), Fail> {
+    let [volume_fails, screen_fails, report_fails] = want.fails;
+    let mut volume = volume_of(alloc, file, text, volume_fails)?;
     let mut keys = RamKeys::new(alloc, Bytes::new(alloc), Vec::new(alloc))?;
     let mut screen = RamSink::new(alloc, Bytes::new(alloc), one(alloc, screen_fails)?)?;
     let mut report = RamSink::new(alloc, Bytes::new(alloc), one(alloc, report_fails)?)?;
     let mut rack: Rack = Rack::new(alloc);
-    let mut words = Vec::new(alloc);
-    for word in case.words {
-        words.push(Text::from_slice(alloc, word)?)?;
-    }
     let status = lilith(
         alloc,
-        &words,
+        &words_of(alloc, line)?,
         &mut volume,
         &mut keys,
         &mut screen,
         &mut report,
         &mut rack,
     );
-    assert_eq!(rt; status.code(), case.status);
-    assert_eq!(rt; screen.written().as_slice(), case.shown);
-    assert_eq!(rt; report.written().as_slice(), case.reported);
+    assert_eq!(rt; status.code(), want.status);
+    assert_eq!(rt; screen.written().as_slice(), want.shown);
+    assert_eq!(rt; report.written().as_slice(), want.reported);
     assert_eq!(rt; keys.calls(), 0);
     Ok(())
 }
 
-const RUNS_HELLO: Case = Case {
-    words: &[b"once", b"Hello.MOD"],
-    file: b"Hello.MOD",
-    content: HELLO,
-    fails: [0, 0, 0],
-    status: 0,
-    shown: b"HI\n",
-    reported: b"",
-};
+/// The texts by the first letters of their names.
+fn text_of(file: &[u8]) -> &'static [u8] {
+    match file.first() {
+        Some(b'H') => HELLO,
+        Some(b'L') => LETTERS,
+        Some(b'C') => OVERFLOW,
+        Some(b'N') => NOT_BUILT,
+        _ => EMPTY,
+    }
+}
 
-const NO_COMMAND: Case = Case {
-    status: 1,
-    shown: b"",
-    reported: USAGE,
-    ..RUNS_HELLO
-};
-
-const RUNS_LETTERS: Case = Case {
-    words: &[b"once", b"L.MOD"],
-    file: b"L.MOD",
-    content: LETTERS,
-    fails: [0, 0, 0],
-    status: 0,
-    shown: b"HI\n",
-    reported: b"",
-};
-
-const RUNS_EMPTY: Case = Case {
-    words: &[b"once", b"E.MOD"],
-    file: b"E.MOD",
-    content: EMPTY,
-    fails: [0, 0, 0],
-    status: 0,
-    shown: b"",
-    reported: b"",
-};
-
-const OVERFLOWS: Case = Case {
-    words: &[b"once", b"C.MOD"],
-    file: b"C.MOD",
-    content: OVERFLOW,
-    fails: [0, 0, 0],
-    status: 5,
-    shown: b"A",
-    reported: b"trap overflow in C\n",
-};
-
-const ISNT_BUILT: Case = Case {
-    words: &[b"once", b"N.MOD"],
-    file: b"N.MOD",
-    content: NOT_BUILT,
-    fails: [0, 0, 0],
-    status: 3,
-    shown: b"",
-    reported: b"N.MOD:1:11: 90 NotBuilt\n",
-};
-
-/// Commands, with devices that fail at one call.
-const COMMANDS: &[Case] = &[
-    RUNS_HELLO,
-    RUNS_LETTERS,
-    RUNS_EMPTY,
-    OVERFLOWS,
-    ISNT_BUILT,
+/// The file of the volume, the words, the calls of its volume, its screen and its report that fail, the status, and what
+/// is shown and reported.
+const COMMANDS: &[(&[u8], &[u8], [u64; 3], u8, &[u8], &[u8])] = &[
+    (HELLO_MOD, b"once Hello.MOD", [0, 0, 0], 0, b"HI\n", b""),
+    (b"L.MOD", b"once L.MOD", [0, 0, 0], 0, b"HI\n", b""),
+    (b"E.MOD", b"once E.MOD", [0, 0, 0], 0, b"", b""),
+    (b"C.MOD", b"once C.MOD", [0, 0, 0], 5, b"A", OVERFLOWS),
+    (b"N.MOD", b"once N.MOD", [0, 0, 0], 3, b"", ISNT_BUILT),
     // words that are no command
-    Case {
-        words: &[],
-        ..NO_COMMAND
-    },
-    Case {
-        words: &[b"once"],
-        ..NO_COMMAND
-    },
-    Case {
-        words: &[b"fly", b"Hello.MOD"],
-        ..NO_COMMAND
-    },
-    Case {
-        words: &[b"once", b"Hello.mod"],
-        ..NO_COMMAND
-    },
-    Case {
-        words: &[b"once", b"Hello"],
-        ..NO_COMMAND
-    },
-    Case {
-        words: &[b"once", b".MOD"],
-        ..NO_COMMAND
-    },
-    Case {
-        words: &[b"once", b"Hello.MOD", b"Hello.MOD"],
-        ..NO_COMMAND
-    },
+    (HELLO_MOD, b"", [0, 0, 0], 1, b"", USAGE),
+    (HELLO_MOD, b"once", [0, 0, 0], 1, b"", USAGE),
+    (HELLO_MOD, b"fly Hello.MOD", [0, 0, 0], 1, b"", USAGE),
+    (HELLO_MOD, b"once Hello.mod", [0, 0, 0], 1, b"", USAGE),
+    (HELLO_MOD, b"once Hello", [0, 0, 0], 1, b"", USAGE),
+    (HELLO_MOD, b"once .MOD", [0, 0, 0], 1, b"", USAGE),
+    (HELLO_MOD, TOO_MANY, [0, 0, 0], 1, b"", USAGE),
     // no such file
-    Case {
-        words: &[b"once", b"Q.MOD"],
-        status: 2,
-        shown: b"",
-        reported: b"no file Q.MOD\n",
-        ..RUNS_HELLO
-    },
+    (HELLO_MOD, b"once Q.MOD", [0, 0, 0], 2, b"", NO_FILE),
     // the volume fails
-    Case {
-        fails: [1, 0, 0],
-        status: 8,
-        shown: b"",
-        reported: b"fault volume\n",
-        ..RUNS_HELLO
-    },
-    Case {
-        fails: [1, 0, 1],
-        status: 8,
-        shown: b"",
-        ..RUNS_HELLO
-    },
+    (HELLO_MOD, b"once Hello.MOD", [1, 0, 0], 8, b"", NO_VOLUME),
+    (HELLO_MOD, b"once Hello.MOD", [1, 0, 1], 8, b"", b""),
     // the screen fails at a letter, or would fail behind the last one
-    Case {
-        fails: [0, 1, 0],
-        status: 10,
-        shown: b"",
-        reported: b"fault screen\n",
-        ..RUNS_LETTERS
-    },
-    Case {
-        fails: [0, 2, 0],
-        status: 10,
-        shown: b"H",
-        reported: b"fault screen\n",
-        ..RUNS_LETTERS
-    },
-    Case {
-        fails: [0, 2, 1],
-        status: 10,
-        shown: b"H",
-        ..RUNS_LETTERS
-    },
-    Case {
-        fails: [0, 4, 0],
-        ..RUNS_LETTERS
-    },
-    Case {
-        fails: [0, 1, 0],
-        ..RUNS_EMPTY
-    },
+    (b"L.MOD", b"once L.MOD", [0, 1, 0], 10, b"", NO_SCREEN),
+    (b"L.MOD", b"once L.MOD", [0, 2, 0], 10, b"H", NO_SCREEN),
+    (b"L.MOD", b"once L.MOD", [0, 2, 1], 10, b"H", b""),
+    (b"L.MOD", b"once L.MOD", [0, 4, 0], 0, b"HI\n", b""),
+    (b"E.MOD", b"once E.MOD", [0, 1, 0], 0, b"", b""),
     // the report fails where there are lines, and isn't called where there are none
-    Case {
-        words: &[b"fly", b"Hello.MOD"],
-        fails: [0, 0, 1],
-        status: 12,
-        reported: b"",
-        ..NO_COMMAND
-    },
-    Case {
-        fails: [0, 0, 1],
-        status: 12,
-        reported: b"",
-        ..OVERFLOWS
-    },
-    Case {
-        fails: [0, 0, 1],
-        status: 12,
-        reported: b"",
-        ..ISNT_BUILT
-    },
-    Case {
-        fails: [0, 0, 1],
-        ..RUNS_LETTERS
-    },
-    Case {
-        fails: [0, 0, 1],
-        ..RUNS_EMPTY
-    },
+    (HELLO_MOD, b"fly Hello.MOD", [0, 0, 1], 12, b"", b""),
+    (b"C.MOD", b"once C.MOD", [0, 0, 1], 12, b"A", b""),
+    (b"N.MOD", b"once N.MOD", [0, 0, 1], 12, b"", b""),
+    (b"L.MOD", b"once L.MOD", [0, 0, 1], 0, b"HI\n", b""),
+    (b"E.MOD", b"once E.MOD", [0, 0, 1], 0, b"", b""),
 ];
 
 /// What a command answers, shows and reports, and which calls it makes.
 #[test]
 fn commands(rt: HostRuntime) -> Result<(), Fail> {
     let alloc = rt.alloc();
-    for case in COMMANDS {
-        check(&rt, alloc, case, Bytes::from_slice(alloc, case.content)?)?;
+    for (file, line, fails, status, shown, reported) in COMMANDS {
+        let want = Want {
+            fails: *fails,
+            status: *status,
+            shown,
+            reported,
+        };
+        let text = Bytes::from_slice(alloc, text_of(file))?;
+        check(&rt, alloc, line, file, text, want)?;
     }
     Ok(())
 }
 
-/// Texts of F.MOD that a fault of reading ends, and the line that is reported: one for each number, and of 10 and 11
-/// several.
+/// Texts of F.MOD that a fault of reading ends, and that fault with its place in the line: one for each number, and of
+/// 10 and 11 several.
 const FAULTS: &[(&[u8], &[u8])] = &[
-    (b"MODULE F; BEGIN ? END F.", b"F.MOD:1:17: 1 BadChar\n"),
-    (b"MODULE F; (* no end", b"F.MOD:1:11: 2 OpenComment\n"),
-    (b"MODULE F; (* (* *) END F.", b"F.MOD:1:11: 2 OpenComment\n"),
-    (
-        b"MODULE F; BEGIN Write(\"A) END F.",
-        b"F.MOD:1:23: 3 OpenString\n",
-    ),
-    (
-        b"MODULE F; BEGIN c := 10DO END F.",
-        b"F.MOD:1:22: 4 BadNumber\n",
-    ),
+    (b"MODULE F; BEGIN ? END F.", b"17: 1 BadChar"),
+    (b"MODULE F; (* no end", b"11: 2 OpenComment"),
+    (b"MODULE F; (* (* *) END F.", b"11: 2 OpenComment"),
+    (b"MODULE F; BEGIN Write(\"A) END F.", b"23: 3 OpenString"),
+    (b"MODULE F; BEGIN c := 10DO END F.", b"22: 4 BadNumber"),
     (
         b"MODULE F; BEGIN c := 65536 END F.",
-        b"F.MOD:1:22: 5 NumberTooLarge\n",
+        b"22: 5 NumberTooLarge",
     ),
     (
         b"MODULE abcdefghijklmnopqrstuvwxyzabcdefghijklmnopqrstuvwxyzabcdefghijklm; END F.",
-        b"F.MOD:1:8: 6 NameTooLong\n",
+        b"8: 6 NameTooLong",
     ),
-    (b"MODULE F; BEGIN c := END F.", b"F.MOD:1:22: 10 Syntax\n"),
+    (b"MODULE F; BEGIN c := END F.", b"22: 10 Syntax"),
     (
         b"MODULE F; CONST c = 1; TYPE t = ARRAY OF CHAR; END F.",
-        b"F.MOD:1:39: 10 Syntax\n",
+        b"39: 10 Syntax",
     ),
-    (b"MODULE F; END F. F", b"F.MOD:1:18: 10 Syntax\n"),
-    (b"MODULE F; END F", b"F.MOD:1:16: 10 Syntax\n"),
+    (b"MODULE F; END F. F", b"18: 10 Syntax"),
+    (b"MODULE F; END F", b"16: 10 Syntax"),
     (
         b"DEFINITION MODULE F; PROCEDURE P; BEGIN END P; END F.",
-        b"F.MOD:1:35: 10 Syntax\n",
+        b"35: 10 Syntax",
     ),
     (
         b"MODULE F; PROCEDURE P; BEGIN END Q; END F.",
-        b"F.MOD:1:34: 11 EndName\n",
+        b"34: 11 EndName",
     ),
-    (b"MODULE F; END G.", b"F.MOD:1:15: 11 EndName\n"),
-    (
-        b"MODULE F; PROCEDURE P; END Q; END G.",
-        b"F.MOD:1:28: 11 EndName\n",
-    ),
+    (b"MODULE F; END G.", b"15: 11 EndName"),
+    (b"MODULE F; PROCEDURE P; END Q; END G.", b"28: 11 EndName"),
     (
         b"MODULE F; BEGIN c := (((((((((((((((((((((((((((((((((((((((((((((((1 END F.",
-        b"F.MOD:1:69: 12 TooNested\n",
+        b"69: 12 TooNested",
     ),
     // units without such a fault, which aren't built or no programs
     (
         b"DEFINITION MODULE F; TYPE t; PROCEDURE P(VAR a, b: t): t; END F.",
-        b"F.MOD:1:1: 80 UnitKind\n",
+        b"1: 80 UnitKind",
     ),
     (
         b"MODULE F; TYPE r = RECORD CASE k: CARDINAL OF 1: a: CHAR | 2 .. 3: b: SET OF [0 .. 7]; END END; END F.",
-        b"F.MOD:1:20: 90 NotBuilt\n",
+        b"20: 90 NotBuilt",
     ),
+    // names of units
+    (b"MODULE InOut;END InOut.", b"8: 76 ReservedModule"),
+    (b"MODULE Y;END Y.", b"8: 77 FileName"),
+    (b"DEFINITION MODULE F;END F.", b"1: 80 UnitKind"),
 ];
 
-/// The smallest texts of faults of names, types and statements, of the unit, and of what isn't built, in a file X.MOD.
+/// The smallest programs with faults of names, types and statements, with too many data, and with what isn't built, in
+/// a file X.MOD, between `MODULE X;` and `END X.`
 const CHECKED: &[(&[u8], &[u8])] = &[
-    (b"MODULE X;BEGIN a:=1 END X.", b"X.MOD:1:16: 20 Unknown\n"),
-    (b"MODULE X;VAR a,a:CHAR;END X.", b"X.MOD:1:16: 21 Twice\n"),
+    (b"BEGIN a:=1 ", b"16: 20 Unknown"),
+    (b"VAR a,a:CHAR;", b"16: 21 Twice"),
+    (b"CONST c=CHAR;", b"18: 24 WrongKind"),
+    (b"BEGIN EXIT ", b"16: 25 ExitOutside"),
+    (b"BEGIN RETURN 1 ", b"16: 26 ReturnKind"),
     (
-        b"MODULE X;CONST c=CHAR;END X.",
-        b"X.MOD:1:18: 24 WrongKind\n",
+        b"VAR s:BITSET;BEGIN FOR s:=1 TO 2 DO END ",
+        b"33: 27 ForVariable",
     ),
-    (
-        b"MODULE X;BEGIN EXIT END X.",
-        b"X.MOD:1:16: 25 ExitOutside\n",
-    ),
-    (
-        b"MODULE X;BEGIN RETURN 1 END X.",
-        b"X.MOD:1:16: 26 ReturnKind\n",
-    ),
-    (
-        b"MODULE X;VAR s:BITSET;BEGIN FOR s:=1 TO 2 DO END END X.",
-        b"X.MOD:1:33: 27 ForVariable\n",
-    ),
-    (
-        b"MODULE X;CONST c=1+\"a\";END X.",
-        b"X.MOD:1:19: 30 Operands\n",
-    ),
-    (
-        b"MODULE X;VAR c:CHAR;BEGIN c:=1 END X.",
-        b"X.MOD:1:28: 31 Assign\n",
-    ),
-    (
-        b"MODULE X;BEGIN HALT(1) END X.",
-        b"X.MOD:1:16: 32 ArgCount\n",
-    ),
-    (
-        b"MODULE X;BEGIN INC(1) END X.",
-        b"X.MOD:1:20: 33 VarArgument\n",
-    ),
-    (
-        b"MODULE X;CONST c=1;BEGIN c END X.",
-        b"X.MOD:1:26: 34 NotCallable\n",
-    ),
-    (
-        b"MODULE X;CONST c=1;BEGIN c[0]:=1 END X.",
-        b"X.MOD:1:27: 35 NotArray\n",
-    ),
-    (
-        b"MODULE X;CONST c=1;BEGIN c.f:=1 END X.",
-        b"X.MOD:1:27: 36 NotRecord\n",
-    ),
-    (
-        b"MODULE X;CONST c=1;BEGIN c^:=1 END X.",
-        b"X.MOD:1:27: 37 NotPointer\n",
-    ),
-    (
-        b"MODULE X;VAR r:RECORD END;BEGIN r.f:=1 END X.",
-        b"X.MOD:1:35: 38 NoField\n",
-    ),
-    (
-        b"MODULE X;TYPE t=SET OF CHAR;END X.",
-        b"X.MOD:1:24: 39 SetBase\n",
-    ),
-    (
-        b"MODULE X;TYPE r=RECORD END;p=PROCEDURE():r;END X.",
-        b"X.MOD:1:42: 40 ResultType\n",
-    ),
-    (
-        b"MODULE X;VAR p:PROC;BEGIN p:=HALT END X.",
-        b"X.MOD:1:30: 41 ProcValue\n",
-    ),
-    (
-        b"MODULE X;BEGIN CASE 1 OF 1:|1: END END X.",
-        b"X.MOD:1:29: 42 LabelTwice\n",
-    ),
-    (
-        b"MODULE X;VAR c:CARDINAL;BEGIN c:=-1 END X.",
-        b"X.MOD:1:34: 50 ConstRange\n",
-    ),
-    (b"MODULE X;CONST c=NIL;END X.", b"X.MOD:1:18: 51 NotConst\n"),
-    (
-        b"MODULE X;CONST c=1 DIV 0;END X.",
-        b"X.MOD:1:20: 52 ConstArith\n",
-    ),
-    (
-        b"MODULE X;TYPE t=[1..0];END X.",
-        b"X.MOD:1:17: 53 EmptyRange\n",
-    ),
-    (
-        b"MODULE X;VAR a:ARRAY CARDINAL OF CHAR;END X.",
-        b"X.MOD:1:16: 61 DataTooLong\n",
-    ),
-    (
-        b"MODULE InOut;END InOut.",
-        b"X.MOD:1:8: 76 ReservedModule\n",
-    ),
-    (b"MODULE Y;END Y.", b"X.MOD:1:8: 77 FileName\n"),
-    (b"DEFINITION MODULE X;END X.", b"X.MOD:1:1: 80 UnitKind\n"),
+    (b"CONST c=1+\"a\";", b"19: 30 Operands"),
+    (b"VAR c:CHAR;BEGIN c:=1 ", b"28: 31 Assign"),
+    (b"BEGIN HALT(1) ", b"16: 32 ArgCount"),
+    (b"BEGIN INC(1) ", b"20: 33 VarArgument"),
+    (b"CONST c=1;BEGIN c ", b"26: 34 NotCallable"),
+    (b"CONST c=1;BEGIN c[0]:=1 ", b"27: 35 NotArray"),
+    (b"CONST c=1;BEGIN c.f:=1 ", b"27: 36 NotRecord"),
+    (b"CONST c=1;BEGIN c^:=1 ", b"27: 37 NotPointer"),
+    (b"VAR r:RECORD END;BEGIN r.f:=1 ", b"35: 38 NoField"),
+    (b"TYPE t=SET OF CHAR;", b"24: 39 SetBase"),
+    (b"TYPE r=RECORD END;p=PROCEDURE():r;", b"42: 40 ResultType"),
+    (b"VAR p:PROC;BEGIN p:=HALT ", b"30: 41 ProcValue"),
+    (b"BEGIN CASE 1 OF 1:|1: END ", b"29: 42 LabelTwice"),
+    (b"VAR c:CARDINAL;BEGIN c:=-1 ", b"34: 50 ConstRange"),
+    (b"CONST c=NIL;", b"18: 51 NotConst"),
+    (b"CONST c=1 DIV 0;", b"20: 52 ConstArith"),
+    (b"TYPE t=[1..0];", b"17: 53 EmptyRange"),
+    (b"VAR a:ARRAY CARDINAL OF CHAR;", b"16: 61 DataTooLong"),
     // data above 32,000 words
     (
-        b"MODULE X;VAR a,b:ARRAY[0..19999] OF CARDINAL;END X.",
-        b"X.MOD:1:8: 61 DataTooLong\n",
+        b"VAR a,b:ARRAY[0..19999] OF CARDINAL;",
+        b"8: 61 DataTooLong",
     ),
     // the later name in the text is the second, also where it is bound first
-    (b"MODULE X;VAR x:(a,x);END X.", b"X.MOD:1:19: 21 Twice\n"),
+    (b"VAR x:(a,x);", b"19: 21 Twice"),
     // what isn't there, and what isn't built
-    (b"MODULE X;IMPORT Y;END X.", b"X.MOD:1:17: 90 NotBuilt\n"),
+    (b"IMPORT Y;", b"17: 90 NotBuilt"),
+    (b"TYPE t=SET OF BOOLEAN;", b"17: 90 NotBuilt"),
     (
-        b"MODULE X;TYPE t=SET OF BOOLEAN;END X.",
-        b"X.MOD:1:17: 90 NotBuilt\n",
+        b"IMPORT InOut;VAR s:BITSET;BEGIN InOut.WriteString(\"a\") ",
+        b"29: 90 NotBuilt",
     ),
     (
-        b"MODULE X;IMPORT InOut;VAR s:BITSET;BEGIN InOut.WriteString(\"a\") END X.",
-        b"X.MOD:1:29: 90 NotBuilt\n",
+        b"IMPORT InOut;BEGIN InOut.WriteString(\"a\") ",
+        b"29: 90 NotBuilt",
     ),
-    (
-        b"MODULE X;IMPORT InOut;BEGIN InOut.WriteString(\"a\") END X.",
-        b"X.MOD:1:29: 90 NotBuilt\n",
-    ),
-    (
-        b"MODULE X;PROCEDURE P;BEGIN HALT(1) END P;END X.",
-        b"X.MOD:1:28: 32 ArgCount\n",
-    ),
+    (b"PROCEDURE P;BEGIN HALT(1) END P;", b"28: 32 ArgCount"),
 ];
 
-const FAULTY: Case = Case {
-    words: &[b"once", b"F.MOD"],
-    file: b"F.MOD",
-    content: b"",
-    fails: [0, 0, 0],
-    status: 3,
-    shown: b"",
-    reported: b"F.MOD:1:1: 65 TextTooLong\n",
-};
+/// A fault of a text.
+fn check_fault(
+    rt: &impl Abort,
+    alloc: Global,
+    line: &[u8],
+    file: &[u8],
+    text: Bytes,
+    fault: &[u8],
+) -> Result<(), Fail> {
+    let mut reported = around(alloc, file, b":1:", fault)?;
+    reported.push(10)?;
+    let want = Want {
+        status: 3,
+        reported: reported.as_slice(),
+        ..NOTHING
+    };
+    check(rt, alloc, line, file, text, want)
+}
 
 /// The first fault of a text is reported, and nothing is shown.
 #[test]
 fn faults(rt: HostRuntime) -> Result<(), Fail> {
     let alloc = rt.alloc();
-    for (text, reported) in FAULTS {
-        let case = Case { reported, ..FAULTY };
-        check(&rt, alloc, &case, Bytes::from_slice(alloc, text)?)?;
+    for (text, fault) in FAULTS {
+        let text = Bytes::from_slice(alloc, text)?;
+        check_fault(&rt, alloc, b"once F.MOD", b"F.MOD", text, fault)?;
     }
-    for (text, reported) in CHECKED {
-        let case = Case {
-            words: &[b"once", b"X.MOD"],
-            file: b"X.MOD",
-            reported,
-            ..FAULTY
-        };
-        check(&rt, alloc, &case, Bytes::from_slice(alloc, text)?)?;
+    for (body, fault) in CHECKED {
+        let text = around(alloc, b"MODULE X;", body, b"END X.")?;
+        check_fault(&rt, alloc, b"once X.MOD", b"X.MOD", text, fault)?;
     }
     let mut blanks = Bytes::new(alloc);
     for _blank in 0..262_145 {
         blanks.push(b' ')?;
     }
-    check(&rt, alloc, &FAULTY, blanks)
+    let fault = b"1: 65 TextTooLong";
+    check_fault(&rt, alloc, b"once F.MOD", b"F.MOD", blanks, fault)
 }
 
 const BEFORE: &[u8] = b"MODULE K; FROM Terminal IMPORT Write; VAR a, b, c: CARDINAL; BEGIN ";
 
 const BEHIND: &[u8] = b" END K.";
 
-/// Statements over the variables a, b and c of a program K, and what they show.
-const DONE: &[(&[u8], &[u8])] = &[
+/// Statements over the variables a, b and c of a program K, and behind `~` what they show.
+const DONE: &[&[u8]] = &[
     // how often FOR turns, and what it leaves in its variable
-    (b"FOR c := 65534 TO 65535 DO Write('x') END", b"xx"),
-    (
-        b"c := 7; FOR c := 3 TO 1 DO Write('x') END; Write(CHR(48 + c))",
-        b"7",
-    ),
-    (b"FOR c := 5 TO 0 BY -2 DO Write(CHR(48 + c)) END", b"531"),
-    (
-        b"FOR c := 1 TO 6 BY 2 DO Write(CHR(48 + c)) END; Write(CHR(48 + c))",
-        b"1355",
-    ),
+    b"FOR c := 65534 TO 65535 DO Write('x') END~xx",
+    b"c := 7; FOR c := 3 TO 1 DO Write('x') END; Write(CHR(48 + c))~7",
+    b"FOR c := 5 TO 0 BY -2 DO Write(CHR(48 + c)) END~531",
+    b"FOR c := 1 TO 6 BY 2 DO Write(CHR(48 + c)) END; Write(CHR(48 + c))~1355",
     // neither the limit nor the variable has a part in the count once the turns have begun
-    (b"a := 2; FOR c := 1 TO a DO a := 9; Write('x') END", b"xx"),
-    (
-        b"FOR c := 1 TO 3 DO Write(CHR(48 + c)); c := 9 END; Write(CHR(48 + c))",
-        b"1239",
-    ),
-    (
-        b"FOR a := 1 TO 2 DO FOR b := a TO 3 DO Write(CHR(48 + b)) END; Write('.') END; FOR a := 4 TO 5 DO Write(CHR(48 + a)) END",
-        b"123.23.45",
-    ),
+    b"a := 2; FOR c := 1 TO a DO a := 9; Write('x') END~xx",
+    b"FOR c := 1 TO 3 DO Write(CHR(48 + c)); c := 9 END; Write(CHR(48 + c))~1239",
+    b"FOR a := 1 TO 2 DO FOR b := a TO 3 DO Write(CHR(48 + b)) END; Write('.') END; FOR a := 4 TO 5 DO Write(CHR(48 + a)) END~123.23.45",
     // which arm of CASE is done
-    (
-        b"FOR c := 0 TO 6 DO CASE c OF 1, 3: Write('a') | 4 .. 5: Write('b') | ELSE Write('-') END END",
-        b"-a-abb-",
-    ),
-    (
-        b"CASE 0 - 2 OF -3 .. -1: Write('n') | 0, 1: Write('p') END",
-        b"n",
-    ),
-    (
-        b"CASE c = 0 OF 1 = 1: Write('t') | 1 = 2: Write('f') END",
-        b"t",
-    ),
+    b"FOR c := 0 TO 6 DO CASE c OF 1, 3: Write('a') | 4 .. 5: Write('b') | ELSE Write('-') END END~-a-abb-",
+    b"CASE 0 - 2 OF -3 .. -1: Write('n') | 0, 1: Write('p') END~n",
+    b"CASE c = 0 OF 1 = 1: Write('t') | 1 = 2: Write('f') END~t",
     // operators, constants, and operands that aren't evaluated
-    (
-        b"c := 5; Write(CHR(48 + 17 DIV c)); Write(CHR(48 + 17 MOD c)); Write(CHR(48 + 3 * (c - 4)))",
-        b"323",
-    ),
-    (
-        b"Write(CHR(48 + (0 - 7) DIV 2)); Write(CHR(48 + (0 - 7) MOD 2))",
-        b"-/",
-    ),
-    (
-        b"Write(CHR(101B)); Write(CHR(42H)); Write(CHR(67)); Write(\"D\"); Write(105C)",
-        b"ABCDE",
-    ),
-    (
-        b"IF (c # 0) AND (7 DIV c > 1) THEN Write('x') ELSE Write('a') END; IF (c = 0) OR (7 DIV c > 1) THEN Write('o') END",
-        b"ao",
-    ),
-    (
-        b"a := 1; b := 2; IF NOT (a >= b) & (a <= b) & (a <> b) THEN Write('y') END; IF (a > b) = (b < a) THEN Write('z') END",
-        b"yz",
-    ),
+    b"c := 5; Write(CHR(48 + 17 DIV c)); Write(CHR(48 + 17 MOD c)); Write(CHR(48 + 3 * (c - 4)))~323",
+    b"Write(CHR(48 + (0 - 7) DIV 2)); Write(CHR(48 + (0 - 7) MOD 2))~-/",
+    b"Write(CHR(101B)); Write(CHR(42H)); Write(CHR(67)); Write(\"D\"); Write(105C)~ABCDE",
+    b"IF (c # 0) AND (7 DIV c > 1) THEN Write('x') ELSE Write('a') END; IF (c = 0) OR (7 DIV c > 1) THEN Write('o') END~ao",
+    b"a := 1; b := 2; IF NOT (a >= b) & (a <= b) & (a <> b) THEN Write('y') END; IF (a > b) = (b < a) THEN Write('z') END~yz",
     // IF, WHILE, REPEAT, LOOP and EXIT, comments and empty statements
-    (
-        b"FOR c := 0 TO 4 DO IF c < 2 THEN IF c = 0 THEN Write('a') ELSE Write('b') END ELSIF c = 2 THEN Write('c') ELSIF c = 3 THEN Write('d') ELSE Write('e') END END",
-        b"abcde",
-    ),
-    (
-        b"c := 3; WHILE c > 0 DO Write(CHR(48 + c)); c := c - 1 END",
-        b"321",
-    ),
-    (b"WHILE c > 0 DO Write('x') END", b""),
-    (
-        b"REPEAT c := c + 1; Write(CHR(48 + c)) UNTIL c >= 3",
-        b"123",
-    ),
-    (b"REPEAT Write('x') UNTIL c = 0", b"x"),
-    (
-        b"LOOP FOR a := 1 TO 3 DO FOR b := 1 TO 3 DO Write(CHR(48 + a)); IF a * b = 4 THEN EXIT END END END END; Write('.'); FOR a := 1 TO 2 DO Write('x') END",
-        b"11122.xx",
-    ),
-    (
-        b"LOOP LOOP EXIT END; c := c + 1; IF c = 3 THEN EXIT END; Write('x') END",
-        b"xx",
-    ),
-    (
-        b"(* a (* b *) Write('x') (**) *) Write('y') (*) Write('z') *)",
-        b"y",
-    ),
-    (b";; IF c = 0 THEN ; END;; Write('y') ;", b"y"),
+    b"FOR c := 0 TO 4 DO IF c < 2 THEN IF c = 0 THEN Write('a') ELSE Write('b') END ELSIF c = 2 THEN Write('c') ELSIF c = 3 THEN Write('d') ELSE Write('e') END END~abcde",
+    b"c := 3; WHILE c > 0 DO Write(CHR(48 + c)); c := c - 1 END~321",
+    b"WHILE c > 0 DO Write('x') END~",
+    b"REPEAT c := c + 1; Write(CHR(48 + c)) UNTIL c >= 3~123",
+    b"REPEAT Write('x') UNTIL c = 0~x",
+    b"LOOP FOR a := 1 TO 3 DO FOR b := 1 TO 3 DO Write(CHR(48 + a)); IF a * b = 4 THEN EXIT END END END END; Write('.'); FOR a := 1 TO 2 DO Write('x') END~11122.xx",
+    b"LOOP LOOP EXIT END; c := c + 1; IF c = 3 THEN EXIT END; Write('x') END~xx",
+    b"(* a (* b *) Write('x') (**) *) Write('y') (*) Write('z') *)~y",
+    b";; IF c = 0 THEN ; END;; Write('y') ;~y",
 ];
 
-/// Statements that trap: what they show before, and the line of the trap.
+/// Statements that trap: what they show before, and the trap.
 const TRAPS: &[(&[u8], &[u8], &[u8])] = &[
     // which arm of CASE is done
-    (b"CASE 7 OF 1: | 2: END", b"", b"trap case in K\n"),
-    (b"Write('a'); CASE c OF END", b"a", b"trap case in K\n"),
+    (b"CASE 7 OF 1: | 2: END", b"", b"case"),
+    (b"Write('a'); CASE c OF END", b"a", b"case"),
     // operators, constants, and operands that aren't evaluated
-    (
-        b"IF (c = 0) AND (7 DIV c > 1) THEN END",
-        b"",
-        b"trap divisor in K\n",
-    ),
-    (b"c := 7 MOD c", b"", b"trap divisor in K\n"),
-    (b"c := c - 1 + 1", b"", b"trap overflow in K\n"),
-    (b"c := 256; c := c * 256", b"", b"trap overflow in K\n"),
-    (
-        b"Write('a'); c := 256; Write(CHR(c))",
-        b"a",
-        b"trap range in K\n",
-    ),
+    (b"IF (c = 0) AND (7 DIV c > 1) THEN END", b"", b"divisor"),
+    (b"c := 7 MOD c", b"", b"divisor"),
+    (b"c := c - 1 + 1", b"", b"overflow"),
+    (b"c := 256; c := c * 256", b"", b"overflow"),
+    (b"Write('a'); c := 256; Write(CHR(c))", b"a", b"range"),
 ];
 
 /// Statements with a fault.
 const REFUSED: &[(&[u8], &[u8])] = &[
     // how often FOR turns, and what it leaves in its variable
-    (
-        b"FOR c := 1 TO 3 BY 0 DO END",
-        b"K.MOD:1:87: 50 ConstRange\n",
-    ),
-    (b"FOR c := 1 TO 3 BY a DO END", b"K.MOD:1:87: 51 NotConst\n"),
-    (b"FOR c := 0 TO 0 - 1 DO END", b"K.MOD:1:82: 31 Assign\n"),
+    (b"FOR c := 1 TO 3 BY 0 DO END", b"87: 50 ConstRange"),
+    (b"FOR c := 1 TO 3 BY a DO END", b"87: 51 NotConst"),
+    (b"FOR c := 0 TO 0 - 1 DO END", b"82: 31 Assign"),
     // which arm of CASE is done
-    (
-        b"CASE c OF 1 .. 4: | 3: END",
-        b"K.MOD:1:88: 42 LabelTwice\n",
-    ),
-    (b"CASE c OF 4 .. 1: END", b"K.MOD:1:78: 53 EmptyRange\n"),
-    (b"CASE c OF -1: END", b"K.MOD:1:78: 31 Assign\n"),
-    (b"CASE 65535 OF -1: END", b"K.MOD:1:82: 31 Assign\n"),
+    (b"CASE c OF 1 .. 4: | 3: END", b"88: 42 LabelTwice"),
+    (b"CASE c OF 4 .. 1: END", b"78: 53 EmptyRange"),
+    (b"CASE c OF -1: END", b"78: 31 Assign"),
+    (b"CASE 65535 OF -1: END", b"82: 31 Assign"),
     // operators, constants, and operands that aren't evaluated
-    (b"c := 1 DIV 0", b"K.MOD:1:75: 52 ConstArith\n"),
-    (b"c := 65535 + 1", b"K.MOD:1:79: 52 ConstArith\n"),
-    (b"c := -c", b"K.MOD:1:73: 30 Operands\n"),
-    (b"IF c THEN END", b"K.MOD:1:71: 30 Operands\n"),
-    (b"Write(c)", b"K.MOD:1:74: 31 Assign\n"),
-    (b"Write('ab')", b"K.MOD:1:74: 31 Assign\n"),
+    (b"c := 1 DIV 0", b"75: 52 ConstArith"),
+    (b"c := 65535 + 1", b"79: 52 ConstArith"),
+    (b"c := -c", b"73: 30 Operands"),
+    (b"IF c THEN END", b"71: 30 Operands"),
+    (b"Write(c)", b"74: 31 Assign"),
+    (b"Write('ab')", b"74: 31 Assign"),
     // IF, WHILE, REPEAT, LOOP and EXIT, comments and empty statements
-    (b"EXIT", b"K.MOD:1:68: 25 ExitOutside\n"),
-    (
-        b"FOR c := 1 TO 2 DO EXIT END",
-        b"K.MOD:1:87: 25 ExitOutside\n",
-    ),
+    (b"EXIT", b"68: 25 ExitOutside"),
+    (b"FOR c := 1 TO 2 DO EXIT END", b"87: 25 ExitOutside"),
 ];
 
-/// A run of the program K, that ends and shows nothing.
-const RUNS_K: Case = Case {
-    words: &[b"once", b"K.MOD"],
-    file: b"K.MOD",
-    content: b"",
-    fails: [0, 0, 0],
-    status: 0,
-    shown: b"",
-    reported: b"",
-};
+/// What stands before and behind the `~` of a row.
+fn parts(alloc: Global, row: &[u8]) -> Result<(Bytes, Bytes), Fail> {
+    let mut before = Bytes::new(alloc);
+    let mut behind = Bytes::new(alloc);
+    let mut is_behind = false;
+    for byte in row {
+        if *byte == b'~' {
+            is_behind = true;
+        } else if is_behind {
+            behind.push(*byte)?;
+        } else {
+            before.push(*byte)?;
+        }
+    }
+    Ok((before, behind))
+}
+
+/// A text that ends, or traps, with what it shows.
+fn check_run(
+    rt: &impl Abort,
+    alloc: Global,
+    name: &[u8],
+    text: Bytes,
+    shown: &[u8],
+    trap: Option<&[u8]>,
+) -> Result<(), Fail> {
+    let line = around(alloc, b"once ", name, b".MOD")?;
+    let file = around(alloc, b"", name, b".MOD")?;
+    let mut reported = Bytes::new(alloc);
+    let mut status = 0;
+    if let Some(kind) = trap {
+        status = 5;
+        reported = around(alloc, b"trap ", kind, b" in ")?;
+        reported.extend(name)?;
+        reported.push(10)?;
+    }
+    let want = Want {
+        status,
+        shown,
+        reported: reported.as_slice(),
+        ..NOTHING
+    };
+    check(rt, alloc, line.as_slice(), file.as_slice(), text, want)
+}
 
 /// What statements show, and which traps they come to.
 #[test]
 fn statements(rt: HostRuntime) -> Result<(), Fail> {
     let alloc = rt.alloc();
-    for (body, shown) in DONE {
-        let case = Case { shown, ..RUNS_K };
-        check(&rt, alloc, &case, around(alloc, BEFORE, body, BEHIND)?)?;
+    for row in DONE {
+        let (body, shown) = parts(alloc, row)?;
+        let text = around(alloc, BEFORE, body.as_slice(), BEHIND)?;
+        check_run(&rt, alloc, b"K", text, shown.as_slice(), None)?;
     }
-    for (body, shown, reported) in TRAPS {
-        let case = Case {
-            status: 5,
-            shown,
-            reported,
-            ..RUNS_K
-        };
-        check(&rt, alloc, &case, around(alloc, BEFORE, body, BEHIND)?)?;
+    for (body, shown, trap) in TRAPS {
+        let text = around(alloc, BEFORE, body, BEHIND)?;
+        check_run(&rt, alloc, b"K", text, shown, Some(trap))?;
     }
-    for (body, reported) in REFUSED {
-        let case = Case {
-            status: 3,
-            reported,
-            ..RUNS_K
-        };
-        check(&rt, alloc, &case, around(alloc, BEFORE, body, BEHIND)?)?;
+    for (body, fault) in REFUSED {
+        let text = around(alloc, BEFORE, body, BEHIND)?;
+        check_fault(&rt, alloc, b"once K.MOD", b"K.MOD", text, fault)?;
     }
     Ok(())
 }
@@ -667,264 +478,126 @@ const SCALARS_BEFORE: &[u8] =
 
 const SCALARS_BEHIND: &[u8] = b" END S.";
 
-/// Statements over scalars that end, and what they show.
-const SCALARS: &[(&[u8], &[u8])] = &[
+/// Statements over scalars that end, and behind `~` what they show.
+const SCALARS: &[&[u8]] = &[
     // numbers as texts
-    (
-        b"WriteCard(0, 1); WriteCard(65535, 8); WriteCard(17, 2); WriteCard(5, 0)",
-        b"0   65535175",
-    ),
-    (
-        b"WriteInt(MIN(INTEGER), 8); WriteInt(-1, 1); WriteInt(32767, 6); WriteInt(0, 2)",
-        b"  -32768-1 32767 0",
-    ),
-    (
-        b"WriteOct(65535, 1); WriteOct(8, 4); WriteHex(48879, 6); WriteHex(0, 1)",
-        b"177777  10  BEEF0",
-    ),
-    (
-        b"WriteCard(7, 100)",
-        b"                                                                               7",
-    ),
-    (b"Write('a'); WriteLn; Write(36C); Write('b')", b"a\n\nb"),
+    b"WriteCard(0, 1); WriteCard(65535, 8); WriteCard(17, 2); WriteCard(5, 0)~0   65535175",
+    b"WriteInt(MIN(INTEGER), 8); WriteInt(-1, 1); WriteInt(32767, 6); WriteInt(0, 2)~  -32768-1 32767 0",
+    b"WriteOct(65535, 1); WriteOct(8, 4); WriteHex(48879, 6); WriteHex(0, 1)~177777  10  BEEF0",
+    b"WriteCard(7, 100)~                                                                               7",
+    b"Write('a'); WriteLn; Write(36C); Write('b')~a\n\nb",
     // operators and standard functions of every type
-    (
-        b"i := -7; WriteInt(i DIV 2, 1); WriteInt(i MOD 2, 3); WriteInt(-i, 2); WriteInt(i + 3 * i, 4)",
-        b"-3 -1 7 -28",
-    ),
-    (
-        b"FOR i := -2 TO 2 DO IF ODD(i) THEN Write('o') ELSE Write('e') END; WriteInt(ABS(i), 1) END",
-        b"e2o1e0o1e2",
-    ),
-    (
-        b"FOR c := 65534 TO 65535 DO IF ODD(c) THEN Write('o') ELSE Write('e') END; WriteCard(c, 1) END",
-        b"e65534o65535",
-    ),
-    (
-        b"Write(CAP('a')); h := 'z'; Write(CAP(h)); h := '{'; Write(CAP(h)); h := '`'; Write(CAP(h)); h := 'Q'; Write(CAP(h))",
-        b"AZ{`Q",
-    ),
-    (
-        b"x := VAL(day, 2); WriteCard(ORD(x), 1); i := 1; x := VAL(day, i); IF x = tu THEN Write('t') END; WriteCard(ORD(TRUE), 1); b := VAL(BOOLEAN, 1); IF b THEN Write('b') END",
-        b"2t1b",
-    ),
-    (
-        b"WriteCard(ORD(MAX(day)), 1); WriteInt(MAX(INTEGER), 1); WriteCard(ORD(MIN(CHAR)), 1); WriteCard(MAX(CARDINAL), 1)",
-        b"332767065535",
-    ),
-    (
-        b"x := tu; IF (x < we) AND (x >= tu) AND NOT (x # tu) AND (mo <= x) THEN Write('y') END; b := x > we; IF b = FALSE THEN Write('z') END",
-        b"yz",
-    ),
-    (
-        b"h := 'm'; b := (h > 'a') AND (h < 'z'); IF b THEN Write(h) END; IF b > FALSE THEN Write('t') END; i := -1; IF i < 0 THEN Write('n') END",
-        b"mtn",
-    ),
-    (
-        b"c := 3; h := CHR(c + 62); Write(h); WriteCard(ORD(h) + 1, 3); h := VAL(CHAR, ORD(h) + 1); Write(h)",
-        b"A 66B",
-    ),
+    b"i := -7; WriteInt(i DIV 2, 1); WriteInt(i MOD 2, 3); WriteInt(-i, 2); WriteInt(i + 3 * i, 4)~-3 -1 7 -28",
+    b"FOR i := -2 TO 2 DO IF ODD(i) THEN Write('o') ELSE Write('e') END; WriteInt(ABS(i), 1) END~e2o1e0o1e2",
+    b"FOR c := 65534 TO 65535 DO IF ODD(c) THEN Write('o') ELSE Write('e') END; WriteCard(c, 1) END~e65534o65535",
+    b"Write(CAP('a')); h := 'z'; Write(CAP(h)); h := '{'; Write(CAP(h)); h := '`'; Write(CAP(h)); h := 'Q'; Write(CAP(h))~AZ{`Q",
+    b"x := VAL(day, 2); WriteCard(ORD(x), 1); i := 1; x := VAL(day, i); IF x = tu THEN Write('t') END; WriteCard(ORD(TRUE), 1); b := VAL(BOOLEAN, 1); IF b THEN Write('b') END~2t1b",
+    b"WriteCard(ORD(MAX(day)), 1); WriteInt(MAX(INTEGER), 1); WriteCard(ORD(MIN(CHAR)), 1); WriteCard(MAX(CARDINAL), 1)~332767065535",
+    b"x := tu; IF (x < we) AND (x >= tu) AND NOT (x # tu) AND (mo <= x) THEN Write('y') END; b := x > we; IF b = FALSE THEN Write('z') END~yz",
+    b"h := 'm'; b := (h > 'a') AND (h < 'z'); IF b THEN Write(h) END; IF b > FALSE THEN Write('t') END; i := -1; IF i < 0 THEN Write('n') END~mtn",
+    b"c := 3; h := CHR(c + 62); Write(h); WriteCard(ORD(h) + 1, 3); h := VAL(CHAR, ORD(h) + 1); Write(h)~A 66B",
     // whole numbers of one type stored as the other, and subranges
-    (
-        b"i := 5; c := i; WriteCard(c, 1); c := 32767; i := c; WriteInt(i, 6); u := i - 32760; WriteCard(u, 2); w := -3; i := w; WriteInt(i, 3)",
-        b"5 32767 7 -3",
-    ),
-    (
-        b"u := 5; v := u; INC(v, 4); WriteCard(v, 1); y := tu; x := y; y := we; WriteCard(ORD(y) + ORD(x), 1); l := 'b'; INC(l); h := l; Write(h)",
-        b"93c",
-    ),
+    b"i := 5; c := i; WriteCard(c, 1); c := 32767; i := c; WriteInt(i, 6); u := i - 32760; WriteCard(u, 2); w := -3; i := w; WriteInt(i, 3)~5 32767 7 -3",
+    b"u := 5; v := u; INC(v, 4); WriteCard(v, 1); y := tu; x := y; y := we; WriteCard(ORD(y) + ORD(x), 1); l := 'b'; INC(l); h := l; Write(h)~93c",
     // INC and DEC
-    (
-        b"INC(c); INC(c, 5); DEC(c, 2); WriteCard(c, 1); DEC(i); DEC(i, 2); INC(i, -1); WriteInt(i, 3); INC(x, 3); DEC(x); WriteCard(ORD(x), 2); h := 'a'; INC(h, 2); Write(h); INC(b); IF b THEN Write('t') END",
-        b"4 -4 2ct",
-    ),
+    b"INC(c); INC(c, 5); DEC(c, 2); WriteCard(c, 1); DEC(i); DEC(i, 2); INC(i, -1); WriteInt(i, 3); INC(x, 3); DEC(x); WriteCard(ORD(x), 2); h := 'a'; INC(h, 2); Write(h); INC(b); IF b THEN Write('t') END~4 -4 2ct",
     // FOR and CASE over every type
-    (
-        b"FOR x := mo TO th DO WriteCard(ORD(x), 1) END; FOR x := th TO mo BY -1 DO WriteCard(ORD(x), 1) END; FOR x := we TO tu DO Write('x') END",
-        b"01233210",
-    ),
-    (
-        b"FOR h := 'a' TO 'g' BY 3 DO Write(h) END; FOR b := FALSE TO TRUE DO WriteCard(ORD(b), 1) END; FOR i := 3 TO -3 BY -3 DO WriteInt(i, 1) END; FOR u := 5 TO 9 DO WriteCard(u, 1) END",
-        b"adg0130-356789",
-    ),
-    (
-        b"FOR h := MIN(CHAR) TO MAX(CHAR) DO INC(c) END; WriteCard(c, 1); FOR i := 32766 TO 32767 DO WriteInt(i, 6) END; FOR i := -32768 TO -32767 DO WriteInt(i, 7) END",
-        b"256 32766 32767 -32768 -32767",
-    ),
-    (
-        b"FOR x := mo TO th DO CASE x OF mo, th: Write('e') | tu .. we: Write('m') END END; FOR i := -2 TO 2 DO CASE i OF -2 .. -1: Write('n') | 0: Write('z') ELSE Write('p') END END",
-        b"emmennzpp",
-    ),
-    (
-        b"FOR h := 'a' TO 'e' DO CASE h OF 'a', 'e': Write('v') | 'b' .. 'd': Write('c') END END; CASE c = 0 OF TRUE: Write('t') | FALSE: Write('f') END",
-        b"vcccvt",
-    ),
-    (
-        b"CASE CAP('x') OF 'X': Write('y') END; CASE ORD('a') OF 97: Write('n') END; CASE ODD(3) OF TRUE: Write('o') | FALSE: END",
-        b"yno",
-    ),
+    b"FOR x := mo TO th DO WriteCard(ORD(x), 1) END; FOR x := th TO mo BY -1 DO WriteCard(ORD(x), 1) END; FOR x := we TO tu DO Write('x') END~01233210",
+    b"FOR h := 'a' TO 'g' BY 3 DO Write(h) END; FOR b := FALSE TO TRUE DO WriteCard(ORD(b), 1) END; FOR i := 3 TO -3 BY -3 DO WriteInt(i, 1) END; FOR u := 5 TO 9 DO WriteCard(u, 1) END~adg0130-356789",
+    b"FOR h := MIN(CHAR) TO MAX(CHAR) DO INC(c) END; WriteCard(c, 1); FOR i := 32766 TO 32767 DO WriteInt(i, 6) END; FOR i := -32768 TO -32767 DO WriteInt(i, 7) END~256 32766 32767 -32768 -32767",
+    b"FOR x := mo TO th DO CASE x OF mo, th: Write('e') | tu .. we: Write('m') END END; FOR i := -2 TO 2 DO CASE i OF -2 .. -1: Write('n') | 0: Write('z') ELSE Write('p') END END~emmennzpp",
+    b"FOR h := 'a' TO 'e' DO CASE h OF 'a', 'e': Write('v') | 'b' .. 'd': Write('c') END END; CASE c = 0 OF TRUE: Write('t') | FALSE: Write('f') END~vcccvt",
+    b"CASE CAP('x') OF 'X': Write('y') END; CASE ORD('a') OF 97: Write('n') END; CASE ODD(3) OF TRUE: Write('o') | FALSE: END~yno",
     // FOR from a start of the other type of whole numbers
-    (
-        b"i := 2; FOR c := i TO 4 DO WriteCard(c, 1) END; c := 3; FOR w := c TO 1 BY -1 DO WriteInt(w, 1) END",
-        b"234321",
-    ),
-    (
-        b"i := -2; c := 7; FOR c := i TO 3 BY -1 DO Write('x') END; WriteCard(c, 1)",
-        b"7",
-    ),
-    (
-        b"c := 40000; i := 7; FOR i := c TO 5 DO Write('x') END; WriteInt(i, 1)",
-        b"7",
-    ),
-    (
-        b"c := 32767; FOR i := c TO 32767 DO WriteInt(i, 1) END; i := 5; FOR c := i TO 65535 BY 32767 DO WriteCard(c, 6) END",
-        b"32767     5 32772",
-    ),
+    b"i := 2; FOR c := i TO 4 DO WriteCard(c, 1) END; c := 3; FOR w := c TO 1 BY -1 DO WriteInt(w, 1) END~234321",
+    b"i := -2; c := 7; FOR c := i TO 3 BY -1 DO Write('x') END; WriteCard(c, 1)~7",
+    b"c := 40000; i := 7; FOR i := c TO 5 DO Write('x') END; WriteInt(i, 1)~7",
+    b"c := 32767; FOR i := c TO 32767 DO WriteInt(i, 1) END; i := 5; FOR c := i TO 65535 BY 32767 DO WriteCard(c, 6) END~32767     5 32772",
     // the end of the body
-    (b"Write('a'); IF c = 0 THEN RETURN END; Write('b')", b"a"),
-    (
-        b"LOOP FOR x := mo TO th DO IF x = we THEN RETURN END; WriteCard(ORD(x), 1) END END",
-        b"01",
-    ),
+    b"Write('a'); IF c = 0 THEN RETURN END; Write('b')~a",
+    b"LOOP FOR x := mo TO th DO IF x = we THEN RETURN END; WriteCard(ORD(x), 1) END END~01",
 ];
 
-/// Statements over scalars that trap: what they show before, and the kind of the trap.
+/// Statements over scalars that trap: what they show before, and the trap.
 const SCALAR_TRAPS: &[(&[u8], &[u8], &[u8])] = &[
     // stores and arguments
-    (
-        b"WriteCard(c, 1); i := -1; c := i",
-        b"0",
-        b"trap range in S\n",
-    ),
-    (b"c := 32768; i := c", b"", b"trap range in S\n"),
-    (b"u := v", b"", b"trap range in S\n"),
-    (b"c := 10; u := c", b"", b"trap range in S\n"),
-    (b"i := -4; w := i", b"", b"trap range in S\n"),
-    (b"c := 65535; w := c", b"", b"trap range in S\n"),
-    (b"i := -32768; u := i", b"", b"trap range in S\n"),
-    (b"b := TRUE; f := b", b"", b"trap range in S\n"),
-    (b"x := th; y := x", b"", b"trap range in S\n"),
-    (b"h := 'e'; l := h", b"", b"trap range in S\n"),
-    (b"i := -1; WriteCard(i, 1)", b"", b"trap range in S\n"),
-    (b"c := 40000; WriteInt(c, 1)", b"", b"trap range in S\n"),
-    (b"i := -1; WriteCard(1, i)", b"", b"trap range in S\n"),
+    (b"WriteCard(c, 1); i := -1; c := i", b"0", b"range"),
+    (b"c := 32768; i := c", b"", b"range"),
+    (b"u := v", b"", b"range"),
+    (b"c := 10; u := c", b"", b"range"),
+    (b"i := -4; w := i", b"", b"range"),
+    (b"c := 65535; w := c", b"", b"range"),
+    (b"i := -32768; u := i", b"", b"range"),
+    (b"b := TRUE; f := b", b"", b"range"),
+    (b"x := th; y := x", b"", b"range"),
+    (b"h := 'e'; l := h", b"", b"range"),
+    (b"i := -1; WriteCard(i, 1)", b"", b"range"),
+    (b"c := 40000; WriteInt(c, 1)", b"", b"range"),
+    (b"i := -1; WriteCard(1, i)", b"", b"range"),
     // standard functions
-    (b"i := -1; c := ORD(i)", b"", b"trap range in S\n"),
-    (b"c := 256; h := CHR(c)", b"", b"trap range in S\n"),
-    (b"i := -1; h := VAL(CHAR, i)", b"", b"trap range in S\n"),
-    (b"c := 4; x := VAL(day, c)", b"", b"trap range in S\n"),
-    (b"c := 2; b := VAL(BOOLEAN, c)", b"", b"trap range in S\n"),
-    (
-        b"c := 40000; i := VAL(INTEGER, c)",
-        b"",
-        b"trap range in S\n",
-    ),
-    (
-        b"i := MIN(INTEGER); i := ABS(i)",
-        b"",
-        b"trap overflow in S\n",
-    ),
-    (b"i := MIN(INTEGER); i := -i", b"", b"trap overflow in S\n"),
+    (b"i := -1; c := ORD(i)", b"", b"range"),
+    (b"c := 256; h := CHR(c)", b"", b"range"),
+    (b"i := -1; h := VAL(CHAR, i)", b"", b"range"),
+    (b"c := 4; x := VAL(day, c)", b"", b"range"),
+    (b"c := 2; b := VAL(BOOLEAN, c)", b"", b"range"),
+    (b"c := 40000; i := VAL(INTEGER, c)", b"", b"range"),
+    (b"i := MIN(INTEGER); i := ABS(i)", b"", b"overflow"),
+    (b"i := MIN(INTEGER); i := -i", b"", b"overflow"),
     (
         b"i := MIN(INTEGER); j := -1; i := i DIV j",
         b"",
-        b"trap overflow in S\n",
+        b"overflow",
     ),
-    (b"i := 5 MOD i", b"", b"trap divisor in S\n"),
+    (b"i := 5 MOD i", b"", b"divisor"),
     // INC and DEC
-    (b"DEC(c)", b"", b"trap overflow in S\n"),
-    (b"c := 65535; INC(c)", b"", b"trap overflow in S\n"),
-    (b"i := 32767; INC(i)", b"", b"trap overflow in S\n"),
-    (b"i := MIN(INTEGER); DEC(i)", b"", b"trap overflow in S\n"),
-    (b"u := 9; INC(u)", b"", b"trap range in S\n"),
-    (b"u := 5; DEC(u)", b"", b"trap range in S\n"),
-    (b"u := 5; DEC(u, 6)", b"", b"trap overflow in S\n"),
-    (b"x := th; INC(x)", b"", b"trap range in S\n"),
-    (b"DEC(x)", b"", b"trap overflow in S\n"),
-    (b"h := 'a'; INC(h, 200)", b"", b"trap range in S\n"),
-    (b"b := TRUE; INC(b)", b"", b"trap range in S\n"),
-    (b"w := 3; INC(w)", b"", b"trap range in S\n"),
+    (b"DEC(c)", b"", b"overflow"),
+    (b"c := 65535; INC(c)", b"", b"overflow"),
+    (b"i := 32767; INC(i)", b"", b"overflow"),
+    (b"i := MIN(INTEGER); DEC(i)", b"", b"overflow"),
+    (b"u := 9; INC(u)", b"", b"range"),
+    (b"u := 5; DEC(u)", b"", b"range"),
+    (b"u := 5; DEC(u, 6)", b"", b"overflow"),
+    (b"x := th; INC(x)", b"", b"range"),
+    (b"DEC(x)", b"", b"overflow"),
+    (b"h := 'a'; INC(h, 200)", b"", b"range"),
+    (b"b := TRUE; INC(b)", b"", b"range"),
+    (b"w := 3; INC(w)", b"", b"range"),
     // FOR, CASE and HALT
-    (
-        b"FOR u := 8 TO 12 DO WriteCard(u, 1) END",
-        b"89",
-        b"trap range in S\n",
-    ),
-    (
-        b"FOR l := 'c' TO 'z' DO Write(l) END",
-        b"cd",
-        b"trap range in S\n",
-    ),
-    (
-        b"FOR w := 2 TO 5 DO WriteInt(w, 1) END",
-        b"23",
-        b"trap range in S\n",
-    ),
-    (
-        b"i := -2; FOR c := i TO 3 DO Write('x') END",
-        b"",
-        b"trap range in S\n",
-    ),
+    (b"FOR u := 8 TO 12 DO WriteCard(u, 1) END", b"89", b"range"),
+    (b"FOR l := 'c' TO 'z' DO Write(l) END", b"cd", b"range"),
+    (b"FOR w := 2 TO 5 DO WriteInt(w, 1) END", b"23", b"range"),
+    (b"i := -2; FOR c := i TO 3 DO Write('x') END", b"", b"range"),
     (
         b"c := 40000; FOR i := c TO 5 BY -1 DO Write('x') END",
         b"",
-        b"trap range in S\n",
+        b"range",
     ),
     (
         b"i := -2; FOR c := i TO 3 DIV (c - c) DO Write('x') END",
         b"",
-        b"trap divisor in S\n",
+        b"divisor",
     ),
-    (b"CASE x OF tu: END", b"", b"trap case in S\n"),
+    (b"CASE x OF tu: END", b"", b"case"),
     (
         b"h := 'q'; CASE h OF 'a' .. 'p': Write('x') END",
         b"",
-        b"trap case in S\n",
+        b"case",
     ),
-    (b"Write('a'); HALT; Write('b')", b"a", b"trap halted in S\n"),
+    (b"Write('a'); HALT; Write('b')", b"a", b"halted"),
 ];
-
-/// Statements between two texts.
-fn around(alloc: Global, before: &[u8], statements: &[u8], behind: &[u8]) -> Result<Bytes, Fail> {
-    let mut text = Bytes::from_slice(alloc, before)?;
-    text.extend(statements)?;
-    text.extend(behind)?;
-    Ok(text)
-}
-
-/// A run of the program S, that ends and shows nothing.
-const RUNS_S: Case = Case {
-    words: &[b"once", b"S.MOD"],
-    file: b"S.MOD",
-    ..RUNS_K
-};
 
 /// What statements over scalars show, and which traps they come to.
 #[test]
 fn scalars(rt: HostRuntime) -> Result<(), Fail> {
     let alloc = rt.alloc();
-    for (body, shown) in SCALARS {
-        let case = Case { shown, ..RUNS_S };
-        check(
-            &rt,
-            alloc,
-            &case,
-            around(alloc, SCALARS_BEFORE, body, SCALARS_BEHIND)?,
-        )?;
+    for row in SCALARS {
+        let (body, shown) = parts(alloc, row)?;
+        let text = around(alloc, SCALARS_BEFORE, body.as_slice(), SCALARS_BEHIND)?;
+        check_run(&rt, alloc, b"S", text, shown.as_slice(), None)?;
     }
-    for (body, shown, reported) in SCALAR_TRAPS {
-        let case = Case {
-            status: 5,
-            shown,
-            reported,
-            ..RUNS_S
-        };
-        check(
-            &rt,
-            alloc,
-            &case,
-            around(alloc, SCALARS_BEFORE, body, SCALARS_BEHIND)?,
-        )?;
+    for (body, shown, trap) in SCALAR_TRAPS {
+        let text = around(alloc, SCALARS_BEFORE, body, SCALARS_BEHIND)?;
+        check_run(&rt, alloc, b"S", text, shown, Some(trap))?;
     }
     Ok(())
 }
@@ -943,13 +616,10 @@ fn assignments(alloc: Global, count: usize) -> Result<Bytes, Fail> {
 #[test]
 fn longest_code(rt: HostRuntime) -> Result<(), Fail> {
     let alloc = rt.alloc();
-    check(&rt, alloc, &RUNS_K, assignments(alloc, 3276)?)?;
-    let case = Case {
-        status: 3,
-        reported: b"K.MOD:1:8: 64 CodeTooLong 32774\n",
-        ..RUNS_K
-    };
-    check(&rt, alloc, &case, assignments(alloc, 3277)?)
+    check_run(&rt, alloc, b"K", assignments(alloc, 3276)?, b"", None)?;
+    let text = assignments(alloc, 3277)?;
+    let fault = b"8: 64 CodeTooLong 32774";
+    check_fault(&rt, alloc, b"once K.MOD", b"K.MOD", text, fault)
 }
 
 /// An assignment of a sum with so many operands behind the first one.
@@ -966,93 +636,53 @@ fn sum(alloc: Global, operand: &[u8], count: usize) -> Result<Bytes, Fail> {
 #[test]
 fn longest_sums(rt: HostRuntime) -> Result<(), Fail> {
     let alloc = rt.alloc();
-    check(&rt, alloc, &RUNS_K, sum(alloc, b"+1", 8180)?)?;
-    check(&rt, alloc, &RUNS_K, sum(alloc, b"+c", 8180)?)?;
-    let case = Case {
-        status: 3,
-        reported: b"K.MOD:1:8: 64 CodeTooLong 400010\n",
-        ..RUNS_K
-    };
-    check(&rt, alloc, &case, sum(alloc, b"+c", 100_000)?)
+    check_run(&rt, alloc, b"K", sum(alloc, b"+1", 8180)?, b"", None)?;
+    check_run(&rt, alloc, b"K", sum(alloc, b"+c", 8180)?, b"", None)?;
+    let text = sum(alloc, b"+c", 100_000)?;
+    let fault = b"8: 64 CodeTooLong 400010";
+    check_fault(&rt, alloc, b"once K.MOD", b"K.MOD", text, fault)
 }
-
-/// A run of a program L within a budget, and what is wanted of it.
-#[derive(Clone, Copy)]
-struct Budget {
-    content: &'static [u8],
-    steps: u64,
-    status: u8,
-    shown: &'static [u8],
-    reported: &'static [u8],
-}
-
-const NO_STEPS: Budget = Budget {
-    content: LETTERS,
-    steps: 0,
-    status: 7,
-    shown: b"",
-    reported: b"steps spent\n",
-};
 
 /// The letters take 8 instructions: the frame, a word and a request for each, and the return. The endless loop takes an
-/// instruction for the frame, and three for each turn: a word, a request and a jump.
-const BUDGETS: &[Budget] = &[
-    NO_STEPS,
-    Budget {
-        steps: 4,
-        shown: b"H",
-        ..NO_STEPS
-    },
-    Budget {
-        steps: 7,
-        shown: b"HI\n",
-        ..NO_STEPS
-    },
-    Budget {
-        steps: 8,
-        status: 0,
-        shown: b"HI\n",
-        reported: b"",
-        ..NO_STEPS
-    },
-    Budget {
-        content: ENDLESS,
-        ..NO_STEPS
-    },
-    Budget {
-        content: ENDLESS,
-        steps: 9,
-        shown: b"xxx",
-        ..NO_STEPS
-    },
-    Budget {
-        content: ENDLESS,
-        steps: 1000,
-        shown: &ALL_X,
-        ..NO_STEPS
-    },
+/// instruction for the frame, and three for each turn: a word, a request and a jump. Each with a budget of steps, the
+/// status, and what is shown.
+const BUDGETS: &[(&[u8], u64, u8, &[u8])] = &[
+    (LETTERS, 0, 7, b""),
+    (LETTERS, 4, 7, b"H"),
+    (LETTERS, 7, 7, b"HI\n"),
+    (LETTERS, 8, 0, b"HI\n"),
+    (ENDLESS, 0, 7, b""),
+    (ENDLESS, 9, 7, b"xxx"),
+    (ENDLESS, 1000, 7, &ALL_X),
 ];
 
 /// What a run shows within its budget, to the last instruction.
 #[test]
 fn budgets(rt: HostRuntime) -> Result<(), Fail> {
     let alloc = rt.alloc();
-    for budget in BUDGETS {
-        check_budget(&rt, alloc, budget)?;
+    for (text, steps, status, shown) in BUDGETS {
+        check_budget(&rt, alloc, text, *steps, *status, shown)?;
     }
     Ok(())
 }
 
-fn check_budget(rt: &impl Abort, alloc: Global, budget: &Budget) -> Result<(), Fail> {
+fn check_budget(
+    rt: &impl Abort,
+    alloc: Global,
+    text: &[u8],
+    steps: u64,
+    code: u8,
+    shown: &[u8],
+) -> Result<(), Fail> {
     let word = Text::from_slice(alloc, b"L.MOD")?;
-    let text = Bytes::from_slice(alloc, budget.content)?;
+    let text = Bytes::from_slice(alloc, text)?;
     let mut volume = volume_of(alloc, b"L.MOD", text, 0)?;
     let mut keys = RamKeys::new(alloc, Bytes::new(alloc), Vec::new(alloc))?;
     let mut screen = RamSink::new(alloc, Bytes::new(alloc), Vec::new(alloc))?;
     let mut report = RamSink::new(alloc, Bytes::new(alloc), Vec::new(alloc))?;
     let mut rack: Rack = Rack::new(alloc);
     let options = Options {
-        steps: budget.steps,
+        steps,
         count: false,
         screen: false,
     };
@@ -1066,8 +696,9 @@ fn check_budget(rt: &impl Abort, alloc: Global, budget: &Budget) -> Result<(), F
         &mut report,
         &mut rack,
     );
-    assert_eq!(rt; status.code(), budget.status);
-    assert_eq!(rt; screen.written().as_slice(), budget.shown);
-    assert_eq!(rt; report.written().as_slice(), budget.reported);
+    let reported: &[u8] = if code == 7 { b"steps spent\n" } else { b"" };
+    assert_eq!(rt; status.code(), code);
+    assert_eq!(rt; screen.written().as_slice(), shown);
+    assert_eq!(rt; report.written().as_slice(), reported);
     Ok(())
 }

@@ -28,7 +28,7 @@ fn subrange(of: Option<Facts>, span: Span) -> Option<Facts>
 }
 
 /// How many values a span of these ends has.
-fn values(low: i32, high: i32) -> u64
+pub fn values(low: i32, high: i32) -> u64
     ensures number { result ≡ types.values (types.span low high) }
     ensures most { result ≤ 4294967296 }
 {
