@@ -2,7 +2,7 @@
 use Rattle.std.specs.Prelude.{◌≡◌, ℕ, ◌+◌, ◌*◌, ◌/◌, ◌%◌, ◌<◌, nat_le, List, [], ◌∷◌, ◌++◌, length, Option, Some, None, option_and_then, slice_get, if◌then◌else◌, ◌==◌}
 use Rattle.lil_base.specs.Fields.{bytes16}
 use Rattle.lil_asm.specs.declared.instr.Instr.{Instr}
-use Rattle.lil_asm.specs.declared.instr.Instr.TheVariants.{Liw, Lib, Dup, Drp, Swp, Lis, Llw, Lgw, Sgw, Rgc, Rgi, Cap, Adc, Sbc, Mlc, Dvc, Mdc, Adi, Sbi, Mli, Dvi, Mdi, Ngi, Abi, Not, Equ, Neq, Lsc, Lec, Lsi, Lei, Ent, Rtn, Jmp, Jpf, Jan, Jor, Jms, Jfs, Cas, Fri, Frn, Trp, Svc}
+use Rattle.lil_asm.specs.declared.instr.Instr.TheVariants.{Liw, Lib, Dup, Drp, Swp, Lis, Llw, Llb, Slw, Slb, Lgw, Lgb, Sgw, Sgb, Lal, Lag, Ldi, Sti, Ldf, Adf, Mov, Mvz, Nlt, Ixc, Ixo, Rgc, Rgi, Cap, Adc, Sbc, Mlc, Dvc, Mdc, Adi, Sbi, Mli, Dvi, Mdi, Ngi, Abi, Uni, Dif, Its, Sym, Sin, Spn, Icl, Ecl, Sle, Not, Equ, Neq, Lsc, Lec, Lsi, Lei, Ent, Rtn, Jmp, Jpf, Jan, Jor, Jms, Jfs, Cas, Fri, Frn, Trp, Svc}
 
 infixl 10 ◌>>=◌
 abbrev pub ◌>>=◌ : {A B : Type 0} → Option A → (A → Option B) → Option B
@@ -31,6 +31,13 @@ with_two_words make code p = do
   w ← word_at code (p + 3)
   Some (make v w, p + 5)
 
+-- two words, one behind the other
+abbrev pub two_words_at : List ℕ → ℕ → Option (ℕ × ℕ)
+two_words_at code p = do
+  v ← word_at code p
+  w ← word_at code (p + 2)
+  Some (v, w)
+
 -- the head of a loop: a word, a byte and a word
 abbrev pub with_loop : List ℕ → ℕ → Option (Instr × ℕ)
 with_loop code p = do
@@ -46,13 +53,6 @@ with_entries code p = do
   t ← word_at code (p + 3)
   if nat_le (p + 5 + 6 * n) (length code) then Some (Cas n t, p + 5) else None
 
--- two words, one behind the other
-abbrev pub two_words_at : List ℕ → ℕ → Option (ℕ × ℕ)
-two_words_at code p = do
-  v ← word_at code p
-  w ← word_at code (p + 2)
-  Some (v, w)
-
 -- the rows of the first bytes with one higher digit
 unfoldable pub row_0 : ℕ → List ℕ → ℕ → Option (Instr × ℕ)
 row_0 b code p =
@@ -66,16 +66,32 @@ row_0 b code p =
 unfoldable pub row_2 : ℕ → List ℕ → ℕ → Option (Instr × ℕ)
 row_2 b code p =
     if b == 0x20 then with_word Llw code p
+    else (if b == 0x21 then with_byte Llb code p
+    else (if b == 0x22 then with_word Slw code p
+    else (if b == 0x23 then with_byte Slb code p
     else (if b == 0x24 then with_word Lgw code p
+    else (if b == 0x25 then with_byte Lgb code p
     else (if b == 0x26 then with_word Sgw code p
-    else None))
+    else (if b == 0x27 then with_byte Sgb code p
+    else (if b == 0x2c then with_word Lal code p
+    else (if b == 0x2d then with_word Lag code p
+    else None)))))))))
 
 unfoldable pub row_3 : ℕ → List ℕ → ℕ → Option (Instr × ℕ)
 row_3 b code p =
-    if b == 0x39 then with_two_words Rgc code p
+    if b == 0x30 then Some (Ldi, p + 1)
+    else (if b == 0x31 then Some (Sti, p + 1)
+    else (if b == 0x32 then with_word Ldf code p
+    else (if b == 0x33 then with_word Adf code p
+    else (if b == 0x34 then with_word Mov code p
+    else (if b == 0x35 then with_two_words Mvz code p
+    else (if b == 0x36 then Some (Nlt, p + 1)
+    else (if b == 0x37 then with_two_words Ixc code p
+    else (if b == 0x38 then with_word Ixo code p
+    else (if b == 0x39 then with_two_words Rgc code p
     else (if b == 0x3a then with_two_words Rgi code p
     else (if b == 0x3b then Some (Cap, p + 1)
-    else None))
+    else None)))))))))))
 
 unfoldable pub row_4 : ℕ → ℕ → Option (Instr × ℕ)
 row_4 b p =
@@ -95,14 +111,23 @@ row_4 b p =
 
 unfoldable pub row_5 : ℕ → ℕ → Option (Instr × ℕ)
 row_5 b p =
-    if b == 0x59 then Some (Not, p + 1)
+    if b == 0x50 then Some (Uni, p + 1)
+    else (if b == 0x51 then Some (Dif, p + 1)
+    else (if b == 0x52 then Some (Its, p + 1)
+    else (if b == 0x53 then Some (Sym, p + 1)
+    else (if b == 0x54 then Some (Sin, p + 1)
+    else (if b == 0x55 then Some (Spn, p + 1)
+    else (if b == 0x56 then Some (Icl, p + 1)
+    else (if b == 0x57 then Some (Ecl, p + 1)
+    else (if b == 0x58 then Some (Sle, p + 1)
+    else (if b == 0x59 then Some (Not, p + 1)
     else (if b == 0x5a then Some (Equ, p + 1)
     else (if b == 0x5b then Some (Neq, p + 1)
     else (if b == 0x5c then Some (Lsc, p + 1)
     else (if b == 0x5d then Some (Lec, p + 1)
     else (if b == 0x5e then Some (Lsi, p + 1)
     else (if b == 0x5f then Some (Lei, p + 1)
-    else None))))))
+    else None)))))))))))))))
 
 unfoldable pub row_6 : ℕ → List ℕ → ℕ → Option (Instr × ℕ)
 row_6 b code p =
@@ -170,8 +195,24 @@ bytes_of Drp = 0x04 ∷ []
 bytes_of Swp = 0x05 ∷ []
 bytes_of (Lis n) = (0x10 + n % 16) ∷ []
 bytes_of (Llw w) = word_bytes 0x20 w
+bytes_of (Llb n) = byte_bytes 0x21 n
+bytes_of (Slw w) = word_bytes 0x22 w
+bytes_of (Slb n) = byte_bytes 0x23 n
 bytes_of (Lgw w) = word_bytes 0x24 w
+bytes_of (Lgb n) = byte_bytes 0x25 n
 bytes_of (Sgw w) = word_bytes 0x26 w
+bytes_of (Sgb n) = byte_bytes 0x27 n
+bytes_of (Lal w) = word_bytes 0x2c w
+bytes_of (Lag w) = word_bytes 0x2d w
+bytes_of Ldi = 0x30 ∷ []
+bytes_of Sti = 0x31 ∷ []
+bytes_of (Ldf w) = word_bytes 0x32 w
+bytes_of (Adf w) = word_bytes 0x33 w
+bytes_of (Mov w) = word_bytes 0x34 w
+bytes_of (Mvz v w) = two_word_bytes 0x35 v w
+bytes_of Nlt = 0x36 ∷ []
+bytes_of (Ixc v w) = two_word_bytes 0x37 v w
+bytes_of (Ixo w) = word_bytes 0x38 w
 bytes_of (Rgc v w) = two_word_bytes 0x39 v w
 bytes_of (Rgi v w) = two_word_bytes 0x3a v w
 bytes_of Cap = 0x3b ∷ []
@@ -187,6 +228,15 @@ bytes_of Dvi = 0x48 ∷ []
 bytes_of Mdi = 0x49 ∷ []
 bytes_of Ngi = 0x4a ∷ []
 bytes_of Abi = 0x4b ∷ []
+bytes_of Uni = 0x50 ∷ []
+bytes_of Dif = 0x51 ∷ []
+bytes_of Its = 0x52 ∷ []
+bytes_of Sym = 0x53 ∷ []
+bytes_of Sin = 0x54 ∷ []
+bytes_of Spn = 0x55 ∷ []
+bytes_of Icl = 0x56 ∷ []
+bytes_of Ecl = 0x57 ∷ []
+bytes_of Sle = 0x58 ∷ []
 bytes_of Not = 0x59 ∷ []
 bytes_of Equ = 0x5a ∷ []
 bytes_of Neq = 0x5b ∷ []
@@ -196,15 +246,15 @@ bytes_of Lsi = 0x5e ∷ []
 bytes_of Lei = 0x5f ∷ []
 bytes_of (Ent w) = word_bytes 0x68 w
 bytes_of Rtn = 0x6a ∷ []
-bytes_of (Jmp t) = word_bytes 0x70 t
-bytes_of (Jpf t) = word_bytes 0x71 t
-bytes_of (Jan t) = word_bytes 0x72 t
-bytes_of (Jor t) = word_bytes 0x73 t
+bytes_of (Jmp w) = word_bytes 0x70 w
+bytes_of (Jpf w) = word_bytes 0x71 w
+bytes_of (Jan w) = word_bytes 0x72 w
+bytes_of (Jor w) = word_bytes 0x73 w
 bytes_of (Jms n) = byte_bytes 0x74 n
 bytes_of (Jfs n) = byte_bytes 0x75 n
-bytes_of (Cas n t) = two_word_bytes 0x76 n t
+bytes_of (Cas v w) = two_word_bytes 0x76 v w
 bytes_of (Fri o s t) = loop_bytes o s t
-bytes_of (Frn o t) = two_word_bytes 0x78 o t
+bytes_of (Frn v w) = two_word_bytes 0x78 v w
 bytes_of (Trp n) = byte_bytes 0x79 n
 bytes_of (Svc n) = byte_bytes 0x7d n
 

@@ -2,7 +2,7 @@
 use Rattle.std.proofs.Common.{◌≡◌, ℕ, ◌+◌, ◌*◌, ◌/◌, ◌%◌, ◌<◌, ◌≤◌, nat_le, List, Option, Some, None, Bool, true, false, ◌==◌, if◌then◌else◌, option_and_then, slice_get, length, refl, subst, arith}
 use Rattle.std.proofs.lemmas.Option.{slice_get_within}
 use Rattle.lil_asm.specs.declared.instr.Instr.{Instr}
-use Rattle.lil_asm.specs.declared.instr.Instr.TheVariants.{Liw, Lib, Dup, Drp, Swp, Lis, Llw, Lgw, Sgw, Rgc, Rgi, Cap, Adc, Sbc, Mlc, Dvc, Mdc, Adi, Sbi, Mli, Dvi, Mdi, Ngi, Abi, Not, Equ, Neq, Lsc, Lec, Lsi, Lei, Ent, Rtn, Jmp, Jpf, Jan, Jor, Jms, Jfs, Cas, Fri, Frn, Trp, Svc}
+use Rattle.lil_asm.specs.declared.instr.Instr.TheVariants.{Liw, Lib, Dup, Drp, Swp, Lis, Llw, Llb, Slw, Slb, Lgw, Lgb, Sgw, Sgb, Lal, Lag, Ldi, Sti, Ldf, Adf, Mov, Mvz, Nlt, Ixc, Ixo, Rgc, Rgi, Cap, Adc, Sbc, Mlc, Dvc, Mdc, Adi, Sbi, Mli, Dvi, Mdi, Ngi, Abi, Uni, Dif, Its, Sym, Sin, Spn, Icl, Ecl, Sle, Not, Equ, Neq, Lsc, Lec, Lsi, Lei, Ent, Rtn, Jmp, Jpf, Jan, Jor, Jms, Jfs, Cas, Fri, Frn, Trp, Svc}
 use Rattle.lil_asm.specs.Bytes.{word_at, with_byte, with_word, with_two_words, with_entries, with_loop, row, row_0, row_2, row_3, row_4, row_5, row_6, row_7, decoded, bytes_of}
 
 -- it begins at a place, lies within the code, and ends behind its bytes
@@ -86,16 +86,32 @@ unfolding row_2
 row_2_stands b code p d l =
     let S : Type 0 = Stands code p d in
     choice (b == 0x20) _ _ d S (word_stands Llw (λ w. refl) code p d)
+    (choice (b == 0x21) _ _ d S (byte_stands Llb (λ b. refl) code p d)
+    (choice (b == 0x22) _ _ d S (word_stands Slw (λ w. refl) code p d)
+    (choice (b == 0x23) _ _ d S (byte_stands Slb (λ b. refl) code p d)
     (choice (b == 0x24) _ _ d S (word_stands Lgw (λ w. refl) code p d)
-    (choice (b == 0x26) _ _ d S (word_stands Sgw (λ w. refl) code p d) (λ h. cc)))
+    (choice (b == 0x25) _ _ d S (byte_stands Lgb (λ b. refl) code p d)
+    (choice (b == 0x26) _ _ d S (word_stands Sgw (λ w. refl) code p d)
+    (choice (b == 0x27) _ _ d S (byte_stands Sgb (λ b. refl) code p d)
+    (choice (b == 0x2c) _ _ d S (word_stands Lal (λ w. refl) code p d)
+    (choice (b == 0x2d) _ _ d S (word_stands Lag (λ w. refl) code p d) (λ h. cc))))))))))
 
 row_3_stands : (b : ℕ) (code : List ℕ) (p : ℕ) (d : Instr × ℕ) → p < length code → row_3 b code p ≡ Some d → Stands code p d
 unfolding row_3
 row_3_stands b code p d l =
     let S : Type 0 = Stands code p d in
-    choice (b == 0x39) _ _ d S (two_stand Rgc (λ v w. refl) code p d)
+    choice (b == 0x30) _ _ d S (one_stands Ldi refl code p d l)
+    (choice (b == 0x31) _ _ d S (one_stands Sti refl code p d l)
+    (choice (b == 0x32) _ _ d S (word_stands Ldf (λ w. refl) code p d)
+    (choice (b == 0x33) _ _ d S (word_stands Adf (λ w. refl) code p d)
+    (choice (b == 0x34) _ _ d S (word_stands Mov (λ w. refl) code p d)
+    (choice (b == 0x35) _ _ d S (two_stand Mvz (λ v w. refl) code p d)
+    (choice (b == 0x36) _ _ d S (one_stands Nlt refl code p d l)
+    (choice (b == 0x37) _ _ d S (two_stand Ixc (λ v w. refl) code p d)
+    (choice (b == 0x38) _ _ d S (word_stands Ixo (λ w. refl) code p d)
+    (choice (b == 0x39) _ _ d S (two_stand Rgc (λ v w. refl) code p d)
     (choice (b == 0x3a) _ _ d S (two_stand Rgi (λ v w. refl) code p d)
-    (choice (b == 0x3b) _ _ d S (one_stands Cap refl code p d l) (λ h. cc)))
+    (choice (b == 0x3b) _ _ d S (one_stands Cap refl code p d l) (λ h. cc))))))))))))
 
 row_4_stands : (b : ℕ) (code : List ℕ) (p : ℕ) (d : Instr × ℕ) → p < length code → row_4 b p ≡ Some d → Stands code p d
 unfolding row_4
@@ -118,13 +134,22 @@ row_5_stands : (b : ℕ) (code : List ℕ) (p : ℕ) (d : Instr × ℕ) → p < 
 unfolding row_5
 row_5_stands b code p d l =
     let S : Type 0 = Stands code p d in
-    choice (b == 0x59) _ _ d S (one_stands Not refl code p d l)
+    choice (b == 0x50) _ _ d S (one_stands Uni refl code p d l)
+    (choice (b == 0x51) _ _ d S (one_stands Dif refl code p d l)
+    (choice (b == 0x52) _ _ d S (one_stands Its refl code p d l)
+    (choice (b == 0x53) _ _ d S (one_stands Sym refl code p d l)
+    (choice (b == 0x54) _ _ d S (one_stands Sin refl code p d l)
+    (choice (b == 0x55) _ _ d S (one_stands Spn refl code p d l)
+    (choice (b == 0x56) _ _ d S (one_stands Icl refl code p d l)
+    (choice (b == 0x57) _ _ d S (one_stands Ecl refl code p d l)
+    (choice (b == 0x58) _ _ d S (one_stands Sle refl code p d l)
+    (choice (b == 0x59) _ _ d S (one_stands Not refl code p d l)
     (choice (b == 0x5a) _ _ d S (one_stands Equ refl code p d l)
     (choice (b == 0x5b) _ _ d S (one_stands Neq refl code p d l)
     (choice (b == 0x5c) _ _ d S (one_stands Lsc refl code p d l)
     (choice (b == 0x5d) _ _ d S (one_stands Lec refl code p d l)
     (choice (b == 0x5e) _ _ d S (one_stands Lsi refl code p d l)
-    (choice (b == 0x5f) _ _ d S (one_stands Lei refl code p d l) (λ h. cc)))))))
+    (choice (b == 0x5f) _ _ d S (one_stands Lei refl code p d l) (λ h. cc))))))))))))))))
 
 row_6_stands : (b : ℕ) (code : List ℕ) (p : ℕ) (d : Instr × ℕ) → p < length code → row_6 b code p ≡ Some d → Stands code p d
 unfolding row_6

@@ -6,7 +6,7 @@ use Rattle.std.proofs.lemmas.Bool.{le-leb}
 use Rattle.std.proofs.lemmas.Option.{slice_get-get_or, slice_get_within}
 use Rattle.lil_asm.specs.Bytes.{word_at, with_byte, with_word, with_two_words, with_entries, with_loop, row, row_of_digit, row_0, row_2, row_3, row_4, row_5, row_6, row_7, decoded, bytes_of, entry_bytes, Sayable}
 use Rattle.lil_asm.specs.declared.instr.Instr.{Instr}
-use Rattle.lil_asm.specs.declared.instr.Instr.TheVariants.{Liw, Lib, Dup, Drp, Swp, Lis, Llw, Lgw, Sgw, Rgc, Rgi, Cap, Adc, Sbc, Mlc, Dvc, Mdc, Adi, Sbi, Mli, Dvi, Mdi, Ngi, Abi, Not, Equ, Neq, Lsc, Lec, Lsi, Lei, Ent, Rtn, Jmp, Jpf, Jan, Jor, Jms, Jfs, Cas, Fri, Frn, Trp, Svc}
+use Rattle.lil_asm.specs.declared.instr.Instr.TheVariants.{Liw, Lib, Dup, Drp, Swp, Lis, Llw, Llb, Slw, Slb, Lgw, Lgb, Sgw, Sgb, Lal, Lag, Ldi, Sti, Ldf, Adf, Mov, Mvz, Nlt, Ixc, Ixo, Rgc, Rgi, Cap, Adc, Sbc, Mlc, Dvc, Mdc, Adi, Sbi, Mli, Dvi, Mdi, Ngi, Abi, Uni, Dif, Its, Sym, Sin, Spn, Icl, Ecl, Sle, Not, Equ, Neq, Lsc, Lec, Lsi, Lei, Ent, Rtn, Jmp, Jpf, Jan, Jor, Jms, Jfs, Cas, Fri, Frn, Trp, Svc}
 use Rattle.lil_asm.specs.Bytes.{Entry}
 
 -- these bytes stand in the code from place p on
@@ -114,8 +114,24 @@ decodes Drp code p s h = by_row code p 0x04 _ h.0 refl
 decodes Swp code p s h = by_row code p 0x05 _ h.0 refl
 decodes (Lis n) code p s h = by_row code p (0x10 + n % 16) _ h.0 (short_row n code p s)
 decodes (Llw w) code p s h = by_row code p 0x20 _ h.0 (word_row Llw code p 0x20 w h)
+decodes (Llb w) code p s h = by_row code p 0x21 _ h.0 (byte_row Llb code p 0x21 w h)
+decodes (Slw w) code p s h = by_row code p 0x22 _ h.0 (word_row Slw code p 0x22 w h)
+decodes (Slb w) code p s h = by_row code p 0x23 _ h.0 (byte_row Slb code p 0x23 w h)
 decodes (Lgw w) code p s h = by_row code p 0x24 _ h.0 (word_row Lgw code p 0x24 w h)
+decodes (Lgb w) code p s h = by_row code p 0x25 _ h.0 (byte_row Lgb code p 0x25 w h)
 decodes (Sgw w) code p s h = by_row code p 0x26 _ h.0 (word_row Sgw code p 0x26 w h)
+decodes (Sgb w) code p s h = by_row code p 0x27 _ h.0 (byte_row Sgb code p 0x27 w h)
+decodes (Lal w) code p s h = by_row code p 0x2c _ h.0 (word_row Lal code p 0x2c w h)
+decodes (Lag w) code p s h = by_row code p 0x2d _ h.0 (word_row Lag code p 0x2d w h)
+decodes Ldi code p s h = by_row code p 0x30 _ h.0 refl
+decodes Sti code p s h = by_row code p 0x31 _ h.0 refl
+decodes (Ldf w) code p s h = by_row code p 0x32 _ h.0 (word_row Ldf code p 0x32 w h)
+decodes (Adf w) code p s h = by_row code p 0x33 _ h.0 (word_row Adf code p 0x33 w h)
+decodes (Mov w) code p s h = by_row code p 0x34 _ h.0 (word_row Mov code p 0x34 w h)
+decodes (Mvz v w) code p s h = by_row code p 0x35 _ h.0 (two_words_row Mvz code p 0x35 v w h)
+decodes Nlt code p s h = by_row code p 0x36 _ h.0 refl
+decodes (Ixc v w) code p s h = by_row code p 0x37 _ h.0 (two_words_row Ixc code p 0x37 v w h)
+decodes (Ixo w) code p s h = by_row code p 0x38 _ h.0 (word_row Ixo code p 0x38 w h)
 decodes (Rgc v w) code p s h = by_row code p 0x39 _ h.0 (two_words_row Rgc code p 0x39 v w h)
 decodes (Rgi v w) code p s h = by_row code p 0x3a _ h.0 (two_words_row Rgi code p 0x3a v w h)
 decodes Cap code p s h = by_row code p 0x3b _ h.0 refl
@@ -131,6 +147,15 @@ decodes Dvi code p s h = by_row code p 0x48 _ h.0 refl
 decodes Mdi code p s h = by_row code p 0x49 _ h.0 refl
 decodes Ngi code p s h = by_row code p 0x4a _ h.0 refl
 decodes Abi code p s h = by_row code p 0x4b _ h.0 refl
+decodes Uni code p s h = by_row code p 0x50 _ h.0 refl
+decodes Dif code p s h = by_row code p 0x51 _ h.0 refl
+decodes Its code p s h = by_row code p 0x52 _ h.0 refl
+decodes Sym code p s h = by_row code p 0x53 _ h.0 refl
+decodes Sin code p s h = by_row code p 0x54 _ h.0 refl
+decodes Spn code p s h = by_row code p 0x55 _ h.0 refl
+decodes Icl code p s h = by_row code p 0x56 _ h.0 refl
+decodes Ecl code p s h = by_row code p 0x57 _ h.0 refl
+decodes Sle code p s h = by_row code p 0x58 _ h.0 refl
 decodes Not code p s h = by_row code p 0x59 _ h.0 refl
 decodes Equ code p s h = by_row code p 0x5a _ h.0 refl
 decodes Neq code p s h = by_row code p 0x5b _ h.0 refl

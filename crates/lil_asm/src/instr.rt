@@ -1,5 +1,5 @@
 ghost use Rattle.std.specs.Prelude.{◌≡◌, ◌+◌, ◌<◌, ◌^◌, length, OnSome};
-ghost use Rattle.lil_asm.specs.Bytes.{word_at, with_byte, with_word, with_two_words, with_entries, with_loop, row, row_0, row_2, row_3, row_4, row_5, row_6, row_7, decoded};
+ghost use Rattle.lil_asm.specs.Bytes.{word_at, two_words_at, with_byte, with_word, with_two_words, with_entries, with_loop, row, row_0, row_2, row_3, row_4, row_5, row_6, row_7, decoded};
 
 /// One instruction, with its operands in the order of their bytes. Lis has its word, from 0 to 15, in its first byte.
 /// Cas has the number of its entries and the place for all other words; the entries follow it in the code.
@@ -12,8 +12,24 @@ pub enum Instr {
     Swp,
     Lis(u8),
     Llw(u16),
+    Llb(u8),
+    Slw(u16),
+    Slb(u8),
     Lgw(u16),
+    Lgb(u8),
     Sgw(u16),
+    Sgb(u8),
+    Lal(u16),
+    Lag(u16),
+    Ldi,
+    Sti,
+    Ldf(u16),
+    Adf(u16),
+    Mov(u16),
+    Mvz(u16, u16),
+    Nlt,
+    Ixc(u16, u16),
+    Ixo(u16),
     Rgc(u16, u16),
     Rgi(u16, u16),
     Cap,
@@ -29,6 +45,15 @@ pub enum Instr {
     Mdi,
     Ngi,
     Abi,
+    Uni,
+    Dif,
+    Its,
+    Sym,
+    Sin,
+    Spn,
+    Icl,
+    Ecl,
+    Sle,
     Not,
     Equ,
     Neq,
@@ -64,6 +89,16 @@ pub fn word_of_bytes(code: &[u8], place: usize) -> Option<u16>
     Some(u16::from(code[place]) * 256 + u16::from(code[place + 1]))
 }
 
+/// Two words, one behind the other.
+fn two_words(code: &[u8], place: usize) -> Option<(u16, u16)>
+    requires { place < 2 ^ 32 + 2 }
+    ensures { result ≡ two_words_at code.now place }
+{
+    let first = word_of_bytes(code, place)?;
+    let second = word_of_bytes(code, place + 2)?;
+    Some((first, second))
+}
+
 #[tactic(auto, unfolding(crate::specs::Bytes::row_0))]
 fn decode_words(first: u8, code: &[u8], place: usize) -> Option<(Instr, usize)>
     requires { place < 2 ^ 32 }
@@ -86,8 +121,15 @@ fn decode_places(first: u8, code: &[u8], place: usize) -> Option<(Instr, usize)>
 {
     match first {
         0x20 => Some((Instr::Llw(word_of_bytes(code, place + 1)?), place + 3)),
+        0x21 => Some((Instr::Llb(*code.get(place + 1)?), place + 2)),
+        0x22 => Some((Instr::Slw(word_of_bytes(code, place + 1)?), place + 3)),
+        0x23 => Some((Instr::Slb(*code.get(place + 1)?), place + 2)),
         0x24 => Some((Instr::Lgw(word_of_bytes(code, place + 1)?), place + 3)),
+        0x25 => Some((Instr::Lgb(*code.get(place + 1)?), place + 2)),
         0x26 => Some((Instr::Sgw(word_of_bytes(code, place + 1)?), place + 3)),
+        0x27 => Some((Instr::Sgb(*code.get(place + 1)?), place + 2)),
+        0x2c => Some((Instr::Lal(word_of_bytes(code, place + 1)?), place + 3)),
+        0x2d => Some((Instr::Lag(word_of_bytes(code, place + 1)?), place + 3)),
         _ => None,
     }
 }
@@ -98,15 +140,28 @@ fn decode_tests(first: u8, code: &[u8], place: usize) -> Option<(Instr, usize)>
     ensures { result ≡ row_3 first code.now place }
 {
     match first {
+        0x30 => Some((Instr::Ldi, place + 1)),
+        0x31 => Some((Instr::Sti, place + 1)),
+        0x32 => Some((Instr::Ldf(word_of_bytes(code, place + 1)?), place + 3)),
+        0x33 => Some((Instr::Adf(word_of_bytes(code, place + 1)?), place + 3)),
+        0x34 => Some((Instr::Mov(word_of_bytes(code, place + 1)?), place + 3)),
+        0x35 => {
+            let (first, second) = two_words(code, place + 1)?;
+            Some((Instr::Mvz(first, second), place + 5))
+        }
+        0x36 => Some((Instr::Nlt, place + 1)),
+        0x37 => {
+            let (first, second) = two_words(code, place + 1)?;
+            Some((Instr::Ixc(first, second), place + 5))
+        }
+        0x38 => Some((Instr::Ixo(word_of_bytes(code, place + 1)?), place + 3)),
         0x39 => {
-            let low = word_of_bytes(code, place + 1)?;
-            let high = word_of_bytes(code, place + 3)?;
-            Some((Instr::Rgc(low, high), place + 5))
+            let (first, second) = two_words(code, place + 1)?;
+            Some((Instr::Rgc(first, second), place + 5))
         }
         0x3a => {
-            let low = word_of_bytes(code, place + 1)?;
-            let high = word_of_bytes(code, place + 3)?;
-            Some((Instr::Rgi(low, high), place + 5))
+            let (first, second) = two_words(code, place + 1)?;
+            Some((Instr::Rgi(first, second), place + 5))
         }
         0x3b => Some((Instr::Cap, place + 1)),
         _ => None,
@@ -141,6 +196,15 @@ fn decode_comparisons(first: u8, place: usize) -> Option<(Instr, usize)>
     ensures { result ≡ row_5 first place }
 {
     match first {
+        0x50 => Some((Instr::Uni, place + 1)),
+        0x51 => Some((Instr::Dif, place + 1)),
+        0x52 => Some((Instr::Its, place + 1)),
+        0x53 => Some((Instr::Sym, place + 1)),
+        0x54 => Some((Instr::Sin, place + 1)),
+        0x55 => Some((Instr::Spn, place + 1)),
+        0x56 => Some((Instr::Icl, place + 1)),
+        0x57 => Some((Instr::Ecl, place + 1)),
+        0x58 => Some((Instr::Sle, place + 1)),
         0x59 => Some((Instr::Not, place + 1)),
         0x5a => Some((Instr::Equ, place + 1)),
         0x5b => Some((Instr::Neq, place + 1)),
@@ -201,9 +265,8 @@ fn decode_jumps(first: u8, code: &[u8], place: usize) -> Option<(Instr, usize)>
         0x76 => decode_case(code, place),
         0x77 => decode_loop(code, place),
         0x78 => {
-            let offset = word_of_bytes(code, place + 1)?;
-            let target = word_of_bytes(code, place + 3)?;
-            Some((Instr::Frn(offset, target), place + 5))
+            let (first, second) = two_words(code, place + 1)?;
+            Some((Instr::Frn(first, second), place + 5))
         }
         0x79 => Some((Instr::Trp(*code.get(place + 1)?), place + 2)),
         0x7d => Some((Instr::Svc(*code.get(place + 1)?), place + 2)),

@@ -1,5 +1,6 @@
 mod Lists
 mod Loading
+mod NoRows
 mod Rows
 mod Running
 mod Search

@@ -1,5 +1,5 @@
 -- Reversed lists, and words that come to a place of a list.
-use Rattle.std.proofs.Common.{◌≡◌, ℕ, ◌+◌, ◌-◌, ◌≤◌, List, [], ◌∷◌, ◌++◌, length, take, drop, reverse, sym, ap, ◌∙◌, arith, length-take, length-drop}
+use Rattle.std.proofs.Common.{◌≡◌, ℕ, ◌+◌, ◌-◌, ◌≤◌, List, [], ◌∷◌, ◌++◌, length, take, drop, reverse, sym, ap, ◌∙◌, arith, length-take, length-drop, append_assoc}
 use Rattle.std.proofs.lemmas.List.{reverse-append, length-reverse, take-append-drop, drop-drop, length-replicate, length-append, length-take-le, drop-append-le, take-append-le, drop-take, take-take, take_at, drop_at}
 use Rattle.std.proofs.Math.Seq.{drop-append_seam}
 use borrow.Rule.Slice.PartMut.{put_mid}
@@ -50,3 +50,21 @@ at_spliced store words at n room h =
 pub length_spliced : (store words : List ℕ) (at : ℕ) → at + length words ≤ length store → length (spliced store at words) ≡ length store
 unfolding spliced
 length_spliced store words at h = simp (length-append, length-take, length-drop) (omega arith)
+
+-- words that come, and more that come behind them
+pub spliced_on : (store words more : List ℕ) (to : ℕ) → to ≤ length store → spliced (spliced store to words) (to + length words) more ≡ spliced store to (words ++ more)
+unfolding spliced
+spliced_on store words more to room =
+    let n : ℕ = to + length words in
+    let front = take to store ++ words in
+    let rest = drop n store in
+    let whole = sym (append_assoc (take to store) words rest) in
+    let long : length front ≡ n = omega (arith, length-append (take to store) words, length-take-le to store room) in
+    let first = ap (take n) whole ∙ take_at front rest n long in
+    let last : drop (n + length more) (take to store ++ (words ++ rest)) ≡ drop (to + length (words ++ more)) store =
+    ap (drop (n + length more)) whole ∙ sym (drop-drop (length more) n (front ++ rest)) ∙ ap (drop (length more)) (drop_at front rest n long)
+    ∙ drop-drop (length more) n store ∙ ap (λ (k : ℕ). drop k store) (omega (arith, length-append words more)) in
+    ap (λ (t : List ℕ). t ++ (more ++ drop (n + length more) (take to store ++ (words ++ rest)))) first
+    ∙ ap (λ (t : List ℕ). front ++ (more ++ t)) last
+    ∙ append_assoc (take to store) words (more ++ drop (to + length (words ++ more)) store)
+    ∙ ap (λ (t : List ℕ). take to store ++ t) (sym (append_assoc words more (drop (to + length (words ++ more)) store)))

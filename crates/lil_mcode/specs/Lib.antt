@@ -5,6 +5,7 @@ pub mod Going
 pub mod Kept
 pub mod Loaded
 pub mod Operators
+pub mod Outcomes
 pub mod Requests
 pub mod State
 pub mod Stops

@@ -1,16 +1,19 @@
 -- What the operators and comparisons of the processor compute.
 use Rattle.std.specs.Prelude.{ℕ, ℤ, Bool, List, ◌∷◌, Result, Ok, Err}
 use Rattle.lil_base.specs.Words.{Whole, Cardinal, Integer, sum, difference, product, quotient, remainder, word_of}
+use Rattle.lil_base.specs.Sets.{union, minus, meet, apart, is_within}
 use Rattle.lil_base.specs.Traps.{arith_trap}
 use Rattle.lil_base.specs.declared.fault.ArithFault.{ArithFault}
 use Rattle.lil_mcode.specs.declared.arithmetic.Operator.{Operator}
 use Rattle.lil_mcode.specs.declared.arithmetic.Operator.TheVariants.{Sum, Difference, Product, Quotient, Remainder}
 use Rattle.lil_mcode.specs.declared.arithmetic.Comparison.{Comparison}
-use Rattle.lil_mcode.specs.declared.arithmetic.Comparison.TheVariants.{Equal, Unequal, LessCardinal, AtMostCardinal, LessInteger, AtMostInteger}
+use Rattle.lil_mcode.specs.declared.arithmetic.Comparison.TheVariants.{Equal, Unequal, LessCardinal, AtMostCardinal, LessInteger, AtMostInteger, Member, Within}
+use Rattle.lil_mcode.specs.declared.arithmetic.Joining.{Joining}
+use Rattle.lil_mcode.specs.declared.arithmetic.Joining.TheVariants.{Union, Minus, Meet, Apart}
 use Rattle.lil_mcode.specs.declared.machine.Event.{Event}
 use Rattle.lil_mcode.specs.declared.machine.Event.TheVariants.{Went, Trap}
 use Rattle.lil_mcode.specs.State.{State}
-use Rattle.lil_mcode.specs.Table.{equal, unequal, less, at_most, going}
+use Rattle.lil_mcode.specs.Table.{equal, unequal, less, at_most, is_member, going}
 
 abbrev pub operator_of : Operator → Whole → ℤ → ℤ → Result ℤ ArithFault
 operator_of Sum = sum
@@ -26,6 +29,14 @@ comparison_of LessCardinal = less Cardinal
 comparison_of AtMostCardinal = at_most Cardinal
 comparison_of LessInteger = less Integer
 comparison_of AtMostInteger = at_most Integer
+comparison_of Member = is_member
+comparison_of Within = is_within
+
+abbrev pub joined_by : Joining → ℕ → ℕ → ℕ
+joined_by Union = union
+joined_by Minus = minus
+joined_by Meet = meet
+joined_by Apart = apart
 
 -- a result as the word that says it
 abbrev pub word_result : Result ℤ ArithFault → Result ℕ ArithFault

@@ -1,19 +1,20 @@
 -- The instruction table: what each instruction does. Bad code is tested before traps, and traps before limits; none of them changes the state.
-use Rattle.std.specs.Prelude.{ℕ, ◌+◌, ◌-◌, ◌%◌, ℤ, Bool, not, List, [], ◌∷◌, length, Option, Some, None, Result, Ok, Err, ◌&&◌, nat_lt, nat_le, ◌==◌, if◌then◌else◌, slice_index, slice_set, is_some, int_lt}
+use Rattle.std.specs.Prelude.{ℕ, ◌+◌, ◌-◌, ◌*◌, ◌%◌, ℤ, Bool, not, List, [], ◌∷◌, ◌++◌, length, take, drop, Option, Some, None, Result, Ok, Err, ◌&&◌, nat_lt, nat_le, ◌==◌, if◌then◌else◌, slice_index, slice_set, is_some, int_lt}
 use Rattle.lil_base.specs.Words.{Whole, Cardinal, Integer, sum, difference, product, quotient, remainder, negation, absolute, between, number_of, word_of}
 use Rattle.lil_base.specs.declared.fault.ArithFault.{ArithFault}
+use Rattle.lil_base.specs.Sets.{has, union, minus, meet, apart, span, is_within}
 use Rattle.lil_base.specs.Traps.{arith_trap}
 use Rattle.lil_base.specs.declared.fault.TrapKind.{TrapKind}
 use Rattle.lil_base.specs.declared.fault.TrapKind.TheVariants as trap
 use Rattle.lil_base.specs.declared.fault.LimitKind.TheVariants as limit
 use Rattle.lil_asm.specs.declared.instr.Instr.{Instr}
-use Rattle.lil_asm.specs.declared.instr.Instr.TheVariants.{Liw, Lib, Dup, Drp, Swp, Lis, Llw, Lgw, Sgw, Rgc, Rgi, Cap, Adc, Sbc, Mlc, Dvc, Mdc, Adi, Sbi, Mli, Dvi, Mdi, Ngi, Abi, Not, Equ, Neq, Lsc, Lec, Lsi, Lei, Ent, Rtn, Jmp, Jpf, Jan, Jor, Jms, Jfs, Cas, Fri, Frn, Trp, Svc}
+use Rattle.lil_asm.specs.declared.instr.Instr.TheVariants.{Liw, Lib, Dup, Drp, Swp, Lis, Llw, Llb, Slw, Slb, Lgw, Lgb, Sgw, Sgb, Lal, Lag, Ldi, Sti, Ldf, Adf, Mov, Mvz, Nlt, Ixc, Ixo, Rgc, Rgi, Cap, Adc, Sbc, Mlc, Dvc, Mdc, Adi, Sbi, Mli, Dvi, Mdi, Ngi, Abi, Uni, Dif, Its, Sym, Sin, Spn, Icl, Ecl, Sle, Not, Equ, Neq, Lsc, Lec, Lsi, Lei, Ent, Rtn, Jmp, Jpf, Jan, Jor, Jms, Jfs, Cas, Fri, Frn, Trp, Svc}
 use Rattle.lil_mcode.specs.declared.machine.Event.{Event}
 use Rattle.lil_mcode.specs.declared.machine.Event.TheVariants.{Went, Request, LevelEnded, Trap, Limit, BadCode}
 use Rattle.lil_asm.specs.Requests.{request_words}
 use Rattle.lil_asm.specs.Bytes.{decoded}
-use Rattle.lil_mcode.specs.Control.{chosen, loop_type, loop_words, turns, after_first}
-use Rattle.lil_mcode.specs.State.{Module, State, module_at, spliced, cleared, body_entry}
+use Rattle.lil_mcode.specs.Control.{above, chosen, loop_type, loop_words, turns, after_first}
+use Rattle.lil_mcode.specs.State.{Module, State, module_at, spliced, zeros, cleared, body_entry}
 
 -- the same but for the place and the expression stack
 abbrev pub going : State → ℕ → List ℕ → State
@@ -110,6 +111,67 @@ load_row a q s = if nat_lt a 65536 then push_row (slice_index s.store a) q s els
 
 abbrev pub store_row : ℕ → ℕ → State → ℕ → List ℕ → Event × State
 store_row a q s x rest = if nat_lt a 65536 then (Went, record s { place = q; stack = rest; store = slice_set s.store a x }) else bad s
+
+-- an address
+abbrev pub address_row : ℕ → ℕ → State → Event × State
+address_row a q s = if nat_lt a 65536 then push_row a q s else bad s
+
+-- an address in place of so many words with these below
+abbrev pub place_row : ℕ → ℕ → State → List ℕ → Event × State
+place_row a q s rest = if nat_lt a 65536 then (Went, going s q (a ∷ rest)) else bad s
+
+abbrev pub further_row : ℕ → ℕ → State → ℕ → List ℕ → Event × State
+further_row w q s a rest = place_row (a + w) q s rest
+
+-- the word so many words behind an address
+abbrev pub fetch_row : ℕ → ℕ → State → ℕ → List ℕ → Event × State
+fetch_row w q s a rest = if nat_lt (a + w) 65536 then (Went, going s q (slice_index s.store (a + w) ∷ rest)) else bad s
+
+abbrev pub put_row : ℕ → State → ℕ → ℕ → List ℕ → Event × State
+put_row q s a x rest = if nat_lt a 65536 then (Went, record s { place = q; stack = rest; store = slice_set s.store a x }) else bad s
+
+-- so many words from one address, as they were, and zeros behind them, go to another
+abbrev pub block : List ℕ → ℕ → ℕ → ℕ → List ℕ
+block store a w z = take w (drop a store) ++ zeros z
+
+abbrev pub move_row : ℕ → ℕ → ℕ → State → ℕ → ℕ → List ℕ → Event × State
+move_row w z q s to from rest =
+    if nat_le (from + w) 65536 && nat_le (to + (w + z)) 65536
+    then (Went, record s { place = q; stack = rest; store = spliced s.store to (block s.store from w z) })
+    else bad s
+
+-- a pointer that isn't NIL
+abbrev pub nil_row : ℕ → State → ℕ → List ℕ → Event × State
+nil_row q s a rest = if a == 0 then (Trap trap.Nil, s) else (Went, going s q s.stack)
+
+-- the address of an element, by its index
+abbrev pub element_row : ℕ → ℕ → ℕ → State → ℕ → ℕ → List ℕ → Event × State
+element_row low w q s a i rest = place_row (a + above low i * w) q s rest
+
+abbrev pub open_row : ℕ → ℕ → State → ℕ → ℕ → ℕ → List ℕ → Event × State
+open_row w q s a high i rest = if nat_lt high i then (Trap trap.Range, s) else place_row (a + i * w) q s rest
+
+-- a word in place of two
+abbrev pub join_row : (ℕ → ℕ → ℕ) → ℕ → State → ℕ → ℕ → List ℕ → Event × State
+join_row f q s x y rest = (Went, going s q (f x y ∷ rest))
+
+-- whether a number is in a set, which stands above it
+abbrev pub is_member : ℕ → ℕ → Bool
+is_member x t = has t x
+
+abbrev pub one_more : ℕ → ℕ → ℕ
+one_more t x = union t (span x x)
+
+abbrev pub one_less : ℕ → ℕ → ℕ
+one_less t x = minus t (span x x)
+
+-- a set with all numbers of a range
+abbrev pub range_set_row : ℕ → State → ℕ → ℕ → ℕ → List ℕ → Event × State
+range_set_row q s t low high rest = if nat_le low high && nat_lt 15 high then bad s else (Went, going s q (union t (span low high) ∷ rest))
+
+-- a set of the store with a number more or less
+abbrev pub member_row : (ℕ → ℕ → ℕ) → ℕ → State → ℕ → ℕ → List ℕ → Event × State
+member_row f q s a x rest = if nat_lt 15 x then bad s else put_row q s a (f (slice_index s.store a) x) rest
 
 -- the topmost word lies in a range of a type, its ends included
 abbrev pub range_row : Whole → ℕ → ℕ → ℕ → State → ℕ → List ℕ → Event × State
@@ -224,8 +286,24 @@ act Drp q m s = on_one s s.stack (drop_row q s)
 act Swp q m s = on_two s s.stack (swap_row q s)
 act (Lis b) q m s = push_row b q s
 act (Llw w) q m s = load_row (s.frame + w) q s
+act (Llb b) q m s = load_row (s.frame + b) q s
+act (Slw w) q m s = on_one s s.stack (store_row (s.frame + w) q s)
+act (Slb b) q m s = on_one s s.stack (store_row (s.frame + b) q s)
 act (Lgw w) q m s = load_row (m.base + w) q s
+act (Lgb b) q m s = load_row (m.base + b) q s
 act (Sgw w) q m s = on_one s s.stack (store_row (m.base + w) q s)
+act (Sgb b) q m s = on_one s s.stack (store_row (m.base + b) q s)
+act (Lal w) q m s = address_row (s.frame + w) q s
+act (Lag w) q m s = address_row (m.base + w) q s
+act Ldi q m s = on_one s s.stack (fetch_row 0 q s)
+act Sti q m s = on_two s s.stack (put_row q s)
+act (Ldf w) q m s = on_one s s.stack (fetch_row w q s)
+act (Adf w) q m s = on_one s s.stack (further_row w q s)
+act (Mov w) q m s = on_two s s.stack (move_row w 0 q s)
+act (Mvz w z) q m s = on_two s s.stack (move_row w z q s)
+act Nlt q m s = on_one s s.stack (nil_row q s)
+act (Ixc low w) q m s = on_two s s.stack (element_row low w q s)
+act (Ixo w) q m s = on_three s s.stack (open_row w q s)
 act (Rgc low high) q m s = on_one s s.stack (range_row Cardinal low high q s)
 act (Rgi low high) q m s = on_one s s.stack (range_row Integer low high q s)
 act Cap q m s = on_one s s.stack (change_row capital q s)
@@ -241,6 +319,15 @@ act Dvi q m s = two_row quotient Integer q s s.stack
 act Mdi q m s = two_row remainder Integer q s s.stack
 act Ngi q m s = on_one s s.stack (sign_row negation q s)
 act Abi q m s = on_one s s.stack (sign_row absolute q s)
+act Uni q m s = on_two s s.stack (join_row union q s)
+act Dif q m s = on_two s s.stack (join_row minus q s)
+act Its q m s = on_two s s.stack (join_row meet q s)
+act Sym q m s = on_two s s.stack (join_row apart q s)
+act Sin q m s = compare_row is_member q s s.stack
+act Spn q m s = on_three s s.stack (range_set_row q s)
+act Icl q m s = on_two s s.stack (member_row one_more q s)
+act Ecl q m s = on_two s s.stack (member_row one_less q s)
+act Sle q m s = compare_row is_within q s s.stack
 act Not q m s = on_one s s.stack (change_row denied q s)
 act Equ q m s = compare_row equal q s s.stack
 act Neq q m s = compare_row unequal q s s.stack

@@ -4,12 +4,12 @@ ghost use Rattle.std.specs.Prelude.{◌≡◌, ◌≢◌, pos, ◌-ℤ◌, ◌<�
 ghost use Rattle.lil_base.specs.Words.{Cardinal, Integer, number_of, word_of};
 ghost use Rattle.lil_base.specs.Traps.{arith_trap};
 ghost use Rattle.lil_mcode.specs.Control.{loop_type, turns_up, turns, after_first};
-ghost use Rattle.lil_mcode.specs.Operators.{operator_of, comparison_of, word_result};
+ghost use Rattle.lil_mcode.specs.Operators.{operator_of, comparison_of, joined_by, word_result};
 ghost use Rattle.lil_mcode.specs.Table.{capital, truth};
 
 use lil_base::{
     ArithFault, TrapKind, add_card, add_int, div_card, div_int, mod_card, mod_int, mul_card,
-    mul_int, sub_card, sub_int,
+    mul_int, set_either, set_has, set_meet, set_minus, set_union, set_within, sub_card, sub_int,
 };
 
 /// The operators on two whole numbers.
@@ -31,6 +31,17 @@ pub(crate) enum Comparison {
     AtMostCardinal,
     LessInteger,
     AtMostInteger,
+    Member,
+    Within,
+}
+
+/// The operators on two sets.
+#[derive(Clone, Copy)]
+pub(crate) enum Joining {
+    Union,
+    Minus,
+    Meet,
+    Apart,
 }
 
 /// The INTEGER that a word says.
@@ -109,6 +120,20 @@ pub(crate) fn compares(comparison: Comparison, x: u16, y: u16) -> bool
         Comparison::AtMostCardinal => x <= y,
         Comparison::LessInteger => integer(x) < integer(y),
         Comparison::AtMostInteger => integer(x) <= integer(y),
+        Comparison::Member => set_has(y, x),
+        Comparison::Within => set_within(x, y),
+    }
+}
+
+/// What two sets make.
+pub(crate) fn joined(joining: Joining, s: u16, t: u16) -> u16
+    ensures { result ≡ joined_by joining s t }
+{
+    match joining {
+        Joining::Union => set_union(s, t),
+        Joining::Minus => set_minus(s, t),
+        Joining::Meet => set_meet(s, t),
+        Joining::Apart => set_either(s, t),
     }
 }
 

@@ -12,11 +12,13 @@ use lil_base::{Bytes, Memory, Name};
 use std::alloc::Global;
 use std::marker::Model;
 
+mod addresses;
 mod control;
 mod fetching;
 mod frames;
 mod loading;
 mod operators;
+mod sets;
 mod stack;
 
 /// How many modules may be loaded.

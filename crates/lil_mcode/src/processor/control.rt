@@ -84,7 +84,7 @@ impl Processor {
         }
     }
 
-    fn three(&self) -> Option<(u16, u16, u16)>
+    pub(super) fn three(&self) -> Option<(u16, u16, u16)>
         ensures { MatchOption result (length self.now.stack < 3) (λ p. self.now.stack ≡ p.2 ∷ p.1 ∷ p.0 ∷ drop 3 self.now.stack) }
     {
         let count = self.stack.len();
@@ -157,7 +157,7 @@ impl Processor {
     }
 }
 
-fn distance(low: u16, x: u16) -> u32
+pub(super) fn distance(low: u16, x: u16) -> u32
     ensures { result ≡ above low x }
 {
     (u32::from(x) + (65536 - u32::from(low))) % 65536

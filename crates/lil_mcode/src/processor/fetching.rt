@@ -10,7 +10,7 @@ ghost use Rattle.lil_mcode.specs.State.{zeros};
 ghost use Rattle.lil_mcode.specs.Table.{mstep, performed};
 
 use super::{LoadedModule, Processor};
-use crate::arithmetic::{Comparison, Operator, trap_of, truth_word};
+use crate::arithmetic::{Comparison, Joining, Operator, trap_of, truth_word};
 use crate::machine::Event;
 use lil_asm::word_of_bytes;
 use lil_base::{Bytes, LimitKind};
@@ -130,6 +130,17 @@ impl Processor {
         ensures { performed self.old (current self.old) (row first (running_code self.old) place) ≡ (result, self.new) }
     {
         match first {
+            0x7e..=0xff => Event::BadCode,
+            0x7a..=0x7c => Event::BadCode,
+            0x6b..=0x6f => Event::BadCode,
+            0x69 => Event::BadCode,
+            0x60..=0x67 => Event::BadCode,
+            0x4c..=0x4f => Event::BadCode,
+            0x3c..=0x3f => Event::BadCode,
+            0x2e..=0x2f => Event::BadCode,
+            0x28..=0x2b => Event::BadCode,
+            0x06..=0x0f => Event::BadCode,
+            0x00 => Event::BadCode,
             0x01 => {
                 let Some(w) = self.word(place + 1) else {
                     return Event::BadCode;
@@ -152,6 +163,24 @@ impl Processor {
                 };
                 self.load(u32::from(self.frame) + u32::from(w), (place + 3) as u16)
             }
+            0x21 => {
+                let Some(b) = self.byte(place + 1) else {
+                    return Event::BadCode;
+                };
+                self.load(u32::from(self.frame) + u32::from(b), (place + 2) as u16)
+            }
+            0x22 => {
+                let Some(w) = self.word(place + 1) else {
+                    return Event::BadCode;
+                };
+                self.store(u32::from(self.frame) + u32::from(w), (place + 3) as u16)
+            }
+            0x23 => {
+                let Some(b) = self.byte(place + 1) else {
+                    return Event::BadCode;
+                };
+                self.store(u32::from(self.frame) + u32::from(b), (place + 2) as u16)
+            }
             0x24 => {
                 let Some(w) = self.word(place + 1) else {
                     return Event::BadCode;
@@ -159,6 +188,15 @@ impl Processor {
                 self.load(
                     u32::from(self.data_base()) + u32::from(w),
                     (place + 3) as u16,
+                )
+            }
+            0x25 => {
+                let Some(b) = self.byte(place + 1) else {
+                    return Event::BadCode;
+                };
+                self.load(
+                    u32::from(self.data_base()) + u32::from(b),
+                    (place + 2) as u16,
                 )
             }
             0x26 => {
@@ -169,6 +207,69 @@ impl Processor {
                     u32::from(self.data_base()) + u32::from(w),
                     (place + 3) as u16,
                 )
+            }
+            0x27 => {
+                let Some(b) = self.byte(place + 1) else {
+                    return Event::BadCode;
+                };
+                self.store(
+                    u32::from(self.data_base()) + u32::from(b),
+                    (place + 2) as u16,
+                )
+            }
+            0x2c => {
+                let Some(w) = self.word(place + 1) else {
+                    return Event::BadCode;
+                };
+                self.push_address(u32::from(self.frame) + u32::from(w), (place + 3) as u16)
+            }
+            0x2d => {
+                let Some(w) = self.word(place + 1) else {
+                    return Event::BadCode;
+                };
+                self.push_address(
+                    u32::from(self.data_base()) + u32::from(w),
+                    (place + 3) as u16,
+                )
+            }
+            0x30 => self.fetch(0, (place + 1) as u16),
+            0x31 => self.put_word((place + 1) as u16),
+            0x32 => {
+                let Some(w) = self.word(place + 1) else {
+                    return Event::BadCode;
+                };
+                self.fetch(w, (place + 3) as u16)
+            }
+            0x33 => {
+                let Some(w) = self.word(place + 1) else {
+                    return Event::BadCode;
+                };
+                self.go_further(w, (place + 3) as u16)
+            }
+            0x34 => {
+                let Some(w) = self.word(place + 1) else {
+                    return Event::BadCode;
+                };
+                self.move_words(w, 0, (place + 3) as u16)
+            }
+            0x35 => {
+                let Some((low, high)) = self.two_words(place + 1) else {
+                    return Event::BadCode;
+                };
+                self.move_words(low, high, (place + 5) as u16)
+            }
+            0x36 => self.test_nil((place + 1) as u16),
+            0x37 => {
+                let Some((low, high)) = self.two_words(place + 1) else {
+                    return Event::BadCode;
+                };
+                self.element(low, high, (place + 5) as u16)
+            }
+            0x38 => {
+                let Some(w) = self.word(place + 1) else {
+                    return Event::BadCode;
+                };
+                self.open_element(w, (place + 3) as u16)
             }
             0x39 => {
                 let Some((low, high)) = self.two_words(place + 1) else {
@@ -195,6 +296,15 @@ impl Processor {
             0x49 => self.integers(Operator::Remainder, (place + 1) as u16),
             0x4a => self.negate((place + 1) as u16),
             0x4b => self.take_sign((place + 1) as u16),
+            0x50 => self.join(Joining::Union, (place + 1) as u16),
+            0x51 => self.join(Joining::Minus, (place + 1) as u16),
+            0x52 => self.join(Joining::Meet, (place + 1) as u16),
+            0x53 => self.join(Joining::Apart, (place + 1) as u16),
+            0x54 => self.compare(Comparison::Member, (place + 1) as u16),
+            0x55 => self.add_range((place + 1) as u16),
+            0x56 => self.include((place + 1) as u16),
+            0x57 => self.exclude((place + 1) as u16),
+            0x58 => self.compare(Comparison::Within, (place + 1) as u16),
             0x59 => self.deny((place + 1) as u16),
             0x5a => self.compare(Comparison::Equal, (place + 1) as u16),
             0x5b => self.compare(Comparison::Unequal, (place + 1) as u16),
@@ -284,7 +394,6 @@ impl Processor {
                 };
                 self.request(b, (place + 2) as u16)
             }
-            _ => Event::BadCode,
         }
     }
 }

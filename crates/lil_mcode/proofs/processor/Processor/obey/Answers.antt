@@ -1,0 +1,22 @@
+use Rattle.std.proofs.Common.{ℕ, Option, ap, arith}
+use Rattle.lil_asm.specs.declared.instr.Instr.{Instr}
+use Rattle.lil_mcode.specs.Fetch.{running_code, current}
+use Rattle.lil_mcode.specs.Table.{performed}
+use Rattle.lil_mcode.proofs.NoRows.{no_frame, no_late_frame, no_jump, no_later}
+use Rattle.lil_mcode.proofs.processor.Processor.obey.Goals as goal
+
+pub returns-in-96-to-103 : goal.returns-in-96-to-103
+returns-in-96-to-103 c =
+    ap (λ (o : Option (Instr × ℕ)). performed c.args.self.now (current c.args.self.now) o) (no_frame c.args.first (running_code c.args.self.now) c.args.place (omega arith) (omega arith))
+
+pub returns-in-107-to-111 : goal.returns-in-107-to-111
+returns-in-107-to-111 c =
+    ap (λ (o : Option (Instr × ℕ)). performed c.args.self.now (current c.args.self.now) o) (no_late_frame c.args.first (running_code c.args.self.now) c.args.place (omega arith) (omega arith))
+
+pub returns-in-122-to-124 : goal.returns-in-122-to-124
+returns-in-122-to-124 c =
+    ap (λ (o : Option (Instr × ℕ)). performed c.args.self.now (current c.args.self.now) o) (no_jump c.args.first (running_code c.args.self.now) c.args.place (omega arith) (omega arith))
+
+pub returns-in-126-to-255 : goal.returns-in-126-to-255
+returns-in-126-to-255 c =
+    ap (λ (o : Option (Instr × ℕ)). performed c.args.self.now (current c.args.self.now) o) (no_later c.args.first (running_code c.args.self.now) c.args.place (omega arith))
