@@ -67,12 +67,12 @@ cases_are p i n vs (Some fs) q = ap (λ m. m q) (ap fields_sense (sym (l.rolls-V
 scalar_is : (x : Simple) → sense (v.Scalar x) ≡ record { name = bare_name x; means = λ e. simple_means e x }
 scalar_is x = ap sense (sym (v.rolls-Scalar x)) ∙ sort_rolled (o.Scalar x)
 
-array_is : (p : Place) (xs : List Simple) (y : Sort) → sense (v.ArrayOf p xs y) ≡ record { name = None; means = λ e. not_built p (array_means e p xs (sense y).means) }
+array_is : (p : Place) (xs : List Simple) (y : Sort) → sense (v.ArrayOf p xs y) ≡ record { name = None; means = λ e. array_means e p xs (sense y).means }
 array_is p xs y = ap sense (sym (v.rolls-ArrayOf p xs y)) ∙ sort_rolled (o.ArrayOf p xs y)
 
-record_is : (p : Place) (fs : List FieldList) → sense (v.RecordOf p fs) ≡ record { name = None; means = λ e. not_built p (record_means e p fs) }
+record_is : (p : Place) (fs : List FieldList) → sense (v.RecordOf p fs) ≡ record { name = None; means = λ e. record_means e p fs }
 record_is p fs = ap sense (sym (v.rolls-RecordOf p fs)) ∙ sort_rolled (o.RecordOf p fs)
-    ∙ (λ j. record { name = None; means = λ e. not_built p (after (fields_are fs (e, no_fields) j) (λ q. form_node q.0 p (record_form q.1))) })
+    ∙ (λ j. record { name = None; means = λ e. after (fields_are fs (e, no_fields) j) (λ q. form_node q.0 p (record_form q.1)) })
 
 set_is : (p : Place) (x : Simple) → sense (v.SetOver p x) ≡ record { name = None; means = λ e. not_built p (set_means e p x) }
 set_is p x = ap sense (sym (v.rolls-SetOver p x)) ∙ sort_rolled (o.SetOver p x)
@@ -106,12 +106,12 @@ module _ {of : Sort} where
     pub is_scalar : {x : Simple} {m : Made} {s : Option Fault} → of ≡ v.Scalar x → Said (simple_means e x) r m s → Said (sort_means e of) r m s
     is_scalar {x = x} is h = said_as (ap (sort_means e) is ∙ ap (λ s. s.means e) (scalar_is x)) h
 
-    pub is_array_of : (xs : List Simple) (y : Sort) {p : Place} {f : Env} {os : List (Option ℕ)} {m w : Made} {a s t u : Option Fault} → of ≡ v.ArrayOf p xs y
-        → a ≡ noted r (row true p NotBuilt) → Said {A = Env × List (Option ℕ)} (walk index_step (e, []) xs) a (f, os) t → Said (sort_means f y) t m u → Said {A = Made} (walk (array_step p) m (reverse os)) u w s → Said (sort_means e of) r w s
-    is_array_of xs y {p = p} is note h k l = said_as (ap (sort_means e) is ∙ ap (λ s. s.means e) (array_is p xs y)) (said_not_built p note (said_after _ _ h (said_after _ _ k l)))
+    pub is_array_of : (xs : List Simple) (y : Sort) {p : Place} {f : Env} {os : List (Option ℕ)} {m w : Made} {s t u : Option Fault} → of ≡ v.ArrayOf p xs y
+        → Said {A = Env × List (Option ℕ)} (walk index_step (e, []) xs) r (f, os) t → Said (sort_means f y) t m u → Said {A = Made} (walk (array_step p) m (reverse os)) u w s → Said (sort_means e of) r w s
+    is_array_of xs y {p = p} is h k l = said_as (ap (sort_means e) is ∙ ap (λ s. s.means e) (array_is p xs y)) (said_after _ _ h (said_after _ _ k l))
 
-    pub is_record_of : (fs : List FieldList) {p : Place} {m : Made} {a s : Option Fault} → of ≡ v.RecordOf p fs → a ≡ noted r (row true p NotBuilt) → Said (record_means e p fs) a m s → Said (sort_means e of) r m s
-    is_record_of fs {p = p} is note h = said_as (ap (sort_means e) is ∙ ap (λ s. s.means e) (record_is p fs)) (said_not_built p note h)
+    pub is_record_of : (fs : List FieldList) {p : Place} {m : Made} {s : Option Fault} → of ≡ v.RecordOf p fs → Said (record_means e p fs) r m s → Said (sort_means e of) r m s
+    is_record_of fs {p = p} is h = said_as (ap (sort_means e) is ∙ ap (λ s. s.means e) (record_is p fs)) h
 
     pub is_set_over : {x : Simple} {p : Place} {m : Made} {a s : Option Fault} → of ≡ v.SetOver p x → a ≡ noted r (row true p NotBuilt) → Said (set_means e p x) a m s → Said (sort_means e of) r m s
     is_set_over {x = x} {p = p} is note h = said_as (ap (sort_means e) is ∙ ap (λ s. s.means e) (set_is p x)) (said_not_built p note h)

@@ -158,14 +158,12 @@ pub fn sort(
             Ok(sort)
         }
         Sort::ArrayOf(place, xs, y) => {
-            report.note(true, *place, FaultKind::NotBuilt);
             let indexes = indexes(alloc, env, report, xs.as_slice())?;
             let element = sort(alloc, env, report, y.get())?;
             let sort = arrays(env, report, *place, indexes, element)?;
             Ok(sort)
         }
         Sort::RecordOf(place, lists) => {
-            report.note(true, *place, FaultKind::NotBuilt);
             let sort = record_of(alloc, env, report, *place, lists.as_slice())?;
             Ok(sort)
         }

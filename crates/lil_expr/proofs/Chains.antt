@@ -12,7 +12,7 @@ use Rattle.lil_asm.specs.declared.instr.Instr.{Instr}
 use Rattle.lil_table.specs.Rows.{IsAt, InstrsAt, two_code, short_code}
 use Rattle.lil_labels.specs.declared.buffer.Aim.{Aim}
 use Rattle.lil_labels.specs.declared.buffer.Aim.TheVariants as aim
-use Rattle.lil_labels.specs.Drafts.{Draft, Final, Emits, Nothing, Doing, DoingAll, Makes, Places, aimed}
+use Rattle.lil_labels.specs.Drafts.{Draft, Emits, Nothing, Doing, DoingAll, Makes, Places, aimed}
 use Rattle.lil_labels.specs.Emitting.{emits_none, emits_then, emits_as, emits_here, emits_fresh}
 use Rattle.lil_expr.specs.Generating.{Value, Operating, OperatingAll, aim_of}
 

@@ -1,30 +1,22 @@
 -- The code of expressions, form by form.
-use Rattle.std.proofs.Common.{◌≡◌, ℕ, true, List, length, map, refl, ap, ◌∙◌, subst, Bool, false, arith}
+use Rattle.std.proofs.Common.{◌≡◌, ℕ, true, List, length, map, refl, subst}
 use Rattle.lil_base.specs.declared.operator.OneOp.{OneOp}
-use Rattle.lil_base.specs.declared.operator.TwoOp.{TwoOp}
-use Rattle.lil_base.specs.declared.operator.TwoOp.TheVariants.{Or, And}
 use Rattle.lil_resolved.specs.Kinds.{Kind}
 use Rattle.lil_resolved.specs.Scalars.{Scalar, scalar_word, within}
-use Rattle.lil_resolved.specs.Resolved.{Variable, Function, Expression, Constant, Taken, One, Two, Short, Apply, kind_of}
+use Rattle.lil_resolved.specs.Resolved.{Function, Expression, Constant, One, Apply, kind_of}
 use Rattle.lil_resolved.specs.declared.resolved.ROperation.{ROperation}
 use Rattle.lil_resolved.specs.Views.{chained, operation_of}
 use Rattle.lil_asm.specs.declared.instr.Instr.{Instr}
-use Rattle.lil_asm.specs.declared.instr.Instr.TheVariants.{Liw, Lgw}
-use Rattle.lil_table.specs.Rows.{IsAt, InstrsAt, one_code, two_code, function_code, short_code}
-use Rattle.lil_labels.specs.declared.buffer.Aim.{Aim}
-use Rattle.lil_labels.specs.declared.buffer.Aim.TheVariants as aim
-use Rattle.lil_labels.specs.Drafts.{Draft, Final, Meaning, Emits, Nothing, Doing, DoingAll, Makes, Places, aimed}
-use Rattle.lil_labels.specs.Emitting.{emits_then, emits_as, emits_here, emits_fresh}
+use Rattle.lil_asm.specs.declared.instr.Instr.TheVariants.{Liw}
+use Rattle.lil_table.specs.Rows.{IsAt, InstrsAt, one_code, function_code}
+use Rattle.lil_labels.specs.Drafts.{Draft, Emits, Doing, DoingAll}
+use Rattle.lil_labels.specs.Emitting.{emits_then, emits_as}
 use Rattle.lil_expr.specs.Generating.{Value, OperatingAll}
-use Rattle.lil_expr.specs.Variables.{known_row}
 use Rattle.lil_expr.proofs.Operators.{one_same}
 
 pub constant_emitted : (k : Kind) (v : Scalar) (w : ℕ) (a b : Draft) → (within k v ≡ true → w ≡ scalar_word v) → Emits a b (Doing (λ word. Liw w)) → Emits a b (Value (Constant k v))
 constant_emitted k v w a b is =
     emits_as a b _ (Value (Constant k v)) (λ x load sound. record { fits = sound; load = subst (λ (w : ℕ). IsAt x.code (length a.bytes) (Liw w) (length b.bytes)) (is sound) load })
-
-pub variable_emitted : (n : ℕ) (k : Kind) (a b : Draft) → Emits a b (Doing (λ word. Lgw n)) → Emits a b (Value (Taken (Variable n) k))
-variable_emitted n k a b = emits_as a b _ (Value (Taken (Variable n) k)) (λ x load sound. record { known = known_row x.layout n k x.plain sound; load = load })
 
 pub one_emitted : (o : OneOp) (k : Kind) (e : Expression) (a b c : Draft) → Emits a b (Value e) → Emits b c (DoingAll (one_code o k)) → Emits a c (Value (One o (kind_of e) e))
 one_emitted o k e a b c value by =

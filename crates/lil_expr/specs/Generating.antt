@@ -1,15 +1,18 @@
 -- What the code means that the generator of expressions adds.
-use Rattle.std.specs.Prelude.{ℕ, List, map, Option, Some, None}
+use Rattle.std.specs.Prelude.{◌≡◌, ℕ, ◌+◌, ◌≤◌, true, List, map, Option, Some, None}
 use Rattle.lil_base.specs.declared.operator.TwoOp.{TwoOp}
 use Rattle.lil_base.specs.declared.operator.TwoOp.TheVariants.{Or, And}
 use Rattle.lil_resolved.specs.declared.resolved.ROperation.{ROperation}
-use Rattle.lil_resolved.specs.Resolved.{Expression}
-use Rattle.lil_resolved.specs.Sound.{IsSoundExpression}
-use Rattle.lil_resolved.specs.Views.{chained, operation_of}
-use Rattle.lil_table.specs.Rows.{ExpressionAt}
+use Rattle.lil_resolved.specs.declared.resolved.RSelector.{RSelector}
+use Rattle.lil_resolved.specs.Shapes.{words, is_there, shape_at}
+use Rattle.lil_resolved.specs.Resolved.{Designator, Expression, shape_of}
+use Rattle.lil_resolved.specs.Sound.{IsSoundPlace, IsSoundExpression}
+use Rattle.lil_resolved.specs.Views.{chained, operation_of, selector_of, shapes_of}
+use Rattle.lil_table.specs.Rows.{Access, access_of, PlaceAt, ExpressionAt}
 use Rattle.lil_labels.specs.declared.buffer.Aim.{Aim}
 use Rattle.lil_labels.specs.declared.buffer.Aim.TheVariants as aim
-use Rattle.lil_labels.specs.Drafts.{Meaning}
+use Rattle.lil_labels.specs.Drafts.{Final, Meaning}
+use Rattle.lil_expr.specs.Accesses.{words_in}
 
 -- a sound expression has its code
 abbrev pub Value : Expression → Meaning
@@ -21,6 +24,21 @@ Operating o x p q = (start : ℕ) (a : Expression) → Value a x start p → Val
 
 abbrev pub OperatingAll : List ROperation → Meaning
 OperatingAll os x p q = (start : ℕ) (a : Expression) → Value a x start p → Value (chained a (map operation_of os)) x start q
+
+-- the code of a place: how code has it, a number of its shape in the tables, and that 16 bits say where its words lie
+pub record ReachedAt (d : Designator) (a : Access) (n : ℕ) (x : Final) (p q : ℕ) : Type 0 where
+  pub place : PlaceAt x.layout x.code d p q
+  pub access : a ≡ access_of x.layout d
+  pub shape : shape_at (shapes_of x.tables.shapes) n ≡ shape_of x.layout.shapes d
+  pub within : words_in a + words (shape_of x.layout.shapes d) ≤ 32000
+
+-- a sound place where something lies has its code
+abbrev pub Found : Designator → Access → ℕ → Meaning
+Found d a n x p q = IsSoundPlace x.layout.shapes d → is_there (shape_of x.layout.shapes d) ≡ true → ReachedAt d a n x p q
+
+-- behind the code of any place that code has so, it makes it that of the place's part
+abbrev pub Selecting : RSelector → Access → ℕ → Access → ℕ → Meaning
+Selecting s a n b m x p q = (start : ℕ) (d : Designator) → Found d a n x start p → Found (selector_of s d) b m x start q
 
 -- the jump over the right operand, where the left one may decide
 abbrev pub aim_of : TwoOp → Option Aim

@@ -1,3 +1,4 @@
+pub mod Accesses
 pub mod Generating
 pub mod Numbers
 pub mod Variables

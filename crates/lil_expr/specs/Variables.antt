@@ -1,16 +1,50 @@
--- Where a sound variable lies in a plain layout.
-use Rattle.std.proofs.Common.{ℕ}
-use Rattle.std.proofs.lemmas.Option.{slice_get_within}
+-- Where the variables of a final code lie.
+use Rattle.std.proofs.Common.{◌≡◌, ℕ, List, Option, Some, None, refl, sym, ap, ◌∙◌}
+use Rattle.std.specs.Prelude.{slice_get}
+use Rattle.std.specs.Option.{option_map}
+use Rattle.std.proofs.lemmas.Option.{none-some, same_Some, slice_get-map}
+use Rattle.lil_resolved.specs.declared.resolved.RDeclared.{RDeclared}
 use Rattle.lil_resolved.specs.Kinds.{Kind}
-use Rattle.lil_resolved.specs.Shapes.{Word}
+use Rattle.lil_resolved.specs.Shapes.{Shape, Word}
 use Rattle.lil_resolved.specs.Sound.{IsSoundVariable}
-use Rattle.lil_table.specs.Rows.{Layout, KnownRow}
-use Rattle.lil_labels.specs.Drafts.{IsPlain}
+use Rattle.lil_resolved.specs.Views.{offset_of, shape_declared}
+use Rattle.lil_table.specs.Rows.{KnownRow}
+use Rattle.lil_labels.specs.Tables.{variable_by}
+use Rattle.lil_labels.specs.Drafts.{Final}
 
-abbrev pub known_row : (l : Layout) (x : ℕ) (k : Kind) → IsPlain l → IsSoundVariable l.shapes x k → KnownRow l x k
-known_row l x k plain sound = record {
-  offset = x;
-  at = plain x (slice_get_within l.shapes x (Word k) sound.known);
+-- what a mapped item was made of
+mapped : {A B : Type 0} (f : A → B) (o : Option A) (b : B) → option_map f o ≡ Some b → (a : A) × (o ≡ Some a) × (f a ≡ b)
+mapped f None b h = absurd (none-some b h)
+mapped f (Some a) b h = (a, refl, same_Some (f a) b h)
+
+-- the variable of a shape that stands in the tables
+pub record Standing (x : Final) (v : ℕ) (t : Shape) : Type 0 where
+  pub variable : RDeclared
+  pub there : slice_get x.tables.variables v ≡ Some variable
+  pub shape : shape_declared x.tables.shapes variable ≡ t
+  pub offset : slice_get x.layout.offsets v ≡ Some variable.offset
+
+pub standing : (x : Final) (v : ℕ) (t : Shape) → slice_get x.layout.shapes v ≡ Some t → Standing x v t
+standing x v t h =
+    let vs = x.tables.variables in
+    let of = shape_declared x.tables.shapes in
+    let found = mapped of (slice_get vs v) t (sym (slice_get-map of vs v) ∙ ap (λ (ts : List Shape). slice_get ts v) (sym x.described.shapes) ∙ h) in
+    record {
+      variable = found.0;
+      there = found.1;
+      shape = found.2;
+      offset = ap (λ (os : List ℕ). slice_get os v) x.described.offsets ∙ slice_get-map offset_of vs v ∙ ap (option_map offset_of) found.1;
+    }
+
+pub offset_known : (x : Final) (v : ℕ) (t : Shape) → slice_get x.layout.shapes v ≡ Some t → slice_get x.layout.offsets v ≡ Some (variable_by (slice_get x.tables.variables v)).offset
+offset_known x v t h =
+    let s = standing x v t h in
+    s.offset ∙ ap (λ (o : Option RDeclared). Some (variable_by o).offset) (sym s.there)
+
+abbrev pub known_row : (x : Final) (v : ℕ) (k : Kind) → IsSoundVariable x.layout.shapes v k → KnownRow x.layout v k
+known_row x v k sound = record {
+  offset = (variable_by (slice_get x.tables.variables v)).offset;
+  at = offset_known x v (Word k) sound.known;
   typed = sound.known;
   base = sound.base;
 }

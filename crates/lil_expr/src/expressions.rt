@@ -1,28 +1,34 @@
-//! The code of expressions.
+//! The code of expressions and of places.
 
-ghost use Rattle.std.specs.Prelude.{◌≡◌, OnOk};
+ghost use Rattle.std.specs.Prelude.{◌≡◌, IfOk, OnOk};
 ghost use Rattle.lil_base.specs.Words as words;
 ghost use Rattle.lil_resolved.specs.Kinds.{OfWhole};
-ghost use Rattle.lil_resolved.specs.Views.{base_view, expression_of};
+ghost use Rattle.lil_resolved.specs.Views.{base_view, expression_of, place_of};
 ghost use Rattle.lil_table.specs.Rows.{two_code, one_code};
 ghost use Rattle.lil_labels.specs.Drafts.{DoingAll, Emits};
-ghost use Rattle.lil_expr.specs.Generating.{Value, Operating, OperatingAll, aim_of};
+ghost use Rattle.lil_expr.specs.Accesses.{access_view};
+ghost use Rattle.lil_expr.specs.Generating.{Found, Selecting, Value, Operating, OperatingAll, aim_of};
 
 use crate::functions::emit_function;
 use crate::numbers::constant_word;
+use crate::places::{Access, Reached, emit_address, emit_load, further};
+use crate::ranges::{emit_test, least_word};
 use lil_asm::Instr;
 use lil_base::Memory;
 use lil_labels::{Aim, CodeBuffer};
-use lil_resolved::{OneOp, RBase, RExpr, ROperation, TwoOp, base};
+use lil_resolved::{OneOp, RBase, RExpr, ROperation, RPlace, RSelector, TwoOp, base};
 
 /// Appends the code that leaves an expression's value on the expression stack.
 #[cycle(emitting)]
-pub fn emit_expression(code: &mut CodeBuffer, e: &RExpr) -> Result<(), Memory>
+pub fn emit_expression(code: &mut CodeBuffer<'_>, e: &RExpr) -> Result<(), Memory>
     ensures { OnOk result (Emits code.old code.new (Value (expression_of e.now))) }
 {
     match e {
         RExpr::Constant(base, number) => code.put(Instr::Liw(constant_word(*base, *number))),
-        RExpr::Variable(variable) => code.put(Instr::Lgw(variable.number)),
+        RExpr::Taken(place, _) => {
+            let at = emit_place(code, place)?;
+            emit_load(code, at.access)
+        }
         RExpr::One(operator, value) => {
             emit_expression(code, value.get())?;
             emit_one(code, *operator)
@@ -38,9 +44,59 @@ pub fn emit_expression(code: &mut CodeBuffer, e: &RExpr) -> Result<(), Memory>
     }
 }
 
+/// Appends the code of a place, and says how code then has it. A variable and a field take none.
+#[cycle(emitting)]
+pub fn emit_place(code: &mut CodeBuffer<'_>, of: &RPlace) -> Result<Reached, Memory>
+    ensures { IfOk result (λ at. Emits code.old code.new (Found (place_of of.now) (access_view at.access) at.shape)) }
+{
+    let variable = code.variable(of.number);
+    let selectors = of.selectors.as_slice();
+    let mut at = Reached {
+        access: Access::InData(variable.offset),
+        shape: variable.shape,
+    };
+    for selector in selectors {
+        at = emit_selector(code, selector, at)?;
+    }
+    Ok(at)
+}
+
+/// Appends the code that goes on from a place to a part of it: none to a field; to an element the address of its array, the
+/// index and its test, and the instruction that computes the element's address.
+#[cycle(emitting)]
+fn emit_selector(
+    code: &mut CodeBuffer<'_>,
+    selector: &RSelector,
+    at: Reached,
+) -> Result<Reached, Memory>
+    ensures { IfOk result (λ part. Emits code.old code.new (Selecting selector.now (access_view at.access) at.shape (access_view part.access) part.shape)) }
+{
+    match selector {
+        RSelector::Field(number) => {
+            let field = code.part(at.shape, *number);
+            Ok(Reached {
+                access: further(at.access, field.offset),
+                shape: field.shape,
+            })
+        }
+        RSelector::Index(kind, index) => {
+            let elements = code.elements(at.shape);
+            let least = least_word(*kind)?;
+            emit_address(code, at.access)?;
+            emit_expression(code, index)?;
+            emit_test(code, *kind, base(index))?;
+            code.put(Instr::Ixc(least, elements.words))?;
+            Ok(Reached {
+                access: Access::OnTop,
+                shape: elements.shape,
+            })
+        }
+    }
+}
+
 /// Appends the code of operations, each on the value that stands on the expression stack before it.
 #[cycle(emitting)]
-fn emit_operations(code: &mut CodeBuffer, operations: &[ROperation]) -> Result<(), Memory>
+fn emit_operations(code: &mut CodeBuffer<'_>, operations: &[ROperation]) -> Result<(), Memory>
     ensures { OnOk result (Emits code.old code.new (OperatingAll operations.now)) }
 {
     for operation in operations {
@@ -52,7 +108,7 @@ fn emit_operations(code: &mut CodeBuffer, operations: &[ROperation]) -> Result<(
 /// Appends the code of an operation: the operand and an instruction, or a jump over the operand where the value before
 /// it may decide.
 #[cycle(emitting)]
-fn emit_operation(code: &mut CodeBuffer, operation: &ROperation) -> Result<(), Memory>
+fn emit_operation(code: &mut CodeBuffer<'_>, operation: &ROperation) -> Result<(), Memory>
     ensures { OnOk result (Emits code.old code.new (Operating operation.now)) }
 {
     match jump_over(operation.operator) {
@@ -82,7 +138,7 @@ fn jump_over(operator: TwoOp) -> Option<Aim>
 }
 
 /// Appends the instructions of an operator on one value.
-fn emit_one(code: &mut CodeBuffer, operator: OneOp) -> Result<(), Memory>
+fn emit_one(code: &mut CodeBuffer<'_>, operator: OneOp) -> Result<(), Memory>
     ensures { OnOk result (Emits code.old code.new (DoingAll (one_code operator (OfWhole words.Integer)))) }
 {
     match operator {
@@ -94,7 +150,7 @@ fn emit_one(code: &mut CodeBuffer, operator: OneOp) -> Result<(), Memory>
 
 /// Appends the instructions of an operator on two values of a base.
 #[tactic(auto, using(crate::proofs::Operators::two_same))]
-fn emit_two(code: &mut CodeBuffer, operator: TwoOp, base: RBase) -> Result<(), Memory>
+fn emit_two(code: &mut CodeBuffer<'_>, operator: TwoOp, base: RBase) -> Result<(), Memory>
     ensures { OnOk result (Emits code.old code.new (DoingAll (two_code operator (base_view base)))) }
 {
     match base {
@@ -105,7 +161,7 @@ fn emit_two(code: &mut CodeBuffer, operator: TwoOp, base: RBase) -> Result<(), M
     }
 }
 
-fn emit_cardinal(code: &mut CodeBuffer, operator: TwoOp) -> Result<(), Memory>
+fn emit_cardinal(code: &mut CodeBuffer<'_>, operator: TwoOp) -> Result<(), Memory>
     ensures { OnOk result (Emits code.old code.new (DoingAll (two_code operator (OfWhole words.Cardinal)))) }
 {
     match operator {
@@ -124,7 +180,7 @@ fn emit_cardinal(code: &mut CodeBuffer, operator: TwoOp) -> Result<(), Memory>
     }
 }
 
-fn emit_integer(code: &mut CodeBuffer, operator: TwoOp) -> Result<(), Memory>
+fn emit_integer(code: &mut CodeBuffer<'_>, operator: TwoOp) -> Result<(), Memory>
     ensures { OnOk result (Emits code.old code.new (DoingAll (two_code operator (OfWhole words.Integer)))) }
 {
     match operator {

@@ -22,7 +22,7 @@ fn whole_kind(base: RBase) -> RKind
 
 /// Appends the code of a standard function, which finds its argument, a value of a base, on the expression stack.
 pub(crate) fn emit_function(
-    code: &mut CodeBuffer,
+    code: &mut CodeBuffer<'_>,
     function: RFunction,
     from: RBase,
 ) -> Result<(), Memory>
@@ -38,7 +38,7 @@ pub(crate) fn emit_function(
     }
 }
 
-fn emit_abs(code: &mut CodeBuffer, from: RBase) -> Result<(), Memory>
+fn emit_abs(code: &mut CodeBuffer<'_>, from: RBase) -> Result<(), Memory>
     ensures { OnOk result (Emits code.old code.new (DoingAll (function_code (resolved.Abs (compared_as (base_view from))) (base_view from)))) }
 {
     match from {

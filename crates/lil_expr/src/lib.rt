@@ -1,11 +1,13 @@
-//! The code of expressions.
+//! The code of expressions and of places.
 #![tactic(auto)]
 
 mod expressions;
 mod functions;
 mod numbers;
+mod places;
 mod ranges;
 
-pub use expressions::emit_expression;
+pub use expressions::{emit_expression, emit_place};
 pub use numbers::word_of_number;
+pub use places::{Access, Reached};
 pub use ranges::{covers, emit_test};

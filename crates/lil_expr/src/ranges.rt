@@ -1,6 +1,7 @@
 //! The tests that a number is one of a kind.
 
-ghost use Rattle.std.specs.Prelude.{◌≡◌, ◌≤ℤ◌, pos, OnOk};
+ghost use Rattle.std.specs.Prelude.{◌≡◌, ◌≤ℤ◌, pos, IfOk, OnOk};
+ghost use Rattle.lil_base.specs.Words.{word_of};
 ghost use Rattle.lil_resolved.specs.Kinds as kinds;
 ghost use Rattle.lil_resolved.specs.Views.{base_view, kind_view};
 ghost use Rattle.lil_table.specs.Rows.{range_code, test_code};
@@ -58,6 +59,17 @@ fn kind_greatest(kind: RKind) -> i32
     }
 }
 
+/// The word of the least number of a kind, where it has one: a kind that begins above 65535 has no values.
+pub(crate) fn least_word(kind: RKind) -> Result<u16, Memory>
+    ensures { IfOk result (λ word. word ≡ word_of (kinds.least (kind_view kind))) }
+{
+    let least = kind_least(kind);
+    if least > 65_535 {
+        return Err(Memory);
+    }
+    Ok(word_of_number(least))
+}
+
 fn larger(x: i32, y: i32) -> i32
     ensures { result ≡ kinds.larger x y }
 {
@@ -107,7 +119,7 @@ fn range_test(from: RBase, range: RRange) -> Instr
 }
 
 /// Appends the test that the number of a value of a base is one of a kind, where it isn't always.
-pub fn emit_test(code: &mut CodeBuffer, to: RKind, from: RBase) -> Result<(), Memory>
+pub fn emit_test(code: &mut CodeBuffer<'_>, to: RKind, from: RBase) -> Result<(), Memory>
     ensures { OnOk result (Emits code.old code.new (DoingAll (test_code (kind_view to) (base_view from)))) }
 {
     if covers(to, from) {

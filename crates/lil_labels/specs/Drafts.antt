@@ -1,30 +1,25 @@
 -- Code that is being written with labels. What is said of it holds in each final code that begins with it, whatever words its labels have.
-use Rattle.std.specs.Prelude.{◌≡◌, refl, ℕ, ◌+◌, ◌*◌, ◌/◌, ◌%◌, ◌<◌, ◌≤◌, List, [], ◌∷◌, ◌++◌, length, Option, Some, None, slice_get, slice_set}
-use Rattle.std.specs.Coded.{Coded, code_by, coded×, coded_ℕ, coded_list, coded_option}
+use Rattle.std.specs.Prelude.{◌≡◌, ℕ, ◌+◌, ◌*◌, ◌/◌, ◌%◌, ◌≤◌, List, [], ◌∷◌, ◌++◌, length, Option, Some, None, slice_get, slice_set}
 use Rattle.lil_asm.specs.declared.instr.Instr.{Instr}
 use Rattle.lil_asm.specs.declared.instr.Instr.TheVariants.{Jmp, Jpf, Jan, Jor, Cas, Fri, Frn}
 use Rattle.lil_asm.specs.Bytes.{Entry, Sayable}
+use Rattle.lil_resolved.specs.declared.resolved.RDeclared.{RDeclared}
+use Rattle.lil_resolved.specs.declared.shapes.RShape.{RShape}
 use Rattle.lil_table.specs.Rows.{Layout, Span, IsAt, InstrsAt}
+use Rattle.lil_labels.specs.Tables.{Tables, Describe}
 use Rattle.lil_labels.specs.declared.buffer.Jump.{Jump}
 use Rattle.lil_labels.specs.declared.buffer.Aim.{Aim}
 use Rattle.lil_labels.specs.declared.buffer.Aim.TheVariants as aim
 
--- the bytes, the place of each label that has one, and the jumps
+-- the tables of the module, the bytes, the place of each label that has one, and the jumps
 pub record Draft : Type 0 where
+  pub tables : Tables
   pub bytes : List ℕ
   pub places : List (Option ℕ)
   pub jumps : List Jump
 
-abbrev jump_code : Coded Jump
-jump_code = code_by (ℕ × ℕ) (coded× coded_ℕ coded_ℕ) (λ j. (j.label, j.at)) (λ p. record { label = p.0; at = p.1 }) (λ _. refl)
-
-abbrev pub draft_code : Coded Draft
-draft_code =
-    code_by (List ℕ × (List (Option ℕ) × List Jump)) (coded× (coded_list coded_ℕ) (coded× (coded_list (coded_option coded_ℕ)) (coded_list jump_code)))
-    (λ d. (d.bytes, (d.places, d.jumps))) (λ p. record { bytes = p.0; places = p.1.0; jumps = p.1.1 }) (λ _. refl)
-
-abbrev pub empty : Draft
-empty = record { bytes = []; places = []; jumps = [] }
+abbrev pub empty : List RShape → List RDeclared → Draft
+empty shapes variables = record { tables = record { shapes = shapes; variables = variables }; bytes = []; places = []; jumps = [] }
 
 -- the jumps lie in so many bytes
 abbrev pub AreInside : ℕ → List Jump → Type 0
@@ -51,20 +46,18 @@ code_of d word = written word d.bytes d.jumps
 abbrev pub IsOpen : Draft → ℕ → Type 0
 IsOpen d l = slice_get d.places l ≡ Some None
 
--- each variable lies at the offset that is its number
-abbrev pub IsPlain : Layout → Type 0
-IsPlain l = (x : ℕ) → x < length l.shapes → slice_get l.offsets x ≡ Some x
-
--- a final code, and the word that each label has there
+-- a final code, the tables that describe its layout, and the word that each label has there
 pub record Final : Type 0 where
+  pub tables : Tables
   pub layout : Layout
-  pub plain : IsPlain layout
+  pub described : Describe tables layout
   pub framed : layout.frame ≤ 65535
   pub word : ℕ → ℕ
   pub code : List ℕ
 
--- the final code begins with this one, and its labels have their places
+-- the final code begins with this one, of the same module, and its labels have their places
 pub record Fits (d : Draft) (x : Final) : Type 0 where
+  pub same : x.tables ≡ d.tables
   pub rest : List ℕ
   pub begins : x.code ≡ code_of d x.word ++ rest
   pub placed : (l q : ℕ) → slice_get d.places l ≡ Some (Some q) → x.word l ≡ x.layout.target q
@@ -75,6 +68,7 @@ Meaning = Final → Span
 
 -- What was added means this in each final code, and places no label that was made before.
 pub record Emits (old new : Draft) (T : Meaning) : Type 0 where
+  pub same : new.tables ≡ old.tables
   pub keeps : (l : ℕ) → IsOpen old l → IsOpen new l
   pub made : length old.places ≤ length new.places
   pub back : (x : Final) → Fits new x → Fits old x
@@ -122,6 +116,7 @@ pub record Makes (old new : Draft) (l : ℕ) : Type 0 where
 
 -- an open label gets the place of the end
 pub record Places (old new : Draft) (l : ℕ) : Type 0 where
+  pub tables : new.tables ≡ old.tables
   pub bytes : new.bytes ≡ old.bytes
   pub jumps : new.jumps ≡ old.jumps
   pub places : new.places ≡ slice_set old.places l (Some (length old.bytes))
@@ -146,6 +141,7 @@ settled_word places l = word_in (slice_get places l)
 
 -- one jump more, over the last two bytes
 pub record Notes (old new : Draft) (l : ℕ) : Type 0 where
+  pub tables : new.tables ≡ old.tables
   pub bytes : new.bytes ≡ old.bytes
   pub places : new.places ≡ old.places
   pub at : ℕ

@@ -1,5 +1,5 @@
 -- How pieces of code that are emitted one behind another make one piece.
-use Rattle.std.proofs.Common.{◌≡◌, ◌≢◌, ℕ, zero, suc, ◌<◌, ◌≤◌, List, [], ◌∷◌, ◌++◌, length, Option, Some, None, refl, sym, ap, ◌∙◌, subst, arith, length-append, Result, Ok, Err, OnOk, IfOk}
+use Rattle.std.proofs.Common.{◌≡◌, ◌≢◌, ℕ, zero, suc, ◌<◌, ◌≤◌, List, [], ◌∷◌, ◌++◌, length, Option, Some, None, refl, sym, ap, ◌∙◌, subst, arith, length-append, Result, Ok, Err, OnOk}
 use Rattle.std.specs.Prelude.{slice_get, slice_set}
 use Rattle.std.proofs.lemmas.Option.{slice_get_within}
 use Rattle.std.proofs.lemmas.List.{length-set}
@@ -7,11 +7,12 @@ use Rattle.lil_labels.specs.Drafts.{Draft, written, code_of, Final, Fits, Meanin
 use Rattle.lil_labels.specs.Settling.{written_long}
 
 pub emits_none : (d : Draft) → Emits d d Nothing
-emits_none d = record { keeps = λ l h. h; made = omega arith; back = λ x fits. fits; meant = λ x fits. refl }
+emits_none d = record { same = refl; keeps = λ l h. h; made = omega arith; back = λ x fits. fits; meant = λ x fits. refl }
 
 -- a piece behind a piece
 pub emits_then : (a b c : Draft) (T U : Meaning) → Emits a b T → Emits b c U → Emits a c (λ x p q. T x p (length b.bytes) × U x (length b.bytes) q)
 emits_then a b c T U t u = record {
+  same = u.same ∙ t.same;
   keeps = λ l h. u.keeps l (t.keeps l h);
   made = omega (arith, t.made, u.made);
   back = λ x fits. t.back x (u.back x fits);
@@ -20,11 +21,16 @@ emits_then a b c T U t u = record {
 
 -- the same piece with another meaning that follows
 pub emits_as : (a b : Draft) (T U : Meaning) → ((x : Final) → T x (length a.bytes) (length b.bytes) → U x (length a.bytes) (length b.bytes)) → Emits a b T → Emits a b U
-emits_as a b T U f t = record { keeps = t.keeps; made = t.made; back = t.back; meant = λ x fits. f x (t.meant x fits) }
+emits_as a b T U f t = record { same = t.same; keeps = t.keeps; made = t.made; back = t.back; meant = λ x fits. f x (t.meant x fits) }
+
+-- its tables are those of the final code
+pub emits_tied : (a b : Draft) (T : Meaning) → Emits a b T → Emits a b (λ x p q. T x p q × (x.tables ≡ a.tables))
+emits_tied a b T t = record { same = t.same; keeps = t.keeps; made = t.made; back = t.back; meant = λ x fits. (t.meant x fits, fits.same ∙ t.same) }
 
 -- it lies within the final code
 pub emits_within : (a b : Draft) (T : Meaning) → Emits a b T → Emits a b (λ x p q. T x p q × (q ≤ length x.code))
 emits_within a b T t = record {
+  same = t.same;
   keeps = t.keeps;
   made = t.made;
   back = t.back;
@@ -51,11 +57,13 @@ emits_here a b c T l t new put =
     let other : (k : ℕ) → k ≢ l → slice_get c.places k ≡ slice_get b.places k = λ k ne. at k ∙ set_other b.places k l place ne in
     let same : (word : ℕ → ℕ) → code_of c word ≡ code_of b word = λ word. ap (λ (bs : List ℕ). written word bs c.jumps) put.bytes ∙ ap (written word b.bytes) put.jumps in
     let earlier : (x : Final) → Fits c x → Fits b x = λ x fits. record {
+      same = fits.same ∙ put.tables;
       rest = fits.rest;
       begins = fits.begins ∙ ap (λ (code : List ℕ). code ++ fits.rest) (same x.word);
       placed = λ k q h. fits.placed k q (other k (λ (e : k ≡ l). cc (h, e, put.was)) ∙ h);
     } in
     record {
+      same = put.tables ∙ t.same;
       keeps = λ k h. let within = slice_get_within a.places k None h in other k (λ (e : k ≡ l). omega (arith, within, e, new)) ∙ t.keeps k h;
       made = omega (arith, t.made, ap (λ (ps : List (Option ℕ)). length ps) put.places, length-set b.places l place);
       back = λ x fits. t.back x (earlier x fits);

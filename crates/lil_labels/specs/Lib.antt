@@ -1,3 +1,4 @@
+pub mod Tables
 pub mod Drafts
 pub mod Settling
 pub mod Emitting

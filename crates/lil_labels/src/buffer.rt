@@ -2,10 +2,12 @@
 
 ghost use Rattle.std.specs.Prelude.{◌≡◌, ℕ, ◌≤◌, length, slice_get, Some, IfOk, OnOk};
 ghost use Rattle.lil_asm.specs.Bytes.{Sayable};
+ghost use Rattle.lil_labels.specs.Tables.{variable_by, part_in, part_by, elements_in, elements_by};
 ghost use Rattle.lil_labels.specs.Drafts.{empty, aimed, code_of, settled_word, Emits, Nothing, Doing, AreSayable, DoingAll, Choosing, Marking, Entering, IsOpen, Makes, Places, Notes};
 
 use lil_asm::{Instr, encode, encode_entry};
 use lil_base::{Bytes, Memory};
+use lil_resolved::{RDeclared, RElements, RField, RShape};
 use std::alloc::Global;
 use std::marker::Model;
 
@@ -41,38 +43,118 @@ fn unaimed(aim: Aim) -> Instr
     }
 }
 
-/// Code that is being written: its bytes, the place of each label that has one, and its jumps.
+/// What stands for a variable or a part that isn't there.
+const NOWHERE: RField = RField {
+    offset: 0,
+    shape: 0,
+};
+
+/// What stands for elements that aren't there.
+const NO_ELEMENTS: RElements = RElements {
+    count: 0,
+    words: 0,
+    shape: 0,
+};
+
+/// Where a part of a shape lies in it, by its number, and the number of its own shape: a field, or an element. Zeros where
+/// there is none.
+fn part_of(shape: &RShape, number: usize) -> RField
+    ensures { result ≡ part_in shape.now number }
+{
+    match shape {
+        RShape::Absent | RShape::Word(_) => NOWHERE,
+        RShape::Fields(fields) => match fields.get(number) {
+            Some(field) => *field,
+            None => NOWHERE,
+        },
+        RShape::Elements(elements) => RField {
+            offset: number
+                .saturating_mul(usize::from(elements.words))
+                .min(65_535) as u16,
+            shape: elements.shape,
+        },
+    }
+}
+
+/// What the elements of a shape are; zeros where it has none.
+fn elements_of(shape: &RShape) -> RElements
+    ensures { result ≡ elements_in shape.now }
+{
+    match shape {
+        RShape::Elements(elements) => *elements,
+        RShape::Absent | RShape::Word(_) | RShape::Fields(_) => NO_ELEMENTS,
+    }
+}
+
+/// Code that is being written for a module: the module's shapes and variables, the bytes so far, the place of each label
+/// that has one, and the jumps.
 #[derive(Drop)]
-pub struct CodeBuffer {
+pub struct CodeBuffer<'m> {
     alloc: Global,
+    shapes: &'m [RShape],
+    variables: &'m [RDeclared],
     bytes: Bytes,
     places: Vec<Option<u32>>,
     jumps: Vec<Jump>,
 }
 
-impl Model for CodeBuffer {
+impl<'m> Model for CodeBuffer<'m> {
     ghost use Rattle.std.specs.Prelude.{length};
-    ghost use Rattle.lil_labels.specs.Drafts.{Draft, draft_code, IsSound};
+    ghost use Rattle.lil_labels.specs.Drafts.{Draft, IsSound};
 
     ghost Value = { Draft };
 
-    ghost coded = { draft_code };
-
-    ghost view = { λ c. record { bytes = c.bytes; places = c.places.items; jumps = c.jumps.items } };
+    ghost view = { λ c. record { tables = record { shapes = c.shapes.now; variables = c.variables.now }; bytes = c.bytes; places = c.places.items; jumps = c.jumps.items } };
 
     ghost invariant = { λ c. IsSound (length c.bytes) c.places.items c.jumps.items };
 }
 
-impl CodeBuffer {
-    /// No code.
-    pub fn new(alloc: Global) -> CodeBuffer
-        ensures { result ≡ empty }
+impl<'m> CodeBuffer<'m> {
+    /// No code of a module with these shapes and variables.
+    pub fn new(alloc: Global, shapes: &'m [RShape], variables: &'m [RDeclared]) -> CodeBuffer<'m>
+        ensures { result ≡ empty shapes.now variables.now }
     {
         CodeBuffer {
             alloc,
+            shapes,
+            variables,
             bytes: Bytes::new(alloc),
             places: Vec::new(alloc),
             jumps: Vec::new(alloc),
+        }
+    }
+
+    /// Where a variable lies, and the number of its shape; zeros where there is none.
+    pub fn variable(&self, number: u16) -> RField
+        ensures { result ≡ variable_by (slice_get self.now.tables.variables number) }
+    {
+        match self.variables.get(usize::from(number)) {
+            Some(variable) => RField {
+                offset: variable.offset,
+                shape: variable.shape,
+            },
+            None => NOWHERE,
+        }
+    }
+
+    /// Where a part of a shape lies in it, by its number, and the number of its own shape: a field, or an element. Zeros
+    /// where there is none.
+    pub fn part(&self, shape: usize, number: usize) -> RField
+        ensures { result ≡ part_by (slice_get self.now.tables.shapes shape) number }
+    {
+        match self.shapes.get(shape) {
+            Some(found) => part_of(found, number),
+            None => NOWHERE,
+        }
+    }
+
+    /// What the elements of a shape are; zeros where it has none.
+    pub fn elements(&self, shape: usize) -> RElements
+        ensures { result ≡ elements_by (slice_get self.now.tables.shapes shape) }
+    {
+        match self.shapes.get(shape) {
+            Some(found) => elements_of(found),
+            None => NO_ELEMENTS,
         }
     }
 

@@ -3,16 +3,19 @@ use Rattle.std.proofs.Common.{◌≡◌, ℕ, ◌+◌, true, List, [], ◌∷◌
 use Rattle.std.specs.Prelude.{ℤ}
 use Rattle.lil_resolved.specs.Kinds.{Kind}
 use Rattle.lil_resolved.specs.Scalars.{Scalar, within}
-use Rattle.lil_resolved.specs.Resolved.{Variable, Expression, Constant, Taken, One, Two, Short, Apply, Assign, Change, Request, If, Case, While, Repeat, Loop, Exit, Halt, Return, For, Statements}
+use Rattle.lil_resolved.specs.Resolved.{Designator, Variable, Field, Element, Expression, Constant, Taken, One, Two, Short, Apply, Assign, Change, Request, If, Case, While, Repeat, Loop, Exit, Halt, Return, For, Statements}
 use Rattle.lil_meaning.specs.Cells.{Place}
-use Rattle.lil_meaning.specs.Items.{Scalars, Places, Wholes, Opens, Hole, Get, SetTo, StoreAt, ChangeBy, ChangeAt, OneOf, LeftOf, RightOf, ShortOf, ApplyTo, Pass, Choose, Turn, Again, Pick, StartOf, LimitOf, Task, Do, Passing, Until, Looping, Turns, End, Item, Value, Evaluate, PlaceOf, Fill, Perform, Source}
+use Rattle.lil_meaning.specs.Items.{Scalars, Places, Wholes, Opens, Hole, Get, Part, IndexBy, IndexAt, SetTo, StoreAt, ChangeBy, ChangeAt, OneOf, LeftOf, RightOf, ShortOf, ApplyTo, Pass, Choose, Turn, Again, Pick, StartOf, LimitOf, Task, Do, Passing, Until, Looping, Turns, End, Item, Value, Evaluate, PlaceOf, Fill, Perform, Source}
+use Rattle.lil_resolved.specs.Shapes.{Shape}
 use Rattle.lil_mcode.specs.State.{State}
 use Rattle.lil_mcode.specs.Table.{going}
+use Rattle.lil_table.specs.Rows.{Access}
 use Rattle.lil_match.specs.Homes.{word_for}
 use Rattle.lil_match.specs.Goes.{Shared, Goes}
-use Rattle.lil_match.specs.Waits.{Setting, frame_of, Mode, Quiet, ValueOf, Direct, Around, Reach, AfterJumps, BeginWaits, NextWaits, ItemWaits, RowsOf, Rows, Ahead, IsVariable, Waiting}
+use Rattle.lil_match.specs.Waits.{Setting, frame_of, Mode, Quiet, ValueOf, AtPlace, Around, Reach, AfterJumps, BeginWaits, NextWaits, ItemWaits, RowsOf, Rows, Ahead, HasPlace, Waiting}
 use Rattle.lil_match.specs.Steps.{jumped}
-use Rattle.lil_laws_expr.specs.Expressions.{constant_goes, taken_goes, one_goes, two_goes, short_begins, apply_goes, place_goes, get_goes, one_of_goes, left_goes, right_goes, short_of_goes, apply_of_goes}
+use Rattle.lil_laws_place.specs.Elements.{variable_goes, field_goes, element_goes, part_goes, index_by_goes, index_at_goes}
+use Rattle.lil_laws_expr.specs.Expressions.{constant_goes, taken_goes, one_goes, two_goes, short_begins, apply_goes, get_goes, one_of_goes, left_goes, right_goes, short_of_goes, apply_of_goes}
 use Rattle.lil_laws_stmt.specs.Tasks.{assign_goes, set_goes, store_goes, request_goes, passing_goes, pass_goes, serve_goes}
 use Rattle.lil_laws_stmt.specs.Control.{if_goes, choose_goes, while_goes, turn_goes, repeat_goes, until_goes, again_goes, loop_goes, looping_goes}
 use Rattle.lil_laws_stmt.specs.Changes.{change_goes, change_by_goes, change_at_goes}
@@ -25,8 +28,8 @@ use Rattle.lil_laws_stmt.specs.Begins.{begin_goes}
 value_quiet : (k : Kind) → ValueOf k ≡ Quiet → ⊥
 value_quiet k e = cc
 
-direct_quiet : (n : ℕ) (k : Kind) → Direct n k ≡ Quiet → ⊥
-direct_quiet n k e = cc
+place_quiet : (b : Access) (t : Shape) → AtPlace b t ≡ Quiet → ⊥
+place_quiet b t e = cc
 
 module _ (ctx : Setting) where
   open ctx use {library, table, home as h}
@@ -36,6 +39,7 @@ module _ (ctx : Setting) where
     -- a value goes into a hole
     scalar_step : (v : Scalar) (o : Hole) (kind : Kind) → within kind v ≡ true → (below : List ℕ) → m.stack ≡ word_for h v ∷ below
         → Waiting ctx (Fill o) (Rows ctx k) (ValueOf kind) m.place below c a → Goes ctx s (Value (Scalars v) ∷ Fill o ∷ k) m (c + 32)
+    scalar_step v (IndexAt place j) kind fits below is r = index_at_goes ctx s k m c a shared place j v kind fits below is r
     scalar_step v (StoreAt place j) kind fits below is r = store_goes ctx s k m c a shared place j v kind fits below is r
     scalar_step v (ChangeAt down place j) kind fits below is r = change_at_goes ctx s k m c a shared down place j v kind fits below is r
     scalar_step v (OneOf o j) kind fits below is r = one_of_goes ctx s k m c a shared o j v kind fits below is r
@@ -48,29 +52,36 @@ module _ (ctx : Setting) where
     scalar_step v (Turn e body) kind fits below is r = turn_goes ctx s k m c a shared e body v kind fits below is r
     scalar_step v (Again body e) kind fits below is r = again_goes ctx s k m c a shared body e v kind fits below is r
     scalar_step v (Pick arms) kind fits below is r = pick_goes ctx s k m c a shared arms v kind fits below is r
-    scalar_step v (StartOf (Variable x) j b step body) kind fits below is r = start_goes ctx s k m c a shared x j b step body v kind fits below is r
-    scalar_step v (LimitOf (Variable x) j u step body) kind fits below is r = limit_goes ctx s k m c a shared x j u step body v kind fits below is r
+    scalar_step v (StartOf x j b step body) kind fits below is r = start_goes ctx s k m c a shared x j b step body v kind fits below is r
+    scalar_step v (LimitOf x j u step body) kind fits below is r = limit_goes ctx s k m c a shared x j u step body v kind fits below is r
     scalar_step v o kind fits below is r = absurd r.part
 
     -- a place goes into a hole
-    place_step : (place : Place) (o : Hole) (kind : Kind) (offset : ℕ) → IsVariable ctx place offset kind
-        → Waiting ctx (Fill o) (Rows ctx k) (Direct offset kind) m.place m.stack c a → Goes ctx s (Value (Places place) ∷ Fill o ∷ k) m (c + 32)
-    place_step place Get kind offset variable r = get_goes ctx s k m c a shared place kind offset variable r
-    place_step place (SetTo j e) kind offset variable r = set_goes ctx s k m c a shared j e place kind offset variable r
-    place_step place (ChangeBy down j e) kind offset variable r = change_by_goes ctx s k m c a shared down j e place kind offset variable r
-    place_step place o kind offset variable r = absurd r.part
+    place_step : (place : Place) (o : Hole) (b : Access) (t : Shape) (below : List ℕ) → HasPlace ctx b place t m.stack below
+        → Waiting ctx (Fill o) (Rows ctx k) (AtPlace b t) m.place below c a → Goes ctx s (Value (Places place) ∷ Fill o ∷ k) m (c + 32)
+    place_step place Get b t below has r = get_goes ctx s k m c a shared place b t below has r
+    place_step place (Part i) b t below has r = part_goes ctx s k m c a shared place i b t below has r
+    place_step place (IndexBy j e) b t below has r = index_by_goes ctx s k m c a shared place j e b t below has r
+    place_step place (SetTo j e) b t below has r = set_goes ctx s k m c a shared j e place b t below has r
+    place_step place (ChangeBy down j e) b t below has r = change_by_goes ctx s k m c a shared down j e place b t below has r
+    place_step place o b t below has r = absurd r.part
+
+    designator_step : (d : Designator) → Waiting ctx (PlaceOf d) (Rows ctx k) Quiet m.place m.stack c a → Goes ctx s (PlaceOf d ∷ k) m (c + 32)
+    designator_step (Variable x) r = variable_goes ctx s k m c a shared x r
+    designator_step (Field d i) r = field_goes ctx s k m c a shared d i r
+    designator_step (Element d kind e) r = element_goes ctx s k m c a shared d kind e r
 
     expression_step : (e : Expression) → Waiting ctx (Evaluate e) (Rows ctx k) Quiet m.place m.stack c a → Goes ctx s (Evaluate e ∷ k) m (c + 32)
     expression_step (Constant kind v) r = constant_goes ctx s k m c a shared kind v r
-    expression_step (Taken (Variable x) kind) r = taken_goes ctx s k m c a shared x kind r
+    expression_step (Taken d kind) r = taken_goes ctx s k m c a shared d kind r
     expression_step (One o kind e) r = one_goes ctx s k m c a shared o kind e r
     expression_step (Two o kind e f) r = two_goes ctx s k m c a shared o kind e f r
     expression_step (Short d e f) r = short_begins ctx s k m c a shared d e f r
     expression_step (Apply f e) r = apply_goes ctx s k m c a shared f e r
 
     task_step : (t : Task) → ItemWaits ctx (Perform t) k (RowsOf k) Quiet m.place m.stack c a → Goes ctx s (Perform t ∷ k) m (c + 32)
-    task_step (Do (Assign (Variable x) kind e)) r = assign_goes ctx s k m c a shared x kind e r
-    task_step (Do (Change down (Variable x) kind e)) r = change_goes ctx s k m c a shared down x kind e r
+    task_step (Do (Assign d kind e)) r = assign_goes ctx s k m c a shared d kind e r
+    task_step (Do (Change down d kind e)) r = change_goes ctx s k m c a shared down d kind e r
     task_step (Do (Request q given)) r = request_goes ctx s k m c a shared q given r
     task_step (Do (If e first second)) r = if_goes ctx s k m c a shared e first second r
     task_step (Do (Case e arms)) r = case_goes ctx s k m c a shared e arms r
@@ -80,12 +91,12 @@ module _ (ctx : Setting) where
     task_step (Do Exit) r = exit_goes ctx s k m c a shared r
     task_step (Do Halt) r = halt_goes ctx s k m c a shared r
     task_step (Do Return) r = return_goes ctx s k m c a shared r
-    task_step (Do (For (Variable x) kind e f step body)) r = for_goes ctx s k m c a shared x kind e f step body r
+    task_step (Do (For x kind e f step body)) r = for_goes ctx s k m c a shared x kind e f step body r
     task_step (Passing q done []) r = serve_goes ctx s k m c a shared q done r
     task_step (Passing q done (x ∷ left)) r = passing_goes ctx s k m c a shared q done x left r
     task_step (Until body e) r = until_goes ctx s k m c a shared body e r
     task_step (Looping body) r = looping_goes ctx s k m c a shared body r
-    task_step (Turns (Variable x) kind z step left body) r =
+    task_step (Turns x kind z step left body) r =
         ⊎_elim (λ r. begin_goes ctx s k m c a shared x kind z step left body r) (λ r. next_goes ctx s k m c a shared x kind z step left body r) r
     task_step (End n) r = end_goes ctx s k m c a shared n r
 
@@ -95,7 +106,7 @@ module _ (ctx : Setting) where
   no_turns x kind z step left body rest t p stack c a apart r = ⊎_elim (λ (b : BeginWaits ctx x kind z step left body rest t p stack c a). apart b.quiet) (λ (n : NextWaits ctx x kind z step left body rest t p stack c a). apart n.quiet) r
 
   no_task : (t : Task) (k : List Item) (mode : Mode) (p : ℕ) (stack : List ℕ) (c : ℕ) (a : Around) → (mode ≡ Quiet → ⊥) → ItemWaits ctx (Perform t) k (RowsOf k) mode p stack c a → ⊥
-  no_task (Turns (Variable x) kind z step left body) k mode p stack c a apart r = no_turns x kind z step left body (Rows ctx k) mode p stack c a apart r
+  no_task (Turns x kind z step left body) k mode p stack c a apart r = no_turns x kind z step left body (Rows ctx k) mode p stack c a apart r
   no_task (Looping body) k mode p stack c a apart r = apart r.quiet
   no_task (End n) k mode p stack c a apart r = apart r.quiet
   no_task t k Quiet p stack c a apart r = apart refl
@@ -118,9 +129,9 @@ module _ (ctx : Setting) where
   place_row : (s : Source) (m : State) (c : ℕ) (a : Around) → Shared ctx s m → (place : Place) (i : Item) (k : List Item)
       → Waiting ctx (Value (Places place)) (Rows ctx (i ∷ k)) Quiet m.place m.stack c a → Goes ctx s (Value (Places place) ∷ i ∷ k) m (c + 32)
   place_row s m c a shared place (Fill o) k r =
-      from_there s m c a shared (Value (Places place) ∷ Fill o ∷ k) (Waiting ctx (Fill o) (Rows ctx k)) (Direct r.part.offset r.part.kind) m.stack r.then
-      (place_step s k (going m r.then.start m.stack) r.then.later a shared place o r.part.kind r.part.offset r.part.variable r.then.there)
-  place_row s m c a shared place (Perform t) k r = absurd (no_task t k (Direct r.part.offset r.part.kind) _ _ _ _ (direct_quiet r.part.offset r.part.kind) r.then.there)
+      from_there s m c a shared (Value (Places place) ∷ Fill o ∷ k) (Waiting ctx (Fill o) (Rows ctx k)) (AtPlace r.part.access r.part.shape) r.part.below r.then
+      (place_step s k (going m r.then.start m.stack) r.then.later a shared place o r.part.access r.part.shape r.part.below r.part.has r.then.there)
+  place_row s m c a shared place (Perform t) k r = absurd (no_task t k (AtPlace r.part.access r.part.shape) _ _ _ _ (place_quiet r.part.access r.part.shape) r.then.there)
   place_row s m c a shared place i k r = absurd r.then.there.part
 
   -- an item at whose code the machine is
@@ -131,7 +142,7 @@ module _ (ctx : Setting) where
   item_step s m c a shared (Value (Wholes u)) k r = absurd r.part
   item_step s m c a shared (Value (Opens p n)) k r = absurd r.part
   item_step s m c a shared (Evaluate e) k r = expression_step s k m c a shared e r
-  item_step s m c a shared (PlaceOf (Variable x)) k r = place_goes ctx s k m c a shared x r
+  item_step s m c a shared (PlaceOf d) k r = designator_step s k m c a shared d r
   item_step s m c a shared (Fill o) k r = absurd r.part
   item_step s m c a shared (Perform t) k r = task_step s k m c a shared t r
   item_step s m c a shared _ _ r = absurd r.then

@@ -7,11 +7,10 @@ use Rattle.std.proofs.lemmas.Option.{slice_get-map}
 use Rattle.lil_base.specs.Words.{Cardinal, between}
 use Rattle.lil_resolved.specs.Kinds.{Kind, OfWhole, OfEnumeration, OfRange, base_of}
 use Rattle.lil_resolved.specs.Scalars.{within, scalar_word, zero_of}
-use Rattle.lil_resolved.specs.Shapes.{Shape, Word, words, all_words, part_at, offset}
+use Rattle.lil_resolved.specs.Shapes.{Shape, Word, words, is_there, all_words, part_at, offset, offsets_from, shape_by, shape_at}
 use Rattle.lil_resolved.specs.Resolved.{Resolved}
-use Rattle.lil_meaning.specs.Cells.{Root, Global, Local, Object, loaded_at, variables_of, shape_by, first_shape, zero_in, fresh_cells}
+use Rattle.lil_meaning.specs.Cells.{Root, Global, Local, Object, loaded_at, variables_of, first_shape, zero_in, fresh_cells}
 use Rattle.lil_mcode.specs.State.{Module, zeros, cleared, spliced}
-use Rattle.lil_table.specs.Rows.{offsets_from}
 use Rattle.lil_match.specs.Parts.{yes, no, part_fits, word_long}
 use Rattle.lil_match.specs.Homes.{word_for, plain_word, Owner, Of, Own, Free, Home, Mem}
 use Rattle.lil_match.specs.Splices.{spliced_length, spliced_before, spliced_there, spliced_after, zeros_length, zeros_word}
@@ -83,7 +82,7 @@ pub record IsIn (low high a : ℕ) : Type 0 where
   pub from : low ≤ a
   pub below : a < high
 
-variable_owned : (base : ℕ) (ts : List Shape) (m y x i : ℕ) → i < words (shape_by (slice_get ts x))
+variable_owned : (base : ℕ) (ts : List Shape) (m y x i : ℕ) → i < words (shape_at ts x)
     → (variable_at base ts m y (variable_from base ts x + i) ≡ Some (Global m (y + x))) × IsIn base (base + all_words ts) (variable_from base ts x + i)
 variable_owned base [] m y x i less = absurd (omega (arith, less))
 variable_owned base (t ∷ ts) m y zero i less = (
@@ -96,16 +95,27 @@ variable_owned base (t ∷ ts) m y (suc x) i less =
       record { from = omega (arith, rest.1.from); below = omega (arith, rest.1.below) },
     )
 
+-- a variable lies below the end of its module's data, and these below the end of all
+variable_low : (ts : List Shape) (base x : ℕ) → variable_from base ts x + words (shape_at ts x) ≤ base + all_words ts
+variable_low [] base x = omega arith
+variable_low (t ∷ ts) base zero = omega arith
+variable_low (t ∷ ts) base (suc x) = omega (arith, variable_low ts (base + words t) x)
+
 end_above : (base : ℕ) (os : List Compiled) → base ≤ data_end base os
 end_above base [] = omega arith
 end_above base (o ∷ os) = omega (arith, end_above (base + data_of o) os)
 
-root_owned : (base : ℕ) (os : List Compiled) (m n x i : ℕ) (o : Compiled) → slice_get os n ≡ Some o → i < words (shape_by (slice_get o.text.variables x))
+module_low : (os : List Compiled) (base n : ℕ) → place_from base os n + all_words (variables_in (slice_get os n)) ≤ data_end base os
+module_low [] base n = omega arith
+module_low (o ∷ os) base zero = end_above (base + data_of o) os
+module_low (o ∷ os) base (suc n) = module_low os (base + data_of o) n
+
+root_owned : (base : ℕ) (os : List Compiled) (m n x i : ℕ) (o : Compiled) → slice_get os n ≡ Some o → i < words (shape_at o.text.variables x)
     → (root_at base os m (variable_from (place_from base os n) o.text.variables x + i) ≡ Some (Global (m + n) x)) × IsIn base (data_end base os) (variable_from (place_from base os n) o.text.variables x + i)
 root_owned base [] m n x i o e less = cc
 root_owned base (p ∷ os) m zero x i o e less =
     let same : p ≡ o = cc in
-    let there = variable_owned base p.text.variables m 0 x i (subst (λ (q : Compiled). i < words (shape_by (slice_get q.text.variables x))) (sym same) less) in
+    let there = variable_owned base p.text.variables m 0 x i (subst (λ (q : Compiled). i < words (shape_at q.text.variables x)) (sym same) less) in
     let above = end_above (base + data_of p) os in
     subst (λ (q : Compiled). (root_at base (p ∷ os) m (variable_from base q.text.variables x + i) ≡ Some (Global (m + 0) x)) × IsIn base (data_end base (p ∷ os)) (variable_from base q.text.variables x + i)) same (
       yes _ _ _ (lt-ltb (variable_from base p.text.variables x + i) (base + data_of p) (omega (arith, there.1.below))) ∙ there.0
@@ -201,12 +211,12 @@ module _ (os : List Compiled) (size : ℕ) (store : List ℕ) where
   has_word : (r : Root) (i : ℕ) → i < words (home.shape r) → HasWord r i
   has_word (Global zero x) i less = absurd (omega (arith, less))
   has_word (Global (suc n) x) i less =
-      by (slice_get os n) refl (subst (λ (o : Option Resolved). i < words (shape_by (slice_get (variables_of o) x))) (text_at os n) less)
+      by (slice_get os n) refl (subst (λ (o : Option Resolved). i < words (shape_at (variables_of o) x)) (text_at os n) less)
     where
-      by : (o : Option Compiled) → slice_get os n ≡ o → i < words (shape_by (slice_get (variables_in (slice_get os n)) x)) → HasWord (Global (suc n) x) i
-      by None e less = absurd (let l = subst (λ (o : Option Compiled). i < words (shape_by (slice_get (variables_in o) x))) e less in omega (arith, l))
+      by : (o : Option Compiled) → slice_get os n ≡ o → i < words (shape_at (variables_in (slice_get os n)) x) → HasWord (Global (suc n) x) i
+      by None e less = absurd (let l = subst (λ (o : Option Compiled). i < words (shape_at (variables_in o) x)) e less in omega (arith, l))
       by (Some o) e less =
-          let w = root_owned 1 os 1 n x i o e (subst (λ (o : Option Compiled). i < words (shape_by (slice_get (variables_in o) x))) e less) in
+          let w = root_owned 1 os 1 n x i o e (subst (λ (o : Option Compiled). i < words (shape_at (variables_in o) x)) e less) in
           let at : variable_from (place_from 1 os n) o.text.variables x + i ≡ place_of os (Global (suc n) x) + i =
           ap (λ (p : Option Compiled). variable_from (place_from 1 os n) (variables_in p) x + i) (sym e) in
           record {
@@ -216,18 +226,26 @@ module _ (os : List Compiled) (size : ℕ) (store : List ℕ) where
   has_word (Local a x) i less = absurd (omega (arith, less))
   has_word (Object o) i less = absurd (omega (arith, less))
 
+  -- a root lies below the end of the data
+  root_low : (r : Root) → place_of os r + words (home.shape r) ≤ data_end 1 os
+  root_low (Global zero x) = omega (arith, above)
+  root_low (Global (suc n) x) =
+      subst (λ (o : Option Resolved). variable_from (place_from 1 os n) (variables_in (slice_get os n)) x + words (shape_at (variables_of o) x) ≤ data_end 1 os) (sym (text_at os n))
+      (omega (arith, variable_low (variables_in (slice_get os n)) (place_from 1 os n) x, module_low os 1 n))
+  root_low (Local a x) = omega (arith, above)
+  root_low (Object o) = omega (arith, above)
+
   -- the cells of what was loaded are there where all data are zero
-  pub mem : data_end 1 os ≤ 65536 → length store ≡ 65536 → ((a : ℕ) → a < data_end 1 os → get_or store a 0 ≡ 0) → Mem home (fresh_cells (map text_of os) (numbers_from 0 os)) store
+  pub mem : data_end 1 os ≤ 65535 → length store ≡ 65536 → ((a : ℕ) → a < data_end 1 os → get_or store a 0 ≡ 0) → Mem home (fresh_cells (map text_of os) (numbers_from 0 os)) store
   mem room long blank = record {
     owned = λ r i l.
         let w = has_word r i l in
         no (nat_lt (place_of os r + i) 1) _ _ (le-ltb (place_of os r + i) 1 w.inside.from)
         ∙ yes (nat_lt (place_of os r + i) end) _ _ (lt-ltb (place_of os r + i) end w.inside.below)
         ∙ ap (owner_by end) w.owned;
-    inside = λ r i l. let w = has_word r i l in omega (arith, w.inside.below, room);
+    inside = λ r. omega (arith, root_low r, room);
     holds = λ r q k e.
-        let long = word_long (part_at (home.shape r) q) k e in
-        let fits : offset (home.shape r) q < words (home.shape r) = omega (arith, part_fits (home.shape r) q long, long) in
+        let fits : offset (home.shape r) q < words (home.shape r) = omega (arith, part_fits (home.shape r) q (ap is_there e), word_long (part_at (home.shape r) q) k e) in
         let w = has_word r (offset (home.shape r) q) fits in
         let cell : fresh_cells (map text_of os) (numbers_from 0 os) r q ≡ zero_of k = ap zero_in e in
         record {

@@ -3,10 +3,10 @@ use Rattle.std.proofs.Common.{◌≡◌, ℕ, zero, suc, ◌+◌, ◌-◌, ◌*�
 use Rattle.std.specs.Prelude.{slice_get, option_map}
 use Rattle.std.proofs.lemmas.Bool.{le-ltb}
 use Rattle.std.proofs.lemmas.Option.{same_Some}
-use Rattle.lil_resolved.specs.Shapes.{Shape}
+use Rattle.lil_resolved.specs.Shapes.{Shape, shape_by, shape_at}
 use Rattle.lil_resolved.specs.Resolved.{Resolved}
 use Rattle.lil_resolved.specs.Depth.{frame_words}
-use Rattle.lil_meaning.specs.Cells.{loaded_at, variables_of, shape_by}
+use Rattle.lil_meaning.specs.Cells.{loaded_at, variables_of}
 use Rattle.lil_meaning.specs.World.{World}
 use Rattle.lil_meaning.specs.Items.{Item, Perform, End, Activation, Source, doing}
 use Rattle.lil_meaning.specs.Steps.{owner_of, procedure_of, name_of}
@@ -115,7 +115,7 @@ module _ (os : List Compiled) where
       called = ap procedure_of runs;
       entered = record { entry = 0; there = b.its.body };
       variables = λ x o t offset shape. (
-        ap (λ (m : Option Resolved). shape_by (slice_get (variables_of m) x)) (text b) ∙ ap shape_by shape,
+        ap (λ (m : Option Resolved). shape_at (variables_of m) x) (text b) ∙ ap shape_by shape,
         ap (λ (p : Option Compiled). variable_from (place_from 1 os b.index) (variables_of (option_map text_of p)) x) b.there
             ∙ ap (λ (n : ℕ). variable_from n b.its.text.variables x) (let e : place_from 1 os b.index ≡ place_from 1 os b.index + 0 = omega arith in e)
             ∙ variable_offset b.its.text.variables (place_from 1 os b.index) 0 x o offset,

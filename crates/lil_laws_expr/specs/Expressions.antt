@@ -8,27 +8,35 @@ use Rattle.lil_base.specs.declared.operator.OneOp.TheVariants as one
 use Rattle.lil_base.specs.declared.operator.TwoOp.{TwoOp}
 use Rattle.lil_resolved.specs.Kinds.{Kind, OfTruth, base_of}
 use Rattle.lil_resolved.specs.Scalars.{Scalar, Truth, within, scalar_word}
-use Rattle.lil_resolved.specs.Resolved.{Variable, Function, Expression, Constant, Taken, One, Two, Short, Apply, kind_of, is_relation, result_kind, function_kind}
-use Rattle.lil_meaning.specs.Cells.{Global, Place, got}
+use Rattle.lil_resolved.specs.Depth.{place_depth}
+use Rattle.lil_resolved.specs.Shapes.{Shape, Word}
+use Rattle.lil_resolved.specs.Resolved.{Designator, Variable, Field, Element, Function, Expression, Constant, Taken, One, Two, Short, Apply, kind_of, is_relation, result_kind, function_kind}
+use Rattle.lil_meaning.specs.Cells.{Place, got}
 use Rattle.lil_meaning.specs.Items.{Scalars, Places, Get, OneOf, LeftOf, RightOf, ShortOf, ApplyTo, Item, Value, Evaluate, PlaceOf, Fill, Going, Source}
-use Rattle.lil_meaning.specs.Steps.{next, answered, with_items, applied, one_applied, function_value, current, owner_of}
+use Rattle.lil_meaning.specs.Steps.{next, answered, with_items, applied, one_applied, function_value, current}
 use Rattle.lil_asm.specs.declared.instr.Instr.{Instr}
-use Rattle.lil_asm.specs.declared.instr.Instr.TheVariants.{Liw, Lgw}
+use Rattle.lil_asm.specs.declared.instr.Instr.TheVariants.{Liw}
 use Rattle.lil_mcode.specs.declared.machine.Event.{Event}
 use Rattle.lil_mcode.specs.declared.machine.Event.TheVariants.{Went}
 use Rattle.lil_mcode.specs.State.{State}
 use Rattle.lil_mcode.specs.Table.{mstep, act, going, jump, push_row, on_one, and_row, or_row}
-use Rattle.lil_table.specs.Rows.{InstrsAt, one_code, two_code, function_code, short_code}
+use Rattle.lil_table.specs.Rows.{InstrsAt, Access, load_code, one_code, two_code, function_code, short_code}
 use Rattle.lil_match.specs.Running.{running, react}
 use Rattle.lil_match.specs.Parts.{yes}
-use Rattle.lil_match.specs.Homes.{word_for, plain_word, scalar_owned}
+use Rattle.lil_match.specs.Homes.{word_for, plain_word, shape_there}
 use Rattle.lil_match.specs.Stutter.{stutter}
 use Rattle.lil_match.specs.Goes.{Shared, Goes, Lands}
-use Rattle.lil_match.specs.Waits.{Setting, frame_of, laid_out, Mode, Quiet, ValueOf, Direct, Around, Reach, AfterJumps, Rows, IsVariable, Waiting}
+use Rattle.lil_match.specs.Waits.{Setting, frame_of, laid_out, Mode, Quiet, ValueOf, AtPlace, Around, Reach, AfterJumps, Rows, HasPlace, Waiting}
 use Rattle.lil_match.specs.Steps.{advances, pushes, at_step, at_once, lands_on, goes_none, goes_one, goes_after, goes_more, operand_goes}
 use Rattle.lil_match.specs.Orders.{instr_within, instrs_order, instrs_within, expression_stands, expression_within}
-use Rattle.lil_match.specs.Closing.{closed, variable_here, both_trap}
+use Rattle.lil_match.specs.Closing.{closed, both_trap}
+use Rattle.lil_laws_place.specs.Codes.{loads}
 use Rattle.lil_laws_expr.specs.Operators.{answer_row, Gives, Fits, one_gives, one_fits, two_gives, two_length, two_fits, function_gives, function_fits, function_none, function_length}
+
+place_some : (d : Designator) → 1 ≤ place_depth d
+place_some (Variable x) = omega arith
+place_some (Field d i) = place_some d
+place_some (Element d k e) = omega (arith, place_some d)
 
 module _ (ctx : Setting) where
   open ctx use {library, table, home as h}
@@ -87,13 +95,17 @@ module _ (ctx : Setting) where
         (once (record { part = record { kind = kind; fits = row.part.here.fits; below = m.stack; is = ap (λ (w : ℕ). w ∷ m.stack) (sym (plain_word h kind v row.part.here.fits)) }; then = row.then })))
         (omega arith)
 
-    pub taken_goes : (x : ℕ) (kind : Kind) → Waiting ctx (Evaluate (Taken (Variable x) kind)) Rest Quiet m.place m.stack c a → Goes ctx s (Evaluate (Taken (Variable x) kind) ∷ k) m (c + 32)
-    taken_goes x kind row =
-        goes_none ctx s (Evaluate (Taken (Variable x) kind) ∷ k) m (c + 32) c
-        (lands_on ctx s m shared (PlaceOf (Variable x) ∷ Fill Get ∷ k) m.place m.stack c a
+    pub taken_goes : (d : Designator) (kind : Kind) → Waiting ctx (Evaluate (Taken d kind)) Rest Quiet m.place m.stack c a → Goes ctx s (Evaluate (Taken d kind) ∷ k) m (c + 32)
+    taken_goes d kind row =
+        let r = row.part.here in
+        goes_none ctx s (Evaluate (Taken d kind) ∷ k) m (c + 32) c
+        (lands_on ctx s m shared (PlaceOf d ∷ Fill Get ∷ k) m.place m.stack c a
         (once (record {
-          part = record { kind = kind; known = row.part.here.known };
-          then = once (record { part = record { end = row.part.end; load = row.part.here.load; shallow = row.part.shallow }; then = row.then });
+          part = record { end = r.found; here = r.here; shallow = row.part.shallow };
+          then = once (record {
+            part = record { kind = kind; typed = r.scalar.shape; end = row.part.end; load = r.load; shallow = omega (arith, row.part.shallow, place_some d) };
+            then = row.then;
+          });
         })))
         (omega arith)
         (omega arith)
@@ -148,41 +160,22 @@ module _ (ctx : Setting) where
         operand_goes ctx s k m c a shared (Evaluate (Apply f e) ∷ k) e (ApplyTo f) refl (omega arith) row.part.here.middle row.part.here.first (omega (arith, row.part.shallow)) (omega (arith, by.0, row.part.within))
         (record { part = record { takes = row.part.here.takes; shallow = omega (arith, row.part.shallow); end = row.part.end; by = row.part.here.by }; then = row.then })
 
-    pub place_goes : (x : ℕ) → Waiting ctx (PlaceOf (Variable x)) Rest Quiet m.place m.stack c a → Goes ctx s (PlaceOf (Variable x) ∷ k) m (c + 32)
-    place_goes x row =
-        let known_row = row.part.known in
-        let now : Place = record { root = Global (owner_of (slice_get s.activations (current k))) x; path = [] } in
-        let known : IsVariable ctx now known_row.offset row.part.kind = variable_here ctx s k m shared x known_row.offset row.part.kind (closed ctx k _ _ _ _ _ row.then) known_row.at known_row.typed in
-        goes_none ctx s (PlaceOf (Variable x) ∷ k) m (c + 32) c
-        (lands_on ctx s m shared (Value (Places now) ∷ k) m.place m.stack c a
-        (once (record { part = record { kind = row.part.kind; offset = known_row.offset; variable = known }; then = row.then })))
-        (omega arith)
-        (omega arith)
-
-    pub get_goes : (place : Place) (kind : Kind) (offset : ℕ) → IsVariable ctx place offset kind → Waiting ctx (Fill Get) Rest (Direct offset kind) m.place m.stack c a
+    pub get_goes : (place : Place) (b : Access) (t : Shape) (below : List ℕ) → HasPlace ctx b place t m.stack below → Waiting ctx (Fill Get) Rest (AtPlace b t) m.place below c a
         → Goes ctx s (Value (Places place) ∷ Fill Get ∷ k) m (c + 32)
-    get_goes place kind offset variable row =
+    get_goes place b t below has row =
+        let r = row.part in
         let value : Scalar = got s.cells place in
-        let word = shared.mem.holds place.root place.path kind variable.living in
-        let inside : own.base + offset < 65536 = omega (arith, (scalar_owned h s.cells m.store place.root place.path kind shared.mem variable.living).1, variable.at) in
-        let loaded : get_or m.store (own.base + offset) 0 ≡ word_for h value = ap (λ (n : ℕ). get_or m.store n 0) (sym variable.at) ∙ word.word in
-        goes_one ctx s (Value (Places place) ∷ Fill Get ∷ k) m (c + 32) c (running (going m row.part.end (word_for h value ∷ m.stack)) s.world)
+        let living : shape_there h place ≡ Word r.kind = has.living ∙ r.typed in
+        let here : HasPlace ctx b place (Word r.kind) m.stack below = record { seen = has.seen; living = living; there = refl; at = has.at } in
+        let word = shared.mem.holds place.root place.path r.kind living in
+        goes_one ctx s (Value (Places place) ∷ Fill Get ∷ k) m (c + 32) c (running (going m r.end (word_for h value ∷ below)) s.world)
         (advances m s.world _ (
-        at_step ctx m shared.program (Lgw offset) row.part.end row.part.load
-        ∙ yes _ _ _ (lt-ltb (own.base + offset) 65536 inside)
-        ∙ ap (λ (w : ℕ). push_row w row.part.end m) loaded
-        ∙ pushes (word_for h value) row.part.end m (omega (arith, row.part.shallow))
+        at_step ctx m shared.program (load_code b) r.end r.load
+        ∙ loads ctx s m shared b place r.kind below here r.shallow r.end
+        ∙ ap (λ (w : ℕ). let e : Event × State = (Went, going m r.end (w ∷ below)) in e) word.word
         ))
-        (lands_on ctx s m shared (Value (Scalars value) ∷ k) row.part.end (word_for h value ∷ m.stack) c a
-        (once (record {
-          part = record {
-            kind = base_of kind;
-            fits = word.fits;
-            below = m.stack;
-            is = refl;
-          };
-          then = row.then;
-        })))
+        (lands_on ctx s m shared (Value (Scalars value) ∷ k) r.end (word_for h value ∷ below) c a
+        (once (record { part = record { kind = base_of r.kind; fits = word.fits; below = below; is = refl }; then = row.then })))
         (omega arith)
 
     pub left_goes : (o : TwoOp) (j : Kind) (f : Expression) (v : Scalar) (kind : Kind) → within kind v ≡ true → (below : List ℕ) → m.stack ≡ word_for h v ∷ below → Waiting ctx (Fill (LeftOf o j f)) Rest (ValueOf kind) m.place below c a

@@ -5,7 +5,7 @@ use Rattle.lil_base.specs.declared.fault.TrapKind.TheVariants as trap
 use Rattle.lil_base.specs.Words.{word_of}
 use Rattle.lil_resolved.specs.Kinds.{Kind, base_of, compared_as, covers, outside_turns}
 use Rattle.lil_resolved.specs.Scalars.{Scalar}
-use Rattle.lil_resolved.specs.Resolved.{Variable, Statements}
+use Rattle.lil_resolved.specs.Resolved.{Statements}
 use Rattle.lil_meaning.specs.Items.{Turns, Item, Perform, Going, Source}
 use Rattle.lil_meaning.specs.Steps.{next, turned_with, turns}
 use Rattle.lil_asm.specs.declared.instr.Instr.{Instr}
@@ -17,14 +17,14 @@ use Rattle.lil_mcode.specs.Table.{act, truth, going}
 use Rattle.lil_table.specs.Rows.{IsAt, LeaveRow, AlignAt}
 use Rattle.lil_match.specs.Running.{Run, running, react}
 use Rattle.lil_match.specs.Parts.{yes}
-use Rattle.lil_match.specs.Ranges.{has, value_none}
+use Rattle.lil_match.specs.Ranges.{has, has_base, value_none}
 use Rattle.lil_match.specs.Tests.{covered}
 use Rattle.lil_match.specs.Goes.{Shared, Goes, Lands}
 use Rattle.lil_match.specs.Waits.{Setting, frame_of, laid_out, Quiet, Around, Rows, BeginWaits}
 use Rattle.lil_match.specs.Orders.{instr_within}
 use Rattle.lil_match.specs.Closing.{closed, both_trap}
 use Rattle.lil_match.specs.Steps.{advances, at_step, rows_ahead, lands_on, goes_one, goes_after, goes_more}
-use Rattle.lil_laws_stmt.specs.Starts.{has_base, is_small, small_has, IsOutside, outside, outside_none, outside_some, small_between, small_less}
+use Rattle.lil_laws_stmt.specs.Starts.{is_small, small_has, IsOutside, outside, outside_none, outside_some, small_between, small_less}
 use Rattle.lil_laws_stmt.specs.Fors.{bounded_goes}
 
 module _ (ctx : Setting) where
@@ -36,7 +36,7 @@ module _ (ctx : Setting) where
   module _ (s : Source) (k : List Item) (m : State) (c : ℕ) (a : Around) (shared : Shared ctx s m)
       (x : ℕ) (kind : Kind) (first step : ℤ) (left : ℕ) (body : Statements) (row : BeginWaits ctx x kind first step left body (Rows ctx k) Quiet m.place m.stack c a) where
     abbrev here : List Item
-    here = Perform (Turns (Variable x) kind first step left body) ∷ k
+    here = Perform (Turns x kind first step left body) ∷ k
 
     abbrev base : Kind
     base = base_of kind
@@ -86,15 +86,15 @@ module _ (ctx : Setting) where
       -- ---- a start outside has a turn, which traps
       module _ (way : outside_turns (compared_as base) step ≡ true) where
         traps : (u : ℕ) → turns first row.limit step ≡ u → has base first ≡ false → (p : ℕ) (stack : List ℕ)
-            → Lands ctx (next library (record s { items = Perform (Turns (Variable x) kind first step u body) ∷ k; phase = Going })).phase
-            (next library (record s { items = Perform (Turns (Variable x) kind first step u body) ∷ k; phase = Going })) (react (Trap trap.Range) (at p stack) (running (at p stack) s.world)) c
+            → Lands ctx (next library (record s { items = Perform (Turns x kind first step u body) ∷ k; phase = Going })).phase
+            (next library (record s { items = Perform (Turns x kind first step u body) ∷ k; phase = Going })) (react (Trap trap.Range) (at p stack) (running (at p stack) s.world)) c
         traps zero e none p stack = absurd (outside_some (compared_as base) first row.limit step (lies none) way e)
         traps (suc u) e none p stack =
-            let items : List Item = Perform (Turns (Variable x) kind first step (suc u) body) ∷ k in
+            let items : List Item = Perform (Turns x kind first step (suc u) body) ∷ k in
             let run : Run = react (Trap trap.Range) (at p stack) (running (at p stack) s.world) in
             let none_there : has kind first ≡ false = false_from_ne_true (has kind first) (λ h. true≢false (sym (has_base kind first h) ∙ none)) in
-            subst (λ (o : Option Scalar). Lands ctx (turned_with library o x body (Perform (Turns (Variable x) kind (first +ℤ step) step u body) ∷ k) (record s { items = items; phase = Going })).phase
-            (turned_with library o x body (Perform (Turns (Variable x) kind (first +ℤ step) step u body) ∷ k) (record s { items = items; phase = Going })) run c)
+            subst (λ (o : Option Scalar). Lands ctx (turned_with library o x body (Perform (Turns x kind (first +ℤ step) step u body) ∷ k) (record s { items = items; phase = Going })).phase
+            (turned_with library o x body (Perform (Turns x kind (first +ℤ step) step u body) ∷ k) (record s { items = items; phase = Going })) run c)
             (sym (value_none kind first none_there))
             (both_trap ctx s items (at p stack) trap.Range shared (closed ctx k Quiet row.end [] c a row.then))
 
@@ -124,8 +124,8 @@ module _ (ctx : Setting) where
       -- ---- a start outside has no turn
       module _ (way : outside_turns (compared_as base) step ≡ false) (leave : LeaveRow l own.code m.place row.turns.aligned row.end) where
         leaves : (u : ℕ) → turns first row.limit step ≡ u → has base first ≡ false
-            → Lands ctx (next library (record s { items = Perform (Turns (Variable x) kind first step u body) ∷ k; phase = Going })).phase
-            (next library (record s { items = Perform (Turns (Variable x) kind first step u body) ∷ k; phase = Going })) (running (at row.end []) s.world) c
+            → Lands ctx (next library (record s { items = Perform (Turns x kind first step u body) ∷ k; phase = Going })).phase
+            (next library (record s { items = Perform (Turns x kind first step u body) ∷ k; phase = Going })) (running (at row.end []) s.world) c
         leaves zero e none = lands_on ctx s m shared k row.end [] c a (rows_ahead ctx k row.end [] c a row.then)
         leaves (suc u) e none = absurd (let z = sym e ∙ outside_none (compared_as base) first row.limit step (lies none) way row.turns.round.is_step in omega (arith, z))
 

@@ -24,23 +24,10 @@ use Rattle.lil_match.specs.Goes.{Shared, Goes, Lands}
 use Rattle.lil_match.specs.Waits.{Setting, frame_of, laid_out, Quiet, ValueOf, Around, Reach, Rows, Waiting}
 use Rattle.lil_match.specs.Orders.{instr_within, body_within}
 use Rattle.lil_match.specs.Closing.{closed, both_trap}
-use Rattle.lil_match.specs.Arithmetic.{word_is}
+use Rattle.lil_match.specs.Arithmetic.{word_is, above_more}
 use Rattle.lil_match.specs.Steps.{advances, at_step, rows_jump, rows_ahead, lands_on, goes_one, goes_after, jumps_to, operand_goes}
 use Rattle.lil_laws_stmt.specs.Control.{body_rows}
 use Rattle.lil_base.specs.Laws.{bounds}
-
--- how far a word lies above another one
-above_more : (t : Whole) (low z : ℤ) → in_type t low ≡ true → in_type t z ≡ true → low ≤ℤ z → pos (machine.above (word_of low) (word_of z)) ≡ z -ℤ low
-above_more t low z first second order = by t low z (bounds (least t) low (greatest t) first) (bounds (least t) z (greatest t) second) order
-  where
-    by : (t : Whole) (low z : ℤ) → (least t ≤ℤ low) × (low ≤ℤ greatest t) → (least t ≤ℤ z) × (z ≤ℤ greatest t) → low ≤ℤ z → pos (machine.above (word_of low) (word_of z)) ≡ z -ℤ low
-    by Cardinal (pos a) (pos b) l u order = omega (arith, ints)
-    by Cardinal (negsuc a) z l u order = absurd (omega (arith, ints))
-    by Cardinal (pos a) (negsuc b) l u order = absurd (omega (arith, ints))
-    by Integer (pos a) (pos b) l u order = omega (arith, ints)
-    by Integer (pos a) (negsuc b) l u order = absurd (omega (arith, ints))
-    by Integer (negsuc a) (pos b) l u order = omega (arith, ints)
-    by Integer (negsuc a) (negsuc b) l u order = omega (arith, ints)
 
 above_less : (t : Whole) (low z : ℤ) → in_type t low ≡ true → in_type t z ≡ true → z <ℤ low → pos (machine.above (word_of low) (word_of z)) +ℤ low ≡ z +ℤ pos 65536
 above_less t low z first second order = by t low z (bounds (least t) low (greatest t) first) (bounds (least t) z (greatest t) second) order

@@ -2,7 +2,7 @@
 use Rattle.std.proofs.Common.{◌≡◌, ℕ, suc, ◌+◌, ◌<◌, ◌≤◌, Option, Some, None, List, [], ◌∷◌, map, length, ⊎_elim, refl, sym, ap, ◌∙◌, subst, arith, eq-eqb}
 use Rattle.std.proofs.lemmas.Bool.{cases_lt}
 use Rattle.lil_base.specs.declared.fault.TrapKind.TheVariants as trap
-use Rattle.lil_resolved.specs.Resolved.{Variable, Halt, Return}
+use Rattle.lil_resolved.specs.Resolved.{Halt, Return}
 use Rattle.lil_meaning.specs.World.{World, closing, all_closed}
 use Rattle.lil_meaning.specs.Closings.{all_none, all_some}
 use Rattle.lil_meaning.specs.Items.{Do, Turns, End, Item, Perform, Level, Phase, Going, Closing, Ended, Source}
@@ -18,7 +18,7 @@ use Rattle.lil_match.specs.Stutter.{stutter}
 use Rattle.lil_match.specs.Waits.{Mode, Quiet, Around, outside, Frame, Setting, with_frames, RowsOf, Rows, Ahead, Behind, EndWaits, EndedWaits, Waiting}
 use Rattle.lil_match.specs.Closing.{closed}
 use Rattle.lil_match.specs.Steps.{advances, at_step, at_once, lands_on, goes_none, goes_one}
-use Rattle.lil_laws_stmt.specs.Stores.{trap_goes}
+use Rattle.lil_laws_place.specs.Stores.{trap_goes}
 use Rattle.lil_laws_stmt.specs.Returns.{goes_back}
 use Rattle.lil_laws_stmt.specs.Bodies.{goes_next, goes_short}
 
@@ -105,8 +105,8 @@ module _ (ctx : Setting) where
 
   returns : (k : List Item) (t : Mode) (p : ℕ) (stack : List ℕ) (c : ℕ) (a : Around) → Rows ctx k t p stack c a → Returns k c
   returns [] t p stack c a r = absurd r
-  returns (Perform (Turns (Variable x) kind z step left body) ∷ k) t p stack c a r =
-      more k (Perform (Turns (Variable x) kind z step left body) ∷ k) c r.later (omega (arith, r.count)) refl (⊎_elim (λ b. returns k _ _ _ _ _ b.then) (λ n. returns k _ _ _ _ _ n.then) r.there)
+  returns (Perform (Turns x kind z step left body) ∷ k) t p stack c a r =
+      more k (Perform (Turns x kind z step left body) ∷ k) c r.later (omega (arith, r.count)) refl (⊎_elim (λ b. returns k _ _ _ _ _ b.then) (λ n. returns k _ _ _ _ _ n.then) r.there)
   returns (Perform (End n) ∷ k) t p stack c a r =
       record { rest = k; is = ap (λ (x : ℕ). Perform (End x) ∷ k) r.there.activation; later = r.later; less = omega (arith, r.count); behind = r.there.behind }
   returns (i ∷ k) t p stack c a r = more k (i ∷ k) c r.later (omega (arith, r.count)) refl (returns k _ _ _ _ _ r.there.then)

@@ -2,7 +2,7 @@
 use Rattle.std.proofs.Common.{◌≡◌, ℕ, ◌+◌, ◌<◌, ◌≤◌, inl, inr, Some, None, List, [], ◌∷◌, length, refl, sym, ap, ◌∙◌, subst, arith}
 use Rattle.std.specs.Prelude.{ℤ}
 use Rattle.lil_resolved.specs.Kinds.{Kind}
-use Rattle.lil_resolved.specs.Resolved.{Variable, Exit, Statements}
+use Rattle.lil_resolved.specs.Resolved.{Exit, Statements}
 use Rattle.lil_meaning.specs.Items.{Do, Looping, Turns, End, Item, Perform, Source}
 use Rattle.lil_meaning.specs.Steps.{exited}
 use Rattle.lil_mcode.specs.State.{State}
@@ -54,7 +54,7 @@ module _ (ctx : Setting) where
   Leaving k row = (t : Mode) (p : ℕ) (stack : List ℕ) (c : ℕ) (a : Around) → row t p stack c a → (to : ℕ) → a.exit ≡ Some to → Leaves k to c a
 
   turns_leave : (x : ℕ) (kind : Kind) (z step : ℤ) (left : ℕ) (body : Statements) (k : List Item) (rest : Reach) → Leaving k rest
-      → Leaving k (TurnsTask ctx (Variable x) kind z step left body rest)
+      → Leaving k (TurnsTask ctx x kind z step left body rest)
   turns_leave x kind z step left body k rest f t p stack c a (inl r) to known = f _ _ _ c a r.then to known
   turns_leave x kind z step left body k rest f t p stack c a (inr r) to known =
       deeper k to c a r.outer (f _ _ _ c r.outer r.then to (sym (ap (λ (o : Around). o.exit) r.around) ∙ known))
@@ -65,7 +65,7 @@ module _ (ctx : Setting) where
 
   item_leaves : (i : Item) (k : List Item) → Leaving (exited k) (Rows ctx k) → Leaving (exited (i ∷ k)) (ItemWaits ctx i k (RowsOf k))
   item_leaves (Perform (Looping body)) k f t p stack c a r to known = out k to c r.end r.outer a r.is known r.within r.then
-  item_leaves (Perform (Turns (Variable x) kind z step left body)) k f t p stack c a r to known = turns_leave x kind z step left body (exited k) (Rows ctx k) f t p stack c a r to known
+  item_leaves (Perform (Turns x kind z step left body)) k f t p stack c a r to known = turns_leave x kind z step left body (exited k) (Rows ctx k) f t p stack c a r to known
   item_leaves (Perform (End n)) k f t p stack c a r to known = absurd (never_none a to r.alone known)
   item_leaves i k f t p stack c a r to known = f _ _ _ c a r.then to known
 

@@ -7,7 +7,8 @@ use Rattle.lil_base.specs.Words.{Whole, Cardinal, Integer, word_of}
 use Rattle.lil_resolved.specs.Kinds as kinds
 use Rattle.lil_resolved.specs.Kinds.{Kind, base_of, is_base, compared_as, covers, outside_turns}
 use Rattle.lil_resolved.specs.Scalars.{Scalar, within, scalar_word, scalar_of, ordinal_of}
-use Rattle.lil_resolved.specs.Resolved.{Variable, Expression, For, Statements}
+use Rattle.lil_resolved.specs.Shapes.{Word}
+use Rattle.lil_resolved.specs.Resolved.{Expression, For, Statements}
 use Rattle.lil_meaning.specs.Cells.{Global, Place, stored, alone}
 use Rattle.lil_meaning.specs.Items.{Scalars, StartOf, LimitOf, Do, Turns, Item, Value, Fill, Perform, doing, Going, Source}
 use Rattle.lil_meaning.specs.Steps.{current, owner_of, turned_with, turns}
@@ -18,7 +19,7 @@ use Rattle.lil_mcode.specs.declared.machine.Event.TheVariants.{Went, Trap}
 use Rattle.lil_mcode.specs.Control.{after_first}
 use Rattle.lil_mcode.specs.State.{State}
 use Rattle.lil_mcode.specs.Table.{mstep, going, push_row, on_three, loop_row, begun_row, turn_row}
-use Rattle.lil_table.specs.Rows.{Layout, IsAt, InstrsAt, AlignAt, BodyAt, RoundRow, range_code, loop_place, loop_sign}
+use Rattle.lil_table.specs.Rows.{InData, Layout, IsAt, InstrsAt, AlignAt, BodyAt, RoundRow, range_code, loop_place, loop_sign}
 use Rattle.lil_match.specs.Running.{Run, running, react, advanced}
 use Rattle.lil_match.specs.Parts.{yes, no}
 use Rattle.lil_match.specs.Homes.{word_for, plain_word, Home, Mem, scalar_owned, mem_stored, replaced, shadowed}
@@ -26,7 +27,7 @@ use Rattle.lil_match.specs.Arithmetic.{word_is}
 use Rattle.lil_match.specs.Ranges.{has, value_is, value_none, number_is, value_fits, fits_has, has_type}
 use Rattle.lil_match.specs.Tests.{covered, test_act}
 use Rattle.lil_match.specs.Goes.{Shared, Touches, Goes, Lands}
-use Rattle.lil_match.specs.Waits.{Setting, frame_of, laid_out, Quiet, ValueOf, Around, Reach, TurnsFit, Rows, at_home, LoopWords, NextWaits, IsVariable, Waiting}
+use Rattle.lil_match.specs.Waits.{Setting, frame_of, laid_out, Quiet, ValueOf, Around, Reach, TurnsFit, Rows, at_home, LoopWords, NextWaits, HasPlace, Waiting}
 use Rattle.lil_match.specs.Orders.{instr_within, expression_within}
 use Rattle.lil_match.specs.Closing.{closed, variable_here, both_trap}
 use Rattle.lil_match.specs.Steps.{advances, pushes, at_step, at_once, rows_ahead, lands_on, goes_none, shared_with, untouched, touched, goes_one, goes_after_in, goes_after, goes_more, operand_goes}
@@ -71,7 +72,7 @@ module _ (ctx : Setting) where
     Rest = Rows ctx k
 
     abbrev pub Turning : ℕ → Kind → ℤ → ℤ → ℕ → Statements → List Item
-    Turning x kind z step left body = Perform (Turns (Variable x) kind z step left body) ∷ k
+    Turning x kind z step left body = Perform (Turns x kind z step left body) ∷ k
 
     module _ (x : ℕ) (kind : Kind) (z step : ℤ) (left : ℕ) (body : Statements)
         (words : LoopWords ctx a.loops left (word_of step)) (now : words.now ≡ word_of z) (empty : m.stack ≡ [])
@@ -109,10 +110,10 @@ module _ (ctx : Setting) where
           let store : List ℕ = set m.store (own.base + offset) (word_of z) in
           let machine : State = record m { place = round.start; store = store } in
           let place : Place = record { root = Global (owner_of (slice_get s.activations (current k))) x; path = [] } in
-          let variable : IsVariable ctx place offset kind = variable_here ctx s k m shared x offset kind (closed ctx k Quiet end [] c a then) round.known.at round.known.typed in
-          let small_there : own.base + offset < 65536 = omega (arith, (scalar_owned h s.cells m.store place.root place.path kind shared.mem variable.living).1, variable.at) in
+          let variable : HasPlace ctx (InData offset) place (Word kind) [] [] = variable_here ctx s k m shared x offset (Word kind) (closed ctx k Quiet end [] c a then) round.known.at round.known.typed refl [] in
+          let small_there : own.base + offset < 65536 = omega (arith, (scalar_owned h s.cells m.store place.root place.path kind shared.mem variable.living).1, variable.at.0) in
           let mem : Mem h (stored s.cells place (alone v)) store =
-          subst (λ (st : List ℕ). Mem h (stored s.cells place (alone v)) st) (ap (λ (b : ℕ). set m.store b (word_for h v)) variable.at ∙ ap (set m.store (own.base + offset)) word)
+          subst (λ (st : List ℕ). Mem h (stored s.cells place (alone v)) st) (ap (λ (b : ℕ). set m.store b (word_for h v)) variable.at.0 ∙ ap (set m.store (own.base + offset)) word)
           (mem_stored h s.cells m.store place kind v shared.mem variable.living fits) in
           let rows : Rows ctx after Quiet round.start [] c inner =
           body_rows ctx body (Turning x kind (z +ℤ step) step left body) round.start round.end c inner round.here
@@ -257,10 +258,10 @@ module _ (ctx : Setting) where
     abbrev Left : Reach
     Left = Rows ctx k
 
-    pub for_goes : (x : ℕ) (kind : Kind) (first limit : Expression) (step : ℤ) (body : Statements) → Waiting ctx (Perform (Do (For (Variable x) kind first limit step body))) Left Quiet m.place m.stack c a
-        → Goes ctx s (Perform (Do (For (Variable x) kind first limit step body)) ∷ k) m (c + 32)
+    pub for_goes : (x : ℕ) (kind : Kind) (first limit : Expression) (step : ℤ) (body : Statements) → Waiting ctx (Perform (Do (For x kind first limit step body))) Left Quiet m.place m.stack c a
+        → Goes ctx s (Perform (Do (For x kind first limit step body)) ∷ k) m (c + 32)
     for_goes x kind first limit step body row =
-        operand_goes ctx s k m c a shared (Perform (Do (For (Variable x) kind first limit step body)) ∷ k) first (StartOf (Variable x) kind limit step body) refl (omega arith) row.part.here.middle row.part.here.first.value (omega (arith, row.part.here.first.shallow, ap length row.part.empty))
+        operand_goes ctx s k m c a shared (Perform (Do (For x kind first limit step body)) ∷ k) first (StartOf x kind limit step body) refl (omega arith) row.part.here.middle row.part.here.first.value (omega (arith, row.part.here.first.shallow, ap length row.part.empty))
         (expression_within l own.code limit row.part.here.middle row.part.here.last row.part.here.limit.value)
         (record {
           part = record {
@@ -276,10 +277,10 @@ module _ (ctx : Setting) where
         })
 
     pub start_goes : (x : ℕ) (to : Kind) (limit : Expression) (step : ℤ) (body : Statements) (v : Scalar) (kind : Kind) → within kind v ≡ true → (below : List ℕ) → m.stack ≡ word_for h v ∷ below
-        → Waiting ctx (Fill (StartOf (Variable x) to limit step body)) Left (ValueOf kind) m.place below c a → Goes ctx s (Value (Scalars v) ∷ Fill (StartOf (Variable x) to limit step body) ∷ k) m (c + 32)
+        → Waiting ctx (Fill (StartOf x to limit step body)) Left (ValueOf kind) m.place below c a → Goes ctx s (Value (Scalars v) ∷ Fill (StartOf x to limit step body) ∷ k) m (c + 32)
     start_goes x to limit step body v kind fit below is row =
         let stack : m.stack ≡ word_for h v ∷ [] = is ∙ ap (λ (st : List ℕ). word_for h v ∷ st) row.part.empty in
-        operand_goes ctx s k m c a shared (Value (Scalars v) ∷ Fill (StartOf (Variable x) to limit step body) ∷ k) limit (LimitOf (Variable x) to v step body) refl (omega arith) row.part.last row.part.limit.value (omega (arith, row.part.limit.shallow, ap length stack))
+        operand_goes ctx s k m c a shared (Value (Scalars v) ∷ Fill (StartOf x to limit step body) ∷ k) limit (LimitOf x to v step body) refl (omega arith) row.part.last row.part.limit.value (omega (arith, row.part.limit.shallow, ap length stack))
         (align_within l own.code (covers (base_of to) kind) (outside_turns (compared_as (base_of to)) step) row.part.last row.part.turns.aligned row.part.end row.part.turns.align
         (instr_within own.code row.part.turns.aligned (Liw (word_of step)) row.part.turns.stepped row.part.turns.load))
         (record {
@@ -297,12 +298,12 @@ module _ (ctx : Setting) where
         })
 
     pub limit_goes : (x : ℕ) (to : Kind) (u : Scalar) (step : ℤ) (body : Statements) (v : Scalar) (kind : Kind) → within kind v ≡ true → (below : List ℕ) → m.stack ≡ word_for h v ∷ below
-        → Waiting ctx (Fill (LimitOf (Variable x) to u step body)) Left (ValueOf kind) m.place below c a → Goes ctx s (Value (Scalars v) ∷ Fill (LimitOf (Variable x) to u step body) ∷ k) m (c + 32)
+        → Waiting ctx (Fill (LimitOf x to u step body)) Left (ValueOf kind) m.place below c a → Goes ctx s (Value (Scalars v) ∷ Fill (LimitOf x to u step body) ∷ k) m (c + 32)
     limit_goes x to u step body v kind fit below is row =
         let same_kind : kind ≡ base_of to = row.part.same in
         let fits : within (base_of to) v ≡ true = ap (λ (j : Kind). within j v) (sym same_kind) ∙ fit in
-        goes_none ctx s (Value (Scalars v) ∷ Fill (LimitOf (Variable x) to u step body) ∷ k) m (c + 32) c
-        (lands_on ctx s m shared (Perform (Turns (Variable x) to (ordinal_of u) step (turns (ordinal_of u) (ordinal_of v) step) body) ∷ k) m.place m.stack c a
+        goes_none ctx s (Value (Scalars v) ∷ Fill (LimitOf x to u step body) ∷ k) m (c + 32) c
+        (lands_on ctx s m shared (Perform (Turns x to (ordinal_of u) step (turns (ordinal_of u) (ordinal_of v) step) body) ∷ k) m.place m.stack c a
         (at_once ctx _ Quiet m.place m.stack c a
         (inl (record {
           quiet = refl;
@@ -340,7 +341,7 @@ module _ (ctx : Setting) where
       pub then : Left Quiet end [] c a
 
     pub bounded_goes : (x : ℕ) (kind : Kind) (first step : ℤ) (left : ℕ) (body : Statements) → Bounded x kind first step left body
-        → Goes ctx s (Perform (Turns (Variable x) kind first step left body) ∷ k) m (c + 24)
+        → Goes ctx s (Perform (Turns x kind first step left body) ∷ k) m (c + 24)
     bounded_goes x' kind first step left body row = by_left left (sym row.count)
       where
         at : ℕ
@@ -378,10 +379,10 @@ module _ (ctx : Setting) where
             (turns_read (compared_as (base_of kind)) first row.limit step
             (has_type (base_of kind) first based row.fits) (has_type (base_of kind) row.limit based row.limit_fits) row.round.is_step ∙ e)
 
-        by_left : (u : ℕ) → turns first row.limit step ≡ u → Goes ctx s (Perform (Turns (Variable x') kind first step u body) ∷ k) m (c + 24)
+        by_left : (u : ℕ) → turns first row.limit step ≡ u → Goes ctx s (Perform (Turns x' kind first step u body) ∷ k) m (c + 24)
         by_left zero e =
-            goes_after ctx s (Perform (Turns (Variable x') kind first step zero body) ∷ k) m stepped (c + 24) (c + 23) pushed
-            (goes_one ctx s (Perform (Turns (Variable x') kind first step zero body) ∷ k) stepped (c + 23) c (running (going m row.end []) s.world)
+            goes_after ctx s (Perform (Turns x' kind first step zero body) ∷ k) m stepped (c + 24) (c + 23) pushed
+            (goes_one ctx s (Perform (Turns x' kind first step zero body) ∷ k) stepped (c + 23) c (running (going m row.end []) s.world)
             (advances stepped s.world _ (enters zero e ∙ yes _ _ _ (lt-ltb row.end (length own.code) row.within)))
             (lands_on ctx s m shared k row.end [] c a (rows_ahead ctx k row.end [] c a row.then))
             (omega arith))
@@ -402,8 +403,8 @@ module _ (ctx : Setting) where
             ∙ ap (λ (z : ℕ). set (set (set m.store (ctx.stack.frame.at + n) (word_of first)) (ctx.stack.frame.at + (n + 1)) u) z (word_of step)) third_at in
             let words = begun_words h.shadow ctx.stack.frame.at n (word_of first) u (word_of step) in
             let few = turns_few (base_of kind) first row.limit step u based row.fits row.limit_fits e in
-            goes_after ctx s (Perform (Turns (Variable x') kind first step (suc u) body) ∷ k) m stepped (c + 24) (c + 23) pushed
-            (goes_after_in ctx s (Perform (Turns (Variable x') kind first step (suc u) body) ∷ k) stepped begun x (c + 23) (c + 20)
+            goes_after ctx s (Perform (Turns x' kind first step (suc u) body) ∷ k) m stepped (c + 24) (c + 23) pushed
+            (goes_after_in ctx s (Perform (Turns x' kind first step (suc u) body) ∷ k) stepped begun x (c + 23) (c + 20)
             (advances stepped s.world _ (
             enters (suc u) e
             ∙ yes _ _ _ (lt-ltb (at + 2) 65536 deep)
@@ -421,7 +422,7 @@ module _ (ctx : Setting) where
             (omega arith)
 
     pub next_goes : (x : ℕ) (kind : Kind) (z step : ℤ) (left : ℕ) (body : Statements) → NextWaits ctx x kind z step left body Left Quiet m.place m.stack c a
-        → Goes ctx s (Perform (Turns (Variable x) kind z step left body) ∷ k) m (c + 32)
+        → Goes ctx s (Perform (Turns x kind z step left body) ∷ k) m (c + 32)
     next_goes x' kind z step left body row = by_left left refl row.fit row.small
       where
         n : ℕ
@@ -444,9 +445,9 @@ module _ (ctx : Setting) where
             ∙ ap (λ (w : ℕ). turn_row own at row.turn row.end m row.words.now w (get_or m.store (at + 2) 0)) (own_read ctx s m shared (n + 1) (at + 1) (omega arith) (omega (arith, room)) ∙ ap h.shadow (omega arith) ∙ row.words.left_is ∙ e)
             ∙ ap (λ (w : ℕ). turn_row own at row.turn row.end m row.words.now u w) (own_read ctx s m shared (n + 2) (at + 2) (omega arith) (omega (arith, room)) ∙ ap h.shadow (omega arith) ∙ row.words.step_is)
 
-        by_left : (u : ℕ) → left ≡ u → TurnsFit (base_of kind) z step u → u < 65536 → Goes ctx s (Perform (Turns (Variable x') kind z step u body) ∷ k) m (c + 32)
+        by_left : (u : ℕ) → left ≡ u → TurnsFit (base_of kind) z step u → u < 65536 → Goes ctx s (Perform (Turns x' kind z step u body) ∷ k) m (c + 32)
         by_left zero e fit small =
-            goes_one ctx s (Perform (Turns (Variable x') kind z step zero body) ∷ k) m (c + 32) c (running (going m row.end m.stack) s.world)
+            goes_one ctx s (Perform (Turns x' kind z step zero body) ∷ k) m (c + 32) c (running (going m row.end m.stack) s.world)
             (advances m s.world _ (again zero e))
             (lands_on ctx s m shared k row.end m.stack c row.outer
             (rows_ahead ctx k row.end m.stack c row.outer
@@ -468,7 +469,7 @@ module _ (ctx : Setting) where
             ∙ ap (λ (y : ℕ). set (set m.store y u) (m.frame + n) (word_of z)) second_at
             ∙ ap (λ (y : ℕ). set (set m.store (ctx.stack.frame.at + (n + 1)) u) y (word_of z)) first_at in
             let words = turned_words h.shadow ctx.stack.frame.at n (word_of z) u in
-            goes_after_in ctx s (Perform (Turns (Variable x') kind z step (suc u) body) ∷ k) m turning x (c + 32) (c + 20)
+            goes_after_in ctx s (Perform (Turns x' kind z step (suc u) body) ∷ k) m turning x (c + 32) (c + 20)
             (advances m s.world _ (
             again (suc u) e
             ∙ no _ _ _ (ne_eqb (suc u) 0 (λ d. omega (arith, d)))

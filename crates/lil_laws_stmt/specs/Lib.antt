@@ -10,5 +10,4 @@ pub mod Fors
 pub mod Painting
 pub mod Returns
 pub mod Starts
-pub mod Stores
 pub mod Tasks

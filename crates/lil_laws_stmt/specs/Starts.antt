@@ -10,13 +10,7 @@ use Rattle.lil_resolved.specs.Kinds.{Kind, OfWhole, OfTruth, OfCharacter, OfEnum
 use Rattle.lil_resolved.specs.Sound.{IsStep}
 use Rattle.lil_meaning.specs.Steps.{turns}
 use Rattle.lil_match.specs.Parts.{yes, no}
-use Rattle.lil_match.specs.Ranges.{has, has_range}
-
--- a number of a kind is one of the kind that it was taken from
-pub has_base : (k : Kind) (z : ℤ) → has k z ≡ true → has (base_of k) z ≡ true
-has_base (OfRange base low high) z h = has_base base z (and_parts (between low z high) (has base z) (sym (has_range base low high z) ∙ h)).1
-has_base (OfWhole t) z h = h
-has_base _ z h = h
+use Rattle.lil_match.specs.Ranges.{has, has_base}
 
 no_less : (x : ℤ) → not (int_lt x x) ≡ true
 no_less x = grind (arith, ints)

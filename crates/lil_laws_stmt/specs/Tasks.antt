@@ -6,26 +6,27 @@ use Rattle.std.proofs.lemmas.List.{reverse-append, reverse-reverse, length-rever
 use Rattle.lil_base.specs.declared.fault.TrapKind.TheVariants as trap
 use Rattle.lil_resolved.specs.Kinds.{Kind}
 use Rattle.lil_resolved.specs.Scalars.{Scalar, within, scalar_word}
-use Rattle.lil_resolved.specs.Resolved.{Variable, Expression, Argument, Assign, Request, kind_of}
-use Rattle.lil_resolved.specs.Shapes.{Word}
+use Rattle.lil_resolved.specs.Resolved.{Designator, Expression, Argument, Assign, Request, kind_of, shape_of}
+use Rattle.lil_resolved.specs.Shapes.{Shape, Word}
 use Rattle.lil_meaning.specs.Cells.{Place, stored, alone}
 use Rattle.lil_meaning.specs.World.{World, Given, Single, serve}
 use Rattle.lil_meaning.specs.Items.{Datum, Scalars, Places, SetTo, StoreAt, Pass, Do, Passing, Item, Value, PlaceOf, Fill, Perform, Going, Source}
 use Rattle.lil_meaning.specs.Steps.{trapped, with_items, given_of, level_of}
-use Rattle.lil_asm.specs.declared.instr.Instr.TheVariants.{Sgw, Svc}
+use Rattle.lil_asm.specs.declared.instr.Instr.TheVariants.{Svc}
 use Rattle.lil_mcode.specs.State.{State}
 use Rattle.lil_mcode.specs.Table.{going, request_row}
-use Rattle.lil_table.specs.Rows.{IsAt, ValueRow, ArgumentsAt, test_code}
+use Rattle.lil_table.specs.Rows.{IsAt, ValueRow, ArgumentsAt, test_code, Access, access_of, readied, held, store_code}
 use Rattle.lil_match.specs.Running.{Running, Run, running, requested, words_taken}
 use Rattle.lil_match.specs.Parts.{yes}
-use Rattle.lil_match.specs.Homes.{word_for, plain_word}
+use Rattle.lil_match.specs.Homes.{word_for, plain_word, address}
 use Rattle.lil_match.specs.Goes.{Shared, Goes, Lands}
 use Rattle.lil_match.specs.Stutter.{stutter}
-use Rattle.lil_match.specs.Waits.{Setting, frame_of, laid_out, Quiet, ValueOf, Direct, Around, Reach, Rows, HasWords, IsVariable, Waiting}
+use Rattle.lil_match.specs.Waits.{Setting, frame_of, laid_out, Quiet, ValueOf, AtPlace, Around, Reach, Rows, HasWords, Reaches, HasPlace, Waiting}
 use Rattle.lil_match.specs.Orders.{instr_within, instrs_order, expression_stands, arguments_within}
 use Rattle.lil_match.specs.Closing.{closed}
-use Rattle.lil_match.specs.Steps.{advances, at_step, at_once, rows_ahead, lands_on, goes_none, goes_one, operand_goes}
-use Rattle.lil_laws_stmt.specs.Stores.{tested, stored_goes}
+use Rattle.lil_match.specs.Steps.{advances, at_step, at_once, rows_ahead, lands_on, goes_none, goes_one, operand_exact, operand_goes}
+use Rattle.lil_laws_place.specs.Codes.{made_ready, readied_twice, held_words}
+use Rattle.lil_laws_place.specs.Stores.{tested, stored_goes}
 
 -- one more word on the expression stack
 words_more : (done : List Datum) (stack : List ℕ) (v : Scalar) → HasWords done stack → HasWords (done ++ Scalars v ∷ []) (scalar_word v ∷ stack)
@@ -58,23 +59,26 @@ module _ (ctx : Setting) where
     abbrev Rest : Reach
     Rest = Rows ctx k
 
-    pub assign_goes : (x : ℕ) (kind : Kind) (e : Expression) → Waiting ctx (Perform (Do (Assign (Variable x) kind e))) Rest Quiet m.place m.stack c a
-        → Goes ctx s (Perform (Do (Assign (Variable x) kind e)) ∷ k) m (c + 32)
-    assign_goes x kind e row =
-        goes_none ctx s (Perform (Do (Assign (Variable x) kind e)) ∷ k) m (c + 32) c
-        (lands_on ctx s m shared (PlaceOf (Variable x) ∷ Fill (SetTo kind e) ∷ k) m.place m.stack c a
+    pub assign_goes : (d : Designator) (kind : Kind) (e : Expression) → Waiting ctx (Perform (Do (Assign d kind e))) Rest Quiet m.place m.stack c a
+        → Goes ctx s (Perform (Do (Assign d kind e)) ∷ k) m (c + 32)
+    assign_goes d kind e row =
+        let r = row.part.here in
+        goes_none ctx s (Perform (Do (Assign d kind e)) ∷ k) m (c + 32) c
+        (lands_on ctx s m shared (PlaceOf d ∷ Fill (SetTo kind e) ∷ k) m.place m.stack c a
         (at_once ctx _ Quiet m.place m.stack c a
         (record {
-          part = record { kind = kind; known = row.part.here.known };
-          then = at_once ctx _ (Direct row.part.here.known.offset kind) m.place m.stack c a
+          part = record { end = r.target.found; here = r.target.here; shallow = omega (arith, r.target.shallow, ap length row.part.empty) };
+          then = at_once ctx _ (AtPlace (access_of l d) (shape_of l.shapes d)) r.target.found m.stack c a
               (record {
                 part = record {
-                  same = refl;
+                  typed = r.target.scalar.shape;
                   empty = row.part.empty;
-                  middle = row.part.here.middle;
+                  start = r.start;
+                  middle = r.middle;
                   end = row.part.end;
-                  value = row.part.here.value;
-                  store = row.part.here.store;
+                  ready = r.target.ready;
+                  value = r.value;
+                  store = r.store;
                   within = row.part.within;
                 };
                 then = row.then;
@@ -83,29 +87,38 @@ module _ (ctx : Setting) where
         (omega arith)
         (omega arith)
 
-    pub set_goes : (to : Kind) (e : Expression) (place : Place) (kind : Kind) (offset : ℕ) → IsVariable ctx place offset kind
-        → Waiting ctx (Fill (SetTo to e)) Rest (Direct offset kind) m.place m.stack c a → Goes ctx s (Value (Places place) ∷ Fill (SetTo to e) ∷ k) m (c + 32)
-    set_goes to e place kind offset is row =
-        let same_kind : kind ≡ to = row.part.same in
-        let variable : IsVariable ctx place offset to = record { seen = is.seen; living = is.living ∙ ap Word same_kind; at = is.at } in
-        let value = row.part.value in
-        operand_goes ctx s k m c a shared (Value (Places place) ∷ Fill (SetTo to e) ∷ k) e (StoreAt place to) refl (omega arith) value.middle value.value.value
-        (omega (arith, value.value.shallow, ap length row.part.empty))
-        (value_within 0 e to m.place row.part.middle value (instr_within own.code row.part.middle (Sgw offset) row.part.end row.part.store))
+    -- the place is there: it is made ready, and then comes the value
+    pub set_goes : (to : Kind) (e : Expression) (place : Place) (b : Access) (t : Shape) (below : List ℕ) → HasPlace ctx b place t m.stack below
+        → Waiting ctx (Fill (SetTo to e)) Rest (AtPlace b t) m.place below c a → Goes ctx s (Value (Places place) ∷ Fill (SetTo to e) ∷ k) m (c + 32)
+    set_goes to e place b t below has row =
+        let r = row.part in
+        let value = r.value in
+        let items : List Item = Value (Places place) ∷ Fill (SetTo to e) ∷ k in
+        made_ready ctx s items m shared b place t m.stack below has m.place r.start (c + 32) c r.ready
+        (λ under there.
+        operand_exact ctx s k (going m r.start under) c a shared items e (StoreAt place to) refl (omega arith) value.middle value.value.value
+        (omega (arith, value.value.shallow, held_words ctx (readied b) place t under below there, ap length r.empty))
+        (value_within (held (readied b)) e to r.start r.middle value (instr_within own.code r.middle (store_code (readied b)) r.end r.store))
         (record {
           part = record {
             takes = value.takes;
-            empty = row.part.empty;
-            offset = offset;
-            variable = variable;
-            middle = row.part.middle;
-            end = row.part.end;
+            access = readied b;
+            ready = readied_twice ctx b;
+            has = record {
+              seen = there.seen;
+              living = there.living ∙ r.typed;
+              there = refl;
+              at = subst (λ (x : List ℕ). Reaches own.base (readied b) (address h place) under x) r.empty there.at;
+            };
+            middle = r.middle;
+            end = r.end;
             test = value.test;
-            store = row.part.store;
-            within = row.part.within;
+            store = r.store;
+            within = r.within;
           };
           then = row.then;
-        })
+        }))
+        (omega arith)
 
     pub store_goes : (place : Place) (to : Kind) (v : Scalar) (kind : Kind) → within kind v ≡ true → (below : List ℕ) → m.stack ≡ word_for h v ∷ below
         → Waiting ctx (Fill (StoreAt place to)) Rest (ValueOf kind) m.place below c a → Goes ctx s (Value (Scalars v) ∷ Fill (StoreAt place to) ∷ k) m (c + 32)
@@ -118,9 +131,8 @@ module _ (ctx : Setting) where
         row.part.middle (c + 32) (c + 1) row.part.test (closed ctx k _ _ _ _ _ row.then)
         (λ out. ap becomes out)
         (λ one.
-        stored_goes ctx s items m shared row.part.middle m.stack place row.part.offset to row.part.variable v one below is
-        row.part.end row.part.store k (ap becomes one) c (c + 1) a
-        (subst (λ (x : List ℕ). Rest Quiet row.part.end x c a) (sym row.part.empty) row.then) (omega arith))
+        stored_goes ctx s items m shared row.part.middle m.stack row.part.access place to below row.part.has row.part.ready v one is
+        row.part.end row.part.store k (ap becomes one) c (c + 1) a row.then (omega arith))
         (omega arith)
 
     pub request_goes : (r : ℕ) (given : List Argument) → Waiting ctx (Perform (Do (Request r given))) Rest Quiet m.place m.stack c a

@@ -17,7 +17,7 @@ use Rattle.lil_resolved.specs.Bases.{own_base}
 use Rattle.lil_resolved.specs.Kinds.{Kind, OfWhole, compared_as}
 use Rattle.lil_resolved.specs.Resolved.{Expression, Argument, Statements, kind_of, counted_as}
 use Rattle.lil_resolved.specs.Sound.{takes_value, request_kinds, argument_kind, IsSoundWhole, IsSoundValue, AreSoundArguments, IsSoundBody}
-use Rattle.lil_resolved.specs.Shapes.{Shape, Word}
+use Rattle.lil_resolved.specs.Shapes.{Shape}
 use Rattle.lil_resolved.specs.Views.{base_view, kind_view, request_number}
 use Rattle.lil_resolved.specs.declared.resolved.RBase.{RBase}
 use Rattle.lil_resolved.specs.declared.resolved.RBase.TheVariants as b
@@ -26,15 +26,16 @@ use Rattle.lil_resolved.specs.declared.resolved.RRequest.{RRequest}
 use Rattle.lil_resolved.specs.declared.resolved.RRequest.TheVariants as q
 use Rattle.lil_resolved.specs.declared.resolved.Direction.{Direction}
 use Rattle.lil_resolved.specs.declared.resolved.Direction.TheVariants.{Up, Down}
-use Rattle.lil_lower.specs.declared.variables.Variable.{Variable}
 use Rattle.lil_lower.specs.Bases.{base_at}
 use Rattle.lil_lower.specs.Operators.{counted}
+use Rattle.lil_lower.specs.Places.{Cell}
 use Rattle.lil_lower.specs.Values as v
 use Rattle.lil_lower.specs.Values.{Lowers, argument}
 use Rattle.lil_lower.specs.Calls as s
 use Rattle.lil_lower.proofs.BaseLaws.{if_true}
-use Rattle.lil_lower.proofs.ValueSound.{Kept, IsKnown, variable_sound, whole_held, shallow_kept, kept_whole, kept_alone}
-use Rattle.lil_lower.proofs.TreeSound.{Fits, designator_known, handed_sound}
+use Rattle.lil_lower.proofs.PlaceSound.{Fits, IsTarget, target_sound}
+use Rattle.lil_lower.proofs.ValueSound.{Kept, whole_held, shallow_kept, kept_whole, kept_alone}
+use Rattle.lil_lower.proofs.TreeSound.{target_known, handed_sound}
 
 -- the whole numbers that go with a base
 counted_base : (t : Table) (k : RBase) → (j : RBase) × (base_at t (counted k) ≡ Some j) × (base_view j ≡ OfWhole (compared_as (base_view k)))
@@ -59,32 +60,32 @@ parameters_are q.WriteInt = refl
 parameters_are q.WriteOct = refl
 parameters_are q.WriteHex = refl
 
-module _ (m : RModule) (ts : List Shape) (kinds : Fits m ts) where
+module _ (m : RModule) (ts : List Shape) (fits : Fits m ts) where
   abbrev Body : Bool → Option Statements → Type 0
   Body looping o = IfSome o (IsSoundBody ts looping)
 
-  abbrev Known : Option Variable → Type 0
-  Known o = IfSome o (IsKnown m.types ts)
+  abbrev Known : Option Cell → Type 0
+  Known o = IfSome o (IsTarget m.types ts)
 
   -- ---- assignments
-  pub stored_sound : (looping : Bool) (a : Variable) (sort : ℕ) (o : Option Expression) → IsKnown m.types ts a → IfSome o (Kept m.types ts sort) → Body looping (s.stored a o)
+  pub stored_sound : (looping : Bool) (a : Cell) (sort : ℕ) (o : Option Expression) → IsTarget m.types ts a → IfSome o (Kept m.types ts sort) → Body looping (s.stored a o)
   stored_sound looping a sort None h j = tt
-  stored_sound looping a sort (Some e) h j = if_true (IsSoundBody ts looping) (takes_value (kind_view a.place.kind) (kind_of e)) _
-      (λ takes. ((variable_sound m.types ts a h, record { takes = takes; whole = kept_alone m.types ts sort e j }), tt))
+  stored_sound looping a sort (Some e) h j = if_true (IsSoundBody ts looping) (takes_value (kind_view a.kind) (kind_of e)) _
+      (λ takes. ((target_sound m.types ts a h, record { takes = takes; whole = kept_alone m.types ts sort e j }), tt))
 
   -- ---- INC, DEC and HALT
-  changed_sound : (looping : Bool) (way : Direction) (o : Option Variable) (by : Lowers) → Known o
+  changed_sound : (looping : Bool) (way : Direction) (o : Option Cell) (by : Lowers) → Known o
       → ((w : ℕ) → IfSome (v.shallow (by w)) (Kept m.types ts w)) → Body looping (s.changed_by way o by)
   changed_sound looping way None by h j = tt
-  changed_sound looping way (Some a) by h j = over (v.shallow (by (counted a.place.kind.base))) (j (counted a.place.kind.base))
+  changed_sound looping way (Some a) by h j = over (v.shallow (by (counted a.kind.base))) (j (counted a.kind.base))
     where
-      over : (o : Option Expression) → IfSome o (Kept m.types ts (counted a.place.kind.base)) → Body looping (s.changed way a o)
+      over : (o : Option Expression) → IfSome o (Kept m.types ts (counted a.kind.base)) → Body looping (s.changed way a o)
       over None i = tt
       over (Some e) i =
-          let of = counted_base m.types a.place.kind.base in (
+          let of = counted_base m.types a.kind.base in (
             (
-              variable_sound m.types ts a h,
-              subst (IsSoundWhole ts e) (of.2 ∙ counted_kind a.place.kind) (kept_whole m.types ts (counted a.place.kind.base) e of.0 i of.1),
+              target_sound m.types ts a h,
+              subst (IsSoundWhole ts e) (of.2 ∙ counted_kind a.kind) (kept_whole m.types ts (counted a.kind.base) e of.0 i of.1),
             ),
             tt,
           )
@@ -94,14 +95,14 @@ module _ (m : RModule) (ts : List Shape) (kinds : Fits m ts) where
     where
       by : (y : RArgument-F RArgument RCallee RExpr RSelector RDesignator RElement ROperation) → Known (s.place_in m y)
       by (x.RArgument::Value e) = tt
-      by (x.Place d) = designator_known m ts kinds d
+      by (x.Place d) = target_known m ts fits d
       by (x.Type i) = tt
 
   change_sound : (looping : Bool) (way : Direction) (xs : List RArgument) → Body looping (s.change m way xs)
   change_sound looping way [] = tt
   change_sound looping way (a ∷ []) =
       changed_sound looping way (s.place m a) (v.whole m.types (pos 1)) (place_known a) (λ w. shallow_kept m.types ts w (v.whole m.types (pos 1) w) (whole_held m.types ts (pos 1) w))
-  change_sound looping way (a ∷ c ∷ []) = changed_sound looping way (s.place m a) (argument m c).lowers (place_known a) (handed_sound m ts kinds c)
+  change_sound looping way (a ∷ c ∷ []) = changed_sound looping way (s.place m a) (argument m c).lowers (place_known a) (handed_sound m ts fits c)
   change_sound looping way (a ∷ c ∷ d ∷ xs) = tt
 
   halted_sound : (looping : Bool) (xs : List RArgument) → Body looping (s.halted xs)
@@ -124,8 +125,8 @@ module _ (m : RModule) (ts : List Shape) (kinds : Fits m ts) where
 
   one_sound : (k : RBase) (sort : ℕ) (a : RArgument) → IfSome (s.handed m k sort a) (Given (base_view k))
   one_sound k sort a =
-      let own = s.own_or (argument m a).own sort in
-      given_sound k own (v.shallow ((argument m a).lowers own)) (handed_sound m ts kinds a own)
+      let own = v.own_or (argument m a).own sort in
+      given_sound k own (v.shallow ((argument m a).lowers own)) (handed_sound m ts fits a own)
 
   abbrev AllGiven : List (RBase × ℕ) → List Argument → Type 0
   AllGiven ps given = AreSoundArguments ts given × (map argument_kind given ≡ bases ps)

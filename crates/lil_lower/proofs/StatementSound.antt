@@ -1,15 +1,14 @@
 -- Statements and modules that are lowered are sound.
-use Rattle.std.proofs.Common.{◌≡◌, ℕ, zero, suc, ℤ, pos, negsuc, Bool, true, false, not, ◌&&◌, List, [], ◌∷◌, length, map, Option, None, Some, IfSome, refl, sym, ap, subst, ◌∙◌, arith, true≢false, if◌then◌else◌}
-use Rattle.std.specs.Prelude.{int_lt, nat_le, ◌≤ℤ◌, slice_get}
+use Rattle.std.proofs.Common.{◌≡◌, ℕ, ℤ, pos, negsuc, Bool, true, false, not, ◌&&◌, List, [], ◌∷◌, length, map, Option, None, Some, IfSome, refl, sym, ap, subst, ◌∙◌, arith, true≢false, if◌then◌else◌}
+use Rattle.std.specs.Prelude.{◌+◌, int_lt, nat_le, ◌≤ℤ◌}
 use Rattle.std.specs.Option.{option_map}
 use Rattle.std.specs.List.{list_all}
 use Rattle.std.proofs.lemmas.Int.{ints}
-use Rattle.std.proofs.lemmas.Option.{none-some, same_Some}
+use Rattle.std.proofs.lemmas.Option.{none-some}
 use Rattle.lil_base.specs.Words.{Integer, in_type, is_zero}
 use Rattle.lil_base.specs.Laws.{bounds}
 use Rattle.lil_types.specs.Types.{Table, boolean}
 use Rattle.lil_module.specs.declared.declared.RModule.{RModule}
-use Rattle.lil_module.specs.declared.declared.RVar.{RVar}
 use Rattle.lil_module.specs.declared.tree.RExpr.{RExpr}
 use Rattle.lil_module.specs.declared.tree.RLabel.{RLabel}
 use Rattle.lil_module.specs.declared.tree.RStmt.{RStmt}
@@ -23,24 +22,26 @@ use Rattle.lil_resolved.specs.Bases.{own_base}
 use Rattle.lil_resolved.specs.Kinds.{Kind, OfTruth}
 use Rattle.lil_resolved.specs.Resolved.{Expression, Label, Statements, Empty, Then, Arms, Else, Resolved, kind_of}
 use Rattle.lil_resolved.specs.Sound.{is_base, takes_value, IsSoundWhole, IsSoundValue, IsSoundLabel, AreSoundLabels, IsStep, IsSoundBody, AreSoundArms, IsSound}
-use Rattle.lil_resolved.specs.Shapes.{Shape, Word}
-use Rattle.lil_resolved.specs.Views.{base_view, kind_view, shape_declared, joined, all_of}
+use Rattle.lil_resolved.specs.Shapes.{Shape}
+use Rattle.lil_resolved.specs.Views.{base_view, kind_view, joined, all_of}
 use Rattle.lil_resolved.specs.declared.resolved.RBase.{RBase}
 use Rattle.lil_resolved.specs.declared.resolved.RBase.TheVariants as b
-use Rattle.lil_resolved.specs.declared.resolved.RKind.{RKind}
-use Rattle.lil_resolved.specs.declared.resolved.RDeclared.{RDeclared}
 use Rattle.lil_lower.specs.declared.variables.Variable.{Variable}
 use Rattle.lil_lower.specs.declared.selectors.Ordinal.{Ordinal}
-use Rattle.lil_lower.specs.Bases.{base_at, kind_at}
+use Rattle.lil_lower.specs.Bases.{base_at}
 use Rattle.lil_lower.specs.Operators.{has_number}
-use Rattle.lil_lower.specs.Values.{root, designator, expression}
-use Rattle.lil_lower.specs.Calls.{own_or}
+use Rattle.lil_lower.specs.Places.{Cell}
+use Rattle.lil_lower.specs.Shaping as spec
+use Rattle.lil_lower.specs.Shaping.{all_some, within, lying}
+use Rattle.lil_lower.specs.Values.{root, own_or, expression, target}
 use Rattle.lil_lower.specs.Lowered as s
-use Rattle.lil_lower.specs.Lowered.{Meaning, GuardMeaning, ArmMeaning, all_some, value, statement_layer, statement, arm, guard}
+use Rattle.lil_lower.specs.Lowered.{Meaning, GuardMeaning, ArmMeaning, value, statement_layer, statement, arm, guard}
 use Rattle.lil_lower.proofs.BaseLaws.{if_true, base_words, number_sound}
 use Rattle.lil_lower.proofs.StatementForms.{rolled, guard_is, arm_is}
+use Rattle.lil_lower.proofs.PlaceSound.{Fits, IsTarget, root_known}
+use Rattle.lil_lower.proofs.ShapeSound.{within_is}
 use Rattle.lil_lower.proofs.ValueSound.{Kept, IsKnown, both_left, both_right, variable_sound, kept_whole, kept_alone}
-use Rattle.lil_lower.proofs.TreeSound.{Fits, root_known, designator_known, value_sound}
+use Rattle.lil_lower.proofs.TreeSound.{target_known, value_sound}
 use Rattle.lil_lower.proofs.CallSound.{stored_sound, called_sound, procedure_sound}
 
 -- ---- lists of parts
@@ -61,6 +62,10 @@ module _ {B : Type 0} (IsFine : B → Type 0) where
   some_fine [] h = tt
   some_fine (None ∷ bs) h = tt
   some_fine (Some b ∷ bs) h = linked_fine b (all_some bs) h.0 (some_fine bs h.1)
+
+some_if : {A : Type 0} (b : Bool) (o : Option A) (x : A) → (if b then o else None) ≡ Some x → o ≡ Some x
+some_if true o x h = h
+some_if false o x h = absurd (none-some x h)
 
 -- ---- labels and steps
 not_less : (a b : ℤ) → not (int_lt b a) ≡ true → a ≤ℤ b
@@ -182,7 +187,7 @@ module _ (ts : List Shape) where
   else_sound looping k (Some b) h = h
 
 -- ---- the induction
-module _ (m : RModule) (ts : List Shape) (kinds : Fits m ts) where
+module _ (m : RModule) (ts : List Shape) (fits : Fits m ts) where
   abbrev StatementSound : RStmt → Type 0
   StatementSound x = (looping : Bool) → Body ts looping (statement m x looping)
 
@@ -203,7 +208,7 @@ module _ (m : RModule) (ts : List Shape) (kinds : Fits m ts) where
   Guard = (g : RGuard) × GuardSound g
 
   whole : (x : RExpr) (sort : ℕ) (k : RBase) → base_at m.types sort ≡ Some k → Whole ts (base_view k) (value m x sort)
-  whole x sort k is = by (value m x sort) (value_sound m ts kinds x sort)
+  whole x sort k is = by (value m x sort) (value_sound m ts fits x sort)
     where
       by : (o : Option Expression) → IfSome o (Kept m.types ts sort) → Whole ts (base_view k) o
       by None h = tt
@@ -248,25 +253,25 @@ module _ (m : RModule) (ts : List Shape) (kinds : Fits m ts) where
       by None h = tt
       by (Some k) h = h
 
-  assigned_sound : (looping : Bool) (o : Option Variable) (x : RExpr) → IfSome o (IsKnown m.types ts) → Body ts looping (s.assigned m o x)
+  assigned_sound : (looping : Bool) (o : Option Cell) (x : RExpr) → IfSome o (IsTarget m.types ts) → Body ts looping (s.assigned m o x)
   assigned_sound looping None x h = tt
   assigned_sound looping (Some d) x h =
       let sort = own_or (expression m x).own d.sort in
-      stored_sound m ts kinds looping d sort (value m x sort) h (value_sound m ts kinds x sort)
+      stored_sound m ts fits looping d sort (value m x sort) h (value_sound m ts fits x sort)
 
   counted_sound : (looping : Bool) (o : Option Variable) (a b : RExpr) (z : ℤ) (body : Option Statements) → IfSome o (IsKnown m.types ts) → Body ts looping body → Body ts looping (s.for_by m o a b z body)
   counted_sound looping None a b z body h j = tt
   counted_sound looping (Some d) a b z body h j =
       let sort = own_or (expression m a).own d.sort in
-      for_sound ts looping m.types d (s.started d (value m a sort)) (value m b d.sort) z body h (started_sound ts m.types d sort (value m a sort) (value_sound m ts kinds a sort)) (value_sound m ts kinds b d.sort) j
+      for_sound ts looping m.types d (s.started d (value m a sort)) (value m b d.sort) z body h (started_sound ts m.types d sort (value m a sort) (value_sound m ts fits a sort)) (value_sound m ts fits b d.sort) j
 
   abbrev bare : RStmt-F Stmt Arm Guard → RStmt-F RStmt RArm RGuard
   bare = map-RStmt Stmt Arm Guard RStmt RArm RGuard (λ e. e.0) (λ e. e.0) (λ e. e.0)
 
   layer_sound : (y : RStmt-F Stmt Arm Guard) (looping : Bool) → Body ts looping (statement_layer m (map-RStmt RStmt RArm RGuard Meaning ArmMeaning GuardMeaning (statement m) (arm m) (guard m) (bare y)) looping)
-  layer_sound (o.Assign d x) looping = assigned_sound looping (designator m d) x (designator_known m ts kinds d)
-  layer_sound (o.Call c xs) looping = called_sound m ts kinds looping c xs
-  layer_sound (o.Procedure p xs) looping = procedure_sound m ts kinds looping p xs
+  layer_sound (o.Assign d x) looping = assigned_sound looping (target m d) x (target_known m ts fits d)
+  layer_sound (o.Call c xs) looping = called_sound m ts fits looping c xs
+  layer_sound (o.Procedure p xs) looping = procedure_sound m ts fits looping p xs
   layer_sound (o.If gs None) looping = conditional_sound ts looping (all_some (map (λ (f : GuardMeaning). f looping) (map (guard m) (map (λ e. e.0) gs)))) (Some Empty) (guards looping gs) tt
   layer_sound (o.If gs (Some xs)) looping = conditional_sound ts looping (all_some (map (λ (f : GuardMeaning). f looping) (map (guard m) (map (λ e. e.0) gs)))) (s.body looping (map (statement m) (map (λ e. e.0) xs))) (guards looping gs) (bodies looping xs)
   layer_sound (o.Case x as' None) looping = case_sound looping (s.selector m x) x as' None (sort_known (s.selector_sort m x)) (λ k. tt)
@@ -274,7 +279,7 @@ module _ (m : RModule) (ts : List Shape) (kinds : Fits m ts) where
   layer_sound (o.While x xs) looping = while_sound ts looping (value m x boolean) (s.body looping (map (statement m) (map (λ e. e.0) xs))) (condition x) (bodies looping xs)
   layer_sound (o.Repeat xs x) looping = repeat_sound ts looping (s.body looping (map (statement m) (map (λ e. e.0) xs))) (value m x boolean) (bodies looping xs) (condition x)
   layer_sound (o.Loop xs) looping = loop_sound ts looping (s.body true (map (statement m) (map (λ e. e.0) xs))) (bodies true xs)
-  layer_sound (o.For r a b z xs) looping = counted_sound looping (root m r) a b z (s.body looping (map (statement m) (map (λ e. e.0) xs))) (root_known m ts kinds r) (bodies looping xs)
+  layer_sound (o.For r a b z xs) looping = counted_sound looping (root m r) a b z (s.body looping (map (statement m) (map (λ e. e.0) xs))) (root_known m ts fits r) (bodies looping xs)
   layer_sound (o.With d xs) looping = tt
   layer_sound o.Exit looping = exit_sound ts looping
   layer_sound (o.Return None) looping = (tt, tt)
@@ -318,41 +323,26 @@ module _ (m : RModule) (ts : List Shape) (kinds : Fits m ts) where
   body_is_sound = body_sound ts false (map (λ x. statement m x false) m.body) (each_sound m.body)
 
 -- ---- modules
--- a variable that is there has its kind among those that are declared
-declared_at : (t : Table) (vs : List RVar) (ds : List RDeclared) (i : ℕ) (a : RVar) (k : RKind) → s.all_declared t vs ≡ Some ds → slice_get vs i ≡ Some a → kind_at t a.sort ≡ Some k
-    → slice_get (map shape_declared ds) i ≡ Some (Word (kind_view k))
-declared_at t [] ds i a k h is of = absurd (none-some a is)
-declared_at t (c ∷ vs) ds i a k h is of = by (kind_at t c.sort) refl (s.all_declared t vs) refl h (λ rest i there is. declared_at t vs rest i a k there is of)
-  where
-    Others : Type 0
-    Others = (rest : List RDeclared) (i : ℕ) → s.all_declared t vs ≡ Some rest → slice_get vs i ≡ Some a → slice_get (map shape_declared rest) i ≡ Some (Word (kind_view k))
-
-    at : (j : RKind) (rest : List RDeclared) (i : ℕ) → kind_at t c.sort ≡ Some j → s.all_declared t vs ≡ Some rest → slice_get (c ∷ vs) i ≡ Some a → Others
-        → slice_get (Word (kind_view j) ∷ map shape_declared rest) i ≡ Some (Word (kind_view k))
-    at j rest zero here there is others = ap (option_map (λ k. Word (kind_view k))) (sym here ∙ ap (λ d. kind_at t d.sort) (same_Some c a is) ∙ of)
-    at j rest (suc i) here there is others = others rest i there is
-
-    by : (o : Option RKind) → kind_at t c.sort ≡ o → (rest : Option (List RDeclared)) → s.all_declared t vs ≡ rest → all_some (option_map (s.declared_with c.name) o ∷ map (s.declared t) vs) ≡ Some ds
-        → Others
-        → slice_get (map shape_declared ds) i ≡ Some (Word (kind_view k))
-    by None here rest there e others = absurd (none-some ds e)
-    by (Some j) here None there e others = absurd (none-some ds (ap (option_map (λ rest. s.declared_with c.name j ∷ rest)) (sym there) ∙ e))
-    by (Some j) here (Some rest) there e others =
-        subst (λ ds. slice_get (map shape_declared ds) i ≡ Some (Word (kind_view k)))
-        (same_Some (s.declared_with c.name j ∷ rest) ds (ap (option_map (λ rest. s.declared_with c.name j ∷ rest)) (sym there) ∙ e)) (at j rest i here there is others)
-
 pub lowered_sound : (m : RModule) (r : Resolved) → Some r ≡ s.lowered m → IsSound r
 unfolding s.lowered
 lowered_sound m r is = by (nat_le (length m.variables) 32000) is
   where
-    of : (vs : Option (List RDeclared)) → s.all_declared m.types m.variables ≡ vs → (ss : Option Statements) → s.statements m false m.body ≡ ss → Some r ≡ s.laid_out m vs ss → IsSound r
-    of None there ss h e = absurd (cc)
-    of (Some vs) there None h e = absurd (cc)
-    of (Some vs) there (Some ss) h e =
-        let ts = map shape_declared vs in
-        let same : r ≡ s.module_with m vs ss = cc in
-        subst IsSound (sym same) (subst (λ o. Body ts false o) h (body_is_sound m ts (λ i a k. declared_at m.types m.variables vs i a k there)))
+    of : (shapes ts : List Shape) → spec.shapes m.types ≡ Some shapes → within (all_some (map (lying shapes) m.variables)) ≡ Some ts → (ss : Option Statements) → s.statements m false m.body ≡ ss → Some r ≡ s.laid_out m (Some ts) ss → IsSound r
+    of shapes ts types variables None h e = absurd (cc)
+    of shapes ts types variables (Some ss) h e =
+        let same : r ≡ s.module_with m ts ss = cc in
+        let below = some_if (nat_le (length m.types) 32000) (spec.shapes_below m.types (16 + length m.types)) shapes types in
+        let fits : Fits m ts = record { shapes = shapes; count = 16 + length m.types; types = below; variables = within_is (all_some (map (lying shapes) m.variables)) ts variables } in
+        subst IsSound (sym same) (subst (λ o. Body ts false o) h (body_is_sound m ts fits))
 
-    by : (b : Bool) → Some r ≡ (if b then s.laid_out m (s.all_declared m.types m.variables) (s.statements m false m.body) else None) → IsSound r
-    by true e = of (s.all_declared m.types m.variables) refl (s.statements m false m.body) refl e
+    over : (shapes : List Shape) → spec.shapes m.types ≡ Some shapes → (ts : Option (List Shape)) → within (all_some (map (lying shapes) m.variables)) ≡ ts → Some r ≡ s.laid_out m ts (s.statements m false m.body) → IsSound r
+    over shapes types None variables e = absurd (cc)
+    over shapes types (Some ts) variables e = of shapes ts types variables (s.statements m false m.body) refl e
+
+    from : (shapes : Option (List Shape)) → spec.shapes m.types ≡ shapes → Some r ≡ s.laid_out m (spec.variables_by shapes m.variables) (s.statements m false m.body) → IsSound r
+    from None types e = absurd (cc)
+    from (Some shapes) types e = over shapes types (within (all_some (map (lying shapes) m.variables))) refl e
+
+    by : (b : Bool) → Some r ≡ (if b then s.laid_out m (spec.variables_by (spec.shapes m.types) m.variables) (s.statements m false m.body) else None) → IsSound r
+    by true e = from (spec.shapes m.types) refl e
     by false e = absurd (cc)

@@ -2,6 +2,7 @@
 use Rattle.std.proofs.Common.{◌≡◌, ℕ, ◌≤◌, ℤ, List, [], ◌∷◌, length, map, get_or, arith, Option, None, Some, refl, sym, ap, ◌∙◌}
 use Rattle.std.specs.Prelude.{slice_get, ◌-◌}
 use Rattle.std.specs.Option.{option_map}
+use Rattle.std.specs.List.{fold}
 use Rattle.lil_types.specs.Types.{base}
 use Rattle.lil_base.specs.declared.operator.OneOp.{OneOp}
 use Rattle.lil_module.specs.declared.declared.RModule.{RModule}
@@ -9,13 +10,14 @@ use Rattle.lil_module.specs.declared.tree.Standard.{Standard}
 use Rattle.lil_module.specs.declared.tree.RArgument.{RArgument}
 use Rattle.lil_module.specs.declared.tree.RArgument.TheVariants as handed
 use Rattle.lil_module.specs.declared.tree.RArgument.TheOpen as o
-use Rattle.lil_module.specs.declared.tree.RArgument.TheOpen.{RArgument-F, RExpr-F}
-use Rattle.lil_module.specs.declared.tree.RArgument.TheFolds.{map-RArgument, map-RExpr, fold-RCallee, fold-RSelector, fold-RElement, fold-roll-RArgument, fold-roll-RExpr, fold_out-RDesignator, fold_out-ROperation}
-use Rattle.lil_module.specs.declared.tree.RArgument.TheViews.{roll-RArgument, roll-RExpr}
+use Rattle.lil_module.specs.declared.tree.RArgument.TheOpen.{RArgument-F, RExpr-F, RSelector-F}
+use Rattle.lil_module.specs.declared.tree.RArgument.TheFolds.{map-RArgument, map-RExpr, map-RSelector, fold-RCallee, fold-RElement, fold-roll-RArgument, fold-roll-RExpr, fold-roll-RSelector, fold_out-RDesignator, fold_out-ROperation}
+use Rattle.lil_module.specs.declared.tree.RArgument.TheViews.{roll-RArgument, roll-RExpr, roll-RSelector}
 use Rattle.lil_module.specs.declared.tree.RExpr.{RExpr}
 use Rattle.lil_module.specs.declared.tree.RExpr.TheVariants as v
 use Rattle.lil_module.specs.declared.tree.RCallee.{RCallee}
 use Rattle.lil_module.specs.declared.tree.RSelector.{RSelector}
+use Rattle.lil_module.specs.declared.tree.RSelector.TheVariants as part
 use Rattle.lil_module.specs.declared.tree.RDesignator.{RDesignator, out-RDesignator}
 use Rattle.lil_module.specs.declared.tree.RElement.{RElement}
 use Rattle.lil_module.specs.declared.tree.ROperation.{ROperation, out-ROperation}
@@ -23,46 +25,47 @@ use Rattle.std.proofs.lemmas.List.{length-map}
 use Rattle.std.proofs.lemmas.Option.{slice_get-map}
 use Rattle.lil_lower.specs.Operators.{result_sort}
 use Rattle.lil_lower.specs.Values as s
-use Rattle.lil_lower.specs.declared.variables.Variable.{Variable}
-use Rattle.lil_lower.specs.Values.{Value, Lowers, Operation, argument_layer, expression_layer, designator_layer, operation_layer, expression, argument, designator, operation}
+use Rattle.lil_lower.specs.Places.{Place, Part, Located, field_at, array_at, element_sort, sort_on, place_on, root_sort, root_place, located, field_place, nowhere, cell, cell_sort}
+use Rattle.lil_lower.specs.Values.{Value, Lowers, Operation, argument_layer, expression_layer, selector_layer, designator_layer, operation_layer, expression, argument, selector, designator, operation}
 
 abbrev callee : RCallee → Unit {0}
 callee c = tt
 
-bare_is : {S T : Type 0} (f : S → T) (ss : List S) (o : Option Variable) → s.bare (map f ss) o ≡ s.bare ss o
-bare_is f [] o = refl
-bare_is f (s ∷ ss) o = refl
-
 module _ (m : RModule) where
   pub callees : RCallee → Unit {0}
-  callees = fold-RCallee Value (Unit {0}) Value (Unit {0}) (Option Variable) (Unit {0}) Operation (argument_layer m) (λ c. tt) (expression_layer m) (λ s. tt) (designator_layer m) (λ e. tt) (operation_layer m)
-
-  pub selectors : RSelector → Unit {0}
-  selectors = fold-RSelector Value (Unit {0}) Value (Unit {0}) (Option Variable) (Unit {0}) Operation (argument_layer m) (λ c. tt) (expression_layer m) (λ s. tt) (designator_layer m) (λ e. tt) (operation_layer m)
+  callees = fold-RCallee Value (Unit {0}) Value Part Located (Unit {0}) Operation (argument_layer m) (λ c. tt) (expression_layer m) (selector_layer m) (designator_layer m) (λ e. tt) (operation_layer m)
 
   pub elements : RElement → Unit {0}
-  elements = fold-RElement Value (Unit {0}) Value (Unit {0}) (Option Variable) (Unit {0}) Operation (argument_layer m) (λ c. tt) (expression_layer m) (λ s. tt) (designator_layer m) (λ e. tt) (operation_layer m)
+  elements = fold-RElement Value (Unit {0}) Value Part Located (Unit {0}) Operation (argument_layer m) (λ c. tt) (expression_layer m) (selector_layer m) (designator_layer m) (λ e. tt) (operation_layer m)
 
   pub rolled : (x : RExpr-F RArgument RCallee RExpr RSelector RDesignator RElement ROperation) → expression m (roll-RExpr x)
-      ≡ expression_layer m (map-RExpr RArgument RCallee RExpr RSelector RDesignator RElement ROperation Value (Unit {0}) Value (Unit {0}) (Option Variable) (Unit {0}) Operation (argument m) callees (expression m) selectors (designator m) elements (operation m) x)
-  unfolding callees selectors elements expression argument designator operation
-  rolled = fold-roll-RExpr Value (Unit {0}) Value (Unit {0}) (Option Variable) (Unit {0}) Operation (argument_layer m) (λ c. tt) (expression_layer m) (λ s. tt) (designator_layer m) (λ e. tt) (operation_layer m)
+      ≡ expression_layer m (map-RExpr RArgument RCallee RExpr RSelector RDesignator RElement ROperation Value (Unit {0}) Value Part Located (Unit {0}) Operation (argument m) callees (expression m) (selector m) (designator m) elements (operation m) x)
+  unfolding callees elements expression argument selector designator operation
+  rolled = fold-roll-RExpr Value (Unit {0}) Value Part Located (Unit {0}) Operation (argument_layer m) (λ c. tt) (expression_layer m) (selector_layer m) (designator_layer m) (λ e. tt) (operation_layer m)
 
   pub argument_rolled : (x : RArgument-F RArgument RCallee RExpr RSelector RDesignator RElement ROperation) → argument m (roll-RArgument x)
-      ≡ argument_layer m (map-RArgument RArgument RCallee RExpr RSelector RDesignator RElement ROperation Value (Unit {0}) Value (Unit {0}) (Option Variable) (Unit {0}) Operation (argument m) callees (expression m) selectors (designator m) elements (operation m) x)
-  unfolding callees selectors elements expression argument designator operation
-  argument_rolled = fold-roll-RArgument Value (Unit {0}) Value (Unit {0}) (Option Variable) (Unit {0}) Operation (argument_layer m) (λ c. tt) (expression_layer m) (λ s. tt) (designator_layer m) (λ e. tt) (operation_layer m)
+      ≡ argument_layer m (map-RArgument RArgument RCallee RExpr RSelector RDesignator RElement ROperation Value (Unit {0}) Value Part Located (Unit {0}) Operation (argument m) callees (expression m) (selector m) (designator m) elements (operation m) x)
+  unfolding callees elements expression argument selector designator operation
+  argument_rolled = fold-roll-RArgument Value (Unit {0}) Value Part Located (Unit {0}) Operation (argument_layer m) (λ c. tt) (expression_layer m) (selector_layer m) (designator_layer m) (λ e. tt) (operation_layer m)
 
-  opened : (d : RDesignator) → designator m d ≡ s.bare (map selectors (out-RDesignator d).selectors) (s.root m (out-RDesignator d).root)
-  unfolding callees selectors elements expression argument designator operation
-  opened d = fold_out-RDesignator Value (Unit {0}) Value (Unit {0}) (Option Variable) (Unit {0}) Operation (argument_layer m) (λ c. tt) (expression_layer m) (λ s. tt) (designator_layer m) (λ e. tt) (operation_layer m) d
+  pub selector_rolled : (x : RSelector-F RArgument RCallee RExpr RSelector RDesignator RElement ROperation) → selector m (roll-RSelector x)
+      ≡ selector_layer m (map-RSelector RArgument RCallee RExpr RSelector RDesignator RElement ROperation Value (Unit {0}) Value Part Located (Unit {0}) Operation (argument m) callees (expression m) (selector m) (designator m) elements (operation m) x)
+  unfolding callees elements expression argument selector designator operation
+  selector_rolled = fold-roll-RSelector Value (Unit {0}) Value Part Located (Unit {0}) Operation (argument_layer m) (λ c. tt) (expression_layer m) (selector_layer m) (designator_layer m) (λ e. tt) (operation_layer m)
 
-  pub designator_is : (d : RDesignator) → designator m d ≡ s.bare (out-RDesignator d).selectors (s.root m (out-RDesignator d).root)
-  designator_is d = opened d ∙ bare_is selectors (out-RDesignator d).selectors (s.root m (out-RDesignator d).root)
+  pub designator_is : (d : RDesignator) → designator m d ≡ located m (out-RDesignator d).root (map (selector m) (out-RDesignator d).selectors)
+  unfolding callees elements expression argument selector designator operation
+  designator_is d = fold_out-RDesignator Value (Unit {0}) Value Part Located (Unit {0}) Operation (argument_layer m) (λ c. tt) (expression_layer m) (selector_layer m) (designator_layer m) (λ e. tt) (operation_layer m) d
+
+  pub located_sort : (d : RDesignator) → (designator m d).sort ≡ fold sort_on (root_sort m (out-RDesignator d).root) (map (selector m) (out-RDesignator d).selectors)
+  located_sort d = ap (λ (l : Located). l.sort) (designator_is d)
+
+  pub located_place : (d : RDesignator) → (designator m d).place ≡ fold place_on (root_place m (out-RDesignator d).root) (map (selector m) (out-RDesignator d).selectors)
+  located_place d = ap (λ (l : Located). l.place) (designator_is d)
 
   pub operation_is : (x : ROperation) → operation m x ≡ record { operator = (out-ROperation x).operator; sort = (out-ROperation x).sort; operand = (expression m (out-ROperation x).operand).lowers }
-  unfolding callees selectors elements expression argument designator operation
-  operation_is x = fold_out-ROperation Value (Unit {0}) Value (Unit {0}) (Option Variable) (Unit {0}) Operation (argument_layer m) (λ c. tt) (expression_layer m) (λ s. tt) (designator_layer m) (λ e. tt) (operation_layer m) x
+  unfolding callees elements expression argument selector designator operation
+  operation_is x = fold_out-ROperation Value (Unit {0}) Value Part Located (Unit {0}) Operation (argument_layer m) (λ c. tt) (expression_layer m) (selector_layer m) (designator_layer m) (λ e. tt) (operation_layer m) x
 
   -- what each form is, as a whole
   whole_form : (z : ℤ) → expression m (v.Whole z) ≡ s.valued None (s.whole m.types z)
@@ -83,7 +86,7 @@ module _ (m : RModule) where
   set_form : (t : ℕ) (es : List RElement) → expression m (v.SetOf t es) ≡ s.nothing
   set_form t es = ap (expression m) (sym (v.rolls-SetOf t es)) ∙ rolled (o.SetOf t es)
 
-  value_form : (d : RDesignator) → expression m (v.Value d) ≡ s.valued (option_map s.sort_of (designator m d)) (s.taken (designator m d))
+  value_form : (d : RDesignator) → expression m (v.Value d) ≡ s.valued (cell_sort m.types (designator m d).sort) (s.taken (cell m.types (designator m d).place))
   value_form d = ap (expression m) (sym (v.rolls-Value d)) ∙ rolled (o.RExpr::Value d)
 
   procedure_form : (n : ℕ) → expression m (v.Procedure n) ≡ s.nothing
@@ -132,7 +135,7 @@ module _ (m : RModule) where
     pub set_is : (t : ℕ) (es : List RElement) → (expression m (v.SetOf t es)).lowers w ≡ None
     set_is t es = at (set_form t es)
 
-    pub value_is : (d : RDesignator) → (expression m (v.Value d)).lowers w ≡ s.taken (designator m d) w
+    pub value_is : (d : RDesignator) → (expression m (v.Value d)).lowers w ≡ s.taken (cell m.types (designator m d).place) w
     value_is d = at (value_form d)
 
     pub procedure_is : (n : ℕ) → (expression m (v.Procedure n)).lowers w ≡ None
@@ -181,7 +184,7 @@ module _ (m : RModule) where
   pub set_own : (t : ℕ) (es : List RElement) → (expression m (v.SetOf t es)).own ≡ None
   set_own t es = own (set_form t es)
 
-  pub value_own : (d : RDesignator) → (expression m (v.Value d)).own ≡ option_map s.sort_of (designator m d)
+  pub value_own : (d : RDesignator) → (expression m (v.Value d)).own ≡ cell_sort m.types (designator m d).sort
   value_own d = own (value_form d)
 
   pub procedure_own : (n : ℕ) → (expression m (v.Procedure n)).own ≡ None
@@ -207,6 +210,38 @@ module _ (m : RModule) where
 
   pub type_own : (t : ℕ) → (argument m (handed.Type t)).own ≡ None
   type_own t = own (type_form t)
+
+  -- the parts to which each form of selector leads
+  field_form : (i : ℕ) → selector m (part.Field i) ≡ record { sort = λ t. field_at m.types t i; place = field_place m.types i }
+  field_form i = ap (selector m) (sym (part.rolls-Field i)) ∙ selector_rolled (o.Field i)
+
+  index_form : (x : RExpr) → selector m (part.Index x) ≡ record { sort = λ t. option_map element_sort (array_at m.types t); place = λ p. s.indexed m.types (expression m x) p (array_at m.types p.sort) }
+  index_form x = ap (selector m) (sym (part.rolls-Index x)) ∙ selector_rolled (o.Index x)
+
+  follow_form : selector m part.Follow ≡ nowhere
+  follow_form = ap (selector m) (sym part.rolls-Follow) ∙ selector_rolled o.Follow
+
+  pub field_sort_is : (i t : ℕ) → (selector m (part.Field i)).sort t ≡ field_at m.types t i
+  field_sort_is i t = ap (λ (p : Part). p.sort t) (field_form i)
+
+  pub index_sort_is : (x : RExpr) (t : ℕ) → (selector m (part.Index x)).sort t ≡ option_map element_sort (array_at m.types t)
+  index_sort_is x t = ap (λ (p : Part). p.sort t) (index_form x)
+
+  pub follow_sort_is : (t : ℕ) → (selector m part.Follow).sort t ≡ None
+  follow_sort_is t = ap (λ (p : Part). p.sort t) follow_form
+
+  pub field_part_is : (i : ℕ) (d : Place) → (selector m (part.Field i)).place d ≡ field_place m.types i d
+  field_part_is i d = ap (λ (p : Part). p.place d) (field_form i)
+
+  pub index_part_is : (x : RExpr) (d : Place) → (selector m (part.Index x)).place d ≡ s.indexed m.types (expression m x) d (array_at m.types d.sort)
+  index_part_is x d = ap (λ (p : Part). p.place d) (index_form x)
+
+  pub follow_part_is : (d : Place) → (selector m part.Follow).place d ≡ None
+  follow_part_is d = ap (λ (p : Part). p.place d) follow_form
+
+pub ruleset sorts = (field_sort_is, index_sort_is, follow_sort_is)
+
+pub ruleset parts = (field_part_is, index_part_is, follow_part_is)
 
 pub ruleset forms = (whole_is, scalar_is, chars_is, named_is, nil_is, set_is, value_is, procedure_is, call_is, function_is, one_is, chain_is, handed_is, place_is, type_is)
 

@@ -15,12 +15,12 @@ use Rattle.lil_module.specs.declared.tree.Standard.TheVariants as standard
 use Rattle.lil_resolved.specs.Bases.{own_base}
 use Rattle.lil_resolved.specs.Kinds.{Kind, OfWhole, OfTruth, OfCharacter, OfEnumeration, OfRange, compared_as, is_base}
 use Rattle.lil_resolved.specs.Scalars.{scalar_of}
-use Rattle.lil_resolved.specs.Resolved.{Expression, Constant, Taken, Two, Abs, kind_of}
+use Rattle.lil_resolved.specs.Resolved.{Expression, Constant, Taken, Two, Abs, kind_of, shape_of}
 use Rattle.lil_resolved.specs.Depth.{depth}
 use Rattle.lil_resolved.specs.Sound as sound
-use Rattle.lil_resolved.specs.Sound.{IsSoundVariable, IsSoundExpression, IsSoundWhole}
+use Rattle.lil_resolved.specs.Sound.{IsSoundVariable, IsScalar, IsSoundPlace, IsSoundExpression, IsSoundWhole}
 use Rattle.lil_resolved.specs.Shapes.{Shape, Word}
-use Rattle.lil_resolved.specs.Views.{base_view, kind_view, variable_of, variable_kind, function_of, one_of, two_of}
+use Rattle.lil_resolved.specs.Views.{base_view, kind_view, function_of, one_of, two_of}
 use Rattle.lil_resolved.specs.declared.resolved.RBase.{RBase}
 use Rattle.lil_resolved.specs.declared.resolved.RBase.TheVariants as b
 use Rattle.lil_resolved.specs.declared.resolved.RKind.{RKind}
@@ -28,6 +28,7 @@ use Rattle.lil_resolved.specs.declared.resolved.RFunction.TheVariants as f
 use Rattle.lil_lower.specs.declared.variables.Variable.{Variable}
 use Rattle.lil_lower.specs.Bases.{base_at, kind_at}
 use Rattle.lil_lower.specs.Operators.{takes_two, result_sort, is_truth, has_number}
+use Rattle.lil_lower.specs.Places.{Cell}
 use Rattle.lil_lower.specs.Values as spec
 use Rattle.lil_lower.specs.Values.{Lowers, Value, Built, Operation}
 use Rattle.lil_lower.proofs.BaseLaws.{if_so, if_true, same_sort, base_words, kind_base, number_sound}
@@ -48,6 +49,12 @@ pub record Kept (t : Table) (ts : List Shape) (s : ℕ) (e : Expression) : Type 
 pub record IsKnown (t : Table) (ts : List Shape) (v : Variable) : Type 0 where
   pub type : base_at t v.sort ≡ Some v.place.kind.base
   pub kind : slice_get ts v.place.number ≡ Some (Word (kind_view v.place.kind))
+
+-- a cell has its kind at a sound place among these, and its type is that of its base
+pub record IsCell (t : Table) (ts : List Shape) (c : Cell) : Type 0 where
+  pub type : base_at t c.sort ≡ Some c.kind.base
+  pub shape : shape_of ts c.form ≡ Word (kind_view c.kind)
+  pub place : IsSoundPlace ts c.form
 
 abbrev pub Holds : Table → List Shape → Lowers → Type 0
 Holds t ts l = (s : ℕ) → IfSome (l s) (Held t ts s)
@@ -118,11 +125,15 @@ module _ (t : Table) (ts : List Shape) where
   pub variable_sound : (v : Variable) → IsKnown t ts v → IsSoundVariable ts v.place.number (kind_view v.place.kind)
   variable_sound v h = record { known = h.kind; base = ap is_base (own_base v.place.kind) ∙ base_words t v.sort v.place.kind.base h.type }
 
-  pub taken_held : (o : Option Variable) → IfSome o (IsKnown t ts) → Holds t ts (spec.taken o)
+  -- ---- cells
+  pub cell_sound : (c : Cell) → IsCell t ts c → IsScalar ts c.form (kind_view c.kind)
+  cell_sound c h = record { shape = h.shape; base = ap is_base (own_base c.kind) ∙ base_words t c.sort c.kind.base h.type }
+
+  pub taken_held : (o : Option Cell) → IfSome o (IsCell t ts) → Holds t ts (spec.taken o)
   taken_held None h s = tt
-  taken_held (Some v) h s = if_true (Held t ts s) (v.sort == s) (Taken (variable_of v.place) (variable_kind v.place))
-      (λ e. subst (λ i. Held t ts i (Taken (variable_of v.place) (variable_kind v.place))) (same_sort v.sort s e)
-      (record { base = v.place.kind.base; known = h.type; of = own_base v.place.kind; good = variable_sound v h }))
+  taken_held (Some c) h s = if_true (Held t ts s) (c.sort == s) (Taken c.form (kind_view c.kind))
+      (λ e. subst (λ i. Held t ts i (Taken c.form (kind_view c.kind))) (same_sort c.sort s e)
+      (record { base = c.kind.base; known = h.type; of = own_base c.kind; good = (cell_sound c h, h.place) }))
 
   -- ---- standard functions
   applied_held : (g : Standard) (sort o : ℕ) (e : Option Expression) → IfSome e (Held t ts o) → IfSome (spec.applied (spec.form_of t g sort) e) (Held t ts (spec.value_sort t g sort o))

@@ -17,36 +17,31 @@ use Rattle.lil_module.specs.declared.tree.RElement.{RElement}
 use Rattle.lil_module.specs.declared.tree.ROperation.{ROperation}
 use Rattle.lil_resolved.specs.Resolved.{Expression, Argument, Assign, Change, Request, Halt, Statements, Empty, Then, kind_of}
 use Rattle.lil_resolved.specs.Sound.{takes_value}
-use Rattle.lil_resolved.specs.Views.{base_view, kind_view, variable_of, variable_kind, request_number, is_down}
+use Rattle.lil_resolved.specs.Views.{base_view, kind_view, request_number, is_down}
 use Rattle.lil_resolved.specs.declared.resolved.RBase.{RBase}
 use Rattle.lil_resolved.specs.declared.resolved.RBase.TheVariants as b
 use Rattle.lil_resolved.specs.declared.resolved.RRequest.{RRequest}
 use Rattle.lil_resolved.specs.declared.resolved.RRequest.TheVariants as q
 use Rattle.lil_resolved.specs.declared.resolved.Direction.{Direction}
 use Rattle.lil_resolved.specs.declared.resolved.Direction.TheVariants.{Up, Down}
-use Rattle.lil_lower.specs.declared.variables.Variable.{Variable}
 use Rattle.lil_lower.specs.Operators.{counted}
-use Rattle.lil_lower.specs.Values.{Lowers, whole, argument, designator, shallow}
-
--- a type, or another where there is none
-abbrev pub own_or : Option ℕ → ℕ → ℕ
-own_or (Some s) other = s
-own_or None other = other
+use Rattle.lil_lower.specs.Places.{Cell}
+use Rattle.lil_lower.specs.Values.{Lowers, whole, own_or, argument, target, shallow}
 
 -- ---- assignments
-abbrev pub stored : Variable → Option Expression → Option Statements
-stored v (Some e) = if takes_value (kind_view v.place.kind) (kind_of e) then Some (Then (Assign (variable_of v.place) (variable_kind v.place) e) Empty) else None
-stored v None = None
+abbrev pub stored : Cell → Option Expression → Option Statements
+stored c (Some e) = if takes_value (kind_view c.kind) (kind_of e) then Some (Then (Assign c.form (kind_view c.kind) e) Empty) else None
+stored c None = None
 
 -- ---- INC, DEC and HALT
-abbrev pub changed : Direction → Variable → Option Expression → Option Statements
-changed way v (Some e) = Some (Then (Change (is_down way) (variable_of v.place) (variable_kind v.place) e) Empty)
-changed way v None = None
+abbrev pub changed : Direction → Cell → Option Expression → Option Statements
+changed way c (Some e) = Some (Then (Change (is_down way) c.form (kind_view c.kind) e) Empty)
+changed way c None = None
 
--- by a number of the type that goes with the variable
-abbrev pub changed_by : Direction → Option Variable → Lowers → Option Statements
+-- by a number of the type that goes with the cell
+abbrev pub changed_by : Direction → Option Cell → Lowers → Option Statements
 changed_by way None by = None
-changed_by way (Some v) by = changed way v (shallow (by (counted v.place.kind.base)))
+changed_by way (Some c) by = changed way c (shallow (by (counted c.kind.base)))
 
 abbrev pub halted : List RArgument → Option Statements
 halted [] = Some (Then Halt Empty)
@@ -108,13 +103,13 @@ module _ (m : RModule) where
   abbrev pub called : RCallee → List RArgument → Option Statements
   called c xs = called_by (request c) xs
 
-  abbrev pub place_in : RArgument-F RArgument RCallee RExpr RSelector RDesignator RElement ROperation → Option Variable
+  abbrev pub place_in : RArgument-F RArgument RCallee RExpr RSelector RDesignator RElement ROperation → Option Cell
   place_in (x.RArgument::Value a) = None
-  place_in (x.Place d) = designator m d
+  place_in (x.Place d) = target m d
   place_in (x.Type s) = None
 
-  -- the variable that an argument is
-  abbrev pub place : RArgument → Option Variable
+  -- the cell that an argument is
+  abbrev pub place : RArgument → Option Cell
   place a = place_in (out-RArgument a)
 
   -- INC and DEC by 1, or by a second argument

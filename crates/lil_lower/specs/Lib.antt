@@ -2,6 +2,9 @@ pub mod Bases
 pub mod Built
 pub mod Calls
 pub mod Lowered
+pub mod Measured
 pub mod Operators
 pub mod Parts
+pub mod Places
+pub mod Shaping
 pub mod Values

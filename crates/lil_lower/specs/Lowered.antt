@@ -5,7 +5,6 @@ use Rattle.std.specs.List.{list_all}
 use Rattle.lil_base.specs.Words.{Integer, in_type, is_zero}
 use Rattle.lil_types.specs.Types.{Table, integer, cardinal, boolean, char}
 use Rattle.lil_module.specs.declared.declared.RModule.{RModule}
-use Rattle.lil_module.specs.declared.declared.RVar.{RVar}
 use Rattle.lil_module.specs.declared.tree.RArgument.{RArgument}
 use Rattle.lil_module.specs.declared.tree.RArgument.TheOpen as x
 use Rattle.lil_module.specs.declared.tree.RArgument.TheOpen.{RExpr-F}
@@ -24,16 +23,19 @@ use Rattle.lil_module.specs.declared.tree.RStmt.TheOpen.{RStmt-F, RArm-F, RGuard
 use Rattle.lil_module.specs.declared.tree.RStmt.TheFolds.{fold-RStmt, fold-RArm, fold-RGuard}
 use Rattle.lil_resolved.specs.Resolved.{Expression, Label, If, Case, While, Repeat, Loop, Exit, Return, For, Statements, Empty, Then, Arms, NoElse, Else, Arm, Resolved, kind_of}
 use Rattle.lil_resolved.specs.Sound.{takes_value}
-use Rattle.lil_resolved.specs.Views.{kind_view, variable_of, variable_kind, all_of, name_of, shape_declared}
+use Rattle.lil_resolved.specs.Shapes.{Shape}
+use Rattle.lil_resolved.specs.Views.{kind_view, variable_kind, all_of}
 use Rattle.lil_resolved.specs.declared.resolved.RBase.{RBase}
-use Rattle.lil_resolved.specs.declared.resolved.RKind.{RKind}
-use Rattle.lil_resolved.specs.declared.resolved.RDeclared.{RDeclared}
 use Rattle.lil_lower.specs.declared.variables.Variable.{Variable}
 use Rattle.lil_lower.specs.declared.selectors.Ordinal.{Ordinal}
-use Rattle.lil_lower.specs.Bases.{base_at, kind_at}
+use Rattle.lil_lower.specs.Bases.{base_at}
+use Rattle.lil_lower.specs.Measured.{variable_name}
 use Rattle.lil_lower.specs.Operators.{has_number}
-use Rattle.lil_lower.specs.Values.{root, expression, designator, shallow}
-use Rattle.lil_lower.specs.Calls.{own_or, stored, called, procedure}
+use Rattle.lil_lower.specs.Places.{Cell}
+pub use Rattle.lil_lower.specs.Shaping.{all_some}
+use Rattle.lil_lower.specs.Shaping.{shapes, variables_by}
+use Rattle.lil_lower.specs.Values.{root, own_or, expression, target, shallow}
+use Rattle.lil_lower.specs.Calls.{stored, called, procedure}
 
 -- a statement inside of a LOOP or not, a condition with the statements behind it, and an arm by the selector's base
 abbrev pub Meaning : Type 0
@@ -46,12 +48,6 @@ abbrev pub ArmMeaning : Type 0
 ArmMeaning = Bool → RBase → Option (List Label × Statements)
 
 -- ---- lists
--- all values, if each is there
-abbrev pub all_some : {A : Type 0} → List (Option A) → Option (List A)
-all_some [] = Some []
-all_some (None ∷ os) = None
-all_some (Some a ∷ os) = option_map (λ rest. a ∷ rest) (all_some os)
-
 abbrev pub paired : {A B : Type 0} → Option A → Option B → Option (A × B)
 paired (Some a) (Some b) = Some (a, b)
 paired _ _ = None
@@ -169,7 +165,7 @@ started v (Some e) = if takes_value (kind_view v.place.kind) (kind_of e) then So
 started v None = None
 
 abbrev pub repeated_for : Variable → Option Expression → Option Expression → ℤ → Option Statements → Option Statements
-repeated_for v (Some a) (Some b) z (Some ss) = if is_step z then Some (Then (For (variable_of v.place) (variable_kind v.place) a b z ss) Empty) else None
+repeated_for v (Some a) (Some b) z (Some ss) = if is_step z then Some (Then (For v.place.number (variable_kind v.place) a b z ss) Empty) else None
 repeated_for v _ _ z _ = None
 
 -- ---- all forms
@@ -177,10 +173,10 @@ module _ (m : RModule) where
   abbrev pub value : RExpr → ℕ → Option Expression
   value a s = shallow ((expression m a).lowers s)
 
-  -- a value in its own type, or a constant in that of the variable
-  abbrev pub assigned : Option Variable → RExpr → Option Statements
+  -- a value in its own type, or a constant in that of the cell
+  abbrev pub assigned : Option Cell → RExpr → Option Statements
   assigned None a = None
-  assigned (Some v) a = stored v (value a (own_or (expression m a).own v.sort))
+  assigned (Some c) a = stored c (value a (own_or (expression m a).own c.sort))
 
   abbrev pub case_by : Option Ordinal → RExpr → Bool → List ArmMeaning → Option (List Meaning) → Option Statements
   case_by None a looping arms other = None
@@ -192,7 +188,7 @@ module _ (m : RModule) where
   for_by (Some v) a b z ss = repeated_for v (started v (value a (own_or (expression m a).own v.sort))) (value b v.sort) z ss
 
   abbrev pub statement_layer : RStmt-F Meaning ArmMeaning GuardMeaning → Meaning
-  statement_layer (s.Assign d a) looping = assigned (designator m d) a
+  statement_layer (s.Assign d a) looping = assigned (target m d) a
   statement_layer (s.Call c xs) looping = called m c xs
   statement_layer (s.Procedure p xs) looping = procedure m p xs
   statement_layer (s.If gs other) looping = conditional (all_some (map (λ g. g looping) gs)) (else_body looping other)
@@ -224,22 +220,13 @@ module _ (m : RModule) where
   abbrev pub statements : Bool → List RStmt → Option Statements
   statements looping ss = option_map all_of (all_some (map (λ x. statement x looping) ss))
 
--- ---- modules: at most 32,000 variables, each of a kind that the generator has
-abbrev pub declared_with : List ℕ → RKind → RDeclared
-declared_with name k = record { name = name; kind = k }
+-- ---- modules: at most 32,000 variables, in as many words
+abbrev pub module_with : RModule → List Shape → Statements → Resolved
+module_with m ts ss = record { name = m.name; names = map variable_name m.variables; variables = ts; procedures = []; body = ss }
 
-abbrev pub declared : Table → RVar → Option RDeclared
-declared t v = option_map (declared_with v.name) (kind_at t v.sort)
-
-abbrev pub all_declared : Table → List RVar → Option (List RDeclared)
-all_declared t vs = all_some (map (declared t) vs)
-
-abbrev pub module_with : RModule → List RDeclared → Statements → Resolved
-module_with m vs ss = record { name = m.name; names = map name_of vs; variables = map shape_declared vs; procedures = []; body = ss }
-
-abbrev pub laid_out : RModule → Option (List RDeclared) → Option Statements → Option Resolved
-laid_out m (Some vs) (Some ss) = Some (module_with m vs ss)
+abbrev pub laid_out : RModule → Option (List Shape) → Option Statements → Option Resolved
+laid_out m (Some ts) (Some ss) = Some (module_with m ts ss)
 laid_out m _ _ = None
 
 unfoldable pub lowered : RModule → Option Resolved
-lowered m = if nat_le (length m.variables) 32000 then laid_out m (all_declared m.types m.variables) (statements m false m.body) else None
+lowered m = if nat_le (length m.variables) 32000 then laid_out m (variables_by (shapes m.types) m.variables) (statements m false m.body) else None

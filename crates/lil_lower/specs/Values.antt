@@ -14,23 +14,26 @@ use Rattle.lil_module.specs.declared.tree.RRoot.TheVariants.{Global, Local, Fiel
 use Rattle.lil_module.specs.declared.tree.RArgument.{RArgument}
 use Rattle.lil_module.specs.declared.tree.RArgument.TheOpen as x
 use Rattle.lil_module.specs.declared.tree.RArgument.TheOpen.{RArgument-F, RCallee-F, RExpr-F, RSelector-F, RDesignator-F, RElement-F, ROperation-F}
-use Rattle.lil_module.specs.declared.tree.RArgument.TheFolds.{fold-RArgument, fold-RExpr, fold-RDesignator, fold-ROperation}
+use Rattle.lil_module.specs.declared.tree.RArgument.TheFolds.{fold-RArgument, fold-RExpr, fold-RSelector, fold-RDesignator, fold-ROperation}
 use Rattle.lil_module.specs.declared.tree.RExpr.{RExpr}
+use Rattle.lil_module.specs.declared.tree.RSelector.{RSelector}
 use Rattle.lil_module.specs.declared.tree.RDesignator.{RDesignator}
 use Rattle.lil_module.specs.declared.tree.ROperation.{ROperation}
 use Rattle.lil_resolved.specs.Scalars.{scalar_of}
 use Rattle.lil_resolved.specs.Resolved.{Expression, Constant, Taken, Apply, kind_of}
 use Rattle.lil_resolved.specs.Depth.{depth}
 use Rattle.lil_resolved.specs.Sound as sound
-use Rattle.lil_resolved.specs.Views.{base_view, variable_of, variable_kind, function_of, one_of, two_of}
+use Rattle.lil_resolved.specs.Views.{base_view, kind_view, function_of, one_of, two_of}
 use Rattle.lil_resolved.specs.declared.resolved.RBase.{RBase}
 use Rattle.lil_resolved.specs.declared.resolved.RBase.TheVariants as b
 use Rattle.lil_resolved.specs.declared.resolved.RKind.{RKind}
 use Rattle.lil_resolved.specs.declared.resolved.RFunction.{RFunction}
 use Rattle.lil_resolved.specs.declared.resolved.RFunction.TheVariants as f
 use Rattle.lil_lower.specs.declared.variables.Variable.{Variable}
+use Rattle.lil_lower.specs.declared.places.ArrayParts.{ArrayParts}
 use Rattle.lil_lower.specs.Bases.{base_at, kind_at}
 use Rattle.lil_lower.specs.Operators.{takes_two, result_sort, has_number}
+use Rattle.lil_lower.specs.Places.{Place, Part, Located, Cell, field_at, field_place, array_at, element_sort, element, nowhere, located, cell, cell_sort, near}
 
 -- the expression of a base type, by its number
 abbrev pub Lowers : Type 0
@@ -80,7 +83,7 @@ abbrev pub named : Option (List ℕ) → Lowers
 named (Some t) s = text t s
 named None s = None
 
--- ---- variables
+-- ---- variables of FOR
 abbrev pub variable_with : ℕ → ℕ → RKind → Variable
 variable_with n s k = record { place = record { number = n; kind = k }; sort = s }
 
@@ -94,16 +97,24 @@ root m (Global n) = variable_by m.types n (slice_get m.variables n)
 root m (Local levels n) = None
 root m (Field block n) = None
 
-abbrev pub bare : {S : Type 0} → List S → Option Variable → Option Variable
-bare [] o = o
-bare (s ∷ ss) o = None
-
-abbrev pub sort_of : Variable → ℕ
-sort_of v = v.sort
-
-abbrev pub taken : Option Variable → Lowers
-taken (Some v) s = if v.sort == s then Some (Taken (variable_of v.place) (variable_kind v.place)) else None
+-- ---- places
+-- the value of a cell
+abbrev pub taken : Option Cell → Lowers
+taken (Some c) s = if c.sort == s then Some (Taken c.form (kind_view c.kind)) else None
 taken None s = None
+
+-- a type, or another where there is none
+abbrev pub own_or : Option ℕ → ℕ → ℕ
+own_or (Some s) other = s
+own_or None other = other
+
+-- an index: a value in its own type, or a constant in that of the indexes
+abbrev pub index : Table → ℕ → Value → Option Expression
+index t s a = a.lowers (own_or a.own (base t s))
+
+abbrev pub indexed : Table → Value → Place → Option ArrayParts → Option Place
+indexed t a p None = None
+indexed t a p (Some parts) = element p parts.element (kind_at t parts.index) (index t parts.index a)
 
 -- ---- standard functions
 -- the argument whose value counts: the second of VAL, or the only one
@@ -217,42 +228,54 @@ last_sort os = option_map result_of (slice_get os (length os - 1))
 
 -- ---- all forms
 module _ (m : RModule) where
-  abbrev pub expression_layer : RExpr-F Value (Unit {0}) Value (Unit {0}) (Option Variable) (Unit {0}) Operation → Value
+  abbrev pub expression_layer : RExpr-F Value (Unit {0}) Value Part Located (Unit {0}) Operation → Value
   expression_layer (x.Whole z) = valued None (whole m.types z)
   expression_layer (x.Scalar s w) = valued (Some (base m.types s)) (scalar m.types s w)
   expression_layer (x.Chars t) = valued None (text t)
   expression_layer (x.Named n) = valued None (named (slice_get m.texts n))
   expression_layer x.Nil = nothing
   expression_layer (x.SetOf s es) = nothing
-  expression_layer (x.RExpr::Value d) = valued (option_map sort_of d) (taken d)
+  expression_layer (x.RExpr::Value d) = valued (cell_sort m.types d.sort) (taken (cell m.types d.place))
   expression_layer (x.RExpr::Procedure n) = nothing
   expression_layer (x.Call c xs) = nothing
   expression_layer (x.Function g s xs) = valued (Some (base m.types s)) (function m.types g s xs)
   expression_layer (x.One op s a) = valued (Some s) (λ w. one m.types op s w (a.lowers w))
   expression_layer (x.Chain a os) = valued (last_sort os) (chain m.types a.lowers os)
 
-  abbrev pub argument_layer : RArgument-F Value (Unit {0}) Value (Unit {0}) (Option Variable) (Unit {0}) Operation → Value
+  abbrev pub argument_layer : RArgument-F Value (Unit {0}) Value Part Located (Unit {0}) Operation → Value
   argument_layer (x.RArgument::Value a) = a
   argument_layer (x.Place d) = nothing
   argument_layer (x.Type s) = nothing
 
-  abbrev pub designator_layer : RDesignator-F Value (Unit {0}) Value (Unit {0}) (Option Variable) (Unit {0}) Operation → Option Variable
-  designator_layer d = bare d.selectors (root m d.root)
+  abbrev pub selector_layer : RSelector-F Value (Unit {0}) Value Part Located (Unit {0}) Operation → Part
+  selector_layer (x.Field i) = record { sort = λ s. field_at m.types s i; place = field_place m.types i }
+  selector_layer (x.Index a) = record { sort = λ s. option_map element_sort (array_at m.types s); place = λ p. indexed m.types a p (array_at m.types p.sort) }
+  selector_layer x.Follow = nowhere
 
-  abbrev pub operation_layer : ROperation-F Value (Unit {0}) Value (Unit {0}) (Option Variable) (Unit {0}) Operation → Operation
+  abbrev pub designator_layer : RDesignator-F Value (Unit {0}) Value Part Located (Unit {0}) Operation → Located
+  designator_layer d = located m d.root d.selectors
+
+  abbrev pub operation_layer : ROperation-F Value (Unit {0}) Value Part Located (Unit {0}) Operation → Operation
   operation_layer o = record { operator = o.operator; sort = o.sort; operand = o.operand.lowers }
 
   unfoldable pub expression : RExpr → Value
-  expression = fold-RExpr Value (Unit {0}) Value (Unit {0}) (Option Variable) (Unit {0}) Operation argument_layer (λ c. tt) expression_layer (λ s. tt) designator_layer (λ e. tt) operation_layer
+  expression = fold-RExpr Value (Unit {0}) Value Part Located (Unit {0}) Operation argument_layer (λ c. tt) expression_layer selector_layer designator_layer (λ e. tt) operation_layer
 
   unfoldable pub argument : RArgument → Value
-  argument = fold-RArgument Value (Unit {0}) Value (Unit {0}) (Option Variable) (Unit {0}) Operation argument_layer (λ c. tt) expression_layer (λ s. tt) designator_layer (λ e. tt) operation_layer
+  argument = fold-RArgument Value (Unit {0}) Value Part Located (Unit {0}) Operation argument_layer (λ c. tt) expression_layer selector_layer designator_layer (λ e. tt) operation_layer
 
-  unfoldable pub designator : RDesignator → Option Variable
-  designator = fold-RDesignator Value (Unit {0}) Value (Unit {0}) (Option Variable) (Unit {0}) Operation argument_layer (λ c. tt) expression_layer (λ s. tt) designator_layer (λ e. tt) operation_layer
+  unfoldable pub selector : RSelector → Part
+  selector = fold-RSelector Value (Unit {0}) Value Part Located (Unit {0}) Operation argument_layer (λ c. tt) expression_layer selector_layer designator_layer (λ e. tt) operation_layer
+
+  unfoldable pub designator : RDesignator → Located
+  designator = fold-RDesignator Value (Unit {0}) Value Part Located (Unit {0}) Operation argument_layer (λ c. tt) expression_layer selector_layer designator_layer (λ e. tt) operation_layer
 
   unfoldable pub operation : ROperation → Operation
-  operation = fold-ROperation Value (Unit {0}) Value (Unit {0}) (Option Variable) (Unit {0}) Operation argument_layer (λ c. tt) expression_layer (λ s. tt) designator_layer (λ e. tt) operation_layer
+  operation = fold-ROperation Value (Unit {0}) Value Part Located (Unit {0}) Operation argument_layer (λ c. tt) expression_layer selector_layer designator_layer (λ e. tt) operation_layer
+
+  -- a cell to which values may be stored
+  abbrev pub target : RDesignator → Option Cell
+  target d = near (cell m.types (designator d).place)
 
 -- ---- whole expressions: the expression stack has room for them
 abbrev pub shallow : Option Expression → Option Expression

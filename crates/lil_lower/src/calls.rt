@@ -7,22 +7,12 @@ ghost use Rattle.lil_lower.specs.Calls as spec;
 
 use crate::operators::takes_value;
 use crate::room::shallow;
-use crate::values::{argument, argument_sort};
+use crate::values::{argument, argument_sort, own_or};
 use lil_base::{Items, Memory, beside};
 use lil_module::{RArgument as Given, RCallee, RModule, Resident};
 use lil_resolved::{RArgument, RBase, RExpr, RKind, RRequest, RStmt, base as base_of};
 use lil_types::{CARDINAL, CHAR, INTEGER, TypeId};
 use std::alloc::Global;
-
-/// A type, or another where there is none.
-pub(crate) fn own_or(sort: Option<TypeId>, other: TypeId) -> TypeId
-    ensures { result ≡ spec.own_or sort other }
-{
-    match sort {
-        Some(sort) => sort,
-        None => other,
-    }
-}
 
 /// A resident procedure that takes words alone.
 fn request_of(of: Resident) -> Option<RRequest>

@@ -1,64 +1,77 @@
 ghost use Rattle.std.specs.Prelude.{◌≡◌, ◌≤◌, length, pos, IfOk, Some};
 ghost use Rattle.std.specs.Option.{option_map};
 ghost use Rattle.lil_resolved.specs.Views as view;
+ghost use Rattle.lil_lower.specs.Built.{celled};
 ghost use Rattle.lil_lower.specs.Values as values;
 ghost use Rattle.lil_lower.specs.Calls as spec;
 
 use crate::constants::whole;
 use crate::operators::{counted, takes_value};
-use crate::room::shallow;
-use crate::values::argument;
-use crate::variables::{Variable, designator};
-use lil_base::Memory;
-use lil_module::{RArgument, RModule, Standard};
+use crate::places::{Cell, cell_of};
+use crate::room::{near, shallow};
+use crate::values::{argument, place};
+use lil_base::{Memory, beside};
+use lil_module::{RArgument, RDesignator, RModule, Standard};
 use lil_resolved::{Direction, RExpr, RStmt, base};
 use std::alloc::Global;
 
-/// An assignment of a value that the variable may take.
+/// The cell that a designator names, where values may be stored to it.
+pub(crate) fn target(alloc: Global, m: &RModule, of: &RDesignator) -> Result<Option<Cell>, Memory>
+    requires { length m.now.variables ≤ 32000 }
+    ensures { IfOk result (λ o. option_map celled o ≡ values.target m.now of.now) }
+{
+    let found = place(alloc, m, of)?;
+    Ok(near(cell_of(&m.types, found)))
+}
+
+/// An assignment of a value that the cell may take.
 #[tactic(auto, using(lil_resolved::specs::Forms::assign_is))]
-pub(crate) fn stored(variable: Variable, value: Option<RExpr>) -> Option<RStmt>
-    ensures { option_map view.statement_of result ≡ spec.stored variable (option_map view.expression_of value) }
+pub(crate) fn stored(cell: Cell, value: Option<RExpr>) -> Option<RStmt>
+    ensures { option_map view.statement_of result ≡ spec.stored (celled cell) (option_map view.expression_of value) }
 {
     match value {
-        Some(value) if takes_value(variable.place.kind, base(&value)) => {
-            Some(RStmt::Assign(variable.place, value))
+        Some(value) if takes_value(cell.kind, base(&value)) => {
+            Some(RStmt::Assign(cell.place, cell.kind, value))
         }
         rest => {
-            drop(rest);
+            drop((cell, rest));
             None
         }
     }
 }
 
 #[tactic(auto, using(lil_resolved::specs::Forms::change_is))]
-fn changed(way: Direction, variable: Variable, by: Option<RExpr>) -> Option<RStmt>
-    ensures { option_map view.statement_of result ≡ spec.changed way variable (option_map view.expression_of by) }
+fn changed(way: Direction, cell: Cell, by: Option<RExpr>) -> Option<RStmt>
+    ensures { option_map view.statement_of result ≡ spec.changed way (celled cell) (option_map view.expression_of by) }
 {
     match by {
-        None => None,
-        Some(by) => Some(RStmt::Change(way, variable.place, by)),
+        None => {
+            drop(cell);
+            None
+        }
+        Some(by) => Some(RStmt::Change(way, cell.place, cell.kind, by)),
     }
 }
 
-/// The variable that an argument is.
-fn place(m: &RModule, of: &RArgument) -> Option<Variable>
+/// The cell that an argument is.
+fn argument_cell(alloc: Global, m: &RModule, of: &RArgument) -> Result<Option<Cell>, Memory>
     requires { length m.now.variables ≤ 32000 }
-    ensures { result ≡ spec.place m.now of.now }
+    ensures { IfOk result (λ o. option_map celled o ≡ spec.place m.now of.now) }
 {
     match of {
-        RArgument::Place(of) => designator(m, of),
-        _ => None,
+        RArgument::Place(of) => target(alloc, m, of),
+        _ => Ok(None),
     }
 }
 
-fn by_one(m: &RModule, way: Direction, variable: Option<Variable>) -> Option<RStmt>
-    ensures { option_map view.statement_of result ≡ spec.changed_by way variable (values.whole m.now.types (pos 1)) }
+fn by_one(m: &RModule, way: Direction, cell: Option<Cell>) -> Option<RStmt>
+    ensures { option_map view.statement_of result ≡ spec.changed_by way (option_map celled cell) (values.whole m.now.types (pos 1)) }
 {
-    match variable {
+    match cell {
         None => None,
-        Some(variable) => {
-            let by = whole(&m.types, 1, counted(variable.place.kind.base));
-            changed(way, variable, shallow(by))
+        Some(cell) => {
+            let by = whole(&m.types, 1, counted(cell.kind.base));
+            changed(way, cell, shallow(by))
         }
     }
 }
@@ -67,17 +80,18 @@ fn by_value(
     alloc: Global,
     m: &RModule,
     way: Direction,
-    variable: Option<Variable>,
+    cell: Option<Cell>,
     by: &RArgument,
 ) -> Result<Option<RStmt>, Memory>
     requires { length m.now.variables ≤ 32000 }
-    ensures { IfOk result (λ o. option_map view.statement_of o ≡ spec.changed_by way variable (values.argument m.now by.now).lowers) }
+    ensures { IfOk result (λ o. option_map view.statement_of o ≡ spec.changed_by way (option_map celled cell) (values.argument m.now by.now).lowers) }
 {
-    match variable {
+    match cell {
         None => Ok(None),
-        Some(variable) => {
-            let by = argument(alloc, m, counted(variable.place.kind.base), by)?;
-            Ok(changed(way, variable, shallow(by)))
+        Some(cell) => {
+            let by = argument(alloc, m, counted(cell.kind.base), by);
+            let (cell, by) = beside(cell, by)?;
+            Ok(changed(way, cell, shallow(by)))
         }
     }
 }
@@ -93,8 +107,14 @@ fn change(
     ensures { IfOk result (λ o. option_map view.statement_of o ≡ spec.change m.now way of.now) }
 {
     match of {
-        [variable] => Ok(by_one(m, way, place(m, variable))),
-        [variable, by] => by_value(alloc, m, way, place(m, variable), by),
+        [cell] => {
+            let cell = argument_cell(alloc, m, cell)?;
+            Ok(by_one(m, way, cell))
+        }
+        [cell, by] => {
+            let cell = argument_cell(alloc, m, cell)?;
+            by_value(alloc, m, way, cell, by)
+        }
         _ => Ok(None),
     }
 }

@@ -1,4 +1,4 @@
-ghost use Rattle.std.specs.Prelude.{◌≡◌, ◌&&◌};
+ghost use Rattle.std.specs.Prelude.{◌≡◌, ◌&&◌, ◌≤ℤ◌, pos, negsuc};
 ghost use Rattle.lil_base.specs.Words.{between};
 ghost use Rattle.lil_resolved.specs.Kinds as kinds;
 ghost use Rattle.lil_resolved.specs.Sound as sound;
@@ -112,8 +112,9 @@ pub(crate) fn counted(base: RBase) -> TypeId
 }
 
 /// The least number of a base's values.
-fn least(base: RBase) -> i32
-    ensures { result ≡ kinds.least (base_view base) }
+pub(crate) fn least(base: RBase) -> i32
+    ensures is { result ≡ kinds.least (base_view base) }
+    ensures at_least { negsuc 32767 ≤ℤ result }
 {
     match base {
         RBase::Integer => -32768,
@@ -122,8 +123,9 @@ fn least(base: RBase) -> i32
 }
 
 /// The greatest number of a base's values.
-fn greatest(base: RBase) -> i32
-    ensures { result ≡ kinds.greatest (base_view base) }
+pub(crate) fn greatest(base: RBase) -> i32
+    ensures is { result ≡ kinds.greatest (base_view base) }
+    ensures at_most { result ≤ℤ pos 65535 }
 {
     match base {
         RBase::Cardinal => 65535,

@@ -1,61 +1,38 @@
-ghost use Rattle.std.specs.Prelude.{◌≡◌, ◌≤◌, length, map, false, IfOk, IfSome};
+ghost use Rattle.std.specs.Prelude.{◌≡◌, ◌≤◌, IfOk, IfSome};
 ghost use Rattle.std.specs.Option.{option_map};
-ghost use Rattle.lil_resolved.specs.Views.{module_of, statements_of};
+ghost use Rattle.lil_resolved.specs.Views.{module_of, statements_of, IsMeasured};
 ghost use Rattle.lil_resolved.specs.Sizes.{IsSound};
 ghost use Rattle.lil_lower.specs.Lowered as spec;
+ghost use Rattle.lil_lower.specs.Measured.{shapes_laid, IsShaped, IsLaid};
 
-use crate::bases::kind_at;
+use crate::laying::{Laid, lay};
+use crate::shapes::{Shaped, all_shapes};
 use crate::statements::body;
 use lil_base::{Items, Memory};
-use lil_module::{RModule as Tree, RVar};
-use lil_resolved::{RDeclared, RModule, RStmt};
-use lil_types::TypeTable;
+use lil_module::RModule as Tree;
+use lil_resolved::{RModule, RStmt};
 use std::alloc::Global;
 
-/// A variable, where it has a kind.
-fn declared(alloc: Global, t: &TypeTable, of: &RVar) -> Result<Option<RDeclared>, Memory>
-    ensures { IfOk result (λ o. o ≡ spec.declared t.now of.now) }
-{
-    match kind_at(t, of.sort) {
-        None => Ok(None),
-        Some(kind) => {
-            let name = of.name.copy(alloc)?;
-            Ok(Some(RDeclared { name, kind }))
-        }
-    }
-}
-
-fn all_declared(
-    alloc: Global,
-    t: &TypeTable,
-    of: &[RVar],
-) -> Result<Option<Items<RDeclared>>, Memory>
-    ensures { IfOk result (λ o. o ≡ spec.all_declared t.now of.now) }
-{
-    let mut found = Items::new(alloc);
-    for one in of {
-        match declared(alloc, t, one)? {
-            None => return Ok(None),
-            Some(declared) => found.push(declared)?,
-        }
-    }
-    Ok(Some(found))
-}
-
-/// A module with the name of a tree.
+/// A module with the name of a tree, over shapes and variables that are made.
 fn named(
     alloc: Global,
     m: &Tree,
-    variables: Items<RDeclared>,
+    types: Shaped,
+    laid: Laid,
     body: Items<RStmt>,
 ) -> Result<RModule, Memory>
-    ensures means { IfOk result (λ r. module_of r ≡ spec.module_with m.now variables (statements_of body)) }
-    ensures count { IfOk result (λ r. length r.variables ≡ length variables) }
+    requires shaped { IsShaped types }
+    requires lies { IsLaid types m.now.variables laid }
+    ensures means { IfOk result (λ r. module_of r ≡ spec.module_with m.now (shapes_laid types laid) (statements_of body)) }
+    ensures measured { IfOk result (λ r. IsMeasured r) }
+    ensures few { IfOk result (λ r. r.words ≤ 32000) }
 {
     let name = m.name.copy(alloc)?;
     Ok(RModule {
         name,
-        variables,
+        shapes: types.shapes,
+        variables: laid.variables,
+        words: laid.words,
         body,
     })
 }
@@ -65,18 +42,22 @@ fn named(
 pub fn lower(alloc: Global, m: &Tree) -> Result<Option<RModule>, Memory>
     ensures means { IfOk result (λ o. option_map module_of o ≡ spec.lowered m.now) }
     ensures sound { IfOk result (λ o. IfSome o (λ r. IsSound (module_of r))) }
-    ensures few { IfOk result (λ o. IfSome o (λ r. length r.variables ≤ 32000)) }
+    ensures measured { IfOk result (λ o. IfSome o (λ r. IsMeasured r)) }
+    ensures few { IfOk result (λ o. IfSome o (λ r. r.words ≤ 32000)) }
 {
     if m.variables.len() > 32000 {
         return Ok(None);
     }
-    let Some(variables) = all_declared(alloc, &m.types, m.variables.as_slice())? else {
+    let Some(types) = all_shapes(alloc, &m.types)? else {
+        return Ok(None);
+    };
+    let Some(laid) = lay(alloc, &types, m.variables.as_slice())? else {
         return Ok(None);
     };
     match body(alloc, m, false, m.body.as_slice())? {
         None => Ok(None),
         Some(body) => {
-            let made = named(alloc, m, variables, body)?;
+            let made = named(alloc, m, types, laid, body)?;
             Ok(Some(made))
         }
     }

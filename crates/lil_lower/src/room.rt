@@ -1,9 +1,12 @@
 ghost use Rattle.std.specs.Prelude.{◌≡◌};
 ghost use Rattle.std.specs.Option.{option_map};
 ghost use Rattle.lil_resolved.specs.Views.{expression_of};
+ghost use Rattle.lil_lower.specs.Built.{celled};
+ghost use Rattle.lil_lower.specs.Places as places;
 ghost use Rattle.lil_lower.specs.Values as spec;
 
-use lil_resolved::{RExpr, depth};
+use crate::places::Cell;
+use lil_resolved::{RExpr, depth, place_depth};
 
 /// An expression for which the expression stack has room.
 pub(crate) fn shallow(of: Option<RExpr>) -> Option<RExpr>
@@ -11,6 +14,19 @@ pub(crate) fn shallow(of: Option<RExpr>) -> Option<RExpr>
 {
     match of {
         Some(of) if depth(&of) <= 12 => Some(of),
+        rest => {
+            drop(rest);
+            None
+        }
+    }
+}
+
+/// A cell for whose address the expression stack has room.
+pub(crate) fn near(of: Option<Cell>) -> Option<Cell>
+    ensures { option_map celled result ≡ places.near (option_map celled of) }
+{
+    match of {
+        Some(of) if place_depth(&of.place) <= 12 => Some(of),
         rest => {
             drop(rest);
             None

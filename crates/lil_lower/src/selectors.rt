@@ -1,4 +1,4 @@
-ghost use Rattle.std.specs.Prelude.{◌≡◌, ◌≤◌, length, slice_get};
+ghost use Rattle.std.specs.Prelude.{◌≡◌, slice_get};
 ghost use Rattle.std.specs.Option.{option_copied};
 ghost use Rattle.lil_module.specs.declared.tree.RExpr.{out-RExpr};
 ghost use Rattle.lil_lower.specs.Lowered as spec;
@@ -54,7 +54,6 @@ fn literal_sort(m: &RModule, of: &Value) -> Option<TypeId>
 }
 
 fn selector_sort(m: &RModule, of: &Value) -> Option<TypeId>
-    requires { length m.now.variables ≤ 32000 }
     ensures { result ≡ spec.selector_sort m.now of.now }
 {
     match own_sort(m, of) {
@@ -77,7 +76,6 @@ fn selector_by(t: &TypeTable, sort: Option<TypeId>) -> Option<Ordinal>
 
 /// The type of what a CASE selects by, None where the generator has none.
 pub(crate) fn selector(m: &RModule, of: &Boxed<Value>) -> Option<Ordinal>
-    requires { length m.now.variables ≤ 32000 }
     ensures { result ≡ spec.selector m.now of.now }
 {
     selector_by(&m.types, selector_sort(m, of.get()))

@@ -2,17 +2,19 @@ ghost use Rattle.std.specs.Prelude.{◌≡◌, ◌≤◌, length, map, Some, Non
 ghost use Rattle.std.specs.Option.{option_map};
 ghost use Rattle.lil_resolved.specs.Resolved.{Else};
 ghost use Rattle.lil_resolved.specs.Views as view;
+ghost use Rattle.lil_lower.specs.Built.{celled};
 ghost use Rattle.lil_lower.specs.Lowered as spec;
 ghost use Rattle.lil_lower.specs.Parts as parts;
 
-use crate::calls::{called, own_or};
-use crate::changes::{procedure, stored};
+use crate::calls::called;
+use crate::changes::{procedure, stored, target};
 use crate::labels::labels;
 use crate::operators::takes_value;
+use crate::places::Cell;
 use crate::room::shallow;
 use crate::selectors::selector;
-use crate::values::{expression, own_sort};
-use crate::variables::{Variable, designator, root};
+use crate::values::{expression, own_or, own_sort};
+use crate::variables::{Variable, root};
 use lil_base::{Boxed, Items, Memory, beside};
 use lil_module::{RArm as Arm, RExpr as Value, RGuard as Guard, RModule, RStmt as Tree};
 use lil_resolved::{RArm, RBase, RExpr, RGuard, RStmt, base};
@@ -32,21 +34,22 @@ fn value(
     Ok(shallow(expression(alloc, m, wanted, of.get())?))
 }
 
-/// An assignment of a value in its own type, or of a constant in that of the variable.
+/// An assignment of a value in its own type, or of a constant in that of the cell.
 fn assigned(
     alloc: Global,
     m: &RModule,
-    variable: Option<Variable>,
+    cell: Option<Cell>,
     of: &Boxed<Value>,
 ) -> Result<Option<RStmt>, Memory>
     requires { length m.now.variables ≤ 32000 }
-    ensures { IfOk result (λ o. option_map view.statement_of o ≡ spec.assigned m.now variable of.now) }
+    ensures { IfOk result (λ o. option_map view.statement_of o ≡ spec.assigned m.now (option_map celled cell) of.now) }
 {
-    match variable {
+    match cell {
         None => Ok(None),
-        Some(variable) => {
-            let of = value(alloc, m, own_or(own_sort(m, of.get()), variable.sort), of)?;
-            Ok(stored(variable, of))
+        Some(cell) => {
+            let of = value(alloc, m, own_or(own_sort(m, of.get()), cell.sort), of);
+            let (cell, of) = beside(cell, of)?;
+            Ok(stored(cell, of))
         }
     }
 }
@@ -236,7 +239,10 @@ fn statement(alloc: Global, m: &RModule, looping: bool, of: &Tree) -> Result<Opt
     ensures { IfOk result (λ o. option_map view.statement_of o ≡ spec.statement m.now of.now looping) }
 {
     match of {
-        Tree::Assign(place, of) => assigned(alloc, m, designator(m, place), of),
+        Tree::Assign(place, of) => {
+            let cell = target(alloc, m, place)?;
+            assigned(alloc, m, cell, of)
+        }
         Tree::Call(callee, arguments) => called(alloc, m, callee, arguments.as_slice()),
         Tree::Procedure(of, arguments) => procedure(alloc, m, *of, arguments.as_slice()),
         Tree::If(guards, other) => {

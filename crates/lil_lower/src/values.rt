@@ -4,15 +4,21 @@ ghost use Rattle.std.specs.List.{fold};
 ghost use Rattle.lil_resolved.specs.Views.{expression_of};
 ghost use Rattle.lil_lower.specs.Values as spec;
 ghost use Rattle.lil_lower.specs.Bases as bases;
-ghost use Rattle.lil_lower.specs.Built.{built};
+ghost use Rattle.lil_lower.specs.Built.{built, reached};
+ghost use Rattle.lil_lower.specs.Places as places;
 
-use crate::bases::base_at;
+use crate::bases::{base_at, kind_at};
 use crate::constants::{named, scalar, text, whole};
 use crate::functions::{applied, form_of, value_sort};
 use crate::operators::{result_sort, takes_one, takes_two};
-use crate::variables::{designator, sort_of, taken};
+use crate::places::{
+    Reached, array_at, cell_of, cell_sort, element, field_place, place_sort, root_place, taken,
+};
 use lil_base::{Boxed, Items, Memory, OneOp, TwoOp, beside};
-use lil_module::{RArgument, RExpr as Tree, RModule, ROperation as Operation, Standard};
+use lil_module::{
+    RArgument, RDesignator, RExpr as Tree, RModule, ROperation as Operation, RSelector as Selector,
+    Standard,
+};
 use lil_resolved::{RExpr, ROperation};
 use lil_types::{TypeId, TypeTable, base};
 use std::alloc::Global;
@@ -139,10 +145,19 @@ fn last_sort(of: &[Operation]) -> Option<TypeId>
     }
 }
 
+/// A type, or another where there is none.
+pub(crate) fn own_or(sort: Option<TypeId>, other: TypeId) -> TypeId
+    ensures { result ≡ spec.own_or sort other }
+{
+    match sort {
+        Some(sort) => sort,
+        None => other,
+    }
+}
+
 /// The base type of an expression's own value, None for a whole constant or a text.
 #[tactic(auto, using(crate::proofs::ValueForms::owns))]
 pub(crate) fn own_sort(m: &RModule, of: &Tree) -> Option<TypeId>
-    requires { length m.now.variables ≤ 32000 }
     ensures { result ≡ (spec.expression m.now of.now).own }
 {
     match of {
@@ -152,7 +167,7 @@ pub(crate) fn own_sort(m: &RModule, of: &Tree) -> Option<TypeId>
         Tree::Named(_) => None,
         Tree::Nil => None,
         Tree::SetOf(_, _) => None,
-        Tree::Value(of) => sort_of(designator(m, of)),
+        Tree::Value(of) => cell_sort(&m.types, place_sort(m, of)),
         Tree::Procedure(_) => None,
         Tree::Call(_, _) => None,
         Tree::Function(_, sort, _) => Some(base(&m.types, *sort)),
@@ -164,7 +179,6 @@ pub(crate) fn own_sort(m: &RModule, of: &Tree) -> Option<TypeId>
 /// The base type of an argument's own value.
 #[tactic(auto, using(crate::proofs::ValueForms::owns))]
 pub(crate) fn argument_sort(m: &RModule, of: &RArgument) -> Option<TypeId>
-    requires { length m.now.variables ≤ 32000 }
     ensures { result ≡ (spec.argument m.now of.now).own }
 {
     match of {
@@ -193,7 +207,10 @@ pub(crate) fn expression(
         Tree::Named(number) => Ok(named(m, *number, wanted)),
         Tree::Nil => Ok(None),
         Tree::SetOf(_, _) => Ok(None),
-        Tree::Value(of) => Ok(taken(designator(m, of), wanted)),
+        Tree::Value(of) => {
+            let found = place(alloc, m, of)?;
+            Ok(taken(cell_of(&m.types, found), wanted))
+        }
         Tree::Procedure(_) => Ok(None),
         Tree::Call(_, _) => Ok(None),
         Tree::Function(of, sort, arguments) => {
@@ -207,6 +224,84 @@ pub(crate) fn expression(
             let begin = begin(alloc, m, first_sort(operations.as_slice()), first.get())?;
             let all = operated(alloc, m, begin, operations.as_slice())?;
             wanted_chain(alloc, wanted, all)
+        }
+    }
+}
+
+/// The place that a designator names, where the generator has its form.
+#[cycle(value)]
+#[tactic(auto, using(crate::proofs::ValueForms::located_place))]
+pub(crate) fn place(alloc: Global, m: &RModule, of: &RDesignator) -> Result<Option<Reached>, Memory>
+    requires { length m.now.variables ≤ 32000 }
+    ensures { IfOk result (λ o. option_map reached o ≡ (spec.designator m.now of.now).place) }
+{
+    let from = root_place(alloc, m, of.root);
+    along(alloc, m, from, of.selectors.as_slice())
+}
+
+/// All parts behind a variable.
+#[cycle(value)]
+fn along(
+    alloc: Global,
+    m: &RModule,
+    from: Option<Reached>,
+    selectors: &[Selector],
+) -> Result<Option<Reached>, Memory>
+    requires { length m.now.variables ≤ 32000 }
+    ensures { IfOk result (λ o. option_map reached o ≡ fold places.place_on (option_map reached from) (map (spec.selector m.now) selectors.now)) }
+{
+    let mut so_far = from;
+    for one in selectors {
+        so_far = part(alloc, m, so_far, one)?;
+    }
+    Ok(so_far)
+}
+
+#[cycle(value)]
+#[tactic(auto, using(crate::proofs::ValueForms::parts))]
+fn part(
+    alloc: Global,
+    m: &RModule,
+    before: Option<Reached>,
+    of: &Selector,
+) -> Result<Option<Reached>, Memory>
+    requires { length m.now.variables ≤ 32000 }
+    ensures { IfOk result (λ o. option_map reached o ≡ places.place_on (option_map reached before) (spec.selector m.now of.now)) }
+{
+    let Some(before) = before else {
+        return Ok(None);
+    };
+    match of {
+        Selector::Field(number) => field_place(&m.types, before, *number),
+        Selector::Index(value) => indexed(alloc, m, before, value),
+        Selector::Follow => {
+            drop(before);
+            Ok(None)
+        }
+    }
+}
+
+/// An element, by an index in its own type, or a constant in that of the indexes.
+#[cycle(value)]
+fn indexed(
+    alloc: Global,
+    m: &RModule,
+    before: Reached,
+    value: &Tree,
+) -> Result<Option<Reached>, Memory>
+    requires { length m.now.variables ≤ 32000 }
+    ensures { IfOk result (λ o. option_map reached o ≡ spec.indexed m.now.types (spec.expression m.now value.now) (reached before) (places.array_at m.now.types (reached before).sort)) }
+{
+    match array_at(&m.types, before.sort) {
+        None => {
+            drop(before);
+            Ok(None)
+        }
+        Some(parts) => {
+            let sort = own_or(own_sort(m, value), base(&m.types, parts.index));
+            let index = expression(alloc, m, sort, value);
+            let (before, index) = beside(before, index)?;
+            element(before, parts.element, kind_at(&m.types, parts.index), index)
         }
     }
 }

@@ -1,15 +1,16 @@
 -- The words of values say their numbers, and results lie in their type.
 use Rattle.std.proofs.Common.{◌≡◌, ◌==◌, Bool, true, false, cond, not, ◌&&◌, ◌||◌, Result, Ok, Err, refl, sym, ap, ◌∙◌, ◌⊎◌, inl, inr, arith}
-use Rattle.std.specs.Prelude.{ℤ, pos, int_lt, nat_abs}
+use Rattle.std.specs.Prelude.{ℤ, pos, negsuc, ◌-ℤ◌, ◌≤ℤ◌, int_lt, nat_abs}
 use Rattle.std.proofs.lemmas.Bool.{cases_Bool, eqb-true, eq-eqb, false_from_ne_true, true≢false}
 use Rattle.std.proofs.lemmas.Int.{ints}
-use Rattle.lil_base.specs.Words.{Whole, in_type, is_zero, kept, sum, difference, product, quotient, remainder, negation, absolute, number_of, word_of}
+use Rattle.lil_base.specs.Words.{Whole, Cardinal, Integer, least, greatest, in_type, is_zero, kept, sum, difference, product, quotient, remainder, negation, absolute, number_of, word_of}
 use Rattle.lil_base.specs.declared.fault.ArithFault.{ArithFault}
 use Rattle.lil_base.specs.declared.fault.ArithFault.TheVariants.{DivZero}
-use Rattle.lil_base.specs.Laws.{number_of-word, kept_ok}
+use Rattle.lil_base.specs.Laws.{bounds, number_of-word, kept_ok}
 use Rattle.lil_resolved.specs.Kinds.{Kind, OfWhole, OfTruth, OfCharacter, OfEnumeration, is_base, compared_as}
 use Rattle.lil_resolved.specs.Scalars.{Scalar, Number, Truth, Character, within, scalar_word, ordinal_of}
 use Rattle.lil_meaning.specs.Steps.{whole_of, is_same, is_other}
+use Rattle.lil_mcode.specs.Control.{above}
 
 -- a value's word is its number's
 pub word_is : (v : Scalar) → scalar_word v ≡ word_of (ordinal_of v)
@@ -94,3 +95,16 @@ negation_fits t x z e = kept_fits t _ z e
 
 pub absolute_fits : (t : Whole) (x z : ℤ) → absolute t x ≡ Ok z → in_type t z ≡ true
 absolute_fits t x z e = kept_fits t (pos (nat_abs x)) z e
+
+-- how far a word lies above another one
+pub above_more : (t : Whole) (low z : ℤ) → in_type t low ≡ true → in_type t z ≡ true → low ≤ℤ z → pos (above (word_of low) (word_of z)) ≡ z -ℤ low
+above_more t low z first second order = by t low z (bounds (least t) low (greatest t) first) (bounds (least t) z (greatest t) second) order
+  where
+    by : (t : Whole) (low z : ℤ) → (least t ≤ℤ low) × (low ≤ℤ greatest t) → (least t ≤ℤ z) × (z ≤ℤ greatest t) → low ≤ℤ z → pos (above (word_of low) (word_of z)) ≡ z -ℤ low
+    by Cardinal (pos a) (pos b) l u order = omega (arith, ints)
+    by Cardinal (negsuc a) z l u order = absurd (omega (arith, ints))
+    by Cardinal (pos a) (negsuc b) l u order = absurd (omega (arith, ints))
+    by Integer (pos a) (pos b) l u order = omega (arith, ints)
+    by Integer (pos a) (negsuc b) l u order = absurd (omega (arith, ints))
+    by Integer (negsuc a) (pos b) l u order = omega (arith, ints)
+    by Integer (negsuc a) (negsuc b) l u order = omega (arith, ints)

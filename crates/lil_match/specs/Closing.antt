@@ -1,19 +1,18 @@
 -- The activation at hand, from any row.
-use Rattle.std.proofs.Common.{◌≡◌, ℕ, suc, Option, Some, List, [], ◌∷◌, length, ⊎_elim, refl, sym, ap, ◌∙◌, subst, arith}
+use Rattle.std.proofs.Common.{◌≡◌, ℕ, suc, Option, Some, List, [], ◌∷◌, length, true, ⊎_elim, refl, sym, ap, ◌∙◌, subst, arith}
 use Rattle.std.specs.Prelude.{slice_get}
 use Rattle.lil_base.specs.declared.fault.TrapKind.{TrapKind}
-use Rattle.lil_resolved.specs.Kinds.{Kind}
-use Rattle.lil_resolved.specs.Shapes.{Word}
-use Rattle.lil_resolved.specs.Resolved.{Variable}
+use Rattle.lil_resolved.specs.Shapes.{Shape, is_there}
 use Rattle.lil_meaning.specs.Cells.{Global, Place, loaded_at}
 use Rattle.lil_meaning.specs.World.{all_closed}
 use Rattle.lil_meaning.specs.Items.{Turns, End, Item, Perform, Activation, Going, Source}
 use Rattle.lil_meaning.specs.Steps.{current, owner_of, procedure_of, name_of, procedure_name, trap_at, trapped}
 use Rattle.lil_mcode.specs.declared.machine.Event.TheVariants.{Trap}
 use Rattle.lil_mcode.specs.State.{Kept, State}
+use Rattle.lil_table.specs.Rows.{InData}
 use Rattle.lil_match.specs.Running.{running, react}
 use Rattle.lil_match.specs.Goes.{HasName, Shared, IsTrapped}
-use Rattle.lil_match.specs.Waits.{Setting, Mode, Around, Rows, IsVariable}
+use Rattle.lil_match.specs.Waits.{Setting, Mode, Around, Rows, HasPlace}
 
 module _ (ctx : Setting) where
   open ctx use {library, loaded, stack as st}
@@ -21,7 +20,7 @@ module _ (ctx : Setting) where
   -- items that have rows end with the end of the running frame's activation
   pub closed : (k : List Item) (t : Mode) (p : ℕ) (stack : List ℕ) (c : ℕ) (a : Around) → Rows ctx k t p stack c a → current k ≡ ctx.stack.frame.activation
   closed [] t p stack c a r = absurd r
-  closed (Perform (Turns (Variable x) kind z step left body) ∷ k) t p stack c a r = ⊎_elim (λ b. closed k _ _ _ _ _ b.then) (λ n. closed k _ _ _ _ _ n.then) r.there
+  closed (Perform (Turns x kind z step left body) ∷ k) t p stack c a r = ⊎_elim (λ b. closed k _ _ _ _ _ b.then) (λ n. closed k _ _ _ _ _ n.then) r.there
   closed (Perform (End n) ∷ k) t p stack c a r = r.there.activation
   closed (i ∷ k) t p stack c a r = closed k _ _ _ _ _ r.there.then
 
@@ -55,13 +54,14 @@ module _ (ctx : Setting) where
       }
 
   -- a variable of the module at hand
-  pub variable_here : (s : Source) (k : List Item) (m : State) → Shared ctx s m → (x offset : ℕ) (kind : Kind) → current k ≡ st.frame.activation → slice_get st.frame.layout.offsets x ≡ Some offset
-      → slice_get st.frame.layout.shapes x ≡ Some (Word kind) → IsVariable ctx (record { root = Global (owner_of (slice_get s.activations (current k))) x; path = [] }) offset kind
-  variable_here s k m shared x offset kind close at typed =
+  pub variable_here : (s : Source) (k : List Item) (m : State) → Shared ctx s m → (x offset : ℕ) (t : Shape) → current k ≡ st.frame.activation → slice_get st.frame.layout.offsets x ≡ Some offset
+      → slice_get st.frame.layout.shapes x ≡ Some t → is_there t ≡ true → (stack : List ℕ)
+      → HasPlace ctx (InData offset) (record { root = Global (owner_of (slice_get s.activations (current k))) x; path = [] }) t stack stack
+  variable_here s k m shared x offset t close at typed there stack =
       let here : owner_of (slice_get s.activations (current k)) ≡ st.frame.number =
       ap (λ (a : ℕ). owner_of (slice_get s.activations a)) close
       ∙ ap (λ (l : List Activation). owner_of (slice_get l st.frame.activation)) shared.activations_are
       ∙ shared.standing.known.owner in
-      let v = shared.standing.known.variables x offset (Word kind) at typed in
-      subst (λ (n : ℕ). let place : Place = record { root = Global n x; path = [] } in IsVariable ctx place offset kind) (sym here)
-      (record { seen = refl; living = v.0; at = omega (arith, v.1) })
+      let v = shared.standing.known.variables x offset t at typed in
+      subst (λ (n : ℕ). let place : Place = record { root = Global n x; path = [] } in HasPlace ctx (InData offset) place t stack stack) (sym here)
+      (record { seen = refl; living = v.0; there = there; at = (omega (arith, v.1), refl) })

@@ -6,9 +6,9 @@ use Rattle.std.specs.Prelude.{◌==◌, if◌then◌else◌}
 use Rattle.lil_base.specs.Words.{between}
 use Rattle.lil_resolved.specs.Kinds.{Kind, OfWhole, OfTruth, OfCharacter, OfEnumeration, OfRange, base_of}
 use Rattle.lil_resolved.specs.Scalars.{Scalar, ToObject, within, scalar_word, ordinal_of}
-use Rattle.lil_resolved.specs.Shapes.{Shape, Absent, Word, words, part_at, offset}
-use Rattle.lil_meaning.specs.Cells.{Root, Global, Local, Object, Place, Cells, rest_behind, at_rest, same_root, stored, alone}
-use Rattle.lil_match.specs.Parts.{yes, no, part_fits, Inside, Outside, word_long, parts}
+use Rattle.lil_resolved.specs.Shapes.{Shape, Absent, Word, words, is_there, part_at, offset}
+use Rattle.lil_meaning.specs.Cells.{Root, Global, Local, Object, Place, part_of, Cells, rest_behind, at_rest, same_root, stored, alone}
+use Rattle.lil_match.specs.Parts.{yes, no, part_fits, part_append, offset_append, Inside, Outside, word_long, parts}
 
 -- whose a word of the store is: a root's, the machine's own, or in no use, as room of the stack with this base
 pub data Owner : Type 0 where
@@ -30,8 +30,8 @@ pub record Home : Type 0 where
 abbrev pub address : Home → Place → ℕ
 address h p = h.base p.root + offset (h.shape p.root) p.path
 
-abbrev pub shape_of : Home → Place → Shape
-shape_of h p = part_at (h.shape p.root) p.path
+abbrev pub shape_there : Home → Place → Shape
+shape_there h p = part_at (h.shape p.root) p.path
 
 -- the word of a scalar: of a reference what the home says, else its number
 abbrev pub word_for : Home → Scalar → ℕ
@@ -60,7 +60,7 @@ within_base _ v h = h
 -- the store has the cells, and the machine's own words
 pub record Mem (h : Home) (cells : Cells) (store : List ℕ) : Type 0 where
   pub owned : (r : Root) (i : ℕ) → i < words (h.shape r) → h.owner (h.base r + i) ≡ Of r
-  pub inside : (r : Root) (i : ℕ) → i < words (h.shape r) → h.base r + i < 65536
+  pub inside : (r : Root) → h.base r + words (h.shape r) ≤ 65535
   pub holds : (r : Root) (q : List ℕ) (k : Kind) → part_at (h.shape r) q ≡ Word k → IsWord h k (cells r q) (get_or store (h.base r + offset (h.shape r) q) 0)
   pub kept : (a : ℕ) → h.owner a ≡ Own → get_or store a 0 ≡ h.shadow a
   pub long : length store ≡ 65536
@@ -110,12 +110,23 @@ alone_path (x ∷ q) k j e = absurd (absent_no j e)
 pub scalar_owned : (h : Home) (cells : Cells) (store : List ℕ) (r : Root) (q : List ℕ) (k : Kind) → Mem h cells store → part_at (h.shape r) q ≡ Word k
     → (h.owner (h.base r + offset (h.shape r) q) ≡ Of r) × (h.base r + offset (h.shape r) q < 65536)
 scalar_owned h cells store r q k mem is =
-    let long = word_long (part_at (h.shape r) q) k is in
-    let fits : offset (h.shape r) q < words (h.shape r) = omega (arith, part_fits (h.shape r) q long, long) in
-    (mem.owned r (offset (h.shape r) q) fits, mem.inside r (offset (h.shape r) q) fits)
+    let fits : offset (h.shape r) q < words (h.shape r) = omega (arith, part_fits (h.shape r) q (ap is_there is), word_long (part_at (h.shape r) q) k is) in
+    (mem.owned r (offset (h.shape r) q) fits, omega (arith, mem.inside r, fits))
+
+-- the words of a place lie in the store
+pub place_inside : (h : Home) (cells : Cells) (store : List ℕ) (p : Place) → Mem h cells store → is_there (shape_there h p) ≡ true → address h p + words (shape_there h p) ≤ 65535
+place_inside h cells store p mem there = omega (arith, mem.inside p.root, part_fits (h.shape p.root) p.path there)
+
+-- a part of a place lies so many words behind it
+pub part_there : (h : Home) (p : Place) (x : ℕ) → is_there (shape_there h p) ≡ true
+    → (shape_there h (part_of p x) ≡ part_at (shape_there h p) (x ∷ [])) × (address h (part_of p x) ≡ address h p + offset (shape_there h p) (x ∷ []))
+part_there h p x there = (
+  part_append (h.shape p.root) p.path (x ∷ []) there,
+  omega (arith, offset_append (h.shape p.root) p.path (x ∷ []) there),
+)
 
 -- a scalar that is stored at a place changes the cell and the word of that place alone
-module _ (h : Home) (cells : Cells) (store : List ℕ) (p : Place) (k : Kind) (v : Scalar) (mem : Mem h cells store) (living : shape_of h p ≡ Word k) (fits : within k v ≡ true) where
+module _ (h : Home) (cells : Cells) (store : List ℕ) (p : Place) (k : Kind) (v : Scalar) (mem : Mem h cells store) (living : shape_there h p ≡ Word k) (fits : within k v ≡ true) where
   at : (h.owner (address h p) ≡ Of p.root) × (address h p < 65536)
   at = scalar_owned h cells store p.root p.path k mem living
 
@@ -149,14 +160,14 @@ module _ (h : Home) (cells : Cells) (store : List ℕ) (p : Place) (k : Kind) (v
       let here = yes (same_root p.root p.root) (at_rest (alone v) (cells p.root q) (rest_behind p.path q)) (cells p.root q) (same_root_refl p.root) in
       beside p.root q j e (here ∙ ap (at_rest (alone v) (cells p.root q)) o.is)
       (λ at. ⊎_elim (λ (l : offset (h.shape p.root) q < offset (h.shape p.root) p.path). omega (arith, l, at))
-      (λ (g : offset (h.shape p.root) p.path + words (shape_of h p) ≤ offset (h.shape p.root) q). omega (arith, g, at, word_long (shape_of h p) k living)) o.apart)
+      (λ (g : offset (h.shape p.root) p.path + words (shape_there h p) ≤ offset (h.shape p.root) q). omega (arith, g, at, word_long (shape_there h p) k living)) o.apart)
 
   by : (s : Root) (q : List ℕ) (j : Kind) → part_at (h.shape s) q ≡ Word j → (same_root p.root s ≡ true) ⊎ (same_root p.root s ≡ false) → Holds s q j
   by s q j e (inl is) =
       let one : p.root ≡ s = same_root_eq p.root s is in
       subst (λ (z : Root). Holds z q j) one
       (own_root q j (ap (λ (z : Root). part_at (h.shape z) q) one ∙ e)
-      (parts (h.shape p.root) p.path q j (word_long (shape_of h p) k living) (ap (λ (z : Root). part_at (h.shape z) q) one ∙ e)))
+      (parts (h.shape p.root) p.path q j (word_long (shape_there h p) k living) (ap (λ (z : Root). part_at (h.shape z) q) one ∙ e)))
   by s q j e (inr is) =
       beside s q j e (no (same_root p.root s) (at_rest (alone v) (cells s q) (rest_behind p.path q)) (cells s q) is)
       (λ same.

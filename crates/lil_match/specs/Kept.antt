@@ -3,16 +3,16 @@ use Rattle.std.proofs.Common.{◌≡◌, ℕ, suc, ◌+◌, ◌<◌, ◌≤◌, 
 use Rattle.std.proofs.lemmas.Bool.{ne_eqb}
 use Rattle.std.specs.List.{list_any}
 use Rattle.std.specs.Prelude.{Bool}
-use Rattle.lil_resolved.specs.Kinds.{Kind}
-use Rattle.lil_resolved.specs.Resolved.{Variable, Resolved}
-use Rattle.lil_resolved.specs.Shapes.{Shape, part_at, offset}
+use Rattle.lil_resolved.specs.Kinds.{Kind, numbers}
+use Rattle.lil_resolved.specs.Resolved.{Resolved}
+use Rattle.lil_resolved.specs.Shapes.{Shape, Word, Row, part_at, offset}
 use Rattle.lil_meaning.specs.Cells.{Root, Global, Local, Object, Place}
-use Rattle.lil_meaning.specs.Items.{Scalars, Places, StoreAt, ChangeAt, RightOf, StartOf, LimitOf, Looping, Turns, End, Item, Value, PlaceOf, Fill, Perform, Activation, Source}
+use Rattle.lil_meaning.specs.Items.{Scalars, Places, IndexAt, StoreAt, ChangeAt, RightOf, LimitOf, Looping, Turns, End, Item, Value, Fill, Perform, Activation, Source}
 use Rattle.lil_mcode.specs.State.{Module, StackRegisters, State, stack_of}
-use Rattle.lil_table.specs.Rows.{loop_place}
+use Rattle.lil_table.specs.Rows.{Access, OnTop, loop_place}
 use Rattle.lil_match.specs.Parts.{no}
-use Rattle.lil_match.specs.Homes.{word_same, Owner, Own, Home, mem_shadowed, shadowed, replaced}
-use Rattle.lil_match.specs.Waits.{Mode, Quiet, ValueOf, Onward, Part, Around, outside, Frame, frames_of, Setting, at_home, with_frames, sees, is_of, TurnsTask, IsVariable, needs, Behind, RowsOf, Rows}
+use Rattle.lil_match.specs.Homes.{word_same, address, Owner, Own, Home, mem_shadowed, shadowed, replaced}
+use Rattle.lil_match.specs.Waits.{Mode, Quiet, ValueOf, Onward, Part, Around, outside, Frame, frames_of, Setting, at_home, with_frames, sees, is_of, TurnsTask, Reaches, HasPlace, needs, Behind, RowsOf, Rows}
 use Rattle.lil_match.specs.Goes.{OwnWords, Stands, EachComes, Standing, Shared, Touches}
 
 -- homes that agree on the roots that frames can name, and on the machine's own words from one place to another
@@ -56,21 +56,37 @@ pub record IsMet (w v : Part) (r : w.Here) : Type 0 where
 module _ (ctx : Setting) (x : Home) (low top : ℕ) (keeps : Keeps ctx.home x (frames_of ctx.stack) low top) where
   open ctx use {home as h}
 
-  variable_kept : (place : Place) (n : ℕ) (k : Kind) → IsVariable ctx place n k → IsVariable (at_home ctx x) place n k
-  variable_kept place n k r =
+  place_kept : (b : Access) (place : Place) (t : Shape) (stack below : List ℕ) → HasPlace ctx b place t stack below → HasPlace (at_home ctx x) b place t stack below
+  place_kept b place t stack below r =
       let same = keeps.shape place.root r.seen in
+      let at : address h place ≡ address x place = omega (arith, keeps.base place.root r.seen, ap (λ (t : Shape). offset t place.path) same) in
       record {
         seen = r.seen;
         living = ap (λ (t : Shape). part_at t place.path) same ∙ r.living;
-        at = omega (arith, r.at, keeps.base place.root r.seen, ap (λ (t : Shape). offset t place.path) same);
+        there = r.there;
+        at = subst (λ (a : ℕ). Reaches ctx.stack.frame.own.base b a stack below) at r.at;
       }
 
   met : (t : Mode) (i : Item) (p : ℕ) (stack : List ℕ) (a : Around) → (r : (needs ctx t i p stack a).Here) → IsMet (needs ctx t i p stack a) (needs (at_home ctx x) t i p stack a) r
   met Quiet (Value (Scalars v)) p stack a r =
       record { part = record { kind = r.kind; fits = r.fits; below = r.below; is = r.is ∙ ap (λ (w : ℕ). w ∷ r.below) (word_same h x keeps.reference v) }; onto = refl }
   met Quiet (Value (Places place)) p stack a r =
-      record { part = record { kind = r.kind; offset = r.offset; variable = variable_kept place r.offset r.kind r.variable }; onto = refl }
-  met Quiet (PlaceOf (Variable n)) p stack a r = record { part = r; onto = refl }
+      record { part = record { access = r.access; shape = r.shape; below = r.below; has = place_kept r.access place r.shape stack r.below r.has }; onto = refl }
+  met (ValueOf j) (Fill (IndexAt place k)) p stack a r =
+      record {
+        part = record {
+          takes = r.takes;
+          element = r.element;
+          below = r.below;
+          has = place_kept OnTop place (Row (numbers k) r.element) stack r.below r.has;
+          there = r.there;
+          tested = r.tested;
+          end = r.end;
+          test = r.test;
+          by = r.by;
+        };
+        onto = refl;
+      }
   met (ValueOf j) (Fill (RightOf o k u)) p stack a r =
       record {
         part = record { same = r.same; takes = r.takes; fits = r.fits; below = r.below; is = r.is ∙ ap (λ (w : ℕ). w ∷ r.below) (word_same h x keeps.reference u); end = r.end; by = r.by };
@@ -80,9 +96,9 @@ module _ (ctx : Setting) (x : Home) (low top : ℕ) (keeps : Keeps ctx.home x (f
       record {
         part = record {
           takes = r.takes;
-          empty = r.empty;
-          offset = r.offset;
-          variable = variable_kept place r.offset k r.variable;
+          access = r.access;
+          ready = r.ready;
+          has = place_kept r.access place (Word k) stack [] r.has;
           middle = r.middle;
           end = r.end;
           test = r.test;
@@ -95,18 +111,19 @@ module _ (ctx : Setting) (x : Home) (low top : ℕ) (keeps : Keeps ctx.home x (f
       record {
         part = record {
           same = r.same;
-          empty = r.empty;
           base = r.base;
-          offset = r.offset;
-          variable = variable_kept place r.offset k r.variable;
+          access = r.access;
+          ready = r.ready;
+          once = r.once;
+          has = place_kept r.access place (Word k) r.once [] r.has;
+          twice = r.twice;
           end = r.end;
           by = r.by;
           within = r.within;
         };
         onto = refl;
       }
-  met (ValueOf j) (Fill (StartOf (Variable n) k b step body)) p stack a r = record { part = r; onto = refl }
-  met (ValueOf j) (Fill (LimitOf (Variable n) k v step body)) p stack a r =
+  met (ValueOf j) (Fill (LimitOf n k v step body)) p stack a r =
       record {
         part = record {
           same = r.same;
@@ -185,14 +202,14 @@ rows_kept (Perform (Looping body) ∷ k) ctx x low above t p stack c a keeps r =
       };
       count = r.count;
     }
-rows_kept (Perform (Turns (Variable n) kind z step left body) ∷ k) ctx x low above t p stack c a keeps r =
+rows_kept (Perform (Turns n kind z step left body) ∷ k) ctx x low above t p stack c a keeps r =
     record { start = r.start; jumps = r.jumps; later = r.later; way = r.way; there = by (rows_kept k ctx x low above) r.there; count = r.count }
   where
     at : ℕ
     at = ctx.stack.frame.at
 
-    by : Stays k ctx x low → TurnsTask ctx (Variable n) kind z step left body (Rows ctx k) t r.start stack r.later a
-        → TurnsTask (at_home ctx x) (Variable n) kind z step left body (Rows (at_home ctx x) k) t r.start stack r.later a
+    by : Stays k ctx x low → TurnsTask ctx n kind z step left body (Rows ctx k) t r.start stack r.later a
+        → TurnsTask (at_home ctx x) n kind z step left body (Rows (at_home ctx x) k) t r.start stack r.later a
     by rest (inl w) = inl (record {
       quiet = w.quiet;
       from = w.from;
@@ -310,7 +327,7 @@ pub loops_fit : (k : List Item) (ctx : Setting) (t : Mode) (p : ℕ) (stack : Li
 loops_fit [] ctx t p stack c a mark r = absurd r
 loops_fit (Perform (Looping body) ∷ k) ctx t p stack c a mark r =
     omega (arith, ap (λ (o : Around). o.loops) r.there.is, loops_fit k ctx _ _ _ _ r.there.outer mark r.there.then)
-loops_fit (Perform (Turns (Variable n) kind z step left body) ∷ k) ctx t p stack c a mark r =
+loops_fit (Perform (Turns n kind z step left body) ∷ k) ctx t p stack c a mark r =
     ⊎_elim (λ w. loops_fit k ctx _ _ _ _ _ mark w.then) (λ w. omega (arith, ap (λ (o : Around). o.loops) w.around, w.round.room)) r.there
 loops_fit (Perform (End n) ∷ k) ctx t p stack c a mark r = omega (arith, ap (λ (o : Around). o.loops) r.there.alone, mark)
 loops_fit (i ∷ k) ctx t p stack c a mark r = loops_fit k ctx _ _ _ _ _ mark r.there.then

@@ -1,10 +1,10 @@
 -- Where parts stand: behind their start, and within the code.
 use Rattle.std.proofs.Common.{ℕ, ◌<◌, ◌≤◌, List, [], ◌∷◌, length, Option, Some, arith}
-use Rattle.lil_resolved.specs.Resolved.{Variable, Expression, Constant, Taken, One, Two, Short, Apply, Argument, Statement, Statements, kind_of}
+use Rattle.lil_resolved.specs.Resolved.{Expression, Constant, Taken, One, Two, Short, Apply, Argument, Statement, Statements, kind_of}
 use Rattle.lil_asm.specs.declared.instr.Instr.{Instr}
 use Rattle.lil_asm.specs.declared.instr.Instr.TheVariants.{Jmp}
 use Rattle.lil_asm.specs.Decoding.{decoded_stands}
-use Rattle.lil_table.specs.Lengths.{statement_long, body_long}
+use Rattle.lil_table.specs.Lengths.{place_long, statement_long, body_long}
 use Rattle.lil_table.specs.Rows.{Layout, IsAt, InstrsAt, one_code, two_code, function_code, ExpressionAt, ArgumentsAt, StatementAt, BodyAt, short_code}
 
 pub instr_order : (code : List ℕ) (p : ℕ) (i : Instr) (q : ℕ) → IsAt code p i q → (p < q) × (q ≤ length code)
@@ -27,7 +27,9 @@ behind code p middle i q first h =
 
 pub expression_stands : (l : Layout) (code : List ℕ) (e : Expression) (p q : ℕ) → ExpressionAt l code e p q → (p < q) × (q ≤ length code)
 expression_stands l code (Constant k v) p q h = instr_order code p _ q h.load
-expression_stands l code (Taken (Variable x) k) p q h = instr_order code p _ q h.load
+expression_stands l code (Taken d k) p q h =
+    let one = instr_order code h.found _ q h.load in
+    (omega (arith, place_long l code d p h.found h.here, one.0), one.1)
 expression_stands l code (One o k a) p q h =
     let first = expression_stands l code a p h.middle h.first in
     let by = instrs_order code (one_code o k) h.middle q h.by first.1 in

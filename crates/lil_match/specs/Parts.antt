@@ -1,9 +1,9 @@
 -- The parts of a shape: each lies within the whole, and two that aren't one under the other lie apart.
-use Rattle.std.proofs.Common.{◌≡◌, ℕ, zero, suc, ◌+◌, ◌*◌, ◌<◌, ◌≤◌, Bool, true, false, cond, eqb, ltb, Some, None, List, [], ◌∷◌, refl, sym, ap, ◌∙◌, ◌⊎◌, inl, inr, ⊎_elim, arith}
+use Rattle.std.proofs.Common.{◌≡◌, ℕ, zero, suc, ◌+◌, ◌*◌, ◌<◌, ◌≤◌, Bool, true, false, cond, eqb, ltb, Some, None, List, [], ◌∷◌, ◌++◌, refl, sym, ap, ◌∙◌, ◌⊎◌, inl, inr, ⊎_elim, arith}
 use Rattle.std.proofs.lemmas.Bool.{eq-eqb, ne_eqb, cases_eq, lt-ltb, le-ltb, cases_lt, cases_order}
 use Rattle.std.proofs.lemmas.Nat.{row_fits}
 use Rattle.lil_resolved.specs.Kinds.{Kind}
-use Rattle.lil_resolved.specs.Shapes.{Shape, Absent, Word, Join, Row, words, part_at, offset}
+use Rattle.lil_resolved.specs.Shapes.{Shape, Absent, Word, Join, Row, words, is_there, part_at, offset}
 use Rattle.lil_meaning.specs.Cells.{rest_behind}
 
 pub yes : {A : Type 0} (b : Bool) (x y : A) → b ≡ true → cond b x y ≡ x
@@ -12,24 +12,53 @@ yes b x y h = ap (λ (t : Bool). cond t x y) h
 pub no : {A : Type 0} (b : Bool) (x y : A) → b ≡ false → cond b x y ≡ y
 no b x y h = ap (λ (t : Bool). cond t x y) h
 
+nothing_there : is_there Absent ≡ true → ⊥
+nothing_there e = cc
+
+-- what has words is there
+pub worded : (t : Shape) → 1 ≤ words t → is_there t ≡ true
+worded Absent h = absurd (omega (arith, h))
+worded _ h = refl
+
 -- an element that is there
-element : (n x : ℕ) (t : Shape) (p : List ℕ) → 1 ≤ words (part_at (Row n t) (x ∷ p)) → (x < n) × (part_at (Row n t) (x ∷ p) ≡ part_at t p)
+pub element : (n x : ℕ) (t : Shape) (p : List ℕ) → is_there (part_at (Row n t) (x ∷ p)) ≡ true → (x < n) × (part_at (Row n t) (x ∷ p) ≡ part_at t p)
 element n x t p h = by (cases_lt x n)
   where
     by : (x < n) ⊎ (n ≤ x) → (x < n) × (part_at (Row n t) (x ∷ p) ≡ part_at t p)
     by (inl l) = (l, yes (ltb x n) (part_at t p) Absent (lt-ltb x n l))
-    by (inr g) = absurd (let e : words (part_at (Row n t) (x ∷ p)) ≡ 0 = ap words (no (ltb x n) (part_at t p) Absent (le-ltb x n g)) in omega (arith, e, h))
+    by (inr g) = absurd (nothing_there (ap is_there (sym (no (ltb x n) (part_at t p) Absent (le-ltb x n g))) ∙ h))
 
 -- a part lies within its whole
-pub part_fits : (t : Shape) (p : List ℕ) → 1 ≤ words (part_at t p) → offset t p + words (part_at t p) ≤ words t
+pub part_fits : (t : Shape) (p : List ℕ) → is_there (part_at t p) ≡ true → offset t p + words (part_at t p) ≤ words t
 part_fits t [] h = omega arith
 part_fits (Join a b) (zero ∷ p) h = omega (arith, part_fits a p h)
 part_fits (Join a b) (suc x ∷ p) h = omega (arith, part_fits b (x ∷ p) h)
 part_fits (Row n t) (x ∷ p) h =
     let e = element n x t p h in
     let s : words (part_at (Row n t) (x ∷ p)) ≡ words (part_at t p) = ap words e.1 in
-    omega (arith, s, part_fits t p (omega (arith, s, h)), row_fits x (words t) n (words t) e.0 (omega arith))
-part_fits t (x ∷ p) h = omega (arith, h)
+    omega (arith, s, part_fits t p (ap is_there (sym e.1) ∙ h), row_fits x (words t) n (words t) e.0 (omega arith))
+part_fits t (x ∷ p) h = cc
+
+-- a part of a part
+pub part_append : (t : Shape) (p q : List ℕ) → is_there (part_at t p) ≡ true → part_at t (p ++ q) ≡ part_at (part_at t p) q
+part_append t [] q h = refl
+part_append (Join a b) (zero ∷ p) q h = part_append a p q h
+part_append (Join a b) (suc x ∷ p) q h = part_append b (x ∷ p) q h
+part_append (Row n t) (x ∷ p) q h =
+    let e = element n x t p h in
+    yes (ltb x n) (part_at t (p ++ q)) Absent (lt-ltb x n e.0)
+    ∙ part_append t p q (ap is_there (sym e.1) ∙ h)
+    ∙ ap (λ (z : Shape). part_at z q) (sym e.1)
+part_append t (x ∷ p) q h = cc
+
+pub offset_append : (t : Shape) (p q : List ℕ) → is_there (part_at t p) ≡ true → offset t (p ++ q) ≡ offset t p + offset (part_at t p) q
+offset_append t [] q h = omega arith
+offset_append (Join a b) (zero ∷ p) q h = offset_append a p q h
+offset_append (Join a b) (suc x ∷ p) q h = omega (arith, offset_append b (x ∷ p) q h)
+offset_append (Row n t) (x ∷ p) q h =
+    let e = element n x t p h in
+    omega (arith, offset_append t p q (ap is_there (sym e.1) ∙ h), ap (λ (z : Shape). offset z q) e.1)
+offset_append t (x ∷ p) q h = cc
 
 -- a scalar under a place
 pub record Inside (t : Shape) (d q : List ℕ) : Type 0 where
@@ -70,11 +99,11 @@ parts (Join a b) (zero ∷ d) (zero ∷ q) k h l = by (parts a d q k h l)
     by (inl i) = inl (record { rest = i.rest; is = i.is; at = i.at; part = i.part })
     by (inr o) = inr (record { is = o.is; apart = o.apart })
 parts (Join a b) (zero ∷ d) (suc y ∷ q) k h l =
-    inr (record { is = no (eqb 0 (suc y)) (rest_behind d q) None (ne_eqb 0 (suc y) (λ e. omega arith)); apart = inr (omega (arith, part_fits a d h)) })
+    inr (record { is = no (eqb 0 (suc y)) (rest_behind d q) None (ne_eqb 0 (suc y) (λ e. omega arith)); apart = inr (omega (arith, part_fits a d (worded (part_at a d) h))) })
 parts (Join a b) (suc x ∷ d) (zero ∷ q) k h l =
     inr (record {
       is = no (eqb (suc x) 0) (rest_behind d q) None (ne_eqb (suc x) 0 (λ e. omega arith));
-      apart = inl (omega (arith, part_fits a q (word_long (part_at a q) k l), word_long (part_at a q) k l));
+      apart = inl (omega (arith, part_fits a q (ap is_there l), word_long (part_at a q) k l));
     })
 parts (Join a b) (suc x ∷ d) (suc y ∷ q) k h l = by (parts b (x ∷ d) (y ∷ q) k h l)
   where
@@ -88,10 +117,10 @@ parts (Row n t) (x ∷ d) [] k h l = absurd (row_no n t k l)
 parts (Row n t) (x ∷ d) (y ∷ q) k h l = by (parts t d q k there leaf) (cases_order x y)
   where
     first : (x < n) × (part_at (Row n t) (x ∷ d) ≡ part_at t d)
-    first = element n x t d h
+    first = element n x t d (worded (part_at (Row n t) (x ∷ d)) h)
 
     second : (y < n) × (part_at (Row n t) (y ∷ q) ≡ part_at t q)
-    second = element n y t q (word_long (part_at (Row n t) (y ∷ q)) k l)
+    second = element n y t q (ap is_there l)
 
     there : 1 ≤ words (part_at t d)
     there = omega (arith, ap words first.1, h)
@@ -115,6 +144,6 @@ parts (Row n t) (x ∷ d) (y ∷ q) k h l = by (parts t d q k there leaf) (cases
       apart = ⊎_elim (λ (l : offset t q < offset t d). inl (omega (arith, l, ap (λ (z : ℕ). z * words t) e)))
           (λ (g : offset t d + words (part_at t d) ≤ offset t q). inr (omega (arith, g, ap (λ (z : ℕ). z * words t) e, ap words first.1))) o.apart;
     })
-    by s (inr (inl l)) = other (λ e. omega arith) (inr (omega (arith, ap words first.1, part_fits t d there, row_fits x (words t) y (words t) l (omega arith))))
-    by s (inr (inr g)) = other (λ e. omega arith) (inl (omega (arith, part_fits t q (word_long (part_at t q) k leaf), word_long (part_at t q) k leaf, row_fits y (words t) x (words t) g (omega arith))))
+    by s (inr (inl l)) = other (λ e. omega arith) (inr (omega (arith, ap words first.1, part_fits t d (worded (part_at t d) there), row_fits x (words t) y (words t) l (omega arith))))
+    by s (inr (inr g)) = other (λ e. omega arith) (inl (omega (arith, part_fits t q (ap is_there leaf), word_long (part_at t q) k leaf, row_fits y (words t) x (words t) g (omega arith))))
 parts t (x ∷ d) q k h l = absurd (omega (arith, h))

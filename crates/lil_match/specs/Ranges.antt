@@ -1,7 +1,7 @@
 -- The numbers of a kind: its values are those from its least to its greatest.
-use Rattle.std.proofs.Common.{◌≡◌, zero, suc, ◌-◌, ◌==◌, Bool, true, false, cond, ◌&&◌, Some, None, refl, sym, ap, ◌∙◌, arith}
+use Rattle.std.proofs.Common.{◌≡◌, ℕ, zero, suc, ◌-◌, ◌==◌, Bool, true, false, cond, ◌&&◌, Some, None, refl, sym, ap, ◌∙◌, arith}
 use Rattle.std.specs.Prelude.{ℤ, pos, negsuc, ◌≤ℤ◌, int_lt, nat_le}
-use Rattle.std.proofs.lemmas.Bool.{and_parts, and_from, eq-eqb, leb-true}
+use Rattle.std.proofs.lemmas.Bool.{and_parts, and_from, eq-eqb, eqb-true, leb-true}
 use Rattle.std.proofs.lemmas.Bool.Decides.{nat_tests}
 use Rattle.std.proofs.lemmas.Int.{ints}
 use Rattle.lil_base.specs.Words.{in_type, between}
@@ -191,3 +191,26 @@ takes_own (OfWhole t) h = refl
 takes_own OfTruth h = refl
 takes_own OfCharacter h = refl
 takes_own (OfEnumeration n) h = and_from (n == n) (nat_le n 65535) (eq-eqb n n refl) h
+
+-- so is the base of the kind where it is wanted
+pub takes_part : (k j : Kind) → takes_value k j ≡ true → is_base (base_of k) ≡ true
+takes_part (OfRange base low high) j h = takes_part base j h
+takes_part (OfWhole s) (OfWhole t) h = refl
+takes_part OfTruth OfTruth h = refl
+takes_part OfCharacter OfCharacter h = refl
+takes_part (OfEnumeration m) (OfEnumeration n) h =
+    let p = and_parts (m == n) (nat_le n 65535) h in
+    ap (λ (x : ℕ). nat_le x 65535) (eqb-true m n p.0) ∙ p.1
+takes_part k j h = cc
+
+-- a number of a kind is one of the kind that it was taken from
+pub has_base : (k : Kind) (z : ℤ) → has k z ≡ true → has (base_of k) z ≡ true
+has_base (OfRange base low high) z h = has_base base z (and_parts (between low z high) (has base z) (sym (has_range base low high z) ∙ h)).1
+has_base (OfWhole t) z h = h
+has_base _ z h = h
+
+-- its least number isn't less
+pub least_base : (k : Kind) → least (base_of k) ≤ℤ least k
+least_base (OfRange base low high) = omega (arith, ints, least_base base, larger_right low (least base))
+least_base (OfWhole t) = omega (arith, ints)
+least_base _ = omega (arith, ints)

@@ -93,6 +93,11 @@ module _ (ctx : Setting) where
   LandsAt s k run c =
       Lands ctx (next library (record s { items = k; phase = Going })).phase (next library (record s { items = k; phase = Going })) run c
 
+  -- within a budget, and so within a larger one
+  pub goes_more : (s : Source) (k : List Item) (m : State) (less more : ℕ) → Goes ctx s k m less → less ≤ more → Goes ctx s k m more
+  goes_more s k m less more g rises =
+      record { steps = g.steps; later = g.later; home = g.home; stack = g.stack; quiet = g.quiet; lands = g.lands; touch = g.touch; same = g.same; fewer = g.fewer; cost = omega (arith, g.cost, rises); falls = g.falls }
+
   -- no step of the machine
   pub goes_none : (s : Source) (k : List Item) (m : State) (budget c : ℕ) → LandsAt s k (running m s.world) c → c ≤ budget
       → stutter (next library (record s { items = k; phase = Going })).items < stutter k → Goes ctx s k m budget
@@ -111,17 +116,23 @@ module _ (ctx : Setting) where
   }
 
   -- no step of the machine: an expression is to come, and then a hole
-  pub operand_goes : (s : Source) (k : List Item) (m : State) (c : ℕ) (a : Around) → Shared ctx s m → (items : List Item) (e : Expression) (o : Hole)
+  pub operand_exact : (s : Source) (k : List Item) (m : State) (c : ℕ) (a : Around) → Shared ctx s m → (items : List Item) (e : Expression) (o : Hole)
       → next library (record s { items = items; phase = Going }) ≡ record s { items = Evaluate e ∷ Fill o ∷ k; phase = Going } → stutter (Evaluate e ∷ Fill o ∷ k) < stutter items → (middle : ℕ)
-      → ExpressionAt l own.code e m.place middle → length m.stack + depth e ≤ 16 → middle < length own.code → Waiting ctx (Fill o) (Rows ctx k) (ValueOf (kind_of e)) middle m.stack c a → Goes ctx s items m (c + 32)
-  operand_goes s k m c a shared items e o becomes lighter middle here shallow within row =
-      goes_none s items m (c + 32) c
+      → ExpressionAt l own.code e m.place middle → length m.stack + depth e ≤ 16 → middle < length own.code → Waiting ctx (Fill o) (Rows ctx k) (ValueOf (kind_of e)) middle m.stack c a → Goes ctx s items m c
+  operand_exact s k m c a shared items e o becomes lighter middle here shallow within row =
+      goes_none s items m c c
       (subst (λ (y : Source). Lands ctx y.phase y (running m s.world) c) (sym becomes)
       (lands_on s m shared (Evaluate e ∷ Fill o ∷ k) m.place m.stack c a
       (at_once _ Quiet m.place m.stack c a
       (record { part = record { end = middle; here = here; shallow = shallow; within = within }; then = at_once _ _ middle m.stack c a row }))))
       (omega arith)
       (subst (λ (y : Source). stutter y.items < stutter items) (sym becomes) lighter)
+
+  pub operand_goes : (s : Source) (k : List Item) (m : State) (c : ℕ) (a : Around) → Shared ctx s m → (items : List Item) (e : Expression) (o : Hole)
+      → next library (record s { items = items; phase = Going }) ≡ record s { items = Evaluate e ∷ Fill o ∷ k; phase = Going } → stutter (Evaluate e ∷ Fill o ∷ k) < stutter items → (middle : ℕ)
+      → ExpressionAt l own.code e m.place middle → length m.stack + depth e ≤ 16 → middle < length own.code → Waiting ctx (Fill o) (Rows ctx k) (ValueOf (kind_of e)) middle m.stack c a → Goes ctx s items m (c + 32)
+  operand_goes s k m c a shared items e o becomes lighter middle here shallow within row =
+      goes_more s items m c (c + 32) (operand_exact s k m c a shared items e o becomes lighter middle here shallow within row) (omega arith)
 
   -- one step, to another home and stack
   pub goes_one_in : (s : Source) (k : List Item) (m : State) (x : Home) (y : Stack) (budget c : ℕ) (run : Run) → advanced (running m s.world) ≡ run → LandsIn x y s k run c
@@ -194,11 +205,6 @@ module _ (ctx : Setting) where
   pub goes_after : (s : Source) (k : List Item) (m n : State) (budget rest : ℕ) → advanced (running m s.world) ≡ running n s.world
       → Goes ctx s k n rest → rest + 1 ≤ budget → Goes ctx s k m budget
   goes_after s k m n budget rest e g less = goes_after_in s k m n h budget rest e (untouched h st.base st.limit) g less
-
-  -- within a budget, and so within a larger one
-  pub goes_more : (s : Source) (k : List Item) (m : State) (less more : ℕ) → Goes ctx s k m less → less ≤ more → Goes ctx s k m more
-  goes_more s k m less more g rises =
-      record { steps = g.steps; later = g.later; home = g.home; stack = g.stack; quiet = g.quiet; lands = g.lands; touch = g.touch; same = g.same; fewer = g.fewer; cost = omega (arith, g.cost, rises); falls = g.falls }
 
   -- a jump of the machine
   pub jumps_to : (m : State) (w : World) → IsProgram ctx m.modules m.running m.marked → (to gap : ℕ) → IsAt own.code m.place (Jmp to) gap → to < length own.code

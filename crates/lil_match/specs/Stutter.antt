@@ -1,15 +1,21 @@
 -- How long items can stutter: a count that falls at each step of the source that takes no step of the machine.
 use Rattle.std.proofs.Common.{ℕ, ◌+◌, List, [], ◌∷◌}
-use Rattle.lil_resolved.specs.Resolved.{Expression, Constant, Taken, One, Two, Short, Apply, Argument, Statement, Assign, Change, Request, If, Case, While, Repeat, Loop, Exit, Halt, Return, For, Statements, Empty, Then}
-use Rattle.lil_meaning.specs.Items.{Hole, Get, SetTo, StoreAt, ChangeBy, ChangeAt, OneOf, LeftOf, RightOf, ShortOf, ApplyTo, Pass, Choose, Turn, Again, Pick, StartOf, LimitOf, Task, Do, Passing, Until, Looping, Turns, End, Item, Value, Evaluate, PlaceOf, Fill, Perform}
+use Rattle.lil_resolved.specs.Resolved.{Designator, Variable, Field, Element, Expression, Constant, Taken, One, Two, Short, Apply, Argument, Statement, Assign, Change, Request, If, Case, While, Repeat, Loop, Exit, Halt, Return, For, Statements, Empty, Then}
+use Rattle.lil_meaning.specs.Items.{Hole, Get, Part, IndexBy, IndexAt, SetTo, StoreAt, ChangeBy, ChangeAt, OneOf, LeftOf, RightOf, ShortOf, ApplyTo, Pass, Choose, Turn, Again, Pick, StartOf, LimitOf, Task, Do, Passing, Until, Looping, Turns, End, Item, Value, Evaluate, PlaceOf, Fill, Perform}
 
-abbrev pub value_stutter : Expression → ℕ
-value_stutter (Constant k v) = 1
-value_stutter (Taken d k) = 3
-value_stutter (One o k a) = 2 + value_stutter a
-value_stutter (Two o k a b) = 1 + value_stutter a + value_stutter b
-value_stutter (Short d a b) = 1 + value_stutter a + value_stutter b
-value_stutter (Apply f a) = 2 + value_stutter a
+abbrev mutual
+  pub place_stutter : Designator → ℕ
+  place_stutter (Variable x) = 2
+  place_stutter (Field d i) = 2 + place_stutter d
+  place_stutter (Element d k e) = 1 + place_stutter d + value_stutter e
+
+  pub value_stutter : Expression → ℕ
+  value_stutter (Constant k v) = 1
+  value_stutter (Taken d k) = 1 + place_stutter d
+  value_stutter (One o k a) = 2 + value_stutter a
+  value_stutter (Two o k a b) = 1 + value_stutter a + value_stutter b
+  value_stutter (Short d a b) = 1 + value_stutter a + value_stutter b
+  value_stutter (Apply f a) = 2 + value_stutter a
 
 abbrev pub passing_stutter : List Argument → ℕ
 passing_stutter [] = 0
@@ -17,8 +23,8 @@ passing_stutter (a ∷ given) = 1 + value_stutter a.value + passing_stutter give
 
 abbrev mutual
   pub statement_stutter : Statement → ℕ
-  statement_stutter (Assign d k e) = 3 + value_stutter e
-  statement_stutter (Change down d k e) = 3 + value_stutter e
+  statement_stutter (Assign d k e) = 1 + place_stutter d + value_stutter e
+  statement_stutter (Change down d k e) = 1 + place_stutter d + value_stutter e
   statement_stutter (Request r given) = 1 + passing_stutter given
   statement_stutter (If c a b) = 1 + value_stutter c
   statement_stutter (Case e arms) = 1 + value_stutter e
@@ -28,7 +34,7 @@ abbrev mutual
   statement_stutter Exit = 1
   statement_stutter Halt = 1
   statement_stutter Return = 2
-  statement_stutter (For d k a b step body) = 1 + value_stutter a + value_stutter b
+  statement_stutter (For x k a b step body) = 1 + value_stutter a + value_stutter b
 
   pub body_stutter : Statements → ℕ
   body_stutter Empty = 0
@@ -36,6 +42,9 @@ abbrev mutual
 
 abbrev pub hole_stutter : Hole → ℕ
 hole_stutter Get = 0
+hole_stutter (Part i) = 1
+hole_stutter (IndexBy k e) = value_stutter e
+hole_stutter (IndexAt place k) = 0
 hole_stutter (SetTo k e) = value_stutter e
 hole_stutter (StoreAt place k) = 0
 hole_stutter (ChangeBy down k e) = value_stutter e
@@ -50,21 +59,21 @@ hole_stutter (Choose a b) = 0
 hole_stutter (Turn c body) = 0
 hole_stutter (Again body c) = 0
 hole_stutter (Pick arms) = 0
-hole_stutter (StartOf d k b step body) = value_stutter b
-hole_stutter (LimitOf d k v step body) = 0
+hole_stutter (StartOf x k b step body) = value_stutter b
+hole_stutter (LimitOf x k v step body) = 0
 
 abbrev pub task_stutter : Task → ℕ
 task_stutter (Do s) = statement_stutter s
 task_stutter (Passing r done left) = passing_stutter left
 task_stutter (Until body c) = 1 + value_stutter c
 task_stutter (Looping body) = 0
-task_stutter (Turns d k x step left body) = 0
+task_stutter (Turns x k z step left body) = 0
 task_stutter (End a) = 1
 
 abbrev pub item_stutter : Item → ℕ
 item_stutter (Value d) = 1
 item_stutter (Evaluate e) = value_stutter e
-item_stutter (PlaceOf d) = 2
+item_stutter (PlaceOf d) = place_stutter d
 item_stutter (Fill o) = hole_stutter o
 item_stutter (Perform t) = task_stutter t
 

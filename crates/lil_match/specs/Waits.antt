@@ -6,27 +6,39 @@ use Rattle.std.specs.List.{list_any}
 use Rattle.lil_base.specs.Words.{between, word_of}
 use Rattle.lil_base.specs.declared.operator.OneOp.{OneOp}
 use Rattle.lil_base.specs.declared.operator.TwoOp.{TwoOp}
-use Rattle.lil_resolved.specs.Kinds.{Kind, OfWhole, OfTruth, base_of, is_base, takes_value, least, greatest}
+use Rattle.lil_resolved.specs.Kinds.{Kind, OfWhole, OfTruth, base_of, is_base, takes_value, least, greatest, numbers}
 use Rattle.lil_resolved.specs.Scalars.{Scalar, within}
-use Rattle.lil_resolved.specs.Resolved.{Designator, Variable, Function, Expression, Argument, Statement, If, Case, While, Repeat, Loop, Statements, Arms, Resolved, kind_of, is_relation, result_kind, function_kind, counted_as}
-use Rattle.lil_resolved.specs.Depth.{depth, function_depth}
+use Rattle.lil_resolved.specs.Resolved.{Designator, Function, Expression, Argument, Statement, If, Case, While, Repeat, Loop, Statements, Arms, Resolved, kind_of, is_relation, result_kind, function_kind, counted_as, shape_of}
+use Rattle.lil_resolved.specs.Depth.{place_depth, depth, function_depth}
 use Rattle.lil_resolved.specs.Sound.{takes_one, takes_two, takes_function}
-use Rattle.lil_resolved.specs.Shapes.{Word}
+use Rattle.lil_resolved.specs.Shapes.{Shape, Word, Row, words, is_there, part_at, offset, element_of}
 use Rattle.lil_meaning.specs.Cells.{Root, Local, Place}
-use Rattle.lil_meaning.specs.Items.{Datum, Scalars, Places, Get, SetTo, StoreAt, ChangeBy, ChangeAt, OneOf, LeftOf, RightOf, ShortOf, ApplyTo, Pass, Choose, Turn, Again, Pick, StartOf, LimitOf, Do, Passing, Until, Looping, Turns, End, Item, Value, Evaluate, PlaceOf, Fill, Perform, Activation, Parked}
+use Rattle.lil_meaning.specs.Items.{Datum, Scalars, Places, Get, Part as PartOf, IndexBy, IndexAt, SetTo, StoreAt, ChangeBy, ChangeAt, OneOf, LeftOf, RightOf, ShortOf, ApplyTo, Pass, Choose, Turn, Again, Pick, StartOf, LimitOf, Do, Passing, Until, Looping, Turns, End, Item, Value, Evaluate, PlaceOf, Fill, Perform, Activation, Parked}
 use Rattle.lil_meaning.specs.World.{Single}
 use Rattle.lil_meaning.specs.Steps.{turns, given_of}
-use Rattle.lil_asm.specs.declared.instr.Instr.TheVariants.{Lgw, Sgw, Ent, Rtn, Jmp, Svc}
+use Rattle.lil_asm.specs.declared.instr.Instr.TheVariants.{Ixc, Ent, Rtn, Jmp, Svc}
 use Rattle.lil_mcode.specs.State.{Module, Kept, body_entry}
 use Rattle.lil_asm.specs.Requests.{request_words}
-use Rattle.lil_table.specs.Rows.{Layout, exactly, IsAt, InstrsAt, one_code, two_code, test_code, function_code, change_code, KnownRow, ExpressionAt, WholeRow, ValueRow, ArgumentsAt, StatementAt, BodyAt, TurnsRow, RoundRow, loop_place, short_code}
-use Rattle.lil_match.specs.Homes.{word_for, Home, address, shape_of}
+use Rattle.lil_table.specs.Rows.{Layout, exactly, IsAt, InstrsAt, one_code, two_code, test_code, function_code, Access, InData, OnTop, Behind as Past, further, access_of, address_code, load_code, ready_code, readied, held, store_code, again_code, held_twice, change_code, PlaceAt, ExpressionAt, WholeRow, ValueRow, ArgumentsAt, StatementAt, BodyAt, TurnsRow, RoundRow, loop_place, short_code}
+use Rattle.lil_match.specs.Homes.{word_for, Home, address, shape_there}
 
--- What comes from the items before: nothing, a value of a kind, or the place of a variable of the module at hand, which needs no word.
+-- What comes from the items before: nothing, a value of a kind, or a place of a shape, by how the code has it.
 pub data Mode : Type 0 where
   Quiet : Mode
   ValueOf : (k : Kind) → Mode
-  Direct : (offset : ℕ) (k : Kind) → Mode
+  AtPlace : (b : Access) (t : Shape) → Mode
+
+-- the address of a place on an expression stack with others below it, over the data from a word on
+abbrev pub Reaches : (data' : ℕ) → Access → ℕ → List ℕ → List ℕ → Type 0
+Reaches data' (InData o) address stack below = (address ≡ data' + o) × (stack ≡ below)
+Reaches data' OnTop address stack below = stack ≡ address ∷ below
+Reaches data' (Past o) address stack below = (u : ℕ) × (address ≡ u + o) × (stack ≡ u ∷ below)
+
+-- the expression stack where a place is kept for a second use
+abbrev pub doubled : Access → List ℕ → List ℕ
+doubled (InData o) stack = stack
+doubled OnTop stack = stack ++ stack
+doubled (Past o) stack = stack ++ stack
 
 -- what is around the items that are left: the place behind the LOOP, if there is one, and how many FORs
 pub record Around : Type 0 where
@@ -201,33 +213,57 @@ module _ (frame : Frame) where
     pub end : ℕ
     pub by : InstrsAt own.code (function_code f j) p end
 
-  pub record NamedPart (x : ℕ) : Type 0 where
-    pub kind : Kind
-    pub known : KnownRow l x kind
-
-  pub record GetPart (offset p : ℕ) (stack : List ℕ) : Type 0 where
+  pub record PlacePart (d : Designator) (p : ℕ) (stack : List ℕ) : Type 0 where
     pub end : ℕ
-    pub load : IsAt own.code p (Lgw offset) end
+    pub here : PlaceAt l own.code d p end
+    pub shallow : length stack + place_depth d ≤ 16
+
+  pub record GetPart (b : Access) (t : Shape) (p : ℕ) (stack : List ℕ) : Type 0 where
+    pub kind : Kind
+    pub typed : t ≡ Word kind
+    pub end : ℕ
+    pub load : IsAt own.code p (load_code b) end
     pub shallow : length stack + 1 ≤ 16
 
-  pub record SetPart (offset : ℕ) (j k : Kind) (e : Expression) (p : ℕ) (stack : List ℕ) : Type 0 where
-    pub same : j ≡ k
+  -- the index of an element is to come
+  pub record IndexByPart (b : Access) (t : Shape) (k : Kind) (e : Expression) (p : ℕ) (stack : List ℕ) : Type 0 where
+    pub rows : t ≡ Row (numbers k) (element_of t)
+    pub there : is_there (element_of t) ≡ true
+    pub takes : takes_value k (kind_of e) ≡ true
+    pub start : ℕ
+    pub middle : ℕ
+    pub tested : ℕ
+    pub end : ℕ
+    pub address : InstrsAt own.code (address_code b) p start
+    pub value : ExpressionAt l own.code e start middle
+    pub shallow : length stack + 1 + depth e ≤ 16
+    pub test : InstrsAt own.code (test_code k (kind_of e)) middle tested
+    pub by : IsAt own.code tested (Ixc (word_of (least k)) (words (element_of t))) end
+
+  pub record SetPart (b : Access) (t : Shape) (k : Kind) (e : Expression) (p : ℕ) (stack : List ℕ) : Type 0 where
+    pub typed : t ≡ Word k
     pub empty : stack ≡ []
+    pub start : ℕ
     pub middle : ℕ
     pub end : ℕ
-    pub value : ValueRow l own.code 0 e k p middle
-    pub store : IsAt own.code middle (Sgw offset) end
+    pub ready : InstrsAt own.code (ready_code b) p start
+    pub value : ValueRow l own.code (held (readied b)) e k start middle
+    pub store : IsAt own.code middle (store_code (readied b)) end
     pub within : end < length own.code
 
   -- the number that INC or DEC takes is to come
-  pub record ChangeByPart (offset : ℕ) (j : Kind) (down : Bool) (k : Kind) (e : Expression) (p : ℕ) (stack : List ℕ) : Type 0 where
-    pub same : j ≡ k
+  pub record ChangeByPart (b : Access) (t : Shape) (down : Bool) (k : Kind) (e : Expression) (p : ℕ) (stack : List ℕ) : Type 0 where
+    pub typed : t ≡ Word k
     pub empty : stack ≡ []
     pub base : is_base (base_of k) ≡ true
+    pub start : ℕ
+    pub kept : ℕ
     pub middle : ℕ
     pub end : ℕ
-    pub value : WholeRow l own.code 0 e (OfWhole (counted_as k)) p middle
-    pub by : InstrsAt own.code (change_code down k offset) middle end
+    pub ready : InstrsAt own.code (ready_code b) p start
+    pub again : InstrsAt own.code (again_code (readied b)) start kept
+    pub value : WholeRow l own.code (held_twice (readied b)) e (OfWhole (counted_as k)) kept middle
+    pub by : InstrsAt own.code (change_code down k (readied b)) middle end
     pub within : end < length own.code
 
   -- what follows the last argument of a request
@@ -384,54 +420,73 @@ module _ (ctx : Setting) where
     pub within : end < length own.code
     pub then : rest Quiet end [] c outer
 
-  abbrev pub TurnsTask : Designator → Kind → ℤ → ℤ → ℕ → Statements → Reach → Reach
-  TurnsTask (Variable x) k z step left body rest t p stack c a = BeginWaits x k z step left body rest t p stack c a ⊎ NextWaits x k z step left body rest t p stack c a
+  abbrev pub TurnsTask : ℕ → Kind → ℤ → ℤ → ℕ → Statements → Reach → Reach
+  TurnsTask x k z step left body rest t p stack c a = BeginWaits x k z step left body rest t p stack c a ⊎ NextWaits x k z step left body rest t p stack c a
 
-  -- the place of a scalar in the data of the module at hand, which the stack's items may name
-  pub record IsVariable (place : Place) (offset : ℕ) (k : Kind) : Type 0 where
+  -- a place of a shape that the stack's items may name, as the code has it
+  pub record HasPlace (b : Access) (place : Place) (t : Shape) (stack below : List ℕ) : Type 0 where
     pub seen : sees (frames_of ctx.stack) place.root ≡ true
-    pub living : shape_of h place ≡ Word k
-    pub at : address h place ≡ own.base + offset
+    pub living : shape_there h place ≡ t
+    pub there : is_there t ≡ true
+    pub at : Reaches own.base b (address h place) stack below
 
-  pub record DirectPart (place : Place) : Type 0 where
-    pub kind : Kind
-    pub offset : ℕ
-    pub variable : IsVariable place offset kind
+  pub record FoundPart (place : Place) (stack : List ℕ) : Type 0 where
+    pub access : Access
+    pub shape : Shape
+    pub below : List ℕ
+    pub has : HasPlace access place shape stack below
+
+  -- the index of an element is there
+  pub record IndexAtPart (j : Kind) (place : Place) (k : Kind) (p : ℕ) (stack : List ℕ) : Type 0 where
+    pub takes : takes_value k j ≡ true
+    pub element : Shape
+    pub below : List ℕ
+    pub has : HasPlace OnTop place (Row (numbers k) element) stack below
+    pub there : is_there element ≡ true
+    pub tested : ℕ
+    pub end : ℕ
+    pub test : InstrsAt own.code (test_code k j) p tested
+    pub by : IsAt own.code tested (Ixc (word_of (least k)) (words element)) end
 
   pub record StorePart (j : Kind) (place : Place) (k : Kind) (p : ℕ) (stack : List ℕ) : Type 0 where
     pub takes : takes_value k j ≡ true
-    pub empty : stack ≡ []
-    pub offset : ℕ
-    pub variable : IsVariable place offset k
+    pub access : Access
+    pub ready : readied access ≡ access
+    pub has : HasPlace access place (Word k) stack []
     pub middle : ℕ
     pub end : ℕ
     pub test : InstrsAt own.code (test_code k j) p middle
-    pub store : IsAt own.code middle (Sgw offset) end
+    pub store : IsAt own.code middle (store_code access) end
     pub within : end < length own.code
 
   -- the number that INC or DEC takes is there
   pub record ChangePart (j : Kind) (down : Bool) (place : Place) (k : Kind) (p : ℕ) (stack : List ℕ) : Type 0 where
     pub same : j ≡ OfWhole (counted_as k)
-    pub empty : stack ≡ []
     pub base : is_base (base_of k) ≡ true
-    pub offset : ℕ
-    pub variable : IsVariable place offset k
+    pub access : Access
+    pub ready : readied access ≡ access
+    pub once : List ℕ
+    pub has : HasPlace access place (Word k) once []
+    pub twice : stack ≡ doubled access once
     pub end : ℕ
-    pub by : InstrsAt own.code (change_code down k offset) p end
+    pub by : InstrsAt own.code (change_code down k access) p end
     pub within : end < length own.code
 
   -- what an item needs, by what comes from the items before
   abbrev pub needs : Mode → Item → ℕ → List ℕ → Around → Part
   needs Quiet (Value (Scalars v)) p stack a = part (ScalarPart v stack) (λ r. on (ValueOf r.kind) p r.below)
-  needs Quiet (Value (Places place)) p stack a = part (DirectPart place) (λ r. on (Direct r.offset r.kind) p stack)
+  needs Quiet (Value (Places place)) p stack a = part (FoundPart place stack) (λ r. on (AtPlace r.access r.shape) p r.below)
   needs Quiet (Evaluate e) p stack a = part (EvaluatePart active e p stack) (λ r. on (ValueOf (kind_of e)) r.end stack)
-  needs Quiet (PlaceOf (Variable x)) p stack a = part (NamedPart active x) (λ r. on (Direct r.known.offset r.kind) p stack)
+  needs Quiet (PlaceOf d) p stack a = part (PlacePart active d p stack) (λ r. on (AtPlace (access_of l d) (shape_of l.shapes d)) r.end stack)
   needs Quiet (Perform (Do s)) p stack a = part (DoPart active s p stack a) (λ r. on Quiet r.end [])
   needs Quiet (Perform (Passing q done left)) p stack a = part (PassingPart active q done left p stack) (λ r. on Quiet r.serve.end [])
   needs Quiet (Perform (Until body e)) p stack a = part (UntilPart active body e p stack a) (λ r. on Quiet r.did.end [])
-  needs (Direct offset j) (Fill Get) p stack a = part (GetPart active offset p stack) (λ r. on (ValueOf (base_of j)) r.end stack)
-  needs (Direct offset j) (Fill (SetTo k e)) p stack a = part (SetPart active offset j k e p stack) (λ r. on Quiet r.end [])
-  needs (Direct offset j) (Fill (ChangeBy down k e)) p stack a = part (ChangeByPart active offset j down k e p stack) (λ r. on Quiet r.end [])
+  needs (AtPlace b t) (Fill Get) p stack a = part (GetPart active b t p stack) (λ r. on (ValueOf (base_of r.kind)) r.end stack)
+  needs (AtPlace b t) (Fill (PartOf i)) p stack a = part (is_there (part_at t (i ∷ [])) ≡ true) (λ r. on (AtPlace (further (offset t (i ∷ [])) b) (part_at t (i ∷ []))) p stack)
+  needs (AtPlace b t) (Fill (IndexBy k e)) p stack a = part (IndexByPart active b t k e p stack) (λ r. on (AtPlace OnTop (element_of t)) r.end stack)
+  needs (AtPlace b t) (Fill (SetTo k e)) p stack a = part (SetPart active b t k e p stack) (λ r. on Quiet r.end [])
+  needs (AtPlace b t) (Fill (ChangeBy down k e)) p stack a = part (ChangeByPart active b t down k e p stack) (λ r. on Quiet r.end [])
+  needs (ValueOf j) (Fill (IndexAt place k)) p stack a = part (IndexAtPart j place k p stack) (λ r. on (AtPlace OnTop r.element) r.end r.below)
   needs (ValueOf j) (Fill (ChangeAt down place k)) p stack a = part (ChangePart j down place k p stack) (λ r. on Quiet r.end [])
   needs (ValueOf j) (Fill (StoreAt place k)) p stack a = part (StorePart j place k p stack) (λ r. on Quiet r.end [])
   needs (ValueOf j) (Fill (OneOf o k)) p stack a = part (OnePart active j o k p) (λ r. on (ValueOf k) r.end stack)
@@ -444,8 +499,8 @@ module _ (ctx : Setting) where
   needs (ValueOf j) (Fill (Turn e body)) p stack a = part (TurnPart active j e body p stack a) (λ r. on Quiet r.did.end [])
   needs (ValueOf j) (Fill (Again body e)) p stack a = part (AgainPart active j body e p stack a) (λ r. on Quiet r.did.end [])
   needs (ValueOf j) (Fill (Pick arms)) p stack a = part (PickPart active j arms p stack a) (λ r. on Quiet r.did.end [])
-  needs (ValueOf j) (Fill (StartOf (Variable x) k b step body)) p stack a = part (StartPart active j x k b step body p stack a) (λ r. on Quiet r.end [])
-  needs (ValueOf j) (Fill (LimitOf (Variable x) k v step body)) p stack a = part (LimitPart j x k v step body p stack a) (λ r. on Quiet r.end [])
+  needs (ValueOf j) (Fill (StartOf x k b step body)) p stack a = part (StartPart active j x k b step body p stack a) (λ r. on Quiet r.end [])
+  needs (ValueOf j) (Fill (LimitOf x k v step body)) p stack a = part (LimitPart j x k v step body p stack a) (λ r. on Quiet r.end [])
   needs t i p stack a = never
 
   abbrev pub Waiting : Item → Reach → Reach
@@ -493,7 +548,7 @@ module _ (ctx : Setting) where
   -- the row of an item, with what is left behind it
   abbrev pub ItemWaits : Item → List Item → (Setting → Reach) → Reach
   ItemWaits (Perform (Looping body)) k rest = LoopingWaits active body (rest ctx)
-  ItemWaits (Perform (Turns d kind z step left body)) k rest = TurnsTask d kind z step left body (rest ctx)
+  ItemWaits (Perform (Turns x kind z step left body)) k rest = TurnsTask x kind z step left body (rest ctx)
   ItemWaits (Perform (End n)) k rest = EndWaits n k rest
   ItemWaits i k rest = Waiting i (rest ctx)
 

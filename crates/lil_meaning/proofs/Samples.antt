@@ -1,15 +1,15 @@
 -- Samples of the definitions, computed.
 use Rattle.std.proofs.Common.{◌≡◌, ℕ, pos, negsuc, Bool, true, false, List, [], ◌∷◌, ◌++◌, Some, None, refl}
-use Rattle.std.specs.Prelude.{Result, Ok, Err, codes}
+use Rattle.std.specs.Prelude.{Ok, Err, codes}
 use Rattle.lil_base.specs.Words.{Cardinal, Integer}
 use Rattle.lil_base.specs.declared.fault.TrapKind.TheVariants as trap
 use Rattle.lil_base.specs.declared.operator.TwoOp.TheVariants.{Equal, Less, AtLeast, Div, Mod}
 use Rattle.lil_resolved.specs.Kinds.{Kind, OfWhole, OfTruth, OfCharacter, OfRange}
-use Rattle.lil_resolved.specs.Scalars.{Number, Truth, Character, SetOf, ToObject, Nothing, value_with}
-use Rattle.lil_resolved.specs.Resolved.{Designator, Variable, Chr, Val, Expression, Constant, Statement, Assign, Change, Request, Loop, Halt, Return, For, Statements, Empty, Then, Arms, NoElse, Else, Arm, Resolved, in_order}
-use Rattle.lil_resolved.specs.Shapes.{Word}
+use Rattle.lil_resolved.specs.Scalars.{Scalar, Number, Truth, Character, SetOf, ToObject, Nothing, value_with}
+use Rattle.lil_resolved.specs.Resolved.{Designator, Variable, Field, Element, Chr, Val, Expression, Constant, Taken, Statement, Assign, Change, Request, Loop, Halt, Return, For, Statements, Empty, Then, Arms, NoElse, Else, Arm, Resolved, in_order}
+use Rattle.lil_resolved.specs.Shapes.{Shape, Word, Row, fields_of}
 use Rattle.lil_meaning.specs.Cells.{Global, got}
-use Rattle.lil_meaning.specs.World.{World, Single, piece_of, Stream, Channel, OpenBy, Closed, closing, all_closed}
+use Rattle.lil_meaning.specs.World.{World, Single, piece_of, Stream, Channel, OpenBy, Closed, all_closed}
 use Rattle.lil_meaning.specs.Items.{Looping, Turns, Item, Perform, Ended, Trapped}
 use Rattle.lil_meaning.specs.Steps.{applied, function_value, chosen, turns, exited}
 use Rattle.lil_meaning.specs.Runs.{state_of}
@@ -63,8 +63,8 @@ no_arm : (a b : Statements) → chosen (arms a b NoElse) (pos 7) ≡ None
 no_arm a b = refl
 
 -- ---- EXIT leaves all that stands before the end of the LOOP around, and that end
-out_of_turns : (d : Designator) (kind : Kind) (body inner : Statements) (k : List Item) → exited (Perform (Turns d kind (pos 2) (pos 1) 7 body) ∷ Perform (Looping inner) ∷ k) ≡ k
-out_of_turns d kind body inner k = refl
+out_of_turns : (x : ℕ) (kind : Kind) (body inner : Statements) (k : List Item) → exited (Perform (Turns x kind (pos 2) (pos 1) 7 body) ∷ Perform (Looping inner) ∷ k) ≡ k
+out_of_turns x kind body inner k = refl
 
 -- ---- whole runs, in a world where nothing is open
 abbrev idle : World → World
@@ -92,15 +92,15 @@ an_end : (w : World) → (state_of (program (writes_x ∷ [])) (idle w) 7).phase
 an_end w = refl
 
 -- a FOR without a turn leaves its variable
-no_turn : (w : World) → got (state_of (program (Assign c kc (cardinal 7) ∷ For c kc (cardinal 3) (cardinal 1) (pos 1) Empty ∷ [])) (idle w) 20).cells (record { root = Global 1 0; path = [] }) ≡ Number (pos 7)
+no_turn : (w : World) → got (state_of (program (Assign c kc (cardinal 7) ∷ For 0 kc (cardinal 3) (cardinal 1) (pos 1) Empty ∷ [])) (idle w) 20).cells (record { root = Global 1 0; path = [] }) ≡ Number (pos 7)
 no_turn w = refl
 
 -- a FOR with turns leaves the value of the last one
-last_turn : (w : World) → got (state_of (program (For c kc (cardinal 1) (cardinal 6) (pos 2) Empty ∷ [])) (idle w) 20).cells (record { root = Global 1 0; path = [] }) ≡ Number (pos 5)
+last_turn : (w : World) → got (state_of (program (For 0 kc (cardinal 1) (cardinal 6) (pos 2) Empty ∷ [])) (idle w) 20).cells (record { root = Global 1 0; path = [] }) ≡ Number (pos 5)
 last_turn w = refl
 
 -- a FOR over truth values stops where its kind has no more
-a_turn_too_many : (w : World) → (state_of (program (For c OfTruth (cardinal 0) (cardinal 2) (pos 1) Empty ∷ [])) (idle w) 20).phase ≡ Trapped (record { kind = trap.Range; «module» = []; procedure = None })
+a_turn_too_many : (w : World) → (state_of (program (For 0 OfTruth (cardinal 0) (cardinal 2) (pos 1) Empty ∷ [])) (idle w) 20).phase ≡ Trapped (record { kind = trap.Range; «module» = []; procedure = None })
 a_turn_too_many w = refl
 
 -- ---- INC, DEC, HALT and RETURN
@@ -116,6 +116,33 @@ a_halt w = refl
 
 a_return : (w : World) → (state_of (program (Loop (Then Return Empty) ∷ writes_x ∷ [])) (idle w) 20).phase ≡ Ended
 a_return w = refl
+
+-- ---- elements and fields: a place is fixed before the value, an index outside its kind traps, and other parts stay
+abbrev digit : Kind
+digit = OfRange (OfWhole Cardinal) (pos 3) (pos 5)
+
+abbrev pairs : Shape
+pairs = Row 3 (fields_of (Word OfTruth ∷ Word kc ∷ []))
+
+abbrev table : List Statement → Resolved
+table statements = record { name = []; names = (97 ∷ []) ∷ (99 ∷ []) ∷ []; variables = pairs ∷ Word kc ∷ []; procedures = []; body = in_order statements }
+
+abbrev second : Expression → Designator
+second e = Field (Element (Variable 0) digit e) 1
+
+abbrev held : World → List Statement → List ℕ → Scalar
+held w statements path = got (state_of (table statements) (idle w) 60).cells (record { root = Global 1 0; path = path })
+
+an_element : (w : World) → held w (Assign (second (cardinal 4)) kc (cardinal 7) ∷ []) (1 ∷ 1 ∷ []) ∷ held w (Assign (second (cardinal 4)) kc (cardinal 7) ∷ []) (1 ∷ 0 ∷ []) ∷ held w (Assign (second (cardinal 4)) kc (cardinal 7) ∷ []) (0 ∷ 1 ∷ []) ∷ []
+    ≡ Number (pos 7) ∷ Truth false ∷ Number (pos 0) ∷ []
+an_element w = refl
+
+no_element : (w : World) → (state_of (table (Assign (second (cardinal 6)) kc (cardinal 7) ∷ [])) (idle w) 30).phase ≡ Trapped (record { kind = trap.Range; «module» = []; procedure = None })
+no_element w = refl
+
+an_index_that_changes : (w : World)
+    → held w (Assign (Variable 1) kc (cardinal 3) ∷ Change false (second (Taken (Variable 1) kc)) kc (cardinal 2) ∷ Assign (second (cardinal 5)) kc (Taken (second (Taken (Variable 1) kc)) kc) ∷ []) (2 ∷ 1 ∷ []) ≡ Number (pos 2)
+an_index_that_changes w = refl
 
 -- ---- the end of a level closes its stream first, and then its channels, a step each; a channel of another level stays
 abbrev stream : Stream

@@ -1,9 +1,8 @@
 -- Cells: what each variable and object holds, by its root and the fields and positions from there.
-use Rattle.std.specs.Prelude.{ℕ, zero, suc, ◌==◌, Bool, false, ◌&&◌, List, [], ◌∷◌, Option, Some, None, slice_get, option_and_then, if◌then◌else◌}
-use Rattle.lil_resolved.specs.Kinds.{Kind}
+use Rattle.std.specs.Prelude.{ℕ, zero, suc, ◌==◌, Bool, false, ◌&&◌, List, [], ◌∷◌, ◌++◌, Option, Some, None, slice_get, option_and_then, if◌then◌else◌}
 use Rattle.lil_resolved.specs.Scalars.{Scalar, Nothing, zero_of}
 use Rattle.lil_resolved.specs.Resolved.{Resolved}
-use Rattle.lil_resolved.specs.Shapes.{Shape, Absent, Word, part_at}
+use Rattle.lil_resolved.specs.Shapes.{Shape, Absent, Word, part_at, shape_at}
 
 -- a variable of a module that is loaded, a variable of an activation, or an object
 pub data Root : Type 0 where
@@ -14,6 +13,10 @@ pub data Root : Type 0 where
 pub record Place : Type 0 where
   pub root : Root
   pub path : List ℕ
+
+-- a field of a place, or an element of it, by its number from 0
+abbrev pub part_of : Place → ℕ → Place
+part_of p x = record { root = p.root; path = p.path ++ x ∷ [] }
 
 abbrev pub Cells : Type 0
 Cells = Root → List ℕ → Scalar
@@ -64,13 +67,9 @@ abbrev pub variables_of : Option Resolved → List Shape
 variables_of None = []
 variables_of (Some m) = m.variables
 
-abbrev pub shape_by : Option Shape → Shape
-shape_by None = Absent
-shape_by (Some t) = t
-
 -- the shapes of the roots that live where the first level begins: the variables of its modules
 abbrev pub first_shape : List Resolved → List ℕ → Root → Shape
-first_shape library loaded (Global m x) = shape_by (slice_get (variables_of (loaded_at library loaded m)) x)
+first_shape library loaded (Global m x) = shape_at (variables_of (loaded_at library loaded m)) x
 first_shape library loaded (Local a x) = Absent
 first_shape library loaded (Object o) = Absent
 

@@ -1,7 +1,7 @@
 -- Laws of closings: how many are left, and that they show nothing.
-use Rattle.std.proofs.Common.{◌≡◌, ℕ, zero, suc, ◌+◌, ◌==◌, Bool, true, false, if◌then◌else◌, List, [], ◌∷◌, Option, Some, None, refl, sym, ap, ◌∙◌, subst, arith}
+use Rattle.std.proofs.Common.{◌≡◌, ℕ, zero, suc, ◌==◌, Bool, true, false, if◌then◌else◌, List, [], ◌∷◌, Option, Some, None, refl, sym, ap, ◌∙◌, subst, arith}
 use Rattle.std.specs.Prelude.{option_map}
-use Rattle.lil_meaning.specs.World.{World, Stream, Channel, OpenBy, Closed, stream_of, other_streams, written_back, is_open, first_shut, closed_channel, closed_stream, closing, streams_open, channels_open, closings_left, or_else, closed_once, closed_times, all_closed}
+use Rattle.lil_meaning.specs.World.{World, Stream, Channel, Closed, stream_of, other_streams, written_back, is_open, first_shut, closed_channel, closed_stream, closing, streams_open, channels_open, closings_left, or_else, closed_once, closed_times, all_closed}
 
 -- one more where it is open
 abbrev counted : Bool → ℕ → ℕ

@@ -20,6 +20,12 @@ pub data Datum : Type 0 where
 pub data Hole : Type 0 where
   -- the scalar at ·
   Get : Hole
+  -- a field of the place ·
+  Part : (i : ℕ) → Hole
+  -- the element of the place · by an index of a kind
+  IndexBy : (k : Kind) (e : Expression) → Hole
+  -- the element of the place by the index ·
+  IndexAt : (p : Place) (k : Kind) → Hole
   -- e goes to the place ·, of this kind
   SetTo : (k : Kind) (e : Expression) → Hole
   -- · goes to the place
@@ -48,10 +54,10 @@ pub data Hole : Type 0 where
   Again : (body : Statements) (c : Expression) → Hole
   -- the arm with the label ·
   Pick : (arms : Arms) → Hole
-  -- FOR d := · TO b BY step DO body END
-  StartOf : (d : Designator) (k : Kind) (b : Expression) (step : ℤ) (body : Statements) → Hole
-  -- FOR d := v TO · BY step DO body END
-  LimitOf : (d : Designator) (k : Kind) (v : Scalar) (step : ℤ) (body : Statements) → Hole
+  -- FOR x := · TO b BY step DO body END
+  StartOf : (x : ℕ) (k : Kind) (b : Expression) (step : ℤ) (body : Statements) → Hole
+  -- FOR x := v TO · BY step DO body END
+  LimitOf : (x : ℕ) (k : Kind) (v : Scalar) (step : ℤ) (body : Statements) → Hole
 
 -- the items without one
 pub data Task : Type 0 where
@@ -63,7 +69,7 @@ pub data Task : Type 0 where
   -- the end of a LOOP's body, which begins again
   Looping : (body : Statements) → Task
   -- so many turns of a FOR, the next one with this value
-  Turns : (d : Designator) (k : Kind) (x step : ℤ) (left : ℕ) (body : Statements) → Task
+  Turns : (x : ℕ) (k : Kind) (z step : ℤ) (left : ℕ) (body : Statements) → Task
   -- closes the items of an activation
   End : (a : ℕ) → Task
 

@@ -11,12 +11,12 @@ use Rattle.lil_base.specs.declared.operator.OneOp.{OneOp}
 use Rattle.lil_base.specs.declared.operator.OneOp.TheVariants as one
 use Rattle.lil_base.specs.declared.operator.TwoOp.{TwoOp}
 use Rattle.lil_base.specs.declared.operator.TwoOp.TheVariants.{Equal, Unequal, Less, AtMost, Greater, AtLeast, Plus, Minus, Times, Div, Mod}
-use Rattle.lil_resolved.specs.Kinds.{Kind, OfWhole, OfTruth, OfCharacter, OfEnumeration, OfRange}
+use Rattle.lil_resolved.specs.Kinds.{Kind, OfWhole, OfTruth, OfCharacter, OfEnumeration, OfRange, position}
 use Rattle.lil_resolved.specs.Scalars.{Scalar, Number, Truth, Character, Nothing, within, scalar_word, value_with, ordinal_of, truth_number, truth_of}
-use Rattle.lil_resolved.specs.Resolved.{Designator, Variable, Function, Abs, Cap, Chr, Odd, Ord, Val, Expression, Constant, Taken, One, Two, Short, Apply, Label, Statement, Assign, Change, Request, If, Case, While, Repeat, Loop, Exit, Halt, Return, For, Statements, Arms, NoElse, Else, Arm, Procedure, Resolved, counted_as}
-use Rattle.lil_meaning.specs.Cells.{Global, Place, stored, got, alone, loaded_at}
+use Rattle.lil_resolved.specs.Resolved.{Designator, Variable, Field, Element, Function, Abs, Cap, Chr, Odd, Ord, Val, Expression, Constant, Taken, One, Two, Short, Apply, Label, Statement, Assign, Change, Request, If, Case, While, Repeat, Loop, Exit, Halt, Return, For, Statements, Arms, NoElse, Else, Arm, Procedure, Resolved, counted_as}
+use Rattle.lil_meaning.specs.Cells.{Global, Place, part_of, stored, got, alone, loaded_at}
 use Rattle.lil_meaning.specs.World.{World, Given, Single, Text, serve, closing}
-use Rattle.lil_meaning.specs.Items.{Datum, Scalars, Places, Hole, Get, SetTo, StoreAt, ChangeBy, ChangeAt, OneOf, LeftOf, RightOf, ShortOf, ApplyTo, Pass, Choose, Turn, Again, Pick, StartOf, LimitOf, Task, Do, Passing, Until, Looping, Turns, End, Item, Value, Evaluate, PlaceOf, Fill, Perform, doing, Activation, Parked, Level, Phase, Going, Closing, Ended, Trapped, Source}
+use Rattle.lil_meaning.specs.Items.{Datum, Scalars, Places, Hole, Get, Part, IndexBy, IndexAt, SetTo, StoreAt, ChangeBy, ChangeAt, OneOf, LeftOf, RightOf, ShortOf, ApplyTo, Pass, Choose, Turn, Again, Pick, StartOf, LimitOf, Task, Do, Passing, Until, Looping, Turns, End, Item, Value, Evaluate, PlaceOf, Fill, Perform, doing, Activation, Parked, Level, Phase, Going, Closing, Ended, Trapped, Source}
 
 -- the activation at hand: that of the nearest end
 abbrev pub current : List Item → ℕ
@@ -214,6 +214,8 @@ variable_place s x = record { root = Global (module_now s) x; path = [] }
 
 abbrev pub placed : Designator → List Item → Source → Source
 placed (Variable x) k s = with_items s (Value (Places (variable_place s x)) ∷ k)
+placed (Field d i) k s = with_items s (PlaceOf d ∷ Fill (Part i) ∷ k)
+placed (Element d kind e) k s = with_items s (PlaceOf d ∷ Fill (IndexBy kind e) ∷ k)
 
 abbrev pub evaluated : Expression → List Item → Source → Source
 evaluated (Constant kind v) k s = with_items s (Value (Scalars v) ∷ k)
@@ -248,13 +250,9 @@ abbrev pub turned_with : List Resolved → Option Scalar → ℕ → Statements 
 turned_with library (Some v) x body k s = record s { items = doing body k; cells = stored s.cells (variable_place s x) (alone v) }
 turned_with library None x body k s = trapped library s trap.Range
 
-abbrev pub turned : List Resolved → Designator → Kind → ℤ → ℤ → ℕ → Statements → List Item → Source → Source
-turned library (Variable x) kind z step left body k s =
-    turned_with library (value_with kind z) x body (Perform (Turns (Variable x) kind (z +ℤ step) step left body) ∷ k) s
-
-abbrev pub turned_on : List Resolved → Designator → Kind → ℤ → ℤ → ℕ → Statements → List Item → Source → Source
-turned_on library d kind z step zero body k s = with_items s k
-turned_on library d kind z step (suc left) body k s = turned library d kind z step left body k s
+abbrev pub turned_on : List Resolved → ℕ → Kind → ℤ → ℤ → ℕ → Statements → List Item → Source → Source
+turned_on library x kind z step zero body k s = with_items s k
+turned_on library x kind z step (suc left) body k s = turned_with library (value_with kind z) x body (Perform (Turns x kind (z +ℤ step) step left body) ∷ k) s
 
 -- whether the left operand decides
 abbrev pub decided : Bool → Bool → Bool
@@ -263,6 +261,7 @@ decided false b = not b
 
 -- a scalar goes into a hole
 abbrev pub filled : List Resolved → Hole → Scalar → List Item → Source → Source
+filled library (IndexAt p kind) v k s = if within kind v then with_items s (Value (Places (part_of p (position kind (ordinal_of v)))) ∷ k) else trapped library s trap.Range
 filled library (StoreAt p kind) v k s = if within kind v then record s { items = k; cells = stored s.cells p (alone v) } else trapped library s trap.Range
 filled library (ChangeAt down p kind) v k s = stored_with library p (value_of kind (changed down (counted_as kind) (ordinal_of (got s.cells p)) (whole_of v))) k s
 filled library (OneOf o kind) v k s = answered library (one_applied o kind v) k s
@@ -275,13 +274,15 @@ filled library (Choose a b) v k s = with_items s (if truth_of v then doing a k e
 filled library (Turn c body) v k s = with_items s (if truth_of v then doing body (Perform (Do (While c body)) ∷ k) else k)
 filled library (Again body c) v k s = with_items s (if truth_of v then k else Perform (Do (Repeat body c)) ∷ k)
 filled library (Pick arms) v k s = picked library (chosen arms (ordinal_of v)) k s
-filled library (StartOf d kind b step body) v k s = with_items s (Evaluate b ∷ Fill (LimitOf d kind v step body) ∷ k)
-filled library (LimitOf d kind u step body) v k s = with_items s (Perform (Turns d kind (ordinal_of u) step (turns (ordinal_of u) (ordinal_of v) step) body) ∷ k)
+filled library (StartOf x kind b step body) v k s = with_items s (Evaluate b ∷ Fill (LimitOf x kind v step body) ∷ k)
+filled library (LimitOf x kind u step body) v k s = with_items s (Perform (Turns x kind (ordinal_of u) step (turns (ordinal_of u) (ordinal_of v) step) body) ∷ k)
 filled library _ v k s = s
 
 -- a place goes into a hole
 abbrev pub filled_place : Hole → Place → List Item → Source → Source
 filled_place Get p k s = with_items s (Value (Scalars (got s.cells p)) ∷ k)
+filled_place (Part i) p k s = with_items s (Value (Places (part_of p i)) ∷ k)
+filled_place (IndexBy kind e) p k s = with_items s (Evaluate e ∷ Fill (IndexAt p kind) ∷ k)
 filled_place (SetTo kind e) p k s = with_items s (Evaluate e ∷ Fill (StoreAt p kind) ∷ k)
 filled_place (ChangeBy down kind e) p k s = with_items s (Evaluate e ∷ Fill (ChangeAt down p kind) ∷ k)
 filled_place _ p k s = s
@@ -303,7 +304,7 @@ did library (Change down d kind e) k s = with_items s (PlaceOf d ∷ Fill (Chang
 did library Halt k s = trapped library s trap.Halted
 did library Return k s = with_items s (returned k)
 did library Exit k s = with_items s (exited k)
-did library (For d kind a b step body) k s = with_items s (Evaluate a ∷ Fill (StartOf d kind b step body) ∷ k)
+did library (For x kind a b step body) k s = with_items s (Evaluate a ∷ Fill (StartOf x kind b step body) ∷ k)
 
 -- what a request is given of a datum; those that aren't scalars get theirs with the requests that take them
 abbrev pub given_of : Datum → Given
@@ -324,7 +325,7 @@ performed library (Passing r done []) k s = served done (serve (level_of s) r (m
 performed library (Passing r done (a ∷ left)) k s = with_items s (Evaluate a.value ∷ Fill (Pass r a.kind done left) ∷ k)
 performed library (Until body c) k s = with_items s (Evaluate c ∷ Fill (Again body c) ∷ k)
 performed library (Looping body) k s = with_items s (doing body (Perform (Looping body) ∷ k))
-performed library (Turns d kind x step left body) k s = turned_on library d kind x step left body k s
+performed library (Turns x kind z step left body) k s = turned_on library x kind z step left body k s
 performed library (End a) k s = with_items s k
 
 -- a value goes into the next item

@@ -1,4 +1,4 @@
--- How deep an operator on two expressions is, and a chain.
+-- How deep an operator on two expressions is, a chain, and a place.
 use Rattle.std.proofs.Common.{◌≡◌, ℕ, ◌+◌, ◌<◌, max, Bool, true, false, ◌&&◌, if◌then◌else◌, List, [], ◌∷◌, map, drop, length, get_or, refl, sym, ap, ◌∙◌, arith}
 use Rattle.std.proofs.lemmas.List.{drop_more}
 use Rattle.lil_base.specs.declared.operator.TwoOp.{TwoOp}
@@ -6,12 +6,19 @@ use Rattle.lil_base.specs.declared.operator.TwoOp.TheVariants.{And}
 use Rattle.lil_resolved.specs.declared.resolved.RExpr.{RExpr}
 use Rattle.lil_resolved.specs.declared.resolved.RExpr.TheVariants as e
 use Rattle.lil_resolved.specs.declared.resolved.ROperation.{ROperation, out-ROperation}
+use Rattle.lil_resolved.specs.declared.resolved.RExpr.TheOpen as x
+use Rattle.lil_resolved.specs.declared.resolved.RExpr.TheOpen.{RSelector-F}
+use Rattle.lil_resolved.specs.declared.resolved.RExpr.TheFolds.{map-RSelector}
+use Rattle.lil_resolved.specs.declared.resolved.RKind.{RKind}
+use Rattle.lil_resolved.specs.declared.resolved.RPlace.{RPlace, out-RPlace}
+use Rattle.lil_resolved.specs.declared.resolved.RSelector.{RSelector, out-RSelector}
+use Rattle.lil_resolved.specs.declared.resolved.RSelector.TheVariants as l
 use Rattle.lil_resolved.specs.Kinds.{Kind, OfTruth}
-use Rattle.lil_resolved.specs.Resolved.{Expression, kind_of}
-use Rattle.lil_resolved.specs.Depth.{depth}
-use Rattle.lil_resolved.specs.Chains.{operations_depth, is_arithmetic, all_arithmetic}
-use Rattle.lil_resolved.specs.Forms.{chain_is, operation_is}
-use Rattle.lil_resolved.specs.Views.{two_of, chained, expression_of, operation_of}
+use Rattle.lil_resolved.specs.Resolved.{Designator, Variable, Field, Element, Expression, kind_of}
+use Rattle.lil_resolved.specs.Depth.{place_depth, depth}
+use Rattle.lil_resolved.specs.Chains.{operations_depth, is_arithmetic, all_arithmetic, selector_depth, selector_depth_in, selectors_depth}
+use Rattle.lil_resolved.specs.Forms.{chain_is, operation_is, place_is, selector_is}
+use Rattle.lil_resolved.specs.Views.{two_of, chained, selected, selector_layer, expression_of, selector_of, operation_of, place_of}
 
 two_depth : (o : TwoOp) (a b : Expression) → depth (two_of o a b) ≡ max (depth a) (1 + depth b)
 two_depth And a b = refl
@@ -57,3 +64,25 @@ operations_left os i o inside is = ap operations_depth (drop_more os i o inside 
 pub arithmetic_left : (os : List ROperation) (i : ℕ) (o : ROperation) → i < length os → o ≡ get_or os i o
     → all_arithmetic (drop i os) ≡ (is_arithmetic (out-ROperation o).operator && all_arithmetic (drop (i + 1) os))
 arithmetic_left os i o inside is = ap all_arithmetic (drop_more os i o inside ∙ ap (λ y. y ∷ drop (i + 1) os) (sym is))
+
+-- ---- places
+layer_depth : (y : RSelector-F RExpr RSelector ROperation RPlace) (d : Designator)
+    → place_depth (selector_layer (map-RSelector RExpr RSelector ROperation RPlace Expression (Designator → Designator) (Expression → Expression) Designator expression_of selector_of operation_of place_of y) d)
+    ≡ max (place_depth d) (selector_depth_in y)
+layer_depth (x.Field i) d = omega arith
+layer_depth (x.Index k e) d = refl
+
+one_selected : (s : RSelector) (d : Designator) → place_depth (selector_of s d) ≡ max (place_depth d) (selector_depth s)
+one_selected s d = ap place_depth (selector_is s d) ∙ layer_depth (out-RSelector s) d
+
+selected_depth : (d : Designator) (ss : List RSelector) → place_depth (selected d (map selector_of ss)) ≡ max (place_depth d) (selectors_depth ss)
+selected_depth d [] = omega arith
+selected_depth d (s ∷ ss) = omega (arith, selected_depth (selector_of s d) ss, one_selected s d)
+
+pub place_is_deep : (p : RPlace) → place_depth (place_of p) ≡ max 1 (selectors_depth (out-RPlace p).selectors)
+place_is_deep p = ap place_depth (place_is p) ∙ selected_depth (Variable (out-RPlace p).number) (out-RPlace p).selectors
+
+-- what is left of selectors from one on
+pub selectors_left : (ss : List RSelector) (i : ℕ) (s : RSelector) → i < length ss → s ≡ get_or ss i s
+    → selectors_depth (drop i ss) ≡ max (selector_depth s) (selectors_depth (drop (i + 1) ss))
+selectors_left ss i s inside is = ap selectors_depth (drop_more ss i s inside ∙ ap (λ y. y ∷ drop (i + 1) ss) (sym is))

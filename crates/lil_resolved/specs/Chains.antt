@@ -1,10 +1,15 @@
--- What the operations of a chain add to it.
+-- What the operations of a chain, and the selectors of a place, add to it.
 use Rattle.std.specs.Prelude.{ℕ, ◌+◌, max, Bool, true, false, ◌&&◌, List, [], ◌∷◌}
 use Rattle.lil_base.specs.declared.operator.TwoOp.{TwoOp}
 use Rattle.lil_base.specs.declared.operator.TwoOp.TheVariants.{Plus, Minus, Times, Slash, Div, Mod}
 use Rattle.lil_resolved.specs.Depth.{depth}
 use Rattle.lil_resolved.specs.Views.{expression_of}
+use Rattle.lil_resolved.specs.declared.resolved.RExpr.{RExpr}
+use Rattle.lil_resolved.specs.declared.resolved.RExpr.TheOpen as x
+use Rattle.lil_resolved.specs.declared.resolved.RExpr.TheOpen.{RSelector-F}
 use Rattle.lil_resolved.specs.declared.resolved.ROperation.{ROperation, out-ROperation}
+use Rattle.lil_resolved.specs.declared.resolved.RPlace.{RPlace}
+use Rattle.lil_resolved.specs.declared.resolved.RSelector.{RSelector, out-RSelector}
 
 -- how many words of the expression stack operations take, where each holds what stands before it
 abbrev pub operations_depth : List ROperation → ℕ
@@ -24,3 +29,15 @@ is_arithmetic _ = false
 abbrev pub all_arithmetic : List ROperation → Bool
 all_arithmetic [] = true
 all_arithmetic (o ∷ os) = is_arithmetic (out-ROperation o).operator && all_arithmetic os
+
+-- how many words of the expression stack a selector takes beside what stands before it
+abbrev pub selector_depth_in : RSelector-F RExpr RSelector ROperation RPlace → ℕ
+selector_depth_in (x.Field i) = 0
+selector_depth_in (x.Index k e) = 2 + depth (expression_of e)
+
+abbrev pub selector_depth : RSelector → ℕ
+selector_depth s = selector_depth_in (out-RSelector s)
+
+abbrev pub selectors_depth : List RSelector → ℕ
+selectors_depth [] = 0
+selectors_depth (s ∷ ss) = max (selector_depth s) (selectors_depth ss)

@@ -1,20 +1,26 @@
 -- The words that a body takes: those of the expression stack, and those of its frame.
 use Rattle.std.specs.Prelude.{ℕ, ◌+◌, ◌*◌, max}
-use Rattle.lil_resolved.specs.Resolved.{Function, Odd, Expression, Constant, Taken, One, Two, Short, Apply, Statement, Assign, Change, Request, If, Case, While, Repeat, Loop, Exit, Halt, Return, For, Statements, Empty, Then, Arms, NoElse, Else, Arm}
+use Rattle.lil_resolved.specs.Resolved.{Designator, Variable, Field, Element, Function, Odd, Expression, Constant, Taken, One, Two, Short, Apply, Statement, Assign, Change, Request, If, Case, While, Repeat, Loop, Exit, Halt, Return, For, Statements, Empty, Then, Arms, NoElse, Else, Arm}
 
 -- how many words of the expression stack the code of a standard function takes, its argument's included
 abbrev pub function_depth : Function → ℕ
 function_depth Odd = 2
 function_depth _ = 1
 
--- how many words of the expression stack an expression takes
-abbrev pub depth : Expression → ℕ
-depth (Constant k v) = 1
-depth (Taken d k) = 1
-depth (One o k a) = depth a
-depth (Two o k a b) = max (depth a) (1 + depth b)
-depth (Short d a b) = max (depth a) (1 + depth b)
-depth (Apply f a) = max (depth a) (function_depth f)
+-- how many words of the expression stack a place and an expression take
+abbrev mutual
+  pub place_depth : Designator → ℕ
+  place_depth (Variable x) = 1
+  place_depth (Field d i) = place_depth d
+  place_depth (Element d k e) = max (place_depth d) (2 + depth e)
+
+  pub depth : Expression → ℕ
+  depth (Constant k v) = 1
+  depth (Taken d k) = place_depth d
+  depth (One o k a) = depth a
+  depth (Two o k a b) = max (depth a) (1 + depth b)
+  depth (Short d a b) = max (depth a) (1 + depth b)
+  depth (Apply f a) = max (depth a) (function_depth f)
 
 -- how many FORs stand in statements, in one another too
 abbrev mutual
@@ -30,7 +36,7 @@ abbrev mutual
   statement_loops Exit = 0
   statement_loops Halt = 0
   statement_loops Return = 0
-  statement_loops (For d k a b step body) = 1 + body_loops body
+  statement_loops (For x k a b step body) = 1 + body_loops body
 
   pub body_loops : Statements → ℕ
   body_loops Empty = 0

@@ -1,13 +1,17 @@
--- What each form of expression, an operation, each form of statement, a guard and an arm are.
-use Rattle.std.proofs.Common.{◌≡◌, ℤ, List, map, Option, None, Some, sym, ap, ◌∙◌}
+-- What each form of expression, an operation, a place, each form of selector and of statement, a guard and an arm are.
+use Rattle.std.proofs.Common.{◌≡◌, ℕ, ℤ, List, map, Option, None, Some, sym, ap, ◌∙◌}
 use Rattle.lil_base.specs.declared.operator.OneOp.{OneOp}
 use Rattle.lil_resolved.specs.declared.resolved.RExpr.{RExpr}
 use Rattle.lil_resolved.specs.declared.resolved.RExpr.TheVariants as e
 use Rattle.lil_resolved.specs.declared.resolved.RExpr.TheOpen as x
-use Rattle.lil_resolved.specs.declared.resolved.RExpr.TheOpen.{RExpr-F}
-use Rattle.lil_resolved.specs.declared.resolved.RExpr.TheFolds.{map-RExpr, fold-roll-RExpr, fold_out-ROperation}
-use Rattle.lil_resolved.specs.declared.resolved.RExpr.TheViews.{roll-RExpr}
+use Rattle.lil_resolved.specs.declared.resolved.RExpr.TheOpen.{RExpr-F, RSelector-F}
+use Rattle.lil_resolved.specs.declared.resolved.RExpr.TheFolds.{map-RExpr, map-RSelector, fold-roll-RExpr, fold-roll-RSelector, fold_out-RSelector, fold_out-ROperation, fold_out-RPlace}
+use Rattle.lil_resolved.specs.declared.resolved.RExpr.TheViews.{roll-RExpr, roll-RSelector}
 use Rattle.lil_resolved.specs.declared.resolved.ROperation.{ROperation, out-ROperation}
+use Rattle.lil_resolved.specs.declared.resolved.RPlace.{RPlace, out-RPlace}
+use Rattle.lil_resolved.specs.declared.resolved.RSelector.{RSelector, out-RSelector}
+use Rattle.lil_resolved.specs.declared.resolved.RSelector.TheVariants as l
+use Rattle.lil_resolved.specs.declared.resolved.RKind.{RKind}
 use Rattle.lil_resolved.specs.declared.resolved.RStmt.{RStmt}
 use Rattle.lil_resolved.specs.declared.resolved.RStmt.TheVariants as s
 use Rattle.lil_resolved.specs.declared.resolved.RStmt.TheOpen as o
@@ -23,18 +27,18 @@ use Rattle.lil_resolved.specs.declared.resolved.RRequest.{RRequest}
 use Rattle.lil_resolved.specs.declared.resolved.Direction.{Direction}
 use Rattle.lil_resolved.specs.declared.resolved.RArgument.{RArgument}
 use Rattle.lil_resolved.specs.Scalars.{scalar_of}
-use Rattle.lil_resolved.specs.Resolved.{Expression, Constant, Taken, Apply, Assign, Change, Request, If, Case, While, Repeat, Loop, Exit, Halt, Return, For, Statements, Empty, Then, Arms, Arm, kind_of}
-use Rattle.lil_resolved.specs.Views.{base_view, variable_of, variable_kind, function_of, request_number, is_down, argument_of, one_of, two_of, chained, expression_layer, operation_layer, expression_of, operation_of, label_of, statement_layer, arm_layer, guard_layer, statement_of, arm_of, guard_of, statements_of, guards_of, arms_of}
+use Rattle.lil_resolved.specs.Resolved.{Designator, Variable, Field, Element, Expression, Constant, Taken, Apply, Assign, Change, Request, If, Case, While, Repeat, Loop, Exit, Halt, Return, For, Statements, Empty, Then, Arms, Arm, kind_of}
+use Rattle.lil_resolved.specs.Views.{base_view, kind_view, variable_kind, function_of, request_number, is_down, argument_of, one_of, two_of, chained, selected, expression_layer, selector_layer, operation_layer, place_layer, expression_of, selector_of, operation_of, place_of, label_of, statement_layer, arm_layer, guard_layer, statement_of, arm_of, guard_of, statements_of, guards_of, arms_of}
 
 -- a layer's value comes from the values of its parts
-rolled_value : (y : RExpr-F RExpr ROperation) → expression_of (roll-RExpr y) ≡ expression_layer (map-RExpr RExpr ROperation Expression (Expression → Expression) expression_of operation_of y)
-rolled_value = fold-roll-RExpr Expression (Expression → Expression) expression_layer operation_layer
+rolled_value : (y : RExpr-F RExpr RSelector ROperation RPlace) → expression_of (roll-RExpr y) ≡ expression_layer (map-RExpr RExpr RSelector ROperation RPlace Expression (Designator → Designator) (Expression → Expression) Designator expression_of selector_of operation_of place_of y)
+rolled_value = fold-roll-RExpr Expression (Designator → Designator) (Expression → Expression) Designator expression_layer selector_layer operation_layer place_layer
 
 pub constant_is : (b : RBase) (z : ℤ) → expression_of (e.Constant b z) ≡ Constant (base_view b) (scalar_of (base_view b) z)
 constant_is b z = ap expression_of (sym (e.rolls-Constant b z)) ∙ rolled_value (x.Constant b z)
 
-pub variable_is : (v : RVariable) → expression_of (e.Variable v) ≡ Taken (variable_of v) (variable_kind v)
-variable_is v = ap expression_of (sym (e.rolls-Variable v)) ∙ rolled_value (x.Variable v)
+pub taken_is : (p : RPlace) (k : RKind) → expression_of (e.Taken p k) ≡ Taken (place_of p) (kind_view k)
+taken_is p k = ap expression_of (sym (e.rolls-Taken p k)) ∙ rolled_value (x.Taken p k)
 
 pub one_is : (o : OneOp) (a : RExpr) → expression_of (e.One o a) ≡ one_of o (expression_of a)
 one_is o a = ap expression_of (sym (e.rolls-One o a)) ∙ rolled_value (x.One o a)
@@ -46,18 +50,35 @@ pub chain_is : (a : RExpr) (os : List ROperation) → expression_of (e.Chain a o
 chain_is a os = ap expression_of (sym (e.rolls-Chain a os)) ∙ rolled_value (x.Chain a os)
 
 pub operation_is : (o : ROperation) (a : Expression) → operation_of o a ≡ two_of (out-ROperation o).operator a (expression_of (out-ROperation o).operand)
-operation_is o a = ap (λ (f : Expression → Expression). f a) (fold_out-ROperation Expression (Expression → Expression) expression_layer operation_layer o)
+operation_is o a = ap (λ (f : Expression → Expression). f a) (fold_out-ROperation Expression (Designator → Designator) (Expression → Expression) Designator expression_layer selector_layer operation_layer place_layer o)
+
+pub place_is : (p : RPlace) → place_of p ≡ selected (Variable (out-RPlace p).number) (map selector_of (out-RPlace p).selectors)
+place_is = fold_out-RPlace Expression (Designator → Designator) (Expression → Expression) Designator expression_layer selector_layer operation_layer place_layer
+
+-- a layer's selector comes from those of its parts
+rolled_selector : (y : RSelector-F RExpr RSelector ROperation RPlace) → selector_of (roll-RSelector y) ≡ selector_layer (map-RSelector RExpr RSelector ROperation RPlace Expression (Designator → Designator) (Expression → Expression) Designator expression_of selector_of operation_of place_of y)
+rolled_selector = fold-roll-RSelector Expression (Designator → Designator) (Expression → Expression) Designator expression_layer selector_layer operation_layer place_layer
+
+-- a selector by its form
+pub selector_is : (s : RSelector) (d : Designator) → selector_of s d ≡ selector_layer (map-RSelector RExpr RSelector ROperation RPlace Expression (Designator → Designator) (Expression → Expression) Designator expression_of selector_of operation_of place_of (out-RSelector s)) d
+selector_is s d = ap (λ (f : Designator → Designator). f d) (fold_out-RSelector Expression (Designator → Designator) (Expression → Expression) Designator expression_layer selector_layer operation_layer place_layer s)
+
+pub field_is : (i : ℕ) (d : Designator) → selector_of (l.Field i) d ≡ Field d i
+field_is i d = ap (λ s. selector_of s d) (sym (l.rolls-Field i)) ∙ ap (λ f. f d) (rolled_selector (x.Field i))
+
+pub index_is : (k : RKind) (a : RExpr) (d : Designator) → selector_of (l.Index k a) d ≡ Element d (kind_view k) (expression_of a)
+index_is k a d = ap (λ s. selector_of s d) (sym (l.rolls-Index k a)) ∙ ap (λ f. f d) (rolled_selector (x.Index k a))
 
 -- a layer's value comes from the values of its parts
 rolled : (x : RStmt-F RStmt RArm RGuard)
     → statement_of (roll-RStmt x) ≡ statement_layer (map-RStmt RStmt RArm RGuard Statements (Arms → Arms) (Statements → Statements) statement_of arm_of guard_of x)
 rolled = fold-roll-RStmt Statements (Arms → Arms) (Statements → Statements) statement_layer arm_layer guard_layer
 
-pub assign_is : (v : RVariable) (e : RExpr) → statement_of (s.Assign v e) ≡ Then (Assign (variable_of v) (variable_kind v) (expression_of e)) Empty
-assign_is v e = ap statement_of (sym (s.rolls-Assign v e)) ∙ rolled (o.Assign v e)
+pub assign_is : (p : RPlace) (k : RKind) (e : RExpr) → statement_of (s.Assign p k e) ≡ Then (Assign (place_of p) (kind_view k) (expression_of e)) Empty
+assign_is p k e = ap statement_of (sym (s.rolls-Assign p k e)) ∙ rolled (o.Assign p k e)
 
-pub change_is : (d : Direction) (v : RVariable) (e : RExpr) → statement_of (s.Change d v e) ≡ Then (Change (is_down d) (variable_of v) (variable_kind v) (expression_of e)) Empty
-change_is d v e = ap statement_of (sym (s.rolls-Change d v e)) ∙ rolled (o.Change d v e)
+pub change_is : (d : Direction) (p : RPlace) (k : RKind) (e : RExpr) → statement_of (s.Change d p k e) ≡ Then (Change (is_down d) (place_of p) (kind_view k) (expression_of e)) Empty
+change_is d p k e = ap statement_of (sym (s.rolls-Change d p k e)) ∙ rolled (o.Change d p k e)
 
 pub request_is : (r : RRequest) (given : List RArgument) → statement_of (s.Request r given) ≡ Then (Request (request_number r) (map argument_of given)) Empty
 request_is r given = ap statement_of (sym (s.rolls-Request r given)) ∙ rolled (o.Request r given)
@@ -88,7 +109,7 @@ pub return_is : statement_of s.Return ≡ Then Return Empty
 return_is = ap statement_of (sym s.rolls-Return) ∙ rolled o.Return
 
 pub for_is : (v : RVariable) (a b : RExpr) (step : ℤ) (ss : List RStmt)
-    → statement_of (s.For v a b step ss) ≡ Then (For (variable_of v) (variable_kind v) (expression_of a) (expression_of b) step (statements_of ss)) Empty
+    → statement_of (s.For v a b step ss) ≡ Then (For v.number (variable_kind v) (expression_of a) (expression_of b) step (statements_of ss)) Empty
 for_is v a b step ss = ap statement_of (sym (s.rolls-For v a b step ss)) ∙ rolled (o.For v a b step ss)
 
 pub guard_is : (g : RGuard) (other : Statements) → guard_of g other ≡ Then (If (expression_of g.condition) (statements_of g.body) other) Empty

@@ -1,5 +1,5 @@
 -- What sort of value a scalar variable, parameter or expression has.
-use Rattle.std.specs.Prelude.{ℕ, ◌-◌, ◌==◌, nat_le, ℤ, pos, int_lt, Bool, true, false, not, ◌&&◌, if◌then◌else◌}
+use Rattle.std.specs.Prelude.{ℕ, ◌-◌, ◌==◌, nat_le, ℤ, pos, negsuc, ◌+ℤ◌, ◌-ℤ◌, int_lt, Bool, true, false, not, ◌&&◌, if◌then◌else◌}
 use Rattle.lil_base.specs.Words as words
 use Rattle.lil_base.specs.Words.{Whole, Cardinal, Integer}
 
@@ -87,3 +87,14 @@ shared_from low high = if int_lt high low then (pos 1, pos 0) else (low, high)
 
 abbrev pub shared : Kind → Kind → ℤ × ℤ
 shared k j = shared_from (larger (least k) (least j)) (lesser (greatest k) (greatest j))
+
+-- how many numbers a kind has, and how many of them come before one
+abbrev pub nat_of : ℤ → ℕ
+nat_of (pos n) = n
+nat_of (negsuc n) = 0
+
+abbrev pub numbers : Kind → ℕ
+numbers k = nat_of ((greatest k -ℤ least k) +ℤ pos 1)
+
+abbrev pub position : Kind → ℤ → ℕ
+position k z = nat_of (z -ℤ least k)

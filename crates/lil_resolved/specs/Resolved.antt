@@ -6,11 +6,7 @@ use Rattle.lil_base.specs.declared.operator.TwoOp.{TwoOp}
 use Rattle.lil_base.specs.declared.operator.TwoOp.TheVariants.{Equal, Unequal, Less, AtMost, Greater, AtLeast, In, Plus, Minus, Or, Times, Slash, Div, Mod, And}
 use Rattle.lil_resolved.specs.Kinds.{Kind, OfWhole, OfTruth, OfCharacter, base_of, compared_as}
 use Rattle.lil_resolved.specs.Scalars.{Scalar}
-use Rattle.lil_resolved.specs.Shapes.{Shape}
-
--- what names a place: a variable of the module, by its number
-pub data Designator : Type 0 where
-  Variable : (x : ℕ) → Designator
+use Rattle.lil_resolved.specs.Shapes.{Shape, part_at, shape_at, element_of}
 
 -- standard functions of one value
 pub data Function : Type 0 where
@@ -21,19 +17,29 @@ pub data Function : Type 0 where
   Ord : Function
   Val : (k : Kind) → Function
 
-pub data Expression : Type 0 where
-  Constant : (k : Kind) (v : Scalar) → Expression
-  -- the value of a kind at a place
-  Taken : (d : Designator) (k : Kind) → Expression
-  -- an operator on a value of a kind
-  One : (o : OneOp) (k : Kind) (a : Expression) → Expression
-  -- an operator on two values of a kind
-  Two : (o : TwoOp) (k : Kind) (a b : Expression) → Expression
-  -- a AND b, a OR b
-  -- the right operand counts only where the left one is not the value that decides: TRUE for OR, FALSE for AND
-  Short : (decides : Bool) (a b : Expression) → Expression
-  -- a standard function of a value
-  Apply : (f : Function) (a : Expression) → Expression
+mutual
+  -- what names a place
+  pub data Designator : Type 0 where
+    -- a variable of the module, by its number
+    Variable : (x : ℕ) → Designator
+    -- a field of a record, by its number
+    Field : (d : Designator) (i : ℕ) → Designator
+    -- an element of an array, by an index of a kind
+    Element : (d : Designator) (k : Kind) (e : Expression) → Designator
+
+  pub data Expression : Type 0 where
+    Constant : (k : Kind) (v : Scalar) → Expression
+    -- the value of a kind at a place
+    Taken : (d : Designator) (k : Kind) → Expression
+    -- an operator on a value of a kind
+    One : (o : OneOp) (k : Kind) (a : Expression) → Expression
+    -- an operator on two values of a kind
+    Two : (o : TwoOp) (k : Kind) (a b : Expression) → Expression
+    -- a AND b, a OR b
+    -- the right operand counts only where the left one is not the value that decides: TRUE for OR, FALSE for AND
+    Short : (decides : Bool) (a b : Expression) → Expression
+    -- a standard function of a value
+    Apply : (f : Function) (a : Expression) → Expression
 
 -- a value argument, with its parameter's kind
 pub record Argument : Type 0 where
@@ -63,8 +69,8 @@ mutual
     Halt : Statement
     -- RETURN in a body
     Return : Statement
-    -- FOR d := a TO b BY step DO body END
-    For : (d : Designator) (k : Kind) (a b : Expression) (step : ℤ) (body : Statements) → Statement
+    -- FOR x := a TO b BY step DO body END, with a variable of a kind
+    For : (x : ℕ) (k : Kind) (a b : Expression) (step : ℤ) (body : Statements) → Statement
 
   -- one behind another
   pub data Statements : Type 0 where
@@ -138,3 +144,9 @@ kind_of (One o k a) = k
 kind_of (Two o k a b) = result_kind (is_relation o) k
 kind_of (Short d a b) = OfTruth
 kind_of (Apply f a) = function_kind f
+
+-- what lies at the place that a designator names, over variables of these shapes
+abbrev pub shape_of : List Shape → Designator → Shape
+shape_of ts (Variable x) = shape_at ts x
+shape_of ts (Field d i) = part_at (shape_of ts d) (i ∷ [])
+shape_of ts (Element d k e) = element_of (shape_of ts d)

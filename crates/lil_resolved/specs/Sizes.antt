@@ -4,12 +4,12 @@ use Rattle.lil_base.specs.declared.operator.OneOp.{OneOp}
 use Rattle.lil_base.specs.declared.operator.OneOp.TheVariants as one
 use Rattle.lil_base.specs.declared.operator.TwoOp.{TwoOp}
 use Rattle.lil_base.specs.declared.operator.TwoOp.TheVariants.{Greater, AtLeast}
-use Rattle.lil_resolved.specs.Resolved.{Function, Abs, Cap, Chr, Odd, Ord, Val, Expression, Constant, Taken, One, Two, Short, Apply, Argument, Statement, Assign, Change, Request, If, Case, While, Repeat, Loop, Exit, Halt, Return, For, Statements, Empty, Then, Arms, NoElse, Else, Arm, Resolved, kind_of, counted_as}
+use Rattle.lil_resolved.specs.Resolved.{Designator, Variable, Field, Element, Function, Abs, Cap, Chr, Odd, Ord, Val, Expression, Constant, Taken, One, Two, Short, Apply, Argument, Statement, Assign, Change, Request, If, Case, While, Repeat, Loop, Exit, Halt, Return, For, Statements, Empty, Then, Arms, NoElse, Else, Arm, Resolved, kind_of, counted_as}
 use Rattle.lil_base.specs.Words.{Cardinal, Integer}
 use Rattle.lil_resolved.specs.Kinds.{Kind, OfWhole, OfCharacter, base_of, compared_as, covers, outside_turns}
 use Rattle.lil_resolved.specs.Shapes.{all_words}
-pub use Rattle.lil_resolved.specs.Depth.{depth, statement_loops, body_loops, arms_loops, frame_words}
-pub use Rattle.lil_resolved.specs.Sound.{is_base, is_whole, takes_one, takes_two, takes_value, takes_function, IsSoundVariable, IsSoundPlace, IsSoundExpression, IsSoundWhole, IsSoundValue, request_kinds, AreSoundArguments, IsSoundLabel, AreSoundLabels, IsStep, IsSoundStatement, IsSoundBody, AreSoundArms, IsSound}
+pub use Rattle.lil_resolved.specs.Depth.{place_depth, depth, statement_loops, body_loops, arms_loops, frame_words}
+pub use Rattle.lil_resolved.specs.Sound.{is_base, is_whole, takes_one, takes_two, takes_value, takes_function, IsSoundVariable, IsScalar, IsSoundPlace, IsSoundTarget, IsSoundExpression, IsSoundWhole, IsSoundValue, request_kinds, AreSoundArguments, IsSoundLabel, AreSoundLabels, IsStep, IsSoundStatement, IsSoundBody, AreSoundArms, IsSound}
 
 -- how many bytes the code of an operator takes
 abbrev pub one_size : OneOp → ℕ
@@ -40,14 +40,69 @@ function_size Odd k = 4
 function_size Ord k = test_size (OfWhole Cardinal) k
 function_size (Val j) k = test_size j k
 
--- how many bytes an expression's code takes
-abbrev pub size : Expression → ℕ
-size (Constant k v) = 3
-size (Taken d k) = 3
-size (One o k a) = size a + one_size o
-size (Two o k a b) = size a + size b + two_size o
-size (Short d a b) = size a + size b + 3
-size (Apply f a) = size a + function_size f (kind_of a)
+-- how code has a place: at an offset in the data of the module, by its address on the expression stack, or so many words behind that
+pub data Form : Type 0 where
+  Direct : Form
+  Exact : Form
+  Beyond : Form
+
+abbrev pub field_form : Form → Form
+field_form Direct = Direct
+field_form Exact = Beyond
+field_form Beyond = Beyond
+
+abbrev pub form_of : Designator → Form
+form_of (Variable x) = Direct
+form_of (Field d i) = field_form (form_of d)
+form_of (Element d k e) = Exact
+
+-- how many bytes it takes to bring its address to the expression stack, to load its word, to make it ready for a store, and to store
+abbrev pub address_size : Form → ℕ
+address_size Direct = 3
+address_size Exact = 0
+address_size Beyond = 3
+
+abbrev pub load_size : Form → ℕ
+load_size Direct = 3
+load_size Exact = 1
+load_size Beyond = 3
+
+abbrev pub ready_size : Form → ℕ
+ready_size Direct = 0
+ready_size Exact = 0
+ready_size Beyond = 3
+
+abbrev pub store_size : Form → ℕ
+store_size Direct = 3
+store_size _ = 1
+
+-- to keep a place that is ready for a second use, and then to load its word below the topmost one
+abbrev pub again_size : Form → ℕ
+again_size Direct = 0
+again_size _ = 1
+
+abbrev pub under_size : Form → ℕ
+under_size Direct = 4
+under_size _ = 3
+
+-- how many bytes the code of a place and of an expression takes
+abbrev mutual
+  pub place_size : Designator → ℕ
+  place_size (Variable x) = 0
+  place_size (Field d i) = place_size d
+  place_size (Element d k e) = place_size d + address_size (form_of d) + size e + test_size k (kind_of e) + 5
+
+  pub size : Expression → ℕ
+  size (Constant k v) = 3
+  size (Taken d k) = place_size d + load_size (form_of d)
+  size (One o k a) = size a + one_size o
+  size (Two o k a b) = size a + size b + two_size o
+  size (Short d a b) = size a + size b + 3
+  size (Apply f a) = size a + function_size f (kind_of a)
+
+-- the code of a place that is ready for a store
+abbrev pub target_size : Designator → ℕ
+target_size d = place_size d + ready_size (form_of d)
 
 abbrev pub arguments_size : List Argument → ℕ
 arguments_size [] = 0
@@ -56,8 +111,9 @@ arguments_size (a ∷ given) = size a.value + test_size a.kind (kind_of a.value)
 -- how many bytes the code of a statement takes
 abbrev mutual
   pub statement_size : Statement → ℕ
-  statement_size (Assign d k e) = size e + test_size k (kind_of e) + 3
-  statement_size (Change down d k e) = size e + 5 + test_size k (OfWhole (counted_as k)) + 3
+  statement_size (Assign d k e) = target_size d + size e + test_size k (kind_of e) + store_size (form_of d)
+  statement_size (Change down d k e) =
+      target_size d + again_size (form_of d) + size e + under_size (form_of d) + 1 + test_size k (OfWhole (counted_as k)) + store_size (form_of d)
   statement_size (Request r given) = arguments_size given + 2
   statement_size (If c a b) = size c + 3 + body_size a + 3 + body_size b
   statement_size (Case e arms) = size e + 3 + 3 + arms_size arms + 5
@@ -67,7 +123,7 @@ abbrev mutual
   statement_size Exit = 3
   statement_size Halt = 2
   statement_size Return = 1
-  statement_size (For d k a b step body) = size a + size b + align_size k (kind_of a) step + 15 + test_size k (base_of k) + body_size body + 5
+  statement_size (For x k a b step body) = size a + size b + align_size k (kind_of a) step + 15 + test_size k (base_of k) + body_size body + 5
 
   pub body_size : Statements → ℕ
   body_size Empty = 0

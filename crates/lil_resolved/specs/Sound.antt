@@ -1,4 +1,4 @@
--- Sound resolved modules: variables are known, operands have their operator's kind, and constants fit theirs.
+-- Sound resolved modules: places have the kinds that their uses say, indexes choose from all elements, operands have their operator's kind, and constants fit theirs.
 use Rattle.std.specs.Prelude.{◌≡◌, ◌≢◌, ℕ, ◌≤◌, ◌==◌, ℤ, pos, negsuc, ◌≤ℤ◌, Bool, true, false, ◌&&◌, ◌||◌, List, [], ◌∷◌, map, Option, Some, None, slice_get, if◌then◌else◌}
 use Rattle.lil_base.specs.Words.{Cardinal, Integer}
 use Rattle.lil_base.specs.declared.operator.OneOp.{OneOp}
@@ -6,11 +6,11 @@ use Rattle.lil_base.specs.declared.operator.OneOp.TheVariants as one
 use Rattle.lil_base.specs.declared.operator.TwoOp.{TwoOp}
 use Rattle.lil_base.specs.declared.operator.TwoOp.TheVariants.{Equal, Unequal, Less, AtMost, Greater, AtLeast, In, Plus, Minus, Or, Times, Slash, Div, Mod, And}
 pub use Rattle.lil_resolved.specs.Kinds.{is_base, is_whole, alike, takes_value}
-use Rattle.lil_resolved.specs.Kinds.{Kind, OfWhole, OfTruth, OfCharacter, base_of}
+use Rattle.lil_resolved.specs.Kinds.{Kind, OfWhole, OfTruth, OfCharacter, base_of, numbers}
 use Rattle.lil_resolved.specs.Scalars.{within, scalar_of, ordinal_of}
-use Rattle.lil_resolved.specs.Shapes.{Shape, Word}
-use Rattle.lil_resolved.specs.Resolved.{Designator, Variable, Function, Abs, Cap, Chr, Odd, Ord, Val, Expression, Constant, Taken, One, Two, Short, Apply, Label, Argument, Statement, Assign, Change, Request, If, Case, While, Repeat, Loop, Exit, Halt, Return, For, Statements, Empty, Then, Arms, NoElse, Else, Arm, Resolved, kind_of, counted_as}
-use Rattle.lil_resolved.specs.Depth.{depth}
+use Rattle.lil_resolved.specs.Shapes.{Shape, Word, count_of}
+use Rattle.lil_resolved.specs.Resolved.{Designator, Variable, Field, Element, Function, Abs, Cap, Chr, Odd, Ord, Val, Expression, Constant, Taken, One, Two, Short, Apply, Label, Argument, Statement, Assign, Change, Request, If, Case, While, Repeat, Loop, Exit, Halt, Return, For, Statements, Empty, Then, Arms, NoElse, Else, Arm, Resolved, kind_of, counted_as, shape_of}
+use Rattle.lil_resolved.specs.Depth.{place_depth, depth}
 
 -- an operator takes operands of this kind
 abbrev pub takes_one : OneOp → Kind → Bool
@@ -49,22 +49,36 @@ takes_function Odd k = is_whole k
 takes_function Ord k = is_base k
 takes_function (Val j) k = is_base k && is_base (base_of j)
 
--- over variables of these shapes: a designator is that of a place of a kind, whose base has words, operands have their operator's kind, and
--- constants fit theirs
+-- a variable of these shapes, by its number, has a kind whose base has words
 pub record IsSoundVariable (ts : List Shape) (x : ℕ) (k : Kind) : Type 0 where
   pub known : slice_get ts x ≡ Some (Word k)
   pub base : is_base (base_of k) ≡ true
 
-abbrev pub IsSoundPlace : List Shape → Designator → Kind → Type 0
-IsSoundPlace ts (Variable x) k = IsSoundVariable ts x k
+-- so has a place
+pub record IsScalar (ts : List Shape) (d : Designator) (k : Kind) : Type 0 where
+  pub shape : shape_of ts d ≡ Word k
+  pub base : is_base (base_of k) ≡ true
 
-abbrev pub IsSoundExpression : List Shape → Expression → Type 0
-IsSoundExpression ts (Constant k v) = within k v ≡ true
-IsSoundExpression ts (Taken d k) = IsSoundPlace ts d k
-IsSoundExpression ts (One o k a) = (takes_one o k ≡ true) × (kind_of a ≡ k) × IsSoundExpression ts a
-IsSoundExpression ts (Two o k a b) = (takes_two o k ≡ true) × (kind_of a ≡ k) × (kind_of b ≡ k) × IsSoundExpression ts a × IsSoundExpression ts b
-IsSoundExpression ts (Short d a b) = (kind_of a ≡ OfTruth) × (kind_of b ≡ OfTruth) × IsSoundExpression ts a × IsSoundExpression ts b
-IsSoundExpression ts (Apply f a) = (takes_function f (kind_of a) ≡ true) × IsSoundExpression ts a
+-- over variables of these shapes: an index chooses from all elements, operands have their operator's kind, and constants fit theirs
+abbrev mutual
+  pub IsSoundPlace : List Shape → Designator → Type 0
+  IsSoundPlace ts (Variable x) = Unit {0}
+  IsSoundPlace ts (Field d i) = IsSoundPlace ts d
+  IsSoundPlace ts (Element d k e) = (count_of (shape_of ts d) ≡ numbers k) × (takes_value k (kind_of e) ≡ true) × IsSoundPlace ts d × IsSoundExpression ts e
+
+  pub IsSoundExpression : List Shape → Expression → Type 0
+  IsSoundExpression ts (Constant k v) = within k v ≡ true
+  IsSoundExpression ts (Taken d k) = IsScalar ts d k × IsSoundPlace ts d
+  IsSoundExpression ts (One o k a) = (takes_one o k ≡ true) × (kind_of a ≡ k) × IsSoundExpression ts a
+  IsSoundExpression ts (Two o k a b) = (takes_two o k ≡ true) × (kind_of a ≡ k) × (kind_of b ≡ k) × IsSoundExpression ts a × IsSoundExpression ts b
+  IsSoundExpression ts (Short d a b) = (kind_of a ≡ OfTruth) × (kind_of b ≡ OfTruth) × IsSoundExpression ts a × IsSoundExpression ts b
+  IsSoundExpression ts (Apply f a) = (takes_function f (kind_of a) ≡ true) × IsSoundExpression ts a
+
+-- a place of a kind to which values may be stored
+pub record IsSoundTarget (ts : List Shape) (d : Designator) (k : Kind) : Type 0 where
+  pub scalar : IsScalar ts d k
+  pub place : IsSoundPlace ts d
+  pub shallow : place_depth d ≤ 12
 
 -- an expression of a kind that stands alone
 pub record IsSoundWhole (ts : List Shape) (e : Expression) (k : Kind) : Type 0 where
@@ -113,8 +127,8 @@ argument_kind a = a.kind
 -- statements over variables of these shapes, inside a LOOP or not
 abbrev mutual
   pub IsSoundStatement : List Shape → Bool → Statement → Type 0
-  IsSoundStatement ts looping (Assign d k e) = IsSoundPlace ts d k × IsSoundValue ts e k
-  IsSoundStatement ts looping (Change down d k e) = IsSoundPlace ts d k × IsSoundWhole ts e (OfWhole (counted_as k))
+  IsSoundStatement ts looping (Assign d k e) = IsSoundTarget ts d k × IsSoundValue ts e k
+  IsSoundStatement ts looping (Change down d k e) = IsSoundTarget ts d k × IsSoundWhole ts e (OfWhole (counted_as k))
   IsSoundStatement ts looping (Request r given) = (request_kinds r ≡ Some (map argument_kind given)) × AreSoundArguments ts given
   IsSoundStatement ts looping (If c a b) = IsSoundWhole ts c OfTruth × IsSoundBody ts looping a × IsSoundBody ts looping b
   IsSoundStatement ts looping (Case e arms) = (is_base (kind_of e) ≡ true) × IsSoundWhole ts e (kind_of e) × AreSoundArms ts looping (kind_of e) arms
@@ -124,7 +138,7 @@ abbrev mutual
   IsSoundStatement ts looping Exit = looping ≡ true
   IsSoundStatement ts looping Halt = Unit {0}
   IsSoundStatement ts looping Return = Unit {0}
-  IsSoundStatement ts looping (For d k a b step body) = IsSoundPlace ts d k × IsSoundValue ts a k × IsSoundWhole ts b (base_of k) × IsStep step × IsSoundBody ts looping body
+  IsSoundStatement ts looping (For x k a b step body) = IsSoundVariable ts x k × IsSoundValue ts a k × IsSoundWhole ts b (base_of k) × IsStep step × IsSoundBody ts looping body
 
   pub IsSoundBody : List Shape → Bool → Statements → Type 0
   IsSoundBody ts looping Empty = Unit {0}

@@ -1,10 +1,10 @@
 -- The resolved module that a tree of the program is.
-use Rattle.std.specs.Prelude.{ℕ, Bool, List, [], ◌∷◌, map, Option, Some, None, true, false}
+use Rattle.std.specs.Prelude.{◌≡◌, ℕ, ◌+◌, ◌<◌, ◌≤◌, Bool, List, [], ◌∷◌, ◌++◌, length, map, Option, Some, None, true, false}
 use Rattle.lil_base.specs.Words.{Cardinal, Integer}
 use Rattle.lil_resolved.specs.Kinds.{Kind, OfWhole, OfTruth, OfCharacter, OfEnumeration, OfRange, compared_as}
 use Rattle.lil_resolved.specs.Scalars.{scalar_of}
-use Rattle.lil_resolved.specs.Shapes.{Shape, Word}
-use Rattle.lil_resolved.specs.Resolved.{Designator, Variable, Function, Abs, Cap, Chr, Odd, Ord, Val, Expression, Constant, Taken, One, Two, Short, Apply, Argument, Label, Assign, Change, Request, If, Case, While, Repeat, Loop, Exit, Halt, Return, For, Statements, Empty, Then, Arms, NoElse, Else, Arm, Resolved, kind_of}
+use Rattle.lil_resolved.specs.Shapes.{Shape, Absent, Word, Row, all_words, offsets_from, shape_at, fields_of, words}
+use Rattle.lil_resolved.specs.Resolved.{Designator, Variable, Field, Element, Function, Abs, Cap, Chr, Odd, Ord, Val, Expression, Constant, Taken, One, Two, Short, Apply, Argument, Label, Assign, Change, Request, If, Case, While, Repeat, Loop, Exit, Halt, Return, For, Statements, Empty, Then, Arms, NoElse, Else, Arm, Resolved, kind_of}
 use Rattle.lil_base.specs.declared.operator.OneOp.{OneOp}
 use Rattle.lil_base.specs.declared.operator.TwoOp.{TwoOp}
 use Rattle.lil_base.specs.declared.operator.TwoOp.TheVariants.{Equal, Unequal, Less, AtMost, Greater, AtLeast, In, Plus, Minus, Or, Times, Slash, Div, Mod, And}
@@ -23,9 +23,15 @@ use Rattle.lil_resolved.specs.declared.resolved.RArgument.{RArgument}
 use Rattle.lil_resolved.specs.declared.resolved.RDeclared.{RDeclared}
 use Rattle.lil_resolved.specs.declared.resolved.RExpr.{RExpr}
 use Rattle.lil_resolved.specs.declared.resolved.RExpr.TheOpen as x
-use Rattle.lil_resolved.specs.declared.resolved.RExpr.TheOpen.{RExpr-F, ROperation-F}
-use Rattle.lil_resolved.specs.declared.resolved.RExpr.TheFolds.{fold-RExpr, fold-ROperation}
+use Rattle.lil_resolved.specs.declared.resolved.RExpr.TheOpen.{RExpr-F, RSelector-F, ROperation-F, RPlace-F}
+use Rattle.lil_resolved.specs.declared.resolved.RExpr.TheFolds.{fold-RExpr, fold-RSelector, fold-ROperation, fold-RPlace}
 use Rattle.lil_resolved.specs.declared.resolved.ROperation.{ROperation}
+use Rattle.lil_resolved.specs.declared.resolved.RPlace.{RPlace}
+use Rattle.lil_resolved.specs.declared.resolved.RSelector.{RSelector}
+use Rattle.lil_resolved.specs.declared.shapes.RField.{RField}
+use Rattle.lil_resolved.specs.declared.shapes.RElements.{RElements}
+use Rattle.lil_resolved.specs.declared.shapes.RShape.{RShape}
+use Rattle.lil_resolved.specs.declared.shapes.RShape.TheVariants as r
 use Rattle.lil_resolved.specs.declared.resolved.RStmt.{RStmt}
 use Rattle.lil_resolved.specs.declared.resolved.RStmt.TheOpen as o
 use Rattle.lil_resolved.specs.declared.resolved.RStmt.TheOpen.{RStmt-F, RArm-F, RGuard-F}
@@ -35,7 +41,7 @@ use Rattle.lil_resolved.specs.declared.resolved.RArm.{RArm}
 use Rattle.lil_resolved.specs.declared.resolved.RLabel.{RLabel}
 use Rattle.lil_resolved.specs.declared.resolved.RModule.{RModule}
 
--- ---- kinds, variables, functions and requests
+-- ---- kinds, functions and requests
 abbrev pub base_view : RBase → Kind
 base_view b.Cardinal = OfWhole Cardinal
 base_view b.Integer = OfWhole Integer
@@ -49,9 +55,6 @@ ranged_view k (Some r) = OfRange k r.low r.high
 
 abbrev pub kind_view : RKind → Kind
 kind_view k = ranged_view (base_view k.base) k.range
-
-abbrev pub variable_of : RVariable → Designator
-variable_of v = Variable v.number
 
 abbrev pub variable_kind : RVariable → Kind
 variable_kind v = kind_view v.kind
@@ -104,22 +107,40 @@ abbrev pub chained : Expression → List (Expression → Expression) → Express
 chained a [] = a
 chained a (f ∷ fs) = chained (f a) fs
 
--- what an expression and an operation are, where their parts are known
-abbrev pub expression_layer : RExpr-F Expression (Expression → Expression) → Expression
+-- parts, each of what stands before it
+abbrev pub selected : Designator → List (Designator → Designator) → Designator
+selected d [] = d
+selected d (f ∷ fs) = selected (f d) fs
+
+-- what an expression, a selector, an operation and a place are, where their parts are known
+abbrev pub expression_layer : RExpr-F Expression (Designator → Designator) (Expression → Expression) Designator → Expression
 expression_layer (x.Constant base z) = Constant (base_view base) (scalar_of (base_view base) z)
-expression_layer (x.Variable v) = Taken (variable_of v) (variable_kind v)
+expression_layer (x.Taken d k) = Taken d (kind_view k)
 expression_layer (x.One o a) = one_of o a
 expression_layer (x.Chain a os) = chained a os
 expression_layer (x.Apply f a) = Apply (function_of f (kind_of a)) a
 
-abbrev pub operation_layer : ROperation-F Expression (Expression → Expression) → Expression → Expression
+abbrev pub selector_layer : RSelector-F Expression (Designator → Designator) (Expression → Expression) Designator → Designator → Designator
+selector_layer (x.Field i) d = Field d i
+selector_layer (x.Index k e) d = Element d (kind_view k) e
+
+abbrev pub operation_layer : ROperation-F Expression (Designator → Designator) (Expression → Expression) Designator → Expression → Expression
 operation_layer o a = two_of o.operator a o.operand
 
+abbrev pub place_layer : RPlace-F Expression (Designator → Designator) (Expression → Expression) Designator → Designator
+place_layer p = selected (Variable p.number) p.selectors
+
 abbrev pub expression_of : RExpr → Expression
-expression_of = fold-RExpr Expression (Expression → Expression) expression_layer operation_layer
+expression_of = fold-RExpr Expression (Designator → Designator) (Expression → Expression) Designator expression_layer selector_layer operation_layer place_layer
+
+abbrev pub selector_of : RSelector → Designator → Designator
+selector_of = fold-RSelector Expression (Designator → Designator) (Expression → Expression) Designator expression_layer selector_layer operation_layer place_layer
 
 abbrev pub operation_of : ROperation → Expression → Expression
-operation_of = fold-ROperation Expression (Expression → Expression) expression_layer operation_layer
+operation_of = fold-ROperation Expression (Designator → Designator) (Expression → Expression) Designator expression_layer selector_layer operation_layer place_layer
+
+abbrev pub place_of : RPlace → Designator
+place_of = fold-RPlace Expression (Designator → Designator) (Expression → Expression) Designator expression_layer selector_layer operation_layer place_layer
 
 abbrev pub argument_of : RArgument → Argument
 argument_of a = record { kind = kind_view a.kind; value = expression_of a.value }
@@ -153,8 +174,8 @@ otherwise_of (Some ss) = Else (all_of ss)
 
 -- what a statement, an arm and a guard are, where their parts are known
 abbrev pub statement_layer : RStmt-F Statements (Arms → Arms) (Statements → Statements) → Statements
-statement_layer (o.Assign v e) = Then (Assign (variable_of v) (variable_kind v) (expression_of e)) Empty
-statement_layer (o.Change way v e) = Then (Change (is_down way) (variable_of v) (variable_kind v) (expression_of e)) Empty
+statement_layer (o.Assign p k e) = Then (Assign (place_of p) (kind_view k) (expression_of e)) Empty
+statement_layer (o.Change way p k e) = Then (Change (is_down way) (place_of p) (kind_view k) (expression_of e)) Empty
 statement_layer (o.Request r given) = Then (Request (request_number r) (map argument_of given)) Empty
 statement_layer (o.If gs ss) = guarded gs (all_of ss)
 statement_layer (o.Case e cases other) = Then (Case (expression_of e) (armed cases (otherwise_of other))) Empty
@@ -164,7 +185,7 @@ statement_layer (o.Loop ss) = Then (Loop (all_of ss)) Empty
 statement_layer o.Exit = Then Exit Empty
 statement_layer o.Halt = Then Halt Empty
 statement_layer o.Return = Then Return Empty
-statement_layer (o.For v a b step ss) = Then (For (variable_of v) (variable_kind v) (expression_of a) (expression_of b) step (all_of ss)) Empty
+statement_layer (o.For v a b step ss) = Then (For v.number (variable_kind v) (expression_of a) (expression_of b) step (all_of ss)) Empty
 
 abbrev pub arm_layer : RArm-F Statements (Arms → Arms) (Statements → Statements) → Arms → Arms
 arm_layer a other = Arm (map label_of a.labels) (all_of a.body) other
@@ -196,11 +217,56 @@ else_of (Some ss) = Else (statements_of ss)
 abbrev pub arms_of : List RArm → Option (List RStmt) → Arms
 arms_of cases other = armed (map arm_of cases) (else_of other)
 
+-- ---- shapes
+abbrev pub number_of : RField → ℕ
+number_of f = f.shape
+
+-- what a shape is, by those with lesser numbers
+abbrev pub shape_with : List Shape → RShape → Shape
+shape_with before r.Absent = Absent
+shape_with before (r.Word k) = Word (kind_view k)
+shape_with before (r.Fields fs) = fields_of (map (shape_at before) (map number_of fs))
+shape_with before (r.Elements e) = Row e.count (shape_at before e.shape)
+
+abbrev pub shapes_behind : List Shape → List RShape → List Shape
+shapes_behind before [] = before
+shapes_behind before (t ∷ ts) = shapes_behind (before ++ shape_with before t ∷ []) ts
+
+abbrev pub shapes_of : List RShape → List Shape
+shapes_of ts = shapes_behind [] ts
+
+-- fields have lesser numbers, and lie one behind another from a word on
+abbrev pub AreMeasuredFields : List Shape → ℕ → List RField → Type 0
+AreMeasuredFields before n [] = Unit {0}
+AreMeasuredFields before n (f ∷ fs) = (f.offset ≡ n) × (f.shape < length before) × AreMeasuredFields before (n + words (shape_at before f.shape)) fs
+
+-- so do elements, each of so many words
+abbrev pub IsMeasuredShape : List Shape → RShape → Type 0
+IsMeasuredShape before (r.Fields fs) = AreMeasuredFields before 0 fs
+IsMeasuredShape before (r.Elements e) = (e.words ≡ words (shape_at before e.shape)) × (e.shape < length before)
+IsMeasuredShape before r.Absent = Unit {0}
+IsMeasuredShape before (r.Word k) = Unit {0}
+
+-- no shape has more than 32,000 words
+abbrev pub AreMeasured : List Shape → List RShape → Type 0
+AreMeasured before [] = Unit {0}
+AreMeasured before (t ∷ ts) = IsMeasuredShape before t × (words (shape_with before t) ≤ 32000) × AreMeasured (before ++ shape_with before t ∷ []) ts
+
+-- ---- modules
 abbrev pub name_of : RDeclared → List ℕ
 name_of v = v.name
 
-abbrev pub shape_declared : RDeclared → Shape
-shape_declared v = Word (kind_view v.kind)
+abbrev pub offset_of : RDeclared → ℕ
+offset_of v = v.offset
+
+abbrev pub shape_declared : List RShape → RDeclared → Shape
+shape_declared ts v = shape_at (shapes_of ts) v.shape
 
 abbrev pub module_of : RModule → Resolved
-module_of m = record { name = m.name; names = map name_of m.variables; variables = map shape_declared m.variables; procedures = []; body = statements_of m.body }
+module_of m = record { name = m.name; names = map name_of m.variables; variables = map (shape_declared m.shapes) m.variables; procedures = []; body = statements_of m.body }
+
+-- the words of a module's shapes and variables are counted
+pub record IsMeasured (m : RModule) : Type 0 where
+  pub shapes : AreMeasured [] m.shapes
+  pub offsets : map offset_of m.variables ≡ offsets_from 0 (module_of m).variables
+  pub words : m.words ≡ all_words (module_of m).variables

@@ -2,9 +2,12 @@
 #![tactic(auto)]
 
 mod resolved;
+mod shapes;
 
 pub use lil_base::{OneOp, TwoOp};
 pub use resolved::{
     Direction, RArgument, RArm, RBase, RDeclared, RExpr, RFunction, RGuard, RKind, RLabel, RModule,
-    ROperation, RRange, RRequest, RStmt, RVariable, base, depth, whole_base,
+    ROperation, RPlace, RRange, RRequest, RSelector, RStmt, RVariable, base, depth, place_depth,
+    whole_base,
 };
+pub use shapes::{RElements, RField, RShape};

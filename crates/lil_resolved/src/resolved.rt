@@ -1,11 +1,11 @@
-ghost use Rattle.std.specs.Prelude.{◌≡◌, min};
-ghost use Rattle.lil_resolved.specs.Depth.{depth as depth_of, function_depth as function_depth_of};
+ghost use Rattle.std.specs.Prelude.{◌≡◌, min, max};
+ghost use Rattle.lil_resolved.specs.Depth.{depth as depth_of, place_depth as place_depth_of, function_depth as function_depth_of};
 ghost use Rattle.lil_resolved.specs.Chains as chain;
 ghost use Rattle.lil_resolved.specs.Kinds.{Kind, OfWhole, compared_as};
 ghost use Rattle.lil_resolved.specs.Resolved.{kind_of, function_kind};
-ghost use Rattle.lil_resolved.specs.Views.{base_view, function_of, expression_of};
+ghost use Rattle.lil_resolved.specs.Views.{base_view, function_of, expression_of, place_of};
 
-use crate::{OneOp, TwoOp};
+use crate::{OneOp, RShape, TwoOp};
 use lil_base::{Boxed, Items, Name};
 
 /// What values are: numbers of a type of whole numbers, truth values, characters, or the constants of an enumeration
@@ -70,12 +70,13 @@ pub enum Direction {
 }
 
 /// An expression with each name replaced by its thing, and each constant expression by its value, which stands by its
-/// number. A chain is its first operand, and then each operation in its order on what stands before it.
+/// number. A chain is its first operand, and then each operation in its order on what stands before it. A value that stands at a
+/// place is of the place's kind.
 #[cycle(value)]
 #[derive(Drop)]
 pub enum RExpr {
     Constant(RBase, i32),
-    Variable(RVariable),
+    Taken(RPlace, RKind),
     One(OneOp, Boxed<RExpr>),
     Chain(Boxed<RExpr>, Items<ROperation>),
     Apply(RFunction, Boxed<RExpr>),
@@ -89,6 +90,22 @@ pub struct ROperation {
     pub operand: RExpr,
 }
 
+/// A place: a variable of the module by its number, and its parts, one in another.
+#[cycle(value)]
+#[derive(Drop)]
+pub struct RPlace {
+    pub number: u16,
+    pub selectors: Items<RSelector>,
+}
+
+/// A field of a record by its number, or an element of an array by an index of a kind.
+#[cycle(value)]
+#[derive(Drop)]
+pub enum RSelector {
+    Field(usize),
+    Index(RKind, RExpr),
+}
+
 /// A value argument, and its parameter's kind.
 #[derive(Drop)]
 pub struct RArgument {
@@ -96,13 +113,13 @@ pub struct RArgument {
     pub value: RExpr,
 }
 
-/// A resolved statement. IF has its conditions in order, a CASE or an IF without ELSE has none, and FOR has its variable,
+/// A resolved statement. A place that is stored to has its kind. IF has its conditions in order, a CASE or an IF without ELSE has none, and FOR has its variable,
 /// its first value, its last and its step.
 #[cycle(resolved)]
 #[derive(Drop)]
 pub enum RStmt {
-    Assign(RVariable, RExpr),
-    Change(Direction, RVariable, RExpr),
+    Assign(RPlace, RKind, RExpr),
+    Change(Direction, RPlace, RKind, RExpr),
     Request(RRequest, Items<RArgument>),
     If(Items<RGuard>, Items<RStmt>),
     Case(RExpr, Items<RArm>, Option<Items<RStmt>>),
@@ -138,18 +155,22 @@ pub struct RLabel {
     pub high: i32,
 }
 
-/// A variable of a module.
+/// A variable of a module: its name, the words of the module's data before it, and the number of its shape.
 #[derive(Drop)]
 pub struct RDeclared {
     pub name: Name,
-    pub kind: RKind,
+    pub offset: u16,
+    pub shape: usize,
 }
 
-/// A resolved program module.
+/// A resolved program module: its name, the shapes of its types by their numbers, its variables, how many words they take, and its
+/// statements.
 #[derive(Drop)]
 pub struct RModule {
     pub name: Name,
+    pub shapes: Items<RShape>,
     pub variables: Items<RDeclared>,
+    pub words: u16,
     pub body: Items<RStmt>,
 }
 
@@ -170,7 +191,8 @@ pub fn depth(e: &RExpr) -> u32
     ensures { result ≡ min (depth_of (expression_of e.now)) 4294967295 }
 {
     match e {
-        RExpr::Constant(_, _) | RExpr::Variable(_) => 1,
+        RExpr::Constant(_, _) => 1,
+        RExpr::Taken(place, _) => place_depth(place),
         RExpr::One(_, value) => depth(value.get()),
         RExpr::Apply(function, value) => depth(value.get()).max(function_depth(*function)),
         RExpr::Chain(first, operations) => {
@@ -192,6 +214,38 @@ fn operations_depth(operations: &[ROperation]) -> u32
     most
 }
 
+/// How many words of the expression stack a place takes, or 4,294,967,295 where they are more. It takes no memory.
+#[cycle(depth)]
+#[tactic(auto, using(crate::proofs::Depths::place_is_deep))]
+pub fn place_depth(of: &RPlace) -> u32
+    ensures { result ≡ min (place_depth_of (place_of of.now)) 4294967295 }
+{
+    selectors_depth(of.selectors.as_slice())
+}
+
+/// How many words a variable with selectors takes.
+#[cycle(depth)]
+#[tactic(auto, using(crate::proofs::Depths::selectors_left))]
+fn selectors_depth(selectors: &[RSelector]) -> u32
+    ensures { result ≡ min (max 1 (chain.selectors_depth selectors.now)) 4294967295 }
+{
+    let mut most: u32 = 1;
+    for selector in selectors {
+        most = most.max(selector_depth(selector));
+    }
+    most
+}
+
+#[cycle(depth)]
+fn selector_depth(selector: &RSelector) -> u32
+    ensures { result ≡ min (chain.selector_depth selector.now) 4294967295 }
+{
+    match selector {
+        RSelector::Field(_) => 0,
+        RSelector::Index(_, value) => depth(value).saturating_add(2),
+    }
+}
+
 /// The base of the values of an expression: that of its first operand, where all its operators give values of their
 /// operands' kind.
 #[cycle(kinds)]
@@ -201,7 +255,7 @@ pub fn base(e: &RExpr) -> RBase
 {
     match e {
         RExpr::Constant(base, _) => *base,
-        RExpr::Variable(variable) => variable.kind.base,
+        RExpr::Taken(_, kind) => kind.base,
         RExpr::One(_, value) => base(value.get()),
         RExpr::Apply(function, value) => function_base(*function, value.get()),
         RExpr::Chain(first, operations) => {

@@ -1,17 +1,9 @@
--- The words of a module's variables, and the procedure that runs at a place.
+-- The procedure that runs at a place.
 use Rattle.std.proofs.Common.{◌≡◌, ◌⊎◌, inl, inr, ℕ, zero, suc, ◌<◌, ◌≤◌, List, [], ◌∷◌, length, map, Option, Some, None, refl, sym, ap, subst, arith}
 use Rattle.std.specs.Prelude.{slice_get}
 use Rattle.std.proofs.lemmas.Bool.{cases_lt}
 use Rattle.std.proofs.lemmas.Option.{same_Some}
-use Rattle.lil_resolved.specs.declared.resolved.RDeclared.{RDeclared}
-use Rattle.lil_resolved.specs.Shapes.{all_words}
-use Rattle.lil_resolved.specs.Views.{shape_declared}
 use Rattle.lil_mcode.specs.Calls.{IsRunning}
-
--- each is a scalar of one word
-pub declared_words : (vs : List RDeclared) → all_words (map shape_declared vs) ≡ length vs
-declared_words [] = refl
-declared_words (v ∷ vs) = omega (arith, declared_words vs)
 
 abbrev Procedures : Type 0
 Procedures = List (ℕ × Option (List ℕ))

@@ -8,12 +8,11 @@ use Rattle.lil_text.specs.declared.stop.ReadStop.{ReadStop}
 use Rattle.lil_text.specs.declared.stop.ReadStop.TheVariants.{Fault, Memory}
 use Rattle.lil_resolved.specs.Resolved.{Resolved}
 use Rattle.lil_resolved.specs.Sizes.{code_size, IsSmall}
-use Rattle.lil_resolved.specs.Views.{module_of}
+use Rattle.lil_resolved.specs.Views.{module_of, IsMeasured}
 use Rattle.lil_resolved.specs.declared.resolved.RModule.{RModule}
 use Rattle.lil_language.specs.declared.unit.Unit.{Unit as Tree}
 use Rattle.lil_language.specs.Units.{Reads, HasReadFault}
 use Rattle.lil_meaning.specs.World.{World}
-use Rattle.lil_session.proofs.Declared.{declared_words}
 use Rattle.lil_session.specs.declared.status.Status.{Status}
 use Rattle.lil_session.specs.declared.status.Status.TheVariants as a
 use Rattle.lil_report.specs.declared.report.Fault.{Fault as Checked}
@@ -105,8 +104,8 @@ pub carried_fault : {v : Verdict} (f : SourceFault) (steps : ℕ) (old : Option 
 carried_fault f steps old faults is = subst (λ v. Carried v steps old faults old faults (a.SourceFault f)) (sym is) (inl refl, (refl, refl))
 
 -- ---- by how long the code is
-pub small_of : (m : RModule) → code_size (module_of m) ≤ 32767 → length m.variables ≤ 32000 → IsSmall (module_of m)
-small_of m short few = record { code = short; variables = omega (arith, few, declared_words m.variables) }
+pub small_of : (m : RModule) → code_size (module_of m) ≤ 32767 → IsMeasured m → m.words ≤ 32000 → IsSmall (module_of m)
+small_of m short measured few = record { code = short; variables = omega (arith, few, measured.words) }
 
 module _ (name : Place) (p : Resolved) where
   pub coded_short : code_size p ≤ 32767 → coded name p ≡ Means p

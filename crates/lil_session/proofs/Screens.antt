@@ -53,11 +53,12 @@ module _ (library : List Resolved) (s : Source) where
   valued_serves None x body k = (still refl refl)
   valued_serves (Some v) x body k = (still refl refl)
 
-  turned_serves : (d : Designator) (kind : Kind) (z step : ℤ) (left : ℕ) (body : Statements) (k : List Item) → Serves s (turned_on library d kind z step left body k s)
-  turned_serves d kind z step zero body k = (still refl refl)
-  turned_serves (Variable x) kind z step (suc left) body k = valued_serves (value_with kind z) x body _
+  turned_serves : (x : ℕ) (kind : Kind) (z step : ℤ) (left : ℕ) (body : Statements) (k : List Item) → Serves s (turned_on library x kind z step left body k s)
+  turned_serves x kind z step zero body k = (still refl refl)
+  turned_serves x kind z step (suc left) body k = valued_serves (value_with kind z) x body _
 
   filled_serves : (h : Hole) (v : Scalar) (k : List Item) → Serves s (filled library h v k s)
+  filled_serves (items.IndexAt p kind) v k = choice_serves s (within kind v) _ _ ((still refl refl)) ((still refl refl))
   filled_serves (StoreAt p kind) v k = choice_serves s (within kind v) _ _ ((still refl refl)) ((still refl refl))
   filled_serves (ChangeAt down p kind) v k = stored_serves p (value_of kind (changed down (counted_as kind) (ordinal_of (got s.cells p)) (whole_of v))) k
   filled_serves (OneOf o kind) v k = answered_serves (one_applied o kind v) k
@@ -83,7 +84,7 @@ module _ (library : List Resolved) (s : Source) where
   performed_serves : (t : Task) (k : List Item) → Serves s (performed library t k s)
   performed_serves (Do t) k = did_serves t k
   performed_serves (Passing r done []) k = record { world = inr (inl (r, map given_of done, refl)); first = λ none. none }
-  performed_serves (items.Turns d kind x step left body) k = turned_serves d kind x step left body k
+  performed_serves (items.Turns x kind z step left body) k = turned_serves x kind z step left body k
   performed_serves _ k = (still refl refl)
 
   given_serves : (d : Datum) (i : Item) (k : List Item) → Serves s (given library d i k s)
@@ -96,6 +97,7 @@ module _ (library : List Resolved) (s : Source) where
 
   placed_serves : (d : Designator) (k : List Item) → Serves s (placed d k s)
   placed_serves (Variable x) k = (still refl refl)
+  placed_serves _ k = (still refl refl)
 
   over_serves : (ls : List Level) (end : Option TrapAt) → s.waiting ≡ ls → Serves s (over ls end s)
   over_serves [] end e = still refl refl

@@ -7,6 +7,7 @@ ghost use Rattle.lil_volume.specs.Causes.{HasCause};
 ghost use Rattle.lil_base.specs.declared.fault.TrapKind.{TrapKind};
 ghost use Rattle.lil_session.specs.declared.run.Ending.TheVariants as ending;
 ghost use Rattle.lil_resolved.specs.Sizes.{IsSmall, code_size};
+ghost use Rattle.lil_resolved.specs.Shapes.{all_words};
 ghost use Rattle.lil_table.specs.Rows.{Translates};
 ghost use Rattle.lil_session.specs.Running.{finish_of, finish_by, IsStep, IsRefused, HasRun, IsCut};
 ghost use Rattle.lil_session.specs.Outcome.{settled, Blames, Shows, MeansAnswer, IsRunAnswer};
@@ -82,9 +83,9 @@ fn run_machine<S: Sink>(
 }
 
 /// A machine in which the module is loaded alone and begun.
-#[tactic(auto, using(crate::proofs::Declared::declared_words))]
 fn load(alloc: Global, m: &RModule, code: &Bytes) -> Result<Machine, Memory>
     requires small { IsSmall (module_of m.now) }
+    requires counted { m.now.words ≡ all_words (module_of m.now).variables }
     requires long { length code.now ≡ code_size (module_of m.now) }
     ensures { IfOk result (λ machine. machine ≡ loaded (module_of m.now) code.now) }
 {
@@ -95,7 +96,7 @@ fn load(alloc: Global, m: &RModule, code: &Bytes) -> Result<Machine, Memory>
     let mut bodies = Vec::new(alloc);
     bodies.push(1)?;
     machine.open_level();
-    machine.add_module(name, procedures, code, m.variables.len() as u16);
+    machine.add_module(name, procedures, code, m.words);
     machine.begin(bodies);
     Ok(machine)
 }
@@ -150,6 +151,7 @@ pub(crate) fn run_program<S: Sink>(
 ) -> Status
     requires translates { Translates (module_of m.now) code.now }
     requires small { IsSmall (module_of m.now) }
+    requires counted { m.now.words ≡ all_words (module_of m.now).variables }
     requires long { length code.now ≡ code_size (module_of m.now) }
     ensures shows { (w : World) → w.screen ≡ [] → Shows (module_of m.now) w (S.written screen.old) (S.written screen.new) result }
     ensures answer { (w : World) → w.screen ≡ [] → settled result ≡ true → (result ≡ Status.StepsSpent) ⊎ MeansAnswer (module_of m.now) w result }

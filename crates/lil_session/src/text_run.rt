@@ -1,5 +1,5 @@
 ghost use Rattle.std.specs.Prelude.{◌≡◌, ◌≤◌, length, Some, None, false};
-ghost use Rattle.lil_resolved.specs.Views.{module_of};
+ghost use Rattle.lil_resolved.specs.Views.{module_of, IsMeasured};
 ghost use Rattle.lil_resolved.specs.Sizes.{IsSound};
 ghost use Rattle.lil_lower.specs.Lowered.{lowered};
 ghost use Rattle.lil_session.specs.Words.{mod_file, name_of_word};
@@ -54,7 +54,8 @@ fn run_module<S: Sink>(
     screen: &mut S,
 ) -> Status
     requires sound { IsSound (module_of m.now) }
-    requires few { length m.now.variables ≤ 32000 }
+    requires measured { IsMeasured m.now }
+    requires few { m.now.words ≤ 32000 }
     ensures { Carried (coded name (module_of m.now)) steps (S.written screen.old) (S.faults screen.old) (S.written screen.new) (S.faults screen.new) result }
 {
     match generate(alloc, m) {

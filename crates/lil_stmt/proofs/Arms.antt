@@ -11,7 +11,7 @@ use Rattle.lil_resolved.specs.declared.resolved.RLabel.{RLabel}
 use Rattle.lil_resolved.specs.Kinds.{Kind, compared_as, is_base}
 use Rattle.lil_resolved.specs.Resolved.{Label, Arms, kind_of}
 use Rattle.lil_resolved.specs.Views.{expression_of, statement_of, statements_of, label_of, else_of, arms_of}
-use Rattle.lil_resolved.specs.Depth.{arms_loops, body_loops}
+use Rattle.lil_resolved.specs.Depth.{arms_loops}
 use Rattle.lil_resolved.specs.Sound.{IsSoundLabel, AreSoundLabels, AreSoundArms}
 use Rattle.lil_resolved.specs.Forms.{case_is, arm_is}
 use Rattle.lil_asm.specs.declared.instr.Instr.TheVariants.{Jmp, Cas}
@@ -20,7 +20,7 @@ use Rattle.lil_table.specs.LabelLaws.{label_in}
 use Rattle.lil_labels.specs.Drafts.{Draft, Final, EntryAt, ChoiceAt, Entering, Meaning, Emits, Nothing, Doing, Choosing, Marking, Makes, Places}
 use Rattle.lil_labels.specs.Emitting.{emits_then, emits_as, emits_within, emits_here, emits_fresh, emits_mark}
 use Rattle.lil_expr.specs.Generating.{Value}
-use Rattle.lil_stmt.specs.Generating.{Body, Each, paired, ArmPart, ArmBody, ElseBody, HasWords, LabelEntry, ArmLabels, TableAt, ChoiceOf, entries}
+use Rattle.lil_stmt.specs.Generating.{Body, Each, paired, ArmPart, ArmBody, ElseBody, HasWords, LabelEntry, ArmLabels, ChoiceOf, entries}
 use Rattle.lil_stmt.proofs.Words.{in_word}
 use Rattle.lil_stmt.proofs.Storing.{whole}
 use Rattle.lil_stmt.proofs.Stating.{one_emitted}

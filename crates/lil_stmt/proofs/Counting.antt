@@ -1,5 +1,5 @@
 -- The FORs of statements, guards and arms, one by one.
-use Rattle.std.proofs.Common.{◌≡◌, ℕ, ◌+◌, ◌<◌, List, [], ◌∷◌, length, map, drop, get_or, Option, None, sym, ap, ◌∙◌, arith}
+use Rattle.std.proofs.Common.{◌≡◌, ℕ, ◌+◌, ◌<◌, List, [], ◌∷◌, length, drop, get_or, Option, None, sym, ap, ◌∙◌, arith}
 use Rattle.std.proofs.lemmas.List.{drop_more}
 use Rattle.lil_resolved.specs.declared.resolved.RExpr.{RExpr}
 use Rattle.lil_resolved.specs.declared.resolved.RStmt.{RStmt}

@@ -1,5 +1,6 @@
 pub mod Counting
 pub mod Storing
+pub mod Placing
 pub mod Starting
 pub mod Stating
 pub mod Words

@@ -1,7 +1,7 @@
 -- The code that brings the start of a FOR to its limit's type.
-use Rattle.std.proofs.Common.{◌≡◌, ℕ, Bool, true, false, List, [], ◌∷◌, length, sym, ap, ◌∙◌, subst, arith}
+use Rattle.std.proofs.Common.{◌≡◌, ℕ, Bool, true, false, [], ◌∷◌, length, sym, subst, arith}
 use Rattle.lil_asm.specs.declared.instr.Instr.TheVariants.{Liw, Dup, Drp, Swp, Rgc, Lsi, Jmp, Jpf}
-use Rattle.lil_table.specs.Rows.{IsAt, AlignAt}
+use Rattle.lil_table.specs.Rows.{IsAt}
 use Rattle.lil_labels.specs.Drafts.{Draft, Emits, Nothing, Doing, DoingAll, Makes, Places}
 use Rattle.lil_labels.specs.Emitting.{emits_then, emits_as, emits_here, emits_fresh}
 use Rattle.lil_stmt.specs.Generating.{Aligning, Leaving}

@@ -1,21 +1,23 @@
 -- The code of statements, form by form.
-use Rattle.std.proofs.Common.{◌≡◌, ℕ, suc, ◌+◌, ◌*◌, ◌<◌, ◌≤◌, ℤ, Bool, List, [], ◌∷◌, length, drop, get_or, Option, Some, refl, sym, ap, ◌∙◌, subst, arith}
+use Rattle.std.proofs.Common.{◌≡◌, ℕ, suc, ◌+◌, ◌<◌, ◌≤◌, ℤ, Bool, List, length, drop, get_or, Option, Some, refl, sym, ap, ◌∙◌, subst, arith}
+use Rattle.std.specs.Prelude.{slice_get}
 use Rattle.std.specs.Option.{is_some, option_map}
 use Rattle.std.proofs.lemmas.List.{drop_all}
 use Rattle.lil_base.specs.Words.{word_of}
 use Rattle.lil_resolved.specs.declared.resolved.RStmt.{RStmt}
 use Rattle.lil_resolved.specs.declared.resolved.RGuard.{RGuard}
 use Rattle.lil_resolved.specs.Kinds.{Kind, OfTruth, base_of, compared_as, covers, outside_turns}
-use Rattle.lil_resolved.specs.Resolved.{Variable, Expression, Statement, While, Repeat, Loop, For, Statements, Empty, Then, kind_of}
+use Rattle.lil_resolved.specs.Resolved.{Expression, Statement, While, Repeat, Loop, For, Statements, Empty, Then, kind_of}
 use Rattle.lil_resolved.specs.Shapes.{Shape}
 use Rattle.lil_resolved.specs.Views.{joined, expression_of, statement_of, statements_of, guard_of, guards_of}
 use Rattle.lil_resolved.specs.Sound.{IsSoundBody}
 use Rattle.lil_resolved.specs.Forms.{guard_is}
 use Rattle.lil_asm.specs.declared.instr.Instr.{Instr}
 use Rattle.lil_asm.specs.declared.instr.Instr.TheVariants.{Liw, Llw, Sgw, Jmp, Jpf, Fri, Frn}
-use Rattle.lil_table.specs.Rows.{Layout, IsAt, WholeRow, BodyAt, loop_place, loop_sign, test_code}
-use Rattle.lil_labels.specs.Drafts.{Draft, Final, Emits, Nothing, Doing, DoingAll, Marking, Makes, Places}
-use Rattle.lil_labels.specs.Emitting.{emits_none, emits_then, emits_as, emits_here, emits_fresh, emits_mark}
+use Rattle.lil_table.specs.Rows.{Layout, IsAt, BodyAt, loop_place, loop_sign, test_code}
+use Rattle.lil_labels.specs.Tables.{Tables, variable_by}
+use Rattle.lil_labels.specs.Drafts.{Draft, Meaning, Emits, Nothing, Doing, DoingAll, Marking, Makes, Places}
+use Rattle.lil_labels.specs.Emitting.{emits_none, emits_then, emits_as, emits_tied, emits_here, emits_fresh, emits_mark}
 use Rattle.lil_expr.specs.Generating.{Value}
 use Rattle.lil_expr.specs.Variables.{known_row}
 use Rattle.lil_stmt.specs.Generating.{Stated, Body, Awaiting, Turning, Aligning, nothing_before, guards_before}
@@ -153,14 +155,24 @@ module _ (n : ℕ) (exit : Option ℕ) (end : ℕ) (gs : List RGuard) where
       (λ x t rest r ended more. t rest r ended (subst (λ (left : List RGuard). Body n exit (guards_before left rest) x (length b.bytes) r) (sym (drop_all i gs past)) more))
 
 -- ---- FOR
+-- the store in a variable
+abbrev Storing : ℕ → Meaning
+Storing v x p q = IsAt x.code p (Sgw (variable_by (slice_get x.tables.variables v)).offset) q
+
+store_emitted : (v offset : ℕ) (a b : Draft) → offset ≡ (variable_by (slice_get a.tables.variables v)).offset → Emits a b (Doing (λ w. Sgw offset)) → Emits a b (Storing v)
+store_emitted v offset a b is store =
+    emits_as a b _ (Storing v)
+    (λ x t. subst (λ (o : ℕ). IsAt x.code (length a.bytes) (Sgw o) (length b.bytes)) (is ∙ ap (λ (ts : Tables). (variable_by (slice_get ts.variables v)).offset) (sym t.1)) t.0)
+    (emits_tied a b _ store)
+
 module _ (n : ℕ) (exit : Option ℕ) (v : ℕ) (k : Kind) (from to : Expression) (step : ℤ) (body : Statements) where
-  pub for_emitted : (word place sign inner end turn : ℕ) (c0 c1 c2 c3 c4 c5 c6 c7 c8 c9 c10 c11 c12 c13 : Draft) → word ≡ word_of step → (loop_place n ≤ 65535 → place ≡ loop_place n)
-      → sign ≡ loop_sign (compared_as (base_of k)) → (n ≤ 65535 → inner ≡ suc n) → Emits c0 c1 (Value from) → Emits c1 c2 (Value to) → Emits c2 c3 Nothing → Makes c2 c3 end
+  pub for_emitted : (word place sign offset inner end turn : ℕ) (c0 c1 c2 c3 c4 c5 c6 c7 c8 c9 c10 c11 c12 c13 : Draft) → word ≡ word_of step → (loop_place n ≤ 65535 → place ≡ loop_place n)
+      → sign ≡ loop_sign (compared_as (base_of k)) → offset ≡ (variable_by (slice_get c9.tables.variables v)).offset → (n ≤ 65535 → inner ≡ suc n) → Emits c0 c1 (Value from) → Emits c1 c2 (Value to) → Emits c2 c3 Nothing → Makes c2 c3 end
       → Emits c3 c4 (Aligning (covers (base_of k) (kind_of from)) (outside_turns (compared_as (base_of k)) step) end) → Emits c4 c5 (Doing (λ w. Liw word)) → Emits c5 c6 (Doing (λ w. Fri place sign (w end)))
-      → Emits c6 c7 (Marking turn) → Emits c7 c8 (Doing (λ w. Llw place)) → Emits c8 c9 (DoingAll (test_code k (base_of k))) → Emits c9 c10 (Doing (λ w. Sgw v)) → Emits c10 c11 (Body inner exit body)
-      → Emits c11 c12 (Doing (λ w. Frn place (w turn))) → Places c12 c13 end → Emits c0 c13 (Stated n exit (For (Variable v) k from to step body))
-  for_emitted word place sign inner end turn c0 c1 c2 c3 c4 c5 c6 c7 c8 c9 c10 c11 c12 c13 stepped placed signed more first last new makes align load enter mark value test store here next put =
-      emits_as c0 c13 _ (Stated n exit (For (Variable v) k from to step body))
+      → Emits c6 c7 (Marking turn) → Emits c7 c8 (Doing (λ w. Llw place)) → Emits c8 c9 (DoingAll (test_code k (base_of k))) → Emits c9 c10 (Doing (λ w. Sgw offset)) → Emits c10 c11 (Body inner exit body)
+      → Emits c11 c12 (Doing (λ w. Frn place (w turn))) → Places c12 c13 end → Emits c0 c13 (Stated n exit (For v k from to step body))
+  for_emitted word place sign offset inner end turn c0 c1 c2 c3 c4 c5 c6 c7 c8 c9 c10 c11 c12 c13 stepped placed signed lies more first last new makes align load enter mark value test store here next put =
+      emits_as c0 c13 _ (Stated n exit (For v k from to step body))
       (λ x t sound room.
       let framed = x.framed in
       let at_place : place ≡ loop_place n = placed (omega (arith, room, framed)) in
@@ -182,7 +194,7 @@ module _ (n : ℕ) (exit : Option ℕ) (v : ℕ) (k : Kind) (from to : Expressio
           enter = subst (λ (i : Instr). IsAt x.code (length c5.bytes) i (length c6.bytes))
               (ap (λ (p : ℕ). Fri p sign (x.word end)) at_place ∙ ap (λ (s : ℕ). Fri (loop_place n) s (x.word end)) signed ∙ ap (λ (w : ℕ). Fri (loop_place n) (loop_sign (compared_as (base_of k))) w) t.1) turns.1.1.0;
           round = record {
-            known = known_row x.layout v k x.plain sound.0;
+            known = known_row x v k sound.0;
             loaded = length c8.bytes;
             tested = length c9.bytes;
             start = length c10.bytes;
@@ -207,6 +219,6 @@ module _ (n : ℕ) (exit : Option ℕ) (v : ℕ) (k : Kind) (from to : Expressio
       (emits_mark c6 c7 c12 turn _ mark
       (emits_then c7 c8 c12 _ _ value
       (emits_then c8 c9 c12 _ _ test
-      (emits_then c9 c10 c12 _ _ store
+      (emits_then c9 c10 c12 _ _ (store_emitted v offset c9 c10 lies store)
       (emits_then c10 c11 c12 _ _ here next)))))))))))
       (omega (arith, makes.is, first.made, last.made)) put)

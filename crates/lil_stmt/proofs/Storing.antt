@@ -1,22 +1,20 @@
--- The code of values with their tests, and of the statements without statements in them.
-use Rattle.std.proofs.Common.{◌≡◌, ℕ, suc, ◌+◌, ◌<◌, ◌≤◌, Bool, List, [], ◌∷◌, ◌++◌, length, map, drop, get_or, Option, Some, refl, sym, ap, ◌∙◌, subst, arith}
+-- The code of values with their tests, of requests and of EXIT.
+use Rattle.std.proofs.Common.{◌≡◌, ℕ, suc, ◌+◌, ◌<◌, ◌≤◌, List, length, map, drop, get_or, Option, Some, refl, sym, ap, ◌∙◌, subst, arith}
 use Rattle.std.specs.Option.{option_map}
 use Rattle.std.proofs.lemmas.List.{length-map, drop_all}
 use Rattle.lil_resolved.specs.declared.resolved.RArgument.{RArgument}
 use Rattle.lil_resolved.specs.declared.resolved.RRequest.{RRequest}
 use Rattle.lil_resolved.specs.declared.resolved.RRequest.TheVariants as q
-use Rattle.lil_resolved.specs.Kinds.{Kind, OfWhole}
-use Rattle.lil_resolved.specs.Resolved.{Variable, Expression, Argument, Assign, Change, Request, Exit, kind_of, counted_as}
+use Rattle.lil_resolved.specs.Kinds.{Kind}
+use Rattle.lil_resolved.specs.Resolved.{Expression, Argument, Request, Exit, kind_of}
 use Rattle.lil_resolved.specs.Views.{request_number, argument_of}
 use Rattle.lil_resolved.specs.Sound.{IsSoundWhole, argument_kind, request_kinds}
-use Rattle.lil_asm.specs.declared.instr.Instr.{Instr}
-use Rattle.lil_asm.specs.declared.instr.Instr.TheVariants.{Lgw, Sgw, Swp, Jmp, Svc}
+use Rattle.lil_asm.specs.declared.instr.Instr.TheVariants.{Jmp, Svc}
 use Rattle.lil_asm.specs.Requests.{request_words}
-use Rattle.lil_table.specs.Rows.{InstrsAt, WholeRow, whole_code, change_operator, test_code}
+use Rattle.lil_table.specs.Rows.{InstrsAt, WholeRow, test_code}
 use Rattle.lil_labels.specs.Drafts.{Draft, Final, Meaning, Emits, Doing, DoingAll}
 use Rattle.lil_labels.specs.Emitting.{emits_none, emits_then, emits_as}
 use Rattle.lil_expr.specs.Generating.{Value}
-use Rattle.lil_expr.specs.Variables.{known_row}
 use Rattle.lil_stmt.specs.Generating.{Stored, Passed, Stated}
 use Rattle.lil_stmt.proofs.Counting.{left_from}
 
@@ -34,45 +32,6 @@ value_emitted e k j a b c typed value test =
       test = subst (λ (j : Kind). InstrsAt x.code (test_code k j) (length b.bytes) (length c.bytes)) typed t.1;
     })
     (emits_then a b c _ _ value test)
-
-pub assign_emitted : (v : ℕ) (k : Kind) (n : ℕ) (exit : Option ℕ) (e : Expression) (a b c : Draft) → Emits a b (Stored e k) → Emits b c (Doing (λ w. Sgw v)) → Emits a c (Stated n exit (Assign (Variable v) k e))
-assign_emitted v k n exit e a b c value store =
-    emits_as a c _ (Stated n exit (Assign (Variable v) k e))
-    (λ x t sound room. record { known = known_row x.layout v k x.plain sound.0; middle = length b.bytes; value = t.0 0 sound.1 (omega arith); store = t.1 })
-    (emits_then a b c _ _ value store)
-
--- ---- INC and DEC
--- instructions behind others
-instrs_join : (is js : List Instr) (code : List ℕ) (p q r : ℕ) → InstrsAt code is p q → InstrsAt code js q r → InstrsAt code (is ++ js) p r
-instrs_join [] js code p q r here rest = subst (λ (p : ℕ). InstrsAt code js p r) (sym here) rest
-instrs_join (i ∷ is) js code p q r here rest = (here.0, here.1, instrs_join is js code here.0 q r here.2 rest)
-
-pub change_emitted : (down : Bool) (v : ℕ) (k j : Kind) (e : Expression) (i : Instr) (n : ℕ) (exit : Option ℕ) (a b c d f : Draft) → whole_code (change_operator down) (counted_as k) ≡ i ∷ [] → j ≡ OfWhole (counted_as k)
-    → Emits a b (Value e) → Emits b c (DoingAll (Lgw v ∷ Swp ∷ i ∷ [])) → Emits c d (DoingAll (test_code k j)) → Emits d f (Doing (λ w. Sgw v))
-    → Emits a f (Stated n exit (Change down (Variable v) k e))
-change_emitted down v k j e i n exit a b c d f computes typed value loads test store =
-    emits_as a f _ (Stated n exit (Change down (Variable v) k e))
-    (λ x t sound room.
-    let first = t.1.0 in
-    let stored : InstrsAt x.code (Sgw v ∷ []) (length d.bytes) (length f.bytes) = (length f.bytes, t.1.1.1, refl) in
-    let tested = subst (λ (j : Kind). InstrsAt x.code (test_code k j) (length c.bytes) (length d.bytes)) typed t.1.1.0 in
-    let computed = subst (λ (is : List Instr). InstrsAt x.code is first.2.0 (length c.bytes)) (sym computes) first.2.2 in
-    record {
-      known = known_row x.layout v k x.plain sound.0;
-      middle = length b.bytes;
-      value = whole x 0 e (OfWhole (counted_as k)) _ _ (omega arith) sound.1 t.0;
-      by = (
-        first.0,
-        first.1,
-        (
-          first.2.0,
-          first.2.1,
-          instrs_join (whole_code (change_operator down) (counted_as k) ++ test_code k (OfWhole (counted_as k))) (Sgw v ∷ []) x.code first.2.0 (length d.bytes) (length f.bytes)
-              (instrs_join (whole_code (change_operator down) (counted_as k)) (test_code k (OfWhole (counted_as k))) x.code first.2.0 (length c.bytes) (length d.bytes) computed tested) stored,
-        ),
-      );
-    })
-    (emits_then a b f _ _ value (emits_then b c f _ _ loads (emits_then c d f _ _ test store)))
 
 -- ---- requests
 -- with the code of arguments from a number on behind it, it is that of all

@@ -7,12 +7,12 @@ use Rattle.lil_resolved.specs.declared.resolved.RGuard.{RGuard}
 use Rattle.lil_resolved.specs.declared.resolved.RArm.{RArm}
 use Rattle.lil_resolved.specs.declared.resolved.RLabel.{RLabel}
 use Rattle.lil_resolved.specs.Kinds.{Kind}
-use Rattle.lil_resolved.specs.Resolved.{Expression, Argument, Label, Statement, Statements}
+use Rattle.lil_resolved.specs.Resolved.{Designator, Expression, Argument, Label, Statement, Statements}
 use Rattle.lil_resolved.specs.Views.{guarded, guard_of, statements_of, label_of}
 use Rattle.lil_resolved.specs.Depth.{statement_loops, body_loops}
-use Rattle.lil_resolved.specs.Sound.{IsSoundValue, AreSoundArguments, IsSoundStatement, IsSoundBody}
+use Rattle.lil_resolved.specs.Sound.{IsSoundTarget, IsSoundValue, AreSoundArguments, IsSoundStatement, IsSoundBody}
 use Rattle.lil_asm.specs.declared.instr.Instr.TheVariants.{Jmp, Trp}
-use Rattle.lil_table.specs.Rows.{IsAt, ValueRow, ArgumentsAt, LeaveRow, AlignAt, StatementAt, BodyAt, loop_place}
+use Rattle.lil_table.specs.Rows.{IsAt, InstrsAt, Access, access_of, ready_code, readied, ValueRow, TargetRow, ArgumentsAt, LeaveRow, AlignAt, StatementAt, BodyAt, loop_place}
 use Rattle.lil_labels.specs.Drafts.{Final, Meaning, EntryAt, ChoiceAt}
 
 -- a sound value has its code and its test, where one of a kind is wanted and up to 4 words of others stand below its own
@@ -22,6 +22,18 @@ Stored e k x p q = (n : ℕ) → IsSoundValue x.layout.shapes e k → n ≤ 4 �
 -- the same of arguments, with n words of others below them
 abbrev pub Passed : ℕ → List Argument → Meaning
 Passed n given x p q = AreSoundArguments x.layout.shapes given → n + length given ≤ 4 → ArgumentsAt x.layout x.code n given p q
+
+-- what makes a place ready for a store, and how code then has it
+abbrev pub Readied : Access → Access → Meaning
+Readied a b x p q = InstrsAt x.code (ready_code a) p q × (b ≡ readied a)
+
+pub record TargetAt (d : Designator) (a : Access) (k : Kind) (x : Final) (p q : ℕ) : Type 0 where
+  pub row : TargetRow x.layout x.code d k p q
+  pub access : a ≡ readied (access_of x.layout d)
+
+-- a sound place that is stored to has its code, and is then ready
+abbrev pub Targeted : Designator → Access → Meaning
+Targeted d a x p q = (k : Kind) → IsSoundTarget x.layout.shapes d k → TargetAt d a k x p q
 
 -- With n FORs around it, a sound statement has its code where the frame has room for its own FORs. An EXIT leads to a label.
 abbrev pub Stated : ℕ → Option ℕ → Statement → Meaning

@@ -1,4 +1,4 @@
-//! What the kind of a variable says of the code of INC, DEC and FOR.
+//! What the kind of a place or a variable says of the code of INC, DEC and FOR.
 
 ghost use Rattle.std.specs.Prelude.{◌≡◌, [], ◌∷◌, OnOk};
 ghost use Rattle.lil_resolved.specs.Kinds as kinds;
@@ -16,7 +16,7 @@ use lil_expr::emit_test;
 use lil_labels::CodeBuffer;
 use lil_resolved::{Direction, RBase, RKind, whole_base};
 
-/// The base of the numbers that INC and DEC of a variable compute with.
+/// The base of the numbers that INC and DEC of a place of a kind compute with.
 #[tactic(auto, using(lil_resolved::specs::Bases::own_base))]
 pub(crate) fn counted_base(kind: RKind) -> RBase
     ensures { base_view result ≡ OfWhole (counted_as (kind_view kind)) }
@@ -24,7 +24,7 @@ pub(crate) fn counted_base(kind: RKind) -> RBase
     whole_base(kind.base)
 }
 
-/// The instruction by which INC or DEC of a variable computes.
+/// The instruction by which INC or DEC of such a place computes.
 #[tactic(auto, using(lil_resolved::specs::Bases::own_base))]
 pub(crate) fn change_instr(direction: Direction, kind: RKind) -> Instr
     ensures is { whole_code (change_operator (is_down direction)) (counted_as (kind_view kind)) ≡ result ∷ [] }
@@ -55,7 +55,7 @@ pub(crate) fn loop_sign(kind: RKind) -> u8
 
 /// Appends the test that a value of FOR may be stored in its variable.
 #[tactic(auto, using(lil_resolved::specs::Bases::own_base))]
-pub(crate) fn emit_turn_test(code: &mut CodeBuffer, kind: RKind) -> Result<(), Memory>
+pub(crate) fn emit_turn_test(code: &mut CodeBuffer<'_>, kind: RKind) -> Result<(), Memory>
     ensures { OnOk result (Emits code.old code.new (DoingAll (test_code (kind_view kind) (base_of (kind_view kind))))) }
 {
     emit_test(code, kind, kind.base)

@@ -7,6 +7,7 @@ mod loops;
 mod simple;
 mod starts;
 mod statements;
+mod targets;
 
 pub use loops::frame_words;
 pub use statements::{Around, emit_body};

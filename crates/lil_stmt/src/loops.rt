@@ -47,8 +47,8 @@ fn statement_fors(statement: &RStmt) -> u32
             body_fors(body.as_slice())
         }
         RStmt::For(_, _, _, _, body) => body_fors(body.as_slice()).saturating_add(1),
-        RStmt::Assign(_, _)
-        | RStmt::Change(_, _, _)
+        RStmt::Assign(_, _, _)
+        | RStmt::Change(_, _, _, _)
         | RStmt::Request(_, _)
         | RStmt::Exit
         | RStmt::Halt

@@ -3,58 +3,65 @@
 ghost use Rattle.std.specs.Prelude.{◌≡◌, ℕ, Option, map, OnOk};
 ghost use Rattle.lil_resolved.specs.Resolved as resolved;
 ghost use Rattle.lil_resolved.specs.Resolved.{Assign, Change, Exit};
-ghost use Rattle.lil_resolved.specs.Views.{kind_view, variable_of, variable_kind, is_down, request_number, argument_of, expression_of};
+ghost use Rattle.lil_resolved.specs.Views.{kind_view, place_of, is_down, request_number, argument_of, expression_of};
 ghost use Rattle.lil_labels.specs.Drafts.{Emits};
 ghost use Rattle.lil_stmt.specs.Generating.{Stated, Stored, Passed};
 
 use crate::kinds::{change_instr, counted_base};
 use crate::statements::Around;
+use crate::targets::{emit_again, emit_store, emit_target, emit_under};
 use lil_asm::Instr;
 use lil_base::Memory;
 use lil_expr::{emit_expression, emit_test};
 use lil_labels::{Aim, CodeBuffer};
-use lil_resolved::{Direction, RArgument, RExpr, RKind, RRequest, RVariable, base};
+use lil_resolved::{Direction, RArgument, RExpr, RKind, RPlace, RRequest, base};
 
 /// Appends the code of a value that is to be stored where one of a kind is wanted, and its test.
-fn emit_value(code: &mut CodeBuffer, value: &RExpr, kind: RKind) -> Result<(), Memory>
+fn emit_value(code: &mut CodeBuffer<'_>, value: &RExpr, kind: RKind) -> Result<(), Memory>
     ensures { OnOk result (Emits code.old code.new (Stored (expression_of value.now) (kind_view kind))) }
 {
     emit_expression(code, value)?;
     emit_test(code, kind, base(value))
 }
 
-/// Appends the code of an assignment: the value, its test, and the instruction that stores it.
+/// Appends the code of an assignment: the place, made ready, the value, its test, and the store.
 pub(crate) fn emit_assign(
-    code: &mut CodeBuffer,
-    variable: RVariable,
+    code: &mut CodeBuffer<'_>,
+    place: &RPlace,
+    kind: RKind,
     value: &RExpr,
 ) -> Result<(), Memory>
-    ensures { OnOk result ((n : ℕ) (exit : Option ℕ) → Emits code.old code.new (Stated n exit (Assign (variable_of variable) (variable_kind variable) (expression_of value.now)))) }
+    ensures { OnOk result ((n : ℕ) (exit : Option ℕ) → Emits code.old code.new (Stated n exit (Assign (place_of place.now) (kind_view kind) (expression_of value.now)))) }
 {
-    emit_value(code, value, variable.kind)?;
-    code.put(Instr::Sgw(variable.number))
+    let target = emit_target(code, place)?;
+    emit_value(code, value, kind)?;
+    emit_store(code, target)
 }
 
-/// Appends the code of INC or DEC: the number, the variable's below it, the sum or the difference, its test, and the
-/// instruction that stores it.
+/// Appends the code of INC or DEC: the place, made ready and kept, the number, the place's below it, the sum or the
+/// difference, its test, and the store.
 pub(crate) fn emit_change(
-    code: &mut CodeBuffer,
+    code: &mut CodeBuffer<'_>,
     direction: Direction,
-    variable: RVariable,
+    place: &RPlace,
+    kind: RKind,
     value: &RExpr,
 ) -> Result<(), Memory>
-    ensures { OnOk result ((n : ℕ) (exit : Option ℕ) → Emits code.old code.new (Stated n exit (Change (is_down direction) (variable_of variable) (variable_kind variable) (expression_of value.now)))) }
+    ensures { OnOk result ((n : ℕ) (exit : Option ℕ) → Emits code.old code.new (Stated n exit (Change (is_down direction) (place_of place.now) (kind_view kind) (expression_of value.now)))) }
 {
-    let computes = change_instr(direction, variable.kind);
+    let computes = change_instr(direction, kind);
+    let target = emit_target(code, place)?;
+    emit_again(code, target)?;
     emit_expression(code, value)?;
-    code.put_all(&[Instr::Lgw(variable.number), Instr::Swp, computes])?;
-    emit_test(code, variable.kind, counted_base(variable.kind))?;
-    code.put(Instr::Sgw(variable.number))
+    emit_under(code, target)?;
+    code.put(computes)?;
+    emit_test(code, kind, counted_base(kind))?;
+    emit_store(code, target)
 }
 
 /// Appends the code of a call of a resident procedure: the arguments, each with its test, and the request.
 pub(crate) fn emit_request(
-    code: &mut CodeBuffer,
+    code: &mut CodeBuffer<'_>,
     request: RRequest,
     given: &[RArgument],
 ) -> Result<(), Memory>
@@ -65,7 +72,7 @@ pub(crate) fn emit_request(
 }
 
 /// Appends the code of arguments, each with its test.
-fn emit_arguments(code: &mut CodeBuffer, given: &[RArgument]) -> Result<(), Memory>
+fn emit_arguments(code: &mut CodeBuffer<'_>, given: &[RArgument]) -> Result<(), Memory>
     ensures { OnOk result (Emits code.old code.new (Passed 0 (map argument_of given.now))) }
 {
     for argument in given {
@@ -89,7 +96,7 @@ fn request_code(request: RRequest) -> u8
 }
 
 /// Appends the code of an EXIT: a jump behind the LOOP around it.
-pub(crate) fn emit_exit(code: &mut CodeBuffer, around: Around) -> Result<(), Memory>
+pub(crate) fn emit_exit(code: &mut CodeBuffer<'_>, around: Around) -> Result<(), Memory>
     ensures { OnOk result (Emits code.old code.new (Stated around.fors around.exit Exit)) }
 {
     match around.exit {

@@ -40,7 +40,7 @@ fn outside_turns(kind: RKind, step: i16) -> bool
 /// Appends the code that does it, in a FOR that ends at a label: none where the start always is a number of the limit's
 /// type. Another start traps where it has turns, and leaves the FOR where it has none.
 pub(crate) fn emit_align(
-    code: &mut CodeBuffer,
+    code: &mut CodeBuffer<'_>,
     kind: RKind,
     from: &RExpr,
     step: i16,
@@ -59,7 +59,7 @@ pub(crate) fn emit_align(
 
 /// Appends the test that a start is a number of both types of whole numbers, where another start drops both bounds and
 /// leads to a label.
-fn emit_leave(code: &mut CodeBuffer, end: u32) -> Result<(), Memory>
+fn emit_leave(code: &mut CodeBuffer<'_>, end: u32) -> Result<(), Memory>
     ensures { OnOk result (Emits code.old code.new (Leaving end)) }
 {
     code.put_all(&[Instr::Swp, Instr::Dup, Instr::Liw(0), Instr::Lsi])?;

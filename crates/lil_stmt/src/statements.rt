@@ -2,7 +2,7 @@
 
 ghost use Rattle.std.specs.Prelude.{◌≡◌, length, IfOk, OnOk};
 ghost use Rattle.lil_resolved.specs.Resolved.{While, Repeat, Loop, For};
-ghost use Rattle.lil_resolved.specs.Views.{variable_of, variable_kind, expression_of, statement_of, statements_of, guard_of};
+ghost use Rattle.lil_resolved.specs.Views.{variable_kind, expression_of, statement_of, statements_of, guard_of};
 ghost use Rattle.lil_labels.specs.Drafts.{Emits};
 ghost use Rattle.lil_stmt.specs.Generating.{Stated, Body, Turning, Each, ArmPart, ArmBody, nothing_before, guards_before, paired};
 
@@ -26,7 +26,7 @@ pub struct Around {
 
 /// Appends the code of statements, one behind another.
 #[cycle(emitting)]
-pub fn emit_body(code: &mut CodeBuffer, body: &[RStmt], around: Around) -> Result<(), Memory>
+pub fn emit_body(code: &mut CodeBuffer<'_>, body: &[RStmt], around: Around) -> Result<(), Memory>
     ensures { OnOk result (Emits code.old code.new (Body around.fors around.exit (statements_of body.now))) }
 {
     for statement in body {
@@ -37,13 +37,17 @@ pub fn emit_body(code: &mut CodeBuffer, body: &[RStmt], around: Around) -> Resul
 
 /// Appends the code of a statement.
 #[cycle(emitting)]
-fn emit_statement(code: &mut CodeBuffer, statement: &RStmt, around: Around) -> Result<(), Memory>
+fn emit_statement(
+    code: &mut CodeBuffer<'_>,
+    statement: &RStmt,
+    around: Around,
+) -> Result<(), Memory>
     ensures { OnOk result (Emits code.old code.new (Body around.fors around.exit (statement_of statement.now))) }
 {
     match statement {
-        RStmt::Assign(variable, value) => emit_assign(code, *variable, value),
-        RStmt::Change(direction, variable, value) => {
-            emit_change(code, *direction, *variable, value)
+        RStmt::Assign(place, kind, value) => emit_assign(code, place, *kind, value),
+        RStmt::Change(direction, place, kind, value) => {
+            emit_change(code, *direction, place, *kind, value)
         }
         RStmt::Request(request, given) => emit_request(code, *request, given.as_slice()),
         RStmt::If(guards, otherwise) => {
@@ -92,7 +96,7 @@ fn emit_statement(code: &mut CodeBuffer, statement: &RStmt, around: Around) -> R
 /// Appends the code of the guards of an IF that ends at a label.
 #[cycle(emitting)]
 fn emit_guards(
-    code: &mut CodeBuffer,
+    code: &mut CodeBuffer<'_>,
     guards: &[RGuard],
     end: u32,
     around: Around,
@@ -108,7 +112,12 @@ fn emit_guards(
 /// Appends the code of a guard of an IF that ends at a label: the condition, a jump behind this guard where it is FALSE,
 /// the statements, and a jump to the end.
 #[cycle(emitting)]
-fn emit_guard(code: &mut CodeBuffer, guard: &RGuard, end: u32, around: Around) -> Result<(), Memory>
+fn emit_guard(
+    code: &mut CodeBuffer<'_>,
+    guard: &RGuard,
+    end: u32,
+    around: Around,
+) -> Result<(), Memory>
     ensures { OnOk result (Emits code.old code.new (Turning around.fors around.exit end nothing_before (guard_of guard.now))) }
 {
     emit_expression(code, &guard.condition)?;
@@ -122,7 +131,7 @@ fn emit_guard(code: &mut CodeBuffer, guard: &RGuard, end: u32, around: Around) -
 /// Appends the bodies of arms, each with a jump to the exit, and gives the labels of their places.
 #[cycle(emitting)]
 fn emit_arms(
-    code: &mut CodeBuffer,
+    code: &mut CodeBuffer<'_>,
     arms: &[RArm],
     leave: u32,
     around: Around,
@@ -141,7 +150,7 @@ fn emit_arms(
 /// Appends the statements of an arm, and a jump to the exit. It gives the label of their place.
 #[cycle(emitting)]
 fn emit_arm(
-    code: &mut CodeBuffer,
+    code: &mut CodeBuffer<'_>,
     body: &[RStmt],
     leave: u32,
     around: Around,
@@ -157,7 +166,7 @@ fn emit_arm(
 /// Appends the code of a WHILE: the condition, a jump behind all where it is FALSE, the statements, and a jump back.
 #[cycle(emitting)]
 fn emit_while(
-    code: &mut CodeBuffer,
+    code: &mut CodeBuffer<'_>,
     body: &[RStmt],
     condition: &RExpr,
     around: Around,
@@ -176,7 +185,7 @@ fn emit_while(
 /// Appends the code of a REPEAT: the statements, the condition, and a jump back where it is FALSE.
 #[cycle(emitting)]
 fn emit_repeat(
-    code: &mut CodeBuffer,
+    code: &mut CodeBuffer<'_>,
     body: &[RStmt],
     condition: &RExpr,
     around: Around,
@@ -191,7 +200,7 @@ fn emit_repeat(
 
 /// Appends the code of a LOOP: the statements, and a jump back. EXITs in it jump behind that.
 #[cycle(emitting)]
-fn emit_loop(code: &mut CodeBuffer, body: &[RStmt], around: Around) -> Result<(), Memory>
+fn emit_loop(code: &mut CodeBuffer<'_>, body: &[RStmt], around: Around) -> Result<(), Memory>
     ensures { OnOk result (Emits code.old code.new (Stated around.fors around.exit (Loop (statements_of body.now)))) }
 {
     let again = code.mark()?;
@@ -209,7 +218,7 @@ fn emit_loop(code: &mut CodeBuffer, body: &[RStmt], around: Around) -> Result<()
 /// turns. Each turn tests its value and stores it in the variable, and the statements follow.
 #[cycle(emitting)]
 fn emit_for(
-    code: &mut CodeBuffer,
+    code: &mut CodeBuffer<'_>,
     body: &[RStmt],
     variable: RVariable,
     from: &RExpr,
@@ -217,7 +226,7 @@ fn emit_for(
     step: i16,
     around: Around,
 ) -> Result<(), Memory>
-    ensures { OnOk result (Emits code.old code.new (Stated around.fors around.exit (For (variable_of variable) (variable_kind variable) (expression_of from.now) (expression_of to.now) step (statements_of body.now)))) }
+    ensures { OnOk result (Emits code.old code.new (Stated around.fors around.exit (For variable.number (variable_kind variable) (expression_of from.now) (expression_of to.now) step (statements_of body.now)))) }
 {
     emit_expression(code, from)?;
     emit_expression(code, to)?;
@@ -229,7 +238,8 @@ fn emit_for(
     let turn = code.mark()?;
     code.put(Instr::Llw(place))?;
     emit_turn_test(code, variable.kind)?;
-    code.put(Instr::Sgw(variable.number))?;
+    let lies = code.variable(variable.number);
+    code.put(Instr::Sgw(lies.offset))?;
     let inside = Around {
         fors: around.fors.saturating_add(1),
         exit: around.exit,

@@ -6,15 +6,15 @@ use Rattle.lil_base.specs.declared.operator.OneOp.TheVariants as one
 use Rattle.lil_base.specs.declared.operator.TwoOp.{TwoOp}
 use Rattle.lil_base.specs.declared.operator.TwoOp.TheVariants.{Equal, In, Or, Slash, And}
 use Rattle.lil_resolved.specs.Kinds.{Kind, OfWhole, OfCharacter, base_of, compared_as, covers, shared, outside_turns}
-use Rattle.lil_resolved.specs.Resolved.{Variable, Function, Abs, Cap, Chr, Odd, Ord, Val, Expression, Constant, Taken, One, Two, Short, Apply, Argument, Label, Statement, Assign, Change, Request, If, Case, While, Repeat, Loop, Exit, Halt, Return, For, Statements, Empty, Then, Arms, NoElse, Else, Arm, Resolved, kind_of, counted_as}
+use Rattle.lil_resolved.specs.Resolved.{Designator, Variable, Field, Element, Function, Abs, Cap, Chr, Odd, Ord, Val, Expression, Constant, Taken, One, Two, Short, Apply, Argument, Label, Statement, Assign, Change, Request, If, Case, While, Repeat, Loop, Exit, Halt, Return, For, Statements, Empty, Then, Arms, NoElse, Else, Arm, Resolved, kind_of, counted_as}
 use Rattle.lil_resolved.specs.Depth.{frame_words}
 use Rattle.lil_resolved.specs.Sound.{takes_two}
-use Rattle.lil_resolved.specs.Sizes.{one_size, two_size, test_size, function_size, size, arguments_size, statement_size, body_size, arms_size, code_size}
+use Rattle.lil_resolved.specs.Sizes.{one_size, two_size, test_size, function_size, Form, Direct, Exact, Beyond, field_form, form_of, address_size, load_size, ready_size, store_size, again_size, under_size, place_size, target_size, size, arguments_size, statement_size, body_size, arms_size, code_size}
 use Rattle.lil_asm.specs.declared.instr.Instr.{Instr}
 use Rattle.lil_asm.specs.declared.instr.Instr.TheVariants.{Liw, Dup, Drp, Llw, Sgw, Swp, Rgc, Lsi, Ent, Rtn, Jmp, Jpf, Cas, Fri, Frn, Trp, Svc}
 use Rattle.lil_asm.specs.Bytes.{bytes_of}
 use Rattle.lil_asm.specs.Decoding.{decoded_stands}
-use Rattle.lil_table.specs.Rows.{Layout, IsAt, InstrsAt, one_code, whole_code, two_code, range_code, test_code, function_code, change_operator, change_code, short_code, loop_place, loop_sign, ValueRow, EntriesAt, AlignAt, ExpressionAt, ArgumentsAt, StatementAt, BodyAt, ArmsAt, TranslatesBy}
+use Rattle.lil_table.specs.Rows.{Layout, IsAt, InstrsAt, one_code, whole_code, two_code, range_code, test_code, function_code, Access, InData, OnTop, Behind, further, access_of, address_code, load_code, ready_code, readied, held, store_code, again_code, under_code, change_operator, change_code, short_code, loop_place, loop_sign, ValueRow, TargetRow, EntriesAt, AlignAt, PlaceAt, ExpressionAt, ArgumentsAt, StatementAt, BodyAt, ArmsAt, TranslatesBy}
 
 -- the bytes of an instruction, and of several
 abbrev pub instr_size : Instr → ℕ
@@ -70,14 +70,63 @@ function_sized Odd k = refl
 function_sized Ord k = test_sized (OfWhole Cardinal) k
 function_sized (Val j) k = test_sized j k
 
-change_sized : (down : Bool) (k : Kind) (offset : ℕ) → instrs_size (change_code down k offset) ≡ 5 + test_size k (OfWhole (counted_as k)) + 3
-change_sized down k offset =
+-- ---- how code has a place
+abbrev access_form : Access → Form
+access_form (InData o) = Direct
+access_form OnTop = Exact
+access_form (Behind o) = Beyond
+
+further_formed : (n : ℕ) (a : Access) → access_form (further n a) ≡ field_form (access_form a)
+further_formed n (InData o) = refl
+further_formed n OnTop = refl
+further_formed n (Behind o) = refl
+
+formed : (l : Layout) (d : Designator) → access_form (access_of l d) ≡ form_of d
+formed l (Variable x) = refl
+formed l (Field d i) = further_formed _ (access_of l d) ∙ ap field_form (formed l d)
+formed l (Element d k e) = refl
+
+address_sized : (a : Access) → instrs_size (address_code a) ≡ address_size (access_form a)
+address_sized (InData o) = refl
+address_sized OnTop = refl
+address_sized (Behind o) = refl
+
+load_sized : (a : Access) → instr_size (load_code a) ≡ load_size (access_form a)
+load_sized (InData o) = refl
+load_sized OnTop = refl
+load_sized (Behind o) = refl
+
+ready_sized : (a : Access) → instrs_size (ready_code a) ≡ ready_size (access_form a)
+ready_sized (InData o) = refl
+ready_sized OnTop = refl
+ready_sized (Behind o) = refl
+
+store_sized : (a : Access) → instr_size (store_code (readied a)) ≡ store_size (access_form a)
+store_sized (InData o) = refl
+store_sized OnTop = refl
+store_sized (Behind o) = refl
+
+again_sized : (a : Access) → instrs_size (again_code (readied a)) ≡ again_size (access_form a)
+again_sized (InData o) = refl
+again_sized OnTop = refl
+again_sized (Behind o) = refl
+
+under_sized : (a : Access) → instrs_size (under_code (readied a)) ≡ under_size (access_form a)
+under_sized (InData o) = refl
+under_sized OnTop = refl
+under_sized (Behind o) = refl
+
+change_sized : (down : Bool) (k : Kind) (a : Access) → instrs_size (change_code down k (readied a)) ≡ under_size (access_form a) + 1 + test_size k (OfWhole (counted_as k)) + store_size (access_form a)
+change_sized down k a =
     omega (
       arith,
-      instrs_both (whole_code (change_operator down) (counted_as k) ++ test_code k (OfWhole (counted_as k))) (Sgw offset ∷ []),
-      instrs_both (whole_code (change_operator down) (counted_as k)) (test_code k (OfWhole (counted_as k))),
+      instrs_both (under_code (readied a) ++ whole_code (change_operator down) (counted_as k) ++ test_code k (OfWhole (counted_as k))) (store_code (readied a) ∷ []),
+      instrs_both (under_code (readied a) ++ whole_code (change_operator down) (counted_as k)) (test_code k (OfWhole (counted_as k))),
+      instrs_both (under_code (readied a)) (whole_code (change_operator down) (counted_as k)),
+      under_sized a,
       by down (counted_as k),
       test_sized k (OfWhole (counted_as k)),
+      store_sized a,
     )
   where
     by : (down : Bool) (t : Whole) → instrs_size (whole_code (change_operator down) t) ≡ 1
@@ -97,20 +146,41 @@ instrs_long code (i ∷ is) p q h = omega (arith, instr_long code p i h.0 h.1, i
 test_long : (code : List ℕ) (k j : Kind) (p q : ℕ) → InstrsAt code (test_code k j) p q → q ≡ p + test_size k j
 test_long code k j p q h = omega (arith, instrs_long code (test_code k j) p q h, test_sized k j)
 
-pub expression_long : (l : Layout) (code : List ℕ) (e : Expression) (p q : ℕ) → ExpressionAt l code e p q → q ≡ p + size e
-expression_long l code (Constant k v) p q h = instr_long code p _ q h.load
-expression_long l code (Taken (Variable x) k) p q h = instr_long code p _ q h.load
-expression_long l code (One o k a) p q h =
-    omega (arith, expression_long l code a p h.middle h.first, instrs_long code (one_code o k) h.middle q h.by, one_sized o k)
-expression_long l code (Two o k a b) p q h =
-    omega (arith, expression_long l code a p h.middle h.first, expression_long l code b h.middle h.last h.second, instrs_long code (two_code o k) h.last q h.by, two_sized o k h.takes)
-expression_long l code (Short d a b) p q h =
-    omega (arith, expression_long l code a p h.middle h.first, instr_long code h.middle (short_code d (l.target q)) h.start h.test, short_sized d (l.target q), expression_long l code b h.start q h.second)
-expression_long l code (Apply f a) p q h =
-    omega (arith, expression_long l code a p h.middle h.first, instrs_long code (function_code f (kind_of a)) h.middle q h.by, function_sized f (kind_of a))
+mutual
+  pub place_long : (l : Layout) (code : List ℕ) (d : Designator) (p q : ℕ) → PlaceAt l code d p q → q ≡ p + place_size d
+  place_long l code (Variable x) p q h = omega (arith, h.stays)
+  place_long l code (Field d i) p q h = place_long l code d p q h.here
+  place_long l code (Element d k e) p q h =
+      omega (
+        arith,
+        place_long l code d p h.found h.here,
+        instrs_long code (address_code (access_of l d)) h.found h.start h.address,
+        address_sized (access_of l d),
+        ap address_size (formed l d),
+        expression_long l code e h.start h.middle h.value,
+        test_long code k (kind_of e) h.middle h.tested h.test,
+        instr_long code h.tested _ q h.by,
+      )
+
+  pub expression_long : (l : Layout) (code : List ℕ) (e : Expression) (p q : ℕ) → ExpressionAt l code e p q → q ≡ p + size e
+  expression_long l code (Constant k v) p q h = instr_long code p _ q h.load
+  expression_long l code (Taken d k) p q h =
+      omega (arith, place_long l code d p h.found h.here, instr_long code h.found (load_code (access_of l d)) q h.load, load_sized (access_of l d), ap load_size (formed l d))
+  expression_long l code (One o k a) p q h =
+      omega (arith, expression_long l code a p h.middle h.first, instrs_long code (one_code o k) h.middle q h.by, one_sized o k)
+  expression_long l code (Two o k a b) p q h =
+      omega (arith, expression_long l code a p h.middle h.first, expression_long l code b h.middle h.last h.second, instrs_long code (two_code o k) h.last q h.by, two_sized o k h.takes)
+  expression_long l code (Short d a b) p q h =
+      omega (arith, expression_long l code a p h.middle h.first, instr_long code h.middle (short_code d (l.target q)) h.start h.test, short_sized d (l.target q), expression_long l code b h.start q h.second)
+  expression_long l code (Apply f a) p q h =
+      omega (arith, expression_long l code a p h.middle h.first, instrs_long code (function_code f (kind_of a)) h.middle q h.by, function_sized f (kind_of a))
 
 value_long : (l : Layout) (code : List ℕ) (n : ℕ) (e : Expression) (k : Kind) (p q : ℕ) → ValueRow l code n e k p q → q ≡ p + (size e + test_size k (kind_of e))
 value_long l code n e k p q h = omega (arith, expression_long l code e p h.middle h.value.value, test_long code k (kind_of e) h.middle q h.test)
+
+target_long : (l : Layout) (code : List ℕ) (d : Designator) (k : Kind) (p q : ℕ) → TargetRow l code d k p q → q ≡ p + target_size d
+target_long l code d k p q h =
+    omega (arith, place_long l code d p h.found h.here, instrs_long code (ready_code (access_of l d)) h.found q h.ready, ready_sized (access_of l d), ap ready_size (formed l d))
 
 arguments_long : (l : Layout) (code : List ℕ) (n : ℕ) (given : List Argument) (p q : ℕ) → ArgumentsAt l code n given p q → q ≡ p + arguments_size given
 arguments_long l code n [] p q h = omega (arith, h)
@@ -132,9 +202,23 @@ entries_end code k (label ∷ labels) to rest t (suc w) h =
 
 mutual
   pub statement_long : (l : Layout) (code : List ℕ) (n : ℕ) (exit : Option ℕ) (s : Statement) (p q : ℕ) → StatementAt l code n exit s p q → q ≡ p + statement_size s
-  statement_long l code n exit (Assign (Variable x) k e) p q h = omega (arith, value_long l code 0 e k p h.middle h.value, instr_long code h.middle (Sgw h.known.offset) q h.store)
-  statement_long l code n exit (Change down (Variable x) k e) p q h =
-      omega (arith, expression_long l code e p h.middle h.value.value, instrs_long code (change_code down k h.known.offset) h.middle q h.by, change_sized down k h.known.offset)
+  statement_long l code n exit (Assign d k e) p q h =
+      let a = access_of l d in
+      omega (arith, target_long l code d k p h.start h.target, value_long l code (held (readied a)) e k h.start h.middle h.value, instr_long code h.middle (store_code (readied a)) q h.store, store_sized a, ap store_size (formed l d))
+  statement_long l code n exit (Change down d k e) p q h =
+      let a = access_of l d in
+      omega (
+        arith,
+        target_long l code d k p h.start h.target,
+        instrs_long code (again_code (readied a)) h.start h.kept h.again,
+        again_sized a,
+        ap again_size (formed l d),
+        expression_long l code e h.kept h.middle h.value.value,
+        instrs_long code (change_code down k (readied a)) h.middle q h.by,
+        change_sized down k a,
+        ap under_size (formed l d),
+        ap store_size (formed l d),
+      )
   statement_long l code n exit (Request r given) p q h = omega (arith, arguments_long l code 0 given p h.middle h.arguments, instr_long code h.middle (Svc r) q h.by)
   statement_long l code n exit (If c a b) p q h =
       omega (arith, expression_long l code c p h.middle h.condition.value, instr_long code h.middle (Jpf (l.target h.other)) h.start h.jump, body_long l code n exit a h.start h.end h.chosen, instr_long code h.end (Jmp (l.target q)) h.other h.skip, body_long l code n exit b h.other q h.otherwise)
@@ -156,7 +240,7 @@ mutual
   statement_long l code n exit Exit p q h = instr_long code p (Jmp h.to) q h.jump
   statement_long l code n exit Halt p q h = instr_long code p (Trp 9) q h
   statement_long l code n exit Return p q h = instr_long code p Rtn q h
-  statement_long l code n exit (For (Variable x) k a b step body) p q h =
+  statement_long l code n exit (For x k a b step body) p q h =
       let t = h.turns in
       let r = t.round in
       omega (

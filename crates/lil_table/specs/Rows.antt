@@ -6,14 +6,14 @@ use Rattle.lil_base.specs.declared.operator.OneOp.{OneOp}
 use Rattle.lil_base.specs.declared.operator.OneOp.TheVariants as one
 use Rattle.lil_base.specs.declared.operator.TwoOp.{TwoOp}
 use Rattle.lil_base.specs.declared.operator.TwoOp.TheVariants.{Equal, Unequal, Less, AtMost, Greater, AtLeast, Plus, Minus, Times, Div, Mod}
-use Rattle.lil_resolved.specs.Kinds.{Kind, OfWhole, OfTruth, OfCharacter, base_of, is_base, takes_value, compared_as, covers, shared, outside_turns}
+use Rattle.lil_resolved.specs.Kinds.{Kind, OfWhole, OfTruth, OfCharacter, base_of, is_base, takes_value, compared_as, covers, shared, outside_turns, least, numbers}
 use Rattle.lil_resolved.specs.Scalars.{Scalar, within, scalar_word}
-use Rattle.lil_resolved.specs.Shapes.{Shape, Word, words, all_words}
-use Rattle.lil_resolved.specs.Resolved.{Designator, Variable, Function, Abs, Cap, Chr, Odd, Ord, Val, Expression, Constant, Taken, One, Two, Short, Apply, Argument, Label, Statement, Assign, Change, Request, If, Case, While, Repeat, Loop, Exit, Halt, Return, For, Statements, Empty, Then, Arms, NoElse, Else, Arm, Resolved, kind_of, counted_as}
-use Rattle.lil_resolved.specs.Depth.{depth, frame_words}
-use Rattle.lil_resolved.specs.Sound.{takes_one, takes_two, takes_function, IsSoundLabel, IsStep}
+use Rattle.lil_resolved.specs.Shapes.{Shape, Word, Row, words, is_there, part_at, offset, all_words, offsets_from, element_of}
+use Rattle.lil_resolved.specs.Resolved.{Designator, Variable, Field, Element, Function, Abs, Cap, Chr, Odd, Ord, Val, Expression, Constant, Taken, One, Two, Short, Apply, Argument, Label, Statement, Assign, Change, Request, If, Case, While, Repeat, Loop, Exit, Halt, Return, For, Statements, Empty, Then, Arms, NoElse, Else, Arm, Resolved, kind_of, counted_as, shape_of}
+use Rattle.lil_resolved.specs.Depth.{place_depth, depth, frame_words}
+use Rattle.lil_resolved.specs.Sound.{takes_one, takes_two, takes_function, IsScalar, IsSoundLabel, IsStep}
 use Rattle.lil_asm.specs.declared.instr.Instr.{Instr}
-use Rattle.lil_asm.specs.declared.instr.Instr.TheVariants.{Liw, Dup, Drp, Llw, Lgw, Sgw, Swp, Rgc, Rgi, Cap, Adc, Sbc, Mlc, Dvc, Mdc, Adi, Sbi, Mli, Dvi, Mdi, Ngi, Abi, Not, Equ, Neq, Lsc, Lec, Lsi, Lei, Ent, Rtn, Jmp, Jpf, Jan, Jor, Cas, Fri, Frn, Trp, Svc}
+use Rattle.lil_asm.specs.declared.instr.Instr.TheVariants.{Liw, Dup, Drp, Llw, Lgw, Sgw, Lag, Ldi, Sti, Ldf, Adf, Ixc, Swp, Rgc, Rgi, Cap, Adc, Sbc, Mlc, Dvc, Mdc, Adi, Sbi, Mli, Dvi, Mdi, Ngi, Abi, Not, Equ, Neq, Lsc, Lec, Lsi, Lei, Ent, Rtn, Jmp, Jpf, Jan, Jor, Cas, Fri, Frn, Trp, Svc}
 use Rattle.lil_asm.specs.Bytes.{word_at, decoded}
 use Rattle.lil_asm.specs.Requests.{request_words}
 
@@ -25,11 +25,6 @@ pub record Layout : Type 0 where
   pub words : ℕ
   pub frame : ℕ
   pub target : ℕ → ℕ
-
--- variables one behind another, from an offset on
-abbrev pub offsets_from : ℕ → List Shape → List ℕ
-offsets_from n [] = []
-offsets_from n (t ∷ ts) = n ∷ offsets_from (n + words t) ts
 
 -- a place as it is, and cut to 16 bits
 abbrev pub exactly : ℕ → ℕ
@@ -114,29 +109,99 @@ function_code Odd k = Liw 2 ∷ Mdc ∷ []
 function_code Ord k = test_code (OfWhole Cardinal) k
 function_code (Val j) k = test_code j k
 
--- the instructions of INC and DEC of a variable at an offset, behind the number that they add or take away: the variable's number comes
--- below it, the sum or the difference is tested, and stored
+-- ---- places
+-- how code has a place: at an offset in the data of the module at hand, by its address on the expression stack, or so many words behind
+-- that address
+pub data Access : Type 0 where
+  InData : (offset : ℕ) → Access
+  OnTop : Access
+  Behind : (offset : ℕ) → Access
+
+-- the place so many words further
+abbrev pub further : ℕ → Access → Access
+further n (InData o) = InData (o + n)
+further n OnTop = Behind n
+further n (Behind o) = Behind (o + n)
+
+abbrev pub offset_in : Option ℕ → ℕ
+offset_in None = 0
+offset_in (Some o) = o
+
+-- how code has the place of a designator
+abbrev pub access_of : Layout → Designator → Access
+access_of l (Variable x) = InData (offset_in (slice_get l.offsets x))
+access_of l (Field d i) = further (offset (shape_of l.shapes d) (i ∷ [])) (access_of l d)
+access_of l (Element d k e) = OnTop
+
+-- the instructions that bring its address to the expression stack
+abbrev pub address_code : Access → List Instr
+address_code (InData o) = Lag o ∷ []
+address_code OnTop = []
+address_code (Behind o) = Adf o ∷ []
+
+-- the instruction that brings the word that lies there
+abbrev pub load_code : Access → Instr
+load_code (InData o) = Lgw o
+load_code OnTop = Ldi
+load_code (Behind o) = Ldf o
+
+-- what makes it ready for a store, how code has it then, and the words of the expression stack that it takes
+abbrev pub ready_code : Access → List Instr
+ready_code (InData o) = []
+ready_code OnTop = []
+ready_code (Behind o) = Adf o ∷ []
+
+abbrev pub readied : Access → Access
+readied (InData o) = InData o
+readied OnTop = OnTop
+readied (Behind o) = OnTop
+
+abbrev pub held : Access → ℕ
+held (InData o) = 0
+held OnTop = 1
+held (Behind o) = 1
+
+-- the store to a place that is ready
+abbrev pub store_code : Access → Instr
+store_code (InData o) = Sgw o
+store_code OnTop = Sti
+store_code (Behind o) = Sti
+
+-- INC and DEC use it twice: what keeps it, the words that it then takes, and what brings the word that lies there below a number
+abbrev pub again_code : Access → List Instr
+again_code (InData o) = []
+again_code OnTop = Dup ∷ []
+again_code (Behind o) = Dup ∷ []
+
+abbrev pub held_twice : Access → ℕ
+held_twice (InData o) = 0
+held_twice OnTop = 2
+held_twice (Behind o) = 2
+
+abbrev pub under_code : Access → List Instr
+under_code (InData o) = Lgw o ∷ Swp ∷ []
+under_code OnTop = Swp ∷ Ldi ∷ Swp ∷ []
+under_code (Behind o) = Swp ∷ Ldi ∷ Swp ∷ []
+
+-- the instructions of INC and DEC behind the number that they add or take away: the number at the place comes below it, the sum or the
+-- difference is tested, and stored
 abbrev pub change_operator : Bool → TwoOp
 change_operator false = Plus
 change_operator true = Minus
 
-abbrev pub change_code : Bool → Kind → ℕ → List Instr
-change_code down k offset = Lgw offset ∷ Swp ∷ whole_code (change_operator down) (counted_as k) ++ test_code k (OfWhole (counted_as k)) ++ Sgw offset ∷ []
+abbrev pub change_code : Bool → Kind → Access → List Instr
+change_code down k a = under_code a ++ whole_code (change_operator down) (counted_as k) ++ test_code k (OfWhole (counted_as k)) ++ store_code a ∷ []
 
 pub record ConstantRow (code : List ℕ) (k : Kind) (v : Scalar) (p q : ℕ) : Type 0 where
   pub fits : within k v ≡ true
   pub load : IsAt code p (Liw (scalar_word v)) q
 
--- where a variable lies, whose values have words
+-- where a variable lies that has a kind, whose values have words
 pub record KnownRow (l : Layout) (x : ℕ) (k : Kind) : Type 0 where
   pub offset : ℕ
   pub at : slice_get l.offsets x ≡ Some offset
   pub typed : slice_get l.shapes x ≡ Some (Word k)
   pub base : is_base (base_of k) ≡ true
-
-pub record VariableRow (l : Layout) (code : List ℕ) (x : ℕ) (k : Kind) (p q : ℕ) : Type 0 where
-  pub known : KnownRow l x k
-  pub load : IsAt code p (Lgw known.offset) q
 
 pub record OneRow (code : List ℕ) (o : OneOp) (k : Kind) (a : Expression) (value : Span) (p q : ℕ) : Type 0 where
   pub middle : ℕ
@@ -176,16 +241,55 @@ pub record ApplyRow (code : List ℕ) (f : Function) (a : Expression) (value : S
   pub first : value p middle
   pub by : InstrsAt code (function_code f (kind_of a)) middle q
 
-abbrev pub TakenAt : Layout → List ℕ → Designator → Kind → Span
-TakenAt l code (Variable x) k p q = VariableRow l code x k p q
+-- a variable takes no code
+pub record NamedRow (l : Layout) (x p q : ℕ) : Type 0 where
+  pub offset : ℕ
+  pub shape : Shape
+  pub at : slice_get l.offsets x ≡ Some offset
+  pub typed : slice_get l.shapes x ≡ Some shape
+  pub there : is_there shape ≡ true
+  pub stays : p ≡ q
 
-abbrev pub ExpressionAt : Layout → List ℕ → Expression → Span
-ExpressionAt l code (Constant k v) p q = ConstantRow code k v p q
-ExpressionAt l code (Taken d k) p q = TakenAt l code d k p q
-ExpressionAt l code (One o k a) p q = OneRow code o k a (ExpressionAt l code a) p q
-ExpressionAt l code (Two o k a b) p q = TwoRow code o k a b (ExpressionAt l code a) (ExpressionAt l code b) p q
-ExpressionAt l code (Short d a b) p q = ShortRow l code d a b (ExpressionAt l code a) (ExpressionAt l code b) p q
-ExpressionAt l code (Apply f a) p q = ApplyRow code f a (ExpressionAt l code a) p q
+-- nor does a field
+pub record FieldRow (l : Layout) (d : Designator) (i : ℕ) (record' : Span) (p q : ℕ) : Type 0 where
+  pub there : is_there (part_at (shape_of l.shapes d) (i ∷ [])) ≡ true
+  pub here : record' p q
+
+-- the address of an array, an index and its test, and the address of the element
+pub record ElementRow (l : Layout) (code : List ℕ) (d : Designator) (k : Kind) (e : Expression) (array index : Span) (p q : ℕ) : Type 0 where
+  pub found : ℕ
+  pub start : ℕ
+  pub middle : ℕ
+  pub tested : ℕ
+  pub rows : shape_of l.shapes d ≡ Row (numbers k) (element_of (shape_of l.shapes d))
+  pub there : is_there (element_of (shape_of l.shapes d)) ≡ true
+  pub takes : takes_value k (kind_of e) ≡ true
+  pub here : array p found
+  pub address : InstrsAt code (address_code (access_of l d)) found start
+  pub value : index start middle
+  pub test : InstrsAt code (test_code k (kind_of e)) middle tested
+  pub by : IsAt code tested (Ixc (word_of (least k)) (words (element_of (shape_of l.shapes d)))) q
+
+-- a place, and the load of the word that lies there
+pub record TakenRow (l : Layout) (code : List ℕ) (d : Designator) (k : Kind) (place : Span) (p q : ℕ) : Type 0 where
+  pub found : ℕ
+  pub scalar : IsScalar l.shapes d k
+  pub here : place p found
+  pub load : IsAt code found (load_code (access_of l d)) q
+
+abbrev mutual
+  pub PlaceAt : Layout → List ℕ → Designator → Span
+  PlaceAt l code (Variable x) p q = NamedRow l x p q
+  PlaceAt l code (Field d i) p q = FieldRow l d i (PlaceAt l code d) p q
+  PlaceAt l code (Element d k e) p q = ElementRow l code d k e (PlaceAt l code d) (ExpressionAt l code e) p q
+
+  pub ExpressionAt : Layout → List ℕ → Expression → Span
+  ExpressionAt l code (Constant k v) p q = ConstantRow code k v p q
+  ExpressionAt l code (Taken d k) p q = TakenRow l code d k (PlaceAt l code d) p q
+  ExpressionAt l code (One o k a) p q = OneRow code o k a (ExpressionAt l code a) p q
+  ExpressionAt l code (Two o k a b) p q = TwoRow code o k a b (ExpressionAt l code a) (ExpressionAt l code b) p q
+  ExpressionAt l code (Short d a b) p q = ShortRow l code d a b (ExpressionAt l code a) (ExpressionAt l code b) p q
+  ExpressionAt l code (Apply f a) p q = ApplyRow code f a (ExpressionAt l code a) p q
 
 -- an expression of a kind, with n words of others below its own
 pub record WholeRow (l : Layout) (code : List ℕ) (n : ℕ) (e : Expression) (k : Kind) (p q : ℕ) : Type 0 where
@@ -200,17 +304,29 @@ pub record ValueRow (l : Layout) (code : List ℕ) (n : ℕ) (e : Expression) (k
   pub value : WholeRow l code n e (kind_of e) p middle
   pub test : InstrsAt code (test_code k (kind_of e)) middle q
 
-pub record AssignRow (l : Layout) (code : List ℕ) (x : ℕ) (k : Kind) (e : Expression) (p q : ℕ) : Type 0 where
-  pub known : KnownRow l x k
-  pub middle : ℕ
-  pub value : ValueRow l code 0 e k p middle
-  pub store : IsAt code middle (Sgw known.offset) q
+-- a place of a kind that is made ready for a store
+pub record TargetRow (l : Layout) (code : List ℕ) (d : Designator) (k : Kind) (p q : ℕ) : Type 0 where
+  pub found : ℕ
+  pub scalar : IsScalar l.shapes d k
+  pub shallow : place_depth d ≤ 16
+  pub here : PlaceAt l code d p found
+  pub ready : InstrsAt code (ready_code (access_of l d)) found q
 
-pub record ChangeRow (l : Layout) (code : List ℕ) (down : Bool) (x : ℕ) (k : Kind) (e : Expression) (p q : ℕ) : Type 0 where
-  pub known : KnownRow l x k
+pub record AssignRow (l : Layout) (code : List ℕ) (d : Designator) (k : Kind) (e : Expression) (p q : ℕ) : Type 0 where
+  pub start : ℕ
   pub middle : ℕ
-  pub value : WholeRow l code 0 e (OfWhole (counted_as k)) p middle
-  pub by : InstrsAt code (change_code down k known.offset) middle q
+  pub target : TargetRow l code d k p start
+  pub value : ValueRow l code (held (readied (access_of l d))) e k start middle
+  pub store : IsAt code middle (store_code (readied (access_of l d))) q
+
+pub record ChangeRow (l : Layout) (code : List ℕ) (down : Bool) (d : Designator) (k : Kind) (e : Expression) (p q : ℕ) : Type 0 where
+  pub start : ℕ
+  pub kept : ℕ
+  pub middle : ℕ
+  pub target : TargetRow l code d k p start
+  pub again : InstrsAt code (again_code (readied (access_of l d))) start kept
+  pub value : WholeRow l code (held_twice (readied (access_of l d))) e (OfWhole (counted_as k)) kept middle
+  pub by : InstrsAt code (change_code down k (readied (access_of l d))) middle q
 
 -- arguments one behind another, with n words of others below them
 pub record ArgumentRow (l : Layout) (code : List ℕ) (n : ℕ) (a : Argument) (rest : Span) (p q : ℕ) : Type 0 where
@@ -397,8 +513,8 @@ pub record ThenRow (first rest : Span) (p q : ℕ) : Type 0 where
 -- Statements with n FORs around them, and the word of the place behind the LOOP around them, if there is one.
 abbrev mutual
   pub StatementAt : Layout → List ℕ → ℕ → Option ℕ → Statement → Span
-  StatementAt l code n exit (Assign (Variable x) k e) p q = AssignRow l code x k e p q
-  StatementAt l code n exit (Change down (Variable x) k e) p q = ChangeRow l code down x k e p q
+  StatementAt l code n exit (Assign d k e) p q = AssignRow l code d k e p q
+  StatementAt l code n exit (Change down d k e) p q = ChangeRow l code down d k e p q
   StatementAt l code n exit (Request r given) p q = RequestRow l code r given p q
   StatementAt l code n exit (If c a b) p q = IfRow l code c (BodyAt l code n exit a) (BodyAt l code n exit b) p q
   StatementAt l code n exit (Case e arms) p q = CaseRow l code e (ArmsAt l code n exit (kind_of e) arms) p q
@@ -408,7 +524,7 @@ abbrev mutual
   StatementAt l code n exit Exit p q = ExitRow code exit p q
   StatementAt l code n exit Halt p q = IsAt code p (Trp 9) q
   StatementAt l code n exit Return p q = IsAt code p Rtn q
-  StatementAt l code n exit (For (Variable x) k a b step body) p q = ForRow l code n x k a b step (BodyAt l code (suc n) exit body) p q
+  StatementAt l code n exit (For x k a b step body) p q = ForRow l code n x k a b step (BodyAt l code (suc n) exit body) p q
 
   -- one behind another
   pub BodyAt : Layout → List ℕ → ℕ → Option ℕ → Statements → Span

@@ -236,7 +236,7 @@ const FAULTS: &[(&[u8], &[u8])] = &[
     ),
     (
         b"MODULE F; TYPE r = RECORD CASE k: CARDINAL OF 1: a: CHAR | 2 .. 3: b: SET OF [0 .. 7]; END END; END F.",
-        b"20: 90 NotBuilt",
+        b"71: 90 NotBuilt",
     ),
     // names of units
     (b"MODULE InOut;END InOut.", b"8: 76 ReservedModule"),
@@ -598,6 +598,68 @@ fn scalars(rt: HostRuntime) -> Result<(), Fail> {
     for (body, shown, trap) in SCALAR_TRAPS {
         let text = around(alloc, SCALARS_BEFORE, body, SCALARS_BEHIND)?;
         check_run(&rt, alloc, b"S", text, shown, Some(trap))?;
+    }
+    Ok(())
+}
+
+/// What stands around the statements of a program T, with arrays over all types of indexes, and records.
+const TABLES_BEFORE: &[u8] =
+    b"MODULE T; FROM InOut IMPORT Write, WriteCard, WriteInt; TYPE day = (mo, tu, we, th); point = RECORD x, y: INTEGER; on: BOOLEAN END; line = RECORD name: CHAR; ends: ARRAY BOOLEAN OF point; CASE k: day OF mo: w: CARDINAL | tu, we: v: [5 .. 9]; z: CHAR END END; none = RECORD END; VAR c, k: CARDINAL; i: INTEGER; x: day; b: BOOLEAN; h: CHAR; a: ARRAY [0 .. 9] OF CARDINAL; n: ARRAY [-2 .. 2] OF INTEGER; d: ARRAY day OF CHAR; e: none; l: ARRAY ['a' .. 'e'], [1 .. 3] OF CARDINAL; r, s: line; p: ARRAY [5 .. 7] OF line; q: ARRAY [0 .. 3] OF [1 .. 3]; BEGIN ";
+
+const TABLES_BEHIND: &[u8] = b" END T.";
+
+/// Statements over arrays and records that end, and behind `~` what they show.
+const TABLES: &[&[u8]] = &[
+    // indexes of all types
+    b"FOR c := 0 TO 9 DO a[c] := c * c END; c := 0; FOR k := 0 TO 9 DO c := c + a[k] END; WriteCard(c, 1)~285",
+    b"n[-2] := -5; n[2] := 7; i := -2; n[i + 1] := n[i] + n[-i]; FOR i := -2 TO 2 DO WriteInt(n[i], 3) END~ -5  2  0  0  7",
+    b"FOR x := mo TO th DO d[x] := CHR(ORD('A') + ORD(x)) END; FOR x := th TO mo BY -1 DO Write(d[x]) END~DCBA",
+    b"FOR h := 'a' TO 'e' DO FOR c := 1 TO 3 DO l[h, c] := ORD(h) * 10 + c END END; WriteCard(l['c', 2], 1); WriteCard(l['e'][3], 5)~992 1013",
+    b"i := 4; a[i] := 8; c := 4; WriteCard(a[c], 1); n[c - 2] := 6; WriteInt(n[2], 1)~86",
+    b"a[0] := 1; a[1] := 2; a[2] := 3; WriteCard(a[a[a[0]]], 1)~3",
+    // fields, and parts in parts
+    b"r.ends[TRUE].x := -4; r.ends[FALSE].y := 9; r.name := 'q'; r.w := 3; r.v := 7; r.z := 'z'; r.k := tu; WriteInt(r.ends[TRUE].x, 1); WriteInt(r.ends[FALSE].x, 2); WriteInt(r.ends[FALSE].y, 2); WriteCard(r.w, 2); WriteCard(r.v, 2); Write(r.z); Write(r.name)~-4 0 9 3 7zq",
+    b"p[6].ends[b].on := TRUE; FOR c := 5 TO 7 DO IF p[c].ends[FALSE].on THEN Write('y') ELSE Write('n') END; IF s.ends[TRUE].on THEN Write('s') END END~nyn",
+    b"IF (a[0] = 0) & (d[mo] = 0C) & (r.k = mo) & NOT r.ends[TRUE].on THEN Write('0') END~0",
+    // INC and DEC of parts
+    b"INC(a[3]); INC(a[3], 4); DEC(a[3], a[3] - 2); c := 3; INC(a[a[c] + 1], c); WriteCard(a[3], 1)~5",
+    b"p[7].v := 9; DEC(p[7].v, 2); WriteCard(p[7].v, 1); WriteCard(q[0], 1); q[0] := 3; WriteCard(q[0], 1)~703",
+];
+
+/// Statements over arrays and records that trap: what they show before, and the trap.
+const TABLE_TRAPS: &[(&[u8], &[u8], &[u8])] = &[
+    (
+        b"c := 10; Write('a'); a[c] := 1; Write('b')",
+        b"a",
+        b"range",
+    ),
+    (b"i := -1; a[i] := 1", b"", b"range"),
+    (b"i := 3; n[i] := 1", b"", b"range"),
+    (b"i := -3; WriteInt(n[i], 1)", b"", b"range"),
+    (b"c := 65535; n[c] := 0", b"", b"range"),
+    (b"h := 'f'; l[h, 1] := 1", b"", b"range"),
+    (b"c := 4; l['a', c] := 1", b"", b"range"),
+    // the place comes first, then the value, and then its test
+    (b"c := 10; a[c] := 1 DIV (c - c)", b"", b"range"),
+    (b"c := 1; a[c] := 1 DIV (c - c)", b"", b"divisor"),
+    (b"c := 4; q[1] := c", b"", b"range"),
+    (b"a[1] := 65535; INC(a[1])", b"", b"overflow"),
+    (b"INC(q[1], 4)", b"", b"range"),
+    (b"DEC(p[5].v)", b"", b"overflow"),
+];
+
+/// What statements over arrays and records show, and which traps they come to.
+#[test]
+fn tables(rt: HostRuntime) -> Result<(), Fail> {
+    let alloc = rt.alloc();
+    for row in TABLES {
+        let (body, shown) = parts(alloc, row)?;
+        let text = around(alloc, TABLES_BEFORE, body.as_slice(), TABLES_BEHIND)?;
+        check_run(&rt, alloc, b"T", text, shown.as_slice(), None)?;
+    }
+    for (body, shown, trap) in TABLE_TRAPS {
+        let text = around(alloc, TABLES_BEFORE, body, TABLES_BEHIND)?;
+        check_run(&rt, alloc, b"T", text, shown, Some(trap))?;
     }
     Ok(())
 }

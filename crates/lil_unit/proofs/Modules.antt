@@ -1,46 +1,67 @@
 -- The code of a whole module, settled.
-use Rattle.std.proofs.Common.{◌≡◌, ℕ, zero, suc, ◌+◌, ◌*◌, ◌%◌, ◌<◌, ◌≤◌, List, [], ◌∷◌, length, Some, None, min, refl, sym, ap, ◌∙◌, subst, arith, append-nil}
+use Rattle.std.proofs.Common.{◌≡◌, ℕ, zero, suc, ◌+◌, ◌%◌, ◌≤◌, List, [], ◌∷◌, length, Some, None, refl, sym, ap, ◌∙◌, subst, arith, append-nil}
 use Rattle.std.specs.Prelude.{slice_get, map}
+use Rattle.std.proofs.lemmas.Option.{none-some, same_Some}
 use Rattle.lil_resolved.specs.declared.resolved.RModule.{RModule}
 use Rattle.lil_resolved.specs.declared.resolved.RDeclared.{RDeclared}
+use Rattle.lil_resolved.specs.declared.shapes.RShape.{RShape}
+use Rattle.lil_resolved.specs.Shapes.{words, all_words, offsets_from}
 use Rattle.lil_resolved.specs.Resolved.{Resolved}
-use Rattle.lil_resolved.specs.Views.{shape_declared, module_of}
+use Rattle.lil_resolved.specs.Views.{offset_of, shape_declared, module_of, IsMeasured}
 use Rattle.lil_resolved.specs.Sizes.{frame_words, code_size, IsSound}
 use Rattle.lil_asm.specs.declared.instr.Instr.TheVariants.{Ent, Rtn}
-use Rattle.lil_table.specs.Rows.{IsAt, TranslatesBy, Translates, offsets_from, layout_by, exactly, cut}
+use Rattle.lil_table.specs.Rows.{IsAt, TranslatesBy, Translates, layout_by, exactly, cut}
 use Rattle.lil_table.specs.Lengths.{module_long}
-use Rattle.lil_labels.specs.Drafts.{Draft, empty, Final, Fits, IsPlain, Emits, Doing, code_of, settled_word, word_in}
+use Rattle.lil_labels.specs.Tables.{Tables, Describe}
+use Rattle.lil_labels.specs.Drafts.{Draft, empty, Final, Fits, Emits, Doing, code_of, settled_word, word_in}
 use Rattle.lil_labels.specs.Settling.{written_long}
 use Rattle.lil_labels.specs.Emitting.{emits_then, emits_as}
 use Rattle.lil_stmt.specs.Generating.{Body}
 use Rattle.lil_unit.specs.Framing.{Framed}
 
-offset_at : (vs : List RDeclared) (first x : ℕ) → x < length (map shape_declared vs) → slice_get (offsets_from first (map shape_declared vs)) x ≡ Some (first + x)
-offset_at [] first x h = absurd (omega arith)
-offset_at (v ∷ vs) first zero h = ap Some (omega arith)
-offset_at (v ∷ vs) first (suc x) h = offset_at vs (first + 1) x (omega arith) ∙ ap Some (omega arith)
+-- variables that lie one behind another lie in the words of all
+lies_within : (ts : List RShape) (vs : List RDeclared) (first x : ℕ) (v : RDeclared) → map offset_of vs ≡ offsets_from first (map (shape_declared ts) vs) → slice_get vs x ≡ Some v
+    → v.offset + words (shape_declared ts v) ≤ first + all_words (map (shape_declared ts) vs)
+lies_within ts [] first x v h e = absurd (none-some v e)
+lies_within ts (w ∷ vs) first zero v h e =
+    let here : w.offset ≡ first = cc in
+    let same = same_Some w v e in
+    omega (arith, here, ap (λ (v : RDeclared). v.offset) same, ap (λ (v : RDeclared). words (shape_declared ts v)) same)
+lies_within ts (w ∷ vs) first (suc x) v h e =
+    let rest : map offset_of vs ≡ offsets_from (first + words (shape_declared ts w)) (map (shape_declared ts) vs) = cc in
+    omega (arith, lies_within ts vs (first + words (shape_declared ts w)) x v rest e)
 
--- the layout of a program module is plain
-layout_plain : (target : ℕ → ℕ) (m : RModule) → IsPlain (layout_by target (module_of m))
-layout_plain target m x h = offset_at m.variables 0 x h ∙ ap Some (omega arith)
-
-pub framed : (m : Resolved) (words : ℕ) (a b c : Draft) → words ≡ frame_words m.body → Emits empty a (Doing (λ w. Ent words)) → Emits a b (Body 0 None m.body) → Emits b c (Doing (λ w. Rtn)) → Emits empty c (Framed m)
-framed m words a b c is enter body leave =
-    emits_as empty c _ (Framed m)
+pub framed : (ts : List RShape) (vs : List RDeclared) (m : Resolved) (words : ℕ) (a b c : Draft) → words ≡ frame_words m.body → Emits (empty ts vs) a (Doing (λ w. Ent words)) → Emits a b (Body 0 None m.body) → Emits b c (Doing (λ w. Rtn))
+    → Emits (empty ts vs) c (Framed m)
+framed ts vs m words a b c is enter body leave =
+    emits_as (empty ts vs) c _ (Framed m)
     (λ x t. record { start = length a.bytes; end = length b.bytes; enter = subst (λ (w : ℕ). IsAt x.code 0 (Ent w) (length a.bytes)) is t.0; body = t.1.0; leave = t.1.1 })
-    (emits_then empty a c _ _ enter (emits_then a b c _ _ body leave))
+    (emits_then (empty ts vs) a c _ _ enter (emits_then a b c _ _ body leave))
 
-module _ (r : RModule) (d : Draft) (sound : IsSound (module_of r)) (frame : frame_words (module_of r).body ≤ 65535) (emitted : Emits empty d (Framed (module_of r))) where
+module _ (r : RModule) (d : Draft) (sound : IsSound (module_of r)) (measured : IsMeasured r) (few : r.words ≤ 32000) (frame : frame_words (module_of r).body ≤ 65535)
+    (emitted : Emits (empty r.shapes r.variables) d (Framed (module_of r))) where
   abbrev m : Resolved
   m = module_of r
+
+  abbrev tables : Tables
+  tables = record { shapes = r.shapes; variables = r.variables }
+
+  described : (target : ℕ → ℕ) → Describe tables (layout_by target m)
+  described target = record {
+    measured = measured.shapes;
+    shapes = refl;
+    offsets = sym measured.offsets;
+    within = λ x v at. omega (arith, lies_within r.shapes r.variables 0 x v measured.offsets at, measured.words, few);
+  }
 
   abbrev code : List ℕ
   code = code_of d (settled_word d.places)
 
   settled : (ℕ → ℕ) → Final
   settled target = record {
+    tables = tables;
     layout = layout_by target m;
-    plain = layout_plain target r;
+    described = described target;
     framed = frame;
     word = settled_word d.places;
     code = code;
@@ -50,7 +71,7 @@ module _ (r : RModule) (d : Draft) (sound : IsSound (module_of r)) (frame : fram
   settled_translates : (target : ℕ → ℕ) → ((l q : ℕ) → slice_get d.places l ≡ Some (Some q) → q % 65536 ≡ target q) → TranslatesBy (layout_by target m) m code
   unfolding settled
   settled_translates target words =
-      let fits : Fits d (settled target) = record { rest = []; begins = sym (append-nil code); placed = λ l q h. ap word_in h ∙ words l q h } in
+      let fits : Fits d (settled target) = record { same = sym emitted.same; rest = []; begins = sym (append-nil code); placed = λ l q h. ap word_in h ∙ words l q h } in
       let t = emitted.meant (settled target) fits in
       record {
         start = t.start;

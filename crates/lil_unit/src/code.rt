@@ -1,7 +1,7 @@
 //! The code of a program module: its frame, its statements, and the return.
 
 ghost use Rattle.std.specs.Prelude.{◌≡◌, ◌<◌, ◌≤◌, ℕ, length, min, IfOk, Err};
-ghost use Rattle.lil_resolved.specs.Views.{module_of};
+ghost use Rattle.lil_resolved.specs.Views.{IsMeasured, module_of};
 ghost use Rattle.lil_resolved.specs.Sizes as spec;
 ghost use Rattle.lil_resolved.specs.Sizes.{IsSound};
 ghost use Rattle.lil_table.specs.Rows.{Translates};
@@ -27,16 +27,16 @@ fn counted(bytes: usize) -> u32
 }
 
 /// The code of a program module, with labels.
-fn emit_module(alloc: Global, m: &RModule) -> Result<CodeBuffer, Memory>
+fn emit_module<'m>(alloc: Global, m: &'m RModule) -> Result<CodeBuffer<'m>, Memory>
     ensures frame { IfOk result (λ code. spec.frame_words (module_of m.now).body ≤ 65535) }
-    ensures emits { IfOk result (λ code. Emits empty code (Framed (module_of m.now))) }
+    ensures emits { IfOk result (λ code. Emits (empty m.now.shapes m.now.variables) code (Framed (module_of m.now))) }
 {
     let body = m.body.as_slice();
     let around = Around {
         fors: 0,
         exit: None,
     };
-    let mut code = CodeBuffer::new(alloc);
+    let mut code = CodeBuffer::new(alloc, m.shapes.as_slice(), m.variables.as_slice());
     code.put(Instr::Ent(frame_words(body)?))?;
     emit_body(&mut code, body, around)?;
     code.put(Instr::Rtn)?;
@@ -46,6 +46,8 @@ fn emit_module(alloc: Global, m: &RModule) -> Result<CodeBuffer, Memory>
 /// The code of a program module, where it has at most 32,767 bytes.
 pub fn generate(alloc: Global, m: &RModule) -> Result<Bytes, GenStop>
     requires sound { IsSound (module_of m.now) }
+    requires measured { IsMeasured m.now }
+    requires few { m.now.words ≤ 32000 }
     ensures translates { IfOk result (λ code. Translates (module_of m.now) code) }
     ensures long { IfOk result (λ code. length code ≡ spec.code_size (module_of m.now)) }
     ensures short { IfOk result (λ code. spec.code_size (module_of m.now) ≤ 32767) }

@@ -37,13 +37,13 @@ pub sort-returns-in_ok-sort-in-Scalar : goal.sort-returns-in_ok-sort-in-Scalar
 sort-returns-in_ok-sort-in-Scalar t c = is_scalar _ c.in-Scalar.is c.in_ok-sort-in-Scalar.ensures
 
 pub sort-returns-in_ok-sort-in-ArrayOf : goal.sort-returns-in_ok-sort-in-ArrayOf
-sort-returns-in_ok-sort-in-ArrayOf t c = is_array_of _ c.as_slice.result.now c.get.result.now {p = c.in-ArrayOf.place} (search rules) c.note.ensures c.in_ok-indexes-in-ArrayOf.ensures c.in_ok-element-in-ArrayOf.ensures c.in_ok-sort-in-ArrayOf.ensures
+sort-returns-in_ok-sort-in-ArrayOf t c = is_array_of _ c.as_slice.result.now c.get.result.now {p = c.in-ArrayOf.place} (search rules) c.in_ok-indexes-in-ArrayOf.ensures c.in_ok-element-in-ArrayOf.ensures c.in_ok-sort-in-ArrayOf.ensures
 
 pub sort-returns-in_ok-sort-in-RecordOf : goal.sort-returns-in_ok-sort-in-RecordOf
-sort-returns-in_ok-sort-in-RecordOf t c = is_record_of _ c.as_slice-in-RecordOf.result.now {p = c.in-RecordOf.place} (search rules) c.note-in-RecordOf.ensures c.in_ok-sort-in-RecordOf.ensures
+sort-returns-in_ok-sort-in-RecordOf t c = is_record_of _ c.as_slice-in-RecordOf.result.now {p = c.in-RecordOf.place} (search rules) c.in_ok-sort-in-RecordOf.ensures
 
 pub sort-returns-in_ok-sort-in-SetOver : goal.sort-returns-in_ok-sort-in-SetOver
-sort-returns-in_ok-sort-in-SetOver t c = is_set_over _ c.in-SetOver.is c.note-in-SetOver.ensures c.in_ok-sort-in-SetOver.ensures
+sort-returns-in_ok-sort-in-SetOver t c = is_set_over _ c.in-SetOver.is c.note.ensures c.in_ok-sort-in-SetOver.ensures
 
 pub sort-returns-in_ok-sort-in-PointerTo : goal.sort-returns-in_ok-sort-in-PointerTo
 sort-returns-in_ok-sort-in-PointerTo t c = is_pointer_to _ c.get-in-PointerTo.result.now {p = c.in-PointerTo.place} (search rules) c.note-in-PointerTo.ensures c.in_ok-sort-in-PointerTo.ensures

@@ -1,24 +1,22 @@
-use Rattle.std.proofs.Common.{◌≡◌, length, List, ap, sym, ◌∙◌, subst, arith, OnOk, Some, None}
+use Rattle.std.proofs.Common.{◌≡◌, List, ap, sym, ◌∙◌, subst, OnOk, Some, None}
 use Rattle.lil_base.specs.Words.{Integer}
 use Rattle.lil_resolved.specs.Kinds.{Kind, OfWhole}
 use Rattle.lil_resolved.specs.Resolved.{Expression, kind_of}
-use Rattle.lil_resolved.specs.Views.{base_view, kind_view, function_of, expression_of}
-use Rattle.lil_resolved.specs.Forms.{variable_is, one_is, chain_is, apply_is}
+use Rattle.lil_resolved.specs.Views.{base_view, kind_view, function_of, expression_of, selector_of}
+use Rattle.lil_resolved.specs.Forms.{field_is, index_is, one_is, chain_is, apply_is}
 use Rattle.lil_resolved.specs.declared.resolved.RExpr.{RExpr}
 use Rattle.lil_resolved.specs.declared.resolved.ROperation.{ROperation, out-ROperation}
+use Rattle.lil_resolved.specs.declared.resolved.RPlace.{out-RPlace}
+use Rattle.lil_resolved.specs.declared.resolved.RSelector.{RSelector}
 use Rattle.lil_table.specs.Rows.{function_code}
 use Rattle.lil_labels.specs.Drafts.{DoingAll, Emits}
 use Rattle.lil_labels.specs.Emitting.{with_ok}
+use Rattle.lil_expr.specs.Accesses.{access_view}
 use Rattle.lil_expr.specs.Generating.{Value, OperatingAll, aim_of}
-use Rattle.lil_expr.proofs.Forms.{variable_emitted, one_emitted, chain_emitted, apply_emitted}
+use Rattle.lil_expr.proofs.Forms.{one_emitted, chain_emitted, apply_emitted}
 use Rattle.lil_expr.proofs.Chains.{next_operation, short_operation, two_operation}
+use Rattle.lil_expr.proofs.Placing.{variable_found, field_selected, element_selected, next_selector, all_selectors}
 use Rattle.lil_expr.proofs.expressions.+emitting.Goals as goal
-
-pub emit_expression-returns-in-Variable : goal.emit_expression-returns-in-Variable
-emit_expression-returns-in-Variable t c =
-    let is = ap expression_of c.in-Variable.is ∙ variable_is c.in-Variable.variable in
-    subst (λ (e : Expression). OnOk c.put-in-Variable.result (Emits c.args.code.now c.put-in-Variable.new.self (Value e))) (sym is)
-    (with_ok c.put-in-Variable.result (variable_emitted c.in-Variable.variable.number (kind_view c.in-Variable.variable.kind) _ _) c.put-in-Variable.ensures)
 
 pub emit_expression-returns-in_ok-emit_expression-in-One : goal.emit_expression-returns-in_ok-emit_expression-in-One
 emit_expression-returns-in_ok-emit_expression-in-One t c =
@@ -59,3 +57,26 @@ emit_operation-returns-in_ok-emit_expression-in-None t c =
 pub emit_operations-loop-operation-preserved : goal.emit_operations-loop-operation-preserved
 emit_operations-loop-operation-preserved t c =
     next_operation c.args.operations.now c.loop-operation.operation-index c.operation-item.result _ _ _ c.loop-operation-test.true c.operation-item.is c.loop-operation.invariant c.in_ok-emit_operation.ensures
+
+pub emit_place-loop-selector-init : goal.emit_place-loop-selector-init
+emit_place-loop-selector-init t c = variable_found (out-RPlace c.args.of.now).number c.variable-variable.result c.args.code.now c.variable-variable.ensures
+
+pub emit_place-loop-selector-preserved : goal.emit_place-loop-selector-preserved
+emit_place-loop-selector-preserved t c =
+    next_selector c.as_slice-selectors.result.now c.loop-selector.selector-index (out-RPlace c.args.of.now).number c.selector-item.result (access_view c.loop-selector.at.access) (access_view c.in_ok-at.at.access) c.loop-selector.at.shape c.in_ok-at.at.shape
+    _ _ _ c.loop-selector-test.true c.selector-item.is c.loop-selector.invariant c.in_ok-at.ensures
+
+pub emit_place-returns : goal.emit_place-returns
+emit_place-returns t c =
+    all_selectors c.args.of.now c.as_slice-selectors.result.now c.loop-selector.selector-index (access_view c.loop-selector.at.access) c.loop-selector.at.shape _ _ c.as_slice-selectors.ensures c.loop-selector-test.false c.loop-selector.invariant
+
+pub emit_selector-returns-in-Field : goal.emit_selector-returns-in-Field
+emit_selector-returns-in-Field t c =
+    field_selected c.args.selector.now c.in-Field.number c.args.at.shape (access_view c.args.at.access) (access_view c.further.result) c.part-field.result _
+    (λ d. ap (λ (s : RSelector). selector_of s d) c.in-Field.is ∙ field_is c.in-Field.number d) c.part-field.ensures c.further.ensures
+
+pub emit_selector-returns-in_ok-put-in-Index : goal.emit_selector-returns-in_ok-put-in-Index
+emit_selector-returns-in_ok-put-in-Index t c =
+    element_selected c.args.selector.now (kind_view c.in-Index.kind) (base_view c.base.result) (expression_of c.in-Index.index) c.args.at.shape c.in_ok-least-in-Index.least (access_view c.args.at.access) c.elements-elements.result _ _ _ _ _
+    (λ d. ap (λ (s : RSelector). selector_of s d) c.in-Index.is ∙ index_is c.in-Index.kind c.in-Index.index d) c.elements-elements.ensures c.base.ensures c.in_ok-least-in-Index.ensures
+    c.in_ok-emit_address-in-Index.ensures c.in_ok-emit_expression-in-Index.ensures c.in_ok-emit_test-in-Index.ensures c.in_ok-put-in-Index.ensures

@@ -6,3 +6,7 @@ use Rattle.lil_resolved.proofs.resolved.+depth.Given as goal
 abbrev pub invariant-operations_depth-loop-operation : goal.invariant-operations_depth-loop-operation
 invariant-operations_depth-loop-operation l =
     (l.most ≤ 4294967295) × (min (max l.most (chain.operations_depth (drop l.operation-index l.operations))) 4294967295 ≡ min (chain.operations_depth l.operations) 4294967295)
+
+abbrev pub invariant-selectors_depth-loop-selector : goal.invariant-selectors_depth-loop-selector
+invariant-selectors_depth-loop-selector l =
+    (l.most ≤ 4294967295) × (min (max l.most (chain.selectors_depth (drop l.selector-index l.selectors))) 4294967295 ≡ min (max 1 (chain.selectors_depth l.selectors)) 4294967295)

@@ -1,4 +1,4 @@
-use Rattle.std.proofs.Common.{rules, ℕ, ◌≡◌, ◌+◌, ◌≤◌, suc, ℤ, pos, negsuc, ◌≤ℤ◌, w16, to_z, of_z, List, [], ◌∷◌, length, length-append, map, Option, refl, sym, ap, ◌∙◌, subst, arith, OnOk}
+use Rattle.std.proofs.Common.{rules, ℕ, ◌≡◌, ◌≤◌, suc, ℤ, pos, negsuc, ◌≤ℤ◌, w16, List, [], ◌∷◌, length, length-append, map, Option, sym, ap, ◌∙◌, subst, arith, OnOk}
 use mir.Val.{SFits}
 use Rattle.std.proofs.lemmas.Int.{to_z-of_z}
 use Rattle.lil_base.specs.Words.{word_of}
@@ -6,11 +6,12 @@ use Rattle.lil_resolved.specs.declared.resolved.RStmt.{RStmt}
 use Rattle.lil_resolved.specs.declared.resolved.RArm.{RArm}
 use Rattle.lil_resolved.specs.declared.resolved.RGuard.{RGuard}
 use Rattle.lil_resolved.specs.declared.resolved.RArgument.{RArgument}
+use Rattle.lil_resolved.specs.declared.shapes.RField.{RField}
 use Rattle.lil_resolved.specs.Kinds.{base_of, compared_as, covers, outside_turns}
 use Rattle.lil_resolved.specs.Resolved as resolved
 use Rattle.lil_resolved.specs.Resolved.{Statements, Loop, For, Halt, Return, kind_of}
 use Rattle.lil_resolved.specs.Views.{kind_view, request_number, argument_of, expression_of, statement_of, statements_of}
-use Rattle.lil_resolved.specs.Forms.{assign_is, change_is, request_is, halt_is, return_is, if_is, for_is}
+use Rattle.lil_resolved.specs.Forms.{assign_is, change_is, request_is, halt_is, return_is, if_is}
 use Rattle.lil_labels.specs.Drafts.{Draft, Emits}
 use Rattle.lil_labels.specs.Emitting.{emits_as, with_ok}
 use Rattle.lil_expr.specs.Numbers.{number_word}
@@ -65,9 +66,10 @@ emit_for-returns t c =
     let stepped : c.word_of_number.result ≡ word_of c.args.step = number_word c.from.result c.word_of_number.result c.word_of_number.ensures fits ∙ ap word_of taken in
     let align = subst (λ (z : ℤ). Emits c.fresh.new.self c.emit_align.new.code (Aligning (covers (base_of k) j) (outside_turns (compared_as (base_of k)) z) c.in_ok-end.end)) same c.in_ok-emit_align.ensures in
     let inner : n ≤ 65535 → c.saturating_add.result ≡ suc n = λ low. omega (arith, low, c.saturating_add.ensures) in
+    let lies = ap (λ (f : RField). f.offset) c.variable-lies.ensures in
     with_ok c.here.result
     (for_emitted n c.args.around.exit c.args.variable.number k (expression_of c.args.from.now) (expression_of c.args.to.now) c.args.step (statements_of c.args.body.now)
-    c.word_of_number.result c.loop_place-place.result c.loop_sign.result c.saturating_add.result c.in_ok-end.end c.in_ok-turn.turn _ _ _ _ _ _ _ _ _ _ _ _ _ _ stepped c.loop_place-place.ensures c.loop_sign.ensures inner
+    c.word_of_number.result c.loop_place-place.result c.loop_sign.result c.variable-lies.result.offset c.saturating_add.result c.in_ok-end.end c.in_ok-turn.turn _ _ _ _ _ _ _ _ _ _ _ _ _ _ stepped c.loop_place-place.ensures c.loop_sign.ensures lies inner
     c.in_ok-emit_expression.ensures c.in_ok-emit_expression-2.ensures c.in_ok-end.ensures.emits c.in_ok-end.ensures.makes align c.in_ok-put.ensures c.in_ok-jump.ensures c.in_ok-turn.ensures
     c.in_ok-put-2.ensures c.in_ok-emit_turn_test.ensures c.in_ok-put-3.ensures c.in_ok-emit_body.ensures c.in_ok-jump-2.ensures)
     c.here.ensures
@@ -87,14 +89,14 @@ pub emit_statement-returns-in-Assign : goal.emit_statement-returns-in-Assign
 emit_statement-returns-in-Assign t c =
     let n = c.args.around.fors in
     let exit = c.args.around.exit in
-    let is = ap statement_of c.in-Assign.is ∙ assign_is c.in-Assign.variable c.in-Assign.value in
+    let is = ap statement_of c.in-Assign.is ∙ assign_is c.in-Assign.place c.in-Assign.kind c.in-Assign.value in
     with_ok c.emit_assign.result (λ h. one_emitted n exit _ _ _ _ is (h n exit)) c.emit_assign.ensures
 
 pub emit_statement-returns-in-Change : goal.emit_statement-returns-in-Change
 emit_statement-returns-in-Change t c =
     let n = c.args.around.fors in
     let exit = c.args.around.exit in
-    let is = ap statement_of c.in-Change.is ∙ change_is c.in-Change.direction c.in-Change.variable c.in-Change.value in
+    let is = ap statement_of c.in-Change.is ∙ change_is c.in-Change.direction c.in-Change.place c.in-Change.kind c.in-Change.value in
     with_ok c.emit_change.result (λ h. one_emitted n exit _ _ _ _ is (h n exit)) c.emit_change.ensures
 
 pub emit_statement-returns-in-Request : goal.emit_statement-returns-in-Request

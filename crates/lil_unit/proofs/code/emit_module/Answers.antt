@@ -1,9 +1,10 @@
-use Rattle.std.proofs.Common.{List, None, ap, ◌∙◌, subst}
+use Rattle.std.proofs.Common.{◌≡◌, List, None, ap, ◌∙◌, subst}
 use Rattle.lil_resolved.specs.declared.resolved.RStmt.{RStmt}
+use Rattle.lil_resolved.specs.declared.shapes.RShape.{RShape}
 use Rattle.lil_resolved.specs.Depth.{frame_words}
 use Rattle.lil_resolved.specs.Views.{statements_of, module_of}
 use Rattle.lil_asm.specs.declared.instr.Instr.TheVariants.{Ent}
-use Rattle.lil_labels.specs.Drafts.{Draft, Emits, Doing}
+use Rattle.lil_labels.specs.Drafts.{Draft, empty, Emits, Doing}
 use Rattle.lil_stmt.specs.Generating.{Body}
 use Rattle.lil_unit.proofs.Modules.{framed}
 use Rattle.lil_unit.proofs.code.emit_module.Goals as goal
@@ -12,6 +13,8 @@ pub returns-clause-emits : goal.returns-clause-emits
 returns-clause-emits c =
     let words = c.in_ok-frame_words.field-0 in
     let is = c.in_ok-frame_words.ensures ∙ ap (λ (ss : List RStmt). frame_words (statements_of ss)) c.as_slice-body.ensures in
-    let enter = subst (λ (d : Draft). Emits d c.put.new.self (Doing (λ w. Ent words))) c.new-code.ensures c.in_ok-put.ensures in
+    let new : c.new-code.result ≡ empty c.args.m.now.shapes c.args.m.now.variables =
+    c.new-code.ensures ∙ ap (λ (ts : List RShape). empty ts c.as_slice-2.result.now) c.as_slice.ensures ∙ ap (empty c.args.m.now.shapes) c.as_slice-2.ensures in
+    let enter = subst (λ (d : Draft). Emits d c.put.new.self (Doing (λ w. Ent words))) new c.in_ok-put.ensures in
     let body = subst (λ (ss : List RStmt). Emits c.put.new.self c.emit_body.new.code (Body 0 None (statements_of ss))) c.as_slice-body.ensures c.in_ok-emit_body.ensures in
-    framed (module_of c.args.m.now) words _ _ _ is enter body c.in_ok-put-2.ensures
+    framed c.args.m.now.shapes c.args.m.now.variables (module_of c.args.m.now) words _ _ _ is enter body c.in_ok-put-2.ensures

@@ -6,18 +6,18 @@ use Rattle.lil_unit.proofs.code.generate.Goals as goal
 
 pub returns-then-bytes-gt-LONGEST-clause-too_long : goal.returns-then-bytes-gt-LONGEST-clause-too_long
 returns-then-bytes-gt-LONGEST-clause-too_long c bytes told =
-    let long = draft_long c.args.m.now c.in_ok-code.code c.requires.sound c.in_ok-code.ensures.frame c.in_ok-code.ensures.emits in
+    let long = draft_long c.args.m.now c.in_ok-code.code c.requires.sound c.requires.measured c.requires.few c.in_ok-code.ensures.frame c.in_ok-code.ensures.emits in
     let same : c.counted.result ≡ bytes = cc in
     (omega (arith, long, c.len-bytes.ensures.bytes, c.if-bytes-gt-LONGEST.true), sym same ∙ c.counted.ensures ∙ ap (λ (n : ℕ). min n 4294967295) (c.len-bytes.ensures.bytes ∙ long))
 
 pub returns-clause-translates : goal.returns-clause-translates
 returns-clause-translates c =
     subst (λ (code : List ℕ). Translates (module_of c.args.m.now) code) (sym c.in_ok-settle.ensures)
-    (exact c.args.m.now c.in_ok-code.code c.requires.sound c.in_ok-code.ensures.frame c.in_ok-code.ensures.emits (λ l q h. omega (arith, c.len-bytes.ensures.behind l q h, c.if-bytes-gt-LONGEST.false)))
+    (exact c.args.m.now c.in_ok-code.code c.requires.sound c.requires.measured c.requires.few c.in_ok-code.ensures.frame c.in_ok-code.ensures.emits (λ l q h. omega (arith, c.len-bytes.ensures.behind l q h, c.if-bytes-gt-LONGEST.false)))
 
 pub returns-clause-long : goal.returns-clause-long
-returns-clause-long c = ap length c.in_ok-settle.ensures ∙ settled_long c.args.m.now c.in_ok-code.code c.requires.sound c.in_ok-code.ensures.frame c.in_ok-code.ensures.emits
+returns-clause-long c = ap length c.in_ok-settle.ensures ∙ settled_long c.args.m.now c.in_ok-code.code c.requires.sound c.requires.measured c.requires.few c.in_ok-code.ensures.frame c.in_ok-code.ensures.emits
 
 pub returns-clause-short : goal.returns-clause-short
 returns-clause-short c =
-    omega (arith, draft_long c.args.m.now c.in_ok-code.code c.requires.sound c.in_ok-code.ensures.frame c.in_ok-code.ensures.emits, c.len-bytes.ensures.bytes, c.if-bytes-gt-LONGEST.false)
+    omega (arith, draft_long c.args.m.now c.in_ok-code.code c.requires.sound c.requires.measured c.requires.few c.in_ok-code.ensures.frame c.in_ok-code.ensures.emits, c.len-bytes.ensures.bytes, c.if-bytes-gt-LONGEST.false)

@@ -11,4 +11,4 @@ invariant_of-self-2 c = sound_more _ _ _ _ c.encode.ensures.grows c.self.invaria
 
 pub returns : goal.returns
 returns c =
-    with_ok c.note.result (choose_emits _ _ _ _ _ c.self.view_is c.self.invariant.inside c.args.count c.args.label _ c.in_ok-encode.ensures.bytes) c.note.ensures
+    with_ok c.note.result (choose_emits _ _ _ _ _ _ c.self.view_is c.self.invariant.inside c.args.count c.args.label _ c.in_ok-encode.ensures.bytes) c.note.ensures

@@ -14,5 +14,5 @@ invariant_of-self-2 c = sound_more _ _ _ _ c.encode.ensures.grows c.self.invaria
 pub returns : goal.returns
 returns c =
     with_ok c.note.result
-    (jump_emits _ _ _ _ _ c.self.view_is c.self.invariant.inside c.args.aim _ c.args.label (c.in_ok-encode.ensures.bytes ∙ ap (λ i. c.self.inside.bytes ++ bytes_of i) c.unaimed.ensures))
+    (jump_emits _ _ _ _ _ _ c.self.view_is c.self.invariant.inside c.args.aim _ c.args.label (c.in_ok-encode.ensures.bytes ∙ ap (λ i. c.self.inside.bytes ++ bytes_of i) c.unaimed.ensures))
     c.note.ensures

@@ -1,6 +1,5 @@
 -- A value that is tested, and one that is stored.
 use Rattle.std.proofs.Common.{◌≡◌, ℕ, ◌+◌, ◌<◌, ◌≤◌, Bool, true, false, cond, List, [], ◌∷◌, set, refl, sym, ap, ◌∙◌, subst, arith}
-use Rattle.std.proofs.lemmas.Bool.{lt-ltb}
 use Rattle.lil_base.specs.declared.fault.TrapKind.{TrapKind}
 use Rattle.lil_base.specs.declared.fault.TrapKind.TheVariants as trap
 use Rattle.lil_resolved.specs.Kinds.{Kind, is_base, takes_value, compared_as, covers, shared}
@@ -8,21 +7,22 @@ use Rattle.lil_resolved.specs.Scalars.{Scalar, within, scalar_word, ordinal_of}
 use Rattle.lil_meaning.specs.Cells.{Place, stored, alone}
 use Rattle.lil_meaning.specs.Items.{Item, Going, Source}
 use Rattle.lil_meaning.specs.Steps.{next, current, trapped}
-use Rattle.lil_asm.specs.declared.instr.Instr.TheVariants.{Sgw}
+use Rattle.lil_resolved.specs.Shapes.{Word}
 use Rattle.lil_mcode.specs.declared.machine.Event.{Event}
 use Rattle.lil_mcode.specs.declared.machine.Event.TheVariants.{Went, Trap}
 use Rattle.lil_mcode.specs.State.{State}
-use Rattle.lil_mcode.specs.Table.{mstep, going, on_one, store_row}
-use Rattle.lil_table.specs.Rows.{IsAt, InstrsAt, range_code, test_code}
+use Rattle.lil_mcode.specs.Table.{mstep, going}
+use Rattle.lil_table.specs.Rows.{IsAt, InstrsAt, range_code, test_code, Access, readied, store_code}
 use Rattle.lil_match.specs.Running.{Run, running, react}
 use Rattle.lil_match.specs.Parts.{yes}
-use Rattle.lil_match.specs.Homes.{word_for, Mem, scalar_owned, mem_stored}
+use Rattle.lil_match.specs.Homes.{word_for, address, Mem, mem_stored}
 use Rattle.lil_match.specs.Goes.{Shared, Goes, Lands}
-use Rattle.lil_match.specs.Waits.{Setting, frame_of, Quiet, Around, Rows, IsVariable}
+use Rattle.lil_match.specs.Waits.{Setting, frame_of, Quiet, Around, Rows, HasPlace}
 use Rattle.lil_match.specs.Ranges.{has, fits_has, taken_where, takes_base}
 use Rattle.lil_match.specs.Tests.{covered, test_act}
 use Rattle.lil_match.specs.Closing.{both_trap}
 use Rattle.lil_match.specs.Steps.{advances, at_step, rows_ahead, shared_with, goes_one, goes_after, goes_more}
+use Rattle.lil_laws_place.specs.Codes.{puts}
 
 module _ (ctx : Setting) where
   open ctx use {library, table, home as h}
@@ -80,23 +80,20 @@ module _ (ctx : Setting) where
         let same : within k v ≡ has k (ordinal_of v) = taken_where k j v takes fits in
         number_tested k j v (takes_base k j takes) fits below is middle budget rest test close (λ e. traps (same ∙ e)) (λ e. goes (same ∙ e)) less
 
-    -- a value of the kind of a variable is stored there
-    pub stored_goes : (place : Place) (offset : ℕ) (k : Kind) → IsVariable ctx place offset k → (v : Scalar) → within k v ≡ true
-        → (below : List ℕ) → stack ≡ word_for h v ∷ below → (end : ℕ) → IsAt own.code p (Sgw offset) end
+    -- a value of the kind of a place is stored there
+    pub stored_goes : (b : Access) (place : Place) (k : Kind) (under : List ℕ) → HasPlace ctx b place (Word k) under [] → readied b ≡ b → (v : Scalar) → within k v ≡ true
+        → stack ≡ word_for h v ∷ under → (end : ℕ) → IsAt own.code p (store_code b) end
         → (after : List Item) → next library Now ≡ record s { items = after; cells = stored s.cells place (alone v); phase = Going }
-        → (c budget : ℕ) (a : Around) → Rows ctx after Quiet end below c a → c + 1 ≤ budget → Goes ctx s items here budget
-    stored_goes place offset k variable v fits below is end at after becomes c budget a rows less =
-        let inside : own.base + offset < 65536 = omega (arith, (scalar_owned h s.cells m.store place.root place.path k all.mem variable.living).1, variable.at) in
-        let store : List ℕ = set m.store (own.base + offset) (word_for h v) in
-        let mem : Mem h (stored s.cells place (alone v)) store =
-        subst (λ (b : ℕ). Mem h (stored s.cells place (alone v)) (set m.store b (word_for h v))) variable.at (mem_stored h s.cells m.store place k v all.mem variable.living fits) in
-        let machine : State = record m { place = end; stack = below; store = store } in
+        → (c budget : ℕ) (a : Around) → Rows ctx after Quiet end [] c a → c + 1 ≤ budget → Goes ctx s items here budget
+    stored_goes b place k under has ready v fits is end at after becomes c budget a rows less =
+        let store : List ℕ = set m.store (address h place) (word_for h v) in
+        let mem : Mem h (stored s.cells place (alone v)) store = mem_stored h s.cells m.store place k v all.mem has.living fits in
+        let machine : State = record m { place = end; stack = []; store = store } in
         goes_one ctx s items here budget c (running machine s.world)
         (advances here s.world _ (
-        at_step ctx here all.program (Sgw offset) end at
-        ∙ ap (λ (x : List ℕ). on_one here x (store_row (own.base + offset) end here)) is
-        ∙ yes _ _ _ (lt-ltb (own.base + offset) 65536 inside)
+        at_step ctx here all.program (store_code b) end at
+        ∙ puts ctx s here all b place k under has ready (word_for h v) is end
         ))
         (subst (λ (t : Source). Lands ctx t.phase t (running machine s.world) c) (sym becomes)
-        (record { machine = machine; is = refl; met = record { shared = shared_with ctx s m all mem; around = a; ahead = rows_ahead ctx after end below c a rows } }))
+        (record { machine = machine; is = refl; met = record { shared = shared_with ctx s m all mem; around = a; ahead = rows_ahead ctx after end [] c a rows } }))
         less

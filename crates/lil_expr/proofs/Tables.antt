@@ -1,0 +1,191 @@
+-- What stands in the tables of a module: shapes by their numbers, their parts and their elements.
+use Rattle.std.proofs.Common.{◌≡◌, ℕ, zero, suc, ◌+◌, ◌*◌, ◌<◌, ◌≤◌, Bool, true, false, if◌then◌else◌, List, [], ◌∷◌, ◌++◌, map, length, Option, Some, None, refl, sym, ap, ◌∙◌, subst, arith, length-append}
+use Rattle.std.specs.Prelude.{slice_get, nat_lt}
+use Rattle.std.proofs.lemmas.Bool.{ltb-true}
+use Rattle.std.proofs.lemmas.Nat.{mul-le}
+use Rattle.std.proofs.lemmas.Option.{none-some, same_Some, slice_get_past}
+use Rattle.lil_resolved.specs.declared.shapes.RField.{RField}
+use Rattle.lil_resolved.specs.declared.shapes.RElements.{RElements}
+use Rattle.lil_resolved.specs.declared.shapes.RShape.{RShape}
+use Rattle.lil_resolved.specs.declared.shapes.RShape.TheVariants as r
+use Rattle.lil_resolved.specs.Shapes.{Shape, Absent, Join, Row, words, is_there, part_at, offset, shape_by, shape_at, fields_of, element_of, count_of}
+use Rattle.lil_resolved.specs.Views.{number_of, shape_with, shapes_behind, shapes_of, AreMeasuredFields, IsMeasuredShape, AreMeasured}
+use Rattle.lil_labels.specs.Tables.{field_by, part_in, part_by, elements_in, elements_by}
+
+-- ---- shapes
+pub whole_there : (t : Shape) (i : ℕ) → is_there (part_at t (i ∷ [])) ≡ true → is_there t ≡ true
+whole_there Absent i h = h
+whole_there _ i h = refl
+
+pub array_there : (t : Shape) → is_there (element_of t) ≡ true → is_there t ≡ true
+array_there Absent h = h
+array_there _ h = refl
+
+pub row_is : (t : Shape) (n : ℕ) → is_there (element_of t) ≡ true → count_of t ≡ n → t ≡ Row n (element_of t)
+row_is (Row m u) n h e = ap (λ (m : ℕ). Row m u) e
+row_is _ n h e = absurd (cc)
+
+in_row : (b : Bool) (n i : ℕ) (t : Shape) → nat_lt i n ≡ b → is_there (if b then t else Absent) ≡ true → (i * words t + 0) + words (if b then t else Absent) ≤ n * words t
+in_row true n i t e h =
+    let below = ltb-true i n e in
+    omega (arith, mul-le (i + 1) (words t) n (words t) (omega arith) (omega arith))
+in_row false n i t e h = absurd (cc)
+
+-- a part lies in its shape
+pub part_within : (t : Shape) (i : ℕ) → is_there (part_at t (i ∷ [])) ≡ true → offset t (i ∷ []) + words (part_at t (i ∷ [])) ≤ words t
+part_within (Join a b) zero h = omega arith
+part_within (Join a b) (suc i) h = omega (arith, part_within b i h)
+part_within (Row n t) i h = in_row (nat_lt i n) n i t refl h
+part_within _ i h = absurd (cc)
+
+-- ---- numbers of shapes
+get_front : {A : Type 0} (xs ys : List A) (n : ℕ) → n < length xs → slice_get (xs ++ ys) n ≡ slice_get xs n
+get_front [] ys n h = absurd (omega arith)
+get_front (x ∷ xs) ys zero h = refl
+get_front (x ∷ xs) ys (suc n) h = get_front xs ys n (omega arith)
+
+get_last : {A : Type 0} (xs : List A) (a : A) → slice_get (xs ++ a ∷ []) (length xs) ≡ Some a
+get_last [] a = refl
+get_last (x ∷ xs) a = get_last xs a
+
+-- a table keeps its shapes when more come behind them
+kept_behind : (before : List Shape) (ts : List RShape) (n : ℕ) → n < length before → shape_at (shapes_behind before ts) n ≡ shape_at before n
+kept_behind before [] n h = refl
+kept_behind before (t ∷ ts) n h =
+    let w = shape_with before t in
+    kept_behind (before ++ w ∷ []) ts n (omega (arith, h, length-append before (w ∷ []))) ∙ ap shape_by (get_front before (w ∷ []) n h)
+
+-- what stands at a number, by the shapes with lesser numbers
+record Entry (table : List Shape) (n : ℕ) (t : RShape) : Type 0 where
+  early : List Shape
+  measured : IsMeasuredShape early t
+  small : words (shape_with early t) ≤ 32000
+  is : shape_at table n ≡ shape_with early t
+  kept : (m : ℕ) → m < length early → shape_at table m ≡ shape_at early m
+
+entry_behind : (before : List Shape) (ts : List RShape) (k : ℕ) (t : RShape) → AreMeasured before ts → slice_get ts k ≡ Some t → Entry (shapes_behind before ts) (length before + k) t
+entry_behind before [] k t h e = absurd (none-some t e)
+entry_behind before (u ∷ ts) zero t h e =
+    let w = shape_with before u in
+    let table = shapes_behind (before ++ w ∷ []) ts in
+    let last : length before + 0 ≡ length before = omega arith in
+    subst (λ (t : RShape). Entry table (length before + 0) t) (same_Some u t e)
+    (record {
+      early = before;
+      measured = h.0;
+      small = h.1;
+      is = ap (shape_at table) last ∙ kept_behind (before ++ w ∷ []) ts (length before) (omega (arith, length-append before (w ∷ []))) ∙ ap shape_by (get_last before w);
+      kept = kept_behind before (u ∷ ts);
+    })
+entry_behind before (u ∷ ts) (suc k) t h e =
+    let w = shape_with before u in
+    let next : length (before ++ w ∷ []) + k ≡ length before + suc k = omega (arith, length-append before (w ∷ [])) in
+    subst (λ (n : ℕ). Entry (shapes_behind (before ++ w ∷ []) ts) n t) next (entry_behind (before ++ w ∷ []) ts k t h.2 e)
+
+absent_behind : (before : List Shape) (ts : List RShape) (k : ℕ) → slice_get ts k ≡ None → shape_at (shapes_behind before ts) (length before + k) ≡ Absent
+absent_behind before [] k e = ap shape_by (slice_get_past before (length before + k) (omega arith))
+absent_behind before (u ∷ ts) zero e = absurd (none-some u (sym e))
+absent_behind before (u ∷ ts) (suc k) e =
+    let w = shape_with before u in
+    let next : length before + suc k ≡ length (before ++ w ∷ []) + k = omega (arith, length-append before (w ∷ [])) in
+    ap (shape_at (shapes_behind (before ++ w ∷ []) ts)) next ∙ absent_behind (before ++ w ∷ []) ts k e
+
+module _ (ts : List RShape) (n : ℕ) where
+  from_first : length {A = Shape} [] + n ≡ n
+  from_first = omega arith
+
+  entry : (t : RShape) → AreMeasured [] ts → slice_get ts n ≡ Some t → Entry (shapes_of ts) n t
+  entry t h e = subst (λ (m : ℕ). Entry (shapes_of ts) m t) from_first (entry_behind [] ts n t h e)
+
+  absent : slice_get ts n ≡ None → shape_at (shapes_of ts) n ≡ Absent
+  absent e = ap (shape_at (shapes_of ts)) (sym from_first) ∙ absent_behind [] ts n e
+
+-- no shape has more than 32,000 words
+pub small_at : (ts : List RShape) (n : ℕ) → AreMeasured [] ts → words (shape_at (shapes_of ts) n) ≤ 32000
+small_at ts n h = by (slice_get ts n) refl
+  where
+    by : (o : Option RShape) → slice_get ts n ≡ o → words (shape_at (shapes_of ts) n) ≤ 32000
+    by None e = omega (arith, ap words (absent ts n e))
+    by (Some t) e = let found = entry ts n t h e in omega (arith, ap words found.is, found.small)
+
+-- ---- parts
+record FieldIs (before : List Shape) (n : ℕ) (t : Shape) (i : ℕ) (f : RField) : Type 0 where
+  known : f.shape < length before
+  shape : shape_at before f.shape ≡ part_at t (i ∷ [])
+  lies : f.offset ≡ n + offset t (i ∷ [])
+
+field_is : (before : List Shape) (n : ℕ) (fs : List RField) (i : ℕ) → AreMeasuredFields before n fs → is_there (part_at (fields_of (map (shape_at before) (map number_of fs))) (i ∷ [])) ≡ true
+    → FieldIs before n (fields_of (map (shape_at before) (map number_of fs))) i (field_by (slice_get fs i))
+field_is before n [] i h there = absurd (cc)
+field_is before n (f ∷ fs) zero h there = record { known = h.1; shape = refl; lies = omega (arith, h.0) }
+field_is before n (f ∷ fs) (suc i) h there =
+    let rest = field_is before (n + words (shape_at before f.shape)) fs i h.2 there in
+    record { known = rest.known; shape = rest.shape; lies = omega (arith, rest.lies) }
+
+-- a part of a shape, as the tables say it
+pub record PartIs (table : List Shape) (t : Shape) (i : ℕ) (f : RField) : Type 0 where
+  pub shape : shape_at table f.shape ≡ part_at t (i ∷ [])
+  pub lies : f.offset ≡ offset t (i ∷ [])
+
+element_part : (table early : List Shape) (e : RElements) (i : ℕ) (b : Bool) → nat_lt i e.count ≡ b → IsMeasuredShape early (r.Elements e) → words (shape_with early (r.Elements e)) ≤ 32000
+    → ((m : ℕ) → m < length early → shape_at table m ≡ shape_at early m) → is_there (if b then shape_at early e.shape else Absent) ≡ true → PartIs table (shape_with early (r.Elements e)) i (part_in (r.Elements e) i)
+element_part table early e i true is measured small kept there =
+    let w = words (shape_at early e.shape) in
+    let below = ltb-true i e.count is in
+    let product : i * e.words ≡ i * w = ap (λ (w : ℕ). i * w) measured.0 in
+    let all : (i + 1) * w ≤ e.count * w = mul-le (i + 1) w e.count w (omega arith) (omega arith) in
+    record {
+      shape = kept e.shape measured.1 ∙ ap (λ (b : Bool). if b then shape_at early e.shape else Absent) (sym is);
+      lies = omega (arith, product, all, small);
+    }
+element_part table early e i false is measured small kept there = absurd (cc)
+
+part_of_entry : (table early : List Shape) (t : RShape) (i : ℕ) → IsMeasuredShape early t → words (shape_with early t) ≤ 32000 → ((m : ℕ) → m < length early → shape_at table m ≡ shape_at early m)
+    → is_there (part_at (shape_with early t) (i ∷ [])) ≡ true → PartIs table (shape_with early t) i (part_in t i)
+part_of_entry table early r.Absent i measured small kept there = absurd (cc)
+part_of_entry table early (r.Word k) i measured small kept there = absurd (cc)
+part_of_entry table early (r.Fields fs) i measured small kept there =
+    let f = field_is early 0 fs i measured there in
+    record { shape = kept _ f.known ∙ f.shape; lies = omega (arith, f.lies) }
+part_of_entry table early (r.Elements e) i measured small kept there = element_part table early e i (nat_lt i e.count) refl measured small kept there
+
+abbrev has_part : ℕ → Shape → Bool
+has_part i t = is_there (part_at t (i ∷ []))
+
+pub part_is : (ts : List RShape) (n i : ℕ) → AreMeasured [] ts → is_there (part_at (shape_at (shapes_of ts) n) (i ∷ [])) ≡ true → PartIs (shapes_of ts) (shape_at (shapes_of ts) n) i (part_by (slice_get ts n) i)
+part_is ts n i h there = by (slice_get ts n) refl
+  where
+    by : (o : Option RShape) → slice_get ts n ≡ o → PartIs (shapes_of ts) (shape_at (shapes_of ts) n) i (part_by o i)
+    by None e = let no : false ≡ true = ap (has_part i) (sym (absent ts n e)) ∙ there in absurd (cc)
+    by (Some t) e =
+        let found = entry ts n t h e in
+        subst (λ (s : Shape). PartIs (shapes_of ts) s i (part_in t i)) (sym found.is) (part_of_entry (shapes_of ts) found.early t i found.measured found.small found.kept (ap (has_part i) (sym found.is) ∙ there))
+
+-- ---- elements
+-- the elements of a shape, as the tables say them
+pub record ElementsAre (table : List Shape) (t : Shape) (e : RElements) : Type 0 where
+  pub shape : shape_at table e.shape ≡ element_of t
+  pub sized : e.words ≡ words (element_of t)
+
+no_elements : (ss : List Shape) → is_there (element_of (fields_of ss)) ≡ false
+no_elements [] = refl
+no_elements (s ∷ ss) = refl
+
+elements_of_entry : (table early : List Shape) (t : RShape) → IsMeasuredShape early t → ((m : ℕ) → m < length early → shape_at table m ≡ shape_at early m) → is_there (element_of (shape_with early t)) ≡ true
+    → ElementsAre table (shape_with early t) (elements_in t)
+elements_of_entry table early r.Absent measured kept there = absurd (cc)
+elements_of_entry table early (r.Word k) measured kept there = absurd (cc)
+elements_of_entry table early (r.Fields fs) measured kept there = let no : false ≡ true = sym (no_elements (map (shape_at early) (map number_of fs))) ∙ there in absurd (cc)
+elements_of_entry table early (r.Elements e) measured kept there = record { shape = kept e.shape measured.1; sized = measured.0 }
+
+abbrev has_elements : Shape → Bool
+has_elements t = is_there (element_of t)
+
+pub elements_are : (ts : List RShape) (n : ℕ) → AreMeasured [] ts → is_there (element_of (shape_at (shapes_of ts) n)) ≡ true → ElementsAre (shapes_of ts) (shape_at (shapes_of ts) n) (elements_by (slice_get ts n))
+elements_are ts n h there = by (slice_get ts n) refl
+  where
+    by : (o : Option RShape) → slice_get ts n ≡ o → ElementsAre (shapes_of ts) (shape_at (shapes_of ts) n) (elements_by o)
+    by None e = let no : false ≡ true = ap has_elements (sym (absent ts n e)) ∙ there in absurd (cc)
+    by (Some t) e =
+        let found = entry ts n t h e in
+        subst (λ (s : Shape). ElementsAre (shapes_of ts) s (elements_in t)) (sym found.is) (elements_of_entry (shapes_of ts) found.early t found.measured found.kept (ap has_elements (sym found.is) ∙ there))

@@ -1,0 +1,16 @@
+-- How code has a place, as the translation table says it.
+use Rattle.std.specs.Prelude.{ℕ}
+use Rattle.lil_table.specs.Rows as rows
+use Rattle.lil_expr.specs.declared.places.Access.{Access}
+use Rattle.lil_expr.specs.declared.places.Access.TheVariants as a
+
+abbrev pub access_view : Access → rows.Access
+access_view (a.InData o) = rows.InData o
+access_view a.OnTop = rows.OnTop
+access_view (a.Behind o) = rows.Behind o
+
+-- the words before it that the instructions say
+abbrev pub words_in : rows.Access → ℕ
+words_in (rows.InData o) = o
+words_in rows.OnTop = 0
+words_in (rows.Behind o) = o

@@ -1,0 +1,53 @@
+-- The tables of a module: where its variables lie, and what its shapes have.
+use Rattle.std.specs.Prelude.{◌≡◌, ℕ, ◌+◌, ◌*◌, ◌≤◌, min, List, [], Option, Some, None, map, slice_get}
+use Rattle.lil_resolved.specs.declared.resolved.RDeclared.{RDeclared}
+use Rattle.lil_resolved.specs.declared.shapes.RField.{RField}
+use Rattle.lil_resolved.specs.declared.shapes.RElements.{RElements}
+use Rattle.lil_resolved.specs.declared.shapes.RShape.{RShape}
+use Rattle.lil_resolved.specs.declared.shapes.RShape.TheVariants as r
+use Rattle.lil_resolved.specs.Shapes.{words}
+use Rattle.lil_resolved.specs.Views.{AreMeasured, offset_of, shape_declared}
+use Rattle.lil_table.specs.Rows.{Layout}
+
+pub record Tables : Type 0 where
+  pub shapes : List RShape
+  pub variables : List RDeclared
+
+-- where a variable lies, and the number of its shape; zeros where there is none
+abbrev pub variable_by : Option RDeclared → RField
+variable_by None = record { offset = 0; shape = 0 }
+variable_by (Some v) = record { offset = v.offset; shape = v.shape }
+
+-- the same of a field
+abbrev pub field_by : Option RField → RField
+field_by None = record { offset = 0; shape = 0 }
+field_by (Some f) = f
+
+-- the same of a part of a shape by its number: a field, or an element
+abbrev pub part_in : RShape → ℕ → RField
+part_in r.Absent i = record { offset = 0; shape = 0 }
+part_in (r.Word k) i = record { offset = 0; shape = 0 }
+part_in (r.Fields fs) i = field_by (slice_get fs i)
+part_in (r.Elements e) i = record { offset = min (i * e.words) 65535; shape = e.shape }
+
+abbrev pub part_by : Option RShape → ℕ → RField
+part_by None i = record { offset = 0; shape = 0 }
+part_by (Some t) i = part_in t i
+
+-- what the elements of a shape are; zeros where it has none
+abbrev pub elements_in : RShape → RElements
+elements_in r.Absent = record { count = 0; words = 0; shape = 0 }
+elements_in (r.Word k) = record { count = 0; words = 0; shape = 0 }
+elements_in (r.Fields fs) = record { count = 0; words = 0; shape = 0 }
+elements_in (r.Elements e) = e
+
+abbrev pub elements_by : Option RShape → RElements
+elements_by None = record { count = 0; words = 0; shape = 0 }
+elements_by (Some t) = elements_in t
+
+-- The shapes are measured, the variables are those of a layout, and each lies in 32,000 words.
+pub record Describe (t : Tables) (l : Layout) : Type 0 where
+  pub measured : AreMeasured [] t.shapes
+  pub shapes : l.shapes ≡ map (shape_declared t.shapes) t.variables
+  pub offsets : l.offsets ≡ map offset_of t.variables
+  pub within : (x : ℕ) (v : RDeclared) → slice_get t.variables x ≡ Some v → v.offset + words (shape_declared t.shapes v) ≤ 32000

@@ -1,0 +1,193 @@
+-- What the instructions do by which code has a place.
+use Rattle.std.proofs.Common.{◌≡◌, ℕ, ◌+◌, ◌<◌, ◌≤◌, true, List, [], ◌∷◌, ◌++◌, length, get_or, set, refl, sym, ap, ◌∙◌, subst, arith}
+use Rattle.std.proofs.lemmas.Bool.{lt-ltb}
+use Rattle.lil_resolved.specs.Kinds.{Kind}
+use Rattle.lil_resolved.specs.Shapes.{Shape, Word, words, part_at, offset, is_there}
+use Rattle.lil_meaning.specs.Cells.{Place, part_of}
+use Rattle.lil_meaning.specs.Items.{Item, Source}
+use Rattle.lil_asm.specs.declared.instr.Instr.{Instr}
+use Rattle.lil_asm.specs.declared.instr.Instr.TheVariants.{Dup, Swp, Lgw, Lag, Ldi, Adf}
+use Rattle.lil_mcode.specs.declared.machine.Event.{Event}
+use Rattle.lil_mcode.specs.declared.machine.Event.TheVariants.{Went}
+use Rattle.lil_mcode.specs.State.{State}
+use Rattle.lil_mcode.specs.Table.{act, going, on_one, on_two, double_row, push_row, fetch_row, put_row, store_row, further_row}
+use Rattle.lil_table.specs.Rows.{IsAt, InstrsAt, Access, InData, OnTop, Behind, further, address_code, load_code, ready_code, readied, held, store_code, again_code, held_twice, under_code}
+use Rattle.lil_match.specs.Parts.{yes}
+use Rattle.lil_match.specs.Homes.{address, shape_there, place_inside, part_there}
+use Rattle.lil_match.specs.Goes.{Shared, Goes}
+use Rattle.lil_match.specs.Waits.{Setting, frame_of, doubled, HasPlace}
+use Rattle.lil_match.specs.Steps.{advances, at_step, pushes, goes_after, goes_more}
+
+top_behind : (o : ℕ) → OnTop ≡ Behind o → ⊥
+top_behind o e = cc
+
+module _ (ctx : Setting) where
+  open ctx use {home as h}
+  open frame_of ctx use {own}
+
+  -- the address of a place is one of the store
+  pub inside : (s : Source) (m : State) → Shared ctx s m → (b : Access) (place : Place) (t : Shape) (stack below : List ℕ) → HasPlace ctx b place t stack below → address h place + words t ≤ 65535
+  inside s m shared b place t stack below has =
+      omega (arith, place_inside h s.cells m.store place shared.mem (ap is_there has.living ∙ has.there), ap words has.living)
+
+  -- the word that lies there is loaded
+  pub loads : (s : Source) (m : State) → Shared ctx s m → (b : Access) (place : Place) (k : Kind) (below : List ℕ) → HasPlace ctx b place (Word k) m.stack below → length below + 1 ≤ 16 → (q : ℕ)
+      → act (load_code b) q own m ≡ (Went, going m q (get_or m.store (address h place) 0 ∷ below))
+  loads s m shared (InData o) place k below has room q =
+      let low = inside s m shared (InData o) place (Word k) m.stack below has in
+      yes _ _ _ (lt-ltb (own.base + o) 65536 (omega (arith, low, has.at.0)))
+      ∙ ap (λ (a : ℕ). push_row (get_or m.store a 0) q m) (sym has.at.0)
+      ∙ pushes (get_or m.store (address h place) 0) q m (omega (arith, room, ap length has.at.1))
+      ∙ ap (λ (x : List ℕ). (Went, going m q (get_or m.store (address h place) 0 ∷ x))) has.at.1
+  loads s m shared OnTop place k below has room q =
+      let low = inside s m shared OnTop place (Word k) m.stack below has in
+      let same : address h place + 0 ≡ address h place = omega arith in
+      ap (λ (x : List ℕ). on_one m x (fetch_row 0 q m)) has.at
+      ∙ yes _ _ _ (lt-ltb (address h place + 0) 65536 (omega (arith, low)))
+      ∙ ap (λ (a : ℕ). (Went, going m q (get_or m.store a 0 ∷ below))) same
+  loads s m shared (Behind o) place k below has room q =
+      let low = inside s m shared (Behind o) place (Word k) m.stack below has in
+      ap (λ (x : List ℕ). on_one m x (fetch_row o q m)) has.at.2
+      ∙ yes _ _ _ (lt-ltb (has.at.0 + o) 65536 (omega (arith, low, has.at.1)))
+      ∙ ap (λ (a : ℕ). (Went, going m q (get_or m.store a 0 ∷ below))) (sym has.at.1)
+
+  -- a word is stored there, where the place is ready for it
+  pub puts : (s : Source) (m : State) → Shared ctx s m → (b : Access) (place : Place) (k : Kind) (under : List ℕ) → HasPlace ctx b place (Word k) under [] → readied b ≡ b → (w : ℕ) → m.stack ≡ w ∷ under → (q : ℕ)
+      → act (store_code b) q own m ≡ (Went, record m { place = q; stack = []; store = set m.store (address h place) w })
+  puts s m shared (InData o) place k under has ready w is q =
+      let low = inside s m shared (InData o) place (Word k) under [] has in
+      ap (λ (x : List ℕ). on_one m x (store_row (own.base + o) q m)) is
+      ∙ yes _ _ _ (lt-ltb (own.base + o) 65536 (omega (arith, low, has.at.0)))
+      ∙ ap (λ (a : ℕ). (Went, record m { place = q; stack = under; store = set m.store a w })) (sym has.at.0)
+      ∙ ap (λ (x : List ℕ). (Went, record m { place = q; stack = x; store = set m.store (address h place) w })) has.at.1
+  puts s m shared OnTop place k under has ready w is q =
+      let low = inside s m shared OnTop place (Word k) under [] has in
+      ap (λ (x : List ℕ). on_two m x (put_row q m)) (is ∙ ap (λ (x : List ℕ). w ∷ x) has.at)
+      ∙ yes _ _ _ (lt-ltb (address h place) 65536 (omega (arith, low)))
+  puts s m shared (Behind o) place k under has ready w is q = absurd (top_behind o ready)
+
+  -- a part of a place
+  pub part_has : (b : Access) (place : Place) (t : Shape) (stack below : List ℕ) → HasPlace ctx b place t stack below → (x : ℕ) → is_there (part_at t (x ∷ [])) ≡ true
+      → HasPlace ctx (further (offset t (x ∷ [])) b) (part_of place x) (part_at t (x ∷ [])) stack below
+  part_has b place t stack below has x there =
+      let part = part_there h place x (ap is_there has.living ∙ has.there) in
+      let at : address h (part_of place x) ≡ address h place + offset t (x ∷ []) = omega (arith, part.1, ap (λ (z : Shape). offset z (x ∷ [])) has.living) in
+      let living : shape_there h (part_of place x) ≡ part_at t (x ∷ []) = part.0 ∙ ap (λ (z : Shape). part_at z (x ∷ [])) has.living in
+      by b has at living
+    where
+      by : (b : Access) → HasPlace ctx b place t stack below → address h (part_of place x) ≡ address h place + offset t (x ∷ []) → shape_there h (part_of place x) ≡ part_at t (x ∷ [])
+          → HasPlace ctx (further (offset t (x ∷ [])) b) (part_of place x) (part_at t (x ∷ [])) stack below
+      by (InData o) has at living = record { seen = has.seen; living = living; there = there; at = (omega (arith, at, has.at.0), has.at.1) }
+      by OnTop has at living = record { seen = has.seen; living = living; there = there; at = (address h place, at, has.at) }
+      by (Behind o) has at living = record { seen = has.seen; living = living; there = there; at = (has.at.0, omega (arith, at, has.at.1), has.at.2) }
+
+  -- an instruction that changes the place and the expression stack alone
+  pub leads : (s : Source) (items : List Item) (m : State) → Shared ctx s m → (i : Instr) (p q : ℕ) (stack to : List ℕ) (budget rest : ℕ) → IsAt own.code p i q
+      → act i q own (going m p stack) ≡ (Went, going m q to) → Goes ctx s items (going m q to) rest → rest + 1 ≤ budget → Goes ctx s items (going m p stack) budget
+  leads s items m shared i p q stack to budget rest at row goes less =
+      goes_after ctx s items (going m p stack) (going m q to) budget rest (advances (going m p stack) s.world _ (at_step ctx (going m p stack) shared.program i q at ∙ row)) goes less
+
+  -- the address of a place comes to the expression stack
+  pub addressed : (s : Source) (items : List Item) (m : State) → Shared ctx s m → (b : Access) (place : Place) (t : Shape) (stack below : List ℕ) → HasPlace ctx b place t stack below → length below + 1 ≤ 16
+      → (p q budget rest : ℕ) → InstrsAt own.code (address_code b) p q → Goes ctx s items (going m q (address h place ∷ below)) rest → rest + 1 ≤ budget → Goes ctx s items (going m p stack) budget
+  addressed s items m shared (InData o) place t stack below has room p q budget rest at goes less =
+      let low = inside s m shared (InData o) place t stack below has in
+      leads s items m shared (Lag o) p at.0 stack (address h place ∷ below) budget rest at.1
+      (yes _ _ _ (lt-ltb (own.base + o) 65536 (omega (arith, low, has.at.0)))
+      ∙ pushes (own.base + o) at.0 (going m p stack) (omega (arith, room, ap length has.at.1))
+      ∙ ap (λ (a : ℕ). (Went, going m at.0 (a ∷ stack))) (sym has.at.0)
+      ∙ ap (λ (x : List ℕ). (Went, going m at.0 (address h place ∷ x))) has.at.1)
+      (subst (λ (x : ℕ). Goes ctx s items (going m x (address h place ∷ below)) rest) (sym at.2) goes)
+      less
+  addressed s items m shared OnTop place t stack below has room p q budget rest at goes less =
+      goes_more ctx s items (going m p stack) rest budget
+      (subst (λ (x : ℕ). Goes ctx s items (going m x stack) rest) (sym at) (subst (λ (x : List ℕ). Goes ctx s items (going m q x) rest) (sym has.at) goes))
+      (omega (arith, less))
+  addressed s items m shared (Behind o) place t stack below has room p q budget rest at goes less =
+      let low = inside s m shared (Behind o) place t stack below has in
+      leads s items m shared (Adf o) p at.0 stack (address h place ∷ below) budget rest at.1
+      (ap (λ (x : List ℕ). on_one (going m p stack) x (further_row o at.0 (going m p stack))) has.at.2
+      ∙ yes _ _ _ (lt-ltb (has.at.0 + o) 65536 (omega (arith, low, has.at.1)))
+      ∙ ap (λ (a : ℕ). (Went, going m at.0 (a ∷ below))) (sym has.at.1))
+      (subst (λ (x : ℕ). Goes ctx s items (going m x (address h place ∷ below)) rest) (sym at.2) goes)
+      less
+
+  -- a place is made ready for a store
+  pub made_ready : (s : Source) (items : List Item) (m : State) → Shared ctx s m → (b : Access) (place : Place) (t : Shape) (stack below : List ℕ) → HasPlace ctx b place t stack below
+      → (p q budget rest : ℕ) → InstrsAt own.code (ready_code b) p q → ((under : List ℕ) → HasPlace ctx (readied b) place t under below → Goes ctx s items (going m q under) rest) → rest + 1 ≤ budget
+      → Goes ctx s items (going m p stack) budget
+  made_ready s items m shared (InData o) place t stack below has p q budget rest at goes less =
+      goes_more ctx s items (going m p stack) rest budget (subst (λ (x : ℕ). Goes ctx s items (going m x stack) rest) (sym at) (goes stack has)) (omega (arith, less))
+  made_ready s items m shared OnTop place t stack below has p q budget rest at goes less =
+      goes_more ctx s items (going m p stack) rest budget (subst (λ (x : ℕ). Goes ctx s items (going m x stack) rest) (sym at) (goes stack has)) (omega (arith, less))
+  made_ready s items m shared (Behind o) place t stack below has p q budget rest at goes less =
+      let low = inside s m shared (Behind o) place t stack below has in
+      leads s items m shared (Adf o) p at.0 stack (address h place ∷ below) budget rest at.1
+      (ap (λ (x : List ℕ). on_one (going m p stack) x (further_row o at.0 (going m p stack))) has.at.2
+      ∙ yes _ _ _ (lt-ltb (has.at.0 + o) 65536 (omega (arith, low, has.at.1)))
+      ∙ ap (λ (a : ℕ). (Went, going m at.0 (a ∷ below))) (sym has.at.1))
+      (subst (λ (x : ℕ). Goes ctx s items (going m x (address h place ∷ below)) rest) (sym at.2)
+      (goes (address h place ∷ below) (record { seen = has.seen; living = has.living; there = has.there; at = refl })))
+      less
+
+  -- a place that is ready is as it is when it is made ready once more
+  pub readied_twice : (b : Access) → readied (readied b) ≡ readied b
+  readied_twice (InData o) = refl
+  readied_twice OnTop = refl
+  readied_twice (Behind o) = refl
+
+  -- the words that a place takes
+  pub held_words : (b : Access) (place : Place) (t : Shape) (stack below : List ℕ) → HasPlace ctx b place t stack below → length stack ≡ held b + length below
+  held_words (InData o) place t stack below has = omega (arith, ap length has.at.1)
+  held_words OnTop place t stack below has = omega (arith, ap length has.at)
+  held_words (Behind o) place t stack below has = omega (arith, ap length has.at.2)
+
+  pub twice_words : (b : Access) (place : Place) (t : Shape) (once : List ℕ) → HasPlace ctx b place t once [] → length (doubled b once) ≡ held_twice b
+  twice_words (InData o) place t once has = ap length has.at.1
+  twice_words OnTop place t once has = ap (λ (x : List ℕ). length (x ++ x)) has.at
+  twice_words (Behind o) place t once has = ap (λ (x : List ℕ). length (x ++ x)) has.at.2
+
+  -- a place that is ready is kept for a second use
+  pub kept_twice : (s : Source) (items : List Item) (m : State) → Shared ctx s m → (b : Access) (place : Place) (t : Shape) (once : List ℕ) → HasPlace ctx b place t once [] → readied b ≡ b
+      → (p q budget rest : ℕ) → InstrsAt own.code (again_code b) p q → Goes ctx s items (going m q (doubled b once)) rest → rest + 1 ≤ budget → Goes ctx s items (going m p once) budget
+  kept_twice s items m shared (InData o) place t once has ready p q budget rest at goes less =
+      goes_more ctx s items (going m p once) rest budget (subst (λ (x : ℕ). Goes ctx s items (going m x once) rest) (sym at) goes) (omega (arith, less))
+  kept_twice s items m shared OnTop place t once has ready p q budget rest at goes less =
+      leads s items m shared Dup p at.0 once (once ++ once) budget rest at.1
+      (ap (λ (x : List ℕ). on_one (going m p x) x (double_row at.0 (going m p x))) has.at
+      ∙ ap (λ (x : List ℕ). let e : Event × State = (Went, going m at.0 (x ++ x)) in e) (sym has.at))
+      (subst (λ (x : ℕ). Goes ctx s items (going m x (once ++ once)) rest) (sym at.2) goes)
+      less
+  kept_twice s items m shared (Behind o) place t once has ready p q budget rest at goes less = absurd (top_behind o ready)
+
+  -- the word that lies there comes below a number
+  pub brings_under : (s : Source) (items : List Item) (m : State) → Shared ctx s m → (b : Access) (place : Place) (k : Kind) (once : List ℕ) → HasPlace ctx b place (Word k) once [] → readied b ≡ b → (w : ℕ)
+      → (p q budget rest : ℕ) → InstrsAt own.code (under_code b) p q → Goes ctx s items (going m q (w ∷ get_or m.store (address h place) 0 ∷ once)) rest → rest + 3 ≤ budget
+      → Goes ctx s items (going m p (w ∷ doubled b once)) budget
+  brings_under s items m shared (InData o) place k once has ready w p q budget rest at goes less =
+      let low = inside s m shared (InData o) place (Word k) once [] has in
+      let old : ℕ = get_or m.store (address h place) 0 in
+      leads s items m shared (Lgw o) p at.0 (w ∷ once) (old ∷ w ∷ once) budget (rest + 1) at.1
+      (yes _ _ _ (lt-ltb (own.base + o) 65536 (omega (arith, low, has.at.0)))
+      ∙ pushes (get_or m.store (own.base + o) 0) at.0 (going m p (w ∷ once)) (omega (arith, ap length has.at.1))
+      ∙ ap (λ (a : ℕ). let e : Event × State = (Went, going m at.0 (get_or m.store a 0 ∷ w ∷ once)) in e) (sym has.at.0))
+      (leads s items m shared Swp at.0 at.2.0 (old ∷ w ∷ once) (w ∷ old ∷ once) (rest + 1) rest at.2.1 refl
+      (subst (λ (x : ℕ). Goes ctx s items (going m x (w ∷ old ∷ once)) rest) (sym at.2.2) goes)
+      (omega arith))
+      (omega (arith, less))
+  brings_under s items m shared OnTop place k once has ready w p q budget rest at goes less =
+      let low = inside s m shared OnTop place (Word k) once [] has in
+      let a : ℕ = address h place in
+      let old : ℕ = get_or m.store (address h place) 0 in
+      let same : a + 0 ≡ a = omega arith in
+      subst (λ (x : List ℕ). Goes ctx s items (going m p (w ∷ x ++ x)) budget) (sym has.at)
+      (leads s items m shared Swp p at.0 (w ∷ a ∷ a ∷ []) (a ∷ w ∷ a ∷ []) budget (rest + 2) at.1 refl
+      (leads s items m shared Ldi at.0 at.2.0 (a ∷ w ∷ a ∷ []) (old ∷ w ∷ a ∷ []) (rest + 2) (rest + 1) at.2.1
+      (yes _ _ _ (lt-ltb (a + 0) 65536 (omega (arith, low)))
+      ∙ ap (λ (x : ℕ). let e : Event × State = (Went, going m at.2.0 (get_or m.store x 0 ∷ w ∷ a ∷ [])) in e) same)
+      (leads s items m shared Swp at.2.0 at.2.2.0 (old ∷ w ∷ a ∷ []) (w ∷ old ∷ a ∷ []) (rest + 1) rest at.2.2.1 refl
+      (subst (λ (x : ℕ). Goes ctx s items (going m x (w ∷ old ∷ a ∷ [])) rest) (sym at.2.2.2) (subst (λ (x : List ℕ). Goes ctx s items (going m q (w ∷ old ∷ x)) rest) has.at goes))
+      (omega arith))
+      (omega arith))
+      (omega (arith, less)))
+  brings_under s items m shared (Behind o) place k once has ready w p q budget rest at goes less = absurd (top_behind o ready)

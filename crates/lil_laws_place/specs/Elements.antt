@@ -1,0 +1,228 @@
+-- The rows of places: of variables, fields and elements.
+use Rattle.std.proofs.Common.{◌≡◌, ℕ, ◌+◌, ◌*◌, ◌-◌, ◌%◌, ◌<◌, ◌≤◌, max, Bool, true, false, cond, ltb, Some, List, [], ◌∷◌, length, refl, sym, ap, ◌∙◌, subst, arith}
+use Rattle.std.specs.Prelude.{ℤ, pos, negsuc, ◌≤ℤ◌, ◌-ℤ◌, ◌+ℤ◌, slice_get}
+use Rattle.std.proofs.lemmas.Bool.{lt-ltb}
+use Rattle.std.proofs.lemmas.Int.{ints}
+use Rattle.lil_base.specs.Words.{Whole, Cardinal, Integer, in_type, between, word_of}
+use Rattle.lil_base.specs.Laws.{in_range, bounds}
+use Rattle.lil_base.specs.declared.fault.TrapKind.TheVariants as trap
+use Rattle.lil_resolved.specs.Kinds.{Kind, base_of, is_base, takes_value, compared_as, least, greatest, nat_of, numbers, position}
+use Rattle.lil_resolved.specs.Scalars.{Scalar, within, scalar_word, ordinal_of}
+use Rattle.lil_resolved.specs.Shapes.{Shape, Absent, Row, words, is_there, part_at, offset, shape_by, shape_at, element_of}
+use Rattle.lil_resolved.specs.Resolved.{Designator, Variable, Field, Element, Expression, kind_of, shape_of}
+use Rattle.lil_resolved.specs.Depth.{place_depth, depth}
+use Rattle.lil_meaning.specs.Cells.{Global, Place, part_of}
+use Rattle.lil_meaning.specs.Items.{Scalars, Places, Part, IndexBy, IndexAt, Item, Value, PlaceOf, Fill, Going, Source}
+use Rattle.lil_meaning.specs.Steps.{current, owner_of, trapped, with_items}
+use Rattle.lil_asm.specs.declared.instr.Instr.TheVariants.{Ixc}
+use Rattle.lil_mcode.specs.declared.machine.Event.TheVariants.{Went}
+use Rattle.lil_mcode.specs.Control.{above}
+use Rattle.lil_mcode.specs.State.{State}
+use Rattle.lil_mcode.specs.Table.{act, going, on_two, element_row}
+use Rattle.lil_table.specs.Rows.{Access, InData, OnTop, Behind, further, offset_in, access_of}
+use Rattle.lil_match.specs.Running.{running}
+use Rattle.lil_match.specs.Parts.{yes, element}
+use Rattle.lil_match.specs.Homes.{word_for, plain_word, address, shape_there, part_there}
+use Rattle.lil_match.specs.Goes.{Shared, Goes, Lands}
+use Rattle.lil_match.specs.Waits.{Setting, frame_of, laid_out, Quiet, ValueOf, AtPlace, Around, Reach, Rows, HasPlace, Waiting}
+use Rattle.lil_match.specs.Orders.{instr_within, instrs_order, expression_stands}
+use Rattle.lil_match.specs.Ranges.{has, fits_has, has_type, has_base, takes_part, least_base}
+use Rattle.lil_match.specs.Arithmetic.{word_is, above_more}
+use Rattle.lil_match.specs.Closing.{closed, variable_here}
+use Rattle.lil_match.specs.Steps.{advances, at_step, at_once, lands_on, goes_none, goes_one, operand_exact}
+use Rattle.lil_laws_place.specs.Codes.{inside, part_has, addressed}
+use Rattle.lil_laws_place.specs.Stores.{tested}
+
+-- ---- the number of an element is less than how many there are
+fewer : (low z high : ℤ) → low ≤ℤ z → z ≤ℤ high → nat_of (z -ℤ low) < nat_of ((high -ℤ low) +ℤ pos 1)
+fewer low z high a b = by (z -ℤ low) ((high -ℤ low) +ℤ pos 1) refl refl
+  where
+    by : (d e : ℤ) → z -ℤ low ≡ d → (high -ℤ low) +ℤ pos 1 ≡ e → nat_of d < nat_of e
+    by (pos n) (pos m) d e = omega (arith, ints, a, b, d, e)
+    by (pos n) (negsuc m) d e = absurd (omega (arith, ints, a, b, d, e))
+    by (negsuc n) e' d e = absurd (omega (arith, ints, a, b, d, e))
+
+-- a value of an index's kind: its number is less than how many there are, and its word lies so far above that of the least one
+pub record IsIndex (k : Kind) (v : Scalar) : Type 0 where
+  pub less : position k (ordinal_of v) < numbers k
+  pub above : above (word_of (least k)) (scalar_word v) ≡ position k (ordinal_of v)
+
+index_is : (k j : Kind) (v : Scalar) → takes_value k j ≡ true → within k v ≡ true → IsIndex k v
+index_is k j v takes one =
+    let o : ℤ = ordinal_of v in
+    let base : is_base (base_of k) ≡ true = takes_part k j takes in
+    let here : has k o ≡ true = fits_has k v one in
+    let wide : has (base_of k) o ≡ true = has_base k o here in
+    let b = bounds (least k) o (greatest k) here in
+    let w = bounds (least (base_of k)) o (greatest (base_of k)) wide in
+    let first : has (base_of k) (least k) ≡ true = in_range (least (base_of k)) (least k) (greatest (base_of k)) (least_base k) (omega (arith, ints, b.0, w.1)) in
+    record {
+      less = fewer (least k) o (greatest k) b.0 b.1;
+      above = ap (above (word_of (least k))) (word_is v) ∙ ap nat_of (above_more (compared_as (base_of k)) (least k) o (has_type (base_of k) (least k) base first) (has_type (base_of k) o base wide) b.0);
+    }
+
+module _ (ctx : Setting) where
+  open ctx use {library, home as h}
+  open frame_of ctx use {own}
+  open laid_out ctx use {layout as l}
+
+  module _ (s : Source) (k : List Item) (m : State) (c : ℕ) (a : Around) (shared : Shared ctx s m) where
+    abbrev Rest : Reach
+    Rest = Rows ctx k
+
+    pub variable_goes : (x : ℕ) → Waiting ctx (PlaceOf (Variable x)) Rest Quiet m.place m.stack c a → Goes ctx s (PlaceOf (Variable x) ∷ k) m (c + 32)
+    variable_goes x row =
+        let named = row.part.here in
+        let now : Place = record { root = Global (owner_of (slice_get s.activations (current k))) x; path = [] } in
+        let at : slice_get l.offsets x ≡ Some (offset_in (slice_get l.offsets x)) = named.at ∙ ap Some (sym (ap offset_in named.at)) in
+        let typed : slice_get l.shapes x ≡ Some (shape_at l.shapes x) = named.typed ∙ ap Some (sym (ap shape_by named.typed)) in
+        let known : HasPlace ctx (InData (offset_in (slice_get l.offsets x))) now (shape_at l.shapes x) m.stack m.stack =
+        variable_here ctx s k m shared x (offset_in (slice_get l.offsets x)) (shape_at l.shapes x) (closed ctx k _ _ _ _ _ row.then) at typed (ap is_there (ap shape_by named.typed) ∙ named.there) m.stack in
+        goes_none ctx s (PlaceOf (Variable x) ∷ k) m (c + 32) c
+        (lands_on ctx s m shared (Value (Places now) ∷ k) m.place m.stack c a
+        (at_once ctx _ Quiet m.place m.stack c a
+        (record {
+          part = record { access = access_of l (Variable x); shape = shape_at l.shapes x; below = m.stack; has = known };
+          then = subst (λ (q : ℕ). Rest (AtPlace (access_of l (Variable x)) (shape_at l.shapes x)) q m.stack c a) (sym named.stays) row.then;
+        })))
+        (omega arith)
+        (omega arith)
+
+    pub field_goes : (d : Designator) (i : ℕ) → Waiting ctx (PlaceOf (Field d i)) Rest Quiet m.place m.stack c a → Goes ctx s (PlaceOf (Field d i) ∷ k) m (c + 32)
+    field_goes d i row =
+        goes_none ctx s (PlaceOf (Field d i) ∷ k) m (c + 32) c
+        (lands_on ctx s m shared (PlaceOf d ∷ Fill (Part i) ∷ k) m.place m.stack c a
+        (at_once ctx _ Quiet m.place m.stack c a
+        (record {
+          part = record { end = row.part.end; here = row.part.here.here; shallow = row.part.shallow };
+          then = at_once ctx _ (AtPlace (access_of l d) (shape_of l.shapes d)) row.part.end m.stack c a (record { part = row.part.here.there; then = row.then });
+        })))
+        (omega arith)
+        (omega arith)
+
+    pub element_goes : (d : Designator) (kind : Kind) (e : Expression) → Waiting ctx (PlaceOf (Element d kind e)) Rest Quiet m.place m.stack c a → Goes ctx s (PlaceOf (Element d kind e) ∷ k) m (c + 32)
+    element_goes d kind e row =
+        let r = row.part.here in
+        goes_none ctx s (PlaceOf (Element d kind e) ∷ k) m (c + 32) c
+        (lands_on ctx s m shared (PlaceOf d ∷ Fill (IndexBy kind e) ∷ k) m.place m.stack c a
+        (at_once ctx _ Quiet m.place m.stack c a
+        (record {
+          part = record { end = r.found; here = r.here; shallow = omega (arith, row.part.shallow) };
+          then = at_once ctx _ (AtPlace (access_of l d) (shape_of l.shapes d)) r.found m.stack c a
+              (record {
+                part = record {
+                  rows = r.rows;
+                  there = r.there;
+                  takes = r.takes;
+                  start = r.start;
+                  middle = r.middle;
+                  tested = r.tested;
+                  end = row.part.end;
+                  address = r.address;
+                  value = r.value;
+                  shallow = omega (arith, row.part.shallow);
+                  test = r.test;
+                  by = r.by;
+                };
+                then = row.then;
+              });
+        })))
+        (omega arith)
+        (omega arith)
+
+    -- the record is there
+    pub part_goes : (place : Place) (i : ℕ) (b : Access) (t : Shape) (below : List ℕ) → HasPlace ctx b place t m.stack below → Waiting ctx (Fill (Part i)) Rest (AtPlace b t) m.place below c a
+        → Goes ctx s (Value (Places place) ∷ Fill (Part i) ∷ k) m (c + 32)
+    part_goes place i b t below is row =
+        goes_none ctx s (Value (Places place) ∷ Fill (Part i) ∷ k) m (c + 32) c
+        (lands_on ctx s m shared (Value (Places (part_of place i)) ∷ k) m.place m.stack c a
+        (at_once ctx _ Quiet m.place m.stack c a
+        (record {
+          part = record { access = further (offset t (i ∷ [])) b; shape = part_at t (i ∷ []); below = below; has = part_has ctx b place t m.stack below is i row.part };
+          then = row.then;
+        })))
+        (omega arith)
+        (omega arith)
+
+    -- the array is there: its address, and then the index
+    pub index_by_goes : (place : Place) (kind : Kind) (e : Expression) (b : Access) (t : Shape) (below : List ℕ) → HasPlace ctx b place t m.stack below
+        → Waiting ctx (Fill (IndexBy kind e)) Rest (AtPlace b t) m.place below c a → Goes ctx s (Value (Places place) ∷ Fill (IndexBy kind e) ∷ k) m (c + 32)
+    index_by_goes place kind e b t below is row =
+        let r = row.part in
+        let items : List Item = Value (Places place) ∷ Fill (IndexBy kind e) ∷ k in
+        let at : State = going m r.start (address h place ∷ below) in
+        let value = expression_stands l own.code e r.start r.middle r.value in
+        let test = instrs_order own.code _ r.middle r.tested r.test value.1 in
+        addressed ctx s items m shared b place t m.stack below is (omega (arith, r.shallow)) m.place r.start (c + 32) c r.address
+        (operand_exact ctx s k at c a shared items e (IndexAt place kind) refl (omega arith) r.middle r.value (omega (arith, r.shallow))
+        (omega (arith, test.0, instr_within own.code r.tested _ r.end r.by))
+        (record {
+          part = record {
+            takes = r.takes;
+            element = element_of t;
+            below = below;
+            has = record { seen = is.seen; living = is.living ∙ r.rows; there = refl; at = refl };
+            there = r.there;
+            tested = r.tested;
+            end = r.end;
+            test = r.test;
+            by = r.by;
+          };
+          then = row.then;
+        }))
+        (omega arith)
+
+    -- the index is there: its test, and the address of the element
+    module _ (place : Place) (kind : Kind) (v : Scalar) (j : Kind) (fit : within j v ≡ true) (below : List ℕ) (is : m.stack ≡ word_for h v ∷ below)
+        (row : Waiting ctx (Fill (IndexAt place kind)) Rest (ValueOf j) m.place below c a) where
+      abbrev items : List Item
+      items = Value (Scalars v) ∷ Fill (IndexAt place kind) ∷ k
+
+      abbrev now : Source
+      now = record s { items = items; phase = Going }
+
+      abbrev x : ℕ
+      x = position kind (ordinal_of v)
+
+      abbrev t : Shape
+      t = Row (numbers kind) row.part.element
+
+      word : m.stack ≡ scalar_word v ∷ below
+      word = is ∙ ap (λ (w : ℕ). w ∷ below) (plain_word h j v fit)
+
+      abbrev becomes : Bool → Source
+      becomes b = cond b (with_items now (Value (Places (part_of place x)) ∷ k)) (trapped library now trap.Range)
+
+      chosen : within kind v ≡ true → Goes ctx s items (going m row.part.tested m.stack) (c + 1)
+      chosen one =
+          let r = row.part in
+          let i = index_is kind j v r.takes one in
+          let is_element : part_at t (x ∷ []) ≡ r.element = yes (ltb x (numbers kind)) r.element Absent (lt-ltb x (numbers kind) i.less) in
+          let part = part_there h place x (ap is_there r.has.living) in
+          let living : shape_there h (part_of place x) ≡ r.element = part.0 ∙ ap (λ (z : Shape). part_at z (x ∷ [])) r.has.living ∙ is_element in
+          let at : address h (part_of place x) ≡ address h place + x * words r.element = omega (arith, part.1, ap (λ (z : Shape). offset z (x ∷ [])) r.has.living) in
+          let to : List ℕ = address h (part_of place x) ∷ r.below in
+          let there : HasPlace ctx OnTop (part_of place x) r.element to r.below = record { seen = r.has.seen; living = living; there = r.there; at = refl } in
+          let sum : address h place + above (word_of (least kind)) (scalar_word v) * words r.element ≡ address h (part_of place x) =
+          ap (λ (n : ℕ). address h place + n * words r.element) i.above ∙ sym at in
+          let low = inside ctx s m shared OnTop (part_of place x) r.element to r.below there in
+          let here : State = going m r.tested m.stack in
+          goes_one ctx s items here (c + 1) c (running (going m r.end to) s.world)
+          (advances here s.world _ (
+          at_step ctx here shared.program (Ixc (word_of (least kind)) (words r.element)) r.end r.by
+          ∙ ap (λ (y : List ℕ). on_two here y (element_row (word_of (least kind)) (words r.element) r.end here)) (word ∙ ap (λ (y : List ℕ). scalar_word v ∷ y) r.has.at)
+          ∙ yes _ _ _ (lt-ltb (address h place + above (word_of (least kind)) (scalar_word v) * words r.element) 65536 (omega (arith, low, sum)))
+          ∙ ap (λ (n : ℕ). (Went, going m r.end (n ∷ r.below))) sum
+          ))
+          (subst (λ (y : Source). Lands ctx y.phase y (running (going m r.end to) s.world) c) (sym (ap becomes one))
+          (lands_on ctx s m shared (Value (Places (part_of place x)) ∷ k) r.end to c a
+          (at_once ctx _ Quiet r.end to c a (record { part = record { access = OnTop; shape = r.element; below = r.below; has = there }; then = row.then }))))
+          (omega arith)
+
+      pub index_at_goes : Goes ctx s (Value (Scalars v) ∷ Fill (IndexAt place kind) ∷ k) m (c + 32)
+      index_at_goes =
+          tested ctx s items m shared m.place m.stack kind j v row.part.takes fit below word
+          row.part.tested (c + 32) (c + 1) row.part.test (closed ctx k _ _ _ _ _ row.then)
+          (λ out. ap becomes out)
+          chosen
+          (omega arith)

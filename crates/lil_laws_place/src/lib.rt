@@ -1,0 +1,2 @@
+//! The laws of the rows of places and of stores.
+#![tactic(auto)]
