@@ -15,13 +15,14 @@ use Rattle.lil_resolved.specs.Views.{selected, selector_of, place_of, shapes_of}
 use Rattle.lil_resolved.specs.Forms.{place_is}
 use Rattle.lil_asm.specs.declared.instr.Instr.TheVariants.{Ixc}
 use Rattle.lil_table.specs.Rows.{IsAt, InstrsAt, Access, InData, OnTop, Behind, further, offset_in, address_code, test_code}
+use Rattle.lil_labels.specs.Entries.{small_at}
 use Rattle.lil_labels.specs.Tables.{Tables, variable_by, part_by, elements_by}
 use Rattle.lil_labels.specs.Drafts.{Draft, Final, Emits, Doing, DoingAll}
 use Rattle.lil_labels.specs.Emitting.{emits_none, emits_then, emits_as, emits_tied}
 use Rattle.lil_expr.specs.Accesses.{words_in}
 use Rattle.lil_expr.specs.Generating.{Value, ReachedAt, Found, Selecting}
 use Rattle.lil_expr.specs.Variables.{standing}
-use Rattle.lil_expr.proofs.Tables.{whole_there, array_there, row_is, part_within, small_at, PartIs, part_is, ElementsAre, elements_are}
+use Rattle.lil_expr.proofs.Tables.{whole_there, array_there, row_is, part_within, PartIs, part_is, ElementsAre, elements_are}
 
 -- ---- variables
 there_is : (o : Option Shape) → is_there (shape_by o) ≡ true → (t : Shape) × (o ≡ Some t) × (is_there t ≡ true)

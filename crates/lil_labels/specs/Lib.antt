@@ -1,4 +1,5 @@
 pub mod Tables
+pub mod Entries
 pub mod Drafts
 pub mod Settling
 pub mod Emitting

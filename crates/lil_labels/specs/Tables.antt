@@ -1,5 +1,5 @@
 -- The tables of a module: where its variables lie, and what its shapes have.
-use Rattle.std.specs.Prelude.{◌≡◌, ℕ, ◌+◌, ◌*◌, ◌≤◌, min, List, [], Option, Some, None, map, slice_get}
+use Rattle.std.specs.Prelude.{◌≡◌, ℕ, ◌+◌, ◌-◌, ◌*◌, ◌≤◌, min, List, [], length, Option, Some, None, map, slice_get, nat_lt, if◌then◌else◌}
 use Rattle.lil_resolved.specs.declared.resolved.RDeclared.{RDeclared}
 use Rattle.lil_resolved.specs.declared.shapes.RField.{RField}
 use Rattle.lil_resolved.specs.declared.shapes.RElements.{RElements}
@@ -44,6 +44,33 @@ elements_in (r.Elements e) = e
 abbrev pub elements_by : Option RShape → RElements
 elements_by None = record { count = 0; words = 0; shape = 0 }
 elements_by (Some t) = elements_in t
+
+-- the last field of a shape
+abbrev pub last_in : RShape → Option RField
+last_in r.Absent = None
+last_in (r.Word k) = None
+last_in (r.Fields fs) = slice_get fs (length fs - 1)
+last_in (r.Elements e) = None
+
+abbrev pub last_by : Option RShape → Option RField
+last_by None = None
+last_by (Some t) = last_in t
+
+-- a field whose shape has a number below another
+abbrev pub below : ℕ → Option RField → Option RField
+below n None = None
+below n (Some f) = if nat_lt f.shape n then Some f else None
+
+-- the words of a shape without fields, up to 65535
+abbrev pub plain_words : RShape → ℕ
+plain_words r.Absent = 0
+plain_words (r.Word k) = 1
+plain_words (r.Fields fs) = 0
+plain_words (r.Elements e) = min (e.count * e.words) 65535
+
+abbrev pub plain_words_by : Option RShape → ℕ
+plain_words_by None = 0
+plain_words_by (Some t) = plain_words t
 
 -- The shapes are measured, the variables are those of a layout, and each lies in 32,000 words.
 pub record Describe (t : Tables) (l : Layout) : Type 0 where

@@ -1,8 +1,11 @@
 //! Code whose jumps name labels. The labels become places when the code is settled.
 
-ghost use Rattle.std.specs.Prelude.{◌≡◌, ℕ, ◌≤◌, length, slice_get, Some, IfOk, OnOk};
+ghost use Rattle.std.specs.Prelude.{◌≡◌, ℕ, ◌≤◌, [], length, slice_get, Some, IfOk, OnOk};
 ghost use Rattle.lil_asm.specs.Bytes.{Sayable};
-ghost use Rattle.lil_labels.specs.Tables.{variable_by, part_in, part_by, elements_in, elements_by};
+ghost use Rattle.lil_resolved.specs.Shapes.{words, shape_at};
+ghost use Rattle.lil_resolved.specs.Views.{AreMeasured, shapes_of};
+ghost use Rattle.lil_labels.specs.Tables as tables;
+ghost use Rattle.lil_labels.specs.Tables.{variable_by, part_in, part_by, elements_in, elements_by, last_in, last_by, below, plain_words_by};
 ghost use Rattle.lil_labels.specs.Drafts.{empty, aimed, code_of, settled_word, Emits, Nothing, Doing, AreSayable, DoingAll, Choosing, Marking, Entering, IsOpen, Makes, Places, Notes};
 
 use lil_asm::{Instr, encode, encode_entry};
@@ -86,6 +89,65 @@ fn elements_of(shape: &RShape) -> RElements
     }
 }
 
+/// The last field of a shape, if there is one.
+fn last_of(shape: &RShape) -> Option<RField>
+    ensures { result ≡ last_in shape.now }
+{
+    match shape {
+        RShape::Fields(fields) => fields.as_slice().last().copied(),
+        RShape::Absent | RShape::Word(_) | RShape::Elements(_) => None,
+    }
+}
+
+/// The last field of a shape by its number, if the field's own shape has a lesser one.
+fn last_at(shapes: &[RShape], number: usize) -> Option<RField>
+    ensures { result ≡ below number (last_by (slice_get shapes.now number)) }
+{
+    let field = last_of(shapes.get(number)?)?;
+    if field.shape < number {
+        Some(field)
+    } else {
+        None
+    }
+}
+
+/// The words of a shape without fields, up to 65535.
+fn plain_words(shape: &RShape) -> u16
+    ensures { result ≡ tables.plain_words shape.now }
+{
+    match shape {
+        RShape::Absent | RShape::Fields(_) => 0,
+        RShape::Word(_) => 1,
+        RShape::Elements(elements) => elements
+            .count
+            .saturating_mul(u32::from(elements.words))
+            .min(65_535) as u16,
+    }
+}
+
+/// The words of a shape without fields by its number, up to 65535; 0 where there is none.
+fn plain_words_at(shapes: &[RShape], number: usize) -> u16
+    ensures { result ≡ plain_words_by (slice_get shapes.now number) }
+{
+    match shapes.get(number) {
+        Some(shape) => plain_words(shape),
+        None => 0,
+    }
+}
+
+/// How many words a measured shape takes, by its number: those before its last field, and that field's own.
+fn words_at(shapes: &[RShape], number: usize) -> u16
+    ensures { AreMeasured [] shapes.now → result ≡ words (shape_at (shapes_of shapes.now) number) }
+{
+    let mut before: u16 = 0;
+    let mut inner = number;
+    while let Some(field) = last_at(shapes, inner) {
+        before = before.saturating_add(field.offset);
+        inner = field.shape;
+    }
+    before.saturating_add(plain_words_at(shapes, inner))
+}
+
 /// Code that is being written for a module: the module's shapes and variables, the bytes so far, the place of each label
 /// that has one, and the jumps.
 #[derive(Drop)]
@@ -156,6 +218,13 @@ impl<'m> CodeBuffer<'m> {
             Some(found) => elements_of(found),
             None => NO_ELEMENTS,
         }
+    }
+
+    /// How many words a shape takes, where the shapes are measured.
+    pub fn words(&self, shape: usize) -> u16
+        ensures { AreMeasured [] self.now.tables.shapes → result ≡ words (shape_at (shapes_of self.now.tables.shapes) shape) }
+    {
+        words_at(self.shapes, shape)
     }
 
     /// Where its memory comes from.

@@ -3,9 +3,9 @@ use Rattle.std.proofs.Common.{◌≡◌, ℕ, ◌+◌, true, List, [], ◌∷◌
 use Rattle.std.specs.Prelude.{ℤ}
 use Rattle.lil_resolved.specs.Kinds.{Kind}
 use Rattle.lil_resolved.specs.Scalars.{Scalar, within}
-use Rattle.lil_resolved.specs.Resolved.{Designator, Variable, Field, Element, Expression, Constant, Taken, One, Two, Short, Apply, Assign, Change, Request, If, Case, While, Repeat, Loop, Exit, Halt, Return, For, Statements}
+use Rattle.lil_resolved.specs.Resolved.{Designator, Variable, Field, Element, Expression, Constant, Taken, One, Two, Short, Apply, Assign, Copy, Change, Request, If, Case, While, Repeat, Loop, Exit, Halt, Return, For, Statements}
 use Rattle.lil_meaning.specs.Cells.{Place}
-use Rattle.lil_meaning.specs.Items.{Scalars, Places, Wholes, Opens, Hole, Get, Part, IndexBy, IndexAt, SetTo, StoreAt, ChangeBy, ChangeAt, OneOf, LeftOf, RightOf, ShortOf, ApplyTo, Pass, Choose, Turn, Again, Pick, StartOf, LimitOf, Task, Do, Passing, Until, Looping, Turns, End, Item, Value, Evaluate, PlaceOf, Fill, Perform, Source}
+use Rattle.lil_meaning.specs.Items.{Scalars, Places, Wholes, Opens, Hole, Get, Part, IndexBy, IndexAt, SetTo, StoreAt, CopyTo, CopyFrom, ChangeBy, ChangeAt, OneOf, LeftOf, RightOf, ShortOf, ApplyTo, Pass, Choose, Turn, Again, Pick, StartOf, LimitOf, Task, Do, Passing, Until, Looping, Turns, End, Item, Value, Evaluate, PlaceOf, Fill, Perform, Source}
 use Rattle.lil_resolved.specs.Shapes.{Shape}
 use Rattle.lil_mcode.specs.State.{State}
 use Rattle.lil_mcode.specs.Table.{going}
@@ -16,7 +16,7 @@ use Rattle.lil_match.specs.Waits.{Setting, frame_of, Mode, Quiet, ValueOf, AtPla
 use Rattle.lil_match.specs.Steps.{jumped}
 use Rattle.lil_laws_place.specs.Elements.{variable_goes, field_goes, element_goes, part_goes, index_by_goes, index_at_goes}
 use Rattle.lil_laws_expr.specs.Expressions.{constant_goes, taken_goes, one_goes, two_goes, short_begins, apply_goes, get_goes, one_of_goes, left_goes, right_goes, short_of_goes, apply_of_goes}
-use Rattle.lil_laws_stmt.specs.Tasks.{assign_goes, set_goes, store_goes, request_goes, passing_goes, pass_goes, serve_goes}
+use Rattle.lil_laws_stmt.specs.Tasks.{copy_goes, copy_to_goes, copy_from_goes, assign_goes, set_goes, store_goes, request_goes, passing_goes, pass_goes, serve_goes}
 use Rattle.lil_laws_stmt.specs.Control.{if_goes, choose_goes, while_goes, turn_goes, repeat_goes, until_goes, again_goes, loop_goes, looping_goes}
 use Rattle.lil_laws_stmt.specs.Changes.{change_goes, change_by_goes, change_at_goes}
 use Rattle.lil_laws_stmt.specs.Exits.{exit_goes}
@@ -63,6 +63,8 @@ module _ (ctx : Setting) where
     place_step place (Part i) b t below has r = part_goes ctx s k m c a shared place i b t below has r
     place_step place (IndexBy j e) b t below has r = index_by_goes ctx s k m c a shared place j e b t below has r
     place_step place (SetTo j e) b t below has r = set_goes ctx s k m c a shared j e place b t below has r
+    place_step place (CopyTo from) b t below has r = copy_to_goes ctx s k m c a shared from place b t below has r
+    place_step place (CopyFrom to) b t below has r = copy_from_goes ctx s k m c a shared to place b t below has r
     place_step place (ChangeBy down j e) b t below has r = change_by_goes ctx s k m c a shared down j e place b t below has r
     place_step place o b t below has r = absurd r.part
 
@@ -81,6 +83,7 @@ module _ (ctx : Setting) where
 
     task_step : (t : Task) → ItemWaits ctx (Perform t) k (RowsOf k) Quiet m.place m.stack c a → Goes ctx s (Perform t ∷ k) m (c + 32)
     task_step (Do (Assign d kind e)) r = assign_goes ctx s k m c a shared d kind e r
+    task_step (Do (Copy d from)) r = copy_goes ctx s k m c a shared d from r
     task_step (Do (Change down d kind e)) r = change_goes ctx s k m c a shared down d kind e r
     task_step (Do (Request q given)) r = request_goes ctx s k m c a shared q given r
     task_step (Do (If e first second)) r = if_goes ctx s k m c a shared e first second r

@@ -1,18 +1,19 @@
 -- What the instructions do by which code has a place.
-use Rattle.std.proofs.Common.{◌≡◌, ℕ, ◌+◌, ◌<◌, ◌≤◌, true, List, [], ◌∷◌, ◌++◌, length, get_or, set, refl, sym, ap, ◌∙◌, subst, arith}
-use Rattle.std.proofs.lemmas.Bool.{lt-ltb}
+use Rattle.std.proofs.Common.{◌≡◌, ℕ, ◌+◌, ◌<◌, ◌≤◌, true, List, [], ◌∷◌, ◌++◌, length, get_or, set, take, drop, refl, sym, ap, ◌∙◌, subst, arith}
+use Rattle.std.proofs.lemmas.Bool.{lt-ltb, le-leb, and_from}
 use Rattle.lil_resolved.specs.Kinds.{Kind}
 use Rattle.lil_resolved.specs.Shapes.{Shape, Word, words, part_at, offset, is_there}
 use Rattle.lil_meaning.specs.Cells.{Place, part_of}
 use Rattle.lil_meaning.specs.Items.{Item, Source}
 use Rattle.lil_asm.specs.declared.instr.Instr.{Instr}
-use Rattle.lil_asm.specs.declared.instr.Instr.TheVariants.{Dup, Swp, Lgw, Lag, Ldi, Adf}
+use Rattle.lil_asm.specs.declared.instr.Instr.TheVariants.{Dup, Swp, Lgw, Lag, Ldi, Adf, Mov}
 use Rattle.lil_mcode.specs.declared.machine.Event.{Event}
 use Rattle.lil_mcode.specs.declared.machine.Event.TheVariants.{Went}
-use Rattle.lil_mcode.specs.State.{State}
+use Rattle.lil_mcode.specs.State.{State, spliced}
 use Rattle.lil_mcode.specs.Table.{act, going, on_one, on_two, double_row, push_row, fetch_row, put_row, store_row, further_row}
 use Rattle.lil_table.specs.Rows.{IsAt, InstrsAt, Access, InData, OnTop, Behind, further, address_code, load_code, ready_code, readied, held, store_code, again_code, held_twice, under_code}
 use Rattle.lil_match.specs.Parts.{yes}
+use Rattle.lil_match.specs.Splices.{block_alone}
 use Rattle.lil_match.specs.Homes.{address, shape_there, place_inside, part_there}
 use Rattle.lil_match.specs.Goes.{Shared, Goes}
 use Rattle.lil_match.specs.Waits.{Setting, frame_of, doubled, HasPlace}
@@ -111,6 +112,16 @@ module _ (ctx : Setting) where
       ∙ ap (λ (a : ℕ). (Went, going m at.0 (a ∷ below))) (sym has.at.1))
       (subst (λ (x : ℕ). Goes ctx s items (going m x (address h place ∷ below)) rest) (sym at.2) goes)
       less
+
+  -- as many words as lie at a place are copied to another of the same shape
+  pub copied : (s : Source) (m : State) → Shared ctx s m → (to from : Place) (t : Shape) → shape_there h to ≡ t → shape_there h from ≡ t → is_there t ≡ true → (p q : ℕ)
+      → let here : State = going m p (address h from ∷ address h to ∷ []) in
+      act (Mov (words t)) q own here ≡ (Went, record m { place = q; stack = []; store = spliced m.store (address h to) (take (words t) (drop (address h from) m.store)) })
+  copied s m shared to from t living source there p q =
+      let low : address h to + words t ≤ 65535 = omega (arith, place_inside h s.cells m.store to shared.mem (ap is_there living ∙ there), ap words living) in
+      let high : address h from + words t ≤ 65535 = omega (arith, place_inside h s.cells m.store from shared.mem (ap is_there source ∙ there), ap words source) in
+      yes _ _ _ (and_from _ _ (le-leb (address h from + words t) 65536 (omega (arith, high))) (le-leb (address h to + (words t + 0)) 65536 (omega (arith, low))))
+      ∙ ap (λ (ws : List ℕ). let r : Event × State = (Went, record m { place = q; stack = []; store = spliced m.store (address h to) ws }) in r) (block_alone m.store (address h from) (words t))
 
   -- a place is made ready for a store
   pub made_ready : (s : Source) (items : List Item) (m : State) → Shared ctx s m → (b : Access) (place : Place) (t : Shape) (stack below : List ℕ) → HasPlace ctx b place t stack below

@@ -6,26 +6,26 @@ use Rattle.std.proofs.lemmas.List.{reverse-append, reverse-reverse, length-rever
 use Rattle.lil_base.specs.declared.fault.TrapKind.TheVariants as trap
 use Rattle.lil_resolved.specs.Kinds.{Kind}
 use Rattle.lil_resolved.specs.Scalars.{Scalar, within, scalar_word}
-use Rattle.lil_resolved.specs.Resolved.{Designator, Expression, Argument, Assign, Request, kind_of, shape_of}
-use Rattle.lil_resolved.specs.Shapes.{Shape, Word}
-use Rattle.lil_meaning.specs.Cells.{Place, stored, alone}
+use Rattle.lil_resolved.specs.Resolved.{Designator, Expression, Argument, Assign, Copy, Request, kind_of, shape_of}
+use Rattle.lil_resolved.specs.Shapes.{Shape, Word, words, is_there}
+use Rattle.lil_meaning.specs.Cells.{Place, stored, alone, under}
 use Rattle.lil_meaning.specs.World.{World, Given, Single, serve}
-use Rattle.lil_meaning.specs.Items.{Datum, Scalars, Places, SetTo, StoreAt, Pass, Do, Passing, Item, Value, PlaceOf, Fill, Perform, Going, Source}
+use Rattle.lil_meaning.specs.Items.{Datum, Scalars, Places, SetTo, StoreAt, CopyTo, CopyFrom, Pass, Do, Passing, Item, Value, PlaceOf, Fill, Perform, Going, Source}
 use Rattle.lil_meaning.specs.Steps.{trapped, with_items, given_of, level_of}
-use Rattle.lil_asm.specs.declared.instr.Instr.TheVariants.{Svc}
-use Rattle.lil_mcode.specs.State.{State}
-use Rattle.lil_mcode.specs.Table.{going, request_row}
+use Rattle.lil_asm.specs.declared.instr.Instr.TheVariants.{Mov, Svc}
+use Rattle.lil_mcode.specs.State.{State, spliced}
+use Rattle.lil_mcode.specs.Table.{act, going, request_row}
 use Rattle.lil_table.specs.Rows.{IsAt, ValueRow, ArgumentsAt, test_code, Access, access_of, readied, held, store_code}
 use Rattle.lil_match.specs.Running.{Running, Run, running, requested, words_taken}
 use Rattle.lil_match.specs.Parts.{yes}
-use Rattle.lil_match.specs.Homes.{word_for, plain_word, address}
+use Rattle.lil_match.specs.Homes.{word_for, plain_word, address, Mem, mem_copied}
 use Rattle.lil_match.specs.Goes.{Shared, Goes, Lands}
 use Rattle.lil_match.specs.Stutter.{stutter}
 use Rattle.lil_match.specs.Waits.{Setting, frame_of, laid_out, Quiet, ValueOf, AtPlace, Around, Reach, Rows, HasWords, Reaches, HasPlace, Waiting}
 use Rattle.lil_match.specs.Orders.{instr_within, instrs_order, expression_stands, arguments_within}
 use Rattle.lil_match.specs.Closing.{closed}
-use Rattle.lil_match.specs.Steps.{advances, at_step, at_once, rows_ahead, lands_on, goes_none, goes_one, operand_exact, operand_goes}
-use Rattle.lil_laws_place.specs.Codes.{made_ready, readied_twice, held_words}
+use Rattle.lil_match.specs.Steps.{advances, at_step, at_once, rows_ahead, shared_with, lands_on, goes_none, goes_one, operand_exact, operand_goes}
+use Rattle.lil_laws_place.specs.Codes.{addressed, copied, made_ready, readied_twice, held_words}
 use Rattle.lil_laws_place.specs.Stores.{tested, stored_goes}
 
 -- one more word on the expression stack
@@ -118,6 +118,93 @@ module _ (ctx : Setting) where
           };
           then = row.then;
         }))
+        (omega arith)
+
+    pub copy_goes : (d from : Designator) → Waiting ctx (Perform (Do (Copy d from))) Rest Quiet m.place m.stack c a → Goes ctx s (Perform (Do (Copy d from)) ∷ k) m (c + 32)
+    copy_goes d from row =
+        let r = row.part.here in
+        goes_none ctx s (Perform (Do (Copy d from)) ∷ k) m (c + 32) c
+        (lands_on ctx s m shared (PlaceOf d ∷ Fill (CopyTo from) ∷ k) m.place m.stack c a
+        (at_once ctx _ Quiet m.place m.stack c a
+        (record {
+          part = record { end = r.found; here = r.here; shallow = omega (arith, r.shallow, ap length row.part.empty) };
+          then = at_once ctx _ (AtPlace (access_of l d) (shape_of l.shapes d)) r.found m.stack c a
+              (record {
+                part = record {
+                  same = r.same;
+                  empty = row.part.empty;
+                  shallow = r.source_shallow;
+                  start = r.start;
+                  middle = r.middle;
+                  last = r.last;
+                  end = row.part.end;
+                  address = r.address;
+                  source = r.source;
+                  source_address = r.source_address;
+                  by = r.by;
+                  within = row.part.within;
+                };
+                then = row.then;
+              });
+        })))
+        (omega arith)
+        (omega arith)
+
+    -- the place is there: its address, and then the place of what is copied
+    pub copy_to_goes : (from : Designator) (place : Place) (b : Access) (t : Shape) (below : List ℕ) → HasPlace ctx b place t m.stack below
+        → Waiting ctx (Fill (CopyTo from)) Rest (AtPlace b t) m.place below c a → Goes ctx s (Value (Places place) ∷ Fill (CopyTo from) ∷ k) m (c + 32)
+    copy_to_goes from place b t below has row =
+        let r = row.part in
+        let items : List Item = Value (Places place) ∷ Fill (CopyTo from) ∷ k in
+        let stack : List ℕ = address h place ∷ below in
+        addressed ctx s items m shared b place t m.stack below has (omega (arith, ap length r.empty)) m.place r.start (c + 32) c r.address
+        (goes_none ctx s items (going m r.start stack) c c
+        (lands_on ctx s m shared (PlaceOf from ∷ Fill (CopyFrom place) ∷ k) r.start stack c a
+        (at_once ctx _ Quiet r.start stack c a
+        (record {
+          part = record { end = r.middle; here = r.source; shallow = omega (arith, r.shallow, ap length r.empty) };
+          then = at_once ctx _ (AtPlace (access_of l from) (shape_of l.shapes from)) r.middle stack c a
+              (record {
+                part = record {
+                  has = record { seen = has.seen; living = has.living ∙ sym r.same; there = ap is_there r.same ∙ has.there; at = ap (λ (x : List ℕ). address h place ∷ x) r.empty };
+                  last = r.last;
+                  end = r.end;
+                  address = r.source_address;
+                  by = subst (λ (z : Shape). IsAt own.code r.last (Mov (words z)) r.end) (sym r.same) r.by;
+                  within = r.within;
+                };
+                then = row.then;
+              });
+        })))
+        (omega arith)
+        (omega arith))
+        (omega arith)
+
+    -- both are there
+    pub copy_from_goes : (to place : Place) (b : Access) (t : Shape) (below : List ℕ) → HasPlace ctx b place t m.stack below
+        → Waiting ctx (Fill (CopyFrom to)) Rest (AtPlace b t) m.place below c a → Goes ctx s (Value (Places place) ∷ Fill (CopyFrom to) ∷ k) m (c + 32)
+    copy_from_goes to place b t below has row =
+        let r = row.part in
+        let items : List Item = Value (Places place) ∷ Fill (CopyFrom to) ∷ k in
+        let here : State = going m r.last (address h place ∷ below) in
+        let store : List ℕ = spliced m.store (address h to) (take (words t) (drop (address h place) m.store)) in
+        let machine : State = record m { place = r.end; stack = []; store = store } in
+        let mem : Mem h (stored s.cells to (under s.cells place)) store =
+        subst (λ (n : ℕ). Mem h (stored s.cells to (under s.cells place)) (spliced m.store (address h to) (take n (drop (address h place) m.store)))) (ap words r.has.living)
+        (mem_copied h s.cells m.store to place shared.mem (ap is_there r.has.living ∙ r.has.there) (has.living ∙ sym r.has.living)) in
+        addressed ctx s items m shared b place t m.stack below has (omega (arith, ap length r.has.at)) m.place r.last (c + 32) (c + 1) r.address
+        (goes_one ctx s items here (c + 1) c (running machine s.world)
+        (advances here s.world _ (
+        at_step ctx here shared.program (Mov (words t)) r.end r.by
+        ∙ ap (λ (x : List ℕ). act (Mov (words t)) r.end own (going m r.last (address h place ∷ x))) r.has.at
+        ∙ copied ctx s m shared to place t r.has.living has.living has.there r.last r.end
+        ))
+        (record {
+          machine = machine;
+          is = refl;
+          met = record { shared = shared_with ctx s m shared mem; around = a; ahead = rows_ahead ctx k r.end [] c a row.then };
+        })
+        (omega arith))
         (omega arith)
 
     pub store_goes : (place : Place) (to : Kind) (v : Scalar) (kind : Kind) → within kind v ≡ true → (below : List ℕ) → m.stack ≡ word_for h v ∷ below

@@ -1,13 +1,15 @@
 -- Assignments, INC, DEC, HALT and calls that are lowered are sound.
-use Rattle.std.proofs.Common.{◌≡◌, ℕ, pos, Bool, List, [], ◌∷◌, map, Option, None, Some, IfSome, refl, sym, ap, subst, ◌∙◌}
+use Rattle.std.proofs.Common.{◌≡◌, ℕ, ◌≤◌, pos, Bool, true, List, [], ◌∷◌, map, Option, None, Some, IfSome, refl, sym, ap, subst, ◌∙◌}
+use Rattle.std.specs.Prelude.{◌==◌, slice_get}
+use Rattle.std.proofs.lemmas.Option.{same_Some}
 use Rattle.lil_types.specs.Types.{Table}
 use Rattle.lil_module.specs.declared.declared.RModule.{RModule}
 use Rattle.lil_module.specs.declared.tree.Standard.{Standard}
 use Rattle.lil_module.specs.declared.tree.Standard.TheVariants as standard
 use Rattle.lil_module.specs.declared.tree.RArgument.{RArgument, out-RArgument}
 use Rattle.lil_module.specs.declared.tree.RArgument.TheOpen as x
-use Rattle.lil_module.specs.declared.tree.RArgument.TheOpen.{RArgument-F}
-use Rattle.lil_module.specs.declared.tree.RExpr.{RExpr}
+use Rattle.lil_module.specs.declared.tree.RArgument.TheOpen.{RArgument-F, RExpr-F}
+use Rattle.lil_module.specs.declared.tree.RExpr.{RExpr, out-RExpr}
 use Rattle.lil_module.specs.declared.tree.RCallee.{RCallee}
 use Rattle.lil_module.specs.declared.tree.RSelector.{RSelector}
 use Rattle.lil_module.specs.declared.tree.RDesignator.{RDesignator}
@@ -15,9 +17,10 @@ use Rattle.lil_module.specs.declared.tree.RElement.{RElement}
 use Rattle.lil_module.specs.declared.tree.ROperation.{ROperation}
 use Rattle.lil_resolved.specs.Bases.{own_base}
 use Rattle.lil_resolved.specs.Kinds.{Kind, OfWhole, compared_as}
-use Rattle.lil_resolved.specs.Resolved.{Expression, Argument, Statements, kind_of, counted_as}
+use Rattle.lil_resolved.specs.Depth.{place_depth}
+use Rattle.lil_resolved.specs.Resolved.{Expression, Argument, Statements, kind_of, counted_as, shape_of}
 use Rattle.lil_resolved.specs.Sound.{takes_value, request_kinds, argument_kind, IsSoundWhole, IsSoundValue, AreSoundArguments, IsSoundBody}
-use Rattle.lil_resolved.specs.Shapes.{Shape}
+use Rattle.lil_resolved.specs.Shapes.{Shape, is_there}
 use Rattle.lil_resolved.specs.Views.{base_view, kind_view, request_number}
 use Rattle.lil_resolved.specs.declared.resolved.RBase.{RBase}
 use Rattle.lil_resolved.specs.declared.resolved.RBase.TheVariants as b
@@ -28,14 +31,14 @@ use Rattle.lil_resolved.specs.declared.resolved.Direction.{Direction}
 use Rattle.lil_resolved.specs.declared.resolved.Direction.TheVariants.{Up, Down}
 use Rattle.lil_lower.specs.Bases.{base_at}
 use Rattle.lil_lower.specs.Operators.{counted}
-use Rattle.lil_lower.specs.Places.{Cell}
+use Rattle.lil_lower.specs.Places.{Place, Cell}
 use Rattle.lil_lower.specs.Values as v
 use Rattle.lil_lower.specs.Values.{Lowers, argument}
 use Rattle.lil_lower.specs.Calls as s
-use Rattle.lil_lower.proofs.BaseLaws.{if_true}
-use Rattle.lil_lower.proofs.PlaceSound.{Fits, IsTarget, target_sound}
+use Rattle.lil_lower.proofs.BaseLaws.{if_true, same_sort}
+use Rattle.lil_lower.proofs.PlaceSound.{Fits, IsPlaced, IsTarget, near_kept, target_sound}
 use Rattle.lil_lower.proofs.ValueSound.{Kept, whole_held, shallow_kept, kept_whole, kept_alone}
-use Rattle.lil_lower.proofs.TreeSound.{target_known, handed_sound}
+use Rattle.lil_lower.proofs.TreeSound.{designator_sound, target_known, handed_sound}
 
 -- the whole numbers that go with a base
 counted_base : (t : Table) (k : RBase) → (j : RBase) × (base_at t (counted k) ≡ Some j) × (base_view j ≡ OfWhole (compared_as (base_view k)))
@@ -72,6 +75,42 @@ module _ (m : RModule) (ts : List Shape) (fits : Fits m ts) where
   stored_sound looping a sort None h j = tt
   stored_sound looping a sort (Some e) h j = if_true (IsSoundBody ts looping) (takes_value (kind_view a.kind) (kind_of e)) _
       (λ takes. ((target_sound m.types ts a h, record { takes = takes; whole = kept_alone m.types ts sort e j }), tt))
+
+  -- ---- copies
+  abbrev Lies : Place → Type 0
+  Lies p = IsPlaced fits.shapes ts p
+
+  -- a place at which something lies
+  abbrev pub Filled : Place → Type 0
+  Filled p = Lies p × (is_there (shape_of ts p.form) ≡ true)
+
+  abbrev Near : (Place → Type 0) → Option Place → Type 0
+  Near P o = IfSome o (λ p. P p × (place_depth p.form ≤ 12))
+
+  pub source_known : (a : RExpr) → Near Lies (s.source m a)
+  source_known a = near_kept Lies (s.source_in m (out-RExpr a)) (by (out-RExpr a))
+    where
+      by : (y : RExpr-F RArgument RCallee RExpr RSelector RDesignator RElement ROperation) → IfSome (s.source_in m y) Lies
+      by (x.RExpr::Value d) = designator_sound m ts fits d
+      by _ = tt
+
+  same_shape : (d from : Place) → Lies d → Lies from → from.sort ≡ d.sort → shape_of ts from.form ≡ shape_of ts d.form
+  same_shape d from h j is = same_Some (shape_of ts from.form) (shape_of ts d.form) (sym j.shape ∙ ap (slice_get fits.shapes) is ∙ h.shape)
+
+  pub copied_sound : (looping : Bool) (d from : Option Place) → Near Filled d → Near Lies from → Body looping (s.copied d from)
+  copied_sound looping (Some d) (Some from) h j = if_true (IsSoundBody ts looping) (from.sort == d.sort) _ (λ is. (
+    record {
+      same = same_shape d from h.0.0 j.0 (same_sort from.sort d.sort is);
+      there = h.0.1;
+      place = h.0.0.good;
+      source = j.0.good;
+      shallow = h.1;
+      source_shallow = j.1;
+    },
+    tt,
+  ))
+  copied_sound looping None from h j = tt
+  copied_sound looping (Some d) None h j = tt
 
   -- ---- INC, DEC and HALT
   changed_sound : (looping : Bool) (way : Direction) (o : Option Cell) (by : Lowers) → Known o

@@ -1,5 +1,5 @@
 -- What designators lead to lies among the variables, and has the shape of its type.
-use Rattle.std.proofs.Common.{◌≡◌, ℕ, ◌≤◌, List, map, slice_get, nat_le, Option, None, Some, IfSome, refl, sym, ap, ◌∙◌, arith}
+use Rattle.std.proofs.Common.{◌≡◌, ℕ, ◌≤◌, List, map, slice_get, nat_le, true, Option, None, Some, IfSome, refl, sym, ap, ◌∙◌, arith}
 use Rattle.std.specs.Option.{option_map}
 use Rattle.std.proofs.lemmas.Option.{cond_some}
 use Rattle.std.proofs.lemmas.Bool.Decides.{nat_tests}
@@ -25,7 +25,7 @@ use Rattle.lil_lower.specs.Values as v
 use Rattle.lil_lower.specs.Values.{Value}
 use Rattle.lil_lower.proofs.BaseLaws.{if_true, kind_base}
 use Rattle.lil_lower.proofs.Lists.{some_at}
-use Rattle.lil_lower.proofs.ShapeSound.{HasShape, all_shaped, field_shaped, element_shaped, word_shaped}
+use Rattle.lil_lower.proofs.ShapeSound.{HasShape, all_shaped, field_shaped, element_shaped, composite_shaped, word_shaped}
 use Rattle.lil_lower.proofs.ValueSound.{Held, Holds, IsKnown, IsCell, cell_sound}
 
 -- what lies in the variables of a module is this, by the shapes of its types
@@ -43,6 +43,11 @@ pub record IsTarget (t : Table) (ts : List Shape) (c : Cell) : Type 0 where
 there_is : (o : Option Shape) (s : Shape) → there o ≡ Some s → o ≡ Some s
 there_is None s h = h
 there_is (Some x) s h = ap Some (cond_some (is_there x) x s h).1
+
+-- a place for whose address there is room
+pub near_kept : (P : Place → Type 0) (o : Option Place) → IfSome o P → IfSome (s.near_place o) (λ p. P p × (place_depth p.form ≤ 12))
+near_kept P None h = tt
+near_kept P (Some p) h = if_true (λ p. P p × (place_depth p.form ≤ 12)) (nat_le (place_depth p.form) 12) p (λ j. (h, grind (arith, nat_tests)))
 
 -- a place lies among the variables
 pub record IsPlaced (shapes ts : List Shape) (p : Place) : Type 0 where
@@ -118,6 +123,10 @@ module _ (m : RModule) (ts : List Shape) (fits : Fits m ts) where
   pub on_placed : (o : Option Place) (x : Part) → IfSome o Lies → ((p : Place) → Lies p → IfSome (x.place p) Lies) → IfSome (s.place_on o x) Lies
   on_placed None x h j = tt
   on_placed (Some p) x h j = j p h
+
+  -- something lies at an array or a record
+  pub composite_there : (p : Place) → Lies p → s.composite_at m.types p.sort ≡ true → is_there (shape_of ts p.form) ≡ true
+  composite_there p h at = composite_shaped m.types fits.shapes p.sort (shape_of ts p.form) (has_shape p.sort (shape_of ts p.form) h.shape) at
 
   -- ---- cells
   pub cell_known : (o : Option Place) → IfSome o Lies → IfSome (s.cell m.types o) (IsCell m.types ts)

@@ -1,5 +1,5 @@
 -- What lies at the parts of a type, by the shapes of all types.
-use Rattle.std.proofs.Common.{◌≡◌, ℕ, zero, suc, ◌+◌, ◌*◌, nat_le, List, [], ◌∷◌, ◌++◌, length, map, slice_get, Option, None, Some, ◌⊎◌, inl, inr, refl, sym, ap, subst, ◌∙◌, add-one}
+use Rattle.std.proofs.Common.{◌≡◌, ℕ, zero, suc, ◌+◌, ◌*◌, nat_le, List, [], ◌∷◌, ◌++◌, length, map, slice_get, true, Option, None, Some, ◌⊎◌, inl, inr, refl, sym, ap, subst, ◌∙◌, add-one, true≢false}
 use Rattle.std.specs.Option.{option_map}
 use Rattle.std.proofs.lemmas.List.{length_push}
 use Rattle.std.proofs.lemmas.Option.{none-some, same_Some, cond_some}
@@ -9,13 +9,13 @@ use Rattle.lil_types.specs.declared.table.TypeForm.{TypeForm}
 use Rattle.lil_types.specs.declared.table.TypeForm.TheVariants.{Array, Record}
 use Rattle.lil_types.specs.declared.table.TypeEntry.{TypeEntry}
 use Rattle.lil_resolved.specs.Kinds.{numbers}
-use Rattle.lil_resolved.specs.Shapes.{Shape, Word, Row, words, all_words, part_at, fields_of, element_of, count_of}
+use Rattle.lil_resolved.specs.Shapes.{Shape, Word, Row, words, is_there, all_words, part_at, fields_of, element_of, count_of}
 use Rattle.lil_resolved.specs.Views.{kind_view}
 use Rattle.lil_resolved.specs.declared.resolved.RBase.{RBase}
 use Rattle.lil_resolved.specs.declared.resolved.RKind.{RKind}
 use Rattle.lil_lower.specs.declared.places.ArrayParts.{ArrayParts}
 use Rattle.lil_lower.specs.Bases.{base_at, kind_form, kind_over, kind_at}
-use Rattle.lil_lower.specs.Places.{field_sort, field_in, field_by, field_at, array_in, array_by, array_at}
+use Rattle.lil_lower.specs.Places.{field_sort, field_in, field_by, field_at, array_in, array_by, array_at, is_composite, composite_by, composite_at}
 use Rattle.lil_lower.specs.Shaping.{all_some, within, row, field_shape, shape_in, shape_by, shape, with_next, shapes_below}
 use Rattle.lil_lower.proofs.Lists.{some_at}
 
@@ -75,6 +75,10 @@ pub within_is : (o : Option (List Shape)) (ts : List Shape) → within o ≡ Som
 within_is None ts h = absurd (none-some ts h)
 within_is (Some ys) ts h = ap Some (cond_some (nat_le (all_words ys) 32000) ys ts h).1
 
+fields_there : (ts : List Shape) → is_there (fields_of ts) ≡ true
+fields_there [] = refl
+fields_there (t ∷ ts) = refl
+
 field_part : (ts : List Shape) (i : ℕ) (y : Shape) → slice_get ts i ≡ Some y → y ≡ part_at (fields_of ts) (i ∷ [])
 field_part [] i y h = absurd (none-some y h)
 field_part (t ∷ ts) zero y h = sym (same_Some t y h)
@@ -132,6 +136,26 @@ module _ (t : Table) (before : List Shape) (s : Shape) where
   array_entry None (Some e) parts k h at kind = plain_array e.form parts k h at kind
   array_entry (Some b) (Some e) parts k h at kind = array_form b e.form parts k h at kind
 
+  -- ---- arrays and records are there
+  row_there : (k : Option RKind) (o : Option Shape) → row k o ≡ Some s → is_there s ≡ true
+  row_there (Some k) (Some y) h = sym (ap is_there (cond_some (nat_le (numbers (kind_view k) * words y) 32000) (Row (numbers (kind_view k)) y) s h).1)
+  row_there _ _ h = absurd (none-some s h)
+
+  record_there : (xs : List Field) → option_map fields_of (within (all_some (map (field_shape before) xs))) ≡ Some s → is_there s ≡ true
+  record_there xs h =
+      let of = mapped fields_of (within (all_some (map (field_shape before) xs))) s h in
+      sym (ap is_there of.2) ∙ fields_there of.0
+
+  form_there : (k : Option RKind) (form : TypeForm) → shape_in t before k form ≡ Some s → is_composite form ≡ true → is_there s ≡ true
+  form_there (Some k) form h at = sym (ap is_there (same_Some (Word (kind_view k)) s h))
+  form_there None (Array i e) h at = row_there (kind_at t i) (slice_get before e) h
+  form_there None (Record xs) h at = record_there xs h
+  form_there None _ h at = absurd (true≢false (sym at))
+
+  entry_there : (k : Option RKind) (e : Option TypeEntry) → shape_by t before k e ≡ Some s → composite_by e ≡ true → is_there s ≡ true
+  entry_there k None h at = absurd (true≢false (sym at))
+  entry_there k (Some e) h at = form_there k e.form h at
+
   -- ---- types of a kind
   word_entry : (k : RKind) (e : Option TypeEntry) → shape_by t before (Some k) e ≡ Some s → s ≡ Word (kind_view k)
   word_entry k None h = sym (same_Some (Word (kind_view k)) s h)
@@ -145,6 +169,9 @@ module _ (t : Table) (ts : List Shape) (n : ℕ) (s : Shape) (h : HasShape t ts 
   element_shaped parts k at kind =
       let is = array_entry t h.before s (base_at t (base t n)) (entry t n) parts k h.is at kind in
       (h.parts parts.element (element_of s) is.0, is.1)
+
+  pub composite_shaped : composite_at t n ≡ true → is_there s ≡ true
+  composite_shaped at = entry_there t h.before s (kind_at t n) (entry t n) h.is at
 
   pub word_shaped : (k : RKind) → kind_at t n ≡ Some k → s ≡ Word (kind_view k)
   word_shaped k kind = word_entry t h.before s k (entry t n) (ap (λ k. shape_by t h.before k (entry t n)) (sym kind) ∙ h.is)

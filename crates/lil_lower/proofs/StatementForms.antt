@@ -22,7 +22,7 @@ use Rattle.lil_types.specs.Types.{boolean}
 use Rattle.lil_resolved.specs.declared.resolved.RBase.{RBase}
 use Rattle.lil_lower.specs.declared.selectors.Ordinal.{Ordinal}
 use Rattle.lil_lower.specs.Shaping.{all_some}
-use Rattle.lil_lower.specs.Values.{root, target}
+use Rattle.lil_lower.specs.Values.{root, designator}
 use Rattle.lil_lower.specs.Calls.{called, procedure}
 use Rattle.lil_lower.specs.Lowered as s
 use Rattle.lil_lower.specs.Lowered.{Meaning, GuardMeaning, ArmMeaning, value, statement_layer, arm_layer, guard_layer, statement, arm, guard, statements}
@@ -40,7 +40,7 @@ module _ (m : RModule) where
     at : {f g : Meaning} → f ≡ g → f looping ≡ g looping
     at h = ap (λ (f : Meaning). f looping) h
 
-    pub assign_is : (d : RDesignator) (x : RExpr) → statement m (v.Assign d x) looping ≡ s.assigned m (target m d) x
+    pub assign_is : (d : RDesignator) (x : RExpr) → statement m (v.Assign d x) looping ≡ s.assignment m (designator m d).place x
     assign_is d x = at (ap (statement m) (sym (v.rolls-Assign d x)) ∙ rolled (o.Assign d x))
 
     pub call_is : (c : RCallee) (xs : List RArgument) → statement m (v.Call c xs) looping ≡ called m c xs

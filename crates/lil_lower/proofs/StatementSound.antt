@@ -30,19 +30,20 @@ use Rattle.lil_lower.specs.declared.variables.Variable.{Variable}
 use Rattle.lil_lower.specs.declared.selectors.Ordinal.{Ordinal}
 use Rattle.lil_lower.specs.Bases.{base_at}
 use Rattle.lil_lower.specs.Operators.{has_number}
-use Rattle.lil_lower.specs.Places.{Cell}
+use Rattle.lil_lower.specs.Places.{Place, Cell, composite_at, near_place, cell, near}
 use Rattle.lil_lower.specs.Shaping as spec
 use Rattle.lil_lower.specs.Shaping.{all_some, within, lying}
-use Rattle.lil_lower.specs.Values.{root, own_or, expression, target}
+use Rattle.lil_lower.specs.Values.{root, own_or, expression, designator}
+use Rattle.lil_lower.specs.Calls.{copied, source}
 use Rattle.lil_lower.specs.Lowered as s
 use Rattle.lil_lower.specs.Lowered.{Meaning, GuardMeaning, ArmMeaning, value, statement_layer, statement, arm, guard}
 use Rattle.lil_lower.proofs.BaseLaws.{if_true, base_words, number_sound}
 use Rattle.lil_lower.proofs.StatementForms.{rolled, guard_is, arm_is}
-use Rattle.lil_lower.proofs.PlaceSound.{Fits, IsTarget, root_known}
+use Rattle.lil_lower.proofs.PlaceSound.{Fits, IsPlaced, IsTarget, near_kept, root_known, composite_there, cell_known, near_known}
 use Rattle.lil_lower.proofs.ShapeSound.{within_is}
 use Rattle.lil_lower.proofs.ValueSound.{Kept, IsKnown, both_left, both_right, variable_sound, kept_whole, kept_alone}
-use Rattle.lil_lower.proofs.TreeSound.{target_known, value_sound}
-use Rattle.lil_lower.proofs.CallSound.{stored_sound, called_sound, procedure_sound}
+use Rattle.lil_lower.proofs.TreeSound.{designator_sound, value_sound}
+use Rattle.lil_lower.proofs.CallSound.{Filled, source_known, copied_sound, stored_sound, called_sound, procedure_sound}
 
 -- ---- lists of parts
 module _ {B : Type 0} (IsFine : B → Type 0) where
@@ -259,6 +260,14 @@ module _ (m : RModule) (ts : List Shape) (fits : Fits m ts) where
       let sort = own_or (expression m x).own d.sort in
       stored_sound m ts fits looping d sort (value m x sort) h (value_sound m ts fits x sort)
 
+  assignment_sound : (looping : Bool) (o : Option Place) (x : RExpr) → IfSome o (IsPlaced fits.shapes ts) → Body ts looping (s.assignment m o x)
+  assignment_sound looping None x h = tt
+  assignment_sound looping (Some p) x h = by (composite_at m.types p.sort) refl
+    where
+      by : (b : Bool) → composite_at m.types p.sort ≡ b → Body ts looping (if b then copied (near_place (Some p)) (source m x) else s.assigned m (near (cell m.types (Some p))) x)
+      by true is = copied_sound m ts fits looping (near_place (Some p)) (source m x) (near_kept (Filled m ts fits) (Some p) (h, composite_there m ts fits p h is)) (source_known m ts fits x)
+      by false is = assigned_sound looping (near (cell m.types (Some p))) x (near_known m ts fits (cell m.types (Some p)) (cell_known m ts fits (Some p) h))
+
   counted_sound : (looping : Bool) (o : Option Variable) (a b : RExpr) (z : ℤ) (body : Option Statements) → IfSome o (IsKnown m.types ts) → Body ts looping body → Body ts looping (s.for_by m o a b z body)
   counted_sound looping None a b z body h j = tt
   counted_sound looping (Some d) a b z body h j =
@@ -269,7 +278,7 @@ module _ (m : RModule) (ts : List Shape) (fits : Fits m ts) where
   bare = map-RStmt Stmt Arm Guard RStmt RArm RGuard (λ e. e.0) (λ e. e.0) (λ e. e.0)
 
   layer_sound : (y : RStmt-F Stmt Arm Guard) (looping : Bool) → Body ts looping (statement_layer m (map-RStmt RStmt RArm RGuard Meaning ArmMeaning GuardMeaning (statement m) (arm m) (guard m) (bare y)) looping)
-  layer_sound (o.Assign d x) looping = assigned_sound looping (target m d) x (target_known m ts fits d)
+  layer_sound (o.Assign d x) looping = assignment_sound looping (designator m d).place x (designator_sound m ts fits d)
   layer_sound (o.Call c xs) looping = called_sound m ts fits looping c xs
   layer_sound (o.Procedure p xs) looping = procedure_sound m ts fits looping p xs
   layer_sound (o.If gs None) looping = conditional_sound ts looping (all_some (map (λ (f : GuardMeaning). f looping) (map (guard m) (map (λ e. e.0) gs)))) (Some Empty) (guards looping gs) tt

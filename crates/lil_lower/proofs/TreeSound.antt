@@ -149,7 +149,7 @@ module _ (m : RModule) (ts : List Shape) (fits : Fits m ts) where
       (λ x y is. tt)
       (λ x y is. subst (λ z. OperationHolds (roll-ROperation z)) is (operation_holds y))
 
-  designator_sound : (d : RDesignator) → DesignatorHolds d
+  pub designator_sound : (d : RDesignator) → DesignatorHolds d
   designator_sound = ind-RDesignator ArgumentHolds (λ c. Unit {0}) ExpressionHolds SelectorHolds DesignatorHolds (λ e. Unit {0}) OperationHolds
       (λ x y is. subst (λ z. ArgumentHolds (roll-RArgument z)) is (argument_holds y))
       (λ x y is. tt)

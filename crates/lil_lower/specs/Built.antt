@@ -3,6 +3,7 @@ use Rattle.std.specs.Prelude.{map}
 use Rattle.lil_resolved.specs.Resolved.{Variable}
 use Rattle.lil_resolved.specs.Views.{chained, selected, expression_of, selector_of, operation_of, place_of}
 use Rattle.lil_lower.specs.declared.places.Cell.{Cell as HeldCell}
+use Rattle.lil_lower.specs.declared.places.Placed.{Placed}
 use Rattle.lil_lower.specs.declared.places.Reached.{Reached}
 use Rattle.lil_lower.specs.declared.values.Built.{Built as Held}
 use Rattle.lil_lower.specs.Places.{Place, Cell}
@@ -13,6 +14,9 @@ built b = record { form = chained (expression_of b.first) (map operation_of b.op
 
 abbrev pub reached : Reached → Place
 reached r = record { form = selected (Variable r.number) (map selector_of r.selectors); sort = r.sort }
+
+abbrev pub placed : Placed → Place
+placed p = record { form = place_of p.place; sort = p.sort }
 
 abbrev pub celled : HeldCell → Cell
 celled c = record { form = place_of c.place; kind = c.kind; sort = c.sort }

@@ -1,5 +1,5 @@
 -- What assignments, INC and DEC, HALT, and calls of resident procedures are for the generator.
-use Rattle.std.specs.Prelude.{ℕ, pos, List, [], ◌∷◌, Option, Some, None, if◌then◌else◌}
+use Rattle.std.specs.Prelude.{ℕ, ◌==◌, pos, List, [], ◌∷◌, Option, Some, None, if◌then◌else◌}
 use Rattle.lil_types.specs.Types.{integer, cardinal, char}
 use Rattle.lil_module.specs.declared.declared.RModule.{RModule}
 use Rattle.lil_module.specs.declared.tree.Standard.{Standard}
@@ -8,14 +8,14 @@ use Rattle.lil_module.specs.declared.tree.Resident.{Resident}
 use Rattle.lil_module.specs.declared.tree.Resident.TheVariants as resident
 use Rattle.lil_module.specs.declared.tree.RArgument.{RArgument, out-RArgument}
 use Rattle.lil_module.specs.declared.tree.RArgument.TheOpen as x
-use Rattle.lil_module.specs.declared.tree.RArgument.TheOpen.{RArgument-F, RCallee-F}
-use Rattle.lil_module.specs.declared.tree.RExpr.{RExpr}
+use Rattle.lil_module.specs.declared.tree.RArgument.TheOpen.{RArgument-F, RCallee-F, RExpr-F}
+use Rattle.lil_module.specs.declared.tree.RExpr.{RExpr, out-RExpr}
 use Rattle.lil_module.specs.declared.tree.RCallee.{RCallee, out-RCallee}
 use Rattle.lil_module.specs.declared.tree.RSelector.{RSelector}
 use Rattle.lil_module.specs.declared.tree.RDesignator.{RDesignator}
 use Rattle.lil_module.specs.declared.tree.RElement.{RElement}
 use Rattle.lil_module.specs.declared.tree.ROperation.{ROperation}
-use Rattle.lil_resolved.specs.Resolved.{Expression, Argument, Assign, Change, Request, Halt, Statements, Empty, Then, kind_of}
+use Rattle.lil_resolved.specs.Resolved.{Expression, Argument, Assign, Copy, Change, Request, Halt, Statements, Empty, Then, kind_of}
 use Rattle.lil_resolved.specs.Sound.{takes_value}
 use Rattle.lil_resolved.specs.Views.{base_view, kind_view, request_number, is_down}
 use Rattle.lil_resolved.specs.declared.resolved.RBase.{RBase}
@@ -25,13 +25,18 @@ use Rattle.lil_resolved.specs.declared.resolved.RRequest.TheVariants as q
 use Rattle.lil_resolved.specs.declared.resolved.Direction.{Direction}
 use Rattle.lil_resolved.specs.declared.resolved.Direction.TheVariants.{Up, Down}
 use Rattle.lil_lower.specs.Operators.{counted}
-use Rattle.lil_lower.specs.Places.{Cell}
-use Rattle.lil_lower.specs.Values.{Lowers, whole, own_or, argument, target, shallow}
+use Rattle.lil_lower.specs.Places.{Place, Cell, near_place}
+use Rattle.lil_lower.specs.Values.{Lowers, whole, own_or, argument, designator, target, shallow}
 
 -- ---- assignments
 abbrev pub stored : Cell → Option Expression → Option Statements
 stored c (Some e) = if takes_value (kind_view c.kind) (kind_of e) then Some (Then (Assign c.form (kind_view c.kind) e) Empty) else None
 stored c None = None
+
+-- all of a place goes to another of its type
+abbrev pub copied : Option Place → Option Place → Option Statements
+copied (Some d) (Some from) = if from.sort == d.sort then Some (Then (Copy d.form from.form) Empty) else None
+copied _ _ = None
 
 -- ---- INC, DEC and HALT
 abbrev pub changed : Direction → Cell → Option Expression → Option Statements
@@ -87,6 +92,14 @@ requested r (Some xs) = Some (Then (Request (request_number r) xs) Empty)
 requested r None = None
 
 module _ (m : RModule) where
+  abbrev pub source_in : RExpr-F RArgument RCallee RExpr RSelector RDesignator RElement ROperation → Option Place
+  source_in (x.RExpr::Value d) = (designator m d).place
+  source_in _ = None
+
+  -- the place at which a value stands
+  abbrev pub source : RExpr → Option Place
+  source a = near_place (source_in (out-RExpr a))
+
   -- an argument: a constant has its parameter's type, any other value its own
   abbrev pub handed : RBase → ℕ → RArgument → Option Argument
   handed k s x = given k (shallow ((argument m x).lowers (own_or (argument m x).own s)))

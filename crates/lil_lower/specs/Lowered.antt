@@ -31,11 +31,11 @@ use Rattle.lil_lower.specs.declared.selectors.Ordinal.{Ordinal}
 use Rattle.lil_lower.specs.Bases.{base_at}
 use Rattle.lil_lower.specs.Measured.{variable_name}
 use Rattle.lil_lower.specs.Operators.{has_number}
-use Rattle.lil_lower.specs.Places.{Cell}
+use Rattle.lil_lower.specs.Places.{Place, Cell, composite_at, near_place, cell, near}
 pub use Rattle.lil_lower.specs.Shaping.{all_some}
 use Rattle.lil_lower.specs.Shaping.{shapes, variables_by}
-use Rattle.lil_lower.specs.Values.{root, own_or, expression, target, shallow}
-use Rattle.lil_lower.specs.Calls.{stored, called, procedure}
+use Rattle.lil_lower.specs.Values.{root, own_or, expression, designator, shallow}
+use Rattle.lil_lower.specs.Calls.{stored, copied, source, called, procedure}
 
 -- a statement inside of a LOOP or not, a condition with the statements behind it, and an arm by the selector's base
 abbrev pub Meaning : Type 0
@@ -178,6 +178,11 @@ module _ (m : RModule) where
   assigned None a = None
   assigned (Some c) a = stored c (value a (own_or (expression m a).own c.sort))
 
+  -- an array or a record takes all of another, any other place a value
+  abbrev pub assignment : Option Place → RExpr → Option Statements
+  assignment None a = None
+  assignment (Some p) a = if composite_at m.types p.sort then copied (near_place (Some p)) (source m a) else assigned (near (cell m.types (Some p))) a
+
   abbrev pub case_by : Option Ordinal → RExpr → Bool → List ArmMeaning → Option (List Meaning) → Option Statements
   case_by None a looping arms other = None
   case_by (Some by) a looping arms other = selected (value a by.sort) (all_some (map (λ f. f looping by.base) arms)) (else_arms looping other)
@@ -188,7 +193,7 @@ module _ (m : RModule) where
   for_by (Some v) a b z ss = repeated_for v (started v (value a (own_or (expression m a).own v.sort))) (value b v.sort) z ss
 
   abbrev pub statement_layer : RStmt-F Meaning ArmMeaning GuardMeaning → Meaning
-  statement_layer (s.Assign d a) looping = assigned (target m d) a
+  statement_layer (s.Assign d a) looping = assignment (designator m d).place a
   statement_layer (s.Call c xs) looping = called m c xs
   statement_layer (s.Procedure p xs) looping = procedure m p xs
   statement_layer (s.If gs other) looping = conditional (all_some (map (λ g. g looping) gs)) (else_body looping other)

@@ -1,5 +1,5 @@
 -- Places: what a designator leads to, from a variable of the module on and part by part.
-use Rattle.std.specs.Prelude.{ℕ, nat_le, List, slice_get, Option, Some, None, if◌then◌else◌}
+use Rattle.std.specs.Prelude.{ℕ, nat_le, Bool, true, false, List, slice_get, Option, Some, None, if◌then◌else◌}
 use Rattle.std.specs.Option.{option_map}
 use Rattle.std.specs.List.{fold}
 use Rattle.lil_types.specs.Types.{Table, entry, base}
@@ -50,6 +50,19 @@ array_at t s = array_by (entry t s)
 
 abbrev pub element_sort : ArrayParts → ℕ
 element_sort a = a.element
+
+abbrev pub is_composite : TypeForm → Bool
+is_composite (Array i e) = true
+is_composite (Record xs) = true
+is_composite _ = false
+
+abbrev pub composite_by : Option TypeEntry → Bool
+composite_by None = false
+composite_by (Some e) = is_composite e.form
+
+-- whether a type is an array or a record
+abbrev pub composite_at : Table → ℕ → Bool
+composite_at t s = composite_by (entry t s)
 
 -- ---- places
 -- a designator, and the number of its type
@@ -111,6 +124,11 @@ element p s _ _ = None
 -- what the generator has no form of
 abbrev pub nowhere : Part
 nowhere = record { sort = λ s. None; place = λ p. None }
+
+-- a place for whose address the expression stack has room
+abbrev pub near_place : Option Place → Option Place
+near_place None = None
+near_place (Some p) = if nat_le (place_depth p.form) 12 then Some p else None
 
 -- ---- cells
 -- a place of a kind, and its base type

@@ -1,17 +1,17 @@
 ghost use Rattle.std.specs.Prelude.{◌≡◌, ◌≤◌, length, pos, IfOk, Some};
 ghost use Rattle.std.specs.Option.{option_map};
 ghost use Rattle.lil_resolved.specs.Views as view;
-ghost use Rattle.lil_lower.specs.Built.{celled};
+ghost use Rattle.lil_lower.specs.Built.{placed, celled};
 ghost use Rattle.lil_lower.specs.Values as values;
 ghost use Rattle.lil_lower.specs.Calls as spec;
 
 use crate::constants::whole;
 use crate::operators::{counted, takes_value};
-use crate::places::{Cell, cell_of};
-use crate::room::{near, shallow};
+use crate::places::{Cell, Placed, as_place, cell_of};
+use crate::room::{near, near_place, shallow};
 use crate::values::{argument, place};
 use lil_base::{Memory, beside};
-use lil_module::{RArgument, RDesignator, RModule, Standard};
+use lil_module::{RArgument, RDesignator, RExpr as Value, RModule, Standard};
 use lil_resolved::{Direction, RExpr, RStmt, base};
 use std::alloc::Global;
 
@@ -37,6 +37,38 @@ pub(crate) fn stored(cell: Cell, value: Option<RExpr>) -> Option<RStmt>
             drop((cell, rest));
             None
         }
+    }
+}
+
+/// All of a place goes to another of its type.
+#[tactic(auto, using(lil_resolved::specs::Forms::copy_is))]
+pub(crate) fn copied(to: Option<Placed>, from: Option<Placed>) -> Option<RStmt>
+    ensures { option_map view.statement_of result ≡ spec.copied (option_map placed to) (option_map placed from) }
+{
+    let Some(to) = to else {
+        drop(from);
+        return None;
+    };
+    match from {
+        Some(from) if from.sort == to.sort => Some(RStmt::Copy(to.place, from.place)),
+        rest => {
+            drop((to, rest));
+            None
+        }
+    }
+}
+
+/// The place at which a value stands, where it is no more than that.
+pub(crate) fn source(alloc: Global, m: &RModule, of: &Value) -> Result<Option<Placed>, Memory>
+    requires { length m.now.variables ≤ 32000 }
+    ensures { IfOk result (λ o. option_map placed o ≡ spec.source m.now of.now) }
+{
+    match of {
+        Value::Value(of) => {
+            let found = place(alloc, m, of)?;
+            Ok(near_place(as_place(found)))
+        }
+        _ => Ok(None),
     }
 }
 

@@ -2,7 +2,7 @@ ghost use Rattle.std.specs.Prelude.{◌≡◌, ◌≤◌, length, map, IfOk};
 ghost use Rattle.std.specs.Option.{option_map};
 ghost use Rattle.std.specs.List.{fold};
 ghost use Rattle.lil_resolved.specs.Views.{expression_of, selector_of};
-ghost use Rattle.lil_lower.specs.Built.{reached, celled};
+ghost use Rattle.lil_lower.specs.Built.{reached, placed, celled};
 ghost use Rattle.lil_lower.specs.Places as spec;
 ghost use Rattle.lil_lower.specs.Values as values;
 
@@ -26,6 +26,13 @@ pub(crate) struct ArrayParts {
 pub(crate) struct Reached {
     pub(crate) number: u16,
     pub(crate) selectors: Items<RSelector>,
+    pub(crate) sort: TypeId,
+}
+
+/// A place, and its type.
+#[derive(Drop)]
+pub(crate) struct Placed {
+    pub(crate) place: RPlace,
     pub(crate) sort: TypeId,
 }
 
@@ -78,6 +85,26 @@ pub(crate) fn array_at(t: &TypeTable, sort: TypeId) -> Option<ArrayParts>
     match entry(t, sort) {
         None => None,
         Some(entry) => array_in(&entry.form),
+    }
+}
+
+fn is_composite(form: &TypeForm) -> bool
+    ensures { result ≡ spec.is_composite form.now }
+{
+    match form {
+        TypeForm::Array(_, _) => true,
+        TypeForm::Record(_) => true,
+        _ => false,
+    }
+}
+
+/// Whether a type is an array or a record.
+pub(crate) fn composite_at(t: &TypeTable, sort: TypeId) -> bool
+    ensures { result ≡ spec.composite_at t.now sort }
+{
+    match entry(t, sort) {
+        None => false,
+        Some(entry) => is_composite(&entry.form),
     }
 }
 
@@ -216,6 +243,27 @@ pub(crate) fn element(
             Ok(None)
         }
     }
+}
+
+/// What is reached, as a place with its type.
+#[tactic(auto, using(lil_resolved::specs::Forms::place_is))]
+pub(crate) fn as_place(of: Option<Reached>) -> Option<Placed>
+    ensures { option_map placed result ≡ option_map reached of }
+{
+    let Some(
+        Reached {
+            number,
+            selectors,
+            sort,
+        },
+    ) = of
+    else {
+        return None;
+    };
+    Some(Placed {
+        place: RPlace { number, selectors },
+        sort,
+    })
 }
 
 /// What is reached, where it has a kind.

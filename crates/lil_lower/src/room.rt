@@ -1,11 +1,11 @@
 ghost use Rattle.std.specs.Prelude.{◌≡◌};
 ghost use Rattle.std.specs.Option.{option_map};
 ghost use Rattle.lil_resolved.specs.Views.{expression_of};
-ghost use Rattle.lil_lower.specs.Built.{celled};
+ghost use Rattle.lil_lower.specs.Built.{placed, celled};
 ghost use Rattle.lil_lower.specs.Places as places;
 ghost use Rattle.lil_lower.specs.Values as spec;
 
-use crate::places::Cell;
+use crate::places::{Cell, Placed};
 use lil_resolved::{RExpr, depth, place_depth};
 
 /// An expression for which the expression stack has room.
@@ -14,6 +14,19 @@ pub(crate) fn shallow(of: Option<RExpr>) -> Option<RExpr>
 {
     match of {
         Some(of) if depth(&of) <= 12 => Some(of),
+        rest => {
+            drop(rest);
+            None
+        }
+    }
+}
+
+/// A place for whose address the expression stack has room.
+pub(crate) fn near_place(of: Option<Placed>) -> Option<Placed>
+    ensures { option_map placed result ≡ places.near_place (option_map placed of) }
+{
+    match of {
+        Some(of) if place_depth(&of.place) <= 12 => Some(of),
         rest => {
             drop(rest);
             None

@@ -2,18 +2,18 @@ ghost use Rattle.std.specs.Prelude.{◌≡◌, ◌≤◌, length, map, Some, Non
 ghost use Rattle.std.specs.Option.{option_map};
 ghost use Rattle.lil_resolved.specs.Resolved.{Else};
 ghost use Rattle.lil_resolved.specs.Views as view;
-ghost use Rattle.lil_lower.specs.Built.{celled};
+ghost use Rattle.lil_lower.specs.Built.{reached, celled};
 ghost use Rattle.lil_lower.specs.Lowered as spec;
 ghost use Rattle.lil_lower.specs.Parts as parts;
 
 use crate::calls::called;
-use crate::changes::{procedure, stored, target};
+use crate::changes::{copied, procedure, source, stored};
 use crate::labels::labels;
 use crate::operators::takes_value;
-use crate::places::Cell;
-use crate::room::shallow;
+use crate::places::{Cell, Reached, as_place, cell_of, composite_at};
+use crate::room::{near, near_place, shallow};
 use crate::selectors::selector;
-use crate::values::{expression, own_or, own_sort};
+use crate::values::{expression, own_or, own_sort, place};
 use crate::variables::{Variable, root};
 use lil_base::{Boxed, Items, Memory, beside};
 use lil_module::{RArm as Arm, RExpr as Value, RGuard as Guard, RModule, RStmt as Tree};
@@ -51,6 +51,28 @@ fn assigned(
             let (cell, of) = beside(cell, of)?;
             Ok(stored(cell, of))
         }
+    }
+}
+
+/// An assignment: an array or a record takes all of another, any other place a value.
+fn assignment(
+    alloc: Global,
+    m: &RModule,
+    to: Option<Reached>,
+    of: &Boxed<Value>,
+) -> Result<Option<RStmt>, Memory>
+    requires { length m.now.variables ≤ 32000 }
+    ensures { IfOk result (λ o. option_map view.statement_of o ≡ spec.assignment m.now (option_map reached to) of.now) }
+{
+    let Some(to) = to else {
+        return Ok(None);
+    };
+    if composite_at(&m.types, to.sort) {
+        let from = source(alloc, m, of.get());
+        let (to, from) = beside(to, from)?;
+        Ok(copied(near_place(as_place(Some(to))), from))
+    } else {
+        assigned(alloc, m, near(cell_of(&m.types, Some(to))), of)
     }
 }
 
@@ -239,9 +261,9 @@ fn statement(alloc: Global, m: &RModule, looping: bool, of: &Tree) -> Result<Opt
     ensures { IfOk result (λ o. option_map view.statement_of o ≡ spec.statement m.now of.now looping) }
 {
     match of {
-        Tree::Assign(place, of) => {
-            let cell = target(alloc, m, place)?;
-            assigned(alloc, m, cell, of)
+        Tree::Assign(to, of) => {
+            let to = place(alloc, m, to)?;
+            assignment(alloc, m, to, of)
         }
         Tree::Call(callee, arguments) => called(alloc, m, callee, arguments.as_slice()),
         Tree::Procedure(of, arguments) => procedure(alloc, m, *of, arguments.as_slice()),

@@ -1,14 +1,16 @@
 -- Where the meaning's cells lie in the store.
-use Rattle.std.proofs.Common.{◌≡◌, ℕ, ◌+◌, ◌<◌, ◌≤◌, true, false, eqb, List, [], ◌∷◌, length, get_or, set, refl, sym, ap, ◌∙◌, subst, ◌⊎◌, inl, inr, ⊎_elim, arith, length-set}
-use Rattle.std.proofs.lemmas.Bool.{eq-eqb, ne_eqb, cases_Bool, cases_eq, eqb-true, and_parts, and_from}
-use Rattle.std.proofs.lemmas.List.{get_or-set_same, get_or-set_other}
+use Rattle.std.proofs.Common.{◌≡◌, ℕ, ◌+◌, ◌-◌, ◌<◌, ◌≤◌, true, false, eqb, List, [], ◌∷◌, ◌++◌, length, get_or, set, take, drop, refl, sym, ap, ◌∙◌, subst, ◌⊎◌, inl, inr, ⊎_elim, arith, length-set, length-drop}
+use Rattle.std.proofs.lemmas.Bool.{eq-eqb, ne_eqb, cases_Bool, cases_eq, cases_lt, eqb-true, and_parts, and_from}
+use Rattle.std.proofs.lemmas.List.{get_or-set_same, get_or-set_other, get_or-take, get_or-drop, length-take-le}
 use Rattle.std.specs.Prelude.{◌==◌, if◌then◌else◌}
 use Rattle.lil_base.specs.Words.{between}
 use Rattle.lil_resolved.specs.Kinds.{Kind, OfWhole, OfTruth, OfCharacter, OfEnumeration, OfRange, base_of}
 use Rattle.lil_resolved.specs.Scalars.{Scalar, ToObject, within, scalar_word, ordinal_of}
 use Rattle.lil_resolved.specs.Shapes.{Shape, Absent, Word, words, is_there, part_at, offset}
-use Rattle.lil_meaning.specs.Cells.{Root, Global, Local, Object, Place, part_of, Cells, rest_behind, at_rest, same_root, stored, alone}
+use Rattle.lil_meaning.specs.Cells.{Root, Global, Local, Object, Place, part_of, Cells, Under, under, rest_behind, at_rest, same_root, stored, alone}
+use Rattle.lil_mcode.specs.State.{spliced}
 use Rattle.lil_match.specs.Parts.{yes, no, part_fits, part_append, offset_append, Inside, Outside, word_long, parts}
+use Rattle.lil_match.specs.Splices.{spliced_length, spliced_before, spliced_there, spliced_after}
 
 -- whose a word of the store is: a root's, the machine's own, or in no use, as room of the stack with this base
 pub data Owner : Type 0 where
@@ -125,67 +127,120 @@ part_there h p x there = (
   omega (arith, offset_append (h.shape p.root) p.path (x ∷ []) there),
 )
 
--- a scalar that is stored at a place changes the cell and the word of that place alone
-module _ (h : Home) (cells : Cells) (store : List ℕ) (p : Place) (k : Kind) (v : Scalar) (mem : Mem h cells store) (living : shape_there h p ≡ Word k) (fits : within k v ≡ true) where
-  at : (h.owner (address h p) ≡ Of p.root) × (address h p < 65536)
-  at = scalar_owned h cells store p.root p.path k mem living
+-- The words of a place are those of new scalars, and no others have changed.
+pub record Wrote (h : Home) (p : Place) (u : Under) (store new : List ℕ) : Type 0 where
+  pub there : (q : List ℕ) (k : Kind) → part_at (shape_there h p) q ≡ Word k → IsWord h k (u q) (get_or new (address h p + offset (shape_there h p) q) 0)
+  pub beside : (a : ℕ) → (a < address h p) ⊎ (address h p + words (shape_there h p) ≤ a) → get_or new a 0 ≡ get_or store a 0
+  pub long : length new ≡ length store
 
-  written : get_or (set store (address h p) (word_for h v)) (address h p) 0 ≡ word_for h v
-  written = get_or-set_same store (address h p) (word_for h v) 0 (omega (arith, at.1, mem.long))
+-- THE law of stores: the cells of the place alone have changed
+module _ (h : Home) (cells : Cells) (store new : List ℕ) (p : Place) (u : Under) (mem : Mem h cells store) (living : is_there (shape_there h p) ≡ true) (wrote : Wrote h p u store new) where
+  -- a word that isn't the root's lies beside the place
+  clear : (a : ℕ) → (h.owner a ≡ Of p.root → ⊥) → (a < address h p) ⊎ (address h p + words (shape_there h p) ≤ a)
+  clear a foreign = by (cases_lt a (address h p)) (cases_lt a (address h p + words (shape_there h p)))
+    where
+      by : (a < address h p) ⊎ (address h p ≤ a) → (a < address h p + words (shape_there h p)) ⊎ (address h p + words (shape_there h p) ≤ a) → (a < address h p) ⊎ (address h p + words (shape_there h p) ≤ a)
+      by (inl l) e = inl l
+      by s (inr g) = inr g
+      by (inr g) (inl l) =
+          let at : h.base p.root + (a - h.base p.root) ≡ a = omega (arith, g) in
+          absurd (foreign (ap h.owner (sym at) ∙ mem.owned p.root (a - h.base p.root) (omega (arith, g, l, part_fits (h.shape p.root) p.path living))))
 
   abbrev Holds : Root → List ℕ → Kind → Type 0
-  Holds s q j = IsWord h j (stored cells p (alone v) s q) (get_or (set store (address h p) (word_for h v)) (h.base s + offset (h.shape s) q) 0)
+  Holds s q j = IsWord h j (stored cells p u s q) (get_or new (h.base s + offset (h.shape s) q) 0)
 
   -- another word
-  beside : (s : Root) (q : List ℕ) (j : Kind) → part_at (h.shape s) q ≡ Word j → stored cells p (alone v) s q ≡ cells s q → (h.base s + offset (h.shape s) q ≡ address h p → ⊥) → Holds s q j
-  beside s q j e value apart =
+  other : (s : Root) (q : List ℕ) (j : Kind) → part_at (h.shape s) q ≡ Word j → stored cells p u s q ≡ cells s q
+      → (h.base s + offset (h.shape s) q < address h p) ⊎ (address h p + words (shape_there h p) ≤ h.base s + offset (h.shape s) q) → Holds s q j
+  other s q j e value apart =
       let old = mem.holds s q j e in
-      record {
-        word = get_or-set_other store (address h p) (h.base s + offset (h.shape s) q) (word_for h v) 0 apart ∙ old.word ∙ ap (word_for h) (sym value);
-        fits = ap (within (base_of j)) value ∙ old.fits;
-      }
+      record { word = wrote.beside (h.base s + offset (h.shape s) q) apart ∙ old.word ∙ ap (word_for h) (sym value); fits = ap (within (base_of j)) value ∙ old.fits }
 
   -- a scalar of the same root
   own_root : (q : List ℕ) (j : Kind) → part_at (h.shape p.root) q ≡ Word j → Inside (h.shape p.root) p.path q ⊎ Outside (h.shape p.root) p.path q → Holds p.root q j
   own_root q j e (inl i) =
-      let here = yes (same_root p.root p.root) (at_rest (alone v) (cells p.root q) (rest_behind p.path q)) (cells p.root q) (same_root_refl p.root) in
-      let value : stored cells p (alone v) p.root q ≡ v = here ∙ ap (at_rest (alone v) (cells p.root q)) i.is in
-      let only = alone_path i.rest k j (sym (ap (λ (t : Shape). part_at t i.rest) living) ∙ sym i.part ∙ e) in
-      let same : h.base p.root + offset (h.shape p.root) q ≡ address h p = omega (arith, i.at, ap (λ (t : Shape). offset t i.rest) living, only.1) in
-      record {
-        word = ap (λ (a : ℕ). get_or (set store (address h p) (word_for h v)) a 0) same ∙ written ∙ ap (word_for h) (sym value);
-        fits = ap (within (base_of j)) value ∙ ap (λ (z : Kind). within (base_of z) v) (sym only.0) ∙ within_base k v fits;
-      }
+      let here = yes (same_root p.root p.root) (at_rest u (cells p.root q) (rest_behind p.path q)) (cells p.root q) (same_root_refl p.root) in
+      let value : stored cells p u p.root q ≡ u i.rest = here ∙ ap (at_rest u (cells p.root q)) i.is in
+      let new_word = wrote.there i.rest j (sym i.part ∙ e) in
+      let same : h.base p.root + offset (h.shape p.root) q ≡ address h p + offset (shape_there h p) i.rest = omega (arith, i.at) in
+      record { word = ap (λ (a : ℕ). get_or new a 0) same ∙ new_word.word ∙ ap (word_for h) (sym value); fits = ap (within (base_of j)) value ∙ new_word.fits }
   own_root q j e (inr o) =
-      let here = yes (same_root p.root p.root) (at_rest (alone v) (cells p.root q) (rest_behind p.path q)) (cells p.root q) (same_root_refl p.root) in
-      beside p.root q j e (here ∙ ap (at_rest (alone v) (cells p.root q)) o.is)
-      (λ at. ⊎_elim (λ (l : offset (h.shape p.root) q < offset (h.shape p.root) p.path). omega (arith, l, at))
-      (λ (g : offset (h.shape p.root) p.path + words (shape_there h p) ≤ offset (h.shape p.root) q). omega (arith, g, at, word_long (shape_there h p) k living)) o.apart)
+      let here = yes (same_root p.root p.root) (at_rest u (cells p.root q) (rest_behind p.path q)) (cells p.root q) (same_root_refl p.root) in
+      other p.root q j e (here ∙ ap (at_rest u (cells p.root q)) o.is)
+      (⊎_elim (λ (l : offset (h.shape p.root) q < offset (h.shape p.root) p.path). inl (omega (arith, l)))
+      (λ (g : offset (h.shape p.root) p.path + words (shape_there h p) ≤ offset (h.shape p.root) q). inr (omega (arith, g))) o.apart)
 
   by : (s : Root) (q : List ℕ) (j : Kind) → part_at (h.shape s) q ≡ Word j → (same_root p.root s ≡ true) ⊎ (same_root p.root s ≡ false) → Holds s q j
   by s q j e (inl is) =
       let one : p.root ≡ s = same_root_eq p.root s is in
-      subst (λ (z : Root). Holds z q j) one
-      (own_root q j (ap (λ (z : Root). part_at (h.shape z) q) one ∙ e)
-      (parts (h.shape p.root) p.path q j (word_long (shape_there h p) k living) (ap (λ (z : Root). part_at (h.shape z) q) one ∙ e)))
+      let of_own : part_at (h.shape p.root) q ≡ Word j = ap (λ (z : Root). part_at (h.shape z) q) one ∙ e in
+      subst (λ (z : Root). Holds z q j) one (own_root q j of_own (parts (h.shape p.root) p.path q j living of_own))
   by s q j e (inr is) =
-      beside s q j e (no (same_root p.root s) (at_rest (alone v) (cells s q) (rest_behind p.path q)) (cells s q) is)
-      (λ same.
-      let one : p.root ≡ s = of_same p.root s (sym at.0 ∙ ap h.owner (sym same) ∙ (scalar_owned h cells store s q j mem e).0) in
+      other s q j e (no (same_root p.root s) (at_rest u (cells s q) (rest_behind p.path q)) (cells s q) is)
+      (clear (h.base s + offset (h.shape s) q)
+      (λ mine.
+      let one : p.root ≡ s = of_same p.root s (sym mine ∙ (scalar_owned h cells store s q j mem e).0) in
       let two : same_root p.root s ≡ true = ap (same_root p.root) (sym one) ∙ same_root_refl p.root in
-      (let clash : true ≡ false = sym two ∙ is in cc))
+      (let clash : true ≡ false = sym two ∙ is in cc)))
 
-  pub mem_stored : Mem h (stored cells p (alone v)) (set store (address h p) (word_for h v))
-  mem_stored = record {
+  pub mem_wrote : Mem h (stored cells p u) new
+  mem_wrote = record {
     owned = mem.owned;
     inside = mem.inside;
     holds = λ s q j e. by s q j e (cases_Bool (same_root p.root s));
-    kept = λ a own.
-        get_or-set_other store (address h p) a (word_for h v) 0
-        (λ e. own_of_none p.root (sym at.0 ∙ ap h.owner (sym e) ∙ own))
-        ∙ mem.kept a own;
-    long = length-set store (address h p) (word_for h v) ∙ mem.long;
+    kept = λ a own. wrote.beside a (clear a (λ mine. own_of_none p.root (sym mine ∙ own))) ∙ mem.kept a own;
+    long = wrote.long ∙ mem.long;
   }
+
+-- a scalar is stored at a place
+pub mem_stored : (h : Home) (cells : Cells) (store : List ℕ) (p : Place) (k : Kind) (v : Scalar) → Mem h cells store → shape_there h p ≡ Word k → within k v ≡ true
+    → Mem h (stored cells p (alone v)) (set store (address h p) (word_for h v))
+mem_stored h cells store p k v mem living fits =
+    mem_wrote h cells store (set store (address h p) (word_for h v)) p (alone v) mem (ap is_there living)
+    (record {
+      there = λ q j e.
+          let only = alone_path q k j (ap (λ (t : Shape). part_at t q) (sym living) ∙ e) in
+          let same : address h p + offset (shape_there h p) q ≡ address h p = omega (arith, ap (λ (t : Shape). offset t q) living, only.1) in
+          record {
+            word = ap (λ (a : ℕ). get_or (set store (address h p) (word_for h v)) a 0) same
+                ∙ get_or-set_same store (address h p) (word_for h v) 0 (omega (arith, (scalar_owned h cells store p.root p.path k mem living).1, mem.long));
+            fits = ap (λ (z : Kind). within (base_of z) v) (sym only.0) ∙ within_base k v fits;
+          };
+      beside = λ a apart. get_or-set_other store (address h p) a (word_for h v) 0
+          (λ e. ⊎_elim (λ (l : a < address h p). omega (arith, l, e)) (λ (g : address h p + words (shape_there h p) ≤ a). omega (arith, g, e, word_long (shape_there h p) k living)) apart);
+      long = length-set store (address h p) (word_for h v);
+    })
+
+-- the words of a place are copied to another of the same shape
+pub mem_copied : (h : Home) (cells : Cells) (store : List ℕ) (to from : Place) → Mem h cells store → is_there (shape_there h to) ≡ true → shape_there h from ≡ shape_there h to
+    → Mem h (stored cells to (under cells from)) (spliced store (address h to) (take (words (shape_there h to)) (drop (address h from) store)))
+mem_copied h cells store to from mem there same =
+    let w : ℕ = words (shape_there h to) in
+    let low : address h to + w ≤ 65535 = place_inside h cells store to mem there in
+    let source : address h from + w ≤ 65535 = omega (arith, place_inside h cells store from mem (ap is_there same ∙ there), ap words same) in
+    let ws : List ℕ = take w (drop (address h from) store) in
+    let count : length ws ≡ w = length-take-le w (drop (address h from) store) (omega (arith, length-drop (address h from) store, mem.long, source)) in
+    let room : address h to + length ws ≤ length store = omega (arith, count, low, mem.long) in
+    mem_wrote h cells store (spliced store (address h to) ws) to (under cells from) mem there
+    (record {
+      there = λ q k e.
+          let is : part_at (h.shape from.root) (from.path ++ q) ≡ Word k = part_append (h.shape from.root) from.path q (ap is_there same ∙ there) ∙ ap (λ (t : Shape). part_at t q) same ∙ e in
+          let old = mem.holds from.root (from.path ++ q) k is in
+          let fits : offset (shape_there h to) q < w = omega (arith, part_fits (shape_there h to) q (ap is_there e), word_long (part_at (shape_there h to) q) k e) in
+          let at : address h from + offset (shape_there h to) q ≡ h.base from.root + offset (h.shape from.root) (from.path ++ q) =
+          omega (arith, offset_append (h.shape from.root) from.path q (ap is_there same ∙ there), ap (λ (t : Shape). offset t q) same) in
+          record {
+            word = spliced_there store (address h to) ws (offset (shape_there h to) q) room (omega (arith, count, fits))
+                ∙ get_or-take w (drop (address h from) store) (offset (shape_there h to) q) 0 fits
+                ∙ get_or-drop (address h from) store (offset (shape_there h to) q) 0
+                ∙ ap (λ (a : ℕ). get_or store a 0) at
+                ∙ old.word;
+            fits = old.fits;
+          };
+      beside = λ a apart. ⊎_elim (λ (l : a < address h to). spliced_before store (address h to) ws a room l)
+          (λ (g : address h to + w ≤ a). spliced_after store (address h to) ws a room (omega (arith, g, count))) apart;
+      long = spliced_length store (address h to) ws room;
+    })
 
 -- a function that is another number at one place
 abbrev pub replaced : (ℕ → ℕ) → ℕ → ℕ → ℕ → ℕ

@@ -7,12 +7,12 @@ use Rattle.lil_resolved.specs.Kinds.{Kind, numbers}
 use Rattle.lil_resolved.specs.Resolved.{Resolved}
 use Rattle.lil_resolved.specs.Shapes.{Shape, Word, Row, part_at, offset}
 use Rattle.lil_meaning.specs.Cells.{Root, Global, Local, Object, Place}
-use Rattle.lil_meaning.specs.Items.{Scalars, Places, IndexAt, StoreAt, ChangeAt, RightOf, LimitOf, Looping, Turns, End, Item, Value, Fill, Perform, Activation, Source}
+use Rattle.lil_meaning.specs.Items.{Scalars, Places, IndexAt, StoreAt, CopyFrom, ChangeAt, RightOf, LimitOf, Looping, Turns, End, Item, Value, Fill, Perform, Activation, Source}
 use Rattle.lil_mcode.specs.State.{Module, StackRegisters, State, stack_of}
 use Rattle.lil_table.specs.Rows.{Access, OnTop, loop_place}
 use Rattle.lil_match.specs.Parts.{no}
 use Rattle.lil_match.specs.Homes.{word_same, address, Owner, Own, Home, mem_shadowed, shadowed, replaced}
-use Rattle.lil_match.specs.Waits.{Mode, Quiet, ValueOf, Onward, Part, Around, outside, Frame, frames_of, Setting, at_home, with_frames, sees, is_of, TurnsTask, Reaches, HasPlace, needs, Behind, RowsOf, Rows}
+use Rattle.lil_match.specs.Waits.{Mode, Quiet, ValueOf, AtPlace, Onward, Part, Around, outside, Frame, frames_of, Setting, at_home, with_frames, sees, is_of, TurnsTask, Reaches, HasPlace, needs, Behind, RowsOf, Rows}
 use Rattle.lil_match.specs.Goes.{OwnWords, Stands, EachComes, Standing, Shared, Touches}
 
 -- homes that agree on the roots that frames can name, and on the machine's own words from one place to another
@@ -87,6 +87,8 @@ module _ (ctx : Setting) (x : Home) (low top : ℕ) (keeps : Keeps ctx.home x (f
         };
         onto = refl;
       }
+  met (AtPlace b t) (Fill (CopyFrom to)) p stack a r =
+      record { part = record { has = place_kept OnTop to t stack [] r.has; last = r.last; end = r.end; address = r.address; by = r.by; within = r.within }; onto = refl }
   met (ValueOf j) (Fill (RightOf o k u)) p stack a r =
       record {
         part = record { same = r.same; takes = r.takes; fits = r.fits; below = r.below; is = r.is ∙ ap (λ (w : ℕ). w ∷ r.below) (word_same h x keeps.reference u); end = r.end; by = r.by };

@@ -15,11 +15,6 @@ no b x y h = ap (λ (t : Bool). cond t x y) h
 nothing_there : is_there Absent ≡ true → ⊥
 nothing_there e = cc
 
--- what has words is there
-pub worded : (t : Shape) → 1 ≤ words t → is_there t ≡ true
-worded Absent h = absurd (omega (arith, h))
-worded _ h = refl
-
 -- an element that is there
 pub element : (n x : ℕ) (t : Shape) (p : List ℕ) → is_there (part_at (Row n t) (x ∷ p)) ≡ true → (x < n) × (part_at (Row n t) (x ∷ p) ≡ part_at t p)
 element n x t p h = by (cases_lt x n)
@@ -89,7 +84,7 @@ row_no : (n : ℕ) (t : Shape) (k : Kind) → Row n t ≡ Word k → ⊥
 row_no n t k e = cc
 
 -- a scalar lies under a place, or in none of its words
-pub parts : (t : Shape) (d q : List ℕ) (k : Kind) → 1 ≤ words (part_at t d) → part_at t q ≡ Word k → Inside t d q ⊎ Outside t d q
+pub parts : (t : Shape) (d q : List ℕ) (k : Kind) → is_there (part_at t d) ≡ true → part_at t q ≡ Word k → Inside t d q ⊎ Outside t d q
 parts t [] q k h l = inl (record { rest = q; is = refl; at = omega arith; part = refl })
 parts (Join a b) (zero ∷ d) [] k h l = absurd (join_no a b k l)
 parts (Join a b) (suc x ∷ d) [] k h l = absurd (join_no a b k l)
@@ -99,7 +94,7 @@ parts (Join a b) (zero ∷ d) (zero ∷ q) k h l = by (parts a d q k h l)
     by (inl i) = inl (record { rest = i.rest; is = i.is; at = i.at; part = i.part })
     by (inr o) = inr (record { is = o.is; apart = o.apart })
 parts (Join a b) (zero ∷ d) (suc y ∷ q) k h l =
-    inr (record { is = no (eqb 0 (suc y)) (rest_behind d q) None (ne_eqb 0 (suc y) (λ e. omega arith)); apart = inr (omega (arith, part_fits a d (worded (part_at a d) h))) })
+    inr (record { is = no (eqb 0 (suc y)) (rest_behind d q) None (ne_eqb 0 (suc y) (λ e. omega arith)); apart = inr (omega (arith, part_fits a d h)) })
 parts (Join a b) (suc x ∷ d) (zero ∷ q) k h l =
     inr (record {
       is = no (eqb (suc x) 0) (rest_behind d q) None (ne_eqb (suc x) 0 (λ e. omega arith));
@@ -117,13 +112,13 @@ parts (Row n t) (x ∷ d) [] k h l = absurd (row_no n t k l)
 parts (Row n t) (x ∷ d) (y ∷ q) k h l = by (parts t d q k there leaf) (cases_order x y)
   where
     first : (x < n) × (part_at (Row n t) (x ∷ d) ≡ part_at t d)
-    first = element n x t d (worded (part_at (Row n t) (x ∷ d)) h)
+    first = element n x t d h
 
     second : (y < n) × (part_at (Row n t) (y ∷ q) ≡ part_at t q)
     second = element n y t q (ap is_there l)
 
-    there : 1 ≤ words (part_at t d)
-    there = omega (arith, ap words first.1, h)
+    there : is_there (part_at t d) ≡ true
+    there = ap is_there (sym first.1) ∙ h
 
     leaf : part_at t q ≡ Word k
     leaf = sym second.1 ∙ l
@@ -144,6 +139,6 @@ parts (Row n t) (x ∷ d) (y ∷ q) k h l = by (parts t d q k there leaf) (cases
       apart = ⊎_elim (λ (l : offset t q < offset t d). inl (omega (arith, l, ap (λ (z : ℕ). z * words t) e)))
           (λ (g : offset t d + words (part_at t d) ≤ offset t q). inr (omega (arith, g, ap (λ (z : ℕ). z * words t) e, ap words first.1))) o.apart;
     })
-    by s (inr (inl l)) = other (λ e. omega arith) (inr (omega (arith, ap words first.1, part_fits t d (worded (part_at t d) there), row_fits x (words t) y (words t) l (omega arith))))
+    by s (inr (inl l)) = other (λ e. omega arith) (inr (omega (arith, ap words first.1, part_fits t d there, row_fits x (words t) y (words t) l (omega arith))))
     by s (inr (inr g)) = other (λ e. omega arith) (inl (omega (arith, part_fits t q (ap is_there leaf), word_long (part_at t q) k leaf, row_fits y (words t) x (words t) g (omega arith))))
-parts t (x ∷ d) q k h l = absurd (omega (arith, h))
+parts t (x ∷ d) q k h l = cc

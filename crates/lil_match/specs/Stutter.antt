@@ -1,7 +1,7 @@
 -- How long items can stutter: a count that falls at each step of the source that takes no step of the machine.
 use Rattle.std.proofs.Common.{ℕ, ◌+◌, List, [], ◌∷◌}
-use Rattle.lil_resolved.specs.Resolved.{Designator, Variable, Field, Element, Expression, Constant, Taken, One, Two, Short, Apply, Argument, Statement, Assign, Change, Request, If, Case, While, Repeat, Loop, Exit, Halt, Return, For, Statements, Empty, Then}
-use Rattle.lil_meaning.specs.Items.{Hole, Get, Part, IndexBy, IndexAt, SetTo, StoreAt, ChangeBy, ChangeAt, OneOf, LeftOf, RightOf, ShortOf, ApplyTo, Pass, Choose, Turn, Again, Pick, StartOf, LimitOf, Task, Do, Passing, Until, Looping, Turns, End, Item, Value, Evaluate, PlaceOf, Fill, Perform}
+use Rattle.lil_resolved.specs.Resolved.{Designator, Variable, Field, Element, Expression, Constant, Taken, One, Two, Short, Apply, Argument, Statement, Assign, Copy, Change, Request, If, Case, While, Repeat, Loop, Exit, Halt, Return, For, Statements, Empty, Then}
+use Rattle.lil_meaning.specs.Items.{Hole, Get, Part, IndexBy, IndexAt, SetTo, StoreAt, CopyTo, CopyFrom, ChangeBy, ChangeAt, OneOf, LeftOf, RightOf, ShortOf, ApplyTo, Pass, Choose, Turn, Again, Pick, StartOf, LimitOf, Task, Do, Passing, Until, Looping, Turns, End, Item, Value, Evaluate, PlaceOf, Fill, Perform}
 
 abbrev mutual
   pub place_stutter : Designator → ℕ
@@ -24,6 +24,7 @@ passing_stutter (a ∷ given) = 1 + value_stutter a.value + passing_stutter give
 abbrev mutual
   pub statement_stutter : Statement → ℕ
   statement_stutter (Assign d k e) = 1 + place_stutter d + value_stutter e
+  statement_stutter (Copy d from) = 1 + place_stutter d + place_stutter from
   statement_stutter (Change down d k e) = 1 + place_stutter d + value_stutter e
   statement_stutter (Request r given) = 1 + passing_stutter given
   statement_stutter (If c a b) = 1 + value_stutter c
@@ -47,6 +48,8 @@ hole_stutter (IndexBy k e) = value_stutter e
 hole_stutter (IndexAt place k) = 0
 hole_stutter (SetTo k e) = value_stutter e
 hole_stutter (StoreAt place k) = 0
+hole_stutter (CopyTo from) = place_stutter from
+hole_stutter (CopyFrom place) = 0
 hole_stutter (ChangeBy down k e) = value_stutter e
 hole_stutter (ChangeAt down place k) = 0
 hole_stutter (OneOf o k) = 1

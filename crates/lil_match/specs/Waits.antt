@@ -13,10 +13,10 @@ use Rattle.lil_resolved.specs.Depth.{place_depth, depth, function_depth}
 use Rattle.lil_resolved.specs.Sound.{takes_one, takes_two, takes_function}
 use Rattle.lil_resolved.specs.Shapes.{Shape, Word, Row, words, is_there, part_at, offset, element_of}
 use Rattle.lil_meaning.specs.Cells.{Root, Local, Place}
-use Rattle.lil_meaning.specs.Items.{Datum, Scalars, Places, Get, Part as PartOf, IndexBy, IndexAt, SetTo, StoreAt, ChangeBy, ChangeAt, OneOf, LeftOf, RightOf, ShortOf, ApplyTo, Pass, Choose, Turn, Again, Pick, StartOf, LimitOf, Do, Passing, Until, Looping, Turns, End, Item, Value, Evaluate, PlaceOf, Fill, Perform, Activation, Parked}
+use Rattle.lil_meaning.specs.Items.{Datum, Scalars, Places, Get, Part as PartOf, IndexBy, IndexAt, SetTo, StoreAt, CopyTo, CopyFrom, ChangeBy, ChangeAt, OneOf, LeftOf, RightOf, ShortOf, ApplyTo, Pass, Choose, Turn, Again, Pick, StartOf, LimitOf, Do, Passing, Until, Looping, Turns, End, Item, Value, Evaluate, PlaceOf, Fill, Perform, Activation, Parked}
 use Rattle.lil_meaning.specs.World.{Single}
 use Rattle.lil_meaning.specs.Steps.{turns, given_of}
-use Rattle.lil_asm.specs.declared.instr.Instr.TheVariants.{Ixc, Ent, Rtn, Jmp, Svc}
+use Rattle.lil_asm.specs.declared.instr.Instr.TheVariants.{Mov, Ixc, Ent, Rtn, Jmp, Svc}
 use Rattle.lil_mcode.specs.State.{Module, Kept, body_entry}
 use Rattle.lil_asm.specs.Requests.{request_words}
 use Rattle.lil_table.specs.Rows.{Layout, exactly, IsAt, InstrsAt, one_code, two_code, test_code, function_code, Access, InData, OnTop, Behind as Past, further, access_of, address_code, load_code, ready_code, readied, held, store_code, again_code, held_twice, change_code, PlaceAt, ExpressionAt, WholeRow, ValueRow, ArgumentsAt, StatementAt, BodyAt, TurnsRow, RoundRow, loop_place, short_code}
@@ -251,6 +251,21 @@ module _ (frame : Frame) where
     pub store : IsAt own.code middle (store_code (readied b)) end
     pub within : end < length own.code
 
+  -- the place of what is copied is to come
+  pub record CopyToPart (b : Access) (t : Shape) (from : Designator) (p : ℕ) (stack : List ℕ) : Type 0 where
+    pub same : shape_of l.shapes from ≡ t
+    pub empty : stack ≡ []
+    pub shallow : 1 + place_depth from ≤ 16
+    pub start : ℕ
+    pub middle : ℕ
+    pub last : ℕ
+    pub end : ℕ
+    pub address : InstrsAt own.code (address_code b) p start
+    pub source : PlaceAt l own.code from start middle
+    pub source_address : InstrsAt own.code (address_code (access_of l from)) middle last
+    pub by : IsAt own.code last (Mov (words t)) end
+    pub within : end < length own.code
+
   -- the number that INC or DEC takes is to come
   pub record ChangeByPart (b : Access) (t : Shape) (down : Bool) (k : Kind) (e : Expression) (p : ℕ) (stack : List ℕ) : Type 0 where
     pub typed : t ≡ Word k
@@ -459,6 +474,15 @@ module _ (ctx : Setting) where
     pub store : IsAt own.code middle (store_code access) end
     pub within : end < length own.code
 
+  -- the place of what is copied is there
+  pub record CopyFromPart (b : Access) (t : Shape) (to : Place) (p : ℕ) (stack : List ℕ) : Type 0 where
+    pub has : HasPlace OnTop to t stack []
+    pub last : ℕ
+    pub end : ℕ
+    pub address : InstrsAt own.code (address_code b) p last
+    pub by : IsAt own.code last (Mov (words t)) end
+    pub within : end < length own.code
+
   -- the number that INC or DEC takes is there
   pub record ChangePart (j : Kind) (down : Bool) (place : Place) (k : Kind) (p : ℕ) (stack : List ℕ) : Type 0 where
     pub same : j ≡ OfWhole (counted_as k)
@@ -485,6 +509,8 @@ module _ (ctx : Setting) where
   needs (AtPlace b t) (Fill (PartOf i)) p stack a = part (is_there (part_at t (i ∷ [])) ≡ true) (λ r. on (AtPlace (further (offset t (i ∷ [])) b) (part_at t (i ∷ []))) p stack)
   needs (AtPlace b t) (Fill (IndexBy k e)) p stack a = part (IndexByPart active b t k e p stack) (λ r. on (AtPlace OnTop (element_of t)) r.end stack)
   needs (AtPlace b t) (Fill (SetTo k e)) p stack a = part (SetPart active b t k e p stack) (λ r. on Quiet r.end [])
+  needs (AtPlace b t) (Fill (CopyTo from)) p stack a = part (CopyToPart active b t from p stack) (λ r. on Quiet r.end [])
+  needs (AtPlace b t) (Fill (CopyFrom to)) p stack a = part (CopyFromPart b t to p stack) (λ r. on Quiet r.end [])
   needs (AtPlace b t) (Fill (ChangeBy down k e)) p stack a = part (ChangeByPart active b t down k e p stack) (λ r. on Quiet r.end [])
   needs (ValueOf j) (Fill (IndexAt place k)) p stack a = part (IndexAtPart j place k p stack) (λ r. on (AtPlace OnTop r.element) r.end r.below)
   needs (ValueOf j) (Fill (ChangeAt down place k)) p stack a = part (ChangePart j down place k p stack) (λ r. on Quiet r.end [])

@@ -53,6 +53,10 @@ got cells p = cells p.root p.path
 abbrev pub alone : Scalar → Under
 alone v q = v
 
+-- all scalars under a place
+abbrev pub under : Cells → Place → Under
+under cells p q = cells p.root (p.path ++ q)
+
 -- zero of its kind in each scalar of a shape
 abbrev pub zero_in : Shape → Scalar
 zero_in (Word k) = zero_of k

@@ -30,6 +30,10 @@ pub data Hole : Type 0 where
   SetTo : (k : Kind) (e : Expression) → Hole
   -- · goes to the place
   StoreAt : (p : Place) (k : Kind) → Hole
+  -- what lies at another place goes to the place ·
+  CopyTo : (from : Designator) → Hole
+  -- all that lies at the place · goes to the place
+  CopyFrom : (p : Place) → Hole
   -- the number of the place ·, of this kind, grows or falls by e
   ChangeBy : (down : Bool) (k : Kind) (e : Expression) → Hole
   -- the number at the place grows or falls by ·

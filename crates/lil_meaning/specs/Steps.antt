@@ -13,10 +13,10 @@ use Rattle.lil_base.specs.declared.operator.TwoOp.{TwoOp}
 use Rattle.lil_base.specs.declared.operator.TwoOp.TheVariants.{Equal, Unequal, Less, AtMost, Greater, AtLeast, Plus, Minus, Times, Div, Mod}
 use Rattle.lil_resolved.specs.Kinds.{Kind, OfWhole, OfTruth, OfCharacter, OfEnumeration, OfRange, position}
 use Rattle.lil_resolved.specs.Scalars.{Scalar, Number, Truth, Character, Nothing, within, scalar_word, value_with, ordinal_of, truth_number, truth_of}
-use Rattle.lil_resolved.specs.Resolved.{Designator, Variable, Field, Element, Function, Abs, Cap, Chr, Odd, Ord, Val, Expression, Constant, Taken, One, Two, Short, Apply, Label, Statement, Assign, Change, Request, If, Case, While, Repeat, Loop, Exit, Halt, Return, For, Statements, Arms, NoElse, Else, Arm, Procedure, Resolved, counted_as}
-use Rattle.lil_meaning.specs.Cells.{Global, Place, part_of, stored, got, alone, loaded_at}
+use Rattle.lil_resolved.specs.Resolved.{Designator, Variable, Field, Element, Function, Abs, Cap, Chr, Odd, Ord, Val, Expression, Constant, Taken, One, Two, Short, Apply, Label, Statement, Assign, Copy, Change, Request, If, Case, While, Repeat, Loop, Exit, Halt, Return, For, Statements, Arms, NoElse, Else, Arm, Procedure, Resolved, counted_as}
+use Rattle.lil_meaning.specs.Cells.{Global, Place, under, part_of, stored, got, alone, loaded_at}
 use Rattle.lil_meaning.specs.World.{World, Given, Single, Text, serve, closing}
-use Rattle.lil_meaning.specs.Items.{Datum, Scalars, Places, Hole, Get, Part, IndexBy, IndexAt, SetTo, StoreAt, ChangeBy, ChangeAt, OneOf, LeftOf, RightOf, ShortOf, ApplyTo, Pass, Choose, Turn, Again, Pick, StartOf, LimitOf, Task, Do, Passing, Until, Looping, Turns, End, Item, Value, Evaluate, PlaceOf, Fill, Perform, doing, Activation, Parked, Level, Phase, Going, Closing, Ended, Trapped, Source}
+use Rattle.lil_meaning.specs.Items.{Datum, Scalars, Places, Hole, Get, Part, IndexBy, IndexAt, SetTo, StoreAt, CopyTo, CopyFrom, ChangeBy, ChangeAt, OneOf, LeftOf, RightOf, ShortOf, ApplyTo, Pass, Choose, Turn, Again, Pick, StartOf, LimitOf, Task, Do, Passing, Until, Looping, Turns, End, Item, Value, Evaluate, PlaceOf, Fill, Perform, doing, Activation, Parked, Level, Phase, Going, Closing, Ended, Trapped, Source}
 
 -- the activation at hand: that of the nearest end
 abbrev pub current : List Item → ℕ
@@ -284,6 +284,8 @@ filled_place Get p k s = with_items s (Value (Scalars (got s.cells p)) ∷ k)
 filled_place (Part i) p k s = with_items s (Value (Places (part_of p i)) ∷ k)
 filled_place (IndexBy kind e) p k s = with_items s (Evaluate e ∷ Fill (IndexAt p kind) ∷ k)
 filled_place (SetTo kind e) p k s = with_items s (Evaluate e ∷ Fill (StoreAt p kind) ∷ k)
+filled_place (CopyTo from) p k s = with_items s (PlaceOf from ∷ Fill (CopyFrom p) ∷ k)
+filled_place (CopyFrom to) p k s = record s { items = k; cells = stored s.cells to (under s.cells p) }
 filled_place (ChangeBy down kind e) p k s = with_items s (Evaluate e ∷ Fill (ChangeAt down p kind) ∷ k)
 filled_place _ p k s = s
 
@@ -294,6 +296,7 @@ fill library _ h k s = s
 
 abbrev pub did : List Resolved → Statement → List Item → Source → Source
 did library (Assign d kind e) k s = with_items s (PlaceOf d ∷ Fill (SetTo kind e) ∷ k)
+did library (Copy d from) k s = with_items s (PlaceOf d ∷ Fill (CopyTo from) ∷ k)
 did library (Request r given) k s = with_items s (Perform (Passing r [] given) ∷ k)
 did library (If c a b) k s = with_items s (Evaluate c ∷ Fill (Choose a b) ∷ k)
 did library (Case e arms) k s = with_items s (Evaluate e ∷ Fill (Pick arms) ∷ k)

@@ -1,6 +1,6 @@
 -- The words that a body takes: those of the expression stack, and those of its frame.
 use Rattle.std.specs.Prelude.{ℕ, ◌+◌, ◌*◌, max}
-use Rattle.lil_resolved.specs.Resolved.{Designator, Variable, Field, Element, Function, Odd, Expression, Constant, Taken, One, Two, Short, Apply, Statement, Assign, Change, Request, If, Case, While, Repeat, Loop, Exit, Halt, Return, For, Statements, Empty, Then, Arms, NoElse, Else, Arm}
+use Rattle.lil_resolved.specs.Resolved.{Designator, Variable, Field, Element, Function, Odd, Expression, Constant, Taken, One, Two, Short, Apply, Statement, Assign, Copy, Change, Request, If, Case, While, Repeat, Loop, Exit, Halt, Return, For, Statements, Empty, Then, Arms, NoElse, Else, Arm}
 
 -- how many words of the expression stack the code of a standard function takes, its argument's included
 abbrev pub function_depth : Function → ℕ
@@ -26,6 +26,7 @@ abbrev mutual
 abbrev mutual
   pub statement_loops : Statement → ℕ
   statement_loops (Assign d k e) = 0
+  statement_loops (Copy d from) = 0
   statement_loops (Change down d k e) = 0
   statement_loops (Request r given) = 0
   statement_loops (If c a b) = body_loops a + body_loops b

@@ -27,7 +27,7 @@ use Rattle.lil_resolved.specs.declared.resolved.RRequest.{RRequest}
 use Rattle.lil_resolved.specs.declared.resolved.Direction.{Direction}
 use Rattle.lil_resolved.specs.declared.resolved.RArgument.{RArgument}
 use Rattle.lil_resolved.specs.Scalars.{scalar_of}
-use Rattle.lil_resolved.specs.Resolved.{Designator, Variable, Field, Element, Expression, Constant, Taken, Apply, Assign, Change, Request, If, Case, While, Repeat, Loop, Exit, Halt, Return, For, Statements, Empty, Then, Arms, Arm, kind_of}
+use Rattle.lil_resolved.specs.Resolved.{Designator, Variable, Field, Element, Expression, Constant, Taken, Apply, Assign, Copy, Change, Request, If, Case, While, Repeat, Loop, Exit, Halt, Return, For, Statements, Empty, Then, Arms, Arm, kind_of}
 use Rattle.lil_resolved.specs.Views.{base_view, kind_view, variable_kind, function_of, request_number, is_down, argument_of, one_of, two_of, chained, selected, expression_layer, selector_layer, operation_layer, place_layer, expression_of, selector_of, operation_of, place_of, label_of, statement_layer, arm_layer, guard_layer, statement_of, arm_of, guard_of, statements_of, guards_of, arms_of}
 
 -- a layer's value comes from the values of its parts
@@ -76,6 +76,9 @@ rolled = fold-roll-RStmt Statements (Arms → Arms) (Statements → Statements) 
 
 pub assign_is : (p : RPlace) (k : RKind) (e : RExpr) → statement_of (s.Assign p k e) ≡ Then (Assign (place_of p) (kind_view k) (expression_of e)) Empty
 assign_is p k e = ap statement_of (sym (s.rolls-Assign p k e)) ∙ rolled (o.Assign p k e)
+
+pub copy_is : (p from : RPlace) → statement_of (s.Copy p from) ≡ Then (Copy (place_of p) (place_of from)) Empty
+copy_is p from = ap statement_of (sym (s.rolls-Copy p from)) ∙ rolled (o.Copy p from)
 
 pub change_is : (d : Direction) (p : RPlace) (k : RKind) (e : RExpr) → statement_of (s.Change d p k e) ≡ Then (Change (is_down d) (place_of p) (kind_view k) (expression_of e)) Empty
 change_is d p k e = ap statement_of (sym (s.rolls-Change d p k e)) ∙ rolled (o.Change d p k e)

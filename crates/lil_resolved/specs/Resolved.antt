@@ -55,6 +55,8 @@ mutual
   pub data Statement : Type 0 where
     -- to a place of a kind
     Assign : (d : Designator) (k : Kind) (e : Expression) → Statement
+    -- all scalars at one place go to another
+    Copy : (d from : Designator) → Statement
     -- INC(d, e) adds e to d's number, DEC(d, e) takes it away
     Change : (down : Bool) (d : Designator) (k : Kind) (e : Expression) → Statement
     -- a call of the resident procedure with this request

@@ -4,12 +4,12 @@ use Rattle.lil_base.specs.declared.operator.OneOp.{OneOp}
 use Rattle.lil_base.specs.declared.operator.OneOp.TheVariants as one
 use Rattle.lil_base.specs.declared.operator.TwoOp.{TwoOp}
 use Rattle.lil_base.specs.declared.operator.TwoOp.TheVariants.{Greater, AtLeast}
-use Rattle.lil_resolved.specs.Resolved.{Designator, Variable, Field, Element, Function, Abs, Cap, Chr, Odd, Ord, Val, Expression, Constant, Taken, One, Two, Short, Apply, Argument, Statement, Assign, Change, Request, If, Case, While, Repeat, Loop, Exit, Halt, Return, For, Statements, Empty, Then, Arms, NoElse, Else, Arm, Resolved, kind_of, counted_as}
+use Rattle.lil_resolved.specs.Resolved.{Designator, Variable, Field, Element, Function, Abs, Cap, Chr, Odd, Ord, Val, Expression, Constant, Taken, One, Two, Short, Apply, Argument, Statement, Assign, Copy, Change, Request, If, Case, While, Repeat, Loop, Exit, Halt, Return, For, Statements, Empty, Then, Arms, NoElse, Else, Arm, Resolved, kind_of, counted_as}
 use Rattle.lil_base.specs.Words.{Cardinal, Integer}
 use Rattle.lil_resolved.specs.Kinds.{Kind, OfWhole, OfCharacter, base_of, compared_as, covers, outside_turns}
 use Rattle.lil_resolved.specs.Shapes.{all_words}
 pub use Rattle.lil_resolved.specs.Depth.{place_depth, depth, statement_loops, body_loops, arms_loops, frame_words}
-pub use Rattle.lil_resolved.specs.Sound.{is_base, is_whole, takes_one, takes_two, takes_value, takes_function, IsSoundVariable, IsScalar, IsSoundPlace, IsSoundTarget, IsSoundExpression, IsSoundWhole, IsSoundValue, request_kinds, AreSoundArguments, IsSoundLabel, AreSoundLabels, IsStep, IsSoundStatement, IsSoundBody, AreSoundArms, IsSound}
+pub use Rattle.lil_resolved.specs.Sound.{is_base, is_whole, takes_one, takes_two, takes_value, takes_function, IsSoundVariable, IsScalar, IsSoundPlace, IsSoundTarget, IsSoundCopy, IsSoundExpression, IsSoundWhole, IsSoundValue, request_kinds, AreSoundArguments, IsSoundLabel, AreSoundLabels, IsStep, IsSoundStatement, IsSoundBody, AreSoundArms, IsSound}
 
 -- how many bytes the code of an operator takes
 abbrev pub one_size : OneOp → ℕ
@@ -112,6 +112,7 @@ arguments_size (a ∷ given) = size a.value + test_size a.kind (kind_of a.value)
 abbrev mutual
   pub statement_size : Statement → ℕ
   statement_size (Assign d k e) = target_size d + size e + test_size k (kind_of e) + store_size (form_of d)
+  statement_size (Copy d from) = place_size d + address_size (form_of d) + place_size from + address_size (form_of from) + 3
   statement_size (Change down d k e) =
       target_size d + again_size (form_of d) + size e + under_size (form_of d) + 1 + test_size k (OfWhole (counted_as k)) + store_size (form_of d)
   statement_size (Request r given) = arguments_size given + 2

@@ -8,8 +8,8 @@ use Rattle.lil_base.specs.declared.operator.TwoOp.TheVariants.{Equal, Unequal, L
 pub use Rattle.lil_resolved.specs.Kinds.{is_base, is_whole, alike, takes_value}
 use Rattle.lil_resolved.specs.Kinds.{Kind, OfWhole, OfTruth, OfCharacter, base_of, numbers}
 use Rattle.lil_resolved.specs.Scalars.{within, scalar_of, ordinal_of}
-use Rattle.lil_resolved.specs.Shapes.{Shape, Word, count_of}
-use Rattle.lil_resolved.specs.Resolved.{Designator, Variable, Field, Element, Function, Abs, Cap, Chr, Odd, Ord, Val, Expression, Constant, Taken, One, Two, Short, Apply, Label, Argument, Statement, Assign, Change, Request, If, Case, While, Repeat, Loop, Exit, Halt, Return, For, Statements, Empty, Then, Arms, NoElse, Else, Arm, Resolved, kind_of, counted_as, shape_of}
+use Rattle.lil_resolved.specs.Shapes.{Shape, Word, is_there, count_of}
+use Rattle.lil_resolved.specs.Resolved.{Designator, Variable, Field, Element, Function, Abs, Cap, Chr, Odd, Ord, Val, Expression, Constant, Taken, One, Two, Short, Apply, Label, Argument, Statement, Assign, Copy, Change, Request, If, Case, While, Repeat, Loop, Exit, Halt, Return, For, Statements, Empty, Then, Arms, NoElse, Else, Arm, Resolved, kind_of, counted_as, shape_of}
 use Rattle.lil_resolved.specs.Depth.{place_depth, depth}
 
 -- an operator takes operands of this kind
@@ -80,6 +80,15 @@ pub record IsSoundTarget (ts : List Shape) (d : Designator) (k : Kind) : Type 0 
   pub place : IsSoundPlace ts d
   pub shallow : place_depth d ≤ 12
 
+-- two places of one shape
+pub record IsSoundCopy (ts : List Shape) (d from : Designator) : Type 0 where
+  pub same : shape_of ts from ≡ shape_of ts d
+  pub there : is_there (shape_of ts d) ≡ true
+  pub place : IsSoundPlace ts d
+  pub source : IsSoundPlace ts from
+  pub shallow : place_depth d ≤ 12
+  pub source_shallow : place_depth from ≤ 12
+
 -- an expression of a kind that stands alone
 pub record IsSoundWhole (ts : List Shape) (e : Expression) (k : Kind) : Type 0 where
   pub kind : kind_of e ≡ k
@@ -128,6 +137,7 @@ argument_kind a = a.kind
 abbrev mutual
   pub IsSoundStatement : List Shape → Bool → Statement → Type 0
   IsSoundStatement ts looping (Assign d k e) = IsSoundTarget ts d k × IsSoundValue ts e k
+  IsSoundStatement ts looping (Copy d from) = IsSoundCopy ts d from
   IsSoundStatement ts looping (Change down d k e) = IsSoundTarget ts d k × IsSoundWhole ts e (OfWhole (counted_as k))
   IsSoundStatement ts looping (Request r given) = (request_kinds r ≡ Some (map argument_kind given)) × AreSoundArguments ts given
   IsSoundStatement ts looping (If c a b) = IsSoundWhole ts c OfTruth × IsSoundBody ts looping a × IsSoundBody ts looping b

@@ -4,7 +4,7 @@ use Rattle.lil_base.specs.Words.{Cardinal, Integer}
 use Rattle.lil_resolved.specs.Kinds.{Kind, OfWhole, OfTruth, OfCharacter, OfEnumeration, OfRange, compared_as}
 use Rattle.lil_resolved.specs.Scalars.{scalar_of}
 use Rattle.lil_resolved.specs.Shapes.{Shape, Absent, Word, Row, all_words, offsets_from, shape_at, fields_of, words}
-use Rattle.lil_resolved.specs.Resolved.{Designator, Variable, Field, Element, Function, Abs, Cap, Chr, Odd, Ord, Val, Expression, Constant, Taken, One, Two, Short, Apply, Argument, Label, Assign, Change, Request, If, Case, While, Repeat, Loop, Exit, Halt, Return, For, Statements, Empty, Then, Arms, NoElse, Else, Arm, Resolved, kind_of}
+use Rattle.lil_resolved.specs.Resolved.{Designator, Variable, Field, Element, Function, Abs, Cap, Chr, Odd, Ord, Val, Expression, Constant, Taken, One, Two, Short, Apply, Argument, Label, Assign, Copy, Change, Request, If, Case, While, Repeat, Loop, Exit, Halt, Return, For, Statements, Empty, Then, Arms, NoElse, Else, Arm, Resolved, kind_of}
 use Rattle.lil_base.specs.declared.operator.OneOp.{OneOp}
 use Rattle.lil_base.specs.declared.operator.TwoOp.{TwoOp}
 use Rattle.lil_base.specs.declared.operator.TwoOp.TheVariants.{Equal, Unequal, Less, AtMost, Greater, AtLeast, In, Plus, Minus, Or, Times, Slash, Div, Mod, And}
@@ -175,6 +175,7 @@ otherwise_of (Some ss) = Else (all_of ss)
 -- what a statement, an arm and a guard are, where their parts are known
 abbrev pub statement_layer : RStmt-F Statements (Arms → Arms) (Statements → Statements) → Statements
 statement_layer (o.Assign p k e) = Then (Assign (place_of p) (kind_view k) (expression_of e)) Empty
+statement_layer (o.Copy p from) = Then (Copy (place_of p) (place_of from)) Empty
 statement_layer (o.Change way p k e) = Then (Change (is_down way) (place_of p) (kind_view k) (expression_of e)) Empty
 statement_layer (o.Request r given) = Then (Request (request_number r) (map argument_of given)) Empty
 statement_layer (o.If gs ss) = guarded gs (all_of ss)

@@ -113,12 +113,13 @@ pub struct RArgument {
     pub value: RExpr,
 }
 
-/// A resolved statement. A place that is stored to has its kind. IF has its conditions in order, a CASE or an IF without ELSE has none, and FOR has its variable,
+/// A resolved statement. A place that is stored to has its kind; a copy has its place, and that of what is copied. IF has its conditions in order, a CASE or an IF without ELSE has none, and FOR has its variable,
 /// its first value, its last and its step.
 #[cycle(resolved)]
 #[derive(Drop)]
 pub enum RStmt {
     Assign(RPlace, RKind, RExpr),
+    Copy(RPlace, RPlace),
     Change(Direction, RPlace, RKind, RExpr),
     Request(RRequest, Items<RArgument>),
     If(Items<RGuard>, Items<RStmt>),

@@ -1,14 +1,17 @@
--- The code of the places to which statements store, of assignments, and of INC and DEC.
+-- The code of the places to which statements store, of assignments, of copies, and of INC and DEC.
 use Rattle.std.proofs.Common.{◌≡◌, ℕ, ◌≤◌, Bool, List, [], ◌∷◌, ◌++◌, length, Option, refl, sym, ap, ◌∙◌, subst, arith}
 use Rattle.lil_resolved.specs.Kinds.{Kind, OfWhole}
-use Rattle.lil_resolved.specs.Shapes.{is_there}
-use Rattle.lil_resolved.specs.Resolved.{Designator, Expression, Assign, Change, counted_as}
+use Rattle.lil_resolved.specs.Shapes.{words, is_there, shape_at}
+use Rattle.lil_resolved.specs.Resolved.{Designator, Expression, Assign, Copy, Change, counted_as}
+use Rattle.lil_resolved.specs.Views.{AreMeasured, shapes_of}
 use Rattle.lil_asm.specs.declared.instr.Instr.{Instr}
-use Rattle.lil_table.specs.Rows.{IsAt, InstrsAt, Access, InData, OnTop, Behind, access_of, ready_code, readied, held, held_twice, store_code, again_code, under_code, whole_code, change_operator, change_code, test_code}
-use Rattle.lil_labels.specs.Drafts.{Draft, Emits, Doing, DoingAll}
-use Rattle.lil_labels.specs.Emitting.{emits_then, emits_as}
+use Rattle.lil_asm.specs.declared.instr.Instr.TheVariants.{Mov}
+use Rattle.lil_table.specs.Rows.{IsAt, InstrsAt, Access, InData, OnTop, Behind, access_of, address_code, ready_code, readied, held, held_twice, store_code, again_code, under_code, whole_code, change_operator, change_code, test_code}
+use Rattle.lil_labels.specs.Tables.{Tables}
+use Rattle.lil_labels.specs.Drafts.{Draft, Meaning, Emits, Doing, DoingAll}
+use Rattle.lil_labels.specs.Emitting.{emits_then, emits_as, emits_tied}
 use Rattle.lil_expr.specs.Generating.{Value, Found}
-use Rattle.lil_stmt.specs.Generating.{Stored, Readied, Targeted, Stated}
+use Rattle.lil_stmt.specs.Generating.{Stored, Readied, Targeted, Addressed, Stated}
 use Rattle.lil_stmt.proofs.Storing.{whole}
 
 pub target_emitted : (d : Designator) (a b : Access) (n : ℕ) (c0 c1 c2 : Draft) → Emits c0 c1 (Found d a n) → Emits c1 c2 (Readied a b) → Emits c0 c2 (Targeted d b)
@@ -54,6 +57,57 @@ assign_emitted d k e target n exit c0 c1 c2 c3 place value store =
       store = subst (λ (a : Access). IsAt x.code (length c2.bytes) (store_code a) (length c3.bytes)) at.access t.1.1;
     })
     (emits_then c0 c1 c3 _ _ place (emits_then c1 c2 c3 _ _ value store))
+
+-- ---- copies
+pub address_emitted : (d : Designator) (a : Access) (n : ℕ) (c0 c1 c2 : Draft) → Emits c0 c1 (Found d a n) → Emits c1 c2 (DoingAll (address_code a)) → Emits c0 c2 (Addressed d n)
+address_emitted d a n c0 c1 c2 place address =
+    emits_as c0 c2 _ (Addressed d n)
+    (λ x t sound there.
+    let at = t.0 sound there in
+    record {
+      found = length c1.bytes;
+      place = at.place;
+      address = subst (λ (a : Access). InstrsAt x.code (address_code a) (length c1.bytes) (length c2.bytes)) at.access t.1;
+      shape = at.shape;
+    })
+    (emits_then c0 c1 c2 _ _ place address)
+
+-- the move of as many words as a shape of the tables takes
+abbrev Moving : ℕ → Meaning
+Moving n x p q = IsAt x.code p (Mov (words (shape_at (shapes_of x.tables.shapes) n))) q
+
+move_emitted : (n w : ℕ) (a b : Draft) → (AreMeasured [] a.tables.shapes → w ≡ words (shape_at (shapes_of a.tables.shapes) n)) → Emits a b (Doing (λ word. Mov w)) → Emits a b (Moving n)
+move_emitted n w a b sized move =
+    emits_as a b _ (Moving n)
+    (λ x t.
+    let measured = subst (λ (ts : Tables). AreMeasured [] ts.shapes) t.1 x.described.measured in
+    let same = sized measured ∙ ap (λ (ts : Tables). words (shape_at (shapes_of ts.shapes) n)) (sym t.1) in
+    subst (λ (w : ℕ). IsAt x.code (length a.bytes) (Mov w) (length b.bytes)) same t.0)
+    (emits_tied a b _ move)
+
+pub copy_emitted : (d from : Designator) (m k w n : ℕ) (exit : Option ℕ) (c0 c1 c2 c3 : Draft) → (AreMeasured [] c2.tables.shapes → w ≡ words (shape_at (shapes_of c2.tables.shapes) m)) → Emits c0 c1 (Addressed d m) → Emits c1 c2 (Addressed from k)
+    → Emits c2 c3 (Doing (λ word. Mov w)) → Emits c0 c3 (Stated n exit (Copy d from))
+copy_emitted d from m k w n exit c0 c1 c2 c3 sized place source move =
+    emits_as c0 c3 _ (Stated n exit (Copy d from))
+    (λ x t sound room.
+    let at = t.0 sound.place sound.there in
+    let other = t.1.0 sound.source (ap is_there sound.same ∙ sound.there) in
+    record {
+      found = at.found;
+      start = length c1.bytes;
+      middle = other.found;
+      last = length c2.bytes;
+      same = sound.same;
+      there = sound.there;
+      shallow = omega (arith, sound.shallow);
+      source_shallow = omega (arith, sound.source_shallow);
+      here = at.place;
+      address = at.address;
+      source = other.place;
+      source_address = other.address;
+      by = subst (λ (w : ℕ). IsAt x.code (length c2.bytes) (Mov w) (length c3.bytes)) (ap words at.shape) t.1.1;
+    })
+    (emits_then c0 c1 c3 _ _ place (emits_then c1 c2 c3 _ _ source (move_emitted m w c2 c3 sized move)))
 
 -- ---- INC and DEC
 -- instructions behind others

@@ -1,5 +1,5 @@
 -- What the code means that the generator of statements adds.
-use Rattle.std.specs.Prelude.{◌≡◌, ℕ, ◌+◌, ◌*◌, ◌≤◌, pos, negsuc, ◌≤ℤ◌, Bool, List, [], ◌∷◌, length, map, Option, Some, None}
+use Rattle.std.specs.Prelude.{◌≡◌, ℕ, ◌+◌, ◌*◌, ◌≤◌, pos, negsuc, ◌≤ℤ◌, Bool, true, List, [], ◌∷◌, length, map, Option, Some, None}
 use Rattle.std.specs.Option.{is_some, option_map}
 use Rattle.lil_base.specs.Words.{word_of}
 use Rattle.lil_resolved.specs.declared.resolved.RStmt.{RStmt}
@@ -7,12 +7,13 @@ use Rattle.lil_resolved.specs.declared.resolved.RGuard.{RGuard}
 use Rattle.lil_resolved.specs.declared.resolved.RArm.{RArm}
 use Rattle.lil_resolved.specs.declared.resolved.RLabel.{RLabel}
 use Rattle.lil_resolved.specs.Kinds.{Kind}
-use Rattle.lil_resolved.specs.Resolved.{Designator, Expression, Argument, Label, Statement, Statements}
-use Rattle.lil_resolved.specs.Views.{guarded, guard_of, statements_of, label_of}
+use Rattle.lil_resolved.specs.Shapes.{is_there, shape_at}
+use Rattle.lil_resolved.specs.Resolved.{Designator, Expression, Argument, Label, Statement, Statements, shape_of}
+use Rattle.lil_resolved.specs.Views.{guarded, guard_of, statements_of, label_of, shapes_of}
 use Rattle.lil_resolved.specs.Depth.{statement_loops, body_loops}
-use Rattle.lil_resolved.specs.Sound.{IsSoundTarget, IsSoundValue, AreSoundArguments, IsSoundStatement, IsSoundBody}
+use Rattle.lil_resolved.specs.Sound.{IsSoundPlace, IsSoundTarget, IsSoundValue, AreSoundArguments, IsSoundStatement, IsSoundBody}
 use Rattle.lil_asm.specs.declared.instr.Instr.TheVariants.{Jmp, Trp}
-use Rattle.lil_table.specs.Rows.{IsAt, InstrsAt, Access, access_of, ready_code, readied, ValueRow, TargetRow, ArgumentsAt, LeaveRow, AlignAt, StatementAt, BodyAt, loop_place}
+use Rattle.lil_table.specs.Rows.{IsAt, InstrsAt, Access, access_of, address_code, ready_code, readied, PlaceAt, ValueRow, TargetRow, ArgumentsAt, LeaveRow, AlignAt, StatementAt, BodyAt, loop_place}
 use Rattle.lil_labels.specs.Drafts.{Final, Meaning, EntryAt, ChoiceAt}
 
 -- a sound value has its code and its test, where one of a kind is wanted and up to 4 words of others stand below its own
@@ -34,6 +35,17 @@ pub record TargetAt (d : Designator) (a : Access) (k : Kind) (x : Final) (p q : 
 -- a sound place that is stored to has its code, and is then ready
 abbrev pub Targeted : Designator → Access → Meaning
 Targeted d a x p q = (k : Kind) → IsSoundTarget x.layout.shapes d k → TargetAt d a k x p q
+
+-- a place and its address, and a number of its shape in the tables
+pub record AddressAt (d : Designator) (n : ℕ) (x : Final) (p q : ℕ) : Type 0 where
+  pub found : ℕ
+  pub place : PlaceAt x.layout x.code d p found
+  pub address : InstrsAt x.code (address_code (access_of x.layout d)) found q
+  pub shape : shape_at (shapes_of x.tables.shapes) n ≡ shape_of x.layout.shapes d
+
+-- a sound place where something lies has its code and its address
+abbrev pub Addressed : Designator → ℕ → Meaning
+Addressed d n x p q = IsSoundPlace x.layout.shapes d → is_there (shape_of x.layout.shapes d) ≡ true → AddressAt d n x p q
 
 -- With n FORs around it, a sound statement has its code where the frame has room for its own FORs. An EXIT leads to a label.
 abbrev pub Stated : ℕ → Option ℕ → Statement → Meaning

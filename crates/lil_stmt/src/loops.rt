@@ -48,6 +48,7 @@ fn statement_fors(statement: &RStmt) -> u32
         }
         RStmt::For(_, _, _, _, body) => body_fors(body.as_slice()).saturating_add(1),
         RStmt::Assign(_, _, _)
+        | RStmt::Copy(_, _)
         | RStmt::Change(_, _, _, _)
         | RStmt::Request(_, _)
         | RStmt::Exit

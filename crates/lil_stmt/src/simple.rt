@@ -2,14 +2,14 @@
 
 ghost use Rattle.std.specs.Prelude.{◌≡◌, ℕ, Option, map, OnOk};
 ghost use Rattle.lil_resolved.specs.Resolved as resolved;
-ghost use Rattle.lil_resolved.specs.Resolved.{Assign, Change, Exit};
+ghost use Rattle.lil_resolved.specs.Resolved.{Assign, Copy, Change, Exit};
 ghost use Rattle.lil_resolved.specs.Views.{kind_view, place_of, is_down, request_number, argument_of, expression_of};
 ghost use Rattle.lil_labels.specs.Drafts.{Emits};
 ghost use Rattle.lil_stmt.specs.Generating.{Stated, Stored, Passed};
 
 use crate::kinds::{change_instr, counted_base};
 use crate::statements::Around;
-use crate::targets::{emit_again, emit_store, emit_target, emit_under};
+use crate::targets::{emit_address_of, emit_again, emit_store, emit_target, emit_under};
 use lil_asm::Instr;
 use lil_base::Memory;
 use lil_expr::{emit_expression, emit_test};
@@ -36,6 +36,20 @@ pub(crate) fn emit_assign(
     let target = emit_target(code, place)?;
     emit_value(code, value, kind)?;
     emit_store(code, target)
+}
+
+/// Appends the code of a copy: the addresses of both places, and the move of as many words as lie there.
+pub(crate) fn emit_copy(
+    code: &mut CodeBuffer<'_>,
+    place: &RPlace,
+    from: &RPlace,
+) -> Result<(), Memory>
+    ensures { OnOk result ((n : ℕ) (exit : Option ℕ) → Emits code.old code.new (Stated n exit (Copy (place_of place.now) (place_of from.now)))) }
+{
+    let shape = emit_address_of(code, place)?;
+    emit_address_of(code, from)?;
+    let words = code.words(shape);
+    code.put(Instr::Mov(words))
 }
 
 /// Appends the code of INC or DEC: the place, made ready and kept, the number, the place's below it, the sum or the

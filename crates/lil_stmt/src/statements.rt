@@ -9,7 +9,7 @@ ghost use Rattle.lil_stmt.specs.Generating.{Stated, Body, Turning, Each, ArmPart
 use crate::cases::emit_choice;
 use crate::kinds::{emit_turn_test, loop_sign};
 use crate::loops::loop_place;
-use crate::simple::{emit_assign, emit_change, emit_exit, emit_request};
+use crate::simple::{emit_assign, emit_change, emit_copy, emit_exit, emit_request};
 use crate::starts::emit_align;
 use lil_asm::Instr;
 use lil_base::Memory;
@@ -46,6 +46,7 @@ fn emit_statement(
 {
     match statement {
         RStmt::Assign(place, kind, value) => emit_assign(code, place, *kind, value),
+        RStmt::Copy(place, from) => emit_copy(code, place, from),
         RStmt::Change(direction, place, kind, value) => {
             emit_change(code, *direction, place, *kind, value)
         }

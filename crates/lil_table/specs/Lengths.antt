@@ -6,7 +6,7 @@ use Rattle.lil_base.specs.declared.operator.OneOp.TheVariants as one
 use Rattle.lil_base.specs.declared.operator.TwoOp.{TwoOp}
 use Rattle.lil_base.specs.declared.operator.TwoOp.TheVariants.{Equal, In, Or, Slash, And}
 use Rattle.lil_resolved.specs.Kinds.{Kind, OfWhole, OfCharacter, base_of, compared_as, covers, shared, outside_turns}
-use Rattle.lil_resolved.specs.Resolved.{Designator, Variable, Field, Element, Function, Abs, Cap, Chr, Odd, Ord, Val, Expression, Constant, Taken, One, Two, Short, Apply, Argument, Label, Statement, Assign, Change, Request, If, Case, While, Repeat, Loop, Exit, Halt, Return, For, Statements, Empty, Then, Arms, NoElse, Else, Arm, Resolved, kind_of, counted_as}
+use Rattle.lil_resolved.specs.Resolved.{Designator, Variable, Field, Element, Function, Abs, Cap, Chr, Odd, Ord, Val, Expression, Constant, Taken, One, Two, Short, Apply, Argument, Label, Statement, Assign, Copy, Change, Request, If, Case, While, Repeat, Loop, Exit, Halt, Return, For, Statements, Empty, Then, Arms, NoElse, Else, Arm, Resolved, kind_of, counted_as}
 use Rattle.lil_resolved.specs.Depth.{frame_words}
 use Rattle.lil_resolved.specs.Sound.{takes_two}
 use Rattle.lil_resolved.specs.Sizes.{one_size, two_size, test_size, function_size, Form, Direct, Exact, Beyond, field_form, form_of, address_size, load_size, ready_size, store_size, again_size, under_size, place_size, target_size, size, arguments_size, statement_size, body_size, arms_size, code_size}
@@ -205,6 +205,19 @@ mutual
   statement_long l code n exit (Assign d k e) p q h =
       let a = access_of l d in
       omega (arith, target_long l code d k p h.start h.target, value_long l code (held (readied a)) e k h.start h.middle h.value, instr_long code h.middle (store_code (readied a)) q h.store, store_sized a, ap store_size (formed l d))
+  statement_long l code n exit (Copy d from) p q h =
+      omega (
+        arith,
+        place_long l code d p h.found h.here,
+        instrs_long code (address_code (access_of l d)) h.found h.start h.address,
+        address_sized (access_of l d),
+        ap address_size (formed l d),
+        place_long l code from h.start h.middle h.source,
+        instrs_long code (address_code (access_of l from)) h.middle h.last h.source_address,
+        address_sized (access_of l from),
+        ap address_size (formed l from),
+        instr_long code h.last _ q h.by,
+      )
   statement_long l code n exit (Change down d k e) p q h =
       let a = access_of l d in
       omega (

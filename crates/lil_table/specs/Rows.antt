@@ -9,11 +9,11 @@ use Rattle.lil_base.specs.declared.operator.TwoOp.TheVariants.{Equal, Unequal, L
 use Rattle.lil_resolved.specs.Kinds.{Kind, OfWhole, OfTruth, OfCharacter, base_of, is_base, takes_value, compared_as, covers, shared, outside_turns, least, numbers}
 use Rattle.lil_resolved.specs.Scalars.{Scalar, within, scalar_word}
 use Rattle.lil_resolved.specs.Shapes.{Shape, Word, Row, words, is_there, part_at, offset, all_words, offsets_from, element_of}
-use Rattle.lil_resolved.specs.Resolved.{Designator, Variable, Field, Element, Function, Abs, Cap, Chr, Odd, Ord, Val, Expression, Constant, Taken, One, Two, Short, Apply, Argument, Label, Statement, Assign, Change, Request, If, Case, While, Repeat, Loop, Exit, Halt, Return, For, Statements, Empty, Then, Arms, NoElse, Else, Arm, Resolved, kind_of, counted_as, shape_of}
+use Rattle.lil_resolved.specs.Resolved.{Designator, Variable, Field, Element, Function, Abs, Cap, Chr, Odd, Ord, Val, Expression, Constant, Taken, One, Two, Short, Apply, Argument, Label, Statement, Assign, Copy, Change, Request, If, Case, While, Repeat, Loop, Exit, Halt, Return, For, Statements, Empty, Then, Arms, NoElse, Else, Arm, Resolved, kind_of, counted_as, shape_of}
 use Rattle.lil_resolved.specs.Depth.{place_depth, depth, frame_words}
 use Rattle.lil_resolved.specs.Sound.{takes_one, takes_two, takes_function, IsScalar, IsSoundLabel, IsStep}
 use Rattle.lil_asm.specs.declared.instr.Instr.{Instr}
-use Rattle.lil_asm.specs.declared.instr.Instr.TheVariants.{Liw, Dup, Drp, Llw, Lgw, Sgw, Lag, Ldi, Sti, Ldf, Adf, Ixc, Swp, Rgc, Rgi, Cap, Adc, Sbc, Mlc, Dvc, Mdc, Adi, Sbi, Mli, Dvi, Mdi, Ngi, Abi, Not, Equ, Neq, Lsc, Lec, Lsi, Lei, Ent, Rtn, Jmp, Jpf, Jan, Jor, Cas, Fri, Frn, Trp, Svc}
+use Rattle.lil_asm.specs.declared.instr.Instr.TheVariants.{Liw, Dup, Drp, Llw, Lgw, Sgw, Lag, Ldi, Sti, Ldf, Adf, Mov, Ixc, Swp, Rgc, Rgi, Cap, Adc, Sbc, Mlc, Dvc, Mdc, Adi, Sbi, Mli, Dvi, Mdi, Ngi, Abi, Not, Equ, Neq, Lsc, Lec, Lsi, Lei, Ent, Rtn, Jmp, Jpf, Jan, Jor, Cas, Fri, Frn, Trp, Svc}
 use Rattle.lil_asm.specs.Bytes.{word_at, decoded}
 use Rattle.lil_asm.specs.Requests.{request_words}
 
@@ -319,6 +319,22 @@ pub record AssignRow (l : Layout) (code : List ℕ) (d : Designator) (k : Kind) 
   pub value : ValueRow l code (held (readied (access_of l d))) e k start middle
   pub store : IsAt code middle (store_code (readied (access_of l d))) q
 
+-- the addresses of both places, and the move of as many words as lie there
+pub record CopyRow (l : Layout) (code : List ℕ) (d from : Designator) (p q : ℕ) : Type 0 where
+  pub found : ℕ
+  pub start : ℕ
+  pub middle : ℕ
+  pub last : ℕ
+  pub same : shape_of l.shapes from ≡ shape_of l.shapes d
+  pub there : is_there (shape_of l.shapes d) ≡ true
+  pub shallow : place_depth d ≤ 16
+  pub source_shallow : 1 + place_depth from ≤ 16
+  pub here : PlaceAt l code d p found
+  pub address : InstrsAt code (address_code (access_of l d)) found start
+  pub source : PlaceAt l code from start middle
+  pub source_address : InstrsAt code (address_code (access_of l from)) middle last
+  pub by : IsAt code last (Mov (words (shape_of l.shapes d))) q
+
 pub record ChangeRow (l : Layout) (code : List ℕ) (down : Bool) (d : Designator) (k : Kind) (e : Expression) (p q : ℕ) : Type 0 where
   pub start : ℕ
   pub kept : ℕ
@@ -514,6 +530,7 @@ pub record ThenRow (first rest : Span) (p q : ℕ) : Type 0 where
 abbrev mutual
   pub StatementAt : Layout → List ℕ → ℕ → Option ℕ → Statement → Span
   StatementAt l code n exit (Assign d k e) p q = AssignRow l code d k e p q
+  StatementAt l code n exit (Copy d from) p q = CopyRow l code d from p q
   StatementAt l code n exit (Change down d k e) p q = ChangeRow l code down d k e p q
   StatementAt l code n exit (Request r given) p q = RequestRow l code r given p q
   StatementAt l code n exit (If c a b) p q = IfRow l code c (BodyAt l code n exit a) (BodyAt l code n exit b) p q

@@ -604,7 +604,7 @@ fn scalars(rt: HostRuntime) -> Result<(), Fail> {
 
 /// What stands around the statements of a program T, with arrays over all types of indexes, and records.
 const TABLES_BEFORE: &[u8] =
-    b"MODULE T; FROM InOut IMPORT Write, WriteCard, WriteInt; TYPE day = (mo, tu, we, th); point = RECORD x, y: INTEGER; on: BOOLEAN END; line = RECORD name: CHAR; ends: ARRAY BOOLEAN OF point; CASE k: day OF mo: w: CARDINAL | tu, we: v: [5 .. 9]; z: CHAR END END; none = RECORD END; VAR c, k: CARDINAL; i: INTEGER; x: day; b: BOOLEAN; h: CHAR; a: ARRAY [0 .. 9] OF CARDINAL; n: ARRAY [-2 .. 2] OF INTEGER; d: ARRAY day OF CHAR; e: none; l: ARRAY ['a' .. 'e'], [1 .. 3] OF CARDINAL; r, s: line; p: ARRAY [5 .. 7] OF line; q: ARRAY [0 .. 3] OF [1 .. 3]; BEGIN ";
+    b"MODULE T; FROM InOut IMPORT Write, WriteCard, WriteInt; TYPE day = (mo, tu, we, th); point = RECORD x, y: INTEGER; on: BOOLEAN END; line = RECORD name: CHAR; ends: ARRAY BOOLEAN OF point; CASE k: day OF mo: w: CARDINAL | tu, we: v: [5 .. 9]; z: CHAR END END; none = RECORD END; VAR c, k: CARDINAL; i: INTEGER; x: day; b: BOOLEAN; h: CHAR; a, o: ARRAY [0 .. 9] OF CARDINAL; n: ARRAY [-2 .. 2] OF INTEGER; d: ARRAY day OF CHAR; e: none; l: ARRAY ['a' .. 'e'], [1 .. 3] OF CARDINAL; r, s: line; p: ARRAY [5 .. 7] OF line; q: ARRAY [0 .. 3] OF [1 .. 3]; BEGIN ";
 
 const TABLES_BEHIND: &[u8] = b" END T.";
 
@@ -621,6 +621,11 @@ const TABLES: &[&[u8]] = &[
     b"r.ends[TRUE].x := -4; r.ends[FALSE].y := 9; r.name := 'q'; r.w := 3; r.v := 7; r.z := 'z'; r.k := tu; WriteInt(r.ends[TRUE].x, 1); WriteInt(r.ends[FALSE].x, 2); WriteInt(r.ends[FALSE].y, 2); WriteCard(r.w, 2); WriteCard(r.v, 2); Write(r.z); Write(r.name)~-4 0 9 3 7zq",
     b"p[6].ends[b].on := TRUE; FOR c := 5 TO 7 DO IF p[c].ends[FALSE].on THEN Write('y') ELSE Write('n') END; IF s.ends[TRUE].on THEN Write('s') END END~nyn",
     b"IF (a[0] = 0) & (d[mo] = 0C) & (r.k = mo) & NOT r.ends[TRUE].on THEN Write('0') END~0",
+    // whole copies: of an array, of a record, of parts in parts, onto itself, of nothing, and untested
+    b"a[0] := 1; a[9] := 2; o := a; a[0] := 3; a[9] := 4; WriteCard(o[0], 1); WriteCard(o[9], 1); WriteCard(a[0], 1); WriteCard(a[9], 1)~1234",
+    b"r.name := 'r'; r.ends[TRUE].y := 8; r.z := 'z'; s := r; r.z := 'a'; WriteInt(s.ends[TRUE].y, 1); Write(s.name); Write(s.z); Write(r.z)~8rza",
+    b"p[5].ends[FALSE].x := 6; p[6].name := 'k'; c := 7; p[c] := p[5]; p[5].ends[FALSE].x := 1; WriteInt(p[7].ends[FALSE].x, 1); Write(p[6].name); b := TRUE; p[c - 1].ends[b] := p[c].ends[NOT b]; WriteInt(p[6].ends[TRUE].x, 1); WriteInt(p[6].ends[FALSE].x, 1)~6k60",
+    b"l['b', 2] := 5; l['c'] := l['b']; a[4] := 6; a := a; e := e; WriteCard(l['c', 2], 1); WriteCard(l['d', 2], 1); WriteCard(a[4], 1)~506",
     // INC and DEC of parts
     b"INC(a[3]); INC(a[3], 4); DEC(a[3], a[3] - 2); c := 3; INC(a[a[c] + 1], c); WriteCard(a[3], 1)~5",
     b"p[7].v := 9; DEC(p[7].v, 2); WriteCard(p[7].v, 1); WriteCard(q[0], 1); q[0] := 3; WriteCard(q[0], 1)~703",
@@ -639,6 +644,8 @@ const TABLE_TRAPS: &[(&[u8], &[u8], &[u8])] = &[
     (b"c := 65535; n[c] := 0", b"", b"range"),
     (b"h := 'f'; l[h, 1] := 1", b"", b"range"),
     (b"c := 4; l['a', c] := 1", b"", b"range"),
+    (b"c := 8; k := 4; p[c] := p[k]", b"", b"range"),
+    (b"c := 7; k := 4; p[c] := p[k]", b"", b"range"),
     // the place comes first, then the value, and then its test
     (b"c := 10; a[c] := 1 DIV (c - c)", b"", b"range"),
     (b"c := 1; a[c] := 1 DIV (c - c)", b"", b"divisor"),

@@ -11,7 +11,7 @@ use Rattle.lil_resolved.specs.Kinds.{base_of, compared_as, covers, outside_turns
 use Rattle.lil_resolved.specs.Resolved as resolved
 use Rattle.lil_resolved.specs.Resolved.{Statements, Loop, For, Halt, Return, kind_of}
 use Rattle.lil_resolved.specs.Views.{kind_view, request_number, argument_of, expression_of, statement_of, statements_of}
-use Rattle.lil_resolved.specs.Forms.{assign_is, change_is, request_is, halt_is, return_is, if_is}
+use Rattle.lil_resolved.specs.Forms.{assign_is, copy_is, change_is, request_is, halt_is, return_is, if_is}
 use Rattle.lil_labels.specs.Drafts.{Draft, Emits}
 use Rattle.lil_labels.specs.Emitting.{emits_as, with_ok}
 use Rattle.lil_expr.specs.Numbers.{number_word}
@@ -91,6 +91,13 @@ emit_statement-returns-in-Assign t c =
     let exit = c.args.around.exit in
     let is = ap statement_of c.in-Assign.is ∙ assign_is c.in-Assign.place c.in-Assign.kind c.in-Assign.value in
     with_ok c.emit_assign.result (λ h. one_emitted n exit _ _ _ _ is (h n exit)) c.emit_assign.ensures
+
+pub emit_statement-returns-in-Copy : goal.emit_statement-returns-in-Copy
+emit_statement-returns-in-Copy t c =
+    let n = c.args.around.fors in
+    let exit = c.args.around.exit in
+    let is = ap statement_of c.in-Copy.is ∙ copy_is c.in-Copy.place c.in-Copy.from in
+    with_ok c.emit_copy.result (λ h. one_emitted n exit _ _ _ _ is (h n exit)) c.emit_copy.ensures
 
 pub emit_statement-returns-in-Change : goal.emit_statement-returns-in-Change
 emit_statement-returns-in-Change t c =
