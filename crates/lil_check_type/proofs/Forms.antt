@@ -74,7 +74,7 @@ record_is : (p : Place) (fs : List FieldList) → sense (v.RecordOf p fs) ≡ re
 record_is p fs = ap sense (sym (v.rolls-RecordOf p fs)) ∙ sort_rolled (o.RecordOf p fs)
     ∙ (λ j. record { name = None; means = λ e. after (fields_are fs (e, no_fields) j) (λ q. form_node q.0 p (record_form q.1)) })
 
-set_is : (p : Place) (x : Simple) → sense (v.SetOver p x) ≡ record { name = None; means = λ e. not_built p (set_means e p x) }
+set_is : (p : Place) (x : Simple) → sense (v.SetOver p x) ≡ record { name = None; means = λ e. set_means e p x }
 set_is p x = ap sense (sym (v.rolls-SetOver p x)) ∙ sort_rolled (o.SetOver p x)
 
 pointer_is : (p : Place) (y : Sort) → sense (v.PointerTo p y) ≡ record { name = None; means = λ e. not_built p (pointer_means p (sense y).name (sense y).means e) }
@@ -113,8 +113,8 @@ module _ {of : Sort} where
     pub is_record_of : (fs : List FieldList) {p : Place} {m : Made} {s : Option Fault} → of ≡ v.RecordOf p fs → Said (record_means e p fs) r m s → Said (sort_means e of) r m s
     is_record_of fs {p = p} is h = said_as (ap (sort_means e) is ∙ ap (λ s. s.means e) (record_is p fs)) h
 
-    pub is_set_over : {x : Simple} {p : Place} {m : Made} {a s : Option Fault} → of ≡ v.SetOver p x → a ≡ noted r (row true p NotBuilt) → Said (set_means e p x) a m s → Said (sort_means e of) r m s
-    is_set_over {x = x} {p = p} is note h = said_as (ap (sort_means e) is ∙ ap (λ s. s.means e) (set_is p x)) (said_not_built p note h)
+    pub is_set_over : {x : Simple} {p : Place} {m : Made} {s : Option Fault} → of ≡ v.SetOver p x → Said (set_means e p x) r m s → Said (sort_means e of) r m s
+    is_set_over {x = x} {p = p} is h = said_as (ap (sort_means e) is ∙ ap (λ s. s.means e) (set_is p x)) h
 
     pub is_pointer_to : (y : Sort) {p : Place} {m : Made} {a s : Option Fault} → of ≡ v.PointerTo p y → a ≡ noted r (row true p NotBuilt) → Said (pointer_means p (sense y).name (sense y).means e) a m s → Said (sort_means e of) r m s
     is_pointer_to y {p = p} is note h = said_as (ap (sort_means e) is ∙ ap (λ s. s.means e) (pointer_is p y)) (said_not_built p note h)

@@ -168,7 +168,6 @@ pub fn sort(
             Ok(sort)
         }
         Sort::SetOver(place, x) => {
-            report.note(true, *place, FaultKind::NotBuilt);
             let sort = set(alloc, env, report, *place, x)?;
             Ok(sort)
         }

@@ -31,7 +31,6 @@ use Rattle.lil_check_value.specs.Uses.{value_node, callee_node, typed_node}
 use Rattle.lil_operators.specs.Operations.{one_node, begun, two_node, chain_found}
 use Rattle.lil_operators.specs.Sets.{set_node, no_elements, joined_one, joined_range}
 use Rattle.lil_check_value.specs.SetTypes.{set_sort}
-use Rattle.lil_check_value.specs.Unbuilt.{not_built}
 use Rattle.lil_check_value.specs.Values as s
 use Rattle.lil_check_value.specs.Values.{Sense, Way, Step, Operates, Joins, expression_layer, selector_layer, designator_layer, operation_layer, range_layer, sense, step, way, operates, joins, means, typed_means, reach_means, index_means, step_means, operation_means, joins_mean, elements_mean, argument_in, argument_means, arguments_mean, begins, text_found, as_argument, asks, asks_at, begun_at}
 
@@ -110,10 +109,10 @@ module _ (e : Env) where
   unfolding means
   chars_is p text = ap (λ x. (sense e x).value) (sym (v.rolls-Chars p text)) ∙ ap (λ m. m.value) (rolled (o.Chars p text))
 
-  pub set_is : (p : Place) (q : Option Qualident) (xs : List Range) → means e (v.SetOf p q xs) ≡ not_built p (after (set_sort e q) (λ t. after (elements_mean e xs) (set_node e.types p t)))
+  pub set_is : (p : Place) (q : Option Qualident) (xs : List Range) → means e (v.SetOf p q xs) ≡ after (set_sort e q) (λ t. after (elements_mean e xs) (set_node e.types p t))
   unfolding means
   set_is p q xs = ap (λ x. (sense e x).value) (sym (v.rolls-SetOf p q xs)) ∙ (ap (λ m. m.value) (rolled (o.SetOf p q xs))
-      ∙ (λ j. not_built p (after (set_sort e q) (λ t. after (walk_map (λ es j. j es) (joins e) (Some no_elements) xs j) (set_node e.types p t)))))
+      ∙ (λ j. after (set_sort e q) (λ t. after (walk_map (λ es j. j es) (joins e) (Some no_elements) xs j) (set_node e.types p t))))
 
   pub desig_is : (p : Place) (d : Designator) → means e (v.Desig p d) ≡ after (reach_means e p d) value_node
   unfolding means reach_means

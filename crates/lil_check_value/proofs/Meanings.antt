@@ -1,8 +1,7 @@
 -- What calls say of the forms, from what they say of the parts.
-use Rattle.std.proofs.Common.{◌≡◌, ◌∷◌, ◌++◌, ℕ, Bool, true, false, List, [], Option, Some, None, Result, Ok, IfOk, pos, subst, ap, ◌∙◌, ◌≢◌, length}
+use Rattle.std.proofs.Common.{◌≡◌, ◌∷◌, ◌++◌, ℕ, Bool, false, List, [], Option, Some, None, Result, Ok, IfOk, pos, subst, ap, ◌∙◌, ◌≢◌, length}
 use Rattle.std.proofs.lemmas.Result.{IfOk-at_ok}
 use Rattle.lil_base.specs.declared.fault.Place.{Place}
-use Rattle.lil_base.specs.declared.fault.FaultKind.TheVariants.{NotBuilt}
 use Rattle.lil_base.specs.declared.operator.OneOp.{OneOp}
 use Rattle.lil_text.specs.declared.tree.Ident.{Ident}
 use Rattle.lil_text.specs.declared.tree.Qualident.{Qualident}
@@ -16,7 +15,7 @@ use Rattle.lil_language.specs.declared.tree.Range.{Range, out-Range}
 use Rattle.lil_types.specs.Types.{char}
 use Rattle.lil_module.specs.declared.tree.RStmt.{RStmt}
 use Rattle.lil_report.specs.declared.report.Fault.{Fault}
-use Rattle.lil_report.specs.Told.{Said, walk, row, noted}
+use Rattle.lil_report.specs.Told.{Said, walk}
 use Rattle.lil_report.specs.Laws.{said_as, said_to, said_value, said_after, said_map}
 use Rattle.lil_scope.specs.declared.thing.Kind.TheVariants as k
 use Rattle.lil_scope.specs.declared.env.Env.{Env}
@@ -35,7 +34,6 @@ use Rattle.lil_check_value.specs.Uses.{value_node, variable_node, callee_node, t
 use Rattle.lil_operators.specs.Operations.{one_node, begun, two_node, chain_found}
 use Rattle.lil_operators.specs.Sets.{set_node, joined_one, joined_range}
 use Rattle.lil_check_value.specs.SetTypes.{set_sort}
-use Rattle.lil_check_value.specs.Unbuilt.{said_not_built}
 use Rattle.lil_check_value.specs.Values.{step, joins, means, typed_means, variable_means, call_means, reach_means, index_means, step_means, operation_means, elements_mean, argument_in, argument_means, arguments_mean, begins, text_found, asks, asks_at, begun_at}
 use Rattle.lil_check_value.proofs.Forms as f
 
@@ -101,9 +99,9 @@ module _ (e : Env) {r : Option Fault} where
     pub is_chars : {p : Place} {text : List ℕ} {a : Found} → of ≡ v.Chars p text → a ≡ text_found p text → Said (means e of) r (Some a) r
     is_chars {p = p} {text = text} is h = said_as (ap (means e) is ∙ f.chars_is e p text) (said_value (ap Some h))
 
-    pub is_set : {p : Place} {q : Option Qualident} (xs : List Range) {t : Option ℕ} {es : Option Elements} {a : Option Found} {o s u w' : Option Fault} → of ≡ v.SetOf p q xs
-        → o ≡ noted r (row true p NotBuilt) → Said (set_sort e q) o t s → Said (elements_mean e xs) s es u → Said (set_node e.types p t es) u a w' → Said (means e of) r a w'
-    is_set {p = p} {q = q} xs is note h g l = said_as (ap (means e) is ∙ f.set_is e p q xs) (said_not_built p note (said_after _ _ h (said_after _ _ g l)))
+    pub is_set : {p : Place} {q : Option Qualident} (xs : List Range) {t : Option ℕ} {es : Option Elements} {a : Option Found} {s u w' : Option Fault} → of ≡ v.SetOf p q xs
+        → Said (set_sort e q) r t s → Said (elements_mean e xs) s es u → Said (set_node e.types p t es) u a w' → Said (means e of) r a w'
+    is_set {p = p} {q = q} xs is h g l = said_as (ap (means e) is ∙ f.set_is e p q xs) (said_after _ _ h (said_after _ _ g l))
 
     pub is_desig : {p : Place} (d : Designator) {o : Option Reached} {a : Option Found} {s t : Option Fault} → of ≡ v.Desig p d → Said (reach_means e p d) r o s → Said (value_node o) s a t → Said (means e of) r a t
     is_desig {p = p} d is h g = said_as (ap (means e) is ∙ f.desig_is e p d) (said_after _ _ h g)

@@ -35,7 +35,6 @@ use Rattle.lil_check_value.specs.Uses.{value_node, variable_node, callee_node, t
 use Rattle.lil_operators.specs.Operations.{one_node, begun, two_node, chain_found}
 use Rattle.lil_operators.specs.Sets.{no_elements, joined_one, joined_range, set_node}
 use Rattle.lil_check_value.specs.SetTypes.{set_sort}
-use Rattle.lil_check_value.specs.Unbuilt.{not_built}
 
 -- An expression means a value, and something as an argument where a type's name may stand. A selector leads from what is
 -- reached to what it selects. A designator has its first token, and reaches something, where it or its expression begins at
@@ -118,8 +117,7 @@ abbrev pub expression_layer : Env → Expr-F Sense Step Way Operates Joins → S
 expression_layer e (x.Whole p n) = of_value (Some (constant_found p (k.Whole (pos n))), [])
 expression_layer e (x.Code p c) = of_value (Some (constant_found p (k.Scalar char c)), [])
 expression_layer e (x.Chars p text) = of_value (Some (text_found p text), [])
--- 90 NotBuilt
-expression_layer e (x.SetOf p q rs) = of_value (not_built p (after (set_sort e q) (λ s. after (walk (λ es j. j es) (Some no_elements) rs) (set_node e.types p s))))
+expression_layer e (x.SetOf p q rs) = of_value (after (set_sort e q) (λ s. after (walk (λ es j. j es) (Some no_elements) rs) (set_node e.types p s)))
 expression_layer e (x.Desig p d) = record { value = after (d.reach p) value_node; typed = after (d.reach p) (typed_node p) }
 expression_layer e (x.Call p d xs) = of_value (called e p d xs)
 expression_layer e (x.One p op at a) = of_value (after a.value (one_node e.types p op at))

@@ -6,7 +6,7 @@ use crate::asked::{Asked, asks, asks_at};
 use crate::designators::{Reached, field_node, follow_node, index_node, root};
 use crate::set_types::set_sort;
 use crate::uses::{callee_node, typed_node, value_node, variable_node};
-use lil_base::{Boxed, FaultKind, Items, Memory, Place, Text, beside};
+use lil_base::{Boxed, Items, Memory, Place, Text, beside};
 use lil_call::{Argument, called, stated};
 use lil_kinds::Found;
 use lil_language::{Designator, Expr, Operation, Range, Selector};
@@ -288,7 +288,6 @@ pub fn expression(
         }
         Expr::Chars(first, text) => Ok(Some(text_found(alloc, *first, text)?)),
         Expr::SetOf(first, name, ranges) => {
-            report.note(true, *first, FaultKind::NotBuilt);
             let sort = set_sort(env, report, name);
             let all = elements(alloc, env, report, ranges.as_slice())?;
             let value = set_node(alloc, &env.types, report, *first, sort, all)?;

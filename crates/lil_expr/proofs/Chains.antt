@@ -15,6 +15,7 @@ use Rattle.lil_labels.specs.declared.buffer.Aim.TheVariants as aim
 use Rattle.lil_labels.specs.Drafts.{Draft, Emits, Nothing, Doing, DoingAll, Makes, Places, aimed}
 use Rattle.lil_labels.specs.Emitting.{emits_none, emits_then, emits_as, emits_here, emits_fresh}
 use Rattle.lil_expr.specs.Generating.{Value, Operating, OperatingAll, aim_of}
+use Rattle.lil_expr.proofs.Operators.{two_right}
 
 chained_more : (a : Expression) (fs : List (Expression → Expression)) (f : Expression → Expression) → chained a (fs ++ f ∷ []) ≡ f (chained a fs)
 chained_more a [] f = refl
@@ -89,6 +90,6 @@ two_operation o k c0 c1 c2 known typed right by =
       right_typed = sound.2;
       first = value sound.3;
       second = t.0 sound.4;
-      by = subst (λ (is : List Instr). InstrsAt x.code is (length c1.bytes) (length c2.bytes)) (ap (two_code operator) (typed ∙ sound.2)) t.1;
+      by = subst (λ (is : List Instr). InstrsAt x.code is (length c1.bytes) (length c2.bytes)) (ap (two_code operator) (typed ∙ sound.2) ∙ two_right operator (kind_of a)) t.1;
     }))
     (emits_then c0 c1 c2 _ _ right by)

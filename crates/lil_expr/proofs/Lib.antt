@@ -1,5 +1,6 @@
 pub mod Operators
 pub mod Forms
 pub mod Chains
+pub mod Sets
 pub mod Tables
 pub mod Placing

@@ -4,11 +4,13 @@ use Rattle.lil_base.specs.declared.operator.TwoOp.{TwoOp}
 use Rattle.lil_base.specs.declared.operator.TwoOp.TheVariants.{Or, And}
 use Rattle.lil_resolved.specs.declared.resolved.ROperation.{ROperation}
 use Rattle.lil_resolved.specs.declared.resolved.RSelector.{RSelector}
+use Rattle.lil_resolved.specs.declared.resolved.RMember.{RMember}
+use Rattle.lil_resolved.specs.Kinds.{Kind}
 use Rattle.lil_resolved.specs.Shapes.{words, is_there, shape_at}
-use Rattle.lil_resolved.specs.Resolved.{Designator, Expression, shape_of}
+use Rattle.lil_resolved.specs.Resolved.{Designator, Expression, kind_of, shape_of}
 use Rattle.lil_resolved.specs.Sound.{IsSoundPlace, IsSoundExpression}
-use Rattle.lil_resolved.specs.Views.{chained, operation_of, selector_of, shapes_of}
-use Rattle.lil_table.specs.Rows.{Access, access_of, PlaceAt, ExpressionAt}
+use Rattle.lil_resolved.specs.Views.{chained, operation_of, selector_of, member_of, with_members, shapes_of}
+use Rattle.lil_table.specs.Rows.{InstrsAt, test_code, Access, access_of, PlaceAt, ExpressionAt}
 use Rattle.lil_labels.specs.declared.buffer.Aim.{Aim}
 use Rattle.lil_labels.specs.declared.buffer.Aim.TheVariants as aim
 use Rattle.lil_labels.specs.Drafts.{Final, Meaning}
@@ -17,6 +19,23 @@ use Rattle.lil_expr.specs.Accesses.{words_in}
 -- a sound expression has its code
 abbrev pub Value : Expression → Meaning
 Value e x p q = IsSoundExpression x.layout.shapes e → ExpressionAt x.layout x.code e p q
+
+-- a value and its test, where one of a kind is wanted
+pub record TestedAt (k : Kind) (e : Expression) (x : Final) (p q : ℕ) : Type 0 where
+  pub middle : ℕ
+  pub value : ExpressionAt x.layout x.code e p middle
+  pub test : InstrsAt x.code (test_code k (kind_of e)) middle q
+
+-- a sound value has its code and its test
+abbrev pub Tested : Kind → Expression → Meaning
+Tested k e x p q = IsSoundExpression x.layout.shapes e → TestedAt k e x p q
+
+-- behind the code of any set, it makes it that of the set with the member too, or with all
+abbrev pub Joining : Kind → RMember → Meaning
+Joining k m x p q = (start : ℕ) (s : Expression) → Value s x start p → Value (member_of m k s) x start q
+
+abbrev pub JoiningAll : Kind → List RMember → Meaning
+JoiningAll k ms x p q = (start : ℕ) (s : Expression) → Value s x start p → Value (with_members k s (map member_of ms)) x start q
 
 -- behind the code of any value, it makes it that of the operation's value, or of the last
 abbrev pub Operating : ROperation → Meaning

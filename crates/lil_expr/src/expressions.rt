@@ -3,11 +3,11 @@
 ghost use Rattle.std.specs.Prelude.{◌≡◌, IfOk, OnOk};
 ghost use Rattle.lil_base.specs.Words as words;
 ghost use Rattle.lil_resolved.specs.Kinds.{OfWhole};
-ghost use Rattle.lil_resolved.specs.Views.{base_view, expression_of, place_of};
-ghost use Rattle.lil_table.specs.Rows.{two_code, one_code};
+ghost use Rattle.lil_resolved.specs.Views.{base_view, kind_view, expression_of, place_of};
+ghost use Rattle.lil_table.specs.Rows.{two_code, one_code, number_code, set_code};
 ghost use Rattle.lil_labels.specs.Drafts.{DoingAll, Emits};
 ghost use Rattle.lil_expr.specs.Accesses.{access_view};
-ghost use Rattle.lil_expr.specs.Generating.{Found, Selecting, Value, Operating, OperatingAll, aim_of};
+ghost use Rattle.lil_expr.specs.Generating.{Found, Selecting, Value, Tested, Joining, JoiningAll, Operating, OperatingAll, aim_of};
 
 use crate::functions::emit_function;
 use crate::numbers::constant_word;
@@ -16,7 +16,9 @@ use crate::ranges::{emit_test, least_word};
 use lil_asm::Instr;
 use lil_base::Memory;
 use lil_labels::{Aim, CodeBuffer};
-use lil_resolved::{OneOp, RBase, RExpr, ROperation, RPlace, RSelector, TwoOp, base};
+use lil_resolved::{
+    OneOp, RBase, RExpr, RKind, RMember, ROperation, RPlace, RSelector, TwoOp, base,
+};
 
 /// Appends the code that leaves an expression's value on the expression stack.
 #[cycle(emitting)]
@@ -40,6 +42,10 @@ pub fn emit_expression(code: &mut CodeBuffer<'_>, e: &RExpr) -> Result<(), Memor
         RExpr::Apply(function, value) => {
             emit_expression(code, value.get())?;
             emit_function(code, *function, base(value.get()))
+        }
+        RExpr::Set(kind, members) => {
+            code.put(Instr::Liw(0))?;
+            emit_members(code, *kind, members.as_slice())
         }
     }
 }
@@ -94,6 +100,46 @@ fn emit_selector(
     }
 }
 
+/// Appends the code of the members of a set, numbers of a kind, each of which joins the set that stands on the expression
+/// stack before it.
+#[cycle(emitting)]
+fn emit_members(code: &mut CodeBuffer<'_>, kind: RKind, members: &[RMember]) -> Result<(), Memory>
+    ensures { OnOk result (Emits code.old code.new (JoiningAll (kind_view kind) members.now)) }
+{
+    for member in members {
+        emit_member(code, kind, member)?;
+    }
+    Ok(())
+}
+
+/// Appends the code of a member: the first number and the last, each with its test, and the instruction that puts all from
+/// one to the other into the set. A single number is both.
+#[cycle(emitting)]
+fn emit_member(code: &mut CodeBuffer<'_>, kind: RKind, member: &RMember) -> Result<(), Memory>
+    ensures { OnOk result (Emits code.old code.new (Joining (kind_view kind) member.now)) }
+{
+    match member {
+        RMember::Single(value) => {
+            emit_tested(code, kind, value)?;
+            code.put_all(&[Instr::Dup, Instr::Spn])
+        }
+        RMember::Span(low, high) => {
+            emit_tested(code, kind, low)?;
+            emit_tested(code, kind, high)?;
+            code.put(Instr::Spn)
+        }
+    }
+}
+
+/// Appends the code of a value where one of a kind is wanted, and its test.
+#[cycle(emitting)]
+fn emit_tested(code: &mut CodeBuffer<'_>, kind: RKind, value: &RExpr) -> Result<(), Memory>
+    ensures { OnOk result (Emits code.old code.new (Tested (kind_view kind) (expression_of value.now))) }
+{
+    emit_expression(code, value)?;
+    emit_test(code, kind, base(value))
+}
+
 /// Appends the code of operations, each on the value that stands on the expression stack before it.
 #[cycle(emitting)]
 fn emit_operations(code: &mut CodeBuffer<'_>, operations: &[ROperation]) -> Result<(), Memory>
@@ -118,7 +164,7 @@ fn emit_operation(code: &mut CodeBuffer<'_>, operation: &ROperation) -> Result<(
             emit_expression(code, &operation.operand)?;
             code.here(end)
         }
-        // the operand has the kind of the value before it
+        // the operand has the kind of the value before it, or is the set of IN
         None => {
             emit_expression(code, &operation.operand)?;
             emit_two(code, operation.operator, base(&operation.operand))
@@ -148,12 +194,16 @@ fn emit_one(code: &mut CodeBuffer<'_>, operator: OneOp) -> Result<(), Memory>
     }
 }
 
-/// Appends the instructions of an operator on two values of a base.
-#[tactic(auto, using(crate::proofs::Operators::two_same))]
+/// Appends the instructions of an operator on two values of a base, and of IN on one and a set.
+#[tactic(auto, using(crate::proofs::Operators::two_by_numbers, crate::proofs::Operators::two_by_sets))]
 fn emit_two(code: &mut CodeBuffer<'_>, operator: TwoOp, base: RBase) -> Result<(), Memory>
     ensures { OnOk result (Emits code.old code.new (DoingAll (two_code operator (base_view base)))) }
 {
+    if operator == TwoOp::In {
+        return code.put_all(&[Instr::Sin]);
+    }
     match base {
+        RBase::Set => emit_set(code, operator),
         RBase::Integer => emit_integer(code, operator),
         RBase::Cardinal | RBase::Truth | RBase::Character | RBase::Enumeration(_) => {
             emit_cardinal(code, operator)
@@ -161,8 +211,26 @@ fn emit_two(code: &mut CodeBuffer<'_>, operator: TwoOp, base: RBase) -> Result<(
     }
 }
 
+/// Appends the instructions of an operator on two sets.
+fn emit_set(code: &mut CodeBuffer<'_>, operator: TwoOp) -> Result<(), Memory>
+    ensures { OnOk result (Emits code.old code.new (DoingAll (set_code operator))) }
+{
+    match operator {
+        TwoOp::Equal => code.put_all(&[Instr::Equ]),
+        TwoOp::Unequal => code.put_all(&[Instr::Neq]),
+        TwoOp::AtMost => code.put_all(&[Instr::Sle]),
+        TwoOp::AtLeast => code.put_all(&[Instr::Swp, Instr::Sle]),
+        TwoOp::Plus => code.put_all(&[Instr::Uni]),
+        TwoOp::Minus => code.put_all(&[Instr::Dif]),
+        TwoOp::Times => code.put_all(&[Instr::Its]),
+        TwoOp::Slash => code.put_all(&[Instr::Sym]),
+        _ => Ok(()),
+    }
+}
+
+/// Appends the instructions of an operator on two numbers that are compared as CARDINALs.
 fn emit_cardinal(code: &mut CodeBuffer<'_>, operator: TwoOp) -> Result<(), Memory>
-    ensures { OnOk result (Emits code.old code.new (DoingAll (two_code operator (OfWhole words.Cardinal)))) }
+    ensures { OnOk result (Emits code.old code.new (DoingAll (number_code operator words.Cardinal))) }
 {
     match operator {
         TwoOp::Equal => code.put_all(&[Instr::Equ]),
@@ -180,8 +248,9 @@ fn emit_cardinal(code: &mut CodeBuffer<'_>, operator: TwoOp) -> Result<(), Memor
     }
 }
 
+/// Appends the instructions of an operator on two INTEGERs.
 fn emit_integer(code: &mut CodeBuffer<'_>, operator: TwoOp) -> Result<(), Memory>
-    ensures { OnOk result (Emits code.old code.new (DoingAll (two_code operator (OfWhole words.Integer)))) }
+    ensures { OnOk result (Emits code.old code.new (DoingAll (number_code operator words.Integer))) }
 {
     match operator {
         TwoOp::Equal => code.put_all(&[Instr::Equ]),

@@ -43,6 +43,6 @@ fn emit_abs(code: &mut CodeBuffer<'_>, from: RBase) -> Result<(), Memory>
 {
     match from {
         RBase::Integer => code.put_all(&[Instr::Abi]),
-        RBase::Cardinal | RBase::Truth | RBase::Character | RBase::Enumeration(_) => Ok(()),
+        _ => Ok(()),
     }
 }

@@ -19,7 +19,7 @@ fn base_least(base: RBase) -> i32
 {
     match base {
         RBase::Integer => -32_768,
-        RBase::Cardinal | RBase::Truth | RBase::Character | RBase::Enumeration(_) => 0,
+        _ => 0,
     }
 }
 
@@ -29,7 +29,7 @@ fn base_greatest(base: RBase) -> i32
     ensures word { result ≤ℤ pos 65535 }
 {
     match base {
-        RBase::Cardinal => 65_535,
+        RBase::Cardinal | RBase::Set => 65_535,
         RBase::Integer => 32_767,
         RBase::Truth => 1,
         RBase::Character => 255,
@@ -112,9 +112,7 @@ fn range_test(from: RBase, range: RRange) -> Instr
     let high = word_of_number(range.high);
     match from {
         RBase::Integer => Instr::Rgi(low, high),
-        RBase::Cardinal | RBase::Truth | RBase::Character | RBase::Enumeration(_) => {
-            Instr::Rgc(low, high)
-        }
+        _ => Instr::Rgc(low, high),
     }
 }
 

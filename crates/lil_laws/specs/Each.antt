@@ -3,9 +3,9 @@ use Rattle.std.proofs.Common.{◌≡◌, ℕ, ◌+◌, true, List, [], ◌∷◌
 use Rattle.std.specs.Prelude.{ℤ}
 use Rattle.lil_resolved.specs.Kinds.{Kind}
 use Rattle.lil_resolved.specs.Scalars.{Scalar, within}
-use Rattle.lil_resolved.specs.Resolved.{Designator, Variable, Field, Element, Expression, Constant, Taken, One, Two, Short, Apply, Assign, Copy, Change, Request, If, Case, While, Repeat, Loop, Exit, Halt, Return, For, Statements}
+use Rattle.lil_resolved.specs.Resolved.{Designator, Variable, Field, Element, Expression, Constant, Taken, One, Two, Short, Apply, With, WithSpan, Assign, Copy, Change, Member, Request, If, Case, While, Repeat, Loop, Exit, Halt, Return, For, Statements}
 use Rattle.lil_meaning.specs.Cells.{Place}
-use Rattle.lil_meaning.specs.Items.{Scalars, Places, Wholes, Opens, Hole, Get, Part, IndexBy, IndexAt, SetTo, StoreAt, CopyTo, CopyFrom, ChangeBy, ChangeAt, OneOf, LeftOf, RightOf, ShortOf, ApplyTo, Pass, Choose, Turn, Again, Pick, StartOf, LimitOf, Task, Do, Passing, Until, Looping, Turns, End, Item, Value, Evaluate, PlaceOf, Fill, Perform, Source}
+use Rattle.lil_meaning.specs.Items.{Scalars, Places, Wholes, Opens, Hole, Get, Part, IndexBy, IndexAt, SetTo, StoreAt, CopyTo, CopyFrom, ChangeBy, ChangeAt, OneOf, LeftOf, RightOf, ShortOf, ApplyTo, WithMember, MemberOf, WithMembers, MembersFrom, MembersTo, MemberBy, MemberAt, Pass, Choose, Turn, Again, Pick, StartOf, LimitOf, Task, Do, Passing, Until, Looping, Turns, End, Item, Value, Evaluate, PlaceOf, Fill, Perform, Source}
 use Rattle.lil_resolved.specs.Shapes.{Shape}
 use Rattle.lil_mcode.specs.State.{State}
 use Rattle.lil_mcode.specs.Table.{going}
@@ -16,10 +16,12 @@ use Rattle.lil_match.specs.Waits.{Setting, frame_of, Mode, Quiet, ValueOf, AtPla
 use Rattle.lil_match.specs.Steps.{jumped}
 use Rattle.lil_laws_place.specs.Elements.{variable_goes, field_goes, element_goes, part_goes, index_by_goes, index_at_goes}
 use Rattle.lil_laws_expr.specs.Expressions.{constant_goes, taken_goes, one_goes, two_goes, short_begins, apply_goes, get_goes, one_of_goes, left_goes, right_goes, short_of_goes, apply_of_goes}
+use Rattle.lil_laws_expr.specs.Sets.{with_goes, with_span_goes, with_member_goes, member_of_goes, with_members_goes, members_from_goes, members_to_goes}
 use Rattle.lil_laws_stmt.specs.Tasks.{copy_goes, copy_to_goes, copy_from_goes, assign_goes, set_goes, store_goes, request_goes, passing_goes, pass_goes, serve_goes}
 use Rattle.lil_laws_stmt.specs.Control.{if_goes, choose_goes, while_goes, turn_goes, repeat_goes, until_goes, again_goes, loop_goes, looping_goes}
 use Rattle.lil_laws_stmt.specs.Changes.{change_goes, change_by_goes, change_at_goes}
 use Rattle.lil_laws_stmt.specs.Exits.{exit_goes}
+use Rattle.lil_laws_stmt.specs.Members.{member_goes, member_by_goes, member_at_goes}
 use Rattle.lil_laws_stmt.specs.Ends.{halt_goes, return_goes, end_goes, ended_goes}
 use Rattle.lil_laws_stmt.specs.Cases.{case_goes, pick_goes}
 use Rattle.lil_laws_stmt.specs.Fors.{for_goes, start_goes, limit_goes, next_goes}
@@ -47,6 +49,12 @@ module _ (ctx : Setting) where
     scalar_step v (RightOf o j u) kind fits below is r = right_goes ctx s k m c a shared o j u v kind fits below is r
     scalar_step v (ShortOf d f) kind fits below is r = short_of_goes ctx s k m c a shared d f v kind fits below is r
     scalar_step v (ApplyTo f) kind fits below is r = apply_of_goes ctx s k m c a shared f v kind fits below is r
+    scalar_step v (WithMember j f) kind fits below is r = with_member_goes ctx s k m c a shared v kind fits below is j f r
+    scalar_step v (MemberOf u j) kind fits below is r = member_of_goes ctx s k m c a shared v kind fits below is u j r
+    scalar_step v (WithMembers j f g) kind fits below is r = with_members_goes ctx s k m c a shared v kind fits below is j f g r
+    scalar_step v (MembersFrom u j f) kind fits below is r = members_from_goes ctx s k m c a shared v kind fits below is u j f r
+    scalar_step v (MembersTo u j low) kind fits below is r = members_to_goes ctx s k m c a shared v kind fits below is u j low r
+    scalar_step v (MemberAt out place j) kind fits below is r = member_at_goes ctx s k m c a shared out place j v kind fits below is r
     scalar_step v (Pass q j done left) kind fits below is r = pass_goes ctx s k m c a shared q j done left v kind fits below is r
     scalar_step v (Choose first second) kind fits below is r = choose_goes ctx s k m c a shared first second v kind fits below is r
     scalar_step v (Turn e body) kind fits below is r = turn_goes ctx s k m c a shared e body v kind fits below is r
@@ -65,6 +73,7 @@ module _ (ctx : Setting) where
     place_step place (SetTo j e) b t below has r = set_goes ctx s k m c a shared j e place b t below has r
     place_step place (CopyTo from) b t below has r = copy_to_goes ctx s k m c a shared from place b t below has r
     place_step place (CopyFrom to) b t below has r = copy_from_goes ctx s k m c a shared to place b t below has r
+    place_step place (MemberBy out j e) b t below has r = member_by_goes ctx s k m c a shared out j e place b t below has r
     place_step place (ChangeBy down j e) b t below has r = change_by_goes ctx s k m c a shared down j e place b t below has r
     place_step place o b t below has r = absurd r.part
 
@@ -80,11 +89,14 @@ module _ (ctx : Setting) where
     expression_step (Two o kind e f) r = two_goes ctx s k m c a shared o kind e f r
     expression_step (Short d e f) r = short_begins ctx s k m c a shared d e f r
     expression_step (Apply f e) r = apply_goes ctx s k m c a shared f e r
+    expression_step (With e kind f) r = with_goes ctx s k m c a shared e kind f r
+    expression_step (WithSpan e kind f g) r = with_span_goes ctx s k m c a shared e kind f g r
 
     task_step : (t : Task) → ItemWaits ctx (Perform t) k (RowsOf k) Quiet m.place m.stack c a → Goes ctx s (Perform t ∷ k) m (c + 32)
     task_step (Do (Assign d kind e)) r = assign_goes ctx s k m c a shared d kind e r
     task_step (Do (Copy d from)) r = copy_goes ctx s k m c a shared d from r
     task_step (Do (Change down d kind e)) r = change_goes ctx s k m c a shared down d kind e r
+    task_step (Do (Member out d kind e)) r = member_goes ctx s k m c a shared out d kind e r
     task_step (Do (Request q given)) r = request_goes ctx s k m c a shared q given r
     task_step (Do (If e first second)) r = if_goes ctx s k m c a shared e first second r
     task_step (Do (Case e arms)) r = case_goes ctx s k m c a shared e arms r

@@ -1,5 +1,5 @@
 -- The machine after modules were loaded: their data from word 1 one behind another, and the first body begun.
-use Rattle.std.specs.Prelude.{◌≡◌, true, ℕ, zero, suc, ◌+◌, List, [], ◌∷◌, map, Option, None, Some, slice_get}
+use Rattle.std.specs.Prelude.{◌≡◌, true, ℕ, suc, ◌+◌, List, [], ◌∷◌, Option, None, Some, slice_get}
 use Rattle.lil_resolved.specs.Shapes.{all_words}
 use Rattle.lil_resolved.specs.Resolved.{Resolved}
 use Rattle.lil_mcode.specs.State.{Module, State, spliced, zeros, cleared}

@@ -1,16 +1,19 @@
 -- Where the variables of loaded modules lie, and that their fresh cells are there.
 use Rattle.std.proofs.Common.{◌≡◌, ℕ, zero, suc, ◌+◌, ◌-◌, ◌<◌, ◌≤◌, true, cond, Option, Some, None, List, [], ◌∷◌, length, map, get_or, refl, sym, ap, ◌∙◌, subst, arith, ◌⊎◌, ⊎_elim}
 use Rattle.std.specs.Prelude.{pos, slice_get, nat_lt, option_map, option_and_then}
-use Rattle.std.proofs.lemmas.Bool.{le-ltb, lt-ltb, cases_lt}
+use Rattle.std.proofs.lemmas.Bool.{le-ltb, lt-ltb, cases_lt, eqb-true}
 use Rattle.std.proofs.lemmas.Int.{ints}
 use Rattle.std.proofs.lemmas.Option.{slice_get-map}
 use Rattle.lil_base.specs.Words.{Cardinal, between}
-use Rattle.lil_resolved.specs.Kinds.{Kind, OfWhole, OfEnumeration, OfRange, base_of}
+use Rattle.lil_resolved.specs.Kinds.{Kind, OfWhole, OfEnumeration, OfSet, OfRange, base_of}
+use Rattle.lil_base.specs.Sets.{set_word}
+use Rattle.lil_resolved.specs.Members.{no_members}
+use Rattle.lil_resolved.specs.MemberLaws.{word_none}
 use Rattle.lil_resolved.specs.Scalars.{within, scalar_word, zero_of}
-use Rattle.lil_resolved.specs.Shapes.{Shape, Word, words, is_there, all_words, part_at, offset, offsets_from, shape_by, shape_at}
+use Rattle.lil_resolved.specs.Shapes.{Shape, words, is_there, all_words, part_at, offset, offsets_from, shape_at}
 use Rattle.lil_resolved.specs.Resolved.{Resolved}
 use Rattle.lil_meaning.specs.Cells.{Root, Global, Local, Object, loaded_at, variables_of, first_shape, zero_in, fresh_cells}
-use Rattle.lil_mcode.specs.State.{Module, zeros, cleared, spliced}
+use Rattle.lil_mcode.specs.State.{zeros, cleared}
 use Rattle.lil_match.specs.Parts.{yes, no, part_fits, word_long}
 use Rattle.lil_match.specs.Homes.{word_for, plain_word, Owner, Of, Own, Free, Home, Mem}
 use Rattle.lil_match.specs.Splices.{spliced_length, spliced_before, spliced_there, spliced_after, zeros_length, zeros_word}
@@ -166,6 +169,7 @@ zeros_blank = record { long = zeros_length 65536; zero_at = λ a less. zeros_wor
 -- ---- zero as a word
 zero_word : (k : Kind) → scalar_word (zero_of k) ≡ 0
 zero_word (OfRange k low high) = zero_word k
+zero_word OfSet = eqb-true (set_word no_members) 0 (word_none no_members)
 zero_word _ = refl
 
 zero_constant : (n : ℕ) → between (pos 0) (pos 0) (pos n) ≡ true

@@ -1,9 +1,9 @@
 -- From loaded modules, whose bodies run one behind another.
-use Rattle.std.proofs.Common.{◌≡◌, ℕ, zero, suc, ◌+◌, ◌-◌, ◌*◌, ◌<◌, ◌≤◌, Bool, true, Option, Some, None, List, [], ◌∷◌, length, map, get_or, refl, sym, ap, ◌∙◌, subst, arith}
+use Rattle.std.proofs.Common.{◌≡◌, ℕ, zero, suc, ◌+◌, ◌-◌, ◌*◌, ◌<◌, ◌≤◌, true, Option, Some, None, List, [], ◌∷◌, length, map, get_or, refl, sym, ap, ◌∙◌, subst, arith}
 use Rattle.std.specs.Prelude.{slice_get, option_map}
 use Rattle.std.proofs.lemmas.Bool.{le-ltb}
 use Rattle.std.proofs.lemmas.Option.{same_Some}
-use Rattle.lil_resolved.specs.Shapes.{Shape, shape_by, shape_at}
+use Rattle.lil_resolved.specs.Shapes.{shape_by, shape_at}
 use Rattle.lil_resolved.specs.Resolved.{Resolved}
 use Rattle.lil_resolved.specs.Depth.{frame_words}
 use Rattle.lil_meaning.specs.Cells.{loaded_at, variables_of}
@@ -13,12 +13,12 @@ use Rattle.lil_meaning.specs.Steps.{owner_of, procedure_of, name_of}
 use Rattle.lil_meaning.specs.Runs.{begun, bodies, body_of, body_activations, src}
 use Rattle.lil_asm.specs.declared.instr.Instr.TheVariants.{Ent, Rtn}
 use Rattle.lil_mcode.specs.declared.machine.Event.TheVariants.{Went}
-use Rattle.lil_mcode.specs.State.{Module, State, spliced, zeros, cleared, first_entry}
+use Rattle.lil_mcode.specs.State.{State, zeros, cleared, first_entry}
 use Rattle.lil_mcode.specs.Table.{fetched, performed}
 use Rattle.lil_table.specs.Rows.{IsAt, layout_of}
 use Rattle.lil_match.specs.Running.{Run, mrun, running, advanced}
 use Rattle.lil_match.specs.Parts.{no}
-use Rattle.lil_match.specs.Homes.{Home, Mem}
+use Rattle.lil_match.specs.Homes.{Home}
 use Rattle.lil_match.specs.Goes.{IsKnown, EachComes, Shared, fits}
 use Rattle.lil_match.specs.Waits.{Frame, Setting, Quiet, outside, RowsOf, Rows, Ahead, Behind}
 use Rattle.lil_match.specs.Steps.{advances, at_once, rows_ahead}
@@ -26,7 +26,7 @@ use Rattle.lil_match.specs.Orders.{instr_within}
 use Rattle.lil_match.specs.Splices.{spliced_length, spliced_before, zeros_length}
 use Rattle.lil_laws_stmt.specs.Control.{body_rows}
 use Rattle.lil_laws.specs.Loading.{Compiled, text_of, data_end, entry_for, table_from, numbers_from, data_cleared, image}
-use Rattle.lil_laws.specs.Placing.{place_from, place_of, variable_from, text_at, table_there, variable_offset, IsBlank, data_blank, zeros_blank, home, owner_own, owner_free, mem}
+use Rattle.lil_laws.specs.Placing.{place_from, variable_from, text_at, table_there, variable_offset, IsBlank, data_blank, zeros_blank, home, owner_own, owner_free, mem}
 use Rattle.lil_laws.specs.Whole.{Unlimited, Agrees, still_agrees, follows, reaches}
 
 -- one of the modules, whose body runs

@@ -218,7 +218,7 @@ module _ (s : Scopes) where
   sort_layer_grown (o.ArrayOf p xs y) e h = array_grown e p xs (sense y.0).means y.1 h
   sort_layer_grown (o.RecordOf p fs) e h = keep_after PartGrown MadeGrown (fields_by (map fields_sense (map (λ e. e.0) fs)) (e, no_fields)) (λ q. form_node q.0 p (record_form q.1)) (lists_grown fs (e, no_fields) h)
       (λ q g. form_grown q.0 p (record_form q.1) g)
-  sort_layer_grown (o.SetOver p x) e h = built_grown MadeGrown p _ (set_grown e p x h)
+  sort_layer_grown (o.SetOver p x) e h = set_grown e p x h
   sort_layer_grown (o.PointerTo p y) e h = built_grown MadeGrown p _ (pointer_grown p (sense y.0).name (sense y.0).means y.1 e h)
   sort_layer_grown (o.ProcedureOf p fs q) e h = built_grown MadeGrown p _ (procedure_grown e p fs q h)
 

@@ -29,7 +29,7 @@ use Rattle.lil_laws_check.specs.Held.{Has, Is, Good, good_after, good_walk, neve
 use Rattle.lil_laws_check.specs.Known.{Whole}
 use Rattle.lil_laws_check.specs.Reaching.{Fine, root_good, field_good, index_good, follow_good}
 use Rattle.lil_laws_check.specs.Using.{value_good, callee_good, HasValue, typed_good, value_has, one_good, two_good, begun_good, chain_good}
-use Rattle.lil_laws_check.specs.SetLaws.{set_sort_good, one_joined, range_joined, set_good, unbuilt_good}
+use Rattle.lil_laws_check.specs.SetLaws.{set_sort_good, one_joined, range_joined, set_good}
 use Rattle.lil_laws_check.specs.CallLaws.{call_good}
 
 -- ---- what parts mean
@@ -153,7 +153,7 @@ module _ (e : Env) (whole : Whole e) where
   sense_there (x.Whole p n) h = of_value_good _ (λ c. tt)
   sense_there (x.Code p n) h = of_value_good _ (λ c. tt)
   sense_there (x.Chars p text) h = of_value_good _ (λ c. tt)
-  sense_there (x.SetOf p q rs) h = of_value_good _ (unbuilt_good Is p (after (set_sort e q) (λ s. after (walk (λ es j. j es) (Some no_elements) rs) (set_node e.types p s))) (set_means_good p q rs h))
+  sense_there (x.SetOf p q rs) h = of_value_good _ (set_means_good p q rs h)
   sense_there (x.Desig p d) h = record { value = good_after (Has Fine) Is (d.reach p) value_node (h p) value_good; typed = good_after (Has Fine) HasValue (d.reach p) (typed_node p) (h p) (typed_good p) }
   sense_there (x.Call p d xs) h = of_value_good _ (called_good p d xs h.0 h.1)
   sense_there (x.One p op at a) h = of_value_good _ (good_after Is Is a.value (one_node e.types p op at) h.value (λ a g. one_good e.types p op at a g))

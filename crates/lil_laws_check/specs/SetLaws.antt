@@ -5,7 +5,6 @@ use Rattle.lil_base.specs.declared.fault.Place.{Place}
 use Rattle.lil_text.specs.declared.tree.Qualident.{Qualident}
 use Rattle.lil_types.specs.Types.{Table}
 use Rattle.lil_module.specs.declared.tree.RElement.{RElement}
-use Rattle.lil_report.specs.Told.{Row}
 use Rattle.lil_scope.specs.declared.env.Env.{Env}
 use Rattle.lil_kinds.specs.declared.found.Found.{Found}
 use Rattle.lil_kinds.specs.Forms.{set_base}
@@ -15,7 +14,6 @@ use Rattle.lil_operators.specs.declared.sets.Tally.{Tally}
 use Rattle.lil_check_value.specs.Looks.{type_named}
 use Rattle.lil_operators.specs.Sets.{joined_one, joined_range, fits_base, operand_misses, operand_fits, operand_rows, no_tally, bounds_node, set_found, set_given, set_end, elements_tally, set_of, set_node}
 use Rattle.lil_check_value.specs.SetTypes.{is_no_set, sort_node, set_sort}
-use Rattle.lil_check_value.specs.Unbuilt.{not_built}
 use Rattle.lil_laws_check.specs.Clear.{Clear, clear_left, clear_right}
 use Rattle.lil_laws_check.specs.Held.{Is, Good, good_after, good_walk, held, both, never}
 use Rattle.lil_laws_check.specs.Known.{Whole, named_good}
@@ -84,8 +82,3 @@ pub set_good : (types : Table) (p : Place) (s : Option ℕ) (es : Option Element
 set_good types p None es h g = absurd h
 set_good types p (Some s) None h g = absurd g
 set_good types p (Some s) (Some es) h g = set_of_good types p s es
-
--- a phrase whose form isn't built has a row of its own beside those of its parts
-pub unbuilt_good : {A : Type 0} (P : A → Type 0) (p : Place) (m : A × List Row) → Good P m → Good P (not_built p m)
-unfolding not_built
-unbuilt_good P p m h c = h c.1

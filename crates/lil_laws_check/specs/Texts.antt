@@ -59,13 +59,12 @@ use Rattle.lil_operators.specs.declared.sets.Elements.{Elements}
 use Rattle.lil_operators.specs.Depths.{raised}
 use Rattle.lil_check_value.specs.Looks.{nearer, in_withs, nearest, looked_as, or_declared, look}
 use Rattle.lil_check_value.specs.Designators.{kind_by, name_node, root_means, record_kind, field_of, field_value, part_field, module_block, other_field_by, other_field, field_node, parts_of, index_fits, with_index, element_value, part_index, other_index, index_node, opaque_kind, target_of, target_value, part_follow, other_follow, follow_node}
-use Rattle.lil_operators.specs.Constants.{Meaning, constant_form, plain_found}
+use Rattle.lil_operators.specs.Constants.{constant_form, plain_found}
 use Rattle.lil_check_value.specs.Uses.{designator_of, routine_found, thing_found, named_value, value_node}
 use Rattle.lil_operators.specs.Operations.{one_value, one_applied, one_node, begun, two_chained, two_value, two_applied, two_node, chain_form, chain_found}
 use Rattle.lil_operators.specs.Sets.{no_elements, set_found, set_given, set_end, elements_tally, set_node}
 use Rattle.lil_check_value.specs.SetTypes.{set_sort}
 use Rattle.lil_operators.specs.declared.sets.Tally.{Tally}
-use Rattle.lil_check_value.specs.Unbuilt.{not_built}
 use Rattle.lil_check_value.specs.Values.{Sense, Way, Step, Operates, Joins, chars_of, begun_at, asks, given, call_of, called, expression_layer, index_step, selector_layer, designator_layer, operation_layer, range_layer, sense, step, way, operates, joins, means}
 use Rattle.lil_check_value.specs.Uses.{callee_node}
 use Rattle.lil_laws_check.specs.ConstLaws.{IsText, IfText}
@@ -301,10 +300,6 @@ set_no types p None es = tt
 set_no types p (Some s) None = tt
 set_no types p (Some s) (Some es) = always NoFound (elements_tally types s es.bounds) (set_end p s es.forms) (λ y. end_no p s es.forms y)
 
-built_text : (p : Place) (m : Meaning) → IfText m.0 → IfText (not_built p m).0
-unfolding not_built
-built_text p m h = h
-
 -- ---- calls
 applied_no : (p : Place) (of : Standard) (at : Place) (depth : ℕ) (xs : List RArgument) (x : Applied) → NoText x → NoFound (applied_node p of at depth xs x).0
 unfolding applied_node
@@ -464,8 +459,8 @@ module _ (e : Env) (whole : Sound e.scopes.blocks) where
   sense_text (x.Whole p n) h = tt
   sense_text (x.Code p c) h = tt
   sense_text (x.Chars p text) h = chars_form text (chars_of text)
-  sense_text (x.SetOf p q rs) h = built_text p _ (always IfText (set_sort e q) (λ s. after (walk (λ es j. j es) (Some no_elements) rs) (set_node e.types p s))
-      (λ s. always IfText (walk (λ es j. j es) (Some no_elements) rs) (set_node e.types p s) (λ es. found_text (set_node e.types p s es).0 (set_no e.types p s es))))
+  sense_text (x.SetOf p q rs) h = always IfText (set_sort e q) (λ s. after (walk (λ es j. j es) (Some no_elements) rs) (set_node e.types p s))
+      (λ s. always IfText (walk (λ es j. j es) (Some no_elements) rs) (set_node e.types p s) (λ es. found_text (set_node e.types p s es).0 (set_no e.types p s es)))
   sense_text (x.Desig p d) h = kept_after Reaching IfText (d.reach p) value_node (h p) (λ o k. value_text o k)
   sense_text (x.Call p d xs) h = called_text e p d xs
   sense_text (x.One p op at a) h = always IfText a.value (one_node e.types p op at) (λ a. one_text e.types p op at a)

@@ -1,6 +1,5 @@
 -- The rows of expressions: from a matched state the machine comes to a matched state.
-use Rattle.std.proofs.Common.{◌≡◌, ◌≢◌, ℕ, ◌+◌, ◌<◌, ◌≤◌, Bool, true, false, cond, Result, Ok, Err, List, [], ◌∷◌, length, get_or, refl, sym, ap, ◌∙◌, subst, arith}
-use Rattle.std.specs.Prelude.{slice_get}
+use Rattle.std.proofs.Common.{◌≡◌, ◌≢◌, ℕ, ◌+◌, ◌<◌, ◌≤◌, Bool, true, false, cond, Result, Ok, Err, List, [], ◌∷◌, length, refl, sym, ap, ◌∙◌, subst, arith}
 use Rattle.std.proofs.lemmas.Bool.{lt-ltb}
 use Rattle.lil_base.specs.declared.fault.TrapKind.{TrapKind}
 use Rattle.lil_base.specs.declared.operator.OneOp.{OneOp}
@@ -10,7 +9,7 @@ use Rattle.lil_resolved.specs.Kinds.{Kind, OfTruth, base_of}
 use Rattle.lil_resolved.specs.Scalars.{Scalar, Truth, within, scalar_word}
 use Rattle.lil_resolved.specs.Depth.{place_depth}
 use Rattle.lil_resolved.specs.Shapes.{Shape, Word}
-use Rattle.lil_resolved.specs.Resolved.{Designator, Variable, Field, Element, Function, Expression, Constant, Taken, One, Two, Short, Apply, kind_of, is_relation, result_kind, function_kind}
+use Rattle.lil_resolved.specs.Resolved.{Designator, Variable, Field, Element, Function, Expression, Constant, Taken, One, Two, Short, Apply, kind_of, is_relation, result_kind, right_kind, function_kind}
 use Rattle.lil_meaning.specs.Cells.{Place, got}
 use Rattle.lil_meaning.specs.Items.{Scalars, Places, Get, OneOf, LeftOf, RightOf, ShortOf, ApplyTo, Item, Value, Evaluate, PlaceOf, Fill, Going, Source}
 use Rattle.lil_meaning.specs.Steps.{next, answered, with_items, applied, one_applied, function_value, current}
@@ -19,7 +18,7 @@ use Rattle.lil_asm.specs.declared.instr.Instr.TheVariants.{Liw}
 use Rattle.lil_mcode.specs.declared.machine.Event.{Event}
 use Rattle.lil_mcode.specs.declared.machine.Event.TheVariants.{Went}
 use Rattle.lil_mcode.specs.State.{State}
-use Rattle.lil_mcode.specs.Table.{mstep, act, going, jump, push_row, on_one, and_row, or_row}
+use Rattle.lil_mcode.specs.Table.{mstep, act, going, jump, on_one, and_row, or_row}
 use Rattle.lil_table.specs.Rows.{InstrsAt, Access, load_code, one_code, two_code, function_code, short_code}
 use Rattle.lil_match.specs.Running.{running, react}
 use Rattle.lil_match.specs.Parts.{yes}
@@ -200,12 +199,12 @@ module _ (ctx : Setting) where
     pub right_goes : (o : TwoOp) (j : Kind) (u v : Scalar) (kind : Kind) → within kind v ≡ true → (below : List ℕ) → m.stack ≡ word_for h v ∷ below → Waiting ctx (Fill (RightOf o j u)) Rest (ValueOf kind) m.place below c a
         → Goes ctx s (Value (Scalars v) ∷ Fill (RightOf o j u) ∷ k) m (c + 32)
     right_goes o j u v kind fits below is row =
-        let good : within j v ≡ true = ap (λ (i : Kind). within i v) (sym row.part.same) ∙ fits in
+        let good : within (right_kind o j) v ≡ true = ap (λ (i : Kind). within i v) (sym row.part.same) ∙ fits in
         let items : List Item = Value (Scalars v) ∷ Fill (RightOf o j u) ∷ k in
         goes_more ctx s items m (c + length (two_code o j)) (c + 32)
         (instrs_go items (closed ctx k _ _ _ _ _ row.then) (applied o j u v) refl (result_kind (is_relation o) j) (two_fits o j u v row.part.takes row.part.fits good)
         row.part.end row.part.below row.then (two_code o j) m.place m.stack row.part.by
-        (two_gives own m row.part.below u v (is ∙ ap (λ (x : List ℕ). word_for h v ∷ x) row.part.is ∙ ap (λ (w : ℕ). w ∷ word_for h u ∷ row.part.below) (plain_word h j v good) ∙ ap (λ (w : ℕ). scalar_word v ∷ w ∷ row.part.below) (plain_word h j u row.part.fits)) o j row.part.takes row.part.fits good))
+        (two_gives own m row.part.below u v (is ∙ ap (λ (x : List ℕ). word_for h v ∷ x) row.part.is ∙ ap (λ (w : ℕ). w ∷ word_for h u ∷ row.part.below) (plain_word h (right_kind o j) v good) ∙ ap (λ (w : ℕ). scalar_word v ∷ w ∷ row.part.below) (plain_word h j u row.part.fits)) o j row.part.takes row.part.fits good))
         (omega (arith, (two_length o j row.part.takes).1))
 
     -- a standard function that has no code

@@ -5,32 +5,37 @@ use Rattle.std.proofs.lemmas.Bool.{and_parts}
 use Rattle.std.proofs.lemmas.Bool.Decides.{nat_tests}
 use Rattle.std.proofs.lemmas.Int.{ints, quot-rem}
 use Rattle.std.specs.Prelude.{ℤ, pos, negsuc, neg_ℤ, int_lt, int_rem, nat_le, ◌%◌, ◌-◌, ◌+◌}
-use Rattle.lil_base.specs.Words.{Whole, Cardinal, Integer, in_type, is_zero, kept, whole_rest, sum, difference, product, quotient, remainder, negation, absolute, number_of, word_of}
-use Rattle.lil_base.specs.Laws.{in_type_card, kept_in}
+use Rattle.lil_base.specs.Words.{Whole, Cardinal, Integer, least, greatest, in_type, is_zero, kept, whole_rest, sum, difference, product, quotient, remainder, negation, absolute, number_of, word_of}
+use Rattle.lil_base.specs.Laws.{in_type_card, kept_in, bounds}
 use Rattle.lil_base.specs.declared.fault.ArithFault.{ArithFault}
 use Rattle.lil_base.specs.declared.fault.TrapKind.{TrapKind}
 use Rattle.lil_base.specs.declared.fault.TrapKind.TheVariants as trap
 use Rattle.lil_base.specs.declared.operator.OneOp.{OneOp}
 use Rattle.lil_base.specs.declared.operator.OneOp.TheVariants as one
 use Rattle.lil_base.specs.declared.operator.TwoOp.{TwoOp}
-use Rattle.lil_base.specs.declared.operator.TwoOp.TheVariants.{Equal, Unequal, Less, AtMost, Greater, AtLeast, Plus, Minus, Times, Div, Mod}
-use Rattle.lil_resolved.specs.Kinds.{Kind, OfWhole, OfTruth, OfCharacter, OfEnumeration, base_of, is_base, is_whole, compared_as, shared, covers}
-use Rattle.lil_resolved.specs.Scalars.{Scalar, Truth, Character, Number, within, scalar_of, scalar_word, ordinal_of, truth_number, truth_of}
-use Rattle.lil_resolved.specs.Resolved.{Function, Abs, Cap, Chr, Odd, Ord, Val, is_relation, result_kind, function_kind}
+use Rattle.lil_base.specs.declared.operator.TwoOp.TheVariants.{Equal, Unequal, Less, AtMost, Greater, AtLeast, In, Plus, Minus, Times, Slash, Div, Mod}
+use Rattle.lil_resolved.specs.Kinds.{Kind, OfWhole, OfTruth, OfCharacter, OfEnumeration, OfSet, OfRange, base_of, is_base, is_ordinal, is_set, is_whole, compared_as, shared, covers}
+use Rattle.lil_base.specs.Sets as sets
+use Rattle.lil_base.specs.Sets.{has, set_word}
+use Rattle.lil_base.specs.SetLaws.{has_no}
+use Rattle.lil_resolved.specs.Members.{same_members, included, is_in, united, without, shared_members, unshared}
+use Rattle.lil_resolved.specs.MemberLaws.{words_equal, word_has, word_included, word_united, word_without, word_shared, word_unshared}
+use Rattle.lil_resolved.specs.Scalars.{Scalar, Truth, Character, Number, SetOf, within, scalar_of, scalar_word, ordinal_of, truth_number, truth_of}
+use Rattle.lil_resolved.specs.Resolved.{Function, Abs, Cap, Chr, Odd, Ord, Val, is_relation, result_kind, right_kind, function_kind}
 use Rattle.lil_resolved.specs.Depth.{function_depth}
 use Rattle.lil_resolved.specs.Sound.{takes_one, takes_two, takes_function}
-use Rattle.lil_meaning.specs.Steps.{whole_of, outcome, compared_number, related, applied, one_applied, capital, valued, ranged, function_value, is_same, is_other, is_at_most, is_greater, is_at_least}
+use Rattle.lil_meaning.specs.Steps.{whole_of, outcome, compared_number, relation_of, related, compared, set_value, applied, one_applied, capital, valued, ranged, function_value, is_same, is_other, is_at_most, is_greater, is_at_least}
 use Rattle.lil_asm.specs.declared.instr.Instr.{Instr}
 use Rattle.lil_asm.specs.declared.instr.Instr.TheVariants as instr
-use Rattle.lil_asm.specs.declared.instr.Instr.TheVariants.{Liw, Swp, Adc, Sbc, Mlc, Dvc, Mdc, Adi, Sbi, Mli, Dvi, Mdi, Ngi, Abi, Not, Equ, Neq}
+use Rattle.lil_asm.specs.declared.instr.Instr.TheVariants.{Liw, Swp, Adc, Sbc, Mlc, Dvc, Mdc, Adi, Sbi, Mli, Dvi, Mdi, Ngi, Abi, Not, Uni, Dif, Its, Sym, Sin, Sle, Equ, Neq}
 use Rattle.lil_mcode.specs.declared.machine.Event.{Event}
 use Rattle.lil_mcode.specs.declared.machine.Event.TheVariants.{Went, Trap}
 use Rattle.lil_mcode.specs.State.{Module, State}
-use Rattle.lil_mcode.specs.Table.{act, going, on_one, on_two, swap_row, result_row, two_row, sign_row, change_row, denied, compare_row, truth, equal, unequal, less, at_most}
-use Rattle.lil_table.specs.Rows.{less_code, at_most_code, one_code, two_code, range_code, test_code, function_code}
+use Rattle.lil_mcode.specs.Table.{act, going, on_one, on_two, swap_row, result_row, two_row, sign_row, change_row, denied, compare_row, join_row, truth, equal, unequal, less, at_most, is_member}
+use Rattle.lil_table.specs.Rows.{less_code, at_most_code, one_code, number_code, set_code, two_code, range_code, test_code, function_code}
 use Rattle.lil_match.specs.Arithmetic.{word_is, reads_ordinal, reads, same_words, other_is, sum_fits, difference_fits, product_fits, quotient_fits, remainder_fits, negation_fits, absolute_fits}
 use Rattle.lil_match.specs.Homes.{within_base}
-use Rattle.lil_match.specs.Ranges.{has, value_where, value_is, number_is, value_fits, fits_has}
+use Rattle.lil_match.specs.Ranges.{has as has_number, value_where, value_is, number_is, value_fits, fits_has, has_type, ordinal_base}
 use Rattle.lil_match.specs.Tests.{covered, test_act}
 use Rattle.lil_match.specs.Steps.{pushes}
 
@@ -74,8 +79,13 @@ at_most_row : (t : Whole) (own : Module) (m : State) (q : ℕ) → act (at_most_
 at_most_row Cardinal own m q = refl
 at_most_row Integer own m q = refl
 
+-- kinds that compare by numbers are no sets
+no_set : (k : Kind) → is_ordinal k ≡ true → is_set k ≡ true → ⊥
+no_set OfSet h i = cc
+no_set k h i = cc
+
 -- a value of a kind that compares has a number as which it is compared
-compared_is : (k : Kind) (v : Scalar) → is_base k ≡ true → within k v ≡ true → compared_number k v ≡ Some (ordinal_of v)
+compared_is : (k : Kind) (v : Scalar) → is_ordinal k ≡ true → within k v ≡ true → compared_number k v ≡ Some (ordinal_of v)
 compared_is (OfWhole t) (Number z) base h = refl
 compared_is OfTruth (Truth b) base h = refl
 compared_is OfCharacter (Character c) base h = refl
@@ -83,11 +93,14 @@ compared_is (OfEnumeration n) (Number z) base h = refl
 compared_is k v base h = cc
 
 -- relations of values of a kind that compares are those of their words
-module _ (k : Kind) (u v : Scalar) (base : is_base k ≡ true) (left : within k u ≡ true) (right : within k v ≡ true) where
+module _ (k : Kind) (u v : Scalar) (ordinal : is_ordinal k ≡ true) (left : within k u ≡ true) (right : within k v ≡ true) where
+  base : is_base k ≡ true
+  base = ordinal_base k ordinal
+
   relates : (r : ℤ → ℤ → Bool) → related r (compared_number k u) (compared_number k v) ≡ Ok (Truth (r (ordinal_of u) (ordinal_of v)))
   relates r =
-      ap (λ (x : Option ℤ). related r x (compared_number k v)) (compared_is k u base left)
-      ∙ ap (related r (Some (ordinal_of u))) (compared_is k v base right)
+      ap (λ (x : Option ℤ). related r x (compared_number k v)) (compared_is k u ordinal left)
+      ∙ ap (related r (Some (ordinal_of u))) (compared_is k v ordinal right)
 
   relation_fits : (r : ℤ → ℤ → Bool) → Fits OfTruth (related r (compared_number k u) (compared_number k v))
   relation_fits r = subst (Fits OfTruth) (sym (relates r)) refl
@@ -158,16 +171,16 @@ module _ (own : Module) (m : State) (below : List ℕ) (u v : Scalar) (is : m.st
       ∙ ap (λ (w : ℕ). let r : Event × State = (Went, going m q (w ∷ below)) in r) (ap truth same ∙ truth_is b)
 
   -- a comparison of words that is a relation of the numbers
-  relation_gives : (k : Kind) → is_base k ≡ true → within k u ≡ true → within k v ≡ true → (r : ℤ → ℤ → Bool) (f : ℕ → ℕ → Bool) (i : Instr)
+  relation_gives : (k : Kind) → is_ordinal k ≡ true → within k u ≡ true → within k v ≡ true → (r : ℤ → ℤ → Bool) (f : ℕ → ℕ → Bool) (i : Instr)
       → ((q : ℕ) → act i q own m ≡ compare_row f q m m.stack) → f (scalar_word u) (scalar_word v) ≡ r (ordinal_of u) (ordinal_of v)
       → Gives own (i ∷ []) m below (related r (compared_number k u) (compared_number k v))
   relation_gives k base left right r f i row same =
       subst (Gives own (i ∷ []) m below) (sym (relates k u v base left right r)) (comparison_gives f (r (ordinal_of u) (ordinal_of v)) i row same)
 
-  less_gives : (k : Kind) → is_base k ≡ true → within k u ≡ true → within k v ≡ true → Gives own (less_code (compared_as k) ∷ []) m below (applied Less k u v)
+  less_gives : (k : Kind) → is_ordinal k ≡ true → within k u ≡ true → within k v ≡ true → Gives own (less_code (compared_as k) ∷ []) m below (compared (relation_of Less) Less k u v)
   less_gives k base left right = relation_gives k base left right int_lt (less (compared_as k)) (less_code (compared_as k)) (less_row (compared_as k) own m) (same_less k u v base left right)
 
-  at_most_gives : (k : Kind) → is_base k ≡ true → within k u ≡ true → within k v ≡ true → Gives own (at_most_code (compared_as k) ∷ []) m below (applied AtMost k u v)
+  at_most_gives : (k : Kind) → is_ordinal k ≡ true → within k u ≡ true → within k v ≡ true → Gives own (at_most_code (compared_as k) ∷ []) m below (compared (relation_of AtMost) AtMost k u v)
   at_most_gives k base left right = relation_gives k base left right is_at_most (at_most (compared_as k)) (at_most_code (compared_as k)) (at_most_row (compared_as k) own m) (same_at_most k u v base left right)
 
   -- both operands the other way round
@@ -178,40 +191,110 @@ module _ (own : Module) (m : State) (below : List ℕ) (u v : Scalar) (is : m.st
     λ q. gives (going m q (scalar_word u ∷ scalar_word v ∷ below)) refl,
   )
 
--- an operator's code does what the operator means
+  -- an operation on two words that gives the word of a set
+  joining_gives : (f : ℕ → ℕ → ℕ) (p : ℕ → Bool) (i : Instr) → ((q : ℕ) → act i q own m ≡ on_two m m.stack (join_row f q m)) → f (scalar_word u) (scalar_word v) ≡ set_word p
+      → Gives own (i ∷ []) m below (Ok (SetOf p))
+  joining_gives f p i row same = λ q.
+      row q
+      ∙ ap (λ (x : List ℕ). on_two m x (join_row f q m)) is
+      ∙ ap (λ (w : ℕ). let r : Event × State = (Went, going m q (w ∷ below)) in r) same
+
+-- an operator's code does what the operator means: on two values that compare by their numbers
 module _ (own : Module) (m : State) (below : List ℕ) (u v : Scalar) (is : m.stack ≡ scalar_word v ∷ scalar_word u ∷ below) where
-  pub two_gives : (o : TwoOp) (k : Kind) → takes_two o k ≡ true → within k u ≡ true → within k v ≡ true
+  number_gives : (o : TwoOp) (k : Kind) → is_ordinal k ≡ true → takes_two o k ≡ true → o ≢ In → within k u ≡ true → within k v ≡ true
+      → Gives own (number_code o (compared_as k)) m below (compared (relation_of o) o k u v)
+  number_gives Equal k ordinal takes none left right = relation_gives own m below u v is k ordinal left right is_same equal Equ (λ q. refl) (same_equal k u v ordinal left right)
+  number_gives Unequal k ordinal takes none left right =
+      relation_gives own m below u v is k ordinal left right is_other unequal Neq (λ q. refl)
+      (ap not (same_equal k u v ordinal left right) ∙ sym (other_is (ordinal_of u) (ordinal_of v)))
+  number_gives Less k ordinal takes none left right = less_gives own m below u v is k ordinal left right
+  number_gives AtMost k ordinal takes none left right = at_most_gives own m below u v is k ordinal left right
+  number_gives Greater k ordinal takes none left right =
+      swapped_gives own m below u v is (less_code (compared_as k)) (compared (relation_of Greater) Greater k u v)
+      (λ n e.
+      subst (Gives own (less_code (compared_as k) ∷ []) n below) (relates k v u ordinal right left int_lt ∙ sym (relates k u v ordinal left right is_greater))
+      (less_gives own n below v u e k ordinal right left))
+  number_gives AtLeast k ordinal takes none left right =
+      swapped_gives own m below u v is (at_most_code (compared_as k)) (compared (relation_of AtLeast) AtLeast k u v)
+      (λ n e.
+      subst (Gives own (at_most_code (compared_as k) ∷ []) n below) (relates k v u ordinal right left is_at_most ∙ sym (relates k u v ordinal left right is_at_least))
+      (at_most_gives own n below v u e k ordinal right left))
+  number_gives Plus (OfWhole Cardinal) ordinal takes none left right = operation_gives own m below u v is sum Cardinal Adc (λ q. refl) left right
+  number_gives Plus (OfWhole Integer) ordinal takes none left right = operation_gives own m below u v is sum Integer Adi (λ q. refl) left right
+  number_gives Minus (OfWhole Cardinal) ordinal takes none left right = operation_gives own m below u v is difference Cardinal Sbc (λ q. refl) left right
+  number_gives Minus (OfWhole Integer) ordinal takes none left right = operation_gives own m below u v is difference Integer Sbi (λ q. refl) left right
+  number_gives Times (OfWhole Cardinal) ordinal takes none left right = operation_gives own m below u v is product Cardinal Mlc (λ q. refl) left right
+  number_gives Times (OfWhole Integer) ordinal takes none left right = operation_gives own m below u v is product Integer Mli (λ q. refl) left right
+  number_gives Div (OfWhole Cardinal) ordinal takes none left right = operation_gives own m below u v is quotient Cardinal Dvc (λ q. refl) left right
+  number_gives Div (OfWhole Integer) ordinal takes none left right = operation_gives own m below u v is quotient Integer Dvi (λ q. refl) left right
+  number_gives Mod (OfWhole Cardinal) ordinal takes none left right = operation_gives own m below u v is remainder Cardinal Mdc (λ q. refl) left right
+  number_gives Mod (OfWhole Integer) ordinal takes none left right = operation_gives own m below u v is remainder Integer Mdi (λ q. refl) left right
+  number_gives In k ordinal takes none left right = absurd (none refl)
+  number_gives Slash k ordinal takes none left right = absurd (no_set k ordinal takes)
+  number_gives o k ordinal takes none left right = cc
+
+-- on two sets
+module _ (own : Module) (m : State) (below : List ℕ) (s t : ℕ → Bool) (is : m.stack ≡ set_word t ∷ set_word s ∷ below) where
+  set_gives : (o : TwoOp) → takes_two o OfSet ≡ true → o ≢ In → Gives own (set_code o) m below (Ok (set_value o s t))
+  set_gives Equal takes none = comparison_gives own m below (SetOf s) (SetOf t) is equal (same_members s t) Equ (λ q. refl) (words_equal s t)
+  set_gives Unequal takes none = comparison_gives own m below (SetOf s) (SetOf t) is unequal (not (same_members s t)) Neq (λ q. refl) (ap not (words_equal s t))
+  set_gives AtMost takes none = comparison_gives own m below (SetOf s) (SetOf t) is sets.is_within (included s t) Sle (λ q. refl) (word_included s t)
+  set_gives AtLeast takes none =
+      swapped_gives own m below (SetOf s) (SetOf t) is Sle (Ok (Truth (included t s)))
+      (λ n e. comparison_gives own n below (SetOf t) (SetOf s) e sets.is_within (included t s) Sle (λ q. refl) (word_included t s))
+  set_gives Plus takes none = joining_gives own m below (SetOf s) (SetOf t) is sets.union (united s t) Uni (λ q. refl) (word_united s t)
+  set_gives Minus takes none = joining_gives own m below (SetOf s) (SetOf t) is sets.minus (without s t) Dif (λ q. refl) (word_without s t)
+  set_gives Times takes none = joining_gives own m below (SetOf s) (SetOf t) is sets.meet (shared_members s t) Its (λ q. refl) (word_shared s t)
+  set_gives Slash takes none = joining_gives own m below (SetOf s) (SetOf t) is sets.apart (unshared s t) Sym (λ q. refl) (word_unshared s t)
+  set_gives In takes none = absurd (none refl)
+  set_gives o takes none = cc
+
+-- a number is in a set where its word is
+member_where : (t : Whole) (z : ℤ) (s : ℕ → Bool) → in_type t z ≡ true → has (set_word s) (word_of z) ≡ is_in s z
+member_where t (pos n) s h = word_has s n
+member_where Cardinal (negsuc n) s h = cc
+member_where Integer (negsuc n) s h = let b = bounds (least Integer) (negsuc n) (greatest Integer) h in has_no s (65535 - n) (omega (arith, ints, b.0))
+
+-- on a value and a set
+module _ (own : Module) (m : State) (below : List ℕ) (u : Scalar) (s : ℕ → Bool) (is : m.stack ≡ set_word s ∷ scalar_word u ∷ below) where
+  in_gives : (k : Kind) → is_ordinal k ≡ true → within k u ≡ true → Gives own (Sin ∷ []) m below (Ok (Truth (is_in s (ordinal_of u))))
+  in_gives k ordinal fits =
+      comparison_gives own m below u (SetOf s) is is_member (is_in s (ordinal_of u)) Sin (λ q. refl)
+      (ap (has (set_word s)) (word_is u) ∙ member_where (compared_as k) (ordinal_of u) s (has_type k (ordinal_of u) (ordinal_base k ordinal) (fits_has k u fits)))
+
+-- no operator takes a part of a kind
+ranged_none : (o : TwoOp) (part : Kind) (low high : ℤ) → takes_two o (OfRange part low high) ≡ true → ⊥
+ranged_none Equal part low high h = cc
+ranged_none o part low high h = cc
+
+-- of all kinds
+module _ (own : Module) (m : State) (below : List ℕ) where
+  pub two_gives : (u v : Scalar) → m.stack ≡ scalar_word v ∷ scalar_word u ∷ below → (o : TwoOp) (k : Kind) → takes_two o k ≡ true → within k u ≡ true → within (right_kind o k) v ≡ true
       → Gives own (two_code o k) m below (applied o k u v)
-  two_gives Equal k takes left right = relation_gives own m below u v is k takes left right is_same equal Equ (λ q. refl) (same_equal k u v takes left right)
-  two_gives Unequal k takes left right =
-      relation_gives own m below u v is k takes left right is_other unequal Neq (λ q. refl)
-      (ap not (same_equal k u v takes left right) ∙ sym (other_is (ordinal_of u) (ordinal_of v)))
-  two_gives Less k takes left right = less_gives own m below u v is k takes left right
-  two_gives AtMost k takes left right = at_most_gives own m below u v is k takes left right
-  two_gives Greater k takes left right =
-      swapped_gives own m below u v is (less_code (compared_as k)) (applied Greater k u v)
-      (λ n e.
-      subst (Gives own (less_code (compared_as k) ∷ []) n below) (relates k v u takes right left int_lt ∙ sym (relates k u v takes left right is_greater))
-      (less_gives own n below v u e k takes right left))
-  two_gives AtLeast k takes left right =
-      swapped_gives own m below u v is (at_most_code (compared_as k)) (applied AtLeast k u v)
-      (λ n e.
-      subst (Gives own (at_most_code (compared_as k) ∷ []) n below) (relates k v u takes right left is_at_most ∙ sym (relates k u v takes left right is_at_least))
-      (at_most_gives own n below v u e k takes right left))
-  two_gives Plus (OfWhole Cardinal) takes left right = operation_gives own m below u v is sum Cardinal Adc (λ q. refl) left right
-  two_gives Plus (OfWhole Integer) takes left right = operation_gives own m below u v is sum Integer Adi (λ q. refl) left right
-  two_gives Minus (OfWhole Cardinal) takes left right = operation_gives own m below u v is difference Cardinal Sbc (λ q. refl) left right
-  two_gives Minus (OfWhole Integer) takes left right = operation_gives own m below u v is difference Integer Sbi (λ q. refl) left right
-  two_gives Times (OfWhole Cardinal) takes left right = operation_gives own m below u v is product Cardinal Mlc (λ q. refl) left right
-  two_gives Times (OfWhole Integer) takes left right = operation_gives own m below u v is product Integer Mli (λ q. refl) left right
-  two_gives Div (OfWhole Cardinal) takes left right = operation_gives own m below u v is quotient Cardinal Dvc (λ q. refl) left right
-  two_gives Div (OfWhole Integer) takes left right = operation_gives own m below u v is quotient Integer Dvi (λ q. refl) left right
-  two_gives Mod (OfWhole Cardinal) takes left right = operation_gives own m below u v is remainder Cardinal Mdc (λ q. refl) left right
-  two_gives Mod (OfWhole Integer) takes left right = operation_gives own m below u v is remainder Integer Mdi (λ q. refl) left right
-  two_gives o k takes left right = cc
+  two_gives u (SetOf t) is In k takes left right = in_gives own m below u t is k takes left
+  two_gives u v is In k takes left right = cc
+  two_gives (SetOf s) (SetOf t) is o OfSet takes left right = set_gives own m below s t is o takes (λ e. cc)
+  two_gives u v is o OfSet takes left right = cc
+  two_gives u v is o (OfWhole t) takes left right = number_gives own m below u v is o (OfWhole t) refl takes (λ e. cc) left right
+  two_gives u v is o OfTruth takes left right = number_gives own m below u v is o OfTruth refl takes (λ e. cc) left right
+  two_gives u v is o OfCharacter takes left right = number_gives own m below u v is o OfCharacter refl takes (λ e. cc) left right
+  two_gives u v is o (OfEnumeration n) takes left right = number_gives own m below u v is o (OfEnumeration n) (counted o takes) takes (λ e. cc) left right
+    where
+      counted : (o : TwoOp) → takes_two o (OfEnumeration n) ≡ true → is_ordinal (OfEnumeration n) ≡ true
+      counted Equal h = h
+      counted Unequal h = h
+      counted Less h = h
+      counted AtMost h = h
+      counted Greater h = h
+      counted AtLeast h = h
+      counted In h = h
+      counted o h = cc
+  two_gives u v is o (OfRange part low high) takes left right = absurd (ranged_none o part low high takes)
 
 -- an operator on two values has one or two instructions
 pub two_length : (o : TwoOp) (k : Kind) → takes_two o k ≡ true → (0 < length (two_code o k)) × (length (two_code o k) ≤ 2)
+two_length In k takes = (omega arith, omega arith)
+two_length o OfSet takes = (first_of (omega arith, cc), first_of (omega arith, cc))
 two_length Plus (OfWhole Cardinal) takes = (omega arith, omega arith)
 two_length Minus (OfWhole Cardinal) takes = (omega arith, omega arith)
 two_length Times (OfWhole Cardinal) takes = (omega arith, omega arith)
@@ -226,7 +309,17 @@ one_fits one.Minus (OfWhole t) v takes fits = outcome_fits t _ (negation_fits t 
 one_fits one.Not OfTruth v takes fits = refl
 one_fits o k v takes fits = cc
 
-pub two_fits : (o : TwoOp) (k : Kind) (u v : Scalar) → takes_two o k ≡ true → within k u ≡ true → within k v ≡ true → Fits (result_kind (is_relation o) k) (applied o k u v)
+pub two_fits : (o : TwoOp) (k : Kind) (u v : Scalar) → takes_two o k ≡ true → within k u ≡ true → within (right_kind o k) v ≡ true → Fits (result_kind (is_relation o) k) (applied o k u v)
+two_fits In k u v takes left right = refl
+two_fits Equal OfSet u v takes left right = refl
+two_fits Unequal OfSet u v takes left right = refl
+two_fits AtMost OfSet u v takes left right = refl
+two_fits AtLeast OfSet u v takes left right = refl
+two_fits Plus OfSet u v takes left right = refl
+two_fits Minus OfSet u v takes left right = refl
+two_fits Times OfSet u v takes left right = refl
+two_fits Slash OfSet u v takes left right = refl
+two_fits o OfSet u v takes left right = cc
 two_fits Equal k u v takes left right = relation_fits k u v takes left right is_same
 two_fits Unequal k u v takes left right = relation_fits k u v takes left right is_other
 two_fits Less k u v takes left right = relation_fits k u v takes left right int_lt
@@ -243,14 +336,14 @@ two_fits _ k u v takes left right = cc
 -- ---- standard functions
 -- what comes of a number of a kind
 ranged_fits : (k : Kind) (z : ℤ) → Fits (base_of k) (ranged k z)
-ranged_fits k z = subst (λ (x : Option Scalar). Fits (base_of k) (valued x)) (sym (value_where k z)) (by (has k z) refl)
+ranged_fits k z = subst (λ (x : Option Scalar). Fits (base_of k) (valued x)) (sym (value_where k z)) (by (has_number k z) refl)
   where
-    by : (b : Bool) → has k z ≡ b → Fits (base_of k) (valued (cond b (Some (scalar_of k z)) None))
+    by : (b : Bool) → has_number k z ≡ b → Fits (base_of k) (valued (cond b (Some (scalar_of k z)) None))
     by true e = within_base k (scalar_of k z) (value_fits k z e)
     by false e = tt
 
 -- its word is the number's
-same_word : (k : Kind) (v : Scalar) → has k (ordinal_of v) ≡ true → scalar_word (scalar_of k (ordinal_of v)) ≡ scalar_word v
+same_word : (k : Kind) (v : Scalar) → has_number k (ordinal_of v) ≡ true → scalar_word (scalar_of k (ordinal_of v)) ≡ scalar_word v
 same_word k v h = word_is (scalar_of k (ordinal_of v)) ∙ ap word_of (number_is k (ordinal_of v) h) ∙ sym (word_is v)
 
 -- a value with the same word, which is one of a kind
@@ -263,7 +356,7 @@ untested k j v fits none = by (covers k j) refl none
   where
     by : (b : Bool) → covers k j ≡ b → cond b [] (range_code (compared_as j) (shared k j) ∷ []) ≡ [] → Same (base_of k) v (ranged k (ordinal_of v))
     by true e none =
-        let h : has k (ordinal_of v) ≡ true = covered k j (ordinal_of v) e (fits_has j v fits) in
+        let h : has_number k (ordinal_of v) ≡ true = covered k j (ordinal_of v) e (fits_has j v fits) in
         (scalar_of k (ordinal_of v), ap valued (value_is k (ordinal_of v) h), same_word k v h, within_base k (scalar_of k (ordinal_of v)) (value_fits k (ordinal_of v) h))
     by false e none = cc
 
@@ -359,7 +452,7 @@ module _ (own : Module) (m : State) (below : List ℕ) (v : Scalar) (is : m.stac
   tested_gives : (k j : Kind) → is_base j ≡ true → within j v ≡ true → test_code k j ≢ [] → Gives own (test_code k j) m below (ranged k (ordinal_of v))
   tested_gives k j base fits some = by (covers k j) some
     where
-      answered : (q : ℕ) (b : Bool) → has k (ordinal_of v) ≡ b
+      answered : (q : ℕ) (b : Bool) → has_number k (ordinal_of v) ≡ b
           → (let r : Event × State = cond b (Went, going m q m.stack) (Trap trap.Range, m) in r) ≡ answer_row m q below (valued (cond b (Some (scalar_of k (ordinal_of v))) None))
       answered q true e =
           ap (λ (x : List ℕ). let r : Event × State = (Went, going m q x) in r) (is ∙ ap (λ (w : ℕ). w ∷ below) (sym (same_word k v e)))
@@ -369,7 +462,7 @@ module _ (own : Module) (m : State) (below : List ℕ) (v : Scalar) (is : m.stac
       by true some = absurd (some refl)
       by false some = λ q.
           test_act k j v own m below q base fits is
-          ∙ answered q (has k (ordinal_of v)) refl
+          ∙ answered q (has_number k (ordinal_of v)) refl
           ∙ ap (λ (x : Option Scalar). answer_row m q below (valued x)) (sym (value_where k (ordinal_of v)))
 
   absolute_gives : (j : Kind) → takes_function (Abs Integer) j ≡ true → within j v ≡ true → Gives own (Abi ∷ []) m below (function_value (Abs Integer) v)
@@ -405,5 +498,5 @@ module _ (own : Module) (m : State) (below : List ℕ) (v : Scalar) (is : m.stac
       subst (λ (z : ℤ). Gives own (test_code OfCharacter j) m below (ranged OfCharacter z)) (whole_ordinal j v takes fits)
       (tested_gives OfCharacter j (whole_base j takes) fits some)
   function_gives Odd j takes fits room some = odd_gives j takes fits room
-  function_gives Ord j takes fits room some = tested_gives (OfWhole Cardinal) j takes fits some
-  function_gives (Val k) j takes fits room some = tested_gives k j (and_parts (is_base j) (is_base (base_of k)) takes).0 fits some
+  function_gives Ord j takes fits room some = tested_gives (OfWhole Cardinal) j (ordinal_base j takes) fits some
+  function_gives (Val k) j takes fits room some = tested_gives k j (ordinal_base j (and_parts (is_ordinal j) (is_ordinal (base_of k)) takes).0) fits some

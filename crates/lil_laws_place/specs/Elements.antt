@@ -1,16 +1,15 @@
 -- The rows of places: of variables, fields and elements.
-use Rattle.std.proofs.Common.{◌≡◌, ℕ, ◌+◌, ◌*◌, ◌-◌, ◌%◌, ◌<◌, ◌≤◌, max, Bool, true, false, cond, ltb, Some, List, [], ◌∷◌, length, refl, sym, ap, ◌∙◌, subst, arith}
+use Rattle.std.proofs.Common.{◌≡◌, ℕ, ◌+◌, ◌*◌, ◌<◌, Bool, true, cond, ltb, Some, List, [], ◌∷◌, refl, sym, ap, ◌∙◌, subst, arith}
 use Rattle.std.specs.Prelude.{ℤ, pos, negsuc, ◌≤ℤ◌, ◌-ℤ◌, ◌+ℤ◌, slice_get}
 use Rattle.std.proofs.lemmas.Bool.{lt-ltb}
 use Rattle.std.proofs.lemmas.Int.{ints}
-use Rattle.lil_base.specs.Words.{Whole, Cardinal, Integer, in_type, between, word_of}
+use Rattle.lil_base.specs.Words.{word_of}
 use Rattle.lil_base.specs.Laws.{in_range, bounds}
 use Rattle.lil_base.specs.declared.fault.TrapKind.TheVariants as trap
 use Rattle.lil_resolved.specs.Kinds.{Kind, base_of, is_base, takes_value, compared_as, least, greatest, nat_of, numbers, position}
 use Rattle.lil_resolved.specs.Scalars.{Scalar, within, scalar_word, ordinal_of}
 use Rattle.lil_resolved.specs.Shapes.{Shape, Absent, Row, words, is_there, part_at, offset, shape_by, shape_at, element_of}
-use Rattle.lil_resolved.specs.Resolved.{Designator, Variable, Field, Element, Expression, kind_of, shape_of}
-use Rattle.lil_resolved.specs.Depth.{place_depth, depth}
+use Rattle.lil_resolved.specs.Resolved.{Designator, Variable, Field, Element, Expression, shape_of}
 use Rattle.lil_meaning.specs.Cells.{Global, Place, part_of}
 use Rattle.lil_meaning.specs.Items.{Scalars, Places, Part, IndexBy, IndexAt, Item, Value, PlaceOf, Fill, Going, Source}
 use Rattle.lil_meaning.specs.Steps.{current, owner_of, trapped, with_items}
@@ -18,10 +17,10 @@ use Rattle.lil_asm.specs.declared.instr.Instr.TheVariants.{Ixc}
 use Rattle.lil_mcode.specs.declared.machine.Event.TheVariants.{Went}
 use Rattle.lil_mcode.specs.Control.{above}
 use Rattle.lil_mcode.specs.State.{State}
-use Rattle.lil_mcode.specs.Table.{act, going, on_two, element_row}
-use Rattle.lil_table.specs.Rows.{Access, InData, OnTop, Behind, further, offset_in, access_of}
+use Rattle.lil_mcode.specs.Table.{going, on_two, element_row}
+use Rattle.lil_table.specs.Rows.{Access, InData, OnTop, further, offset_in, access_of}
 use Rattle.lil_match.specs.Running.{running}
-use Rattle.lil_match.specs.Parts.{yes, element}
+use Rattle.lil_match.specs.Parts.{yes}
 use Rattle.lil_match.specs.Homes.{word_for, plain_word, address, shape_there, part_there}
 use Rattle.lil_match.specs.Goes.{Shared, Goes, Lands}
 use Rattle.lil_match.specs.Waits.{Setting, frame_of, laid_out, Quiet, ValueOf, AtPlace, Around, Reach, Rows, HasPlace, Waiting}

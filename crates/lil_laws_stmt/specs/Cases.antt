@@ -4,7 +4,7 @@ use Rattle.std.proofs.lemmas.Int.{ints}
 use Rattle.std.proofs.lemmas.Bool.{lt-ltb, le-leb, lt-leb}
 use Rattle.lil_base.specs.Words.{Whole, Cardinal, Integer, least, greatest, between, in_type, word_of}
 use Rattle.lil_base.specs.declared.fault.TrapKind.TheVariants as trap
-use Rattle.lil_resolved.specs.Kinds.{Kind, is_base, compared_as}
+use Rattle.lil_resolved.specs.Kinds.{Kind, is_ordinal, compared_as}
 use Rattle.lil_resolved.specs.Scalars.{Scalar, within, ordinal_of}
 use Rattle.lil_resolved.specs.Resolved.{Expression, Label, Case, Statements, Arms, NoElse, Else, Arm, kind_of}
 use Rattle.lil_meaning.specs.Items.{Scalars, Pick, Do, Item, Value, Fill, Perform, doing, Going, Source}
@@ -62,7 +62,7 @@ test_is t low high z first second third order = by (int_lt z low) (int_lt high z
     by false true e f = let d = above_more t low z first third (omega (arith, ints)) in lt-leb _ _ (omega (arith, ints, width))
     by false false e f = let d = above_more t low z first third (omega (arith, ints)) in le-leb _ _ (omega (arith, ints, width))
 
-module _ (code : List ℕ) (k : Kind) (base : is_base k ≡ true) (z : ℤ) (inside : in_type (compared_as k) z ≡ true) (other to : ℕ) (rest : ℕ → ℕ → Type 0) where
+module _ (code : List ℕ) (k : Kind) (base : is_ordinal k ≡ true) (z : ℤ) (inside : in_type (compared_as k) z ≡ true) (other to : ℕ) (rest : ℕ → ℕ → Type 0) where
   -- an entry of the arm has the word, or the search goes on behind its entries
   abbrev Searched : Bool → Option ℕ → Type 0
   Searched true target = target ≡ Some to
@@ -88,7 +88,7 @@ module _ (code : List ℕ) (k : Kind) (base : is_base k ≡ true) (z : ℤ) (ins
           subst (λ (b : Bool). Searched (b || among labels z) (machine.chosen code (suc w) t (word_of z) other)) (sym e ∙ is)
           (subst (λ (o : Option ℕ). Searched (among labels z) o) (sym target) after)
 
-module _ (l : Layout) (code : List ℕ) (n : ℕ) (around : Option ℕ) (k : Kind) (base : is_base k ≡ true) (exit other table : ℕ) (z : ℤ) (inside : in_type (compared_as k) z ≡ true) where
+module _ (l : Layout) (code : List ℕ) (n : ℕ) (around : Option ℕ) (k : Kind) (base : is_ordinal k ≡ true) (exit other table : ℕ) (z : ℤ) (inside : in_type (compared_as k) z ≡ true) where
   -- the table leads to the arm that is done, which ends with a jump to the exit, or to the trap
   abbrev Reached : Option Statements → Option ℕ → Type 0
   Reached (Some body) target = (start : ℕ) × (end : ℕ) × (gap : ℕ) × (target ≡ Some (l.target start)) × BodyAt l code n around body start end × IsAt code end (Jmp (l.target exit)) gap

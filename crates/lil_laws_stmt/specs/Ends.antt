@@ -5,7 +5,7 @@ use Rattle.lil_base.specs.declared.fault.TrapKind.TheVariants as trap
 use Rattle.lil_resolved.specs.Resolved.{Halt, Return}
 use Rattle.lil_meaning.specs.World.{World, closing, all_closed}
 use Rattle.lil_meaning.specs.Closings.{all_none, all_some}
-use Rattle.lil_meaning.specs.Items.{Do, Turns, End, Item, Perform, Level, Phase, Going, Closing, Ended, Source}
+use Rattle.lil_meaning.specs.Items.{Do, Turns, End, Item, Perform, Level, Going, Closing, Ended, Source}
 use Rattle.lil_meaning.specs.Steps.{next, returned, left_by, over}
 use Rattle.lil_asm.specs.declared.instr.Instr.TheVariants.{Rtn, Trp}
 use Rattle.lil_mcode.specs.declared.machine.Event.TheVariants.{LevelEnded}

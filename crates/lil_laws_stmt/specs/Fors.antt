@@ -24,7 +24,7 @@ use Rattle.lil_match.specs.Running.{Run, running, react, advanced}
 use Rattle.lil_match.specs.Parts.{yes, no}
 use Rattle.lil_match.specs.Homes.{word_for, plain_word, Home, Mem, scalar_owned, mem_stored, replaced, shadowed}
 use Rattle.lil_match.specs.Arithmetic.{word_is}
-use Rattle.lil_match.specs.Ranges.{has, value_is, value_none, number_is, value_fits, fits_has, has_type}
+use Rattle.lil_match.specs.Ranges.{has, value_is, value_none, number_is, value_fits, fits_has, has_type, ordinal_base}
 use Rattle.lil_match.specs.Tests.{covered, test_act}
 use Rattle.lil_match.specs.Goes.{Shared, Touches, Goes, Lands}
 use Rattle.lil_match.specs.Waits.{Setting, frame_of, laid_out, Quiet, ValueOf, Around, Reach, TurnsFit, Rows, at_home, LoopWords, NextWaits, HasPlace, Waiting}
@@ -126,7 +126,7 @@ module _ (ctx : Setting) where
             words = words;
             around = refl;
             small = small;
-            next_is = ap (λ (w : ℕ). (w + word_of step) % 65536) now ∙ next_word (compared_as base) z step (has_type base z round.known.base fit.0) round.is_step;
+            next_is = ap (λ (w : ℕ). (w + word_of step) % 65536) now ∙ next_word (compared_as base) z step (has_type base z (ordinal_base base round.known.base) fit.0) round.is_step;
             fit = fit.1;
             turn = m.place;
             end = end;
@@ -160,7 +160,7 @@ module _ (ctx : Setting) where
       tests : IsAt own.code round.loaded test round.tested → mstep (holding round.loaded) ≡ outcome (has kind z)
       tests here =
           at_step ctx (holding round.loaded) shared.program test round.tested here
-          ∙ test_act kind base (scalar_of base z) own (holding round.loaded) m.stack round.tested round.known.base (value_fits base z fit.0)
+          ∙ test_act kind base (scalar_of base z) own (holding round.loaded) m.stack round.tested (ordinal_base base round.known.base) (value_fits base z fit.0)
           (ap (λ (w : ℕ). w ∷ m.stack) (sym (number_word base z fit.0)))
           ∙ ap (λ (y : ℤ). outcome (has kind y)) (number_is base z fit.0)
 
@@ -351,7 +351,7 @@ module _ (ctx : Setting) where
         n = loop_place a.loops
 
         based : is_base (base_of kind) ≡ true
-        based = row.round.known.base
+        based = ordinal_base (base_of kind) row.round.known.base
 
         stepped : State
         stepped = going m row.stepped (word_of step ∷ m.stack)
@@ -454,7 +454,7 @@ module _ (ctx : Setting) where
             (subst (λ (st : List ℕ). Left Quiet row.end st c row.outer) (sym row.empty) row.then)))
             (omega arith)
         by_left (suc u) e fit small =
-            let sum : (row.words.now + word_of step) % 65536 ≡ word_of z = row.next_is ∙ omega (arith, word_small (compared_as (base_of kind)) z (has_type (base_of kind) z row.round.known.base fit.0)) in
+            let sum : (row.words.now + word_of step) % 65536 ≡ word_of z = row.next_is ∙ omega (arith, word_small (compared_as (base_of kind)) z (has_type (base_of kind) z (ordinal_base (base_of kind) row.round.known.base) fit.0)) in
             let fewer : suc u - 1 ≡ u = omega arith in
             let one = written ctx s m n (written_none ctx s m n shared) (n + 1) u (omega arith) (omega (arith, room)) in
             let two = written ctx s m n one n (word_of z) (omega arith) (omega (arith, room)) in

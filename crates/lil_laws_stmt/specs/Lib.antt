@@ -7,6 +7,7 @@ pub mod Ends
 pub mod Exits
 pub mod ForWords
 pub mod Fors
+pub mod Members
 pub mod Painting
 pub mod Returns
 pub mod Starts

@@ -6,11 +6,11 @@ use Rattle.std.proofs.lemmas.Bool.Decides.{nat_tests}
 use Rattle.std.proofs.lemmas.Int.{ints}
 use Rattle.lil_base.specs.Words.{Whole, Cardinal, Integer, between, number_of, word_of}
 use Rattle.lil_base.specs.Laws.{in_range, bounds}
-use Rattle.lil_resolved.specs.Kinds.{Kind, OfWhole, OfTruth, OfCharacter, OfEnumeration, OfRange, base_of, takes_value, compared_as, covers, outside_turns}
+use Rattle.lil_resolved.specs.Kinds.{Kind, OfWhole, OfTruth, OfCharacter, OfEnumeration, OfSet, OfRange, base_of, takes_value, compared_as, covers, outside_turns}
 use Rattle.lil_resolved.specs.Sound.{IsStep}
 use Rattle.lil_meaning.specs.Steps.{turns}
 use Rattle.lil_match.specs.Parts.{yes, no}
-use Rattle.lil_match.specs.Ranges.{has, has_base}
+use Rattle.lil_match.specs.Ranges.{has}
 
 no_less : (x : ℤ) → not (int_lt x x) ≡ true
 no_less x = grind (arith, ints)
@@ -35,6 +35,7 @@ small_has (OfWhole Integer) (OfWhole Cardinal) (negsuc n) takes apart there = cc
 small_has (OfWhole Cardinal) (OfWhole Cardinal) z takes apart there = cc
 small_has (OfWhole Integer) (OfWhole Integer) z takes apart there = cc
 small_has OfTruth OfTruth z takes apart there = cc
+small_has OfSet OfSet z takes apart there = cc
 small_has OfCharacter OfCharacter z takes apart there = cc
 small_has (OfEnumeration m) (OfEnumeration n) z takes apart there =
     let p = and_parts (m == n) (nat_le n 65535) takes in
@@ -68,6 +69,7 @@ outside (OfEnumeration m) (OfEnumeration n) a b takes apart there none limit =
 outside (OfWhole Cardinal) (OfWhole Cardinal) a b takes apart there none limit = cc
 outside (OfWhole Integer) (OfWhole Integer) a b takes apart there none limit = cc
 outside OfTruth OfTruth a b takes apart there none limit = cc
+outside OfSet OfSet a b takes apart there none limit = cc
 outside OfCharacter OfCharacter a b takes apart there none limit = cc
 outside k j a b takes apart there none limit = cc
 

@@ -7,7 +7,7 @@ use Rattle.lil_base.specs.declared.fault.TrapKind.TheVariants as trap
 use Rattle.lil_resolved.specs.Kinds.{Kind}
 use Rattle.lil_resolved.specs.Scalars.{Scalar, within, scalar_word}
 use Rattle.lil_resolved.specs.Resolved.{Designator, Expression, Argument, Assign, Copy, Request, kind_of, shape_of}
-use Rattle.lil_resolved.specs.Shapes.{Shape, Word, words, is_there}
+use Rattle.lil_resolved.specs.Shapes.{Shape, words, is_there}
 use Rattle.lil_meaning.specs.Cells.{Place, stored, alone, under}
 use Rattle.lil_meaning.specs.World.{World, Given, Single, serve}
 use Rattle.lil_meaning.specs.Items.{Datum, Scalars, Places, SetTo, StoreAt, CopyTo, CopyFrom, Pass, Do, Passing, Item, Value, PlaceOf, Fill, Perform, Going, Source}

@@ -1,6 +1,6 @@
--- Assignments, INC, DEC, HALT and calls that are lowered are sound.
+-- Assignments, INC, DEC, INCL, EXCL, HALT and calls that are lowered are sound.
 use Rattle.std.proofs.Common.{◌≡◌, ℕ, ◌≤◌, pos, Bool, true, List, [], ◌∷◌, map, Option, None, Some, IfSome, refl, sym, ap, subst, ◌∙◌}
-use Rattle.std.specs.Prelude.{◌==◌, slice_get}
+use Rattle.std.specs.Prelude.{◌==◌, ◌&&◌, slice_get}
 use Rattle.std.proofs.lemmas.Option.{same_Some}
 use Rattle.lil_types.specs.Types.{Table}
 use Rattle.lil_module.specs.declared.declared.RModule.{RModule}
@@ -19,7 +19,7 @@ use Rattle.lil_resolved.specs.Bases.{own_base}
 use Rattle.lil_resolved.specs.Kinds.{Kind, OfWhole, compared_as}
 use Rattle.lil_resolved.specs.Depth.{place_depth}
 use Rattle.lil_resolved.specs.Resolved.{Expression, Argument, Statements, kind_of, counted_as, shape_of}
-use Rattle.lil_resolved.specs.Sound.{takes_value, request_kinds, argument_kind, IsSoundWhole, IsSoundValue, AreSoundArguments, IsSoundBody}
+use Rattle.lil_resolved.specs.Sound.{takes_value, is_element, request_kinds, argument_kind, IsSoundTarget, IsSoundWhole, IsSoundValue, AreSoundArguments, IsSoundBody}
 use Rattle.lil_resolved.specs.Shapes.{Shape, is_there}
 use Rattle.lil_resolved.specs.Views.{base_view, kind_view, request_number}
 use Rattle.lil_resolved.specs.declared.resolved.RBase.{RBase}
@@ -29,16 +29,20 @@ use Rattle.lil_resolved.specs.declared.resolved.RRequest.{RRequest}
 use Rattle.lil_resolved.specs.declared.resolved.RRequest.TheVariants as q
 use Rattle.lil_resolved.specs.declared.resolved.Direction.{Direction}
 use Rattle.lil_resolved.specs.declared.resolved.Direction.TheVariants.{Up, Down}
+use Rattle.lil_resolved.specs.declared.resolved.Membership.{Membership}
+use Rattle.lil_resolved.specs.declared.resolved.Membership.TheVariants.{Joins, Leaves}
+use Rattle.lil_lower.specs.declared.sets.Members.{Members}
 use Rattle.lil_lower.specs.Bases.{base_at}
 use Rattle.lil_lower.specs.Operators.{counted}
 use Rattle.lil_lower.specs.Places.{Place, Cell}
+use Rattle.lil_lower.specs.Sets.{members_at}
 use Rattle.lil_lower.specs.Values as v
 use Rattle.lil_lower.specs.Values.{Lowers, argument}
 use Rattle.lil_lower.specs.Calls as s
-use Rattle.lil_lower.proofs.BaseLaws.{if_true, same_sort}
+use Rattle.lil_lower.proofs.BaseLaws.{if_true, same_sort, members_known, set_view}
 use Rattle.lil_lower.proofs.PlaceSound.{Fits, IsPlaced, IsTarget, near_kept, target_sound}
-use Rattle.lil_lower.proofs.ValueSound.{Kept, whole_held, shallow_kept, kept_whole, kept_alone}
-use Rattle.lil_lower.proofs.TreeSound.{designator_sound, target_known, handed_sound}
+use Rattle.lil_lower.proofs.ValueSound.{Kept, both_left, both_right, whole_held, entered_held, shallow_kept, shallow_value, kept_whole, kept_alone}
+use Rattle.lil_lower.proofs.TreeSound.{argument_sound, designator_sound, target_known, handed_sound}
 
 -- the whole numbers that go with a base
 counted_base : (t : Table) (k : RBase) → (j : RBase) × (base_at t (counted k) ≡ Some j) × (base_view j ≡ OfWhole (compared_as (base_view k)))
@@ -47,6 +51,7 @@ counted_base t b.Cardinal = (b.Cardinal, refl, refl)
 counted_base t b.Truth = (b.Cardinal, refl, refl)
 counted_base t b.Character = (b.Cardinal, refl, refl)
 counted_base t (b.Enumeration n) = (b.Cardinal, refl, refl)
+counted_base t b.Set = (b.Cardinal, refl, refl)
 
 counted_kind : (k : RKind) → OfWhole (compared_as (base_view k.base)) ≡ OfWhole (counted_as (kind_view k))
 counted_kind k = ap (λ j. OfWhole (compared_as j)) (sym (own_base k))
@@ -85,7 +90,7 @@ module _ (m : RModule) (ts : List Shape) (fits : Fits m ts) where
   Filled p = Lies p × (is_there (shape_of ts p.form) ≡ true)
 
   abbrev Near : (Place → Type 0) → Option Place → Type 0
-  Near P o = IfSome o (λ p. P p × (place_depth p.form ≤ 12))
+  Near P o = IfSome o (λ p. P p × (place_depth p.form ≤ 13))
 
   pub source_known : (a : RExpr) → Near Lies (s.source m a)
   source_known a = near_kept Lies (s.source_in m (out-RExpr a)) (by (out-RExpr a))
@@ -112,7 +117,7 @@ module _ (m : RModule) (ts : List Shape) (fits : Fits m ts) where
   copied_sound looping None from h j = tt
   copied_sound looping (Some d) None h j = tt
 
-  -- ---- INC, DEC and HALT
+  -- ---- INC and DEC
   changed_sound : (looping : Bool) (way : Direction) (o : Option Cell) (by : Lowers) → Known o
       → ((w : ℕ) → IfSome (v.shallow (by w)) (Kept m.types ts w)) → Body looping (s.changed_by way o by)
   changed_sound looping way None by h j = tt
@@ -144,6 +149,35 @@ module _ (m : RModule) (ts : List Shape) (fits : Fits m ts) where
   change_sound looping way (a ∷ c ∷ []) = changed_sound looping way (s.place m a) (argument m c).lowers (place_known a) (handed_sound m ts fits c)
   change_sound looping way (a ∷ c ∷ d ∷ xs) = tt
 
+  -- ---- INCL and EXCL
+  turned_sound : (looping : Bool) (way : Membership) (o : Option Cell) (c : RArgument) → Known o → Body looping (s.turned_at m.types way o (argument m c))
+  turned_sound looping way None c h = tt
+  turned_sound looping way (Some a) c h = by (members_at m.types a.sort) refl
+    where
+      over : (x : Members) → a.kind.base ≡ b.Set → (o : Option Expression) → IfSome o (λ e. IsSoundValue ts e (kind_view x.kind)) → Body looping (s.turned way x a o)
+      over x is None j = tt
+      over x is (Some e) j = if_true (IsSoundBody ts looping) (s.is_unranged a.kind.range && is_element (kind_view x.kind)) _ (λ fits. (
+        (
+          subst (IsSoundTarget ts a.form) (set_view a.kind is (both_left (s.is_unranged a.kind.range) (is_element (kind_view x.kind)) fits)) (target_sound m.types ts a h),
+          both_right (s.is_unranged a.kind.range) (is_element (kind_view x.kind)) fits,
+          j,
+        ),
+        tt,
+      ))
+
+      by : (o : Option Members) → members_at m.types a.sort ≡ o → Body looping (s.turned_in way o a (argument m c))
+      by None is = tt
+      by (Some x) is =
+          let base = same_Some a.kind.base b.Set (sym h.cell.type ∙ members_known m.types a.sort x is) in
+          over x base (v.shallow (v.entered x (argument m c))) (shallow_value m.types ts (kind_view x.kind) (v.entered x (argument m c)) (entered_held m.types ts x (argument m c) (argument_sound m ts fits c)))
+
+  membership_sound : (looping : Bool) (way : Membership) (xs : List RArgument) → Body looping (s.membership m way xs)
+  membership_sound looping way [] = tt
+  membership_sound looping way (a ∷ []) = tt
+  membership_sound looping way (a ∷ c ∷ []) = turned_sound looping way (s.place m a) c (place_known a)
+  membership_sound looping way (a ∷ c ∷ d ∷ xs) = tt
+
+  -- ---- HALT
   halted_sound : (looping : Bool) (xs : List RArgument) → Body looping (s.halted xs)
   halted_sound looping [] = (tt, tt)
   halted_sound looping (a ∷ xs) = tt
@@ -151,6 +185,8 @@ module _ (m : RModule) (ts : List Shape) (fits : Fits m ts) where
   pub procedure_sound : (looping : Bool) (p : Standard) (xs : List RArgument) → Body looping (s.procedure m p xs)
   procedure_sound looping standard.Inc xs = change_sound looping Up xs
   procedure_sound looping standard.Dec xs = change_sound looping Down xs
+  procedure_sound looping standard.Incl xs = membership_sound looping Joins xs
+  procedure_sound looping standard.Excl xs = membership_sound looping Leaves xs
   procedure_sound looping standard.Halt xs = halted_sound looping xs
   procedure_sound looping _ xs = tt
 

@@ -1,5 +1,5 @@
 -- Lists of parts: whether all are there, and what they are together.
-use Rattle.std.proofs.Common.{◌≡◌, ℕ, zero, suc, ◌+◌, ◌<◌, ◌≤◌, List, [], ◌∷◌, ◌++◌, length, map, take, drop, get_or, slice_get, Option, None, Some, sym, ap, subst, ◌∙◌, refl}
+use Rattle.std.proofs.Common.{◌≡◌, ℕ, zero, suc, ◌+◌, ◌<◌, ◌≤◌, List, [], ◌∷◌, ◌++◌, length, map, take, drop, get_or, slice_get, Option, None, Some, IfSome, sym, ap, subst, ◌∙◌, refl}
 use Rattle.std.specs.Option.{option_map}
 use Rattle.std.proofs.lemmas.List.{take_more, take_all, map-append}
 use Rattle.std.proofs.lemmas.Option.{none-some, same_Some}
@@ -100,6 +100,25 @@ module _ {X B : Type 0} (F : X → Option B) where
       by (Some b) here None there e others = absurd (none-some ys (ap (option_map (λ rest. b ∷ rest)) (sym there) ∙ e))
       by (Some b) here (Some rest) there e others =
           subst (λ ys. (y : B) × (F x ≡ Some y) × (slice_get ys i ≡ Some y)) (same_Some (b ∷ rest) ys (ap (option_map (λ rest. b ∷ rest)) (sym there) ∙ e)) (at b rest i here there is others)
+
+-- parts that are fine where they are there
+module _ {B : Type 0} (IsFine : B → Type 0) where
+  abbrev pub AllFine : List B → Type 0
+  AllFine [] = Unit {0}
+  AllFine (b ∷ bs) = IsFine b × AllFine bs
+
+  abbrev pub AllIf : List (Option B) → Type 0
+  AllIf [] = Unit {0}
+  AllIf (b ∷ bs) = IfSome b IsFine × AllIf bs
+
+  linked_fine : (b : B) (bs : Option (List B)) → IsFine b → IfSome bs AllFine → IfSome (option_map (λ rest. b ∷ rest) bs) AllFine
+  linked_fine b None h j = tt
+  linked_fine b (Some bs) h j = (h, j)
+
+  pub some_fine : (bs : List (Option B)) → AllIf bs → IfSome (all_some bs) AllFine
+  some_fine [] h = tt
+  some_fine (None ∷ bs) h = tt
+  some_fine (Some b ∷ bs) h = linked_fine b (all_some bs) h.0 (some_fine bs h.1)
 
 -- guards and arms as the generator has them
 nested_are : (gs : List RGuard) (other : Statements) → guarded (map guard_of gs) other ≡ nested (map guard_pair gs) other

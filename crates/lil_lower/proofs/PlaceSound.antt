@@ -8,13 +8,13 @@ use Rattle.lil_module.specs.declared.declared.RModule.{RModule}
 use Rattle.lil_module.specs.declared.declared.RVar.{RVar}
 use Rattle.lil_module.specs.declared.tree.RRoot.{RRoot}
 use Rattle.lil_module.specs.declared.tree.RRoot.TheVariants.{Global, Local, Field}
-use Rattle.lil_resolved.specs.Kinds.{takes_value}
+use Rattle.lil_resolved.specs.Kinds.{takes_value, is_ordinal}
 use Rattle.lil_resolved.specs.Depth.{place_depth}
 use Rattle.lil_resolved.specs.Resolved.{Variable, Element, Expression, kind_of, shape_of}
 use Rattle.lil_resolved.specs.Resolved as resolved
 use Rattle.lil_resolved.specs.Shapes.{Shape, is_there, shape_by}
 use Rattle.lil_resolved.specs.Sound.{IsSoundPlace, IsSoundTarget}
-use Rattle.lil_resolved.specs.Views.{kind_view}
+use Rattle.lil_resolved.specs.Views.{base_view, kind_view}
 use Rattle.lil_resolved.specs.declared.resolved.RKind.{RKind}
 use Rattle.lil_lower.specs.declared.places.ArrayParts.{ArrayParts}
 use Rattle.lil_lower.specs.Bases.{kind_at}
@@ -38,16 +38,16 @@ pub record Fits (m : RModule) (ts : List Shape) : Type 0 where
 -- a cell to which values may be stored
 pub record IsTarget (t : Table) (ts : List Shape) (c : Cell) : Type 0 where
   pub cell : IsCell t ts c
-  pub room : place_depth c.form ≤ 12
+  pub room : place_depth c.form ≤ 13
 
 there_is : (o : Option Shape) (s : Shape) → there o ≡ Some s → o ≡ Some s
 there_is None s h = h
 there_is (Some x) s h = ap Some (cond_some (is_there x) x s h).1
 
 -- a place for whose address there is room
-pub near_kept : (P : Place → Type 0) (o : Option Place) → IfSome o P → IfSome (s.near_place o) (λ p. P p × (place_depth p.form ≤ 12))
+pub near_kept : (P : Place → Type 0) (o : Option Place) → IfSome o P → IfSome (s.near_place o) (λ p. P p × (place_depth p.form ≤ 13))
 near_kept P None h = tt
-near_kept P (Some p) h = if_true (λ p. P p × (place_depth p.form ≤ 12)) (nat_le (place_depth p.form) 12) p (λ j. (h, grind (arith, nat_tests)))
+near_kept P (Some p) h = if_true (λ p. P p × (place_depth p.form ≤ 13)) (nat_le (place_depth p.form) 13) p (λ j. (h, grind (arith, nat_tests)))
 
 -- a place lies among the variables
 pub record IsPlaced (shapes ts : List Shape) (p : Place) : Type 0 where
@@ -83,11 +83,12 @@ module _ (m : RModule) (ts : List Shape) (fits : Fits m ts) where
   counter_known i None is = tt
   counter_known i (Some a) is = by (kind_at m.types a.sort) refl
     where
-      by : (o : Option RKind) → kind_at m.types a.sort ≡ o → IfSome (option_map (v.variable_with i (base m.types a.sort)) o) (IsKnown m.types ts)
+      by : (o : Option RKind) → kind_at m.types a.sort ≡ o → IfSome (v.variable_with i (base m.types a.sort) o) (IsKnown m.types ts)
       by None h = tt
       by (Some k) h =
           let at = variable_at i a is in
-          record { type = kind_base m.types a.sort k h; kind = at.2 ∙ ap Some (word_shaped m.types fits.shapes a.sort at.0 (has_shape a.sort at.0 at.1) k h) }
+          if_true (IsKnown m.types ts) (is_ordinal (base_view k.base)) _
+          (λ e. record { type = kind_base m.types a.sort k h; kind = at.2 ∙ ap Some (word_shaped m.types fits.shapes a.sort at.0 (has_shape a.sort at.0 at.1) k h); ordinal = e })
 
   pub root_known : (r : RRoot) → IfSome (v.root m r) (IsKnown m.types ts)
   root_known (Global i) = counter_known i (slice_get m.variables i) refl
@@ -143,7 +144,7 @@ module _ (m : RModule) (ts : List Shape) (fits : Fits m ts) where
 
   pub near_known : (o : Option Cell) → IfSome o (IsCell m.types ts) → IfSome (s.near o) (IsTarget m.types ts)
   near_known None h = tt
-  near_known (Some c) h = if_true (IsTarget m.types ts) (nat_le (place_depth c.form) 12) c (λ j. record { cell = h; room = grind (arith, nat_tests) })
+  near_known (Some c) h = if_true (IsTarget m.types ts) (nat_le (place_depth c.form) 13) c (λ j. record { cell = h; room = grind (arith, nat_tests) })
 
 -- a cell that is near is one to which sound statements may store
 pub target_sound : (t : Table) (ts : List Shape) (c : Cell) → IsTarget t ts c → IsSoundTarget ts c.form (kind_view c.kind)

@@ -21,7 +21,7 @@ use Rattle.lil_module.specs.declared.tree.RGuard.{RGuard, roll-RGuard}
 use Rattle.lil_resolved.specs.Bases.{own_base}
 use Rattle.lil_resolved.specs.Kinds.{Kind, OfTruth}
 use Rattle.lil_resolved.specs.Resolved.{Expression, Label, Statements, Empty, Then, Arms, Else, Resolved, kind_of}
-use Rattle.lil_resolved.specs.Sound.{is_base, takes_value, IsSoundWhole, IsSoundValue, IsSoundLabel, AreSoundLabels, IsStep, IsSoundBody, AreSoundArms, IsSound}
+use Rattle.lil_resolved.specs.Sound.{is_ordinal, takes_value, IsSoundWhole, IsSoundValue, IsSoundLabel, AreSoundLabels, IsStep, IsSoundBody, AreSoundArms, IsSound}
 use Rattle.lil_resolved.specs.Shapes.{Shape}
 use Rattle.lil_resolved.specs.Views.{base_view, kind_view, joined, all_of}
 use Rattle.lil_resolved.specs.declared.resolved.RBase.{RBase}
@@ -37,32 +37,14 @@ use Rattle.lil_lower.specs.Values.{root, own_or, expression, designator}
 use Rattle.lil_lower.specs.Calls.{copied, source}
 use Rattle.lil_lower.specs.Lowered as s
 use Rattle.lil_lower.specs.Lowered.{Meaning, GuardMeaning, ArmMeaning, value, statement_layer, statement, arm, guard}
-use Rattle.lil_lower.proofs.BaseLaws.{if_true, base_words, number_sound}
+use Rattle.lil_lower.proofs.BaseLaws.{if_true, number_sound}
+use Rattle.lil_lower.proofs.Lists.{AllFine, AllIf, some_fine}
 use Rattle.lil_lower.proofs.StatementForms.{rolled, guard_is, arm_is}
 use Rattle.lil_lower.proofs.PlaceSound.{Fits, IsPlaced, IsTarget, near_kept, root_known, composite_there, cell_known, near_known}
 use Rattle.lil_lower.proofs.ShapeSound.{within_is}
 use Rattle.lil_lower.proofs.ValueSound.{Kept, IsKnown, both_left, both_right, variable_sound, kept_whole, kept_alone}
 use Rattle.lil_lower.proofs.TreeSound.{designator_sound, value_sound}
 use Rattle.lil_lower.proofs.CallSound.{Filled, source_known, copied_sound, stored_sound, called_sound, procedure_sound}
-
--- ---- lists of parts
-module _ {B : Type 0} (IsFine : B → Type 0) where
-  abbrev AllFine : List B → Type 0
-  AllFine [] = Unit {0}
-  AllFine (b ∷ bs) = IsFine b × AllFine bs
-
-  abbrev AllIf : List (Option B) → Type 0
-  AllIf [] = Unit {0}
-  AllIf (b ∷ bs) = IfSome b IsFine × AllIf bs
-
-  linked_fine : (b : B) (bs : Option (List B)) → IsFine b → IfSome bs AllFine → IfSome (option_map (λ rest. b ∷ rest) bs) AllFine
-  linked_fine b None h j = tt
-  linked_fine b (Some bs) h j = (h, j)
-
-  some_fine : (bs : List (Option B)) → AllIf bs → IfSome (all_some bs) AllFine
-  some_fine [] h = tt
-  some_fine (None ∷ bs) h = tt
-  some_fine (Some b ∷ bs) h = linked_fine b (all_some bs) h.0 (some_fine bs h.1)
 
 some_if : {A : Type 0} (b : Bool) (o : Option A) (x : A) → (if b then o else None) ≡ Some x → o ≡ Some x
 some_if true o x h = h
@@ -144,10 +126,10 @@ module _ (ts : List Shape) where
   chosen_sound looping k [] other h j = j
   chosen_sound looping k (a ∷ rest) other h j = (h.0.0, h.0.1, chosen_sound looping k rest other h.1 j)
 
-  selected_sound : (looping : Bool) (k : RBase) (e : Option Expression) (as' : Option (List (List Label × Statements))) (other : Option Arms) → is_base (base_view k) ≡ true → Whole (base_view k) e → IfSome as' (AllFine (IsSoundArm looping k))
+  selected_sound : (looping : Bool) (k : RBase) (e : Option Expression) (as' : Option (List (List Label × Statements))) (other : Option Arms) → is_ordinal (base_view k) ≡ true → Whole (base_view k) e → IfSome as' (AllFine (IsSoundArm looping k))
       → IfSome other (AreSoundArms ts looping (base_view k)) → Body looping (s.selected e as' other)
   selected_sound looping k (Some e) (Some as') (Some other) w h j i =
-      (subst (λ k. (is_base k ≡ true) × IsSoundWhole ts e k × AreSoundArms ts looping k (s.chosen as' other)) (sym h.kind) (w, h, chosen_sound looping k as' other j i), tt)
+      (subst (λ k. (is_ordinal k ≡ true) × IsSoundWhole ts e k × AreSoundArms ts looping k (s.chosen as' other)) (sym h.kind) (w, h, chosen_sound looping k as' other j i), tt)
   selected_sound looping k _ _ _ w h j i = tt
 
   while_sound : (looping : Bool) (e : Option Expression) (b : Option Statements) → Whole OfTruth e → Body looping b → Body looping (s.repeated_while e b)
@@ -239,20 +221,24 @@ module _ (m : RModule) (ts : List Shape) (fits : Fits m ts) where
   arms : (looping : Bool) (k : RBase) (as' : List Arm) → IfSome (all_some (map (λ (f : ArmMeaning). f looping k) (map (arm m) (map (λ e. e.0) as')))) (AllFine (IsSoundArm ts looping k))
   arms looping k as' = some_fine (IsSoundArm ts looping k) (map (λ (f : ArmMeaning). f looping k) (map (arm m) (map (λ e. e.0) as'))) (each_arm looping k as')
 
-  case_sound : (looping : Bool) (o : Option Ordinal) (x : RExpr) (as' : List Arm) (other : Option (List Meaning)) → IfSome o (λ i. base_at m.types i.sort ≡ Some i.base)
+  -- what a CASE may select by
+  abbrev IsSelector : Ordinal → Type 0
+  IsSelector i = (base_at m.types i.sort ≡ Some i.base) × (is_ordinal (base_view i.base) ≡ true)
+
+  case_sound : (looping : Bool) (o : Option Ordinal) (x : RExpr) (as' : List Arm) (other : Option (List Meaning)) → IfSome o IsSelector
       → ((k : RBase) → IfSome (s.else_arms looping other) (AreSoundArms ts looping (base_view k))) → Body ts looping (s.case_by m o x looping (map (arm m) (map (λ e. e.0) as')) other)
   case_sound looping None x as' other i h = tt
   case_sound looping (Some by) x as' other i h =
       selected_sound ts looping by.base (value m x by.sort) (all_some (map (λ (f : ArmMeaning). f looping by.base) (map (arm m) (map (λ e. e.0) as')))) (s.else_arms looping other)
-      (base_words m.types by.sort by.base i) (whole x by.sort by.base i) (arms looping by.base as') (h by.base)
+      i.1 (whole x by.sort by.base i.0) (arms looping by.base as') (h by.base)
 
-  sort_known : (o : Option ℕ) → IfSome (s.selector_by m.types o) (λ i. base_at m.types i.sort ≡ Some i.base)
+  sort_known : (o : Option ℕ) → IfSome (s.selector_by m.types o) IsSelector
   sort_known None = tt
   sort_known (Some sort) = by (base_at m.types sort) refl
     where
-      by : (o : Option RBase) → base_at m.types sort ≡ o → IfSome (option_map (s.selector_with sort) o) (λ i. base_at m.types i.sort ≡ Some i.base)
+      by : (o : Option RBase) → base_at m.types sort ≡ o → IfSome (s.selector_with sort o) IsSelector
       by None h = tt
-      by (Some k) h = h
+      by (Some k) h = if_true IsSelector (is_ordinal (base_view k)) _ (λ e. (h, e))
 
   assigned_sound : (looping : Bool) (o : Option Cell) (x : RExpr) → IfSome o (IsTarget m.types ts) → Body ts looping (s.assigned m o x)
   assigned_sound looping None x h = tt

@@ -1,26 +1,27 @@
 -- All expressions that are lowered are sound, by induction.
-use Rattle.std.proofs.Common.{ℕ, List, [], ◌∷◌, map, slice_get, Option, IfSome, sym, subst}
+use Rattle.std.proofs.Common.{ℕ, List, [], ◌∷◌, map, slice_get, Option, None, Some, IfSome, sym, subst}
 use Rattle.std.specs.List.{fold}
 use Rattle.lil_module.specs.declared.declared.RModule.{RModule}
 use Rattle.lil_module.specs.declared.tree.RArgument.{RArgument}
 use Rattle.lil_module.specs.declared.tree.RArgument.TheOpen as o
-use Rattle.lil_module.specs.declared.tree.RArgument.TheOpen.{RArgument-F, RExpr-F, RSelector-F, RDesignator-F, ROperation-F}
-use Rattle.lil_module.specs.declared.tree.RArgument.TheFolds.{map-RArgument, map-RExpr, map-RSelector, map-RDesignator, map-ROperation, ind-RArgument, ind-RExpr, ind-RDesignator}
+use Rattle.lil_module.specs.declared.tree.RArgument.TheOpen.{RArgument-F, RExpr-F, RSelector-F, RDesignator-F, RElement-F, ROperation-F}
+use Rattle.lil_module.specs.declared.tree.RArgument.TheFolds.{map-RArgument, map-RExpr, map-RSelector, map-RDesignator, map-RElement, map-ROperation, ind-RArgument, ind-RExpr, ind-RDesignator}
 use Rattle.lil_module.specs.declared.tree.RArgument.TheViews.{roll-RArgument, roll-RExpr, roll-RSelector}
 use Rattle.lil_module.specs.declared.tree.RExpr.{RExpr}
 use Rattle.lil_module.specs.declared.tree.RCallee.{RCallee}
 use Rattle.lil_module.specs.declared.tree.RSelector.{RSelector}
 use Rattle.lil_module.specs.declared.tree.RDesignator.{RDesignator, roll-RDesignator}
-use Rattle.lil_module.specs.declared.tree.RElement.{RElement}
+use Rattle.lil_module.specs.declared.tree.RElement.{RElement, roll-RElement}
 use Rattle.lil_module.specs.declared.tree.ROperation.{ROperation, roll-ROperation}
 use Rattle.lil_resolved.specs.Resolved.{Expression}
 use Rattle.lil_resolved.specs.Shapes.{Shape}
 use Rattle.lil_lower.specs.Places.{Place, Part, Located, place_on, root_place, cell}
+use Rattle.lil_lower.specs.Sets.{Member}
 use Rattle.lil_lower.specs.Values as s
-use Rattle.lil_lower.specs.Values.{Value as Meant, Operation, argument_layer, expression_layer, expression, argument, selector, designator, operation, target}
+use Rattle.lil_lower.specs.Values.{Value as Meant, Operation, argument_layer, expression_layer, expression, argument, selector, designator, member, operation, target}
 use Rattle.lil_lower.proofs.PlaceSound.{Fits, IsPlaced, IsTarget, root_placed, field_placed, indexed_placed, on_placed, cell_known, near_known}
-use Rattle.lil_lower.proofs.ValueForms.{callees, elements, rolled, argument_rolled, selector_rolled, operation_is, located_place}
-use Rattle.lil_lower.proofs.ValueSound.{Holds, Kept, AllValues, AllHold, whole_held, scalar_held, text_held, named_held, taken_held, function_held, one_held, chain_held, shallow_kept}
+use Rattle.lil_lower.proofs.ValueForms.{callees, rolled, argument_rolled, selector_rolled, member_rolled, operation_is, located_place}
+use Rattle.lil_lower.proofs.ValueSound.{Holds, Kept, AllValues, AllHold, MemberHolds, AllMembers, member_held, set_held, whole_held, scalar_held, text_held, named_held, taken_held, function_held, one_held, chain_held, shallow_kept}
 
 module _ (m : RModule) (ts : List Shape) (fits : Fits m ts) where
   abbrev HoldsHere : (ℕ → Option Expression) → Type 0
@@ -40,6 +41,9 @@ module _ (m : RModule) (ts : List Shape) (fits : Fits m ts) where
 
   abbrev DesignatorHolds : RDesignator → Type 0
   DesignatorHolds d = Reaches (designator m d).place
+
+  abbrev ElementHolds : RElement → Type 0
+  ElementHolds e = MemberHolds m.types ts (member m e)
 
   abbrev OperationHolds : ROperation → Type 0
   OperationHolds x = HoldsHere (operation m x).operand
@@ -61,7 +65,7 @@ module _ (m : RModule) (ts : List Shape) (fits : Fits m ts) where
   Named = (d : RDesignator) × DesignatorHolds d
 
   abbrev Element : Type 0
-  Element = (e : RElement) × Unit {0}
+  Element = (e : RElement) × ElementHolds e
 
   abbrev Operates : Type 0
   Operates = (x : ROperation) × OperationHolds x
@@ -74,11 +78,15 @@ module _ (m : RModule) (ts : List Shape) (fits : Fits m ts) where
   all_hold [] = tt
   all_hold (x ∷ xs) = (x.1, all_hold xs)
 
+  members_hold : (es : List Element) → AllMembers m.types ts (map (member m) (map (λ e. e.0) es))
+  members_hold [] = tt
+  members_hold (e ∷ es) = (e.1, members_hold es)
+
   abbrev bare : RExpr-F Argument Callee Value Selector Named Element Operates → RExpr-F RArgument RCallee RExpr RSelector RDesignator RElement ROperation
   bare = map-RExpr Argument Callee Value Selector Named Element Operates RArgument RCallee RExpr RSelector RDesignator RElement ROperation (λ e. e.0) (λ e. e.0) (λ e. e.0) (λ e. e.0) (λ e. e.0) (λ e. e.0) (λ e. e.0)
 
-  abbrev lowers : RExpr-F RArgument RCallee RExpr RSelector RDesignator RElement ROperation → RExpr-F Meant (Unit {0}) Meant Part Located (Unit {0}) Operation
-  lowers = map-RExpr RArgument RCallee RExpr RSelector RDesignator RElement ROperation Meant (Unit {0}) Meant Part Located (Unit {0}) Operation (argument m) (callees m) (expression m) (selector m) (designator m) (elements m) (operation m)
+  abbrev lowers : RExpr-F RArgument RCallee RExpr RSelector RDesignator RElement ROperation → RExpr-F Meant (Unit {0}) Meant Part Located Member Operation
+  lowers = map-RExpr RArgument RCallee RExpr RSelector RDesignator RElement ROperation Meant (Unit {0}) Meant Part Located Member Operation (argument m) (callees m) (expression m) (selector m) (designator m) (member m) (operation m)
 
   layer_holds : (y : RExpr-F Argument Callee Value Selector Named Element Operates) → HoldsHere (expression_layer m (lowers (bare y))).lowers
   layer_holds (o.Whole z) w = whole_held m.types ts z w
@@ -86,7 +94,7 @@ module _ (m : RModule) (ts : List Shape) (fits : Fits m ts) where
   layer_holds (o.Chars t) w = text_held m.types ts t w
   layer_holds (o.Named i) w = named_held m.types ts (slice_get m.texts i) w
   layer_holds o.Nil w = tt
-  layer_holds (o.SetOf t es) w = tt
+  layer_holds (o.SetOf t es) w = set_held m.types ts t (map (member m) (map (λ e. e.0) es)) (members_hold es) w
   layer_holds (o.RExpr::Value d) w = taken_held m.types ts (cell m.types (designator m d.0).place) (cell_known m ts fits (designator m d.0).place d.1) w
   layer_holds (o.RExpr::Procedure i) w = tt
   layer_holds (o.Call c xs) w = tt
@@ -107,6 +115,16 @@ module _ (m : RModule) (ts : List Shape) (fits : Fits m ts) where
 
   operation_holds : (y : ROperation-F Argument Callee Value Selector Named Element Operates) → OperationHolds (roll-ROperation (bare_operation y))
   operation_holds y = subst (λ (f : Operation). HoldsHere f.operand) (sym (operation_is m (roll-ROperation (bare_operation y)))) y.operand.1
+
+  abbrev bare_element : RElement-F Argument Callee Value Selector Named Element Operates → RElement-F RArgument RCallee RExpr RSelector RDesignator RElement ROperation
+  bare_element = map-RElement Argument Callee Value Selector Named Element Operates RArgument RCallee RExpr RSelector RDesignator RElement ROperation (λ e. e.0) (λ e. e.0) (λ e. e.0) (λ e. e.0) (λ e. e.0) (λ e. e.0) (λ e. e.0)
+
+  element_holds : (y : RElement-F Argument Callee Value Selector Named Element Operates) → ElementHolds (roll-RElement (bare_element y))
+  element_holds y = by y.low y.high
+    where
+      by : (low : Value) (high : Option Value) → ElementHolds (roll-RElement (bare_element (record { low = low; high = high })))
+      by low None = subst (MemberHolds m.types ts) (sym (member_rolled m (record { low = low.0; high = None }))) (member_held m.types ts (expression m low.0) None low.1 tt)
+      by low (Some high) = subst (MemberHolds m.types ts) (sym (member_rolled m (record { low = low.0; high = Some high.0 }))) (member_held m.types ts (expression m low.0) (Some (expression m high.0)) low.1 high.1)
 
   abbrev bare_selector : RSelector-F Argument Callee Value Selector Named Element Operates → RSelector-F RArgument RCallee RExpr RSelector RDesignator RElement ROperation
   bare_selector = map-RSelector Argument Callee Value Selector Named Element Operates RArgument RCallee RExpr RSelector RDesignator RElement ROperation (λ e. e.0) (λ e. e.0) (λ e. e.0) (λ e. e.0) (λ e. e.0) (λ e. e.0) (λ e. e.0)
@@ -130,33 +148,33 @@ module _ (m : RModule) (ts : List Shape) (fits : Fits m ts) where
   expression_holds y = subst (λ (f : Meant). HoldsHere f.lowers) (sym (rolled m (bare y))) (layer_holds y)
 
   pub expression_sound : (x : RExpr) → ExpressionHolds x
-  expression_sound = ind-RExpr ArgumentHolds (λ c. Unit {0}) ExpressionHolds SelectorHolds DesignatorHolds (λ e. Unit {0}) OperationHolds
+  expression_sound = ind-RExpr ArgumentHolds (λ c. Unit {0}) ExpressionHolds SelectorHolds DesignatorHolds ElementHolds OperationHolds
       (λ x y is. subst (λ z. ArgumentHolds (roll-RArgument z)) is (argument_holds y))
       (λ x y is. tt)
       (λ x y is. subst (λ z. ExpressionHolds (roll-RExpr z)) is (expression_holds y))
       (λ x y is. subst (λ z. SelectorHolds (roll-RSelector z)) is (selector_holds y))
       (λ x y is. subst (λ z. DesignatorHolds (roll-RDesignator z)) is (designator_holds y))
-      (λ x y is. tt)
+      (λ x y is. subst (λ z. ElementHolds (roll-RElement z)) is (element_holds y))
       (λ x y is. subst (λ z. OperationHolds (roll-ROperation z)) is (operation_holds y))
 
   pub argument_sound : (a : RArgument) → ArgumentHolds a
-  argument_sound = ind-RArgument ArgumentHolds (λ c. Unit {0}) ExpressionHolds SelectorHolds DesignatorHolds (λ e. Unit {0}) OperationHolds
+  argument_sound = ind-RArgument ArgumentHolds (λ c. Unit {0}) ExpressionHolds SelectorHolds DesignatorHolds ElementHolds OperationHolds
       (λ x y is. subst (λ z. ArgumentHolds (roll-RArgument z)) is (argument_holds y))
       (λ x y is. tt)
       (λ x y is. subst (λ z. ExpressionHolds (roll-RExpr z)) is (expression_holds y))
       (λ x y is. subst (λ z. SelectorHolds (roll-RSelector z)) is (selector_holds y))
       (λ x y is. subst (λ z. DesignatorHolds (roll-RDesignator z)) is (designator_holds y))
-      (λ x y is. tt)
+      (λ x y is. subst (λ z. ElementHolds (roll-RElement z)) is (element_holds y))
       (λ x y is. subst (λ z. OperationHolds (roll-ROperation z)) is (operation_holds y))
 
   pub designator_sound : (d : RDesignator) → DesignatorHolds d
-  designator_sound = ind-RDesignator ArgumentHolds (λ c. Unit {0}) ExpressionHolds SelectorHolds DesignatorHolds (λ e. Unit {0}) OperationHolds
+  designator_sound = ind-RDesignator ArgumentHolds (λ c. Unit {0}) ExpressionHolds SelectorHolds DesignatorHolds ElementHolds OperationHolds
       (λ x y is. subst (λ z. ArgumentHolds (roll-RArgument z)) is (argument_holds y))
       (λ x y is. tt)
       (λ x y is. subst (λ z. ExpressionHolds (roll-RExpr z)) is (expression_holds y))
       (λ x y is. subst (λ z. SelectorHolds (roll-RSelector z)) is (selector_holds y))
       (λ x y is. subst (λ z. DesignatorHolds (roll-RDesignator z)) is (designator_holds y))
-      (λ x y is. tt)
+      (λ x y is. subst (λ z. ElementHolds (roll-RElement z)) is (element_holds y))
       (λ x y is. subst (λ z. OperationHolds (roll-ROperation z)) is (operation_holds y))
 
   pub target_known : (d : RDesignator) → IfSome (target m d) (IsTarget m.types ts)

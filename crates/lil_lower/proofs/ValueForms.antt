@@ -1,61 +1,65 @@
 -- What each form of expression is, from what its parts are.
-use Rattle.std.proofs.Common.{◌≡◌, ℕ, ◌≤◌, ℤ, List, [], ◌∷◌, length, map, get_or, arith, Option, None, Some, refl, sym, ap, ◌∙◌}
+use Rattle.std.proofs.Common.{◌≡◌, ℕ, ◌≤◌, ℤ, true, List, [], ◌∷◌, length, map, get_or, arith, Option, None, Some, refl, sym, ap, ◌∙◌}
 use Rattle.std.specs.Prelude.{slice_get, ◌-◌}
 use Rattle.std.specs.Option.{option_map}
 use Rattle.std.specs.List.{fold}
-use Rattle.lil_types.specs.Types.{base}
+use Rattle.lil_types.specs.Types.{Table, base}
 use Rattle.lil_base.specs.declared.operator.OneOp.{OneOp}
 use Rattle.lil_module.specs.declared.declared.RModule.{RModule}
 use Rattle.lil_module.specs.declared.tree.Standard.{Standard}
 use Rattle.lil_module.specs.declared.tree.RArgument.{RArgument}
 use Rattle.lil_module.specs.declared.tree.RArgument.TheVariants as handed
 use Rattle.lil_module.specs.declared.tree.RArgument.TheOpen as o
-use Rattle.lil_module.specs.declared.tree.RArgument.TheOpen.{RArgument-F, RExpr-F, RSelector-F}
-use Rattle.lil_module.specs.declared.tree.RArgument.TheFolds.{map-RArgument, map-RExpr, map-RSelector, fold-RCallee, fold-RElement, fold-roll-RArgument, fold-roll-RExpr, fold-roll-RSelector, fold_out-RDesignator, fold_out-ROperation}
-use Rattle.lil_module.specs.declared.tree.RArgument.TheViews.{roll-RArgument, roll-RExpr, roll-RSelector}
+use Rattle.lil_module.specs.declared.tree.RArgument.TheOpen.{RArgument-F, RExpr-F, RSelector-F, RElement-F}
+use Rattle.lil_module.specs.declared.tree.RArgument.TheFolds.{map-RArgument, map-RExpr, map-RSelector, map-RElement, fold-RCallee, fold-roll-RArgument, fold-roll-RExpr, fold-roll-RSelector, fold-roll-RElement, fold_out-RDesignator, fold_out-ROperation}
+use Rattle.lil_module.specs.declared.tree.RArgument.TheViews.{roll-RArgument, roll-RExpr, roll-RSelector, roll-out-RElement}
 use Rattle.lil_module.specs.declared.tree.RExpr.{RExpr}
 use Rattle.lil_module.specs.declared.tree.RExpr.TheVariants as v
 use Rattle.lil_module.specs.declared.tree.RCallee.{RCallee}
 use Rattle.lil_module.specs.declared.tree.RSelector.{RSelector}
 use Rattle.lil_module.specs.declared.tree.RSelector.TheVariants as part
 use Rattle.lil_module.specs.declared.tree.RDesignator.{RDesignator, out-RDesignator}
-use Rattle.lil_module.specs.declared.tree.RElement.{RElement}
+use Rattle.lil_module.specs.declared.tree.RElement.{RElement, out-RElement, roll-RElement}
 use Rattle.lil_module.specs.declared.tree.ROperation.{ROperation, out-ROperation}
+use Rattle.std.proofs.lemmas.Bool.{cond-true}
 use Rattle.std.proofs.lemmas.List.{length-map}
 use Rattle.std.proofs.lemmas.Option.{slice_get-map}
+use Rattle.lil_lower.specs.declared.sets.Members.{Members}
 use Rattle.lil_lower.specs.Operators.{result_sort}
+use Rattle.lil_lower.specs.Sets.{Member, sort_before, single, spanned, set_with, set_by}
+use Rattle.lil_lower.specs.Shaping.{all_some}
+use Rattle.lil_lower.proofs.Lists.{map_of_map}
+use Rattle.lil_resolved.specs.Sound.{is_element}
+use Rattle.lil_resolved.specs.Views.{kind_view}
 use Rattle.lil_lower.specs.Values as s
 use Rattle.lil_lower.specs.Places.{Place, Part, Located, field_at, array_at, element_sort, sort_on, place_on, root_sort, root_place, located, field_place, nowhere, cell, cell_sort}
-use Rattle.lil_lower.specs.Values.{Value, Lowers, Operation, argument_layer, expression_layer, selector_layer, designator_layer, operation_layer, expression, argument, selector, designator, operation}
+use Rattle.lil_lower.specs.Values.{Value, Lowers, Operation, argument_layer, expression_layer, selector_layer, designator_layer, member_layer, operation_layer, expression, argument, selector, designator, member, operation}
 
 abbrev callee : RCallee → Unit {0}
 callee c = tt
 
 module _ (m : RModule) where
   pub callees : RCallee → Unit {0}
-  callees = fold-RCallee Value (Unit {0}) Value Part Located (Unit {0}) Operation (argument_layer m) (λ c. tt) (expression_layer m) (selector_layer m) (designator_layer m) (λ e. tt) (operation_layer m)
-
-  pub elements : RElement → Unit {0}
-  elements = fold-RElement Value (Unit {0}) Value Part Located (Unit {0}) Operation (argument_layer m) (λ c. tt) (expression_layer m) (selector_layer m) (designator_layer m) (λ e. tt) (operation_layer m)
+  callees = fold-RCallee Value (Unit {0}) Value Part Located Member Operation (argument_layer m) (λ c. tt) (expression_layer m) (selector_layer m) (designator_layer m) (member_layer m) (operation_layer m)
 
   pub rolled : (x : RExpr-F RArgument RCallee RExpr RSelector RDesignator RElement ROperation) → expression m (roll-RExpr x)
-      ≡ expression_layer m (map-RExpr RArgument RCallee RExpr RSelector RDesignator RElement ROperation Value (Unit {0}) Value Part Located (Unit {0}) Operation (argument m) callees (expression m) (selector m) (designator m) elements (operation m) x)
-  unfolding callees elements expression argument selector designator operation
-  rolled = fold-roll-RExpr Value (Unit {0}) Value Part Located (Unit {0}) Operation (argument_layer m) (λ c. tt) (expression_layer m) (selector_layer m) (designator_layer m) (λ e. tt) (operation_layer m)
+      ≡ expression_layer m (map-RExpr RArgument RCallee RExpr RSelector RDesignator RElement ROperation Value (Unit {0}) Value Part Located Member Operation (argument m) callees (expression m) (selector m) (designator m) (member m) (operation m) x)
+  unfolding callees expression argument selector designator member operation
+  rolled = fold-roll-RExpr Value (Unit {0}) Value Part Located Member Operation (argument_layer m) (λ c. tt) (expression_layer m) (selector_layer m) (designator_layer m) (member_layer m) (operation_layer m)
 
   pub argument_rolled : (x : RArgument-F RArgument RCallee RExpr RSelector RDesignator RElement ROperation) → argument m (roll-RArgument x)
-      ≡ argument_layer m (map-RArgument RArgument RCallee RExpr RSelector RDesignator RElement ROperation Value (Unit {0}) Value Part Located (Unit {0}) Operation (argument m) callees (expression m) (selector m) (designator m) elements (operation m) x)
-  unfolding callees elements expression argument selector designator operation
-  argument_rolled = fold-roll-RArgument Value (Unit {0}) Value Part Located (Unit {0}) Operation (argument_layer m) (λ c. tt) (expression_layer m) (selector_layer m) (designator_layer m) (λ e. tt) (operation_layer m)
+      ≡ argument_layer m (map-RArgument RArgument RCallee RExpr RSelector RDesignator RElement ROperation Value (Unit {0}) Value Part Located Member Operation (argument m) callees (expression m) (selector m) (designator m) (member m) (operation m) x)
+  unfolding callees expression argument selector designator member operation
+  argument_rolled = fold-roll-RArgument Value (Unit {0}) Value Part Located Member Operation (argument_layer m) (λ c. tt) (expression_layer m) (selector_layer m) (designator_layer m) (member_layer m) (operation_layer m)
 
   pub selector_rolled : (x : RSelector-F RArgument RCallee RExpr RSelector RDesignator RElement ROperation) → selector m (roll-RSelector x)
-      ≡ selector_layer m (map-RSelector RArgument RCallee RExpr RSelector RDesignator RElement ROperation Value (Unit {0}) Value Part Located (Unit {0}) Operation (argument m) callees (expression m) (selector m) (designator m) elements (operation m) x)
-  unfolding callees elements expression argument selector designator operation
-  selector_rolled = fold-roll-RSelector Value (Unit {0}) Value Part Located (Unit {0}) Operation (argument_layer m) (λ c. tt) (expression_layer m) (selector_layer m) (designator_layer m) (λ e. tt) (operation_layer m)
+      ≡ selector_layer m (map-RSelector RArgument RCallee RExpr RSelector RDesignator RElement ROperation Value (Unit {0}) Value Part Located Member Operation (argument m) callees (expression m) (selector m) (designator m) (member m) (operation m) x)
+  unfolding callees expression argument selector designator member operation
+  selector_rolled = fold-roll-RSelector Value (Unit {0}) Value Part Located Member Operation (argument_layer m) (λ c. tt) (expression_layer m) (selector_layer m) (designator_layer m) (member_layer m) (operation_layer m)
 
   pub designator_is : (d : RDesignator) → designator m d ≡ located m (out-RDesignator d).root (map (selector m) (out-RDesignator d).selectors)
-  unfolding callees elements expression argument selector designator operation
-  designator_is d = fold_out-RDesignator Value (Unit {0}) Value Part Located (Unit {0}) Operation (argument_layer m) (λ c. tt) (expression_layer m) (selector_layer m) (designator_layer m) (λ e. tt) (operation_layer m) d
+  unfolding callees expression argument selector designator member operation
+  designator_is d = fold_out-RDesignator Value (Unit {0}) Value Part Located Member Operation (argument_layer m) (λ c. tt) (expression_layer m) (selector_layer m) (designator_layer m) (member_layer m) (operation_layer m) d
 
   pub located_sort : (d : RDesignator) → (designator m d).sort ≡ fold sort_on (root_sort m (out-RDesignator d).root) (map (selector m) (out-RDesignator d).selectors)
   located_sort d = ap (λ (l : Located). l.sort) (designator_is d)
@@ -64,8 +68,28 @@ module _ (m : RModule) where
   located_place d = ap (λ (l : Located). l.place) (designator_is d)
 
   pub operation_is : (x : ROperation) → operation m x ≡ record { operator = (out-ROperation x).operator; sort = (out-ROperation x).sort; operand = (expression m (out-ROperation x).operand).lowers }
-  unfolding callees elements expression argument selector designator operation
-  operation_is x = fold_out-ROperation Value (Unit {0}) Value Part Located (Unit {0}) Operation (argument_layer m) (λ c. tt) (expression_layer m) (selector_layer m) (designator_layer m) (λ e. tt) (operation_layer m) x
+  unfolding callees expression argument selector designator member operation
+  operation_is x = fold_out-ROperation Value (Unit {0}) Value Part Located Member Operation (argument_layer m) (λ c. tt) (expression_layer m) (selector_layer m) (designator_layer m) (member_layer m) (operation_layer m) x
+
+  pub member_rolled : (x : RElement-F RArgument RCallee RExpr RSelector RDesignator RElement ROperation) → member m (roll-RElement x)
+      ≡ member_layer m (map-RElement RArgument RCallee RExpr RSelector RDesignator RElement ROperation Value (Unit {0}) Value Part Located Member Operation (argument m) callees (expression m) (selector m) (designator m) (member m) (operation m) x)
+  unfolding callees expression argument selector designator member operation
+  member_rolled = fold-roll-RElement Value (Unit {0}) Value Part Located Member Operation (argument_layer m) (λ c. tt) (expression_layer m) (selector_layer m) (designator_layer m) (member_layer m) (operation_layer m)
+
+  member_with : (x : RElement) (h : Option RExpr) → (out-RElement x).high ≡ h → member m x ≡ member m (roll-RElement (record { low = (out-RElement x).low; high = h }))
+  member_with x h is = ap (member m) (sym (roll-out-RElement x)) ∙ (λ j. member m (roll-RElement (record { low = (out-RElement x).low; high = is j })))
+
+  pub alone_is : (x : RElement) (of : Members) → (out-RElement x).high ≡ None → member m x of ≡ single (s.entered of (expression m (out-RElement x).low))
+  alone_is x of is = ap (λ (f : Member). f of) (member_with x None is ∙ member_rolled (record { low = (out-RElement x).low; high = None }))
+
+  pub span_is : (x : RElement) (of : Members) (high : RExpr) → (out-RElement x).high ≡ Some high → member m x of ≡ spanned (s.entered of (expression m (out-RElement x).low)) (s.entered of (expression m high))
+  span_is x of high is = ap (λ (f : Member). f of) (member_with x (Some high) is ∙ member_rolled (record { low = (out-RElement x).low; high = Some high }))
+
+  -- a set of members that may be in it
+  pub set_made : (x : Members) (es : List RElement) → is_element (kind_view x.kind) ≡ true → set_with x.kind (all_some (map (λ e. member m e x) es)) ≡ set_by (Some x) (map (member m) es)
+  set_made x es fits =
+      ap (λ os. set_with x.kind (all_some os)) (sym (map_of_map (λ (f : Member). f x) (member m) es))
+      ∙ sym (cond-true (is_element (kind_view x.kind)) (set_with x.kind (all_some (map (λ (f : Member). f x) (map (member m) es)))) None fits)
 
   -- what each form is, as a whole
   whole_form : (z : ℤ) → expression m (v.Whole z) ≡ s.valued None (s.whole m.types z)
@@ -83,7 +107,7 @@ module _ (m : RModule) where
   nil_form : expression m v.Nil ≡ s.nothing
   nil_form = ap (expression m) (sym v.rolls-Nil) ∙ rolled o.Nil
 
-  set_form : (t : ℕ) (es : List RElement) → expression m (v.SetOf t es) ≡ s.nothing
+  set_form : (t : ℕ) (es : List RElement) → expression m (v.SetOf t es) ≡ s.valued (Some (base m.types t)) (s.set m.types t (map (member m) es))
   set_form t es = ap (expression m) (sym (v.rolls-SetOf t es)) ∙ rolled (o.SetOf t es)
 
   value_form : (d : RDesignator) → expression m (v.Value d) ≡ s.valued (cell_sort m.types (designator m d).sort) (s.taken (cell m.types (designator m d).place))
@@ -132,7 +156,7 @@ module _ (m : RModule) where
     pub nil_is : (expression m v.Nil).lowers w ≡ None
     nil_is = at nil_form
 
-    pub set_is : (t : ℕ) (es : List RElement) → (expression m (v.SetOf t es)).lowers w ≡ None
+    pub set_is : (t : ℕ) (es : List RElement) → (expression m (v.SetOf t es)).lowers w ≡ s.set m.types t (map (member m) es) w
     set_is t es = at (set_form t es)
 
     pub value_is : (d : RDesignator) → (expression m (v.Value d)).lowers w ≡ s.taken (cell m.types (designator m d).place) w
@@ -181,7 +205,7 @@ module _ (m : RModule) where
   pub nil_own : (expression m v.Nil).own ≡ None
   nil_own = own nil_form
 
-  pub set_own : (t : ℕ) (es : List RElement) → (expression m (v.SetOf t es)).own ≡ None
+  pub set_own : (t : ℕ) (es : List RElement) → (expression m (v.SetOf t es)).own ≡ Some (base m.types t)
   set_own t es = own (set_form t es)
 
   pub value_own : (d : RDesignator) → (expression m (v.Value d)).own ≡ cell_sort m.types (designator m d).sort
@@ -239,6 +263,8 @@ module _ (m : RModule) where
   pub follow_part_is : (d : Place) → (selector m part.Follow).place d ≡ None
   follow_part_is d = ap (λ (p : Part). p.place d) follow_form
 
+pub ruleset members = (alone_is, span_is)
+
 pub ruleset sorts = (field_sort_is, index_sort_is, follow_sort_is)
 
 pub ruleset parts = (field_part_is, index_part_is, follow_part_is)
@@ -247,9 +273,9 @@ pub ruleset forms = (whole_is, scalar_is, chars_is, named_is, nil_is, set_is, va
 
 pub ruleset owns = (whole_own, scalar_own, chars_own, named_own, nil_own, set_own, value_own, procedure_own, call_own, function_own, one_own, chain_own, handed_own, place_own, type_own)
 
-pub first_is : (m : RModule) (xs : List ROperation) (x : ROperation) → 1 ≤ length xs → x ≡ get_or xs 0 x → s.first_sort (map (operation m) xs) ≡ Some (out-ROperation x).sort
-first_is m [] x h e = absurd (omega arith)
-first_is m (y ∷ ys) x h e = ap (λ o. Some o.sort) (operation_is m y) ∙ ap (λ z. Some (out-ROperation z).sort) (sym e)
+pub first_is : (t : Table) (m : RModule) (xs : List ROperation) (x : ROperation) → 1 ≤ length xs → x ≡ get_or xs 0 x → s.first_sort t (map (operation m) xs) ≡ sort_before t (out-ROperation x).operator (out-ROperation x).sort
+first_is t m [] x h e = absurd (omega arith)
+first_is t m (y ∷ ys) x h e = ap (λ (o : Operation). sort_before t o.operator o.sort) (operation_is m y) ∙ ap (λ z. sort_before t (out-ROperation z).operator (out-ROperation z).sort) (sym e)
 
 -- the type of the last of all operations
 pub last_is : (m : RModule) (xs : List ROperation) (x : Option ROperation) → slice_get xs (length xs - 1) ≡ x

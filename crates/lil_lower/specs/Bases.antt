@@ -1,9 +1,9 @@
 -- The generator's kinds of a module's types.
 use Rattle.std.specs.Prelude.{ℕ, ◌==◌, nat_le, Option, Some, None, length, if◌then◌else◌}
-use Rattle.lil_types.specs.Types.{Table, integer, cardinal, boolean, char, entry, base}
+use Rattle.lil_types.specs.Types.{Table, integer, cardinal, boolean, char, bit_set, entry, base}
 use Rattle.lil_types.specs.declared.table.Span.{Span}
 use Rattle.lil_types.specs.declared.table.TypeForm.{TypeForm}
-use Rattle.lil_types.specs.declared.table.TypeForm.TheVariants.{Enumeration, Subrange}
+use Rattle.lil_types.specs.declared.table.TypeForm.TheVariants.{Enumeration, Subrange, SetOf}
 use Rattle.lil_types.specs.declared.table.TypeEntry.{TypeEntry}
 use Rattle.lil_resolved.specs.declared.resolved.RBase.{RBase}
 use Rattle.lil_resolved.specs.declared.resolved.RBase.TheVariants as b
@@ -16,7 +16,8 @@ standard s =
     if s == integer then Some b.Integer
     else (if s == cardinal then Some b.Cardinal
     else (if s == boolean then Some b.Truth
-    else (if s == char then Some b.Character else None)))
+    else (if s == char then Some b.Character
+    else (if s == bit_set then Some b.Set else None))))
 
 -- constants whose numbers are words
 abbrev pub enumerated : ℕ → Option RBase
@@ -24,13 +25,14 @@ enumerated n = if nat_le n 65535 then Some (b.Enumeration n) else None
 
 abbrev pub base_form : TypeForm → Option RBase
 base_form (Enumeration xs) = enumerated (length xs)
+base_form (SetOf n) = Some b.Set
 base_form _ = None
 
 abbrev pub base_by : ℕ → Option TypeEntry → Option RBase
 base_by s None = standard s
 base_by s (Some e) = base_form e.form
 
--- what the values of a base type are: INTEGER, CARDINAL, BOOLEAN, CHAR, or an enumeration
+-- what the values of a base type are: INTEGER, CARDINAL, BOOLEAN, CHAR, an enumeration, or sets
 abbrev pub base_at : Table → ℕ → Option RBase
 base_at t s = base_by s (entry t s)
 
@@ -43,6 +45,7 @@ range_of s = record { low = s.low; high = s.high }
 
 abbrev pub kind_form : RBase → TypeForm → Option RKind
 kind_form k (Enumeration xs) = Some (plain k)
+kind_form k (SetOf n) = Some (plain k)
 kind_form k (Subrange n s) = Some (record { base = k; range = Some (range_of s) })
 kind_form k _ = None
 

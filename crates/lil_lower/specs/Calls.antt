@@ -1,6 +1,6 @@
--- What assignments, INC and DEC, HALT, and calls of resident procedures are for the generator.
-use Rattle.std.specs.Prelude.{ℕ, ◌==◌, pos, List, [], ◌∷◌, Option, Some, None, if◌then◌else◌}
-use Rattle.lil_types.specs.Types.{integer, cardinal, char}
+-- What assignments, INC and DEC, INCL and EXCL, HALT, and calls of resident procedures are for the generator.
+use Rattle.std.specs.Prelude.{ℕ, ◌==◌, pos, Bool, true, false, ◌&&◌, List, [], ◌∷◌, Option, Some, None, if◌then◌else◌}
+use Rattle.lil_types.specs.Types.{Table, integer, cardinal, char}
 use Rattle.lil_module.specs.declared.declared.RModule.{RModule}
 use Rattle.lil_module.specs.declared.tree.Standard.{Standard}
 use Rattle.lil_module.specs.declared.tree.Standard.TheVariants as standard
@@ -15,18 +15,23 @@ use Rattle.lil_module.specs.declared.tree.RSelector.{RSelector}
 use Rattle.lil_module.specs.declared.tree.RDesignator.{RDesignator}
 use Rattle.lil_module.specs.declared.tree.RElement.{RElement}
 use Rattle.lil_module.specs.declared.tree.ROperation.{ROperation}
-use Rattle.lil_resolved.specs.Resolved.{Expression, Argument, Assign, Copy, Change, Request, Halt, Statements, Empty, Then, kind_of}
-use Rattle.lil_resolved.specs.Sound.{takes_value}
-use Rattle.lil_resolved.specs.Views.{base_view, kind_view, request_number, is_down}
+use Rattle.lil_resolved.specs.Resolved.{Expression, Argument, Assign, Copy, Change, Member, Request, Halt, Statements, Empty, Then, kind_of}
+use Rattle.lil_resolved.specs.Sound.{takes_value, is_element}
+use Rattle.lil_resolved.specs.Views.{base_view, kind_view, request_number, is_down, is_out}
 use Rattle.lil_resolved.specs.declared.resolved.RBase.{RBase}
 use Rattle.lil_resolved.specs.declared.resolved.RBase.TheVariants as b
 use Rattle.lil_resolved.specs.declared.resolved.RRequest.{RRequest}
 use Rattle.lil_resolved.specs.declared.resolved.RRequest.TheVariants as q
 use Rattle.lil_resolved.specs.declared.resolved.Direction.{Direction}
 use Rattle.lil_resolved.specs.declared.resolved.Direction.TheVariants.{Up, Down}
+use Rattle.lil_resolved.specs.declared.resolved.Membership.{Membership}
+use Rattle.lil_resolved.specs.declared.resolved.Membership.TheVariants.{Joins, Leaves}
+use Rattle.lil_resolved.specs.declared.resolved.RRange.{RRange}
+use Rattle.lil_lower.specs.declared.sets.Members.{Members}
 use Rattle.lil_lower.specs.Operators.{counted}
 use Rattle.lil_lower.specs.Places.{Place, Cell, near_place}
-use Rattle.lil_lower.specs.Values.{Lowers, whole, own_or, argument, designator, target, shallow}
+use Rattle.lil_lower.specs.Sets.{members_at}
+use Rattle.lil_lower.specs.Values.{Lowers, Value, whole, own_or, entered, argument, designator, target, shallow}
 
 -- ---- assignments
 abbrev pub stored : Cell → Option Expression → Option Statements
@@ -38,7 +43,7 @@ abbrev pub copied : Option Place → Option Place → Option Statements
 copied (Some d) (Some from) = if from.sort == d.sort then Some (Then (Copy d.form from.form) Empty) else None
 copied _ _ = None
 
--- ---- INC, DEC and HALT
+-- ---- INC and DEC
 abbrev pub changed : Direction → Cell → Option Expression → Option Statements
 changed way c (Some e) = Some (Then (Change (is_down way) c.form (kind_view c.kind) e) Empty)
 changed way c None = None
@@ -48,6 +53,26 @@ abbrev pub changed_by : Direction → Option Cell → Lowers → Option Statemen
 changed_by way None by = None
 changed_by way (Some c) by = changed way c (shallow (by (counted c.kind.base)))
 
+-- ---- INCL and EXCL
+-- a kind with no range has all values of its base
+abbrev pub is_unranged : Option RRange → Bool
+is_unranged None = true
+is_unranged (Some r) = false
+
+-- a number joins the set in a cell of such a kind, or leaves it
+abbrev pub turned : Membership → Members → Cell → Option Expression → Option Statements
+turned way x c None = None
+turned way x c (Some e) = if is_unranged c.kind.range && is_element (kind_view x.kind) then Some (Then (Member (is_out way) c.form (kind_view x.kind) e) Empty) else None
+
+abbrev pub turned_in : Membership → Option Members → Cell → Value → Option Statements
+turned_in way None c a = None
+turned_in way (Some x) c a = turned way x c (shallow (entered x a))
+
+abbrev pub turned_at : Table → Membership → Option Cell → Value → Option Statements
+turned_at t way None a = None
+turned_at t way (Some c) a = turned_in way (members_at t c.sort) c a
+
+-- ---- HALT
 abbrev pub halted : List RArgument → Option Statements
 halted [] = Some (Then Halt Empty)
 halted (x ∷ xs) = None
@@ -131,8 +156,15 @@ module _ (m : RModule) where
   change way (a ∷ c ∷ []) = changed_by way (place a) (argument m c).lowers
   change way _ = None
 
+  -- INCL and EXCL of a number
+  abbrev pub membership : Membership → List RArgument → Option Statements
+  membership way (a ∷ c ∷ []) = turned_at m.types way (place a) (argument m c)
+  membership way _ = None
+
   abbrev pub procedure : Standard → List RArgument → Option Statements
   procedure standard.Inc xs = change Up xs
   procedure standard.Dec xs = change Down xs
+  procedure standard.Incl xs = membership Joins xs
+  procedure standard.Excl xs = membership Leaves xs
   procedure standard.Halt xs = halted xs
   procedure _ xs = None

@@ -6,5 +6,6 @@ pub mod Measured
 pub mod Operators
 pub mod Parts
 pub mod Places
+pub mod Sets
 pub mod Shaping
 pub mod Values

@@ -22,9 +22,9 @@ use Rattle.lil_module.specs.declared.tree.RStmt.TheOpen as s
 use Rattle.lil_module.specs.declared.tree.RStmt.TheOpen.{RStmt-F, RArm-F, RGuard-F}
 use Rattle.lil_module.specs.declared.tree.RStmt.TheFolds.{fold-RStmt, fold-RArm, fold-RGuard}
 use Rattle.lil_resolved.specs.Resolved.{Expression, Label, If, Case, While, Repeat, Loop, Exit, Return, For, Statements, Empty, Then, Arms, NoElse, Else, Arm, Resolved, kind_of}
-use Rattle.lil_resolved.specs.Sound.{takes_value}
+use Rattle.lil_resolved.specs.Sound.{takes_value, is_ordinal}
 use Rattle.lil_resolved.specs.Shapes.{Shape}
-use Rattle.lil_resolved.specs.Views.{kind_view, variable_kind, all_of}
+use Rattle.lil_resolved.specs.Views.{base_view, kind_view, variable_kind, all_of}
 use Rattle.lil_resolved.specs.declared.resolved.RBase.{RBase}
 use Rattle.lil_lower.specs.declared.variables.Variable.{Variable}
 use Rattle.lil_lower.specs.declared.selectors.Ordinal.{Ordinal}
@@ -101,12 +101,14 @@ first_of None other = other
 abbrev pub selector_sort : RModule → RExpr → Option ℕ
 selector_sort m a = first_of (expression m a).own (literal_in m (out-RExpr a))
 
-abbrev pub selector_with : ℕ → RBase → Ordinal
-selector_with s k = record { sort = s; base = k }
+-- one whose values are compared by their numbers
+abbrev pub selector_with : ℕ → Option RBase → Option Ordinal
+selector_with s None = None
+selector_with s (Some k) = if is_ordinal (base_view k) then Some (record { sort = s; base = k }) else None
 
 abbrev pub selector_by : Table → Option ℕ → Option Ordinal
 selector_by t None = None
-selector_by t (Some s) = option_map (selector_with s) (base_at t s)
+selector_by t (Some s) = selector_with s (base_at t s)
 
 -- that type, and what its values are
 abbrev pub selector : RModule → RExpr → Option Ordinal

@@ -125,10 +125,11 @@ element p s _ _ = None
 abbrev pub nowhere : Part
 nowhere = record { sort = λ s. None; place = λ p. None }
 
--- a place for whose address the expression stack has room
+-- A place for whose address the expression stack has room: 13 words. What the texts allow has a depth of at most 12 by their rule, and the
+-- code of ODD, and of a number that joins a set alone, takes one word more than that rule counts.
 abbrev pub near_place : Option Place → Option Place
 near_place None = None
-near_place (Some p) = if nat_le (place_depth p.form) 12 then Some p else None
+near_place (Some p) = if nat_le (place_depth p.form) 13 then Some p else None
 
 -- ---- cells
 -- a place of a kind, and its base type
@@ -152,4 +153,4 @@ cell_sort t (Some s) = option_map (λ k. base t s) (kind_at t s)
 -- a cell for whose address the expression stack has room
 abbrev pub near : Option Cell → Option Cell
 near None = None
-near (Some c) = if nat_le (place_depth c.form) 12 then Some c else None
+near (Some c) = if nat_le (place_depth c.form) 13 then Some c else None

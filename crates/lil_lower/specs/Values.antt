@@ -14,10 +14,11 @@ use Rattle.lil_module.specs.declared.tree.RRoot.TheVariants.{Global, Local, Fiel
 use Rattle.lil_module.specs.declared.tree.RArgument.{RArgument}
 use Rattle.lil_module.specs.declared.tree.RArgument.TheOpen as x
 use Rattle.lil_module.specs.declared.tree.RArgument.TheOpen.{RArgument-F, RCallee-F, RExpr-F, RSelector-F, RDesignator-F, RElement-F, ROperation-F}
-use Rattle.lil_module.specs.declared.tree.RArgument.TheFolds.{fold-RArgument, fold-RExpr, fold-RSelector, fold-RDesignator, fold-ROperation}
+use Rattle.lil_module.specs.declared.tree.RArgument.TheFolds.{fold-RArgument, fold-RExpr, fold-RSelector, fold-RDesignator, fold-RElement, fold-ROperation}
 use Rattle.lil_module.specs.declared.tree.RExpr.{RExpr}
 use Rattle.lil_module.specs.declared.tree.RSelector.{RSelector}
 use Rattle.lil_module.specs.declared.tree.RDesignator.{RDesignator}
+use Rattle.lil_module.specs.declared.tree.RElement.{RElement}
 use Rattle.lil_module.specs.declared.tree.ROperation.{ROperation}
 use Rattle.lil_resolved.specs.Scalars.{scalar_of}
 use Rattle.lil_resolved.specs.Resolved.{Expression, Constant, Taken, Apply, kind_of}
@@ -30,10 +31,12 @@ use Rattle.lil_resolved.specs.declared.resolved.RKind.{RKind}
 use Rattle.lil_resolved.specs.declared.resolved.RFunction.{RFunction}
 use Rattle.lil_resolved.specs.declared.resolved.RFunction.TheVariants as f
 use Rattle.lil_lower.specs.declared.variables.Variable.{Variable}
+use Rattle.lil_lower.specs.declared.sets.Members.{Members}
 use Rattle.lil_lower.specs.declared.places.ArrayParts.{ArrayParts}
 use Rattle.lil_lower.specs.Bases.{base_at, kind_at}
 use Rattle.lil_lower.specs.Operators.{takes_two, result_sort, has_number}
 use Rattle.lil_lower.specs.Places.{Place, Part, Located, Cell, field_at, field_place, array_at, element_sort, element, nowhere, located, cell, cell_sort, near}
+use Rattle.lil_lower.specs.Sets.{Member, members_at, sort_before, is_at, fitting, single, spanned, set_by}
 
 -- the expression of a base type, by its number
 abbrev pub Lowers : Type 0
@@ -68,9 +71,10 @@ abbrev pub scalar_by : ℕ → Option RBase → Option Expression
 scalar_by w (Some b.Truth) = constant b.Truth (pos w)
 scalar_by w (Some b.Character) = constant b.Character (pos w)
 scalar_by w (Some (b.Enumeration n)) = constant (b.Enumeration n) (pos w)
+scalar_by w (Some b.Set) = constant b.Set (pos w)
 scalar_by w _ = None
 
--- a BOOLEAN, a CHAR or a constant of an enumeration by its word
+-- a BOOLEAN, a CHAR, a constant of an enumeration or a set by its word
 abbrev pub scalar : Table → ℕ → ℕ → Lowers
 scalar t sort w s = if base t sort == s then scalar_by w (base_at t s) else None
 
@@ -84,14 +88,16 @@ named (Some t) s = text t s
 named None s = None
 
 -- ---- variables of FOR
-abbrev pub variable_with : ℕ → ℕ → RKind → Variable
-variable_with n s k = record { place = record { number = n; kind = k }; sort = s }
+-- those whose values are compared by their numbers
+abbrev pub variable_with : ℕ → ℕ → Option RKind → Option Variable
+variable_with n s None = None
+variable_with n s (Some k) = if sound.is_ordinal (base_view k.base) then Some (record { place = record { number = n; kind = k }; sort = s }) else None
 
 abbrev pub variable_by : Table → ℕ → Option RVar → Option Variable
 variable_by t n None = None
-variable_by t n (Some v) = option_map (variable_with n (base t v.sort)) (kind_at t v.sort)
+variable_by t n (Some v) = variable_with n (base t v.sort) (kind_at t v.sort)
 
--- a variable of the module, and its base type
+-- a variable of the module with which a FOR may count, and its base type
 abbrev pub root : RModule → RRoot → Option Variable
 root m (Global n) = variable_by m.types n (slice_get m.variables n)
 root m (Local levels n) = None
@@ -115,6 +121,20 @@ index t s a = a.lowers (own_or a.own (base t s))
 abbrev pub indexed : Table → Value → Place → Option ArrayParts → Option Place
 indexed t a p None = None
 indexed t a p (Some parts) = element p parts.element (kind_at t parts.index) (index t parts.index a)
+
+-- ---- sets
+-- a number of a set: a value in its own type, or a constant in the members' base type
+abbrev pub entered : Members → Value → Option Expression
+entered x a = fitting x.kind (a.lowers (own_or a.own x.sort))
+
+-- a number alone, or all from one to another
+abbrev pub member_by : Value → Option Value → Member
+member_by low None x = single (entered x low)
+member_by low (Some high) x = spanned (entered x low) (entered x high)
+
+-- a set of the wanted type
+abbrev pub set : Table → ℕ → List Member → Lowers
+set t sort ms s = if base t sort == s then set_by (members_at t s) ms else None
 
 -- ---- standard functions
 -- the argument whose value counts: the second of VAL, or the only one
@@ -184,7 +204,7 @@ pub record Built : Type 0 where
   pub form : Expression
   pub sort : ℕ
 
--- an operation: the type of its operands, and its right operand
+-- an operation: the type of its operands, or of the set beside IN, and its right operand
 pub record Operation : Type 0 where
   pub operator : TwoOp
   pub sort : ℕ
@@ -197,12 +217,12 @@ with_right op b (Some a) = Some (record { form = two_of op b.form a; sort = resu
 -- an operation on what stands before it
 abbrev pub operate : Table → Option Built → Operation → Option Built
 operate t None o = None
-operate t (Some b) o = if o.sort == b.sort && takes_two_at o.operator (base_at t b.sort) then with_right o.operator b (o.operand b.sort) else None
+operate t (Some b) o = if is_at b.sort (sort_before t o.operator o.sort) && takes_two_at o.operator (base_at t b.sort) then with_right o.operator b (o.operand o.sort) else None
 
 -- the first operation gives its type to the first operand
-abbrev pub first_sort : List Operation → Option ℕ
-first_sort [] = None
-first_sort (o ∷ os) = Some o.sort
+abbrev pub first_sort : Table → List Operation → Option ℕ
+first_sort t [] = None
+first_sort t (o ∷ os) = sort_before t o.operator o.sort
 
 abbrev pub begun : ℕ → Option Expression → Option Built
 begun s None = None
@@ -217,7 +237,7 @@ wanted w None = None
 wanted w (Some b) = if b.sort == w then Some b.form else None
 
 abbrev pub chain : Table → Lowers → List Operation → Lowers
-chain t a os w = wanted w (fold (operate t) (begin (first_sort os) a) os)
+chain t a os w = wanted w (fold (operate t) (begin (first_sort t os) a) os)
 
 -- the type of the last operation's value
 abbrev pub result_of : Operation → ℕ
@@ -228,13 +248,13 @@ last_sort os = option_map result_of (slice_get os (length os - 1))
 
 -- ---- all forms
 module _ (m : RModule) where
-  abbrev pub expression_layer : RExpr-F Value (Unit {0}) Value Part Located (Unit {0}) Operation → Value
+  abbrev pub expression_layer : RExpr-F Value (Unit {0}) Value Part Located Member Operation → Value
   expression_layer (x.Whole z) = valued None (whole m.types z)
   expression_layer (x.Scalar s w) = valued (Some (base m.types s)) (scalar m.types s w)
   expression_layer (x.Chars t) = valued None (text t)
   expression_layer (x.Named n) = valued None (named (slice_get m.texts n))
   expression_layer x.Nil = nothing
-  expression_layer (x.SetOf s es) = nothing
+  expression_layer (x.SetOf s es) = valued (Some (base m.types s)) (set m.types s es)
   expression_layer (x.RExpr::Value d) = valued (cell_sort m.types d.sort) (taken (cell m.types d.place))
   expression_layer (x.RExpr::Procedure n) = nothing
   expression_layer (x.Call c xs) = nothing
@@ -242,42 +262,48 @@ module _ (m : RModule) where
   expression_layer (x.One op s a) = valued (Some s) (λ w. one m.types op s w (a.lowers w))
   expression_layer (x.Chain a os) = valued (last_sort os) (chain m.types a.lowers os)
 
-  abbrev pub argument_layer : RArgument-F Value (Unit {0}) Value Part Located (Unit {0}) Operation → Value
+  abbrev pub argument_layer : RArgument-F Value (Unit {0}) Value Part Located Member Operation → Value
   argument_layer (x.RArgument::Value a) = a
   argument_layer (x.Place d) = nothing
   argument_layer (x.Type s) = nothing
 
-  abbrev pub selector_layer : RSelector-F Value (Unit {0}) Value Part Located (Unit {0}) Operation → Part
+  abbrev pub selector_layer : RSelector-F Value (Unit {0}) Value Part Located Member Operation → Part
   selector_layer (x.Field i) = record { sort = λ s. field_at m.types s i; place = field_place m.types i }
   selector_layer (x.Index a) = record { sort = λ s. option_map element_sort (array_at m.types s); place = λ p. indexed m.types a p (array_at m.types p.sort) }
   selector_layer x.Follow = nowhere
 
-  abbrev pub designator_layer : RDesignator-F Value (Unit {0}) Value Part Located (Unit {0}) Operation → Located
+  abbrev pub designator_layer : RDesignator-F Value (Unit {0}) Value Part Located Member Operation → Located
   designator_layer d = located m d.root d.selectors
 
-  abbrev pub operation_layer : ROperation-F Value (Unit {0}) Value Part Located (Unit {0}) Operation → Operation
+  abbrev pub operation_layer : ROperation-F Value (Unit {0}) Value Part Located Member Operation → Operation
   operation_layer o = record { operator = o.operator; sort = o.sort; operand = o.operand.lowers }
 
+  abbrev pub member_layer : RElement-F Value (Unit {0}) Value Part Located Member Operation → Member
+  member_layer e = member_by e.low e.high
+
   unfoldable pub expression : RExpr → Value
-  expression = fold-RExpr Value (Unit {0}) Value Part Located (Unit {0}) Operation argument_layer (λ c. tt) expression_layer selector_layer designator_layer (λ e. tt) operation_layer
+  expression = fold-RExpr Value (Unit {0}) Value Part Located Member Operation argument_layer (λ c. tt) expression_layer selector_layer designator_layer member_layer operation_layer
 
   unfoldable pub argument : RArgument → Value
-  argument = fold-RArgument Value (Unit {0}) Value Part Located (Unit {0}) Operation argument_layer (λ c. tt) expression_layer selector_layer designator_layer (λ e. tt) operation_layer
+  argument = fold-RArgument Value (Unit {0}) Value Part Located Member Operation argument_layer (λ c. tt) expression_layer selector_layer designator_layer member_layer operation_layer
 
   unfoldable pub selector : RSelector → Part
-  selector = fold-RSelector Value (Unit {0}) Value Part Located (Unit {0}) Operation argument_layer (λ c. tt) expression_layer selector_layer designator_layer (λ e. tt) operation_layer
+  selector = fold-RSelector Value (Unit {0}) Value Part Located Member Operation argument_layer (λ c. tt) expression_layer selector_layer designator_layer member_layer operation_layer
 
   unfoldable pub designator : RDesignator → Located
-  designator = fold-RDesignator Value (Unit {0}) Value Part Located (Unit {0}) Operation argument_layer (λ c. tt) expression_layer selector_layer designator_layer (λ e. tt) operation_layer
+  designator = fold-RDesignator Value (Unit {0}) Value Part Located Member Operation argument_layer (λ c. tt) expression_layer selector_layer designator_layer member_layer operation_layer
 
   unfoldable pub operation : ROperation → Operation
-  operation = fold-ROperation Value (Unit {0}) Value Part Located (Unit {0}) Operation argument_layer (λ c. tt) expression_layer selector_layer designator_layer (λ e. tt) operation_layer
+  operation = fold-ROperation Value (Unit {0}) Value Part Located Member Operation argument_layer (λ c. tt) expression_layer selector_layer designator_layer member_layer operation_layer
+
+  unfoldable pub member : RElement → Member
+  member = fold-RElement Value (Unit {0}) Value Part Located Member Operation argument_layer (λ c. tt) expression_layer selector_layer designator_layer member_layer operation_layer
 
   -- a cell to which values may be stored
   abbrev pub target : RDesignator → Option Cell
   target d = near (cell m.types (designator d).place)
 
--- ---- whole expressions: the expression stack has room for them
+-- ---- whole expressions: the expression stack has room for them, 13 words as for a place's address
 abbrev pub shallow : Option Expression → Option Expression
 shallow None = None
-shallow (Some e) = if nat_le (depth e) 12 then Some e else None
+shallow (Some e) = if nat_le (depth e) 13 then Some e else None

@@ -3,7 +3,9 @@ ghost use Rattle.lil_types.specs.Types as types;
 ghost use Rattle.lil_lower.specs.Bases as spec;
 
 use lil_resolved::{RBase, RKind, RRange};
-use lil_types::{BOOLEAN, CARDINAL, CHAR, INTEGER, TypeForm, TypeId, TypeTable, base, entry};
+use lil_types::{
+    BITSET, BOOLEAN, CARDINAL, CHAR, INTEGER, TypeForm, TypeId, TypeTable, base, entry,
+};
 
 /// The base of a standard type's values.
 fn standard(sort: TypeId) -> Option<RBase>
@@ -17,6 +19,8 @@ fn standard(sort: TypeId) -> Option<RBase>
         Some(RBase::Truth)
     } else if sort == CHAR {
         Some(RBase::Character)
+    } else if sort == BITSET {
+        Some(RBase::Set)
     } else {
         None
     }
@@ -37,6 +41,7 @@ fn base_form(form: &TypeForm) -> Option<RBase>
 {
     match form {
         TypeForm::Enumeration(constants) => enumerated(constants.len()),
+        TypeForm::SetOf(_) => Some(RBase::Set),
         _ => None,
     }
 }
@@ -62,6 +67,7 @@ fn kind_form(base: RBase, form: &TypeForm) -> Option<RKind>
 {
     match form {
         TypeForm::Enumeration(_) => Some(plain(base)),
+        TypeForm::SetOf(_) => Some(plain(base)),
         TypeForm::Subrange(_, span) => Some(RKind {
             base,
             range: Some(RRange {
@@ -83,7 +89,7 @@ fn kind_over(t: &TypeTable, base: RBase, sort: TypeId) -> Option<RKind>
     }
 }
 
-/// The kind of a type's variables, None where it isn't an ordinal type.
+/// The kind of a type's variables, None where it is neither an ordinal type nor a set type.
 pub(crate) fn kind_at(t: &TypeTable, sort: TypeId) -> Option<RKind>
     ensures { result ≡ spec.kind_at t.now sort }
 {

@@ -9,10 +9,11 @@ use crate::constants::whole;
 use crate::operators::{counted, takes_value};
 use crate::places::{Cell, Placed, as_place, cell_of};
 use crate::room::{near, near_place, shallow};
-use crate::values::{argument, place};
+use crate::sets::{Members, fitting, is_element, members_at};
+use crate::values::{argument, argument_sort, own_or, place};
 use lil_base::{Memory, beside};
 use lil_module::{RArgument, RDesignator, RExpr as Value, RModule, Standard};
-use lil_resolved::{Direction, RExpr, RStmt, base};
+use lil_resolved::{Direction, Membership, RExpr, RStmt, base};
 use std::alloc::Global;
 
 /// The cell that a designator names, where values may be stored to it.
@@ -151,6 +152,83 @@ fn change(
     }
 }
 
+/// A number that may be in a set: a value in its own type, or a constant in the members' base type.
+fn entered(
+    alloc: Global,
+    m: &RModule,
+    members: Members,
+    of: &RArgument,
+) -> Result<Option<RExpr>, Memory>
+    requires { length m.now.variables ≤ 32000 }
+    ensures { IfOk result (λ o. option_map view.expression_of o ≡ values.entered members (values.argument m.now of.now)) }
+{
+    let sort = own_or(argument_sort(m, of), members.sort);
+    let value = argument(alloc, m, sort, of)?;
+    Ok(fitting(members.kind, value))
+}
+
+/// A number joins the set in a cell, whose kind has no range, or leaves it.
+#[tactic(auto, using(lil_resolved::specs::Forms::member_changed_is))]
+fn turned(way: Membership, members: Members, cell: Cell, of: Option<RExpr>) -> Option<RStmt>
+    ensures { option_map view.statement_of result ≡ spec.turned way members (celled cell) (option_map view.expression_of of) }
+{
+    match of {
+        Some(of) if cell.kind.range.is_none() && is_element(members.kind) => {
+            Some(RStmt::Member(way, cell.place, members.kind, of))
+        }
+        rest => {
+            drop((cell, rest));
+            None
+        }
+    }
+}
+
+/// INCL and EXCL at a cell, where it is one of sets.
+fn turned_at(
+    alloc: Global,
+    m: &RModule,
+    way: Membership,
+    cell: Option<Cell>,
+    of: &RArgument,
+) -> Result<Option<RStmt>, Memory>
+    requires { length m.now.variables ≤ 32000 }
+    ensures { IfOk result (λ o. option_map view.statement_of o ≡ spec.turned_at m.now.types way (option_map celled cell) (values.argument m.now of.now)) }
+{
+    let Some(cell) = cell else {
+        return Ok(None);
+    };
+    match members_at(&m.types, cell.sort) {
+        None => {
+            drop(cell);
+            Ok(None)
+        }
+        Some(members) => {
+            let of = entered(alloc, m, members, of);
+            let (cell, of) = beside(cell, of)?;
+            Ok(turned(way, members, cell, shallow(of)))
+        }
+    }
+}
+
+/// INCL and EXCL of a number.
+fn membership(
+    alloc: Global,
+    m: &RModule,
+    way: Membership,
+    of: &[RArgument],
+) -> Result<Option<RStmt>, Memory>
+    requires { length m.now.variables ≤ 32000 }
+    ensures { IfOk result (λ o. option_map view.statement_of o ≡ spec.membership m.now way of.now) }
+{
+    match of {
+        [cell, of] => {
+            let cell = argument_cell(alloc, m, cell)?;
+            turned_at(alloc, m, way, cell, of)
+        }
+        _ => Ok(None),
+    }
+}
+
 fn halted(of: &[RArgument]) -> Option<RStmt>
     ensures { option_map view.statement_of result ≡ spec.halted of.now }
 {
@@ -173,6 +251,8 @@ pub(crate) fn procedure(
     match of {
         Standard::Inc => change(alloc, m, Direction::Up, arguments),
         Standard::Dec => change(alloc, m, Direction::Down, arguments),
+        Standard::Incl => membership(alloc, m, Membership::Joins, arguments),
+        Standard::Excl => membership(alloc, m, Membership::Leaves, arguments),
         Standard::Halt => Ok(halted(arguments)),
         _ => Ok(None),
     }

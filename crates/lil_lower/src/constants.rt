@@ -39,11 +39,12 @@ fn scalar_by(word: u16, base: Option<RBase>) -> Option<RExpr>
         Some(RBase::Truth) => constant(RBase::Truth, i32::from(word)),
         Some(RBase::Character) => constant(RBase::Character, i32::from(word)),
         Some(RBase::Enumeration(count)) => constant(RBase::Enumeration(count), i32::from(word)),
+        Some(RBase::Set) => constant(RBase::Set, i32::from(word)),
         _ => None,
     }
 }
 
-/// A BOOLEAN, a CHAR or a constant of an enumeration by its word.
+/// A BOOLEAN, a CHAR, a constant of an enumeration or a set by its word.
 pub(crate) fn scalar(t: &TypeTable, sort: TypeId, word: u16, wanted: TypeId) -> Option<RExpr>
     ensures { option_map expression_of result ≡ spec.scalar t.now sort word wanted }
 {

@@ -13,6 +13,7 @@ mod places;
 mod program;
 mod room;
 mod selectors;
+mod sets;
 mod shapes;
 mod statements;
 mod values;

@@ -14,7 +14,27 @@ fn is_whole(base: RBase) -> bool
 {
     match base {
         RBase::Cardinal | RBase::Integer => true,
-        RBase::Truth | RBase::Character | RBase::Enumeration(_) => false,
+        RBase::Truth | RBase::Character | RBase::Enumeration(_) | RBase::Set => false,
+    }
+}
+
+/// Whether values of a base are compared by their numbers.
+pub(crate) fn is_ordinal(base: RBase) -> bool
+    ensures { result ≡ sound.is_ordinal (base_view base) }
+{
+    match base {
+        RBase::Cardinal | RBase::Integer => true,
+        RBase::Truth | RBase::Character | RBase::Enumeration(_) => true,
+        RBase::Set => false,
+    }
+}
+
+fn is_set(base: RBase) -> bool
+    ensures { result ≡ sound.is_set (base_view base) }
+{
+    match base {
+        RBase::Set => true,
+        _ => false,
     }
 }
 
@@ -38,20 +58,17 @@ pub(crate) fn takes_one(operator: OneOp, base: RBase) -> bool
     }
 }
 
-/// Whether an operator takes operands of a base.
+/// Whether an operator takes operands of a base, and IN a left one.
 pub(crate) fn takes_two(operator: TwoOp, base: RBase) -> bool
     ensures { result ≡ spec.takes_two operator base }
 {
     match operator {
         TwoOp::And | TwoOp::Or => is_truth(base),
-        TwoOp::Plus | TwoOp::Minus | TwoOp::Times | TwoOp::Div | TwoOp::Mod => is_whole(base),
-        TwoOp::In | TwoOp::Slash => false,
-        TwoOp::Equal
-        | TwoOp::Unequal
-        | TwoOp::Less
-        | TwoOp::AtMost
-        | TwoOp::Greater
-        | TwoOp::AtLeast => true,
+        TwoOp::Plus | TwoOp::Minus | TwoOp::Times => is_whole(base) || is_set(base),
+        TwoOp::Slash => is_set(base),
+        TwoOp::Div | TwoOp::Mod => is_whole(base),
+        TwoOp::Less | TwoOp::Greater | TwoOp::In => is_ordinal(base),
+        TwoOp::Equal | TwoOp::Unequal | TwoOp::AtMost | TwoOp::AtLeast => true,
     }
 }
 
@@ -72,13 +89,15 @@ pub(crate) fn result_sort(operator: TwoOp, sort: TypeId) -> TypeId
 }
 
 /// Whether a standard function takes a value of a base.
+#[tactic(auto, using(lil_resolved::specs::Bases::own_base))]
 pub(crate) fn takes_function(function: RFunction, base: RBase) -> bool
     ensures { result ≡ sound.takes_function (function_of function (base_view base)) (base_view base) }
 {
     match function {
         RFunction::Abs | RFunction::Chr | RFunction::Odd => is_whole(base),
         RFunction::Cap => base == RBase::Character,
-        RFunction::Ord | RFunction::Val(_) => true,
+        RFunction::Ord => is_ordinal(base),
+        RFunction::Val(kind) => is_ordinal(base) && is_ordinal(kind.base),
     }
 }
 
@@ -89,6 +108,7 @@ fn alike(a: RBase, b: RBase) -> bool
         (RBase::Truth, RBase::Truth) => true,
         (RBase::Character, RBase::Character) => true,
         (RBase::Enumeration(m), RBase::Enumeration(n)) => m == n,
+        (RBase::Set, RBase::Set) => true,
         _ => is_whole(a) && is_whole(b),
     }
 }
@@ -133,6 +153,7 @@ pub(crate) fn greatest(base: RBase) -> i32
         RBase::Truth => 1,
         RBase::Character => 255,
         RBase::Enumeration(count) => i32::from(count.saturating_sub(1)),
+        RBase::Set => 65535,
     }
 }
 

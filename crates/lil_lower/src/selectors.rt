@@ -1,9 +1,10 @@
-ghost use Rattle.std.specs.Prelude.{◌≡◌, slice_get};
+ghost use Rattle.std.specs.Prelude.{◌≡◌, slice_get, Some};
 ghost use Rattle.std.specs.Option.{option_copied};
 ghost use Rattle.lil_module.specs.declared.tree.RExpr.{out-RExpr};
 ghost use Rattle.lil_lower.specs.Lowered as spec;
 
 use crate::bases::base_at;
+use crate::operators::is_ordinal;
 use crate::values::own_sort;
 use lil_base::Boxed;
 use lil_module::{RExpr as Value, RModule};
@@ -62,6 +63,17 @@ fn selector_sort(m: &RModule, of: &Value) -> Option<TypeId>
     }
 }
 
+/// A type whose values are compared by their numbers.
+fn selector_with(sort: TypeId, base: RBase) -> Option<Ordinal>
+    ensures { result ≡ spec.selector_with sort (Some base) }
+{
+    if is_ordinal(base) {
+        Some(Ordinal { sort, base })
+    } else {
+        None
+    }
+}
+
 fn selector_by(t: &TypeTable, sort: Option<TypeId>) -> Option<Ordinal>
     ensures { result ≡ spec.selector_by t.now sort }
 {
@@ -69,7 +81,7 @@ fn selector_by(t: &TypeTable, sort: Option<TypeId>) -> Option<Ordinal>
         None => None,
         Some(sort) => match base_at(t, sort) {
             None => None,
-            Some(base) => Some(Ordinal { sort, base }),
+            Some(base) => selector_with(sort, base),
         },
     }
 }

@@ -43,7 +43,7 @@ fn lesser(x: i32, y: i32) -> i32
 }
 
 /// The least number of a kind's values.
-fn least_of(kind: RKind) -> i32
+pub(crate) fn least_of(kind: RKind) -> i32
     ensures is { result ≡ kinds.least (kind_view kind) }
     ensures at_least { negsuc 32767 ≤ℤ result }
 {
@@ -55,7 +55,7 @@ fn least_of(kind: RKind) -> i32
 }
 
 /// The greatest number of a kind's values.
-fn greatest_of(kind: RKind) -> i32
+pub(crate) fn greatest_of(kind: RKind) -> i32
     ensures is { result ≡ kinds.greatest (kind_view kind) }
     ensures at_most { result ≤ℤ pos 65535 }
 {

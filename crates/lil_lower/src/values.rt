@@ -1,11 +1,14 @@
-ghost use Rattle.std.specs.Prelude.{◌≡◌, ◌-◌, ◌≤◌, length, map, slice_get, IfOk, Some};
+ghost use Rattle.std.specs.Prelude.{◌≡◌, ◌-◌, ◌≤◌, ◌&&◌, length, map, slice_get, IfOk, Some};
 ghost use Rattle.std.specs.Option.{option_map};
 ghost use Rattle.std.specs.List.{fold};
-ghost use Rattle.lil_resolved.specs.Views.{expression_of};
+ghost use Rattle.lil_module.specs.declared.tree.ROperation.{out-ROperation};
+ghost use Rattle.lil_resolved.specs.Views.{expression_of, member_of};
 ghost use Rattle.lil_lower.specs.Values as spec;
 ghost use Rattle.lil_lower.specs.Bases as bases;
 ghost use Rattle.lil_lower.specs.Built.{built, reached};
 ghost use Rattle.lil_lower.specs.Places as places;
+ghost use Rattle.lil_lower.specs.Sets as sets;
+ghost use Rattle.lil_lower.specs.Shaping.{all_some};
 
 use crate::bases::{base_at, kind_at};
 use crate::constants::{named, scalar, text, whole};
@@ -14,12 +17,15 @@ use crate::operators::{result_sort, takes_one, takes_two};
 use crate::places::{
     Reached, array_at, cell_of, cell_sort, element, field_place, place_sort, root_place, taken,
 };
+use crate::sets::{
+    Members, fitting, is_element, members_at, set_with, single, sort_before, spanned,
+};
 use lil_base::{Boxed, Items, Memory, OneOp, TwoOp, beside};
 use lil_module::{
-    RArgument, RDesignator, RExpr as Tree, RModule, ROperation as Operation, RSelector as Selector,
-    Standard,
+    RArgument, RDesignator, RElement, RExpr as Tree, RModule, ROperation as Operation,
+    RSelector as Selector, Standard,
 };
-use lil_resolved::{RExpr, ROperation};
+use lil_resolved::{RExpr, RMember, ROperation};
 use lil_types::{TypeId, TypeTable, base};
 use std::alloc::Global;
 
@@ -47,6 +53,22 @@ fn takes_two_at(t: &TypeTable, operator: TwoOp, sort: TypeId) -> bool
         None => false,
         Some(base) => takes_two(operator, base),
     }
+}
+
+fn is_at(sort: TypeId, wanted: Option<TypeId>) -> bool
+    ensures { result ≡ sets.is_at sort wanted }
+{
+    match wanted {
+        None => false,
+        Some(wanted) => wanted == sort,
+    }
+}
+
+/// Whether an operation may stand behind a value of a base type.
+fn fits(t: &TypeTable, of: &Operation, sort: TypeId) -> bool
+    ensures { result ≡ (sets.is_at sort (sets.sort_before t.now (out-ROperation of.now).operator (out-ROperation of.now).sort) && spec.takes_two_at (out-ROperation of.now).operator (bases.base_at t.now sort)) }
+{
+    is_at(sort, sort_before(t, of.operator, of.sort)) && takes_two_at(t, of.operator, sort)
 }
 
 /// An operator on a value of the wanted type.
@@ -97,12 +119,12 @@ fn with_right(operator: TwoOp, before: Built, of: Option<RExpr>) -> Result<Optio
     }
 }
 
-fn first_sort(of: &[Operation]) -> Option<TypeId>
-    ensures { (m : _) → result ≡ spec.first_sort (map (spec.operation m) of.now) }
+fn first_sort(t: &TypeTable, of: &[Operation]) -> Option<TypeId>
+    ensures { (m : _) → result ≡ spec.first_sort t.now (map (spec.operation m) of.now) }
 {
     match of {
         [] => None,
-        [first, ..] => Some(first.sort),
+        [first, ..] => sort_before(t, first.operator, first.sort),
     }
 }
 
@@ -166,7 +188,7 @@ pub(crate) fn own_sort(m: &RModule, of: &Tree) -> Option<TypeId>
         Tree::Chars(_) => None,
         Tree::Named(_) => None,
         Tree::Nil => None,
-        Tree::SetOf(_, _) => None,
+        Tree::SetOf(sort, _) => Some(base(&m.types, *sort)),
         Tree::Value(of) => cell_sort(&m.types, place_sort(m, of)),
         Tree::Procedure(_) => None,
         Tree::Call(_, _) => None,
@@ -206,7 +228,7 @@ pub(crate) fn expression(
         Tree::Chars(of) => Ok(text(of.as_slice(), wanted)),
         Tree::Named(number) => Ok(named(m, *number, wanted)),
         Tree::Nil => Ok(None),
-        Tree::SetOf(_, _) => Ok(None),
+        Tree::SetOf(sort, elements) => set(alloc, m, *sort, wanted, elements.as_slice()),
         Tree::Value(of) => {
             let found = place(alloc, m, of)?;
             Ok(taken(cell_of(&m.types, found), wanted))
@@ -221,7 +243,12 @@ pub(crate) fn expression(
             one(alloc, &m.types, *operator, *sort, wanted, of)
         }
         Tree::Chain(first, operations) => {
-            let begin = begin(alloc, m, first_sort(operations.as_slice()), first.get())?;
+            let begin = begin(
+                alloc,
+                m,
+                first_sort(&m.types, operations.as_slice()),
+                first.get(),
+            )?;
             let all = operated(alloc, m, begin, operations.as_slice())?;
             wanted_chain(alloc, wanted, all)
         }
@@ -304,6 +331,100 @@ fn indexed(
             element(before, parts.element, kind_at(&m.types, parts.index), index)
         }
     }
+}
+
+/// A set of the wanted type.
+#[cycle(value)]
+fn set(
+    alloc: Global,
+    m: &RModule,
+    sort: TypeId,
+    wanted: TypeId,
+    elements: &[RElement],
+) -> Result<Option<RExpr>, Memory>
+    requires { length m.now.variables ≤ 32000 }
+    ensures { IfOk result (λ o. option_map expression_of o ≡ spec.set m.now.types sort (map (spec.member m.now) elements.now) wanted) }
+{
+    if base(&m.types, sort) == wanted {
+        set_by(alloc, m, members_at(&m.types, wanted), elements)
+    } else {
+        Ok(None)
+    }
+}
+
+/// A set of members, each of which may be in it.
+#[cycle(value)]
+fn set_by(
+    alloc: Global,
+    m: &RModule,
+    members: Option<Members>,
+    elements: &[RElement],
+) -> Result<Option<RExpr>, Memory>
+    requires { length m.now.variables ≤ 32000 }
+    ensures { IfOk result (λ o. option_map expression_of o ≡ sets.set_by members (map (spec.member m.now) elements.now)) }
+{
+    match members {
+        Some(members) if is_element(members.kind) => {
+            let all = all_members(alloc, m, members, elements)?;
+            Ok(set_with(members.kind, all))
+        }
+        _ => Ok(None),
+    }
+}
+
+/// All members of a set in their order.
+#[cycle(value)]
+fn all_members(
+    alloc: Global,
+    m: &RModule,
+    members: Members,
+    elements: &[RElement],
+) -> Result<Option<Items<RMember>>, Memory>
+    requires { length m.now.variables ≤ 32000 }
+    ensures { IfOk result (λ o. option_map (map member_of) o ≡ all_some (map (λ e. spec.member m.now e members) elements.now)) }
+{
+    let mut found = Items::new(alloc);
+    for one in elements {
+        match member(alloc, m, members, one)? {
+            None => return Ok(None),
+            Some(member) => found.push(member)?,
+        }
+    }
+    Ok(Some(found))
+}
+
+/// A number of a set alone, or all from one to another.
+#[cycle(value)]
+#[tactic(auto, using(crate::proofs::ValueForms::members))]
+fn member(
+    alloc: Global,
+    m: &RModule,
+    members: Members,
+    of: &RElement,
+) -> Result<Option<RMember>, Memory>
+    requires { length m.now.variables ≤ 32000 }
+    ensures { IfOk result (λ o. option_map member_of o ≡ spec.member m.now of.now members) }
+{
+    let low = entered(alloc, m, members, &of.low)?;
+    match &of.high {
+        None => Ok(single(low)),
+        Some(high) => {
+            let high = entered(alloc, m, members, high.get());
+            let (low, high) = beside(low, high)?;
+            Ok(spanned(low, high))
+        }
+    }
+}
+
+/// A number of a set: a value in its own type, or a constant in the members' base type.
+#[cycle(value)]
+fn entered(alloc: Global, m: &RModule, members: Members, of: &Tree) -> Result<Option<RExpr>, Memory>
+    requires { length m.now.variables ≤ 32000 }
+    ensures { IfOk result (λ o. option_map expression_of o ≡ spec.entered members (spec.expression m.now of.now)) }
+{
+    let sort = own_or(own_sort(m, of), members.sort);
+    let value = expression(alloc, m, sort, of)?;
+    Ok(fitting(members.kind, value))
 }
 
 /// A standard function of the argument whose value counts: the second of VAL, or the only one.
@@ -421,9 +542,8 @@ fn operate(
     ensures { IfOk result (λ o. option_map built o ≡ spec.operate m.now.types (option_map built before) (spec.operation m.now of.now)) }
 {
     match before {
-        Some(before)
-            if of.sort == before.sort && takes_two_at(&m.types, of.operator, before.sort) => {
-            let right = expression(alloc, m, before.sort, &of.operand);
+        Some(before) if fits(&m.types, of, before.sort) => {
+            let right = expression(alloc, m, of.sort, &of.operand);
             let (before, right) = beside(before, right)?;
             with_right(of.operator, before, right)
         }

@@ -2,8 +2,9 @@ ghost use Rattle.std.specs.Prelude.{◌≡◌, ◌≤◌, length, Some};
 ghost use Rattle.lil_lower.specs.Values as spec;
 
 use crate::bases::kind_at;
+use crate::operators::is_ordinal;
 use lil_module::{RModule, RRoot, RVar};
-use lil_resolved::RVariable;
+use lil_resolved::{RKind, RVariable};
 use lil_types::{TypeId, TypeTable, base};
 
 /// A variable of the module, and its base type.
@@ -13,19 +14,30 @@ pub(crate) struct Variable {
     pub(crate) sort: TypeId,
 }
 
+/// A variable whose values are compared by their numbers.
+fn counting(number: u16, sort: TypeId, kind: RKind) -> Option<Variable>
+    ensures { result ≡ spec.variable_with number sort (Some kind) }
+{
+    if is_ordinal(kind.base) {
+        Some(Variable {
+            place: RVariable { number, kind },
+            sort,
+        })
+    } else {
+        None
+    }
+}
+
 fn variable_by(t: &TypeTable, number: u16, of: &RVar) -> Option<Variable>
     ensures { result ≡ spec.variable_by t.now number (Some of.now) }
 {
     match kind_at(t, of.sort) {
         None => None,
-        Some(kind) => Some(Variable {
-            place: RVariable { number, kind },
-            sort: base(t, of.sort),
-        }),
+        Some(kind) => counting(number, base(t, of.sort), kind),
     }
 }
 
-/// The variable of the module with which a FOR counts, where it has a kind.
+/// The variable of the module with which a FOR counts, where its values are compared by their numbers.
 pub(crate) fn root(m: &RModule, of: RRoot) -> Option<Variable>
     requires { length m.now.variables ≤ 32000 }
     ensures { result ≡ spec.root m.now of }

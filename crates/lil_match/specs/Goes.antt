@@ -4,9 +4,8 @@ use Rattle.std.proofs.Common.{◌≡◌, ℕ, ◌+◌, ◌<◌, ◌≤◌, ◌�
 use Rattle.std.specs.Prelude.{slice_get, nat_le, ◌&&◌}
 use Rattle.lil_base.specs.declared.fault.LimitKind.{LimitKind}
 use Rattle.lil_base.specs.declared.fault.TrapAt.{TrapAt}
-use Rattle.lil_resolved.specs.Kinds.{Kind}
 use Rattle.lil_resolved.specs.Resolved.{Resolved}
-use Rattle.lil_resolved.specs.Shapes.{Shape, Word}
+use Rattle.lil_resolved.specs.Shapes.{Shape}
 use Rattle.lil_meaning.specs.Cells.{Root, Global, Cells, loaded_at}
 use Rattle.lil_meaning.specs.World.{World, all_closed}
 use Rattle.lil_meaning.specs.Items.{Item, Activation, Parked, Level, Phase, Going, Closing, Ended, Trapped, Source}

@@ -4,7 +4,7 @@ use Rattle.std.proofs.lemmas.Bool.{eq-eqb, ne_eqb, cases_Bool, cases_eq, cases_l
 use Rattle.std.proofs.lemmas.List.{get_or-set_same, get_or-set_other, get_or-take, get_or-drop, length-take-le}
 use Rattle.std.specs.Prelude.{◌==◌, if◌then◌else◌}
 use Rattle.lil_base.specs.Words.{between}
-use Rattle.lil_resolved.specs.Kinds.{Kind, OfWhole, OfTruth, OfCharacter, OfEnumeration, OfRange, base_of}
+use Rattle.lil_resolved.specs.Kinds.{Kind, OfWhole, OfTruth, OfCharacter, OfEnumeration, OfSet, OfRange, base_of}
 use Rattle.lil_resolved.specs.Scalars.{Scalar, ToObject, within, scalar_word, ordinal_of}
 use Rattle.lil_resolved.specs.Shapes.{Shape, Absent, Word, words, is_there, part_at, offset}
 use Rattle.lil_meaning.specs.Cells.{Root, Global, Local, Object, Place, part_of, Cells, Under, under, rest_behind, at_rest, same_root, stored, alone}
@@ -52,6 +52,7 @@ plain_word h OfTruth (ToObject o) e = cc
 plain_word h OfCharacter (ToObject o) e = cc
 plain_word h (OfWhole t) (ToObject o) e = cc
 plain_word h (OfEnumeration n) (ToObject o) e = cc
+plain_word h OfSet (ToObject o) e = cc
 plain_word h _ v e = refl
 
 -- a value of a kind is one of the kind that it was taken from

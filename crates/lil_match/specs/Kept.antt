@@ -3,16 +3,17 @@ use Rattle.std.proofs.Common.{◌≡◌, ℕ, suc, ◌+◌, ◌<◌, ◌≤◌, 
 use Rattle.std.proofs.lemmas.Bool.{ne_eqb}
 use Rattle.std.specs.List.{list_any}
 use Rattle.std.specs.Prelude.{Bool}
-use Rattle.lil_resolved.specs.Kinds.{Kind, numbers}
+use Rattle.lil_resolved.specs.Kinds.{OfSet, numbers}
+use Rattle.lil_resolved.specs.Scalars.{Scalar}
 use Rattle.lil_resolved.specs.Resolved.{Resolved}
 use Rattle.lil_resolved.specs.Shapes.{Shape, Word, Row, part_at, offset}
 use Rattle.lil_meaning.specs.Cells.{Root, Global, Local, Object, Place}
-use Rattle.lil_meaning.specs.Items.{Scalars, Places, IndexAt, StoreAt, CopyFrom, ChangeAt, RightOf, LimitOf, Looping, Turns, End, Item, Value, Fill, Perform, Activation, Source}
+use Rattle.lil_meaning.specs.Items.{Scalars, Places, IndexAt, StoreAt, CopyFrom, ChangeAt, RightOf, MemberOf, MembersFrom, MembersTo, MemberAt, LimitOf, Looping, Turns, End, Item, Value, Fill, Perform, Activation, Source}
 use Rattle.lil_mcode.specs.State.{Module, StackRegisters, State, stack_of}
 use Rattle.lil_table.specs.Rows.{Access, OnTop, loop_place}
 use Rattle.lil_match.specs.Parts.{no}
 use Rattle.lil_match.specs.Homes.{word_same, address, Owner, Own, Home, mem_shadowed, shadowed, replaced}
-use Rattle.lil_match.specs.Waits.{Mode, Quiet, ValueOf, AtPlace, Onward, Part, Around, outside, Frame, frames_of, Setting, at_home, with_frames, sees, is_of, TurnsTask, Reaches, HasPlace, needs, Behind, RowsOf, Rows}
+use Rattle.lil_match.specs.Waits.{Mode, Quiet, ValueOf, AtPlace, Onward, Part, Around, outside, Frame, frames_of, Setting, at_home, with_frames, sees, is_of, TurnsTask, Reaches, HasPlace, HasSet, needs, Behind, RowsOf, Rows}
 use Rattle.lil_match.specs.Goes.{OwnWords, Stands, EachComes, Standing, Shared, Touches}
 
 -- homes that agree on the roots that frames can name, and on the machine's own words from one place to another
@@ -67,6 +68,9 @@ module _ (ctx : Setting) (x : Home) (low top : ℕ) (keeps : Keeps ctx.home x (f
         at = subst (λ (a : ℕ). Reaches ctx.stack.frame.own.base b a stack below) at r.at;
       }
 
+  set_kept : (u : Scalar) (stack below : List ℕ) → HasSet ctx u stack below → HasSet (at_home ctx x) u stack below
+  set_kept u stack below r = record { fits = r.fits; is = r.is ∙ ap (λ (w : ℕ). w ∷ below) (word_same h x keeps.reference u) }
+
   met : (t : Mode) (i : Item) (p : ℕ) (stack : List ℕ) (a : Around) → (r : (needs ctx t i p stack a).Here) → IsMet (needs ctx t i p stack a) (needs (at_home ctx x) t i p stack a) r
   met Quiet (Value (Scalars v)) p stack a r =
       record { part = record { kind = r.kind; fits = r.fits; below = r.below; is = r.is ∙ ap (λ (w : ℕ). w ∷ r.below) (word_same h x keeps.reference v) }; onto = refl }
@@ -89,6 +93,72 @@ module _ (ctx : Setting) (x : Home) (low top : ℕ) (keeps : Keeps ctx.home x (f
       }
   met (AtPlace b t) (Fill (CopyFrom to)) p stack a r =
       record { part = record { has = place_kept OnTop to t stack [] r.has; last = r.last; end = r.end; address = r.address; by = r.by; within = r.within }; onto = refl }
+  met (ValueOf j) (Fill (MemberAt out place k)) p stack a r =
+      record {
+        part = record {
+          element = r.element;
+          takes = r.takes;
+          has = place_kept OnTop place (Word OfSet) stack [] r.has;
+          tested = r.tested;
+          end = r.end;
+          test = r.test;
+          by = r.by;
+          within = r.within;
+        };
+        onto = refl;
+      }
+  met (ValueOf j) (Fill (MemberOf u k)) p stack a r =
+      record {
+        part = record {
+          element = r.element;
+          takes = r.takes;
+          below = r.below;
+          set = set_kept u stack r.below r.set;
+          room = r.room;
+          tested = r.tested;
+          end = r.end;
+          test = r.test;
+          by = r.by;
+        };
+        onto = refl;
+      }
+  met (ValueOf j) (Fill (MembersFrom u k f)) p stack a r =
+      record {
+        part = record {
+          element = r.element;
+          takes = r.takes;
+          takes_last = r.takes_last;
+          below = r.below;
+          set = set_kept u stack r.below r.set;
+          tested = r.tested;
+          last = r.last;
+          after = r.after;
+          end = r.end;
+          test = r.test;
+          last_value = r.last_value;
+          last_shallow = r.last_shallow;
+          last_test = r.last_test;
+          by = r.by;
+        };
+        onto = refl;
+      }
+  met (ValueOf j) (Fill (MembersTo u k v)) p stack a r =
+      record {
+        part = record {
+          element = r.element;
+          takes = r.takes;
+          low_fits = r.low_fits;
+          under = r.under;
+          is = r.is ∙ ap (λ (w : ℕ). w ∷ r.under) (word_same h x keeps.reference v);
+          below = r.below;
+          set = set_kept u r.under r.below r.set;
+          after = r.after;
+          end = r.end;
+          test = r.test;
+          by = r.by;
+        };
+        onto = refl;
+      }
   met (ValueOf j) (Fill (RightOf o k u)) p stack a r =
       record {
         part = record { same = r.same; takes = r.takes; fits = r.fits; below = r.below; is = r.is ∙ ap (λ (w : ℕ). w ∷ r.below) (word_same h x keeps.reference u); end = r.end; by = r.by };

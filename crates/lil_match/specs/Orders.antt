@@ -1,11 +1,11 @@
 -- Where parts stand: behind their start, and within the code.
-use Rattle.std.proofs.Common.{ℕ, ◌<◌, ◌≤◌, List, [], ◌∷◌, length, Option, Some, arith}
-use Rattle.lil_resolved.specs.Resolved.{Expression, Constant, Taken, One, Two, Short, Apply, Argument, Statement, Statements, kind_of}
+use Rattle.std.proofs.Common.{ℕ, ◌<◌, ◌≤◌, List, [], ◌∷◌, length, Option, arith}
+use Rattle.lil_resolved.specs.Resolved.{Expression, Constant, Taken, One, Two, Short, Apply, With, WithSpan, Argument, Statement, Statements, kind_of}
 use Rattle.lil_asm.specs.declared.instr.Instr.{Instr}
-use Rattle.lil_asm.specs.declared.instr.Instr.TheVariants.{Jmp}
+use Rattle.lil_asm.specs.declared.instr.Instr.TheVariants.{Dup, Spn}
 use Rattle.lil_asm.specs.Decoding.{decoded_stands}
 use Rattle.lil_table.specs.Lengths.{place_long, statement_long, body_long}
-use Rattle.lil_table.specs.Rows.{Layout, IsAt, InstrsAt, one_code, two_code, function_code, ExpressionAt, ArgumentsAt, StatementAt, BodyAt, short_code}
+use Rattle.lil_table.specs.Rows.{Layout, IsAt, InstrsAt, one_code, two_code, test_code, function_code, ExpressionAt, ArgumentsAt, StatementAt, BodyAt, short_code}
 
 pub instr_order : (code : List ℕ) (p : ℕ) (i : Instr) (q : ℕ) → IsAt code p i q → (p < q) × (q ≤ length code)
 instr_order code p i q h =
@@ -47,6 +47,20 @@ expression_stands l code (Apply f a) p q h =
     let first = expression_stands l code a p h.middle h.first in
     let by = instrs_order code (function_code f (kind_of a)) h.middle q h.by first.1 in
     (omega (arith, first.0, by.0), by.1)
+expression_stands l code (With s k a) p q h =
+    let first = expression_stands l code s p h.start h.first in
+    let value = expression_stands l code a h.start h.middle h.value in
+    let test = instrs_order code (test_code k (kind_of a)) h.middle h.tested h.test value.1 in
+    let by = instrs_order code (Dup ∷ Spn ∷ []) h.tested q h.by test.1 in
+    (omega (arith, first.0, value.0, test.0, by.0), by.1)
+expression_stands l code (WithSpan s k a b) p q h =
+    let first = expression_stands l code s p h.start h.first in
+    let value = expression_stands l code a h.start h.middle h.value in
+    let test = instrs_order code (test_code k (kind_of a)) h.middle h.tested h.test value.1 in
+    let more = expression_stands l code b h.tested h.last h.last_value in
+    let last = instrs_order code (test_code k (kind_of b)) h.last h.end h.last_test more.1 in
+    let by = instr_order code h.end Spn q h.by in
+    (omega (arith, first.0, value.0, test.0, more.0, last.0, by.0), by.1)
 
 -- the place where an expression begins lies within the code
 pub expression_within : (l : Layout) (code : List ℕ) (e : Expression) (p q : ℕ) → ExpressionAt l code e p q → p < length code

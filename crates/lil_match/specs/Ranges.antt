@@ -6,8 +6,11 @@ use Rattle.std.proofs.lemmas.Bool.Decides.{nat_tests}
 use Rattle.std.proofs.lemmas.Int.{ints}
 use Rattle.lil_base.specs.Words.{in_type, between}
 use Rattle.lil_base.specs.Laws.{in_range, bounds}
-use Rattle.lil_resolved.specs.Kinds.{Kind, OfWhole, OfTruth, OfCharacter, OfEnumeration, OfRange, base_of, is_base, takes_value, compared_as, lesser, larger, least, greatest}
-use Rattle.lil_resolved.specs.Scalars.{Scalar, Number, Truth, Character, within, scalar_of, ordinal_of, value_with}
+use Rattle.lil_base.specs.Sets as sets
+use Rattle.lil_base.specs.SetLaws.{set_below}
+use Rattle.lil_resolved.specs.MemberLaws.{word_of_set}
+use Rattle.lil_resolved.specs.Kinds.{Kind, OfWhole, OfTruth, OfCharacter, OfEnumeration, OfSet, OfRange, base_of, is_base, is_ordinal, takes_value, compared_as, lesser, larger, least, greatest}
+use Rattle.lil_resolved.specs.Scalars.{Scalar, Number, Truth, Character, SetOf, within, scalar_of, ordinal_of, value_with}
 
 -- a number is one of the kind's
 abbrev pub has : Kind → ℤ → Bool
@@ -83,6 +86,7 @@ value_where (OfWhole t) z = refl
 value_where OfTruth z = refl
 value_where OfCharacter z = refl
 value_where (OfEnumeration n) z = refl
+value_where OfSet z = refl
 value_where (OfRange base low high) z =
     by (between low z high) (value_where base z)
     ∙ ap (λ (b : Bool). cond b (Some (scalar_of base z)) None) (sym (has_range base low high z))
@@ -107,6 +111,8 @@ number_is OfTruth (negsuc n) h = cc
 number_is OfCharacter (pos n) h = refl
 number_is OfCharacter (negsuc n) h = cc
 number_is (OfEnumeration n) z h = refl
+number_is OfSet (pos n) h = let b = bounds (pos 0) (pos n) (pos 65535) h in ap pos (word_of_set n (omega (arith, ints, b.1)))
+number_is OfSet (negsuc n) h = cc
 number_is (OfRange base low high) z h = number_is base z (and_parts (between low z high) (has base z) (sym (has_range base low high z) ∙ h)).1
 
 -- and is one of the kind
@@ -116,6 +122,7 @@ value_fits OfTruth z h = refl
 value_fits OfCharacter (pos n) h = grind (arith, nat_tests)
 value_fits OfCharacter (negsuc n) h = cc
 value_fits (OfEnumeration n) z h = h
+value_fits OfSet z h = refl
 value_fits (OfRange base low high) z h =
     let p = and_parts (between low z high) (has base z) (sym (has_range base low high z) ∙ h) in
     and_from (within base (scalar_of base z)) (between low (ordinal_of (scalar_of base z)) high)
@@ -129,10 +136,20 @@ fits_has OfTruth (Truth true) h = refl
 fits_has OfTruth (Truth false) h = refl
 fits_has OfCharacter (Character c) h = let e = leb-true c 255 h in in_range (pos 0) (pos c) (pos 255) (omega (arith, ints)) (omega (arith, ints, e))
 fits_has (OfEnumeration n) (Number z) h = h
+fits_has OfSet (SetOf s) h = in_range (pos 0) (pos (sets.set_word s)) (pos 65535) (omega (arith, ints)) (omega (arith, ints, set_below s))
 fits_has (OfRange base low high) v h =
     let p = and_parts (within base v) (between low (ordinal_of v) high) h in
     has_range base low high (ordinal_of v) ∙ and_from (between low (ordinal_of v) high) (has base (ordinal_of v)) p.1 (fits_has base v p.0)
 fits_has k v h = cc
+
+-- kinds that compare by their numbers have words
+pub ordinal_base : (k : Kind) → is_ordinal k ≡ true → is_base k ≡ true
+ordinal_base OfSet h = cc
+ordinal_base (OfWhole t) h = refl
+ordinal_base OfTruth h = refl
+ordinal_base OfCharacter h = refl
+ordinal_base (OfEnumeration n) h = h
+ordinal_base (OfRange part low high) h = h
 
 -- its numbers are numbers of the type as which its words are compared
 pub has_type : (j : Kind) (z : ℤ) → is_base j ≡ true → has j z ≡ true → in_type (compared_as j) z ≡ true
@@ -143,6 +160,7 @@ has_type (OfEnumeration n) z base h =
     let b = bounds (pos 0) z (pos (n - 1)) h in
     let e = leb-true n 65535 base in
     in_range (pos 0) z (pos 65535) b.0 (omega (arith, ints, b.1, e))
+has_type OfSet z base h = h
 has_type (OfRange part low high) z base h = cc
 
 -- ---- a value of one kind where another is wanted
@@ -163,17 +181,8 @@ taken_where OfTruth OfTruth (Truth true) takes fits = refl
 taken_where OfTruth OfTruth (Truth false) takes fits = refl
 taken_where OfCharacter OfCharacter (Character c) takes fits = fits ∙ sym (fits_has OfCharacter (Character c) fits)
 taken_where (OfEnumeration m) (OfEnumeration n) (Number z) takes fits = refl
+taken_where OfSet OfSet (SetOf s) takes fits = fits ∙ sym (fits_has OfSet (SetOf s) fits)
 taken_where k j v takes fits = cc
-
--- it is the value of the kind with its number
-pub taken_is : (k j : Kind) (v : Scalar) → takes_value k j ≡ true → within j v ≡ true → scalar_of k (ordinal_of v) ≡ v
-taken_is (OfRange base low high) j v takes fits = taken_is base j v takes fits
-taken_is (OfWhole s) (OfWhole t) (Number z) takes fits = refl
-taken_is OfTruth OfTruth (Truth true) takes fits = refl
-taken_is OfTruth OfTruth (Truth false) takes fits = refl
-taken_is OfCharacter OfCharacter (Character c) takes fits = refl
-taken_is (OfEnumeration m) (OfEnumeration n) (Number z) takes fits = refl
-taken_is k j v takes fits = cc
 
 -- where a value may be stored its own kind is a base
 pub takes_base : (k j : Kind) → takes_value k j ≡ true → is_base j ≡ true
@@ -182,6 +191,7 @@ takes_base (OfWhole s) (OfWhole t) h = refl
 takes_base OfTruth OfTruth h = refl
 takes_base OfCharacter OfCharacter h = refl
 takes_base (OfEnumeration m) (OfEnumeration n) h = (and_parts (m == n) (nat_le n 65535) h).1
+takes_base OfSet OfSet h = refl
 takes_base k j h = cc
 
 -- a kind whose values are words is that of values of its base
@@ -190,6 +200,7 @@ takes_own (OfRange base low high) h = takes_own base h
 takes_own (OfWhole t) h = refl
 takes_own OfTruth h = refl
 takes_own OfCharacter h = refl
+takes_own OfSet h = refl
 takes_own (OfEnumeration n) h = and_from (n == n) (nat_le n 65535) (eq-eqb n n refl) h
 
 -- so is the base of the kind where it is wanted
@@ -198,6 +209,7 @@ takes_part (OfRange base low high) j h = takes_part base j h
 takes_part (OfWhole s) (OfWhole t) h = refl
 takes_part OfTruth OfTruth h = refl
 takes_part OfCharacter OfCharacter h = refl
+takes_part OfSet OfSet h = refl
 takes_part (OfEnumeration m) (OfEnumeration n) h =
     let p = and_parts (m == n) (nat_le n 65535) h in
     ap (λ (x : ℕ). nat_le x 65535) (eqb-true m n p.0) ∙ p.1

@@ -1,7 +1,7 @@
 -- How long items can stutter: a count that falls at each step of the source that takes no step of the machine.
 use Rattle.std.proofs.Common.{ℕ, ◌+◌, List, [], ◌∷◌}
-use Rattle.lil_resolved.specs.Resolved.{Designator, Variable, Field, Element, Expression, Constant, Taken, One, Two, Short, Apply, Argument, Statement, Assign, Copy, Change, Request, If, Case, While, Repeat, Loop, Exit, Halt, Return, For, Statements, Empty, Then}
-use Rattle.lil_meaning.specs.Items.{Hole, Get, Part, IndexBy, IndexAt, SetTo, StoreAt, CopyTo, CopyFrom, ChangeBy, ChangeAt, OneOf, LeftOf, RightOf, ShortOf, ApplyTo, Pass, Choose, Turn, Again, Pick, StartOf, LimitOf, Task, Do, Passing, Until, Looping, Turns, End, Item, Value, Evaluate, PlaceOf, Fill, Perform}
+use Rattle.lil_resolved.specs.Resolved.{Designator, Variable, Field, Element, Expression, Constant, Taken, One, Two, Short, Apply, With, WithSpan, Argument, Statement, Assign, Copy, Change, Member, Request, If, Case, While, Repeat, Loop, Exit, Halt, Return, For, Statements, Empty, Then}
+use Rattle.lil_meaning.specs.Items.{Hole, Get, Part, IndexBy, IndexAt, SetTo, StoreAt, CopyTo, CopyFrom, ChangeBy, ChangeAt, OneOf, LeftOf, RightOf, ShortOf, ApplyTo, WithMember, MemberOf, WithMembers, MembersFrom, MembersTo, MemberBy, MemberAt, Pass, Choose, Turn, Again, Pick, StartOf, LimitOf, Task, Do, Passing, Until, Looping, Turns, End, Item, Value, Evaluate, PlaceOf, Fill, Perform}
 
 abbrev mutual
   pub place_stutter : Designator → ℕ
@@ -16,6 +16,8 @@ abbrev mutual
   value_stutter (Two o k a b) = 1 + value_stutter a + value_stutter b
   value_stutter (Short d a b) = 1 + value_stutter a + value_stutter b
   value_stutter (Apply f a) = 2 + value_stutter a
+  value_stutter (With s k a) = 1 + value_stutter s + value_stutter a
+  value_stutter (WithSpan s k a b) = 1 + value_stutter s + (value_stutter a + value_stutter b)
 
 abbrev pub passing_stutter : List Argument → ℕ
 passing_stutter [] = 0
@@ -26,6 +28,7 @@ abbrev mutual
   statement_stutter (Assign d k e) = 1 + place_stutter d + value_stutter e
   statement_stutter (Copy d from) = 1 + place_stutter d + place_stutter from
   statement_stutter (Change down d k e) = 1 + place_stutter d + value_stutter e
+  statement_stutter (Member out d k e) = 1 + place_stutter d + value_stutter e
   statement_stutter (Request r given) = 1 + passing_stutter given
   statement_stutter (If c a b) = 1 + value_stutter c
   statement_stutter (Case e arms) = 1 + value_stutter e
@@ -57,6 +60,13 @@ hole_stutter (LeftOf o k f) = value_stutter f
 hole_stutter (RightOf o k u) = 0
 hole_stutter (ShortOf d f) = value_stutter f
 hole_stutter (ApplyTo f) = 1
+hole_stutter (WithMember k a) = value_stutter a
+hole_stutter (MemberOf s k) = 0
+hole_stutter (WithMembers k a b) = value_stutter a + value_stutter b
+hole_stutter (MembersFrom s k b) = value_stutter b
+hole_stutter (MembersTo s k u) = 0
+hole_stutter (MemberBy out k e) = value_stutter e
+hole_stutter (MemberAt out p k) = 0
 hole_stutter (Pass r k done left) = passing_stutter left
 hole_stutter (Choose a b) = 0
 hole_stutter (Turn c body) = 0

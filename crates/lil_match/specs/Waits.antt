@@ -6,20 +6,20 @@ use Rattle.std.specs.List.{list_any}
 use Rattle.lil_base.specs.Words.{between, word_of}
 use Rattle.lil_base.specs.declared.operator.OneOp.{OneOp}
 use Rattle.lil_base.specs.declared.operator.TwoOp.{TwoOp}
-use Rattle.lil_resolved.specs.Kinds.{Kind, OfWhole, OfTruth, base_of, is_base, takes_value, least, greatest, numbers}
+use Rattle.lil_resolved.specs.Kinds.{Kind, OfWhole, OfTruth, OfSet, base_of, is_base, is_element, takes_value, least, greatest, numbers}
 use Rattle.lil_resolved.specs.Scalars.{Scalar, within}
-use Rattle.lil_resolved.specs.Resolved.{Designator, Function, Expression, Argument, Statement, If, Case, While, Repeat, Loop, Statements, Arms, Resolved, kind_of, is_relation, result_kind, function_kind, counted_as, shape_of}
+use Rattle.lil_resolved.specs.Resolved.{Designator, Function, Expression, Argument, Statement, If, Case, While, Repeat, Loop, Statements, Arms, Resolved, kind_of, is_relation, result_kind, right_kind, function_kind, counted_as, shape_of}
 use Rattle.lil_resolved.specs.Depth.{place_depth, depth, function_depth}
 use Rattle.lil_resolved.specs.Sound.{takes_one, takes_two, takes_function}
 use Rattle.lil_resolved.specs.Shapes.{Shape, Word, Row, words, is_there, part_at, offset, element_of}
 use Rattle.lil_meaning.specs.Cells.{Root, Local, Place}
-use Rattle.lil_meaning.specs.Items.{Datum, Scalars, Places, Get, Part as PartOf, IndexBy, IndexAt, SetTo, StoreAt, CopyTo, CopyFrom, ChangeBy, ChangeAt, OneOf, LeftOf, RightOf, ShortOf, ApplyTo, Pass, Choose, Turn, Again, Pick, StartOf, LimitOf, Do, Passing, Until, Looping, Turns, End, Item, Value, Evaluate, PlaceOf, Fill, Perform, Activation, Parked}
+use Rattle.lil_meaning.specs.Items.{Datum, Scalars, Places, Get, Part as PartOf, IndexBy, IndexAt, SetTo, StoreAt, CopyTo, CopyFrom, ChangeBy, ChangeAt, OneOf, LeftOf, RightOf, ShortOf, ApplyTo, WithMember, MemberOf, WithMembers, MembersFrom, MembersTo, MemberBy, MemberAt, Pass, Choose, Turn, Again, Pick, StartOf, LimitOf, Do, Passing, Until, Looping, Turns, End, Item, Value, Evaluate, PlaceOf, Fill, Perform, Activation, Parked}
 use Rattle.lil_meaning.specs.World.{Single}
 use Rattle.lil_meaning.specs.Steps.{turns, given_of}
-use Rattle.lil_asm.specs.declared.instr.Instr.TheVariants.{Mov, Ixc, Ent, Rtn, Jmp, Svc}
+use Rattle.lil_asm.specs.declared.instr.Instr.TheVariants.{Dup, Spn, Mov, Ixc, Ent, Rtn, Jmp, Svc}
 use Rattle.lil_mcode.specs.State.{Module, Kept, body_entry}
 use Rattle.lil_asm.specs.Requests.{request_words}
-use Rattle.lil_table.specs.Rows.{Layout, exactly, IsAt, InstrsAt, one_code, two_code, test_code, function_code, Access, InData, OnTop, Behind as Past, further, access_of, address_code, load_code, ready_code, readied, held, store_code, again_code, held_twice, change_code, PlaceAt, ExpressionAt, WholeRow, ValueRow, ArgumentsAt, StatementAt, BodyAt, TurnsRow, RoundRow, loop_place, short_code}
+use Rattle.lil_table.specs.Rows.{Layout, exactly, IsAt, InstrsAt, one_code, two_code, test_code, function_code, Access, InData, OnTop, Behind as Past, further, access_of, address_code, load_code, ready_code, readied, held, store_code, again_code, held_twice, change_code, member_code, PlaceAt, ExpressionAt, WholeRow, ValueRow, ArgumentsAt, StatementAt, BodyAt, TurnsRow, RoundRow, loop_place, short_code}
 use Rattle.lil_match.specs.Homes.{word_for, Home, address, shape_there}
 
 -- What comes from the items before: nothing, a value of a kind, or a place of a shape, by how the code has it.
@@ -189,7 +189,7 @@ module _ (frame : Frame) where
   pub record LeftPart (j : Kind) (o : TwoOp) (k : Kind) (f : Expression) (p : ℕ) (stack : List ℕ) : Type 0 where
     pub same : j ≡ k
     pub takes : takes_two o k ≡ true
-    pub typed : kind_of f ≡ k
+    pub typed : kind_of f ≡ right_kind o k
     pub middle : ℕ
     pub end : ℕ
     pub here : ExpressionAt l own.code f p middle
@@ -212,6 +212,39 @@ module _ (frame : Frame) where
     pub shallow : length stack + function_depth f ≤ 16
     pub end : ℕ
     pub by : InstrsAt own.code (function_code f j) p end
+
+  -- a number of a kind that a set gets is to come, above the set
+  pub record WithPart (j k : Kind) (e : Expression) (p : ℕ) (stack : List ℕ) : Type 0 where
+    pub same : j ≡ OfSet
+    pub element : is_element k ≡ true
+    pub takes : takes_value k (kind_of e) ≡ true
+    pub middle : ℕ
+    pub tested : ℕ
+    pub end : ℕ
+    pub value : ExpressionAt l own.code e p middle
+    pub shallow : length stack + 1 + depth e ≤ 16
+    pub room : length stack + 3 ≤ 16
+    pub test : InstrsAt own.code (test_code k (kind_of e)) middle tested
+    pub by : InstrsAt own.code (Dup ∷ Spn ∷ []) tested end
+
+  -- so are the first and the last of several
+  pub record WithsPart (j k : Kind) (e f : Expression) (p : ℕ) (stack : List ℕ) : Type 0 where
+    pub same : j ≡ OfSet
+    pub element : is_element k ≡ true
+    pub takes : takes_value k (kind_of e) ≡ true
+    pub takes_last : takes_value k (kind_of f) ≡ true
+    pub middle : ℕ
+    pub tested : ℕ
+    pub last : ℕ
+    pub after : ℕ
+    pub end : ℕ
+    pub value : ExpressionAt l own.code e p middle
+    pub shallow : length stack + 1 + depth e ≤ 16
+    pub test : InstrsAt own.code (test_code k (kind_of e)) middle tested
+    pub last_value : ExpressionAt l own.code f tested last
+    pub last_shallow : length stack + 2 + depth f ≤ 16
+    pub last_test : InstrsAt own.code (test_code k (kind_of f)) last after
+    pub by : IsAt own.code after Spn end
 
   pub record PlacePart (d : Designator) (p : ℕ) (stack : List ℕ) : Type 0 where
     pub end : ℕ
@@ -264,6 +297,19 @@ module _ (frame : Frame) where
     pub source : PlaceAt l own.code from start middle
     pub source_address : InstrsAt own.code (address_code (access_of l from)) middle last
     pub by : IsAt own.code last (Mov (words t)) end
+    pub within : end < length own.code
+
+  -- the number that a set gets or loses is to come
+  pub record MemberByPart (b : Access) (t : Shape) (out : Bool) (k : Kind) (e : Expression) (p : ℕ) (stack : List ℕ) : Type 0 where
+    pub typed : t ≡ Word OfSet
+    pub empty : stack ≡ []
+    pub element : is_element k ≡ true
+    pub start : ℕ
+    pub middle : ℕ
+    pub end : ℕ
+    pub address : InstrsAt own.code (address_code b) p start
+    pub value : ValueRow l own.code 1 e k start middle
+    pub by : IsAt own.code middle (member_code out) end
     pub within : end < length own.code
 
   -- the number that INC or DEC takes is to come
@@ -377,13 +423,61 @@ module _ (ctx : Setting) where
     pub is : stack ≡ word_for h v ∷ below
 
   pub record RightPart (j : Kind) (o : TwoOp) (k : Kind) (u : Scalar) (p : ℕ) (stack : List ℕ) : Type 0 where
-    pub same : j ≡ k
+    pub same : j ≡ right_kind o k
     pub takes : takes_two o k ≡ true
     pub fits : within k u ≡ true
     pub below : List ℕ
     pub is : stack ≡ word_for h u ∷ below
     pub end : ℕ
     pub by : InstrsAt own.code (two_code o k) p end
+
+  -- a set on an expression stack
+  pub record HasSet (u : Scalar) (stack below : List ℕ) : Type 0 where
+    pub fits : within OfSet u ≡ true
+    pub is : stack ≡ word_for h u ∷ below
+
+  -- the number that a set gets is there
+  pub record MemberPart (j : Kind) (u : Scalar) (k : Kind) (p : ℕ) (stack : List ℕ) : Type 0 where
+    pub element : is_element k ≡ true
+    pub takes : takes_value k j ≡ true
+    pub below : List ℕ
+    pub set : HasSet u stack below
+    pub room : length below + 3 ≤ 16
+    pub tested : ℕ
+    pub end : ℕ
+    pub test : InstrsAt own.code (test_code k j) p tested
+    pub by : InstrsAt own.code (Dup ∷ Spn ∷ []) tested end
+
+  -- the first of the numbers is there, and the last is to come
+  pub record FromPart (j : Kind) (u : Scalar) (k : Kind) (f : Expression) (p : ℕ) (stack : List ℕ) : Type 0 where
+    pub element : is_element k ≡ true
+    pub takes : takes_value k j ≡ true
+    pub takes_last : takes_value k (kind_of f) ≡ true
+    pub below : List ℕ
+    pub set : HasSet u stack below
+    pub tested : ℕ
+    pub last : ℕ
+    pub after : ℕ
+    pub end : ℕ
+    pub test : InstrsAt own.code (test_code k j) p tested
+    pub last_value : ExpressionAt l own.code f tested last
+    pub last_shallow : length below + 2 + depth f ≤ 16
+    pub last_test : InstrsAt own.code (test_code k (kind_of f)) last after
+    pub by : IsAt own.code after Spn end
+
+  -- both are there
+  pub record ToPart (j : Kind) (u : Scalar) (k : Kind) (v : Scalar) (p : ℕ) (stack : List ℕ) : Type 0 where
+    pub element : is_element k ≡ true
+    pub takes : takes_value k j ≡ true
+    pub low_fits : within k v ≡ true
+    pub under : List ℕ
+    pub is : stack ≡ word_for h v ∷ under
+    pub below : List ℕ
+    pub set : HasSet u under below
+    pub after : ℕ
+    pub end : ℕ
+    pub test : InstrsAt own.code (test_code k j) p after
+    pub by : IsAt own.code after Spn end
 
   pub record LimitPart (j : Kind) (x : ℕ) (k : Kind) (v : Scalar) (step : ℤ) (body : Statements) (p : ℕ) (stack : List ℕ) (a : Around) : Type 0 where
     pub same : j ≡ base_of k
@@ -483,6 +577,17 @@ module _ (ctx : Setting) where
     pub by : IsAt own.code last (Mov (words t)) end
     pub within : end < length own.code
 
+  -- the number that a set gets or loses is there
+  pub record MemberAtPart (j : Kind) (out : Bool) (place : Place) (k : Kind) (p : ℕ) (stack : List ℕ) : Type 0 where
+    pub element : is_element k ≡ true
+    pub takes : takes_value k j ≡ true
+    pub has : HasPlace OnTop place (Word OfSet) stack []
+    pub tested : ℕ
+    pub end : ℕ
+    pub test : InstrsAt own.code (test_code k j) p tested
+    pub by : IsAt own.code tested (member_code out) end
+    pub within : end < length own.code
+
   -- the number that INC or DEC takes is there
   pub record ChangePart (j : Kind) (down : Bool) (place : Place) (k : Kind) (p : ℕ) (stack : List ℕ) : Type 0 where
     pub same : j ≡ OfWhole (counted_as k)
@@ -512,6 +617,13 @@ module _ (ctx : Setting) where
   needs (AtPlace b t) (Fill (CopyTo from)) p stack a = part (CopyToPart active b t from p stack) (λ r. on Quiet r.end [])
   needs (AtPlace b t) (Fill (CopyFrom to)) p stack a = part (CopyFromPart b t to p stack) (λ r. on Quiet r.end [])
   needs (AtPlace b t) (Fill (ChangeBy down k e)) p stack a = part (ChangeByPart active b t down k e p stack) (λ r. on Quiet r.end [])
+  needs (AtPlace b t) (Fill (MemberBy out k e)) p stack a = part (MemberByPart active b t out k e p stack) (λ r. on Quiet r.end [])
+  needs (ValueOf j) (Fill (MemberAt out place k)) p stack a = part (MemberAtPart j out place k p stack) (λ r. on Quiet r.end [])
+  needs (ValueOf j) (Fill (WithMember k e)) p stack a = part (WithPart active j k e p stack) (λ r. on (ValueOf OfSet) r.end stack)
+  needs (ValueOf j) (Fill (MemberOf u k)) p stack a = part (MemberPart j u k p stack) (λ r. on (ValueOf OfSet) r.end r.below)
+  needs (ValueOf j) (Fill (WithMembers k e f)) p stack a = part (WithsPart active j k e f p stack) (λ r. on (ValueOf OfSet) r.end stack)
+  needs (ValueOf j) (Fill (MembersFrom u k f)) p stack a = part (FromPart j u k f p stack) (λ r. on (ValueOf OfSet) r.end r.below)
+  needs (ValueOf j) (Fill (MembersTo u k v)) p stack a = part (ToPart j u k v p stack) (λ r. on (ValueOf OfSet) r.end r.below)
   needs (ValueOf j) (Fill (IndexAt place k)) p stack a = part (IndexAtPart j place k p stack) (λ r. on (AtPlace OnTop r.element) r.end r.below)
   needs (ValueOf j) (Fill (ChangeAt down place k)) p stack a = part (ChangePart j down place k p stack) (λ r. on Quiet r.end [])
   needs (ValueOf j) (Fill (StoreAt place k)) p stack a = part (StorePart j place k p stack) (λ r. on Quiet r.end [])

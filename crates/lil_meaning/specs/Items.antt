@@ -48,6 +48,20 @@ pub data Hole : Type 0 where
   ShortOf : (decides : Bool) (f : Expression) → Hole
   -- a standard function of ·
   ApplyTo : (f : Function) → Hole
+  -- to the set ·, a number of a kind is added
+  WithMember : (k : Kind) (a : Expression) → Hole
+  -- to the set, the number ·
+  MemberOf : (s : Scalar) (k : Kind) → Hole
+  -- to the set ·, the numbers of a kind from a to b
+  WithMembers : (k : Kind) (a b : Expression) → Hole
+  -- to the set, those from · to b
+  MembersFrom : (s : Scalar) (k : Kind) (b : Expression) → Hole
+  -- to the set, those from u to ·
+  MembersTo : (s : Scalar) (k : Kind) (u : Scalar) → Hole
+  -- the number e of a kind joins or leaves the set at the place ·
+  MemberBy : (out : Bool) (k : Kind) (e : Expression) → Hole
+  -- the number · joins or leaves the set at the place
+  MemberAt : (out : Bool) (p : Place) (k : Kind) → Hole
   -- · is the next argument of the request
   Pass : (r : ℕ) (k : Kind) (done : List Datum) (left : List Argument) → Hole
   -- the first statements where · is TRUE, else the second

@@ -10,13 +10,14 @@ use Rattle.lil_base.specs.declared.fault.TrapAt.{TrapAt}
 use Rattle.lil_base.specs.declared.operator.OneOp.{OneOp}
 use Rattle.lil_base.specs.declared.operator.OneOp.TheVariants as one
 use Rattle.lil_base.specs.declared.operator.TwoOp.{TwoOp}
-use Rattle.lil_base.specs.declared.operator.TwoOp.TheVariants.{Equal, Unequal, Less, AtMost, Greater, AtLeast, Plus, Minus, Times, Div, Mod}
-use Rattle.lil_resolved.specs.Kinds.{Kind, OfWhole, OfTruth, OfCharacter, OfEnumeration, OfRange, position}
-use Rattle.lil_resolved.specs.Scalars.{Scalar, Number, Truth, Character, Nothing, within, scalar_word, value_with, ordinal_of, truth_number, truth_of}
-use Rattle.lil_resolved.specs.Resolved.{Designator, Variable, Field, Element, Function, Abs, Cap, Chr, Odd, Ord, Val, Expression, Constant, Taken, One, Two, Short, Apply, Label, Statement, Assign, Copy, Change, Request, If, Case, While, Repeat, Loop, Exit, Halt, Return, For, Statements, Arms, NoElse, Else, Arm, Procedure, Resolved, counted_as}
+use Rattle.lil_base.specs.declared.operator.TwoOp.TheVariants.{Equal, Unequal, Less, AtMost, Greater, AtLeast, In, Plus, Minus, Times, Slash, Div, Mod}
+use Rattle.lil_resolved.specs.Kinds.{Kind, OfWhole, OfTruth, OfCharacter, OfEnumeration, OfRange, is_set, nat_of, position}
+use Rattle.lil_resolved.specs.Members.{same_members, included, is_in, united, without, shared_members, unshared, from_to}
+use Rattle.lil_resolved.specs.Scalars.{Scalar, Number, Truth, Character, SetOf, Nothing, within, scalar_word, value_with, ordinal_of, truth_number, truth_of, members_of}
+use Rattle.lil_resolved.specs.Resolved.{Designator, Variable, Field, Element, Function, Abs, Cap, Chr, Odd, Ord, Val, Expression, Constant, Taken, One, Two, Short, Apply, With, WithSpan, Label, Statement, Assign, Copy, Change, Member, Request, If, Case, While, Repeat, Loop, Exit, Halt, Return, For, Statements, Arms, NoElse, Else, Arm, Procedure, Resolved, counted_as}
 use Rattle.lil_meaning.specs.Cells.{Global, Place, under, part_of, stored, got, alone, loaded_at}
 use Rattle.lil_meaning.specs.World.{World, Given, Single, Text, serve, closing}
-use Rattle.lil_meaning.specs.Items.{Datum, Scalars, Places, Hole, Get, Part, IndexBy, IndexAt, SetTo, StoreAt, CopyTo, CopyFrom, ChangeBy, ChangeAt, OneOf, LeftOf, RightOf, ShortOf, ApplyTo, Pass, Choose, Turn, Again, Pick, StartOf, LimitOf, Task, Do, Passing, Until, Looping, Turns, End, Item, Value, Evaluate, PlaceOf, Fill, Perform, doing, Activation, Parked, Level, Phase, Going, Closing, Ended, Trapped, Source}
+use Rattle.lil_meaning.specs.Items.{Datum, Scalars, Places, Hole, Get, Part, IndexBy, IndexAt, SetTo, StoreAt, CopyTo, CopyFrom, ChangeBy, ChangeAt, OneOf, LeftOf, RightOf, ShortOf, ApplyTo, WithMember, MemberOf, WithMembers, MembersFrom, MembersTo, MemberBy, MemberAt, Pass, Choose, Turn, Again, Pick, StartOf, LimitOf, Task, Do, Passing, Until, Looping, Turns, End, Item, Value, Evaluate, PlaceOf, Fill, Perform, doing, Activation, Parked, Level, Phase, Going, Closing, Ended, Trapped, Source}
 
 -- the activation at hand: that of the nearest end
 abbrev pub current : List Item → ℕ
@@ -134,9 +135,31 @@ abbrev pub compared : Option (ℤ → ℤ → Bool) → TwoOp → Kind → Scala
 compared (Some r) o k u v = related r (compared_number k u) (compared_number k v)
 compared None o k u v = operated (operation_of o) k u v
 
--- an operator on two values of a kind: its value or its trap
+-- an operator on two sets; one that takes none has no value
+abbrev pub set_value : TwoOp → (ℕ → Bool) → (ℕ → Bool) → Scalar
+set_value Equal s t = Truth (same_members s t)
+set_value Unequal s t = Truth (not (same_members s t))
+set_value AtMost s t = Truth (included s t)
+set_value AtLeast s t = Truth (included t s)
+set_value Plus s t = SetOf (united s t)
+set_value Minus s t = SetOf (without s t)
+set_value Times s t = SetOf (shared_members s t)
+set_value Slash s t = SetOf (unshared s t)
+set_value _ s t = Nothing
+
+-- an operator on two values of a kind, or IN on one and a set: its value or its trap
 abbrev pub applied : TwoOp → Kind → Scalar → Scalar → Result Scalar TrapKind
-applied o k u v = compared (relation_of o) o k u v
+applied In k u v = Ok (Truth (is_in (members_of v) (ordinal_of u)))
+applied o k u v = if is_set k then Ok (set_value o (members_of u) (members_of v)) else compared (relation_of o) o k u v
+
+-- a set with the numbers from that of one value to that of another
+abbrev pub with_span : Scalar → Scalar → Scalar → Scalar
+with_span s u v = SetOf (united (members_of s) (from_to (nat_of (ordinal_of u)) (nat_of (ordinal_of v))))
+
+-- a set that the number of a value has joined or left
+abbrev pub with_member : Bool → Scalar → Scalar → Scalar
+with_member false s v = with_span s v v
+with_member true s v = SetOf (without (members_of s) (from_to (nat_of (ordinal_of v)) (nat_of (ordinal_of v))))
 
 abbrev pub negated : Kind → Scalar → Result Scalar TrapKind
 negated (OfWhole t) v = outcome (negation t (whole_of v))
@@ -224,6 +247,8 @@ evaluated (One o kind a) k s = with_items s (Evaluate a ∷ Fill (OneOf o kind) 
 evaluated (Two o kind a b) k s = with_items s (Evaluate a ∷ Fill (LeftOf o kind b) ∷ k)
 evaluated (Short d a b) k s = with_items s (Evaluate a ∷ Fill (ShortOf d b) ∷ k)
 evaluated (Apply f a) k s = with_items s (Evaluate a ∷ Fill (ApplyTo f) ∷ k)
+evaluated (With e kind a) k s = with_items s (Evaluate e ∷ Fill (WithMember kind a) ∷ k)
+evaluated (WithSpan e kind a b) k s = with_items s (Evaluate e ∷ Fill (WithMembers kind a b) ∷ k)
 
 -- what INC and DEC make of two numbers
 abbrev pub changed : Bool → Whole → ℤ → ℤ → Result ℤ ArithFault
@@ -269,6 +294,12 @@ filled library (LeftOf o kind f) v k s = with_items s (Evaluate f ∷ Fill (Righ
 filled library (RightOf o kind u) v k s = answered library (applied o kind u v) k s
 filled library (ShortOf d f) v k s = with_items s (if decided d (truth_of v) then Value (Scalars v) ∷ k else Evaluate f ∷ k)
 filled library (ApplyTo f) v k s = answered library (function_value f v) k s
+filled library (WithMember kind a) v k s = with_items s (Evaluate a ∷ Fill (MemberOf v kind) ∷ k)
+filled library (MemberOf u kind) v k s = if within kind v then with_items s (Value (Scalars (with_span u v v)) ∷ k) else trapped library s trap.Range
+filled library (WithMembers kind a b) v k s = with_items s (Evaluate a ∷ Fill (MembersFrom v kind b) ∷ k)
+filled library (MembersFrom u kind b) v k s = if within kind v then with_items s (Evaluate b ∷ Fill (MembersTo u kind v) ∷ k) else trapped library s trap.Range
+filled library (MembersTo u kind low) v k s = if within kind v then with_items s (Value (Scalars (with_span u low v)) ∷ k) else trapped library s trap.Range
+filled library (MemberAt out p kind) v k s = if within kind v then record s { items = k; cells = stored s.cells p (alone (with_member out (got s.cells p) v)) } else trapped library s trap.Range
 filled library (Pass r kind done left) v k s = if within kind v then with_items s (Perform (Passing r (done ++ Scalars v ∷ []) left) ∷ k) else trapped library s trap.Range
 filled library (Choose a b) v k s = with_items s (if truth_of v then doing a k else doing b k)
 filled library (Turn c body) v k s = with_items s (if truth_of v then doing body (Perform (Do (While c body)) ∷ k) else k)
@@ -286,6 +317,7 @@ filled_place (IndexBy kind e) p k s = with_items s (Evaluate e ∷ Fill (IndexAt
 filled_place (SetTo kind e) p k s = with_items s (Evaluate e ∷ Fill (StoreAt p kind) ∷ k)
 filled_place (CopyTo from) p k s = with_items s (PlaceOf from ∷ Fill (CopyFrom p) ∷ k)
 filled_place (CopyFrom to) p k s = record s { items = k; cells = stored s.cells to (under s.cells p) }
+filled_place (MemberBy out kind e) p k s = with_items s (Evaluate e ∷ Fill (MemberAt out p kind) ∷ k)
 filled_place (ChangeBy down kind e) p k s = with_items s (Evaluate e ∷ Fill (ChangeAt down p kind) ∷ k)
 filled_place _ p k s = s
 
@@ -304,6 +336,7 @@ did library (While c body) k s = with_items s (Evaluate c ∷ Fill (Turn c body)
 did library (Repeat body c) k s = with_items s (doing body (Perform (Until body c) ∷ k))
 did library (Loop body) k s = with_items s (doing body (Perform (Looping body) ∷ k))
 did library (Change down d kind e) k s = with_items s (PlaceOf d ∷ Fill (ChangeBy down kind e) ∷ k)
+did library (Member out d kind e) k s = with_items s (PlaceOf d ∷ Fill (MemberBy out kind e) ∷ k)
 did library Halt k s = trapped library s trap.Halted
 did library Return k s = with_items s (returned k)
 did library Exit k s = with_items s (exited k)

@@ -7,18 +7,19 @@ use Rattle.lil_resolved.specs.declared.resolved.RExpr.{RExpr}
 use Rattle.lil_resolved.specs.declared.resolved.RExpr.TheVariants as e
 use Rattle.lil_resolved.specs.declared.resolved.ROperation.{ROperation, out-ROperation}
 use Rattle.lil_resolved.specs.declared.resolved.RExpr.TheOpen as x
-use Rattle.lil_resolved.specs.declared.resolved.RExpr.TheOpen.{RSelector-F}
-use Rattle.lil_resolved.specs.declared.resolved.RExpr.TheFolds.{map-RSelector}
+use Rattle.lil_resolved.specs.declared.resolved.RExpr.TheOpen.{RSelector-F, RMember-F}
+use Rattle.lil_resolved.specs.declared.resolved.RExpr.TheFolds.{map-RSelector, map-RMember}
+use Rattle.lil_resolved.specs.declared.resolved.RMember.{RMember, out-RMember}
 use Rattle.lil_resolved.specs.declared.resolved.RKind.{RKind}
 use Rattle.lil_resolved.specs.declared.resolved.RPlace.{RPlace, out-RPlace}
 use Rattle.lil_resolved.specs.declared.resolved.RSelector.{RSelector, out-RSelector}
 use Rattle.lil_resolved.specs.declared.resolved.RSelector.TheVariants as l
-use Rattle.lil_resolved.specs.Kinds.{Kind, OfTruth}
+use Rattle.lil_resolved.specs.Kinds.{Kind, OfTruth, OfSet}
 use Rattle.lil_resolved.specs.Resolved.{Designator, Variable, Field, Element, Expression, kind_of}
 use Rattle.lil_resolved.specs.Depth.{place_depth, depth}
-use Rattle.lil_resolved.specs.Chains.{operations_depth, is_arithmetic, all_arithmetic, selector_depth, selector_depth_in, selectors_depth}
-use Rattle.lil_resolved.specs.Forms.{chain_is, operation_is, place_is, selector_is}
-use Rattle.lil_resolved.specs.Views.{two_of, chained, selected, selector_layer, expression_of, selector_of, operation_of, place_of}
+use Rattle.lil_resolved.specs.Chains.{operations_depth, is_arithmetic, all_arithmetic, selector_depth, selector_depth_in, selectors_depth, member_depth, member_depth_in, members_depth}
+use Rattle.lil_resolved.specs.Forms.{chain_is, set_is, operation_is, place_is, selector_is, member_is}
+use Rattle.lil_resolved.specs.Views.{two_of, chained, selected, with_members, empty_set, kind_view, selector_layer, member_layer, expression_of, selector_of, member_of, operation_of, place_of}
 
 two_depth : (o : TwoOp) (a b : Expression) → depth (two_of o a b) ≡ max (depth a) (1 + depth b)
 two_depth And a b = refl
@@ -66,8 +67,8 @@ pub arithmetic_left : (os : List ROperation) (i : ℕ) (o : ROperation) → i < 
 arithmetic_left os i o inside is = ap all_arithmetic (drop_more os i o inside ∙ ap (λ y. y ∷ drop (i + 1) os) (sym is))
 
 -- ---- places
-layer_depth : (y : RSelector-F RExpr RSelector ROperation RPlace) (d : Designator)
-    → place_depth (selector_layer (map-RSelector RExpr RSelector ROperation RPlace Expression (Designator → Designator) (Expression → Expression) Designator expression_of selector_of operation_of place_of y) d)
+layer_depth : (y : RSelector-F RExpr RMember RSelector ROperation RPlace) (d : Designator)
+    → place_depth (selector_layer (map-RSelector RExpr RMember RSelector ROperation RPlace Expression (Kind → Expression → Expression) (Designator → Designator) (Expression → Expression) Designator expression_of member_of selector_of operation_of place_of y) d)
     ≡ max (place_depth d) (selector_depth_in y)
 layer_depth (x.Field i) d = omega arith
 layer_depth (x.Index k e) d = refl
@@ -86,3 +87,37 @@ place_is_deep p = ap place_depth (place_is p) ∙ selected_depth (Variable (out-
 pub selectors_left : (ss : List RSelector) (i : ℕ) (s : RSelector) → i < length ss → s ≡ get_or ss i s
     → selectors_depth (drop i ss) ≡ max (selector_depth s) (selectors_depth (drop (i + 1) ss))
 selectors_left ss i s inside is = ap selectors_depth (drop_more ss i s inside ∙ ap (λ y. y ∷ drop (i + 1) ss) (sym is))
+
+-- ---- sets
+member_layer_depth : (y : RMember-F RExpr RMember RSelector ROperation RPlace) (k : Kind) (s : Expression)
+    → depth (member_layer (map-RMember RExpr RMember RSelector ROperation RPlace Expression (Kind → Expression → Expression) (Designator → Designator) (Expression → Expression) Designator expression_of member_of selector_of operation_of place_of y) k s)
+    ≡ max (depth s) (member_depth_in y)
+member_layer_depth (x.Single a) k s = refl
+member_layer_depth (x.Span a b) k s = refl
+
+one_member : (m : RMember) (k : Kind) (s : Expression) → depth (member_of m k s) ≡ max (depth s) (member_depth m)
+one_member m k s = ap depth (member_is m k s) ∙ member_layer_depth (out-RMember m) k s
+
+with_depth : (k : Kind) (s : Expression) (ms : List RMember) → depth (with_members k s (map member_of ms)) ≡ max (depth s) (members_depth ms)
+with_depth k s [] = omega arith
+with_depth k s (m ∷ ms) = omega (arith, with_depth k (member_of m k s) ms, one_member m k s)
+
+pub set_depth : (k : RKind) (ms : List RMember) → depth (expression_of (e.Set k ms)) ≡ max 1 (members_depth ms)
+set_depth k ms = ap depth (set_is k ms) ∙ with_depth (kind_view k) empty_set ms
+
+member_layer_kind : (y : RMember-F RExpr RMember RSelector ROperation RPlace) (k : Kind) (s : Expression)
+    → kind_of (member_layer (map-RMember RExpr RMember RSelector ROperation RPlace Expression (Kind → Expression → Expression) (Designator → Designator) (Expression → Expression) Designator expression_of member_of selector_of operation_of place_of y) k s) ≡ OfSet
+member_layer_kind (x.Single a) k s = refl
+member_layer_kind (x.Span a b) k s = refl
+
+with_kind : (k : Kind) (s : Expression) (ms : List RMember) → kind_of s ≡ OfSet → kind_of (with_members k s (map member_of ms)) ≡ OfSet
+with_kind k s [] h = h
+with_kind k s (m ∷ ms) h = with_kind k (member_of m k s) ms (ap kind_of (member_is m k s) ∙ member_layer_kind (out-RMember m) k s)
+
+pub set_kind : (k : RKind) (ms : List RMember) → kind_of (expression_of (e.Set k ms)) ≡ OfSet
+set_kind k ms = ap kind_of (set_is k ms) ∙ with_kind (kind_view k) empty_set ms refl
+
+-- what is left of members from one on
+pub members_left : (ms : List RMember) (i : ℕ) (m : RMember) → i < length ms → m ≡ get_or ms i m
+    → members_depth (drop i ms) ≡ max (member_depth m) (members_depth (drop (i + 1) ms))
+members_left ms i m inside is = ap members_depth (drop_more ms i m inside ∙ ap (λ y. y ∷ drop (i + 1) ms) (sym is))

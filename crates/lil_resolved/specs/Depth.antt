@@ -1,6 +1,6 @@
 -- The words that a body takes: those of the expression stack, and those of its frame.
 use Rattle.std.specs.Prelude.{ℕ, ◌+◌, ◌*◌, max}
-use Rattle.lil_resolved.specs.Resolved.{Designator, Variable, Field, Element, Function, Odd, Expression, Constant, Taken, One, Two, Short, Apply, Statement, Assign, Copy, Change, Request, If, Case, While, Repeat, Loop, Exit, Halt, Return, For, Statements, Empty, Then, Arms, NoElse, Else, Arm}
+use Rattle.lil_resolved.specs.Resolved.{Designator, Variable, Field, Element, Function, Odd, Expression, Constant, Taken, One, Two, Short, Apply, With, WithSpan, Statement, Assign, Copy, Change, Member, Request, If, Case, While, Repeat, Loop, Exit, Halt, Return, For, Statements, Empty, Then, Arms, NoElse, Else, Arm}
 
 -- how many words of the expression stack the code of a standard function takes, its argument's included
 abbrev pub function_depth : Function → ℕ
@@ -21,6 +21,8 @@ abbrev mutual
   depth (Two o k a b) = max (depth a) (1 + depth b)
   depth (Short d a b) = max (depth a) (1 + depth b)
   depth (Apply f a) = max (depth a) (function_depth f)
+  depth (With s k a) = max (depth s) (max 3 (1 + depth a))
+  depth (WithSpan s k a b) = max (depth s) (max (1 + depth a) (2 + depth b))
 
 -- how many FORs stand in statements, in one another too
 abbrev mutual
@@ -28,6 +30,7 @@ abbrev mutual
   statement_loops (Assign d k e) = 0
   statement_loops (Copy d from) = 0
   statement_loops (Change down d k e) = 0
+  statement_loops (Member out d k e) = 0
   statement_loops (Request r given) = 0
   statement_loops (If c a b) = body_loops a + body_loops b
   statement_loops (Case e arms) = arms_loops arms

@@ -4,14 +4,18 @@ use Rattle.lil_base.specs.declared.operator.OneOp.{OneOp}
 use Rattle.lil_resolved.specs.declared.resolved.RExpr.{RExpr}
 use Rattle.lil_resolved.specs.declared.resolved.RExpr.TheVariants as e
 use Rattle.lil_resolved.specs.declared.resolved.RExpr.TheOpen as x
-use Rattle.lil_resolved.specs.declared.resolved.RExpr.TheOpen.{RExpr-F, RSelector-F}
-use Rattle.lil_resolved.specs.declared.resolved.RExpr.TheFolds.{map-RExpr, map-RSelector, fold-roll-RExpr, fold-roll-RSelector, fold_out-RSelector, fold_out-ROperation, fold_out-RPlace}
-use Rattle.lil_resolved.specs.declared.resolved.RExpr.TheViews.{roll-RExpr, roll-RSelector}
+use Rattle.lil_resolved.specs.declared.resolved.RExpr.TheOpen.{RExpr-F, RMember-F, RSelector-F}
+use Rattle.lil_resolved.specs.declared.resolved.RExpr.TheFolds.{map-RExpr, map-RSelector, map-RMember, fold-roll-RExpr, fold-roll-RMember, fold-roll-RSelector, fold_out-RSelector, fold_out-RMember, fold_out-ROperation, fold_out-RPlace}
+use Rattle.lil_resolved.specs.declared.resolved.RExpr.TheViews.{roll-RExpr, roll-RMember, roll-RSelector}
 use Rattle.lil_resolved.specs.declared.resolved.ROperation.{ROperation, out-ROperation}
 use Rattle.lil_resolved.specs.declared.resolved.RPlace.{RPlace, out-RPlace}
 use Rattle.lil_resolved.specs.declared.resolved.RSelector.{RSelector, out-RSelector}
 use Rattle.lil_resolved.specs.declared.resolved.RSelector.TheVariants as l
+use Rattle.lil_resolved.specs.declared.resolved.RMember.{RMember, out-RMember}
+use Rattle.lil_resolved.specs.declared.resolved.RMember.TheVariants as c
+use Rattle.lil_resolved.specs.declared.resolved.Membership.{Membership}
 use Rattle.lil_resolved.specs.declared.resolved.RKind.{RKind}
+use Rattle.lil_resolved.specs.Kinds.{Kind}
 use Rattle.lil_resolved.specs.declared.resolved.RStmt.{RStmt}
 use Rattle.lil_resolved.specs.declared.resolved.RStmt.TheVariants as s
 use Rattle.lil_resolved.specs.declared.resolved.RStmt.TheOpen as o
@@ -27,12 +31,12 @@ use Rattle.lil_resolved.specs.declared.resolved.RRequest.{RRequest}
 use Rattle.lil_resolved.specs.declared.resolved.Direction.{Direction}
 use Rattle.lil_resolved.specs.declared.resolved.RArgument.{RArgument}
 use Rattle.lil_resolved.specs.Scalars.{scalar_of}
-use Rattle.lil_resolved.specs.Resolved.{Designator, Variable, Field, Element, Expression, Constant, Taken, Apply, Assign, Copy, Change, Request, If, Case, While, Repeat, Loop, Exit, Halt, Return, For, Statements, Empty, Then, Arms, Arm, kind_of}
-use Rattle.lil_resolved.specs.Views.{base_view, kind_view, variable_kind, function_of, request_number, is_down, argument_of, one_of, two_of, chained, selected, expression_layer, selector_layer, operation_layer, place_layer, expression_of, selector_of, operation_of, place_of, label_of, statement_layer, arm_layer, guard_layer, statement_of, arm_of, guard_of, statements_of, guards_of, arms_of}
+use Rattle.lil_resolved.specs.Resolved.{Designator, Variable, Field, Element, Expression, Constant, Taken, Apply, With, WithSpan, Assign, Copy, Change, Member, Request, If, Case, While, Repeat, Loop, Exit, Halt, Return, For, Statements, Empty, Then, Arms, Arm, kind_of}
+use Rattle.lil_resolved.specs.Views.{base_view, kind_view, variable_kind, function_of, request_number, is_down, is_out, argument_of, one_of, two_of, chained, selected, with_members, empty_set, expression_layer, selector_layer, member_layer, operation_layer, place_layer, expression_of, selector_of, member_of, operation_of, place_of, label_of, statement_layer, arm_layer, guard_layer, statement_of, arm_of, guard_of, statements_of, guards_of, arms_of}
 
 -- a layer's value comes from the values of its parts
-rolled_value : (y : RExpr-F RExpr RSelector ROperation RPlace) → expression_of (roll-RExpr y) ≡ expression_layer (map-RExpr RExpr RSelector ROperation RPlace Expression (Designator → Designator) (Expression → Expression) Designator expression_of selector_of operation_of place_of y)
-rolled_value = fold-roll-RExpr Expression (Designator → Designator) (Expression → Expression) Designator expression_layer selector_layer operation_layer place_layer
+rolled_value : (y : RExpr-F RExpr RMember RSelector ROperation RPlace) → expression_of (roll-RExpr y) ≡ expression_layer (map-RExpr RExpr RMember RSelector ROperation RPlace Expression (Kind → Expression → Expression) (Designator → Designator) (Expression → Expression) Designator expression_of member_of selector_of operation_of place_of y)
+rolled_value = fold-roll-RExpr Expression (Kind → Expression → Expression) (Designator → Designator) (Expression → Expression) Designator expression_layer member_layer selector_layer operation_layer place_layer
 
 pub constant_is : (b : RBase) (z : ℤ) → expression_of (e.Constant b z) ≡ Constant (base_view b) (scalar_of (base_view b) z)
 constant_is b z = ap expression_of (sym (e.rolls-Constant b z)) ∙ rolled_value (x.Constant b z)
@@ -49,19 +53,36 @@ apply_is f a = ap expression_of (sym (e.rolls-Apply f a)) ∙ rolled_value (x.Ap
 pub chain_is : (a : RExpr) (os : List ROperation) → expression_of (e.Chain a os) ≡ chained (expression_of a) (map operation_of os)
 chain_is a os = ap expression_of (sym (e.rolls-Chain a os)) ∙ rolled_value (x.Chain a os)
 
+pub set_is : (k : RKind) (ms : List RMember) → expression_of (e.Set k ms) ≡ with_members (kind_view k) empty_set (map member_of ms)
+set_is k ms = ap expression_of (sym (e.rolls-Set k ms)) ∙ rolled_value (x.Set k ms)
+
 pub operation_is : (o : ROperation) (a : Expression) → operation_of o a ≡ two_of (out-ROperation o).operator a (expression_of (out-ROperation o).operand)
-operation_is o a = ap (λ (f : Expression → Expression). f a) (fold_out-ROperation Expression (Designator → Designator) (Expression → Expression) Designator expression_layer selector_layer operation_layer place_layer o)
+operation_is o a = ap (λ (f : Expression → Expression). f a) (fold_out-ROperation Expression (Kind → Expression → Expression) (Designator → Designator) (Expression → Expression) Designator expression_layer member_layer selector_layer operation_layer place_layer o)
 
 pub place_is : (p : RPlace) → place_of p ≡ selected (Variable (out-RPlace p).number) (map selector_of (out-RPlace p).selectors)
-place_is = fold_out-RPlace Expression (Designator → Designator) (Expression → Expression) Designator expression_layer selector_layer operation_layer place_layer
+place_is = fold_out-RPlace Expression (Kind → Expression → Expression) (Designator → Designator) (Expression → Expression) Designator expression_layer member_layer selector_layer operation_layer place_layer
 
 -- a layer's selector comes from those of its parts
-rolled_selector : (y : RSelector-F RExpr RSelector ROperation RPlace) → selector_of (roll-RSelector y) ≡ selector_layer (map-RSelector RExpr RSelector ROperation RPlace Expression (Designator → Designator) (Expression → Expression) Designator expression_of selector_of operation_of place_of y)
-rolled_selector = fold-roll-RSelector Expression (Designator → Designator) (Expression → Expression) Designator expression_layer selector_layer operation_layer place_layer
+rolled_selector : (y : RSelector-F RExpr RMember RSelector ROperation RPlace) → selector_of (roll-RSelector y) ≡ selector_layer (map-RSelector RExpr RMember RSelector ROperation RPlace Expression (Kind → Expression → Expression) (Designator → Designator) (Expression → Expression) Designator expression_of member_of selector_of operation_of place_of y)
+rolled_selector = fold-roll-RSelector Expression (Kind → Expression → Expression) (Designator → Designator) (Expression → Expression) Designator expression_layer member_layer selector_layer operation_layer place_layer
 
 -- a selector by its form
-pub selector_is : (s : RSelector) (d : Designator) → selector_of s d ≡ selector_layer (map-RSelector RExpr RSelector ROperation RPlace Expression (Designator → Designator) (Expression → Expression) Designator expression_of selector_of operation_of place_of (out-RSelector s)) d
-selector_is s d = ap (λ (f : Designator → Designator). f d) (fold_out-RSelector Expression (Designator → Designator) (Expression → Expression) Designator expression_layer selector_layer operation_layer place_layer s)
+pub selector_is : (s : RSelector) (d : Designator) → selector_of s d ≡ selector_layer (map-RSelector RExpr RMember RSelector ROperation RPlace Expression (Kind → Expression → Expression) (Designator → Designator) (Expression → Expression) Designator expression_of member_of selector_of operation_of place_of (out-RSelector s)) d
+selector_is s d = ap (λ (f : Designator → Designator). f d) (fold_out-RSelector Expression (Kind → Expression → Expression) (Designator → Designator) (Expression → Expression) Designator expression_layer member_layer selector_layer operation_layer place_layer s)
+
+-- a member by its form
+pub member_is : (m : RMember) (k : Kind) (s : Expression) → member_of m k s ≡ member_layer (map-RMember RExpr RMember RSelector ROperation RPlace Expression (Kind → Expression → Expression) (Designator → Designator) (Expression → Expression) Designator expression_of member_of selector_of operation_of place_of (out-RMember m)) k s
+member_is m k s = ap (λ (f : Kind → Expression → Expression). f k s) (fold_out-RMember Expression (Kind → Expression → Expression) (Designator → Designator) (Expression → Expression) Designator expression_layer member_layer selector_layer operation_layer place_layer m)
+
+-- a layer's member comes from its parts
+rolled_member : (y : RMember-F RExpr RMember RSelector ROperation RPlace) → member_of (roll-RMember y) ≡ member_layer (map-RMember RExpr RMember RSelector ROperation RPlace Expression (Kind → Expression → Expression) (Designator → Designator) (Expression → Expression) Designator expression_of member_of selector_of operation_of place_of y)
+rolled_member = fold-roll-RMember Expression (Kind → Expression → Expression) (Designator → Designator) (Expression → Expression) Designator expression_layer member_layer selector_layer operation_layer place_layer
+
+pub single_is : (a : RExpr) → member_of (c.Single a) ≡ (λ k s. With s k (expression_of a))
+single_is a = ap member_of (sym (c.rolls-Single a)) ∙ rolled_member (x.Single a)
+
+pub span_is : (a b : RExpr) → member_of (c.Span a b) ≡ (λ k s. WithSpan s k (expression_of a) (expression_of b))
+span_is a b = ap member_of (sym (c.rolls-Span a b)) ∙ rolled_member (x.Span a b)
 
 pub field_is : (i : ℕ) (d : Designator) → selector_of (l.Field i) d ≡ Field d i
 field_is i d = ap (λ s. selector_of s d) (sym (l.rolls-Field i)) ∙ ap (λ f. f d) (rolled_selector (x.Field i))
@@ -82,6 +103,9 @@ copy_is p from = ap statement_of (sym (s.rolls-Copy p from)) ∙ rolled (o.Copy 
 
 pub change_is : (d : Direction) (p : RPlace) (k : RKind) (e : RExpr) → statement_of (s.Change d p k e) ≡ Then (Change (is_down d) (place_of p) (kind_view k) (expression_of e)) Empty
 change_is d p k e = ap statement_of (sym (s.rolls-Change d p k e)) ∙ rolled (o.Change d p k e)
+
+pub member_changed_is : (m : Membership) (p : RPlace) (k : RKind) (e : RExpr) → statement_of (s.Member m p k e) ≡ Then (Member (is_out m) (place_of p) (kind_view k) (expression_of e)) Empty
+member_changed_is m p k e = ap statement_of (sym (s.rolls-Member m p k e)) ∙ rolled (o.Member m p k e)
 
 pub request_is : (r : RRequest) (given : List RArgument) → statement_of (s.Request r given) ≡ Then (Request (request_number r) (map argument_of given)) Empty
 request_is r given = ap statement_of (sym (s.rolls-Request r given)) ∙ rolled (o.Request r given)

@@ -9,6 +9,8 @@ pub data Kind : Type 0 where
   OfCharacter : Kind
   -- an enumeration with so many constants, whose values are their numbers from 0
   OfEnumeration : (count : ℕ) → Kind
+  -- sets of numbers from 0 to 15
+  OfSet : Kind
   -- the part of a kind from one number to another
   OfRange : (base : Kind) (low high : ℤ) → Kind
 
@@ -18,6 +20,7 @@ base_of (OfWhole t) = OfWhole t
 base_of OfTruth = OfTruth
 base_of OfCharacter = OfCharacter
 base_of (OfEnumeration n) = OfEnumeration n
+base_of OfSet = OfSet
 base_of (OfRange base low high) = base_of base
 
 -- kinds that aren't a part of another, whose values are words
@@ -26,7 +29,17 @@ is_base (OfWhole t) = true
 is_base OfTruth = true
 is_base OfCharacter = true
 is_base (OfEnumeration n) = nat_le n 65535
+is_base OfSet = true
 is_base (OfRange base low high) = false
+
+-- those whose values are compared by their numbers
+abbrev pub is_ordinal : Kind → Bool
+is_ordinal OfSet = false
+is_ordinal k = is_base k
+
+abbrev pub is_set : Kind → Bool
+is_set OfSet = true
+is_set _ = false
 
 abbrev pub is_whole : Kind → Bool
 is_whole (OfWhole t) = true
@@ -38,6 +51,7 @@ alike (OfWhole s) (OfWhole t) = true
 alike OfTruth OfTruth = true
 alike OfCharacter OfCharacter = true
 alike (OfEnumeration m) (OfEnumeration n) = (m == n) && nat_le n 65535
+alike OfSet OfSet = true
 alike _ _ = false
 
 -- a value of the second kind may be stored where one of the first is wanted, if its number is there
@@ -62,6 +76,7 @@ least (OfWhole t) = words.least t
 least OfTruth = pos 0
 least OfCharacter = pos 0
 least (OfEnumeration n) = pos 0
+least OfSet = pos 0
 least (OfRange base low high) = larger low (least base)
 
 abbrev pub greatest : Kind → ℤ
@@ -69,11 +84,16 @@ greatest (OfWhole t) = words.greatest t
 greatest OfTruth = pos 1
 greatest OfCharacter = pos 255
 greatest (OfEnumeration n) = pos (n - 1)
+greatest OfSet = pos 65535
 greatest (OfRange base low high) = lesser high (greatest base)
 
 -- each number of the second kind is one of the first
 abbrev pub covers : Kind → Kind → Bool
 covers k j = not (int_lt (least j) (least k)) && not (int_lt (greatest k) (greatest j))
+
+-- each number of a kind may be in a set
+abbrev pub is_element : Kind → Bool
+is_element k = not (int_lt (least k) (pos 0)) && not (int_lt (pos 15) (greatest k))
 
 -- Whether a start of FOR that isn't a number of the limit's type has turns: one below CARDINAL by a positive step, one above INTEGER by a
 -- negative step.

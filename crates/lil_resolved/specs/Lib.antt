@@ -3,6 +3,8 @@ pub mod Chains
 pub mod Depth
 pub mod Forms
 pub mod Kinds
+pub mod MemberLaws
+pub mod Members
 pub mod Resolved
 pub mod Scalars
 pub mod Shapes

@@ -4,7 +4,7 @@ use Rattle.lil_base.specs.Words.{Whole, Cardinal}
 use Rattle.lil_base.specs.declared.operator.OneOp.{OneOp}
 use Rattle.lil_base.specs.declared.operator.TwoOp.{TwoOp}
 use Rattle.lil_base.specs.declared.operator.TwoOp.TheVariants.{Equal, Unequal, Less, AtMost, Greater, AtLeast, In, Plus, Minus, Or, Times, Slash, Div, Mod, And}
-use Rattle.lil_resolved.specs.Kinds.{Kind, OfWhole, OfTruth, OfCharacter, base_of, compared_as}
+use Rattle.lil_resolved.specs.Kinds.{Kind, OfWhole, OfTruth, OfCharacter, OfSet, base_of, compared_as}
 use Rattle.lil_resolved.specs.Scalars.{Scalar}
 use Rattle.lil_resolved.specs.Shapes.{Shape, part_at, shape_at, element_of}
 
@@ -33,13 +33,17 @@ mutual
     Taken : (d : Designator) (k : Kind) → Expression
     -- an operator on a value of a kind
     One : (o : OneOp) (k : Kind) (a : Expression) → Expression
-    -- an operator on two values of a kind
+    -- an operator on two values of a kind; the right one of IN is a set
     Two : (o : TwoOp) (k : Kind) (a b : Expression) → Expression
     -- a AND b, a OR b
     -- the right operand counts only where the left one is not the value that decides: TRUE for OR, FALSE for AND
     Short : (decides : Bool) (a b : Expression) → Expression
     -- a standard function of a value
     Apply : (f : Function) (a : Expression) → Expression
+    -- a set, and a number of a kind in it
+    With : (s : Expression) (k : Kind) (a : Expression) → Expression
+    -- a set, and the numbers of a kind from a to b in it
+    WithSpan : (s : Expression) (k : Kind) (a b : Expression) → Expression
 
 -- a value argument, with its parameter's kind
 pub record Argument : Type 0 where
@@ -59,6 +63,8 @@ mutual
     Copy : (d from : Designator) → Statement
     -- INC(d, e) adds e to d's number, DEC(d, e) takes it away
     Change : (down : Bool) (d : Designator) (k : Kind) (e : Expression) → Statement
+    -- INCL(d, e) puts the number e, of a kind, into the set at d, EXCL(d, e) takes it out
+    Member : (out : Bool) (d : Designator) (k : Kind) (e : Expression) → Statement
     -- a call of the resident procedure with this request
     Request : (r : ℕ) (given : List Argument) → Statement
     If : (c : Expression) (a b : Statements) → Statement
@@ -126,6 +132,11 @@ abbrev pub result_kind : Bool → Kind → Kind
 result_kind true k = OfTruth
 result_kind false k = k
 
+-- the kind of its right operand, where the left one's is known
+abbrev pub right_kind : TwoOp → Kind → Kind
+right_kind In k = OfSet
+right_kind _ k = k
+
 abbrev pub function_kind : Function → Kind
 function_kind (Abs t) = OfWhole t
 function_kind Cap = OfCharacter
@@ -146,6 +157,8 @@ kind_of (One o k a) = k
 kind_of (Two o k a b) = result_kind (is_relation o) k
 kind_of (Short d a b) = OfTruth
 kind_of (Apply f a) = function_kind f
+kind_of (With s k a) = OfSet
+kind_of (WithSpan s k a b) = OfSet
 
 -- what lies at the place that a designator names, over variables of these shapes
 abbrev pub shape_of : List Shape → Designator → Shape

@@ -1,7 +1,9 @@
 -- Scalars: the values of cells and of expressions.
 use Rattle.std.specs.Prelude.{ℕ, ◌-◌, ℤ, pos, Bool, true, false, not, ◌&&◌, nat_le, Option, Some, None, if◌then◌else◌}
 use Rattle.lil_base.specs.Words.{in_type, between, is_zero, word_of}
-use Rattle.lil_resolved.specs.Kinds.{Kind, OfWhole, OfTruth, OfCharacter, OfEnumeration, OfRange}
+use Rattle.lil_base.specs.Sets.{has, set_word}
+use Rattle.lil_resolved.specs.Members.{no_members}
+use Rattle.lil_resolved.specs.Kinds.{Kind, OfWhole, OfTruth, OfCharacter, OfEnumeration, OfSet, OfRange}
 
 -- a whole number, a truth value, a character, a set of numbers up to 15, a reference, or none
 pub data Scalar : Type 0 where
@@ -20,11 +22,12 @@ abbrev pub truth_number : Bool → ℕ
 truth_number false = 0
 truth_number true = 1
 
--- the number of a value of an ordinal kind
+-- the number of a value of a kind: that of a set is the sum of 2 ^ i of each i in it
 abbrev pub ordinal_of : Scalar → ℤ
 ordinal_of (Number z) = z
 ordinal_of (Truth b) = pos (truth_number b)
 ordinal_of (Character c) = pos c
+ordinal_of (SetOf s) = pos (set_word s)
 ordinal_of _ = pos 0
 
 -- the value with this number, where the kind has one
@@ -33,6 +36,7 @@ scalar_of (OfWhole t) z = Number z
 scalar_of OfTruth z = Truth (not (is_zero z))
 scalar_of OfCharacter z = Character (word_of z)
 scalar_of (OfEnumeration n) z = Number z
+scalar_of OfSet z = SetOf (has (word_of z))
 scalar_of (OfRange base low high) z = scalar_of base z
 
 -- the value is one of the kind
@@ -41,6 +45,7 @@ within (OfWhole t) (Number z) = in_type t z
 within OfTruth (Truth b) = true
 within OfCharacter (Character c) = nat_le c 255
 within (OfEnumeration n) (Number z) = between (pos 0) z (pos (n - 1))
+within OfSet (SetOf s) = true
 within (OfRange base low high) v = within base v && between low (ordinal_of v) high
 within _ _ = false
 
@@ -50,6 +55,7 @@ value_with (OfWhole t) z = if in_type t z then Some (Number z) else None
 value_with OfTruth z = if between (pos 0) z (pos 1) then Some (Truth (not (is_zero z))) else None
 value_with OfCharacter z = if between (pos 0) z (pos 255) then Some (Character (word_of z)) else None
 value_with (OfEnumeration n) z = if between (pos 0) z (pos (n - 1)) then Some (Number z) else None
+value_with OfSet z = if between (pos 0) z (pos 65535) then Some (SetOf (has (word_of z))) else None
 value_with (OfRange base low high) z = if between low z high then value_with base z else None
 
 -- zero of a kind: what a fresh variable holds, also where its range leaves it out
@@ -58,6 +64,7 @@ zero_of (OfWhole t) = Number (pos 0)
 zero_of OfTruth = Truth false
 zero_of OfCharacter = Character 0
 zero_of (OfEnumeration n) = Number (pos 0)
+zero_of OfSet = SetOf no_members
 zero_of (OfRange base low high) = zero_of base
 
 -- whether a truth value is TRUE
@@ -65,9 +72,15 @@ abbrev pub truth_of : Scalar → Bool
 truth_of (Truth b) = b
 truth_of _ = false
 
--- the word that a value of an ordinal kind is; the other scalars get theirs with the rows that use them
+-- the numbers that are in a set
+abbrev pub members_of : Scalar → ℕ → Bool
+members_of (SetOf s) = s
+members_of _ = no_members
+
+-- the word that a value is; references get theirs with the rows that use them
 abbrev pub scalar_word : Scalar → ℕ
 scalar_word (Number z) = word_of z
 scalar_word (Truth b) = truth_number b
 scalar_word (Character c) = c
+scalar_word (SetOf s) = set_word s
 scalar_word _ = 0

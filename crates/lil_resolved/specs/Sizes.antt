@@ -4,12 +4,12 @@ use Rattle.lil_base.specs.declared.operator.OneOp.{OneOp}
 use Rattle.lil_base.specs.declared.operator.OneOp.TheVariants as one
 use Rattle.lil_base.specs.declared.operator.TwoOp.{TwoOp}
 use Rattle.lil_base.specs.declared.operator.TwoOp.TheVariants.{Greater, AtLeast}
-use Rattle.lil_resolved.specs.Resolved.{Designator, Variable, Field, Element, Function, Abs, Cap, Chr, Odd, Ord, Val, Expression, Constant, Taken, One, Two, Short, Apply, Argument, Statement, Assign, Copy, Change, Request, If, Case, While, Repeat, Loop, Exit, Halt, Return, For, Statements, Empty, Then, Arms, NoElse, Else, Arm, Resolved, kind_of, counted_as}
+use Rattle.lil_resolved.specs.Resolved.{Designator, Variable, Field, Element, Function, Abs, Cap, Chr, Odd, Ord, Val, Expression, Constant, Taken, One, Two, Short, Apply, With, WithSpan, Argument, Statement, Assign, Copy, Change, Member, Request, If, Case, While, Repeat, Loop, Exit, Halt, Return, For, Statements, Empty, Then, Arms, NoElse, Else, Arm, Resolved, kind_of, counted_as}
 use Rattle.lil_base.specs.Words.{Cardinal, Integer}
 use Rattle.lil_resolved.specs.Kinds.{Kind, OfWhole, OfCharacter, base_of, compared_as, covers, outside_turns}
 use Rattle.lil_resolved.specs.Shapes.{all_words}
 pub use Rattle.lil_resolved.specs.Depth.{place_depth, depth, statement_loops, body_loops, arms_loops, frame_words}
-pub use Rattle.lil_resolved.specs.Sound.{is_base, is_whole, takes_one, takes_two, takes_value, takes_function, IsSoundVariable, IsScalar, IsSoundPlace, IsSoundTarget, IsSoundCopy, IsSoundExpression, IsSoundWhole, IsSoundValue, request_kinds, AreSoundArguments, IsSoundLabel, AreSoundLabels, IsStep, IsSoundStatement, IsSoundBody, AreSoundArms, IsSound}
+pub use Rattle.lil_resolved.specs.Sound.{is_base, is_ordinal, is_set, is_whole, is_element, takes_one, takes_two, takes_value, takes_function, IsSoundVariable, IsScalar, IsSoundPlace, IsSoundTarget, IsSoundCopy, IsSoundExpression, IsSoundWhole, IsSoundValue, request_kinds, AreSoundArguments, IsSoundLabel, AreSoundLabels, IsStep, IsSoundStatement, IsSoundBody, AreSoundArms, IsSound}
 
 -- how many bytes the code of an operator takes
 abbrev pub one_size : OneOp → ℕ
@@ -99,6 +99,8 @@ abbrev mutual
   size (Two o k a b) = size a + size b + two_size o
   size (Short d a b) = size a + size b + 3
   size (Apply f a) = size a + function_size f (kind_of a)
+  size (With s k a) = size s + size a + test_size k (kind_of a) + 2
+  size (WithSpan s k a b) = size s + size a + test_size k (kind_of a) + size b + test_size k (kind_of b) + 1
 
 -- the code of a place that is ready for a store
 abbrev pub target_size : Designator → ℕ
@@ -115,6 +117,7 @@ abbrev mutual
   statement_size (Copy d from) = place_size d + address_size (form_of d) + place_size from + address_size (form_of from) + 3
   statement_size (Change down d k e) =
       target_size d + again_size (form_of d) + size e + under_size (form_of d) + 1 + test_size k (OfWhole (counted_as k)) + store_size (form_of d)
+  statement_size (Member out d k e) = place_size d + address_size (form_of d) + size e + test_size k (kind_of e) + 1
   statement_size (Request r given) = arguments_size given + 2
   statement_size (If c a b) = size c + 3 + body_size a + 3 + body_size b
   statement_size (Case e arms) = size e + 3 + 3 + arms_size arms + 5

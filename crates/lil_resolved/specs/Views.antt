@@ -1,10 +1,11 @@
 -- The resolved module that a tree of the program is.
 use Rattle.std.specs.Prelude.{◌≡◌, ℕ, ◌+◌, ◌<◌, ◌≤◌, Bool, List, [], ◌∷◌, ◌++◌, length, map, Option, Some, None, true, false}
 use Rattle.lil_base.specs.Words.{Cardinal, Integer}
-use Rattle.lil_resolved.specs.Kinds.{Kind, OfWhole, OfTruth, OfCharacter, OfEnumeration, OfRange, compared_as}
-use Rattle.lil_resolved.specs.Scalars.{scalar_of}
+use Rattle.lil_resolved.specs.Kinds.{Kind, OfWhole, OfTruth, OfCharacter, OfEnumeration, OfSet, OfRange, compared_as}
+use Rattle.lil_resolved.specs.Scalars.{SetOf, scalar_of}
+use Rattle.lil_resolved.specs.Members.{no_members}
 use Rattle.lil_resolved.specs.Shapes.{Shape, Absent, Word, Row, all_words, offsets_from, shape_at, fields_of, words}
-use Rattle.lil_resolved.specs.Resolved.{Designator, Variable, Field, Element, Function, Abs, Cap, Chr, Odd, Ord, Val, Expression, Constant, Taken, One, Two, Short, Apply, Argument, Label, Assign, Copy, Change, Request, If, Case, While, Repeat, Loop, Exit, Halt, Return, For, Statements, Empty, Then, Arms, NoElse, Else, Arm, Resolved, kind_of}
+use Rattle.lil_resolved.specs.Resolved.{Designator, Variable, Field, Element, Function, Abs, Cap, Chr, Odd, Ord, Val, Expression, Constant, Taken, One, Two, Short, Apply, With, WithSpan, Argument, Label, Assign, Copy, Change, Member, Request, If, Case, While, Repeat, Loop, Exit, Halt, Return, For, Statements, Empty, Then, Arms, NoElse, Else, Arm, Resolved, kind_of}
 use Rattle.lil_base.specs.declared.operator.OneOp.{OneOp}
 use Rattle.lil_base.specs.declared.operator.TwoOp.{TwoOp}
 use Rattle.lil_base.specs.declared.operator.TwoOp.TheVariants.{Equal, Unequal, Less, AtMost, Greater, AtLeast, In, Plus, Minus, Or, Times, Slash, Div, Mod, And}
@@ -19,12 +20,15 @@ use Rattle.lil_resolved.specs.declared.resolved.RRequest.{RRequest}
 use Rattle.lil_resolved.specs.declared.resolved.RRequest.TheVariants as q
 use Rattle.lil_resolved.specs.declared.resolved.Direction.{Direction}
 use Rattle.lil_resolved.specs.declared.resolved.Direction.TheVariants as d
+use Rattle.lil_resolved.specs.declared.resolved.Membership.{Membership}
+use Rattle.lil_resolved.specs.declared.resolved.Membership.TheVariants as j
 use Rattle.lil_resolved.specs.declared.resolved.RArgument.{RArgument}
 use Rattle.lil_resolved.specs.declared.resolved.RDeclared.{RDeclared}
 use Rattle.lil_resolved.specs.declared.resolved.RExpr.{RExpr}
 use Rattle.lil_resolved.specs.declared.resolved.RExpr.TheOpen as x
-use Rattle.lil_resolved.specs.declared.resolved.RExpr.TheOpen.{RExpr-F, RSelector-F, ROperation-F, RPlace-F}
-use Rattle.lil_resolved.specs.declared.resolved.RExpr.TheFolds.{fold-RExpr, fold-RSelector, fold-ROperation, fold-RPlace}
+use Rattle.lil_resolved.specs.declared.resolved.RExpr.TheOpen.{RExpr-F, RSelector-F, RMember-F, ROperation-F, RPlace-F}
+use Rattle.lil_resolved.specs.declared.resolved.RExpr.TheFolds.{fold-RExpr, fold-RSelector, fold-RMember, fold-ROperation, fold-RPlace}
+use Rattle.lil_resolved.specs.declared.resolved.RMember.{RMember}
 use Rattle.lil_resolved.specs.declared.resolved.ROperation.{ROperation}
 use Rattle.lil_resolved.specs.declared.resolved.RPlace.{RPlace}
 use Rattle.lil_resolved.specs.declared.resolved.RSelector.{RSelector}
@@ -48,6 +52,7 @@ base_view b.Integer = OfWhole Integer
 base_view b.Truth = OfTruth
 base_view b.Character = OfCharacter
 base_view (b.Enumeration n) = OfEnumeration n
+base_view b.Set = OfSet
 
 abbrev pub ranged_view : Kind → Option RRange → Kind
 ranged_view k None = k
@@ -75,6 +80,11 @@ request_number q.WriteCard = 5
 request_number q.WriteInt = 6
 request_number q.WriteOct = 7
 request_number q.WriteHex = 8
+
+-- whether the number leaves
+abbrev pub is_out : Membership → Bool
+is_out j.Joins = false
+is_out j.Leaves = true
 
 abbrev pub is_down : Direction → Bool
 is_down d.Up = false
@@ -112,35 +122,51 @@ abbrev pub selected : Designator → List (Designator → Designator) → Design
 selected d [] = d
 selected d (f ∷ fs) = selected (f d) fs
 
--- what an expression, a selector, an operation and a place are, where their parts are known
-abbrev pub expression_layer : RExpr-F Expression (Designator → Designator) (Expression → Expression) Designator → Expression
+-- elements of a kind, each behind the set of those before it
+abbrev pub with_members : Kind → Expression → List (Kind → Expression → Expression) → Expression
+with_members k s [] = s
+with_members k s (f ∷ fs) = with_members k (f k s) fs
+
+abbrev pub empty_set : Expression
+empty_set = Constant OfSet (SetOf no_members)
+
+-- what an expression, a selector, an element, an operation and a place are, where their parts are known
+abbrev pub expression_layer : RExpr-F Expression (Kind → Expression → Expression) (Designator → Designator) (Expression → Expression) Designator → Expression
 expression_layer (x.Constant base z) = Constant (base_view base) (scalar_of (base_view base) z)
 expression_layer (x.Taken d k) = Taken d (kind_view k)
 expression_layer (x.One o a) = one_of o a
 expression_layer (x.Chain a os) = chained a os
 expression_layer (x.Apply f a) = Apply (function_of f (kind_of a)) a
+expression_layer (x.Set k es) = with_members (kind_view k) empty_set es
 
-abbrev pub selector_layer : RSelector-F Expression (Designator → Designator) (Expression → Expression) Designator → Designator → Designator
+abbrev pub selector_layer : RSelector-F Expression (Kind → Expression → Expression) (Designator → Designator) (Expression → Expression) Designator → Designator → Designator
 selector_layer (x.Field i) d = Field d i
 selector_layer (x.Index k e) d = Element d (kind_view k) e
 
-abbrev pub operation_layer : ROperation-F Expression (Designator → Designator) (Expression → Expression) Designator → Expression → Expression
+abbrev pub member_layer : RMember-F Expression (Kind → Expression → Expression) (Designator → Designator) (Expression → Expression) Designator → Kind → Expression → Expression
+member_layer (x.Single a) k s = With s k a
+member_layer (x.Span a b) k s = WithSpan s k a b
+
+abbrev pub operation_layer : ROperation-F Expression (Kind → Expression → Expression) (Designator → Designator) (Expression → Expression) Designator → Expression → Expression
 operation_layer o a = two_of o.operator a o.operand
 
-abbrev pub place_layer : RPlace-F Expression (Designator → Designator) (Expression → Expression) Designator → Designator
+abbrev pub place_layer : RPlace-F Expression (Kind → Expression → Expression) (Designator → Designator) (Expression → Expression) Designator → Designator
 place_layer p = selected (Variable p.number) p.selectors
 
 abbrev pub expression_of : RExpr → Expression
-expression_of = fold-RExpr Expression (Designator → Designator) (Expression → Expression) Designator expression_layer selector_layer operation_layer place_layer
+expression_of = fold-RExpr Expression (Kind → Expression → Expression) (Designator → Designator) (Expression → Expression) Designator expression_layer member_layer selector_layer operation_layer place_layer
 
 abbrev pub selector_of : RSelector → Designator → Designator
-selector_of = fold-RSelector Expression (Designator → Designator) (Expression → Expression) Designator expression_layer selector_layer operation_layer place_layer
+selector_of = fold-RSelector Expression (Kind → Expression → Expression) (Designator → Designator) (Expression → Expression) Designator expression_layer member_layer selector_layer operation_layer place_layer
+
+abbrev pub member_of : RMember → Kind → Expression → Expression
+member_of = fold-RMember Expression (Kind → Expression → Expression) (Designator → Designator) (Expression → Expression) Designator expression_layer member_layer selector_layer operation_layer place_layer
 
 abbrev pub operation_of : ROperation → Expression → Expression
-operation_of = fold-ROperation Expression (Designator → Designator) (Expression → Expression) Designator expression_layer selector_layer operation_layer place_layer
+operation_of = fold-ROperation Expression (Kind → Expression → Expression) (Designator → Designator) (Expression → Expression) Designator expression_layer member_layer selector_layer operation_layer place_layer
 
 abbrev pub place_of : RPlace → Designator
-place_of = fold-RPlace Expression (Designator → Designator) (Expression → Expression) Designator expression_layer selector_layer operation_layer place_layer
+place_of = fold-RPlace Expression (Kind → Expression → Expression) (Designator → Designator) (Expression → Expression) Designator expression_layer member_layer selector_layer operation_layer place_layer
 
 abbrev pub argument_of : RArgument → Argument
 argument_of a = record { kind = kind_view a.kind; value = expression_of a.value }
@@ -177,6 +203,7 @@ abbrev pub statement_layer : RStmt-F Statements (Arms → Arms) (Statements → 
 statement_layer (o.Assign p k e) = Then (Assign (place_of p) (kind_view k) (expression_of e)) Empty
 statement_layer (o.Copy p from) = Then (Copy (place_of p) (place_of from)) Empty
 statement_layer (o.Change way p k e) = Then (Change (is_down way) (place_of p) (kind_view k) (expression_of e)) Empty
+statement_layer (o.Member m d k e) = Then (Member (is_out m) (place_of d) (kind_view k) (expression_of e)) Empty
 statement_layer (o.Request r given) = Then (Request (request_number r) (map argument_of given)) Empty
 statement_layer (o.If gs ss) = guarded gs (all_of ss)
 statement_layer (o.Case e cases other) = Then (Case (expression_of e) (armed cases (otherwise_of other))) Empty

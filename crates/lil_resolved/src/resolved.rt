@@ -8,8 +8,8 @@ ghost use Rattle.lil_resolved.specs.Views.{base_view, function_of, expression_of
 use crate::{OneOp, RShape, TwoOp};
 use lil_base::{Boxed, Items, Name};
 
-/// What values are: numbers of a type of whole numbers, truth values, characters, or the constants of an enumeration
-/// with so many of them.
+/// What values are: numbers of a type of whole numbers, truth values, characters, the constants of an enumeration with so
+/// many of them, or sets of numbers from 0 to 15.
 #[derive(Clone, Copy, PartialEq, Eq)]
 pub enum RBase {
     Cardinal,
@@ -17,6 +17,7 @@ pub enum RBase {
     Truth,
     Character,
     Enumeration(u16),
+    Set,
 }
 
 /// The numbers of a subrange, its ends included.
@@ -69,9 +70,17 @@ pub enum Direction {
     Down,
 }
 
+/// Whether a number joins a set, by INCL, or leaves it, by EXCL.
+#[derive(Clone, Copy, PartialEq, Eq)]
+pub enum Membership {
+    Joins,
+    Leaves,
+}
+
 /// An expression with each name replaced by its thing, and each constant expression by its value, which stands by its
-/// number. A chain is its first operand, and then each operation in its order on what stands before it. A value that stands at a
-/// place is of the place's kind.
+/// number. That of a set is the sum of 2 to the power of each number in it. A chain is its first operand, and then each
+/// operation in its order on what stands before it. A value that stands at a place is of the place's kind. A set has its
+/// members in order, numbers of a kind.
 #[cycle(value)]
 #[derive(Drop)]
 pub enum RExpr {
@@ -80,6 +89,7 @@ pub enum RExpr {
     One(OneOp, Boxed<RExpr>),
     Chain(Boxed<RExpr>, Items<ROperation>),
     Apply(RFunction, Boxed<RExpr>),
+    Set(RKind, Items<RMember>),
 }
 
 /// What an operator does to the value before it: the operator, and its right operand.
@@ -106,6 +116,14 @@ pub enum RSelector {
     Index(RKind, RExpr),
 }
 
+/// What is in a set: a number, or all numbers from the first to the second.
+#[cycle(value)]
+#[derive(Drop)]
+pub enum RMember {
+    Single(RExpr),
+    Span(RExpr, RExpr),
+}
+
 /// A value argument, and its parameter's kind.
 #[derive(Drop)]
 pub struct RArgument {
@@ -113,14 +131,16 @@ pub struct RArgument {
     pub value: RExpr,
 }
 
-/// A resolved statement. A place that is stored to has its kind; a copy has its place, and that of what is copied. IF has its conditions in order, a CASE or an IF without ELSE has none, and FOR has its variable,
-/// its first value, its last and its step.
+/// A resolved statement. A place that is stored to has its kind; a copy has its place, and that of what is copied; a set
+/// has its place, and the kind of what joins or leaves it. IF has its conditions in order, a CASE or an IF without ELSE has
+/// none, and FOR has its variable, its first value, its last and its step.
 #[cycle(resolved)]
 #[derive(Drop)]
 pub enum RStmt {
     Assign(RPlace, RKind, RExpr),
     Copy(RPlace, RPlace),
     Change(Direction, RPlace, RKind, RExpr),
+    Member(Membership, RPlace, RKind, RExpr),
     Request(RRequest, Items<RArgument>),
     If(Items<RGuard>, Items<RStmt>),
     Case(RExpr, Items<RArm>, Option<Items<RStmt>>),
@@ -187,7 +207,7 @@ fn function_depth(function: RFunction) -> u32
 
 /// How many words of the expression stack an expression takes, or 4,294,967,295 where they are more. It takes no memory.
 #[cycle(depth)]
-#[tactic(auto, using(crate::proofs::Depths::chain_depth))]
+#[tactic(auto, using(crate::proofs::Depths::chain_depth, crate::proofs::Depths::set_depth))]
 pub fn depth(e: &RExpr) -> u32
     ensures { result ≡ min (depth_of (expression_of e.now)) 4294967295 }
 {
@@ -198,6 +218,33 @@ pub fn depth(e: &RExpr) -> u32
         RExpr::Apply(function, value) => depth(value.get()).max(function_depth(*function)),
         RExpr::Chain(first, operations) => {
             depth(first.get()).max(operations_depth(operations.as_slice()))
+        }
+        RExpr::Set(_, members) => members_depth(members.as_slice()),
+    }
+}
+
+/// How many words a set takes, whose members come above those before.
+#[cycle(depth)]
+#[tactic(auto, using(crate::proofs::Depths::members_left))]
+fn members_depth(members: &[RMember]) -> u32
+    ensures { result ≡ min (max 1 (chain.members_depth members.now)) 4294967295 }
+{
+    let mut most: u32 = 1;
+    for member in members {
+        most = most.max(member_depth(member));
+    }
+    most
+}
+
+#[cycle(depth)]
+fn member_depth(member: &RMember) -> u32
+    ensures { result ≡ min (chain.member_depth member.now) 4294967295 }
+{
+    match member {
+        RMember::Single(value) => depth(value).saturating_add(1).max(3),
+        RMember::Span(low, high) => {
+            let first = depth(low).saturating_add(1);
+            first.max(depth(high).saturating_add(2))
         }
     }
 }
@@ -247,10 +294,10 @@ fn selector_depth(selector: &RSelector) -> u32
     }
 }
 
-/// The base of the values of an expression: that of its first operand, where all its operators give values of their
+/// The base of the values of an expression: that of a chain's first operand, where all its operators give values of their
 /// operands' kind.
 #[cycle(kinds)]
-#[tactic(auto, using(crate::proofs::Depths::chain_kind, crate::specs::Bases::own_base))]
+#[tactic(auto, using(crate::proofs::Depths::chain_kind, crate::proofs::Depths::set_kind, crate::specs::Bases::own_base))]
 pub fn base(e: &RExpr) -> RBase
     ensures { base_view result ≡ kind_of (expression_of e.now) }
 {
@@ -259,6 +306,7 @@ pub fn base(e: &RExpr) -> RBase
         RExpr::Taken(_, kind) => kind.base,
         RExpr::One(_, value) => base(value.get()),
         RExpr::Apply(function, value) => function_base(*function, value.get()),
+        RExpr::Set(_, _) => RBase::Set,
         RExpr::Chain(first, operations) => {
             if compute_all(operations.as_slice()) {
                 base(first.get())

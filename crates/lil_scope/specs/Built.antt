@@ -9,8 +9,6 @@ use Rattle.lil_scope.specs.declared.thing.Thing.TheVariants as t
 
 abbrev pub standard_built : Standard → Bool
 standard_built s.High = false
-standard_built s.Excl = false
-standard_built s.Incl = false
 standard_built s.New = false
 standard_built s.Dispose = false
 standard_built _ = true
@@ -20,9 +18,9 @@ resident_built r.Read = false
 resident_built r.WriteString = false
 resident_built _ = true
 
--- BITSET, PROC and ADDRESS have the numbers 4, 5 and 6
+-- PROC and ADDRESS have the numbers 5 and 6
 abbrev pub built : Thing → Bool
-built (t.Type n) = nat_lt n 4 || nat_lt 6 n
+built (t.Type n) = nat_lt n 5 || nat_lt 6 n
 built (t.Standard x) = standard_built x
 built (t.Resident x n) = resident_built x
 built _ = true

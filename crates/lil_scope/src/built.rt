@@ -9,8 +9,7 @@ fn is_standard_built(standard: Standard) -> bool
     ensures { result ≡ spec.standard_built standard }
 {
     match standard {
-        Standard::High | Standard::Excl | Standard::Incl | Standard::New | Standard::Dispose =>
-            false,
+        Standard::High | Standard::New | Standard::Dispose => false,
         _ => true,
     }
 }
@@ -25,12 +24,12 @@ fn is_resident_built(resident: Resident) -> bool
     }
 }
 
-/// Whether programs that use the name of this thing may run. BITSET, PROC and ADDRESS aren't built.
+/// Whether programs that use the name of this thing may run. PROC and ADDRESS aren't built.
 pub fn is_built(thing: Thing) -> bool
     ensures { result ≡ spec.built thing }
 {
     match thing {
-        Thing::Type(sort) => sort < 4 || 6 < sort,
+        Thing::Type(sort) => sort < 5 || 6 < sort,
         Thing::Standard(standard) => is_standard_built(standard),
         Thing::Resident(resident, _) => is_resident_built(resident),
         _ => true,

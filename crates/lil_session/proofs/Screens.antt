@@ -64,6 +64,10 @@ module _ (library : List Resolved) (s : Source) where
   filled_serves (OneOf o kind) v k = answered_serves (one_applied o kind v) k
   filled_serves (RightOf o kind u) v k = answered_serves (applied o kind u v) k
   filled_serves (ApplyTo f) v k = answered_serves (function_value f v) k
+  filled_serves (items.MemberOf u kind) v k = choice_serves s (within kind v) _ _ ((still refl refl)) ((still refl refl))
+  filled_serves (items.MembersFrom u kind f) v k = choice_serves s (within kind v) _ _ ((still refl refl)) ((still refl refl))
+  filled_serves (items.MembersTo u kind low) v k = choice_serves s (within kind v) _ _ ((still refl refl)) ((still refl refl))
+  filled_serves (items.MemberAt out p kind) v k = choice_serves s (within kind v) _ _ ((still refl refl)) ((still refl refl))
   filled_serves (Pass r kind done left) v k = choice_serves s (within kind v) _ _ ((still refl refl)) ((still refl refl))
   filled_serves (Pick arms) v k = picked_serves (chosen arms (ordinal_of v)) k
   filled_serves _ v k = (still refl refl)

@@ -1,12 +1,12 @@
--- The code of the places to which statements store, of assignments, of copies, and of INC and DEC.
+-- The code of the places to which statements store, of assignments, of copies, of INCL and EXCL, and of INC and DEC.
 use Rattle.std.proofs.Common.{◌≡◌, ℕ, ◌≤◌, Bool, List, [], ◌∷◌, ◌++◌, length, Option, refl, sym, ap, ◌∙◌, subst, arith}
 use Rattle.lil_resolved.specs.Kinds.{Kind, OfWhole}
 use Rattle.lil_resolved.specs.Shapes.{words, is_there, shape_at}
-use Rattle.lil_resolved.specs.Resolved.{Designator, Expression, Assign, Copy, Change, counted_as}
+use Rattle.lil_resolved.specs.Resolved.{Designator, Expression, Assign, Copy, Change, Member, counted_as}
 use Rattle.lil_resolved.specs.Views.{AreMeasured, shapes_of}
 use Rattle.lil_asm.specs.declared.instr.Instr.{Instr}
 use Rattle.lil_asm.specs.declared.instr.Instr.TheVariants.{Mov}
-use Rattle.lil_table.specs.Rows.{IsAt, InstrsAt, Access, InData, OnTop, Behind, access_of, address_code, ready_code, readied, held, held_twice, store_code, again_code, under_code, whole_code, change_operator, change_code, test_code}
+use Rattle.lil_table.specs.Rows.{IsAt, InstrsAt, Access, InData, OnTop, Behind, access_of, address_code, ready_code, readied, held, held_twice, store_code, again_code, under_code, whole_code, change_operator, change_code, member_code, test_code}
 use Rattle.lil_labels.specs.Tables.{Tables}
 use Rattle.lil_labels.specs.Drafts.{Draft, Meaning, Emits, Doing, DoingAll}
 use Rattle.lil_labels.specs.Emitting.{emits_then, emits_as, emits_tied}
@@ -32,12 +32,12 @@ target_emitted d a b n c0 c1 c2 place ready =
     (emits_then c0 c1 c2 _ _ place ready)
 
 -- the words that a place takes
-held_low : (a : Access) → held a ≤ 4
+held_low : (a : Access) → held a ≤ 3
 held_low (InData o) = omega arith
 held_low OnTop = omega arith
 held_low (Behind o) = omega arith
 
-held_twice_low : (a : Access) → held_twice a ≤ 4
+held_twice_low : (a : Access) → held_twice a ≤ 3
 held_twice_low (InData o) = omega arith
 held_twice_low OnTop = omega arith
 held_twice_low (Behind o) = omega arith
@@ -108,6 +108,28 @@ copy_emitted d from m k w n exit c0 c1 c2 c3 sized place source move =
       by = subst (λ (w : ℕ). IsAt x.code (length c2.bytes) (Mov w) (length c3.bytes)) (ap words at.shape) t.1.1;
     })
     (emits_then c0 c1 c3 _ _ place (emits_then c1 c2 c3 _ _ source (move_emitted m w c2 c3 sized move)))
+
+-- ---- INCL and EXCL
+pub member_emitted : (out : Bool) (d : Designator) (k : Kind) (e : Expression) (i : Instr) (m n : ℕ) (exit : Option ℕ) (c0 c1 c2 c3 : Draft) → i ≡ member_code out → Emits c0 c1 (Addressed d m) → Emits c1 c2 (Stored e k)
+    → Emits c2 c3 (Doing (λ w. i)) → Emits c0 c3 (Stated n exit (Member out d k e))
+member_emitted out d k e i m n exit c0 c1 c2 c3 is place value by =
+    emits_as c0 c3 _ (Stated n exit (Member out d k e))
+    (λ x t sound room.
+    let set = sound.0 in
+    let at = t.0 set.place (ap is_there set.scalar.shape) in
+    record {
+      found = at.found;
+      start = length c1.bytes;
+      middle = length c2.bytes;
+      set = set.scalar.shape;
+      element = sound.1;
+      shallow = omega (arith, set.shallow);
+      here = at.place;
+      address = at.address;
+      value = t.1.0 1 sound.2 (omega arith);
+      by = subst (λ (i : Instr). IsAt x.code (length c2.bytes) i (length c3.bytes)) is t.1.1;
+    })
+    (emits_then c0 c1 c3 _ _ place (emits_then c1 c2 c3 _ _ value by))
 
 -- ---- INC and DEC
 -- instructions behind others

@@ -19,7 +19,7 @@ use Rattle.lil_stmt.specs.Generating.{Stored, Passed, Stated}
 use Rattle.lil_stmt.proofs.Counting.{left_from}
 
 -- a value that stands alone
-pub whole : (x : Final) (n : ℕ) (e : Expression) (k : Kind) (p q : ℕ) → n ≤ 4 → IsSoundWhole x.layout.shapes e k → Value e x p q → WholeRow x.layout x.code n e k p q
+pub whole : (x : Final) (n : ℕ) (e : Expression) (k : Kind) (p q : ℕ) → n ≤ 3 → IsSoundWhole x.layout.shapes e k → Value e x p q → WholeRow x.layout x.code n e k p q
 whole x n e k p q low sound t = record { typed = sound.kind; shallow = omega (arith, sound.shallow, low); value = t sound.sound }
 
 pub value_emitted : (e : Expression) (k j : Kind) (a b c : Draft) → j ≡ kind_of e → Emits a b (Value e) → Emits b c (DoingAll (test_code k j)) → Emits a c (Stored e k)

@@ -16,9 +16,9 @@ use Rattle.lil_asm.specs.declared.instr.Instr.TheVariants.{Jmp, Trp}
 use Rattle.lil_table.specs.Rows.{IsAt, InstrsAt, Access, access_of, address_code, ready_code, readied, PlaceAt, ValueRow, TargetRow, ArgumentsAt, LeaveRow, AlignAt, StatementAt, BodyAt, loop_place}
 use Rattle.lil_labels.specs.Drafts.{Final, Meaning, EntryAt, ChoiceAt}
 
--- a sound value has its code and its test, where one of a kind is wanted and up to 4 words of others stand below its own
+-- a sound value has its code and its test, where one of a kind is wanted and up to 3 words of others stand below its own
 abbrev pub Stored : Expression → Kind → Meaning
-Stored e k x p q = (n : ℕ) → IsSoundValue x.layout.shapes e k → n ≤ 4 → ValueRow x.layout x.code n e k p q
+Stored e k x p q = (n : ℕ) → IsSoundValue x.layout.shapes e k → n ≤ 3 → ValueRow x.layout x.code n e k p q
 
 -- the same of arguments, with n words of others below them
 abbrev pub Passed : ℕ → List Argument → Meaning
@@ -101,10 +101,14 @@ ArmPart n exit leave label ss x p q = ArmAt n exit leave label ss x p q
 abbrev pub ArmBody : ℕ → Option ℕ → ℕ → RArm × ℕ → Meaning
 ArmBody n exit leave a x p q = ArmAt n exit leave a.1 (statements_of a.0.body) x p q
 
--- what stands behind ELSE, or a trap
-abbrev pub ElseBody : ℕ → Option ℕ → ℕ → Option (List RStmt) → Meaning
-ElseBody n exit leave None x p q = IsAt x.code p (Trp 7) q
-ElseBody n exit leave (Some ss) x p q = (label : ℕ) × ArmAt n exit leave label (statements_of ss) x p q
+-- the trap for values with no arm, with a label for its place
+abbrev pub Trapping : ℕ → Meaning
+Trapping label x p q = (x.word label ≡ x.layout.target p) × IsAt x.code p (Trp 7) q
+
+-- what stands behind ELSE, or that trap, with a label for its place
+abbrev pub ElsePart : ℕ → Option ℕ → ℕ → ℕ → Option (List RStmt) → Meaning
+ElsePart n exit leave label None x p q = Trapping label x p q
+ElsePart n exit leave label (Some ss) x p q = ArmAt n exit leave label (statements_of ss) x p q
 
 -- both ends of a label have words
 pub record HasWords (label : Label) : Type 0 where

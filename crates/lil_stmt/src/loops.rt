@@ -50,6 +50,7 @@ fn statement_fors(statement: &RStmt) -> u32
         RStmt::Assign(_, _, _)
         | RStmt::Copy(_, _)
         | RStmt::Change(_, _, _, _)
+        | RStmt::Member(_, _, _, _)
         | RStmt::Request(_, _)
         | RStmt::Exit
         | RStmt::Halt

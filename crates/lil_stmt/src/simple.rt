@@ -2,8 +2,10 @@
 
 ghost use Rattle.std.specs.Prelude.{◌≡◌, ℕ, Option, map, OnOk};
 ghost use Rattle.lil_resolved.specs.Resolved as resolved;
-ghost use Rattle.lil_resolved.specs.Resolved.{Assign, Copy, Change, Exit};
-ghost use Rattle.lil_resolved.specs.Views.{kind_view, place_of, is_down, request_number, argument_of, expression_of};
+ghost use Rattle.lil_resolved.specs.Resolved.{Assign, Copy, Change, Member, Exit};
+ghost use Rattle.lil_resolved.specs.Views.{kind_view, place_of, is_down, is_out, request_number, argument_of, expression_of};
+ghost use Rattle.lil_asm.specs.Bytes.{Sayable};
+ghost use Rattle.lil_table.specs.Rows.{member_code};
 ghost use Rattle.lil_labels.specs.Drafts.{Emits};
 ghost use Rattle.lil_stmt.specs.Generating.{Stated, Stored, Passed};
 
@@ -14,7 +16,7 @@ use lil_asm::Instr;
 use lil_base::Memory;
 use lil_expr::{emit_expression, emit_test};
 use lil_labels::{Aim, CodeBuffer};
-use lil_resolved::{Direction, RArgument, RExpr, RKind, RPlace, RRequest, base};
+use lil_resolved::{Direction, Membership, RArgument, RExpr, RKind, RPlace, RRequest, base};
 
 /// Appends the code of a value that is to be stored where one of a kind is wanted, and its test.
 fn emit_value(code: &mut CodeBuffer<'_>, value: &RExpr, kind: RKind) -> Result<(), Memory>
@@ -71,6 +73,33 @@ pub(crate) fn emit_change(
     code.put(computes)?;
     emit_test(code, kind, counted_base(kind))?;
     emit_store(code, target)
+}
+
+/// Appends the code of INCL or EXCL: the address of the set, the number, its test, and the instruction that puts it in or
+/// takes it out.
+pub(crate) fn emit_member(
+    code: &mut CodeBuffer<'_>,
+    membership: Membership,
+    place: &RPlace,
+    kind: RKind,
+    number: &RExpr,
+) -> Result<(), Memory>
+    ensures { OnOk result ((n : ℕ) (exit : Option ℕ) → Emits code.old code.new (Stated n exit (Member (is_out membership) (place_of place.now) (kind_view kind) (expression_of number.now)))) }
+{
+    emit_address_of(code, place)?;
+    emit_value(code, number, kind)?;
+    code.put(member_instr(membership))
+}
+
+/// The instruction by which a number joins a set, or leaves it.
+fn member_instr(membership: Membership) -> Instr
+    ensures is { result ≡ member_code (is_out membership) }
+    ensures sayable { Sayable result }
+{
+    match membership {
+        Membership::Joins => Instr::Icl,
+        Membership::Leaves => Instr::Ecl,
+    }
 }
 
 /// Appends the code of a call of a resident procedure: the arguments, each with its test, and the request.

@@ -4,12 +4,12 @@ ghost use Rattle.std.specs.Prelude.{◌≡◌, length, IfOk, OnOk};
 ghost use Rattle.lil_resolved.specs.Resolved.{While, Repeat, Loop, For};
 ghost use Rattle.lil_resolved.specs.Views.{variable_kind, expression_of, statement_of, statements_of, guard_of};
 ghost use Rattle.lil_labels.specs.Drafts.{Emits};
-ghost use Rattle.lil_stmt.specs.Generating.{Stated, Body, Turning, Each, ArmPart, ArmBody, nothing_before, guards_before, paired};
+ghost use Rattle.lil_stmt.specs.Generating.{Stated, Body, Turning, Each, ArmPart, ArmBody, Trapping, nothing_before, guards_before, paired};
 
 use crate::cases::emit_choice;
 use crate::kinds::{emit_turn_test, loop_sign};
 use crate::loops::loop_place;
-use crate::simple::{emit_assign, emit_change, emit_copy, emit_exit, emit_request};
+use crate::simple::{emit_assign, emit_change, emit_copy, emit_exit, emit_member, emit_request};
 use crate::starts::emit_align;
 use lil_asm::Instr;
 use lil_base::Memory;
@@ -47,9 +47,8 @@ fn emit_statement(
     match statement {
         RStmt::Assign(place, kind, value) => emit_assign(code, place, *kind, value),
         RStmt::Copy(place, from) => emit_copy(code, place, from),
-        RStmt::Change(direction, place, kind, value) => {
-            emit_change(code, *direction, place, *kind, value)
-        }
+        RStmt::Change(way, place, kind, value) => emit_change(code, *way, place, *kind, value),
+        RStmt::Member(way, place, kind, value) => emit_member(code, *way, place, *kind, value),
         RStmt::Request(request, given) => emit_request(code, *request, given.as_slice()),
         RStmt::If(guards, otherwise) => {
             let end = code.fresh()?;
@@ -65,13 +64,10 @@ fn emit_statement(
             let leave = code.mark()?;
             code.jump(Aim::Always, end)?;
             let labels = emit_arms(code, arms.as_slice(), leave, around)?;
-            let other = code.mark()?;
-            match otherwise {
-                None => code.put(Instr::Trp(7))?,
-                Some(body) => {
-                    emit_arm(code, body.as_slice(), leave, around)?;
-                }
-            }
+            let other = match otherwise {
+                None => emit_no_arm(code)?,
+                Some(body) => emit_arm(code, body.as_slice(), leave, around)?,
+            };
             code.here(table)?;
             emit_choice(code, arms.as_slice(), labels.as_slice(), other)?;
             code.here(end)
@@ -82,15 +78,9 @@ fn emit_statement(
         RStmt::Exit => emit_exit(code, around),
         RStmt::Halt => code.put(Instr::Trp(9)),
         RStmt::Return => code.put(Instr::Rtn),
-        RStmt::For(variable, from, to, step, body) => emit_for(
-            code,
-            body.as_slice(),
-            *variable,
-            from,
-            to,
-            *step,
-            around,
-        ),
+        RStmt::For(variable, from, to, step, body) => {
+            emit_for(code, body.as_slice(), *variable, from, to, *step, around)
+        }
     }
 }
 
@@ -161,6 +151,16 @@ fn emit_arm(
     let label = code.mark()?;
     emit_body(code, body, around)?;
     code.jump(Aim::Always, leave)?;
+    Ok(label)
+}
+
+/// Appends the trap of a CASE without ELSE. It gives the label of its place.
+#[tactic(auto, using(crate::proofs::Arms::trap_marked))]
+fn emit_no_arm(code: &mut CodeBuffer<'_>) -> Result<u32, Memory>
+    ensures { IfOk result (λ label. Emits code.old code.new (Trapping label)) }
+{
+    let label = code.mark()?;
+    code.put(Instr::Trp(7))?;
     Ok(label)
 }
 

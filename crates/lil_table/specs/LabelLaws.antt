@@ -3,14 +3,14 @@ use Rattle.std.proofs.Common.{◌≡◌, ◌-◌, pos, true, false, refl, sym, a
 use Rattle.std.proofs.lemmas.Int.{ints}
 use Rattle.std.proofs.lemmas.Bool.{leb-true}
 use Rattle.lil_base.specs.Words.{in_type}
-use Rattle.lil_resolved.specs.Kinds.{Kind, OfWhole, OfTruth, OfCharacter, OfEnumeration, is_base, compared_as}
+use Rattle.lil_resolved.specs.Kinds.{Kind, OfWhole, OfTruth, OfCharacter, OfEnumeration, is_ordinal, compared_as}
 use Rattle.lil_resolved.specs.Scalars.{Scalar, Number, Truth, Character, within, scalar_of, ordinal_of}
 use Rattle.lil_resolved.specs.Resolved.{Label}
 use Rattle.lil_resolved.specs.Sound.{IsSoundLabel}
 use Rattle.lil_base.specs.Laws.{in_range, bounds}
 
 -- the number of a value of a kind is a number of the type as which the kind's words are compared
-pub ordinal_in : (k : Kind) (v : Scalar) → is_base k ≡ true → within k v ≡ true → in_type (compared_as k) (ordinal_of v) ≡ true
+pub ordinal_in : (k : Kind) (v : Scalar) → is_ordinal k ≡ true → within k v ≡ true → in_type (compared_as k) (ordinal_of v) ≡ true
 ordinal_in (OfWhole t) (Number z) base h = h
 ordinal_in OfTruth (Truth true) base h = refl
 ordinal_in OfTruth (Truth false) base h = refl
@@ -21,7 +21,7 @@ ordinal_in (OfEnumeration n) (Number z) base h =
     in_range (pos 0) z (pos 65535) (omega (arith, ints, b.0)) (omega (arith, ints, b.1))
 ordinal_in k v base h = cc
 
-pub label_in : (k : Kind) (label : Label) → is_base k ≡ true → IsSoundLabel k label → (in_type (compared_as k) label.low ≡ true) × (in_type (compared_as k) label.high ≡ true)
+pub label_in : (k : Kind) (label : Label) → is_ordinal k ≡ true → IsSoundLabel k label → (in_type (compared_as k) label.low ≡ true) × (in_type (compared_as k) label.high ≡ true)
 label_in k label base sound = (
   ap (in_type (compared_as k)) (sym sound.lower_number) ∙ ordinal_in k (scalar_of k label.low) base sound.lower,
   ap (in_type (compared_as k)) (sym sound.upper_number) ∙ ordinal_in k (scalar_of k label.high) base sound.upper,

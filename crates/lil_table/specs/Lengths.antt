@@ -4,17 +4,17 @@ use Rattle.lil_base.specs.Words.{Whole, Cardinal, Integer, word_of}
 use Rattle.lil_base.specs.declared.operator.OneOp.{OneOp}
 use Rattle.lil_base.specs.declared.operator.OneOp.TheVariants as one
 use Rattle.lil_base.specs.declared.operator.TwoOp.{TwoOp}
-use Rattle.lil_base.specs.declared.operator.TwoOp.TheVariants.{Equal, In, Or, Slash, And}
-use Rattle.lil_resolved.specs.Kinds.{Kind, OfWhole, OfCharacter, base_of, compared_as, covers, shared, outside_turns}
-use Rattle.lil_resolved.specs.Resolved.{Designator, Variable, Field, Element, Function, Abs, Cap, Chr, Odd, Ord, Val, Expression, Constant, Taken, One, Two, Short, Apply, Argument, Label, Statement, Assign, Copy, Change, Request, If, Case, While, Repeat, Loop, Exit, Halt, Return, For, Statements, Empty, Then, Arms, NoElse, Else, Arm, Resolved, kind_of, counted_as}
+use Rattle.lil_base.specs.declared.operator.TwoOp.TheVariants.{Equal, Unequal, Less, AtMost, Greater, AtLeast, In, Plus, Minus, Times, Slash, Div, Mod, Or, And}
+use Rattle.lil_resolved.specs.Kinds.{Kind, OfWhole, OfTruth, OfCharacter, OfEnumeration, OfSet, OfRange, base_of, compared_as, covers, shared, outside_turns}
+use Rattle.lil_resolved.specs.Resolved.{Designator, Variable, Field, Element, Function, Abs, Cap, Chr, Odd, Ord, Val, Expression, Constant, Taken, One, Two, Short, Apply, With, WithSpan, Argument, Label, Statement, Assign, Copy, Change, Member, Request, If, Case, While, Repeat, Loop, Exit, Halt, Return, For, Statements, Empty, Then, Arms, NoElse, Else, Arm, Resolved, kind_of, counted_as}
 use Rattle.lil_resolved.specs.Depth.{frame_words}
 use Rattle.lil_resolved.specs.Sound.{takes_two}
 use Rattle.lil_resolved.specs.Sizes.{one_size, two_size, test_size, function_size, Form, Direct, Exact, Beyond, field_form, form_of, address_size, load_size, ready_size, store_size, again_size, under_size, place_size, target_size, size, arguments_size, statement_size, body_size, arms_size, code_size}
 use Rattle.lil_asm.specs.declared.instr.Instr.{Instr}
-use Rattle.lil_asm.specs.declared.instr.Instr.TheVariants.{Liw, Dup, Drp, Llw, Sgw, Swp, Rgc, Lsi, Ent, Rtn, Jmp, Jpf, Cas, Fri, Frn, Trp, Svc}
+use Rattle.lil_asm.specs.declared.instr.Instr.TheVariants.{Liw, Dup, Drp, Llw, Sgw, Swp, Rgc, Lsi, Spn, Ent, Rtn, Jmp, Jpf, Cas, Fri, Frn, Trp, Svc}
 use Rattle.lil_asm.specs.Bytes.{bytes_of}
 use Rattle.lil_asm.specs.Decoding.{decoded_stands}
-use Rattle.lil_table.specs.Rows.{Layout, IsAt, InstrsAt, one_code, whole_code, two_code, range_code, test_code, function_code, Access, InData, OnTop, Behind, further, access_of, address_code, load_code, ready_code, readied, held, store_code, again_code, under_code, change_operator, change_code, short_code, loop_place, loop_sign, ValueRow, TargetRow, EntriesAt, AlignAt, PlaceAt, ExpressionAt, ArgumentsAt, StatementAt, BodyAt, ArmsAt, TranslatesBy}
+use Rattle.lil_table.specs.Rows.{Layout, IsAt, InstrsAt, one_code, whole_code, number_code, two_code, range_code, test_code, function_code, Access, InData, OnTop, Behind, further, access_of, address_code, load_code, ready_code, readied, held, store_code, again_code, under_code, change_operator, change_code, member_code, short_code, loop_place, loop_sign, ValueRow, TargetRow, EntriesAt, AlignAt, PlaceAt, ExpressionAt, ArgumentsAt, StatementAt, BodyAt, ArmsAt, TranslatesBy}
 
 -- the bytes of an instruction, and of several
 abbrev pub instr_size : Instr → ℕ
@@ -34,20 +34,34 @@ one_sized one.Plus k = refl
 one_sized one.Minus k = refl
 one_sized one.Not k = refl
 
+-- an operator that takes a kind has code for it
 two_sized : (o : TwoOp) (k : Kind) → takes_two o k ≡ true → instrs_size (two_code o k) ≡ two_size o
-two_sized o k h = sym (ap instrs_size (by_type o)) ∙ by o (compared_as k) h
-  where
-    by_type : (o : TwoOp) → two_code o (OfWhole (compared_as k)) ≡ two_code o k
-    by_type Equal = refl
-    by_type _ = refl
+two_sized In k h = refl
+two_sized Or k h = cc
+two_sized And k h = cc
+two_sized Equal OfSet h = refl
+two_sized Unequal OfSet h = refl
+two_sized AtMost OfSet h = refl
+two_sized AtLeast OfSet h = refl
+two_sized Plus OfSet h = refl
+two_sized Minus OfSet h = refl
+two_sized Times OfSet h = refl
+two_sized Slash OfSet h = refl
+two_sized o OfSet h = cc
+two_sized Slash (OfWhole t) h = cc
+two_sized o (OfWhole Cardinal) h = refl
+two_sized o (OfWhole Integer) h = refl
+two_sized Equal k h = refl
+two_sized Unequal k h = refl
+two_sized Less k h = refl
+two_sized AtMost k h = refl
+two_sized Greater k h = refl
+two_sized AtLeast k h = refl
+two_sized o k h = cc
 
-    by : (o : TwoOp) (t : Whole) → takes_two o k ≡ true → instrs_size (two_code o (OfWhole t)) ≡ two_size o
-    by In t h = absurd (cc)
-    by Or t h = absurd (cc)
-    by Slash t h = absurd (cc)
-    by And t h = absurd (cc)
-    by _ Cardinal h = refl
-    by _ Integer h = refl
+member_sized : (out : Bool) → instr_size (member_code out) ≡ 1
+member_sized false = refl
+member_sized true = refl
 
 short_sized : (d : Bool) (to : ℕ) → instr_size (short_code d to) ≡ 3
 short_sized true to = refl
@@ -174,6 +188,18 @@ mutual
       omega (arith, expression_long l code a p h.middle h.first, instr_long code h.middle (short_code d (l.target q)) h.start h.test, short_sized d (l.target q), expression_long l code b h.start q h.second)
   expression_long l code (Apply f a) p q h =
       omega (arith, expression_long l code a p h.middle h.first, instrs_long code (function_code f (kind_of a)) h.middle q h.by, function_sized f (kind_of a))
+  expression_long l code (With s k a) p q h =
+      omega (arith, expression_long l code s p h.start h.first, expression_long l code a h.start h.middle h.value, test_long code k (kind_of a) h.middle h.tested h.test, instrs_long code (Dup ∷ Spn ∷ []) h.tested q h.by)
+  expression_long l code (WithSpan s k a b) p q h =
+      omega (
+        arith,
+        expression_long l code s p h.start h.first,
+        expression_long l code a h.start h.middle h.value,
+        test_long code k (kind_of a) h.middle h.tested h.test,
+        expression_long l code b h.tested h.last h.last_value,
+        test_long code k (kind_of b) h.last h.end h.last_test,
+        instr_long code h.end Spn q h.by,
+      )
 
 value_long : (l : Layout) (code : List ℕ) (n : ℕ) (e : Expression) (k : Kind) (p q : ℕ) → ValueRow l code n e k p q → q ≡ p + (size e + test_size k (kind_of e))
 value_long l code n e k p q h = omega (arith, expression_long l code e p h.middle h.value.value, test_long code k (kind_of e) h.middle q h.test)
@@ -231,6 +257,17 @@ mutual
         change_sized down k a,
         ap under_size (formed l d),
         ap store_size (formed l d),
+      )
+  statement_long l code n exit (Member out d k e) p q h =
+      omega (
+        arith,
+        place_long l code d p h.found h.here,
+        instrs_long code (address_code (access_of l d)) h.found h.start h.address,
+        address_sized (access_of l d),
+        ap address_size (formed l d),
+        value_long l code 1 e k h.start h.middle h.value,
+        instr_long code h.middle (member_code out) q h.by,
+        member_sized out,
       )
   statement_long l code n exit (Request r given) p q h = omega (arith, arguments_long l code 0 given p h.middle h.arguments, instr_long code h.middle (Svc r) q h.by)
   statement_long l code n exit (If c a b) p q h =

@@ -5,15 +5,15 @@ use Rattle.lil_base.specs.Words.{Whole, Cardinal, Integer, word_of}
 use Rattle.lil_base.specs.declared.operator.OneOp.{OneOp}
 use Rattle.lil_base.specs.declared.operator.OneOp.TheVariants as one
 use Rattle.lil_base.specs.declared.operator.TwoOp.{TwoOp}
-use Rattle.lil_base.specs.declared.operator.TwoOp.TheVariants.{Equal, Unequal, Less, AtMost, Greater, AtLeast, Plus, Minus, Times, Div, Mod}
-use Rattle.lil_resolved.specs.Kinds.{Kind, OfWhole, OfTruth, OfCharacter, base_of, is_base, takes_value, compared_as, covers, shared, outside_turns, least, numbers}
+use Rattle.lil_base.specs.declared.operator.TwoOp.TheVariants.{Equal, Unequal, Less, AtMost, Greater, AtLeast, In, Plus, Minus, Times, Slash, Div, Mod}
+use Rattle.lil_resolved.specs.Kinds.{Kind, OfWhole, OfTruth, OfCharacter, OfSet, base_of, is_base, is_ordinal, is_set, is_element, takes_value, compared_as, covers, shared, outside_turns, least, numbers}
 use Rattle.lil_resolved.specs.Scalars.{Scalar, within, scalar_word}
 use Rattle.lil_resolved.specs.Shapes.{Shape, Word, Row, words, is_there, part_at, offset, all_words, offsets_from, element_of}
-use Rattle.lil_resolved.specs.Resolved.{Designator, Variable, Field, Element, Function, Abs, Cap, Chr, Odd, Ord, Val, Expression, Constant, Taken, One, Two, Short, Apply, Argument, Label, Statement, Assign, Copy, Change, Request, If, Case, While, Repeat, Loop, Exit, Halt, Return, For, Statements, Empty, Then, Arms, NoElse, Else, Arm, Resolved, kind_of, counted_as, shape_of}
+use Rattle.lil_resolved.specs.Resolved.{Designator, Variable, Field, Element, Function, Abs, Cap, Chr, Odd, Ord, Val, Expression, Constant, Taken, One, Two, Short, Apply, With, WithSpan, Argument, Label, Statement, Assign, Copy, Change, Member, Request, If, Case, While, Repeat, Loop, Exit, Halt, Return, For, Statements, Empty, Then, Arms, NoElse, Else, Arm, Resolved, kind_of, right_kind, counted_as, shape_of}
 use Rattle.lil_resolved.specs.Depth.{place_depth, depth, frame_words}
 use Rattle.lil_resolved.specs.Sound.{takes_one, takes_two, takes_function, IsScalar, IsSoundLabel, IsStep}
 use Rattle.lil_asm.specs.declared.instr.Instr.{Instr}
-use Rattle.lil_asm.specs.declared.instr.Instr.TheVariants.{Liw, Dup, Drp, Llw, Lgw, Sgw, Lag, Ldi, Sti, Ldf, Adf, Mov, Ixc, Swp, Rgc, Rgi, Cap, Adc, Sbc, Mlc, Dvc, Mdc, Adi, Sbi, Mli, Dvi, Mdi, Ngi, Abi, Not, Equ, Neq, Lsc, Lec, Lsi, Lei, Ent, Rtn, Jmp, Jpf, Jan, Jor, Cas, Fri, Frn, Trp, Svc}
+use Rattle.lil_asm.specs.declared.instr.Instr.TheVariants.{Liw, Dup, Drp, Llw, Lgw, Sgw, Lag, Ldi, Sti, Ldf, Adf, Mov, Ixc, Swp, Rgc, Rgi, Cap, Adc, Sbc, Mlc, Dvc, Mdc, Adi, Sbi, Mli, Dvi, Mdi, Ngi, Abi, Uni, Dif, Its, Sym, Sin, Spn, Icl, Ecl, Sle, Not, Equ, Neq, Lsc, Lec, Lsi, Lei, Ent, Rtn, Jmp, Jpf, Jan, Jor, Cas, Fri, Frn, Trp, Svc}
 use Rattle.lil_asm.specs.Bytes.{word_at, decoded}
 use Rattle.lil_asm.specs.Requests.{request_words}
 
@@ -80,15 +80,32 @@ whole_code Mod Cardinal = Mdc ∷ []
 whole_code Mod Integer = Mdi ∷ []
 whole_code _ t = []
 
--- the instructions of an operator on two values of a kind that it takes
+-- the instructions of an operator on two values with numbers
+abbrev pub number_code : TwoOp → Whole → List Instr
+number_code Equal t = Equ ∷ []
+number_code Unequal t = Neq ∷ []
+number_code Less t = less_code t ∷ []
+number_code AtMost t = at_most_code t ∷ []
+number_code Greater t = Swp ∷ less_code t ∷ []
+number_code AtLeast t = Swp ∷ at_most_code t ∷ []
+number_code o t = whole_code o t
+
+-- those of an operator on two sets
+abbrev pub set_code : TwoOp → List Instr
+set_code Equal = Equ ∷ []
+set_code Unequal = Neq ∷ []
+set_code AtMost = Sle ∷ []
+set_code AtLeast = Swp ∷ Sle ∷ []
+set_code Plus = Uni ∷ []
+set_code Minus = Dif ∷ []
+set_code Times = Its ∷ []
+set_code Slash = Sym ∷ []
+set_code _ = []
+
+-- those of an operator on two values of a kind that it takes, and of IN on one and a set
 abbrev pub two_code : TwoOp → Kind → List Instr
-two_code Equal k = Equ ∷ []
-two_code Unequal k = Neq ∷ []
-two_code Less k = less_code (compared_as k) ∷ []
-two_code AtMost k = at_most_code (compared_as k) ∷ []
-two_code Greater k = Swp ∷ less_code (compared_as k) ∷ []
-two_code AtLeast k = Swp ∷ at_most_code (compared_as k) ∷ []
-two_code o k = whole_code o (compared_as k)
+two_code In k = Sin ∷ []
+two_code o k = cond (is_set k) (set_code o) (number_code o (compared_as k))
 
 -- the instruction that tests a number between two others
 abbrev pub range_code : Whole → ℤ × ℤ → Instr
@@ -196,12 +213,12 @@ pub record ConstantRow (code : List ℕ) (k : Kind) (v : Scalar) (p q : ℕ) : T
   pub fits : within k v ≡ true
   pub load : IsAt code p (Liw (scalar_word v)) q
 
--- where a variable lies that has a kind, whose values have words
+-- where a variable lies that has a kind, whose values have numbers
 pub record KnownRow (l : Layout) (x : ℕ) (k : Kind) : Type 0 where
   pub offset : ℕ
   pub at : slice_get l.offsets x ≡ Some offset
   pub typed : slice_get l.shapes x ≡ Some (Word k)
-  pub base : is_base (base_of k) ≡ true
+  pub base : is_ordinal (base_of k) ≡ true
 
 pub record OneRow (code : List ℕ) (o : OneOp) (k : Kind) (a : Expression) (value : Span) (p q : ℕ) : Type 0 where
   pub middle : ℕ
@@ -215,7 +232,7 @@ pub record TwoRow (code : List ℕ) (o : TwoOp) (k : Kind) (a b : Expression) (l
   pub last : ℕ
   pub takes : takes_two o k ≡ true
   pub left_typed : kind_of a ≡ k
-  pub right_typed : kind_of b ≡ k
+  pub right_typed : kind_of b ≡ right_kind o k
   pub first : left p middle
   pub second : right middle last
   pub by : InstrsAt code (two_code o k) last q
@@ -240,6 +257,37 @@ pub record ApplyRow (code : List ℕ) (f : Function) (a : Expression) (value : S
   pub takes : takes_function f (kind_of a) ≡ true
   pub first : value p middle
   pub by : InstrsAt code (function_code f (kind_of a)) middle q
+
+-- a set, a number with its test, and what puts it in
+pub record WithRow (code : List ℕ) (s : Expression) (k : Kind) (a : Expression) (set number : Span) (p q : ℕ) : Type 0 where
+  pub start : ℕ
+  pub middle : ℕ
+  pub tested : ℕ
+  pub typed : kind_of s ≡ OfSet
+  pub element : is_element k ≡ true
+  pub takes : takes_value k (kind_of a) ≡ true
+  pub first : set p start
+  pub value : number start middle
+  pub test : InstrsAt code (test_code k (kind_of a)) middle tested
+  pub by : InstrsAt code (Dup ∷ Spn ∷ []) tested q
+
+-- a set, two numbers with their tests, and what puts all from one to the other in
+pub record SpanRow (code : List ℕ) (s : Expression) (k : Kind) (a b : Expression) (set low high : Span) (p q : ℕ) : Type 0 where
+  pub start : ℕ
+  pub middle : ℕ
+  pub tested : ℕ
+  pub last : ℕ
+  pub end : ℕ
+  pub typed : kind_of s ≡ OfSet
+  pub element : is_element k ≡ true
+  pub takes : takes_value k (kind_of a) ≡ true
+  pub takes_last : takes_value k (kind_of b) ≡ true
+  pub first : set p start
+  pub value : low start middle
+  pub test : InstrsAt code (test_code k (kind_of a)) middle tested
+  pub last_value : high tested last
+  pub last_test : InstrsAt code (test_code k (kind_of b)) last end
+  pub by : IsAt code end Spn q
 
 -- a variable takes no code
 pub record NamedRow (l : Layout) (x p q : ℕ) : Type 0 where
@@ -290,6 +338,8 @@ abbrev mutual
   ExpressionAt l code (Two o k a b) p q = TwoRow code o k a b (ExpressionAt l code a) (ExpressionAt l code b) p q
   ExpressionAt l code (Short d a b) p q = ShortRow l code d a b (ExpressionAt l code a) (ExpressionAt l code b) p q
   ExpressionAt l code (Apply f a) p q = ApplyRow code f a (ExpressionAt l code a) p q
+  ExpressionAt l code (With s k a) p q = WithRow code s k a (ExpressionAt l code s) (ExpressionAt l code a) p q
+  ExpressionAt l code (WithSpan s k a b) p q = SpanRow code s k a b (ExpressionAt l code s) (ExpressionAt l code a) (ExpressionAt l code b) p q
 
 -- an expression of a kind, with n words of others below its own
 pub record WholeRow (l : Layout) (code : List ℕ) (n : ℕ) (e : Expression) (k : Kind) (p q : ℕ) : Type 0 where
@@ -343,6 +393,24 @@ pub record ChangeRow (l : Layout) (code : List ℕ) (down : Bool) (d : Designato
   pub again : InstrsAt code (again_code (readied (access_of l d))) start kept
   pub value : WholeRow l code (held_twice (readied (access_of l d))) e (OfWhole (counted_as k)) kept middle
   pub by : InstrsAt code (change_code down k (readied (access_of l d))) middle q
+
+-- what puts a number into the set at an address, or takes it out
+abbrev pub member_code : Bool → Instr
+member_code false = Icl
+member_code true = Ecl
+
+-- the address of a set, a number with its test, and what puts it in or takes it out
+pub record MemberRow (l : Layout) (code : List ℕ) (out : Bool) (d : Designator) (k : Kind) (e : Expression) (p q : ℕ) : Type 0 where
+  pub found : ℕ
+  pub start : ℕ
+  pub middle : ℕ
+  pub set : shape_of l.shapes d ≡ Word OfSet
+  pub element : is_element k ≡ true
+  pub shallow : place_depth d ≤ 16
+  pub here : PlaceAt l code d p found
+  pub address : InstrsAt code (address_code (access_of l d)) found start
+  pub value : ValueRow l code 1 e k start middle
+  pub by : IsAt code middle (member_code out) q
 
 -- arguments one behind another, with n words of others below them
 pub record ArgumentRow (l : Layout) (code : List ℕ) (n : ℕ) (a : Argument) (rest : Span) (p q : ℕ) : Type 0 where
@@ -451,7 +519,7 @@ pub record CaseRow (l : Layout) (code : List ℕ) (e : Expression) (arms : ℕ �
   pub entries : ℕ
   pub count : ℕ
   pub other : ℕ
-  pub base : is_base (kind_of e) ≡ true
+  pub base : is_ordinal (kind_of e) ≡ true
   pub value : WholeRow l code 0 e (kind_of e) p middle
   pub dispatch : IsAt code middle (Jmp (l.target choices)) exit
   pub leave : IsAt code exit (Jmp (l.target q)) start
@@ -532,6 +600,7 @@ abbrev mutual
   StatementAt l code n exit (Assign d k e) p q = AssignRow l code d k e p q
   StatementAt l code n exit (Copy d from) p q = CopyRow l code d from p q
   StatementAt l code n exit (Change down d k e) p q = ChangeRow l code down d k e p q
+  StatementAt l code n exit (Member out d k e) p q = MemberRow l code out d k e p q
   StatementAt l code n exit (Request r given) p q = RequestRow l code r given p q
   StatementAt l code n exit (If c a b) p q = IfRow l code c (BodyAt l code n exit a) (BodyAt l code n exit b) p q
   StatementAt l code n exit (Case e arms) p q = CaseRow l code e (ArmsAt l code n exit (kind_of e) arms) p q

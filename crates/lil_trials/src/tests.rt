@@ -235,7 +235,7 @@ const FAULTS: &[(&[u8], &[u8])] = &[
         b"1: 80 UnitKind",
     ),
     (
-        b"MODULE F; TYPE r = RECORD CASE k: CARDINAL OF 1: a: CHAR | 2 .. 3: b: SET OF [0 .. 7]; END END; END F.",
+        b"MODULE F; TYPE r = RECORD CASE k: CARDINAL OF 1: a: CHAR | 2 .. 3: b: POINTER TO CHAR; END END; END F.",
         b"71: 90 NotBuilt",
     ),
     // names of units
@@ -283,9 +283,9 @@ const CHECKED: &[(&[u8], &[u8])] = &[
     (b"VAR x:(a,x);", b"19: 21 Twice"),
     // what isn't there, and what isn't built
     (b"IMPORT Y;", b"17: 90 NotBuilt"),
-    (b"TYPE t=SET OF BOOLEAN;", b"17: 90 NotBuilt"),
+    (b"TYPE t=POINTER TO CHAR;", b"17: 90 NotBuilt"),
     (
-        b"IMPORT InOut;VAR s:BITSET;BEGIN InOut.WriteString(\"a\") ",
+        b"IMPORT InOut;VAR s:PROC;BEGIN InOut.WriteString(\"a\") ",
         b"29: 90 NotBuilt",
     ),
     (
@@ -586,20 +586,34 @@ const SCALAR_TRAPS: &[(&[u8], &[u8], &[u8])] = &[
     (b"Write('a'); HALT; Write('b')", b"a", b"halted"),
 ];
 
+/// Statements between two texts: those that end, each with what it shows behind `~`, and those that trap, with what they
+/// show before and the trap.
+fn check_rows(
+    rt: &impl Abort,
+    alloc: Global,
+    name: &[u8],
+    around_them: (&[u8], &[u8]),
+    rows: &[&[u8]],
+    traps: &[(&[u8], &[u8], &[u8])],
+) -> Result<(), Fail> {
+    let (before, behind) = around_them;
+    for row in rows {
+        let (body, shown) = parts(alloc, row)?;
+        let text = around(alloc, before, body.as_slice(), behind)?;
+        check_run(rt, alloc, name, text, shown.as_slice(), None)?;
+    }
+    for (body, shown, trap) in traps {
+        let text = around(alloc, before, body, behind)?;
+        check_run(rt, alloc, name, text, shown, Some(trap))?;
+    }
+    Ok(())
+}
+
 /// What statements over scalars show, and which traps they come to.
 #[test]
 fn scalars(rt: HostRuntime) -> Result<(), Fail> {
-    let alloc = rt.alloc();
-    for row in SCALARS {
-        let (body, shown) = parts(alloc, row)?;
-        let text = around(alloc, SCALARS_BEFORE, body.as_slice(), SCALARS_BEHIND)?;
-        check_run(&rt, alloc, b"S", text, shown.as_slice(), None)?;
-    }
-    for (body, shown, trap) in SCALAR_TRAPS {
-        let text = around(alloc, SCALARS_BEFORE, body, SCALARS_BEHIND)?;
-        check_run(&rt, alloc, b"S", text, shown, Some(trap))?;
-    }
-    Ok(())
+    let around_them = (SCALARS_BEFORE, SCALARS_BEHIND);
+    check_rows(&rt, rt.alloc(), b"S", around_them, SCALARS, SCALAR_TRAPS)
 }
 
 /// What stands around the statements of a program T, with arrays over all types of indexes, and records.
@@ -658,17 +672,73 @@ const TABLE_TRAPS: &[(&[u8], &[u8], &[u8])] = &[
 /// What statements over arrays and records show, and which traps they come to.
 #[test]
 fn tables(rt: HostRuntime) -> Result<(), Fail> {
-    let alloc = rt.alloc();
-    for row in TABLES {
-        let (body, shown) = parts(alloc, row)?;
-        let text = around(alloc, TABLES_BEFORE, body.as_slice(), TABLES_BEHIND)?;
-        check_run(&rt, alloc, b"T", text, shown.as_slice(), None)?;
-    }
-    for (body, shown, trap) in TABLE_TRAPS {
-        let text = around(alloc, TABLES_BEFORE, body, TABLES_BEHIND)?;
-        check_run(&rt, alloc, b"T", text, shown, Some(trap))?;
-    }
-    Ok(())
+    let around_them = (TABLES_BEFORE, TABLES_BEHIND);
+    check_rows(&rt, rt.alloc(), b"T", around_them, TABLES, TABLE_TRAPS)
+}
+
+/// What stands around the statements of a program E over sets: it shows the numbers in `a` at its end.
+const SETS_BEFORE: &[u8] =
+    b"MODULE E; FROM InOut IMPORT WriteCard; TYPE day = (mo, tu, we, th, fr, sa, su); days = SET OF day; low = SET OF [2 .. 5]; marks = SET OF [0C .. 17C]; VAR a, b: BITSET; d: days; l: low; m: marks; h: CHAR; c, k: CARDINAL; x: day; t: BOOLEAN; r: RECORD n: CARDINAL; s: BITSET END; v: ARRAY day OF days; BEGIN ";
+
+const SETS_BEHIND: &[u8] = b"; FOR c := 0 TO 15 DO IF c IN a THEN WriteCard(c, 3) END END END E.";
+
+/// Statements over sets that end, and behind `~` the numbers that they leave in `a`.
+const SETS: &[&[u8]] = &[
+    // values: of constants, of variables, of spans, and of spans of nothing
+    b"a := {1, 3 .. 5, 15}~  1  3  4  5 15",
+    b"a := {0 .. 15}; a := {}~",
+    b"c := 4; k := 6; a := {c .. k, 0, k + 2}~  0  4  5  6  8",
+    b"c := 6; a := {c .. 4, c, 9 .. c + 4}~  6  9 10",
+    b"c := 15; a := {c, c - c .. 1}~  0  1 15",
+    // what is in one or the other, not in the other, in both, in just one
+    b"a := {0, 1}; b := {1, 2}; a := a + b~  0  1  2",
+    b"a := {0, 1}; b := {1, 2}; a := a - b~  0",
+    b"a := {0, 1}; b := {1, 2}; a := a * b~  1",
+    b"a := {0, 1}; b := {1, 2}; a := a / b~  0  2",
+    b"b := {2, 7}; c := 9; a := {0 .. 7} * b + {c} - {2}~  7  9",
+    // relations: inclusion is no order of numbers
+    b"b := {1, 2}; IF b = {2, 1} THEN INCL(a, 0) END; IF b = {1} THEN INCL(a, 1) END; IF b # {1} THEN INCL(a, 2) END; IF b # {1, 2} THEN INCL(a, 3) END~  0  2",
+    b"b := {1, 2}; IF {2} <= b THEN INCL(a, 0) END; IF b <= {2} THEN INCL(a, 1) END; IF b <= b THEN INCL(a, 2) END; b := {0}; IF b <= {1} THEN INCL(a, 3) END~  0  2",
+    b"b := {1, 2}; IF b >= {2} THEN INCL(a, 0) END; IF {2} >= b THEN INCL(a, 1) END; IF b >= {} THEN INCL(a, 2) END; b := {3}; IF b >= {0} THEN INCL(a, 3) END~  0  2",
+    // IN, also of numbers that are in no set
+    b"b := {0, 15}; c := 16; IF c IN b THEN INCL(a, 1) END; c := 65535; IF c IN b THEN INCL(a, 2) END; c := 15; IF c IN b THEN INCL(a, 3) END; IF NOT (7 IN b) THEN INCL(a, 4) END~  3  4",
+    b"c := 2; IF c IN {1 .. 3} + b THEN INCL(a, c) END; a := a + {ORD(c IN {c})}~  1  2",
+    // INCL and EXCL
+    b"INCL(a, 3); INCL(a, 3); c := 15; INCL(a, c); EXCL(a, 0); EXCL(a, 3)~ 15",
+    b"a := {0 .. 3}; c := 1; EXCL(a, c + 1); EXCL(a, c)~  0  3",
+    // sets over enumerations, characters and subranges
+    b"d := days{mo, sa .. su}; x := we; INCL(d, x); FOR x := mo TO su DO IF x IN d THEN INCL(a, ORD(x)) END END~  0  2  5  6",
+    b"h := 7C; m := marks{h, 17C}; FOR h := 0C TO 17C DO IF h IN m THEN INCL(a, ORD(h)) END END~  7 15",
+    b"c := 3; l := low{2, c .. 5}; FOR c := 0 TO 9 DO IF c IN l THEN INCL(a, c) END END~  2  3  4  5",
+    // sets in arrays and records
+    b"r.n := 65535; r.s := {7}; INCL(r.s, 8); a := r.s; EXCL(r.s, 7); a := a / r.s~  7",
+    b"v[tu] := days{tu}; x := tu; INCL(v[x], we); v[su] := v[tu]; EXCL(v[su], tu); FOR x := mo TO su DO IF x IN v[su] THEN INCL(a, ORD(x)) END END~  2",
+    // the deepest expressions: the code of one number in a set, and of ODD, takes a word more than their depth
+    b"c := 1; k := c + (c + (c + (c + (c + (c + (c + (c + (c + ORD(c IN {c}))))))))); a := {k}~ 10",
+    b"c := 1; t := TRUE; t := t & (t & (t & (t & (t & (t & (t & (t & (t & (t & (t & ODD(c))))))))))); a := {ORD(t)}~  1",
+];
+
+/// Statements over sets that trap: what they show before, and the trap.
+const SET_TRAPS: &[(&[u8], &[u8], &[u8])] = &[
+    (b"c := 16; a := {c}", b"", b"range"),
+    (b"c := 16; a := {c .. 2}", b"", b"range"),
+    (b"c := 16; a := {2 .. c}", b"", b"range"),
+    (b"c := 6; l := low{c}", b"", b"range"),
+    (b"c := 1; l := low{c}", b"", b"range"),
+    (b"c := 16; INCL(a, c)", b"", b"range"),
+    (b"c := 6; EXCL(l, c)", b"", b"range"),
+    // each number is tested as soon as it has its value
+    (b"c := 6; l := low{c, 5 DIV (c - c)}", b"", b"range"),
+    (b"c := 6; l := low{c .. 5 DIV (c - c)}", b"", b"range"),
+    (b"c := 5; l := low{c .. 5 DIV (c - c)}", b"", b"divisor"),
+    (b"c := 16; a := {5 DIV (c - c), c}", b"", b"divisor"),
+];
+
+/// What statements over sets leave, and which traps they come to.
+#[test]
+fn sets(rt: HostRuntime) -> Result<(), Fail> {
+    let around_them = (SETS_BEFORE, SETS_BEHIND);
+    check_rows(&rt, rt.alloc(), b"E", around_them, SETS, SET_TRAPS)
 }
 
 /// So many assignments of 10 bytes of code each, in a module that has 4 bytes beside them.

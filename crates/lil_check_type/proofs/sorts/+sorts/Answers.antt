@@ -43,10 +43,10 @@ pub sort-returns-in_ok-sort-in-RecordOf : goal.sort-returns-in_ok-sort-in-Record
 sort-returns-in_ok-sort-in-RecordOf t c = is_record_of _ c.as_slice-in-RecordOf.result.now {p = c.in-RecordOf.place} (search rules) c.in_ok-sort-in-RecordOf.ensures
 
 pub sort-returns-in_ok-sort-in-SetOver : goal.sort-returns-in_ok-sort-in-SetOver
-sort-returns-in_ok-sort-in-SetOver t c = is_set_over _ c.in-SetOver.is c.note.ensures c.in_ok-sort-in-SetOver.ensures
+sort-returns-in_ok-sort-in-SetOver t c = is_set_over _ c.in-SetOver.is c.in_ok-sort-in-SetOver.ensures
 
 pub sort-returns-in_ok-sort-in-PointerTo : goal.sort-returns-in_ok-sort-in-PointerTo
-sort-returns-in_ok-sort-in-PointerTo t c = is_pointer_to _ c.get-in-PointerTo.result.now {p = c.in-PointerTo.place} (search rules) c.note-in-PointerTo.ensures c.in_ok-sort-in-PointerTo.ensures
+sort-returns-in_ok-sort-in-PointerTo t c = is_pointer_to _ c.get-in-PointerTo.result.now {p = c.in-PointerTo.place} (search rules) c.note.ensures c.in_ok-sort-in-PointerTo.ensures
 
 pub sort-returns-in_ok-sort-in-ProcedureOf : goal.sort-returns-in_ok-sort-in-ProcedureOf
 sort-returns-in_ok-sort-in-ProcedureOf t c = is_procedure_of _ c.as_slice-in-ProcedureOf.result.now c.in-ProcedureOf.outcome {p = c.in-ProcedureOf.place} (search rules) c.note-in-ProcedureOf.ensures c.in_ok-sort-in-ProcedureOf.ensures

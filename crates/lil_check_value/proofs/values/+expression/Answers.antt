@@ -67,7 +67,7 @@ pub expression-returns-in_ok-text_found-in-Chars : goal.expression-returns-in_ok
 expression-returns-in_ok-text_found-in-Chars t c = is_chars c.args.env.now c.in-Chars.is c.in_ok-text_found-in-Chars.ensures
 
 pub expression-returns-in_ok-value-in-SetOf : goal.expression-returns-in_ok-value-in-SetOf
-expression-returns-in_ok-value-in-SetOf t c = is_set c.args.env.now c.as_slice.result.now (search rules) c.note.ensures c.set_sort-sort.ensures c.in_ok-all-in-SetOf.ensures c.in_ok-value-in-SetOf.ensures
+expression-returns-in_ok-value-in-SetOf t c = is_set c.args.env.now c.as_slice.result.now (search rules) c.set_sort-sort.ensures c.in_ok-all-in-SetOf.ensures c.in_ok-value-in-SetOf.ensures
 
 pub expression-returns-in_ok-value-in-Desig : goal.expression-returns-in_ok-value-in-Desig
 expression-returns-in_ok-value-in-Desig t c = is_desig c.args.env.now _ c.in-Desig.is c.in_ok-of-in-Desig.ensures c.in_ok-value-in-Desig.ensures

@@ -2,19 +2,21 @@ use Rattle.std.proofs.Common.{◌≡◌, List, ap, sym, ◌∙◌, subst, OnOk, 
 use Rattle.lil_base.specs.Words.{Integer}
 use Rattle.lil_resolved.specs.Kinds.{Kind, OfWhole}
 use Rattle.lil_resolved.specs.Resolved.{Expression, kind_of}
-use Rattle.lil_resolved.specs.Views.{base_view, kind_view, function_of, expression_of, selector_of}
-use Rattle.lil_resolved.specs.Forms.{field_is, index_is, one_is, chain_is, apply_is}
+use Rattle.lil_resolved.specs.Views.{base_view, kind_view, function_of, expression_of, selector_of, member_of}
+use Rattle.lil_resolved.specs.Forms.{field_is, index_is, one_is, chain_is, apply_is, set_is, single_is, span_is}
 use Rattle.lil_resolved.specs.declared.resolved.RExpr.{RExpr}
 use Rattle.lil_resolved.specs.declared.resolved.ROperation.{ROperation, out-ROperation}
 use Rattle.lil_resolved.specs.declared.resolved.RPlace.{out-RPlace}
 use Rattle.lil_resolved.specs.declared.resolved.RSelector.{RSelector}
+use Rattle.lil_resolved.specs.declared.resolved.RMember.{RMember}
 use Rattle.lil_table.specs.Rows.{function_code}
 use Rattle.lil_labels.specs.Drafts.{DoingAll, Emits}
 use Rattle.lil_labels.specs.Emitting.{with_ok}
 use Rattle.lil_expr.specs.Accesses.{access_view}
-use Rattle.lil_expr.specs.Generating.{Value, OperatingAll, aim_of}
+use Rattle.lil_expr.specs.Generating.{Value, JoiningAll, OperatingAll, aim_of}
 use Rattle.lil_expr.proofs.Forms.{one_emitted, chain_emitted, apply_emitted}
 use Rattle.lil_expr.proofs.Chains.{next_operation, short_operation, two_operation}
+use Rattle.lil_expr.proofs.Sets.{tested_emitted, single_joins, span_joins, next_member, set_emitted}
 use Rattle.lil_expr.proofs.Placing.{variable_found, field_selected, element_selected, next_selector, all_selectors}
 use Rattle.lil_expr.proofs.expressions.+emitting.Goals as goal
 
@@ -41,6 +43,38 @@ emit_expression-returns-in_ok-emit_expression-in-Apply t c =
     let by = subst (λ (k : Kind). OnOk c.emit_function.result (Emits c.emit_expression-in-Apply.new.code c.emit_function.new.code (DoingAll (function_code (function_of c.in-Apply.function k) k)))) typed c.emit_function.ensures in
     subst (λ (e : Expression). OnOk c.emit_function.result (Emits c.args.code.now c.emit_function.new.code (Value e))) (sym is)
     (with_ok c.emit_function.result (apply_emitted (function_of c.in-Apply.function (kind_of (expression_of c.in-Apply.value))) (expression_of c.in-Apply.value) _ _ _ value) by)
+
+pub emit_expression-returns-in_ok-put-in-Set : goal.emit_expression-returns-in_ok-put-in-Set
+emit_expression-returns-in_ok-put-in-Set t c =
+    let k = kind_view c.in-Set.kind in
+    let is = ap expression_of c.in-Set.is ∙ set_is c.in-Set.kind c.in-Set.members in
+    let rest = subst (λ (ms : List RMember). OnOk c.emit_members.result (Emits c.put-in-Set.new.self c.emit_members.new.code (JoiningAll k ms))) c.as_slice-in-Set.ensures c.emit_members.ensures in
+    subst (λ (e : Expression). OnOk c.emit_members.result (Emits c.args.code.now c.emit_members.new.code (Value e))) (sym is)
+    (with_ok c.emit_members.result (set_emitted k c.in-Set.members _ _ _ c.in_ok-put-in-Set.ensures) rest)
+
+pub emit_members-loop-member-preserved : goal.emit_members-loop-member-preserved
+emit_members-loop-member-preserved t c =
+    next_member (kind_view c.args.kind) c.args.members.now c.loop-member.member-index c.member-item.result _ _ _ c.loop-member-test.true c.member-item.is c.loop-member.invariant c.in_ok-emit_member.ensures
+
+pub emit_member-returns-in_ok-emit_tested-in-Single : goal.emit_member-returns-in_ok-emit_tested-in-Single
+emit_member-returns-in_ok-emit_tested-in-Single t c =
+    let k = kind_view c.args.kind in
+    with_ok c.put_all.result
+    (single_joins c.args.member.now k (expression_of c.in-Single.value) _ _ _ (λ s. ap (λ (m : RMember). member_of m k s) c.in-Single.is ∙ ap (λ (f : Kind → Expression → Expression). f k s) (single_is c.in-Single.value)) c.in_ok-emit_tested-in-Single.ensures)
+    c.put_all.ensures
+
+pub emit_member-returns-in_ok-emit_tested-in-Span-2 : goal.emit_member-returns-in_ok-emit_tested-in-Span-2
+emit_member-returns-in_ok-emit_tested-in-Span-2 t c =
+    let k = kind_view c.args.kind in
+    with_ok c.put.result
+    (span_joins c.args.member.now k (expression_of c.in-Span.low) (expression_of c.in-Span.high) _ _ _ _ (λ s. ap (λ (m : RMember). member_of m k s) c.in-Span.is ∙ ap (λ (f : Kind → Expression → Expression). f k s) (span_is c.in-Span.low c.in-Span.high))
+    c.in_ok-emit_tested-in-Span.ensures c.in_ok-emit_tested-in-Span-2.ensures)
+    c.put.ensures
+
+pub emit_tested-returns : goal.emit_tested-returns
+emit_tested-returns t c =
+    with_ok c.emit_test.result
+    (tested_emitted (kind_view c.args.kind) (base_view c.base.result) (expression_of c.args.value.now) _ _ _ c.base.ensures c.in_ok-emit_expression.ensures) c.emit_test.ensures
 
 pub emit_operation-returns-in_ok-emit_expression-in-Some : goal.emit_operation-returns-in_ok-emit_expression-in-Some
 emit_operation-returns-in_ok-emit_expression-in-Some t c =

@@ -1,9 +1,11 @@
-use Rattle.std.proofs.Common.{◌≡◌, take, map}
+use Rattle.std.proofs.Common.{◌≡◌, Some, take, map}
 use Rattle.std.specs.Option.{option_map}
 use Rattle.std.specs.List.{fold}
 use Rattle.lil_lower.specs.Built.{built, reached}
 use Rattle.lil_lower.specs.Places as places
+use Rattle.lil_lower.specs.Shaping.{all_some}
 use Rattle.lil_lower.specs.Values as spec
+use Rattle.lil_resolved.specs.Views.{member_of}
 use Rattle.lil_lower.proofs.values.+value.Given as goal
 
 abbrev pub invariant-operated-loop-one : goal.invariant-operated-loop-one
@@ -11,3 +13,6 @@ invariant-operated-loop-one l = option_map built l.so_far ≡ fold (spec.operate
 
 abbrev pub invariant-along-loop-one : goal.invariant-along-loop-one
 invariant-along-loop-one l = option_map reached l.so_far ≡ fold places.place_on (option_map reached l.fn.from) (map (spec.selector l.m) (take l.one-index l.selectors))
+
+abbrev pub invariant-all_members-loop-one : goal.invariant-all_members-loop-one
+invariant-all_members-loop-one l = all_some (map (λ e. spec.member l.m e l.members) (take l.one-index l.elements)) ≡ Some (map member_of l.found)

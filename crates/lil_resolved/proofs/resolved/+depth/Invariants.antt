@@ -10,3 +10,7 @@ invariant-operations_depth-loop-operation l =
 abbrev pub invariant-selectors_depth-loop-selector : goal.invariant-selectors_depth-loop-selector
 invariant-selectors_depth-loop-selector l =
     (l.most ≤ 4294967295) × (min (max l.most (chain.selectors_depth (drop l.selector-index l.selectors))) 4294967295 ≡ min (max 1 (chain.selectors_depth l.selectors)) 4294967295)
+
+abbrev pub invariant-members_depth-loop-member : goal.invariant-members_depth-loop-member
+invariant-members_depth-loop-member l =
+    (l.most ≤ 4294967295) × (min (max l.most (chain.members_depth (drop l.member-index l.members))) 4294967295 ≡ min (max 1 (chain.members_depth l.members)) 4294967295)

@@ -11,15 +11,15 @@ use Rattle.lil_resolved.specs.Kinds.{base_of, compared_as, covers, outside_turns
 use Rattle.lil_resolved.specs.Resolved as resolved
 use Rattle.lil_resolved.specs.Resolved.{Statements, Loop, For, Halt, Return, kind_of}
 use Rattle.lil_resolved.specs.Views.{kind_view, request_number, argument_of, expression_of, statement_of, statements_of}
-use Rattle.lil_resolved.specs.Forms.{assign_is, copy_is, change_is, request_is, halt_is, return_is, if_is}
+use Rattle.lil_resolved.specs.Forms.{assign_is, copy_is, change_is, member_changed_is, request_is, halt_is, return_is, if_is}
 use Rattle.lil_labels.specs.Drafts.{Draft, Emits}
 use Rattle.lil_labels.specs.Emitting.{emits_as, with_ok}
 use Rattle.lil_expr.specs.Numbers.{number_word}
-use Rattle.lil_stmt.specs.Generating.{Body, Stated, Each, paired, ArmPart, ArmBody, ElseBody, ChoiceOf, Aligning, Turning, nothing_before, guards_before}
+use Rattle.lil_stmt.specs.Generating.{Body, Stated, Each, paired, ArmPart, ArmBody, ElsePart, ChoiceOf, Aligning, Turning, nothing_before, guards_before}
 use Rattle.lil_stmt.proofs.Stating.{one_emitted, next_emitted, while_emitted, repeat_emitted, loop_emitted, guard_emitted, if_emitted, for_emitted}
-use Rattle.lil_stmt.proofs.Arms.{next_arm_emitted, case_emitted, else_emitted}
+use Rattle.lil_stmt.proofs.Arms.{next_arm_emitted, case_emitted}
 use Rattle.lil_stmt.proofs.statements.+emitting.Goals as goal
-use Rattle.lil_stmt.proofs.statements.+emitting.Goals.{emit_statement-in-None+in_ok-put-in-None, emit_statement-in-Some+in_ok-emit_arm-in-Some}
+use Rattle.lil_stmt.proofs.statements.+emitting.Goals.{emit_statement-in-None+in_ok-other-in-None, emit_statement-in-Some+in_ok-other-in-Some}
 
 pub emit_body-loop-statement-preserved : goal.emit_body-loop-statement-preserved
 emit_body-loop-statement-preserved t c =
@@ -63,7 +63,7 @@ emit_for-returns t c =
     let same = to_z-of_z w16 c.args.step small in
     let taken : c.from.result ≡ c.args.step = grind (arith, to_z-of_z) in
     let fits : (negsuc 32767 ≤ℤ c.from.result) × (c.from.result ≤ℤ pos 65535) = search rules in
-    let stepped : c.word_of_number.result ≡ word_of c.args.step = number_word c.from.result c.word_of_number.result c.word_of_number.ensures fits ∙ ap word_of taken in
+    let stepped : c.word_of_number.result ≡ word_of c.args.step = number_word c.from.result c.word_of_number.result c.word_of_number.ensures.is fits ∙ ap word_of taken in
     let align = subst (λ (z : ℤ). Emits c.fresh.new.self c.emit_align.new.code (Aligning (covers (base_of k) j) (outside_turns (compared_as (base_of k)) z) c.in_ok-end.end)) same c.in_ok-emit_align.ensures in
     let inner : n ≤ 65535 → c.saturating_add.result ≡ suc n = λ low. omega (arith, low, c.saturating_add.ensures) in
     let lies = ap (λ (f : RField). f.offset) c.variable-lies.ensures in
@@ -103,8 +103,15 @@ pub emit_statement-returns-in-Change : goal.emit_statement-returns-in-Change
 emit_statement-returns-in-Change t c =
     let n = c.args.around.fors in
     let exit = c.args.around.exit in
-    let is = ap statement_of c.in-Change.is ∙ change_is c.in-Change.direction c.in-Change.place c.in-Change.kind c.in-Change.value in
+    let is = ap statement_of c.in-Change.is ∙ change_is c.in-Change.way c.in-Change.place c.in-Change.kind c.in-Change.value in
     with_ok c.emit_change.result (λ h. one_emitted n exit _ _ _ _ is (h n exit)) c.emit_change.ensures
+
+pub emit_statement-returns-in-Member : goal.emit_statement-returns-in-Member
+emit_statement-returns-in-Member t c =
+    let n = c.args.around.fors in
+    let exit = c.args.around.exit in
+    let is = ap statement_of c.in-Member.is ∙ member_changed_is c.in-Member.way c.in-Member.place c.in-Member.kind c.in-Member.value in
+    with_ok c.emit_member.result (λ h. one_emitted n exit _ _ _ _ is (h n exit)) c.emit_member.ensures
 
 pub emit_statement-returns-in-Request : goal.emit_statement-returns-in-Request
 emit_statement-returns-in-Request t c =
@@ -120,7 +127,7 @@ emit_statement-returns-in-Halt t c =
     let n = c.args.around.fors in
     let exit = c.args.around.exit in
     let is = ap statement_of c.in-Halt.is ∙ halt_is in
-    with_ok c.put-in-Halt.result (λ h. one_emitted n exit Halt _ _ _ is (emits_as _ _ _ (Stated n exit Halt) (λ x t sound room. t) h)) c.put-in-Halt.ensures
+    with_ok c.put.result (λ h. one_emitted n exit Halt _ _ _ is (emits_as _ _ _ (Stated n exit Halt) (λ x t sound room. t) h)) c.put.ensures
 
 pub emit_statement-returns-in-Return : goal.emit_statement-returns-in-Return
 emit_statement-returns-in-Return t c =
@@ -146,22 +153,23 @@ emit_statement-returns-in_ok-emit_choice-in-Case t c =
     let arms = c.in-Case.arms in
     let ls = c.in_ok-labels-in-Case.labels.items in
     let leave = c.in_ok-leave-in-Case.leave in
-    let other = c.in_ok-other-in-Case.other in
+    let other = c.match-otherwise.other in
     let long = c.in_ok-labels-in-Case.ensures.many ∙ ap (λ (arms : List RArm). length arms) c.as_slice-in-Case.ensures in
     let bodies = subst (λ (arms : List RArm). Emits c.jump-in-Case.new.self c.emit_arms.new.code (Each (ArmBody n exit leave) (paired arms ls))) c.as_slice-in-Case.ensures c.in_ok-labels-in-Case.ensures.emits in
-    let otherwise : Emits c.mark-in-Case.new.self c.match-otherwise.code (ElseBody n exit leave c.in-Case.otherwise) = elim c.match-otherwise.branch [
-      | emit_statement-in-None+in_ok-put-in-None w ↦ subst (λ (d : Draft). Emits c.mark-in-Case.new.self d (ElseBody n exit leave c.in-Case.otherwise)) (sym w.code-is)
-          (subst (λ (o : Option (List RStmt)). Emits c.mark-in-Case.new.self w.put.new.self (ElseBody n exit leave o)) (sym w.in-None.is) w.in_ok-put-in-None.ensures)
-      | emit_statement-in-Some+in_ok-emit_arm-in-Some w ↦ subst (λ (d : Draft). Emits c.mark-in-Case.new.self d (ElseBody n exit leave c.in-Case.otherwise)) (sym w.code-is)
-          (subst (λ (o : Option (List RStmt)). Emits c.mark-in-Case.new.self w.emit_arm.new.code (ElseBody n exit leave o)) (sym w.in-Some.is)
-          (else_emitted n exit leave w.in_ok-emit_arm-in-Some.field-0 w.in-Some.body _ _
-          (subst (λ (ss : List RStmt). Emits c.mark-in-Case.new.self w.emit_arm.new.code (ArmPart n exit leave w.in_ok-emit_arm-in-Some.field-0 (statements_of ss))) w.as_slice-in-Some.ensures w.in_ok-emit_arm-in-Some.ensures)))
+    let els : Emits c.emit_arms.new.code c.match-otherwise.code (ElsePart n exit leave other c.in-Case.otherwise) = elim c.match-otherwise.branch [
+      | emit_statement-in-None+in_ok-other-in-None w ↦ subst (λ (d : Draft). Emits c.emit_arms.new.code d (ElsePart n exit leave other c.in-Case.otherwise)) (sym w.code-is)
+          (subst (λ (l : ℕ). Emits c.emit_arms.new.code w.emit_no_arm.new.code (ElsePart n exit leave l c.in-Case.otherwise)) (sym w.other-is)
+          (subst (λ (o : Option (List RStmt)). Emits c.emit_arms.new.code w.emit_no_arm.new.code (ElsePart n exit leave w.in_ok-other-in-None.other o)) (sym w.in-None.is) w.in_ok-other-in-None.ensures))
+      | emit_statement-in-Some+in_ok-other-in-Some w ↦ subst (λ (d : Draft). Emits c.emit_arms.new.code d (ElsePart n exit leave other c.in-Case.otherwise)) (sym w.code-is)
+          (subst (λ (l : ℕ). Emits c.emit_arms.new.code w.emit_arm.new.code (ElsePart n exit leave l c.in-Case.otherwise)) (sym w.other-is)
+          (subst (λ (o : Option (List RStmt)). Emits c.emit_arms.new.code w.emit_arm.new.code (ElsePart n exit leave w.in_ok-other-in-Some.other o)) (sym w.in-Some.is)
+          (subst (λ (ss : List RStmt). Emits c.emit_arms.new.code w.emit_arm.new.code (ArmPart n exit leave w.in_ok-other-in-Some.other (statements_of ss))) w.as_slice-in-Some.ensures w.in_ok-other-in-Some.ensures)))
     ] in
     let choice = subst (λ (ls : List ℕ). Emits c.here-in-Case.new.self c.emit_choice.new.code (ChoiceOf arms ls other)) c.as_slice-in-Case-3.ensures.value
     (subst (λ (arms : List RArm). Emits c.here-in-Case.new.self c.emit_choice.new.code (ChoiceOf arms c.as_slice-in-Case-3.result.now other)) c.as_slice-in-Case-2.ensures c.in_ok-emit_choice-in-Case.ensures) in
     subst (λ (s : RStmt). OnOk c.here-in-Case-2.result (Emits c.args.code.now c.here-in-Case-2.new.self (Body n exit (statement_of s)))) (sym c.in-Case.is)
     (with_ok c.here-in-Case-2.result
-    (case_emitted n exit c.in-Case.value arms c.in-Case.otherwise ls c.in_ok-table-in-Case.table c.in_ok-end-in-Case.end leave other _ _ _ _ _ _ _ _ _ _ _ _ _
+    (case_emitted n exit c.in-Case.value arms c.in-Case.otherwise ls c.in_ok-table-in-Case.table c.in_ok-end-in-Case.end leave other _ _ _ _ _ _ _ _ _ _ _ _
     c.in_ok-table-in-Case.ensures.emits c.in_ok-table-in-Case.ensures.makes c.in_ok-end-in-Case.ensures.emits c.in_ok-end-in-Case.ensures.makes c.in_ok-emit_expression-in-Case.ensures
-    c.in_ok-jump-in-Case.ensures c.in_ok-leave-in-Case.ensures c.in_ok-jump-in-Case-2.ensures long bodies c.in_ok-other-in-Case.ensures otherwise c.in_ok-here-in-Case.ensures choice)
+    c.in_ok-jump-in-Case.ensures c.in_ok-leave-in-Case.ensures c.in_ok-jump-in-Case-2.ensures long bodies els c.in_ok-here-in-Case.ensures choice)
     c.here-in-Case-2.ensures)
