@@ -1,5 +1,5 @@
 -- Assignments, INC, DEC, INCL, EXCL, HALT and calls that are lowered are sound.
-use Rattle.std.proofs.Common.{◌≡◌, ℕ, ◌≤◌, pos, Bool, true, List, [], ◌∷◌, map, Option, None, Some, IfSome, refl, sym, ap, subst, ◌∙◌}
+use Rattle.std.proofs.Common.{◌≡◌, ℕ, ◌≤◌, pos, Bool, true, List, [], ◌∷◌, map, Option, None, Some, IfSome, refl, sym, ap, subst, ◌∙◌, true≢false}
 use Rattle.std.specs.Prelude.{◌==◌, ◌&&◌, slice_get}
 use Rattle.std.proofs.lemmas.Option.{same_Some}
 use Rattle.lil_types.specs.Types.{Table}
@@ -16,33 +16,42 @@ use Rattle.lil_module.specs.declared.tree.RDesignator.{RDesignator}
 use Rattle.lil_module.specs.declared.tree.RElement.{RElement}
 use Rattle.lil_module.specs.declared.tree.ROperation.{ROperation}
 use Rattle.lil_resolved.specs.Bases.{own_base}
-use Rattle.lil_resolved.specs.Kinds.{Kind, OfWhole, compared_as}
+use Rattle.lil_resolved.specs.Kinds.{Kind, OfWhole, OfSet, compared_as}
 use Rattle.lil_resolved.specs.Depth.{place_depth}
 use Rattle.lil_resolved.specs.Resolved.{Expression, Argument, Statements, kind_of, counted_as, shape_of}
 use Rattle.lil_resolved.specs.Sound.{takes_value, is_element, request_kinds, argument_kind, IsSoundTarget, IsSoundWhole, IsSoundValue, AreSoundArguments, IsSoundBody}
 use Rattle.lil_resolved.specs.Shapes.{Shape, is_there}
-use Rattle.lil_resolved.specs.Views.{base_view, kind_view, request_number}
+use Rattle.lil_resolved.specs.Views.{base_view, ranged_view, kind_view, request_number}
 use Rattle.lil_resolved.specs.declared.resolved.RBase.{RBase}
 use Rattle.lil_resolved.specs.declared.resolved.RBase.TheVariants as b
 use Rattle.lil_resolved.specs.declared.resolved.RKind.{RKind}
+use Rattle.lil_resolved.specs.declared.resolved.RRange.{RRange}
 use Rattle.lil_resolved.specs.declared.resolved.RRequest.{RRequest}
 use Rattle.lil_resolved.specs.declared.resolved.RRequest.TheVariants as q
 use Rattle.lil_resolved.specs.declared.resolved.Direction.{Direction}
 use Rattle.lil_resolved.specs.declared.resolved.Direction.TheVariants.{Up, Down}
 use Rattle.lil_resolved.specs.declared.resolved.Membership.{Membership}
 use Rattle.lil_resolved.specs.declared.resolved.Membership.TheVariants.{Joins, Leaves}
-use Rattle.lil_lower.specs.declared.sets.Members.{Members}
-use Rattle.lil_lower.specs.Bases.{base_at}
-use Rattle.lil_lower.specs.Operators.{counted}
-use Rattle.lil_lower.specs.Places.{Place, Cell}
-use Rattle.lil_lower.specs.Sets.{members_at}
-use Rattle.lil_lower.specs.Values as v
-use Rattle.lil_lower.specs.Values.{Lowers, argument}
+use Rattle.lil_lower_type.specs.declared.members.Members.{Members}
+use Rattle.lil_lower_type.specs.Bases.{base_at}
+use Rattle.lil_lower_type.specs.Operators.{counted}
+use Rattle.lil_lower_type.specs.Members.{members_at}
+use Rattle.lil_lower_type.specs.BaseLaws.{if_true, same_sort, members_known}
+use Rattle.lil_lower_value.specs.Places.{Place, Cell}
+use Rattle.lil_lower_value.specs.Values as v
+use Rattle.lil_lower_value.specs.Values.{Lowers, argument}
+use Rattle.lil_lower_value.specs.PlaceSound.{Fits, IsPlaced, IsTarget, near_kept, target_sound}
+use Rattle.lil_lower_value.specs.ValueSound.{Kept, both_left, both_right, whole_held, entered_held, shallow_kept, shallow_value, kept_whole, kept_alone}
+use Rattle.lil_lower_value.specs.TreeSound.{argument_sound, designator_sound, target_known, handed_sound}
 use Rattle.lil_lower.specs.Calls as s
-use Rattle.lil_lower.proofs.BaseLaws.{if_true, same_sort, members_known, set_view}
-use Rattle.lil_lower.proofs.PlaceSound.{Fits, IsPlaced, IsTarget, near_kept, target_sound}
-use Rattle.lil_lower.proofs.ValueSound.{Kept, both_left, both_right, whole_held, entered_held, shallow_kept, shallow_value, kept_whole, kept_alone}
-use Rattle.lil_lower.proofs.TreeSound.{argument_sound, designator_sound, target_known, handed_sound}
+
+-- a kind of sets with no range
+set_view : (k : RKind) → k.base ≡ b.Set → s.is_unranged k.range ≡ true → kind_view k ≡ OfSet
+set_view k is whole = by k.range whole
+  where
+    by : (r : Option RRange) → s.is_unranged r ≡ true → ranged_view (base_view k.base) r ≡ OfSet
+    by None e = ap base_view is
+    by (Some r) e = absurd (true≢false (sym e))
 
 -- the whole numbers that go with a base
 counted_base : (t : Table) (k : RBase) → (j : RBase) × (base_at t (counted k) ≡ Some j) × (base_view j ≡ OfWhole (compared_as (base_view k)))

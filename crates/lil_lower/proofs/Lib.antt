@@ -1,14 +1,5 @@
-pub mod BaseLaws
 pub mod CallSound
-pub mod Chained
-pub mod LayLaws
 pub mod Lists
 pub mod ModuleForms
-pub mod PlaceSound
-pub mod ShapeLaws
-pub mod ShapeSound
 pub mod StatementForms
 pub mod StatementSound
-pub mod TreeSound
-pub mod ValueForms
-pub mod ValueSound

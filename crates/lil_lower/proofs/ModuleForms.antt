@@ -6,8 +6,8 @@ use Rattle.std.proofs.lemmas.Bool.Decides.{nat_tests}
 use Rattle.lil_module.specs.declared.declared.RModule.{RModule}
 use Rattle.lil_resolved.specs.Resolved.{Statements}
 use Rattle.lil_resolved.specs.Shapes.{Shape}
+use Rattle.lil_lower_type.specs.Shaping.{shapes, variables_by}
 use Rattle.lil_lower.specs.Lowered.{module_with, laid_out, statements, lowered}
-use Rattle.lil_lower.specs.Shaping.{shapes, variables_by}
 
 pub lowered_is : (m : RModule) (ts all : List Shape) (ss : Statements) → length m.variables ≤ 32000 → Some ts ≡ shapes m.types → Some all ≡ variables_by (Some ts) m.variables → Some ss ≡ statements m false m.body
     → Some (module_with m all ss) ≡ lowered m

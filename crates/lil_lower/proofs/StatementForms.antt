@@ -20,13 +20,13 @@ use Rattle.lil_resolved.specs.Resolved.{Else}
 use Rattle.lil_resolved.specs.Views.{all_of}
 use Rattle.lil_types.specs.Types.{boolean}
 use Rattle.lil_resolved.specs.declared.resolved.RBase.{RBase}
+use Rattle.lil_lower_type.specs.Shaping.{all_some}
+use Rattle.lil_lower_type.specs.ListLaws.{map_of_map}
+use Rattle.lil_lower_value.specs.Values.{root, designator}
 use Rattle.lil_lower.specs.declared.selectors.Ordinal.{Ordinal}
-use Rattle.lil_lower.specs.Shaping.{all_some}
-use Rattle.lil_lower.specs.Values.{root, designator}
 use Rattle.lil_lower.specs.Calls.{called, procedure}
 use Rattle.lil_lower.specs.Lowered as s
 use Rattle.lil_lower.specs.Lowered.{Meaning, GuardMeaning, ArmMeaning, value, statement_layer, arm_layer, guard_layer, statement, arm, guard, statements}
-use Rattle.lil_lower.proofs.Lists.{map_of_map}
 
 module _ (m : RModule) where
   pub rolled : (x : RStmt-F RStmt RArm RGuard) → statement m (roll-RStmt x) ≡ statement_layer m (map-RStmt RStmt RArm RGuard Meaning ArmMeaning GuardMeaning (statement m) (arm m) (guard m) x)

@@ -26,24 +26,25 @@ use Rattle.lil_resolved.specs.Shapes.{Shape}
 use Rattle.lil_resolved.specs.Views.{base_view, kind_view, joined, all_of}
 use Rattle.lil_resolved.specs.declared.resolved.RBase.{RBase}
 use Rattle.lil_resolved.specs.declared.resolved.RBase.TheVariants as b
-use Rattle.lil_lower.specs.declared.variables.Variable.{Variable}
+use Rattle.lil_lower_type.specs.Bases.{base_at}
+use Rattle.lil_lower_type.specs.Operators.{has_number}
+use Rattle.lil_lower_type.specs.Composites.{composite_at}
+use Rattle.lil_lower_type.specs.Shaping as spec
+use Rattle.lil_lower_type.specs.Shaping.{all_some, within, lying}
+use Rattle.lil_lower_type.specs.BaseLaws.{if_true, number_sound}
+use Rattle.lil_lower_type.specs.ListLaws.{AllFine, AllIf, some_fine}
+use Rattle.lil_lower_type.specs.ShapeSound.{within_is}
+use Rattle.lil_lower_value.specs.declared.variables.Variable.{Variable}
+use Rattle.lil_lower_value.specs.Places.{Place, Cell, near_place, cell, near}
+use Rattle.lil_lower_value.specs.Values.{root, own_or, expression, designator}
+use Rattle.lil_lower_value.specs.PlaceSound.{Fits, IsPlaced, IsTarget, near_kept, root_known, composite_there, cell_known, near_known}
+use Rattle.lil_lower_value.specs.ValueSound.{Kept, IsKnown, both_left, both_right, variable_sound, kept_whole, kept_alone}
+use Rattle.lil_lower_value.specs.TreeSound.{designator_sound, value_sound}
 use Rattle.lil_lower.specs.declared.selectors.Ordinal.{Ordinal}
-use Rattle.lil_lower.specs.Bases.{base_at}
-use Rattle.lil_lower.specs.Operators.{has_number}
-use Rattle.lil_lower.specs.Places.{Place, Cell, composite_at, near_place, cell, near}
-use Rattle.lil_lower.specs.Shaping as spec
-use Rattle.lil_lower.specs.Shaping.{all_some, within, lying}
-use Rattle.lil_lower.specs.Values.{root, own_or, expression, designator}
 use Rattle.lil_lower.specs.Calls.{copied, source}
 use Rattle.lil_lower.specs.Lowered as s
 use Rattle.lil_lower.specs.Lowered.{Meaning, GuardMeaning, ArmMeaning, value, statement_layer, statement, arm, guard}
-use Rattle.lil_lower.proofs.BaseLaws.{if_true, number_sound}
-use Rattle.lil_lower.proofs.Lists.{AllFine, AllIf, some_fine}
 use Rattle.lil_lower.proofs.StatementForms.{rolled, guard_is, arm_is}
-use Rattle.lil_lower.proofs.PlaceSound.{Fits, IsPlaced, IsTarget, near_kept, root_known, composite_there, cell_known, near_known}
-use Rattle.lil_lower.proofs.ShapeSound.{within_is}
-use Rattle.lil_lower.proofs.ValueSound.{Kept, IsKnown, both_left, both_right, variable_sound, kept_whole, kept_alone}
-use Rattle.lil_lower.proofs.TreeSound.{designator_sound, value_sound}
 use Rattle.lil_lower.proofs.CallSound.{Filled, source_known, copied_sound, stored_sound, called_sound, procedure_sound}
 
 some_if : {A : Type 0} (b : Bool) (o : Option A) (x : A) → (if b then o else None) ≡ Some x → o ≡ Some x

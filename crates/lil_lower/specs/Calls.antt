@@ -27,11 +27,11 @@ use Rattle.lil_resolved.specs.declared.resolved.Direction.TheVariants.{Up, Down}
 use Rattle.lil_resolved.specs.declared.resolved.Membership.{Membership}
 use Rattle.lil_resolved.specs.declared.resolved.Membership.TheVariants.{Joins, Leaves}
 use Rattle.lil_resolved.specs.declared.resolved.RRange.{RRange}
-use Rattle.lil_lower.specs.declared.sets.Members.{Members}
-use Rattle.lil_lower.specs.Operators.{counted}
-use Rattle.lil_lower.specs.Places.{Place, Cell, near_place}
-use Rattle.lil_lower.specs.Sets.{members_at}
-use Rattle.lil_lower.specs.Values.{Lowers, Value, whole, own_or, entered, argument, designator, target, shallow}
+use Rattle.lil_lower_type.specs.declared.members.Members.{Members}
+use Rattle.lil_lower_type.specs.Operators.{counted}
+use Rattle.lil_lower_type.specs.Members.{members_at}
+use Rattle.lil_lower_value.specs.Places.{Place, Cell, near_place}
+use Rattle.lil_lower_value.specs.Values.{Lowers, Value, whole, own_or, entered, argument, designator, target, shallow}
 
 -- ---- assignments
 abbrev pub stored : Cell → Option Expression → Option Statements

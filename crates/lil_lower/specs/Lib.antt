@@ -1,11 +1,3 @@
-pub mod Bases
-pub mod Built
 pub mod Calls
 pub mod Lowered
-pub mod Measured
-pub mod Operators
 pub mod Parts
-pub mod Places
-pub mod Sets
-pub mod Shaping
-pub mod Values

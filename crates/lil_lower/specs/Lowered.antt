@@ -26,15 +26,16 @@ use Rattle.lil_resolved.specs.Sound.{takes_value, is_ordinal}
 use Rattle.lil_resolved.specs.Shapes.{Shape}
 use Rattle.lil_resolved.specs.Views.{base_view, kind_view, variable_kind, all_of}
 use Rattle.lil_resolved.specs.declared.resolved.RBase.{RBase}
-use Rattle.lil_lower.specs.declared.variables.Variable.{Variable}
+use Rattle.lil_lower_type.specs.Bases.{base_at}
+use Rattle.lil_lower_type.specs.Measured.{variable_name}
+use Rattle.lil_lower_type.specs.Operators.{has_number}
+use Rattle.lil_lower_type.specs.Composites.{composite_at}
+pub use Rattle.lil_lower_type.specs.Shaping.{all_some}
+use Rattle.lil_lower_type.specs.Shaping.{shapes, variables_by}
+use Rattle.lil_lower_value.specs.declared.variables.Variable.{Variable}
+use Rattle.lil_lower_value.specs.Places.{Place, Cell, near_place, cell, near}
+use Rattle.lil_lower_value.specs.Values.{root, own_or, expression, designator, shallow}
 use Rattle.lil_lower.specs.declared.selectors.Ordinal.{Ordinal}
-use Rattle.lil_lower.specs.Bases.{base_at}
-use Rattle.lil_lower.specs.Measured.{variable_name}
-use Rattle.lil_lower.specs.Operators.{has_number}
-use Rattle.lil_lower.specs.Places.{Place, Cell, composite_at, near_place, cell, near}
-pub use Rattle.lil_lower.specs.Shaping.{all_some}
-use Rattle.lil_lower.specs.Shaping.{shapes, variables_by}
-use Rattle.lil_lower.specs.Values.{root, own_or, expression, designator, shallow}
 use Rattle.lil_lower.specs.Calls.{stored, copied, source, called, procedure}
 
 -- a statement inside of a LOOP or not, a condition with the statements behind it, and an arm by the selector's base

@@ -5,10 +5,9 @@ ghost use Rattle.lil_resolved.specs.declared.resolved.RBase.TheVariants as b;
 ghost use Rattle.lil_resolved.specs.Views as view;
 ghost use Rattle.lil_lower.specs.Calls as spec;
 
-use crate::operators::takes_value;
-use crate::room::shallow;
-use crate::values::{argument, argument_sort, own_or};
 use lil_base::{Items, Memory, beside};
+use lil_lower_type::takes_value;
+use lil_lower_value::{argument, argument_sort, own_or, shallow};
 use lil_module::{RArgument as Given, RCallee, RModule, Resident};
 use lil_resolved::{RArgument, RBase, RExpr, RKind, RRequest, RStmt, base as base_of};
 use lil_types::{CARDINAL, CHAR, INTEGER, TypeId};

@@ -1,23 +1,22 @@
 ghost use Rattle.std.specs.Prelude.{◌≡◌, ◌≤◌, length, pos, IfOk, Some};
 ghost use Rattle.std.specs.Option.{option_map};
 ghost use Rattle.lil_resolved.specs.Views as view;
-ghost use Rattle.lil_lower.specs.Built.{placed, celled};
-ghost use Rattle.lil_lower.specs.Values as values;
+ghost use Rattle.lil_lower_value.specs.Built.{placed, celled};
+ghost use Rattle.lil_lower_value.specs.Values as values;
 ghost use Rattle.lil_lower.specs.Calls as spec;
 
-use crate::constants::whole;
-use crate::operators::{counted, takes_value};
-use crate::places::{Cell, Placed, as_place, cell_of};
-use crate::room::{near, near_place, shallow};
-use crate::sets::{Members, fitting, is_element, members_at};
-use crate::values::{argument, argument_sort, own_or, place};
 use lil_base::{Memory, beside};
+use lil_lower_type::{Members, counted, is_element, members_at, takes_value};
+use lil_lower_value::{
+    Cell, Placed, argument, argument_sort, as_place, cell_of, fitting, near, near_place, own_or,
+    place, shallow, whole,
+};
 use lil_module::{RArgument, RDesignator, RExpr as Value, RModule, Standard};
 use lil_resolved::{Direction, Membership, RExpr, RStmt, base};
 use std::alloc::Global;
 
 /// The cell that a designator names, where values may be stored to it.
-pub(crate) fn target(alloc: Global, m: &RModule, of: &RDesignator) -> Result<Option<Cell>, Memory>
+fn target(alloc: Global, m: &RModule, of: &RDesignator) -> Result<Option<Cell>, Memory>
     requires { length m.now.variables ≤ 32000 }
     ensures { IfOk result (λ o. option_map celled o ≡ values.target m.now of.now) }
 {

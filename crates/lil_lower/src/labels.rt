@@ -4,8 +4,8 @@ ghost use Rattle.std.specs.List.{list_all};
 ghost use Rattle.lil_resolved.specs.Views as view;
 ghost use Rattle.lil_lower.specs.Lowered as spec;
 
-use crate::operators::has_number;
 use lil_base::{Items, Memory};
+use lil_lower_type::has_number;
 use lil_module::RLabel as Label;
 use lil_resolved::{RBase, RLabel};
 use std::alloc::Global;

@@ -2,13 +2,12 @@ ghost use Rattle.std.specs.Prelude.{◌≡◌, ◌≤◌, IfOk, IfSome};
 ghost use Rattle.std.specs.Option.{option_map};
 ghost use Rattle.lil_resolved.specs.Views.{module_of, statements_of, IsMeasured};
 ghost use Rattle.lil_resolved.specs.Sizes.{IsSound};
+ghost use Rattle.lil_lower_type.specs.Measured.{shapes_laid, IsShaped, IsLaid};
 ghost use Rattle.lil_lower.specs.Lowered as spec;
-ghost use Rattle.lil_lower.specs.Measured.{shapes_laid, IsShaped, IsLaid};
 
-use crate::laying::{Laid, lay};
-use crate::shapes::{Shaped, all_shapes};
 use crate::statements::body;
 use lil_base::{Items, Memory};
+use lil_lower_type::{Laid, Shaped, all_shapes, lay};
 use lil_module::RModule as Tree;
 use lil_resolved::{RModule, RStmt};
 use std::alloc::Global;

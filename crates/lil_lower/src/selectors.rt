@@ -1,12 +1,10 @@
 ghost use Rattle.std.specs.Prelude.{◌≡◌, slice_get, Some};
-ghost use Rattle.std.specs.Option.{option_copied};
 ghost use Rattle.lil_module.specs.declared.tree.RExpr.{out-RExpr};
 ghost use Rattle.lil_lower.specs.Lowered as spec;
 
-use crate::bases::base_at;
-use crate::operators::is_ordinal;
-use crate::values::own_sort;
 use lil_base::Boxed;
+use lil_lower_type::{base_at, is_ordinal};
+use lil_lower_value::own_sort;
 use lil_module::{RExpr as Value, RModule};
 use lil_resolved::RBase;
 use lil_types::{CARDINAL, CHAR, INTEGER, TypeId, TypeTable};

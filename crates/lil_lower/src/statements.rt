@@ -2,20 +2,20 @@ ghost use Rattle.std.specs.Prelude.{◌≡◌, ◌≤◌, length, map, Some, Non
 ghost use Rattle.std.specs.Option.{option_map};
 ghost use Rattle.lil_resolved.specs.Resolved.{Else};
 ghost use Rattle.lil_resolved.specs.Views as view;
-ghost use Rattle.lil_lower.specs.Built.{reached, celled};
+ghost use Rattle.lil_lower_value.specs.Built.{reached, celled};
 ghost use Rattle.lil_lower.specs.Lowered as spec;
 ghost use Rattle.lil_lower.specs.Parts as parts;
 
 use crate::calls::called;
 use crate::changes::{copied, procedure, source, stored};
 use crate::labels::labels;
-use crate::operators::takes_value;
-use crate::places::{Cell, Reached, as_place, cell_of, composite_at};
-use crate::room::{near, near_place, shallow};
 use crate::selectors::selector;
-use crate::values::{expression, own_or, own_sort, place};
-use crate::variables::{Variable, root};
 use lil_base::{Boxed, Items, Memory, beside};
+use lil_lower_type::{composite_at, takes_value};
+use lil_lower_value::{
+    Cell, Reached, Variable, as_place, cell_of, expression, near, near_place, own_or, own_sort,
+    place, root, shallow,
+};
 use lil_module::{RArm as Arm, RExpr as Value, RGuard as Guard, RModule, RStmt as Tree};
 use lil_resolved::{RArm, RBase, RExpr, RGuard, RStmt, base};
 use lil_types::{BOOLEAN, TypeId};

@@ -1,9 +1,9 @@
 use Rattle.std.proofs.Common.{◌≡◌, ◌∙◌, ap, Some, false, rules, arith}
 use Rattle.lil_resolved.specs.Views.{module_of, statements_of}
+use Rattle.lil_lower_type.specs.Measured.{shapes_in, shapes_laid}
+use Rattle.lil_lower_type.specs.Shaping.{shapes}
+use Rattle.lil_lower_type.specs.LaidLaws.{all_laid}
 use Rattle.lil_lower.specs.Lowered.{statements}
-use Rattle.lil_lower.specs.Measured.{shapes_in, shapes_laid}
-use Rattle.lil_lower.specs.Shaping.{shapes}
-use Rattle.lil_lower.proofs.LayLaws.{all_laid}
 use Rattle.lil_lower.proofs.ModuleForms.{lowered_is}
 use Rattle.lil_lower.proofs.StatementSound.{lowered_sound}
 use Rattle.lil_lower.proofs.program.lower.Goals as goal

@@ -3,10 +3,10 @@ use Rattle.std.specs.Option.{option_map}
 use Rattle.lil_module.specs.declared.tree.RStmt.TheVariants as v
 use Rattle.lil_resolved.specs.Resolved.{NoElse, Else}
 use Rattle.lil_resolved.specs.Views as view
-use Rattle.lil_lower.specs.Values.{root}
+use Rattle.lil_lower_type.specs.ListLaws.{pushed, none_at, all_found}
+use Rattle.lil_lower_value.specs.Values.{root}
 use Rattle.lil_lower.specs.Lowered as spec
 use Rattle.lil_lower.specs.Parts as parts
-use Rattle.lil_lower.proofs.Lists.{pushed, none_at, all_found}
 use Rattle.lil_lower.proofs.StatementForms.{if_without, if_with, case_none, case_without, case_with, for_is}
 use Rattle.lil_lower.proofs.statements.+statement.Goals as goal
 

@@ -1,0 +1,2 @@
+pub mod LayLaws
+pub mod ShapeLaws

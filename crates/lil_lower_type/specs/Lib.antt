@@ -1,0 +1,10 @@
+pub mod BaseLaws
+pub mod Bases
+pub mod Composites
+pub mod LaidLaws
+pub mod ListLaws
+pub mod Measured
+pub mod Members
+pub mod Operators
+pub mod ShapeSound
+pub mod Shaping

@@ -1,0 +1,108 @@
+-- Places: what a designator leads to, from a variable of the module on and part by part.
+use Rattle.std.specs.Prelude.{ℕ, nat_le, List, slice_get, Option, Some, None, if◌then◌else◌}
+use Rattle.std.specs.Option.{option_map}
+use Rattle.std.specs.List.{fold}
+use Rattle.lil_types.specs.Types.{Table, base}
+use Rattle.lil_module.specs.declared.declared.RModule.{RModule}
+use Rattle.lil_module.specs.declared.declared.RVar.{RVar}
+use Rattle.lil_module.specs.declared.tree.RRoot.{RRoot}
+use Rattle.lil_module.specs.declared.tree.RRoot.TheVariants as root
+use Rattle.lil_resolved.specs.Depth.{place_depth}
+use Rattle.lil_resolved.specs.Resolved as resolved
+use Rattle.lil_resolved.specs.Resolved.{Designator, Variable, Element, Expression, kind_of}
+use Rattle.lil_resolved.specs.Sound.{takes_value}
+use Rattle.lil_resolved.specs.Views.{kind_view}
+use Rattle.lil_resolved.specs.declared.resolved.RKind.{RKind}
+use Rattle.lil_lower_type.specs.Composites.{field_at}
+use Rattle.lil_lower_type.specs.Bases.{kind_at}
+
+-- ---- places
+-- a designator, and the number of its type
+pub record Place : Type 0 where
+  pub form : Designator
+  pub sort : ℕ
+
+abbrev pub place_with : Designator → ℕ → Place
+place_with d s = record { form = d; sort = s }
+
+-- what a selector leads to: from a type to that of a part, and from a place to the part
+pub record Part : Type 0 where
+  pub sort : ℕ → Option ℕ
+  pub place : Place → Option Place
+
+-- what a designator leads to: a type, and a place where the generator has its form
+pub record Located : Type 0 where
+  pub sort : Option ℕ
+  pub place : Option Place
+
+-- a part of what is reached so far
+abbrev pub sort_on : Option ℕ → Part → Option ℕ
+sort_on None p = None
+sort_on (Some s) p = p.sort s
+
+abbrev pub place_on : Option Place → Part → Option Place
+place_on None p = None
+place_on (Some d) p = p.place d
+
+-- a variable of the module
+abbrev pub variable_place : ℕ → Option RVar → Option Place
+variable_place n None = None
+variable_place n (Some v) = Some (place_with (Variable n) v.sort)
+
+abbrev pub root_place : RModule → RRoot → Option Place
+root_place m (root.Global n) = variable_place n (slice_get m.variables n)
+root_place m (root.Local levels n) = None
+root_place m (root.Field block n) = None
+
+abbrev pub sort_of : Place → ℕ
+sort_of p = p.sort
+
+abbrev pub root_sort : RModule → RRoot → Option ℕ
+root_sort m r = option_map sort_of (root_place m r)
+
+-- a variable's parts, each of what stands before it
+abbrev pub located : RModule → RRoot → List Part → Located
+located m r ps = record { sort = fold sort_on (root_sort m r) ps; place = fold place_on (root_place m r) ps }
+
+-- a field
+abbrev pub field_place : Table → ℕ → Place → Option Place
+field_place t i p = option_map (place_with (resolved.Field p.form i)) (field_at t p.sort i)
+
+-- an element of a type, by the kind of the indexes and an index that may be one of it
+abbrev pub element : Place → ℕ → Option RKind → Option Expression → Option Place
+element p s (Some k) (Some e) = if takes_value (kind_view k) (kind_of e) then Some (place_with (Element p.form (kind_view k) e) s) else None
+element p s _ _ = None
+
+-- what the generator has no form of
+abbrev pub nowhere : Part
+nowhere = record { sort = λ s. None; place = λ p. None }
+
+-- A place for whose address the expression stack has room: 13 words. What the texts allow has a depth of at most 12 by their rule, and the
+-- code of ODD, and of a number that joins a set alone, takes one word more than that rule counts.
+abbrev pub near_place : Option Place → Option Place
+near_place None = None
+near_place (Some p) = if nat_le (place_depth p.form) 13 then Some p else None
+
+-- ---- cells
+-- a place of a kind, and its base type
+pub record Cell : Type 0 where
+  pub form : Designator
+  pub kind : RKind
+  pub sort : ℕ
+
+abbrev pub cell_with : Designator → ℕ → RKind → Cell
+cell_with d s k = record { form = d; kind = k; sort = s }
+
+abbrev pub cell : Table → Option Place → Option Cell
+cell t None = None
+cell t (Some p) = option_map (cell_with p.form (base t p.sort)) (kind_at t p.sort)
+
+-- the base type of a type that has a kind
+abbrev pub cell_sort : Table → Option ℕ → Option ℕ
+cell_sort t None = None
+cell_sort t (Some s) = option_map (λ k. base t s) (kind_at t s)
+
+-- a cell for whose address the expression stack has room
+abbrev pub near : Option Cell → Option Cell
+near None = None
+near (Some c) = if nat_le (place_depth c.form) 13 then Some c else None

@@ -1,0 +1,241 @@
+ghost use Rattle.std.specs.Prelude.{◌≡◌, ◌≤◌, length, map, IfOk};
+ghost use Rattle.std.specs.Option.{option_map};
+ghost use Rattle.std.specs.List.{fold};
+ghost use Rattle.lil_resolved.specs.Views.{expression_of, selector_of};
+ghost use Rattle.lil_lower_value.specs.Built.{reached, placed, celled};
+ghost use Rattle.lil_lower_value.specs.Places as spec;
+ghost use Rattle.lil_lower_value.specs.Values as values;
+
+use lil_base::{Items, Memory};
+use lil_lower_type::{element_sort, field_at, kind_at, takes_value};
+use lil_module::{RDesignator, RModule, RRoot, RSelector as Selector};
+use lil_resolved::{RExpr, RKind, RPlace, RSelector, base as base_of};
+use lil_types::{TypeId, TypeTable, base};
+use std::alloc::Global;
+
+/// What a designator has reached: a variable by its number, its parts so far, and the type of the last.
+#[derive(Drop)]
+pub struct Reached {
+    pub number: u16,
+    pub selectors: Items<RSelector>,
+    pub sort: TypeId,
+}
+
+/// A place, and its type.
+#[derive(Drop)]
+pub struct Placed {
+    pub place: RPlace,
+    pub sort: TypeId,
+}
+
+/// A place of a kind, and its base type.
+#[derive(Drop)]
+pub struct Cell {
+    pub place: RPlace,
+    pub kind: RKind,
+    pub sort: TypeId,
+}
+
+/// The variable of the module with which a designator begins.
+pub(crate) fn root_place(alloc: Global, m: &RModule, of: RRoot) -> Option<Reached>
+    requires { length m.now.variables ≤ 32000 }
+    ensures { option_map reached result ≡ spec.root_place m.now of }
+{
+    match of {
+        RRoot::Global(number) => match m.variables.get(number) {
+            None => None,
+            Some(variable) => Some(Reached {
+                number: number as u16,
+                selectors: Items::new(alloc),
+                sort: variable.sort,
+            }),
+        },
+        _ => None,
+    }
+}
+
+fn root_sort(m: &RModule, of: RRoot) -> Option<TypeId>
+    ensures { result ≡ spec.root_sort m.now of }
+{
+    match of {
+        RRoot::Global(number) => match m.variables.get(number) {
+            None => None,
+            Some(variable) => Some(variable.sort),
+        },
+        _ => None,
+    }
+}
+
+/// The type of a part of what has a type.
+#[tactic(auto, using(crate::specs::ValueForms::sorts))]
+fn part_sort(m: &RModule, sort: TypeId, of: &Selector) -> Option<TypeId>
+    ensures { result ≡ (values.selector m.now of.now).sort sort }
+{
+    match of {
+        Selector::Field(number) => field_at(&m.types, sort, *number),
+        Selector::Index(_) => element_sort(&m.types, sort),
+        Selector::Follow => None,
+    }
+}
+
+fn sort_on(m: &RModule, sort: Option<TypeId>, of: &Selector) -> Option<TypeId>
+    ensures { result ≡ spec.sort_on sort (values.selector m.now of.now) }
+{
+    match sort {
+        None => None,
+        Some(sort) => part_sort(m, sort, of),
+    }
+}
+
+fn sort_along(m: &RModule, from: Option<TypeId>, of: &[Selector]) -> Option<TypeId>
+    ensures { result ≡ fold spec.sort_on from (map (values.selector m.now) of.now) }
+{
+    let mut sort = from;
+    for one in of {
+        sort = sort_on(m, sort, one);
+    }
+    sort
+}
+
+/// The type of what a designator names.
+#[tactic(auto, using(crate::specs::ValueForms::located_sort))]
+pub(crate) fn place_sort(m: &RModule, of: &RDesignator) -> Option<TypeId>
+    ensures { result ≡ (values.designator m.now of.now).sort }
+{
+    sort_along(m, root_sort(m, of.root), of.selectors.as_slice())
+}
+
+/// A part more.
+#[tactic(auto, using(crate::proofs::Chained::selected_more))]
+fn onward(before: Reached, selector: RSelector, sort: TypeId) -> Result<Reached, Memory>
+    ensures { IfOk result (λ r. reached r ≡ spec.place_with (selector_of selector (reached before).form) sort) }
+{
+    let number = before.number;
+    let mut selectors = before.selectors;
+    selectors.push(selector)?;
+    Ok(Reached {
+        number,
+        selectors,
+        sort,
+    })
+}
+
+/// A field of what is reached.
+#[tactic(auto, using(lil_resolved::specs::Forms::field_is))]
+pub(crate) fn field_place(
+    t: &TypeTable,
+    before: Reached,
+    number: usize,
+) -> Result<Option<Reached>, Memory>
+    ensures { IfOk result (λ o. option_map reached o ≡ spec.field_place t.now number (reached before)) }
+{
+    match field_at(t, before.sort, number) {
+        None => {
+            drop(before);
+            Ok(None)
+        }
+        Some(sort) => Ok(Some(onward(before, RSelector::Field(number), sort)?)),
+    }
+}
+
+/// An element of what is reached, by an index that may be of the kind of the indexes.
+#[tactic(auto, using(lil_resolved::specs::Forms::index_is))]
+pub(crate) fn element(
+    before: Reached,
+    sort: TypeId,
+    kind: Option<RKind>,
+    index: Option<RExpr>,
+) -> Result<Option<Reached>, Memory>
+    ensures { IfOk result (λ o. option_map reached o ≡ spec.element (reached before) sort kind (option_map expression_of index)) }
+{
+    match (kind, index) {
+        (Some(kind), Some(index)) => {
+            if takes_value(kind, base_of(&index)) {
+                Ok(Some(onward(before, RSelector::Index(kind, index), sort)?))
+            } else {
+                drop((before, index));
+                Ok(None)
+            }
+        }
+        rest => {
+            drop((before, rest));
+            Ok(None)
+        }
+    }
+}
+
+/// What is reached as a place with its type, None where nothing is.
+#[tactic(auto, using(lil_resolved::specs::Forms::place_is))]
+pub fn as_place(of: Option<Reached>) -> Option<Placed>
+    ensures { option_map placed result ≡ option_map reached of }
+{
+    let Some(
+        Reached {
+            number,
+            selectors,
+            sort,
+        },
+    ) = of
+    else {
+        return None;
+    };
+    Some(Placed {
+        place: RPlace { number, selectors },
+        sort,
+    })
+}
+
+/// What is reached as a cell: None where nothing is, or its type has no kind.
+#[tactic(auto, using(lil_resolved::specs::Forms::place_is))]
+pub fn cell_of(t: &TypeTable, of: Option<Reached>) -> Option<Cell>
+    ensures { option_map celled result ≡ spec.cell t.now (option_map reached of) }
+{
+    let Some(
+        Reached {
+            number,
+            selectors,
+            sort,
+        },
+    ) = of
+    else {
+        return None;
+    };
+    match kind_at(t, sort) {
+        None => {
+            drop(selectors);
+            None
+        }
+        Some(kind) => Some(Cell {
+            place: RPlace { number, selectors },
+            kind,
+            sort: base(t, sort),
+        }),
+    }
+}
+
+/// The base type of a type that has a kind.
+pub(crate) fn cell_sort(t: &TypeTable, sort: Option<TypeId>) -> Option<TypeId>
+    ensures { result ≡ spec.cell_sort t.now sort }
+{
+    match sort {
+        None => None,
+        Some(sort) => match kind_at(t, sort) {
+            None => None,
+            Some(_) => Some(base(t, sort)),
+        },
+    }
+}
+
+/// The value of a cell.
+#[tactic(auto, using(lil_resolved::specs::Forms::taken_is))]
+pub(crate) fn taken(of: Option<Cell>, wanted: TypeId) -> Option<RExpr>
+    ensures { option_map expression_of result ≡ values.taken (option_map celled of) wanted }
+{
+    match of {
+        Some(of) if of.sort == wanted => Some(RExpr::Taken(of.place, of.kind)),
+        rest => {
+            drop(rest);
+            None
+        }
+    }
+}
