@@ -1,7 +1,6 @@
 -- What each form of statement means, from what its parts mean.
 use Rattle.std.proofs.Common.{◌≡◌, Bool, true, List, [], map, Option, Some, None, refl, subst, sym, ap, ◌∙◌}
 use Rattle.lil_base.specs.declared.fault.Place.{Place}
-use Rattle.lil_base.specs.declared.fault.FaultKind.TheVariants.{NotBuilt}
 use Rattle.lil_language.specs.declared.tree.Expr.{Expr}
 use Rattle.lil_language.specs.declared.tree.Designator.{Designator}
 use Rattle.lil_language.specs.declared.tree.ForHead.{ForHead}
@@ -20,12 +19,11 @@ use Rattle.lil_module.specs.declared.tree.RGuard.{RGuard}
 use Rattle.lil_module.specs.declared.tree.RStmt.{RStmt}
 use Rattle.lil_module.specs.declared.tree.RStmt.TheVariants as rs
 use Rattle.lil_report.specs.declared.report.Fault.{Fault}
-use Rattle.lil_report.specs.Told.{Row, row, noted, after, pure, walk, Said}
+use Rattle.lil_report.specs.Told.{Row, after, pure, walk, Said}
 use Rattle.lil_report.specs.Laws.{said_as, said_to, said_value, said_after, said_map, walk_map}
 use Rattle.lil_scope.specs.declared.env.Env.{Env}
 use Rattle.lil_scope.specs.declared.thing.Kind.{Kind}
 use Rattle.lil_kinds.specs.declared.found.Found.{Found}
-use Rattle.lil_check_value.specs.Unbuilt.{not_built, said_not_built}
 use Rattle.lil_check_value.specs.Values.{means, variable_means, call_means}
 use Rattle.lil_check_stmt.specs.declared.nodes.Opened.{Opened}
 use Rattle.lil_check_stmt.specs.declared.labels.Labels.{Labels}
@@ -91,9 +89,9 @@ module _ (e : Env) (l : Bool) where
   for_is p h xs = at (ap statement_means (sym (st.rolls-For p h xs)) ∙ rolled (layer.For p h xs)) ∙ (λ j. after (count_means e h) (λ c. after (list_is e l xs j) (λ ss. pure (counted c ss))))
 
   with_is : (p : Place) (d : Designator) (xs : List Stmt) → statement_means (st.With p d xs) e l
-      ≡ not_built p (after (variable_means e d) (λ a. after (record_node e.types p a) (λ r. after (statements_mean (within r e) l xs) (λ ss. pure (with_record r ss)))))
+      ≡ after (variable_means e d) (λ a. after (record_node e.types p a) (λ r. after (statements_mean (within r e) l xs) (λ ss. pure (with_record r ss))))
   with_is p d xs = at (ap statement_means (sym (st.rolls-With p d xs)) ∙ rolled (layer.With p d xs))
-      ∙ (λ j. not_built p (after (variable_means e d) (λ a. after (record_node e.types p a) (λ r. after (list_is (within r e) l xs j) (λ ss. pure (with_record r ss))))))
+      ∙ (λ j. after (variable_means e d) (λ a. after (record_node e.types p a) (λ r. after (list_is (within r e) l xs j) (λ ss. pure (with_record r ss)))))
 
   exit_is : (p : Place) → statement_means (st.Exit p) e l ≡ exit_node p l
   exit_is p = at (ap statement_means (sym (st.rolls-Exit p)) ∙ rolled (layer.Exit p))
@@ -152,7 +150,7 @@ module _ (e : Env) (l : Bool) {r : Option Fault} where
     is_for p head xs is h = as_is is (for_is e l p head xs) h
 
     pub is_with : (p : Place) (d : Designator) (xs : List Stmt) {s : Option Fault} → of ≡ st.With p d xs
-        → Said (not_built p (after (variable_means e d) (λ a. after (record_node e.types p a) (λ r. after (statements_mean (within r e) l xs) (λ ss. pure (with_record r ss)))))) r o s → Said (statement_means of e l) r o s
+        → Said (after (variable_means e d) (λ a. after (record_node e.types p a) (λ r. after (statements_mean (within r e) l xs) (λ ss. pure (with_record r ss))))) r o s → Said (statement_means of e l) r o s
     is_with p d xs is h = as_is is (with_is e l p d xs) h
 
     pub is_exit : (p : Place) {s : Option Fault} → of ≡ st.Exit p → Said (exit_node p l) r o s → Said (statement_means of e l) r o s
@@ -179,11 +177,11 @@ module _ (e : Env) (l : Bool) {r : Option Fault} where
         → Said (after (count_means e h) (λ c. after (statements_mean e l xs) (λ ss. pure (counted c ss)))) r o s
     of_for head xs given {c = c} {ss = ss} {s = s} {t = t} h these k value = said_after _ _ h (said_to (said_map (counted c) (subst (λ z. Said (statements_mean e l z) t ss s) these k)) value)
 
-    pub of_with : (p : Place) (d : Designator) (xs given : List Stmt) {a : Option Found} {v : Option Opened} {f : Env} {ss : List RStmt} {n s t u : Option Fault} → n ≡ noted r (row true p NotBuilt)
-        → Said (variable_means e d) n a t → Said (record_node e.types p a) t v u → f ≡ within v e → given ≡ xs → Said (statements_mean f l given) u ss s → o ≡ with_record v ss
-        → Said (not_built p (after (variable_means e d) (λ a. after (record_node e.types p a) (λ r. after (statements_mean (within r e) l xs) (λ ss. pure (with_record r ss)))))) r o s
-    of_with p d xs given {v = v} {f = f} {ss = ss} {s = s} {u = u} note h k enters these m value =
-        said_not_built p note (said_after _ _ h (said_after _ _ k (said_to (said_map (with_record v) (subst (λ f. Said (statements_mean f l xs) u ss s) enters (subst (λ z. Said (statements_mean f l z) u ss s) these m))) value)))
+    pub of_with : (p : Place) (d : Designator) (xs given : List Stmt) {a : Option Found} {v : Option Opened} {f : Env} {ss : List RStmt} {s t u : Option Fault}
+        → Said (variable_means e d) r a t → Said (record_node e.types p a) t v u → f ≡ within v e → given ≡ xs → Said (statements_mean f l given) u ss s → o ≡ with_record v ss
+        → Said (after (variable_means e d) (λ a. after (record_node e.types p a) (λ r. after (statements_mean (within r e) l xs) (λ ss. pure (with_record r ss))))) r o s
+    of_with p d xs given {v = v} {f = f} {ss = ss} {s = s} {u = u} h k enters these m value =
+        said_after _ _ h (said_after _ _ k (said_to (said_map (with_record v) (subst (λ f. Said (statements_mean f l xs) u ss s) enters (subst (λ z. Said (statements_mean f l z) u ss s) these m))) value))
 
   -- without ELSE, and with it
   pub no_else : {other : Option (List Stmt)} → other ≡ None → Said (behind_else e l other) r None r

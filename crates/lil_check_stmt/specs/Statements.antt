@@ -20,7 +20,6 @@ use Rattle.lil_scope.specs.declared.env.Env.{Env}
 use Rattle.lil_scope.specs.declared.thing.Kind.{Kind}
 use Rattle.lil_kinds.specs.declared.found.Found.{Found}
 use Rattle.lil_kinds.specs.Forms.{result}
-use Rattle.lil_check_value.specs.Unbuilt.{not_built}
 use Rattle.lil_check_value.specs.Values.{means, variable_means, call_means}
 use Rattle.lil_check_stmt.specs.declared.nodes.Opened.{Opened}
 use Rattle.lil_check_stmt.specs.declared.labels.Labels.{Labels}
@@ -137,11 +136,10 @@ statement_layer (s.While p x ms) e looping = after (condition_means e x) (λ c. 
 statement_layer (s.Repeat p ms x) e looping = after (list_means e looping ms) (λ ss. after (condition_means e x) (λ c. pure (repeated_until ss c)))
 statement_layer (s.Loop p ms) e looping = after (list_means e true ms) (λ ss. pure (Some (rs.Loop ss)))
 statement_layer (s.For p h ms) e looping = after (count_means e h) (λ c. after (list_means e looping ms) (λ ss. pure (counted c ss)))
--- 90 NotBuilt
-statement_layer (s.With p d ms) e looping = not_built p (
+statement_layer (s.With p d ms) e looping =
     after (variable_means e d) (λ a.
     after (record_node e.types p a) (λ r.
-    after (list_means (within r e) looping ms) (λ ss. pure (with_record r ss)))))
+    after (list_means (within r e) looping ms) (λ ss. pure (with_record r ss))))
 statement_layer (s.Exit p) e looping = exit_node p looping
 statement_layer (s.Return p o) e looping = return_means e p o
 

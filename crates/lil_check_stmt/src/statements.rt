@@ -2,7 +2,6 @@ ghost use Rattle.std.specs.Prelude.{◌≡◌, [], ◌∷◌, ◌++◌, slice_ge
 ghost use Rattle.lil_scope.specs.declared.env.Env.{Env};
 ghost use Rattle.lil_report.specs.Told.{Said, walk, after, pure};
 ghost use Rattle.lil_module.specs.declared.tree.RStmt.TheVariants as rs;
-ghost use Rattle.lil_check_value.specs.Unbuilt.{not_built};
 ghost use Rattle.lil_check_value.specs.Values.{means, variable_means};
 ghost use Rattle.lil_check_stmt.specs.Nodes.{assign_node, record_node};
 ghost use Rattle.lil_check_stmt.specs.Counting as heads;
@@ -13,7 +12,7 @@ use crate::labels::{Arms, Labels, labels_of_arm};
 use crate::nodes::{
     Opened, assign, condition, exit, record_of, return_alone, return_value, selector,
 };
-use lil_base::{Boxed, FaultKind, Items, Memory, Place, beside};
+use lil_base::{Boxed, Items, Memory, Place, beside};
 use lil_check_value::{boxed_expression, call, variable};
 use lil_kinds::{Found, result};
 use lil_language::{Arm, Designator, Expr, ForHead, Guard, Stmt};
@@ -325,10 +324,9 @@ fn with(
     at: Place,
     designator: &Designator,
 ) -> Result<Option<RStmt>, Memory>
-    ensures said { IfOk result (λ o. Said (not_built at (after (variable_means env.old designator.now) (λ a. after (record_node env.old.types at a) (λ r. after (spec.statements_mean (spec.within r env.old) looping body.now) (λ ss. pure (spec.with_record r ss)))))) report.old o report.new) }
+    ensures said { IfOk result (λ o. Said (after (variable_means env.old designator.now) (λ a. after (record_node env.old.types at a) (λ r. after (spec.statements_mean (spec.within r env.old) looping body.now) (λ ss. pure (spec.with_record r ss))))) report.old o report.new) }
     ensures same { IfOk result (λ o. env.new ≡ env.old) }
 {
-    report.note(true, at, FaultKind::NotBuilt);
     let found = variable(alloc, env, report, designator)?;
     let opened = record_of(&env.types, report, at, found);
     enter(env, &opened)?;

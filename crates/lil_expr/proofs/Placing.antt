@@ -9,19 +9,20 @@ use Rattle.lil_resolved.specs.declared.shapes.RField.{RField}
 use Rattle.lil_resolved.specs.declared.shapes.RElements.{RElements}
 use Rattle.lil_resolved.specs.Kinds.{Kind, least, numbers}
 use Rattle.lil_resolved.specs.Shapes.{Shape, words, is_there, part_at, offset, shape_by, shape_at, element_of}
-use Rattle.lil_resolved.specs.Resolved.{Designator, Variable, Field, Element, Expression, kind_of, shape_of}
+use Rattle.lil_resolved.specs.Resolved.{Designator, Variable, Held, Field, Element, Expression, kind_of, shape_of}
 use Rattle.lil_resolved.specs.Sound.{IsSoundPlace}
-use Rattle.lil_resolved.specs.Views.{selected, selector_of, place_of, shapes_of}
+use Rattle.lil_resolved.specs.Views.{root_view, selected, selector_of, place_of, shapes_of}
 use Rattle.lil_resolved.specs.Forms.{place_is}
-use Rattle.lil_asm.specs.declared.instr.Instr.TheVariants.{Ixc}
+use Rattle.lil_asm.specs.declared.instr.Instr.TheVariants.{Llw, Ixc}
 use Rattle.lil_table.specs.Rows.{IsAt, InstrsAt, Access, InData, OnTop, Behind, further, offset_in, address_code, test_code}
 use Rattle.lil_labels.specs.Entries.{small_at}
-use Rattle.lil_labels.specs.Tables.{Tables, variable_by, part_by, elements_by}
+use Rattle.lil_labels.specs.declared.buffer.HeldRecord.{HeldRecord}
+use Rattle.lil_labels.specs.Tables.{Tables, variable_by, part_by, elements_by, held_by}
 use Rattle.lil_labels.specs.Drafts.{Draft, Final, Emits, Doing, DoingAll}
 use Rattle.lil_labels.specs.Emitting.{emits_none, emits_then, emits_as, emits_tied}
 use Rattle.lil_expr.specs.Accesses.{words_in}
 use Rattle.lil_expr.specs.Generating.{Value, ReachedAt, Found, Selecting}
-use Rattle.lil_expr.specs.Variables.{standing}
+use Rattle.lil_expr.specs.Variables.{standing, kept}
 use Rattle.lil_expr.proofs.Tables.{whole_there, array_there, row_is, part_within, PartIs, part_is, ElementsAre, elements_are}
 
 -- ---- variables
@@ -29,9 +30,9 @@ there_is : (o : Option Shape) → is_there (shape_by o) ≡ true → (t : Shape)
 there_is None h = absurd (cc)
 there_is (Some t) h = (t, refl, h)
 
-variable_reached : (x : Final) (v : ℕ) (f : RField) (p q : ℕ) → f ≡ variable_by (slice_get x.tables.variables v) → is_there (shape_at x.layout.shapes v) ≡ true → p ≡ q → ReachedAt (Variable v) (InData f.offset) f.shape x p q
+variable_reached : (x : Final) (v : ℕ) (f : RField) (p q : ℕ) → f ≡ variable_by (slice_get x.tables.variables v) → is_there (shape_at x.layout.scope.variables v) ≡ true → p ≡ q → ReachedAt (Variable v) (InData f.offset) f.shape x p q
 variable_reached x v f p q is there stays =
-    let known = there_is (slice_get x.layout.shapes v) there in
+    let known = there_is (slice_get x.layout.scope.variables v) there in
     let s = standing x v known.0 known.1 in
     let same : f ≡ variable_by (Some s.variable) = is ∙ ap variable_by s.there in
     let lies : f.offset ≡ s.variable.offset = ap (λ (f : RField). f.offset) same in
@@ -49,6 +50,33 @@ variable_found v f d is =
     (λ x t sound there. variable_reached x v f _ _ (is ∙ ap (λ (ts : Tables). variable_by (slice_get ts.variables v)) (sym t.1)) there t.0)
     (emits_tied d d _ (emits_none d))
 
+-- ---- the records of WITHs
+held_reached : (x : Final) (w : ℕ) (h : HeldRecord) (p q : ℕ) → h ≡ held_by (slice_get x.tables.held w) → IsSoundPlace x.layout.scope (Held w) → IsAt x.code p (Llw h.word) q → ReachedAt (Held w) OnTop h.shape x p q
+held_reached x w h p q is sound load =
+    let k = kept x w sound.0 sound.1 in
+    let same : h ≡ k.held = is ∙ ap held_by k.there in
+    let number : h.shape ≡ k.held.shape = ap (λ (h : HeldRecord). h.shape) same in
+    let lies : shape_at (shapes_of x.tables.shapes) h.shape ≡ shape_at x.layout.scope.held w = ap (shape_at (shapes_of x.tables.shapes)) number ∙ k.shape ∙ ap shape_by (sym sound.1) in
+    record {
+      place = record {
+        word = k.held.word;
+        shape = sound.0;
+        at = k.word;
+        typed = sound.1;
+        there = sound.2;
+        load = subst (λ (h : HeldRecord). IsAt x.code p (Llw h.word) q) same load;
+      };
+      access = refl;
+      shape = lies;
+      within = omega (arith, ap words lies, small_at x.tables.shapes h.shape x.described.measured);
+    }
+
+pub held_found : (w : ℕ) (h : HeldRecord) (c d : Draft) → h ≡ held_by (slice_get c.tables.held w) → Emits c d (Doing (λ word. Llw h.word)) → Emits c d (Found (Held w) OnTop h.shape)
+held_found w h c d is load =
+    emits_as c d _ (Found (Held w) OnTop h.shape)
+    (λ x t sound there. held_reached x w h _ _ (is ∙ ap (λ (ts : Tables). held_by (slice_get ts.held w)) (sym t.1)) sound t.0)
+    (emits_tied c d _ load)
+
 -- ---- fields
 words_further : (n : ℕ) (a : Access) → words_in (further n a) ≡ words_in a + n
 words_further n (InData o) = refl
@@ -56,9 +84,9 @@ words_further n OnTop = omega arith
 words_further n (Behind o) = refl
 
 field_reached : (x : Final) (d : Designator) (i n : ℕ) (a b : Access) (f : RField) (p q : ℕ) → f ≡ part_by (slice_get x.tables.shapes n) i → (words_in a + f.offset ≤ 65535 → b ≡ further f.offset a)
-    → is_there (part_at (shape_of x.layout.shapes d) (i ∷ [])) ≡ true → ReachedAt d a n x p q → ReachedAt (Field d i) b f.shape x p q
+    → is_there (part_at (shape_of x.layout.scope d) (i ∷ [])) ≡ true → ReachedAt d a n x p q → ReachedAt (Field d i) b f.shape x p q
 field_reached x d i n a b f p q is moved there r =
-    let t = shape_of x.layout.shapes d in
+    let t = shape_of x.layout.scope d in
     let table = shapes_of x.tables.shapes in
     let found = part_is x.tables.shapes n i x.described.measured (ap (λ (t : Shape). is_there (part_at t (i ∷ []))) r.shape ∙ there) in
     let part : PartIs table t i f = subst (λ (t : Shape). PartIs table t i f) r.shape (subst (λ (f : RField). PartIs table (shape_at table n) i f) (sym is) found) in
@@ -77,15 +105,15 @@ field_selected s i n a b f c form is moved =
     emits_as c c _ (Selecting s a n b f.shape)
     (λ x t start d place.
     subst (λ (e : Designator). Found e b f.shape x start (length c.bytes)) (sym (form d))
-    (λ sound there. field_reached x d i n a b f start (length c.bytes) (is ∙ ap (λ (ts : Tables). part_by (slice_get ts.shapes n) i) (sym t.1)) moved there (place sound (whole_there (shape_of x.layout.shapes d) i there))))
+    (λ sound there. field_reached x d i n a b f start (length c.bytes) (is ∙ ap (λ (ts : Tables). part_by (slice_get ts.shapes n) i) (sym t.1)) moved there (place sound (whole_there (shape_of x.layout.scope d) i there))))
     (emits_tied c c _ (emits_none c))
 
 -- ---- elements
 element_reached : (x : Final) (d : Designator) (k j : Kind) (e : Expression) (n w : ℕ) (a : Access) (es : RElements) (p found start middle tested q : ℕ) → es ≡ elements_by (slice_get x.tables.shapes n) → j ≡ kind_of e → w ≡ word_of (least k)
-    → IsSoundPlace x.layout.shapes (Element d k e) → is_there (element_of (shape_of x.layout.shapes d)) ≡ true → ReachedAt d a n x p found → InstrsAt x.code (address_code a) found start → Value e x start middle
+    → IsSoundPlace x.layout.scope (Element d k e) → is_there (element_of (shape_of x.layout.scope d)) ≡ true → ReachedAt d a n x p found → InstrsAt x.code (address_code a) found start → Value e x start middle
     → InstrsAt x.code (test_code k j) middle tested → IsAt x.code tested (Ixc w es.words) q → ReachedAt (Element d k e) OnTop es.shape x p q
 element_reached x d k j e n w a es p found start middle tested q is typed worded sound there r address value test element =
-    let t = shape_of x.layout.shapes d in
+    let t = shape_of x.layout.scope d in
     let table = shapes_of x.tables.shapes in
     let known = elements_are x.tables.shapes n x.described.measured (ap (λ (t : Shape). is_there (element_of t)) r.shape ∙ there) in
     let elements : ElementsAre table t es = subst (λ (t : Shape). ElementsAre table t es) r.shape (subst (λ (es : RElements). ElementsAre table (shape_at table n) es) (sym is) known) in
@@ -116,7 +144,7 @@ element_selected s k j e n w a es c0 c1 c2 c3 c4 form is typed worded address va
     (λ x t start d place.
     subst (λ (q : Designator). Found q OnTop es.shape x start (length c4.bytes)) (sym (form d))
     (λ sound there. element_reached x d k j e n w a es start _ _ _ _ _ (is ∙ ap (λ (ts : Tables). elements_by (slice_get ts.shapes n)) (sym t.1)) typed worded sound there
-    (place sound.2 (array_there (shape_of x.layout.shapes d) there)) t.0.0 t.0.1.0 t.0.1.1.0 t.0.1.1.1))
+    (place sound.2 (array_there (shape_of x.layout.scope d) there)) t.0.0 t.0.1.0 t.0.1.1.0 t.0.1.1.1))
     (emits_tied c0 c4 _ (emits_then c0 c1 c4 _ _ address (emits_then c1 c2 c4 _ _ value (emits_then c2 c3 c4 _ _ test element))))
 
 -- ---- one behind another
@@ -124,19 +152,19 @@ selected_more : (d : Designator) (fs : List (Designator → Designator)) (f : De
 selected_more d [] f = refl
 selected_more d (g ∷ fs) f = selected_more (g d) fs f
 
-pub next_selector : (ss : List RSelector) (i v : ℕ) (s : RSelector) (a b : Access) (n m : ℕ) (c0 c1 c2 : Draft) → i < length ss → s ≡ get_or ss i s → Emits c0 c1 (Found (selected (Variable v) (map selector_of (take i ss))) a n)
-    → Emits c1 c2 (Selecting s a n b m) → Emits c0 c2 (Found (selected (Variable v) (map selector_of (take (i + 1) ss))) b m)
-next_selector ss i v s a b n m c0 c1 c2 inside is so_far next =
-    let d = selected (Variable v) (map selector_of (take i ss)) in
+pub next_selector : (ss : List RSelector) (i : ℕ) (root : Designator) (s : RSelector) (a b : Access) (n m : ℕ) (c0 c1 c2 : Draft) → i < length ss → s ≡ get_or ss i s → Emits c0 c1 (Found (selected root (map selector_of (take i ss))) a n)
+    → Emits c1 c2 (Selecting s a n b m) → Emits c0 c2 (Found (selected root (map selector_of (take (i + 1) ss))) b m)
+next_selector ss i root s a b n m c0 c1 c2 inside is so_far next =
+    let d = selected root (map selector_of (take i ss)) in
     let more : take (i + 1) ss ≡ take i ss ++ s ∷ [] = take_more ss i s inside ∙ ap (λ y. take i ss ++ y ∷ []) (sym is) in
-    let all : selected (Variable v) (map selector_of (take (i + 1) ss)) ≡ selector_of s d =
-    ap (λ (ss : List RSelector). selected (Variable v) (map selector_of ss)) more
-    ∙ (ap (selected (Variable v)) (map-append selector_of (take i ss) (s ∷ [])) ∙ selected_more (Variable v) (map selector_of (take i ss)) (selector_of s)) in
-    emits_as c0 c2 _ (Found (selected (Variable v) (map selector_of (take (i + 1) ss))) b m)
+    let all : selected root (map selector_of (take (i + 1) ss)) ≡ selector_of s d =
+    ap (λ (ss : List RSelector). selected root (map selector_of ss)) more
+    ∙ (ap (selected root) (map-append selector_of (take i ss) (s ∷ [])) ∙ selected_more root (map selector_of (take i ss)) (selector_of s)) in
+    emits_as c0 c2 _ (Found (selected root (map selector_of (take (i + 1) ss))) b m)
     (λ x t. subst (λ (d : Designator). Found d b m x (length c0.bytes) (length c2.bytes)) (sym all) (t.1 (length c0.bytes) d t.0))
     (emits_then c0 c1 c2 _ _ so_far next)
 
-pub all_selectors : (p : RPlace) (ss : List RSelector) (i : ℕ) (a : Access) (n : ℕ) (c0 c1 : Draft) → ss ≡ (out-RPlace p).selectors → length ss ≤ i → Emits c0 c1 (Found (selected (Variable (out-RPlace p).number) (map selector_of (take i ss))) a n)
+pub all_selectors : (p : RPlace) (ss : List RSelector) (i : ℕ) (a : Access) (n : ℕ) (c0 c1 : Draft) → ss ≡ (out-RPlace p).selectors → length ss ≤ i → Emits c0 c1 (Found (selected (root_view (out-RPlace p).root) (map selector_of (take i ss))) a n)
     → Emits c0 c1 (Found (place_of p) a n)
 all_selectors p ss i a n c0 c1 same past =
-    subst (λ (d : Designator). Emits c0 c1 (Found d a n)) (ap (λ (ss : List RSelector). selected (Variable (out-RPlace p).number) (map selector_of ss)) (take_all i ss past ∙ same) ∙ sym (place_is p))
+    subst (λ (d : Designator). Emits c0 c1 (Found d a n)) (ap (λ (ss : List RSelector). selected (root_view (out-RPlace p).root) (map selector_of ss)) (take_all i ss past ∙ same) ∙ sym (place_is p))

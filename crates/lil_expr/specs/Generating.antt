@@ -18,7 +18,7 @@ use Rattle.lil_expr.specs.Accesses.{words_in}
 
 -- a sound expression has its code
 abbrev pub Value : Expression → Meaning
-Value e x p q = IsSoundExpression x.layout.shapes e → ExpressionAt x.layout x.code e p q
+Value e x p q = IsSoundExpression x.layout.scope e → ExpressionAt x.layout x.code e p q
 
 -- a value and its test, where one of a kind is wanted
 pub record TestedAt (k : Kind) (e : Expression) (x : Final) (p q : ℕ) : Type 0 where
@@ -28,7 +28,7 @@ pub record TestedAt (k : Kind) (e : Expression) (x : Final) (p q : ℕ) : Type 0
 
 -- a sound value has its code and its test
 abbrev pub Tested : Kind → Expression → Meaning
-Tested k e x p q = IsSoundExpression x.layout.shapes e → TestedAt k e x p q
+Tested k e x p q = IsSoundExpression x.layout.scope e → TestedAt k e x p q
 
 -- behind the code of any set, it makes it that of the set with the member too, or with all
 abbrev pub Joining : Kind → RMember → Meaning
@@ -48,12 +48,12 @@ OperatingAll os x p q = (start : ℕ) (a : Expression) → Value a x start p →
 pub record ReachedAt (d : Designator) (a : Access) (n : ℕ) (x : Final) (p q : ℕ) : Type 0 where
   pub place : PlaceAt x.layout x.code d p q
   pub access : a ≡ access_of x.layout d
-  pub shape : shape_at (shapes_of x.tables.shapes) n ≡ shape_of x.layout.shapes d
-  pub within : words_in a + words (shape_of x.layout.shapes d) ≤ 32000
+  pub shape : shape_at (shapes_of x.tables.shapes) n ≡ shape_of x.layout.scope d
+  pub within : words_in a + words (shape_of x.layout.scope d) ≤ 32000
 
 -- a sound place where something lies has its code
 abbrev pub Found : Designator → Access → ℕ → Meaning
-Found d a n x p q = IsSoundPlace x.layout.shapes d → is_there (shape_of x.layout.shapes d) ≡ true → ReachedAt d a n x p q
+Found d a n x p q = IsSoundPlace x.layout.scope d → is_there (shape_of x.layout.scope d) ≡ true → ReachedAt d a n x p q
 
 -- behind the code of any place that code has so, it makes it that of the place's part
 abbrev pub Selecting : RSelector → Access → ℕ → Access → ℕ → Meaning

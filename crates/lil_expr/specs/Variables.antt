@@ -1,4 +1,4 @@
--- Where the variables of a final code lie.
+-- Where the variables of a final code lie, and the records of the WITHs around.
 use Rattle.std.proofs.Common.{◌≡◌, ℕ, List, Option, Some, None, refl, sym, ap, ◌∙◌}
 use Rattle.std.specs.Prelude.{slice_get}
 use Rattle.std.specs.Option.{option_map}
@@ -9,7 +9,8 @@ use Rattle.lil_resolved.specs.Shapes.{Shape, Word}
 use Rattle.lil_resolved.specs.Sound.{IsSoundVariable}
 use Rattle.lil_resolved.specs.Views.{offset_of, shape_declared}
 use Rattle.lil_table.specs.Rows.{KnownRow}
-use Rattle.lil_labels.specs.Tables.{variable_by}
+use Rattle.lil_labels.specs.declared.buffer.HeldRecord.{HeldRecord}
+use Rattle.lil_labels.specs.Tables.{variable_by, word_held, shape_held}
 use Rattle.lil_labels.specs.Drafts.{Final}
 
 -- what a mapped item was made of
@@ -24,7 +25,7 @@ pub record Standing (x : Final) (v : ℕ) (t : Shape) : Type 0 where
   pub shape : shape_declared x.tables.shapes variable ≡ t
   pub offset : slice_get x.layout.offsets v ≡ Some variable.offset
 
-pub standing : (x : Final) (v : ℕ) (t : Shape) → slice_get x.layout.shapes v ≡ Some t → Standing x v t
+pub standing : (x : Final) (v : ℕ) (t : Shape) → slice_get x.layout.scope.variables v ≡ Some t → Standing x v t
 standing x v t h =
     let vs = x.tables.variables in
     let of = shape_declared x.tables.shapes in
@@ -36,12 +37,31 @@ standing x v t h =
       offset = ap (λ (os : List ℕ). slice_get os v) x.described.offsets ∙ slice_get-map offset_of vs v ∙ ap (option_map offset_of) found.1;
     }
 
-pub offset_known : (x : Final) (v : ℕ) (t : Shape) → slice_get x.layout.shapes v ≡ Some t → slice_get x.layout.offsets v ≡ Some (variable_by (slice_get x.tables.variables v)).offset
+-- the record of a WITH around that stands in the tables
+pub record Kept (x : Final) (w : ℕ) (t : Shape) : Type 0 where
+  pub held : HeldRecord
+  pub there : slice_get x.tables.held w ≡ Some held
+  pub shape : shape_held x.tables.shapes held ≡ t
+  pub word : slice_get x.layout.held w ≡ Some held.word
+
+pub kept : (x : Final) (w : ℕ) (t : Shape) → slice_get x.layout.scope.held w ≡ Some t → Kept x w t
+kept x w t h =
+    let hs = x.tables.held in
+    let of = shape_held x.tables.shapes in
+    let found = mapped of (slice_get hs w) t (sym (slice_get-map of hs w) ∙ ap (λ (ts : List Shape). slice_get ts w) (sym x.described.held_shapes) ∙ h) in
+    record {
+      held = found.0;
+      there = found.1;
+      shape = found.2;
+      word = ap (λ (ws : List ℕ). slice_get ws w) x.described.held ∙ slice_get-map word_held hs w ∙ ap (option_map word_held) found.1;
+    }
+
+pub offset_known : (x : Final) (v : ℕ) (t : Shape) → slice_get x.layout.scope.variables v ≡ Some t → slice_get x.layout.offsets v ≡ Some (variable_by (slice_get x.tables.variables v)).offset
 offset_known x v t h =
     let s = standing x v t h in
     s.offset ∙ ap (λ (o : Option RDeclared). Some (variable_by o).offset) (sym s.there)
 
-abbrev pub known_row : (x : Final) (v : ℕ) (k : Kind) → IsSoundVariable x.layout.shapes v k → KnownRow x.layout v k
+abbrev pub known_row : (x : Final) (v : ℕ) (k : Kind) → IsSoundVariable x.layout.scope v k → KnownRow x.layout v k
 known_row x v k sound = record {
   offset = (variable_by (slice_get x.tables.variables v)).offset;
   at = offset_known x v (Word k) sound.known;

@@ -11,7 +11,7 @@ ghost use Rattle.lil_expr.specs.Generating.{Found, Selecting, Value, Tested, Joi
 
 use crate::functions::emit_function;
 use crate::numbers::constant_word;
-use crate::places::{Access, Reached, emit_address, emit_load, further};
+use crate::places::{Access, Reached, emit_address, emit_load, emit_root, further};
 use crate::ranges::{emit_test, least_word};
 use lil_asm::Instr;
 use lil_base::Memory;
@@ -50,17 +50,13 @@ pub fn emit_expression(code: &mut CodeBuffer<'_>, e: &RExpr) -> Result<(), Memor
     }
 }
 
-/// Appends the code of a place, and says how code then has it. A variable and a field take none.
+/// Appends the code of a place, and says how code then has it.
 #[cycle(emitting)]
 pub fn emit_place(code: &mut CodeBuffer<'_>, of: &RPlace) -> Result<Reached, Memory>
     ensures { IfOk result (λ at. Emits code.old code.new (Found (place_of of.now) (access_view at.access) at.shape)) }
 {
-    let variable = code.variable(of.number);
     let selectors = of.selectors.as_slice();
-    let mut at = Reached {
-        access: Access::InData(variable.offset),
-        shape: variable.shape,
-    };
+    let mut at = emit_root(code, of.root)?;
     for selector in selectors {
         at = emit_selector(code, selector, at)?;
     }

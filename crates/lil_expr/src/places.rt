@@ -1,14 +1,17 @@
 //! How code has places, and what brings their addresses and their words.
 
-ghost use Rattle.std.specs.Prelude.{◌≡◌, ◌+◌, ◌≤◌, OnOk};
+ghost use Rattle.std.specs.Prelude.{◌≡◌, ◌+◌, ◌≤◌, IfOk, OnOk};
+ghost use Rattle.lil_resolved.specs.Views.{root_view};
 ghost use Rattle.lil_table.specs.Rows as rows;
 ghost use Rattle.lil_table.specs.Rows.{address_code, load_code};
 ghost use Rattle.lil_labels.specs.Drafts.{Doing, DoingAll, Emits};
 ghost use Rattle.lil_expr.specs.Accesses.{access_view, words_in};
+ghost use Rattle.lil_expr.specs.Generating.{Found};
 
 use lil_asm::Instr;
 use lil_base::Memory;
 use lil_labels::CodeBuffer;
+use lil_resolved::RRoot;
 
 /// How code has a place: so many words into the data of the module, by its address on the expression stack, or so many
 /// words behind that address.
@@ -24,6 +27,30 @@ pub enum Access {
 pub struct Reached {
     pub access: Access,
     pub shape: usize,
+}
+
+/// Appends the code of a root, and says how code then has it. A variable takes none, and the record of a WITH the load of
+/// its address.
+pub(crate) fn emit_root(code: &mut CodeBuffer<'_>, root: RRoot) -> Result<Reached, Memory>
+    ensures { IfOk result (λ at. Emits code.old code.new (Found (root_view root) (access_view at.access) at.shape)) }
+{
+    match root {
+        RRoot::Variable(number) => {
+            let variable = code.variable(number);
+            Ok(Reached {
+                access: Access::InData(variable.offset),
+                shape: variable.shape,
+            })
+        }
+        RRoot::Held(number) => {
+            let held = code.held(number);
+            code.put(Instr::Llw(held.word))?;
+            Ok(Reached {
+                access: Access::OnTop,
+                shape: held.shape,
+            })
+        }
+    }
 }
 
 /// How code has the place that lies so many words behind another, where 16 bits say it.

@@ -5,6 +5,7 @@
 mod numbers;
 mod pieces;
 mod service;
+mod strings;
 
 pub use pieces::{Piece, piece};
 pub use service::serve;

@@ -9,7 +9,7 @@ use arrayvec::ArrayVec;
 /// The most columns that a number is filled to.
 const MOST_COLUMNS: usize = 80;
 
-/// What a request shows.
+/// What a request for words alone shows.
 pub type Piece = ArrayVec<u8, MOST_COLUMNS>;
 
 /// The character that ends a line, EOL.
@@ -19,7 +19,7 @@ const END_OF_LINE: u8 = 30;
 const LINE_END: u8 = 10;
 
 /// The byte that shows a word's character.
-fn shown_byte(word: u16) -> u8
+pub(crate) fn shown_byte(word: u16) -> u8
     ensures { result ≡ byte_of (word % 256) }
 {
     let character = (word % 256) as u8;
@@ -54,8 +54,8 @@ fn filled(columns: u16, text: &[u8]) -> Piece
     piece
 }
 
-/// The piece that a request shows, by its number and its first and its second word; a word that it
-/// doesn't take is not read. It is empty where the number is no request's.
+/// The piece that a request for words alone shows, by its number and its first and its second word; a word
+/// that it doesn't take is not read. It is empty for each other number.
 pub fn piece(number: u8, first: u16, second: u16) -> Piece
     ensures { result.items ≡ shown_by number first second }
 {

@@ -1,3 +1,4 @@
 mod Adding
+mod Growing
 pub mod Instructions
 mod Sizes

@@ -1,32 +1,45 @@
 -- Code that is being written with labels. What is said of it holds in each final code that begins with it, whatever words its labels have.
-use Rattle.std.specs.Prelude.{◌≡◌, ℕ, ◌+◌, ◌*◌, ◌/◌, ◌%◌, ◌≤◌, List, [], ◌∷◌, ◌++◌, length, Option, Some, None, slice_get, slice_set}
+use Rattle.std.specs.Prelude.{◌≡◌, ℕ, ◌+◌, ◌*◌, ◌/◌, ◌%◌, ◌≤◌, true, List, [], ◌∷◌, ◌++◌, drop, length, Option, Some, None, slice_get, slice_set}
 use Rattle.lil_asm.specs.declared.instr.Instr.{Instr}
 use Rattle.lil_asm.specs.declared.instr.Instr.TheVariants.{Jmp, Jpf, Jan, Jor, Cas, Fri, Frn}
 use Rattle.lil_asm.specs.Bytes.{Entry, Sayable}
 use Rattle.lil_resolved.specs.declared.resolved.RDeclared.{RDeclared}
 use Rattle.lil_resolved.specs.declared.shapes.RShape.{RShape}
-use Rattle.lil_table.specs.Rows.{Layout, Span, IsAt, InstrsAt}
+use Rattle.lil_resolved.specs.Sound.{is_text}
+use Rattle.lil_table.specs.Rows.{Layout, Span, IsAt, InstrsAt, HasText}
+use Rattle.lil_labels.specs.declared.buffer.HeldRecord.{HeldRecord}
 use Rattle.lil_labels.specs.Tables.{Tables, Describe}
 use Rattle.lil_labels.specs.declared.buffer.Jump.{Jump}
 use Rattle.lil_labels.specs.declared.buffer.Aim.{Aim}
 use Rattle.lil_labels.specs.declared.buffer.Aim.TheVariants as aim
 
--- the tables of the module, the bytes, the place of each label that has one, and the jumps
+-- the tables of the module, the words of the strings, the bytes, the place of each label that has one, and the jumps
 pub record Draft : Type 0 where
   pub tables : Tables
+  pub strings : List ℕ
   pub bytes : List ℕ
   pub places : List (Option ℕ)
   pub jumps : List Jump
 
-abbrev pub empty : List RShape → List RDeclared → Draft
-empty shapes variables = record { tables = record { shapes = shapes; variables = variables }; bytes = []; places = []; jumps = [] }
+abbrev pub empty : List RShape → List RDeclared → ℕ → Draft
+empty shapes variables words = record { tables = record { shapes = shapes; variables = variables; words = words; held = [] }; strings = []; bytes = []; places = []; jumps = [] }
+
+-- inside of a WITH too
+abbrev pub inside : HeldRecord → Draft → Draft
+inside h d = record d { tables = record d.tables { held = h ∷ d.tables.held } }
+
+-- outside of the innermost WITH
+abbrev pub outside : Draft → Draft
+outside d = record d { tables = record d.tables { held = drop 1 d.tables.held } }
 
 -- the jumps lie in so many bytes
 abbrev pub AreInside : ℕ → List Jump → Type 0
 AreInside n [] = Unit {0}
 AreInside n (j ∷ js) = (j.at + 2 ≤ n) × AreInside n js
 
-pub record IsSound (n : ℕ) (places : List (Option ℕ)) (jumps : List Jump) : Type 0 where
+-- the words of the variables and the strings, the bytes, the labels and the jumps go together
+pub record IsSound (words n : ℕ) (places : List (Option ℕ)) (jumps : List Jump) : Type 0 where
+  pub room : words ≤ 32000
   pub inside : AreInside n jumps
   pub behind : (l q : ℕ) → slice_get places l ≡ Some (Some q) → q ≤ n
 
@@ -55,9 +68,11 @@ pub record Final : Type 0 where
   pub word : ℕ → ℕ
   pub code : List ℕ
 
--- the final code begins with this one, of the same module, and its labels have their places
+-- the final code begins with this one, of the same module, its strings begin with these, and its labels have their places
 pub record Fits (d : Draft) (x : Final) : Type 0 where
   pub same : x.tables ≡ d.tables
+  pub more : List ℕ
+  pub strings : x.layout.strings ≡ d.strings ++ more
   pub rest : List ℕ
   pub begins : x.code ≡ code_of d x.word ++ rest
   pub placed : (l q : ℕ) → slice_get d.places l ≡ Some (Some q) → x.word l ≡ x.layout.target q
@@ -76,6 +91,15 @@ pub record Emits (old new : Draft) (T : Meaning) : Type 0 where
 
 abbrev pub Nothing : Meaning
 Nothing x p q = p ≡ q
+
+-- the words of a string: one a character, and a 0 where it has none
+abbrev pub words_of : List ℕ → List ℕ
+words_of [] = 0 ∷ []
+words_of (c ∷ cs) = c ∷ cs
+
+-- no code, and a string that lies from an offset on in the data
+abbrev pub Saying : List ℕ → ℕ → Meaning
+Saying cs offset x p q = (p ≡ q) × (is_text cs ≡ true → HasText x.layout cs offset)
 
 -- an instruction, by the words of labels
 abbrev pub Doing : ((ℕ → ℕ) → Instr) → Meaning
@@ -117,6 +141,7 @@ pub record Makes (old new : Draft) (l : ℕ) : Type 0 where
 -- an open label gets the place of the end
 pub record Places (old new : Draft) (l : ℕ) : Type 0 where
   pub tables : new.tables ≡ old.tables
+  pub strings : new.strings ≡ old.strings
   pub bytes : new.bytes ≡ old.bytes
   pub jumps : new.jumps ≡ old.jumps
   pub places : new.places ≡ slice_set old.places l (Some (length old.bytes))
@@ -142,6 +167,7 @@ settled_word places l = word_in (slice_get places l)
 -- one jump more, over the last two bytes
 pub record Notes (old new : Draft) (l : ℕ) : Type 0 where
   pub tables : new.tables ≡ old.tables
+  pub strings : new.strings ≡ old.strings
   pub bytes : new.bytes ≡ old.bytes
   pub places : new.places ≡ old.places
   pub at : ℕ

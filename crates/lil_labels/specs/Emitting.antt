@@ -1,9 +1,13 @@
 -- How pieces of code that are emitted one behind another make one piece.
-use Rattle.std.proofs.Common.{◌≡◌, ◌≢◌, ℕ, zero, suc, ◌<◌, ◌≤◌, List, [], ◌∷◌, ◌++◌, length, Option, Some, None, refl, sym, ap, ◌∙◌, subst, arith, length-append, Result, Ok, Err, OnOk}
+use Rattle.std.proofs.Common.{◌≡◌, ◌≢◌, ℕ, zero, suc, ◌<◌, ◌≤◌, List, [], ◌∷◌, ◌++◌, drop, length, Option, Some, None, refl, sym, ap, ◌∙◌, subst, arith, length-append, Result, Ok, Err, OnOk}
 use Rattle.std.specs.Prelude.{slice_get, slice_set}
 use Rattle.std.proofs.lemmas.Option.{slice_get_within}
 use Rattle.std.proofs.lemmas.List.{length-set}
-use Rattle.lil_labels.specs.Drafts.{Draft, written, code_of, Final, Fits, Meaning, Emits, Nothing, Marking, Makes, Places}
+use Rattle.lil_resolved.specs.Shapes.{Shape}
+use Rattle.lil_table.specs.Rows.{holding}
+use Rattle.lil_labels.specs.declared.buffer.HeldRecord.{HeldRecord}
+use Rattle.lil_labels.specs.Tables.{Tables, shape_held}
+use Rattle.lil_labels.specs.Drafts.{Draft, inside, outside, written, code_of, Final, Fits, Meaning, Emits, Nothing, Marking, Makes, Places}
 use Rattle.lil_labels.specs.Settling.{written_long}
 
 pub emits_none : (d : Draft) → Emits d d Nothing
@@ -58,6 +62,8 @@ emits_here a b c T l t new put =
     let same : (word : ℕ → ℕ) → code_of c word ≡ code_of b word = λ word. ap (λ (bs : List ℕ). written word bs c.jumps) put.bytes ∙ ap (written word b.bytes) put.jumps in
     let earlier : (x : Final) → Fits c x → Fits b x = λ x fits. record {
       same = fits.same ∙ put.tables;
+      more = fits.more;
+      strings = fits.strings ∙ ap (λ (ws : List ℕ). ws ++ fits.more) put.strings;
       rest = fits.rest;
       begins = fits.begins ∙ ap (λ (code : List ℕ). code ++ fits.rest) (same x.word);
       placed = λ k q h. fits.placed k q (other k (λ (e : k ≡ l). cc (h, e, put.was)) ∙ h);
@@ -84,6 +90,53 @@ emits_fresh a b c T new t = emits_as a c _ T (λ x h. subst (λ (p : ℕ). T x p
 -- a piece behind a label that has its place there
 pub emits_mark : (a b c : Draft) (l : ℕ) (T : Meaning) → Emits a b (Marking l) → Emits b c T → Emits a c (λ x p q. (x.word l ≡ x.layout.target p) × T x p q)
 emits_mark a b c l T mark t = emits_as a c _ _ (λ x h. (h.0.1, subst (λ (p : ℕ). T x p (length c.bytes)) (sym h.0.0) h.1)) (emits_then a b c (Marking l) T mark t)
+
+-- ---- inside of a WITH
+-- the same final code, inside of a WITH too
+abbrev pub inside_of : HeldRecord → Final → Final
+inside_of h x = record {
+  tables = record x.tables { held = h ∷ x.tables.held };
+  layout = holding x.layout (shape_held x.tables.shapes h) h.word;
+  described = record {
+    measured = x.described.measured;
+    shapes = x.described.shapes;
+    offsets = x.described.offsets;
+    within = x.described.within;
+    words = x.described.words;
+    held = ap (λ (ws : List ℕ). h.word ∷ ws) x.described.held;
+    held_shapes = ap (λ (ts : List Shape). shape_held x.tables.shapes h ∷ ts) x.described.held_shapes;
+  };
+  framed = x.framed;
+  word = x.word;
+  code = x.code;
+}
+
+-- a piece that is emitted inside of a WITH means there what it says
+pub emits_inside : (h : HeldRecord) (a b c d : Draft) (T : Meaning) → b ≡ inside h a → Emits b c T → d ≡ outside c → Emits a d (λ x p q. T (inside_of h x) p q)
+emits_inside h a b c d T enter t leave =
+    subst (λ (d : Draft). Emits a d (λ x p q. T (inside_of h x) p q)) (sym leave)
+    (between (subst (λ (b : Draft). Emits b c T) enter t))
+  where
+    between : Emits (inside h a) c T → Emits a (outside c) (λ x p q. T (inside_of h x) p q)
+    between t =
+        let restored : (outside c).tables ≡ a.tables = ap (λ (ts : Tables). record ts { held = drop 1 ts.held }) t.same in
+        let within : (x : Final) → Fits (outside c) x → Fits c (inside_of h x) = λ x fits. record {
+          same = ap (λ (ts : Tables). record ts { held = h ∷ ts.held }) (fits.same ∙ restored) ∙ sym t.same;
+          more = fits.more;
+          strings = fits.strings;
+          rest = fits.rest;
+          begins = fits.begins;
+          placed = fits.placed;
+        } in
+        record {
+          same = restored;
+          keeps = t.keeps;
+          made = t.made;
+          back = λ x fits.
+              let earlier = t.back (inside_of h x) (within x fits) in
+              record { same = fits.same ∙ restored; more = earlier.more; strings = earlier.strings; rest = earlier.rest; begins = earlier.begins; placed = earlier.placed };
+          meant = λ x fits. t.meant (inside_of h x) (within x fits);
+        }
 
 -- what follows from what holds at an Ok
 pub with_ok : {T E P Q : Type 0} (r : Result T E) → (P → Q) → OnOk r P → OnOk r Q

@@ -6,12 +6,12 @@ use Rattle.lil_resolved.specs.declared.shapes.RShape.{RShape}
 use Rattle.lil_resolved.specs.Shapes.{Shape, Absent, words, shape_by, shape_at}
 use Rattle.lil_resolved.specs.Views.{shape_with, shapes_behind, shapes_of, IsMeasuredShape, AreMeasured}
 
-get_front : {A : Type 0} (xs ys : List A) (n : ℕ) → n < length xs → slice_get (xs ++ ys) n ≡ slice_get xs n
+pub get_front : {A : Type 0} (xs ys : List A) (n : ℕ) → n < length xs → slice_get (xs ++ ys) n ≡ slice_get xs n
 get_front [] ys n h = absurd (omega arith)
 get_front (x ∷ xs) ys zero h = refl
 get_front (x ∷ xs) ys (suc n) h = get_front xs ys n (omega arith)
 
-get_last : {A : Type 0} (xs : List A) (a : A) → slice_get (xs ++ a ∷ []) (length xs) ≡ Some a
+pub get_last : {A : Type 0} (xs : List A) (a : A) → slice_get (xs ++ a ∷ []) (length xs) ≡ Some a
 get_last [] a = refl
 get_last (x ∷ xs) a = get_last xs a
 

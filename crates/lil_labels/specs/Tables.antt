@@ -1,17 +1,21 @@
--- The tables of a module: where its variables lie, and what its shapes have.
+-- The tables of a module: where its variables lie, and what its shapes have; and the records of the WITHs around.
 use Rattle.std.specs.Prelude.{◌≡◌, ℕ, ◌+◌, ◌-◌, ◌*◌, ◌≤◌, min, List, [], length, Option, Some, None, map, slice_get, nat_lt, if◌then◌else◌}
 use Rattle.lil_resolved.specs.declared.resolved.RDeclared.{RDeclared}
 use Rattle.lil_resolved.specs.declared.shapes.RField.{RField}
 use Rattle.lil_resolved.specs.declared.shapes.RElements.{RElements}
 use Rattle.lil_resolved.specs.declared.shapes.RShape.{RShape}
 use Rattle.lil_resolved.specs.declared.shapes.RShape.TheVariants as r
-use Rattle.lil_resolved.specs.Shapes.{words}
-use Rattle.lil_resolved.specs.Views.{AreMeasured, offset_of, shape_declared}
+use Rattle.lil_resolved.specs.Shapes.{Shape, words, shape_at}
+use Rattle.lil_resolved.specs.Views.{AreMeasured, offset_of, shape_declared, shapes_of}
 use Rattle.lil_table.specs.Rows.{Layout}
+use Rattle.lil_labels.specs.declared.buffer.HeldRecord.{HeldRecord}
 
+-- the shapes, the variables and how many words they take, and the records of the WITHs around, the innermost first
 pub record Tables : Type 0 where
   pub shapes : List RShape
   pub variables : List RDeclared
+  pub words : ℕ
+  pub held : List HeldRecord
 
 -- where a variable lies, and the number of its shape; zeros where there is none
 abbrev pub variable_by : Option RDeclared → RField
@@ -72,9 +76,23 @@ abbrev pub plain_words_by : Option RShape → ℕ
 plain_words_by None = 0
 plain_words_by (Some t) = plain_words t
 
--- The shapes are measured, the variables are those of a layout, and each lies in 32,000 words.
+-- the word of the frame that has a record's address, and the number of its shape; zeros where there is none
+abbrev pub held_by : Option HeldRecord → HeldRecord
+held_by None = record { word = 0; shape = 0 }
+held_by (Some h) = h
+
+abbrev pub word_held : HeldRecord → ℕ
+word_held h = h.word
+
+abbrev pub shape_held : List RShape → HeldRecord → Shape
+shape_held ts h = shape_at (shapes_of ts) h.shape
+
+-- The shapes are measured, the variables and the records of the WITHs around are those of a layout, and each variable lies in 32,000 words.
 pub record Describe (t : Tables) (l : Layout) : Type 0 where
   pub measured : AreMeasured [] t.shapes
-  pub shapes : l.shapes ≡ map (shape_declared t.shapes) t.variables
+  pub shapes : l.scope.variables ≡ map (shape_declared t.shapes) t.variables
   pub offsets : l.offsets ≡ map offset_of t.variables
   pub within : (x : ℕ) (v : RDeclared) → slice_get t.variables x ≡ Some v → v.offset + words (shape_declared t.shapes v) ≤ 32000
+  pub words : l.words ≡ t.words
+  pub held : l.held ≡ map word_held t.held
+  pub held_shapes : l.scope.held ≡ map (shape_held t.shapes) t.held

@@ -1,18 +1,29 @@
 //! Code whose jumps name labels. The labels become places when the code is settled.
 
-ghost use Rattle.std.specs.Prelude.{◌≡◌, ℕ, ◌≤◌, [], length, slice_get, Some, IfOk, OnOk};
+ghost use Rattle.std.specs.Prelude.{◌≡◌, ℕ, ◌+◌, ◌≤◌, [], length, slice_get, Some, IfOk, OnOk};
 ghost use Rattle.lil_asm.specs.Bytes.{Sayable};
 ghost use Rattle.lil_resolved.specs.Shapes.{words, shape_at};
 ghost use Rattle.lil_resolved.specs.Views.{AreMeasured, shapes_of};
 ghost use Rattle.lil_labels.specs.Tables as tables;
-ghost use Rattle.lil_labels.specs.Tables.{variable_by, part_in, part_by, elements_in, elements_by, last_in, last_by, below, plain_words_by};
-ghost use Rattle.lil_labels.specs.Drafts.{empty, aimed, code_of, settled_word, Emits, Nothing, Doing, AreSayable, DoingAll, Choosing, Marking, Entering, IsOpen, Makes, Places, Notes};
+ghost use Rattle.lil_labels.specs.Tables.{variable_by, part_in, part_by, elements_in, elements_by, last_in, last_by, below, plain_words_by, held_by};
+ghost use Rattle.lil_labels.specs.Drafts.{empty, inside, outside, words_of, aimed, code_of, settled_word, Emits, Nothing, Saying, Doing, AreSayable, DoingAll, Choosing, Marking, Entering, IsOpen, Makes, Places, Notes};
 
 use lil_asm::{Instr, encode, encode_entry};
 use lil_base::{Bytes, Memory};
 use lil_resolved::{RDeclared, RElements, RField, RShape};
 use std::alloc::Global;
+use std::collections::VecDeque;
 use std::marker::Model;
+
+/// How many words a module's variables and strings may have.
+const MOST_WORDS: usize = 32_000;
+
+/// The record of a WITH: the word of the frame that has its address, and the number of its shape.
+#[derive(Clone, Copy)]
+pub struct HeldRecord {
+    pub word: u16,
+    pub shape: usize,
+}
 
 /// Two bytes of the code, from a place on, that are to hold the place of a label.
 #[derive(Clone, Copy)]
@@ -51,6 +62,9 @@ const NOWHERE: RField = RField {
     offset: 0,
     shape: 0,
 };
+
+/// What stands for the record of a WITH that isn't there.
+const NOT_HELD: HeldRecord = HeldRecord { word: 0, shape: 0 };
 
 /// What stands for elements that aren't there.
 const NO_ELEMENTS: RElements = RElements {
@@ -148,38 +162,65 @@ fn words_at(shapes: &[RShape], number: usize) -> u16
     before.saturating_add(plain_words_at(shapes, inner))
 }
 
-/// Code that is being written for a module: the module's shapes and variables, the bytes so far, the place of each label
-/// that has one, and the jumps.
+/// The words of a string: one for each character, and a 0 where it has none.
+fn text_words(alloc: Global, text: &[u8]) -> Result<Vec<u16>, Memory>
+    ensures { IfOk result (λ words. words.items ≡ words_of text.now) }
+{
+    let mut words = Vec::new(alloc);
+    for character in text {
+        words.push(u16::from(*character))?;
+    }
+    if words.is_empty() {
+        words.push(0)?;
+    }
+    Ok(words)
+}
+
+/// Code that is being written for a module: the module's shapes and variables, how many words these take, the words of the
+/// strings so far, the records of the WITHs around, the innermost first, the bytes so far, the place of each label that has
+/// one, and the jumps.
 #[derive(Drop)]
 pub struct CodeBuffer<'m> {
     alloc: Global,
     shapes: &'m [RShape],
     variables: &'m [RDeclared],
+    words: u16,
+    strings: Vec<u16>,
+    held: VecDeque<HeldRecord>,
     bytes: Bytes,
     places: Vec<Option<u32>>,
     jumps: Vec<Jump>,
 }
 
 impl<'m> Model for CodeBuffer<'m> {
-    ghost use Rattle.std.specs.Prelude.{length};
+    ghost use Rattle.std.specs.Prelude.{◌+◌, length};
     ghost use Rattle.lil_labels.specs.Drafts.{Draft, IsSound};
 
     ghost Value = { Draft };
 
-    ghost view = { λ c. record { tables = record { shapes = c.shapes.now; variables = c.variables.now }; bytes = c.bytes; places = c.places.items; jumps = c.jumps.items } };
+    ghost view = { λ c. record { tables = record { shapes = c.shapes.now; variables = c.variables.now; words = c.words; held = c.held.items }; strings = c.strings.items; bytes = c.bytes; places = c.places.items; jumps = c.jumps.items } };
 
-    ghost invariant = { λ c. IsSound (length c.bytes) c.places.items c.jumps.items };
+    ghost invariant = { λ c. IsSound (c.words + length c.strings.items) (length c.bytes) c.places.items c.jumps.items };
 }
 
 impl<'m> CodeBuffer<'m> {
-    /// No code of a module with these shapes and variables.
-    pub fn new(alloc: Global, shapes: &'m [RShape], variables: &'m [RDeclared]) -> CodeBuffer<'m>
-        ensures { result ≡ empty shapes.now variables.now }
+    /// No code of a module with these shapes and variables, which take so many words.
+    pub fn new(
+        alloc: Global,
+        shapes: &'m [RShape],
+        variables: &'m [RDeclared],
+        words: u16,
+    ) -> CodeBuffer<'m>
+        requires { words ≤ 32000 }
+        ensures { result ≡ empty shapes.now variables.now words }
     {
         CodeBuffer {
             alloc,
             shapes,
             variables,
+            words,
+            strings: Vec::new(alloc),
+            held: VecDeque::new(alloc),
             bytes: Bytes::new(alloc),
             places: Vec::new(alloc),
             jumps: Vec::new(alloc),
@@ -225,6 +266,54 @@ impl<'m> CodeBuffer<'m> {
         ensures { AreMeasured [] self.now.tables.shapes → result ≡ words (shape_at (shapes_of self.now.tables.shapes) shape) }
     {
         words_at(self.shapes, shape)
+    }
+
+    /// Enters a WITH, whose record's address is in this word of the frame, with the number of the record's shape.
+    pub fn hold(&mut self, word: u16, shape: usize) -> Result<(), Memory>
+        ensures { OnOk result (self.new ≡ inside (record { word = word; shape = shape }) self.old) }
+    {
+        self.held.push_front(HeldRecord { word, shape })?;
+        Ok(())
+    }
+
+    /// Leaves the innermost WITH.
+    pub fn release(&mut self)
+        ensures { self.new ≡ outside self.old }
+    {
+        self.held.pop_front();
+    }
+
+    /// The record of a WITH around, of which the innermost is 0; zeros where there is none.
+    pub fn held(&self, number: usize) -> HeldRecord
+        ensures { result ≡ held_by (slice_get self.now.tables.held number) }
+    {
+        match self.held.get(number) {
+            Some(held) => *held,
+            None => NOT_HELD,
+        }
+    }
+
+    /// One string more, and its offset in the module's data, in words: it lies behind the variables and the strings before.
+    pub fn string(&mut self, text: &[u8]) -> Result<u16, Memory>
+        ensures short { IfOk result (λ offset. length text.now ≤ 32000) }
+        ensures says { IfOk result (λ offset. Emits self.old self.new (Saying text.now offset)) }
+    {
+        let words = text_words(self.alloc, text)?;
+        let offset = usize::from(self.words) + self.strings.len();
+        // the data of a module that was checked are fewer words
+        if MOST_WORDS - offset < words.len() {
+            return Err(Memory);
+        }
+        self.strings.extend_from_slice(words.as_slice())?;
+        Ok(offset as u16)
+    }
+
+    /// The words of the strings, one behind another. With those of the variables they are at most 32,000.
+    pub fn strings(&self, alloc: Global) -> Result<Vec<u16>, Memory>
+        ensures is { IfOk result (λ strings. strings.items ≡ self.now.strings) }
+        ensures few { IfOk result (λ strings. self.now.tables.words + length strings.items ≤ 32000) }
+    {
+        Ok(Vec::from_slice(alloc, self.strings.as_slice())?)
     }
 
     /// Where its memory comes from.

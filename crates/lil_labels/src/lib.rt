@@ -3,4 +3,4 @@
 
 mod buffer;
 
-pub use buffer::{Aim, CodeBuffer};
+pub use buffer::{Aim, CodeBuffer, HeldRecord};

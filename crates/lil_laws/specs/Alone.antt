@@ -1,12 +1,12 @@
 -- From a program module that is loaded alone.
-use Rattle.std.proofs.Common.{◌≡◌, ℕ, zero, suc, ◌+◌, ◌*◌, ◌<◌, ◌≤◌, true, Option, Some, None, List, [], ◌∷◌, refl, sym, ap, ◌∙◌, arith}
+use Rattle.std.proofs.Common.{◌≡◌, ℕ, zero, suc, ◌+◌, ◌*◌, ◌<◌, ◌≤◌, true, Option, Some, None, List, [], ◌∷◌, length, refl, sym, ap, ◌∙◌, arith}
 use Rattle.std.specs.Prelude.{nat_le, slice_get}
 use Rattle.std.proofs.lemmas.Bool.{le-leb}
 use Rattle.std.proofs.lemmas.Option.{none-some, same_Some}
 use Rattle.lil_base.specs.declared.fault.TrapKind.{TrapKind}
 use Rattle.lil_resolved.specs.Shapes.{all_words}
-use Rattle.lil_resolved.specs.Resolved.{Statement, Assign, If, Case, While, Repeat, Loop, For, Statements, Empty, Then, Arms, NoElse, Else, Arm, Resolved}
-use Rattle.lil_resolved.specs.Depth.{statement_loops, body_loops, arms_loops, frame_words}
+use Rattle.lil_resolved.specs.Resolved.{Statement, Assign, If, Case, While, Repeat, Loop, For, Inside, Statements, Empty, Then, Arms, NoElse, Else, Arm, Resolved}
+use Rattle.lil_resolved.specs.Depth.{statement_words, body_words, arms_words, frame_words}
 use Rattle.lil_resolved.specs.Sizes.{IsSmall, statement_size, body_size, arms_size}
 use Rattle.lil_meaning.specs.World.{World}
 use Rattle.lil_meaning.specs.Items.{Phase, Trapped}
@@ -20,9 +20,9 @@ use Rattle.lil_laws.specs.Whole.{TrapsIn, Unlimited, Agrees}
 use Rattle.lil_laws.specs.Start as all
 use Rattle.lil_laws.specs.Start.{Body}
 
--- the words of the FORs are fewer than the bytes of the code
+-- the words of the FORs and WITHs are fewer than the bytes of the code
 mutual
-  statement_small : (s : Statement) → 3 * statement_loops s ≤ statement_size s
+  statement_small : (s : Statement) → statement_words s ≤ statement_size s
   statement_small (Assign d k e) = omega arith
   statement_small (If c a b) = omega (arith, body_small a, body_small b)
   statement_small (Case e arms) = omega (arith, arms_small arms)
@@ -30,20 +30,21 @@ mutual
   statement_small (Repeat body c) = omega (arith, body_small body)
   statement_small (Loop body) = omega (arith, body_small body)
   statement_small (For d k a b step body) = omega (arith, body_small body)
+  statement_small (Inside d body) = omega (arith, body_small body)
   statement_small _ = omega arith
 
-  body_small : (b : Statements) → 3 * body_loops b ≤ body_size b
+  body_small : (b : Statements) → body_words b ≤ body_size b
   body_small Empty = omega arith
   body_small (Then s ss) = omega (arith, statement_small s, body_small ss)
 
-  arms_small : (a : Arms) → 3 * arms_loops a ≤ arms_size a
+  arms_small : (a : Arms) → arms_words a ≤ arms_size a
   arms_small NoElse = omega arith
   arms_small (Else body) = omega (arith, body_small body)
   arms_small (Arm labels body rest) = omega (arith, body_small body, arms_small rest)
 
-module _ (p : Resolved) (code : List ℕ) (small : IsSmall p) (t : Translates p code) where
+module _ (p : Resolved) (strings code : List ℕ) (small : IsSmall p strings) (t : Translates p strings code) where
   abbrev one : Compiled
-  one = record { text = p; code = code; procedures = body_alone; body = refl; translates = t }
+  one = record { text = p; strings = strings; code = code; procedures = body_alone; body = refl; translates = t }
 
   abbrev its_body : Body (one ∷ [])
   its_body = record { index = 0; its = one; there = refl }
@@ -54,13 +55,13 @@ module _ (p : Resolved) (code : List ℕ) (small : IsSmall p) (t : Translates p 
   abbrev pub begins : State
   begins = image (one ∷ []) 1 []
 
-  room : 1 + all_words p.variables + frame_words p.body ≤ 65535
-  room = omega (arith, body_small p.body, small.code, small.variables)
+  room : 1 + (all_words p.variables + length strings) + frame_words p.body ≤ 65535
+  room = omega (arith, body_small p.body, small.code, small.words)
 
   -- what was loaded
-  pub loaded_state : (loaded p code).state ≡ begins
+  pub loaded_state : (loaded p strings code).state ≡ begins
   loaded_state =
-      let room : nat_le (1 + all_words p.variables + 4) 65535 ≡ true = le-leb (1 + all_words p.variables + 4) 65535 (omega (arith, small.variables)) in
+      let room : nat_le (1 + (all_words p.variables + length strings) + 4) 65535 ≡ true = le-leb (1 + (all_words p.variables + length strings) + 4) 65535 (omega (arith, small.words)) in
       yes _ _ _ room
 
   pub record Correct (w : World) (steps : ℕ) : Type 0 where

@@ -3,9 +3,9 @@ use Rattle.std.proofs.Common.{◌≡◌, ℕ, ◌+◌, true, List, [], ◌∷◌
 use Rattle.std.specs.Prelude.{ℤ}
 use Rattle.lil_resolved.specs.Kinds.{Kind}
 use Rattle.lil_resolved.specs.Scalars.{Scalar, within}
-use Rattle.lil_resolved.specs.Resolved.{Designator, Variable, Field, Element, Expression, Constant, Taken, One, Two, Short, Apply, With, WithSpan, Assign, Copy, Change, Member, Request, If, Case, While, Repeat, Loop, Exit, Halt, Return, For, Statements}
+use Rattle.lil_resolved.specs.Resolved.{Designator, Variable, Held, Field, Element, Expression, Constant, Taken, One, Two, Short, Apply, With, WithSpan, Assign, Copy, Text, Inside, Change, Member, Request, If, Case, While, Repeat, Loop, Exit, Halt, Return, For, Statements}
 use Rattle.lil_meaning.specs.Cells.{Place}
-use Rattle.lil_meaning.specs.Items.{Scalars, Places, Wholes, Opens, Hole, Get, Part, IndexBy, IndexAt, SetTo, StoreAt, CopyTo, CopyFrom, ChangeBy, ChangeAt, OneOf, LeftOf, RightOf, ShortOf, ApplyTo, WithMember, MemberOf, WithMembers, MembersFrom, MembersTo, MemberBy, MemberAt, Pass, Choose, Turn, Again, Pick, StartOf, LimitOf, Task, Do, Passing, Until, Looping, Turns, End, Item, Value, Evaluate, PlaceOf, Fill, Perform, Source}
+use Rattle.lil_meaning.specs.Items.{Scalars, Places, Wholes, Opens, Texts, Hole, Get, Part, IndexBy, IndexAt, SetTo, StoreAt, CopyTo, CopyFrom, TextTo, ChangeBy, ChangeAt, OneOf, LeftOf, RightOf, ShortOf, ApplyTo, WithMember, MemberOf, WithMembers, MembersFrom, MembersTo, MemberBy, MemberAt, Pass, PassArray, Choose, Turn, Again, Pick, Hold, StartOf, LimitOf, Task, Do, Passing, Until, Looping, Turns, Holding, End, Item, Value, Evaluate, PlaceOf, Fill, Perform, Source}
 use Rattle.lil_resolved.specs.Shapes.{Shape}
 use Rattle.lil_mcode.specs.State.{State}
 use Rattle.lil_mcode.specs.Table.{going}
@@ -14,10 +14,13 @@ use Rattle.lil_match.specs.Homes.{word_for}
 use Rattle.lil_match.specs.Goes.{Shared, Goes}
 use Rattle.lil_match.specs.Waits.{Setting, frame_of, Mode, Quiet, ValueOf, AtPlace, Around, Reach, AfterJumps, BeginWaits, NextWaits, ItemWaits, RowsOf, Rows, Ahead, HasPlace, Waiting}
 use Rattle.lil_match.specs.Steps.{jumped}
-use Rattle.lil_laws_place.specs.Elements.{variable_goes, field_goes, element_goes, part_goes, index_by_goes, index_at_goes}
+use Rattle.lil_laws_place.specs.Elements.{variable_goes, held_goes, field_goes, element_goes, part_goes, index_by_goes, index_at_goes}
 use Rattle.lil_laws_expr.specs.Expressions.{constant_goes, taken_goes, one_goes, two_goes, short_begins, apply_goes, get_goes, one_of_goes, left_goes, right_goes, short_of_goes, apply_of_goes}
 use Rattle.lil_laws_expr.specs.Sets.{with_goes, with_span_goes, with_member_goes, member_of_goes, with_members_goes, members_from_goes, members_to_goes}
-use Rattle.lil_laws_stmt.specs.Tasks.{copy_goes, copy_to_goes, copy_from_goes, assign_goes, set_goes, store_goes, request_goes, passing_goes, pass_goes, serve_goes}
+use Rattle.lil_laws_stmt.specs.Tasks.{copy_goes, copy_to_goes, copy_from_goes, assign_goes, set_goes, store_goes}
+use Rattle.lil_laws_stmt.specs.Requests.{request_goes, passing_goes, pass_goes, pass_array_goes, serve_goes}
+use Rattle.lil_laws_stmt.specs.Strings.{text_goes, text_to_goes}
+use Rattle.lil_laws_stmt.specs.Withs.{inside_goes, hold_goes, holding_goes}
 use Rattle.lil_laws_stmt.specs.Control.{if_goes, choose_goes, while_goes, turn_goes, repeat_goes, until_goes, again_goes, loop_goes, looping_goes}
 use Rattle.lil_laws_stmt.specs.Changes.{change_goes, change_by_goes, change_at_goes}
 use Rattle.lil_laws_stmt.specs.Exits.{exit_goes}
@@ -73,12 +76,16 @@ module _ (ctx : Setting) where
     place_step place (SetTo j e) b t below has r = set_goes ctx s k m c a shared j e place b t below has r
     place_step place (CopyTo from) b t below has r = copy_to_goes ctx s k m c a shared from place b t below has r
     place_step place (CopyFrom to) b t below has r = copy_from_goes ctx s k m c a shared to place b t below has r
+    place_step place (TextTo cs) b t below has r = text_to_goes ctx s k m c a shared cs place b t below has r
+    place_step place (PassArray q high done left) b t below has r = pass_array_goes ctx s k m c a shared q high done left place b t below has r
+    place_step place (Hold body) b t below has r = hold_goes ctx s k m c a shared body place b t below has r
     place_step place (MemberBy out j e) b t below has r = member_by_goes ctx s k m c a shared out j e place b t below has r
     place_step place (ChangeBy down j e) b t below has r = change_by_goes ctx s k m c a shared down j e place b t below has r
     place_step place o b t below has r = absurd r.part
 
     designator_step : (d : Designator) → Waiting ctx (PlaceOf d) (Rows ctx k) Quiet m.place m.stack c a → Goes ctx s (PlaceOf d ∷ k) m (c + 32)
     designator_step (Variable x) r = variable_goes ctx s k m c a shared x r
+    designator_step (Held w) r = held_goes ctx s k m c a shared w r
     designator_step (Field d i) r = field_goes ctx s k m c a shared d i r
     designator_step (Element d kind e) r = element_goes ctx s k m c a shared d kind e r
 
@@ -95,6 +102,8 @@ module _ (ctx : Setting) where
     task_step : (t : Task) → ItemWaits ctx (Perform t) k (RowsOf k) Quiet m.place m.stack c a → Goes ctx s (Perform t ∷ k) m (c + 32)
     task_step (Do (Assign d kind e)) r = assign_goes ctx s k m c a shared d kind e r
     task_step (Do (Copy d from)) r = copy_goes ctx s k m c a shared d from r
+    task_step (Do (Text d cs)) r = text_goes ctx s k m c a shared d cs r
+    task_step (Do (Inside d body)) r = inside_goes ctx s k m c a shared d body r
     task_step (Do (Change down d kind e)) r = change_goes ctx s k m c a shared down d kind e r
     task_step (Do (Member out d kind e)) r = member_goes ctx s k m c a shared out d kind e r
     task_step (Do (Request q given)) r = request_goes ctx s k m c a shared q given r
@@ -113,6 +122,7 @@ module _ (ctx : Setting) where
     task_step (Looping body) r = looping_goes ctx s k m c a shared body r
     task_step (Turns x kind z step left body) r =
         ⊎_elim (λ r. begin_goes ctx s k m c a shared x kind z step left body r) (λ r. next_goes ctx s k m c a shared x kind z step left body r) r
+    task_step (Holding place) r = holding_goes ctx s k m c a shared place r
     task_step (End n) r = end_goes ctx s k m c a shared n r
 
   -- an item into which no value comes
@@ -123,6 +133,7 @@ module _ (ctx : Setting) where
   no_task : (t : Task) (k : List Item) (mode : Mode) (p : ℕ) (stack : List ℕ) (c : ℕ) (a : Around) → (mode ≡ Quiet → ⊥) → ItemWaits ctx (Perform t) k (RowsOf k) mode p stack c a → ⊥
   no_task (Turns x kind z step left body) k mode p stack c a apart r = no_turns x kind z step left body (Rows ctx k) mode p stack c a apart r
   no_task (Looping body) k mode p stack c a apart r = apart r.quiet
+  no_task (Holding place) k mode p stack c a apart r = apart r.quiet
   no_task (End n) k mode p stack c a apart r = apart r.quiet
   no_task t k Quiet p stack c a apart r = apart refl
   no_task t k mode p stack c a apart r = r.part
@@ -156,6 +167,7 @@ module _ (ctx : Setting) where
   item_step s m c a shared (Value (Places p)) (i ∷ k) r = place_row s m c a shared p i k r
   item_step s m c a shared (Value (Wholes u)) k r = absurd r.part
   item_step s m c a shared (Value (Opens p n)) k r = absurd r.part
+  item_step s m c a shared (Value (Texts cs)) k r = absurd r.part
   item_step s m c a shared (Evaluate e) k r = expression_step s k m c a shared e r
   item_step s m c a shared (PlaceOf d) k r = designator_step s k m c a shared d r
   item_step s m c a shared (Fill o) k r = absurd r.part

@@ -1,24 +1,25 @@
 -- The machine after modules were loaded: their data from word 1 one behind another, and the first body begun.
-use Rattle.std.specs.Prelude.{◌≡◌, true, ℕ, suc, ◌+◌, List, [], ◌∷◌, Option, None, Some, slice_get}
+use Rattle.std.specs.Prelude.{◌≡◌, true, ℕ, suc, ◌+◌, List, [], ◌∷◌, length, Option, None, Some, slice_get}
 use Rattle.lil_resolved.specs.Shapes.{all_words}
 use Rattle.lil_resolved.specs.Resolved.{Resolved}
 use Rattle.lil_mcode.specs.State.{Module, State, spliced, zeros, cleared}
-use Rattle.lil_mcode.specs.Calls.{Machine, fresh, with_level, with_module, with_bodies}
+use Rattle.lil_mcode.specs.Calls.{Machine, fresh, with_level, with_module, with_words, with_bodies}
 use Rattle.lil_table.specs.Rows.{Translates}
 
--- A text with its code and the table of its procedures, of which the body is the first and stands at the beginning.
+-- A text with the words of its strings, its code and the table of its procedures, of which the body is the first and stands at the beginning.
 pub record Compiled : Type 0 where
   pub text : Resolved
+  pub strings : List ℕ
   pub code : List ℕ
   pub procedures : List (ℕ × Option (List ℕ))
   pub body : slice_get procedures 0 ≡ Some (0, None)
-  pub translates : Translates text code
+  pub translates : Translates text strings code
 
 abbrev pub text_of : Compiled → Resolved
 text_of o = o.text
 
 abbrev pub data_of : Compiled → ℕ
-data_of o = all_words o.text.variables
+data_of o = all_words o.text.variables + length o.strings
 
 -- the place behind the data of modules, which begin at a place
 abbrev pub data_end : ℕ → List Compiled → ℕ
@@ -38,10 +39,13 @@ abbrev pub numbers_from : ℕ → List Compiled → List ℕ
 numbers_from n [] = []
 numbers_from n (o ∷ os) = n ∷ numbers_from (suc n) os
 
--- their data are zero
-abbrev pub data_cleared : List ℕ → ℕ → List Compiled → List ℕ
-data_cleared store base [] = store
-data_cleared store base (o ∷ os) = data_cleared (cleared store base (base + data_of o)) (base + data_of o) os
+-- the data of one, from a place on: its variables are zero, and its strings stand behind them
+abbrev pub one_placed : List ℕ → ℕ → Compiled → List ℕ
+one_placed store base o = spliced (cleared store base (base + data_of o)) (base + all_words o.text.variables) o.strings
+
+abbrev pub data_placed : List ℕ → ℕ → List Compiled → List ℕ
+data_placed store base [] = store
+data_placed store base (o ∷ os) = data_placed (one_placed store base o) (base + data_of o) os
 
 -- the machine, where the body of the module with this number is the first of those that run
 abbrev pub image : List Compiled → (first : ℕ) (rest : List ℕ) → State
@@ -50,7 +54,7 @@ image os first rest = record {
   running = first;
   place = 0;
   stack = [];
-  store = spliced (data_cleared (zeros 65536) 1 os) (data_end 1 os) (0 ∷ 0 ∷ 0 ∷ first ∷ []);
+  store = spliced (data_placed (zeros 65536) 1 os) (data_end 1 os) (0 ∷ 0 ∷ 0 ∷ first ∷ []);
   frame = data_end 1 os;
   top = data_end 1 os + 4;
   base = data_end 1 os;
@@ -67,5 +71,6 @@ image os first rest = record {
 abbrev pub body_alone : List (ℕ × Option (List ℕ))
 body_alone = (0, None) ∷ []
 
-abbrev pub loaded : Resolved → List ℕ → Machine
-loaded p code = with_bodies (with_module (with_level fresh) p.name body_alone code (all_words p.variables)) (1 ∷ [])
+abbrev pub loaded : Resolved → (strings code : List ℕ) → Machine
+loaded p strings code =
+    with_bodies (with_words (with_module (with_level fresh) p.name body_alone code (all_words p.variables + length strings)) (1 + all_words p.variables) strings) (1 ∷ [])

@@ -1,4 +1,4 @@
--- Where the variables of loaded modules lie, and that their fresh cells are there.
+-- Where the variables and the strings of loaded modules lie, and that their fresh cells are there.
 use Rattle.std.proofs.Common.{◌≡◌, ℕ, zero, suc, ◌+◌, ◌-◌, ◌<◌, ◌≤◌, true, cond, Option, Some, None, List, [], ◌∷◌, length, map, get_or, refl, sym, ap, ◌∙◌, subst, arith, ◌⊎◌, ⊎_elim}
 use Rattle.std.specs.Prelude.{pos, slice_get, nat_lt, option_map, option_and_then}
 use Rattle.std.proofs.lemmas.Bool.{le-ltb, lt-ltb, cases_lt, eqb-true}
@@ -15,9 +15,9 @@ use Rattle.lil_resolved.specs.Resolved.{Resolved}
 use Rattle.lil_meaning.specs.Cells.{Root, Global, Local, Object, loaded_at, variables_of, first_shape, zero_in, fresh_cells}
 use Rattle.lil_mcode.specs.State.{zeros, cleared}
 use Rattle.lil_match.specs.Parts.{yes, no, part_fits, word_long}
-use Rattle.lil_match.specs.Homes.{word_for, plain_word, Owner, Of, Own, Free, Home, Mem}
+use Rattle.lil_match.specs.Homes.{word_for, plain_word, Owner, Of, Own, Fixed, Free, Home, Mem}
 use Rattle.lil_match.specs.Splices.{spliced_length, spliced_before, spliced_there, spliced_after, zeros_length, zeros_word}
-use Rattle.lil_laws.specs.Loading.{Compiled, text_of, data_of, data_end, entry_for, table_from, numbers_from, data_cleared}
+use Rattle.lil_laws.specs.Loading.{Compiled, text_of, data_of, data_end, entry_for, table_from, numbers_from, one_placed, data_placed}
 
 -- the first word of a module's data
 abbrev pub place_from : ℕ → List Compiled → ℕ → ℕ
@@ -47,9 +47,10 @@ abbrev root_at : ℕ → List Compiled → (m a : ℕ) → Option Root
 root_at base [] m a = None
 root_at base (o ∷ os) m a = cond (nat_lt a (base + data_of o)) (variable_at base o.text.variables m 0 a) (root_at (base + data_of o) os (suc m) a)
 
-abbrev owner_by : ℕ → Option Root → Owner
-owner_by base None = Free base
-owner_by base (Some r) = Of r
+-- a word of the data that is no variable's is a string's
+abbrev owner_by : Option Root → Owner
+owner_by None = Fixed
+owner_by (Some r) = Of r
 
 -- ---- what is loaded
 pub number_at : (n : ℕ) (os : List Compiled) (i : ℕ) → slice_get (numbers_from n os) i ≡ option_map (λ o. n + i) (slice_get os i)
@@ -110,7 +111,7 @@ end_above base (o ∷ os) = omega (arith, end_above (base + data_of o) os)
 
 module_low : (os : List Compiled) (base n : ℕ) → place_from base os n + all_words (variables_in (slice_get os n)) ≤ data_end base os
 module_low [] base n = omega arith
-module_low (o ∷ os) base zero = end_above (base + data_of o) os
+module_low (o ∷ os) base zero = omega (arith, end_above (base + data_of o) os)
 module_low (o ∷ os) base (suc n) = module_low os (base + data_of o) n
 
 root_owned : (base : ℕ) (os : List Compiled) (m n x i : ℕ) (o : Compiled) → slice_get os n ≡ Some o → i < words (shape_at o.text.variables x)
@@ -131,40 +132,108 @@ root_owned base (p ∷ os) m (suc n) x i o e less =
       record { from = omega (arith, rest.1.from); below = rest.1.below },
     )
 
--- ---- words that are zero
-pub record IsBlank (store : List ℕ) : Type 0 where
-  pub long : length store ≡ 65536
-  pub zero_at : (a : ℕ) → a < 65536 → get_or store a 0 ≡ 0
+-- ---- the words of strings are no variable's
+no_variable : (base : ℕ) (ts : List Shape) (m y a : ℕ) → base + all_words ts ≤ a → variable_at base ts m y a ≡ None
+no_variable base [] m y a above = refl
+no_variable base (t ∷ ts) m y a above = no _ _ _ (le-ltb a (base + words t) (omega (arith, above))) ∙ no_variable (base + words t) ts m (suc y) a (omega (arith, above))
 
-cleared_blank : (store : List ℕ) (from to : ℕ) → from ≤ to → to ≤ 65536 → IsBlank store → IsBlank (cleared store from to)
-cleared_blank store from to order within' blank = record {
-  long = spliced_length store from (zeros (to - from)) (omega (arith, room)) ∙ blank.long;
-  zero_at = λ a less. by a less (cases_lt a from) (cases_lt a to);
-}
-  where
-    room : from + length (zeros (to - from)) ≤ length store
-    room = omega (arith, zeros_length (to - from), order, within', blank.long)
+string_rootless : (base : ℕ) (os : List Compiled) (m n i : ℕ) (o : Compiled) → slice_get os n ≡ Some o → i < length o.strings
+    → (root_at base os m (place_from base os n + (all_words o.text.variables + i)) ≡ None) × IsIn base (data_end base os) (place_from base os n + (all_words o.text.variables + i))
+string_rootless base [] m n i o e less = cc
+string_rootless base (p ∷ os) m zero i o e less =
+    let same : p ≡ o = cc in
+    let here : i < length p.strings = subst (λ (q : Compiled). i < length q.strings) (sym same) less in
+    let above = end_above (base + data_of p) os in
+    subst (λ (q : Compiled). (root_at base (p ∷ os) m (base + (all_words q.text.variables + i)) ≡ None) × IsIn base (data_end base (p ∷ os)) (base + (all_words q.text.variables + i))) same (
+      yes _ _ _ (lt-ltb (base + (all_words p.text.variables + i)) (base + data_of p) (omega (arith, here)))
+          ∙ no_variable base p.text.variables m 0 (base + (all_words p.text.variables + i)) (omega arith),
+      record { from = omega arith; below = omega (arith, here, above) },
+    )
+string_rootless base (p ∷ os) m (suc n) i o e less =
+    let rest = string_rootless (base + data_of p) os (suc m) n i o e less in (
+      no _ _ _ (le-ltb (place_from (base + data_of p) os n + (all_words o.text.variables + i)) (base + data_of p) (omega (arith, rest.1.from))) ∙ rest.0,
+      record { from = omega (arith, rest.1.from); below = rest.1.below },
+    )
 
-    by : (a : ℕ) → a < 65536 → (a < from) ⊎ (from ≤ a) → (a < to) ⊎ (to ≤ a) → get_or (cleared store from to) a 0 ≡ 0
-    by a less below here = ⊎_elim
-        (λ (b : a < from). spliced_before store from (zeros (to - from)) a room b ∙ blank.zero_at a less)
-        (λ (f : from ≤ a). ⊎_elim
-        (λ (b : a < to).
-        ap (λ (z : ℕ). get_or (cleared store from to) z 0) (let e : a ≡ from + (a - from) = omega (arith, f) in e)
-        ∙ spliced_there store from (zeros (to - from)) (a - from) room (omega (arith, zeros_length (to - from), f, b))
-        ∙ zeros_word (to - from) (a - from) (omega (arith, f, b)))
-        (λ (b : to ≤ a). spliced_after store from (zeros (to - from)) a room (omega (arith, zeros_length (to - from), order, b)) ∙ blank.zero_at a less)
-        here)
-        below
+-- ---- what a store has of data: zeros for the variables of each module, and the words of its strings
+pub record HasData (base : ℕ) (os : List Compiled) (store : List ℕ) : Type 0 where
+  pub zero_at : (n : ℕ) (o : Compiled) → slice_get os n ≡ Some o → (i : ℕ) → i < all_words o.text.variables → get_or store (place_from base os n + i) 0 ≡ 0
+  pub strings_at : (n : ℕ) (o : Compiled) → slice_get os n ≡ Some o → (i : ℕ) → i < length o.strings
+      → get_or store (place_from base os n + (all_words o.text.variables + i)) 0 ≡ get_or o.strings i 0
 
-pub data_blank : (store : List ℕ) (base : ℕ) (os : List Compiled) → data_end base os ≤ 65536 → IsBlank store → IsBlank (data_cleared store base os)
-data_blank store base [] room blank = blank
-data_blank store base (o ∷ os) room blank =
-    data_blank (cleared store base (base + data_of o)) (base + data_of o) os room
-    (cleared_blank store base (base + data_of o) (omega arith) (omega (arith, room, end_above (base + data_of o) os)) blank)
+module _ (store : List ℕ) (base : ℕ) (o : Compiled) (room : base + data_of o ≤ length store) where
+  abbrev clean : List ℕ
+  clean = cleared store base (base + data_of o)
 
-pub zeros_blank : IsBlank (zeros 65536)
-zeros_blank = record { long = zeros_length 65536; zero_at = λ a less. zeros_word 65536 a less }
+  abbrev zero_words : List ℕ
+  zero_words = zeros (base + data_of o - base)
+
+  zeros_fit : base + length (zeros (base + data_of o - base)) ≤ length store
+  zeros_fit = omega (arith, room, zeros_length (base + data_of o - base))
+
+  clean_length : length (cleared store base (base + data_of o)) ≡ length store
+  clean_length = spliced_length store base (zeros (base + data_of o - base)) zeros_fit
+
+  strings_fit : base + all_words o.text.variables + length o.strings ≤ length (cleared store base (base + data_of o))
+  strings_fit = omega (arith, room, clean_length)
+
+  one_length : length (one_placed store base o) ≡ length store
+  one_length = spliced_length clean (base + all_words o.text.variables) o.strings strings_fit ∙ clean_length
+
+  one_before : (a : ℕ) → a < base → get_or (one_placed store base o) a 0 ≡ get_or store a 0
+  one_before a less = spliced_before clean (base + all_words o.text.variables) o.strings a strings_fit (omega (arith, less)) ∙ spliced_before store base zero_words a zeros_fit less
+
+  one_zero : (i : ℕ) → i < all_words o.text.variables → get_or (one_placed store base o) (base + i) 0 ≡ 0
+  one_zero i less =
+      spliced_before clean (base + all_words o.text.variables) o.strings (base + i) strings_fit (omega (arith, less))
+      ∙ spliced_there store base zero_words i zeros_fit (omega (arith, zeros_length (base + data_of o - base), less))
+      ∙ zeros_word (base + data_of o - base) i (omega (arith, less))
+
+  one_strings : (i : ℕ) → i < length o.strings → get_or (one_placed store base o) (base + (all_words o.text.variables + i)) 0 ≡ get_or o.strings i 0
+  one_strings i less =
+      ap (λ (a : ℕ). get_or (one_placed store base o) a 0) (let e : base + (all_words o.text.variables + i) ≡ base + all_words o.text.variables + i = omega arith in e)
+      ∙ spliced_there clean (base + all_words o.text.variables) o.strings i strings_fit less
+
+pub data_length : (store : List ℕ) (base : ℕ) (os : List Compiled) → data_end base os ≤ length store → length (data_placed store base os) ≡ length store
+data_length store base [] room = refl
+data_length store base (o ∷ os) room =
+    let here : base + data_of o ≤ length store = omega (arith, room, end_above (base + data_of o) os) in
+    data_length (one_placed store base o) (base + data_of o) os (omega (arith, room, one_length store base o here)) ∙ one_length store base o here
+
+data_before : (store : List ℕ) (base : ℕ) (os : List Compiled) (a : ℕ) → data_end base os ≤ length store → a < base → get_or (data_placed store base os) a 0 ≡ get_or store a 0
+data_before store base [] a room less = refl
+data_before store base (o ∷ os) a room less =
+    let here : base + data_of o ≤ length store = omega (arith, room, end_above (base + data_of o) os) in
+    data_before (one_placed store base o) (base + data_of o) os a (omega (arith, room, one_length store base o here)) (omega (arith, less)) ∙ one_before store base o here a less
+
+-- the data of one more before others
+module _ (store : List ℕ) (base : ℕ) (p : Compiled) (os : List Compiled) (here : base + data_of p ≤ length store) (more : data_end (base + data_of p) os ≤ length (one_placed store base p))
+    (rest : HasData (base + data_of p) os (data_placed (one_placed store base p) (base + data_of p) os)) where
+  more_zero : (n : ℕ) (o : Compiled) → slice_get (p ∷ os) n ≡ Some o → (i : ℕ) → i < all_words o.text.variables → get_or (data_placed store base (p ∷ os)) (place_from base (p ∷ os) n + i) 0 ≡ 0
+  more_zero zero o e i less =
+      let same : p ≡ o = cc in
+      let small : i < all_words p.text.variables = subst (λ (q : Compiled). i < all_words q.text.variables) (sym same) less in
+      data_before (one_placed store base p) (base + data_of p) os (base + i) more (omega (arith, small)) ∙ one_zero store base p here i small
+  more_zero (suc n) o e i less = rest.zero_at n o e i less
+
+  more_strings : (n : ℕ) (o : Compiled) → slice_get (p ∷ os) n ≡ Some o → (i : ℕ) → i < length o.strings
+      → get_or (data_placed store base (p ∷ os)) (place_from base (p ∷ os) n + (all_words o.text.variables + i)) 0 ≡ get_or o.strings i 0
+  more_strings zero o e i less =
+      let same : p ≡ o = cc in
+      let small : i < length p.strings = subst (λ (q : Compiled). i < length q.strings) (sym same) less in
+      subst (λ (q : Compiled). get_or (data_placed store base (p ∷ os)) (base + (all_words q.text.variables + i)) 0 ≡ get_or q.strings i 0) same
+      (data_before (one_placed store base p) (base + data_of p) os (base + (all_words p.text.variables + i)) more (omega (arith, small)) ∙ one_strings store base p here i small)
+  more_strings (suc n) o e i less = rest.strings_at n o e i less
+
+  one_more : HasData base (p ∷ os) (data_placed store base (p ∷ os))
+  one_more = record { zero_at = more_zero; strings_at = more_strings }
+
+pub has_data : (store : List ℕ) (base : ℕ) (os : List Compiled) → data_end base os ≤ length store → HasData base os (data_placed store base os)
+has_data store base [] room = record { zero_at = λ n o e. cc; strings_at = λ n o e. cc }
+has_data store base (p ∷ os) room =
+    let here : base + data_of p ≤ length store = omega (arith, room, end_above (base + data_of p) os) in
+    let more : data_end (base + data_of p) os ≤ length (one_placed store base p) = omega (arith, room, one_length store base p here) in
+    one_more store base p os here more (has_data (one_placed store base p) (base + data_of p) os more)
 
 -- ---- zero as a word
 zero_word : (k : Kind) → scalar_word (zero_of k) ≡ 0
@@ -187,7 +256,7 @@ module _ (os : List Compiled) (size : ℕ) (store : List ℕ) where
   end = data_end 1 os
 
   abbrev owner_at : ℕ → Owner
-  owner_at a = cond (nat_lt a 1) (Free end) (cond (nat_lt a end) (owner_by end (root_at 1 os 1 a)) (cond (nat_lt a (end + size)) Own (Free end)))
+  owner_at a = cond (nat_lt a 1) (Free end) (cond (nat_lt a end) (owner_by (root_at 1 os 1 a)) (cond (nat_lt a (end + size)) Own (Free end)))
 
   abbrev pub home : Home
   home = record { base = place_of os; shape = first_shape (map text_of os) (numbers_from 0 os); owner = owner_at; shadow = λ a. get_or store a 0; reference = λ o. 0 }
@@ -211,6 +280,13 @@ module _ (os : List Compiled) (size : ℕ) (store : List ℕ) where
   record HasWord (r : Root) (i : ℕ) : Type 0 where
     pub owned : root_at 1 os 1 (place_of os r + i) ≡ Some r
     pub inside : IsIn 1 (data_end 1 os) (place_of os r + i)
+    -- of the module with this index, so many words behind its first
+    pub index : ℕ
+    pub its : Compiled
+    pub there : slice_get os index ≡ Some its
+    pub place : ℕ
+    pub at : place_of os r + i ≡ place_from 1 os index + place
+    pub less : place < all_words its.text.variables
 
   has_word : (r : Root) (i : ℕ) → i < words (home.shape r) → HasWord r i
   has_word (Global zero x) i less = absurd (omega (arith, less))
@@ -220,12 +296,20 @@ module _ (os : List Compiled) (size : ℕ) (store : List ℕ) where
       by : (o : Option Compiled) → slice_get os n ≡ o → i < words (shape_at (variables_in (slice_get os n)) x) → HasWord (Global (suc n) x) i
       by None e less = absurd (let l = subst (λ (o : Option Compiled). i < words (shape_at (variables_in o) x)) e less in omega (arith, l))
       by (Some o) e less =
-          let w = root_owned 1 os 1 n x i o e (subst (λ (o : Option Compiled). i < words (shape_at (variables_in o) x)) e less) in
+          let small : i < words (shape_at o.text.variables x) = subst (λ (o : Option Compiled). i < words (shape_at (variables_in o) x)) e less in
+          let w = root_owned 1 os 1 n x i o e small in
+          let own = (variable_owned (place_from 1 os n) o.text.variables 1 0 x i small).1 in
           let at : variable_from (place_from 1 os n) o.text.variables x + i ≡ place_of os (Global (suc n) x) + i =
           ap (λ (p : Option Compiled). variable_from (place_from 1 os n) (variables_in p) x + i) (sym e) in
           record {
             owned = ap (root_at 1 os 1) (sym at) ∙ w.0 ∙ ap (λ (m : ℕ). Some (Global m x)) (let e : 1 + n ≡ suc n = omega arith in e);
             inside = subst (IsIn 1 (data_end 1 os)) at w.1;
+            index = n;
+            its = o;
+            there = e;
+            place = variable_from (place_from 1 os n) o.text.variables x + i - place_from 1 os n;
+            at = sym at ∙ (let back : variable_from (place_from 1 os n) o.text.variables x + i ≡ place_from 1 os n + (variable_from (place_from 1 os n) o.text.variables x + i - place_from 1 os n) = omega (arith, own.from) in back);
+            less = omega (arith, own.below, own.from);
           }
   has_word (Local a x) i less = absurd (omega (arith, less))
   has_word (Object o) i less = absurd (omega (arith, less))
@@ -239,23 +323,40 @@ module _ (os : List Compiled) (size : ℕ) (store : List ℕ) where
   root_low (Local a x) = omega (arith, above)
   root_low (Object o) = omega (arith, above)
 
-  -- the cells of what was loaded are there where all data are zero
-  pub mem : data_end 1 os ≤ 65535 → length store ≡ 65536 → ((a : ℕ) → a < data_end 1 os → get_or store a 0 ≡ 0) → Mem home (fresh_cells (map text_of os) (numbers_from 0 os)) store
+  -- a word of a string never changes
+  pub string_fixed : (n i : ℕ) (o : Compiled) → slice_get os n ≡ Some o → i < length o.strings → home.owner (place_from 1 os n + (all_words o.text.variables + i)) ≡ Fixed
+  string_fixed n i o e less =
+      let w = string_rootless 1 os 1 n i o e less in
+      let a : ℕ = place_from 1 os n + (all_words o.text.variables + i) in
+      no (nat_lt a 1) _ _ (le-ltb a 1 w.1.from) ∙ yes (nat_lt a end) _ _ (lt-ltb a end w.1.below) ∙ ap owner_by w.0
+
+  -- and lies below the end of the data
+  pub strings_low : (n : ℕ) (o : Compiled) → slice_get os n ≡ Some o → place_from 1 os n + data_of o ≤ data_end 1 os
+  strings_low n o e = by os 1 n e
+    where
+      by : (os : List Compiled) (base n : ℕ) → slice_get os n ≡ Some o → place_from base os n + data_of o ≤ data_end base os
+      by [] base n e = cc
+      by (p ∷ os) base zero e = let same : p ≡ o = cc in omega (arith, end_above (base + data_of p) os, ap data_of same)
+      by (p ∷ os) base (suc n) e = by os (base + data_of p) n e
+
+  -- the cells of what was loaded are there where the data are
+  pub mem : data_end 1 os ≤ 65535 → length store ≡ 65536 → HasData 1 os store → Mem home (fresh_cells (map text_of os) (numbers_from 0 os)) store
   mem room long blank = record {
     owned = λ r i l.
         let w = has_word r i l in
         no (nat_lt (place_of os r + i) 1) _ _ (le-ltb (place_of os r + i) 1 w.inside.from)
         ∙ yes (nat_lt (place_of os r + i) end) _ _ (lt-ltb (place_of os r + i) end w.inside.below)
-        ∙ ap (owner_by end) w.owned;
+        ∙ ap owner_by w.owned;
     inside = λ r. omega (arith, root_low r, room);
     holds = λ r q k e.
         let fits : offset (home.shape r) q < words (home.shape r) = omega (arith, part_fits (home.shape r) q (ap is_there e), word_long (part_at (home.shape r) q) k e) in
         let w = has_word r (offset (home.shape r) q) fits in
         let cell : fresh_cells (map text_of os) (numbers_from 0 os) r q ≡ zero_of k = ap zero_in e in
         record {
-          word = blank (place_of os r + offset (home.shape r) q) w.inside.below ∙ sym (zero_word k) ∙ sym (plain_word home (base_of k) (zero_of k) (zero_fits k)) ∙ ap (word_for home) (sym cell);
+          word = ap (λ (a : ℕ). get_or store a 0) w.at ∙ blank.zero_at w.index w.its w.there w.place w.less ∙ sym (zero_word k) ∙ sym (plain_word home (base_of k) (zero_of k) (zero_fits k)) ∙ ap (word_for home) (sym cell);
           fits = ap (within (base_of k)) cell ∙ zero_fits k;
         };
     kept = λ a e. refl;
+    fixed = λ a e. refl;
     long = long;
   }

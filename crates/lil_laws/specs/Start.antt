@@ -3,7 +3,7 @@ use Rattle.std.proofs.Common.{◌≡◌, ℕ, zero, suc, ◌+◌, ◌-◌, ◌*�
 use Rattle.std.specs.Prelude.{slice_get, option_map}
 use Rattle.std.proofs.lemmas.Bool.{le-ltb}
 use Rattle.std.proofs.lemmas.Option.{same_Some}
-use Rattle.lil_resolved.specs.Shapes.{shape_by, shape_at}
+use Rattle.lil_resolved.specs.Shapes.{all_words, shape_by, shape_at}
 use Rattle.lil_resolved.specs.Resolved.{Resolved}
 use Rattle.lil_resolved.specs.Depth.{frame_words}
 use Rattle.lil_meaning.specs.Cells.{loaded_at, variables_of}
@@ -25,8 +25,8 @@ use Rattle.lil_match.specs.Steps.{advances, at_once, rows_ahead}
 use Rattle.lil_match.specs.Orders.{instr_within}
 use Rattle.lil_match.specs.Splices.{spliced_length, spliced_before, zeros_length}
 use Rattle.lil_laws_stmt.specs.Control.{body_rows}
-use Rattle.lil_laws.specs.Loading.{Compiled, text_of, data_end, entry_for, table_from, numbers_from, data_cleared, image}
-use Rattle.lil_laws.specs.Placing.{place_from, variable_from, text_at, table_there, variable_offset, IsBlank, data_blank, zeros_blank, home, owner_own, owner_free, mem}
+use Rattle.lil_laws.specs.Loading.{Compiled, text_of, data_end, entry_for, table_from, numbers_from, data_placed, image}
+use Rattle.lil_laws.specs.Placing.{place_from, variable_from, text_at, table_there, variable_offset, HasData, data_length, has_data, string_fixed, strings_low, home, owner_own, owner_free, mem}
 use Rattle.lil_laws.specs.Whole.{Unlimited, Agrees, still_agrees, follows, reaches}
 
 -- one of the modules, whose body runs
@@ -49,7 +49,7 @@ module _ (os : List Compiled) where
     number = suc b.index;
     procedure = 0;
     own = entry_for b.its (place_from 1 os b.index);
-    layout = layout_of b.its.text;
+    layout = layout_of b.its.strings b.its.text;
     at = data_end 1 os;
     back = 0;
   }
@@ -90,7 +90,7 @@ module _ (os : List Compiled) where
         subst (λ (o : Option Resolved). Rows ctx (doing (body_of o) rest) Quiet t.start [] 0 outside) (sym (text b))
         (body_rows ctx b.its.text.body rest t.start t.end 0 outside t.body (instr_within b.its.code t.end Rtn (length b.its.code) t.leave)
         (at_once ctx _ Quiet t.end [] 0 outside
-        (record { quiet = refl; empty = refl; activation = refl; alone = refl; end = length b.its.code; leave = t.leave; behind = behind })))
+        (record { quiet = refl; empty = refl; activation = refl; alone = refl; free = refl; end = length b.its.code; leave = t.leave; behind = behind })))
 
     rows_of : (a : ℕ) (b : Body os) (bs : List (Body os)) → Rows (setting (frame_for a b) (frames (suc a) bs)) (bodies library loaded a (map number (b ∷ bs))) Quiet b.its.translates.start [] 0 outside
     rows_of a b [] = body_at a b [] refl
@@ -103,11 +103,11 @@ module _ (os : List Compiled) where
           then = rows_of (suc a) c bs;
         })
 
-  module _ (all : List Activation) (size : ℕ) (store : List ℕ) where
+  module _ (all : List Activation) (size : ℕ) (store : List ℕ) (room : data_end 1 os ≤ 65535) (placed : HasData 1 os store) where
     abbrev h : Home
     h = home os size store
 
-    known : (a : ℕ) (b : Body os) → slice_get all a ≡ Some (record { owner = suc b.index; procedure = 0; outer = None; slots = [] }) → IsKnown library loaded (table_from 1 os) all h.base h.shape (frame_for a b)
+    known : (a : ℕ) (b : Body os) → slice_get all a ≡ Some (record { owner = suc b.index; procedure = 0; outer = None; slots = [] }) → IsKnown library loaded (table_from 1 os) all h (frame_for a b)
     known a b runs = record {
       known = table_there 1 os b.index b.its b.there;
       named = ap name_of (text b);
@@ -120,10 +120,12 @@ module _ (os : List Compiled) where
             ∙ ap (λ (n : ℕ). variable_from n b.its.text.variables x) (let e : place_from 1 os b.index ≡ place_from 1 os b.index + 0 = omega arith in e)
             ∙ variable_offset b.its.text.variables (place_from 1 os b.index) 0 x o offset,
       );
+      strings = λ i less. (string_fixed os size store b.index i b.its b.there less, placed.strings_at b.index b.its b.there i less);
+      inside = omega (arith, strings_low os size store b.index b.its b.there, room);
     }
 
     each_comes : (a : ℕ) (bs : List (Body os)) → ((i : ℕ) → slice_get all (a + i) ≡ slice_get (body_activations (map number bs)) i)
-        → EachComes library loaded (table_from 1 os) all h.base h.shape (data_end 1 os) (frames a bs)
+        → EachComes library loaded (table_from 1 os) all h (data_end 1 os) (frames a bs)
     each_comes a [] runs = tt
     each_comes a (b ∷ bs) runs = (
       record { known = known a b (ap (slice_get all) (let e : a ≡ a + 0 = omega arith in e) ∙ runs 0); at = refl; mark = omega arith },
@@ -144,8 +146,11 @@ module _ (os : List Compiled) (b : Body os) (bs : List (Body os)) (room : data_e
   abbrev mark : List ℕ
   mark = 0 ∷ 0 ∷ 0 ∷ suc b.index ∷ []
 
-  blank : IsBlank (data_cleared (zeros 65536) 1 os)
-  blank = data_blank (zeros 65536) 1 os (omega (arith, room)) zeros_blank
+  data_fits : data_end 1 os ≤ length (zeros 65536)
+  data_fits = omega (arith, room, zeros_length 65536)
+
+  placed_length : length (data_placed (zeros 65536) 1 os) ≡ 65536
+  placed_length = data_length (zeros 65536) 1 os data_fits ∙ zeros_length 65536
 
   -- the first body is entered: the words of its FORs are zero
   entered : List ℕ
@@ -155,7 +160,7 @@ module _ (os : List Compiled) (b : Body os) (bs : List (Body os)) (room : data_e
   entered_at = record begins { place = b.its.translates.start; top = end + size; store = entered }
 
   begins_length : length begins.store ≡ 65536
-  begins_length = spliced_length (data_cleared (zeros 65536) 1 os) end mark (omega (arith, blank.long, room)) ∙ blank.long
+  begins_length = spliced_length (data_placed (zeros 65536) 1 os) end mark (omega (arith, placed_length, room)) ∙ placed_length
 
   fresh_length : length (zeros (end + size - (end + 4))) ≡ end + size - (end + 4)
   fresh_length = zeros_length (end + size - (end + 4))
@@ -164,12 +169,20 @@ module _ (os : List Compiled) (b : Body os) (bs : List (Body os)) (room : data_e
   unfolding entered
   entered_length = spliced_length begins.store (end + 4) (zeros (end + size - (end + 4))) (omega (arith, begins_length, fresh_length, room)) ∙ begins_length
 
-  data_zero : (a : ℕ) → a < data_end 1 os → get_or entered a 0 ≡ 0
+  data_stays : (a : ℕ) → a < data_end 1 os → get_or entered a 0 ≡ get_or (data_placed (zeros 65536) 1 os) a 0
   unfolding entered
-  data_zero a less =
+  data_stays a less =
       spliced_before begins.store (end + 4) (zeros (end + size - (end + 4))) a (omega (arith, begins_length, fresh_length, room)) (omega (arith, less))
-      ∙ spliced_before (data_cleared (zeros 65536) 1 os) end mark a (omega (arith, blank.long, room)) less
-      ∙ blank.zero_at a (omega (arith, less, room))
+      ∙ spliced_before (data_placed (zeros 65536) 1 os) end mark a (omega (arith, placed_length, room)) less
+
+  placed : HasData 1 os entered
+  placed =
+      let old = has_data (zeros 65536) 1 os data_fits in
+      record {
+        zero_at = λ n o e i less. data_stays (place_from 1 os n + i) (omega (arith, strings_low os size entered n o e, less)) ∙ old.zero_at n o e i less;
+        strings_at = λ n o e i less.
+            data_stays (place_from 1 os n + (all_words o.text.variables + i)) (omega (arith, strings_low os size entered n o e, less)) ∙ old.strings_at n o e i less;
+      }
 
   abbrev order : List ℕ
   order = map (number os) (b ∷ bs)
@@ -185,16 +198,16 @@ module _ (os : List Compiled) (b : Body os) (bs : List (Body os)) (room : data_e
 
   shared : (w : World) → Shared ctx (first w) entered_at
   shared w = record {
-    mem = mem os size entered (omega (arith, room)) entered_length data_zero;
+    mem = mem os size entered (omega (arith, room)) entered_length placed;
     program = record { table_is = refl; known = table_there 1 os b.index b.its b.there; running_is = refl; marked_is = refl };
     standing = record {
       frame_is = refl;
       base_is = refl;
       limit_is = refl;
       bodies_are = numbers 1 bs;
-      known = known os (body_activations order) size entered 0 b refl;
+      known = known os (body_activations order) size entered (omega (arith, room)) placed 0 b refl;
       callers = tt;
-      comes = each_comes os (body_activations order) size entered 1 bs (λ i. ap (slice_get (body_activations order)) (let e : 1 + i ≡ suc i = omega arith in e));
+      comes = each_comes os (body_activations order) size entered (omega (arith, room)) placed 1 bs (λ i. ap (slice_get (body_activations order)) (let e : 1 + i ≡ suc i = omega arith in e));
       stands = (record { mark = omega arith; below = omega arith; own = λ i l. owner_own os size entered (end + i) (omega arith) (omega (arith, l)) }, refl);
       room = λ a from below. owner_free os size entered a (omega (arith, from));
       low = omega (arith, room);

@@ -25,7 +25,6 @@ use Rattle.lil_scope.specs.declared.thing.Thing.TheVariants as t
 use Rattle.lil_kinds.specs.declared.found.Found.{Found}
 use Rattle.lil_check_value.specs.declared.names.Looked.TheVariants as l
 use Rattle.lil_check_value.specs.Looks.{look}
-use Rattle.lil_check_value.specs.Unbuilt.{not_built}
 use Rattle.lil_check_value.specs.Values.{means, variable_means, call_means}
 use Rattle.lil_check_stmt.specs.Nodes.{condition_node, selector_node, record_node, return_node}
 use Rattle.lil_check_stmt.specs.Labels.{range_node, high_means, label_means, with_label, label_step, labels_mean}
@@ -50,7 +49,7 @@ pub record Grounds (Fine : Env → Type 0) : Type 0 where
   pub call : (e : Env) (d : Designator) (xs : List Expr) → Fine e → Clear (call_means e d xs).1 → Is (call_means e d xs).0
   pub unbroken : (e : Env) (n : List ℕ) → Fine e → look e n ≡ l.Thing t.Broken → ⊥
   pub spans : (e : Env) → Fine e → Spans e.types
-  pub within_fine : (e : Env) (p : Place) (d : Designator) → Fine e → Clear (not_built p (after (variable_means e d) (record_node e.types p))).1 → Fine (within (after (variable_means e d) (record_node e.types p)).0 e)
+  pub within_fine : (e : Env) (p : Place) (d : Designator) → Fine e → Clear (after (variable_means e d) (record_node e.types p)).1 → Fine (within (after (variable_means e d) (record_node e.types p)).0 e)
 
 module _ (Fine : Env → Type 0) (g : Grounds Fine) (w : Weights) where
   -- ---- parts
@@ -214,18 +213,18 @@ module _ (Fine : Env → Type 0) (g : Grounds Fine) (w : Weights) where
     arms_kept k xs h c = let h = arms_more k (record { seen = []; arms = [] }) xs h c in omega arith
 
   with_holds : (e : Env) (looping : Bool) (p : Place) (d : Designator) (xs : List S) → Fine e
-      → Clear (not_built p (after (variable_means e d) (λ a. after (record_node e.types p a) (λ r. after (list_means (within r e) looping (map statement_means (map (λ e. e.0) xs))) (λ ss. pure (with_record r ss)))))).1
-      → K (w.statement + count_all w (map (λ e. e.0) xs)) (not_built p (after (variable_means e d) (λ a. after (record_node e.types p a) (λ r. after (list_means (within r e) looping (map statement_means (map (λ e. e.0) xs))) (λ ss. pure (with_record r ss)))))).0
-  unfolding not_built after
+      → Clear (after (variable_means e d) (λ a. after (record_node e.types p a) (λ r. after (list_means (within r e) looping (map statement_means (map (λ e. e.0) xs))) (λ ss. pure (with_record r ss))))).1
+      → K (w.statement + count_all w (map (λ e. e.0) xs)) (after (variable_means e d) (λ a. after (record_node e.types p a) (λ r. after (list_means (within r e) looping (map statement_means (map (λ e. e.0) xs))) (λ ss. pure (with_record r ss))))).0
+  unfolding after
   with_holds e looping p d xs f c =
       let v = variable_means e d in
       let r = record_node e.types p v.0 in
       let ss = list_means (within r.0 e) looping (map statement_means (map (λ e. e.0) xs)) in
-      let c1 = clear_left v.1 (r.1 ++ (ss.1 ++ [])) c.1 in
-      let rest = clear_right v.1 (r.1 ++ (ss.1 ++ [])) c.1 in
+      let c1 = clear_left v.1 (r.1 ++ (ss.1 ++ [])) c in
+      let rest = clear_right v.1 (r.1 ++ (ss.1 ++ [])) c in
       let c2 = clear_left r.1 (ss.1 ++ []) rest in
       let c3 = clear_left ss.1 [] (clear_right r.1 (ss.1 ++ []) rest) in
-      let fine = g.within_fine e p d f (c.0, clear_both v.1 r.1 c1 c2) in
+      let fine = g.within_fine e p d f (clear_both v.1 r.1 c1 c2) in
       with_kept r.0 ss.0 (count_all w (map (λ e. e.0) xs)) (record_some e.types p v.0 (variable_place e d (g.variable e d f c1)) c2) (list_kept (within r.0 e) looping fine xs c3)
 
   abbrev meant : Stmt-F S A G → Meaning

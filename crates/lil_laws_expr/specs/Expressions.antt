@@ -9,7 +9,7 @@ use Rattle.lil_resolved.specs.Kinds.{Kind, OfTruth, base_of}
 use Rattle.lil_resolved.specs.Scalars.{Scalar, Truth, within, scalar_word}
 use Rattle.lil_resolved.specs.Depth.{place_depth}
 use Rattle.lil_resolved.specs.Shapes.{Shape, Word}
-use Rattle.lil_resolved.specs.Resolved.{Designator, Variable, Field, Element, Function, Expression, Constant, Taken, One, Two, Short, Apply, kind_of, is_relation, result_kind, right_kind, function_kind}
+use Rattle.lil_resolved.specs.Resolved.{Designator, Variable, Held, Field, Element, Function, Expression, Constant, Taken, One, Two, Short, Apply, kind_of, is_relation, result_kind, right_kind, function_kind}
 use Rattle.lil_meaning.specs.Cells.{Place, got}
 use Rattle.lil_meaning.specs.Items.{Scalars, Places, Get, OneOf, LeftOf, RightOf, ShortOf, ApplyTo, Item, Value, Evaluate, PlaceOf, Fill, Going, Source}
 use Rattle.lil_meaning.specs.Steps.{next, answered, with_items, applied, one_applied, function_value, current}
@@ -34,6 +34,7 @@ use Rattle.lil_laws_expr.specs.Operators.{answer_row, Gives, Fits, one_gives, on
 
 place_some : (d : Designator) → 1 ≤ place_depth d
 place_some (Variable x) = omega arith
+place_some (Held w) = omega arith
 place_some (Field d i) = place_some d
 place_some (Element d k e) = omega (arith, place_some d)
 

@@ -1,16 +1,16 @@
 -- What the instructions do by which code has a place.
-use Rattle.std.proofs.Common.{◌≡◌, ℕ, ◌+◌, ◌≤◌, true, List, [], ◌∷◌, ◌++◌, length, get_or, set, take, drop, refl, sym, ap, ◌∙◌, subst, arith}
+use Rattle.std.proofs.Common.{◌≡◌, ℕ, ◌+◌, ◌-◌, ◌*◌, ◌≤◌, true, List, [], ◌∷◌, ◌++◌, length, get_or, set, take, drop, refl, sym, ap, ◌∙◌, subst, arith}
 use Rattle.std.proofs.lemmas.Bool.{lt-ltb, le-leb, and_from}
-use Rattle.lil_resolved.specs.Kinds.{Kind}
-use Rattle.lil_resolved.specs.Shapes.{Shape, Word, words, part_at, offset, is_there}
+use Rattle.lil_resolved.specs.Kinds.{Kind, OfCharacter}
+use Rattle.lil_resolved.specs.Shapes.{Shape, Word, Row, words, part_at, offset, is_there}
 use Rattle.lil_meaning.specs.Cells.{Place, part_of}
 use Rattle.lil_meaning.specs.Items.{Item, Source}
 use Rattle.lil_asm.specs.declared.instr.Instr.{Instr}
-use Rattle.lil_asm.specs.declared.instr.Instr.TheVariants.{Dup, Swp, Lgw, Lag, Ldi, Adf, Mov}
+use Rattle.lil_asm.specs.declared.instr.Instr.TheVariants.{Dup, Swp, Lgw, Lag, Ldi, Adf, Mov, Mvz}
 use Rattle.lil_mcode.specs.declared.machine.Event.{Event}
 use Rattle.lil_mcode.specs.declared.machine.Event.TheVariants.{Went}
 use Rattle.lil_mcode.specs.State.{State, spliced}
-use Rattle.lil_mcode.specs.Table.{act, going, on_one, on_two, double_row, push_row, fetch_row, put_row, store_row, further_row}
+use Rattle.lil_mcode.specs.Table.{act, block, going, on_one, on_two, double_row, push_row, fetch_row, put_row, store_row, further_row}
 use Rattle.lil_table.specs.Rows.{IsAt, InstrsAt, Access, InData, OnTop, Behind, further, address_code, load_code, ready_code, readied, held, store_code, again_code, held_twice, under_code}
 use Rattle.lil_match.specs.Parts.{yes}
 use Rattle.lil_match.specs.Splices.{block_alone}
@@ -122,6 +122,16 @@ module _ (ctx : Setting) where
       let high : address h from + words t ≤ 65535 = omega (arith, place_inside h s.cells m.store from shared.mem (ap is_there source ∙ there), ap words source) in
       yes _ _ _ (and_from _ _ (le-leb (address h from + words t) 65536 (omega (arith, high))) (le-leb (address h to + (words t + 0)) 65536 (omega (arith, low))))
       ∙ ap (λ (ws : List ℕ). let r : Event × State = (Went, record m { place = q; stack = []; store = spliced m.store (address h to) ws }) in r) (block_alone m.store (address h from) (words t))
+
+  -- a string comes to an array of as many characters or more, with zeros behind it to the array's end
+  pub written : (s : Source) (m : State) → Shared ctx s m → (to : Place) (count : ℕ) (cs : List ℕ) → shape_there h to ≡ Row count (Word OfCharacter) → length cs ≤ count → (from : ℕ)
+      → from + length cs ≤ 65535 → (p q : ℕ)
+      → let here : State = going m p (from ∷ address h to ∷ []) in
+      act (Mvz (length cs) (count - length cs)) q own here
+      ≡ (Went, record m { place = q; stack = []; store = spliced m.store (address h to) (block m.store from (length cs) (count - length cs)) })
+  written s m shared to count cs living fits from low p q =
+      let high : address h to + words (Row count (Word OfCharacter)) ≤ 65535 = omega (arith, place_inside h s.cells m.store to shared.mem (ap is_there living), ap words living) in
+      yes _ _ _ (and_from _ _ (le-leb (from + length cs) 65536 (omega (arith, low))) (le-leb (address h to + (length cs + (count - length cs))) 65536 (omega (arith, high, fits))))
 
   -- a place is made ready for a store
   pub made_ready : (s : Source) (items : List Item) (m : State) → Shared ctx s m → (b : Access) (place : Place) (t : Shape) (stack below : List ℕ) → HasPlace ctx b place t stack below

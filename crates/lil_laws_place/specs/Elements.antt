@@ -1,5 +1,5 @@
 -- The rows of places: of variables, fields and elements.
-use Rattle.std.proofs.Common.{◌≡◌, ℕ, ◌+◌, ◌*◌, ◌<◌, Bool, true, cond, ltb, Some, List, [], ◌∷◌, refl, sym, ap, ◌∙◌, subst, arith}
+use Rattle.std.proofs.Common.{◌≡◌, ℕ, ◌+◌, ◌*◌, ◌<◌, Bool, true, cond, ltb, Option, Some, List, [], ◌∷◌, refl, sym, ap, ◌∙◌, subst, arith}
 use Rattle.std.specs.Prelude.{ℤ, pos, negsuc, ◌≤ℤ◌, ◌-ℤ◌, ◌+ℤ◌, slice_get}
 use Rattle.std.proofs.lemmas.Bool.{lt-ltb}
 use Rattle.std.proofs.lemmas.Int.{ints}
@@ -9,15 +9,15 @@ use Rattle.lil_base.specs.declared.fault.TrapKind.TheVariants as trap
 use Rattle.lil_resolved.specs.Kinds.{Kind, base_of, is_base, takes_value, compared_as, least, greatest, nat_of, numbers, position}
 use Rattle.lil_resolved.specs.Scalars.{Scalar, within, scalar_word, ordinal_of}
 use Rattle.lil_resolved.specs.Shapes.{Shape, Absent, Row, words, is_there, part_at, offset, shape_by, shape_at, element_of}
-use Rattle.lil_resolved.specs.Resolved.{Designator, Variable, Field, Element, Expression, shape_of}
+use Rattle.lil_resolved.specs.Resolved.{Designator, Variable, Held, Field, Element, Expression, shape_of}
 use Rattle.lil_meaning.specs.Cells.{Global, Place, part_of}
 use Rattle.lil_meaning.specs.Items.{Scalars, Places, Part, IndexBy, IndexAt, Item, Value, PlaceOf, Fill, Going, Source}
-use Rattle.lil_meaning.specs.Steps.{current, owner_of, trapped, with_items}
-use Rattle.lil_asm.specs.declared.instr.Instr.TheVariants.{Ixc}
+use Rattle.lil_meaning.specs.Steps.{current, owner_of, held_at, trapped, with_items}
+use Rattle.lil_asm.specs.declared.instr.Instr.TheVariants.{Llw, Ixc}
 use Rattle.lil_mcode.specs.declared.machine.Event.TheVariants.{Went}
 use Rattle.lil_mcode.specs.Control.{above}
 use Rattle.lil_mcode.specs.State.{State}
-use Rattle.lil_mcode.specs.Table.{going, on_two, element_row}
+use Rattle.lil_mcode.specs.Table.{going, on_two, push_row, element_row}
 use Rattle.lil_table.specs.Rows.{Access, InData, OnTop, further, offset_in, access_of}
 use Rattle.lil_match.specs.Running.{running}
 use Rattle.lil_match.specs.Parts.{yes}
@@ -27,8 +27,9 @@ use Rattle.lil_match.specs.Waits.{Setting, frame_of, laid_out, Quiet, ValueOf, A
 use Rattle.lil_match.specs.Orders.{instr_within, instrs_order, expression_stands}
 use Rattle.lil_match.specs.Ranges.{has, fits_has, has_type, has_base, takes_part, least_base}
 use Rattle.lil_match.specs.Arithmetic.{word_is, above_more}
-use Rattle.lil_match.specs.Closing.{closed, variable_here}
-use Rattle.lil_match.specs.Steps.{advances, at_step, at_once, lands_on, goes_none, goes_one, operand_exact}
+use Rattle.lil_match.specs.Kept.{own_low, own_read}
+use Rattle.lil_match.specs.Closing.{closed, held_here, variable_here}
+use Rattle.lil_match.specs.Steps.{advances, at_step, at_once, pushes, lands_on, goes_none, goes_one, operand_exact}
 use Rattle.lil_laws_place.specs.Codes.{inside, part_has, addressed}
 use Rattle.lil_laws_place.specs.Stores.{tested}
 
@@ -74,17 +75,43 @@ module _ (ctx : Setting) where
         let named = row.part.here in
         let now : Place = record { root = Global (owner_of (slice_get s.activations (current k))) x; path = [] } in
         let at : slice_get l.offsets x ≡ Some (offset_in (slice_get l.offsets x)) = named.at ∙ ap Some (sym (ap offset_in named.at)) in
-        let typed : slice_get l.shapes x ≡ Some (shape_at l.shapes x) = named.typed ∙ ap Some (sym (ap shape_by named.typed)) in
-        let known : HasPlace ctx (InData (offset_in (slice_get l.offsets x))) now (shape_at l.shapes x) m.stack m.stack =
-        variable_here ctx s k m shared x (offset_in (slice_get l.offsets x)) (shape_at l.shapes x) (closed ctx k _ _ _ _ _ row.then) at typed (ap is_there (ap shape_by named.typed) ∙ named.there) m.stack in
+        let typed : slice_get l.scope.variables x ≡ Some (shape_at l.scope.variables x) = named.typed ∙ ap Some (sym (ap shape_by named.typed)) in
+        let known : HasPlace ctx (InData (offset_in (slice_get l.offsets x))) now (shape_at l.scope.variables x) m.stack m.stack =
+        variable_here ctx s k m shared x (offset_in (slice_get l.offsets x)) (shape_at l.scope.variables x) (closed ctx k _ _ _ _ _ row.then) at typed (ap is_there (ap shape_by named.typed) ∙ named.there) m.stack in
         goes_none ctx s (PlaceOf (Variable x) ∷ k) m (c + 32) c
         (lands_on ctx s m shared (Value (Places now) ∷ k) m.place m.stack c a
         (at_once ctx _ Quiet m.place m.stack c a
         (record {
-          part = record { access = access_of l (Variable x); shape = shape_at l.shapes x; below = m.stack; has = known };
-          then = subst (λ (q : ℕ). Rest (AtPlace (access_of l (Variable x)) (shape_at l.shapes x)) q m.stack c a) (sym named.stays) row.then;
+          part = record { access = access_of l (Variable x); shape = shape_at l.scope.variables x; below = m.stack; has = known };
+          then = subst (λ (q : ℕ). Rest (AtPlace (access_of l (Variable x)) (shape_at l.scope.variables x)) q m.stack c a) (sym named.stays) row.then;
         })))
         (omega arith)
+        (omega arith)
+
+    -- the record of a WITH: the word of the frame that has its address is loaded
+    pub held_goes : (w : ℕ) → Waiting ctx (PlaceOf (Held w)) Rest Quiet m.place m.stack c a → Goes ctx s (PlaceOf (Held w) ∷ k) m (c + 32)
+    held_goes w row =
+        let r = row.part.here in
+        let t : Shape = shape_at l.scope.held w in
+        let typed : slice_get l.scope.held w ≡ Some (shape_at l.scope.held w) = r.typed ∙ ap Some (sym (ap shape_by r.typed)) in
+        let found = held_here ctx k _ _ _ _ _ row.then w r.word t r.at typed in
+        let y = found.held in
+        let now : Source = record s { items = PlaceOf (Held w) ∷ k; phase = Going } in
+        let stack : List ℕ = address h found.place ∷ m.stack in
+        let machine : State = going m row.part.end stack in
+        goes_one ctx s (PlaceOf (Held w) ∷ k) m (c + 32) c (running machine s.world)
+        (advances m s.world _ (
+        at_step ctx m shared.program (Llw r.word) row.part.end r.load
+        ∙ yes _ _ _ (lt-ltb (m.frame + r.word) 65536 (own_low ctx s m shared r.word 0 y.low))
+        ∙ ap (λ (x : ℕ). push_row x row.part.end m) (own_read ctx s m shared r.word 0 y.low ∙ y.address)
+        ∙ pushes (address h found.place) row.part.end m (omega (arith, row.part.shallow))))
+        (subst (λ (o : Option Place). Lands ctx (held_at o k now).phase (held_at o k now) (running machine s.world) c) (sym found.found)
+        (lands_on ctx s m shared (Value (Places found.place) ∷ k) row.part.end stack c a
+        (at_once ctx _ Quiet row.part.end stack c a
+        (record {
+          part = record { access = OnTop; shape = t; below = m.stack; has = record { seen = y.seen; living = y.living; there = y.there; at = refl } };
+          then = row.then;
+        }))))
         (omega arith)
 
     pub field_goes : (d : Designator) (i : ℕ) → Waiting ctx (PlaceOf (Field d i)) Rest Quiet m.place m.stack c a → Goes ctx s (PlaceOf (Field d i) ∷ k) m (c + 32)
@@ -94,7 +121,7 @@ module _ (ctx : Setting) where
         (at_once ctx _ Quiet m.place m.stack c a
         (record {
           part = record { end = row.part.end; here = row.part.here.here; shallow = row.part.shallow };
-          then = at_once ctx _ (AtPlace (access_of l d) (shape_of l.shapes d)) row.part.end m.stack c a (record { part = row.part.here.there; then = row.then });
+          then = at_once ctx _ (AtPlace (access_of l d) (shape_of l.scope d)) row.part.end m.stack c a (record { part = row.part.here.there; then = row.then });
         })))
         (omega arith)
         (omega arith)
@@ -107,7 +134,7 @@ module _ (ctx : Setting) where
         (at_once ctx _ Quiet m.place m.stack c a
         (record {
           part = record { end = r.found; here = r.here; shallow = omega (arith, row.part.shallow) };
-          then = at_once ctx _ (AtPlace (access_of l d) (shape_of l.shapes d)) r.found m.stack c a
+          then = at_once ctx _ (AtPlace (access_of l d) (shape_of l.scope d)) r.found m.stack c a
               (record {
                 part = record {
                   rows = r.rows;

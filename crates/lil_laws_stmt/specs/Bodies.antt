@@ -13,13 +13,14 @@ use Rattle.lil_mcode.specs.Table.{mstep, end_row, body_row, begun_body, enter_ro
 use Rattle.lil_table.specs.Rows.{IsAt}
 use Rattle.lil_match.specs.Running.{running, advanced}
 use Rattle.lil_match.specs.Parts.{yes, no}
-use Rattle.lil_match.specs.Homes.{Of, Own, Free, Home, Mem, word_same, of_free, scalar_owned}
+use Rattle.lil_match.specs.Homes.{Of, Own, Fixed, own_fixed, Free, Home, Mem, word_same, of_free, scalar_owned}
 use Rattle.lil_match.specs.Splices.{spliced_length, spliced_before, spliced_after, zeros_length}
 use Rattle.lil_match.specs.Goes.{OwnWords, Comes, Shared, fits, Goes, number_of}
 use Rattle.lil_match.specs.Waits.{Quiet, outside, Frame, Setting, at_home, with_frames, RowsOf, NextBody}
+use Rattle.lil_match.specs.Known.{known_kept, each_comes}
 use Rattle.lil_match.specs.Kept.{all_above, rows_kept}
 use Rattle.lil_match.specs.Steps.{advances, at_step, rows_ahead, goes_one_in, goes_full, goes_after}
-use Rattle.lil_laws_stmt.specs.Painting.{own_free, of_own, painted, painted_there, painted_beside, Side, Before, Between, Behind', side}
+use Rattle.lil_laws_stmt.specs.Painting.{own_free, free_fixed, of_own, painted, painted_there, painted_beside, Side, Before, Between, Behind', side}
 
 and_later : (a b : Bool) → b ≡ false → (a && b) ≡ false
 and_later true b e = e
@@ -54,7 +55,7 @@ module _ (ctx : Setting) (f b : Frame) (bs : List Frame) where
     abbrev entered : State
     entered = record begun { place = next.start; top = m.base + b.layout.frame; store = cleared begun.store begun.top (m.base + b.layout.frame) }
 
-    comes : Comes ctx.library ctx.loaded ctx.table ctx.activations ctx.home.base ctx.home.shape ctx.stack.base b
+    comes : Comes ctx.library ctx.loaded ctx.table ctx.activations ctx.home ctx.stack.base b
     comes = shared.standing.comes.0
 
     -- the row of the return, by the room of the next body's mark
@@ -135,6 +136,21 @@ module _ (ctx : Setting) (f b : Frame) (bs : List Frame) where
           of_own r (sym is ∙ ap ctx.home.owner (let e : a ≡ f.at + (a - f.at) = omega (arith, from, shared.standing.stands.1) in e) ∙ words.own (a - f.at) (omega (arith, from, l, shared.standing.stands.1))))
           (λ (g : m.top ≤ a). of_free r ctx.stack.base (sym is ∙ shared.standing.room a g below)) (cases_lt a m.top)
 
+      -- nor one that never changes
+      no_fixed : (a : ℕ) → ctx.stack.base ≤ a → a < ctx.stack.limit → ctx.home.owner a ≡ Fixed → ⊥
+      no_fixed a from below is =
+          ⊎_elim (λ (l : a < m.top).
+          own_fixed (sym (words.own (a - f.at) (omega (arith, from, l, shared.standing.stands.1))) ∙ ap ctx.home.owner (let e : f.at + (a - f.at) ≡ a = omega (arith, from, shared.standing.stands.1) in e) ∙ is))
+          (λ (g : m.top ≤ a). free_fixed ctx.stack.base (sym (shared.standing.room a g below) ∙ is)) (cases_lt a m.top)
+
+      fixed_kept : (a : ℕ) → ctx.home.owner a ≡ Fixed → (x.owner a ≡ Fixed) × (x.shadow a ≡ ctx.home.shadow a)
+      fixed_kept a is =
+          ⊎_elim (λ (l : a < ctx.stack.base). (owner_beside a (inl l) ∙ is, shadow_beside a (inl l)))
+          (λ (g : ctx.stack.base ≤ a).
+          ⊎_elim (λ (l : a < ctx.stack.limit). absurd (no_fixed a g l is))
+          (λ (o : ctx.stack.limit ≤ a). (owner_beside a (inr o) ∙ is, shadow_beside a (inr (g, omega (arith, o, comes.at, room))))) (cases_lt a ctx.stack.limit))
+          (cases_lt a ctx.stack.base)
+
       based : (m.base ≡ ctx.stack.base) × (m.base + b.layout.frame < 65536)
       based = (shared.standing.base_is, omega (arith, shared.standing.base_is, comes.at, room, shared.standing.high))
 
@@ -172,10 +188,17 @@ module _ (ctx : Setting) (f b : Frame) (bs : List Frame) where
                   ∙ old.word ∙ word_same h x (λ o. refl) (s.cells r q);
               fits = old.fits;
             };
+        fixed = λ a own. fixed_there a own (side ctx.stack.base (ctx.stack.base + b.layout.frame) a) (cases_lt a ctx.stack.limit);
         kept = λ a own. kept a own (side ctx.stack.base (ctx.stack.base + b.layout.frame) a) (cases_lt a ctx.stack.limit);
         long = long;
       }
         where
+          fixed_there : (a : ℕ) → x.owner a ≡ Fixed → Side ctx.stack.base (ctx.stack.base + b.layout.frame) a → (a < ctx.stack.limit) ⊎ (ctx.stack.limit ≤ a) → get_or entered.store a 0 ≡ x.shadow a
+          fixed_there a e (Before l) o = stays a (inl l) ∙ shared.mem.fixed a (sym (owner_beside a (inl l)) ∙ e) ∙ sym (shadow_beside a (inl l))
+          fixed_there a e (Between g l) o = absurd (own_fixed (sym (owner_own a g l) ∙ e))
+          fixed_there a e (Behind' g l) (inl o) = absurd (free_fixed ctx.stack.base (sym (owner_free a l o) ∙ e))
+          fixed_there a e (Behind' g l) (inr o) = stays a (inr l) ∙ shared.mem.fixed a (sym (owner_beside a (inr o)) ∙ e) ∙ sym (shadow_beside a (inr (g, l)))
+
           kept : (a : ℕ) → x.owner a ≡ Own → Side ctx.stack.base (ctx.stack.base + b.layout.frame) a → (a < ctx.stack.limit) ⊎ (ctx.stack.limit ≤ a) → get_or entered.store a 0 ≡ x.shadow a
           kept a own (Before l) o = stays a (inl l) ∙ shared.mem.kept a (sym (owner_beside a (inl l)) ∙ own) ∙ sym (shadow_beside a (inl l))
           kept a own (Between g l) o = sym (shadow_there a g l)
@@ -207,9 +230,9 @@ module _ (ctx : Setting) (f b : Frame) (bs : List Frame) where
                   base_is = g.base_is;
                   limit_is = g.limit_is;
                   bodies_are = refl;
-                  known = comes.known;
+                  known = known_kept ctx.library ctx.loaded ctx.table ctx.activations h x (λ r. refl) (λ r. refl) fixed_kept b comes.known;
                   callers = tt;
-                  comes = g.comes.1;
+                  comes = each_comes ctx.library ctx.loaded ctx.table ctx.activations h x (λ r. refl) (λ r. refl) fixed_kept ctx.stack.base bs g.comes.1;
                   stands = (record { mark = comes.mark; below = omega (arith, comes.at, g.base_is); own = λ i l. owner_own (b.at + i) (omega (arith, comes.at)) (omega (arith, l, g.base_is)) }, comes.at);
                   room = λ a from below. owner_free a (omega (arith, from, g.base_is)) below;
                   low = omega (arith, g.base_is, comes.at, room);
@@ -234,6 +257,7 @@ module _ (ctx : Setting) (f b : Frame) (bs : List Frame) where
             base = λ r. refl;
             shape = λ r. refl;
             reference = λ o. refl;
+            fixed = fixed_kept;
           })
           (refl, refl)
           (λ e. and_later (nat_le (b.at + b.layout.frame) ctx.stack.limit) (fits ctx.stack.limit bs) e)

@@ -126,7 +126,7 @@ module _ (ctx : Setting) where
         → Waiting ctx (Fill (Pick arms)) Rest (ValueOf kind) m.place below c a → Goes ctx s (Value (Scalars v) ∷ Fill (Pick arms) ∷ k) m (c + 32)
     pick_goes arms v kind fit below is row =
         by_choice (meaning.chosen arms (ordinal_of v)) refl
-        (arms_found l own.code (a.loops) a.exit (kind_of row.part.of) row.part.did.here.base row.part.did.here.exit row.part.did.here.other row.part.did.here.choices (ordinal_of v) inside arms row.part.did.here.start row.part.did.here.entries row.part.did.here.count row.part.did.here.bodies)
+        (arms_found l own.code (a.taken) a.exit (kind_of row.part.of) row.part.did.here.base row.part.did.here.exit row.part.did.here.other row.part.did.here.choices (ordinal_of v) inside arms row.part.did.here.start row.part.did.here.entries row.part.did.here.count row.part.did.here.bodies)
       where
         items : List Item
         items = Value (Scalars v) ∷ Fill (Pick arms) ∷ k
@@ -154,14 +154,14 @@ module _ (ctx : Setting) where
             )
 
         by_choice : (b : Option Statements) → meaning.chosen arms (ordinal_of v) ≡ b
-            → Reached l own.code (a.loops) a.exit (kind_of row.part.of) row.part.did.here.base row.part.did.here.exit row.part.did.here.other row.part.did.here.choices (ordinal_of v) inside b (machine.chosen own.code row.part.did.here.count row.part.did.here.entries (word_of (ordinal_of v)) row.part.did.here.other)
+            → Reached l own.code (a.taken) a.exit (kind_of row.part.of) row.part.did.here.base row.part.did.here.exit row.part.did.here.other row.part.did.here.choices (ordinal_of v) inside b (machine.chosen own.code row.part.did.here.count row.part.did.here.entries (word_of (ordinal_of v)) row.part.did.here.other)
             → Goes ctx s (Value (Scalars v) ∷ Fill (Pick arms) ∷ k) m (c + 32)
         by_choice (Some body) e (start, end, gap, target, here, leave) =
             let ends : end < length own.code = instr_within own.code end (Jmp row.part.did.here.exit) gap leave in
             let out : Source = record s { items = items; phase = Going } in
             goes_after ctx s items m choosing (c + 32) (c + 31) dispatched
             (goes_one ctx s items choosing (c + 31) (suc (suc c)) (running (going m start []) s.world)
-            (chooses start target (body_within l own.code (a.loops) a.exit body start end here ends))
+            (chooses start target (body_within l own.code (a.taken) a.exit body start end here ends))
             (subst (λ (b : Option Statements). Lands ctx (picked library b k out).phase (picked library b k out) (running (going m start []) s.world) (suc (suc c))) (sym e)
             (lands_on ctx s m shared (doing body k) start [] (suc (suc c)) a
             (rows_ahead ctx (doing body k) start [] (suc (suc c)) a

@@ -81,7 +81,7 @@ module _ (ctx : Setting) where
         (at_once ctx _ Quiet m.place m.stack c a
         (record {
           part = record { end = r.target.found; here = r.target.here; shallow = omega (arith, r.target.shallow, ap length row.part.empty) };
-          then = at_once ctx _ (AtPlace (access_of l d) (shape_of l.shapes d)) r.target.found m.stack c a
+          then = at_once ctx _ (AtPlace (access_of l d) (shape_of l.scope d)) r.target.found m.stack c a
               (record {
                 part = record {
                   typed = r.target.scalar.shape;

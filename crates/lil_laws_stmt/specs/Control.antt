@@ -36,7 +36,7 @@ module _ (ctx : Setting) where
   open laid_out ctx use {layout as l}
 
   -- statements stand before what is left
-  pub body_rows : (ss : Statements) (k : List Item) (p q c : ℕ) (a : Around) → BodyAt l own.code (a.loops) a.exit ss p q → q < length own.code
+  pub body_rows : (ss : Statements) (k : List Item) (p q c : ℕ) (a : Around) → BodyAt l own.code (a.taken) a.exit ss p q → q < length own.code
       → Rows ctx k Quiet q [] c a → Rows ctx (doing ss k) Quiet p [] c a
   body_rows Empty k p q c a here inside rest = subst (λ (x : ℕ). Rows ctx k Quiet x [] c a) (sym here) rest
   body_rows (Then s ss) k p q c a here inside rest =
@@ -46,7 +46,7 @@ module _ (ctx : Setting) where
           empty = refl;
           end = here.middle;
           here = here.here;
-          within = body_within l own.code (a.loops) a.exit ss here.middle q here.then inside;
+          within = body_within l own.code (a.taken) a.exit ss here.middle q here.then inside;
         };
         then = body_rows ss k here.middle q c a here.then inside rest;
       })
@@ -102,7 +102,7 @@ module _ (ctx : Setting) where
     choose_goes first second v kind fits below is row = by_truth (Choose first second) v kind fits below is row.part.same row.part.did.empty by
       where
         other_within : row.part.did.here.other < length own.code
-        other_within = body_within l own.code (a.loops) a.exit second row.part.did.here.other row.part.did.end row.part.did.here.otherwise row.part.did.within
+        other_within = body_within l own.code (a.taken) a.exit second row.part.did.here.other row.part.did.end row.part.did.here.otherwise row.part.did.within
 
         by : (b : Bool) → m.stack ≡ truth_number b ∷ [] → Claim (Value (Scalars (Truth b)) ∷ Fill (Choose first second) ∷ k)
         by true here =
@@ -133,7 +133,7 @@ module _ (ctx : Setting) where
             (tests true row.part.did.end row.part.did.here.start (moved row.part.at row.part.did.here.jump) row.part.did.within here)
             (body_rows body (Perform (Do (While x body)) ∷ k) row.part.did.here.start row.part.did.here.end (suc c) a row.part.did.here.here (instr_within own.code row.part.did.here.end (Jmp row.part.from) row.part.did.end row.part.did.here.back)
             (rows_jump ctx (Perform (Do (While x body)) ∷ k) Quiet row.part.did.here.end row.part.from row.part.did.end [] c a row.part.did.here.back
-            (statement_within l own.code (a.loops) a.exit (While x body) row.part.from row.part.did.end row.part.did.here row.part.did.within)
+            (statement_within l own.code (a.taken) a.exit (While x body) row.part.from row.part.did.end row.part.did.here row.part.did.within)
             (at_once ctx _ Quiet row.part.from [] c a
             (record { part = record { empty = refl; end = row.part.did.end; here = row.part.did.here; within = row.part.did.within }; then = row.then }))))
             (omega arith)
@@ -143,7 +143,7 @@ module _ (ctx : Setting) where
             row.then (omega arith)
 
     -- a body that begins where the machine stands
-    body_here : (ss : Statements) (i : List Item) (q : ℕ) (b : Around) → m.stack ≡ [] → BodyAt l own.code (b.loops) b.exit ss m.place q → q < length own.code
+    body_here : (ss : Statements) (i : List Item) (q : ℕ) (b : Around) → m.stack ≡ [] → BodyAt l own.code (b.taken) b.exit ss m.place q → q < length own.code
         → Rows ctx i Quiet q [] c b → Ahead ctx (doing ss i) Quiet m.place m.stack c b
     body_here ss i q b empty here inside rows =
         rows_ahead ctx (doing ss i) m.place m.stack c b
@@ -170,7 +170,7 @@ module _ (ctx : Setting) where
     again_goes body x v kind fits below is row = by_truth (Again body x) v kind fits below is row.part.same row.part.did.empty by
       where
         top_within : row.part.from < length own.code
-        top_within = statement_within l own.code (a.loops) a.exit (Repeat body x) row.part.from row.part.did.end row.part.did.here row.part.did.within
+        top_within = statement_within l own.code (a.taken) a.exit (Repeat body x) row.part.from row.part.did.end row.part.did.here row.part.did.within
 
         by : (b : Bool) → m.stack ≡ truth_number b ∷ [] → Claim (Value (Scalars (Truth b)) ∷ Fill (Again body x) ∷ k)
         by true here =
@@ -186,10 +186,10 @@ module _ (ctx : Setting) where
 
     -- what is around the body of a LOOP
     abbrev inside_loop : ℕ → Around → Around
-    inside_loop end outer = record { exit = Some end; loops = outer.loops }
+    inside_loop end outer = record { exit = Some end; taken = outer.taken }
 
     -- the end of a LOOP's body, and what is behind the LOOP
-    looping_row : (body : Statements) (top end : ℕ) (outer : Around) → (again : StatementAt l own.code (outer.loops) outer.exit (Loop body) top end) → end < length own.code
+    looping_row : (body : Statements) (top end : ℕ) (outer : Around) → (again : StatementAt l own.code (outer.taken) outer.exit (Loop body) top end) → end < length own.code
         → Rest Quiet end [] c outer → Rows ctx (Perform (Looping body) ∷ k) Quiet again.end [] c (inside_loop end outer)
     looping_row body top end outer again inside then' =
         at_once ctx _ Quiet again.end [] c (inside_loop end outer)
@@ -220,7 +220,7 @@ module _ (ctx : Setting) where
     looping_goes body row =
         goes_to s m shared (Perform (Looping body) ∷ k) (doing body (Perform (Looping body) ∷ k)) row.top (c + 32) c (inside_loop row.end row.outer) refl
         (jumps_to ctx m s.world shared.program row.top row.end row.back
-        (statement_within l own.code (row.outer.loops) row.outer.exit (Loop body) row.top row.end row.again row.within)
+        (statement_within l own.code (row.outer.taken) row.outer.exit (Loop body) row.top row.end row.again row.within)
         ∙ ap (λ (x : List ℕ). running (going m row.top x) s.world) row.empty)
         (body_rows body (Perform (Looping body) ∷ k) row.top row.again.end c (inside_loop row.end row.outer) row.again.here
         (instr_within own.code row.again.end (Jmp row.top) row.end row.again.back)

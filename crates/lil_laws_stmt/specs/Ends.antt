@@ -5,18 +5,20 @@ use Rattle.lil_base.specs.declared.fault.TrapKind.TheVariants as trap
 use Rattle.lil_resolved.specs.Resolved.{Halt, Return}
 use Rattle.lil_meaning.specs.World.{World, closing, all_closed}
 use Rattle.lil_meaning.specs.Closings.{all_none, all_some}
-use Rattle.lil_meaning.specs.Items.{Do, Turns, End, Item, Perform, Level, Going, Closing, Ended, Source}
+use Rattle.lil_meaning.specs.Items.{Do, Turns, Holding, End, Item, Perform, Level, Going, Closing, Ended, Source}
 use Rattle.lil_meaning.specs.Steps.{next, returned, left_by, over}
 use Rattle.lil_asm.specs.declared.instr.Instr.TheVariants.{Rtn, Trp}
 use Rattle.lil_mcode.specs.declared.machine.Event.TheVariants.{LevelEnded}
-use Rattle.lil_mcode.specs.State.{Kept, State}
+use Rattle.lil_mcode.specs.State.{Module, Kept, State}
 use Rattle.lil_mcode.specs.Table.{end_row}
+use Rattle.lil_table.specs.Rows.{IsAt, loop_place}
 use Rattle.lil_match.specs.Running.{Finished, Run, running, advanced}
 use Rattle.lil_match.specs.Parts.{yes}
 use Rattle.lil_match.specs.Goes.{Stands, number_of, Shared, Lands, Goes}
 use Rattle.lil_match.specs.Stutter.{stutter}
 use Rattle.lil_match.specs.Waits.{Mode, Quiet, Around, outside, Frame, Setting, with_frames, RowsOf, Rows, Ahead, Behind, EndWaits, EndedWaits, Waiting}
 use Rattle.lil_match.specs.Closing.{closed}
+use Rattle.lil_match.specs.Laid.{IsAround, around_self, around_more, shared_around, goes_around}
 use Rattle.lil_match.specs.Steps.{advances, at_step, at_once, lands_on, goes_none, goes_one}
 use Rattle.lil_laws_place.specs.Stores.{trap_goes}
 use Rattle.lil_laws_stmt.specs.Returns.{goes_back}
@@ -92,42 +94,71 @@ module _ (ctx : Setting) where
           ends (record now { phase = Ended }) (first_level ∙ ap (λ (o : Option World). left_by None o now) e ∙ ap (λ (l : List Level). over l None now) shared.levels.none)
           (record { finish = refl; world = all_none 1 s.world e })
 
-  -- where items that have rows go on behind the end of the running frame, with at most so many jumps owed
-  pub record Returns (k : List Item) (c : ℕ) : Type 0 where
-    pub rest : List Item
-    pub is : returned k ≡ Perform (End ctx.stack.frame.activation) ∷ rest
-    pub later : ℕ
-    pub less : later ≤ c
-    pub behind : Behind ctx rest (RowsOf rest) later ctx.stack.callers ctx.stack.bodies
+-- where items that have rows go on behind the end of the running frame, with at most so many jumps owed, in what is around the WITHs that they leave
+pub record Returns (ctx : Setting) (k : List Item) (c : ℕ) : Type 0 where
+  pub before : Setting
+  pub deep : IsAround before ctx
+  pub free : before.stack.frame.layout.held ≡ []
+  pub rest : List Item
+  pub is : returned k ≡ Perform (End before.stack.frame.activation) ∷ rest
+  pub later : ℕ
+  pub less : later ≤ c
+  pub behind : Behind before rest (RowsOf rest) later before.stack.callers before.stack.bodies
 
-  more : (k i : List Item) (c later : ℕ) → later ≤ c → returned i ≡ returned k → Returns k later → Returns i c
-  more k i c later le same r = record { rest = r.rest; is = same ∙ r.is; later = r.later; less = omega (arith, le, r.less); behind = r.behind }
+more : (ctx : Setting) (k i : List Item) (c later : ℕ) → later ≤ c → returned i ≡ returned k → Returns ctx k later → Returns ctx i c
+more ctx k i c later le same r =
+    record { before = r.before; deep = r.deep; free = r.free; rest = r.rest; is = same ∙ r.is; later = r.later; less = omega (arith, le, r.less); behind = r.behind }
 
-  returns : (k : List Item) (t : Mode) (p : ℕ) (stack : List ℕ) (c : ℕ) (a : Around) → Rows ctx k t p stack c a → Returns k c
-  returns [] t p stack c a r = absurd r
-  returns (Perform (Turns x kind z step left body) ∷ k) t p stack c a r =
-      more k (Perform (Turns x kind z step left body) ∷ k) c r.later (omega (arith, r.count)) refl (⊎_elim (λ b. returns k _ _ _ _ _ b.then) (λ n. returns k _ _ _ _ _ n.then) r.there)
-  returns (Perform (End n) ∷ k) t p stack c a r =
-      record { rest = k; is = ap (λ (x : ℕ). Perform (End x) ∷ k) r.there.activation; later = r.later; less = omega (arith, r.count); behind = r.there.behind }
-  returns (i ∷ k) t p stack c a r = more k (i ∷ k) c r.later (omega (arith, r.count)) refl (returns k _ _ _ _ _ r.there.then)
+returns : (ctx : Setting) (k : List Item) (t : Mode) (p : ℕ) (stack : List ℕ) (c : ℕ) (a : Around) → Rows ctx k t p stack c a → Returns ctx k c
+returns ctx [] t p stack c a r = absurd r
+returns ctx (Perform (Turns x kind z step left body) ∷ k) t p stack c a r =
+    more ctx k (Perform (Turns x kind z step left body) ∷ k) c r.later (omega (arith, r.count)) refl (⊎_elim (λ b. returns ctx k _ _ _ _ _ b.then) (λ n. returns ctx k _ _ _ _ _ n.then) r.there)
+returns ctx (Perform (Holding place) ∷ k) t p stack c a r =
+    let w = r.there in
+    let y = returns w.before k _ _ _ _ _ w.then in
+    record {
+      before = y.before;
+      deep = around_more y.before w.before ctx w.shape (loop_place w.outer.taken) w.is y.deep;
+      free = y.free;
+      rest = y.rest;
+      is = y.is;
+      later = y.later;
+      less = omega (arith, r.count, y.less);
+      behind = y.behind;
+    }
+returns ctx (Perform (End n) ∷ k) t p stack c a r =
+    record {
+      before = ctx;
+      deep = around_self ctx;
+      free = r.there.free;
+      rest = k;
+      is = ap (λ (x : ℕ). Perform (End x) ∷ k) r.there.activation;
+      later = r.later;
+      less = omega (arith, r.count);
+      behind = r.there.behind;
+    }
+returns ctx (i ∷ k) t p stack c a r = more ctx k (i ∷ k) c r.later (omega (arith, r.count)) refl (returns ctx k _ _ _ _ _ r.there.then)
 
-  -- the machine is at a return, as at the end of the body
-  pub return_goes : (s : Source) (k : List Item) (m : State) (c : ℕ) (a : Around) → Shared ctx s m → Waiting ctx (Perform (Do Return)) (Rows ctx k) Quiet m.place m.stack c a
-      → Goes ctx s (Perform (Do Return) ∷ k) m (c + 32)
-  return_goes s k m c a shared row =
-      let r = returns k _ _ _ _ _ row.then in
-      goes_none ctx s (Perform (Do Return) ∷ k) m (c + 32) r.later
-      (lands_on ctx s m shared (returned k) m.place m.stack r.later outside
-      (subst (λ (x : List Item). Ahead ctx x Quiet m.place m.stack r.later outside) (sym r.is)
-      (at_once ctx _ Quiet m.place m.stack r.later outside
-      (record {
-        quiet = refl;
-        empty = row.part.empty;
-        activation = refl;
-        alone = refl;
-        end = row.part.end;
-        leave = row.part.here;
-        behind = r.behind;
-      }))))
-      (omega (arith, r.less))
-      (omega (arith, returned_less k))
+-- the machine is at a return, as at the end of the body
+pub return_goes : (ctx : Setting) (s : Source) (k : List Item) (m : State) (c : ℕ) (a : Around) → Shared ctx s m → Waiting ctx (Perform (Do Return)) (Rows ctx k) Quiet m.place m.stack c a
+    → Goes ctx s (Perform (Do Return) ∷ k) m (c + 32)
+return_goes ctx s k m c a shared row =
+    let r = returns ctx k _ _ _ _ _ row.then in
+    let code : ctx.stack.frame.own ≡ r.before.stack.frame.own = ap (λ (x : Setting). x.stack.frame.own) r.deep.is in
+    goes_around r.before ctx r.deep s (Perform (Do Return) ∷ k) m (c + 32)
+    (goes_none r.before s (Perform (Do Return) ∷ k) m (c + 32) r.later
+    (lands_on r.before s m (shared_around r.before ctx r.deep s m shared) (returned k) m.place m.stack r.later outside
+    (subst (λ (x : List Item). Ahead r.before x Quiet m.place m.stack r.later outside) (sym r.is)
+    (at_once r.before _ Quiet m.place m.stack r.later outside
+    (record {
+      quiet = refl;
+      empty = row.part.empty;
+      activation = refl;
+      alone = refl;
+      free = r.free;
+      end = row.part.end;
+      leave = subst (λ (o : Module). IsAt o.code m.place Rtn row.part.end) code row.part.here;
+      behind = r.behind;
+    }))))
+    (omega (arith, r.less))
+    (omega (arith, returned_less k)))

@@ -31,7 +31,8 @@ use Rattle.lil_match.specs.Waits.{Setting, frame_of, laid_out, Quiet, ValueOf, A
 use Rattle.lil_match.specs.Orders.{instr_within, expression_within}
 use Rattle.lil_match.specs.Closing.{closed, variable_here, both_trap}
 use Rattle.lil_match.specs.Steps.{advances, pushes, at_step, at_once, rows_ahead, lands_on, goes_none, shared_with, untouched, touched, goes_one, goes_after_in, goes_after, goes_more, operand_goes}
-use Rattle.lil_match.specs.Kept.{own_word, own_inside, shared_shadowed, touches_shadowed, rows_shadowed}
+use Rattle.lil_match.specs.Kept as kept
+use Rattle.lil_match.specs.Kept.{shared_shadowed, touches_shadowed, rows_shadowed}
 use Rattle.lil_laws_stmt.specs.Control.{body_rows}
 use Rattle.lil_laws_stmt.specs.ForWords.{word_small, next_word, step_some, turns_read, turns_few}
 
@@ -60,12 +61,11 @@ module _ (ctx : Setting) where
 
   -- a word of the running frame
   own_read : (s : Source) (m : State) → Shared ctx s m → (i a : ℕ) → a ≡ m.frame + i → i < l.frame → get_or m.store a 0 ≡ h.shadow (ctx.stack.frame.at + i)
-  own_read s m shared i a at less =
-      ap (λ (n : ℕ). get_or m.store n 0) (at ∙ ap (λ (n : ℕ). n + i) shared.standing.frame_is) ∙ shared.mem.kept (ctx.stack.frame.at + i) (own_word ctx s m shared i 0 less)
+  own_read s m shared i a at less = ap (λ (n : ℕ). get_or m.store n 0) at ∙ kept.own_read ctx s m shared i 0 less
 
   -- the running frame lies in the store
   inside : (s : Source) (m : State) → Shared ctx s m → (i : ℕ) → i < l.frame → m.frame + i < 65536
-  inside s m shared i less = omega (arith, shared.standing.frame_is, (own_inside ctx s m shared i 0 less).1, shared.standing.high)
+  inside s m shared i less = kept.own_low ctx s m shared i 0 less
 
   module _ (s : Source) (k : List Item) (m : State) (c : ℕ) (a : Around) (shared : Shared ctx s m) where
     abbrev Rest : Reach
@@ -75,9 +75,9 @@ module _ (ctx : Setting) where
     Turning x kind z step left body = Perform (Turns x kind z step left body) ∷ k
 
     module _ (x : ℕ) (kind : Kind) (z step : ℤ) (left : ℕ) (body : Statements)
-        (words : LoopWords ctx a.loops left (word_of step)) (now : words.now ≡ word_of z) (empty : m.stack ≡ [])
+        (words : LoopWords ctx a.taken left (word_of step)) (now : words.now ≡ word_of z) (empty : m.stack ≡ [])
         (fit : TurnsFit (base_of kind) z step (suc left)) (small : left < 65536) (end : ℕ)
-        (round : RoundRow l own.code (a.loops) x kind step (BodyAt l own.code (suc (a.loops)) a.exit body) m.place end) (ends : end < length own.code)
+        (round : RoundRow l own.code (a.taken) x kind step (BodyAt l own.code (3 + a.taken) a.exit body) m.place end) (ends : end < length own.code)
         (then : Rest Quiet end [] c a) where
       abbrev base : Kind
       base = base_of kind
@@ -105,7 +105,7 @@ module _ (ctx : Setting) where
           let v : Scalar = scalar_of kind z in
           let fits : within kind v ≡ true = value_fits kind z there in
           let word : word_for h v ≡ word_of z = plain_word h kind v fits ∙ number_word kind z there in
-          let inner : Around = record { exit = a.exit; loops = suc a.loops } in
+          let inner : Around = record { exit = a.exit; taken = 3 + a.taken } in
           let offset : ℕ = round.known.offset in
           let store : List ℕ = set m.store (own.base + offset) (word_of z) in
           let machine : State = record m { place = round.start; store = store } in
@@ -117,7 +117,7 @@ module _ (ctx : Setting) where
           (mem_stored h s.cells m.store place kind v shared.mem variable.living fits) in
           let rows : Rows ctx after Quiet round.start [] c inner =
           body_rows ctx body (Turning x kind (z +ℤ step) step left body) round.start round.end c inner round.here
-          (instr_within own.code round.end (Frn (loop_place (a.loops)) m.place) end round.next)
+          (instr_within own.code round.end (Frn (loop_place (a.taken)) m.place) end round.next)
           (at_once ctx _ Quiet round.end [] c inner
           (inr (record {
             quiet = refl;
@@ -191,9 +191,9 @@ module _ (ctx : Setting) where
       turn_goes =
           goes_after ctx s items m (holding round.loaded) (c + 20) (c + 19)
           (advances m s.world _ (
-          at_step ctx m shared.program (Llw (loop_place (a.loops))) round.loaded round.load
-          ∙ yes _ _ _ (lt-ltb (m.frame + loop_place (a.loops)) 65536 (inside s m shared (loop_place a.loops) (omega (arith, round.room))))
-          ∙ ap (λ (w : ℕ). push_row w round.loaded m) (own_read s m shared (loop_place a.loops) (m.frame + loop_place a.loops) refl (omega (arith, round.room)) ∙ words.now_is ∙ now)
+          at_step ctx m shared.program (Llw (loop_place (a.taken))) round.loaded round.load
+          ∙ yes _ _ _ (lt-ltb (m.frame + loop_place (a.taken)) 65536 (inside s m shared (loop_place a.taken) (omega (arith, round.room))))
+          ∙ ap (λ (w : ℕ). push_row w round.loaded m) (own_read s m shared (loop_place a.taken) (m.frame + loop_place a.taken) refl (omega (arith, round.room)) ∙ words.now_is ∙ now)
           ∙ pushes (word_of z) round.loaded m (omega (arith, ap length empty))
           ))
           (by_test (covers kind base) refl round.test)
@@ -203,7 +203,7 @@ module _ (ctx : Setting) where
 record Written (ctx : Setting) (s : Source) (m : State) (n : ℕ) (store : List ℕ) (x : Home) : Type 0 where
   pub shared : Shared (at_home ctx x) s (record m { store = store })
   pub touch : Touches ctx.home x ctx.stack.base ctx.stack.limit
-  pub rows : (k : List Item) (p c : ℕ) (a : Around) → loop_place a.loops ≤ n → Rows ctx k Quiet p [] c a → Rows (at_home ctx x) k Quiet p [] c a
+  pub rows : (k : List Item) (p c : ℕ) (a : Around) → loop_place a.taken ≤ n → Rows ctx k Quiet p [] c a → Rows (at_home ctx x) k Quiet p [] c a
 
 written_none : (ctx : Setting) (s : Source) (m : State) (n : ℕ) → Shared ctx s m → Written ctx s m n m.store ctx.home
 written_none ctx s m n shared = record { shared = shared; touch = untouched ctx.home ctx.stack.base ctx.stack.limit; rows = λ k p c a le r. r }
@@ -335,8 +335,8 @@ module _ (ctx : Setting) where
       pub turn : ℕ
       pub end : ℕ
       pub load : IsAt own.code m.place (Liw (word_of step)) stepped
-      pub enter : IsAt own.code stepped (Fri (loop_place a.loops) (loop_sign (compared_as (base_of kind))) end) turn
-      pub round : RoundRow l own.code (a.loops) x kind step (BodyAt l own.code (suc (a.loops)) a.exit body) turn end
+      pub enter : IsAt own.code stepped (Fri (loop_place a.taken) (loop_sign (compared_as (base_of kind))) end) turn
+      pub round : RoundRow l own.code (a.taken) x kind step (BodyAt l own.code (3 + a.taken) a.exit body) turn end
       pub within : end < length own.code
       pub then : Left Quiet end [] c a
 
@@ -345,10 +345,10 @@ module _ (ctx : Setting) where
     bounded_goes x' kind first step left body row = by_left left (sym row.count)
       where
         at : ℕ
-        at = m.frame + loop_place a.loops
+        at = m.frame + loop_place a.taken
 
         n : ℕ
-        n = loop_place a.loops
+        n = loop_place a.taken
 
         based : is_base (base_of kind) ≡ true
         based = ordinal_base (base_of kind) row.round.known.base
@@ -370,7 +370,7 @@ module _ (ctx : Setting) where
             )
 
         enters : (u : ℕ) → turns first row.limit step ≡ u
-            → mstep (going m row.stepped (word_of step ∷ m.stack)) ≡ begun_row own (m.frame + loop_place a.loops) row.end row.turn (going m row.stepped (word_of step ∷ m.stack)) (word_of first) (word_of step) [] (after_first u)
+            → mstep (going m row.stepped (word_of step ∷ m.stack)) ≡ begun_row own (m.frame + loop_place a.taken) row.end row.turn (going m row.stepped (word_of step ∷ m.stack)) (word_of first) (word_of step) [] (after_first u)
         enters u e =
             at_step ctx stepped shared.program (Fri n (loop_sign (compared_as (base_of kind))) row.end) row.turn row.enter
             ∙ ap (λ (st : List ℕ). on_three stepped (word_of step ∷ st) (loop_row own at (loop_sign (compared_as (base_of kind))) row.end row.turn stepped)) row.stack_is
@@ -426,18 +426,18 @@ module _ (ctx : Setting) where
     next_goes x' kind z step left body row = by_left left refl row.fit row.small
       where
         n : ℕ
-        n = loop_place row.outer.loops
+        n = loop_place row.outer.taken
 
         at : ℕ
-        at = m.frame + loop_place row.outer.loops
+        at = m.frame + loop_place row.outer.taken
 
-        room : loop_place row.outer.loops + 3 ≤ l.frame
+        room : loop_place row.outer.taken + 3 ≤ l.frame
         room = row.round.room
 
-        deep : m.frame + loop_place row.outer.loops + 2 < 65536
-        deep = omega (arith, inside ctx s m shared (loop_place row.outer.loops + 2) (omega (arith, room)))
+        deep : m.frame + loop_place row.outer.taken + 2 < 65536
+        deep = omega (arith, inside ctx s m shared (loop_place row.outer.taken + 2) (omega (arith, room)))
 
-        again : (u : ℕ) → left ≡ u → mstep m ≡ turn_row own (m.frame + loop_place row.outer.loops) row.turn row.end m row.words.now u (word_of step)
+        again : (u : ℕ) → left ≡ u → mstep m ≡ turn_row own (m.frame + loop_place row.outer.taken) row.turn row.end m row.words.now u (word_of step)
         again u e =
             at_step ctx m shared.program (Frn n row.turn) row.end (subst (λ (p : ℕ). IsAt own.code p (Frn n row.turn) row.end) (sym row.at) row.round.next)
             ∙ yes _ _ _ (lt-ltb (at + 1) 65536 (omega (arith, deep)))

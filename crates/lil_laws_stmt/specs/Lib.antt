@@ -9,6 +9,9 @@ pub mod ForWords
 pub mod Fors
 pub mod Members
 pub mod Painting
+pub mod Requests
 pub mod Returns
 pub mod Starts
+pub mod Strings
 pub mod Tasks
+pub mod Withs

@@ -48,7 +48,7 @@ module _ (ctx : Setting) where
         (at_once ctx _ Quiet m.place m.stack c a
         (record {
           part = record { end = r.found; here = r.here; shallow = omega (arith, r.shallow, ap length row.part.empty) };
-          then = at_once ctx _ (AtPlace (access_of l d) (shape_of l.shapes d)) r.found m.stack c a
+          then = at_once ctx _ (AtPlace (access_of l d) (shape_of l.scope d)) r.found m.stack c a
               (record {
                 part = record {
                   typed = r.set;

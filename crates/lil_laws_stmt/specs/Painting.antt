@@ -4,10 +4,13 @@ use Rattle.std.specs.Prelude.{nat_lt}
 use Rattle.std.proofs.lemmas.Bool.{lt-ltb, le-ltb, cases_lt}
 use Rattle.lil_meaning.specs.Cells.{Root}
 use Rattle.lil_match.specs.Parts.{yes, no}
-use Rattle.lil_match.specs.Homes.{Of, Own, Free}
+use Rattle.lil_match.specs.Homes.{Of, Own, Fixed, Free}
 
 pub own_free : (b : ℕ) → Own ≡ Free b → ⊥
 own_free b e = cc
+
+pub free_fixed : (b : ℕ) → Free b ≡ Fixed → ⊥
+free_fixed b e = cc
 
 pub of_own : (r : Root) → Of r ≡ Own → ⊥
 of_own r e = cc

@@ -11,12 +11,13 @@ use Rattle.lil_mcode.specs.Table.{return_row}
 use Rattle.lil_table.specs.Rows.{IsAt}
 use Rattle.lil_match.specs.Running.{running, advanced}
 use Rattle.lil_match.specs.Parts.{yes, no}
-use Rattle.lil_match.specs.Homes.{Of, Own, Free, Home, Mem, word_same}
+use Rattle.lil_match.specs.Homes.{Of, Own, Fixed, own_fixed, Free, Home, Mem, word_same}
 use Rattle.lil_match.specs.Goes.{OwnWords, Stands, Shared, Goes}
 use Rattle.lil_match.specs.Waits.{Quiet, Frame, Setting, at_home, with_frames, Rows, RowsOf, Back}
+use Rattle.lil_match.specs.Known.{known_kept, each_known, each_comes}
 use Rattle.lil_match.specs.Kept.{EachAbove, first_words, stands_above, all_above, stands_kept, rows_kept}
 use Rattle.lil_match.specs.Steps.{advances, at_step, rows_ahead, goes_one_in}
-use Rattle.lil_laws_stmt.specs.Painting.{own_free, of_own, painted, painted_there, painted_beside, Side, Before, Between, Behind', side}
+use Rattle.lil_laws_stmt.specs.Painting.{own_free, free_fixed, of_own, painted, painted_there, painted_beside, Side, Before, Between, Behind', side}
 
 module _ (ctx : Setting) (f g : Frame) (gs bs : List Frame) where
   abbrev called : Setting
@@ -82,6 +83,7 @@ module _ (ctx : Setting) (f g : Frame) (gs bs : List Frame) where
           let old = shared.mem.holds r q j e in
           record { word = old.word ∙ word_same h x (λ o. refl) (s.cells r q); fits = old.fits };
       kept = λ a own. kept a own (side f.at m.top a);
+      fixed = λ a e. fixed_there a e (side f.at m.top a);
       long = shared.mem.long;
     }
       where
@@ -95,6 +97,20 @@ module _ (ctx : Setting) (f g : Frame) (gs bs : List Frame) where
         kept a own (Before z) = shared.mem.kept a (sym (beside_is a (inl z)) ∙ own)
         kept a own (Between z y) = absurd (own_free ctx.stack.base (sym own ∙ there_is a z y))
         kept a own (Behind' z y) = shared.mem.kept a (sym (beside_is a (inr (z, y))) ∙ own)
+
+        fixed_there : (a : ℕ) → x.owner a ≡ Fixed → Side f.at m.top a → get_or m.store a 0 ≡ ctx.home.shadow a
+        fixed_there a e (Before z) = shared.mem.fixed a (sym (beside_is a (inl z)) ∙ e)
+        fixed_there a e (Between z y) = absurd (free_fixed ctx.stack.base (sym (there_is a z y) ∙ e))
+        fixed_there a e (Behind' z y) = shared.mem.fixed a (sym (beside_is a (inr (z, y))) ∙ e)
+
+    -- a word that never changes isn't the frame's
+    fixed_kept : (a : ℕ) → ctx.home.owner a ≡ Fixed → (x.owner a ≡ Fixed) × (ctx.home.shadow a ≡ ctx.home.shadow a)
+    fixed_kept a is = (by (side f.at m.top a), refl)
+      where
+        by : Side f.at m.top a → x.owner a ≡ Fixed
+        by (Before z) = beside_is a (inl z) ∙ is
+        by (Between z y) = absurd (own_fixed (sym (words.own (a - f.at) (omega (arith, z, y))) ∙ ap ctx.home.owner (let e : f.at + (a - f.at) ≡ a = omega (arith, z) in e) ∙ is))
+        by (Behind' z y) = beside_is a (inr (z, y)) ∙ is
 
     pub goes_back : Goes called s (Perform (End n) ∷ k) m (c + 32)
     goes_back =
@@ -112,9 +128,9 @@ module _ (ctx : Setting) (f g : Frame) (gs bs : List Frame) where
                 base_is = g'.base_is;
                 limit_is = g'.limit_is;
                 bodies_are = g'.bodies_are;
-                known = g'.callers.0;
-                callers = g'.callers.1;
-                comes = g'.comes;
+                known = known_kept ctx.library ctx.loaded ctx.table ctx.activations h x (λ r. refl) (λ r. refl) fixed_kept g g'.callers.0;
+                callers = each_known ctx.library ctx.loaded ctx.table ctx.activations h x (λ r. refl) (λ r. refl) fixed_kept gs g'.callers.1;
+                comes = each_comes ctx.library ctx.loaded ctx.table ctx.activations h x (λ r. refl) (λ r. refl) fixed_kept ctx.stack.base bs g'.comes;
                 stands = subst (λ (t : ℕ). Stands x.owner base t g gs) (sym g'.frame_is)
                     (stands_kept h.owner x.owner base f.at g gs (λ a from below. beside_is a (inl below)) g'.stands.1);
                 room = λ a from below. room a (omega (arith, from, g'.frame_is)) below (side f.at m.top a);
@@ -141,6 +157,7 @@ module _ (ctx : Setting) (f g : Frame) (gs bs : List Frame) where
           base = λ r. refl;
           shape = λ r. refl;
           reference = λ o. refl;
+          fixed = fixed_kept;
         })
         (refl, refl)
         (λ e. e)

@@ -1,6 +1,8 @@
--- Assignments, INC, DEC, INCL, EXCL, HALT and calls that are lowered are sound.
-use Rattle.std.proofs.Common.{◌≡◌, ℕ, ◌≤◌, pos, Bool, true, List, [], ◌∷◌, map, Option, None, Some, IfSome, refl, sym, ap, subst, ◌∙◌, true≢false}
-use Rattle.std.specs.Prelude.{◌==◌, ◌&&◌, slice_get}
+-- Assignments, strings, INC, DEC, INCL, EXCL, HALT and calls that are lowered are sound.
+use Rattle.std.proofs.Common.{◌≡◌, ℕ, zero, suc, ◌≤◌, pos, Bool, true, false, arith, if◌then◌else◌, List, [], ◌∷◌, length, map, Option, None, Some, IfSome, refl, sym, ap, subst, ◌∙◌, true≢false}
+use Rattle.std.specs.Prelude.{◌==◌, ◌&&◌, nat_le, slice_get}
+use Rattle.std.specs.Option.{option_map}
+use Rattle.std.proofs.lemmas.Bool.Decides.{nat_tests}
 use Rattle.std.proofs.lemmas.Option.{same_Some}
 use Rattle.lil_types.specs.Types.{Table}
 use Rattle.lil_module.specs.declared.declared.RModule.{RModule}
@@ -16,11 +18,11 @@ use Rattle.lil_module.specs.declared.tree.RDesignator.{RDesignator}
 use Rattle.lil_module.specs.declared.tree.RElement.{RElement}
 use Rattle.lil_module.specs.declared.tree.ROperation.{ROperation}
 use Rattle.lil_resolved.specs.Bases.{own_base}
-use Rattle.lil_resolved.specs.Kinds.{Kind, OfWhole, OfSet, compared_as}
+use Rattle.lil_resolved.specs.Kinds.{OfWhole, OfSet, compared_as}
 use Rattle.lil_resolved.specs.Depth.{place_depth}
-use Rattle.lil_resolved.specs.Resolved.{Expression, Argument, Statements, kind_of, counted_as, shape_of}
-use Rattle.lil_resolved.specs.Sound.{takes_value, is_element, request_kinds, argument_kind, IsSoundTarget, IsSoundWhole, IsSoundValue, AreSoundArguments, IsSoundBody}
-use Rattle.lil_resolved.specs.Shapes.{Shape, is_there}
+use Rattle.lil_resolved.specs.Resolved.{Designator, Expression, Argument, OfArray, OfText, Statements, kind_of, counted_as, shape_of}
+use Rattle.lil_resolved.specs.Sound.{Parameter, Single, Characters, takes_value, is_element, is_text, request_parameters, parameter_of, IsSoundArgument, IsSoundArray, IsSoundTarget, IsSoundWhole, IsSoundValue, AreSoundArguments, IsSoundBody}
+use Rattle.lil_resolved.specs.Shapes.{Scope, is_there}
 use Rattle.lil_resolved.specs.Views.{base_view, ranged_view, kind_view, request_number}
 use Rattle.lil_resolved.specs.declared.resolved.RBase.{RBase}
 use Rattle.lil_resolved.specs.declared.resolved.RBase.TheVariants as b
@@ -34,16 +36,18 @@ use Rattle.lil_resolved.specs.declared.resolved.Membership.{Membership}
 use Rattle.lil_resolved.specs.declared.resolved.Membership.TheVariants.{Joins, Leaves}
 use Rattle.lil_lower_type.specs.declared.members.Members.{Members}
 use Rattle.lil_lower_type.specs.Bases.{base_at}
+use Rattle.lil_lower_type.specs.Characters.{characters_at}
 use Rattle.lil_lower_type.specs.Operators.{counted}
 use Rattle.lil_lower_type.specs.Members.{members_at}
 use Rattle.lil_lower_type.specs.BaseLaws.{if_true, same_sort, members_known}
-use Rattle.lil_lower_value.specs.Places.{Place, Cell}
+use Rattle.lil_lower_value.specs.Places.{Around, Place, Cell, near_place}
 use Rattle.lil_lower_value.specs.Values as v
-use Rattle.lil_lower_value.specs.Values.{Lowers, argument}
-use Rattle.lil_lower_value.specs.PlaceSound.{Fits, IsPlaced, IsTarget, near_kept, target_sound}
+use Rattle.lil_lower_value.specs.Values.{Lowers, argument, designator}
+use Rattle.lil_lower_value.specs.PlaceSound.{Fits, IsPlaced, IsTarget, near_kept, characters_lie, target_sound}
 use Rattle.lil_lower_value.specs.ValueSound.{Kept, both_left, both_right, whole_held, entered_held, shallow_kept, shallow_value, kept_whole, kept_alone}
 use Rattle.lil_lower_value.specs.TreeSound.{argument_sound, designator_sound, target_known, handed_sound}
 use Rattle.lil_lower.specs.Calls as s
+use Rattle.lil_lower.specs.Calls.{Formal, OfType, OfCharacters}
 
 -- a kind of sets with no range
 set_view : (k : RKind) → k.base ≡ b.Set → s.is_unranged k.range ≡ true → kind_view k ≡ OfSet
@@ -65,19 +69,24 @@ counted_base t b.Set = (b.Cardinal, refl, refl)
 counted_kind : (k : RKind) → OfWhole (compared_as (base_view k.base)) ≡ OfWhole (counted_as (kind_view k))
 counted_kind k = ap (λ j. OfWhole (compared_as j)) (sym (own_base k))
 
--- what the parameters' values are
-abbrev bases : List (RBase × ℕ) → List Kind
-bases ps = map (λ p. base_view p.0) ps
+at_most : (a b : ℕ) → nat_le a b ≡ true → a ≤ b
+at_most a b h = grind (arith, nat_tests)
 
-parameters_are : (r : RRequest) → request_kinds (request_number r) ≡ Some (bases (s.parameters r))
+-- what parameters are
+abbrev parameter : Formal → Parameter
+parameter (OfType k sort) = Single (base_view k)
+parameter OfCharacters = Characters
+
+parameters_are : (r : RRequest) → request_parameters (request_number r) ≡ Some (map parameter (s.parameters r))
 parameters_are q.Write = refl
+parameters_are q.WriteString = refl
 parameters_are q.WriteLn = refl
 parameters_are q.WriteCard = refl
 parameters_are q.WriteInt = refl
 parameters_are q.WriteOct = refl
 parameters_are q.WriteHex = refl
 
-module _ (m : RModule) (ts : List Shape) (fits : Fits m ts) where
+module _ (m : RModule) (around : Around) (ts : Scope) (fits : Fits m around ts) where
   abbrev Body : Bool → Option Statements → Type 0
   Body looping o = IfSome o (IsSoundBody ts looping)
 
@@ -98,14 +107,14 @@ module _ (m : RModule) (ts : List Shape) (fits : Fits m ts) where
   abbrev pub Filled : Place → Type 0
   Filled p = Lies p × (is_there (shape_of ts p.form) ≡ true)
 
-  abbrev Near : (Place → Type 0) → Option Place → Type 0
+  abbrev pub Near : (Place → Type 0) → Option Place → Type 0
   Near P o = IfSome o (λ p. P p × (place_depth p.form ≤ 13))
 
-  pub source_known : (a : RExpr) → Near Lies (s.source m a)
-  source_known a = near_kept Lies (s.source_in m (out-RExpr a)) (by (out-RExpr a))
+  pub source_known : (a : RExpr) → Near Lies (s.source m around a)
+  source_known a = near_kept Lies (s.source_in m around (out-RExpr a)) (by (out-RExpr a))
     where
-      by : (y : RExpr-F RArgument RCallee RExpr RSelector RDesignator RElement ROperation) → IfSome (s.source_in m y) Lies
-      by (x.RExpr::Value d) = designator_sound m ts fits d
+      by : (y : RExpr-F RArgument RCallee RExpr RSelector RDesignator RElement ROperation) → IfSome (s.source_in m around y) Lies
+      by (x.RExpr::Value d) = designator_sound m around ts fits d
       by _ = tt
 
   same_shape : (d from : Place) → Lies d → Lies from → from.sort ≡ d.sort → shape_of ts from.form ≡ shape_of ts d.form
@@ -126,6 +135,25 @@ module _ (m : RModule) (ts : List Shape) (fits : Fits m ts) where
   copied_sound looping None from h j = tt
   copied_sound looping (Some d) None h j = tt
 
+  -- ---- texts
+  pub written_sound : (looping : Bool) (d : Option Place) (cs : List ℕ) → Near Lies d → Body looping (s.written m.types d cs)
+  written_sound looping None cs h = tt
+  written_sound looping (Some p) cs h = by (characters_at m.types p.sort) refl
+    where
+      by : (o : Option ℕ) → characters_at m.types p.sort ≡ o → Body looping (s.written_in p o cs)
+      by None is = tt
+      by (Some n) is = if_true (IsSoundBody ts looping) (nat_le (length cs) n && is_text cs) _ (λ both. (
+        record {
+          count = n;
+          shape = characters_lie m around ts fits p n h.0 is;
+          fits = at_most (length cs) n (both_left (nat_le (length cs) n) (is_text cs) both);
+          text = both_right (nat_le (length cs) n) (is_text cs) both;
+          place = h.0.good;
+          shallow = h.1;
+        },
+        tt,
+      ))
+
   -- ---- INC and DEC
   changed_sound : (looping : Bool) (way : Direction) (o : Option Cell) (by : Lowers) → Known o
       → ((w : ℕ) → IfSome (v.shallow (by w)) (Kept m.types ts w)) → Body looping (s.changed_by way o by)
@@ -143,23 +171,23 @@ module _ (m : RModule) (ts : List Shape) (fits : Fits m ts) where
             tt,
           )
 
-  place_known : (a : RArgument) → Known (s.place m a)
+  place_known : (a : RArgument) → Known (s.place m around a)
   place_known a = by (out-RArgument a)
     where
-      by : (y : RArgument-F RArgument RCallee RExpr RSelector RDesignator RElement ROperation) → Known (s.place_in m y)
+      by : (y : RArgument-F RArgument RCallee RExpr RSelector RDesignator RElement ROperation) → Known (s.place_in m around y)
       by (x.RArgument::Value e) = tt
-      by (x.Place d) = target_known m ts fits d
+      by (x.Place d) = target_known m around ts fits d
       by (x.Type i) = tt
 
-  change_sound : (looping : Bool) (way : Direction) (xs : List RArgument) → Body looping (s.change m way xs)
+  change_sound : (looping : Bool) (way : Direction) (xs : List RArgument) → Body looping (s.change m around way xs)
   change_sound looping way [] = tt
   change_sound looping way (a ∷ []) =
-      changed_sound looping way (s.place m a) (v.whole m.types (pos 1)) (place_known a) (λ w. shallow_kept m.types ts w (v.whole m.types (pos 1) w) (whole_held m.types ts (pos 1) w))
-  change_sound looping way (a ∷ c ∷ []) = changed_sound looping way (s.place m a) (argument m c).lowers (place_known a) (handed_sound m ts fits c)
+      changed_sound looping way (s.place m around a) (v.whole m.types (pos 1)) (place_known a) (λ w. shallow_kept m.types ts w (v.whole m.types (pos 1) w) (whole_held m.types ts (pos 1) w))
+  change_sound looping way (a ∷ c ∷ []) = changed_sound looping way (s.place m around a) (argument m around c).lowers (place_known a) (handed_sound m around ts fits c)
   change_sound looping way (a ∷ c ∷ d ∷ xs) = tt
 
   -- ---- INCL and EXCL
-  turned_sound : (looping : Bool) (way : Membership) (o : Option Cell) (c : RArgument) → Known o → Body looping (s.turned_at m.types way o (argument m c))
+  turned_sound : (looping : Bool) (way : Membership) (o : Option Cell) (c : RArgument) → Known o → Body looping (s.turned_at m.types way o (argument m around c))
   turned_sound looping way None c h = tt
   turned_sound looping way (Some a) c h = by (members_at m.types a.sort) refl
     where
@@ -174,16 +202,16 @@ module _ (m : RModule) (ts : List Shape) (fits : Fits m ts) where
         tt,
       ))
 
-      by : (o : Option Members) → members_at m.types a.sort ≡ o → Body looping (s.turned_in way o a (argument m c))
+      by : (o : Option Members) → members_at m.types a.sort ≡ o → Body looping (s.turned_in way o a (argument m around c))
       by None is = tt
       by (Some x) is =
           let base = same_Some a.kind.base b.Set (sym h.cell.type ∙ members_known m.types a.sort x is) in
-          over x base (v.shallow (v.entered x (argument m c))) (shallow_value m.types ts (kind_view x.kind) (v.entered x (argument m c)) (entered_held m.types ts x (argument m c) (argument_sound m ts fits c)))
+          over x base (v.shallow (v.entered x (argument m around c))) (shallow_value m.types ts (kind_view x.kind) (v.entered x (argument m around c)) (entered_held m.types ts x (argument m around c) (argument_sound m around ts fits c)))
 
-  membership_sound : (looping : Bool) (way : Membership) (xs : List RArgument) → Body looping (s.membership m way xs)
+  membership_sound : (looping : Bool) (way : Membership) (xs : List RArgument) → Body looping (s.membership m around way xs)
   membership_sound looping way [] = tt
   membership_sound looping way (a ∷ []) = tt
-  membership_sound looping way (a ∷ c ∷ []) = turned_sound looping way (s.place m a) c (place_known a)
+  membership_sound looping way (a ∷ c ∷ []) = turned_sound looping way (s.place m around a) c (place_known a)
   membership_sound looping way (a ∷ c ∷ d ∷ xs) = tt
 
   -- ---- HALT
@@ -191,7 +219,7 @@ module _ (m : RModule) (ts : List Shape) (fits : Fits m ts) where
   halted_sound looping [] = (tt, tt)
   halted_sound looping (a ∷ xs) = tt
 
-  pub procedure_sound : (looping : Bool) (p : Standard) (xs : List RArgument) → Body looping (s.procedure m p xs)
+  pub procedure_sound : (looping : Bool) (p : Standard) (xs : List RArgument) → Body looping (s.procedure m around p xs)
   procedure_sound looping standard.Inc xs = change_sound looping Up xs
   procedure_sound looping standard.Dec xs = change_sound looping Down xs
   procedure_sound looping standard.Incl xs = membership_sound looping Joins xs
@@ -200,40 +228,66 @@ module _ (m : RModule) (ts : List Shape) (fits : Fits m ts) where
   procedure_sound looping _ xs = tt
 
   -- ---- calls of resident procedures
-  abbrev Given : Kind → Argument → Type 0
-  Given k a = IsSoundValue ts a.value a.kind × (a.kind ≡ k)
+  abbrev Given : Formal → Argument → Type 0
+  Given p a = IsSoundArgument ts a × (parameter_of a ≡ parameter p)
 
-  given_sound : (k : RBase) (sort : ℕ) (o : Option Expression) → IfSome o (Kept m.types ts sort) → IfSome (s.given k o) (Given (base_view k))
-  given_sound k sort None h = tt
-  given_sound k sort (Some e) h = if_true (Given (base_view k)) (takes_value (base_view k) (kind_of e)) _ (λ takes. (record { takes = takes; whole = kept_alone m.types ts sort e h }, refl))
+  given_sound : (k : RBase) (sort own : ℕ) (o : Option Expression) → IfSome o (Kept m.types ts own) → IfSome (s.given k o) (Given (OfType k sort))
+  given_sound k sort own None h = tt
+  given_sound k sort own (Some e) h = if_true (Given (OfType k sort)) (takes_value (base_view k) (kind_of e)) _ (λ takes. (record { takes = takes; whole = kept_alone m.types ts own e h }, refl))
 
-  one_sound : (k : RBase) (sort : ℕ) (a : RArgument) → IfSome (s.handed m k sort a) (Given (base_view k))
-  one_sound k sort a =
-      let own = v.own_or (argument m a).own sort in
-      given_sound k own (v.shallow ((argument m a).lowers own)) (handed_sound m ts fits a own)
+  text_sound : (o : Option (List ℕ)) → IfSome (s.text_given o) (Given OfCharacters)
+  text_sound None = tt
+  text_sound (Some cs) = if_true (Given OfCharacters) (is_text cs) (OfText cs) (λ text. (text, refl))
 
-  abbrev AllGiven : List (RBase × ℕ) → List Argument → Type 0
-  AllGiven ps given = AreSoundArguments ts given × (map argument_kind given ≡ bases ps)
+  last_sound : (d : Designator) (n : ℕ) (b : Bool) → IsSoundArray ts d n → IfSome (option_map (OfArray d) (if b then Some n else None)) (Given OfCharacters)
+  last_sound d n true h = (h, refl)
+  last_sound d n false h = tt
 
-  linked_sound : (p : RBase × ℕ) (ps : List (RBase × ℕ)) (a : Option Argument) (rest : Option (List Argument))
-      → IfSome a (Given (base_view p.0)) → IfSome rest (AllGiven ps) → IfSome (s.linked a rest) (AllGiven (p ∷ ps))
+  array_sound : (o : Option Place) → Near Lies o → IfSome (s.array_given m.types o) (Given OfCharacters)
+  array_sound None h = tt
+  array_sound (Some p) h = by (characters_at m.types p.sort) refl
+    where
+      by : (o : Option ℕ) → characters_at m.types p.sort ≡ o → IfSome (option_map (OfArray p.form) (s.last_of o)) (Given OfCharacters)
+      by None is = tt
+      by (Some zero) is = tt
+      by (Some (suc n)) is = last_sound p.form n (nat_le n 65535) (record { shape = characters_lie m around ts fits p (suc n) h.0 is; place = h.0.good; shallow = h.1 })
+
+  string_sound : (a : RArgument) → IfSome (s.string m around a) (Given OfCharacters)
+  string_sound a = by (out-RArgument a)
+    where
+      by : (y : RArgument-F RArgument RCallee RExpr RSelector RDesignator RElement ROperation) → IfSome (s.string_in m around y) (Given OfCharacters)
+      by (x.RArgument::Value e) = text_sound (s.text_of m e)
+      by (x.Place d) = array_sound (near_place (designator m around d).place) (near_kept Lies (designator m around d).place (designator_sound m around ts fits d))
+      by (x.Type i) = tt
+
+  one_sound : (p : Formal) (a : RArgument) → IfSome (s.handed m around p a) (Given p)
+  one_sound OfCharacters a = string_sound a
+  one_sound (OfType k sort) a =
+      let own = v.own_or (argument m around a).own sort in
+      given_sound k sort own (v.shallow ((argument m around a).lowers own)) (handed_sound m around ts fits a own)
+
+  abbrev AllGiven : List Formal → List Argument → Type 0
+  AllGiven ps given = AreSoundArguments ts given × (map parameter_of given ≡ map parameter ps)
+
+  linked_sound : (p : Formal) (ps : List Formal) (a : Option Argument) (rest : Option (List Argument))
+      → IfSome a (Given p) → IfSome rest (AllGiven ps) → IfSome (s.linked a rest) (AllGiven (p ∷ ps))
   linked_sound p ps None rest h j = tt
   linked_sound p ps (Some a) None h j = tt
   linked_sound p ps (Some a) (Some rest) h j = ((h.0, j.0), (λ i. h.1 i ∷ j.1 i))
 
-  arguments_sound : (ps : List (RBase × ℕ)) (xs : List RArgument) → IfSome (s.arguments m ps xs) (AllGiven ps)
+  arguments_sound : (ps : List Formal) (xs : List RArgument) → IfSome (s.arguments m around ps xs) (AllGiven ps)
   arguments_sound [] [] = (tt, refl)
   arguments_sound [] (a ∷ xs) = tt
   arguments_sound (p ∷ ps) [] = tt
-  arguments_sound (p ∷ ps) (a ∷ xs) = linked_sound p ps (s.handed m p.0 p.1 a) (s.arguments m ps xs) (one_sound p.0 p.1 a) (arguments_sound ps xs)
+  arguments_sound (p ∷ ps) (a ∷ xs) = linked_sound p ps (s.handed m around p a) (s.arguments m around ps xs) (one_sound p a) (arguments_sound ps xs)
 
   requested_sound : (looping : Bool) (r : RRequest) (o : Option (List Argument)) → IfSome o (AllGiven (s.parameters r)) → Body looping (s.requested r o)
   requested_sound looping r None h = tt
   requested_sound looping r (Some given) h = ((parameters_are r ∙ ap Some (sym h.1), h.0), tt)
 
-  pub called_sound : (looping : Bool) (c : RCallee) (xs : List RArgument) → Body looping (s.called m c xs)
+  pub called_sound : (looping : Bool) (c : RCallee) (xs : List RArgument) → Body looping (s.called m around c xs)
   called_sound looping c xs = by (s.request c)
     where
-      by : (o : Option RRequest) → Body looping (s.called_by m o xs)
+      by : (o : Option RRequest) → Body looping (s.called_by m around o xs)
       by None = tt
-      by (Some r) = requested_sound looping r (s.arguments m (s.parameters r) xs) (arguments_sound (s.parameters r) xs)
+      by (Some r) = requested_sound looping r (s.arguments m around (s.parameters r) xs) (arguments_sound (s.parameters r) xs)

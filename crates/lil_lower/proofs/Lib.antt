@@ -3,3 +3,4 @@ pub mod Lists
 pub mod ModuleForms
 pub mod StatementForms
 pub mod StatementSound
+pub mod Texts

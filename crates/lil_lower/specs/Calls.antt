@@ -1,5 +1,6 @@
--- What assignments, INC and DEC, INCL and EXCL, HALT, and calls of resident procedures are for the generator.
-use Rattle.std.specs.Prelude.{ℕ, ◌==◌, pos, Bool, true, false, ◌&&◌, List, [], ◌∷◌, Option, Some, None, if◌then◌else◌}
+-- What assignments, strings, INC and DEC, INCL and EXCL, HALT, and calls of resident procedures are for the generator.
+use Rattle.std.specs.Prelude.{ℕ, zero, suc, ◌==◌, nat_le, pos, Bool, true, false, ◌&&◌, List, [], ◌∷◌, length, slice_get, Option, Some, None, if◌then◌else◌}
+use Rattle.std.specs.Option.{option_map}
 use Rattle.lil_types.specs.Types.{Table, integer, cardinal, char}
 use Rattle.lil_module.specs.declared.declared.RModule.{RModule}
 use Rattle.lil_module.specs.declared.tree.Standard.{Standard}
@@ -15,8 +16,8 @@ use Rattle.lil_module.specs.declared.tree.RSelector.{RSelector}
 use Rattle.lil_module.specs.declared.tree.RDesignator.{RDesignator}
 use Rattle.lil_module.specs.declared.tree.RElement.{RElement}
 use Rattle.lil_module.specs.declared.tree.ROperation.{ROperation}
-use Rattle.lil_resolved.specs.Resolved.{Expression, Argument, Assign, Copy, Change, Member, Request, Halt, Statements, Empty, Then, kind_of}
-use Rattle.lil_resolved.specs.Sound.{takes_value, is_element}
+use Rattle.lil_resolved.specs.Resolved.{Expression, Argument, ByValue, OfArray, OfText, Assign, Copy, Text, Change, Member, Request, Halt, Statements, Empty, Then, kind_of}
+use Rattle.lil_resolved.specs.Sound.{takes_value, is_element, is_text}
 use Rattle.lil_resolved.specs.Views.{base_view, kind_view, request_number, is_down, is_out}
 use Rattle.lil_resolved.specs.declared.resolved.RBase.{RBase}
 use Rattle.lil_resolved.specs.declared.resolved.RBase.TheVariants as b
@@ -28,9 +29,10 @@ use Rattle.lil_resolved.specs.declared.resolved.Membership.{Membership}
 use Rattle.lil_resolved.specs.declared.resolved.Membership.TheVariants.{Joins, Leaves}
 use Rattle.lil_resolved.specs.declared.resolved.RRange.{RRange}
 use Rattle.lil_lower_type.specs.declared.members.Members.{Members}
+use Rattle.lil_lower_type.specs.Characters.{characters_at}
 use Rattle.lil_lower_type.specs.Operators.{counted}
 use Rattle.lil_lower_type.specs.Members.{members_at}
-use Rattle.lil_lower_value.specs.Places.{Place, Cell, near_place}
+use Rattle.lil_lower_value.specs.Places.{Around, Place, Cell, near_place}
 use Rattle.lil_lower_value.specs.Values.{Lowers, Value, whole, own_or, entered, argument, designator, target, shallow}
 
 -- ---- assignments
@@ -42,6 +44,40 @@ stored c None = None
 abbrev pub copied : Option Place → Option Place → Option Statements
 copied (Some d) (Some from) = if from.sort == d.sort then Some (Then (Copy d.form from.form) Empty) else None
 copied _ _ = None
+
+-- ---- strings
+abbrev pub text_in : RModule → RExpr-F RArgument RCallee RExpr RSelector RDesignator RElement ROperation → Option (List ℕ)
+text_in m (x.Chars cs) = Some cs
+text_in m (x.Named n) = slice_get m.texts n
+text_in m _ = None
+
+-- the text that a value is
+abbrev pub text_of : RModule → RExpr → Option (List ℕ)
+text_of m a = text_in m (out-RExpr a)
+
+abbrev pub written_in : Place → Option ℕ → List ℕ → Option Statements
+written_in p None cs = None
+written_in p (Some n) cs = if nat_le (length cs) n && is_text cs then Some (Then (Text p.form cs) Empty) else None
+
+-- a text goes to an array of at least as many characters
+abbrev pub written : Table → Option Place → List ℕ → Option Statements
+written t None cs = None
+written t (Some p) cs = written_in p (characters_at t p.sort) cs
+
+-- the number of the last of some elements
+abbrev pub last_of : Option ℕ → Option ℕ
+last_of None = None
+last_of (Some zero) = None
+last_of (Some (suc n)) = if nat_le n 65535 then Some n else None
+
+-- an array of characters, and a text, for an open array of them
+abbrev pub array_given : Table → Option Place → Option Argument
+array_given t None = None
+array_given t (Some p) = option_map (OfArray p.form) (last_of (characters_at t p.sort))
+
+abbrev pub text_given : Option (List ℕ) → Option Argument
+text_given None = None
+text_given (Some cs) = if is_text cs then Some (OfText cs) else None
 
 -- ---- INC and DEC
 abbrev pub changed : Direction → Cell → Option Expression → Option Statements
@@ -78,23 +114,27 @@ halted [] = Some (Then Halt Empty)
 halted (x ∷ xs) = None
 
 -- ---- calls of resident procedures
--- those that take words alone
 abbrev pub request_of : Resident → Option RRequest
 request_of resident.Read = None
 request_of resident.Write = Some q.Write
-request_of resident.WriteString = None
+request_of resident.WriteString = Some q.WriteString
 request_of resident.WriteLn = Some q.WriteLn
 request_of resident.WriteCard = Some q.WriteCard
 request_of resident.WriteInt = Some q.WriteInt
 request_of resident.WriteOct = Some q.WriteOct
 request_of resident.WriteHex = Some q.WriteHex
 
--- the parameters: what their values are, and their types
-abbrev pub parameters : RRequest → List (RBase × ℕ)
-parameters q.Write = (b.Character, char) ∷ []
+-- a parameter takes values of a base, and of a type, or is an open array of characters
+pub data Formal : Type 0 where
+  OfType : (k : RBase) (s : ℕ) → Formal
+  OfCharacters : Formal
+
+abbrev pub parameters : RRequest → List Formal
+parameters q.Write = OfType b.Character char ∷ []
+parameters q.WriteString = OfCharacters ∷ []
 parameters q.WriteLn = []
-parameters q.WriteInt = (b.Integer, integer) ∷ (b.Cardinal, cardinal) ∷ []
-parameters _ = (b.Cardinal, cardinal) ∷ (b.Cardinal, cardinal) ∷ []
+parameters q.WriteInt = OfType b.Integer integer ∷ OfType b.Cardinal cardinal ∷ []
+parameters _ = OfType b.Cardinal cardinal ∷ OfType b.Cardinal cardinal ∷ []
 
 abbrev pub request_in : RCallee-F RArgument RCallee RExpr RSelector RDesignator RElement ROperation → Option RRequest
 request_in (x.RCallee::Procedure n) = None
@@ -105,7 +145,7 @@ abbrev pub request : RCallee → Option RRequest
 request c = request_in (out-RCallee c)
 
 abbrev pub given : RBase → Option Expression → Option Argument
-given k (Some e) = if takes_value (base_view k) (kind_of e) then Some (record { kind = base_view k; value = e }) else None
+given k (Some e) = if takes_value (base_view k) (kind_of e) then Some (ByValue (base_view k) e) else None
 given k None = None
 
 abbrev pub linked : {A : Type 0} → Option A → Option (List A) → Option (List A)
@@ -116,22 +156,31 @@ abbrev pub requested : RRequest → Option (List Argument) → Option Statements
 requested r (Some xs) = Some (Then (Request (request_number r) xs) Empty)
 requested r None = None
 
-module _ (m : RModule) where
+module _ (m : RModule) (around : Around) where
   abbrev pub source_in : RExpr-F RArgument RCallee RExpr RSelector RDesignator RElement ROperation → Option Place
-  source_in (x.RExpr::Value d) = (designator m d).place
+  source_in (x.RExpr::Value d) = (designator m around d).place
   source_in _ = None
 
   -- the place at which a value stands
   abbrev pub source : RExpr → Option Place
   source a = near_place (source_in (out-RExpr a))
 
-  -- an argument: a constant has its parameter's type, any other value its own
-  abbrev pub handed : RBase → ℕ → RArgument → Option Argument
-  handed k s x = given k (shallow ((argument m x).lowers (own_or (argument m x).own s)))
+  abbrev pub string_in : RArgument-F RArgument RCallee RExpr RSelector RDesignator RElement ROperation → Option Argument
+  string_in (x.RArgument::Value a) = text_given (text_of m a)
+  string_in (x.Place d) = array_given m.types (near_place (designator m around d).place)
+  string_in (x.Type s) = None
 
-  abbrev pub arguments : List (RBase × ℕ) → List RArgument → Option (List Argument)
+  abbrev pub string : RArgument → Option Argument
+  string a = string_in (out-RArgument a)
+
+  -- an argument: a constant has its parameter's type, any other value its own
+  abbrev pub handed : Formal → RArgument → Option Argument
+  handed OfCharacters x = string x
+  handed (OfType k s) x = given k (shallow ((argument m around x).lowers (own_or (argument m around x).own s)))
+
+  abbrev pub arguments : List Formal → List RArgument → Option (List Argument)
   arguments [] [] = Some []
-  arguments (p ∷ ps) (x ∷ xs) = linked (handed p.0 p.1 x) (arguments ps xs)
+  arguments (p ∷ ps) (x ∷ xs) = linked (handed p x) (arguments ps xs)
   arguments _ _ = None
 
   abbrev pub called_by : Option RRequest → List RArgument → Option Statements
@@ -143,7 +192,7 @@ module _ (m : RModule) where
 
   abbrev pub place_in : RArgument-F RArgument RCallee RExpr RSelector RDesignator RElement ROperation → Option Cell
   place_in (x.RArgument::Value a) = None
-  place_in (x.Place d) = target m d
+  place_in (x.Place d) = target m around d
   place_in (x.Type s) = None
 
   -- the cell that an argument is
@@ -153,12 +202,12 @@ module _ (m : RModule) where
   -- INC and DEC by 1, or by a second argument
   abbrev pub change : Direction → List RArgument → Option Statements
   change way (a ∷ []) = changed_by way (place a) (whole m.types (pos 1))
-  change way (a ∷ c ∷ []) = changed_by way (place a) (argument m c).lowers
+  change way (a ∷ c ∷ []) = changed_by way (place a) (argument m around c).lowers
   change way _ = None
 
   -- INCL and EXCL of a number
   abbrev pub membership : Membership → List RArgument → Option Statements
-  membership way (a ∷ c ∷ []) = turned_at m.types way (place a) (argument m c)
+  membership way (a ∷ c ∷ []) = turned_at m.types way (place a) (argument m around c)
   membership way _ = None
 
   abbrev pub procedure : Standard → List RArgument → Option Statements

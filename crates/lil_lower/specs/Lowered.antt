@@ -1,5 +1,5 @@
 -- What statements and modules are for the generator, where it has their forms.
-use Rattle.std.specs.Prelude.{ℕ, nat_le, ℤ, pos, int_lt, Bool, true, false, not, ◌&&◌, List, [], ◌∷◌, length, map, slice_get, Option, Some, None, if◌then◌else◌}
+use Rattle.std.specs.Prelude.{ℕ, nat_le, ℤ, pos, int_lt, Bool, true, false, not, ◌&&◌, List, [], ◌∷◌, ◌++◌, length, map, slice_get, Option, Some, None, if◌then◌else◌}
 use Rattle.std.specs.Option.{option_map}
 use Rattle.std.specs.List.{list_all}
 use Rattle.lil_base.specs.Words.{Integer, in_type, is_zero}
@@ -21,7 +21,7 @@ use Rattle.lil_module.specs.declared.tree.RStmt.{RStmt}
 use Rattle.lil_module.specs.declared.tree.RStmt.TheOpen as s
 use Rattle.lil_module.specs.declared.tree.RStmt.TheOpen.{RStmt-F, RArm-F, RGuard-F}
 use Rattle.lil_module.specs.declared.tree.RStmt.TheFolds.{fold-RStmt, fold-RArm, fold-RGuard}
-use Rattle.lil_resolved.specs.Resolved.{Expression, Label, If, Case, While, Repeat, Loop, Exit, Return, For, Statements, Empty, Then, Arms, NoElse, Else, Arm, Resolved, kind_of}
+use Rattle.lil_resolved.specs.Resolved.{Expression, Label, If, Case, While, Repeat, Loop, Exit, Return, For, Inside, Statements, Empty, Then, Arms, NoElse, Else, Arm, Resolved, kind_of}
 use Rattle.lil_resolved.specs.Sound.{takes_value, is_ordinal}
 use Rattle.lil_resolved.specs.Shapes.{Shape}
 use Rattle.lil_resolved.specs.Views.{base_view, kind_view, variable_kind, all_of}
@@ -33,33 +33,33 @@ use Rattle.lil_lower_type.specs.Composites.{composite_at}
 pub use Rattle.lil_lower_type.specs.Shaping.{all_some}
 use Rattle.lil_lower_type.specs.Shaping.{shapes, variables_by}
 use Rattle.lil_lower_value.specs.declared.variables.Variable.{Variable}
-use Rattle.lil_lower_value.specs.Places.{Place, Cell, near_place, cell, near}
+use Rattle.lil_lower_value.specs.Places.{Around, Place, Cell, near_place, cell, near}
 use Rattle.lil_lower_value.specs.Values.{root, own_or, expression, designator, shallow}
 use Rattle.lil_lower.specs.declared.selectors.Ordinal.{Ordinal}
-use Rattle.lil_lower.specs.Calls.{stored, copied, source, called, procedure}
+use Rattle.lil_lower.specs.Calls.{stored, copied, text_of, written, source, called, procedure}
 
--- a statement inside of a LOOP or not, a condition with the statements behind it, and an arm by the selector's base
+-- a statement in the WITHs around, inside of a LOOP or not, a condition with the statements behind it, and an arm by the selector's base
 abbrev pub Meaning : Type 0
-Meaning = Bool → Option Statements
+Meaning = Around → Bool → Option Statements
 
 abbrev pub GuardMeaning : Type 0
-GuardMeaning = Bool → Option (Expression × Statements)
+GuardMeaning = Around → Bool → Option (Expression × Statements)
 
 abbrev pub ArmMeaning : Type 0
-ArmMeaning = Bool → RBase → Option (List Label × Statements)
+ArmMeaning = Around → Bool → RBase → Option (List Label × Statements)
 
 -- ---- lists
 abbrev pub paired : {A B : Type 0} → Option A → Option B → Option (A × B)
 paired (Some a) (Some b) = Some (a, b)
 paired _ _ = None
 
-abbrev pub body : Bool → List Meaning → Option Statements
-body looping ss = option_map all_of (all_some (map (λ m. m looping) ss))
+abbrev pub body : Around → Bool → List Meaning → Option Statements
+body around looping ss = option_map all_of (all_some (map (λ m. m around looping) ss))
 
 -- ---- IF
-abbrev pub else_body : Bool → Option (List Meaning) → Option Statements
-else_body looping None = Some Empty
-else_body looping (Some ss) = body looping ss
+abbrev pub else_body : Around → Bool → Option (List Meaning) → Option Statements
+else_body around looping None = Some Empty
+else_body around looping (Some ss) = body around looping ss
 
 -- guards, each with the others where its condition is FALSE
 abbrev pub nested : List (Expression × Statements) → Statements → Statements
@@ -99,8 +99,8 @@ first_of (Some s) other = Some s
 first_of None other = other
 
 -- the type of what a CASE selects by
-abbrev pub selector_sort : RModule → RExpr → Option ℕ
-selector_sort m a = first_of (expression m a).own (literal_in m (out-RExpr a))
+abbrev pub selector_sort : RModule → Around → RExpr → Option ℕ
+selector_sort m around a = first_of (expression m around a).own (literal_in m (out-RExpr a))
 
 -- one whose values are compared by their numbers
 abbrev pub selector_with : ℕ → Option RBase → Option Ordinal
@@ -112,8 +112,8 @@ selector_by t None = None
 selector_by t (Some s) = selector_with s (base_at t s)
 
 -- that type, and what its values are
-abbrev pub selector : RModule → RExpr → Option Ordinal
-selector m a = selector_by m.types (selector_sort m a)
+abbrev pub selector : RModule → Around → RExpr → Option Ordinal
+selector m around a = selector_by m.types (selector_sort m around a)
 
 -- a label isn't empty, and its ends are numbers of values of the base
 abbrev pub fits : RBase → RLabel → Bool
@@ -125,9 +125,9 @@ label_of l = record { low = l.low; high = l.high }
 abbrev pub labels : RBase → List RLabel → Option (List Label)
 labels k ls = if list_all (fits k) ls then Some (map label_of ls) else None
 
-abbrev pub else_arms : Bool → Option (List Meaning) → Option Arms
-else_arms looping None = Some NoElse
-else_arms looping (Some ss) = option_map Else (body looping ss)
+abbrev pub else_arms : Around → Bool → Option (List Meaning) → Option Arms
+else_arms around looping None = Some NoElse
+else_arms around looping (Some ss) = option_map Else (body around looping ss)
 
 -- arms, before what stands behind ELSE
 abbrev pub chosen : List (List Label × Statements) → Arms → Arms
@@ -137,6 +137,21 @@ chosen (a ∷ rest) other = Arm a.0 a.1 (chosen rest other)
 abbrev pub selected : Option Expression → Option (List (List Label × Statements)) → Option Arms → Option Statements
 selected (Some e) (Some arms) (Some other) = Some (Then (Case e (chosen arms other)) Empty)
 selected _ _ _ = None
+
+-- ---- WITH
+-- the record of a place
+abbrev pub record_place : Table → Option Place → Option Place
+record_place t None = None
+record_place t (Some p) = if composite_at t p.sort then Some p else None
+
+abbrev pub opened : Place → Option Statements → Option Statements
+opened p (Some ss) = Some (Then (Inside p.form ss) Empty)
+opened p None = None
+
+-- statements inside of it too
+abbrev pub within : Around → Option Place → (Around → Option Statements) → Option Statements
+within around None ss = None
+within around (Some p) ss = opened p (ss (around ++ p.sort ∷ []))
 
 -- ---- the other forms
 abbrev pub repeated_while : Option Expression → Option Statements → Option Statements
@@ -173,47 +188,56 @@ repeated_for v _ _ z _ = None
 
 -- ---- all forms
 module _ (m : RModule) where
-  abbrev pub value : RExpr → ℕ → Option Expression
-  value a s = shallow ((expression m a).lowers s)
+  abbrev pub value : Around → RExpr → ℕ → Option Expression
+  value around a s = shallow ((expression m around a).lowers s)
 
   -- a value in its own type, or a constant in that of the cell
-  abbrev pub assigned : Option Cell → RExpr → Option Statements
-  assigned None a = None
-  assigned (Some c) a = stored c (value a (own_or (expression m a).own c.sort))
+  abbrev pub assigned : Around → Option Cell → RExpr → Option Statements
+  assigned around None a = None
+  assigned around (Some c) a = stored c (value around a (own_or (expression m around a).own c.sort))
 
-  -- an array or a record takes all of another, any other place a value
-  abbrev pub assignment : Option Place → RExpr → Option Statements
-  assignment None a = None
-  assignment (Some p) a = if composite_at m.types p.sort then copied (near_place (Some p)) (source m a) else assigned (near (cell m.types (Some p))) a
+  -- an array of characters takes a text, and an array or a record all of another
+  abbrev pub composed : Around → Option Place → Option (List ℕ) → RExpr → Option Statements
+  composed around p (Some cs) a = written m.types p cs
+  composed around p None a = copied p (source m around a)
 
-  abbrev pub case_by : Option Ordinal → RExpr → Bool → List ArmMeaning → Option (List Meaning) → Option Statements
-  case_by None a looping arms other = None
-  case_by (Some by) a looping arms other = selected (value a by.sort) (all_some (map (λ f. f looping by.base) arms)) (else_arms looping other)
+  -- any other place takes a value
+  abbrev pub assignment : Around → Option Place → RExpr → Option Statements
+  assignment around None a = None
+  assignment around (Some p) a = if composite_at m.types p.sort then composed around (near_place (Some p)) (text_of m a) a else assigned around (near (cell m.types (Some p))) a
+
+  abbrev pub case_by : Option Ordinal → RExpr → Around → Bool → List ArmMeaning → Option (List Meaning) → Option Statements
+  case_by None a around looping arms other = None
+  case_by (Some by) a around looping arms other = selected (value around a by.sort) (all_some (map (λ f. f around looping by.base) arms)) (else_arms around looping other)
 
   -- a start in its own type, or a constant in that of the variable, and a limit in that of the variable
-  abbrev pub for_by : Option Variable → RExpr → RExpr → ℤ → Option Statements → Option Statements
-  for_by None a b z ss = None
-  for_by (Some v) a b z ss = repeated_for v (started v (value a (own_or (expression m a).own v.sort))) (value b v.sort) z ss
+  abbrev pub for_by : Around → Option Variable → RExpr → RExpr → ℤ → Option Statements → Option Statements
+  for_by around None a b z ss = None
+  for_by around (Some v) a b z ss = repeated_for v (started v (value around a (own_or (expression m around a).own v.sort))) (value around b v.sort) z ss
+
+  -- what WITH names
+  abbrev pub held : Around → RDesignator → Option Place
+  held around d = record_place m.types (near_place (designator m around d).place)
 
   abbrev pub statement_layer : RStmt-F Meaning ArmMeaning GuardMeaning → Meaning
-  statement_layer (s.Assign d a) looping = assignment (designator m d).place a
-  statement_layer (s.Call c xs) looping = called m c xs
-  statement_layer (s.Procedure p xs) looping = procedure m p xs
-  statement_layer (s.If gs other) looping = conditional (all_some (map (λ g. g looping) gs)) (else_body looping other)
-  statement_layer (s.Case a arms other) looping = case_by (selector m a) a looping arms other
-  statement_layer (s.While a ss) looping = repeated_while (value a boolean) (body looping ss)
-  statement_layer (s.Repeat ss a) looping = repeated_until (body looping ss) (value a boolean)
-  statement_layer (s.Loop ss) looping = looped (body true ss)
-  statement_layer (s.For r a b z ss) looping = for_by (root m r) a b z (body looping ss)
-  statement_layer (s.With d ss) looping = None
-  statement_layer s.Exit looping = exited looping
-  statement_layer (s.Return o) looping = returned o
+  statement_layer (s.Assign d a) around looping = assignment around (designator m around d).place a
+  statement_layer (s.Call c xs) around looping = called m around c xs
+  statement_layer (s.Procedure p xs) around looping = procedure m around p xs
+  statement_layer (s.If gs other) around looping = conditional (all_some (map (λ g. g around looping) gs)) (else_body around looping other)
+  statement_layer (s.Case a arms other) around looping = case_by (selector m around a) a around looping arms other
+  statement_layer (s.While a ss) around looping = repeated_while (value around a boolean) (body around looping ss)
+  statement_layer (s.Repeat ss a) around looping = repeated_until (body around looping ss) (value around a boolean)
+  statement_layer (s.Loop ss) around looping = looped (body around true ss)
+  statement_layer (s.For r a b z ss) around looping = for_by around (root m r) a b z (body around looping ss)
+  statement_layer (s.With d ss) around looping = within around (held around d) (λ inside. body inside looping ss)
+  statement_layer s.Exit around looping = exited looping
+  statement_layer (s.Return o) around looping = returned o
 
   abbrev pub guard_layer : RGuard-F Meaning ArmMeaning GuardMeaning → GuardMeaning
-  guard_layer g looping = paired (value g.condition boolean) (body looping g.body)
+  guard_layer g around looping = paired (value around g.condition boolean) (body around looping g.body)
 
   abbrev pub arm_layer : RArm-F Meaning ArmMeaning GuardMeaning → ArmMeaning
-  arm_layer a looping k = paired (labels k a.labels) (body looping a.body)
+  arm_layer a around looping k = paired (labels k a.labels) (body around looping a.body)
 
   unfoldable pub statement : RStmt → Meaning
   statement = fold-RStmt Meaning ArmMeaning GuardMeaning statement_layer arm_layer guard_layer
@@ -225,8 +249,8 @@ module _ (m : RModule) where
   guard = fold-RGuard Meaning ArmMeaning GuardMeaning statement_layer arm_layer guard_layer
 
   -- statements in their order
-  abbrev pub statements : Bool → List RStmt → Option Statements
-  statements looping ss = option_map all_of (all_some (map (λ x. statement x looping) ss))
+  abbrev pub statements : Around → Bool → List RStmt → Option Statements
+  statements around looping ss = option_map all_of (all_some (map (λ x. statement x around looping) ss))
 
 -- ---- modules: at most 32,000 variables, in as many words
 abbrev pub module_with : RModule → List Shape → Statements → Resolved
@@ -237,4 +261,4 @@ laid_out m (Some ts) (Some ss) = Some (module_with m ts ss)
 laid_out m _ _ = None
 
 unfoldable pub lowered : RModule → Option Resolved
-lowered m = if nat_le (length m.variables) 32000 then laid_out m (variables_by (shapes m.types) m.variables) (statements m false m.body) else None
+lowered m = if nat_le (length m.variables) 32000 then laid_out m (variables_by (shapes m.types) m.variables) (statements m [] false m.body) else None

@@ -5,6 +5,7 @@ ghost use Rattle.lil_resolved.specs.declared.resolved.RBase.TheVariants as b;
 ghost use Rattle.lil_resolved.specs.Views as view;
 ghost use Rattle.lil_lower.specs.Calls as spec;
 
+use crate::strings::string;
 use lil_base::{Items, Memory, beside};
 use lil_lower_type::takes_value;
 use lil_lower_value::{argument, argument_sort, own_or, shallow};
@@ -13,14 +14,13 @@ use lil_resolved::{RArgument, RBase, RExpr, RKind, RRequest, RStmt, base as base
 use lil_types::{CARDINAL, CHAR, INTEGER, TypeId};
 use std::alloc::Global;
 
-/// A resident procedure that takes words alone.
 fn request_of(of: Resident) -> Option<RRequest>
     ensures { result ≡ spec.request_of of }
 {
     match of {
         Resident::Read => None,
         Resident::Write => Some(RRequest::Write),
-        Resident::WriteString => None,
+        Resident::WriteString => Some(RRequest::WriteString),
         Resident::WriteLn => Some(RRequest::WriteLn),
         Resident::WriteCard => Some(RRequest::WriteCard),
         Resident::WriteInt => Some(RRequest::WriteInt),
@@ -44,7 +44,7 @@ fn given(base: RBase, of: Option<RExpr>) -> Option<RArgument>
 {
     let kind = RKind { base, range: None };
     match of {
-        Some(value) if takes_value(kind, base_of(&value)) => Some(RArgument { kind, value }),
+        Some(value) if takes_value(kind, base_of(&value)) => Some(RArgument::Value(kind, value)),
         rest => {
             drop(rest);
             None
@@ -52,19 +52,20 @@ fn given(base: RBase, of: Option<RExpr>) -> Option<RArgument>
     }
 }
 
-/// An argument: a constant has its parameter's type, any other value its own.
+/// A value for a parameter of a base: a constant has the parameter's type, any other value its own.
 fn handed(
     alloc: Global,
     m: &RModule,
+    around: &[TypeId],
     base: RBase,
     sort: TypeId,
     of: &Given,
 ) -> Result<Option<RArgument>, Memory>
     requires { length m.now.variables ≤ 32000 }
-    ensures { IfOk result (λ o. option_map view.argument_of o ≡ spec.handed m.now base sort of.now) }
+    ensures { IfOk result (λ o. option_map view.argument_of o ≡ spec.handed m.now around.now (spec.OfType base sort) of.now) }
 {
-    let sort = own_or(argument_sort(m, of), sort);
-    let value = argument(alloc, m, sort, of)?;
+    let sort = own_or(argument_sort(m, around, of), sort);
+    let value = argument(alloc, m, around, sort, of)?;
     Ok(given(base, shallow(value)))
 }
 
@@ -103,7 +104,7 @@ fn both(
 }
 
 fn no_arguments(alloc: Global, of: &[Given]) -> Option<Items<RArgument>>
-    ensures { (m : _) → option_map (map view.argument_of) result ≡ spec.arguments m [] of.now }
+    ensures { (m around : _) → option_map (map view.argument_of) result ≡ spec.arguments m around [] of.now }
 {
     match of {
         [] => Some(Items::new(alloc)),
@@ -114,15 +115,16 @@ fn no_arguments(alloc: Global, of: &[Given]) -> Option<Items<RArgument>>
 fn one_argument(
     alloc: Global,
     m: &RModule,
+    around: &[TypeId],
     base: RBase,
     sort: TypeId,
     of: &[Given],
 ) -> Result<Option<Items<RArgument>>, Memory>
     requires { length m.now.variables ≤ 32000 }
-    ensures { IfOk result (λ o. option_map (map view.argument_of) o ≡ spec.arguments m.now ((base, sort) ∷ []) of.now) }
+    ensures { IfOk result (λ o. option_map (map view.argument_of) o ≡ spec.arguments m.now around.now (spec.OfType base sort ∷ []) of.now) }
 {
     match of {
-        [only] => alone(alloc, handed(alloc, m, base, sort, only)?),
+        [only] => alone(alloc, handed(alloc, m, around, base, sort, only)?),
         _ => Ok(None),
     }
 }
@@ -131,20 +133,36 @@ fn one_argument(
 fn number_argument(
     alloc: Global,
     m: &RModule,
+    around: &[TypeId],
     base: RBase,
     sort: TypeId,
     of: &[Given],
 ) -> Result<Option<Items<RArgument>>, Memory>
     requires { length m.now.variables ≤ 32000 }
-    ensures { IfOk result (λ o. option_map (map view.argument_of) o ≡ spec.arguments m.now ((base, sort) ∷ (b.Cardinal, cardinal) ∷ []) of.now) }
+    ensures { IfOk result (λ o. option_map (map view.argument_of) o ≡ spec.arguments m.now around.now (spec.OfType base sort ∷ spec.OfType b.Cardinal cardinal ∷ []) of.now) }
 {
     match of {
         [number, columns] => {
-            let number = handed(alloc, m, base, sort, number)?;
-            let columns = handed(alloc, m, RBase::Cardinal, CARDINAL, columns);
+            let number = handed(alloc, m, around, base, sort, number)?;
+            let columns = handed(alloc, m, around, RBase::Cardinal, CARDINAL, columns);
             let (number, columns) = beside(number, columns)?;
             both(alloc, number, columns)
         }
+        _ => Ok(None),
+    }
+}
+
+fn string_argument(
+    alloc: Global,
+    m: &RModule,
+    around: &[TypeId],
+    of: &[Given],
+) -> Result<Option<Items<RArgument>>, Memory>
+    requires { length m.now.variables ≤ 32000 }
+    ensures { IfOk result (λ o. option_map (map view.argument_of) o ≡ spec.arguments m.now around.now (spec.OfCharacters ∷ []) of.now) }
+{
+    match of {
+        [only] => alone(alloc, string(alloc, m, around, only)?),
         _ => Ok(None),
     }
 }
@@ -153,18 +171,20 @@ fn number_argument(
 fn arguments(
     alloc: Global,
     m: &RModule,
+    around: &[TypeId],
     request: RRequest,
     of: &[Given],
 ) -> Result<Option<Items<RArgument>>, Memory>
     requires { length m.now.variables ≤ 32000 }
-    ensures { IfOk result (λ o. option_map (map view.argument_of) o ≡ spec.arguments m.now (spec.parameters request) of.now) }
+    ensures { IfOk result (λ o. option_map (map view.argument_of) o ≡ spec.arguments m.now around.now (spec.parameters request) of.now) }
 {
     match request {
-        RRequest::Write => one_argument(alloc, m, RBase::Character, CHAR, of),
+        RRequest::Write => one_argument(alloc, m, around, RBase::Character, CHAR, of),
+        RRequest::WriteString => string_argument(alloc, m, around, of),
         RRequest::WriteLn => Ok(no_arguments(alloc, of)),
-        RRequest::WriteInt => number_argument(alloc, m, RBase::Integer, INTEGER, of),
+        RRequest::WriteInt => number_argument(alloc, m, around, RBase::Integer, INTEGER, of),
         RRequest::WriteCard | RRequest::WriteOct | RRequest::WriteHex => {
-            number_argument(alloc, m, RBase::Cardinal, CARDINAL, of)
+            number_argument(alloc, m, around, RBase::Cardinal, CARDINAL, of)
         }
     }
 }
@@ -183,16 +203,17 @@ fn requested(request: RRequest, given: Option<Items<RArgument>>) -> Option<RStmt
 pub(crate) fn called(
     alloc: Global,
     m: &RModule,
+    around: &[TypeId],
     callee: &RCallee,
     of: &[Given],
 ) -> Result<Option<RStmt>, Memory>
     requires { length m.now.variables ≤ 32000 }
-    ensures { IfOk result (λ o. option_map view.statement_of o ≡ spec.called m.now callee.now of.now) }
+    ensures { IfOk result (λ o. option_map view.statement_of o ≡ spec.called m.now around.now callee.now of.now) }
 {
     match request(callee) {
         None => Ok(None),
         Some(request) => {
-            let given = arguments(alloc, m, request, of)?;
+            let given = arguments(alloc, m, around, request, of)?;
             Ok(requested(request, given))
         }
     }

@@ -13,14 +13,20 @@ use lil_lower_value::{
 };
 use lil_module::{RArgument, RDesignator, RExpr as Value, RModule, Standard};
 use lil_resolved::{Direction, Membership, RExpr, RStmt, base};
+use lil_types::TypeId;
 use std::alloc::Global;
 
 /// The cell that a designator names, where values may be stored to it.
-fn target(alloc: Global, m: &RModule, of: &RDesignator) -> Result<Option<Cell>, Memory>
+fn target(
+    alloc: Global,
+    m: &RModule,
+    around: &[TypeId],
+    of: &RDesignator,
+) -> Result<Option<Cell>, Memory>
     requires { length m.now.variables ≤ 32000 }
-    ensures { IfOk result (λ o. option_map celled o ≡ values.target m.now of.now) }
+    ensures { IfOk result (λ o. option_map celled o ≡ values.target m.now around.now of.now) }
 {
-    let found = place(alloc, m, of)?;
+    let found = place(alloc, m, around, of)?;
     Ok(near(cell_of(&m.types, found)))
 }
 
@@ -59,13 +65,18 @@ pub(crate) fn copied(to: Option<Placed>, from: Option<Placed>) -> Option<RStmt>
 }
 
 /// The place at which a value stands, where it is no more than that.
-pub(crate) fn source(alloc: Global, m: &RModule, of: &Value) -> Result<Option<Placed>, Memory>
+pub(crate) fn source(
+    alloc: Global,
+    m: &RModule,
+    around: &[TypeId],
+    of: &Value,
+) -> Result<Option<Placed>, Memory>
     requires { length m.now.variables ≤ 32000 }
-    ensures { IfOk result (λ o. option_map placed o ≡ spec.source m.now of.now) }
+    ensures { IfOk result (λ o. option_map placed o ≡ spec.source m.now around.now of.now) }
 {
     match of {
         Value::Value(of) => {
-            let found = place(alloc, m, of)?;
+            let found = place(alloc, m, around, of)?;
             Ok(near_place(as_place(found)))
         }
         _ => Ok(None),
@@ -86,12 +97,17 @@ fn changed(way: Direction, cell: Cell, by: Option<RExpr>) -> Option<RStmt>
 }
 
 /// The cell that an argument is.
-fn argument_cell(alloc: Global, m: &RModule, of: &RArgument) -> Result<Option<Cell>, Memory>
+fn argument_cell(
+    alloc: Global,
+    m: &RModule,
+    around: &[TypeId],
+    of: &RArgument,
+) -> Result<Option<Cell>, Memory>
     requires { length m.now.variables ≤ 32000 }
-    ensures { IfOk result (λ o. option_map celled o ≡ spec.place m.now of.now) }
+    ensures { IfOk result (λ o. option_map celled o ≡ spec.place m.now around.now of.now) }
 {
     match of {
-        RArgument::Place(of) => target(alloc, m, of),
+        RArgument::Place(of) => target(alloc, m, around, of),
         _ => Ok(None),
     }
 }
@@ -111,17 +127,18 @@ fn by_one(m: &RModule, way: Direction, cell: Option<Cell>) -> Option<RStmt>
 fn by_value(
     alloc: Global,
     m: &RModule,
+    around: &[TypeId],
     way: Direction,
     cell: Option<Cell>,
     by: &RArgument,
 ) -> Result<Option<RStmt>, Memory>
     requires { length m.now.variables ≤ 32000 }
-    ensures { IfOk result (λ o. option_map view.statement_of o ≡ spec.changed_by way (option_map celled cell) (values.argument m.now by.now).lowers) }
+    ensures { IfOk result (λ o. option_map view.statement_of o ≡ spec.changed_by way (option_map celled cell) (values.argument m.now around.now by.now).lowers) }
 {
     match cell {
         None => Ok(None),
         Some(cell) => {
-            let by = argument(alloc, m, counted(cell.kind.base), by);
+            let by = argument(alloc, m, around, counted(cell.kind.base), by);
             let (cell, by) = beside(cell, by)?;
             Ok(changed(way, cell, shallow(by)))
         }
@@ -132,20 +149,21 @@ fn by_value(
 fn change(
     alloc: Global,
     m: &RModule,
+    around: &[TypeId],
     way: Direction,
     of: &[RArgument],
 ) -> Result<Option<RStmt>, Memory>
     requires { length m.now.variables ≤ 32000 }
-    ensures { IfOk result (λ o. option_map view.statement_of o ≡ spec.change m.now way of.now) }
+    ensures { IfOk result (λ o. option_map view.statement_of o ≡ spec.change m.now around.now way of.now) }
 {
     match of {
         [cell] => {
-            let cell = argument_cell(alloc, m, cell)?;
+            let cell = argument_cell(alloc, m, around, cell)?;
             Ok(by_one(m, way, cell))
         }
         [cell, by] => {
-            let cell = argument_cell(alloc, m, cell)?;
-            by_value(alloc, m, way, cell, by)
+            let cell = argument_cell(alloc, m, around, cell)?;
+            by_value(alloc, m, around, way, cell, by)
         }
         _ => Ok(None),
     }
@@ -155,14 +173,15 @@ fn change(
 fn entered(
     alloc: Global,
     m: &RModule,
+    around: &[TypeId],
     members: Members,
     of: &RArgument,
 ) -> Result<Option<RExpr>, Memory>
     requires { length m.now.variables ≤ 32000 }
-    ensures { IfOk result (λ o. option_map view.expression_of o ≡ values.entered members (values.argument m.now of.now)) }
+    ensures { IfOk result (λ o. option_map view.expression_of o ≡ values.entered members (values.argument m.now around.now of.now)) }
 {
-    let sort = own_or(argument_sort(m, of), members.sort);
-    let value = argument(alloc, m, sort, of)?;
+    let sort = own_or(argument_sort(m, around, of), members.sort);
+    let value = argument(alloc, m, around, sort, of)?;
     Ok(fitting(members.kind, value))
 }
 
@@ -186,12 +205,13 @@ fn turned(way: Membership, members: Members, cell: Cell, of: Option<RExpr>) -> O
 fn turned_at(
     alloc: Global,
     m: &RModule,
+    around: &[TypeId],
     way: Membership,
     cell: Option<Cell>,
     of: &RArgument,
 ) -> Result<Option<RStmt>, Memory>
     requires { length m.now.variables ≤ 32000 }
-    ensures { IfOk result (λ o. option_map view.statement_of o ≡ spec.turned_at m.now.types way (option_map celled cell) (values.argument m.now of.now)) }
+    ensures { IfOk result (λ o. option_map view.statement_of o ≡ spec.turned_at m.now.types way (option_map celled cell) (values.argument m.now around.now of.now)) }
 {
     let Some(cell) = cell else {
         return Ok(None);
@@ -202,7 +222,7 @@ fn turned_at(
             Ok(None)
         }
         Some(members) => {
-            let of = entered(alloc, m, members, of);
+            let of = entered(alloc, m, around, members, of);
             let (cell, of) = beside(cell, of)?;
             Ok(turned(way, members, cell, shallow(of)))
         }
@@ -213,16 +233,17 @@ fn turned_at(
 fn membership(
     alloc: Global,
     m: &RModule,
+    around: &[TypeId],
     way: Membership,
     of: &[RArgument],
 ) -> Result<Option<RStmt>, Memory>
     requires { length m.now.variables ≤ 32000 }
-    ensures { IfOk result (λ o. option_map view.statement_of o ≡ spec.membership m.now way of.now) }
+    ensures { IfOk result (λ o. option_map view.statement_of o ≡ spec.membership m.now around.now way of.now) }
 {
     match of {
         [cell, of] => {
-            let cell = argument_cell(alloc, m, cell)?;
-            turned_at(alloc, m, way, cell, of)
+            let cell = argument_cell(alloc, m, around, cell)?;
+            turned_at(alloc, m, around, way, cell, of)
         }
         _ => Ok(None),
     }
@@ -241,17 +262,18 @@ fn halted(of: &[RArgument]) -> Option<RStmt>
 pub(crate) fn procedure(
     alloc: Global,
     m: &RModule,
+    around: &[TypeId],
     of: Standard,
     arguments: &[RArgument],
 ) -> Result<Option<RStmt>, Memory>
     requires { length m.now.variables ≤ 32000 }
-    ensures { IfOk result (λ o. option_map view.statement_of o ≡ spec.procedure m.now of arguments.now) }
+    ensures { IfOk result (λ o. option_map view.statement_of o ≡ spec.procedure m.now around.now of arguments.now) }
 {
     match of {
-        Standard::Inc => change(alloc, m, Direction::Up, arguments),
-        Standard::Dec => change(alloc, m, Direction::Down, arguments),
-        Standard::Incl => membership(alloc, m, Membership::Joins, arguments),
-        Standard::Excl => membership(alloc, m, Membership::Leaves, arguments),
+        Standard::Inc => change(alloc, m, around, Direction::Up, arguments),
+        Standard::Dec => change(alloc, m, around, Direction::Down, arguments),
+        Standard::Incl => membership(alloc, m, around, Membership::Joins, arguments),
+        Standard::Excl => membership(alloc, m, around, Membership::Leaves, arguments),
         Standard::Halt => Ok(halted(arguments)),
         _ => Ok(None),
     }

@@ -7,5 +7,7 @@ mod labels;
 mod program;
 mod selectors;
 mod statements;
+mod strings;
+mod withs;
 
 pub use program::lower;

@@ -53,7 +53,7 @@ pub fn lower(alloc: Global, m: &Tree) -> Result<Option<RModule>, Memory>
     let Some(laid) = lay(alloc, &types, m.variables.as_slice())? else {
         return Ok(None);
     };
-    match body(alloc, m, false, m.body.as_slice())? {
+    match body(alloc, m, &[], false, m.body.as_slice())? {
         None => Ok(None),
         Some(body) => {
             let made = named(alloc, m, types, laid, body)?;

@@ -52,10 +52,10 @@ fn literal_sort(m: &RModule, of: &Value) -> Option<TypeId>
     }
 }
 
-fn selector_sort(m: &RModule, of: &Value) -> Option<TypeId>
-    ensures { result ≡ spec.selector_sort m.now of.now }
+fn selector_sort(m: &RModule, around: &[TypeId], of: &Value) -> Option<TypeId>
+    ensures { result ≡ spec.selector_sort m.now around.now of.now }
 {
-    match own_sort(m, of) {
+    match own_sort(m, around, of) {
         Some(sort) => Some(sort),
         None => literal_sort(m, of),
     }
@@ -85,8 +85,8 @@ fn selector_by(t: &TypeTable, sort: Option<TypeId>) -> Option<Ordinal>
 }
 
 /// The type of what a CASE selects by, None where the generator has none.
-pub(crate) fn selector(m: &RModule, of: &Boxed<Value>) -> Option<Ordinal>
-    ensures { result ≡ spec.selector m.now of.now }
+pub(crate) fn selector(m: &RModule, around: &[TypeId], of: &Boxed<Value>) -> Option<Ordinal>
+    ensures { result ≡ spec.selector m.now around.now of.now }
 {
-    selector_by(&m.types, selector_sort(m, of.get()))
+    selector_by(&m.types, selector_sort(m, around, of.get()))
 }

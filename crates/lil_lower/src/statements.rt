@@ -2,7 +2,8 @@ ghost use Rattle.std.specs.Prelude.{◌≡◌, ◌≤◌, length, map, Some, Non
 ghost use Rattle.std.specs.Option.{option_map};
 ghost use Rattle.lil_resolved.specs.Resolved.{Else};
 ghost use Rattle.lil_resolved.specs.Views as view;
-ghost use Rattle.lil_lower_value.specs.Built.{reached, celled};
+ghost use Rattle.lil_lower_value.specs.Built.{reached, placed, celled};
+ghost use Rattle.lil_lower.specs.Calls as calls;
 ghost use Rattle.lil_lower.specs.Lowered as spec;
 ghost use Rattle.lil_lower.specs.Parts as parts;
 
@@ -10,11 +11,13 @@ use crate::calls::called;
 use crate::changes::{copied, procedure, source, stored};
 use crate::labels::labels;
 use crate::selectors::selector;
+use crate::strings::{text_of, written};
+use crate::withs::{held, inside, opened};
 use lil_base::{Boxed, Items, Memory, beside};
 use lil_lower_type::{composite_at, takes_value};
 use lil_lower_value::{
-    Cell, Reached, Variable, as_place, cell_of, expression, near, near_place, own_or, own_sort,
-    place, root, shallow,
+    Cell, Placed, Reached, Variable, as_place, cell_of, expression, near, near_place, own_or,
+    own_sort, place, root, shallow,
 };
 use lil_module::{RArm as Arm, RExpr as Value, RGuard as Guard, RModule, RStmt as Tree};
 use lil_resolved::{RArm, RBase, RExpr, RGuard, RStmt, base};
@@ -25,54 +28,82 @@ use std::alloc::Global;
 fn value(
     alloc: Global,
     m: &RModule,
+    around: &[TypeId],
     wanted: TypeId,
     of: &Boxed<Value>,
 ) -> Result<Option<RExpr>, Memory>
     requires { length m.now.variables ≤ 32000 }
-    ensures { IfOk result (λ o. option_map view.expression_of o ≡ spec.value m.now of.now wanted) }
+    ensures { IfOk result (λ o. option_map view.expression_of o ≡ spec.value m.now around.now of.now wanted) }
 {
-    Ok(shallow(expression(alloc, m, wanted, of.get())?))
+    Ok(shallow(expression(alloc, m, around, wanted, of.get())?))
 }
 
 /// An assignment of a value in its own type, or of a constant in that of the cell.
 fn assigned(
     alloc: Global,
     m: &RModule,
+    around: &[TypeId],
     cell: Option<Cell>,
     of: &Boxed<Value>,
 ) -> Result<Option<RStmt>, Memory>
     requires { length m.now.variables ≤ 32000 }
-    ensures { IfOk result (λ o. option_map view.statement_of o ≡ spec.assigned m.now (option_map celled cell) of.now) }
+    ensures { IfOk result (λ o. option_map view.statement_of o ≡ spec.assigned m.now around.now (option_map celled cell) of.now) }
 {
     match cell {
         None => Ok(None),
         Some(cell) => {
-            let of = value(alloc, m, own_or(own_sort(m, of.get()), cell.sort), of);
+            let of = value(
+                alloc,
+                m,
+                around,
+                own_or(own_sort(m, around, of.get()), cell.sort),
+                of,
+            );
             let (cell, of) = beside(cell, of)?;
             Ok(stored(cell, of))
         }
     }
 }
 
-/// An assignment: an array or a record takes all of another, any other place a value.
+/// An array of characters takes a text, and an array or a record all of another.
+fn composed(
+    alloc: Global,
+    m: &RModule,
+    around: &[TypeId],
+    to: Option<Placed>,
+    of: &Value,
+) -> Result<Option<RStmt>, Memory>
+    requires { length m.now.variables ≤ 32000 }
+    ensures { IfOk result (λ o. option_map view.statement_of o ≡ spec.composed m.now around.now (option_map placed to) (calls.text_of m.now of.now) of.now) }
+{
+    match text_of(m, of) {
+        Some(text) => written(alloc, &m.types, to, text.as_slice()),
+        None => {
+            let from = source(alloc, m, around, of);
+            let (to, from) = beside(to, from)?;
+            Ok(copied(to, from))
+        }
+    }
+}
+
+/// An assignment: an array or a record takes a text or another, any other place a value.
 fn assignment(
     alloc: Global,
     m: &RModule,
+    around: &[TypeId],
     to: Option<Reached>,
     of: &Boxed<Value>,
 ) -> Result<Option<RStmt>, Memory>
     requires { length m.now.variables ≤ 32000 }
-    ensures { IfOk result (λ o. option_map view.statement_of o ≡ spec.assignment m.now (option_map reached to) of.now) }
+    ensures { IfOk result (λ o. option_map view.statement_of o ≡ spec.assignment m.now around.now (option_map reached to) of.now) }
 {
     let Some(to) = to else {
         return Ok(None);
     };
     if composite_at(&m.types, to.sort) {
-        let from = source(alloc, m, of.get());
-        let (to, from) = beside(to, from)?;
-        Ok(copied(near_place(as_place(Some(to))), from))
+        composed(alloc, m, around, near_place(as_place(Some(to))), of.get())
     } else {
-        assigned(alloc, m, near(cell_of(&m.types, Some(to))), of)
+        assigned(alloc, m, around, near(cell_of(&m.types, Some(to))), of)
     }
 }
 
@@ -228,6 +259,7 @@ fn repeated_for(
 fn counted(
     alloc: Global,
     m: &RModule,
+    around: &[TypeId],
     variable: Option<Variable>,
     from: &Boxed<Value>,
     to: &Boxed<Value>,
@@ -235,7 +267,7 @@ fn counted(
     body: Option<Items<RStmt>>,
 ) -> Result<Option<RStmt>, Memory>
     requires { length m.now.variables ≤ 32000 }
-    ensures { IfOk result (λ o. option_map view.statement_of o ≡ spec.for_by m.now variable from.now to.now by (option_map view.statements_of body)) }
+    ensures { IfOk result (λ o. option_map view.statement_of o ≡ spec.for_by m.now around.now variable from.now to.now by (option_map view.statements_of body)) }
 {
     match variable {
         None => Ok(None),
@@ -243,79 +275,121 @@ fn counted(
             let from = value(
                 alloc,
                 m,
-                own_or(own_sort(m, from.get()), variable.sort),
+                around,
+                own_or(own_sort(m, around, from.get()), variable.sort),
                 from,
             )?;
             let from = started(variable, from);
-            let (from, to) = beside(from, value(alloc, m, variable.sort, to))?;
+            let (from, to) = beside(from, value(alloc, m, around, variable.sort, to))?;
             Ok(repeated_for(variable, from, to, by, body))
         }
     }
 }
 
-/// A statement inside of a LOOP or not, None where it has a form of which no code is made yet.
+/// A statement in the WITHs around, inside of a LOOP or not, None where it has a form of which no code is made yet.
 #[cycle(statement)]
 #[tactic(auto, using(crate::proofs::StatementForms::forms))]
-fn statement(alloc: Global, m: &RModule, looping: bool, of: &Tree) -> Result<Option<RStmt>, Memory>
+fn statement(
+    alloc: Global,
+    m: &RModule,
+    around: &[TypeId],
+    looping: bool,
+    of: &Tree,
+) -> Result<Option<RStmt>, Memory>
     requires { length m.now.variables ≤ 32000 }
-    ensures { IfOk result (λ o. option_map view.statement_of o ≡ spec.statement m.now of.now looping) }
+    ensures { IfOk result (λ o. option_map view.statement_of o ≡ spec.statement m.now of.now around.now looping) }
 {
     match of {
         Tree::Assign(to, of) => {
-            let to = place(alloc, m, to)?;
-            assignment(alloc, m, to, of)
+            let to = place(alloc, m, around, to)?;
+            assignment(alloc, m, around, to, of)
         }
-        Tree::Call(callee, arguments) => called(alloc, m, callee, arguments.as_slice()),
-        Tree::Procedure(of, arguments) => procedure(alloc, m, *of, arguments.as_slice()),
+        Tree::Call(callee, arguments) => called(alloc, m, around, callee, arguments.as_slice()),
+        Tree::Procedure(of, arguments) => procedure(alloc, m, around, *of, arguments.as_slice()),
         Tree::If(guards, other) => {
-            let guards = all_guards(alloc, m, looping, guards.as_slice())?;
+            let guards = all_guards(alloc, m, around, looping, guards.as_slice())?;
             match other {
                 None => Ok(conditional(guards, Some(Items::new(alloc)))),
                 Some(other) => {
-                    let other = body(alloc, m, looping, other.as_slice())?;
+                    let other = body(alloc, m, around, looping, other.as_slice())?;
                     Ok(conditional(guards, other))
                 }
             }
         }
         Tree::Case(of, arms, other) => {
-            let Some(by) = selector(m, of) else {
+            let Some(by) = selector(m, around, of) else {
                 return Ok(None);
             };
-            let arms = all_arms(alloc, m, looping, by.base, arms.as_slice())?;
+            let arms = all_arms(alloc, m, around, looping, by.base, arms.as_slice())?;
             match other {
                 None => {
-                    let of = value(alloc, m, by.sort, of)?;
+                    let of = value(alloc, m, around, by.sort, of)?;
                     Ok(selected(of, arms, Some(None)))
                 }
                 Some(other) => {
-                    let other = body(alloc, m, looping, other.as_slice())?;
-                    let of = value(alloc, m, by.sort, of)?;
+                    let other = body(alloc, m, around, looping, other.as_slice())?;
+                    let of = value(alloc, m, around, by.sort, of)?;
                     Ok(selected(of, arms, behind_else(other)))
                 }
             }
         }
         Tree::While(of, statements) => {
-            let statements = body(alloc, m, looping, statements.as_slice())?;
-            let of = value(alloc, m, BOOLEAN, of)?;
+            let statements = body(alloc, m, around, looping, statements.as_slice())?;
+            let of = value(alloc, m, around, BOOLEAN, of)?;
             Ok(repeated_while(of, statements))
         }
         Tree::Repeat(statements, of) => {
-            let statements = body(alloc, m, looping, statements.as_slice())?;
-            let of = value(alloc, m, BOOLEAN, of)?;
+            let statements = body(alloc, m, around, looping, statements.as_slice())?;
+            let of = value(alloc, m, around, BOOLEAN, of)?;
             Ok(repeated_until(statements, of))
         }
         Tree::Loop(statements) => {
-            let statements = body(alloc, m, true, statements.as_slice())?;
+            let statements = body(alloc, m, around, true, statements.as_slice())?;
             Ok(looped(statements))
         }
         Tree::For(variable, from, to, by, statements) => {
-            let statements = body(alloc, m, looping, statements.as_slice())?;
-            counted(alloc, m, root(m, *variable), from, to, *by, statements)
+            let statements = body(alloc, m, around, looping, statements.as_slice())?;
+            counted(
+                alloc,
+                m,
+                around,
+                root(m, *variable),
+                from,
+                to,
+                *by,
+                statements,
+            )
         }
-        Tree::With(_, _) => Ok(None),
+        Tree::With(of, statements) => {
+            let held = held(alloc, m, around, of)?;
+            within(alloc, m, around, looping, held, statements.as_slice())
+        }
         Tree::Exit => Ok(exited(looping)),
         Tree::Return(of) => Ok(returned(of)),
     }
+}
+
+/// A WITH: its statements, inside of its record too.
+#[cycle(statement)]
+fn within(
+    alloc: Global,
+    m: &RModule,
+    around: &[TypeId],
+    looping: bool,
+    held: Option<Placed>,
+    of: &[Tree],
+) -> Result<Option<RStmt>, Memory>
+    requires { length m.now.variables ≤ 32000 }
+    ensures { IfOk result (λ o. option_map view.statement_of o ≡ spec.within around.now (option_map placed held) (λ inside. spec.statements m.now inside looping of.now)) }
+{
+    let Some(held) = held else {
+        return Ok(None);
+    };
+    let all = inside(alloc, around, held.sort);
+    let (held, all) = beside(held, all)?;
+    let statements = body(alloc, m, all.as_slice(), looping, of);
+    let (held, statements) = beside(held, statements)?;
+    Ok(opened(held, statements))
 }
 
 /// Statements, one behind another.
@@ -323,15 +397,16 @@ fn statement(alloc: Global, m: &RModule, looping: bool, of: &Tree) -> Result<Opt
 pub(crate) fn body(
     alloc: Global,
     m: &RModule,
+    around: &[TypeId],
     looping: bool,
     of: &[Tree],
 ) -> Result<Option<Items<RStmt>>, Memory>
     requires { length m.now.variables ≤ 32000 }
-    ensures { IfOk result (λ o. option_map view.statements_of o ≡ spec.statements m.now looping of.now) }
+    ensures { IfOk result (λ o. option_map view.statements_of o ≡ spec.statements m.now around.now looping of.now) }
 {
     let mut found = Items::new(alloc);
     for one in of {
-        match statement(alloc, m, looping, one)? {
+        match statement(alloc, m, around, looping, one)? {
             None => return Ok(None),
             Some(statement) => found.push(statement)?,
         }
@@ -342,14 +417,20 @@ pub(crate) fn body(
 /// A condition, and the statements behind it.
 #[cycle(statement)]
 #[tactic(auto, using(crate::proofs::StatementForms::forms))]
-fn guard(alloc: Global, m: &RModule, looping: bool, of: &Guard) -> Result<Option<RGuard>, Memory>
+fn guard(
+    alloc: Global,
+    m: &RModule,
+    around: &[TypeId],
+    looping: bool,
+    of: &Guard,
+) -> Result<Option<RGuard>, Memory>
     requires { length m.now.variables ≤ 32000 }
-    ensures { IfOk result (λ o. option_map parts.guard_pair o ≡ spec.guard m.now of.now looping) }
+    ensures { IfOk result (λ o. option_map parts.guard_pair o ≡ spec.guard m.now of.now around.now looping) }
 {
-    let Some(body) = body(alloc, m, looping, of.body.as_slice())? else {
+    let Some(body) = body(alloc, m, around, looping, of.body.as_slice())? else {
         return Ok(None);
     };
-    match value(alloc, m, BOOLEAN, &of.condition)? {
+    match value(alloc, m, around, BOOLEAN, &of.condition)? {
         None => Ok(None),
         Some(condition) => Ok(Some(RGuard { condition, body })),
     }
@@ -359,15 +440,16 @@ fn guard(alloc: Global, m: &RModule, looping: bool, of: &Guard) -> Result<Option
 fn all_guards(
     alloc: Global,
     m: &RModule,
+    around: &[TypeId],
     looping: bool,
     of: &[Guard],
 ) -> Result<Option<Items<RGuard>>, Memory>
     requires { length m.now.variables ≤ 32000 }
-    ensures { IfOk result (λ o. option_map (map parts.guard_pair) o ≡ spec.all_some (map (λ g. spec.guard m.now g looping) of.now)) }
+    ensures { IfOk result (λ o. option_map (map parts.guard_pair) o ≡ spec.all_some (map (λ g. spec.guard m.now g around.now looping) of.now)) }
 {
     let mut found = Items::new(alloc);
     for one in of {
-        match guard(alloc, m, looping, one)? {
+        match guard(alloc, m, around, looping, one)? {
             None => return Ok(None),
             Some(guard) => found.push(guard)?,
         }
@@ -381,17 +463,18 @@ fn all_guards(
 fn arm(
     alloc: Global,
     m: &RModule,
+    around: &[TypeId],
     looping: bool,
     base: RBase,
     of: &Arm,
 ) -> Result<Option<RArm>, Memory>
     requires { length m.now.variables ≤ 32000 }
-    ensures { IfOk result (λ o. option_map parts.arm_pair o ≡ spec.arm m.now of.now looping base) }
+    ensures { IfOk result (λ o. option_map parts.arm_pair o ≡ spec.arm m.now of.now around.now looping base) }
 {
     let Some(labels) = labels(alloc, base, of.labels.as_slice())? else {
         return Ok(None);
     };
-    match body(alloc, m, looping, of.body.as_slice())? {
+    match body(alloc, m, around, looping, of.body.as_slice())? {
         None => Ok(None),
         Some(body) => Ok(Some(RArm { labels, body })),
     }
@@ -401,16 +484,17 @@ fn arm(
 fn all_arms(
     alloc: Global,
     m: &RModule,
+    around: &[TypeId],
     looping: bool,
     base: RBase,
     of: &[Arm],
 ) -> Result<Option<Items<RArm>>, Memory>
     requires { length m.now.variables ≤ 32000 }
-    ensures { IfOk result (λ o. option_map (map parts.arm_pair) o ≡ spec.all_some (map (λ a. spec.arm m.now a looping base) of.now)) }
+    ensures { IfOk result (λ o. option_map (map parts.arm_pair) o ≡ spec.all_some (map (λ a. spec.arm m.now a around.now looping base) of.now)) }
 {
     let mut found = Items::new(alloc);
     for one in of {
-        match arm(alloc, m, looping, base, one)? {
+        match arm(alloc, m, around, looping, base, one)? {
             None => return Ok(None),
             Some(arm) => found.push(arm)?,
         }

@@ -1,5 +1,6 @@
 pub mod BaseLaws
 pub mod Bases
+pub mod Characters
 pub mod Composites
 pub mod LaidLaws
 pub mod ListLaws

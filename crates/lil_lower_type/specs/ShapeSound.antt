@@ -20,7 +20,7 @@ use Rattle.lil_lower_type.specs.Shaping.{all_some, within, row, field_shape, sha
 use Rattle.lil_lower_type.specs.ListLaws.{some_at}
 
 -- ---- lists
-at_end : {A : Type 0} (xs : List A) (y x : A) (i : ℕ) → slice_get (xs ++ y ∷ []) i ≡ Some x → (slice_get xs i ≡ Some x) ⊎ ((i ≡ length xs) × (y ≡ x))
+pub at_end : {A : Type 0} (xs : List A) (y x : A) (i : ℕ) → slice_get (xs ++ y ∷ []) i ≡ Some x → (slice_get xs i ≡ Some x) ⊎ ((i ≡ length xs) × (y ≡ x))
 at_end [] y x zero h = inr (refl, same_Some y x h)
 at_end [] y x (suc i) h = absurd (none-some x h)
 at_end (z ∷ xs) y x zero h = inl h
@@ -34,7 +34,7 @@ earlier [] ys i x h = absurd (none-some x h)
 earlier (z ∷ xs) ys zero x h = h
 earlier (z ∷ xs) ys (suc i) x h = earlier xs ys i x h
 
-mapped : {A B : Type 0} (f : A → B) (o : Option A) (y : B) → option_map f o ≡ Some y → (x : A) × (o ≡ Some x) × (f x ≡ y)
+pub mapped : {A B : Type 0} (f : A → B) (o : Option A) (y : B) → option_map f o ≡ Some y → (x : A) × (o ≡ Some x) × (f x ≡ y)
 mapped f None y h = absurd (none-some y h)
 mapped f (Some x) y h = (x, refl, same_Some (f x) y h)
 

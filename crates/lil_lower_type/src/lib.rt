@@ -2,6 +2,7 @@
 #![tactic(auto)]
 
 mod bases;
+mod characters;
 mod composites;
 mod laying;
 mod members;
@@ -9,6 +10,7 @@ mod operators;
 mod shapes;
 
 pub use bases::{base_at, kind_at};
+pub use characters::characters_at;
 pub use composites::{ArrayParts, array_at, composite_at, element_sort, field_at};
 pub use laying::{Laid, lay};
 pub use members::{Members, is_element, members_at};

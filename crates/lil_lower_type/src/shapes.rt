@@ -67,7 +67,7 @@ pub(crate) fn greatest_of(kind: RKind) -> i32
 }
 
 /// How many values a kind has.
-fn numbers(kind: RKind) -> u32
+pub(crate) fn numbers(kind: RKind) -> u32
     ensures { result ≡ kinds.numbers (kind_view kind) }
 {
     values(least_of(kind), greatest_of(kind)) as u32

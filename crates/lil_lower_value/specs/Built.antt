@@ -1,7 +1,6 @@
 -- What values and places that are being built say.
 use Rattle.std.specs.Prelude.{map}
-use Rattle.lil_resolved.specs.Resolved.{Variable}
-use Rattle.lil_resolved.specs.Views.{chained, selected, expression_of, selector_of, operation_of, place_of}
+use Rattle.lil_resolved.specs.Views.{root_view, chained, selected, expression_of, selector_of, operation_of, place_of}
 use Rattle.lil_lower_value.specs.declared.places.Cell.{Cell as HeldCell}
 use Rattle.lil_lower_value.specs.declared.places.Placed.{Placed}
 use Rattle.lil_lower_value.specs.declared.places.Reached.{Reached}
@@ -13,7 +12,7 @@ abbrev pub built : Held → Built
 built b = record { form = chained (expression_of b.first) (map operation_of b.operations); sort = b.sort }
 
 abbrev pub reached : Reached → Place
-reached r = record { form = selected (Variable r.number) (map selector_of r.selectors); sort = r.sort }
+reached r = record { form = selected (root_view r.root) (map selector_of r.selectors); sort = r.sort }
 
 abbrev pub placed : Placed → Place
 placed p = record { form = place_of p.place; sort = p.sort }

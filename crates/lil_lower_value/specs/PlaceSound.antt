@@ -1,43 +1,75 @@
--- What designators lead to lies among the variables, and has the shape of its type.
-use Rattle.std.proofs.Common.{◌≡◌, ℕ, ◌≤◌, List, map, slice_get, nat_le, true, Option, None, Some, IfSome, refl, sym, ap, ◌∙◌, arith}
+-- What designators lead to lies in the variables and in the records of the WITHs around, and has the shape of its type.
+use Rattle.std.proofs.Common.{◌≡◌, ℕ, suc, ◌+◌, ◌<◌, ◌≤◌, Bool, true, false, List, [], ◌∷◌, ◌++◌, length, map, slice_get, nat_le, Option, None, Some, IfSome, if◌then◌else◌, inl, inr, refl, sym, ap, ◌∙◌, arith}
+use Rattle.std.specs.Prelude.{◌-◌, ◌==◌}
 use Rattle.std.specs.Option.{option_map}
-use Rattle.std.proofs.lemmas.Option.{cond_some}
+use Rattle.std.proofs.lemmas.Option.{none-some, cond_some, slice_get_within}
+use Rattle.std.proofs.lemmas.List.{length_push}
 use Rattle.std.proofs.lemmas.Bool.Decides.{nat_tests}
-use Rattle.lil_types.specs.Types.{Table, base}
+use Rattle.lil_types.specs.Types.{Table, char, base}
 use Rattle.lil_module.specs.declared.declared.RModule.{RModule}
 use Rattle.lil_module.specs.declared.declared.RVar.{RVar}
 use Rattle.lil_module.specs.declared.tree.RRoot.{RRoot}
 use Rattle.lil_module.specs.declared.tree.RRoot.TheVariants.{Global, Local, Field}
-use Rattle.lil_resolved.specs.Kinds.{takes_value, is_ordinal}
+use Rattle.lil_resolved.specs.Kinds.{Kind, OfCharacter, takes_value, is_ordinal}
 use Rattle.lil_resolved.specs.Depth.{place_depth}
 use Rattle.lil_resolved.specs.Resolved.{Element, Expression, kind_of, shape_of}
 use Rattle.lil_resolved.specs.Resolved as resolved
-use Rattle.lil_resolved.specs.Shapes.{Shape, is_there, shape_by}
+use Rattle.lil_resolved.specs.Shapes.{Shape, Scope, Word, Row, element_of, count_of, is_there, shape_by, with_held}
 use Rattle.lil_resolved.specs.Sound.{IsSoundPlace, IsSoundTarget}
 use Rattle.lil_resolved.specs.Views.{base_view, kind_view}
+use Rattle.lil_resolved.specs.declared.resolved.RBase.TheVariants as b
 use Rattle.lil_resolved.specs.declared.resolved.RKind.{RKind}
 use Rattle.lil_lower_type.specs.declared.composites.ArrayParts.{ArrayParts}
-use Rattle.lil_lower_type.specs.Bases.{kind_at}
+use Rattle.lil_lower_type.specs.Bases.{plain, kind_at}
+use Rattle.lil_lower_type.specs.Characters.{numbers_of, characters_in, characters_at}
 use Rattle.lil_lower_type.specs.Composites.{field_at, array_at, composite_at}
 use Rattle.lil_lower_type.specs.Shaping.{all_some, there, lying, shapes_below}
-use Rattle.lil_lower_type.specs.BaseLaws.{if_true, kind_base}
+use Rattle.lil_lower_type.specs.BaseLaws.{if_true, same_sort, kind_base}
 use Rattle.lil_lower_type.specs.ListLaws.{some_at}
-use Rattle.lil_lower_type.specs.ShapeSound.{HasShape, all_shaped, field_shaped, element_shaped, composite_shaped, word_shaped}
+use Rattle.lil_lower_type.specs.ShapeSound.{at_end, mapped, HasShape, all_shaped, field_shaped, element_shaped, composite_shaped, word_shaped}
 use Rattle.lil_lower_value.specs.Places as s
-use Rattle.lil_lower_value.specs.Places.{Place, Part, Cell}
+use Rattle.lil_lower_value.specs.Places.{Around, Place, Part, Cell}
 use Rattle.lil_lower_value.specs.Values as v
 use Rattle.lil_lower_value.specs.Values.{Value}
 use Rattle.lil_lower_value.specs.ValueSound.{Held, Holds, IsKnown, IsCell, cell_sound}
 
--- what lies in the variables of a module is this, by the shapes of its types
-pub record Fits (m : RModule) (ts : List Shape) : Type 0 where
+-- this lies in the records of the WITHs around, from the innermost out, by the shapes of types
+abbrev pub AreHeld : List Shape → Around → List Shape → Type 0
+AreHeld shapes around held = (w n : ℕ) → slice_get around w ≡ Some n → (x : Shape) × (slice_get shapes n ≡ Some x) × (slice_get held (length around - 1 - w) ≡ Some x) × (is_there x ≡ true)
+
+-- what lies in the variables of a module, and in the records of the WITHs around, is this, by the shapes of its types
+pub record Fits (m : RModule) (around : Around) (ts : Scope) : Type 0 where
   pub shapes : List Shape
   pub count : ℕ
   pub types : shapes_below m.types count ≡ Some shapes
-  pub variables : all_some (map (lying shapes) m.variables) ≡ Some ts
+  pub variables : all_some (map (lying shapes) m.variables) ≡ Some ts.variables
+  pub held : AreHeld shapes around ts.held
+
+behind : (k w : ℕ) → w < k → k + 1 - 1 - w ≡ suc (k - 1 - w)
+behind k w h = omega arith
+
+innermost : (k w : ℕ) → w ≡ k → k + 1 - 1 - w ≡ 0
+innermost k w h = omega arith
+
+more_held : (shapes : List Shape) (around : Around) (held : List Shape) (n : ℕ) (x : Shape) → AreHeld shapes around held → slice_get shapes n ≡ Some x → is_there x ≡ true → AreHeld shapes (around ++ n ∷ []) (x ∷ held)
+more_held shapes around held n x h at there w j is = elim (at_end around n j w is) [
+  | inl e ↦
+      let one = h w j e in
+      (one.0, one.1, ap (λ k. slice_get (x ∷ held) (k - 1 - w)) (length_push around n) ∙ ap (slice_get (x ∷ held)) (behind (length around) w (slice_get_within around w j e)) ∙ one.2, one.3)
+  | inr e ↦ (x, ap (slice_get shapes) (sym e.1) ∙ at, ap (λ k. slice_get (x ∷ held) (k - 1 - w)) (length_push around n) ∙ ap (slice_get (x ∷ held)) (innermost (length around) w e.0), there)
+]
+
+-- elements that are words are those of an array
+row_is : (x : Shape) (k : Kind) → element_of x ≡ Word k → x ≡ Row (count_of x) (Word k)
+row_is (Row n y) k h = ap (Row n) h
+row_is _ k h = cc
+
+if_some : {A : Type 0} (b : Bool) (o : Option A) (x : A) → (if b then o else None) ≡ Some x → (b ≡ true) × (o ≡ Some x)
+if_some true o x h = (refl, h)
+if_some false o x h = absurd (none-some x h)
 
 -- a cell to which values may be stored
-pub record IsTarget (t : Table) (ts : List Shape) (c : Cell) : Type 0 where
+pub record IsTarget (t : Table) (ts : Scope) (c : Cell) : Type 0 where
   pub cell : IsCell t ts c
   pub room : place_depth c.form ≤ 13
 
@@ -50,12 +82,12 @@ pub near_kept : (P : Place → Type 0) (o : Option Place) → IfSome o P → IfS
 near_kept P None h = tt
 near_kept P (Some p) h = if_true (λ p. P p × (place_depth p.form ≤ 13)) (nat_le (place_depth p.form) 13) p (λ j. (h, grind (arith, nat_tests)))
 
--- a place lies among the variables
-pub record IsPlaced (shapes ts : List Shape) (p : Place) : Type 0 where
+-- a place lies in what is reached
+pub record IsPlaced (shapes : List Shape) (ts : Scope) (p : Place) : Type 0 where
   pub shape : slice_get shapes p.sort ≡ Some (shape_of ts p.form)
   pub good : IsSoundPlace ts p.form
 
-module _ (m : RModule) (ts : List Shape) (fits : Fits m ts) where
+module _ (m : RModule) (around : Around) (ts : Scope) (fits : Fits m around ts) where
   abbrev Lies : Place → Type 0
   Lies p = IsPlaced fits.shapes ts p
 
@@ -63,9 +95,9 @@ module _ (m : RModule) (ts : List Shape) (fits : Fits m ts) where
   has_shape n x is = (all_shaped m.types fits.count fits.shapes fits.types).1 n x is
 
   -- ---- variables
-  variable_at : (i : ℕ) (a : RVar) → slice_get m.variables i ≡ Some a → (x : Shape) × (slice_get fits.shapes a.sort ≡ Some x) × (slice_get ts i ≡ Some x)
+  variable_at : (i : ℕ) (a : RVar) → slice_get m.variables i ≡ Some a → (x : Shape) × (slice_get fits.shapes a.sort ≡ Some x) × (slice_get ts.variables i ≡ Some x)
   variable_at i a is =
-      let one = some_at (lying fits.shapes) m.variables ts i a fits.variables is in
+      let one = some_at (lying fits.shapes) m.variables ts.variables i a fits.variables is in
       (one.0, there_is (slice_get fits.shapes a.sort) one.0 one.1, one.2)
 
   variable_placed : (i : ℕ) (o : Option RVar) → slice_get m.variables i ≡ o → IfSome (s.variable_place i o) Lies
@@ -73,11 +105,6 @@ module _ (m : RModule) (ts : List Shape) (fits : Fits m ts) where
   variable_placed i (Some a) is =
       let at = variable_at i a is in
       record { shape = at.1 ∙ ap (λ o. Some (shape_by o)) (sym at.2); good = tt }
-
-  pub root_placed : (r : RRoot) → IfSome (s.root_place m r) Lies
-  root_placed (Global i) = variable_placed i (slice_get m.variables i) refl
-  root_placed (Local l i) = tt
-  root_placed (Field f i) = tt
 
   -- those with which a FOR may count
   counter_known : (i : ℕ) (o : Option RVar) → slice_get m.variables i ≡ o → IfSome (v.variable_by m.types i o) (IsKnown m.types ts)
@@ -103,6 +130,24 @@ module _ (m : RModule) (ts : List Shape) (fits : Fits m ts) where
       by : (o : Option ℕ) → field_at m.types p.sort i ≡ o → IfSome (option_map (s.place_with (resolved.Field p.form i)) o) Lies
       by None at = tt
       by (Some f) at = record { shape = field_shaped m.types fits.shapes p.sort (shape_of ts p.form) (has_shape p.sort (shape_of ts p.form) h.shape) i f at; good = h.good }
+
+  held_placed : (w : ℕ) → IfSome (s.held_place around w) Lies
+  held_placed w = by (slice_get around w) refl
+    where
+      by : (o : Option ℕ) → slice_get around w ≡ o → IfSome (option_map (s.place_with (resolved.Held (length around - 1 - w))) o) Lies
+      by None is = tt
+      by (Some n) is =
+          let at = fits.held w n is in
+          record { shape = at.1 ∙ ap (λ o. Some (shape_by o)) (sym at.2); good = (at.0, at.2, at.3) }
+
+  field_on_placed : (i : ℕ) (o : Option Place) → IfSome o Lies → IfSome (s.field_on m.types i o) Lies
+  field_on_placed i None h = tt
+  field_on_placed i (Some p) h = field_placed i p h
+
+  pub root_placed : (r : RRoot) → IfSome (s.root_place m around r) Lies
+  root_placed (Global i) = variable_placed i (slice_get m.variables i) refl
+  root_placed (Local l i) = tt
+  root_placed (Field w i) = field_on_placed i (s.held_place around w) (held_placed w)
 
   element_placed : (p : Place) (parts : ArrayParts) (k : Option RKind) (w : ℕ) (o : Option Expression) → Lies p → array_at m.types p.sort ≡ Some parts → kind_at m.types parts.index ≡ k → IfSome o (Held m.types ts w)
       → IfSome (s.element p parts.element k o) Lies
@@ -130,6 +175,30 @@ module _ (m : RModule) (ts : List Shape) (fits : Fits m ts) where
   pub composite_there : (p : Place) → Lies p → composite_at m.types p.sort ≡ true → is_there (shape_of ts p.form) ≡ true
   composite_there p h at = composite_shaped m.types fits.shapes p.sort (shape_of ts p.form) (has_shape p.sort (shape_of ts p.form) h.shape) at
 
+  -- an array of characters
+  pub characters_lie : (p : Place) (n : ℕ) → Lies p → characters_at m.types p.sort ≡ Some n → shape_of ts p.form ≡ Row n (Word OfCharacter)
+  characters_lie p n h = by (array_at m.types p.sort) refl
+    where
+      by : (o : Option ArrayParts) → array_at m.types p.sort ≡ o → characters_in m.types o ≡ Some n → shape_of ts p.form ≡ Row n (Word OfCharacter)
+      by None at is = absurd (none-some n is)
+      by (Some parts) at is =
+          let x = shape_of ts p.form in
+          let both = if_some (parts.element == char) (option_map numbers_of (kind_at m.types parts.index)) n is in
+          let kind = mapped numbers_of (kind_at m.types parts.index) n both.1 in
+          let row = element_shaped m.types fits.shapes p.sort x (has_shape p.sort x h.shape) parts kind.0 at kind.1 in
+          let has = has_shape char (element_of x) (ap (slice_get fits.shapes) (sym (same_sort parts.element char both.0)) ∙ row.0) in
+          row_is x OfCharacter (word_shaped m.types fits.shapes char (element_of x) has (plain b.Character) refl) ∙ ap (λ n. Row n (Word OfCharacter)) (row.1 ∙ kind.2)
+
+  -- inside of a WITH of what lies somewhere
+  pub deeper : (p : Place) → Lies p → is_there (shape_of ts p.form) ≡ true → Fits m (around ++ p.sort ∷ []) (with_held ts (shape_of ts p.form))
+  deeper p h there = record {
+    shapes = fits.shapes;
+    count = fits.count;
+    types = fits.types;
+    variables = fits.variables;
+    held = more_held fits.shapes around ts.held p.sort (shape_of ts p.form) fits.held h.shape there;
+  }
+
   -- ---- cells
   pub cell_known : (o : Option Place) → IfSome o Lies → IfSome (s.cell m.types o) (IsCell m.types ts)
   cell_known None h = tt
@@ -148,5 +217,5 @@ module _ (m : RModule) (ts : List Shape) (fits : Fits m ts) where
   near_known (Some c) h = if_true (IsTarget m.types ts) (nat_le (place_depth c.form) 13) c (λ j. record { cell = h; room = grind (arith, nat_tests) })
 
 -- a cell that is near is one to which sound statements may store
-pub target_sound : (t : Table) (ts : List Shape) (c : Cell) → IsTarget t ts c → IsSoundTarget ts c.form (kind_view c.kind)
+pub target_sound : (t : Table) (ts : Scope) (c : Cell) → IsTarget t ts c → IsSoundTarget ts c.form (kind_view c.kind)
 target_sound t ts c h = record { scalar = cell_sound t ts c h.cell; place = h.cell.place; shallow = h.room }

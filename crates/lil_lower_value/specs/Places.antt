@@ -1,5 +1,5 @@
--- Places: what a designator leads to, from a variable of the module on and part by part.
-use Rattle.std.specs.Prelude.{ℕ, nat_le, List, slice_get, Option, Some, None, if◌then◌else◌}
+-- Places: what a designator leads to, from a variable of the module or the record of a WITH on and part by part.
+use Rattle.std.specs.Prelude.{ℕ, ◌-◌, nat_le, List, length, slice_get, Option, Some, None, if◌then◌else◌}
 use Rattle.std.specs.Option.{option_map}
 use Rattle.std.specs.List.{fold}
 use Rattle.lil_types.specs.Types.{Table, base}
@@ -9,12 +9,16 @@ use Rattle.lil_module.specs.declared.tree.RRoot.{RRoot}
 use Rattle.lil_module.specs.declared.tree.RRoot.TheVariants as root
 use Rattle.lil_resolved.specs.Depth.{place_depth}
 use Rattle.lil_resolved.specs.Resolved as resolved
-use Rattle.lil_resolved.specs.Resolved.{Designator, Variable, Element, Expression, kind_of}
+use Rattle.lil_resolved.specs.Resolved.{Designator, Variable, Held, Element, Expression, kind_of}
 use Rattle.lil_resolved.specs.Sound.{takes_value}
 use Rattle.lil_resolved.specs.Views.{kind_view}
 use Rattle.lil_resolved.specs.declared.resolved.RKind.{RKind}
 use Rattle.lil_lower_type.specs.Composites.{field_at}
 use Rattle.lil_lower_type.specs.Bases.{kind_at}
+
+-- the types of the records of the WITHs around, from the outermost
+abbrev pub Around : Type 0
+Around = List ℕ
 
 -- ---- places
 -- a designator, and the number of its type
@@ -49,24 +53,32 @@ abbrev pub variable_place : ℕ → Option RVar → Option Place
 variable_place n None = None
 variable_place n (Some v) = Some (place_with (Variable n) v.sort)
 
-abbrev pub root_place : RModule → RRoot → Option Place
-root_place m (root.Global n) = variable_place n (slice_get m.variables n)
-root_place m (root.Local levels n) = None
-root_place m (root.Field block n) = None
-
-abbrev pub sort_of : Place → ℕ
-sort_of p = p.sort
-
-abbrev pub root_sort : RModule → RRoot → Option ℕ
-root_sort m r = option_map sort_of (root_place m r)
-
--- a variable's parts, each of what stands before it
-abbrev pub located : RModule → RRoot → List Part → Located
-located m r ps = record { sort = fold sort_on (root_sort m r) ps; place = fold place_on (root_place m r) ps }
+-- the record of a WITH around
+abbrev pub held_place : Around → ℕ → Option Place
+held_place around w = option_map (place_with (Held (length around - 1 - w))) (slice_get around w)
 
 -- a field
 abbrev pub field_place : Table → ℕ → Place → Option Place
 field_place t i p = option_map (place_with (resolved.Field p.form i)) (field_at t p.sort i)
+
+abbrev pub field_on : Table → ℕ → Option Place → Option Place
+field_on t i None = None
+field_on t i (Some p) = field_place t i p
+
+abbrev pub root_place : RModule → Around → RRoot → Option Place
+root_place m around (root.Global n) = variable_place n (slice_get m.variables n)
+root_place m around (root.Local levels n) = None
+root_place m around (root.Field w i) = field_on m.types i (held_place around w)
+
+abbrev pub sort_of : Place → ℕ
+sort_of p = p.sort
+
+abbrev pub root_sort : RModule → Around → RRoot → Option ℕ
+root_sort m around r = option_map sort_of (root_place m around r)
+
+-- a root's parts, each of what stands before it
+abbrev pub located : RModule → Around → RRoot → List Part → Located
+located m around r ps = record { sort = fold sort_on (root_sort m around r) ps; place = fold place_on (root_place m around r) ps }
 
 -- an element of a type, by the kind of the indexes and an index that may be one of it
 abbrev pub element : Place → ℕ → Option RKind → Option Expression → Option Place

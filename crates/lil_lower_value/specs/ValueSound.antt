@@ -19,7 +19,7 @@ use Rattle.lil_resolved.specs.Resolved.{Expression, Constant, Taken, Two, Abs, k
 use Rattle.lil_resolved.specs.Depth.{depth}
 use Rattle.lil_resolved.specs.Sound as sound
 use Rattle.lil_resolved.specs.Sound.{IsSoundVariable, IsScalar, IsSoundPlace, IsSoundExpression, IsSoundWhole, IsSoundValue}
-use Rattle.lil_resolved.specs.Shapes.{Shape, Word}
+use Rattle.lil_resolved.specs.Shapes.{Scope, Word}
 use Rattle.lil_resolved.specs.Views.{base_view, kind_view, with_members, empty_set, function_of, one_of, two_of}
 use Rattle.lil_resolved.specs.declared.resolved.RBase.{RBase}
 use Rattle.lil_resolved.specs.declared.resolved.RBase.TheVariants as b
@@ -40,30 +40,30 @@ use Rattle.lil_lower_value.specs.Values as spec
 use Rattle.lil_lower_value.specs.Values.{Lowers, Value, Built, Operation}
 
 -- over variables of these kinds, an expression is sound and of a type
-pub record Held (t : Table) (ts : List Shape) (s : ℕ) (e : Expression) : Type 0 where
+pub record Held (t : Table) (ts : Scope) (s : ℕ) (e : Expression) : Type 0 where
   pub base : RBase
   pub known : base_at t s ≡ Some base
   pub of : kind_of e ≡ base_view base
   pub good : IsSoundExpression ts e
 
 -- and there is room for it
-pub record Kept (t : Table) (ts : List Shape) (s : ℕ) (e : Expression) : Type 0 where
+pub record Kept (t : Table) (ts : Scope) (s : ℕ) (e : Expression) : Type 0 where
   pub held : Held t ts s e
   pub room : depth e ≤ 13
 
 -- a variable has its kind among these, its type is that of its base, and its values are compared by their numbers
-pub record IsKnown (t : Table) (ts : List Shape) (v : Variable) : Type 0 where
+pub record IsKnown (t : Table) (ts : Scope) (v : Variable) : Type 0 where
   pub type : base_at t v.sort ≡ Some v.place.kind.base
-  pub kind : slice_get ts v.place.number ≡ Some (Word (kind_view v.place.kind))
+  pub kind : slice_get ts.variables v.place.number ≡ Some (Word (kind_view v.place.kind))
   pub ordinal : sound.is_ordinal (base_view v.place.kind.base) ≡ true
 
 -- a cell has its kind at a sound place among these, and its type is that of its base
-pub record IsCell (t : Table) (ts : List Shape) (c : Cell) : Type 0 where
+pub record IsCell (t : Table) (ts : Scope) (c : Cell) : Type 0 where
   pub type : base_at t c.sort ≡ Some c.kind.base
   pub shape : shape_of ts c.form ≡ Word (kind_view c.kind)
   pub place : IsSoundPlace ts c.form
 
-abbrev pub Holds : Table → List Shape → Lowers → Type 0
+abbrev pub Holds : Table → Scope → Lowers → Type 0
 Holds t ts l = (s : ℕ) → IfSome (l s) (Held t ts s)
 
 pub both_left : (a b : Bool) → (a && b) ≡ true → a ≡ true
@@ -92,7 +92,7 @@ of_truth b.Character h = cc
 of_truth (b.Enumeration n) h = cc
 of_truth b.Set h = cc
 
-module _ (t : Table) (ts : List Shape) where
+module _ (t : Table) (ts : Scope) where
   -- ---- constants
   constant_held : (k : RBase) (s : ℕ) → base_at t s ≡ Some k → (z : ℤ) → IfSome (spec.constant k z) (Held t ts s)
   constant_held k s is z = if_true (Held t ts s) (has_number k z) (Constant (base_view k) (scalar_of (base_view k) z))

@@ -37,7 +37,7 @@ use Rattle.lil_lower_type.specs.Operators.{takes_two, result_sort, has_number}
 use Rattle.lil_lower_type.specs.Composites.{field_at, array_at, element_sort}
 use Rattle.lil_lower_type.specs.Members.{members_at}
 use Rattle.lil_lower_value.specs.declared.variables.Variable.{Variable}
-use Rattle.lil_lower_value.specs.Places.{Place, Part, Located, Cell, field_place, element, nowhere, located, cell, cell_sort, near}
+use Rattle.lil_lower_value.specs.Places.{Around, Place, Part, Located, Cell, field_place, element, nowhere, located, cell, cell_sort, near}
 use Rattle.lil_lower_value.specs.Sets.{Member, sort_before, is_at, fitting, single, spanned, set_by}
 
 -- the expression of a base type, by its number
@@ -248,8 +248,8 @@ result_of o = result_sort o.operator o.sort
 abbrev pub last_sort : List Operation → Option ℕ
 last_sort os = option_map result_of (slice_get os (length os - 1))
 
--- ---- all forms
-module _ (m : RModule) where
+-- ---- all forms, in the WITHs around
+module _ (m : RModule) (around : Around) where
   abbrev pub expression_layer : RExpr-F Value (Unit {0}) Value Part Located Member Operation → Value
   expression_layer (x.Whole z) = valued None (whole m.types z)
   expression_layer (x.Scalar s w) = valued (Some (base m.types s)) (scalar m.types s w)
@@ -275,7 +275,7 @@ module _ (m : RModule) where
   selector_layer x.Follow = nowhere
 
   abbrev pub designator_layer : RDesignator-F Value (Unit {0}) Value Part Located Member Operation → Located
-  designator_layer d = located m d.root d.selectors
+  designator_layer d = located m around d.root d.selectors
 
   abbrev pub operation_layer : ROperation-F Value (Unit {0}) Value Part Located Member Operation → Operation
   operation_layer o = record { operator = o.operator; sort = o.sort; operand = o.operand.lowers }

@@ -1,4 +1,4 @@
-ghost use Rattle.std.specs.Prelude.{◌≡◌, ◌≤◌, length, map, IfOk};
+ghost use Rattle.std.specs.Prelude.{◌≡◌, ◌≤◌, length, map, slice_get, IfOk};
 ghost use Rattle.std.specs.Option.{option_map};
 ghost use Rattle.std.specs.List.{fold};
 ghost use Rattle.lil_resolved.specs.Views.{expression_of, selector_of};
@@ -8,15 +8,15 @@ ghost use Rattle.lil_lower_value.specs.Values as values;
 
 use lil_base::{Items, Memory};
 use lil_lower_type::{element_sort, field_at, kind_at, takes_value};
-use lil_module::{RDesignator, RModule, RRoot, RSelector as Selector};
-use lil_resolved::{RExpr, RKind, RPlace, RSelector, base as base_of};
+use lil_module::{RDesignator, RModule, RRoot as Root, RSelector as Selector};
+use lil_resolved::{RExpr, RKind, RPlace, RRoot, RSelector, base as base_of};
 use lil_types::{TypeId, TypeTable, base};
 use std::alloc::Global;
 
-/// What a designator has reached: a variable by its number, its parts so far, and the type of the last.
+/// What a designator has reached: its root, the parts so far, and the type of the last.
 #[derive(Drop)]
 pub struct Reached {
-    pub number: u16,
+    pub root: RRoot,
     pub selectors: Items<RSelector>,
     pub sort: TypeId,
 }
@@ -36,40 +36,38 @@ pub struct Cell {
     pub sort: TypeId,
 }
 
-/// The variable of the module with which a designator begins.
-pub(crate) fn root_place(alloc: Global, m: &RModule, of: RRoot) -> Option<Reached>
+fn variable_place(alloc: Global, m: &RModule, number: usize) -> Option<Reached>
     requires { length m.now.variables ≤ 32000 }
-    ensures { option_map reached result ≡ spec.root_place m.now of }
+    ensures { option_map reached result ≡ spec.variable_place number (slice_get m.now.variables number) }
 {
-    match of {
-        RRoot::Global(number) => match m.variables.get(number) {
-            None => None,
-            Some(variable) => Some(Reached {
-                number: number as u16,
-                selectors: Items::new(alloc),
-                sort: variable.sort,
-            }),
-        },
-        _ => None,
+    match m.variables.get(number) {
+        None => None,
+        Some(variable) => Some(Reached {
+            root: RRoot::Variable(number as u16),
+            selectors: Items::new(alloc),
+            sort: variable.sort,
+        }),
     }
 }
 
-fn root_sort(m: &RModule, of: RRoot) -> Option<TypeId>
-    ensures { result ≡ spec.root_sort m.now of }
+/// The record of a WITH around, by its number from the outermost.
+fn held_place(alloc: Global, around: &[TypeId], number: usize) -> Option<Reached>
+    ensures { option_map reached result ≡ spec.held_place around.now number }
 {
-    match of {
-        RRoot::Global(number) => match m.variables.get(number) {
-            None => None,
-            Some(variable) => Some(variable.sort),
-        },
-        _ => None,
+    match around.get(number) {
+        None => None,
+        Some(sort) => Some(Reached {
+            root: RRoot::Held(around.len() - 1 - number),
+            selectors: Items::new(alloc),
+            sort: *sort,
+        }),
     }
 }
 
 /// The type of a part of what has a type.
 #[tactic(auto, using(crate::specs::ValueForms::sorts))]
 fn part_sort(m: &RModule, sort: TypeId, of: &Selector) -> Option<TypeId>
-    ensures { result ≡ (values.selector m.now of.now).sort sort }
+    ensures { (around : spec.Around) → result ≡ (values.selector m.now around of.now).sort sort }
 {
     match of {
         Selector::Field(number) => field_at(&m.types, sort, *number),
@@ -79,7 +77,7 @@ fn part_sort(m: &RModule, sort: TypeId, of: &Selector) -> Option<TypeId>
 }
 
 fn sort_on(m: &RModule, sort: Option<TypeId>, of: &Selector) -> Option<TypeId>
-    ensures { result ≡ spec.sort_on sort (values.selector m.now of.now) }
+    ensures { (around : spec.Around) → result ≡ spec.sort_on sort (values.selector m.now around of.now) }
 {
     match sort {
         None => None,
@@ -88,7 +86,7 @@ fn sort_on(m: &RModule, sort: Option<TypeId>, of: &Selector) -> Option<TypeId>
 }
 
 fn sort_along(m: &RModule, from: Option<TypeId>, of: &[Selector]) -> Option<TypeId>
-    ensures { result ≡ fold spec.sort_on from (map (values.selector m.now) of.now) }
+    ensures { (around : spec.Around) → result ≡ fold spec.sort_on from (map (values.selector m.now around) of.now) }
 {
     let mut sort = from;
     for one in of {
@@ -99,10 +97,10 @@ fn sort_along(m: &RModule, from: Option<TypeId>, of: &[Selector]) -> Option<Type
 
 /// The type of what a designator names.
 #[tactic(auto, using(crate::specs::ValueForms::located_sort))]
-pub(crate) fn place_sort(m: &RModule, of: &RDesignator) -> Option<TypeId>
-    ensures { result ≡ (values.designator m.now of.now).sort }
+pub(crate) fn place_sort(m: &RModule, around: &[TypeId], of: &RDesignator) -> Option<TypeId>
+    ensures { result ≡ (values.designator m.now around.now of.now).sort }
 {
-    sort_along(m, root_sort(m, of.root), of.selectors.as_slice())
+    sort_along(m, root_sort(m, around, of.root), of.selectors.as_slice())
 }
 
 /// A part more.
@@ -110,11 +108,11 @@ pub(crate) fn place_sort(m: &RModule, of: &RDesignator) -> Option<TypeId>
 fn onward(before: Reached, selector: RSelector, sort: TypeId) -> Result<Reached, Memory>
     ensures { IfOk result (λ r. reached r ≡ spec.place_with (selector_of selector (reached before).form) sort) }
 {
-    let number = before.number;
+    let root = before.root;
     let mut selectors = before.selectors;
     selectors.push(selector)?;
     Ok(Reached {
-        number,
+        root,
         selectors,
         sort,
     })
@@ -135,6 +133,65 @@ pub(crate) fn field_place(
             Ok(None)
         }
         Some(sort) => Ok(Some(onward(before, RSelector::Field(number), sort)?)),
+    }
+}
+
+fn field_on(
+    t: &TypeTable,
+    before: Option<Reached>,
+    number: usize,
+) -> Result<Option<Reached>, Memory>
+    ensures { IfOk result (λ o. option_map reached o ≡ spec.field_on t.now number (option_map reached before)) }
+{
+    match before {
+        None => Ok(None),
+        Some(before) => field_place(t, before, number),
+    }
+}
+
+/// That with which a designator begins: a variable of the module, or a field of the record of a WITH around.
+pub(crate) fn root_place(
+    alloc: Global,
+    m: &RModule,
+    around: &[TypeId],
+    of: Root,
+) -> Result<Option<Reached>, Memory>
+    requires { length m.now.variables ≤ 32000 }
+    ensures { IfOk result (λ o. option_map reached o ≡ spec.root_place m.now around.now of) }
+{
+    match of {
+        Root::Global(number) => Ok(variable_place(alloc, m, number)),
+        Root::Local(_, _) => Ok(None),
+        Root::Field(with, number) => field_on(&m.types, held_place(alloc, around, with), number),
+    }
+}
+
+fn variable_sort(m: &RModule, number: usize) -> Option<TypeId>
+    ensures { result ≡ option_map spec.sort_of (spec.variable_place number (slice_get m.now.variables number)) }
+{
+    match m.variables.get(number) {
+        None => None,
+        Some(variable) => Some(variable.sort),
+    }
+}
+
+#[tactic(auto, using(crate::proofs::Chained::sort_kept))]
+fn held_sort(t: &TypeTable, around: &[TypeId], with: usize, number: usize) -> Option<TypeId>
+    ensures { result ≡ option_map spec.sort_of (spec.field_on t.now number (spec.held_place around.now with)) }
+{
+    match around.get(with) {
+        None => None,
+        Some(sort) => field_at(t, *sort, number),
+    }
+}
+
+fn root_sort(m: &RModule, around: &[TypeId], of: Root) -> Option<TypeId>
+    ensures { result ≡ spec.root_sort m.now around.now of }
+{
+    match of {
+        Root::Global(number) => variable_sort(m, number),
+        Root::Local(_, _) => None,
+        Root::Field(with, number) => held_sort(&m.types, around, with, number),
     }
 }
 
@@ -171,7 +228,7 @@ pub fn as_place(of: Option<Reached>) -> Option<Placed>
 {
     let Some(
         Reached {
-            number,
+            root,
             selectors,
             sort,
         },
@@ -180,7 +237,7 @@ pub fn as_place(of: Option<Reached>) -> Option<Placed>
         return None;
     };
     Some(Placed {
-        place: RPlace { number, selectors },
+        place: RPlace { root, selectors },
         sort,
     })
 }
@@ -192,7 +249,7 @@ pub fn cell_of(t: &TypeTable, of: Option<Reached>) -> Option<Cell>
 {
     let Some(
         Reached {
-            number,
+            root,
             selectors,
             sort,
         },
@@ -206,7 +263,7 @@ pub fn cell_of(t: &TypeTable, of: Option<Reached>) -> Option<Cell>
             None
         }
         Some(kind) => Some(Cell {
-            place: RPlace { number, selectors },
+            place: RPlace { root, selectors },
             kind,
             sort: base(t, sort),
         }),

@@ -120,7 +120,7 @@ fn with_right(operator: TwoOp, before: Built, of: Option<RExpr>) -> Result<Optio
 }
 
 fn first_sort(t: &TypeTable, of: &[Operation]) -> Option<TypeId>
-    ensures { (m : _) → result ≡ spec.first_sort t.now (map (spec.operation m) of.now) }
+    ensures { (m around : _) → result ≡ spec.first_sort t.now (map (spec.operation m around) of.now) }
 {
     match of {
         [] => None,
@@ -159,7 +159,7 @@ fn wanted_chain(alloc: Global, sort: TypeId, of: Option<Built>) -> Result<Option
 
 /// The type of the last operation's value.
 fn last_sort(of: &[Operation]) -> Option<TypeId>
-    ensures { (m : _) → result ≡ spec.last_sort (map (spec.operation m) of.now) }
+    ensures { (m around : _) → result ≡ spec.last_sort (map (spec.operation m around) of.now) }
 {
     match of.last() {
         None => None,
@@ -179,8 +179,8 @@ pub fn own_or(sort: Option<TypeId>, other: TypeId) -> TypeId
 
 /// The base type of an expression's own value, None for a whole constant or a text.
 #[tactic(auto, using(crate::specs::ValueForms::owns))]
-pub fn own_sort(m: &RModule, of: &Tree) -> Option<TypeId>
-    ensures { result ≡ (spec.expression m.now of.now).own }
+pub fn own_sort(m: &RModule, around: &[TypeId], of: &Tree) -> Option<TypeId>
+    ensures { result ≡ (spec.expression m.now around.now of.now).own }
 {
     match of {
         Tree::Whole(_) => None,
@@ -189,7 +189,7 @@ pub fn own_sort(m: &RModule, of: &Tree) -> Option<TypeId>
         Tree::Named(_) => None,
         Tree::Nil => None,
         Tree::SetOf(sort, _) => Some(base(&m.types, *sort)),
-        Tree::Value(of) => cell_sort(&m.types, place_sort(m, of)),
+        Tree::Value(of) => cell_sort(&m.types, place_sort(m, around, of)),
         Tree::Procedure(_) => None,
         Tree::Call(_, _) => None,
         Tree::Function(_, sort, _) => Some(base(&m.types, *sort)),
@@ -200,28 +200,29 @@ pub fn own_sort(m: &RModule, of: &Tree) -> Option<TypeId>
 
 /// The base type of an argument's own value, None where it has none of its own.
 #[tactic(auto, using(crate::specs::ValueForms::owns))]
-pub fn argument_sort(m: &RModule, of: &RArgument) -> Option<TypeId>
-    ensures { result ≡ (spec.argument m.now of.now).own }
+pub fn argument_sort(m: &RModule, around: &[TypeId], of: &RArgument) -> Option<TypeId>
+    ensures { result ≡ (spec.argument m.now around.now of.now).own }
 {
     match of {
-        RArgument::Value(of) => own_sort(m, of),
+        RArgument::Value(of) => own_sort(m, around, of),
         RArgument::Place(_) => None,
         RArgument::Type(_) => None,
     }
 }
 
-/// An expression as a value of a wanted base type, None where the generator has no such form. Memory where there is no
-/// room for it.
+/// An expression as a value of a wanted base type, None where the generator has no such form. Around it are WITHs of
+/// records of these types, the outermost first. Memory where there is no room for it.
 #[cycle(value)]
 #[tactic(auto, using(crate::specs::ValueForms::forms))]
 pub fn expression(
     alloc: Global,
     m: &RModule,
+    around: &[TypeId],
     wanted: TypeId,
     of: &Tree,
 ) -> Result<Option<RExpr>, Memory>
     requires { length m.now.variables ≤ 32000 }
-    ensures { IfOk result (λ o. option_map expression_of o ≡ (spec.expression m.now of.now).lowers wanted) }
+    ensures { IfOk result (λ o. option_map expression_of o ≡ (spec.expression m.now around.now of.now).lowers wanted) }
 {
     match of {
         Tree::Whole(number) => Ok(whole(&m.types, *number, wanted)),
@@ -229,58 +230,66 @@ pub fn expression(
         Tree::Chars(of) => Ok(text(of.as_slice(), wanted)),
         Tree::Named(number) => Ok(named(m, *number, wanted)),
         Tree::Nil => Ok(None),
-        Tree::SetOf(sort, elements) => set(alloc, m, *sort, wanted, elements.as_slice()),
+        Tree::SetOf(sort, elements) => set(alloc, m, around, *sort, wanted, elements.as_slice()),
         Tree::Value(of) => {
-            let found = place(alloc, m, of)?;
+            let found = place(alloc, m, around, of)?;
             Ok(taken(cell_of(&m.types, found), wanted))
         }
         Tree::Procedure(_) => Ok(None),
         Tree::Call(_, _) => Ok(None),
         Tree::Function(of, sort, arguments) => {
-            function(alloc, m, *of, *sort, wanted, arguments.as_slice())
+            function(alloc, m, around, *of, *sort, wanted, arguments.as_slice())
         }
         Tree::One(operator, sort, of) => {
-            let of = expression(alloc, m, wanted, of.get())?;
+            let of = expression(alloc, m, around, wanted, of.get())?;
             one(alloc, &m.types, *operator, *sort, wanted, of)
         }
         Tree::Chain(first, operations) => {
             let begin = begin(
                 alloc,
                 m,
+                around,
                 first_sort(&m.types, operations.as_slice()),
                 first.get(),
             )?;
-            let all = operated(alloc, m, begin, operations.as_slice())?;
+            let all = operated(alloc, m, around, begin, operations.as_slice())?;
             wanted_chain(alloc, wanted, all)
         }
     }
 }
 
-/// The place that a designator names, None where the generator has no such form. Memory where there is no room for it.
+/// The place that a designator names in such WITHs, None where the generator has no such form. Memory where there is no
+/// room for it.
 #[cycle(value)]
 #[tactic(auto, using(crate::specs::ValueForms::located_place))]
-pub fn place(alloc: Global, m: &RModule, of: &RDesignator) -> Result<Option<Reached>, Memory>
+pub fn place(
+    alloc: Global,
+    m: &RModule,
+    around: &[TypeId],
+    of: &RDesignator,
+) -> Result<Option<Reached>, Memory>
     requires { length m.now.variables ≤ 32000 }
-    ensures { IfOk result (λ o. option_map reached o ≡ (spec.designator m.now of.now).place) }
+    ensures { IfOk result (λ o. option_map reached o ≡ (spec.designator m.now around.now of.now).place) }
 {
-    let from = root_place(alloc, m, of.root);
-    along(alloc, m, from, of.selectors.as_slice())
+    let from = root_place(alloc, m, around, of.root)?;
+    along(alloc, m, around, from, of.selectors.as_slice())
 }
 
-/// All parts behind a variable.
+/// All parts behind a root.
 #[cycle(value)]
 fn along(
     alloc: Global,
     m: &RModule,
+    around: &[TypeId],
     from: Option<Reached>,
     selectors: &[Selector],
 ) -> Result<Option<Reached>, Memory>
     requires { length m.now.variables ≤ 32000 }
-    ensures { IfOk result (λ o. option_map reached o ≡ fold places.place_on (option_map reached from) (map (spec.selector m.now) selectors.now)) }
+    ensures { IfOk result (λ o. option_map reached o ≡ fold places.place_on (option_map reached from) (map (spec.selector m.now around.now) selectors.now)) }
 {
     let mut so_far = from;
     for one in selectors {
-        so_far = part(alloc, m, so_far, one)?;
+        so_far = part(alloc, m, around, so_far, one)?;
     }
     Ok(so_far)
 }
@@ -290,18 +299,19 @@ fn along(
 fn part(
     alloc: Global,
     m: &RModule,
+    around: &[TypeId],
     before: Option<Reached>,
     of: &Selector,
 ) -> Result<Option<Reached>, Memory>
     requires { length m.now.variables ≤ 32000 }
-    ensures { IfOk result (λ o. option_map reached o ≡ places.place_on (option_map reached before) (spec.selector m.now of.now)) }
+    ensures { IfOk result (λ o. option_map reached o ≡ places.place_on (option_map reached before) (spec.selector m.now around.now of.now)) }
 {
     let Some(before) = before else {
         return Ok(None);
     };
     match of {
         Selector::Field(number) => field_place(&m.types, before, *number),
-        Selector::Index(value) => indexed(alloc, m, before, value),
+        Selector::Index(value) => indexed(alloc, m, around, before, value),
         Selector::Follow => {
             drop(before);
             Ok(None)
@@ -314,11 +324,12 @@ fn part(
 fn indexed(
     alloc: Global,
     m: &RModule,
+    around: &[TypeId],
     before: Reached,
     value: &Tree,
 ) -> Result<Option<Reached>, Memory>
     requires { length m.now.variables ≤ 32000 }
-    ensures { IfOk result (λ o. option_map reached o ≡ spec.indexed m.now.types (spec.expression m.now value.now) (reached before) (composites.array_at m.now.types (reached before).sort)) }
+    ensures { IfOk result (λ o. option_map reached o ≡ spec.indexed m.now.types (spec.expression m.now around.now value.now) (reached before) (composites.array_at m.now.types (reached before).sort)) }
 {
     match array_at(&m.types, before.sort) {
         None => {
@@ -326,8 +337,8 @@ fn indexed(
             Ok(None)
         }
         Some(parts) => {
-            let sort = own_or(own_sort(m, value), base(&m.types, parts.index));
-            let index = expression(alloc, m, sort, value);
+            let sort = own_or(own_sort(m, around, value), base(&m.types, parts.index));
+            let index = expression(alloc, m, around, sort, value);
             let (before, index) = beside(before, index)?;
             element(before, parts.element, kind_at(&m.types, parts.index), index)
         }
@@ -339,15 +350,16 @@ fn indexed(
 fn set(
     alloc: Global,
     m: &RModule,
+    around: &[TypeId],
     sort: TypeId,
     wanted: TypeId,
     elements: &[RElement],
 ) -> Result<Option<RExpr>, Memory>
     requires { length m.now.variables ≤ 32000 }
-    ensures { IfOk result (λ o. option_map expression_of o ≡ spec.set m.now.types sort (map (spec.member m.now) elements.now) wanted) }
+    ensures { IfOk result (λ o. option_map expression_of o ≡ spec.set m.now.types sort (map (spec.member m.now around.now) elements.now) wanted) }
 {
     if base(&m.types, sort) == wanted {
-        set_by(alloc, m, members_at(&m.types, wanted), elements)
+        set_by(alloc, m, around, members_at(&m.types, wanted), elements)
     } else {
         Ok(None)
     }
@@ -358,15 +370,16 @@ fn set(
 fn set_by(
     alloc: Global,
     m: &RModule,
+    around: &[TypeId],
     members: Option<Members>,
     elements: &[RElement],
 ) -> Result<Option<RExpr>, Memory>
     requires { length m.now.variables ≤ 32000 }
-    ensures { IfOk result (λ o. option_map expression_of o ≡ sets.set_by members (map (spec.member m.now) elements.now)) }
+    ensures { IfOk result (λ o. option_map expression_of o ≡ sets.set_by members (map (spec.member m.now around.now) elements.now)) }
 {
     match members {
         Some(members) if is_element(members.kind) => {
-            let all = all_members(alloc, m, members, elements)?;
+            let all = all_members(alloc, m, around, members, elements)?;
             Ok(set_with(members.kind, all))
         }
         _ => Ok(None),
@@ -378,15 +391,16 @@ fn set_by(
 fn all_members(
     alloc: Global,
     m: &RModule,
+    around: &[TypeId],
     members: Members,
     elements: &[RElement],
 ) -> Result<Option<Items<RMember>>, Memory>
     requires { length m.now.variables ≤ 32000 }
-    ensures { IfOk result (λ o. option_map (map member_of) o ≡ all_some (map (λ e. spec.member m.now e members) elements.now)) }
+    ensures { IfOk result (λ o. option_map (map member_of) o ≡ all_some (map (λ e. spec.member m.now around.now e members) elements.now)) }
 {
     let mut found = Items::new(alloc);
     for one in elements {
-        match member(alloc, m, members, one)? {
+        match member(alloc, m, around, members, one)? {
             None => return Ok(None),
             Some(member) => found.push(member)?,
         }
@@ -400,17 +414,18 @@ fn all_members(
 fn member(
     alloc: Global,
     m: &RModule,
+    around: &[TypeId],
     members: Members,
     of: &RElement,
 ) -> Result<Option<RMember>, Memory>
     requires { length m.now.variables ≤ 32000 }
-    ensures { IfOk result (λ o. option_map member_of o ≡ spec.member m.now of.now members) }
+    ensures { IfOk result (λ o. option_map member_of o ≡ spec.member m.now around.now of.now members) }
 {
-    let low = entered(alloc, m, members, &of.low)?;
+    let low = entered(alloc, m, around, members, &of.low)?;
     match &of.high {
         None => Ok(single(low)),
         Some(high) => {
-            let high = entered(alloc, m, members, high.get());
+            let high = entered(alloc, m, around, members, high.get());
             let (low, high) = beside(low, high)?;
             Ok(spanned(low, high))
         }
@@ -419,12 +434,18 @@ fn member(
 
 /// A number of a set: a value in its own type, or a constant in the members' base type.
 #[cycle(value)]
-fn entered(alloc: Global, m: &RModule, members: Members, of: &Tree) -> Result<Option<RExpr>, Memory>
+fn entered(
+    alloc: Global,
+    m: &RModule,
+    around: &[TypeId],
+    members: Members,
+    of: &Tree,
+) -> Result<Option<RExpr>, Memory>
     requires { length m.now.variables ≤ 32000 }
-    ensures { IfOk result (λ o. option_map expression_of o ≡ spec.entered members (spec.expression m.now of.now)) }
+    ensures { IfOk result (λ o. option_map expression_of o ≡ spec.entered members (spec.expression m.now around.now of.now)) }
 {
-    let sort = own_or(own_sort(m, of), members.sort);
-    let value = expression(alloc, m, sort, of)?;
+    let sort = own_or(own_sort(m, around, of), members.sort);
+    let value = expression(alloc, m, around, sort, of)?;
     Ok(fitting(members.kind, value))
 }
 
@@ -433,21 +454,22 @@ fn entered(alloc: Global, m: &RModule, members: Members, of: &Tree) -> Result<Op
 fn function(
     alloc: Global,
     m: &RModule,
+    around: &[TypeId],
     of: Standard,
     sort: TypeId,
     wanted: TypeId,
     arguments: &[RArgument],
 ) -> Result<Option<RExpr>, Memory>
     requires { length m.now.variables ≤ 32000 }
-    ensures { IfOk result (λ o. option_map expression_of o ≡ spec.function m.now.types of sort (map (spec.argument m.now) arguments.now) wanted) }
+    ensures { IfOk result (λ o. option_map expression_of o ≡ spec.function m.now.types of sort (map (spec.argument m.now around.now) arguments.now) wanted) }
 {
     match of {
         Standard::Val => match arguments {
-            [_, operand] => function_of(alloc, m, of, sort, wanted, operand),
+            [_, operand] => function_of(alloc, m, around, of, sort, wanted, operand),
             _ => Ok(None),
         },
         _ => match arguments {
-            [operand] => function_of(alloc, m, of, sort, wanted, operand),
+            [operand] => function_of(alloc, m, around, of, sort, wanted, operand),
             _ => Ok(None),
         },
     }
@@ -457,18 +479,19 @@ fn function(
 fn function_of(
     alloc: Global,
     m: &RModule,
+    around: &[TypeId],
     of: Standard,
     sort: TypeId,
     wanted: TypeId,
     operand: &RArgument,
 ) -> Result<Option<RExpr>, Memory>
     requires { length m.now.variables ≤ 32000 }
-    ensures { IfOk result (λ o. option_map expression_of o ≡ spec.function_by m.now.types of sort wanted (Some (spec.argument m.now operand.now))) }
+    ensures { IfOk result (λ o. option_map expression_of o ≡ spec.function_by m.now.types of sort wanted (Some (spec.argument m.now around.now operand.now))) }
 {
     let t = &m.types;
-    match argument_sort(m, operand) {
+    match argument_sort(m, around, operand) {
         Some(own) if value_sort(t, of, sort, own) == wanted => {
-            let operand = argument(alloc, m, own, operand)?;
+            let operand = argument(alloc, m, around, own, operand)?;
             applied(alloc, form_of(t, of, sort), operand)
         }
         _ => Ok(None),
@@ -481,14 +504,15 @@ fn function_of(
 pub fn argument(
     alloc: Global,
     m: &RModule,
+    around: &[TypeId],
     wanted: TypeId,
     of: &RArgument,
 ) -> Result<Option<RExpr>, Memory>
     requires { length m.now.variables ≤ 32000 }
-    ensures { IfOk result (λ o. option_map expression_of o ≡ (spec.argument m.now of.now).lowers wanted) }
+    ensures { IfOk result (λ o. option_map expression_of o ≡ (spec.argument m.now around.now of.now).lowers wanted) }
 {
     match of {
-        RArgument::Value(of) => expression(alloc, m, wanted, of),
+        RArgument::Value(of) => expression(alloc, m, around, wanted, of),
         RArgument::Place(_) => Ok(None),
         RArgument::Type(_) => Ok(None),
     }
@@ -498,16 +522,17 @@ pub fn argument(
 fn begin(
     alloc: Global,
     m: &RModule,
+    around: &[TypeId],
     sort: Option<TypeId>,
     of: &Tree,
 ) -> Result<Option<Built>, Memory>
     requires { length m.now.variables ≤ 32000 }
-    ensures { IfOk result (λ o. option_map built o ≡ spec.begin sort (spec.expression m.now of.now).lowers) }
+    ensures { IfOk result (λ o. option_map built o ≡ spec.begin sort (spec.expression m.now around.now of.now).lowers) }
 {
     match sort {
         None => Ok(None),
         Some(sort) => {
-            let of = expression(alloc, m, sort, of)?;
+            let of = expression(alloc, m, around, sort, of)?;
             Ok(begun(alloc, sort, of))
         }
     }
@@ -518,15 +543,16 @@ fn begin(
 fn operated(
     alloc: Global,
     m: &RModule,
+    around: &[TypeId],
     begin: Option<Built>,
     operations: &[Operation],
 ) -> Result<Option<Built>, Memory>
     requires { length m.now.variables ≤ 32000 }
-    ensures { IfOk result (λ o. option_map built o ≡ fold (spec.operate m.now.types) (option_map built begin) (map (spec.operation m.now) operations.now)) }
+    ensures { IfOk result (λ o. option_map built o ≡ fold (spec.operate m.now.types) (option_map built begin) (map (spec.operation m.now around.now) operations.now)) }
 {
     let mut so_far = begin;
     for one in operations {
-        so_far = operate(alloc, m, so_far, one)?;
+        so_far = operate(alloc, m, around, so_far, one)?;
     }
     Ok(so_far)
 }
@@ -536,15 +562,16 @@ fn operated(
 fn operate(
     alloc: Global,
     m: &RModule,
+    around: &[TypeId],
     before: Option<Built>,
     of: &Operation,
 ) -> Result<Option<Built>, Memory>
     requires { length m.now.variables ≤ 32000 }
-    ensures { IfOk result (λ o. option_map built o ≡ spec.operate m.now.types (option_map built before) (spec.operation m.now of.now)) }
+    ensures { IfOk result (λ o. option_map built o ≡ spec.operate m.now.types (option_map built before) (spec.operation m.now around.now of.now)) }
 {
     match before {
         Some(before) if fits(&m.types, of, before.sort) => {
-            let right = expression(alloc, m, of.sort, &of.operand);
+            let right = expression(alloc, m, around, of.sort, &of.operand);
             let (before, right) = beside(before, right)?;
             with_right(of.operator, before, right)
         }

@@ -1,6 +1,6 @@
 -- Matched states: the code at hand does the items that are left, the store has the cells, and frames stand one over another. One step of
 -- the source leads from one to the next.
-use Rattle.std.proofs.Common.{◌≡◌, ℕ, ◌+◌, ◌<◌, ◌≤◌, ◌⊎◌, Bool, true, false, Option, Some, None, List, [], ◌∷◌, map}
+use Rattle.std.proofs.Common.{◌≡◌, ℕ, ◌+◌, ◌<◌, ◌≤◌, ◌⊎◌, Bool, true, false, Option, Some, None, List, [], ◌∷◌, length, get_or, map}
 use Rattle.std.specs.Prelude.{slice_get, nat_le, ◌&&◌}
 use Rattle.lil_base.specs.declared.fault.LimitKind.{LimitKind}
 use Rattle.lil_base.specs.declared.fault.TrapAt.{TrapAt}
@@ -12,7 +12,7 @@ use Rattle.lil_meaning.specs.Items.{Item, Activation, Parked, Level, Phase, Goin
 use Rattle.lil_meaning.specs.Steps.{next, owner_of, procedure_of, name_of, procedure_name}
 use Rattle.lil_mcode.specs.State.{Module, StackRegisters, Kept, State, stack_of, module_at}
 use Rattle.lil_match.specs.Running.{Finish, Running, Finished, TrappedBy, Limited, Run, mrun, running}
-use Rattle.lil_match.specs.Homes.{Owner, Own, Free, Home, Mem}
+use Rattle.lil_match.specs.Homes.{Owner, Own, Fixed, Free, Home, Mem}
 use Rattle.lil_match.specs.Stutter.{stutter}
 use Rattle.lil_match.specs.Waits.{Frame, Stack, Setting, Quiet, Around, Ahead}
 
@@ -45,16 +45,20 @@ pub record HasName (procedures : List (ℕ × Option (List ℕ))) (p : ℕ) (nam
   pub entry : ℕ
   pub there : slice_get procedures p ≡ Some (entry, name)
 
-module _ (library : List Resolved) (loaded : List ℕ) (table : List Module) (activations : List Activation) (base : Root → ℕ) (shape : Root → Shape) where
-  -- a frame's module is loaded, its activation runs in it, and its variables live where its layout says
+module _ (library : List Resolved) (loaded : List ℕ) (table : List Module) (activations : List Activation) (h : Home) where
+  -- A frame's module is loaded, its activation runs in it, and its variables live where its layout says. The words of its strings, behind
+  -- the variables, never change.
   pub record IsKnown (f : Frame) : Type 0 where
     pub known : module_at table f.number ≡ Some f.own
     pub named : name_of (loaded_at library loaded f.number) ≡ f.own.name
     pub owner : owner_of (slice_get activations f.activation) ≡ f.number
     pub called : procedure_of (slice_get activations f.activation) ≡ f.procedure
     pub entered : HasName f.own.procedures f.procedure (procedure_name (loaded_at library loaded f.number) f.procedure)
-    pub variables : (x offset : ℕ) (t : Shape) → slice_get f.layout.offsets x ≡ Some offset → slice_get f.layout.shapes x ≡ Some t
-        → (shape (Global f.number x) ≡ t) × (base (Global f.number x) ≡ f.own.base + offset)
+    pub variables : (x offset : ℕ) (t : Shape) → slice_get f.layout.offsets x ≡ Some offset → slice_get f.layout.scope.variables x ≡ Some t
+        → (h.shape (Global f.number x) ≡ t) × (h.base (Global f.number x) ≡ f.own.base + offset)
+    pub strings : (i : ℕ) → i < length f.layout.strings
+        → (h.owner (f.own.base + (f.layout.words + i)) ≡ Fixed) × (h.shadow (f.own.base + (f.layout.words + i)) ≡ get_or f.layout.strings i 0)
+    pub inside : f.own.base + (f.layout.words + length f.layout.strings) ≤ 65535
 
   abbrev pub EachKnown : List Frame → Type 0
   EachKnown [] = Unit {0}
@@ -95,9 +99,9 @@ module _ (ctx : Setting) where
     pub base_is : r.base ≡ st.base
     pub limit_is : r.limit ≡ st.limit
     pub bodies_are : r.bodies ≡ map number_of st.bodies
-    pub known : IsKnown library loaded table activations h.base h.shape st.frame
-    pub callers : EachKnown library loaded table activations h.base h.shape st.callers
-    pub comes : EachComes library loaded table activations h.base h.shape st.base st.bodies
+    pub known : IsKnown library loaded table activations h st.frame
+    pub callers : EachKnown library loaded table activations h st.callers
+    pub comes : EachComes library loaded table activations h st.base st.bodies
     pub stands : Stands h.owner st.base r.top st.frame st.callers
     pub room : (a : ℕ) → r.top ≤ a → a < st.limit → h.owner a ≡ Free st.base
     pub low : r.top ≤ st.limit
@@ -160,13 +164,14 @@ pub record IsFull (limit : ℕ) (bodies : List Frame) (w : World) (run : Run) : 
   pub world : run.world ≡ w
   pub short : fits limit bodies ≡ false
 
--- what a step of the stack between two words may change: the words between them and their owners
+-- what a step of the stack between two words may change: the words between them and their owners, but those that never change
 pub record Touches (h h' : Home) (low high : ℕ) : Type 0 where
   pub owner : (a : ℕ) → (a < low) ⊎ (high ≤ a) → h'.owner a ≡ h.owner a
   pub shadow : (a : ℕ) → (a < low) ⊎ (high ≤ a) → h'.shadow a ≡ h.shadow a
   pub base : (r : Root) → h'.base r ≡ h.base r
   pub shape : (r : Root) → h'.shape r ≡ h.shape r
   pub reference : (o : ℕ) → h'.reference o ≡ h.reference o
+  pub fixed : (a : ℕ) → h.owner a ≡ Fixed → (h'.owner a ≡ Fixed) × (h'.shadow a ≡ h.shadow a)
 
 -- One step of the source, in so many steps of the machine, with so many jumps owed then, both within a budget, or else a limit. The world changes in
 -- the last step alone; the home changes between the stack's base and its limit alone.

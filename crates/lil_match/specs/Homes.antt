@@ -1,21 +1,23 @@
 -- Where the meaning's cells lie in the store.
-use Rattle.std.proofs.Common.{◌≡◌, ℕ, ◌+◌, ◌-◌, ◌<◌, ◌≤◌, true, false, eqb, List, [], ◌∷◌, ◌++◌, length, get_or, set, take, drop, refl, sym, ap, ◌∙◌, subst, ◌⊎◌, inl, inr, ⊎_elim, arith, length-set, length-drop}
-use Rattle.std.proofs.lemmas.Bool.{eq-eqb, ne_eqb, cases_Bool, cases_eq, cases_lt, eqb-true, and_parts, and_from}
+use Rattle.std.proofs.Common.{◌≡◌, ℕ, zero, suc, ◌+◌, ◌-◌, ◌*◌, ◌<◌, ◌≤◌, Bool, true, false, eqb, List, [], ◌∷◌, ◌++◌, length, get_or, set, take, drop, refl, sym, ap, ◌∙◌, subst, ◌⊎◌, inl, inr, ⊎_elim, arith, length-set, length-drop}
+use Rattle.std.proofs.lemmas.Bool.{eq-eqb, ltb-true, ne_eqb, cases_Bool, cases_eq, cases_lt, eqb-true, and_parts, and_from}
 use Rattle.std.proofs.lemmas.List.{get_or-set_same, get_or-set_other, get_or-take, get_or-drop, length-take-le}
-use Rattle.std.specs.Prelude.{◌==◌, if◌then◌else◌}
+use Rattle.std.specs.Prelude.{◌==◌, nat_lt, nat_le, if◌then◌else◌}
 use Rattle.lil_base.specs.Words.{between}
 use Rattle.lil_resolved.specs.Kinds.{Kind, OfWhole, OfTruth, OfCharacter, OfEnumeration, OfSet, OfRange, base_of}
-use Rattle.lil_resolved.specs.Scalars.{Scalar, ToObject, within, scalar_word, ordinal_of}
-use Rattle.lil_resolved.specs.Shapes.{Shape, Absent, Word, words, is_there, part_at, offset}
-use Rattle.lil_meaning.specs.Cells.{Root, Global, Local, Object, Place, part_of, Cells, Under, under, rest_behind, at_rest, same_root, stored, alone}
+use Rattle.lil_resolved.specs.Scalars.{Scalar, Character, ToObject, within, scalar_word, ordinal_of}
+use Rattle.lil_resolved.specs.Sound.{is_character, is_text}
+use Rattle.lil_resolved.specs.Shapes.{Shape, Absent, Word, Row, words, is_there, part_at, offset}
+use Rattle.lil_meaning.specs.Cells.{Root, Global, Local, Object, Place, part_of, Cells, Under, under, rest_behind, at_rest, same_root, stored, alone, text_under}
 use Rattle.lil_mcode.specs.State.{spliced}
 use Rattle.lil_match.specs.Parts.{yes, no, part_fits, part_append, offset_append, Inside, Outside, word_long, parts}
 use Rattle.lil_match.specs.Splices.{spliced_length, spliced_before, spliced_there, spliced_after}
 
--- whose a word of the store is: a root's, the machine's own, or in no use, as room of the stack with this base
+-- whose a word of the store is: a root's, the machine's own, one that never changes, or in no use, as room of the stack with this base
 pub data Owner : Type 0 where
   Of : (r : Root) → Owner
   Own : Owner
+  Fixed : Owner
   Free : (base : ℕ) → Owner
 
 pub record Home : Type 0 where
@@ -23,7 +25,7 @@ pub record Home : Type 0 where
   -- absent where the root does not live
   pub shape : Root → Shape
   pub owner : ℕ → Owner
-  -- what the machine's own words are
+  -- what the machine's own words and those that never change are
   pub shadow : ℕ → ℕ
   -- the word of a reference
   pub reference : ℕ → ℕ
@@ -60,12 +62,13 @@ pub within_base : (k : Kind) (v : Scalar) → within k v ≡ true → within (ba
 within_base (OfRange base low high) v h = within_base base v (and_parts (within base v) (between low (ordinal_of v) high) h).0
 within_base _ v h = h
 
--- the store has the cells, and the machine's own words
+-- the store has the cells, the machine's own words, and those that never change
 pub record Mem (h : Home) (cells : Cells) (store : List ℕ) : Type 0 where
   pub owned : (r : Root) (i : ℕ) → i < words (h.shape r) → h.owner (h.base r + i) ≡ Of r
   pub inside : (r : Root) → h.base r + words (h.shape r) ≤ 65535
   pub holds : (r : Root) (q : List ℕ) (k : Kind) → part_at (h.shape r) q ≡ Word k → IsWord h k (cells r q) (get_or store (h.base r + offset (h.shape r) q) 0)
   pub kept : (a : ℕ) → h.owner a ≡ Own → get_or store a 0 ≡ h.shadow a
+  pub fixed : (a : ℕ) → h.owner a ≡ Fixed → get_or store a 0 ≡ h.shadow a
   pub long : length store ≡ 65536
 
 pub same_root_eq : (a b : Root) → same_root a b ≡ true → a ≡ b
@@ -92,6 +95,12 @@ of_same r s e = cc
 
 own_of_none : (r : Root) → Of r ≡ Own → ⊥
 own_of_none r e = cc
+
+pub fixed_of_none : (r : Root) → Of r ≡ Fixed → ⊥
+fixed_of_none r e = cc
+
+pub own_fixed : Own ≡ Fixed → ⊥
+own_fixed e = cc
 
 pub of_free : (r : Root) (b : ℕ) → Of r ≡ Free b → ⊥
 of_free r b e = cc
@@ -127,6 +136,12 @@ part_there h p x there = (
   part_append (h.shape p.root) p.path (x ∷ []) there,
   omega (arith, offset_append (h.shape p.root) p.path (x ∷ []) there),
 )
+
+-- each character of a string is one, and so is 0C behind it
+pub text_character : (cs : List ℕ) (i : ℕ) → is_text cs ≡ true → nat_le (get_or cs i 0) 255 ≡ true
+text_character [] i e = refl
+text_character (c ∷ cs) zero e = (and_parts (is_character c) (is_text cs) e).0
+text_character (c ∷ cs) (suc i) e = text_character cs i (and_parts (is_character c) (is_text cs) e).1
 
 -- The words of a place are those of new scalars, and no others have changed.
 pub record Wrote (h : Home) (p : Place) (u : Under) (store new : List ℕ) : Type 0 where
@@ -190,6 +205,7 @@ module _ (h : Home) (cells : Cells) (store new : List ℕ) (p : Place) (u : Unde
     inside = mem.inside;
     holds = λ s q j e. by s q j e (cases_Bool (same_root p.root s));
     kept = λ a own. wrote.beside a (clear a (λ mine. own_of_none p.root (sym mine ∙ own))) ∙ mem.kept a own;
+    fixed = λ a own. wrote.beside a (clear a (λ mine. fixed_of_none p.root (sym mine ∙ own))) ∙ mem.fixed a own;
     long = wrote.long ∙ mem.long;
   }
 
@@ -243,6 +259,42 @@ mem_copied h cells store to from mem there same =
       long = spliced_length store (address h to) ws room;
     })
 
+-- a string and zeros behind it come to an array of characters
+pub mem_written : (h : Home) (cells : Cells) (store : List ℕ) (to : Place) (count : ℕ) (cs ws : List ℕ) → Mem h cells store → shape_there h to ≡ Row count (Word OfCharacter) → is_text cs ≡ true
+    → length ws ≡ count → ((i : ℕ) → i < count → get_or ws i 0 ≡ get_or cs i 0) → Mem h (stored cells to (text_under cs)) (spliced store (address h to) ws)
+mem_written h cells store to count cs ws mem there text long same =
+    let low : address h to + words (shape_there h to) ≤ 65535 = place_inside h cells store to mem (ap is_there there) in
+    let size : words (shape_there h to) ≡ length ws = ap words there ∙ (let e : count * 1 ≡ length ws = omega (arith, long) in e) in
+    let room : address h to + length ws ≤ length store = omega (arith, size, low, mem.long) in
+    mem_wrote h cells store (spliced store (address h to) ws) to (text_under cs) mem (ap is_there there)
+    (record {
+      there = λ q k e. subst (λ (t : Shape). IsWord h k (text_under cs q) (get_or (spliced store (address h to) ws) (address h to + offset t q) 0)) (sym there)
+          (by room q k (ap (λ (t : Shape). part_at t q) (sym there) ∙ e));
+      beside = λ a apart. ⊎_elim (λ (l : a < address h to). spliced_before store (address h to) ws a room l)
+          (λ (g : address h to + words (shape_there h to) ≤ a). spliced_after store (address h to) ws a room (omega (arith, g, size))) apart;
+      long = spliced_length store (address h to) ws room;
+    })
+  where
+    element : (i : ℕ) (q : List ℕ) (k : Kind) → (if nat_lt i count then part_at (Word OfCharacter) q else Absent) ≡ Word k → (i < count) × (part_at (Word OfCharacter) q ≡ Word k)
+    element i q k e = pick (nat_lt i count) refl e
+      where
+        pick : (b : Bool) → nat_lt i count ≡ b → (if b then part_at (Word OfCharacter) q else Absent) ≡ Word k → (i < count) × (part_at (Word OfCharacter) q ≡ Word k)
+        pick true less e = (ltb-true i count less, e)
+        pick false less e = absurd (absent_no k e)
+
+    by : address h to + length ws ≤ length store → (q : List ℕ) (k : Kind) → part_at (Row count (Word OfCharacter)) q ≡ Word k
+        → IsWord h k (text_under cs q) (get_or (spliced store (address h to) ws) (address h to + offset (Row count (Word OfCharacter)) q) 0)
+    by room [] k e = cc
+    by room (i ∷ []) k e =
+        let one = element i [] k e in
+        let kind : OfCharacter ≡ k = cc (one.1) in
+        let at : address h to + offset (Row count (Word OfCharacter)) (i ∷ []) ≡ address h to + i = omega arith in
+        record {
+          word = ap (λ (a : ℕ). get_or (spliced store (address h to) ws) a 0) at ∙ spliced_there store (address h to) ws i room (omega (arith, one.0, long)) ∙ same i one.0;
+          fits = ap (λ (z : Kind). within (base_of z) (Character (get_or cs i 0))) (sym kind) ∙ text_character cs i text;
+        }
+    by room (i ∷ j ∷ q) k e = absurd (absent_no k (element i (j ∷ q) k e).1)
+
 -- a function that is another number at one place
 abbrev pub replaced : (ℕ → ℕ) → ℕ → ℕ → ℕ → ℕ
 replaced f a w b = if a == b then w else f b
@@ -260,11 +312,12 @@ mem_shadowed h cells store a w own small mem = record {
       let old = mem.holds r q k e in
       let other : h.base r + offset (h.shape r) q ≡ a → ⊥ = λ at. own_of_none r (sym (scalar_owned h cells store r q k mem e).0 ∙ ap h.owner at ∙ own) in
       record { word = get_or-set_other store a (h.base r + offset (h.shape r) q) w 0 other ∙ old.word ∙ word_same h (shadowed h a w) (λ o. refl) (cells r q); fits = old.fits };
-  kept = λ b mine. by b mine (cases_eq a b);
+  kept = λ b mine. by b (mem.kept b mine) (cases_eq a b);
+  fixed = λ b mine. by b (mem.fixed b mine) (cases_eq a b);
   long = length-set store a w ∙ mem.long;
 }
   where
-    by : (b : ℕ) → h.owner b ≡ Own → (a ≡ b) ⊎ (a ≡ b → ⊥) → get_or (set store a w) b 0 ≡ replaced h.shadow a w b
-    by b mine (inl e) =
+    by : (b : ℕ) → get_or store b 0 ≡ h.shadow b → (a ≡ b) ⊎ (a ≡ b → ⊥) → get_or (set store a w) b 0 ≡ replaced h.shadow a w b
+    by b old (inl e) =
         ap (λ (x : ℕ). get_or (set store a w) x 0) (sym e) ∙ get_or-set_same store a w 0 (omega (arith, small, mem.long)) ∙ sym (yes (eqb a b) w (h.shadow b) (eq-eqb a b e))
-    by b mine (inr d) = get_or-set_other store a b w 0 (λ e. d (sym e)) ∙ mem.kept b mine ∙ sym (no (eqb a b) w (h.shadow b) (ne_eqb a b d))
+    by b old (inr d) = get_or-set_other store a b w 0 (λ e. d (sym e)) ∙ old ∙ sym (no (eqb a b) w (h.shadow b) (ne_eqb a b d))

@@ -1,19 +1,20 @@
 -- What is left stays where homes agree on what it speaks of: this carries rows and frames over every change of the machine's own words.
-use Rattle.std.proofs.Common.{◌≡◌, ℕ, suc, ◌+◌, ◌<◌, ◌≤◌, inl, inr, true, false, ◌||◌, eqb, List, [], ◌∷◌, ◌++◌, set, refl, ap, ◌∙◌, subst, ⊎_elim, arith}
+use Rattle.std.proofs.Common.{◌≡◌, ℕ, suc, ◌+◌, ◌<◌, ◌≤◌, inl, inr, true, false, ◌||◌, eqb, List, [], ◌∷◌, ◌++◌, set, get_or, refl, sym, ap, ◌∙◌, subst, ⊎_elim, arith}
 use Rattle.std.proofs.lemmas.Bool.{ne_eqb}
 use Rattle.std.specs.List.{list_any}
 use Rattle.std.specs.Prelude.{Bool}
-use Rattle.lil_resolved.specs.Kinds.{OfSet, numbers}
+use Rattle.lil_resolved.specs.Kinds.{OfCharacter, OfSet, numbers}
 use Rattle.lil_resolved.specs.Scalars.{Scalar}
 use Rattle.lil_resolved.specs.Resolved.{Resolved}
 use Rattle.lil_resolved.specs.Shapes.{Shape, Word, Row, part_at, offset}
 use Rattle.lil_meaning.specs.Cells.{Root, Global, Local, Object, Place}
-use Rattle.lil_meaning.specs.Items.{Scalars, Places, IndexAt, StoreAt, CopyFrom, ChangeAt, RightOf, MemberOf, MembersFrom, MembersTo, MemberAt, LimitOf, Looping, Turns, End, Item, Value, Fill, Perform, Activation, Source}
+use Rattle.lil_meaning.specs.Items.{Datum, Scalars, Places, Wholes, Opens, Texts, IndexAt, StoreAt, CopyFrom, ChangeAt, RightOf, MemberOf, MembersFrom, MembersTo, MemberAt, Pass, PassArray, LimitOf, Passing, Looping, Turns, Holding, End, Item, Value, Fill, Perform, Activation, Source}
 use Rattle.lil_mcode.specs.State.{Module, StackRegisters, State, stack_of}
-use Rattle.lil_table.specs.Rows.{Access, OnTop, loop_place}
+use Rattle.lil_table.specs.Rows.{Layout, holding, Access, OnTop, loop_place}
 use Rattle.lil_match.specs.Parts.{no}
-use Rattle.lil_match.specs.Homes.{word_same, address, Owner, Own, Home, mem_shadowed, shadowed, replaced}
-use Rattle.lil_match.specs.Waits.{Mode, Quiet, ValueOf, AtPlace, Onward, Part, Around, outside, Frame, frames_of, Setting, at_home, with_frames, sees, is_of, TurnsTask, Reaches, HasPlace, HasSet, needs, Behind, RowsOf, Rows}
+use Rattle.lil_match.specs.Homes.{word_same, address, Owner, Own, Fixed, own_fixed, Home, mem_shadowed, shadowed, replaced}
+use Rattle.lil_match.specs.Waits.{Mode, Quiet, ValueOf, AtPlace, Onward, Part, Around, outside, Frame, frames_of, Setting, at_home, inside_with, with_frames, DatumOn, DataOn, sees, is_of, TurnsTask, Reaches, HasPlace, HasSet, needs, Behind, RowsOf, Rows}
+use Rattle.lil_match.specs.Known.{known_kept, each_known, each_comes}
 use Rattle.lil_match.specs.Goes.{OwnWords, Stands, EachComes, Standing, Shared, Touches}
 
 -- homes that agree on the roots that frames can name, and on the machine's own words from one place to another
@@ -70,6 +71,19 @@ module _ (ctx : Setting) (x : Home) (low top : ℕ) (keeps : Keeps ctx.home x (f
 
   set_kept : (u : Scalar) (stack below : List ℕ) → HasSet ctx u stack below → HasSet (at_home ctx x) u stack below
   set_kept u stack below r = record { fits = r.fits; is = r.is ∙ ap (λ (w : ℕ). w ∷ below) (word_same h x keeps.reference u) }
+
+  datum_kept : (d : Datum) (stack below : List ℕ) → DatumOn ctx d stack below → DatumOn (at_home ctx x) d stack below
+  datum_kept (Scalars v) stack below r = r
+  datum_kept (Opens place high) stack below r =
+      let has = place_kept OnTop place (Row (suc high) (Word OfCharacter)) (address h place ∷ below) below r.has in
+      record { has = record { seen = has.seen; living = has.living; there = has.there; at = refl }; is = r.is ∙ ap (λ (s : List ℕ). high ∷ s) has.at }
+  datum_kept (Texts cs) stack below r = record { offset = r.offset; text = r.text; is = r.is }
+  datum_kept (Places place) stack below r = absurd r
+  datum_kept (Wholes u) stack below r = absurd r
+
+  data_kept : (ds : List Datum) (stack below : List ℕ) → DataOn ctx ds stack below → DataOn (at_home ctx x) ds stack below
+  data_kept [] stack below r = r
+  data_kept (d ∷ ds) stack below r = (r.0, datum_kept d r.0 below r.1, data_kept ds stack r.0 r.2)
 
   met : (t : Mode) (i : Item) (p : ℕ) (stack : List ℕ) (a : Around) → (r : (needs ctx t i p stack a).Here) → IsMet (needs ctx t i p stack a) (needs (at_home ctx x) t i p stack a) r
   met Quiet (Value (Scalars v)) p stack a r =
@@ -209,12 +223,40 @@ module _ (ctx : Setting) (x : Home) (low top : ℕ) (keeps : Keeps ctx.home x (f
         };
         onto = refl;
       }
+  met (ValueOf j) (Fill (Pass q k done left)) p stack a r =
+      record { part = record { takes = r.takes; on = data_kept done stack [] r.on; tested = r.tested; test = r.test; middle = r.middle; given = r.given; forms = r.forms; serve = r.serve }; onto = refl }
+  met (AtPlace b t) (Fill (PassArray q high done left)) p stack a r =
+      record {
+        part = record { rows = r.rows; room = r.room; on = data_kept done stack [] r.on; start = r.start; last = r.last; address = r.address; by = r.by; middle = r.middle; given = r.given; forms = r.forms; serve = r.serve };
+        onto = refl;
+      }
+  met Quiet (Perform (Passing q done left)) p stack a r =
+      record { part = record { on = data_kept done stack [] r.on; middle = r.middle; given = r.given; forms = r.forms; serve = r.serve }; onto = refl }
   met t i p stack a r = record { part = r; onto = refl }
+
+-- the roots that frames can name don't hang on a layout
+pub sees_laid : (f : Frame) (l : Layout) (fs : List Frame) (r : Root) → sees (record f { layout = l } ∷ fs) r ≡ sees (f ∷ fs) r
+sees_laid f l fs (Global m x) = refl
+sees_laid f l fs (Local a x) = refl
+sees_laid f l fs (Object o) = refl
+
+-- homes that agree inside of a WITH agree around it, and on less
+keeps_around : (ctx before : Setting) (x : Home) (shape : Shape) (n low top less : ℕ) → ctx ≡ inside_with before shape n → less ≤ top → Keeps ctx.home x (frames_of ctx.stack) low top
+    → Keeps before.home x (frames_of before.stack) low less
+keeps_around ctx before x shape n low top less is le keeps =
+    let inner = subst (λ (c : Setting). Keeps c.home x (frames_of c.stack) low top) is keeps in
+    let same = sees_laid before.stack.frame (holding before.stack.frame.layout shape n) (before.stack.callers ++ before.stack.bodies) in
+    record {
+      shadow = λ a from below. inner.shadow a from (omega (arith, le, below));
+      base = λ r e. inner.base r (same r ∙ e);
+      shape = λ r e. inner.shape r (same r ∙ e);
+      reference = inner.reference;
+    }
 
 -- what the rows of items give in another home
 abbrev pub Stays : List Item → Setting → Home → ℕ → Type 0
 Stays k ctx x low =
-    (t : Mode) (p : ℕ) (stack : List ℕ) (c : ℕ) (a : Around) → Keeps ctx.home x (frames_of ctx.stack) low (ctx.stack.frame.at + loop_place a.loops)
+    (t : Mode) (p : ℕ) (stack : List ℕ) (c : ℕ) (a : Around) → Keeps ctx.home x (frames_of ctx.stack) low (ctx.stack.frame.at + loop_place a.taken)
     → Rows ctx k t p stack c a → Rows (at_home ctx x) k t p stack c a
 
 abbrev pub Again : List Item → Setting → Home → ℕ → Type 0
@@ -236,7 +278,7 @@ behind_kept k rows ctx x low c above keeps r = by ctx.stack.callers ctx.stack.bo
           place = keeps.shadow (ctx.stack.frame.at + 2) (omega (arith, from)) (omega arith) ∙ r.place;
           module' = keeps.shadow (ctx.stack.frame.at + 3) (omega (arith, from)) (omega arith) ∙ r.module';
           then = rows (with_frames ctx g gs bs) x low above.1 Quiet ctx.stack.frame.back [] c r.outer
-              (keeps_under ctx.home x ctx.stack.frame (g ∷ (gs ++ bs)) low (ctx.stack.frame.at + 4) (g.at + loop_place r.outer.loops) (omega (arith, r.under)) keeps) r.then;
+              (keeps_under ctx.home x ctx.stack.frame (g ∷ (gs ++ bs)) low (ctx.stack.frame.at + 4) (g.at + loop_place r.outer.taken) (omega (arith, r.under)) keeps) r.then;
         }
     by [] (b ∷ bs) above keeps r =
         record {
@@ -269,7 +311,7 @@ rows_kept (Perform (Looping body) ∷ k) ctx x low above t p stack c a keeps r =
         again = w.again;
         within = w.within;
         then = rows_kept k ctx x low above Quiet w.end [] r.later w.outer
-            (keeps_lower ctx.home x (frames_of ctx.stack) low (ctx.stack.frame.at + loop_place a.loops) (ctx.stack.frame.at + loop_place w.outer.loops) (omega (arith, ap (λ (o : Around). o.loops) w.is)) keeps)
+            (keeps_lower ctx.home x (frames_of ctx.stack) low (ctx.stack.frame.at + loop_place a.taken) (ctx.stack.frame.at + loop_place w.outer.taken) (omega (arith, ap (λ (o : Around). o.taken) w.is)) keeps)
             w.then;
       };
       count = r.count;
@@ -297,9 +339,9 @@ rows_kept (Perform (Turns n kind z step left body) ∷ k) ctx x low above t p st
       then = rest Quiet w.end [] r.later a keeps w.then;
     })
     by rest (inr w) =
-        let inner : a.loops ≡ suc w.outer.loops = ap (λ (o : Around). o.loops) w.around in
-        let word : (i : ℕ) → i < 3 → x.shadow (ctx.stack.frame.at + loop_place w.outer.loops + i) ≡ ctx.home.shadow (ctx.stack.frame.at + loop_place w.outer.loops + i) =
-        λ i less. keeps.shadow (ctx.stack.frame.at + loop_place w.outer.loops + i) (omega (arith, above.0)) (omega (arith, inner, less)) in
+        let inner : a.taken ≡ 3 + w.outer.taken = ap (λ (o : Around). o.taken) w.around in
+        let word : (i : ℕ) → i < 3 → x.shadow (ctx.stack.frame.at + loop_place w.outer.taken + i) ≡ ctx.home.shadow (ctx.stack.frame.at + loop_place w.outer.taken + i) =
+        λ i less. keeps.shadow (ctx.stack.frame.at + loop_place w.outer.taken + i) (omega (arith, above.0)) (omega (arith, inner, less)) in
         inr (record {
           quiet = w.quiet;
           empty = w.empty;
@@ -307,7 +349,7 @@ rows_kept (Perform (Turns n kind z step left body) ∷ k) ctx x low above t p st
           around = w.around;
           words = record {
             now = w.words.now;
-            now_is = keeps.shadow (ctx.stack.frame.at + loop_place w.outer.loops) (omega (arith, above.0)) (omega (arith, inner)) ∙ w.words.now_is;
+            now_is = keeps.shadow (ctx.stack.frame.at + loop_place w.outer.taken) (omega (arith, above.0)) (omega (arith, inner)) ∙ w.words.now_is;
             left_is = word 1 (omega arith) ∙ w.words.left_is;
             step_is = word 2 (omega arith) ∙ w.words.step_is;
           };
@@ -320,9 +362,41 @@ rows_kept (Perform (Turns n kind z step left body) ∷ k) ctx x low above t p st
           at = w.at;
           within = w.within;
           then = rest Quiet w.end [] r.later w.outer
-              (keeps_lower ctx.home x (frames_of ctx.stack) low (ctx.stack.frame.at + loop_place a.loops) (ctx.stack.frame.at + loop_place w.outer.loops) (omega (arith, inner)) keeps)
+              (keeps_lower ctx.home x (frames_of ctx.stack) low (ctx.stack.frame.at + loop_place a.taken) (ctx.stack.frame.at + loop_place w.outer.taken) (omega (arith, inner)) keeps)
               w.then;
         })
+rows_kept (Perform (Holding place) ∷ k) ctx x low above t p stack c a keeps r =
+    let w = r.there in
+    let inner : a.taken ≡ suc w.outer.taken = ap (λ (o : Around). o.taken) w.around in
+    let same = keeps.shape place.root w.seen in
+    let at : address ctx.home place ≡ address x place = omega (arith, keeps.base place.root w.seen, ap (λ (t : Shape). offset t place.path) same) in
+    let outer : EachAbove low (frames_of w.before.stack) = subst (λ (c : Setting). EachAbove low (frames_of c.stack)) w.is above in
+    let frame : ctx.stack.frame.at ≡ w.before.stack.frame.at = ap (λ (c : Setting). c.stack.frame.at) w.is in
+    record {
+      start = r.start;
+      jumps = r.jumps;
+      later = r.later;
+      way = r.way;
+      there = record {
+        quiet = w.quiet;
+        empty = w.empty;
+        outer = w.outer;
+        around = w.around;
+        before = at_home w.before x;
+        shape = w.shape;
+        is = ap (λ (c : Setting). at_home c x) w.is;
+        room = w.room;
+        seen = w.seen;
+        living = ap (λ (t : Shape). part_at t place.path) same ∙ w.living;
+        there = w.there;
+        word = keeps.shadow (ctx.stack.frame.at + loop_place w.outer.taken) (omega (arith, above.0)) (omega (arith, inner)) ∙ w.word ∙ at;
+        then = rows_kept k w.before x low outer Quiet r.start [] r.later w.outer
+            (keeps_around ctx w.before x w.shape (loop_place w.outer.taken) low (ctx.stack.frame.at + loop_place a.taken) (w.before.stack.frame.at + loop_place w.outer.taken) w.is
+            (omega (arith, inner, frame)) keeps)
+            w.then;
+      };
+      count = r.count;
+    }
 rows_kept (Perform (End n) ∷ k) ctx x low above t p stack c a keeps r =
     let w = r.there in
     record {
@@ -335,15 +409,16 @@ rows_kept (Perform (End n) ∷ k) ctx x low above t p stack c a keeps r =
         empty = w.empty;
         activation = w.activation;
         alone = w.alone;
+        free = w.free;
         end = w.end;
         leave = w.leave;
         behind = behind_kept k (λ y z l. rows_kept k y z l) ctx x low r.later above
-            (keeps_lower ctx.home x (frames_of ctx.stack) low (ctx.stack.frame.at + loop_place a.loops) (ctx.stack.frame.at + 4) (omega arith) keeps) w.behind;
+            (keeps_lower ctx.home x (frames_of ctx.stack) low (ctx.stack.frame.at + loop_place a.taken) (ctx.stack.frame.at + 4) (omega arith) keeps) w.behind;
       };
       count = r.count;
     }
 rows_kept (i ∷ k) ctx x low above t p stack c a keeps r =
-    let m = met ctx x low (ctx.stack.frame.at + loop_place a.loops) keeps t i r.start stack a r.there.part in
+    let m = met ctx x low (ctx.stack.frame.at + loop_place a.taken) keeps t i r.start stack a r.there.part in
     record {
       start = r.start;
       jumps = r.jumps;
@@ -382,26 +457,28 @@ stands_kept owner new base top f (g ∷ gs) same s =
       stands_kept owner new base f.at g gs (λ a from below. same a from (omega (arith, below, w.below))) s.1,
     )
 
-comes_above : (library : List Resolved) (loaded : List ℕ) (table : List Module) (activations : List Activation) (base : Root → ℕ) (shape : Root → Shape) (low : ℕ) (bs : List Frame)
-    → EachComes library loaded table activations base shape low bs → EachAbove (low + 4) bs
-comes_above library loaded table activations base shape low [] c = tt
-comes_above library loaded table activations base shape low (b ∷ bs) c = (omega (arith, c.0.at), comes_above library loaded table activations base shape low bs c.1)
+comes_above : (library : List Resolved) (loaded : List ℕ) (table : List Module) (activations : List Activation) (h : Home) (low : ℕ) (bs : List Frame)
+    → EachComes library loaded table activations h low bs → EachAbove (low + 4) bs
+comes_above library loaded table activations h low [] c = tt
+comes_above library loaded table activations h low (b ∷ bs) c = (omega (arith, c.0.at), comes_above library loaded table activations h low bs c.1)
 
 pub all_above : (ctx : Setting) (r : StackRegisters) → Standing ctx r → EachAbove (ctx.stack.base + 4) ctx.stack.bodies
-all_above ctx r s = comes_above ctx.library ctx.loaded ctx.table ctx.activations ctx.home.base ctx.home.shape ctx.stack.base ctx.stack.bodies s.comes
+all_above ctx r s = comes_above ctx.library ctx.loaded ctx.table ctx.activations ctx.home ctx.stack.base ctx.stack.bodies s.comes
 
 pub stack_above : (ctx : Setting) (r : StackRegisters) → Standing ctx r → (ctx.stack.base ≤ ctx.stack.frame.at) × EachAbove (ctx.stack.base + 4) (frames_of ctx.stack)
 stack_above ctx r s = stands_above ctx.home.owner ctx.stack.base r.top ctx.stack.frame ctx.stack.callers ctx.stack.bodies s.stands (all_above ctx r s)
 
--- the words of the FORs around lie in the frame
+-- the words of the FORs and WITHs around lie in the frame
 pub loops_fit : (k : List Item) (ctx : Setting) (t : Mode) (p : ℕ) (stack : List ℕ) (c : ℕ) (a : Around) → 4 ≤ ctx.stack.frame.layout.frame → Rows ctx k t p stack c a
-    → loop_place a.loops ≤ ctx.stack.frame.layout.frame
+    → loop_place a.taken ≤ ctx.stack.frame.layout.frame
 loops_fit [] ctx t p stack c a mark r = absurd r
 loops_fit (Perform (Looping body) ∷ k) ctx t p stack c a mark r =
-    omega (arith, ap (λ (o : Around). o.loops) r.there.is, loops_fit k ctx _ _ _ _ r.there.outer mark r.there.then)
+    omega (arith, ap (λ (o : Around). o.taken) r.there.is, loops_fit k ctx _ _ _ _ r.there.outer mark r.there.then)
 loops_fit (Perform (Turns n kind z step left body) ∷ k) ctx t p stack c a mark r =
-    ⊎_elim (λ w. loops_fit k ctx _ _ _ _ _ mark w.then) (λ w. omega (arith, ap (λ (o : Around). o.loops) w.around, w.round.room)) r.there
-loops_fit (Perform (End n) ∷ k) ctx t p stack c a mark r = omega (arith, ap (λ (o : Around). o.loops) r.there.alone, mark)
+    ⊎_elim (λ w. loops_fit k ctx _ _ _ _ _ mark w.then) (λ w. omega (arith, ap (λ (o : Around). o.taken) w.around, w.round.room)) r.there
+loops_fit (Perform (Holding place) ∷ k) ctx t p stack c a mark r =
+    omega (arith, ap (λ (o : Around). o.taken) r.there.around, r.there.room, ap (λ (c : Setting). c.stack.frame.layout.frame) r.there.is)
+loops_fit (Perform (End n) ∷ k) ctx t p stack c a mark r = omega (arith, ap (λ (o : Around). o.taken) r.there.alone, mark)
 loops_fit (i ∷ k) ctx t p stack c a mark r = loops_fit k ctx _ _ _ _ _ mark r.there.then
 
 -- ---- one of the running frame's own words is set
@@ -420,6 +497,19 @@ module _ (ctx : Setting) (s : Source) (m : State) (shared : Shared ctx s m) (i w
   pub own_inside : (st.base ≤ st.frame.at + i) × (st.frame.at + i < st.limit)
   own_inside = (omega (arith, (stack_above ctx (stack_of m) shared.standing).0), omega (arith, words.below, less, shared.standing.low))
 
+  -- it lies in the store, which has what the home says
+  pub own_low : m.frame + i < 65536
+  own_low = omega (arith, shared.standing.frame_is, own_inside.1, shared.standing.high)
+
+  pub own_read : get_or m.store (m.frame + i) 0 ≡ ctx.home.shadow (ctx.stack.frame.at + i)
+  own_read = ap (λ (f : ℕ). get_or m.store (f + i) 0) shared.standing.frame_is ∙ shared.mem.kept (st.frame.at + i) own_word
+
+  other_word : (a : ℕ) → (at ≡ a → ⊥) → replaced h.shadow at w a ≡ h.shadow a
+  other_word a d = no (eqb at a) w (h.shadow a) (ne_eqb at a d)
+
+  fixed_kept : (a : ℕ) → h.owner a ≡ Fixed → (h.owner a ≡ Fixed) × (replaced h.shadow at w a ≡ h.shadow a)
+  fixed_kept a e = (e, other_word a (λ same. own_fixed (sym own_word ∙ ap h.owner same ∙ e)))
+
   pub shared_shadowed : Shared (at_home ctx (shadowed ctx.home (ctx.stack.frame.at + i) w)) s (record m { store = set m.store (ctx.stack.frame.at + i) w })
   shared_shadowed =
       let g = shared.standing in
@@ -433,9 +523,9 @@ module _ (ctx : Setting) (s : Source) (m : State) (shared : Shared ctx s m) (i w
           base_is = g.base_is;
           limit_is = g.limit_is;
           bodies_are = g.bodies_are;
-          known = g.known;
-          callers = g.callers;
-          comes = g.comes;
+          known = known_kept ctx.library ctx.loaded ctx.table ctx.activations h (shadowed h at w) (λ r. refl) (λ r. refl) fixed_kept st.frame g.known;
+          callers = each_known ctx.library ctx.loaded ctx.table ctx.activations h (shadowed h at w) (λ r. refl) (λ r. refl) fixed_kept st.callers g.callers;
+          comes = each_comes ctx.library ctx.loaded ctx.table ctx.activations h (shadowed h at w) (λ r. refl) (λ r. refl) fixed_kept st.base st.bodies g.comes;
           stands = g.stands;
           room = g.room;
           low = g.low;
@@ -446,9 +536,6 @@ module _ (ctx : Setting) (s : Source) (m : State) (shared : Shared ctx s m) (i w
         kept_are = shared.kept_are;
       }
 
-  other_word : (a : ℕ) → (at ≡ a → ⊥) → replaced h.shadow at w a ≡ h.shadow a
-  other_word a d = no (eqb at a) w (h.shadow a) (ne_eqb at a d)
-
   pub touches_shadowed : Touches ctx.home (shadowed ctx.home (ctx.stack.frame.at + i) w) ctx.stack.base ctx.stack.limit
   touches_shadowed = record {
     owner = λ a o. refl;
@@ -456,10 +543,11 @@ module _ (ctx : Setting) (s : Source) (m : State) (shared : Shared ctx s m) (i w
     base = λ r. refl;
     shape = λ r. refl;
     reference = λ o. refl;
+    fixed = fixed_kept;
   }
 
-  -- rows speak of the words below their FORs'
-  pub rows_shadowed : (k : List Item) (t : Mode) (p : ℕ) (stack : List ℕ) (c : ℕ) (a : Around) → loop_place a.loops ≤ i → Rows ctx k t p stack c a
+  -- rows speak of the words below their FORs' and WITHs'
+  pub rows_shadowed : (k : List Item) (t : Mode) (p : ℕ) (stack : List ℕ) (c : ℕ) (a : Around) → loop_place a.taken ≤ i → Rows ctx k t p stack c a
       → Rows (at_home ctx (shadowed ctx.home (ctx.stack.frame.at + i) w)) k t p stack c a
   rows_shadowed k t p stack c a below r =
       rows_kept k ctx (shadowed h at w) (st.base + 4) (stack_above ctx (stack_of m) shared.standing).1 t p stack c a

@@ -3,6 +3,8 @@ pub mod Closing
 pub mod Goes
 pub mod Homes
 pub mod Kept
+pub mod Known
+pub mod Laid
 pub mod Orders
 pub mod Parts
 pub mod Ranges

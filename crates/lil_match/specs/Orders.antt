@@ -1,11 +1,11 @@
 -- Where parts stand: behind their start, and within the code.
 use Rattle.std.proofs.Common.{ℕ, ◌<◌, ◌≤◌, List, [], ◌∷◌, length, Option, arith}
-use Rattle.lil_resolved.specs.Resolved.{Expression, Constant, Taken, One, Two, Short, Apply, With, WithSpan, Argument, Statement, Statements, kind_of}
+use Rattle.lil_resolved.specs.Resolved.{Expression, Constant, Taken, One, Two, Short, Apply, With, WithSpan, Argument, ByValue, OfArray, OfText, Statement, Statements, kind_of}
 use Rattle.lil_asm.specs.declared.instr.Instr.{Instr}
-use Rattle.lil_asm.specs.declared.instr.Instr.TheVariants.{Dup, Spn}
+use Rattle.lil_asm.specs.declared.instr.Instr.TheVariants.{Liw, Lag, Dup, Spn}
 use Rattle.lil_asm.specs.Decoding.{decoded_stands}
-use Rattle.lil_table.specs.Lengths.{place_long, statement_long, body_long}
-use Rattle.lil_table.specs.Rows.{Layout, IsAt, InstrsAt, one_code, two_code, test_code, function_code, ExpressionAt, ArgumentsAt, StatementAt, BodyAt, short_code}
+use Rattle.lil_table.specs.Lengths.{instrs_long, place_long, statement_long, body_long}
+use Rattle.lil_table.specs.Rows.{Layout, IsAt, InstrsAt, one_code, two_code, test_code, function_code, access_of, address_code, ExpressionAt, ArgumentAt, ArgumentsAt, StatementAt, BodyAt, short_code}
 
 pub instr_order : (code : List ℕ) (p : ℕ) (i : Instr) (q : ℕ) → IsAt code p i q → (p < q) × (q ≤ length code)
 instr_order code p i q h =
@@ -78,10 +78,17 @@ pub instrs_within : (code : List ℕ) (is : List Instr) (p q : ℕ) → 0 < leng
 instrs_within code [] p q some h = absurd (omega (arith, some))
 instrs_within code (i ∷ is) p q some h = instr_within code p i h.0 h.1
 
--- and that where arguments begin, where what follows them does
+-- and that where an argument begins, and where arguments do, where what follows them does
+pub argument_within : (l : Layout) (code : List ℕ) (n : ℕ) (a : Argument) (p q : ℕ) → ArgumentAt l code n a p q → p < length code
+argument_within l code n (ByValue k e) p q h = expression_within l code e p h.middle h.value.value
+argument_within l code n (OfArray d high) p q h =
+    let s = instr_order code h.start (Liw high) q h.by in
+    omega (arith, place_long l code d p h.found h.here, instrs_long code (address_code (access_of l d)) h.found h.start h.address, s.0, s.1)
+argument_within l code n (OfText cs) p q h = instr_within code p (Lag h.offset) h.start h.address
+
 pub arguments_within : (l : Layout) (code : List ℕ) (n : ℕ) (given : List Argument) (p q : ℕ) → ArgumentsAt l code n given p q → q < length code → p < length code
 arguments_within l code n [] p q h inside = omega (arith, h, inside)
-arguments_within l code n (a ∷ given) p q h inside = expression_within l code a.value p h.value.middle h.value.value.value
+arguments_within l code n (a ∷ given) p q h inside = argument_within l code n a p h.middle h.here
 
 -- so do those where a statement and statements begin
 pub statement_within : (l : Layout) (code : List ℕ) (n : ℕ) (exit : Option ℕ) (s : Statement) (p q : ℕ) → StatementAt l code n exit s p q → q < length code → p < length code

@@ -1,13 +1,12 @@
 -- The stacks that don't run: each lies apart from the one that runs, and a step of that one leaves them as they are.
 use Rattle.std.proofs.Common.{◌≡◌, ℕ, ◌+◌, ◌<◌, ◌≤◌, ◌⊎◌, inl, inr, List, [], ◌∷◌, ◌∙◌, ⊎_elim, arith}
-use Rattle.lil_resolved.specs.Resolved.{Resolved}
-use Rattle.lil_meaning.specs.Cells.{Root, Global}
-use Rattle.lil_meaning.specs.Items.{Activation, Parked}
-use Rattle.lil_mcode.specs.State.{Module, Kept}
+use Rattle.lil_meaning.specs.Items.{Parked}
+use Rattle.lil_mcode.specs.State.{Kept}
 use Rattle.lil_table.specs.Rows.{loop_place}
 use Rattle.lil_match.specs.Homes.{Home}
 use Rattle.lil_match.specs.Waits.{Quiet, Around, Frame, Stack, frames_of, Setting, Rows}
-use Rattle.lil_match.specs.Goes.{OwnWords, IsKnown, EachKnown, EachComes, Standing, Touches}
+use Rattle.lil_match.specs.Goes.{OwnWords, Standing, Touches}
+use Rattle.lil_match.specs.Known.{known_kept, each_known, each_comes}
 use Rattle.lil_match.specs.Kept.{first_words, stack_above, EachAbove, stands_kept, loops_fit, rows_kept}
 
 -- the same with another stack
@@ -29,26 +28,6 @@ EachRests ctx [] [] = Unit {0}
 EachRests ctx (p ∷ ps) (r ∷ rs) = Rests ctx p r × EachRests ctx ps rs
 EachRests ctx ps rs = ⊥
 
-module _ (library : List Resolved) (loaded : List ℕ) (table : List Module) (activations : List Activation) (h x : Home)
-    (base : (r : Root) → x.base r ≡ h.base r) (shape : (r : Root) → x.shape r ≡ h.shape r) where
-  pub known_kept : (f : Frame) → IsKnown library loaded table activations h.base h.shape f → IsKnown library loaded table activations x.base x.shape f
-  known_kept f g = record {
-    known = g.known;
-    named = g.named;
-    owner = g.owner;
-    called = g.called;
-    entered = g.entered;
-    variables = λ n o k offset kind. let v = g.variables n o k offset kind in (shape (Global f.number n) ∙ v.0, base (Global f.number n) ∙ v.1);
-  }
-
-  pub each_known : (fs : List Frame) → EachKnown library loaded table activations h.base h.shape fs → EachKnown library loaded table activations x.base x.shape fs
-  each_known [] e = tt
-  each_known (f ∷ fs) e = (known_kept f e.0, each_known fs e.1)
-
-  pub each_comes : (low : ℕ) (fs : List Frame) → EachComes library loaded table activations h.base h.shape low fs → EachComes library loaded table activations x.base x.shape low fs
-  each_comes low [] e = tt
-  each_comes low (f ∷ fs) e = (record { known = known_kept f e.0.known; at = e.0.at; mark = e.0.mark }, each_comes low fs e.1)
-
 -- THE law of what rests: a step of the running stack keeps the others
 pub rests_kept : (ctx : Setting) (x : Home) (y : Stack) → Touches ctx.home x ctx.stack.base ctx.stack.limit → (y.base ≡ ctx.stack.base) × (y.limit ≡ ctx.stack.limit) → (p : Parked) (r : Kept) → Rests ctx p r
     → Rests (record ctx { home = x; stack = y }) p r
@@ -59,9 +38,9 @@ rests_kept ctx x y touch same p r rests = record {
     base_is = g.base_is;
     limit_is = g.limit_is;
     bodies_are = g.bodies_are;
-    known = known_kept ctx.library ctx.loaded ctx.table ctx.activations ctx.home x touch.base touch.shape d.frame g.known;
-    callers = each_known ctx.library ctx.loaded ctx.table ctx.activations ctx.home x touch.base touch.shape d.callers g.callers;
-    comes = each_comes ctx.library ctx.loaded ctx.table ctx.activations ctx.home x touch.base touch.shape d.base d.bodies g.comes;
+    known = known_kept ctx.library ctx.loaded ctx.table ctx.activations ctx.home x touch.base touch.shape touch.fixed d.frame g.known;
+    callers = each_known ctx.library ctx.loaded ctx.table ctx.activations ctx.home x touch.base touch.shape touch.fixed d.callers g.callers;
+    comes = each_comes ctx.library ctx.loaded ctx.table ctx.activations ctx.home x touch.base touch.shape touch.fixed d.base d.bodies g.comes;
     stands = stands_kept ctx.home.owner x.owner d.base r.stack.top d.frame d.callers (λ a from below. touch.owner a (far a from (omega (arith, below, g.low)))) g.stands;
     room = λ a from below. touch.owner a (far a (omega (arith, from, high.0, words.below)) below) ∙ g.room a from below;
     low = g.low;
@@ -92,7 +71,7 @@ rests_kept ctx x y touch same p r rests = record {
     words : OwnWords ctx.home.owner rests.stack.frame r.stack.top
     words = first_words ctx.home.owner rests.stack.base r.stack.top rests.stack.frame rests.stack.callers rests.standing.stands
 
-    loops : loop_place rests.around.loops ≤ rests.stack.frame.layout.frame
+    loops : loop_place rests.around.taken ≤ rests.stack.frame.layout.frame
     loops = loops_fit p.items (on_stack ctx rests.stack) Quiet r.place [] rests.later rests.around words.mark rests.rows
 
     far : (a : ℕ) → rests.stack.base ≤ a → a < rests.stack.limit → (a < ctx.stack.base) ⊎ (ctx.stack.limit ≤ a)

@@ -1,5 +1,5 @@
 -- A run of the machine, with its world.
-use Rattle.std.specs.Prelude.{ℕ, zero, suc, List, [], map, length, take, drop, reverse, Option, Some, None}
+use Rattle.std.specs.Prelude.{ℕ, zero, suc, List, [], length, take, drop, reverse, Option, Some, None}
 use Rattle.lil_base.specs.declared.fault.TrapKind.{TrapKind}
 use Rattle.lil_base.specs.declared.fault.LimitKind.{LimitKind}
 use Rattle.lil_mcode.specs.declared.machine.Event.{Event}
@@ -7,7 +7,7 @@ use Rattle.lil_mcode.specs.declared.machine.Event.TheVariants.{Went, Request, Le
 use Rattle.lil_mcode.specs.State.{State}
 use Rattle.lil_mcode.specs.Table.{mstep}
 use Rattle.lil_asm.specs.Requests.{request_words}
-use Rattle.lil_meaning.specs.World.{World, Given, Single, serve, all_closed}
+use Rattle.lil_meaning.specs.World.{World, Given, given_by, serve, all_closed}
 
 -- how far a run has come
 pub data Finish : Type 0 where
@@ -26,9 +26,9 @@ abbrev pub words_taken : Option ℕ → ℕ
 words_taken None = 0
 words_taken (Some n) = n
 
--- the words of a request, in the order of its parameters
-abbrev pub arguments : ℕ → State → List Given
-arguments n s = map Single (reverse (take n s.stack))
+-- what a request finds, by how many words it has
+abbrev pub arguments : (r n : ℕ) → State → List Given
+arguments r n s = given_by r s.store (reverse (take n s.stack))
 
 -- the number of the running level
 abbrev pub level_of : State → ℕ
@@ -47,7 +47,7 @@ abbrev pub served : ℕ → State → World × List Given → Run → Run
 served n s r run = replied n s r.1 r.0 run
 
 abbrev pub requested : ℕ → ℕ → State → Run → Run
-requested r n s run = served n s (serve (level_of s) r (arguments n s) run.world) run
+requested r n s run = served n s (serve (level_of s) r (arguments r n s) run.world) run
 
 -- the run ends with its level, whose streams and channels are closed
 abbrev pub left : Finish → State → Run → Run

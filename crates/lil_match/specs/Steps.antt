@@ -32,7 +32,7 @@ pushes w q m room = yes _ _ _ (lt-ltb (length m.stack) 16 room)
 
 -- a home that stays
 pub untouched : (h : Home) (low high : ℕ) → Touches h h low high
-untouched h low high = record { owner = λ a o. refl; shadow = λ a o. refl; base = λ r. refl; shape = λ r. refl; reference = λ o. refl }
+untouched h low high = record { owner = λ a o. refl; shadow = λ a o. refl; base = λ r. refl; shape = λ r. refl; reference = λ o. refl; fixed = λ a e. (e, refl) }
 
 pub touched : (h g i : Home) (low high : ℕ) → Touches h g low high → Touches g i low high → Touches h i low high
 touched h g i low high first second = record {
@@ -41,6 +41,7 @@ touched h g i low high first second = record {
   base = λ r. second.base r ∙ first.base r;
   shape = λ r. second.shape r ∙ first.shape r;
   reference = λ o. second.reference o ∙ first.reference o;
+  fixed = λ a e. let one = first.fixed a e in let two = second.fixed a one.0 in (two.0, two.1 ∙ one.1);
 }
 
 module _ (ctx : Setting) where

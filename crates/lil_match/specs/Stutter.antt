@@ -1,11 +1,12 @@
 -- How long items can stutter: a count that falls at each step of the source that takes no step of the machine.
 use Rattle.std.proofs.Common.{ℕ, ◌+◌, List, [], ◌∷◌}
-use Rattle.lil_resolved.specs.Resolved.{Designator, Variable, Field, Element, Expression, Constant, Taken, One, Two, Short, Apply, With, WithSpan, Argument, Statement, Assign, Copy, Change, Member, Request, If, Case, While, Repeat, Loop, Exit, Halt, Return, For, Statements, Empty, Then}
-use Rattle.lil_meaning.specs.Items.{Hole, Get, Part, IndexBy, IndexAt, SetTo, StoreAt, CopyTo, CopyFrom, ChangeBy, ChangeAt, OneOf, LeftOf, RightOf, ShortOf, ApplyTo, WithMember, MemberOf, WithMembers, MembersFrom, MembersTo, MemberBy, MemberAt, Pass, Choose, Turn, Again, Pick, StartOf, LimitOf, Task, Do, Passing, Until, Looping, Turns, End, Item, Value, Evaluate, PlaceOf, Fill, Perform}
+use Rattle.lil_resolved.specs.Resolved.{Designator, Variable, Held, Field, Element, Expression, Constant, Taken, One, Two, Short, Apply, With, WithSpan, Argument, ByValue, OfArray, OfText, Statement, Assign, Copy, Text, Change, Member, Request, If, Case, While, Repeat, Loop, Exit, Halt, Return, For, Inside, Statements, Empty, Then}
+use Rattle.lil_meaning.specs.Items.{Hole, Get, Part, IndexBy, IndexAt, SetTo, StoreAt, CopyTo, CopyFrom, TextTo, ChangeBy, ChangeAt, OneOf, LeftOf, RightOf, ShortOf, ApplyTo, WithMember, MemberOf, WithMembers, MembersFrom, MembersTo, MemberBy, MemberAt, Pass, PassArray, Choose, Turn, Again, Pick, Hold, StartOf, LimitOf, Task, Do, Passing, Until, Looping, Turns, Holding, End, Item, Value, Evaluate, PlaceOf, Fill, Perform}
 
 abbrev mutual
   pub place_stutter : Designator → ℕ
   place_stutter (Variable x) = 2
+  place_stutter (Held w) = 2
   place_stutter (Field d i) = 2 + place_stutter d
   place_stutter (Element d k e) = 1 + place_stutter d + value_stutter e
 
@@ -19,13 +20,20 @@ abbrev mutual
   value_stutter (With s k a) = 1 + value_stutter s + value_stutter a
   value_stutter (WithSpan s k a b) = 1 + value_stutter s + (value_stutter a + value_stutter b)
 
+abbrev pub argument_stutter : Argument → ℕ
+argument_stutter (ByValue k e) = value_stutter e
+argument_stutter (OfArray d high) = place_stutter d
+argument_stutter (OfText cs) = 0
+
 abbrev pub passing_stutter : List Argument → ℕ
 passing_stutter [] = 0
-passing_stutter (a ∷ given) = 1 + value_stutter a.value + passing_stutter given
+passing_stutter (a ∷ given) = 1 + argument_stutter a + passing_stutter given
 
 abbrev mutual
   pub statement_stutter : Statement → ℕ
   statement_stutter (Assign d k e) = 1 + place_stutter d + value_stutter e
+  statement_stutter (Text d cs) = 1 + place_stutter d
+  statement_stutter (Inside d body) = 1 + place_stutter d
   statement_stutter (Copy d from) = 1 + place_stutter d + place_stutter from
   statement_stutter (Change down d k e) = 1 + place_stutter d + value_stutter e
   statement_stutter (Member out d k e) = 1 + place_stutter d + value_stutter e
@@ -53,6 +61,9 @@ hole_stutter (SetTo k e) = value_stutter e
 hole_stutter (StoreAt place k) = 0
 hole_stutter (CopyTo from) = place_stutter from
 hole_stutter (CopyFrom place) = 0
+hole_stutter (TextTo cs) = 0
+hole_stutter (PassArray r high done left) = passing_stutter left
+hole_stutter (Hold body) = 0
 hole_stutter (ChangeBy down k e) = value_stutter e
 hole_stutter (ChangeAt down place k) = 0
 hole_stutter (OneOf o k) = 1
@@ -81,6 +92,7 @@ task_stutter (Passing r done left) = passing_stutter left
 task_stutter (Until body c) = 1 + value_stutter c
 task_stutter (Looping body) = 0
 task_stutter (Turns x k z step left body) = 0
+task_stutter (Holding p) = 1
 task_stutter (End a) = 1
 
 abbrev pub item_stutter : Item → ℕ

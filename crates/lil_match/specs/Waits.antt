@@ -1,26 +1,41 @@
 -- What items need from the code: where they stand, and where the items behind them go on. This speaks of homes and of the expression
 -- stack, and never of the store or of the cells.
-use Rattle.std.proofs.Common.{◌≡◌, ℕ, zero, suc, ◌+◌, ◌%◌, ◌<◌, ◌≤◌, ◌⊎◌, true, Some, None, List, [], ◌∷◌, ◌++◌, length, map, reverse, Bool}
+use Rattle.std.proofs.Common.{◌≡◌, ℕ, zero, suc, ◌+◌, ◌-◌, ◌%◌, ◌<◌, ◌≤◌, ◌⊎◌, true, false, Some, None, List, [], ◌∷◌, ◌++◌, length, map, Bool}
 use Rattle.std.specs.Prelude.{ℤ, ◌+ℤ◌, Option, ◌==◌}
 use Rattle.std.specs.List.{list_any}
 use Rattle.lil_base.specs.Words.{between, word_of}
 use Rattle.lil_base.specs.declared.operator.OneOp.{OneOp}
 use Rattle.lil_base.specs.declared.operator.TwoOp.{TwoOp}
-use Rattle.lil_resolved.specs.Kinds.{Kind, OfWhole, OfTruth, OfSet, base_of, is_base, is_element, takes_value, least, greatest, numbers}
-use Rattle.lil_resolved.specs.Scalars.{Scalar, within}
+use Rattle.lil_resolved.specs.Kinds.{Kind, OfWhole, OfTruth, OfCharacter, OfSet, base_of, is_base, is_element, takes_value, least, greatest, numbers}
+use Rattle.lil_resolved.specs.Scalars.{Scalar, within, scalar_word}
 use Rattle.lil_resolved.specs.Resolved.{Designator, Function, Expression, Argument, Statement, If, Case, While, Repeat, Loop, Statements, Arms, Resolved, kind_of, is_relation, result_kind, right_kind, function_kind, counted_as, shape_of}
 use Rattle.lil_resolved.specs.Depth.{place_depth, depth, function_depth}
-use Rattle.lil_resolved.specs.Sound.{takes_one, takes_two, takes_function}
+use Rattle.lil_resolved.specs.Sound.{takes_one, takes_two, takes_function, Parameter, Single, Characters, request_parameters, parameter_of}
 use Rattle.lil_resolved.specs.Shapes.{Shape, Word, Row, words, is_there, part_at, offset, element_of}
 use Rattle.lil_meaning.specs.Cells.{Root, Local, Place}
-use Rattle.lil_meaning.specs.Items.{Datum, Scalars, Places, Get, Part as PartOf, IndexBy, IndexAt, SetTo, StoreAt, CopyTo, CopyFrom, ChangeBy, ChangeAt, OneOf, LeftOf, RightOf, ShortOf, ApplyTo, WithMember, MemberOf, WithMembers, MembersFrom, MembersTo, MemberBy, MemberAt, Pass, Choose, Turn, Again, Pick, StartOf, LimitOf, Do, Passing, Until, Looping, Turns, End, Item, Value, Evaluate, PlaceOf, Fill, Perform, Activation, Parked}
-use Rattle.lil_meaning.specs.World.{Single}
-use Rattle.lil_meaning.specs.Steps.{turns, given_of}
-use Rattle.lil_asm.specs.declared.instr.Instr.TheVariants.{Dup, Spn, Mov, Ixc, Ent, Rtn, Jmp, Svc}
+use Rattle.lil_meaning.specs.Items.{Datum, Scalars, Places, Wholes, Opens, Texts, Get, Part as PartOf, IndexBy, IndexAt, SetTo, StoreAt, CopyTo, CopyFrom, TextTo, ChangeBy, ChangeAt, OneOf, LeftOf, RightOf, ShortOf, ApplyTo, WithMember, MemberOf, WithMembers, MembersFrom, MembersTo, MemberBy, MemberAt, Pass, PassArray, Choose, Turn, Again, Pick, Hold, StartOf, LimitOf, Do, Passing, Until, Looping, Turns, Holding, End, Item, Value, Evaluate, PlaceOf, Fill, Perform, Activation, Parked}
+use Rattle.lil_meaning.specs.Steps.{turns}
+use Rattle.lil_asm.specs.declared.instr.Instr.TheVariants.{Liw, Lag, Slw, Dup, Spn, Mov, Mvz, Ixc, Ent, Rtn, Jmp, Svc}
 use Rattle.lil_mcode.specs.State.{Module, Kept, body_entry}
 use Rattle.lil_asm.specs.Requests.{request_words}
-use Rattle.lil_table.specs.Rows.{Layout, exactly, IsAt, InstrsAt, one_code, two_code, test_code, function_code, Access, InData, OnTop, Behind as Past, further, access_of, address_code, load_code, ready_code, readied, held, store_code, again_code, held_twice, change_code, member_code, PlaceAt, ExpressionAt, WholeRow, ValueRow, ArgumentsAt, StatementAt, BodyAt, TurnsRow, RoundRow, loop_place, short_code}
+use Rattle.lil_table.specs.Rows.{Layout, holding, exactly, HasText, text_words, arguments_words, IsAt, InstrsAt, one_code, two_code, test_code, function_code, Access, InData, OnTop, Behind as Past, further, access_of, address_code, load_code, ready_code, readied, held, store_code, again_code, held_twice, change_code, member_code, PlaceAt, ExpressionAt, WholeRow, ValueRow, ArgumentsAt, StatementAt, BodyAt, TurnsRow, RoundRow, loop_place, short_code}
 use Rattle.lil_match.specs.Homes.{word_for, Home, address, shape_there}
+
+-- whether a parameter and a datum are open arrays
+abbrev pub is_open : Parameter → Bool
+is_open (Single k) = false
+is_open Characters = true
+
+abbrev pub is_array : Datum → Bool
+is_array (Opens p high) = true
+is_array (Texts cs) = true
+is_array _ = false
+
+-- the arguments of a request, those that are done, by whether they are arrays, and those that are left, are arrays where its parameters are
+pub record TakesAll (r : ℕ) (done : List Bool) (left : List Argument) : Type 0 where
+  pub parameters : List Parameter
+  pub are : request_parameters r ≡ Some parameters
+  pub same : map is_open parameters ≡ done ++ map is_open (map parameter_of left)
 
 -- What comes from the items before: nothing, a value of a kind, or a place of a shape, by how the code has it.
 pub data Mode : Type 0 where
@@ -40,23 +55,17 @@ doubled (InData o) stack = stack
 doubled OnTop stack = stack ++ stack
 doubled (Past o) stack = stack ++ stack
 
--- what is around the items that are left: the place behind the LOOP, if there is one, and how many FORs
+-- what is around the items that are left: the place behind the LOOP, if there is one, and how many words of the frame the FORs and WITHs take
 pub record Around : Type 0 where
   pub exit : Option ℕ
-  pub loops : ℕ
+  pub taken : ℕ
 
 abbrev pub outside : Around
-outside = record { exit = None; loops = 0 }
+outside = record { exit = None; taken = 0 }
 
 -- from a place of the code, with an expression stack, with so many jumps owed, inside of what is around
 abbrev pub Reach : Type 1
 Reach = Mode → ℕ → List ℕ → ℕ → Around → Type 0
-
--- the words that arguments are, on the expression stack, the first lowest
-pub record HasWords (ds : List Datum) (stack : List ℕ) : Type 0 where
-  pub words : List ℕ
-  pub are : map given_of ds ≡ map Single words
-  pub on : stack ≡ reverse words
 
 -- so many jumps lead from one place to another
 abbrev pub Jumps : List ℕ → ℕ → ℕ → ℕ → Type 0
@@ -142,6 +151,10 @@ laid_out ctx = laid ctx.stack.frame
 abbrev pub at_home : Setting → Home → Setting
 at_home ctx h = record ctx { home = h }
 
+-- inside of a WITH too: the running frame's layout has its record, of this shape, whose address is in this word
+abbrev pub inside_with : Setting → Shape → ℕ → Setting
+inside_with ctx t n = record ctx { stack = record (ctx.stack) { frame = record (ctx.stack.frame) { layout = holding ctx.stack.frame.layout t n } } }
+
 -- another frame runs, with these under it and these bodies behind
 abbrev pub with_frames : Setting → Frame → List Frame → List Frame → Setting
 with_frames ctx f gs bs = record ctx { stack = record (ctx.stack) { frame = f; callers = gs; bodies = bs } }
@@ -171,7 +184,7 @@ module _ (frame : Frame) where
   pub record DoPart (s : Statement) (p : ℕ) (stack : List ℕ) (a : Around) : Type 0 where
     pub empty : stack ≡ []
     pub end : ℕ
-    pub here : StatementAt l own.code (a.loops) a.exit s p end
+    pub here : StatementAt l own.code (a.taken) a.exit s p end
     pub within : end < length own.code
 
   pub record EvaluatePart (e : Expression) (p : ℕ) (stack : List ℕ) : Type 0 where
@@ -286,7 +299,7 @@ module _ (frame : Frame) where
 
   -- the place of what is copied is to come
   pub record CopyToPart (b : Access) (t : Shape) (from : Designator) (p : ℕ) (stack : List ℕ) : Type 0 where
-    pub same : shape_of l.shapes from ≡ t
+    pub same : shape_of l.scope from ≡ t
     pub empty : stack ≡ []
     pub shallow : 1 + place_depth from ≤ 16
     pub start : ℕ
@@ -334,20 +347,34 @@ module _ (frame : Frame) where
     pub by : IsAt own.code p (Svc r) end
     pub within : end < length own.code
 
-  pub record PassPart (j : Kind) (r : ℕ) (k : Kind) (done : List Datum) (left : List Argument) (p : ℕ) (stack : List ℕ) : Type 0 where
-    pub takes : takes_value k j ≡ true
-    pub on : HasWords done stack
-    pub tested : ℕ
-    pub test : InstrsAt own.code (test_code k j) p tested
-    pub middle : ℕ
-    pub given : ArgumentsAt l own.code (suc (length done)) left tested middle
-    pub serve : ServePart r (suc (length done) + length left) middle
+  -- a string comes to the array
+  pub record TextPart (b : Access) (t : Shape) (cs : List ℕ) (p : ℕ) (stack : List ℕ) : Type 0 where
+    pub count : ℕ
+    pub rows : t ≡ Row count (Word OfCharacter)
+    pub fits : length cs ≤ count
+    pub empty : stack ≡ []
+    pub offset : ℕ
+    pub text : HasText l cs offset
+    pub start : ℕ
+    pub last : ℕ
+    pub end : ℕ
+    pub address : InstrsAt own.code (address_code b) p start
+    pub source : IsAt own.code start (Lag offset) last
+    pub by : IsAt own.code last (Mvz (length cs) (count - length cs)) end
+    pub within : end < length own.code
 
-  pub record PassingPart (r : ℕ) (done : List Datum) (left : List Argument) (p : ℕ) (stack : List ℕ) : Type 0 where
-    pub on : HasWords done stack
-    pub middle : ℕ
-    pub given : ArgumentsAt l own.code (length done) left p middle
-    pub serve : ServePart r (length done + length left) middle
+  -- the record of a WITH is there
+  pub record HoldPart (b : Access) (t : Shape) (body : Statements) (p : ℕ) (stack : List ℕ) (a : Around) : Type 0 where
+    pub there : is_there t ≡ true
+    pub empty : stack ≡ []
+    pub room : loop_place a.taken + 1 ≤ l.frame
+    pub start : ℕ
+    pub kept : ℕ
+    pub end : ℕ
+    pub address : InstrsAt own.code (address_code b) p start
+    pub keep : IsAt own.code start (Slw (loop_place a.taken)) kept
+    pub inner : BodyAt (holding l t (loop_place a.taken)) own.code (suc (a.taken)) a.exit body kept end
+    pub within : end < length own.code
 
   -- a choice of two parts
   pub record ChoosePart (j : Kind) (first second : Statements) (p : ℕ) (stack : List ℕ) (a : Around) : Type 0 where
@@ -383,9 +410,9 @@ module _ (frame : Frame) where
     pub outer : Around
     pub top : ℕ
     pub end : ℕ
-    pub is : a ≡ record { exit = Some end; loops = outer.loops }
+    pub is : a ≡ record { exit = Some end; taken = outer.taken }
     pub back : IsAt own.code p (Jmp top) end
-    pub again : StatementAt l own.code (outer.loops) outer.exit (Loop body) top end
+    pub again : StatementAt l own.code (outer.taken) outer.exit (Loop body) top end
     pub within : end < length own.code
     pub then : rest Quiet end [] c outer
 
@@ -404,7 +431,7 @@ module _ (frame : Frame) where
     pub last : ℕ
     pub end : ℕ
     pub limit : WholeRow l own.code 1 b (base_of k) p last
-    pub turns : TurnsRow l own.code (a.loops) x k j step (BodyAt l own.code (suc (a.loops)) a.exit body) last end
+    pub turns : TurnsRow l own.code (a.taken) x k j step (BodyAt l own.code (3 + a.taken) a.exit body) last end
     pub within : end < length own.code
 
 -- what they need of the home too
@@ -486,7 +513,7 @@ module _ (ctx : Setting) where
     pub fits : within from v ≡ true
     pub stack_is : stack ≡ word_for h v ∷ []
     pub end : ℕ
-    pub turns : TurnsRow l own.code (a.loops) x k from step (BodyAt l own.code (suc (a.loops)) a.exit body) p end
+    pub turns : TurnsRow l own.code (a.taken) x k from step (BodyAt l own.code (3 + a.taken) a.exit body) p end
     pub within : end < length own.code
 
   -- the turns of a FOR are to begin: its bounds stand on the expression stack
@@ -500,11 +527,11 @@ module _ (ctx : Setting) where
     pub stack_is : stack ≡ word_of limit ∷ word_of first ∷ []
     pub count : left ≡ turns first limit step
     pub end : ℕ
-    pub turns : TurnsRow l own.code (a.loops) x k from step (BodyAt l own.code (suc (a.loops)) a.exit body) p end
+    pub turns : TurnsRow l own.code (a.taken) x k from step (BodyAt l own.code (3 + a.taken) a.exit body) p end
     pub within : end < length own.code
     pub then : rest Quiet end [] c a
 
-  -- the words of a FOR with so many around it: its value, the turns that are left, and its step
+  -- the words of a FOR, where those around it take so many: its value, the turns that are left, and its step
   pub record LoopWords (n left step : ℕ) : Type 0 where
     pub now : ℕ
     pub now_is : h.shadow (active.at + loop_place n) ≡ now
@@ -516,15 +543,15 @@ module _ (ctx : Setting) where
     pub quiet : t ≡ Quiet
     pub empty : stack ≡ []
     pub outer : Around
-    pub around : a ≡ record { exit = outer.exit; loops = suc outer.loops }
+    pub around : a ≡ record { exit = outer.exit; taken = 3 + outer.taken }
     -- its words in the frame: the value that it stored last, the turns left, and the step
-    pub words : LoopWords outer.loops left (word_of step)
+    pub words : LoopWords outer.taken left (word_of step)
     pub small : left < 65536
     pub next_is : (words.now + word_of step) % 65536 ≡ word_of z % 65536
     pub fit : TurnsFit (base_of k) z step left
     pub turn : ℕ
     pub end : ℕ
-    pub round : RoundRow l own.code (outer.loops) x k step (BodyAt l own.code (suc (outer.loops)) outer.exit body) turn end
+    pub round : RoundRow l own.code (outer.taken) x k step (BodyAt l own.code (3 + outer.taken) outer.exit body) turn end
     pub at : p ≡ round.end
     pub within : end < length own.code
     pub then : rest Quiet end [] c outer
@@ -601,14 +628,70 @@ module _ (ctx : Setting) where
     pub by : InstrsAt own.code (change_code down k access) p end
     pub within : end < length own.code
 
+  -- an array, as the address and the number of the last element that an open array is
+  pub record ArrayOn (place : Place) (high : ℕ) (stack below : List ℕ) : Type 0 where
+    pub has : HasPlace OnTop place (Row (suc high) (Word OfCharacter)) (address h place ∷ below) below
+    pub is : stack ≡ high ∷ address h place ∷ below
+
+  -- a string as the same
+  pub record TextOn (cs : List ℕ) (stack below : List ℕ) : Type 0 where
+    pub offset : ℕ
+    pub text : HasText l cs offset
+    pub is : stack ≡ (text_words cs - 1) ∷ (own.base + offset) ∷ below
+
+  -- the words of a datum of a request, above others
+  abbrev pub DatumOn : Datum → List ℕ → List ℕ → Type 0
+  DatumOn (Scalars v) stack below = stack ≡ scalar_word v ∷ below
+  DatumOn (Opens place high) stack below = ArrayOn place high stack below
+  DatumOn (Texts cs) stack below = TextOn cs stack below
+  DatumOn (Places place) stack below = ⊥
+  DatumOn (Wholes u) stack below = ⊥
+
+  -- those of several, the first lowest
+  abbrev pub DataOn : List Datum → List ℕ → List ℕ → Type 0
+  DataOn [] stack below = stack ≡ below
+  DataOn (d ∷ ds) stack below = (middle : List ℕ) × DatumOn d middle below × DataOn ds stack middle
+
+  -- the value of the next argument is there
+  pub record PassPart (j : Kind) (r : ℕ) (k : Kind) (done : List Datum) (left : List Argument) (p : ℕ) (stack : List ℕ) : Type 0 where
+    pub takes : takes_value k j ≡ true
+    pub on : DataOn done stack []
+    pub tested : ℕ
+    pub test : InstrsAt own.code (test_code k j) p tested
+    pub middle : ℕ
+    pub given : ArgumentsAt l own.code (suc (length stack)) left tested middle
+    pub forms : TakesAll r (map is_array done ++ false ∷ []) left
+    pub serve : ServePart active r (suc (length stack) + arguments_words left) middle
+
+  -- its place is there, an array
+  pub record PassArrayPart (b : Access) (t : Shape) (r high : ℕ) (done : List Datum) (left : List Argument) (p : ℕ) (stack : List ℕ) : Type 0 where
+    pub rows : t ≡ Row (suc high) (Word OfCharacter)
+    pub room : length stack + 2 ≤ 16
+    pub on : DataOn done stack []
+    pub start : ℕ
+    pub last : ℕ
+    pub address : InstrsAt own.code (address_code b) p start
+    pub by : IsAt own.code start (Liw high) last
+    pub middle : ℕ
+    pub given : ArgumentsAt l own.code (2 + length stack) left last middle
+    pub forms : TakesAll r (map is_array done ++ true ∷ []) left
+    pub serve : ServePart active r (2 + length stack + arguments_words left) middle
+
+  pub record PassingPart (r : ℕ) (done : List Datum) (left : List Argument) (p : ℕ) (stack : List ℕ) : Type 0 where
+    pub on : DataOn done stack []
+    pub middle : ℕ
+    pub given : ArgumentsAt l own.code (length stack) left p middle
+    pub forms : TakesAll r (map is_array done) left
+    pub serve : ServePart active r (length stack + arguments_words left) middle
+
   -- what an item needs, by what comes from the items before
   abbrev pub needs : Mode → Item → ℕ → List ℕ → Around → Part
   needs Quiet (Value (Scalars v)) p stack a = part (ScalarPart v stack) (λ r. on (ValueOf r.kind) p r.below)
   needs Quiet (Value (Places place)) p stack a = part (FoundPart place stack) (λ r. on (AtPlace r.access r.shape) p r.below)
   needs Quiet (Evaluate e) p stack a = part (EvaluatePart active e p stack) (λ r. on (ValueOf (kind_of e)) r.end stack)
-  needs Quiet (PlaceOf d) p stack a = part (PlacePart active d p stack) (λ r. on (AtPlace (access_of l d) (shape_of l.shapes d)) r.end stack)
+  needs Quiet (PlaceOf d) p stack a = part (PlacePart active d p stack) (λ r. on (AtPlace (access_of l d) (shape_of l.scope d)) r.end stack)
   needs Quiet (Perform (Do s)) p stack a = part (DoPart active s p stack a) (λ r. on Quiet r.end [])
-  needs Quiet (Perform (Passing q done left)) p stack a = part (PassingPart active q done left p stack) (λ r. on Quiet r.serve.end [])
+  needs Quiet (Perform (Passing q done left)) p stack a = part (PassingPart q done left p stack) (λ r. on Quiet r.serve.end [])
   needs Quiet (Perform (Until body e)) p stack a = part (UntilPart active body e p stack a) (λ r. on Quiet r.did.end [])
   needs (AtPlace b t) (Fill Get) p stack a = part (GetPart active b t p stack) (λ r. on (ValueOf (base_of r.kind)) r.end stack)
   needs (AtPlace b t) (Fill (PartOf i)) p stack a = part (is_there (part_at t (i ∷ [])) ≡ true) (λ r. on (AtPlace (further (offset t (i ∷ [])) b) (part_at t (i ∷ []))) p stack)
@@ -616,6 +699,9 @@ module _ (ctx : Setting) where
   needs (AtPlace b t) (Fill (SetTo k e)) p stack a = part (SetPart active b t k e p stack) (λ r. on Quiet r.end [])
   needs (AtPlace b t) (Fill (CopyTo from)) p stack a = part (CopyToPart active b t from p stack) (λ r. on Quiet r.end [])
   needs (AtPlace b t) (Fill (CopyFrom to)) p stack a = part (CopyFromPart b t to p stack) (λ r. on Quiet r.end [])
+  needs (AtPlace b t) (Fill (TextTo cs)) p stack a = part (TextPart active b t cs p stack) (λ r. on Quiet r.end [])
+  needs (AtPlace b t) (Fill (PassArray q high done left)) p stack a = part (PassArrayPart b t q high done left p stack) (λ r. on Quiet r.serve.end [])
+  needs (AtPlace b t) (Fill (Hold body)) p stack a = part (HoldPart active b t body p stack a) (λ r. on Quiet r.end [])
   needs (AtPlace b t) (Fill (ChangeBy down k e)) p stack a = part (ChangeByPart active b t down k e p stack) (λ r. on Quiet r.end [])
   needs (AtPlace b t) (Fill (MemberBy out k e)) p stack a = part (MemberByPart active b t out k e p stack) (λ r. on Quiet r.end [])
   needs (ValueOf j) (Fill (MemberAt out place k)) p stack a = part (MemberAtPart j out place k p stack) (λ r. on Quiet r.end [])
@@ -632,7 +718,7 @@ module _ (ctx : Setting) where
   needs (ValueOf j) (Fill (RightOf o k u)) p stack a = part (RightPart j o k u p stack) (λ r. on (ValueOf (result_kind (is_relation o) k)) r.end r.below)
   needs (ValueOf j) (Fill (ShortOf d f)) p stack a = part (ShortPart active j d f p stack) (λ r. on (ValueOf OfTruth) r.end stack)
   needs (ValueOf j) (Fill (ApplyTo f)) p stack a = part (ApplyPart active j f p stack) (λ r. on (ValueOf (function_kind f)) r.end stack)
-  needs (ValueOf j) (Fill (Pass q k done left)) p stack a = part (PassPart active j q k done left p stack) (λ r. on Quiet r.serve.end [])
+  needs (ValueOf j) (Fill (Pass q k done left)) p stack a = part (PassPart j q k done left p stack) (λ r. on Quiet r.serve.end [])
   needs (ValueOf j) (Fill (Choose first second)) p stack a = part (ChoosePart active j first second p stack a) (λ r. on Quiet r.did.end [])
   needs (ValueOf j) (Fill (Turn e body)) p stack a = part (TurnPart active j e body p stack a) (λ r. on Quiet r.did.end [])
   needs (ValueOf j) (Fill (Again body e)) p stack a = part (AgainPart active j body e p stack a) (λ r. on Quiet r.did.end [])
@@ -661,7 +747,7 @@ module _ (ctx : Setting) where
   -- the frame under this one goes on where the mark says, with its own FORs around
   pub record Back (g : Frame) (rest : Reach) (c : ℕ) : Type 0 where
     pub outer : Around
-    pub under : g.at + loop_place outer.loops ≤ active.at
+    pub under : g.at + loop_place outer.taken ≤ active.at
     pub frame : h.shadow (active.at + 1) ≡ g.at
     pub place : h.shadow (active.at + 2) ≡ active.back
     pub module' : h.shadow (active.at + 3) ≡ g.number
@@ -673,12 +759,29 @@ module _ (ctx : Setting) where
   Behind k rest c [] (b ∷ bs) = NextBody b (rest (with_frames ctx b [] bs)) c
   Behind k rest c [] [] = k ≡ []
 
+  -- the end of a WITH's statements: what is around them, and what is around the WITH. The address of its record stands in the frame.
+  pub record HoldingWaits (place : Place) (rest : Setting → Reach) (t : Mode) (p : ℕ) (stack : List ℕ) (c : ℕ) (a : Around) : Type 0 where
+    pub quiet : t ≡ Quiet
+    pub empty : stack ≡ []
+    pub outer : Around
+    pub around : a ≡ record { exit = outer.exit; taken = suc outer.taken }
+    pub before : Setting
+    pub shape : Shape
+    pub is : ctx ≡ inside_with before shape (loop_place outer.taken)
+    pub room : loop_place outer.taken + 1 ≤ before.stack.frame.layout.frame
+    pub seen : sees (frames_of ctx.stack) place.root ≡ true
+    pub living : shape_there h place ≡ shape
+    pub there : is_there shape ≡ true
+    pub word : h.shadow (active.at + loop_place outer.taken) ≡ address h place
+    pub then : rest before Quiet p [] c outer
+
   -- the end of a procedure or a body
   pub record EndWaits (n : ℕ) (k : List Item) (rest : Setting → Reach) (t : Mode) (p : ℕ) (stack : List ℕ) (c : ℕ) (a : Around) : Type 0 where
     pub quiet : t ≡ Quiet
     pub empty : stack ≡ []
     pub activation : n ≡ active.activation
     pub alone : a ≡ outside
+    pub free : active.layout.held ≡ []
     pub end : ℕ
     pub leave : IsAt own.code p Rtn end
     pub behind : Behind k rest c ctx.stack.callers ctx.stack.bodies
@@ -687,6 +790,7 @@ module _ (ctx : Setting) where
   abbrev pub ItemWaits : Item → List Item → (Setting → Reach) → Reach
   ItemWaits (Perform (Looping body)) k rest = LoopingWaits active body (rest ctx)
   ItemWaits (Perform (Turns x kind z step left body)) k rest = TurnsTask x kind z step left body (rest ctx)
+  ItemWaits (Perform (Holding place)) k rest = HoldingWaits place rest
   ItemWaits (Perform (End n)) k rest = EndWaits n k rest
   ItemWaits i k rest = Waiting i (rest ctx)
 

@@ -1,6 +1,6 @@
 -- The machine with its counts, and what the calls of the loader and the kernel make of it.
 use Rattle.std.specs.Prelude.{◌≡◌, ℕ, ◌+◌, ◌-◌, ◌^◌, ◌<◌, ◌≤◌, min, List, [], ◌∷◌, ◌++◌, length, Bool, true, false, Option, None, Some, nat_le, if◌then◌else◌, option_and_then, slice_get}
-use Rattle.lil_mcode.specs.State.{Module, State, module_at, zeros, cleared, body_entry}
+use Rattle.lil_mcode.specs.State.{Module, State, module_at, zeros, spliced, cleared, body_entry}
 use Rattle.lil_mcode.specs.Table.{begun_body}
 
 pub record Machine : Type 0 where
@@ -65,6 +65,10 @@ with_module m name procedures code words =
       };
       data_end = m.data_end + words;
     }
+
+-- words of the main store from an address on become these
+abbrev pub with_words : Machine → ℕ → List ℕ → Machine
+with_words m at words = record m { state = record m.state { store = spliced m.state.store at words } }
 
 -- the main stack lies above the data frames
 abbrev pub with_stack : Machine → State

@@ -14,12 +14,13 @@ use Rattle.lil_mcode.specs.declared.machine.Event.{Event}
 use Rattle.lil_mcode.specs.declared.machine.Event.TheVariants.{Went, Request, LevelEnded, Trap, Limit, BadCode}
 use Rattle.lil_mcode.specs.Control.{above}
 use Rattle.lil_mcode.specs.State.{Module, State, module_at}
-use Rattle.lil_mcode.specs.Table.{one_more, one_less, address_row, place_row, fetch_row, put_row, move_row, member_row, store_row, going, bad, mstep, act, fetched, performed, result_row, on_one, on_two, on_three, push_row, load_row, jump, chosen_row, begun_row, turn_row, again_row, called_trap, trap_row, request_row, leave_row, end_row, body_row, return_row}
+use Rattle.lil_mcode.specs.Table.{one_more, one_less, address_row, place_row, fetch_row, put_row, move_row, member_row, store_row, going, bad, mstep, act, fetched, performed, result_row, on_one, on_two, on_three, push_row, load_row, jump, chosen_row, begun_row, turn_row, again_row, called_trap, trap_row, array_lies, request_row, leave_row, end_row, body_row, return_row}
 
--- a property that each outcome of a row at s has: it goes on, asks with its words on the stack, or changes nothing
+-- a property that each outcome of a row at s has: it goes on, asks with its words on the stack and its array in the store, or changes
+-- nothing
 pub record Holds (s : State) (P : Event × State → Type 0) : Type 0 where
   pub on : (t : State) → P (Went, t)
-  pub asked : (r n q : ℕ) → request_words r ≡ Some n → n ≤ length s.stack → P (Request r, going s q s.stack)
+  pub asked : (r n q : ℕ) → request_words r ≡ Some n → n ≤ length s.stack → array_lies r s.stack ≡ true → P (Request r, going s q s.stack)
   pub trap : (k : TrapKind) → P (Trap k, s)
   pub limit : (k : LimitKind) → P (Limit k, s)
   pub bad : P (BadCode, s)
@@ -94,13 +95,15 @@ module _ (s : State) (P : Event × State → Type 0) (p : Holds s P) where
   trap_has None = p.bad
   trap_has (Some k) = p.trap _
 
-  words_stay : (r n q : ℕ) (there : Bool) → nat_le n (length s.stack) ≡ there → request_words r ≡ Some n → P (if there then (Request r, going s q s.stack) else bad s)
-  words_stay r n q true h e = p.asked r n q e (leb-true n (length s.stack) h)
-  words_stay r n q false h e = p.bad
+  words_stay : (r n q : ℕ) (there lies : Bool) → nat_le n (length s.stack) ≡ there → array_lies r s.stack ≡ lies → request_words r ≡ Some n
+      → P (if there && lies then (Request r, going s q s.stack) else bad s)
+  words_stay r n q true true h l e = p.asked r n q e (leb-true n (length s.stack) h) l
+  words_stay r n q true false h l e = p.bad
+  words_stay r n q false lies h l e = p.bad
 
   request_has : (r q : ℕ) (words : Option ℕ) → request_words r ≡ words → P (request_row r q s words)
   request_has r q None e = p.bad
-  request_has r q (Some n) e = words_stay r n q (nat_le n (length s.stack)) refl e
+  request_has r q (Some n) e = words_stay r n q (nat_le n (length s.stack)) (array_lies r s.stack) refl refl e
 
   body_has : (b : ℕ) (bodies : List ℕ) (m : Option Module) → P (body_row s b bodies m)
   body_has b bodies None = p.bad

@@ -1,23 +1,23 @@
--- A request has its words on the expression stack.
-use Rattle.std.proofs.Common.{◌≡◌, ℕ, ◌≤◌, length, Some, subst}
+-- A request has its words on the expression stack, and its array in the store.
+use Rattle.std.proofs.Common.{◌≡◌, ℕ, ◌≤◌, length, true, Some, subst}
 use Rattle.lil_asm.specs.Requests.{request_words}
 use Rattle.lil_mcode.specs.declared.machine.Event.{Event}
 use Rattle.lil_mcode.specs.declared.machine.Event.TheVariants.{Went, Request, LevelEnded, Trap, Limit, BadCode}
 use Rattle.lil_mcode.specs.State.{State}
-use Rattle.lil_mcode.specs.Table.{mstep}
+use Rattle.lil_mcode.specs.Table.{array_lies, mstep}
 use Rattle.lil_mcode.specs.Outcomes.{step_has}
 
--- where an event is a request, its number has words, and so many stand on the stack of t
+-- where an event is a request, its number has words, so many stand on the stack of t, and its array lies in the store
 abbrev pub Asks : Event → State → Type 0
-Asks (Request r) t = (n : ℕ) × (request_words r ≡ Some n) × (n ≤ length t.stack)
+Asks (Request r) t = (n : ℕ) × (request_words r ≡ Some n) × (n ≤ length t.stack) × (array_lies r t.stack ≡ true)
 Asks Went t = Unit {0}
 Asks LevelEnded t = Unit {0}
 Asks (Trap k) t = Unit {0}
 Asks (Limit k) t = Unit {0}
 Asks BadCode t = Unit {0}
 
--- after a request its words stand on the stack
-pub request_has : (s t : State) (r : ℕ) → mstep s ≡ (Request r, t) → (n : ℕ) × (request_words r ≡ Some n) × (n ≤ length t.stack)
+-- after a request its words stand on the stack, and its array lies in the store
+pub request_has : (s t : State) (r : ℕ) → mstep s ≡ (Request r, t) → (n : ℕ) × (request_words r ≡ Some n) × (n ≤ length t.stack) × (array_lies r t.stack ≡ true)
 request_has s t r h =
     let P : Event × State → Type 0 = λ x. Asks x.0 x.1 in
-    subst P h (step_has s P (record { on = λ t. tt; asked = λ r n q e fits. (n, e, fits); trap = λ k. tt; limit = λ k. tt; bad = tt; ended = tt }))
+    subst P h (step_has s P (record { on = λ t. tt; asked = λ r n q e fits lies. (n, e, fits, lies); trap = λ k. tt; limit = λ k. tt; bad = tt; ended = tt }))

@@ -1,5 +1,5 @@
 -- The instruction table: what each instruction does. Bad code is tested before traps, and traps before limits; none of them changes the state.
-use Rattle.std.specs.Prelude.{ℕ, ◌+◌, ◌-◌, ◌*◌, ◌%◌, ℤ, Bool, not, List, [], ◌∷◌, ◌++◌, length, take, drop, Option, Some, None, Result, Ok, Err, ◌&&◌, nat_lt, nat_le, ◌==◌, if◌then◌else◌, slice_index, slice_set, is_some, int_lt}
+use Rattle.std.specs.Prelude.{ℕ, ◌+◌, ◌-◌, ◌*◌, ◌%◌, ℤ, Bool, true, not, List, [], ◌∷◌, ◌++◌, length, take, drop, Option, Some, None, Result, Ok, Err, ◌&&◌, nat_lt, nat_le, ◌==◌, if◌then◌else◌, slice_index, slice_set, is_some, int_lt}
 use Rattle.lil_base.specs.Words.{Whole, Cardinal, Integer, sum, difference, product, quotient, remainder, negation, absolute, between, number_of, word_of}
 use Rattle.lil_base.specs.declared.fault.ArithFault.{ArithFault}
 use Rattle.lil_base.specs.Sets.{has, union, minus, meet, apart, span, is_within}
@@ -273,9 +273,14 @@ leave_row s =
     if s.frame == s.base then end_row s s.bodies
     else return_row s (slice_index s.store (s.frame + 1)) (slice_index s.store (s.frame + 2)) (slice_index s.store (s.frame + 3))
 
+-- the array of WriteString lies in the store: its address, and above it the number of its last element
+abbrev pub array_lies : ℕ → List ℕ → Bool
+array_lies r (high ∷ address ∷ rest) = if r == 3 then nat_le (address + high) 65535 else true
+array_lies r _ = true
+
 abbrev pub request_row : ℕ → ℕ → State → Option ℕ → Event × State
 request_row r q s None = bad s
-request_row r q s (Some n) = if nat_le n (length s.stack) then (Request r, going s q s.stack) else bad s
+request_row r q s (Some n) = if nat_le n (length s.stack) && array_lies r s.stack then (Request r, going s q s.stack) else bad s
 
 -- the row of an instruction of module m, where q is the place behind it
 abbrev pub act : Instr → ℕ → Module → State → Event × State

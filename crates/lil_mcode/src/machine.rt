@@ -5,7 +5,7 @@ ghost use Rattle.lil_mcode.specs.State.{Module, module_at};
 ghost use Rattle.lil_mcode.specs.Table.{mstep};
 ghost use Rattle.lil_mcode.specs.Going.{Ran};
 ghost use Rattle.lil_mcode.specs.declared.machine.Event.TheVariants as event;
-ghost use Rattle.lil_mcode.specs.Calls.{fresh, counted, with_level, with_module, with_bodies, code_used, names_of, IsRunning};
+ghost use Rattle.lil_mcode.specs.Calls.{fresh, counted, with_level, with_module, with_words, with_bodies, code_used, names_of, IsRunning};
 
 use crate::processor::Processor;
 use lil_base::{Bytes, LimitKind, Memory, Name, TrapKind};
@@ -219,6 +219,21 @@ impl Machine {
         ensures { slice_get self.now.state.stack k ≡ Some result }
     {
         self.processor.argument(k)
+    }
+
+    /// The word of the main store at an address.
+    pub fn word(&self, at: u16) -> u16
+        ensures { slice_get self.now.state.store at ≡ Some result }
+    {
+        self.processor.stored(at)
+    }
+
+    /// Words of the main store from an address on become these.
+    pub fn set_words(&mut self, at: u16, words: &[u16])
+        requires { at + length words.now ≤ 65536 }
+        ensures { self.new ≡ with_words self.old at words.now }
+    {
+        self.processor.set_words(at, words);
     }
 
     /// Takes the upper n words from the expression stack.

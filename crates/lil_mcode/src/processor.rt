@@ -1,12 +1,12 @@
-ghost use Rattle.std.specs.Prelude.{◌≡◌, ◌<◌, ◌≤◌, length, vec_len, vec_capacity, false, drop, slice_get, IfOk, Some};
+ghost use Rattle.std.specs.Prelude.{◌≡◌, ◌+◌, ◌<◌, ◌≤◌, length, vec_len, vec_capacity, false, drop, slice_get, IfOk, Some};
 ghost use Rattle.lil_mcode.specs.Calls.{fresh};
-ghost use Rattle.lil_mcode.specs.State.{zeros};
-ghost use Rattle.lil_mcode.specs.Table.{request_row};
+ghost use Rattle.lil_mcode.specs.State.{spliced, zeros};
+ghost use Rattle.lil_mcode.specs.Table.{array_lies, request_row};
 ghost use Rattle.lil_asm.specs.Requests.{request_words};
 
 use crate::arithmetic::{trap_of, truth_word};
 use crate::machine::Event;
-use crate::request::words_of_request;
+use crate::request::{WRITE_STRING, words_of_request};
 use arrayvec::ArrayVec;
 use lil_base::{Bytes, Memory, Name};
 use std::alloc::Global;
@@ -156,18 +156,54 @@ impl Processor {
         self.stack.truncate(count - usize::from(n));
     }
 
+    /// The word of the store at an address.
+    pub fn stored(&self, at: u16) -> u16
+        ensures { slice_get self.now.store at ≡ Some result }
+    {
+        self.store[usize::from(at)]
+    }
+
+    /// Words of the store from an address on become these.
+    pub fn set_words(&mut self, at: u16, words: &[u16])
+        requires { at + length words.now ≤ 65536 }
+        ensures { self.new ≡ record self.old { store = spliced self.old.store at words.now } }
+    {
+        copy_words(&mut self.store, usize::from(at), words);
+    }
+
     fn request(&mut self, number: u8, next: u16) -> Event
         ensures { request_row number next self.old (request_words number) ≡ (result, self.new) }
     {
         let Some(words) = words_of_request(number) else {
             return Event::BadCode;
         };
-        if self.stack.len() < usize::from(words) {
+        if self.stack.len() < usize::from(words) || !self.array_lies(number) {
             return Event::BadCode;
         }
         self.place = next;
         Event::Request(number)
     }
+
+    /// The array that a request finds on the expression stack lies in the store. Only WriteString has one.
+    fn array_lies(&self, number: u8) -> bool
+        ensures { result ≡ array_lies number self.now.stack }
+    {
+        if number != WRITE_STRING {
+            return true;
+        }
+        match self.two() {
+            None => true,
+            Some((address, high)) => u32::from(address) + u32::from(high) <= 65535,
+        }
+    }
+}
+
+fn copy_words(store: &mut [u16], at: usize, words: &[u16])
+    requires { at + length words.now ≤ length store.old }
+    ensures { store.new ≡ spliced store.old at words.now }
+{
+    let end = at + words.len();
+    store[at..end].copy_from_slice(words);
 }
 
 #[tactic(auto, unfolding(crate::specs::State::zeros))]

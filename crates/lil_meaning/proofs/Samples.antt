@@ -6,7 +6,7 @@ use Rattle.lil_base.specs.declared.fault.TrapKind.TheVariants as trap
 use Rattle.lil_base.specs.declared.operator.TwoOp.TheVariants.{Equal, Less, AtLeast, Div, Mod}
 use Rattle.lil_resolved.specs.Kinds.{Kind, OfWhole, OfTruth, OfCharacter, OfRange}
 use Rattle.lil_resolved.specs.Scalars.{Scalar, Number, Truth, Character, SetOf, ToObject, Nothing, value_with}
-use Rattle.lil_resolved.specs.Resolved.{Designator, Variable, Field, Element, Chr, Val, Expression, Constant, Taken, Statement, Assign, Change, Request, Loop, Halt, Return, For, Statements, Empty, Then, Arms, NoElse, Else, Arm, Resolved, in_order}
+use Rattle.lil_resolved.specs.Resolved.{Designator, Variable, Field, Element, Chr, Val, Expression, Constant, Taken, ByValue, OfArray, OfText, Held, Statement, Assign, Text, Inside, Change, Request, Loop, Halt, Return, For, Statements, Empty, Then, Arms, NoElse, Else, Arm, Resolved, in_order}
 use Rattle.lil_resolved.specs.Shapes.{Shape, Word, Row, fields_of}
 use Rattle.lil_meaning.specs.Cells.{Global, got}
 use Rattle.lil_meaning.specs.World.{World, Single, piece_of, Stream, Channel, OpenBy, Closed, all_closed}
@@ -83,7 +83,7 @@ abbrev program : List Statement → Resolved
 program statements = record { name = []; names = (99 ∷ []) ∷ []; variables = Word kc ∷ []; procedures = []; body = in_order statements }
 
 abbrev writes_x : Statement
-writes_x = Request 2 (record { kind = OfCharacter; value = Constant OfCharacter (Character 120) } ∷ [])
+writes_x = Request 2 (ByValue OfCharacter (Constant OfCharacter (Character 120)) ∷ [])
 
 a_character : (w : World) → (state_of (program (writes_x ∷ [])) w 5).world.screen ≡ w.screen ++ 120 ∷ []
 a_character w = refl

@@ -4,7 +4,7 @@ use Rattle.lil_base.specs.Words.{Cardinal}
 use Rattle.lil_base.specs.declared.operator.TwoOp.TheVariants.{Plus, Times}
 use Rattle.lil_resolved.specs.Kinds.{Kind, OfWhole, OfCharacter}
 use Rattle.lil_resolved.specs.Scalars.{Number, Character}
-use Rattle.lil_resolved.specs.Resolved.{Designator, Variable, Chr, Expression, Constant, Taken, Two, Apply, Argument, Assign, Request, Resolved, in_order}
+use Rattle.lil_resolved.specs.Resolved.{Designator, Variable, Chr, Expression, Constant, Taken, Two, Apply, Argument, ByValue, Assign, Request, Resolved, in_order}
 use Rattle.lil_resolved.specs.Shapes.{Word}
 use Rattle.lil_meaning.specs.Cells.{Global, Place, got}
 use Rattle.lil_meaning.specs.World.{World}
@@ -30,7 +30,7 @@ abbrev plus : Expression
 plus = Two Plus k times (n 2)
 
 abbrev given : List Argument
-given = record { kind = OfCharacter; value = Apply Chr plus } ∷ []
+given = ByValue OfCharacter (Apply Chr plus) ∷ []
 
 abbrev tour : Resolved
 tour = record { name = []; names = []; variables = Word k ∷ []; procedures = []; body = in_order (Assign c k (n 7) ∷ Request 2 given ∷ []) }

@@ -1,6 +1,6 @@
 -- Cells: what each variable and object holds, by its root and the fields and positions from there.
-use Rattle.std.specs.Prelude.{ℕ, zero, suc, ◌==◌, Bool, false, ◌&&◌, List, [], ◌∷◌, ◌++◌, Option, Some, None, slice_get, option_and_then, if◌then◌else◌}
-use Rattle.lil_resolved.specs.Scalars.{Scalar, Nothing, zero_of}
+use Rattle.std.specs.Prelude.{ℕ, zero, suc, ◌==◌, Bool, false, ◌&&◌, List, [], ◌∷◌, ◌++◌, Option, Some, None, get_or, slice_get, option_and_then, if◌then◌else◌}
+use Rattle.lil_resolved.specs.Scalars.{Scalar, Character, Nothing, zero_of}
 use Rattle.lil_resolved.specs.Resolved.{Resolved}
 use Rattle.lil_resolved.specs.Shapes.{Shape, Absent, Word, part_at, shape_at}
 
@@ -56,6 +56,11 @@ alone v q = v
 -- all scalars under a place
 abbrev pub under : Cells → Place → Under
 under cells p q = cells p.root (p.path ++ q)
+
+-- the characters of a string as the elements of an array, with 0C behind them
+abbrev pub text_under : List ℕ → Under
+text_under cs (i ∷ []) = Character (get_or cs i 0)
+text_under cs _ = Nothing
 
 -- zero of its kind in each scalar of a shape
 abbrev pub zero_in : Shape → Scalar

@@ -9,12 +9,14 @@ use Rattle.lil_resolved.specs.Resolved.{Designator, Function, Expression, Argume
 use Rattle.lil_meaning.specs.Cells.{Cells, Place, Under}
 use Rattle.lil_meaning.specs.World.{World}
 
--- what stands in a hole: a scalar, a place, all scalars under a place, or the place of an open array with the number of its last element
+-- what stands in a hole or is an argument: a scalar, a place, all scalars under a place, the place of an open array with the number of its
+-- last element, or a string
 pub data Datum : Type 0 where
   Scalars : (v : Scalar) → Datum
   Places : (p : Place) → Datum
   Wholes : (u : Under) → Datum
   Opens : (p : Place) (high : ℕ) → Datum
+  Texts : (cs : List ℕ) → Datum
 
 -- the items with a hole
 pub data Hole : Type 0 where
@@ -34,6 +36,8 @@ pub data Hole : Type 0 where
   CopyTo : (from : Designator) → Hole
   -- all that lies at the place · goes to the place
   CopyFrom : (p : Place) → Hole
+  -- a string goes to the array ·
+  TextTo : (cs : List ℕ) → Hole
   -- the number of the place ·, of this kind, grows or falls by e
   ChangeBy : (down : Bool) (k : Kind) (e : Expression) → Hole
   -- the number at the place grows or falls by ·
@@ -64,6 +68,8 @@ pub data Hole : Type 0 where
   MemberAt : (out : Bool) (p : Place) (k : Kind) → Hole
   -- · is the next argument of the request
   Pass : (r : ℕ) (k : Kind) (done : List Datum) (left : List Argument) → Hole
+  -- the array ·, with this last element, is the next argument of the request
+  PassArray : (r high : ℕ) (done : List Datum) (left : List Argument) → Hole
   -- the first statements where · is TRUE, else the second
   Choose : (a b : Statements) → Hole
   -- the body and the whole WHILE again where · is TRUE
@@ -72,6 +78,8 @@ pub data Hole : Type 0 where
   Again : (body : Statements) (c : Expression) → Hole
   -- the arm with the label ·
   Pick : (arms : Arms) → Hole
+  -- WITH · DO body END
+  Hold : (body : Statements) → Hole
   -- FOR x := · TO b BY step DO body END
   StartOf : (x : ℕ) (k : Kind) (b : Expression) (step : ℤ) (body : Statements) → Hole
   -- FOR x := v TO · BY step DO body END
@@ -88,6 +96,8 @@ pub data Task : Type 0 where
   Looping : (body : Statements) → Task
   -- so many turns of a FOR, the next one with this value
   Turns : (x : ℕ) (k : Kind) (z step : ℤ) (left : ℕ) (body : Statements) → Task
+  -- the end of a WITH's statements, which holds its record's place
+  Holding : (p : Place) → Task
   -- closes the items of an activation
   End : (a : ℕ) → Task
 

@@ -14,10 +14,10 @@ use Rattle.lil_base.specs.declared.operator.TwoOp.TheVariants.{Equal, Unequal, L
 use Rattle.lil_resolved.specs.Kinds.{Kind, OfWhole, OfTruth, OfCharacter, OfEnumeration, OfRange, is_set, nat_of, position}
 use Rattle.lil_resolved.specs.Members.{same_members, included, is_in, united, without, shared_members, unshared, from_to}
 use Rattle.lil_resolved.specs.Scalars.{Scalar, Number, Truth, Character, SetOf, Nothing, within, scalar_word, value_with, ordinal_of, truth_number, truth_of, members_of}
-use Rattle.lil_resolved.specs.Resolved.{Designator, Variable, Field, Element, Function, Abs, Cap, Chr, Odd, Ord, Val, Expression, Constant, Taken, One, Two, Short, Apply, With, WithSpan, Label, Statement, Assign, Copy, Change, Member, Request, If, Case, While, Repeat, Loop, Exit, Halt, Return, For, Statements, Arms, NoElse, Else, Arm, Procedure, Resolved, counted_as}
-use Rattle.lil_meaning.specs.Cells.{Global, Place, under, part_of, stored, got, alone, loaded_at}
-use Rattle.lil_meaning.specs.World.{World, Given, Single, Text, serve, closing}
-use Rattle.lil_meaning.specs.Items.{Datum, Scalars, Places, Hole, Get, Part, IndexBy, IndexAt, SetTo, StoreAt, CopyTo, CopyFrom, ChangeBy, ChangeAt, OneOf, LeftOf, RightOf, ShortOf, ApplyTo, WithMember, MemberOf, WithMembers, MembersFrom, MembersTo, MemberBy, MemberAt, Pass, Choose, Turn, Again, Pick, StartOf, LimitOf, Task, Do, Passing, Until, Looping, Turns, End, Item, Value, Evaluate, PlaceOf, Fill, Perform, doing, Activation, Parked, Level, Phase, Going, Closing, Ended, Trapped, Source}
+use Rattle.lil_resolved.specs.Resolved.{Designator, Variable, Held, Field, Element, Function, Abs, Cap, Chr, Odd, Ord, Val, Expression, Constant, Taken, One, Two, Short, Apply, With, WithSpan, Argument, ByValue, OfArray, OfText, Label, Statement, Assign, Copy, Text, Change, Member, Request, If, Case, While, Repeat, Loop, Exit, Halt, Return, For, Inside, Statements, Arms, NoElse, Else, Arm, Procedure, Resolved, counted_as}
+use Rattle.lil_meaning.specs.Cells.{Cells, Global, Place, under, part_of, stored, got, alone, text_under, loaded_at}
+use Rattle.lil_meaning.specs.World.{World, Given, Single, Characters, serve, closing}
+use Rattle.lil_meaning.specs.Items.{Datum, Scalars, Places, Wholes, Opens, Texts, Hole, Get, Part, IndexBy, IndexAt, SetTo, StoreAt, CopyTo, CopyFrom, TextTo, ChangeBy, ChangeAt, OneOf, LeftOf, RightOf, ShortOf, ApplyTo, WithMember, MemberOf, WithMembers, MembersFrom, MembersTo, MemberBy, MemberAt, Pass, PassArray, Choose, Turn, Again, Pick, Hold, StartOf, LimitOf, Task, Do, Passing, Until, Looping, Turns, Holding, End, Item, Value, Evaluate, PlaceOf, Fill, Perform, doing, Activation, Parked, Level, Phase, Going, Closing, Ended, Trapped, Source}
 
 -- the activation at hand: that of the nearest end
 abbrev pub current : List Item → ℕ
@@ -235,8 +235,25 @@ answered library (Err t) k s = trapped library s t
 abbrev pub variable_place : Source → ℕ → Place
 variable_place s x = record { root = Global (module_now s) x; path = [] }
 
+-- the place that a WITH around holds, by how many others are between
+abbrev pub nearest : Place → (ℕ → Option Place) → ℕ → Option Place
+nearest p others zero = Some p
+nearest p others (suc w) = others w
+
+abbrev pub held_in : List Item → ℕ → Option Place
+held_in [] w = None
+held_in (Perform (Holding p) ∷ k) w = nearest p (held_in k) w
+held_in (Perform (End a) ∷ k) w = None
+held_in (i ∷ k) w = held_in k w
+
+-- without such a WITH nothing happens
+abbrev pub held_at : Option Place → List Item → Source → Source
+held_at None k s = s
+held_at (Some p) k s = with_items s (Value (Places p) ∷ k)
+
 abbrev pub placed : Designator → List Item → Source → Source
 placed (Variable x) k s = with_items s (Value (Places (variable_place s x)) ∷ k)
+placed (Held w) k s = held_at (held_in k w) k s
 placed (Field d i) k s = with_items s (PlaceOf d ∷ Fill (Part i) ∷ k)
 placed (Element d kind e) k s = with_items s (PlaceOf d ∷ Fill (IndexBy kind e) ∷ k)
 
@@ -317,6 +334,9 @@ filled_place (IndexBy kind e) p k s = with_items s (Evaluate e ∷ Fill (IndexAt
 filled_place (SetTo kind e) p k s = with_items s (Evaluate e ∷ Fill (StoreAt p kind) ∷ k)
 filled_place (CopyTo from) p k s = with_items s (PlaceOf from ∷ Fill (CopyFrom p) ∷ k)
 filled_place (CopyFrom to) p k s = record s { items = k; cells = stored s.cells to (under s.cells p) }
+filled_place (TextTo cs) p k s = record s { items = k; cells = stored s.cells p (text_under cs) }
+filled_place (PassArray r high done left) p k s = with_items s (Perform (Passing r (done ++ Opens p high ∷ []) left) ∷ k)
+filled_place (Hold body) p k s = with_items s (doing body (Perform (Holding p) ∷ k))
 filled_place (MemberBy out kind e) p k s = with_items s (Evaluate e ∷ Fill (MemberAt out p kind) ∷ k)
 filled_place (ChangeBy down kind e) p k s = with_items s (Evaluate e ∷ Fill (ChangeAt down p kind) ∷ k)
 filled_place _ p k s = s
@@ -329,6 +349,8 @@ fill library _ h k s = s
 abbrev pub did : List Resolved → Statement → List Item → Source → Source
 did library (Assign d kind e) k s = with_items s (PlaceOf d ∷ Fill (SetTo kind e) ∷ k)
 did library (Copy d from) k s = with_items s (PlaceOf d ∷ Fill (CopyTo from) ∷ k)
+did library (Text d cs) k s = with_items s (PlaceOf d ∷ Fill (TextTo cs) ∷ k)
+did library (Inside d body) k s = with_items s (PlaceOf d ∷ Fill (Hold body) ∷ k)
 did library (Request r given) k s = with_items s (Perform (Passing r [] given) ∷ k)
 did library (If c a b) k s = with_items s (Evaluate c ∷ Fill (Choose a b) ∷ k)
 did library (Case e arms) k s = with_items s (Evaluate e ∷ Fill (Pick arms) ∷ k)
@@ -342,10 +364,29 @@ did library Return k s = with_items s (returned k)
 did library Exit k s = with_items s (exited k)
 did library (For x kind a b step body) k s = with_items s (Evaluate a ∷ Fill (StartOf x kind b step body) ∷ k)
 
--- what a request is given of a datum; those that aren't scalars get theirs with the requests that take them
-abbrev pub given_of : Datum → Given
-given_of (Scalars v) = Single (scalar_word v)
-given_of _ = Text []
+-- the characters of an array from an element on, so many
+abbrev pub characters_from : Cells → Place → ℕ → ℕ → List ℕ
+characters_from cells p i zero = []
+characters_from cells p i (suc n) = character_of (got cells (part_of p i)) ∷ characters_from cells p (suc i) n
+
+-- a string as an array: an empty one is one 0C
+abbrev pub as_array : List ℕ → List ℕ
+as_array [] = 0 ∷ []
+as_array (c ∷ cs) = c ∷ cs
+
+-- what a request is given of a datum; no request takes a place or all scalars under one
+abbrev pub given_of : Cells → Datum → Given
+given_of cells (Scalars v) = Single (scalar_word v)
+given_of cells (Opens p high) = Characters (characters_from cells p 0 (suc high))
+given_of cells (Texts cs) = Characters (as_array cs)
+given_of cells (Places p) = Characters []
+given_of cells (Wholes u) = Characters []
+
+-- the next argument of a request
+abbrev pub passed : ℕ → List Datum → List Argument → Argument → List Item → Source → Source
+passed r done left (ByValue kind e) k s = with_items s (Evaluate e ∷ Fill (Pass r kind done left) ∷ k)
+passed r done left (OfArray d high) k s = with_items s (PlaceOf d ∷ Fill (PassArray r high done left) ∷ k)
+passed r done left (OfText cs) k s = with_items s (Perform (Passing r (done ++ Texts cs ∷ []) left) ∷ k)
 
 -- a request was served; one that answers gets its row with its answers
 abbrev pub replied : List Datum → List Given → World → List Item → Source → Source
@@ -357,11 +398,12 @@ served done r k s = replied done r.1 r.0 k s
 
 abbrev pub performed : List Resolved → Task → List Item → Source → Source
 performed library (Do t) k s = did library t k s
-performed library (Passing r done []) k s = served done (serve (level_of s) r (map given_of done) s.world) k s
-performed library (Passing r done (a ∷ left)) k s = with_items s (Evaluate a.value ∷ Fill (Pass r a.kind done left) ∷ k)
+performed library (Passing r done []) k s = served done (serve (level_of s) r (map (given_of s.cells) done) s.world) k s
+performed library (Passing r done (a ∷ left)) k s = passed r done left a k s
 performed library (Until body c) k s = with_items s (Evaluate c ∷ Fill (Again body c) ∷ k)
 performed library (Looping body) k s = with_items s (doing body (Perform (Looping body) ∷ k))
 performed library (Turns x kind z step left body) k s = turned_on library x kind z step left body k s
+performed library (Holding p) k s = with_items s k
 performed library (End a) k s = with_items s k
 
 -- a value goes into the next item

@@ -1,5 +1,5 @@
 -- The world outside a program: keys, screen, files, streams and channels, and what a request does to it.
-use Rattle.std.specs.Prelude.{ℕ, zero, suc, ◌+◌, ◌-◌, ◌/◌, ◌%◌, ◌==◌, min, nat_lt, ℤ, pos, negsuc, Bool, true, false, List, [], ◌∷◌, ◌++◌, map, length, replicate, Option, Some, None, option_map, if◌then◌else◌}
+use Rattle.std.specs.Prelude.{ℕ, zero, suc, ◌+◌, ◌-◌, ◌/◌, ◌%◌, ◌==◌, min, nat_lt, ℤ, pos, negsuc, Bool, true, false, List, [], ◌∷◌, ◌++◌, map, length, get_or, replicate, Option, Some, None, option_map, if◌then◌else◌}
 use Rattle.std.specs.Ordering.{nat_cmp}
 use Rattle.std.specs.Cmp.Lexicographic.{slice_cmp}
 use Rattle.std.specs.FinMap.{FinMap, insert}
@@ -88,12 +88,12 @@ filled columns text = replicate (min columns 80 - length text) 32 ++ text
 -- what a request is given, and what it answers: a word, or the characters of an array
 pub data Given : Type 0 where
   Single : (w : ℕ) → Given
-  Text : (cs : List ℕ) → Given
+  Characters : (cs : List ℕ) → Given
 
 -- an array isn't a word
 abbrev pub word_in : Given → ℕ
 word_in (Single w) = w
-word_in (Text cs) = 0
+word_in (Characters cs) = 0
 
 abbrev pub first_word : List Given → ℕ
 first_word [] = 0
@@ -114,8 +114,37 @@ shown_by r x y =
     else (if r == 7 then filled y (natural 8 x)
     else (if r == 8 then filled y (natural 16 x) else [])))))
 
+-- the characters of so many words of a store from one on
+abbrev pub characters_at : List ℕ → ℕ → ℕ → List ℕ
+characters_at store a zero = []
+characters_at store a (suc n) = get_or store a 0 % 256 ∷ characters_at store (suc a) n
+
+abbrev pub array_at : List ℕ → List ℕ → List ℕ
+array_at store (a ∷ high ∷ ws) = characters_at store a (suc high)
+array_at store _ = []
+
+-- what a request is given by its words, in the order of its parameters: WriteString has an array, by its address and the number of its last
+-- element
+abbrev pub given_by : ℕ → List ℕ → List ℕ → List Given
+given_by r store ws = if r == 3 then Characters (array_at store ws) ∷ [] else map Single ws
+
+-- the characters before the first 0C, or all
+abbrev pub before_end : List ℕ → List ℕ
+before_end [] = []
+before_end (c ∷ cs) = if c == 0 then [] else c ∷ before_end cs
+
+-- a word isn't an array
+abbrev pub text_in : Given → List ℕ
+text_in (Single w) = []
+text_in (Characters cs) = cs
+
+abbrev pub first_text : List Given → List ℕ
+first_text [] = []
+first_text (g ∷ gs) = text_in g
+
+-- WriteString shows the characters of an array before the first 0C, or all
 abbrev pub piece_of : ℕ → List Given → List ℕ
-piece_of r given = shown_by r (first_word given) (second_word given)
+piece_of r given = if r == 3 then map byte_of (before_end (first_text given)) else shown_by r (first_word given) (second_word given)
 
 -- a request of a level: the world behind it, and what it answers. Those that only write answer nothing
 abbrev pub serve : (level r : ℕ) → List Given → World → World × List Given

@@ -12,14 +12,16 @@ use Rattle.lil_resolved.specs.declared.resolved.RExpr.TheFolds.{map-RSelector, m
 use Rattle.lil_resolved.specs.declared.resolved.RMember.{RMember, out-RMember}
 use Rattle.lil_resolved.specs.declared.resolved.RKind.{RKind}
 use Rattle.lil_resolved.specs.declared.resolved.RPlace.{RPlace, out-RPlace}
+use Rattle.lil_resolved.specs.declared.resolved.RRoot.{RRoot}
+use Rattle.lil_resolved.specs.declared.resolved.RRoot.TheVariants as t
 use Rattle.lil_resolved.specs.declared.resolved.RSelector.{RSelector, out-RSelector}
 use Rattle.lil_resolved.specs.declared.resolved.RSelector.TheVariants as l
 use Rattle.lil_resolved.specs.Kinds.{Kind, OfTruth, OfSet}
-use Rattle.lil_resolved.specs.Resolved.{Designator, Variable, Field, Element, Expression, kind_of}
+use Rattle.lil_resolved.specs.Resolved.{Designator, Field, Element, Expression, kind_of}
 use Rattle.lil_resolved.specs.Depth.{place_depth, depth}
 use Rattle.lil_resolved.specs.Chains.{operations_depth, is_arithmetic, all_arithmetic, selector_depth, selector_depth_in, selectors_depth, member_depth, member_depth_in, members_depth}
 use Rattle.lil_resolved.specs.Forms.{chain_is, set_is, operation_is, place_is, selector_is, member_is}
-use Rattle.lil_resolved.specs.Views.{two_of, chained, selected, with_members, empty_set, kind_view, selector_layer, member_layer, expression_of, selector_of, member_of, operation_of, place_of}
+use Rattle.lil_resolved.specs.Views.{two_of, chained, selected, root_view, with_members, empty_set, kind_view, selector_layer, member_layer, expression_of, selector_of, member_of, operation_of, place_of}
 
 two_depth : (o : TwoOp) (a b : Expression) → depth (two_of o a b) ≡ max (depth a) (1 + depth b)
 two_depth And a b = refl
@@ -80,8 +82,12 @@ selected_depth : (d : Designator) (ss : List RSelector) → place_depth (selecte
 selected_depth d [] = omega arith
 selected_depth d (s ∷ ss) = omega (arith, selected_depth (selector_of s d) ss, one_selected s d)
 
+root_depth : (r : RRoot) → place_depth (root_view r) ≡ 1
+root_depth (t.Variable x) = refl
+root_depth (t.Held w) = refl
+
 pub place_is_deep : (p : RPlace) → place_depth (place_of p) ≡ max 1 (selectors_depth (out-RPlace p).selectors)
-place_is_deep p = ap place_depth (place_is p) ∙ selected_depth (Variable (out-RPlace p).number) (out-RPlace p).selectors
+place_is_deep p = ap place_depth (place_is p) ∙ selected_depth (root_view (out-RPlace p).root) (out-RPlace p).selectors ∙ ap (λ n. max n (selectors_depth (out-RPlace p).selectors)) (root_depth (out-RPlace p).root)
 
 -- what is left of selectors from one on
 pub selectors_left : (ss : List RSelector) (i : ℕ) (s : RSelector) → i < length ss → s ≡ get_or ss i s

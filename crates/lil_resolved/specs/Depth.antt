@@ -1,6 +1,6 @@
 -- The words that a body takes: those of the expression stack, and those of its frame.
-use Rattle.std.specs.Prelude.{ℕ, ◌+◌, ◌*◌, max}
-use Rattle.lil_resolved.specs.Resolved.{Designator, Variable, Field, Element, Function, Odd, Expression, Constant, Taken, One, Two, Short, Apply, With, WithSpan, Statement, Assign, Copy, Change, Member, Request, If, Case, While, Repeat, Loop, Exit, Halt, Return, For, Statements, Empty, Then, Arms, NoElse, Else, Arm}
+use Rattle.std.specs.Prelude.{ℕ, ◌+◌, max}
+use Rattle.lil_resolved.specs.Resolved.{Designator, Variable, Held, Field, Element, Function, Odd, Expression, Constant, Taken, One, Two, Short, Apply, With, WithSpan, Statement, Assign, Copy, Text, Change, Member, Request, If, Case, While, Repeat, Loop, Exit, Halt, Return, For, Inside, Statements, Empty, Then, Arms, NoElse, Else, Arm}
 
 -- how many words of the expression stack the code of a standard function takes, its argument's included
 abbrev pub function_depth : Function → ℕ
@@ -11,6 +11,7 @@ function_depth _ = 1
 abbrev mutual
   pub place_depth : Designator → ℕ
   place_depth (Variable x) = 1
+  place_depth (Held w) = 1
   place_depth (Field d i) = place_depth d
   place_depth (Element d k e) = max (place_depth d) (2 + depth e)
 
@@ -24,33 +25,35 @@ abbrev mutual
   depth (With s k a) = max (depth s) (max 3 (1 + depth a))
   depth (WithSpan s k a b) = max (depth s) (max (1 + depth a) (2 + depth b))
 
--- how many FORs stand in statements, in one another too
+-- how many words of the frame the FORs and the WITHs in statements take: three each FOR, and one each WITH
 abbrev mutual
-  pub statement_loops : Statement → ℕ
-  statement_loops (Assign d k e) = 0
-  statement_loops (Copy d from) = 0
-  statement_loops (Change down d k e) = 0
-  statement_loops (Member out d k e) = 0
-  statement_loops (Request r given) = 0
-  statement_loops (If c a b) = body_loops a + body_loops b
-  statement_loops (Case e arms) = arms_loops arms
-  statement_loops (While c body) = body_loops body
-  statement_loops (Repeat body c) = body_loops body
-  statement_loops (Loop body) = body_loops body
-  statement_loops Exit = 0
-  statement_loops Halt = 0
-  statement_loops Return = 0
-  statement_loops (For x k a b step body) = 1 + body_loops body
+  pub statement_words : Statement → ℕ
+  statement_words (Assign d k e) = 0
+  statement_words (Copy d from) = 0
+  statement_words (Text d cs) = 0
+  statement_words (Change down d k e) = 0
+  statement_words (Member out d k e) = 0
+  statement_words (Request r given) = 0
+  statement_words (If c a b) = body_words a + body_words b
+  statement_words (Case e arms) = arms_words arms
+  statement_words (While c body) = body_words body
+  statement_words (Repeat body c) = body_words body
+  statement_words (Loop body) = body_words body
+  statement_words Exit = 0
+  statement_words Halt = 0
+  statement_words Return = 0
+  statement_words (For x k a b step body) = 3 + body_words body
+  statement_words (Inside d body) = 1 + body_words body
 
-  pub body_loops : Statements → ℕ
-  body_loops Empty = 0
-  body_loops (Then s ss) = statement_loops s + body_loops ss
+  pub body_words : Statements → ℕ
+  body_words Empty = 0
+  body_words (Then s ss) = statement_words s + body_words ss
 
-  pub arms_loops : Arms → ℕ
-  arms_loops NoElse = 0
-  arms_loops (Else body) = body_loops body
-  arms_loops (Arm labels body rest) = body_loops body + arms_loops rest
+  pub arms_words : Arms → ℕ
+  arms_words NoElse = 0
+  arms_words (Else body) = body_words body
+  arms_words (Arm labels body rest) = body_words body + arms_words rest
 
--- the words of a body's frame: its mark, and three for each FOR
+-- the words of a body's frame: its mark, and those of its FORs and WITHs
 abbrev pub frame_words : Statements → ℕ
-frame_words body = 4 + 3 * body_loops body
+frame_words body = 4 + body_words body

@@ -31,8 +31,8 @@ use Rattle.lil_resolved.specs.declared.resolved.RRequest.{RRequest}
 use Rattle.lil_resolved.specs.declared.resolved.Direction.{Direction}
 use Rattle.lil_resolved.specs.declared.resolved.RArgument.{RArgument}
 use Rattle.lil_resolved.specs.Scalars.{scalar_of}
-use Rattle.lil_resolved.specs.Resolved.{Designator, Variable, Field, Element, Expression, Constant, Taken, Apply, With, WithSpan, Assign, Copy, Change, Member, Request, If, Case, While, Repeat, Loop, Exit, Halt, Return, For, Statements, Empty, Then, Arms, Arm, kind_of}
-use Rattle.lil_resolved.specs.Views.{base_view, kind_view, variable_kind, function_of, request_number, is_down, is_out, argument_of, one_of, two_of, chained, selected, with_members, empty_set, expression_layer, selector_layer, member_layer, operation_layer, place_layer, expression_of, selector_of, member_of, operation_of, place_of, label_of, statement_layer, arm_layer, guard_layer, statement_of, arm_of, guard_of, statements_of, guards_of, arms_of}
+use Rattle.lil_resolved.specs.Resolved.{Designator, Field, Element, Expression, Constant, Taken, Apply, With, WithSpan, Assign, Copy, Text, Change, Member, Request, If, Case, While, Repeat, Loop, Exit, Halt, Return, For, Inside, Statements, Empty, Then, Arms, Arm, kind_of}
+use Rattle.lil_resolved.specs.Views.{base_view, kind_view, variable_kind, function_of, request_number, is_down, is_out, argument_of, root_view, one_of, two_of, chained, selected, with_members, empty_set, expression_layer, selector_layer, member_layer, operation_layer, place_layer, expression_of, selector_of, member_of, operation_of, place_of, label_of, statement_layer, arm_layer, guard_layer, statement_of, arm_of, guard_of, statements_of, guards_of, arms_of}
 
 -- a layer's value comes from the values of its parts
 rolled_value : (y : RExpr-F RExpr RMember RSelector ROperation RPlace) → expression_of (roll-RExpr y) ≡ expression_layer (map-RExpr RExpr RMember RSelector ROperation RPlace Expression (Kind → Expression → Expression) (Designator → Designator) (Expression → Expression) Designator expression_of member_of selector_of operation_of place_of y)
@@ -59,7 +59,7 @@ set_is k ms = ap expression_of (sym (e.rolls-Set k ms)) ∙ rolled_value (x.Set 
 pub operation_is : (o : ROperation) (a : Expression) → operation_of o a ≡ two_of (out-ROperation o).operator a (expression_of (out-ROperation o).operand)
 operation_is o a = ap (λ (f : Expression → Expression). f a) (fold_out-ROperation Expression (Kind → Expression → Expression) (Designator → Designator) (Expression → Expression) Designator expression_layer member_layer selector_layer operation_layer place_layer o)
 
-pub place_is : (p : RPlace) → place_of p ≡ selected (Variable (out-RPlace p).number) (map selector_of (out-RPlace p).selectors)
+pub place_is : (p : RPlace) → place_of p ≡ selected (root_view (out-RPlace p).root) (map selector_of (out-RPlace p).selectors)
 place_is = fold_out-RPlace Expression (Kind → Expression → Expression) (Designator → Designator) (Expression → Expression) Designator expression_layer member_layer selector_layer operation_layer place_layer
 
 -- a layer's selector comes from those of its parts
@@ -101,6 +101,9 @@ assign_is p k e = ap statement_of (sym (s.rolls-Assign p k e)) ∙ rolled (o.Ass
 pub copy_is : (p from : RPlace) → statement_of (s.Copy p from) ≡ Then (Copy (place_of p) (place_of from)) Empty
 copy_is p from = ap statement_of (sym (s.rolls-Copy p from)) ∙ rolled (o.Copy p from)
 
+pub text_is : (p : RPlace) (cs : List ℕ) → statement_of (s.Text p cs) ≡ Then (Text (place_of p) cs) Empty
+text_is p cs = ap statement_of (sym (s.rolls-Text p cs)) ∙ rolled (o.Text p cs)
+
 pub change_is : (d : Direction) (p : RPlace) (k : RKind) (e : RExpr) → statement_of (s.Change d p k e) ≡ Then (Change (is_down d) (place_of p) (kind_view k) (expression_of e)) Empty
 change_is d p k e = ap statement_of (sym (s.rolls-Change d p k e)) ∙ rolled (o.Change d p k e)
 
@@ -138,6 +141,9 @@ return_is = ap statement_of (sym s.rolls-Return) ∙ rolled o.Return
 pub for_is : (v : RVariable) (a b : RExpr) (step : ℤ) (ss : List RStmt)
     → statement_of (s.For v a b step ss) ≡ Then (For v.number (variable_kind v) (expression_of a) (expression_of b) step (statements_of ss)) Empty
 for_is v a b step ss = ap statement_of (sym (s.rolls-For v a b step ss)) ∙ rolled (o.For v a b step ss)
+
+pub inside_is : (p : RPlace) (ss : List RStmt) → statement_of (s.With p ss) ≡ Then (Inside (place_of p) (statements_of ss)) Empty
+inside_is p ss = ap statement_of (sym (s.rolls-With p ss)) ∙ rolled (o.With p ss)
 
 pub guard_is : (g : RGuard) (other : Statements) → guard_of g other ≡ Then (If (expression_of g.condition) (statements_of g.body) other) Empty
 guard_is g other =

@@ -6,7 +6,7 @@ use Rattle.lil_base.specs.declared.operator.TwoOp.{TwoOp}
 use Rattle.lil_base.specs.declared.operator.TwoOp.TheVariants.{Equal, Unequal, Less, AtMost, Greater, AtLeast, In, Plus, Minus, Or, Times, Slash, Div, Mod, And}
 use Rattle.lil_resolved.specs.Kinds.{Kind, OfWhole, OfTruth, OfCharacter, OfSet, base_of, compared_as}
 use Rattle.lil_resolved.specs.Scalars.{Scalar}
-use Rattle.lil_resolved.specs.Shapes.{Shape, part_at, shape_at, element_of}
+use Rattle.lil_resolved.specs.Shapes.{Shape, Scope, part_at, shape_at, element_of}
 
 -- standard functions of one value
 pub data Function : Type 0 where
@@ -22,6 +22,8 @@ mutual
   pub data Designator : Type 0 where
     -- a variable of the module, by its number
     Variable : (x : ℕ) → Designator
+    -- the record of a WITH around, by how many others are between
+    Held : (w : ℕ) → Designator
     -- a field of a record, by its number
     Field : (d : Designator) (i : ℕ) → Designator
     -- an element of an array, by an index of a kind
@@ -45,10 +47,12 @@ mutual
     -- a set, and the numbers of a kind from a to b in it
     WithSpan : (s : Expression) (k : Kind) (a b : Expression) → Expression
 
--- a value argument, with its parameter's kind
-pub record Argument : Type 0 where
-  pub kind : Kind
-  pub value : Expression
+-- an argument: a value, with its parameter's kind; or for an open array of characters an array, with the number of its last element, or a
+-- string
+pub data Argument : Type 0 where
+  ByValue : (k : Kind) (e : Expression) → Argument
+  OfArray : (d : Designator) (high : ℕ) → Argument
+  OfText : (cs : List ℕ) → Argument
 
 -- the labels from one number to another
 pub record Label : Type 0 where
@@ -61,6 +65,8 @@ mutual
     Assign : (d : Designator) (k : Kind) (e : Expression) → Statement
     -- all scalars at one place go to another
     Copy : (d from : Designator) → Statement
+    -- the characters of a string go to an array, and 0C to its other elements
+    Text : (d : Designator) (cs : List ℕ) → Statement
     -- INC(d, e) adds e to d's number, DEC(d, e) takes it away
     Change : (down : Bool) (d : Designator) (k : Kind) (e : Expression) → Statement
     -- INCL(d, e) puts the number e, of a kind, into the set at d, EXCL(d, e) takes it out
@@ -79,6 +85,8 @@ mutual
     Return : Statement
     -- FOR x := a TO b BY step DO body END, with a variable of a kind
     For : (x : ℕ) (k : Kind) (a b : Expression) (step : ℤ) (body : Statements) → Statement
+    -- WITH d DO body END
+    Inside : (d : Designator) (body : Statements) → Statement
 
   -- one behind another
   pub data Statements : Type 0 where
@@ -160,8 +168,9 @@ kind_of (Apply f a) = function_kind f
 kind_of (With s k a) = OfSet
 kind_of (WithSpan s k a b) = OfSet
 
--- what lies at the place that a designator names, over variables of these shapes
-abbrev pub shape_of : List Shape → Designator → Shape
-shape_of ts (Variable x) = shape_at ts x
+-- what lies at the place that a designator names
+abbrev pub shape_of : Scope → Designator → Shape
+shape_of ts (Variable x) = shape_at ts.variables x
+shape_of ts (Held w) = shape_at ts.held w
 shape_of ts (Field d i) = part_at (shape_of ts d) (i ∷ [])
 shape_of ts (Element d k e) = element_of (shape_of ts d)

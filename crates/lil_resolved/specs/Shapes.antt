@@ -72,3 +72,15 @@ element_of _ = Absent
 abbrev pub count_of : Shape → ℕ
 count_of (Row n t) = n
 count_of _ = 0
+
+-- what the names of a body reach: the module's variables, and the records of the WITHs around, the innermost first
+pub record Scope : Type 0 where
+  pub variables : List Shape
+  pub held : List Shape
+
+abbrev pub outermost : List Shape → Scope
+outermost ts = record { variables = ts; held = [] }
+
+-- inside of a WITH too
+abbrev pub with_held : Scope → Shape → Scope
+with_held ts t = record ts { held = t ∷ ts.held }

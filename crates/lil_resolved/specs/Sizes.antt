@@ -4,12 +4,12 @@ use Rattle.lil_base.specs.declared.operator.OneOp.{OneOp}
 use Rattle.lil_base.specs.declared.operator.OneOp.TheVariants as one
 use Rattle.lil_base.specs.declared.operator.TwoOp.{TwoOp}
 use Rattle.lil_base.specs.declared.operator.TwoOp.TheVariants.{Greater, AtLeast}
-use Rattle.lil_resolved.specs.Resolved.{Designator, Variable, Field, Element, Function, Abs, Cap, Chr, Odd, Ord, Val, Expression, Constant, Taken, One, Two, Short, Apply, With, WithSpan, Argument, Statement, Assign, Copy, Change, Member, Request, If, Case, While, Repeat, Loop, Exit, Halt, Return, For, Statements, Empty, Then, Arms, NoElse, Else, Arm, Resolved, kind_of, counted_as}
+use Rattle.lil_resolved.specs.Resolved.{Designator, Variable, Held, Field, Element, Function, Abs, Cap, Chr, Odd, Ord, Val, Expression, Constant, Taken, One, Two, Short, Apply, With, WithSpan, Argument, ByValue, OfArray, OfText, Statement, Assign, Copy, Text, Change, Member, Request, If, Case, While, Repeat, Loop, Exit, Halt, Return, For, Inside, Statements, Empty, Then, Arms, NoElse, Else, Arm, Resolved, kind_of, counted_as}
 use Rattle.lil_base.specs.Words.{Cardinal, Integer}
 use Rattle.lil_resolved.specs.Kinds.{Kind, OfWhole, OfCharacter, base_of, compared_as, covers, outside_turns}
 use Rattle.lil_resolved.specs.Shapes.{all_words}
-pub use Rattle.lil_resolved.specs.Depth.{place_depth, depth, statement_loops, body_loops, arms_loops, frame_words}
-pub use Rattle.lil_resolved.specs.Sound.{is_base, is_ordinal, is_set, is_whole, is_element, takes_one, takes_two, takes_value, takes_function, IsSoundVariable, IsScalar, IsSoundPlace, IsSoundTarget, IsSoundCopy, IsSoundExpression, IsSoundWhole, IsSoundValue, request_kinds, AreSoundArguments, IsSoundLabel, AreSoundLabels, IsStep, IsSoundStatement, IsSoundBody, AreSoundArms, IsSound}
+pub use Rattle.lil_resolved.specs.Depth.{place_depth, depth, statement_words, body_words, arms_words, frame_words}
+pub use Rattle.lil_resolved.specs.Sound.{is_base, is_ordinal, is_set, is_whole, is_element, takes_one, takes_two, takes_value, takes_function, IsSoundVariable, IsScalar, IsSoundPlace, IsSoundTarget, IsSoundCopy, IsSoundExpression, IsSoundWhole, IsSoundValue, request_parameters, IsSoundText, IsSoundArray, IsSoundHeld, IsSoundArgument, AreSoundArguments, IsSoundLabel, AreSoundLabels, IsStep, IsSoundStatement, IsSoundBody, AreSoundArms, IsSound}
 
 -- how many bytes the code of an operator takes
 abbrev pub one_size : OneOp → ℕ
@@ -53,6 +53,7 @@ field_form Beyond = Beyond
 
 abbrev pub form_of : Designator → Form
 form_of (Variable x) = Direct
+form_of (Held w) = Exact
 form_of (Field d i) = field_form (form_of d)
 form_of (Element d k e) = Exact
 
@@ -89,6 +90,7 @@ under_size _ = 3
 abbrev mutual
   pub place_size : Designator → ℕ
   place_size (Variable x) = 0
+  place_size (Held w) = 3
   place_size (Field d i) = place_size d
   place_size (Element d k e) = place_size d + address_size (form_of d) + size e + test_size k (kind_of e) + 5
 
@@ -106,15 +108,21 @@ abbrev mutual
 abbrev pub target_size : Designator → ℕ
 target_size d = place_size d + ready_size (form_of d)
 
+abbrev pub argument_size : Argument → ℕ
+argument_size (ByValue k e) = size e + test_size k (kind_of e)
+argument_size (OfArray d high) = place_size d + address_size (form_of d) + 3
+argument_size (OfText cs) = 6
+
 abbrev pub arguments_size : List Argument → ℕ
 arguments_size [] = 0
-arguments_size (a ∷ given) = size a.value + test_size a.kind (kind_of a.value) + arguments_size given
+arguments_size (a ∷ given) = argument_size a + arguments_size given
 
 -- how many bytes the code of a statement takes
 abbrev mutual
   pub statement_size : Statement → ℕ
   statement_size (Assign d k e) = target_size d + size e + test_size k (kind_of e) + store_size (form_of d)
   statement_size (Copy d from) = place_size d + address_size (form_of d) + place_size from + address_size (form_of from) + 3
+  statement_size (Text d cs) = place_size d + address_size (form_of d) + 3 + 5
   statement_size (Change down d k e) =
       target_size d + again_size (form_of d) + size e + under_size (form_of d) + 1 + test_size k (OfWhole (counted_as k)) + store_size (form_of d)
   statement_size (Member out d k e) = place_size d + address_size (form_of d) + size e + test_size k (kind_of e) + 1
@@ -128,6 +136,7 @@ abbrev mutual
   statement_size Halt = 2
   statement_size Return = 1
   statement_size (For x k a b step body) = size a + size b + align_size k (kind_of a) step + 15 + test_size k (base_of k) + body_size body + 5
+  statement_size (Inside d body) = place_size d + address_size (form_of d) + 3 + body_size body
 
   pub body_size : Statements → ℕ
   body_size Empty = 0
@@ -143,6 +152,7 @@ abbrev mutual
 abbrev pub code_size : Resolved → ℕ
 code_size m = 4 + body_size m.body
 
-pub record IsSmall (m : Resolved) : Type 0 where
+-- code, and the words of strings behind the variables
+pub record IsSmall (m : Resolved) (strings : List ℕ) : Type 0 where
   pub code : code_size m ≤ 32767
-  pub variables : all_words m.variables ≤ 32000
+  pub words : all_words m.variables + length strings ≤ 32000

@@ -1,5 +1,6 @@
 -- Sound resolved modules: places have the kinds that their uses say, indexes choose from all elements, operands have their operator's kind, and constants fit theirs.
-use Rattle.std.specs.Prelude.{◌≡◌, ◌≢◌, ℕ, ◌≤◌, ◌==◌, ℤ, pos, negsuc, ◌≤ℤ◌, Bool, true, false, ◌&&◌, ◌||◌, List, [], ◌∷◌, map, Option, Some, None, slice_get, if◌then◌else◌}
+use Rattle.std.specs.Prelude.{◌≡◌, ◌≢◌, ℕ, suc, ◌≤◌, ◌==◌, nat_le, length, ℤ, pos, negsuc, ◌≤ℤ◌, Bool, true, false, ◌&&◌, ◌||◌, List, [], ◌∷◌, map, Option, Some, None, slice_get, if◌then◌else◌}
+use Rattle.std.specs.List.{list_all}
 use Rattle.lil_base.specs.Words.{Cardinal, Integer}
 use Rattle.lil_base.specs.declared.operator.OneOp.{OneOp}
 use Rattle.lil_base.specs.declared.operator.OneOp.TheVariants as one
@@ -8,8 +9,8 @@ use Rattle.lil_base.specs.declared.operator.TwoOp.TheVariants.{Equal, Unequal, L
 pub use Rattle.lil_resolved.specs.Kinds.{is_base, is_ordinal, is_set, is_whole, is_element, alike, takes_value}
 use Rattle.lil_resolved.specs.Kinds.{Kind, OfWhole, OfTruth, OfCharacter, OfSet, base_of, numbers}
 use Rattle.lil_resolved.specs.Scalars.{within, scalar_of, ordinal_of}
-use Rattle.lil_resolved.specs.Shapes.{Shape, Word, is_there, count_of}
-use Rattle.lil_resolved.specs.Resolved.{Designator, Variable, Field, Element, Function, Abs, Cap, Chr, Odd, Ord, Val, Expression, Constant, Taken, One, Two, Short, Apply, With, WithSpan, Label, Argument, Statement, Assign, Copy, Change, Member, Request, If, Case, While, Repeat, Loop, Exit, Halt, Return, For, Statements, Empty, Then, Arms, NoElse, Else, Arm, Resolved, kind_of, right_kind, counted_as, shape_of}
+use Rattle.lil_resolved.specs.Shapes.{Shape, Word, Row, Scope, with_held, outermost, is_there, count_of}
+use Rattle.lil_resolved.specs.Resolved.{Designator, Variable, Held, Field, Element, Function, Abs, Cap, Chr, Odd, Ord, Val, Expression, Constant, Taken, One, Two, Short, Apply, With, WithSpan, Label, Argument, ByValue, OfArray, OfText, Statement, Assign, Copy, Text, Change, Member, Request, If, Case, While, Repeat, Loop, Exit, Halt, Return, For, Inside, Statements, Empty, Then, Arms, NoElse, Else, Arm, Resolved, kind_of, right_kind, counted_as, shape_of}
 use Rattle.lil_resolved.specs.Depth.{place_depth, depth}
 
 -- an operator takes operands of this kind, and IN a left one
@@ -49,24 +50,25 @@ takes_function Odd k = is_whole k
 takes_function Ord k = is_ordinal k
 takes_function (Val j) k = is_ordinal k && is_ordinal (base_of j)
 
--- a variable of these shapes, by its number, has a kind whose values have numbers
-pub record IsSoundVariable (ts : List Shape) (x : ℕ) (k : Kind) : Type 0 where
-  pub known : slice_get ts x ≡ Some (Word k)
+-- a variable, by its number, has a kind whose values have numbers
+pub record IsSoundVariable (ts : Scope) (x : ℕ) (k : Kind) : Type 0 where
+  pub known : slice_get ts.variables x ≡ Some (Word k)
   pub base : is_ordinal (base_of k) ≡ true
 
 -- a place has a kind whose values are words
-pub record IsScalar (ts : List Shape) (d : Designator) (k : Kind) : Type 0 where
+pub record IsScalar (ts : Scope) (d : Designator) (k : Kind) : Type 0 where
   pub shape : shape_of ts d ≡ Word k
   pub base : is_base (base_of k) ≡ true
 
--- over variables of these shapes: an index chooses from all elements, operands have their operator's kind, and constants fit theirs
+-- an index chooses from all elements, operands have their operator's kind, constants fit theirs, and the record of a WITH is one around
 abbrev mutual
-  pub IsSoundPlace : List Shape → Designator → Type 0
+  pub IsSoundPlace : Scope → Designator → Type 0
   IsSoundPlace ts (Variable x) = Unit {0}
+  IsSoundPlace ts (Held w) = (t : Shape) × (slice_get ts.held w ≡ Some t) × (is_there t ≡ true)
   IsSoundPlace ts (Field d i) = IsSoundPlace ts d
   IsSoundPlace ts (Element d k e) = (count_of (shape_of ts d) ≡ numbers k) × (takes_value k (kind_of e) ≡ true) × IsSoundPlace ts d × IsSoundExpression ts e
 
-  pub IsSoundExpression : List Shape → Expression → Type 0
+  pub IsSoundExpression : Scope → Expression → Type 0
   IsSoundExpression ts (Constant k v) = within k v ≡ true
   IsSoundExpression ts (Taken d k) = IsScalar ts d k × IsSoundPlace ts d
   IsSoundExpression ts (One o k a) = (takes_one o k ≡ true) × (kind_of a ≡ k) × IsSoundExpression ts a
@@ -81,13 +83,13 @@ abbrev mutual
 -- element of a set take one word more than the texts' rule says.
 
 -- a place of a kind to which values may be stored
-pub record IsSoundTarget (ts : List Shape) (d : Designator) (k : Kind) : Type 0 where
+pub record IsSoundTarget (ts : Scope) (d : Designator) (k : Kind) : Type 0 where
   pub scalar : IsScalar ts d k
   pub place : IsSoundPlace ts d
   pub shallow : place_depth d ≤ 13
 
 -- two places of one shape
-pub record IsSoundCopy (ts : List Shape) (d from : Designator) : Type 0 where
+pub record IsSoundCopy (ts : Scope) (d from : Designator) : Type 0 where
   pub same : shape_of ts from ≡ shape_of ts d
   pub there : is_there (shape_of ts d) ≡ true
   pub place : IsSoundPlace ts d
@@ -95,14 +97,42 @@ pub record IsSoundCopy (ts : List Shape) (d from : Designator) : Type 0 where
   pub shallow : place_depth d ≤ 13
   pub source_shallow : place_depth from ≤ 13
 
+-- what a string holds are characters
+abbrev pub is_character : ℕ → Bool
+is_character c = nat_le c 255
+
+abbrev pub is_text : List ℕ → Bool
+is_text cs = list_all is_character cs
+
+-- an array of at least as many characters as a string has
+pub record IsSoundText (ts : Scope) (d : Designator) (cs : List ℕ) : Type 0 where
+  pub count : ℕ
+  pub shape : shape_of ts d ≡ Row count (Word OfCharacter)
+  pub fits : length cs ≤ count
+  pub text : is_text cs ≡ true
+  pub place : IsSoundPlace ts d
+  pub shallow : place_depth d ≤ 13
+
+-- an array of characters with this last element
+pub record IsSoundArray (ts : Scope) (d : Designator) (high : ℕ) : Type 0 where
+  pub shape : shape_of ts d ≡ Row (suc high) (Word OfCharacter)
+  pub place : IsSoundPlace ts d
+  pub shallow : place_depth d ≤ 13
+
+-- a record whose place WITH fixes
+pub record IsSoundHeld (ts : Scope) (d : Designator) : Type 0 where
+  pub there : is_there (shape_of ts d) ≡ true
+  pub place : IsSoundPlace ts d
+  pub shallow : place_depth d ≤ 13
+
 -- an expression of a kind that stands alone
-pub record IsSoundWhole (ts : List Shape) (e : Expression) (k : Kind) : Type 0 where
+pub record IsSoundWhole (ts : Scope) (e : Expression) (k : Kind) : Type 0 where
   pub kind : kind_of e ≡ k
   pub shallow : depth e ≤ 13
   pub sound : IsSoundExpression ts e
 
 -- an expression whose value may be stored where one of a kind is wanted
-pub record IsSoundValue (ts : List Shape) (e : Expression) (k : Kind) : Type 0 where
+pub record IsSoundValue (ts : Scope) (e : Expression) (k : Kind) : Type 0 where
   pub takes : takes_value k (kind_of e) ≡ true
   pub whole : IsSoundWhole ts e (kind_of e)
 
@@ -124,29 +154,43 @@ pub record IsStep (z : ℤ) : Type 0 where
   pub lower : negsuc 32767 ≤ℤ z
   pub upper : z ≤ℤ pos 32767
 
--- the kinds of the parameters of a request for words alone
-abbrev pub request_kinds : ℕ → Option (List Kind)
-request_kinds r =
-    if r == 2 then Some (OfCharacter ∷ [])
+-- a value parameter of a kind, or an open array of characters
+pub data Parameter : Type 0 where
+  Single : (k : Kind) → Parameter
+  Characters : Parameter
+
+-- the parameters of a request
+abbrev pub request_parameters : ℕ → Option (List Parameter)
+request_parameters r =
+    if r == 2 then Some (Single OfCharacter ∷ [])
+    else (if r == 3 then Some (Characters ∷ [])
     else (if r == 4 then Some []
-    else (if r == 6 then Some (OfWhole Integer ∷ OfWhole Cardinal ∷ [])
-    else (if r == 5 || r == 7 || r == 8 then Some (OfWhole Cardinal ∷ OfWhole Cardinal ∷ []) else None)))
+    else (if r == 6 then Some (Single (OfWhole Integer) ∷ Single (OfWhole Cardinal) ∷ [])
+    else (if r == 5 || r == 7 || r == 8 then Some (Single (OfWhole Cardinal) ∷ Single (OfWhole Cardinal) ∷ []) else None))))
 
-abbrev pub AreSoundArguments : List Shape → List Argument → Type 0
+abbrev pub IsSoundArgument : Scope → Argument → Type 0
+IsSoundArgument ts (ByValue k e) = IsSoundValue ts e k
+IsSoundArgument ts (OfArray d high) = IsSoundArray ts d high
+IsSoundArgument ts (OfText cs) = is_text cs ≡ true
+
+abbrev pub AreSoundArguments : Scope → List Argument → Type 0
 AreSoundArguments ts [] = Unit {0}
-AreSoundArguments ts (a ∷ given) = IsSoundValue ts a.value a.kind × AreSoundArguments ts given
+AreSoundArguments ts (a ∷ given) = IsSoundArgument ts a × AreSoundArguments ts given
 
-abbrev pub argument_kind : Argument → Kind
-argument_kind a = a.kind
+abbrev pub parameter_of : Argument → Parameter
+parameter_of (ByValue k e) = Single k
+parameter_of (OfArray d high) = Characters
+parameter_of (OfText cs) = Characters
 
--- statements over variables of these shapes, inside a LOOP or not
+-- statements inside a LOOP or not
 abbrev mutual
-  pub IsSoundStatement : List Shape → Bool → Statement → Type 0
+  pub IsSoundStatement : Scope → Bool → Statement → Type 0
   IsSoundStatement ts looping (Assign d k e) = IsSoundTarget ts d k × IsSoundValue ts e k
   IsSoundStatement ts looping (Copy d from) = IsSoundCopy ts d from
+  IsSoundStatement ts looping (Text d cs) = IsSoundText ts d cs
   IsSoundStatement ts looping (Change down d k e) = IsSoundTarget ts d k × IsSoundWhole ts e (OfWhole (counted_as k))
   IsSoundStatement ts looping (Member out d k e) = IsSoundTarget ts d OfSet × (is_element k ≡ true) × IsSoundValue ts e k
-  IsSoundStatement ts looping (Request r given) = (request_kinds r ≡ Some (map argument_kind given)) × AreSoundArguments ts given
+  IsSoundStatement ts looping (Request r given) = (request_parameters r ≡ Some (map parameter_of given)) × AreSoundArguments ts given
   IsSoundStatement ts looping (If c a b) = IsSoundWhole ts c OfTruth × IsSoundBody ts looping a × IsSoundBody ts looping b
   IsSoundStatement ts looping (Case e arms) = (is_ordinal (kind_of e) ≡ true) × IsSoundWhole ts e (kind_of e) × AreSoundArms ts looping (kind_of e) arms
   IsSoundStatement ts looping (While c body) = IsSoundWhole ts c OfTruth × IsSoundBody ts looping body
@@ -156,15 +200,16 @@ abbrev mutual
   IsSoundStatement ts looping Halt = Unit {0}
   IsSoundStatement ts looping Return = Unit {0}
   IsSoundStatement ts looping (For x k a b step body) = IsSoundVariable ts x k × IsSoundValue ts a k × IsSoundWhole ts b (base_of k) × IsStep step × IsSoundBody ts looping body
+  IsSoundStatement ts looping (Inside d body) = IsSoundHeld ts d × IsSoundBody (with_held ts (shape_of ts d)) looping body
 
-  pub IsSoundBody : List Shape → Bool → Statements → Type 0
+  pub IsSoundBody : Scope → Bool → Statements → Type 0
   IsSoundBody ts looping Empty = Unit {0}
   IsSoundBody ts looping (Then s ss) = IsSoundStatement ts looping s × IsSoundBody ts looping ss
 
-  pub AreSoundArms : List Shape → Bool → Kind → Arms → Type 0
+  pub AreSoundArms : Scope → Bool → Kind → Arms → Type 0
   AreSoundArms ts looping k NoElse = Unit {0}
   AreSoundArms ts looping k (Else body) = IsSoundBody ts looping body
   AreSoundArms ts looping k (Arm labels body rest) = AreSoundLabels k labels × IsSoundBody ts looping body × AreSoundArms ts looping k rest
 
 abbrev pub IsSound : Resolved → Type 0
-IsSound m = IsSoundBody m.variables false m.body
+IsSound m = IsSoundBody (outermost m.variables) false m.body

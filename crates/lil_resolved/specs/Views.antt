@@ -5,7 +5,7 @@ use Rattle.lil_resolved.specs.Kinds.{Kind, OfWhole, OfTruth, OfCharacter, OfEnum
 use Rattle.lil_resolved.specs.Scalars.{SetOf, scalar_of}
 use Rattle.lil_resolved.specs.Members.{no_members}
 use Rattle.lil_resolved.specs.Shapes.{Shape, Absent, Word, Row, all_words, offsets_from, shape_at, fields_of, words}
-use Rattle.lil_resolved.specs.Resolved.{Designator, Variable, Field, Element, Function, Abs, Cap, Chr, Odd, Ord, Val, Expression, Constant, Taken, One, Two, Short, Apply, With, WithSpan, Argument, Label, Assign, Copy, Change, Member, Request, If, Case, While, Repeat, Loop, Exit, Halt, Return, For, Statements, Empty, Then, Arms, NoElse, Else, Arm, Resolved, kind_of}
+use Rattle.lil_resolved.specs.Resolved.{Designator, Variable, Held, Field, Element, Function, Abs, Cap, Chr, Odd, Ord, Val, Expression, Constant, Taken, One, Two, Short, Apply, With, WithSpan, Argument, ByValue, OfArray, OfText, Label, Assign, Copy, Text, Change, Member, Request, If, Case, While, Repeat, Loop, Exit, Halt, Return, For, Inside, Statements, Empty, Then, Arms, NoElse, Else, Arm, Resolved, kind_of}
 use Rattle.lil_base.specs.declared.operator.OneOp.{OneOp}
 use Rattle.lil_base.specs.declared.operator.TwoOp.{TwoOp}
 use Rattle.lil_base.specs.declared.operator.TwoOp.TheVariants.{Equal, Unequal, Less, AtMost, Greater, AtLeast, In, Plus, Minus, Or, Times, Slash, Div, Mod, And}
@@ -22,7 +22,10 @@ use Rattle.lil_resolved.specs.declared.resolved.Direction.{Direction}
 use Rattle.lil_resolved.specs.declared.resolved.Direction.TheVariants as d
 use Rattle.lil_resolved.specs.declared.resolved.Membership.{Membership}
 use Rattle.lil_resolved.specs.declared.resolved.Membership.TheVariants as j
+use Rattle.lil_resolved.specs.declared.resolved.RRoot.{RRoot}
+use Rattle.lil_resolved.specs.declared.resolved.RRoot.TheVariants as t
 use Rattle.lil_resolved.specs.declared.resolved.RArgument.{RArgument}
+use Rattle.lil_resolved.specs.declared.resolved.RArgument.TheVariants as g
 use Rattle.lil_resolved.specs.declared.resolved.RDeclared.{RDeclared}
 use Rattle.lil_resolved.specs.declared.resolved.RExpr.{RExpr}
 use Rattle.lil_resolved.specs.declared.resolved.RExpr.TheOpen as x
@@ -75,6 +78,7 @@ function_of (f.Val j) k = Val (kind_view j)
 
 abbrev pub request_number : RRequest → ℕ
 request_number q.Write = 2
+request_number q.WriteString = 3
 request_number q.WriteLn = 4
 request_number q.WriteCard = 5
 request_number q.WriteInt = 6
@@ -147,11 +151,15 @@ abbrev pub member_layer : RMember-F Expression (Kind → Expression → Expressi
 member_layer (x.Single a) k s = With s k a
 member_layer (x.Span a b) k s = WithSpan s k a b
 
+abbrev pub root_view : RRoot → Designator
+root_view (t.Variable x) = Variable x
+root_view (t.Held w) = Held w
+
 abbrev pub operation_layer : ROperation-F Expression (Kind → Expression → Expression) (Designator → Designator) (Expression → Expression) Designator → Expression → Expression
 operation_layer o a = two_of o.operator a o.operand
 
 abbrev pub place_layer : RPlace-F Expression (Kind → Expression → Expression) (Designator → Designator) (Expression → Expression) Designator → Designator
-place_layer p = selected (Variable p.number) p.selectors
+place_layer p = selected (root_view p.root) p.selectors
 
 abbrev pub expression_of : RExpr → Expression
 expression_of = fold-RExpr Expression (Kind → Expression → Expression) (Designator → Designator) (Expression → Expression) Designator expression_layer member_layer selector_layer operation_layer place_layer
@@ -169,7 +177,9 @@ abbrev pub place_of : RPlace → Designator
 place_of = fold-RPlace Expression (Kind → Expression → Expression) (Designator → Designator) (Expression → Expression) Designator expression_layer member_layer selector_layer operation_layer place_layer
 
 abbrev pub argument_of : RArgument → Argument
-argument_of a = record { kind = kind_view a.kind; value = expression_of a.value }
+argument_of (g.Value k e) = ByValue (kind_view k) (expression_of e)
+argument_of (g.Array p high) = OfArray (place_of p) high
+argument_of (g.Text cs) = OfText cs
 
 abbrev pub label_of : RLabel → Label
 label_of l = record { low = l.low; high = l.high }
@@ -202,6 +212,7 @@ otherwise_of (Some ss) = Else (all_of ss)
 abbrev pub statement_layer : RStmt-F Statements (Arms → Arms) (Statements → Statements) → Statements
 statement_layer (o.Assign p k e) = Then (Assign (place_of p) (kind_view k) (expression_of e)) Empty
 statement_layer (o.Copy p from) = Then (Copy (place_of p) (place_of from)) Empty
+statement_layer (o.Text p cs) = Then (Text (place_of p) cs) Empty
 statement_layer (o.Change way p k e) = Then (Change (is_down way) (place_of p) (kind_view k) (expression_of e)) Empty
 statement_layer (o.Member m d k e) = Then (Member (is_out m) (place_of d) (kind_view k) (expression_of e)) Empty
 statement_layer (o.Request r given) = Then (Request (request_number r) (map argument_of given)) Empty
@@ -214,6 +225,7 @@ statement_layer o.Exit = Then Exit Empty
 statement_layer o.Halt = Then Halt Empty
 statement_layer o.Return = Then Return Empty
 statement_layer (o.For v a b step ss) = Then (For v.number (variable_kind v) (expression_of a) (expression_of b) step (all_of ss)) Empty
+statement_layer (o.With p ss) = Then (Inside (place_of p) (all_of ss)) Empty
 
 abbrev pub arm_layer : RArm-F Statements (Arms → Arms) (Statements → Statements) → Arms → Arms
 arm_layer a other = Arm (map label_of a.labels) (all_of a.body) other

@@ -6,7 +6,7 @@ ghost use Rattle.lil_resolved.specs.Resolved.{kind_of, function_kind};
 ghost use Rattle.lil_resolved.specs.Views.{base_view, function_of, expression_of, place_of};
 
 use crate::{OneOp, RShape, TwoOp};
-use lil_base::{Boxed, Items, Name};
+use lil_base::{Boxed, Items, Name, Text};
 
 /// What values are: numbers of a type of whole numbers, truth values, characters, the constants of an enumeration with so
 /// many of them, or sets of numbers from 0 to 15.
@@ -52,10 +52,11 @@ pub enum RFunction {
     Val(RKind),
 }
 
-/// A procedure of a resident module that takes words alone (Medos-2, Terminal and InOut).
+/// A procedure of a resident module that only writes (Medos-2, Terminal and InOut).
 #[derive(Clone, Copy, PartialEq, Eq)]
 pub enum RRequest {
     Write,
+    WriteString,
     WriteLn,
     WriteCard,
     WriteInt,
@@ -100,11 +101,19 @@ pub struct ROperation {
     pub operand: RExpr,
 }
 
-/// A place: a variable of the module by its number, and its parts, one in another.
+/// With what a place begins: a variable of the module by its number, or the record of a WITH around, of which the
+/// innermost is 0.
+#[derive(Clone, Copy)]
+pub enum RRoot {
+    Variable(u16),
+    Held(usize),
+}
+
+/// A place: a root, and its parts, one in another.
 #[cycle(value)]
 #[derive(Drop)]
 pub struct RPlace {
-    pub number: u16,
+    pub root: RRoot,
     pub selectors: Items<RSelector>,
 }
 
@@ -124,21 +133,25 @@ pub enum RMember {
     Span(RExpr, RExpr),
 }
 
-/// A value argument, and its parameter's kind.
+/// An argument: a value, with its parameter's kind; or for a parameter that is an open array of characters an array, with
+/// the number of its last element, or a string.
 #[derive(Drop)]
-pub struct RArgument {
-    pub kind: RKind,
-    pub value: RExpr,
+pub enum RArgument {
+    Value(RKind, RExpr),
+    Array(RPlace, u16),
+    Text(Text),
 }
 
-/// A resolved statement. A place that is stored to has its kind; a copy has its place, and that of what is copied; a set
-/// has its place, and the kind of what joins or leaves it. IF has its conditions in order, a CASE or an IF without ELSE has
-/// none, and FOR has its variable, its first value, its last and its step.
+/// A resolved statement. A place that is stored to has its kind; a copy has its place, and that of what is copied; a string
+/// goes to an array of characters; a set has its place, and the kind of what joins or leaves it. IF has its conditions in
+/// order, a CASE or an IF without ELSE has none, FOR has its variable, its first value, its last and its step, and WITH
+/// its record.
 #[cycle(resolved)]
 #[derive(Drop)]
 pub enum RStmt {
     Assign(RPlace, RKind, RExpr),
     Copy(RPlace, RPlace),
+    Text(RPlace, Text),
     Change(Direction, RPlace, RKind, RExpr),
     Member(Membership, RPlace, RKind, RExpr),
     Request(RRequest, Items<RArgument>),
@@ -151,6 +164,7 @@ pub enum RStmt {
     Halt,
     Return,
     For(RVariable, RExpr, RExpr, i16, Items<RStmt>),
+    With(RPlace, Items<RStmt>),
 }
 
 /// A condition, and the statements behind its THEN.
@@ -271,7 +285,7 @@ pub fn place_depth(of: &RPlace) -> u32
     selectors_depth(of.selectors.as_slice())
 }
 
-/// How many words a variable with selectors takes.
+/// How many words a root with selectors takes.
 #[cycle(depth)]
 #[tactic(auto, using(crate::proofs::Depths::selectors_left))]
 fn selectors_depth(selectors: &[RSelector]) -> u32

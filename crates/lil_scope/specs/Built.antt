@@ -15,7 +15,6 @@ standard_built _ = true
 
 abbrev pub resident_built : Resident → Bool
 resident_built r.Read = false
-resident_built r.WriteString = false
 resident_built _ = true
 
 -- PROC and ADDRESS have the numbers 5 and 6

@@ -19,7 +19,7 @@ fn is_resident_built(resident: Resident) -> bool
     ensures { result ≡ spec.resident_built resident }
 {
     match resident {
-        Resident::Read | Resident::WriteString => false,
+        Resident::Read => false,
         _ => true,
     }
 }

@@ -10,7 +10,6 @@ use Rattle.lil_mcode.specs.declared.machine.Event.TheVariants.{Request}
 use Rattle.lil_mcode.specs.State.{State}
 use Rattle.lil_mcode.specs.Table.{mstep}
 use Rattle.lil_asm.specs.Requests.{request_words}
-use Rattle.lil_kernel.specs.Pieces.{some_piece}
 use Rattle.lil_session.specs.Running.{IsStep, IsRefused}
 use Rattle.lil_match.specs.Running.{Finish, Running, Run, running, react, requested, words_taken, arguments, taken, level_of, left}
 use Rattle.lil_match.specs.Steps.{advances}
@@ -37,29 +36,28 @@ step_left s t e f old step reacts w = record {
 
 -- a step whose request was served
 pub step_writes : (s t t' : State) (q n : ℕ) (old new : Option (List ℕ)) → mstep s ≡ (Request q, t) → request_words q ≡ Some n → t' ≡ taken n t
-    → new ≡ followed_by old (piece_of q (arguments n t)) → (w : World) → IsStep s t' Running old new w
+    → new ≡ followed_by old (piece_of q (arguments q n t)) → (w : World) → IsStep s t' Running old new w
 step_writes s t t' q n old new step has is shown w =
     let at : Option ℕ → Run = λ o. requested q (words_taken o) t (running s w) in
-    let v : World = (serve (level_of t) q (arguments n t) w).0 in
+    let v : World = (serve (level_of t) q (arguments q n t) w).0 in
     let after : State → Run = λ x. record { machine = x; world = v; finish = Running } in
     record {
       world = v;
       run = advances s w (Request q, t) step ∙ ap at has ∙ ap after (sym is);
-      piece = piece_of q (arguments n t);
+      piece = piece_of q (arguments q n t);
       adds = refl;
       shown = shown;
     }
 
 -- a step whose piece was refused
 pub step_refused : (s t : State) (q n : ℕ) (old new : Option (List ℕ)) → mstep s ≡ (Request q, t) → request_words q ≡ Some n
-    → FollowedByPrefix old (piece_of q (arguments n t)) new → IsRefused s old new
+    → FollowedByPrefix old (piece_of q (arguments q n t)) new → IsRefused s old new
 step_refused s t q n old new step has prefix = record {
   number = q;
   asked = t;
   step = step;
-  piece = piece_of q (arguments n t);
-  its = ap (λ (o : Option ℕ). piece_of q (arguments (words_taken o) t)) (sym has);
-  some = some_piece q n (arguments n t) has;
+  piece = piece_of q (arguments q n t);
+  its = ap (λ (o : Option ℕ). piece_of q (arguments q (words_taken o) t)) (sym has);
   prefix = prefix;
 }
 

@@ -21,13 +21,14 @@ use Rattle.lil_session.specs.Counted.{IsEnd, FinishAnswers, MachineRan, MachineA
 use Rattle.lil_session.specs.Report.{is_fixed}
 use Rattle.lil_session.proofs.Enough.{enough}
 
-module _ (p : Resolved) (code : List ℕ) (small : IsSmall p) (t : Translates p code) (steps : ℕ) (old new : Option (List ℕ)) (w : World) where
+module _ (p : Resolved) (strings code : List ℕ) (small : IsSmall p strings) (t : Translates p strings code) (steps : ℕ) (old new : Option (List ℕ)) (w : World) where
   abbrev start : State
-  start = (loaded p code).state
+  start = (loaded p strings code).state
 
   -- a run that took its budget or came to its end
   ran_all : (end : State) (f : Finish) (s : Status) → HasRun start end steps f old new w → FinishAnswers s steps steps f → (f ≡ Running → settled s ≡ true → s ≡ a.StepsSpent) → (s ≡ a.StepsSpent → f ≡ Running) → s ≢ a.ScreenFault → MachineRan p w steps old new s
   ran_all end f s ran fits spent goes no_cut = record {
+    strings = strings;
     code = code;
     translates = t;
     done = steps;
@@ -36,7 +37,7 @@ module _ (p : Resolved) (code : List ℕ) (small : IsSmall p) (t : Translates p 
     shown = λ _. ran.shown;
     cut = λ is. absurd (no_cut is);
     spent = λ on. spent (ran.finish ∙ on);
-    enough = λ is. enough p code small t w steps (sym ran.finish ∙ goes is);
+    enough = λ is. enough p strings code small t w steps (sym ran.finish ∙ goes is);
   }
 
   pub machine_end : (machine : Machine) (e : Ending) (s : Status) → HasRun start machine.state steps (finish_of e) old new w → EndingAnswers machine e s → MachineAnswers p w steps old new s
@@ -54,6 +55,7 @@ module _ (p : Resolved) (code : List ℕ) (small : IsSmall p) (t : Translates p 
   -- a run that the screen stopped: its request failed
   pub machine_cut : IsCut start steps old new w → MachineAnswers p w steps old new a.ScreenFault
   machine_cut cut = record {
+    strings = strings;
     code = code;
     translates = t;
     done = cut.done;
@@ -80,6 +82,7 @@ module _ (p : Resolved) (w : World) (steps : ℕ) (old new : Option (List ℕ)) 
   -- memory is wanted for the lines of a trap alone: those of Done and of a spent budget are fixed
   pub ran_memory : (s : Status) → is_fixed s ≡ false → MachineAnswers p w steps old new s → MachineRan p w steps old new a.Memory
   ran_memory (a.Trapped t) made ran = record {
+    strings = ran.strings;
     code = ran.code;
     translates = ran.translates;
     done = ran.done;

@@ -17,7 +17,7 @@ abbrev Grown : List ℕ → List ℕ → Type 0
 Grown old new = (more : List ℕ) × (new ≡ old ++ more)
 
 react_grown : (e : Event) (s : State) (run : Run) → Grown run.world.screen (react e s run).world.screen
-react_grown (Request r) s run = (piece_of r (arguments (words_taken (request_words r)) s), refl)
+react_grown (Request r) s run = (piece_of r (arguments r (words_taken (request_words r)) s), refl)
 react_grown Went s run = ([], sym (append-nil run.world.screen))
 react_grown LevelEnded s run = ([], all_screen (level_of s) run.world ∙ sym (append-nil run.world.screen))
 react_grown (Trap k) s run = ([], all_screen (level_of s) run.world ∙ sym (append-nil run.world.screen))

@@ -1,5 +1,5 @@
 -- A text has one fault or one meaning, and what it says is carried out.
-use Rattle.std.proofs.Common.{◌≡◌, ◌⊎◌, ℕ, ◌≤◌, ◌<◌, length, nat_le, min, Bool, true, false, List, [], Option, Some, None, Result, Ok, Err, IfOk, if◌then◌else◌, refl, sym, ap, subst, ◌∙◌, inl, inr, arith}
+use Rattle.std.proofs.Common.{◌≡◌, ◌⊎◌, ℕ, ◌+◌, ◌≤◌, ◌<◌, length, nat_le, min, Bool, true, false, List, [], Option, Some, None, Result, Ok, Err, IfOk, if◌then◌else◌, refl, sym, ap, subst, ◌∙◌, inl, inr, arith}
 use Rattle.std.proofs.lemmas.Bool.{leb-true, le-leb}
 use Rattle.lil_base.specs.declared.fault.Place.{Place}
 use Rattle.lil_base.specs.declared.fault.SourceFault.{SourceFault}
@@ -7,9 +7,8 @@ use Rattle.lil_base.specs.Faults.{fault, code_too_long}
 use Rattle.lil_text.specs.declared.stop.ReadStop.{ReadStop}
 use Rattle.lil_text.specs.declared.stop.ReadStop.TheVariants.{Fault, Memory}
 use Rattle.lil_resolved.specs.Resolved.{Resolved}
+use Rattle.lil_resolved.specs.Shapes.{all_words}
 use Rattle.lil_resolved.specs.Sizes.{code_size, IsSmall}
-use Rattle.lil_resolved.specs.Views.{module_of, IsMeasured}
-use Rattle.lil_resolved.specs.declared.resolved.RModule.{RModule}
 use Rattle.lil_language.specs.declared.unit.Unit.{Unit as Tree}
 use Rattle.lil_language.specs.Units.{Reads, HasReadFault}
 use Rattle.lil_meaning.specs.World.{World}
@@ -104,8 +103,8 @@ pub carried_fault : {v : Verdict} (f : SourceFault) (steps : ℕ) (old : Option 
 carried_fault f steps old faults is = subst (λ v. Carried v steps old faults old faults (a.SourceFault f)) (sym is) (inl refl, (refl, refl))
 
 -- ---- by how long the code is
-pub small_of : (m : RModule) → code_size (module_of m) ≤ 32767 → IsMeasured m → m.words ≤ 32000 → IsSmall (module_of m)
-small_of m short measured few = record { code = short; variables = omega (arith, few, measured.words) }
+pub small_of : (p : Resolved) (strings : List ℕ) → code_size p ≤ 32767 → all_words p.variables + length strings ≤ 32000 → IsSmall p strings
+small_of p strings short few = record { code = short; words = few }
 
 module _ (name : Place) (p : Resolved) where
   pub coded_short : code_size p ≤ 32767 → coded name p ≡ Means p
@@ -119,10 +118,10 @@ module _ (name : Place) (p : Resolved) where
       by false e = refl
 
   -- no code was made
-  pub carried_ungenerated : (r : Result (List ℕ) GenStop) (e : GenStop) → r ≡ Err e → ((bytes : ℕ) → r ≡ Err (gen.CodeTooLong bytes) → (32767 < code_size p) × (bytes ≡ min (code_size p) 4294967295))
+  pub carried_ungenerated : {T : Type 0} (r : Result T GenStop) (e : GenStop) → r ≡ Err e → ((bytes : ℕ) → r ≡ Err (gen.CodeTooLong bytes) → (32767 < code_size p) × (bytes ≡ min (code_size p) 4294967295))
       → (steps : ℕ) (old : Option (List ℕ)) (faults : ℕ) → Carried (coded name p) steps old faults old faults (ungenerated_by name e)
-  carried_ungenerated r (gen.CodeTooLong bytes) is long steps old faults = let h = long bytes is in carried_fault (code_too_long name bytes) steps old faults (coded_long bytes h.0 h.1)
-  carried_ungenerated r gen.Memory is long steps old faults = carried_memory (coded name p) steps old faults
+  carried_ungenerated {T} r (gen.CodeTooLong bytes) is long steps old faults = let h = long bytes is in carried_fault (code_too_long name bytes) steps old faults (coded_long bytes h.0 h.1)
+  carried_ungenerated {T} r gen.Memory is long steps old faults = carried_memory (coded name p) steps old faults
 
 -- ---- by what the check found
 module _ (file : List ℕ) (u : Tree) where

@@ -1,5 +1,5 @@
 -- Each step of the meaning adds a piece to the screen, and keeps the keys and the writes: no request reads or writes them yet.
-use Rattle.std.proofs.Common.{◌≡◌, ◌≢◌, ◌⊎◌, inl, inr, ℕ, zero, suc, ◌+◌, ◌-◌, ◌<◌, ◌≤◌, Bool, true, false, if◌then◌else◌, List, [], ◌∷◌, ◌++◌, Result, Ok, Err, Option, Some, None, refl, sym, ap, ◌∙◌, arith, append_assoc}
+use Rattle.std.proofs.Common.{◌≡◌, ◌≢◌, ◌⊎◌, inl, inr, ℕ, zero, suc, ◌+◌, ◌-◌, ◌<◌, ◌≤◌, Bool, true, false, if◌then◌else◌, List, [], ◌∷◌, ◌++◌, Result, Ok, Err, Option, Some, None, refl, sym, ap, ◌∙◌, subst, arith, append_assoc}
 use Rattle.std.specs.Prelude.{ℤ, map}
 use Rattle.std.proofs.lemmas.Bool.{cases_lt}
 use Rattle.std.proofs.lemmas.List.{append-nil, append_cancel_left}
@@ -7,13 +7,13 @@ use Rattle.lil_base.specs.declared.fault.TrapKind.{TrapKind}
 use Rattle.lil_base.specs.declared.fault.TrapAt.{TrapAt}
 use Rattle.lil_resolved.specs.Kinds.{Kind}
 use Rattle.lil_resolved.specs.Scalars.{Scalar, within, value_with, ordinal_of}
-use Rattle.lil_resolved.specs.Resolved.{Designator, Variable, Expression, Taken, Statement, Exit, Statements, Resolved, counted_as}
+use Rattle.lil_resolved.specs.Resolved.{Designator, Held, Expression, Taken, Argument, ByValue, OfArray, OfText, Statement, Exit, Statements, Resolved, counted_as}
 use Rattle.lil_meaning.specs.Cells.{Place, got}
 use Rattle.lil_meaning.specs.World.{World, Given, serve, piece_of, closing}
 use Rattle.lil_meaning.specs.Closings.{closing_shuts, nothing_open}
 use Rattle.lil_meaning.specs.Items.{Datum, Scalars, Places, Hole, Get, StoreAt, ChangeAt, OneOf, RightOf, ApplyTo, Pass, Pick, Task, Do, Passing, Item, Value, Evaluate, PlaceOf, Fill, Perform, Level, Phase, Going, Closing, Source}
 use Rattle.lil_meaning.specs.Items as items
-use Rattle.lil_meaning.specs.Steps.{next, by_phase, first, given, fill, filled, filled_place, performed, did, turned_with, turned_on, picked, placed, evaluated, answered, applied, one_applied, function_value, chosen, stored_with, value_of, changed, whole_of, given_of, level_of, over, left_by, leave}
+use Rattle.lil_meaning.specs.Steps.{next, by_phase, first, given, fill, filled, filled_place, performed, did, turned_with, turned_on, picked, held_at, placed, passed, evaluated, answered, applied, one_applied, function_value, chosen, stored_with, value_of, changed, whole_of, given_of, level_of, over, left_by, leave}
 use Rattle.lil_meaning.specs.Runs.{after}
 use Rattle.lil_laws.specs.Whole.{after_sum}
 
@@ -85,9 +85,15 @@ module _ (library : List Resolved) (s : Source) where
   did_serves Exit k = (still refl refl)
   did_serves _ k = (still refl refl)
 
+  passed_serves : (r : ℕ) (done : List Datum) (left : List Argument) (a : Argument) (k : List Item) → Serves s (passed r done left a k s)
+  passed_serves r done left (ByValue kind e) k = (still refl refl)
+  passed_serves r done left (OfArray d high) k = (still refl refl)
+  passed_serves r done left (OfText cs) k = (still refl refl)
+
   performed_serves : (t : Task) (k : List Item) → Serves s (performed library t k s)
   performed_serves (Do t) k = did_serves t k
-  performed_serves (Passing r done []) k = record { world = inr (inl (r, map given_of done, refl)); first = λ none. none }
+  performed_serves (Passing r done []) k = record { world = inr (inl (r, map (given_of s.cells) done, refl)); first = λ none. none }
+  performed_serves (Passing r done (a ∷ left)) k = passed_serves r done left a k
   performed_serves (items.Turns x kind z step left body) k = turned_serves x kind z step left body k
   performed_serves _ k = (still refl refl)
 
@@ -99,8 +105,12 @@ module _ (library : List Resolved) (s : Source) where
   evaluated_serves (Taken d kind) k = (still refl refl)
   evaluated_serves _ k = (still refl refl)
 
+  held_serves : (o : Option Place) (k : List Item) → Serves s (held_at o k s)
+  held_serves None k = (still refl refl)
+  held_serves (Some p) k = (still refl refl)
+
   placed_serves : (d : Designator) (k : List Item) → Serves s (placed d k s)
-  placed_serves (Variable x) k = (still refl refl)
+  placed_serves (Held w) k = held_serves _ k
   placed_serves _ k = (still refl refl)
 
   over_serves : (ls : List Level) (end : Option TrapAt) → s.waiting ≡ ls → Serves s (over ls end s)
@@ -186,6 +196,14 @@ after_grows library (suc n) s =
       adds = rest.adds ∙ ap (λ (l : List ℕ). l ++ rest.piece) one.adds ∙ append_assoc s.world.screen one.piece rest.piece;
       keys = rest.keys ∙ one.keys;
     }
+
+-- one step more has shown more
+pub one_grows : (library : List Resolved) (n : ℕ) (s : Source) → Grows (after library n s) (after library (suc n) s)
+one_grows library n s =
+    let t : Source = after library n s in
+    let one : suc n ≡ n + 1 = omega arith in
+    let behind : after library (suc n) s ≡ next library t = ap (λ (k : ℕ). after library k s) one ∙ after_sum library n 1 s in
+    subst (λ (u : Source). Grows t u) (sym behind) (next_grows t (next library t) (next_serves library t).world)
 
 -- A step that shows something where so much was shown before: the first of those by which a piece came.
 pub record Adds (library : List Resolved) (s : Source) (shown piece : List ℕ) : Type 0 where

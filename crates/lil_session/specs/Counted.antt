@@ -30,19 +30,20 @@ FinishAnswers a.ScreenFault steps done f = (suc done ≤ steps) × (f ≡ Runnin
 FinishAnswers a.Memory steps done f = IsEnd f
 FinishAnswers _ steps done f = ⊥
 
--- What the machine did: a translation of the module was loaded and ran for some instructions within the budget.
+-- What the machine did: a translation of the module was loaded with its strings and ran for some instructions within the budget.
 pub record MachineRan (p : Resolved) (w : World) (steps : ℕ) (old new : Option (List ℕ)) (status : Status) : Type 0 where
+  pub strings : List ℕ
   pub code : List ℕ
-  pub translates : Translates p code
+  pub translates : Translates p strings code
   -- the instructions that were done
   pub done : ℕ
   pub within : done ≤ steps
-  pub finish : FinishAnswers status steps done (mrun done (running (loaded p code).state w)).finish
-  pub shown : status ≢ a.ScreenFault → new ≡ followed_by old (mrun done (running (loaded p code).state w)).world.screen
+  pub finish : FinishAnswers status steps done (mrun done (running (loaded p strings code).state w)).finish
+  pub shown : status ≢ a.ScreenFault → new ≡ followed_by old (mrun done (running (loaded p strings code).state w)).world.screen
   -- where the screen failed, a prefix of the piece of the request at hand may stand behind it
-  pub cut : status ≡ a.ScreenFault → IsRefused (mrun done (running (loaded p code).state w)).machine (followed_by old (mrun done (running (loaded p code).state w)).world.screen) new
+  pub cut : status ≡ a.ScreenFault → IsRefused (mrun done (running (loaded p strings code).state w)).machine (followed_by old (mrun done (running (loaded p strings code).state w)).world.screen) new
   -- where the whole budget brings no end, a settled answer is StepsSpent
-  pub spent : (mrun steps (running (loaded p code).state w)).finish ≡ Running → settled status ≡ true → status ≡ a.StepsSpent
+  pub spent : (mrun steps (running (loaded p strings code).state w)).finish ≡ Running → settled status ≡ true → status ≡ a.StepsSpent
   -- 32 instructions a step of the meaning, and 64 more, are enough: where they are spent, it goes on
   pub enough : status ≡ a.StepsSpent → (m : ℕ) → 32 * m + 64 ≤ steps → (state_of p w m).phase ≡ Going
 

@@ -209,10 +209,9 @@ IsOver Ended = ⊤
 IsOver (Trapped t) = ⊤
 IsOver _ = ⊥
 
--- The piece that the step from s to t adds to the screen was refused: a prefix of it stands behind what s has shown.
+-- A prefix of the piece that the step from s to t adds to the screen stands behind what s has shown.
 pub record IsCutAt (s t : Source) (old new : Option (List ℕ)) : Type 0 where
   pub piece : List ℕ
-  pub some : piece ≢ []
   pub adds : t.world.screen ≡ s.world.screen ++ piece
   pub prefix : FollowedByPrefix (followed_by old s.world.screen) piece new
 

@@ -1,5 +1,5 @@
 -- How a run goes on, is cut or ends, as the screen shows it.
-use Rattle.std.specs.Prelude.{◌≡◌, ◌≢◌, ℕ, suc, ◌≤◌, true, List, [], ◌++◌, Option, Some, None}
+use Rattle.std.specs.Prelude.{◌≡◌, ℕ, suc, ◌≤◌, List, ◌++◌, Option, Some, None}
 use Rattle.lil_mcode.specs.declared.machine.Event.TheVariants.{Request}
 use Rattle.lil_mcode.specs.State.{State}
 use Rattle.lil_mcode.specs.Table.{mstep}
@@ -36,8 +36,7 @@ pub record IsRefused (s : State) (old new : Option (List ℕ)) : Type 0 where
   pub asked : State
   pub step : mstep s ≡ (Request number, asked)
   pub piece : List ℕ
-  pub its : piece ≡ piece_of number (arguments (words_taken (request_words number)) asked)
-  pub some : piece ≢ []
+  pub its : piece ≡ piece_of number (arguments number (words_taken (request_words number)) asked)
   pub prefix : FollowedByPrefix old piece new
 
 -- at most so many steps, from s to t: what they add to the screen was shown

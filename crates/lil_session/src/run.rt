@@ -82,12 +82,12 @@ fn run_machine<S: Sink>(
     Ok(Ending::Spent)
 }
 
-/// A machine in which the module is loaded alone and begun.
-fn load(alloc: Global, m: &RModule, code: &Bytes) -> Result<Machine, Memory>
-    requires small { IsSmall (module_of m.now) }
+/// A machine in which the module is loaded alone, with its strings behind its variables, and begun.
+fn load(alloc: Global, m: &RModule, code: &Bytes, strings: &[u16]) -> Result<Machine, Memory>
+    requires small { IsSmall (module_of m.now) strings.now }
     requires counted { m.now.words ≡ all_words (module_of m.now).variables }
     requires long { length code.now ≡ code_size (module_of m.now) }
-    ensures { IfOk result (λ machine. machine ≡ loaded (module_of m.now) code.now) }
+    ensures { IfOk result (λ machine. machine ≡ loaded (module_of m.now) strings.now code.now) }
 {
     let mut machine = Machine::new(alloc)?;
     let name = m.name.copy(alloc)?;
@@ -96,7 +96,8 @@ fn load(alloc: Global, m: &RModule, code: &Bytes) -> Result<Machine, Memory>
     let mut bodies = Vec::new(alloc);
     bodies.push(1)?;
     machine.open_level();
-    machine.add_module(name, procedures, code, m.words);
+    machine.add_module(name, procedures, code, m.words + strings.len() as u16);
+    machine.set_words(1 + m.words, strings);
     machine.begin(bodies);
     Ok(machine)
 }
@@ -141,16 +142,18 @@ fn answer(alloc: Global, machine: &Machine, end: Ending) -> Status
     }
 }
 
-/// Runs the code of a program module from its beginning, for at most so many steps.
+/// Runs the code of a program module, whose strings lie behind its variables, from its beginning, for at most so many
+/// steps.
 pub(crate) fn run_program<S: Sink>(
     alloc: Global,
     m: &RModule,
     code: &Bytes,
+    strings: &[u16],
     steps: u64,
     screen: &mut S,
 ) -> Status
-    requires translates { Translates (module_of m.now) code.now }
-    requires small { IsSmall (module_of m.now) }
+    requires translates { Translates (module_of m.now) strings.now code.now }
+    requires small { IsSmall (module_of m.now) strings.now }
     requires counted { m.now.words ≡ all_words (module_of m.now).variables }
     requires long { length code.now ≡ code_size (module_of m.now) }
     ensures shows { (w : World) → w.screen ≡ [] → Shows (module_of m.now) w (S.written screen.old) (S.written screen.new) result }
@@ -160,7 +163,7 @@ pub(crate) fn run_program<S: Sink>(
     ensures cause { Blames Status.ScreenFault (S.faults screen.old) (S.faults screen.new) result }
     ensures told { (result ≡ Status.ScreenFault) ⊎ (S.faults screen.new ≡ S.faults screen.old) }
 {
-    let Ok(mut machine) = load(alloc, m, code) else {
+    let Ok(mut machine) = load(alloc, m, code, strings) else {
         return Status::Memory;
     };
     match run_machine(&mut machine, steps, screen) {

@@ -11,7 +11,7 @@ use Rattle.lil_resolved.specs.declared.resolved.RLabel.{RLabel}
 use Rattle.lil_resolved.specs.Kinds.{Kind, compared_as, is_ordinal}
 use Rattle.lil_resolved.specs.Resolved.{Label, Arms, kind_of}
 use Rattle.lil_resolved.specs.Views.{expression_of, statement_of, statements_of, label_of, else_of, arms_of}
-use Rattle.lil_resolved.specs.Depth.{arms_loops}
+use Rattle.lil_resolved.specs.Depth.{arms_words}
 use Rattle.lil_resolved.specs.Sound.{IsSoundLabel, AreSoundLabels, AreSoundArms}
 use Rattle.lil_resolved.specs.Forms.{case_is, arm_is}
 use Rattle.lil_asm.specs.declared.instr.Instr.TheVariants.{Jmp, Cas, Trp}
@@ -109,11 +109,11 @@ module _ (x : Final) (n : ℕ) (exit : Option ℕ) (leave label out : ℕ) (k : 
       by None h = h.0
       by (Some ss) h = h.named
 
-  else_at : (p q t : ℕ) → AreSoundArms x.layout.shapes (is_some exit) k (else_of other) → loop_place n + 3 * arms_loops (else_of other) ≤ x.layout.frame → x.word leave ≡ x.layout.target out
+  else_at : (p q t : ℕ) → AreSoundArms x.layout.scope (is_some exit) k (else_of other) → loop_place n + arms_words (else_of other) ≤ x.layout.frame → x.word leave ≡ x.layout.target out
       → ElsePart n exit leave label other x p q → ArmsAt x.layout x.code n (option_map x.word exit) k (else_of other) out p q p t 0
   else_at p q t sound room named h = by other sound room h
     where
-      by : (other : Option (List RStmt)) → AreSoundArms x.layout.shapes (is_some exit) k (else_of other) → loop_place n + 3 * arms_loops (else_of other) ≤ x.layout.frame
+      by : (other : Option (List RStmt)) → AreSoundArms x.layout.scope (is_some exit) k (else_of other) → loop_place n + arms_words (else_of other) ≤ x.layout.frame
           → ElsePart n exit leave label other x p q → ArmsAt x.layout x.code n (option_map x.word exit) k (else_of other) out p q p t 0
       by None sound room h = record { trap = h.1; is = refl; none = refl }
       by (Some ss) sound room h = record {
@@ -124,7 +124,7 @@ module _ (x : Final) (n : ℕ) (exit : Option ℕ) (leave label out : ℕ) (k : 
         none = refl;
       }
 
-  arms_at : (arms : List RArm) (ls : List ℕ) (p m q t u : ℕ) → is_ordinal k ≡ true → AreSoundArms x.layout.shapes (is_some exit) k (arms_of arms other) → loop_place n + 3 * arms_loops (arms_of arms other) ≤ x.layout.frame
+  arms_at : (arms : List RArm) (ls : List ℕ) (p m q t u : ℕ) → is_ordinal k ≡ true → AreSoundArms x.layout.scope (is_some exit) k (arms_of arms other) → loop_place n + arms_words (arms_of arms other) ≤ x.layout.frame
       → x.word leave ≡ x.layout.target out → length ls ≡ length arms → Each (ArmBody n exit leave) (paired arms ls) x p m → ElsePart n exit leave label other x m q → Each ArmLabels (paired arms ls) x t u
       → ArmsAt x.layout x.code n (option_map x.word exit) k (arms_of arms other) out m q p t (entries arms)
   arms_at [] ls p m q t u base sound room named long bodies otherwise table =
@@ -132,8 +132,8 @@ module _ (x : Final) (n : ℕ) (exit : Option ℕ) (leave label out : ℕ) (k : 
   arms_at (a ∷ arms) [] p m q t u base sound room named long bodies otherwise table = absurd (omega arith)
   arms_at (a ∷ arms) (l ∷ ls) p m q t u base sound room named long bodies otherwise table =
       let is = arm_is a (arms_of arms other) in
-      let parts = subst (AreSoundArms x.layout.shapes (is_some exit) k) is sound in
-      let loops = ap arms_loops is in
+      let parts = subst (AreSoundArms x.layout.scope (is_some exit) k) is sound in
+      let loops = ap arms_words is in
       let rest : length ls ≡ length arms = omega arith in
       subst (λ (all : Arms). ArmsAt x.layout x.code n (option_map x.word exit) k all out m q p t (entries (a ∷ arms))) (sym is)
       (record {
@@ -149,12 +149,12 @@ labels_long : (x : Final) (k : Kind) (labels : List RLabel) (arm t u : ℕ) → 
 labels_long x k [] arm t u base sound h = omega arith
 labels_long x k (r ∷ labels) arm t u base sound h = omega (arith, (h.1 (label_words k (label_of r) base sound.0)).behind, labels_long x k labels arm h.0 u base sound.1 h.2)
 
-table_long : (x : Final) (k : Kind) (arms : List RArm) (ls : List ℕ) (other : Option (List RStmt)) (looping : Bool) (t u : ℕ) → is_ordinal k ≡ true → AreSoundArms x.layout.shapes looping k (arms_of arms other) → length ls ≡ length arms
+table_long : (x : Final) (k : Kind) (arms : List RArm) (ls : List ℕ) (other : Option (List RStmt)) (looping : Bool) (t u : ℕ) → is_ordinal k ≡ true → AreSoundArms x.layout.scope looping k (arms_of arms other) → length ls ≡ length arms
     → Each ArmLabels (paired arms ls) x t u → u ≡ t + 6 * entries arms
 table_long x k [] ls other looping t u base sound long table = omega arith
 table_long x k (a ∷ arms) [] other looping t u base sound long table = absurd (omega arith)
 table_long x k (a ∷ arms) (l ∷ ls) other looping t u base sound long table =
-    let parts = subst (AreSoundArms x.layout.shapes looping k) (arm_is a (arms_of arms other)) sound in
+    let parts = subst (AreSoundArms x.layout.scope looping k) (arm_is a (arms_of arms other)) sound in
     let rest : length ls ≡ length arms = omega arith in
     omega (arith, labels_long x k a.labels l t table.0 base parts.0 table.1, table_long x k arms ls other looping table.0 u base parts.2 rest table.2)
 

@@ -5,3 +5,4 @@ pub mod Starting
 pub mod Stating
 pub mod Words
 pub mod Arms
+pub mod Texts

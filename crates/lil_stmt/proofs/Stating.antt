@@ -7,21 +7,21 @@ use Rattle.lil_base.specs.Words.{word_of}
 use Rattle.lil_resolved.specs.declared.resolved.RStmt.{RStmt}
 use Rattle.lil_resolved.specs.declared.resolved.RGuard.{RGuard}
 use Rattle.lil_resolved.specs.Kinds.{Kind, OfTruth, base_of, compared_as, covers, outside_turns}
-use Rattle.lil_resolved.specs.Resolved.{Expression, Statement, While, Repeat, Loop, For, Statements, Empty, Then, kind_of}
-use Rattle.lil_resolved.specs.Shapes.{Shape}
-use Rattle.lil_resolved.specs.Views.{joined, expression_of, statement_of, statements_of, guard_of, guards_of}
+use Rattle.lil_resolved.specs.Resolved.{Designator, Expression, Statement, While, Repeat, Loop, For, Inside, Statements, Empty, Then, kind_of, shape_of}
+use Rattle.lil_resolved.specs.Shapes.{Shape, Scope, with_held, shape_at}
+use Rattle.lil_resolved.specs.Views.{joined, expression_of, statement_of, statements_of, guard_of, guards_of, shapes_of}
 use Rattle.lil_resolved.specs.Sound.{IsSoundBody}
 use Rattle.lil_resolved.specs.Forms.{guard_is}
 use Rattle.lil_asm.specs.declared.instr.Instr.{Instr}
-use Rattle.lil_asm.specs.declared.instr.Instr.TheVariants.{Liw, Llw, Sgw, Jmp, Jpf, Fri, Frn}
-use Rattle.lil_table.specs.Rows.{Layout, IsAt, BodyAt, loop_place, loop_sign, test_code}
+use Rattle.lil_asm.specs.declared.instr.Instr.TheVariants.{Liw, Llw, Slw, Sgw, Jmp, Jpf, Fri, Frn}
+use Rattle.lil_table.specs.Rows.{Layout, holding, IsAt, BodyAt, loop_place, loop_sign, test_code}
 use Rattle.lil_labels.specs.Tables.{Tables, variable_by}
-use Rattle.lil_labels.specs.Drafts.{Draft, Meaning, Emits, Nothing, Doing, DoingAll, Marking, Makes, Places}
-use Rattle.lil_labels.specs.Emitting.{emits_none, emits_then, emits_as, emits_tied, emits_here, emits_fresh, emits_mark}
+use Rattle.lil_labels.specs.Drafts.{Draft, inside, outside, Final, Meaning, Emits, Nothing, Doing, DoingAll, Marking, Makes, Places}
+use Rattle.lil_labels.specs.Emitting.{emits_none, emits_then, emits_as, emits_tied, emits_here, emits_fresh, emits_mark, inside_of, emits_inside}
 use Rattle.lil_expr.specs.Generating.{Value}
 use Rattle.lil_expr.specs.Variables.{known_row}
-use Rattle.lil_stmt.specs.Generating.{Stated, Body, Awaiting, Turning, Aligning, nothing_before, guards_before}
-use Rattle.lil_stmt.proofs.Counting.{left_from, joined_loops}
+use Rattle.lil_stmt.specs.Generating.{Addressed, Stated, Body, Awaiting, Turning, Aligning, nothing_before, guards_before}
+use Rattle.lil_stmt.proofs.Counting.{left_from, joined_words}
 use Rattle.lil_stmt.proofs.Storing.{whole}
 
 -- ---- one behind another
@@ -30,7 +30,7 @@ one_emitted n exit s ss a b is t =
     subst (λ (ss : Statements). Emits a b (Body n exit ss)) (sym is)
     (emits_as a b _ (Body n exit (Then s Empty)) (λ x t sound room. record { middle = length b.bytes; here = t sound.0 (omega (arith, room)); then = refl }) t)
 
-sound_joined : (ts : List Shape) (looping : Bool) (a b : Statements) → IsSoundBody ts looping (joined a b) → IsSoundBody ts looping a × IsSoundBody ts looping b
+sound_joined : (ts : Scope) (looping : Bool) (a b : Statements) → IsSoundBody ts looping (joined a b) → IsSoundBody ts looping a × IsSoundBody ts looping b
 sound_joined ts looping Empty b h = (tt, h)
 sound_joined ts looping (Then s a) b h = let rest = sound_joined ts looping a b h.1 in ((h.0, rest.0), rest.1)
 
@@ -50,8 +50,8 @@ next_emitted n exit ss i s all a b c inside is so_far next =
     (λ x t r more. t.0 r
     (subst (λ (left : List RStmt). Body n exit (statements_of left) x (length b.bytes) r) (sym (left_from ss i s inside is))
     (λ sound room.
-    let parts = sound_joined x.layout.shapes (is_some exit) (statement_of s) rest sound in
-    let loops = joined_loops (statement_of s) rest in
+    let parts = sound_joined x.layout.scope (is_some exit) (statement_of s) rest sound in
+    let loops = joined_words (statement_of s) rest in
     joined_at x.layout x.code n _ (statement_of s) rest _ _ r (t.1 parts.0 (omega (arith, loops, room))) (more parts.1 (omega (arith, loops, room))))))
     (emits_then a b c _ _ so_far next)
 
@@ -167,7 +167,7 @@ store_emitted v offset a b is store =
 
 module _ (n : ℕ) (exit : Option ℕ) (v : ℕ) (k : Kind) (from to : Expression) (step : ℤ) (body : Statements) where
   pub for_emitted : (word place sign offset inner end turn : ℕ) (c0 c1 c2 c3 c4 c5 c6 c7 c8 c9 c10 c11 c12 c13 : Draft) → word ≡ word_of step → (loop_place n ≤ 65535 → place ≡ loop_place n)
-      → sign ≡ loop_sign (compared_as (base_of k)) → offset ≡ (variable_by (slice_get c9.tables.variables v)).offset → (n ≤ 65535 → inner ≡ suc n) → Emits c0 c1 (Value from) → Emits c1 c2 (Value to) → Emits c2 c3 Nothing → Makes c2 c3 end
+      → sign ≡ loop_sign (compared_as (base_of k)) → offset ≡ (variable_by (slice_get c9.tables.variables v)).offset → (n ≤ 65535 → inner ≡ 3 + n) → Emits c0 c1 (Value from) → Emits c1 c2 (Value to) → Emits c2 c3 Nothing → Makes c2 c3 end
       → Emits c3 c4 (Aligning (covers (base_of k) (kind_of from)) (outside_turns (compared_as (base_of k)) step) end) → Emits c4 c5 (Doing (λ w. Liw word)) → Emits c5 c6 (Doing (λ w. Fri place sign (w end)))
       → Emits c6 c7 (Marking turn) → Emits c7 c8 (Doing (λ w. Llw place)) → Emits c8 c9 (DoingAll (test_code k (base_of k))) → Emits c9 c10 (Doing (λ w. Sgw offset)) → Emits c10 c11 (Body inner exit body)
       → Emits c11 c12 (Doing (λ w. Frn place (w turn))) → Places c12 c13 end → Emits c0 c13 (Stated n exit (For v k from to step body))
@@ -176,7 +176,7 @@ module _ (n : ℕ) (exit : Option ℕ) (v : ℕ) (k : Kind) (from to : Expressio
       (λ x t sound room.
       let framed = x.framed in
       let at_place : place ≡ loop_place n = placed (omega (arith, room, framed)) in
-      let within : inner ≡ suc n = more (omega (arith, room, framed)) in
+      let within : inner ≡ 3 + n = more (omega (arith, room, framed)) in
       let turns = t.0.1.1 in
       let marked = turns.1.1.1 in
       record {
@@ -222,3 +222,37 @@ module _ (n : ℕ) (exit : Option ℕ) (v : ℕ) (k : Kind) (from to : Expressio
       (emits_then c9 c10 c12 _ _ (store_emitted v offset c9 c10 lies store)
       (emits_then c10 c11 c12 _ _ here next)))))))))))
       (omega (arith, makes.is, first.made, last.made)) put)
+
+-- ---- WITH
+with_emitted_in : (n word m inner : ℕ) (exit : Option ℕ) (d : Designator) (body : Statements) (x : Final) (p kept start q : ℕ) → (loop_place n ≤ 65535 → word ≡ loop_place n) → (n ≤ 65535 → inner ≡ suc n)
+    → Addressed d m x p start → IsAt x.code start (Slw word) kept → Body inner exit body (inside_of (record { word = word; shape = m }) x) kept q → Stated n exit (Inside d body) x p q
+with_emitted_in n word m inner exit d body x p kept start q placed more address keep here sound room =
+    let framed = x.framed in
+    let at_place : word ≡ loop_place n = placed (omega (arith, room, framed)) in
+    let within : inner ≡ suc n = more (omega (arith, room, framed)) in
+    let at = address sound.0.place sound.0.there in
+    let t = shape_at (shapes_of x.tables.shapes) m in
+    let u = shape_of x.layout.scope d in
+    let outcome = option_map x.word exit in
+    let stands : BodyAt (holding x.layout t word) x.code inner outcome body kept q = here (subst (λ (t : Shape). IsSoundBody (with_held x.layout.scope t) (is_some exit) body) (sym at.shape) sound.1) (omega (arith, room, within)) in
+    record {
+      found = at.found;
+      start = start;
+      kept = kept;
+      there = sound.0.there;
+      shallow = omega (arith, sound.0.shallow);
+      room = omega (arith, room);
+      here = at.place;
+      address = at.address;
+      keep = subst (λ (w : ℕ). IsAt x.code start (Slw w) kept) at_place keep;
+      within = subst (λ (m : ℕ). BodyAt (holding x.layout u (loop_place n)) x.code m outcome body kept q) within
+          (subst (λ (w : ℕ). BodyAt (holding x.layout u w) x.code inner outcome body kept q) at_place (subst (λ (t : Shape). BodyAt (holding x.layout t word) x.code inner outcome body kept q) at.shape stands));
+    }
+
+pub with_emitted : (n word m inner : ℕ) (exit : Option ℕ) (d : Designator) (body : Statements) (c0 c1 c2 c3 c4 c5 : Draft) → (loop_place n ≤ 65535 → word ≡ loop_place n) → (n ≤ 65535 → inner ≡ suc n)
+    → Emits c0 c1 (Addressed d m) → Emits c1 c2 (Doing (λ w. Slw word)) → c3 ≡ inside (record { word = word; shape = m }) c2 → Emits c3 c4 (Body inner exit body) → c5 ≡ outside c4
+    → Emits c0 c5 (Stated n exit (Inside d body))
+with_emitted n word m inner exit d body c0 c1 c2 c3 c4 c5 placed more address keep enter here leave =
+    emits_as c0 c5 _ (Stated n exit (Inside d body))
+    (λ x t. with_emitted_in n word m inner exit d body x _ _ _ _ placed more t.0 t.1.0 t.1.1)
+    (emits_then c0 c1 c5 _ _ address (emits_then c1 c2 c5 _ _ keep (emits_inside (record { word = word; shape = m }) c2 c3 c4 c5 (Body inner exit body) enter here leave)))

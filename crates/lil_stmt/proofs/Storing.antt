@@ -1,25 +1,25 @@
--- The code of values with their tests, of requests and of EXIT.
-use Rattle.std.proofs.Common.{◌≡◌, ℕ, suc, ◌+◌, ◌<◌, ◌≤◌, List, length, map, drop, get_or, Option, Some, refl, sym, ap, ◌∙◌, subst, arith}
+-- The code of values with their tests, of arguments, of requests and of EXIT.
+use Rattle.std.proofs.Common.{◌≡◌, ℕ, ◌+◌, ◌<◌, ◌≤◌, List, [], ◌∷◌, length, map, drop, get_or, Option, Some, refl, sym, ap, ◌∙◌, subst, arith}
 use Rattle.std.specs.Option.{option_map}
-use Rattle.std.proofs.lemmas.List.{length-map, drop_all}
+use Rattle.std.proofs.lemmas.List.{drop_all}
 use Rattle.lil_resolved.specs.declared.resolved.RArgument.{RArgument}
 use Rattle.lil_resolved.specs.declared.resolved.RRequest.{RRequest}
 use Rattle.lil_resolved.specs.declared.resolved.RRequest.TheVariants as q
 use Rattle.lil_resolved.specs.Kinds.{Kind}
-use Rattle.lil_resolved.specs.Resolved.{Expression, Argument, Request, Exit, kind_of}
+use Rattle.lil_resolved.specs.Resolved.{Expression, Argument, ByValue, OfArray, OfText, Request, Exit, kind_of}
 use Rattle.lil_resolved.specs.Views.{request_number, argument_of}
-use Rattle.lil_resolved.specs.Sound.{IsSoundWhole, argument_kind, request_kinds}
+use Rattle.lil_resolved.specs.Sound.{IsSoundWhole, Parameter, Single, Characters, parameter_of, request_parameters}
 use Rattle.lil_asm.specs.declared.instr.Instr.TheVariants.{Jmp, Svc}
 use Rattle.lil_asm.specs.Requests.{request_words}
-use Rattle.lil_table.specs.Rows.{InstrsAt, WholeRow, test_code}
+use Rattle.lil_table.specs.Rows.{InstrsAt, WholeRow, argument_words, arguments_words, test_code}
 use Rattle.lil_labels.specs.Drafts.{Draft, Final, Meaning, Emits, Doing, DoingAll}
 use Rattle.lil_labels.specs.Emitting.{emits_none, emits_then, emits_as}
 use Rattle.lil_expr.specs.Generating.{Value}
-use Rattle.lil_stmt.specs.Generating.{Stored, Passed, Stated}
+use Rattle.lil_stmt.specs.Generating.{Stored, Argued, Passed, Stated}
 use Rattle.lil_stmt.proofs.Counting.{left_from}
 
 -- a value that stands alone
-pub whole : (x : Final) (n : ℕ) (e : Expression) (k : Kind) (p q : ℕ) → n ≤ 3 → IsSoundWhole x.layout.shapes e k → Value e x p q → WholeRow x.layout x.code n e k p q
+pub whole : (x : Final) (n : ℕ) (e : Expression) (k : Kind) (p q : ℕ) → n ≤ 3 → IsSoundWhole x.layout.scope e k → Value e x p q → WholeRow x.layout x.code n e k p q
 whole x n e k p q low sound t = record { typed = sound.kind; shallow = omega (arith, sound.shallow, low); value = t sound.sound }
 
 pub value_emitted : (e : Expression) (k j : Kind) (a b c : Draft) → j ≡ kind_of e → Emits a b (Value e) → Emits b c (DoingAll (test_code k j)) → Emits a c (Stored e k)
@@ -38,40 +38,52 @@ value_emitted e k j a b c typed value test =
 abbrev pub Passing : ℕ → List Argument → List Argument → Meaning
 Passing n rest all x p q = (r : ℕ) → Passed n rest x q r → Passed 0 all x p r
 
-pub next_argument : (given : List RArgument) (i : ℕ) (g : RArgument) (all : List Argument) (a b c : Draft) → i < length given → g ≡ get_or given i g
-    → Emits a b (Passing i (map argument_of (drop i given)) all) → Emits b c (Stored (argument_of g).value (argument_of g).kind) → Emits a c (Passing (i + 1) (map argument_of (drop (i + 1) given)) all)
-next_argument given i g all a b c inside is so_far value =
-    let more : i + 1 ≡ suc i = omega arith in
-    emits_as a c _ (Passing (i + 1) (map argument_of (drop (i + 1) given)) all)
+pub next_argument : (given : List RArgument) (i n : ℕ) (g : RArgument) (all : List Argument) (a b c : Draft) → i < length given → g ≡ get_or given i g
+    → Emits a b (Passing n (map argument_of (drop i given)) all) → Emits b c (Argued (argument_of g)) → Emits a c (Passing (argument_words (argument_of g) + n) (map argument_of (drop (i + 1) given)) all)
+next_argument given i n g all a b c inside is so_far next =
+    let w = argument_words (argument_of g) in
+    emits_as a c _ (Passing (w + n) (map argument_of (drop (i + 1) given)) all)
     (λ x t r rest. t.0 r
-    (subst (λ (left : List RArgument). Passed i (map argument_of left) x (length b.bytes) r) (sym (left_from given i g inside is))
-    (λ sound low. record {
-      middle = length c.bytes;
-      value = t.1 i sound.0 (omega (arith, low));
-      then = subst (λ (n : ℕ). Passed n (map argument_of (drop (i + 1) given)) x (length c.bytes) r) more rest sound.1 (omega (arith, low));
-    })))
-    (emits_then a b c _ _ so_far value)
+    (subst (λ (left : List RArgument). Passed n (map argument_of left) x (length b.bytes) r) (sym (left_from given i g inside is))
+    (λ sound low. record { middle = length c.bytes; here = t.1 n sound.0 (omega (arith, low)); then = rest sound.1 (omega (arith, low)) })))
+    (emits_then a b c _ _ so_far next)
 
 pub first_argument : (d : Draft) (given : List Argument) → Emits d d (Passing 0 given given)
 first_argument d given = emits_as d d _ (Passing 0 given given) (λ x same r rest. rest) (emits_none d)
 
-pub all_arguments : (given : List RArgument) (i : ℕ) (all : List Argument) (a b : Draft) → length given ≤ i → Emits a b (Passing i (map argument_of (drop i given)) all) → Emits a b (Passed 0 all)
-all_arguments given i all a b past =
+pub all_arguments : (given : List RArgument) (i n : ℕ) (all : List Argument) (a b : Draft) → length given ≤ i → Emits a b (Passing n (map argument_of (drop i given)) all) → Emits a b (Passed 0 all)
+all_arguments given i n all a b past =
     emits_as a b _ (Passed 0 all)
-    (λ x t. t (length b.bytes) (subst (λ (left : List RArgument). Passed i (map argument_of left) x (length b.bytes) (length b.bytes)) (sym (drop_all i given past)) (λ sound low. refl)))
+    (λ x t. t (length b.bytes) (subst (λ (left : List RArgument). Passed n (map argument_of left) x (length b.bytes) (length b.bytes)) (sym (drop_all i given past)) (λ sound low. refl)))
 
--- a request takes as many words as it has parameters
-request_known : (r : RRequest) (given : List Argument) → request_kinds (request_number r) ≡ Some (map argument_kind given) → (request_words (request_number r) ≡ Some (length given)) × (length given ≤ 4)
+-- how many words an argument is for a parameter
+abbrev parameter_words : Parameter → ℕ
+parameter_words (Single k) = 1
+parameter_words Characters = 2
+
+abbrev all_parameters : List Parameter → ℕ
+all_parameters [] = 0
+all_parameters (p ∷ ps) = parameter_words p + all_parameters ps
+
+parameters_long : (given : List Argument) → all_parameters (map parameter_of given) ≡ arguments_words given
+parameters_long [] = refl
+parameters_long (ByValue k e ∷ given) = omega (arith, parameters_long given)
+parameters_long (OfArray d high ∷ given) = omega (arith, parameters_long given)
+parameters_long (OfText cs ∷ given) = omega (arith, parameters_long given)
+
+-- a request takes as many words as its parameters are
+request_known : (r : RRequest) (given : List Argument) → request_parameters (request_number r) ≡ Some (map parameter_of given) → (request_words (request_number r) ≡ Some (arguments_words given)) × (arguments_words given ≤ 4)
 request_known r given known = by r known
   where
-    long : (ks : List Kind) → Some ks ≡ Some (map argument_kind given) → length ks ≡ length given
-    long ks e = let same : ks ≡ map argument_kind given = cc in ap length same ∙ length-map given argument_kind
+    fits : (ps : List Parameter) (n : ℕ) → Some ps ≡ Some (map parameter_of given) → all_parameters ps ≡ n → n ≤ 4 → (Some n ≡ Some (arguments_words given)) × (arguments_words given ≤ 4)
+    fits ps n e m low =
+        let same : ps ≡ map parameter_of given = cc in
+        let long : n ≡ arguments_words given = sym m ∙ ap all_parameters same ∙ parameters_long given in
+        (ap Some long, omega (arith, long, low))
 
-    fits : (ks : List Kind) (n : ℕ) → Some ks ≡ Some (map argument_kind given) → length ks ≡ n → n ≤ 4 → (Some n ≡ Some (length given)) × (length given ≤ 4)
-    fits ks n e m low = (ap Some (sym m ∙ long ks e), omega (arith, m, long ks e, low))
-
-    by : (r : RRequest) → request_kinds (request_number r) ≡ Some (map argument_kind given) → (request_words (request_number r) ≡ Some (length given)) × (length given ≤ 4)
+    by : (r : RRequest) → request_parameters (request_number r) ≡ Some (map parameter_of given) → (request_words (request_number r) ≡ Some (arguments_words given)) × (arguments_words given ≤ 4)
     by q.Write e = fits _ 1 e refl (omega arith)
+    by q.WriteString e = fits _ 2 e refl (omega arith)
     by q.WriteLn e = fits _ 0 e refl (omega arith)
     by q.WriteCard e = fits _ 2 e refl (omega arith)
     by q.WriteInt e = fits _ 2 e refl (omega arith)
@@ -83,7 +95,7 @@ pub request_emitted : (r : RRequest) (number : ℕ) (given : List Argument) (n :
 request_emitted r number given n exit a b c is arguments by =
     let called = subst (λ (number : ℕ). Emits b c (Doing (λ w. Svc number))) is by in
     emits_as a c _ (Stated n exit (Request (request_number r) given))
-    (λ x t sound room. let known = request_known r given sound.0 in record { middle = length b.bytes; words = known.0; arguments = t.0 sound.1 (omega (arith, known.1)); by = t.1 })
+    (λ x t sound room. let known = request_known r given sound.0 in record { middle = length b.bytes; takes = sound.0; words = known.0; arguments = t.0 sound.1 (omega (arith, known.1)); by = t.1 })
     (emits_then a b c _ _ arguments called)
 
 -- ---- EXIT

@@ -1,5 +1,5 @@
 -- What the code means that the generator of statements adds.
-use Rattle.std.specs.Prelude.{◌≡◌, ℕ, ◌+◌, ◌*◌, ◌≤◌, pos, negsuc, ◌≤ℤ◌, Bool, true, List, [], ◌∷◌, length, map, Option, Some, None}
+use Rattle.std.specs.Prelude.{◌≡◌, ℕ, ◌+◌, ◌≤◌, pos, negsuc, ◌≤ℤ◌, Bool, true, List, [], ◌∷◌, length, map, Option, Some, None}
 use Rattle.std.specs.Option.{is_some, option_map}
 use Rattle.lil_base.specs.Words.{word_of}
 use Rattle.lil_resolved.specs.declared.resolved.RStmt.{RStmt}
@@ -10,19 +10,23 @@ use Rattle.lil_resolved.specs.Kinds.{Kind}
 use Rattle.lil_resolved.specs.Shapes.{is_there, shape_at}
 use Rattle.lil_resolved.specs.Resolved.{Designator, Expression, Argument, Label, Statement, Statements, shape_of}
 use Rattle.lil_resolved.specs.Views.{guarded, guard_of, statements_of, label_of, shapes_of}
-use Rattle.lil_resolved.specs.Depth.{statement_loops, body_loops}
-use Rattle.lil_resolved.specs.Sound.{IsSoundPlace, IsSoundTarget, IsSoundValue, AreSoundArguments, IsSoundStatement, IsSoundBody}
+use Rattle.lil_resolved.specs.Depth.{statement_words, body_words}
+use Rattle.lil_resolved.specs.Sound.{IsSoundPlace, IsSoundTarget, IsSoundValue, IsSoundArgument, AreSoundArguments, IsSoundStatement, IsSoundBody}
 use Rattle.lil_asm.specs.declared.instr.Instr.TheVariants.{Jmp, Trp}
-use Rattle.lil_table.specs.Rows.{IsAt, InstrsAt, Access, access_of, address_code, ready_code, readied, PlaceAt, ValueRow, TargetRow, ArgumentsAt, LeaveRow, AlignAt, StatementAt, BodyAt, loop_place}
+use Rattle.lil_table.specs.Rows.{IsAt, InstrsAt, Access, access_of, address_code, ready_code, readied, PlaceAt, ValueRow, TargetRow, ArgumentsAt, argument_words, arguments_words, ArgumentAt, LeaveRow, AlignAt, StatementAt, BodyAt, loop_place}
 use Rattle.lil_labels.specs.Drafts.{Final, Meaning, EntryAt, ChoiceAt}
 
 -- a sound value has its code and its test, where one of a kind is wanted and up to 3 words of others stand below its own
 abbrev pub Stored : Expression → Kind → Meaning
-Stored e k x p q = (n : ℕ) → IsSoundValue x.layout.shapes e k → n ≤ 3 → ValueRow x.layout x.code n e k p q
+Stored e k x p q = (n : ℕ) → IsSoundValue x.layout.scope e k → n ≤ 3 → ValueRow x.layout x.code n e k p q
+
+-- a sound argument has its code, where with its own words and those of others below it there are up to 4
+abbrev pub Argued : Argument → Meaning
+Argued a x p q = (n : ℕ) → IsSoundArgument x.layout.scope a → n + argument_words a ≤ 4 → ArgumentAt x.layout x.code n a p q
 
 -- the same of arguments, with n words of others below them
 abbrev pub Passed : ℕ → List Argument → Meaning
-Passed n given x p q = AreSoundArguments x.layout.shapes given → n + length given ≤ 4 → ArgumentsAt x.layout x.code n given p q
+Passed n given x p q = AreSoundArguments x.layout.scope given → n + arguments_words given ≤ 4 → ArgumentsAt x.layout x.code n given p q
 
 -- what makes a place ready for a store, and how code then has it
 abbrev pub Readied : Access → Access → Meaning
@@ -34,27 +38,28 @@ pub record TargetAt (d : Designator) (a : Access) (k : Kind) (x : Final) (p q : 
 
 -- a sound place that is stored to has its code, and is then ready
 abbrev pub Targeted : Designator → Access → Meaning
-Targeted d a x p q = (k : Kind) → IsSoundTarget x.layout.shapes d k → TargetAt d a k x p q
+Targeted d a x p q = (k : Kind) → IsSoundTarget x.layout.scope d k → TargetAt d a k x p q
 
 -- a place and its address, and a number of its shape in the tables
 pub record AddressAt (d : Designator) (n : ℕ) (x : Final) (p q : ℕ) : Type 0 where
   pub found : ℕ
   pub place : PlaceAt x.layout x.code d p found
   pub address : InstrsAt x.code (address_code (access_of x.layout d)) found q
-  pub shape : shape_at (shapes_of x.tables.shapes) n ≡ shape_of x.layout.shapes d
+  pub shape : shape_at (shapes_of x.tables.shapes) n ≡ shape_of x.layout.scope d
 
 -- a sound place where something lies has its code and its address
 abbrev pub Addressed : Designator → ℕ → Meaning
-Addressed d n x p q = IsSoundPlace x.layout.shapes d → is_there (shape_of x.layout.shapes d) ≡ true → AddressAt d n x p q
+Addressed d n x p q = IsSoundPlace x.layout.scope d → is_there (shape_of x.layout.scope d) ≡ true → AddressAt d n x p q
 
--- With n FORs around it, a sound statement has its code where the frame has room for its own FORs. An EXIT leads to a label.
+-- Where the FORs and WITHs around it take n words of the frame, a sound statement has its code where the frame has room for its own. An EXIT
+-- leads to a label.
 abbrev pub Stated : ℕ → Option ℕ → Statement → Meaning
 Stated n exit s x p q =
-    IsSoundStatement x.layout.shapes (is_some exit) s → loop_place n + 3 * statement_loops s ≤ x.layout.frame → StatementAt x.layout x.code n (option_map x.word exit) s p q
+    IsSoundStatement x.layout.scope (is_some exit) s → loop_place n + statement_words s ≤ x.layout.frame → StatementAt x.layout x.code n (option_map x.word exit) s p q
 
 -- the same of statements
 abbrev pub Body : ℕ → Option ℕ → Statements → Meaning
-Body n exit ss x p q = IsSoundBody x.layout.shapes (is_some exit) ss → loop_place n + 3 * body_loops ss ≤ x.layout.frame → BodyAt x.layout x.code n (option_map x.word exit) ss p q
+Body n exit ss x p q = IsSoundBody x.layout.scope (is_some exit) ss → loop_place n + body_words ss ≤ x.layout.frame → BodyAt x.layout x.code n (option_map x.word exit) ss p q
 
 -- with the code of some statements behind it, it is the code of others
 abbrev pub Awaiting : ℕ → Option ℕ → Statements → Statements → Meaning

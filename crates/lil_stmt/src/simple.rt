@@ -7,13 +7,13 @@ ghost use Rattle.lil_resolved.specs.Views.{kind_view, place_of, is_down, is_out,
 ghost use Rattle.lil_asm.specs.Bytes.{Sayable};
 ghost use Rattle.lil_table.specs.Rows.{member_code};
 ghost use Rattle.lil_labels.specs.Drafts.{Emits};
-ghost use Rattle.lil_stmt.specs.Generating.{Stated, Stored, Passed};
+ghost use Rattle.lil_stmt.specs.Generating.{Stated, Stored, Argued, Passed};
 
 use crate::kinds::{change_instr, counted_base};
 use crate::statements::Around;
 use crate::targets::{emit_address_of, emit_again, emit_store, emit_target, emit_under};
 use lil_asm::Instr;
-use lil_base::Memory;
+use lil_base::{Memory, Text};
 use lil_expr::{emit_expression, emit_test};
 use lil_labels::{Aim, CodeBuffer};
 use lil_resolved::{Direction, Membership, RArgument, RExpr, RKind, RPlace, RRequest, base};
@@ -52,6 +52,23 @@ pub(crate) fn emit_copy(
     emit_address_of(code, from)?;
     let words = code.words(shape);
     code.put(Instr::Mov(words))
+}
+
+/// Appends the code of a string that goes to an array: the addresses of both, and the move of the characters, with zeros
+/// behind them to the array's end.
+pub(crate) fn emit_text(
+    code: &mut CodeBuffer<'_>,
+    place: &RPlace,
+    text: &Text,
+) -> Result<(), Memory>
+    ensures { OnOk result ((n : ℕ) (exit : Option ℕ) → Emits code.old code.new (Stated n exit (resolved.Text (place_of place.now) text.now))) }
+{
+    let shape = emit_address_of(code, place)?;
+    let offset = code.string(text.as_slice())?;
+    let characters = text.len() as u16;
+    let count = code.elements(shape).count;
+    let zeros = count.saturating_sub(u32::from(characters)).min(65_535) as u16;
+    code.put_all(&[Instr::Lag(offset), Instr::Mvz(characters, zeros)])
 }
 
 /// Appends the code of INC or DEC: the place, made ready and kept, the number, the place's below it, the sum or the
@@ -119,9 +136,28 @@ fn emit_arguments(code: &mut CodeBuffer<'_>, given: &[RArgument]) -> Result<(), 
     ensures { OnOk result (Emits code.old code.new (Passed 0 (map argument_of given.now))) }
 {
     for argument in given {
-        emit_value(code, &argument.value, argument.kind)?;
+        emit_argument(code, argument)?;
     }
     Ok(())
+}
+
+/// Appends the code of an argument: a value and its test; or the address of an array or of a string, and the number of its
+/// last element.
+fn emit_argument(code: &mut CodeBuffer<'_>, argument: &RArgument) -> Result<(), Memory>
+    ensures { OnOk result (Emits code.old code.new (Argued (argument_of argument.now))) }
+{
+    match argument {
+        RArgument::Value(kind, value) => emit_value(code, value, *kind),
+        RArgument::Array(place, high) => {
+            emit_address_of(code, place)?;
+            code.put(Instr::Liw(*high))
+        }
+        RArgument::Text(text) => {
+            let offset = code.string(text.as_slice())?;
+            let high = text.len().saturating_sub(1) as u16;
+            code.put_all(&[Instr::Lag(offset), Instr::Liw(high)])
+        }
+    }
 }
 
 /// The number of a request.
@@ -130,6 +166,7 @@ fn request_code(request: RRequest) -> u8
 {
     match request {
         RRequest::Write => 2,
+        RRequest::WriteString => 3,
         RRequest::WriteLn => 4,
         RRequest::WriteCard => 5,
         RRequest::WriteInt => 6,
@@ -140,7 +177,7 @@ fn request_code(request: RRequest) -> u8
 
 /// Appends the code of an EXIT: a jump behind the LOOP around it.
 pub(crate) fn emit_exit(code: &mut CodeBuffer<'_>, around: Around) -> Result<(), Memory>
-    ensures { OnOk result (Emits code.old code.new (Stated around.fors around.exit Exit)) }
+    ensures { OnOk result (Emits code.old code.new (Stated around.words around.exit Exit)) }
 {
     match around.exit {
         None => Ok(()),

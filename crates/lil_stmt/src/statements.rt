@@ -1,33 +1,37 @@
 //! The code of resolved statements.
 
 ghost use Rattle.std.specs.Prelude.{◌≡◌, length, IfOk, OnOk};
-ghost use Rattle.lil_resolved.specs.Resolved.{While, Repeat, Loop, For};
-ghost use Rattle.lil_resolved.specs.Views.{variable_kind, expression_of, statement_of, statements_of, guard_of};
+ghost use Rattle.lil_resolved.specs.Resolved.{While, Repeat, Loop, For, Inside};
+ghost use Rattle.lil_resolved.specs.Views.{variable_kind, expression_of, place_of, statement_of, statements_of, guard_of};
 ghost use Rattle.lil_labels.specs.Drafts.{Emits};
 ghost use Rattle.lil_stmt.specs.Generating.{Stated, Body, Turning, Each, ArmPart, ArmBody, Trapping, nothing_before, guards_before, paired};
 
 use crate::cases::emit_choice;
 use crate::kinds::{emit_turn_test, loop_sign};
 use crate::loops::loop_place;
-use crate::simple::{emit_assign, emit_change, emit_copy, emit_exit, emit_member, emit_request};
+use crate::simple::{
+    emit_assign, emit_change, emit_copy, emit_exit, emit_member, emit_request, emit_text,
+};
 use crate::starts::emit_align;
+use crate::targets::emit_address_of;
 use lil_asm::Instr;
 use lil_base::Memory;
 use lil_expr::{emit_expression, word_of_number};
 use lil_labels::{Aim, CodeBuffer};
-use lil_resolved::{RArm, RExpr, RGuard, RStmt, RVariable};
+use lil_resolved::{RArm, RExpr, RGuard, RPlace, RStmt, RVariable};
 
-/// What stands around a statement: so many FORs, and the label of the place behind the LOOP, where there is one.
+/// What stands around a statement: how many words of the frame the FORs and WITHs take, and the label of the place behind
+/// the LOOP, where there is one.
 #[derive(Clone, Copy)]
 pub struct Around {
-    pub fors: u32,
+    pub words: u32,
     pub exit: Option<u32>,
 }
 
 /// Appends the code of statements, one behind another.
 #[cycle(emitting)]
 pub fn emit_body(code: &mut CodeBuffer<'_>, body: &[RStmt], around: Around) -> Result<(), Memory>
-    ensures { OnOk result (Emits code.old code.new (Body around.fors around.exit (statements_of body.now))) }
+    ensures { OnOk result (Emits code.old code.new (Body around.words around.exit (statements_of body.now))) }
 {
     for statement in body {
         emit_statement(code, statement, around)?;
@@ -42,11 +46,12 @@ fn emit_statement(
     statement: &RStmt,
     around: Around,
 ) -> Result<(), Memory>
-    ensures { OnOk result (Emits code.old code.new (Body around.fors around.exit (statement_of statement.now))) }
+    ensures { OnOk result (Emits code.old code.new (Body around.words around.exit (statement_of statement.now))) }
 {
     match statement {
         RStmt::Assign(place, kind, value) => emit_assign(code, place, *kind, value),
         RStmt::Copy(place, from) => emit_copy(code, place, from),
+        RStmt::Text(place, text) => emit_text(code, place, text),
         RStmt::Change(way, place, kind, value) => emit_change(code, *way, place, *kind, value),
         RStmt::Member(way, place, kind, value) => emit_member(code, *way, place, *kind, value),
         RStmt::Request(request, given) => emit_request(code, *request, given.as_slice()),
@@ -81,6 +86,7 @@ fn emit_statement(
         RStmt::For(variable, from, to, step, body) => {
             emit_for(code, body.as_slice(), *variable, from, to, *step, around)
         }
+        RStmt::With(place, body) => emit_with(code, body.as_slice(), place, around),
     }
 }
 
@@ -92,7 +98,7 @@ fn emit_guards(
     end: u32,
     around: Around,
 ) -> Result<(), Memory>
-    ensures { OnOk result (Emits code.old code.new (Turning around.fors around.exit end nothing_before (guards_before guards.now))) }
+    ensures { OnOk result (Emits code.old code.new (Turning around.words around.exit end nothing_before (guards_before guards.now))) }
 {
     for guard in guards {
         emit_guard(code, guard, end, around)?;
@@ -109,7 +115,7 @@ fn emit_guard(
     end: u32,
     around: Around,
 ) -> Result<(), Memory>
-    ensures { OnOk result (Emits code.old code.new (Turning around.fors around.exit end nothing_before (guard_of guard.now))) }
+    ensures { OnOk result (Emits code.old code.new (Turning around.words around.exit end nothing_before (guard_of guard.now))) }
 {
     emit_expression(code, &guard.condition)?;
     let other = code.fresh()?;
@@ -128,7 +134,7 @@ fn emit_arms(
     around: Around,
 ) -> Result<Vec<u32>, Memory>
     ensures many { IfOk result (λ labels. length labels.items ≡ length arms.now) }
-    ensures emits { IfOk result (λ labels. Emits code.old code.new (Each (ArmBody around.fors around.exit leave) (paired arms.now labels.items))) }
+    ensures emits { IfOk result (λ labels. Emits code.old code.new (Each (ArmBody around.words around.exit leave) (paired arms.now labels.items))) }
 {
     let mut labels = Vec::new(code.alloc());
     for arm in arms {
@@ -146,7 +152,7 @@ fn emit_arm(
     leave: u32,
     around: Around,
 ) -> Result<u32, Memory>
-    ensures { IfOk result (λ label. Emits code.old code.new (ArmPart around.fors around.exit leave label (statements_of body.now))) }
+    ensures { IfOk result (λ label. Emits code.old code.new (ArmPart around.words around.exit leave label (statements_of body.now))) }
 {
     let label = code.mark()?;
     emit_body(code, body, around)?;
@@ -172,7 +178,7 @@ fn emit_while(
     condition: &RExpr,
     around: Around,
 ) -> Result<(), Memory>
-    ensures { OnOk result (Emits code.old code.new (Stated around.fors around.exit (While (expression_of condition.now) (statements_of body.now)))) }
+    ensures { OnOk result (Emits code.old code.new (Stated around.words around.exit (While (expression_of condition.now) (statements_of body.now)))) }
 {
     let again = code.mark()?;
     emit_expression(code, condition)?;
@@ -191,7 +197,7 @@ fn emit_repeat(
     condition: &RExpr,
     around: Around,
 ) -> Result<(), Memory>
-    ensures { OnOk result (Emits code.old code.new (Stated around.fors around.exit (Repeat (statements_of body.now) (expression_of condition.now)))) }
+    ensures { OnOk result (Emits code.old code.new (Stated around.words around.exit (Repeat (statements_of body.now) (expression_of condition.now)))) }
 {
     let again = code.mark()?;
     emit_body(code, body, around)?;
@@ -202,12 +208,12 @@ fn emit_repeat(
 /// Appends the code of a LOOP: the statements, and a jump back. EXITs in it jump behind that.
 #[cycle(emitting)]
 fn emit_loop(code: &mut CodeBuffer<'_>, body: &[RStmt], around: Around) -> Result<(), Memory>
-    ensures { OnOk result (Emits code.old code.new (Stated around.fors around.exit (Loop (statements_of body.now)))) }
+    ensures { OnOk result (Emits code.old code.new (Stated around.words around.exit (Loop (statements_of body.now)))) }
 {
     let again = code.mark()?;
     let end = code.fresh()?;
     let inside = Around {
-        fors: around.fors,
+        words: around.words,
         exit: Some(end),
     };
     emit_body(code, body, inside)?;
@@ -227,14 +233,14 @@ fn emit_for(
     step: i16,
     around: Around,
 ) -> Result<(), Memory>
-    ensures { OnOk result (Emits code.old code.new (Stated around.fors around.exit (For variable.number (variable_kind variable) (expression_of from.now) (expression_of to.now) step (statements_of body.now)))) }
+    ensures { OnOk result (Emits code.old code.new (Stated around.words around.exit (For variable.number (variable_kind variable) (expression_of from.now) (expression_of to.now) step (statements_of body.now)))) }
 {
     emit_expression(code, from)?;
     emit_expression(code, to)?;
     let end = code.fresh()?;
     emit_align(code, variable.kind, from, step, end)?;
     code.put(Instr::Liw(word_of_number(i32::from(step))))?;
-    let place = loop_place(around.fors);
+    let place = loop_place(around.words);
     code.jump(Aim::Enter(place, loop_sign(variable.kind)), end)?;
     let turn = code.mark()?;
     code.put(Instr::Llw(place))?;
@@ -242,10 +248,33 @@ fn emit_for(
     let lies = code.variable(variable.number);
     code.put(Instr::Sgw(lies.offset))?;
     let inside = Around {
-        fors: around.fors.saturating_add(1),
+        words: around.words.saturating_add(3),
         exit: around.exit,
     };
     emit_body(code, body, inside)?;
     code.jump(Aim::Turn(place), turn)?;
     code.here(end)
+}
+
+/// Appends the code of a WITH: the address of its record, which goes to a word of the frame, and the statements.
+#[cycle(emitting)]
+fn emit_with(
+    code: &mut CodeBuffer<'_>,
+    body: &[RStmt],
+    place: &RPlace,
+    around: Around,
+) -> Result<(), Memory>
+    ensures { OnOk result (Emits code.old code.new (Stated around.words around.exit (Inside (place_of place.now) (statements_of body.now)))) }
+{
+    let shape = emit_address_of(code, place)?;
+    let word = loop_place(around.words);
+    code.put(Instr::Slw(word))?;
+    code.hold(word, shape)?;
+    let inside = Around {
+        words: around.words.saturating_add(1),
+        exit: around.exit,
+    };
+    emit_body(code, body, inside)?;
+    code.release();
+    Ok(())
 }

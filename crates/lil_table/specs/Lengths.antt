@@ -6,15 +6,15 @@ use Rattle.lil_base.specs.declared.operator.OneOp.TheVariants as one
 use Rattle.lil_base.specs.declared.operator.TwoOp.{TwoOp}
 use Rattle.lil_base.specs.declared.operator.TwoOp.TheVariants.{Equal, Unequal, Less, AtMost, Greater, AtLeast, In, Plus, Minus, Times, Slash, Div, Mod, Or, And}
 use Rattle.lil_resolved.specs.Kinds.{Kind, OfWhole, OfTruth, OfCharacter, OfEnumeration, OfSet, OfRange, base_of, compared_as, covers, shared, outside_turns}
-use Rattle.lil_resolved.specs.Resolved.{Designator, Variable, Field, Element, Function, Abs, Cap, Chr, Odd, Ord, Val, Expression, Constant, Taken, One, Two, Short, Apply, With, WithSpan, Argument, Label, Statement, Assign, Copy, Change, Member, Request, If, Case, While, Repeat, Loop, Exit, Halt, Return, For, Statements, Empty, Then, Arms, NoElse, Else, Arm, Resolved, kind_of, counted_as}
+use Rattle.lil_resolved.specs.Resolved.{Designator, Variable, Held, Field, Element, Function, Abs, Cap, Chr, Odd, Ord, Val, Expression, Constant, Taken, One, Two, Short, Apply, With, WithSpan, Argument, ByValue, OfArray, OfText, Label, Statement, Assign, Copy, Text, Change, Member, Request, If, Case, While, Repeat, Loop, Exit, Halt, Return, For, Inside, Statements, Empty, Then, Arms, NoElse, Else, Arm, Resolved, kind_of, counted_as, shape_of}
 use Rattle.lil_resolved.specs.Depth.{frame_words}
 use Rattle.lil_resolved.specs.Sound.{takes_two}
-use Rattle.lil_resolved.specs.Sizes.{one_size, two_size, test_size, function_size, Form, Direct, Exact, Beyond, field_form, form_of, address_size, load_size, ready_size, store_size, again_size, under_size, place_size, target_size, size, arguments_size, statement_size, body_size, arms_size, code_size}
+use Rattle.lil_resolved.specs.Sizes.{argument_size, one_size, two_size, test_size, function_size, Form, Direct, Exact, Beyond, field_form, form_of, address_size, load_size, ready_size, store_size, again_size, under_size, place_size, target_size, size, arguments_size, statement_size, body_size, arms_size, code_size}
 use Rattle.lil_asm.specs.declared.instr.Instr.{Instr}
-use Rattle.lil_asm.specs.declared.instr.Instr.TheVariants.{Liw, Dup, Drp, Llw, Sgw, Swp, Rgc, Lsi, Spn, Ent, Rtn, Jmp, Jpf, Cas, Fri, Frn, Trp, Svc}
+use Rattle.lil_asm.specs.declared.instr.Instr.TheVariants.{Liw, Lag, Dup, Drp, Llw, Slw, Sgw, Swp, Rgc, Lsi, Spn, Ent, Rtn, Jmp, Jpf, Cas, Fri, Frn, Trp, Svc}
 use Rattle.lil_asm.specs.Bytes.{bytes_of}
 use Rattle.lil_asm.specs.Decoding.{decoded_stands}
-use Rattle.lil_table.specs.Rows.{Layout, IsAt, InstrsAt, one_code, whole_code, number_code, two_code, range_code, test_code, function_code, Access, InData, OnTop, Behind, further, access_of, address_code, load_code, ready_code, readied, held, store_code, again_code, under_code, change_operator, change_code, member_code, short_code, loop_place, loop_sign, ValueRow, TargetRow, EntriesAt, AlignAt, PlaceAt, ExpressionAt, ArgumentsAt, StatementAt, BodyAt, ArmsAt, TranslatesBy}
+use Rattle.lil_table.specs.Rows.{Layout, holding, argument_words, ArgumentAt, IsAt, InstrsAt, one_code, whole_code, number_code, two_code, range_code, test_code, function_code, Access, InData, OnTop, Behind, further, access_of, address_code, load_code, ready_code, readied, held, store_code, again_code, under_code, change_operator, change_code, member_code, short_code, loop_place, loop_sign, ValueRow, TargetRow, EntriesAt, AlignAt, PlaceAt, ExpressionAt, ArgumentsAt, StatementAt, BodyAt, ArmsAt, TranslatesBy}
 
 -- the bytes of an instruction, and of several
 abbrev pub instr_size : Instr → ℕ
@@ -97,6 +97,7 @@ further_formed n (Behind o) = refl
 
 formed : (l : Layout) (d : Designator) → access_form (access_of l d) ≡ form_of d
 formed l (Variable x) = refl
+formed l (Held w) = refl
 formed l (Field d i) = further_formed _ (access_of l d) ∙ ap field_form (formed l d)
 formed l (Element d k e) = refl
 
@@ -163,6 +164,7 @@ test_long code k j p q h = omega (arith, instrs_long code (test_code k j) p q h,
 mutual
   pub place_long : (l : Layout) (code : List ℕ) (d : Designator) (p q : ℕ) → PlaceAt l code d p q → q ≡ p + place_size d
   place_long l code (Variable x) p q h = omega (arith, h.stays)
+  place_long l code (Held w) p q h = instr_long code p _ q h.load
   place_long l code (Field d i) p q h = place_long l code d p q h.here
   place_long l code (Element d k e) p q h =
       omega (
@@ -208,9 +210,19 @@ target_long : (l : Layout) (code : List ℕ) (d : Designator) (k : Kind) (p q : 
 target_long l code d k p q h =
     omega (arith, place_long l code d p h.found h.here, instrs_long code (ready_code (access_of l d)) h.found q h.ready, ready_sized (access_of l d), ap ready_size (formed l d))
 
+-- a place and its address
+addressed_long : (l : Layout) (code : List ℕ) (d : Designator) (p found q : ℕ) → PlaceAt l code d p found → InstrsAt code (address_code (access_of l d)) found q → q ≡ p + (place_size d + address_size (form_of d))
+addressed_long l code d p found q h i =
+    omega (arith, place_long l code d p found h, instrs_long code (address_code (access_of l d)) found q i, address_sized (access_of l d), ap address_size (formed l d))
+
+argument_long : (l : Layout) (code : List ℕ) (n : ℕ) (a : Argument) (p q : ℕ) → ArgumentAt l code n a p q → q ≡ p + argument_size a
+argument_long l code n (ByValue k e) p q h = value_long l code n e k p q h
+argument_long l code n (OfArray d high) p q h = omega (arith, addressed_long l code d p h.found h.start h.here h.address, instr_long code h.start (Liw high) q h.by)
+argument_long l code n (OfText cs) p q h = omega (arith, instr_long code p (Lag h.offset) h.start h.address, instr_long code h.start _ q h.by)
+
 arguments_long : (l : Layout) (code : List ℕ) (n : ℕ) (given : List Argument) (p q : ℕ) → ArgumentsAt l code n given p q → q ≡ p + arguments_size given
 arguments_long l code n [] p q h = omega (arith, h)
-arguments_long l code n (a ∷ given) p q h = omega (arith, value_long l code n a.value a.kind p h.middle h.value, arguments_long l code (suc n) given h.middle q h.then)
+arguments_long l code n (a ∷ given) p q h = omega (arith, argument_long l code n a p h.middle h.here, arguments_long l code (argument_words a + n) given h.middle q h.then)
 
 align_long : (l : Layout) (code : List ℕ) (same turns : Bool) (p start q : ℕ) → AlignAt l code same turns p start q → start ≡ p + (if same then 0 else (if turns then 7 else 15))
 align_long l code true turns p start q h = omega (arith, h)
@@ -234,16 +246,12 @@ mutual
   statement_long l code n exit (Copy d from) p q h =
       omega (
         arith,
-        place_long l code d p h.found h.here,
-        instrs_long code (address_code (access_of l d)) h.found h.start h.address,
-        address_sized (access_of l d),
-        ap address_size (formed l d),
-        place_long l code from h.start h.middle h.source,
-        instrs_long code (address_code (access_of l from)) h.middle h.last h.source_address,
-        address_sized (access_of l from),
-        ap address_size (formed l from),
+        addressed_long l code d p h.found h.start h.here h.address,
+        addressed_long l code from h.start h.middle h.last h.source h.source_address,
         instr_long code h.last _ q h.by,
       )
+  statement_long l code n exit (Text d cs) p q h =
+      omega (arith, addressed_long l code d p h.found h.start h.here h.address, instr_long code h.start (Lag h.offset) h.last h.source, instr_long code h.last _ q h.by)
   statement_long l code n exit (Change down d k e) p q h =
       let a = access_of l d in
       omega (
@@ -261,10 +269,7 @@ mutual
   statement_long l code n exit (Member out d k e) p q h =
       omega (
         arith,
-        place_long l code d p h.found h.here,
-        instrs_long code (address_code (access_of l d)) h.found h.start h.address,
-        address_sized (access_of l d),
-        ap address_size (formed l d),
+        addressed_long l code d p h.found h.start h.here h.address,
         value_long l code 1 e k h.start h.middle h.value,
         instr_long code h.middle (member_code out) q h.by,
         member_sized out,
@@ -303,8 +308,15 @@ mutual
         instr_long code t.turn (Llw (loop_place n)) r.loaded r.load,
         test_long code k (base_of k) r.loaded r.tested r.test,
         instr_long code r.tested (Sgw r.known.offset) r.start r.store,
-        body_long l code (suc n) exit body r.start r.end r.here,
+        body_long l code (3 + n) exit body r.start r.end r.here,
         instr_long code r.end (Frn (loop_place n) (l.target t.turn)) q r.next,
+      )
+  statement_long l code n exit (Inside d body) p q h =
+      omega (
+        arith,
+        addressed_long l code d p h.found h.start h.here h.address,
+        instr_long code h.start (Slw (loop_place n)) h.kept h.keep,
+        body_long (holding l (shape_of l.scope d) (loop_place n)) code (suc n) exit body h.kept q h.within,
       )
 
   pub body_long : (l : Layout) (code : List ℕ) (n : ℕ) (exit : Option ℕ) (ss : Statements) (p q : ℕ) → BodyAt l code n exit ss p q → q ≡ p + body_size ss

@@ -1,6 +1,6 @@
 -- The translation table: which bytes from one place to another are a translation of a part. It has one row for each construct. A jump has
 -- the word of its target's place: the place itself, or in code that is too long for that the place cut to 16 bits.
-use Rattle.std.specs.Prelude.{◌≡◌, ℕ, zero, suc, ◌+◌, ◌*◌, ◌%◌, ◌≤◌, ℤ, Bool, true, false, List, [], ◌∷◌, ◌++◌, length, Option, Some, None, slice_get, cond}
+use Rattle.std.specs.Prelude.{◌≡◌, ℕ, zero, suc, ◌+◌, ◌-◌, ◌*◌, ◌%◌, ◌<◌, ◌≤◌, max, ℤ, Bool, true, false, List, [], ◌∷◌, ◌++◌, length, map, get_or, Option, Some, None, slice_get, cond}
 use Rattle.lil_base.specs.Words.{Whole, Cardinal, Integer, word_of}
 use Rattle.lil_base.specs.declared.operator.OneOp.{OneOp}
 use Rattle.lil_base.specs.declared.operator.OneOp.TheVariants as one
@@ -8,21 +8,24 @@ use Rattle.lil_base.specs.declared.operator.TwoOp.{TwoOp}
 use Rattle.lil_base.specs.declared.operator.TwoOp.TheVariants.{Equal, Unequal, Less, AtMost, Greater, AtLeast, In, Plus, Minus, Times, Slash, Div, Mod}
 use Rattle.lil_resolved.specs.Kinds.{Kind, OfWhole, OfTruth, OfCharacter, OfSet, base_of, is_base, is_ordinal, is_set, is_element, takes_value, compared_as, covers, shared, outside_turns, least, numbers}
 use Rattle.lil_resolved.specs.Scalars.{Scalar, within, scalar_word}
-use Rattle.lil_resolved.specs.Shapes.{Shape, Word, Row, words, is_there, part_at, offset, all_words, offsets_from, element_of}
-use Rattle.lil_resolved.specs.Resolved.{Designator, Variable, Field, Element, Function, Abs, Cap, Chr, Odd, Ord, Val, Expression, Constant, Taken, One, Two, Short, Apply, With, WithSpan, Argument, Label, Statement, Assign, Copy, Change, Member, Request, If, Case, While, Repeat, Loop, Exit, Halt, Return, For, Statements, Empty, Then, Arms, NoElse, Else, Arm, Resolved, kind_of, right_kind, counted_as, shape_of}
+use Rattle.lil_resolved.specs.Shapes.{Shape, Word, Row, Scope, outermost, with_held, words, is_there, part_at, offset, all_words, offsets_from, element_of}
+use Rattle.lil_resolved.specs.Resolved.{Designator, Variable, Held, Field, Element, Function, Abs, Cap, Chr, Odd, Ord, Val, Expression, Constant, Taken, One, Two, Short, Apply, With, WithSpan, Argument, ByValue, OfArray, OfText, Label, Statement, Assign, Copy, Text, Change, Member, Request, If, Case, While, Repeat, Loop, Exit, Halt, Return, For, Inside, Statements, Empty, Then, Arms, NoElse, Else, Arm, Resolved, kind_of, right_kind, counted_as, shape_of}
 use Rattle.lil_resolved.specs.Depth.{place_depth, depth, frame_words}
-use Rattle.lil_resolved.specs.Sound.{takes_one, takes_two, takes_function, IsScalar, IsSoundLabel, IsStep}
+use Rattle.lil_resolved.specs.Sound.{takes_one, takes_two, takes_function, IsScalar, IsSoundLabel, IsStep, is_text, request_parameters, parameter_of}
 use Rattle.lil_asm.specs.declared.instr.Instr.{Instr}
-use Rattle.lil_asm.specs.declared.instr.Instr.TheVariants.{Liw, Dup, Drp, Llw, Lgw, Sgw, Lag, Ldi, Sti, Ldf, Adf, Mov, Ixc, Swp, Rgc, Rgi, Cap, Adc, Sbc, Mlc, Dvc, Mdc, Adi, Sbi, Mli, Dvi, Mdi, Ngi, Abi, Uni, Dif, Its, Sym, Sin, Spn, Icl, Ecl, Sle, Not, Equ, Neq, Lsc, Lec, Lsi, Lei, Ent, Rtn, Jmp, Jpf, Jan, Jor, Cas, Fri, Frn, Trp, Svc}
+use Rattle.lil_asm.specs.declared.instr.Instr.TheVariants.{Liw, Dup, Drp, Llw, Slw, Lgw, Sgw, Lag, Ldi, Sti, Ldf, Adf, Mov, Mvz, Ixc, Swp, Rgc, Rgi, Cap, Adc, Sbc, Mlc, Dvc, Mdc, Adi, Sbi, Mli, Dvi, Mdi, Ngi, Abi, Uni, Dif, Its, Sym, Sin, Spn, Icl, Ecl, Sle, Not, Equ, Neq, Lsc, Lec, Lsi, Lei, Ent, Rtn, Jmp, Jpf, Jan, Jor, Cas, Fri, Frn, Trp, Svc}
 use Rattle.lil_asm.specs.Bytes.{word_at, decoded}
 use Rattle.lil_asm.specs.Requests.{request_words}
 
--- where the variables of a module lie in its data frame, by their numbers, their shapes, the words of its body's frame, and how a place is
--- written in a jump
+-- Where the variables of a module lie in its data frame, by their numbers; the shapes that names reach, and the words of the frame that
+-- have the addresses of the records of the WITHs around, the innermost first; how many words the variables take, and the words of the
+-- strings behind them; the words of the body's frame; and how a place is written in a jump.
 pub record Layout : Type 0 where
   pub offsets : List ℕ
-  pub shapes : List Shape
+  pub scope : Scope
+  pub held : List ℕ
   pub words : ℕ
+  pub strings : List ℕ
   pub frame : ℕ
   pub target : ℕ → ℕ
 
@@ -33,11 +36,23 @@ exactly q = q
 abbrev pub cut : ℕ → ℕ
 cut q = q % 65536
 
-abbrev pub layout_by : (ℕ → ℕ) → Resolved → Layout
-layout_by target m = record { offsets = offsets_from 0 m.variables; shapes = m.variables; words = all_words m.variables; frame = frame_words m.body; target = target }
+abbrev pub layout_by : (ℕ → ℕ) → List ℕ → Resolved → Layout
+layout_by target strings m = record {
+  offsets = offsets_from 0 m.variables;
+  scope = outermost m.variables;
+  held = [];
+  words = all_words m.variables;
+  strings = strings;
+  frame = frame_words m.body;
+  target = target;
+}
 
-abbrev pub layout_of : Resolved → Layout
-layout_of m = layout_by exactly m
+abbrev pub layout_of : List ℕ → Resolved → Layout
+layout_of strings m = layout_by exactly strings m
+
+-- inside of a WITH too, whose record has this shape, and its address this word of the frame
+abbrev pub holding : Layout → Shape → ℕ → Layout
+holding l t n = record l { scope = with_held l.scope t; held = n ∷ l.held }
 
 -- the bytes of the instruction stand from place p to place q
 abbrev pub IsAt : List ℕ → ℕ → Instr → ℕ → Type 0
@@ -147,7 +162,8 @@ offset_in (Some o) = o
 -- how code has the place of a designator
 abbrev pub access_of : Layout → Designator → Access
 access_of l (Variable x) = InData (offset_in (slice_get l.offsets x))
-access_of l (Field d i) = further (offset (shape_of l.shapes d) (i ∷ [])) (access_of l d)
+access_of l (Held w) = OnTop
+access_of l (Field d i) = further (offset (shape_of l.scope d) (i ∷ [])) (access_of l d)
 access_of l (Element d k e) = OnTop
 
 -- the instructions that bring its address to the expression stack
@@ -217,7 +233,7 @@ pub record ConstantRow (code : List ℕ) (k : Kind) (v : Scalar) (p q : ℕ) : T
 pub record KnownRow (l : Layout) (x : ℕ) (k : Kind) : Type 0 where
   pub offset : ℕ
   pub at : slice_get l.offsets x ≡ Some offset
-  pub typed : slice_get l.shapes x ≡ Some (Word k)
+  pub typed : slice_get l.scope.variables x ≡ Some (Word k)
   pub base : is_ordinal (base_of k) ≡ true
 
 pub record OneRow (code : List ℕ) (o : OneOp) (k : Kind) (a : Expression) (value : Span) (p q : ℕ) : Type 0 where
@@ -294,13 +310,22 @@ pub record NamedRow (l : Layout) (x p q : ℕ) : Type 0 where
   pub offset : ℕ
   pub shape : Shape
   pub at : slice_get l.offsets x ≡ Some offset
-  pub typed : slice_get l.shapes x ≡ Some shape
+  pub typed : slice_get l.scope.variables x ≡ Some shape
   pub there : is_there shape ≡ true
   pub stays : p ≡ q
 
+-- the record of a WITH: a word of the frame has its address
+pub record HeldRow (l : Layout) (code : List ℕ) (w p q : ℕ) : Type 0 where
+  pub word : ℕ
+  pub shape : Shape
+  pub at : slice_get l.held w ≡ Some word
+  pub typed : slice_get l.scope.held w ≡ Some shape
+  pub there : is_there shape ≡ true
+  pub load : IsAt code p (Llw word) q
+
 -- nor does a field
 pub record FieldRow (l : Layout) (d : Designator) (i : ℕ) (record' : Span) (p q : ℕ) : Type 0 where
-  pub there : is_there (part_at (shape_of l.shapes d) (i ∷ [])) ≡ true
+  pub there : is_there (part_at (shape_of l.scope d) (i ∷ [])) ≡ true
   pub here : record' p q
 
 -- the address of an array, an index and its test, and the address of the element
@@ -309,25 +334,26 @@ pub record ElementRow (l : Layout) (code : List ℕ) (d : Designator) (k : Kind)
   pub start : ℕ
   pub middle : ℕ
   pub tested : ℕ
-  pub rows : shape_of l.shapes d ≡ Row (numbers k) (element_of (shape_of l.shapes d))
-  pub there : is_there (element_of (shape_of l.shapes d)) ≡ true
+  pub rows : shape_of l.scope d ≡ Row (numbers k) (element_of (shape_of l.scope d))
+  pub there : is_there (element_of (shape_of l.scope d)) ≡ true
   pub takes : takes_value k (kind_of e) ≡ true
   pub here : array p found
   pub address : InstrsAt code (address_code (access_of l d)) found start
   pub value : index start middle
   pub test : InstrsAt code (test_code k (kind_of e)) middle tested
-  pub by : IsAt code tested (Ixc (word_of (least k)) (words (element_of (shape_of l.shapes d)))) q
+  pub by : IsAt code tested (Ixc (word_of (least k)) (words (element_of (shape_of l.scope d)))) q
 
 -- a place, and the load of the word that lies there
 pub record TakenRow (l : Layout) (code : List ℕ) (d : Designator) (k : Kind) (place : Span) (p q : ℕ) : Type 0 where
   pub found : ℕ
-  pub scalar : IsScalar l.shapes d k
+  pub scalar : IsScalar l.scope d k
   pub here : place p found
   pub load : IsAt code found (load_code (access_of l d)) q
 
 abbrev mutual
   pub PlaceAt : Layout → List ℕ → Designator → Span
   PlaceAt l code (Variable x) p q = NamedRow l x p q
+  PlaceAt l code (Held w) p q = HeldRow l code w p q
   PlaceAt l code (Field d i) p q = FieldRow l d i (PlaceAt l code d) p q
   PlaceAt l code (Element d k e) p q = ElementRow l code d k e (PlaceAt l code d) (ExpressionAt l code e) p q
 
@@ -357,7 +383,7 @@ pub record ValueRow (l : Layout) (code : List ℕ) (n : ℕ) (e : Expression) (k
 -- a place of a kind that is made ready for a store
 pub record TargetRow (l : Layout) (code : List ℕ) (d : Designator) (k : Kind) (p q : ℕ) : Type 0 where
   pub found : ℕ
-  pub scalar : IsScalar l.shapes d k
+  pub scalar : IsScalar l.scope d k
   pub shallow : place_depth d ≤ 16
   pub here : PlaceAt l code d p found
   pub ready : InstrsAt code (ready_code (access_of l d)) found q
@@ -375,15 +401,15 @@ pub record CopyRow (l : Layout) (code : List ℕ) (d from : Designator) (p q : �
   pub start : ℕ
   pub middle : ℕ
   pub last : ℕ
-  pub same : shape_of l.shapes from ≡ shape_of l.shapes d
-  pub there : is_there (shape_of l.shapes d) ≡ true
+  pub same : shape_of l.scope from ≡ shape_of l.scope d
+  pub there : is_there (shape_of l.scope d) ≡ true
   pub shallow : place_depth d ≤ 16
   pub source_shallow : 1 + place_depth from ≤ 16
   pub here : PlaceAt l code d p found
   pub address : InstrsAt code (address_code (access_of l d)) found start
   pub source : PlaceAt l code from start middle
   pub source_address : InstrsAt code (address_code (access_of l from)) middle last
-  pub by : IsAt code last (Mov (words (shape_of l.shapes d))) q
+  pub by : IsAt code last (Mov (words (shape_of l.scope d))) q
 
 pub record ChangeRow (l : Layout) (code : List ℕ) (down : Bool) (d : Designator) (k : Kind) (e : Expression) (p q : ℕ) : Type 0 where
   pub start : ℕ
@@ -404,7 +430,7 @@ pub record MemberRow (l : Layout) (code : List ℕ) (out : Bool) (d : Designator
   pub found : ℕ
   pub start : ℕ
   pub middle : ℕ
-  pub set : shape_of l.shapes d ≡ Word OfSet
+  pub set : shape_of l.scope d ≡ Word OfSet
   pub element : is_element k ≡ true
   pub shallow : place_depth d ≤ 16
   pub here : PlaceAt l code d p found
@@ -412,19 +438,84 @@ pub record MemberRow (l : Layout) (code : List ℕ) (out : Bool) (d : Designator
   pub value : ValueRow l code 1 e k start middle
   pub by : IsAt code middle (member_code out) q
 
--- arguments one behind another, with n words of others below them
-pub record ArgumentRow (l : Layout) (code : List ℕ) (n : ℕ) (a : Argument) (rest : Span) (p q : ℕ) : Type 0 where
+-- how many words a string takes, at least one
+abbrev pub text_words : List ℕ → ℕ
+text_words cs = max 1 (length cs)
+
+-- A string's words lie from an offset on in the data, one a character; those of an empty one have one 0.
+pub record HasText (l : Layout) (cs : List ℕ) (offset : ℕ) : Type 0 where
+  pub text : is_text cs ≡ true
+  pub at : ℕ
+  pub is : offset ≡ l.words + at
+  pub inside : at + text_words cs ≤ length l.strings
+  pub words : (i : ℕ) → i < text_words cs → get_or l.strings (at + i) 0 ≡ get_or cs i 0
+
+-- the addresses of an array and of a string, and the move of the string's words, with zeros behind them to the array's end
+pub record TextRow (l : Layout) (code : List ℕ) (d : Designator) (cs : List ℕ) (p q : ℕ) : Type 0 where
+  pub found : ℕ
+  pub start : ℕ
+  pub last : ℕ
+  pub count : ℕ
+  pub offset : ℕ
+  pub rows : shape_of l.scope d ≡ Row count (Word OfCharacter)
+  pub fits : length cs ≤ count
+  pub shallow : place_depth d ≤ 16
+  pub text : HasText l cs offset
+  pub here : PlaceAt l code d p found
+  pub address : InstrsAt code (address_code (access_of l d)) found start
+  pub source : IsAt code start (Lag offset) last
+  pub by : IsAt code last (Mvz (length cs) (count - length cs)) q
+
+-- an array for an open array of characters, with n words of others below: its address, and the number of its last element
+pub record ArrayRow (l : Layout) (code : List ℕ) (n : ℕ) (d : Designator) (high p q : ℕ) : Type 0 where
+  pub found : ℕ
+  pub start : ℕ
+  pub rows : shape_of l.scope d ≡ Row (suc high) (Word OfCharacter)
+  pub shallow : n + place_depth d ≤ 16
+  pub room : n + 2 ≤ 16
+  pub here : PlaceAt l code d p found
+  pub address : InstrsAt code (address_code (access_of l d)) found start
+  pub by : IsAt code start (Liw high) q
+
+-- the same of a string
+pub record StringRow (l : Layout) (code : List ℕ) (n : ℕ) (cs : List ℕ) (p q : ℕ) : Type 0 where
+  pub offset : ℕ
+  pub start : ℕ
+  pub room : n + 2 ≤ 16
+  pub text : HasText l cs offset
+  pub address : IsAt code p (Lag offset) start
+  pub by : IsAt code start (Liw (text_words cs - 1)) q
+
+-- how many words of the expression stack an argument is
+abbrev pub argument_words : Argument → ℕ
+argument_words (ByValue k e) = 1
+argument_words (OfArray d high) = 2
+argument_words (OfText cs) = 2
+
+abbrev pub arguments_words : List Argument → ℕ
+arguments_words [] = 0
+arguments_words (a ∷ given) = argument_words a + arguments_words given
+
+-- an argument, with n words of others below it
+abbrev pub ArgumentAt : Layout → List ℕ → ℕ → Argument → Span
+ArgumentAt l code n (ByValue k e) p q = ValueRow l code n e k p q
+ArgumentAt l code n (OfArray d high) p q = ArrayRow l code n d high p q
+ArgumentAt l code n (OfText cs) p q = StringRow l code n cs p q
+
+pub record ArgumentRow (argument rest : Span) (p q : ℕ) : Type 0 where
   pub middle : ℕ
-  pub value : ValueRow l code n a.value a.kind p middle
+  pub here : argument p middle
   pub then : rest middle q
 
+-- arguments one behind another
 abbrev pub ArgumentsAt : Layout → List ℕ → ℕ → List Argument → Span
 ArgumentsAt l code n [] p q = p ≡ q
-ArgumentsAt l code n (a ∷ given) p q = ArgumentRow l code n a (ArgumentsAt l code (suc n) given) p q
+ArgumentsAt l code n (a ∷ given) p q = ArgumentRow (ArgumentAt l code n a) (ArgumentsAt l code (argument_words a + n) given) p q
 
 pub record RequestRow (l : Layout) (code : List ℕ) (r : ℕ) (given : List Argument) (p q : ℕ) : Type 0 where
   pub middle : ℕ
-  pub words : request_words r ≡ Some (length given)
+  pub takes : request_parameters r ≡ Some (map parameter_of given)
+  pub words : request_words r ≡ Some (arguments_words given)
   pub arguments : ArgumentsAt l code 0 given p middle
   pub by : IsAt code middle (Svc r) q
 
@@ -527,9 +618,9 @@ pub record CaseRow (l : Layout) (code : List ℕ) (e : Expression) (arms : ℕ �
   pub choice : IsAt code choices (Cas count (l.target other)) entries
   pub whole : q ≡ entries + 6 * count
 
--- the first of the three words of a FOR with n others around it, in the frame
+-- the first word of a FOR or a WITH in the frame, where those around it take n words
 abbrev pub loop_place : ℕ → ℕ
-loop_place n = 4 + 3 * n
+loop_place n = 4 + n
 
 -- how the machine reads the bounds of a FOR
 abbrev pub loop_sign : Whole → ℕ
@@ -589,16 +680,31 @@ pub record ForRow (l : Layout) (code : List ℕ) (n x : ℕ) (k : Kind) (a b : E
   pub limit : WholeRow l code 1 b (base_of k) middle last
   pub turns : TurnsRow l code n x k (kind_of a) step body last q
 
+-- the address of a record, which goes to a word of the frame, and the statements
+pub record InsideRow (l : Layout) (code : List ℕ) (n : ℕ) (d : Designator) (body : Span) (p q : ℕ) : Type 0 where
+  pub found : ℕ
+  pub start : ℕ
+  pub kept : ℕ
+  pub there : is_there (shape_of l.scope d) ≡ true
+  pub shallow : place_depth d ≤ 16
+  pub room : loop_place n + 1 ≤ l.frame
+  pub here : PlaceAt l code d p found
+  pub address : InstrsAt code (address_code (access_of l d)) found start
+  pub keep : IsAt code start (Slw (loop_place n)) kept
+  pub within : body kept q
+
 pub record ThenRow (first rest : Span) (p q : ℕ) : Type 0 where
   pub middle : ℕ
   pub here : first p middle
   pub then : rest middle q
 
--- Statements with n FORs around them, and the word of the place behind the LOOP around them, if there is one.
+-- Statements where the FORs and WITHs around them take n words of the frame, and the word of the place behind the LOOP around them, if
+-- there is one.
 abbrev mutual
   pub StatementAt : Layout → List ℕ → ℕ → Option ℕ → Statement → Span
   StatementAt l code n exit (Assign d k e) p q = AssignRow l code d k e p q
   StatementAt l code n exit (Copy d from) p q = CopyRow l code d from p q
+  StatementAt l code n exit (Text d cs) p q = TextRow l code d cs p q
   StatementAt l code n exit (Change down d k e) p q = ChangeRow l code down d k e p q
   StatementAt l code n exit (Member out d k e) p q = MemberRow l code out d k e p q
   StatementAt l code n exit (Request r given) p q = RequestRow l code r given p q
@@ -610,7 +716,8 @@ abbrev mutual
   StatementAt l code n exit Exit p q = ExitRow code exit p q
   StatementAt l code n exit Halt p q = IsAt code p (Trp 9) q
   StatementAt l code n exit Return p q = IsAt code p Rtn q
-  StatementAt l code n exit (For x k a b step body) p q = ForRow l code n x k a b step (BodyAt l code (suc n) exit body) p q
+  StatementAt l code n exit (For x k a b step body) p q = ForRow l code n x k a b step (BodyAt l code (3 + n) exit body) p q
+  StatementAt l code n exit (Inside d body) p q = InsideRow l code n d (BodyAt (holding l (shape_of l.scope d) (loop_place n)) code (suc n) exit body) p q
 
   -- one behind another
   pub BodyAt : Layout → List ℕ → ℕ → Option ℕ → Statements → Span
@@ -630,6 +737,6 @@ pub record TranslatesBy (l : Layout) (m : Resolved) (code : List ℕ) : Type 0 w
   pub body : BodyAt l code 0 None m.body start end
   pub leave : IsAt code end Rtn (length code)
 
--- the code of a program module, whose jumps have the places themselves
-abbrev pub Translates : Resolved → List ℕ → Type 0
-Translates m code = TranslatesBy (layout_of m) m code
+-- the strings and the code of a program module, whose jumps have the places themselves
+abbrev pub Translates : Resolved → List ℕ → List ℕ → Type 0
+Translates m strings code = TranslatesBy (layout_of strings m) m code

@@ -1,5 +1,7 @@
 use lil_base::{Bytes, Memory, Name, TrapKind};
+use lil_kernel::serve;
 use lil_mcode::{Event, Machine};
+use lil_volume::RamSink;
 use std::alloc::Global;
 
 // A machine at the body of a module with two data words.
@@ -60,4 +62,58 @@ fn stops(rt: HostRuntime) {
     assert!(rt; event == Event::Trap(TrapKind::Overflow) && machine.place().place == 6);
     let (_, event) = third(rt.alloc(), &WRONG).expect(&rt, "memory");
     assert!(rt; event == Event::BadCode);
+}
+
+// LIW 65535; LIW 0; SVC 3: the array is the last word of the store
+const LAST_WORD: [u8; 32] = [
+    1, 255, 255, 1, 0, 0, 0x7d, 3, 0, 0, 0, 0, 0, 0, 0, 0, 0, 0, 0, 0, 0, 0, 0, 0, 0, 0, 0, 0, 0,
+    0, 0, 0,
+];
+
+// LIW 65535; LIW 1; SVC 3: the array passes the store
+const PASSES: [u8; 32] = [
+    1, 255, 255, 1, 0, 1, 0x7d, 3, 0, 0, 0, 0, 0, 0, 0, 0, 0, 0, 0, 0, 0, 0, 0, 0, 0, 0, 0, 0, 0,
+    0, 0, 0,
+];
+
+#[test]
+fn tests_arrays(rt: HostRuntime) {
+    let (machine, event) = third(rt.alloc(), &LAST_WORD).expect(&rt, "memory");
+    assert!(rt; event == Event::Request(3) && machine.place().place == 6);
+    let (_, event) = third(rt.alloc(), &PASSES).expect(&rt, "memory");
+    assert!(rt; event == Event::BadCode);
+}
+
+// ENT 5; LAG 0; LIS 1; SVC 3; RTN
+const WRITES: [u8; 32] = [
+    0x68, 0, 5, 0x2d, 0, 0, 0x11, 0x7d, 3, 0x6a, 0, 0, 0, 0, 0, 0, 0, 0, 0, 0, 0, 0, 0, 0, 0, 0, 0,
+    0, 0, 0, 0, 0,
+];
+
+/// The data words of a module that writes them as an array, and what it shows.
+const ARRAYS: &[([u16; 2], &[u8])] = &[
+    ([72, 105], b"Hi"),
+    ([256 + 72, 30], b"H\n"),
+    ([72, 0], b"H"),
+    ([256, 72], b""),
+];
+
+// What a module with these data words shows by its first request.
+fn shown(alloc: Global, words: &[u16; 2]) -> Result<RamSink, Memory> {
+    let mut machine = begun(alloc, &WRITES)?;
+    let mut screen = RamSink::new(alloc, Bytes::new(alloc), Vec::new(alloc))?;
+    machine.set_words(1, words);
+    let (event, _) = machine.run(100);
+    if let Event::Request(number) = event {
+        serve(number, &mut machine, &mut screen).map_err(|_| Memory)?;
+    }
+    Ok(screen)
+}
+
+#[test]
+fn writes_arrays(rt: HostRuntime) {
+    for (words, wanted) in ARRAYS {
+        let screen = shown(rt.alloc(), words).expect(&rt, "memory");
+        assert!(rt; screen.written().as_slice() == *wanted && screen.calls() == 1);
+    }
 }

@@ -285,12 +285,38 @@ const CHECKED: &[(&[u8], &[u8])] = &[
     (b"IMPORT Y;", b"17: 90 NotBuilt"),
     (b"TYPE t=POINTER TO CHAR;", b"17: 90 NotBuilt"),
     (
-        b"IMPORT InOut;VAR s:PROC;BEGIN InOut.WriteString(\"a\") ",
+        b"IMPORT InOut;VAR s:PROC;h:CHAR;BEGIN InOut.Read(h) ",
         b"29: 90 NotBuilt",
     ),
     (
-        b"IMPORT InOut;BEGIN InOut.WriteString(\"a\") ",
-        b"29: 90 NotBuilt",
+        b"IMPORT InOut;VAR h:CHAR;BEGIN InOut.Read(h) ",
+        b"40: 90 NotBuilt",
+    ),
+    (b"FROM InOut IMPORT WriteString,Read;", b"40: 90 NotBuilt"),
+    (
+        b"VAR p:POINTER TO CHAR;r:RECORD c:CHAR END;BEGIN WITH r DO c:=1 END ",
+        b"69: 31 Assign",
+    ),
+    (
+        b"VAR r:RECORD c:CHAR END;BEGIN WITH r DO c:=\"a\" END;HALT(1) ",
+        b"61: 32 ArgCount",
+    ),
+    (
+        b"VAR r:RECORD c:CHAR;p:PROC END;BEGIN WITH r DO c:=\"a\" END ",
+        b"32: 90 NotBuilt",
+    ),
+    (
+        b"VAR r:RECORD c:CHAR END;BEGIN WITH r DO FOR c:=\"a\" TO \"b\" DO END END ",
+        b"54: 27 ForVariable",
+    ),
+    // strings among the data, and strings that are too long
+    (
+        b"VAR a:ARRAY[0..31998] OF CHAR;BEGIN a:=\"ab\" ",
+        b"8: 61 DataTooLong",
+    ),
+    (
+        b"VAR a:ARRAY[0..1] OF CHAR;BEGIN a:=\"abc\" ",
+        b"43: 31 Assign",
     ),
     (b"PROCEDURE P;BEGIN HALT(1) END P;", b"28: 32 ArgCount"),
 ];
@@ -739,6 +765,175 @@ const SET_TRAPS: &[(&[u8], &[u8], &[u8])] = &[
 fn sets(rt: HostRuntime) -> Result<(), Fail> {
     let around_them = (SETS_BEFORE, SETS_BEHIND);
     check_rows(&rt, rt.alloc(), b"E", around_them, SETS, SET_TRAPS)
+}
+
+/// What stands around the statements of a program W, with records in records and in arrays.
+const WITHS_BEFORE: &[u8] =
+    b"MODULE W; FROM InOut IMPORT Write, WriteCard, WriteInt; TYPE day = (mo, tu, we); point = RECORD x, y: INTEGER END; box = RECORD x, n: CARDINAL; at: point; e: ARRAY [0 .. 3] OF CARDINAL; t: BITSET; CASE d: day OF mo: w: INTEGER | tu: v: [5 .. 9] END END; VAR c, k, y: CARDINAL; i: INTEGER; r, s: box; q: point; u: RECORD END; p: ARRAY [0 .. 3] OF box; g: ARRAY day OF ARRAY [1 .. 2] OF point; BEGIN ";
+
+const WITHS_BEHIND: &[u8] = b" END W.";
+
+/// Statements with WITH that end, and behind `~` what they show.
+const WITHS: &[&[u8]] = &[
+    // the fields of a record, those of its variants too, are names inside, and not behind
+    b"WITH r DO x := 3; n := x + 1; d := tu; v := 6; w := -2 END; WriteCard(r.x, 1); WriteCard(r.n, 1); WriteCard(r.v, 1); WriteInt(r.w, 1); WriteCard(ORD(r.d), 1)~346-21",
+    b"WITH r DO t := {1, 3}; INCL(t, 2); EXCL(t, 1); IF 3 IN t THEN Write('y') END; IF t = {2, 3} THEN Write('z') END END~yz",
+    b"y := 1; WITH q DO y := 2 END; y := y + 3; WriteCard(y, 1); WriteInt(q.y, 1)~42",
+    b"WITH r DO END; WITH u DO c := 4 END; WriteCard(c, 1)~4",
+    // a WITH in another: of a record in the record, of another record, of one more of the same type, and three
+    b"r.x := 1; r.n := 2; WITH r DO WITH at DO x := -5; y := 6; WriteInt(x, 1); WriteCard(n, 1) END; WriteCard(x, 1) END; WriteInt(r.at.x, 2); WriteInt(r.at.y, 2)~-521-5 6",
+    b"WITH r DO x := 7; WITH q DO x := -3; y := -4; n := 8 END; INC(x) END; WriteCard(r.x, 1); WriteCard(r.n, 1); WriteInt(q.x, 1); WriteInt(q.y, 1); WriteCard(y, 1)~88-3-40",
+    b"WITH r DO WITH s DO x := 1; r.x := 2 END; n := x END; WriteCard(r.x, 1); WriteCard(r.n, 1); WriteCard(s.x, 1); WriteCard(s.n, 1)~2210",
+    b"WITH p[1] DO n := 3; WITH at DO x := 4; WITH g[tu, 2] DO x := 5; y := n END; WriteInt(x, 1); WriteInt(y, 1) END END; WriteInt(g[tu, 2].x, 1); WriteInt(g[tu, 2].y, 1)~4053",
+    // the place of the record stays, whatever becomes of what it was found by
+    b"c := 1; WITH p[c] DO x := 5; c := 2; x := x + 1; n := c END; WriteCard(p[1].x, 1); WriteCard(p[1].n, 1); WriteCard(p[2].x, 1); WriteCard(c, 1)~6202",
+    b"p[1].x := 2; WITH p[p[1].x] DO p[1].x := 3; n := 7 END; WriteCard(p[2].n, 1); WriteCard(p[3].n, 1)~70",
+    b"c := 0; WITH p[c] DO c := 1; WITH p[c] DO c := 2; x := 8 END; x := 9; WITH at DO c := 3; y := -1 END END; FOR c := 0 TO 2 DO WriteCard(p[c].x, 1); WriteInt(p[c].at.y, 3) END~9 -18  00  0",
+    // one behind another, in and behind a WITH
+    b"WITH r DO x := 1 END; WITH s DO x := 2 END; WITH r DO WITH s DO INC(x) END; INC(x); WITH q DO x := -7 END END; WriteCard(r.x, 1); WriteCard(s.x, 1); WriteInt(q.x, 1)~23-7",
+    // FOR in WITH, WITH in FOR, and each in the other
+    b"WITH r DO FOR c := 0 TO 3 DO e[c] := c * c; x := x + c END END; WriteCard(r.e[3], 1); WriteCard(r.x, 1); WriteCard(c, 1)~963",
+    b"WITH r DO n := 1; FOR c := 1 TO 2 DO WITH g[mo, c] DO x := n; y := c; n := n * 3 END END; x := n END; FOR c := 1 TO 2 DO WriteInt(g[mo, c].x, 1); WriteInt(g[mo, c].y, 1) END; WriteCard(r.x, 1)~11329",
+    b"FOR c := 0 TO 2 DO WITH p[c] DO FOR k := 0 TO c DO x := x + 1; e[k] := x END END END; FOR c := 0 TO 3 DO WriteCard(p[c].x, 1); WriteCard(p[c].e[1], 1) END~10223200",
+    b"FOR c := 0 TO 1 DO FOR k := 0 TO 1 DO FOR i := 0 TO 0 DO FOR y := 0 TO 1 DO WITH p[c + k] DO INC(x); WITH at DO INC(x, 2) END END END END END END; FOR c := 0 TO 3 DO WriteCard(p[c].x, 1); WriteInt(p[c].at.x, 1) END~24482400",
+    // other statements around and inside
+    b"WITH r DO WHILE x < 3 DO CASE x OF 0: d := tu | 1: d := we ELSE n := 4 END; INC(x); WriteCard(ORD(d), 1) END; REPEAT DEC(x) UNTIL x = 0; WriteCard(n, 1); WriteCard(x, 1) END~12240",
+    b"FOR c := 0 TO 2 DO CASE c OF 0: WITH r DO x := 5 END | 1: WITH s DO x := 6 END ELSE WITH r DO WITH s DO WriteCard(x, 1) END; WriteCard(x, 1) END END END~65",
+    b"q.x := 2; WITH r DO at := q; WITH at DO x := x + 1 END; s := r; p[1].at := at END; WITH s DO q := at END; WriteInt(q.x, 1); WriteInt(p[1].at.x, 1); WriteInt(r.at.x, 1)~333",
+    // EXIT out of a WITH, out of a WITH in a FOR in another, and out of a LOOP in a WITH
+    b"LOOP WITH r DO INC(x); IF x = 3 THEN EXIT END END; Write('.') END; WriteCard(r.x, 1); WITH s DO x := 7 END; WriteCard(s.x, 1)~..37",
+    b"WITH r DO LOOP FOR c := 0 TO 3 DO WITH p[c] DO n := c; IF n = 2 THEN EXIT END; WITH at DO x := 9 END END END END; n := 5 END; FOR c := 0 TO 3 DO WriteCard(p[c].n, 1); WriteInt(p[c].at.x, 1) END; WriteCard(r.n, 1)~091920005",
+    b"LOOP WITH r DO LOOP WITH s DO INC(x); IF x > 2 THEN EXIT END END END; INC(x); IF x = 2 THEN EXIT END END; Write('.') END; WriteCard(r.x, 1); WriteCard(s.x, 1)~.24",
+    // RETURN out of WITHs in a LOOP
+    b"LOOP WITH r DO INC(x); WITH p[x] DO n := 1; WriteCard(c, 1); IF c = 2 THEN RETURN END END; INC(c) END END~012",
+];
+
+/// Statements with WITH that trap: what they show before, and the trap.
+const WITH_TRAPS: &[(&[u8], &[u8], &[u8])] = &[
+    // the place is found once, before what stands inside
+    (
+        b"c := 4; Write('a'); WITH p[c] DO Write('b') END",
+        b"a",
+        b"range",
+    ),
+    (
+        b"c := 4; WITH r DO Write('a'); WITH p[c] DO Write('b') END END",
+        b"a",
+        b"range",
+    ),
+    (
+        b"c := 3; WITH p[c] DO c := 4; x := 1; Write('a'); WriteCard(p[c].x, 1) END",
+        b"a",
+        b"range",
+    ),
+    (b"WITH p[7 DIV c] DO Write('b') END", b"", b"divisor"),
+    // the fields of the record are tested as others
+    (b"WITH r DO c := 4; e[c] := 1 END", b"", b"range"),
+    (b"WITH r DO v := 6; INC(v, 4) END", b"", b"range"),
+    (b"WITH r DO WITH q DO n := 7 DIV n END END", b"", b"divisor"),
+];
+
+/// A program with so many WITHs of one record in one of another, whose innermost statements name fields of both.
+fn nested_withs(alloc: Global, count: usize) -> Result<Bytes, Fail> {
+    let mut text = Bytes::from_slice(
+        alloc,
+        b"MODULE W; FROM InOut IMPORT WriteCard; VAR r: RECORD n: CARDINAL END; s: RECORD x: CARDINAL END; BEGIN WITH r DO ",
+    )?;
+    for _ in 0..count {
+        text.extend(b"WITH s DO ")?;
+    }
+    text.extend(b"INC(x); n := x + 1")?;
+    for _ in 0..count {
+        text.extend(b" END")?;
+    }
+    text.extend(b" END; WriteCard(r.n, 1); WriteCard(s.x, 1) END W.")?;
+    Ok(text)
+}
+
+/// What statements with WITH show, and which traps they come to.
+#[test]
+fn withs(rt: HostRuntime) -> Result<(), Fail> {
+    let alloc = rt.alloc();
+    let around_them = (WITHS_BEFORE, WITHS_BEHIND);
+    check_rows(&rt, alloc, b"W", around_them, WITHS, WITH_TRAPS)?;
+    check_run(&rt, alloc, b"W", nested_withs(alloc, 1)?, b"21", None)?;
+    check_run(&rt, alloc, b"W", nested_withs(alloc, 40)?, b"21", None)
+}
+
+/// What stands around the statements of a program Y, with arrays of characters of all sorts.
+const STRINGS_BEFORE: &[u8] =
+    b"MODULE Y; FROM InOut IMPORT Write, WriteString, WriteCard; CONST word = 'word'; one = 'o'; none = ''; TYPE day = (mo, tu, we, th); name = ARRAY [0 .. 4] OF CHAR; entry = RECORD no: CARDINAL; who: name; z: CHAR END; VAR c: CARDINAL; i: INTEGER; h: CHAR; x: day; a, b: name; s: ARRAY [0 .. 0] OF CHAR; d: ARRAY day OF CHAR; o: ARRAY [0 .. 299] OF CHAR; m: ARRAY [-1 .. 1] OF ARRAY [0 .. 2] OF CHAR; r: entry; e: ARRAY [0 .. 2] OF entry; BEGIN ";
+
+const STRINGS_BEHIND: &[u8] = b" END Y.";
+
+/// Statements over strings that end, and behind `~` what they show.
+const STRINGS: &[&[u8]] = &[
+    // a string as long as its array, shorter, one shorter, empty, and of one character: the rest is cleared
+    b"a := 'ABCDE'; WriteString(a); FOR c := 0 TO 4 DO WriteCard(ORD(a[c]), 3) END~ABCDE 65 66 67 68 69",
+    b"a := 'ABCDE'; a := 'FG'; FOR c := 0 TO 4 DO WriteCard(ORD(a[c]), 3) END; WriteString(a)~ 70 71  0  0  0FG",
+    b"a := 'ABCDE'; a := 'FGHI'; WriteCard(ORD(a[3]), 1); WriteCard(ORD(a[4]), 1); WriteString(a)~730FGHI",
+    b"a := 'ABCDE'; a := ''; FOR c := 0 TO 4 DO WriteCard(ORD(a[c]), 3) END; WriteString(a); Write('.')~  0  0  0  0  0.",
+    b"a := 'ABC'; a := 'x'; FOR c := 0 TO 4 DO WriteCard(ORD(a[c]), 4) END; s := 'y'; Write(s[0]); WriteString(s); s := ''; WriteCard(ORD(s[0]), 1)~ 120   0   0   0   0yy0",
+    b"FOR c := 0 TO 299 DO o[c] := 'x' END; o := 'ab'; c := 299; WHILE (c > 0) & (o[c] = 0C) DO DEC(c) END; WriteCard(c, 1); WriteString(o)~1ab",
+    // what lies beside the array stays
+    b"m[-1] := 'abc'; m[0] := 'def'; m[1] := 'ghi'; m[0] := ''; WriteString(m[-1]); WriteString(m[0]); WriteString(m[1])~abcghi",
+    b"r.no := 7; r.who := 'whose'; r.z := 'z'; WriteCard(r.no, 1); Write(r.z); r.who := 'wh'; WriteString(r.who); WriteCard(r.no, 1); Write(r.z)~7zwh7z",
+    // constants
+    b"a := word; WriteString(a); WriteString(word); a := one; WriteString(a); WriteString(one); Write(one); a := none; WriteString(a); WriteString(none); h := one; Write(h)~wordwordoooo",
+    // indexes of all types, and parts
+    b"d := 'abcd'; FOR x := mo TO th DO Write(d[x]) END; d := 'e'; WriteString(d); WriteCard(ORD(d[th]), 1)~abcde0",
+    b"m[-1] := 'abc'; m[0] := 'd'; m[1] := 'ef'; m[0, 2] := 'z'; FOR i := -1 TO 1 DO WriteString(m[i]); Write(',') END; WriteCard(ORD(m[0, 1]), 1)~abc,d,ef,0",
+    b"FOR c := 0 TO 2 DO e[c].who := 'name'; e[c].who[4] := CHR(48 + c) END; e[1].who := 'x'; FOR c := 0 TO 2 DO WriteString(e[c].who); Write(' ') END~name0 x name2 ",
+    b"a := 'AB'; b := a; a := 'CDE'; WriteString(b); WriteString(a); r.who := a; e[2] := r; WriteString(e[2].who)~ABCDECDE",
+    // WriteString shows what stands before the first 0C, or the whole array, and strings
+    b"WriteString(a); Write('.'); a := 'ABCDE'; a[2] := 0C; WriteString(a); a[2] := 36C; WriteString(a); a[0] := 0C; WriteString(a)~.ABAB\nDE",
+    b"WriteString('it'); WriteString(''); WriteString(\"'s\"); WriteString('x'); WriteString(' '); Write('.')~it'sx .",
+    b"FOR c := 1 TO 3 DO WriteString('ab'); WriteString('') END; IF c = 3 THEN WriteString('yes') ELSE WriteString('no') END~abababyes",
+    b"a := 'x\xE4'; WriteString(a); WriteCard(ORD(a[1]), 4)~x\xE4 228",
+    // in a WITH, whose place stays, and in a FOR in it
+    b"c := 1; WITH e[c] DO c := 2; who := 'abcde'; z := '!'; who := 'ab'; WriteString(who); Write(z); WITH r DO who := word; WriteString(who) END; WriteString(who) END; WriteString(e[2].who); WriteString(e[1].who); WriteString(r.who)~ab!wordababword",
+    b"WITH r DO FOR c := 1 TO 3 DO who := 'abcde'; who[c] := 0C; WriteString(who); Write('.') END END~a.ab.abc.",
+];
+
+/// Statements over strings that trap: what they show before, and the trap.
+const STRING_TRAPS: &[(&[u8], &[u8], &[u8])] = &[
+    (
+        b"i := 2; Write('a'); m[i] := 'abc'; Write('b')",
+        b"a",
+        b"range",
+    ),
+    (b"i := -2; m[i] := ''", b"", b"range"),
+    (b"c := 3; e[c].who := word", b"", b"range"),
+    (
+        b"WriteString('a'); i := 2; WriteString(m[i])",
+        b"a",
+        b"range",
+    ),
+    (
+        b"c := 3; WITH r DO who := 'x'; WriteString(who); e[c].who := 'y' END",
+        b"x",
+        b"range",
+    ),
+    (b"a := 'abcde'; c := 5; a[c] := 'f'", b"", b"range"),
+    (
+        b"WriteString('ab'); HALT; WriteString('c')",
+        b"ab",
+        b"halted",
+    ),
+];
+
+/// A program whose variables and strings have 32,000 words.
+const ALL_WORDS: &[u8] =
+    b"MODULE Y; FROM InOut IMPORT WriteString; VAR a: ARRAY [0 .. 31996] OF CHAR; BEGIN a := 'ab'; WriteString(a); WriteString('c') END Y.";
+
+/// What statements over strings show, and which traps they come to.
+#[test]
+fn strings(rt: HostRuntime) -> Result<(), Fail> {
+    let alloc = rt.alloc();
+    let around_them = (STRINGS_BEFORE, STRINGS_BEHIND);
+    check_rows(&rt, alloc, b"Y", around_them, STRINGS, STRING_TRAPS)?;
+    let text = Bytes::from_slice(alloc, ALL_WORDS)?;
+    check_run(&rt, alloc, b"Y", text, b"abc", None)
 }
 
 /// So many assignments of 10 bytes of code each, in a module that has 4 bytes beside them.

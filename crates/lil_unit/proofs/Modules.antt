@@ -31,27 +31,30 @@ lies_within ts (w ∷ vs) first (suc x) v h e =
     let rest : map offset_of vs ≡ offsets_from (first + words (shape_declared ts w)) (map (shape_declared ts) vs) = cc in
     omega (arith, lies_within ts vs (first + words (shape_declared ts w)) x v rest e)
 
-pub framed : (ts : List RShape) (vs : List RDeclared) (m : Resolved) (words : ℕ) (a b c : Draft) → words ≡ frame_words m.body → Emits (empty ts vs) a (Doing (λ w. Ent words)) → Emits a b (Body 0 None m.body) → Emits b c (Doing (λ w. Rtn))
-    → Emits (empty ts vs) c (Framed m)
-framed ts vs m words a b c is enter body leave =
-    emits_as (empty ts vs) c _ (Framed m)
+pub framed : (ts : List RShape) (vs : List RDeclared) (all : ℕ) (m : Resolved) (words : ℕ) (a b c : Draft) → words ≡ frame_words m.body → Emits (empty ts vs all) a (Doing (λ w. Ent words)) → Emits a b (Body 0 None m.body) → Emits b c (Doing (λ w. Rtn))
+    → Emits (empty ts vs all) c (Framed m)
+framed ts vs all m words a b c is enter body leave =
+    emits_as (empty ts vs all) c _ (Framed m)
     (λ x t. record { start = length a.bytes; end = length b.bytes; enter = subst (λ (w : ℕ). IsAt x.code 0 (Ent w) (length a.bytes)) is t.0; body = t.1.0; leave = t.1.1 })
-    (emits_then (empty ts vs) a c _ _ enter (emits_then a b c _ _ body leave))
+    (emits_then (empty ts vs all) a c _ _ enter (emits_then a b c _ _ body leave))
 
 module _ (r : RModule) (d : Draft) (sound : IsSound (module_of r)) (measured : IsMeasured r) (few : r.words ≤ 32000) (frame : frame_words (module_of r).body ≤ 65535)
-    (emitted : Emits (empty r.shapes r.variables) d (Framed (module_of r))) where
+    (emitted : Emits (empty r.shapes r.variables r.words) d (Framed (module_of r))) where
   abbrev m : Resolved
   m = module_of r
 
   abbrev tables : Tables
-  tables = record { shapes = r.shapes; variables = r.variables }
+  tables = record { shapes = r.shapes; variables = r.variables; words = r.words; held = [] }
 
-  described : (target : ℕ → ℕ) → Describe tables (layout_by target m)
+  described : (target : ℕ → ℕ) → Describe tables (layout_by target d.strings m)
   described target = record {
     measured = measured.shapes;
     shapes = refl;
     offsets = sym measured.offsets;
     within = λ x v at. omega (arith, lies_within r.shapes r.variables 0 x v measured.offsets at, measured.words, few);
+    words = sym measured.words;
+    held = refl;
+    held_shapes = refl;
   }
 
   abbrev code : List ℕ
@@ -60,7 +63,7 @@ module _ (r : RModule) (d : Draft) (sound : IsSound (module_of r)) (measured : I
   settled : (ℕ → ℕ) → Final
   settled target = record {
     tables = tables;
-    layout = layout_by target m;
+    layout = layout_by target d.strings m;
     described = described target;
     framed = frame;
     word = settled_word d.places;
@@ -68,10 +71,10 @@ module _ (r : RModule) (d : Draft) (sound : IsSound (module_of r)) (measured : I
   }
 
   -- where each place has its word, the settled code is a translation
-  settled_translates : (target : ℕ → ℕ) → ((l q : ℕ) → slice_get d.places l ≡ Some (Some q) → q % 65536 ≡ target q) → TranslatesBy (layout_by target m) m code
+  settled_translates : (target : ℕ → ℕ) → ((l q : ℕ) → slice_get d.places l ≡ Some (Some q) → q % 65536 ≡ target q) → TranslatesBy (layout_by target d.strings m) m code
   unfolding settled
   settled_translates target words =
-      let fits : Fits d (settled target) = record { same = sym emitted.same; rest = []; begins = sym (append-nil code); placed = λ l q h. ap word_in h ∙ words l q h } in
+      let fits : Fits d (settled target) = record { same = sym emitted.same; more = []; strings = sym (append-nil d.strings); rest = []; begins = sym (append-nil code); placed = λ l q h. ap word_in h ∙ words l q h } in
       let t = emitted.meant (settled target) fits in
       record {
         start = t.start;
@@ -82,11 +85,11 @@ module _ (r : RModule) (d : Draft) (sound : IsSound (module_of r)) (measured : I
       }
 
   pub settled_long : length code ≡ code_size m
-  settled_long = module_long (layout_by cut m) m code (settled_translates cut (λ l q h. refl))
+  settled_long = module_long (layout_by cut d.strings m) m code (settled_translates cut (λ l q h. refl))
 
   pub draft_long : length d.bytes ≡ code_size m
   draft_long = sym (written_long (settled_word d.places) d.bytes d.jumps) ∙ settled_long
 
   -- where the code is short, that is with the places as they are
-  pub exact : ((l q : ℕ) → slice_get d.places l ≡ Some (Some q) → q ≤ 32767) → Translates m code
+  pub exact : ((l q : ℕ) → slice_get d.places l ≡ Some (Some q) → q ≤ 32767) → Translates m d.strings code
   exact small = settled_translates exactly (λ l q h. omega (arith, small l q h))

@@ -1,6 +1,7 @@
 //! The code of a program module: its frame, its statements, and the return.
 
-ghost use Rattle.std.specs.Prelude.{◌≡◌, ◌<◌, ◌≤◌, ℕ, length, min, IfOk, Err};
+ghost use Rattle.std.specs.Prelude.{◌≡◌, ◌+◌, ◌<◌, ◌≤◌, ℕ, length, min, IfOk, Err};
+ghost use Rattle.lil_resolved.specs.Shapes.{all_words};
 ghost use Rattle.lil_resolved.specs.Views.{IsMeasured, module_of};
 ghost use Rattle.lil_resolved.specs.Sizes as spec;
 ghost use Rattle.lil_resolved.specs.Sizes.{IsSound};
@@ -16,6 +17,14 @@ use lil_resolved::RModule;
 use lil_stmt::{Around, emit_body, frame_words};
 use std::alloc::Global;
 
+/// The code of a program module, and the words of the strings that lie behind the module's variables, one a character, or a
+/// 0 for an empty string.
+#[derive(Drop)]
+pub struct ModuleCode {
+    pub code: Bytes,
+    pub strings: Vec<u16>,
+}
+
 /// How many bytes a module's code may have.
 const LONGEST: usize = 32_767;
 
@@ -28,29 +37,31 @@ fn counted(bytes: usize) -> u32
 
 /// The code of a program module, with labels.
 fn emit_module<'m>(alloc: Global, m: &'m RModule) -> Result<CodeBuffer<'m>, Memory>
+    requires { m.now.words ≤ 32000 }
     ensures frame { IfOk result (λ code. spec.frame_words (module_of m.now).body ≤ 65535) }
-    ensures emits { IfOk result (λ code. Emits (empty m.now.shapes m.now.variables) code (Framed (module_of m.now))) }
+    ensures emits { IfOk result (λ code. Emits (empty m.now.shapes m.now.variables m.now.words) code (Framed (module_of m.now))) }
 {
     let body = m.body.as_slice();
     let around = Around {
-        fors: 0,
+        words: 0,
         exit: None,
     };
-    let mut code = CodeBuffer::new(alloc, m.shapes.as_slice(), m.variables.as_slice());
+    let mut code = CodeBuffer::new(alloc, m.shapes.as_slice(), m.variables.as_slice(), m.words);
     code.put(Instr::Ent(frame_words(body)?))?;
     emit_body(&mut code, body, around)?;
     code.put(Instr::Rtn)?;
     Ok(code)
 }
 
-/// The code of a program module, where it has at most 32,767 bytes.
-pub fn generate(alloc: Global, m: &RModule) -> Result<Bytes, GenStop>
+/// The code and the strings of a program module, where the code has at most 32,767 bytes.
+pub fn generate(alloc: Global, m: &RModule) -> Result<ModuleCode, GenStop>
     requires sound { IsSound (module_of m.now) }
     requires measured { IsMeasured m.now }
     requires few { m.now.words ≤ 32000 }
-    ensures translates { IfOk result (λ code. Translates (module_of m.now) code) }
-    ensures long { IfOk result (λ code. length code ≡ spec.code_size (module_of m.now)) }
-    ensures short { IfOk result (λ code. spec.code_size (module_of m.now) ≤ 32767) }
+    ensures translates { IfOk result (λ made. Translates (module_of m.now) made.strings.items made.code) }
+    ensures few { IfOk result (λ made. all_words (module_of m.now).variables + length made.strings.items ≤ 32000) }
+    ensures long { IfOk result (λ made. length made.code ≡ spec.code_size (module_of m.now)) }
+    ensures short { IfOk result (λ made. spec.code_size (module_of m.now) ≤ 32767) }
     ensures too_long { (bytes : ℕ) → result ≡ Err (GenStop.CodeTooLong bytes) → (32767 < spec.code_size (module_of m.now)) × (bytes ≡ min (spec.code_size (module_of m.now)) 4294967295) }
 {
     let code = emit_module(alloc, m)?;
@@ -60,5 +71,8 @@ pub fn generate(alloc: Global, m: &RModule) -> Result<Bytes, GenStop>
             bytes: counted(bytes),
         });
     }
-    Ok(code.settle(alloc)?)
+    Ok(ModuleCode {
+        code: code.settle(alloc)?,
+        strings: code.strings(alloc)?,
+    })
 }

@@ -4,5 +4,5 @@
 mod code;
 mod stop;
 
-pub use code::generate;
+pub use code::{ModuleCode, generate};
 pub use stop::GenStop;

@@ -76,7 +76,7 @@ for_each-returns-clause-said t c = of_for c.args.env.now c.args.looping c.args.h
     (is_given _ c.in_ok-count-2.ensures.ok.1 c.statements-body.ensures.said) c.counted.ensures
 
 pub with-returns-clause-said : goal.with-returns-clause-said
-with-returns-clause-said t c = of_with c.args.env.now c.args.looping c.args.at c.args.designator.now c.args.body.now c.as_slice.result.now c.note.ensures c.in_ok-found.ensures (said_to c.record_of-opened.ensures c.in_ok-opened.ensures.ok.0) (search rules)
+with-returns-clause-said t c = of_with c.args.env.now c.args.looping c.args.at c.args.designator.now c.args.body.now c.as_slice.result.now c.in_ok-found.ensures (said_to c.record_of-opened.ensures c.in_ok-opened.ensures.ok.0) (search rules)
     c.as_slice.ensures (is_given _ c.in_ok-opened.ensures.ok.1 c.statements-body.ensures.said) c.with_record.ensures
 
 pub statement-returns-in-Assign-clause-said : goal.statement-returns-in-Assign-clause-said

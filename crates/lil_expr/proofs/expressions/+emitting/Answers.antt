@@ -2,7 +2,7 @@ use Rattle.std.proofs.Common.{◌≡◌, List, ap, sym, ◌∙◌, subst, OnOk, 
 use Rattle.lil_base.specs.Words.{Integer}
 use Rattle.lil_resolved.specs.Kinds.{Kind, OfWhole}
 use Rattle.lil_resolved.specs.Resolved.{Expression, kind_of}
-use Rattle.lil_resolved.specs.Views.{base_view, kind_view, function_of, expression_of, selector_of, member_of}
+use Rattle.lil_resolved.specs.Views.{base_view, kind_view, root_view, function_of, expression_of, selector_of, member_of}
 use Rattle.lil_resolved.specs.Forms.{field_is, index_is, one_is, chain_is, apply_is, set_is, single_is, span_is}
 use Rattle.lil_resolved.specs.declared.resolved.RExpr.{RExpr}
 use Rattle.lil_resolved.specs.declared.resolved.ROperation.{ROperation, out-ROperation}
@@ -17,7 +17,7 @@ use Rattle.lil_expr.specs.Generating.{Value, JoiningAll, OperatingAll, aim_of}
 use Rattle.lil_expr.proofs.Forms.{one_emitted, chain_emitted, apply_emitted}
 use Rattle.lil_expr.proofs.Chains.{next_operation, short_operation, two_operation}
 use Rattle.lil_expr.proofs.Sets.{tested_emitted, single_joins, span_joins, next_member, set_emitted}
-use Rattle.lil_expr.proofs.Placing.{variable_found, field_selected, element_selected, next_selector, all_selectors}
+use Rattle.lil_expr.proofs.Placing.{field_selected, element_selected, next_selector, all_selectors}
 use Rattle.lil_expr.proofs.expressions.+emitting.Goals as goal
 
 pub emit_expression-returns-in_ok-emit_expression-in-One : goal.emit_expression-returns-in_ok-emit_expression-in-One
@@ -92,13 +92,10 @@ pub emit_operations-loop-operation-preserved : goal.emit_operations-loop-operati
 emit_operations-loop-operation-preserved t c =
     next_operation c.args.operations.now c.loop-operation.operation-index c.operation-item.result _ _ _ c.loop-operation-test.true c.operation-item.is c.loop-operation.invariant c.in_ok-emit_operation.ensures
 
-pub emit_place-loop-selector-init : goal.emit_place-loop-selector-init
-emit_place-loop-selector-init t c = variable_found (out-RPlace c.args.of.now).number c.variable-variable.result c.args.code.now c.variable-variable.ensures
-
 pub emit_place-loop-selector-preserved : goal.emit_place-loop-selector-preserved
 emit_place-loop-selector-preserved t c =
-    next_selector c.as_slice-selectors.result.now c.loop-selector.selector-index (out-RPlace c.args.of.now).number c.selector-item.result (access_view c.loop-selector.at.access) (access_view c.in_ok-at.at.access) c.loop-selector.at.shape c.in_ok-at.at.shape
-    _ _ _ c.loop-selector-test.true c.selector-item.is c.loop-selector.invariant c.in_ok-at.ensures
+    next_selector c.as_slice-selectors.result.now c.loop-selector.selector-index (root_view (out-RPlace c.args.of.now).root) c.selector-item.result (access_view c.loop-selector.at.access) (access_view c.in_ok-at-2.at.access) c.loop-selector.at.shape c.in_ok-at-2.at.shape
+    _ _ _ c.loop-selector-test.true c.selector-item.is c.loop-selector.invariant c.in_ok-at-2.ensures
 
 pub emit_place-returns : goal.emit_place-returns
 emit_place-returns t c =

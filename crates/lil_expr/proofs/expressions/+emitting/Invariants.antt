@@ -1,7 +1,6 @@
 use Rattle.std.proofs.Common.{map, take}
 use Rattle.lil_resolved.specs.declared.resolved.RPlace.{out-RPlace}
-use Rattle.lil_resolved.specs.Resolved.{Variable}
-use Rattle.lil_resolved.specs.Views.{kind_view, selected, selector_of}
+use Rattle.lil_resolved.specs.Views.{kind_view, root_view, selected, selector_of}
 use Rattle.lil_labels.specs.Drafts.{Emits}
 use Rattle.lil_expr.specs.Accesses.{access_view}
 use Rattle.lil_expr.specs.Generating.{Found, JoiningAll, OperatingAll}
@@ -15,6 +14,6 @@ invariant-emit_operations-loop-operation l = Emits l.initial.code l.code (Operat
 abbrev pub invariant-emit_members-loop-member : goal.invariant-emit_members-loop-member
 invariant-emit_members-loop-member l = Emits l.initial.code l.code (JoiningAll (kind_view l.kind) (take l.member-index l.members))
 
--- the code so far is that of the variable with the selectors so far
+-- the code so far is that of the root with the selectors so far
 abbrev pub invariant-emit_place-loop-selector : goal.invariant-emit_place-loop-selector
-invariant-emit_place-loop-selector l = Emits l.initial.code l.code (Found (selected (Variable (out-RPlace l.of).number) (map selector_of (take l.selector-index l.selectors))) (access_view l.at.access) l.at.shape)
+invariant-emit_place-loop-selector l = Emits l.fn.code l.code (Found (selected (root_view (out-RPlace l.of).root) (map selector_of (take l.selector-index l.selectors))) (access_view l.at.access) l.at.shape)

@@ -6,14 +6,14 @@ use Rattle.lil_stmt.proofs.statements.+emitting.Given as goal
 
 -- with the code of what is left behind it, the code so far is that of the whole
 abbrev pub invariant-emit_body-loop-statement : goal.invariant-emit_body-loop-statement
-invariant-emit_body-loop-statement l = Emits l.initial.code l.code (Awaiting l.around.fors l.around.exit (statements_of (drop l.statement-index l.body)) (statements_of l.body))
+invariant-emit_body-loop-statement l = Emits l.initial.code l.code (Awaiting l.around.words l.around.exit (statements_of (drop l.statement-index l.body)) (statements_of l.body))
 
 abbrev pub invariant-emit_guards-loop-guard : goal.invariant-emit_guards-loop-guard
-invariant-emit_guards-loop-guard l = Emits l.initial.code l.code (Turning l.around.fors l.around.exit l.end (guards_before (drop l.guard-index l.guards)) (guards_before l.guards))
+invariant-emit_guards-loop-guard l = Emits l.initial.code l.code (Turning l.around.words l.around.exit l.end (guards_before (drop l.guard-index l.guards)) (guards_before l.guards))
 
 -- the arms so far, and their labels
 abbrev pub invariant-emit_arms-loop-arm : goal.invariant-emit_arms-loop-arm
 invariant-emit_arms-loop-arm l = record {
   many : length l.labels.items ≡ l.arm-index;
-  emits : Emits l.fn.code l.code (Each (ArmBody l.around.fors l.around.exit l.leave) (paired (take l.arm-index l.arms) l.labels.items));
+  emits : Emits l.fn.code l.code (Each (ArmBody l.around.words l.around.exit l.leave) (paired (take l.arm-index l.arms) l.labels.items));
 }

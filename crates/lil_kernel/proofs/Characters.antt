@@ -1,0 +1,117 @@
+-- The characters of an array from one on, and what WriteString is given by its two words.
+use Rattle.std.proofs.Common.{◌≡◌, ◌≢◌, ℕ, suc, ◌+◌, ◌-◌, ◌%◌, ◌==◌, ◌<◌, ◌≤◌, Bool, true, false, if◌then◌else◌, List, [], ◌∷◌, ◌++◌, length, map, take, reverse, slice_get, Some, refl, sym, ap, ◌∙◌, subst, arith, append_assoc}
+use Rattle.std.proofs.lemmas.Bool.{leb-true, ne_eqb}
+use Rattle.std.proofs.lemmas.List.{append-nil}
+use Rattle.std.proofs.lemmas.Option.{get_or_from_slice_get}
+use Rattle.lil_asm.specs.Requests.{request_words}
+use Rattle.lil_mcode.specs.Table.{array_lies}
+use Rattle.lil_meaning.specs.World.{Given, Single, Characters, byte_of, before_end, characters_at, array_at, given_by, piece_of, shown_by, first_word, second_word, first_text}
+
+-- what so many words of a store show from one on
+abbrev pub shown_from : List ℕ → ℕ → ℕ → List ℕ
+shown_from store at n = map byte_of (before_end (characters_at store at n))
+
+first_shown : (store : List ℕ) (at n w : ℕ) → slice_get store at ≡ Some w → shown_from store at (suc n) ≡ map byte_of (before_end (w % 256 ∷ characters_at store (suc at) n))
+first_shown store at n w here = ap (λ (x : ℕ). map byte_of (before_end (x % 256 ∷ characters_at store (suc at) n))) (get_or_from_slice_get store at w 0 here)
+
+-- nothing from the end on
+pub ends : (store : List ℕ) (at n w : ℕ) → slice_get store at ≡ Some w → w % 256 ≡ 0 → shown_from store at (suc n) ≡ []
+ends store at n w here end =
+    first_shown store at n w here
+    ∙ ap (λ (c : ℕ). map byte_of (before_end (c ∷ characters_at store (suc at) n))) end
+
+by_test : (c : ℕ) (cs : List ℕ) (test : Bool) → test ≡ false → map byte_of (if test then [] else c ∷ before_end cs) ≡ byte_of c ∷ map byte_of (before_end cs)
+by_test c cs false h = refl
+by_test c cs true h = cc
+
+-- one character, and those behind it
+pub goes_on : (store : List ℕ) (at n w : ℕ) → slice_get store at ≡ Some w → w % 256 ≢ 0 → shown_from store at (suc n) ≡ byte_of (w % 256) ∷ shown_from store (suc at) n
+goes_on store at n w here more =
+    let no : (w % 256 == 0) ≡ false = ne_eqb (w % 256) 0 more in
+    first_shown store at n w here ∙ by_test (w % 256) (characters_at store (suc at) n) (w % 256 == 0) no
+
+-- one more character comes to the text, and the others are left
+pub next_shown : (store text whole : List ℕ) (at end w : ℕ) → slice_get store at ≡ Some w → w % 256 ≢ 0 → at < end
+    → text ++ shown_from store at (end - at) ≡ whole → (text ++ byte_of (w % 256) ∷ []) ++ shown_from store (at + 1) (end - (at + 1)) ≡ whole
+next_shown store text whole at end w here more left before =
+    let n : ℕ = end - (at + 1) in
+    let one : end - at ≡ suc n = omega arith in
+    let next : at + 1 ≡ suc at = omega arith in
+    append_assoc text (byte_of (w % 256) ∷ []) (shown_from store (at + 1) n)
+    ∙ ap (λ (k : ℕ). text ++ byte_of (w % 256) ∷ shown_from store k n) next
+    ∙ ap (λ (t : List ℕ). text ++ t) (sym (goes_on store at n w here more))
+    ∙ ap (λ (k : ℕ). text ++ shown_from store at k) (sym one)
+    ∙ before
+
+-- the text is whole at an end, and where no word is left
+pub ended : (store text whole : List ℕ) (at end w : ℕ) → slice_get store at ≡ Some w → w % 256 ≡ 0 → at < end
+    → text ++ shown_from store at (end - at) ≡ whole → text ≡ whole
+ended store text whole at end w here none left before =
+    let one : end - at ≡ suc (end - (at + 1)) = omega arith in
+    sym (append-nil text)
+    ∙ ap (λ (t : List ℕ). text ++ t) (sym (ends store at (end - (at + 1)) w here none))
+    ∙ ap (λ (k : ℕ). text ++ shown_from store at k) (sym one)
+    ∙ before
+
+pub none_left : (store text whole : List ℕ) (at end : ℕ) → end ≤ at → text ++ shown_from store at (end - at) ≡ whole → text ≡ whole
+none_left store text whole at end past before =
+    let none : end - at ≡ 0 = omega arith in
+    sym (append-nil text) ∙ ap (λ (k : ℕ). text ++ shown_from store at k) (sym none) ∙ before
+
+-- WriteString has two words: the array's address and the number of its last element
+two_words : (r n : ℕ) → r ≡ 3 → request_words r ≡ Some n → n ≡ 2
+two_words r n is has = let two : Some 2 ≡ Some n = ap request_words (sym is) ∙ has in cc
+
+abbrev IsGiven : List ℕ → ℕ → ℕ → ℕ → Type 0
+IsGiven stack count x y = (x ≡ first_word (map Single (reverse (take count stack)))) × (y ≡ second_word (map Single (reverse (take count stack))))
+
+lies_by : (stack : List ℕ) (address high : ℕ) → 2 ≤ length stack → array_lies 3 stack ≡ true → IsGiven stack 2 address high → address + high ≤ 65535
+lies_by [] address high two lies given = absurd (omega arith)
+lies_by (y ∷ []) address high two lies given = absurd (omega arith)
+lies_by (y ∷ x ∷ stack) address high two lies given =
+    let within : x + y ≤ 65535 = leb-true (x + y) 65535 lies in
+    omega (arith, given.0, given.1)
+
+pub string_lies : (r n count address high : ℕ) (stack : List ℕ) → r ≡ 3 → request_words r ≡ Some n → n ≤ length stack → array_lies r stack ≡ true
+    → request_words r ≡ Some count → address ≡ first_word (map Single (reverse (take count stack)))
+    → high ≡ second_word (map Single (reverse (take count stack))) → address + high ≤ 65535
+string_lies r n count address high stack is has there lies own first second =
+    let Given_by : ℕ → Type 0 = λ k. IsGiven stack k address high in
+    lies_by stack address high (omega (arith, two_words r n is has)) (ap (λ (k : ℕ). array_lies k stack) (sym is) ∙ lies) (subst Given_by (two_words r count is own) (first, second))
+
+shown_by_two : (stack store : List ℕ) (address high : ℕ) → 2 ≤ length stack → IsGiven stack 2 address high
+    → map byte_of (before_end (characters_at store address (suc high))) ≡ piece_of 3 (given_by 3 store (reverse (take 2 stack)))
+shown_by_two [] store address high two given = absurd (omega arith)
+shown_by_two (y ∷ []) store address high two given = absurd (omega arith)
+shown_by_two (y ∷ x ∷ stack) store address high two given =
+    ap (λ (k : ℕ). map byte_of (before_end (characters_at store k (suc high)))) given.0
+    ∙ ap (λ (k : ℕ). map byte_of (before_end (characters_at store x (suc k)))) given.1
+
+pub string_shown : (r n count address high : ℕ) (stack store store' : List ℕ) → r ≡ 3 → request_words r ≡ Some n → n ≤ length stack
+    → request_words r ≡ Some count → address ≡ first_word (map Single (reverse (take count stack)))
+    → high ≡ second_word (map Single (reverse (take count stack))) → store' ≡ store
+    → map byte_of (before_end (characters_at store' address (suc high))) ≡ piece_of r (given_by r store (reverse (take n stack)))
+string_shown r n count address high stack store store' is has there own first second same =
+    let Given_by : ℕ → Type 0 = λ k. IsGiven stack k address high in
+    let two = two_words r n is has in
+    ap (λ (s : List ℕ). map byte_of (before_end (characters_at s address (suc high)))) same
+    ∙ shown_by_two stack store address high (omega arith) (subst Given_by (two_words r count is own) (first, second))
+    ∙ ap (λ (k : ℕ). piece_of k (given_by k store (reverse (take 2 stack)))) (sym is)
+    ∙ ap (λ (k : ℕ). piece_of r (given_by r store (reverse (take k stack)))) (sym two)
+
+-- each other request is given its words
+words_given : (r : ℕ) (store words : List ℕ) → r ≢ 3 → shown_by r (first_word (map Single words)) (second_word (map Single words)) ≡ piece_of r (given_by r store words)
+words_given r store words other =
+    sym (ap (λ (string : Bool).
+    let given : List Given = if string then Characters (array_at store words) ∷ [] else map Single words in
+    if string then map byte_of (before_end (first_text given)) else shown_by r (first_word given) (second_word given))
+    (ne_eqb r 3 other))
+
+pub words_shown : (r count n x y : ℕ) (stack store : List ℕ) → r ≢ 3 → count ≡ n
+    → x ≡ first_word (map Single (reverse (take count stack))) → y ≡ second_word (map Single (reverse (take count stack)))
+    → shown_by r x y ≡ piece_of r (given_by r store (reverse (take n stack)))
+words_shown r count n x y stack store other same first second =
+    let given : ℕ → List Given = λ k. map Single (reverse (take k stack)) in
+    ap (λ (k : ℕ). shown_by r k y) first ∙ ap (shown_by r (first_word (given count))) second
+    ∙ ap (λ (k : ℕ). shown_by r (first_word (given k)) (second_word (given k))) same
+    ∙ words_given r store (reverse (take n stack)) other

@@ -1,0 +1,88 @@
+-- Labels and strings that are added to a draft.
+use Rattle.std.proofs.Common.{◌≡◌, ℕ, zero, suc, ◌+◌, ◌<◌, true, List, [], ◌∷◌, ◌++◌, length, get_or, Option, Some, None, refl, sym, ap, ◌∙◌, subst, arith, length-append, append_assoc}
+use Rattle.std.specs.Prelude.{slice_get}
+use Rattle.std.proofs.lemmas.Option.{slice_get_within}
+use Rattle.std.proofs.lemmas.List.{get_or_append_left, get_or-append-add}
+use Rattle.lil_resolved.specs.Sound.{is_text}
+use Rattle.lil_table.specs.Rows.{Layout, HasText, text_words}
+use Rattle.lil_labels.specs.declared.buffer.Jump.{Jump}
+use Rattle.lil_labels.specs.Entries.{get_front, get_last}
+use Rattle.lil_labels.specs.Tables.{Tables}
+use Rattle.lil_labels.specs.Drafts.{Draft, Emits, Nothing, Makes, words_of, Saying}
+
+-- ---- labels
+module _ (tables : Tables) (strings bytes : List ℕ) (places more : List (Option ℕ)) (js : List Jump) (old : Draft) (view : record { tables = tables; strings = strings; bytes = bytes; places = places; jumps = js } ≡ old) (is : more ≡ places ++ None ∷ []) where
+  abbrev labelled : Draft
+  labelled = record { tables = tables; strings = strings; bytes = bytes; places = more; jumps = js }
+
+  kept : (l : ℕ) (o : Option ℕ) → slice_get places l ≡ Some o → slice_get more l ≡ Some o
+  kept l o h = ap (λ (ps : List (Option ℕ)). slice_get ps l) is ∙ get_front places (None ∷ []) l (slice_get_within places l o h) ∙ h
+
+  pub label_emits : Emits old labelled Nothing
+  label_emits =
+      subst (λ (d : Draft). Emits d labelled Nothing) view
+      (record {
+        same = refl;
+        keeps = λ l h. kept l None h;
+        made = omega (arith, ap (λ (ps : List (Option ℕ)). length ps) is, length-append places (None ∷ []));
+        back = λ x fits. record { same = fits.same; more = fits.more; strings = fits.strings; rest = fits.rest; begins = fits.begins; placed = λ l q h. fits.placed l q (kept l (Some q) h) };
+        meant = λ x fits. refl;
+      })
+
+  pub label_made : (l : ℕ) → l ≡ length places → Makes old labelled l
+  label_made l e =
+      subst (λ (d : Draft). Makes d labelled l) view
+      (record { is = e; fresh = ap (slice_get more) e ∙ ap (λ (ps : List (Option ℕ)). slice_get ps (length places)) is ∙ get_last places None })
+
+-- ---- strings
+words_long : (cs : List ℕ) → length (words_of cs) ≡ text_words cs
+words_long [] = refl
+words_long (c ∷ cs) = omega arith
+
+words_same : (cs : List ℕ) (i : ℕ) → i < text_words cs → get_or (words_of cs) i 0 ≡ get_or cs i 0
+words_same [] zero h = refl
+words_same [] (suc i) h = refl
+words_same (c ∷ cs) i h = refl
+
+text_stands : (l : Layout) (strings more cs : List ℕ) (offset : ℕ) → l.strings ≡ strings ++ (words_of cs ++ more) → offset ≡ l.words + length strings → is_text cs ≡ true → HasText l cs offset
+text_stands l strings more cs offset begins is sound =
+    let ws = words_of cs in
+    record {
+      text = sound;
+      at = length strings;
+      is = is;
+      inside = omega (arith, ap (λ (xs : List ℕ). length xs) begins, length-append strings (ws ++ more), length-append ws more, words_long cs);
+      words = λ i h.
+          ap (λ (xs : List ℕ). get_or xs (length strings + i) 0) begins
+          ∙ get_or-append-add strings (ws ++ more) i 0
+          ∙ get_or_append_left ws more 0 i (omega (arith, h, words_long cs))
+          ∙ words_same cs i h;
+    }
+
+module _ (tables : Tables) (strings bytes all : List ℕ) (places : List (Option ℕ)) (js : List Jump) (old : Draft) (view : record { tables = tables; strings = strings; bytes = bytes; places = places; jumps = js } ≡ old) where
+  abbrev said : Draft
+  said = record { tables = tables; strings = all; bytes = bytes; places = places; jumps = js }
+
+  pub string_says : (cs ws : List ℕ) (offset : ℕ) → ws ≡ words_of cs → all ≡ strings ++ ws → offset ≡ tables.words + length strings → Emits old said (Saying cs offset)
+  string_says cs ws offset made is lies =
+      let grown : all ≡ strings ++ words_of cs = is ∙ ap (λ (ws : List ℕ). strings ++ ws) made in
+      subst (λ (d : Draft). Emits d said (Saying cs offset)) view
+      (record {
+        same = refl;
+        keeps = λ l h. h;
+        made = omega arith;
+        back = λ x fits. record {
+          same = fits.same;
+          more = words_of cs ++ fits.more;
+          strings = fits.strings ∙ ap (λ (ws : List ℕ). ws ++ fits.more) grown ∙ append_assoc strings (words_of cs) fits.more;
+          rest = fits.rest;
+          begins = fits.begins;
+          placed = fits.placed;
+        };
+        meant = λ x fits. (
+          refl,
+          text_stands x.layout strings fits.more cs offset
+              (fits.strings ∙ ap (λ (ws : List ℕ). ws ++ fits.more) grown ∙ append_assoc strings (words_of cs) fits.more)
+              (lies ∙ ap (λ (n : ℕ). n + length strings) (sym (x.described.words ∙ ap (λ (ts : Tables). ts.words) fits.same))),
+        );
+      })

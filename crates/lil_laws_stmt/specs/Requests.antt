@@ -1,0 +1,409 @@
+-- The rows of requests and of their arguments.
+use Rattle.std.proofs.Common.{◌≡◌, ℕ, zero, suc, ◌+◌, ◌-◌, ◌%◌, ◌<◌, ◌≤◌, Bool, true, false, cond, Option, Some, None, List, [], ◌∷◌, ◌++◌, length, map, reverse, get_or, take, drop, inl, inr, ◌⊎◌, refl, sym, ap, ◌∙◌, subst, arith, append_assoc}
+use Rattle.std.specs.Prelude.{nat_le, nat_lt, ◌==◌, ◌||◌, if◌then◌else◌}
+use Rattle.std.proofs.lemmas.Bool.{le-leb, leb-true, lt-ltb, cases_lt, and_from, eqb-true}
+use Rattle.std.proofs.lemmas.List.{map-append, append-nil, reverse-append, take_all, drop_all, drop_more}
+use Rattle.std.proofs.lemmas.Option.{none-some, same_Some}
+use Rattle.lil_base.specs.declared.fault.TrapKind.TheVariants as trap
+use Rattle.lil_base.specs.Words.{Cardinal, Integer}
+use Rattle.lil_resolved.specs.Kinds.{Kind, OfWhole, OfCharacter}
+use Rattle.lil_resolved.specs.Scalars.{Scalar, Number, Truth, Character, SetOf, ToObject, ToWorkspace, ToProcedure, ToCoroutine, Nothing, within, scalar_word}
+use Rattle.lil_resolved.specs.Resolved.{Argument, ByValue, OfArray, OfText, Request, shape_of}
+use Rattle.lil_resolved.specs.Sound.{Parameter, Single as OneWord, Characters as OneArray, request_parameters, parameter_of, is_text}
+use Rattle.lil_resolved.specs.Shapes.{Shape, Absent, Word, Row, words, is_there, part_at, offset}
+use Rattle.lil_meaning.specs.Cells.{Place, part_of, got}
+use Rattle.lil_meaning.specs.World.{World, Given, Single, Characters, characters_at, array_at, given_by, serve}
+use Rattle.lil_meaning.specs.Items.{Datum, Scalars, Places, Wholes, Opens, Texts, Pass, PassArray, Do, Passing, Item, Value, PlaceOf, Fill, Perform, Going, Source}
+use Rattle.lil_meaning.specs.Steps.{trapped, with_items, character_of, characters_from, as_array, given_of, level_of}
+use Rattle.lil_asm.specs.declared.instr.Instr.TheVariants.{Liw, Lag, Svc}
+use Rattle.lil_mcode.specs.State.{State}
+use Rattle.lil_mcode.specs.Table.{going, array_lies, request_row}
+use Rattle.lil_table.specs.Rows.{IsAt, ArgumentsAt, HasText, text_words, arguments_words, Access, access_of}
+use Rattle.lil_match.specs.Running.{Running, Run, running, requested, words_taken}
+use Rattle.lil_match.specs.Parts.{yes, no}
+use Rattle.lil_match.specs.Homes.{Home, text_character, word_for, plain_word, address, shape_there, place_inside, part_there}
+use Rattle.lil_match.specs.Goes.{Shared, Goes, Lands}
+use Rattle.lil_match.specs.Stutter.{stutter}
+use Rattle.lil_match.specs.Waits.{Setting, frame_of, laid_out, Quiet, ValueOf, AtPlace, Around, Reach, Rows, HasPlace, is_open, is_array, TakesAll, DatumOn, DataOn, Waiting}
+use Rattle.lil_match.specs.Orders.{instr_within, arguments_within}
+use Rattle.lil_match.specs.Closing.{closed}
+use Rattle.lil_match.specs.Steps.{advances, at_step, at_once, pushes, rows_ahead, lands_on, goes_none, goes_one, operand_goes}
+use Rattle.lil_laws_place.specs.Codes.{leads, addressed}
+use Rattle.lil_laws_place.specs.Stores.{tested}
+use Rattle.lil_laws_stmt.specs.Strings.{string_low, string_word}
+use Rattle.lil_laws_stmt.specs.Tasks.{value_within}
+
+-- ---- which arguments are arrays
+-- one of those that are left is at hand
+forms_more : (r : ℕ) (done : List Bool) (x : Argument) (left : List Argument) → TakesAll r done (x ∷ left) → TakesAll r (done ++ is_open (parameter_of x) ∷ []) left
+forms_more r done x left t =
+    record { parameters = t.parameters; are = t.are; same = t.same ∙ sym (append_assoc done (is_open (parameter_of x) ∷ []) (map is_open (map parameter_of left))) }
+
+forms_done : (r : ℕ) (done : List Datum) (d : Datum) (left : List Argument) → TakesAll r (map is_array done ++ is_array d ∷ []) left → TakesAll r (map is_array (done ++ d ∷ [])) left
+forms_done r done d left t = subst (λ (bs : List Bool). TakesAll r bs left) (sym (map-append is_array done (d ∷ []))) t
+
+-- WriteString takes one array, and no other request takes any
+abbrev AreSingle : List Bool → Type 0
+AreSingle [] = Unit {0}
+AreSingle (b ∷ bs) = (b ≡ false) × AreSingle bs
+
+by_tests : (write string line int others : Bool) (ps : List Parameter) (a b c d e : Kind) → (write ≡ true → string ≡ false)
+    → (if write then Some (OneWord a ∷ []) else (if string then Some (OneArray ∷ []) else (if line then Some [] else (if int then Some (OneWord b ∷ OneWord c ∷ []) else (if others then Some (OneWord d ∷ OneWord e ∷ []) else None))))) ≡ Some ps
+    → (string ≡ true → map is_open ps ≡ true ∷ []) × (string ≡ false → AreSingle (map is_open ps))
+by_tests true true line int others ps a b c d e apart is = let clash : true ≡ false = apart refl in cc
+by_tests true false line int others ps a b c d e apart is = (λ h. cc, λ h. subst (λ (xs : List Parameter). AreSingle (map is_open xs)) (same_Some (OneWord a ∷ []) ps is) (refl, tt))
+by_tests false true line int others ps a b c d e apart is = (λ h. ap (map is_open) (sym (same_Some (OneArray ∷ []) ps is)), λ h. cc)
+by_tests false false true int others ps a b c d e apart is = (λ h. cc, λ h. subst (λ (xs : List Parameter). AreSingle (map is_open xs)) (same_Some [] ps is) tt)
+by_tests false false false true others ps a b c d e apart is = (λ h. cc, λ h. subst (λ (xs : List Parameter). AreSingle (map is_open xs)) (same_Some (OneWord b ∷ OneWord c ∷ []) ps is) (refl, (refl, tt)))
+by_tests false false false false true ps a b c d e apart is = (λ h. cc, λ h. subst (λ (xs : List Parameter). AreSingle (map is_open xs)) (same_Some (OneWord d ∷ OneWord e ∷ []) ps is) (refl, (refl, tt)))
+by_tests false false false false false ps a b c d e apart is = absurd (none-some ps is)
+
+forms_are : (r : ℕ) (ps : List Parameter) → request_parameters r ≡ Some ps → ((r == 3) ≡ true → map is_open ps ≡ true ∷ []) × ((r == 3) ≡ false → AreSingle (map is_open ps))
+forms_are r ps is =
+    by_tests (r == 2) (r == 3) (r == 4) (r == 6) (r == 5 || r == 7 || r == 8) ps OfCharacter (OfWhole Integer) (OfWhole Cardinal) (OfWhole Cardinal) (OfWhole Cardinal)
+    (λ two. ap (λ (n : ℕ). n == 3) (eqb-true r 2 two)) is
+
+-- ---- what arguments that are done give
+-- the characters of a string at an address
+text_at : (store cs : List ℕ) (a i n : ℕ) → is_text cs ≡ true → i + n ≡ length cs → ((j : ℕ) → j < length cs → get_or store (a + j) 0 ≡ get_or cs j 0) → characters_at store (a + i) n ≡ drop i cs
+text_at store cs a i zero text long same = sym (drop_all i cs (omega (arith, long)))
+text_at store cs a i (suc n) text long same =
+    let here : get_or store (a + i) 0 % 256 ≡ get_or cs i 0 =
+    ap (λ (w : ℕ). w % 256) (same i (omega (arith, long))) ∙ (let small = leb-true (get_or cs i 0) 255 (text_character cs i text) in omega (arith, small)) in
+    ap (λ (c : ℕ). c ∷ characters_at store (suc (a + i)) n) here
+    ∙ ap (λ (b : ℕ). get_or cs i 0 ∷ characters_at store b n) (let e : suc (a + i) ≡ a + (i + 1) = omega arith in e)
+    ∙ ap (λ (x : List ℕ). get_or cs i 0 ∷ x) (text_at store cs a (i + 1) n text (omega (arith, long)) same)
+    ∙ sym (drop_more cs i 0 (omega (arith, long)))
+
+text_first : (cs : List ℕ) → 0 < length cs → drop 0 cs ≡ as_array cs
+text_first [] some = absurd (omega (arith, some))
+text_first (c ∷ cs) some = refl
+
+-- a word that holds a character
+character_word : (h : Home) (v : Scalar) → within OfCharacter v ≡ true → word_for h v % 256 ≡ character_of v
+character_word h (Character c) e = let small = leb-true c 255 e in omega (arith, small)
+character_word h (Number z) e = cc
+character_word h (Truth b) e = cc
+character_word h (SetOf x) e = cc
+character_word h (ToObject o) e = cc
+character_word h (ToWorkspace w) e = cc
+character_word h (ToProcedure n p) e = cc
+character_word h (ToCoroutine n) e = cc
+character_word h Nothing e = cc
+
+module _ (ctx : Setting) where
+  open ctx use {library, table, home as h}
+  open frame_of ctx use {own, number}
+  open laid_out ctx use {layout as l}
+
+  -- one more datum above the others
+  data_more : (ds : List Datum) (d : Datum) (below old new : List ℕ) → DataOn ctx ds old below → DatumOn ctx d new old → DataOn ctx (ds ++ d ∷ []) new below
+  data_more [] d below old new r e = (new, subst (DatumOn ctx d new) r e, refl)
+  data_more (x ∷ ds) d below old new r e = (r.0, r.1, data_more ds d r.0 old new r.2 e)
+
+  module _ (s : Source) (m : State) (shared : Shared ctx s m) where
+    -- words alone
+    words_given : (ds : List Datum) (stack below : List ℕ) → AreSingle (map is_array ds) → DataOn ctx ds stack below
+        → map Single (reverse stack) ≡ map Single (reverse below) ++ map (given_of s.cells) ds
+    words_given [] stack below single on = ap (λ (x : List ℕ). map Single (reverse x)) on ∙ sym (append-nil (map Single (reverse below)))
+    words_given (Scalars v ∷ ds) stack below single on =
+        words_given ds stack on.0 single.1 on.2
+        ∙ ap (λ (x : List ℕ). map Single (reverse x) ++ map (given_of s.cells) ds) on.1
+        ∙ ap (λ (x : List ℕ). map Single x ++ map (given_of s.cells) ds) (reverse-append (scalar_word v ∷ []) below)
+        ∙ ap (λ (x : List Given). x ++ map (given_of s.cells) ds) (map-append Single (reverse below) (scalar_word v ∷ []))
+        ∙ append_assoc (map Single (reverse below)) (Single (scalar_word v) ∷ []) (map (given_of s.cells) ds)
+    words_given (Opens place high ∷ ds) stack below single on = let clash : true ≡ false = single.0 in cc
+    words_given (Texts cs ∷ ds) stack below single on = let clash : true ≡ false = single.0 in cc
+    words_given (Places place ∷ ds) stack below single on = absurd on.1
+    words_given (Wholes u ∷ ds) stack below single on = absurd on.1
+
+    -- the characters of an array from an element on, so many
+    array_given : (place : Place) (high i n : ℕ) → shape_there h place ≡ Row (suc high) (Word OfCharacter) → i + n ≡ suc high
+        → characters_at m.store (address h place + i) n ≡ characters_from s.cells place i n
+    array_given place high i zero living long = refl
+    array_given place high i (suc n) living long =
+        let there : is_there (shape_there h place) ≡ true = ap is_there living in
+        let part = part_there h place i there in
+        let element : shape_there h (part_of place i) ≡ Word OfCharacter = part.0 ∙ ap (λ (t : Shape). part_at t (i ∷ [])) living ∙ yes (nat_lt i (suc high)) (Word OfCharacter) Absent (lt-ltb i (suc high) (omega (arith, long))) in
+        let cell = shared.mem.holds place.root (place.path ++ i ∷ []) OfCharacter element in
+        let at : address h place + i ≡ address h (part_of place i) = omega (arith, part.1, ap (λ (t : Shape). offset t (i ∷ [])) living) in
+        let here : get_or m.store (address h place + i) 0 % 256 ≡ character_of (got s.cells (part_of place i)) =
+        ap (λ (x : ℕ). get_or m.store x 0 % 256) at ∙ ap (λ (w : ℕ). w % 256) cell.word ∙ character_word h (got s.cells (part_of place i)) cell.fits in
+        ap (λ (c : ℕ). c ∷ characters_at m.store (suc (address h place + i)) n) here
+        ∙ ap (λ (b : ℕ). character_of (got s.cells (part_of place i)) ∷ characters_at m.store b n) (let e : suc (address h place + i) ≡ address h place + suc i = omega arith in e)
+        ∙ ap (λ (x : List ℕ). character_of (got s.cells (part_of place i)) ∷ x) (array_given place high (suc i) n living (omega (arith, long)))
+
+    string_given : (cs : List ℕ) (offset : ℕ) → HasText l cs offset → characters_at m.store (own.base + offset) (suc (text_words cs - 1)) ≡ as_array cs
+    string_given cs offset text = by cs text (cases_lt 0 (length cs))
+      where
+        by : (cs : List ℕ) → HasText l cs offset → (0 < length cs) ⊎ (length cs ≤ 0) → characters_at m.store (own.base + offset) (suc (text_words cs - 1)) ≡ as_array cs
+        by cs text (inl some) =
+            ap (characters_at m.store (own.base + offset)) (let e : suc (text_words cs - 1) ≡ length cs = omega (arith, some) in e)
+            ∙ ap (λ (b : ℕ). characters_at m.store b (length cs)) (let e : own.base + offset ≡ own.base + offset + 0 = omega arith in e)
+            ∙ text_at m.store cs (own.base + offset) 0 (length cs) text.text (omega arith) (λ j less. string_word ctx s m shared cs offset text j (omega (arith, less)))
+            ∙ text_first cs some
+        by [] text (inr none) =
+            ap (λ (w : ℕ). w % 256 ∷ []) (ap (λ (b : ℕ). get_or m.store b 0) (let e : own.base + offset ≡ own.base + offset + 0 = omega arith in e) ∙ string_word ctx s m shared [] offset text 0 (omega arith))
+        by (c ∷ cs) text (inr none) = absurd (omega (arith, none))
+
+    -- one array, as WriteString takes it
+    one_array : (r : ℕ) (d : Datum) (stack : List ℕ) → (r == 3) ≡ true → is_array d ≡ true → DatumOn ctx d stack []
+        → (Characters (array_at m.store (reverse stack)) ≡ given_of s.cells d) × (array_lies r stack ≡ true)
+    one_array r (Opens place high) stack three e on =
+        let low : address h place + words (Row (suc high) (Word OfCharacter)) ≤ 65535 = omega (arith, place_inside h s.cells m.store place shared.mem (ap is_there on.has.living), ap words on.has.living) in (
+          ap (λ (x : List ℕ). Characters (array_at m.store (reverse x))) on.is
+              ∙ ap (λ (b : ℕ). Characters (characters_at m.store b (suc high))) (let e : address h place ≡ address h place + 0 = omega arith in e)
+              ∙ ap Characters (array_given place high 0 (suc high) on.has.living (omega arith)),
+          ap (array_lies r) on.is ∙ yes (r == 3) _ _ three ∙ le-leb (address h place + high) 65535 (omega (arith, low)),
+        )
+    one_array r (Texts cs) stack three e on =
+        let low = string_low ctx s m shared cs on.offset on.text in (
+          ap (λ (x : List ℕ). Characters (array_at m.store (reverse x))) on.is ∙ ap Characters (string_given cs on.offset on.text),
+          ap (array_lies r) on.is ∙ yes (r == 3) _ _ three ∙ le-leb (own.base + on.offset + (text_words cs - 1)) 65535 (omega (arith, low)),
+        )
+    one_array r (Scalars v) stack three e on = cc
+    one_array r (Places place) stack three e on = cc
+    one_array r (Wholes u) stack three e on = cc
+
+    -- what a request finds is what its arguments give
+    pub record IsGiven (r : ℕ) (done : List Datum) : Type 0 where
+      pub same : given_by r m.store (reverse m.stack) ≡ map (given_of s.cells) done
+      pub lies : array_lies r m.stack ≡ true
+
+    other_lies : (r : ℕ) (stack : List ℕ) → (r == 3) ≡ false → array_lies r stack ≡ true
+    other_lies r [] e = refl
+    other_lies r (high ∷ []) e = refl
+    other_lies r (high ∷ address ∷ rest) e = no (r == 3) _ _ e
+
+    all_given : (r : ℕ) (done : List Datum) → DataOn ctx done m.stack [] → TakesAll r (map is_array done) [] → IsGiven r done
+    all_given r done on forms = by (r == 3) refl
+      where
+        are : map is_open forms.parameters ≡ map is_array done
+        are = forms.same ∙ append-nil (map is_array done)
+
+        only : (ds : List Datum) (stack : List ℕ) → (r == 3) ≡ true → map is_array ds ≡ true ∷ [] → DataOn ctx ds stack [] → (Characters (array_at m.store (reverse stack)) ∷ [] ≡ map (given_of s.cells) ds) × (array_lies r stack ≡ true)
+        only [] stack three e on = cc
+        only (d ∷ []) stack three e on =
+            let one = one_array r d stack three (let first : is_array d ≡ true = cc in first) (subst (λ (x : List ℕ). DatumOn ctx d x []) (sym on.2) on.1) in
+            (ap (λ (g : Given). g ∷ []) one.0, one.1)
+        only (d ∷ f ∷ ds) stack three e on = cc
+
+        by : (b : Bool) → (r == 3) ≡ b → IsGiven r done
+        by true three =
+            let y = only done m.stack three (sym are ∙ (forms_are r forms.parameters forms.are).0 three) on in
+            record { same = yes (r == 3) _ _ three ∙ y.0; lies = y.1 }
+        by false other = record {
+          same = no (r == 3) _ _ other ∙ words_given done m.stack [] (subst AreSingle are ((forms_are r forms.parameters forms.are).1 other)) on;
+          lies = other_lies r m.stack other;
+        }
+
+  module _ (s : Source) (k : List Item) (m : State) (c : ℕ) (a : Around) (shared : Shared ctx s m) where
+    abbrev Rest : Reach
+    Rest = Rows ctx k
+
+    pub request_goes : (r : ℕ) (given : List Argument) → Waiting ctx (Perform (Do (Request r given))) Rest Quiet m.place m.stack c a
+        → Goes ctx s (Perform (Do (Request r given)) ∷ k) m (c + 32)
+    request_goes r given row =
+        let none : length m.stack ≡ 0 = ap length row.part.empty in
+        goes_none ctx s (Perform (Do (Request r given)) ∷ k) m (c + 32) c
+        (lands_on ctx s m shared (Perform (Passing r [] given) ∷ k) m.place m.stack c a
+        (at_once ctx _ Quiet m.place m.stack c a
+        (record {
+          part = record {
+            on = row.part.empty;
+            middle = row.part.here.middle;
+            given = subst (λ (n : ℕ). ArgumentsAt l own.code n given m.place row.part.here.middle) (sym none) row.part.here.arguments;
+            forms = record { parameters = map parameter_of given; are = row.part.here.takes; same = refl };
+            serve = record { words = row.part.here.words ∙ ap Some (let e : arguments_words given ≡ length m.stack + arguments_words given = omega (arith, none) in e); end = row.part.end; by = row.part.here.by; within = row.part.within };
+          };
+          then = row.then;
+        })))
+        (omega arith)
+        (omega arith)
+
+    -- behind an argument of so many words
+    abbrev Passed : ℕ → List Datum → Argument → List Argument → Type 0
+    Passed r done x left = Waiting ctx (Perform (Passing r done (x ∷ left))) Rest Quiet m.place m.stack c a
+
+    pub passing_goes : (r : ℕ) (done : List Datum) (x : Argument) (left : List Argument) → Passed r done x left → Goes ctx s (Perform (Passing r done (x ∷ left)) ∷ k) m (c + 32)
+    passing_goes r done (ByValue kind e) left row =
+        let value = row.part.given.here in
+        let serve = row.part.serve in
+        let rest : ArgumentsAt l own.code (suc (length m.stack)) left row.part.given.middle row.part.middle =
+        subst (λ (n : ℕ). ArgumentsAt l own.code n left row.part.given.middle row.part.middle) (let e : 1 + length m.stack ≡ suc (length m.stack) = omega arith in e) row.part.given.then in
+        let behind = arguments_within l own.code (suc (length m.stack)) left row.part.given.middle row.part.middle rest (instr_within own.code row.part.middle (Svc r) serve.end serve.by) in
+        let count : length m.stack + (1 + arguments_words left) ≡ suc (length m.stack) + arguments_words left = omega arith in
+        operand_goes ctx s k m c a shared (Perform (Passing r done (ByValue kind e ∷ left)) ∷ k) e (Pass r kind done left) refl (omega arith) value.middle value.value.value
+        value.value.shallow
+        (value_within ctx (length m.stack) e kind m.place row.part.given.middle value behind)
+        (record {
+          part = record {
+            takes = value.takes;
+            on = row.part.on;
+            tested = row.part.given.middle;
+            test = value.test;
+            middle = row.part.middle;
+            given = rest;
+            forms = forms_more r (map is_array done) (ByValue kind e) left row.part.forms;
+            serve = record { words = serve.words ∙ ap Some count; end = serve.end; by = serve.by; within = serve.within };
+          };
+          then = row.then;
+        })
+    passing_goes r done (OfArray d high) left row =
+        let y = row.part.given.here in
+        let serve = row.part.serve in
+        let count : length m.stack + (2 + arguments_words left) ≡ 2 + length m.stack + arguments_words left = omega arith in
+        goes_none ctx s (Perform (Passing r done (OfArray d high ∷ left)) ∷ k) m (c + 32) c
+        (lands_on ctx s m shared (PlaceOf d ∷ Fill (PassArray r high done left) ∷ k) m.place m.stack c a
+        (at_once ctx _ Quiet m.place m.stack c a
+        (record {
+          part = record { end = y.found; here = y.here; shallow = y.shallow };
+          then = at_once ctx _ (AtPlace (access_of l d) (shape_of l.scope d)) y.found m.stack c a
+              (record {
+                part = record {
+                  rows = y.rows;
+                  room = y.room;
+                  on = row.part.on;
+                  start = y.start;
+                  last = row.part.given.middle;
+                  address = y.address;
+                  by = y.by;
+                  middle = row.part.middle;
+                  given = row.part.given.then;
+                  forms = forms_more r (map is_array done) (OfArray d high) left row.part.forms;
+                  serve = record { words = serve.words ∙ ap Some count; end = serve.end; by = serve.by; within = serve.within };
+                };
+                then = row.then;
+              });
+        })))
+        (omega arith)
+        (omega arith)
+    passing_goes r done (OfText cs) left row =
+        let y = row.part.given.here in
+        let serve = row.part.serve in
+        let from : ℕ = own.base + y.offset in
+        let stack : List ℕ = (text_words cs - 1) ∷ from ∷ m.stack in
+        let low = string_low ctx s m shared cs y.offset y.text in
+        let after : List Item = Perform (Passing r (done ++ Texts cs ∷ []) left) ∷ k in
+        let items : List Item = Perform (Passing r done (OfText cs ∷ left)) ∷ k in
+        let here : State = going m row.part.given.middle stack in
+        let count : length m.stack + (2 + arguments_words left) ≡ length stack + arguments_words left = omega arith in
+        leads ctx s items m shared (Lag y.offset) m.place y.start m.stack (from ∷ m.stack) (c + 32) (c + 1) y.address
+        (yes _ _ _ (lt-ltb (own.base + y.offset) 65536 (omega (arith, low))) ∙ pushes from y.start m (omega (arith, y.room)))
+        (leads ctx s items m shared (Liw (text_words cs - 1)) y.start row.part.given.middle (from ∷ m.stack) stack (c + 1) c y.by
+        (pushes (text_words cs - 1) row.part.given.middle (going m y.start (from ∷ m.stack)) (omega (arith, y.room)))
+        (goes_none ctx s items here c c
+        (lands_on ctx s m shared after row.part.given.middle stack c a
+        (at_once ctx _ Quiet row.part.given.middle stack c a
+        (record {
+          part = record {
+            on = data_more done (Texts cs) [] m.stack stack row.part.on (record { offset = y.offset; text = y.text; is = refl });
+            middle = row.part.middle;
+            given = subst (λ (n : ℕ). ArgumentsAt l own.code n left row.part.given.middle row.part.middle) (let e : 2 + length m.stack ≡ length stack = omega arith in e) row.part.given.then;
+            forms = forms_done r done (Texts cs) left (forms_more r (map is_array done) (OfText cs) left row.part.forms);
+            serve = record { words = serve.words ∙ ap Some count; end = serve.end; by = serve.by; within = serve.within };
+          };
+          then = row.then;
+        })))
+        (omega arith)
+        (omega arith))
+        (omega arith))
+        (omega arith)
+
+    -- an array is there: its address, and the number of its last element
+    pub pass_array_goes : (r high : ℕ) (done : List Datum) (left : List Argument) (place : Place) (b : Access) (t : Shape) (below : List ℕ) → HasPlace ctx b place t m.stack below
+        → Waiting ctx (Fill (PassArray r high done left)) Rest (AtPlace b t) m.place below c a → Goes ctx s (Value (Places place) ∷ Fill (PassArray r high done left) ∷ k) m (c + 32)
+    pass_array_goes r high done left place b t below has row =
+        let y = row.part in
+        let serve = y.serve in
+        let items : List Item = Value (Places place) ∷ Fill (PassArray r high done left) ∷ k in
+        let after : List Item = Perform (Passing r (done ++ Opens place high ∷ []) left) ∷ k in
+        let stack : List ℕ = high ∷ address h place ∷ below in
+        let count : 2 + length below ≡ length stack = omega arith in
+        addressed ctx s items m shared b place t m.stack below has (omega (arith, y.room)) m.place y.start (c + 32) (c + 1) y.address
+        (leads ctx s items m shared (Liw high) y.start y.last (address h place ∷ below) stack (c + 1) c y.by
+        (pushes high y.last (going m y.start (address h place ∷ below)) (omega (arith, y.room)))
+        (goes_none ctx s items (going m y.last stack) c c
+        (lands_on ctx s m shared after y.last stack c a
+        (at_once ctx _ Quiet y.last stack c a
+        (record {
+          part = record {
+            on = data_more done (Opens place high) [] below stack y.on
+                (record { has = record { seen = has.seen; living = has.living ∙ y.rows; there = refl; at = refl }; is = refl });
+            middle = y.middle;
+            given = subst (λ (n : ℕ). ArgumentsAt l own.code n left y.last y.middle) count y.given;
+            forms = forms_done r done (Opens place high) left y.forms;
+            serve = record { words = serve.words ∙ ap (λ (n : ℕ). Some (n + arguments_words left)) count; end = serve.end; by = serve.by; within = serve.within };
+          };
+          then = row.then;
+        })))
+        (omega arith)
+        (omega arith))
+        (omega arith))
+        (omega arith)
+
+    pub pass_goes : (r : ℕ) (to : Kind) (done : List Datum) (left : List Argument) (v : Scalar) (kind : Kind) → within kind v ≡ true → (below : List ℕ) → m.stack ≡ word_for h v ∷ below
+        → Waiting ctx (Fill (Pass r to done left)) Rest (ValueOf kind) m.place below c a → Goes ctx s (Value (Scalars v) ∷ Fill (Pass r to done left) ∷ k) m (c + 32)
+    pass_goes r to done left v kind fit below is row =
+        let items : List Item = Value (Scalars v) ∷ Fill (Pass r to done left) ∷ k in
+        let now : Source = record s { items = items; phase = Going } in
+        let after : List Item = Perform (Passing r (done ++ Scalars v ∷ []) left) ∷ k in
+        let becomes : Bool → Source = λ b. cond b (with_items now after) (trapped library now trap.Range) in
+        let stack_is : m.stack ≡ scalar_word v ∷ below = is ∙ ap (λ (w : ℕ). w ∷ below) (plain_word h kind v fit) in
+        let count : suc (length below) ≡ length m.stack = sym (ap length stack_is) in
+        let serve = row.part.serve in
+        let falls : stutter after < stutter items = omega arith in
+        tested ctx s items m shared m.place m.stack to kind v row.part.takes fit below stack_is
+        row.part.tested (c + 32) c row.part.test (closed ctx k _ _ _ _ _ row.then)
+        (λ out. ap becomes out)
+        (λ one.
+        goes_none ctx s items (going m row.part.tested m.stack) c c
+        (subst (λ (t : Source). Lands ctx t.phase t (running (going m row.part.tested m.stack) s.world) c) (sym (ap becomes one))
+        (lands_on ctx s m shared after row.part.tested m.stack c a
+        (at_once ctx _ Quiet row.part.tested m.stack c a
+        (record {
+          part = record {
+            on = data_more done (Scalars v) [] below m.stack row.part.on stack_is;
+            middle = row.part.middle;
+            given = subst (λ (n : ℕ). ArgumentsAt l own.code n left row.part.tested row.part.middle) count row.part.given;
+            forms = forms_done r done (Scalars v) left row.part.forms;
+            serve = record { words = serve.words ∙ ap (λ (n : ℕ). Some (n + arguments_words left)) count; end = serve.end; by = serve.by; within = serve.within };
+          };
+          then = row.then;
+        }))))
+        (omega arith)
+        (subst (λ (t : Source). stutter t.items < stutter items) (sym (ap becomes one)) falls))
+        (omega arith)
+
+    pub serve_goes : (r : ℕ) (done : List Datum) → Waiting ctx (Perform (Passing r done [])) Rest Quiet m.place m.stack c a
+        → Goes ctx s (Perform (Passing r done []) ∷ k) m (c + 32)
+    serve_goes r done row =
+        let count : ℕ = length m.stack + 0 in
+        let by = subst (λ (p : ℕ). IsAt own.code p (Svc r) row.part.serve.end) (sym row.part.given) row.part.serve.by in
+        let enough : nat_le count (length m.stack) ≡ true = le-leb count (length m.stack) (omega arith) in
+        let none_left : drop count m.stack ≡ [] = drop_all count m.stack (omega arith) in
+        let y = all_given s m shared r done row.part.on row.part.forms in
+        let given : given_by r m.store (reverse (take count m.stack)) ≡ map (given_of s.cells) done =
+        ap (λ (x : List ℕ). given_by r m.store (reverse x)) (take_all count m.stack (omega arith)) ∙ y.same in
+        let machine : State = record m { place = row.part.serve.end; stack = [] } in
+        let w : World = (serve (level_of s) r (map (given_of s.cells) done) s.world).0 in
+        let at : List ℕ → List Given → Run = λ x given. record { machine = record m { place = row.part.serve.end; stack = x }; world = (serve (level_of s) r given s.world).0; finish = Running } in
+        goes_one ctx s (Perform (Passing r done []) ∷ k) m (c + 32) c (running machine w)
+        (advances m s.world _ (
+        at_step ctx m shared.program (Svc r) row.part.serve.end by
+        ∙ ap (request_row r row.part.serve.end m) row.part.serve.words
+        ∙ yes _ _ _ (and_from _ _ enough y.lies)
+        )
+        ∙ ap (λ (o : Option ℕ). requested r (words_taken o) (going m row.part.serve.end m.stack) (running m s.world)) row.part.serve.words
+        ∙ ap (λ (x : List ℕ). at x (given_by r m.store (reverse (take count m.stack)))) none_left
+        ∙ ap (at []) given)
+        (record {
+          machine = machine;
+          is = refl;
+          met = record {
+            shared = shared;
+            around = a;
+            ahead = rows_ahead ctx k row.part.serve.end [] c a row.then;
+          };
+        })
+        (omega arith)

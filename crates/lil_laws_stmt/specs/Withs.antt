@@ -1,0 +1,129 @@
+-- The rows of WITH: the place of its record is fixed, its statements are done, and it ends.
+use Rattle.std.proofs.Common.{ℕ, suc, ◌+◌, ◌<◌, List, [], ◌∷◌, ◌++◌, length, set, eqb, refl, sym, ap, ◌∙◌, subst, arith, eq-eqb}
+use Rattle.std.proofs.lemmas.Bool.{lt-ltb}
+use Rattle.lil_resolved.specs.Resolved.{Designator, Inside, Statements, shape_of}
+use Rattle.lil_resolved.specs.Shapes.{Shape}
+use Rattle.lil_meaning.specs.Cells.{Place}
+use Rattle.lil_meaning.specs.Items.{Places, Hold, Do, Holding, Item, Value, PlaceOf, Fill, Perform, Source, doing}
+use Rattle.lil_asm.specs.declared.instr.Instr.TheVariants.{Slw}
+use Rattle.lil_mcode.specs.declared.machine.Event.{Event}
+use Rattle.lil_mcode.specs.declared.machine.Event.TheVariants.{Went}
+use Rattle.lil_mcode.specs.State.{State}
+use Rattle.lil_mcode.specs.Table.{going}
+use Rattle.lil_table.specs.Rows.{holding, Access, access_of, loop_place}
+use Rattle.lil_match.specs.Running.{running}
+use Rattle.lil_match.specs.Parts.{yes}
+use Rattle.lil_match.specs.Homes.{Home, address, shadowed}
+use Rattle.lil_match.specs.Goes.{Shared, Goes}
+use Rattle.lil_match.specs.Waits.{Setting, frame_of, laid_out, at_home, inside_with, Quiet, AtPlace, Around, Reach, RowsOf, Rows, HasPlace, HoldingWaits, Waiting}
+use Rattle.lil_match.specs.Kept.{sees_laid, own_low, shared_shadowed, touches_shadowed, rows_shadowed}
+use Rattle.lil_match.specs.Laid.{alike_holding, shared_laid, IsAround, around_self, around_more, shared_around, goes_around}
+use Rattle.lil_match.specs.Steps.{advances, at_step, at_once, rows_ahead, lands_on, goes_none, goes_one_in}
+use Rattle.lil_laws_place.specs.Codes.{addressed}
+use Rattle.lil_laws_stmt.specs.Control.{body_rows}
+
+module _ (ctx : Setting) where
+  open ctx use {home as h}
+  open frame_of ctx use {own}
+  open laid_out ctx use {layout as l}
+
+  module _ (s : Source) (k : List Item) (m : State) (c : ℕ) (a : Around) (shared : Shared ctx s m) where
+    abbrev Rest : Reach
+    Rest = Rows ctx k
+
+    pub inside_goes : (d : Designator) (body : Statements) → Waiting ctx (Perform (Do (Inside d body))) Rest Quiet m.place m.stack c a → Goes ctx s (Perform (Do (Inside d body)) ∷ k) m (c + 32)
+    inside_goes d body row =
+        let r = row.part.here in
+        goes_none ctx s (Perform (Do (Inside d body)) ∷ k) m (c + 32) c
+        (lands_on ctx s m shared (PlaceOf d ∷ Fill (Hold body) ∷ k) m.place m.stack c a
+        (at_once ctx _ Quiet m.place m.stack c a
+        (record {
+          part = record { end = r.found; here = r.here; shallow = omega (arith, r.shallow, ap length row.part.empty) };
+          then = at_once ctx _ (AtPlace (access_of l d) (shape_of l.scope d)) r.found m.stack c a
+              (record {
+                part = record {
+                  there = r.there;
+                  empty = row.part.empty;
+                  room = r.room;
+                  start = r.start;
+                  kept = r.kept;
+                  end = row.part.end;
+                  address = r.address;
+                  keep = r.keep;
+                  inner = r.within;
+                  within = row.part.within;
+                };
+                then = row.then;
+              });
+        })))
+        (omega arith)
+        (omega arith)
+
+    -- the place is there: its address goes to the frame, and then come the statements
+    pub hold_goes : (body : Statements) (place : Place) (b : Access) (t : Shape) (below : List ℕ) → HasPlace ctx b place t m.stack below
+        → Waiting ctx (Fill (Hold body)) Rest (AtPlace b t) m.place below c a → Goes ctx s (Value (Places place) ∷ Fill (Hold body) ∷ k) m (c + 32)
+    hold_goes body place b t below has row =
+        let r = row.part in
+        let n : ℕ = loop_place a.taken in
+        let w : ℕ = address h place in
+        let less : loop_place a.taken < l.frame = omega (arith, r.room) in
+        let items : List Item = Value (Places place) ∷ Fill (Hold body) ∷ k in
+        let x : Home = shadowed h (ctx.stack.frame.at + n) w in
+        let outer : Setting = at_home ctx x in
+        let inner : Setting = inside_with outer t n in
+        let around : Around = record { exit = a.exit; taken = suc a.taken } in
+        let after : List Item = Perform (Holding place) ∷ k in
+        let here : State = going m r.start (w ∷ below) in
+        let machine : State = record m { place = r.kept; stack = []; store = set m.store (ctx.stack.frame.at + n) w } in
+        let stays : Rows outer k Quiet r.end [] c a = rows_shadowed ctx s m shared n w less k Quiet r.end [] c a (omega arith) row.then in
+        addressed ctx s items m shared b place t m.stack below has (omega (arith, ap length r.empty)) m.place r.start (c + 32) (c + 1) r.address
+        (goes_one_in ctx s items here x inner.stack (c + 1) c (running machine s.world)
+        (advances here s.world _ (
+        at_step ctx here shared.program (Slw n) r.kept r.keep
+        ∙ yes _ _ _ (lt-ltb (m.frame + n) 65536 (own_low ctx s m shared n w less))
+        ∙ ap (λ (f : ℕ). let e : Event × State = (Went, record m { place = r.kept; stack = below; store = set m.store (f + n) w }) in e) shared.standing.frame_is
+        ∙ ap (λ (z : List ℕ). let e : Event × State = (Went, record m { place = r.kept; stack = z; store = set m.store (ctx.stack.frame.at + n) w }) in e) r.empty
+        ))
+        (record {
+          machine = machine;
+          is = refl;
+          met = record {
+            shared = shared_laid outer (holding ctx.stack.frame.layout t n) (alike_holding ctx.stack.frame.layout t n) s machine (shared_shadowed ctx s m shared n w less);
+            around = around;
+            ahead = rows_ahead inner (doing body after) r.kept [] c around
+                (body_rows inner body after r.kept r.end c around r.inner r.within
+                (at_once inner _ Quiet r.end [] c around
+                (record {
+                  quiet = refl;
+                  empty = refl;
+                  outer = a;
+                  around = refl;
+                  before = outer;
+                  shape = t;
+                  is = refl;
+                  room = r.room;
+                  seen = sees_laid ctx.stack.frame (holding ctx.stack.frame.layout t n) (ctx.stack.callers ++ ctx.stack.bodies) place.root ∙ has.seen;
+                  living = has.living;
+                  there = r.there;
+                  word = yes (eqb (ctx.stack.frame.at + n) (ctx.stack.frame.at + n)) w (h.shadow (ctx.stack.frame.at + n)) (eq-eqb (ctx.stack.frame.at + n) (ctx.stack.frame.at + n) refl);
+                  then = stays;
+                })));
+          };
+        })
+        (touches_shadowed ctx s m shared n w less)
+        (refl, refl)
+        (λ e. e)
+        (omega arith))
+        (omega arith)
+
+    -- the statements are done: what is around the WITH goes on
+    pub holding_goes : (place : Place) → HoldingWaits ctx place (RowsOf k) Quiet m.place m.stack c a → Goes ctx s (Perform (Holding place) ∷ k) m (c + 32)
+    holding_goes place row =
+        let before : Setting = row.before in
+        let around : IsAround before ctx = around_more before before ctx row.shape (loop_place row.outer.taken) row.is (around_self before) in
+        goes_around before ctx around s (Perform (Holding place) ∷ k) m (c + 32)
+        (goes_none before s (Perform (Holding place) ∷ k) m (c + 32) c
+        (lands_on before s m (shared_around before ctx around s m shared) k m.place m.stack c row.outer
+        (rows_ahead before k m.place m.stack c row.outer (subst (λ (x : List ℕ). Rows before k Quiet m.place x c row.outer) (sym row.empty) row.then)))
+        (omega arith)
+        (omega arith))

@@ -1,0 +1,31 @@
+-- What is known of frames stays where homes agree on what it speaks of.
+use Rattle.std.proofs.Common.{◌≡◌, ℕ, ◌+◌, List, [], ◌∷◌, ◌∙◌}
+use Rattle.lil_resolved.specs.Resolved.{Resolved}
+use Rattle.lil_meaning.specs.Cells.{Root, Global}
+use Rattle.lil_meaning.specs.Items.{Activation}
+use Rattle.lil_mcode.specs.State.{Module}
+use Rattle.lil_match.specs.Homes.{Fixed, Home}
+use Rattle.lil_match.specs.Waits.{Frame}
+use Rattle.lil_match.specs.Goes.{IsKnown, EachKnown, EachComes}
+
+module _ (library : List Resolved) (loaded : List ℕ) (table : List Module) (activations : List Activation) (h x : Home) (base : (r : Root) → x.base r ≡ h.base r) (shape : (r : Root) → x.shape r ≡ h.shape r)
+    (fixed : (a : ℕ) → h.owner a ≡ Fixed → (x.owner a ≡ Fixed) × (x.shadow a ≡ h.shadow a)) where
+  pub known_kept : (f : Frame) → IsKnown library loaded table activations h f → IsKnown library loaded table activations x f
+  known_kept f g = record {
+    known = g.known;
+    named = g.named;
+    owner = g.owner;
+    called = g.called;
+    entered = g.entered;
+    variables = λ n o k offset kind. let v = g.variables n o k offset kind in (shape (Global f.number n) ∙ v.0, base (Global f.number n) ∙ v.1);
+    strings = λ i less. let s = g.strings i less in let y = fixed (f.own.base + (f.layout.words + i)) s.0 in (y.0, y.1 ∙ s.1);
+    inside = g.inside;
+  }
+
+  pub each_known : (fs : List Frame) → EachKnown library loaded table activations h fs → EachKnown library loaded table activations x fs
+  each_known [] e = tt
+  each_known (f ∷ fs) e = (known_kept f e.0, each_known fs e.1)
+
+  pub each_comes : (low : ℕ) (fs : List Frame) → EachComes library loaded table activations h low fs → EachComes library loaded table activations x low fs
+  each_comes low [] e = tt
+  each_comes low (f ∷ fs) e = (record { known = known_kept f e.0.known; at = e.0.at; mark = e.0.mark }, each_comes low fs e.1)

@@ -1,0 +1,13 @@
+use Rattle.std.proofs.Common.{◌≡◌, subst}
+use Rattle.lil_mcode.specs.declared.machine.Event.{Event}
+use Rattle.lil_mcode.specs.declared.machine.Event.TheVariants.{Request}
+use Rattle.lil_mcode.specs.Table.{mstep}
+use Rattle.lil_mcode.specs.Requests.{request_has}
+use Rattle.lil_tests.proofs.mcode.shown.Goals as goal
+
+pub serve-requires : goal.serve-requires
+serve-requires c =
+    let ran = c.run-event.ensures.ran in
+    let t = c.run-event.new.self.state in
+    let P : Event → Type 0 = λ e. mstep ran.before ≡ (e, t) in
+    request_has ran.before t c.in-Request.number (subst P c.in-Request.is ran.last)
