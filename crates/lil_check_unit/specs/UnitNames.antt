@@ -29,7 +29,7 @@ use Rattle.lil_interfaces.specs.declared.importing.Taken.{Taken}
 use Rattle.lil_interfaces.specs.declared.importing.Imported.{Imported}
 use Rattle.lil_interfaces.specs.Standard.{Block, known}
 use Rattle.lil_interfaces.specs.Moving.{moved_form, moved_kind, moved_thing, seen_by, with_type, with_types, with_name, with_names}
-use Rattle.lil_interfaces.specs.Interfaces.{named, Resided, empty, with_constant, own_origin, with_resident, with_procedure, with_procedures, common_procedures, number_writers, terminal, in_out, residents}
+use Rattle.lil_interfaces.specs.Interfaces.{named, Resided, empty, with_shown, own_origin, with_resident, with_procedure, with_procedures, with_system_types, common_procedures, number_writers, storers, coroutine_procedures, terminal, in_out, storage, system, residents}
 use Rattle.lil_interfaces.specs.Imports.{block_of, next_import, filled, entered_by, entered, take_node, is_hidden, thing_or_broken, found_node, name_step, module_step, import_by, import_step, imports_mean, nothing_imported, export_step, exports_mean}
 use Rattle.lil_check_unit.specs.Units.{declared}
 use Rattle.lil_laws_check.specs.AllKept.{decls_fine}
@@ -207,9 +207,9 @@ resident_shown : (xs : List Exported) (n : List ℕ) (r : Resident) (o : Option 
 resident_shown xs n r None h = h
 resident_shown xs n r (Some sort) h = more_shown xs (record { shown = true; name = n; what = t.Resident r sort }) h tt
 
-constant_surface : (i : Interface) (n : List ℕ) (sort word : ℕ) → IsSurface i → IsSurface (with_constant i n sort word)
-unfolding with_constant
-constant_surface i n sort word h = (more_shown i.names (record { shown = true; name = n; what = t.Constant (k.Scalar sort word) }) h.0 tt, h.1)
+shown_surface : (i : Interface) (n : List ℕ) (x : Thing) → IsSurface i → IsWhole x → IsSurface (with_shown i n x)
+unfolding with_shown
+shown_surface i n x h w = (more_shown i.names (record { shown = true; name = n; what = x }) h.0 w, h.1)
 
 procedure_surface : (i : Interface) (n : List ℕ) (r : Resident) (ps : List Parameter) → IsSurface i → IsSurface (with_procedure i n r ps)
 unfolding with_procedure
@@ -223,10 +223,16 @@ terminal_surface : (n : List ℕ) → IsSurface (terminal n)
 terminal_surface n = procedures_surface (empty n) common_procedures (tt, tt)
 
 in_out_surface : (n : List ℕ) → IsSurface (in_out n)
-in_out_surface n = procedures_surface (with_constant (terminal n) _ _ _) number_writers (constant_surface (terminal n) _ _ _ (terminal_surface n))
+in_out_surface n = procedures_surface (with_shown (terminal n) _ _) number_writers (shown_surface (terminal n) _ _ (terminal_surface n) tt)
+
+storage_surface : (n : List ℕ) → IsSurface (storage n)
+storage_surface n = procedures_surface (empty n) storers (tt, tt)
+
+system_surface : (n : List ℕ) → IsSurface (system n)
+system_surface n = procedures_surface (with_system_types (empty n)) coroutine_procedures (shown_surface (with_shown (empty n) _ _) _ _ (shown_surface (empty n) _ _ (tt, tt) tt) tt)
 
 pub residents_surfaces : AreSurfaces residents
-residents_surfaces = (terminal_surface _, (in_out_surface _, tt))
+residents_surfaces = (terminal_surface _, (in_out_surface _, (storage_surface _, (system_surface _, tt))))
 
 -- ---- a unit
 -- behind imports, declarations and exports that no test finds anything wrong in, no name stands for what is broken

@@ -1,9 +1,9 @@
--- Interfaces of modules, and those of the resident modules Terminal and InOut.
+-- Interfaces of modules, and those of the resident modules Terminal, InOut, Storage and SYSTEM.
 use Rattle.std.specs.Prelude.{ℕ, true, false, nat_lt, length, List, [], ◌∷◌, ◌++◌, Option, Some, None, if◌then◌else◌, codes}
 use Rattle.lil_types.specs.declared.table.Origin.{Origin}
 use Rattle.lil_types.specs.declared.table.Parameter.{Parameter}
 use Rattle.lil_types.specs.declared.table.TypeForm.TheVariants.{Procedure}
-use Rattle.lil_types.specs.Types.{Table, char, cardinal, integer}
+use Rattle.lil_types.specs.Types.{Table, char, cardinal, integer, proc, address, process}
 use Rattle.lil_types.specs.Adding.{next, added, added_number}
 use Rattle.lil_module.specs.declared.tree.Resident.{Resident}
 use Rattle.lil_module.specs.declared.tree.Resident.TheVariants as r
@@ -37,7 +37,7 @@ pub record Resided : Type 0 where
 abbrev pub resided : List ℕ → Resident → List Parameter → Resided
 resided n r ps = record { name = n; request = r; parameters = ps }
 
--- the procedures of both modules
+-- the procedures of both Terminal and InOut
 abbrev pub common_procedures : List Resided
 common_procedures =
     resided (codes "Read") r.Read (place char ∷ [])
@@ -55,6 +55,21 @@ number_writers =
     ∷ resided (codes "WriteHex") r.WriteHex (value cardinal ∷ value cardinal ∷ [])
     ∷ []
 
+-- the procedures of Storage: a variable for an address, and a number of words
+abbrev pub storers : List Resided
+storers =
+    resided (codes "ALLOCATE") r.Allocate (place address ∷ value cardinal ∷ [])
+    ∷ resided (codes "DEALLOCATE") r.Deallocate (place address ∷ value cardinal ∷ [])
+    ∷ []
+
+-- the procedures of SYSTEM. A new coroutine has a procedure, the address and the number of its words, and a variable; a
+-- transfer goes from one to another
+abbrev pub coroutine_procedures : List Resided
+coroutine_procedures =
+    resided (codes "NEWPROCESS") r.NewProcess (value proc ∷ value address ∷ value cardinal ∷ place process ∷ [])
+    ∷ resided (codes "TRANSFER") r.Transfer (place process ∷ place process ∷ [])
+    ∷ []
+
 -- ---- interfaces as they are built
 abbrev pub shown : List ℕ → Thing → Exported
 shown n t = record { shown = true; name = n; what = t }
@@ -62,8 +77,9 @@ shown n t = record { shown = true; name = n; what = t }
 abbrev pub empty : List ℕ → Interface
 empty n = record { name = n; types = []; names = [] }
 
-unfoldable pub with_constant : Interface → List ℕ → ℕ → ℕ → Interface
-with_constant i n sort word = record { name = i.name; types = i.types; names = i.names ++ shown n (t.Constant (k.Scalar sort word)) ∷ [] }
+-- a name more that is shown
+unfoldable pub with_shown : Interface → List ℕ → Thing → Interface
+with_shown i n x = record { name = i.name; types = i.types; names = i.names ++ shown n x ∷ [] }
 
 -- the number that a table's next type gets in its own module
 abbrev pub own_number : Table → ℕ
@@ -93,11 +109,21 @@ terminal n = with_procedures (empty n) common_procedures
 
 -- EOL is 36C
 abbrev pub in_out : List ℕ → Interface
-in_out n = with_procedures (with_constant (terminal n) (codes "EOL") char 30) number_writers
+in_out n = with_procedures (with_shown (terminal n) (codes "EOL") (t.Constant (k.Scalar char 30))) number_writers
+
+abbrev pub storage : List ℕ → Interface
+storage n = with_procedures (empty n) storers
+
+-- two types have their names here, and stand in no other module
+abbrev pub with_system_types : Interface → Interface
+with_system_types i = with_shown (with_shown i (codes "ADDRESS") (t.Type address)) (codes "PROCESS") (t.Type process)
+
+abbrev pub system : List ℕ → Interface
+system n = with_procedures (with_system_types (empty n)) coroutine_procedures
 
 -- the interfaces of resident modules
 abbrev pub residents : List Interface
-residents = terminal (codes "Terminal") ∷ in_out (codes "InOut") ∷ []
+residents = terminal (codes "Terminal") ∷ in_out (codes "InOut") ∷ storage (codes "Storage") ∷ system (codes "SYSTEM") ∷ []
 
 unfoldable pub resident : List ℕ → Option Interface
 resident n = named residents n

@@ -7,11 +7,8 @@ use crate::surface::literal;
 use lil_base::{Items, Memory, Place};
 use lil_module::Standard;
 use lil_scope::{Blocks, Entry, Env, Kind, Scopes, Thing, Withs};
-use lil_types::{BITSET, BOOLEAN, CARDINAL, CHAR, INTEGER, TypeId, TypeTable};
+use lil_types::{BITSET, BOOLEAN, CARDINAL, CHAR, INTEGER, PROC, TypeTable};
 use std::alloc::Global;
-
-/// PROC, the procedures without parameters.
-const PROC: TypeId = 5;
 
 /// What a name stands for that stands in no text.
 pub(crate) fn known(thing: Thing) -> Entry

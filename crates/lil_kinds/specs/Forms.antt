@@ -1,7 +1,7 @@
 -- The parts of types. An opaque type that has another in its implementation is that type.
 use Rattle.std.specs.Prelude.{ℕ, ◌+◌, ◌==◌, nat_eq, pos, Bool, true, false, ◌||◌, List, [], ◌∷◌, length, slice_get, Option, Some, None, is_some, if◌then◌else◌}
 use Rattle.std.specs.Cmp.Lexicographic.{pointwise}
-use Rattle.lil_types.specs.Types.{Table, char, cardinal, bit_set, span, entry, known, meant}
+use Rattle.lil_types.specs.Types.{Table, char, cardinal, bit_set, proc, address, span, entry, known, meant}
 use Rattle.lil_types.specs.declared.table.Span.{Span}
 use Rattle.lil_types.specs.declared.table.Facts.{Facts}
 use Rattle.lil_types.specs.declared.table.Field.{Field}
@@ -11,13 +11,6 @@ use Rattle.lil_types.specs.declared.table.TypeForm.{TypeForm}
 use Rattle.lil_types.specs.declared.table.TypeForm.TheVariants.{Array, Record, SetOf, Pointer, Procedure, Opaque}
 use Rattle.lil_kinds.specs.declared.forms.ArrayParts.{ArrayParts}
 use Rattle.lil_kinds.specs.declared.forms.FieldAt.{FieldAt}
-
--- the standard types PROC and ADDRESS
-abbrev pub proc : ℕ
-proc = 5
-
-abbrev pub address : ℕ
-address = 6
 
 -- ---- what is known of a type
 abbrev pub form_in : Option TypeEntry → Option TypeForm

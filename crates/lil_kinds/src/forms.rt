@@ -5,14 +5,9 @@ ghost use Rattle.lil_kinds.specs.Forms as spec;
 
 use lil_base::Name;
 use lil_types::{
-    BITSET, CARDINAL, CHAR, Field, Parameter, Span, TypeForm, TypeId, TypeTable, entry, known,
+    ADDRESS, BITSET, CARDINAL, CHAR, Field, PROC, Parameter, Span, TypeForm, TypeId, TypeTable,
+    entry, known,
 };
-
-/// PROC, the procedure type without parameters.
-const PROC: TypeId = 5;
-
-/// ADDRESS, the type of the places of the store.
-const ADDRESS: TypeId = 6;
 
 /// The index type and the element type of an array.
 #[derive(Clone, Copy)]

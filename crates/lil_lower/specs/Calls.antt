@@ -123,6 +123,10 @@ request_of resident.WriteCard = Some q.WriteCard
 request_of resident.WriteInt = Some q.WriteInt
 request_of resident.WriteOct = Some q.WriteOct
 request_of resident.WriteHex = Some q.WriteHex
+request_of resident.Allocate = None
+request_of resident.Deallocate = None
+request_of resident.NewProcess = None
+request_of resident.Transfer = None
 
 -- a parameter takes values of a base, and of a type, or is an open array of characters
 pub data Formal : Type 0 where

@@ -18,7 +18,11 @@ fn request_of(of: Resident) -> Option<RRequest>
     ensures { result ≡ spec.request_of of }
 {
     match of {
-        Resident::Read => None,
+        Resident::Read
+        | Resident::Allocate
+        | Resident::Deallocate
+        | Resident::NewProcess
+        | Resident::Transfer => None,
         Resident::Write => Some(RRequest::Write),
         Resident::WriteString => Some(RRequest::WriteString),
         Resident::WriteLn => Some(RRequest::WriteLn),

@@ -12,6 +12,10 @@ pub enum Resident {
     WriteInt,
     WriteOct,
     WriteHex,
+    Allocate,
+    Deallocate,
+    NewProcess,
+    Transfer,
 }
 
 /// A standard procedure, or a standard function (Programming in Modula-2, Standard procedures).

@@ -3,6 +3,7 @@ ghost use Rattle.lil_scope.specs.Built as spec;
 
 use crate::thing::Thing;
 use lil_module::{Resident, Standard};
+use lil_types::{PROC, PROCESS};
 
 /// Whether a standard procedure or function is built.
 fn is_standard_built(standard: Standard) -> bool
@@ -19,17 +20,21 @@ fn is_resident_built(resident: Resident) -> bool
     ensures { result ≡ spec.resident_built resident }
 {
     match resident {
-        Resident::Read => false,
+        Resident::Read
+        | Resident::Allocate
+        | Resident::Deallocate
+        | Resident::NewProcess
+        | Resident::Transfer => false,
         _ => true,
     }
 }
 
-/// Whether programs that use the name of this thing may run. PROC and ADDRESS aren't built.
+/// Whether programs that use the name of this thing may run. PROC, ADDRESS and PROCESS aren't built.
 pub fn is_built(thing: Thing) -> bool
     ensures { result ≡ spec.built thing }
 {
     match thing {
-        Thing::Type(sort) => sort < 5 || 6 < sort,
+        Thing::Type(sort) => sort < PROC || PROCESS < sort,
         Thing::Standard(standard) => is_standard_built(standard),
         Thing::Resident(resident, _) => is_resident_built(resident),
         _ => true,

@@ -293,6 +293,34 @@ const CHECKED: &[(&[u8], &[u8])] = &[
         b"40: 90 NotBuilt",
     ),
     (b"FROM InOut IMPORT WriteString,Read;", b"40: 90 NotBuilt"),
+    // the resident modules whose names have no code
+    (b"FROM SYSTEM IMPORT WORD;", b"29: 20 Unknown"),
+    (
+        b"FROM SYSTEM IMPORT TRANSFER;BEGIN TRANSFER() ",
+        b"44: 32 ArgCount",
+    ),
+    (
+        b"FROM Storage IMPORT ALLOCATE;VAR c:CARDINAL;BEGIN ALLOCATE(c,1) ",
+        b"69: 33 VarArgument",
+    ),
+    (
+        b"FROM SYSTEM IMPORT ADDRESS;VAR a:ADDRESS;BEGIN NEW(a) ",
+        b"61: 37 NotPointer",
+    ),
+    (
+        b"FROM SYSTEM IMPORT ADDRESS;TYPE t=SET OF ADDRESS;",
+        b"51: 39 SetBase",
+    ),
+    (
+        b"FROM Storage IMPORT ALLOCATE;VAR z:PROC;BEGIN z:=ALLOCATE ",
+        b"59: 41 ProcValue",
+    ),
+    (
+        b"FROM SYSTEM IMPORT NEWPROCESS,ADDRESS;",
+        b"29: 90 NotBuilt",
+    ),
+    (b"IMPORT SYSTEM;VAR p:SYSTEM.PROCESS;", b"30: 90 NotBuilt"),
+    (b"IMPORT Storage;BEGIN HALT(1) ", b"31: 32 ArgCount"),
     (
         b"VAR p:POINTER TO CHAR;r:RECORD c:CHAR END;BEGIN WITH r DO c:=1 END ",
         b"69: 31 Assign",

@@ -26,6 +26,15 @@ char = 3
 abbrev pub bit_set : ℕ
 bit_set = 4
 
+abbrev pub proc : ℕ
+proc = 5
+
+abbrev pub address : ℕ
+address = 6
+
+abbrev pub process : ℕ
+process = 7
+
 abbrev pub span : ℤ → ℤ → Span
 span low high = record { low = low; high = high }
 

@@ -10,6 +10,6 @@ pub use adding::{add, values};
 pub use folding::{fold_one, fold_two};
 pub use relations::{assignable, base, compatible, entry, known, same, words};
 pub use table::{
-    BITSET, BOOLEAN, CARDINAL, CHAR, Const, Facts, Field, FoldStop, INTEGER, Origin, Parameter,
-    Span, TypeEntry, TypeForm, TypeId, TypeTable, meets,
+    ADDRESS, BITSET, BOOLEAN, CARDINAL, CHAR, Const, Facts, Field, FoldStop, INTEGER, Origin, PROC,
+    PROCESS, Parameter, Span, TypeEntry, TypeForm, TypeId, TypeTable, meets,
 };

@@ -25,6 +25,15 @@ pub const CHAR: TypeId = 3;
 /// BITSET, a set of the numbers 0 to 15.
 pub const BITSET: TypeId = 4;
 
+/// PROC, the procedure type without parameters.
+pub const PROC: TypeId = 5;
+
+/// ADDRESS, the type of the places of the store.
+pub const ADDRESS: TypeId = 6;
+
+/// PROCESS, the type of coroutines.
+pub const PROCESS: TypeId = 7;
+
 /// The module to which a type belongs, 0 for the unit's own, and its number there.
 #[derive(Clone, Copy, PartialEq, Eq)]
 pub struct Origin {

@@ -1,0 +1,18 @@
+use Rattle.std.proofs.Common.{◌≡◌, [], ◌∷◌, ◌++◌, ap, ◌∙◌, List}
+use Rattle.lil_interfaces.specs.declared.surface.Interface.{Interface}
+use Rattle.lil_interfaces.specs.Interfaces.{terminal, in_out, storage, system}
+use Rattle.lil_interfaces.proofs.resident_modules.push_all.Goals as goal
+
+-- one more behind what stands there
+more : {was now there : List Interface} {a b : Interface} → now ≡ was ++ a ∷ [] → was ≡ there → a ≡ b → now ≡ there ++ b ∷ []
+more {there = there} {a = a} is before same = is ∙ (ap (λ xs. xs ++ a ∷ []) before ∙ ap (λ x. there ++ x ∷ []) same)
+
+pub returns : goal.returns
+returns c =
+    more c.in_ok-push-4.ensures.ok
+    (more c.in_ok-push-3.ensures.ok
+    (more c.in_ok-push-2.ensures.ok
+    (more c.in_ok-push.ensures.ok c.requires (c.in_ok-terminal.ensures ∙ ap terminal c.in_ok-literal.ensures))
+    (c.in_ok-in_out.ensures ∙ ap in_out c.in_ok-literal-2.ensures))
+    (c.in_ok-storage.ensures ∙ ap storage c.in_ok-literal-3.ensures))
+    (c.in_ok-system.ensures ∙ ap system c.in_ok-literal-4.ensures)
