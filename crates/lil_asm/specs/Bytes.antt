@@ -2,7 +2,7 @@
 use Rattle.std.specs.Prelude.{◌≡◌, ℕ, ◌+◌, ◌*◌, ◌/◌, ◌%◌, ◌<◌, nat_le, List, [], ◌∷◌, ◌++◌, length, Option, Some, None, option_and_then, slice_get, if◌then◌else◌, ◌==◌}
 use Rattle.lil_base.specs.Fields.{bytes16}
 use Rattle.lil_asm.specs.declared.instr.Instr.{Instr}
-use Rattle.lil_asm.specs.declared.instr.Instr.TheVariants.{Liw, Lib, Dup, Drp, Swp, Lis, Llw, Llb, Slw, Slb, Lgw, Lgb, Sgw, Sgb, Lal, Lag, Ldi, Sti, Ldf, Adf, Mov, Mvz, Nlt, Ixc, Ixo, Rgc, Rgi, Cap, Adc, Sbc, Mlc, Dvc, Mdc, Adi, Sbi, Mli, Dvi, Mdi, Ngi, Abi, Uni, Dif, Its, Sym, Sin, Spn, Icl, Ecl, Sle, Not, Equ, Neq, Lsc, Lec, Lsi, Lei, Ent, Rtn, Jmp, Jpf, Jan, Jor, Jms, Jfs, Cas, Fri, Frn, Trp, Svc}
+use Rattle.lil_asm.specs.declared.instr.Instr.TheVariants.{Liw, Lib, Dup, Drp, Swp, Lis, Llw, Llb, Slw, Slb, Lgw, Lgb, Sgw, Sgb, Lal, Lag, Ldi, Sti, Ldf, Adf, Mov, Mvz, Nlt, Ixc, Ixo, Rgc, Rgi, Cap, Adc, Sbc, Mlc, Dvc, Mdc, Adi, Sbi, Mli, Dvi, Mdi, Ngi, Abi, Uni, Dif, Its, Sym, Sin, Spn, Icl, Ecl, Sle, Not, Equ, Neq, Lsc, Lec, Lsi, Lei, Ent, Rtn, Jmp, Jpf, Jan, Jor, Jms, Jfs, Cas, Fri, Frn, Trp, Alc, Svc}
 
 infixl 10 ◌>>=◌
 abbrev pub ◌>>=◌ : {A B : Type 0} → Option A → (A → Option B) → Option B
@@ -147,8 +147,9 @@ row_7 b code p =
     else (if b == 0x77 then with_loop code p
     else (if b == 0x78 then with_two_words Frn code p
     else (if b == 0x79 then with_byte Trp code p
+    else (if b == 0x7a then Some (Alc, p + 1)
     else (if b == 0x7d then with_byte Svc code p
-    else None))))))))))
+    else None)))))))))))
 
 -- the row of a first byte, by its higher digit and then by itself
 abbrev pub row_of_digit : ℕ → ℕ → List ℕ → ℕ → Option (Instr × ℕ)
@@ -256,6 +257,7 @@ bytes_of (Cas v w) = two_word_bytes 0x76 v w
 bytes_of (Fri o s t) = loop_bytes o s t
 bytes_of (Frn v w) = two_word_bytes 0x78 v w
 bytes_of (Trp n) = byte_bytes 0x79 n
+bytes_of Alc = 0x7a ∷ []
 bytes_of (Svc n) = byte_bytes 0x7d n
 
 -- An instruction whose bytes alone say it: the operand of LIS has just four bits, and CASE has entries behind its bytes.

@@ -2,7 +2,7 @@
 use Rattle.std.proofs.Common.{◌≡◌, ℕ, ◌+◌, ◌*◌, ◌/◌, ◌%◌, ◌<◌, ◌≤◌, nat_le, List, Option, Some, None, Bool, true, false, ◌==◌, if◌then◌else◌, option_and_then, slice_get, length, refl, subst, arith}
 use Rattle.std.proofs.lemmas.Option.{slice_get_within}
 use Rattle.lil_asm.specs.declared.instr.Instr.{Instr}
-use Rattle.lil_asm.specs.declared.instr.Instr.TheVariants.{Liw, Lib, Dup, Drp, Swp, Lis, Llw, Llb, Slw, Slb, Lgw, Lgb, Sgw, Sgb, Lal, Lag, Ldi, Sti, Ldf, Adf, Mov, Mvz, Nlt, Ixc, Ixo, Rgc, Rgi, Cap, Adc, Sbc, Mlc, Dvc, Mdc, Adi, Sbi, Mli, Dvi, Mdi, Ngi, Abi, Uni, Dif, Its, Sym, Sin, Spn, Icl, Ecl, Sle, Not, Equ, Neq, Lsc, Lec, Lsi, Lei, Ent, Rtn, Jmp, Jpf, Jan, Jor, Jms, Jfs, Cas, Fri, Frn, Trp, Svc}
+use Rattle.lil_asm.specs.declared.instr.Instr.TheVariants.{Liw, Lib, Dup, Drp, Swp, Lis, Llw, Llb, Slw, Slb, Lgw, Lgb, Sgw, Sgb, Lal, Lag, Ldi, Sti, Ldf, Adf, Mov, Mvz, Nlt, Ixc, Ixo, Rgc, Rgi, Cap, Adc, Sbc, Mlc, Dvc, Mdc, Adi, Sbi, Mli, Dvi, Mdi, Ngi, Abi, Uni, Dif, Its, Sym, Sin, Spn, Icl, Ecl, Sle, Not, Equ, Neq, Lsc, Lec, Lsi, Lei, Ent, Rtn, Jmp, Jpf, Jan, Jor, Jms, Jfs, Cas, Fri, Frn, Trp, Alc, Svc}
 use Rattle.lil_asm.specs.Bytes.{word_at, with_byte, with_word, with_two_words, with_entries, with_loop, row, row_0, row_2, row_3, row_4, row_5, row_6, row_7, decoded, bytes_of}
 
 -- it begins at a place, lies within the code, and ends behind its bytes
@@ -172,7 +172,8 @@ row_7_stands b code p d l =
     (choice (b == 0x77) _ _ d S (loop_stands code p d)
     (choice (b == 0x78) _ _ d S (two_stand Frn (λ v w. refl) code p d)
     (choice (b == 0x79) _ _ d S (byte_stands Trp (λ b. refl) code p d)
-    (choice (b == 0x7d) _ _ d S (byte_stands Svc (λ b. refl) code p d) (λ h. cc)))))))))))
+    (choice (b == 0x7a) _ _ d S (one_stands Alc refl code p d l)
+    (choice (b == 0x7d) _ _ d S (byte_stands Svc (λ b. refl) code p d) (λ h. cc))))))))))))
 
 row_stands : (b : ℕ) (code : List ℕ) (p : ℕ) (d : Instr × ℕ) → p < length code → row b code p ≡ Some d → Stands code p d
 row_stands b code p d l =

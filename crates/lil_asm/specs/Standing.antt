@@ -6,7 +6,7 @@ use Rattle.std.proofs.lemmas.Bool.{le-leb}
 use Rattle.std.proofs.lemmas.Option.{slice_get-get_or, slice_get_within}
 use Rattle.lil_asm.specs.Bytes.{word_at, with_byte, with_word, with_two_words, with_entries, with_loop, row, row_of_digit, row_0, row_2, row_3, row_4, row_5, row_6, row_7, decoded, bytes_of, entry_bytes, Sayable}
 use Rattle.lil_asm.specs.declared.instr.Instr.{Instr}
-use Rattle.lil_asm.specs.declared.instr.Instr.TheVariants.{Liw, Lib, Dup, Drp, Swp, Lis, Llw, Llb, Slw, Slb, Lgw, Lgb, Sgw, Sgb, Lal, Lag, Ldi, Sti, Ldf, Adf, Mov, Mvz, Nlt, Ixc, Ixo, Rgc, Rgi, Cap, Adc, Sbc, Mlc, Dvc, Mdc, Adi, Sbi, Mli, Dvi, Mdi, Ngi, Abi, Uni, Dif, Its, Sym, Sin, Spn, Icl, Ecl, Sle, Not, Equ, Neq, Lsc, Lec, Lsi, Lei, Ent, Rtn, Jmp, Jpf, Jan, Jor, Jms, Jfs, Cas, Fri, Frn, Trp, Svc}
+use Rattle.lil_asm.specs.declared.instr.Instr.TheVariants.{Liw, Lib, Dup, Drp, Swp, Lis, Llw, Llb, Slw, Slb, Lgw, Lgb, Sgw, Sgb, Lal, Lag, Ldi, Sti, Ldf, Adf, Mov, Mvz, Nlt, Ixc, Ixo, Rgc, Rgi, Cap, Adc, Sbc, Mlc, Dvc, Mdc, Adi, Sbi, Mli, Dvi, Mdi, Ngi, Abi, Uni, Dif, Its, Sym, Sin, Spn, Icl, Ecl, Sle, Not, Equ, Neq, Lsc, Lec, Lsi, Lei, Ent, Rtn, Jmp, Jpf, Jan, Jor, Jms, Jfs, Cas, Fri, Frn, Trp, Alc, Svc}
 use Rattle.lil_asm.specs.Bytes.{Entry}
 
 -- these bytes stand in the code from place p on
@@ -175,6 +175,7 @@ decodes (Cas v w) code p s h = absurd s
 decodes (Fri o k t) code p s h = by_row code p 0x77 _ h.0 (loop_head_row code p 0x77 o k t h)
 decodes (Frn v w) code p s h = by_row code p 0x78 _ h.0 (two_words_row Frn code p 0x78 v w h)
 decodes (Trp w) code p s h = by_row code p 0x79 _ h.0 (byte_row Trp code p 0x79 w h)
+decodes Alc code p s h = by_row code p 0x7a _ h.0 refl
 decodes (Svc w) code p s h = by_row code p 0x7d _ h.0 (byte_row Svc code p 0x7d w h)
 
 -- the bytes of CASE decode to it where its entries lie within the code

@@ -80,6 +80,7 @@ pub fn encode(code: &mut Bytes, instr: Instr) -> Result<(), Memory>
         Instr::Fri(offset, kind, to) => put_loop(code, offset, kind, to),
         Instr::Frn(first, second) => put_two_words(code, 0x78, first, second),
         Instr::Trp(byte) => put_byte(code, 0x79, byte),
+        Instr::Alc => code.push(0x7a),
         Instr::Svc(byte) => put_byte(code, 0x7d, byte),
     }
 }

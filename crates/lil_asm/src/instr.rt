@@ -73,6 +73,7 @@ pub enum Instr {
     Fri(u16, u8, u16),
     Frn(u16, u16),
     Trp(u8),
+    Alc,
     Svc(u8),
 }
 
@@ -269,6 +270,7 @@ fn decode_jumps(first: u8, code: &[u8], place: usize) -> Option<(Instr, usize)>
             Some((Instr::Frn(first, second), place + 5))
         }
         0x79 => Some((Instr::Trp(*code.get(place + 1)?), place + 2)),
+        0x7a => Some((Instr::Alc, place + 1)),
         0x7d => Some((Instr::Svc(*code.get(place + 1)?), place + 2)),
         _ => None,
     }

@@ -77,7 +77,7 @@ record_is p fs = ap sense (sym (v.rolls-RecordOf p fs)) ∙ sort_rolled (o.Recor
 set_is : (p : Place) (x : Simple) → sense (v.SetOver p x) ≡ record { name = None; means = λ e. set_means e p x }
 set_is p x = ap sense (sym (v.rolls-SetOver p x)) ∙ sort_rolled (o.SetOver p x)
 
-pointer_is : (p : Place) (y : Sort) → sense (v.PointerTo p y) ≡ record { name = None; means = λ e. not_built p (pointer_means p (sense y).name (sense y).means e) }
+pointer_is : (p : Place) (y : Sort) → sense (v.PointerTo p y) ≡ record { name = None; means = λ e. pointer_means p (sense y).name (sense y).means e }
 pointer_is p y = ap sense (sym (v.rolls-PointerTo p y)) ∙ sort_rolled (o.PointerTo p y)
 
 procedure_is : (p : Place) (fs : List Formal) (q : Option Qualident) → sense (v.ProcedureOf p fs q) ≡ record { name = None; means = λ e. not_built p (procedure_means e p fs q) }
@@ -116,8 +116,8 @@ module _ {of : Sort} where
     pub is_set_over : {x : Simple} {p : Place} {m : Made} {s : Option Fault} → of ≡ v.SetOver p x → Said (set_means e p x) r m s → Said (sort_means e of) r m s
     is_set_over {x = x} {p = p} is h = said_as (ap (sort_means e) is ∙ ap (λ s. s.means e) (set_is p x)) h
 
-    pub is_pointer_to : (y : Sort) {p : Place} {m : Made} {a s : Option Fault} → of ≡ v.PointerTo p y → a ≡ noted r (row true p NotBuilt) → Said (pointer_means p (sense y).name (sense y).means e) a m s → Said (sort_means e of) r m s
-    is_pointer_to y {p = p} is note h = said_as (ap (sort_means e) is ∙ ap (λ s. s.means e) (pointer_is p y)) (said_not_built p note h)
+    pub is_pointer_to : (y : Sort) {p : Place} {m : Made} {s : Option Fault} → of ≡ v.PointerTo p y → Said (pointer_means p (sense y).name (sense y).means e) r m s → Said (sort_means e of) r m s
+    is_pointer_to y {p = p} is h = said_as (ap (sort_means e) is ∙ ap (λ s. s.means e) (pointer_is p y)) h
 
     pub is_procedure_of : (fs : List Formal) (q : Option Qualident) {p : Place} {m : Made} {a s : Option Fault} → of ≡ v.ProcedureOf p fs q → a ≡ noted r (row true p NotBuilt) → Said (procedure_means e p fs q) a m s → Said (sort_means e of) r m s
     is_procedure_of fs q {p = p} is note h = said_as (ap (sort_means e) is ∙ ap (λ s. s.means e) (procedure_is p fs q)) (said_not_built p note h)

@@ -117,8 +117,8 @@ sort_layer (o.Scalar x) = record { name = bare_name x; means = λ e. simple_mean
 sort_layer (o.ArrayOf p xs y) = record { name = None; means = λ e. array_means e p xs y.means }
 sort_layer (o.RecordOf p fs) = record { name = None; means = λ e. after (fields_by fs (e, no_fields)) (λ q. form_node q.0 p (record_form q.1)) }
 sort_layer (o.SetOver p x) = record { name = None; means = λ e. set_means e p x }
--- 90 NotBuilt, of each of these
-sort_layer (o.PointerTo p y) = record { name = None; means = λ e. not_built p (pointer_means p y.name y.means e) }
+sort_layer (o.PointerTo p y) = record { name = None; means = λ e. pointer_means p y.name y.means e }
+-- 90 NotBuilt
 sort_layer (o.ProcedureOf p fs q) = record { name = None; means = λ e. not_built p (procedure_means e p fs q) }
 
 unfoldable pub sense : Sort → Sense

@@ -172,7 +172,6 @@ pub fn sort(
             Ok(sort)
         }
         Sort::PointerTo(place, y) => {
-            report.note(true, *place, FaultKind::NotBuilt);
             let sort = pointer(alloc, env, report, *place, y.get())?;
             Ok(sort)
         }

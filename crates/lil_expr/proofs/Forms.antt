@@ -1,8 +1,8 @@
 -- The code of expressions, form by form.
-use Rattle.std.proofs.Common.{◌≡◌, ℕ, true, List, length, map, refl, subst}
+use Rattle.std.proofs.Common.{◌≡◌, ℕ, Bool, true, false, not, ◌&&◌, List, length, map, refl, subst}
 use Rattle.lil_base.specs.declared.operator.OneOp.{OneOp}
 use Rattle.lil_resolved.specs.Kinds.{Kind}
-use Rattle.lil_resolved.specs.Scalars.{Scalar, scalar_word, within}
+use Rattle.lil_resolved.specs.Scalars.{Scalar, scalar_word, within, is_literal, is_reference}
 use Rattle.lil_resolved.specs.Resolved.{Function, Expression, Constant, One, Apply, kind_of}
 use Rattle.lil_resolved.specs.declared.resolved.ROperation.{ROperation}
 use Rattle.lil_resolved.specs.Views.{chained, operation_of}
@@ -14,9 +14,17 @@ use Rattle.lil_labels.specs.Emitting.{emits_then, emits_as}
 use Rattle.lil_expr.specs.Generating.{Value, OperatingAll}
 use Rattle.lil_expr.proofs.Operators.{one_same}
 
+-- a literal is a value of its kind
+literal_within : (k : Kind) (v : Scalar) → is_literal k v ≡ true → within k v ≡ true
+literal_within k v h = by (within k v) (not (is_reference v)) h
+  where
+    by : (a b : Bool) → (a && b) ≡ true → a ≡ true
+    by true b h = refl
+    by false b h = h
+
 pub constant_emitted : (k : Kind) (v : Scalar) (w : ℕ) (a b : Draft) → (within k v ≡ true → w ≡ scalar_word v) → Emits a b (Doing (λ word. Liw w)) → Emits a b (Value (Constant k v))
 constant_emitted k v w a b is =
-    emits_as a b _ (Value (Constant k v)) (λ x load sound. record { fits = sound; load = subst (λ (w : ℕ). IsAt x.code (length a.bytes) (Liw w) (length b.bytes)) (is sound) load })
+    emits_as a b _ (Value (Constant k v)) (λ x load sound. record { fits = sound; load = subst (λ (w : ℕ). IsAt x.code (length a.bytes) (Liw w) (length b.bytes)) (is (literal_within k v sound)) load })
 
 pub one_emitted : (o : OneOp) (k : Kind) (e : Expression) (a b c : Draft) → Emits a b (Value e) → Emits b c (DoingAll (one_code o k)) → Emits a c (Value (One o (kind_of e) e))
 one_emitted o k e a b c value by =

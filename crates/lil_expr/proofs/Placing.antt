@@ -9,20 +9,20 @@ use Rattle.lil_resolved.specs.declared.shapes.RField.{RField}
 use Rattle.lil_resolved.specs.declared.shapes.RElements.{RElements}
 use Rattle.lil_resolved.specs.Kinds.{Kind, least, numbers}
 use Rattle.lil_resolved.specs.Shapes.{Shape, words, is_there, part_at, offset, shape_by, shape_at, element_of}
-use Rattle.lil_resolved.specs.Resolved.{Designator, Variable, Held, Field, Element, Expression, kind_of, shape_of}
+use Rattle.lil_resolved.specs.Resolved.{Designator, Variable, Held, Field, Element, Follow, Expression, kind_of, shape_of}
 use Rattle.lil_resolved.specs.Sound.{IsSoundPlace}
 use Rattle.lil_resolved.specs.Views.{root_view, selected, selector_of, place_of, shapes_of}
 use Rattle.lil_resolved.specs.Forms.{place_is}
-use Rattle.lil_asm.specs.declared.instr.Instr.TheVariants.{Llw, Ixc}
-use Rattle.lil_table.specs.Rows.{IsAt, InstrsAt, Access, InData, OnTop, Behind, further, offset_in, address_code, test_code}
+use Rattle.lil_asm.specs.declared.instr.Instr.TheVariants.{Llw, Ixc, Nlt}
+use Rattle.lil_table.specs.Rows.{IsAt, InstrsAt, Access, InData, OnTop, Behind, further, offset_in, address_code, load_code, test_code}
 use Rattle.lil_labels.specs.Entries.{small_at}
 use Rattle.lil_labels.specs.declared.buffer.HeldRecord.{HeldRecord}
-use Rattle.lil_labels.specs.Tables.{Tables, variable_by, part_by, elements_by, held_by}
+use Rattle.lil_labels.specs.Tables.{Tables, target_by, variable_by, part_by, elements_by, held_by}
 use Rattle.lil_labels.specs.Drafts.{Draft, Final, Emits, Doing, DoingAll}
 use Rattle.lil_labels.specs.Emitting.{emits_none, emits_then, emits_as, emits_tied}
 use Rattle.lil_expr.specs.Accesses.{words_in}
 use Rattle.lil_expr.specs.Generating.{Value, ReachedAt, Found, Selecting}
-use Rattle.lil_expr.specs.Variables.{standing, kept}
+use Rattle.lil_expr.specs.Variables.{standing, kept, pointed}
 use Rattle.lil_expr.proofs.Tables.{whole_there, array_there, row_is, part_within, PartIs, part_is, ElementsAre, elements_are}
 
 -- ---- variables
@@ -146,6 +146,37 @@ element_selected s k j e n w a es c0 c1 c2 c3 c4 form is typed worded address va
     (λ sound there. element_reached x d k j e n w a es start _ _ _ _ _ (is ∙ ap (λ (ts : Tables). elements_by (slice_get ts.shapes n)) (sym t.1)) typed worded sound there
     (place sound.2 (array_there (shape_of x.layout.scope d) there)) t.0.0 t.0.1.0 t.0.1.1.0 t.0.1.1.1))
     (emits_tied c0 c4 _ (emits_then c0 c1 c4 _ _ address (emits_then c1 c2 c4 _ _ value (emits_then c2 c3 c4 _ _ test element))))
+
+-- ---- what pointers point to
+follow_reached : (x : Final) (d : Designator) (i n m : ℕ) (a : Access) (p found loaded q : ℕ) → m ≡ target_by (slice_get x.tables.targets i) → IsSoundPlace x.layout.scope (Follow d i) → ReachedAt d a n x p found
+    → IsAt x.code found (load_code a) loaded → IsAt x.code loaded Nlt q → ReachedAt (Follow d i) OnTop m x p q
+follow_reached x d i n m a p found loaded q is sound r load test =
+    let table = shapes_of x.tables.shapes in
+    let lies : shape_at table m ≡ shape_at x.layout.scope.targets i = ap (shape_at table) is ∙ pointed x i sound.1 in
+    record {
+      place = record {
+        found = found;
+        loaded = loaded;
+        typed = sound.0;
+        there = sound.1;
+        here = r.place;
+        load = subst (λ (a : Access). IsAt x.code found (load_code a) loaded) r.access load;
+        test = test;
+      };
+      access = refl;
+      shape = lies;
+      within = omega (arith, ap words lies, small_at x.tables.shapes m x.described.measured);
+    }
+
+pub follow_selected : (s : RSelector) (i n m : ℕ) (a : Access) (c0 c1 c2 : Draft) → ((d : Designator) → selector_of s d ≡ Follow d i) → m ≡ target_by (slice_get c0.tables.targets i)
+    → Emits c0 c1 (Doing (λ word. load_code a)) → Emits c1 c2 (Doing (λ word. Nlt)) → Emits c0 c2 (Selecting s a n OnTop m)
+follow_selected s i n m a c0 c1 c2 form is load test =
+    emits_as c0 c2 _ (Selecting s a n OnTop m)
+    (λ x t start d place.
+    subst (λ (e : Designator). Found e OnTop m x start (length c2.bytes)) (sym (form d))
+    (λ sound there. follow_reached x d i n m a start _ _ _ (is ∙ ap (λ (ts : Tables). target_by (slice_get ts.targets i)) (sym t.1)) sound
+    (place sound.2 (ap is_there sound.0)) t.0.0 t.0.1))
+    (emits_tied c0 c2 _ (emits_then c0 c1 c2 _ _ load test))
 
 -- ---- one behind another
 selected_more : (d : Designator) (fs : List (Designator → Designator)) (f : Designator → Designator) → selected d (fs ++ f ∷ []) ≡ f (selected d fs)

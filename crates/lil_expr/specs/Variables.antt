@@ -1,16 +1,16 @@
--- Where the variables of a final code lie, and the records of the WITHs around.
-use Rattle.std.proofs.Common.{◌≡◌, ℕ, List, Option, Some, None, refl, sym, ap, ◌∙◌}
+-- Where the variables of a final code lie, the records of the WITHs around, and what pointers point to.
+use Rattle.std.proofs.Common.{◌≡◌, ℕ, true, List, Option, Some, None, refl, sym, ap, ◌∙◌}
 use Rattle.std.specs.Prelude.{slice_get}
 use Rattle.std.specs.Option.{option_map}
 use Rattle.std.proofs.lemmas.Option.{none-some, same_Some, slice_get-map}
 use Rattle.lil_resolved.specs.declared.resolved.RDeclared.{RDeclared}
 use Rattle.lil_resolved.specs.Kinds.{Kind}
-use Rattle.lil_resolved.specs.Shapes.{Shape, Word}
+use Rattle.lil_resolved.specs.Shapes.{Shape, Word, is_there, shape_by, shape_at}
 use Rattle.lil_resolved.specs.Sound.{IsSoundVariable}
-use Rattle.lil_resolved.specs.Views.{offset_of, shape_declared}
+use Rattle.lil_resolved.specs.Views.{offset_of, shape_declared, shapes_of}
 use Rattle.lil_table.specs.Rows.{KnownRow}
 use Rattle.lil_labels.specs.declared.buffer.HeldRecord.{HeldRecord}
-use Rattle.lil_labels.specs.Tables.{variable_by, word_held, shape_held}
+use Rattle.lil_labels.specs.Tables.{variable_by, target_by, word_held, shape_held}
 use Rattle.lil_labels.specs.Drafts.{Final}
 
 -- what a mapped item was made of
@@ -55,6 +55,18 @@ kept x w t h =
       shape = found.2;
       word = ap (λ (ws : List ℕ). slice_get ws w) x.described.held ∙ slice_get-map word_held hs w ∙ ap (option_map word_held) found.1;
     }
+
+-- what a pointer points to stands in the tables
+pub pointed : (x : Final) (n : ℕ) → is_there (shape_at x.layout.scope.targets n) ≡ true → shape_at (shapes_of x.tables.shapes) (target_by (slice_get x.tables.targets n)) ≡ shape_at x.layout.scope.targets n
+pointed x n there =
+    let ts = x.tables.targets in
+    let of = shape_at (shapes_of x.tables.shapes) in
+    let is : shape_at x.layout.scope.targets n ≡ shape_by (option_map of (slice_get ts n)) = ap (λ (ts : List Shape). shape_at ts n) x.described.targets ∙ ap shape_by (slice_get-map of ts n) in
+    by of (slice_get ts n) (ap is_there (sym is) ∙ there) ∙ sym is
+  where
+    by : (of : ℕ → Shape) (o : Option ℕ) → is_there (shape_by (option_map of o)) ≡ true → of (target_by o) ≡ shape_by (option_map of o)
+    by of None h = absurd (cc)
+    by of (Some m) h = refl
 
 pub offset_known : (x : Final) (v : ℕ) (t : Shape) → slice_get x.layout.scope.variables v ≡ Some t → slice_get x.layout.offsets v ≡ Some (variable_by (slice_get x.tables.variables v)).offset
 offset_known x v t h =

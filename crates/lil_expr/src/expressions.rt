@@ -64,7 +64,8 @@ pub fn emit_place(code: &mut CodeBuffer<'_>, of: &RPlace) -> Result<Reached, Mem
 }
 
 /// Appends the code that goes on from a place to a part of it: none to a field; to an element the address of its array, the
-/// index and its test, and the instruction that computes the element's address.
+/// index and its test, and the instruction that computes the element's address; to what a pointer points to the pointer's
+/// word, and the test that it isn't NIL.
 #[cycle(emitting)]
 fn emit_selector(
     code: &mut CodeBuffer<'_>,
@@ -91,6 +92,15 @@ fn emit_selector(
             Ok(Reached {
                 access: Access::OnTop,
                 shape: elements.shape,
+            })
+        }
+        RSelector::Follow(pointer) => {
+            let shape = code.target(*pointer);
+            emit_load(code, at.access)?;
+            code.put(Instr::Nlt)?;
+            Ok(Reached {
+                access: Access::OnTop,
+                shape,
             })
         }
     }
@@ -201,9 +211,11 @@ fn emit_two(code: &mut CodeBuffer<'_>, operator: TwoOp, base: RBase) -> Result<(
     match base {
         RBase::Set => emit_set(code, operator),
         RBase::Integer => emit_integer(code, operator),
-        RBase::Cardinal | RBase::Truth | RBase::Character | RBase::Enumeration(_) => {
-            emit_cardinal(code, operator)
-        }
+        RBase::Cardinal
+        | RBase::Truth
+        | RBase::Character
+        | RBase::Enumeration(_)
+        | RBase::Pointer(_) => emit_cardinal(code, operator),
     }
 }
 

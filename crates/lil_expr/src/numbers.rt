@@ -19,7 +19,8 @@ pub fn word_of_number(number: i32) -> u16
     number.rem_euclid(65536) as u16
 }
 
-/// The word of a constant of a base, by its number. That of a set has the numbers below 16 that are in the set.
+/// The word of a constant of a base, by its number. That of a set has the numbers below 16 that are in the set, and that of
+/// NIL is 0.
 #[tactic(auto, using(crate::proofs::Sets::low_word))]
 pub(crate) fn constant_word(base: RBase, number: i32) -> u16
     ensures { within (base_view base) (scalar_of (base_view base) number) ≡ true → result ≡ scalar_word (scalar_of (base_view base) number) }
@@ -28,5 +29,6 @@ pub(crate) fn constant_word(base: RBase, number: i32) -> u16
         RBase::Truth => u16::from(number != 0),
         RBase::Cardinal | RBase::Integer | RBase::Character | RBase::Enumeration(_) | RBase::Set =>
             word_of_number(number),
+        RBase::Pointer(_) => 0,
     }
 }

@@ -21,8 +21,8 @@ pub record Draft : Type 0 where
   pub places : List (Option ℕ)
   pub jumps : List Jump
 
-abbrev pub empty : List RShape → List RDeclared → ℕ → Draft
-empty shapes variables words = record { tables = record { shapes = shapes; variables = variables; words = words; held = [] }; strings = []; bytes = []; places = []; jumps = [] }
+abbrev pub empty : List RShape → List ℕ → List RDeclared → ℕ → Draft
+empty shapes targets variables words = record { tables = record { shapes = shapes; targets = targets; variables = variables; words = words; held = [] }; strings = []; bytes = []; places = []; jumps = [] }
 
 -- inside of a WITH too
 abbrev pub inside : HeldRecord → Draft → Draft

@@ -99,6 +99,7 @@ inside_of h x = record {
   layout = holding x.layout (shape_held x.tables.shapes h) h.word;
   described = record {
     measured = x.described.measured;
+    targets = x.described.targets;
     shapes = x.described.shapes;
     offsets = x.described.offsets;
     within = x.described.within;

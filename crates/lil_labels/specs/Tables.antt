@@ -1,4 +1,4 @@
--- The tables of a module: where its variables lie, and what its shapes have; and the records of the WITHs around.
+-- The tables of a module: where its variables lie, what its shapes have, and to what its pointers point; and the records of the WITHs around.
 use Rattle.std.specs.Prelude.{◌≡◌, ℕ, ◌+◌, ◌-◌, ◌*◌, ◌≤◌, min, List, [], length, Option, Some, None, map, slice_get, nat_lt, if◌then◌else◌}
 use Rattle.lil_resolved.specs.declared.resolved.RDeclared.{RDeclared}
 use Rattle.lil_resolved.specs.declared.shapes.RField.{RField}
@@ -10,9 +10,11 @@ use Rattle.lil_resolved.specs.Views.{AreMeasured, offset_of, shape_declared, sha
 use Rattle.lil_table.specs.Rows.{Layout}
 use Rattle.lil_labels.specs.declared.buffer.HeldRecord.{HeldRecord}
 
--- the shapes, the variables and how many words they take, and the records of the WITHs around, the innermost first
+-- the shapes, the numbers of those to which pointer types point, the variables and how many words they take, and the records of the WITHs
+-- around, the innermost first
 pub record Tables : Type 0 where
   pub shapes : List RShape
+  pub targets : List ℕ
   pub variables : List RDeclared
   pub words : ℕ
   pub held : List HeldRecord
@@ -76,6 +78,11 @@ abbrev pub plain_words_by : Option RShape → ℕ
 plain_words_by None = 0
 plain_words_by (Some t) = plain_words t
 
+-- the number of the shape to which a pointer type points; 0 where there is none
+abbrev pub target_by : Option ℕ → ℕ
+target_by None = 0
+target_by (Some n) = n
+
 -- the word of the frame that has a record's address, and the number of its shape; zeros where there is none
 abbrev pub held_by : Option HeldRecord → HeldRecord
 held_by None = record { word = 0; shape = 0 }
@@ -87,9 +94,11 @@ word_held h = h.word
 abbrev pub shape_held : List RShape → HeldRecord → Shape
 shape_held ts h = shape_at (shapes_of ts) h.shape
 
--- The shapes are measured, the variables and the records of the WITHs around are those of a layout, and each variable lies in 32,000 words.
+-- The shapes are measured, what pointers point to, the variables and the records of the WITHs around are those of a layout, and each variable
+-- lies in 32,000 words.
 pub record Describe (t : Tables) (l : Layout) : Type 0 where
   pub measured : AreMeasured [] t.shapes
+  pub targets : l.scope.targets ≡ map (shape_at (shapes_of t.shapes)) t.targets
   pub shapes : l.scope.variables ≡ map (shape_declared t.shapes) t.variables
   pub offsets : l.offsets ≡ map offset_of t.variables
   pub within : (x : ℕ) (v : RDeclared) → slice_get t.variables x ≡ Some v → v.offset + words (shape_declared t.shapes v) ≤ 32000

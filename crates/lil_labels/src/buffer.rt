@@ -5,7 +5,7 @@ ghost use Rattle.lil_asm.specs.Bytes.{Sayable};
 ghost use Rattle.lil_resolved.specs.Shapes.{words, shape_at};
 ghost use Rattle.lil_resolved.specs.Views.{AreMeasured, shapes_of};
 ghost use Rattle.lil_labels.specs.Tables as tables;
-ghost use Rattle.lil_labels.specs.Tables.{variable_by, part_in, part_by, elements_in, elements_by, last_in, last_by, below, plain_words_by, held_by};
+ghost use Rattle.lil_labels.specs.Tables.{target_by, variable_by, part_in, part_by, elements_in, elements_by, last_in, last_by, below, plain_words_by, held_by};
 ghost use Rattle.lil_labels.specs.Drafts.{empty, inside, outside, words_of, aimed, code_of, settled_word, Emits, Nothing, Saying, Doing, AreSayable, DoingAll, Choosing, Marking, Entering, IsOpen, Makes, Places, Notes};
 
 use lil_asm::{Instr, encode, encode_entry};
@@ -176,13 +176,14 @@ fn text_words(alloc: Global, text: &[u8]) -> Result<Vec<u16>, Memory>
     Ok(words)
 }
 
-/// Code that is being written for a module: the module's shapes and variables, how many words these take, the words of the
-/// strings so far, the records of the WITHs around, the innermost first, the bytes so far, the place of each label that has
-/// one, and the jumps.
+/// Code that is being written for a module: the module's shapes, by the numbers of its pointer types those of the shapes to
+/// which they point, its variables, how many words these take, the words of the strings so far, the records of the WITHs
+/// around, the innermost first, the bytes so far, the place of each label that has one, and the jumps.
 #[derive(Drop)]
 pub struct CodeBuffer<'m> {
     alloc: Global,
     shapes: &'m [RShape],
+    targets: &'m [usize],
     variables: &'m [RDeclared],
     words: u16,
     strings: Vec<u16>,
@@ -198,25 +199,27 @@ impl<'m> Model for CodeBuffer<'m> {
 
     ghost Value = { Draft };
 
-    ghost view = { λ c. record { tables = record { shapes = c.shapes.now; variables = c.variables.now; words = c.words; held = c.held.items }; strings = c.strings.items; bytes = c.bytes; places = c.places.items; jumps = c.jumps.items } };
+    ghost view = { λ c. record { tables = record { shapes = c.shapes.now; targets = c.targets.now; variables = c.variables.now; words = c.words; held = c.held.items }; strings = c.strings.items; bytes = c.bytes; places = c.places.items; jumps = c.jumps.items } };
 
     ghost invariant = { λ c. IsSound (c.words + length c.strings.items) (length c.bytes) c.places.items c.jumps.items };
 }
 
 impl<'m> CodeBuffer<'m> {
-    /// No code of a module with these shapes and variables, which take so many words.
+    /// No code of a module with these shapes, targets of pointers, and variables, which take so many words.
     pub fn new(
         alloc: Global,
         shapes: &'m [RShape],
+        targets: &'m [usize],
         variables: &'m [RDeclared],
         words: u16,
     ) -> CodeBuffer<'m>
         requires { words ≤ 32000 }
-        ensures { result ≡ empty shapes.now variables.now words }
+        ensures { result ≡ empty shapes.now targets.now variables.now words }
     {
         CodeBuffer {
             alloc,
             shapes,
+            targets,
             variables,
             words,
             strings: Vec::new(alloc),
@@ -259,6 +262,13 @@ impl<'m> CodeBuffer<'m> {
             Some(found) => elements_of(found),
             None => NO_ELEMENTS,
         }
+    }
+
+    /// The number of the shape to which pointers of a type point, by the type's number; 0 where there is none.
+    pub fn target(&self, pointer: usize) -> usize
+        ensures { result ≡ target_by (slice_get self.now.tables.targets pointer) }
+    {
+        self.targets.get(pointer).copied().unwrap_or(0)
     }
 
     /// How many words a shape takes, where the shapes are measured.

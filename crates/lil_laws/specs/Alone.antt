@@ -1,22 +1,28 @@
 -- From a program module that is loaded alone.
-use Rattle.std.proofs.Common.{◌≡◌, ℕ, zero, suc, ◌+◌, ◌*◌, ◌<◌, ◌≤◌, true, Option, Some, None, List, [], ◌∷◌, length, refl, sym, ap, ◌∙◌, arith}
+use Rattle.std.proofs.Common.{◌≡◌, ℕ, zero, suc, ◌+◌, ◌-◌, ◌*◌, ◌<◌, ◌≤◌, ◌⊎◌, inl, inr, Bool, true, ◌&&◌, Option, Some, None, List, [], ◌∷◌, length, refl, sym, ap, ◌∙◌, arith}
 use Rattle.std.specs.Prelude.{nat_le, slice_get}
-use Rattle.std.proofs.lemmas.Bool.{le-leb}
+use Rattle.std.proofs.lemmas.Bool.{le-leb, cases_lt, true≢false}
 use Rattle.std.proofs.lemmas.Option.{none-some, same_Some}
 use Rattle.lil_base.specs.declared.fault.TrapKind.{TrapKind}
+use Rattle.lil_base.specs.declared.fault.LimitKind.{LimitKind}
+use Rattle.lil_base.specs.declared.fault.LimitKind.TheVariants as limit
 use Rattle.lil_resolved.specs.Shapes.{all_words}
 use Rattle.lil_resolved.specs.Resolved.{Statement, Assign, If, Case, While, Repeat, Loop, For, Inside, Statements, Empty, Then, Arms, NoElse, Else, Arm, Resolved}
 use Rattle.lil_resolved.specs.Depth.{statement_words, body_words, arms_words, frame_words}
 use Rattle.lil_resolved.specs.Sizes.{IsSmall, statement_size, body_size, arms_size}
 use Rattle.lil_meaning.specs.World.{World}
-use Rattle.lil_meaning.specs.Items.{Phase, Trapped}
-use Rattle.lil_meaning.specs.Runs.{state_of}
+use Rattle.lil_meaning.specs.Cells.{heap_words}
+use Rattle.lil_meaning.specs.Items.{Phase, Trapped, Source}
+use Rattle.lil_meaning.specs.Steps.{next}
+use Rattle.lil_meaning.specs.Runs.{begun, state_of}
 use Rattle.lil_mcode.specs.State.{Module, State, module_at}
 use Rattle.lil_table.specs.Rows.{Translates}
 use Rattle.lil_match.specs.Running.{mrun, running}
 use Rattle.lil_match.specs.Parts.{yes}
-use Rattle.lil_laws.specs.Loading.{Compiled, entry_for, table_from, image, body_alone, loaded}
-use Rattle.lil_laws.specs.Whole.{TrapsIn, Unlimited, Agrees}
+use Rattle.lil_match.specs.Goes.{Short}
+use Rattle.lil_laws.specs.Loading.{Compiled, IsSpent, entry_for, table_from, image, body_alone, loaded}
+use Rattle.lil_laws.specs.Whole.{TrapsIn, Unlimited, Agrees, agrees_more}
+use Rattle.lil_laws.specs.Reaching.{Reaches}
 use Rattle.lil_laws.specs.Start as all
 use Rattle.lil_laws.specs.Start.{Body}
 
@@ -55,6 +61,11 @@ module _ (p : Resolved) (strings code : List ℕ) (small : IsSmall p strings) (t
   abbrev pub begins : State
   begins = image (one ∷ []) 1 []
 
+  -- its pointers point to what it says
+  same : all.Pointing (one ∷ []) p.targets
+  same zero o e = ap (λ (x : Compiled). x.text.targets) (sym (same_Some one o e))
+  same (suc i) o e = absurd (none-some o e)
+
   room : 1 + (all_words p.variables + length strings) + frame_words p.body ≤ 65535
   room = omega (arith, body_small p.body, small.code, small.words)
 
@@ -64,20 +75,32 @@ module _ (p : Resolved) (strings code : List ℕ) (small : IsSmall p strings) (t
       let room : nat_le (1 + (all_words p.variables + length strings) + 4) 65535 ≡ true = le-leb (1 + (all_words p.variables + length strings) + 4) 65535 (omega (arith, small.words)) in
       yes _ _ _ room
 
+  -- the store's limit alone can come
+  spent : (t : Source) (k : LimitKind) → Short (all.ctx (one ∷ []) p.targets same its_body [] room).stack t (next (p ∷ []) t) k → IsSpent p strings k t
+  spent t limit.Stack e = cc
+  spent t limit.Store e = record { kind = refl; short = by (cases_lt (65518 - heap_words (next (p ∷ []) t).objects) (1 + (all_words p.variables + length strings) + frame_words p.body)) }
+    where
+      by : (65518 - heap_words (next (p ∷ []) t).objects < 1 + (all_words p.variables + length strings) + frame_words p.body)
+          ⊎ (1 + (all_words p.variables + length strings) + frame_words p.body ≤ 65518 - heap_words (next (p ∷ []) t).objects)
+          → 65535 < 1 + (all_words p.variables + length strings) + (frame_words p.body + 17) + heap_words (next (p ∷ []) t).objects
+      by (inl less) = omega (arith, less)
+      by (inr more) =
+          let fits : nat_le (1 + (all_words p.variables + length strings) + frame_words p.body) (65518 - heap_words (next (p ∷ []) t).objects) ≡ true = le-leb _ _ more in
+          absurd (true≢false (sym (ap (λ (b : Bool). b && true) fits) ∙ e))
+  spent t k e = absurd e
+
   pub record Correct (w : World) (steps : ℕ) : Type 0 where
     pub n : ℕ
-    pub agrees : Agrees table true (state_of p w n) (mrun steps (running begins w))
+    pub agrees : Agrees table (IsSpent p strings) (state_of p w n) (mrun steps (running begins w))
     pub far : Unlimited (mrun steps (running begins w)) → steps < 32 * n + 33
 
   pub correct : (w : World) (steps : ℕ) → Correct w steps
-  correct w steps = let c = all.correct (one ∷ []) its_body [] room w steps in record { n = c.n; agrees = c.agrees; far = c.far }
+  correct w steps =
+      let c = all.correct (one ∷ []) p.targets same its_body [] room w steps in
+      record { n = c.n; agrees = agrees_more table _ (IsSpent p strings) (state_of p w c.n) (mrun steps (running begins w)) (spent (state_of p w c.n)) c.agrees; far = c.far }
 
-  pub record Reached (w : World) (n : ℕ) : Type 0 where
-    pub steps : ℕ
-    pub screen : (mrun steps (running begins w)).world.screen ≡ (state_of p w n).world.screen
-
-  pub reached : (w : World) (n : ℕ) → Reached w n
-  reached w n = let r = all.reached (one ∷ []) its_body [] room refl w n in record { steps = r.steps; screen = r.screen }
+  pub reached : (w : World) (n : ℕ) → Reaches (p ∷ []) (begun (p ∷ []) (0 ∷ []) (1 ∷ []) w) (running begins w) n
+  reached w n = all.reached (one ∷ []) p.targets same its_body [] room w n
 
   -- the one module of the table
   abbrev pub own : Module

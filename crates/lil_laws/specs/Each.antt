@@ -3,23 +3,24 @@ use Rattle.std.proofs.Common.{◌≡◌, ℕ, ◌+◌, true, List, [], ◌∷◌
 use Rattle.std.specs.Prelude.{ℤ}
 use Rattle.lil_resolved.specs.Kinds.{Kind}
 use Rattle.lil_resolved.specs.Scalars.{Scalar, within}
-use Rattle.lil_resolved.specs.Resolved.{Designator, Variable, Held, Field, Element, Expression, Constant, Taken, One, Two, Short, Apply, With, WithSpan, Assign, Copy, Text, Inside, Change, Member, Request, If, Case, While, Repeat, Loop, Exit, Halt, Return, For, Statements}
+use Rattle.lil_resolved.specs.Resolved.{Designator, Variable, Held, Field, Element, Follow, Expression, Constant, Taken, One, Two, Short, Apply, With, WithSpan, Assign, Copy, Text, Inside, Change, Member, New, Request, If, Case, While, Repeat, Loop, Exit, Halt, Return, For, Statements}
 use Rattle.lil_meaning.specs.Cells.{Place}
-use Rattle.lil_meaning.specs.Items.{Scalars, Places, Wholes, Opens, Texts, Hole, Get, Part, IndexBy, IndexAt, SetTo, StoreAt, CopyTo, CopyFrom, TextTo, ChangeBy, ChangeAt, OneOf, LeftOf, RightOf, ShortOf, ApplyTo, WithMember, MemberOf, WithMembers, MembersFrom, MembersTo, MemberBy, MemberAt, Pass, PassArray, Choose, Turn, Again, Pick, Hold, StartOf, LimitOf, Task, Do, Passing, Until, Looping, Turns, Holding, End, Item, Value, Evaluate, PlaceOf, Fill, Perform, Source}
+use Rattle.lil_meaning.specs.Items.{Scalars, Places, Wholes, Opens, Texts, Hole, Get, Part, IndexBy, IndexAt, Pointed, SetTo, StoreAt, CopyTo, CopyFrom, TextTo, NewAt, ChangeBy, ChangeAt, OneOf, LeftOf, RightOf, ShortOf, ApplyTo, WithMember, MemberOf, WithMembers, MembersFrom, MembersTo, MemberBy, MemberAt, Pass, PassArray, Choose, Turn, Again, Pick, Hold, StartOf, LimitOf, Task, Do, Passing, Until, Looping, Turns, Holding, End, Item, Value, Evaluate, PlaceOf, Fill, Perform, Source}
 use Rattle.lil_resolved.specs.Shapes.{Shape}
 use Rattle.lil_mcode.specs.State.{State}
 use Rattle.lil_mcode.specs.Table.{going}
 use Rattle.lil_table.specs.Rows.{Access}
-use Rattle.lil_match.specs.Homes.{word_for}
+use Rattle.lil_match.specs.Homes.{word_for, Refers}
 use Rattle.lil_match.specs.Goes.{Shared, Goes}
 use Rattle.lil_match.specs.Waits.{Setting, frame_of, Mode, Quiet, ValueOf, AtPlace, Around, Reach, AfterJumps, BeginWaits, NextWaits, ItemWaits, RowsOf, Rows, Ahead, HasPlace, Waiting}
 use Rattle.lil_match.specs.Steps.{jumped}
-use Rattle.lil_laws_place.specs.Elements.{variable_goes, held_goes, field_goes, element_goes, part_goes, index_by_goes, index_at_goes}
+use Rattle.lil_laws_place.specs.Elements.{variable_goes, held_goes, field_goes, element_goes, follow_goes, pointed_goes, part_goes, index_by_goes, index_at_goes}
 use Rattle.lil_laws_expr.specs.Expressions.{constant_goes, taken_goes, one_goes, two_goes, short_begins, apply_goes, get_goes, one_of_goes, left_goes, right_goes, short_of_goes, apply_of_goes}
 use Rattle.lil_laws_expr.specs.Sets.{with_goes, with_span_goes, with_member_goes, member_of_goes, with_members_goes, members_from_goes, members_to_goes}
 use Rattle.lil_laws_stmt.specs.Tasks.{copy_goes, copy_to_goes, copy_from_goes, assign_goes, set_goes, store_goes}
 use Rattle.lil_laws_stmt.specs.Requests.{request_goes, passing_goes, pass_goes, pass_array_goes, serve_goes}
 use Rattle.lil_laws_stmt.specs.Strings.{text_goes, text_to_goes}
+use Rattle.lil_laws_stmt.specs.News.{new_goes, new_at_goes}
 use Rattle.lil_laws_stmt.specs.Withs.{inside_goes, hold_goes, holding_goes}
 use Rattle.lil_laws_stmt.specs.Control.{if_goes, choose_goes, while_goes, turn_goes, repeat_goes, until_goes, again_goes, loop_goes, looping_goes}
 use Rattle.lil_laws_stmt.specs.Changes.{change_goes, change_by_goes, change_at_goes}
@@ -42,30 +43,30 @@ module _ (ctx : Setting) where
 
   module _ (s : Source) (k : List Item) (m : State) (c : ℕ) (a : Around) (shared : Shared ctx s m) where
     -- a value goes into a hole
-    scalar_step : (v : Scalar) (o : Hole) (kind : Kind) → within kind v ≡ true → (below : List ℕ) → m.stack ≡ word_for h v ∷ below
+    scalar_step : (v : Scalar) (o : Hole) (kind : Kind) → within kind v ≡ true → Refers h kind v → (below : List ℕ) → m.stack ≡ word_for h v ∷ below
         → Waiting ctx (Fill o) (Rows ctx k) (ValueOf kind) m.place below c a → Goes ctx s (Value (Scalars v) ∷ Fill o ∷ k) m (c + 32)
-    scalar_step v (IndexAt place j) kind fits below is r = index_at_goes ctx s k m c a shared place j v kind fits below is r
-    scalar_step v (StoreAt place j) kind fits below is r = store_goes ctx s k m c a shared place j v kind fits below is r
-    scalar_step v (ChangeAt down place j) kind fits below is r = change_at_goes ctx s k m c a shared down place j v kind fits below is r
-    scalar_step v (OneOf o j) kind fits below is r = one_of_goes ctx s k m c a shared o j v kind fits below is r
-    scalar_step v (LeftOf o j f) kind fits below is r = left_goes ctx s k m c a shared o j f v kind fits below is r
-    scalar_step v (RightOf o j u) kind fits below is r = right_goes ctx s k m c a shared o j u v kind fits below is r
-    scalar_step v (ShortOf d f) kind fits below is r = short_of_goes ctx s k m c a shared d f v kind fits below is r
-    scalar_step v (ApplyTo f) kind fits below is r = apply_of_goes ctx s k m c a shared f v kind fits below is r
-    scalar_step v (WithMember j f) kind fits below is r = with_member_goes ctx s k m c a shared v kind fits below is j f r
-    scalar_step v (MemberOf u j) kind fits below is r = member_of_goes ctx s k m c a shared v kind fits below is u j r
-    scalar_step v (WithMembers j f g) kind fits below is r = with_members_goes ctx s k m c a shared v kind fits below is j f g r
-    scalar_step v (MembersFrom u j f) kind fits below is r = members_from_goes ctx s k m c a shared v kind fits below is u j f r
-    scalar_step v (MembersTo u j low) kind fits below is r = members_to_goes ctx s k m c a shared v kind fits below is u j low r
-    scalar_step v (MemberAt out place j) kind fits below is r = member_at_goes ctx s k m c a shared out place j v kind fits below is r
-    scalar_step v (Pass q j done left) kind fits below is r = pass_goes ctx s k m c a shared q j done left v kind fits below is r
-    scalar_step v (Choose first second) kind fits below is r = choose_goes ctx s k m c a shared first second v kind fits below is r
-    scalar_step v (Turn e body) kind fits below is r = turn_goes ctx s k m c a shared e body v kind fits below is r
-    scalar_step v (Again body e) kind fits below is r = again_goes ctx s k m c a shared body e v kind fits below is r
-    scalar_step v (Pick arms) kind fits below is r = pick_goes ctx s k m c a shared arms v kind fits below is r
-    scalar_step v (StartOf x j b step body) kind fits below is r = start_goes ctx s k m c a shared x j b step body v kind fits below is r
-    scalar_step v (LimitOf x j u step body) kind fits below is r = limit_goes ctx s k m c a shared x j u step body v kind fits below is r
-    scalar_step v o kind fits below is r = absurd r.part
+    scalar_step v (IndexAt place j) kind fits refers below is r = index_at_goes ctx s k m c a shared place j v kind fits below is r
+    scalar_step v (StoreAt place j) kind fits refers below is r = store_goes ctx s k m c a shared place j v kind fits refers below is r
+    scalar_step v (ChangeAt down place j) kind fits refers below is r = change_at_goes ctx s k m c a shared down place j v kind fits below is r
+    scalar_step v (OneOf o j) kind fits refers below is r = one_of_goes ctx s k m c a shared o j v kind fits below is r
+    scalar_step v (LeftOf o j f) kind fits refers below is r = left_goes ctx s k m c a shared o j f v kind fits refers below is r
+    scalar_step v (RightOf o j u) kind fits refers below is r = right_goes ctx s k m c a shared o j u v kind fits refers below is r
+    scalar_step v (ShortOf d f) kind fits refers below is r = short_of_goes ctx s k m c a shared d f v kind fits below is r
+    scalar_step v (ApplyTo f) kind fits refers below is r = apply_of_goes ctx s k m c a shared f v kind fits below is r
+    scalar_step v (WithMember j f) kind fits refers below is r = with_member_goes ctx s k m c a shared v kind fits below is j f r
+    scalar_step v (MemberOf u j) kind fits refers below is r = member_of_goes ctx s k m c a shared v kind fits below is u j r
+    scalar_step v (WithMembers j f g) kind fits refers below is r = with_members_goes ctx s k m c a shared v kind fits below is j f g r
+    scalar_step v (MembersFrom u j f) kind fits refers below is r = members_from_goes ctx s k m c a shared v kind fits below is u j f r
+    scalar_step v (MembersTo u j low) kind fits refers below is r = members_to_goes ctx s k m c a shared v kind fits below is u j low r
+    scalar_step v (MemberAt out place j) kind fits refers below is r = member_at_goes ctx s k m c a shared out place j v kind fits below is r
+    scalar_step v (Pass q j done left) kind fits refers below is r = pass_goes ctx s k m c a shared q j done left v kind fits below is r
+    scalar_step v (Choose first second) kind fits refers below is r = choose_goes ctx s k m c a shared first second v kind fits below is r
+    scalar_step v (Turn e body) kind fits refers below is r = turn_goes ctx s k m c a shared e body v kind fits below is r
+    scalar_step v (Again body e) kind fits refers below is r = again_goes ctx s k m c a shared body e v kind fits below is r
+    scalar_step v (Pick arms) kind fits refers below is r = pick_goes ctx s k m c a shared arms v kind fits below is r
+    scalar_step v (StartOf x j b step body) kind fits refers below is r = start_goes ctx s k m c a shared x j b step body v kind fits below is r
+    scalar_step v (LimitOf x j u step body) kind fits refers below is r = limit_goes ctx s k m c a shared x j u step body v kind fits below is r
+    scalar_step v o kind fits refers below is r = absurd r.part
 
     -- a place goes into a hole
     place_step : (place : Place) (o : Hole) (b : Access) (t : Shape) (below : List ℕ) → HasPlace ctx b place t m.stack below
@@ -76,6 +77,8 @@ module _ (ctx : Setting) where
     place_step place (SetTo j e) b t below has r = set_goes ctx s k m c a shared j e place b t below has r
     place_step place (CopyTo from) b t below has r = copy_to_goes ctx s k m c a shared from place b t below has r
     place_step place (CopyFrom to) b t below has r = copy_from_goes ctx s k m c a shared to place b t below has r
+    place_step place Pointed b t below has r = pointed_goes ctx s k m c a shared place b t below has r
+    place_step place (NewAt n) b t below has r = new_at_goes ctx s k m c a shared n place b t below has r
     place_step place (TextTo cs) b t below has r = text_to_goes ctx s k m c a shared cs place b t below has r
     place_step place (PassArray q high done left) b t below has r = pass_array_goes ctx s k m c a shared q high done left place b t below has r
     place_step place (Hold body) b t below has r = hold_goes ctx s k m c a shared body place b t below has r
@@ -88,6 +91,7 @@ module _ (ctx : Setting) where
     designator_step (Held w) r = held_goes ctx s k m c a shared w r
     designator_step (Field d i) r = field_goes ctx s k m c a shared d i r
     designator_step (Element d kind e) r = element_goes ctx s k m c a shared d kind e r
+    designator_step (Follow d n) r = follow_goes ctx s k m c a shared d n r
 
     expression_step : (e : Expression) → Waiting ctx (Evaluate e) (Rows ctx k) Quiet m.place m.stack c a → Goes ctx s (Evaluate e ∷ k) m (c + 32)
     expression_step (Constant kind v) r = constant_goes ctx s k m c a shared kind v r
@@ -103,6 +107,7 @@ module _ (ctx : Setting) where
     task_step (Do (Assign d kind e)) r = assign_goes ctx s k m c a shared d kind e r
     task_step (Do (Copy d from)) r = copy_goes ctx s k m c a shared d from r
     task_step (Do (Text d cs)) r = text_goes ctx s k m c a shared d cs r
+    task_step (Do (New d n)) r = new_goes ctx s k m c a shared d n r
     task_step (Do (Inside d body)) r = inside_goes ctx s k m c a shared d body r
     task_step (Do (Change down d kind e)) r = change_goes ctx s k m c a shared down d kind e r
     task_step (Do (Member out d kind e)) r = member_goes ctx s k m c a shared out d kind e r
@@ -148,7 +153,7 @@ module _ (ctx : Setting) where
       → Waiting ctx (Value (Scalars v)) (Rows ctx (i ∷ k)) Quiet m.place m.stack c a → Goes ctx s (Value (Scalars v) ∷ i ∷ k) m (c + 32)
   value_row s m c a shared v (Fill o) k r =
       from_there s m c a shared (Value (Scalars v) ∷ Fill o ∷ k) (Waiting ctx (Fill o) (Rows ctx k)) (ValueOf r.part.kind) r.part.below r.then
-      (scalar_step s k (going m r.then.start m.stack) r.then.later a shared v o r.part.kind r.part.fits r.part.below r.part.is r.then.there)
+      (scalar_step s k (going m r.then.start m.stack) r.then.later a shared v o r.part.kind r.part.fits r.part.refers r.part.below r.part.is r.then.there)
   value_row s m c a shared v (Perform t) k r = absurd (no_task t k (ValueOf r.part.kind) _ _ _ _ (value_quiet r.part.kind) r.then.there)
   value_row s m c a shared v i k r = absurd r.then.there.part
 

@@ -1,6 +1,12 @@
 -- The machine after modules were loaded: their data from word 1 one behind another, and the first body begun.
-use Rattle.std.specs.Prelude.{◌≡◌, true, ℕ, suc, ◌+◌, List, [], ◌∷◌, length, Option, None, Some, slice_get}
+use Rattle.std.specs.Prelude.{◌≡◌, true, ℕ, suc, ◌+◌, ◌<◌, List, [], ◌∷◌, length, Option, None, Some, slice_get}
+use Rattle.lil_base.specs.declared.fault.LimitKind.{LimitKind}
+use Rattle.lil_base.specs.declared.fault.LimitKind.TheVariants as limit
 use Rattle.lil_resolved.specs.Shapes.{all_words}
+use Rattle.lil_resolved.specs.Depth.{frame_words}
+use Rattle.lil_meaning.specs.Cells.{heap_words}
+use Rattle.lil_meaning.specs.Items.{Source}
+use Rattle.lil_meaning.specs.Steps.{next}
 use Rattle.lil_resolved.specs.Resolved.{Resolved}
 use Rattle.lil_mcode.specs.State.{Module, State, spliced, zeros, cleared}
 use Rattle.lil_mcode.specs.Calls.{Machine, fresh, with_level, with_module, with_words, with_bodies}
@@ -61,12 +67,17 @@ image os first rest = record {
   limit = 65535;
   bodies = rest;
   marked = true;
-  blocks = [];
   parked = [];
   waiting = [];
 }
 
 -- ---- a program module that is loaded alone
+-- A state that comes to the store's limit: with the objects of the next state, data, the frame and a whole expression stack with its length
+-- take more words than the store has.
+pub record IsSpent (p : Resolved) (strings : List ℕ) (k : LimitKind) (t : Source) : Type 0 where
+  pub kind : k ≡ limit.Store
+  pub short : 65535 < 1 + (all_words p.variables + length strings) + (frame_words p.body + 17) + heap_words (next (p ∷ []) t).objects
+
 -- a body alone, at the beginning of the code
 abbrev pub body_alone : List (ℕ × Option (List ℕ))
 body_alone = (0, None) ∷ []

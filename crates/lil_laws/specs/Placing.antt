@@ -15,7 +15,7 @@ use Rattle.lil_resolved.specs.Resolved.{Resolved}
 use Rattle.lil_meaning.specs.Cells.{Root, Global, Local, Object, loaded_at, variables_of, first_shape, zero_in, fresh_cells}
 use Rattle.lil_mcode.specs.State.{zeros, cleared}
 use Rattle.lil_match.specs.Parts.{yes, no, part_fits, word_long}
-use Rattle.lil_match.specs.Homes.{word_for, plain_word, Owner, Of, Own, Fixed, Free, Home, Mem}
+use Rattle.lil_match.specs.Homes.{zero_is, Owner, Of, Own, Fixed, Free, Home, Mem}
 use Rattle.lil_match.specs.Splices.{spliced_length, spliced_before, spliced_there, spliced_after, zeros_length, zeros_word}
 use Rattle.lil_laws.specs.Loading.{Compiled, text_of, data_of, data_end, entry_for, table_from, numbers_from, one_placed, data_placed}
 
@@ -235,23 +235,8 @@ has_data store base (p ∷ os) room =
     let more : data_end (base + data_of p) os ≤ length (one_placed store base p) = omega (arith, room, one_length store base p here) in
     one_more store base p os here more (has_data (one_placed store base p) (base + data_of p) os more)
 
--- ---- zero as a word
-zero_word : (k : Kind) → scalar_word (zero_of k) ≡ 0
-zero_word (OfRange k low high) = zero_word k
-zero_word OfSet = eqb-true (set_word no_members) 0 (word_none no_members)
-zero_word _ = refl
-
-zero_constant : (n : ℕ) → between (pos 0) (pos 0) (pos n) ≡ true
-zero_constant n = grind (arith, ints)
-
-zero_fits : (k : Kind) → within (base_of k) (zero_of k) ≡ true
-zero_fits (OfWhole Cardinal) = refl
-zero_fits (OfEnumeration n) = zero_constant (n - 1)
-zero_fits (OfRange k low high) = zero_fits k
-zero_fits _ = refl
-
 -- ---- the home where the first body begins: data, then its frame of so many words, then room
-module _ (os : List Compiled) (size : ℕ) (store : List ℕ) where
+module _ (targets : List Shape) (os : List Compiled) (size : ℕ) (store : List ℕ) where
   abbrev pub end : ℕ
   end = data_end 1 os
 
@@ -259,7 +244,7 @@ module _ (os : List Compiled) (size : ℕ) (store : List ℕ) where
   owner_at a = cond (nat_lt a 1) (Free end) (cond (nat_lt a end) (owner_by (root_at 1 os 1 a)) (cond (nat_lt a (end + size)) Own (Free end)))
 
   abbrev pub home : Home
-  home = record { base = place_of os; shape = first_shape (map text_of os) (numbers_from 0 os); owner = owner_at; shadow = λ a. get_or store a 0; reference = λ o. 0 }
+  home = record { base = place_of os; shape = first_shape (map text_of os) (numbers_from 0 os); owner = owner_at; shadow = λ a. get_or store a 0; targets = targets }
 
   pub above : 1 ≤ data_end 1 os
   above = end_above 1 os
@@ -352,10 +337,8 @@ module _ (os : List Compiled) (size : ℕ) (store : List ℕ) where
         let fits : offset (home.shape r) q < words (home.shape r) = omega (arith, part_fits (home.shape r) q (ap is_there e), word_long (part_at (home.shape r) q) k e) in
         let w = has_word r (offset (home.shape r) q) fits in
         let cell : fresh_cells (map text_of os) (numbers_from 0 os) r q ≡ zero_of k = ap zero_in e in
-        record {
-          word = ap (λ (a : ℕ). get_or store a 0) w.at ∙ blank.zero_at w.index w.its w.there w.place w.less ∙ sym (zero_word k) ∙ sym (plain_word home (base_of k) (zero_of k) (zero_fits k)) ∙ ap (word_for home) (sym cell);
-          fits = ap (within (base_of k)) cell ∙ zero_fits k;
-        };
+        zero_is home k (fresh_cells (map text_of os) (numbers_from 0 os) r q) (get_or store (place_of os r + offset (home.shape r) q) 0) cell
+        (ap (λ (a : ℕ). get_or store a 0) w.at ∙ blank.zero_at w.index w.its w.there w.place w.less);
     kept = λ a e. refl;
     fixed = λ a e. refl;
     long = long;

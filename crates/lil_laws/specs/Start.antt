@@ -3,10 +3,10 @@ use Rattle.std.proofs.Common.{◌≡◌, ℕ, zero, suc, ◌+◌, ◌-◌, ◌*�
 use Rattle.std.specs.Prelude.{slice_get, option_map}
 use Rattle.std.proofs.lemmas.Bool.{le-ltb}
 use Rattle.std.proofs.lemmas.Option.{same_Some}
-use Rattle.lil_resolved.specs.Shapes.{all_words, shape_by, shape_at}
+use Rattle.lil_resolved.specs.Shapes.{Shape, all_words, shape_by, shape_at}
 use Rattle.lil_resolved.specs.Resolved.{Resolved}
 use Rattle.lil_resolved.specs.Depth.{frame_words}
-use Rattle.lil_meaning.specs.Cells.{loaded_at, variables_of}
+use Rattle.lil_meaning.specs.Cells.{loaded_at, variables_of, targets_of}
 use Rattle.lil_meaning.specs.World.{World}
 use Rattle.lil_meaning.specs.Items.{Item, Perform, End, Activation, Source, doing}
 use Rattle.lil_meaning.specs.Steps.{owner_of, procedure_of, name_of}
@@ -19,7 +19,7 @@ use Rattle.lil_table.specs.Rows.{IsAt, layout_of}
 use Rattle.lil_match.specs.Running.{Run, mrun, running, advanced}
 use Rattle.lil_match.specs.Parts.{no}
 use Rattle.lil_match.specs.Homes.{Home}
-use Rattle.lil_match.specs.Goes.{IsKnown, EachComes, Shared, fits}
+use Rattle.lil_match.specs.Goes.{IsKnown, EachComes, Shared}
 use Rattle.lil_match.specs.Waits.{Frame, Setting, Quiet, outside, RowsOf, Rows, Ahead, Behind}
 use Rattle.lil_match.specs.Steps.{advances, at_once, rows_ahead}
 use Rattle.lil_match.specs.Orders.{instr_within}
@@ -27,7 +27,8 @@ use Rattle.lil_match.specs.Splices.{spliced_length, spliced_before, zeros_length
 use Rattle.lil_laws_stmt.specs.Control.{body_rows}
 use Rattle.lil_laws.specs.Loading.{Compiled, text_of, data_end, entry_for, table_from, numbers_from, data_placed, image}
 use Rattle.lil_laws.specs.Placing.{place_from, variable_from, text_at, table_there, variable_offset, HasData, data_length, has_data, string_fixed, strings_low, home, owner_own, owner_free, mem}
-use Rattle.lil_laws.specs.Whole.{Unlimited, Agrees, still_agrees, follows, reaches}
+use Rattle.lil_laws.specs.Whole.{Unlimited, Agrees, limits, still_agrees, follows}
+use Rattle.lil_laws.specs.Reaching.{Reaches, reaches_before, reaches}
 
 -- one of the modules, whose body runs
 pub record Body (os : List Compiled) : Type 0 where
@@ -103,9 +104,13 @@ module _ (os : List Compiled) where
           then = rows_of (suc a) c bs;
         })
 
-  module _ (all : List Activation) (size : ℕ) (store : List ℕ) (room : data_end 1 os ≤ 65535) (placed : HasData 1 os store) where
+  -- their pointers point to the same
+  abbrev pub Pointing : List Shape → Type 0
+  Pointing targets = (i : ℕ) (o : Compiled) → slice_get os i ≡ Some o → o.text.targets ≡ targets
+
+  module _ (targets : List Shape) (same : Pointing targets) (all : List Activation) (size : ℕ) (store : List ℕ) (room : data_end 1 os ≤ 65535) (placed : HasData 1 os store) where
     abbrev h : Home
-    h = home os size store
+    h = home targets os size store
 
     known : (a : ℕ) (b : Body os) → slice_get all a ≡ Some (record { owner = suc b.index; procedure = 0; outer = None; slots = [] }) → IsKnown library loaded (table_from 1 os) all h (frame_for a b)
     known a b runs = record {
@@ -120,8 +125,10 @@ module _ (os : List Compiled) where
             ∙ ap (λ (n : ℕ). variable_from n b.its.text.variables x) (let e : place_from 1 os b.index ≡ place_from 1 os b.index + 0 = omega arith in e)
             ∙ variable_offset b.its.text.variables (place_from 1 os b.index) 0 x o offset,
       );
-      strings = λ i less. (string_fixed os size store b.index i b.its b.there less, placed.strings_at b.index b.its b.there i less);
-      inside = omega (arith, strings_low os size store b.index b.its b.there, room);
+      strings = λ i less. (string_fixed targets os size store b.index i b.its b.there less, placed.strings_at b.index b.its b.there i less);
+      inside = omega (arith, strings_low targets os size store b.index b.its b.there, room);
+      targets = same b.index b.its b.there;
+      own_targets = ap targets_of (text b) ∙ same b.index b.its b.there;
     }
 
     each_comes : (a : ℕ) (bs : List (Body os)) → ((i : ℕ) → slice_get all (a + i) ≡ slice_get (body_activations (map number bs)) i)
@@ -133,7 +140,7 @@ module _ (os : List Compiled) where
     )
 
 -- these bodies run in their order, and the first one's frame has room
-module _ (os : List Compiled) (b : Body os) (bs : List (Body os)) (room : data_end 1 os + frame_words b.its.text.body ≤ 65535) where
+module _ (os : List Compiled) (targets : List Shape) (same : Pointing os targets) (b : Body os) (bs : List (Body os)) (room : data_end 1 os + frame_words b.its.text.body ≤ 65535) where
   abbrev pub begins : State
   begins = image os (suc b.index) (map (number os) bs)
 
@@ -153,7 +160,7 @@ module _ (os : List Compiled) (b : Body os) (bs : List (Body os)) (room : data_e
   placed_length = data_length (zeros 65536) 1 os data_fits ∙ zeros_length 65536
 
   -- the first body is entered: the words of its FORs are zero
-  entered : List ℕ
+  pub entered : List ℕ
   entered = cleared begins.store (end + 4) (end + size)
 
   abbrev entered_at : State
@@ -179,9 +186,9 @@ module _ (os : List Compiled) (b : Body os) (bs : List (Body os)) (room : data_e
   placed =
       let old = has_data (zeros 65536) 1 os data_fits in
       record {
-        zero_at = λ n o e i less. data_stays (place_from 1 os n + i) (omega (arith, strings_low os size entered n o e, less)) ∙ old.zero_at n o e i less;
+        zero_at = λ n o e i less. data_stays (place_from 1 os n + i) (omega (arith, strings_low targets os size entered n o e, less)) ∙ old.zero_at n o e i less;
         strings_at = λ n o e i less.
-            data_stays (place_from 1 os n + (all_words o.text.variables + i)) (omega (arith, strings_low os size entered n o e, less)) ∙ old.strings_at n o e i less;
+            data_stays (place_from 1 os n + (all_words o.text.variables + i)) (omega (arith, strings_low targets os size entered n o e, less)) ∙ old.strings_at n o e i less;
       }
 
   abbrev order : List ℕ
@@ -193,23 +200,24 @@ module _ (os : List Compiled) (b : Body os) (bs : List (Body os)) (room : data_e
   abbrev items : List Item
   items = bodies (map text_of os) (numbers_from 0 os) 0 order
 
-  abbrev ctx : Setting
-  ctx = setting os (body_activations order) (home os size entered) (frame_for os 0 b) (frames os 1 bs)
+  abbrev pub ctx : Setting
+  ctx = setting os (body_activations order) (home targets os size entered) (frame_for os 0 b) (frames os 1 bs)
 
   shared : (w : World) → Shared ctx (first w) entered_at
   shared w = record {
-    mem = mem os size entered (omega (arith, room)) entered_length placed;
+    mem = mem targets os size entered (omega (arith, room)) entered_length placed;
+    heap = record { born = λ o. refl; above = λ o there. cc; apart = λ o p there. cc; rest = omega arith };
     program = record { table_is = refl; known = table_there 1 os b.index b.its b.there; running_is = refl; marked_is = refl };
     standing = record {
       frame_is = refl;
       base_is = refl;
       limit_is = refl;
       bodies_are = numbers 1 bs;
-      known = known os (body_activations order) size entered (omega (arith, room)) placed 0 b refl;
+      known = known os targets same (body_activations order) size entered (omega (arith, room)) placed 0 b refl;
       callers = tt;
-      comes = each_comes os (body_activations order) size entered (omega (arith, room)) placed 1 bs (λ i. ap (slice_get (body_activations order)) (let e : 1 + i ≡ suc i = omega arith in e));
-      stands = (record { mark = omega arith; below = omega arith; own = λ i l. owner_own os size entered (end + i) (omega arith) (omega (arith, l)) }, refl);
-      room = λ a from below. owner_free os size entered a (omega (arith, from));
+      comes = each_comes os targets same (body_activations order) size entered (omega (arith, room)) placed 1 bs (λ i. ap (slice_get (body_activations order)) (let e : 1 + i ≡ suc i = omega arith in e));
+      stands = (record { mark = omega arith; below = omega arith; most = omega arith; own = λ i l. owner_own targets os size entered (end + i) (omega arith) (omega (arith, l)) }, refl);
+      room = λ a from below. owner_free targets os size entered a (omega (arith, from));
       low = omega (arith, room);
       high = omega arith;
     };
@@ -235,7 +243,7 @@ module _ (os : List Compiled) (b : Body os) (bs : List (Body os)) (room : data_e
       )
 
   ahead : Ahead ctx items Quiet b.its.translates.start [] 0 outside
-  ahead = rows_ahead ctx items b.its.translates.start [] 0 outside (rows_of os (body_activations order) (home os size entered) 0 b bs)
+  ahead = rows_ahead ctx items b.its.translates.start [] 0 outside (rows_of os (body_activations order) (home targets os size entered) 0 b bs)
 
   abbrev pub state_after : World → ℕ → Source
   state_after w n = src (map text_of os) (numbers_from 0 os) (map (number os) (b ∷ bs)) w n
@@ -243,25 +251,19 @@ module _ (os : List Compiled) (b : Body os) (bs : List (Body os)) (room : data_e
   -- after any number of steps the run agrees with some state of the meaning
   pub record Correct (w : World) (steps : ℕ) : Type 0 where
     pub n : ℕ
-    pub agrees : Agrees (table_from 1 os) (fits 65535 (frames os 1 bs)) (state_after w n) (mrun steps (running begins w))
+    pub agrees : Agrees (table_from 1 os) (limits ctx) (state_after w n) (mrun steps (running begins w))
     pub far : Unlimited (mrun steps (running begins w)) → steps < 32 * n + 33
 
   pub correct : (w : World) (steps : ℕ) → Correct w steps
-  correct w zero = record { n = 0; agrees = still_agrees (table_from 1 os) (fits 65535 (frames os 1 bs)) (first w) items (running begins w) (record { world = refl; finish = refl }); far = λ u. omega arith }
+  correct w zero = record { n = 0; agrees = still_agrees (table_from 1 os) (limits ctx) (first w) items (running begins w) (record { world = refl; finish = refl }); far = λ u. omega arith }
   correct w (suc steps) =
       let f = follows ctx (first w) items entered_at steps 0 outside tt (shared w) ahead in
       record {
         n = f.n;
-        agrees = subst (λ (r : Run). Agrees (table_from 1 os) (fits 65535 (frames os 1 bs)) (state_after w f.n) (mrun steps r)) (sym (enters w)) f.agrees;
+        agrees = subst (λ (r : Run). Agrees (table_from 1 os) (limits ctx) (state_after w f.n) (mrun steps r)) (sym (enters w)) f.agrees;
         far = λ u. omega (arith, f.far (subst (λ (r : Run). Unlimited (mrun steps r)) (enters w) u));
       }
 
-  -- where all bodies have room, each state of the meaning has shown what the run has shown after some number of steps
-  pub record Reached (w : World) (n : ℕ) : Type 0 where
-    pub steps : ℕ
-    pub screen : (mrun steps (running begins w)).world.screen ≡ (state_after w n).world.screen
-
-  pub reached : fits 65535 (frames os 1 bs) ≡ true → (w : World) (n : ℕ) → Reached w n
-  reached roomy w n =
-      let r = reaches ctx n (first w) items entered_at 0 outside roomy tt (shared w) ahead in
-      record { steps = suc r.steps; screen = ap (λ (x : Run). (mrun r.steps x).world.screen) (enters w) ∙ r.screen }
+  -- each state of the meaning has shown what the run has shown after some number of steps, unless that meets a limit
+  pub reached : (w : World) (n : ℕ) → Reaches (map text_of os) (first w) (running begins w) n
+  reached w n = reaches_before (map text_of os) (first w) (running begins w) (running entered_at w) 1 n (enters w) (reaches ctx n (first w) items entered_at 0 outside tt (shared w) ahead)

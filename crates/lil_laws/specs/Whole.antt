@@ -3,10 +3,12 @@ use Rattle.std.proofs.Common.{◌≡◌, ◌≢◌, ℕ, zero, suc, ◌+◌, ◌
 use Rattle.std.proofs.lemmas.Bool.{cases_lt, true≢false}
 use Rattle.lil_base.specs.declared.fault.TrapKind.{TrapKind}
 use Rattle.lil_base.specs.declared.fault.LimitKind.{LimitKind}
+use Rattle.lil_base.specs.declared.fault.LimitKind.TheVariants as limit
 use Rattle.lil_base.specs.declared.fault.TrapAt.{TrapAt}
 use Rattle.lil_resolved.specs.Resolved.{Resolved}
+use Rattle.lil_meaning.specs.Cells.{heap_words}
 use Rattle.lil_meaning.specs.World.{World, closing, closings_left, all_closed}
-use Rattle.lil_meaning.specs.Closings.{none_left, all_none, all_some, fewer_left, some_left, closing_shuts, all_screen}
+use Rattle.lil_meaning.specs.Closings.{none_left, all_none, all_some, fewer_left, some_left, closing_shuts}
 use Rattle.lil_meaning.specs.Items.{Item, Level, Phase, Going, Closing, Ended, Trapped, Source}
 use Rattle.lil_meaning.specs.Steps.{next, by_phase, left_by, over, over_by}
 use Rattle.lil_meaning.specs.Runs.{after}
@@ -14,7 +16,8 @@ use Rattle.lil_mcode.specs.State.{Module, State, module_at}
 use Rattle.lil_mcode.specs.Table.{mstep}
 use Rattle.lil_match.specs.Running.{Finish, Running, Finished, TrappedBy, Limited, Broken, Run, mrun, running, react, advanced, unless_over}
 use Rattle.lil_match.specs.Homes.{Home}
-use Rattle.lil_match.specs.Goes.{HasName, Shared, Lands, IsLeft, IsStill, fits, IsFull, Goes}
+use Rattle.lil_match.specs.Goes.{HasName, Shared, Lands, IsLeft, IsStill, Short, IsFull, Fewer, Goes}
+use Rattle.lil_match.specs.Steps.{no_more}
 use Rattle.lil_match.specs.Stutter.{stutter}
 use Rattle.lil_match.specs.Waits.{Stack, Setting, Quiet, Around, Ahead}
 use Rattle.lil_match.specs.Resting.{EachRests, each_rests}
@@ -30,24 +33,24 @@ pub record TrapsIn (table : List Module) (k : TrapKind) (machine : State) (p : P
   pub procedure : HasName own.procedures number name
   pub is : p ≡ Trapped (record { kind = k; «module» = own.name; procedure = name })
 
--- what is said of the source by how the run stands: a limit comes only where not all bodies have room
-abbrev pub Claims : List Module → Bool → State → Phase → Finish → Type 0
-Claims table roomy machine p Running = p ≡ Going
-Claims table roomy machine p Finished = p ≡ Ended
-Claims table roomy machine p (TrappedBy k) = TrapsIn table k machine p
-Claims table roomy machine p (Limited k) = roomy ≡ false
-Claims table roomy machine p Broken = ⊥
+-- what is said of the source by how the run stands, where a limit comes only from such states
+abbrev pub Claims : List Module → (LimitKind → Source → Type 0) → State → Source → Finish → Type 0
+Claims table limits machine t Running = t.phase ≡ Going
+Claims table limits machine t Finished = t.phase ≡ Ended
+Claims table limits machine t (TrappedBy k) = TrapsIn table k machine t.phase
+Claims table limits machine t (Limited k) = limits k t
+Claims table limits machine t Broken = ⊥
 
 -- The run has the world of the source's state, and is over only where the source is, in the same way, but at a limit.
-pub record Agrees (table : List Module) (roomy : Bool) (t : Source) (run : Run) : Type 0 where
+pub record Agrees (table : List Module) (limits : LimitKind → Source → Type 0) (t : Source) (run : Run) : Type 0 where
   pub world : run.world ≡ t.world
-  pub claims : Claims table roomy run.machine t.phase run.finish
+  pub claims : Claims table limits run.machine t run.finish
 
-pub claimed : {table : List Module} {roomy : Bool} {t : Source} {run : Run} (f : Finish) → Agrees table roomy t run → run.finish ≡ f → Claims table roomy run.machine t.phase f
-claimed {table} {roomy} {t} {run} f a is = subst (λ (x : Finish). Claims table roomy run.machine t.phase x) is a.claims
+pub claimed : {table : List Module} {limits : LimitKind → Source → Type 0} {t : Source} {run : Run} (f : Finish) → Agrees table limits t run → run.finish ≡ f → Claims table limits run.machine t f
+claimed {table} {limits} {t} {run} f a is = subst (λ (x : Finish). Claims table limits run.machine t x) is a.claims
 
-agree : (table : List Module) (roomy : Bool) (t : Source) (run : Run) (f : Finish) → run.world ≡ t.world → run.finish ≡ f → Claims table roomy run.machine t.phase f → Agrees table roomy t run
-agree table roomy t run f w is claims = record { world = w; claims = subst (λ (x : Finish). Claims table roomy run.machine t.phase x) (sym is) claims }
+agree : (table : List Module) (limits : LimitKind → Source → Type 0) (t : Source) (run : Run) (f : Finish) → run.world ≡ t.world → run.finish ≡ f → Claims table limits run.machine t f → Agrees table limits t run
+agree table limits t run f w is claims = record { world = w; claims = subst (λ (x : Finish). Claims table limits run.machine t x) (sym is) claims }
 
 pub mrun_add : (i n j : ℕ) (run : Run) → n ≡ i + j → mrun n run ≡ mrun j (mrun i run)
 mrun_add zero n j run e = let same : n ≡ j = omega arith in ap (λ (x : ℕ). mrun x run) same
@@ -117,7 +120,7 @@ over_rests library None s e = ended_rests library s e
 over_rests library (Some t) s e = trapped_rests library s t e
 
 -- closings show nothing
-closed_screen : (library : List Resolved) (end : Option TrapAt) (n : ℕ) (s : Source) → s.phase ≡ Closing end → s.waiting ≡ [] → (after library n s).world.screen ≡ s.world.screen
+pub closed_screen : (library : List Resolved) (end : Option TrapAt) (n : ℕ) (s : Source) → s.phase ≡ Closing end → s.waiting ≡ [] → (after library n s).world.screen ≡ s.world.screen
 closed_screen library end zero s e first = refl
 closed_screen library end (suc n) s e first = by (closing 1 s.world) refl (λ v. closed_screen library end n (record s { world = v; phase = Closing end }) refl first)
   where
@@ -128,13 +131,24 @@ closed_screen library end (suc n) s e first = by (closing 1 s.world) refl (λ v.
         ∙ ap (λ (t : Source). t.world.screen) (source_rests library n closed (over_rests library end closed refl))
     by (Some v) is rest = ap (λ (t : Source). (after library n t).world.screen) (one_closed library end s v e first is) ∙ rest v ∙ (closing_shuts 1 s.world v is).screen
 
-pub still_agrees : (table : List Module) (roomy : Bool) (s : Source) (k : List Item) (run : Run) → IsStill s.world run → Agrees table roomy (record s { items = k; phase = Going }) run
-still_agrees table roomy s k run h = agree table roomy (record s { items = k; phase = Going }) run Running h.world h.finish refl
+-- the same with limits from more states
+pub agrees_more : (table : List Module) (limits more : LimitKind → Source → Type 0) (t : Source) (run : Run) → ((k : LimitKind) → limits k t → more k t) → Agrees table limits t run → Agrees table more t run
+agrees_more table limits more t run wider a = record { world = a.world; claims = by run.finish a.claims }
+  where
+    by : (f : Finish) → Claims table limits run.machine t f → Claims table more run.machine t f
+    by (Limited k) e = wider k e
+    by Running e = e
+    by Finished e = e
+    by (TrappedBy k) e = e
+    by Broken e = e
 
-trapped_agrees : (table : List Module) (roomy : Bool) (s : Source) (run : Run) (t : TrapAt) (number : ℕ) (own : Module) → s.phase ≡ Trapped t → run.finish ≡ TrappedBy t.kind → run.world ≡ s.world
-    → run.machine.modules ≡ table → module_at table run.machine.running ≡ Some own → t.«module» ≡ own.name → HasName own.procedures number t.procedure → Agrees table roomy s run
-trapped_agrees table roomy s run t number own over f w same_table known named procedure =
-    agree table roomy s run (TrappedBy t.kind) w f
+pub still_agrees : (table : List Module) (limits : LimitKind → Source → Type 0) (s : Source) (k : List Item) (run : Run) → IsStill s.world run → Agrees table limits (record s { items = k; phase = Going }) run
+still_agrees table limits s k run h = agree table limits (record s { items = k; phase = Going }) run Running h.world h.finish refl
+
+trapped_agrees : (table : List Module) (limits : LimitKind → Source → Type 0) (s : Source) (run : Run) (t : TrapAt) (number : ℕ) (own : Module) → s.phase ≡ Trapped t → run.finish ≡ TrappedBy t.kind → run.world ≡ s.world
+    → run.machine.modules ≡ table → module_at table run.machine.running ≡ Some own → t.«module» ≡ own.name → HasName own.procedures number t.procedure → Agrees table limits s run
+trapped_agrees table limits s run t number own over f w same_table known named procedure =
+    agree table limits s run (TrappedBy t.kind) w f
     (record {
       table_is = same_table;
       own = own;
@@ -156,29 +170,29 @@ module _ (ctx : Setting) where
   abbrev at : Home → Stack → Setting
   at x y = record ctx { home = x; stack = y }
 
-  -- whether all bodies that are to run have room
-  abbrev pub roomy : Bool
-  roomy = fits ctx.stack.limit ctx.stack.bodies
+  -- a limit comes only where the stack at the beginning is short
+  abbrev pub limits : LimitKind → Source → Type 0
+  limits k t = Short ctx.stack t (next library t) k
 
   -- a matched state, with all stacks that don't run
   abbrev Matched : Home → Stack → Source → List Item → State → ℕ → Around → Type 0
   Matched x y s k m c a =
-      EachRests (at x y) ctx.parked ctx.kept × Shared (at x y) s m × Ahead (at x y) k Quiet m.place m.stack c a × (fits y.limit y.bodies ≡ false → fits ctx.stack.limit ctx.stack.bodies ≡ false)
+      EachRests (at x y) ctx.parked ctx.kept × Shared (at x y) s m × Ahead (at x y) k Quiet m.place m.stack c a × Fewer y ctx.stack
 
   -- After so many steps of the machine, from a state of the meaning with so many jumps owed: some later state agrees, one that is far
   -- enough.
   pub record Follows (s : Source) (run : Run) (steps c : ℕ) : Type 0 where
     pub n : ℕ
-    pub agrees : Agrees table roomy (after library n s) (mrun steps run)
+    pub agrees : Agrees table limits (after library n s) (mrun steps run)
     pub far : Unlimited (mrun steps run) → steps < 32 * n + 32 + c
 
   -- where both are over, they stay
-  over_follows : (s : Source) (run : Run) (steps c : ℕ) → Agrees table roomy s run → next library s ≡ s → advanced run ≡ run → Follows s run steps c
+  over_follows : (s : Source) (run : Run) (steps c : ℕ) → Agrees table limits s run → next library s ≡ s → advanced run ≡ run → Follows s run steps c
   over_follows s run steps c a rs rr = record {
     n = steps;
     agrees =
-        subst (λ (t : Source). Agrees table roomy t (mrun steps run)) (sym (source_rests library steps s rs))
-        (subst (λ (r : Run). Agrees table roomy s r) (sym (run_rests steps run rr)) a);
+        subst (λ (t : Source). Agrees table limits t (mrun steps run)) (sym (source_rests library steps s rs))
+        (subst (λ (r : Run). Agrees table limits s r) (sym (run_rests steps run rr)) a);
     far = λ u. omega arith;
   }
 
@@ -186,7 +200,7 @@ module _ (ctx : Setting) where
   later_follows : (s t : Source) (run : Run) (steps c n : ℕ) → after library n s ≡ t → Follows t run steps c → Follows s run steps c
   later_follows s t run steps c n is f = record {
     n = n + f.n;
-    agrees = subst (λ (x : Source). Agrees table roomy x (mrun steps run)) (sym (after_sum library n f.n s ∙ ap (after library f.n) is)) f.agrees;
+    agrees = subst (λ (x : Source). Agrees table limits x (mrun steps run)) (sym (after_sum library n f.n s ∙ ap (after library f.n) is)) f.agrees;
     far = λ u. omega (arith, f.far u);
   }
 
@@ -195,7 +209,7 @@ module _ (ctx : Setting) where
   Claim steps P =
       (x : Home) (y : Stack) (s : Source) (k : List Item) (m : State) (c : ℕ) (a : Around) → Matched x y s k m c a → P k → Follows (record s { items = k; phase = Going }) (running m s.world) steps c
 
-  landed : (steps : ℕ) (P : List Item → Type 0) → Claim steps P → (x : Home) (y : Stack) → EachRests (at x y) ctx.parked ctx.kept → (fits y.limit y.bodies ≡ false → fits ctx.stack.limit ctx.stack.bodies ≡ false) → (p : Phase) (s : Source) (run : Run) (c : ℕ) → s.phase ≡ p
+  landed : (steps : ℕ) (P : List Item → Type 0) → Claim steps P → (x : Home) (y : Stack) → EachRests (at x y) ctx.parked ctx.kept → Fewer y ctx.stack → (p : Phase) (s : Source) (run : Run) (c : ℕ) → s.phase ≡ p
       → Lands (at x y) p s run c → P s.items → Follows s run steps c
   landed steps P claim x y rests fewer Going s run c e lands has =
       let same : record s { items = s.items; phase = Going } ≡ s = ap (λ (p : Phase). let t : Source = record s { phase = p } in t) (sym e) in
@@ -203,21 +217,27 @@ module _ (ctx : Setting) where
       (subst (λ (r : Run). Follows (record s { items = s.items; phase = Going }) r steps c) (sym lands.is)
       (claim x y s s.items lands.machine c lands.met.around (rests, lands.met.shared, lands.met.ahead, fewer) has))
   landed steps P claim x y rests fewer Ended s run c e lands has =
-      over_follows s run steps c (agree table roomy s run Finished lands.world lands.finish e) (ended_rests library s e) (run_over run Finished lands.finish (λ f. cc))
+      over_follows s run steps c (agree table limits s run Finished lands.world lands.finish e) (ended_rests library s e) (run_over run Finished lands.finish (λ f. cc))
   landed steps P claim x y rests fewer (Closing None) s run c e lands has =
       let closed : Source = record s { world = all_closed 1 s.world; phase = Ended } in
       let is = is_closed library None (closings_left 1 s.world) s e lands.first refl in
       later_follows s closed run steps c is.steps is.is
-      (over_follows closed run steps c (agree table roomy closed run Finished lands.world lands.finish refl) (ended_rests library closed refl) (run_over run Finished lands.finish (λ f. cc)))
+      (over_follows closed run steps c (agree table limits closed run Finished lands.world lands.finish refl) (ended_rests library closed refl) (run_over run Finished lands.finish (λ f. cc)))
   landed steps P claim x y rests fewer (Closing (Some t)) s run c e lands has =
       let closed : Source = record s { world = all_closed 1 s.world; phase = Trapped t } in
       let gone = lands.is_left in
       let is = is_closed library (Some t) (closings_left 1 s.world) s e gone.first refl in
       later_follows s closed run steps c is.steps is.is
       (over_follows closed run steps c
-      (trapped_agrees table roomy closed run t y.frame.procedure y.frame.own refl gone.finish gone.world lands.table_is (ap (module_at table) lands.running_is ∙ lands.known) lands.name lands.procedure)
+      (trapped_agrees table limits closed run t y.frame.procedure y.frame.own refl gone.finish gone.world lands.table_is (ap (module_at table) lands.running_is ∙ lands.known) lands.name lands.procedure)
       (trapped_rests library closed t refl) (run_over run (TrappedBy t.kind) gone.finish (λ g. cc)))
   landed steps P claim x y rests fewer (Trapped t) s run c e lands has = absurd lands
+
+  -- what is short of fewer frames is short of more
+  shorter : (y : Stack) (s t : Source) (k : LimitKind) → Fewer y ctx.stack → Short y s t k → Short ctx.stack s t k
+  shorter y s t limit.Stack fewer e = fewer.bodies (65535 - heap_words s.objects) e
+  shorter y s t limit.Store fewer e = fewer.all (65518 - heap_words t.objects) e
+  shorter y s t k fewer e = e
 
   abbrev At : Source → List Item → Source
   At s k = record s { items = k; phase = Going }
@@ -227,7 +247,7 @@ module _ (ctx : Setting) where
     short : (steps : ℕ) → steps < g.steps → Follows (At s k) (running m s.world) steps c
     short steps less = record {
       n = 0;
-      agrees = still_agrees table roomy s k (mrun steps (running m s.world)) (g.quiet steps less);
+      agrees = still_agrees table limits s k (mrun steps (running m s.world)) (g.quiet steps less);
       far = λ u. omega (arith, g.cost);
     }
 
@@ -235,12 +255,12 @@ module _ (ctx : Setting) where
     longer : (steps rest : ℕ) → steps ≡ g.steps + rest → Follows (next library (At s k)) (mrun g.steps (running m s.world)) rest g.later → Follows (At s k) (running m s.world) steps c
     longer steps rest e f = record {
       n = suc f.n;
-      agrees = subst (λ (r : Run). Agrees table roomy (after library f.n (next library (At s k))) r) (sym (mrun_add g.steps steps rest (running m s.world) e)) f.agrees;
+      agrees = subst (λ (r : Run). Agrees table limits (after library f.n (next library (At s k))) r) (sym (mrun_add g.steps steps rest (running m s.world) e)) f.agrees;
       far = λ u. omega (arith, f.far (subst Unlimited (mrun_add g.steps steps rest (running m s.world) e) u), g.cost);
     }
 
     -- a limit that was met
-    full : (steps : ℕ) → IsFull y.limit y.bodies s.world (mrun g.steps (running m s.world)) → (fits y.limit y.bodies ≡ false → fits ctx.stack.limit ctx.stack.bodies ≡ false) → g.steps ≤ steps
+    full : (steps : ℕ) → IsFull y (At s k) (next library (At s k)) (mrun g.steps (running m s.world)) → Fewer y ctx.stack → g.steps ≤ steps
         → Follows (At s k) (running m s.world) steps c
     full steps f fewer more =
         let over : Run = mrun g.steps (running m s.world) in
@@ -249,7 +269,7 @@ module _ (ctx : Setting) where
         let finish : (mrun steps (running m s.world)).finish ≡ Limited f.kind = ap (λ (r : Run). r.finish) stays ∙ f.finish in
         record {
           n = 0;
-          agrees = agree table roomy (At s k) (mrun steps (running m s.world)) (Limited f.kind) (ap (λ (r : Run). r.world) stays ∙ f.world) finish (fewer f.short);
+          agrees = agree table limits (At s k) (mrun steps (running m s.world)) (Limited f.kind) (ap (λ (r : Run). r.world) stays ∙ f.world) finish (shorter y (At s k) (next library (At s k)) f.kind fewer f.short);
           far = λ u. absurd (u f.kind finish);
         }
 
@@ -265,8 +285,8 @@ module _ (ctx : Setting) where
       rests : EachRests (at g.home g.stack) ctx.parked ctx.kept
       rests = each_rests (at x y) g.home g.stack g.touch g.same ctx.parked ctx.kept met.0
 
-      wider : fits g.stack.limit g.stack.bodies ≡ false → fits ctx.stack.limit ctx.stack.bodies ≡ false
-      wider e = met.3 (g.fewer e)
+      wider : Fewer g.stack ctx.stack
+      wider = record { bodies = λ n e. met.3.bodies n (g.fewer.bodies n e); all = λ n e. met.3.all n (g.fewer.all n e) }
 
       by_lands : g.steps ≤ steps → Lands (at g.home g.stack) (next library (At s k)).phase (next library (At s k)) (mrun g.steps (running m s.world)) g.later → Follows (At s k) (running m s.world) steps c
       by_lands more lands =
@@ -289,52 +309,10 @@ module _ (ctx : Setting) where
   outer zero steps le x y s k m c a met has =
       let e : 0 ≡ steps = omega arith in
       subst (λ (n : ℕ). Follows (At s k) (running m s.world) n c) e
-      (record { n = 0; agrees = still_agrees table roomy s k (running m s.world) (record { world = refl; finish = refl }); far = λ u. omega arith })
+      (record { n = 0; agrees = still_agrees table limits s k (running m s.world) (record { world = refl; finish = refl }); far = λ u. omega arith })
   outer (suc bound) steps le x y s k m c a met has = inner bound (outer bound) (suc (stutter k)) steps le x y s k m c a met (omega arith)
 
   -- from a matched state the machine shows what the source means
   pub follows : (s : Source) (k : List Item) (m : State) (steps c : ℕ) (a : Around) → EachRests ctx ctx.parked ctx.kept → Shared ctx s m → Ahead ctx k Quiet m.place m.stack c a
       → Follows (At s k) (running m s.world) steps c
-  follows s k m steps c a rests shared ahead = outer steps steps (omega arith) ctx.home ctx.stack s k m c a (rests, shared, ahead, λ e. e) tt
-
-  -- Each later state of the source has shown what the run has shown after some number of steps.
-  pub record Reaches (s : Source) (run : Run) (n : ℕ) : Type 0 where
-    pub steps : ℕ
-    pub screen : (mrun steps run).world.screen ≡ (after library n s).world.screen
-
-  -- the closings of a run that has ended show nothing
-  closed_there : (n : ℕ) (end : Option TrapAt) (f : Finish) (s : Source) (run : Run) → s.phase ≡ Closing end → IsLeft f s run → Reaches s run n
-  closed_there n end f s run e gone = record { steps = 0; screen = ap (λ (w : World). w.screen) gone.world ∙ all_screen 1 s.world ∙ sym (closed_screen library end n s e gone.first) }
-
-  reaches_landed : (n : ℕ) → ((x : Home) (y : Stack) (s : Source) (k : List Item) (m : State) (c : ℕ) (a : Around) → Matched x y s k m c a → Reaches (At s k) (running m s.world) n)
-      → (x : Home) (y : Stack) → EachRests (at x y) ctx.parked ctx.kept → (fits y.limit y.bodies ≡ false → fits ctx.stack.limit ctx.stack.bodies ≡ false) → (p : Phase) (s : Source) (run : Run) (c : ℕ) → s.phase ≡ p → Lands (at x y) p s run c
-      → Reaches s run n
-  reaches_landed n claim x y rests fewer Going s run c e lands =
-      let same : At s s.items ≡ s = ap (λ (p : Phase). let t : Source = record s { phase = p } in t) (sym e) in
-      subst (λ (t : Source). Reaches t run n) same
-      (subst (λ (r : Run). Reaches (At s s.items) r n) (sym lands.is)
-      (claim x y s s.items lands.machine c lands.met.around (rests, lands.met.shared, lands.met.ahead, fewer)))
-  reaches_landed n claim x y rests fewer Ended s run c e lands =
-      record { steps = 0; screen = ap (λ (w : World). w.screen) lands.world ∙ ap (λ (t : Source). t.world.screen) (sym (source_rests library n s (ended_rests library s e))) }
-  reaches_landed n claim x y rests fewer (Closing None) s run c e lands = closed_there n None Finished s run e lands
-  reaches_landed n claim x y rests fewer (Closing (Some t)) s run c e lands = closed_there n (Some t) (TrappedBy t.kind) s run e lands.is_left
-  reaches_landed n claim x y rests fewer (Trapped t) s run c e lands = absurd lands
-
-  reaches_in : (roomy ≡ true) → (n : ℕ) (x : Home) (y : Stack) (s : Source) (k : List Item) (m : State) (c : ℕ) (a : Around) → Matched x y s k m c a → Reaches (At s k) (running m s.world) n
-  reaches_in room zero x y s k m c a met = record { steps = 0; screen = refl }
-  reaches_in room (suc n) x y s k m c a met =
-      let g = each_step (at x y) s m c a met.1 k met.2 in
-      ⊎_elim (λ lands.
-      let r = reaches_landed n (reaches_in room n) g.home g.stack (each_rests (at x y) g.home g.stack g.touch g.same ctx.parked ctx.kept met.0) (λ e. met.3 (g.fewer e))
-      (next library (At s k)).phase (next library (At s k)) (mrun g.steps (running m s.world)) g.later refl lands in
-      let there : Reaches (At s k) (running m s.world) (suc n) = record {
-        steps = g.steps + r.steps;
-        screen = ap (λ (x : Run). x.world.screen) (mrun_add g.steps (g.steps + r.steps) r.steps (running m s.world) refl) ∙ r.screen;
-      } in
-      there)
-      (λ f. absurd (true≢false (sym room ∙ met.3 f.short))) g.lands
-
-  -- from a matched state the machine shows all that the source means, where all bodies have room
-  pub reaches : (n : ℕ) (s : Source) (k : List Item) (m : State) (c : ℕ) (a : Around) → roomy ≡ true → EachRests ctx ctx.parked ctx.kept → Shared ctx s m → Ahead ctx k Quiet m.place m.stack c a
-      → Reaches (At s k) (running m s.world) n
-  reaches n s k m c a room rests shared ahead = reaches_in room n ctx.home ctx.stack s k m c a (rests, shared, ahead, λ e. e)
+  follows s k m steps c a rests shared ahead = outer steps steps (omega arith) ctx.home ctx.stack s k m c a (rests, shared, ahead, no_more ctx.stack) tt

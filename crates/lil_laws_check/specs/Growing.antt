@@ -219,7 +219,7 @@ module _ (s : Scopes) where
   sort_layer_grown (o.RecordOf p fs) e h = keep_after PartGrown MadeGrown (fields_by (map fields_sense (map (λ e. e.0) fs)) (e, no_fields)) (λ q. form_node q.0 p (record_form q.1)) (lists_grown fs (e, no_fields) h)
       (λ q g. form_grown q.0 p (record_form q.1) g)
   sort_layer_grown (o.SetOver p x) e h = set_grown e p x h
-  sort_layer_grown (o.PointerTo p y) e h = built_grown MadeGrown p _ (pointer_grown p (sense y.0).name (sense y.0).means y.1 e h)
+  sort_layer_grown (o.PointerTo p y) e h = pointer_grown p (sense y.0).name (sense y.0).means y.1 e h
   sort_layer_grown (o.ProcedureOf p fs q) e h = built_grown MadeGrown p _ (procedure_grown e p fs q h)
 
   variant_layer_grown : (y : Variant-F Listed Typed Varied) (n : Option ℕ) (c : Cased) → CasedGrown c → CasedGrown (variant_layer (map-Variant FieldList Sort Variant FieldSense Sense VariantSense fields_sense sense variant_sense (bare_variant y)) n c).0

@@ -253,7 +253,7 @@ module _ (expression : (e : Env) (x : Expr) → Fine e → Good Is (means e x)) 
   sort_layer_good (o.RecordOf p fs) e h = good_after IsPart IsMade (fields_by (map fields_sense (map (λ e. e.0) fs)) (e, no_fields)) (λ q. form_node q.0 p (record_form q.1)) (lists_good fs (e, no_fields) (h, refl))
       (λ q g. form_good q.0 p (record_form q.1) g.0 (record_is q.0.types q.1 g.1))
   sort_layer_good (o.SetOver p x) e h = set_means_good e p x h
-  sort_layer_good (o.PointerTo p y) e h = built_good IsMade p _ (pointer_good p (sense y.0).name (sense y.0).means y.1 e h)
+  sort_layer_good (o.PointerTo p y) e h = pointer_good p (sense y.0).name (sense y.0).means y.1 e h
   sort_layer_good (o.ProcedureOf p fs q) e h = built_good IsMade p _ (procedure_good e p fs q h)
 
   variant_layer_good : (y : Variant-F Listed Typed Varied) (n : Option ℕ) (c : Cased) → IsCased c → Good IsCased (variant_layer (map-Variant FieldList Sort Variant FieldSense Sense VariantSense fields_sense sense variant_sense (bare_variant y)) n c)

@@ -1,16 +1,18 @@
 -- The rows of expressions: from a matched state the machine comes to a matched state.
-use Rattle.std.proofs.Common.{◌≡◌, ◌≢◌, ℕ, ◌+◌, ◌<◌, ◌≤◌, Bool, true, false, cond, Result, Ok, Err, List, [], ◌∷◌, length, refl, sym, ap, ◌∙◌, subst, arith}
-use Rattle.std.proofs.lemmas.Bool.{lt-ltb}
+use Rattle.std.proofs.Common.{◌≡◌, ◌≢◌, ℕ, ◌+◌, ◌<◌, ◌≤◌, Bool, true, false, not, cond, ◌==◌, Result, Ok, Err, List, [], ◌∷◌, length, refl, sym, ap, ◌∙◌, subst, arith}
+use Rattle.std.proofs.lemmas.Bool.{lt-ltb, and_parts, eq-eqb, eqb-true, ne_eqb}
 use Rattle.lil_base.specs.declared.fault.TrapKind.{TrapKind}
 use Rattle.lil_base.specs.declared.operator.OneOp.{OneOp}
 use Rattle.lil_base.specs.declared.operator.OneOp.TheVariants as one
 use Rattle.lil_base.specs.declared.operator.TwoOp.{TwoOp}
-use Rattle.lil_resolved.specs.Kinds.{Kind, OfTruth, base_of}
-use Rattle.lil_resolved.specs.Scalars.{Scalar, Truth, within, scalar_word}
+use Rattle.lil_base.specs.declared.operator.TwoOp.TheVariants.{Equal, Unequal}
+use Rattle.lil_resolved.specs.Kinds.{Kind, OfTruth, OfPointer, OfRange, base_of, is_plain}
+use Rattle.lil_resolved.specs.Scalars.{Scalar, Truth, ToObject, Nothing, is_reference, is_literal, same_reference, within, scalar_word}
 use Rattle.lil_resolved.specs.Depth.{place_depth}
 use Rattle.lil_resolved.specs.Shapes.{Shape, Word}
-use Rattle.lil_resolved.specs.Resolved.{Designator, Variable, Held, Field, Element, Function, Expression, Constant, Taken, One, Two, Short, Apply, kind_of, is_relation, result_kind, right_kind, function_kind}
-use Rattle.lil_meaning.specs.Cells.{Place, got}
+use Rattle.lil_resolved.specs.Resolved.{Designator, Variable, Held, Field, Element, Follow, Function, Expression, Constant, Taken, One, Two, Short, Apply, kind_of, is_relation, result_kind, right_kind, function_kind}
+use Rattle.lil_resolved.specs.Sound.{takes_two}
+use Rattle.lil_meaning.specs.Cells.{Object, Place, got}
 use Rattle.lil_meaning.specs.Items.{Scalars, Places, Get, OneOf, LeftOf, RightOf, ShortOf, ApplyTo, Item, Value, Evaluate, PlaceOf, Fill, Going, Source}
 use Rattle.lil_meaning.specs.Steps.{next, answered, with_items, applied, one_applied, function_value, current}
 use Rattle.lil_asm.specs.declared.instr.Instr.{Instr}
@@ -22,7 +24,7 @@ use Rattle.lil_mcode.specs.Table.{mstep, act, going, jump, on_one, and_row, or_r
 use Rattle.lil_table.specs.Rows.{InstrsAt, Access, load_code, one_code, two_code, function_code, short_code}
 use Rattle.lil_match.specs.Running.{running, react}
 use Rattle.lil_match.specs.Parts.{yes}
-use Rattle.lil_match.specs.Homes.{word_for, plain_word, shape_there}
+use Rattle.lil_match.specs.Homes.{word_for, Refers, plain_word, plain_refers, refers_base, shape_there}
 use Rattle.lil_match.specs.Stutter.{stutter}
 use Rattle.lil_match.specs.Goes.{Shared, Goes, Lands}
 use Rattle.lil_match.specs.Waits.{Setting, frame_of, laid_out, Mode, Quiet, ValueOf, AtPlace, Around, Reach, AfterJumps, Rows, HasPlace, Waiting}
@@ -30,13 +32,8 @@ use Rattle.lil_match.specs.Steps.{advances, pushes, at_step, at_once, lands_on, 
 use Rattle.lil_match.specs.Orders.{instr_within, instrs_order, instrs_within, expression_stands, expression_within}
 use Rattle.lil_match.specs.Closing.{closed, both_trap}
 use Rattle.lil_laws_place.specs.Codes.{loads}
-use Rattle.lil_laws_expr.specs.Operators.{answer_row, Gives, Fits, one_gives, one_fits, two_gives, two_length, two_fits, function_gives, function_fits, function_none, function_length}
-
-place_some : (d : Designator) → 1 ≤ place_depth d
-place_some (Variable x) = omega arith
-place_some (Held w) = omega arith
-place_some (Field d i) = place_some d
-place_some (Element d k e) = omega (arith, place_some d)
+use Rattle.lil_laws_place.specs.Elements.{place_some}
+use Rattle.lil_laws_expr.specs.Operators.{answer_row, Gives, Fits, one_plain, two_plain, right_plain, function_plain, ranged_none, pointer_gives, one_gives, one_fits, two_gives, two_length, two_fits, function_gives, function_fits, function_none, function_length}
 
 module _ (ctx : Setting) where
   open ctx use {library, table, home as h}
@@ -55,44 +52,67 @@ module _ (ctx : Setting) where
     once {row} {t} {p} {stack} r = at_once ctx row t p stack c a r
 
     -- the value that instructions give, or their trap
-    answer_lands : (items : List Item) → current items ≡ ctx.stack.frame.activation → (r : Result Scalar TrapKind) (kind : Kind) → Fits kind r → (p : ℕ) (stack : List ℕ) (end : ℕ) (below : List ℕ) → Rest (ValueOf kind) end below c a
+    answer_lands : (items : List Item) → current items ≡ ctx.stack.frame.activation → (r : Result Scalar TrapKind) (kind : Kind) → is_plain kind ≡ true → Fits kind r → (p : ℕ) (stack : List ℕ) (end : ℕ) (below : List ℕ) → Rest (ValueOf kind) end below c a
         → Lands ctx (answered library r k (Now items)).phase (answered library r k (Now items))
         (react (answer_row (going m p stack) end below r).0 (answer_row (going m p stack) end below r).1 (running (going m p stack) s.world)) c
-    answer_lands items close (Ok v) kind fits p stack end below rest =
+    answer_lands items close (Ok v) kind plain fits p stack end below rest =
         lands_on ctx s m shared (Value (Scalars v) ∷ k) end (scalar_word v ∷ below) c a
-        (once (record { part = record { kind = kind; fits = fits; below = below; is = ap (λ (w : ℕ). w ∷ below) (sym (plain_word h kind v fits)) }; then = rest }))
-    answer_lands items close (Err t) kind fits p stack end below rest =
+        (once (record {
+          part = record { kind = kind; fits = fits; refers = plain_refers h kind v plain; below = below; is = ap (λ (w : ℕ). w ∷ below) (sym (plain_word h kind v plain fits)) };
+          then = rest;
+        }))
+    answer_lands items close (Err t) kind plain fits p stack end below rest =
         both_trap ctx s items (going m p stack) t shared close
 
     -- instructions that give a value, as the source does
-    instrs_go : (items : List Item) → current items ≡ ctx.stack.frame.activation → (r : Result Scalar TrapKind) → next library (Now items) ≡ answered library r k (Now items) → (kind : Kind) → Fits kind r
+    instrs_go : (items : List Item) → current items ≡ ctx.stack.frame.activation → (r : Result Scalar TrapKind) → next library (Now items) ≡ answered library r k (Now items) → (kind : Kind) → is_plain kind ≡ true → Fits kind r
         → (end : ℕ) (below : List ℕ) → Rest (ValueOf kind) end below c a → (is : List Instr) (p : ℕ) (stack : List ℕ) → InstrsAt own.code is p end → Gives own is (going m p stack) below r
         → Goes ctx s items (going m p stack) (c + length is)
-    instrs_go items close r becomes kind fits end below rest [] p stack here gives = absurd gives
-    instrs_go items close r becomes kind fits end below rest (i ∷ []) p stack here gives =
+    instrs_go items close r becomes kind plain fits end below rest [] p stack here gives = absurd gives
+    instrs_go items close r becomes kind plain fits end below rest (i ∷ []) p stack here gives =
         goes_one ctx s items (going m p stack) (c + 1) c _
         (advances (going m p stack) s.world _ (
         at_step ctx (going m p stack) shared.program i here.0 here.1
         ∙ gives here.0
         ))
         (subst (λ (x : Source). Lands ctx x.phase x (react (answer_row (going m p stack) here.0 below r).0 (answer_row (going m p stack) here.0 below r).1 (running (going m p stack) s.world)) c) (sym becomes)
-        (answer_lands items close r kind fits p stack here.0 below (subst (λ (q : ℕ). Rest (ValueOf kind) q below c a) (sym here.2) rest)))
+        (answer_lands items close r kind plain fits p stack here.0 below (subst (λ (q : ℕ). Rest (ValueOf kind) q below c a) (sym here.2) rest)))
         (omega arith)
-    instrs_go items close r becomes kind fits end below rest (i ∷ j ∷ is) p stack here gives =
+    instrs_go items close r becomes kind plain fits end below rest (i ∷ j ∷ is) p stack here gives =
         goes_after ctx s items (going m p stack) (going m here.0 gives.0) (c + length (i ∷ j ∷ is)) (c + length (j ∷ is))
         (advances (going m p stack) s.world _ (
         at_step ctx (going m p stack) shared.program i here.0 here.1
         ∙ gives.1 here.0
         ))
-        (instrs_go items close r becomes kind fits end below rest (j ∷ is) here.0 gives.0 here.2 (gives.2 here.0))
+        (instrs_go items close r becomes kind plain fits end below rest (j ∷ is) here.0 gives.0 here.2 (gives.2 here.0))
         (omega arith)
+
+    -- a value that a text can name
+    literal : (kind : Kind) (v : Scalar) → is_literal kind v ≡ true → (within kind v ≡ true) × (is_reference v ≡ false)
+    literal kind v e = let p = and_parts (within kind v) (not (is_reference v)) e in (p.0, not_true (is_reference v) p.1)
+      where
+        not_true : (b : Bool) → not b ≡ true → b ≡ false
+        not_true true e = cc
+        not_true false e = refl
+
+    literal_word : (v : Scalar) → is_reference v ≡ false → word_for h v ≡ scalar_word v
+    literal_word (ToObject o) e = cc
+    literal_word _ e = refl
+
+    literal_refers : (kind : Kind) (v : Scalar) → is_reference v ≡ false → Refers h kind v
+    literal_refers (OfRange base low high) v e = literal_refers base v e
+    literal_refers (OfPointer n) (ToObject o) e = cc
+    literal_refers _ v e = tt
 
     pub constant_goes : (kind : Kind) (v : Scalar) → Waiting ctx (Evaluate (Constant kind v)) Rest Quiet m.place m.stack c a → Goes ctx s (Evaluate (Constant kind v) ∷ k) m (c + 32)
     constant_goes kind v row =
         goes_one ctx s (Evaluate (Constant kind v) ∷ k) m (c + 32) c (running (going m row.part.end (scalar_word v ∷ m.stack)) s.world)
         (advances m s.world _ (at_step ctx m shared.program (Liw (scalar_word v)) row.part.end row.part.here.load ∙ pushes (scalar_word v) row.part.end m (omega (arith, row.part.shallow))))
         (lands_on ctx s m shared (Value (Scalars v) ∷ k) row.part.end (scalar_word v ∷ m.stack) c a
-        (once (record { part = record { kind = kind; fits = row.part.here.fits; below = m.stack; is = ap (λ (w : ℕ). w ∷ m.stack) (sym (plain_word h kind v row.part.here.fits)) }; then = row.then })))
+        (once (record {
+          part = record { kind = kind; fits = (literal kind v row.part.here.fits).0; refers = literal_refers kind v (literal kind v row.part.here.fits).1; below = m.stack; is = ap (λ (w : ℕ). w ∷ m.stack) (sym (literal_word v (literal kind v row.part.here.fits).1)) };
+          then = row.then;
+        })))
         (omega arith)
 
     pub taken_goes : (d : Designator) (kind : Kind) → Waiting ctx (Evaluate (Taken d kind)) Rest Quiet m.place m.stack c a → Goes ctx s (Evaluate (Taken d kind) ∷ k) m (c + 32)
@@ -175,12 +195,12 @@ module _ (ctx : Setting) where
         ∙ ap (λ (w : ℕ). let e : Event × State = (Went, going m r.end (w ∷ below)) in e) word.word
         ))
         (lands_on ctx s m shared (Value (Scalars value) ∷ k) r.end (word_for h value ∷ below) c a
-        (once (record { part = record { kind = base_of r.kind; fits = word.fits; below = below; is = refl }; then = row.then })))
+        (once (record { part = record { kind = base_of r.kind; fits = word.fits; refers = refers_base h r.kind value word.refers; below = below; is = refl }; then = row.then })))
         (omega arith)
 
-    pub left_goes : (o : TwoOp) (j : Kind) (f : Expression) (v : Scalar) (kind : Kind) → within kind v ≡ true → (below : List ℕ) → m.stack ≡ word_for h v ∷ below → Waiting ctx (Fill (LeftOf o j f)) Rest (ValueOf kind) m.place below c a
+    pub left_goes : (o : TwoOp) (j : Kind) (f : Expression) (v : Scalar) (kind : Kind) → within kind v ≡ true → Refers h kind v → (below : List ℕ) → m.stack ≡ word_for h v ∷ below → Waiting ctx (Fill (LeftOf o j f)) Rest (ValueOf kind) m.place below c a
         → Goes ctx s (Value (Scalars v) ∷ Fill (LeftOf o j f) ∷ k) m (c + 32)
-    left_goes o j f v kind fits below is row =
+    left_goes o j f v kind fits refers below is row =
         let kinds : kind ≡ j = row.part.same in
         operand_goes ctx s k m c a shared (Value (Scalars v) ∷ Fill (LeftOf o j f) ∷ k) f (RightOf o j v) refl (omega arith) row.part.middle row.part.here (omega (arith, row.part.shallow, ap length is))
         (instrs_within own.code (two_code o j) row.part.middle row.part.end (two_length o j row.part.takes).0 row.part.by)
@@ -189,6 +209,7 @@ module _ (ctx : Setting) where
             same = row.part.typed;
             takes = row.part.takes;
             fits = ap (λ (i : Kind). within i v) (sym kinds) ∙ fits;
+            refers = subst (λ (i : Kind). Refers h i v) kinds refers;
             below = below;
             is = is;
             end = row.part.end;
@@ -197,16 +218,56 @@ module _ (ctx : Setting) where
           then = row.then;
         })
 
-    pub right_goes : (o : TwoOp) (j : Kind) (u v : Scalar) (kind : Kind) → within kind v ≡ true → (below : List ℕ) → m.stack ≡ word_for h v ∷ below → Waiting ctx (Fill (RightOf o j u)) Rest (ValueOf kind) m.place below c a
-        → Goes ctx s (Value (Scalars v) ∷ Fill (RightOf o j u) ∷ k) m (c + 32)
-    right_goes o j u v kind fits below is row =
+    -- two words, and the code of the operator
+    gives_goes : (o : TwoOp) (j : Kind) (u v : Scalar) (kind : Kind) → within kind v ≡ true → (below : List ℕ) → (row : Waiting ctx (Fill (RightOf o j u)) Rest (ValueOf kind) m.place below c a)
+        → Gives own (two_code o j) m row.part.below (applied o j u v) → Goes ctx s (Value (Scalars v) ∷ Fill (RightOf o j u) ∷ k) m (c + 32)
+    gives_goes o j u v kind fits below row gives =
         let good : within (right_kind o j) v ≡ true = ap (λ (i : Kind). within i v) (sym row.part.same) ∙ fits in
-        let items : List Item = Value (Scalars v) ∷ Fill (RightOf o j u) ∷ k in
-        goes_more ctx s items m (c + length (two_code o j)) (c + 32)
-        (instrs_go items (closed ctx k _ _ _ _ _ row.then) (applied o j u v) refl (result_kind (is_relation o) j) (two_fits o j u v row.part.takes row.part.fits good)
-        row.part.end row.part.below row.then (two_code o j) m.place m.stack row.part.by
-        (two_gives own m row.part.below u v (is ∙ ap (λ (x : List ℕ). word_for h v ∷ x) row.part.is ∙ ap (λ (w : ℕ). w ∷ word_for h u ∷ row.part.below) (plain_word h (right_kind o j) v good) ∙ ap (λ (w : ℕ). scalar_word v ∷ w ∷ row.part.below) (plain_word h j u row.part.fits)) o j row.part.takes row.part.fits good))
+        goes_more ctx s (Value (Scalars v) ∷ Fill (RightOf o j u) ∷ k) m (c + length (two_code o j)) (c + 32)
+        (instrs_go (Value (Scalars v) ∷ Fill (RightOf o j u) ∷ k) (closed ctx k _ _ _ _ _ row.then) (applied o j u v) refl (result_kind (is_relation o) j) (two_plain o j row.part.takes)
+        (two_fits o j u v row.part.takes row.part.fits good) row.part.end row.part.below row.then (two_code o j) m.place m.stack row.part.by gives)
         (omega (arith, (two_length o j row.part.takes).1))
+
+    plain_right : (o : TwoOp) (j : Kind) (u v : Scalar) (kind : Kind) → is_plain j ≡ true → within kind v ≡ true → (below : List ℕ) → m.stack ≡ word_for h v ∷ below
+        → Waiting ctx (Fill (RightOf o j u)) Rest (ValueOf kind) m.place below c a → Goes ctx s (Value (Scalars v) ∷ Fill (RightOf o j u) ∷ k) m (c + 32)
+    plain_right o j u v kind plain fits below is row =
+        let good : within (right_kind o j) v ≡ true = ap (λ (i : Kind). within i v) (sym row.part.same) ∙ fits in
+        gives_goes o j u v kind fits below row
+        (two_gives own m row.part.below u v
+        (is ∙ ap (λ (x : List ℕ). word_for h v ∷ x) row.part.is ∙ ap (λ (w : ℕ). w ∷ word_for h u ∷ row.part.below) (plain_word h (right_kind o j) v (right_plain o j plain) good)
+        ∙ ap (λ (w : ℕ). scalar_word v ∷ w ∷ row.part.below) (plain_word h j u plain row.part.fits))
+        o j plain row.part.takes row.part.fits good)
+
+    -- pointers to one object have one word, and those to different objects don't
+    same_words : (n : ℕ) (u v : Scalar) → within (OfPointer n) u ≡ true → within (OfPointer n) v ≡ true → Refers h (OfPointer n) u → Refers h (OfPointer n) v
+        → (word_for h u == word_for h v) ≡ same_reference u v
+    same_words n (ToObject o) (ToObject p) fu fv ru rv = by (o == p) refl
+      where
+        by : (b : Bool) → (o == p) ≡ b → (h.base (Object o) == h.base (Object p)) ≡ b
+        by true e = eq-eqb (h.base (Object o)) (h.base (Object p)) (ap (λ (i : ℕ). h.base (Object i)) (eqb-true o p e))
+        by false e = ne_eqb (h.base (Object o)) (h.base (Object p)) (λ at. let clash = eq-eqb o p (shared.heap.apart o p ru.0 rv.0 at) in cc)
+    same_words n (ToObject o) Nothing fu fv ru rv = ne_eqb (h.base (Object o)) 0 (λ at. omega (arith, at, shared.heap.above o ru.0))
+    same_words n Nothing (ToObject p) fu fv ru rv = ne_eqb 0 (h.base (Object p)) (λ at. omega (arith, at, shared.heap.above p rv.0))
+    same_words n Nothing Nothing fu fv ru rv = refl
+    same_words n u v fu fv ru rv = cc
+
+    -- an operator that isn't IN has a right operand of the same kind
+    pointer_right : (o : TwoOp) (n : ℕ) → takes_two o (OfPointer n) ≡ true → right_kind o (OfPointer n) ≡ OfPointer n
+    pointer_right Equal n e = refl
+    pointer_right Unequal n e = refl
+    pointer_right _ n e = cc
+
+    pub right_goes : (o : TwoOp) (j : Kind) (u v : Scalar) (kind : Kind) → within kind v ≡ true → Refers h kind v → (below : List ℕ) → m.stack ≡ word_for h v ∷ below
+        → Waiting ctx (Fill (RightOf o j u)) Rest (ValueOf kind) m.place below c a → Goes ctx s (Value (Scalars v) ∷ Fill (RightOf o j u) ∷ k) m (c + 32)
+    right_goes o (OfPointer n) u v kind fits refers below is row =
+        let r = row.part in
+        let kinds : kind ≡ OfPointer n = r.same ∙ pointer_right o n r.takes in
+        gives_goes o (OfPointer n) u v kind fits below row
+        (pointer_gives own m r.below (word_for h u) (word_for h v) (is ∙ ap (λ (x : List ℕ). word_for h v ∷ x) r.is) n u v
+        (same_words n u v r.fits (ap (λ (i : Kind). within i v) (sym kinds) ∙ fits) r.refers (subst (λ (i : Kind). Refers h i v) kinds refers))
+        o r.takes)
+    right_goes o (OfRange part low high) u v kind fits refers below is row = absurd (ranged_none o part low high row.part.takes)
+    right_goes o j u v kind fits refers below is row = plain_right o j u v kind refl fits below is row
 
     -- a standard function that has no code
     kept_goes : (f : Function) (v : Scalar) (kind : Kind) → within kind v ≡ true → (below : List ℕ) → m.stack ≡ word_for h v ∷ below
@@ -217,12 +278,13 @@ module _ (ctx : Setting) where
         let u : Scalar = kept.0 in
         let becomes : next library (Now items) ≡ with_items (Now items) (Value (Scalars u) ∷ k) = ap (λ (r : Result Scalar TrapKind). answered library r k (Now items)) kept.1 in
         let end : m.place ≡ row.part.end = subst (λ (is : List Instr). InstrsAt own.code is m.place row.part.end) none row.part.by in
-        let word : word_for h v ≡ word_for h u = plain_word h kind v fits ∙ sym kept.2 ∙ sym (plain_word h (function_kind f) u kept.3) in
+        let plain = function_plain f kind row.part.takes in
+        let word : word_for h v ≡ word_for h u = plain_word h kind v plain.0 fits ∙ sym kept.2 ∙ sym (plain_word h (function_kind f) u plain.1 kept.3) in
         goes_none ctx s items m (c + 32) c
         (subst (λ (x : Source). Lands ctx x.phase x (running m s.world) c) (sym becomes)
         (lands_on ctx s m shared (Value (Scalars u) ∷ k) m.place m.stack c a
         (once (record {
-          part = record { kind = function_kind f; fits = kept.3; below = below; is = is ∙ ap (λ (w : ℕ). w ∷ below) word };
+          part = record { kind = function_kind f; fits = kept.3; refers = plain_refers h (function_kind f) u plain.1; below = below; is = is ∙ ap (λ (w : ℕ). w ∷ below) word };
           then = subst (λ (q : ℕ). Rest (ValueOf (function_kind f)) q below c a) (sym end) row.then;
         }))))
         (omega arith)
@@ -239,9 +301,9 @@ module _ (ctx : Setting) where
         by [] e = kept_goes f v kind fits below is row e
         by (i ∷ code) e =
             goes_more ctx s items m (c + length (function_code f kind)) (c + 32)
-            (instrs_go items (closed ctx k _ _ _ _ _ row.then) (function_value f v) refl (function_kind f) (function_fits f kind v row.part.takes fits)
+            (instrs_go items (closed ctx k _ _ _ _ _ row.then) (function_value f v) refl (function_kind f) (function_plain f kind row.part.takes).1 (function_fits f kind v row.part.takes fits)
             row.part.end below row.then (function_code f kind) m.place m.stack row.part.by
-            (function_gives own m below v (is ∙ ap (λ (w : ℕ). w ∷ below) (plain_word h kind v fits)) f kind row.part.takes fits row.part.shallow
+            (function_gives own m below v (is ∙ ap (λ (w : ℕ). w ∷ below) (plain_word h kind v (function_plain f kind row.part.takes).0 fits)) f kind row.part.takes fits row.part.shallow
             (λ none. let clash : [] ≡ i ∷ code = sym none ∙ e in cc)))
             (omega (arith, function_length f kind))
 
@@ -253,9 +315,9 @@ module _ (ctx : Setting) where
         let good : within j v ≡ true = ap (λ (i : Kind). within i v) (sym kinds) ∙ fits in
         let items : List Item = Value (Scalars v) ∷ Fill (OneOf o j) ∷ k in
         goes_more ctx s items m (c + length (one_code o j)) (c + 32)
-        (instrs_go items (closed ctx k _ _ _ _ _ row.then) (one_applied o j v) refl j (one_fits o j v row.part.takes good)
+        (instrs_go items (closed ctx k _ _ _ _ _ row.then) (one_applied o j v) refl j (one_plain o j row.part.takes) (one_fits o j v row.part.takes good)
         row.part.end below row.then (one_code o j) m.place m.stack row.part.by
-        (one_gives own m below v (is ∙ ap (λ (w : ℕ). w ∷ below) (plain_word h kind v fits)) o j row.part.takes some good))
+        (one_gives own m below v (is ∙ ap (λ (w : ℕ). w ∷ below) (plain_word h kind v (ap is_plain kinds ∙ one_plain o j row.part.takes) fits)) o j row.part.takes some good))
         (omega (arith, short))
 
     pub one_of_goes : (o : OneOp) (j : Kind) (v : Scalar) (kind : Kind) → within kind v ≡ true → (below : List ℕ) → m.stack ≡ word_for h v ∷ below → Waiting ctx (Fill (OneOf o j)) Rest (ValueOf kind) m.place below c a
@@ -268,6 +330,7 @@ module _ (ctx : Setting) where
           part = record {
             kind = j;
             fits = ap (λ (i : Kind). within i v) (sym kinds) ∙ fits;
+            refers = plain_refers h j v (one_plain one.Plus j row.part.takes);
             below = below;
             is = is;
           };
@@ -287,7 +350,7 @@ module _ (ctx : Setting) where
         (advances m s.world _ step)
         (subst (λ (x : Source). Lands ctx x.phase x (running (going m row.part.end m.stack) s.world) c) (sym becomes)
         (lands_on ctx s m shared (Value (Scalars v) ∷ k) row.part.end m.stack c a
-        (once (record { part = record { kind = OfTruth; fits = fits; below = below; is = is }; then = row.then }))))
+        (once (record { part = record { kind = OfTruth; fits = fits; refers = tt; below = below; is = is }; then = row.then }))))
         (omega arith)
     short_goes d f items v false becomes fits kind below is row step =
         goes_one ctx s items m (c + 32) c (running (going m row.part.start below) s.world)

@@ -1,7 +1,7 @@
 -- The machine's operators on words are the meaning's on scalars.
-use Rattle.std.proofs.Common.{◌≡◌, ℕ, zero, suc, ◌==◌, ◌≢◌, ◌<◌, ◌≤◌, length, arith, Bool, true, false, cond, not, Option, Some, None, Result, Ok, Err, List, [], ◌∷◌, refl, sym, ap, ◌∙◌, subst}
+use Rattle.std.proofs.Common.{◌≡◌, ℕ, zero, suc, ◌==◌, ◌≢◌, ◌<◌, ◌≤◌, length, arith, Bool, true, false, cond, not, ◌||◌, Option, Some, None, Result, Ok, Err, List, [], ◌∷◌, refl, sym, ap, ◌∙◌, subst}
 use Rattle.std.proofs.lemmas.Nat.{mod_below}
-use Rattle.std.proofs.lemmas.Bool.{and_parts}
+use Rattle.std.proofs.lemmas.Bool.{and_parts, true≢false}
 use Rattle.std.proofs.lemmas.Bool.Decides.{nat_tests}
 use Rattle.std.proofs.lemmas.Int.{ints, quot-rem}
 use Rattle.std.specs.Prelude.{ℤ, pos, negsuc, neg_ℤ, int_lt, int_rem, nat_le, ◌%◌, ◌-◌, ◌+◌}
@@ -14,17 +14,17 @@ use Rattle.lil_base.specs.declared.operator.OneOp.{OneOp}
 use Rattle.lil_base.specs.declared.operator.OneOp.TheVariants as one
 use Rattle.lil_base.specs.declared.operator.TwoOp.{TwoOp}
 use Rattle.lil_base.specs.declared.operator.TwoOp.TheVariants.{Equal, Unequal, Less, AtMost, Greater, AtLeast, In, Plus, Minus, Times, Slash, Div, Mod}
-use Rattle.lil_resolved.specs.Kinds.{Kind, OfWhole, OfTruth, OfCharacter, OfEnumeration, OfSet, OfRange, base_of, is_base, is_ordinal, is_set, is_whole, compared_as, shared, covers}
+use Rattle.lil_resolved.specs.Kinds.{Kind, OfWhole, OfTruth, OfCharacter, OfEnumeration, OfSet, OfPointer, OfRange, base_of, is_base, is_ordinal, is_set, is_whole, is_plain, compared_as, shared, covers}
 use Rattle.lil_base.specs.Sets as sets
 use Rattle.lil_base.specs.Sets.{has, set_word}
 use Rattle.lil_base.specs.SetLaws.{has_no}
 use Rattle.lil_resolved.specs.Members.{same_members, included, is_in, united, without, shared_members, unshared}
 use Rattle.lil_resolved.specs.MemberLaws.{words_equal, word_has, word_included, word_united, word_without, word_shared, word_unshared}
-use Rattle.lil_resolved.specs.Scalars.{Scalar, Truth, Character, Number, SetOf, within, scalar_of, scalar_word, ordinal_of, truth_number, truth_of}
+use Rattle.lil_resolved.specs.Scalars.{Scalar, Truth, Character, Number, SetOf, ToObject, Nothing, same_reference, within, scalar_of, scalar_word, ordinal_of, truth_number, truth_of, members_of}
 use Rattle.lil_resolved.specs.Resolved.{Function, Abs, Cap, Chr, Odd, Ord, Val, is_relation, result_kind, right_kind, function_kind}
 use Rattle.lil_resolved.specs.Depth.{function_depth}
 use Rattle.lil_resolved.specs.Sound.{takes_one, takes_two, takes_function}
-use Rattle.lil_meaning.specs.Steps.{whole_of, outcome, compared_number, relation_of, related, compared, set_value, applied, one_applied, capital, valued, ranged, function_value, is_same, is_other, is_at_most, is_greater, is_at_least}
+use Rattle.lil_meaning.specs.Steps.{whole_of, outcome, compared_number, relation_of, related, compared, set_value, pointer_value, applied, one_applied, capital, valued, ranged, function_value, is_same, is_other, is_at_most, is_greater, is_at_least}
 use Rattle.lil_asm.specs.declared.instr.Instr.{Instr}
 use Rattle.lil_asm.specs.declared.instr.Instr.TheVariants as instr
 use Rattle.lil_asm.specs.declared.instr.Instr.TheVariants.{Liw, Swp, Adc, Sbc, Mlc, Dvc, Mdc, Adi, Sbi, Mli, Dvi, Mdi, Ngi, Abi, Not, Uni, Dif, Its, Sym, Sin, Sle, Equ, Neq}
@@ -35,7 +35,7 @@ use Rattle.lil_mcode.specs.Table.{act, going, on_one, on_two, swap_row, result_r
 use Rattle.lil_table.specs.Rows.{less_code, at_most_code, one_code, number_code, set_code, two_code, range_code, test_code, function_code}
 use Rattle.lil_match.specs.Arithmetic.{word_is, reads_ordinal, reads, same_words, other_is, sum_fits, difference_fits, product_fits, quotient_fits, remainder_fits, negation_fits, absolute_fits}
 use Rattle.lil_match.specs.Homes.{within_base}
-use Rattle.lil_match.specs.Ranges.{has as has_number, value_where, value_is, number_is, value_fits, fits_has, has_type, ordinal_base}
+use Rattle.lil_match.specs.Ranges.{has as has_number, value_where, value_is, number_is, value_fits, fits_has, has_type, ordinal_base, ordinal_plain}
 use Rattle.lil_match.specs.Tests.{covered, test_act}
 use Rattle.lil_match.specs.Steps.{pushes}
 
@@ -78,6 +78,49 @@ less_row Integer own m q = refl
 at_most_row : (t : Whole) (own : Module) (m : State) (q : ℕ) → act (at_most_code t) q own m ≡ compare_row (at_most t) q m m.stack
 at_most_row Cardinal own m q = refl
 at_most_row Integer own m q = refl
+
+-- ---- kinds without references
+whole_plain : (k : Kind) → is_whole k ≡ true → is_plain k ≡ true
+whole_plain (OfWhole t) h = refl
+whole_plain k h = cc
+
+pub one_plain : (o : OneOp) (k : Kind) → takes_one o k ≡ true → is_plain k ≡ true
+one_plain one.Plus k h = whole_plain k h
+one_plain one.Minus (OfWhole t) h = refl
+one_plain one.Not OfTruth h = refl
+one_plain o k h = cc
+
+-- what an operator on two values gives
+pub two_plain : (o : TwoOp) (k : Kind) → takes_two o k ≡ true → is_plain (result_kind (is_relation o) k) ≡ true
+two_plain Equal (OfPointer n) h = refl
+two_plain Unequal (OfPointer n) h = refl
+two_plain o (OfPointer n) h = cc
+two_plain o (OfRange part low high) h = cc
+two_plain o k h = by (is_relation o) k refl
+  where
+    by : (b : Bool) (k : Kind) → is_plain k ≡ true → is_plain (result_kind b k) ≡ true
+    by true k h = refl
+    by false k h = h
+
+-- where no set is compared
+no_other : (b : Bool) → (b || false) ≡ true → b ≡ true
+no_other true h = refl
+no_other false h = h
+
+pub right_plain : (o : TwoOp) (k : Kind) → is_plain k ≡ true → is_plain (right_kind o k) ≡ true
+right_plain In k h = refl
+right_plain _ k h = h
+
+-- what a standard function takes and gives
+pub function_plain : (f : Function) (k : Kind) → takes_function f k ≡ true → (is_plain k ≡ true) × (is_plain (function_kind f) ≡ true)
+function_plain (Abs Cardinal) (OfWhole Cardinal) h = (refl, refl)
+function_plain (Abs Integer) (OfWhole Integer) h = (refl, refl)
+function_plain Cap OfCharacter h = (refl, refl)
+function_plain Chr k h = (whole_plain k h, refl)
+function_plain Odd k h = (whole_plain k h, refl)
+function_plain Ord k h = (ordinal_plain k h, refl)
+function_plain (Val j) k h = let p = and_parts (is_ordinal k) (is_ordinal (base_of j)) h in (ordinal_plain k p.0, ordinal_plain (base_of j) p.1)
+function_plain f k h = cc
 
 -- kinds that compare by numbers are no sets
 no_set : (k : Kind) → is_ordinal k ≡ true → is_set k ≡ true → ⊥
@@ -262,34 +305,55 @@ module _ (own : Module) (m : State) (below : List ℕ) (u : Scalar) (s : ℕ →
       comparison_gives own m below u (SetOf s) is is_member (is_in s (ordinal_of u)) Sin (λ q. refl)
       (ap (has (set_word s)) (word_is u) ∙ member_where (compared_as k) (ordinal_of u) s (has_type k (ordinal_of u) (ordinal_base k ordinal) (fits_has k u fits)))
 
+-- on two pointers, of which each word is that of what it refers to
+module _ (own : Module) (m : State) (below : List ℕ) (x y : ℕ) (is : m.stack ≡ y ∷ x ∷ below) where
+  words_give : (f : ℕ → ℕ → Bool) (b : Bool) (i : Instr) → ((q : ℕ) → act i q own m ≡ compare_row f q m m.stack) → f x y ≡ b → Gives own (i ∷ []) m below (Ok (Truth b))
+  words_give f b i row same = λ q.
+      row q
+      ∙ ap (compare_row f q m) is
+      ∙ ap (λ (w : ℕ). let r : Event × State = (Went, going m q (w ∷ below)) in r) (ap truth same ∙ truth_is b)
+
+  pub pointer_gives : (n : ℕ) (u v : Scalar) → (x == y) ≡ same_reference u v → (o : TwoOp) → takes_two o (OfPointer n) ≡ true → Gives own (two_code o (OfPointer n)) m below (applied o (OfPointer n) u v)
+  pointer_gives n u v same Equal takes = words_give equal (same_reference u v) Equ (λ q. refl) same
+  pointer_gives n u v same Unequal takes = words_give unequal (not (same_reference u v)) Neq (λ q. refl) (ap not same)
+  pointer_gives n u v same o takes = cc
+
 -- no operator takes a part of a kind
-ranged_none : (o : TwoOp) (part : Kind) (low high : ℤ) → takes_two o (OfRange part low high) ≡ true → ⊥
+pub ranged_none : (o : TwoOp) (part : Kind) (low high : ℤ) → takes_two o (OfRange part low high) ≡ true → ⊥
 ranged_none Equal part low high h = cc
 ranged_none o part low high h = cc
 
+counted : (n : ℕ) (o : TwoOp) → takes_two o (OfEnumeration n) ≡ true → is_ordinal (OfEnumeration n) ≡ true
+counted n Equal h = h
+counted n Unequal h = h
+counted n Less h = h
+counted n AtMost h = no_other (is_ordinal (OfEnumeration n)) h
+counted n Greater h = h
+counted n AtLeast h = no_other (is_ordinal (OfEnumeration n)) h
+counted n In h = h
+counted n o h = cc
+
 -- of all kinds
 module _ (own : Module) (m : State) (below : List ℕ) where
-  pub two_gives : (u v : Scalar) → m.stack ≡ scalar_word v ∷ scalar_word u ∷ below → (o : TwoOp) (k : Kind) → takes_two o k ≡ true → within k u ≡ true → within (right_kind o k) v ≡ true
+  in_any : (u v : Scalar) → m.stack ≡ scalar_word v ∷ scalar_word u ∷ below → (k : Kind) → takes_two In k ≡ true → within k u ≡ true → within OfSet v ≡ true → Gives own (two_code In k) m below (applied In k u v)
+  in_any u (SetOf t) is k takes left right = in_gives own m below u t is k takes left
+  in_any u v is k takes left right = cc
+
+  sets_any : (u v : Scalar) → m.stack ≡ scalar_word v ∷ scalar_word u ∷ below → (o : TwoOp) → takes_two o OfSet ≡ true → o ≢ In → within OfSet u ≡ true → within OfSet v ≡ true
+      → Gives own (set_code o) m below (Ok (set_value o (members_of u) (members_of v)))
+  sets_any (SetOf s) (SetOf t) is o takes none left right = set_gives own m below s t is o takes none
+  sets_any u v is o takes none left right = cc
+
+  pub two_gives : (u v : Scalar) → m.stack ≡ scalar_word v ∷ scalar_word u ∷ below → (o : TwoOp) (k : Kind) → is_plain k ≡ true → takes_two o k ≡ true → within k u ≡ true → within (right_kind o k) v ≡ true
       → Gives own (two_code o k) m below (applied o k u v)
-  two_gives u (SetOf t) is In k takes left right = in_gives own m below u t is k takes left
-  two_gives u v is In k takes left right = cc
-  two_gives (SetOf s) (SetOf t) is o OfSet takes left right = set_gives own m below s t is o takes (λ e. cc)
-  two_gives u v is o OfSet takes left right = cc
-  two_gives u v is o (OfWhole t) takes left right = number_gives own m below u v is o (OfWhole t) refl takes (λ e. cc) left right
-  two_gives u v is o OfTruth takes left right = number_gives own m below u v is o OfTruth refl takes (λ e. cc) left right
-  two_gives u v is o OfCharacter takes left right = number_gives own m below u v is o OfCharacter refl takes (λ e. cc) left right
-  two_gives u v is o (OfEnumeration n) takes left right = number_gives own m below u v is o (OfEnumeration n) (counted o takes) takes (λ e. cc) left right
-    where
-      counted : (o : TwoOp) → takes_two o (OfEnumeration n) ≡ true → is_ordinal (OfEnumeration n) ≡ true
-      counted Equal h = h
-      counted Unequal h = h
-      counted Less h = h
-      counted AtMost h = h
-      counted Greater h = h
-      counted AtLeast h = h
-      counted In h = h
-      counted o h = cc
-  two_gives u v is o (OfRange part low high) takes left right = absurd (ranged_none o part low high takes)
+  two_gives u v is In k plain takes left right = in_any u v is k takes left right
+  two_gives u v is o OfSet plain takes left right = sets_any u v is o takes (λ e. cc) left right
+  two_gives u v is o (OfWhole t) plain takes left right = number_gives own m below u v is o (OfWhole t) refl takes (λ e. cc) left right
+  two_gives u v is o OfTruth plain takes left right = number_gives own m below u v is o OfTruth refl takes (λ e. cc) left right
+  two_gives u v is o OfCharacter plain takes left right = number_gives own m below u v is o OfCharacter refl takes (λ e. cc) left right
+  two_gives u v is o (OfEnumeration n) plain takes left right = number_gives own m below u v is o (OfEnumeration n) (counted n o takes) takes (λ e. cc) left right
+  two_gives u v is o (OfPointer n) plain takes left right = absurd (true≢false (sym plain))
+  two_gives u v is o (OfRange part low high) plain takes left right = absurd (ranged_none o part low high takes)
 
 -- an operator on two values has one or two instructions
 pub two_length : (o : TwoOp) (k : Kind) → takes_two o k ≡ true → (0 < length (two_code o k)) × (length (two_code o k) ≤ 2)
@@ -320,12 +384,15 @@ two_fits Minus OfSet u v takes left right = refl
 two_fits Times OfSet u v takes left right = refl
 two_fits Slash OfSet u v takes left right = refl
 two_fits o OfSet u v takes left right = cc
+two_fits Equal (OfPointer n) u v takes left right = refl
+two_fits Unequal (OfPointer n) u v takes left right = refl
+two_fits o (OfPointer n) u v takes left right = cc
 two_fits Equal k u v takes left right = relation_fits k u v takes left right is_same
 two_fits Unequal k u v takes left right = relation_fits k u v takes left right is_other
 two_fits Less k u v takes left right = relation_fits k u v takes left right int_lt
-two_fits AtMost k u v takes left right = relation_fits k u v takes left right is_at_most
+two_fits AtMost k u v takes left right = relation_fits k u v (no_other (is_ordinal k) takes) left right is_at_most
 two_fits Greater k u v takes left right = relation_fits k u v takes left right is_greater
-two_fits AtLeast k u v takes left right = relation_fits k u v takes left right is_at_least
+two_fits AtLeast k u v takes left right = relation_fits k u v (no_other (is_ordinal k) takes) left right is_at_least
 two_fits Plus (OfWhole t) u v takes left right = outcome_fits t _ (sum_fits t (whole_of u) (whole_of v))
 two_fits Minus (OfWhole t) u v takes left right = outcome_fits t _ (difference_fits t (whole_of u) (whole_of v))
 two_fits Times (OfWhole t) u v takes left right = outcome_fits t _ (product_fits t (whole_of u) (whole_of v))

@@ -1,7 +1,7 @@
 -- The rows of set values: from a matched state the machine comes to a matched state.
 use Rattle.std.proofs.Common.{◌≡◌, ℕ, ◌+◌, ◌<◌, ◌≤◌, Bool, true, cond, List, [], ◌∷◌, length, refl, sym, ap, ◌∙◌, subst, arith}
 use Rattle.lil_base.specs.declared.fault.TrapKind.TheVariants as trap
-use Rattle.lil_resolved.specs.Kinds.{Kind, OfSet}
+use Rattle.lil_resolved.specs.Kinds.{Kind, OfSet, takes_value}
 use Rattle.lil_resolved.specs.Scalars.{Scalar, within, scalar_word}
 use Rattle.lil_resolved.specs.Resolved.{Expression, With, WithSpan, kind_of}
 use Rattle.lil_meaning.specs.Items.{Scalars, WithMember, MemberOf, WithMembers, MembersFrom, MembersTo, Item, Value, Evaluate, Fill, Going, Source}
@@ -11,7 +11,7 @@ use Rattle.lil_mcode.specs.State.{State}
 use Rattle.lil_mcode.specs.Table.{going}
 use Rattle.lil_table.specs.Rows.{IsAt, InstrsAt, test_code}
 use Rattle.lil_match.specs.Running.{running}
-use Rattle.lil_match.specs.Homes.{word_for, plain_word}
+use Rattle.lil_match.specs.Homes.{word_for, plain_word, takes_plain}
 use Rattle.lil_match.specs.Goes.{Shared, Goes, Lands}
 use Rattle.lil_match.specs.Waits.{Setting, frame_of, laid_out, Quiet, ValueOf, Around, Reach, Rows, HasSet, Waiting}
 use Rattle.lil_match.specs.Steps.{advances, pushes, at_step, at_once, lands_on, goes_one, operand_goes, operand_exact}
@@ -94,12 +94,12 @@ module _ (ctx : Setting) where
         (advances here s.world _ (at_step ctx here shared.program Spn q at ∙ span_act u low high fits from to own m below p q))
         (subst (λ (y : Source). Lands ctx y.phase y (running (going m q stack) s.world) c) (sym becomes)
         (lands_on ctx s m shared (Value (Scalars (with_span u low high)) ∷ k) q stack c a
-        (at_once ctx _ Quiet q stack c a (record { part = record { kind = OfSet; fits = refl; below = below; is = refl }; then = rest }))))
+        (at_once ctx _ Quiet q stack c a (record { part = record { kind = OfSet; fits = refl; refers = tt; below = below; is = refl }; then = rest }))))
         (omega arith)
 
     -- a set on the expression stack is its word
     set_word_is : (u : Scalar) (stack below : List ℕ) → HasSet ctx u stack below → stack ≡ scalar_word u ∷ below
-    set_word_is u stack below has = has.is ∙ ap (λ (w : ℕ). w ∷ below) (plain_word h OfSet u has.fits)
+    set_word_is u stack below has = has.is ∙ ap (λ (w : ℕ). w ∷ below) (plain_word h OfSet u refl has.fits)
 
     module _ (v : Scalar) (j : Kind) (fit : within j v ≡ true) (below : List ℕ) (is : m.stack ≡ word_for h v ∷ below) where
       -- the set is there, and then comes the number
@@ -151,8 +151,8 @@ module _ (ctx : Setting) where
             then = row.then;
           })
 
-      word : m.stack ≡ scalar_word v ∷ below
-      word = is ∙ ap (λ (w : ℕ). w ∷ below) (plain_word h j v fit)
+      word : (kind : Kind) → takes_value kind j ≡ true → m.stack ≡ scalar_word v ∷ below
+      word kind takes = is ∙ ap (λ (w : ℕ). w ∷ below) (plain_word h j v (takes_plain kind j takes).1 fit)
 
       -- the number is there: its test, and then the set gets it
       pub member_of_goes : (u : Scalar) (kind : Kind) → Waiting ctx (Fill (MemberOf u kind)) Rest (ValueOf j) m.place below c a → Goes ctx s (Value (Scalars v) ∷ Fill (MemberOf u kind) ∷ k) m (c + 32)
@@ -161,8 +161,8 @@ module _ (ctx : Setting) where
           let items : List Item = Value (Scalars v) ∷ Fill (MemberOf u kind) ∷ k in
           let now : Source = record s { items = items; phase = Going } in
           let becomes : Bool → Source = λ b. cond b (with_items now (Value (Scalars (with_span u v v)) ∷ k)) (trapped library now trap.Range) in
-          let full : m.stack ≡ scalar_word v ∷ scalar_word u ∷ r.below = word ∙ ap (λ (x : List ℕ). scalar_word v ∷ x) (set_word_is u below r.below r.set) in
-          tested ctx s items m shared m.place m.stack kind j v r.takes fit below word r.tested (c + 32) (c + 2) r.test (closed ctx k _ _ _ _ _ row.then)
+          let full : m.stack ≡ scalar_word v ∷ scalar_word u ∷ r.below = word kind r.takes ∙ ap (λ (x : List ℕ). scalar_word v ∷ x) (set_word_is u below r.below r.set) in
+          tested ctx s items m shared m.place m.stack kind j v r.takes fit below (word kind r.takes) r.tested (c + 32) (c + 2) r.test (closed ctx k _ _ _ _ _ row.then)
           (λ out. ap becomes out)
           (λ one.
           let is_member : IsMember v = member_is kind v r.element one in
@@ -181,7 +181,7 @@ module _ (ctx : Setting) where
           let now : Source = record s { items = items; phase = Going } in
           let becomes : Bool → Source = λ b. cond b (with_items now (Evaluate f ∷ Fill (MembersTo u kind v) ∷ k)) (trapped library now trap.Range) in
           let last = expression_stands l own.code f r.tested r.last r.last_value in
-          tested ctx s items m shared m.place m.stack kind j v r.takes fit below word r.tested (c + 32) c r.test (closed ctx k _ _ _ _ _ row.then)
+          tested ctx s items m shared m.place m.stack kind j v r.takes fit below (word kind r.takes) r.tested (c + 32) c r.test (closed ctx k _ _ _ _ _ row.then)
           (λ out. ap becomes out)
           (λ one.
           operand_exact ctx s k (going m r.tested m.stack) c a shared items f (MembersTo u kind v) (ap becomes one) (omega arith) r.last r.last_value
@@ -213,8 +213,8 @@ module _ (ctx : Setting) where
           let now : Source = record s { items = items; phase = Going } in
           let becomes : Bool → Source = λ b. cond b (with_items now (Value (Scalars (with_span u low v)) ∷ k)) (trapped library now trap.Range) in
           let full : m.stack ≡ scalar_word v ∷ scalar_word low ∷ scalar_word u ∷ r.below =
-          word ∙ ap (λ (x : List ℕ). scalar_word v ∷ x) (r.is ∙ ap (λ (w : ℕ). w ∷ r.under) (plain_word h kind low r.low_fits) ∙ ap (λ (x : List ℕ). scalar_word low ∷ x) (set_word_is u r.under r.below r.set)) in
-          tested ctx s items m shared m.place m.stack kind j v r.takes fit below word r.after (c + 32) (c + 1) r.test (closed ctx k _ _ _ _ _ row.then)
+          word kind r.takes ∙ ap (λ (x : List ℕ). scalar_word v ∷ x) (r.is ∙ ap (λ (w : ℕ). w ∷ r.under) (plain_word h kind low (takes_plain kind j r.takes).0 r.low_fits) ∙ ap (λ (x : List ℕ). scalar_word low ∷ x) (set_word_is u r.under r.below r.set)) in
+          tested ctx s items m shared m.place m.stack kind j v r.takes fit below (word kind r.takes) r.after (c + 32) (c + 1) r.test (closed ctx k _ _ _ _ _ row.then)
           (λ out. ap becomes out)
           (λ one.
           subst (λ (x : List ℕ). Goes ctx s items (going m r.after x) (c + 1)) (sym full)

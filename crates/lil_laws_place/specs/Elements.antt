@@ -1,27 +1,29 @@
 -- The rows of places: of variables, fields and elements.
-use Rattle.std.proofs.Common.{◌≡◌, ℕ, ◌+◌, ◌*◌, ◌<◌, Bool, true, cond, ltb, Option, Some, List, [], ◌∷◌, refl, sym, ap, ◌∙◌, subst, arith}
+use Rattle.std.proofs.Common.{◌≡◌, ℕ, ◌+◌, ◌*◌, ◌<◌, ◌≤◌, Bool, true, cond, ltb, Option, Some, List, [], ◌∷◌, refl, sym, ap, ◌∙◌, subst, arith}
 use Rattle.std.specs.Prelude.{ℤ, pos, negsuc, ◌≤ℤ◌, ◌-ℤ◌, ◌+ℤ◌, slice_get}
-use Rattle.std.proofs.lemmas.Bool.{lt-ltb}
+use Rattle.std.proofs.lemmas.Bool.{lt-ltb, ne_eqb}
 use Rattle.std.proofs.lemmas.Int.{ints}
 use Rattle.lil_base.specs.Words.{word_of}
 use Rattle.lil_base.specs.Laws.{in_range, bounds}
 use Rattle.lil_base.specs.declared.fault.TrapKind.TheVariants as trap
-use Rattle.lil_resolved.specs.Kinds.{Kind, base_of, is_base, takes_value, compared_as, least, greatest, nat_of, numbers, position}
-use Rattle.lil_resolved.specs.Scalars.{Scalar, within, scalar_word, ordinal_of}
-use Rattle.lil_resolved.specs.Shapes.{Shape, Absent, Row, words, is_there, part_at, offset, shape_by, shape_at, element_of}
-use Rattle.lil_resolved.specs.Resolved.{Designator, Variable, Held, Field, Element, Expression, shape_of}
-use Rattle.lil_meaning.specs.Cells.{Global, Place, part_of}
-use Rattle.lil_meaning.specs.Items.{Scalars, Places, Part, IndexBy, IndexAt, Item, Value, PlaceOf, Fill, Going, Source}
-use Rattle.lil_meaning.specs.Steps.{current, owner_of, held_at, trapped, with_items}
-use Rattle.lil_asm.specs.declared.instr.Instr.TheVariants.{Llw, Ixc}
+use Rattle.lil_resolved.specs.Kinds.{Kind, OfPointer, base_of, is_base, takes_value, compared_as, least, greatest, nat_of, numbers, position}
+use Rattle.lil_resolved.specs.Scalars.{Scalar, ToObject, Nothing, within, scalar_word, ordinal_of}
+use Rattle.lil_resolved.specs.Shapes.{Shape, Absent, Word, Row, words, is_there, part_at, offset, shape_by, shape_at, element_of}
+use Rattle.lil_resolved.specs.Resolved.{Designator, Variable, Held, Field, Element, Follow, Expression, shape_of}
+use Rattle.lil_resolved.specs.Depth.{place_depth}
+use Rattle.lil_meaning.specs.Cells.{Global, Object, Place, object_place, part_of, got}
+use Rattle.lil_meaning.specs.Items.{Scalars, Places, Part, IndexBy, IndexAt, Pointed, Item, Value, PlaceOf, Fill, Going, Source}
+use Rattle.lil_meaning.specs.Steps.{current, owner_of, held_at, pointed, trapped, with_items}
+use Rattle.lil_asm.specs.declared.instr.Instr.TheVariants.{Llw, Nlt, Ixc}
+use Rattle.lil_mcode.specs.declared.machine.Event.{Event}
 use Rattle.lil_mcode.specs.declared.machine.Event.TheVariants.{Went}
 use Rattle.lil_mcode.specs.Control.{above}
 use Rattle.lil_mcode.specs.State.{State}
-use Rattle.lil_mcode.specs.Table.{going, on_two, push_row, element_row}
-use Rattle.lil_table.specs.Rows.{Access, InData, OnTop, further, offset_in, access_of}
+use Rattle.lil_mcode.specs.Table.{going, on_one, on_two, push_row, element_row}
+use Rattle.lil_table.specs.Rows.{Access, InData, OnTop, further, offset_in, access_of, load_code}
 use Rattle.lil_match.specs.Running.{running}
-use Rattle.lil_match.specs.Parts.{yes}
-use Rattle.lil_match.specs.Homes.{word_for, plain_word, address, shape_there, part_there}
+use Rattle.lil_match.specs.Parts.{yes, no}
+use Rattle.lil_match.specs.Homes.{word_for, Refers, plain_word, takes_plain, address, shape_there, part_there}
 use Rattle.lil_match.specs.Goes.{Shared, Goes, Lands}
 use Rattle.lil_match.specs.Waits.{Setting, frame_of, laid_out, Quiet, ValueOf, AtPlace, Around, Reach, Rows, HasPlace, Waiting}
 use Rattle.lil_match.specs.Orders.{instr_within, instrs_order, expression_stands}
@@ -29,9 +31,16 @@ use Rattle.lil_match.specs.Ranges.{has, fits_has, has_type, has_base, takes_part
 use Rattle.lil_match.specs.Arithmetic.{word_is, above_more}
 use Rattle.lil_match.specs.Kept.{own_low, own_read}
 use Rattle.lil_match.specs.Closing.{closed, held_here, variable_here}
-use Rattle.lil_match.specs.Steps.{advances, at_step, at_once, pushes, lands_on, goes_none, goes_one, operand_exact}
-use Rattle.lil_laws_place.specs.Codes.{inside, part_has, addressed}
-use Rattle.lil_laws_place.specs.Stores.{tested}
+use Rattle.lil_match.specs.Steps.{advances, at_step, at_once, pushes, lands_on, goes_none, goes_one, goes_after, operand_exact}
+use Rattle.lil_laws_place.specs.Codes.{inside, part_has, addressed, loads}
+use Rattle.lil_laws_place.specs.Stores.{trap_goes, tested}
+
+pub place_some : (d : Designator) → 1 ≤ place_depth d
+place_some (Variable x) = omega arith
+place_some (Held w) = omega arith
+place_some (Field d i) = place_some d
+place_some (Element d k e) = omega (arith, place_some d)
+place_some (Follow d n) = place_some d
 
 -- ---- the number of an element is less than how many there are
 fewer : (low z high : ℤ) → low ≤ℤ z → z ≤ℤ high → nat_of (z -ℤ low) < nat_of ((high -ℤ low) +ℤ pos 1)
@@ -170,6 +179,78 @@ module _ (ctx : Setting) where
         (omega arith)
         (omega arith)
 
+    -- what a pointer points to
+    pub follow_goes : (d : Designator) (n : ℕ) → Waiting ctx (PlaceOf (Follow d n)) Rest Quiet m.place m.stack c a → Goes ctx s (PlaceOf (Follow d n) ∷ k) m (c + 32)
+    follow_goes d n row =
+        let r = row.part.here in
+        goes_none ctx s (PlaceOf (Follow d n) ∷ k) m (c + 32) c
+        (lands_on ctx s m shared (PlaceOf d ∷ Fill Pointed ∷ k) m.place m.stack c a
+        (at_once ctx _ Quiet m.place m.stack c a
+        (record {
+          part = record { end = r.found; here = r.here; shallow = row.part.shallow };
+          then = at_once ctx _ (AtPlace (access_of l d) (shape_of l.scope d)) r.found m.stack c a
+              (record {
+                part = record { number = n; typed = r.typed; there = r.there; loaded = r.loaded; end = row.part.end; load = r.load; test = r.test; shallow = omega (arith, row.part.shallow, place_some d) };
+                then = row.then;
+              });
+        })))
+        (omega arith)
+        (omega arith)
+
+    -- the pointer is there: its word is loaded, and isn't that of NIL
+    module _ (place : Place) (b : Access) (t : Shape) (below : List ℕ) (has : HasPlace ctx b place t m.stack below) (row : Waiting ctx (Fill Pointed) Rest (AtPlace b t) m.place below c a) where
+      abbrev pointing : List Item
+      pointing = Value (Places place) ∷ Fill Pointed ∷ k
+
+      abbrev then : Source
+      then = record s { items = pointing; phase = Going }
+
+      -- the object that it points to
+      object_has : (o : ℕ) → Refers h (OfPointer row.part.number) (ToObject o) → HasPlace ctx OnTop (object_place o) (shape_at l.scope.targets row.part.number) (h.base (Object o) ∷ below) below
+      object_has o refers =
+          let at : h.base (Object o) ≡ h.base (Object o) + 0 = omega arith in
+          record {
+            seen = refl;
+            living = refers.1 ∙ ap (λ (ts : List Shape). shape_at ts row.part.number) (sym shared.standing.known.targets);
+            there = row.part.there;
+            at = ap (λ (w : ℕ). w ∷ below) at;
+          }
+
+      follows : (v : Scalar) → got s.cells place ≡ v → within (OfPointer row.part.number) v ≡ true → Refers h (OfPointer row.part.number) v
+          → Goes ctx s (Value (Places place) ∷ Fill Pointed ∷ k) (going m row.part.loaded (word_for h v ∷ below)) (c + 1)
+      follows (ToObject o) is fits refers =
+          let r = row.part in
+          let w : ℕ = h.base (Object o) in
+          let some : (w ≡ 0) → ⊥ = λ none. omega (arith, none, shared.heap.above o refers.0) in
+          goes_one ctx s pointing (going m r.loaded (w ∷ below)) (c + 1) c (running (going m r.end (w ∷ below)) s.world)
+          (advances (going m r.loaded (w ∷ below)) s.world _ (at_step ctx (going m r.loaded (w ∷ below)) shared.program Nlt r.end r.test ∙ no _ _ _ (ne_eqb w 0 some)))
+          (subst (λ (v : Scalar). Lands ctx (pointed library v k then).phase (pointed library v k then) (running (going m r.end (w ∷ below)) s.world) c) (sym is)
+          (lands_on ctx s m shared (Value (Places (object_place o)) ∷ k) r.end (w ∷ below) c a
+          (at_once ctx _ Quiet r.end (w ∷ below) c a
+          (record { part = record { access = OnTop; shape = shape_at l.scope.targets r.number; below = below; has = object_has o refers }; then = row.then }))))
+          (omega arith)
+      follows Nothing is fits refers =
+          trap_goes ctx s pointing m shared row.part.loaded (0 ∷ below) trap.Nil (c + 1) (closed ctx k _ _ _ _ _ row.then)
+          (ap (λ (v : Scalar). pointed library v k then) is)
+          (at_step ctx (going m row.part.loaded (0 ∷ below)) shared.program Nlt row.part.end row.part.test)
+          (omega arith)
+      follows v is fits refers = cc
+
+      pub pointed_goes : Goes ctx s (Value (Places place) ∷ Fill Pointed ∷ k) m (c + 32)
+      pointed_goes =
+          let r = row.part in
+          let living : shape_there h place ≡ Word (OfPointer r.number) = has.living ∙ r.typed in
+          let here : HasPlace ctx b place (Word (OfPointer r.number)) m.stack below = record { seen = has.seen; living = living; there = refl; at = has.at } in
+          let word = shared.mem.holds place.root place.path (OfPointer r.number) living in
+          goes_after ctx s pointing m (going m r.loaded (word_for h (got s.cells place) ∷ below)) (c + 32) (c + 1)
+          (advances m s.world _ (
+          at_step ctx m shared.program (load_code b) r.loaded r.load
+          ∙ loads ctx s m shared b place (OfPointer r.number) below here r.shallow r.loaded
+          ∙ ap (λ (w : ℕ). let e : Event × State = (Went, going m r.loaded (w ∷ below)) in e) word.word
+          ))
+          (follows (got s.cells place) refl word.fits word.refers)
+          (omega arith)
+
     -- the array is there: its address, and then the index
     pub index_by_goes : (place : Place) (kind : Kind) (e : Expression) (b : Access) (t : Shape) (below : List ℕ) → HasPlace ctx b place t m.stack below
         → Waiting ctx (Fill (IndexBy kind e)) Rest (AtPlace b t) m.place below c a → Goes ctx s (Value (Places place) ∷ Fill (IndexBy kind e) ∷ k) m (c + 32)
@@ -214,7 +295,7 @@ module _ (ctx : Setting) where
       t = Row (numbers kind) row.part.element
 
       word : m.stack ≡ scalar_word v ∷ below
-      word = is ∙ ap (λ (w : ℕ). w ∷ below) (plain_word h j v fit)
+      word = is ∙ ap (λ (w : ℕ). w ∷ below) (plain_word h j v (takes_plain kind j row.part.takes).1 fit)
 
       abbrev becomes : Bool → Source
       becomes b = cond b (with_items now (Value (Places (part_of place x)) ∷ k)) (trapped library now trap.Range)

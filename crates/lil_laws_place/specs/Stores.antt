@@ -15,7 +15,7 @@ use Rattle.lil_mcode.specs.Table.{mstep, going}
 use Rattle.lil_table.specs.Rows.{IsAt, InstrsAt, range_code, test_code, Access, readied, store_code}
 use Rattle.lil_match.specs.Running.{Run, running, react}
 use Rattle.lil_match.specs.Parts.{yes}
-use Rattle.lil_match.specs.Homes.{word_for, address, Mem, mem_stored}
+use Rattle.lil_match.specs.Homes.{word_for, Refers, address, Mem, mem_stored}
 use Rattle.lil_match.specs.Goes.{Shared, Goes, Lands}
 use Rattle.lil_match.specs.Waits.{Setting, frame_of, Quiet, Around, Rows, HasPlace}
 use Rattle.lil_match.specs.Ranges.{has, fits_has, taken_where, takes_base}
@@ -81,13 +81,13 @@ module _ (ctx : Setting) where
         number_tested k j v (takes_base k j takes) fits below is middle budget rest test close (λ e. traps (same ∙ e)) (λ e. goes (same ∙ e)) less
 
     -- a value of the kind of a place is stored there
-    pub stored_goes : (b : Access) (place : Place) (k : Kind) (under : List ℕ) → HasPlace ctx b place (Word k) under [] → readied b ≡ b → (v : Scalar) → within k v ≡ true
+    pub stored_goes : (b : Access) (place : Place) (k : Kind) (under : List ℕ) → HasPlace ctx b place (Word k) under [] → readied b ≡ b → (v : Scalar) → within k v ≡ true → Refers h k v
         → stack ≡ word_for h v ∷ under → (end : ℕ) → IsAt own.code p (store_code b) end
         → (after : List Item) → next library Now ≡ record s { items = after; cells = stored s.cells place (alone v); phase = Going }
         → (c budget : ℕ) (a : Around) → Rows ctx after Quiet end [] c a → c + 1 ≤ budget → Goes ctx s items here budget
-    stored_goes b place k under has ready v fits is end at after becomes c budget a rows less =
+    stored_goes b place k under has ready v fits refers is end at after becomes c budget a rows less =
         let store : List ℕ = set m.store (address h place) (word_for h v) in
-        let mem : Mem h (stored s.cells place (alone v)) store = mem_stored h s.cells m.store place k v all.mem has.living fits in
+        let mem : Mem h (stored s.cells place (alone v)) store = mem_stored h s.cells m.store place k v all.mem has.living fits refers in
         let machine : State = record m { place = end; stack = []; store = store } in
         goes_one ctx s items here budget c (running machine s.world)
         (advances here s.world _ (

@@ -4,7 +4,7 @@ use Rattle.std.specs.Prelude.{nat_le}
 use Rattle.std.proofs.lemmas.Bool.{le-ltb, lt-ltb, lt-leb, cases_lt}
 use Rattle.lil_base.specs.declared.fault.LimitKind.TheVariants as limit
 use Rattle.lil_resolved.specs.Shapes.{offset}
-use Rattle.lil_meaning.specs.Cells.{Root}
+use Rattle.lil_meaning.specs.Cells.{Root, heap_words}
 use Rattle.lil_meaning.specs.Items.{End, Item, Perform, Source}
 use Rattle.lil_asm.specs.declared.instr.Instr.TheVariants.{Ent, Rtn}
 use Rattle.lil_mcode.specs.declared.machine.Event.TheVariants.{Went}
@@ -13,7 +13,7 @@ use Rattle.lil_mcode.specs.Table.{mstep, end_row, body_row, begun_body, enter_ro
 use Rattle.lil_table.specs.Rows.{IsAt}
 use Rattle.lil_match.specs.Running.{running, advanced}
 use Rattle.lil_match.specs.Parts.{yes, no}
-use Rattle.lil_match.specs.Homes.{Of, Own, Fixed, own_fixed, Free, Home, Mem, word_same, of_free, scalar_owned}
+use Rattle.lil_match.specs.Homes.{Of, Own, Fixed, own_fixed, Free, Home, Mem, is_word_kept, of_free, scalar_owned}
 use Rattle.lil_match.specs.Splices.{spliced_length, spliced_before, spliced_after, zeros_length}
 use Rattle.lil_match.specs.Goes.{OwnWords, Comes, Shared, fits, Goes, number_of}
 use Rattle.lil_match.specs.Waits.{Quiet, outside, Frame, Setting, at_home, with_frames, RowsOf, NextBody}
@@ -76,8 +76,8 @@ module _ (ctx : Setting) (f b : Frame) (bs : List Frame) where
         at_step beginning begun (record { table_is = shared.program.table_is; known = comes.known.known; running_is = refl; marked_is = shared.program.marked_is }) (Ent b.layout.frame) next.start next.enter
 
     -- ---- without room
-    short_row : nat_le (b.at + b.layout.frame) ctx.stack.limit ≡ false → fits ctx.stack.limit (b ∷ bs) ≡ false
-    short_row e = ap (λ (t : Bool). t && fits ctx.stack.limit bs) e
+    short_row : (low : ℕ) → nat_le (b.at + b.layout.frame) low ≡ false → fits low (b ∷ bs) ≡ false
+    short_row low e = ap (λ (t : Bool). t && fits low bs) e
 
     pub goes_short : ctx.stack.limit < b.at + b.layout.frame → Goes ending s (Perform (End n) ∷ k) m (c + 32)
     goes_short less =
@@ -92,8 +92,8 @@ module _ (ctx : Setting) (f b : Frame) (bs : List Frame) where
         short (omega arith))
         (omega arith)) (cases_lt m.limit (m.base + 4))
       where
-        short : fits ctx.stack.limit (b ∷ bs) ≡ false
-        short = short_row (lt-leb (b.at + b.layout.frame) ctx.stack.limit less)
+        short : fits (65535 - heap_words s.objects) (b ∷ bs) ≡ false
+        short = short_row (65535 - heap_words s.objects) (lt-leb (b.at + b.layout.frame) (65535 - heap_words s.objects) (omega (arith, less, shared.heap.rest)))
 
     -- ---- with room
     module _ (room : b.at + b.layout.frame ≤ ctx.stack.limit) where
@@ -183,11 +183,13 @@ module _ (ctx : Setting) (f b : Frame) (bs : List Frame) where
             let old = shared.mem.holds r q j e in
             let a : ℕ = h.base r + offset (h.shape r) q in
             let at = outside_is (h.base r + offset (h.shape r) q) r (scalar_owned h s.cells m.store r q j shared.mem e).0 in
-            record {
+            is_word_kept h x (λ o l. refl) (λ o l. refl) refl j (s.cells r q) (get_or entered.store (h.base r + offset (h.shape r) q) 0)
+            (record {
               word = stays (h.base r + offset (h.shape r) q) (⊎_elim (λ (l : h.base r + offset (h.shape r) q < ctx.stack.base). inl l) (λ (g : ctx.stack.limit ≤ h.base r + offset (h.shape r) q). inr (omega (arith, g, comes.at, room))) at)
-                  ∙ old.word ∙ word_same h x (λ o. refl) (s.cells r q);
+                  ∙ old.word;
               fits = old.fits;
-            };
+              refers = old.refers;
+            });
         fixed = λ a own. fixed_there a own (side ctx.stack.base (ctx.stack.base + b.layout.frame) a) (cases_lt a ctx.stack.limit);
         kept = λ a own. kept a own (side ctx.stack.base (ctx.stack.base + b.layout.frame) a) (cases_lt a ctx.stack.limit);
         long = long;
@@ -224,16 +226,17 @@ module _ (ctx : Setting) (f b : Frame) (bs : List Frame) where
             met = record {
               shared = record {
                 mem = mem;
+                heap = shared.heap;
                 program = record { table_is = shared.program.table_is; known = comes.known.known; running_is = refl; marked_is = shared.program.marked_is };
                 standing = record {
                   frame_is = g.base_is ∙ sym comes.at;
                   base_is = g.base_is;
                   limit_is = g.limit_is;
                   bodies_are = refl;
-                  known = known_kept ctx.library ctx.loaded ctx.table ctx.activations h x (λ r. refl) (λ r. refl) fixed_kept b comes.known;
+                  known = known_kept ctx.library ctx.loaded ctx.table ctx.activations h x (λ r e. refl) (λ r e. refl) refl fixed_kept b comes.known;
                   callers = tt;
-                  comes = each_comes ctx.library ctx.loaded ctx.table ctx.activations h x (λ r. refl) (λ r. refl) fixed_kept ctx.stack.base bs g.comes.1;
-                  stands = (record { mark = comes.mark; below = omega (arith, comes.at, g.base_is); own = λ i l. owner_own (b.at + i) (omega (arith, comes.at)) (omega (arith, l, g.base_is)) }, comes.at);
+                  comes = each_comes ctx.library ctx.loaded ctx.table ctx.activations h x (λ r e. refl) (λ r e. refl) refl fixed_kept ctx.stack.base bs g.comes.1;
+                  stands = (record { mark = comes.mark; below = omega (arith, comes.at, g.base_is); most = omega (arith, comes.at, g.base_is); own = λ i l. owner_own (b.at + i) (omega (arith, comes.at)) (omega (arith, l, g.base_is)) }, comes.at);
                   room = λ a from below. owner_free a (omega (arith, from, g.base_is)) below;
                   low = omega (arith, g.base_is, comes.at, room);
                   high = g.high;
@@ -246,20 +249,23 @@ module _ (ctx : Setting) (f b : Frame) (bs : List Frame) where
               };
               around = outside;
               ahead = rows_ahead (at_home beginning x) k next.start [] c outside
-                  (rows_kept k beginning x (base + 4) (omega (arith, comes.at), (all_above ending (stack_of m) g).1) Quiet next.start [] c outside
-                  (record { shadow = λ a from below. absurd (omega (arith, from, below, comes.at)); base = λ r e. refl; shape = λ r e. refl; reference = λ o. refl })
+                  (rows_kept k beginning x ctx.stack.limit (base + 4) (omega (arith, comes.at), (all_above ending (stack_of m) g).1) Quiet next.start [] c outside
+                  (record { shadow = λ a from below. absurd (omega (arith, from, below, comes.at)); base = λ r e l. refl; shape = λ r e l. refl; targets = refl })
                   next.then);
             };
           })
           (record {
             owner = λ a o. owner_beside a o;
             shadow = λ a o. shadow_beside a (⊎_elim (λ (l : a < ctx.stack.base). inl l) (λ (g : ctx.stack.limit ≤ a). inr (omega (arith, g, comes.at, room), omega (arith, g, comes.at, room))) o);
-            base = λ r. refl;
-            shape = λ r. refl;
-            reference = λ o. refl;
+            base = λ r e. refl;
+            shape = λ r e. refl;
+            targets = refl;
             fixed = fixed_kept;
           })
-          (refl, refl)
-          (λ e. and_later (nat_le (b.at + b.layout.frame) ctx.stack.limit) (fits ctx.stack.limit bs) e)
+          (refl, omega arith)
+          (record {
+            bodies = λ n e. and_later (nat_le (b.at + b.layout.frame) n) (fits n bs) e;
+            all = λ n e. and_later (nat_le (f.at + f.layout.frame) n) (fits n (b ∷ bs)) e;
+          })
           (omega arith))
           (omega arith)

@@ -4,7 +4,7 @@ use Rattle.std.proofs.lemmas.Int.{ints}
 use Rattle.std.proofs.lemmas.Bool.{lt-ltb, le-leb, lt-leb}
 use Rattle.lil_base.specs.Words.{Whole, Cardinal, Integer, least, greatest, between, in_type, word_of}
 use Rattle.lil_base.specs.declared.fault.TrapKind.TheVariants as trap
-use Rattle.lil_resolved.specs.Kinds.{Kind, is_ordinal, compared_as}
+use Rattle.lil_resolved.specs.Kinds.{Kind, is_plain, is_ordinal, compared_as}
 use Rattle.lil_resolved.specs.Scalars.{Scalar, within, ordinal_of}
 use Rattle.lil_resolved.specs.Resolved.{Expression, Label, Case, Statements, Arms, NoElse, Else, Arm, kind_of}
 use Rattle.lil_meaning.specs.Items.{Scalars, Pick, Do, Item, Value, Fill, Perform, doing, Going, Source}
@@ -22,6 +22,7 @@ use Rattle.lil_match.specs.Parts.{yes}
 use Rattle.lil_match.specs.Homes.{word_for, plain_word}
 use Rattle.lil_match.specs.Goes.{Shared, Goes, Lands}
 use Rattle.lil_match.specs.Waits.{Setting, frame_of, laid_out, Quiet, ValueOf, Around, Reach, Rows, Waiting}
+use Rattle.lil_match.specs.Ranges.{ordinal_plain}
 use Rattle.lil_match.specs.Orders.{instr_within, body_within}
 use Rattle.lil_match.specs.Closing.{closed, both_trap}
 use Rattle.lil_match.specs.Arithmetic.{word_is, above_more}
@@ -135,7 +136,7 @@ module _ (ctx : Setting) where
         inside = ordinal_in (kind_of row.part.of) v row.part.did.here.base (ap (λ (j : Kind). within j v) (sym row.part.same) ∙ fit)
 
         stack : m.stack ≡ word_of (ordinal_of v) ∷ []
-        stack = is ∙ ap (λ (st : List ℕ). word_for h v ∷ st) row.part.did.empty ∙ ap (λ (w : ℕ). w ∷ []) (plain_word h kind v fit ∙ word_is v)
+        stack = is ∙ ap (λ (st : List ℕ). word_for h v ∷ st) row.part.did.empty ∙ ap (λ (w : ℕ). w ∷ []) (plain_word h kind v (ap is_plain row.part.same ∙ ordinal_plain (kind_of row.part.of) row.part.did.here.base) fit ∙ word_is v)
 
         choosing : State
         choosing = going m row.part.did.here.choices m.stack

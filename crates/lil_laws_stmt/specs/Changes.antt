@@ -4,7 +4,7 @@ use Rattle.std.specs.Prelude.{ℤ}
 use Rattle.lil_base.specs.Words.{Whole, Cardinal, Integer, in_type, number_of, word_of}
 use Rattle.lil_base.specs.Traps.{arith_trap}
 use Rattle.lil_base.specs.declared.fault.ArithFault.{ArithFault}
-use Rattle.lil_resolved.specs.Kinds.{Kind, OfWhole, base_of}
+use Rattle.lil_resolved.specs.Kinds.{Kind, OfWhole, base_of, is_plain}
 use Rattle.lil_resolved.specs.Scalars.{Scalar, Number, within, scalar_of, scalar_word, ordinal_of}
 use Rattle.lil_resolved.specs.Resolved.{Designator, Expression, Change, counted_as, shape_of}
 use Rattle.lil_resolved.specs.Shapes.{Shape, Word}
@@ -16,7 +16,7 @@ use Rattle.lil_asm.specs.declared.instr.Instr.TheVariants.{Adc, Sbc, Adi, Sbi}
 use Rattle.lil_mcode.specs.State.{Module, State}
 use Rattle.lil_mcode.specs.Table.{mstep, act, going, result_row, two_row}
 use Rattle.lil_table.specs.Rows.{IsAt, InstrsAt, whole_code, Access, InData, OnTop, Behind, access_of, readied, store_code, under_code, change_operator, change_code, test_code}
-use Rattle.lil_match.specs.Homes.{word_for, plain_word, address, IsWord}
+use Rattle.lil_match.specs.Homes.{word_for, base_plain, plain_word, plain_refers, address, IsWord}
 use Rattle.lil_match.specs.Goes.{Shared, Goes}
 use Rattle.lil_match.specs.Waits.{Setting, frame_of, laid_out, Quiet, ValueOf, AtPlace, Around, Reach, Rows, Reaches, doubled, HasPlace, Waiting}
 use Rattle.lil_match.specs.Orders.{instrs_within}
@@ -87,6 +87,7 @@ module _ (ctx : Setting) where
                   typed = r.target.scalar.shape;
                   empty = row.part.empty;
                   base = r.target.scalar.base;
+                  plain = r.plain;
                   start = r.start;
                   kept = r.kept;
                   middle = r.middle;
@@ -121,6 +122,7 @@ module _ (ctx : Setting) where
           part = record {
             same = r.value.typed;
             base = r.base;
+            plain = r.plain;
             access = readied b;
             ready = readied_twice ctx b;
             once = once;
@@ -187,10 +189,10 @@ module _ (ctx : Setting) where
       old_fits = kept_word.fits
 
       old_word : get_or m.store (address h place) 0 ≡ scalar_word old
-      old_word = kept_word.word ∙ plain_word h (base_of to) old old_fits
+      old_word = kept_word.word ∙ plain_word h (base_of to) old (base_plain to ∙ row.part.plain) old_fits
 
       stack_is : m.stack ≡ scalar_word v ∷ doubled row.part.access once
-      stack_is = is ∙ ap (λ (x : List ℕ). word_for h v ∷ x) row.part.twice ∙ ap (λ (w : ℕ). w ∷ doubled row.part.access once) (plain_word h kind v fit)
+      stack_is = is ∙ ap (λ (x : List ℕ). word_for h v ∷ x) row.part.twice ∙ ap (λ (w : ℕ). w ∷ doubled row.part.access once) (plain_word h kind v (ap is_plain row.part.same) fit)
 
       operates : mstep both ≡ result_row both tests.0 once result
       operates =
@@ -208,7 +210,7 @@ module _ (ctx : Setting) where
       store_value o = stored_with library place (valued o) k Now
 
       new_word : (z : ℤ) → has to z ≡ true → word_of z ≡ word_for h (scalar_of to z)
-      new_word z one = ap word_of (sym (number_is to z one)) ∙ sym (word_is (scalar_of to z)) ∙ sym (plain_word h to (scalar_of to z) (value_fits to z one))
+      new_word z one = ap word_of (sym (number_is to z one)) ∙ sym (word_is (scalar_of to z)) ∙ sym (plain_word h to (scalar_of to z) row.part.plain (value_fits to z one))
 
       -- the new number is stored, where it is one of the place's kind
       number_goes : (z : ℤ) → result ≡ Ok z → Goes ctx s items (done z) (c + 2)
@@ -218,7 +220,7 @@ module _ (ctx : Setting) where
           number_tested ctx s items m shared tests.0 (word_of z ∷ once) to (OfWhole t) (Number z) refl fits once refl stores.0 (c + 2) (c + 1) tests.2 close
           (λ none. ap store_result e ∙ ap store_value (value_none to z none))
           (λ one.
-          stored_goes ctx s items m shared stores.0 (word_of z ∷ once) row.part.access place to once row.part.has row.part.ready (scalar_of to z) (value_fits to z one)
+          stored_goes ctx s items m shared stores.0 (word_of z ∷ once) row.part.access place to once row.part.has row.part.ready (scalar_of to z) (value_fits to z one) (plain_refers h to (scalar_of to z) row.part.plain)
           (ap (λ (w : ℕ). w ∷ once) (new_word z one)) row.part.end store k (ap store_result e ∙ ap store_value (value_is to z one)) c (c + 1) a row.then (omega arith))
           (omega arith)
 

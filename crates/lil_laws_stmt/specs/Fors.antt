@@ -5,7 +5,7 @@ use Rattle.std.proofs.lemmas.Bool.{eq-eqb, lt-ltb, ne_eqb, and_from}
 use Rattle.lil_base.specs.declared.fault.TrapKind.TheVariants as trap
 use Rattle.lil_base.specs.Words.{Whole, Cardinal, Integer, word_of}
 use Rattle.lil_resolved.specs.Kinds as kinds
-use Rattle.lil_resolved.specs.Kinds.{Kind, base_of, is_base, compared_as, covers, outside_turns}
+use Rattle.lil_resolved.specs.Kinds.{Kind, base_of, is_plain, is_base, compared_as, covers, outside_turns}
 use Rattle.lil_resolved.specs.Scalars.{Scalar, within, scalar_word, scalar_of, ordinal_of}
 use Rattle.lil_resolved.specs.Shapes.{Word}
 use Rattle.lil_resolved.specs.Resolved.{Expression, For, Statements}
@@ -22,9 +22,9 @@ use Rattle.lil_mcode.specs.Table.{mstep, going, push_row, on_three, loop_row, be
 use Rattle.lil_table.specs.Rows.{InData, Layout, IsAt, InstrsAt, AlignAt, BodyAt, RoundRow, range_code, loop_place, loop_sign}
 use Rattle.lil_match.specs.Running.{Run, running, react, advanced}
 use Rattle.lil_match.specs.Parts.{yes, no}
-use Rattle.lil_match.specs.Homes.{word_for, plain_word, Home, Mem, scalar_owned, mem_stored, replaced, shadowed}
+use Rattle.lil_match.specs.Homes.{word_for, base_plain, takes_plain, plain_word, plain_refers, Home, Mem, scalar_owned, mem_stored, replaced, shadowed}
 use Rattle.lil_match.specs.Arithmetic.{word_is}
-use Rattle.lil_match.specs.Ranges.{has, value_is, value_none, number_is, value_fits, fits_has, has_type, ordinal_base}
+use Rattle.lil_match.specs.Ranges.{has, value_is, value_none, number_is, value_fits, fits_has, has_type, ordinal_base, ordinal_plain}
 use Rattle.lil_match.specs.Tests.{covered, test_act}
 use Rattle.lil_match.specs.Goes.{Shared, Touches, Goes, Lands}
 use Rattle.lil_match.specs.Waits.{Setting, frame_of, laid_out, Quiet, ValueOf, Around, Reach, TurnsFit, Rows, at_home, LoopWords, NextWaits, HasPlace, Waiting}
@@ -37,8 +37,8 @@ use Rattle.lil_laws_stmt.specs.Control.{body_rows}
 use Rattle.lil_laws_stmt.specs.ForWords.{word_small, next_word, step_some, turns_read, turns_few}
 
 -- the word of a value says its number
-value_word : (h : Home) (k : Kind) (v : Scalar) → within k v ≡ true → word_for h v ≡ word_of (ordinal_of v)
-value_word h k v fits = plain_word h k v fits ∙ word_is v
+value_word : (h : Home) (k : Kind) (v : Scalar) → is_plain k ≡ true → within k v ≡ true → word_for h v ≡ word_of (ordinal_of v)
+value_word h k v plain fits = plain_word h k v plain fits ∙ word_is v
 
 -- and that of the value with a number says this number
 number_word : (k : Kind) (z : ℤ) → has k z ≡ true → scalar_word (scalar_of k z) ≡ word_of z
@@ -104,7 +104,8 @@ module _ (ctx : Setting) where
       stores there =
           let v : Scalar = scalar_of kind z in
           let fits : within kind v ≡ true = value_fits kind z there in
-          let word : word_for h v ≡ word_of z = plain_word h kind v fits ∙ number_word kind z there in
+          let plain : is_plain kind ≡ true = sym (base_plain kind) ∙ ordinal_plain base round.known.base in
+          let word : word_for h v ≡ word_of z = plain_word h kind v plain fits ∙ number_word kind z there in
           let inner : Around = record { exit = a.exit; taken = 3 + a.taken } in
           let offset : ℕ = round.known.offset in
           let store : List ℕ = set m.store (own.base + offset) (word_of z) in
@@ -114,7 +115,7 @@ module _ (ctx : Setting) where
           let small_there : own.base + offset < 65536 = omega (arith, (scalar_owned h s.cells m.store place.root place.path kind shared.mem variable.living).1, variable.at.0) in
           let mem : Mem h (stored s.cells place (alone v)) store =
           subst (λ (st : List ℕ). Mem h (stored s.cells place (alone v)) st) (ap (λ (b : ℕ). set m.store b (word_for h v)) variable.at.0 ∙ ap (set m.store (own.base + offset)) word)
-          (mem_stored h s.cells m.store place kind v shared.mem variable.living fits) in
+          (mem_stored h s.cells m.store place kind v shared.mem variable.living fits (plain_refers h kind v plain)) in
           let rows : Rows ctx after Quiet round.start [] c inner =
           body_rows ctx body (Turning x kind (z +ℤ step) step left body) round.start round.end c inner round.here
           (instr_within own.code round.end (Frn (loop_place (a.taken)) m.place) end round.next)
@@ -313,8 +314,8 @@ module _ (ctx : Setting) where
           fits = fits_has row.part.from u row.part.fits;
           limit_fits = fits_has (base_of to) v fits;
           stack_is = is ∙ ap (λ (st : List ℕ). word_for h v ∷ st) row.part.stack_is
-              ∙ ap (λ (w : ℕ). w ∷ word_for h u ∷ []) (value_word h (base_of to) v fits)
-              ∙ ap (λ (w : ℕ). word_of (ordinal_of v) ∷ w ∷ []) (value_word h row.part.from u row.part.fits);
+              ∙ ap (λ (w : ℕ). w ∷ word_for h u ∷ []) (value_word h (base_of to) v (base_plain to ∙ (takes_plain to row.part.from row.part.takes).0) fits)
+              ∙ ap (λ (w : ℕ). word_of (ordinal_of v) ∷ w ∷ []) (value_word h row.part.from u (takes_plain to row.part.from row.part.takes).1 row.part.fits);
           count = refl;
           end = row.part.end;
           turns = row.part.turns;

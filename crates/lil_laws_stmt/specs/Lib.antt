@@ -8,6 +8,7 @@ pub mod Exits
 pub mod ForWords
 pub mod Fors
 pub mod Members
+pub mod News
 pub mod Painting
 pub mod Requests
 pub mod Returns

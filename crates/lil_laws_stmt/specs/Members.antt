@@ -16,7 +16,7 @@ use Rattle.lil_mcode.specs.Table.{act, going, on_two, member_row}
 use Rattle.lil_table.specs.Rows.{Access, OnTop, access_of, member_code}
 use Rattle.lil_match.specs.Running.{running}
 use Rattle.lil_match.specs.Parts.{yes, no}
-use Rattle.lil_match.specs.Homes.{word_for, plain_word, address, IsWord, Mem, mem_stored}
+use Rattle.lil_match.specs.Homes.{word_for, plain_word, takes_plain, address, IsWord, Mem, mem_stored}
 use Rattle.lil_match.specs.Goes.{Shared, Goes, Lands}
 use Rattle.lil_match.specs.Waits.{Setting, frame_of, laid_out, Quiet, ValueOf, AtPlace, Around, Reach, Rows, HasPlace, Waiting}
 use Rattle.lil_match.specs.Orders.{instrs_order, instr_within, expression_stands}
@@ -59,6 +59,7 @@ module _ (ctx : Setting) where
                   end = row.part.end;
                   address = r.address;
                   value = r.value;
+                  takes = r.takes;
                   by = r.by;
                   within = row.part.within;
                 };
@@ -83,7 +84,7 @@ module _ (ctx : Setting) where
         (record {
           part = record {
             element = r.element;
-            takes = r.value.takes;
+            takes = r.takes;
             has = record { seen = has.seen; living = has.living ∙ r.typed; there = refl; at = ap (λ (x : List ℕ). address h place ∷ x) r.empty };
             tested = r.middle;
             end = r.end;
@@ -114,7 +115,7 @@ module _ (ctx : Setting) where
       becomes b = cond b (record s { items = k; cells = stored s.cells place (alone new); phase = Going }) (trapped library now trap.Range)
 
       word : m.stack ≡ scalar_word v ∷ below
-      word = is ∙ ap (λ (w : ℕ). w ∷ below) (plain_word h j v fit)
+      word = is ∙ ap (λ (w : ℕ). w ∷ below) (plain_word h j v (takes_plain kind j row.part.takes).1 fit)
 
       new_set : within OfSet new ≡ true
       new_set = by out
@@ -128,9 +129,9 @@ module _ (ctx : Setting) where
 
       new_word : IsMember v → member_change out (get_or m.store (address h place) 0) (scalar_word v) ≡ word_for h new
       new_word one =
-          ap (λ (w : ℕ). member_change out w (scalar_word v)) (kept_word.word ∙ plain_word h OfSet old kept_word.fits)
+          ap (λ (w : ℕ). member_change out w (scalar_word v)) (kept_word.word ∙ plain_word h OfSet old refl kept_word.fits)
           ∙ member_word out old v kept_word.fits one
-          ∙ sym (plain_word h OfSet new new_set)
+          ∙ sym (plain_word h OfSet new refl new_set)
 
       chosen : within kind v ≡ true → Goes ctx s items (going m row.part.tested m.stack) (c + 1)
       chosen one =
@@ -139,7 +140,7 @@ module _ (ctx : Setting) where
           let here : State = going m r.tested m.stack in
           let store : List ℕ = set m.store (address h place) (word_for h new) in
           let machine : State = record m { place = r.end; stack = []; store = store } in
-          let mem : Mem h (stored s.cells place (alone new)) store = mem_stored h s.cells m.store place OfSet new shared.mem r.has.living new_set in
+          let mem : Mem h (stored s.cells place (alone new)) store = mem_stored h s.cells m.store place OfSet new shared.mem r.has.living new_set tt in
           let low = inside ctx s m shared OnTop place (Word OfSet) below [] r.has in
           goes_one ctx s items here (c + 1) c (running machine s.world)
           (advances here s.world _ (

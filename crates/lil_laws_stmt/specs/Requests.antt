@@ -21,7 +21,7 @@ use Rattle.lil_mcode.specs.Table.{going, array_lies, request_row}
 use Rattle.lil_table.specs.Rows.{IsAt, ArgumentsAt, HasText, text_words, arguments_words, Access, access_of}
 use Rattle.lil_match.specs.Running.{Running, Run, running, requested, words_taken}
 use Rattle.lil_match.specs.Parts.{yes, no}
-use Rattle.lil_match.specs.Homes.{Home, text_character, word_for, plain_word, address, shape_there, place_inside, part_there}
+use Rattle.lil_match.specs.Homes.{Home, text_character, word_for, plain_word, takes_plain, address, shape_there, place_inside, part_there}
 use Rattle.lil_match.specs.Goes.{Shared, Goes, Lands}
 use Rattle.lil_match.specs.Stutter.{stutter}
 use Rattle.lil_match.specs.Waits.{Setting, frame_of, laid_out, Quiet, ValueOf, AtPlace, Around, Reach, Rows, HasPlace, is_open, is_array, TakesAll, DatumOn, DataOn, Waiting}
@@ -227,7 +227,7 @@ module _ (ctx : Setting) where
 
     pub passing_goes : (r : ℕ) (done : List Datum) (x : Argument) (left : List Argument) → Passed r done x left → Goes ctx s (Perform (Passing r done (x ∷ left)) ∷ k) m (c + 32)
     passing_goes r done (ByValue kind e) left row =
-        let value = row.part.given.here in
+        let value = row.part.given.here.1 in
         let serve = row.part.serve in
         let rest : ArgumentsAt l own.code (suc (length m.stack)) left row.part.given.middle row.part.middle =
         subst (λ (n : ℕ). ArgumentsAt l own.code n left row.part.given.middle row.part.middle) (let e : 1 + length m.stack ≡ suc (length m.stack) = omega arith in e) row.part.given.then in
@@ -238,7 +238,7 @@ module _ (ctx : Setting) where
         (value_within ctx (length m.stack) e kind m.place row.part.given.middle value behind)
         (record {
           part = record {
-            takes = value.takes;
+            takes = row.part.given.here.0;
             on = row.part.on;
             tested = row.part.given.middle;
             test = value.test;
@@ -349,7 +349,7 @@ module _ (ctx : Setting) where
         let now : Source = record s { items = items; phase = Going } in
         let after : List Item = Perform (Passing r (done ++ Scalars v ∷ []) left) ∷ k in
         let becomes : Bool → Source = λ b. cond b (with_items now after) (trapped library now trap.Range) in
-        let stack_is : m.stack ≡ scalar_word v ∷ below = is ∙ ap (λ (w : ℕ). w ∷ below) (plain_word h kind v fit) in
+        let stack_is : m.stack ≡ scalar_word v ∷ below = is ∙ ap (λ (w : ℕ). w ∷ below) (plain_word h kind v (takes_plain to kind row.part.takes).1 fit) in
         let count : suc (length below) ≡ length m.stack = sym (ap length stack_is) in
         let serve = row.part.serve in
         let falls : stutter after < stutter items = omega arith in

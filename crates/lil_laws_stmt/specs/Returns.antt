@@ -1,7 +1,7 @@
 -- The end of a procedure: a return to the frame below.
-use Rattle.std.proofs.Common.{◌≡◌, ℕ, ◌+◌, ◌-◌, ◌<◌, ◌≤◌, ◌⊎◌, inl, inr, Some, List, [], ◌∷◌, ◌++◌, get_or, refl, sym, ap, ◌∙◌, subst, arith}
-use Rattle.std.specs.Prelude.{is_some}
-use Rattle.std.proofs.lemmas.Bool.{ne_eqb, lt-ltb, le-leb, and_from}
+use Rattle.std.proofs.Common.{◌≡◌, ℕ, ◌+◌, ◌-◌, ◌<◌, ◌≤◌, ◌⊎◌, inl, inr, Bool, true, false, Some, List, [], ◌∷◌, ◌++◌, get_or, refl, sym, ap, ◌∙◌, subst, arith}
+use Rattle.std.specs.Prelude.{is_some, nat_le, ◌&&◌}
+use Rattle.std.proofs.lemmas.Bool.{ne_eqb, lt-ltb, le-leb, leb-true, and_from}
 use Rattle.lil_resolved.specs.Shapes.{offset}
 use Rattle.lil_meaning.specs.Cells.{Root}
 use Rattle.lil_meaning.specs.Items.{End, Item, Perform, Source}
@@ -11,13 +11,21 @@ use Rattle.lil_mcode.specs.Table.{return_row}
 use Rattle.lil_table.specs.Rows.{IsAt}
 use Rattle.lil_match.specs.Running.{running, advanced}
 use Rattle.lil_match.specs.Parts.{yes, no}
-use Rattle.lil_match.specs.Homes.{Of, Own, Fixed, own_fixed, Free, Home, Mem, word_same}
-use Rattle.lil_match.specs.Goes.{OwnWords, Stands, Shared, Goes}
+use Rattle.lil_match.specs.Homes.{Of, Own, Fixed, own_fixed, Free, Home, Mem, is_word_kept}
+use Rattle.lil_match.specs.Goes.{OwnWords, Stands, fits, Shared, Goes}
 use Rattle.lil_match.specs.Waits.{Quiet, Frame, Setting, at_home, with_frames, Rows, RowsOf, Back}
 use Rattle.lil_match.specs.Known.{known_kept, each_known, each_comes}
 use Rattle.lil_match.specs.Kept.{EachAbove, first_words, stands_above, all_above, stands_kept, rows_kept}
 use Rattle.lil_match.specs.Steps.{advances, at_step, rows_ahead, goes_one_in}
 use Rattle.lil_laws_stmt.specs.Painting.{own_free, free_fixed, of_own, painted, painted_there, painted_beside, Side, Before, Between, Behind', side}
+
+-- where the lower of two ends doesn't fit, the higher one doesn't
+lower_fits : (low high n : ℕ) (x : Bool) → low ≤ high → (nat_le low n && x) ≡ false → (nat_le high n && x) ≡ false
+lower_fits low high n x le e = by (nat_le high n) refl
+  where
+    by : (b : Bool) → nat_le high n ≡ b → (b && x) ≡ false
+    by false h = refl
+    by true h = sym (ap (λ (y : Bool). y && x) (le-leb low n (omega (arith, le, leb-true high n h)))) ∙ e
 
 module _ (ctx : Setting) (f g : Frame) (gs bs : List Frame) where
   abbrev called : Setting
@@ -81,7 +89,7 @@ module _ (ctx : Setting) (f g : Frame) (gs bs : List Frame) where
       inside = shared.mem.inside;
       holds = λ r q j e.
           let old = shared.mem.holds r q j e in
-          record { word = old.word ∙ word_same h x (λ o. refl) (s.cells r q); fits = old.fits };
+          is_word_kept h x (λ o l. refl) (λ o l. refl) refl j (s.cells r q) (get_or m.store (h.base r + offset (h.shape r) q) 0) old;
       kept = λ a own. kept a own (side f.at m.top a);
       fixed = λ a e. fixed_there a e (side f.at m.top a);
       long = shared.mem.long;
@@ -122,15 +130,16 @@ module _ (ctx : Setting) (f g : Frame) (gs bs : List Frame) where
           met = record {
             shared = record {
               mem = mem;
+              heap = shared.heap;
               program = record { table_is = shared.program.table_is; known = g'.callers.0.known; running_is = refl; marked_is = shared.program.marked_is };
               standing = record {
                 frame_is = refl;
                 base_is = g'.base_is;
                 limit_is = g'.limit_is;
                 bodies_are = g'.bodies_are;
-                known = known_kept ctx.library ctx.loaded ctx.table ctx.activations h x (λ r. refl) (λ r. refl) fixed_kept g g'.callers.0;
-                callers = each_known ctx.library ctx.loaded ctx.table ctx.activations h x (λ r. refl) (λ r. refl) fixed_kept gs g'.callers.1;
-                comes = each_comes ctx.library ctx.loaded ctx.table ctx.activations h x (λ r. refl) (λ r. refl) fixed_kept ctx.stack.base bs g'.comes;
+                known = known_kept ctx.library ctx.loaded ctx.table ctx.activations h x (λ r e. refl) (λ r e. refl) refl fixed_kept g g'.callers.0;
+                callers = each_known ctx.library ctx.loaded ctx.table ctx.activations h x (λ r e. refl) (λ r e. refl) refl fixed_kept gs g'.callers.1;
+                comes = each_comes ctx.library ctx.loaded ctx.table ctx.activations h x (λ r e. refl) (λ r e. refl) refl fixed_kept ctx.stack.base bs g'.comes;
                 stands = subst (λ (t : ℕ). Stands x.owner base t g gs) (sym g'.frame_is)
                     (stands_kept h.owner x.owner base f.at g gs (λ a from below. beside_is a (inl below)) g'.stands.1);
                 room = λ a from below. room a (omega (arith, from, g'.frame_is)) below (side f.at m.top a);
@@ -146,21 +155,24 @@ module _ (ctx : Setting) (f g : Frame) (gs bs : List Frame) where
             around = back.outer;
             ahead = rows_ahead (at_home returning x) k f.back m.stack c back.outer
                 (subst (λ (z : List ℕ). Rows (at_home returning x) k Quiet f.back z c back.outer) (sym empty)
-                (rows_kept k returning x (base + 4) low.1 Quiet f.back [] c back.outer
-                (record { shadow = λ a from below. refl; base = λ r e. refl; shape = λ r e. refl; reference = λ o. refl })
+                (rows_kept k returning x ctx.stack.limit (base + 4) low.1 Quiet f.back [] c back.outer
+                (record { shadow = λ a from below. refl; base = λ r e l. refl; shape = λ r e l. refl; targets = refl })
                 back.then));
           };
         })
         (record {
           owner = λ a o. beside_is a (beside a o);
           shadow = λ a o. refl;
-          base = λ r. refl;
-          shape = λ r. refl;
-          reference = λ o. refl;
+          base = λ r e. refl;
+          shape = λ r e. refl;
+          targets = refl;
           fixed = fixed_kept;
         })
-        (refl, refl)
-        (λ e. e)
+        (refl, omega arith)
+        (record {
+          bodies = λ n e. e;
+          all = λ n e. lower_fits (g.at + g.layout.frame) (f.at + f.layout.frame) n (fits n bs) (omega (arith, under.below)) e;
+        })
         (omega arith)
       where
         room : (a : ℕ) → f.at ≤ a → a < ctx.stack.limit → Side f.at m.top a → x.owner a ≡ Free ctx.stack.base

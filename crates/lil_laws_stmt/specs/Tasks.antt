@@ -1,7 +1,7 @@
 -- The rows of assignments.
-use Rattle.std.proofs.Common.{◌≡◌, ℕ, ◌+◌, ◌<◌, Bool, true, cond, List, [], ◌∷◌, length, take, drop, refl, sym, ap, ◌∙◌, subst, arith}
+use Rattle.std.proofs.Common.{◌≡◌, ℕ, ◌+◌, ◌<◌, Bool, true, false, cond, ◌||◌, List, [], ◌∷◌, length, take, drop, refl, sym, ap, ◌∙◌, subst, arith}
 use Rattle.lil_base.specs.declared.fault.TrapKind.TheVariants as trap
-use Rattle.lil_resolved.specs.Kinds.{Kind}
+use Rattle.lil_resolved.specs.Kinds.{Kind, OfPointer, takes_value, same_pointer}
 use Rattle.lil_resolved.specs.Scalars.{Scalar, within}
 use Rattle.lil_resolved.specs.Resolved.{Designator, Expression, Assign, Copy, kind_of, shape_of}
 use Rattle.lil_resolved.specs.Shapes.{Shape, words, is_there}
@@ -11,14 +11,15 @@ use Rattle.lil_meaning.specs.Steps.{trapped}
 use Rattle.lil_asm.specs.declared.instr.Instr.TheVariants.{Mov}
 use Rattle.lil_mcode.specs.State.{State, spliced}
 use Rattle.lil_mcode.specs.Table.{act, going}
-use Rattle.lil_table.specs.Rows.{IsAt, ValueRow, test_code, Access, access_of, readied, held, store_code}
+use Rattle.lil_table.specs.Rows.{IsAt, InstrsAt, ValueRow, test_code, Access, access_of, readied, held, store_code}
 use Rattle.lil_match.specs.Running.{running}
-use Rattle.lil_match.specs.Homes.{word_for, plain_word, address, Mem, mem_copied}
+use Rattle.lil_match.specs.Homes.{word_for, Refers, plain_word, plain_refers, takes_plain, address, Mem, mem_copied}
 use Rattle.lil_match.specs.Goes.{Shared, Goes}
 use Rattle.lil_match.specs.Waits.{Setting, frame_of, laid_out, Quiet, ValueOf, AtPlace, Around, Reach, Rows, Reaches, HasPlace, Waiting}
+use Rattle.lil_match.specs.Ranges.{pointers_same}
 use Rattle.lil_match.specs.Orders.{instr_within, instrs_order, expression_stands}
 use Rattle.lil_match.specs.Closing.{closed}
-use Rattle.lil_match.specs.Steps.{advances, at_step, at_once, rows_ahead, shared_with, lands_on, goes_none, goes_one, operand_exact}
+use Rattle.lil_match.specs.Steps.{advances, at_step, at_once, rows_ahead, shared_with, lands_on, goes_none, goes_one, goes_more, operand_exact}
 use Rattle.lil_laws_place.specs.Codes.{addressed, copied, made_ready, readied_twice, held_words}
 use Rattle.lil_laws_place.specs.Stores.{tested, stored_goes}
 
@@ -80,7 +81,7 @@ module _ (ctx : Setting) where
         (value_within (held (readied b)) e to r.start r.middle value (instr_within own.code r.middle (store_code (readied b)) r.end r.store))
         (record {
           part = record {
-            takes = value.takes;
+            stores = value.stores;
             access = readied b;
             ready = readied_twice ctx b;
             has = record {
@@ -186,17 +187,44 @@ module _ (ctx : Setting) where
         (omega arith))
         (omega arith)
 
-    pub store_goes : (place : Place) (to : Kind) (v : Scalar) (kind : Kind) → within kind v ≡ true → (below : List ℕ) → m.stack ≡ word_for h v ∷ below
+    -- a value that is no reference is tested
+    number_store : (place : Place) (to : Kind) (v : Scalar) (kind : Kind) → within kind v ≡ true → takes_value to kind ≡ true → (below : List ℕ) → m.stack ≡ word_for h v ∷ below
         → Waiting ctx (Fill (StoreAt place to)) Rest (ValueOf kind) m.place below c a → Goes ctx s (Value (Scalars v) ∷ Fill (StoreAt place to) ∷ k) m (c + 32)
-    store_goes place to v kind fit below is row =
+    number_store place to v kind fit takes below is row =
         let items : List Item = Value (Scalars v) ∷ Fill (StoreAt place to) ∷ k in
         let now : Source = record s { items = items; phase = Going } in
         let after : Source = record s { items = k; cells = stored s.cells place (alone v); phase = Going } in
         let becomes : Bool → Source = λ b. cond b after (trapped library now trap.Range) in
-        tested ctx s items m shared m.place m.stack to kind v row.part.takes fit below (is ∙ ap (λ (w : ℕ). w ∷ below) (plain_word h kind v fit))
+        tested ctx s items m shared m.place m.stack to kind v takes fit below (is ∙ ap (λ (w : ℕ). w ∷ below) (plain_word h kind v (takes_plain to kind takes).1 fit))
         row.part.middle (c + 32) (c + 1) row.part.test (closed ctx k _ _ _ _ _ row.then)
         (λ out. ap becomes out)
         (λ one.
-        stored_goes ctx s items m shared row.part.middle m.stack row.part.access place to below row.part.has row.part.ready v one is
+        stored_goes ctx s items m shared row.part.middle m.stack row.part.access place to below row.part.has row.part.ready v one (plain_refers h to v (takes_plain to kind takes).0) is
         row.part.end row.part.store k (ap becomes one) c (c + 1) a row.then (omega arith))
         (omega arith)
+
+    -- a pointer isn't
+    pointer_store : (place : Place) (to : Kind) (v : Scalar) (kind : Kind) → within kind v ≡ true → Refers h kind v → (n : ℕ) × (to ≡ OfPointer n) × (kind ≡ OfPointer n) → (below : List ℕ) → m.stack ≡ word_for h v ∷ below
+        → Waiting ctx (Fill (StoreAt place to)) Rest (ValueOf kind) m.place below c a → Goes ctx s (Value (Scalars v) ∷ Fill (StoreAt place to) ∷ k) m (c + 32)
+    pointer_store place to v kind fit refers (n, one, other) below is row =
+        let items : List Item = Value (Scalars v) ∷ Fill (StoreAt place to) ∷ k in
+        let now : Source = record s { items = items; phase = Going } in
+        let after : Source = record s { items = k; cells = stored s.cells place (alone v); phase = Going } in
+        let becomes : Bool → Source = λ b. cond b after (trapped library now trap.Range) in
+        let same : kind ≡ to = other ∙ sym one in
+        let fits : within to v ≡ true = ap (λ (j : Kind). within j v) (sym same) ∙ fit in
+        let stays : m.place ≡ row.part.middle =
+        subst (λ (j : Kind). InstrsAt own.code (test_code j (OfPointer n)) m.place row.part.middle) one (subst (λ (j : Kind). InstrsAt own.code (test_code to j) m.place row.part.middle) other row.part.test) in
+        goes_more ctx s items m (c + 1) (c + 32)
+        (subst (λ (p : ℕ). Goes ctx s items (going m p m.stack) (c + 1)) (sym stays)
+        (stored_goes ctx s items m shared row.part.middle m.stack row.part.access place to below row.part.has row.part.ready v fits (subst (λ (j : Kind). Refers h j v) same refers) is
+        row.part.end row.part.store k (ap becomes fits) c (c + 1) a row.then (omega arith)))
+        (omega arith)
+
+    pub store_goes : (place : Place) (to : Kind) (v : Scalar) (kind : Kind) → within kind v ≡ true → Refers h kind v → (below : List ℕ) → m.stack ≡ word_for h v ∷ below
+        → Waiting ctx (Fill (StoreAt place to)) Rest (ValueOf kind) m.place below c a → Goes ctx s (Value (Scalars v) ∷ Fill (StoreAt place to) ∷ k) m (c + 32)
+    store_goes place to v kind fit refers below is row = by (takes_value to kind) refl row.part.stores
+      where
+        by : (b : Bool) → takes_value to kind ≡ b → (b || same_pointer to kind) ≡ true → Goes ctx s (Value (Scalars v) ∷ Fill (StoreAt place to) ∷ k) m (c + 32)
+        by true takes stores = number_store place to v kind fit takes below is row
+        by false takes stores = pointer_store place to v kind fit refers (pointers_same to kind stores) below is row

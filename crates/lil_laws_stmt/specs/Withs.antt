@@ -111,8 +111,8 @@ module _ (ctx : Setting) where
           };
         })
         (touches_shadowed ctx s m shared n w less)
-        (refl, refl)
-        (λ e. e)
+        (refl, omega arith)
+        (record { bodies = λ n e. e; all = λ n e. e })
         (omega arith))
         (omega arith)
 

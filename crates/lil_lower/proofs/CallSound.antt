@@ -1,6 +1,6 @@
--- Assignments, strings, INC, DEC, INCL, EXCL, HALT and calls that are lowered are sound.
+-- Assignments, strings, INC, DEC, INCL, EXCL, NEW, DISPOSE, HALT and calls that are lowered are sound.
 use Rattle.std.proofs.Common.{◌≡◌, ℕ, zero, suc, ◌≤◌, pos, Bool, true, false, arith, if◌then◌else◌, List, [], ◌∷◌, length, map, Option, None, Some, IfSome, refl, sym, ap, subst, ◌∙◌, true≢false}
-use Rattle.std.specs.Prelude.{◌==◌, ◌&&◌, nat_le, slice_get}
+use Rattle.std.specs.Prelude.{not, ◌==◌, ◌&&◌, nat_le, slice_get}
 use Rattle.std.specs.Option.{option_map}
 use Rattle.std.proofs.lemmas.Bool.Decides.{nat_tests}
 use Rattle.std.proofs.lemmas.Option.{same_Some}
@@ -18,11 +18,11 @@ use Rattle.lil_module.specs.declared.tree.RDesignator.{RDesignator}
 use Rattle.lil_module.specs.declared.tree.RElement.{RElement}
 use Rattle.lil_module.specs.declared.tree.ROperation.{ROperation}
 use Rattle.lil_resolved.specs.Bases.{own_base}
-use Rattle.lil_resolved.specs.Kinds.{OfWhole, OfSet, compared_as}
+use Rattle.lil_resolved.specs.Kinds.{OfWhole, OfSet, is_pointer, compared_as}
 use Rattle.lil_resolved.specs.Depth.{place_depth}
 use Rattle.lil_resolved.specs.Resolved.{Designator, Expression, Argument, OfArray, OfText, Statements, kind_of, counted_as, shape_of}
-use Rattle.lil_resolved.specs.Sound.{Parameter, Single, Characters, takes_value, is_element, is_text, request_parameters, parameter_of, IsSoundArgument, IsSoundArray, IsSoundTarget, IsSoundWhole, IsSoundValue, AreSoundArguments, IsSoundBody}
-use Rattle.lil_resolved.specs.Shapes.{Scope, is_there}
+use Rattle.lil_resolved.specs.Sound.{Parameter, Single, Characters, is_ordinal, is_plain, takes_value, stores_value, is_element, is_text, request_parameters, parameter_of, IsSoundArgument, IsSoundArray, IsSoundTarget, IsSoundWhole, IsSoundValue, AreSoundArguments, IsSoundBody}
+use Rattle.lil_resolved.specs.Shapes.{Scope, is_there, shape_at}
 use Rattle.lil_resolved.specs.Views.{base_view, ranged_view, kind_view, request_number}
 use Rattle.lil_resolved.specs.declared.resolved.RBase.{RBase}
 use Rattle.lil_resolved.specs.declared.resolved.RBase.TheVariants as b
@@ -35,16 +35,19 @@ use Rattle.lil_resolved.specs.declared.resolved.Direction.TheVariants.{Up, Down}
 use Rattle.lil_resolved.specs.declared.resolved.Membership.{Membership}
 use Rattle.lil_resolved.specs.declared.resolved.Membership.TheVariants.{Joins, Leaves}
 use Rattle.lil_lower_type.specs.declared.members.Members.{Members}
+use Rattle.lil_lower_type.specs.declared.pointers.Target.{Target}
 use Rattle.lil_lower_type.specs.Bases.{base_at}
 use Rattle.lil_lower_type.specs.Characters.{characters_at}
 use Rattle.lil_lower_type.specs.Operators.{counted}
 use Rattle.lil_lower_type.specs.Members.{members_at}
+use Rattle.lil_lower_type.specs.Pointers.{target_of}
+use Rattle.lil_lower_type.specs.TargetSound.{PointsTo}
 use Rattle.lil_lower_type.specs.BaseLaws.{if_true, same_sort, members_known}
 use Rattle.lil_lower_value.specs.Places.{Around, Place, Cell, near_place}
 use Rattle.lil_lower_value.specs.Values as v
 use Rattle.lil_lower_value.specs.Values.{Lowers, argument, designator}
-use Rattle.lil_lower_value.specs.PlaceSound.{Fits, IsPlaced, IsTarget, near_kept, characters_lie, target_sound}
-use Rattle.lil_lower_value.specs.ValueSound.{Kept, both_left, both_right, whole_held, entered_held, shallow_kept, shallow_value, kept_whole, kept_alone}
+use Rattle.lil_lower_value.specs.PlaceSound.{Fits, IsPlaced, IsTarget, near_kept, kind_points, characters_lie, target_sound}
+use Rattle.lil_lower_value.specs.ValueSound.{Kept, both_left, both_right, whole_held, nil_held, entered_held, shallow_kept, shallow_value, kept_whole, kept_alone}
 use Rattle.lil_lower_value.specs.TreeSound.{argument_sound, designator_sound, target_known, handed_sound}
 use Rattle.lil_lower.specs.Calls as s
 use Rattle.lil_lower.specs.Calls.{Formal, OfType, OfCharacters}
@@ -65,9 +68,23 @@ counted_base t b.Truth = (b.Cardinal, refl, refl)
 counted_base t b.Character = (b.Cardinal, refl, refl)
 counted_base t (b.Enumeration n) = (b.Cardinal, refl, refl)
 counted_base t b.Set = (b.Cardinal, refl, refl)
+counted_base t (b.Pointer n) = (b.Cardinal, refl, refl)
 
 counted_kind : (k : RKind) → OfWhole (compared_as (base_view k.base)) ≡ OfWhole (counted_as (kind_view k))
 counted_kind k = ap (λ j. OfWhole (compared_as j)) (sym (own_base k))
+
+-- what is compared by its numbers is no pointer
+is_counted : (k : RKind) → is_ordinal (base_view k.base) ≡ true → is_plain (kind_view k) ≡ true
+is_counted k ordinal = ap (λ j. not (is_pointer j)) (own_base k) ∙ by k.base ordinal
+  where
+    by : (j : RBase) → is_ordinal (base_view j) ≡ true → not (is_pointer (base_view j)) ≡ true
+    by (b.Pointer n) e = e
+    by b.Cardinal e = refl
+    by b.Integer e = refl
+    by b.Truth e = refl
+    by b.Character e = refl
+    by (b.Enumeration n) e = refl
+    by b.Set e = refl
 
 at_most : (a b : ℕ) → nat_le a b ≡ true → a ≤ b
 at_most a b h = grind (arith, nat_tests)
@@ -96,8 +113,8 @@ module _ (m : RModule) (around : Around) (ts : Scope) (fits : Fits m around ts) 
   -- ---- assignments
   pub stored_sound : (looping : Bool) (a : Cell) (sort : ℕ) (o : Option Expression) → IsTarget m.types ts a → IfSome o (Kept m.types ts sort) → Body looping (s.stored a o)
   stored_sound looping a sort None h j = tt
-  stored_sound looping a sort (Some e) h j = if_true (IsSoundBody ts looping) (takes_value (kind_view a.kind) (kind_of e)) _
-      (λ takes. ((target_sound m.types ts a h, record { takes = takes; whole = kept_alone m.types ts sort e j }), tt))
+  stored_sound looping a sort (Some e) h j = if_true (IsSoundBody ts looping) (stores_value (kind_view a.kind) (kind_of e)) _
+      (λ stores. ((target_sound m.types ts a h, record { stores = stores; whole = kept_alone m.types ts sort e j }), tt))
 
   -- ---- copies
   abbrev Lies : Place → Type 0
@@ -162,14 +179,15 @@ module _ (m : RModule) (around : Around) (ts : Scope) (fits : Fits m around ts) 
     where
       over : (o : Option Expression) → IfSome o (Kept m.types ts (counted a.kind.base)) → Body looping (s.changed way a o)
       over None i = tt
-      over (Some e) i =
+      over (Some e) i = if_true (IsSoundBody ts looping) (is_ordinal (base_view a.kind.base)) _ (λ ordinal.
           let of = counted_base m.types a.kind.base in (
             (
               target_sound m.types ts a h,
+              is_counted a.kind ordinal,
               subst (IsSoundWhole ts e) (of.2 ∙ counted_kind a.kind) (kept_whole m.types ts (counted a.kind.base) e of.0 i of.1),
             ),
             tt,
-          )
+          ))
 
   place_known : (a : RArgument) → Known (s.place m around a)
   place_known a = by (out-RArgument a)
@@ -214,6 +232,24 @@ module _ (m : RModule) (around : Around) (ts : Scope) (fits : Fits m around ts) 
   membership_sound looping way (a ∷ c ∷ []) = turned_sound looping way (s.place m around a) c (place_known a)
   membership_sound looping way (a ∷ c ∷ d ∷ xs) = tt
 
+  -- ---- NEW and DISPOSE
+  only_known : (xs : List RArgument) → Known (s.only m around xs)
+  only_known [] = tt
+  only_known (a ∷ []) = place_known a
+  only_known (a ∷ c ∷ xs) = tt
+
+  created_sound : (looping : Bool) (o : Option Cell) → Known o → Body looping (s.created m.types o)
+  created_sound looping None h = tt
+  created_sound looping (Some c) h = by (target_of m.types (kind_view c.kind)) (kind_points m around ts fits (kind_view c.kind) (shape_of ts c.form) h.cell.shape)
+    where
+      by : (o : Option Target) → IfSome o (PointsTo m.types fits.shapes (shape_of ts c.form)) → Body looping (s.created_at c o)
+      by None to = tt
+      by (Some x) to = (record { shape = to.word; there = ap (λ ts. is_there (shape_at ts x.pointer)) fits.targets ∙ to.there; place = h.cell.place; shallow = h.room }, tt)
+
+  disposed_sound : (looping : Bool) (o : Option Cell) → Known o → Body looping (s.disposed m.types o)
+  disposed_sound looping None h = tt
+  disposed_sound looping (Some c) h = stored_sound looping c c.sort (v.shallow (v.nil m.types c.sort)) h (shallow_kept m.types ts c.sort (v.nil m.types c.sort) (nil_held m.types ts c.sort))
+
   -- ---- HALT
   halted_sound : (looping : Bool) (xs : List RArgument) → Body looping (s.halted xs)
   halted_sound looping [] = (tt, tt)
@@ -225,6 +261,8 @@ module _ (m : RModule) (around : Around) (ts : Scope) (fits : Fits m around ts) 
   procedure_sound looping standard.Incl xs = membership_sound looping Joins xs
   procedure_sound looping standard.Excl xs = membership_sound looping Leaves xs
   procedure_sound looping standard.Halt xs = halted_sound looping xs
+  procedure_sound looping standard.New xs = created_sound looping (s.only m around xs) (only_known xs)
+  procedure_sound looping standard.Dispose xs = disposed_sound looping (s.only m around xs) (only_known xs)
   procedure_sound looping _ xs = tt
 
   -- ---- calls of resident procedures

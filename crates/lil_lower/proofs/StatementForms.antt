@@ -84,8 +84,8 @@ module _ (m : RModule) where
     pub repeat_is : (ss : List RStmt) (x : RExpr) → statement m (v.Repeat ss x) around looping ≡ s.repeated_until (statements m around looping ss) (value m around x boolean)
     repeat_is ss x = at (ap (statement m) (sym (v.rolls-Repeat ss x)) ∙ rolled (o.Repeat ss x)) ∙ ap (λ b. s.repeated_until b (value m around x boolean)) (body_is ss)
 
-    pub for_is : (r : RRoot) (a b : RExpr) (z : ℤ) (ss : List RStmt) → statement m (v.For r a b z ss) around looping ≡ s.for_by m around (root m r) a b z (statements m around looping ss)
-    for_is r a b z ss = at (ap (statement m) (sym (v.rolls-For r a b z ss)) ∙ rolled (o.For r a b z ss)) ∙ ap (s.for_by m around (root m r) a b z) (body_is ss)
+    pub for_is : (r : RRoot) (a b : RExpr) (z : ℤ) (ss : List RStmt) → statement m (v.For r a b z ss) around looping ≡ s.repeated_for (s.bounds m around (root m r) a b) z (statements m around looping ss)
+    for_is r a b z ss = at (ap (statement m) (sym (v.rolls-For r a b z ss)) ∙ rolled (o.For r a b z ss)) ∙ ap (s.repeated_for (s.bounds m around (root m r) a b) z) (body_is ss)
 
     pub exit_is : statement m v.Exit around looping ≡ s.exited looping
     exit_is = at (ap (statement m) (sym v.rolls-Exit) ∙ rolled o.Exit)

@@ -21,9 +21,9 @@ use Rattle.lil_module.specs.declared.tree.RArm.{RArm, roll-RArm}
 use Rattle.lil_module.specs.declared.tree.RGuard.{RGuard, roll-RGuard}
 use Rattle.lil_resolved.specs.Bases.{own_base}
 use Rattle.lil_resolved.specs.Depth.{place_depth}
-use Rattle.lil_resolved.specs.Kinds.{Kind, OfTruth}
+use Rattle.lil_resolved.specs.Kinds.{Kind, OfTruth, base_of}
 use Rattle.lil_resolved.specs.Resolved.{Expression, Label, Statements, Empty, Then, Arms, Else, Resolved, kind_of, shape_of}
-use Rattle.lil_resolved.specs.Sound.{is_ordinal, takes_value, IsSoundWhole, IsSoundValue, IsSoundHeld, IsSoundLabel, AreSoundLabels, IsStep, IsSoundBody, AreSoundArms, IsSound}
+use Rattle.lil_resolved.specs.Sound.{is_ordinal, takes_value, IsSoundVariable, IsSoundWhole, IsSoundValue, IsSoundHeld, IsSoundLabel, AreSoundLabels, IsStep, IsSoundBody, AreSoundArms, IsSound}
 use Rattle.lil_resolved.specs.Shapes.{Shape, Scope, outermost, with_held}
 use Rattle.lil_resolved.specs.Views.{base_view, kind_view, joined, all_of}
 use Rattle.lil_resolved.specs.declared.resolved.RBase.{RBase}
@@ -31,6 +31,7 @@ use Rattle.lil_resolved.specs.declared.resolved.RBase.TheVariants as b
 use Rattle.lil_lower_type.specs.Bases.{base_at}
 use Rattle.lil_lower_type.specs.Operators.{has_number}
 use Rattle.lil_lower_type.specs.Composites.{composite_at}
+use Rattle.lil_lower_type.specs.Pointers.{targets}
 use Rattle.lil_lower_type.specs.Shaping as spec
 use Rattle.lil_lower_type.specs.Shaping.{all_some, within, lying}
 use Rattle.lil_lower_type.specs.BaseLaws.{if_true, number_sound}
@@ -48,10 +49,6 @@ use Rattle.lil_lower.specs.Lowered as s
 use Rattle.lil_lower.specs.Lowered.{Meaning, GuardMeaning, ArmMeaning, value, statement_layer, statement, arm, guard}
 use Rattle.lil_lower.proofs.StatementForms.{rolled, guard_is, arm_is}
 use Rattle.lil_lower.proofs.CallSound.{Filled, Near, source_known, copied_sound, written_sound, stored_sound, called_sound, procedure_sound}
-
-some_if : {A : Type 0} (b : Bool) (o : Option A) (x : A) → (if b then o else None) ≡ Some x → o ≡ Some x
-some_if true o x h = h
-some_if false o x h = absurd (none-some x h)
 
 -- ---- labels and steps
 not_less : (a b : ℤ) → not (int_lt b a) ≡ true → a ≤ℤ b
@@ -159,14 +156,18 @@ module _ (ts : Scope) where
   started_sound t d sort None h = tt
   started_sound t d sort (Some e) h = if_true (IsStart d) (takes_value (kind_view d.place.kind) (kind_of e)) e (λ takes. record { takes = takes; whole = kept_alone t ts sort e h })
 
-  for_sound : (looping : Bool) (t : Table) (d : Variable) (a b : Option Expression) (z : ℤ) (body : Option Statements) → IsKnown t ts d → IfSome a (IsStart d) → IfSome b (Kept t ts d.sort) → Body looping body
-      → Body looping (s.repeated_for d a b z body)
-  for_sound looping t d (Some a) (Some b) z (Some body) h j p q = if_true (IsSoundBody ts looping) (s.is_step z) _ (λ e.
-      let end = λ (x : Expression) (i : Kept t ts d.sort x). subst (IsSoundWhole ts x) (sym (own_base d.place.kind)) (kept_whole t ts d.sort x d.place.kind.base i h.type) in
-      ((variable_sound t ts d h, j, end b p, step_sound z e, q), tt))
-  for_sound looping t d None _ z _ h j p q = tt
-  for_sound looping t d (Some a) None z _ h j p q = tt
-  for_sound looping t d (Some a) (Some b) z None h j p q = tt
+  abbrev AreBounds : s.Bounds → Type 0
+  AreBounds x = IsSoundVariable ts x.0.place.number (kind_view x.0.place.kind) × IsSoundValue ts x.1 (kind_view x.0.place.kind) × IsSoundWhole ts x.2 (base_of (kind_view x.0.place.kind))
+
+  bounded_sound : (t : Table) (d : Variable) (a b : Option Expression) → IsKnown t ts d → IfSome a (IsStart d) → IfSome b (Kept t ts d.sort) → IfSome (s.bounded d a b) AreBounds
+  bounded_sound t d (Some a) (Some b) h j p = (variable_sound t ts d h, j, subst (IsSoundWhole ts b) (sym (own_base d.place.kind)) (kept_whole t ts d.sort b d.place.kind.base p h.type))
+  bounded_sound t d None _ h j p = tt
+  bounded_sound t d (Some a) None h j p = tt
+
+  for_sound : (looping : Bool) (o : Option s.Bounds) (z : ℤ) (body : Option Statements) → IfSome o AreBounds → Body looping body → Body looping (s.repeated_for o z body)
+  for_sound looping (Some x) z (Some body) h j = if_true (IsSoundBody ts looping) (s.is_step z) _ (λ e. ((h.0, h.1, h.2, step_sound z e, j), tt))
+  for_sound looping None z _ h j = tt
+  for_sound looping (Some x) z None h j = tt
 
   opened_sound : (looping : Bool) (p : Place) (b : Option Statements) → IsSoundHeld ts p.form → IfSome b (IsSoundBody (with_held ts (shape_of ts p.form)) looping) → Body looping (s.opened p b)
   opened_sound looping p None h j = tt
@@ -273,11 +274,11 @@ module _ (m : RModule) where
         by true is = composed_sound looping (near_place (Some p)) (text_of m x) x (near_kept (Filled m around ts fits) (Some p) (h, composite_there m around ts fits p h is))
         by false is = assigned_sound looping (near (cell m.types (Some p))) x (near_known m around ts fits (cell m.types (Some p)) (cell_known m around ts fits (Some p) h))
 
-    counted_sound : (looping : Bool) (o : Option Variable) (a b : RExpr) (z : ℤ) (body : Option Statements) → IfSome o (IsKnown m.types ts) → Body ts looping body → Body ts looping (s.for_by m around o a b z body)
-    counted_sound looping None a b z body h j = tt
-    counted_sound looping (Some d) a b z body h j =
+    bounds_sound : (o : Option Variable) (a b : RExpr) → IfSome o (IsKnown m.types ts) → IfSome (s.bounds m around o a b) (AreBounds ts)
+    bounds_sound None a b h = tt
+    bounds_sound (Some d) a b h =
         let sort = own_or (expression m around a).own d.sort in
-        for_sound ts looping m.types d (s.started d (value m around a sort)) (value m around b d.sort) z body h (started_sound ts m.types d sort (value m around a sort) (value_sound m around ts fits a sort)) (value_sound m around ts fits b d.sort) j
+        bounded_sound ts m.types d (s.started d (value m around a sort)) (value m around b d.sort) h (started_sound ts m.types d sort (value m around a sort) (value_sound m around ts fits a sort)) (value_sound m around ts fits b d.sort)
 
     -- ---- WITH
     held_known : (d : RDesignator) → Near m around ts fits (Filled m around ts fits) (s.held m around d)
@@ -306,7 +307,7 @@ module _ (m : RModule) where
     layer_sound (o.While x xs) looping = while_sound ts looping (value m around x boolean) (s.body around looping (map (statement m) (map (λ e. e.0) xs))) (condition around ts fits x) (bodies around ts fits looping xs)
     layer_sound (o.Repeat xs x) looping = repeat_sound ts looping (s.body around looping (map (statement m) (map (λ e. e.0) xs))) (value m around x boolean) (bodies around ts fits looping xs) (condition around ts fits x)
     layer_sound (o.Loop xs) looping = loop_sound ts looping (s.body around true (map (statement m) (map (λ e. e.0) xs))) (bodies around ts fits true xs)
-    layer_sound (o.For r a b z xs) looping = counted_sound around ts fits looping (root m r) a b z (s.body around looping (map (statement m) (map (λ e. e.0) xs))) (root_known m around ts fits r) (bodies around ts fits looping xs)
+    layer_sound (o.For r a b z xs) looping = for_sound ts looping (s.bounds m around (root m r) a b) z (s.body around looping (map (statement m) (map (λ e. e.0) xs))) (bounds_sound around ts fits (root m r) a b (root_known m around ts fits r)) (bodies around ts fits looping xs)
     layer_sound (o.With d xs) looping = within_sound looping (s.held m around d) xs (held_known around ts fits d)
     layer_sound o.Exit looping = exit_sound ts looping
     layer_sound (o.Return None) looping = (tt, tt)
@@ -343,34 +344,34 @@ module _ (m : RModule) where
       (λ x y is. subst (λ z. ArmSound (roll-RArm z)) is (arm_holds y))
       (λ x y is. subst (λ z. GuardSound (roll-RGuard z)) is (guard_holds y))
 
-  pub body_is_sound : (ts : List Shape) → Fits m [] (outermost ts) → Body (outermost ts) false (s.statements m [] false m.body)
-  body_is_sound ts fits = body_sound (outermost ts) false (map (λ x. statement m x [] false) m.body) (by m.body)
+  pub body_is_sound : (ts : Scope) → Fits m [] ts → Body ts false (s.statements m [] false m.body)
+  body_is_sound ts fits = body_sound ts false (map (λ x. statement m x [] false) m.body) (by m.body)
     where
-      by : (xs : List RStmt) → AllIf (IsSoundBody (outermost ts) false) (map (λ x. statement m x [] false) xs)
+      by : (xs : List RStmt) → AllIf (IsSoundBody ts false) (map (λ x. statement m x [] false) xs)
       by [] = tt
-      by (x ∷ xs) = (statement_sound x [] (outermost ts) fits false, by xs)
+      by (x ∷ xs) = (statement_sound x [] ts fits false, by xs)
 
 -- ---- modules
 pub lowered_sound : (m : RModule) (r : Resolved) → Some r ≡ s.lowered m → IsSound r
 unfolding s.lowered
 lowered_sound m r is = by (nat_le (length m.variables) 32000) is
   where
-    of : (shapes ts : List Shape) → spec.shapes m.types ≡ Some shapes → within (all_some (map (lying shapes) m.variables)) ≡ Some ts → (ss : Option Statements) → s.statements m [] false m.body ≡ ss → Some r ≡ s.laid_out m (Some ts) ss → IsSound r
+    of : (shapes ts : List Shape) → spec.shapes m.types ≡ Some shapes → within (all_some (map (lying shapes) m.variables)) ≡ Some ts → (ss : Option Statements) → s.statements m [] false m.body ≡ ss → Some r ≡ s.with_body m shapes (Some ts) ss → IsSound r
     of shapes ts types variables None h e = absurd (cc)
     of shapes ts types variables (Some ss) h e =
-        let same : r ≡ s.module_with m ts ss = cc in
-        let below = some_if (nat_le (length m.types) 32000) (spec.shapes_below m.types (16 + length m.types)) shapes types in
-        let fits : Fits m [] (outermost ts) = record { shapes = shapes; count = 16 + length m.types; types = below; variables = within_is (all_some (map (lying shapes) m.variables)) ts variables; held = λ w n is. absurd (none-some n is) } in
-        subst IsSound (sym same) (subst (λ o. Body (outermost ts) false o) h (body_is_sound m ts fits))
+        let same : r ≡ s.module_with m shapes ts ss = cc in
+        let reached = outermost (targets m.types shapes) ts in
+        let fits : Fits m [] reached = record { shapes = shapes; types = types; targets = refl; variables = within_is (all_some (map (lying shapes) m.variables)) ts variables; held = λ w n is. absurd (none-some n is) } in
+        subst IsSound (sym same) (subst (λ o. Body reached false o) h (body_is_sound m reached fits))
 
-    over : (shapes : List Shape) → spec.shapes m.types ≡ Some shapes → (ts : Option (List Shape)) → within (all_some (map (lying shapes) m.variables)) ≡ ts → Some r ≡ s.laid_out m ts (s.statements m [] false m.body) → IsSound r
+    over : (shapes : List Shape) → spec.shapes m.types ≡ Some shapes → (ts : Option (List Shape)) → within (all_some (map (lying shapes) m.variables)) ≡ ts → Some r ≡ s.with_body m shapes ts (s.statements m [] false m.body) → IsSound r
     over shapes types None variables e = absurd (cc)
     over shapes types (Some ts) variables e = of shapes ts types variables (s.statements m [] false m.body) refl e
 
-    from : (shapes : Option (List Shape)) → spec.shapes m.types ≡ shapes → Some r ≡ s.laid_out m (spec.variables_by shapes m.variables) (s.statements m [] false m.body) → IsSound r
+    from : (shapes : Option (List Shape)) → spec.shapes m.types ≡ shapes → Some r ≡ s.laid_out m shapes (s.statements m [] false m.body) → IsSound r
     from None types e = absurd (cc)
     from (Some shapes) types e = over shapes types (within (all_some (map (lying shapes) m.variables))) refl e
 
-    by : (b : Bool) → Some r ≡ (if b then s.laid_out m (spec.variables_by (spec.shapes m.types) m.variables) (s.statements m [] false m.body) else None) → IsSound r
+    by : (b : Bool) → Some r ≡ (if b then s.laid_out m (spec.shapes m.types) (s.statements m [] false m.body) else None) → IsSound r
     by true e = from (spec.shapes m.types) refl e
     by false e = absurd (cc)

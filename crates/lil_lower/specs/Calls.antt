@@ -1,4 +1,4 @@
--- What assignments, strings, INC and DEC, INCL and EXCL, HALT, and calls of resident procedures are for the generator.
+-- What assignments, strings, INC and DEC, INCL and EXCL, NEW and DISPOSE, HALT, and calls of resident procedures are for the generator.
 use Rattle.std.specs.Prelude.{ℕ, zero, suc, ◌==◌, nat_le, pos, Bool, true, false, ◌&&◌, List, [], ◌∷◌, length, slice_get, Option, Some, None, if◌then◌else◌}
 use Rattle.std.specs.Option.{option_map}
 use Rattle.lil_types.specs.Types.{Table, integer, cardinal, char}
@@ -16,8 +16,8 @@ use Rattle.lil_module.specs.declared.tree.RSelector.{RSelector}
 use Rattle.lil_module.specs.declared.tree.RDesignator.{RDesignator}
 use Rattle.lil_module.specs.declared.tree.RElement.{RElement}
 use Rattle.lil_module.specs.declared.tree.ROperation.{ROperation}
-use Rattle.lil_resolved.specs.Resolved.{Expression, Argument, ByValue, OfArray, OfText, Assign, Copy, Text, Change, Member, Request, Halt, Statements, Empty, Then, kind_of}
-use Rattle.lil_resolved.specs.Sound.{takes_value, is_element, is_text}
+use Rattle.lil_resolved.specs.Resolved.{Expression, Argument, ByValue, OfArray, OfText, Assign, Copy, Text, Change, Member, New, Request, Halt, Statements, Empty, Then, kind_of}
+use Rattle.lil_resolved.specs.Sound.{is_ordinal, takes_value, stores_value, is_element, is_text}
 use Rattle.lil_resolved.specs.Views.{base_view, kind_view, request_number, is_down, is_out}
 use Rattle.lil_resolved.specs.declared.resolved.RBase.{RBase}
 use Rattle.lil_resolved.specs.declared.resolved.RBase.TheVariants as b
@@ -29,15 +29,17 @@ use Rattle.lil_resolved.specs.declared.resolved.Membership.{Membership}
 use Rattle.lil_resolved.specs.declared.resolved.Membership.TheVariants.{Joins, Leaves}
 use Rattle.lil_resolved.specs.declared.resolved.RRange.{RRange}
 use Rattle.lil_lower_type.specs.declared.members.Members.{Members}
+use Rattle.lil_lower_type.specs.declared.pointers.Target.{Target}
 use Rattle.lil_lower_type.specs.Characters.{characters_at}
 use Rattle.lil_lower_type.specs.Operators.{counted}
 use Rattle.lil_lower_type.specs.Members.{members_at}
+use Rattle.lil_lower_type.specs.Pointers.{target_of}
 use Rattle.lil_lower_value.specs.Places.{Around, Place, Cell, near_place}
-use Rattle.lil_lower_value.specs.Values.{Lowers, Value, whole, own_or, entered, argument, designator, target, shallow}
+use Rattle.lil_lower_value.specs.Values.{Lowers, Value, whole, nil, own_or, entered, argument, designator, target, shallow}
 
 -- ---- assignments
 abbrev pub stored : Cell → Option Expression → Option Statements
-stored c (Some e) = if takes_value (kind_view c.kind) (kind_of e) then Some (Then (Assign c.form (kind_view c.kind) e) Empty) else None
+stored c (Some e) = if stores_value (kind_view c.kind) (kind_of e) then Some (Then (Assign c.form (kind_view c.kind) e) Empty) else None
 stored c None = None
 
 -- all of a place goes to another of its type
@@ -79,9 +81,9 @@ abbrev pub text_given : Option (List ℕ) → Option Argument
 text_given None = None
 text_given (Some cs) = if is_text cs then Some (OfText cs) else None
 
--- ---- INC and DEC
+-- ---- INC and DEC of what is compared by its numbers
 abbrev pub changed : Direction → Cell → Option Expression → Option Statements
-changed way c (Some e) = Some (Then (Change (is_down way) c.form (kind_view c.kind) e) Empty)
+changed way c (Some e) = if is_ordinal (base_view c.kind.base) then Some (Then (Change (is_down way) c.form (kind_view c.kind) e) Empty) else None
 changed way c None = None
 
 -- by a number of the type that goes with the cell
@@ -107,6 +109,21 @@ turned_in way (Some x) c a = turned way x c (shallow (entered x a))
 abbrev pub turned_at : Table → Membership → Option Cell → Value → Option Statements
 turned_at t way None a = None
 turned_at t way (Some c) a = turned_in way (members_at t c.sort) c a
+
+-- ---- NEW and DISPOSE
+abbrev pub created_at : Cell → Option Target → Option Statements
+created_at c None = None
+created_at c (Some x) = Some (Then (New c.form x.pointer) Empty)
+
+-- a pointer gets an object
+abbrev pub created : Table → Option Cell → Option Statements
+created t None = None
+created t (Some c) = created_at c (target_of t (kind_view c.kind))
+
+-- a pointer gets NIL
+abbrev pub disposed : Table → Option Cell → Option Statements
+disposed t None = None
+disposed t (Some c) = stored c (shallow (nil t c.sort))
 
 -- ---- HALT
 abbrev pub halted : List RArgument → Option Statements
@@ -214,10 +231,17 @@ module _ (m : RModule) (around : Around) where
   membership way (a ∷ c ∷ []) = turned_at m.types way (place a) (argument m around c)
   membership way _ = None
 
+  -- the cell that the only argument is
+  abbrev pub only : List RArgument → Option Cell
+  only (a ∷ []) = place a
+  only _ = None
+
   abbrev pub procedure : Standard → List RArgument → Option Statements
   procedure standard.Inc xs = change Up xs
   procedure standard.Dec xs = change Down xs
   procedure standard.Incl xs = membership Joins xs
   procedure standard.Excl xs = membership Leaves xs
   procedure standard.Halt xs = halted xs
+  procedure standard.New xs = created m.types (only xs)
+  procedure standard.Dispose xs = disposed m.types (only xs)
   procedure _ xs = None

@@ -30,6 +30,7 @@ use Rattle.lil_lower_type.specs.Bases.{base_at}
 use Rattle.lil_lower_type.specs.Measured.{variable_name}
 use Rattle.lil_lower_type.specs.Operators.{has_number}
 use Rattle.lil_lower_type.specs.Composites.{composite_at}
+use Rattle.lil_lower_type.specs.Pointers.{targets}
 pub use Rattle.lil_lower_type.specs.Shaping.{all_some}
 use Rattle.lil_lower_type.specs.Shaping.{shapes, variables_by}
 use Rattle.lil_lower_value.specs.declared.variables.Variable.{Variable}
@@ -182,9 +183,17 @@ abbrev pub started : Variable → Option Expression → Option Expression
 started v (Some e) = if takes_value (kind_view v.place.kind) (kind_of e) then Some e else None
 started v None = None
 
-abbrev pub repeated_for : Variable → Option Expression → Option Expression → ℤ → Option Statements → Option Statements
-repeated_for v (Some a) (Some b) z (Some ss) = if is_step z then Some (Then (For v.place.number (variable_kind v.place) a b z ss) Empty) else None
-repeated_for v _ _ z _ = None
+-- the variable of a FOR, its start and its limit
+abbrev pub Bounds : Type 0
+Bounds = Variable × Expression × Expression
+
+abbrev pub bounded : Variable → Option Expression → Option Expression → Option Bounds
+bounded v (Some a) (Some b) = Some (v, a, b)
+bounded v _ _ = None
+
+abbrev pub repeated_for : Option Bounds → ℤ → Option Statements → Option Statements
+repeated_for (Some x) z (Some ss) = if is_step z then Some (Then (For x.0.place.number (variable_kind x.0.place) x.1 x.2 z ss) Empty) else None
+repeated_for _ z _ = None
 
 -- ---- all forms
 module _ (m : RModule) where
@@ -211,9 +220,9 @@ module _ (m : RModule) where
   case_by (Some by) a around looping arms other = selected (value around a by.sort) (all_some (map (λ f. f around looping by.base) arms)) (else_arms around looping other)
 
   -- a start in its own type, or a constant in that of the variable, and a limit in that of the variable
-  abbrev pub for_by : Around → Option Variable → RExpr → RExpr → ℤ → Option Statements → Option Statements
-  for_by around None a b z ss = None
-  for_by around (Some v) a b z ss = repeated_for v (started v (value around a (own_or (expression m around a).own v.sort))) (value around b v.sort) z ss
+  abbrev pub bounds : Around → Option Variable → RExpr → RExpr → Option Bounds
+  bounds around None a b = None
+  bounds around (Some v) a b = bounded v (started v (value around a (own_or (expression m around a).own v.sort))) (value around b v.sort)
 
   -- what WITH names
   abbrev pub held : Around → RDesignator → Option Place
@@ -228,7 +237,7 @@ module _ (m : RModule) where
   statement_layer (s.While a ss) around looping = repeated_while (value around a boolean) (body around looping ss)
   statement_layer (s.Repeat ss a) around looping = repeated_until (body around looping ss) (value around a boolean)
   statement_layer (s.Loop ss) around looping = looped (body around true ss)
-  statement_layer (s.For r a b z ss) around looping = for_by around (root m r) a b z (body around looping ss)
+  statement_layer (s.For r a b z ss) around looping = repeated_for (bounds around (root m r) a b) z (body around looping ss)
   statement_layer (s.With d ss) around looping = within around (held around d) (λ inside. body inside looping ss)
   statement_layer s.Exit around looping = exited looping
   statement_layer (s.Return o) around looping = returned o
@@ -253,12 +262,16 @@ module _ (m : RModule) where
   statements around looping ss = option_map all_of (all_some (map (λ x. statement x around looping) ss))
 
 -- ---- modules: at most 32,000 variables, in as many words
-abbrev pub module_with : RModule → List Shape → Statements → Resolved
-module_with m ts ss = record { name = m.name; names = map variable_name m.variables; variables = ts; procedures = []; body = ss }
+abbrev pub module_with : RModule → (types variables : List Shape) → Statements → Resolved
+module_with m types ts ss = record { name = m.name; targets = targets m.types types; names = map variable_name m.variables; variables = ts; procedures = []; body = ss }
+
+abbrev pub with_body : RModule → List Shape → Option (List Shape) → Option Statements → Option Resolved
+with_body m types (Some ts) (Some ss) = Some (module_with m types ts ss)
+with_body m types _ _ = None
 
 abbrev pub laid_out : RModule → Option (List Shape) → Option Statements → Option Resolved
-laid_out m (Some ts) (Some ss) = Some (module_with m ts ss)
-laid_out m _ _ = None
+laid_out m None ss = None
+laid_out m (Some types) ss = with_body m types (variables_by (Some types) m.variables) ss
 
 unfoldable pub lowered : RModule → Option Resolved
-lowered m = if nat_le (length m.variables) 32000 then laid_out m (variables_by (shapes m.types) m.variables) (statements m [] false m.body) else None
+lowered m = if nat_le (length m.variables) 32000 then laid_out m (shapes m.types) (statements m [] false m.body) else None

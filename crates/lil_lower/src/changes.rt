@@ -5,8 +5,9 @@ ghost use Rattle.lil_lower_value.specs.Built.{placed, celled};
 ghost use Rattle.lil_lower_value.specs.Values as values;
 ghost use Rattle.lil_lower.specs.Calls as spec;
 
+use crate::pointers::{created, disposed, only};
 use lil_base::{Memory, beside};
-use lil_lower_type::{Members, counted, is_element, members_at, takes_value};
+use lil_lower_type::{Members, counted, is_element, is_ordinal, members_at, stores_value};
 use lil_lower_value::{
     Cell, Placed, argument, argument_sort, as_place, cell_of, fitting, near, near_place, own_or,
     place, shallow, whole,
@@ -36,7 +37,7 @@ pub(crate) fn stored(cell: Cell, value: Option<RExpr>) -> Option<RStmt>
     ensures { option_map view.statement_of result ≡ spec.stored (celled cell) (option_map view.expression_of value) }
 {
     match value {
-        Some(value) if takes_value(cell.kind, base(&value)) => {
+        Some(value) if stores_value(cell.kind, base(&value)) => {
             Some(RStmt::Assign(cell.place, cell.kind, value))
         }
         rest => {
@@ -88,16 +89,18 @@ fn changed(way: Direction, cell: Cell, by: Option<RExpr>) -> Option<RStmt>
     ensures { option_map view.statement_of result ≡ spec.changed way (celled cell) (option_map view.expression_of by) }
 {
     match by {
-        None => {
-            drop(cell);
+        Some(by) if is_ordinal(cell.kind.base) => {
+            Some(RStmt::Change(way, cell.place, cell.kind, by))
+        }
+        rest => {
+            drop((cell, rest));
             None
         }
-        Some(by) => Some(RStmt::Change(way, cell.place, cell.kind, by)),
     }
 }
 
 /// The cell that an argument is.
-fn argument_cell(
+pub(crate) fn argument_cell(
     alloc: Global,
     m: &RModule,
     around: &[TypeId],
@@ -274,6 +277,8 @@ pub(crate) fn procedure(
         Standard::Dec => change(alloc, m, around, Direction::Down, arguments),
         Standard::Incl => membership(alloc, m, around, Membership::Joins, arguments),
         Standard::Excl => membership(alloc, m, around, Membership::Leaves, arguments),
+        Standard::New => Ok(created(&m.types, only(alloc, m, around, arguments)?)),
+        Standard::Dispose => Ok(disposed(&m.types, only(alloc, m, around, arguments)?)),
         Standard::Halt => Ok(halted(arguments)),
         _ => Ok(None),
     }

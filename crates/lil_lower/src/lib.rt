@@ -4,6 +4,7 @@
 mod calls;
 mod changes;
 mod labels;
+mod pointers;
 mod program;
 mod selectors;
 mod statements;

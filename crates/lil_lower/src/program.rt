@@ -2,12 +2,12 @@ ghost use Rattle.std.specs.Prelude.{◌≡◌, ◌≤◌, IfOk, IfSome};
 ghost use Rattle.std.specs.Option.{option_map};
 ghost use Rattle.lil_resolved.specs.Views.{module_of, statements_of, IsMeasured};
 ghost use Rattle.lil_resolved.specs.Sizes.{IsSound};
-ghost use Rattle.lil_lower_type.specs.Measured.{shapes_laid, IsShaped, IsLaid};
+ghost use Rattle.lil_lower_type.specs.Measured.{shapes_in, shapes_laid, IsShaped, IsLaid};
 ghost use Rattle.lil_lower.specs.Lowered as spec;
 
 use crate::statements::body;
 use lil_base::{Items, Memory};
-use lil_lower_type::{Laid, Shaped, all_shapes, lay};
+use lil_lower_type::{Laid, Shaped, all_shapes, all_targets, lay};
 use lil_module::RModule as Tree;
 use lil_resolved::{RModule, RStmt};
 use std::alloc::Global;
@@ -22,14 +22,16 @@ fn named(
 ) -> Result<RModule, Memory>
     requires shaped { IsShaped types }
     requires lies { IsLaid types m.now.variables laid }
-    ensures means { IfOk result (λ r. module_of r ≡ spec.module_with m.now (shapes_laid types laid) (statements_of body)) }
+    ensures means { IfOk result (λ r. module_of r ≡ spec.module_with m.now (shapes_in types) (shapes_laid types laid) (statements_of body)) }
     ensures measured { IfOk result (λ r. IsMeasured r) }
     ensures few { IfOk result (λ r. r.words ≤ 32000) }
 {
     let name = m.name.copy(alloc)?;
+    let targets = all_targets(alloc, &m.types, &types)?;
     Ok(RModule {
         name,
         shapes: types.shapes,
+        targets,
         variables: laid.variables,
         words: laid.words,
         body,

@@ -24,6 +24,14 @@ use lil_resolved::{RArm, RBase, RExpr, RGuard, RStmt, base};
 use lil_types::{BOOLEAN, TypeId};
 use std::alloc::Global;
 
+/// The variable of a FOR, its start and its limit.
+#[derive(Drop)]
+struct Counted {
+    variable: Variable,
+    from: RExpr,
+    to: RExpr,
+}
+
 /// A whole expression as a value of a wanted base type.
 fn value(
     alloc: Global,
@@ -227,21 +235,25 @@ fn started(variable: Variable, from: Option<RExpr>) -> Option<RExpr>
     }
 }
 
-fn repeated_for(
-    variable: Variable,
-    from: Option<RExpr>,
-    to: Option<RExpr>,
-    by: i32,
-    body: Option<Items<RStmt>>,
-) -> Option<RStmt>
-    ensures { option_map view.statement_of result ≡ spec.repeated_for variable (option_map view.expression_of from) (option_map view.expression_of to) by (option_map view.statements_of body) }
+fn bounded(variable: Variable, from: Option<RExpr>, to: Option<RExpr>) -> Option<Counted>
+    ensures { option_map parts.bounds_of result ≡ spec.bounded variable (option_map view.expression_of from) (option_map view.expression_of to) }
 {
     let Some(from) = from else {
-        drop((to, body));
+        drop(to);
         return None;
     };
     let Some(to) = to else {
-        drop((from, body));
+        drop(from);
+        return None;
+    };
+    Some(Counted { variable, from, to })
+}
+
+fn repeated_for(bounds: Option<Counted>, by: i32, body: Option<Items<RStmt>>) -> Option<RStmt>
+    ensures { option_map view.statement_of result ≡ spec.repeated_for (option_map parts.bounds_of bounds) by (option_map view.statements_of body) }
+{
+    let Some(Counted { variable, from, to }) = bounds else {
+        drop(body);
         return None;
     };
     let Some(body) = body else {
@@ -255,19 +267,17 @@ fn repeated_for(
     Some(RStmt::For(variable.place, from, to, by, body))
 }
 
-/// A FOR, with a start of its own type and a limit of the variable's.
-fn counted(
+/// The bounds of a FOR: a start in its own type, and a limit in the variable's.
+fn bounds(
     alloc: Global,
     m: &RModule,
     around: &[TypeId],
     variable: Option<Variable>,
     from: &Boxed<Value>,
     to: &Boxed<Value>,
-    by: i32,
-    body: Option<Items<RStmt>>,
-) -> Result<Option<RStmt>, Memory>
+) -> Result<Option<Counted>, Memory>
     requires { length m.now.variables ≤ 32000 }
-    ensures { IfOk result (λ o. option_map view.statement_of o ≡ spec.for_by m.now around.now variable from.now to.now by (option_map view.statements_of body)) }
+    ensures { IfOk result (λ o. option_map parts.bounds_of o ≡ spec.bounds m.now around.now variable from.now to.now) }
 {
     match variable {
         None => Ok(None),
@@ -281,7 +291,7 @@ fn counted(
             )?;
             let from = started(variable, from);
             let (from, to) = beside(from, value(alloc, m, around, variable.sort, to))?;
-            Ok(repeated_for(variable, from, to, by, body))
+            Ok(bounded(variable, from, to))
         }
     }
 }
@@ -349,16 +359,8 @@ fn statement(
         }
         Tree::For(variable, from, to, by, statements) => {
             let statements = body(alloc, m, around, looping, statements.as_slice())?;
-            counted(
-                alloc,
-                m,
-                around,
-                root(m, *variable),
-                from,
-                to,
-                *by,
-                statements,
-            )
+            let bounds = bounds(alloc, m, around, root(m, *variable), from, to)?;
+            Ok(repeated_for(bounds, *by, statements))
         }
         Tree::With(of, statements) => {
             let held = held(alloc, m, around, of)?;

@@ -1,2 +1,3 @@
 pub mod LayLaws
 pub mod ShapeLaws
+pub mod TargetLaws

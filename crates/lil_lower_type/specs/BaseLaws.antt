@@ -1,5 +1,5 @@
 -- Bases and kinds of types: they have words, and a kind goes with its base type.
-use Rattle.std.proofs.Common.{◌≡◌, ℕ, ℤ, pos, negsuc, zero, suc, Bool, true, false, length, Option, None, Some, IfSome, if◌then◌else◌, refl, ap, subst, arith}
+use Rattle.std.proofs.Common.{◌≡◌, ℕ, ℤ, pos, negsuc, zero, suc, Bool, true, false, length, Option, None, Some, IfSome, if◌then◌else◌, not, ◌&&◌, refl, ap, subst, arith}
 use Rattle.std.specs.Prelude.{◌==◌, ◌≤ℤ◌, nat_le}
 use Rattle.std.proofs.lemmas.Int.{ints}
 use Rattle.std.proofs.lemmas.Option.{none-some}
@@ -13,9 +13,9 @@ use Rattle.lil_types.specs.declared.table.TypeEntry.{TypeEntry}
 use Rattle.lil_resolved.specs.declared.resolved.RBase.{RBase}
 use Rattle.lil_resolved.specs.declared.resolved.RBase.TheVariants as b
 use Rattle.lil_resolved.specs.declared.resolved.RKind.{RKind}
-use Rattle.lil_resolved.specs.Kinds.{Kind, OfTruth, OfCharacter, OfSet, is_base}
+use Rattle.lil_resolved.specs.Kinds.{Kind, OfTruth, OfCharacter, OfSet, OfPointer, is_base}
 use Rattle.lil_resolved.specs.MemberLaws.{word_of_set}
-use Rattle.lil_resolved.specs.Scalars.{within, scalar_of, ordinal_of}
+use Rattle.lil_resolved.specs.Scalars.{within, is_reference, is_literal, scalar_of, ordinal_of}
 use Rattle.lil_resolved.specs.Views.{base_view}
 use Rattle.lil_lower_type.specs.declared.members.Members.{Members}
 use Rattle.lil_lower_type.specs.Bases.{standard, base_form, base_by, base_at, kind_form, kind_by, kind_over, kind_at}
@@ -28,6 +28,10 @@ if_so P false o h = tt
 
 pub if_true : {A : Type 0} (P : A → Type 0) (b : Bool) (x : A) → (b ≡ true → P x) → IfSome (if b then Some x else None) P
 if_true P b x h = if_so P b (Some x) h
+
+pub if_some : {A : Type 0} (b : Bool) (o : Option A) (x : A) → (if b then o else None) ≡ Some x → (b ≡ true) × (o ≡ Some x)
+if_some true o x h = (refl, h)
+if_some false o x h = absurd (none-some x h)
 
 pub same_sort : (a c : ℕ) → (a == c) ≡ true → a ≡ c
 same_sort a c h = grind (arith, nat_tests)
@@ -46,19 +50,19 @@ standard_words s =
     (or_else HasWords (s == cardinal) b.Cardinal _ refl
     (or_else HasWords (s == boolean) b.Truth _ refl (or_else HasWords (s == char) b.Character _ refl (or_else HasWords (s == bit_set) b.Set None refl tt))))
 
-form_words : (f : TypeForm) → IfSome (base_form f) HasWords
-form_words (Enumeration xs) = if_true HasWords (nat_le (length xs) 65535) (b.Enumeration (length xs)) (λ h. h)
-form_words (Subrange n s) = tt
-form_words (Array i e) = tt
-form_words (Record xs) = tt
-form_words (SetOf n) = refl
-form_words (Pointer n) = tt
-form_words (Procedure ps r) = tt
-form_words (Opaque o) = tt
+form_words : (s : ℕ) (f : TypeForm) → IfSome (base_form s f) HasWords
+form_words s (Enumeration xs) = if_true HasWords (nat_le (length xs) 65535) (b.Enumeration (length xs)) (λ h. h)
+form_words s (Subrange n r) = tt
+form_words s (Array i e) = tt
+form_words s (Record xs) = tt
+form_words s (SetOf n) = refl
+form_words s (Pointer n) = refl
+form_words s (Procedure ps r) = tt
+form_words s (Opaque o) = tt
 
 entry_words : (s : ℕ) (e : Option TypeEntry) → IfSome (base_by s e) HasWords
 entry_words s None = standard_words s
-entry_words s (Some e) = form_words e.form
+entry_words s (Some e) = form_words s e.form
 
 pub base_words : (t : Table) (s : ℕ) (k : RBase) → base_at t s ≡ Some k → is_base (base_view k) ≡ true
 base_words t s k h = subst (λ o. IfSome o HasWords) h (entry_words s (entry t s))
@@ -70,7 +74,7 @@ form_base k (Subrange n s) = refl
 form_base k (Array i e) = tt
 form_base k (Record xs) = tt
 form_base k (SetOf n) = refl
-form_base k (Pointer n) = tt
+form_base k (Pointer n) = refl
 form_base k (Procedure ps r) = tt
 form_base k (Opaque o) = tt
 
@@ -95,7 +99,7 @@ set_entry : (t : Table) (s : ℕ) (e : Option TypeEntry) (x : Members) → membe
 set_entry t s None x h = absurd (none-some x h)
 set_entry t s (Some e) x h = by e.form h
   where
-    by : (f : TypeForm) → members_in t f ≡ Some x → base_form f ≡ Some b.Set
+    by : (f : TypeForm) → members_in t f ≡ Some x → base_form s f ≡ Some b.Set
     by (SetOf n) h = refl
     by _ h = absurd (none-some x h)
 
@@ -124,6 +128,11 @@ set_number : (z : ℤ) → pos 0 ≤ℤ z → z ≤ℤ pos 65535 → IsNumber Of
 set_number (pos i) h j = (refl, ap pos (word_of_set i (omega (arith, ints, j))))
 set_number (negsuc i) h j = absurd (omega (arith, ints))
 
+nil_number : (n : ℕ) (z : ℤ) → pos 0 ≤ℤ z → z ≤ℤ pos 0 → IsNumber (OfPointer n) z
+nil_number n (pos zero) h j = (refl, refl)
+nil_number n (pos (suc i)) h j = absurd (omega (arith, ints))
+nil_number n (negsuc i) h j = absurd (omega (arith, ints))
+
 -- the numbers of a base are those of its values
 pub number_sound : (k : RBase) (z : ℤ) → has_number k z ≡ true → IsNumber (base_view k) z
 number_sound b.Cardinal z h = (h, refl)
@@ -132,3 +141,17 @@ number_sound b.Truth z h = let e = bounds (pos 0) z (pos 1) h in truth_number z 
 number_sound b.Character z h = let e = bounds (pos 0) z (pos 255) h in character_number z e.0 e.1
 number_sound (b.Enumeration n) z h = (h, refl)
 number_sound b.Set z h = let e = bounds (pos 0) z (pos 65535) h in set_number z e.0 e.1
+number_sound (b.Pointer n) z h = let e = bounds (pos 0) z (pos 0) h in nil_number n z e.0 e.1
+
+no_reference : (k : RBase) (z : ℤ) → is_reference (scalar_of (base_view k) z) ≡ false
+no_reference b.Cardinal z = refl
+no_reference b.Integer z = refl
+no_reference b.Truth z = refl
+no_reference b.Character z = refl
+no_reference (b.Enumeration n) z = refl
+no_reference b.Set z = refl
+no_reference (b.Pointer n) z = refl
+
+-- and those that a text can name
+pub literal_sound : (k : RBase) (z : ℤ) → has_number k z ≡ true → is_literal (base_view k) (scalar_of (base_view k) z) ≡ true
+literal_sound k z h = λ j. (number_sound k z h).0 j && not (no_reference k z j)

@@ -3,7 +3,7 @@ use Rattle.std.specs.Prelude.{ℕ, ◌==◌, nat_le, Option, Some, None, length,
 use Rattle.lil_types.specs.Types.{Table, integer, cardinal, boolean, char, bit_set, entry, base}
 use Rattle.lil_types.specs.declared.table.Span.{Span}
 use Rattle.lil_types.specs.declared.table.TypeForm.{TypeForm}
-use Rattle.lil_types.specs.declared.table.TypeForm.TheVariants.{Enumeration, Subrange, SetOf}
+use Rattle.lil_types.specs.declared.table.TypeForm.TheVariants.{Enumeration, Subrange, SetOf, Pointer}
 use Rattle.lil_types.specs.declared.table.TypeEntry.{TypeEntry}
 use Rattle.lil_resolved.specs.declared.resolved.RBase.{RBase}
 use Rattle.lil_resolved.specs.declared.resolved.RBase.TheVariants as b
@@ -23,16 +23,17 @@ standard s =
 abbrev pub enumerated : ℕ → Option RBase
 enumerated n = if nat_le n 65535 then Some (b.Enumeration n) else None
 
-abbrev pub base_form : TypeForm → Option RBase
-base_form (Enumeration xs) = enumerated (length xs)
-base_form (SetOf n) = Some b.Set
-base_form _ = None
+abbrev pub base_form : ℕ → TypeForm → Option RBase
+base_form s (Enumeration xs) = enumerated (length xs)
+base_form s (SetOf n) = Some b.Set
+base_form s (Pointer n) = Some (b.Pointer s)
+base_form s _ = None
 
 abbrev pub base_by : ℕ → Option TypeEntry → Option RBase
 base_by s None = standard s
-base_by s (Some e) = base_form e.form
+base_by s (Some e) = base_form s e.form
 
--- what the values of a base type are: INTEGER, CARDINAL, BOOLEAN, CHAR, an enumeration, or sets
+-- what the values of a base type are: INTEGER, CARDINAL, BOOLEAN, CHAR, an enumeration, sets, or pointers
 abbrev pub base_at : Table → ℕ → Option RBase
 base_at t s = base_by s (entry t s)
 
@@ -46,6 +47,7 @@ range_of s = record { low = s.low; high = s.high }
 abbrev pub kind_form : RBase → TypeForm → Option RKind
 kind_form k (Enumeration xs) = Some (plain k)
 kind_form k (SetOf n) = Some (plain k)
+kind_form k (Pointer n) = Some (plain k)
 kind_form k (Subrange n s) = Some (record { base = k; range = Some (range_of s) })
 kind_form k _ = None
 

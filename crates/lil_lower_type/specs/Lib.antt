@@ -7,5 +7,7 @@ pub mod ListLaws
 pub mod Measured
 pub mod Members
 pub mod Operators
+pub mod Pointers
 pub mod ShapeSound
 pub mod Shaping
+pub mod TargetSound

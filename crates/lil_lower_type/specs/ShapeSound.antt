@@ -29,7 +29,7 @@ at_end (z ∷ xs) y x (suc i) h = elim (at_end xs y x i h) [
   | inr e ↦ inr (ap suc e.0, e.1)
 ]
 
-earlier : {A : Type 0} (xs ys : List A) (i : ℕ) (x : A) → slice_get xs i ≡ Some x → slice_get (xs ++ ys) i ≡ Some x
+pub earlier : {A : Type 0} (xs ys : List A) (i : ℕ) (x : A) → slice_get xs i ≡ Some x → slice_get (xs ++ ys) i ≡ Some x
 earlier [] ys i x h = absurd (none-some x h)
 earlier (z ∷ xs) ys zero x h = h
 earlier (z ∷ xs) ys (suc i) x h = earlier xs ys i x h

@@ -36,12 +36,13 @@ fn enumerated(count: usize) -> Option<RBase>
     }
 }
 
-fn base_form(form: &TypeForm) -> Option<RBase>
-    ensures { result ≡ spec.base_form form.now }
+fn base_form(sort: TypeId, form: &TypeForm) -> Option<RBase>
+    ensures { result ≡ spec.base_form sort form.now }
 {
     match form {
         TypeForm::Enumeration(constants) => enumerated(constants.len()),
         TypeForm::SetOf(_) => Some(RBase::Set),
+        TypeForm::Pointer(_) => Some(RBase::Pointer(usize::from(sort))),
         _ => None,
     }
 }
@@ -52,7 +53,7 @@ pub fn base_at(t: &TypeTable, sort: TypeId) -> Option<RBase>
 {
     match entry(t, sort) {
         None => standard(sort),
-        Some(entry) => base_form(&entry.form),
+        Some(entry) => base_form(sort, &entry.form),
     }
 }
 
@@ -68,6 +69,7 @@ fn kind_form(base: RBase, form: &TypeForm) -> Option<RKind>
     match form {
         TypeForm::Enumeration(_) => Some(plain(base)),
         TypeForm::SetOf(_) => Some(plain(base)),
+        TypeForm::Pointer(_) => Some(plain(base)),
         TypeForm::Subrange(_, span) => Some(RKind {
             base,
             range: Some(RRange {
@@ -89,7 +91,7 @@ fn kind_over(t: &TypeTable, base: RBase, sort: TypeId) -> Option<RKind>
     }
 }
 
-/// The kind of a type's variables, None where it is neither an ordinal type nor a set type.
+/// The kind of a type's variables, None where it is neither an ordinal type nor a set or a pointer type.
 pub fn kind_at(t: &TypeTable, sort: TypeId) -> Option<RKind>
     ensures { result ≡ spec.kind_at t.now sort }
 {

@@ -13,7 +13,8 @@ fn is_whole(base: RBase) -> bool
 {
     match base {
         RBase::Cardinal | RBase::Integer => true,
-        RBase::Truth | RBase::Character | RBase::Enumeration(_) | RBase::Set => false,
+        RBase::Truth | RBase::Character | RBase::Enumeration(_) => false,
+        RBase::Set | RBase::Pointer(_) => false,
     }
 }
 
@@ -24,7 +25,7 @@ pub fn is_ordinal(base: RBase) -> bool
     match base {
         RBase::Cardinal | RBase::Integer => true,
         RBase::Truth | RBase::Character | RBase::Enumeration(_) => true,
-        RBase::Set => false,
+        RBase::Set | RBase::Pointer(_) => false,
     }
 }
 
@@ -67,7 +68,8 @@ pub fn takes_two(operator: TwoOp, base: RBase) -> bool
         TwoOp::Slash => is_set(base),
         TwoOp::Div | TwoOp::Mod => is_whole(base),
         TwoOp::Less | TwoOp::Greater | TwoOp::In => is_ordinal(base),
-        TwoOp::Equal | TwoOp::Unequal | TwoOp::AtMost | TwoOp::AtLeast => true,
+        TwoOp::AtMost | TwoOp::AtLeast => is_ordinal(base) || is_set(base),
+        TwoOp::Equal | TwoOp::Unequal => true,
     }
 }
 
@@ -120,6 +122,22 @@ pub fn takes_value(kind: RKind, base: RBase) -> bool
     alike(kind.base, base)
 }
 
+fn same_pointer(kind: RKind, base: RBase) -> bool
+    ensures { result ≡ kinds.same_pointer (kind_view kind) (base_view base) }
+{
+    match (kind.range, kind.base, base) {
+        (None, RBase::Pointer(m), RBase::Pointer(n)) => m == n,
+        _ => false,
+    }
+}
+
+/// Whether a value of a base may be stored at a place of a kind: as in a variable, or as a pointer of the same type.
+pub fn stores_value(kind: RKind, base: RBase) -> bool
+    ensures { result ≡ sound.stores_value (kind_view kind) (base_view base) }
+{
+    takes_value(kind, base) || same_pointer(kind, base)
+}
+
 /// The type of the numbers that INC and DEC of a variable compute with.
 pub fn counted(base: RBase) -> TypeId
     ensures { result ≡ spec.counted base }
@@ -153,6 +171,7 @@ pub(crate) fn greatest(base: RBase) -> i32
         RBase::Character => 255,
         RBase::Enumeration(count) => i32::from(count.saturating_sub(1)),
         RBase::Set => 65535,
+        RBase::Pointer(_) => 0,
     }
 }
 

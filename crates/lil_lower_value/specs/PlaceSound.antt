@@ -1,5 +1,5 @@
 -- What designators lead to lies in the variables and in the records of the WITHs around, and has the shape of its type.
-use Rattle.std.proofs.Common.{◌≡◌, ℕ, suc, ◌+◌, ◌<◌, ◌≤◌, Bool, true, false, List, [], ◌∷◌, ◌++◌, length, map, slice_get, nat_le, Option, None, Some, IfSome, if◌then◌else◌, inl, inr, refl, sym, ap, ◌∙◌, arith}
+use Rattle.std.proofs.Common.{◌≡◌, ℕ, suc, ◌+◌, ◌<◌, ◌≤◌, true, List, [], ◌∷◌, ◌++◌, length, map, slice_get, nat_le, Option, None, Some, IfSome, inl, inr, refl, sym, ap, ◌∙◌, arith}
 use Rattle.std.specs.Prelude.{◌-◌, ◌==◌}
 use Rattle.std.specs.Option.{option_map}
 use Rattle.std.proofs.lemmas.Option.{none-some, cond_some, slice_get_within}
@@ -14,19 +14,24 @@ use Rattle.lil_resolved.specs.Kinds.{Kind, OfCharacter, takes_value, is_ordinal}
 use Rattle.lil_resolved.specs.Depth.{place_depth}
 use Rattle.lil_resolved.specs.Resolved.{Element, Expression, kind_of, shape_of}
 use Rattle.lil_resolved.specs.Resolved as resolved
-use Rattle.lil_resolved.specs.Shapes.{Shape, Scope, Word, Row, element_of, count_of, is_there, shape_by, with_held}
+use Rattle.lil_resolved.specs.Shapes.{Shape, Scope, Word, Row, element_of, count_of, is_there, shape_by, shape_at, with_held}
 use Rattle.lil_resolved.specs.Sound.{IsSoundPlace, IsSoundTarget}
 use Rattle.lil_resolved.specs.Views.{base_view, kind_view}
 use Rattle.lil_resolved.specs.declared.resolved.RBase.TheVariants as b
 use Rattle.lil_resolved.specs.declared.resolved.RKind.{RKind}
 use Rattle.lil_lower_type.specs.declared.composites.ArrayParts.{ArrayParts}
+use Rattle.lil_lower_type.specs.declared.pointers.Target.{Target}
 use Rattle.lil_lower_type.specs.Bases.{plain, kind_at}
 use Rattle.lil_lower_type.specs.Characters.{numbers_of, characters_in, characters_at}
 use Rattle.lil_lower_type.specs.Composites.{field_at, array_at, composite_at}
-use Rattle.lil_lower_type.specs.Shaping.{all_some, there, lying, shapes_below}
-use Rattle.lil_lower_type.specs.BaseLaws.{if_true, same_sort, kind_base}
+use Rattle.lil_lower_type.specs.Pointers as pointers
+use Rattle.lil_lower_type.specs.Pointers.{target_of, target_at}
+use Rattle.lil_lower_type.specs.Shaping as shaping
+use Rattle.lil_lower_type.specs.Shaping.{all_some, there, lying}
+use Rattle.lil_lower_type.specs.BaseLaws.{if_true, if_some, same_sort, kind_base}
 use Rattle.lil_lower_type.specs.ListLaws.{some_at}
-use Rattle.lil_lower_type.specs.ShapeSound.{at_end, mapped, HasShape, all_shaped, field_shaped, element_shaped, composite_shaped, word_shaped}
+use Rattle.lil_lower_type.specs.ShapeSound.{at_end, mapped, HasShape, field_shaped, element_shaped, composite_shaped, word_shaped}
+use Rattle.lil_lower_type.specs.TargetSound.{PointsTo, all_known, target_known, target_shaped}
 use Rattle.lil_lower_value.specs.Places as s
 use Rattle.lil_lower_value.specs.Places.{Around, Place, Part, Cell}
 use Rattle.lil_lower_value.specs.Values as v
@@ -37,11 +42,11 @@ use Rattle.lil_lower_value.specs.ValueSound.{Held, Holds, IsKnown, IsCell, cell_
 abbrev pub AreHeld : List Shape → Around → List Shape → Type 0
 AreHeld shapes around held = (w n : ℕ) → slice_get around w ≡ Some n → (x : Shape) × (slice_get shapes n ≡ Some x) × (slice_get held (length around - 1 - w) ≡ Some x) × (is_there x ≡ true)
 
--- what lies in the variables of a module, and in the records of the WITHs around, is this, by the shapes of its types
+-- what lies in the variables of a module, in the records of the WITHs around, and behind its pointers, is this, by the shapes of its types
 pub record Fits (m : RModule) (around : Around) (ts : Scope) : Type 0 where
   pub shapes : List Shape
-  pub count : ℕ
-  pub types : shapes_below m.types count ≡ Some shapes
+  pub types : shaping.shapes m.types ≡ Some shapes
+  pub targets : ts.targets ≡ pointers.targets m.types shapes
   pub variables : all_some (map (lying shapes) m.variables) ≡ Some ts.variables
   pub held : AreHeld shapes around ts.held
 
@@ -63,10 +68,6 @@ more_held shapes around held n x h at there w j is = elim (at_end around n j w i
 row_is : (x : Shape) (k : Kind) → element_of x ≡ Word k → x ≡ Row (count_of x) (Word k)
 row_is (Row n y) k h = ap (Row n) h
 row_is _ k h = cc
-
-if_some : {A : Type 0} (b : Bool) (o : Option A) (x : A) → (if b then o else None) ≡ Some x → (b ≡ true) × (o ≡ Some x)
-if_some true o x h = (refl, h)
-if_some false o x h = absurd (none-some x h)
 
 -- a cell to which values may be stored
 pub record IsTarget (t : Table) (ts : Scope) (c : Cell) : Type 0 where
@@ -92,7 +93,7 @@ module _ (m : RModule) (around : Around) (ts : Scope) (fits : Fits m around ts) 
   Lies p = IsPlaced fits.shapes ts p
 
   has_shape : (n : ℕ) (x : Shape) → slice_get fits.shapes n ≡ Some x → HasShape m.types fits.shapes n x
-  has_shape n x is = (all_shaped m.types fits.count fits.shapes fits.types).1 n x is
+  has_shape n x is = (all_known m.types fits.shapes fits.types).1 n x is
 
   -- ---- variables
   variable_at : (i : ℕ) (a : RVar) → slice_get m.variables i ≡ Some a → (x : Shape) × (slice_get fits.shapes a.sort ≡ Some x) × (slice_get ts.variables i ≡ Some x)
@@ -166,6 +167,23 @@ module _ (m : RModule) (around : Around) (ts : Scope) (fits : Fits m around ts) 
           let sort = v.own_or a.own (base m.types parts.index) in
           element_placed p parts (kind_at m.types parts.index) sort (a.lowers sort) h at refl (held sort)
 
+  follow_lies : (p : Place) (x : Target) → Lies p → PointsTo m.types fits.shapes (shape_of ts p.form) x → Lies (s.followed p x)
+  follow_lies p x h to = record {
+    shape = to.sort ∙ ap (λ ts. Some (shape_at ts x.pointer)) (sym fits.targets);
+    good = (to.word, ap (λ ts. is_there (shape_at ts x.pointer)) fits.targets ∙ to.there, h.good);
+  }
+
+  -- a word of a pointer's kind points to what lies there
+  pub kind_points : (k : Kind) (x : Shape) → x ≡ Word k → IfSome (target_of m.types k) (PointsTo m.types fits.shapes x)
+  kind_points = target_known m.types fits.shapes (all_known m.types fits.shapes fits.types)
+
+  pub follow_placed : (p : Place) → Lies p → IfSome (s.follow_place m.types p) Lies
+  follow_placed p h = by (target_at m.types p.sort) (target_shaped m.types fits.shapes (all_known m.types fits.shapes fits.types) p.sort (shape_of ts p.form) (has_shape p.sort (shape_of ts p.form) h.shape))
+    where
+      by : (o : Option Target) → IfSome o (PointsTo m.types fits.shapes (shape_of ts p.form)) → IfSome (option_map (s.followed p) o) Lies
+      by None to = tt
+      by (Some x) to = follow_lies p x h to
+
   -- one part on another
   pub on_placed : (o : Option Place) (x : Part) → IfSome o Lies → ((p : Place) → Lies p → IfSome (x.place p) Lies) → IfSome (s.place_on o x) Lies
   on_placed None x h j = tt
@@ -193,8 +211,8 @@ module _ (m : RModule) (around : Around) (ts : Scope) (fits : Fits m around ts) 
   pub deeper : (p : Place) → Lies p → is_there (shape_of ts p.form) ≡ true → Fits m (around ++ p.sort ∷ []) (with_held ts (shape_of ts p.form))
   deeper p h there = record {
     shapes = fits.shapes;
-    count = fits.count;
     types = fits.types;
+    targets = fits.targets;
     variables = fits.variables;
     held = more_held fits.shapes around ts.held p.sort (shape_of ts p.form) fits.held h.shape there;
   }

@@ -9,12 +9,14 @@ use Rattle.lil_module.specs.declared.tree.RRoot.{RRoot}
 use Rattle.lil_module.specs.declared.tree.RRoot.TheVariants as root
 use Rattle.lil_resolved.specs.Depth.{place_depth}
 use Rattle.lil_resolved.specs.Resolved as resolved
-use Rattle.lil_resolved.specs.Resolved.{Designator, Variable, Held, Element, Expression, kind_of}
+use Rattle.lil_resolved.specs.Resolved.{Designator, Variable, Held, Element, Follow, Expression, kind_of}
 use Rattle.lil_resolved.specs.Sound.{takes_value}
 use Rattle.lil_resolved.specs.Views.{kind_view}
 use Rattle.lil_resolved.specs.declared.resolved.RKind.{RKind}
+use Rattle.lil_lower_type.specs.declared.pointers.Target.{Target}
 use Rattle.lil_lower_type.specs.Composites.{field_at}
 use Rattle.lil_lower_type.specs.Bases.{kind_at}
+use Rattle.lil_lower_type.specs.Pointers.{target_at}
 
 -- the types of the records of the WITHs around, from the outermost
 abbrev pub Around : Type 0
@@ -85,9 +87,12 @@ abbrev pub element : Place → ℕ → Option RKind → Option Expression → Op
 element p s (Some k) (Some e) = if takes_value (kind_view k) (kind_of e) then Some (place_with (Element p.form (kind_view k) e) s) else None
 element p s _ _ = None
 
--- what the generator has no form of
-abbrev pub nowhere : Part
-nowhere = record { sort = λ s. None; place = λ p. None }
+-- what a pointer points to
+abbrev pub followed : Place → Target → Place
+followed p x = place_with (Follow p.form x.pointer) x.sort
+
+abbrev pub follow_place : Table → Place → Option Place
+follow_place t p = option_map (followed p) (target_at t p.sort)
 
 -- A place for whose address the expression stack has room: 13 words. What the texts allow has a depth of at most 12 by their rule, and the
 -- code of ODD, and of a number that joins a set alone, takes one word more than that rule counts.

@@ -19,9 +19,9 @@ use Rattle.lil_lower_value.specs.Places.{Around, Place, Part, Located, place_on,
 use Rattle.lil_lower_value.specs.Sets.{Member}
 use Rattle.lil_lower_value.specs.Values as s
 use Rattle.lil_lower_value.specs.Values.{Value as Meant, Operation, expression_layer, expression, argument, selector, designator, member, operation, target}
-use Rattle.lil_lower_value.specs.PlaceSound.{Fits, IsPlaced, IsTarget, root_placed, field_placed, indexed_placed, on_placed, cell_known, near_known}
+use Rattle.lil_lower_value.specs.PlaceSound.{Fits, IsPlaced, IsTarget, root_placed, field_placed, indexed_placed, follow_placed, on_placed, cell_known, near_known}
 use Rattle.lil_lower_value.specs.ValueForms.{callees, rolled, argument_rolled, selector_rolled, member_rolled, operation_is, located_place}
-use Rattle.lil_lower_value.specs.ValueSound.{Holds, Kept, AllValues, AllHold, MemberHolds, AllMembers, member_held, set_held, whole_held, scalar_held, text_held, named_held, taken_held, function_held, one_held, chain_held, shallow_kept}
+use Rattle.lil_lower_value.specs.ValueSound.{Holds, Kept, AllValues, AllHold, MemberHolds, AllMembers, member_held, set_held, whole_held, scalar_held, text_held, named_held, nil_held, taken_held, function_held, one_held, chain_held, shallow_kept}
 
 module _ (m : RModule) (around : Around) (ts : Scope) (fits : Fits m around ts) where
   abbrev HoldsHere : (ℕ → Option Expression) → Type 0
@@ -93,7 +93,7 @@ module _ (m : RModule) (around : Around) (ts : Scope) (fits : Fits m around ts) 
   layer_holds (o.Scalar t n) w = scalar_held m.types ts t n w
   layer_holds (o.Chars t) w = text_held m.types ts t w
   layer_holds (o.Named i) w = named_held m.types ts (slice_get m.texts i) w
-  layer_holds o.Nil w = tt
+  layer_holds o.Nil w = nil_held m.types ts w
   layer_holds (o.SetOf t es) w = set_held m.types ts t (map (member m around) (map (λ e. e.0) es)) (members_hold es) w
   layer_holds (o.RExpr::Value d) w = taken_held m.types ts (cell m.types (designator m around d.0).place) (cell_known m around ts fits (designator m around d.0).place d.1) w
   layer_holds (o.RExpr::Procedure i) w = tt
@@ -132,7 +132,7 @@ module _ (m : RModule) (around : Around) (ts : Scope) (fits : Fits m around ts) 
   selector_holds : (y : RSelector-F Argument Callee Value Selector Named Element Operates) → SelectorHolds (roll-RSelector (bare_selector y))
   selector_holds (o.Field i) p h = subst (λ (x : Part). Reaches (x.place p)) (sym (selector_rolled m around (o.Field i))) (field_placed m around ts fits i p h)
   selector_holds (o.Index a) p h = subst (λ (x : Part). Reaches (x.place p)) (sym (selector_rolled m around (o.Index a.0))) (indexed_placed m around ts fits (expression m around a.0) a.1 p h)
-  selector_holds o.Follow p h = subst (λ (x : Part). Reaches (x.place p)) (sym (selector_rolled m around o.Follow)) tt
+  selector_holds o.Follow p h = subst (λ (x : Part). Reaches (x.place p)) (sym (selector_rolled m around o.Follow)) (follow_placed m around ts fits p h)
 
   along_holds : (o : Option Place) (xs : List Selector) → Reaches o → Reaches (fold place_on o (map (selector m around) (map (λ e. e.0) xs)))
   along_holds o [] h = h

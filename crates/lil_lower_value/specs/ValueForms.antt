@@ -29,11 +29,12 @@ use Rattle.lil_lower_type.specs.Operators.{result_sort}
 use Rattle.lil_lower_type.specs.Shaping.{all_some}
 use Rattle.lil_lower_type.specs.ListLaws.{map_of_map}
 use Rattle.lil_lower_type.specs.Composites.{field_at, array_at, element_sort}
+use Rattle.lil_lower_type.specs.Pointers.{target_at, target_sort}
 use Rattle.lil_resolved.specs.Sound.{is_element}
 use Rattle.lil_resolved.specs.Views.{kind_view}
 use Rattle.lil_lower_value.specs.Sets.{Member, sort_before, single, spanned, set_with, set_by}
 use Rattle.lil_lower_value.specs.Values as s
-use Rattle.lil_lower_value.specs.Places.{Around, Place, Part, Located, sort_on, place_on, root_sort, root_place, located, field_place, nowhere, cell, cell_sort}
+use Rattle.lil_lower_value.specs.Places.{Around, Place, Part, Located, sort_on, place_on, root_sort, root_place, located, field_place, follow_place, cell, cell_sort}
 use Rattle.lil_lower_value.specs.Values.{Value, Operation, argument_layer, expression_layer, selector_layer, designator_layer, member_layer, operation_layer, expression, argument, selector, designator, member, operation}
 
 abbrev callee : RCallee → Unit {0}
@@ -105,7 +106,7 @@ module _ (m : RModule) (around : Around) where
   named_form : (n : ℕ) → expression m around (v.Named n) ≡ s.valued None (s.named (slice_get m.texts n))
   named_form n = ap (expression m around) (sym (v.rolls-Named n)) ∙ rolled (o.Named n)
 
-  nil_form : expression m around v.Nil ≡ s.nothing
+  nil_form : expression m around v.Nil ≡ s.valued None (s.nil m.types)
   nil_form = ap (expression m around) (sym v.rolls-Nil) ∙ rolled o.Nil
 
   set_form : (t : ℕ) (es : List RElement) → expression m around (v.SetOf t es) ≡ s.valued (Some (base m.types t)) (s.set m.types t (map (member m around) es))
@@ -154,7 +155,7 @@ module _ (m : RModule) (around : Around) where
     pub named_is : (n : ℕ) → (expression m around (v.Named n)).lowers w ≡ s.named (slice_get m.texts n) w
     named_is n = at (named_form n)
 
-    pub nil_is : (expression m around v.Nil).lowers w ≡ None
+    pub nil_is : (expression m around v.Nil).lowers w ≡ s.nil m.types w
     nil_is = at nil_form
 
     pub set_is : (t : ℕ) (es : List RElement) → (expression m around (v.SetOf t es)).lowers w ≡ s.set m.types t (map (member m around) es) w
@@ -243,7 +244,7 @@ module _ (m : RModule) (around : Around) where
   index_form : (x : RExpr) → selector m around (part.Index x) ≡ record { sort = λ t. option_map element_sort (array_at m.types t); place = λ p. s.indexed m.types (expression m around x) p (array_at m.types p.sort) }
   index_form x = ap (selector m around) (sym (part.rolls-Index x)) ∙ selector_rolled (o.Index x)
 
-  follow_form : selector m around part.Follow ≡ nowhere
+  follow_form : selector m around part.Follow ≡ record { sort = λ t. option_map target_sort (target_at m.types t); place = follow_place m.types }
   follow_form = ap (selector m around) (sym part.rolls-Follow) ∙ selector_rolled o.Follow
 
   pub field_sort_is : (i t : ℕ) → (selector m around (part.Field i)).sort t ≡ field_at m.types t i
@@ -252,7 +253,7 @@ module _ (m : RModule) (around : Around) where
   pub index_sort_is : (x : RExpr) (t : ℕ) → (selector m around (part.Index x)).sort t ≡ option_map element_sort (array_at m.types t)
   index_sort_is x t = ap (λ (p : Part). p.sort t) (index_form x)
 
-  pub follow_sort_is : (t : ℕ) → (selector m around part.Follow).sort t ≡ None
+  pub follow_sort_is : (t : ℕ) → (selector m around part.Follow).sort t ≡ option_map target_sort (target_at m.types t)
   follow_sort_is t = ap (λ (p : Part). p.sort t) follow_form
 
   pub field_part_is : (i : ℕ) (d : Place) → (selector m around (part.Field i)).place d ≡ field_place m.types i d
@@ -261,7 +262,7 @@ module _ (m : RModule) (around : Around) where
   pub index_part_is : (x : RExpr) (d : Place) → (selector m around (part.Index x)).place d ≡ s.indexed m.types (expression m around x) d (array_at m.types d.sort)
   index_part_is x d = ap (λ (p : Part). p.place d) (index_form x)
 
-  pub follow_part_is : (d : Place) → (selector m around part.Follow).place d ≡ None
+  pub follow_part_is : (d : Place) → (selector m around part.Follow).place d ≡ follow_place m.types d
   follow_part_is d = ap (λ (p : Part). p.place d) follow_form
 
 pub ruleset members = (alone_is, span_is)

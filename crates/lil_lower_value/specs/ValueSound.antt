@@ -13,7 +13,7 @@ use Rattle.lil_types.specs.Types as types
 use Rattle.lil_module.specs.declared.tree.Standard.{Standard}
 use Rattle.lil_module.specs.declared.tree.Standard.TheVariants as standard
 use Rattle.lil_resolved.specs.Bases.{own_base}
-use Rattle.lil_resolved.specs.Kinds.{Kind, OfWhole, OfTruth, OfCharacter, OfEnumeration, OfSet, OfRange, compared_as, is_base}
+use Rattle.lil_resolved.specs.Kinds.{Kind, OfWhole, OfTruth, OfCharacter, OfEnumeration, OfSet, OfPointer, OfRange, compared_as, is_base}
 use Rattle.lil_resolved.specs.Scalars.{scalar_of}
 use Rattle.lil_resolved.specs.Resolved.{Expression, Constant, Taken, Two, Abs, kind_of, right_kind, shape_of}
 use Rattle.lil_resolved.specs.Depth.{depth}
@@ -30,7 +30,7 @@ use Rattle.lil_lower_type.specs.Bases.{base_at, kind_at}
 use Rattle.lil_lower_type.specs.Operators.{takes_two, result_sort, is_truth, has_number}
 use Rattle.lil_lower_type.specs.Members.{members_at}
 use Rattle.lil_lower_type.specs.Shaping.{all_some}
-use Rattle.lil_lower_type.specs.BaseLaws.{if_so, if_true, same_sort, base_words, kind_base, members_known, number_sound}
+use Rattle.lil_lower_type.specs.BaseLaws.{if_so, if_true, same_sort, base_words, kind_base, members_known, literal_sound}
 use Rattle.lil_lower_type.specs.ListLaws.{AllFine, AllIf, some_fine}
 use Rattle.lil_lower_value.specs.declared.variables.Variable.{Variable}
 use Rattle.lil_lower_value.specs.Places.{Cell}
@@ -82,6 +82,7 @@ abs_kind OfTruth h = cc
 abs_kind OfCharacter h = cc
 abs_kind (OfEnumeration n) h = cc
 abs_kind OfSet h = cc
+abs_kind (OfPointer n) h = cc
 abs_kind (OfRange k low high) h = cc
 
 of_truth : (k : RBase) → is_truth k ≡ true → base_view k ≡ OfTruth
@@ -91,12 +92,13 @@ of_truth b.Integer h = cc
 of_truth b.Character h = cc
 of_truth (b.Enumeration n) h = cc
 of_truth b.Set h = cc
+of_truth (b.Pointer n) h = cc
 
 module _ (t : Table) (ts : Scope) where
   -- ---- constants
   constant_held : (k : RBase) (s : ℕ) → base_at t s ≡ Some k → (z : ℤ) → IfSome (spec.constant k z) (Held t ts s)
   constant_held k s is z = if_true (Held t ts s) (has_number k z) (Constant (base_view k) (scalar_of (base_view k) z))
-      (λ h. record { base = k; known = is; of = refl; good = (number_sound k z h).0 })
+      (λ h. record { base = k; known = is; of = refl; good = literal_sound k z h })
 
   pub whole_held : (z : ℤ) → Holds t ts (spec.whole t z)
   whole_held z s = by (base_at t s) refl
@@ -109,6 +111,7 @@ module _ (t : Table) (ts : Scope) where
       by (Some b.Character) h = tt
       by (Some (b.Enumeration n)) h = tt
       by (Some b.Set) h = tt
+      by (Some (b.Pointer n)) h = tt
 
   pub scalar_held : (sort w : ℕ) → Holds t ts (spec.scalar t sort w)
   scalar_held sort w s = if_so (Held t ts s) (types.base t sort == s) (spec.scalar_by w (base_at t s)) (λ e. by (base_at t s) refl)
@@ -121,6 +124,7 @@ module _ (t : Table) (ts : Scope) where
       by (Some b.Character) h = constant_held b.Character s h (pos w)
       by (Some (b.Enumeration n)) h = constant_held (b.Enumeration n) s h (pos w)
       by (Some b.Set) h = constant_held b.Set s h (pos w)
+      by (Some (b.Pointer n)) h = tt
 
   pub text_held : (c : List ℕ) → Holds t ts (spec.text c)
   text_held (c ∷ []) s = if_so (Held t ts s) (s == char) (spec.constant b.Character (pos c))
@@ -131,6 +135,19 @@ module _ (t : Table) (ts : Scope) where
   pub named_held : (o : Option (List ℕ)) → Holds t ts (spec.named o)
   named_held (Some c) s = text_held c s
   named_held None s = tt
+
+  pub nil_held : Holds t ts (spec.nil t)
+  nil_held s = by (base_at t s) refl
+    where
+      by : (o : Option RBase) → base_at t s ≡ o → IfSome (spec.nil_by o) (Held t ts s)
+      by None h = tt
+      by (Some (b.Pointer n)) h = record { base = b.Pointer n; known = h; of = refl; good = refl }
+      by (Some b.Cardinal) h = tt
+      by (Some b.Integer) h = tt
+      by (Some b.Truth) h = tt
+      by (Some b.Character) h = tt
+      by (Some (b.Enumeration n)) h = tt
+      by (Some b.Set) h = tt
 
   -- ---- variables
   pub variable_sound : (v : Variable) → IsKnown t ts v → IsSoundVariable ts v.place.number (kind_view v.place.kind)

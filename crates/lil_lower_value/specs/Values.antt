@@ -20,7 +20,8 @@ use Rattle.lil_module.specs.declared.tree.RSelector.{RSelector}
 use Rattle.lil_module.specs.declared.tree.RDesignator.{RDesignator}
 use Rattle.lil_module.specs.declared.tree.RElement.{RElement}
 use Rattle.lil_module.specs.declared.tree.ROperation.{ROperation}
-use Rattle.lil_resolved.specs.Scalars.{scalar_of}
+use Rattle.lil_resolved.specs.Kinds.{OfPointer}
+use Rattle.lil_resolved.specs.Scalars.{Nothing, scalar_of}
 use Rattle.lil_resolved.specs.Resolved.{Expression, Constant, Taken, Apply, kind_of}
 use Rattle.lil_resolved.specs.Depth.{depth}
 use Rattle.lil_resolved.specs.Sound as sound
@@ -36,15 +37,16 @@ use Rattle.lil_lower_type.specs.Bases.{base_at, kind_at}
 use Rattle.lil_lower_type.specs.Operators.{takes_two, result_sort, has_number}
 use Rattle.lil_lower_type.specs.Composites.{field_at, array_at, element_sort}
 use Rattle.lil_lower_type.specs.Members.{members_at}
+use Rattle.lil_lower_type.specs.Pointers.{target_at, target_sort}
 use Rattle.lil_lower_value.specs.declared.variables.Variable.{Variable}
-use Rattle.lil_lower_value.specs.Places.{Around, Place, Part, Located, Cell, field_place, element, nowhere, located, cell, cell_sort, near}
+use Rattle.lil_lower_value.specs.Places.{Around, Place, Part, Located, Cell, field_place, follow_place, element, located, cell, cell_sort, near}
 use Rattle.lil_lower_value.specs.Sets.{Member, sort_before, is_at, fitting, single, spanned, set_by}
 
 -- the expression of a base type, by its number
 abbrev pub Lowers : Type 0
 Lowers = ℕ → Option Expression
 
--- a value: its own base type, which whole constants and texts have none of, and its expression of a wanted one
+-- a value: its own base type, which whole constants, texts and NIL have none of, and its expression of a wanted one
 pub record Value : Type 0 where
   pub own : Option ℕ
   pub lowers : Lowers
@@ -88,6 +90,14 @@ text _ s = None
 abbrev pub named : Option (List ℕ) → Lowers
 named (Some t) s = text t s
 named None s = None
+
+abbrev pub nil_by : Option RBase → Option Expression
+nil_by (Some (b.Pointer n)) = Some (Constant (OfPointer n) Nothing)
+nil_by _ = None
+
+-- NIL as a pointer of the type
+abbrev pub nil : Table → Lowers
+nil t s = nil_by (base_at t s)
 
 -- ---- variables of FOR
 -- those whose values are compared by their numbers
@@ -255,7 +265,7 @@ module _ (m : RModule) (around : Around) where
   expression_layer (x.Scalar s w) = valued (Some (base m.types s)) (scalar m.types s w)
   expression_layer (x.Chars t) = valued None (text t)
   expression_layer (x.Named n) = valued None (named (slice_get m.texts n))
-  expression_layer x.Nil = nothing
+  expression_layer x.Nil = valued None (nil m.types)
   expression_layer (x.SetOf s es) = valued (Some (base m.types s)) (set m.types s es)
   expression_layer (x.RExpr::Value d) = valued (cell_sort m.types d.sort) (taken (cell m.types d.place))
   expression_layer (x.RExpr::Procedure n) = nothing
@@ -272,7 +282,7 @@ module _ (m : RModule) (around : Around) where
   abbrev pub selector_layer : RSelector-F Value (Unit {0}) Value Part Located Member Operation → Part
   selector_layer (x.Field i) = record { sort = λ s. field_at m.types s i; place = field_place m.types i }
   selector_layer (x.Index a) = record { sort = λ s. option_map element_sort (array_at m.types s); place = λ p. indexed m.types a p (array_at m.types p.sort) }
-  selector_layer x.Follow = nowhere
+  selector_layer x.Follow = record { sort = λ s. option_map target_sort (target_at m.types s); place = follow_place m.types }
 
   abbrev pub designator_layer : RDesignator-F Value (Unit {0}) Value Part Located Member Operation → Located
   designator_layer d = located m around d.root d.selectors

@@ -54,6 +54,17 @@ pub(crate) fn scalar(t: &TypeTable, sort: TypeId, word: u16, wanted: TypeId) -> 
     }
 }
 
+/// NIL as a pointer of a wanted type, None where that is no pointer type.
+#[tactic(auto, using(lil_resolved::specs::Forms::constant_is))]
+pub fn nil(t: &TypeTable, wanted: TypeId) -> Option<RExpr>
+    ensures { option_map expression_of result ≡ spec.nil t.now wanted }
+{
+    match base_at(t, wanted) {
+        Some(RBase::Pointer(number)) => Some(RExpr::Constant(RBase::Pointer(number), 0)),
+        _ => None,
+    }
+}
+
 /// A text of one character as a CHAR.
 pub(crate) fn text(of: &[u8], wanted: TypeId) -> Option<RExpr>
     ensures { option_map expression_of result ≡ spec.text of.now wanted }

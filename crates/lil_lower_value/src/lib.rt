@@ -9,7 +9,7 @@ mod sets;
 mod values;
 mod variables;
 
-pub use constants::whole;
+pub use constants::{nil, whole};
 pub use places::{Cell, Placed, Reached, as_place, cell_of};
 pub use room::{near, near_place, shallow};
 pub use sets::fitting;

@@ -7,7 +7,7 @@ ghost use Rattle.lil_lower_value.specs.Places as spec;
 ghost use Rattle.lil_lower_value.specs.Values as values;
 
 use lil_base::{Items, Memory};
-use lil_lower_type::{element_sort, field_at, kind_at, takes_value};
+use lil_lower_type::{element_sort, field_at, kind_at, takes_value, target_at, target_sort};
 use lil_module::{RDesignator, RModule, RRoot as Root, RSelector as Selector};
 use lil_resolved::{RExpr, RKind, RPlace, RRoot, RSelector, base as base_of};
 use lil_types::{TypeId, TypeTable, base};
@@ -72,7 +72,7 @@ fn part_sort(m: &RModule, sort: TypeId, of: &Selector) -> Option<TypeId>
     match of {
         Selector::Field(number) => field_at(&m.types, sort, *number),
         Selector::Index(_) => element_sort(&m.types, sort),
-        Selector::Follow => None,
+        Selector::Follow => target_sort(&m.types, sort),
     }
 }
 
@@ -146,6 +146,23 @@ fn field_on(
     match before {
         None => Ok(None),
         Some(before) => field_place(t, before, number),
+    }
+}
+
+/// What a pointer that is reached points to.
+#[tactic(auto, using(lil_resolved::specs::Forms::follow_is))]
+pub(crate) fn follow_place(t: &TypeTable, before: Reached) -> Result<Option<Reached>, Memory>
+    ensures { IfOk result (λ o. option_map reached o ≡ spec.follow_place t.now (reached before)) }
+{
+    match target_at(t, before.sort) {
+        None => {
+            drop(before);
+            Ok(None)
+        }
+        Some(to) => {
+            let reached = onward(before, RSelector::Follow(to.pointer), to.sort)?;
+            Ok(Some(reached))
+        }
     }
 }
 

@@ -11,10 +11,10 @@ ghost use Rattle.lil_lower_value.specs.Built.{built, reached};
 ghost use Rattle.lil_lower_value.specs.Places as places;
 ghost use Rattle.lil_lower_value.specs.Sets as sets;
 
-use crate::constants::{named, scalar, text, whole};
+use crate::constants::{named, nil, scalar, text, whole};
 use crate::functions::{applied, form_of, value_sort};
 use crate::places::{
-    Reached, cell_of, cell_sort, element, field_place, place_sort, root_place, taken,
+    Reached, cell_of, cell_sort, element, field_place, follow_place, place_sort, root_place, taken,
 };
 use crate::sets::{fitting, set_with, single, sort_before, spanned};
 use lil_base::{Boxed, Items, Memory, OneOp, TwoOp, beside};
@@ -229,7 +229,7 @@ pub fn expression(
         Tree::Scalar(sort, word) => Ok(scalar(&m.types, *sort, *word, wanted)),
         Tree::Chars(of) => Ok(text(of.as_slice(), wanted)),
         Tree::Named(number) => Ok(named(m, *number, wanted)),
-        Tree::Nil => Ok(None),
+        Tree::Nil => Ok(nil(&m.types, wanted)),
         Tree::SetOf(sort, elements) => set(alloc, m, around, *sort, wanted, elements.as_slice()),
         Tree::Value(of) => {
             let found = place(alloc, m, around, of)?;
@@ -312,10 +312,7 @@ fn part(
     match of {
         Selector::Field(number) => field_place(&m.types, before, *number),
         Selector::Index(value) => indexed(alloc, m, around, before, value),
-        Selector::Follow => {
-            drop(before);
-            Ok(None)
-        }
+        Selector::Follow => follow_place(&m.types, before),
     }
 }
 

@@ -1,18 +1,19 @@
 -- Matched states: the code at hand does the items that are left, the store has the cells, and frames stand one over another. One step of
 -- the source leads from one to the next.
-use Rattle.std.proofs.Common.{◌≡◌, ℕ, ◌+◌, ◌<◌, ◌≤◌, ◌⊎◌, Bool, true, false, Option, Some, None, List, [], ◌∷◌, length, get_or, map}
+use Rattle.std.proofs.Common.{◌≡◌, ℕ, ◌+◌, ◌-◌, ◌<◌, ◌≤◌, ◌⊎◌, Bool, true, false, Option, Some, None, List, [], ◌∷◌, length, get_or, map}
 use Rattle.std.specs.Prelude.{slice_get, nat_le, ◌&&◌}
 use Rattle.lil_base.specs.declared.fault.LimitKind.{LimitKind}
+use Rattle.lil_base.specs.declared.fault.LimitKind.TheVariants as limit
 use Rattle.lil_base.specs.declared.fault.TrapAt.{TrapAt}
 use Rattle.lil_resolved.specs.Resolved.{Resolved}
-use Rattle.lil_resolved.specs.Shapes.{Shape}
-use Rattle.lil_meaning.specs.Cells.{Root, Global, Cells, loaded_at}
+use Rattle.lil_resolved.specs.Shapes.{Shape, is_there, shape_at}
+use Rattle.lil_meaning.specs.Cells.{Root, Global, Object, Cells, targets_of, heap_words, loaded_at}
 use Rattle.lil_meaning.specs.World.{World, all_closed}
 use Rattle.lil_meaning.specs.Items.{Item, Activation, Parked, Level, Phase, Going, Closing, Ended, Trapped, Source}
 use Rattle.lil_meaning.specs.Steps.{next, owner_of, procedure_of, name_of, procedure_name}
 use Rattle.lil_mcode.specs.State.{Module, StackRegisters, Kept, State, stack_of, module_at}
 use Rattle.lil_match.specs.Running.{Finish, Running, Finished, TrappedBy, Limited, Run, mrun, running}
-use Rattle.lil_match.specs.Homes.{Owner, Own, Fixed, Free, Home, Mem}
+use Rattle.lil_match.specs.Homes.{Owner, Own, Fixed, Free, Home, lives, Mem}
 use Rattle.lil_match.specs.Stutter.{stutter}
 use Rattle.lil_match.specs.Waits.{Frame, Stack, Setting, Quiet, Around, Ahead}
 
@@ -21,10 +22,11 @@ pub record IsStill (w : World) (run : Run) : Type 0 where
   pub world : run.world ≡ w
   pub finish : run.finish ≡ Running
 
--- a frame's words, and those above it up to a place, are the machine's own
+-- a frame's words, and those above it up to a place, are the machine's own: at most a whole expression stack and its length
 pub record OwnWords (owner : ℕ → Owner) (f : Frame) (top : ℕ) : Type 0 where
   pub mark : 4 ≤ f.layout.frame
   pub below : f.at + f.layout.frame ≤ top
+  pub most : top ≤ f.at + (f.layout.frame + 17)
   pub own : (i : ℕ) → f.at + i < top → owner (f.at + i) ≡ Own
 
 -- frames stand one over another, the lowest at the base
@@ -47,7 +49,7 @@ pub record HasName (procedures : List (ℕ × Option (List ℕ))) (p : ℕ) (nam
 
 module _ (library : List Resolved) (loaded : List ℕ) (table : List Module) (activations : List Activation) (h : Home) where
   -- A frame's module is loaded, its activation runs in it, and its variables live where its layout says. The words of its strings, behind
-  -- the variables, never change.
+  -- the variables, never change. Its pointers point to what the home says.
   pub record IsKnown (f : Frame) : Type 0 where
     pub known : module_at table f.number ≡ Some f.own
     pub named : name_of (loaded_at library loaded f.number) ≡ f.own.name
@@ -59,6 +61,8 @@ module _ (library : List Resolved) (loaded : List ℕ) (table : List Module) (ac
     pub strings : (i : ℕ) → i < length f.layout.strings
         → (h.owner (f.own.base + (f.layout.words + i)) ≡ Fixed) × (h.shadow (f.own.base + (f.layout.words + i)) ≡ get_or f.layout.strings i 0)
     pub inside : f.own.base + (f.layout.words + length f.layout.strings) ≤ 65535
+    pub targets : f.layout.scope.targets ≡ h.targets
+    pub own_targets : targets_of (loaded_at library loaded f.number) ≡ h.targets
 
   abbrev pub EachKnown : List Frame → Type 0
   EachKnown [] = Unit {0}
@@ -73,6 +77,13 @@ module _ (library : List Resolved) (loaded : List ℕ) (table : List Module) (ac
   abbrev pub EachComes : ℕ → List Frame → Type 0
   EachComes low [] = Unit {0}
   EachComes low (b ∷ bs) = Comes low b × EachComes low bs
+
+-- Objects lie above a limit, each with two words below it, and no two begin at one word. They take what lies above the limit.
+pub record IsHeap (base : Root → ℕ) (shape : Root → Shape) (objects : List Shape) (limit : ℕ) : Type 0 where
+  pub born : (o : ℕ) → shape (Object o) ≡ shape_at objects o
+  pub above : (o : ℕ) → is_there (shape (Object o)) ≡ true → limit + 2 ≤ base (Object o)
+  pub apart : (o p : ℕ) → is_there (shape (Object o)) ≡ true → is_there (shape (Object p)) ≡ true → base (Object o) ≡ base (Object p) → o ≡ p
+  pub rest : limit + heap_words objects ≡ 65535
 
 -- no level waits: the running one is the first
 pub record IsFirst (waiting : List Level) (below : List Kept) : Type 0 where
@@ -115,9 +126,10 @@ module _ (ctx : Setting) where
     pub marked_is : marked ≡ true
 
   -- what stays while the place, the expression stack and the items change
-  pub record IsShared (numbers : List ℕ) (cells : Cells) (activations' : List Activation) (parked : List Parked) (waiting : List Level)
+  pub record IsShared (numbers : List ℕ) (cells : Cells) (activations' : List Activation) (parked : List Parked) (waiting : List Level) (objects : List Shape)
       (modules : List Module) (kept below : List Kept) (marked : Bool) (store : List ℕ) (stack : StackRegisters) : Type 0 where
     pub mem : Mem h cells store
+    pub heap : IsHeap h.base h.shape objects st.limit
     pub program : IsProgram modules stack.running marked
     pub standing : Standing stack
     pub loaded_are : numbers ≡ loaded
@@ -127,7 +139,7 @@ module _ (ctx : Setting) where
     pub levels : IsFirst waiting below
 
   abbrev pub Shared : Source → State → Type 0
-  Shared s m = IsShared s.loaded s.cells s.activations s.parked s.waiting m.modules m.parked m.waiting m.marked m.store (stack_of m)
+  Shared s m = IsShared s.loaded s.cells s.activations s.parked s.waiting s.objects m.modules m.parked m.waiting m.marked m.store (stack_of m)
 
   -- with so many jumps owed
   pub record IsMatched (s : Source) (k : List Item) (m : State) (c : ℕ) : Type 0 where
@@ -157,24 +169,37 @@ module _ (ctx : Setting) where
   Lands Ended s run c = IsEnded s run
   Lands (Trapped t) s run c = ⊥
 
--- The machine met a limit, with the same world: a body that is to run has no room.
-pub record IsFull (limit : ℕ) (bodies : List Frame) (w : World) (run : Run) : Type 0 where
+-- What is short at a limit, in a state of the source and in the next one: below the objects a body that is to run has no room, or below
+-- those of the next state the frame that runs, with an expression stack and its length, has none.
+abbrev pub Short : Stack → Source → Source → LimitKind → Type 0
+Short y s t limit.Stack = fits (65535 - heap_words s.objects) y.bodies ≡ false
+Short y s t limit.Store = fits (65518 - heap_words t.objects) (y.frame ∷ y.bodies) ≡ false
+Short y s t _ = ⊥
+
+-- the machine met a limit, with the same world
+pub record IsFull (y : Stack) (s t : Source) (run : Run) : Type 0 where
   pub kind : LimitKind
   pub finish : run.finish ≡ Limited kind
-  pub world : run.world ≡ w
-  pub short : fits limit bodies ≡ false
+  pub world : run.world ≡ s.world
+  pub short : Short y s t kind
 
--- what a step of the stack between two words may change: the words between them and their owners, but those that never change
+-- of two stacks the first has no frame more
+pub record Fewer (y st : Stack) : Type 0 where
+  pub bodies : (n : ℕ) → fits n y.bodies ≡ false → fits n st.bodies ≡ false
+  pub all : (n : ℕ) → fits n (y.frame ∷ y.bodies) ≡ false → fits n (st.frame ∷ st.bodies) ≡ false
+
+-- what a step of the stack between two words may change: the words between them and their owners, but those that never change, and no root
+-- that lives
 pub record Touches (h h' : Home) (low high : ℕ) : Type 0 where
   pub owner : (a : ℕ) → (a < low) ⊎ (high ≤ a) → h'.owner a ≡ h.owner a
   pub shadow : (a : ℕ) → (a < low) ⊎ (high ≤ a) → h'.shadow a ≡ h.shadow a
-  pub base : (r : Root) → h'.base r ≡ h.base r
-  pub shape : (r : Root) → h'.shape r ≡ h.shape r
-  pub reference : (o : ℕ) → h'.reference o ≡ h.reference o
+  pub base : (r : Root) → lives h r ≡ true → h'.base r ≡ h.base r
+  pub shape : (r : Root) → lives h r ≡ true → h'.shape r ≡ h.shape r
+  pub targets : h'.targets ≡ h.targets
   pub fixed : (a : ℕ) → h.owner a ≡ Fixed → (h'.owner a ≡ Fixed) × (h'.shadow a ≡ h.shadow a)
 
 -- One step of the source, in so many steps of the machine, with so many jumps owed then, both within a budget, or else a limit. The world changes in
--- the last step alone; the home changes between the stack's base and its limit alone.
+-- the last step alone; the home changes between the stack's base and its limit alone, and the limit doesn't rise.
 pub record Goes (ctx : Setting) (s : Source) (k : List Item) (m : State) (budget : ℕ) : Type 0 where
   pub steps : ℕ
   pub later : ℕ
@@ -182,9 +207,9 @@ pub record Goes (ctx : Setting) (s : Source) (k : List Item) (m : State) (budget
   pub stack : Stack
   pub quiet : (i : ℕ) → i < steps → IsStill s.world (mrun i (running m s.world))
   pub lands : Lands (record ctx { home = home; stack = stack }) (next ctx.library (record s { items = k; phase = Going })).phase (next ctx.library (record s { items = k; phase = Going })) (mrun steps (running m s.world)) later
-      ⊎ IsFull ctx.stack.limit ctx.stack.bodies s.world (mrun steps (running m s.world))
+      ⊎ IsFull ctx.stack (record s { items = k; phase = Going }) (next ctx.library (record s { items = k; phase = Going })) (mrun steps (running m s.world))
   pub touch : Touches ctx.home home ctx.stack.base ctx.stack.limit
-  pub same : (stack.base ≡ ctx.stack.base) × (stack.limit ≡ ctx.stack.limit)
-  pub fewer : fits stack.limit stack.bodies ≡ false → fits ctx.stack.limit ctx.stack.bodies ≡ false
+  pub same : (stack.base ≡ ctx.stack.base) × (stack.limit ≤ ctx.stack.limit)
+  pub fewer : Fewer stack ctx.stack
   pub cost : steps + later ≤ budget
   pub falls : steps ≡ 0 → stutter (next ctx.library (record s { items = k; phase = Going })).items < stutter k

@@ -2,12 +2,16 @@
 use Rattle.std.proofs.Common.{◌≡◌, ℕ, zero, suc, ◌+◌, ◌-◌, ◌*◌, ◌<◌, ◌≤◌, Bool, true, false, eqb, List, [], ◌∷◌, ◌++◌, length, get_or, set, take, drop, refl, sym, ap, ◌∙◌, subst, ◌⊎◌, inl, inr, ⊎_elim, arith, length-set, length-drop}
 use Rattle.std.proofs.lemmas.Bool.{eq-eqb, ltb-true, ne_eqb, cases_Bool, cases_eq, cases_lt, eqb-true, and_parts, and_from}
 use Rattle.std.proofs.lemmas.List.{get_or-set_same, get_or-set_other, get_or-take, get_or-drop, length-take-le}
-use Rattle.std.specs.Prelude.{◌==◌, nat_lt, nat_le, if◌then◌else◌}
-use Rattle.lil_base.specs.Words.{between}
-use Rattle.lil_resolved.specs.Kinds.{Kind, OfWhole, OfTruth, OfCharacter, OfEnumeration, OfSet, OfRange, base_of}
-use Rattle.lil_resolved.specs.Scalars.{Scalar, Character, ToObject, within, scalar_word, ordinal_of}
+use Rattle.std.specs.Prelude.{◌==◌, pos, nat_lt, nat_le, not, if◌then◌else◌}
+use Rattle.std.proofs.lemmas.Int.{ints}
+use Rattle.lil_base.specs.Words.{Cardinal, between}
+use Rattle.lil_base.specs.Sets.{set_word}
+use Rattle.lil_resolved.specs.Members.{no_members}
+use Rattle.lil_resolved.specs.MemberLaws.{word_none}
+use Rattle.lil_resolved.specs.Kinds.{Kind, OfWhole, OfTruth, OfCharacter, OfEnumeration, OfSet, OfPointer, OfRange, base_of, is_plain, alike, takes_value}
+use Rattle.lil_resolved.specs.Scalars.{Scalar, Character, ToObject, Nothing, within, scalar_word, ordinal_of, zero_of}
 use Rattle.lil_resolved.specs.Sound.{is_character, is_text}
-use Rattle.lil_resolved.specs.Shapes.{Shape, Absent, Word, Row, words, is_there, part_at, offset}
+use Rattle.lil_resolved.specs.Shapes.{Shape, Absent, Word, Row, words, is_there, part_at, offset, shape_at}
 use Rattle.lil_meaning.specs.Cells.{Root, Global, Local, Object, Place, part_of, Cells, Under, under, rest_behind, at_rest, same_root, stored, alone, text_under}
 use Rattle.lil_mcode.specs.State.{spliced}
 use Rattle.lil_match.specs.Parts.{yes, no, part_fits, part_append, offset_append, Inside, Outside, word_long, parts}
@@ -27,8 +31,8 @@ pub record Home : Type 0 where
   pub owner : ℕ → Owner
   -- what the machine's own words and those that never change are
   pub shadow : ℕ → ℕ
-  -- the word of a reference
-  pub reference : ℕ → ℕ
+  -- what pointers point to, by the numbers of their types
+  pub targets : List Shape
 
 -- the first word of a place, and what lies there
 abbrev pub address : Home → Place → ℕ
@@ -37,25 +41,68 @@ address h p = h.base p.root + offset (h.shape p.root) p.path
 abbrev pub shape_there : Home → Place → Shape
 shape_there h p = part_at (h.shape p.root) p.path
 
--- the word of a scalar: of a reference what the home says, else its number
+-- the word of a scalar: of a reference to an object that object's first word, else its number
 abbrev pub word_for : Home → Scalar → ℕ
-word_for h (ToObject o) = h.reference o
+word_for h (ToObject o) = h.base (Object o)
 word_for h v = scalar_word v
+
+-- a pointer leads to an object that is what its type points to
+abbrev pub Refers : Home → Kind → Scalar → Type 0
+Refers h (OfPointer n) (ToObject o) = (is_there (h.shape (Object o)) ≡ true) × (h.shape (Object o) ≡ shape_at h.targets n)
+Refers h (OfRange base low high) v = Refers h base v
+Refers h _ _ = Unit {0}
 
 -- A scalar of a kind, as a word. A fresh cell of a range may lie outside of it, so the scalar is one of the kind that the range was taken from.
 pub record IsWord (h : Home) (k : Kind) (v : Scalar) (w : ℕ) : Type 0 where
   pub word : w ≡ word_for h v
   pub fits : within (base_of k) v ≡ true
+  pub refers : Refers h k v
+
+-- the roots that live, as far as a home tells
+abbrev pub lives : Home → Root → Bool
+lives h (Object o) = is_there (h.shape (Object o))
+lives h _ = true
 
 -- a value of a kind that has no references
-pub plain_word : (h : Home) (k : Kind) (v : Scalar) → within k v ≡ true → word_for h v ≡ scalar_word v
-plain_word h (OfRange base low high) v e = plain_word h base v (and_parts (within base v) (between low (ordinal_of v) high) e).0
-plain_word h OfTruth (ToObject o) e = cc
-plain_word h OfCharacter (ToObject o) e = cc
-plain_word h (OfWhole t) (ToObject o) e = cc
-plain_word h (OfEnumeration n) (ToObject o) e = cc
-plain_word h OfSet (ToObject o) e = cc
-plain_word h _ v e = refl
+pub plain_word : (h : Home) (k : Kind) (v : Scalar) → is_plain k ≡ true → within k v ≡ true → word_for h v ≡ scalar_word v
+plain_word h (OfRange base low high) v plain e = plain_word h base v plain (and_parts (within base v) (between low (ordinal_of v) high) e).0
+plain_word h (OfPointer n) v plain e = cc
+plain_word h OfTruth (ToObject o) plain e = cc
+plain_word h OfCharacter (ToObject o) plain e = cc
+plain_word h (OfWhole t) (ToObject o) plain e = cc
+plain_word h (OfEnumeration n) (ToObject o) plain e = cc
+plain_word h OfSet (ToObject o) plain e = cc
+plain_word h _ v plain e = refl
+
+pub plain_refers : (h : Home) (k : Kind) (v : Scalar) → is_plain k ≡ true → Refers h k v
+plain_refers h (OfRange base low high) v plain = plain_refers h base v plain
+plain_refers h (OfPointer n) v plain = cc
+plain_refers h _ v plain = tt
+
+-- none points to nothing
+pub none_refers : (h : Home) (k : Kind) → Refers h k Nothing
+none_refers h (OfRange base low high) = none_refers h base
+none_refers h _ = tt
+
+pub refers_base : (h : Home) (k : Kind) (v : Scalar) → Refers h k v → Refers h (base_of k) v
+refers_base h (OfRange base low high) v r = refers_base h base v r
+refers_base h k v r = r
+
+-- kinds of which values may be stored in one another, but pointers
+pub alike_plain : (k j : Kind) → alike k j ≡ true → (is_plain k ≡ true) × (is_plain j ≡ true)
+alike_plain (OfWhole s) (OfWhole t) e = (refl, refl)
+alike_plain OfTruth OfTruth e = (refl, refl)
+alike_plain OfCharacter OfCharacter e = (refl, refl)
+alike_plain (OfEnumeration m) (OfEnumeration n) e = (refl, refl)
+alike_plain OfSet OfSet e = (refl, refl)
+alike_plain _ _ e = cc
+
+pub base_plain : (k : Kind) → is_plain (base_of k) ≡ is_plain k
+base_plain (OfRange base low high) = base_plain base
+base_plain _ = refl
+
+pub takes_plain : (k j : Kind) → takes_value k j ≡ true → (is_plain k ≡ true) × (is_plain j ≡ true)
+takes_plain k j e = let p = alike_plain (base_of k) j e in (sym (base_plain k) ∙ p.0, p.1)
 
 -- a value of a kind is one of the kind that it was taken from
 pub within_base : (k : Kind) (v : Scalar) → within k v ≡ true → within (base_of k) v ≡ true
@@ -108,10 +155,57 @@ of_free r b e = cc
 absent_no : (k : Kind) → Absent ≡ Word k → ⊥
 absent_no k e = cc
 
--- homes that have the same references have the same words
-pub word_same : (h h' : Home) → ((o : ℕ) → h'.reference o ≡ h.reference o) → (v : Scalar) → word_for h v ≡ word_for h' v
-word_same h h' same (ToObject o) = sym (same o)
-word_same h h' same v = refl
+-- ---- zero as a word
+zero_word : (k : Kind) → scalar_word (zero_of k) ≡ 0
+zero_word (OfRange k low high) = zero_word k
+zero_word OfSet = eqb-true (set_word no_members) 0 (word_none no_members)
+zero_word _ = refl
+
+zero_constant : (n : ℕ) → between (pos 0) (pos 0) (pos n) ≡ true
+zero_constant n = grind (arith, ints)
+
+zero_fits : (k : Kind) → within (base_of k) (zero_of k) ≡ true
+zero_fits (OfWhole Cardinal) = refl
+zero_fits (OfEnumeration n) = zero_constant (n - 1)
+zero_fits (OfRange k low high) = zero_fits k
+zero_fits _ = refl
+
+zero_refers : (h : Home) (k : Kind) → Refers h k (zero_of k)
+zero_refers h (OfRange base low high) = zero_refers h base
+zero_refers h _ = tt
+
+zero_for : (h : Home) (k : Kind) → word_for h (zero_of k) ≡ scalar_word (zero_of k)
+zero_for h (OfRange base low high) = zero_for h base
+zero_for h _ = refl
+
+-- a fresh cell
+pub zero_is : (h : Home) (k : Kind) (v : Scalar) (w : ℕ) → v ≡ zero_of k → w ≡ 0 → IsWord h k v w
+zero_is h k v w fresh none = record {
+  word = none ∙ sym (zero_word k) ∙ sym (zero_for h k) ∙ ap (word_for h) (sym fresh);
+  fits = ap (within (base_of k)) fresh ∙ zero_fits k;
+  refers = subst (Refers h k) (sym fresh) (zero_refers h k);
+}
+
+-- homes that agree on the objects that live have the same words, and pointers lead to the same
+module _ (h x : Home) (base : (o : ℕ) → is_there (h.shape (Object o)) ≡ true → x.base (Object o) ≡ h.base (Object o)) (shape : (o : ℕ) → is_there (h.shape (Object o)) ≡ true → x.shape (Object o) ≡ h.shape (Object o))
+    (targets : x.targets ≡ h.targets) where
+  pub word_kept : (k : Kind) (v : Scalar) → within k v ≡ true → Refers h k v → word_for h v ≡ word_for x v
+  word_kept (OfRange under low high) v e r = word_kept under v (and_parts (within under v) (between low (ordinal_of v) high) e).0 r
+  word_kept (OfPointer n) (ToObject o) e r = sym (base o r.0)
+  word_kept OfTruth (ToObject o) e r = cc
+  word_kept OfCharacter (ToObject o) e r = cc
+  word_kept (OfWhole t) (ToObject o) e r = cc
+  word_kept (OfEnumeration n) (ToObject o) e r = cc
+  word_kept OfSet (ToObject o) e r = cc
+  word_kept _ v e r = refl
+
+  pub refers_kept : (k : Kind) (v : Scalar) → Refers h k v → Refers x k v
+  refers_kept (OfRange under low high) v r = refers_kept under v r
+  refers_kept (OfPointer n) (ToObject o) r = (ap is_there (shape o r.0) ∙ r.0, shape o r.0 ∙ r.1 ∙ ap (λ (ts : List Shape). shape_at ts n) (sym targets))
+  refers_kept _ v r = tt
+
+  pub is_word_kept : (k : Kind) (v : Scalar) (w : ℕ) → IsWord h k v w → IsWord x k v w
+  is_word_kept k v w i = record { word = i.word ∙ word_kept (base_of k) v i.fits (refers_base h k v i.refers); fits = i.fits; refers = refers_kept k v i.refers }
 
 -- under a scalar there is that scalar alone
 alone_path : (q : List ℕ) (k j : Kind) → part_at (Word k) q ≡ Word j → (k ≡ j) × (offset (Word k) q ≡ 0)
@@ -170,7 +264,11 @@ module _ (h : Home) (cells : Cells) (store new : List ℕ) (p : Place) (u : Unde
       → (h.base s + offset (h.shape s) q < address h p) ⊎ (address h p + words (shape_there h p) ≤ h.base s + offset (h.shape s) q) → Holds s q j
   other s q j e value apart =
       let old = mem.holds s q j e in
-      record { word = wrote.beside (h.base s + offset (h.shape s) q) apart ∙ old.word ∙ ap (word_for h) (sym value); fits = ap (within (base_of j)) value ∙ old.fits }
+      record {
+        word = wrote.beside (h.base s + offset (h.shape s) q) apart ∙ old.word ∙ ap (word_for h) (sym value);
+        fits = ap (within (base_of j)) value ∙ old.fits;
+        refers = subst (Refers h j) (sym value) old.refers;
+      }
 
   -- a scalar of the same root
   own_root : (q : List ℕ) (j : Kind) → part_at (h.shape p.root) q ≡ Word j → Inside (h.shape p.root) p.path q ⊎ Outside (h.shape p.root) p.path q → Holds p.root q j
@@ -179,7 +277,11 @@ module _ (h : Home) (cells : Cells) (store new : List ℕ) (p : Place) (u : Unde
       let value : stored cells p u p.root q ≡ u i.rest = here ∙ ap (at_rest u (cells p.root q)) i.is in
       let new_word = wrote.there i.rest j (sym i.part ∙ e) in
       let same : h.base p.root + offset (h.shape p.root) q ≡ address h p + offset (shape_there h p) i.rest = omega (arith, i.at) in
-      record { word = ap (λ (a : ℕ). get_or new a 0) same ∙ new_word.word ∙ ap (word_for h) (sym value); fits = ap (within (base_of j)) value ∙ new_word.fits }
+      record {
+        word = ap (λ (a : ℕ). get_or new a 0) same ∙ new_word.word ∙ ap (word_for h) (sym value);
+        fits = ap (within (base_of j)) value ∙ new_word.fits;
+        refers = subst (Refers h j) (sym value) new_word.refers;
+      }
   own_root q j e (inr o) =
       let here = yes (same_root p.root p.root) (at_rest u (cells p.root q) (rest_behind p.path q)) (cells p.root q) (same_root_refl p.root) in
       other p.root q j e (here ∙ ap (at_rest u (cells p.root q)) o.is)
@@ -210,9 +312,9 @@ module _ (h : Home) (cells : Cells) (store new : List ℕ) (p : Place) (u : Unde
   }
 
 -- a scalar is stored at a place
-pub mem_stored : (h : Home) (cells : Cells) (store : List ℕ) (p : Place) (k : Kind) (v : Scalar) → Mem h cells store → shape_there h p ≡ Word k → within k v ≡ true
+pub mem_stored : (h : Home) (cells : Cells) (store : List ℕ) (p : Place) (k : Kind) (v : Scalar) → Mem h cells store → shape_there h p ≡ Word k → within k v ≡ true → Refers h k v
     → Mem h (stored cells p (alone v)) (set store (address h p) (word_for h v))
-mem_stored h cells store p k v mem living fits =
+mem_stored h cells store p k v mem living fits refers =
     mem_wrote h cells store (set store (address h p) (word_for h v)) p (alone v) mem (ap is_there living)
     (record {
       there = λ q j e.
@@ -222,6 +324,7 @@ mem_stored h cells store p k v mem living fits =
             word = ap (λ (a : ℕ). get_or (set store (address h p) (word_for h v)) a 0) same
                 ∙ get_or-set_same store (address h p) (word_for h v) 0 (omega (arith, (scalar_owned h cells store p.root p.path k mem living).1, mem.long));
             fits = ap (λ (z : Kind). within (base_of z) v) (sym only.0) ∙ within_base k v fits;
+            refers = subst (λ (z : Kind). Refers h z v) only.0 refers;
           };
       beside = λ a apart. get_or-set_other store (address h p) a (word_for h v) 0
           (λ e. ⊎_elim (λ (l : a < address h p). omega (arith, l, e)) (λ (g : address h p + words (shape_there h p) ≤ a). omega (arith, g, e, word_long (shape_there h p) k living)) apart);
@@ -253,6 +356,7 @@ mem_copied h cells store to from mem there same =
                 ∙ ap (λ (a : ℕ). get_or store a 0) at
                 ∙ old.word;
             fits = old.fits;
+            refers = old.refers;
           };
       beside = λ a apart. ⊎_elim (λ (l : a < address h to). spliced_before store (address h to) ws a room l)
           (λ (g : address h to + w ≤ a). spliced_after store (address h to) ws a room (omega (arith, g, count))) apart;
@@ -292,6 +396,7 @@ mem_written h cells store to count cs ws mem there text long same =
         record {
           word = ap (λ (a : ℕ). get_or (spliced store (address h to) ws) a 0) at ∙ spliced_there store (address h to) ws i room (omega (arith, one.0, long)) ∙ same i one.0;
           fits = ap (λ (z : Kind). within (base_of z) (Character (get_or cs i 0))) (sym kind) ∙ text_character cs i text;
+          refers = subst (λ (z : Kind). Refers h z (Character (get_or cs i 0))) kind tt;
         }
     by room (i ∷ j ∷ q) k e = absurd (absent_no k (element i (j ∷ q) k e).1)
 
@@ -311,7 +416,8 @@ mem_shadowed h cells store a w own small mem = record {
   holds = λ r q k e.
       let old = mem.holds r q k e in
       let other : h.base r + offset (h.shape r) q ≡ a → ⊥ = λ at. own_of_none r (sym (scalar_owned h cells store r q k mem e).0 ∙ ap h.owner at ∙ own) in
-      record { word = get_or-set_other store a (h.base r + offset (h.shape r) q) w 0 other ∙ old.word ∙ word_same h (shadowed h a w) (λ o. refl) (cells r q); fits = old.fits };
+      is_word_kept h (shadowed h a w) (λ o l. refl) (λ o l. refl) refl k (cells r q) (get_or (set store a w) (h.base r + offset (h.shape r) q) 0)
+      (record { word = get_or-set_other store a (h.base r + offset (h.shape r) q) w 0 other ∙ old.word; fits = old.fits; refers = old.refers });
   kept = λ b mine. by b (mem.kept b mine) (cases_eq a b);
   fixed = λ b mine. by b (mem.fixed b mine) (cases_eq a b);
   long = length-set store a w ∙ mem.long;

@@ -3,26 +3,26 @@ use Rattle.std.proofs.Common.{◌≡◌, ℕ, suc, ◌+◌, ◌<◌, ◌≤◌, 
 use Rattle.std.proofs.lemmas.Bool.{ne_eqb}
 use Rattle.std.specs.List.{list_any}
 use Rattle.std.specs.Prelude.{Bool}
-use Rattle.lil_resolved.specs.Kinds.{OfCharacter, OfSet, numbers}
-use Rattle.lil_resolved.specs.Scalars.{Scalar}
+use Rattle.lil_resolved.specs.Kinds.{Kind, OfCharacter, OfSet, numbers}
+use Rattle.lil_resolved.specs.Scalars.{Scalar, within}
 use Rattle.lil_resolved.specs.Resolved.{Resolved}
-use Rattle.lil_resolved.specs.Shapes.{Shape, Word, Row, part_at, offset}
+use Rattle.lil_resolved.specs.Shapes.{Shape, Absent, Word, Row, is_there, part_at, offset}
 use Rattle.lil_meaning.specs.Cells.{Root, Global, Local, Object, Place}
 use Rattle.lil_meaning.specs.Items.{Datum, Scalars, Places, Wholes, Opens, Texts, IndexAt, StoreAt, CopyFrom, ChangeAt, RightOf, MemberOf, MembersFrom, MembersTo, MemberAt, Pass, PassArray, LimitOf, Passing, Looping, Turns, Holding, End, Item, Value, Fill, Perform, Activation, Source}
 use Rattle.lil_mcode.specs.State.{Module, StackRegisters, State, stack_of}
 use Rattle.lil_table.specs.Rows.{Layout, holding, Access, OnTop, loop_place}
 use Rattle.lil_match.specs.Parts.{no}
-use Rattle.lil_match.specs.Homes.{word_same, address, Owner, Own, Fixed, own_fixed, Home, mem_shadowed, shadowed, replaced}
-use Rattle.lil_match.specs.Waits.{Mode, Quiet, ValueOf, AtPlace, Onward, Part, Around, outside, Frame, frames_of, Setting, at_home, inside_with, with_frames, DatumOn, DataOn, sees, is_of, TurnsTask, Reaches, HasPlace, HasSet, needs, Behind, RowsOf, Rows}
+use Rattle.lil_match.specs.Homes.{word_for, word_kept, refers_kept, Refers, plain_refers, takes_plain, lives, address, shape_there, Owner, Own, Fixed, own_fixed, Home, mem_shadowed, shadowed, replaced}
+use Rattle.lil_match.specs.Waits.{Mode, Quiet, ValueOf, AtPlace, Onward, Part, Around, outside, Frame, frames_of, Setting, at_home, moved, inside_with, with_frames, DatumOn, DataOn, sees, is_of, TurnsTask, Reaches, HasPlace, HasSet, needs, Behind, RowsOf, Rows}
 use Rattle.lil_match.specs.Known.{known_kept, each_known, each_comes}
 use Rattle.lil_match.specs.Goes.{OwnWords, Stands, EachComes, Standing, Shared, Touches}
 
--- homes that agree on the roots that frames can name, and on the machine's own words from one place to another
+-- homes that agree on the roots that live and that frames can name, and on the machine's own words from one place to another
 pub record Keeps (h x : Home) (fs : List Frame) (low top : ℕ) : Type 0 where
   pub shadow : (a : ℕ) → low ≤ a → a < top → x.shadow a ≡ h.shadow a
-  pub base : (r : Root) → sees fs r ≡ true → x.base r ≡ h.base r
-  pub shape : (r : Root) → sees fs r ≡ true → x.shape r ≡ h.shape r
-  pub reference : (o : ℕ) → x.reference o ≡ h.reference o
+  pub base : (r : Root) → sees fs r ≡ true → lives h r ≡ true → x.base r ≡ h.base r
+  pub shape : (r : Root) → sees fs r ≡ true → lives h r ≡ true → x.shape r ≡ h.shape r
+  pub targets : x.targets ≡ h.targets
 
 -- frames whose own words but their marks lie from a place on
 abbrev pub EachAbove : ℕ → List Frame → Type 0
@@ -43,25 +43,40 @@ keeps_under h x f fs low top less le keeps = record {
   shadow = λ a from below. keeps.shadow a from (omega (arith, le, below));
   base = λ r e. keeps.base r (sees_more f fs r e);
   shape = λ r e. keeps.shape r (sees_more f fs r e);
-  reference = keeps.reference;
+  targets = keeps.targets;
 }
 
 pub keeps_lower : (h x : Home) (fs : List Frame) (low top less : ℕ) → less ≤ top → Keeps h x fs low top → Keeps h x fs low less
 keeps_lower h x fs low top less le keeps =
-    record { shadow = λ a from below. keeps.shadow a from (omega (arith, le, below)); base = keeps.base; shape = keeps.shape; reference = keeps.reference }
+    record { shadow = λ a from below. keeps.shadow a from (omega (arith, le, below)); base = keeps.base; shape = keeps.shape; targets = keeps.targets }
+
+-- where something lies, its root lives
+root_there : (t : Shape) (p : List ℕ) → is_there (part_at t p) ≡ true → is_there t ≡ true
+root_there Absent [] e = e
+root_there Absent (i ∷ p) e = e
+root_there t p e = refl
+
+pub place_lives : (h : Home) (place : Place) (t : Shape) → shape_there h place ≡ t → is_there t ≡ true → lives h place.root ≡ true
+place_lives h place t living there = by place.root (ap is_there living ∙ there)
+  where
+    by : (r : Root) → is_there (part_at (h.shape r) place.path) ≡ true → lives h r ≡ true
+    by (Global m x) e = refl
+    by (Local a x) e = refl
+    by (Object o) e = root_there (h.shape (Object o)) place.path e
 
 -- a part that is met in another home, and leads to the same
 pub record IsMet (w v : Part) (r : w.Here) : Type 0 where
   pub part : v.Here
   pub onto : w.onto r ≡ v.onto part
 
-module _ (ctx : Setting) (x : Home) (low top : ℕ) (keeps : Keeps ctx.home x (frames_of ctx.stack) low top) where
+module _ (ctx : Setting) (x : Home) (n low top : ℕ) (keeps : Keeps ctx.home x (frames_of ctx.stack) low top) where
   open ctx use {home as h}
 
-  place_kept : (b : Access) (place : Place) (t : Shape) (stack below : List ℕ) → HasPlace ctx b place t stack below → HasPlace (at_home ctx x) b place t stack below
+  place_kept : (b : Access) (place : Place) (t : Shape) (stack below : List ℕ) → HasPlace ctx b place t stack below → HasPlace (moved ctx x n) b place t stack below
   place_kept b place t stack below r =
-      let same = keeps.shape place.root r.seen in
-      let at : address h place ≡ address x place = omega (arith, keeps.base place.root r.seen, ap (λ (t : Shape). offset t place.path) same) in
+      let alive = place_lives h place t r.living r.there in
+      let same = keeps.shape place.root r.seen alive in
+      let at : address h place ≡ address x place = omega (arith, keeps.base place.root r.seen alive, ap (λ (t : Shape). offset t place.path) same) in
       record {
         seen = r.seen;
         living = ap (λ (t : Shape). part_at t place.path) same ∙ r.living;
@@ -69,10 +84,17 @@ module _ (ctx : Setting) (x : Home) (low top : ℕ) (keeps : Keeps ctx.home x (f
         at = subst (λ (a : ℕ). Reaches ctx.stack.frame.own.base b a stack below) at r.at;
       }
 
-  set_kept : (u : Scalar) (stack below : List ℕ) → HasSet ctx u stack below → HasSet (at_home ctx x) u stack below
-  set_kept u stack below r = record { fits = r.fits; is = r.is ∙ ap (λ (w : ℕ). w ∷ below) (word_same h x keeps.reference u) }
+  -- the word of a value, and what it refers to
+  word : (k : Kind) (v : Scalar) → within k v ≡ true → Refers h k v → word_for h v ≡ word_for x v
+  word = word_kept h x (λ o e. keeps.base (Object o) refl e) (λ o e. keeps.shape (Object o) refl e) keeps.targets
 
-  datum_kept : (d : Datum) (stack below : List ℕ) → DatumOn ctx d stack below → DatumOn (at_home ctx x) d stack below
+  refers : (k : Kind) (v : Scalar) → Refers h k v → Refers x k v
+  refers = refers_kept h x (λ o e. keeps.base (Object o) refl e) (λ o e. keeps.shape (Object o) refl e) keeps.targets
+
+  set_kept : (u : Scalar) (stack below : List ℕ) → HasSet ctx u stack below → HasSet (moved ctx x n) u stack below
+  set_kept u stack below r = record { fits = r.fits; is = r.is ∙ ap (λ (w : ℕ). w ∷ below) (word OfSet u r.fits tt) }
+
+  datum_kept : (d : Datum) (stack below : List ℕ) → DatumOn ctx d stack below → DatumOn (moved ctx x n) d stack below
   datum_kept (Scalars v) stack below r = r
   datum_kept (Opens place high) stack below r =
       let has = place_kept OnTop place (Row (suc high) (Word OfCharacter)) (address h place ∷ below) below r.has in
@@ -81,13 +103,16 @@ module _ (ctx : Setting) (x : Home) (low top : ℕ) (keeps : Keeps ctx.home x (f
   datum_kept (Places place) stack below r = absurd r
   datum_kept (Wholes u) stack below r = absurd r
 
-  data_kept : (ds : List Datum) (stack below : List ℕ) → DataOn ctx ds stack below → DataOn (at_home ctx x) ds stack below
+  data_kept : (ds : List Datum) (stack below : List ℕ) → DataOn ctx ds stack below → DataOn (moved ctx x n) ds stack below
   data_kept [] stack below r = r
   data_kept (d ∷ ds) stack below r = (r.0, datum_kept d r.0 below r.1, data_kept ds stack r.0 r.2)
 
-  met : (t : Mode) (i : Item) (p : ℕ) (stack : List ℕ) (a : Around) → (r : (needs ctx t i p stack a).Here) → IsMet (needs ctx t i p stack a) (needs (at_home ctx x) t i p stack a) r
+  met : (t : Mode) (i : Item) (p : ℕ) (stack : List ℕ) (a : Around) → (r : (needs ctx t i p stack a).Here) → IsMet (needs ctx t i p stack a) (needs (moved ctx x n) t i p stack a) r
   met Quiet (Value (Scalars v)) p stack a r =
-      record { part = record { kind = r.kind; fits = r.fits; below = r.below; is = r.is ∙ ap (λ (w : ℕ). w ∷ r.below) (word_same h x keeps.reference v) }; onto = refl }
+      record {
+        part = record { kind = r.kind; fits = r.fits; refers = refers r.kind v r.refers; below = r.below; is = r.is ∙ ap (λ (w : ℕ). w ∷ r.below) (word r.kind v r.fits r.refers) };
+        onto = refl;
+      }
   met Quiet (Value (Places place)) p stack a r =
       record { part = record { access = r.access; shape = r.shape; below = r.below; has = place_kept r.access place r.shape stack r.below r.has }; onto = refl }
   met (ValueOf j) (Fill (IndexAt place k)) p stack a r =
@@ -163,7 +188,7 @@ module _ (ctx : Setting) (x : Home) (low top : ℕ) (keeps : Keeps ctx.home x (f
           takes = r.takes;
           low_fits = r.low_fits;
           under = r.under;
-          is = r.is ∙ ap (λ (w : ℕ). w ∷ r.under) (word_same h x keeps.reference v);
+          is = r.is ∙ ap (λ (w : ℕ). w ∷ r.under) (word k v r.low_fits (plain_refers h k v (takes_plain k j r.takes).0));
           below = r.below;
           set = set_kept u r.under r.below r.set;
           after = r.after;
@@ -175,13 +200,13 @@ module _ (ctx : Setting) (x : Home) (low top : ℕ) (keeps : Keeps ctx.home x (f
       }
   met (ValueOf j) (Fill (RightOf o k u)) p stack a r =
       record {
-        part = record { same = r.same; takes = r.takes; fits = r.fits; below = r.below; is = r.is ∙ ap (λ (w : ℕ). w ∷ r.below) (word_same h x keeps.reference u); end = r.end; by = r.by };
+        part = record { same = r.same; takes = r.takes; fits = r.fits; refers = refers k u r.refers; below = r.below; is = r.is ∙ ap (λ (w : ℕ). w ∷ r.below) (word k u r.fits r.refers); end = r.end; by = r.by };
         onto = refl;
       }
   met (ValueOf j) (Fill (StoreAt place k)) p stack a r =
       record {
         part = record {
-          takes = r.takes;
+          stores = r.stores;
           access = r.access;
           ready = r.ready;
           has = place_kept r.access place (Word k) stack [] r.has;
@@ -198,6 +223,7 @@ module _ (ctx : Setting) (x : Home) (low top : ℕ) (keeps : Keeps ctx.home x (f
         part = record {
           same = r.same;
           base = r.base;
+          plain = r.plain;
           access = r.access;
           ready = r.ready;
           once = r.once;
@@ -209,14 +235,14 @@ module _ (ctx : Setting) (x : Home) (low top : ℕ) (keeps : Keeps ctx.home x (f
         };
         onto = refl;
       }
-  met (ValueOf j) (Fill (LimitOf n k v step body)) p stack a r =
+  met (ValueOf j) (Fill (LimitOf i k v step body)) p stack a r =
       record {
         part = record {
           same = r.same;
           from = r.from;
           takes = r.takes;
           fits = r.fits;
-          stack_is = r.stack_is ∙ ap (λ (w : ℕ). w ∷ []) (word_same h x keeps.reference v);
+          stack_is = r.stack_is ∙ ap (λ (w : ℕ). w ∷ []) (word r.from v r.fits (plain_refers h r.from v (takes_plain k r.from r.takes).1));
           end = r.end;
           turns = r.turns;
           within = r.within;
@@ -250,25 +276,25 @@ keeps_around ctx before x shape n low top less is le keeps =
       shadow = λ a from below. inner.shadow a from (omega (arith, le, below));
       base = λ r e. inner.base r (same r ∙ e);
       shape = λ r e. inner.shape r (same r ∙ e);
-      reference = inner.reference;
+      targets = inner.targets;
     }
 
 -- what the rows of items give in another home
-abbrev pub Stays : List Item → Setting → Home → ℕ → Type 0
-Stays k ctx x low =
+abbrev pub Stays : List Item → Setting → Home → (limit low : ℕ) → Type 0
+Stays k ctx x n low =
     (t : Mode) (p : ℕ) (stack : List ℕ) (c : ℕ) (a : Around) → Keeps ctx.home x (frames_of ctx.stack) low (ctx.stack.frame.at + loop_place a.taken)
-    → Rows ctx k t p stack c a → Rows (at_home ctx x) k t p stack c a
+    → Rows ctx k t p stack c a → Rows (moved ctx x n) k t p stack c a
 
-abbrev pub Again : List Item → Setting → Home → ℕ → Type 0
-Again k ctx x low = EachAbove low (frames_of ctx.stack) → Stays k ctx x low
+abbrev pub Again : List Item → Setting → Home → (limit low : ℕ) → Type 0
+Again k ctx x n low = EachAbove low (frames_of ctx.stack) → Stays k ctx x n low
 
-behind_kept : (k : List Item) (rows : (ctx : Setting) (x : Home) (low : ℕ) → Again k ctx x low) (ctx : Setting) (x : Home) (low c : ℕ) → EachAbove low (frames_of ctx.stack)
+behind_kept : (k : List Item) (rows : (ctx : Setting) (x : Home) (n low : ℕ) → Again k ctx x n low) (ctx : Setting) (x : Home) (n low c : ℕ) → EachAbove low (frames_of ctx.stack)
     → Keeps ctx.home x (frames_of ctx.stack) low (ctx.stack.frame.at + 4) → Behind ctx k (RowsOf k) c ctx.stack.callers ctx.stack.bodies
-    → Behind (at_home ctx x) k (RowsOf k) c ctx.stack.callers ctx.stack.bodies
-behind_kept k rows ctx x low c above keeps r = by ctx.stack.callers ctx.stack.bodies above keeps r
+    → Behind (moved ctx x n) k (RowsOf k) c ctx.stack.callers ctx.stack.bodies
+behind_kept k rows ctx x n low c above keeps r = by ctx.stack.callers ctx.stack.bodies above keeps r
   where
     by : (gs bs : List Frame) → EachAbove low (ctx.stack.frame ∷ (gs ++ bs)) → Keeps ctx.home x (ctx.stack.frame ∷ (gs ++ bs)) low (ctx.stack.frame.at + 4) → Behind ctx k (RowsOf k) c gs bs
-        → Behind (at_home ctx x) k (RowsOf k) c gs bs
+        → Behind (moved ctx x n) k (RowsOf k) c gs bs
     by (g ∷ gs) bs above keeps r =
         let from : low ≤ ctx.stack.frame.at + 1 = omega (arith, r.under, above.1.0) in
         record {
@@ -277,7 +303,7 @@ behind_kept k rows ctx x low c above keeps r = by ctx.stack.callers ctx.stack.bo
           frame = keeps.shadow (ctx.stack.frame.at + 1) from (omega arith) ∙ r.frame;
           place = keeps.shadow (ctx.stack.frame.at + 2) (omega (arith, from)) (omega arith) ∙ r.place;
           module' = keeps.shadow (ctx.stack.frame.at + 3) (omega (arith, from)) (omega arith) ∙ r.module';
-          then = rows (with_frames ctx g gs bs) x low above.1 Quiet ctx.stack.frame.back [] c r.outer
+          then = rows (with_frames ctx g gs bs) x n low above.1 Quiet ctx.stack.frame.back [] c r.outer
               (keeps_under ctx.home x ctx.stack.frame (g ∷ (gs ++ bs)) low (ctx.stack.frame.at + 4) (g.at + loop_place r.outer.taken) (omega (arith, r.under)) keeps) r.then;
         }
     by [] (b ∷ bs) above keeps r =
@@ -285,15 +311,15 @@ behind_kept k rows ctx x low c above keeps r = by ctx.stack.callers ctx.stack.bo
           low = r.low;
           start = r.start;
           enter = r.enter;
-          then = rows (with_frames ctx b [] bs) x low above.1 Quiet r.start [] c outside
+          then = rows (with_frames ctx b [] bs) x n low above.1 Quiet r.start [] c outside
               (keeps_under ctx.home x ctx.stack.frame (b ∷ bs) low (ctx.stack.frame.at + 4) (b.at + 4) (omega (arith, r.low)) keeps) r.then;
         }
     by [] [] above keeps r = r
 
 -- THE law of what is left to do
-pub rows_kept : (k : List Item) (ctx : Setting) (x : Home) (low : ℕ) → Again k ctx x low
-rows_kept [] ctx x low above t p stack c a keeps r = absurd r
-rows_kept (Perform (Looping body) ∷ k) ctx x low above t p stack c a keeps r =
+pub rows_kept : (k : List Item) (ctx : Setting) (x : Home) (n low : ℕ) → Again k ctx x n low
+rows_kept [] ctx x n low above t p stack c a keeps r = absurd r
+rows_kept (Perform (Looping body) ∷ k) ctx x n low above t p stack c a keeps r =
     let w = r.there in
     record {
       start = r.start;
@@ -310,20 +336,20 @@ rows_kept (Perform (Looping body) ∷ k) ctx x low above t p stack c a keeps r =
         back = w.back;
         again = w.again;
         within = w.within;
-        then = rows_kept k ctx x low above Quiet w.end [] r.later w.outer
+        then = rows_kept k ctx x n low above Quiet w.end [] r.later w.outer
             (keeps_lower ctx.home x (frames_of ctx.stack) low (ctx.stack.frame.at + loop_place a.taken) (ctx.stack.frame.at + loop_place w.outer.taken) (omega (arith, ap (λ (o : Around). o.taken) w.is)) keeps)
             w.then;
       };
       count = r.count;
     }
-rows_kept (Perform (Turns n kind z step left body) ∷ k) ctx x low above t p stack c a keeps r =
-    record { start = r.start; jumps = r.jumps; later = r.later; way = r.way; there = by (rows_kept k ctx x low above) r.there; count = r.count }
+rows_kept (Perform (Turns v kind z step left body) ∷ k) ctx x n low above t p stack c a keeps r =
+    record { start = r.start; jumps = r.jumps; later = r.later; way = r.way; there = by (rows_kept k ctx x n low above) r.there; count = r.count }
   where
     at : ℕ
     at = ctx.stack.frame.at
 
-    by : Stays k ctx x low → TurnsTask ctx n kind z step left body (Rows ctx k) t r.start stack r.later a
-        → TurnsTask (at_home ctx x) n kind z step left body (Rows (at_home ctx x) k) t r.start stack r.later a
+    by : Stays k ctx x n low → TurnsTask ctx v kind z step left body (Rows ctx k) t r.start stack r.later a
+        → TurnsTask (moved ctx x n) v kind z step left body (Rows (moved ctx x n) k) t r.start stack r.later a
     by rest (inl w) = inl (record {
       quiet = w.quiet;
       from = w.from;
@@ -365,11 +391,12 @@ rows_kept (Perform (Turns n kind z step left body) ∷ k) ctx x low above t p st
               (keeps_lower ctx.home x (frames_of ctx.stack) low (ctx.stack.frame.at + loop_place a.taken) (ctx.stack.frame.at + loop_place w.outer.taken) (omega (arith, inner)) keeps)
               w.then;
         })
-rows_kept (Perform (Holding place) ∷ k) ctx x low above t p stack c a keeps r =
+rows_kept (Perform (Holding place) ∷ k) ctx x n low above t p stack c a keeps r =
     let w = r.there in
     let inner : a.taken ≡ suc w.outer.taken = ap (λ (o : Around). o.taken) w.around in
-    let same = keeps.shape place.root w.seen in
-    let at : address ctx.home place ≡ address x place = omega (arith, keeps.base place.root w.seen, ap (λ (t : Shape). offset t place.path) same) in
+    let alive = place_lives ctx.home place w.shape w.living w.there in
+    let same = keeps.shape place.root w.seen alive in
+    let at : address ctx.home place ≡ address x place = omega (arith, keeps.base place.root w.seen alive, ap (λ (t : Shape). offset t place.path) same) in
     let outer : EachAbove low (frames_of w.before.stack) = subst (λ (c : Setting). EachAbove low (frames_of c.stack)) w.is above in
     let frame : ctx.stack.frame.at ≡ w.before.stack.frame.at = ap (λ (c : Setting). c.stack.frame.at) w.is in
     record {
@@ -382,22 +409,22 @@ rows_kept (Perform (Holding place) ∷ k) ctx x low above t p stack c a keeps r 
         empty = w.empty;
         outer = w.outer;
         around = w.around;
-        before = at_home w.before x;
+        before = moved w.before x n;
         shape = w.shape;
-        is = ap (λ (c : Setting). at_home c x) w.is;
+        is = ap (λ (c : Setting). moved c x n) w.is;
         room = w.room;
         seen = w.seen;
         living = ap (λ (t : Shape). part_at t place.path) same ∙ w.living;
         there = w.there;
         word = keeps.shadow (ctx.stack.frame.at + loop_place w.outer.taken) (omega (arith, above.0)) (omega (arith, inner)) ∙ w.word ∙ at;
-        then = rows_kept k w.before x low outer Quiet r.start [] r.later w.outer
+        then = rows_kept k w.before x n low outer Quiet r.start [] r.later w.outer
             (keeps_around ctx w.before x w.shape (loop_place w.outer.taken) low (ctx.stack.frame.at + loop_place a.taken) (w.before.stack.frame.at + loop_place w.outer.taken) w.is
             (omega (arith, inner, frame)) keeps)
             w.then;
       };
       count = r.count;
     }
-rows_kept (Perform (End n) ∷ k) ctx x low above t p stack c a keeps r =
+rows_kept (Perform (End e) ∷ k) ctx x n low above t p stack c a keeps r =
     let w = r.there in
     record {
       start = r.start;
@@ -412,13 +439,13 @@ rows_kept (Perform (End n) ∷ k) ctx x low above t p stack c a keeps r =
         free = w.free;
         end = w.end;
         leave = w.leave;
-        behind = behind_kept k (λ y z l. rows_kept k y z l) ctx x low r.later above
+        behind = behind_kept k (λ y z i l. rows_kept k y z i l) ctx x n low r.later above
             (keeps_lower ctx.home x (frames_of ctx.stack) low (ctx.stack.frame.at + loop_place a.taken) (ctx.stack.frame.at + 4) (omega arith) keeps) w.behind;
       };
       count = r.count;
     }
-rows_kept (i ∷ k) ctx x low above t p stack c a keeps r =
-    let m = met ctx x low (ctx.stack.frame.at + loop_place a.taken) keeps t i r.start stack a r.there.part in
+rows_kept (i ∷ k) ctx x n low above t p stack c a keeps r =
+    let m = met ctx x n low (ctx.stack.frame.at + loop_place a.taken) keeps t i r.start stack a r.there.part in
     record {
       start = r.start;
       jumps = r.jumps;
@@ -426,8 +453,8 @@ rows_kept (i ∷ k) ctx x low above t p stack c a keeps r =
       way = r.way;
       there = record {
         part = m.part;
-        then = subst (λ (o : Onward). Rows (at_home ctx x) k o.mode o.place o.stack r.later a) m.onto
-            (rows_kept k ctx x low above _ _ _ r.later a keeps r.there.then);
+        then = subst (λ (o : Onward). Rows (moved ctx x n) k o.mode o.place o.stack r.later a) m.onto
+            (rows_kept k ctx x n low above _ _ _ r.later a keeps r.there.then);
       };
       count = r.count;
     }
@@ -447,7 +474,7 @@ stands_above owner base top f (g ∷ gs) bs s above =
 -- frames stand as long as their words are the machine's own
 words_kept : (owner new : ℕ → Owner) (base top : ℕ) (f : Frame) → base ≤ f.at → ((a : ℕ) → base ≤ a → a < top → new a ≡ owner a) → OwnWords owner f top → OwnWords new f top
 words_kept owner new base top f low same w =
-    record { mark = w.mark; below = w.below; own = λ i l. same (f.at + i) (omega (arith, low)) l ∙ w.own i l }
+    record { mark = w.mark; below = w.below; most = w.most; own = λ i l. same (f.at + i) (omega (arith, low)) l ∙ w.own i l }
 
 pub stands_kept : (owner new : ℕ → Owner) (base top : ℕ) (f : Frame) (gs : List Frame) → ((a : ℕ) → base ≤ a → a < top → new a ≡ owner a) → Stands owner base top f gs → Stands new base top f gs
 stands_kept owner new base top f [] same s = (words_kept owner new base top f (omega (arith, s.1)) same s.0, s.1)
@@ -517,15 +544,16 @@ module _ (ctx : Setting) (s : Source) (m : State) (shared : Shared ctx s m) (i w
         mem = mem_shadowed h s.cells m.store at w own_word (omega (arith, own_inside.1, g.high)) shared.mem;
         loaded_are = shared.loaded_are;
         levels = shared.levels;
+        heap = shared.heap;
         program = record { table_is = shared.program.table_is; known = shared.program.known; running_is = shared.program.running_is; marked_is = shared.program.marked_is };
         standing = record {
           frame_is = g.frame_is;
           base_is = g.base_is;
           limit_is = g.limit_is;
           bodies_are = g.bodies_are;
-          known = known_kept ctx.library ctx.loaded ctx.table ctx.activations h (shadowed h at w) (λ r. refl) (λ r. refl) fixed_kept st.frame g.known;
-          callers = each_known ctx.library ctx.loaded ctx.table ctx.activations h (shadowed h at w) (λ r. refl) (λ r. refl) fixed_kept st.callers g.callers;
-          comes = each_comes ctx.library ctx.loaded ctx.table ctx.activations h (shadowed h at w) (λ r. refl) (λ r. refl) fixed_kept st.base st.bodies g.comes;
+          known = known_kept ctx.library ctx.loaded ctx.table ctx.activations h (shadowed h at w) (λ r e. refl) (λ r e. refl) refl fixed_kept st.frame g.known;
+          callers = each_known ctx.library ctx.loaded ctx.table ctx.activations h (shadowed h at w) (λ r e. refl) (λ r e. refl) refl fixed_kept st.callers g.callers;
+          comes = each_comes ctx.library ctx.loaded ctx.table ctx.activations h (shadowed h at w) (λ r e. refl) (λ r e. refl) refl fixed_kept st.base st.bodies g.comes;
           stands = g.stands;
           room = g.room;
           low = g.low;
@@ -540,9 +568,9 @@ module _ (ctx : Setting) (s : Source) (m : State) (shared : Shared ctx s m) (i w
   touches_shadowed = record {
     owner = λ a o. refl;
     shadow = λ a o. other_word a (λ e. ⊎_elim (λ (l : a < st.base). omega (arith, own_inside.0, e, l)) (λ (g : st.limit ≤ a). omega (arith, own_inside.1, e, g)) o);
-    base = λ r. refl;
-    shape = λ r. refl;
-    reference = λ o. refl;
+    base = λ r e. refl;
+    shape = λ r e. refl;
+    targets = refl;
     fixed = fixed_kept;
   }
 
@@ -550,11 +578,11 @@ module _ (ctx : Setting) (s : Source) (m : State) (shared : Shared ctx s m) (i w
   pub rows_shadowed : (k : List Item) (t : Mode) (p : ℕ) (stack : List ℕ) (c : ℕ) (a : Around) → loop_place a.taken ≤ i → Rows ctx k t p stack c a
       → Rows (at_home ctx (shadowed ctx.home (ctx.stack.frame.at + i) w)) k t p stack c a
   rows_shadowed k t p stack c a below r =
-      rows_kept k ctx (shadowed h at w) (st.base + 4) (stack_above ctx (stack_of m) shared.standing).1 t p stack c a
+      rows_kept k ctx (shadowed h at w) st.limit (st.base + 4) (stack_above ctx (stack_of m) shared.standing).1 t p stack c a
       (record {
         shadow = λ b from under. other_word b (λ e. omega (arith, e, under, below));
-        base = λ q e. refl;
-        shape = λ q e. refl;
-        reference = λ o. refl;
+        base = λ q e f. refl;
+        shape = λ q e f. refl;
+        targets = refl;
       })
       r

@@ -1,14 +1,15 @@
 -- What is known of frames stays where homes agree on what it speaks of.
-use Rattle.std.proofs.Common.{◌≡◌, ℕ, ◌+◌, List, [], ◌∷◌, ◌∙◌}
+use Rattle.std.proofs.Common.{◌≡◌, ℕ, ◌+◌, true, List, [], ◌∷◌, refl, sym, ◌∙◌}
 use Rattle.lil_resolved.specs.Resolved.{Resolved}
 use Rattle.lil_meaning.specs.Cells.{Root, Global}
 use Rattle.lil_meaning.specs.Items.{Activation}
 use Rattle.lil_mcode.specs.State.{Module}
-use Rattle.lil_match.specs.Homes.{Fixed, Home}
+use Rattle.lil_match.specs.Homes.{Fixed, Home, lives}
 use Rattle.lil_match.specs.Waits.{Frame}
 use Rattle.lil_match.specs.Goes.{IsKnown, EachKnown, EachComes}
 
-module _ (library : List Resolved) (loaded : List ℕ) (table : List Module) (activations : List Activation) (h x : Home) (base : (r : Root) → x.base r ≡ h.base r) (shape : (r : Root) → x.shape r ≡ h.shape r)
+module _ (library : List Resolved) (loaded : List ℕ) (table : List Module) (activations : List Activation) (h x : Home) (base : (r : Root) → lives h r ≡ true → x.base r ≡ h.base r) (shape : (r : Root) → lives h r ≡ true → x.shape r ≡ h.shape r)
+    (targets : x.targets ≡ h.targets)
     (fixed : (a : ℕ) → h.owner a ≡ Fixed → (x.owner a ≡ Fixed) × (x.shadow a ≡ h.shadow a)) where
   pub known_kept : (f : Frame) → IsKnown library loaded table activations h f → IsKnown library loaded table activations x f
   known_kept f g = record {
@@ -17,9 +18,11 @@ module _ (library : List Resolved) (loaded : List ℕ) (table : List Module) (ac
     owner = g.owner;
     called = g.called;
     entered = g.entered;
-    variables = λ n o k offset kind. let v = g.variables n o k offset kind in (shape (Global f.number n) ∙ v.0, base (Global f.number n) ∙ v.1);
+    variables = λ n o k offset kind. let v = g.variables n o k offset kind in (shape (Global f.number n) refl ∙ v.0, base (Global f.number n) refl ∙ v.1);
     strings = λ i less. let s = g.strings i less in let y = fixed (f.own.base + (f.layout.words + i)) s.0 in (y.0, y.1 ∙ s.1);
     inside = g.inside;
+    targets = g.targets ∙ sym targets;
+    own_targets = g.own_targets ∙ sym targets;
   }
 
   pub each_known : (fs : List Frame) → EachKnown library loaded table activations h fs → EachKnown library loaded table activations x fs

@@ -1,12 +1,17 @@
 -- What is around the running frame's WITHs: the same but for the records that its layout holds.
-use Rattle.std.proofs.Common.{◌≡◌, ℕ, ◌+◌, ◌<◌, List, [], ◌∷◌, length, get_or, refl, sym, ap, ◌∙◌, subst, arith}
-use Rattle.std.specs.Prelude.{slice_get}
+use Rattle.std.proofs.Common.{◌≡◌, ℕ, ◌+◌, ◌-◌, ◌<◌, false, inl, inr, ⊎_elim, List, [], ◌∷◌, length, get_or, refl, sym, ap, ◌∙◌, subst, arith}
+use Rattle.std.specs.Prelude.{slice_get, nat_le, ◌&&◌}
+use Rattle.lil_base.specs.declared.fault.LimitKind.{LimitKind}
+use Rattle.lil_base.specs.declared.fault.LimitKind.TheVariants as limit
 use Rattle.lil_resolved.specs.Shapes.{Shape}
-use Rattle.lil_meaning.specs.Items.{Item, Source}
+use Rattle.lil_meaning.specs.Cells.{heap_words}
+use Rattle.lil_meaning.specs.Items.{Item, Going, Source}
+use Rattle.lil_meaning.specs.Steps.{next}
 use Rattle.lil_mcode.specs.State.{State, StackRegisters, stack_of}
 use Rattle.lil_table.specs.Rows.{Layout, holding}
+use Rattle.lil_match.specs.Running.{Run}
 use Rattle.lil_match.specs.Homes.{Owner, Fixed, Home}
-use Rattle.lil_match.specs.Goes.{OwnWords, Stands, IsKnown, Standing, Shared, Goes}
+use Rattle.lil_match.specs.Goes.{OwnWords, Stands, fits, IsKnown, Standing, Shared, Short, IsFull, Goes}
 use Rattle.lil_match.specs.Waits.{Frame, Setting, inside_with}
 
 -- the running frame with another layout
@@ -16,16 +21,17 @@ with_layout ctx l = record ctx { stack = record (ctx.stack) { frame = record (ct
 -- layouts that differ in the records of WITHs alone
 pub record IsAlike (l m : Layout) : Type 0 where
   pub offsets : m.offsets ≡ l.offsets
+  pub targets : m.scope.targets ≡ l.scope.targets
   pub variables : m.scope.variables ≡ l.scope.variables
   pub words : m.words ≡ l.words
   pub strings : m.strings ≡ l.strings
   pub frame : m.frame ≡ l.frame
 
 pub alike_back : (l m : Layout) → IsAlike l m → IsAlike m l
-alike_back l m a = record { offsets = sym a.offsets; variables = sym a.variables; words = sym a.words; strings = sym a.strings; frame = sym a.frame }
+alike_back l m a = record { offsets = sym a.offsets; targets = sym a.targets; variables = sym a.variables; words = sym a.words; strings = sym a.strings; frame = sym a.frame }
 
 pub alike_holding : (l : Layout) (t : Shape) (n : ℕ) → IsAlike l (holding l t n)
-alike_holding l t n = record { offsets = refl; variables = refl; words = refl; strings = refl; frame = refl }
+alike_holding l t n = record { offsets = refl; targets = refl; variables = refl; words = refl; strings = refl; frame = refl }
 
 module _ (ctx : Setting) (m : Layout) (alike : IsAlike ctx.stack.frame.layout m) where
   abbrev f : Frame
@@ -49,10 +55,12 @@ module _ (ctx : Setting) (m : Layout) (alike : IsAlike ctx.stack.frame.layout m)
           ap ctx.home.shadow (sym at) ∙ old.1 ∙ ap (λ (ws : List ℕ). get_or ws i 0) (sym alike.strings),
         );
     inside = omega (arith, k.inside, alike.words, ap length alike.strings);
+    targets = alike.targets ∙ k.targets;
+    own_targets = k.own_targets;
   }
 
   words_laid : (top : ℕ) → OwnWords ctx.home.owner ctx.stack.frame top → OwnWords ctx.home.owner (record (ctx.stack.frame) { layout = m }) top
-  words_laid top w = record { mark = omega (arith, w.mark, alike.frame); below = omega (arith, w.below, alike.frame); own = w.own }
+  words_laid top w = record { mark = omega (arith, w.mark, alike.frame); below = omega (arith, w.below, alike.frame); most = omega (arith, w.most, alike.frame); own = w.own }
 
   stands_laid : (base top : ℕ) (gs : List Frame) → Stands ctx.home.owner base top ctx.stack.frame gs → Stands ctx.home.owner base top (record (ctx.stack.frame) { layout = m }) gs
   stands_laid base top [] s = (words_laid top s.0, s.1)
@@ -77,6 +85,7 @@ module _ (ctx : Setting) (m : Layout) (alike : IsAlike ctx.stack.frame.layout m)
   pub shared_laid : (s : Source) (x : State) → Shared ctx s x → Shared (with_layout ctx m) s x
   shared_laid s x shared = record {
     mem = shared.mem;
+    heap = shared.heap;
     program = record { table_is = shared.program.table_is; known = shared.program.known; running_is = shared.program.running_is; marked_is = shared.program.marked_is };
     standing = standing_laid (stack_of x) shared.standing;
     loaded_are = shared.loaded_are;
@@ -86,6 +95,18 @@ module _ (ctx : Setting) (m : Layout) (alike : IsAlike ctx.stack.frame.layout m)
     levels = shared.levels;
   }
 
+  -- the frame is as long
+  frame_laid : (n : ℕ) (bs : List Frame) → fits n (ctx.stack.frame ∷ bs) ≡ false → fits n (record (ctx.stack.frame) { layout = m } ∷ bs) ≡ false
+  frame_laid n bs e = ap (λ (w : ℕ). nat_le (ctx.stack.frame.at + w) n && fits n bs) alike.frame ∙ e
+
+  full_laid : (s t : Source) (run : Run) → IsFull ctx.stack s t run → IsFull (with_layout ctx m).stack s t run
+  full_laid s t run f = record { kind = f.kind; finish = f.finish; world = f.world; short = by f.kind f.short }
+    where
+      by : (kind : LimitKind) → Short ctx.stack s t kind → Short (with_layout ctx m).stack s t kind
+      by limit.Stack e = e
+      by limit.Store e = frame_laid (65518 - heap_words t.objects) ctx.stack.bodies e
+      by _ e = e
+
   -- a step from one is a step from the other
   pub goes_laid : (s : Source) (k : List Item) (x : State) (budget : ℕ) → Goes ctx s k x budget → Goes (with_layout ctx m) s k x budget
   goes_laid s k x budget y = record {
@@ -94,10 +115,10 @@ module _ (ctx : Setting) (m : Layout) (alike : IsAlike ctx.stack.frame.layout m)
     home = y.home;
     stack = y.stack;
     quiet = y.quiet;
-    lands = y.lands;
+    lands = ⊎_elim (λ l. inl l) (λ f. inr (full_laid (record s { items = k; phase = Going }) (next ctx.library (record s { items = k; phase = Going })) _ f)) y.lands;
     touch = y.touch;
     same = y.same;
-    fewer = y.fewer;
+    fewer = record { bodies = y.fewer.bodies; all = λ n e. frame_laid n ctx.stack.bodies (y.fewer.all n e) };
     cost = y.cost;
     falls = y.falls;
   }
@@ -109,13 +130,13 @@ pub record IsAround (before ctx : Setting) : Type 0 where
   pub alike : IsAlike before.stack.frame.layout layout
 
 pub around_self : (ctx : Setting) → IsAround ctx ctx
-around_self ctx = record { layout = ctx.stack.frame.layout; is = refl; alike = record { offsets = refl; variables = refl; words = refl; strings = refl; frame = refl } }
+around_self ctx = record { layout = ctx.stack.frame.layout; is = refl; alike = record { offsets = refl; targets = refl; variables = refl; words = refl; strings = refl; frame = refl } }
 
 pub around_more : (before mid ctx : Setting) (t : Shape) (n : ℕ) → ctx ≡ inside_with mid t n → IsAround before mid → IsAround before ctx
 around_more before mid ctx t n is a = record {
   layout = holding a.layout t n;
   is = is ∙ ap (λ (c : Setting). inside_with c t n) a.is;
-  alike = record { offsets = a.alike.offsets; variables = a.alike.variables; words = a.alike.words; strings = a.alike.strings; frame = a.alike.frame };
+  alike = record { offsets = a.alike.offsets; targets = a.alike.targets; variables = a.alike.variables; words = a.alike.words; strings = a.alike.strings; frame = a.alike.frame };
 }
 
 pub shared_around : (before ctx : Setting) → IsAround before ctx → (s : Source) (x : State) → Shared ctx s x → Shared before s x

@@ -80,7 +80,7 @@ instrs_within code (i ∷ is) p q some h = instr_within code p i h.0 h.1
 
 -- and that where an argument begins, and where arguments do, where what follows them does
 pub argument_within : (l : Layout) (code : List ℕ) (n : ℕ) (a : Argument) (p q : ℕ) → ArgumentAt l code n a p q → p < length code
-argument_within l code n (ByValue k e) p q h = expression_within l code e p h.middle h.value.value
+argument_within l code n (ByValue k e) p q h = expression_within l code e p h.1.middle h.1.value.value
 argument_within l code n (OfArray d high) p q h =
     let s = instr_order code h.start (Liw high) q h.by in
     omega (arith, place_long l code d p h.found h.here, instrs_long code (address_code (access_of l d)) h.found h.start h.address, s.0, s.1)

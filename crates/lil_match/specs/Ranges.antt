@@ -9,8 +9,8 @@ use Rattle.lil_base.specs.Laws.{in_range, bounds}
 use Rattle.lil_base.specs.Sets as sets
 use Rattle.lil_base.specs.SetLaws.{set_below}
 use Rattle.lil_resolved.specs.MemberLaws.{word_of_set}
-use Rattle.lil_resolved.specs.Kinds.{Kind, OfWhole, OfTruth, OfCharacter, OfEnumeration, OfSet, OfRange, base_of, is_base, is_ordinal, takes_value, compared_as, lesser, larger, least, greatest}
-use Rattle.lil_resolved.specs.Scalars.{Scalar, Number, Truth, Character, SetOf, within, scalar_of, ordinal_of, value_with}
+use Rattle.lil_resolved.specs.Kinds.{Kind, OfWhole, OfTruth, OfCharacter, OfEnumeration, OfSet, OfPointer, OfRange, base_of, is_base, is_ordinal, is_plain, same_pointer, takes_value, compared_as, lesser, larger, least, greatest}
+use Rattle.lil_resolved.specs.Scalars.{Scalar, Number, Truth, Character, SetOf, ToObject, Nothing, within, scalar_of, ordinal_of, value_with}
 
 -- a number is one of the kind's
 abbrev pub has : Kind → ℤ → Bool
@@ -87,6 +87,7 @@ value_where OfTruth z = refl
 value_where OfCharacter z = refl
 value_where (OfEnumeration n) z = refl
 value_where OfSet z = refl
+value_where (OfPointer n) z = refl
 value_where (OfRange base low high) z =
     by (between low z high) (value_where base z)
     ∙ ap (λ (b : Bool). cond b (Some (scalar_of base z)) None) (sym (has_range base low high z))
@@ -113,6 +114,9 @@ number_is OfCharacter (negsuc n) h = cc
 number_is (OfEnumeration n) z h = refl
 number_is OfSet (pos n) h = let b = bounds (pos 0) (pos n) (pos 65535) h in ap pos (word_of_set n (omega (arith, ints, b.1)))
 number_is OfSet (negsuc n) h = cc
+number_is (OfPointer n) (pos zero) h = refl
+number_is (OfPointer n) (pos (suc m)) h = let b = bounds (pos 0) (pos (suc m)) (pos 0) h in absurd (omega (arith, ints, b.1))
+number_is (OfPointer n) (negsuc m) h = cc
 number_is (OfRange base low high) z h = number_is base z (and_parts (between low z high) (has base z) (sym (has_range base low high z) ∙ h)).1
 
 -- and is one of the kind
@@ -123,6 +127,7 @@ value_fits OfCharacter (pos n) h = grind (arith, nat_tests)
 value_fits OfCharacter (negsuc n) h = cc
 value_fits (OfEnumeration n) z h = h
 value_fits OfSet z h = refl
+value_fits (OfPointer n) z h = refl
 value_fits (OfRange base low high) z h =
     let p = and_parts (between low z high) (has base z) (sym (has_range base low high z) ∙ h) in
     and_from (within base (scalar_of base z)) (between low (ordinal_of (scalar_of base z)) high)
@@ -137,6 +142,8 @@ fits_has OfTruth (Truth false) h = refl
 fits_has OfCharacter (Character c) h = let e = leb-true c 255 h in in_range (pos 0) (pos c) (pos 255) (omega (arith, ints)) (omega (arith, ints, e))
 fits_has (OfEnumeration n) (Number z) h = h
 fits_has OfSet (SetOf s) h = in_range (pos 0) (pos (sets.set_word s)) (pos 65535) (omega (arith, ints)) (omega (arith, ints, set_below s))
+fits_has (OfPointer n) (ToObject o) h = refl
+fits_has (OfPointer n) Nothing h = refl
 fits_has (OfRange base low high) v h =
     let p = and_parts (within base v) (between low (ordinal_of v) high) h in
     has_range base low high (ordinal_of v) ∙ and_from (between low (ordinal_of v) high) (has base (ordinal_of v)) p.1 (fits_has base v p.0)
@@ -145,11 +152,23 @@ fits_has k v h = cc
 -- kinds that compare by their numbers have words
 pub ordinal_base : (k : Kind) → is_ordinal k ≡ true → is_base k ≡ true
 ordinal_base OfSet h = cc
+ordinal_base (OfPointer n) h = cc
 ordinal_base (OfWhole t) h = refl
 ordinal_base OfTruth h = refl
 ordinal_base OfCharacter h = refl
 ordinal_base (OfEnumeration n) h = h
 ordinal_base (OfRange part low high) h = h
+
+-- and are no references
+pub ordinal_plain : (k : Kind) → is_ordinal k ≡ true → is_plain k ≡ true
+ordinal_plain (OfPointer n) h = cc
+ordinal_plain (OfRange part low high) h = cc
+ordinal_plain _ h = refl
+
+-- two kinds of pointers to objects of one type
+pub pointers_same : (k j : Kind) → same_pointer k j ≡ true → (n : ℕ) × (k ≡ OfPointer n) × (j ≡ OfPointer n)
+pointers_same (OfPointer m) (OfPointer n) e = (n, ap OfPointer (eqb-true m n e), refl)
+pointers_same k j e = cc
 
 -- its numbers are numbers of the type as which its words are compared
 pub has_type : (j : Kind) (z : ℤ) → is_base j ≡ true → has j z ≡ true → in_type (compared_as j) z ≡ true
@@ -161,6 +180,7 @@ has_type (OfEnumeration n) z base h =
     let e = leb-true n 65535 base in
     in_range (pos 0) z (pos 65535) b.0 (omega (arith, ints, b.1, e))
 has_type OfSet z base h = h
+has_type (OfPointer n) z base h = let b = bounds (pos 0) z (pos 0) h in in_range (pos 0) z (pos 65535) b.0 (omega (arith, ints, b.1))
 has_type (OfRange part low high) z base h = cc
 
 -- ---- a value of one kind where another is wanted
@@ -194,14 +214,15 @@ takes_base (OfEnumeration m) (OfEnumeration n) h = (and_parts (m == n) (nat_le n
 takes_base OfSet OfSet h = refl
 takes_base k j h = cc
 
--- a kind whose values are words is that of values of its base
-pub takes_own : (k : Kind) → is_base (base_of k) ≡ true → takes_value k (base_of k) ≡ true
-takes_own (OfRange base low high) h = takes_own base h
-takes_own (OfWhole t) h = refl
-takes_own OfTruth h = refl
-takes_own OfCharacter h = refl
-takes_own OfSet h = refl
-takes_own (OfEnumeration n) h = and_from (n == n) (nat_le n 65535) (eq-eqb n n refl) h
+-- a kind whose values are words, and no references, is that of values of its base
+pub takes_own : (k : Kind) → is_plain k ≡ true → is_base (base_of k) ≡ true → takes_value k (base_of k) ≡ true
+takes_own (OfRange base low high) plain h = takes_own base plain h
+takes_own (OfWhole t) plain h = refl
+takes_own OfTruth plain h = refl
+takes_own OfCharacter plain h = refl
+takes_own OfSet plain h = refl
+takes_own (OfPointer n) plain h = cc
+takes_own (OfEnumeration n) plain h = and_from (n == n) (nat_le n 65535) (eq-eqb n n refl) h
 
 -- so is the base of the kind where it is wanted
 pub takes_part : (k j : Kind) → takes_value k j ≡ true → is_base (base_of k) ≡ true

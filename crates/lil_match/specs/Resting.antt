@@ -29,7 +29,7 @@ EachRests ctx (p ∷ ps) (r ∷ rs) = Rests ctx p r × EachRests ctx ps rs
 EachRests ctx ps rs = ⊥
 
 -- THE law of what rests: a step of the running stack keeps the others
-pub rests_kept : (ctx : Setting) (x : Home) (y : Stack) → Touches ctx.home x ctx.stack.base ctx.stack.limit → (y.base ≡ ctx.stack.base) × (y.limit ≡ ctx.stack.limit) → (p : Parked) (r : Kept) → Rests ctx p r
+pub rests_kept : (ctx : Setting) (x : Home) (y : Stack) → Touches ctx.home x ctx.stack.base ctx.stack.limit → (y.base ≡ ctx.stack.base) × (y.limit ≤ ctx.stack.limit) → (p : Parked) (r : Kept) → Rests ctx p r
     → Rests (record ctx { home = x; stack = y }) p r
 rests_kept ctx x y touch same p r rests = record {
   stack = d;
@@ -38,9 +38,9 @@ rests_kept ctx x y touch same p r rests = record {
     base_is = g.base_is;
     limit_is = g.limit_is;
     bodies_are = g.bodies_are;
-    known = known_kept ctx.library ctx.loaded ctx.table ctx.activations ctx.home x touch.base touch.shape touch.fixed d.frame g.known;
-    callers = each_known ctx.library ctx.loaded ctx.table ctx.activations ctx.home x touch.base touch.shape touch.fixed d.callers g.callers;
-    comes = each_comes ctx.library ctx.loaded ctx.table ctx.activations ctx.home x touch.base touch.shape touch.fixed d.base d.bodies g.comes;
+    known = known_kept ctx.library ctx.loaded ctx.table ctx.activations ctx.home x touch.base touch.shape touch.targets touch.fixed d.frame g.known;
+    callers = each_known ctx.library ctx.loaded ctx.table ctx.activations ctx.home x touch.base touch.shape touch.targets touch.fixed d.callers g.callers;
+    comes = each_comes ctx.library ctx.loaded ctx.table ctx.activations ctx.home x touch.base touch.shape touch.targets touch.fixed d.base d.bodies g.comes;
     stands = stands_kept ctx.home.owner x.owner d.base r.stack.top d.frame d.callers (λ a from below. touch.owner a (far a from (omega (arith, below, g.low)))) g.stands;
     room = λ a from below. touch.owner a (far a (omega (arith, from, high.0, words.below)) below) ∙ g.room a from below;
     low = g.low;
@@ -48,12 +48,12 @@ rests_kept ctx x y touch same p r rests = record {
   };
   later = rests.later;
   around = rests.around;
-  rows = rows_kept p.items (on_stack ctx d) x (d.base + 4) high.1 Quiet r.place [] rests.later rests.around
+  rows = rows_kept p.items (on_stack ctx d) x d.limit (d.base + 4) high.1 Quiet r.place [] rests.later rests.around
       (record {
         shadow = λ a from below. touch.shadow a (far a (omega (arith, from)) (omega (arith, below, loops, words.below, g.low)));
         base = λ q e. touch.base q;
         shape = λ q e. touch.shape q;
-        reference = touch.reference;
+        targets = touch.targets;
       })
       rests.rows;
   apart = ⊎_elim (λ (l : d.limit ≤ ctx.stack.base). inl (omega (arith, l, same.0))) (λ (u : ctx.stack.limit ≤ d.base). inr (omega (arith, u, same.1))) rests.apart;
@@ -77,7 +77,7 @@ rests_kept ctx x y touch same p r rests = record {
     far : (a : ℕ) → rests.stack.base ≤ a → a < rests.stack.limit → (a < ctx.stack.base) ⊎ (ctx.stack.limit ≤ a)
     far a from below = ⊎_elim (λ (l : rests.stack.limit ≤ ctx.stack.base). inl (omega (arith, below, l))) (λ (u : ctx.stack.limit ≤ rests.stack.base). inr (omega (arith, from, u))) rests.apart
 
-pub each_rests : (ctx : Setting) (x : Home) (y : Stack) → Touches ctx.home x ctx.stack.base ctx.stack.limit → (y.base ≡ ctx.stack.base) × (y.limit ≡ ctx.stack.limit) → (ps : List Parked) (rs : List Kept)
+pub each_rests : (ctx : Setting) (x : Home) (y : Stack) → Touches ctx.home x ctx.stack.base ctx.stack.limit → (y.base ≡ ctx.stack.base) × (y.limit ≤ ctx.stack.limit) → (ps : List Parked) (rs : List Kept)
     → EachRests ctx ps rs → EachRests (record ctx { home = x; stack = y }) ps rs
 each_rests ctx x y touch same [] [] e = tt
 each_rests ctx x y touch same (p ∷ ps) (r ∷ rs) e = (rests_kept ctx x y touch same p r e.0, each_rests ctx x y touch same ps rs e.1)

@@ -1,11 +1,12 @@
 -- One step of the source from steps of the machine.
-use Rattle.std.proofs.Common.{◌≡◌, ℕ, zero, suc, ◌+◌, ◌<◌, ◌≤◌, List, [], ◌∷◌, length, inl, inr, ⊎_elim, false, refl, sym, ap, ◌∙◌, subst, arith}
+use Rattle.std.proofs.Common.{◌≡◌, ℕ, zero, suc, ◌+◌, ◌<◌, ◌≤◌, List, [], ◌∷◌, length, inl, inr, ⊎_elim, true, refl, sym, ap, ◌∙◌, subst, arith}
 use Rattle.std.proofs.lemmas.Bool.{lt-ltb}
 use Rattle.lil_base.specs.declared.fault.LimitKind.{LimitKind}
 use Rattle.lil_base.specs.declared.fault.LimitKind.TheVariants as limit
 use Rattle.lil_resolved.specs.Resolved.{Expression, kind_of}
 use Rattle.lil_resolved.specs.Depth.{depth}
-use Rattle.lil_meaning.specs.Cells.{Cells}
+use Rattle.lil_resolved.specs.Shapes.{is_there}
+use Rattle.lil_meaning.specs.Cells.{Cells, Root, Global, Local, Object}
 use Rattle.lil_meaning.specs.World.{World}
 use Rattle.lil_meaning.specs.Items.{Hole, Evaluate, Fill, Item, Going, Source}
 use Rattle.lil_meaning.specs.Steps.{next}
@@ -18,8 +19,8 @@ use Rattle.lil_mcode.specs.Table.{mstep, act, fetched, performed, going, push_ro
 use Rattle.lil_table.specs.Rows.{IsAt, ExpressionAt}
 use Rattle.lil_match.specs.Running.{Run, mrun, running, react, advanced}
 use Rattle.lil_match.specs.Parts.{yes}
-use Rattle.lil_match.specs.Homes.{Home, Mem}
-use Rattle.lil_match.specs.Goes.{IsProgram, Shared, GoesOn, Lands, IsStill, Touches, fits, IsFull, Goes}
+use Rattle.lil_match.specs.Homes.{Home, lives, Mem}
+use Rattle.lil_match.specs.Goes.{IsProgram, Shared, GoesOn, Lands, IsStill, Touches, Short, IsFull, Fewer, Goes}
 use Rattle.lil_match.specs.Stutter.{stutter}
 use Rattle.lil_match.specs.Waits.{Stack, Setting, frame_of, laid_out, at_home, Mode, Quiet, ValueOf, Around, Reach, Jumps, AfterJumps, Rows, Ahead, Waiting}
 
@@ -30,17 +31,27 @@ advances m w r e = ap (λ (x : Event × State). react x.0 x.1 (running m w)) e
 pub pushes : (w q : ℕ) (m : State) → length m.stack < 16 → push_row w q m ≡ (Went, going m q (w ∷ m.stack))
 pushes w q m room = yes _ _ _ (lt-ltb (length m.stack) 16 room)
 
+-- a stack that stays
+pub no_more : (y : Stack) → Fewer y y
+no_more y = record { bodies = λ n e. e; all = λ n e. e }
+
 -- a home that stays
 pub untouched : (h : Home) (low high : ℕ) → Touches h h low high
-untouched h low high = record { owner = λ a o. refl; shadow = λ a o. refl; base = λ r. refl; shape = λ r. refl; reference = λ o. refl; fixed = λ a e. (e, refl) }
+untouched h low high = record { owner = λ a o. refl; shadow = λ a o. refl; base = λ r e. refl; shape = λ r e. refl; targets = refl; fixed = λ a e. (e, refl) }
+
+-- what lives stays
+live_on : (h g : Home) (low high : ℕ) → Touches h g low high → (r : Root) → lives h r ≡ true → lives g r ≡ true
+live_on h g low high t (Global m x) e = refl
+live_on h g low high t (Local a x) e = refl
+live_on h g low high t (Object o) e = ap is_there (t.shape (Object o) e) ∙ e
 
 pub touched : (h g i : Home) (low high : ℕ) → Touches h g low high → Touches g i low high → Touches h i low high
 touched h g i low high first second = record {
   owner = λ a o. second.owner a o ∙ first.owner a o;
   shadow = λ a o. second.shadow a o ∙ first.shadow a o;
-  base = λ r. second.base r ∙ first.base r;
-  shape = λ r. second.shape r ∙ first.shape r;
-  reference = λ o. second.reference o ∙ first.reference o;
+  base = λ r e. second.base r (live_on h g low high first r e) ∙ first.base r e;
+  shape = λ r e. second.shape r (live_on h g low high first r e) ∙ first.shape r e;
+  targets = second.targets ∙ first.targets;
   fixed = λ a e. let one = first.fixed a e in let two = second.fixed a one.0 in (two.0, two.1 ∙ one.1);
 }
 
@@ -74,7 +85,7 @@ module _ (ctx : Setting) where
   -- other cells, in another store
   pub shared_with : (s : Source) (m : State) → Shared ctx s m → {cells : Cells} {store : List ℕ} → Mem h cells store → Shared ctx (record s { cells = cells }) (record m { store = store })
   shared_with s m shared mem =
-      record { mem = mem; program = shared.program; standing = shared.standing; activations_are = shared.activations_are; parked_are = shared.parked_are; kept_are = shared.kept_are; loaded_are = shared.loaded_are; levels = shared.levels }
+      record { mem = mem; heap = shared.heap; program = shared.program; standing = shared.standing; activations_are = shared.activations_are; parked_are = shared.parked_are; kept_are = shared.kept_are; loaded_are = shared.loaded_are; levels = shared.levels }
 
   -- the source goes on with these items, and the machine from that place
   pub lands_on : (s : Source) (m : State) → Shared ctx s m → (k : List Item) (q : ℕ) (stack : List ℕ) (c : ℕ) (a : Around)
@@ -109,9 +120,9 @@ module _ (ctx : Setting) where
     home = h;
     stack = st;
     lands = inl lands;
-    fewer = λ e. e;
+    fewer = no_more st;
     touch = untouched h st.base st.limit;
-    same = (refl, refl);
+    same = (refl, omega arith);
     cost = omega (arith, less);
     falls = λ e. falls;
   }
@@ -137,7 +148,7 @@ module _ (ctx : Setting) where
 
   -- one step, to another home and stack
   pub goes_one_in : (s : Source) (k : List Item) (m : State) (x : Home) (y : Stack) (budget c : ℕ) (run : Run) → advanced (running m s.world) ≡ run → LandsIn x y s k run c
-      → Touches h x st.base st.limit → (y.base ≡ st.base) × (y.limit ≡ st.limit) → (fits y.limit y.bodies ≡ false → fits st.limit st.bodies ≡ false) → c + 1 ≤ budget → Goes ctx s k m budget
+      → Touches h x st.base st.limit → (y.base ≡ st.base) × (y.limit ≤ st.limit) → Fewer y st → c + 1 ≤ budget → Goes ctx s k m budget
   goes_one_in s k m x y budget c run e lands touch same fewer less = record {
     steps = 1;
     later = c;
@@ -159,20 +170,21 @@ module _ (ctx : Setting) where
   -- one step
   pub goes_one : (s : Source) (k : List Item) (m : State) (budget c : ℕ) (run : Run) → advanced (running m s.world) ≡ run → LandsAt s k run c → c + 1 ≤ budget
       → Goes ctx s k m budget
-  goes_one s k m budget c run e lands less = goes_one_in s k m h st budget c run e lands (untouched h st.base st.limit) (refl, refl) (λ e. e) less
+  goes_one s k m budget c run e lands less = goes_one_in s k m h st budget c run e lands (untouched h st.base st.limit) (refl, omega arith) (no_more st) less
 
   -- one step to a limit
-  pub goes_full : (s : Source) (k : List Item) (m : State) (budget : ℕ) (kind : LimitKind) → mstep m ≡ (Limit kind, m) → fits st.limit st.bodies ≡ false → 1 ≤ budget → Goes ctx s k m budget
+  pub goes_full : (s : Source) (k : List Item) (m : State) (budget : ℕ) (kind : LimitKind) → mstep m ≡ (Limit kind, m)
+      → Short st (record s { items = k; phase = Going }) (next library (record s { items = k; phase = Going })) kind → 1 ≤ budget → Goes ctx s k m budget
   goes_full s k m budget kind e short less = record {
     steps = 1;
     later = 0;
     home = h;
     stack = st;
     quiet = quiet;
-    lands = inr (subst (λ (r : Run). IsFull st.limit st.bodies s.world r) (sym (advances m s.world (Limit kind, m) e)) (record { kind = kind; finish = refl; world = refl; short = short }));
+    lands = inr (subst (λ (r : Run). IsFull st (record s { items = k; phase = Going }) (next library (record s { items = k; phase = Going })) r) (sym (advances m s.world (Limit kind, m) e)) (record { kind = kind; finish = refl; world = refl; short = short }));
     touch = untouched h st.base st.limit;
-    same = (refl, refl);
-    fewer = λ e. e;
+    same = (refl, omega arith);
+    fewer = no_more st;
     cost = omega (arith, less);
     falls = λ e. absurd (omega arith);
   }
@@ -191,7 +203,7 @@ module _ (ctx : Setting) where
     home = g.home;
     stack = g.stack;
     lands = ⊎_elim (λ l. inl (subst (λ (r : Run). LandsIn g.home g.stack s k (mrun g.steps r) g.later) (sym e) l))
-        (λ f. inr (subst (λ (r : Run). IsFull st.limit st.bodies s.world (mrun g.steps r)) (sym e) f)) g.lands;
+        (λ f. inr (subst (λ (r : Run). IsFull st (record s { items = k; phase = Going }) (next library (record s { items = k; phase = Going })) (mrun g.steps r)) (sym e) f)) g.lands;
     fewer = g.fewer;
     touch = touched h x g.home st.base st.limit first g.touch;
     same = g.same;

@@ -1,7 +1,7 @@
 -- How long items can stutter: a count that falls at each step of the source that takes no step of the machine.
 use Rattle.std.proofs.Common.{ℕ, ◌+◌, List, [], ◌∷◌}
-use Rattle.lil_resolved.specs.Resolved.{Designator, Variable, Held, Field, Element, Expression, Constant, Taken, One, Two, Short, Apply, With, WithSpan, Argument, ByValue, OfArray, OfText, Statement, Assign, Copy, Text, Change, Member, Request, If, Case, While, Repeat, Loop, Exit, Halt, Return, For, Inside, Statements, Empty, Then}
-use Rattle.lil_meaning.specs.Items.{Hole, Get, Part, IndexBy, IndexAt, SetTo, StoreAt, CopyTo, CopyFrom, TextTo, ChangeBy, ChangeAt, OneOf, LeftOf, RightOf, ShortOf, ApplyTo, WithMember, MemberOf, WithMembers, MembersFrom, MembersTo, MemberBy, MemberAt, Pass, PassArray, Choose, Turn, Again, Pick, Hold, StartOf, LimitOf, Task, Do, Passing, Until, Looping, Turns, Holding, End, Item, Value, Evaluate, PlaceOf, Fill, Perform}
+use Rattle.lil_resolved.specs.Resolved.{Designator, Variable, Held, Field, Element, Follow, Expression, Constant, Taken, One, Two, Short, Apply, With, WithSpan, Argument, ByValue, OfArray, OfText, Statement, Assign, Copy, Text, Change, Member, New, Request, If, Case, While, Repeat, Loop, Exit, Halt, Return, For, Inside, Statements, Empty, Then}
+use Rattle.lil_meaning.specs.Items.{Hole, Get, Part, IndexBy, IndexAt, Pointed, SetTo, StoreAt, CopyTo, CopyFrom, TextTo, NewAt, ChangeBy, ChangeAt, OneOf, LeftOf, RightOf, ShortOf, ApplyTo, WithMember, MemberOf, WithMembers, MembersFrom, MembersTo, MemberBy, MemberAt, Pass, PassArray, Choose, Turn, Again, Pick, Hold, StartOf, LimitOf, Task, Do, Passing, Until, Looping, Turns, Holding, End, Item, Value, Evaluate, PlaceOf, Fill, Perform}
 
 abbrev mutual
   pub place_stutter : Designator → ℕ
@@ -9,6 +9,7 @@ abbrev mutual
   place_stutter (Held w) = 2
   place_stutter (Field d i) = 2 + place_stutter d
   place_stutter (Element d k e) = 1 + place_stutter d + value_stutter e
+  place_stutter (Follow d n) = 1 + place_stutter d
 
   pub value_stutter : Expression → ℕ
   value_stutter (Constant k v) = 1
@@ -33,6 +34,7 @@ abbrev mutual
   pub statement_stutter : Statement → ℕ
   statement_stutter (Assign d k e) = 1 + place_stutter d + value_stutter e
   statement_stutter (Text d cs) = 1 + place_stutter d
+  statement_stutter (New d n) = 1 + place_stutter d
   statement_stutter (Inside d body) = 1 + place_stutter d
   statement_stutter (Copy d from) = 1 + place_stutter d + place_stutter from
   statement_stutter (Change down d k e) = 1 + place_stutter d + value_stutter e
@@ -62,6 +64,8 @@ hole_stutter (StoreAt place k) = 0
 hole_stutter (CopyTo from) = place_stutter from
 hole_stutter (CopyFrom place) = 0
 hole_stutter (TextTo cs) = 0
+hole_stutter Pointed = 0
+hole_stutter (NewAt n) = 0
 hole_stutter (PassArray r high done left) = passing_stutter left
 hole_stutter (Hold body) = 0
 hole_stutter (ChangeBy down k e) = value_stutter e

@@ -6,20 +6,20 @@ use Rattle.std.specs.List.{list_any}
 use Rattle.lil_base.specs.Words.{between, word_of}
 use Rattle.lil_base.specs.declared.operator.OneOp.{OneOp}
 use Rattle.lil_base.specs.declared.operator.TwoOp.{TwoOp}
-use Rattle.lil_resolved.specs.Kinds.{Kind, OfWhole, OfTruth, OfCharacter, OfSet, base_of, is_base, is_element, takes_value, least, greatest, numbers}
+use Rattle.lil_resolved.specs.Kinds.{Kind, OfWhole, OfTruth, OfCharacter, OfSet, OfPointer, base_of, is_base, is_plain, is_element, takes_value, stores_value, least, greatest, numbers}
 use Rattle.lil_resolved.specs.Scalars.{Scalar, within, scalar_word}
 use Rattle.lil_resolved.specs.Resolved.{Designator, Function, Expression, Argument, Statement, If, Case, While, Repeat, Loop, Statements, Arms, Resolved, kind_of, is_relation, result_kind, right_kind, function_kind, counted_as, shape_of}
 use Rattle.lil_resolved.specs.Depth.{place_depth, depth, function_depth}
 use Rattle.lil_resolved.specs.Sound.{takes_one, takes_two, takes_function, Parameter, Single, Characters, request_parameters, parameter_of}
-use Rattle.lil_resolved.specs.Shapes.{Shape, Word, Row, words, is_there, part_at, offset, element_of}
+use Rattle.lil_resolved.specs.Shapes.{Shape, Word, Row, words, is_there, part_at, offset, element_of, shape_at}
 use Rattle.lil_meaning.specs.Cells.{Root, Local, Place}
-use Rattle.lil_meaning.specs.Items.{Datum, Scalars, Places, Wholes, Opens, Texts, Get, Part as PartOf, IndexBy, IndexAt, SetTo, StoreAt, CopyTo, CopyFrom, TextTo, ChangeBy, ChangeAt, OneOf, LeftOf, RightOf, ShortOf, ApplyTo, WithMember, MemberOf, WithMembers, MembersFrom, MembersTo, MemberBy, MemberAt, Pass, PassArray, Choose, Turn, Again, Pick, Hold, StartOf, LimitOf, Do, Passing, Until, Looping, Turns, Holding, End, Item, Value, Evaluate, PlaceOf, Fill, Perform, Activation, Parked}
+use Rattle.lil_meaning.specs.Items.{Datum, Scalars, Places, Wholes, Opens, Texts, Get, Part as PartOf, IndexBy, IndexAt, Pointed, SetTo, StoreAt, CopyTo, CopyFrom, TextTo, NewAt, ChangeBy, ChangeAt, OneOf, LeftOf, RightOf, ShortOf, ApplyTo, WithMember, MemberOf, WithMembers, MembersFrom, MembersTo, MemberBy, MemberAt, Pass, PassArray, Choose, Turn, Again, Pick, Hold, StartOf, LimitOf, Do, Passing, Until, Looping, Turns, Holding, End, Item, Value, Evaluate, PlaceOf, Fill, Perform, Activation, Parked}
 use Rattle.lil_meaning.specs.Steps.{turns}
-use Rattle.lil_asm.specs.declared.instr.Instr.TheVariants.{Liw, Lag, Slw, Dup, Spn, Mov, Mvz, Ixc, Ent, Rtn, Jmp, Svc}
+use Rattle.lil_asm.specs.declared.instr.Instr.TheVariants.{Liw, Lag, Slw, Dup, Spn, Mov, Mvz, Nlt, Ixc, Ent, Rtn, Jmp, Alc, Svc}
 use Rattle.lil_mcode.specs.State.{Module, Kept, body_entry}
 use Rattle.lil_asm.specs.Requests.{request_words}
 use Rattle.lil_table.specs.Rows.{Layout, holding, exactly, HasText, text_words, arguments_words, IsAt, InstrsAt, one_code, two_code, test_code, function_code, Access, InData, OnTop, Behind as Past, further, access_of, address_code, load_code, ready_code, readied, held, store_code, again_code, held_twice, change_code, member_code, PlaceAt, ExpressionAt, WholeRow, ValueRow, ArgumentsAt, StatementAt, BodyAt, TurnsRow, RoundRow, loop_place, short_code}
-use Rattle.lil_match.specs.Homes.{word_for, Home, address, shape_there}
+use Rattle.lil_match.specs.Homes.{word_for, Refers, Home, address, shape_there}
 
 -- whether a parameter and a datum are open arrays
 abbrev pub is_open : Parameter → Bool
@@ -151,6 +151,10 @@ laid_out ctx = laid ctx.stack.frame
 abbrev pub at_home : Setting → Home → Setting
 at_home ctx h = record ctx { home = h }
 
+-- the same with another home and another limit of the stack
+abbrev pub moved : Setting → Home → ℕ → Setting
+moved ctx x n = record ctx { home = x; stack = record (ctx.stack) { limit = n } }
+
 -- inside of a WITH too: the running frame's layout has its record, of this shape, whose address is in this word
 abbrev pub inside_with : Setting → Shape → ℕ → Setting
 inside_with ctx t n = record ctx { stack = record (ctx.stack) { frame = record (ctx.stack.frame) { layout = holding ctx.stack.frame.layout t n } } }
@@ -271,6 +275,28 @@ module _ (frame : Frame) where
     pub load : IsAt own.code p (load_code b) end
     pub shallow : length stack + 1 ≤ 16
 
+  -- the pointer at the place is followed
+  pub record PointedPart (b : Access) (t : Shape) (p : ℕ) (stack : List ℕ) : Type 0 where
+    pub number : ℕ
+    pub typed : t ≡ Word (OfPointer number)
+    pub there : is_there (shape_at l.scope.targets number) ≡ true
+    pub loaded : ℕ
+    pub end : ℕ
+    pub load : IsAt own.code p (load_code b) loaded
+    pub test : IsAt own.code loaded Nlt end
+    pub shallow : length stack + 1 ≤ 16
+
+  -- the pointer at the place gets an object
+  pub record NewPart (b : Access) (t : Shape) (n p : ℕ) (stack : List ℕ) : Type 0 where
+    pub typed : t ≡ Word (OfPointer n)
+    pub there : is_there (shape_at l.scope.targets n) ≡ true
+    pub empty : stack ≡ []
+    pub start : ℕ
+    pub end : ℕ
+    pub address : InstrsAt own.code (address_code b) p start
+    pub by : InstrsAt own.code (Liw (words (shape_at l.scope.targets n)) ∷ Alc ∷ []) start end
+    pub within : end < length own.code
+
   -- the index of an element is to come
   pub record IndexByPart (b : Access) (t : Shape) (k : Kind) (e : Expression) (p : ℕ) (stack : List ℕ) : Type 0 where
     pub rows : t ≡ Row (numbers k) (element_of t)
@@ -317,6 +343,7 @@ module _ (frame : Frame) where
     pub typed : t ≡ Word OfSet
     pub empty : stack ≡ []
     pub element : is_element k ≡ true
+    pub takes : takes_value k (kind_of e) ≡ true
     pub start : ℕ
     pub middle : ℕ
     pub end : ℕ
@@ -330,6 +357,7 @@ module _ (frame : Frame) where
     pub typed : t ≡ Word k
     pub empty : stack ≡ []
     pub base : is_base (base_of k) ≡ true
+    pub plain : is_plain k ≡ true
     pub start : ℕ
     pub kept : ℕ
     pub middle : ℕ
@@ -446,6 +474,7 @@ module _ (ctx : Setting) where
   pub record ScalarPart (v : Scalar) (stack : List ℕ) : Type 0 where
     pub kind : Kind
     pub fits : within kind v ≡ true
+    pub refers : Refers h kind v
     pub below : List ℕ
     pub is : stack ≡ word_for h v ∷ below
 
@@ -453,6 +482,7 @@ module _ (ctx : Setting) where
     pub same : j ≡ right_kind o k
     pub takes : takes_two o k ≡ true
     pub fits : within k u ≡ true
+    pub refers : Refers h k u
     pub below : List ℕ
     pub is : stack ≡ word_for h u ∷ below
     pub end : ℕ
@@ -585,7 +615,7 @@ module _ (ctx : Setting) where
     pub by : IsAt own.code tested (Ixc (word_of (least k)) (words element)) end
 
   pub record StorePart (j : Kind) (place : Place) (k : Kind) (p : ℕ) (stack : List ℕ) : Type 0 where
-    pub takes : takes_value k j ≡ true
+    pub stores : stores_value k j ≡ true
     pub access : Access
     pub ready : readied access ≡ access
     pub has : HasPlace access place (Word k) stack []
@@ -619,6 +649,7 @@ module _ (ctx : Setting) where
   pub record ChangePart (j : Kind) (down : Bool) (place : Place) (k : Kind) (p : ℕ) (stack : List ℕ) : Type 0 where
     pub same : j ≡ OfWhole (counted_as k)
     pub base : is_base (base_of k) ≡ true
+    pub plain : is_plain k ≡ true
     pub access : Access
     pub ready : readied access ≡ access
     pub once : List ℕ
@@ -696,6 +727,8 @@ module _ (ctx : Setting) where
   needs (AtPlace b t) (Fill Get) p stack a = part (GetPart active b t p stack) (λ r. on (ValueOf (base_of r.kind)) r.end stack)
   needs (AtPlace b t) (Fill (PartOf i)) p stack a = part (is_there (part_at t (i ∷ [])) ≡ true) (λ r. on (AtPlace (further (offset t (i ∷ [])) b) (part_at t (i ∷ []))) p stack)
   needs (AtPlace b t) (Fill (IndexBy k e)) p stack a = part (IndexByPart active b t k e p stack) (λ r. on (AtPlace OnTop (element_of t)) r.end stack)
+  needs (AtPlace b t) (Fill Pointed) p stack a = part (PointedPart active b t p stack) (λ r. on (AtPlace OnTop (shape_at l.scope.targets r.number)) r.end stack)
+  needs (AtPlace b t) (Fill (NewAt n)) p stack a = part (NewPart active b t n p stack) (λ r. on Quiet r.end [])
   needs (AtPlace b t) (Fill (SetTo k e)) p stack a = part (SetPart active b t k e p stack) (λ r. on Quiet r.end [])
   needs (AtPlace b t) (Fill (CopyTo from)) p stack a = part (CopyToPart active b t from p stack) (λ r. on Quiet r.end [])
   needs (AtPlace b t) (Fill (CopyFrom to)) p stack a = part (CopyFromPart b t to p stack) (λ r. on Quiet r.end [])

@@ -12,7 +12,7 @@ pub no_late_frame : (b : ℕ) (code : List ℕ) (p : ℕ) → 107 ≤ b → b �
 unfolding row_6
 no_late_frame b code p low high = let d : b / 16 ≡ 6 = omega arith in grind (arith, nat_tests)
 
-pub no_jump : (b : ℕ) (code : List ℕ) (p : ℕ) → 122 ≤ b → b ≤ 124 → row b code p ≡ None
+pub no_jump : (b : ℕ) (code : List ℕ) (p : ℕ) → 123 ≤ b → b ≤ 124 → row b code p ≡ None
 unfolding row_7
 no_jump b code p low high = let d : b / 16 ≡ 7 = omega arith in grind (arith, nat_tests)
 

@@ -34,7 +34,6 @@ fresh = record {
     limit = 65535;
     bodies = [];
     marked = false;
-    blocks = [];
     parked = [];
     waiting = [];
   };

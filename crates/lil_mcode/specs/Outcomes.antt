@@ -7,7 +7,7 @@ use Rattle.lil_base.specs.declared.fault.ArithFault.{ArithFault}
 use Rattle.lil_base.specs.declared.fault.TrapKind.{TrapKind}
 use Rattle.lil_base.specs.declared.fault.LimitKind.{LimitKind}
 use Rattle.lil_asm.specs.declared.instr.Instr.{Instr}
-use Rattle.lil_asm.specs.declared.instr.Instr.TheVariants.{Liw, Lib, Dup, Drp, Swp, Lis, Llw, Llb, Slw, Slb, Lgw, Lgb, Sgw, Sgb, Lal, Lag, Ldi, Sti, Ldf, Adf, Mov, Mvz, Nlt, Ixc, Ixo, Rgc, Rgi, Cap, Adc, Sbc, Mlc, Dvc, Mdc, Adi, Sbi, Mli, Dvi, Mdi, Ngi, Abi, Uni, Dif, Its, Sym, Sin, Spn, Icl, Ecl, Sle, Not, Equ, Neq, Lsc, Lec, Lsi, Lei, Ent, Rtn, Jmp, Jpf, Jan, Jor, Jms, Jfs, Cas, Fri, Frn, Trp, Svc}
+use Rattle.lil_asm.specs.declared.instr.Instr.TheVariants.{Liw, Lib, Dup, Drp, Swp, Lis, Llw, Llb, Slw, Slb, Lgw, Lgb, Sgw, Sgb, Lal, Lag, Ldi, Sti, Ldf, Adf, Mov, Mvz, Nlt, Ixc, Ixo, Rgc, Rgi, Cap, Adc, Sbc, Mlc, Dvc, Mdc, Adi, Sbi, Mli, Dvi, Mdi, Ngi, Abi, Uni, Dif, Its, Sym, Sin, Spn, Icl, Ecl, Sle, Not, Equ, Neq, Lsc, Lec, Lsi, Lei, Ent, Rtn, Jmp, Jpf, Jan, Jor, Jms, Jfs, Cas, Fri, Frn, Trp, Alc, Svc}
 use Rattle.lil_asm.specs.Bytes.{decoded}
 use Rattle.lil_asm.specs.Requests.{request_words}
 use Rattle.lil_mcode.specs.declared.machine.Event.{Event}
@@ -188,6 +188,7 @@ module _ (s : State) (P : Event × State → Type 0) (p : Holds s P) where
   act_has (Fri o f t) q m = three_has s.stack _ (λ a b k rest. either (nat_lt f 2 && not (k == 0)) _ _ (begun_has m (s.frame + o) t q a k rest _) p.bad)
   act_has (Frn v w) q m = either (nat_lt (s.frame + v + 1) 65536) _ _ (turn_has m (s.frame + v) w q _ _ _) p.bad
   act_has (Trp w) q m = trap_has (called_trap w)
+  act_has Alc q m = two_has s.stack _ (λ a n rest. either (nat_lt a 65536) _ _ (either (nat_lt (s.limit - s.top) (n + 2)) _ _ (p.limit _) (p.on _)) p.bad)
   act_has (Svc w) q m = request_has w q (request_words w) refl
 
   performed_has : (m : Module) (o : Option (Instr × ℕ)) → P (performed s m o)

@@ -25,12 +25,6 @@ pub record Kept : Type 0 where
   pub place : ℕ
   pub stack : StackRegisters
 
--- a block of the store that is taken: its address, its words, and those that its coroutine got, where it carries one
-pub record Block : Type 0 where
-  pub address : ℕ
-  pub size : ℕ
-  pub carries : Option ℕ
-
 pub record State : Type 0 where
   -- the k-th has number k, from 1
   pub modules : List Module
@@ -40,7 +34,8 @@ pub record State : Type 0 where
   -- the expression stack, its top first
   pub stack : List ℕ
   pub store : List ℕ
-  -- the running frame, the first free word of the stack of frames, its base and its limit
+  -- The running frame, the first free word of the stack of frames, its base and its limit. That of the main stack is the first of the two
+  -- words below the lowest block, or 65,535.
   pub frame : ℕ
   pub top : ℕ
   pub base : ℕ
@@ -49,7 +44,6 @@ pub record State : Type 0 where
   pub bodies : List ℕ
   -- whether the first body has its mark
   pub marked : Bool
-  pub blocks : List Block
   -- the coroutines of the highest level that don't run, and for each level below it the one that began the next
   pub parked : List Kept
   pub waiting : List Kept

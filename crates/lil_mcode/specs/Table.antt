@@ -8,7 +8,7 @@ use Rattle.lil_base.specs.declared.fault.TrapKind.{TrapKind}
 use Rattle.lil_base.specs.declared.fault.TrapKind.TheVariants as trap
 use Rattle.lil_base.specs.declared.fault.LimitKind.TheVariants as limit
 use Rattle.lil_asm.specs.declared.instr.Instr.{Instr}
-use Rattle.lil_asm.specs.declared.instr.Instr.TheVariants.{Liw, Lib, Dup, Drp, Swp, Lis, Llw, Llb, Slw, Slb, Lgw, Lgb, Sgw, Sgb, Lal, Lag, Ldi, Sti, Ldf, Adf, Mov, Mvz, Nlt, Ixc, Ixo, Rgc, Rgi, Cap, Adc, Sbc, Mlc, Dvc, Mdc, Adi, Sbi, Mli, Dvi, Mdi, Ngi, Abi, Uni, Dif, Its, Sym, Sin, Spn, Icl, Ecl, Sle, Not, Equ, Neq, Lsc, Lec, Lsi, Lei, Ent, Rtn, Jmp, Jpf, Jan, Jor, Jms, Jfs, Cas, Fri, Frn, Trp, Svc}
+use Rattle.lil_asm.specs.declared.instr.Instr.TheVariants.{Liw, Lib, Dup, Drp, Swp, Lis, Llw, Llb, Slw, Slb, Lgw, Lgb, Sgw, Sgb, Lal, Lag, Ldi, Sti, Ldf, Adf, Mov, Mvz, Nlt, Ixc, Ixo, Rgc, Rgi, Cap, Adc, Sbc, Mlc, Dvc, Mdc, Adi, Sbi, Mli, Dvi, Mdi, Ngi, Abi, Uni, Dif, Its, Sym, Sin, Spn, Icl, Ecl, Sle, Not, Equ, Neq, Lsc, Lec, Lsi, Lei, Ent, Rtn, Jmp, Jpf, Jan, Jor, Jms, Jfs, Cas, Fri, Frn, Trp, Alc, Svc}
 use Rattle.lil_mcode.specs.declared.machine.Event.{Event}
 use Rattle.lil_mcode.specs.declared.machine.Event.TheVariants.{Went, Request, LevelEnded, Trap, Limit, BadCode}
 use Rattle.lil_asm.specs.Requests.{request_words}
@@ -278,6 +278,14 @@ abbrev pub array_lies : ℕ → List ℕ → Bool
 array_lies r (high ∷ address ∷ rest) = if r == 3 then nat_le (address + high) 65535 else true
 array_lies r _ = true
 
+-- a block of so many words is taken below the limit, with two more below it; its words become zero, and then its address goes to a place
+abbrev pub take_row : ℕ → State → ℕ → ℕ → List ℕ → Event × State
+take_row q s a n rest =
+    if nat_lt a 65536
+    then (if nat_lt (s.limit - s.top) (n + 2) then (Limit limit.Store, s)
+    else (Went, record s { place = q; stack = rest; limit = s.limit - (n + 2); store = slice_set (cleared s.store (s.limit - n) s.limit) a (s.limit - n) }))
+    else bad s
+
 abbrev pub request_row : ℕ → ℕ → State → Option ℕ → Event × State
 request_row r q s None = bad s
 request_row r q s (Some n) = if nat_le n (length s.stack) && array_lies r s.stack then (Request r, going s q s.stack) else bad s
@@ -352,6 +360,7 @@ act (Cas n t) q m s = on_one s s.stack (case_row m n t q s)
 act (Fri o f t) q m s = on_three s s.stack (loop_row m (s.frame + o) f t q s)
 act (Frn o t) q m s = again_row m (s.frame + o) t q s
 act (Trp k) q m s = trap_row s (called_trap k)
+act Alc q m s = on_two s s.stack (take_row q s)
 act (Svc r) q m s = request_row r q s (request_words r)
 
 abbrev pub performed : State → Module → Option (Instr × ℕ) → Event × State

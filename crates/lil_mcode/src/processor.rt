@@ -88,7 +88,6 @@ impl Model for Processor {
       limit = p.limit;
       bodies = p.bodies;
       marked = p.marked;
-      blocks = [];
       parked = [];
       waiting = [];
     } };

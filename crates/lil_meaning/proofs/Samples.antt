@@ -80,7 +80,7 @@ abbrev cardinal : ℕ → Expression
 cardinal n = Constant (OfWhole Cardinal) (Number (pos n))
 
 abbrev program : List Statement → Resolved
-program statements = record { name = []; names = (99 ∷ []) ∷ []; variables = Word kc ∷ []; procedures = []; body = in_order statements }
+program statements = record { name = []; targets = []; names = (99 ∷ []) ∷ []; variables = Word kc ∷ []; procedures = []; body = in_order statements }
 
 abbrev writes_x : Statement
 writes_x = Request 2 (ByValue OfCharacter (Constant OfCharacter (Character 120)) ∷ [])
@@ -125,7 +125,7 @@ abbrev pairs : Shape
 pairs = Row 3 (fields_of (Word OfTruth ∷ Word kc ∷ []))
 
 abbrev table : List Statement → Resolved
-table statements = record { name = []; names = (97 ∷ []) ∷ (99 ∷ []) ∷ []; variables = pairs ∷ Word kc ∷ []; procedures = []; body = in_order statements }
+table statements = record { name = []; targets = []; names = (97 ∷ []) ∷ (99 ∷ []) ∷ []; variables = pairs ∷ Word kc ∷ []; procedures = []; body = in_order statements }
 
 abbrev second : Expression → Designator
 second e = Field (Element (Variable 0) digit e) 1

@@ -33,7 +33,7 @@ abbrev given : List Argument
 given = ByValue OfCharacter (Apply Chr plus) ∷ []
 
 abbrev tour : Resolved
-tour = record { name = []; names = []; variables = Word k ∷ []; procedures = []; body = in_order (Assign c k (n 7) ∷ Request 2 given ∷ []) }
+tour = record { name = []; targets = []; names = []; variables = Word k ∷ []; procedures = []; body = in_order (Assign c k (n 7) ∷ Request 2 given ∷ []) }
 
 abbrev at : World → ℕ → Source
 at w i = state_of tour (record w { streams = []; channels = [] }) i

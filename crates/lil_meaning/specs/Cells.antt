@@ -1,8 +1,8 @@
 -- Cells: what each variable and object holds, by its root and the fields and positions from there.
-use Rattle.std.specs.Prelude.{ℕ, zero, suc, ◌==◌, Bool, false, ◌&&◌, List, [], ◌∷◌, ◌++◌, Option, Some, None, get_or, slice_get, option_and_then, if◌then◌else◌}
+use Rattle.std.specs.Prelude.{ℕ, zero, suc, ◌+◌, ◌==◌, Bool, false, ◌&&◌, List, [], ◌∷◌, ◌++◌, Option, Some, None, get_or, slice_get, option_and_then, if◌then◌else◌}
 use Rattle.lil_resolved.specs.Scalars.{Scalar, Character, Nothing, zero_of}
 use Rattle.lil_resolved.specs.Resolved.{Resolved}
-use Rattle.lil_resolved.specs.Shapes.{Shape, Absent, Word, part_at, shape_at}
+use Rattle.lil_resolved.specs.Shapes.{Shape, Absent, Word, words, part_at, shape_at}
 
 -- a variable of a module that is loaded, a variable of an activation, or an object
 pub data Root : Type 0 where
@@ -67,6 +67,19 @@ abbrev pub zero_in : Shape → Scalar
 zero_in (Word k) = zero_of k
 zero_in _ = Nothing
 
+-- the same under a place
+abbrev pub zeros_under : Shape → Under
+zeros_under t q = zero_in (part_at t q)
+
+-- an object, as a place
+abbrev pub object_place : ℕ → Place
+object_place o = record { root = Object o; path = [] }
+
+-- the words that objects take: their own, and two more each
+abbrev pub heap_words : List Shape → ℕ
+heap_words [] = 0
+heap_words (t ∷ ts) = 2 + words t + heap_words ts
+
 -- the module that is loaded with this number, from 1, by its number in the library
 abbrev pub loaded_at : List Resolved → List ℕ → ℕ → Option Resolved
 loaded_at library loaded zero = None
@@ -75,6 +88,11 @@ loaded_at library loaded (suc n) = option_and_then (slice_get library) (slice_ge
 abbrev pub variables_of : Option Resolved → List Shape
 variables_of None = []
 variables_of (Some m) = m.variables
+
+-- what its pointers point to
+abbrev pub targets_of : Option Resolved → List Shape
+targets_of None = []
+targets_of (Some m) = m.targets
 
 -- the shapes of the roots that live where the first level begins: the variables of its modules
 abbrev pub first_shape : List Resolved → List ℕ → Root → Shape

@@ -6,6 +6,7 @@ use Rattle.lil_base.specs.declared.operator.TwoOp.{TwoOp}
 use Rattle.lil_resolved.specs.Kinds.{Kind}
 use Rattle.lil_resolved.specs.Scalars.{Scalar}
 use Rattle.lil_resolved.specs.Resolved.{Designator, Function, Expression, Argument, Statement, Statements, Empty, Then, Arms}
+use Rattle.lil_resolved.specs.Shapes.{Shape}
 use Rattle.lil_meaning.specs.Cells.{Cells, Place, Under}
 use Rattle.lil_meaning.specs.World.{World}
 
@@ -28,6 +29,8 @@ pub data Hole : Type 0 where
   IndexBy : (k : Kind) (e : Expression) → Hole
   -- the element of the place by the index ·
   IndexAt : (p : Place) (k : Kind) → Hole
+  -- the object that the pointer at the place · points to
+  Pointed : Hole
   -- e goes to the place ·, of this kind
   SetTo : (k : Kind) (e : Expression) → Hole
   -- · goes to the place
@@ -38,6 +41,8 @@ pub data Hole : Type 0 where
   CopyFrom : (p : Place) → Hole
   -- a string goes to the array ·
   TextTo : (cs : List ℕ) → Hole
+  -- a new object for the pointer at the place ·, of the type with this number
+  NewAt : (n : ℕ) → Hole
   -- the number of the place ·, of this kind, grows or falls by e
   ChangeBy : (down : Bool) (k : Kind) (e : Expression) → Hole
   -- the number at the place grows or falls by ·
@@ -139,12 +144,13 @@ pub record Parked : Type 0 where
   pub items : List Item
 
 -- A level that waits for the end of the next one: the coroutine that called it, with what that has left to do, the place that takes the
--- status, and how many modules were loaded.
+-- status, and how many modules and objects there were.
 pub record Level : Type 0 where
   pub running : ℕ
   pub items : List Item
   pub status : Place
   pub loaded : ℕ
+  pub objects : ℕ
 
 pub data Phase : Type 0 where
   Going : Phase
@@ -159,7 +165,8 @@ pub record Source : Type 0 where
   pub cells : Cells
   -- by their numbers
   pub activations : List Activation
-  pub objects : ℕ
+  -- the shapes of the objects, by their numbers
+  pub objects : List Shape
   pub workspaces : List Workspace
   -- the running coroutine: its number and its items
   pub running : ℕ

@@ -11,13 +11,14 @@ use Rattle.lil_base.specs.declared.operator.OneOp.{OneOp}
 use Rattle.lil_base.specs.declared.operator.OneOp.TheVariants as one
 use Rattle.lil_base.specs.declared.operator.TwoOp.{TwoOp}
 use Rattle.lil_base.specs.declared.operator.TwoOp.TheVariants.{Equal, Unequal, Less, AtMost, Greater, AtLeast, In, Plus, Minus, Times, Slash, Div, Mod}
-use Rattle.lil_resolved.specs.Kinds.{Kind, OfWhole, OfTruth, OfCharacter, OfEnumeration, OfRange, is_set, nat_of, position}
+use Rattle.lil_resolved.specs.Kinds.{Kind, OfWhole, OfTruth, OfCharacter, OfEnumeration, OfRange, is_set, is_pointer, nat_of, position}
 use Rattle.lil_resolved.specs.Members.{same_members, included, is_in, united, without, shared_members, unshared, from_to}
-use Rattle.lil_resolved.specs.Scalars.{Scalar, Number, Truth, Character, SetOf, Nothing, within, scalar_word, value_with, ordinal_of, truth_number, truth_of, members_of}
-use Rattle.lil_resolved.specs.Resolved.{Designator, Variable, Held, Field, Element, Function, Abs, Cap, Chr, Odd, Ord, Val, Expression, Constant, Taken, One, Two, Short, Apply, With, WithSpan, Argument, ByValue, OfArray, OfText, Label, Statement, Assign, Copy, Text, Change, Member, Request, If, Case, While, Repeat, Loop, Exit, Halt, Return, For, Inside, Statements, Arms, NoElse, Else, Arm, Procedure, Resolved, counted_as}
-use Rattle.lil_meaning.specs.Cells.{Cells, Global, Place, under, part_of, stored, got, alone, text_under, loaded_at}
+use Rattle.lil_resolved.specs.Scalars.{Scalar, Number, Truth, Character, SetOf, ToObject, Nothing, same_reference, within, scalar_word, value_with, ordinal_of, truth_number, truth_of, members_of}
+use Rattle.lil_resolved.specs.Resolved.{Designator, Variable, Held, Field, Element, Follow, Function, Abs, Cap, Chr, Odd, Ord, Val, Expression, Constant, Taken, One, Two, Short, Apply, With, WithSpan, Argument, ByValue, OfArray, OfText, Label, Statement, Assign, Copy, Text, Change, Member, New, Request, If, Case, While, Repeat, Loop, Exit, Halt, Return, For, Inside, Statements, Arms, NoElse, Else, Arm, Procedure, Resolved, counted_as}
+use Rattle.lil_resolved.specs.Shapes.{Shape, shape_at}
+use Rattle.lil_meaning.specs.Cells.{Cells, Global, Place, under, part_of, object_place, stored, got, alone, text_under, zeros_under, targets_of, loaded_at}
 use Rattle.lil_meaning.specs.World.{World, Given, Single, Characters, serve, closing}
-use Rattle.lil_meaning.specs.Items.{Datum, Scalars, Places, Wholes, Opens, Texts, Hole, Get, Part, IndexBy, IndexAt, SetTo, StoreAt, CopyTo, CopyFrom, TextTo, ChangeBy, ChangeAt, OneOf, LeftOf, RightOf, ShortOf, ApplyTo, WithMember, MemberOf, WithMembers, MembersFrom, MembersTo, MemberBy, MemberAt, Pass, PassArray, Choose, Turn, Again, Pick, Hold, StartOf, LimitOf, Task, Do, Passing, Until, Looping, Turns, Holding, End, Item, Value, Evaluate, PlaceOf, Fill, Perform, doing, Activation, Parked, Level, Phase, Going, Closing, Ended, Trapped, Source}
+use Rattle.lil_meaning.specs.Items.{Datum, Scalars, Places, Wholes, Opens, Texts, Hole, Get, Part, IndexBy, IndexAt, Pointed, SetTo, StoreAt, CopyTo, CopyFrom, TextTo, NewAt, ChangeBy, ChangeAt, OneOf, LeftOf, RightOf, ShortOf, ApplyTo, WithMember, MemberOf, WithMembers, MembersFrom, MembersTo, MemberBy, MemberAt, Pass, PassArray, Choose, Turn, Again, Pick, Hold, StartOf, LimitOf, Task, Do, Passing, Until, Looping, Turns, Holding, End, Item, Value, Evaluate, PlaceOf, Fill, Perform, doing, Activation, Parked, Level, Phase, Going, Closing, Ended, Trapped, Source}
 
 -- the activation at hand: that of the nearest end
 abbrev pub current : List Item → ℕ
@@ -147,10 +148,16 @@ set_value Times s t = SetOf (shared_members s t)
 set_value Slash s t = SetOf (unshared s t)
 set_value _ s t = Nothing
 
+-- an operator on two pointers
+abbrev pub pointer_value : TwoOp → Scalar → Scalar → Scalar
+pointer_value Equal u v = Truth (same_reference u v)
+pointer_value Unequal u v = Truth (not (same_reference u v))
+pointer_value _ u v = Nothing
+
 -- an operator on two values of a kind, or IN on one and a set: its value or its trap
 abbrev pub applied : TwoOp → Kind → Scalar → Scalar → Result Scalar TrapKind
 applied In k u v = Ok (Truth (is_in (members_of v) (ordinal_of u)))
-applied o k u v = if is_set k then Ok (set_value o (members_of u) (members_of v)) else compared (relation_of o) o k u v
+applied o k u v = if is_set k then Ok (set_value o (members_of u) (members_of v)) else (if is_pointer k then Ok (pointer_value o u v) else compared (relation_of o) o k u v)
 
 -- a set with the numbers from that of one value to that of another
 abbrev pub with_span : Scalar → Scalar → Scalar → Scalar
@@ -256,6 +263,7 @@ placed (Variable x) k s = with_items s (Value (Places (variable_place s x)) ∷ 
 placed (Held w) k s = held_at (held_in k w) k s
 placed (Field d i) k s = with_items s (PlaceOf d ∷ Fill (Part i) ∷ k)
 placed (Element d kind e) k s = with_items s (PlaceOf d ∷ Fill (IndexBy kind e) ∷ k)
+placed (Follow d n) k s = with_items s (PlaceOf d ∷ Fill Pointed ∷ k)
 
 abbrev pub evaluated : Expression → List Item → Source → Source
 evaluated (Constant kind v) k s = with_items s (Value (Scalars v) ∷ k)
@@ -326,30 +334,48 @@ filled library (StartOf x kind b step body) v k s = with_items s (Evaluate b ∷
 filled library (LimitOf x kind u step body) v k s = with_items s (Perform (Turns x kind (ordinal_of u) step (turns (ordinal_of u) (ordinal_of v) step) body) ∷ k)
 filled library _ v k s = s
 
+-- the object that a pointer points to, if it does
+abbrev pub pointed : List Resolved → Scalar → List Item → Source → Source
+pointed library (ToObject o) k s = with_items s (Value (Places (object_place o)) ∷ k)
+pointed library _ k s = trapped library s trap.Nil
+
+-- what pointers of the module at hand point to
+abbrev pub target_of : List Resolved → Source → ℕ → Shape
+target_of library s n = shape_at (targets_of (loaded_at library s.loaded (module_now s))) n
+
+-- a new object of a shape, with zero in each scalar, to which the pointer at a place then points
+abbrev pub made : Shape → Place → List Item → Source → Source
+made t p k s =
+    let o : ℕ = length s.objects in
+    record s { items = k; objects = s.objects ++ t ∷ []; cells = stored (stored s.cells (object_place o) (zeros_under t)) p (alone (ToObject o)) }
+
 -- a place goes into a hole
-abbrev pub filled_place : Hole → Place → List Item → Source → Source
-filled_place Get p k s = with_items s (Value (Scalars (got s.cells p)) ∷ k)
-filled_place (Part i) p k s = with_items s (Value (Places (part_of p i)) ∷ k)
-filled_place (IndexBy kind e) p k s = with_items s (Evaluate e ∷ Fill (IndexAt p kind) ∷ k)
-filled_place (SetTo kind e) p k s = with_items s (Evaluate e ∷ Fill (StoreAt p kind) ∷ k)
-filled_place (CopyTo from) p k s = with_items s (PlaceOf from ∷ Fill (CopyFrom p) ∷ k)
-filled_place (CopyFrom to) p k s = record s { items = k; cells = stored s.cells to (under s.cells p) }
-filled_place (TextTo cs) p k s = record s { items = k; cells = stored s.cells p (text_under cs) }
-filled_place (PassArray r high done left) p k s = with_items s (Perform (Passing r (done ++ Opens p high ∷ []) left) ∷ k)
-filled_place (Hold body) p k s = with_items s (doing body (Perform (Holding p) ∷ k))
-filled_place (MemberBy out kind e) p k s = with_items s (Evaluate e ∷ Fill (MemberAt out p kind) ∷ k)
-filled_place (ChangeBy down kind e) p k s = with_items s (Evaluate e ∷ Fill (ChangeAt down p kind) ∷ k)
-filled_place _ p k s = s
+abbrev pub filled_place : List Resolved → Hole → Place → List Item → Source → Source
+filled_place library Get p k s = with_items s (Value (Scalars (got s.cells p)) ∷ k)
+filled_place library (Part i) p k s = with_items s (Value (Places (part_of p i)) ∷ k)
+filled_place library (IndexBy kind e) p k s = with_items s (Evaluate e ∷ Fill (IndexAt p kind) ∷ k)
+filled_place library (SetTo kind e) p k s = with_items s (Evaluate e ∷ Fill (StoreAt p kind) ∷ k)
+filled_place library (CopyTo from) p k s = with_items s (PlaceOf from ∷ Fill (CopyFrom p) ∷ k)
+filled_place library (CopyFrom to) p k s = record s { items = k; cells = stored s.cells to (under s.cells p) }
+filled_place library Pointed p k s = pointed library (got s.cells p) k s
+filled_place library (NewAt n) p k s = made (target_of library s n) p k s
+filled_place library (TextTo cs) p k s = record s { items = k; cells = stored s.cells p (text_under cs) }
+filled_place library (PassArray r high done left) p k s = with_items s (Perform (Passing r (done ++ Opens p high ∷ []) left) ∷ k)
+filled_place library (Hold body) p k s = with_items s (doing body (Perform (Holding p) ∷ k))
+filled_place library (MemberBy out kind e) p k s = with_items s (Evaluate e ∷ Fill (MemberAt out p kind) ∷ k)
+filled_place library (ChangeBy down kind e) p k s = with_items s (Evaluate e ∷ Fill (ChangeAt down p kind) ∷ k)
+filled_place library _ p k s = s
 
 abbrev pub fill : List Resolved → Datum → Hole → List Item → Source → Source
 fill library (Scalars v) h k s = filled library h v k s
-fill library (Places p) h k s = filled_place h p k s
+fill library (Places p) h k s = filled_place library h p k s
 fill library _ h k s = s
 
 abbrev pub did : List Resolved → Statement → List Item → Source → Source
 did library (Assign d kind e) k s = with_items s (PlaceOf d ∷ Fill (SetTo kind e) ∷ k)
 did library (Copy d from) k s = with_items s (PlaceOf d ∷ Fill (CopyTo from) ∷ k)
 did library (Text d cs) k s = with_items s (PlaceOf d ∷ Fill (TextTo cs) ∷ k)
+did library (New d n) k s = with_items s (PlaceOf d ∷ Fill (NewAt n) ∷ k)
 did library (Inside d body) k s = with_items s (PlaceOf d ∷ Fill (Hold body) ∷ k)
 did library (Request r given) k s = with_items s (Perform (Passing r [] given) ∷ k)
 did library (If c a b) k s = with_items s (Evaluate c ∷ Fill (Choose a b) ∷ k)
@@ -444,6 +470,7 @@ abbrev pub over : List Level → Option TrapAt → Source → Source
 over [] end s = record s { phase = over_by end }
 over (l ∷ ls) end s = record s {
   loaded = take l.loaded s.loaded;
+  objects = take l.objects s.objects;
   cells = stored s.cells l.status (alone (Number (pos (status_number end))));
   running = l.running;
   items = l.items;

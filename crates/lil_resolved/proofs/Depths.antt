@@ -74,6 +74,7 @@ layer_depth : (y : RSelector-F RExpr RMember RSelector ROperation RPlace) (d : D
     ≡ max (place_depth d) (selector_depth_in y)
 layer_depth (x.Field i) d = omega arith
 layer_depth (x.Index k e) d = refl
+layer_depth (x.Follow n) d = omega arith
 
 one_selected : (s : RSelector) (d : Designator) → place_depth (selector_of s d) ≡ max (place_depth d) (selector_depth s)
 one_selected s d = ap place_depth (selector_is s d) ∙ layer_depth (out-RSelector s) d

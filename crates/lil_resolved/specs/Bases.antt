@@ -18,6 +18,7 @@ own_base k = by k.base k.range
     own b.Character = refl
     own (b.Enumeration n) = refl
     own b.Set = refl
+    own (b.Pointer n) = refl
 
     by : (b : RBase) (r : Option RRange) → base_of (ranged_view (base_view b) r) ≡ base_view b
     by b None = own b

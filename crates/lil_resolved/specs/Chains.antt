@@ -35,6 +35,7 @@ all_arithmetic (o ∷ os) = is_arithmetic (out-ROperation o).operator && all_ari
 abbrev pub selector_depth_in : RSelector-F RExpr RMember RSelector ROperation RPlace → ℕ
 selector_depth_in (x.Field i) = 0
 selector_depth_in (x.Index k e) = 2 + depth (expression_of e)
+selector_depth_in (x.Follow n) = 0
 
 abbrev pub selector_depth : RSelector → ℕ
 selector_depth s = selector_depth_in (out-RSelector s)

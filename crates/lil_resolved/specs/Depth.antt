@@ -1,6 +1,6 @@
 -- The words that a body takes: those of the expression stack, and those of its frame.
 use Rattle.std.specs.Prelude.{ℕ, ◌+◌, max}
-use Rattle.lil_resolved.specs.Resolved.{Designator, Variable, Held, Field, Element, Function, Odd, Expression, Constant, Taken, One, Two, Short, Apply, With, WithSpan, Statement, Assign, Copy, Text, Change, Member, Request, If, Case, While, Repeat, Loop, Exit, Halt, Return, For, Inside, Statements, Empty, Then, Arms, NoElse, Else, Arm}
+use Rattle.lil_resolved.specs.Resolved.{Designator, Variable, Held, Field, Element, Follow, Function, Odd, Expression, Constant, Taken, One, Two, Short, Apply, With, WithSpan, Statement, Assign, Copy, Text, Change, Member, New, Request, If, Case, While, Repeat, Loop, Exit, Halt, Return, For, Inside, Statements, Empty, Then, Arms, NoElse, Else, Arm}
 
 -- how many words of the expression stack the code of a standard function takes, its argument's included
 abbrev pub function_depth : Function → ℕ
@@ -14,6 +14,7 @@ abbrev mutual
   place_depth (Held w) = 1
   place_depth (Field d i) = place_depth d
   place_depth (Element d k e) = max (place_depth d) (2 + depth e)
+  place_depth (Follow d n) = place_depth d
 
   pub depth : Expression → ℕ
   depth (Constant k v) = 1
@@ -33,6 +34,7 @@ abbrev mutual
   statement_words (Text d cs) = 0
   statement_words (Change down d k e) = 0
   statement_words (Member out d k e) = 0
+  statement_words (New d n) = 0
   statement_words (Request r given) = 0
   statement_words (If c a b) = body_words a + body_words b
   statement_words (Case e arms) = arms_words arms

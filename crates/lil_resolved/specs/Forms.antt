@@ -31,7 +31,7 @@ use Rattle.lil_resolved.specs.declared.resolved.RRequest.{RRequest}
 use Rattle.lil_resolved.specs.declared.resolved.Direction.{Direction}
 use Rattle.lil_resolved.specs.declared.resolved.RArgument.{RArgument}
 use Rattle.lil_resolved.specs.Scalars.{scalar_of}
-use Rattle.lil_resolved.specs.Resolved.{Designator, Field, Element, Expression, Constant, Taken, Apply, With, WithSpan, Assign, Copy, Text, Change, Member, Request, If, Case, While, Repeat, Loop, Exit, Halt, Return, For, Inside, Statements, Empty, Then, Arms, Arm, kind_of}
+use Rattle.lil_resolved.specs.Resolved.{Designator, Field, Element, Follow, Expression, Constant, Taken, Apply, With, WithSpan, Assign, Copy, Text, Change, Member, New, Request, If, Case, While, Repeat, Loop, Exit, Halt, Return, For, Inside, Statements, Empty, Then, Arms, Arm, kind_of}
 use Rattle.lil_resolved.specs.Views.{base_view, kind_view, variable_kind, function_of, request_number, is_down, is_out, argument_of, root_view, one_of, two_of, chained, selected, with_members, empty_set, expression_layer, selector_layer, member_layer, operation_layer, place_layer, expression_of, selector_of, member_of, operation_of, place_of, label_of, statement_layer, arm_layer, guard_layer, statement_of, arm_of, guard_of, statements_of, guards_of, arms_of}
 
 -- a layer's value comes from the values of its parts
@@ -90,6 +90,9 @@ field_is i d = ap (λ s. selector_of s d) (sym (l.rolls-Field i)) ∙ ap (λ f. 
 pub index_is : (k : RKind) (a : RExpr) (d : Designator) → selector_of (l.Index k a) d ≡ Element d (kind_view k) (expression_of a)
 index_is k a d = ap (λ s. selector_of s d) (sym (l.rolls-Index k a)) ∙ ap (λ f. f d) (rolled_selector (x.Index k a))
 
+pub follow_is : (n : ℕ) (d : Designator) → selector_of (l.Follow n) d ≡ Follow d n
+follow_is n d = ap (λ s. selector_of s d) (sym (l.rolls-Follow n)) ∙ ap (λ f. f d) (rolled_selector (x.Follow n))
+
 -- a layer's value comes from the values of its parts
 rolled : (x : RStmt-F RStmt RArm RGuard)
     → statement_of (roll-RStmt x) ≡ statement_layer (map-RStmt RStmt RArm RGuard Statements (Arms → Arms) (Statements → Statements) statement_of arm_of guard_of x)
@@ -109,6 +112,9 @@ change_is d p k e = ap statement_of (sym (s.rolls-Change d p k e)) ∙ rolled (o
 
 pub member_changed_is : (m : Membership) (p : RPlace) (k : RKind) (e : RExpr) → statement_of (s.Member m p k e) ≡ Then (Member (is_out m) (place_of p) (kind_view k) (expression_of e)) Empty
 member_changed_is m p k e = ap statement_of (sym (s.rolls-Member m p k e)) ∙ rolled (o.Member m p k e)
+
+pub new_is : (p : RPlace) (n : ℕ) → statement_of (s.New p n) ≡ Then (New (place_of p) n) Empty
+new_is p n = ap statement_of (sym (s.rolls-New p n)) ∙ rolled (o.New p n)
 
 pub request_is : (r : RRequest) (given : List RArgument) → statement_of (s.Request r given) ≡ Then (Request (request_number r) (map argument_of given)) Empty
 request_is r given = ap statement_of (sym (s.rolls-Request r given)) ∙ rolled (o.Request r given)

@@ -1,5 +1,5 @@
 -- What sort of value a scalar variable, parameter or expression has.
-use Rattle.std.specs.Prelude.{ℕ, ◌-◌, ◌==◌, nat_le, ℤ, pos, negsuc, ◌+ℤ◌, ◌-ℤ◌, int_lt, Bool, true, false, not, ◌&&◌, if◌then◌else◌}
+use Rattle.std.specs.Prelude.{ℕ, ◌-◌, ◌==◌, nat_le, ℤ, pos, negsuc, ◌+ℤ◌, ◌-ℤ◌, int_lt, Bool, true, false, not, ◌&&◌, ◌||◌, if◌then◌else◌}
 use Rattle.lil_base.specs.Words as words
 use Rattle.lil_base.specs.Words.{Whole, Cardinal, Integer}
 
@@ -11,6 +11,8 @@ pub data Kind : Type 0 where
   OfEnumeration : (count : ℕ) → Kind
   -- sets of numbers from 0 to 15
   OfSet : Kind
+  -- pointers to objects of one type, by the number of the pointer type
+  OfPointer : (n : ℕ) → Kind
   -- the part of a kind from one number to another
   OfRange : (base : Kind) (low high : ℤ) → Kind
 
@@ -21,6 +23,7 @@ base_of OfTruth = OfTruth
 base_of OfCharacter = OfCharacter
 base_of (OfEnumeration n) = OfEnumeration n
 base_of OfSet = OfSet
+base_of (OfPointer n) = OfPointer n
 base_of (OfRange base low high) = base_of base
 
 -- kinds that aren't a part of another, whose values are words
@@ -30,16 +33,26 @@ is_base OfTruth = true
 is_base OfCharacter = true
 is_base (OfEnumeration n) = nat_le n 65535
 is_base OfSet = true
+is_base (OfPointer n) = true
 is_base (OfRange base low high) = false
 
 -- those whose values are compared by their numbers
 abbrev pub is_ordinal : Kind → Bool
 is_ordinal OfSet = false
+is_ordinal (OfPointer n) = false
 is_ordinal k = is_base k
 
 abbrev pub is_set : Kind → Bool
 is_set OfSet = true
 is_set _ = false
+
+abbrev pub is_pointer : Kind → Bool
+is_pointer (OfPointer n) = true
+is_pointer _ = false
+
+-- a kind whose values are no references
+abbrev pub is_plain : Kind → Bool
+is_plain k = not (is_pointer (base_of k))
 
 abbrev pub is_whole : Kind → Bool
 is_whole (OfWhole t) = true
@@ -57,6 +70,14 @@ alike _ _ = false
 -- a value of the second kind may be stored where one of the first is wanted, if its number is there
 abbrev pub takes_value : Kind → Kind → Bool
 takes_value k j = alike (base_of k) j
+
+abbrev pub same_pointer : Kind → Kind → Bool
+same_pointer (OfPointer m) (OfPointer n) = m == n
+same_pointer _ _ = false
+
+-- a value of the second kind may be stored at a place of the first: a pointer too, where it is one to objects of the same type
+abbrev pub stores_value : Kind → Kind → Bool
+stores_value k j = takes_value k j || same_pointer k j
 
 -- ---- numbers
 -- the type as which the words of a kind are compared
@@ -77,6 +98,7 @@ least OfTruth = pos 0
 least OfCharacter = pos 0
 least (OfEnumeration n) = pos 0
 least OfSet = pos 0
+least (OfPointer n) = pos 0
 least (OfRange base low high) = larger low (least base)
 
 abbrev pub greatest : Kind → ℤ
@@ -85,6 +107,7 @@ greatest OfTruth = pos 1
 greatest OfCharacter = pos 255
 greatest (OfEnumeration n) = pos (n - 1)
 greatest OfSet = pos 65535
+greatest (OfPointer n) = pos 0
 greatest (OfRange base low high) = lesser high (greatest base)
 
 -- each number of the second kind is one of the first

@@ -28,6 +28,8 @@ mutual
     Field : (d : Designator) (i : ℕ) → Designator
     -- an element of an array, by an index of a kind
     Element : (d : Designator) (k : Kind) (e : Expression) → Designator
+    -- the object that a pointer points to, by the number of its type
+    Follow : (d : Designator) (n : ℕ) → Designator
 
   pub data Expression : Type 0 where
     Constant : (k : Kind) (v : Scalar) → Expression
@@ -71,6 +73,8 @@ mutual
     Change : (down : Bool) (d : Designator) (k : Kind) (e : Expression) → Statement
     -- INCL(d, e) puts the number e, of a kind, into the set at d, EXCL(d, e) takes it out
     Member : (out : Bool) (d : Designator) (k : Kind) (e : Expression) → Statement
+    -- NEW of a pointer, by the number of its type
+    New : (d : Designator) (n : ℕ) → Statement
     -- a call of the resident procedure with this request
     Request : (r : ℕ) (given : List Argument) → Statement
     If : (c : Expression) (a b : Statements) → Statement
@@ -110,6 +114,8 @@ pub record Procedure : Type 0 where
 
 pub record Resolved : Type 0 where
   pub name : List ℕ
+  -- what pointers point to, by the numbers of their types
+  pub targets : List Shape
   -- the names of the variables in order, and their shapes
   pub names : List (List ℕ)
   pub variables : List Shape
@@ -174,3 +180,4 @@ shape_of ts (Variable x) = shape_at ts.variables x
 shape_of ts (Held w) = shape_at ts.held w
 shape_of ts (Field d i) = part_at (shape_of ts d) (i ∷ [])
 shape_of ts (Element d k e) = element_of (shape_of ts d)
+shape_of ts (Follow d n) = shape_at ts.targets n

@@ -73,13 +73,15 @@ abbrev pub count_of : Shape → ℕ
 count_of (Row n t) = n
 count_of _ = 0
 
--- what the names of a body reach: the module's variables, and the records of the WITHs around, the innermost first
+-- what the names of a body reach: what its pointers point to, by the numbers of their types, the module's variables, and the records of the
+-- WITHs around, the innermost first
 pub record Scope : Type 0 where
+  pub targets : List Shape
   pub variables : List Shape
   pub held : List Shape
 
-abbrev pub outermost : List Shape → Scope
-outermost ts = record { variables = ts; held = [] }
+abbrev pub outermost : (targets variables : List Shape) → Scope
+outermost targets variables = record { targets = targets; variables = variables; held = [] }
 
 -- inside of a WITH too
 abbrev pub with_held : Scope → Shape → Scope

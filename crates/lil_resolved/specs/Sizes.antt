@@ -4,12 +4,12 @@ use Rattle.lil_base.specs.declared.operator.OneOp.{OneOp}
 use Rattle.lil_base.specs.declared.operator.OneOp.TheVariants as one
 use Rattle.lil_base.specs.declared.operator.TwoOp.{TwoOp}
 use Rattle.lil_base.specs.declared.operator.TwoOp.TheVariants.{Greater, AtLeast}
-use Rattle.lil_resolved.specs.Resolved.{Designator, Variable, Held, Field, Element, Function, Abs, Cap, Chr, Odd, Ord, Val, Expression, Constant, Taken, One, Two, Short, Apply, With, WithSpan, Argument, ByValue, OfArray, OfText, Statement, Assign, Copy, Text, Change, Member, Request, If, Case, While, Repeat, Loop, Exit, Halt, Return, For, Inside, Statements, Empty, Then, Arms, NoElse, Else, Arm, Resolved, kind_of, counted_as}
+use Rattle.lil_resolved.specs.Resolved.{Designator, Variable, Held, Field, Element, Follow, Function, Abs, Cap, Chr, Odd, Ord, Val, Expression, Constant, Taken, One, Two, Short, Apply, With, WithSpan, Argument, ByValue, OfArray, OfText, Statement, Assign, Copy, Text, Change, Member, New, Request, If, Case, While, Repeat, Loop, Exit, Halt, Return, For, Inside, Statements, Empty, Then, Arms, NoElse, Else, Arm, Resolved, kind_of, counted_as}
 use Rattle.lil_base.specs.Words.{Cardinal, Integer}
 use Rattle.lil_resolved.specs.Kinds.{Kind, OfWhole, OfCharacter, base_of, compared_as, covers, outside_turns}
 use Rattle.lil_resolved.specs.Shapes.{all_words}
 pub use Rattle.lil_resolved.specs.Depth.{place_depth, depth, statement_words, body_words, arms_words, frame_words}
-pub use Rattle.lil_resolved.specs.Sound.{is_base, is_ordinal, is_set, is_whole, is_element, takes_one, takes_two, takes_value, takes_function, IsSoundVariable, IsScalar, IsSoundPlace, IsSoundTarget, IsSoundCopy, IsSoundExpression, IsSoundWhole, IsSoundValue, request_parameters, IsSoundText, IsSoundArray, IsSoundHeld, IsSoundArgument, AreSoundArguments, IsSoundLabel, AreSoundLabels, IsStep, IsSoundStatement, IsSoundBody, AreSoundArms, IsSound}
+pub use Rattle.lil_resolved.specs.Sound.{is_base, is_ordinal, is_set, is_whole, is_element, takes_one, takes_two, takes_value, stores_value, takes_function, IsSoundVariable, IsScalar, IsSoundPlace, IsSoundTarget, IsSoundCopy, IsSoundExpression, IsSoundWhole, IsSoundValue, IsSoundStored, IsSoundNew, request_parameters, IsSoundText, IsSoundArray, IsSoundHeld, IsSoundArgument, AreSoundArguments, IsSoundLabel, AreSoundLabels, IsStep, IsSoundStatement, IsSoundBody, AreSoundArms, IsSound}
 
 -- how many bytes the code of an operator takes
 abbrev pub one_size : OneOp → ℕ
@@ -56,6 +56,7 @@ form_of (Variable x) = Direct
 form_of (Held w) = Exact
 form_of (Field d i) = field_form (form_of d)
 form_of (Element d k e) = Exact
+form_of (Follow d n) = Exact
 
 -- how many bytes it takes to bring its address to the expression stack, to load its word, to make it ready for a store, and to store
 abbrev pub address_size : Form → ℕ
@@ -93,6 +94,7 @@ abbrev mutual
   place_size (Held w) = 3
   place_size (Field d i) = place_size d
   place_size (Element d k e) = place_size d + address_size (form_of d) + size e + test_size k (kind_of e) + 5
+  place_size (Follow d n) = place_size d + load_size (form_of d) + 1
 
   pub size : Expression → ℕ
   size (Constant k v) = 3
@@ -126,6 +128,7 @@ abbrev mutual
   statement_size (Change down d k e) =
       target_size d + again_size (form_of d) + size e + under_size (form_of d) + 1 + test_size k (OfWhole (counted_as k)) + store_size (form_of d)
   statement_size (Member out d k e) = place_size d + address_size (form_of d) + size e + test_size k (kind_of e) + 1
+  statement_size (New d n) = place_size d + address_size (form_of d) + 4
   statement_size (Request r given) = arguments_size given + 2
   statement_size (If c a b) = size c + 3 + body_size a + 3 + body_size b
   statement_size (Case e arms) = size e + 3 + 3 + arms_size arms + 5

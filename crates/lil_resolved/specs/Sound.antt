@@ -6,11 +6,11 @@ use Rattle.lil_base.specs.declared.operator.OneOp.{OneOp}
 use Rattle.lil_base.specs.declared.operator.OneOp.TheVariants as one
 use Rattle.lil_base.specs.declared.operator.TwoOp.{TwoOp}
 use Rattle.lil_base.specs.declared.operator.TwoOp.TheVariants.{Equal, Unequal, Less, AtMost, Greater, AtLeast, In, Plus, Minus, Or, Times, Slash, Div, Mod, And}
-pub use Rattle.lil_resolved.specs.Kinds.{is_base, is_ordinal, is_set, is_whole, is_element, alike, takes_value}
-use Rattle.lil_resolved.specs.Kinds.{Kind, OfWhole, OfTruth, OfCharacter, OfSet, base_of, numbers}
-use Rattle.lil_resolved.specs.Scalars.{within, scalar_of, ordinal_of}
-use Rattle.lil_resolved.specs.Shapes.{Shape, Word, Row, Scope, with_held, outermost, is_there, count_of}
-use Rattle.lil_resolved.specs.Resolved.{Designator, Variable, Held, Field, Element, Function, Abs, Cap, Chr, Odd, Ord, Val, Expression, Constant, Taken, One, Two, Short, Apply, With, WithSpan, Label, Argument, ByValue, OfArray, OfText, Statement, Assign, Copy, Text, Change, Member, Request, If, Case, While, Repeat, Loop, Exit, Halt, Return, For, Inside, Statements, Empty, Then, Arms, NoElse, Else, Arm, Resolved, kind_of, right_kind, counted_as, shape_of}
+pub use Rattle.lil_resolved.specs.Kinds.{is_base, is_ordinal, is_set, is_whole, is_plain, is_element, alike, takes_value, stores_value}
+use Rattle.lil_resolved.specs.Kinds.{Kind, OfWhole, OfTruth, OfCharacter, OfSet, OfPointer, base_of, numbers}
+use Rattle.lil_resolved.specs.Scalars.{within, is_literal, scalar_of, ordinal_of}
+use Rattle.lil_resolved.specs.Shapes.{Shape, Word, Row, Scope, with_held, outermost, shape_at, is_there, count_of}
+use Rattle.lil_resolved.specs.Resolved.{Designator, Variable, Held, Field, Element, Follow, Function, Abs, Cap, Chr, Odd, Ord, Val, Expression, Constant, Taken, One, Two, Short, Apply, With, WithSpan, Label, Argument, ByValue, OfArray, OfText, Statement, Assign, Copy, Text, Change, Member, New, Request, If, Case, While, Repeat, Loop, Exit, Halt, Return, For, Inside, Statements, Empty, Then, Arms, NoElse, Else, Arm, Resolved, kind_of, right_kind, counted_as, shape_of}
 use Rattle.lil_resolved.specs.Depth.{place_depth, depth}
 
 -- an operator takes operands of this kind, and IN a left one
@@ -25,9 +25,9 @@ abbrev pub takes_two : TwoOp → Kind → Bool
 takes_two Equal k = is_base k
 takes_two Unequal k = is_base k
 takes_two Less k = is_ordinal k
-takes_two AtMost k = is_base k
+takes_two AtMost k = is_ordinal k || is_set k
 takes_two Greater k = is_ordinal k
-takes_two AtLeast k = is_base k
+takes_two AtLeast k = is_ordinal k || is_set k
 takes_two In k = is_ordinal k
 takes_two Plus k = is_whole k || is_set k
 takes_two Minus k = is_whole k || is_set k
@@ -67,9 +67,10 @@ abbrev mutual
   IsSoundPlace ts (Held w) = (t : Shape) × (slice_get ts.held w ≡ Some t) × (is_there t ≡ true)
   IsSoundPlace ts (Field d i) = IsSoundPlace ts d
   IsSoundPlace ts (Element d k e) = (count_of (shape_of ts d) ≡ numbers k) × (takes_value k (kind_of e) ≡ true) × IsSoundPlace ts d × IsSoundExpression ts e
+  IsSoundPlace ts (Follow d n) = (shape_of ts d ≡ Word (OfPointer n)) × (is_there (shape_at ts.targets n) ≡ true) × IsSoundPlace ts d
 
   pub IsSoundExpression : Scope → Expression → Type 0
-  IsSoundExpression ts (Constant k v) = within k v ≡ true
+  IsSoundExpression ts (Constant k v) = is_literal k v ≡ true
   IsSoundExpression ts (Taken d k) = IsScalar ts d k × IsSoundPlace ts d
   IsSoundExpression ts (One o k a) = (takes_one o k ≡ true) × (kind_of a ≡ k) × IsSoundExpression ts a
   IsSoundExpression ts (Two o k a b) = (takes_two o k ≡ true) × (kind_of a ≡ k) × (kind_of b ≡ right_kind o k) × IsSoundExpression ts a × IsSoundExpression ts b
@@ -136,6 +137,18 @@ pub record IsSoundValue (ts : Scope) (e : Expression) (k : Kind) : Type 0 where
   pub takes : takes_value k (kind_of e) ≡ true
   pub whole : IsSoundWhole ts e (kind_of e)
 
+-- an expression whose value may be stored at a place of a kind
+pub record IsSoundStored (ts : Scope) (e : Expression) (k : Kind) : Type 0 where
+  pub stores : stores_value k (kind_of e) ≡ true
+  pub whole : IsSoundWhole ts e (kind_of e)
+
+-- a pointer that gets an object
+pub record IsSoundNew (ts : Scope) (d : Designator) (n : ℕ) : Type 0 where
+  pub shape : shape_of ts d ≡ Word (OfPointer n)
+  pub there : is_there (shape_at ts.targets n) ≡ true
+  pub place : IsSoundPlace ts d
+  pub shallow : place_depth d ≤ 13
+
 -- a range of labels isn't empty, and its ends are numbers of values of the kind
 pub record IsSoundLabel (k : Kind) (l : Label) : Type 0 where
   pub order : l.low ≤ℤ l.high
@@ -185,11 +198,12 @@ parameter_of (OfText cs) = Characters
 -- statements inside a LOOP or not
 abbrev mutual
   pub IsSoundStatement : Scope → Bool → Statement → Type 0
-  IsSoundStatement ts looping (Assign d k e) = IsSoundTarget ts d k × IsSoundValue ts e k
+  IsSoundStatement ts looping (Assign d k e) = IsSoundTarget ts d k × IsSoundStored ts e k
   IsSoundStatement ts looping (Copy d from) = IsSoundCopy ts d from
   IsSoundStatement ts looping (Text d cs) = IsSoundText ts d cs
-  IsSoundStatement ts looping (Change down d k e) = IsSoundTarget ts d k × IsSoundWhole ts e (OfWhole (counted_as k))
+  IsSoundStatement ts looping (Change down d k e) = IsSoundTarget ts d k × (is_plain k ≡ true) × IsSoundWhole ts e (OfWhole (counted_as k))
   IsSoundStatement ts looping (Member out d k e) = IsSoundTarget ts d OfSet × (is_element k ≡ true) × IsSoundValue ts e k
+  IsSoundStatement ts looping (New d n) = IsSoundNew ts d n
   IsSoundStatement ts looping (Request r given) = (request_parameters r ≡ Some (map parameter_of given)) × AreSoundArguments ts given
   IsSoundStatement ts looping (If c a b) = IsSoundWhole ts c OfTruth × IsSoundBody ts looping a × IsSoundBody ts looping b
   IsSoundStatement ts looping (Case e arms) = (is_ordinal (kind_of e) ≡ true) × IsSoundWhole ts e (kind_of e) × AreSoundArms ts looping (kind_of e) arms
@@ -212,4 +226,4 @@ abbrev mutual
   AreSoundArms ts looping k (Arm labels body rest) = AreSoundLabels k labels × IsSoundBody ts looping body × AreSoundArms ts looping k rest
 
 abbrev pub IsSound : Resolved → Type 0
-IsSound m = IsSoundBody (outermost m.variables) false m.body
+IsSound m = IsSoundBody (outermost m.targets m.variables) false m.body

@@ -1,11 +1,11 @@
 -- The resolved module that a tree of the program is.
 use Rattle.std.specs.Prelude.{◌≡◌, ℕ, ◌+◌, ◌<◌, ◌≤◌, Bool, List, [], ◌∷◌, ◌++◌, length, map, Option, Some, None, true, false}
 use Rattle.lil_base.specs.Words.{Cardinal, Integer}
-use Rattle.lil_resolved.specs.Kinds.{Kind, OfWhole, OfTruth, OfCharacter, OfEnumeration, OfSet, OfRange, compared_as}
+use Rattle.lil_resolved.specs.Kinds.{Kind, OfWhole, OfTruth, OfCharacter, OfEnumeration, OfSet, OfPointer, OfRange, compared_as}
 use Rattle.lil_resolved.specs.Scalars.{SetOf, scalar_of}
 use Rattle.lil_resolved.specs.Members.{no_members}
 use Rattle.lil_resolved.specs.Shapes.{Shape, Absent, Word, Row, all_words, offsets_from, shape_at, fields_of, words}
-use Rattle.lil_resolved.specs.Resolved.{Designator, Variable, Held, Field, Element, Function, Abs, Cap, Chr, Odd, Ord, Val, Expression, Constant, Taken, One, Two, Short, Apply, With, WithSpan, Argument, ByValue, OfArray, OfText, Label, Assign, Copy, Text, Change, Member, Request, If, Case, While, Repeat, Loop, Exit, Halt, Return, For, Inside, Statements, Empty, Then, Arms, NoElse, Else, Arm, Resolved, kind_of}
+use Rattle.lil_resolved.specs.Resolved.{Designator, Variable, Held, Field, Element, Follow, Function, Abs, Cap, Chr, Odd, Ord, Val, Expression, Constant, Taken, One, Two, Short, Apply, With, WithSpan, Argument, ByValue, OfArray, OfText, Label, Assign, Copy, Text, Change, Member, New, Request, If, Case, While, Repeat, Loop, Exit, Halt, Return, For, Inside, Statements, Empty, Then, Arms, NoElse, Else, Arm, Resolved, kind_of}
 use Rattle.lil_base.specs.declared.operator.OneOp.{OneOp}
 use Rattle.lil_base.specs.declared.operator.TwoOp.{TwoOp}
 use Rattle.lil_base.specs.declared.operator.TwoOp.TheVariants.{Equal, Unequal, Less, AtMost, Greater, AtLeast, In, Plus, Minus, Or, Times, Slash, Div, Mod, And}
@@ -56,6 +56,7 @@ base_view b.Truth = OfTruth
 base_view b.Character = OfCharacter
 base_view (b.Enumeration n) = OfEnumeration n
 base_view b.Set = OfSet
+base_view (b.Pointer n) = OfPointer n
 
 abbrev pub ranged_view : Kind → Option RRange → Kind
 ranged_view k None = k
@@ -146,6 +147,7 @@ expression_layer (x.Set k es) = with_members (kind_view k) empty_set es
 abbrev pub selector_layer : RSelector-F Expression (Kind → Expression → Expression) (Designator → Designator) (Expression → Expression) Designator → Designator → Designator
 selector_layer (x.Field i) d = Field d i
 selector_layer (x.Index k e) d = Element d (kind_view k) e
+selector_layer (x.Follow n) d = Follow d n
 
 abbrev pub member_layer : RMember-F Expression (Kind → Expression → Expression) (Designator → Designator) (Expression → Expression) Designator → Kind → Expression → Expression
 member_layer (x.Single a) k s = With s k a
@@ -215,6 +217,7 @@ statement_layer (o.Copy p from) = Then (Copy (place_of p) (place_of from)) Empty
 statement_layer (o.Text p cs) = Then (Text (place_of p) cs) Empty
 statement_layer (o.Change way p k e) = Then (Change (is_down way) (place_of p) (kind_view k) (expression_of e)) Empty
 statement_layer (o.Member m d k e) = Then (Member (is_out m) (place_of d) (kind_view k) (expression_of e)) Empty
+statement_layer (o.New p n) = Then (New (place_of p) n) Empty
 statement_layer (o.Request r given) = Then (Request (request_number r) (map argument_of given)) Empty
 statement_layer (o.If gs ss) = guarded gs (all_of ss)
 statement_layer (o.Case e cases other) = Then (Case (expression_of e) (armed cases (otherwise_of other))) Empty
@@ -303,7 +306,7 @@ abbrev pub shape_declared : List RShape → RDeclared → Shape
 shape_declared ts v = shape_at (shapes_of ts) v.shape
 
 abbrev pub module_of : RModule → Resolved
-module_of m = record { name = m.name; names = map name_of m.variables; variables = map (shape_declared m.shapes) m.variables; procedures = []; body = statements_of m.body }
+module_of m = record { name = m.name; targets = map (shape_at (shapes_of m.shapes)) m.targets; names = map name_of m.variables; variables = map (shape_declared m.shapes) m.variables; procedures = []; body = statements_of m.body }
 
 -- the words of a module's shapes and variables are counted
 pub record IsMeasured (m : RModule) : Type 0 where

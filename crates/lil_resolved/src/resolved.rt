@@ -9,7 +9,7 @@ use crate::{OneOp, RShape, TwoOp};
 use lil_base::{Boxed, Items, Name, Text};
 
 /// What values are: numbers of a type of whole numbers, truth values, characters, the constants of an enumeration with so
-/// many of them, or sets of numbers from 0 to 15.
+/// many of them, sets of numbers from 0 to 15, or pointers of the type with this number.
 #[derive(Clone, Copy, PartialEq, Eq)]
 pub enum RBase {
     Cardinal,
@@ -18,6 +18,7 @@ pub enum RBase {
     Character,
     Enumeration(u16),
     Set,
+    Pointer(usize),
 }
 
 /// The numbers of a subrange, its ends included.
@@ -79,7 +80,7 @@ pub enum Membership {
 }
 
 /// An expression with each name replaced by its thing, and each constant expression by its value, which stands by its
-/// number. That of a set is the sum of 2 to the power of each number in it. A chain is its first operand, and then each
+/// number. That of a set is the sum of 2 to the power of each number in it, and that of NIL is 0. A chain is its first operand, and then each
 /// operation in its order on what stands before it. A value that stands at a place is of the place's kind. A set has its
 /// members in order, numbers of a kind.
 #[cycle(value)]
@@ -117,12 +118,14 @@ pub struct RPlace {
     pub selectors: Items<RSelector>,
 }
 
-/// A field of a record by its number, or an element of an array by an index of a kind.
+/// A field of a record by its number, an element of an array by an index of a kind, or what a pointer of the type with this
+/// number points to.
 #[cycle(value)]
 #[derive(Drop)]
 pub enum RSelector {
     Field(usize),
     Index(RKind, RExpr),
+    Follow(usize),
 }
 
 /// What is in a set: a number, or all numbers from the first to the second.
@@ -143,7 +146,8 @@ pub enum RArgument {
 }
 
 /// A resolved statement. A place that is stored to has its kind; a copy has its place, and that of what is copied; a string
-/// goes to an array of characters; a set has its place, and the kind of what joins or leaves it. IF has its conditions in
+/// goes to an array of characters; a set has its place, and the kind of what joins or leaves it; NEW has the place of the
+/// pointer, and the number of its type. IF has its conditions in
 /// order, a CASE or an IF without ELSE has none, FOR has its variable, its first value, its last and its step, and WITH
 /// its record.
 #[cycle(resolved)]
@@ -154,6 +158,7 @@ pub enum RStmt {
     Text(RPlace, Text),
     Change(Direction, RPlace, RKind, RExpr),
     Member(Membership, RPlace, RKind, RExpr),
+    New(RPlace, usize),
     Request(RRequest, Items<RArgument>),
     If(Items<RGuard>, Items<RStmt>),
     Case(RExpr, Items<RArm>, Option<Items<RStmt>>),
@@ -198,12 +203,14 @@ pub struct RDeclared {
     pub shape: usize,
 }
 
-/// A resolved program module: its name, the shapes of its types by their numbers, its variables, how many words they take, and its
+/// A resolved program module: its name, the shapes of its types by their numbers, by the same numbers the shapes to which its
+/// pointer types point, its variables, how many words they take, and its
 /// statements.
 #[derive(Drop)]
 pub struct RModule {
     pub name: Name,
     pub shapes: Items<RShape>,
+    pub targets: Items<usize>,
     pub variables: Items<RDeclared>,
     pub words: u16,
     pub body: Items<RStmt>,
@@ -303,7 +310,7 @@ fn selector_depth(selector: &RSelector) -> u32
     ensures { result ≡ min (chain.selector_depth selector.now) 4294967295 }
 {
     match selector {
-        RSelector::Field(_) => 0,
+        RSelector::Field(_) | RSelector::Follow(_) => 0,
         RSelector::Index(_, value) => depth(value).saturating_add(2),
     }
 }

@@ -10,8 +10,6 @@ use Rattle.lil_scope.specs.declared.thing.Thing.TheVariants as t
 
 abbrev pub standard_built : Standard → Bool
 standard_built s.High = false
-standard_built s.New = false
-standard_built s.Dispose = false
 standard_built _ = true
 
 abbrev pub resident_built : Resident → Bool

@@ -10,7 +10,7 @@ fn is_standard_built(standard: Standard) -> bool
     ensures { result ≡ spec.standard_built standard }
 {
     match standard {
-        Standard::High | Standard::New | Standard::Dispose => false,
+        Standard::High => false,
         _ => true,
     }
 }

@@ -1,5 +1,6 @@
 -- What the machine did, by the answer of its run.
 use Rattle.std.proofs.Common.{◌≡◌, ◌≢◌, inl, inr, ℕ, true, false, List, Option, refl, sym, ap, ◌∙◌, subst, arith}
+use Rattle.lil_base.specs.declared.fault.LimitKind.{LimitKind}
 use Rattle.lil_base.specs.declared.fault.TrapKind.{TrapKind}
 use Rattle.lil_resolved.specs.Resolved.{Resolved}
 use Rattle.lil_resolved.specs.Sizes.{IsSmall}
@@ -13,21 +14,26 @@ use Rattle.lil_session.specs.declared.status.Status.{Status}
 use Rattle.lil_session.specs.declared.status.Status.TheVariants as a
 use Rattle.lil_table.specs.Rows.{Translates}
 use Rattle.lil_session.specs.Running.{finish_of, HasRun, IsCut}
-use Rattle.lil_match.specs.Running.{Finish, Running, TrappedBy}
+use Rattle.lil_match.specs.Running.{Finish, Running, TrappedBy, Limited}
 use Rattle.lil_session.specs.Loaded.{EndingAnswers}
 use Rattle.lil_laws.specs.Loading.{loaded}
 use Rattle.lil_session.specs.Outcome.{settled, Allowed, IsOver}
 use Rattle.lil_session.specs.Counted.{IsEnd, FinishAnswers, MachineRan, MachineAnswers}
 use Rattle.lil_session.specs.Report.{is_fixed}
 use Rattle.lil_session.proofs.Enough.{enough}
+use Rattle.lil_session.proofs.Spent.{spent_at}
 
 module _ (p : Resolved) (strings code : List ℕ) (small : IsSmall p strings) (t : Translates p strings code) (steps : ℕ) (old new : Option (List ℕ)) (w : World) where
   abbrev start : State
   start = (loaded p strings code).state
 
+  same_limit : (k j : LimitKind) → a.Limit k ≡ a.Limit j → Limited k ≡ Limited j
+  same_limit k j is = cc
+
   -- a run that took its budget or came to its end
-  ran_all : (end : State) (f : Finish) (s : Status) → HasRun start end steps f old new w → FinishAnswers s steps steps f → (f ≡ Running → settled s ≡ true → s ≡ a.StepsSpent) → (s ≡ a.StepsSpent → f ≡ Running) → s ≢ a.ScreenFault → MachineRan p w steps old new s
-  ran_all end f s ran fits spent goes no_cut = record {
+  ran_all : (end : State) (f : Finish) (s : Status) → HasRun start end steps f old new w → FinishAnswers s steps steps f → (f ≡ Running → settled s ≡ true → s ≡ a.StepsSpent) → (s ≡ a.StepsSpent → f ≡ Running) → ((k : LimitKind) → s ≡ a.Limit k → f ≡ Limited k) → s ≢ a.ScreenFault
+      → MachineRan p w steps old new s
+  ran_all end f s ran fits spent goes full no_cut = record {
     strings = strings;
     code = code;
     translates = t;
@@ -37,19 +43,23 @@ module _ (p : Resolved) (strings code : List ℕ) (small : IsSmall p strings) (t
     shown = λ _. ran.shown;
     cut = λ is. absurd (no_cut is);
     spent = λ on. spent (ran.finish ∙ on);
+    limited = λ k is. spent_at p strings code small t w steps old new k (sym ran.finish ∙ full k is) ran.shown;
     enough = λ is. enough p strings code small t w steps (sym ran.finish ∙ goes is);
   }
 
   pub machine_end : (machine : Machine) (e : Ending) (s : Status) → HasRun start machine.state steps (finish_of e) old new w → EndingAnswers machine e s → MachineAnswers p w steps old new s
   machine_end machine ending.Done s ran is =
-      subst (λ (x : Status). MachineAnswers p w steps old new x) (sym is) (ran_all machine.state (finish_of ending.Done) a.Done ran refl (λ goes ok. cc) (λ is. cc) (λ is. cc))
+      subst (λ (x : Status). MachineAnswers p w steps old new x) (sym is) (ran_all machine.state (finish_of ending.Done) a.Done ran refl (λ goes ok. cc) (λ is. cc) (λ k is. cc) (λ is. cc))
   machine_end machine (ending.Trapped k) s ran (inl memory) =
-      subst (λ (x : Status). MachineAnswers p w steps old new x) (sym memory) (inr (ran_all machine.state (finish_of (ending.Trapped k)) a.Memory ran tt (λ goes ok. cc) (λ is. cc) (λ is. cc)))
+      subst (λ (x : Status). MachineAnswers p w steps old new x) (sym memory) (inr (ran_all machine.state (finish_of (ending.Trapped k)) a.Memory ran tt (λ goes ok. cc) (λ is. cc) (λ k is. cc) (λ is. cc)))
   machine_end machine (ending.Trapped k) s ran (inr (u, is, it)) =
       subst (λ (x : Status). MachineAnswers p w steps old new x) (sym is)
-      (ran_all machine.state (finish_of (ending.Trapped k)) (a.Trapped u) ran (ap (λ (x : TrapKind). TrappedBy x) (sym it.same)) (λ goes ok. cc) (λ is. cc) (λ is. cc))
+      (ran_all machine.state (finish_of (ending.Trapped k)) (a.Trapped u) ran (ap (λ (x : TrapKind). TrappedBy x) (sym it.same)) (λ goes ok. cc) (λ is. cc) (λ k is. cc) (λ is. cc))
+  machine_end machine (ending.Limited k) s ran is =
+      subst (λ (x : Status). MachineAnswers p w steps old new x) (sym is)
+      (ran_all machine.state (finish_of (ending.Limited k)) (a.Limit k) ran refl (λ goes ok. cc) (λ is. cc) (λ j is. same_limit k j is) (λ is. cc))
   machine_end machine ending.Spent s ran is =
-      subst (λ (x : Status). MachineAnswers p w steps old new x) (sym is) (ran_all machine.state (finish_of ending.Spent) a.StepsSpent ran (refl, refl) (λ goes ok. refl) (λ is. refl) (λ is. cc))
+      subst (λ (x : Status). MachineAnswers p w steps old new x) (sym is) (ran_all machine.state (finish_of ending.Spent) a.StepsSpent ran (refl, refl) (λ goes ok. refl) (λ is. refl) (λ k is. cc) (λ is. cc))
   machine_end machine _ s ran is = absurd is
 
   -- a run that the screen stopped: its request failed
@@ -64,6 +74,7 @@ module _ (p : Resolved) (strings code : List ℕ) (small : IsSmall p strings) (t
     shown = λ differs. absurd (differs refl);
     cut = λ is. cut.refused;
     spent = λ goes ok. cc;
+    limited = λ k is. cc;
     enough = λ is. cc;
   }
 
@@ -72,6 +83,7 @@ module _ (p : Resolved) (w : World) (steps : ℕ) (old new : Option (List ℕ)) 
   pub ran_settled : (s : Status) → settled s ≡ true → MachineAnswers p w steps old new s → MachineRan p w steps old new s
   ran_settled a.Done is ran = ran
   ran_settled (a.Trapped t) is ran = ran
+  ran_settled (a.Limit k) is ran = ran
   ran_settled a.StepsSpent is ran = ran
   ran_settled a.VolumeFault is ran = cc
   ran_settled a.ScreenFault is ran = cc
@@ -79,7 +91,7 @@ module _ (p : Resolved) (w : World) (steps : ℕ) (old new : Option (List ℕ)) 
   ran_settled a.Memory is ran = cc
   ran_settled _ is ran = absurd ran
 
-  -- memory is wanted for the lines of a trap alone: those of Done and of a spent budget are fixed
+  -- memory is wanted for the lines of a trap alone: those of Done, of a limit and of a spent budget are fixed
   pub ran_memory : (s : Status) → is_fixed s ≡ false → MachineAnswers p w steps old new s → MachineRan p w steps old new a.Memory
   ran_memory (a.Trapped t) made ran = record {
     strings = ran.strings;
@@ -91,9 +103,11 @@ module _ (p : Resolved) (w : World) (steps : ℕ) (old new : Option (List ℕ)) 
     shown = λ _. ran.shown (λ fault. cc);
     cut = λ is. cc;
     spent = λ goes ok. cc;
+    limited = λ k is. cc;
     enough = λ spent. cc;
   }
   ran_memory a.Done made ran = cc
+  ran_memory (a.Limit k) made ran = cc
   ran_memory a.StepsSpent made ran = cc
   ran_memory a.ScreenFault made ran = cc
   ran_memory a.Memory made ran = cc
@@ -105,6 +119,7 @@ module _ (p : Resolved) (w : World) (steps : ℕ) (old new : Option (List ℕ)) 
   pub over_where : (s : Status) (e : Phase) → is_fixed s ≡ false → MachineAnswers p w steps old new s → Allowed s e → IsOver e
   over_where (a.Trapped t) e made ran allowed = subst IsOver (sym allowed) tt
   over_where a.Done e made ran allowed = cc
+  over_where (a.Limit k) e made ran allowed = cc
   over_where a.StepsSpent e made ran allowed = cc
   over_where a.ScreenFault e made ran allowed = cc
   over_where a.Memory e made ran allowed = cc

@@ -15,7 +15,7 @@ use Rattle.lil_volume.specs.Told.{Files, FileIs, followed_by}
 use Rattle.lil_session.specs.declared.status.Status.{Status}
 use Rattle.lil_session.specs.declared.status.Status.TheVariants as a
 use Rattle.lil_session.specs.Words.{mod_file}
-use Rattle.lil_session.specs.Outcome.{settled, gives_way, with_writes, Allowed, Answers, EndsSo, SourceAnswers, TextAnswers, Blames, Devices, Finds, HasFault, HasMeaning, Headline, IsRunAnswer, IsRunnable, MeansAnswer, ReadsOne, Runs, Shows}
+use Rattle.lil_session.specs.Outcome.{cuts, settled, gives_way, with_writes, Allowed, Answers, EndsSo, SourceAnswers, TextAnswers, Blames, Devices, Finds, HasFault, HasMeaning, Headline, IsRunAnswer, IsRunnable, MeansAnswer, ReadsOne, Runs, Shows}
 use Rattle.lil_session.specs.Counted.{MachineAnswers}
 use Rattle.lil_session.specs.Answered.{TextRan, CommandRan, IsAnswer, IsUnrun}
 use Rattle.lil_session.proofs.Agree.{texts_agree}
@@ -175,7 +175,7 @@ text_memory file text steps old faults = record {
 -- a text that has a meaning was run
 pub text_ran : (file text : List ℕ) (m : Resolved) (steps : ℕ) (old : Option (List ℕ)) (old_faults : ℕ) (new : Option (List ℕ)) (new_faults : ℕ) (s : Status) → ReadsOne file text → HasMeaning file text m
     → ((w : World) → w.screen ≡ [] → Shows m w old new s)
-    → ((w : World) → w.screen ≡ [] → settled s ≡ true → (s ≡ a.StepsSpent) ⊎ MeansAnswer m w s)
+    → ((w : World) → w.screen ≡ [] → settled s ≡ true → (cuts s ≡ true) ⊎ MeansAnswer m w s)
     → IsRunAnswer s → ((w : World) → w.screen ≡ [] → MachineAnswers m w steps old new s) → Blames a.ScreenFault old_faults new_faults s → (s ≡ a.ScreenFault) ⊎ (new_faults ≡ old_faults)
     → TextRan file text steps old old_faults new new_faults s
 text_ran file text m steps old old_faults new new_faults s unique meaning shows answer kinds machine cause told = record {
@@ -192,8 +192,8 @@ text_ran file text m steps old old_faults new new_faults s unique meaning shows 
   told = told;
 }
   where
-    either : {w : World} → (s ≡ a.StepsSpent) ⊎ MeansAnswer m w s → (s ≡ a.StepsSpent) ⊎ TextAnswers file text w s
-    either (inl is) = inl is
+    either : {w : World} → (cuts s ≡ true) ⊎ MeansAnswer m w s → (cuts s ≡ true) ⊎ TextAnswers file text w s
+    either (inl cut) = inl cut
     either (inr means) = inr (inr (m, meaning, means))
 
     no_fault : (f : SourceFault) → s ≡ a.SourceFault f → ⊥
@@ -235,8 +235,8 @@ source_ran file text steps before files faults shown screen_faults s is same qui
     no {t} here fault run =
         elim ran.kinds [ inl (f, is) ↦ fault f (sym here ∙ is) | inr kind ↦ run (subst (λ (u : Status). IsRunAnswer u) here kind) ]
 
-    either : (w : World) → Some text ≡ get w.files (mod_file file) → (s ≡ a.StepsSpent) ⊎ TextAnswers file text w s → (s ≡ a.StepsSpent) ⊎ Answers (Some file) w s
-    either w there (inl spent) = inl spent
+    either : (w : World) → Some text ≡ get w.files (mod_file file) → (cuts s ≡ true) ⊎ TextAnswers file text w s → (cuts s ≡ true) ⊎ Answers (Some file) w s
+    either w there (inl cut) = inl cut
     either w there (inr answers) = inr (subst (λ (o : Option (List ℕ)). SourceAnswers file w o s) there answers)
 
     called : ((shown ≡ before.shown) × (screen_faults ≡ before.screen_faults)) ⊎ ((p : Resolved) × HasMeaning file text p)
@@ -264,14 +264,15 @@ source_ran file text steps before files faults shown screen_faults s is same qui
         let same_text : text ≡ runs.text = some_same text runs.text (here ∙ ap (λ (n : List ℕ). get w.files (mod_file n)) same_name ∙ runs.there) in
         subst (λ (u : List ℕ). HasMeaning file u p) (sym same_text) (subst (λ (n : List ℕ). HasMeaning n runs.text p) (sym same_name) runs.meaning)
 
-    ended : (w : World) (p : Resolved) (n : ℕ) (t : Status) → Finds before.files before.keys w → Runs (Some file) w p → EndsSo (state_of p w n).phase t → ReadsOne file text → (s ≡ a.StepsSpent) ⊎ TextAnswers file text w s → (s ≡ a.StepsSpent) ⊎ (s ≡ t)
-    ended w p n t finds runs ends unique (inl spent) = inl spent
+    ended : (w : World) (p : Resolved) (n : ℕ) (t : Status) → Finds before.files before.keys w → Runs (Some file) w p → EndsSo (state_of p w n).phase t → ReadsOne file text → (cuts s ≡ true) ⊎ TextAnswers file text w s → (cuts s ≡ true) ⊎ (s ≡ t)
+    ended w p n t finds runs ends unique (inl cut) = inl cut
     ended w p n t finds runs ends unique (inr answers) =
         inr (texts_agree file text unique w s t answers (inr (p, meaning_here w p finds runs, record { steps = n; ends = ends })))
 
     run_comes : (t : Status) → IsRunAnswer t → IsAnswer t
     run_comes a.Done kind = tt
     run_comes (a.Trapped t) kind = tt
+    run_comes (a.Limit k) kind = kind
     run_comes a.StepsSpent kind = tt
     run_comes a.ScreenFault kind = tt
     run_comes a.Memory kind = tt
@@ -284,6 +285,7 @@ source_ran file text steps before files faults shown screen_faults s is same qui
     run_not : (t : Status) → IsRunAnswer t → IsUnrun t → ⊥
     run_not a.Done kind unrun = unrun
     run_not (a.Trapped t) kind unrun = unrun
+    run_not (a.Limit k) kind unrun = unrun
     run_not a.StepsSpent kind unrun = unrun
     run_not a.ScreenFault kind unrun = unrun
     run_not a.Memory kind unrun = unrun

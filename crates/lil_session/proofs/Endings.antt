@@ -1,10 +1,12 @@
 -- What the run of a translation shows, and how it ends.
-use Rattle.std.proofs.Common.{◌≡◌, ◌≢◌, ℕ, zero, suc, true, Option, Some, None, List, [], ◌∷◌, ◌++◌, refl, sym, ap, ◌∙◌, subst, ◌⊎◌, inl, inr, arith}
+use Rattle.std.proofs.Common.{◌≡◌, ◌≢◌, ℕ, zero, suc, true, ◌<◌, ◌≤◌, Option, Some, None, List, [], ◌∷◌, ◌++◌, refl, sym, ap, ◌∙◌, subst, ◌⊎◌, inl, inr, arith, append_assoc}
+use Rattle.std.proofs.lemmas.Bool.{cases_lt}
+use Rattle.std.proofs.lemmas.List.{append-nil, append_cancel_left}
 use Rattle.std.specs.Ordering.{nat_cmp}
 use Rattle.std.specs.Cmp.Lexicographic.{slice_cmp}
 use Rattle.std.specs.FinMap.{from_entries}
-use Rattle.std.proofs.lemmas.Bool.{true≢false}
 use Rattle.std.proofs.lemmas.Option.{same_Some}
+use Rattle.lil_base.specs.declared.fault.LimitKind.{LimitKind}
 use Rattle.lil_base.specs.declared.fault.TrapKind.{TrapKind}
 use Rattle.lil_base.specs.declared.fault.TrapAt.{TrapAt}
 use Rattle.lil_resolved.specs.Resolved.{Resolved}
@@ -26,12 +28,13 @@ use Rattle.lil_session.specs.Running.{finish_of, HasRun, IsCut, IsRefused}
 use Rattle.lil_match.specs.Running.{Finish, Running, Finished, TrappedBy, Limited, Broken, Run, mrun, running, react, advanced, unless_over}
 use Rattle.lil_session.specs.Loaded.{IsIn, IsTrapOf, EndingAnswers, IsPossible}
 use Rattle.lil_laws.specs.Loading.{body_alone}
-use Rattle.lil_session.specs.Outcome.{settled, Shows, Allowed, EndsSo, IsOver, MeansAnswer, IsRunAnswer, Blames}
+use Rattle.lil_session.specs.Outcome.{cuts, settled, Shows, Allowed, EndsSo, IsOver, MeansAnswer, IsRunAnswer, Blames}
 use Rattle.lil_meaning.specs.Runs.{begun, state_of}
-use Rattle.lil_session.proofs.Screens.{next_piece, one_grows}
+use Rattle.lil_session.proofs.Screens.{next_piece, later_grows}
 use Rattle.lil_session.proofs.Pieces.{nothing_first}
-use Rattle.lil_session.proofs.Cuts.{whole_piece}
+use Rattle.lil_session.proofs.Cuts.{later_grown, ends_later, whole_piece}
 use Rattle.lil_laws.specs.Whole.{TrapsIn, claimed, mrun_add}
+use Rattle.lil_laws.specs.Reaching.{Reaches}
 use Rattle.lil_laws.specs.Alone.{table, own, own_traps, begins, correct, reached, alone_traps}
 
 -- some world in which nothing was shown
@@ -99,11 +102,11 @@ module _ (p : Resolved) (strings code : List ℕ) (small : IsSmall p strings) (t
         let c = correct p strings code small t w steps in
         subst (λ (m : State). TrapsIn its k m (state_of p w c.n).phase) (sym ran.machine) (claimed (TrappedBy k) c.agrees (sym ran.finish))
 
-    -- a limit and bad code never come
+    -- of the limits that of the store alone comes, and bad code never
     pub possible : (e : Ending) → ((w : World) → w.screen ≡ [] → Ran e w) → Looked e → IsPossible machine e
     possible (ending.Trapped k) ran at =
         (own p strings code small t, is_in machine k (state_of p some_world (correct p strings code small t some_world steps).n).phase (at k refl) (traps k some_world (ran some_world some_blank)))
-    possible (ending.Limited k) ran at = absurd (true≢false (claimed (Limited k) (correct p strings code small t some_world steps).agrees (sym (ran some_world some_blank).finish)))
+    possible (ending.Limited k) ran at = (claimed (Limited k) (correct p strings code small t some_world steps).agrees (sym (ran some_world some_blank).finish)).kind
     possible ending.Broken ran at = absurd (claimed Broken (correct p strings code small t some_world steps).agrees (sym (ran some_world some_blank).finish))
     possible _ ran at = tt
 
@@ -115,19 +118,20 @@ module _ (p : Resolved) (strings code : List ℕ) (small : IsSmall p strings) (t
     allowed ending.Done s w ran is at = subst (λ (y : Status). Allowed y (there w)) (sym is) (claimed Finished (correct p strings code small t w steps).agrees (sym ran.finish))
     allowed (ending.Trapped k) s w ran (inl memory) at = subst (λ (y : Status). Allowed y (there w)) (sym memory) tt
     allowed (ending.Trapped k) s w ran (inr (u, is, it)) at = subst (λ (y : Status). Allowed y (there w)) (sym is) (one_trap machine k (there w) (at k refl) (traps k w ran) u it)
+    allowed (ending.Limited k) s w ran is at = subst (λ (y : Status). Allowed y (there w)) (sym is) tt
     allowed ending.Spent s w ran is at = subst (λ (y : Status). Allowed y (there w)) (sym is) tt
     allowed _ s w ran is at = absurd is
 
     no_fault : (e : Ending) (s : Status) → EndingAnswers machine e s → s ≢ a.ScreenFault
     no_fault (ending.Trapped k) s (inl memory) f = let e = sym memory ∙ f in cc
     no_fault (ending.Trapped k) s (inr (u, is, it)) f = let e = sym is ∙ f in cc
-    no_fault (ending.Limited k) s is f = is
     no_fault ending.Broken s is f = is
     no_fault _ s is f = let e = sym is ∙ f in cc
 
     stops : (e : Ending) (s : Status) (w : World) → Ran e w → EndingAnswers machine e s → s ≡ a.Memory → IsOver (there w)
     stops ending.Done s w ran is memory = absurd (let e = sym is ∙ memory in cc)
     stops (ending.Trapped k) s w ran is memory = subst IsOver (sym (alone_traps p strings code small t k machine.state (there w) (traps k w ran))) tt
+    stops (ending.Limited k) s w ran is memory = absurd (let e = sym is ∙ memory in cc)
     stops ending.Spent s w ran is memory = absurd (let e = sym is ∙ memory in cc)
     stops _ s w ran is memory = absurd is
 
@@ -145,23 +149,24 @@ module _ (p : Resolved) (strings code : List ℕ) (small : IsSmall p strings) (t
           };
         }
 
-    -- a settled answer is the end of the meaning, unless the steps were spent
-    pub means_end : (e : Ending) (s : Status) (w : World) → Ran e w → EndingAnswers machine e s → Looked e → settled s ≡ true → (s ≡ a.StepsSpent) ⊎ MeansAnswer p w s
+    -- a settled answer is the end of the meaning, unless the run was cut short
+    pub means_end : (e : Ending) (s : Status) (w : World) → Ran e w → EndingAnswers machine e s → Looked e → settled s ≡ true → (cuts s ≡ true) ⊎ MeansAnswer p w s
     means_end ending.Done s w ran is at ok =
         let c = correct p strings code small t w steps in
         inr (record { steps = c.n; ends = subst (λ (x : Phase). EndsSo x s) (sym (claimed Finished c.agrees (sym ran.finish))) is })
     means_end (ending.Trapped k) s w ran (inl memory) at ok = absurd (let e = ap settled memory in cc)
     means_end (ending.Trapped k) s w ran (inr (u, is, it)) at ok =
         inr (record { steps = (correct p strings code small t w steps).n; ends = subst (λ (x : Phase). EndsSo x s) (sym (one_trap machine k (there w) (at k refl) (traps k w ran) u it)) is })
-    means_end ending.Spent s w ran is at ok = inl is
+    means_end (ending.Limited k) s w ran is at ok = inl (ap cuts is)
+    means_end ending.Spent s w ran is at ok = inl (ap cuts is)
     means_end _ s w ran is at ok = absurd is
 
-    pub kind_end : (e : Ending) (s : Status) → EndingAnswers machine e s → IsRunAnswer s
-    kind_end (ending.Trapped k) s (inl memory) = subst IsRunAnswer (sym memory) tt
-    kind_end (ending.Trapped k) s (inr (u, is, it)) = subst IsRunAnswer (sym is) tt
-    kind_end (ending.Limited k) s is = absurd is
-    kind_end ending.Broken s is = absurd is
-    kind_end _ s is = subst IsRunAnswer (sym is) tt
+    pub kind_end : (e : Ending) (s : Status) → IsPossible machine e → EndingAnswers machine e s → IsRunAnswer s
+    kind_end (ending.Trapped k) s can (inl memory) = subst IsRunAnswer (sym memory) tt
+    kind_end (ending.Trapped k) s can (inr (u, is, it)) = subst IsRunAnswer (sym is) tt
+    kind_end (ending.Limited k) s can is = subst IsRunAnswer (sym is) can
+    kind_end ending.Broken s can is = absurd is
+    kind_end _ s can is = subst IsRunAnswer (sym is) tt
 
     pub blames_end : (e : Ending) (s : Status) (before now : ℕ) → EndingAnswers machine e s → now ≡ before → Blames a.ScreenFault before now s
     blames_end e s before now is same = record {
@@ -202,16 +207,40 @@ module _ (p : Resolved) (strings code : List ℕ) (small : IsSmall p strings) (t
       };
     }
 
+    -- No limit is met before the state that adds something behind what was shown: the run has shown a piece there.
+    came : (m b : ℕ) (rest : List ℕ) → (state_of p w m).world.screen ≡ shown → (mrun (suc cut.done) from).world.screen ≡ shown ++ b ∷ rest → (r : Reaches (p ∷ []) first from (suc m))
+        → (mrun r.steps from).world.screen ≡ (state_of p w (suc m)).world.screen
+    came m b rest before behind r = by r.all (cases_lt m r.state)
+      where
+        there : r.state ≡ suc m → (mrun r.steps from).world.screen ≡ (state_of p w (suc m)).world.screen
+        there same = r.screen ∙ ap (λ (n : ℕ). (state_of p w n).world.screen) same
+
+        less : (k : LimitKind) → (mrun r.steps from).finish ≡ Limited k → r.state ≤ m → ⊥
+        less k limited le =
+            let later : cut.done < r.steps = ends_later from cut.done r.steps (Limited k) (λ e. cc) limited cut.finish in
+            let more = later_grown from (suc cut.done) r.steps (omega (arith, later)) in
+            let g = later_grows (p ∷ []) r.state m first le in
+            let run_shown : (state_of p w r.state).world.screen ≡ (shown ++ b ∷ rest) ++ more.0 = sym r.screen ∙ more.1 ∙ ap (λ (l : List ℕ). l ++ more.0) behind in
+            let both : shown ++ [] ≡ shown ++ (b ∷ rest ++ (more.0 ++ g.piece)) =
+            append-nil shown ∙ sym before ∙ g.adds ∙ ap (λ (l : List ℕ). l ++ g.piece) run_shown ∙ append_assoc (shown ++ b ∷ rest) more.0 g.piece ∙ append_assoc shown (b ∷ rest) (more.0 ++ g.piece) in
+            let clash : [] ≡ b ∷ rest ++ (more.0 ++ g.piece) = append_cancel_left shown [] (b ∷ rest ++ (more.0 ++ g.piece)) both in
+            cc
+
+        by : (r.state ≡ suc m) ⊎ ((k : LimitKind) × ((mrun r.steps from).finish ≡ Limited k)) → (m < r.state) ⊎ (r.state ≤ m) → (mrun r.steps from).world.screen ≡ (state_of p w (suc m)).world.screen
+        by (inl same) order = there same
+        by (inr limited) (inl far) = there (omega (arith, far, r.within))
+        by (inr (k, limited)) (inr le) = absurd (less k limited le)
+
     by_piece : (piece : List ℕ) → (mrun (suc cut.done) from).world.screen ≡ shown ++ piece → FollowedByPrefix (followed_by old run.world.screen) piece new → Shows p w old new a.ScreenFault
     by_piece [] behind prefix =
-        let more = one_grows (p ∷ []) so_far first in
+        let more = later_grows (p ∷ []) so_far (suc so_far) first (omega arith) in
         cut_at so_far more.piece more.adds (nothing_first (followed_by old shown) new more.piece (subst (λ (l : List ℕ). FollowedByPrefix (followed_by old l) [] new) at prefix))
     by_piece (b ∷ rest) behind prefix =
         let piece : List ℕ = b ∷ rest in
         let d = correct p strings code small t w (suc cut.done) in
         let f = next_piece (p ∷ []) first so_far d.n piece (λ e. cc) (ap (λ (x : World). x.screen) (sym d.agrees.world) ∙ behind) in
         let r = reached p strings code small t w (suc f.m) in
-        let is : f.first ≡ piece = whole_piece from cut.done r.steps shown piece f.first f.rest at behind f.whole f.some (r.screen ∙ f.behind) in
+        let is : f.first ≡ piece = whole_piece from cut.done r.steps shown piece f.first f.rest at behind f.whole f.some (came f.m b rest f.before behind r ∙ f.behind) in
         cut_at f.m piece (f.behind ∙ ap (λ (l : List ℕ). l ++ f.first) (sym f.before) ∙ ap (λ (l : List ℕ). (state_of p w f.m).world.screen ++ l) is)
         (subst (λ (l : List ℕ). FollowedByPrefix (followed_by old l) piece new) (at ∙ sym f.before) prefix)
 

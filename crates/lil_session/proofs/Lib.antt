@@ -9,6 +9,7 @@ mod Endings
 mod Enough
 mod Pieces
 mod Screens
+mod Spent
 mod Stays
 mod Telling
 mod Turns

@@ -6,14 +6,14 @@ use Rattle.std.proofs.lemmas.List.{append-nil, append_cancel_left}
 use Rattle.lil_base.specs.declared.fault.TrapKind.{TrapKind}
 use Rattle.lil_base.specs.declared.fault.TrapAt.{TrapAt}
 use Rattle.lil_resolved.specs.Kinds.{Kind}
-use Rattle.lil_resolved.specs.Scalars.{Scalar, within, value_with, ordinal_of}
+use Rattle.lil_resolved.specs.Scalars.{Scalar, ToObject, within, value_with, ordinal_of}
 use Rattle.lil_resolved.specs.Resolved.{Designator, Held, Expression, Taken, Argument, ByValue, OfArray, OfText, Statement, Exit, Statements, Resolved, counted_as}
 use Rattle.lil_meaning.specs.Cells.{Place, got}
 use Rattle.lil_meaning.specs.World.{World, Given, serve, piece_of, closing}
 use Rattle.lil_meaning.specs.Closings.{closing_shuts, nothing_open}
 use Rattle.lil_meaning.specs.Items.{Datum, Scalars, Places, Hole, Get, StoreAt, ChangeAt, OneOf, RightOf, ApplyTo, Pass, Pick, Task, Do, Passing, Item, Value, Evaluate, PlaceOf, Fill, Perform, Level, Phase, Going, Closing, Source}
 use Rattle.lil_meaning.specs.Items as items
-use Rattle.lil_meaning.specs.Steps.{next, by_phase, first, given, fill, filled, filled_place, performed, did, turned_with, turned_on, picked, held_at, placed, passed, evaluated, answered, applied, one_applied, function_value, chosen, stored_with, value_of, changed, whole_of, given_of, level_of, over, left_by, leave}
+use Rattle.lil_meaning.specs.Steps.{next, by_phase, first, given, fill, filled, filled_place, pointed, performed, did, turned_with, turned_on, picked, held_at, placed, passed, evaluated, answered, applied, one_applied, function_value, chosen, stored_with, value_of, changed, whole_of, given_of, level_of, over, left_by, leave}
 use Rattle.lil_meaning.specs.Runs.{after}
 use Rattle.lil_laws.specs.Whole.{after_sum}
 
@@ -72,8 +72,13 @@ module _ (library : List Resolved) (s : Source) where
   filled_serves (Pick arms) v k = picked_serves (chosen arms (ordinal_of v)) k
   filled_serves _ v k = (still refl refl)
 
-  placed_fill : (h : Hole) (p : Place) (k : List Item) → Serves s (filled_place h p k s)
+  pointed_serves : (v : Scalar) (k : List Item) → Serves s (pointed library v k s)
+  pointed_serves (ToObject o) k = (still refl refl)
+  pointed_serves _ k = (still refl refl)
+
+  placed_fill : (h : Hole) (p : Place) (k : List Item) → Serves s (filled_place library h p k s)
   placed_fill Get p k = (still refl refl)
+  placed_fill items.Pointed p k = pointed_serves (got s.cells p) k
   placed_fill _ p k = (still refl refl)
 
   fill_serves : (d : Datum) (h : Hole) (k : List Item) → Serves s (fill library d h k s)
@@ -197,13 +202,12 @@ after_grows library (suc n) s =
       keys = rest.keys ∙ one.keys;
     }
 
--- one step more has shown more
-pub one_grows : (library : List Resolved) (n : ℕ) (s : Source) → Grows (after library n s) (after library (suc n) s)
-one_grows library n s =
-    let t : Source = after library n s in
-    let one : suc n ≡ n + 1 = omega arith in
-    let behind : after library (suc n) s ≡ next library t = ap (λ (k : ℕ). after library k s) one ∙ after_sum library n 1 s in
-    subst (λ (u : Source). Grows t u) (sym behind) (next_grows t (next library t) (next_serves library t).world)
+-- a later number of steps has shown more
+pub later_grows : (library : List Resolved) (i n : ℕ) (s : Source) → i ≤ n → Grows (after library i s) (after library n s)
+later_grows library i n s le =
+    let sum : n ≡ i + (n - i) = omega arith in
+    let there : after library (n - i) (after library i s) ≡ after library n s = sym (after_sum library i (n - i) s) ∙ ap (λ (k : ℕ). after library k s) (sym sum) in
+    subst (λ (t : Source). Grows (after library i s) t) there (after_grows library (n - i) (after library i s))
 
 -- A step that shows something where so much was shown before: the first of those by which a piece came.
 pub record Adds (library : List Resolved) (s : Source) (shown piece : List ℕ) : Type 0 where
@@ -274,9 +278,6 @@ next_piece library s c d piece some e = by_order (cases_lt c d)
           whole = f.whole;
         }
     by_order (inr less) =
-        let sum : c ≡ d + (c - d) = omega arith in
-        let g = after_grows library (c - d) (after library d s) in
-        let there : shown ≡ (after library d s).world.screen ++ g.piece =
-        ap (λ (n : ℕ). (after library n s).world.screen) sum ∙ ap (λ (t : Source). t.world.screen) (after_sum library d (c - d) s) ∙ g.adds in
-        let whole : shown ++ [] ≡ shown ++ (piece ++ g.piece) = append-nil shown ∙ there ∙ ap (λ (l : List ℕ). l ++ g.piece) e ∙ append_assoc shown piece g.piece in
+        let g = later_grows library d c s less in
+        let whole : shown ++ [] ≡ shown ++ (piece ++ g.piece) = append-nil shown ∙ g.adds ∙ ap (λ (l : List ℕ). l ++ g.piece) e ∙ append_assoc shown piece g.piece in
         absurd (longer piece g.piece some (append_cancel_left shown [] (piece ++ g.piece) whole))

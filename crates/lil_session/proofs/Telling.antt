@@ -8,7 +8,7 @@ use Rattle.lil_meaning.specs.Runs.{state_of}
 use Rattle.lil_volume.specs.Told.{followed_by}
 use Rattle.lil_session.specs.declared.status.Status.{Status}
 use Rattle.lil_session.specs.declared.status.Status.TheVariants as a
-use Rattle.lil_session.specs.Outcome.{settled, gives_way, Allowed, Answers, Blames, EndsSo, Finds, Headline, IsOver, Runs}
+use Rattle.lil_session.specs.Outcome.{cuts, settled, gives_way, Allowed, Answers, Blames, EndsSo, Finds, Headline, IsOver, Runs}
 use Rattle.lil_session.specs.Counted.{MachineAnswers}
 use Rattle.lil_session.specs.Report.{status_lines, is_fixed, Became}
 use Rattle.lil_session.specs.Answered.{IsAnswer, IsUnrun, Call, CommandReported, Answered}
@@ -101,18 +101,18 @@ module _ {call : Call} {result : Status} (told : CommandReported call result) wh
         (λ ok lines. (inner, ok, lines, ran_settled p w call.steps call.before.shown call.after.shown inner ok m))
         (λ ok made. inr (ran_memory p w call.steps call.before.shown call.after.shown inner made m))
 
-    ends_where : (n : ℕ) (s : Status) → EndsSo (state_of p w n).phase s → settled result ≡ true → (result ≡ a.StepsSpent) ⊎ (result ≡ s)
+    ends_where : (n : ℕ) (s : Status) → EndsSo (state_of p w n).phase s → settled result ≡ true → (cuts result ≡ true) ⊎ (result ≡ s)
     ends_where n s ends ok =
         let same = same_settled ok in
-        subst (λ (t : Status). (t ≡ a.StepsSpent) ⊎ (t ≡ s)) (sym same) (told.ran.ends_where w p n s finds runs ends (ap settled (sym same) ∙ ok))
+        subst (λ (t : Status). (cuts t ≡ true) ⊎ (t ≡ s)) (sym same) (told.ran.ends_where w p n s finds runs ends (ap settled (sym same) ∙ ok))
 
     phase_is : (s : Status) → result ≡ s → (n : ℕ) × Allowed s (state_of p w n).phase
     phase_is s is = (headline.n, subst (λ (t : Status). Allowed t (state_of p w headline.n).phase) is headline.shown.ends)
 
-  answer : (w : World) → Finds call.before.files call.before.keys w → settled result ≡ true → (result ≡ a.StepsSpent) ⊎ Answers call.name w result
+  answer : (w : World) → Finds call.before.files call.before.keys w → settled result ≡ true → (cuts result ≡ true) ⊎ Answers call.name w result
   answer w finds ok =
       let same = same_settled ok in
-      subst (λ (s : Status). (s ≡ a.StepsSpent) ⊎ Answers call.name w s) (sym same) (told.ran.answer w finds (ap settled (sym same) ∙ ok))
+      subst (λ (s : Status). (cuts s ≡ true) ⊎ Answers call.name w s) (sym same) (told.ran.answer w finds (ap settled (sym same) ∙ ok))
 
   comes : IsAnswer result
   comes = by_report IsAnswer told.ran.kinds (λ ok lines. tt) (λ ok made. tt)

@@ -3,6 +3,7 @@ use Rattle.std.specs.Prelude.{◌≡◌, ◌≢◌, ◌⊎◌, ℕ, true, false,
 use Rattle.std.specs.FinMap.{get}
 use Rattle.lil_base.specs.declared.fault.SourceFault.{SourceFault}
 use Rattle.lil_base.specs.declared.fault.TrapAt.{TrapAt}
+use Rattle.lil_base.specs.declared.fault.LimitKind.TheVariants as limit
 use Rattle.lil_resolved.specs.Resolved.{Resolved}
 use Rattle.lil_meaning.specs.World.{World}
 use Rattle.lil_meaning.specs.Items.{Ended, Trapped}
@@ -12,11 +13,11 @@ use Rattle.lil_volume.specs.Told.{Files, followed_by, FollowedByPrefix}
 use Rattle.lil_session.specs.declared.status.Status.{Status}
 use Rattle.lil_session.specs.declared.status.Status.TheVariants as a
 use Rattle.lil_session.specs.Words.{mod_file}
-use Rattle.lil_session.specs.Outcome.{Answers, Blames, Devices, EndsSo, Finds, HasFault, HasMeaning, Headline, IsRunAnswer, IsRunnable, ReadsOne, ReportBlames, MeansAnswer, Runs, Shows, TextAnswers, Verdict, Refused, Means, gives_way, settled}
+use Rattle.lil_session.specs.Outcome.{Answers, Blames, Devices, EndsSo, Finds, HasFault, HasMeaning, Headline, IsRunAnswer, IsRunnable, ReadsOne, ReportBlames, MeansAnswer, Runs, Shows, TextAnswers, Verdict, Refused, Means, cuts, gives_way, settled}
 use Rattle.lil_session.specs.Counted.{MachineAnswers, MachineRan}
 use Rattle.lil_session.specs.Report.{Reported, status_lines}
 
--- the answers of the program: all but those of what isn't built
+-- the answers of the program: all but those of what isn't built; of the limits that of the store alone
 abbrev pub IsAnswer : Status → Type 0
 IsAnswer a.Done = ⊤
 IsAnswer a.Usage = ⊤
@@ -24,7 +25,7 @@ IsAnswer (a.NoFile _) = ⊤
 IsAnswer (a.SourceFault _) = ⊤
 IsAnswer (a.LoadRefused _) = ⊥
 IsAnswer (a.Trapped _) = ⊤
-IsAnswer (a.Limit _) = ⊥
+IsAnswer (a.Limit k) = k ≡ limit.Store
 IsAnswer a.StepsSpent = ⊤
 IsAnswer a.VolumeFault = ⊤
 IsAnswer a.KeyFault = ⊥
@@ -45,7 +46,7 @@ IsUnrun _ = ⊥
 -- A module was run.
 pub record ModuleRan (p : Resolved) (steps : ℕ) (old : Option (List ℕ)) (old_faults : ℕ) (new : Option (List ℕ)) (new_faults : ℕ) (status : Status) : Type 0 where
   pub shows : (w : World) → w.screen ≡ [] → Shows p w old new status
-  pub answer : (w : World) → w.screen ≡ [] → settled status ≡ true → (status ≡ a.StepsSpent) ⊎ MeansAnswer p w status
+  pub answer : (w : World) → w.screen ≡ [] → settled status ≡ true → (cuts status ≡ true) ⊎ MeansAnswer p w status
   pub kinds : IsRunAnswer status
   pub machine : (w : World) → w.screen ≡ [] → MachineAnswers p w steps old new status
   pub cause : Blames a.ScreenFault old_faults new_faults status
@@ -59,7 +60,7 @@ Carried (Means p) steps old old_faults new new_faults s = ModuleRan p steps old 
 -- The text of the file of this name was run where it has no fault.
 pub record TextRan (file text : List ℕ) (steps : ℕ) (old : Option (List ℕ)) (old_faults : ℕ) (new : Option (List ℕ)) (new_faults : ℕ) (status : Status) : Type 0 where
   pub one : settled status ≡ true → ReadsOne file text
-  pub answer : (w : World) → w.screen ≡ [] → settled status ≡ true → (status ≡ a.StepsSpent) ⊎ TextAnswers file text w status
+  pub answer : (w : World) → w.screen ≡ [] → settled status ≡ true → (cuts status ≡ true) ⊎ TextAnswers file text w status
   pub fault_only : (f : SourceFault) → status ≡ a.SourceFault f → HasFault file text f
   pub fault_where : (f : SourceFault) → HasFault file text f → gives_way status ≡ false → status ≡ a.SourceFault f
   pub kinds : ((f : SourceFault) × (status ≡ a.SourceFault f)) ⊎ IsRunAnswer status
@@ -72,10 +73,10 @@ pub record TextRan (file text : List ℕ) (steps : ℕ) (old : Option (List ℕ)
 
 -- A command was done as far as the devices go, and its lines are still to be written.
 pub record CommandRan (name : Option (List ℕ)) (steps : ℕ) (before after : Devices) (status : Status) : Type 0 where
-  -- unless a device failed, memory was refused or the steps were spent, the answer is the command's
-  pub answer : (w : World) → Finds before.files before.keys w → settled status ≡ true → (status ≡ a.StepsSpent) ⊎ Answers name w status
+  -- unless a device failed, memory was refused or the run was cut short, the answer is the command's
+  pub answer : (w : World) → Finds before.files before.keys w → settled status ≡ true → (cuts status ≡ true) ⊎ Answers name w status
   -- and of a text with a meaning it is the meaning's end, where that has one
-  pub ends_where : (w : World) (p : Resolved) (n : ℕ) (s : Status) → Finds before.files before.keys w → Runs name w p → EndsSo (state_of p w n).phase s → settled status ≡ true → (status ≡ a.StepsSpent) ⊎ (status ≡ s)
+  pub ends_where : (w : World) (p : Resolved) (n : ℕ) (s : Status) → Finds before.files before.keys w → Runs name w p → EndsSo (state_of p w n).phase s → settled status ≡ true → (cuts status ≡ true) ⊎ (status ≡ s)
   -- usage comes exactly where the words name no module
   pub usage_only : status ≡ a.Usage → name ≡ None
   pub usage_where : name ≡ None → gives_way status ≡ false → status ≡ a.Usage
@@ -135,9 +136,10 @@ pub record CommandReported (call : Call) (result : Status) : Type 0 where
 pub record Answered (call : Call) (result : Status) : Type 0 where
   -- What a text with a meaning shows, and how it ends, is what its meaning says.
   pub headline : (w : World) (p : Resolved) → Finds call.before.files call.before.keys w → Runs call.name w p → Headline p w call.before call.after result
-  -- Unless a device fails, memory is refused or the steps are spent, the answer is the command's.
-  pub answer : (w : World) → Finds call.before.files call.before.keys w → settled result ≡ true → (result ≡ a.StepsSpent) ⊎ Answers call.name w result
-  -- The machine ran a translation of the text within the budget, and the steps are spent exactly where that has no end.
+  -- Unless a device fails, memory is refused or the run is cut short, the answer is the command's.
+  pub answer : (w : World) → Finds call.before.files call.before.keys w → settled result ≡ true → (cuts result ≡ true) ⊎ Answers call.name w result
+  -- The machine ran a translation of the text within the budget; the steps are spent exactly where that has no end, and the limit of the
+  -- store comes only where the objects of the meaning take more words than there are.
   pub machine : (w : World) (p : Resolved) → Finds call.before.files call.before.keys w → Runs call.name w p → MachineAnswers p w call.steps call.before.shown call.after.shown result
   -- Usage comes exactly where the words name no module.
   pub usage_only : result ≡ a.Usage → call.name ≡ None
@@ -150,12 +152,12 @@ pub record Answered (call : Call) (result : Status) : Type 0 where
       → (x : List ℕ) × (call.name ≡ Some x) × ((text : List ℕ) × (get m (mod_file x) ≡ Some text) × HasFault x text f)
   pub fault_where : (m : Files) (x text : List ℕ) (f : SourceFault) → call.before.files ≡ Some m → call.name ≡ Some x → get m (mod_file x) ≡ Some text → HasFault x text f
       → settled result ≡ true → result ≡ a.SourceFault f
-  -- Unless the steps are spent, Done comes exactly where the meaning ends, and a trap exactly where it traps so.
+  -- Unless the run is cut short, Done comes exactly where the meaning ends, and a trap exactly where it traps so.
   pub done_only : (w : World) (p : Resolved) → Finds call.before.files call.before.keys w → Runs call.name w p → result ≡ a.Done → (n : ℕ) × ((state_of p w n).phase ≡ Ended)
-  pub done_where : (w : World) (p : Resolved) (n : ℕ) → Finds call.before.files call.before.keys w → Runs call.name w p → (state_of p w n).phase ≡ Ended → settled result ≡ true → (result ≡ a.StepsSpent) ⊎ (result ≡ a.Done)
+  pub done_where : (w : World) (p : Resolved) (n : ℕ) → Finds call.before.files call.before.keys w → Runs call.name w p → (state_of p w n).phase ≡ Ended → settled result ≡ true → (cuts result ≡ true) ⊎ (result ≡ a.Done)
   pub trapped_only : (w : World) (p : Resolved) (t : TrapAt) → Finds call.before.files call.before.keys w → Runs call.name w p → result ≡ a.Trapped t → (n : ℕ) × ((state_of p w n).phase ≡ Trapped t)
   pub trapped_where : (w : World) (p : Resolved) (n : ℕ) (t : TrapAt) → Finds call.before.files call.before.keys w → Runs call.name w p → (state_of p w n).phase ≡ Trapped t → settled result ≡ true
-      → (result ≡ a.StepsSpent) ⊎ (result ≡ a.Trapped t)
+      → (cuts result ≡ true) ⊎ (result ≡ a.Trapped t)
   -- No other status comes.
   pub settles : (settled result ≡ true) ⊎ ((result ≡ a.VolumeFault) ⊎ ((result ≡ a.ScreenFault) ⊎ ((result ≡ a.ReportFault) ⊎ (result ≡ a.Memory))))
   pub no_other : IsAnswer result
@@ -185,7 +187,7 @@ pub record Answered (call : Call) (result : Status) : Type 0 where
   -- The report fails only where there are lines to write: the answer isn't Done.
   pub report_prefix : result ≡ a.ReportFault → (s : Status) × (settled s ≡ true) × (s ≢ a.Done) × IsAnswer s × FollowedByPrefix call.old (status_lines call.file s) call.new
   pub report_fault : (w : World) → Finds call.before.files call.before.keys w → result ≡ a.ReportFault
-      → (s : Status) × (settled s ≡ true) × (s ≢ a.Done) × ((s ≡ a.StepsSpent) ⊎ Answers call.name w s) × FollowedByPrefix call.old (status_lines call.file s) call.new
+      → (s : Status) × (settled s ≡ true) × (s ≢ a.Done) × ((cuts s ≡ true) ⊎ Answers call.name w s) × FollowedByPrefix call.old (status_lines call.file s) call.new
       × ((p : Resolved) → Runs call.name w p → Headline p w call.before call.after s × MachineRan p w call.steps call.before.shown call.after.shown s)
   -- It was done with some answer, whose lines were then written.
   pub reported : CommandReported call result

@@ -1,5 +1,6 @@
 -- What the machine did, counted in instructions, and the answer of it.
 use Rattle.std.specs.Prelude.{◌≡◌, ◌≢◌, ◌⊎◌, ℕ, suc, ◌+◌, ◌*◌, ◌≤◌, true, List, Option, ⊤}
+use Rattle.lil_base.specs.declared.fault.LimitKind.{LimitKind}
 use Rattle.lil_resolved.specs.Resolved.{Resolved}
 use Rattle.lil_meaning.specs.World.{World}
 use Rattle.lil_meaning.specs.Items.{Going}
@@ -7,8 +8,8 @@ use Rattle.lil_volume.specs.Told.{followed_by}
 use Rattle.lil_session.specs.declared.status.Status.{Status}
 use Rattle.lil_session.specs.declared.status.Status.TheVariants as a
 use Rattle.lil_table.specs.Rows.{Translates}
-use Rattle.lil_match.specs.Running.{Finish, Running, Finished, TrappedBy, mrun, running}
-use Rattle.lil_laws.specs.Loading.{loaded}
+use Rattle.lil_match.specs.Running.{Finish, Running, Finished, TrappedBy, Limited, mrun, running}
+use Rattle.lil_laws.specs.Loading.{IsSpent, loaded}
 use Rattle.lil_session.specs.Outcome.{settled}
 use Rattle.lil_session.specs.Running.{IsRefused}
 use Rattle.lil_meaning.specs.Runs.{state_of}
@@ -23,12 +24,19 @@ IsEnd _ = ⊥
 abbrev pub FinishAnswers : Status → ℕ → ℕ → Finish → Type 0
 FinishAnswers a.Done steps done f = f ≡ Finished
 FinishAnswers (a.Trapped t) steps done f = f ≡ TrappedBy t.kind
+FinishAnswers (a.Limit k) steps done f = f ≡ Limited k
 FinishAnswers a.StepsSpent steps done f = (done ≡ steps) × (f ≡ Running)
 -- the request at hand failed
 FinishAnswers a.ScreenFault steps done f = (suc done ≤ steps) × (f ≡ Running)
 -- memory was wanted while the answer and the lines of the end were made
 FinishAnswers a.Memory steps done f = IsEnd f
 FinishAnswers _ steps done f = ⊥
+
+-- What is shown is what the state behind n steps of the meaning has shown, and the next one's object has no room left.
+pub record IsSpentAt (p : Resolved) (w : World) (strings : List ℕ) (old new : Option (List ℕ)) (k : LimitKind) : Type 0 where
+  pub n : ℕ
+  pub shown : new ≡ followed_by old (state_of p w n).world.screen
+  pub spent : IsSpent p strings k (state_of p w n)
 
 -- What the machine did: a translation of the module was loaded with its strings and ran for some instructions within the budget.
 pub record MachineRan (p : Resolved) (w : World) (steps : ℕ) (old new : Option (List ℕ)) (status : Status) : Type 0 where
@@ -44,6 +52,8 @@ pub record MachineRan (p : Resolved) (w : World) (steps : ℕ) (old new : Option
   pub cut : status ≡ a.ScreenFault → IsRefused (mrun done (running (loaded p strings code).state w)).machine (followed_by old (mrun done (running (loaded p strings code).state w)).world.screen) new
   -- where the whole budget brings no end, a settled answer is StepsSpent
   pub spent : (mrun steps (running (loaded p strings code).state w)).finish ≡ Running → settled status ≡ true → status ≡ a.StepsSpent
+  -- a limit comes only where data, frame and objects take more words than the store has
+  pub limited : (k : LimitKind) → status ≡ a.Limit k → IsSpentAt p w strings old new k
   -- 32 instructions a step of the meaning, and 64 more, are enough: where they are spent, it goes on
   pub enough : status ≡ a.StepsSpent → (m : ℕ) → 32 * m + 64 ≤ steps → (state_of p w m).phase ≡ Going
 
@@ -52,6 +62,7 @@ pub record MachineRan (p : Resolved) (w : World) (steps : ℕ) (old new : Option
 abbrev pub MachineAnswers : Resolved → World → ℕ → Option (List ℕ) → Option (List ℕ) → Status → Type 0
 MachineAnswers p w steps old new a.Done = MachineRan p w steps old new a.Done
 MachineAnswers p w steps old new (a.Trapped t) = MachineRan p w steps old new (a.Trapped t)
+MachineAnswers p w steps old new (a.Limit k) = MachineRan p w steps old new (a.Limit k)
 MachineAnswers p w steps old new a.StepsSpent = MachineRan p w steps old new a.StepsSpent
 MachineAnswers p w steps old new a.ScreenFault = MachineRan p w steps old new a.ScreenFault
 MachineAnswers p w steps old new a.Memory = (new ≡ old) ⊎ MachineRan p w steps old new a.Memory

@@ -2,6 +2,7 @@
 use Rattle.std.specs.Prelude.{◌≡◌, ◌⊎◌, ℕ, List, Option, Some, None, slice_get}
 use Rattle.lil_base.specs.declared.fault.TrapKind.{TrapKind}
 use Rattle.lil_base.specs.declared.fault.TrapAt.{TrapAt}
+use Rattle.lil_base.specs.declared.fault.LimitKind.TheVariants as limit
 use Rattle.lil_mcode.specs.State.{Module, module_at}
 use Rattle.lil_mcode.specs.Calls.{Machine, IsRunning, names_of}
 use Rattle.lil_session.specs.declared.run.Ending.{Ending}
@@ -23,11 +24,11 @@ pub record IsTrapOf (machine : Machine) (kind : TrapKind) (t : TrapAt) : Type 0 
   pub runs : (m : Module) → module_at machine.state.modules machine.at_module ≡ Some m → IsRunning m.procedures machine.at_place procedure
   pub names : names_of machine.state.modules machine.at_module procedure ≡ Some (t.«module», t.procedure)
 
--- the answer of an ending. A run that keeps to a translation meets no limit and no bad code
+-- the answer of an ending. A run that keeps to a translation meets no bad code
 abbrev pub EndingAnswers : Machine → Ending → Status → Type 0
 EndingAnswers machine ending.Done s = s ≡ answer.Done
 EndingAnswers machine (ending.Trapped k) s = (s ≡ answer.Memory) ⊎ ((t : TrapAt) × (s ≡ answer.Trapped t) × IsTrapOf machine k t)
-EndingAnswers machine (ending.Limited k) s = ⊥
+EndingAnswers machine (ending.Limited k) s = s ≡ answer.Limit k
 EndingAnswers machine ending.Broken s = ⊥
 EndingAnswers machine ending.Spent s = s ≡ answer.StepsSpent
 
@@ -35,6 +36,6 @@ EndingAnswers machine ending.Spent s = s ≡ answer.StepsSpent
 abbrev pub IsPossible : Machine → Ending → Type 0
 IsPossible machine ending.Done = Unit {0}
 IsPossible machine (ending.Trapped k) = (m : Module) × IsIn machine m
-IsPossible machine (ending.Limited k) = ⊥
+IsPossible machine (ending.Limited k) = k ≡ limit.Store
 IsPossible machine ending.Broken = ⊥
 IsPossible machine ending.Spent = Unit {0}

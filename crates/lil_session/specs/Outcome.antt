@@ -4,6 +4,7 @@ use Rattle.std.specs.FinMap.{get}
 use Rattle.lil_base.specs.Faults.{fault, code_too_long}
 use Rattle.lil_base.specs.declared.fault.Place.{Place}
 use Rattle.lil_base.specs.declared.fault.SourceFault.{SourceFault}
+use Rattle.lil_base.specs.declared.fault.LimitKind.TheVariants as limit
 use Rattle.lil_resolved.specs.Resolved.{Resolved}
 use Rattle.lil_resolved.specs.Sizes.{code_size}
 use Rattle.lil_lower.specs.Lowered.{lowered}
@@ -61,6 +62,12 @@ settled a.ChannelFault = false
 settled a.ReportFault = false
 settled a.Memory = false
 settled _ = true
+
+-- an answer that says that the run was cut short: the steps are spent, or the machine has no room left
+abbrev pub cuts : Status → Bool
+cuts a.StepsSpent = true
+cuts (a.Limit k) = true
+cuts _ = false
 
 -- This fault is answered only where the count rose, and the count rises only where the answer is this fault or want of memory.
 pub record Blames (fault : Status) (before now : ℕ) (status : Status) : Type 0 where
@@ -238,11 +245,12 @@ pub record Shows (p : Resolved) (w : World) (old new : Option (List ℕ)) (statu
   pub n : ℕ
   pub shown : Shown p w n old new status
 
--- the answers of a run within a budget of steps
+-- the answers of a run within a budget of steps; of the limits of the machine that of the store alone
 abbrev pub IsRunAnswer : Status → Type 0
 IsRunAnswer a.Done = ⊤
 IsRunAnswer (a.Trapped t) = ⊤
 IsRunAnswer a.ScreenFault = ⊤
 IsRunAnswer a.StepsSpent = ⊤
+IsRunAnswer (a.Limit k) = k ≡ limit.Store
 IsRunAnswer a.Memory = ⊤
 IsRunAnswer _ = ⊥

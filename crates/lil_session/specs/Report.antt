@@ -89,13 +89,12 @@ status_lines file a.ReportFault = []
 status_lines file a.Memory = codes "memory" ++ 10 ∷ []
 status_lines file (a.BadCode p) = code_text p ++ 10 ∷ []
 
--- whether an answer's lines are the same whatever the file at hand is, and have no name or number of the answer in them
+-- whether an answer's lines are the same whatever the file at hand is, and have no name and no number of the text in them
 abbrev pub is_fixed : Status → Bool
 is_fixed (a.NoFile name) = false
 is_fixed (a.SourceFault s) = false
 is_fixed (a.LoadRefused r) = false
 is_fixed (a.Trapped t) = false
-is_fixed (a.Limit k) = false
 is_fixed (a.BadCode p) = false
 is_fixed _ = true
 

@@ -28,14 +28,15 @@ fn trap_word(kind: TrapKind) -> &'static [u8]
     }
 }
 
-fn limit_word(kind: LimitKind) -> &'static [u8]
-    ensures { result.now ≡ limit_name kind }
+/// The line of a limit, which wants no memory.
+pub(crate) fn limit_line(kind: LimitKind) -> &'static [u8]
+    ensures { result.now ≡ codes "limit " ++ limit_name kind ++ 10 ∷ [] }
 {
     match kind {
-        LimitKind::Stack => b"stack",
-        LimitKind::Store => b"store",
-        LimitKind::Code => b"code",
-        LimitKind::Words => b"data",
+        LimitKind::Stack => b"limit stack\n",
+        LimitKind::Store => b"limit store\n",
+        LimitKind::Code => b"limit code\n",
+        LimitKind::Words => b"limit data\n",
     }
 }
 
@@ -214,15 +215,6 @@ fn trap_line(alloc: Global, t: &TrapAt) -> Result<Bytes, Memory>
     Ok(line)
 }
 
-fn limit_line(alloc: Global, kind: LimitKind) -> Result<Bytes, Memory>
-    ensures { IfOk result (λ line. line ≡ codes "limit " ++ limit_name kind ++ 10 ∷ []) }
-{
-    let mut line = Bytes::from_slice(alloc, b"limit ")?;
-    line.extend(limit_word(kind))?;
-    line.push(LINE_END)?;
-    Ok(line)
-}
-
 fn code_line(alloc: Global, p: &CodePlace) -> Result<Bytes, Memory>
     ensures { IfOk result (λ line. line ≡ code_text p.now ++ 10 ∷ []) }
 {
@@ -242,7 +234,6 @@ pub(crate) fn made_lines(alloc: Global, file: &[u8], status: &Status) -> Result<
         Status::SourceFault(s) => fault_line(alloc, file, s),
         Status::LoadRefused(r) => refusal_line(alloc, r),
         Status::Trapped(t) => trap_line(alloc, t),
-        Status::Limit(kind) => limit_line(alloc, *kind),
         Status::BadCode(p) => code_line(alloc, p),
         _ => unreachable!(),
     }

@@ -1,3 +1,4 @@
+use crate::lines::limit_line;
 use lil_base::{CodePlace, FileName, LimitKind, LoadRefusal, SourceFault, TrapAt};
 
 /// The answer of a command.
@@ -63,7 +64,7 @@ impl Status {
         }
     }
 
-    /// The lines of an answer that has no name and no number to tell, which want no memory. None for the others.
+    /// The lines of an answer that has no name and no number of the text to tell, which want no memory. None for the others.
     pub fn fixed_line(&self) -> Option<&'static [u8]>
         ensures { MatchOption result (is_fixed self.now ≡ false) (λ line. (is_fixed self.now ≡ true) × ((file : List ℕ) → line.now ≡ status_lines file self.now)) }
     {
@@ -72,6 +73,7 @@ impl Status {
             Status::Usage => Some(
                 b"usage: lilith compile or run or once or demo, NAME, --steps=N --count --screen\n",
             ),
+            Status::Limit(kind) => Some(limit_line(*kind)),
             Status::StepsSpent => Some(b"steps spent\n"),
             Status::VolumeFault => Some(b"fault volume\n"),
             Status::KeyFault => Some(b"fault keyboard\n"),

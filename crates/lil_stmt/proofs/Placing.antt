@@ -1,18 +1,20 @@
--- The code of the places to which statements store, of assignments, of copies, of INCL and EXCL, and of INC and DEC.
+-- The code of the places to which statements store, of assignments, of copies, of INCL and EXCL, of NEW, and of INC and DEC.
 use Rattle.std.proofs.Common.{◌≡◌, ℕ, ◌≤◌, Bool, List, [], ◌∷◌, ◌++◌, length, Option, refl, sym, ap, ◌∙◌, subst, arith}
+use Rattle.std.specs.Prelude.{slice_get}
 use Rattle.lil_resolved.specs.Kinds.{Kind, OfWhole}
 use Rattle.lil_resolved.specs.Shapes.{words, is_there, shape_at}
-use Rattle.lil_resolved.specs.Resolved.{Designator, Expression, Assign, Copy, Change, Member, counted_as}
+use Rattle.lil_resolved.specs.Resolved.{Designator, Expression, Assign, Copy, Change, Member, New, counted_as}
 use Rattle.lil_resolved.specs.Views.{AreMeasured, shapes_of}
 use Rattle.lil_asm.specs.declared.instr.Instr.{Instr}
-use Rattle.lil_asm.specs.declared.instr.Instr.TheVariants.{Mov}
+use Rattle.lil_asm.specs.declared.instr.Instr.TheVariants.{Liw, Mov, Alc}
 use Rattle.lil_table.specs.Rows.{IsAt, InstrsAt, Access, InData, OnTop, Behind, access_of, address_code, ready_code, readied, held, held_twice, store_code, again_code, under_code, whole_code, change_operator, change_code, member_code, test_code}
-use Rattle.lil_labels.specs.Tables.{Tables}
+use Rattle.lil_labels.specs.Tables.{Tables, target_by}
 use Rattle.lil_labels.specs.Drafts.{Draft, Meaning, Emits, Doing, DoingAll}
 use Rattle.lil_labels.specs.Emitting.{emits_then, emits_as, emits_tied}
 use Rattle.lil_expr.specs.Generating.{Value, Found}
+use Rattle.lil_expr.specs.Variables.{pointed}
 use Rattle.lil_stmt.specs.Generating.{Stored, Readied, Targeted, Addressed, Stated}
-use Rattle.lil_stmt.proofs.Storing.{whole}
+use Rattle.lil_stmt.proofs.Storing.{whole, stored}
 
 pub target_emitted : (d : Designator) (a b : Access) (n : ℕ) (c0 c1 c2 : Draft) → Emits c0 c1 (Found d a n) → Emits c1 c2 (Readied a b) → Emits c0 c2 (Targeted d b)
 target_emitted d a b n c0 c1 c2 place ready =
@@ -123,13 +125,36 @@ member_emitted out d k e i m n exit c0 c1 c2 c3 is place value by =
       middle = length c2.bytes;
       set = set.scalar.shape;
       element = sound.1;
+      takes = sound.2.takes;
       shallow = omega (arith, set.shallow);
       here = at.place;
       address = at.address;
-      value = t.1.0 1 sound.2 (omega arith);
+      value = t.1.0 1 (stored x.layout.scope e k sound.2) (omega arith);
       by = subst (λ (i : Instr). IsAt x.code (length c2.bytes) i (length c3.bytes)) is t.1.1;
     })
     (emits_then c0 c1 c3 _ _ place (emits_then c1 c2 c3 _ _ value by))
+
+-- ---- NEW
+pub new_emitted : (d : Designator) (i m w n : ℕ) (exit : Option ℕ) (c0 c1 c2 : Draft) → (AreMeasured [] c1.tables.shapes → w ≡ words (shape_at (shapes_of c1.tables.shapes) (target_by (slice_get c1.tables.targets i)))) → Emits c0 c1 (Addressed d m)
+    → Emits c1 c2 (DoingAll (Liw w ∷ Alc ∷ [])) → Emits c0 c2 (Stated n exit (New d i))
+new_emitted d i m w n exit c0 c1 c2 sized place take =
+    emits_as c0 c2 _ (Stated n exit (New d i))
+    (λ x t sound room.
+    let at = t.0 sound.place (ap is_there sound.shape) in
+    let measured = subst (λ (ts : Tables). AreMeasured [] ts.shapes) t.1.1 x.described.measured in
+    let tabled = sized measured ∙ ap (λ (ts : Tables). words (shape_at (shapes_of ts.shapes) (target_by (slice_get ts.targets i)))) (sym t.1.1) in
+    let same : w ≡ words (shape_at x.layout.scope.targets i) = tabled ∙ ap words (pointed x i sound.there) in
+    record {
+      found = at.found;
+      start = length c1.bytes;
+      typed = sound.shape;
+      there = sound.there;
+      shallow = omega (arith, sound.shallow);
+      here = at.place;
+      address = at.address;
+      by = subst (λ (w : ℕ). InstrsAt x.code (Liw w ∷ Alc ∷ []) (length c1.bytes) (length c2.bytes)) same t.1.0;
+    })
+    (emits_then c0 c1 c2 _ _ place (emits_tied c1 c2 _ take))
 
 -- ---- INC and DEC
 -- instructions behind others
@@ -157,9 +182,10 @@ change_emitted down d k j e i target n exit c0 c1 c2 c3 c4 c5 c6 c7 computes typ
       start = length c1.bytes;
       kept = length c2.bytes;
       middle = length c3.bytes;
+      plain = sound.1;
       target = at.row;
       again = subst (λ (a : Access). InstrsAt x.code (again_code a) (length c1.bytes) (length c2.bytes)) at.access t.1.0;
-      value = whole x (held_twice ready) e (OfWhole (counted_as k)) _ _ (held_twice_low ready) sound.1 t.1.1.0;
+      value = whole x (held_twice ready) e (OfWhole (counted_as k)) _ _ (held_twice_low ready) sound.2 t.1.1.0;
       by = subst (λ (a : Access). InstrsAt x.code (change_code down k a) (length c3.bytes) (length c7.bytes)) at.access
           (instrs_join (under_code target ++ whole_is ++ test_is) (store_code target ∷ []) x.code (length c3.bytes) (length c6.bytes) (length c7.bytes) second stored);
     })

@@ -1,14 +1,15 @@
 -- The code of values with their tests, of arguments, of requests and of EXIT.
-use Rattle.std.proofs.Common.{◌≡◌, ℕ, ◌+◌, ◌<◌, ◌≤◌, List, [], ◌∷◌, length, map, drop, get_or, Option, Some, refl, sym, ap, ◌∙◌, subst, arith}
+use Rattle.std.proofs.Common.{◌≡◌, ℕ, ◌+◌, ◌<◌, ◌≤◌, Bool, ◌||◌, List, [], ◌∷◌, length, map, drop, get_or, Option, Some, refl, sym, ap, ◌∙◌, subst, arith}
 use Rattle.std.specs.Option.{option_map}
 use Rattle.std.proofs.lemmas.List.{drop_all}
 use Rattle.lil_resolved.specs.declared.resolved.RArgument.{RArgument}
 use Rattle.lil_resolved.specs.declared.resolved.RRequest.{RRequest}
 use Rattle.lil_resolved.specs.declared.resolved.RRequest.TheVariants as q
-use Rattle.lil_resolved.specs.Kinds.{Kind}
+use Rattle.lil_resolved.specs.Kinds.{Kind, same_pointer}
+use Rattle.lil_resolved.specs.Shapes.{Scope}
 use Rattle.lil_resolved.specs.Resolved.{Expression, Argument, ByValue, OfArray, OfText, Request, Exit, kind_of}
 use Rattle.lil_resolved.specs.Views.{request_number, argument_of}
-use Rattle.lil_resolved.specs.Sound.{IsSoundWhole, Parameter, Single, Characters, parameter_of, request_parameters}
+use Rattle.lil_resolved.specs.Sound.{IsSoundWhole, IsSoundValue, IsSoundStored, Parameter, Single, Characters, parameter_of, request_parameters}
 use Rattle.lil_asm.specs.declared.instr.Instr.TheVariants.{Jmp, Svc}
 use Rattle.lil_asm.specs.Requests.{request_words}
 use Rattle.lil_table.specs.Rows.{InstrsAt, WholeRow, argument_words, arguments_words, test_code}
@@ -22,12 +23,16 @@ use Rattle.lil_stmt.proofs.Counting.{left_from}
 pub whole : (x : Final) (n : ℕ) (e : Expression) (k : Kind) (p q : ℕ) → n ≤ 3 → IsSoundWhole x.layout.scope e k → Value e x p q → WholeRow x.layout x.code n e k p q
 whole x n e k p q low sound t = record { typed = sound.kind; shallow = omega (arith, sound.shallow, low); value = t sound.sound }
 
+-- a value of a kind may be stored at a place of it
+pub stored : (ts : Scope) (e : Expression) (k : Kind) → IsSoundValue ts e k → IsSoundStored ts e k
+stored ts e k sound = record { stores = ap (λ (b : Bool). b || same_pointer k (kind_of e)) sound.takes; whole = sound.whole }
+
 pub value_emitted : (e : Expression) (k j : Kind) (a b c : Draft) → j ≡ kind_of e → Emits a b (Value e) → Emits b c (DoingAll (test_code k j)) → Emits a c (Stored e k)
 value_emitted e k j a b c typed value test =
     emits_as a c _ (Stored e k)
     (λ x t n sound low. record {
       middle = length b.bytes;
-      takes = sound.takes;
+      stores = sound.stores;
       value = whole x n e (kind_of e) _ _ low sound.whole t.0;
       test = subst (λ (j : Kind). InstrsAt x.code (test_code k j) (length b.bytes) (length c.bytes)) typed t.1;
     })

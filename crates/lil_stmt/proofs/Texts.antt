@@ -15,6 +15,7 @@ use Rattle.lil_labels.specs.Tables.{Tables, elements_in, elements_by}
 use Rattle.lil_labels.specs.Drafts.{Draft, Final, Emits, Saying, Doing, DoingAll}
 use Rattle.lil_labels.specs.Emitting.{emits_then, emits_as, emits_tied}
 use Rattle.lil_stmt.specs.Generating.{Stored, Addressed, Argued, Stated}
+use Rattle.lil_stmt.proofs.Storing.{stored}
 
 -- ---- arrays of the tables
 no_row : (ss : List Shape) (n : ℕ) (u : Shape) → fields_of ss ≡ Row n u → ⊥
@@ -72,7 +73,7 @@ text_emitted d cs m offset characters zeros n exit c0 c1 c2 c3 long filled place
 
 -- ---- arguments
 pub value_argued : (k : Kind) (e : Expression) (a b : Draft) → Emits a b (Stored e k) → Emits a b (Argued (ByValue k e))
-value_argued k e a b = emits_as a b _ (Argued (ByValue k e)) (λ x t n sound low. t n sound (omega (arith, low)))
+value_argued k e a b = emits_as a b _ (Argued (ByValue k e)) (λ x t n sound low. (sound.takes, t n (stored x.layout.scope e k sound) (omega (arith, low))))
 
 pub array_argued : (d : Designator) (m high : ℕ) (a b c : Draft) → Emits a b (Addressed d m) → Emits b c (Doing (λ w. Liw high)) → Emits a c (Argued (OfArray d high))
 array_argued d m high a b c place by =

@@ -11,14 +11,14 @@ use Rattle.lil_resolved.specs.Shapes.{is_there, shape_at}
 use Rattle.lil_resolved.specs.Resolved.{Designator, Expression, Argument, Label, Statement, Statements, shape_of}
 use Rattle.lil_resolved.specs.Views.{guarded, guard_of, statements_of, label_of, shapes_of}
 use Rattle.lil_resolved.specs.Depth.{statement_words, body_words}
-use Rattle.lil_resolved.specs.Sound.{IsSoundPlace, IsSoundTarget, IsSoundValue, IsSoundArgument, AreSoundArguments, IsSoundStatement, IsSoundBody}
+use Rattle.lil_resolved.specs.Sound.{IsSoundPlace, IsSoundTarget, IsSoundStored, IsSoundArgument, AreSoundArguments, IsSoundStatement, IsSoundBody}
 use Rattle.lil_asm.specs.declared.instr.Instr.TheVariants.{Jmp, Trp}
 use Rattle.lil_table.specs.Rows.{IsAt, InstrsAt, Access, access_of, address_code, ready_code, readied, PlaceAt, ValueRow, TargetRow, ArgumentsAt, argument_words, arguments_words, ArgumentAt, LeaveRow, AlignAt, StatementAt, BodyAt, loop_place}
 use Rattle.lil_labels.specs.Drafts.{Final, Meaning, EntryAt, ChoiceAt}
 
--- a sound value has its code and its test, where one of a kind is wanted and up to 3 words of others stand below its own
+-- a sound value that is stored at a place of a kind has its code and its test, where up to 3 words of others stand below its own
 abbrev pub Stored : Expression → Kind → Meaning
-Stored e k x p q = (n : ℕ) → IsSoundValue x.layout.scope e k → n ≤ 3 → ValueRow x.layout x.code n e k p q
+Stored e k x p q = (n : ℕ) → IsSoundStored x.layout.scope e k → n ≤ 3 → ValueRow x.layout x.code n e k p q
 
 -- a sound argument has its code, where with its own words and those of others below it there are up to 4
 abbrev pub Argued : Argument → Meaning

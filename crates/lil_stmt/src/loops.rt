@@ -54,6 +54,7 @@ fn statement_words(statement: &RStmt) -> u32
         | RStmt::Text(_, _)
         | RStmt::Change(_, _, _, _)
         | RStmt::Member(_, _, _, _)
+        | RStmt::New(_, _)
         | RStmt::Request(_, _)
         | RStmt::Exit
         | RStmt::Halt

@@ -2,7 +2,7 @@
 
 ghost use Rattle.std.specs.Prelude.{◌≡◌, ℕ, Option, map, OnOk};
 ghost use Rattle.lil_resolved.specs.Resolved as resolved;
-ghost use Rattle.lil_resolved.specs.Resolved.{Assign, Copy, Change, Member, Exit};
+ghost use Rattle.lil_resolved.specs.Resolved.{Assign, Copy, Change, Member, New, Exit};
 ghost use Rattle.lil_resolved.specs.Views.{kind_view, place_of, is_down, is_out, request_number, argument_of, expression_of};
 ghost use Rattle.lil_asm.specs.Bytes.{Sayable};
 ghost use Rattle.lil_table.specs.Rows.{member_code};
@@ -117,6 +117,20 @@ fn member_instr(membership: Membership) -> Instr
         Membership::Joins => Instr::Icl,
         Membership::Leaves => Instr::Ecl,
     }
+}
+
+/// Appends the code of NEW: the address of the pointer, the words of what pointers of its type point to, and the instruction
+/// that takes a block of so many.
+pub(crate) fn emit_new(
+    code: &mut CodeBuffer<'_>,
+    place: &RPlace,
+    pointer: usize,
+) -> Result<(), Memory>
+    ensures { OnOk result ((n : ℕ) (exit : Option ℕ) → Emits code.old code.new (Stated n exit (New (place_of place.now) pointer))) }
+{
+    emit_address_of(code, place)?;
+    let words = code.words(code.target(pointer));
+    code.put_all(&[Instr::Liw(words), Instr::Alc])
 }
 
 /// Appends the code of a call of a resident procedure: the arguments, each with its test, and the request.

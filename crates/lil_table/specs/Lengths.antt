@@ -5,13 +5,14 @@ use Rattle.lil_base.specs.declared.operator.OneOp.{OneOp}
 use Rattle.lil_base.specs.declared.operator.OneOp.TheVariants as one
 use Rattle.lil_base.specs.declared.operator.TwoOp.{TwoOp}
 use Rattle.lil_base.specs.declared.operator.TwoOp.TheVariants.{Equal, Unequal, Less, AtMost, Greater, AtLeast, In, Plus, Minus, Times, Slash, Div, Mod, Or, And}
-use Rattle.lil_resolved.specs.Kinds.{Kind, OfWhole, OfTruth, OfCharacter, OfEnumeration, OfSet, OfRange, base_of, compared_as, covers, shared, outside_turns}
-use Rattle.lil_resolved.specs.Resolved.{Designator, Variable, Held, Field, Element, Function, Abs, Cap, Chr, Odd, Ord, Val, Expression, Constant, Taken, One, Two, Short, Apply, With, WithSpan, Argument, ByValue, OfArray, OfText, Label, Statement, Assign, Copy, Text, Change, Member, Request, If, Case, While, Repeat, Loop, Exit, Halt, Return, For, Inside, Statements, Empty, Then, Arms, NoElse, Else, Arm, Resolved, kind_of, counted_as, shape_of}
+use Rattle.lil_resolved.specs.Kinds.{Kind, OfWhole, OfTruth, OfCharacter, OfEnumeration, OfSet, OfPointer, OfRange, base_of, compared_as, covers, shared, outside_turns}
+use Rattle.lil_resolved.specs.Resolved.{Designator, Variable, Held, Field, Element, Follow, Function, Abs, Cap, Chr, Odd, Ord, Val, Expression, Constant, Taken, One, Two, Short, Apply, With, WithSpan, Argument, ByValue, OfArray, OfText, Label, Statement, Assign, Copy, Text, Change, Member, New, Request, If, Case, While, Repeat, Loop, Exit, Halt, Return, For, Inside, Statements, Empty, Then, Arms, NoElse, Else, Arm, Resolved, kind_of, counted_as, shape_of}
+use Rattle.lil_resolved.specs.Shapes.{words, shape_at}
 use Rattle.lil_resolved.specs.Depth.{frame_words}
 use Rattle.lil_resolved.specs.Sound.{takes_two}
 use Rattle.lil_resolved.specs.Sizes.{argument_size, one_size, two_size, test_size, function_size, Form, Direct, Exact, Beyond, field_form, form_of, address_size, load_size, ready_size, store_size, again_size, under_size, place_size, target_size, size, arguments_size, statement_size, body_size, arms_size, code_size}
 use Rattle.lil_asm.specs.declared.instr.Instr.{Instr}
-use Rattle.lil_asm.specs.declared.instr.Instr.TheVariants.{Liw, Lag, Dup, Drp, Llw, Slw, Sgw, Swp, Rgc, Lsi, Spn, Ent, Rtn, Jmp, Jpf, Cas, Fri, Frn, Trp, Svc}
+use Rattle.lil_asm.specs.declared.instr.Instr.TheVariants.{Liw, Lag, Dup, Drp, Nlt, Llw, Slw, Sgw, Swp, Rgc, Lsi, Spn, Ent, Rtn, Jmp, Jpf, Cas, Fri, Frn, Trp, Alc, Svc}
 use Rattle.lil_asm.specs.Bytes.{bytes_of}
 use Rattle.lil_asm.specs.Decoding.{decoded_stands}
 use Rattle.lil_table.specs.Rows.{Layout, holding, argument_words, ArgumentAt, IsAt, InstrsAt, one_code, whole_code, number_code, two_code, range_code, test_code, function_code, Access, InData, OnTop, Behind, further, access_of, address_code, load_code, ready_code, readied, held, store_code, again_code, under_code, change_operator, change_code, member_code, short_code, loop_place, loop_sign, ValueRow, TargetRow, EntriesAt, AlignAt, PlaceAt, ExpressionAt, ArgumentsAt, StatementAt, BodyAt, ArmsAt, TranslatesBy}
@@ -51,6 +52,9 @@ two_sized o OfSet h = cc
 two_sized Slash (OfWhole t) h = cc
 two_sized o (OfWhole Cardinal) h = refl
 two_sized o (OfWhole Integer) h = refl
+two_sized Equal (OfPointer n) h = refl
+two_sized Unequal (OfPointer n) h = refl
+two_sized o (OfPointer n) h = cc
 two_sized Equal k h = refl
 two_sized Unequal k h = refl
 two_sized Less k h = refl
@@ -100,6 +104,7 @@ formed l (Variable x) = refl
 formed l (Held w) = refl
 formed l (Field d i) = further_formed _ (access_of l d) ∙ ap field_form (formed l d)
 formed l (Element d k e) = refl
+formed l (Follow d n) = refl
 
 address_sized : (a : Access) → instrs_size (address_code a) ≡ address_size (access_form a)
 address_sized (InData o) = refl
@@ -177,6 +182,15 @@ mutual
         test_long code k (kind_of e) h.middle h.tested h.test,
         instr_long code h.tested _ q h.by,
       )
+  place_long l code (Follow d n) p q h =
+      omega (
+        arith,
+        place_long l code d p h.found h.here,
+        instr_long code h.found (load_code (access_of l d)) h.loaded h.load,
+        load_sized (access_of l d),
+        ap load_size (formed l d),
+        instr_long code h.loaded Nlt q h.test,
+      )
 
   pub expression_long : (l : Layout) (code : List ℕ) (e : Expression) (p q : ℕ) → ExpressionAt l code e p q → q ≡ p + size e
   expression_long l code (Constant k v) p q h = instr_long code p _ q h.load
@@ -216,7 +230,7 @@ addressed_long l code d p found q h i =
     omega (arith, place_long l code d p found h, instrs_long code (address_code (access_of l d)) found q i, address_sized (access_of l d), ap address_size (formed l d))
 
 argument_long : (l : Layout) (code : List ℕ) (n : ℕ) (a : Argument) (p q : ℕ) → ArgumentAt l code n a p q → q ≡ p + argument_size a
-argument_long l code n (ByValue k e) p q h = value_long l code n e k p q h
+argument_long l code n (ByValue k e) p q h = value_long l code n e k p q h.1
 argument_long l code n (OfArray d high) p q h = omega (arith, addressed_long l code d p h.found h.start h.here h.address, instr_long code h.start (Liw high) q h.by)
 argument_long l code n (OfText cs) p q h = omega (arith, instr_long code p (Lag h.offset) h.start h.address, instr_long code h.start _ q h.by)
 
@@ -274,6 +288,8 @@ mutual
         instr_long code h.middle (member_code out) q h.by,
         member_sized out,
       )
+  statement_long l code n exit (New d k) p q h =
+      omega (arith, addressed_long l code d p h.found h.start h.here h.address, instrs_long code (Liw (words (shape_at l.scope.targets k)) ∷ Alc ∷ []) h.start q h.by)
   statement_long l code n exit (Request r given) p q h = omega (arith, arguments_long l code 0 given p h.middle h.arguments, instr_long code h.middle (Svc r) q h.by)
   statement_long l code n exit (If c a b) p q h =
       omega (arith, expression_long l code c p h.middle h.condition.value, instr_long code h.middle (Jpf (l.target h.other)) h.start h.jump, body_long l code n exit a h.start h.end h.chosen, instr_long code h.end (Jmp (l.target q)) h.other h.skip, body_long l code n exit b h.other q h.otherwise)

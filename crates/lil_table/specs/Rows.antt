@@ -6,14 +6,14 @@ use Rattle.lil_base.specs.declared.operator.OneOp.{OneOp}
 use Rattle.lil_base.specs.declared.operator.OneOp.TheVariants as one
 use Rattle.lil_base.specs.declared.operator.TwoOp.{TwoOp}
 use Rattle.lil_base.specs.declared.operator.TwoOp.TheVariants.{Equal, Unequal, Less, AtMost, Greater, AtLeast, In, Plus, Minus, Times, Slash, Div, Mod}
-use Rattle.lil_resolved.specs.Kinds.{Kind, OfWhole, OfTruth, OfCharacter, OfSet, base_of, is_base, is_ordinal, is_set, is_element, takes_value, compared_as, covers, shared, outside_turns, least, numbers}
-use Rattle.lil_resolved.specs.Scalars.{Scalar, within, scalar_word}
-use Rattle.lil_resolved.specs.Shapes.{Shape, Word, Row, Scope, outermost, with_held, words, is_there, part_at, offset, all_words, offsets_from, element_of}
-use Rattle.lil_resolved.specs.Resolved.{Designator, Variable, Held, Field, Element, Function, Abs, Cap, Chr, Odd, Ord, Val, Expression, Constant, Taken, One, Two, Short, Apply, With, WithSpan, Argument, ByValue, OfArray, OfText, Label, Statement, Assign, Copy, Text, Change, Member, Request, If, Case, While, Repeat, Loop, Exit, Halt, Return, For, Inside, Statements, Empty, Then, Arms, NoElse, Else, Arm, Resolved, kind_of, right_kind, counted_as, shape_of}
+use Rattle.lil_resolved.specs.Kinds.{Kind, OfWhole, OfTruth, OfCharacter, OfSet, OfPointer, base_of, is_base, is_ordinal, is_set, is_plain, is_element, takes_value, stores_value, compared_as, covers, shared, outside_turns, least, numbers}
+use Rattle.lil_resolved.specs.Scalars.{Scalar, is_literal, scalar_word}
+use Rattle.lil_resolved.specs.Shapes.{Shape, Word, Row, Scope, outermost, with_held, words, is_there, part_at, offset, all_words, offsets_from, shape_at, element_of}
+use Rattle.lil_resolved.specs.Resolved.{Designator, Variable, Held, Field, Element, Follow, Function, Abs, Cap, Chr, Odd, Ord, Val, Expression, Constant, Taken, One, Two, Short, Apply, With, WithSpan, Argument, ByValue, OfArray, OfText, Label, Statement, Assign, Copy, Text, Change, Member, New, Request, If, Case, While, Repeat, Loop, Exit, Halt, Return, For, Inside, Statements, Empty, Then, Arms, NoElse, Else, Arm, Resolved, kind_of, right_kind, counted_as, shape_of}
 use Rattle.lil_resolved.specs.Depth.{place_depth, depth, frame_words}
 use Rattle.lil_resolved.specs.Sound.{takes_one, takes_two, takes_function, IsScalar, IsSoundLabel, IsStep, is_text, request_parameters, parameter_of}
 use Rattle.lil_asm.specs.declared.instr.Instr.{Instr}
-use Rattle.lil_asm.specs.declared.instr.Instr.TheVariants.{Liw, Dup, Drp, Llw, Slw, Lgw, Sgw, Lag, Ldi, Sti, Ldf, Adf, Mov, Mvz, Ixc, Swp, Rgc, Rgi, Cap, Adc, Sbc, Mlc, Dvc, Mdc, Adi, Sbi, Mli, Dvi, Mdi, Ngi, Abi, Uni, Dif, Its, Sym, Sin, Spn, Icl, Ecl, Sle, Not, Equ, Neq, Lsc, Lec, Lsi, Lei, Ent, Rtn, Jmp, Jpf, Jan, Jor, Cas, Fri, Frn, Trp, Svc}
+use Rattle.lil_asm.specs.declared.instr.Instr.TheVariants.{Liw, Dup, Drp, Llw, Slw, Lgw, Sgw, Lag, Ldi, Sti, Ldf, Adf, Mov, Mvz, Nlt, Ixc, Swp, Rgc, Rgi, Cap, Adc, Sbc, Mlc, Dvc, Mdc, Adi, Sbi, Mli, Dvi, Mdi, Ngi, Abi, Uni, Dif, Its, Sym, Sin, Spn, Icl, Ecl, Sle, Not, Equ, Neq, Lsc, Lec, Lsi, Lei, Ent, Rtn, Jmp, Jpf, Jan, Jor, Cas, Fri, Frn, Trp, Alc, Svc}
 use Rattle.lil_asm.specs.Bytes.{word_at, decoded}
 use Rattle.lil_asm.specs.Requests.{request_words}
 
@@ -39,7 +39,7 @@ cut q = q % 65536
 abbrev pub layout_by : (ℕ → ℕ) → List ℕ → Resolved → Layout
 layout_by target strings m = record {
   offsets = offsets_from 0 m.variables;
-  scope = outermost m.variables;
+  scope = outermost m.targets m.variables;
   held = [];
   words = all_words m.variables;
   strings = strings;
@@ -165,6 +165,7 @@ access_of l (Variable x) = InData (offset_in (slice_get l.offsets x))
 access_of l (Held w) = OnTop
 access_of l (Field d i) = further (offset (shape_of l.scope d) (i ∷ [])) (access_of l d)
 access_of l (Element d k e) = OnTop
+access_of l (Follow d n) = OnTop
 
 -- the instructions that bring its address to the expression stack
 abbrev pub address_code : Access → List Instr
@@ -226,7 +227,7 @@ abbrev pub change_code : Bool → Kind → Access → List Instr
 change_code down k a = under_code a ++ whole_code (change_operator down) (counted_as k) ++ test_code k (OfWhole (counted_as k)) ++ store_code a ∷ []
 
 pub record ConstantRow (code : List ℕ) (k : Kind) (v : Scalar) (p q : ℕ) : Type 0 where
-  pub fits : within k v ≡ true
+  pub fits : is_literal k v ≡ true
   pub load : IsAt code p (Liw (scalar_word v)) q
 
 -- where a variable lies that has a kind, whose values have numbers
@@ -343,6 +344,16 @@ pub record ElementRow (l : Layout) (code : List ℕ) (d : Designator) (k : Kind)
   pub test : InstrsAt code (test_code k (kind_of e)) middle tested
   pub by : IsAt code tested (Ixc (word_of (least k)) (words (element_of (shape_of l.scope d)))) q
 
+-- a pointer's word, and the test that it isn't NIL
+pub record FollowRow (l : Layout) (code : List ℕ) (d : Designator) (n : ℕ) (pointer : Span) (p q : ℕ) : Type 0 where
+  pub found : ℕ
+  pub loaded : ℕ
+  pub typed : shape_of l.scope d ≡ Word (OfPointer n)
+  pub there : is_there (shape_at l.scope.targets n) ≡ true
+  pub here : pointer p found
+  pub load : IsAt code found (load_code (access_of l d)) loaded
+  pub test : IsAt code loaded Nlt q
+
 -- a place, and the load of the word that lies there
 pub record TakenRow (l : Layout) (code : List ℕ) (d : Designator) (k : Kind) (place : Span) (p q : ℕ) : Type 0 where
   pub found : ℕ
@@ -356,6 +367,7 @@ abbrev mutual
   PlaceAt l code (Held w) p q = HeldRow l code w p q
   PlaceAt l code (Field d i) p q = FieldRow l d i (PlaceAt l code d) p q
   PlaceAt l code (Element d k e) p q = ElementRow l code d k e (PlaceAt l code d) (ExpressionAt l code e) p q
+  PlaceAt l code (Follow d n) p q = FollowRow l code d n (PlaceAt l code d) p q
 
   pub ExpressionAt : Layout → List ℕ → Expression → Span
   ExpressionAt l code (Constant k v) p q = ConstantRow code k v p q
@@ -373,10 +385,10 @@ pub record WholeRow (l : Layout) (code : List ℕ) (n : ℕ) (e : Expression) (k
   pub shallow : n + depth e ≤ 16
   pub value : ExpressionAt l code e p q
 
--- a value that may be stored where one of a kind is wanted, and its test
+-- a value that may be stored at a place of a kind, and its test
 pub record ValueRow (l : Layout) (code : List ℕ) (n : ℕ) (e : Expression) (k : Kind) (p q : ℕ) : Type 0 where
   pub middle : ℕ
-  pub takes : takes_value k (kind_of e) ≡ true
+  pub stores : stores_value k (kind_of e) ≡ true
   pub value : WholeRow l code n e (kind_of e) p middle
   pub test : InstrsAt code (test_code k (kind_of e)) middle q
 
@@ -415,6 +427,7 @@ pub record ChangeRow (l : Layout) (code : List ℕ) (down : Bool) (d : Designato
   pub start : ℕ
   pub kept : ℕ
   pub middle : ℕ
+  pub plain : is_plain k ≡ true
   pub target : TargetRow l code d k p start
   pub again : InstrsAt code (again_code (readied (access_of l d))) start kept
   pub value : WholeRow l code (held_twice (readied (access_of l d))) e (OfWhole (counted_as k)) kept middle
@@ -432,11 +445,23 @@ pub record MemberRow (l : Layout) (code : List ℕ) (out : Bool) (d : Designator
   pub middle : ℕ
   pub set : shape_of l.scope d ≡ Word OfSet
   pub element : is_element k ≡ true
+  pub takes : takes_value k (kind_of e) ≡ true
   pub shallow : place_depth d ≤ 16
   pub here : PlaceAt l code d p found
   pub address : InstrsAt code (address_code (access_of l d)) found start
   pub value : ValueRow l code 1 e k start middle
   pub by : IsAt code middle (member_code out) q
+
+-- the address of a pointer, and a block of as many words as what it points to
+pub record NewRow (l : Layout) (code : List ℕ) (d : Designator) (n : ℕ) (p q : ℕ) : Type 0 where
+  pub found : ℕ
+  pub start : ℕ
+  pub typed : shape_of l.scope d ≡ Word (OfPointer n)
+  pub there : is_there (shape_at l.scope.targets n) ≡ true
+  pub shallow : place_depth d ≤ 16
+  pub here : PlaceAt l code d p found
+  pub address : InstrsAt code (address_code (access_of l d)) found start
+  pub by : InstrsAt code (Liw (words (shape_at l.scope.targets n)) ∷ Alc ∷ []) start q
 
 -- how many words a string takes, at least one
 abbrev pub text_words : List ℕ → ℕ
@@ -498,7 +523,7 @@ arguments_words (a ∷ given) = argument_words a + arguments_words given
 
 -- an argument, with n words of others below it
 abbrev pub ArgumentAt : Layout → List ℕ → ℕ → Argument → Span
-ArgumentAt l code n (ByValue k e) p q = ValueRow l code n e k p q
+ArgumentAt l code n (ByValue k e) p q = (takes_value k (kind_of e) ≡ true) × ValueRow l code n e k p q
 ArgumentAt l code n (OfArray d high) p q = ArrayRow l code n d high p q
 ArgumentAt l code n (OfText cs) p q = StringRow l code n cs p q
 
@@ -707,6 +732,7 @@ abbrev mutual
   StatementAt l code n exit (Text d cs) p q = TextRow l code d cs p q
   StatementAt l code n exit (Change down d k e) p q = ChangeRow l code down d k e p q
   StatementAt l code n exit (Member out d k e) p q = MemberRow l code out d k e p q
+  StatementAt l code n exit (New d k) p q = NewRow l code d k p q
   StatementAt l code n exit (Request r given) p q = RequestRow l code r given p q
   StatementAt l code n exit (If c a b) p q = IfRow l code c (BodyAt l code n exit a) (BodyAt l code n exit b) p q
   StatementAt l code n exit (Case e arms) p q = CaseRow l code e (ArmsAt l code n exit (kind_of e) arms) p q

@@ -235,7 +235,7 @@ const FAULTS: &[(&[u8], &[u8])] = &[
         b"1: 80 UnitKind",
     ),
     (
-        b"MODULE F; TYPE r = RECORD CASE k: CARDINAL OF 1: a: CHAR | 2 .. 3: b: POINTER TO CHAR; END END; END F.",
+        b"MODULE F; TYPE r = RECORD CASE k: CARDINAL OF 1: a: CHAR | 2 .. 3: b: PROCEDURE (CHAR); END END; END F.",
         b"71: 90 NotBuilt",
     ),
     // names of units
@@ -283,7 +283,7 @@ const CHECKED: &[(&[u8], &[u8])] = &[
     (b"VAR x:(a,x);", b"19: 21 Twice"),
     // what isn't there, and what isn't built
     (b"IMPORT Y;", b"17: 90 NotBuilt"),
-    (b"TYPE t=POINTER TO CHAR;", b"17: 90 NotBuilt"),
+    (b"TYPE t=PROCEDURE(CHAR);", b"17: 90 NotBuilt"),
     (
         b"IMPORT InOut;VAR s:PROC;h:CHAR;BEGIN InOut.Read(h) ",
         b"29: 90 NotBuilt",
@@ -962,6 +962,68 @@ fn strings(rt: HostRuntime) -> Result<(), Fail> {
     check_rows(&rt, alloc, b"Y", around_them, STRINGS, STRING_TRAPS)?;
     let text = Bytes::from_slice(alloc, ALL_WORDS)?;
     check_run(&rt, alloc, b"Y", text, b"abc", None)
+}
+
+/// What stands around the statements of a program P, with pointers to records, numbers, arrays and nothing.
+const POINTERS_BEFORE: &[u8] =
+    b"MODULE P; FROM InOut IMPORT Write, WriteCard, WriteString; TYPE list = POINTER TO node; node = RECORD n: CARDINAL; s: ARRAY [0 .. 3] OF CHAR; t: BITSET; next: list END; VAR p, q: list; a: ARRAY [1 .. 3] OF list; c: CARDINAL; v: node; w, z: POINTER TO CARDINAL; e: POINTER TO RECORD END; m: POINTER TO ARRAY [0 .. 9999] OF CARDINAL; u: POINTER TO RECORD o: list; b: ARRAY [0 .. 1] OF list END; BEGIN ";
+
+const POINTERS_BEHIND: &[u8] = b" END P.";
+
+/// Statements over pointers that end, and behind `~` what they show.
+const POINTERS: &[&[u8]] = &[
+    // NIL at first, and what a new object holds
+    b"IF p = NIL THEN Write('n') END; NEW(p); IF p # NIL THEN Write('o') END; IF NIL = p^.next THEN Write('n') END; WriteCard(p^.n, 1); WriteString(p^.s); IF p^.t = {} THEN Write('e') END~non0e",
+    // two pointers to one object, and two objects
+    b"NEW(p); q := p; p^.n := 5; INC(q^.n); WriteCard(p^.n, 1); IF p = q THEN Write('s') END; NEW(q); IF p # q THEN Write('d') END; WriteCard(q^.n, 1)~6sd0",
+    // lists, also in arrays
+    b"FOR c := 1 TO 5 DO NEW(q); q^.n := c * c; q^.next := p; p := q END; WHILE p # NIL DO WriteCard(p^.n, 3); p := p^.next END~ 25 16  9  4  1",
+    b"c := 2; NEW(a[c]); NEW(a[c]^.next); a[c]^.next^.n := 7; a[3] := a[2]^.next; WriteCard(a[c + 1]^.n, 1); IF a[1] = NIL THEN Write('n') END~7n",
+    // a disposed object stays for another pointer, and a new one is none of those before
+    b"NEW(p); p^.n := 3; q := p; DISPOSE(p); IF p = NIL THEN Write('n') END; WriteCard(q^.n, 1); DISPOSE(p); NEW(p); WriteCard(p^.n, 1); WriteCard(q^.n, 1)~n303",
+    // whole copies, from objects and to them
+    b"NEW(p); p^.n := 4; p^.s := 'abc'; p^.next := p; v := p^; p^.n := 5; NEW(q); q^ := v; WriteCard(q^.n, 1); WriteString(q^.s); WriteCard(q^.next^.n, 1); q^.next^.next := NIL; IF p^.next = NIL THEN Write('n') END~4abc5n",
+    // the place of a WITH stays
+    b"NEW(p); NEW(p^.next); WITH p^ DO n := 1; p := next; n := n + 1; c := n; next^.n := 8 END; WriteCard(c, 1); WriteCard(p^.n, 1)~28",
+    // parts of objects, and objects of other types
+    b"NEW(p); p^.t := {3}; INCL(p^.t, 5); IF 5 IN p^.t THEN Write('y') END; p^.s[0] := 'h'; c := 1; p^.s[c] := 'i'; WriteString(p^.s)~yhi",
+    b"NEW(w); w^ := 65535; z := w; DEC(z^, 5); WriteCard(w^, 1); NEW(e); NEW(m); m^[9999] := 2; WriteCard(m^[9999], 1); NEW(u); NEW(u^.b[1]); u^.o := u^.b[1]; u^.o^.n := 9; WriteCard(u^.b[1]^.n, 1)~6553029",
+];
+
+/// Statements over pointers that trap: what they show before, and the trap.
+const POINTER_TRAPS: &[(&[u8], &[u8], &[u8])] = &[
+    (b"Write('a'); c := p^.n; Write('b')", b"a", b"nil"),
+    (b"NEW(p); p := p^.next^.next", b"", b"nil"),
+    (b"WITH p^ DO Write('x') END", b"", b"nil"),
+    (b"v := p^", b"", b"nil"),
+    (b"NEW(p^.next)", b"", b"nil"),
+    (
+        b"NEW(p); q := p; DISPOSE(q); WriteCard(p^.n, 1); q^.n := 1",
+        b"0",
+        b"nil",
+    ),
+    // the place comes first, and in it what stands before
+    (b"p^.n := 1 DIV c", b"", b"nil"),
+    (b"NEW(p); p^.n := 1 DIV c", b"", b"divisor"),
+    (b"p^.s[c - 1] := 'x'", b"", b"nil"),
+    (b"NEW(a[c])", b"", b"range"),
+];
+
+/// What statements over pointers show, which traps they come to, and that NEW finds room six times and no seventh.
+#[test]
+fn pointers(rt: HostRuntime) -> Result<(), Fail> {
+    let alloc = rt.alloc();
+    let around_them = (POINTERS_BEFORE, POINTERS_BEHIND);
+    check_rows(&rt, alloc, b"P", around_them, POINTERS, POINTER_TRAPS)?;
+    let endless = b"LOOP NEW(m); Write('x') END";
+    let text = around(alloc, POINTERS_BEFORE, endless, POINTERS_BEHIND)?;
+    let want = Want {
+        status: 6,
+        shown: b"xxxxxx",
+        reported: b"limit store\n",
+        ..NOTHING
+    };
+    check(&rt, alloc, b"once P.MOD", b"P.MOD", text, want)
 }
 
 /// So many assignments of 10 bytes of code each, in a module that has 4 bytes beside them.

@@ -31,24 +31,25 @@ lies_within ts (w ∷ vs) first (suc x) v h e =
     let rest : map offset_of vs ≡ offsets_from (first + words (shape_declared ts w)) (map (shape_declared ts) vs) = cc in
     omega (arith, lies_within ts vs (first + words (shape_declared ts w)) x v rest e)
 
-pub framed : (ts : List RShape) (vs : List RDeclared) (all : ℕ) (m : Resolved) (words : ℕ) (a b c : Draft) → words ≡ frame_words m.body → Emits (empty ts vs all) a (Doing (λ w. Ent words)) → Emits a b (Body 0 None m.body) → Emits b c (Doing (λ w. Rtn))
-    → Emits (empty ts vs all) c (Framed m)
-framed ts vs all m words a b c is enter body leave =
-    emits_as (empty ts vs all) c _ (Framed m)
+pub framed : (ts : List RShape) (us : List ℕ) (vs : List RDeclared) (all : ℕ) (m : Resolved) (words : ℕ) (a b c : Draft) → words ≡ frame_words m.body → Emits (empty ts us vs all) a (Doing (λ w. Ent words)) → Emits a b (Body 0 None m.body) → Emits b c (Doing (λ w. Rtn))
+    → Emits (empty ts us vs all) c (Framed m)
+framed ts us vs all m words a b c is enter body leave =
+    emits_as (empty ts us vs all) c _ (Framed m)
     (λ x t. record { start = length a.bytes; end = length b.bytes; enter = subst (λ (w : ℕ). IsAt x.code 0 (Ent w) (length a.bytes)) is t.0; body = t.1.0; leave = t.1.1 })
-    (emits_then (empty ts vs all) a c _ _ enter (emits_then a b c _ _ body leave))
+    (emits_then (empty ts us vs all) a c _ _ enter (emits_then a b c _ _ body leave))
 
 module _ (r : RModule) (d : Draft) (sound : IsSound (module_of r)) (measured : IsMeasured r) (few : r.words ≤ 32000) (frame : frame_words (module_of r).body ≤ 65535)
-    (emitted : Emits (empty r.shapes r.variables r.words) d (Framed (module_of r))) where
+    (emitted : Emits (empty r.shapes r.targets r.variables r.words) d (Framed (module_of r))) where
   abbrev m : Resolved
   m = module_of r
 
   abbrev tables : Tables
-  tables = record { shapes = r.shapes; variables = r.variables; words = r.words; held = [] }
+  tables = record { shapes = r.shapes; targets = r.targets; variables = r.variables; words = r.words; held = [] }
 
   described : (target : ℕ → ℕ) → Describe tables (layout_by target d.strings m)
   described target = record {
     measured = measured.shapes;
+    targets = refl;
     shapes = refl;
     offsets = sym measured.offsets;
     within = λ x v at. omega (arith, lies_within r.shapes r.variables 0 x v measured.offsets at, measured.words, few);

@@ -39,14 +39,20 @@ fn counted(bytes: usize) -> u32
 fn emit_module<'m>(alloc: Global, m: &'m RModule) -> Result<CodeBuffer<'m>, Memory>
     requires { m.now.words ≤ 32000 }
     ensures frame { IfOk result (λ code. spec.frame_words (module_of m.now).body ≤ 65535) }
-    ensures emits { IfOk result (λ code. Emits (empty m.now.shapes m.now.variables m.now.words) code (Framed (module_of m.now))) }
+    ensures emits { IfOk result (λ code. Emits (empty m.now.shapes m.now.targets m.now.variables m.now.words) code (Framed (module_of m.now))) }
 {
     let body = m.body.as_slice();
     let around = Around {
         words: 0,
         exit: None,
     };
-    let mut code = CodeBuffer::new(alloc, m.shapes.as_slice(), m.variables.as_slice(), m.words);
+    let mut code = CodeBuffer::new(
+        alloc,
+        m.shapes.as_slice(),
+        m.targets.as_slice(),
+        m.variables.as_slice(),
+        m.words,
+    );
     code.put(Instr::Ent(frame_words(body)?))?;
     emit_body(&mut code, body, around)?;
     code.put(Instr::Rtn)?;

@@ -2,14 +2,14 @@
 
 ghost use Rattle.std.specs.Prelude.{◌≡◌, ◌+◌, ◌*◌, ◌<◌, ◌≤◌, ◌∷◌, length, drop};
 ghost use Rattle.lil_mcode.specs.State.{spliced};
-ghost use Rattle.lil_mcode.specs.Table.{address_row, place_row, further_row, fetch_row, put_row, block, move_row, nil_row, element_row, open_row, on_one, on_two, on_three};
+ghost use Rattle.lil_mcode.specs.Table.{address_row, place_row, further_row, fetch_row, put_row, block, move_row, nil_row, element_row, open_row, take_row, on_one, on_two, on_three};
 
 use super::Processor;
 use super::control::distance;
 use super::frames::clear;
 use crate::arithmetic::{trap_of, truth_word};
 use crate::machine::Event;
-use lil_base::TrapKind;
+use lil_base::{LimitKind, TrapKind};
 
 impl Processor {
     pub(super) fn push_address(&mut self, at: u32, next: u16) -> Event
@@ -131,6 +131,25 @@ impl Processor {
         }
         let behind = u64::from(index) * u64::from(words);
         self.put_address(3, u64::from(address) + behind, next)
+    }
+
+    /// A block of words is taken below the limit and cleared, and its address comes to a place.
+    pub(super) fn take_block(&mut self, next: u16) -> Event
+        ensures { on_two self.old self.old.stack (take_row next self.old) ≡ (result, self.new) }
+    {
+        let Some((address, words)) = self.two() else {
+            return Event::BadCode;
+        };
+        let room = self.limit.saturating_sub(self.top);
+        if u32::from(room) < u32::from(words) + 2 {
+            return Event::Limit(LimitKind::Store);
+        }
+        let end = self.limit;
+        let block = end - words;
+        clear(&mut self.store, usize::from(block), usize::from(end));
+        self.limit = block - 2;
+        self.put(address, block, next);
+        Event::Went
     }
 }
 

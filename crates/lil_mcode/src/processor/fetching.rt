@@ -131,7 +131,7 @@ impl Processor {
     {
         match first {
             0x7e..=0xff => Event::BadCode,
-            0x7a..=0x7c => Event::BadCode,
+            0x7b..=0x7c => Event::BadCode,
             0x6b..=0x6f => Event::BadCode,
             0x69 => Event::BadCode,
             0x60..=0x67 => Event::BadCode,
@@ -388,6 +388,7 @@ impl Processor {
                 };
                 self.call_trap(b)
             }
+            0x7a => self.take_block((place + 1) as u16),
             0x7d => {
                 let Some(b) = self.byte(place + 1) else {
                     return Event::BadCode;

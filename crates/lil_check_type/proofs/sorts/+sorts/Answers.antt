@@ -46,10 +46,10 @@ pub sort-returns-in_ok-sort-in-SetOver : goal.sort-returns-in_ok-sort-in-SetOver
 sort-returns-in_ok-sort-in-SetOver t c = is_set_over _ c.in-SetOver.is c.in_ok-sort-in-SetOver.ensures
 
 pub sort-returns-in_ok-sort-in-PointerTo : goal.sort-returns-in_ok-sort-in-PointerTo
-sort-returns-in_ok-sort-in-PointerTo t c = is_pointer_to _ c.get-in-PointerTo.result.now {p = c.in-PointerTo.place} (search rules) c.note.ensures c.in_ok-sort-in-PointerTo.ensures
+sort-returns-in_ok-sort-in-PointerTo t c = is_pointer_to _ c.get-in-PointerTo.result.now {p = c.in-PointerTo.place} (search rules) c.in_ok-sort-in-PointerTo.ensures
 
 pub sort-returns-in_ok-sort-in-ProcedureOf : goal.sort-returns-in_ok-sort-in-ProcedureOf
-sort-returns-in_ok-sort-in-ProcedureOf t c = is_procedure_of _ c.as_slice-in-ProcedureOf.result.now c.in-ProcedureOf.outcome {p = c.in-ProcedureOf.place} (search rules) c.note-in-ProcedureOf.ensures c.in_ok-sort-in-ProcedureOf.ensures
+sort-returns-in_ok-sort-in-ProcedureOf t c = is_procedure_of _ c.as_slice-in-ProcedureOf.result.now c.in-ProcedureOf.outcome {p = c.in-ProcedureOf.place} (search rules) c.note.ensures c.in_ok-sort-in-ProcedureOf.ensures
 
 pub variant-returns : goal.variant-returns
 variant-returns t c = is_variant c.args.tag ((c.args.env.now, c.args.fields.now), c.args.before.now) c.args.of.now c.as_slice.result.now c.as_slice-2.result.now (search rules) (search rules) c.in_ok-variant_labels.ensures c.in_ok-each_list.ensures

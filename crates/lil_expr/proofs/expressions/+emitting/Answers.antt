@@ -3,7 +3,7 @@ use Rattle.lil_base.specs.Words.{Integer}
 use Rattle.lil_resolved.specs.Kinds.{Kind, OfWhole}
 use Rattle.lil_resolved.specs.Resolved.{Expression, kind_of}
 use Rattle.lil_resolved.specs.Views.{base_view, kind_view, root_view, function_of, expression_of, selector_of, member_of}
-use Rattle.lil_resolved.specs.Forms.{field_is, index_is, one_is, chain_is, apply_is, set_is, single_is, span_is}
+use Rattle.lil_resolved.specs.Forms.{field_is, index_is, follow_is, one_is, chain_is, apply_is, set_is, single_is, span_is}
 use Rattle.lil_resolved.specs.declared.resolved.RExpr.{RExpr}
 use Rattle.lil_resolved.specs.declared.resolved.ROperation.{ROperation, out-ROperation}
 use Rattle.lil_resolved.specs.declared.resolved.RPlace.{out-RPlace}
@@ -17,7 +17,7 @@ use Rattle.lil_expr.specs.Generating.{Value, JoiningAll, OperatingAll, aim_of}
 use Rattle.lil_expr.proofs.Forms.{one_emitted, chain_emitted, apply_emitted}
 use Rattle.lil_expr.proofs.Chains.{next_operation, short_operation, two_operation}
 use Rattle.lil_expr.proofs.Sets.{tested_emitted, single_joins, span_joins, next_member, set_emitted}
-use Rattle.lil_expr.proofs.Placing.{field_selected, element_selected, next_selector, all_selectors}
+use Rattle.lil_expr.proofs.Placing.{field_selected, element_selected, follow_selected, next_selector, all_selectors}
 use Rattle.lil_expr.proofs.expressions.+emitting.Goals as goal
 
 pub emit_expression-returns-in_ok-emit_expression-in-One : goal.emit_expression-returns-in_ok-emit_expression-in-One
@@ -111,3 +111,8 @@ emit_selector-returns-in_ok-put-in-Index t c =
     element_selected c.args.selector.now (kind_view c.in-Index.kind) (base_view c.base.result) (expression_of c.in-Index.index) c.args.at.shape c.in_ok-least-in-Index.least (access_view c.args.at.access) c.elements-elements.result _ _ _ _ _
     (λ d. ap (λ (s : RSelector). selector_of s d) c.in-Index.is ∙ index_is c.in-Index.kind c.in-Index.index d) c.elements-elements.ensures c.base.ensures c.in_ok-least-in-Index.ensures
     c.in_ok-emit_address-in-Index.ensures c.in_ok-emit_expression-in-Index.ensures c.in_ok-emit_test-in-Index.ensures c.in_ok-put-in-Index.ensures
+
+pub emit_selector-returns-in_ok-put-in-Follow : goal.emit_selector-returns-in_ok-put-in-Follow
+emit_selector-returns-in_ok-put-in-Follow t c =
+    follow_selected c.args.selector.now c.in-Follow.pointer c.args.at.shape c.target-shape.result (access_view c.args.at.access) _ _ _
+    (λ d. ap (λ (s : RSelector). selector_of s d) c.in-Follow.is ∙ follow_is c.in-Follow.pointer d) c.target-shape.ensures c.in_ok-emit_load-in-Follow.ensures c.in_ok-put-in-Follow.ensures

@@ -1,4 +1,4 @@
-use Rattle.std.proofs.Common.{rules, ◌≡◌, ◌∙◌, sym, ap, subst, map, Some, None, IfOk, arith, to_z, of_z, w32}
+use Rattle.std.proofs.Common.{rules, ◌≡◌, ◌∙◌, sym, ap, map, Some, None, arith, to_z, of_z, w32}
 use Rattle.std.specs.Option.{option_map}
 use Rattle.lil_module.specs.declared.tree.RStmt.TheVariants as v
 use Rattle.lil_resolved.specs.Resolved.{NoElse, Else}
@@ -103,14 +103,16 @@ statement-returns-in_ok-of-in-Some-other t c =
     ∙ sym (case_with m around looping by a.of a.arms c.in-Some-other.other own)
     ∙ ap (λ x. spec.statement m x around looping) (sym is)
 
-pub statement-returns-in_ok-statements-in-For : goal.statement-returns-in_ok-statements-in-For
-statement-returns-in_ok-statements-in-For t c =
+pub statement-returns-in_ok-bounds-in-For : goal.statement-returns-in_ok-bounds-in-For
+statement-returns-in_ok-bounds-in-For t c =
     let a = c.in-For in
     let m = c.args.m.now in
     let around = c.args.around.now in
     let looping = c.args.looping in
-    let found : c.root.result ≡ root m a.variable = search rules in
+    let bounds : option_map parts.bounds_of c.in_ok-bounds-in-For.bounds ≡ spec.bounds m around (root m a.variable) a.from a.to = search rules in
     let by : to_z w32 (of_z w32 a.by) ≡ a.by = search rules in
     let body : option_map view.statements_of c.in_ok-statements-in-For.statements ≡ spec.statements m around looping a.statements = search rules in
-    let is = (λ j. spec.for_by m around (found j) a.from a.to (by j) (body j)) ∙ sym (for_is m around looping a.variable a.from a.to a.by a.statements) ∙ ap (λ x. spec.statement m x around looping) (sym a.is) in
-    subst (λ s. IfOk c.counted.result (λ o. option_map view.statement_of o ≡ s)) is c.counted.ensures
+    c.repeated_for.ensures
+    ∙ (λ j. spec.repeated_for (bounds j) (by j) (body j))
+    ∙ sym (for_is m around looping a.variable a.from a.to a.by a.statements)
+    ∙ ap (λ x. spec.statement m x around looping) (sym a.is)

@@ -79,7 +79,14 @@ returns-clause-answer g c =
 
 pub returns-clause-kinds : goal.returns-clause-kinds
 returns-clause-kinds g c =
-    kind_end (module_of c.args.m.now) c.args.strings.now c.args.code.now c.requires.small c.requires.translates c.args.steps (g.S.Sink.written c.args.screen.now) (g.S.Sink.written c.run_machine.new.screen) c.run_machine.new.machine c.in-Ok-run_machine.end c.answer.result c.answer.ensures
+    let p = module_of c.args.m.now in
+    let strings = c.args.strings.now in
+    let code = c.args.code.now in
+    let old = g.S.Sink.written c.args.screen.now in
+    let new = g.S.Sink.written c.run_machine.new.screen in
+    let ran = ran_from p strings code c.requires.small c.requires.translates c.in-Ok.machine c.in-Ok.ensures c.run_machine.new.machine.state c.args.steps (finish_of c.in-Ok-run_machine.end) old new c.in-Ok-run_machine.ensures.ran in
+    let can = possible p strings code c.requires.small c.requires.translates c.args.steps old new c.run_machine.new.machine c.in-Ok-run_machine.end ran c.in-Ok-run_machine.ensures.at in
+    kind_end p strings code c.requires.small c.requires.translates c.args.steps old new c.run_machine.new.machine c.in-Ok-run_machine.end c.answer.result can c.answer.ensures
 
 pub returns-clause-machine : goal.returns-clause-machine
 returns-clause-machine g c = λ w e.

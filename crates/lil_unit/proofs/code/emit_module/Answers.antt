@@ -1,4 +1,4 @@
-use Rattle.std.proofs.Common.{◌≡◌, List, None, ap, ◌∙◌, subst}
+use Rattle.std.proofs.Common.{◌≡◌, ℕ, List, None, ap, ◌∙◌, subst}
 use Rattle.lil_resolved.specs.declared.resolved.RDeclared.{RDeclared}
 use Rattle.lil_resolved.specs.declared.resolved.RStmt.{RStmt}
 use Rattle.lil_resolved.specs.declared.shapes.RShape.{RShape}
@@ -14,8 +14,12 @@ pub returns-clause-emits : goal.returns-clause-emits
 returns-clause-emits c =
     let words = c.in_ok-frame_words.field-0 in
     let is = c.in_ok-frame_words.ensures ∙ ap (λ (ss : List RStmt). frame_words (statements_of ss)) c.as_slice-body.ensures in
-    let new : c.new-code.result ≡ empty c.args.m.now.shapes c.args.m.now.variables c.args.m.now.words =
-    c.new-code.ensures ∙ ap (λ (ts : List RShape). empty ts c.as_slice-2.result.now c.args.m.now.words) c.as_slice.ensures ∙ ap (λ (vs : List RDeclared). empty c.args.m.now.shapes vs c.args.m.now.words) c.as_slice-2.ensures in
+    let m = c.args.m.now in
+    let new : c.new-code.result ≡ empty m.shapes m.targets m.variables m.words =
+    c.new-code.ensures
+    ∙ ap (λ (ts : List RShape). empty ts c.as_slice-2.result.now c.as_slice-3.result.now m.words) c.as_slice.ensures
+    ∙ ap (λ (us : List ℕ). empty m.shapes us c.as_slice-3.result.now m.words) c.as_slice-2.ensures
+    ∙ ap (λ (vs : List RDeclared). empty m.shapes m.targets vs m.words) c.as_slice-3.ensures in
     let enter = subst (λ (d : Draft). Emits d c.put.new.self (Doing (λ w. Ent words))) new c.in_ok-put.ensures in
     let body = subst (λ (ss : List RStmt). Emits c.put.new.self c.emit_body.new.code (Body 0 None (statements_of ss))) c.as_slice-body.ensures c.in_ok-emit_body.ensures in
-    framed c.args.m.now.shapes c.args.m.now.variables c.args.m.now.words (module_of c.args.m.now) words _ _ _ is enter body c.in_ok-put-2.ensures
+    framed m.shapes m.targets m.variables m.words (module_of m) words _ _ _ is enter body c.in_ok-put-2.ensures

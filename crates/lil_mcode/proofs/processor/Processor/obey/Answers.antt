@@ -13,8 +13,8 @@ pub returns-in-107-to-111 : goal.returns-in-107-to-111
 returns-in-107-to-111 c =
     ap (λ (o : Option (Instr × ℕ)). performed c.args.self.now (current c.args.self.now) o) (no_late_frame c.args.first (running_code c.args.self.now) c.args.place (omega arith) (omega arith))
 
-pub returns-in-122-to-124 : goal.returns-in-122-to-124
-returns-in-122-to-124 c =
+pub returns-in-123-to-124 : goal.returns-in-123-to-124
+returns-in-123-to-124 c =
     ap (λ (o : Option (Instr × ℕ)). performed c.args.self.now (current c.args.self.now) o) (no_jump c.args.first (running_code c.args.self.now) c.args.place (omega arith) (omega arith))
 
 pub returns-in-126-to-255 : goal.returns-in-126-to-255

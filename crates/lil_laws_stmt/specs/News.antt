@@ -1,0 +1,416 @@
+-- The rows of NEW: a block is taken below the limit, and the pointer gets its address.
+use Rattle.std.proofs.Common.{◌≡◌, ℕ, zero, suc, ◌+◌, ◌-◌, ◌<◌, ◌≤◌, ◌⊎◌, inl, inr, Bool, true, false, cond, eqb, List, [], ◌∷◌, ◌++◌, length, get_or, set, refl, sym, ap, ◌∙◌, subst, ⊎_elim, arith}
+use Rattle.std.specs.Prelude.{nat_le, nat_lt, ◌&&◌, slice_get}
+use Rattle.std.proofs.lemmas.Bool.{lt-ltb, le-ltb, lt-leb, eq-eqb, ne_eqb, eqb-true, cases_lt, cases_Bool, cases_eq}
+use Rattle.lil_base.specs.declared.fault.LimitKind.TheVariants as limit
+use Rattle.lil_resolved.specs.Kinds.{Kind, OfPointer}
+use Rattle.lil_resolved.specs.Scalars.{Scalar, ToObject, zero_of}
+use Rattle.lil_resolved.specs.Shapes.{Shape, Absent, Word, words, is_there, part_at, offset, shape_at}
+use Rattle.lil_resolved.specs.Resolved.{Designator, Resolved, New, shape_of}
+use Rattle.lil_meaning.specs.Cells.{Root, Global, Local, Object, Place, Cells, same_root, object_place, stored, alone, zero_in, zeros_under, targets_of, heap_words, loaded_at}
+use Rattle.lil_meaning.specs.Items.{Scalars, Places, NewAt, Do, Item, Value, PlaceOf, Fill, Perform, Going, Activation, Source}
+use Rattle.lil_meaning.specs.Steps.{next, current, owner_of, target_of, made}
+use Rattle.lil_asm.specs.declared.instr.Instr.TheVariants.{Liw, Alc}
+use Rattle.lil_mcode.specs.declared.machine.Event.{Event}
+use Rattle.lil_mcode.specs.declared.machine.Event.TheVariants.{Went, Limit}
+use Rattle.lil_mcode.specs.State.{State, zeros, cleared, stack_of}
+use Rattle.lil_mcode.specs.Table.{going, mstep, take_row}
+use Rattle.lil_table.specs.Rows.{IsAt, Access, access_of}
+use Rattle.lil_match.specs.Running.{Run, running}
+use Rattle.lil_match.specs.Parts.{yes, no, part_fits, word_long}
+use Rattle.lil_match.specs.Splices.{spliced_length, spliced_before, spliced_there, spliced_after, zeros_length, zeros_word}
+use Rattle.lil_match.specs.Homes.{Of, Own, Fixed, Free, of_free, Home, lives, address, shape_there, Refers, IsWord, is_word_kept, zero_is, Mem, mem_stored, scalar_owned, same_root_eq, same_root_refl}
+use Rattle.lil_match.specs.Goes.{OwnWords, IsHeap, fits, Shared, Lands, Goes}
+use Rattle.lil_match.specs.Waits.{Stack, Setting, frame_of, laid_out, moved, Quiet, AtPlace, Around, Reach, Rows, HasPlace, Waiting}
+use Rattle.lil_match.specs.Known.{known_kept, each_known, each_comes}
+use Rattle.lil_match.specs.Kept.{first_words, stack_above, stands_kept, place_lives, rows_kept}
+use Rattle.lil_match.specs.Closing.{closed}
+use Rattle.lil_match.specs.Steps.{advances, at_step, at_once, pushes, rows_ahead, lands_on, goes_none, goes_one_in, goes_full}
+use Rattle.lil_laws_place.specs.Codes.{inside, addressed, leads}
+use Rattle.lil_laws_stmt.specs.Painting.{own_free, free_fixed, of_own, painted, painted_there, painted_beside}
+
+-- ---- one object more
+heap_more : (os : List Shape) (t : Shape) → heap_words (os ++ t ∷ []) ≡ heap_words os + (2 + words t)
+heap_more [] t = omega arith
+heap_more (o ∷ os) t = omega (arith, heap_more os t)
+
+last_shape : (os : List Shape) (t : Shape) → shape_at (os ++ t ∷ []) (length os) ≡ t
+last_shape [] t = refl
+last_shape (o ∷ os) t = last_shape os t
+
+other_shape : (os : List Shape) (t : Shape) (p : ℕ) → (length os ≡ p → ⊥) → shape_at (os ++ t ∷ []) p ≡ shape_at os p
+other_shape [] t zero d = absurd (d refl)
+other_shape [] t (suc p) d = refl
+other_shape (o ∷ os) t zero d = refl
+other_shape (o ∷ os) t (suc p) d = other_shape os t p (λ e. d (ap suc e))
+
+unborn : (os : List Shape) → shape_at os (length os) ≡ Absent
+unborn [] = refl
+unborn (o ∷ os) = unborn os
+
+module _ (ctx : Setting) where
+  open ctx use {library, home as h, stack as st}
+  open frame_of ctx use {own}
+  open laid_out ctx use {layout as l}
+
+  module _ (s : Source) (k : List Item) (m : State) (c : ℕ) (a : Around) (shared : Shared ctx s m) where
+    abbrev Rest : Reach
+    Rest = Rows ctx k
+
+    pub new_goes : (d : Designator) (n : ℕ) → Waiting ctx (Perform (Do (New d n))) Rest Quiet m.place m.stack c a → Goes ctx s (Perform (Do (New d n)) ∷ k) m (c + 32)
+    new_goes d n row =
+        let r = row.part.here in
+        goes_none ctx s (Perform (Do (New d n)) ∷ k) m (c + 32) c
+        (lands_on ctx s m shared (PlaceOf d ∷ Fill (NewAt n) ∷ k) m.place m.stack c a
+        (at_once ctx _ Quiet m.place m.stack c a
+        (record {
+          part = record { end = r.found; here = r.here; shallow = omega (arith, r.shallow, ap length row.part.empty) };
+          then = at_once ctx _ (AtPlace (access_of l d) (shape_of l.scope d)) r.found m.stack c a
+              (record {
+                part = record { typed = r.typed; there = r.there; empty = row.part.empty; start = r.start; end = row.part.end; address = r.address; by = r.by; within = row.part.within };
+                then = row.then;
+              });
+        })))
+        (omega arith)
+        (omega arith)
+
+    -- the pointer is there
+    module _ (n : ℕ) (place : Place) (b : Access) (t : Shape) (below : List ℕ) (has : HasPlace ctx b place t m.stack below) (row : Waiting ctx (Fill (NewAt n)) Rest (AtPlace b t) m.place below c a) where
+      -- the new object's number, its shape, and its first word
+      abbrev o : ℕ
+      o = length s.objects
+
+      abbrev target : Shape
+      target = shape_at l.scope.targets n
+
+      abbrev first : ℕ
+      first = st.limit - words (shape_at l.scope.targets n)
+
+      abbrev lower : ℕ
+      lower = st.limit - (words (shape_at l.scope.targets n) + 2)
+
+      abbrev items : List Item
+      items = Value (Places place) ∷ Fill (NewAt n) ∷ k
+
+      abbrev now : Source
+      now = record s { items = items; phase = Going }
+
+      -- the instruction that takes the block is next
+      abbrev before : ℕ
+      before = row.part.by.0
+
+      abbrev taking : State
+      taking = going m row.part.by.0 (words (shape_at l.scope.targets n) ∷ address h place ∷ [])
+
+      words_here : OwnWords h.owner st.frame m.top
+      words_here = first_words h.owner st.base m.top st.frame st.callers shared.standing.stands
+
+      based : st.base ≤ m.top
+      based = omega (arith, (stack_above ctx (stack_of m) shared.standing).0, words_here.below)
+
+      -- what the meaning makes is what the layout says
+      target_is : target_of library now n ≡ shape_at l.scope.targets n
+      target_is =
+          let f = shared.standing.known in
+          ap (λ (ts : List Shape). shape_at ts n) (
+          ap (λ (i : ℕ). targets_of (loaded_at library s.loaded (owner_of (slice_get s.activations i)))) (closed ctx k _ _ _ _ _ row.then)
+          ∙ ap (λ (all : List Activation). targets_of (loaded_at library s.loaded (owner_of (slice_get all st.frame.activation)))) shared.activations_are
+          ∙ ap (λ (i : ℕ). targets_of (loaded_at library s.loaded i)) f.owner
+          ∙ ap (λ (ns : List ℕ). targets_of (loaded_at library ns st.frame.number)) shared.loaded_are
+          ∙ f.own_targets
+          ∙ sym f.targets
+          )
+
+      abbrev after : Shape → Source
+      after u = made u place k now
+
+      low : address h place + 1 ≤ 65535
+      low = omega (arith, inside ctx s m shared b place t m.stack below has, ap words row.part.typed)
+
+      takes : mstep taking ≡ take_row row.part.by.2.0 taking (address h place) (words (shape_at l.scope.targets n)) []
+      takes = at_step ctx taking shared.program Alc row.part.by.2.0 row.part.by.2.1
+
+      -- ---- without room
+      goes_short : m.limit - m.top < words (shape_at l.scope.targets n) + 2 → Goes ctx s items taking (c + 1)
+      goes_short less =
+          goes_full ctx s items taking (c + 1) limit.Store
+          (takes ∙ yes _ _ _ (lt-ltb (address h place) 65536 (omega (arith, low))) ∙ yes _ _ _ (lt-ltb (m.limit - m.top) (words (shape_at l.scope.targets n) + 2) less))
+          (subst (λ (u : Shape). fits (65518 - heap_words (s.objects ++ u ∷ [])) (st.frame ∷ st.bodies) ≡ false) (sym target_is)
+          (ap (λ (y : Bool). y && fits (65518 - heap_words (s.objects ++ target ∷ [])) st.bodies)
+          (lt-leb (st.frame.at + st.frame.layout.frame) (65518 - heap_words (s.objects ++ target ∷ []))
+          (omega (arith, less, heap_more s.objects target, shared.heap.rest, shared.standing.limit_is, shared.standing.low, words_here.most, words_here.mark)))))
+          (omega arith)
+
+      -- ---- with room
+      module _ (room : words (shape_at l.scope.targets n) + 2 ≤ m.limit - m.top) where
+        roomy : m.top + (words (shape_at l.scope.targets n) + 2) ≤ st.limit
+        roomy = omega (arith, room, shared.standing.limit_is, shared.standing.low)
+
+        abbrev is_new : Root → Bool
+        is_new r = same_root (Object o) r
+
+        abbrev x : Home
+        x = record (ctx.home) {
+          base = λ r. cond (same_root (Object (length s.objects)) r) (ctx.stack.limit - words (shape_at ctx.stack.frame.layout.scope.targets n)) (ctx.home.base r);
+          shape = λ r. cond (same_root (Object (length s.objects)) r) (shape_at ctx.stack.frame.layout.scope.targets n) (ctx.home.shape r);
+          owner = painted ctx.home.owner (ctx.stack.limit - words (shape_at ctx.stack.frame.layout.scope.targets n)) ctx.stack.limit (λ a. Of (Object (length s.objects)));
+        }
+
+        abbrev y : Stack
+        y = record (ctx.stack) { limit = ctx.stack.limit - (words (shape_at ctx.stack.frame.layout.scope.targets n) + 2) }
+
+        abbrev moving : Setting
+        moving = moved ctx x (ctx.stack.limit - (words (shape_at ctx.stack.frame.layout.scope.targets n) + 2))
+
+        -- a root that lives isn't the new one
+        old_root : (r : Root) → lives h r ≡ true → same_root (Object o) r ≡ false
+        old_root (Global i j) e = refl
+        old_root (Local i j) e = refl
+        old_root (Object p) e = ne_eqb o p (λ same. let gone : is_there (h.shape (Object p)) ≡ false = ap is_there (shared.heap.born p ∙ ap (shape_at s.objects) (sym same) ∙ unborn s.objects) in cc)
+
+        base_old : (r : Root) → same_root (Object o) r ≡ false → x.base r ≡ h.base r
+        base_old r e = no (same_root (Object o) r) first (h.base r) e
+
+        shape_old : (r : Root) → same_root (Object o) r ≡ false → x.shape r ≡ h.shape r
+        shape_old r e = no (same_root (Object o) r) target (h.shape r) e
+
+        base_new : x.base (Object o) ≡ first
+        base_new = yes (same_root (Object o) (Object o)) first (h.base (Object o)) (same_root_refl (Object o))
+
+        shape_new : x.shape (Object o) ≡ target
+        shape_new = yes (same_root (Object o) (Object o)) target (h.shape (Object o)) (same_root_refl (Object o))
+
+        -- the block's words were in no use
+        was_free : (i : ℕ) → first ≤ i → i < st.limit → h.owner i ≡ Free st.base
+        was_free i from less = shared.standing.room i (omega (arith, from, roomy)) less
+
+        beside : (i : ℕ) → (h.owner i ≡ Free st.base → ⊥) → (i < first) ⊎ ((first ≤ i) × (st.limit ≤ i))
+        beside i used = by (cases_lt i first) (cases_lt i st.limit)
+          where
+            by : (i < first) ⊎ (first ≤ i) → (i < st.limit) ⊎ (st.limit ≤ i) → (i < first) ⊎ ((first ≤ i) × (st.limit ≤ i))
+            by (inl z) e = inl z
+            by (inr g) (inl z) = absurd (used (was_free i g z))
+            by (inr g) (inr e) = inr (g, e)
+
+        owner_beside : (i : ℕ) → (i < first) ⊎ ((first ≤ i) × (st.limit ≤ i)) → x.owner i ≡ h.owner i
+        owner_beside i e = painted_beside h.owner first st.limit (λ a. Of (Object o)) i e
+
+        fixed_kept : (i : ℕ) → h.owner i ≡ Fixed → (x.owner i ≡ Fixed) × (h.shadow i ≡ h.shadow i)
+        fixed_kept i is = (owner_beside i (beside i (λ free. free_fixed st.base (sym free ∙ is))) ∙ is, refl)
+
+        -- ---- the block is cleared
+        abbrev blank : List ℕ
+        blank = cleared m.store (ctx.stack.limit - words (shape_at ctx.stack.frame.layout.scope.targets n)) ctx.stack.limit
+
+        zero_long : length (zeros (st.limit - first)) ≡ words target
+        zero_long = omega (arith, zeros_length (st.limit - first), roomy)
+
+        fit : first + length (zeros (st.limit - first)) ≤ length m.store
+        fit = omega (arith, zero_long, roomy, shared.standing.high, shared.mem.long)
+
+        blank_beside : (i : ℕ) → (i < first) ⊎ ((first ≤ i) × (st.limit ≤ i)) → get_or blank i 0 ≡ get_or m.store i 0
+        blank_beside i (inl z) = spliced_before m.store first (zeros (st.limit - first)) i fit z
+        blank_beside i (inr g) = spliced_after m.store first (zeros (st.limit - first)) i fit (omega (arith, zero_long, roomy, g.1))
+
+        blank_there : (i : ℕ) → i < words target → get_or blank (first + i) 0 ≡ 0
+        blank_there i less = spliced_there m.store first (zeros (st.limit - first)) i fit (omega (arith, zero_long, less)) ∙ zeros_word (st.limit - first) i (omega (arith, roomy, less))
+
+        blank_long : length blank ≡ length m.store
+        blank_long = spliced_length m.store first (zeros (st.limit - first)) fit
+
+        abbrev fresh : Cells
+        fresh = stored s.cells (object_place (length s.objects)) (zeros_under (shape_at ctx.stack.frame.layout.scope.targets n))
+
+        mem_blank : Mem x fresh blank
+        mem_blank = record {
+          owned = λ r i less. owned r i less (cases_Bool (same_root (Object o) r));
+          inside = λ r. inside_by r (cases_Bool (same_root (Object o) r));
+          holds = λ r q j e. holds r q j e (cases_Bool (same_root (Object o) r));
+          kept = λ i own. kept i own (cases_lt i first) (cases_lt i st.limit);
+          fixed = λ i own. fixed i own (cases_lt i first) (cases_lt i st.limit);
+          long = blank_long ∙ shared.mem.long;
+        }
+          where
+            apart : (r : Root) (i : ℕ) → h.owner i ≡ Of r → (i < first) ⊎ ((first ≤ i) × (st.limit ≤ i))
+            apart r i is = beside i (λ free. of_free r st.base (sym is ∙ free))
+
+            owned : (r : Root) (i : ℕ) → i < words (x.shape r) → (same_root (Object o) r ≡ true) ⊎ (same_root (Object o) r ≡ false) → x.owner (x.base r + i) ≡ Of r
+            owned r i less (inl e) =
+                let is : Object o ≡ r = same_root_eq (Object o) r e in
+                let at : x.base r + i ≡ first + i = omega (arith, ap x.base (sym is), base_new) in
+                let small : i < words target = omega (arith, less, ap (λ (z : Root). words (x.shape z)) (sym is), ap words shape_new) in
+                ap x.owner at ∙ painted_there h.owner first st.limit (λ a. Of (Object o)) (first + i) (omega arith) (omega (arith, small, roomy)) ∙ ap Of is
+            owned r i less (inr e) =
+                let at : x.base r + i ≡ h.base r + i = omega (arith, base_old r e) in
+                let was = shared.mem.owned r i (omega (arith, less, ap words (shape_old r e))) in
+                ap x.owner at ∙ owner_beside (h.base r + i) (apart r (h.base r + i) was) ∙ was
+
+            inside_by : (r : Root) → (same_root (Object o) r ≡ true) ⊎ (same_root (Object o) r ≡ false) → x.base r + words (x.shape r) ≤ 65535
+            inside_by r (inl e) =
+                let is : Object o ≡ r = same_root_eq (Object o) r e in
+                omega (arith, ap x.base (sym is), base_new, ap (λ (z : Root). words (x.shape z)) (sym is), ap words shape_new, roomy, shared.standing.high)
+            inside_by r (inr e) = omega (arith, base_old r e, ap words (shape_old r e), shared.mem.inside r)
+
+            holds : (r : Root) (q : List ℕ) (j : Kind) → part_at (x.shape r) q ≡ Word j → (same_root (Object o) r ≡ true) ⊎ (same_root (Object o) r ≡ false)
+                → IsWord x j (fresh r q) (get_or blank (x.base r + offset (x.shape r) q) 0)
+            holds r q j e (inl new) =
+                let is : Object o ≡ r = same_root_eq (Object o) r new in
+                let shape : x.shape r ≡ target = ap x.shape (sym is) ∙ shape_new in
+                let part : part_at target q ≡ Word j = ap (λ (z : Shape). part_at z q) (sym shape) ∙ e in
+                let small : offset target q < words target = omega (arith, part_fits target q (ap is_there part), word_long (part_at target q) j part) in
+                let at : x.base r + offset (x.shape r) q ≡ first + offset target q = omega (arith, ap x.base (sym is), base_new, ap (λ (z : Shape). offset z q) shape) in
+                zero_is x j (fresh r q) (get_or blank (x.base r + offset (x.shape r) q) 0)
+                (yes (same_root (Object o) r) (zeros_under target q) (s.cells r q) new ∙ ap zero_in part)
+                (ap (λ (z : ℕ). get_or blank z 0) at ∙ blank_there (offset target q) small)
+            holds r q j e (inr old) =
+                let part : part_at (h.shape r) q ≡ Word j = ap (λ (z : Shape). part_at z q) (sym (shape_old r old)) ∙ e in
+                let was = shared.mem.holds r q j part in
+                let at : x.base r + offset (x.shape r) q ≡ h.base r + offset (h.shape r) q = omega (arith, base_old r old, ap (λ (z : Shape). offset z q) (shape_old r old)) in
+                let value : s.cells r q ≡ fresh r q = sym (no (same_root (Object o) r) (zeros_under target q) (s.cells r q) old) in
+                let same : get_or m.store (h.base r + offset (h.shape r) q) 0 ≡ get_or blank (x.base r + offset (x.shape r) q) 0 =
+                sym (ap (λ (z : ℕ). get_or blank z 0) at ∙ blank_beside (h.base r + offset (h.shape r) q) (apart r (h.base r + offset (h.shape r) q) (scalar_owned h s.cells m.store r q j shared.mem part).0)) in
+                subst (λ (w : ℕ). IsWord x j (fresh r q) w) same
+                (subst (λ (v : Scalar). IsWord x j v (get_or m.store (h.base r + offset (h.shape r) q) 0)) value
+                (is_word_kept h x (λ p alive. base_old (Object p) (old_root (Object p) alive)) (λ p alive. shape_old (Object p) (old_root (Object p) alive)) refl j (s.cells r q)
+                (get_or m.store (h.base r + offset (h.shape r) q) 0) was))
+
+            kept : (i : ℕ) → x.owner i ≡ Own → (i < first) ⊎ (first ≤ i) → (i < st.limit) ⊎ (st.limit ≤ i) → get_or blank i 0 ≡ h.shadow i
+            kept i own (inl z) e = blank_beside i (inl z) ∙ shared.mem.kept i (sym (owner_beside i (inl z)) ∙ own)
+            kept i own (inr g) (inl z) = absurd (of_own (Object o) (sym (painted_there h.owner first st.limit (λ a. Of (Object o)) i g z) ∙ own))
+            kept i own (inr g) (inr e) = blank_beside i (inr (g, e)) ∙ shared.mem.kept i (sym (owner_beside i (inr (g, e))) ∙ own)
+
+            fixed : (i : ℕ) → x.owner i ≡ Fixed → (i < first) ⊎ (first ≤ i) → (i < st.limit) ⊎ (st.limit ≤ i) → get_or blank i 0 ≡ h.shadow i
+            fixed i own (inl z) e = blank_beside i (inl z) ∙ shared.mem.fixed i (sym (owner_beside i (inl z)) ∙ own)
+            fixed i own (inr g) (inl z) = absurd (Rattle.lil_match.specs.Homes.fixed_of_none (Object o) (sym (painted_there h.owner first st.limit (λ a. Of (Object o)) i g z) ∙ own))
+            fixed i own (inr g) (inr e) = blank_beside i (inr (g, e)) ∙ shared.mem.fixed i (sym (owner_beside i (inr (g, e))) ∙ own)
+
+        -- ---- and the pointer gets its address
+        alive : lives h place.root ≡ true
+        alive = place_lives h place t has.living has.there
+
+        here_is : (x.base place.root ≡ h.base place.root) × (x.shape place.root ≡ h.shape place.root)
+        here_is = (base_old place.root (old_root place.root alive), shape_old place.root (old_root place.root alive))
+
+        address_is : address x place ≡ address h place
+        address_is = omega (arith, here_is.0, ap (λ (z : Shape). offset z place.path) here_is.1)
+
+        living : shape_there x place ≡ Word (OfPointer n)
+        living = ap (λ (z : Shape). part_at z place.path) here_is.1 ∙ has.living ∙ row.part.typed
+
+        refers : Refers x (OfPointer n) (ToObject o)
+        refers = (ap is_there shape_new ∙ row.part.there, shape_new ∙ ap (λ (ts : List Shape). shape_at ts n) shared.standing.known.targets)
+
+        abbrev store : List ℕ
+        store = set blank (address h place) (ctx.stack.limit - words (shape_at ctx.stack.frame.layout.scope.targets n))
+
+        mem : Mem x (stored fresh place (alone (ToObject o))) store
+        mem =
+            subst (λ (w : ℕ). Mem x (stored fresh place (alone (ToObject o))) (set blank (address h place) w)) base_new
+            (subst (λ (z : ℕ). Mem x (stored fresh place (alone (ToObject o))) (set blank z (x.base (Object o)))) address_is
+            (mem_stored x fresh blank place (OfPointer n) (ToObject o) mem_blank living refl refers))
+
+        heap : IsHeap x.base x.shape (s.objects ++ target ∷ []) lower
+        heap = record {
+          born = λ p. born p (cases_eq o p);
+          above = λ p there. above p there (cases_eq o p);
+          apart = λ p q there where' same. apart p q there where' same (cases_eq o p) (cases_eq o q);
+          rest = omega (arith, heap_more s.objects target, shared.heap.rest, roomy);
+        }
+          where
+            other : (p : ℕ) → (o ≡ p → ⊥) → same_root (Object o) (Object p) ≡ false
+            other p d = ne_eqb o p d
+
+            new_at : (p : ℕ) → o ≡ p → x.base (Object p) ≡ first
+            new_at p e = ap (λ (i : ℕ). x.base (Object i)) (sym e) ∙ base_new
+
+            there_old : (p : ℕ) → (o ≡ p → ⊥) → is_there (x.shape (Object p)) ≡ true → is_there (h.shape (Object p)) ≡ true
+            there_old p d there = ap is_there (sym (shape_old (Object p) (other p d))) ∙ there
+
+            born : (p : ℕ) → (o ≡ p) ⊎ (o ≡ p → ⊥) → x.shape (Object p) ≡ shape_at (s.objects ++ target ∷ []) p
+            born p (inl e) = ap (λ (i : ℕ). x.shape (Object i)) (sym e) ∙ shape_new ∙ sym (last_shape s.objects target) ∙ ap (shape_at (s.objects ++ target ∷ [])) e
+            born p (inr d) = shape_old (Object p) (other p d) ∙ shared.heap.born p ∙ sym (other_shape s.objects target p d)
+
+            above : (p : ℕ) → is_there (x.shape (Object p)) ≡ true → (o ≡ p) ⊎ (o ≡ p → ⊥) → lower + 2 ≤ x.base (Object p)
+            above p there (inl e) = omega (arith, new_at p e, roomy)
+            above p there (inr d) = omega (arith, base_old (Object p) (other p d), shared.heap.above p (there_old p d there))
+
+            apart : (p q : ℕ) → is_there (x.shape (Object p)) ≡ true → is_there (x.shape (Object q)) ≡ true → x.base (Object p) ≡ x.base (Object q) → (o ≡ p) ⊎ (o ≡ p → ⊥) → (o ≡ q) ⊎ (o ≡ q → ⊥) → p ≡ q
+            apart p q one two same (inl e) (inl f) = sym e ∙ f
+            apart p q one two same (inl e) (inr d) = absurd (omega (arith, same, new_at p e, base_old (Object q) (other q d), shared.heap.above q (there_old q d two), roomy))
+            apart p q one two same (inr d) (inl f) = absurd (omega (arith, same, new_at q f, base_old (Object p) (other p d), shared.heap.above p (there_old p d one), roomy))
+            apart p q one two same (inr d) (inr e) =
+                shared.heap.apart p q (there_old p d one) (there_old q e two) (sym (base_old (Object p) (other p d)) ∙ same ∙ base_old (Object q) (other q e))
+
+        abbrev machine : State
+        machine = record m { place = row.part.by.2.0; stack = []; limit = m.limit - (words (shape_at ctx.stack.frame.layout.scope.targets n) + 2); store = store }
+
+        takes_it : mstep taking ≡ (Went, machine)
+        takes_it =
+            takes
+            ∙ yes _ _ _ (lt-ltb (address h place) 65536 (omega (arith, low)))
+            ∙ no _ _ _ (le-ltb (m.limit - m.top) (words target + 2) room)
+            ∙ ap (λ (i : ℕ). let e : Event × State = (Went, record m { place = row.part.by.2.0; stack = []; limit = m.limit - (words target + 2); store = set (cleared m.store (i - words target) i) (address h place) (i - words target) }) in e) shared.standing.limit_is
+
+        goes_roomy : Goes ctx s items taking (c + 1)
+        goes_roomy =
+            let g = shared.standing in
+            goes_one_in ctx s items taking x y (c + 1) c (running machine s.world)
+            (advances taking s.world (Went, machine) takes_it)
+            (subst (λ (u : Shape). Lands moving (after u).phase (after u) (running machine s.world) c) (sym target_is)
+            (record {
+              machine = machine;
+              is = refl;
+              met = record {
+                shared = record {
+                  mem = mem;
+                  heap = heap;
+                  program = record { table_is = shared.program.table_is; known = shared.program.known; running_is = shared.program.running_is; marked_is = shared.program.marked_is };
+                  standing = record {
+                    frame_is = g.frame_is;
+                    base_is = g.base_is;
+                    limit_is = ap (λ (i : ℕ). i - (words target + 2)) g.limit_is;
+                    bodies_are = g.bodies_are;
+                    known = known_kept ctx.library ctx.loaded ctx.table ctx.activations h x (λ r e. base_old r (old_root r e)) (λ r e. shape_old r (old_root r e)) refl fixed_kept st.frame g.known;
+                    callers = each_known ctx.library ctx.loaded ctx.table ctx.activations h x (λ r e. base_old r (old_root r e)) (λ r e. shape_old r (old_root r e)) refl fixed_kept st.callers g.callers;
+                    comes = each_comes ctx.library ctx.loaded ctx.table ctx.activations h x (λ r e. base_old r (old_root r e)) (λ r e. shape_old r (old_root r e)) refl fixed_kept st.base st.bodies g.comes;
+                    stands = stands_kept h.owner x.owner st.base m.top st.frame st.callers (λ i from less. owner_beside i (inl (omega (arith, less, roomy)))) g.stands;
+                    room = λ i from less. owner_beside i (inl (omega (arith, less, roomy))) ∙ g.room i from (omega (arith, less, roomy));
+                    low = omega (arith, roomy);
+                    high = omega (arith, g.high);
+                  };
+                  activations_are = shared.activations_are;
+                  loaded_are = shared.loaded_are;
+                  levels = shared.levels;
+                  parked_are = shared.parked_are;
+                  kept_are = shared.kept_are;
+                };
+                around = a;
+                ahead = rows_ahead moving k row.part.by.2.0 [] c a
+                    (subst (λ (q : ℕ). Rows moving k Quiet q [] c a) (sym row.part.by.2.2)
+                    (rows_kept k ctx x lower (st.base + 4) (stack_above ctx (stack_of m) g).1 Quiet row.part.end [] c a
+                    (record { shadow = λ i from less. refl; base = λ r e alive. base_old r (old_root r alive); shape = λ r e alive. shape_old r (old_root r alive); targets = refl })
+                    row.then));
+              };
+            }))
+            (record {
+              owner = λ i e. owner_beside i (⊎_elim (λ (z : i < st.base). inl (omega (arith, z, based, roomy))) (λ (z : st.limit ≤ i). inr (omega (arith, z, roomy), z)) e);
+              shadow = λ i e. refl;
+              base = λ r e. base_old r (old_root r e);
+              shape = λ r e. shape_old r (old_root r e);
+              targets = refl;
+              fixed = fixed_kept;
+            })
+            (refl, omega arith)
+            (record { bodies = λ n e. e; all = λ n e. e })
+            (omega arith)
+
+      pub new_at_goes : Goes ctx s (Value (Places place) ∷ Fill (NewAt n) ∷ k) m (c + 32)
+      new_at_goes =
+          let r = row.part in
+          addressed ctx s items m shared b place t m.stack below has (omega (arith, ap length r.empty)) m.place r.start (c + 32) (c + 2) r.address
+          (leads ctx s items m shared (Liw (words target)) r.start r.by.0 (address h place ∷ below) (words target ∷ address h place ∷ []) (c + 2) (c + 1) r.by.1
+          (pushes (words target) r.by.0 (going m r.start (address h place ∷ below)) (omega (arith, ap length r.empty))
+          ∙ ap (λ (z : List ℕ). let e : Event × State = (Went, going m r.by.0 (words target ∷ address h place ∷ z)) in e) r.empty)
+          (⊎_elim (λ less. goes_short less) (λ more. goes_roomy more) (cases_lt (m.limit - m.top) (words target + 2)))
+          (omega arith))
+          (omega arith)
