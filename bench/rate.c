@@ -1,46 +1,38 @@
-/* The loops of rate.sh for comparison: the same bytes of code on a plain interpreter in C, a switch over the first byte of each
-   instruction. It has the ten instructions of that code and tests what the machine tests: the expression stack, addresses, sums
-   and places. Its first word is the loop, Sum or Range. It prints how many instructions it did and the nanoseconds that the fastest
-   of its runs took. With a number from 1 to 255 behind that word it does one run, with so many turns of the outer loop. */
+/* The programs of rate.sh for comparison: the same bytes of code (rate.h) on a plain interpreter in C, a switch over the first byte
+   of each instruction. It has the instructions of that code and tests what the machine tests: the expression stack, addresses,
+   numbers and places. Its first word is the program's name. It prints how many instructions it did, the nanoseconds that the
+   fastest of its runs took, and the bytes of the code. With a number from 1 to 255 behind that word it does one run, with so many
+   turns of the outer loop; with `words` it does one and prints what the program made, word by word. */
 #include <stdint.h>
 #include <stdio.h>
 #include <stdlib.h>
 #include <string.h>
 #include <time.h>
+#include "rate.h"
 
-/* FOR outer := 1 TO 60 DO sum := 0; FOR inner := 1 TO 20000 DO sum := sum + 3 END END, with outer, inner and sum at 0, 1 and 2 */
-static uint8_t plain[] = {
-    0x68, 0, 10,                                                /*  0  ENT 10 */
-    0x01, 0, 1, 0x01, 0, 60, 0x01, 0, 1, 0x77, 0, 4, 0, 0, 71,  /*  3  LIW 1, LIW 60, LIW 1, FRI 4 0 71 */
-    0x20, 0, 4, 0x26, 0, 0,                                     /* 18  LLW 4, SGW 0 */
-    0x01, 0, 0, 0x26, 0, 2,                                     /* 24  LIW 0, SGW 2 */
-    0x01, 0, 1, 0x01, 78, 32, 0x01, 0, 1, 0x77, 0, 7, 0, 0, 66, /* 30  LIW 1, LIW 20000, LIW 1, FRI 7 0 66 */
-    0x20, 0, 7, 0x26, 0, 1,                                     /* 45  LLW 7, SGW 1 */
-    0x24, 0, 2, 0x01, 0, 3, 0x40, 0x26, 0, 2,                   /* 51  LGW 2, LIW 3, ADC, SGW 2 */
-    0x78, 0, 7, 0, 45,                                          /* 61  FRN 7 45 */
-    0x78, 0, 4, 0, 18,                                          /* 66  FRN 4 18 */
-    0x6a,                                                       /* 71  RTN */
+enum { BUDGET = 10000000, RUNS = 15 };
+
+enum ending { WENT, ENDED, SPENT, TRAPPED, LIMITED, BAD };
+
+/* a program: its code, where in it the turns of the outer loop stand, how many words its variables have, and which of these hold
+   what it made: the first, and how many */
+struct program {
+    const char *name;
+    uint8_t *code;
+    uint32_t length, turns, variables, first, made;
 };
 
-/* the same where sum is of the subrange [0 .. 60000] */
-static uint8_t ranged[] = {
-    0x68, 0, 10,                                                      /*  0  ENT 10 */
-    0x01, 0, 1, 0x01, 0, 60, 0x01, 0, 1, 0x77, 0, 4, 0, 0, 81,        /*  3  LIW 1, LIW 60, LIW 1, FRI 4 0 81 */
-    0x20, 0, 4, 0x26, 0, 0,                                           /* 18  LLW 4, SGW 0 */
-    0x01, 0, 0, 0x39, 0, 0, 0xea, 0x60, 0x26, 0, 2,                   /* 24  LIW 0, RGC 0 60000, SGW 2 */
-    0x01, 0, 1, 0x01, 78, 32, 0x01, 0, 1, 0x77, 0, 7, 0, 0, 76,       /* 35  LIW 1, LIW 20000, LIW 1, FRI 7 0 76 */
-    0x20, 0, 7, 0x26, 0, 1,                                           /* 50  LLW 7, SGW 1 */
-    0x24, 0, 2, 0x01, 0, 3, 0x40, 0x39, 0, 0, 0xea, 0x60, 0x26, 0, 2, /* 56  LGW 2, LIW 3, ADC, RGC 0 60000, SGW 2 */
-    0x78, 0, 7, 0, 50,                                                /* 71  FRN 7 50 */
-    0x78, 0, 4, 0, 18,                                                /* 76  FRN 4 18 */
-    0x6a,                                                             /* 81  RTN */
+static const struct program programs[] = {
+    { "Sum", sum, sizeof sum, 8, 3, 2, 1 },
+    { "Range", range, sizeof range, 8, 3, 2, 1 },
+    { "Counting", counting, sizeof counting, 8, 10261, 261, 10000 },
+    { "Records", records, sizeof records, 8, 1208, 8, 1200 },
+    { "Nodes", nodes, sizeof nodes, 73, 5, 2, 1 },
 };
-
-enum { OUTER = 8, VARIABLES = 3, BUDGET = 10000000, RUNS = 15 };
-
-enum ending { ENDED, SPENT, TRAPPED, LIMITED, BAD };
 
 struct machine {
+    const uint8_t *code;
+    uint32_t length;
     uint16_t store[65536];
     uint16_t stack[16];
     uint32_t words; /* on the expression stack */
@@ -49,149 +41,342 @@ struct machine {
     uint64_t steps;
 };
 
-static void begin(struct machine *m)
+static void begin(struct machine *m, const struct program *p)
 {
     memset(m, 0, sizeof *m);
+    m->code = p->code;
+    m->length = p->length;
     m->data = 1;
-    m->frame = m->data + VARIABLES;
+    m->frame = m->data + p->variables;
     m->top = m->frame + 4;
     m->limit = 65535;
 }
 
-static uint32_t word(const uint8_t *at)
+#define PART static inline __attribute__((always_inline))
+#define ROW PART enum ending
+
+/* n bytes stand at the place, and so many words are on the expression stack */
+PART int has(const struct machine *m, uint32_t n, uint32_t taken)
 {
+    return m->place + n <= m->length && m->words >= taken;
+}
+
+/* the word of the code so many bytes behind the place */
+PART uint32_t word(const struct machine *m, uint32_t behind)
+{
+    const uint8_t *at = m->code + m->place + behind;
     return (uint32_t)at[0] << 8 | at[1];
 }
 
+/* the topmost word of the expression stack, and the one below it */
+PART uint32_t upper(const struct machine *m)
+{
+    return m->stack[m->words - 1];
+}
+
+PART uint32_t lower(const struct machine *m)
+{
+    return m->stack[m->words - 2];
+}
+
+/* takes so many words, and goes on behind an instruction of n bytes */
+ROW went(struct machine *m, uint32_t n, uint32_t taken)
+{
+    m->words -= taken;
+    m->place += n;
+    return WENT;
+}
+
+/* the same, with a word in the place of the topmost that is left */
+ROW became(struct machine *m, uint32_t n, uint32_t taken, uint32_t w)
+{
+    m->stack[m->words - taken - 1] = (uint16_t)w;
+    return went(m, n, taken);
+}
+
+/* puts a word on the expression stack, where it has room */
+ROW push(struct machine *m, uint32_t n, uint32_t w)
+{
+    if (m->words == 16)
+        return BAD;
+    m->stack[m->words++] = (uint16_t)w;
+    return went(m, n, 0);
+}
+
+/* P becomes the word so many bytes behind the place, and so many words are taken */
+ROW jump(struct machine *m, uint32_t behind, uint32_t taken)
+{
+    uint32_t to = word(m, behind);
+    if (to >= m->length)
+        return BAD;
+    m->words -= taken;
+    m->place = to;
+    return WENT;
+}
+
+/* LIW and DUP */
+ROW literal(struct machine *m)
+{
+    return has(m, 3, 0) ? push(m, 3, word(m, 1)) : BAD;
+}
+
+ROW twice(struct machine *m)
+{
+    return has(m, 1, 1) ? push(m, 1, upper(m)) : BAD;
+}
+
+ROW swap(struct machine *m)
+{
+    if (!has(m, 1, 2))
+        return BAD;
+    uint32_t x = lower(m), y = upper(m);
+    m->stack[m->words - 2] = (uint16_t)y;
+    m->stack[m->words - 1] = (uint16_t)x;
+    return went(m, 1, 0);
+}
+
+/* LLW and LGW, SLW and SGW, LAG */
+ROW load(struct machine *m, uint32_t base)
+{
+    if (!has(m, 3, 0) || base + word(m, 1) > 65535)
+        return BAD;
+    return push(m, 3, m->store[base + word(m, 1)]);
+}
+
+ROW store(struct machine *m, uint32_t base)
+{
+    if (!has(m, 3, 1) || base + word(m, 1) > 65535)
+        return BAD;
+    m->store[base + word(m, 1)] = (uint16_t)upper(m);
+    return went(m, 3, 1);
+}
+
+ROW address(struct machine *m, uint32_t base)
+{
+    if (!has(m, 3, 0) || base + word(m, 1) > 65535)
+        return BAD;
+    return push(m, 3, base + word(m, 1));
+}
+
+/* LDI and LDF, STI, ADF */
+ROW fetch(struct machine *m)
+{
+    return has(m, 1, 1) ? became(m, 1, 0, m->store[upper(m)]) : BAD;
+}
+
+ROW fetch_behind(struct machine *m)
+{
+    if (!has(m, 3, 1) || upper(m) + word(m, 1) > 65535)
+        return BAD;
+    return became(m, 3, 0, m->store[upper(m) + word(m, 1)]);
+}
+
+ROW put(struct machine *m)
+{
+    if (!has(m, 1, 2))
+        return BAD;
+    m->store[lower(m)] = (uint16_t)upper(m);
+    return went(m, 1, 2);
+}
+
+ROW further(struct machine *m)
+{
+    if (!has(m, 3, 1) || upper(m) + word(m, 1) > 65535)
+        return BAD;
+    return became(m, 3, 0, upper(m) + word(m, 1));
+}
+
+/* MOV */
+ROW move(struct machine *m)
+{
+    if (!has(m, 3, 2))
+        return BAD;
+    uint32_t w = word(m, 1);
+    if (upper(m) + w > 65536 || lower(m) + w > 65536)
+        return BAD;
+    memmove(m->store + lower(m), m->store + upper(m), w * sizeof m->store[0]);
+    return went(m, 3, 2);
+}
+
+/* NLT */
+ROW followed(struct machine *m)
+{
+    if (!has(m, 1, 1))
+        return BAD;
+    return upper(m) == 0 ? TRAPPED : went(m, 1, 0);
+}
+
+/* IXC */
+ROW element(struct machine *m)
+{
+    if (!has(m, 5, 2))
+        return BAD;
+    uint32_t a = lower(m) + (upper(m) - word(m, 1)) % 65536 * word(m, 3);
+    return a > 65535 ? BAD : became(m, 5, 1, a);
+}
+
+/* RGC */
+ROW within(struct machine *m)
+{
+    if (!has(m, 5, 1))
+        return BAD;
+    return upper(m) < word(m, 1) || upper(m) > word(m, 3) ? TRAPPED : went(m, 5, 0);
+}
+
+/* what two words give; where that is above 65535 the instruction traps */
+PART uint32_t result(char operator, uint32_t x, uint32_t y)
+{
+    switch (operator) {
+    case '+': return x + y;
+    case '*': return x * y;
+    case '%': return y == 0 ? UINT32_MAX : x % y;
+    case '#': return x != y;
+    default: return x < y;
+    }
+}
+
+/* ADC, MLC, MDC, NEQ and LSC */
+ROW joined(struct machine *m, char operator)
+{
+    if (!has(m, 1, 2))
+        return BAD;
+    uint32_t r = result(operator, lower(m), upper(m));
+    return r > 65535 ? TRAPPED : became(m, 1, 1, r);
+}
+
+/* ENT */
+ROW enter(struct machine *m)
+{
+    if (!has(m, 3, 0))
+        return BAD;
+    uint32_t a = m->frame + word(m, 1);
+    if (a < m->top)
+        return BAD;
+    if (a > m->limit)
+        return LIMITED;
+    memset(m->store + m->top, 0, (a - m->top) * sizeof m->store[0]);
+    m->top = a;
+    return went(m, 3, 0);
+}
+
+/* JMP and JPF */
+ROW jump_always(struct machine *m)
+{
+    return has(m, 3, 0) ? jump(m, 1, 0) : BAD;
+}
+
+ROW jump_false(struct machine *m)
+{
+    if (!has(m, 3, 1))
+        return BAD;
+    return upper(m) == 0 ? jump(m, 1, 1) : went(m, 3, 1);
+}
+
 /* the turns of a loop as CARDINALs, by a step that is an INTEGER */
-static uint32_t turns(int32_t a, int32_t b, int32_t by)
+PART uint32_t turns(int32_t a, int32_t b, int32_t by)
 {
     if (by > 0)
         return b < a ? 0 : (uint32_t)((b - a) / by) + 1;
     return a < b ? 0 : (uint32_t)((a - b) / -by) + 1;
 }
 
-/* n bytes stand at the place, and so many words are on the expression stack */
-static int has(const struct machine *m, uint32_t length, uint32_t n, uint32_t taken)
+/* FRI */
+ROW first_turn(struct machine *m)
 {
-    return m->place + n <= length && m->words >= taken;
+    if (!has(m, 6, 3))
+        return BAD;
+    uint32_t a = m->frame + word(m, 1), from = m->stack[m->words - 3];
+    int32_t by = (int16_t)upper(m);
+    if (m->code[m->place + 3] != 0 || by == 0)
+        return BAD;
+    uint32_t n = turns((int32_t)from, (int32_t)lower(m), by);
+    if (n == 0)
+        return jump(m, 4, 3);
+    if (a + 2 > 65535)
+        return BAD;
+    m->store[a] = (uint16_t)from;
+    m->store[a + 1] = (uint16_t)(n - 1);
+    m->store[a + 2] = (uint16_t)by;
+    return went(m, 6, 3);
 }
 
-/* puts a word on the expression stack, where it has room, and goes on behind an instruction of three bytes */
-static int push(struct machine *m, uint32_t w)
+/* FRN */
+ROW next_turn(struct machine *m)
 {
-    if (m->words == 16)
-        return 0;
-    m->stack[m->words++] = (uint16_t)w;
-    m->place += 3;
-    return 1;
+    if (!has(m, 5, 0))
+        return BAD;
+    uint32_t a = m->frame + word(m, 1);
+    if (a + 1 > 65535)
+        return BAD;
+    if (m->store[a + 1] == 0)
+        return went(m, 5, 0);
+    if (a + 2 > 65535 || word(m, 3) >= m->length)
+        return BAD;
+    m->store[a + 1]--;
+    m->store[a] = (uint16_t)(m->store[a] + m->store[a + 2]);
+    return jump(m, 3, 0);
 }
 
-static enum ending run(struct machine *m, const uint8_t *c, uint32_t length, uint64_t budget)
+/* ALC */
+ROW take(struct machine *m)
 {
-    while (m->steps < budget) {
-        uint32_t p = m->place, a, x, y;
+    if (!has(m, 1, 2))
+        return BAD;
+    uint32_t n = upper(m);
+    if (m->limit - m->top < n + 2)
+        return LIMITED;
+    uint32_t block = m->limit - n;
+    memset(m->store + block, 0, n * sizeof m->store[0]);
+    m->limit = block - 2;
+    m->store[lower(m)] = (uint16_t)block;
+    return went(m, 1, 2);
+}
+
+/* the row of the instruction at the place */
+ROW row(struct machine *m)
+{
+    if (m->place >= m->length)
+        return BAD;
+    switch (m->code[m->place]) {
+    case 0x01: return literal(m);
+    case 0x03: return twice(m);
+    case 0x05: return swap(m);
+    case 0x20: return load(m, m->frame);
+    case 0x22: return store(m, m->frame);
+    case 0x24: return load(m, m->data);
+    case 0x26: return store(m, m->data);
+    case 0x2d: return address(m, m->data);
+    case 0x30: return fetch(m);
+    case 0x31: return put(m);
+    case 0x32: return fetch_behind(m);
+    case 0x33: return further(m);
+    case 0x34: return move(m);
+    case 0x36: return followed(m);
+    case 0x37: return element(m);
+    case 0x39: return within(m);
+    case 0x40: return joined(m, '+');
+    case 0x42: return joined(m, '*');
+    case 0x44: return joined(m, '%');
+    case 0x5b: return joined(m, '#');
+    case 0x5c: return joined(m, '<');
+    case 0x68: return enter(m);
+    case 0x6a: return ENDED;
+    case 0x70: return jump_always(m);
+    case 0x71: return jump_false(m);
+    case 0x77: return first_turn(m);
+    case 0x78: return next_turn(m);
+    case 0x7a: return take(m);
+    default: return BAD;
+    }
+}
+
+static enum ending run(struct machine *m)
+{
+    while (m->steps < BUDGET) {
         m->steps++;
-        if (p >= length)
-            return BAD;
-        switch (c[p]) {
-        case 0x01:
-            if (!has(m, length, 3, 0) || !push(m, word(c + p + 1)))
-                return BAD;
-            break;
-        case 0x20:
-        case 0x24:
-            if (!has(m, length, 3, 0))
-                return BAD;
-            a = (c[p] == 0x20 ? m->frame : m->data) + word(c + p + 1);
-            if (a > 65535 || !push(m, m->store[a]))
-                return BAD;
-            break;
-        case 0x26:
-            if (!has(m, length, 3, 1))
-                return BAD;
-            a = m->data + word(c + p + 1);
-            if (a > 65535)
-                return BAD;
-            m->store[a] = m->stack[--m->words];
-            m->place = p + 3;
-            break;
-        case 0x39:
-            if (!has(m, length, 5, 1))
-                return BAD;
-            x = m->stack[m->words - 1];
-            if (x < word(c + p + 1) || x > word(c + p + 3))
-                return TRAPPED;
-            m->place = p + 5;
-            break;
-        case 0x40:
-            if (!has(m, length, 1, 2))
-                return BAD;
-            y = m->stack[m->words - 1];
-            x = m->stack[m->words - 2];
-            if (x + y > 65535)
-                return TRAPPED;
-            m->stack[--m->words - 1] = (uint16_t)(x + y);
-            m->place = p + 1;
-            break;
-        case 0x68:
-            if (!has(m, length, 3, 0))
-                return BAD;
-            a = m->frame + word(c + p + 1);
-            if (a < m->top)
-                return BAD;
-            if (a > m->limit)
-                return LIMITED;
-            memset(m->store + m->top, 0, (a - m->top) * sizeof m->store[0]);
-            m->top = a;
-            m->place = p + 3;
-            break;
-        case 0x6a:
-            return ENDED;
-        case 0x77: {
-            int32_t by;
-            uint32_t n;
-            if (!has(m, length, 6, 3))
-                return BAD;
-            a = m->frame + word(c + p + 1);
-            by = (int16_t)m->stack[m->words - 1];
-            if (c[p + 3] != 0 || by == 0)
-                return BAD;
-            n = turns(m->stack[m->words - 3], m->stack[m->words - 2], by);
-            if (n == 0) {
-                if (word(c + p + 4) >= length)
-                    return BAD;
-                m->place = word(c + p + 4);
-            } else {
-                if (a + 2 > 65535)
-                    return BAD;
-                m->store[a] = m->stack[m->words - 3];
-                m->store[a + 1] = (uint16_t)(n - 1);
-                m->store[a + 2] = (uint16_t)by;
-                m->place = p + 6;
-            }
-            m->words -= 3;
-            break;
-        }
-        case 0x78:
-            if (!has(m, length, 5, 0))
-                return BAD;
-            a = m->frame + word(c + p + 1);
-            if (a + 1 > 65535)
-                return BAD;
-            if (m->store[a + 1] != 0) {
-                if (a + 2 > 65535 || word(c + p + 3) >= length)
-                    return BAD;
-                m->store[a + 1]--;
-                m->store[a] = (uint16_t)(m->store[a] + m->store[a + 2]);
-                m->place = word(c + p + 3);
-            } else {
-                m->place = p + 5;
-            }
-            break;
-        default:
-            return BAD;
-        }
+        enum ending e = row(m);
+        if (e != WENT)
+            return e;
     }
     return SPENT;
 }
@@ -203,34 +388,45 @@ static uint64_t now(void)
     return (uint64_t)t.tv_sec * 1000000000 + (uint64_t)t.tv_nsec;
 }
 
-int main(int count, char **words)
+static const struct program *named(const char *name)
 {
-    static struct machine m;
+    for (size_t k = 0; k < sizeof programs / sizeof programs[0]; k++)
+        if (strcmp(programs[k].name, name) == 0)
+            return &programs[k];
+    fprintf(stderr, "usage: rate NAME, turns of the outer loop or `words`\n");
+    exit(1);
+}
+
+/* the nanoseconds of the fastest of so many runs */
+static uint64_t fastest(struct machine *m, const struct program *p, int runs)
+{
     uint64_t best = UINT64_MAX;
-    int runs = RUNS;
-    if (count < 2 || (strcmp(words[1], "Sum") && strcmp(words[1], "Range"))) {
-        fprintf(stderr, "usage: rate Sum or Range, turns of the outer loop\n");
-        return 1;
-    }
-    int with_test = words[1][0] == 'R';
-    uint8_t *code = with_test ? ranged : plain;
-    uint32_t length = with_test ? sizeof ranged : sizeof plain;
-    if (count > 2) {
-        code[OUTER] = (uint8_t)atoi(words[2]);
-        runs = 1;
-    }
-    for (int turn = 0; turn < runs; turn++) {
-        begin(&m);
+    while (runs-- > 0) {
+        begin(m, p);
         uint64_t before = now();
-        enum ending e = run(&m, code, length, BUDGET);
+        enum ending e = run(m);
         uint64_t took = now() - before;
-        if (e != ENDED || m.store[m.data + 2] != 60000) {
-            fprintf(stderr, "rate: the loop ended otherwise\n");
-            return 1;
+        if (e != ENDED) {
+            fprintf(stderr, "rate: %s ended otherwise\n", p->name);
+            exit(1);
         }
         if (took < best)
             best = took;
     }
-    printf("%llu %llu\n", (unsigned long long)m.steps, (unsigned long long)best);
+    return best;
+}
+
+int main(int count, char **words)
+{
+    static struct machine m;
+    const struct program *p = named(count > 1 ? words[1] : "");
+    int made = count > 2 && strcmp(words[2], "words") == 0;
+    if (count > 2 && !made)
+        p->code[p->turns] = (uint8_t)atoi(words[2]);
+    uint64_t best = fastest(&m, p, count > 2 ? 1 : RUNS);
+    if (!made)
+        printf("%llu %llu %lu\n", (unsigned long long)m.steps, (unsigned long long)best, (unsigned long)p->length);
+    for (uint32_t k = 0; made && k < p->made; k++)
+        printf("%u\n", m.store[m.data + p->first + k]);
     return 0;
 }

@@ -1,15 +1,19 @@
 #!/bin/sh
 # How many instructions a second the built program does, beside an interpreter in C of the same code, in one run.
-# Two programs of two nested FORs with one addition in the inner one are run through `lilith once`: Sum, and Range, where the sum's
-# variable is of a subrange and is tested at each store. So is a program without statements. Their wall times are taken in turn, so
-# many times each; the difference of the least ones is what a loop took, without the start of the program. The program in C (rate.c)
-# has the loops' bytes and measures itself, best of as many runs and more.
+# The programs of rate/ are run through `lilith once`: Sum, two nested FORs with one addition in the inner one; Range, the same where
+# the sum's variable is of a subrange and is tested at each store; Counting, which sorts numbers by counting them; Records, which
+# sorts records by exchanging neighbours; and Nodes, which walks along a list. So is a program without statements. Their wall times
+# are taken in turn, so many times each; the difference of the least ones is what a program took, without the start. The program in
+# C (rate.c) has their bytes (rate.h) and measures itself, best of as many runs and more.
+# Before a program is timed it is compared with the one in C: its code has as many bytes, it does as many instructions, and what it
+# made is the same, word for word. Where one of these isn't so, that is said, and all ends with status 1.
 # Where valgrind is installed, it also prints how many instructions of the host both programs do for one of M-code: the difference
 # of two runs of different lengths, so that neither the start nor the end of a program counts.
 # Usage: bench/rate.sh, in a clone whose program is built (`cd examples && ../lilith once Hello.MOD` builds it). It takes no
-# arguments, wants gcc and awk, prints numbers and judges none.
+# arguments, wants gcc and awk, prints numbers and judges no time.
 set -u
 turns=9
+budget=10000000
 
 top=$(CDPATH= cd "$(dirname "$0")/.." && pwd -P) || exit 1
 program=$top/crates/lil_cli/out/lil_cli
@@ -21,33 +25,33 @@ folder=$(mktemp -d) || exit 1
 trap 'rm -rf "$folder"' EXIT
 gcc -O2 -o "$folder/rate" "$top/bench/rate.c" || exit 1
 cd "$folder" || exit 1
-
-# The text of the program NAME, with so many turns of the outer loop, whose sum is of a type
-text() {
-    cat >"$1.MOD" <<TEXT
-MODULE $1;
-VAR outer, inner: CARDINAL; sum: $3;
-BEGIN
-  FOR outer := 1 TO $2 DO
-    sum := 0;
-    FOR inner := 1 TO 20000 DO sum := sum + 3 END
-  END
-END $1.
-TEXT
-}
 echo "MODULE Empty; END Empty." >Empty.MOD
 
-# The least time of a program so far, in nanoseconds: its name, and the least one before it or 0
-timed() {
+# Writes the program $1 of rate/ as the module $2: changed by sed, and with the statements that come in behind its own
+text() {
+    sed -e "1s/$1/$2/" -e "$3" -e '$d' "$top/bench/rate/$1.MOD" >"$2.MOD"
+    cat >>"$2.MOD"
+    echo "END $2." >>"$2.MOD"
+}
+padded="s/^BEGIN/VAR more: CARDINAL; flag: BOOLEAN; BEGIN/"
+writing="s/^CONST/FROM InOut IMPORT WriteCard, WriteLn; CONST/"
+
+# Runs a program, which ends with this status and this report, and how long that took, in nanoseconds
+ends() {
     before=$(date +%s%N)
     "$program" once "$1.MOD" </dev/null >screen 2>report
     status=$?
     after=$(date +%s%N)
-    if [ "$status" -ne 0 ]; then
-        echo "rate: $1 ended with status $status: $(cat report)" >&2
+    if [ "$status" -ne "$2" ] || [ "$(cat report)" != "$3" ]; then
+        echo "rate: $name: $1 ended with status $status: $(cat report)" >&2
         exit 1
     fi
     took=$((after - before))
+}
+
+# The least time of a program so far: its name, and the least one before it or 0
+timed() {
+    ends "$1" 0 ""
     if [ "$2" -ne 0 ] && [ "$2" -le "$took" ]; then took=$2; fi
 }
 
@@ -56,17 +60,76 @@ host() {
     valgrind --tool=callgrind --callgrind-out-file=/dev/null "$@" 2>&1 >screen </dev/null | awk '$2 == "Collected" { print $4 }'
 }
 
-# One loop: its name, the type of its sum, and how many tests a store has.
-# The instructions, by the rows of the translation. A FOR is its two bounds, its step and FRI, here one instruction each; a turn of it
-# is LLW and SGW, which store its value, then the statements, then FRN. `sum := 0` is LIW and SGW, `sum := sum + 3` is LGW, LIW, ADC
-# and SGW, each with the test before SGW. Around all stand ENT and RTN. The empty program has these two alone, so they aren't counted.
+# Statements of so many bytes, six each
+bytes() {
+    awk -v n="$1" 'BEGIN { for (; n > 0; n -= 6) print "; more := 0" }'
+}
+
+# Statements of so many instructions. A FOR is its two bounds, its step and FRI, and each turn LLW and SGW, here a hundred times LIW
+# and SGW, and FRN. What is left are statements of two instructions, and one of three where their number is odd.
+padding() {
+    awk -v n="$1" 'BEGIN {
+        turns = int((n - 7) / 203)
+        left = n - 4 - 203 * turns
+        printf "; FOR more := 1 TO %d DO", turns
+        for (k = 0; k < 100; k++) printf " more := 0;"
+        print " END"
+        if (left % 2 == 1) { print "; flag := NOT flag"; left -= 3 }
+        for (; left > 0; left -= 2) print "; more := 0"
+    }'
+}
+
+# Statements that show what a program made, a word each line
+shown() {
+    case $1 in
+        Counting) echo "; FOR i := 0 TO 9999 DO WriteCard(numbers[i], 1); WriteLn END" ;;
+        Records)
+            echo "; FOR i := 0 TO 299 DO WITH items[i] DO WriteCard(number, 1); WriteLn; WriteCard(key, 1); WriteLn;"
+            echo "WriteCard(ORD(letter), 1); WriteLn; WriteCard(ORD(odd), 1); WriteLn END END"
+            ;;
+        *) echo "; WriteCard(sum, 1); WriteLn" ;;
+    esac
+}
+
+# Compares a program with the one in C, by its bytes and its instructions there. Code that is too long is answered with its bytes: so
+# statements come behind that make it too long. A program may do as many instructions as the budget has: so it ends where statements
+# behind it fill that, and it is stopped where they have one instruction more.
+compared() {
+    bytes 33000 | text "$1" Bytes "$padded"
+    ends Bytes 3 "Bytes.MOD:1:8: 64 CodeTooLong $(($2 + 33000))"
+    padding $((budget - $3)) | text "$1" Full "$padded"
+    ends Full 0 ""
+    padding $((budget - $3 + 1)) | text "$1" Spent "$padded"
+    ends Spent 7 "steps spent"
+    shown "$1" | text "$1" Shown "$writing"
+    ends Shown 0 ""
+    ./rate "$1" words >words || exit 1
+    if ! cmp -s words screen; then
+        echo "rate: $name made something else in C" >&2
+        exit 1
+    fi
+}
+
+# The instructions of the host for one of M-code: two turns of the outer loop more
+hosted() {
+    text "$1" Short "s/^CONST turns = .*/CONST turns = 1;/" </dev/null
+    text "$1" Long "s/^CONST turns = .*/CONST turns = 3;/" </dev/null
+    long=$(./rate "$1" 3)
+    short=$(./rate "$1" 1)
+    lilith=$(($(host "$program" once Long.MOD) - $(host "$program" once Short.MOD)))
+    c=$(($(host ./rate "$1" 3) - $(host ./rate "$1" 1)))
+    awk -v n=$((${long%% *} - ${short%% *})) -v lilith="$lilith" -v c="$c" 'BEGIN {
+        printf "host instructions for one: lilith %.1f, C %.1f\n", lilith / n, c / n
+    }'
+}
+
+# One program. Around its statements stand ENT and RTN; the empty program has these two alone, so they aren't counted.
 measured() {
-    inner=$((4 + 20000 * (2 + 4 + $3 + 1)))
-    outer=$((2 + 2 + $3 + inner + 1))
-    instructions=$((4 + 60 * outer))
-    text "$1" 60 "$2"
-    text Short 1 "$2"
-    text Long 3 "$2"
+    c=$(./rate "$1") || exit 1
+    instructions=$((${c%% *} - 2))
+    c=${c#* }
+    compared "$1" "${c#* }" $((instructions + 2))
+    cp "$top/bench/rate/$1.MOD" .
     rate=0
     empty=0
     turn=0
@@ -75,26 +138,16 @@ measured() {
         timed Empty "$empty" && empty=$took
         turn=$((turn + 1))
     done
-    c=$(./rate "$1") || exit 1
-    if [ "${c% *}" -ne $((instructions + 2)) ]; then
-        echo "rate: the program in C counted ${c% *} instructions, and not $((instructions + 2))" >&2
-        exit 1
-    fi
-    awk -v name="$1" -v n="$instructions" -v rate="$rate" -v empty="$empty" -v c="${c#* }" 'BEGIN {
-        loop = rate - empty
+    awk -v name="$1" -v n="$instructions" -v rate="$rate" -v empty="$empty" -v c="${c%% *}" 'BEGIN {
+        took = rate - empty
         printf "%s: instructions %d, start %.3f ms\n", name, n, empty / 1e6
-        printf "%-7s %10.3f ms %12.0f a second\n", "lilith", loop / 1e6, n / loop * 1e9
+        printf "%-7s %10.3f ms %12.0f a second\n", "lilith", took / 1e6, n / took * 1e9
         printf "%-7s %10.3f ms %12.0f a second\n", "C", c / 1e6, n / c * 1e9
-        printf "ratio %.2f\n", loop / c
+        printf "ratio %.2f\n", took / c
     }'
-    if command -v valgrind >/dev/null; then
-        lilith=$(($(host "$program" once Long.MOD) - $(host "$program" once Short.MOD)))
-        c=$(($(host ./rate "$1" 3) - $(host ./rate "$1" 1)))
-        awk -v n=$((2 * outer)) -v lilith="$lilith" -v c="$c" 'BEGIN {
-            printf "host instructions for one: lilith %.1f, C %.1f\n", lilith / n, c / n
-        }'
-    fi
+    if command -v valgrind >/dev/null; then hosted "$1"; fi
 }
 
-measured Sum CARDINAL 0
-measured Range "[0 .. 60000]" 1
+for name in Sum Range Counting Records Nodes; do
+    measured "$name"
+done
