@@ -215,7 +215,8 @@ fn emit_two(code: &mut CodeBuffer<'_>, operator: TwoOp, base: RBase) -> Result<(
         | RBase::Truth
         | RBase::Character
         | RBase::Enumeration(_)
-        | RBase::Pointer(_) => emit_cardinal(code, operator),
+        | RBase::Pointer(_)
+        | RBase::Address => emit_cardinal(code, operator),
     }
 }
 

@@ -29,6 +29,6 @@ pub(crate) fn constant_word(base: RBase, number: i32) -> u16
         RBase::Truth => u16::from(number != 0),
         RBase::Cardinal | RBase::Integer | RBase::Character | RBase::Enumeration(_) | RBase::Set =>
             word_of_number(number),
-        RBase::Pointer(_) => 0,
+        RBase::Pointer(_) | RBase::Address => 0,
     }
 }

@@ -11,8 +11,7 @@ use Rattle.lil_resolved.specs.Resolved.{Statement, Assign, If, Case, While, Repe
 use Rattle.lil_resolved.specs.Depth.{statement_words, body_words, arms_words, frame_words}
 use Rattle.lil_resolved.specs.Sizes.{IsSmall, statement_size, body_size, arms_size}
 use Rattle.lil_meaning.specs.World.{World}
-use Rattle.lil_meaning.specs.Cells.{heap_words}
-use Rattle.lil_meaning.specs.Items.{Phase, Trapped, Source}
+use Rattle.lil_meaning.specs.Items.{Phase, Trapped, Source, heap_words}
 use Rattle.lil_meaning.specs.Steps.{next}
 use Rattle.lil_meaning.specs.Runs.{begun, state_of}
 use Rattle.lil_mcode.specs.State.{Module, State, module_at}
@@ -78,14 +77,14 @@ module _ (p : Resolved) (strings code : List ℕ) (small : IsSmall p strings) (t
   -- the store's limit alone can come
   spent : (t : Source) (k : LimitKind) → Short (all.ctx (one ∷ []) p.targets same its_body [] room).stack t (next (p ∷ []) t) k → IsSpent p strings k t
   spent t limit.Stack e = cc
-  spent t limit.Store e = record { kind = refl; short = by (cases_lt (65518 - heap_words (next (p ∷ []) t).objects) (1 + (all_words p.variables + length strings) + frame_words p.body)) }
+  spent t limit.Store e = record { kind = refl; short = by (cases_lt (65518 - heap_words (next (p ∷ []) t).objects (next (p ∷ []) t).workspaces) (1 + (all_words p.variables + length strings) + frame_words p.body)) }
     where
-      by : (65518 - heap_words (next (p ∷ []) t).objects < 1 + (all_words p.variables + length strings) + frame_words p.body)
-          ⊎ (1 + (all_words p.variables + length strings) + frame_words p.body ≤ 65518 - heap_words (next (p ∷ []) t).objects)
-          → 65535 < 1 + (all_words p.variables + length strings) + (frame_words p.body + 17) + heap_words (next (p ∷ []) t).objects
+      by : (65518 - heap_words (next (p ∷ []) t).objects (next (p ∷ []) t).workspaces < 1 + (all_words p.variables + length strings) + frame_words p.body)
+          ⊎ (1 + (all_words p.variables + length strings) + frame_words p.body ≤ 65518 - heap_words (next (p ∷ []) t).objects (next (p ∷ []) t).workspaces)
+          → 65535 < 1 + (all_words p.variables + length strings) + (frame_words p.body + 17) + heap_words (next (p ∷ []) t).objects (next (p ∷ []) t).workspaces
       by (inl less) = omega (arith, less)
       by (inr more) =
-          let fits : nat_le (1 + (all_words p.variables + length strings) + frame_words p.body) (65518 - heap_words (next (p ∷ []) t).objects) ≡ true = le-leb _ _ more in
+          let fits : nat_le (1 + (all_words p.variables + length strings) + frame_words p.body) (65518 - heap_words (next (p ∷ []) t).objects (next (p ∷ []) t).workspaces) ≡ true = le-leb _ _ more in
           absurd (true≢false (sym (ap (λ (b : Bool). b && true) fits) ∙ e))
   spent t k e = absurd e
 

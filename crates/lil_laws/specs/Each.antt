@@ -1,11 +1,11 @@
 -- One step of the source, from any matched state.
-use Rattle.std.proofs.Common.{◌≡◌, ℕ, ◌+◌, true, List, [], ◌∷◌, refl, ◌⊎◌, ⊎_elim, arith}
+use Rattle.std.proofs.Common.{◌≡◌, ℕ, ◌+◌, true, false, List, [], ◌∷◌, refl, ◌⊎◌, ⊎_elim, arith}
 use Rattle.std.specs.Prelude.{ℤ}
 use Rattle.lil_resolved.specs.Kinds.{Kind}
 use Rattle.lil_resolved.specs.Scalars.{Scalar, within}
-use Rattle.lil_resolved.specs.Resolved.{Designator, Variable, Held, Field, Element, Follow, Expression, Constant, Taken, One, Two, Short, Apply, With, WithSpan, Assign, Copy, Text, Inside, Change, Member, New, Request, If, Case, While, Repeat, Loop, Exit, Halt, Return, For, Statements}
+use Rattle.lil_resolved.specs.Resolved.{Designator, Variable, Held, Field, Element, Follow, Expression, Constant, Taken, One, Two, Short, Apply, With, WithSpan, Assign, Copy, Text, Inside, Change, Member, New, Allocate, Request, If, Case, While, Repeat, Loop, Exit, Halt, Return, For, Statements}
 use Rattle.lil_meaning.specs.Cells.{Place}
-use Rattle.lil_meaning.specs.Items.{Scalars, Places, Wholes, Opens, Texts, Hole, Get, Part, IndexBy, IndexAt, Pointed, SetTo, StoreAt, CopyTo, CopyFrom, TextTo, NewAt, ChangeBy, ChangeAt, OneOf, LeftOf, RightOf, ShortOf, ApplyTo, WithMember, MemberOf, WithMembers, MembersFrom, MembersTo, MemberBy, MemberAt, Pass, PassArray, Choose, Turn, Again, Pick, Hold, StartOf, LimitOf, Task, Do, Passing, Until, Looping, Turns, Holding, End, Item, Value, Evaluate, PlaceOf, Fill, Perform, Source}
+use Rattle.lil_meaning.specs.Items.{Scalars, Places, Wholes, Opens, Texts, Hole, Get, Part, IndexBy, IndexAt, Pointed, SetTo, StoreAt, CopyTo, CopyFrom, TextTo, NewAt, AllocateBy, AllocateAt, ChangeBy, ChangeAt, OneOf, LeftOf, RightOf, ShortOf, ApplyTo, WithMember, MemberOf, WithMembers, MembersFrom, MembersTo, MemberBy, MemberAt, Pass, PassArray, Choose, Turn, Again, Pick, Hold, StartOf, LimitOf, Task, Do, Passing, Until, Looping, Turns, Holding, End, Item, Value, Evaluate, PlaceOf, Fill, Perform, Source}
 use Rattle.lil_resolved.specs.Shapes.{Shape}
 use Rattle.lil_mcode.specs.State.{State}
 use Rattle.lil_mcode.specs.Table.{going}
@@ -27,6 +27,7 @@ use Rattle.lil_laws_stmt.specs.Changes.{change_goes, change_by_goes, change_at_g
 use Rattle.lil_laws_stmt.specs.Exits.{exit_goes}
 use Rattle.lil_laws_stmt.specs.Members.{member_goes, member_by_goes, member_at_goes}
 use Rattle.lil_laws_stmt.specs.Ends.{halt_goes, return_goes, end_goes, ended_goes}
+use Rattle.lil_laws_stmt.specs.Allocations.{allocate_goes, allocate_by_goes, allocate_at_goes, deallocate_at_goes}
 use Rattle.lil_laws_stmt.specs.Cases.{case_goes, pick_goes}
 use Rattle.lil_laws_stmt.specs.Fors.{for_goes, start_goes, limit_goes, next_goes}
 use Rattle.lil_laws_stmt.specs.Begins.{begin_goes}
@@ -59,6 +60,8 @@ module _ (ctx : Setting) where
     scalar_step v (MembersFrom u j f) kind fits refers below is r = members_from_goes ctx s k m c a shared v kind fits below is u j f r
     scalar_step v (MembersTo u j low) kind fits refers below is r = members_to_goes ctx s k m c a shared v kind fits below is u j low r
     scalar_step v (MemberAt out place j) kind fits refers below is r = member_at_goes ctx s k m c a shared out place j v kind fits below is r
+    scalar_step v (AllocateAt false place) kind fits refers below is r = allocate_at_goes ctx s k m c a shared place v kind fits below is r
+    scalar_step v (AllocateAt true place) kind fits refers below is r = deallocate_at_goes ctx s k m c a shared place v kind fits below is r
     scalar_step v (Pass q j done left) kind fits refers below is r = pass_goes ctx s k m c a shared q j done left v kind fits below is r
     scalar_step v (Choose first second) kind fits refers below is r = choose_goes ctx s k m c a shared first second v kind fits below is r
     scalar_step v (Turn e body) kind fits refers below is r = turn_goes ctx s k m c a shared e body v kind fits below is r
@@ -79,6 +82,7 @@ module _ (ctx : Setting) where
     place_step place (CopyFrom to) b t below has r = copy_from_goes ctx s k m c a shared to place b t below has r
     place_step place Pointed b t below has r = pointed_goes ctx s k m c a shared place b t below has r
     place_step place (NewAt n) b t below has r = new_at_goes ctx s k m c a shared n place b t below has r
+    place_step place (AllocateBy back e) b t below has r = allocate_by_goes ctx s k m c a shared back e place b t below has r
     place_step place (TextTo cs) b t below has r = text_to_goes ctx s k m c a shared cs place b t below has r
     place_step place (PassArray q high done left) b t below has r = pass_array_goes ctx s k m c a shared q high done left place b t below has r
     place_step place (Hold body) b t below has r = hold_goes ctx s k m c a shared body place b t below has r
@@ -108,6 +112,7 @@ module _ (ctx : Setting) where
     task_step (Do (Copy d from)) r = copy_goes ctx s k m c a shared d from r
     task_step (Do (Text d cs)) r = text_goes ctx s k m c a shared d cs r
     task_step (Do (New d n)) r = new_goes ctx s k m c a shared d n r
+    task_step (Do (Allocate back d e)) r = allocate_goes ctx s k m c a shared back d e r
     task_step (Do (Inside d body)) r = inside_goes ctx s k m c a shared d body r
     task_step (Do (Change down d kind e)) r = change_goes ctx s k m c a shared down d kind e r
     task_step (Do (Member out d kind e)) r = member_goes ctx s k m c a shared out d kind e r

@@ -4,8 +4,7 @@ use Rattle.lil_base.specs.declared.fault.LimitKind.{LimitKind}
 use Rattle.lil_base.specs.declared.fault.LimitKind.TheVariants as limit
 use Rattle.lil_resolved.specs.Shapes.{all_words}
 use Rattle.lil_resolved.specs.Depth.{frame_words}
-use Rattle.lil_meaning.specs.Cells.{heap_words}
-use Rattle.lil_meaning.specs.Items.{Source}
+use Rattle.lil_meaning.specs.Items.{Source, heap_words}
 use Rattle.lil_meaning.specs.Steps.{next}
 use Rattle.lil_resolved.specs.Resolved.{Resolved}
 use Rattle.lil_mcode.specs.State.{Module, State, spliced, zeros, cleared}
@@ -72,11 +71,11 @@ image os first rest = record {
 }
 
 -- ---- a program module that is loaded alone
--- A state that comes to the store's limit: with the objects of the next state, data, the frame and a whole expression stack with its length
+-- A state that comes to the store's limit: with the objects and workspaces of the next state, data, the frame and a whole expression stack with its length
 -- take more words than the store has.
 pub record IsSpent (p : Resolved) (strings : List ℕ) (k : LimitKind) (t : Source) : Type 0 where
   pub kind : k ≡ limit.Store
-  pub short : 65535 < 1 + (all_words p.variables + length strings) + (frame_words p.body + 17) + heap_words (next (p ∷ []) t).objects
+  pub short : 65535 < 1 + (all_words p.variables + length strings) + (frame_words p.body + 17) + heap_words (next (p ∷ []) t).objects (next (p ∷ []) t).workspaces
 
 -- a body alone, at the beginning of the code
 abbrev pub body_alone : List (ℕ × Option (List ℕ))

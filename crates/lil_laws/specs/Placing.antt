@@ -244,7 +244,7 @@ module _ (targets : List Shape) (os : List Compiled) (size : ℕ) (store : List 
   owner_at a = cond (nat_lt a 1) (Free end) (cond (nat_lt a end) (owner_by (root_at 1 os 1 a)) (cond (nat_lt a (end + size)) Own (Free end)))
 
   abbrev pub home : Home
-  home = record { base = place_of os; shape = first_shape (map text_of os) (numbers_from 0 os); owner = owner_at; shadow = λ a. get_or store a 0; targets = targets }
+  home = record { base = place_of os; shape = first_shape (map text_of os) (numbers_from 0 os); owner = owner_at; shadow = λ a. get_or store a 0; targets = targets; workspaces = [] }
 
   pub above : 1 ≤ data_end 1 os
   above = end_above 1 os

@@ -206,7 +206,7 @@ module _ (os : List Compiled) (targets : List Shape) (same : Pointing os targets
   shared : (w : World) → Shared ctx (first w) entered_at
   shared w = record {
     mem = mem targets os size entered (omega (arith, room)) entered_length placed;
-    heap = record { born = λ o. refl; above = λ o there. cc; apart = λ o p there. cc; rest = omega arith };
+    heap = record { born = λ o. refl; above = λ o there. cc; apart = λ o p there. cc; known = refl; clear = λ w less. omega (arith, less); distinct = λ w v less. omega (arith, less); rest = omega arith };
     program = record { table_is = refl; known = table_there 1 os b.index b.its b.there; running_is = refl; marked_is = refl };
     standing = record {
       frame_is = refl;

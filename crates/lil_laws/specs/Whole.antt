@@ -6,10 +6,9 @@ use Rattle.lil_base.specs.declared.fault.LimitKind.{LimitKind}
 use Rattle.lil_base.specs.declared.fault.LimitKind.TheVariants as limit
 use Rattle.lil_base.specs.declared.fault.TrapAt.{TrapAt}
 use Rattle.lil_resolved.specs.Resolved.{Resolved}
-use Rattle.lil_meaning.specs.Cells.{heap_words}
 use Rattle.lil_meaning.specs.World.{World, closing, closings_left, all_closed}
 use Rattle.lil_meaning.specs.Closings.{none_left, all_none, all_some, fewer_left, some_left, closing_shuts}
-use Rattle.lil_meaning.specs.Items.{Item, Level, Phase, Going, Closing, Ended, Trapped, Source}
+use Rattle.lil_meaning.specs.Items.{Item, Level, Phase, Going, Closing, Ended, Trapped, Source, heap_words}
 use Rattle.lil_meaning.specs.Steps.{next, by_phase, left_by, over, over_by}
 use Rattle.lil_meaning.specs.Runs.{after}
 use Rattle.lil_mcode.specs.State.{Module, State, module_at}
@@ -235,8 +234,8 @@ module _ (ctx : Setting) where
 
   -- what is short of fewer frames is short of more
   shorter : (y : Stack) (s t : Source) (k : LimitKind) → Fewer y ctx.stack → Short y s t k → Short ctx.stack s t k
-  shorter y s t limit.Stack fewer e = fewer.bodies (65535 - heap_words s.objects) e
-  shorter y s t limit.Store fewer e = fewer.all (65518 - heap_words t.objects) e
+  shorter y s t limit.Stack fewer e = fewer.bodies (65535 - heap_words s.objects s.workspaces) e
+  shorter y s t limit.Store fewer e = fewer.all (65518 - heap_words t.objects t.workspaces) e
   shorter y s t k fewer e = e
 
   abbrev At : Source → List Item → Source

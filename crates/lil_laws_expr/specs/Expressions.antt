@@ -1,13 +1,13 @@
 -- The rows of expressions: from a matched state the machine comes to a matched state.
-use Rattle.std.proofs.Common.{◌≡◌, ◌≢◌, ℕ, ◌+◌, ◌<◌, ◌≤◌, Bool, true, false, not, cond, ◌==◌, Result, Ok, Err, List, [], ◌∷◌, length, refl, sym, ap, ◌∙◌, subst, arith}
+use Rattle.std.proofs.Common.{◌≡◌, ◌≢◌, ℕ, ◌+◌, ◌<◌, ◌≤◌, Bool, true, false, not, cond, ◌==◌, Result, Ok, Err, List, [], ◌∷◌, length, get_or, refl, sym, ap, ◌∙◌, subst, arith}
 use Rattle.std.proofs.lemmas.Bool.{lt-ltb, and_parts, eq-eqb, eqb-true, ne_eqb}
 use Rattle.lil_base.specs.declared.fault.TrapKind.{TrapKind}
 use Rattle.lil_base.specs.declared.operator.OneOp.{OneOp}
 use Rattle.lil_base.specs.declared.operator.OneOp.TheVariants as one
 use Rattle.lil_base.specs.declared.operator.TwoOp.{TwoOp}
 use Rattle.lil_base.specs.declared.operator.TwoOp.TheVariants.{Equal, Unequal}
-use Rattle.lil_resolved.specs.Kinds.{Kind, OfTruth, OfPointer, OfRange, base_of, is_plain}
-use Rattle.lil_resolved.specs.Scalars.{Scalar, Truth, ToObject, Nothing, is_reference, is_literal, same_reference, within, scalar_word}
+use Rattle.lil_resolved.specs.Kinds.{Pointee, Objects, Workspaces, Kind, OfTruth, OfPointer, OfRange, base_of, is_plain}
+use Rattle.lil_resolved.specs.Scalars.{Scalar, Truth, ToObject, ToWorkspace, Nothing, is_reference, is_literal, same_reference, within, scalar_word}
 use Rattle.lil_resolved.specs.Depth.{place_depth}
 use Rattle.lil_resolved.specs.Shapes.{Shape, Word}
 use Rattle.lil_resolved.specs.Resolved.{Designator, Variable, Held, Field, Element, Follow, Function, Expression, Constant, Taken, One, Two, Short, Apply, kind_of, is_relation, result_kind, right_kind, function_kind}
@@ -97,11 +97,13 @@ module _ (ctx : Setting) where
 
     literal_word : (v : Scalar) → is_reference v ≡ false → word_for h v ≡ scalar_word v
     literal_word (ToObject o) e = cc
+    literal_word (ToWorkspace w) e = cc
     literal_word _ e = refl
 
     literal_refers : (kind : Kind) (v : Scalar) → is_reference v ≡ false → Refers h kind v
     literal_refers (OfRange base low high) v e = literal_refers base v e
-    literal_refers (OfPointer n) (ToObject o) e = cc
+    literal_refers (OfPointer (Objects n)) (ToObject o) e = cc
+    literal_refers (OfPointer Workspaces) (ToWorkspace w) e = cc
     literal_refers _ v e = tt
 
     pub constant_goes : (kind : Kind) (v : Scalar) → Waiting ctx (Evaluate (Constant kind v)) Rest Quiet m.place m.stack c a → Goes ctx s (Evaluate (Constant kind v) ∷ k) m (c + 32)
@@ -238,33 +240,50 @@ module _ (ctx : Setting) where
         ∙ ap (λ (w : ℕ). scalar_word v ∷ w ∷ row.part.below) (plain_word h j u plain row.part.fits))
         o j plain row.part.takes row.part.fits good)
 
-    -- pointers to one object have one word, and those to different objects don't
-    same_words : (n : ℕ) (u v : Scalar) → within (OfPointer n) u ≡ true → within (OfPointer n) v ≡ true → Refers h (OfPointer n) u → Refers h (OfPointer n) v
+    -- references to one object or workspace have one word, and those to different ones don't
+    same_objects : (n : ℕ) (u v : Scalar) → within (OfPointer (Objects n)) u ≡ true → within (OfPointer (Objects n)) v ≡ true → Refers h (OfPointer (Objects n)) u → Refers h (OfPointer (Objects n)) v
         → (word_for h u == word_for h v) ≡ same_reference u v
-    same_words n (ToObject o) (ToObject p) fu fv ru rv = by (o == p) refl
+    same_objects n (ToObject o) (ToObject p) fu fv ru rv = by (o == p) refl
       where
         by : (b : Bool) → (o == p) ≡ b → (h.base (Object o) == h.base (Object p)) ≡ b
         by true e = eq-eqb (h.base (Object o)) (h.base (Object p)) (ap (λ (i : ℕ). h.base (Object i)) (eqb-true o p e))
         by false e = ne_eqb (h.base (Object o)) (h.base (Object p)) (λ at. let clash = eq-eqb o p (shared.heap.apart o p ru.0 rv.0 at) in cc)
-    same_words n (ToObject o) Nothing fu fv ru rv = ne_eqb (h.base (Object o)) 0 (λ at. omega (arith, at, shared.heap.above o ru.0))
-    same_words n Nothing (ToObject p) fu fv ru rv = ne_eqb 0 (h.base (Object p)) (λ at. omega (arith, at, shared.heap.above p rv.0))
-    same_words n Nothing Nothing fu fv ru rv = refl
-    same_words n u v fu fv ru rv = cc
+    same_objects n (ToObject o) Nothing fu fv ru rv = ne_eqb (h.base (Object o)) 0 (λ at. omega (arith, at, shared.heap.above o ru.0))
+    same_objects n Nothing (ToObject p) fu fv ru rv = ne_eqb 0 (h.base (Object p)) (λ at. omega (arith, at, shared.heap.above p rv.0))
+    same_objects n Nothing Nothing fu fv ru rv = refl
+    same_objects n u v fu fv ru rv = cc
+
+    same_spaces : (u v : Scalar) → within (OfPointer Workspaces) u ≡ true → within (OfPointer Workspaces) v ≡ true → Refers h (OfPointer Workspaces) u → Refers h (OfPointer Workspaces) v
+        → (word_for h u == word_for h v) ≡ same_reference u v
+    same_spaces (ToWorkspace o) (ToWorkspace p) fu fv ru rv = by (o == p) refl
+      where
+        by : (b : Bool) → (o == p) ≡ b → (get_or h.workspaces o 0 == get_or h.workspaces p 0) ≡ b
+        by true e = eq-eqb (get_or h.workspaces o 0) (get_or h.workspaces p 0) (ap (λ (i : ℕ). get_or h.workspaces i 0) (eqb-true o p e))
+        by false e = ne_eqb (get_or h.workspaces o 0) (get_or h.workspaces p 0) (λ at. let clash = eq-eqb o p (shared.heap.distinct o p ru rv at) in cc)
+    same_spaces (ToWorkspace o) Nothing fu fv ru rv = ne_eqb (get_or h.workspaces o 0) 0 (λ at. omega (arith, at, shared.heap.clear o ru))
+    same_spaces Nothing (ToWorkspace p) fu fv ru rv = ne_eqb 0 (get_or h.workspaces p 0) (λ at. omega (arith, at, shared.heap.clear p rv))
+    same_spaces Nothing Nothing fu fv ru rv = refl
+    same_spaces u v fu fv ru rv = cc
+
+    same_words : (to : Pointee) (u v : Scalar) → within (OfPointer to) u ≡ true → within (OfPointer to) v ≡ true → Refers h (OfPointer to) u → Refers h (OfPointer to) v
+        → (word_for h u == word_for h v) ≡ same_reference u v
+    same_words (Objects n) = same_objects n
+    same_words Workspaces = same_spaces
 
     -- an operator that isn't IN has a right operand of the same kind
-    pointer_right : (o : TwoOp) (n : ℕ) → takes_two o (OfPointer n) ≡ true → right_kind o (OfPointer n) ≡ OfPointer n
-    pointer_right Equal n e = refl
-    pointer_right Unequal n e = refl
-    pointer_right _ n e = cc
+    pointer_right : (o : TwoOp) (to : Pointee) → takes_two o (OfPointer to) ≡ true → right_kind o (OfPointer to) ≡ OfPointer to
+    pointer_right Equal to e = refl
+    pointer_right Unequal to e = refl
+    pointer_right _ to e = cc
 
     pub right_goes : (o : TwoOp) (j : Kind) (u v : Scalar) (kind : Kind) → within kind v ≡ true → Refers h kind v → (below : List ℕ) → m.stack ≡ word_for h v ∷ below
         → Waiting ctx (Fill (RightOf o j u)) Rest (ValueOf kind) m.place below c a → Goes ctx s (Value (Scalars v) ∷ Fill (RightOf o j u) ∷ k) m (c + 32)
-    right_goes o (OfPointer n) u v kind fits refers below is row =
+    right_goes o (OfPointer to) u v kind fits refers below is row =
         let r = row.part in
-        let kinds : kind ≡ OfPointer n = r.same ∙ pointer_right o n r.takes in
-        gives_goes o (OfPointer n) u v kind fits below row
-        (pointer_gives own m r.below (word_for h u) (word_for h v) (is ∙ ap (λ (x : List ℕ). word_for h v ∷ x) r.is) n u v
-        (same_words n u v r.fits (ap (λ (i : Kind). within i v) (sym kinds) ∙ fits) r.refers (subst (λ (i : Kind). Refers h i v) kinds refers))
+        let kinds : kind ≡ OfPointer to = r.same ∙ pointer_right o to r.takes in
+        gives_goes o (OfPointer to) u v kind fits below row
+        (pointer_gives own m r.below (word_for h u) (word_for h v) (is ∙ ap (λ (x : List ℕ). word_for h v ∷ x) r.is) to u v
+        (same_words to u v r.fits (ap (λ (i : Kind). within i v) (sym kinds) ∙ fits) r.refers (subst (λ (i : Kind). Refers h i v) kinds refers))
         o r.takes)
     right_goes o (OfRange part low high) u v kind fits refers below is row = absurd (ranged_none o part low high row.part.takes)
     right_goes o j u v kind fits refers below is row = plain_right o j u v kind refl fits below is row

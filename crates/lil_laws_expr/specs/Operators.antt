@@ -14,7 +14,7 @@ use Rattle.lil_base.specs.declared.operator.OneOp.{OneOp}
 use Rattle.lil_base.specs.declared.operator.OneOp.TheVariants as one
 use Rattle.lil_base.specs.declared.operator.TwoOp.{TwoOp}
 use Rattle.lil_base.specs.declared.operator.TwoOp.TheVariants.{Equal, Unequal, Less, AtMost, Greater, AtLeast, In, Plus, Minus, Times, Slash, Div, Mod}
-use Rattle.lil_resolved.specs.Kinds.{Kind, OfWhole, OfTruth, OfCharacter, OfEnumeration, OfSet, OfPointer, OfRange, base_of, is_base, is_ordinal, is_set, is_whole, is_plain, compared_as, shared, covers}
+use Rattle.lil_resolved.specs.Kinds.{Pointee, Kind, OfWhole, OfTruth, OfCharacter, OfEnumeration, OfSet, OfPointer, OfRange, base_of, is_base, is_ordinal, is_set, is_whole, is_plain, compared_as, shared, covers}
 use Rattle.lil_base.specs.Sets as sets
 use Rattle.lil_base.specs.Sets.{has, set_word}
 use Rattle.lil_base.specs.SetLaws.{has_no}
@@ -313,10 +313,10 @@ module _ (own : Module) (m : State) (below : List ℕ) (x y : ℕ) (is : m.stack
       ∙ ap (compare_row f q m) is
       ∙ ap (λ (w : ℕ). let r : Event × State = (Went, going m q (w ∷ below)) in r) (ap truth same ∙ truth_is b)
 
-  pub pointer_gives : (n : ℕ) (u v : Scalar) → (x == y) ≡ same_reference u v → (o : TwoOp) → takes_two o (OfPointer n) ≡ true → Gives own (two_code o (OfPointer n)) m below (applied o (OfPointer n) u v)
-  pointer_gives n u v same Equal takes = words_give equal (same_reference u v) Equ (λ q. refl) same
-  pointer_gives n u v same Unequal takes = words_give unequal (not (same_reference u v)) Neq (λ q. refl) (ap not same)
-  pointer_gives n u v same o takes = cc
+  pub pointer_gives : (to : Pointee) (u v : Scalar) → (x == y) ≡ same_reference u v → (o : TwoOp) → takes_two o (OfPointer to) ≡ true → Gives own (two_code o (OfPointer to)) m below (applied o (OfPointer to) u v)
+  pointer_gives to u v same Equal takes = words_give equal (same_reference u v) Equ (λ q. refl) same
+  pointer_gives to u v same Unequal takes = words_give unequal (not (same_reference u v)) Neq (λ q. refl) (ap not same)
+  pointer_gives to u v same o takes = cc
 
 -- no operator takes a part of a kind
 pub ranged_none : (o : TwoOp) (part : Kind) (low high : ℤ) → takes_two o (OfRange part low high) ≡ true → ⊥

@@ -6,7 +6,7 @@ use Rattle.std.proofs.lemmas.Int.{ints}
 use Rattle.lil_base.specs.Words.{word_of}
 use Rattle.lil_base.specs.Laws.{in_range, bounds}
 use Rattle.lil_base.specs.declared.fault.TrapKind.TheVariants as trap
-use Rattle.lil_resolved.specs.Kinds.{Kind, OfPointer, base_of, is_base, takes_value, compared_as, least, greatest, nat_of, numbers, position}
+use Rattle.lil_resolved.specs.Kinds.{Objects, Kind, OfPointer, base_of, is_base, takes_value, compared_as, least, greatest, nat_of, numbers, position}
 use Rattle.lil_resolved.specs.Scalars.{Scalar, ToObject, Nothing, within, scalar_word, ordinal_of}
 use Rattle.lil_resolved.specs.Shapes.{Shape, Absent, Word, Row, words, is_there, part_at, offset, shape_by, shape_at, element_of}
 use Rattle.lil_resolved.specs.Resolved.{Designator, Variable, Held, Field, Element, Follow, Expression, shape_of}
@@ -206,7 +206,7 @@ module _ (ctx : Setting) where
       then = record s { items = pointing; phase = Going }
 
       -- the object that it points to
-      object_has : (o : ℕ) → Refers h (OfPointer row.part.number) (ToObject o) → HasPlace ctx OnTop (object_place o) (shape_at l.scope.targets row.part.number) (h.base (Object o) ∷ below) below
+      object_has : (o : ℕ) → Refers h (OfPointer (Objects row.part.number)) (ToObject o) → HasPlace ctx OnTop (object_place o) (shape_at l.scope.targets row.part.number) (h.base (Object o) ∷ below) below
       object_has o refers =
           let at : h.base (Object o) ≡ h.base (Object o) + 0 = omega arith in
           record {
@@ -216,7 +216,7 @@ module _ (ctx : Setting) where
             at = ap (λ (w : ℕ). w ∷ below) at;
           }
 
-      follows : (v : Scalar) → got s.cells place ≡ v → within (OfPointer row.part.number) v ≡ true → Refers h (OfPointer row.part.number) v
+      follows : (v : Scalar) → got s.cells place ≡ v → within (OfPointer (Objects row.part.number)) v ≡ true → Refers h (OfPointer (Objects row.part.number)) v
           → Goes ctx s (Value (Places place) ∷ Fill Pointed ∷ k) (going m row.part.loaded (word_for h v ∷ below)) (c + 1)
       follows (ToObject o) is fits refers =
           let r = row.part in
@@ -239,13 +239,13 @@ module _ (ctx : Setting) where
       pub pointed_goes : Goes ctx s (Value (Places place) ∷ Fill Pointed ∷ k) m (c + 32)
       pointed_goes =
           let r = row.part in
-          let living : shape_there h place ≡ Word (OfPointer r.number) = has.living ∙ r.typed in
-          let here : HasPlace ctx b place (Word (OfPointer r.number)) m.stack below = record { seen = has.seen; living = living; there = refl; at = has.at } in
-          let word = shared.mem.holds place.root place.path (OfPointer r.number) living in
+          let living : shape_there h place ≡ Word (OfPointer (Objects r.number)) = has.living ∙ r.typed in
+          let here : HasPlace ctx b place (Word (OfPointer (Objects r.number))) m.stack below = record { seen = has.seen; living = living; there = refl; at = has.at } in
+          let word = shared.mem.holds place.root place.path (OfPointer (Objects r.number)) living in
           goes_after ctx s pointing m (going m r.loaded (word_for h (got s.cells place) ∷ below)) (c + 32) (c + 1)
           (advances m s.world _ (
           at_step ctx m shared.program (load_code b) r.loaded r.load
-          ∙ loads ctx s m shared b place (OfPointer r.number) below here r.shallow r.loaded
+          ∙ loads ctx s m shared b place (OfPointer (Objects r.number)) below here r.shallow r.loaded
           ∙ ap (λ (w : ℕ). let e : Event × State = (Went, going m r.loaded (w ∷ below)) in e) word.word
           ))
           (follows (got s.cells place) refl word.fits word.refers)

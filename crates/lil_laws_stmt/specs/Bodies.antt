@@ -4,8 +4,8 @@ use Rattle.std.specs.Prelude.{nat_le}
 use Rattle.std.proofs.lemmas.Bool.{le-ltb, lt-ltb, lt-leb, cases_lt}
 use Rattle.lil_base.specs.declared.fault.LimitKind.TheVariants as limit
 use Rattle.lil_resolved.specs.Shapes.{offset}
-use Rattle.lil_meaning.specs.Cells.{Root, heap_words}
-use Rattle.lil_meaning.specs.Items.{End, Item, Perform, Source}
+use Rattle.lil_meaning.specs.Cells.{Root}
+use Rattle.lil_meaning.specs.Items.{End, Item, Perform, Source, heap_words}
 use Rattle.lil_asm.specs.declared.instr.Instr.TheVariants.{Ent, Rtn}
 use Rattle.lil_mcode.specs.declared.machine.Event.TheVariants.{Went}
 use Rattle.lil_mcode.specs.State.{Module, State, stack_of, module_at, zeros, cleared}
@@ -13,7 +13,7 @@ use Rattle.lil_mcode.specs.Table.{mstep, end_row, body_row, begun_body, enter_ro
 use Rattle.lil_table.specs.Rows.{IsAt}
 use Rattle.lil_match.specs.Running.{running, advanced}
 use Rattle.lil_match.specs.Parts.{yes, no}
-use Rattle.lil_match.specs.Homes.{Of, Own, Fixed, own_fixed, Free, Home, Mem, is_word_kept, of_free, scalar_owned}
+use Rattle.lil_match.specs.Homes.{Of, Own, Fixed, own_fixed, Free, Home, extends_self, Mem, is_word_kept, of_free, scalar_owned}
 use Rattle.lil_match.specs.Splices.{spliced_length, spliced_before, spliced_after, zeros_length}
 use Rattle.lil_match.specs.Goes.{OwnWords, Comes, Shared, fits, Goes, number_of}
 use Rattle.lil_match.specs.Waits.{Quiet, outside, Frame, Setting, at_home, with_frames, RowsOf, NextBody}
@@ -92,8 +92,8 @@ module _ (ctx : Setting) (f b : Frame) (bs : List Frame) where
         short (omega arith))
         (omega arith)) (cases_lt m.limit (m.base + 4))
       where
-        short : fits (65535 - heap_words s.objects) (b ∷ bs) ≡ false
-        short = short_row (65535 - heap_words s.objects) (lt-leb (b.at + b.layout.frame) (65535 - heap_words s.objects) (omega (arith, less, shared.heap.rest)))
+        short : fits (65535 - heap_words s.objects s.workspaces) (b ∷ bs) ≡ false
+        short = short_row (65535 - heap_words s.objects s.workspaces) (lt-leb (b.at + b.layout.frame) (65535 - heap_words s.objects s.workspaces) (omega (arith, less, shared.heap.rest)))
 
     -- ---- with room
     module _ (room : b.at + b.layout.frame ≤ ctx.stack.limit) where
@@ -183,7 +183,7 @@ module _ (ctx : Setting) (f b : Frame) (bs : List Frame) where
             let old = shared.mem.holds r q j e in
             let a : ℕ = h.base r + offset (h.shape r) q in
             let at = outside_is (h.base r + offset (h.shape r) q) r (scalar_owned h s.cells m.store r q j shared.mem e).0 in
-            is_word_kept h x (λ o l. refl) (λ o l. refl) refl j (s.cells r q) (get_or entered.store (h.base r + offset (h.shape r) q) 0)
+            is_word_kept h x (λ o l. refl) (λ o l. refl) refl (extends_self h.workspaces) j (s.cells r q) (get_or entered.store (h.base r + offset (h.shape r) q) 0)
             (record {
               word = stays (h.base r + offset (h.shape r) q) (⊎_elim (λ (l : h.base r + offset (h.shape r) q < ctx.stack.base). inl l) (λ (g : ctx.stack.limit ≤ h.base r + offset (h.shape r) q). inr (omega (arith, g, comes.at, room))) at)
                   ∙ old.word;
@@ -250,7 +250,7 @@ module _ (ctx : Setting) (f b : Frame) (bs : List Frame) where
               around = outside;
               ahead = rows_ahead (at_home beginning x) k next.start [] c outside
                   (rows_kept k beginning x ctx.stack.limit (base + 4) (omega (arith, comes.at), (all_above ending (stack_of m) g).1) Quiet next.start [] c outside
-                  (record { shadow = λ a from below. absurd (omega (arith, from, below, comes.at)); base = λ r e l. refl; shape = λ r e l. refl; targets = refl })
+                  (record { shadow = λ a from below. absurd (omega (arith, from, below, comes.at)); base = λ r e l. refl; shape = λ r e l. refl; targets = refl; workspaces = extends_self h.workspaces })
                   next.then);
             };
           })
@@ -260,6 +260,7 @@ module _ (ctx : Setting) (f b : Frame) (bs : List Frame) where
             base = λ r e. refl;
             shape = λ r e. refl;
             targets = refl;
+            workspaces = extends_self h.workspaces;
             fixed = fixed_kept;
           })
           (refl, omega arith)

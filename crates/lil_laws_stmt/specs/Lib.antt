@@ -1,4 +1,6 @@
+pub mod Allocations
 pub mod Begins
+pub mod Blocks
 pub mod Bodies
 pub mod Cases
 pub mod Changes

@@ -3,12 +3,12 @@ use Rattle.std.proofs.Common.{◌≡◌, ℕ, zero, suc, ◌+◌, ◌-◌, ◌<�
 use Rattle.std.specs.Prelude.{nat_le, nat_lt, ◌&&◌, slice_get}
 use Rattle.std.proofs.lemmas.Bool.{lt-ltb, le-ltb, lt-leb, eq-eqb, ne_eqb, eqb-true, cases_lt, cases_Bool, cases_eq}
 use Rattle.lil_base.specs.declared.fault.LimitKind.TheVariants as limit
-use Rattle.lil_resolved.specs.Kinds.{Kind, OfPointer}
+use Rattle.lil_resolved.specs.Kinds.{Objects, Kind, OfPointer}
 use Rattle.lil_resolved.specs.Scalars.{Scalar, ToObject, zero_of}
 use Rattle.lil_resolved.specs.Shapes.{Shape, Absent, Word, words, is_there, part_at, offset, shape_at}
 use Rattle.lil_resolved.specs.Resolved.{Designator, Resolved, New, shape_of}
-use Rattle.lil_meaning.specs.Cells.{Root, Global, Local, Object, Place, Cells, same_root, object_place, stored, alone, zero_in, zeros_under, targets_of, heap_words, loaded_at}
-use Rattle.lil_meaning.specs.Items.{Scalars, Places, NewAt, Do, Item, Value, PlaceOf, Fill, Perform, Going, Activation, Source}
+use Rattle.lil_meaning.specs.Cells.{Root, Global, Local, Object, Place, Cells, same_root, object_place, stored, alone, zero_in, zeros_under, targets_of, object_words, loaded_at}
+use Rattle.lil_meaning.specs.Items.{Scalars, Places, NewAt, Do, Item, Value, PlaceOf, Fill, Perform, Going, Activation, Source, heap_words}
 use Rattle.lil_meaning.specs.Steps.{next, current, owner_of, target_of, made}
 use Rattle.lil_asm.specs.declared.instr.Instr.TheVariants.{Liw, Alc}
 use Rattle.lil_mcode.specs.declared.machine.Event.{Event}
@@ -19,7 +19,7 @@ use Rattle.lil_table.specs.Rows.{IsAt, Access, access_of}
 use Rattle.lil_match.specs.Running.{Run, running}
 use Rattle.lil_match.specs.Parts.{yes, no, part_fits, word_long}
 use Rattle.lil_match.specs.Splices.{spliced_length, spliced_before, spliced_there, spliced_after, zeros_length, zeros_word}
-use Rattle.lil_match.specs.Homes.{Of, Own, Fixed, Free, of_free, Home, lives, address, shape_there, Refers, IsWord, is_word_kept, zero_is, Mem, mem_stored, scalar_owned, same_root_eq, same_root_refl}
+use Rattle.lil_match.specs.Homes.{Of, Own, Fixed, Free, of_free, Home, extends_self, lives, address, shape_there, Refers, IsWord, is_word_kept, zero_is, Mem, mem_stored, scalar_owned, same_root_eq, same_root_refl}
 use Rattle.lil_match.specs.Goes.{OwnWords, IsHeap, fits, Shared, Lands, Goes}
 use Rattle.lil_match.specs.Waits.{Stack, Setting, frame_of, laid_out, moved, Quiet, AtPlace, Around, Reach, Rows, HasPlace, Waiting}
 use Rattle.lil_match.specs.Known.{known_kept, each_known, each_comes}
@@ -28,11 +28,12 @@ use Rattle.lil_match.specs.Closing.{closed}
 use Rattle.lil_match.specs.Steps.{advances, at_step, at_once, pushes, rows_ahead, lands_on, goes_none, goes_one_in, goes_full}
 use Rattle.lil_laws_place.specs.Codes.{inside, addressed, leads}
 use Rattle.lil_laws_stmt.specs.Painting.{own_free, free_fixed, of_own, painted, painted_there, painted_beside}
+use Rattle.lil_laws_stmt.specs.Blocks as block
 
 -- ---- one object more
-heap_more : (os : List Shape) (t : Shape) → heap_words (os ++ t ∷ []) ≡ heap_words os + (2 + words t)
-heap_more [] t = omega arith
-heap_more (o ∷ os) t = omega (arith, heap_more os t)
+objects_more : (os : List Shape) (t : Shape) → object_words (os ++ t ∷ []) ≡ object_words os + (2 + words t)
+objects_more [] t = omega arith
+objects_more (o ∷ os) t = omega (arith, objects_more os t)
 
 last_shape : (os : List Shape) (t : Shape) → shape_at (os ++ t ∷ []) (length os) ≡ t
 last_shape [] t = refl
@@ -102,12 +103,6 @@ module _ (ctx : Setting) where
       abbrev taking : State
       taking = going m row.part.by.0 (words (shape_at l.scope.targets n) ∷ address h place ∷ [])
 
-      words_here : OwnWords h.owner st.frame m.top
-      words_here = first_words h.owner st.base m.top st.frame st.callers shared.standing.stands
-
-      based : st.base ≤ m.top
-      based = omega (arith, (stack_above ctx (stack_of m) shared.standing).0, words_here.below)
-
       -- what the meaning makes is what the layout says
       target_is : target_of library now n ≡ shape_at l.scope.targets n
       target_is =
@@ -127,24 +122,17 @@ module _ (ctx : Setting) where
       low : address h place + 1 ≤ 65535
       low = omega (arith, inside ctx s m shared b place t m.stack below has, ap words row.part.typed)
 
-      takes : mstep taking ≡ take_row row.part.by.2.0 taking (address h place) (words (shape_at l.scope.targets n)) []
-      takes = at_step ctx taking shared.program Alc row.part.by.2.0 row.part.by.2.1
+      -- the next state has one object more
+      more : heap_words (next library now).objects (next library now).workspaces ≡ heap_words s.objects s.workspaces + (words (shape_at l.scope.targets n) + 2)
+      more = ap (λ (u : Shape). heap_words (s.objects ++ u ∷ []) s.workspaces) target_is ∙ (let e : heap_words (s.objects ++ target ∷ []) s.workspaces ≡ heap_words s.objects s.workspaces + (words target + 2) = omega (arith, objects_more s.objects target) in e)
 
-      -- ---- without room
       goes_short : m.limit - m.top < words (shape_at l.scope.targets n) + 2 → Goes ctx s items taking (c + 1)
-      goes_short less =
-          goes_full ctx s items taking (c + 1) limit.Store
-          (takes ∙ yes _ _ _ (lt-ltb (address h place) 65536 (omega (arith, low))) ∙ yes _ _ _ (lt-ltb (m.limit - m.top) (words (shape_at l.scope.targets n) + 2) less))
-          (subst (λ (u : Shape). fits (65518 - heap_words (s.objects ++ u ∷ [])) (st.frame ∷ st.bodies) ≡ false) (sym target_is)
-          (ap (λ (y : Bool). y && fits (65518 - heap_words (s.objects ++ target ∷ [])) st.bodies)
-          (lt-leb (st.frame.at + st.frame.layout.frame) (65518 - heap_words (s.objects ++ target ∷ []))
-          (omega (arith, less, heap_more s.objects target, shared.heap.rest, shared.standing.limit_is, shared.standing.low, words_here.most, words_here.mark)))))
-          (omega arith)
+      goes_short less = block.goes_short ctx s items k m c a shared place low (words target) row.part.by.0 row.part.by.2.0 row.part.by.2.1 more less
 
       -- ---- with room
       module _ (room : words (shape_at l.scope.targets n) + 2 ≤ m.limit - m.top) where
         roomy : m.top + (words (shape_at l.scope.targets n) + 2) ≤ st.limit
-        roomy = omega (arith, room, shared.standing.limit_is, shared.standing.low)
+        roomy = block.roomy ctx s items k m c a shared place low (words target) row.part.by.0 row.part.by.2.0 row.part.by.2.1 room
 
         abbrev is_new : Root → Bool
         is_new r = same_root (Object o) r
@@ -155,12 +143,6 @@ module _ (ctx : Setting) where
           shape = λ r. cond (same_root (Object (length s.objects)) r) (shape_at ctx.stack.frame.layout.scope.targets n) (ctx.home.shape r);
           owner = painted ctx.home.owner (ctx.stack.limit - words (shape_at ctx.stack.frame.layout.scope.targets n)) ctx.stack.limit (λ a. Of (Object (length s.objects)));
         }
-
-        abbrev y : Stack
-        y = record (ctx.stack) { limit = ctx.stack.limit - (words (shape_at ctx.stack.frame.layout.scope.targets n) + 2) }
-
-        abbrev moving : Setting
-        moving = moved ctx x (ctx.stack.limit - (words (shape_at ctx.stack.frame.layout.scope.targets n) + 2))
 
         -- a root that lives isn't the new one
         old_root : (r : Root) → lives h r ≡ true → same_root (Object o) r ≡ false
@@ -180,43 +162,24 @@ module _ (ctx : Setting) where
         shape_new : x.shape (Object o) ≡ target
         shape_new = yes (same_root (Object o) (Object o)) target (h.shape (Object o)) (same_root_refl (Object o))
 
-        -- the block's words were in no use
-        was_free : (i : ℕ) → first ≤ i → i < st.limit → h.owner i ≡ Free st.base
-        was_free i from less = shared.standing.room i (omega (arith, from, roomy)) less
-
         beside : (i : ℕ) → (h.owner i ≡ Free st.base → ⊥) → (i < first) ⊎ ((first ≤ i) × (st.limit ≤ i))
-        beside i used = by (cases_lt i first) (cases_lt i st.limit)
-          where
-            by : (i < first) ⊎ (first ≤ i) → (i < st.limit) ⊎ (st.limit ≤ i) → (i < first) ⊎ ((first ≤ i) × (st.limit ≤ i))
-            by (inl z) e = inl z
-            by (inr g) (inl z) = absurd (used (was_free i g z))
-            by (inr g) (inr e) = inr (g, e)
+        beside = block.beside ctx s items k m c a shared place low (words target) row.part.by.0 row.part.by.2.0 row.part.by.2.1 room
 
         owner_beside : (i : ℕ) → (i < first) ⊎ ((first ≤ i) × (st.limit ≤ i)) → x.owner i ≡ h.owner i
         owner_beside i e = painted_beside h.owner first st.limit (λ a. Of (Object o)) i e
-
-        fixed_kept : (i : ℕ) → h.owner i ≡ Fixed → (x.owner i ≡ Fixed) × (h.shadow i ≡ h.shadow i)
-        fixed_kept i is = (owner_beside i (beside i (λ free. free_fixed st.base (sym free ∙ is))) ∙ is, refl)
 
         -- ---- the block is cleared
         abbrev blank : List ℕ
         blank = cleared m.store (ctx.stack.limit - words (shape_at ctx.stack.frame.layout.scope.targets n)) ctx.stack.limit
 
-        zero_long : length (zeros (st.limit - first)) ≡ words target
-        zero_long = omega (arith, zeros_length (st.limit - first), roomy)
-
-        fit : first + length (zeros (st.limit - first)) ≤ length m.store
-        fit = omega (arith, zero_long, roomy, shared.standing.high, shared.mem.long)
-
         blank_beside : (i : ℕ) → (i < first) ⊎ ((first ≤ i) × (st.limit ≤ i)) → get_or blank i 0 ≡ get_or m.store i 0
-        blank_beside i (inl z) = spliced_before m.store first (zeros (st.limit - first)) i fit z
-        blank_beside i (inr g) = spliced_after m.store first (zeros (st.limit - first)) i fit (omega (arith, zero_long, roomy, g.1))
+        blank_beside = block.blank_beside ctx s items k m c a shared place low (words target) row.part.by.0 row.part.by.2.0 row.part.by.2.1 room
 
         blank_there : (i : ℕ) → i < words target → get_or blank (first + i) 0 ≡ 0
-        blank_there i less = spliced_there m.store first (zeros (st.limit - first)) i fit (omega (arith, zero_long, less)) ∙ zeros_word (st.limit - first) i (omega (arith, roomy, less))
+        blank_there = block.blank_there ctx s items k m c a shared place low (words target) row.part.by.0 row.part.by.2.0 row.part.by.2.1 room
 
         blank_long : length blank ≡ length m.store
-        blank_long = spliced_length m.store first (zeros (st.limit - first)) fit
+        blank_long = block.blank_long ctx s items k m c a shared place low (words target) row.part.by.0 row.part.by.2.0 row.part.by.2.1 room
 
         abbrev fresh : Cells
         fresh = stored s.cells (object_place (length s.objects)) (zeros_under (shape_at ctx.stack.frame.layout.scope.targets n))
@@ -271,7 +234,7 @@ module _ (ctx : Setting) where
                 sym (ap (λ (z : ℕ). get_or blank z 0) at ∙ blank_beside (h.base r + offset (h.shape r) q) (apart r (h.base r + offset (h.shape r) q) (scalar_owned h s.cells m.store r q j shared.mem part).0)) in
                 subst (λ (w : ℕ). IsWord x j (fresh r q) w) same
                 (subst (λ (v : Scalar). IsWord x j v (get_or m.store (h.base r + offset (h.shape r) q) 0)) value
-                (is_word_kept h x (λ p alive. base_old (Object p) (old_root (Object p) alive)) (λ p alive. shape_old (Object p) (old_root (Object p) alive)) refl j (s.cells r q)
+                (is_word_kept h x (λ p alive. base_old (Object p) (old_root (Object p) alive)) (λ p alive. shape_old (Object p) (old_root (Object p) alive)) refl (extends_self h.workspaces) j (s.cells r q)
                 (get_or m.store (h.base r + offset (h.shape r) q) 0) was))
 
             kept : (i : ℕ) → x.owner i ≡ Own → (i < first) ⊎ (first ≤ i) → (i < st.limit) ⊎ (st.limit ≤ i) → get_or blank i 0 ≡ h.shadow i
@@ -294,10 +257,10 @@ module _ (ctx : Setting) where
         address_is : address x place ≡ address h place
         address_is = omega (arith, here_is.0, ap (λ (z : Shape). offset z place.path) here_is.1)
 
-        living : shape_there x place ≡ Word (OfPointer n)
+        living : shape_there x place ≡ Word (OfPointer (Objects n))
         living = ap (λ (z : Shape). part_at z place.path) here_is.1 ∙ has.living ∙ row.part.typed
 
-        refers : Refers x (OfPointer n) (ToObject o)
+        refers : Refers x (OfPointer (Objects n)) (ToObject o)
         refers = (ap is_there shape_new ∙ row.part.there, shape_new ∙ ap (λ (ts : List Shape). shape_at ts n) shared.standing.known.targets)
 
         abbrev store : List ℕ
@@ -307,14 +270,17 @@ module _ (ctx : Setting) where
         mem =
             subst (λ (w : ℕ). Mem x (stored fresh place (alone (ToObject o))) (set blank (address h place) w)) base_new
             (subst (λ (z : ℕ). Mem x (stored fresh place (alone (ToObject o))) (set blank z (x.base (Object o)))) address_is
-            (mem_stored x fresh blank place (OfPointer n) (ToObject o) mem_blank living refl refers))
+            (mem_stored x fresh blank place (OfPointer (Objects n)) (ToObject o) mem_blank living refl refers))
 
-        heap : IsHeap x.base x.shape (s.objects ++ target ∷ []) lower
+        heap : IsHeap x.base x.shape x.workspaces (s.objects ++ target ∷ []) s.workspaces lower
         heap = record {
           born = λ p. born p (cases_eq o p);
           above = λ p there. above p there (cases_eq o p);
           apart = λ p q there where' same. apart p q there where' same (cases_eq o p) (cases_eq o q);
-          rest = omega (arith, heap_more s.objects target, shared.heap.rest, roomy);
+          known = shared.heap.known;
+          clear = λ w less. omega (arith, shared.heap.clear w less, roomy);
+          distinct = shared.heap.distinct;
+          rest = omega (arith, objects_more s.objects target, shared.heap.rest, roomy);
         }
           where
             other : (p : ℕ) → (o ≡ p → ⊥) → same_root (Object o) (Object p) ≡ false
@@ -341,68 +307,21 @@ module _ (ctx : Setting) where
             apart p q one two same (inr d) (inr e) =
                 shared.heap.apart p q (there_old p d one) (there_old q e two) (sym (base_old (Object p) (other p d)) ∙ same ∙ base_old (Object q) (other q e))
 
-        abbrev machine : State
-        machine = record m { place = row.part.by.2.0; stack = []; limit = m.limit - (words (shape_at ctx.stack.frame.layout.scope.targets n) + 2); store = store }
-
-        takes_it : mstep taking ≡ (Went, machine)
-        takes_it =
-            takes
-            ∙ yes _ _ _ (lt-ltb (address h place) 65536 (omega (arith, low)))
-            ∙ no _ _ _ (le-ltb (m.limit - m.top) (words target + 2) room)
-            ∙ ap (λ (i : ℕ). let e : Event × State = (Went, record m { place = row.part.by.2.0; stack = []; limit = m.limit - (words target + 2); store = set (cleared m.store (i - words target) i) (address h place) (i - words target) }) in e) shared.standing.limit_is
-
         goes_roomy : Goes ctx s items taking (c + 1)
         goes_roomy =
-            let g = shared.standing in
-            goes_one_in ctx s items taking x y (c + 1) c (running machine s.world)
-            (advances taking s.world (Went, machine) takes_it)
-            (subst (λ (u : Shape). Lands moving (after u).phase (after u) (running machine s.world) c) (sym target_is)
+            block.goes_roomy ctx s items k m c a shared place low (words target) row.part.by.0 row.part.by.2.0 row.part.by.2.1 room x (stored fresh place (alone (ToObject o))) (s.objects ++ target ∷ []) s.workspaces
             (record {
-              machine = machine;
-              is = refl;
-              met = record {
-                shared = record {
-                  mem = mem;
-                  heap = heap;
-                  program = record { table_is = shared.program.table_is; known = shared.program.known; running_is = shared.program.running_is; marked_is = shared.program.marked_is };
-                  standing = record {
-                    frame_is = g.frame_is;
-                    base_is = g.base_is;
-                    limit_is = ap (λ (i : ℕ). i - (words target + 2)) g.limit_is;
-                    bodies_are = g.bodies_are;
-                    known = known_kept ctx.library ctx.loaded ctx.table ctx.activations h x (λ r e. base_old r (old_root r e)) (λ r e. shape_old r (old_root r e)) refl fixed_kept st.frame g.known;
-                    callers = each_known ctx.library ctx.loaded ctx.table ctx.activations h x (λ r e. base_old r (old_root r e)) (λ r e. shape_old r (old_root r e)) refl fixed_kept st.callers g.callers;
-                    comes = each_comes ctx.library ctx.loaded ctx.table ctx.activations h x (λ r e. base_old r (old_root r e)) (λ r e. shape_old r (old_root r e)) refl fixed_kept st.base st.bodies g.comes;
-                    stands = stands_kept h.owner x.owner st.base m.top st.frame st.callers (λ i from less. owner_beside i (inl (omega (arith, less, roomy)))) g.stands;
-                    room = λ i from less. owner_beside i (inl (omega (arith, less, roomy))) ∙ g.room i from (omega (arith, less, roomy));
-                    low = omega (arith, roomy);
-                    high = omega (arith, g.high);
-                  };
-                  activations_are = shared.activations_are;
-                  loaded_are = shared.loaded_are;
-                  levels = shared.levels;
-                  parked_are = shared.parked_are;
-                  kept_are = shared.kept_are;
-                };
-                around = a;
-                ahead = rows_ahead moving k row.part.by.2.0 [] c a
-                    (subst (λ (q : ℕ). Rows moving k Quiet q [] c a) (sym row.part.by.2.2)
-                    (rows_kept k ctx x lower (st.base + 4) (stack_above ctx (stack_of m) g).1 Quiet row.part.end [] c a
-                    (record { shadow = λ i from less. refl; base = λ r e alive. base_old r (old_root r alive); shape = λ r e alive. shape_old r (old_root r alive); targets = refl })
-                    row.then));
-              };
-            }))
-            (record {
-              owner = λ i e. owner_beside i (⊎_elim (λ (z : i < st.base). inl (omega (arith, z, based, roomy))) (λ (z : st.limit ≤ i). inr (omega (arith, z, roomy), z)) e);
-              shadow = λ i e. refl;
               base = λ r e. base_old r (old_root r e);
               shape = λ r e. shape_old r (old_root r e);
               targets = refl;
-              fixed = fixed_kept;
+              spaces = extends_self h.workspaces;
+              owner = owner_beside;
+              shadow = λ i. refl;
+              mem = mem;
+              heap = heap;
             })
-            (refl, omega arith)
-            (record { bodies = λ n e. e; all = λ n e. e })
-            (omega arith)
+            (ap (λ (u : Shape). made u place k now) target_is)
+            (subst (λ (q : ℕ). Rows ctx k Quiet q [] c a) (sym row.part.by.2.2) row.then)
 
       pub new_at_goes : Goes ctx s (Value (Places place) ∷ Fill (NewAt n) ∷ k) m (c + 32)
       new_at_goes =

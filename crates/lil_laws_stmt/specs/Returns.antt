@@ -11,7 +11,7 @@ use Rattle.lil_mcode.specs.Table.{return_row}
 use Rattle.lil_table.specs.Rows.{IsAt}
 use Rattle.lil_match.specs.Running.{running, advanced}
 use Rattle.lil_match.specs.Parts.{yes, no}
-use Rattle.lil_match.specs.Homes.{Of, Own, Fixed, own_fixed, Free, Home, Mem, is_word_kept}
+use Rattle.lil_match.specs.Homes.{Of, Own, Fixed, own_fixed, Free, Home, extends_self, Mem, is_word_kept}
 use Rattle.lil_match.specs.Goes.{OwnWords, Stands, fits, Shared, Goes}
 use Rattle.lil_match.specs.Waits.{Quiet, Frame, Setting, at_home, with_frames, Rows, RowsOf, Back}
 use Rattle.lil_match.specs.Known.{known_kept, each_known, each_comes}
@@ -89,7 +89,7 @@ module _ (ctx : Setting) (f g : Frame) (gs bs : List Frame) where
       inside = shared.mem.inside;
       holds = λ r q j e.
           let old = shared.mem.holds r q j e in
-          is_word_kept h x (λ o l. refl) (λ o l. refl) refl j (s.cells r q) (get_or m.store (h.base r + offset (h.shape r) q) 0) old;
+          is_word_kept h x (λ o l. refl) (λ o l. refl) refl (extends_self h.workspaces) j (s.cells r q) (get_or m.store (h.base r + offset (h.shape r) q) 0) old;
       kept = λ a own. kept a own (side f.at m.top a);
       fixed = λ a e. fixed_there a e (side f.at m.top a);
       long = shared.mem.long;
@@ -156,7 +156,7 @@ module _ (ctx : Setting) (f g : Frame) (gs bs : List Frame) where
             ahead = rows_ahead (at_home returning x) k f.back m.stack c back.outer
                 (subst (λ (z : List ℕ). Rows (at_home returning x) k Quiet f.back z c back.outer) (sym empty)
                 (rows_kept k returning x ctx.stack.limit (base + 4) low.1 Quiet f.back [] c back.outer
-                (record { shadow = λ a from below. refl; base = λ r e l. refl; shape = λ r e l. refl; targets = refl })
+                (record { shadow = λ a from below. refl; base = λ r e l. refl; shape = λ r e l. refl; targets = refl; workspaces = extends_self h.workspaces })
                 back.then));
           };
         })
@@ -166,6 +166,7 @@ module _ (ctx : Setting) (f g : Frame) (gs bs : List Frame) where
           base = λ r e. refl;
           shape = λ r e. refl;
           targets = refl;
+          workspaces = extends_self h.workspaces;
           fixed = fixed_kept;
         })
         (refl, omega arith)

@@ -1,7 +1,7 @@
 -- The rows of assignments.
 use Rattle.std.proofs.Common.{◌≡◌, ℕ, ◌+◌, ◌<◌, Bool, true, false, cond, ◌||◌, List, [], ◌∷◌, length, take, drop, refl, sym, ap, ◌∙◌, subst, arith}
 use Rattle.lil_base.specs.declared.fault.TrapKind.TheVariants as trap
-use Rattle.lil_resolved.specs.Kinds.{Kind, OfPointer, takes_value, same_pointer}
+use Rattle.lil_resolved.specs.Kinds.{Pointee, Kind, OfPointer, takes_value, same_pointer}
 use Rattle.lil_resolved.specs.Scalars.{Scalar, within}
 use Rattle.lil_resolved.specs.Resolved.{Designator, Expression, Assign, Copy, kind_of, shape_of}
 use Rattle.lil_resolved.specs.Shapes.{Shape, words, is_there}
@@ -204,7 +204,7 @@ module _ (ctx : Setting) where
         (omega arith)
 
     -- a pointer isn't
-    pointer_store : (place : Place) (to : Kind) (v : Scalar) (kind : Kind) → within kind v ≡ true → Refers h kind v → (n : ℕ) × (to ≡ OfPointer n) × (kind ≡ OfPointer n) → (below : List ℕ) → m.stack ≡ word_for h v ∷ below
+    pointer_store : (place : Place) (to : Kind) (v : Scalar) (kind : Kind) → within kind v ≡ true → Refers h kind v → (n : Pointee) × (to ≡ OfPointer n) × (kind ≡ OfPointer n) → (below : List ℕ) → m.stack ≡ word_for h v ∷ below
         → Waiting ctx (Fill (StoreAt place to)) Rest (ValueOf kind) m.place below c a → Goes ctx s (Value (Scalars v) ∷ Fill (StoreAt place to) ∷ k) m (c + 32)
     pointer_store place to v kind fit refers (n, one, other) below is row =
         let items : List Item = Value (Scalars v) ∷ Fill (StoreAt place to) ∷ k in

@@ -1,13 +1,15 @@
--- Assignments, strings, INC, DEC, INCL, EXCL, NEW, DISPOSE, HALT and calls that are lowered are sound.
+-- Assignments, strings, INC, DEC, INCL, EXCL, NEW, DISPOSE, ALLOCATE, DEALLOCATE, HALT and calls that are lowered are sound.
 use Rattle.std.proofs.Common.{◌≡◌, ℕ, zero, suc, ◌≤◌, pos, Bool, true, false, arith, if◌then◌else◌, List, [], ◌∷◌, length, map, Option, None, Some, IfSome, refl, sym, ap, subst, ◌∙◌, true≢false}
 use Rattle.std.specs.Prelude.{not, ◌==◌, ◌&&◌, nat_le, slice_get}
 use Rattle.std.specs.Option.{option_map}
 use Rattle.std.proofs.lemmas.Bool.Decides.{nat_tests}
 use Rattle.std.proofs.lemmas.Option.{same_Some}
-use Rattle.lil_types.specs.Types.{Table}
+use Rattle.lil_base.specs.Words.{Cardinal}
+use Rattle.lil_types.specs.Types.{Table, cardinal}
 use Rattle.lil_module.specs.declared.declared.RModule.{RModule}
 use Rattle.lil_module.specs.declared.tree.Standard.{Standard}
 use Rattle.lil_module.specs.declared.tree.Standard.TheVariants as standard
+use Rattle.lil_module.specs.declared.tree.Resident.{Resident}
 use Rattle.lil_module.specs.declared.tree.RArgument.{RArgument, out-RArgument}
 use Rattle.lil_module.specs.declared.tree.RArgument.TheOpen as x
 use Rattle.lil_module.specs.declared.tree.RArgument.TheOpen.{RArgument-F, RExpr-F}
@@ -18,7 +20,7 @@ use Rattle.lil_module.specs.declared.tree.RDesignator.{RDesignator}
 use Rattle.lil_module.specs.declared.tree.RElement.{RElement}
 use Rattle.lil_module.specs.declared.tree.ROperation.{ROperation}
 use Rattle.lil_resolved.specs.Bases.{own_base}
-use Rattle.lil_resolved.specs.Kinds.{OfWhole, OfSet, is_pointer, compared_as}
+use Rattle.lil_resolved.specs.Kinds.{Objects, Workspaces, Kind, OfWhole, OfSet, OfPointer, is_pointer, same_pointer, compared_as}
 use Rattle.lil_resolved.specs.Depth.{place_depth}
 use Rattle.lil_resolved.specs.Resolved.{Designator, Expression, Argument, OfArray, OfText, Statements, kind_of, counted_as, shape_of}
 use Rattle.lil_resolved.specs.Sound.{Parameter, Single, Characters, is_ordinal, is_plain, takes_value, stores_value, is_element, is_text, request_parameters, parameter_of, IsSoundArgument, IsSoundArray, IsSoundTarget, IsSoundWhole, IsSoundValue, AreSoundArguments, IsSoundBody}
@@ -34,6 +36,7 @@ use Rattle.lil_resolved.specs.declared.resolved.Direction.{Direction}
 use Rattle.lil_resolved.specs.declared.resolved.Direction.TheVariants.{Up, Down}
 use Rattle.lil_resolved.specs.declared.resolved.Membership.{Membership}
 use Rattle.lil_resolved.specs.declared.resolved.Membership.TheVariants.{Joins, Leaves}
+use Rattle.lil_resolved.specs.declared.resolved.Allocation.{Allocation}
 use Rattle.lil_lower_type.specs.declared.members.Members.{Members}
 use Rattle.lil_lower_type.specs.declared.pointers.Target.{Target}
 use Rattle.lil_lower_type.specs.Bases.{base_at}
@@ -69,6 +72,7 @@ counted_base t b.Character = (b.Cardinal, refl, refl)
 counted_base t (b.Enumeration n) = (b.Cardinal, refl, refl)
 counted_base t b.Set = (b.Cardinal, refl, refl)
 counted_base t (b.Pointer n) = (b.Cardinal, refl, refl)
+counted_base t b.Address = (b.Cardinal, refl, refl)
 
 counted_kind : (k : RKind) → OfWhole (compared_as (base_view k.base)) ≡ OfWhole (counted_as (kind_view k))
 counted_kind k = ap (λ j. OfWhole (compared_as j)) (sym (own_base k))
@@ -79,12 +83,19 @@ is_counted k ordinal = ap (λ j. not (is_pointer j)) (own_base k) ∙ by k.base 
   where
     by : (j : RBase) → is_ordinal (base_view j) ≡ true → not (is_pointer (base_view j)) ≡ true
     by (b.Pointer n) e = e
+    by b.Address e = e
     by b.Cardinal e = refl
     by b.Integer e = refl
     by b.Truth e = refl
     by b.Character e = refl
     by (b.Enumeration n) e = refl
     by b.Set e = refl
+
+-- a kind of pointers that go with addresses
+address_kind : (k : Kind) → same_pointer k (OfPointer Workspaces) ≡ true → k ≡ OfPointer Workspaces
+address_kind (OfPointer Workspaces) e = refl
+address_kind (OfPointer (Objects n)) e = absurd (true≢false (sym e))
+address_kind _ e = absurd (true≢false (sym e))
 
 at_most : (a b : ℕ) → nat_le a b ≡ true → a ≤ b
 at_most a b h = grind (arith, nat_tests)
@@ -250,6 +261,29 @@ module _ (m : RModule) (around : Around) (ts : Scope) (fits : Fits m around ts) 
   disposed_sound looping None h = tt
   disposed_sound looping (Some c) h = stored_sound looping c c.sort (v.shallow (v.nil m.types c.sort)) h (shallow_kept m.types ts c.sort (v.nil m.types c.sort) (nil_held m.types ts c.sort))
 
+  -- ---- ALLOCATE and DEALLOCATE
+  allocated_sound : (looping : Bool) (way : Allocation) (o : Option Cell) (own : ℕ) (n : Option Expression) → Known o → IfSome n (Kept m.types ts own) → Body looping (s.allocated way o n)
+  allocated_sound looping way None own n h j = tt
+  allocated_sound looping way (Some c) own None h j = tt
+  allocated_sound looping way (Some c) own (Some e) h j =
+      let is = same_pointer (kind_view c.kind) (OfPointer Workspaces) in
+      let takes = takes_value (OfWhole Cardinal) (kind_of e) in
+      if_true (IsSoundBody ts looping) (is && takes) _ (λ both. (
+        (
+          subst (IsSoundTarget ts c.form) (address_kind (kind_view c.kind) (both_left is takes both)) (target_sound m.types ts c h),
+          record { takes = both_right is takes both; whole = kept_alone m.types ts own e j },
+        ),
+        tt,
+      ))
+
+  allocation_sound : (looping : Bool) (way : Allocation) (xs : List RArgument) → Body looping (s.allocation m around way xs)
+  allocation_sound looping way [] = tt
+  allocation_sound looping way (a ∷ []) = tt
+  allocation_sound looping way (a ∷ n ∷ []) =
+      let own = v.own_or (argument m around n).own cardinal in
+      allocated_sound looping way (s.place m around a) own (v.shallow ((argument m around n).lowers own)) (place_known a) (handed_sound m around ts fits n own)
+  allocation_sound looping way (a ∷ n ∷ c ∷ xs) = tt
+
   -- ---- HALT
   halted_sound : (looping : Bool) (xs : List RArgument) → Body looping (s.halted xs)
   halted_sound looping [] = (tt, tt)
@@ -323,9 +357,17 @@ module _ (m : RModule) (around : Around) (ts : Scope) (fits : Fits m around ts) 
   requested_sound looping r None h = tt
   requested_sound looping r (Some given) h = ((parameters_are r ∙ ap Some (sym h.1), h.0), tt)
 
+  request_sound : (looping : Bool) (o : Option RRequest) (xs : List RArgument) → Body looping (s.request m around o xs)
+  request_sound looping None xs = tt
+  request_sound looping (Some r) xs = requested_sound looping r (s.arguments m around (s.parameters r) xs) (arguments_sound (s.parameters r) xs)
+
   pub called_sound : (looping : Bool) (c : RCallee) (xs : List RArgument) → Body looping (s.called m around c xs)
-  called_sound looping c xs = by (s.request c)
+  called_sound looping c xs = by (s.resident_of c)
     where
-      by : (o : Option RRequest) → Body looping (s.called_by m around o xs)
+      over : (way : Option Allocation) (r : Option RRequest) → Body looping (s.called_by m around way r xs)
+      over (Some way) r = allocation_sound looping way xs
+      over None r = request_sound looping r xs
+
+      by : (o : Option Resident) → Body looping (s.called_as m around o xs)
       by None = tt
-      by (Some r) = requested_sound looping r (s.arguments m around (s.parameters r) xs) (arguments_sound (s.parameters r) xs)
+      by (Some r) = over (s.allocation_of r) (s.request_of r)

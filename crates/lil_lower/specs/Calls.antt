@@ -1,6 +1,7 @@
--- What assignments, strings, INC and DEC, INCL and EXCL, NEW and DISPOSE, HALT, and calls of resident procedures are for the generator.
+-- What assignments, strings, INC and DEC, INCL and EXCL, NEW and DISPOSE, ALLOCATE and DEALLOCATE, HALT, and calls of resident procedures are for the generator.
 use Rattle.std.specs.Prelude.{ℕ, zero, suc, ◌==◌, nat_le, pos, Bool, true, false, ◌&&◌, List, [], ◌∷◌, length, slice_get, Option, Some, None, if◌then◌else◌}
 use Rattle.std.specs.Option.{option_map}
+use Rattle.lil_base.specs.Words.{Cardinal}
 use Rattle.lil_types.specs.Types.{Table, integer, cardinal, char}
 use Rattle.lil_module.specs.declared.declared.RModule.{RModule}
 use Rattle.lil_module.specs.declared.tree.Standard.{Standard}
@@ -16,9 +17,10 @@ use Rattle.lil_module.specs.declared.tree.RSelector.{RSelector}
 use Rattle.lil_module.specs.declared.tree.RDesignator.{RDesignator}
 use Rattle.lil_module.specs.declared.tree.RElement.{RElement}
 use Rattle.lil_module.specs.declared.tree.ROperation.{ROperation}
-use Rattle.lil_resolved.specs.Resolved.{Expression, Argument, ByValue, OfArray, OfText, Assign, Copy, Text, Change, Member, New, Request, Halt, Statements, Empty, Then, kind_of}
+use Rattle.lil_resolved.specs.Resolved.{Expression, Argument, ByValue, OfArray, OfText, Assign, Copy, Text, Change, Member, New, Allocate, Request, Halt, Statements, Empty, Then, kind_of}
+use Rattle.lil_resolved.specs.Kinds.{OfWhole, OfPointer, Workspaces, same_pointer}
 use Rattle.lil_resolved.specs.Sound.{is_ordinal, takes_value, stores_value, is_element, is_text}
-use Rattle.lil_resolved.specs.Views.{base_view, kind_view, request_number, is_down, is_out}
+use Rattle.lil_resolved.specs.Views.{base_view, kind_view, request_number, is_down, is_out, is_back}
 use Rattle.lil_resolved.specs.declared.resolved.RBase.{RBase}
 use Rattle.lil_resolved.specs.declared.resolved.RBase.TheVariants as b
 use Rattle.lil_resolved.specs.declared.resolved.RRequest.{RRequest}
@@ -27,6 +29,8 @@ use Rattle.lil_resolved.specs.declared.resolved.Direction.{Direction}
 use Rattle.lil_resolved.specs.declared.resolved.Direction.TheVariants.{Up, Down}
 use Rattle.lil_resolved.specs.declared.resolved.Membership.{Membership}
 use Rattle.lil_resolved.specs.declared.resolved.Membership.TheVariants.{Joins, Leaves}
+use Rattle.lil_resolved.specs.declared.resolved.Allocation.{Allocation}
+use Rattle.lil_resolved.specs.declared.resolved.Allocation.TheVariants.{Takes, GivesBack}
 use Rattle.lil_resolved.specs.declared.resolved.RRange.{RRange}
 use Rattle.lil_lower_type.specs.declared.members.Members.{Members}
 use Rattle.lil_lower_type.specs.declared.pointers.Target.{Target}
@@ -125,6 +129,18 @@ abbrev pub disposed : Table → Option Cell → Option Statements
 disposed t None = None
 disposed t (Some c) = stored c (shallow (nil t c.sort))
 
+-- ---- ALLOCATE and DEALLOCATE
+abbrev pub allocation_of : Resident → Option Allocation
+allocation_of resident.Allocate = Some Takes
+allocation_of resident.Deallocate = Some GivesBack
+allocation_of _ = None
+
+-- an address gets a workspace of so many words, or gives it back
+abbrev pub allocated : Allocation → Option Cell → Option Expression → Option Statements
+allocated way (Some c) (Some e) =
+    if same_pointer (kind_view c.kind) (OfPointer Workspaces) && takes_value (OfWhole Cardinal) (kind_of e) then Some (Then (Allocate (is_back way) c.form e) Empty) else None
+allocated way _ _ = None
+
 -- ---- HALT
 abbrev pub halted : List RArgument → Option Statements
 halted [] = Some (Then Halt Empty)
@@ -157,13 +173,14 @@ parameters q.WriteLn = []
 parameters q.WriteInt = OfType b.Integer integer ∷ OfType b.Cardinal cardinal ∷ []
 parameters _ = OfType b.Cardinal cardinal ∷ OfType b.Cardinal cardinal ∷ []
 
-abbrev pub request_in : RCallee-F RArgument RCallee RExpr RSelector RDesignator RElement ROperation → Option RRequest
-request_in (x.RCallee::Procedure n) = None
-request_in (x.Variable d) = None
-request_in (x.Resident r) = request_of r
+abbrev pub resident_in : RCallee-F RArgument RCallee RExpr RSelector RDesignator RElement ROperation → Option Resident
+resident_in (x.RCallee::Procedure n) = None
+resident_in (x.Variable d) = None
+resident_in (x.Resident r) = Some r
 
-abbrev pub request : RCallee → Option RRequest
-request c = request_in (out-RCallee c)
+-- the resident procedure that is called
+abbrev pub resident_of : RCallee → Option Resident
+resident_of c = resident_in (out-RCallee c)
 
 abbrev pub given : RBase → Option Expression → Option Argument
 given k (Some e) = if takes_value (base_view k) (kind_of e) then Some (ByValue (base_view k) e) else None
@@ -204,13 +221,6 @@ module _ (m : RModule) (around : Around) where
   arguments (p ∷ ps) (x ∷ xs) = linked (handed p x) (arguments ps xs)
   arguments _ _ = None
 
-  abbrev pub called_by : Option RRequest → List RArgument → Option Statements
-  called_by None xs = None
-  called_by (Some r) xs = requested r (arguments (parameters r) xs)
-
-  abbrev pub called : RCallee → List RArgument → Option Statements
-  called c xs = called_by (request c) xs
-
   abbrev pub place_in : RArgument-F RArgument RCallee RExpr RSelector RDesignator RElement ROperation → Option Cell
   place_in (x.RArgument::Value a) = None
   place_in (x.Place d) = target m around d
@@ -219,6 +229,27 @@ module _ (m : RModule) (around : Around) where
   -- the cell that an argument is
   abbrev pub place : RArgument → Option Cell
   place a = place_in (out-RArgument a)
+
+  -- a number of words: a constant is a CARDINAL, any other value of its own type
+  abbrev pub allocation : Allocation → List RArgument → Option Statements
+  allocation way (a ∷ n ∷ []) = allocated way (place a) (shallow ((argument m around n).lowers (own_or (argument m around n).own cardinal)))
+  allocation way _ = None
+
+  abbrev pub request : Option RRequest → List RArgument → Option Statements
+  request None xs = None
+  request (Some r) xs = requested r (arguments (parameters r) xs)
+
+  -- ALLOCATE and DEALLOCATE are no requests
+  abbrev pub called_by : Option Allocation → Option RRequest → List RArgument → Option Statements
+  called_by (Some way) r xs = allocation way xs
+  called_by None r xs = request r xs
+
+  abbrev pub called_as : Option Resident → List RArgument → Option Statements
+  called_as None xs = None
+  called_as (Some r) xs = called_by (allocation_of r) (request_of r) xs
+
+  abbrev pub called : RCallee → List RArgument → Option Statements
+  called c xs = called_as (resident_of c) xs
 
   -- INC and DEC by 1, or by a second argument
   abbrev pub change : Direction → List RArgument → Option Statements

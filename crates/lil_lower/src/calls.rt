@@ -5,6 +5,7 @@ ghost use Rattle.lil_resolved.specs.declared.resolved.RBase.TheVariants as b;
 ghost use Rattle.lil_resolved.specs.Views as view;
 ghost use Rattle.lil_lower.specs.Calls as spec;
 
+use crate::allocations::{allocation, allocation_of};
 use crate::strings::string;
 use lil_base::{Items, Memory, beside};
 use lil_lower_type::takes_value;
@@ -33,11 +34,12 @@ fn request_of(of: Resident) -> Option<RRequest>
     }
 }
 
-fn request(of: &RCallee) -> Option<RRequest>
-    ensures { result ≡ spec.request of.now }
+/// The resident procedure that is called.
+fn resident_of(of: &RCallee) -> Option<Resident>
+    ensures { result ≡ spec.resident_of of.now }
 {
     match of {
-        RCallee::Resident(of) => request_of(*of),
+        RCallee::Resident(of) => Some(*of),
         _ => None,
     }
 }
@@ -203,6 +205,26 @@ fn requested(request: RRequest, given: Option<Items<RArgument>>) -> Option<RStmt
     }
 }
 
+/// A request with its arguments.
+fn request(
+    alloc: Global,
+    m: &RModule,
+    around: &[TypeId],
+    request: Option<RRequest>,
+    of: &[Given],
+) -> Result<Option<RStmt>, Memory>
+    requires { length m.now.variables ≤ 32000 }
+    ensures { IfOk result (λ o. option_map view.statement_of o ≡ spec.request m.now around.now request of.now) }
+{
+    match request {
+        None => Ok(None),
+        Some(request) => {
+            let given = arguments(alloc, m, around, request, of)?;
+            Ok(requested(request, given))
+        }
+    }
+}
+
 /// A call of a resident procedure.
 pub(crate) fn called(
     alloc: Global,
@@ -214,11 +236,11 @@ pub(crate) fn called(
     requires { length m.now.variables ≤ 32000 }
     ensures { IfOk result (λ o. option_map view.statement_of o ≡ spec.called m.now around.now callee.now of.now) }
 {
-    match request(callee) {
-        None => Ok(None),
-        Some(request) => {
-            let given = arguments(alloc, m, around, request, of)?;
-            Ok(requested(request, given))
-        }
+    let Some(resident) = resident_of(callee) else {
+        return Ok(None);
+    };
+    match allocation_of(resident) {
+        Some(way) => allocation(alloc, m, around, way, of),
+        None => request(alloc, m, around, request_of(resident), of),
     }
 }

@@ -1,6 +1,7 @@
 //! The trees of which the generator makes code, from those of the whole language.
 #![tactic(auto)]
 
+mod allocations;
 mod calls;
 mod changes;
 mod labels;

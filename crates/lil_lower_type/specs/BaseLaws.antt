@@ -5,7 +5,7 @@ use Rattle.std.proofs.lemmas.Int.{ints}
 use Rattle.std.proofs.lemmas.Option.{none-some}
 use Rattle.std.proofs.lemmas.Bool.Decides.{nat_tests}
 use Rattle.lil_base.specs.Laws.{bounds}
-use Rattle.lil_types.specs.Types.{Table, integer, cardinal, boolean, char, bit_set, entry}
+use Rattle.lil_types.specs.Types.{Table, integer, cardinal, boolean, char, bit_set, address, entry}
 use Rattle.lil_types.specs.Types as types
 use Rattle.lil_types.specs.declared.table.TypeForm.{TypeForm}
 use Rattle.lil_types.specs.declared.table.TypeForm.TheVariants.{Enumeration, Subrange, Array, Record, SetOf, Pointer, Procedure, Opaque}
@@ -13,7 +13,7 @@ use Rattle.lil_types.specs.declared.table.TypeEntry.{TypeEntry}
 use Rattle.lil_resolved.specs.declared.resolved.RBase.{RBase}
 use Rattle.lil_resolved.specs.declared.resolved.RBase.TheVariants as b
 use Rattle.lil_resolved.specs.declared.resolved.RKind.{RKind}
-use Rattle.lil_resolved.specs.Kinds.{Kind, OfTruth, OfCharacter, OfSet, OfPointer, is_base}
+use Rattle.lil_resolved.specs.Kinds.{Pointee, Objects, Workspaces, Kind, OfTruth, OfCharacter, OfSet, OfPointer, is_base}
 use Rattle.lil_resolved.specs.MemberLaws.{word_of_set}
 use Rattle.lil_resolved.specs.Scalars.{within, is_reference, is_literal, scalar_of, ordinal_of}
 use Rattle.lil_resolved.specs.Views.{base_view}
@@ -48,7 +48,8 @@ standard_words : (s : ℕ) → IfSome (standard s) HasWords
 standard_words s =
     or_else HasWords (s == integer) b.Integer _ refl
     (or_else HasWords (s == cardinal) b.Cardinal _ refl
-    (or_else HasWords (s == boolean) b.Truth _ refl (or_else HasWords (s == char) b.Character _ refl (or_else HasWords (s == bit_set) b.Set None refl tt))))
+    (or_else HasWords (s == boolean) b.Truth _ refl
+    (or_else HasWords (s == char) b.Character _ refl (or_else HasWords (s == bit_set) b.Set _ refl (or_else HasWords (s == address) b.Address None refl tt)))))
 
 form_words : (s : ℕ) (f : TypeForm) → IfSome (base_form s f) HasWords
 form_words s (Enumeration xs) = if_true HasWords (nat_le (length xs) 65535) (b.Enumeration (length xs)) (λ h. h)
@@ -128,10 +129,10 @@ set_number : (z : ℤ) → pos 0 ≤ℤ z → z ≤ℤ pos 65535 → IsNumber Of
 set_number (pos i) h j = (refl, ap pos (word_of_set i (omega (arith, ints, j))))
 set_number (negsuc i) h j = absurd (omega (arith, ints))
 
-nil_number : (n : ℕ) (z : ℤ) → pos 0 ≤ℤ z → z ≤ℤ pos 0 → IsNumber (OfPointer n) z
-nil_number n (pos zero) h j = (refl, refl)
-nil_number n (pos (suc i)) h j = absurd (omega (arith, ints))
-nil_number n (negsuc i) h j = absurd (omega (arith, ints))
+nil_number : (to : Pointee) (z : ℤ) → pos 0 ≤ℤ z → z ≤ℤ pos 0 → IsNumber (OfPointer to) z
+nil_number to (pos zero) h j = (refl, refl)
+nil_number to (pos (suc i)) h j = absurd (omega (arith, ints))
+nil_number to (negsuc i) h j = absurd (omega (arith, ints))
 
 -- the numbers of a base are those of its values
 pub number_sound : (k : RBase) (z : ℤ) → has_number k z ≡ true → IsNumber (base_view k) z
@@ -141,7 +142,8 @@ number_sound b.Truth z h = let e = bounds (pos 0) z (pos 1) h in truth_number z 
 number_sound b.Character z h = let e = bounds (pos 0) z (pos 255) h in character_number z e.0 e.1
 number_sound (b.Enumeration n) z h = (h, refl)
 number_sound b.Set z h = let e = bounds (pos 0) z (pos 65535) h in set_number z e.0 e.1
-number_sound (b.Pointer n) z h = let e = bounds (pos 0) z (pos 0) h in nil_number n z e.0 e.1
+number_sound (b.Pointer n) z h = let e = bounds (pos 0) z (pos 0) h in nil_number (Objects n) z e.0 e.1
+number_sound b.Address z h = let e = bounds (pos 0) z (pos 0) h in nil_number Workspaces z e.0 e.1
 
 no_reference : (k : RBase) (z : ℤ) → is_reference (scalar_of (base_view k) z) ≡ false
 no_reference b.Cardinal z = refl
@@ -151,6 +153,7 @@ no_reference b.Character z = refl
 no_reference (b.Enumeration n) z = refl
 no_reference b.Set z = refl
 no_reference (b.Pointer n) z = refl
+no_reference b.Address z = refl
 
 -- and those that a text can name
 pub literal_sound : (k : RBase) (z : ℤ) → has_number k z ≡ true → is_literal (base_view k) (scalar_of (base_view k) z) ≡ true

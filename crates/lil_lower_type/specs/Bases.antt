@@ -1,6 +1,6 @@
 -- The generator's kinds of a module's types.
 use Rattle.std.specs.Prelude.{ℕ, ◌==◌, nat_le, Option, Some, None, length, if◌then◌else◌}
-use Rattle.lil_types.specs.Types.{Table, integer, cardinal, boolean, char, bit_set, entry, base}
+use Rattle.lil_types.specs.Types.{Table, integer, cardinal, boolean, char, bit_set, address, entry, base}
 use Rattle.lil_types.specs.declared.table.Span.{Span}
 use Rattle.lil_types.specs.declared.table.TypeForm.{TypeForm}
 use Rattle.lil_types.specs.declared.table.TypeForm.TheVariants.{Enumeration, Subrange, SetOf, Pointer}
@@ -17,7 +17,8 @@ standard s =
     else (if s == cardinal then Some b.Cardinal
     else (if s == boolean then Some b.Truth
     else (if s == char then Some b.Character
-    else (if s == bit_set then Some b.Set else None))))
+    else (if s == bit_set then Some b.Set
+    else (if s == address then Some b.Address else None)))))
 
 -- constants whose numbers are words
 abbrev pub enumerated : ℕ → Option RBase
@@ -33,7 +34,7 @@ abbrev pub base_by : ℕ → Option TypeEntry → Option RBase
 base_by s None = standard s
 base_by s (Some e) = base_form s e.form
 
--- what the values of a base type are: INTEGER, CARDINAL, BOOLEAN, CHAR, an enumeration, sets, or pointers
+-- what the values of a base type are: INTEGER, CARDINAL, BOOLEAN, CHAR, an enumeration, sets, pointers, or addresses
 abbrev pub base_at : Table → ℕ → Option RBase
 base_at t s = base_by s (entry t s)
 

@@ -4,7 +4,7 @@ use Rattle.lil_types.specs.Types.{Table, entry}
 use Rattle.lil_types.specs.declared.table.TypeForm.{TypeForm}
 use Rattle.lil_types.specs.declared.table.TypeForm.TheVariants as form
 use Rattle.lil_types.specs.declared.table.TypeEntry.{TypeEntry}
-use Rattle.lil_resolved.specs.Kinds.{Kind, OfPointer}
+use Rattle.lil_resolved.specs.Kinds.{Objects, Kind, OfPointer}
 use Rattle.lil_resolved.specs.Shapes.{Shape, shape_at}
 use Rattle.lil_resolved.specs.Views.{kind_view}
 use Rattle.lil_resolved.specs.declared.resolved.RKind.{RKind}
@@ -48,7 +48,7 @@ target_with t n None = None
 target_with t n (Some s) = if lies_at t s then Some (record { pointer = n; sort = s }) else None
 
 abbrev pub target_of : Table → Kind → Option Target
-target_of t (OfPointer n) = target_with t n (pointed t n)
+target_of t (OfPointer (Objects n)) = target_with t n (pointed t n)
 target_of t _ = None
 
 abbrev pub target_by : Table → Option RKind → Option Target

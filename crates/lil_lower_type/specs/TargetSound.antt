@@ -9,7 +9,7 @@ use Rattle.std.proofs.lemmas.Option.{none-some, slice_get_within, slice_get-get_
 use Rattle.lil_types.specs.Types.{Table, entry, meant_by, facts_in, known}
 use Rattle.lil_types.specs.Types as types
 use Rattle.lil_types.specs.declared.table.TypeEntry.{TypeEntry}
-use Rattle.lil_resolved.specs.Kinds.{Kind, OfPointer}
+use Rattle.lil_resolved.specs.Kinds.{Objects, Kind, OfPointer}
 use Rattle.lil_resolved.specs.Shapes.{Shape, Absent, Word, is_there, shape_by, shape_at}
 use Rattle.lil_resolved.specs.Views.{kind_view}
 use Rattle.lil_resolved.specs.declared.resolved.RKind.{RKind}
@@ -89,7 +89,7 @@ all_known t ts h = all_shaped t (16 + length t) ts (if_some (nat_le (length t) 3
 
 -- a pointer to objects of a type
 pub record PointsTo (t : Table) (ts : List Shape) (s : Shape) (x : Target) : Type 0 where
-  pub word : s ≡ Word (OfPointer x.pointer)
+  pub word : s ≡ Word (OfPointer (Objects x.pointer))
   pub sort : slice_get ts x.sort ≡ Some (shape_at (targets t ts) x.pointer)
   pub there : is_there (shape_at (targets t ts) x.pointer) ≡ true
 
@@ -108,7 +108,7 @@ module _ (t : Table) (ts : List Shape) (all : AllShaped t (16 + length t) ts) wh
       ∙ ap (option_map (shape_at ts)) (target_below t (length ts) n (omega (arith, all.0, pointed_within t n m is)))
       ∙ ap (λ o. Some (shape_at ts (number_or n o))) is)
 
-  points_to : (n m : ℕ) (s : Shape) → pointed t n ≡ Some m → s ≡ Word (OfPointer n) → lies_at t m ≡ true → PointsTo t ts s (record { pointer = n; sort = m })
+  points_to : (n m : ℕ) (s : Shape) → pointed t n ≡ Some m → s ≡ Word (OfPointer (Objects n)) → lies_at t m ≡ true → PointsTo t ts s (record { pointer = n; sort = m })
   points_to n m s is word lies =
       let known : slice_get ts m ≡ Some (get_or ts m Absent) = slice_get-get_or ts m Absent (omega (arith, all.0, lies_within t m lies)) in
       let same : shape_at (targets t ts) n ≡ get_or ts m Absent = target_is n m is ∙ ap shape_by known in
@@ -119,7 +119,7 @@ module _ (t : Table) (ts : List Shape) (all : AllShaped t (16 + length t) ts) wh
       }
 
   pub target_known : (k : Kind) (s : Shape) → s ≡ Word k → IfSome (target_of t k) (PointsTo t ts s)
-  target_known (OfPointer n) s word = by (pointed t n) refl
+  target_known (OfPointer (Objects n)) s word = by (pointed t n) refl
     where
       by : (o : Option ℕ) → pointed t n ≡ o → IfSome (target_with t n o) (PointsTo t ts s)
       by None is = tt

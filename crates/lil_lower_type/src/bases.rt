@@ -4,7 +4,7 @@ ghost use Rattle.lil_lower_type.specs.Bases as spec;
 
 use lil_resolved::{RBase, RKind, RRange};
 use lil_types::{
-    BITSET, BOOLEAN, CARDINAL, CHAR, INTEGER, TypeForm, TypeId, TypeTable, base, entry,
+    ADDRESS, BITSET, BOOLEAN, CARDINAL, CHAR, INTEGER, TypeForm, TypeId, TypeTable, base, entry,
 };
 
 /// The base of a standard type's values.
@@ -21,6 +21,8 @@ fn standard(sort: TypeId) -> Option<RBase>
         Some(RBase::Character)
     } else if sort == BITSET {
         Some(RBase::Set)
+    } else if sort == ADDRESS {
+        Some(RBase::Address)
     } else {
         None
     }

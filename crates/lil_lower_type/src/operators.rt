@@ -14,7 +14,7 @@ fn is_whole(base: RBase) -> bool
     match base {
         RBase::Cardinal | RBase::Integer => true,
         RBase::Truth | RBase::Character | RBase::Enumeration(_) => false,
-        RBase::Set | RBase::Pointer(_) => false,
+        RBase::Set | RBase::Pointer(_) | RBase::Address => false,
     }
 }
 
@@ -25,7 +25,7 @@ pub fn is_ordinal(base: RBase) -> bool
     match base {
         RBase::Cardinal | RBase::Integer => true,
         RBase::Truth | RBase::Character | RBase::Enumeration(_) => true,
-        RBase::Set | RBase::Pointer(_) => false,
+        RBase::Set | RBase::Pointer(_) | RBase::Address => false,
     }
 }
 
@@ -127,11 +127,13 @@ fn same_pointer(kind: RKind, base: RBase) -> bool
 {
     match (kind.range, kind.base, base) {
         (None, RBase::Pointer(m), RBase::Pointer(n)) => m == n,
+        (None, RBase::Address, RBase::Address) => true,
         _ => false,
     }
 }
 
-/// Whether a value of a base may be stored at a place of a kind: as in a variable, or as a pointer of the same type.
+/// Whether a value of a base may be stored at a place of a kind: as in a variable, as a pointer of the same type, or as an
+/// address.
 pub fn stores_value(kind: RKind, base: RBase) -> bool
     ensures { result ≡ sound.stores_value (kind_view kind) (base_view base) }
 {
@@ -171,7 +173,7 @@ pub(crate) fn greatest(base: RBase) -> i32
         RBase::Character => 255,
         RBase::Enumeration(count) => i32::from(count.saturating_sub(1)),
         RBase::Set => 65535,
-        RBase::Pointer(_) => 0,
+        RBase::Pointer(_) | RBase::Address => 0,
     }
 }
 

@@ -82,7 +82,7 @@ abs_kind OfTruth h = cc
 abs_kind OfCharacter h = cc
 abs_kind (OfEnumeration n) h = cc
 abs_kind OfSet h = cc
-abs_kind (OfPointer n) h = cc
+abs_kind (OfPointer to) h = cc
 abs_kind (OfRange k low high) h = cc
 
 of_truth : (k : RBase) → is_truth k ≡ true → base_view k ≡ OfTruth
@@ -93,6 +93,7 @@ of_truth b.Character h = cc
 of_truth (b.Enumeration n) h = cc
 of_truth b.Set h = cc
 of_truth (b.Pointer n) h = cc
+of_truth b.Address h = cc
 
 module _ (t : Table) (ts : Scope) where
   -- ---- constants
@@ -112,6 +113,7 @@ module _ (t : Table) (ts : Scope) where
       by (Some (b.Enumeration n)) h = tt
       by (Some b.Set) h = tt
       by (Some (b.Pointer n)) h = tt
+      by (Some b.Address) h = tt
 
   pub scalar_held : (sort w : ℕ) → Holds t ts (spec.scalar t sort w)
   scalar_held sort w s = if_so (Held t ts s) (types.base t sort == s) (spec.scalar_by w (base_at t s)) (λ e. by (base_at t s) refl)
@@ -125,6 +127,7 @@ module _ (t : Table) (ts : Scope) where
       by (Some (b.Enumeration n)) h = constant_held (b.Enumeration n) s h (pos w)
       by (Some b.Set) h = constant_held b.Set s h (pos w)
       by (Some (b.Pointer n)) h = tt
+      by (Some b.Address) h = tt
 
   pub text_held : (c : List ℕ) → Holds t ts (spec.text c)
   text_held (c ∷ []) s = if_so (Held t ts s) (s == char) (spec.constant b.Character (pos c))
@@ -142,6 +145,7 @@ module _ (t : Table) (ts : Scope) where
       by : (o : Option RBase) → base_at t s ≡ o → IfSome (spec.nil_by o) (Held t ts s)
       by None h = tt
       by (Some (b.Pointer n)) h = record { base = b.Pointer n; known = h; of = refl; good = refl }
+      by (Some b.Address) h = record { base = b.Address; known = h; of = refl; good = refl }
       by (Some b.Cardinal) h = tt
       by (Some b.Integer) h = tt
       by (Some b.Truth) h = tt

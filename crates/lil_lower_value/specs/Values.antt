@@ -20,7 +20,7 @@ use Rattle.lil_module.specs.declared.tree.RSelector.{RSelector}
 use Rattle.lil_module.specs.declared.tree.RDesignator.{RDesignator}
 use Rattle.lil_module.specs.declared.tree.RElement.{RElement}
 use Rattle.lil_module.specs.declared.tree.ROperation.{ROperation}
-use Rattle.lil_resolved.specs.Kinds.{OfPointer}
+use Rattle.lil_resolved.specs.Kinds.{Objects, Workspaces, OfPointer}
 use Rattle.lil_resolved.specs.Scalars.{Nothing, scalar_of}
 use Rattle.lil_resolved.specs.Resolved.{Expression, Constant, Taken, Apply, kind_of}
 use Rattle.lil_resolved.specs.Depth.{depth}
@@ -92,10 +92,11 @@ named (Some t) s = text t s
 named None s = None
 
 abbrev pub nil_by : Option RBase → Option Expression
-nil_by (Some (b.Pointer n)) = Some (Constant (OfPointer n) Nothing)
+nil_by (Some (b.Pointer n)) = Some (Constant (OfPointer (Objects n)) Nothing)
+nil_by (Some b.Address) = Some (Constant (OfPointer Workspaces) Nothing)
 nil_by _ = None
 
--- NIL as a pointer of the type
+-- NIL as a pointer of the type, or as an address
 abbrev pub nil : Table → Lowers
 nil t s = nil_by (base_at t s)
 

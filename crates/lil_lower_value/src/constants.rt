@@ -54,13 +54,14 @@ pub(crate) fn scalar(t: &TypeTable, sort: TypeId, word: u16, wanted: TypeId) -> 
     }
 }
 
-/// NIL as a pointer of a wanted type, None where that is no pointer type.
+/// NIL as a pointer of a wanted type, or as an address, None where that is neither a pointer type nor ADDRESS.
 #[tactic(auto, using(lil_resolved::specs::Forms::constant_is))]
 pub fn nil(t: &TypeTable, wanted: TypeId) -> Option<RExpr>
     ensures { option_map expression_of result ≡ spec.nil t.now wanted }
 {
     match base_at(t, wanted) {
         Some(RBase::Pointer(number)) => Some(RExpr::Constant(RBase::Pointer(number), 0)),
+        Some(RBase::Address) => Some(RExpr::Constant(RBase::Address, 0)),
         _ => None,
     }
 }

@@ -7,13 +7,13 @@ use Rattle.lil_base.specs.declared.fault.LimitKind.TheVariants as limit
 use Rattle.lil_base.specs.declared.fault.TrapAt.{TrapAt}
 use Rattle.lil_resolved.specs.Resolved.{Resolved}
 use Rattle.lil_resolved.specs.Shapes.{Shape, is_there, shape_at}
-use Rattle.lil_meaning.specs.Cells.{Root, Global, Object, Cells, targets_of, heap_words, loaded_at}
+use Rattle.lil_meaning.specs.Cells.{Root, Global, Object, Cells, targets_of, loaded_at}
 use Rattle.lil_meaning.specs.World.{World, all_closed}
-use Rattle.lil_meaning.specs.Items.{Item, Activation, Parked, Level, Phase, Going, Closing, Ended, Trapped, Source}
+use Rattle.lil_meaning.specs.Items.{Item, Activation, Workspace, Parked, Level, Phase, Going, Closing, Ended, Trapped, Source, heap_words}
 use Rattle.lil_meaning.specs.Steps.{next, owner_of, procedure_of, name_of, procedure_name}
 use Rattle.lil_mcode.specs.State.{Module, StackRegisters, Kept, State, stack_of, module_at}
 use Rattle.lil_match.specs.Running.{Finish, Running, Finished, TrappedBy, Limited, Run, mrun, running}
-use Rattle.lil_match.specs.Homes.{Owner, Own, Fixed, Free, Home, lives, Mem}
+use Rattle.lil_match.specs.Homes.{Owner, Own, Fixed, Free, Home, Extends, lives, Mem}
 use Rattle.lil_match.specs.Stutter.{stutter}
 use Rattle.lil_match.specs.Waits.{Frame, Stack, Setting, Quiet, Around, Ahead}
 
@@ -78,12 +78,16 @@ module _ (library : List Resolved) (loaded : List ℕ) (table : List Module) (ac
   EachComes low [] = Unit {0}
   EachComes low (b ∷ bs) = Comes low b × EachComes low bs
 
--- Objects lie above a limit, each with two words below it, and no two begin at one word. They take what lies above the limit.
-pub record IsHeap (base : Root → ℕ) (shape : Root → Shape) (objects : List Shape) (limit : ℕ) : Type 0 where
+-- Objects and workspaces lie above a limit, each with two words below it; no two objects begin at one word, nor do two workspaces. They take
+-- what lies above the limit.
+pub record IsHeap (base : Root → ℕ) (shape : Root → Shape) (addresses : List ℕ) (objects : List Shape) (workspaces : List Workspace) (limit : ℕ) : Type 0 where
   pub born : (o : ℕ) → shape (Object o) ≡ shape_at objects o
   pub above : (o : ℕ) → is_there (shape (Object o)) ≡ true → limit + 2 ≤ base (Object o)
   pub apart : (o p : ℕ) → is_there (shape (Object o)) ≡ true → is_there (shape (Object p)) ≡ true → base (Object o) ≡ base (Object p) → o ≡ p
-  pub rest : limit + heap_words objects ≡ 65535
+  pub known : length addresses ≡ length workspaces
+  pub clear : (w : ℕ) → w < length addresses → limit + 2 ≤ get_or addresses w 0
+  pub distinct : (w v : ℕ) → w < length addresses → v < length addresses → get_or addresses w 0 ≡ get_or addresses v 0 → w ≡ v
+  pub rest : limit + heap_words objects workspaces ≡ 65535
 
 -- no level waits: the running one is the first
 pub record IsFirst (waiting : List Level) (below : List Kept) : Type 0 where
@@ -127,9 +131,9 @@ module _ (ctx : Setting) where
 
   -- what stays while the place, the expression stack and the items change
   pub record IsShared (numbers : List ℕ) (cells : Cells) (activations' : List Activation) (parked : List Parked) (waiting : List Level) (objects : List Shape)
-      (modules : List Module) (kept below : List Kept) (marked : Bool) (store : List ℕ) (stack : StackRegisters) : Type 0 where
+      (workspaces : List Workspace) (modules : List Module) (kept below : List Kept) (marked : Bool) (store : List ℕ) (stack : StackRegisters) : Type 0 where
     pub mem : Mem h cells store
-    pub heap : IsHeap h.base h.shape objects st.limit
+    pub heap : IsHeap h.base h.shape h.workspaces objects workspaces st.limit
     pub program : IsProgram modules stack.running marked
     pub standing : Standing stack
     pub loaded_are : numbers ≡ loaded
@@ -139,7 +143,7 @@ module _ (ctx : Setting) where
     pub levels : IsFirst waiting below
 
   abbrev pub Shared : Source → State → Type 0
-  Shared s m = IsShared s.loaded s.cells s.activations s.parked s.waiting s.objects m.modules m.parked m.waiting m.marked m.store (stack_of m)
+  Shared s m = IsShared s.loaded s.cells s.activations s.parked s.waiting s.objects s.workspaces m.modules m.parked m.waiting m.marked m.store (stack_of m)
 
   -- with so many jumps owed
   pub record IsMatched (s : Source) (k : List Item) (m : State) (c : ℕ) : Type 0 where
@@ -172,8 +176,8 @@ module _ (ctx : Setting) where
 -- What is short at a limit, in a state of the source and in the next one: below the objects a body that is to run has no room, or below
 -- those of the next state the frame that runs, with an expression stack and its length, has none.
 abbrev pub Short : Stack → Source → Source → LimitKind → Type 0
-Short y s t limit.Stack = fits (65535 - heap_words s.objects) y.bodies ≡ false
-Short y s t limit.Store = fits (65518 - heap_words t.objects) (y.frame ∷ y.bodies) ≡ false
+Short y s t limit.Stack = fits (65535 - heap_words s.objects s.workspaces) y.bodies ≡ false
+Short y s t limit.Store = fits (65518 - heap_words t.objects t.workspaces) (y.frame ∷ y.bodies) ≡ false
 Short y s t _ = ⊥
 
 -- the machine met a limit, with the same world
@@ -189,13 +193,14 @@ pub record Fewer (y st : Stack) : Type 0 where
   pub all : (n : ℕ) → fits n (y.frame ∷ y.bodies) ≡ false → fits n (st.frame ∷ st.bodies) ≡ false
 
 -- what a step of the stack between two words may change: the words between them and their owners, but those that never change, and no root
--- that lives
+-- or workspace that lives
 pub record Touches (h h' : Home) (low high : ℕ) : Type 0 where
   pub owner : (a : ℕ) → (a < low) ⊎ (high ≤ a) → h'.owner a ≡ h.owner a
   pub shadow : (a : ℕ) → (a < low) ⊎ (high ≤ a) → h'.shadow a ≡ h.shadow a
   pub base : (r : Root) → lives h r ≡ true → h'.base r ≡ h.base r
   pub shape : (r : Root) → lives h r ≡ true → h'.shape r ≡ h.shape r
   pub targets : h'.targets ≡ h.targets
+  pub workspaces : Extends h'.workspaces h.workspaces
   pub fixed : (a : ℕ) → h.owner a ≡ Fixed → (h'.owner a ≡ Fixed) × (h'.shadow a ≡ h.shadow a)
 
 -- One step of the source, in so many steps of the machine, with so many jumps owed then, both within a budget, or else a limit. The world changes in

@@ -8,8 +8,8 @@ use Rattle.lil_base.specs.Words.{Cardinal, between}
 use Rattle.lil_base.specs.Sets.{set_word}
 use Rattle.lil_resolved.specs.Members.{no_members}
 use Rattle.lil_resolved.specs.MemberLaws.{word_none}
-use Rattle.lil_resolved.specs.Kinds.{Kind, OfWhole, OfTruth, OfCharacter, OfEnumeration, OfSet, OfPointer, OfRange, base_of, is_plain, alike, takes_value}
-use Rattle.lil_resolved.specs.Scalars.{Scalar, Character, ToObject, Nothing, within, scalar_word, ordinal_of, zero_of}
+use Rattle.lil_resolved.specs.Kinds.{Pointee, Objects, Workspaces, Kind, OfWhole, OfTruth, OfCharacter, OfEnumeration, OfSet, OfPointer, OfRange, base_of, is_plain, alike, takes_value}
+use Rattle.lil_resolved.specs.Scalars.{Scalar, Number, Truth, Character, SetOf, ToObject, ToWorkspace, Nothing, is_reference, within, scalar_word, ordinal_of, zero_of}
 use Rattle.lil_resolved.specs.Sound.{is_character, is_text}
 use Rattle.lil_resolved.specs.Shapes.{Shape, Absent, Word, Row, words, is_there, part_at, offset, shape_at}
 use Rattle.lil_meaning.specs.Cells.{Root, Global, Local, Object, Place, part_of, Cells, Under, under, rest_behind, at_rest, same_root, stored, alone, text_under}
@@ -33,6 +33,8 @@ pub record Home : Type 0 where
   pub shadow : ℕ → ℕ
   -- what pointers point to, by the numbers of their types
   pub targets : List Shape
+  -- where the workspaces begin, by their numbers
+  pub workspaces : List ℕ
 
 -- the first word of a place, and what lies there
 abbrev pub address : Home → Place → ℕ
@@ -41,14 +43,16 @@ address h p = h.base p.root + offset (h.shape p.root) p.path
 abbrev pub shape_there : Home → Place → Shape
 shape_there h p = part_at (h.shape p.root) p.path
 
--- the word of a scalar: of a reference to an object that object's first word, else its number
+-- the word of a scalar: of a reference the first word of that object or workspace, else its number
 abbrev pub word_for : Home → Scalar → ℕ
 word_for h (ToObject o) = h.base (Object o)
+word_for h (ToWorkspace w) = get_or h.workspaces w 0
 word_for h v = scalar_word v
 
--- a pointer leads to an object that is what its type points to
+-- a pointer leads to an object that is what its type points to, an address to a workspace
 abbrev pub Refers : Home → Kind → Scalar → Type 0
-Refers h (OfPointer n) (ToObject o) = (is_there (h.shape (Object o)) ≡ true) × (h.shape (Object o) ≡ shape_at h.targets n)
+Refers h (OfPointer (Objects n)) (ToObject o) = (is_there (h.shape (Object o)) ≡ true) × (h.shape (Object o) ≡ shape_at h.targets n)
+Refers h (OfPointer Workspaces) (ToWorkspace w) = w < length h.workspaces
 Refers h (OfRange base low high) v = Refers h base v
 Refers h _ _ = Unit {0}
 
@@ -58,21 +62,36 @@ pub record IsWord (h : Home) (k : Kind) (v : Scalar) (w : ℕ) : Type 0 where
   pub fits : within (base_of k) v ≡ true
   pub refers : Refers h k v
 
+-- the first has the same addresses, and may have more behind them
+abbrev pub Extends : (more addresses : List ℕ) → Type 0
+Extends more addresses = (w : ℕ) → w < length addresses → (w < length more) × (get_or more w 0 ≡ get_or addresses w 0)
+
+pub extends_self : (addresses : List ℕ) → Extends addresses addresses
+extends_self addresses w less = (less, refl)
+
 -- the roots that live, as far as a home tells
 abbrev pub lives : Home → Root → Bool
 lives h (Object o) = is_there (h.shape (Object o))
 lives h _ = true
 
 -- a value of a kind that has no references
+plain_value : (k : Kind) (v : Scalar) → is_plain k ≡ true → within k v ≡ true → is_reference v ≡ false
+plain_value (OfRange base low high) v plain e = plain_value base v plain (and_parts (within base v) (between low (ordinal_of v) high) e).0
+plain_value (OfPointer to) v plain e = cc
+plain_value (OfWhole t) (Number z) plain e = refl
+plain_value OfTruth (Truth b) plain e = refl
+plain_value OfCharacter (Character c) plain e = refl
+plain_value (OfEnumeration n) (Number z) plain e = refl
+plain_value OfSet (SetOf s) plain e = refl
+plain_value k v plain e = cc
+
+word_alone : (h : Home) (v : Scalar) → is_reference v ≡ false → word_for h v ≡ scalar_word v
+word_alone h (ToObject o) e = cc
+word_alone h (ToWorkspace w) e = cc
+word_alone h v e = refl
+
 pub plain_word : (h : Home) (k : Kind) (v : Scalar) → is_plain k ≡ true → within k v ≡ true → word_for h v ≡ scalar_word v
-plain_word h (OfRange base low high) v plain e = plain_word h base v plain (and_parts (within base v) (between low (ordinal_of v) high) e).0
-plain_word h (OfPointer n) v plain e = cc
-plain_word h OfTruth (ToObject o) plain e = cc
-plain_word h OfCharacter (ToObject o) plain e = cc
-plain_word h (OfWhole t) (ToObject o) plain e = cc
-plain_word h (OfEnumeration n) (ToObject o) plain e = cc
-plain_word h OfSet (ToObject o) plain e = cc
-plain_word h _ v plain e = refl
+plain_word h k v plain e = word_alone h v (plain_value k v plain e)
 
 pub plain_refers : (h : Home) (k : Kind) (v : Scalar) → is_plain k ≡ true → Refers h k v
 plain_refers h (OfRange base low high) v plain = plain_refers h base v plain
@@ -82,6 +101,8 @@ plain_refers h _ v plain = tt
 -- none points to nothing
 pub none_refers : (h : Home) (k : Kind) → Refers h k Nothing
 none_refers h (OfRange base low high) = none_refers h base
+none_refers h (OfPointer (Objects n)) = tt
+none_refers h (OfPointer Workspaces) = tt
 none_refers h _ = tt
 
 pub refers_base : (h : Home) (k : Kind) (v : Scalar) → Refers h k v → Refers h (base_of k) v
@@ -172,6 +193,8 @@ zero_fits _ = refl
 
 zero_refers : (h : Home) (k : Kind) → Refers h k (zero_of k)
 zero_refers h (OfRange base low high) = zero_refers h base
+zero_refers h (OfPointer (Objects n)) = tt
+zero_refers h (OfPointer Workspaces) = tt
 zero_refers h _ = tt
 
 zero_for : (h : Home) (k : Kind) → word_for h (zero_of k) ≡ scalar_word (zero_of k)
@@ -186,22 +209,31 @@ zero_is h k v w fresh none = record {
   refers = subst (Refers h k) (sym fresh) (zero_refers h k);
 }
 
--- homes that agree on the objects that live have the same words, and pointers lead to the same
+-- homes that agree on the objects that live and on the workspaces have the same words, and pointers lead to the same
 module _ (h x : Home) (base : (o : ℕ) → is_there (h.shape (Object o)) ≡ true → x.base (Object o) ≡ h.base (Object o)) (shape : (o : ℕ) → is_there (h.shape (Object o)) ≡ true → x.shape (Object o) ≡ h.shape (Object o))
-    (targets : x.targets ≡ h.targets) where
+    (targets : x.targets ≡ h.targets) (workspaces : Extends x.workspaces h.workspaces) where
+  pointer_kept : (to : Pointee) (v : Scalar) → within (OfPointer to) v ≡ true → Refers h (OfPointer to) v → word_for h v ≡ word_for x v
+  pointer_kept (Objects n) (ToObject o) e r = sym (base o r.0)
+  pointer_kept Workspaces (ToWorkspace w) e r = sym (workspaces w r).1
+  pointer_kept to Nothing e r = refl
+  pointer_kept to v e r = cc
+
+  plain_kept : (k : Kind) (v : Scalar) → is_plain k ≡ true → within k v ≡ true → word_for h v ≡ word_for x v
+  plain_kept k v plain e = plain_word h k v plain e ∙ sym (plain_word x k v plain e)
+
   pub word_kept : (k : Kind) (v : Scalar) → within k v ≡ true → Refers h k v → word_for h v ≡ word_for x v
   word_kept (OfRange under low high) v e r = word_kept under v (and_parts (within under v) (between low (ordinal_of v) high) e).0 r
-  word_kept (OfPointer n) (ToObject o) e r = sym (base o r.0)
-  word_kept OfTruth (ToObject o) e r = cc
-  word_kept OfCharacter (ToObject o) e r = cc
-  word_kept (OfWhole t) (ToObject o) e r = cc
-  word_kept (OfEnumeration n) (ToObject o) e r = cc
-  word_kept OfSet (ToObject o) e r = cc
-  word_kept _ v e r = refl
+  word_kept (OfPointer to) v e r = pointer_kept to v e r
+  word_kept (OfWhole t) v e r = plain_kept (OfWhole t) v refl e
+  word_kept OfTruth v e r = plain_kept OfTruth v refl e
+  word_kept OfCharacter v e r = plain_kept OfCharacter v refl e
+  word_kept (OfEnumeration n) v e r = plain_kept (OfEnumeration n) v refl e
+  word_kept OfSet v e r = plain_kept OfSet v refl e
 
   pub refers_kept : (k : Kind) (v : Scalar) → Refers h k v → Refers x k v
   refers_kept (OfRange under low high) v r = refers_kept under v r
-  refers_kept (OfPointer n) (ToObject o) r = (ap is_there (shape o r.0) ∙ r.0, shape o r.0 ∙ r.1 ∙ ap (λ (ts : List Shape). shape_at ts n) (sym targets))
+  refers_kept (OfPointer (Objects n)) (ToObject o) r = (ap is_there (shape o r.0) ∙ r.0, shape o r.0 ∙ r.1 ∙ ap (λ (ts : List Shape). shape_at ts n) (sym targets))
+  refers_kept (OfPointer Workspaces) (ToWorkspace w) r = (workspaces w r).0
   refers_kept _ v r = tt
 
   pub is_word_kept : (k : Kind) (v : Scalar) (w : ℕ) → IsWord h k v w → IsWord x k v w
@@ -416,7 +448,7 @@ mem_shadowed h cells store a w own small mem = record {
   holds = λ r q k e.
       let old = mem.holds r q k e in
       let other : h.base r + offset (h.shape r) q ≡ a → ⊥ = λ at. own_of_none r (sym (scalar_owned h cells store r q k mem e).0 ∙ ap h.owner at ∙ own) in
-      is_word_kept h (shadowed h a w) (λ o l. refl) (λ o l. refl) refl k (cells r q) (get_or (set store a w) (h.base r + offset (h.shape r) q) 0)
+      is_word_kept h (shadowed h a w) (λ o l. refl) (λ o l. refl) refl (extends_self h.workspaces) k (cells r q) (get_or (set store a w) (h.base r + offset (h.shape r) q) 0)
       (record { word = get_or-set_other store a (h.base r + offset (h.shape r) q) w 0 other ∙ old.word; fits = old.fits; refers = old.refers });
   kept = λ b mine. by b (mem.kept b mine) (cases_eq a b);
   fixed = λ b mine. by b (mem.fixed b mine) (cases_eq a b);

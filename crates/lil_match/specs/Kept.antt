@@ -3,16 +3,16 @@ use Rattle.std.proofs.Common.{◌≡◌, ℕ, suc, ◌+◌, ◌<◌, ◌≤◌, 
 use Rattle.std.proofs.lemmas.Bool.{ne_eqb}
 use Rattle.std.specs.List.{list_any}
 use Rattle.std.specs.Prelude.{Bool}
-use Rattle.lil_resolved.specs.Kinds.{Kind, OfCharacter, OfSet, numbers}
+use Rattle.lil_resolved.specs.Kinds.{Workspaces, Kind, OfCharacter, OfSet, OfPointer, numbers}
 use Rattle.lil_resolved.specs.Scalars.{Scalar, within}
 use Rattle.lil_resolved.specs.Resolved.{Resolved}
 use Rattle.lil_resolved.specs.Shapes.{Shape, Absent, Word, Row, is_there, part_at, offset}
 use Rattle.lil_meaning.specs.Cells.{Root, Global, Local, Object, Place}
-use Rattle.lil_meaning.specs.Items.{Datum, Scalars, Places, Wholes, Opens, Texts, IndexAt, StoreAt, CopyFrom, ChangeAt, RightOf, MemberOf, MembersFrom, MembersTo, MemberAt, Pass, PassArray, LimitOf, Passing, Looping, Turns, Holding, End, Item, Value, Fill, Perform, Activation, Source}
+use Rattle.lil_meaning.specs.Items.{Datum, Scalars, Places, Wholes, Opens, Texts, IndexAt, StoreAt, CopyFrom, ChangeAt, RightOf, MemberOf, MembersFrom, MembersTo, MemberAt, AllocateAt, Pass, PassArray, LimitOf, Passing, Looping, Turns, Holding, End, Item, Value, Fill, Perform, Activation, Source}
 use Rattle.lil_mcode.specs.State.{Module, StackRegisters, State, stack_of}
 use Rattle.lil_table.specs.Rows.{Layout, holding, Access, OnTop, loop_place}
 use Rattle.lil_match.specs.Parts.{no}
-use Rattle.lil_match.specs.Homes.{word_for, word_kept, refers_kept, Refers, plain_refers, takes_plain, lives, address, shape_there, Owner, Own, Fixed, own_fixed, Home, mem_shadowed, shadowed, replaced}
+use Rattle.lil_match.specs.Homes.{word_for, word_kept, refers_kept, Refers, plain_refers, takes_plain, Extends, extends_self, lives, address, shape_there, Owner, Own, Fixed, own_fixed, Home, mem_shadowed, shadowed, replaced}
 use Rattle.lil_match.specs.Waits.{Mode, Quiet, ValueOf, AtPlace, Onward, Part, Around, outside, Frame, frames_of, Setting, at_home, moved, inside_with, with_frames, DatumOn, DataOn, sees, is_of, TurnsTask, Reaches, HasPlace, HasSet, needs, Behind, RowsOf, Rows}
 use Rattle.lil_match.specs.Known.{known_kept, each_known, each_comes}
 use Rattle.lil_match.specs.Goes.{OwnWords, Stands, EachComes, Standing, Shared, Touches}
@@ -23,6 +23,7 @@ pub record Keeps (h x : Home) (fs : List Frame) (low top : ℕ) : Type 0 where
   pub base : (r : Root) → sees fs r ≡ true → lives h r ≡ true → x.base r ≡ h.base r
   pub shape : (r : Root) → sees fs r ≡ true → lives h r ≡ true → x.shape r ≡ h.shape r
   pub targets : x.targets ≡ h.targets
+  pub workspaces : Extends x.workspaces h.workspaces
 
 -- frames whose own words but their marks lie from a place on
 abbrev pub EachAbove : ℕ → List Frame → Type 0
@@ -44,11 +45,12 @@ keeps_under h x f fs low top less le keeps = record {
   base = λ r e. keeps.base r (sees_more f fs r e);
   shape = λ r e. keeps.shape r (sees_more f fs r e);
   targets = keeps.targets;
+  workspaces = keeps.workspaces;
 }
 
 pub keeps_lower : (h x : Home) (fs : List Frame) (low top less : ℕ) → less ≤ top → Keeps h x fs low top → Keeps h x fs low less
 keeps_lower h x fs low top less le keeps =
-    record { shadow = λ a from below. keeps.shadow a from (omega (arith, le, below)); base = keeps.base; shape = keeps.shape; targets = keeps.targets }
+    record { shadow = λ a from below. keeps.shadow a from (omega (arith, le, below)); base = keeps.base; shape = keeps.shape; targets = keeps.targets; workspaces = keeps.workspaces }
 
 -- where something lies, its root lives
 root_there : (t : Shape) (p : List ℕ) → is_there (part_at t p) ≡ true → is_there t ≡ true
@@ -86,10 +88,10 @@ module _ (ctx : Setting) (x : Home) (n low top : ℕ) (keeps : Keeps ctx.home x 
 
   -- the word of a value, and what it refers to
   word : (k : Kind) (v : Scalar) → within k v ≡ true → Refers h k v → word_for h v ≡ word_for x v
-  word = word_kept h x (λ o e. keeps.base (Object o) refl e) (λ o e. keeps.shape (Object o) refl e) keeps.targets
+  word = word_kept h x (λ o e. keeps.base (Object o) refl e) (λ o e. keeps.shape (Object o) refl e) keeps.targets keeps.workspaces
 
   refers : (k : Kind) (v : Scalar) → Refers h k v → Refers x k v
-  refers = refers_kept h x (λ o e. keeps.base (Object o) refl e) (λ o e. keeps.shape (Object o) refl e) keeps.targets
+  refers = refers_kept h x (λ o e. keeps.base (Object o) refl e) (λ o e. keeps.shape (Object o) refl e) keeps.targets keeps.workspaces
 
   set_kept : (u : Scalar) (stack below : List ℕ) → HasSet ctx u stack below → HasSet (moved ctx x n) u stack below
   set_kept u stack below r = record { fits = r.fits; is = r.is ∙ ap (λ (w : ℕ). w ∷ below) (word OfSet u r.fits tt) }
@@ -138,6 +140,19 @@ module _ (ctx : Setting) (x : Home) (n low top : ℕ) (keeps : Keeps ctx.home x 
           element = r.element;
           takes = r.takes;
           has = place_kept OnTop place (Word OfSet) stack [] r.has;
+          tested = r.tested;
+          end = r.end;
+          test = r.test;
+          by = r.by;
+          within = r.within;
+        };
+        onto = refl;
+      }
+  met (ValueOf j) (Fill (AllocateAt back place)) p stack a r =
+      record {
+        part = record {
+          takes = r.takes;
+          has = place_kept OnTop place (Word (OfPointer Workspaces)) stack [] r.has;
           tested = r.tested;
           end = r.end;
           test = r.test;
@@ -277,6 +292,7 @@ keeps_around ctx before x shape n low top less is le keeps =
       base = λ r e. inner.base r (same r ∙ e);
       shape = λ r e. inner.shape r (same r ∙ e);
       targets = inner.targets;
+      workspaces = inner.workspaces;
     }
 
 -- what the rows of items give in another home
@@ -571,6 +587,7 @@ module _ (ctx : Setting) (s : Source) (m : State) (shared : Shared ctx s m) (i w
     base = λ r e. refl;
     shape = λ r e. refl;
     targets = refl;
+    workspaces = extends_self h.workspaces;
     fixed = fixed_kept;
   }
 
@@ -584,5 +601,6 @@ module _ (ctx : Setting) (s : Source) (m : State) (shared : Shared ctx s m) (i w
         base = λ q e f. refl;
         shape = λ q e f. refl;
         targets = refl;
+        workspaces = extends_self h.workspaces;
       })
       r

@@ -4,8 +4,7 @@ use Rattle.std.specs.Prelude.{slice_get, nat_le, ◌&&◌}
 use Rattle.lil_base.specs.declared.fault.LimitKind.{LimitKind}
 use Rattle.lil_base.specs.declared.fault.LimitKind.TheVariants as limit
 use Rattle.lil_resolved.specs.Shapes.{Shape}
-use Rattle.lil_meaning.specs.Cells.{heap_words}
-use Rattle.lil_meaning.specs.Items.{Item, Going, Source}
+use Rattle.lil_meaning.specs.Items.{Item, Going, Source, heap_words}
 use Rattle.lil_meaning.specs.Steps.{next}
 use Rattle.lil_mcode.specs.State.{State, StackRegisters, stack_of}
 use Rattle.lil_table.specs.Rows.{Layout, holding}
@@ -104,7 +103,7 @@ module _ (ctx : Setting) (m : Layout) (alike : IsAlike ctx.stack.frame.layout m)
     where
       by : (kind : LimitKind) → Short ctx.stack s t kind → Short (with_layout ctx m).stack s t kind
       by limit.Stack e = e
-      by limit.Store e = frame_laid (65518 - heap_words t.objects) ctx.stack.bodies e
+      by limit.Store e = frame_laid (65518 - heap_words t.objects t.workspaces) ctx.stack.bodies e
       by _ e = e
 
   -- a step from one is a step from the other

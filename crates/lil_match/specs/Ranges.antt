@@ -9,8 +9,8 @@ use Rattle.lil_base.specs.Laws.{in_range, bounds}
 use Rattle.lil_base.specs.Sets as sets
 use Rattle.lil_base.specs.SetLaws.{set_below}
 use Rattle.lil_resolved.specs.MemberLaws.{word_of_set}
-use Rattle.lil_resolved.specs.Kinds.{Kind, OfWhole, OfTruth, OfCharacter, OfEnumeration, OfSet, OfPointer, OfRange, base_of, is_base, is_ordinal, is_plain, same_pointer, takes_value, compared_as, lesser, larger, least, greatest}
-use Rattle.lil_resolved.specs.Scalars.{Scalar, Number, Truth, Character, SetOf, ToObject, Nothing, within, scalar_of, ordinal_of, value_with}
+use Rattle.lil_resolved.specs.Kinds.{Pointee, Objects, Workspaces, Kind, OfWhole, OfTruth, OfCharacter, OfEnumeration, OfSet, OfPointer, OfRange, base_of, is_base, is_ordinal, is_plain, same_pointee, same_pointer, takes_value, compared_as, lesser, larger, least, greatest}
+use Rattle.lil_resolved.specs.Scalars.{Scalar, Number, Truth, Character, SetOf, ToObject, ToWorkspace, Nothing, within, scalar_of, ordinal_of, value_with}
 
 -- a number is one of the kind's
 abbrev pub has : Kind → ℤ → Bool
@@ -142,8 +142,9 @@ fits_has OfTruth (Truth false) h = refl
 fits_has OfCharacter (Character c) h = let e = leb-true c 255 h in in_range (pos 0) (pos c) (pos 255) (omega (arith, ints)) (omega (arith, ints, e))
 fits_has (OfEnumeration n) (Number z) h = h
 fits_has OfSet (SetOf s) h = in_range (pos 0) (pos (sets.set_word s)) (pos 65535) (omega (arith, ints)) (omega (arith, ints, set_below s))
-fits_has (OfPointer n) (ToObject o) h = refl
-fits_has (OfPointer n) Nothing h = refl
+fits_has (OfPointer to) (ToObject o) h = refl
+fits_has (OfPointer to) (ToWorkspace w) h = refl
+fits_has (OfPointer to) Nothing h = refl
 fits_has (OfRange base low high) v h =
     let p = and_parts (within base v) (between low (ordinal_of v) high) h in
     has_range base low high (ordinal_of v) ∙ and_from (between low (ordinal_of v) high) (has base (ordinal_of v)) p.1 (fits_has base v p.0)
@@ -165,9 +166,14 @@ ordinal_plain (OfPointer n) h = cc
 ordinal_plain (OfRange part low high) h = cc
 ordinal_plain _ h = refl
 
--- two kinds of pointers to objects of one type
-pub pointers_same : (k j : Kind) → same_pointer k j ≡ true → (n : ℕ) × (k ≡ OfPointer n) × (j ≡ OfPointer n)
-pointers_same (OfPointer m) (OfPointer n) e = (n, ap OfPointer (eqb-true m n e), refl)
+-- two kinds of pointers that lead to the same
+same_is : (to from : Pointee) → same_pointee to from ≡ true → to ≡ from
+same_is (Objects m) (Objects n) e = ap Objects (eqb-true m n e)
+same_is Workspaces Workspaces e = refl
+same_is to from e = cc
+
+pub pointers_same : (k j : Kind) → same_pointer k j ≡ true → (to : Pointee) × (k ≡ OfPointer to) × (j ≡ OfPointer to)
+pointers_same (OfPointer to) (OfPointer from) e = (from, ap OfPointer (same_is to from e), refl)
 pointers_same k j e = cc
 
 -- its numbers are numbers of the type as which its words are compared

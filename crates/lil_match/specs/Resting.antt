@@ -54,6 +54,7 @@ rests_kept ctx x y touch same p r rests = record {
         base = λ q e. touch.base q;
         shape = λ q e. touch.shape q;
         targets = touch.targets;
+        workspaces = touch.workspaces;
       })
       rests.rows;
   apart = ⊎_elim (λ (l : d.limit ≤ ctx.stack.base). inl (omega (arith, l, same.0))) (λ (u : ctx.stack.limit ≤ d.base). inr (omega (arith, u, same.1))) rests.apart;

@@ -19,7 +19,7 @@ use Rattle.lil_mcode.specs.Table.{mstep, act, fetched, performed, going, push_ro
 use Rattle.lil_table.specs.Rows.{IsAt, ExpressionAt}
 use Rattle.lil_match.specs.Running.{Run, mrun, running, react, advanced}
 use Rattle.lil_match.specs.Parts.{yes}
-use Rattle.lil_match.specs.Homes.{Home, lives, Mem}
+use Rattle.lil_match.specs.Homes.{Home, extends_self, lives, Mem}
 use Rattle.lil_match.specs.Goes.{IsProgram, Shared, GoesOn, Lands, IsStill, Touches, Short, IsFull, Fewer, Goes}
 use Rattle.lil_match.specs.Stutter.{stutter}
 use Rattle.lil_match.specs.Waits.{Stack, Setting, frame_of, laid_out, at_home, Mode, Quiet, ValueOf, Around, Reach, Jumps, AfterJumps, Rows, Ahead, Waiting}
@@ -37,7 +37,7 @@ no_more y = record { bodies = λ n e. e; all = λ n e. e }
 
 -- a home that stays
 pub untouched : (h : Home) (low high : ℕ) → Touches h h low high
-untouched h low high = record { owner = λ a o. refl; shadow = λ a o. refl; base = λ r e. refl; shape = λ r e. refl; targets = refl; fixed = λ a e. (e, refl) }
+untouched h low high = record { owner = λ a o. refl; shadow = λ a o. refl; base = λ r e. refl; shape = λ r e. refl; targets = refl; workspaces = extends_self h.workspaces; fixed = λ a e. (e, refl) }
 
 -- what lives stays
 live_on : (h g : Home) (low high : ℕ) → Touches h g low high → (r : Root) → lives h r ≡ true → lives g r ≡ true
@@ -52,6 +52,7 @@ touched h g i low high first second = record {
   base = λ r e. second.base r (live_on h g low high first r e) ∙ first.base r e;
   shape = λ r e. second.shape r (live_on h g low high first r e) ∙ first.shape r e;
   targets = second.targets ∙ first.targets;
+  workspaces = λ w less. let one = first.workspaces w less in let two = second.workspaces w one.0 in (two.0, two.1 ∙ one.1);
   fixed = λ a e. let one = first.fixed a e in let two = second.fixed a one.0 in (two.0, two.1 ∙ one.1);
 }
 

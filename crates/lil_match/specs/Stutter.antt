@@ -1,7 +1,7 @@
 -- How long items can stutter: a count that falls at each step of the source that takes no step of the machine.
 use Rattle.std.proofs.Common.{ℕ, ◌+◌, List, [], ◌∷◌}
-use Rattle.lil_resolved.specs.Resolved.{Designator, Variable, Held, Field, Element, Follow, Expression, Constant, Taken, One, Two, Short, Apply, With, WithSpan, Argument, ByValue, OfArray, OfText, Statement, Assign, Copy, Text, Change, Member, New, Request, If, Case, While, Repeat, Loop, Exit, Halt, Return, For, Inside, Statements, Empty, Then}
-use Rattle.lil_meaning.specs.Items.{Hole, Get, Part, IndexBy, IndexAt, Pointed, SetTo, StoreAt, CopyTo, CopyFrom, TextTo, NewAt, ChangeBy, ChangeAt, OneOf, LeftOf, RightOf, ShortOf, ApplyTo, WithMember, MemberOf, WithMembers, MembersFrom, MembersTo, MemberBy, MemberAt, Pass, PassArray, Choose, Turn, Again, Pick, Hold, StartOf, LimitOf, Task, Do, Passing, Until, Looping, Turns, Holding, End, Item, Value, Evaluate, PlaceOf, Fill, Perform}
+use Rattle.lil_resolved.specs.Resolved.{Designator, Variable, Held, Field, Element, Follow, Expression, Constant, Taken, One, Two, Short, Apply, With, WithSpan, Argument, ByValue, OfArray, OfText, Statement, Assign, Copy, Text, Change, Member, New, Allocate, Request, If, Case, While, Repeat, Loop, Exit, Halt, Return, For, Inside, Statements, Empty, Then}
+use Rattle.lil_meaning.specs.Items.{Hole, Get, Part, IndexBy, IndexAt, Pointed, SetTo, StoreAt, CopyTo, CopyFrom, TextTo, NewAt, AllocateBy, AllocateAt, ChangeBy, ChangeAt, OneOf, LeftOf, RightOf, ShortOf, ApplyTo, WithMember, MemberOf, WithMembers, MembersFrom, MembersTo, MemberBy, MemberAt, Pass, PassArray, Choose, Turn, Again, Pick, Hold, StartOf, LimitOf, Task, Do, Passing, Until, Looping, Turns, Holding, End, Item, Value, Evaluate, PlaceOf, Fill, Perform}
 
 abbrev mutual
   pub place_stutter : Designator → ℕ
@@ -35,6 +35,7 @@ abbrev mutual
   statement_stutter (Assign d k e) = 1 + place_stutter d + value_stutter e
   statement_stutter (Text d cs) = 1 + place_stutter d
   statement_stutter (New d n) = 1 + place_stutter d
+  statement_stutter (Allocate back d e) = 1 + place_stutter d + value_stutter e
   statement_stutter (Inside d body) = 1 + place_stutter d
   statement_stutter (Copy d from) = 1 + place_stutter d + place_stutter from
   statement_stutter (Change down d k e) = 1 + place_stutter d + value_stutter e
@@ -66,6 +67,8 @@ hole_stutter (CopyFrom place) = 0
 hole_stutter (TextTo cs) = 0
 hole_stutter Pointed = 0
 hole_stutter (NewAt n) = 0
+hole_stutter (AllocateBy back e) = value_stutter e
+hole_stutter (AllocateAt back place) = 0
 hole_stutter (PassArray r high done left) = passing_stutter left
 hole_stutter (Hold body) = 0
 hole_stutter (ChangeBy down k e) = value_stutter e

@@ -3,22 +3,22 @@
 use Rattle.std.proofs.Common.{◌≡◌, ℕ, zero, suc, ◌+◌, ◌-◌, ◌%◌, ◌<◌, ◌≤◌, ◌⊎◌, true, false, Some, None, List, [], ◌∷◌, ◌++◌, length, map, Bool}
 use Rattle.std.specs.Prelude.{ℤ, ◌+ℤ◌, Option, ◌==◌}
 use Rattle.std.specs.List.{list_any}
-use Rattle.lil_base.specs.Words.{between, word_of}
+use Rattle.lil_base.specs.Words.{Cardinal, between, word_of}
 use Rattle.lil_base.specs.declared.operator.OneOp.{OneOp}
 use Rattle.lil_base.specs.declared.operator.TwoOp.{TwoOp}
-use Rattle.lil_resolved.specs.Kinds.{Kind, OfWhole, OfTruth, OfCharacter, OfSet, OfPointer, base_of, is_base, is_plain, is_element, takes_value, stores_value, least, greatest, numbers}
+use Rattle.lil_resolved.specs.Kinds.{Objects, Workspaces, Kind, OfWhole, OfTruth, OfCharacter, OfSet, OfPointer, base_of, is_base, is_plain, is_element, takes_value, stores_value, least, greatest, numbers}
 use Rattle.lil_resolved.specs.Scalars.{Scalar, within, scalar_word}
 use Rattle.lil_resolved.specs.Resolved.{Designator, Function, Expression, Argument, Statement, If, Case, While, Repeat, Loop, Statements, Arms, Resolved, kind_of, is_relation, result_kind, right_kind, function_kind, counted_as, shape_of}
 use Rattle.lil_resolved.specs.Depth.{place_depth, depth, function_depth}
 use Rattle.lil_resolved.specs.Sound.{takes_one, takes_two, takes_function, Parameter, Single, Characters, request_parameters, parameter_of}
 use Rattle.lil_resolved.specs.Shapes.{Shape, Word, Row, words, is_there, part_at, offset, element_of, shape_at}
 use Rattle.lil_meaning.specs.Cells.{Root, Local, Place}
-use Rattle.lil_meaning.specs.Items.{Datum, Scalars, Places, Wholes, Opens, Texts, Get, Part as PartOf, IndexBy, IndexAt, Pointed, SetTo, StoreAt, CopyTo, CopyFrom, TextTo, NewAt, ChangeBy, ChangeAt, OneOf, LeftOf, RightOf, ShortOf, ApplyTo, WithMember, MemberOf, WithMembers, MembersFrom, MembersTo, MemberBy, MemberAt, Pass, PassArray, Choose, Turn, Again, Pick, Hold, StartOf, LimitOf, Do, Passing, Until, Looping, Turns, Holding, End, Item, Value, Evaluate, PlaceOf, Fill, Perform, Activation, Parked}
+use Rattle.lil_meaning.specs.Items.{Datum, Scalars, Places, Wholes, Opens, Texts, Get, Part as PartOf, IndexBy, IndexAt, Pointed, SetTo, StoreAt, CopyTo, CopyFrom, TextTo, NewAt, AllocateBy, AllocateAt, ChangeBy, ChangeAt, OneOf, LeftOf, RightOf, ShortOf, ApplyTo, WithMember, MemberOf, WithMembers, MembersFrom, MembersTo, MemberBy, MemberAt, Pass, PassArray, Choose, Turn, Again, Pick, Hold, StartOf, LimitOf, Do, Passing, Until, Looping, Turns, Holding, End, Item, Value, Evaluate, PlaceOf, Fill, Perform, Activation, Parked}
 use Rattle.lil_meaning.specs.Steps.{turns}
 use Rattle.lil_asm.specs.declared.instr.Instr.TheVariants.{Liw, Lag, Slw, Dup, Spn, Mov, Mvz, Nlt, Ixc, Ent, Rtn, Jmp, Alc, Svc}
 use Rattle.lil_mcode.specs.State.{Module, Kept, body_entry}
 use Rattle.lil_asm.specs.Requests.{request_words}
-use Rattle.lil_table.specs.Rows.{Layout, holding, exactly, HasText, text_words, arguments_words, IsAt, InstrsAt, one_code, two_code, test_code, function_code, Access, InData, OnTop, Behind as Past, further, access_of, address_code, load_code, ready_code, readied, held, store_code, again_code, held_twice, change_code, member_code, PlaceAt, ExpressionAt, WholeRow, ValueRow, ArgumentsAt, StatementAt, BodyAt, TurnsRow, RoundRow, loop_place, short_code}
+use Rattle.lil_table.specs.Rows.{Layout, holding, exactly, HasText, text_words, arguments_words, IsAt, InstrsAt, one_code, two_code, test_code, function_code, Access, InData, OnTop, Behind as Past, further, access_of, address_code, allocate_code, load_code, ready_code, readied, held, store_code, again_code, held_twice, change_code, member_code, PlaceAt, ExpressionAt, WholeRow, ValueRow, ArgumentsAt, StatementAt, BodyAt, TurnsRow, RoundRow, loop_place, short_code}
 use Rattle.lil_match.specs.Homes.{word_for, Refers, Home, address, shape_there}
 
 -- whether a parameter and a datum are open arrays
@@ -278,7 +278,7 @@ module _ (frame : Frame) where
   -- the pointer at the place is followed
   pub record PointedPart (b : Access) (t : Shape) (p : ℕ) (stack : List ℕ) : Type 0 where
     pub number : ℕ
-    pub typed : t ≡ Word (OfPointer number)
+    pub typed : t ≡ Word (OfPointer (Objects number))
     pub there : is_there (shape_at l.scope.targets number) ≡ true
     pub loaded : ℕ
     pub end : ℕ
@@ -288,13 +288,26 @@ module _ (frame : Frame) where
 
   -- the pointer at the place gets an object
   pub record NewPart (b : Access) (t : Shape) (n p : ℕ) (stack : List ℕ) : Type 0 where
-    pub typed : t ≡ Word (OfPointer n)
+    pub typed : t ≡ Word (OfPointer (Objects n))
     pub there : is_there (shape_at l.scope.targets n) ≡ true
     pub empty : stack ≡ []
     pub start : ℕ
     pub end : ℕ
     pub address : InstrsAt own.code (address_code b) p start
     pub by : InstrsAt own.code (Liw (words (shape_at l.scope.targets n)) ∷ Alc ∷ []) start end
+    pub within : end < length own.code
+
+  -- the number of words of a workspace is to come
+  pub record AllocateByPart (b : Access) (t : Shape) (back : Bool) (e : Expression) (p : ℕ) (stack : List ℕ) : Type 0 where
+    pub typed : t ≡ Word (OfPointer Workspaces)
+    pub empty : stack ≡ []
+    pub takes : takes_value (OfWhole Cardinal) (kind_of e) ≡ true
+    pub start : ℕ
+    pub middle : ℕ
+    pub end : ℕ
+    pub address : InstrsAt own.code (address_code b) p start
+    pub value : ValueRow l own.code 1 e (OfWhole Cardinal) start middle
+    pub by : InstrsAt own.code (allocate_code back) middle end
     pub within : end < length own.code
 
   -- the index of an element is to come
@@ -645,6 +658,16 @@ module _ (ctx : Setting) where
     pub by : IsAt own.code tested (member_code out) end
     pub within : end < length own.code
 
+  -- the number of words of a workspace is there
+  pub record AllocateAtPart (j : Kind) (back : Bool) (place : Place) (p : ℕ) (stack : List ℕ) : Type 0 where
+    pub takes : takes_value (OfWhole Cardinal) j ≡ true
+    pub has : HasPlace OnTop place (Word (OfPointer Workspaces)) stack []
+    pub tested : ℕ
+    pub end : ℕ
+    pub test : InstrsAt own.code (test_code (OfWhole Cardinal) j) p tested
+    pub by : InstrsAt own.code (allocate_code back) tested end
+    pub within : end < length own.code
+
   -- the number that INC or DEC takes is there
   pub record ChangePart (j : Kind) (down : Bool) (place : Place) (k : Kind) (p : ℕ) (stack : List ℕ) : Type 0 where
     pub same : j ≡ OfWhole (counted_as k)
@@ -729,6 +752,7 @@ module _ (ctx : Setting) where
   needs (AtPlace b t) (Fill (IndexBy k e)) p stack a = part (IndexByPart active b t k e p stack) (λ r. on (AtPlace OnTop (element_of t)) r.end stack)
   needs (AtPlace b t) (Fill Pointed) p stack a = part (PointedPart active b t p stack) (λ r. on (AtPlace OnTop (shape_at l.scope.targets r.number)) r.end stack)
   needs (AtPlace b t) (Fill (NewAt n)) p stack a = part (NewPart active b t n p stack) (λ r. on Quiet r.end [])
+  needs (AtPlace b t) (Fill (AllocateBy back e)) p stack a = part (AllocateByPart active b t back e p stack) (λ r. on Quiet r.end [])
   needs (AtPlace b t) (Fill (SetTo k e)) p stack a = part (SetPart active b t k e p stack) (λ r. on Quiet r.end [])
   needs (AtPlace b t) (Fill (CopyTo from)) p stack a = part (CopyToPart active b t from p stack) (λ r. on Quiet r.end [])
   needs (AtPlace b t) (Fill (CopyFrom to)) p stack a = part (CopyFromPart b t to p stack) (λ r. on Quiet r.end [])
@@ -738,6 +762,7 @@ module _ (ctx : Setting) where
   needs (AtPlace b t) (Fill (ChangeBy down k e)) p stack a = part (ChangeByPart active b t down k e p stack) (λ r. on Quiet r.end [])
   needs (AtPlace b t) (Fill (MemberBy out k e)) p stack a = part (MemberByPart active b t out k e p stack) (λ r. on Quiet r.end [])
   needs (ValueOf j) (Fill (MemberAt out place k)) p stack a = part (MemberAtPart j out place k p stack) (λ r. on Quiet r.end [])
+  needs (ValueOf j) (Fill (AllocateAt back place)) p stack a = part (AllocateAtPart j back place p stack) (λ r. on Quiet r.end [])
   needs (ValueOf j) (Fill (WithMember k e)) p stack a = part (WithPart active j k e p stack) (λ r. on (ValueOf OfSet) r.end stack)
   needs (ValueOf j) (Fill (MemberOf u k)) p stack a = part (MemberPart j u k p stack) (λ r. on (ValueOf OfSet) r.end r.below)
   needs (ValueOf j) (Fill (WithMembers k e f)) p stack a = part (WithsPart active j k e f p stack) (λ r. on (ValueOf OfSet) r.end stack)

@@ -76,9 +76,9 @@ abbrev pub object_place : ℕ → Place
 object_place o = record { root = Object o; path = [] }
 
 -- the words that objects take: their own, and two more each
-abbrev pub heap_words : List Shape → ℕ
-heap_words [] = 0
-heap_words (t ∷ ts) = 2 + words t + heap_words ts
+abbrev pub object_words : List Shape → ℕ
+object_words [] = 0
+object_words (t ∷ ts) = 2 + words t + object_words ts
 
 -- the module that is loaded with this number, from 1, by its number in the library
 abbrev pub loaded_at : List Resolved → List ℕ → ℕ → Option Resolved

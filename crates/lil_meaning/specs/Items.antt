@@ -1,5 +1,5 @@
 -- What is left to do. Where an item has a hole, it stands as · here.
-use Rattle.std.specs.Prelude.{ℕ, ℤ, Bool, List, ◌∷◌, Option}
+use Rattle.std.specs.Prelude.{ℕ, ◌+◌, ℤ, Bool, List, [], ◌∷◌, Option}
 use Rattle.lil_base.specs.declared.fault.TrapAt.{TrapAt}
 use Rattle.lil_base.specs.declared.operator.OneOp.{OneOp}
 use Rattle.lil_base.specs.declared.operator.TwoOp.{TwoOp}
@@ -7,7 +7,7 @@ use Rattle.lil_resolved.specs.Kinds.{Kind}
 use Rattle.lil_resolved.specs.Scalars.{Scalar}
 use Rattle.lil_resolved.specs.Resolved.{Designator, Function, Expression, Argument, Statement, Statements, Empty, Then, Arms}
 use Rattle.lil_resolved.specs.Shapes.{Shape}
-use Rattle.lil_meaning.specs.Cells.{Cells, Place, Under}
+use Rattle.lil_meaning.specs.Cells.{Cells, Place, Under, object_words}
 use Rattle.lil_meaning.specs.World.{World}
 
 -- what stands in a hole or is an argument: a scalar, a place, all scalars under a place, the place of an open array with the number of its
@@ -43,6 +43,10 @@ pub data Hole : Type 0 where
   TextTo : (cs : List ℕ) → Hole
   -- a new object for the pointer at the place ·, of the type with this number
   NewAt : (n : ℕ) → Hole
+  -- a workspace of e words for the address at the place ·, or it is given back
+  AllocateBy : (back : Bool) (e : Expression) → Hole
+  -- a workspace of · words for the address at the place, or it is given back
+  AllocateAt : (back : Bool) (p : Place) → Hole
   -- the number of the place ·, of this kind, grows or falls by e
   ChangeBy : (down : Bool) (k : Kind) (e : Expression) → Hole
   -- the number at the place grows or falls by ·
@@ -137,6 +141,15 @@ pub record Workspace : Type 0 where
   pub size : ℕ
   pub carries : Option ℕ
 
+-- the words that workspaces take: their own, and two more each
+abbrev pub workspace_words : List Workspace → ℕ
+workspace_words [] = 0
+workspace_words (w ∷ ws) = 2 + w.size + workspace_words ws
+
+-- the words that objects and workspaces take
+abbrev pub heap_words : List Shape → List Workspace → ℕ
+heap_words ts ws = object_words ts + workspace_words ws
+
 -- a coroutine that doesn't run
 pub record Parked : Type 0 where
   pub number : ℕ
@@ -144,13 +157,14 @@ pub record Parked : Type 0 where
   pub items : List Item
 
 -- A level that waits for the end of the next one: the coroutine that called it, with what that has left to do, the place that takes the
--- status, and how many modules and objects there were.
+-- status, and how many modules, objects and workspaces there were.
 pub record Level : Type 0 where
   pub running : ℕ
   pub items : List Item
   pub status : Place
   pub loaded : ℕ
   pub objects : ℕ
+  pub workspaces : ℕ
 
 pub data Phase : Type 0 where
   Going : Phase

@@ -13,12 +13,12 @@ use Rattle.lil_base.specs.declared.operator.TwoOp.{TwoOp}
 use Rattle.lil_base.specs.declared.operator.TwoOp.TheVariants.{Equal, Unequal, Less, AtMost, Greater, AtLeast, In, Plus, Minus, Times, Slash, Div, Mod}
 use Rattle.lil_resolved.specs.Kinds.{Kind, OfWhole, OfTruth, OfCharacter, OfEnumeration, OfRange, is_set, is_pointer, nat_of, position}
 use Rattle.lil_resolved.specs.Members.{same_members, included, is_in, united, without, shared_members, unshared, from_to}
-use Rattle.lil_resolved.specs.Scalars.{Scalar, Number, Truth, Character, SetOf, ToObject, Nothing, same_reference, within, scalar_word, value_with, ordinal_of, truth_number, truth_of, members_of}
-use Rattle.lil_resolved.specs.Resolved.{Designator, Variable, Held, Field, Element, Follow, Function, Abs, Cap, Chr, Odd, Ord, Val, Expression, Constant, Taken, One, Two, Short, Apply, With, WithSpan, Argument, ByValue, OfArray, OfText, Label, Statement, Assign, Copy, Text, Change, Member, New, Request, If, Case, While, Repeat, Loop, Exit, Halt, Return, For, Inside, Statements, Arms, NoElse, Else, Arm, Procedure, Resolved, counted_as}
+use Rattle.lil_resolved.specs.Scalars.{Scalar, Number, Truth, Character, SetOf, ToObject, ToWorkspace, Nothing, same_reference, within, scalar_word, value_with, ordinal_of, truth_number, truth_of, members_of}
+use Rattle.lil_resolved.specs.Resolved.{Designator, Variable, Held, Field, Element, Follow, Function, Abs, Cap, Chr, Odd, Ord, Val, Expression, Constant, Taken, One, Two, Short, Apply, With, WithSpan, Argument, ByValue, OfArray, OfText, Label, Statement, Assign, Copy, Text, Change, Member, New, Allocate, Request, If, Case, While, Repeat, Loop, Exit, Halt, Return, For, Inside, Statements, Arms, NoElse, Else, Arm, Procedure, Resolved, counted_as}
 use Rattle.lil_resolved.specs.Shapes.{Shape, shape_at}
 use Rattle.lil_meaning.specs.Cells.{Cells, Global, Place, under, part_of, object_place, stored, got, alone, text_under, zeros_under, targets_of, loaded_at}
 use Rattle.lil_meaning.specs.World.{World, Given, Single, Characters, serve, closing}
-use Rattle.lil_meaning.specs.Items.{Datum, Scalars, Places, Wholes, Opens, Texts, Hole, Get, Part, IndexBy, IndexAt, Pointed, SetTo, StoreAt, CopyTo, CopyFrom, TextTo, NewAt, ChangeBy, ChangeAt, OneOf, LeftOf, RightOf, ShortOf, ApplyTo, WithMember, MemberOf, WithMembers, MembersFrom, MembersTo, MemberBy, MemberAt, Pass, PassArray, Choose, Turn, Again, Pick, Hold, StartOf, LimitOf, Task, Do, Passing, Until, Looping, Turns, Holding, End, Item, Value, Evaluate, PlaceOf, Fill, Perform, doing, Activation, Parked, Level, Phase, Going, Closing, Ended, Trapped, Source}
+use Rattle.lil_meaning.specs.Items.{Datum, Scalars, Places, Wholes, Opens, Texts, Hole, Get, Part, IndexBy, IndexAt, Pointed, SetTo, StoreAt, CopyTo, CopyFrom, TextTo, NewAt, AllocateBy, AllocateAt, ChangeBy, ChangeAt, OneOf, LeftOf, RightOf, ShortOf, ApplyTo, WithMember, MemberOf, WithMembers, MembersFrom, MembersTo, MemberBy, MemberAt, Pass, PassArray, Choose, Turn, Again, Pick, Hold, StartOf, LimitOf, Task, Do, Passing, Until, Looping, Turns, Holding, End, Item, Value, Evaluate, PlaceOf, Fill, Perform, doing, Activation, Parked, Level, Phase, Going, Closing, Ended, Trapped, Source}
 
 -- the activation at hand: that of the nearest end
 abbrev pub current : List Item → ℕ
@@ -309,11 +309,17 @@ abbrev pub decided : Bool → Bool → Bool
 decided true b = b
 decided false b = not b
 
+-- a new workspace of so many words, to which the address at a place then leads; or it is NIL then
+abbrev pub allocated : Bool → ℕ → Place → List Item → Source → Source
+allocated false n p k s = record s { items = k; workspaces = s.workspaces ++ record { size = n; carries = None } ∷ []; cells = stored s.cells p (alone (ToWorkspace (length s.workspaces))) }
+allocated true n p k s = record s { items = k; cells = stored s.cells p (alone Nothing) }
+
 -- a scalar goes into a hole
 abbrev pub filled : List Resolved → Hole → Scalar → List Item → Source → Source
 filled library (IndexAt p kind) v k s = if within kind v then with_items s (Value (Places (part_of p (position kind (ordinal_of v)))) ∷ k) else trapped library s trap.Range
 filled library (StoreAt p kind) v k s = if within kind v then record s { items = k; cells = stored s.cells p (alone v) } else trapped library s trap.Range
 filled library (ChangeAt down p kind) v k s = stored_with library p (value_of kind (changed down (counted_as kind) (ordinal_of (got s.cells p)) (whole_of v))) k s
+filled library (AllocateAt back p) v k s = if within (OfWhole Cardinal) v then allocated back (nat_of (ordinal_of v)) p k s else trapped library s trap.Range
 filled library (OneOf o kind) v k s = answered library (one_applied o kind v) k s
 filled library (LeftOf o kind f) v k s = with_items s (Evaluate f ∷ Fill (RightOf o kind v) ∷ k)
 filled library (RightOf o kind u) v k s = answered library (applied o kind u v) k s
@@ -359,6 +365,7 @@ filled_place library (CopyTo from) p k s = with_items s (PlaceOf from ∷ Fill (
 filled_place library (CopyFrom to) p k s = record s { items = k; cells = stored s.cells to (under s.cells p) }
 filled_place library Pointed p k s = pointed library (got s.cells p) k s
 filled_place library (NewAt n) p k s = made (target_of library s n) p k s
+filled_place library (AllocateBy back e) p k s = with_items s (Evaluate e ∷ Fill (AllocateAt back p) ∷ k)
 filled_place library (TextTo cs) p k s = record s { items = k; cells = stored s.cells p (text_under cs) }
 filled_place library (PassArray r high done left) p k s = with_items s (Perform (Passing r (done ++ Opens p high ∷ []) left) ∷ k)
 filled_place library (Hold body) p k s = with_items s (doing body (Perform (Holding p) ∷ k))
@@ -376,6 +383,7 @@ did library (Assign d kind e) k s = with_items s (PlaceOf d ∷ Fill (SetTo kind
 did library (Copy d from) k s = with_items s (PlaceOf d ∷ Fill (CopyTo from) ∷ k)
 did library (Text d cs) k s = with_items s (PlaceOf d ∷ Fill (TextTo cs) ∷ k)
 did library (New d n) k s = with_items s (PlaceOf d ∷ Fill (NewAt n) ∷ k)
+did library (Allocate back d e) k s = with_items s (PlaceOf d ∷ Fill (AllocateBy back e) ∷ k)
 did library (Inside d body) k s = with_items s (PlaceOf d ∷ Fill (Hold body) ∷ k)
 did library (Request r given) k s = with_items s (Perform (Passing r [] given) ∷ k)
 did library (If c a b) k s = with_items s (Evaluate c ∷ Fill (Choose a b) ∷ k)
@@ -471,6 +479,7 @@ over [] end s = record s { phase = over_by end }
 over (l ∷ ls) end s = record s {
   loaded = take l.loaded s.loaded;
   objects = take l.objects s.objects;
+  workspaces = take l.workspaces s.workspaces;
   cells = stored s.cells l.status (alone (Number (pos (status_number end))));
   running = l.running;
   items = l.items;

@@ -3,6 +3,11 @@ use Rattle.std.specs.Prelude.{ℕ, ◌-◌, ◌==◌, nat_le, ℤ, pos, negsuc, 
 use Rattle.lil_base.specs.Words as words
 use Rattle.lil_base.specs.Words.{Whole, Cardinal, Integer}
 
+-- what the values of a kind of references lead to: objects of one type, by the number of the type of the pointers to them, or workspaces
+pub data Pointee : Type 0 where
+  Objects : (n : ℕ) → Pointee
+  Workspaces : Pointee
+
 pub data Kind : Type 0 where
   OfWhole : (t : Whole) → Kind
   OfTruth : Kind
@@ -11,8 +16,8 @@ pub data Kind : Type 0 where
   OfEnumeration : (count : ℕ) → Kind
   -- sets of numbers from 0 to 15
   OfSet : Kind
-  -- pointers to objects of one type, by the number of the pointer type
-  OfPointer : (n : ℕ) → Kind
+  -- pointers to objects, or the addresses of workspaces
+  OfPointer : (to : Pointee) → Kind
   -- the part of a kind from one number to another
   OfRange : (base : Kind) (low high : ℤ) → Kind
 
@@ -23,7 +28,7 @@ base_of OfTruth = OfTruth
 base_of OfCharacter = OfCharacter
 base_of (OfEnumeration n) = OfEnumeration n
 base_of OfSet = OfSet
-base_of (OfPointer n) = OfPointer n
+base_of (OfPointer to) = OfPointer to
 base_of (OfRange base low high) = base_of base
 
 -- kinds that aren't a part of another, whose values are words
@@ -33,13 +38,13 @@ is_base OfTruth = true
 is_base OfCharacter = true
 is_base (OfEnumeration n) = nat_le n 65535
 is_base OfSet = true
-is_base (OfPointer n) = true
+is_base (OfPointer to) = true
 is_base (OfRange base low high) = false
 
 -- those whose values are compared by their numbers
 abbrev pub is_ordinal : Kind → Bool
 is_ordinal OfSet = false
-is_ordinal (OfPointer n) = false
+is_ordinal (OfPointer to) = false
 is_ordinal k = is_base k
 
 abbrev pub is_set : Kind → Bool
@@ -47,7 +52,7 @@ is_set OfSet = true
 is_set _ = false
 
 abbrev pub is_pointer : Kind → Bool
-is_pointer (OfPointer n) = true
+is_pointer (OfPointer to) = true
 is_pointer _ = false
 
 -- a kind whose values are no references
@@ -71,11 +76,16 @@ alike _ _ = false
 abbrev pub takes_value : Kind → Kind → Bool
 takes_value k j = alike (base_of k) j
 
+abbrev pub same_pointee : Pointee → Pointee → Bool
+same_pointee (Objects m) (Objects n) = m == n
+same_pointee Workspaces Workspaces = true
+same_pointee _ _ = false
+
 abbrev pub same_pointer : Kind → Kind → Bool
-same_pointer (OfPointer m) (OfPointer n) = m == n
+same_pointer (OfPointer to) (OfPointer from) = same_pointee to from
 same_pointer _ _ = false
 
--- a value of the second kind may be stored at a place of the first: a pointer too, where it is one to objects of the same type
+-- a value of the second kind may be stored at a place of the first: a pointer too, where it leads to the same
 abbrev pub stores_value : Kind → Kind → Bool
 stores_value k j = takes_value k j || same_pointer k j
 
@@ -98,7 +108,7 @@ least OfTruth = pos 0
 least OfCharacter = pos 0
 least (OfEnumeration n) = pos 0
 least OfSet = pos 0
-least (OfPointer n) = pos 0
+least (OfPointer to) = pos 0
 least (OfRange base low high) = larger low (least base)
 
 abbrev pub greatest : Kind → ℤ
@@ -107,7 +117,7 @@ greatest OfTruth = pos 1
 greatest OfCharacter = pos 255
 greatest (OfEnumeration n) = pos (n - 1)
 greatest OfSet = pos 65535
-greatest (OfPointer n) = pos 0
+greatest (OfPointer to) = pos 0
 greatest (OfRange base low high) = lesser high (greatest base)
 
 -- each number of the second kind is one of the first

@@ -75,6 +75,8 @@ mutual
     Member : (out : Bool) (d : Designator) (k : Kind) (e : Expression) → Statement
     -- NEW of a pointer, by the number of its type
     New : (d : Designator) (n : ℕ) → Statement
+    -- ALLOCATE(d, e) has the address at d lead to a new workspace of e words, DEALLOCATE(d, e) makes it NIL
+    Allocate : (back : Bool) (d : Designator) (e : Expression) → Statement
     -- a call of the resident procedure with this request
     Request : (r : ℕ) (given : List Argument) → Statement
     If : (c : Expression) (a b : Statements) → Statement

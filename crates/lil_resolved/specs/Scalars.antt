@@ -3,7 +3,7 @@ use Rattle.std.specs.Prelude.{ℕ, ◌-◌, ◌==◌, ℤ, pos, Bool, true, fals
 use Rattle.lil_base.specs.Words.{in_type, between, is_zero, word_of}
 use Rattle.lil_base.specs.Sets.{has, set_word}
 use Rattle.lil_resolved.specs.Members.{no_members}
-use Rattle.lil_resolved.specs.Kinds.{Kind, OfWhole, OfTruth, OfCharacter, OfEnumeration, OfSet, OfPointer, OfRange}
+use Rattle.lil_resolved.specs.Kinds.{Pointee, Objects, Workspaces, Kind, OfWhole, OfTruth, OfCharacter, OfEnumeration, OfSet, OfPointer, OfRange}
 
 -- a whole number, a truth value, a character, a set of numbers up to 15, a reference, or none
 pub data Scalar : Type 0 where
@@ -37,8 +37,13 @@ scalar_of OfTruth z = Truth (not (is_zero z))
 scalar_of OfCharacter z = Character (word_of z)
 scalar_of (OfEnumeration n) z = Number z
 scalar_of OfSet z = SetOf (has (word_of z))
-scalar_of (OfPointer n) z = Nothing
+scalar_of (OfPointer to) z = Nothing
 scalar_of (OfRange base low high) z = scalar_of base z
+
+-- a reference leads to an object, or a workspace, as is wanted
+abbrev pub to_object : Pointee → Bool
+to_object (Objects n) = true
+to_object Workspaces = false
 
 -- the value is one of the kind
 abbrev pub within : Kind → Scalar → Bool
@@ -47,8 +52,9 @@ within OfTruth (Truth b) = true
 within OfCharacter (Character c) = nat_le c 255
 within (OfEnumeration n) (Number z) = between (pos 0) z (pos (n - 1))
 within OfSet (SetOf s) = true
-within (OfPointer n) (ToObject o) = true
-within (OfPointer n) Nothing = true
+within (OfPointer to) (ToObject o) = to_object to
+within (OfPointer to) (ToWorkspace w) = not (to_object to)
+within (OfPointer to) Nothing = true
 within (OfRange base low high) v = within base v && between low (ordinal_of v) high
 within _ _ = false
 
@@ -59,7 +65,7 @@ value_with OfTruth z = if between (pos 0) z (pos 1) then Some (Truth (not (is_ze
 value_with OfCharacter z = if between (pos 0) z (pos 255) then Some (Character (word_of z)) else None
 value_with (OfEnumeration n) z = if between (pos 0) z (pos (n - 1)) then Some (Number z) else None
 value_with OfSet z = if between (pos 0) z (pos 65535) then Some (SetOf (has (word_of z))) else None
-value_with (OfPointer n) z = if between (pos 0) z (pos 0) then Some Nothing else None
+value_with (OfPointer to) z = if between (pos 0) z (pos 0) then Some Nothing else None
 value_with (OfRange base low high) z = if between low z high then value_with base z else None
 
 -- zero of a kind: what a fresh variable holds, also where its range leaves it out
@@ -69,20 +75,22 @@ zero_of OfTruth = Truth false
 zero_of OfCharacter = Character 0
 zero_of (OfEnumeration n) = Number (pos 0)
 zero_of OfSet = SetOf no_members
-zero_of (OfPointer n) = Nothing
+zero_of (OfPointer to) = Nothing
 zero_of (OfRange base low high) = zero_of base
 
 abbrev pub is_reference : Scalar → Bool
 is_reference (ToObject o) = true
+is_reference (ToWorkspace w) = true
 is_reference _ = false
 
 -- a value of a kind that a text can name: NIL is the only reference
 abbrev pub is_literal : Kind → Scalar → Bool
 is_literal k v = within k v && not (is_reference v)
 
--- two references to one object, or two times none
+-- two references to one object or workspace, or two times none
 abbrev pub same_reference : Scalar → Scalar → Bool
 same_reference (ToObject m) (ToObject n) = m == n
+same_reference (ToWorkspace m) (ToWorkspace n) = m == n
 same_reference Nothing Nothing = true
 same_reference _ _ = false
 

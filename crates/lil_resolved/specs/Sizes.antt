@@ -1,10 +1,10 @@
 -- The bytes that code takes, and modules that are small. Depths, frames and soundness are passed on.
-use Rattle.std.specs.Prelude.{ℕ, ◌+◌, ◌*◌, ◌≤◌, ℤ, List, [], ◌∷◌, length, if◌then◌else◌}
+use Rattle.std.specs.Prelude.{Bool, true, false, ℕ, ◌+◌, ◌*◌, ◌≤◌, ℤ, List, [], ◌∷◌, length, if◌then◌else◌}
 use Rattle.lil_base.specs.declared.operator.OneOp.{OneOp}
 use Rattle.lil_base.specs.declared.operator.OneOp.TheVariants as one
 use Rattle.lil_base.specs.declared.operator.TwoOp.{TwoOp}
 use Rattle.lil_base.specs.declared.operator.TwoOp.TheVariants.{Greater, AtLeast}
-use Rattle.lil_resolved.specs.Resolved.{Designator, Variable, Held, Field, Element, Follow, Function, Abs, Cap, Chr, Odd, Ord, Val, Expression, Constant, Taken, One, Two, Short, Apply, With, WithSpan, Argument, ByValue, OfArray, OfText, Statement, Assign, Copy, Text, Change, Member, New, Request, If, Case, While, Repeat, Loop, Exit, Halt, Return, For, Inside, Statements, Empty, Then, Arms, NoElse, Else, Arm, Resolved, kind_of, counted_as}
+use Rattle.lil_resolved.specs.Resolved.{Designator, Variable, Held, Field, Element, Follow, Function, Abs, Cap, Chr, Odd, Ord, Val, Expression, Constant, Taken, One, Two, Short, Apply, With, WithSpan, Argument, ByValue, OfArray, OfText, Statement, Assign, Copy, Text, Change, Member, New, Allocate, Request, If, Case, While, Repeat, Loop, Exit, Halt, Return, For, Inside, Statements, Empty, Then, Arms, NoElse, Else, Arm, Resolved, kind_of, counted_as}
 use Rattle.lil_base.specs.Words.{Cardinal, Integer}
 use Rattle.lil_resolved.specs.Kinds.{Kind, OfWhole, OfCharacter, base_of, compared_as, covers, outside_turns}
 use Rattle.lil_resolved.specs.Shapes.{all_words}
@@ -119,6 +119,11 @@ abbrev pub arguments_size : List Argument → ℕ
 arguments_size [] = 0
 arguments_size (a ∷ given) = argument_size a + arguments_size given
 
+-- the code of ALLOCATE and DEALLOCATE behind the address and the number of words
+abbrev pub allocate_size : Bool → ℕ
+allocate_size false = 1
+allocate_size true = 5
+
 -- how many bytes the code of a statement takes
 abbrev mutual
   pub statement_size : Statement → ℕ
@@ -129,6 +134,7 @@ abbrev mutual
       target_size d + again_size (form_of d) + size e + under_size (form_of d) + 1 + test_size k (OfWhole (counted_as k)) + store_size (form_of d)
   statement_size (Member out d k e) = place_size d + address_size (form_of d) + size e + test_size k (kind_of e) + 1
   statement_size (New d n) = place_size d + address_size (form_of d) + 4
+  statement_size (Allocate back d e) = place_size d + address_size (form_of d) + size e + test_size (OfWhole Cardinal) (kind_of e) + allocate_size back
   statement_size (Request r given) = arguments_size given + 2
   statement_size (If c a b) = size c + 3 + body_size a + 3 + body_size b
   statement_size (Case e arms) = size e + 3 + 3 + arms_size arms + 5

@@ -7,10 +7,10 @@ use Rattle.lil_base.specs.declared.operator.OneOp.TheVariants as one
 use Rattle.lil_base.specs.declared.operator.TwoOp.{TwoOp}
 use Rattle.lil_base.specs.declared.operator.TwoOp.TheVariants.{Equal, Unequal, Less, AtMost, Greater, AtLeast, In, Plus, Minus, Or, Times, Slash, Div, Mod, And}
 pub use Rattle.lil_resolved.specs.Kinds.{is_base, is_ordinal, is_set, is_whole, is_plain, is_element, alike, takes_value, stores_value}
-use Rattle.lil_resolved.specs.Kinds.{Kind, OfWhole, OfTruth, OfCharacter, OfSet, OfPointer, base_of, numbers}
+use Rattle.lil_resolved.specs.Kinds.{Objects, Workspaces, Kind, OfWhole, OfTruth, OfCharacter, OfSet, OfPointer, base_of, numbers}
 use Rattle.lil_resolved.specs.Scalars.{within, is_literal, scalar_of, ordinal_of}
 use Rattle.lil_resolved.specs.Shapes.{Shape, Word, Row, Scope, with_held, outermost, shape_at, is_there, count_of}
-use Rattle.lil_resolved.specs.Resolved.{Designator, Variable, Held, Field, Element, Follow, Function, Abs, Cap, Chr, Odd, Ord, Val, Expression, Constant, Taken, One, Two, Short, Apply, With, WithSpan, Label, Argument, ByValue, OfArray, OfText, Statement, Assign, Copy, Text, Change, Member, New, Request, If, Case, While, Repeat, Loop, Exit, Halt, Return, For, Inside, Statements, Empty, Then, Arms, NoElse, Else, Arm, Resolved, kind_of, right_kind, counted_as, shape_of}
+use Rattle.lil_resolved.specs.Resolved.{Designator, Variable, Held, Field, Element, Follow, Function, Abs, Cap, Chr, Odd, Ord, Val, Expression, Constant, Taken, One, Two, Short, Apply, With, WithSpan, Label, Argument, ByValue, OfArray, OfText, Statement, Assign, Copy, Text, Change, Member, New, Allocate, Request, If, Case, While, Repeat, Loop, Exit, Halt, Return, For, Inside, Statements, Empty, Then, Arms, NoElse, Else, Arm, Resolved, kind_of, right_kind, counted_as, shape_of}
 use Rattle.lil_resolved.specs.Depth.{place_depth, depth}
 
 -- an operator takes operands of this kind, and IN a left one
@@ -67,7 +67,7 @@ abbrev mutual
   IsSoundPlace ts (Held w) = (t : Shape) × (slice_get ts.held w ≡ Some t) × (is_there t ≡ true)
   IsSoundPlace ts (Field d i) = IsSoundPlace ts d
   IsSoundPlace ts (Element d k e) = (count_of (shape_of ts d) ≡ numbers k) × (takes_value k (kind_of e) ≡ true) × IsSoundPlace ts d × IsSoundExpression ts e
-  IsSoundPlace ts (Follow d n) = (shape_of ts d ≡ Word (OfPointer n)) × (is_there (shape_at ts.targets n) ≡ true) × IsSoundPlace ts d
+  IsSoundPlace ts (Follow d n) = (shape_of ts d ≡ Word (OfPointer (Objects n))) × (is_there (shape_at ts.targets n) ≡ true) × IsSoundPlace ts d
 
   pub IsSoundExpression : Scope → Expression → Type 0
   IsSoundExpression ts (Constant k v) = is_literal k v ≡ true
@@ -144,7 +144,7 @@ pub record IsSoundStored (ts : Scope) (e : Expression) (k : Kind) : Type 0 where
 
 -- a pointer that gets an object
 pub record IsSoundNew (ts : Scope) (d : Designator) (n : ℕ) : Type 0 where
-  pub shape : shape_of ts d ≡ Word (OfPointer n)
+  pub shape : shape_of ts d ≡ Word (OfPointer (Objects n))
   pub there : is_there (shape_at ts.targets n) ≡ true
   pub place : IsSoundPlace ts d
   pub shallow : place_depth d ≤ 13
@@ -204,6 +204,7 @@ abbrev mutual
   IsSoundStatement ts looping (Change down d k e) = IsSoundTarget ts d k × (is_plain k ≡ true) × IsSoundWhole ts e (OfWhole (counted_as k))
   IsSoundStatement ts looping (Member out d k e) = IsSoundTarget ts d OfSet × (is_element k ≡ true) × IsSoundValue ts e k
   IsSoundStatement ts looping (New d n) = IsSoundNew ts d n
+  IsSoundStatement ts looping (Allocate back d e) = IsSoundTarget ts d (OfPointer Workspaces) × IsSoundValue ts e (OfWhole Cardinal)
   IsSoundStatement ts looping (Request r given) = (request_parameters r ≡ Some (map parameter_of given)) × AreSoundArguments ts given
   IsSoundStatement ts looping (If c a b) = IsSoundWhole ts c OfTruth × IsSoundBody ts looping a × IsSoundBody ts looping b
   IsSoundStatement ts looping (Case e arms) = (is_ordinal (kind_of e) ≡ true) × IsSoundWhole ts e (kind_of e) × AreSoundArms ts looping (kind_of e) arms

@@ -1,11 +1,11 @@
 -- The resolved module that a tree of the program is.
 use Rattle.std.specs.Prelude.{◌≡◌, ℕ, ◌+◌, ◌<◌, ◌≤◌, Bool, List, [], ◌∷◌, ◌++◌, length, map, Option, Some, None, true, false}
 use Rattle.lil_base.specs.Words.{Cardinal, Integer}
-use Rattle.lil_resolved.specs.Kinds.{Kind, OfWhole, OfTruth, OfCharacter, OfEnumeration, OfSet, OfPointer, OfRange, compared_as}
+use Rattle.lil_resolved.specs.Kinds.{Objects, Workspaces, Kind, OfWhole, OfTruth, OfCharacter, OfEnumeration, OfSet, OfPointer, OfRange, compared_as}
 use Rattle.lil_resolved.specs.Scalars.{SetOf, scalar_of}
 use Rattle.lil_resolved.specs.Members.{no_members}
 use Rattle.lil_resolved.specs.Shapes.{Shape, Absent, Word, Row, all_words, offsets_from, shape_at, fields_of, words}
-use Rattle.lil_resolved.specs.Resolved.{Designator, Variable, Held, Field, Element, Follow, Function, Abs, Cap, Chr, Odd, Ord, Val, Expression, Constant, Taken, One, Two, Short, Apply, With, WithSpan, Argument, ByValue, OfArray, OfText, Label, Assign, Copy, Text, Change, Member, New, Request, If, Case, While, Repeat, Loop, Exit, Halt, Return, For, Inside, Statements, Empty, Then, Arms, NoElse, Else, Arm, Resolved, kind_of}
+use Rattle.lil_resolved.specs.Resolved.{Designator, Variable, Held, Field, Element, Follow, Function, Abs, Cap, Chr, Odd, Ord, Val, Expression, Constant, Taken, One, Two, Short, Apply, With, WithSpan, Argument, ByValue, OfArray, OfText, Label, Assign, Copy, Text, Change, Member, New, Allocate, Request, If, Case, While, Repeat, Loop, Exit, Halt, Return, For, Inside, Statements, Empty, Then, Arms, NoElse, Else, Arm, Resolved, kind_of}
 use Rattle.lil_base.specs.declared.operator.OneOp.{OneOp}
 use Rattle.lil_base.specs.declared.operator.TwoOp.{TwoOp}
 use Rattle.lil_base.specs.declared.operator.TwoOp.TheVariants.{Equal, Unequal, Less, AtMost, Greater, AtLeast, In, Plus, Minus, Or, Times, Slash, Div, Mod, And}
@@ -22,6 +22,8 @@ use Rattle.lil_resolved.specs.declared.resolved.Direction.{Direction}
 use Rattle.lil_resolved.specs.declared.resolved.Direction.TheVariants as d
 use Rattle.lil_resolved.specs.declared.resolved.Membership.{Membership}
 use Rattle.lil_resolved.specs.declared.resolved.Membership.TheVariants as j
+use Rattle.lil_resolved.specs.declared.resolved.Allocation.{Allocation}
+use Rattle.lil_resolved.specs.declared.resolved.Allocation.TheVariants as w
 use Rattle.lil_resolved.specs.declared.resolved.RRoot.{RRoot}
 use Rattle.lil_resolved.specs.declared.resolved.RRoot.TheVariants as t
 use Rattle.lil_resolved.specs.declared.resolved.RArgument.{RArgument}
@@ -56,7 +58,8 @@ base_view b.Truth = OfTruth
 base_view b.Character = OfCharacter
 base_view (b.Enumeration n) = OfEnumeration n
 base_view b.Set = OfSet
-base_view (b.Pointer n) = OfPointer n
+base_view (b.Pointer n) = OfPointer (Objects n)
+base_view b.Address = OfPointer Workspaces
 
 abbrev pub ranged_view : Kind → Option RRange → Kind
 ranged_view k None = k
@@ -90,6 +93,11 @@ request_number q.WriteHex = 8
 abbrev pub is_out : Membership → Bool
 is_out j.Joins = false
 is_out j.Leaves = true
+
+-- whether a workspace is given back
+abbrev pub is_back : Allocation → Bool
+is_back w.Takes = false
+is_back w.GivesBack = true
 
 abbrev pub is_down : Direction → Bool
 is_down d.Up = false
@@ -218,6 +226,7 @@ statement_layer (o.Text p cs) = Then (Text (place_of p) cs) Empty
 statement_layer (o.Change way p k e) = Then (Change (is_down way) (place_of p) (kind_view k) (expression_of e)) Empty
 statement_layer (o.Member m d k e) = Then (Member (is_out m) (place_of d) (kind_view k) (expression_of e)) Empty
 statement_layer (o.New p n) = Then (New (place_of p) n) Empty
+statement_layer (o.Allocate w p e) = Then (Allocate (is_back w) (place_of p) (expression_of e)) Empty
 statement_layer (o.Request r given) = Then (Request (request_number r) (map argument_of given)) Empty
 statement_layer (o.If gs ss) = guarded gs (all_of ss)
 statement_layer (o.Case e cases other) = Then (Case (expression_of e) (armed cases (otherwise_of other))) Empty

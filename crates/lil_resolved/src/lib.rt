@@ -6,8 +6,8 @@ mod shapes;
 
 pub use lil_base::{OneOp, TwoOp};
 pub use resolved::{
-    Direction, Membership, RArgument, RArm, RBase, RDeclared, RExpr, RFunction, RGuard, RKind,
-    RLabel, RMember, RModule, ROperation, RPlace, RRange, RRequest, RRoot, RSelector, RStmt,
+    Allocation, Direction, Membership, RArgument, RArm, RBase, RDeclared, RExpr, RFunction, RGuard,
+    RKind, RLabel, RMember, RModule, ROperation, RPlace, RRange, RRequest, RRoot, RSelector, RStmt,
     RVariable, base, depth, place_depth, whole_base,
 };
 pub use shapes::{RElements, RField, RShape};

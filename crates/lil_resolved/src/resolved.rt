@@ -9,7 +9,7 @@ use crate::{OneOp, RShape, TwoOp};
 use lil_base::{Boxed, Items, Name, Text};
 
 /// What values are: numbers of a type of whole numbers, truth values, characters, the constants of an enumeration with so
-/// many of them, sets of numbers from 0 to 15, or pointers of the type with this number.
+/// many of them, sets of numbers from 0 to 15, pointers of the type with this number, or addresses of workspaces.
 #[derive(Clone, Copy, PartialEq, Eq)]
 pub enum RBase {
     Cardinal,
@@ -19,6 +19,7 @@ pub enum RBase {
     Enumeration(u16),
     Set,
     Pointer(usize),
+    Address,
 }
 
 /// The numbers of a subrange, its ends included.
@@ -77,6 +78,13 @@ pub enum Direction {
 pub enum Membership {
     Joins,
     Leaves,
+}
+
+/// Whether an address gets a workspace, by ALLOCATE, or is NIL again, by DEALLOCATE.
+#[derive(Clone, Copy, PartialEq, Eq)]
+pub enum Allocation {
+    Takes,
+    GivesBack,
 }
 
 /// An expression with each name replaced by its thing, and each constant expression by its value, which stands by its
@@ -147,7 +155,7 @@ pub enum RArgument {
 
 /// A resolved statement. A place that is stored to has its kind; a copy has its place, and that of what is copied; a string
 /// goes to an array of characters; a set has its place, and the kind of what joins or leaves it; NEW has the place of the
-/// pointer, and the number of its type. IF has its conditions in
+/// pointer, and the number of its type; ALLOCATE and DEALLOCATE have the place of the address, and the number of words. IF has its conditions in
 /// order, a CASE or an IF without ELSE has none, FOR has its variable, its first value, its last and its step, and WITH
 /// its record.
 #[cycle(resolved)]
@@ -159,6 +167,7 @@ pub enum RStmt {
     Change(Direction, RPlace, RKind, RExpr),
     Member(Membership, RPlace, RKind, RExpr),
     New(RPlace, usize),
+    Allocate(Allocation, RPlace, RExpr),
     Request(RRequest, Items<RArgument>),
     If(Items<RGuard>, Items<RStmt>),
     Case(RExpr, Items<RArm>, Option<Items<RStmt>>),

@@ -20,21 +20,17 @@ fn is_resident_built(resident: Resident) -> bool
     ensures { result ≡ spec.resident_built resident }
 {
     match resident {
-        Resident::Read
-        | Resident::Allocate
-        | Resident::Deallocate
-        | Resident::NewProcess
-        | Resident::Transfer => false,
+        Resident::Read | Resident::NewProcess | Resident::Transfer => false,
         _ => true,
     }
 }
 
-/// Whether programs that use the name of this thing may run. PROC, ADDRESS and PROCESS aren't built.
+/// Whether programs that use the name of this thing may run. PROC and PROCESS aren't built.
 pub fn is_built(thing: Thing) -> bool
     ensures { result ≡ spec.built thing }
 {
     match thing {
-        Thing::Type(sort) => sort < PROC || PROCESS < sort,
+        Thing::Type(sort) => !(sort == PROC || sort == PROCESS),
         Thing::Standard(standard) => is_standard_built(standard),
         Thing::Resident(resident, _) => is_resident_built(resident),
         _ => true,

@@ -3,9 +3,10 @@ use Rattle.std.proofs.Common.{◌≡◌, ◌≢◌, ◌⊎◌, inl, inr, ℕ, ze
 use Rattle.std.specs.Prelude.{ℤ, map}
 use Rattle.std.proofs.lemmas.Bool.{cases_lt}
 use Rattle.std.proofs.lemmas.List.{append-nil, append_cancel_left}
+use Rattle.lil_base.specs.Words.{Cardinal}
 use Rattle.lil_base.specs.declared.fault.TrapKind.{TrapKind}
 use Rattle.lil_base.specs.declared.fault.TrapAt.{TrapAt}
-use Rattle.lil_resolved.specs.Kinds.{Kind}
+use Rattle.lil_resolved.specs.Kinds.{Kind, OfWhole, nat_of}
 use Rattle.lil_resolved.specs.Scalars.{Scalar, ToObject, within, value_with, ordinal_of}
 use Rattle.lil_resolved.specs.Resolved.{Designator, Held, Expression, Taken, Argument, ByValue, OfArray, OfText, Statement, Exit, Statements, Resolved, counted_as}
 use Rattle.lil_meaning.specs.Cells.{Place, got}
@@ -13,7 +14,7 @@ use Rattle.lil_meaning.specs.World.{World, Given, serve, piece_of, closing}
 use Rattle.lil_meaning.specs.Closings.{closing_shuts, nothing_open}
 use Rattle.lil_meaning.specs.Items.{Datum, Scalars, Places, Hole, Get, StoreAt, ChangeAt, OneOf, RightOf, ApplyTo, Pass, Pick, Task, Do, Passing, Item, Value, Evaluate, PlaceOf, Fill, Perform, Level, Phase, Going, Closing, Source}
 use Rattle.lil_meaning.specs.Items as items
-use Rattle.lil_meaning.specs.Steps.{next, by_phase, first, given, fill, filled, filled_place, pointed, performed, did, turned_with, turned_on, picked, held_at, placed, passed, evaluated, answered, applied, one_applied, function_value, chosen, stored_with, value_of, changed, whole_of, given_of, level_of, over, left_by, leave}
+use Rattle.lil_meaning.specs.Steps.{next, by_phase, first, given, fill, filled, filled_place, pointed, performed, did, turned_with, turned_on, picked, allocated, held_at, placed, passed, evaluated, answered, applied, one_applied, function_value, chosen, stored_with, value_of, changed, whole_of, given_of, level_of, over, left_by, leave}
 use Rattle.lil_meaning.specs.Runs.{after}
 use Rattle.lil_laws.specs.Whole.{after_sum}
 
@@ -57,6 +58,10 @@ module _ (library : List Resolved) (s : Source) where
   turned_serves x kind z step zero body k = (still refl refl)
   turned_serves x kind z step (suc left) body k = valued_serves (value_with kind z) x body _
 
+  allocated_serves : (back : Bool) (n : ℕ) (p : Place) (k : List Item) → Serves s (allocated back n p k s)
+  allocated_serves false n p k = (still refl refl)
+  allocated_serves true n p k = (still refl refl)
+
   filled_serves : (h : Hole) (v : Scalar) (k : List Item) → Serves s (filled library h v k s)
   filled_serves (items.IndexAt p kind) v k = choice_serves s (within kind v) _ _ ((still refl refl)) ((still refl refl))
   filled_serves (StoreAt p kind) v k = choice_serves s (within kind v) _ _ ((still refl refl)) ((still refl refl))
@@ -68,6 +73,7 @@ module _ (library : List Resolved) (s : Source) where
   filled_serves (items.MembersFrom u kind f) v k = choice_serves s (within kind v) _ _ ((still refl refl)) ((still refl refl))
   filled_serves (items.MembersTo u kind low) v k = choice_serves s (within kind v) _ _ ((still refl refl)) ((still refl refl))
   filled_serves (items.MemberAt out p kind) v k = choice_serves s (within kind v) _ _ ((still refl refl)) ((still refl refl))
+  filled_serves (items.AllocateAt back p) v k = choice_serves s (within (OfWhole Cardinal) v) _ _ (allocated_serves back (nat_of (ordinal_of v)) p k) ((still refl refl))
   filled_serves (Pass r kind done left) v k = choice_serves s (within kind v) _ _ ((still refl refl)) ((still refl refl))
   filled_serves (Pick arms) v k = picked_serves (chosen arms (ordinal_of v)) k
   filled_serves _ v k = (still refl refl)

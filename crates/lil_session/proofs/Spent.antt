@@ -1,4 +1,4 @@
--- A limit comes only where the objects of the meaning take more words than the store has.
+-- A limit comes only where the objects and workspaces of the meaning take more words than the store has.
 use Rattle.std.proofs.Common.{◌≡◌, ℕ, List, Option, sym, ap, ◌∙◌}
 use Rattle.lil_base.specs.declared.fault.LimitKind.{LimitKind}
 use Rattle.lil_resolved.specs.Resolved.{Resolved}

@@ -139,7 +139,7 @@ pub record Answered (call : Call) (result : Status) : Type 0 where
   -- Unless a device fails, memory is refused or the run is cut short, the answer is the command's.
   pub answer : (w : World) → Finds call.before.files call.before.keys w → settled result ≡ true → (cuts result ≡ true) ⊎ Answers call.name w result
   -- The machine ran a translation of the text within the budget; the steps are spent exactly where that has no end, and the limit of the
-  -- store comes only where the objects of the meaning take more words than there are.
+  -- store comes only where the objects and workspaces of the meaning take more words than there are.
   pub machine : (w : World) (p : Resolved) → Finds call.before.files call.before.keys w → Runs call.name w p → MachineAnswers p w call.steps call.before.shown call.after.shown result
   -- Usage comes exactly where the words name no module.
   pub usage_only : result ≡ a.Usage → call.name ≡ None

@@ -32,7 +32,7 @@ FinishAnswers a.ScreenFault steps done f = (suc done ≤ steps) × (f ≡ Runnin
 FinishAnswers a.Memory steps done f = IsEnd f
 FinishAnswers _ steps done f = ⊥
 
--- What is shown is what the state behind n steps of the meaning has shown, and the next one's object has no room left.
+-- What is shown is what the state behind n steps of the meaning has shown, and the object or workspace of the next one has no room left.
 pub record IsSpentAt (p : Resolved) (w : World) (strings : List ℕ) (old new : Option (List ℕ)) (k : LimitKind) : Type 0 where
   pub n : ℕ
   pub shown : new ≡ followed_by old (state_of p w n).world.screen
@@ -52,7 +52,7 @@ pub record MachineRan (p : Resolved) (w : World) (steps : ℕ) (old new : Option
   pub cut : status ≡ a.ScreenFault → IsRefused (mrun done (running (loaded p strings code).state w)).machine (followed_by old (mrun done (running (loaded p strings code).state w)).world.screen) new
   -- where the whole budget brings no end, a settled answer is StepsSpent
   pub spent : (mrun steps (running (loaded p strings code).state w)).finish ≡ Running → settled status ≡ true → status ≡ a.StepsSpent
-  -- a limit comes only where data, frame and objects take more words than the store has
+  -- a limit comes only where data, frame, objects and workspaces take more words than the store has
   pub limited : (k : LimitKind) → status ≡ a.Limit k → IsSpentAt p w strings old new k
   -- 32 instructions a step of the meaning, and 64 more, are enough: where they are spent, it goes on
   pub enough : status ≡ a.StepsSpent → (m : ℕ) → 32 * m + 64 ≤ steps → (state_of p w m).phase ≡ Going

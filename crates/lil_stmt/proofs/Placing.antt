@@ -1,13 +1,14 @@
--- The code of the places to which statements store, of assignments, of copies, of INCL and EXCL, of NEW, and of INC and DEC.
+-- The code of the places to which statements store, of assignments, of copies, of INCL and EXCL, of NEW, of ALLOCATE and DEALLOCATE, and of INC and DEC.
 use Rattle.std.proofs.Common.{◌≡◌, ℕ, ◌≤◌, Bool, List, [], ◌∷◌, ◌++◌, length, Option, refl, sym, ap, ◌∙◌, subst, arith}
 use Rattle.std.specs.Prelude.{slice_get}
+use Rattle.lil_base.specs.Words.{Cardinal}
 use Rattle.lil_resolved.specs.Kinds.{Kind, OfWhole}
 use Rattle.lil_resolved.specs.Shapes.{words, is_there, shape_at}
-use Rattle.lil_resolved.specs.Resolved.{Designator, Expression, Assign, Copy, Change, Member, New, counted_as}
+use Rattle.lil_resolved.specs.Resolved.{Designator, Expression, Assign, Copy, Change, Member, New, Allocate, counted_as}
 use Rattle.lil_resolved.specs.Views.{AreMeasured, shapes_of}
 use Rattle.lil_asm.specs.declared.instr.Instr.{Instr}
 use Rattle.lil_asm.specs.declared.instr.Instr.TheVariants.{Liw, Mov, Alc}
-use Rattle.lil_table.specs.Rows.{IsAt, InstrsAt, Access, InData, OnTop, Behind, access_of, address_code, ready_code, readied, held, held_twice, store_code, again_code, under_code, whole_code, change_operator, change_code, member_code, test_code}
+use Rattle.lil_table.specs.Rows.{IsAt, InstrsAt, Access, InData, OnTop, Behind, access_of, address_code, ready_code, readied, held, held_twice, store_code, again_code, under_code, whole_code, change_operator, change_code, member_code, allocate_code, test_code}
 use Rattle.lil_labels.specs.Tables.{Tables, target_by}
 use Rattle.lil_labels.specs.Drafts.{Draft, Meaning, Emits, Doing, DoingAll}
 use Rattle.lil_labels.specs.Emitting.{emits_then, emits_as, emits_tied}
@@ -155,6 +156,28 @@ new_emitted d i m w n exit c0 c1 c2 sized place take =
       by = subst (λ (w : ℕ). InstrsAt x.code (Liw w ∷ Alc ∷ []) (length c1.bytes) (length c2.bytes)) same t.1.0;
     })
     (emits_then c0 c1 c2 _ _ place (emits_tied c1 c2 _ take))
+
+-- ---- ALLOCATE and DEALLOCATE
+pub allocate_emitted : (back : Bool) (d : Designator) (e : Expression) (m n : ℕ) (exit : Option ℕ) (c0 c1 c2 c3 : Draft) → Emits c0 c1 (Addressed d m) → Emits c1 c2 (Stored e (OfWhole Cardinal))
+    → Emits c2 c3 (DoingAll (allocate_code back)) → Emits c0 c3 (Stated n exit (Allocate back d e))
+allocate_emitted back d e m n exit c0 c1 c2 c3 place value by =
+    emits_as c0 c3 _ (Stated n exit (Allocate back d e))
+    (λ x t sound room.
+    let target = sound.0 in
+    let at = t.0 target.place (ap is_there target.scalar.shape) in
+    record {
+      found = at.found;
+      start = length c1.bytes;
+      middle = length c2.bytes;
+      typed = target.scalar.shape;
+      takes = sound.1.takes;
+      shallow = omega (arith, target.shallow);
+      here = at.place;
+      address = at.address;
+      value = t.1.0 1 (stored x.layout.scope e (OfWhole Cardinal) sound.1) (omega arith);
+      by = t.1.1;
+    })
+    (emits_then c0 c1 c3 _ _ place (emits_then c1 c2 c3 _ _ value by))
 
 -- ---- INC and DEC
 -- instructions behind others

@@ -55,6 +55,7 @@ fn statement_words(statement: &RStmt) -> u32
         | RStmt::Change(_, _, _, _)
         | RStmt::Member(_, _, _, _)
         | RStmt::New(_, _)
+        | RStmt::Allocate(_, _, _)
         | RStmt::Request(_, _)
         | RStmt::Exit
         | RStmt::Halt

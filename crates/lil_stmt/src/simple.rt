@@ -2,11 +2,11 @@
 
 ghost use Rattle.std.specs.Prelude.{◌≡◌, ℕ, Option, map, OnOk};
 ghost use Rattle.lil_resolved.specs.Resolved as resolved;
-ghost use Rattle.lil_resolved.specs.Resolved.{Assign, Copy, Change, Member, New, Exit};
-ghost use Rattle.lil_resolved.specs.Views.{kind_view, place_of, is_down, is_out, request_number, argument_of, expression_of};
+ghost use Rattle.lil_resolved.specs.Resolved.{Assign, Copy, Change, Member, New, Allocate, Exit};
+ghost use Rattle.lil_resolved.specs.Views.{kind_view, place_of, is_down, is_out, is_back, request_number, argument_of, expression_of};
 ghost use Rattle.lil_asm.specs.Bytes.{Sayable};
-ghost use Rattle.lil_table.specs.Rows.{member_code};
-ghost use Rattle.lil_labels.specs.Drafts.{Emits};
+ghost use Rattle.lil_table.specs.Rows.{member_code, allocate_code};
+ghost use Rattle.lil_labels.specs.Drafts.{DoingAll, Emits};
 ghost use Rattle.lil_stmt.specs.Generating.{Stated, Stored, Argued, Passed};
 
 use crate::kinds::{change_instr, counted_base};
@@ -16,7 +16,9 @@ use lil_asm::Instr;
 use lil_base::{Memory, Text};
 use lil_expr::{emit_expression, emit_test};
 use lil_labels::{Aim, CodeBuffer};
-use lil_resolved::{Direction, Membership, RArgument, RExpr, RKind, RPlace, RRequest, base};
+use lil_resolved::{
+    Allocation, Direction, Membership, RArgument, RBase, RExpr, RKind, RPlace, RRequest, base,
+};
 
 /// Appends the code of a value that is to be stored where one of a kind is wanted, and its test.
 fn emit_value(code: &mut CodeBuffer<'_>, value: &RExpr, kind: RKind) -> Result<(), Memory>
@@ -131,6 +133,35 @@ pub(crate) fn emit_new(
     emit_address_of(code, place)?;
     let words = code.words(code.target(pointer));
     code.put_all(&[Instr::Liw(words), Instr::Alc])
+}
+
+/// Appends the code of ALLOCATE or DEALLOCATE: the place of the address, the number of words, its test, and what gives the
+/// address a workspace of so many, or makes it NIL.
+pub(crate) fn emit_allocate(
+    code: &mut CodeBuffer<'_>,
+    allocation: Allocation,
+    place: &RPlace,
+    words: &RExpr,
+) -> Result<(), Memory>
+    ensures { OnOk result ((n : ℕ) (exit : Option ℕ) → Emits code.old code.new (Stated n exit (Allocate (is_back allocation) (place_of place.now) (expression_of words.now)))) }
+{
+    let cardinal = RKind {
+        base: RBase::Cardinal,
+        range: None,
+    };
+    emit_address_of(code, place)?;
+    emit_value(code, words, cardinal)?;
+    emit_allocation(code, allocation)
+}
+
+/// Appends what takes a block for the address, of the words on the expression stack, or drops their number and stores NIL.
+fn emit_allocation(code: &mut CodeBuffer<'_>, allocation: Allocation) -> Result<(), Memory>
+    ensures { OnOk result (Emits code.old code.new (DoingAll (allocate_code (is_back allocation)))) }
+{
+    match allocation {
+        Allocation::Takes => code.put_all(&[Instr::Alc]),
+        Allocation::GivesBack => code.put_all(&[Instr::Drp, Instr::Liw(0), Instr::Sti]),
+    }
 }
 
 /// Appends the code of a call of a resident procedure: the arguments, each with its test, and the request.

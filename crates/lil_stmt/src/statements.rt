@@ -10,7 +10,8 @@ use crate::cases::emit_choice;
 use crate::kinds::{emit_turn_test, loop_sign};
 use crate::loops::loop_place;
 use crate::simple::{
-    emit_assign, emit_change, emit_copy, emit_exit, emit_member, emit_new, emit_request, emit_text,
+    emit_allocate, emit_assign, emit_change, emit_copy, emit_exit, emit_member, emit_new,
+    emit_request, emit_text,
 };
 use crate::starts::emit_align;
 use crate::targets::emit_address_of;
@@ -55,6 +56,7 @@ fn emit_statement(
         RStmt::Change(way, place, kind, value) => emit_change(code, *way, place, *kind, value),
         RStmt::Member(way, place, kind, value) => emit_member(code, *way, place, *kind, value),
         RStmt::New(place, pointer) => emit_new(code, place, *pointer),
+        RStmt::Allocate(way, place, words) => emit_allocate(code, *way, place, words),
         RStmt::Request(request, given) => emit_request(code, *request, given.as_slice()),
         RStmt::If(guards, otherwise) => {
             let end = code.fresh()?;

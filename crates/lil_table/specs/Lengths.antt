@@ -6,16 +6,16 @@ use Rattle.lil_base.specs.declared.operator.OneOp.TheVariants as one
 use Rattle.lil_base.specs.declared.operator.TwoOp.{TwoOp}
 use Rattle.lil_base.specs.declared.operator.TwoOp.TheVariants.{Equal, Unequal, Less, AtMost, Greater, AtLeast, In, Plus, Minus, Times, Slash, Div, Mod, Or, And}
 use Rattle.lil_resolved.specs.Kinds.{Kind, OfWhole, OfTruth, OfCharacter, OfEnumeration, OfSet, OfPointer, OfRange, base_of, compared_as, covers, shared, outside_turns}
-use Rattle.lil_resolved.specs.Resolved.{Designator, Variable, Held, Field, Element, Follow, Function, Abs, Cap, Chr, Odd, Ord, Val, Expression, Constant, Taken, One, Two, Short, Apply, With, WithSpan, Argument, ByValue, OfArray, OfText, Label, Statement, Assign, Copy, Text, Change, Member, New, Request, If, Case, While, Repeat, Loop, Exit, Halt, Return, For, Inside, Statements, Empty, Then, Arms, NoElse, Else, Arm, Resolved, kind_of, counted_as, shape_of}
+use Rattle.lil_resolved.specs.Resolved.{Designator, Variable, Held, Field, Element, Follow, Function, Abs, Cap, Chr, Odd, Ord, Val, Expression, Constant, Taken, One, Two, Short, Apply, With, WithSpan, Argument, ByValue, OfArray, OfText, Label, Statement, Assign, Copy, Text, Change, Member, New, Allocate, Request, If, Case, While, Repeat, Loop, Exit, Halt, Return, For, Inside, Statements, Empty, Then, Arms, NoElse, Else, Arm, Resolved, kind_of, counted_as, shape_of}
 use Rattle.lil_resolved.specs.Shapes.{words, shape_at}
 use Rattle.lil_resolved.specs.Depth.{frame_words}
 use Rattle.lil_resolved.specs.Sound.{takes_two}
-use Rattle.lil_resolved.specs.Sizes.{argument_size, one_size, two_size, test_size, function_size, Form, Direct, Exact, Beyond, field_form, form_of, address_size, load_size, ready_size, store_size, again_size, under_size, place_size, target_size, size, arguments_size, statement_size, body_size, arms_size, code_size}
+use Rattle.lil_resolved.specs.Sizes.{argument_size, one_size, two_size, test_size, function_size, Form, Direct, Exact, Beyond, field_form, form_of, address_size, load_size, ready_size, store_size, again_size, under_size, place_size, target_size, size, arguments_size, allocate_size, statement_size, body_size, arms_size, code_size}
 use Rattle.lil_asm.specs.declared.instr.Instr.{Instr}
 use Rattle.lil_asm.specs.declared.instr.Instr.TheVariants.{Liw, Lag, Dup, Drp, Nlt, Llw, Slw, Sgw, Swp, Rgc, Lsi, Spn, Ent, Rtn, Jmp, Jpf, Cas, Fri, Frn, Trp, Alc, Svc}
 use Rattle.lil_asm.specs.Bytes.{bytes_of}
 use Rattle.lil_asm.specs.Decoding.{decoded_stands}
-use Rattle.lil_table.specs.Rows.{Layout, holding, argument_words, ArgumentAt, IsAt, InstrsAt, one_code, whole_code, number_code, two_code, range_code, test_code, function_code, Access, InData, OnTop, Behind, further, access_of, address_code, load_code, ready_code, readied, held, store_code, again_code, under_code, change_operator, change_code, member_code, short_code, loop_place, loop_sign, ValueRow, TargetRow, EntriesAt, AlignAt, PlaceAt, ExpressionAt, ArgumentsAt, StatementAt, BodyAt, ArmsAt, TranslatesBy}
+use Rattle.lil_table.specs.Rows.{Layout, holding, argument_words, ArgumentAt, IsAt, InstrsAt, one_code, whole_code, number_code, two_code, range_code, test_code, function_code, Access, InData, OnTop, Behind, further, access_of, address_code, load_code, ready_code, readied, held, store_code, again_code, under_code, change_operator, change_code, member_code, allocate_code, short_code, loop_place, loop_sign, ValueRow, TargetRow, EntriesAt, AlignAt, PlaceAt, ExpressionAt, ArgumentsAt, StatementAt, BodyAt, ArmsAt, TranslatesBy}
 
 -- the bytes of an instruction, and of several
 abbrev pub instr_size : Instr → ℕ
@@ -52,9 +52,9 @@ two_sized o OfSet h = cc
 two_sized Slash (OfWhole t) h = cc
 two_sized o (OfWhole Cardinal) h = refl
 two_sized o (OfWhole Integer) h = refl
-two_sized Equal (OfPointer n) h = refl
-two_sized Unequal (OfPointer n) h = refl
-two_sized o (OfPointer n) h = cc
+two_sized Equal (OfPointer to) h = refl
+two_sized Unequal (OfPointer to) h = refl
+two_sized o (OfPointer to) h = cc
 two_sized Equal k h = refl
 two_sized Unequal k h = refl
 two_sized Less k h = refl
@@ -66,6 +66,10 @@ two_sized o k h = cc
 member_sized : (out : Bool) → instr_size (member_code out) ≡ 1
 member_sized false = refl
 member_sized true = refl
+
+allocate_sized : (back : Bool) → instrs_size (allocate_code back) ≡ allocate_size back
+allocate_sized false = refl
+allocate_sized true = refl
 
 short_sized : (d : Bool) (to : ℕ) → instr_size (short_code d to) ≡ 3
 short_sized true to = refl
@@ -290,6 +294,14 @@ mutual
       )
   statement_long l code n exit (New d k) p q h =
       omega (arith, addressed_long l code d p h.found h.start h.here h.address, instrs_long code (Liw (words (shape_at l.scope.targets k)) ∷ Alc ∷ []) h.start q h.by)
+  statement_long l code n exit (Allocate back d e) p q h =
+      omega (
+        arith,
+        addressed_long l code d p h.found h.start h.here h.address,
+        value_long l code 1 e (OfWhole Cardinal) h.start h.middle h.value,
+        instrs_long code (allocate_code back) h.middle q h.by,
+        allocate_sized back,
+      )
   statement_long l code n exit (Request r given) p q h = omega (arith, arguments_long l code 0 given p h.middle h.arguments, instr_long code h.middle (Svc r) q h.by)
   statement_long l code n exit (If c a b) p q h =
       omega (arith, expression_long l code c p h.middle h.condition.value, instr_long code h.middle (Jpf (l.target h.other)) h.start h.jump, body_long l code n exit a h.start h.end h.chosen, instr_long code h.end (Jmp (l.target q)) h.other h.skip, body_long l code n exit b h.other q h.otherwise)

@@ -6,10 +6,10 @@ use Rattle.lil_base.specs.declared.operator.OneOp.{OneOp}
 use Rattle.lil_base.specs.declared.operator.OneOp.TheVariants as one
 use Rattle.lil_base.specs.declared.operator.TwoOp.{TwoOp}
 use Rattle.lil_base.specs.declared.operator.TwoOp.TheVariants.{Equal, Unequal, Less, AtMost, Greater, AtLeast, In, Plus, Minus, Times, Slash, Div, Mod}
-use Rattle.lil_resolved.specs.Kinds.{Kind, OfWhole, OfTruth, OfCharacter, OfSet, OfPointer, base_of, is_base, is_ordinal, is_set, is_plain, is_element, takes_value, stores_value, compared_as, covers, shared, outside_turns, least, numbers}
+use Rattle.lil_resolved.specs.Kinds.{Objects, Workspaces, Kind, OfWhole, OfTruth, OfCharacter, OfSet, OfPointer, base_of, is_base, is_ordinal, is_set, is_plain, is_element, takes_value, stores_value, compared_as, covers, shared, outside_turns, least, numbers}
 use Rattle.lil_resolved.specs.Scalars.{Scalar, is_literal, scalar_word}
 use Rattle.lil_resolved.specs.Shapes.{Shape, Word, Row, Scope, outermost, with_held, words, is_there, part_at, offset, all_words, offsets_from, shape_at, element_of}
-use Rattle.lil_resolved.specs.Resolved.{Designator, Variable, Held, Field, Element, Follow, Function, Abs, Cap, Chr, Odd, Ord, Val, Expression, Constant, Taken, One, Two, Short, Apply, With, WithSpan, Argument, ByValue, OfArray, OfText, Label, Statement, Assign, Copy, Text, Change, Member, New, Request, If, Case, While, Repeat, Loop, Exit, Halt, Return, For, Inside, Statements, Empty, Then, Arms, NoElse, Else, Arm, Resolved, kind_of, right_kind, counted_as, shape_of}
+use Rattle.lil_resolved.specs.Resolved.{Designator, Variable, Held, Field, Element, Follow, Function, Abs, Cap, Chr, Odd, Ord, Val, Expression, Constant, Taken, One, Two, Short, Apply, With, WithSpan, Argument, ByValue, OfArray, OfText, Label, Statement, Assign, Copy, Text, Change, Member, New, Allocate, Request, If, Case, While, Repeat, Loop, Exit, Halt, Return, For, Inside, Statements, Empty, Then, Arms, NoElse, Else, Arm, Resolved, kind_of, right_kind, counted_as, shape_of}
 use Rattle.lil_resolved.specs.Depth.{place_depth, depth, frame_words}
 use Rattle.lil_resolved.specs.Sound.{takes_one, takes_two, takes_function, IsScalar, IsSoundLabel, IsStep, is_text, request_parameters, parameter_of}
 use Rattle.lil_asm.specs.declared.instr.Instr.{Instr}
@@ -348,7 +348,7 @@ pub record ElementRow (l : Layout) (code : List ℕ) (d : Designator) (k : Kind)
 pub record FollowRow (l : Layout) (code : List ℕ) (d : Designator) (n : ℕ) (pointer : Span) (p q : ℕ) : Type 0 where
   pub found : ℕ
   pub loaded : ℕ
-  pub typed : shape_of l.scope d ≡ Word (OfPointer n)
+  pub typed : shape_of l.scope d ≡ Word (OfPointer (Objects n))
   pub there : is_there (shape_at l.scope.targets n) ≡ true
   pub here : pointer p found
   pub load : IsAt code found (load_code (access_of l d)) loaded
@@ -456,12 +456,30 @@ pub record MemberRow (l : Layout) (code : List ℕ) (out : Bool) (d : Designator
 pub record NewRow (l : Layout) (code : List ℕ) (d : Designator) (n : ℕ) (p q : ℕ) : Type 0 where
   pub found : ℕ
   pub start : ℕ
-  pub typed : shape_of l.scope d ≡ Word (OfPointer n)
+  pub typed : shape_of l.scope d ≡ Word (OfPointer (Objects n))
   pub there : is_there (shape_at l.scope.targets n) ≡ true
   pub shallow : place_depth d ≤ 16
   pub here : PlaceAt l code d p found
   pub address : InstrsAt code (address_code (access_of l d)) found start
   pub by : InstrsAt code (Liw (words (shape_at l.scope.targets n)) ∷ Alc ∷ []) start q
+
+-- what stands behind an address's place and a number of words: a block is taken, or the number goes and the address becomes NIL
+abbrev pub allocate_code : Bool → List Instr
+allocate_code false = Alc ∷ []
+allocate_code true = Drp ∷ Liw 0 ∷ Sti ∷ []
+
+-- the place of an address, and a number of words with its test
+pub record AllocateRow (l : Layout) (code : List ℕ) (back : Bool) (d : Designator) (e : Expression) (p q : ℕ) : Type 0 where
+  pub found : ℕ
+  pub start : ℕ
+  pub middle : ℕ
+  pub typed : shape_of l.scope d ≡ Word (OfPointer Workspaces)
+  pub takes : takes_value (OfWhole Cardinal) (kind_of e) ≡ true
+  pub shallow : place_depth d ≤ 16
+  pub here : PlaceAt l code d p found
+  pub address : InstrsAt code (address_code (access_of l d)) found start
+  pub value : ValueRow l code 1 e (OfWhole Cardinal) start middle
+  pub by : InstrsAt code (allocate_code back) middle q
 
 -- how many words a string takes, at least one
 abbrev pub text_words : List ℕ → ℕ
@@ -733,6 +751,7 @@ abbrev mutual
   StatementAt l code n exit (Change down d k e) p q = ChangeRow l code down d k e p q
   StatementAt l code n exit (Member out d k e) p q = MemberRow l code out d k e p q
   StatementAt l code n exit (New d k) p q = NewRow l code d k p q
+  StatementAt l code n exit (Allocate back d e) p q = AllocateRow l code back d e p q
   StatementAt l code n exit (Request r given) p q = RequestRow l code r given p q
   StatementAt l code n exit (If c a b) p q = IfRow l code c (BodyAt l code n exit a) (BodyAt l code n exit b) p q
   StatementAt l code n exit (Case e arms) p q = CaseRow l code e (ArmsAt l code n exit (kind_of e) arms) p q

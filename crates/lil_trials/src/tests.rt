@@ -293,7 +293,7 @@ const CHECKED: &[(&[u8], &[u8])] = &[
         b"40: 90 NotBuilt",
     ),
     (b"FROM InOut IMPORT WriteString,Read;", b"40: 90 NotBuilt"),
-    // the resident modules whose names have no code
+    // Storage and SYSTEM
     (b"FROM SYSTEM IMPORT WORD;", b"29: 20 Unknown"),
     (
         b"FROM SYSTEM IMPORT TRANSFER;BEGIN TRANSFER() ",
@@ -314,6 +314,30 @@ const CHECKED: &[(&[u8], &[u8])] = &[
     (
         b"FROM Storage IMPORT ALLOCATE;VAR z:PROC;BEGIN z:=ALLOCATE ",
         b"59: 41 ProcValue",
+    ),
+    (
+        b"FROM SYSTEM IMPORT ADDRESS;FROM Storage IMPORT ALLOCATE;VAR p:POINTER TO CHAR;BEGIN ALLOCATE(p,1) ",
+        b"103: 33 VarArgument",
+    ),
+    (
+        b"FROM SYSTEM IMPORT ADDRESS;FROM Storage IMPORT ALLOCATE;VAR a:ADDRESS;BEGIN ALLOCATE(a,-1) ",
+        b"97: 50 ConstRange",
+    ),
+    (
+        b"FROM SYSTEM IMPORT ADDRESS;FROM Storage IMPORT DEALLOCATE;VAR a:ADDRESS;BEGIN DEALLOCATE(a) ",
+        b"88: 32 ArgCount",
+    ),
+    (
+        b"FROM SYSTEM IMPORT ADDRESS;VAR a:ADDRESS;p:POINTER TO CHAR;BEGIN a:=p ",
+        b"76: 31 Assign",
+    ),
+    (
+        b"FROM SYSTEM IMPORT ADDRESS;VAR a:ADDRESS;BEGIN IF a<NIL THEN END ",
+        b"61: 30 Operands",
+    ),
+    (
+        b"FROM SYSTEM IMPORT ADDRESS,PROCESS;VAR p:PROCESS;",
+        b"37: 90 NotBuilt",
     ),
     (
         b"FROM SYSTEM IMPORT NEWPROCESS,ADDRESS;",
@@ -1009,21 +1033,112 @@ const POINTER_TRAPS: &[(&[u8], &[u8], &[u8])] = &[
     (b"NEW(a[c])", b"", b"range"),
 ];
 
+/// Statements between two texts that come to the limit of the store, each with what it shows before behind `~`.
+fn check_limits(
+    rt: &impl Abort,
+    alloc: Global,
+    name: &[u8],
+    around_them: (&[u8], &[u8]),
+    rows: &[&[u8]],
+) -> Result<(), Fail> {
+    let (before, behind) = around_them;
+    let line = around(alloc, b"once ", name, b".MOD")?;
+    let file = around(alloc, b"", name, b".MOD")?;
+    for row in rows {
+        let (body, shown) = parts(alloc, row)?;
+        let text = around(alloc, before, body.as_slice(), behind)?;
+        let want = Want {
+            status: 6,
+            shown: shown.as_slice(),
+            reported: b"limit store\n",
+            ..NOTHING
+        };
+        check(rt, alloc, line.as_slice(), file.as_slice(), text, want)?;
+    }
+    Ok(())
+}
+
 /// What statements over pointers show, which traps they come to, and that NEW finds room six times and no seventh.
 #[test]
 fn pointers(rt: HostRuntime) -> Result<(), Fail> {
     let alloc = rt.alloc();
     let around_them = (POINTERS_BEFORE, POINTERS_BEHIND);
     check_rows(&rt, alloc, b"P", around_them, POINTERS, POINTER_TRAPS)?;
-    let endless = b"LOOP NEW(m); Write('x') END";
-    let text = around(alloc, POINTERS_BEFORE, endless, POINTERS_BEHIND)?;
-    let want = Want {
-        status: 6,
-        shown: b"xxxxxx",
-        reported: b"limit store\n",
-        ..NOTHING
-    };
-    check(&rt, alloc, b"once P.MOD", b"P.MOD", text, want)
+    let endless: &[&[u8]] = &[b"LOOP NEW(m); Write('x') END~xxxxxx"];
+    check_limits(&rt, alloc, b"P", around_them, endless)
+}
+
+/// What stands around the statements of a program A, with addresses in variables, arrays, records and objects: 14 words of
+/// data, and 4 of the body.
+const ADDRESSES_BEFORE: &[u8] =
+    b"MODULE A; FROM InOut IMPORT Write, WriteCard; FROM SYSTEM IMPORT ADDRESS; FROM Storage IMPORT ALLOCATE, DEALLOCATE; TYPE list = POINTER TO node; node = RECORD at: ADDRESS; next: list END; VAR a, b: ADDRESS; v: ARRAY [1 .. 3] OF ADDRESS; r, s: RECORD n: CARDINAL; at: ADDRESS END; p, q: list; c: CARDINAL; i: INTEGER; u: [5 .. 9]; BEGIN ";
+
+const ADDRESSES_BEHIND: &[u8] = b" END A.";
+
+/// Statements over addresses that end, and behind `~` what they show.
+const ADDRESSES: &[&[u8]] = &[
+    // NIL at first, the address of a workspace, a copy of it that stays, and NIL again
+    b"IF a = NIL THEN Write('n') END; ALLOCATE(a, 10); IF a # NIL THEN Write('a') END; b := a; IF b = a THEN Write('b') END; DEALLOCATE(a, 10); IF a = NIL THEN Write('c') END; IF b = NIL THEN Write('x') END~nabc",
+    b"ALLOCATE(a, 1); b := a; a := NIL; IF (a = NIL) & (b # a) & (NIL # b) THEN Write('y') END~y",
+    // two workspaces have two addresses, those of no words too
+    b"ALLOCATE(a, 10); ALLOCATE(b, 10); IF a # b THEN Write('d') END; IF a = b THEN Write('x') END~d",
+    b"ALLOCATE(a, 0); ALLOCATE(b, 0); IF (a # NIL) & (a # b) THEN Write('d') END; ALLOCATE(v[1], 1); ALLOCATE(v[2], 0); IF (v[1] # b) & (v[2] # v[1]) THEN Write('e') END~de",
+    // what was given back is taken by no other, whatever number of words stands there, and NIL may be given back
+    b"ALLOCATE(a, 5); b := a; DEALLOCATE(a, 5); ALLOCATE(a, 5); IF (a # NIL) & (a # b) THEN Write('d') END~d",
+    b"ALLOCATE(a, 7); DEALLOCATE(a, 65535); IF a = NIL THEN Write('n') END; DEALLOCATE(a, 0); IF a = NIL THEN Write('m') END~nm",
+    // numbers of words of all whole types, constants, and the deepest one
+    b"i := 3; u := 9; ALLOCATE(a, i); ALLOCATE(b, u); DEALLOCATE(b, i - 3); ALLOCATE(v[2], c); ALLOCATE(v[3], ORD('b')); IF (a # b) & (b = NIL) & (v[2] # v[3]) THEN Write('y') END~y",
+    b"c := 1; ALLOCATE(a, c + (c + (c + (c + (c + (c + (c + (c + ORD(c IN {c}))))))))); IF a # NIL THEN Write('d') END~d",
+    // in arrays, records and objects, and whole copies of them
+    b"FOR c := 1 TO 3 DO ALLOCATE(v[c], c) END; IF (v[1] # v[2]) & (v[2] # v[3]) & (v[3] # v[1]) THEN Write('d') END; DEALLOCATE(v[2], 2); FOR c := 1 TO 3 DO IF v[c] = NIL THEN WriteCard(c, 1) END END~d2",
+    b"ALLOCATE(r.at, 4); s := r; IF s.at = r.at THEN Write('s') END; DEALLOCATE(s.at, 4); IF (s.at = NIL) & (r.at # NIL) THEN Write('n') END; WITH r DO b := at; DEALLOCATE(at, 4) END; IF (r.at = NIL) & (b # NIL) THEN Write('w') END~snw",
+    b"NEW(p); IF p^.at = NIL THEN Write('n') END; ALLOCATE(p^.at, 6); NEW(q); q^ := p^; IF q^.at = p^.at THEN Write('s') END; ALLOCATE(p^.at, 6); IF q^.at # p^.at THEN Write('d') END~nsd",
+    b"FOR c := 1 TO 4 DO NEW(q); q^.next := p; ALLOCATE(q^.at, c); p := q END; WHILE p # NIL DO IF p^.at = a THEN Write('x') ELSE Write('d') END; a := p^.at; p := p^.next END~dddd",
+    // a workspace leaves what lies beside it
+    b"NEW(p); ALLOCATE(p^.at, 9); NEW(p^.next); r.n := 7; ALLOCATE(a, 100); NEW(q); IF (p^.next # NIL) & (p^.next # q) & (q^.at = NIL) THEN WriteCard(r.n, 1) END~7",
+];
+
+/// Statements over addresses that trap: what they show before, and the trap.
+const ADDRESS_TRAPS: &[(&[u8], &[u8], &[u8])] = &[
+    (
+        b"i := 3; ALLOCATE(a, i); Write('a'); i := -1; ALLOCATE(a, i); Write('b')",
+        b"a",
+        b"range",
+    ),
+    (
+        b"ALLOCATE(a, 3); Write('a'); i := -1; DEALLOCATE(a, i); Write('b')",
+        b"a",
+        b"range",
+    ),
+    (b"i := MIN(INTEGER); DEALLOCATE(b, i)", b"", b"range"),
+    (b"ALLOCATE(a, c - 1)", b"", b"overflow"),
+    // the place comes first, then the number, and then its test
+    (b"ALLOCATE(v[c], 1 DIV c)", b"", b"range"),
+    (b"ALLOCATE(v[c + 1], 1 DIV c)", b"", b"divisor"),
+    (b"ALLOCATE(p^.at, 1 DIV c)", b"", b"nil"),
+    (b"NEW(p); DEALLOCATE(p^.at, 1 DIV c)", b"", b"divisor"),
+    (b"DEALLOCATE(p^.next^.at, 1)", b"", b"nil"),
+    (b"i := -1; ALLOCATE(a, i DIV (i + 1))", b"", b"divisor"),
+];
+
+/// Statements over addresses that come to the limit of the store, each with what it shows before behind `~`. Workspaces and
+/// their two words more have 65,516 words of it.
+const ADDRESS_LIMITS: &[&[u8]] = &[
+    b"LOOP ALLOCATE(a, 10000); Write('x'); DEALLOCATE(a, 10000) END~xxxxxx",
+    b"ALLOCATE(a, 65514); Write('x'); ALLOCATE(b, 0)~x",
+    b"ALLOCATE(a, 65510); Write('x'); ALLOCATE(b, 0); ALLOCATE(b, 0); Write('y'); ALLOCATE(b, 0)~xy",
+    b"Write('x'); ALLOCATE(a, 65515)~x",
+    b"Write('x'); ALLOCATE(a, 65535)~x",
+    b"ALLOCATE(a, 65510); Write('x'); NEW(p); Write('y'); NEW(p)~xy",
+];
+
+/// What statements over addresses show, which traps they come to, and how much room they find.
+#[test]
+fn addresses(rt: HostRuntime) -> Result<(), Fail> {
+    let alloc = rt.alloc();
+    let around_them = (ADDRESSES_BEFORE, ADDRESSES_BEHIND);
+    check_rows(&rt, alloc, b"A", around_them, ADDRESSES, ADDRESS_TRAPS)?;
+    check_limits(&rt, alloc, b"A", around_them, ADDRESS_LIMITS)
 }
 
 /// So many assignments of 10 bytes of code each, in a module that has 4 bytes beside them.

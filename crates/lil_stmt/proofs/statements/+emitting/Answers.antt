@@ -11,7 +11,7 @@ use Rattle.lil_resolved.specs.Kinds.{base_of, compared_as, covers, outside_turns
 use Rattle.lil_resolved.specs.Resolved as resolved
 use Rattle.lil_resolved.specs.Resolved.{Statements, Loop, For, Halt, Return, kind_of}
 use Rattle.lil_resolved.specs.Views.{kind_view, request_number, argument_of, expression_of, place_of, statement_of, statements_of}
-use Rattle.lil_resolved.specs.Forms.{assign_is, copy_is, text_is, change_is, member_changed_is, new_is, request_is, halt_is, return_is, if_is}
+use Rattle.lil_resolved.specs.Forms.{assign_is, copy_is, text_is, change_is, member_changed_is, new_is, allocate_is, request_is, halt_is, return_is, if_is}
 use Rattle.lil_labels.specs.Drafts.{Draft, Emits}
 use Rattle.lil_labels.specs.Emitting.{emits_as, with_ok}
 use Rattle.lil_expr.specs.Numbers.{number_word}
@@ -133,6 +133,13 @@ emit_statement-returns-in-New t c =
     let exit = c.args.around.exit in
     let is = ap statement_of c.in-New.is ∙ new_is c.in-New.place c.in-New.pointer in
     with_ok c.emit_new.result (λ h. one_emitted n exit _ _ _ _ is (h n exit)) c.emit_new.ensures
+
+pub emit_statement-returns-in-Allocate : goal.emit_statement-returns-in-Allocate
+emit_statement-returns-in-Allocate t c =
+    let n = c.args.around.words in
+    let exit = c.args.around.exit in
+    let is = ap statement_of c.in-Allocate.is ∙ allocate_is c.in-Allocate.way c.in-Allocate.place c.in-Allocate.words in
+    with_ok c.emit_allocate.result (λ h. one_emitted n exit _ _ _ _ is (h n exit)) c.emit_allocate.ensures
 
 pub emit_statement-returns-in-Request : goal.emit_statement-returns-in-Request
 emit_statement-returns-in-Request t c =
