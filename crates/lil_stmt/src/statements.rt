@@ -1,10 +1,11 @@
 //! The code of resolved statements.
 
-ghost use Rattle.std.specs.Prelude.{◌≡◌, length, IfOk, OnOk};
+ghost use Rattle.std.specs.Prelude.{◌≡◌, true, length, IfOk, OnOk};
 ghost use Rattle.lil_resolved.specs.Resolved.{While, Repeat, Loop, For, Inside};
 ghost use Rattle.lil_resolved.specs.Views.{variable_kind, expression_of, place_of, statement_of, statements_of, guard_of};
 ghost use Rattle.lil_labels.specs.Drafts.{Emits};
 ghost use Rattle.lil_stmt.specs.Generating.{Stated, Body, Turning, Each, ArmPart, ArmBody, Trapping, nothing_before, guards_before, paired};
+ghost use Rattle.lil_stmt.specs.Forms.{is_simple, is_case};
 
 use crate::cases::emit_choice;
 use crate::kinds::{emit_turn_test, loop_sign};
@@ -50,6 +51,30 @@ fn emit_statement(
     ensures { OnOk result (Emits code.old code.new (Body around.words around.exit (statement_of statement.now))) }
 {
     match statement {
+        RStmt::If(guards, otherwise) => {
+            let end = code.fresh()?;
+            emit_guards(code, guards.as_slice(), end, around)?;
+            emit_body(code, otherwise.as_slice(), around)?;
+            code.here(end)
+        }
+        RStmt::Case(_, _, _) => emit_case(code, statement, around),
+        RStmt::While(condition, body) => emit_while(code, body.as_slice(), condition, around),
+        RStmt::Repeat(body, condition) => emit_repeat(code, body.as_slice(), condition, around),
+        RStmt::Loop(body) => emit_loop(code, body.as_slice(), around),
+        RStmt::For(variable, from, to, step, body) => {
+            emit_for(code, body.as_slice(), *variable, from, to, *step, around)
+        }
+        RStmt::With(place, body) => emit_with(code, body.as_slice(), place, around),
+        _ => emit_simple(code, statement, around),
+    }
+}
+
+/// Appends the code of a statement that holds no others.
+fn emit_simple(code: &mut CodeBuffer<'_>, statement: &RStmt, around: Around) -> Result<(), Memory>
+    requires { is_simple statement.now ≡ true }
+    ensures { OnOk result (Emits code.old code.new (Body around.words around.exit (statement_of statement.now))) }
+{
+    match statement {
         RStmt::Assign(place, kind, value) => emit_assign(code, place, *kind, value),
         RStmt::Copy(place, from) => emit_copy(code, place, from),
         RStmt::Text(place, text) => emit_text(code, place, text),
@@ -58,39 +83,36 @@ fn emit_statement(
         RStmt::New(place, pointer) => emit_new(code, place, *pointer),
         RStmt::Allocate(way, place, words) => emit_allocate(code, *way, place, words),
         RStmt::Request(request, given) => emit_request(code, *request, given.as_slice()),
-        RStmt::If(guards, otherwise) => {
-            let end = code.fresh()?;
-            emit_guards(code, guards.as_slice(), end, around)?;
-            emit_body(code, otherwise.as_slice(), around)?;
-            code.here(end)
-        }
-        RStmt::Case(value, arms, otherwise) => {
-            let table = code.fresh()?;
-            let end = code.fresh()?;
-            emit_expression(code, value)?;
-            code.jump(Aim::Always, table)?;
-            let leave = code.mark()?;
-            code.jump(Aim::Always, end)?;
-            let labels = emit_arms(code, arms.as_slice(), leave, around)?;
-            let other = match otherwise {
-                None => emit_no_arm(code)?,
-                Some(body) => emit_arm(code, body.as_slice(), leave, around)?,
-            };
-            code.here(table)?;
-            emit_choice(code, arms.as_slice(), labels.as_slice(), other)?;
-            code.here(end)
-        }
-        RStmt::While(condition, body) => emit_while(code, body.as_slice(), condition, around),
-        RStmt::Repeat(body, condition) => emit_repeat(code, body.as_slice(), condition, around),
-        RStmt::Loop(body) => emit_loop(code, body.as_slice(), around),
         RStmt::Exit => emit_exit(code, around),
         RStmt::Halt => code.put(Instr::Trp(9)),
         RStmt::Return => code.put(Instr::Rtn),
-        RStmt::For(variable, from, to, step, body) => {
-            emit_for(code, body.as_slice(), *variable, from, to, *step, around)
-        }
-        RStmt::With(place, body) => emit_with(code, body.as_slice(), place, around),
+        _ => unreachable!(),
     }
+}
+
+/// Appends the code of a CASE: the value, a jump to the table, the exit, the arms, what stands behind ELSE, and the table.
+#[cycle(emitting)]
+fn emit_case(code: &mut CodeBuffer<'_>, statement: &RStmt, around: Around) -> Result<(), Memory>
+    requires { is_case statement.now ≡ true }
+    ensures { OnOk result (Emits code.old code.new (Body around.words around.exit (statement_of statement.now))) }
+{
+    let RStmt::Case(value, arms, otherwise) = statement else {
+        unreachable!()
+    };
+    let table = code.fresh()?;
+    let end = code.fresh()?;
+    emit_expression(code, value)?;
+    code.jump(Aim::Always, table)?;
+    let leave = code.mark()?;
+    code.jump(Aim::Always, end)?;
+    let labels = emit_arms(code, arms.as_slice(), leave, around)?;
+    let other = match otherwise {
+        None => emit_no_arm(code)?,
+        Some(body) => emit_arm(code, body.as_slice(), leave, around)?,
+    };
+    code.here(table)?;
+    emit_choice(code, arms.as_slice(), labels.as_slice(), other)?;
+    code.here(end)
 }
 
 /// Appends the code of the guards of an IF that ends at a label.
