@@ -1,5 +1,5 @@
 -- What each form of statement is, from what its parts are.
-use Rattle.std.proofs.Common.{◌≡◌, ℤ, Bool, true, List, map, Option, None, Some, sym, ap, ◌∙◌}
+use Rattle.std.proofs.Common.{◌≡◌, ℤ, Bool, true, List, map, Option, None, Some, refl, sym, ap, ◌∙◌}
 use Rattle.std.specs.Option.{option_map}
 use Rattle.lil_module.specs.declared.declared.RModule.{RModule}
 use Rattle.lil_module.specs.declared.tree.Standard.{Standard}
@@ -25,6 +25,7 @@ use Rattle.lil_lower_type.specs.ListLaws.{map_of_map}
 use Rattle.lil_lower_value.specs.Places.{Around}
 use Rattle.lil_lower_value.specs.Values.{root, designator}
 use Rattle.lil_lower.specs.declared.selectors.Ordinal.{Ordinal}
+use Rattle.lil_lower.specs.Branches.{else_body, else_arm, case_by}
 use Rattle.lil_lower.specs.Calls.{called, procedure}
 use Rattle.lil_lower.specs.Lowered as s
 use Rattle.lil_lower.specs.Lowered.{Meaning, GuardMeaning, ArmMeaning, value, statement_layer, arm_layer, guard_layer, statement, arm, guard, statements}
@@ -56,27 +57,40 @@ module _ (m : RModule) where
     arms_are : (k : RBase) (arms : List RArm) → all_some (map (λ (a : ArmMeaning). a around looping k) (map (arm m) arms)) ≡ all_some (map (λ a. arm m a around looping k) arms)
     arms_are k arms = ap all_some (map_of_map (λ (a : ArmMeaning). a around looping k) (arm m) arms)
 
-    pub if_without : (gs : List RGuard) → statement m (v.If gs None) around looping ≡ s.conditional (all_some (map (λ g. guard m g around looping) gs)) (s.else_body around looping None)
+    if_without : (gs : List RGuard) → statement m (v.If gs None) around looping ≡ s.conditional (all_some (map (λ g. guard m g around looping) gs)) (s.else_body around looping None)
     if_without gs = at (ap (statement m) (sym (v.rolls-If gs None)) ∙ rolled (o.If gs None)) ∙ ap (λ os. s.conditional os (s.else_body around looping None)) (guards_are gs)
 
-    pub if_with : (gs : List RGuard) (ss : List RStmt) → statement m (v.If gs (Some ss)) around looping ≡ s.conditional (all_some (map (λ g. guard m g around looping) gs)) (statements m around looping ss)
+    if_with : (gs : List RGuard) (ss : List RStmt) → statement m (v.If gs (Some ss)) around looping ≡ s.conditional (all_some (map (λ g. guard m g around looping) gs)) (statements m around looping ss)
     if_with gs ss = at (ap (statement m) (sym (v.rolls-If gs (Some ss))) ∙ rolled (o.If gs (Some ss))) ∙ (λ j. s.conditional (guards_are gs j) (body_is ss j))
+
+    pub if_is : (gs : List RGuard) (other : Option (List RStmt)) → statement m (v.If gs other) around looping ≡ s.conditional (all_some (map (λ g. guard m g around looping) gs)) (else_body m around looping other)
+    if_is gs None = if_without gs
+    if_is gs (Some ss) = if_with gs ss
 
     case_at : (by : Option Ordinal) (x : RExpr) (arms : List RArm) (other : Option (List RStmt)) → s.selector m around x ≡ by
         → statement m (v.Case x arms other) around looping ≡ s.case_by m by x around looping (map (arm m) arms) (option_map (map (statement m)) other)
     case_at by x arms None is = at (ap (statement m) (sym (v.rolls-Case x arms None)) ∙ rolled (o.Case x arms None)) ∙ ap (λ n. s.case_by m n x around looping (map (arm m) arms) None) is
     case_at by x arms (Some ss) is = at (ap (statement m) (sym (v.rolls-Case x arms (Some ss))) ∙ rolled (o.Case x arms (Some ss))) ∙ ap (λ n. s.case_by m n x around looping (map (arm m) arms) (Some (map (statement m) ss))) is
 
-    pub case_none : (x : RExpr) (arms : List RArm) (other : Option (List RStmt)) → s.selector m around x ≡ None → statement m (v.Case x arms other) around looping ≡ None
+    case_none : (x : RExpr) (arms : List RArm) (other : Option (List RStmt)) → s.selector m around x ≡ None → statement m (v.Case x arms other) around looping ≡ None
     case_none x arms other is = case_at None x arms other is
 
-    pub case_without : (by : Ordinal) (x : RExpr) (arms : List RArm) → s.selector m around x ≡ Some by
+    case_without : (by : Ordinal) (x : RExpr) (arms : List RArm) → s.selector m around x ≡ Some by
         → statement m (v.Case x arms None) around looping ≡ s.selected (value m around x by.sort) (all_some (map (λ a. arm m a around looping by.base) arms)) (s.else_arms around looping None)
     case_without by x arms is = case_at (Some by) x arms None is ∙ ap (λ os. s.selected (value m around x by.sort) os (s.else_arms around looping None)) (arms_are by.base arms)
 
-    pub case_with : (by : Ordinal) (x : RExpr) (arms : List RArm) (ss : List RStmt) → s.selector m around x ≡ Some by
+    case_with : (by : Ordinal) (x : RExpr) (arms : List RArm) (ss : List RStmt) → s.selector m around x ≡ Some by
         → statement m (v.Case x arms (Some ss)) around looping ≡ s.selected (value m around x by.sort) (all_some (map (λ a. arm m a around looping by.base) arms)) (option_map Else (statements m around looping ss))
     case_with by x arms ss is = case_at (Some by) x arms (Some ss) is ∙ (λ j. s.selected (value m around x by.sort) (arms_are by.base arms j) (option_map Else (body_is ss j)))
+
+    case_when : (by : Option Ordinal) (x : RExpr) (arms : List RArm) (other : Option (List RStmt)) → s.selector m around x ≡ by
+        → statement m (v.Case x arms other) around looping ≡ case_by m around looping by x arms (else_arm m around looping other)
+    case_when None x arms other is = case_none x arms other is
+    case_when (Some by) x arms None is = case_without by x arms is
+    case_when (Some by) x arms (Some ss) is = case_with by x arms ss is
+
+    pub case_is : (x : RExpr) (arms : List RArm) (other : Option (List RStmt)) → statement m (v.Case x arms other) around looping ≡ case_by m around looping (s.selector m around x) x arms (else_arm m around looping other)
+    case_is x arms other = case_when (s.selector m around x) x arms other refl
 
     pub while_is : (x : RExpr) (ss : List RStmt) → statement m (v.While x ss) around looping ≡ s.repeated_while (value m around x boolean) (statements m around looping ss)
     while_is x ss = at (ap (statement m) (sym (v.rolls-While x ss)) ∙ rolled (o.While x ss)) ∙ ap (s.repeated_while (value m around x boolean)) (body_is ss)
@@ -111,4 +125,4 @@ module _ (m : RModule) where
   with_is around looping d ss =
       at around looping (ap (statement m) (sym (v.rolls-With d ss)) ∙ rolled (o.With d ss)) ∙ (λ j. s.within around (s.held m around d) (λ inside. body_is inside looping ss j))
 
-pub ruleset forms = (assign_is, call_is, procedure_is, while_is, repeat_is, for_is, with_is, exit_is, return_is, guard_is, arm_is, loop_is)
+pub ruleset forms = (assign_is, call_is, procedure_is, if_is, case_is, while_is, repeat_is, for_is, with_is, exit_is, return_is, guard_is, arm_is, loop_is)

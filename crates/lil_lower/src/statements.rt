@@ -3,6 +3,8 @@ ghost use Rattle.std.specs.Option.{option_map};
 ghost use Rattle.lil_resolved.specs.Resolved.{Else};
 ghost use Rattle.lil_resolved.specs.Views as view;
 ghost use Rattle.lil_lower_value.specs.Built.{reached, placed, celled};
+ghost use Rattle.lil_types.specs.Types.{boolean};
+ghost use Rattle.lil_lower.specs.Branches as branches;
 ghost use Rattle.lil_lower.specs.Calls as calls;
 ghost use Rattle.lil_lower.specs.Lowered as spec;
 ghost use Rattle.lil_lower.specs.Parts as parts;
@@ -317,50 +319,26 @@ fn statement(
         Tree::Call(callee, arguments) => called(alloc, m, around, callee, arguments.as_slice()),
         Tree::Procedure(of, arguments) => procedure(alloc, m, around, *of, arguments.as_slice()),
         Tree::If(guards, other) => {
-            let guards = all_guards(alloc, m, around, looping, guards.as_slice())?;
-            match other {
-                None => Ok(conditional(guards, Some(Items::new(alloc)))),
-                Some(other) => {
-                    let other = body(alloc, m, around, looping, other.as_slice())?;
-                    Ok(conditional(guards, other))
-                }
-            }
+            let other = else_body(alloc, m, around, looping, other)?;
+            if_statement(alloc, m, around, looping, guards.as_slice(), other)
         }
         Tree::Case(of, arms, other) => {
-            let Some(by) = selector(m, around, of) else {
-                return Ok(None);
-            };
-            let arms = all_arms(alloc, m, around, looping, by.base, arms.as_slice())?;
-            match other {
-                None => {
-                    let of = value(alloc, m, around, by.sort, of)?;
-                    Ok(selected(of, arms, Some(None)))
-                }
-                Some(other) => {
-                    let other = body(alloc, m, around, looping, other.as_slice())?;
-                    let of = value(alloc, m, around, by.sort, of)?;
-                    Ok(selected(of, arms, behind_else(other)))
-                }
-            }
+            let other = else_arm(alloc, m, around, looping, other)?;
+            case_statement(alloc, m, around, looping, arms.as_slice(), of, other)
         }
         Tree::While(of, statements) => {
-            let statements = body(alloc, m, around, looping, statements.as_slice())?;
-            let of = value(alloc, m, around, BOOLEAN, of)?;
-            Ok(repeated_while(of, statements))
+            while_statement(alloc, m, around, looping, statements.as_slice(), of)
         }
         Tree::Repeat(statements, of) => {
-            let statements = body(alloc, m, around, looping, statements.as_slice())?;
-            let of = value(alloc, m, around, BOOLEAN, of)?;
-            Ok(repeated_until(statements, of))
+            repeat_statement(alloc, m, around, looping, statements.as_slice(), of)
         }
         Tree::Loop(statements) => {
             let statements = body(alloc, m, around, true, statements.as_slice())?;
             Ok(looped(statements))
         }
         Tree::For(variable, from, to, by, statements) => {
-            let statements = body(alloc, m, around, looping, statements.as_slice())?;
-            let bounds = bounds(alloc, m, around, root(m, *variable), from, to)?;
-            Ok(repeated_for(bounds, *by, statements))
+            let range = bounds(alloc, m, around, root(m, *variable), from, to)?;
+            for_statement(alloc, m, around, looping, statements.as_slice(), range, *by)
         }
         Tree::With(of, statements) => {
             let held = held(alloc, m, around, of)?;
@@ -369,6 +347,142 @@ fn statement(
         Tree::Exit => Ok(exited(looping)),
         Tree::Return(of) => Ok(returned(of)),
     }
+}
+
+/// The statements behind ELSE of an IF, none where it has no ELSE.
+#[cycle(statement)]
+fn else_body(
+    alloc: Global,
+    m: &RModule,
+    around: &[TypeId],
+    looping: bool,
+    of: &Option<Items<Tree>>,
+) -> Result<Option<Items<RStmt>>, Memory>
+    requires { length m.now.variables ≤ 32000 }
+    ensures { IfOk result (λ o. option_map view.statements_of o ≡ branches.else_body m.now around.now looping of.now) }
+{
+    match of {
+        None => Ok(Some(Items::new(alloc))),
+        Some(of) => body(alloc, m, around, looping, of.as_slice()),
+    }
+}
+
+/// What stands behind ELSE of a CASE, also where it has no ELSE.
+#[cycle(statement)]
+fn else_arm(
+    alloc: Global,
+    m: &RModule,
+    around: &[TypeId],
+    looping: bool,
+    of: &Option<Items<Tree>>,
+) -> Result<Option<Option<Items<RStmt>>>, Memory>
+    requires { length m.now.variables ≤ 32000 }
+    ensures { IfOk result (λ o. option_map view.else_of o ≡ branches.else_arm m.now around.now looping of.now) }
+{
+    match of {
+        None => Ok(Some(None)),
+        Some(of) => Ok(behind_else(body(alloc, m, around, looping, of.as_slice())?)),
+    }
+}
+
+/// An IF, with the statements behind its ELSE.
+#[cycle(statement)]
+fn if_statement(
+    alloc: Global,
+    m: &RModule,
+    around: &[TypeId],
+    looping: bool,
+    guards: &[Guard],
+    other: Option<Items<RStmt>>,
+) -> Result<Option<RStmt>, Memory>
+    requires { length m.now.variables ≤ 32000 }
+    ensures { IfOk result (λ o. option_map view.statement_of o ≡ spec.conditional (spec.all_some (map (λ g. spec.guard m.now g around.now looping) guards.now)) (option_map view.statements_of other)) }
+{
+    let guards = all_guards(alloc, m, around, looping, guards);
+    let (other, guards) = beside(other, guards)?;
+    Ok(conditional(guards, other))
+}
+
+/// A CASE, with what stands behind its ELSE.
+#[cycle(statement)]
+fn case_statement(
+    alloc: Global,
+    m: &RModule,
+    around: &[TypeId],
+    looping: bool,
+    arms: &[Arm],
+    of: &Boxed<Value>,
+    other: Option<Option<Items<RStmt>>>,
+) -> Result<Option<RStmt>, Memory>
+    requires { length m.now.variables ≤ 32000 }
+    ensures { IfOk result (λ o. option_map view.statement_of o ≡ branches.case_by m.now around.now looping (spec.selector m.now around.now of.now) of.now arms.now (option_map view.else_of other)) }
+{
+    let Some(by) = selector(m, around, of) else {
+        drop(other);
+        return Ok(None);
+    };
+    let of = value(alloc, m, around, by.sort, of);
+    let (other, of) = beside(other, of)?;
+    let arms = all_arms(alloc, m, around, looping, by.base, arms);
+    let ((other, of), arms) = beside((other, of), arms)?;
+    Ok(selected(of, arms, other))
+}
+
+/// A WHILE.
+#[cycle(statement)]
+fn while_statement(
+    alloc: Global,
+    m: &RModule,
+    around: &[TypeId],
+    looping: bool,
+    statements: &[Tree],
+    of: &Boxed<Value>,
+) -> Result<Option<RStmt>, Memory>
+    requires { length m.now.variables ≤ 32000 }
+    ensures { IfOk result (λ o. option_map view.statement_of o ≡ spec.repeated_while (spec.value m.now around.now of.now boolean) (spec.statements m.now around.now looping statements.now)) }
+{
+    let of = value(alloc, m, around, BOOLEAN, of)?;
+    let statements = body(alloc, m, around, looping, statements);
+    let (of, statements) = beside(of, statements)?;
+    Ok(repeated_while(of, statements))
+}
+
+/// A REPEAT.
+#[cycle(statement)]
+fn repeat_statement(
+    alloc: Global,
+    m: &RModule,
+    around: &[TypeId],
+    looping: bool,
+    statements: &[Tree],
+    of: &Boxed<Value>,
+) -> Result<Option<RStmt>, Memory>
+    requires { length m.now.variables ≤ 32000 }
+    ensures { IfOk result (λ o. option_map view.statement_of o ≡ spec.repeated_until (spec.statements m.now around.now looping statements.now) (spec.value m.now around.now of.now boolean)) }
+{
+    let of = value(alloc, m, around, BOOLEAN, of)?;
+    let statements = body(alloc, m, around, looping, statements);
+    let (of, statements) = beside(of, statements)?;
+    Ok(repeated_until(statements, of))
+}
+
+/// A FOR of given bounds.
+#[cycle(statement)]
+fn for_statement(
+    alloc: Global,
+    m: &RModule,
+    around: &[TypeId],
+    looping: bool,
+    statements: &[Tree],
+    bounds: Option<Counted>,
+    by: i32,
+) -> Result<Option<RStmt>, Memory>
+    requires { length m.now.variables ≤ 32000 }
+    ensures { IfOk result (λ o. option_map view.statement_of o ≡ spec.repeated_for (option_map parts.bounds_of bounds) by (spec.statements m.now around.now looping statements.now)) }
+{
+    let statements = body(alloc, m, around, looping, statements);
+    let (bounds, statements) = beside(bounds, statements)?;
+    Ok(repeated_for(bounds, by, statements))
 }
 
 /// A WITH: its statements, inside of its record too.

@@ -1,13 +1,12 @@
-use Rattle.std.proofs.Common.{rules, ◌≡◌, ◌∙◌, sym, ap, map, Some, None, arith, to_z, of_z, w32}
+use Rattle.std.proofs.Common.{rules, ◌≡◌, ◌∙◌, sym, ap, map, arith, to_z, of_z, w32}
 use Rattle.std.specs.Option.{option_map}
-use Rattle.lil_module.specs.declared.tree.RStmt.TheVariants as v
-use Rattle.lil_resolved.specs.Resolved.{NoElse, Else}
 use Rattle.lil_resolved.specs.Views as view
 use Rattle.lil_lower_type.specs.ListLaws.{pushed, none_at, all_found}
 use Rattle.lil_lower_value.specs.Values.{root}
 use Rattle.lil_lower.specs.Lowered as spec
 use Rattle.lil_lower.specs.Parts as parts
-use Rattle.lil_lower.proofs.StatementForms.{if_without, if_with, case_none, case_without, case_with, for_is}
+use Rattle.lil_lower.specs.Branches as branches
+use Rattle.lil_lower.proofs.StatementForms.{if_is, case_is, for_is}
 use Rattle.lil_lower.proofs.statements.+statement.Goals as goal
 
 pub all_arms-returns-in-None : goal.all_arms-returns-in-None
@@ -35,84 +34,36 @@ body-loop-one-preserved t c = pushed (λ x. spec.statement c.args.m.now x c.args
 pub body-returns : goal.body-returns
 body-returns t c = sym (ap (option_map view.all_of) (all_found (λ x. spec.statement c.args.m.now x c.args.around.now c.args.looping) view.statement_of c.args.of.now c.loop-one.one-index c.loop-one.found (omega arith) c.loop-one.invariant))
 
-pub statement-returns-in-None : goal.statement-returns-in-None
-statement-returns-in-None t c =
+pub statement-returns-in_ok-other-in-If : goal.statement-returns-in_ok-other-in-If
+statement-returns-in_ok-other-in-If t c =
     let a = c.in-If in
     let m = c.args.m.now in
     let around = c.args.around.now in
     let looping = c.args.looping in
-    let is : c.args.of.now ≡ v.If a.guards None = a.is ∙ ap (v.If a.guards) c.in-None.is in
-    let guards : option_map (map parts.guard_pair) c.in_ok-guards-in-If.guards ≡ spec.all_some (map (λ g. spec.guard m g around looping) a.guards) = search rules in
-    c.conditional.ensures
-    ∙ ap (λ o. spec.conditional o (Some (view.statements_of c.new.result))) guards
-    ∙ ap (λ ss. spec.conditional (spec.all_some (map (λ g. spec.guard m g around looping) a.guards)) (Some (view.statements_of ss))) c.new.ensures
-    ∙ sym (if_without m around looping a.guards)
-    ∙ ap (λ x. spec.statement m x around looping) (sym is)
+    let other : option_map view.statements_of c.in_ok-other-in-If.other ≡ branches.else_body m around looping a.other = search rules in
+    let is : spec.statement m c.args.of.now around looping ≡ spec.conditional (spec.all_some (map (λ g. spec.guard m g around looping) a.guards)) (option_map view.statements_of c.in_ok-other-in-If.other) =
+    ap (λ x. spec.statement m x around looping) a.is ∙ if_is m around looping a.guards a.other ∙ ap (spec.conditional (spec.all_some (map (λ g. spec.guard m g around looping) a.guards))) (sym other) in
+    rw is (search rules)
 
-pub statement-returns-in_ok-other-in-Some : goal.statement-returns-in_ok-other-in-Some
-statement-returns-in_ok-other-in-Some t c =
-    let a = c.in-If in
-    let m = c.args.m.now in
-    let around = c.args.around.now in
-    let looping = c.args.looping in
-    let is : c.args.of.now ≡ v.If a.guards (Some c.in-Some.other) = a.is ∙ ap (v.If a.guards) c.in-Some.is in
-    let guards : option_map (map parts.guard_pair) c.in_ok-guards-in-If.guards ≡ spec.all_some (map (λ g. spec.guard m g around looping) a.guards) = search rules in
-    let other : option_map view.statements_of c.in_ok-other-in-Some.other ≡ spec.statements m around looping c.in-Some.other = search rules in
-    c.conditional-in-Some.ensures
-    ∙ ap (λ o. spec.conditional o (option_map view.statements_of c.in_ok-other-in-Some.other)) guards
-    ∙ ap (spec.conditional (spec.all_some (map (λ g. spec.guard m g around looping) a.guards))) other
-    ∙ sym (if_with m around looping a.guards c.in-Some.other)
-    ∙ ap (λ x. spec.statement m x around looping) (sym is)
-
-pub statement-returns-in_default : goal.statement-returns-in_default
-statement-returns-in_default t c =
-    let a = c.in-Case in
-    sym (ap (λ x. spec.statement c.args.m.now x c.args.around.now c.args.looping) a.is ∙ case_none c.args.m.now c.args.around.now c.args.looping a.of a.arms a.other (sym c.selector.ensures ∙ c.in_default.is))
-
-pub statement-returns-in_ok-of-in-None-other : goal.statement-returns-in_ok-of-in-None-other
-statement-returns-in_ok-of-in-None-other t c =
+pub statement-returns-in_ok-other-in-Case : goal.statement-returns-in_ok-other-in-Case
+statement-returns-in_ok-other-in-Case t c =
     let a = c.in-Case in
     let m = c.args.m.now in
     let around = c.args.around.now in
     let looping = c.args.looping in
-    let by = c.in-Some-selector.by in
-    let is : c.args.of.now ≡ v.Case a.of a.arms None = a.is ∙ ap (v.Case a.of a.arms) c.in-None-other.is in
-    let own : spec.selector m around a.of ≡ Some by = search rules in
-    let of : option_map view.expression_of c.in_ok-of-in-None-other.of ≡ spec.value m around a.of by.sort = search rules in
-    let arms : option_map (map parts.arm_pair) c.in_ok-arms-in-Case.arms ≡ spec.all_some (map (λ b. spec.arm m b around looping by.base) a.arms) = search rules in
-    c.selected.ensures
-    ∙ (λ j. spec.selected (of j) (arms j) (Some NoElse))
-    ∙ sym (case_without m around looping by a.of a.arms own)
-    ∙ ap (λ x. spec.statement m x around looping) (sym is)
+    let other : option_map view.else_of c.in_ok-other-in-Case.other ≡ branches.else_arm m around looping a.other = search rules in
+    let is : spec.statement m c.args.of.now around looping ≡ branches.case_by m around looping (spec.selector m around a.of) a.of a.arms (option_map view.else_of c.in_ok-other-in-Case.other) =
+    ap (λ x. spec.statement m x around looping) a.is ∙ case_is m around looping a.of a.arms a.other ∙ ap (branches.case_by m around looping (spec.selector m around a.of) a.of a.arms) (sym other) in
+    rw is (search rules)
 
-pub statement-returns-in_ok-of-in-Some-other : goal.statement-returns-in_ok-of-in-Some-other
-statement-returns-in_ok-of-in-Some-other t c =
-    let a = c.in-Case in
-    let m = c.args.m.now in
-    let around = c.args.around.now in
-    let looping = c.args.looping in
-    let by = c.in-Some-selector.by in
-    let is : c.args.of.now ≡ v.Case a.of a.arms (Some c.in-Some-other.other) = a.is ∙ ap (v.Case a.of a.arms) c.in-Some-other.is in
-    let own : spec.selector m around a.of ≡ Some by = search rules in
-    let of : option_map view.expression_of c.in_ok-of-in-Some-other.of ≡ spec.value m around a.of by.sort = search rules in
-    let arms : option_map (map parts.arm_pair) c.in_ok-arms-in-Case.arms ≡ spec.all_some (map (λ b. spec.arm m b around looping by.base) a.arms) = search rules in
-    let other : option_map view.statements_of c.in_ok-other-in-Some-other.other ≡ spec.statements m around looping c.in-Some-other.other = search rules in
-    let behind : option_map view.else_of c.behind_else.result ≡ option_map Else (spec.statements m around looping c.in-Some-other.other) = c.behind_else.ensures ∙ ap (option_map Else) other in
-    c.selected-in-Some-other.ensures
-    ∙ (λ j. spec.selected (of j) (arms j) (behind j))
-    ∙ sym (case_with m around looping by a.of a.arms c.in-Some-other.other own)
-    ∙ ap (λ x. spec.statement m x around looping) (sym is)
-
-pub statement-returns-in_ok-bounds-in-For : goal.statement-returns-in_ok-bounds-in-For
-statement-returns-in_ok-bounds-in-For t c =
+pub statement-returns-in_ok-range-in-For : goal.statement-returns-in_ok-range-in-For
+statement-returns-in_ok-range-in-For t c =
     let a = c.in-For in
     let m = c.args.m.now in
     let around = c.args.around.now in
     let looping = c.args.looping in
-    let bounds : option_map parts.bounds_of c.in_ok-bounds-in-For.bounds ≡ spec.bounds m around (root m a.variable) a.from a.to = search rules in
+    let bounds : option_map parts.bounds_of c.in_ok-range-in-For.range ≡ spec.bounds m around (root m a.variable) a.from a.to = search rules in
     let by : to_z w32 (of_z w32 a.by) ≡ a.by = search rules in
-    let body : option_map view.statements_of c.in_ok-statements-in-For.statements ≡ spec.statements m around looping a.statements = search rules in
-    c.repeated_for.ensures
-    ∙ (λ j. spec.repeated_for (bounds j) (by j) (body j))
-    ∙ sym (for_is m around looping a.variable a.from a.to a.by a.statements)
-    ∙ ap (λ x. spec.statement m x around looping) (sym a.is)
+    let is : spec.statement m c.args.of.now around looping ≡ spec.repeated_for (option_map parts.bounds_of c.in_ok-range-in-For.range) (to_z w32 (of_z w32 a.by)) (spec.statements m around looping a.statements) =
+    ap (λ x. spec.statement m x around looping) a.is ∙ for_is m around looping a.variable a.from a.to a.by a.statements ∙ (λ j. spec.repeated_for (sym bounds j) (sym by j) (spec.statements m around looping a.statements)) in
+    grind (arith, is)
