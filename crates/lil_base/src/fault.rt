@@ -298,7 +298,7 @@ pub struct TrapAt {
 pub enum LimitKind {
     /// The room of a stack for activations.
     Stack,
-    /// The room of the store for objects.
+    /// The room of the store for objects and workspaces.
     Store,
     /// The code store.
     Code,

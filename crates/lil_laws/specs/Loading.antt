@@ -7,7 +7,8 @@ use Rattle.lil_resolved.specs.Depth.{frame_words}
 use Rattle.lil_meaning.specs.Items.{Source, heap_words}
 use Rattle.lil_meaning.specs.Steps.{next}
 use Rattle.lil_resolved.specs.Resolved.{Resolved}
-use Rattle.lil_mcode.specs.State.{Module, State, spliced, zeros, cleared}
+use Rattle.lil_mcode.specs.State.{Module, State}
+use Rattle.lil_frames.specs.Words.{spliced, zeros, cleared}
 use Rattle.lil_mcode.specs.Calls.{Machine, fresh, with_level, with_module, with_words, with_bodies}
 use Rattle.lil_table.specs.Rows.{Translates}
 

@@ -11,7 +11,7 @@ use Rattle.lil_meaning.specs.Runs.{after}
 use Rattle.lil_mcode.specs.State.{State}
 use Rattle.lil_match.specs.Running.{Finish, Finished, TrappedBy, Limited, Run, mrun, running}
 use Rattle.lil_match.specs.Homes.{Home}
-use Rattle.lil_match.specs.Goes.{Shared, Lands, IsLeft, IsFull, Goes}
+use Rattle.lil_match.specs.Goes.{Shared, Lands, IsLeft}
 use Rattle.lil_match.specs.Waits.{Stack, Setting, Quiet, Around, Ahead}
 use Rattle.lil_match.specs.Resting.{EachRests, each_rests}
 use Rattle.lil_laws.specs.Each.{each_step}

@@ -1,5 +1,5 @@
 -- From loaded modules, whose bodies run one behind another.
-use Rattle.std.proofs.Common.{◌≡◌, ℕ, zero, suc, ◌+◌, ◌-◌, ◌*◌, ◌<◌, ◌≤◌, true, Option, Some, None, List, [], ◌∷◌, length, map, get_or, refl, sym, ap, ◌∙◌, subst, arith}
+use Rattle.std.proofs.Common.{◌≡◌, ℕ, zero, suc, ◌+◌, ◌-◌, ◌*◌, ◌<◌, ◌≤◌, Option, Some, None, List, [], ◌∷◌, length, map, get_or, refl, sym, ap, ◌∙◌, subst, arith}
 use Rattle.std.specs.Prelude.{slice_get, option_map}
 use Rattle.std.proofs.lemmas.Bool.{le-ltb}
 use Rattle.std.proofs.lemmas.Option.{same_Some}
@@ -13,7 +13,8 @@ use Rattle.lil_meaning.specs.Steps.{owner_of, procedure_of, name_of}
 use Rattle.lil_meaning.specs.Runs.{begun, bodies, body_of, body_activations, src}
 use Rattle.lil_asm.specs.declared.instr.Instr.TheVariants.{Ent, Rtn}
 use Rattle.lil_mcode.specs.declared.machine.Event.TheVariants.{Went}
-use Rattle.lil_mcode.specs.State.{State, zeros, cleared, first_entry}
+use Rattle.lil_mcode.specs.State.{State, first_entry}
+use Rattle.lil_frames.specs.Words.{zeros, cleared}
 use Rattle.lil_mcode.specs.Table.{fetched, performed}
 use Rattle.lil_table.specs.Rows.{IsAt, layout_of}
 use Rattle.lil_match.specs.Running.{Run, mrun, running, advanced}

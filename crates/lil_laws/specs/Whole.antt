@@ -1,6 +1,6 @@
 -- Whole runs: after any number of steps, the machine has shown what some state of the meaning has.
-use Rattle.std.proofs.Common.{◌≡◌, ◌≢◌, ℕ, zero, suc, ◌+◌, ◌-◌, ◌*◌, ◌<◌, ◌≤◌, Bool, true, false, List, [], length, Option, Some, None, refl, sym, ap, ◌∙◌, subst, ⊎_elim, arith, zero-add, suc-add}
-use Rattle.std.proofs.lemmas.Bool.{cases_lt, true≢false}
+use Rattle.std.proofs.Common.{◌≡◌, ◌≢◌, ℕ, zero, suc, ◌+◌, ◌-◌, ◌*◌, ◌<◌, ◌≤◌, List, [], length, Option, Some, None, refl, sym, ap, ◌∙◌, subst, ⊎_elim, arith, zero-add, suc-add}
+use Rattle.std.proofs.lemmas.Bool.{cases_lt}
 use Rattle.lil_base.specs.declared.fault.TrapKind.{TrapKind}
 use Rattle.lil_base.specs.declared.fault.LimitKind.{LimitKind}
 use Rattle.lil_base.specs.declared.fault.LimitKind.TheVariants as limit
@@ -15,7 +15,7 @@ use Rattle.lil_mcode.specs.State.{Module, State, module_at}
 use Rattle.lil_mcode.specs.Table.{mstep}
 use Rattle.lil_match.specs.Running.{Finish, Running, Finished, TrappedBy, Limited, Broken, Run, mrun, running, react, advanced, unless_over}
 use Rattle.lil_match.specs.Homes.{Home}
-use Rattle.lil_match.specs.Goes.{HasName, Shared, Lands, IsLeft, IsStill, Short, IsFull, Fewer, Goes}
+use Rattle.lil_match.specs.Goes.{HasName, Shared, Lands, IsStill, Short, IsFull, Fewer, Goes}
 use Rattle.lil_match.specs.Steps.{no_more}
 use Rattle.lil_match.specs.Stutter.{stutter}
 use Rattle.lil_match.specs.Waits.{Stack, Setting, Quiet, Around, Ahead}

@@ -8,9 +8,8 @@ use Rattle.lil_base.specs.declared.operator.TwoOp.{TwoOp}
 use Rattle.lil_base.specs.declared.operator.TwoOp.TheVariants.{Equal, Unequal}
 use Rattle.lil_resolved.specs.Kinds.{Pointee, Objects, Workspaces, Kind, OfTruth, OfPointer, OfRange, base_of, is_plain}
 use Rattle.lil_resolved.specs.Scalars.{Scalar, Truth, ToObject, ToWorkspace, Nothing, is_reference, is_literal, same_reference, within, scalar_word}
-use Rattle.lil_resolved.specs.Depth.{place_depth}
 use Rattle.lil_resolved.specs.Shapes.{Shape, Word}
-use Rattle.lil_resolved.specs.Resolved.{Designator, Variable, Held, Field, Element, Follow, Function, Expression, Constant, Taken, One, Two, Short, Apply, kind_of, is_relation, result_kind, right_kind, function_kind}
+use Rattle.lil_resolved.specs.Resolved.{Designator, Function, Expression, Constant, Taken, One, Two, Short, Apply, kind_of, is_relation, result_kind, right_kind, function_kind}
 use Rattle.lil_resolved.specs.Sound.{takes_two}
 use Rattle.lil_meaning.specs.Cells.{Object, Place, got}
 use Rattle.lil_meaning.specs.Items.{Scalars, Places, Get, OneOf, LeftOf, RightOf, ShortOf, ApplyTo, Item, Value, Evaluate, PlaceOf, Fill, Going, Source}

@@ -20,11 +20,11 @@ use Rattle.lil_base.specs.Sets.{has, set_word}
 use Rattle.lil_base.specs.SetLaws.{has_no}
 use Rattle.lil_resolved.specs.Members.{same_members, included, is_in, united, without, shared_members, unshared}
 use Rattle.lil_resolved.specs.MemberLaws.{words_equal, word_has, word_included, word_united, word_without, word_shared, word_unshared}
-use Rattle.lil_resolved.specs.Scalars.{Scalar, Truth, Character, Number, SetOf, ToObject, Nothing, same_reference, within, scalar_of, scalar_word, ordinal_of, truth_number, truth_of, members_of}
+use Rattle.lil_resolved.specs.Scalars.{Scalar, Truth, Character, Number, SetOf, same_reference, within, scalar_of, scalar_word, ordinal_of, truth_number, truth_of, members_of}
 use Rattle.lil_resolved.specs.Resolved.{Function, Abs, Cap, Chr, Odd, Ord, Val, is_relation, result_kind, right_kind, function_kind}
 use Rattle.lil_resolved.specs.Depth.{function_depth}
 use Rattle.lil_resolved.specs.Sound.{takes_one, takes_two, takes_function}
-use Rattle.lil_meaning.specs.Steps.{whole_of, outcome, compared_number, relation_of, related, compared, set_value, pointer_value, applied, one_applied, capital, valued, ranged, function_value, is_same, is_other, is_at_most, is_greater, is_at_least}
+use Rattle.lil_meaning.specs.Steps.{whole_of, outcome, compared_number, relation_of, related, compared, set_value, applied, one_applied, capital, valued, ranged, function_value, is_same, is_other, is_at_most, is_greater, is_at_least}
 use Rattle.lil_asm.specs.declared.instr.Instr.{Instr}
 use Rattle.lil_asm.specs.declared.instr.Instr.TheVariants as instr
 use Rattle.lil_asm.specs.declared.instr.Instr.TheVariants.{Liw, Swp, Adc, Sbc, Mlc, Dvc, Mdc, Adi, Sbi, Mli, Dvi, Mdi, Ngi, Abi, Not, Uni, Dif, Its, Sym, Sin, Sle, Equ, Neq}

@@ -1,5 +1,5 @@
 -- What the instructions do by which code has a place.
-use Rattle.std.proofs.Common.{◌≡◌, ℕ, ◌+◌, ◌-◌, ◌*◌, ◌≤◌, true, List, [], ◌∷◌, ◌++◌, length, get_or, set, take, drop, refl, sym, ap, ◌∙◌, subst, arith}
+use Rattle.std.proofs.Common.{◌≡◌, ℕ, ◌+◌, ◌-◌, ◌≤◌, true, List, [], ◌∷◌, ◌++◌, length, get_or, set, take, drop, refl, sym, ap, ◌∙◌, subst, arith}
 use Rattle.std.proofs.lemmas.Bool.{lt-ltb, le-leb, and_from}
 use Rattle.lil_resolved.specs.Kinds.{Kind, OfCharacter}
 use Rattle.lil_resolved.specs.Shapes.{Shape, Word, Row, words, part_at, offset, is_there}
@@ -9,8 +9,9 @@ use Rattle.lil_asm.specs.declared.instr.Instr.{Instr}
 use Rattle.lil_asm.specs.declared.instr.Instr.TheVariants.{Dup, Swp, Lgw, Lag, Ldi, Adf, Mov, Mvz}
 use Rattle.lil_mcode.specs.declared.machine.Event.{Event}
 use Rattle.lil_mcode.specs.declared.machine.Event.TheVariants.{Went}
-use Rattle.lil_mcode.specs.State.{State, spliced}
-use Rattle.lil_mcode.specs.Table.{act, block, going, on_one, on_two, double_row, push_row, fetch_row, put_row, store_row, further_row}
+use Rattle.lil_mcode.specs.State.{State}
+use Rattle.lil_frames.specs.Words.{spliced, moved}
+use Rattle.lil_mcode.specs.Table.{act, going, on_one, on_two, double_row, push_row, fetch_row, put_row, store_row, further_row}
 use Rattle.lil_table.specs.Rows.{IsAt, InstrsAt, Access, InData, OnTop, Behind, further, address_code, load_code, ready_code, readied, held, store_code, again_code, held_twice, under_code}
 use Rattle.lil_match.specs.Parts.{yes}
 use Rattle.lil_match.specs.Splices.{block_alone}
@@ -128,7 +129,7 @@ module _ (ctx : Setting) where
       → from + length cs ≤ 65535 → (p q : ℕ)
       → let here : State = going m p (from ∷ address h to ∷ []) in
       act (Mvz (length cs) (count - length cs)) q own here
-      ≡ (Went, record m { place = q; stack = []; store = spliced m.store (address h to) (block m.store from (length cs) (count - length cs)) })
+      ≡ (Went, record m { place = q; stack = []; store = spliced m.store (address h to) (moved m.store from (length cs) (count - length cs)) })
   written s m shared to count cs living fits from low p q =
       let high : address h to + words (Row count (Word OfCharacter)) ≤ 65535 = omega (arith, place_inside h s.cells m.store to shared.mem (ap is_there living), ap words living) in
       yes _ _ _ (and_from _ _ (le-leb (from + length cs) 65536 (omega (arith, low))) (le-leb (address h to + (length cs + (count - length cs))) 65536 (omega (arith, high, fits))))

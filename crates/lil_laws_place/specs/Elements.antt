@@ -19,7 +19,7 @@ use Rattle.lil_mcode.specs.declared.machine.Event.{Event}
 use Rattle.lil_mcode.specs.declared.machine.Event.TheVariants.{Went}
 use Rattle.lil_mcode.specs.Control.{above}
 use Rattle.lil_mcode.specs.State.{State}
-use Rattle.lil_mcode.specs.Table.{going, on_one, on_two, push_row, element_row}
+use Rattle.lil_mcode.specs.Table.{going, on_two, push_row, element_row}
 use Rattle.lil_table.specs.Rows.{Access, InData, OnTop, further, offset_in, access_of, load_code}
 use Rattle.lil_match.specs.Running.{running}
 use Rattle.lil_match.specs.Parts.{yes, no}

@@ -1,7 +1,7 @@
 -- The rows of ALLOCATE and DEALLOCATE: a block is taken for a workspace, or the number of words goes, and the address becomes NIL.
 use Rattle.std.proofs.Common.{◌≡◌, ℕ, zero, suc, ◌+◌, ◌-◌, ◌<◌, ◌≤◌, ◌⊎◌, inl, inr, Bool, true, false, cond, None, List, [], ◌∷◌, ◌++◌, length, get_or, set, refl, sym, ap, ◌∙◌, subst, ⊎_elim, arith}
 use Rattle.std.specs.Prelude.{pos, negsuc}
-use Rattle.std.proofs.lemmas.Bool.{lt-ltb, cases_lt}
+use Rattle.std.proofs.lemmas.Bool.{cases_lt}
 use Rattle.lil_base.specs.Words.{Cardinal}
 use Rattle.lil_base.specs.declared.fault.TrapKind.TheVariants as trap
 use Rattle.lil_resolved.specs.Kinds.{Workspaces, Kind, OfWhole, OfPointer, nat_of}
@@ -11,11 +11,12 @@ use Rattle.lil_resolved.specs.Resolved.{Designator, Expression, Allocate, shape_
 use Rattle.lil_meaning.specs.Cells.{Place, stored, alone}
 use Rattle.lil_meaning.specs.Items.{Scalars, Places, AllocateBy, AllocateAt, Do, Item, Value, PlaceOf, Fill, Perform, Going, Workspace, Source, workspace_words, heap_words}
 use Rattle.lil_meaning.specs.Steps.{next, trapped, allocated}
-use Rattle.lil_asm.specs.declared.instr.Instr.TheVariants.{Liw, Drp, Alc}
-use Rattle.lil_mcode.specs.State.{State, cleared}
+use Rattle.lil_asm.specs.declared.instr.Instr.TheVariants.{Liw, Drp}
+use Rattle.lil_mcode.specs.State.{State}
+use Rattle.lil_frames.specs.Words.{cleared}
 use Rattle.lil_mcode.specs.Table.{act, going}
-use Rattle.lil_table.specs.Rows.{InstrsAt, Access, OnTop, access_of, allocate_code}
-use Rattle.lil_match.specs.Homes.{Own, Fixed, Free, of_free, Home, Extends, extends_self, word_for, plain_word, takes_plain, address, is_word_kept, Mem, mem_stored, scalar_owned}
+use Rattle.lil_table.specs.Rows.{Access, OnTop, access_of, allocate_code}
+use Rattle.lil_match.specs.Homes.{Free, of_free, Home, Extends, word_for, plain_word, takes_plain, address, is_word_kept, Mem, mem_stored, scalar_owned}
 use Rattle.lil_match.specs.Goes.{IsHeap, Shared, Goes}
 use Rattle.lil_match.specs.Waits.{Setting, frame_of, laid_out, Quiet, ValueOf, AtPlace, Around, Reach, Rows, HasPlace, Waiting}
 use Rattle.lil_match.specs.Orders.{instrs_order, expression_stands}

@@ -1,6 +1,6 @@
 -- A block is taken below the stack's limit, and a place gets its address: what NEW and ALLOCATE share.
 use Rattle.std.proofs.Common.{◌≡◌, ℕ, ◌+◌, ◌-◌, ◌<◌, ◌≤◌, ◌⊎◌, inl, inr, Bool, true, false, List, [], ◌∷◌, length, get_or, set, refl, sym, ap, ◌∙◌, subst, ⊎_elim, arith}
-use Rattle.std.specs.Prelude.{nat_le, nat_lt, ◌&&◌}
+use Rattle.std.specs.Prelude.{◌&&◌}
 use Rattle.std.proofs.lemmas.Bool.{lt-ltb, le-ltb, lt-leb, cases_lt}
 use Rattle.lil_base.specs.declared.fault.LimitKind.TheVariants as limit
 use Rattle.lil_resolved.specs.Shapes.{Shape}
@@ -10,7 +10,8 @@ use Rattle.lil_meaning.specs.Steps.{next}
 use Rattle.lil_asm.specs.declared.instr.Instr.TheVariants.{Alc}
 use Rattle.lil_mcode.specs.declared.machine.Event.{Event}
 use Rattle.lil_mcode.specs.declared.machine.Event.TheVariants.{Went}
-use Rattle.lil_mcode.specs.State.{State, zeros, cleared, stack_of}
+use Rattle.lil_mcode.specs.State.{State, stack_of}
+use Rattle.lil_frames.specs.Words.{zeros, cleared}
 use Rattle.lil_mcode.specs.Table.{going, mstep, take_row}
 use Rattle.lil_table.specs.Rows.{IsAt}
 use Rattle.lil_match.specs.Running.{running}
@@ -18,7 +19,7 @@ use Rattle.lil_match.specs.Parts.{yes, no}
 use Rattle.lil_match.specs.Splices.{spliced_length, spliced_before, spliced_there, spliced_after, zeros_length, zeros_word}
 use Rattle.lil_match.specs.Homes.{Fixed, Free, Home, Extends, lives, address, Mem}
 use Rattle.lil_match.specs.Goes.{OwnWords, IsHeap, fits, Shared, Lands, Goes}
-use Rattle.lil_match.specs.Waits.{Stack, Setting, frame_of, moved, Quiet, Around, Rows}
+use Rattle.lil_match.specs.Waits.{Setting, frame_of, moved, Quiet, Around, Rows}
 use Rattle.lil_match.specs.Known.{known_kept, each_known, each_comes}
 use Rattle.lil_match.specs.Kept.{first_words, stack_above, stands_kept, rows_kept}
 use Rattle.lil_match.specs.Steps.{advances, at_step, rows_ahead, goes_one_in, goes_full}

@@ -8,7 +8,8 @@ use Rattle.lil_meaning.specs.Cells.{Root}
 use Rattle.lil_meaning.specs.Items.{End, Item, Perform, Source, heap_words}
 use Rattle.lil_asm.specs.declared.instr.Instr.TheVariants.{Ent, Rtn}
 use Rattle.lil_mcode.specs.declared.machine.Event.TheVariants.{Went}
-use Rattle.lil_mcode.specs.State.{Module, State, stack_of, module_at, zeros, cleared}
+use Rattle.lil_mcode.specs.State.{Module, State, stack_of, module_at}
+use Rattle.lil_frames.specs.Words.{zeros, cleared}
 use Rattle.lil_mcode.specs.Table.{mstep, end_row, body_row, begun_body, enter_row}
 use Rattle.lil_table.specs.Rows.{IsAt}
 use Rattle.lil_match.specs.Running.{running, advanced}

@@ -1,33 +1,30 @@
 -- The rows of NEW: a block is taken below the limit, and the pointer gets its address.
-use Rattle.std.proofs.Common.{◌≡◌, ℕ, zero, suc, ◌+◌, ◌-◌, ◌<◌, ◌≤◌, ◌⊎◌, inl, inr, Bool, true, false, cond, eqb, List, [], ◌∷◌, ◌++◌, length, get_or, set, refl, sym, ap, ◌∙◌, subst, ⊎_elim, arith}
-use Rattle.std.specs.Prelude.{nat_le, nat_lt, ◌&&◌, slice_get}
-use Rattle.std.proofs.lemmas.Bool.{lt-ltb, le-ltb, lt-leb, eq-eqb, ne_eqb, eqb-true, cases_lt, cases_Bool, cases_eq}
-use Rattle.lil_base.specs.declared.fault.LimitKind.TheVariants as limit
+use Rattle.std.proofs.Common.{◌≡◌, ℕ, zero, suc, ◌+◌, ◌-◌, ◌<◌, ◌≤◌, ◌⊎◌, inl, inr, Bool, true, false, cond, List, [], ◌∷◌, ◌++◌, length, get_or, set, refl, sym, ap, ◌∙◌, subst, ⊎_elim, arith}
+use Rattle.std.specs.Prelude.{slice_get}
+use Rattle.std.proofs.lemmas.Bool.{ne_eqb, cases_lt, cases_Bool, cases_eq}
 use Rattle.lil_resolved.specs.Kinds.{Objects, Kind, OfPointer}
-use Rattle.lil_resolved.specs.Scalars.{Scalar, ToObject, zero_of}
+use Rattle.lil_resolved.specs.Scalars.{Scalar, ToObject}
 use Rattle.lil_resolved.specs.Shapes.{Shape, Absent, Word, words, is_there, part_at, offset, shape_at}
-use Rattle.lil_resolved.specs.Resolved.{Designator, Resolved, New, shape_of}
+use Rattle.lil_resolved.specs.Resolved.{Designator, New, shape_of}
 use Rattle.lil_meaning.specs.Cells.{Root, Global, Local, Object, Place, Cells, same_root, object_place, stored, alone, zero_in, zeros_under, targets_of, object_words, loaded_at}
-use Rattle.lil_meaning.specs.Items.{Scalars, Places, NewAt, Do, Item, Value, PlaceOf, Fill, Perform, Going, Activation, Source, heap_words}
-use Rattle.lil_meaning.specs.Steps.{next, current, owner_of, target_of, made}
-use Rattle.lil_asm.specs.declared.instr.Instr.TheVariants.{Liw, Alc}
+use Rattle.lil_meaning.specs.Items.{Places, NewAt, Do, Item, Value, PlaceOf, Fill, Perform, Going, Activation, Source, heap_words}
+use Rattle.lil_meaning.specs.Steps.{next, owner_of, target_of, made}
+use Rattle.lil_asm.specs.declared.instr.Instr.TheVariants.{Liw}
 use Rattle.lil_mcode.specs.declared.machine.Event.{Event}
-use Rattle.lil_mcode.specs.declared.machine.Event.TheVariants.{Went, Limit}
-use Rattle.lil_mcode.specs.State.{State, zeros, cleared, stack_of}
-use Rattle.lil_mcode.specs.Table.{going, mstep, take_row}
-use Rattle.lil_table.specs.Rows.{IsAt, Access, access_of}
-use Rattle.lil_match.specs.Running.{Run, running}
+use Rattle.lil_mcode.specs.declared.machine.Event.TheVariants.{Went}
+use Rattle.lil_mcode.specs.State.{State}
+use Rattle.lil_frames.specs.Words.{cleared}
+use Rattle.lil_mcode.specs.Table.{going}
+use Rattle.lil_table.specs.Rows.{Access, access_of}
 use Rattle.lil_match.specs.Parts.{yes, no, part_fits, word_long}
-use Rattle.lil_match.specs.Splices.{spliced_length, spliced_before, spliced_there, spliced_after, zeros_length, zeros_word}
 use Rattle.lil_match.specs.Homes.{Of, Own, Fixed, Free, of_free, Home, extends_self, lives, address, shape_there, Refers, IsWord, is_word_kept, zero_is, Mem, mem_stored, scalar_owned, same_root_eq, same_root_refl}
-use Rattle.lil_match.specs.Goes.{OwnWords, IsHeap, fits, Shared, Lands, Goes}
-use Rattle.lil_match.specs.Waits.{Stack, Setting, frame_of, laid_out, moved, Quiet, AtPlace, Around, Reach, Rows, HasPlace, Waiting}
-use Rattle.lil_match.specs.Known.{known_kept, each_known, each_comes}
-use Rattle.lil_match.specs.Kept.{first_words, stack_above, stands_kept, place_lives, rows_kept}
+use Rattle.lil_match.specs.Goes.{IsHeap, Shared, Goes}
+use Rattle.lil_match.specs.Waits.{Setting, frame_of, laid_out, Quiet, AtPlace, Around, Reach, Rows, HasPlace, Waiting}
+use Rattle.lil_match.specs.Kept.{place_lives}
 use Rattle.lil_match.specs.Closing.{closed}
-use Rattle.lil_match.specs.Steps.{advances, at_step, at_once, pushes, rows_ahead, lands_on, goes_none, goes_one_in, goes_full}
+use Rattle.lil_match.specs.Steps.{at_once, pushes, lands_on, goes_none}
 use Rattle.lil_laws_place.specs.Codes.{inside, addressed, leads}
-use Rattle.lil_laws_stmt.specs.Painting.{own_free, free_fixed, of_own, painted, painted_there, painted_beside}
+use Rattle.lil_laws_stmt.specs.Painting.{of_own, painted, painted_there, painted_beside}
 use Rattle.lil_laws_stmt.specs.Blocks as block
 
 -- ---- one object more

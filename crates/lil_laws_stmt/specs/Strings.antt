@@ -7,8 +7,9 @@ use Rattle.lil_resolved.specs.Shapes.{Shape}
 use Rattle.lil_meaning.specs.Cells.{Place, stored, text_under}
 use Rattle.lil_meaning.specs.Items.{Places, TextTo, Do, Item, Value, PlaceOf, Fill, Perform, Source}
 use Rattle.lil_asm.specs.declared.instr.Instr.TheVariants.{Lag, Mvz}
-use Rattle.lil_mcode.specs.State.{State, spliced, zeros}
-use Rattle.lil_mcode.specs.Table.{act, block, going}
+use Rattle.lil_mcode.specs.State.{State}
+use Rattle.lil_frames.specs.Words.{spliced, zeros, moved}
+use Rattle.lil_mcode.specs.Table.{act, going}
 use Rattle.lil_table.specs.Rows.{HasText, text_words, Access, access_of}
 use Rattle.lil_match.specs.Running.{running}
 use Rattle.lil_match.specs.Parts.{yes}
@@ -75,7 +76,7 @@ module _ (ctx : Setting) where
     front_long cs offset text =
         length-take-le (length cs) (drop (own.base + offset) m.store) (omega (arith, length-drop (own.base + offset) m.store, shared.mem.long, string_low s m shared cs offset text))
 
-    moved_long : (cs : List ℕ) (offset count : ℕ) → HasText l cs offset → length cs ≤ count → length (block m.store (own.base + offset) (length cs) (count - length cs)) ≡ count
+    moved_long : (cs : List ℕ) (offset count : ℕ) → HasText l cs offset → length cs ≤ count → length (moved m.store (own.base + offset) (length cs) (count - length cs)) ≡ count
     moved_long cs offset count text fits =
         omega (
           arith,
@@ -85,7 +86,7 @@ module _ (ctx : Setting) where
           fits,
         )
 
-    moved_word : (cs : List ℕ) (offset count : ℕ) → HasText l cs offset → (i : ℕ) → i < count → get_or (block m.store (own.base + offset) (length cs) (count - length cs)) i 0 ≡ get_or cs i 0
+    moved_word : (cs : List ℕ) (offset count : ℕ) → HasText l cs offset → (i : ℕ) → i < count → get_or (moved m.store (own.base + offset) (length cs) (count - length cs)) i 0 ≡ get_or cs i 0
     moved_word cs offset count text i less =
         let front : List ℕ = take (length cs) (drop (own.base + offset) m.store) in
         let long : length (take (length cs) (drop (own.base + offset) m.store)) ≡ length cs = front_long cs offset text in
@@ -109,7 +110,7 @@ module _ (ctx : Setting) where
         let items : List Item = Value (Places place) ∷ Fill (TextTo cs) ∷ k in
         let from : ℕ = own.base + r.offset in
         let low : own.base + r.offset + text_words cs ≤ 65535 = string_low s m shared cs r.offset r.text in
-        let ws : List ℕ = block m.store (own.base + r.offset) (length cs) (r.count - length cs) in
+        let ws : List ℕ = moved m.store (own.base + r.offset) (length cs) (r.count - length cs) in
         let here : State = going m r.last (from ∷ address h place ∷ below) in
         let store : List ℕ = spliced m.store (address h place) ws in
         let machine : State = record m { place = r.end; stack = []; store = store } in

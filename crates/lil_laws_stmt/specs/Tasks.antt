@@ -9,7 +9,8 @@ use Rattle.lil_meaning.specs.Cells.{Place, stored, alone, under}
 use Rattle.lil_meaning.specs.Items.{Scalars, Places, SetTo, StoreAt, CopyTo, CopyFrom, Do, Item, Value, PlaceOf, Fill, Perform, Going, Source}
 use Rattle.lil_meaning.specs.Steps.{trapped}
 use Rattle.lil_asm.specs.declared.instr.Instr.TheVariants.{Mov}
-use Rattle.lil_mcode.specs.State.{State, spliced}
+use Rattle.lil_mcode.specs.State.{State}
+use Rattle.lil_frames.specs.Words.{spliced}
 use Rattle.lil_mcode.specs.Table.{act, going}
 use Rattle.lil_table.specs.Rows.{IsAt, InstrsAt, ValueRow, test_code, Access, access_of, readied, held, store_code}
 use Rattle.lil_match.specs.Running.{running}

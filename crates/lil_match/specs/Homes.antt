@@ -2,7 +2,7 @@
 use Rattle.std.proofs.Common.{◌≡◌, ℕ, zero, suc, ◌+◌, ◌-◌, ◌*◌, ◌<◌, ◌≤◌, Bool, true, false, eqb, List, [], ◌∷◌, ◌++◌, length, get_or, set, take, drop, refl, sym, ap, ◌∙◌, subst, ◌⊎◌, inl, inr, ⊎_elim, arith, length-set, length-drop}
 use Rattle.std.proofs.lemmas.Bool.{eq-eqb, ltb-true, ne_eqb, cases_Bool, cases_eq, cases_lt, eqb-true, and_parts, and_from}
 use Rattle.std.proofs.lemmas.List.{get_or-set_same, get_or-set_other, get_or-take, get_or-drop, length-take-le}
-use Rattle.std.specs.Prelude.{◌==◌, pos, nat_lt, nat_le, not, if◌then◌else◌}
+use Rattle.std.specs.Prelude.{◌==◌, pos, nat_lt, nat_le, if◌then◌else◌}
 use Rattle.std.proofs.lemmas.Int.{ints}
 use Rattle.lil_base.specs.Words.{Cardinal, between}
 use Rattle.lil_base.specs.Sets.{set_word}
@@ -13,7 +13,7 @@ use Rattle.lil_resolved.specs.Scalars.{Scalar, Number, Truth, Character, SetOf, 
 use Rattle.lil_resolved.specs.Sound.{is_character, is_text}
 use Rattle.lil_resolved.specs.Shapes.{Shape, Absent, Word, Row, words, is_there, part_at, offset, shape_at}
 use Rattle.lil_meaning.specs.Cells.{Root, Global, Local, Object, Place, part_of, Cells, Under, under, rest_behind, at_rest, same_root, stored, alone, text_under}
-use Rattle.lil_mcode.specs.State.{spliced}
+use Rattle.lil_frames.specs.Words.{spliced}
 use Rattle.lil_match.specs.Parts.{yes, no, part_fits, part_append, offset_append, Inside, Outside, word_long, parts}
 use Rattle.lil_match.specs.Splices.{spliced_length, spliced_before, spliced_there, spliced_after}
 

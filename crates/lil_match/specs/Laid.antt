@@ -1,5 +1,5 @@
 -- What is around the running frame's WITHs: the same but for the records that its layout holds.
-use Rattle.std.proofs.Common.{◌≡◌, ℕ, ◌+◌, ◌-◌, ◌<◌, false, inl, inr, ⊎_elim, List, [], ◌∷◌, length, get_or, refl, sym, ap, ◌∙◌, subst, arith}
+use Rattle.std.proofs.Common.{◌≡◌, ℕ, ◌+◌, ◌-◌, false, inl, inr, ⊎_elim, List, [], ◌∷◌, length, get_or, refl, sym, ap, ◌∙◌, subst, arith}
 use Rattle.std.specs.Prelude.{slice_get, nat_le, ◌&&◌}
 use Rattle.lil_base.specs.declared.fault.LimitKind.{LimitKind}
 use Rattle.lil_base.specs.declared.fault.LimitKind.TheVariants as limit
@@ -9,7 +9,6 @@ use Rattle.lil_meaning.specs.Steps.{next}
 use Rattle.lil_mcode.specs.State.{State, StackRegisters, stack_of}
 use Rattle.lil_table.specs.Rows.{Layout, holding}
 use Rattle.lil_match.specs.Running.{Run}
-use Rattle.lil_match.specs.Homes.{Owner, Fixed, Home}
 use Rattle.lil_match.specs.Goes.{OwnWords, Stands, fits, IsKnown, Standing, Shared, Short, IsFull, Goes}
 use Rattle.lil_match.specs.Waits.{Frame, Setting, inside_with}
 

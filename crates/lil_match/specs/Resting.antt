@@ -4,7 +4,7 @@ use Rattle.lil_meaning.specs.Items.{Parked}
 use Rattle.lil_mcode.specs.State.{Kept}
 use Rattle.lil_table.specs.Rows.{loop_place}
 use Rattle.lil_match.specs.Homes.{Home}
-use Rattle.lil_match.specs.Waits.{Quiet, Around, Frame, Stack, frames_of, Setting, Rows}
+use Rattle.lil_match.specs.Waits.{Quiet, Around, Stack, frames_of, Setting, Rows}
 use Rattle.lil_match.specs.Goes.{OwnWords, Standing, Touches}
 use Rattle.lil_match.specs.Known.{known_kept, each_known, each_comes}
 use Rattle.lil_match.specs.Kept.{first_words, stack_above, EachAbove, stands_kept, loops_fit, rows_kept}

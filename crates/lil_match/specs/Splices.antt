@@ -1,8 +1,7 @@
 -- Words that come to a place of the store.
 use Rattle.std.proofs.Common.{◌≡◌, ℕ, ◌+◌, ◌-◌, ◌<◌, ◌≤◌, List, ◌++◌, length, get_or, take, drop, refl, ap, ◌∙◌, arith, length-append, length-drop, append-nil}
 use Rattle.std.proofs.lemmas.List.{get_or-take, get_or_append_left, get_or-append_right, get_or-drop, get_or-replicate, length-replicate, length-take-le}
-use Rattle.lil_mcode.specs.State.{spliced, zeros}
-use Rattle.lil_mcode.specs.Table.{block}
+use Rattle.lil_frames.specs.Words.{spliced, zeros, moved}
 
 pub spliced_length : (store : List ℕ) (a : ℕ) (ws : List ℕ) → a + length ws ≤ length store → length (spliced store a ws) ≡ length store
 unfolding spliced
@@ -42,6 +41,6 @@ unfolding zeros
 zeros_word n i less = get_or-replicate n i 0 0 less
 
 -- a block with no zeros behind it
-pub block_alone : (store : List ℕ) (a w : ℕ) → block store a w 0 ≡ take w (drop a store)
+pub block_alone : (store : List ℕ) (a w : ℕ) → moved store a w 0 ≡ take w (drop a store)
 unfolding zeros
 block_alone store a w = append-nil (take w (drop a store))

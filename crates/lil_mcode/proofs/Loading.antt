@@ -2,10 +2,11 @@
 use Rattle.std.proofs.Common.{◌≡◌, ℕ, ◌+◌, ◌-◌, ◌≤◌, List, [], ◌∷◌, ◌++◌, length, map, drop, refl, sym, ap, ◌∙◌, arith}
 use Rattle.std.proofs.lemmas.List.{map-append, length-drop, length-take-le}
 use Rattle.lil_mcode.specs.declared.processor.LoadedModule.{LoadedModule}
-use Rattle.lil_mcode.specs.State.{Module, zeros, spliced, cleared}
+use Rattle.lil_mcode.specs.State.{Module}
+use Rattle.lil_frames.specs.Words.{spliced}
 use Rattle.lil_mcode.specs.Loaded.{part_of, module_of, Lies}
 use Rattle.lil_mcode.specs.Calls.{code_used}
-use Rattle.lil_mcode.proofs.Lists.{before_spliced, at_spliced, length_spliced, length-zeros}
+use Rattle.lil_frames.specs.WordLaws.{before_spliced, at_spliced}
 use Rattle.lil_mcode.proofs.Steps.{lies_up}
 
 -- the same module with another code
@@ -45,8 +46,3 @@ used code (l ∷ loaded) from end h room =
     let long : length (part_of code l) ≡ l.size = length-take-le l.size (drop l.start code) (omega arith) in
     let rest = used code loaded (from + l.size) end h.2 room in
     omega arith
-
-pub length_cleared : (store : List ℕ) (from words : ℕ) → from + words ≤ length store → length (cleared store from (from + words)) ≡ length store
-length_cleared store from words h =
-    let n : length (zeros (from + words - from)) ≡ words = length-zeros (from + words - from) ∙ omega arith in
-    length_spliced store (zeros (from + words - from)) from (omega arith)

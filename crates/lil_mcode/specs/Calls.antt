@@ -1,6 +1,7 @@
 -- The machine with its counts, and what the calls of the loader and the kernel make of it.
 use Rattle.std.specs.Prelude.{◌≡◌, ℕ, ◌+◌, ◌-◌, ◌^◌, ◌<◌, ◌≤◌, min, List, [], ◌∷◌, ◌++◌, length, Bool, true, false, Option, None, Some, nat_le, if◌then◌else◌, option_and_then, slice_get}
-use Rattle.lil_mcode.specs.State.{Module, State, module_at, zeros, spliced, cleared, body_entry}
+use Rattle.lil_mcode.specs.State.{Module, State, module_at, body_entry}
+use Rattle.lil_frames.specs.Words.{zeros, spliced, cleared}
 use Rattle.lil_mcode.specs.Table.{begun_body}
 
 pub record Machine : Type 0 where
@@ -69,9 +70,9 @@ with_module m name procedures code words =
 abbrev pub with_words : Machine → ℕ → List ℕ → Machine
 with_words m at words = record m { state = record m.state { store = spliced m.state.store at words } }
 
--- the main stack lies above the data frames
+-- the main stack lies above the data frames, up to the lowest block
 abbrev pub with_stack : Machine → State
-with_stack m = record m.state { base = m.data_end; limit = 65535 }
+with_stack m = record m.state { base = m.data_end }
 
 abbrev pub begun_state : State → ℕ → List ℕ → Option Module → State
 begun_state s b bodies None = s

@@ -2,7 +2,7 @@
 use Rattle.std.proofs.Common.{◌≡◌, ℕ, ◌+◌, ◌≤◌, Bool, true, false, cond, if◌then◌else◌, Option, Some, None, Result, Ok, Err, List, [], ◌∷◌, refl}
 use Rattle.std.proofs.lemmas.Bool.{leb-true}
 use Rattle.std.specs.Prelude.{ℤ, ◌*◌, ◌==◌, ◌&&◌, not, nat_lt, nat_le, length, is_some, ◌-◌, ◌%◌, slice_set, slice_index}
-use Rattle.lil_base.specs.Words.{Whole, Cardinal, Integer, sum, difference, product, quotient, remainder, negation, absolute, between, number_of}
+use Rattle.lil_base.specs.Words.{Cardinal, Integer, between, number_of}
 use Rattle.lil_base.specs.declared.fault.ArithFault.{ArithFault}
 use Rattle.lil_base.specs.declared.fault.TrapKind.{TrapKind}
 use Rattle.lil_base.specs.declared.fault.LimitKind.{LimitKind}
@@ -14,7 +14,7 @@ use Rattle.lil_mcode.specs.declared.machine.Event.{Event}
 use Rattle.lil_mcode.specs.declared.machine.Event.TheVariants.{Went, Request, LevelEnded, Trap, Limit, BadCode}
 use Rattle.lil_mcode.specs.Control.{above}
 use Rattle.lil_mcode.specs.State.{Module, State, module_at}
-use Rattle.lil_mcode.specs.Table.{one_more, one_less, address_row, place_row, fetch_row, put_row, move_row, member_row, store_row, going, bad, mstep, act, fetched, performed, result_row, on_one, on_two, on_three, push_row, load_row, jump, chosen_row, begun_row, turn_row, again_row, called_trap, trap_row, array_lies, request_row, leave_row, end_row, body_row, return_row}
+use Rattle.lil_mcode.specs.Table.{one_more, one_less, address_row, place_row, fetch_row, put_row, move_row, member_row, store_row, going, bad, mstep, act, fetched, performed, result_row, on_one, on_two, on_three, push_row, load_row, jump, chosen_row, begun_row, turn_row, called_trap, trap_row, array_lies, request_row, leave_row, end_row, body_row, return_row}
 
 -- a property that each outcome of a row at s has: it goes on, asks with its words on the stack and its array in the store, or changes
 -- nothing

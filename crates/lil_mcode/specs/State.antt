@@ -1,5 +1,5 @@
 -- The state of the machine, without its count of steps.
-use Rattle.std.specs.Prelude.{ℕ, zero, suc, ◌+◌, ◌-◌, List, [], ◌∷◌, ◌++◌, length, take, drop, replicate, Bool, Option, None, slice_get}
+use Rattle.std.specs.Prelude.{ℕ, zero, suc, List, [], ◌∷◌, Bool, Option, None, slice_get}
 
 -- A module that is loaded. The first of its procedures is the body, which has no name; each has its entry in the code.
 -- Its data frame has so many words from the base on.
@@ -56,18 +56,6 @@ stack_of s = record { running = s.running; frame = s.frame; top = s.top; base = 
 abbrev pub module_at : List Module → ℕ → Option Module
 module_at modules zero = None
 module_at modules (suc k) = slice_get modules k
-
--- words come to a place of the store
-unfoldable pub spliced : List ℕ → ℕ → List ℕ → List ℕ
-spliced store a words = take a store ++ (words ++ drop (a + length words) store)
-
--- So many zeros. It doesn't unfold, since its number may be large.
-unfoldable pub zeros : ℕ → List ℕ
-zeros n = replicate n 0
-
--- the words from one place to another become zero
-abbrev pub cleared : List ℕ → ℕ → ℕ → List ℕ
-cleared store from to = spliced store from (zeros (to - from))
 
 -- the entry of the body of a module
 abbrev pub first_entry : List (ℕ × Option (List ℕ)) → ℕ

@@ -1,7 +1,7 @@
 -- A trap, a limit and bad code change nothing.
 use Rattle.std.proofs.Common.{◌≡◌, refl, subst}
 use Rattle.lil_mcode.specs.declared.machine.Event.{Event}
-use Rattle.lil_mcode.specs.declared.machine.Event.TheVariants.{Went, Request, LevelEnded, Trap, Limit, BadCode}
+use Rattle.lil_mcode.specs.declared.machine.Event.TheVariants.{Trap, Limit, BadCode}
 use Rattle.lil_mcode.specs.State.{State}
 use Rattle.lil_mcode.specs.Table.{mstep}
 use Rattle.lil_mcode.specs.Outcomes.{Holds, step_has}

@@ -1,5 +1,5 @@
 -- The instruction table: what each instruction does. Bad code is tested before traps, and traps before limits; none of them changes the state.
-use Rattle.std.specs.Prelude.{ℕ, ◌+◌, ◌-◌, ◌*◌, ◌%◌, ℤ, Bool, true, not, List, [], ◌∷◌, ◌++◌, length, take, drop, Option, Some, None, Result, Ok, Err, ◌&&◌, nat_lt, nat_le, ◌==◌, if◌then◌else◌, slice_index, slice_set, is_some, int_lt}
+use Rattle.std.specs.Prelude.{ℕ, ◌+◌, ◌-◌, ◌*◌, ◌%◌, ℤ, Bool, true, not, List, [], ◌∷◌, length, Option, Some, None, Result, Ok, Err, ◌&&◌, nat_lt, nat_le, ◌==◌, if◌then◌else◌, slice_index, slice_set, is_some, int_lt}
 use Rattle.lil_base.specs.Words.{Whole, Cardinal, Integer, sum, difference, product, quotient, remainder, negation, absolute, between, number_of, word_of}
 use Rattle.lil_base.specs.declared.fault.ArithFault.{ArithFault}
 use Rattle.lil_base.specs.Sets.{has, union, minus, meet, apart, span, is_within}
@@ -14,7 +14,8 @@ use Rattle.lil_mcode.specs.declared.machine.Event.TheVariants.{Went, Request, Le
 use Rattle.lil_asm.specs.Requests.{request_words}
 use Rattle.lil_asm.specs.Bytes.{decoded}
 use Rattle.lil_mcode.specs.Control.{above, chosen, loop_type, loop_words, turns, after_first}
-use Rattle.lil_mcode.specs.State.{Module, State, module_at, spliced, zeros, cleared, body_entry}
+use Rattle.lil_mcode.specs.State.{Module, State, module_at, body_entry}
+use Rattle.lil_frames.specs.Words.{spliced, cleared, moved}
 
 -- the same but for the place and the expression stack
 abbrev pub going : State → ℕ → List ℕ → State
@@ -131,13 +132,10 @@ abbrev pub put_row : ℕ → State → ℕ → ℕ → List ℕ → Event × Sta
 put_row q s a x rest = if nat_lt a 65536 then (Went, record s { place = q; stack = rest; store = slice_set s.store a x }) else bad s
 
 -- so many words from one address, as they were, and zeros behind them, go to another
-abbrev pub block : List ℕ → ℕ → ℕ → ℕ → List ℕ
-block store a w z = take w (drop a store) ++ zeros z
-
 abbrev pub move_row : ℕ → ℕ → ℕ → State → ℕ → ℕ → List ℕ → Event × State
 move_row w z q s to from rest =
     if nat_le (from + w) 65536 && nat_le (to + (w + z)) 65536
-    then (Went, record s { place = q; stack = rest; store = spliced s.store to (block s.store from w z) })
+    then (Went, record s { place = q; stack = rest; store = spliced s.store to (moved s.store from w z) })
     else bad s
 
 -- a pointer that isn't NIL

@@ -1,6 +1,6 @@
 ghost use Rattle.std.specs.Prelude.{◌≡◌, ◌+◌, ◌<◌, ◌≤◌, length, vec_len, vec_capacity, false, drop, slice_get, IfOk, Some};
 ghost use Rattle.lil_mcode.specs.Calls.{fresh};
-ghost use Rattle.lil_mcode.specs.State.{spliced, zeros};
+ghost use Rattle.lil_frames.specs.Words.{spliced};
 ghost use Rattle.lil_mcode.specs.Table.{array_lies, request_row};
 ghost use Rattle.lil_asm.specs.Requests.{request_words};
 
@@ -9,6 +9,7 @@ use crate::machine::Event;
 use crate::request::{WRITE_STRING, words_of_request};
 use arrayvec::ArrayVec;
 use lil_base::{Bytes, Memory, Name};
+use lil_frames::MainStore;
 use std::alloc::Global;
 use std::marker::Model;
 
@@ -26,15 +27,6 @@ const MOST_MODULES: usize = 63;
 
 /// The bytes of the code store.
 const CODE_BYTES: usize = 131_072;
-
-/// The words of the main store.
-const STORE_WORDS: usize = 65_536;
-
-/// The limit of a stack that nothing stands above.
-const TOP_LIMIT: u16 = 65_535;
-
-/// The highest base of a stack on which a mark has room.
-const LAST_MARK: u16 = TOP_LIMIT - 4;
 
 /// A module that is loaded: its part of the code store, in bytes, and its data frame, in words.
 #[derive(Drop)]
@@ -59,11 +51,10 @@ pub struct Processor {
     running: u8,
     place: u16,
     stack: ArrayVec<u16, 16>,
-    store: Vec<u16>,
+    memory: MainStore,
     frame: u16,
     top: u16,
     base: u16,
-    limit: u16,
     bodies: Bytes,
     marked: bool,
 }
@@ -75,24 +66,25 @@ impl Model for Processor {
     ghost Value = { State };
 
     ghost use Rattle.lil_mcode.specs.Loaded.{module_of, Lies, Runs};
+    ghost use Rattle.lil_frames.specs.Store.{lowest};
 
     ghost view = { λ p. record {
       modules = map (module_of p.code.items) p.modules.items;
       running = p.running;
       place = p.place;
       stack = reverse p.stack.items;
-      store = p.store.items;
+      store = p.memory.words;
       frame = p.frame;
       top = p.top;
       base = p.base;
-      limit = p.limit;
+      limit = lowest p.memory;
       bodies = p.bodies;
       marked = p.marked;
       parked = [];
       waiting = [];
     } };
 
-    ghost invariant = { λ p. (length p.code.items ≡ 131072) × (length p.store.items ≡ 65536) × (length p.modules.items ≤ 63) × (63 ≤ vec_capacity p.modules) × (p.code_end ≤ 131072) × Lies 0 p.modules.items p.code_end × Runs p.modules.items p.running p.code_start p.code_size p.code_base };
+    ghost invariant = { λ p. (length p.code.items ≡ 131072) × (length p.modules.items ≤ 63) × (63 ≤ vec_capacity p.modules) × (p.code_end ≤ 131072) × Lies 0 p.modules.items p.code_end × Runs p.modules.items p.running p.code_start p.code_size p.code_base };
 }
 
 impl Processor {
@@ -102,7 +94,8 @@ impl Processor {
     {
         let modules = Vec::with_capacity(alloc, MOST_MODULES)?;
         let code = zero_bytes(alloc, CODE_BYTES)?;
-        let store = zero_words(alloc, STORE_WORDS)?;
+        let mut memory = MainStore::new(alloc)?;
+        memory.open_level();
         Ok(Processor {
             modules,
             code,
@@ -113,11 +106,10 @@ impl Processor {
             running: 0,
             place: 0,
             stack: ArrayVec::new(),
-            store,
+            memory,
             frame: 0,
             top: 0,
             base: 0,
-            limit: TOP_LIMIT,
             bodies: Bytes::new(alloc),
             marked: false,
         })
@@ -159,7 +151,7 @@ impl Processor {
     pub fn stored(&self, at: u16) -> u16
         ensures { slice_get self.now.store at ≡ Some result }
     {
-        self.store[usize::from(at)]
+        self.memory.word(at)
     }
 
     /// Words of the store from an address on become these.
@@ -167,7 +159,7 @@ impl Processor {
         requires { at + length words.now ≤ 65536 }
         ensures { self.new ≡ record self.old { store = spliced self.old.store at words.now } }
     {
-        copy_words(&mut self.store, usize::from(at), words);
+        self.memory.set_words(at, words);
     }
 
     fn request(&mut self, number: u8, next: u16) -> Event
@@ -195,23 +187,6 @@ impl Processor {
             Some((address, high)) => u32::from(address) + u32::from(high) <= 65535,
         }
     }
-}
-
-fn copy_words(store: &mut [u16], at: usize, words: &[u16])
-    requires { at + length words.now ≤ length store.old }
-    ensures { store.new ≡ spliced store.old at words.now }
-{
-    let end = at + words.len();
-    store[at..end].copy_from_slice(words);
-}
-
-#[tactic(auto, unfolding(crate::specs::State::zeros))]
-fn zero_words(alloc: Global, count: usize) -> Result<Vec<u16>, Memory>
-    ensures zeros { IfOk result (λ words. words.items ≡ zeros count) }
-    ensures long { IfOk result (λ words. length words.items ≡ count) }
-{
-    let words = vec![in alloc; 0u16; count]?;
-    Ok(words)
 }
 
 fn zero_bytes(alloc: Global, count: usize) -> Result<Vec<u8>, Memory>

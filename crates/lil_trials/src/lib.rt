@@ -1,5 +1,16 @@
-//! Trials of whole commands, from the words to the screen, the report and the answer.
+//! All tests: of single crates by their public functions, and of whole commands, from the words to the screen, the
+//! report and the answer. A crate with tests of its own would be proved twice.
 #![tactic(auto)]
 
 #[cfg(test)]
-mod tests;
+mod asm;
+#[cfg(test)]
+mod base;
+#[cfg(test)]
+mod commands;
+#[cfg(test)]
+mod kernel;
+#[cfg(test)]
+mod mcode;
+#[cfg(test)]
+mod volume;

@@ -1,12 +1,10 @@
 //! The rows of addresses, and of words and blocks of words at addresses.
 
 ghost use Rattle.std.specs.Prelude.{◌≡◌, ◌+◌, ◌*◌, ◌<◌, ◌≤◌, ◌∷◌, length, drop};
-ghost use Rattle.lil_mcode.specs.State.{spliced};
-ghost use Rattle.lil_mcode.specs.Table.{address_row, place_row, further_row, fetch_row, put_row, block, move_row, nil_row, element_row, open_row, take_row, on_one, on_two, on_three};
+ghost use Rattle.lil_mcode.specs.Table.{address_row, place_row, further_row, fetch_row, put_row, move_row, nil_row, element_row, open_row, take_row, on_one, on_two, on_three};
 
 use super::Processor;
 use super::control::distance;
-use super::frames::clear;
 use crate::arithmetic::{trap_of, truth_word};
 use crate::machine::Event;
 use lil_base::{LimitKind, TrapKind};
@@ -53,7 +51,7 @@ impl Processor {
         if at >= 65536 {
             return Event::BadCode;
         }
-        let word = self.store[at as usize];
+        let word = self.memory.word(at as u16);
         self.replace(1, word, next);
         Event::Went
     }
@@ -64,7 +62,7 @@ impl Processor {
         ensures { put_row next self.old address word (drop 2 self.old.stack) ≡ (Event.Went, self.new) }
     {
         self.drop_arguments(2);
-        self.store[usize::from(address)] = word;
+        self.memory.set_word(address, word);
         self.place = next;
     }
 
@@ -84,14 +82,11 @@ impl Processor {
         let Some((to, from)) = self.two() else {
             return Event::BadCode;
         };
-        let to = usize::from(to);
-        let from = usize::from(from);
-        let words = usize::from(words);
-        let zeros = usize::from(zeros);
-        if from + words > 65536 || to + (words + zeros) > 65536 {
+        let length = u32::from(words) + u32::from(zeros);
+        if u32::from(from) + u32::from(words) > 65536 || u32::from(to) + length > 65536 {
             return Event::BadCode;
         }
-        move_block(&mut self.store, to, from, words, zeros);
+        self.memory.move_words(to, from, words, zeros);
         self.drop_arguments(2);
         self.place = next;
         Event::Went
@@ -140,25 +135,12 @@ impl Processor {
         let Some((address, words)) = self.two() else {
             return Event::BadCode;
         };
-        let room = self.limit.saturating_sub(self.top);
-        if u32::from(room) < u32::from(words) + 2 {
-            return Event::Limit(LimitKind::Store);
+        match self.memory.allocate(u32::from(self.top), words) {
+            Err(_) => Event::Limit(LimitKind::Store),
+            Ok(block) => {
+                self.put(address, block, next);
+                Event::Went
+            }
         }
-        let end = self.limit;
-        let block = end - words;
-        clear(&mut self.store, usize::from(block), usize::from(end));
-        self.limit = block - 2;
-        self.put(address, block, next);
-        Event::Went
     }
-}
-
-/// Words of the store as they were, and zeros behind them, come to an address.
-fn move_block(store: &mut [u16], to: usize, from: usize, words: usize, zeros: usize)
-    requires there { from + words ≤ length store.old }
-    requires room { to + (words + zeros) ≤ length store.old }
-    ensures { store.new ≡ spliced store.old to (block store.old from words zeros) }
-{
-    store.copy_within(from..from + words, to);
-    clear(store, to + words, to + (words + zeros));
 }

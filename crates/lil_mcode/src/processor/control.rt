@@ -2,6 +2,7 @@
 
 ghost use Rattle.std.specs.Prelude.{◌≡◌, ◌<◌, ◌≤◌, ◌+◌, ◌*◌, ◌^◌, ◌∷◌, length, drop, MatchOption};
 ghost use Rattle.lil_mcode.specs.Control.{chosen, above, loop_words};
+ghost use Rattle.lil_frames.specs.Store.{with_words};
 ghost use Rattle.lil_mcode.specs.Fetch.{own};
 ghost use Rattle.lil_mcode.specs.Table.{going, on_one, on_three, jump, false_row, and_row, or_row, case_row, loop_row, again_row, called_trap, trap_row};
 
@@ -10,6 +11,7 @@ use crate::arithmetic::turns_left;
 use crate::machine::Event;
 use lil_asm::word_of_bytes;
 use lil_base::TrapKind;
+use lil_frames::MainStore;
 
 impl Processor {
     /// A jump, at which so many words at the top go.
@@ -114,7 +116,7 @@ impl Processor {
                 if at + 2 >= 65536 {
                     return Event::BadCode;
                 }
-                put_loop(&mut self.store, at as usize, first, left, step);
+                put_loop(&mut self.memory, at as u16, first, left, step);
                 self.go_on(next, 3);
                 Event::Went
             }
@@ -128,19 +130,20 @@ impl Processor {
         if at + 1 >= 65536 {
             return Event::BadCode;
         }
-        let at = at as usize;
-        let left = self.store[at + 1];
+        let at = at as u16;
+        let left = self.memory.word(at + 1);
         if left == 0 {
             self.place = next;
             return Event::Went;
         }
-        if at + 2 >= 65536 || usize::from(to) >= self.running_code().len() {
+        if u32::from(at) + 2 >= 65536 || usize::from(to) >= self.running_code().len() {
             return Event::BadCode;
         }
-        let value = self.store[at];
-        let step = self.store[at + 2];
-        self.store[at + 1] = left - 1;
-        self.store[at] = ((u32::from(value) + u32::from(step)) % 65536) as u16;
+        let value = self.memory.word(at);
+        let step = self.memory.word(at + 2);
+        self.memory.set_word(at + 1, left - 1);
+        self.memory
+            .set_word(at, ((u32::from(value) + u32::from(step)) % 65536) as u16);
         self.place = to;
         Event::Went
     }
@@ -183,11 +186,11 @@ fn chosen_place(code: &[u8], count: u16, place: usize, x: u16, other: u16) -> Op
     Some(other)
 }
 
-fn put_loop(store: &mut Vec<u16>, at: usize, value: u16, left: u16, step: u16)
-    requires { at + 2 < length store.old.items }
-    ensures { store.new.items ≡ loop_words store.old.items at value left step }
+fn put_loop(memory: &mut MainStore, at: u16, value: u16, left: u16, step: u16)
+    requires { at + 2 < 65536 }
+    ensures { memory.new ≡ with_words memory.old (loop_words memory.old.words at value left step) }
 {
-    store[at] = value;
-    store[at + 1] = left;
-    store[at + 2] = step;
+    memory.set_word(at, value);
+    memory.set_word(at + 1, left);
+    memory.set_word(at + 2, step);
 }

@@ -6,7 +6,6 @@ ghost use Rattle.lil_asm.specs.Bytes.{word_at, two_words_at, with_entries, with_
 ghost use Rattle.lil_asm.specs.declared.instr.Instr.TheVariants.{Cas, Fri};
 ghost use Rattle.lil_mcode.specs.Fetch.{running_code, running_base, current};
 ghost use Rattle.lil_mcode.specs.Loaded.{loaded_at, IsPartOf};
-ghost use Rattle.lil_mcode.specs.State.{zeros};
 ghost use Rattle.lil_mcode.specs.Table.{mstep, performed};
 
 use super::{LoadedModule, Processor};

@@ -1,7 +1,8 @@
 //! The rows of frames: the mark and the words of a body, and returns.
 
 ghost use Rattle.std.specs.Prelude.{◌≡◌, ◌+◌, ◌*◌, ◌<◌, ◌≤◌, ◌∷◌, length, false, option_map, OnSome, Some, []};
-ghost use Rattle.lil_mcode.specs.State.{cleared, spliced, module_at, body_entry};
+ghost use Rattle.lil_mcode.specs.State.{module_at, body_entry};
+ghost use Rattle.lil_frames.specs.Words.{spliced};
 ghost use Rattle.lil_mcode.specs.Table.{enter_row, leave_row, end_row, return_row};
 
 use super::Processor;
@@ -31,10 +32,10 @@ impl Processor {
         if end < u32::from(self.top) {
             return Event::BadCode;
         }
-        if u32::from(self.limit) < end {
+        if u32::from(self.memory.lowest()) < end {
             return Event::Limit(LimitKind::Stack);
         }
-        clear(&mut self.store, usize::from(self.top), end as usize);
+        self.memory.clear_words(self.top, end);
         self.top = end as u16;
         self.place = next;
         Event::Went
@@ -53,7 +54,8 @@ impl Processor {
         requires known { number ≤ length self.old.modules }
         ensures { self.new ≡ record self.old { running = number; place = place; stack = []; store = spliced self.old.store self.old.base (0 ∷ 0 ∷ 0 ∷ number ∷ []); frame = self.old.base; top = self.old.base + 4 } }
     {
-        write_mark(&mut self.store, usize::from(self.base), number);
+        self.memory
+            .set_words(self.base, &[0, 0, 0, u16::from(number)]);
         self.run_in(number);
         self.place = place;
         self.stack.clear();
@@ -71,7 +73,7 @@ impl Processor {
         let Some(place) = self.entry(number) else {
             return Event::BadCode;
         };
-        if u32::from(self.limit) < u32::from(self.base) + 4 {
+        if u32::from(self.memory.lowest()) < u32::from(self.base) + 4 {
             return Event::Limit(LimitKind::Stack);
         }
         self.bodies.take_first();
@@ -85,13 +87,12 @@ impl Processor {
         if self.frame == self.base {
             return self.next_body();
         }
-        let frame = usize::from(self.frame);
-        if frame + 3 >= 65536 {
+        if u32::from(self.frame) + 3 >= 65536 {
             return Event::BadCode;
         }
-        let to = self.store[frame + 1];
-        let place = self.store[frame + 2];
-        let number = self.store[frame + 3];
+        let to = self.memory.word(self.frame + 1);
+        let place = self.memory.word(self.frame + 2);
+        let number = self.memory.word(self.frame + 3);
         self.go_back(to, place, number)
     }
 
@@ -112,20 +113,4 @@ impl Processor {
         self.run_in(number as u8);
         Event::Went
     }
-}
-
-pub(super) fn clear(store: &mut [u16], from: usize, to: usize)
-    requires ordered { from ≤ to }
-    requires within { to ≤ length store.old }
-    ensures { store.new ≡ cleared store.old from to }
-{
-    store[from..to].fill(0);
-}
-
-fn write_mark(store: &mut [u16], at: usize, number: u8)
-    requires { at + 4 ≤ length store.old }
-    ensures { store.new ≡ spliced store.old at (0 ∷ 0 ∷ 0 ∷ number ∷ []) }
-{
-    let mark = [0, 0, 0, u16::from(number)];
-    store[at..at + 4].copy_from_slice(&mark);
 }

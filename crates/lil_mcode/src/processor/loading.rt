@@ -4,11 +4,11 @@ ghost use Rattle.std.specs.Prelude.{◌≡◌, ◌+◌, ◌<◌, ◌≤◌, ◌�
 ghost use Rattle.std.specs.Option.{option_copied};
 ghost use Rattle.lil_mcode.specs.Calls.{IsRunning, names_of, code_used};
 ghost use Rattle.lil_mcode.specs.Kept.{with_loaded, with_first, is_better};
-ghost use Rattle.lil_mcode.specs.State.{Module, cleared, spliced, module_at, first_entry};
+ghost use Rattle.lil_mcode.specs.State.{Module, module_at, first_entry};
+ghost use Rattle.lil_frames.specs.Words.{spliced};
 
 use super::fetching::loaded;
-use super::frames::clear;
-use super::{LAST_MARK, LoadedModule, Processor, TOP_LIMIT};
+use super::{LoadedModule, Processor};
 use crate::arithmetic::{trap_of, truth_word};
 use lil_base::{Bytes, Name};
 
@@ -53,8 +53,9 @@ impl Processor {
         let start = self.code_end;
         let size = code.len() as u16;
         put_code(&mut self.code, start, code);
-        clear_words(&mut self.store, base, words);
         self.code_end = start + u32::from(size);
+        let end = u32::from(base) + u32::from(words);
+        self.memory.clear_words(base, end);
         let entry = LoadedModule {
             name,
             procedures,
@@ -69,10 +70,9 @@ impl Processor {
 
     /// The first of the bodies begins, over a base of the main stack.
     pub fn begin(&mut self, bodies: Vec<u8>, base: u16)
-        ensures { self.new ≡ with_first (record self.old { base = base; limit = 65535 }) bodies.items }
+        ensures { self.new ≡ with_first (record self.old { base = base }) bodies.items }
     {
         self.base = base;
-        self.limit = TOP_LIMIT;
         let mut bodies = Bytes::of_vec(bodies);
         let Some(number) = bodies.take_first() else {
             return;
@@ -81,7 +81,7 @@ impl Processor {
             return;
         };
         self.bodies = bodies;
-        if base <= LAST_MARK {
+        if u32::from(base) + 4 <= u32::from(self.memory.lowest()) {
             self.start_body(number, place);
             self.marked = true;
         } else {
@@ -137,17 +137,6 @@ fn put_code(store: &mut Vec<u8>, at: u32, code: &[u8])
     ensures { store.new.items ≡ spliced store.old.items at code.now }
 {
     put_bytes(store, at as usize, code);
-}
-
-fn clear_words(store: &mut Vec<u16>, from: u16, words: u16)
-    requires { from + words ≤ length store.old.items }
-    ensures { store.new.items ≡ cleared store.old.items from (from + words) }
-{
-    clear(
-        store,
-        usize::from(from),
-        usize::from(from) + usize::from(words),
-    );
 }
 
 fn put_entry(modules: &mut Vec<LoadedModule>, entry: LoadedModule)

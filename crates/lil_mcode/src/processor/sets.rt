@@ -42,7 +42,7 @@ impl Processor {
         if number > 15 {
             return Event::BadCode;
         }
-        let set = self.store[usize::from(address)];
+        let set = self.memory.word(address);
         self.put(address, set_union(set, set_span(number, number)), next);
         Event::Went
     }
@@ -56,7 +56,7 @@ impl Processor {
         if number > 15 {
             return Event::BadCode;
         }
-        let set = self.store[usize::from(address)];
+        let set = self.memory.word(address);
         self.put(address, set_minus(set, set_span(number, number)), next);
         Event::Went
     }

@@ -27,7 +27,7 @@ impl Processor {
         if at >= 65536 {
             return Event::BadCode;
         }
-        let word = self.store[at as usize];
+        let word = self.memory.word(at as u16);
         self.push(word, next)
     }
 
@@ -40,7 +40,7 @@ impl Processor {
         let Some(word) = self.stack.pop() else {
             return Event::BadCode;
         };
-        self.store[at as usize] = word;
+        self.memory.set_word(at as u16, word);
         self.place = next;
         Event::Went
     }

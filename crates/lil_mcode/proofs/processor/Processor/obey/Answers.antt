@@ -1,5 +1,7 @@
-use Rattle.std.proofs.Common.{ℕ, Option, ap, arith}
+use Rattle.std.proofs.Common.{◌≡◌, ℕ, ◌+◌, Option, Some, ap, ◌∙◌, arith, rules}
 use Rattle.lil_asm.specs.declared.instr.Instr.{Instr}
+use Rattle.lil_asm.specs.declared.instr.Instr.TheVariants.{Fri, Frn}
+use Rattle.lil_asm.specs.Bytes.{row, row_7}
 use Rattle.lil_mcode.specs.Fetch.{running_code, current}
 use Rattle.lil_mcode.specs.Table.{performed}
 use Rattle.lil_mcode.proofs.NoRows.{no_frame, no_late_frame, no_jump, no_later}
@@ -20,3 +22,19 @@ returns-in-123-to-124 c =
 pub returns-in-126-to-255 : goal.returns-in-126-to-255
 returns-in-126-to-255 c =
     ap (λ (o : Option (Instr × ℕ)). performed c.args.self.now (current c.args.self.now) o) (no_later c.args.first (running_code c.args.self.now) c.args.place (omega arith))
+
+pub returns-in-Some-loop_operands : goal.returns-in-Some-loop_operands
+unfolding row_7
+returns-in-Some-loop_operands c =
+    let s = c.args.self.now in
+    let a = c.in-Some-loop_operands in
+    let is : row c.args.first (running_code s) c.args.place ≡ Some (Fri a.offset a.kind a.to, c.args.place + 6) = ap (λ (b : ℕ). row b (running_code s) c.args.place) c.in-119.is ∙ a.ensures.some in
+    ap (performed s (current s)) is ∙ search rules
+
+pub returns-in-Some-two_words-5 : goal.returns-in-Some-two_words-5
+unfolding row_7
+returns-in-Some-two_words-5 c =
+    let s = c.args.self.now in
+    let a = c.in-Some-two_words-5 in
+    let is : row c.args.first (running_code s) c.args.place ≡ Some (Frn a.low a.high, c.args.place + 5) = ap (λ (b : ℕ). row b (running_code s) c.args.place) c.in-120.is ∙ search rules in
+    ap (performed s (current s)) is ∙ search rules

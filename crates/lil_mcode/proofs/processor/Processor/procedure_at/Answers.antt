@@ -9,7 +9,7 @@ use Rattle.lil_mcode.proofs.processor.Processor.procedure_at.Goals as goal
 pub running_procedure-requires : goal.running_procedure-requires
 running_procedure-requires c =
     let Lain : List LoadedModule → Type 0 = λ loaded. Lies 0 loaded c.self.inside.code_end in
-    let l = lies_loaded c.as_slice.result.now c.self.inside.code_end c.args.number c.in-Some.entry.now (subst Lain (sym c.as_slice.ensures.value) c.self.invariant.5) (sym c.in-Some.ensures.value) in
+    let l = lies_loaded c.as_slice.result.now c.self.inside.code_end c.args.number c.in-Some.entry.now (subst Lain (sym c.as_slice.ensures.value) c.self.invariant.4) (sym c.in-Some.ensures.value) in
     let few = l.few in
     omega (arith, ap length c.as_slice-in-Some.ensures.value)
 

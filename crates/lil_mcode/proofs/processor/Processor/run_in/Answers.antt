@@ -11,4 +11,4 @@ invariant_of-self c =
     let count : length c.self.inside.modules.items ≡ length c.args.self.now.modules = simp length-map at long in
     let P : List LoadedModule → Type 0 = λ ls. IsPartOf (loaded_at ls c.args.number) c.kept_part-start.result.0 c.kept_part-start.result.1 c.kept_part-start.result.2 in
     let i = c.self.invariant in
-    (i.0, i.1, i.2, i.3, i.4, i.5, (omega (arith, c.requires), subst P c.as_slice.ensures.value c.kept_part-start.ensures))
+    (i.0, i.1, i.2, i.3, i.4, (omega (arith, c.requires), subst P c.as_slice.ensures.value c.kept_part-start.ensures))

@@ -1,5 +1,5 @@
 use Rattle.std.proofs.Common.{◌≡◌, ◌+◌, ◌-◌, length, arith}
-use Rattle.lil_mcode.proofs.Lists.{put_mid-spliced}
+use Rattle.lil_frames.specs.WordLaws.{put_mid-spliced}
 use Rattle.lil_mcode.proofs.processor.loading.put_bytes.Goals as goal
 
 pub returns : goal.returns

@@ -1,8 +1,8 @@
-use Rattle.std.proofs.Common.{◌≡◌, ℕ, ◌+◌, ◌-◌, List, ◌++◌, length, take, drop, sym, ap, ◌∙◌, arith, length-take, length-drop, append_assoc}
+use Rattle.std.proofs.Common.{◌≡◌, ℕ, ◌+◌, ◌-◌, List, ◌++◌, length, take, drop, sym, ap, ◌∙◌, arith, length-drop, append_assoc}
 use Rattle.std.proofs.lemmas.List.{length-take-le}
-use Rattle.lil_mcode.specs.State.{spliced, zeros, cleared}
-use Rattle.lil_mcode.proofs.Lists.{spliced_on}
-use Rattle.lil_mcode.proofs.processor.addresses.move_block.Goals as goal
+use Rattle.lil_frames.specs.Words.{spliced, zeros, cleared}
+use Rattle.lil_frames.specs.WordLaws.{spliced_on}
+use Rattle.lil_frames.proofs.words.move_words.Goals as goal
 
 pub returns : goal.returns
 unfolding spliced

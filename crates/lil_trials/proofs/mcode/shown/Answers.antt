@@ -3,7 +3,7 @@ use Rattle.lil_mcode.specs.declared.machine.Event.{Event}
 use Rattle.lil_mcode.specs.declared.machine.Event.TheVariants.{Request}
 use Rattle.lil_mcode.specs.Table.{mstep}
 use Rattle.lil_mcode.specs.Requests.{request_has}
-use Rattle.lil_tests.proofs.mcode.shown.Goals as goal
+use Rattle.lil_trials.proofs.mcode.shown.Goals as goal
 
 pub serve-requires : goal.serve-requires
 serve-requires c =

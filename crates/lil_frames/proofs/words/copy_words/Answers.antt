@@ -1,6 +1,6 @@
 use Rattle.std.proofs.Common.{◌≡◌, ◌+◌, ◌-◌, length, arith}
-use Rattle.lil_mcode.proofs.Lists.{put_mid-spliced}
-use Rattle.lil_mcode.proofs.processor.copy_words.Goals as goal
+use Rattle.lil_frames.specs.WordLaws.{put_mid-spliced}
+use Rattle.lil_frames.proofs.words.copy_words.Goals as goal
 
 pub returns : goal.returns
 returns c =

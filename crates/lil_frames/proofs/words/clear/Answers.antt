@@ -1,7 +1,7 @@
 use Rattle.std.proofs.Common.{◌≡◌, ◌-◌, length, take, drop, ap, ◌∙◌, arith, length-take, length-drop}
-use Rattle.lil_mcode.specs.State.{zeros}
-use Rattle.lil_mcode.proofs.Lists.{length-zeros, put_mid-spliced}
-use Rattle.lil_mcode.proofs.processor.frames.clear.Goals as goal
+use Rattle.lil_frames.specs.Words.{zeros}
+use Rattle.lil_frames.specs.WordLaws.{length-zeros, put_mid-spliced}
+use Rattle.lil_frames.proofs.words.clear.Goals as goal
 
 pub returns : goal.returns
 unfolding zeros

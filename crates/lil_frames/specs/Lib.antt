@@ -1,0 +1,4 @@
+pub mod Blocks
+pub mod Store
+pub mod WordLaws
+pub mod Words
