@@ -2,7 +2,7 @@
 use Rattle.std.specs.Prelude.{◌≡◌, ℕ, ◌+◌, ◌*◌, ◌/◌, ◌%◌, ◌<◌, nat_le, List, [], ◌∷◌, ◌++◌, length, Option, Some, None, option_and_then, slice_get, if◌then◌else◌, ◌==◌}
 use Rattle.lil_base.specs.Fields.{bytes16}
 use Rattle.lil_asm.specs.declared.instr.Instr.{Instr}
-use Rattle.lil_asm.specs.declared.instr.Instr.TheVariants.{Liw, Lib, Dup, Drp, Swp, Lis, Llw, Llb, Slw, Slb, Lgw, Lgb, Sgw, Sgb, Lal, Lag, Ldi, Sti, Ldf, Adf, Mov, Mvz, Nlt, Ixc, Ixo, Rgc, Rgi, Cap, Adc, Sbc, Mlc, Dvc, Mdc, Adi, Sbi, Mli, Dvi, Mdi, Ngi, Abi, Uni, Dif, Its, Sym, Sin, Spn, Icl, Ecl, Sle, Not, Equ, Neq, Lsc, Lec, Lsi, Lei, Ent, Rtn, Jmp, Jpf, Jan, Jor, Jms, Jfs, Cas, Fri, Frn, Trp, Alc, Svc}
+use Rattle.lil_asm.specs.declared.instr.Instr.TheVariants.{Liw, Lib, Dup, Drp, Swp, Lis, Llw, Llb, Slw, Slb, Lgw, Lgb, Sgw, Sgb, Lew, Sew, Lnw, Snw, Lal, Lag, Lae, Lan, Ldi, Sti, Ldf, Adf, Mov, Mvz, Nlt, Ixc, Ixo, Rgc, Rgi, Cap, Adc, Sbc, Mlc, Dvc, Mdc, Adi, Sbi, Mli, Dvi, Mdi, Ngi, Abi, Uni, Dif, Its, Sym, Sin, Spn, Icl, Ecl, Sle, Not, Equ, Neq, Lsc, Lec, Lsi, Lei, Sav, Mrk, Mrf, Psh, Psm, Cll, Clx, Clf, Ent, Cpy, Rtn, Rst, Jmp, Jpf, Jan, Jor, Jms, Jfs, Cas, Fri, Frn, Trp, Alc, Npr, Trf, Svc}
 
 infixl 10 ◌>>=◌
 abbrev pub ◌>>=◌ : {A B : Type 0} → Option A → (A → Option B) → Option B
@@ -37,6 +37,27 @@ two_words_at code p = do
   v ← word_at code p
   w ← word_at code (p + 2)
   Some (v, w)
+
+-- a byte, and a word behind it
+abbrev pub byte_word_at : List ℕ → ℕ → Option (ℕ × ℕ)
+byte_word_at code p = do
+  n ← slice_get code p
+  w ← word_at code (p + 1)
+  Some (n, w)
+
+abbrev pub with_byte_word : (ℕ → ℕ → Instr) → List ℕ → ℕ → Option (Instr × ℕ)
+with_byte_word make code p = do
+  n ← slice_get code (p + 1)
+  w ← word_at code (p + 2)
+  Some (make n w, p + 4)
+
+-- a call of another module's procedure: two bytes and a word
+abbrev pub with_call : List ℕ → ℕ → Option (Instr × ℕ)
+with_call code p = do
+  m ← slice_get code (p + 1)
+  n ← slice_get code (p + 2)
+  a ← word_at code (p + 3)
+  Some (Clx m n a, p + 5)
 
 -- the head of a loop: a word, a byte and a word
 abbrev pub with_loop : List ℕ → ℕ → Option (Instr × ℕ)
@@ -73,9 +94,15 @@ row_2 b code p =
     else (if b == 0x25 then with_byte Lgb code p
     else (if b == 0x26 then with_word Sgw code p
     else (if b == 0x27 then with_byte Sgb code p
+    else (if b == 0x28 then with_byte_word Lew code p
+    else (if b == 0x29 then with_byte_word Sew code p
+    else (if b == 0x2a then with_byte_word Lnw code p
+    else (if b == 0x2b then with_byte_word Snw code p
     else (if b == 0x2c then with_word Lal code p
     else (if b == 0x2d then with_word Lag code p
-    else None)))))))))
+    else (if b == 0x2e then with_byte_word Lae code p
+    else (if b == 0x2f then with_byte_word Lan code p
+    else None)))))))))))))))
 
 unfoldable pub row_3 : ℕ → List ℕ → ℕ → Option (Instr × ℕ)
 row_3 b code p =
@@ -131,9 +158,19 @@ row_5 b p =
 
 unfoldable pub row_6 : ℕ → List ℕ → ℕ → Option (Instr × ℕ)
 row_6 b code p =
-    if b == 0x68 then with_word Ent code p
+    if b == 0x60 then Some (Sav, p + 1)
+    else (if b == 0x61 then with_byte Mrk code p
+    else (if b == 0x62 then Some (Mrf, p + 1)
+    else (if b == 0x63 then Some (Psh, p + 1)
+    else (if b == 0x64 then with_word Psm code p
+    else (if b == 0x65 then with_byte_word Cll code p
+    else (if b == 0x66 then with_call code p
+    else (if b == 0x67 then with_word Clf code p
+    else (if b == 0x68 then with_word Ent code p
+    else (if b == 0x69 then with_two_words Cpy code p
     else (if b == 0x6a then Some (Rtn, p + 1)
-    else None)
+    else (if b == 0x6b then with_byte Rst code p
+    else None)))))))))))
 
 unfoldable pub row_7 : ℕ → List ℕ → ℕ → Option (Instr × ℕ)
 row_7 b code p =
@@ -148,8 +185,10 @@ row_7 b code p =
     else (if b == 0x78 then with_two_words Frn code p
     else (if b == 0x79 then with_byte Trp code p
     else (if b == 0x7a then Some (Alc, p + 1)
+    else (if b == 0x7b then Some (Npr, p + 1)
+    else (if b == 0x7c then Some (Trf, p + 1)
     else (if b == 0x7d then with_byte Svc code p
-    else None)))))))))))
+    else None)))))))))))))
 
 -- the row of a first byte, by its higher digit and then by itself
 abbrev pub row_of_digit : ℕ → ℕ → List ℕ → ℕ → Option (Instr × ℕ)
@@ -183,6 +222,13 @@ word_bytes b w = b ∷ bytes16 w
 abbrev pub two_word_bytes : ℕ → ℕ → ℕ → List ℕ
 two_word_bytes b v w = b ∷ bytes16 v ++ bytes16 w
 
+abbrev pub byte_word_bytes : ℕ → ℕ → ℕ → List ℕ
+byte_word_bytes b n w = byte_bytes b n ++ bytes16 w
+
+-- a call of another module's procedure
+abbrev pub call_bytes : ℕ → ℕ → ℕ → List ℕ
+call_bytes m n a = byte_bytes 0x66 m ++ word_bytes n a
+
 -- the head of a loop
 abbrev pub loop_bytes : ℕ → ℕ → ℕ → List ℕ
 loop_bytes o s t = word_bytes 0x77 o ++ word_bytes s t
@@ -203,8 +249,14 @@ bytes_of (Lgw w) = word_bytes 0x24 w
 bytes_of (Lgb n) = byte_bytes 0x25 n
 bytes_of (Sgw w) = word_bytes 0x26 w
 bytes_of (Sgb n) = byte_bytes 0x27 n
+bytes_of (Lew n w) = byte_word_bytes 0x28 n w
+bytes_of (Sew n w) = byte_word_bytes 0x29 n w
+bytes_of (Lnw n w) = byte_word_bytes 0x2a n w
+bytes_of (Snw n w) = byte_word_bytes 0x2b n w
 bytes_of (Lal w) = word_bytes 0x2c w
 bytes_of (Lag w) = word_bytes 0x2d w
+bytes_of (Lae n w) = byte_word_bytes 0x2e n w
+bytes_of (Lan n w) = byte_word_bytes 0x2f n w
 bytes_of Ldi = 0x30 ∷ []
 bytes_of Sti = 0x31 ∷ []
 bytes_of (Ldf w) = word_bytes 0x32 w
@@ -245,8 +297,18 @@ bytes_of Lsc = 0x5c ∷ []
 bytes_of Lec = 0x5d ∷ []
 bytes_of Lsi = 0x5e ∷ []
 bytes_of Lei = 0x5f ∷ []
+bytes_of Sav = 0x60 ∷ []
+bytes_of (Mrk n) = byte_bytes 0x61 n
+bytes_of Mrf = 0x62 ∷ []
+bytes_of Psh = 0x63 ∷ []
+bytes_of (Psm w) = word_bytes 0x64 w
+bytes_of (Cll n w) = byte_word_bytes 0x65 n w
+bytes_of (Clx m n a) = call_bytes m n a
+bytes_of (Clf w) = word_bytes 0x67 w
 bytes_of (Ent w) = word_bytes 0x68 w
+bytes_of (Cpy v w) = two_word_bytes 0x69 v w
 bytes_of Rtn = 0x6a ∷ []
+bytes_of (Rst n) = byte_bytes 0x6b n
 bytes_of (Jmp w) = word_bytes 0x70 w
 bytes_of (Jpf w) = word_bytes 0x71 w
 bytes_of (Jan w) = word_bytes 0x72 w
@@ -258,6 +320,8 @@ bytes_of (Fri o s t) = loop_bytes o s t
 bytes_of (Frn v w) = two_word_bytes 0x78 v w
 bytes_of (Trp n) = byte_bytes 0x79 n
 bytes_of Alc = 0x7a ∷ []
+bytes_of Npr = 0x7b ∷ []
+bytes_of Trf = 0x7c ∷ []
 bytes_of (Svc n) = byte_bytes 0x7d n
 
 -- An instruction whose bytes alone say it: the operand of LIS has just four bits, and CASE has entries behind its bytes.

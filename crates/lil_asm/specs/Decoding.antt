@@ -2,8 +2,8 @@
 use Rattle.std.proofs.Common.{◌≡◌, ℕ, ◌+◌, ◌*◌, ◌/◌, ◌%◌, ◌<◌, ◌≤◌, nat_le, List, Option, Some, None, Bool, true, false, ◌==◌, if◌then◌else◌, option_and_then, slice_get, length, refl, subst, arith}
 use Rattle.std.proofs.lemmas.Option.{slice_get_within}
 use Rattle.lil_asm.specs.declared.instr.Instr.{Instr}
-use Rattle.lil_asm.specs.declared.instr.Instr.TheVariants.{Liw, Lib, Dup, Drp, Swp, Lis, Llw, Llb, Slw, Slb, Lgw, Lgb, Sgw, Sgb, Lal, Lag, Ldi, Sti, Ldf, Adf, Mov, Mvz, Nlt, Ixc, Ixo, Rgc, Rgi, Cap, Adc, Sbc, Mlc, Dvc, Mdc, Adi, Sbi, Mli, Dvi, Mdi, Ngi, Abi, Uni, Dif, Its, Sym, Sin, Spn, Icl, Ecl, Sle, Not, Equ, Neq, Lsc, Lec, Lsi, Lei, Ent, Rtn, Jmp, Jpf, Jan, Jor, Jms, Jfs, Cas, Fri, Frn, Trp, Alc, Svc}
-use Rattle.lil_asm.specs.Bytes.{word_at, with_byte, with_word, with_two_words, with_entries, with_loop, row, row_0, row_2, row_3, row_4, row_5, row_6, row_7, decoded, bytes_of}
+use Rattle.lil_asm.specs.declared.instr.Instr.TheVariants.{Liw, Lib, Dup, Drp, Swp, Lis, Llw, Llb, Slw, Slb, Lgw, Lgb, Sgw, Sgb, Lew, Sew, Lnw, Snw, Lal, Lag, Lae, Lan, Ldi, Sti, Ldf, Adf, Mov, Mvz, Nlt, Ixc, Ixo, Rgc, Rgi, Cap, Adc, Sbc, Mlc, Dvc, Mdc, Adi, Sbi, Mli, Dvi, Mdi, Ngi, Abi, Uni, Dif, Its, Sym, Sin, Spn, Icl, Ecl, Sle, Not, Equ, Neq, Lsc, Lec, Lsi, Lei, Sav, Mrk, Mrf, Psh, Psm, Cll, Clx, Clf, Ent, Cpy, Rtn, Rst, Jmp, Jpf, Jan, Jor, Jms, Jfs, Cas, Fri, Frn, Trp, Alc, Npr, Trf, Svc}
+use Rattle.lil_asm.specs.Bytes.{word_at, with_byte, with_word, with_two_words, with_byte_word, with_call, with_entries, with_loop, row, row_0, row_2, row_3, row_4, row_5, row_6, row_7, decoded, bytes_of}
 
 -- it begins at a place, lies within the code, and ends behind its bytes
 pub record Stands (code : List ℕ) (p : ℕ) (d : Instr × ℕ) : Type 0 where
@@ -64,6 +64,21 @@ loop_stands code p d h =
     let l : p + 4 + 1 < length code = word_within code (p + 4) z.0 z.1 in
     stands (Fri x.0 y.0 z.0) 6 refl code p d (omega arith) (omega (arith, l)) z.2
 
+byte_word_stands : (make : ℕ → ℕ → Instr) → ((n w : ℕ) → length (bytes_of (make n w)) ≡ 4) → (code : List ℕ) (p : ℕ) (d : Instr × ℕ) → with_byte_word make code p ≡ Some d → Stands code p d
+byte_word_stands make is code p d h =
+    let x = bound (slice_get code (p + 1)) (λ (n : ℕ). option_and_then (λ (w : ℕ). Some (make n w, p + 4)) (word_at code (p + 2))) d h in
+    let y = bound (word_at code (p + 2)) (λ (w : ℕ). Some (make x.0 w, p + 4)) d x.2 in
+    let l : p + 2 + 1 < length code = word_within code (p + 2) y.0 y.1 in
+    stands (make x.0 y.0) 4 (is x.0 y.0) code p d (omega arith) (omega (arith, l)) y.2
+
+call_stands : (code : List ℕ) (p : ℕ) (d : Instr × ℕ) → with_call code p ≡ Some d → Stands code p d
+call_stands code p d h =
+    let x = bound (slice_get code (p + 1)) (λ (m : ℕ). option_and_then (λ (n : ℕ). option_and_then (λ (a : ℕ). Some (Clx m n a, p + 5)) (word_at code (p + 3))) (slice_get code (p + 2))) d h in
+    let y = bound (slice_get code (p + 2)) (λ (n : ℕ). option_and_then (λ (a : ℕ). Some (Clx x.0 n a, p + 5)) (word_at code (p + 3))) d x.2 in
+    let z = bound (word_at code (p + 3)) (λ (a : ℕ). Some (Clx x.0 y.0 a, p + 5)) d y.2 in
+    let l : p + 3 + 1 < length code = word_within code (p + 3) z.0 z.1 in
+    stands (Clx x.0 y.0 z.0) 5 refl code p d (omega arith) (omega (arith, l)) z.2
+
 entries_stand : (code : List ℕ) (p : ℕ) (d : Instr × ℕ) → with_entries code p ≡ Some d → Stands code p d
 entries_stand code p d h =
     let x = bound (word_at code (p + 1)) (λ (n : ℕ). option_and_then (λ (t : ℕ). if nat_le (p + 5 + 6 * n) (length code) then Some (Cas n t, p + 5) else None) (word_at code (p + 3))) d h in
@@ -93,8 +108,14 @@ row_2_stands b code p d l =
     (choice (b == 0x25) _ _ d S (byte_stands Lgb (λ b. refl) code p d)
     (choice (b == 0x26) _ _ d S (word_stands Sgw (λ w. refl) code p d)
     (choice (b == 0x27) _ _ d S (byte_stands Sgb (λ b. refl) code p d)
+    (choice (b == 0x28) _ _ d S (byte_word_stands Lew (λ n w. refl) code p d)
+    (choice (b == 0x29) _ _ d S (byte_word_stands Sew (λ n w. refl) code p d)
+    (choice (b == 0x2a) _ _ d S (byte_word_stands Lnw (λ n w. refl) code p d)
+    (choice (b == 0x2b) _ _ d S (byte_word_stands Snw (λ n w. refl) code p d)
     (choice (b == 0x2c) _ _ d S (word_stands Lal (λ w. refl) code p d)
-    (choice (b == 0x2d) _ _ d S (word_stands Lag (λ w. refl) code p d) (λ h. cc))))))))))
+    (choice (b == 0x2d) _ _ d S (word_stands Lag (λ w. refl) code p d)
+    (choice (b == 0x2e) _ _ d S (byte_word_stands Lae (λ n w. refl) code p d)
+    (choice (b == 0x2f) _ _ d S (byte_word_stands Lan (λ n w. refl) code p d) (λ h. cc))))))))))))))))
 
 row_3_stands : (b : ℕ) (code : List ℕ) (p : ℕ) (d : Instr × ℕ) → p < length code → row_3 b code p ≡ Some d → Stands code p d
 unfolding row_3
@@ -155,8 +176,18 @@ row_6_stands : (b : ℕ) (code : List ℕ) (p : ℕ) (d : Instr × ℕ) → p < 
 unfolding row_6
 row_6_stands b code p d l =
     let S : Type 0 = Stands code p d in
-    choice (b == 0x68) _ _ d S (word_stands Ent (λ w. refl) code p d)
-    (choice (b == 0x6a) _ _ d S (one_stands Rtn refl code p d l) (λ h. cc))
+    choice (b == 0x60) _ _ d S (one_stands Sav refl code p d l)
+    (choice (b == 0x61) _ _ d S (byte_stands Mrk (λ b. refl) code p d)
+    (choice (b == 0x62) _ _ d S (one_stands Mrf refl code p d l)
+    (choice (b == 0x63) _ _ d S (one_stands Psh refl code p d l)
+    (choice (b == 0x64) _ _ d S (word_stands Psm (λ w. refl) code p d)
+    (choice (b == 0x65) _ _ d S (byte_word_stands Cll (λ n w. refl) code p d)
+    (choice (b == 0x66) _ _ d S (call_stands code p d)
+    (choice (b == 0x67) _ _ d S (word_stands Clf (λ w. refl) code p d)
+    (choice (b == 0x68) _ _ d S (word_stands Ent (λ w. refl) code p d)
+    (choice (b == 0x69) _ _ d S (two_stand Cpy (λ v w. refl) code p d)
+    (choice (b == 0x6a) _ _ d S (one_stands Rtn refl code p d l)
+    (choice (b == 0x6b) _ _ d S (byte_stands Rst (λ b. refl) code p d) (λ h. cc))))))))))))
 
 row_7_stands : (b : ℕ) (code : List ℕ) (p : ℕ) (d : Instr × ℕ) → p < length code → row_7 b code p ≡ Some d → Stands code p d
 unfolding row_7
@@ -173,7 +204,9 @@ row_7_stands b code p d l =
     (choice (b == 0x78) _ _ d S (two_stand Frn (λ v w. refl) code p d)
     (choice (b == 0x79) _ _ d S (byte_stands Trp (λ b. refl) code p d)
     (choice (b == 0x7a) _ _ d S (one_stands Alc refl code p d l)
-    (choice (b == 0x7d) _ _ d S (byte_stands Svc (λ b. refl) code p d) (λ h. cc))))))))))))
+    (choice (b == 0x7b) _ _ d S (one_stands Npr refl code p d l)
+    (choice (b == 0x7c) _ _ d S (one_stands Trf refl code p d l)
+    (choice (b == 0x7d) _ _ d S (byte_stands Svc (λ b. refl) code p d) (λ h. cc))))))))))))))
 
 row_stands : (b : ℕ) (code : List ℕ) (p : ℕ) (d : Instr × ℕ) → p < length code → row b code p ≡ Some d → Stands code p d
 row_stands b code p d l =

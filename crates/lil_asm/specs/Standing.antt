@@ -4,9 +4,9 @@ use Rattle.std.specs.Prelude.{slice_get, option_and_then}
 use Rattle.std.proofs.Math.Seq.{get_or-append_seam}
 use Rattle.std.proofs.lemmas.Bool.{le-leb}
 use Rattle.std.proofs.lemmas.Option.{slice_get-get_or, slice_get_within}
-use Rattle.lil_asm.specs.Bytes.{word_at, with_byte, with_word, with_two_words, with_entries, with_loop, row, row_of_digit, row_0, row_2, row_3, row_4, row_5, row_6, row_7, decoded, bytes_of, entry_bytes, Sayable}
+use Rattle.lil_asm.specs.Bytes.{word_at, with_byte, with_word, with_two_words, with_byte_word, with_call, with_entries, with_loop, row, row_of_digit, row_0, row_2, row_3, row_4, row_5, row_6, row_7, decoded, bytes_of, entry_bytes, Sayable}
 use Rattle.lil_asm.specs.declared.instr.Instr.{Instr}
-use Rattle.lil_asm.specs.declared.instr.Instr.TheVariants.{Liw, Lib, Dup, Drp, Swp, Lis, Llw, Llb, Slw, Slb, Lgw, Lgb, Sgw, Sgb, Lal, Lag, Ldi, Sti, Ldf, Adf, Mov, Mvz, Nlt, Ixc, Ixo, Rgc, Rgi, Cap, Adc, Sbc, Mlc, Dvc, Mdc, Adi, Sbi, Mli, Dvi, Mdi, Ngi, Abi, Uni, Dif, Its, Sym, Sin, Spn, Icl, Ecl, Sle, Not, Equ, Neq, Lsc, Lec, Lsi, Lei, Ent, Rtn, Jmp, Jpf, Jan, Jor, Jms, Jfs, Cas, Fri, Frn, Trp, Alc, Svc}
+use Rattle.lil_asm.specs.declared.instr.Instr.TheVariants.{Liw, Lib, Dup, Drp, Swp, Lis, Llw, Llb, Slw, Slb, Lgw, Lgb, Sgw, Sgb, Lew, Sew, Lnw, Snw, Lal, Lag, Lae, Lan, Ldi, Sti, Ldf, Adf, Mov, Mvz, Nlt, Ixc, Ixo, Rgc, Rgi, Cap, Adc, Sbc, Mlc, Dvc, Mdc, Adi, Sbi, Mli, Dvi, Mdi, Ngi, Abi, Uni, Dif, Its, Sym, Sin, Spn, Icl, Ecl, Sle, Not, Equ, Neq, Lsc, Lec, Lsi, Lei, Sav, Mrk, Mrf, Psh, Psm, Cll, Clx, Clf, Ent, Cpy, Rtn, Rst, Jmp, Jpf, Jan, Jor, Jms, Jfs, Cas, Fri, Frn, Trp, Alc, Npr, Trf, Svc}
 use Rattle.lil_asm.specs.Bytes.{Entry}
 
 -- these bytes stand in the code from place p on
@@ -75,6 +75,24 @@ two_words_row make code p b v w h =
     ap (λ (o : Option ℕ). option_and_then (λ (m : ℕ). option_and_then (λ (n : ℕ). let r : Option (Instr × ℕ) = Some (make m n, p + 5) in r) (word_at code (p + 3))) o) first
     ∙ ap (λ (o : Option ℕ). option_and_then (λ (n : ℕ). let r : Option (Instr × ℕ) = Some (make v n, p + 5) in r) o) second
 
+byte_word_row : (make : ℕ → ℕ → Instr) (code : List ℕ) (p b n w : ℕ) → HasBytes code p (b ∷ n ∷ w / 256 ∷ w % 256 ∷ []) → with_byte_word make code p ≡ Some (make n w, p + 4)
+byte_word_row make code p b n w h =
+    let high = moved code (p + 1 + 1) (p + 2) (w / 256) (omega arith) h.1.1.0 in
+    let low = moved code (p + 1 + 1 + 1) (p + 2 + 1) (w % 256) (omega arith) h.1.1.1.0 in
+    let word = word_stands code (p + 2) w high low in
+    ap (λ (o : Option ℕ). option_and_then (λ (m : ℕ). option_and_then (λ (k : ℕ). let r : Option (Instr × ℕ) = Some (make m k, p + 4) in r) (word_at code (p + 2))) o) h.1.0
+    ∙ ap (λ (o : Option ℕ). option_and_then (λ (k : ℕ). let r : Option (Instr × ℕ) = Some (make n k, p + 4) in r) o) word
+
+call_row : (code : List ℕ) (p b m n a : ℕ) → HasBytes code p (b ∷ m ∷ n ∷ a / 256 ∷ a % 256 ∷ []) → with_call code p ≡ Some (Clx m n a, p + 5)
+call_row code p b m n a h =
+    let second = moved code (p + 1 + 1) (p + 2) n (omega arith) h.1.1.0 in
+    let high = moved code (p + 1 + 1 + 1) (p + 3) (a / 256) (omega arith) h.1.1.1.0 in
+    let low = moved code (p + 1 + 1 + 1 + 1) (p + 3 + 1) (a % 256) (omega arith) h.1.1.1.1.0 in
+    let word = word_stands code (p + 3) a high low in
+    ap (λ (o : Option ℕ). option_and_then (λ (x : ℕ). option_and_then (λ (y : ℕ). option_and_then (λ (z : ℕ). let r : Option (Instr × ℕ) = Some (Clx x y z, p + 5) in r) (word_at code (p + 3))) (slice_get code (p + 2))) o) h.1.0
+    ∙ (ap (λ (o : Option ℕ). option_and_then (λ (y : ℕ). option_and_then (λ (z : ℕ). let r : Option (Instr × ℕ) = Some (Clx m y z, p + 5) in r) (word_at code (p + 3))) o) second
+    ∙ ap (λ (o : Option ℕ). option_and_then (λ (z : ℕ). let r : Option (Instr × ℕ) = Some (Clx m n z, p + 5) in r) o) word)
+
 entries_row : (code : List ℕ) (p n t : ℕ) → HasBytes code p (bytes_of (Cas n t)) → p + 5 + 6 * n ≤ length code → with_entries code p ≡ Some (Cas n t, p + 5)
 entries_row code p n t h room =
     let high = moved code (p + 1 + 1 + 1) (p + 3) (t / 256) (omega arith) h.1.1.1.0 in
@@ -121,8 +139,14 @@ decodes (Lgw w) code p s h = by_row code p 0x24 _ h.0 (word_row Lgw code p 0x24 
 decodes (Lgb w) code p s h = by_row code p 0x25 _ h.0 (byte_row Lgb code p 0x25 w h)
 decodes (Sgw w) code p s h = by_row code p 0x26 _ h.0 (word_row Sgw code p 0x26 w h)
 decodes (Sgb w) code p s h = by_row code p 0x27 _ h.0 (byte_row Sgb code p 0x27 w h)
+decodes (Lew n w) code p s h = by_row code p 0x28 _ h.0 (byte_word_row Lew code p 0x28 n w h)
+decodes (Sew n w) code p s h = by_row code p 0x29 _ h.0 (byte_word_row Sew code p 0x29 n w h)
+decodes (Lnw n w) code p s h = by_row code p 0x2a _ h.0 (byte_word_row Lnw code p 0x2a n w h)
+decodes (Snw n w) code p s h = by_row code p 0x2b _ h.0 (byte_word_row Snw code p 0x2b n w h)
 decodes (Lal w) code p s h = by_row code p 0x2c _ h.0 (word_row Lal code p 0x2c w h)
 decodes (Lag w) code p s h = by_row code p 0x2d _ h.0 (word_row Lag code p 0x2d w h)
+decodes (Lae n w) code p s h = by_row code p 0x2e _ h.0 (byte_word_row Lae code p 0x2e n w h)
+decodes (Lan n w) code p s h = by_row code p 0x2f _ h.0 (byte_word_row Lan code p 0x2f n w h)
 decodes Ldi code p s h = by_row code p 0x30 _ h.0 refl
 decodes Sti code p s h = by_row code p 0x31 _ h.0 refl
 decodes (Ldf w) code p s h = by_row code p 0x32 _ h.0 (word_row Ldf code p 0x32 w h)
@@ -163,8 +187,18 @@ decodes Lsc code p s h = by_row code p 0x5c _ h.0 refl
 decodes Lec code p s h = by_row code p 0x5d _ h.0 refl
 decodes Lsi code p s h = by_row code p 0x5e _ h.0 refl
 decodes Lei code p s h = by_row code p 0x5f _ h.0 refl
+decodes Sav code p s h = by_row code p 0x60 _ h.0 refl
+decodes (Mrk w) code p s h = by_row code p 0x61 _ h.0 (byte_row Mrk code p 0x61 w h)
+decodes Mrf code p s h = by_row code p 0x62 _ h.0 refl
+decodes Psh code p s h = by_row code p 0x63 _ h.0 refl
+decodes (Psm w) code p s h = by_row code p 0x64 _ h.0 (word_row Psm code p 0x64 w h)
+decodes (Cll n w) code p s h = by_row code p 0x65 _ h.0 (byte_word_row Cll code p 0x65 n w h)
+decodes (Clx m n a) code p s h = by_row code p 0x66 _ h.0 (call_row code p 0x66 m n a h)
+decodes (Clf w) code p s h = by_row code p 0x67 _ h.0 (word_row Clf code p 0x67 w h)
 decodes (Ent w) code p s h = by_row code p 0x68 _ h.0 (word_row Ent code p 0x68 w h)
+decodes (Cpy v w) code p s h = by_row code p 0x69 _ h.0 (two_words_row Cpy code p 0x69 v w h)
 decodes Rtn code p s h = by_row code p 0x6a _ h.0 refl
+decodes (Rst w) code p s h = by_row code p 0x6b _ h.0 (byte_row Rst code p 0x6b w h)
 decodes (Jmp w) code p s h = by_row code p 0x70 _ h.0 (word_row Jmp code p 0x70 w h)
 decodes (Jpf w) code p s h = by_row code p 0x71 _ h.0 (word_row Jpf code p 0x71 w h)
 decodes (Jan w) code p s h = by_row code p 0x72 _ h.0 (word_row Jan code p 0x72 w h)
@@ -176,6 +210,8 @@ decodes (Fri o k t) code p s h = by_row code p 0x77 _ h.0 (loop_head_row code p 
 decodes (Frn v w) code p s h = by_row code p 0x78 _ h.0 (two_words_row Frn code p 0x78 v w h)
 decodes (Trp w) code p s h = by_row code p 0x79 _ h.0 (byte_row Trp code p 0x79 w h)
 decodes Alc code p s h = by_row code p 0x7a _ h.0 refl
+decodes Npr code p s h = by_row code p 0x7b _ h.0 refl
+decodes Trf code p s h = by_row code p 0x7c _ h.0 refl
 decodes (Svc w) code p s h = by_row code p 0x7d _ h.0 (byte_row Svc code p 0x7d w h)
 
 -- the bytes of CASE decode to it where its entries lie within the code

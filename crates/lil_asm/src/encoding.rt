@@ -1,7 +1,7 @@
 //! The bytes of instructions.
 
 ghost use Rattle.std.specs.Prelude.{◌≡◌, ◌++◌, ◌≤◌, length, OnOk};
-ghost use Rattle.lil_asm.specs.Bytes.{bytes_of, byte_bytes, word_bytes, two_word_bytes, loop_bytes, entry_bytes};
+ghost use Rattle.lil_asm.specs.Bytes.{bytes_of, byte_bytes, word_bytes, two_word_bytes, byte_word_bytes, call_bytes, loop_bytes, entry_bytes};
 
 use crate::Instr;
 use lil_base::{Bytes, Memory, put16};
@@ -26,8 +26,14 @@ pub fn encode(code: &mut Bytes, instr: Instr) -> Result<(), Memory>
         Instr::Lgb(byte) => put_byte(code, 0x25, byte),
         Instr::Sgw(word) => put_word(code, 0x26, word),
         Instr::Sgb(byte) => put_byte(code, 0x27, byte),
+        Instr::Lew(byte, word) => put_byte_and_word(code, 0x28, byte, word),
+        Instr::Sew(byte, word) => put_byte_and_word(code, 0x29, byte, word),
+        Instr::Lnw(byte, word) => put_byte_and_word(code, 0x2a, byte, word),
+        Instr::Snw(byte, word) => put_byte_and_word(code, 0x2b, byte, word),
         Instr::Lal(word) => put_word(code, 0x2c, word),
         Instr::Lag(word) => put_word(code, 0x2d, word),
+        Instr::Lae(byte, word) => put_byte_and_word(code, 0x2e, byte, word),
+        Instr::Lan(byte, word) => put_byte_and_word(code, 0x2f, byte, word),
         Instr::Ldi => code.push(0x30),
         Instr::Sti => code.push(0x31),
         Instr::Ldf(word) => put_word(code, 0x32, word),
@@ -68,8 +74,18 @@ pub fn encode(code: &mut Bytes, instr: Instr) -> Result<(), Memory>
         Instr::Lec => code.push(0x5d),
         Instr::Lsi => code.push(0x5e),
         Instr::Lei => code.push(0x5f),
+        Instr::Sav => code.push(0x60),
+        Instr::Mrk(byte) => put_byte(code, 0x61, byte),
+        Instr::Mrf => code.push(0x62),
+        Instr::Psh => code.push(0x63),
+        Instr::Psm(word) => put_word(code, 0x64, word),
+        Instr::Cll(byte, word) => put_byte_and_word(code, 0x65, byte, word),
+        Instr::Clx(number, procedure, words) => put_call(code, number, procedure, words),
+        Instr::Clf(word) => put_word(code, 0x67, word),
         Instr::Ent(word) => put_word(code, 0x68, word),
+        Instr::Cpy(first, second) => put_two_words(code, 0x69, first, second),
         Instr::Rtn => code.push(0x6a),
+        Instr::Rst(byte) => put_byte(code, 0x6b, byte),
         Instr::Jmp(word) => put_word(code, 0x70, word),
         Instr::Jpf(word) => put_word(code, 0x71, word),
         Instr::Jan(word) => put_word(code, 0x72, word),
@@ -81,6 +97,8 @@ pub fn encode(code: &mut Bytes, instr: Instr) -> Result<(), Memory>
         Instr::Frn(first, second) => put_two_words(code, 0x78, first, second),
         Instr::Trp(byte) => put_byte(code, 0x79, byte),
         Instr::Alc => code.push(0x7a),
+        Instr::Npr => code.push(0x7b),
+        Instr::Trf => code.push(0x7c),
         Instr::Svc(byte) => put_byte(code, 0x7d, byte),
     }
 }
@@ -107,6 +125,22 @@ fn put_two_words(code: &mut Bytes, first: u8, one: u16, other: u16) -> Result<()
 {
     put_word(code, first, one)?;
     put16(code, other)
+}
+
+fn put_byte_and_word(code: &mut Bytes, first: u8, byte: u8, word: u16) -> Result<(), Memory>
+    ensures bytes { OnOk result (code.new ≡ code.old ++ byte_word_bytes first byte word) }
+    ensures grows { length code.old ≤ length code.new }
+{
+    put_byte(code, first, byte)?;
+    put16(code, word)
+}
+
+fn put_call(code: &mut Bytes, number: u8, procedure: u8, words: u16) -> Result<(), Memory>
+    ensures bytes { OnOk result (code.new ≡ code.old ++ call_bytes number procedure words) }
+    ensures grows { length code.old ≤ length code.new }
+{
+    put_byte(code, 0x66, number)?;
+    put_word(code, procedure, words)
 }
 
 fn put_loop(code: &mut Bytes, offset: u16, kind: u8, to: u16) -> Result<(), Memory>

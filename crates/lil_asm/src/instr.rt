@@ -1,5 +1,5 @@
 ghost use Rattle.std.specs.Prelude.{◌≡◌, ◌+◌, ◌<◌, ◌^◌, length, OnSome};
-ghost use Rattle.lil_asm.specs.Bytes.{word_at, two_words_at, with_byte, with_word, with_two_words, with_entries, with_loop, row, row_0, row_2, row_3, row_4, row_5, row_6, row_7, decoded};
+ghost use Rattle.lil_asm.specs.Bytes.{word_at, two_words_at, byte_word_at, with_byte, with_word, with_two_words, with_byte_word, with_call, with_entries, with_loop, row, row_0, row_2, row_3, row_4, row_5, row_6, row_7, decoded};
 
 /// One instruction, with its operands in the order of their bytes. Lis has its word, from 0 to 15, in its first byte.
 /// Cas has the number of its entries and the place for all other words; the entries follow it in the code.
@@ -19,8 +19,14 @@ pub enum Instr {
     Lgb(u8),
     Sgw(u16),
     Sgb(u8),
+    Lew(u8, u16),
+    Sew(u8, u16),
+    Lnw(u8, u16),
+    Snw(u8, u16),
     Lal(u16),
     Lag(u16),
+    Lae(u8, u16),
+    Lan(u8, u16),
     Ldi,
     Sti,
     Ldf(u16),
@@ -61,8 +67,18 @@ pub enum Instr {
     Lec,
     Lsi,
     Lei,
+    Sav,
+    Mrk(u8),
+    Mrf,
+    Psh,
+    Psm(u16),
+    Cll(u8, u16),
+    Clx(u8, u8, u16),
+    Clf(u16),
     Ent(u16),
+    Cpy(u16, u16),
     Rtn,
+    Rst(u8),
     Jmp(u16),
     Jpf(u16),
     Jan(u16),
@@ -74,6 +90,8 @@ pub enum Instr {
     Frn(u16, u16),
     Trp(u8),
     Alc,
+    Npr,
+    Trf,
     Svc(u8),
 }
 
@@ -98,6 +116,16 @@ fn two_words(code: &[u8], place: usize) -> Option<(u16, u16)>
     let first = word_of_bytes(code, place)?;
     let second = word_of_bytes(code, place + 2)?;
     Some((first, second))
+}
+
+/// A byte, and a word behind it.
+fn byte_and_word(code: &[u8], place: usize) -> Option<(u8, u16)>
+    requires { place < 2 ^ 32 + 2 }
+    ensures { result ≡ byte_word_at code.now place }
+{
+    let byte = *code.get(place)?;
+    let word = word_of_bytes(code, place + 1)?;
+    Some((byte, word))
 }
 
 #[tactic(auto, unfolding(crate::specs::Bytes::row_0))]
@@ -129,8 +157,32 @@ fn decode_places(first: u8, code: &[u8], place: usize) -> Option<(Instr, usize)>
         0x25 => Some((Instr::Lgb(*code.get(place + 1)?), place + 2)),
         0x26 => Some((Instr::Sgw(word_of_bytes(code, place + 1)?), place + 3)),
         0x27 => Some((Instr::Sgb(*code.get(place + 1)?), place + 2)),
+        0x28 => {
+            let (byte, word) = byte_and_word(code, place + 1)?;
+            Some((Instr::Lew(byte, word), place + 4))
+        }
+        0x29 => {
+            let (byte, word) = byte_and_word(code, place + 1)?;
+            Some((Instr::Sew(byte, word), place + 4))
+        }
+        0x2a => {
+            let (byte, word) = byte_and_word(code, place + 1)?;
+            Some((Instr::Lnw(byte, word), place + 4))
+        }
+        0x2b => {
+            let (byte, word) = byte_and_word(code, place + 1)?;
+            Some((Instr::Snw(byte, word), place + 4))
+        }
         0x2c => Some((Instr::Lal(word_of_bytes(code, place + 1)?), place + 3)),
         0x2d => Some((Instr::Lag(word_of_bytes(code, place + 1)?), place + 3)),
+        0x2e => {
+            let (byte, word) = byte_and_word(code, place + 1)?;
+            Some((Instr::Lae(byte, word), place + 4))
+        }
+        0x2f => {
+            let (byte, word) = byte_and_word(code, place + 1)?;
+            Some((Instr::Lan(byte, word), place + 4))
+        }
         _ => None,
     }
 }
@@ -217,14 +269,40 @@ fn decode_comparisons(first: u8, place: usize) -> Option<(Instr, usize)>
     }
 }
 
+fn decode_external_call(code: &[u8], place: usize) -> Option<(Instr, usize)>
+    requires { place < 2 ^ 32 }
+    ensures { result ≡ with_call code.now place }
+{
+    let number = *code.get(place + 1)?;
+    let procedure = *code.get(place + 2)?;
+    let words = word_of_bytes(code, place + 3)?;
+    Some((Instr::Clx(number, procedure, words), place + 5))
+}
+
 #[tactic(auto, unfolding(crate::specs::Bytes::row_6))]
 fn decode_frames(first: u8, code: &[u8], place: usize) -> Option<(Instr, usize)>
     requires { place < 2 ^ 32 }
     ensures { result ≡ row_6 first code.now place }
 {
     match first {
+        0x60 => Some((Instr::Sav, place + 1)),
+        0x61 => Some((Instr::Mrk(*code.get(place + 1)?), place + 2)),
+        0x62 => Some((Instr::Mrf, place + 1)),
+        0x63 => Some((Instr::Psh, place + 1)),
+        0x64 => Some((Instr::Psm(word_of_bytes(code, place + 1)?), place + 3)),
+        0x65 => {
+            let (byte, word) = byte_and_word(code, place + 1)?;
+            Some((Instr::Cll(byte, word), place + 4))
+        }
+        0x66 => decode_external_call(code, place),
+        0x67 => Some((Instr::Clf(word_of_bytes(code, place + 1)?), place + 3)),
         0x68 => Some((Instr::Ent(word_of_bytes(code, place + 1)?), place + 3)),
+        0x69 => {
+            let (first, second) = two_words(code, place + 1)?;
+            Some((Instr::Cpy(first, second), place + 5))
+        }
         0x6a => Some((Instr::Rtn, place + 1)),
+        0x6b => Some((Instr::Rst(*code.get(place + 1)?), place + 2)),
         _ => None,
     }
 }
@@ -271,6 +349,8 @@ fn decode_jumps(first: u8, code: &[u8], place: usize) -> Option<(Instr, usize)>
         }
         0x79 => Some((Instr::Trp(*code.get(place + 1)?), place + 2)),
         0x7a => Some((Instr::Alc, place + 1)),
+        0x7b => Some((Instr::Npr, place + 1)),
+        0x7c => Some((Instr::Trf, place + 1)),
         0x7d => Some((Instr::Svc(*code.get(place + 1)?), place + 2)),
         _ => None,
     }

@@ -7,7 +7,7 @@ use Rattle.lil_base.specs.declared.fault.ArithFault.{ArithFault}
 use Rattle.lil_base.specs.declared.fault.TrapKind.{TrapKind}
 use Rattle.lil_base.specs.declared.fault.LimitKind.{LimitKind}
 use Rattle.lil_asm.specs.declared.instr.Instr.{Instr}
-use Rattle.lil_asm.specs.declared.instr.Instr.TheVariants.{Liw, Lib, Dup, Drp, Swp, Lis, Llw, Llb, Slw, Slb, Lgw, Lgb, Sgw, Sgb, Lal, Lag, Ldi, Sti, Ldf, Adf, Mov, Mvz, Nlt, Ixc, Ixo, Rgc, Rgi, Cap, Adc, Sbc, Mlc, Dvc, Mdc, Adi, Sbi, Mli, Dvi, Mdi, Ngi, Abi, Uni, Dif, Its, Sym, Sin, Spn, Icl, Ecl, Sle, Not, Equ, Neq, Lsc, Lec, Lsi, Lei, Ent, Rtn, Jmp, Jpf, Jan, Jor, Jms, Jfs, Cas, Fri, Frn, Trp, Alc, Svc}
+use Rattle.lil_asm.specs.declared.instr.Instr.TheVariants.{Liw, Lib, Dup, Drp, Swp, Lis, Llw, Llb, Slw, Slb, Lgw, Lgb, Sgw, Sgb, Lew, Sew, Lnw, Snw, Lal, Lag, Lae, Lan, Ldi, Sti, Ldf, Adf, Mov, Mvz, Nlt, Ixc, Ixo, Rgc, Rgi, Cap, Adc, Sbc, Mlc, Dvc, Mdc, Adi, Sbi, Mli, Dvi, Mdi, Ngi, Abi, Uni, Dif, Its, Sym, Sin, Spn, Icl, Ecl, Sle, Not, Equ, Neq, Lsc, Lec, Lsi, Lei, Sav, Mrk, Mrf, Psh, Psm, Cll, Clx, Clf, Ent, Cpy, Rtn, Rst, Jmp, Jpf, Jan, Jor, Jms, Jfs, Cas, Fri, Frn, Trp, Alc, Npr, Trf, Svc}
 use Rattle.lil_asm.specs.Bytes.{decoded}
 use Rattle.lil_asm.specs.Requests.{request_words}
 use Rattle.lil_mcode.specs.declared.machine.Event.{Event}
@@ -134,6 +134,12 @@ module _ (s : State) (P : Event × State → Type 0) (p : Holds s P) where
   act_has (Slb b) q m = store_has (s.frame + b) q
   act_has (Sgw w) q m = store_has (m.base + w) q
   act_has (Sgb b) q m = store_has (m.base + b) q
+  act_has (Lew n w) q m = p.bad
+  act_has (Sew n w) q m = p.bad
+  act_has (Lnw n w) q m = p.bad
+  act_has (Snw n w) q m = p.bad
+  act_has (Lae n w) q m = p.bad
+  act_has (Lan n w) q m = p.bad
   act_has (Lal w) q m = address_has (s.frame + w) q
   act_has (Lag w) q m = address_has (m.base + w) q
   act_has Ldi q m = fetch_has 0 q
@@ -178,6 +184,16 @@ module _ (s : State) (P : Event × State → Type 0) (p : Holds s P) where
   act_has Lei q m = two_has s.stack _ (λ x y rest. p.on _)
   act_has (Ent w) q m = either (nat_lt (s.frame + w) s.top) _ _ p.bad (either (nat_lt s.limit (s.frame + w)) _ _ (p.limit _) (p.on _))
   act_has Rtn q m = leave_has
+  act_has Sav q m = p.bad
+  act_has (Mrk n) q m = p.bad
+  act_has Mrf q m = p.bad
+  act_has Psh q m = p.bad
+  act_has (Psm w) q m = p.bad
+  act_has (Cll n w) q m = p.bad
+  act_has (Clx v n w) q m = p.bad
+  act_has (Clf w) q m = p.bad
+  act_has (Cpy v w) q m = p.bad
+  act_has (Rst n) q m = p.bad
   act_has (Jmp w) q m = jump_has m w s
   act_has (Jpf w) q m = one_has s.stack _ (λ x rest. either (x == 0) _ _ (jump_has m w (record s { stack = rest })) (p.on _))
   act_has (Jan w) q m = one_has s.stack _ (λ x rest. either (x == 0) _ _ (jump_has m w s) (p.on _))
@@ -189,6 +205,8 @@ module _ (s : State) (P : Event × State → Type 0) (p : Holds s P) where
   act_has (Frn v w) q m = either (nat_lt (s.frame + v + 1) 65536) _ _ (turn_has m (s.frame + v) w q _ _ _) p.bad
   act_has (Trp w) q m = trap_has (called_trap w)
   act_has Alc q m = two_has s.stack _ (λ a n rest. either (nat_lt a 65536) _ _ (either (nat_lt (s.limit - s.top) (n + 2)) _ _ (p.limit _) (p.on _)) p.bad)
+  act_has Npr q m = p.bad
+  act_has Trf q m = p.bad
   act_has (Svc w) q m = request_has w q (request_words w) refl
 
   performed_has : (m : Module) (o : Option (Instr × ℕ)) → P (performed s m o)

@@ -360,6 +360,8 @@ act (Frn o t) q m s = again_row m (s.frame + o) t q s
 act (Trp k) q m s = trap_row s (called_trap k)
 act Alc q m s = on_two s s.stack (take_row q s)
 act (Svc r) q m s = request_row r q s (request_words r)
+-- the rows of calls, of other frames and modules, and of coroutines aren't built yet
+act _ q m s = bad s
 
 abbrev pub performed : State → Module → Option (Instr × ℕ) → Event × State
 performed s m None = bad s

@@ -1,27 +1,45 @@
-use Rattle.std.proofs.Common.{◌≡◌, ℕ, ◌+◌, Option, Some, ap, ◌∙◌, arith, rules}
-use Rattle.lil_asm.specs.declared.instr.Instr.{Instr}
+use Rattle.std.proofs.Common.{◌≡◌, ℕ, ◌+◌, Some, ap, ◌∙◌, arith, rules}
 use Rattle.lil_asm.specs.declared.instr.Instr.TheVariants.{Fri, Frn}
 use Rattle.lil_asm.specs.Bytes.{row, row_7}
 use Rattle.lil_mcode.specs.Fetch.{running_code, current}
 use Rattle.lil_mcode.specs.Table.{performed}
-use Rattle.lil_mcode.proofs.NoRows.{no_frame, no_late_frame, no_jump, no_later}
+use Rattle.lil_mcode.proofs.NoRows.{far_bad, call_row_bad, coroutine_bad, later_bad}
 use Rattle.lil_mcode.proofs.processor.Processor.obey.Goals as goal
+
+pub returns-in-40-to-43 : goal.returns-in-40-to-43
+returns-in-40-to-43 c =
+    let s = c.args.self.now in
+    far_bad s (current s) c.args.first (running_code s) c.args.place (omega arith) (omega arith) (omega arith) (omega arith)
+
+pub returns-in-46-to-47 : goal.returns-in-46-to-47
+returns-in-46-to-47 c =
+    let s = c.args.self.now in
+    far_bad s (current s) c.args.first (running_code s) c.args.place (omega arith) (omega arith) (omega arith) (omega arith)
 
 pub returns-in-96-to-103 : goal.returns-in-96-to-103
 returns-in-96-to-103 c =
-    ap (λ (o : Option (Instr × ℕ)). performed c.args.self.now (current c.args.self.now) o) (no_frame c.args.first (running_code c.args.self.now) c.args.place (omega arith) (omega arith))
+    let s = c.args.self.now in
+    call_row_bad s (current s) c.args.first (running_code s) c.args.place (omega arith) (omega arith) (omega arith) (omega arith)
+
+pub returns-in-105 : goal.returns-in-105
+returns-in-105 c =
+    let s = c.args.self.now in
+    call_row_bad s (current s) c.args.first (running_code s) c.args.place (omega arith) (omega arith) (omega arith) (omega arith)
 
 pub returns-in-107-to-111 : goal.returns-in-107-to-111
 returns-in-107-to-111 c =
-    ap (λ (o : Option (Instr × ℕ)). performed c.args.self.now (current c.args.self.now) o) (no_late_frame c.args.first (running_code c.args.self.now) c.args.place (omega arith) (omega arith))
+    let s = c.args.self.now in
+    call_row_bad s (current s) c.args.first (running_code s) c.args.place (omega arith) (omega arith) (omega arith) (omega arith)
 
 pub returns-in-123-to-124 : goal.returns-in-123-to-124
 returns-in-123-to-124 c =
-    ap (λ (o : Option (Instr × ℕ)). performed c.args.self.now (current c.args.self.now) o) (no_jump c.args.first (running_code c.args.self.now) c.args.place (omega arith) (omega arith))
+    let s = c.args.self.now in
+    coroutine_bad s (current s) c.args.first (running_code s) c.args.place (omega arith) (omega arith)
 
 pub returns-in-126-to-255 : goal.returns-in-126-to-255
 returns-in-126-to-255 c =
-    ap (λ (o : Option (Instr × ℕ)). performed c.args.self.now (current c.args.self.now) o) (no_later c.args.first (running_code c.args.self.now) c.args.place (omega arith))
+    let s = c.args.self.now in
+    later_bad s (current s) c.args.first (running_code s) c.args.place (omega arith)
 
 pub returns-in-Some-loop_operands : goal.returns-in-Some-loop_operands
 unfolding row_7
