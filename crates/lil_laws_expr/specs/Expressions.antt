@@ -27,7 +27,7 @@ use Rattle.lil_match.specs.Homes.{word_for, Refers, plain_word, plain_refers, re
 use Rattle.lil_match.specs.Stutter.{stutter}
 use Rattle.lil_match.specs.Goes.{Shared, Goes, Lands}
 use Rattle.lil_match.specs.Waits.{Setting, frame_of, laid_out, Mode, Quiet, ValueOf, AtPlace, Around, Reach, AfterJumps, Rows, HasPlace, Waiting}
-use Rattle.lil_match.specs.Steps.{advances, pushes, at_step, at_once, lands_on, goes_none, goes_one, goes_after, goes_more, operand_goes}
+use Rattle.lil_match.specs.Steps.{advances, pushes, at_step, at_once, lands_on, goes_none, goes_one, goes_after, goes_more, operand_goes, located_goes}
 use Rattle.lil_match.specs.Orders.{instr_within, instrs_order, instrs_within, expression_stands, expression_within}
 use Rattle.lil_match.specs.Closing.{closed, both_trap}
 use Rattle.lil_laws_place.specs.Codes.{loads}
@@ -119,17 +119,11 @@ module _ (ctx : Setting) where
     pub taken_goes : (d : Designator) (kind : Kind) → Waiting ctx (Evaluate (Taken d kind)) Rest Quiet m.place m.stack c a → Goes ctx s (Evaluate (Taken d kind) ∷ k) m (c + 32)
     taken_goes d kind row =
         let r = row.part.here in
-        goes_none ctx s (Evaluate (Taken d kind) ∷ k) m (c + 32) c
-        (lands_on ctx s m shared (PlaceOf d ∷ Fill Get ∷ k) m.place m.stack c a
-        (once (record {
-          part = record { end = r.found; here = r.here; shallow = row.part.shallow };
-          then = once (record {
-            part = record { kind = kind; typed = r.scalar.shape; end = row.part.end; load = r.load; shallow = omega (arith, row.part.shallow, place_some d) };
-            then = row.then;
-          });
-        })))
-        (omega arith)
-        (omega arith)
+        located_goes ctx s k m c a shared (Evaluate (Taken d kind) ∷ k) d Get refl (omega arith) r.found r.here row.part.shallow
+        (record {
+          part = record { kind = kind; typed = r.scalar.shape; end = row.part.end; load = r.load; shallow = omega (arith, row.part.shallow, place_some d) };
+          then = row.then;
+        })
 
     pub one_goes : (o : OneOp) (j : Kind) (e : Expression) → Waiting ctx (Evaluate (One o j e)) Rest Quiet m.place m.stack c a → Goes ctx s (Evaluate (One o j e) ∷ k) m (c + 32)
     one_goes o j e row =

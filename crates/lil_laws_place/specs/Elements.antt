@@ -31,7 +31,7 @@ use Rattle.lil_match.specs.Ranges.{has, fits_has, has_type, has_base, takes_part
 use Rattle.lil_match.specs.Arithmetic.{word_is, above_more}
 use Rattle.lil_match.specs.Kept.{own_low, own_read}
 use Rattle.lil_match.specs.Closing.{closed, held_here, variable_here}
-use Rattle.lil_match.specs.Steps.{advances, at_step, at_once, pushes, lands_on, goes_none, goes_one, goes_after, operand_exact}
+use Rattle.lil_match.specs.Steps.{advances, at_step, at_once, pushes, lands_on, goes_none, goes_one, goes_after, operand_exact, located_goes}
 use Rattle.lil_laws_place.specs.Codes.{inside, part_has, addressed, loads}
 use Rattle.lil_laws_place.specs.Stores.{trap_goes, tested}
 
@@ -125,45 +125,30 @@ module _ (ctx : Setting) where
 
     pub field_goes : (d : Designator) (i : ℕ) → Waiting ctx (PlaceOf (Field d i)) Rest Quiet m.place m.stack c a → Goes ctx s (PlaceOf (Field d i) ∷ k) m (c + 32)
     field_goes d i row =
-        goes_none ctx s (PlaceOf (Field d i) ∷ k) m (c + 32) c
-        (lands_on ctx s m shared (PlaceOf d ∷ Fill (Part i) ∷ k) m.place m.stack c a
-        (at_once ctx _ Quiet m.place m.stack c a
-        (record {
-          part = record { end = row.part.end; here = row.part.here.here; shallow = row.part.shallow };
-          then = at_once ctx _ (AtPlace (access_of l d) (shape_of l.scope d)) row.part.end m.stack c a (record { part = row.part.here.there; then = row.then });
-        })))
-        (omega arith)
-        (omega arith)
+        located_goes ctx s k m c a shared (PlaceOf (Field d i) ∷ k) d (Part i) refl (omega arith) row.part.end row.part.here.here row.part.shallow
+        (record { part = row.part.here.there; then = row.then })
 
     pub element_goes : (d : Designator) (kind : Kind) (e : Expression) → Waiting ctx (PlaceOf (Element d kind e)) Rest Quiet m.place m.stack c a → Goes ctx s (PlaceOf (Element d kind e) ∷ k) m (c + 32)
     element_goes d kind e row =
         let r = row.part.here in
-        goes_none ctx s (PlaceOf (Element d kind e) ∷ k) m (c + 32) c
-        (lands_on ctx s m shared (PlaceOf d ∷ Fill (IndexBy kind e) ∷ k) m.place m.stack c a
-        (at_once ctx _ Quiet m.place m.stack c a
+        located_goes ctx s k m c a shared (PlaceOf (Element d kind e) ∷ k) d (IndexBy kind e) refl (omega arith) r.found r.here (omega (arith, row.part.shallow))
         (record {
-          part = record { end = r.found; here = r.here; shallow = omega (arith, row.part.shallow) };
-          then = at_once ctx _ (AtPlace (access_of l d) (shape_of l.scope d)) r.found m.stack c a
-              (record {
-                part = record {
-                  rows = r.rows;
-                  there = r.there;
-                  takes = r.takes;
-                  start = r.start;
-                  middle = r.middle;
-                  tested = r.tested;
-                  end = row.part.end;
-                  address = r.address;
-                  value = r.value;
-                  shallow = omega (arith, row.part.shallow);
-                  test = r.test;
-                  by = r.by;
-                };
-                then = row.then;
-              });
-        })))
-        (omega arith)
-        (omega arith)
+          part = record {
+            rows = r.rows;
+            there = r.there;
+            takes = r.takes;
+            start = r.start;
+            middle = r.middle;
+            tested = r.tested;
+            end = row.part.end;
+            address = r.address;
+            value = r.value;
+            shallow = omega (arith, row.part.shallow);
+            test = r.test;
+            by = r.by;
+          };
+          then = row.then;
+        })
 
     -- the record is there
     pub part_goes : (place : Place) (i : ℕ) (b : Access) (t : Shape) (below : List ℕ) → HasPlace ctx b place t m.stack below → Waiting ctx (Fill (Part i)) Rest (AtPlace b t) m.place below c a
@@ -183,19 +168,11 @@ module _ (ctx : Setting) where
     pub follow_goes : (d : Designator) (n : ℕ) → Waiting ctx (PlaceOf (Follow d n)) Rest Quiet m.place m.stack c a → Goes ctx s (PlaceOf (Follow d n) ∷ k) m (c + 32)
     follow_goes d n row =
         let r = row.part.here in
-        goes_none ctx s (PlaceOf (Follow d n) ∷ k) m (c + 32) c
-        (lands_on ctx s m shared (PlaceOf d ∷ Fill Pointed ∷ k) m.place m.stack c a
-        (at_once ctx _ Quiet m.place m.stack c a
+        located_goes ctx s k m c a shared (PlaceOf (Follow d n) ∷ k) d Pointed refl (omega arith) r.found r.here row.part.shallow
         (record {
-          part = record { end = r.found; here = r.here; shallow = row.part.shallow };
-          then = at_once ctx _ (AtPlace (access_of l d) (shape_of l.scope d)) r.found m.stack c a
-              (record {
-                part = record { number = n; typed = r.typed; there = r.there; loaded = r.loaded; end = row.part.end; load = r.load; test = r.test; shallow = omega (arith, row.part.shallow, place_some d) };
-                then = row.then;
-              });
-        })))
-        (omega arith)
-        (omega arith)
+          part = record { number = n; typed = r.typed; there = r.there; loaded = r.loaded; end = row.part.end; load = r.load; test = r.test; shallow = omega (arith, row.part.shallow, place_some d) };
+          then = row.then;
+        })
 
     -- the pointer is there: its word is loaded, and isn't that of NIL
     module _ (place : Place) (b : Access) (t : Shape) (below : List ℕ) (has : HasPlace ctx b place t m.stack below) (row : Waiting ctx (Fill Pointed) Rest (AtPlace b t) m.place below c a) where

@@ -21,7 +21,7 @@ use Rattle.lil_match.specs.Goes.{IsHeap, Shared, Goes}
 use Rattle.lil_match.specs.Waits.{Setting, frame_of, laid_out, Quiet, ValueOf, AtPlace, Around, Reach, Rows, HasPlace, Waiting}
 use Rattle.lil_match.specs.Orders.{instrs_order, expression_stands}
 use Rattle.lil_match.specs.Closing.{closed}
-use Rattle.lil_match.specs.Steps.{at_once, lands_on, goes_none, operand_exact, pushes}
+use Rattle.lil_match.specs.Steps.{at_once, lands_on, goes_none, operand_exact, pushes, located_goes}
 use Rattle.lil_laws_place.specs.Codes.{inside, addressed, leads}
 use Rattle.lil_laws_place.specs.Stores.{tested, stored_goes}
 use Rattle.lil_laws_stmt.specs.Painting.{own_free, free_fixed}
@@ -66,30 +66,22 @@ module _ (ctx : Setting) where
     pub allocate_goes : (back : Bool) (d : Designator) (e : Expression) → Waiting ctx (Perform (Do (Allocate back d e))) Rest Quiet m.place m.stack c a → Goes ctx s (Perform (Do (Allocate back d e)) ∷ k) m (c + 32)
     allocate_goes back d e row =
         let r = row.part.here in
-        goes_none ctx s (Perform (Do (Allocate back d e)) ∷ k) m (c + 32) c
-        (lands_on ctx s m shared (PlaceOf d ∷ Fill (AllocateBy back e) ∷ k) m.place m.stack c a
-        (at_once ctx _ Quiet m.place m.stack c a
+        located_goes ctx s k m c a shared (Perform (Do (Allocate back d e)) ∷ k) d (AllocateBy back e) refl (omega arith) r.found r.here (omega (arith, r.shallow, ap length row.part.empty))
         (record {
-          part = record { end = r.found; here = r.here; shallow = omega (arith, r.shallow, ap length row.part.empty) };
-          then = at_once ctx _ (AtPlace (access_of l d) (shape_of l.scope d)) r.found m.stack c a
-              (record {
-                part = record {
-                  typed = r.typed;
-                  empty = row.part.empty;
-                  takes = r.takes;
-                  start = r.start;
-                  middle = r.middle;
-                  end = row.part.end;
-                  address = r.address;
-                  value = r.value;
-                  by = r.by;
-                  within = row.part.within;
-                };
-                then = row.then;
-              });
-        })))
-        (omega arith)
-        (omega arith)
+          part = record {
+            typed = r.typed;
+            empty = row.part.empty;
+            takes = r.takes;
+            start = r.start;
+            middle = r.middle;
+            end = row.part.end;
+            address = r.address;
+            value = r.value;
+            by = r.by;
+            within = row.part.within;
+          };
+          then = row.then;
+        })
 
     -- the place is there: its address, and then the number of words
     pub allocate_by_goes : (back : Bool) (e : Expression) (place : Place) (b : Access) (t : Shape) (below : List ℕ) → HasPlace ctx b place t m.stack below

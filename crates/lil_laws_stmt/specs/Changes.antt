@@ -23,7 +23,7 @@ use Rattle.lil_match.specs.Orders.{instrs_within}
 use Rattle.lil_match.specs.Arithmetic.{word_is, reads_ordinal, reads, sum_fits, difference_fits}
 use Rattle.lil_match.specs.Ranges.{has, value_is, value_none, value_fits, number_is}
 use Rattle.lil_match.specs.Closing.{closed}
-use Rattle.lil_match.specs.Steps.{advances, at_step, at_once, lands_on, goes_none, goes_after, operand_exact}
+use Rattle.lil_match.specs.Steps.{advances, at_step, at_once, lands_on, goes_none, goes_after, operand_exact, located_goes}
 use Rattle.lil_laws_place.specs.Codes.{made_ready, readied_twice, twice_words, kept_twice, brings_under}
 use Rattle.lil_laws_place.specs.Stores.{trap_goes, number_tested, stored_goes}
 
@@ -76,33 +76,25 @@ module _ (ctx : Setting) where
         → Waiting ctx (Perform (Do (Change down d kind e))) Rest Quiet m.place m.stack c a → Goes ctx s (Perform (Do (Change down d kind e)) ∷ k) m (c + 32)
     change_goes down d kind e row =
         let r = row.part.here in
-        goes_none ctx s (Perform (Do (Change down d kind e)) ∷ k) m (c + 32) c
-        (lands_on ctx s m shared (PlaceOf d ∷ Fill (ChangeBy down kind e) ∷ k) m.place m.stack c a
-        (at_once ctx _ Quiet m.place m.stack c a
+        located_goes ctx s k m c a shared (Perform (Do (Change down d kind e)) ∷ k) d (ChangeBy down kind e) refl (omega arith) r.target.found r.target.here (omega (arith, r.target.shallow, ap length row.part.empty))
         (record {
-          part = record { end = r.target.found; here = r.target.here; shallow = omega (arith, r.target.shallow, ap length row.part.empty) };
-          then = at_once ctx _ (AtPlace (access_of l d) (shape_of l.scope d)) r.target.found m.stack c a
-              (record {
-                part = record {
-                  typed = r.target.scalar.shape;
-                  empty = row.part.empty;
-                  base = r.target.scalar.base;
-                  plain = r.plain;
-                  start = r.start;
-                  kept = r.kept;
-                  middle = r.middle;
-                  end = row.part.end;
-                  ready = r.target.ready;
-                  again = r.again;
-                  value = r.value;
-                  by = r.by;
-                  within = row.part.within;
-                };
-                then = row.then;
-              });
-        })))
-        (omega arith)
-        (omega arith)
+          part = record {
+            typed = r.target.scalar.shape;
+            empty = row.part.empty;
+            base = r.target.scalar.base;
+            plain = r.plain;
+            start = r.start;
+            kept = r.kept;
+            middle = r.middle;
+            end = row.part.end;
+            ready = r.target.ready;
+            again = r.again;
+            value = r.value;
+            by = r.by;
+            within = row.part.within;
+          };
+          then = row.then;
+        })
 
     -- the place is there: it is made ready and kept for a second use, and then comes the number
     pub change_by_goes : (down : Bool) (to : Kind) (e : Expression) (place : Place) (b : Access) (t : Shape) (below : List ℕ) → HasPlace ctx b place t m.stack below

@@ -21,7 +21,7 @@ use Rattle.lil_match.specs.Goes.{Shared, Goes, Lands}
 use Rattle.lil_match.specs.Waits.{Setting, frame_of, laid_out, Quiet, ValueOf, AtPlace, Around, Reach, Rows, HasPlace, Waiting}
 use Rattle.lil_match.specs.Orders.{instrs_order, instr_within, expression_stands}
 use Rattle.lil_match.specs.Closing.{closed}
-use Rattle.lil_match.specs.Steps.{advances, at_step, at_once, lands_on, rows_ahead, shared_with, goes_none, goes_one, operand_exact}
+use Rattle.lil_match.specs.Steps.{advances, at_step, at_once, lands_on, rows_ahead, shared_with, goes_none, goes_one, operand_exact, located_goes}
 use Rattle.lil_laws_place.specs.Codes.{inside, addressed}
 use Rattle.lil_laws_place.specs.Stores.{tested}
 use Rattle.lil_laws_place.specs.Sets.{IsMember, member_is, member_change, member_word}
@@ -43,31 +43,23 @@ module _ (ctx : Setting) where
         → Waiting ctx (Perform (Do (Member out d kind e))) Rest Quiet m.place m.stack c a → Goes ctx s (Perform (Do (Member out d kind e)) ∷ k) m (c + 32)
     member_goes out d kind e row =
         let r = row.part.here in
-        goes_none ctx s (Perform (Do (Member out d kind e)) ∷ k) m (c + 32) c
-        (lands_on ctx s m shared (PlaceOf d ∷ Fill (MemberBy out kind e) ∷ k) m.place m.stack c a
-        (at_once ctx _ Quiet m.place m.stack c a
+        located_goes ctx s k m c a shared (Perform (Do (Member out d kind e)) ∷ k) d (MemberBy out kind e) refl (omega arith) r.found r.here (omega (arith, r.shallow, ap length row.part.empty))
         (record {
-          part = record { end = r.found; here = r.here; shallow = omega (arith, r.shallow, ap length row.part.empty) };
-          then = at_once ctx _ (AtPlace (access_of l d) (shape_of l.scope d)) r.found m.stack c a
-              (record {
-                part = record {
-                  typed = r.set;
-                  empty = row.part.empty;
-                  element = r.element;
-                  start = r.start;
-                  middle = r.middle;
-                  end = row.part.end;
-                  address = r.address;
-                  value = r.value;
-                  takes = r.takes;
-                  by = r.by;
-                  within = row.part.within;
-                };
-                then = row.then;
-              });
-        })))
-        (omega arith)
-        (omega arith)
+          part = record {
+            typed = r.set;
+            empty = row.part.empty;
+            element = r.element;
+            start = r.start;
+            middle = r.middle;
+            end = row.part.end;
+            address = r.address;
+            value = r.value;
+            takes = r.takes;
+            by = r.by;
+            within = row.part.within;
+          };
+          then = row.then;
+        })
 
     -- the place is there: its address, and then the number
     pub member_by_goes : (out : Bool) (kind : Kind) (e : Expression) (place : Place) (b : Access) (t : Shape) (below : List ℕ) → HasPlace ctx b place t m.stack below

@@ -22,7 +22,7 @@ use Rattle.lil_match.specs.Goes.{IsHeap, Shared, Goes}
 use Rattle.lil_match.specs.Waits.{Setting, frame_of, laid_out, Quiet, AtPlace, Around, Reach, Rows, HasPlace, Waiting}
 use Rattle.lil_match.specs.Kept.{place_lives}
 use Rattle.lil_match.specs.Closing.{closed}
-use Rattle.lil_match.specs.Steps.{at_once, pushes, lands_on, goes_none}
+use Rattle.lil_match.specs.Steps.{at_once, pushes, lands_on, goes_none, located_goes}
 use Rattle.lil_laws_place.specs.Codes.{inside, addressed, leads}
 use Rattle.lil_laws_stmt.specs.Painting.{of_own, painted, painted_there, painted_beside}
 use Rattle.lil_laws_stmt.specs.Blocks as block
@@ -58,19 +58,11 @@ module _ (ctx : Setting) where
     pub new_goes : (d : Designator) (n : ℕ) → Waiting ctx (Perform (Do (New d n))) Rest Quiet m.place m.stack c a → Goes ctx s (Perform (Do (New d n)) ∷ k) m (c + 32)
     new_goes d n row =
         let r = row.part.here in
-        goes_none ctx s (Perform (Do (New d n)) ∷ k) m (c + 32) c
-        (lands_on ctx s m shared (PlaceOf d ∷ Fill (NewAt n) ∷ k) m.place m.stack c a
-        (at_once ctx _ Quiet m.place m.stack c a
+        located_goes ctx s k m c a shared (Perform (Do (New d n)) ∷ k) d (NewAt n) refl (omega arith) r.found r.here (omega (arith, r.shallow, ap length row.part.empty))
         (record {
-          part = record { end = r.found; here = r.here; shallow = omega (arith, r.shallow, ap length row.part.empty) };
-          then = at_once ctx _ (AtPlace (access_of l d) (shape_of l.scope d)) r.found m.stack c a
-              (record {
-                part = record { typed = r.typed; there = r.there; empty = row.part.empty; start = r.start; end = row.part.end; address = r.address; by = r.by; within = row.part.within };
-                then = row.then;
-              });
-        })))
-        (omega arith)
-        (omega arith)
+          part = record { typed = r.typed; there = r.there; empty = row.part.empty; start = r.start; end = row.part.end; address = r.address; by = r.by; within = row.part.within };
+          then = row.then;
+        })
 
     -- the pointer is there
     module _ (n : ℕ) (place : Place) (b : Access) (t : Shape) (below : List ℕ) (has : HasPlace ctx b place t m.stack below) (row : Waiting ctx (Fill (NewAt n)) Rest (AtPlace b t) m.place below c a) where

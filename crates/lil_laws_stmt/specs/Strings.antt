@@ -17,7 +17,7 @@ use Rattle.lil_match.specs.Splices.{zeros_length, zeros_word}
 use Rattle.lil_match.specs.Homes.{address, Mem, mem_written}
 use Rattle.lil_match.specs.Goes.{Shared, Goes}
 use Rattle.lil_match.specs.Waits.{Setting, frame_of, laid_out, Quiet, AtPlace, Around, Reach, Rows, HasPlace, Waiting}
-use Rattle.lil_match.specs.Steps.{advances, at_step, at_once, pushes, rows_ahead, shared_with, lands_on, goes_none, goes_one}
+use Rattle.lil_match.specs.Steps.{advances, at_step, at_once, pushes, rows_ahead, shared_with, lands_on, goes_none, goes_one, located_goes}
 use Rattle.lil_laws_place.specs.Codes.{leads, addressed, written}
 
 module _ (ctx : Setting) where
@@ -43,33 +43,25 @@ module _ (ctx : Setting) where
     pub text_goes : (d : Designator) (cs : List ℕ) → Waiting ctx (Perform (Do (Text d cs))) Rest Quiet m.place m.stack c a → Goes ctx s (Perform (Do (Text d cs)) ∷ k) m (c + 32)
     text_goes d cs row =
         let r = row.part.here in
-        goes_none ctx s (Perform (Do (Text d cs)) ∷ k) m (c + 32) c
-        (lands_on ctx s m shared (PlaceOf d ∷ Fill (TextTo cs) ∷ k) m.place m.stack c a
-        (at_once ctx _ Quiet m.place m.stack c a
+        located_goes ctx s k m c a shared (Perform (Do (Text d cs)) ∷ k) d (TextTo cs) refl (omega arith) r.found r.here (omega (arith, r.shallow, ap length row.part.empty))
         (record {
-          part = record { end = r.found; here = r.here; shallow = omega (arith, r.shallow, ap length row.part.empty) };
-          then = at_once ctx _ (AtPlace (access_of l d) (shape_of l.scope d)) r.found m.stack c a
-              (record {
-                part = record {
-                  count = r.count;
-                  rows = r.rows;
-                  fits = r.fits;
-                  empty = row.part.empty;
-                  offset = r.offset;
-                  text = r.text;
-                  start = r.start;
-                  last = r.last;
-                  end = row.part.end;
-                  address = r.address;
-                  source = r.source;
-                  by = r.by;
-                  within = row.part.within;
-                };
-                then = row.then;
-              });
-        })))
-        (omega arith)
-        (omega arith)
+          part = record {
+            count = r.count;
+            rows = r.rows;
+            fits = r.fits;
+            empty = row.part.empty;
+            offset = r.offset;
+            text = r.text;
+            start = r.start;
+            last = r.last;
+            end = row.part.end;
+            address = r.address;
+            source = r.source;
+            by = r.by;
+            within = row.part.within;
+          };
+          then = row.then;
+        })
 
     -- the words that come to an array are those of the string, and zeros behind them
     front_long : (cs : List ℕ) (offset : ℕ) → HasText l cs offset → length (take (length cs) (drop (own.base + offset) m.store)) ≡ length cs

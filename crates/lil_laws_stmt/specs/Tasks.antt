@@ -20,7 +20,7 @@ use Rattle.lil_match.specs.Waits.{Setting, frame_of, laid_out, Quiet, ValueOf, A
 use Rattle.lil_match.specs.Ranges.{pointers_same}
 use Rattle.lil_match.specs.Orders.{instr_within, instrs_order, expression_stands}
 use Rattle.lil_match.specs.Closing.{closed}
-use Rattle.lil_match.specs.Steps.{advances, at_step, at_once, rows_ahead, shared_with, lands_on, goes_none, goes_one, goes_more, operand_exact}
+use Rattle.lil_match.specs.Steps.{advances, at_step, at_once, rows_ahead, shared_with, lands_on, goes_none, goes_one, goes_more, operand_exact, located_goes}
 use Rattle.lil_laws_place.specs.Codes.{addressed, copied, made_ready, readied_twice, held_words}
 use Rattle.lil_laws_place.specs.Stores.{tested, stored_goes}
 
@@ -44,29 +44,21 @@ module _ (ctx : Setting) where
         → Goes ctx s (Perform (Do (Assign d kind e)) ∷ k) m (c + 32)
     assign_goes d kind e row =
         let r = row.part.here in
-        goes_none ctx s (Perform (Do (Assign d kind e)) ∷ k) m (c + 32) c
-        (lands_on ctx s m shared (PlaceOf d ∷ Fill (SetTo kind e) ∷ k) m.place m.stack c a
-        (at_once ctx _ Quiet m.place m.stack c a
+        located_goes ctx s k m c a shared (Perform (Do (Assign d kind e)) ∷ k) d (SetTo kind e) refl (omega arith) r.target.found r.target.here (omega (arith, r.target.shallow, ap length row.part.empty))
         (record {
-          part = record { end = r.target.found; here = r.target.here; shallow = omega (arith, r.target.shallow, ap length row.part.empty) };
-          then = at_once ctx _ (AtPlace (access_of l d) (shape_of l.scope d)) r.target.found m.stack c a
-              (record {
-                part = record {
-                  typed = r.target.scalar.shape;
-                  empty = row.part.empty;
-                  start = r.start;
-                  middle = r.middle;
-                  end = row.part.end;
-                  ready = r.target.ready;
-                  value = r.value;
-                  store = r.store;
-                  within = row.part.within;
-                };
-                then = row.then;
-              });
-        })))
-        (omega arith)
-        (omega arith)
+          part = record {
+            typed = r.target.scalar.shape;
+            empty = row.part.empty;
+            start = r.start;
+            middle = r.middle;
+            end = row.part.end;
+            ready = r.target.ready;
+            value = r.value;
+            store = r.store;
+            within = row.part.within;
+          };
+          then = row.then;
+        })
 
     -- the place is there: it is made ready, and then comes the value
     pub set_goes : (to : Kind) (e : Expression) (place : Place) (b : Access) (t : Shape) (below : List ℕ) → HasPlace ctx b place t m.stack below
@@ -104,32 +96,24 @@ module _ (ctx : Setting) where
     pub copy_goes : (d from : Designator) → Waiting ctx (Perform (Do (Copy d from))) Rest Quiet m.place m.stack c a → Goes ctx s (Perform (Do (Copy d from)) ∷ k) m (c + 32)
     copy_goes d from row =
         let r = row.part.here in
-        goes_none ctx s (Perform (Do (Copy d from)) ∷ k) m (c + 32) c
-        (lands_on ctx s m shared (PlaceOf d ∷ Fill (CopyTo from) ∷ k) m.place m.stack c a
-        (at_once ctx _ Quiet m.place m.stack c a
+        located_goes ctx s k m c a shared (Perform (Do (Copy d from)) ∷ k) d (CopyTo from) refl (omega arith) r.found r.here (omega (arith, r.shallow, ap length row.part.empty))
         (record {
-          part = record { end = r.found; here = r.here; shallow = omega (arith, r.shallow, ap length row.part.empty) };
-          then = at_once ctx _ (AtPlace (access_of l d) (shape_of l.scope d)) r.found m.stack c a
-              (record {
-                part = record {
-                  same = r.same;
-                  empty = row.part.empty;
-                  shallow = r.source_shallow;
-                  start = r.start;
-                  middle = r.middle;
-                  last = r.last;
-                  end = row.part.end;
-                  address = r.address;
-                  source = r.source;
-                  source_address = r.source_address;
-                  by = r.by;
-                  within = row.part.within;
-                };
-                then = row.then;
-              });
-        })))
-        (omega arith)
-        (omega arith)
+          part = record {
+            same = r.same;
+            empty = row.part.empty;
+            shallow = r.source_shallow;
+            start = r.start;
+            middle = r.middle;
+            last = r.last;
+            end = row.part.end;
+            address = r.address;
+            source = r.source;
+            source_address = r.source_address;
+            by = r.by;
+            within = row.part.within;
+          };
+          then = row.then;
+        })
 
     -- the place is there: its address, and then the place of what is copied
     pub copy_to_goes : (from : Designator) (place : Place) (b : Access) (t : Shape) (below : List ℕ) → HasPlace ctx b place t m.stack below

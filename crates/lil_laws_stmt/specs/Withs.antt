@@ -18,7 +18,7 @@ use Rattle.lil_match.specs.Goes.{Shared, Goes}
 use Rattle.lil_match.specs.Waits.{Setting, frame_of, laid_out, at_home, inside_with, Quiet, AtPlace, Around, Reach, RowsOf, Rows, HasPlace, HoldingWaits, Waiting}
 use Rattle.lil_match.specs.Kept.{sees_laid, own_low, shared_shadowed, touches_shadowed, rows_shadowed}
 use Rattle.lil_match.specs.Laid.{alike_holding, shared_laid, IsAround, around_self, around_more, shared_around, goes_around}
-use Rattle.lil_match.specs.Steps.{advances, at_step, at_once, rows_ahead, lands_on, goes_none, goes_one_in}
+use Rattle.lil_match.specs.Steps.{advances, at_step, at_once, rows_ahead, lands_on, goes_none, goes_one_in, located_goes}
 use Rattle.lil_laws_place.specs.Codes.{addressed}
 use Rattle.lil_laws_stmt.specs.Control.{body_rows}
 
@@ -34,30 +34,22 @@ module _ (ctx : Setting) where
     pub inside_goes : (d : Designator) (body : Statements) → Waiting ctx (Perform (Do (Inside d body))) Rest Quiet m.place m.stack c a → Goes ctx s (Perform (Do (Inside d body)) ∷ k) m (c + 32)
     inside_goes d body row =
         let r = row.part.here in
-        goes_none ctx s (Perform (Do (Inside d body)) ∷ k) m (c + 32) c
-        (lands_on ctx s m shared (PlaceOf d ∷ Fill (Hold body) ∷ k) m.place m.stack c a
-        (at_once ctx _ Quiet m.place m.stack c a
+        located_goes ctx s k m c a shared (Perform (Do (Inside d body)) ∷ k) d (Hold body) refl (omega arith) r.found r.here (omega (arith, r.shallow, ap length row.part.empty))
         (record {
-          part = record { end = r.found; here = r.here; shallow = omega (arith, r.shallow, ap length row.part.empty) };
-          then = at_once ctx _ (AtPlace (access_of l d) (shape_of l.scope d)) r.found m.stack c a
-              (record {
-                part = record {
-                  there = r.there;
-                  empty = row.part.empty;
-                  room = r.room;
-                  start = r.start;
-                  kept = r.kept;
-                  end = row.part.end;
-                  address = r.address;
-                  keep = r.keep;
-                  inner = r.within;
-                  within = row.part.within;
-                };
-                then = row.then;
-              });
-        })))
-        (omega arith)
-        (omega arith)
+          part = record {
+            there = r.there;
+            empty = row.part.empty;
+            room = r.room;
+            start = r.start;
+            kept = r.kept;
+            end = row.part.end;
+            address = r.address;
+            keep = r.keep;
+            inner = r.within;
+            within = row.part.within;
+          };
+          then = row.then;
+        })
 
     -- the place is there: its address goes to the frame, and then come the statements
     pub hold_goes : (body : Statements) (place : Place) (b : Access) (t : Shape) (below : List ℕ) → HasPlace ctx b place t m.stack below

@@ -3,12 +3,12 @@ use Rattle.std.proofs.Common.{◌≡◌, ℕ, zero, suc, ◌+◌, ◌<◌, ◌�
 use Rattle.std.proofs.lemmas.Bool.{lt-ltb}
 use Rattle.lil_base.specs.declared.fault.LimitKind.{LimitKind}
 use Rattle.lil_base.specs.declared.fault.LimitKind.TheVariants as limit
-use Rattle.lil_resolved.specs.Resolved.{Expression, kind_of}
-use Rattle.lil_resolved.specs.Depth.{depth}
+use Rattle.lil_resolved.specs.Resolved.{Designator, Expression, kind_of, shape_of}
+use Rattle.lil_resolved.specs.Depth.{depth, place_depth}
 use Rattle.lil_resolved.specs.Shapes.{is_there}
 use Rattle.lil_meaning.specs.Cells.{Cells, Root, Global, Local, Object}
 use Rattle.lil_meaning.specs.World.{World}
-use Rattle.lil_meaning.specs.Items.{Hole, Evaluate, Fill, Item, Going, Source}
+use Rattle.lil_meaning.specs.Items.{Hole, Evaluate, PlaceOf, Fill, Item, Going, Source}
 use Rattle.lil_meaning.specs.Steps.{next}
 use Rattle.lil_asm.specs.declared.instr.Instr.{Instr}
 use Rattle.lil_asm.specs.declared.instr.Instr.TheVariants.{Jmp}
@@ -16,13 +16,13 @@ use Rattle.lil_mcode.specs.declared.machine.Event.{Event}
 use Rattle.lil_mcode.specs.declared.machine.Event.TheVariants.{Went, Limit}
 use Rattle.lil_mcode.specs.State.{Module, State, module_at}
 use Rattle.lil_mcode.specs.Table.{mstep, act, fetched, performed, going, push_row}
-use Rattle.lil_table.specs.Rows.{IsAt, ExpressionAt}
+use Rattle.lil_table.specs.Rows.{IsAt, access_of, PlaceAt, ExpressionAt}
 use Rattle.lil_match.specs.Running.{Run, mrun, running, react, advanced}
 use Rattle.lil_match.specs.Parts.{yes}
 use Rattle.lil_match.specs.Homes.{Home, extends_self, lives, Mem}
 use Rattle.lil_match.specs.Goes.{IsProgram, Shared, GoesOn, Lands, IsStill, Touches, Short, IsFull, Fewer, Goes}
 use Rattle.lil_match.specs.Stutter.{stutter}
-use Rattle.lil_match.specs.Waits.{Stack, Setting, frame_of, laid_out, at_home, Mode, Quiet, ValueOf, Around, Reach, Jumps, AfterJumps, Rows, Ahead, Waiting}
+use Rattle.lil_match.specs.Waits.{Stack, Setting, frame_of, laid_out, at_home, Mode, Quiet, ValueOf, AtPlace, Around, Reach, Jumps, AfterJumps, Rows, Ahead, Waiting}
 
 -- a step of the machine, as its row says
 pub advances : (m : State) (w : World) (r : Event × State) → mstep m ≡ r → advanced (running m w) ≡ react r.0 r.1 (running m w)
@@ -146,6 +146,19 @@ module _ (ctx : Setting) where
       → ExpressionAt l own.code e m.place middle → length m.stack + depth e ≤ 16 → middle < length own.code → Waiting ctx (Fill o) (Rows ctx k) (ValueOf (kind_of e)) middle m.stack c a → Goes ctx s items m (c + 32)
   operand_goes s k m c a shared items e o becomes lighter middle here shallow within row =
       goes_more s items m c (c + 32) (operand_exact s k m c a shared items e o becomes lighter middle here shallow within row) (omega arith)
+
+  -- no step of the machine: a place is to come, and then a hole
+  pub located_goes : (s : Source) (k : List Item) (m : State) (c : ℕ) (a : Around) → Shared ctx s m → (items : List Item) (d : Designator) (o : Hole)
+      → next library (record s { items = items; phase = Going }) ≡ record s { items = PlaceOf d ∷ Fill o ∷ k; phase = Going } → stutter (PlaceOf d ∷ Fill o ∷ k) < stutter items → (found : ℕ)
+      → PlaceAt l own.code d m.place found → length m.stack + place_depth d ≤ 16 → Waiting ctx (Fill o) (Rows ctx k) (AtPlace (access_of l d) (shape_of l.scope d)) found m.stack c a → Goes ctx s items m (c + 32)
+  located_goes s k m c a shared items d o becomes lighter found here shallow row =
+      goes_none s items m (c + 32) c
+      (subst (λ (y : Source). Lands ctx y.phase y (running m s.world) c) (sym becomes)
+      (lands_on s m shared (PlaceOf d ∷ Fill o ∷ k) m.place m.stack c a
+      (at_once _ Quiet m.place m.stack c a
+      (record { part = record { end = found; here = here; shallow = shallow }; then = at_once _ _ found m.stack c a row }))))
+      (omega arith)
+      (subst (λ (y : Source). stutter y.items < stutter items) (sym becomes) lighter)
 
   -- one step, to another home and stack
   pub goes_one_in : (s : Source) (k : List Item) (m : State) (x : Home) (y : Stack) (budget c : ℕ) (run : Run) → advanced (running m s.world) ≡ run → LandsIn x y s k run c
