@@ -1,5 +1,5 @@
 -- What each form of statement means, from what its parts mean.
-use Rattle.std.proofs.Common.{◌≡◌, Bool, true, List, [], map, Option, Some, None, refl, subst, sym, ap, ◌∙◌}
+use Rattle.std.proofs.Common.{◌≡◌, Bool, true, List, [], ◌∷◌, ◌++◌, map, Option, Some, None, refl, subst, sym, ap, ◌∙◌}
 use Rattle.lil_base.specs.declared.fault.Place.{Place}
 use Rattle.lil_language.specs.declared.tree.Expr.{Expr}
 use Rattle.lil_language.specs.declared.tree.Designator.{Designator}
@@ -190,7 +190,7 @@ module _ (e : Env) (l : Bool) {r : Option Fault} where
   pub is_else : (xs given : List Stmt) {other : Option (List Stmt)} {ss : List RStmt} {s : Option Fault} → other ≡ Some xs → given ≡ xs → Said (statements_mean e l given) r ss s → Said (behind_else e l other) r (Some ss) s
   is_else xs given {ss = ss} {s = s} some these h = subst (λ z. Said (behind_else e l z) r (Some ss) s) (sym some) (said_map (λ ss. Some ss) (subst (λ z. Said (statements_mean e l z) r ss s) these h))
 
-  pub is_guard : (g : Guard) (given : List Stmt) {c : Option RExpr} {ss : List RStmt} {o : Option RGuard} {s t : Option Fault} → Said (condition_means e g.condition) r c t → given ≡ g.body → Said (statements_mean e l given) t ss s
+  pub is_guard : (g : Guard) (given : List Stmt) {c : Option RExpr} {ss : List RStmt} {o : RGuard} {s t : Option Fault} → Said (condition_means e g.condition) r c t → given ≡ g.body → Said (statements_mean e l given) t ss s
       → o ≡ guarded c ss → Said (guard_means g e l) r o s
   is_guard g given {c = c} {ss = ss} {s = s} {t = t} h these k value = said_as (guard_is e l g)
       (said_after _ _ h (said_to (said_map (guarded c) (subst (λ z. Said (statements_mean e l z) t ss s) these k)) value))
@@ -204,8 +204,8 @@ module _ (e : Env) (l : Bool) {r : Option Fault} where
   pub is_statement : (out : List RStmt) (x : Stmt) {f : Env} {o : Option RStmt} {more : List RStmt} {s : Option Fault} → f ≡ e → Said (statement_means x f l) r o s → more ≡ with_one out o → Said (statement_step e l out x) r more s
   is_statement out x {o = o} {s = s} same h value = said_to (said_map (with_one out) (subst (λ f. Said (statement_means x f l) r o s) same h)) value
 
-  pub is_guard_more : (out : List RGuard) (x : Guard) {f : Env} {o : Option RGuard} {more : List RGuard} {s : Option Fault} → f ≡ e → Said (guard_means x f l) r o s → more ≡ with_one out o → Said (guard_step e l out x) r more s
-  is_guard_more out x {o = o} {s = s} same h value = said_to (said_map (with_one out) (subst (λ f. Said (guard_means x f l) r o s) same h)) value
+  pub is_guard_more : (out : List RGuard) (x : Guard) {f : Env} {o : RGuard} {more : List RGuard} {s : Option Fault} → f ≡ e → Said (guard_means x f l) r o s → more ≡ out ++ o ∷ [] → Said (guard_step e l out x) r more s
+  is_guard_more out x {o = o} {s = s} same h value = said_to (said_map (λ (g : RGuard). out ++ g ∷ []) (subst (λ f. Said (guard_means x f l) r o s) same h)) value
 
   pub is_arm_more : (k : Option Kind) (out : Arms) (x : Arm) {f : Env} {more : Arms} {s : Option Fault} → f ≡ e → Said (arm_means x f l k out) r more s → Said (arm_step e l k out x) r more s
   is_arm_more k out x {more = more} {s = s} same h = subst (λ f. Said (arm_means x f l k out) r more s) same h

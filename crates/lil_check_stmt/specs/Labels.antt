@@ -89,10 +89,14 @@ high_means e seen selector a (Some x) = after (means e x) (λ b. range_node e.ty
 unfoldable pub label_means : Env → List RLabel → Option Kind → Range → Option RLabel × List Row
 label_means e seen selector r = after (means e r.low) (λ a. high_means e seen selector a r.high)
 
+-- one with a fault is empty, as no label is that has a code
+abbrev pub missing : RLabel
+missing = record { low = pos 1; high = pos 0 }
+
 -- the labels of all arms so far, and those of the arm at hand
 abbrev pub with_label : Labels → Option RLabel → Labels
 with_label ls (Some l) = record { seen = ls.seen ++ l ∷ []; own = ls.own ++ l ∷ [] }
-with_label ls None = ls
+with_label ls None = record { seen = ls.seen; own = ls.own ++ missing ∷ [] }
 
 abbrev pub label_step : Env → Option Kind → Labels → Range → Labels × List Row
 label_step e selector ls r = after (label_means e ls.seen selector r) (λ o. pure (with_label ls o))

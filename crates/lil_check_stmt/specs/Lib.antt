@@ -3,3 +3,4 @@ pub mod Labels
 pub mod Counting
 pub mod Statements
 pub mod Stmts
+pub mod Whole

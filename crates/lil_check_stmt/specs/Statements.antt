@@ -11,6 +11,8 @@ use Rattle.lil_language.specs.declared.tree.Stmt.TheOpen.{Stmt-F, Arm-F, Guard-F
 use Rattle.lil_language.specs.declared.tree.Stmt.TheFolds.{fold-Stmt, fold-Guard, fold-Arm}
 use Rattle.lil_module.specs.declared.declared.RProc.{RProc}
 use Rattle.lil_module.specs.declared.tree.RExpr.{RExpr}
+use Rattle.lil_module.specs.declared.tree.RExpr.TheVariants as r
+use Rattle.lil_module.specs.declared.tree.Standard.TheVariants.{Odd}
 use Rattle.lil_module.specs.declared.tree.RStmt.{RStmt}
 use Rattle.lil_module.specs.declared.tree.RStmt.TheVariants as rs
 use Rattle.lil_module.specs.declared.tree.RGuard.{RGuard, roll-RGuard}
@@ -34,16 +36,19 @@ Meaning = Env → Bool → Option RStmt × List Row
 
 -- a condition and the statements behind it
 abbrev pub GuardMeaning : Type 0
-GuardMeaning = Env → Bool → Option RGuard × List Row
+GuardMeaning = Env → Bool → RGuard × List Row
 
 -- an arm behind others, by what the CASE selects by
 abbrev pub ArmMeaning : Type 0
 ArmMeaning = Env → Bool → Option Kind → Arms → Arms × List Row
 
--- ---- lists: what has a fault is left out
-abbrev pub with_one : {A : Type 0} → List A → Option A → List A
-with_one xs (Some x) = xs ++ x ∷ []
-with_one xs None = xs
+-- ---- lists: nothing is left out. In the place of what has a fault stands what has no code: a function as a statement, NIL as a condition
+abbrev pub or_missing : Option RStmt → RStmt
+or_missing (Some x) = x
+or_missing None = rs.Procedure Odd []
+
+abbrev pub with_one : List RStmt → Option RStmt → List RStmt
+with_one xs o = xs ++ or_missing o ∷ []
 
 abbrev pub list_step : Env → Bool → List RStmt → Meaning → List RStmt × List Row
 list_step e looping out m = after (m e looping) (λ o. pure (with_one out o))
@@ -56,7 +61,7 @@ else_means e looping None = pure None
 else_means e looping (Some ms) = after (list_means e looping ms) (λ ss. pure (Some ss))
 
 abbrev pub guards_step : Env → Bool → List RGuard → GuardMeaning → List RGuard × List Row
-guards_step e looping out m = after (m e looping) (λ o. pure (with_one out o))
+guards_step e looping out m = after (m e looping) (λ g. pure (out ++ g ∷ []))
 
 abbrev pub guards_mean : Env → Bool → List GuardMeaning → List RGuard × List Row
 guards_mean e looping ms = walk (guards_step e looping) [] ms
@@ -100,9 +105,12 @@ return_means e p None = end_node p (result_at e)
 return_means e p (Some x) = after (means e x) (λ v. return_node e.types p (result_at e) v)
 
 -- ---- what statements are made of the values of their parts
-abbrev pub guarded : Option RExpr → List RStmt → Option RGuard
-guarded (Some c) ss = Some (roll-RGuard (record { condition = c; body = ss }))
-guarded None ss = None
+abbrev pub or_nil : Option RExpr → RExpr
+or_nil (Some c) = c
+or_nil None = r.Nil
+
+abbrev pub guarded : Option RExpr → List RStmt → RGuard
+guarded c ss = roll-RGuard (record { condition = or_nil c; body = ss })
 
 abbrev pub selected : Option Found → List RArm → Option (List RStmt) → Option RStmt
 selected (Some a) arms other = Some (rs.Case a.form arms other)

@@ -212,7 +212,10 @@ fn add_label(labels: &mut Labels, label: Option<RLabel>) -> Result<(), Memory>
             labels.own.push(label)?;
             Ok(())
         }
-        None => Ok(()),
+        None => {
+            labels.own.push(RLabel { low: 1, high: 0 })?;
+            Ok(())
+        }
     }
 }
 

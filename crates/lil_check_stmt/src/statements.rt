@@ -16,7 +16,7 @@ use lil_base::{Boxed, Items, Memory, Place, beside};
 use lil_check_value::{boxed_expression, call, variable};
 use lil_kinds::{Found, result};
 use lil_language::{Arm, Designator, Expr, ForHead, Guard, Stmt};
-use lil_module::{RArm, RExpr, RGuard, RStmt};
+use lil_module::{RArm, RExpr, RGuard, RStmt, Standard};
 use lil_report::Report;
 use lil_scope::{Env, Kind};
 use lil_types::TypeId;
@@ -101,12 +101,20 @@ fn assigned(
     Ok(assign(&env.types, report, becomes, found, value))
 }
 
-fn guarded(condition: Option<Boxed<RExpr>>, body: Items<RStmt>) -> Option<RGuard>
-    ensures { result ≡ spec.guarded condition body }
+/// A guard. A condition with a fault is NIL, which is none.
+fn guarded(
+    alloc: Global,
+    condition: Option<Boxed<RExpr>>,
+    body: Items<RStmt>,
+) -> Result<RGuard, Memory>
+    ensures { IfOk result (λ g. g ≡ spec.guarded condition body) }
 {
     match condition {
-        Some(condition) => Some(RGuard { condition, body }),
-        None => None,
+        Some(condition) => Ok(RGuard { condition, body }),
+        None => {
+            let (body, condition) = beside(body, Boxed::new(alloc, RExpr::Nil))?;
+            Ok(RGuard { condition, body })
+        }
     }
 }
 
@@ -155,16 +163,21 @@ fn with_arm(arms: Items<RArm>, labels: Labels, body: Items<RStmt>) -> Result<Arm
     Ok(Arms { seen, arms })
 }
 
-fn add_one<T: Drop>(out: &mut Items<T>, one: Option<T>) -> Result<(), Memory>
-    ensures { IfOk result (λ u. out.new ≡ spec.with_one out.old one) }
+/// A statement, or in its place a function, which is none.
+fn or_missing(alloc: Global, one: Option<RStmt>) -> RStmt
+    ensures { result ≡ spec.or_missing one }
 {
     match one {
-        Some(one) => {
-            out.push(one)?;
-            Ok(())
-        }
-        None => Ok(()),
+        Some(one) => one,
+        None => RStmt::Procedure(Standard::Odd, Items::new(alloc)),
     }
+}
+
+fn add_one(alloc: Global, out: &mut Items<RStmt>, one: Option<RStmt>) -> Result<(), Memory>
+    ensures { IfOk result (λ u. out.new ≡ spec.with_one out.old one) }
+{
+    out.push(or_missing(alloc, one))?;
+    Ok(())
 }
 
 /// Begins a WITH, where its record has a type.
@@ -351,7 +364,7 @@ pub(crate) fn statements(
     let mut out = Items::new(alloc);
     for one in of {
         let meant = statement(alloc, env, report, looping, one)?;
-        add_one(&mut out, meant)?;
+        add_one(alloc, &mut out, meant)?;
     }
     Ok(out)
 }
@@ -364,14 +377,15 @@ fn guard(
     report: &mut Report,
     looping: bool,
     of: &Guard,
-) -> Result<Option<RGuard>, Memory>
+) -> Result<RGuard, Memory>
     ensures said { IfOk result (λ o. Said (spec.guard_means of.now env.old looping) report.old o report.new) }
     ensures same { IfOk result (λ o. env.new ≡ env.old) }
 {
     let condition = condition_of(alloc, env, report, &of.condition)?;
     let body = statements(alloc, env, report, looping, of.body.as_slice());
     let (condition, body) = beside(condition, body)?;
-    Ok(guarded(condition, body))
+    let made = guarded(alloc, condition, body)?;
+    Ok(made)
 }
 
 #[cycle(statement)]
@@ -388,7 +402,7 @@ fn all_guards(
     let mut out = Items::new(alloc);
     for one in of {
         let meant = guard(alloc, env, report, looping, one)?;
-        add_one(&mut out, meant)?;
+        out.push(meant)?;
     }
     Ok(out)
 }

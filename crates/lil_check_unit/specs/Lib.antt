@@ -1,6 +1,2 @@
-pub mod Kept
-pub mod UnitFound
 pub mod UnitLaws
-pub mod UnitNames
-pub mod UnitStart
 pub mod Units

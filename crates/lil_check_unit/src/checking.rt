@@ -6,8 +6,6 @@ ghost use Rattle.lil_report.specs.Least.{now_of, late_of, worse};
 ghost use Rattle.lil_report.specs.Told.{Said, tell};
 ghost use Rattle.lil_check_stmt.specs.Stmts.{bodies_mean};
 ghost use Rattle.lil_interfaces.specs.Imports.{nothing_imported};
-ghost use Rattle.lil_check_unit.specs.Kept.{Kept};
-ghost use Rattle.lil_check_unit.specs.UnitNames.{AreSurfaces};
 ghost use Rattle.lil_check_unit.specs.Units as spec;
 
 use lil_base::{Items, Memory, Name, SourceFault, beside};
@@ -153,7 +151,6 @@ pub(crate) fn check_parts(
 pub fn check_module(alloc: Global, u: &Unit, interfaces: &Interfaces) -> Result<RModule, ReadStop>
     requires { spec.HasInterfaces interfaces.now u.now }
     ensures right { IfOk result (λ m. (m ≡ spec.module_of u.now interfaces.now) × (spec.worst u.now interfaces.now ≡ None)) }
-    ensures kept { IfOk result (λ m. AreSurfaces interfaces.now → Kept interfaces.now u.now m) }
     ensures wrong { (f : Told) → result ≡ Err (stop.Fault f) → (g : Found) × (spec.worst u.now interfaces.now ≡ Some g) × (f ≡ spec.told g) }
     ensures least { spec.Speaks (spec.ClassesOfUnit u.now interfaces.now) (spec.worst u.now interfaces.now) }
 {

@@ -5,7 +5,6 @@ ghost use Rattle.lil_report.specs.declared.report.Fault.{Fault as Found};
 ghost use Rattle.lil_report.specs.Told.{tell};
 ghost use Rattle.lil_layout.specs.Data.{data_words};
 ghost use Rattle.lil_interfaces.specs.Interfaces.{named, residents};
-ghost use Rattle.lil_check_unit.specs.Kept.{Kept};
 ghost use Rattle.lil_check_unit.specs.Units as spec;
 
 use crate::checking::{Checked, check_parts, told};
@@ -175,7 +174,6 @@ fn with_imports(alloc: Global, u: &Unit) -> Result<RModule, ReadStop>
 /// its unit: no name stands for a declaration with a fault, no statement is left out, and each procedure has its body.
 pub fn check_program(alloc: Global, file: &Name, u: &Unit) -> Result<RModule, ReadStop>
     ensures right { IfOk result (λ m. (m ≡ spec.module_of u.now residents) × (spec.program_fault file.now u.now ≡ None)) }
-    ensures kept { IfOk result (λ m. Kept residents u.now m) }
     ensures wrong { (f : Told) → result ≡ Err (stop.Fault f) → (g : Found) × (spec.program_fault file.now u.now ≡ Some g) × (f ≡ spec.told g) }
     ensures least { spec.Speaks (spec.ClassesOfProgram file.now u.now) (spec.program_fault file.now u.now) }
 {

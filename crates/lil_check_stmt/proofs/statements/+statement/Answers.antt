@@ -54,7 +54,7 @@ pub all_arms-returns-clause-same : goal.all_arms-returns-clause-same
 all_arms-returns-clause-same t c = c.loop-one.invariant.0
 
 pub guard-returns-clause-said : goal.guard-returns-clause-said
-guard-returns-clause-said t c = is_guard c.args.env.now c.args.looping c.args.of.now c.as_slice.result.now (said_to c.in_ok-condition.ensures c.in_ok-condition-2.ensures.ok.0) c.as_slice.ensures (is_given _ c.in_ok-condition-2.ensures.ok.1 c.statements-body.ensures.said) c.guarded.ensures
+guard-returns-clause-said t c = is_guard c.args.env.now c.args.looping c.args.of.now c.as_slice.result.now (said_to c.in_ok-condition.ensures c.in_ok-condition-2.ensures.ok.0) c.as_slice.ensures (is_given _ c.in_ok-condition-2.ensures.ok.1 c.statements-body.ensures.said) c.in_ok-made.ensures
 
 pub arm-returns-clause-said : goal.arm-returns-clause-said
 arm-returns-clause-said t c = is_arm c.args.env.now c.args.looping c.args.kind c.args.arms c.args.of.now c.as_slice.result.now c.as_slice-2.result.now c.as_slice.ensures c.in_ok-labels.ensures c.as_slice-2.ensures c.in_ok-body.ensures.said

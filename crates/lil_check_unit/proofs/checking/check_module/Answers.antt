@@ -1,15 +1,8 @@
-use Rattle.std.proofs.Common.{subst, sym}
-use Rattle.lil_check_unit.specs.Kept.{Kept, kept}
 use Rattle.lil_check_unit.specs.UnitLaws.{unit_speaks}
 use Rattle.lil_check_unit.proofs.checking.check_module.Goals as goal
 
 pub returns-in-Ok-clause-right : goal.returns-in-Ok-clause-right
 returns-in-Ok-clause-right c = let p = c.in-Ok.ensures.right in (p.0, p.1)
-
-pub returns-in-Ok-clause-kept : goal.returns-in-Ok-clause-kept
-returns-in-Ok-clause-kept c surfaces =
-    let p = c.in-Ok.ensures.right in
-    subst (Kept c.args.interfaces.now c.args.u.now) (sym p.0) (kept c.args.u.now c.args.interfaces.now p.1 surfaces)
 
 pub returns-in-Ok-clause-least : goal.returns-in-Ok-clause-least
 returns-in-Ok-clause-least c = unit_speaks c.args.u.now c.args.interfaces.now

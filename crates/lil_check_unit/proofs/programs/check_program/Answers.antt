@@ -1,7 +1,5 @@
-use Rattle.std.proofs.Common.{subst, sym, ◌∙◌}
+use Rattle.std.proofs.Common.{sym, ◌∙◌}
 use Rattle.std.proofs.lemmas.Result.{IfOk-weaker}
-use Rattle.lil_interfaces.specs.Interfaces.{residents}
-use Rattle.lil_check_unit.specs.Kept.{Kept, imports_kept}
 use Rattle.lil_check_unit.specs.UnitLaws.{program_speaks}
 use Rattle.lil_check_unit.proofs.UnitFaults.{wrong_name, then_imports}
 use Rattle.lil_check_unit.proofs.programs.check_program.Goals as goal
@@ -17,10 +15,6 @@ returns-in-Some-clause-least c = program_speaks c.args.file.now c.args.u.now
 pub returns-in-None-clause-right : goal.returns-in-None-clause-right
 returns-in-None-clause-right c =
     IfOk-weaker c.with_imports.result _ _ (λ m p. (p.0, then_imports c.args.file.now c.args.u.now (sym c.naming_fault.ensures ∙ c.in-None.is) ∙ p.1)) c.with_imports.ensures.right
-
-pub returns-in-None-clause-kept : goal.returns-in-None-clause-kept
-returns-in-None-clause-kept c =
-    IfOk-weaker c.with_imports.result _ _ (λ m p. subst (Kept residents c.args.u.now) (sym p.0) (imports_kept c.args.u.now p.1)) c.with_imports.ensures.right
 
 pub returns-in-None-clause-wrong : goal.returns-in-None-clause-wrong
 returns-in-None-clause-wrong c f e =
