@@ -1,17 +1,17 @@
 -- From a program module that is loaded alone.
-use Rattle.std.proofs.Common.{◌≡◌, ℕ, zero, suc, ◌+◌, ◌-◌, ◌*◌, ◌<◌, ◌≤◌, ◌⊎◌, inl, inr, Bool, true, ◌&&◌, Option, Some, None, List, [], ◌∷◌, length, refl, sym, ap, ◌∙◌, arith}
+use Rattle.std.proofs.Common.{◌≡◌, ℕ, zero, suc, ◌+◌, ◌*◌, ◌<◌, ◌≤◌, inl, inr, ⊎_elim, true, Option, Some, None, List, [], ◌∷◌, length, refl, sym, ap, ◌∙◌, arith}
 use Rattle.std.specs.Prelude.{nat_le, slice_get}
-use Rattle.std.proofs.lemmas.Bool.{le-leb, cases_lt, true≢false}
+use Rattle.std.proofs.lemmas.Bool.{le-leb}
 use Rattle.std.proofs.lemmas.Option.{none-some, same_Some}
 use Rattle.lil_base.specs.declared.fault.TrapKind.{TrapKind}
 use Rattle.lil_base.specs.declared.fault.LimitKind.{LimitKind}
 use Rattle.lil_base.specs.declared.fault.LimitKind.TheVariants as limit
 use Rattle.lil_resolved.specs.Shapes.{all_words}
-use Rattle.lil_resolved.specs.Resolved.{Statement, Assign, If, Case, While, Repeat, Loop, For, Inside, Statements, Empty, Then, Arms, NoElse, Else, Arm, Resolved}
+use Rattle.lil_resolved.specs.Resolved.{Statement, Assign, If, Case, While, Repeat, Loop, For, Inside, Procedure, procedure_by, Statements, Empty, Then, Arms, NoElse, Else, Arm, Resolved}
 use Rattle.lil_resolved.specs.Depth.{statement_words, body_words, arms_words, frame_words}
 use Rattle.lil_resolved.specs.Sizes.{IsSmall, statement_size, body_size, arms_size}
 use Rattle.lil_meaning.specs.World.{World}
-use Rattle.lil_meaning.specs.Items.{Phase, Trapped, Source, heap_words}
+use Rattle.lil_meaning.specs.Items.{Phase, Trapped, Source}
 use Rattle.lil_meaning.specs.Steps.{next}
 use Rattle.lil_meaning.specs.Runs.{begun, state_of}
 use Rattle.lil_mcode.specs.State.{Module, State, module_at}
@@ -22,6 +22,7 @@ use Rattle.lil_match.specs.Goes.{Short}
 use Rattle.lil_laws.specs.Loading.{Compiled, IsSpent, entry_for, table_from, image, body_alone, loaded}
 use Rattle.lil_laws.specs.Whole.{TrapsIn, Unlimited, Agrees, agrees_more}
 use Rattle.lil_laws.specs.Reaching.{Reaches}
+use Rattle.lil_laws.specs.Serves.{next_serves, after_first, after_same, none_alone}
 use Rattle.lil_laws.specs.Start as all
 use Rattle.lil_laws.specs.Start.{Body}
 
@@ -47,7 +48,12 @@ mutual
   arms_small (Else body) = omega (arith, body_small body)
   arms_small (Arm labels body rest) = omega (arith, body_small body, arms_small rest)
 
-module _ (p : Resolved) (strings code : List ℕ) (small : IsSmall p strings) (t : Translates p strings code) where
+none_in : (n : ℕ) (q : Procedure) → procedure_by [] n ≡ Some q → ⊥
+none_in zero q e = cc
+none_in (suc n) q e = cc
+
+-- a module without procedures
+module _ (p : Resolved) (strings code : List ℕ) (small : IsSmall p strings) (t : Translates p strings code) (bare : p.procedures ≡ []) where
   abbrev one : Compiled
   one = record { text = p; strings = strings; code = code; procedures = body_alone; body = refl; translates = t }
 
@@ -65,6 +71,11 @@ module _ (p : Resolved) (strings code : List ℕ) (small : IsSmall p strings) (t
   same zero o e = ap (λ (x : Compiled). x.text.targets) (sym (same_Some one o e))
   same (suc i) o e = absurd (none-some o e)
 
+  -- it has no procedures
+  entries : all.Entries (one ∷ [])
+  entries zero o e n q there = absurd (none_in n q (ap (λ (ps : List Procedure). procedure_by ps n) (sym bare) ∙ ap (λ (x : Compiled). procedure_by x.text.procedures n) (same_Some one o e) ∙ there))
+  entries (suc i) o e n q there = absurd (none-some o e)
+
   room : 1 + (all_words p.variables + length strings) + frame_words p.body ≤ 65535
   room = omega (arith, body_small p.body, small.code, small.words)
 
@@ -74,19 +85,21 @@ module _ (p : Resolved) (strings code : List ℕ) (small : IsSmall p strings) (t
       let room : nat_le (1 + (all_words p.variables + length strings) + 4) 65535 ≡ true = le-leb (1 + (all_words p.variables + length strings) + 4) 65535 (omega (arith, small.words)) in
       yes _ _ _ room
 
-  -- the store's limit alone can come
-  spent : (t : Source) (k : LimitKind) → Short (all.ctx (one ∷ []) p.targets same its_body [] room).stack t (next (p ∷ []) t) k → IsSpent p strings k t
-  spent t limit.Stack e = cc
-  spent t limit.Store e = record { kind = refl; short = by (cases_lt (65518 - heap_words (next (p ∷ []) t).objects (next (p ∷ []) t).workspaces) (1 + (all_words p.variables + length strings) + frame_words p.body)) }
-    where
-      by : (65518 - heap_words (next (p ∷ []) t).objects (next (p ∷ []) t).workspaces < 1 + (all_words p.variables + length strings) + frame_words p.body)
-          ⊎ (1 + (all_words p.variables + length strings) + frame_words p.body ≤ 65518 - heap_words (next (p ∷ []) t).objects (next (p ∷ []) t).workspaces)
-          → 65535 < 1 + (all_words p.variables + length strings) + (frame_words p.body + 17) + heap_words (next (p ∷ []) t).objects (next (p ∷ []) t).workspaces
-      by (inl less) = omega (arith, less)
-      by (inr more) =
-          let fits : nat_le (1 + (all_words p.variables + length strings) + frame_words p.body) (65518 - heap_words (next (p ∷ []) t).objects (next (p ∷ []) t).workspaces) ≡ true = le-leb _ _ more in
-          absurd (true≢false (sym (ap (λ (b : Bool). b && true) fits) ∙ e))
+  -- a limit is one of words: of the stack or of the store
+  spent : (t : Source) (k : LimitKind) → Short (p ∷ []) (all.ctx (one ∷ []) p.targets same entries its_body [] room).stack.base (next (p ∷ []) t) k → IsSpent p strings k t
+  spent t limit.Stack e = record { kind = inl (refl, e.1); short = omega (arith, e.0.less) }
+  spent t limit.Store e = record { kind = inr refl; short = omega (arith, e.less) }
   spent t k e = absurd e
+
+  -- no activation begins but the body's, so it is the store's
+  pub store_alone : (w : World) (n : ℕ) (k : LimitKind) → IsSpent p strings k (state_of p w n) → k ≡ limit.Store
+  store_alone w n k spent = ⊎_elim (λ stack. absurd (omega (arith, stack.1, ap length same_activations))) (λ store. store) spent.kind
+    where
+      same_activations : (next (p ∷ []) (state_of p w n)).activations ≡ (begun (p ∷ []) (0 ∷ []) (1 ∷ []) w).activations
+      same_activations =
+          let first : Source = begun (p ∷ []) (0 ∷ []) (1 ∷ []) w in
+          (next_serves (p ∷ []) (state_of p w n)).same (none_alone p bare) (after_first (p ∷ []) n first refl)
+          ∙ after_same (p ∷ []) (none_alone p bare) n first refl
 
   pub record Correct (w : World) (steps : ℕ) : Type 0 where
     pub n : ℕ
@@ -95,11 +108,11 @@ module _ (p : Resolved) (strings code : List ℕ) (small : IsSmall p strings) (t
 
   pub correct : (w : World) (steps : ℕ) → Correct w steps
   correct w steps =
-      let c = all.correct (one ∷ []) p.targets same its_body [] room w steps in
+      let c = all.correct (one ∷ []) p.targets same entries its_body [] room w steps in
       record { n = c.n; agrees = agrees_more table _ (IsSpent p strings) (state_of p w c.n) (mrun steps (running begins w)) (spent (state_of p w c.n)) c.agrees; far = c.far }
 
   pub reached : (w : World) (n : ℕ) → Reaches (p ∷ []) (begun (p ∷ []) (0 ∷ []) (1 ∷ []) w) (running begins w) n
-  reached w n = all.reached (one ∷ []) p.targets same its_body [] room w n
+  reached w n = all.reached (one ∷ []) p.targets same entries its_body [] room w n
 
   -- the one module of the table
   abbrev pub own : Module

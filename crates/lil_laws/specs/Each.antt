@@ -3,7 +3,7 @@ use Rattle.std.proofs.Common.{◌≡◌, ℕ, ◌+◌, true, false, List, [], �
 use Rattle.std.specs.Prelude.{ℤ}
 use Rattle.lil_resolved.specs.Kinds.{Kind}
 use Rattle.lil_resolved.specs.Scalars.{Scalar, within}
-use Rattle.lil_resolved.specs.Resolved.{Designator, Variable, Held, Field, Element, Follow, Expression, Constant, Taken, One, Two, Short, Apply, With, WithSpan, Assign, Copy, Text, Inside, Change, Member, New, Allocate, Request, If, Case, While, Repeat, Loop, Exit, Halt, Return, For, Statements}
+use Rattle.lil_resolved.specs.Resolved.{Designator, Variable, Held, Field, Element, Follow, Expression, Constant, Taken, One, Two, Short, Apply, With, WithSpan, Assign, Copy, Text, Inside, Change, Member, New, Allocate, Request, If, Case, While, Repeat, Loop, Exit, Halt, Return, Call, For, Statements}
 use Rattle.lil_meaning.specs.Cells.{Place}
 use Rattle.lil_meaning.specs.Items.{Scalars, Places, Wholes, Opens, Texts, Hole, Get, Part, IndexBy, IndexAt, Pointed, SetTo, StoreAt, CopyTo, CopyFrom, TextTo, NewAt, AllocateBy, AllocateAt, ChangeBy, ChangeAt, OneOf, LeftOf, RightOf, ShortOf, ApplyTo, WithMember, MemberOf, WithMembers, MembersFrom, MembersTo, MemberBy, MemberAt, Pass, PassArray, Choose, Turn, Again, Pick, Hold, StartOf, LimitOf, Task, Do, Passing, Until, Looping, Turns, Holding, End, Item, Value, Evaluate, PlaceOf, Fill, Perform, Source}
 use Rattle.lil_resolved.specs.Shapes.{Shape}
@@ -25,6 +25,7 @@ use Rattle.lil_laws_stmt.specs.Withs.{inside_goes, hold_goes, holding_goes}
 use Rattle.lil_laws_stmt.specs.Control.{if_goes, choose_goes, while_goes, turn_goes, repeat_goes, until_goes, again_goes, loop_goes, looping_goes}
 use Rattle.lil_laws_stmt.specs.Changes.{change_goes, change_by_goes, change_at_goes}
 use Rattle.lil_laws_stmt.specs.Exits.{exit_goes}
+use Rattle.lil_laws_stmt.specs.Calls.{call_goes}
 use Rattle.lil_laws_stmt.specs.Members.{member_goes, member_by_goes, member_at_goes}
 use Rattle.lil_laws_stmt.specs.Ends.{halt_goes, return_goes, end_goes, ended_goes}
 use Rattle.lil_laws_stmt.specs.Allocations.{allocate_goes, allocate_by_goes, allocate_at_goes, deallocate_at_goes}
@@ -125,6 +126,7 @@ module _ (ctx : Setting) where
     task_step (Do Exit) r = exit_goes ctx s k m c a shared r
     task_step (Do Halt) r = halt_goes ctx s k m c a shared r
     task_step (Do Return) r = return_goes ctx s k m c a shared r
+    task_step (Do (Call x n)) r = call_goes ctx s k m c a shared x n r
     task_step (Do (For x kind e f step body)) r = for_goes ctx s k m c a shared x kind e f step body r
     task_step (Passing q done []) r = serve_goes ctx s k m c a shared q done r
     task_step (Passing q done (x ∷ left)) r = passing_goes ctx s k m c a shared q done x left r

@@ -3,5 +3,7 @@ pub mod Each
 pub mod Loading
 pub mod Placing
 pub mod Reaching
+pub mod Sample
+pub mod Serves
 pub mod Start
 pub mod Whole

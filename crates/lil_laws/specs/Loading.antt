@@ -1,16 +1,23 @@
 -- The machine after modules were loaded: their data from word 1 one behind another, and the first body begun.
-use Rattle.std.specs.Prelude.{◌≡◌, true, ℕ, suc, ◌+◌, ◌<◌, List, [], ◌∷◌, length, Option, None, Some, slice_get}
+use Rattle.std.specs.Prelude.{◌≡◌, ◌⊎◌, true, ℕ, suc, ◌+◌, ◌<◌, List, [], ◌∷◌, length, Option, None, Some, slice_get}
 use Rattle.lil_base.specs.declared.fault.LimitKind.{LimitKind}
 use Rattle.lil_base.specs.declared.fault.LimitKind.TheVariants as limit
 use Rattle.lil_resolved.specs.Shapes.{all_words}
 use Rattle.lil_resolved.specs.Depth.{frame_words}
 use Rattle.lil_meaning.specs.Items.{Source, heap_words}
+use Rattle.lil_meaning.specs.Need.{chain_of}
 use Rattle.lil_meaning.specs.Steps.{next}
-use Rattle.lil_resolved.specs.Resolved.{Resolved}
+use Rattle.lil_resolved.specs.Resolved.{Procedure, Resolved, procedure_by}
 use Rattle.lil_mcode.specs.State.{Module, State}
 use Rattle.lil_frames.specs.Words.{spliced, zeros, cleared}
 use Rattle.lil_mcode.specs.Calls.{Machine, fresh, with_level, with_module, with_words, with_bodies}
-use Rattle.lil_table.specs.Rows.{Translates}
+use Rattle.lil_table.specs.Rows.{ProcedureRow, Translates, layout_of}
+
+-- the code of a procedure at its entry in the table
+pub record EntryRow (text : Resolved) (strings code : List ℕ) (procedures : List (ℕ × Option (List ℕ))) (p : ℕ) (its : Procedure) : Type 0 where
+  pub entry : ℕ
+  pub there : slice_get procedures p ≡ Some (entry, Some its.name)
+  pub row : ProcedureRow (record (layout_of strings text) { frame = frame_words its.body; chain = p ∷ its.around }) code its entry
 
 -- A text with the words of its strings, its code and the table of its procedures, of which the body is the first and stands at the beginning.
 pub record Compiled : Type 0 where
@@ -20,6 +27,10 @@ pub record Compiled : Type 0 where
   pub procedures : List (ℕ × Option (List ℕ))
   pub body : slice_get procedures 0 ≡ Some (0, None)
   pub translates : Translates text strings code
+
+-- each procedure has its code
+abbrev pub HasEntries : Compiled → Type 0
+HasEntries o = (p : ℕ) (its : Procedure) → procedure_by o.text.procedures p ≡ Some its → EntryRow o.text o.strings o.code o.procedures p its
 
 abbrev pub text_of : Compiled → Resolved
 text_of o = o.text
@@ -72,11 +83,11 @@ image os first rest = record {
 }
 
 -- ---- a program module that is loaded alone
--- A state that comes to the store's limit: with the objects and workspaces of the next state, data, the frame and a whole expression stack with its length
--- take more words than the store has.
+-- A state that comes to a limit of words: data, the calls of the next state with a whole expression stack and its length each, and its objects
+-- and workspaces take more words than the store has. That of the stack comes only where a call began an activation.
 pub record IsSpent (p : Resolved) (strings : List ℕ) (k : LimitKind) (t : Source) : Type 0 where
-  pub kind : k ≡ limit.Store
-  pub short : 65535 < 1 + (all_words p.variables + length strings) + (frame_words p.body + 17) + heap_words (next (p ∷ []) t).objects (next (p ∷ []) t).workspaces
+  pub kind : ((k ≡ limit.Stack) × (1 < length (next (p ∷ []) t).activations)) ⊎ (k ≡ limit.Store)
+  pub short : 65535 < 1 + (all_words p.variables + length strings) + chain_of (p ∷ []) (next (p ∷ []) t) + heap_words (next (p ∷ []) t).objects (next (p ∷ []) t).workspaces
 
 -- a body alone, at the beginning of the code
 abbrev pub body_alone : List (ℕ × Option (List ℕ))

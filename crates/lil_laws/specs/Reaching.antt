@@ -5,7 +5,7 @@ use Rattle.lil_base.specs.declared.fault.TrapAt.{TrapAt}
 use Rattle.lil_resolved.specs.Resolved.{Resolved}
 use Rattle.lil_meaning.specs.World.{World}
 use Rattle.lil_meaning.specs.Closings.{all_screen}
-use Rattle.lil_meaning.specs.Items.{Item, Phase, Going, Closing, Ended, Trapped, Source}
+use Rattle.lil_meaning.specs.Items.{Item, Activation, Phase, Going, Closing, Ended, Trapped, Source}
 use Rattle.lil_meaning.specs.Steps.{next}
 use Rattle.lil_meaning.specs.Runs.{after}
 use Rattle.lil_mcode.specs.State.{State}
@@ -56,44 +56,44 @@ module _ (ctx : Setting) where
   open ctx use {library}
 
   -- the setting with the home and the stack that a step has come to
-  abbrev at : Home → Stack → Setting
-  at x y = record ctx { home = x; stack = y }
+  abbrev at : List Activation → Home → Stack → Setting
+  at acts x y = record ctx { activations = acts; home = x; stack = y }
 
   abbrev At : Source → List Item → Source
   At s k = record s { items = k; phase = Going }
 
   -- a matched state, with all stacks that don't run
-  abbrev Matched : Home → Stack → Source → List Item → State → ℕ → Around → Type 0
-  Matched x y s k m c a = EachRests (at x y) ctx.parked ctx.kept × Shared (at x y) s m × Ahead (at x y) k Quiet m.place m.stack c a
+  abbrev Matched : List Activation → Home → Stack → Source → List Item → State → ℕ → Around → Type 0
+  Matched acts x y s k m c a = EachRests (at acts x y) ctx.parked ctx.kept × Shared (at acts x y) s m × Ahead (at acts x y) k Quiet m.place m.stack c a
 
   -- the closings of a run that has ended show nothing
   closed_there : (n : ℕ) (end : Option TrapAt) (f : Finish) (s : Source) (run : Run) → s.phase ≡ Closing end → IsLeft f s run → Reaches library s run n
   closed_there n end f s run e gone = at_once library s run n (ap (λ (w : World). w.screen) gone.world ∙ all_screen 1 s.world ∙ sym (closed_screen library end n s e gone.first))
 
   abbrev Claim : ℕ → Type 0
-  Claim n = (x : Home) (y : Stack) (s : Source) (k : List Item) (m : State) (c : ℕ) (a : Around) → Matched x y s k m c a → Reaches library (At s k) (running m s.world) n
+  Claim n = (acts : List Activation) (x : Home) (y : Stack) (s : Source) (k : List Item) (m : State) (c : ℕ) (a : Around) → Matched acts x y s k m c a → Reaches library (At s k) (running m s.world) n
 
-  reaches_landed : (n : ℕ) → Claim n → (x : Home) (y : Stack) → EachRests (at x y) ctx.parked ctx.kept → (p : Phase) (s : Source) (run : Run) (c : ℕ) → s.phase ≡ p → Lands (at x y) p s run c → Reaches library s run n
-  reaches_landed n claim x y rests Going s run c e lands =
+  reaches_landed : (n : ℕ) → Claim n → (acts : List Activation) (x : Home) (y : Stack) → EachRests (at acts x y) ctx.parked ctx.kept → (p : Phase) (s : Source) (run : Run) (c : ℕ) → s.phase ≡ p → Lands (at acts x y) p s run c → Reaches library s run n
+  reaches_landed n claim acts x y rests Going s run c e lands =
       let same : At s s.items ≡ s = ap (λ (p : Phase). let t : Source = record s { phase = p } in t) (sym e) in
       subst (λ (t : Source). Reaches library t run n) same
       (subst (λ (r : Run). Reaches library (At s s.items) r n) (sym lands.is)
-      (claim x y s s.items lands.machine c lands.met.around (rests, lands.met.shared, lands.met.ahead)))
-  reaches_landed n claim x y rests Ended s run c e lands =
+      (claim acts x y s s.items lands.machine c lands.met.around (rests, lands.met.shared, lands.met.ahead)))
+  reaches_landed n claim acts x y rests Ended s run c e lands =
       at_once library s run n (ap (λ (w : World). w.screen) lands.world ∙ ap (λ (t : Source). t.world.screen) (sym (source_rests library n s (ended_rests library s e))))
-  reaches_landed n claim x y rests (Closing None) s run c e lands = closed_there n None Finished s run e lands
-  reaches_landed n claim x y rests (Closing (Some t)) s run c e lands = closed_there n (Some t) (TrappedBy t.kind) s run e lands.is_left
-  reaches_landed n claim x y rests (Trapped t) s run c e lands = absurd lands
+  reaches_landed n claim acts x y rests (Closing None) s run c e lands = closed_there n None Finished s run e lands
+  reaches_landed n claim acts x y rests (Closing (Some t)) s run c e lands = closed_there n (Some t) (TrappedBy t.kind) s run e lands.is_left
+  reaches_landed n claim acts x y rests (Trapped t) s run c e lands = absurd lands
 
   reaches_in : (n : ℕ) → Claim n
-  reaches_in zero x y s k m c a met = at_once library (At s k) (running m s.world) 0 refl
-  reaches_in (suc n) x y s k m c a met =
-      let g = each_step (at x y) s m c a met.1 k met.2 in
+  reaches_in zero acts x y s k m c a met = at_once library (At s k) (running m s.world) 0 refl
+  reaches_in (suc n) acts x y s k m c a met =
+      let g = each_step (at acts x y) s m c a met.1 k met.2 in
       let run : Run = mrun g.steps (running m s.world) in
       ⊎_elim (λ lands.
       reaches_before library (At s k) (running m s.world) run g.steps (suc n) refl
       (reaches_next library (At s k) run n
-      (reaches_landed n (reaches_in n) g.home g.stack (each_rests (at x y) g.home g.stack g.touch g.same ctx.parked ctx.kept met.0) (next library (At s k)).phase (next library (At s k)) run g.later refl lands)))
+      (reaches_landed n (reaches_in n) g.activations g.home g.stack (each_rests (at acts x y) g.activations g.home g.stack g.grown g.touch g.same ctx.parked ctx.kept met.0) (next library (At s k)).phase (next library (At s k)) run g.later refl lands)))
       (λ f. full s k m n g.steps f.kind f.world f.finish) g.lands
     where
       full : (s : Source) (k : List Item) (m : State) (n steps : ℕ) (kind : LimitKind) → (mrun steps (running m s.world)).world ≡ s.world → (mrun steps (running m s.world)).finish ≡ Limited kind
@@ -103,4 +103,4 @@ module _ (ctx : Setting) where
   -- from a matched state the machine shows all that the source means, unless it meets a limit
   pub reaches : (n : ℕ) (s : Source) (k : List Item) (m : State) (c : ℕ) (a : Around) → EachRests ctx ctx.parked ctx.kept → Shared ctx s m → Ahead ctx k Quiet m.place m.stack c a
       → Reaches library (At s k) (running m s.world) n
-  reaches n s k m c a rests shared ahead = reaches_in n ctx.home ctx.stack s k m c a (rests, shared, ahead)
+  reaches n s k m c a rests shared ahead = reaches_in n ctx.activations ctx.home ctx.stack s k m c a (rests, shared, ahead)

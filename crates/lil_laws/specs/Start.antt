@@ -9,7 +9,8 @@ use Rattle.lil_resolved.specs.Depth.{frame_words}
 use Rattle.lil_meaning.specs.Cells.{loaded_at, variables_of, targets_of}
 use Rattle.lil_meaning.specs.World.{World}
 use Rattle.lil_meaning.specs.Items.{Item, Perform, End, Activation, Source, doing}
-use Rattle.lil_meaning.specs.Steps.{owner_of, procedure_of, name_of}
+use Rattle.lil_meaning.specs.Need.{frame_of}
+use Rattle.lil_meaning.specs.Steps.{owner_of, procedure_of, procedures_of, name_of}
 use Rattle.lil_meaning.specs.Runs.{begun, bodies, body_of, body_activations, src}
 use Rattle.lil_asm.specs.declared.instr.Instr.TheVariants.{Ent, Rtn}
 use Rattle.lil_mcode.specs.declared.machine.Event.TheVariants.{Went}
@@ -26,7 +27,7 @@ use Rattle.lil_match.specs.Steps.{advances, at_once, rows_ahead}
 use Rattle.lil_match.specs.Orders.{instr_within}
 use Rattle.lil_match.specs.Splices.{spliced_length, spliced_before, zeros_length}
 use Rattle.lil_laws_stmt.specs.Control.{body_rows}
-use Rattle.lil_laws.specs.Loading.{Compiled, text_of, data_end, entry_for, table_from, numbers_from, data_placed, image}
+use Rattle.lil_laws.specs.Loading.{Compiled, HasEntries, text_of, data_end, entry_for, table_from, numbers_from, data_placed, image}
 use Rattle.lil_laws.specs.Placing.{place_from, variable_from, text_at, table_there, variable_offset, HasData, data_length, has_data, string_fixed, strings_low, home, owner_own, owner_free, mem}
 use Rattle.lil_laws.specs.Whole.{Unlimited, Agrees, limits, still_agrees, follows}
 use Rattle.lil_laws.specs.Reaching.{Reaches, reaches_before, reaches}
@@ -90,26 +91,31 @@ module _ (os : List Compiled) where
         let ctx = setting (frame_for a b) (frames (suc a) bs) in
         let rest : List Item = Perform (End a) ∷ bodies library loaded (suc a) (map number bs) in
         subst (λ (o : Option Resolved). Rows ctx (doing (body_of o) rest) Quiet t.start [] 0 outside) (sym (text b))
-        (body_rows ctx b.its.text.body rest t.start t.end 0 outside t.body (instr_within b.its.code t.end Rtn (length b.its.code) t.leave)
+        (body_rows ctx b.its.text.body rest t.start t.end 0 outside t.body (instr_within b.its.code t.end Rtn t.after t.leave)
         (at_once ctx _ Quiet t.end [] 0 outside
-        (record { quiet = refl; empty = refl; activation = refl; alone = refl; free = refl; end = length b.its.code; leave = t.leave; behind = behind })))
+        (record { quiet = refl; empty = refl; activation = refl; alone = refl; free = refl; end = t.after; leave = t.leave; behind = behind })))
 
     rows_of : (a : ℕ) (b : Body os) (bs : List (Body os)) → Rows (setting (frame_for a b) (frames (suc a) bs)) (bodies library loaded a (map number (b ∷ bs))) Quiet b.its.translates.start [] 0 outside
     rows_of a b [] = body_at a b [] refl
     rows_of a b (c ∷ bs) =
         body_at a b (c ∷ bs)
         (record {
+          body = refl;
           low = omega arith;
           start = c.its.translates.start;
           enter = subst (λ (p : ℕ). IsAt c.its.code p (Ent (frame_words c.its.text.body)) c.its.translates.start) (sym (entry_zero c.its.procedures c.its.body)) c.its.translates.enter;
           then = rows_of (suc a) c bs;
         })
 
+  -- their procedures have their codes
+  abbrev pub Entries : Type 0
+  Entries = (i : ℕ) (o : Compiled) → slice_get os i ≡ Some o → HasEntries o
+
   -- their pointers point to the same
   abbrev pub Pointing : List Shape → Type 0
   Pointing targets = (i : ℕ) (o : Compiled) → slice_get os i ≡ Some o → o.text.targets ≡ targets
 
-  module _ (targets : List Shape) (same : Pointing targets) (all : List Activation) (size : ℕ) (store : List ℕ) (room : data_end 1 os ≤ 65535) (placed : HasData 1 os store) where
+  module _ (targets : List Shape) (same : Pointing targets) (entries : Entries) (all : List Activation) (size : ℕ) (store : List ℕ) (room : data_end 1 os ≤ 65535) (placed : HasData 1 os store) where
     abbrev h : Home
     h = home targets os size store
 
@@ -117,9 +123,25 @@ module _ (os : List Compiled) where
     known a b runs = record {
       known = table_there 1 os b.index b.its b.there;
       named = ap name_of (text b);
+      its = record { owner = suc b.index; procedure = 0; outer = None; slots = [] };
+      runs = runs;
       owner = ap owner_of runs;
       called = ap procedure_of runs;
       entered = record { entry = 0; there = b.its.body };
+      size = sym (ap (λ (m : Option Resolved). frame_of m 0) (text b));
+      procedures = sym (ap procedures_of (text b));
+      codes = λ p q there.
+          let e = entries b.index b.its b.there p q there in
+          record {
+            inner = record (layout_of b.its.strings b.its.text) { frame = frame_words q.body; chain = p ∷ q.around };
+            part = record { offsets = refl; targets = refl; variables = refl; words = refl; strings = refl; procedures = refl };
+            frame = refl;
+            chain = refl;
+            free = refl;
+            entry = e.entry;
+            there = e.there;
+            code = e.row;
+          };
       variables = λ x o t offset shape. (
         ap (λ (m : Option Resolved). shape_at (variables_of m) x) (text b) ∙ ap shape_by shape,
         ap (λ (p : Option Compiled). variable_from (place_from 1 os b.index) (variables_of (option_map text_of p)) x) b.there
@@ -132,16 +154,16 @@ module _ (os : List Compiled) where
       own_targets = ap targets_of (text b) ∙ same b.index b.its b.there;
     }
 
-    each_comes : (a : ℕ) (bs : List (Body os)) → ((i : ℕ) → slice_get all (a + i) ≡ slice_get (body_activations (map number bs)) i)
+    each_comes : (a : ℕ) (bs : List (Body os)) → 0 < a → ((i : ℕ) → slice_get all (a + i) ≡ slice_get (body_activations (map number bs)) i)
         → EachComes library loaded (table_from 1 os) all h (data_end 1 os) (frames a bs)
-    each_comes a [] runs = tt
-    each_comes a (b ∷ bs) runs = (
-      record { known = known a b (ap (slice_get all) (let e : a ≡ a + 0 = omega arith in e) ∙ runs 0); at = refl; mark = omega arith },
-      each_comes (suc a) bs (λ i. ap (slice_get all) (let e : suc a + i ≡ a + suc i = omega arith in e) ∙ runs (suc i)),
+    each_comes a [] later runs = tt
+    each_comes a (b ∷ bs) later runs = (
+      record { known = known a b (ap (slice_get all) (let e : a ≡ a + 0 = omega arith in e) ∙ runs 0); later = later; at = refl; mark = omega arith; chain = refl },
+      each_comes (suc a) bs (omega arith) (λ i. ap (slice_get all) (let e : suc a + i ≡ a + suc i = omega arith in e) ∙ runs (suc i)),
     )
 
 -- these bodies run in their order, and the first one's frame has room
-module _ (os : List Compiled) (targets : List Shape) (same : Pointing os targets) (b : Body os) (bs : List (Body os)) (room : data_end 1 os + frame_words b.its.text.body ≤ 65535) where
+module _ (os : List Compiled) (targets : List Shape) (same : Pointing os targets) (entries : Entries os) (b : Body os) (bs : List (Body os)) (room : data_end 1 os + frame_words b.its.text.body ≤ 65535) where
   abbrev pub begins : State
   begins = image os (suc b.index) (map (number os) bs)
 
@@ -214,10 +236,11 @@ module _ (os : List Compiled) (targets : List Shape) (same : Pointing os targets
       base_is = refl;
       limit_is = refl;
       bodies_are = numbers 1 bs;
-      known = known os targets same (body_activations order) size entered (omega (arith, room)) placed 0 b refl;
+      known = known os targets same entries (body_activations order) size entered (omega (arith, room)) placed 0 b refl;
       callers = tt;
-      comes = each_comes os targets same (body_activations order) size entered (omega (arith, room)) placed 1 bs (λ i. ap (slice_get (body_activations order)) (let e : 1 + i ≡ suc i = omega arith in e));
+      comes = each_comes os targets same entries (body_activations order) size entered (omega (arith, room)) placed 1 bs (omega arith) (λ i. ap (slice_get (body_activations order)) (let e : 1 + i ≡ suc i = omega arith in e));
       stands = (record { mark = omega arith; below = omega arith; most = omega arith; own = λ i l. owner_own targets os size entered (end + i) (omega arith) (omega (arith, l)) }, refl);
+      links = tt;
       room = λ a from below. owner_free targets os size entered a (omega (arith, from));
       low = omega (arith, room);
       high = omega arith;

@@ -3,20 +3,18 @@ use Rattle.std.proofs.Common.{◌≡◌, ◌≢◌, ℕ, zero, suc, ◌+◌, ◌
 use Rattle.std.proofs.lemmas.Bool.{cases_lt}
 use Rattle.lil_base.specs.declared.fault.TrapKind.{TrapKind}
 use Rattle.lil_base.specs.declared.fault.LimitKind.{LimitKind}
-use Rattle.lil_base.specs.declared.fault.LimitKind.TheVariants as limit
 use Rattle.lil_base.specs.declared.fault.TrapAt.{TrapAt}
 use Rattle.lil_resolved.specs.Resolved.{Resolved}
 use Rattle.lil_meaning.specs.World.{World, closing, closings_left, all_closed}
 use Rattle.lil_meaning.specs.Closings.{none_left, all_none, all_some, fewer_left, some_left, closing_shuts}
-use Rattle.lil_meaning.specs.Items.{Item, Level, Phase, Going, Closing, Ended, Trapped, Source, heap_words}
+use Rattle.lil_meaning.specs.Items.{Item, Activation, Level, Phase, Going, Closing, Ended, Trapped, Source}
 use Rattle.lil_meaning.specs.Steps.{next, by_phase, left_by, over, over_by}
 use Rattle.lil_meaning.specs.Runs.{after}
 use Rattle.lil_mcode.specs.State.{Module, State, module_at}
 use Rattle.lil_mcode.specs.Table.{mstep}
 use Rattle.lil_match.specs.Running.{Finish, Running, Finished, TrappedBy, Limited, Broken, Run, mrun, running, react, advanced, unless_over}
 use Rattle.lil_match.specs.Homes.{Home}
-use Rattle.lil_match.specs.Goes.{HasName, Shared, Lands, IsStill, Short, IsFull, Fewer, Goes}
-use Rattle.lil_match.specs.Steps.{no_more}
+use Rattle.lil_match.specs.Goes.{HasName, Shared, Lands, IsStill, Short, IsFull, Goes}
 use Rattle.lil_match.specs.Stutter.{stutter}
 use Rattle.lil_match.specs.Waits.{Stack, Setting, Quiet, Around, Ahead}
 use Rattle.lil_match.specs.Resting.{EachRests, each_rests}
@@ -166,17 +164,17 @@ module _ (ctx : Setting) where
   open ctx use {library, table}
 
   -- the setting with the home and the stack that a step has come to
-  abbrev at : Home → Stack → Setting
-  at x y = record ctx { home = x; stack = y }
+  abbrev at : List Activation → Home → Stack → Setting
+  at acts x y = record ctx { activations = acts; home = x; stack = y }
 
-  -- a limit comes only where the stack at the beginning is short
+  -- a limit comes only where the next state needs more than the store has
   abbrev pub limits : LimitKind → Source → Type 0
-  limits k t = Short ctx.stack t (next library t) k
+  limits k t = Short library ctx.stack.base (next library t) k
 
   -- a matched state, with all stacks that don't run
-  abbrev Matched : Home → Stack → Source → List Item → State → ℕ → Around → Type 0
-  Matched x y s k m c a =
-      EachRests (at x y) ctx.parked ctx.kept × Shared (at x y) s m × Ahead (at x y) k Quiet m.place m.stack c a × Fewer y ctx.stack
+  abbrev Matched : List Activation → Home → Stack → Source → List Item → State → ℕ → Around → Type 0
+  Matched acts x y s k m c a =
+      EachRests (at acts x y) ctx.parked ctx.kept × Shared (at acts x y) s m × Ahead (at acts x y) k Quiet m.place m.stack c a × (y.base ≡ ctx.stack.base)
 
   -- After so many steps of the machine, from a state of the meaning with so many jumps owed: some later state agrees, one that is far
   -- enough.
@@ -206,23 +204,23 @@ module _ (ctx : Setting) where
   -- what is claimed of so many steps, from each matched state whose items have a property
   abbrev Claim : ℕ → (List Item → Type 0) → Type 0
   Claim steps P =
-      (x : Home) (y : Stack) (s : Source) (k : List Item) (m : State) (c : ℕ) (a : Around) → Matched x y s k m c a → P k → Follows (record s { items = k; phase = Going }) (running m s.world) steps c
+      (acts : List Activation) (x : Home) (y : Stack) (s : Source) (k : List Item) (m : State) (c : ℕ) (a : Around) → Matched acts x y s k m c a → P k → Follows (record s { items = k; phase = Going }) (running m s.world) steps c
 
-  landed : (steps : ℕ) (P : List Item → Type 0) → Claim steps P → (x : Home) (y : Stack) → EachRests (at x y) ctx.parked ctx.kept → Fewer y ctx.stack → (p : Phase) (s : Source) (run : Run) (c : ℕ) → s.phase ≡ p
-      → Lands (at x y) p s run c → P s.items → Follows s run steps c
-  landed steps P claim x y rests fewer Going s run c e lands has =
+  landed : (steps : ℕ) (P : List Item → Type 0) → Claim steps P → (acts : List Activation) (x : Home) (y : Stack) → EachRests (at acts x y) ctx.parked ctx.kept → y.base ≡ ctx.stack.base → (p : Phase) (s : Source) (run : Run) (c : ℕ) → s.phase ≡ p
+      → Lands (at acts x y) p s run c → P s.items → Follows s run steps c
+  landed steps P claim acts x y rests based Going s run c e lands has =
       let same : record s { items = s.items; phase = Going } ≡ s = ap (λ (p : Phase). let t : Source = record s { phase = p } in t) (sym e) in
       subst (λ (t : Source). Follows t run steps c) same
       (subst (λ (r : Run). Follows (record s { items = s.items; phase = Going }) r steps c) (sym lands.is)
-      (claim x y s s.items lands.machine c lands.met.around (rests, lands.met.shared, lands.met.ahead, fewer) has))
-  landed steps P claim x y rests fewer Ended s run c e lands has =
+      (claim acts x y s s.items lands.machine c lands.met.around (rests, lands.met.shared, lands.met.ahead, based) has))
+  landed steps P claim acts x y rests based Ended s run c e lands has =
       over_follows s run steps c (agree table limits s run Finished lands.world lands.finish e) (ended_rests library s e) (run_over run Finished lands.finish (λ f. cc))
-  landed steps P claim x y rests fewer (Closing None) s run c e lands has =
+  landed steps P claim acts x y rests based (Closing None) s run c e lands has =
       let closed : Source = record s { world = all_closed 1 s.world; phase = Ended } in
       let is = is_closed library None (closings_left 1 s.world) s e lands.first refl in
       later_follows s closed run steps c is.steps is.is
       (over_follows closed run steps c (agree table limits closed run Finished lands.world lands.finish refl) (ended_rests library closed refl) (run_over run Finished lands.finish (λ f. cc)))
-  landed steps P claim x y rests fewer (Closing (Some t)) s run c e lands has =
+  landed steps P claim acts x y rests based (Closing (Some t)) s run c e lands has =
       let closed : Source = record s { world = all_closed 1 s.world; phase = Trapped t } in
       let gone = lands.is_left in
       let is = is_closed library (Some t) (closings_left 1 s.world) s e gone.first refl in
@@ -230,18 +228,12 @@ module _ (ctx : Setting) where
       (over_follows closed run steps c
       (trapped_agrees table limits closed run t y.frame.procedure y.frame.own refl gone.finish gone.world lands.table_is (ap (module_at table) lands.running_is ∙ lands.known) lands.name lands.procedure)
       (trapped_rests library closed t refl) (run_over run (TrappedBy t.kind) gone.finish (λ g. cc)))
-  landed steps P claim x y rests fewer (Trapped t) s run c e lands has = absurd lands
-
-  -- what is short of fewer frames is short of more
-  shorter : (y : Stack) (s t : Source) (k : LimitKind) → Fewer y ctx.stack → Short y s t k → Short ctx.stack s t k
-  shorter y s t limit.Stack fewer e = fewer.bodies (65535 - heap_words s.objects s.workspaces) e
-  shorter y s t limit.Store fewer e = fewer.all (65518 - heap_words t.objects t.workspaces) e
-  shorter y s t k fewer e = e
+  landed steps P claim acts x y rests based (Trapped t) s run c e lands has = absurd lands
 
   abbrev At : Source → List Item → Source
   At s k = record s { items = k; phase = Going }
 
-  module _ (x : Home) (y : Stack) (s : Source) (k : List Item) (m : State) (c : ℕ) (g : Goes (at x y) s k m (c + 32)) where
+  module _ (acts : List Activation) (x : Home) (y : Stack) (s : Source) (k : List Item) (m : State) (c : ℕ) (g : Goes (at acts x y) s k m (c + 32)) where
     -- fewer steps than those of this step of the source
     short : (steps : ℕ) → steps < g.steps → Follows (At s k) (running m s.world) steps c
     short steps less = record {
@@ -259,59 +251,59 @@ module _ (ctx : Setting) where
     }
 
     -- a limit that was met
-    full : (steps : ℕ) → IsFull y (At s k) (next library (At s k)) (mrun g.steps (running m s.world)) → Fewer y ctx.stack → g.steps ≤ steps
+    full : (steps : ℕ) → IsFull library y.base (At s k) (next library (At s k)) (mrun g.steps (running m s.world)) → y.base ≡ ctx.stack.base → g.steps ≤ steps
         → Follows (At s k) (running m s.world) steps c
-    full steps f fewer more =
+    full steps f based more =
         let over : Run = mrun g.steps (running m s.world) in
         let stays : mrun steps (running m s.world) ≡ over =
         mrun_add g.steps steps (steps - g.steps) (running m s.world) (omega (arith, more)) ∙ run_rests (steps - g.steps) (mrun g.steps (running m s.world)) (run_over (mrun g.steps (running m s.world)) (Limited f.kind) f.finish (λ e. cc)) in
         let finish : (mrun steps (running m s.world)).finish ≡ Limited f.kind = ap (λ (r : Run). r.finish) stays ∙ f.finish in
         record {
           n = 0;
-          agrees = agree table limits (At s k) (mrun steps (running m s.world)) (Limited f.kind) (ap (λ (r : Run). r.world) stays ∙ f.world) finish (shorter y (At s k) (next library (At s k)) f.kind fewer f.short);
+          agrees = agree table limits (At s k) (mrun steps (running m s.world)) (Limited f.kind) (ap (λ (r : Run). r.world) stays ∙ f.world) finish (subst (λ (n : ℕ). Short library n (next library (At s k)) f.kind) based f.short);
           far = λ u. absurd (u f.kind finish);
         }
 
   -- one step of the source, and the rest by fewer steps or by less that stutters
-  turn : (steps : ℕ) (x : Home) (y : Stack) (s : Source) (k : List Item) (m : State) (c : ℕ) (a : Around) → ((rest : ℕ) → rest < steps → Claim rest (λ i. Unit {0})) → Claim steps (λ i. stutter i < stutter k)
-      → Matched x y s k m c a → Follows (At s k) (running m s.world) steps c
-  turn steps x y s k m c a fewer lighter met =
-      ⊎_elim (λ less. short x y s k m c g steps less) (λ more. ⊎_elim (λ lands. by_lands more lands) (λ f. full x y s k m c g steps f met.3 more) g.lands) (cases_lt steps g.steps)
+  turn : (steps : ℕ) (acts : List Activation) (x : Home) (y : Stack) (s : Source) (k : List Item) (m : State) (c : ℕ) (a : Around) → ((rest : ℕ) → rest < steps → Claim rest (λ i. Unit {0})) → Claim steps (λ i. stutter i < stutter k)
+      → Matched acts x y s k m c a → Follows (At s k) (running m s.world) steps c
+  turn steps acts x y s k m c a fewer lighter met =
+      ⊎_elim (λ less. short acts x y s k m c g steps less) (λ more. ⊎_elim (λ lands. by_lands more lands) (λ f. full acts x y s k m c g steps f met.3 more) g.lands) (cases_lt steps g.steps)
     where
-      g : Goes (at x y) s k m (c + 32)
-      g = each_step (at x y) s m c a met.1 k met.2
+      g : Goes (at acts x y) s k m (c + 32)
+      g = each_step (at acts x y) s m c a met.1 k met.2
 
-      rests : EachRests (at g.home g.stack) ctx.parked ctx.kept
-      rests = each_rests (at x y) g.home g.stack g.touch g.same ctx.parked ctx.kept met.0
+      rests : EachRests (at g.activations g.home g.stack) ctx.parked ctx.kept
+      rests = each_rests (at acts x y) g.activations g.home g.stack g.grown g.touch g.same ctx.parked ctx.kept met.0
 
-      wider : Fewer g.stack ctx.stack
-      wider = record { bodies = λ n e. met.3.bodies n (g.fewer.bodies n e); all = λ n e. met.3.all n (g.fewer.all n e) }
+      based : g.stack.base ≡ ctx.stack.base
+      based = g.same.0 ∙ met.3
 
-      by_lands : g.steps ≤ steps → Lands (at g.home g.stack) (next library (At s k)).phase (next library (At s k)) (mrun g.steps (running m s.world)) g.later → Follows (At s k) (running m s.world) steps c
+      by_lands : g.steps ≤ steps → Lands (at g.activations g.home g.stack) (next library (At s k)).phase (next library (At s k)) (mrun g.steps (running m s.world)) g.later → Follows (At s k) (running m s.world) steps c
       by_lands more lands =
           ⊎_elim (λ (some : 0 < g.steps).
-          longer x y s k m c g steps (steps - g.steps) (omega (arith, more))
-          (landed (steps - g.steps) (λ i. Unit {0}) (fewer (steps - g.steps) (omega (arith, more, some))) g.home g.stack rests wider (next library (At s k)).phase (next library (At s k)) (mrun g.steps (running m s.world)) g.later refl lands tt))
+          longer acts x y s k m c g steps (steps - g.steps) (omega (arith, more))
+          (landed (steps - g.steps) (λ i. Unit {0}) (fewer (steps - g.steps) (omega (arith, more, some))) g.activations g.home g.stack rests based (next library (At s k)).phase (next library (At s k)) (mrun g.steps (running m s.world)) g.later refl lands tt))
           (λ (none : g.steps ≤ 0).
-          longer x y s k m c g steps steps (omega (arith, none))
-          (landed steps (λ i. stutter i < stutter k) lighter g.home g.stack rests wider (next library (At s k)).phase (next library (At s k)) (mrun g.steps (running m s.world)) g.later refl lands (g.falls (omega (arith, none)))))
+          longer acts x y s k m c g steps steps (omega (arith, none))
+          (landed steps (λ i. stutter i < stutter k) lighter g.activations g.home g.stack rests based (next library (At s k)).phase (next library (At s k)) (mrun g.steps (running m s.world)) g.later refl lands (g.falls (omega (arith, none)))))
           (cases_lt 0 g.steps)
 
   -- by the number of steps, and for each by how long the items can stutter
   inner : (bound : ℕ) → ((steps : ℕ) → steps ≤ bound → Claim steps (λ i. Unit {0})) → (most : ℕ) (steps : ℕ) → steps ≤ suc bound → Claim steps (λ i. stutter i < most)
-  inner bound outer zero steps le x y s k m c a met has = absurd (omega arith)
-  inner bound outer (suc most) steps le x y s k m c a met has =
-      turn steps x y s k m c a (λ rest less. outer rest (omega arith))
-      (λ x' y' s' k' m' c' a' met' has'. inner bound outer most steps le x' y' s' k' m' c' a' met' (omega arith)) met
+  inner bound outer zero steps le acts x y s k m c a met has = absurd (omega arith)
+  inner bound outer (suc most) steps le acts x y s k m c a met has =
+      turn steps acts x y s k m c a (λ rest less. outer rest (omega arith))
+      (λ acts' x' y' s' k' m' c' a' met' has'. inner bound outer most steps le acts' x' y' s' k' m' c' a' met' (omega arith)) met
 
   outer : (bound : ℕ) (steps : ℕ) → steps ≤ bound → Claim steps (λ i. Unit {0})
-  outer zero steps le x y s k m c a met has =
+  outer zero steps le acts x y s k m c a met has =
       let e : 0 ≡ steps = omega arith in
       subst (λ (n : ℕ). Follows (At s k) (running m s.world) n c) e
       (record { n = 0; agrees = still_agrees table limits s k (running m s.world) (record { world = refl; finish = refl }); far = λ u. omega arith })
-  outer (suc bound) steps le x y s k m c a met has = inner bound (outer bound) (suc (stutter k)) steps le x y s k m c a met (omega arith)
+  outer (suc bound) steps le acts x y s k m c a met has = inner bound (outer bound) (suc (stutter k)) steps le acts x y s k m c a met (omega arith)
 
   -- from a matched state the machine shows what the source means
   pub follows : (s : Source) (k : List Item) (m : State) (steps c : ℕ) (a : Around) → EachRests ctx ctx.parked ctx.kept → Shared ctx s m → Ahead ctx k Quiet m.place m.stack c a
       → Follows (At s k) (running m s.world) steps c
-  follows s k m steps c a rests shared ahead = outer steps steps (omega arith) ctx.home ctx.stack s k m c a (rests, shared, ahead, no_more ctx.stack) tt
+  follows s k m steps c a rests shared ahead = outer steps steps (omega arith) ctx.activations ctx.home ctx.stack s k m c a (rests, shared, ahead, refl) tt

@@ -12,7 +12,7 @@ use Rattle.lil_resolved.specs.Shapes.{Shape, Word}
 use Rattle.lil_resolved.specs.Resolved.{Designator, Function, Expression, Constant, Taken, One, Two, Short, Apply, kind_of, is_relation, result_kind, right_kind, function_kind}
 use Rattle.lil_resolved.specs.Sound.{takes_two}
 use Rattle.lil_meaning.specs.Cells.{Object, Place, got}
-use Rattle.lil_meaning.specs.Items.{Scalars, Places, Get, OneOf, LeftOf, RightOf, ShortOf, ApplyTo, Item, Value, Evaluate, PlaceOf, Fill, Going, Source}
+use Rattle.lil_meaning.specs.Items.{Scalars, Places, Get, OneOf, LeftOf, RightOf, ShortOf, ApplyTo, Item, Value, Evaluate, Fill, Going, Source}
 use Rattle.lil_meaning.specs.Steps.{next, answered, with_items, applied, one_applied, function_value, current}
 use Rattle.lil_asm.specs.declared.instr.Instr.{Instr}
 use Rattle.lil_asm.specs.declared.instr.Instr.TheVariants.{Liw}

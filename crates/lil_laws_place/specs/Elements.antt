@@ -9,7 +9,7 @@ use Rattle.lil_base.specs.declared.fault.TrapKind.TheVariants as trap
 use Rattle.lil_resolved.specs.Kinds.{Objects, Kind, OfPointer, base_of, is_base, takes_value, compared_as, least, greatest, nat_of, numbers, position}
 use Rattle.lil_resolved.specs.Scalars.{Scalar, ToObject, Nothing, within, scalar_word, ordinal_of}
 use Rattle.lil_resolved.specs.Shapes.{Shape, Absent, Word, Row, words, is_there, part_at, offset, shape_by, shape_at, element_of}
-use Rattle.lil_resolved.specs.Resolved.{Designator, Variable, Held, Field, Element, Follow, Expression, shape_of}
+use Rattle.lil_resolved.specs.Resolved.{Designator, Variable, Held, Field, Element, Follow, Expression}
 use Rattle.lil_resolved.specs.Depth.{place_depth}
 use Rattle.lil_meaning.specs.Cells.{Global, Object, Place, object_place, part_of, got}
 use Rattle.lil_meaning.specs.Items.{Scalars, Places, Part, IndexBy, IndexAt, Pointed, Item, Value, PlaceOf, Fill, Going, Source}

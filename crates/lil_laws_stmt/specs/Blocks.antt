@@ -1,11 +1,11 @@
 -- A block is taken below the stack's limit, and a place gets its address: what NEW and ALLOCATE share.
-use Rattle.std.proofs.Common.{◌≡◌, ℕ, ◌+◌, ◌-◌, ◌<◌, ◌≤◌, ◌⊎◌, inl, inr, Bool, true, false, List, [], ◌∷◌, length, get_or, set, refl, sym, ap, ◌∙◌, subst, ⊎_elim, arith}
-use Rattle.std.specs.Prelude.{◌&&◌}
-use Rattle.std.proofs.lemmas.Bool.{lt-ltb, le-ltb, lt-leb, cases_lt}
+use Rattle.std.proofs.Common.{◌≡◌, ℕ, ◌+◌, ◌-◌, ◌<◌, ◌≤◌, ◌⊎◌, inl, inr, true, List, [], ◌∷◌, length, get_or, set, refl, sym, ap, ◌∙◌, subst, ⊎_elim, arith}
+use Rattle.std.proofs.lemmas.Bool.{lt-ltb, le-ltb, cases_lt}
 use Rattle.lil_base.specs.declared.fault.LimitKind.TheVariants as limit
 use Rattle.lil_resolved.specs.Shapes.{Shape}
 use Rattle.lil_meaning.specs.Cells.{Root, Place, Cells}
 use Rattle.lil_meaning.specs.Items.{Item, Going, Workspace, Source, heap_words}
+use Rattle.lil_meaning.specs.Need.{chain_of}
 use Rattle.lil_meaning.specs.Steps.{next}
 use Rattle.lil_asm.specs.declared.instr.Instr.TheVariants.{Alc}
 use Rattle.lil_mcode.specs.declared.machine.Event.{Event}
@@ -18,10 +18,11 @@ use Rattle.lil_match.specs.Running.{running}
 use Rattle.lil_match.specs.Parts.{yes, no}
 use Rattle.lil_match.specs.Splices.{spliced_length, spliced_before, spliced_there, spliced_after, zeros_length, zeros_word}
 use Rattle.lil_match.specs.Homes.{Fixed, Free, Home, Extends, lives, address, Mem}
-use Rattle.lil_match.specs.Goes.{OwnWords, IsHeap, fits, Shared, Lands, Goes}
+use Rattle.lil_match.specs.Goes.{OwnWords, IsHeap, Shared, Lands, Goes}
+use Rattle.lil_match.specs.Costs.{cost_of, top_low}
 use Rattle.lil_match.specs.Waits.{Setting, frame_of, moved, Quiet, Around, Rows}
 use Rattle.lil_match.specs.Known.{known_kept, each_known, each_comes}
-use Rattle.lil_match.specs.Kept.{first_words, stack_above, stands_kept, rows_kept}
+use Rattle.lil_match.specs.Kept.{first_words, stack_above, stands_kept, chained_kept, rows_kept}
 use Rattle.lil_match.specs.Steps.{advances, at_step, rows_ahead, goes_one_in, goes_full}
 use Rattle.lil_laws_stmt.specs.Painting.{free_fixed}
 
@@ -52,15 +53,12 @@ module _ (ctx : Setting) where
     takes = at_step ctx taking shared.program Alc end row
 
     -- ---- without room
-    pub goes_short : heap_words (next library now).objects (next library now).workspaces ≡ heap_words s.objects s.workspaces + (words + 2) → m.limit - m.top < words + 2
+    pub goes_short : heap_words (next library now).objects (next library now).workspaces ≡ heap_words s.objects s.workspaces + (words + 2) → chain_of library (next library now) ≡ cost_of (ctx.stack.frame ∷ ctx.stack.callers) → m.limit - m.top < words + 2
         → Goes ctx s items (going m start (words ∷ address h place ∷ [])) (c + 1)
-    goes_short more less =
+    goes_short more calls less =
         goes_full ctx s items taking (c + 1) limit.Store
         (takes ∙ yes _ _ _ (lt-ltb (address h place) 65536 (omega (arith, low))) ∙ yes _ _ _ (lt-ltb (m.limit - m.top) (words + 2) less))
-        (subst (λ (n : ℕ). fits (65518 - n) (st.frame ∷ st.bodies) ≡ false) (sym more)
-        (ap (λ (y : Bool). y && fits (65518 - (heap_words s.objects s.workspaces + (words + 2))) st.bodies)
-        (lt-leb (st.frame.at + st.frame.layout.frame) (65518 - (heap_words s.objects s.workspaces + (words + 2)))
-        (omega (arith, less, shared.heap.rest, shared.standing.limit_is, shared.standing.low, words_here.most, words_here.mark)))))
+        (record { less = omega (arith, calls, more, less, shared.heap.rest, shared.standing.limit_is, shared.standing.low, top_low h.owner st.base m.top st.frame st.callers shared.standing.stands) })
         (omega arith)
 
     -- ---- with room
@@ -159,6 +157,7 @@ module _ (ctx : Setting) where
                     callers = each_known ctx.library ctx.loaded ctx.table ctx.activations h x filled.base filled.shape filled.targets fixed_kept st.callers g.callers;
                     comes = each_comes ctx.library ctx.loaded ctx.table ctx.activations h x filled.base filled.shape filled.targets fixed_kept st.base st.bodies g.comes;
                     stands = stands_kept h.owner x.owner st.base m.top st.frame st.callers (λ i from less. filled.owner i (inl (omega (arith, less, roomy)))) g.stands;
+                    links = chained_kept h.shadow x.shadow ctx.activations ctx.activations (λ i b e. e) h.owner st.base m.top st.frame st.callers g.stands (λ i from below. filled.shadow i) g.links;
                     room = λ i from less. filled.owner i (inl (omega (arith, less, roomy))) ∙ g.room i from (omega (arith, less, roomy));
                     low = omega (arith, roomy);
                     high = omega (arith, g.high);
@@ -186,5 +185,4 @@ module _ (ctx : Setting) where
               fixed = fixed_kept;
             })
             (refl, omega arith)
-            (record { bodies = λ n e. e; all = λ n e. e })
             (omega arith)

@@ -1,11 +1,12 @@
 -- The end of a body that others follow: the next one begins.
-use Rattle.std.proofs.Common.{◌≡◌, ℕ, ◌+◌, ◌-◌, ◌<◌, ◌≤◌, ◌⊎◌, inl, inr, Bool, true, false, ◌&&◌, Some, List, [], ◌∷◌, length, map, get_or, refl, sym, ap, ◌∙◌, ⊎_elim, arith, eq-eqb}
-use Rattle.std.specs.Prelude.{nat_le}
-use Rattle.std.proofs.lemmas.Bool.{le-ltb, lt-ltb, lt-leb, cases_lt}
+use Rattle.std.proofs.Common.{◌≡◌, ℕ, ◌+◌, ◌-◌, ◌<◌, ◌≤◌, ◌⊎◌, inl, inr, Some, List, [], ◌∷◌, length, map, get_or, refl, sym, ap, ◌∙◌, subst, ⊎_elim, arith, eq-eqb}
+use Rattle.std.proofs.lemmas.Bool.{le-ltb, lt-ltb, cases_lt}
+use Rattle.std.proofs.lemmas.Option.{slice_get_within}
 use Rattle.lil_base.specs.declared.fault.LimitKind.TheVariants as limit
 use Rattle.lil_resolved.specs.Shapes.{offset}
 use Rattle.lil_meaning.specs.Cells.{Root}
-use Rattle.lil_meaning.specs.Items.{End, Item, Perform, Source, heap_words}
+use Rattle.lil_meaning.specs.Items.{End, Item, Perform, Activation, Going, Source}
+use Rattle.lil_meaning.specs.Need.{chain}
 use Rattle.lil_asm.specs.declared.instr.Instr.TheVariants.{Ent, Rtn}
 use Rattle.lil_mcode.specs.declared.machine.Event.TheVariants.{Went}
 use Rattle.lil_mcode.specs.State.{Module, State, stack_of, module_at}
@@ -16,16 +17,13 @@ use Rattle.lil_match.specs.Running.{running, advanced}
 use Rattle.lil_match.specs.Parts.{yes, no}
 use Rattle.lil_match.specs.Homes.{Of, Own, Fixed, own_fixed, Free, Home, extends_self, Mem, is_word_kept, of_free, scalar_owned}
 use Rattle.lil_match.specs.Splices.{spliced_length, spliced_before, spliced_after, zeros_length}
-use Rattle.lil_match.specs.Goes.{OwnWords, Comes, Shared, fits, Goes, number_of}
+use Rattle.lil_match.specs.Goes.{OwnWords, Linked, Comes, Shared, IsShort, Goes, number_of}
+use Rattle.lil_match.specs.Costs.{known_costs, items_cost}
 use Rattle.lil_match.specs.Waits.{Quiet, outside, Frame, Setting, at_home, with_frames, RowsOf, NextBody}
 use Rattle.lil_match.specs.Known.{known_kept, each_comes}
 use Rattle.lil_match.specs.Kept.{all_above, rows_kept}
 use Rattle.lil_match.specs.Steps.{advances, at_step, rows_ahead, goes_one_in, goes_full, goes_after}
 use Rattle.lil_laws_stmt.specs.Painting.{own_free, free_fixed, of_own, painted, painted_there, painted_beside, Side, Before, Between, Behind', side}
-
-and_later : (a b : Bool) → b ≡ false → (a && b) ≡ false
-and_later true b e = e
-and_later false b e = refl
 
 module _ (ctx : Setting) (f b : Frame) (bs : List Frame) where
   abbrev ending : Setting
@@ -77,24 +75,30 @@ module _ (ctx : Setting) (f b : Frame) (bs : List Frame) where
         at_step beginning begun (record { table_is = shared.program.table_is; known = comes.known.known; running_is = refl; marked_is = shared.program.marked_is }) (Ent b.layout.frame) next.start next.enter
 
     -- ---- without room
-    short_row : (low : ℕ) → nat_le (b.at + b.layout.frame) low ≡ false → fits low (b ∷ bs) ≡ false
-    short_row low e = ap (λ (t : Bool). t && fits low bs) e
-
     pub goes_short : ctx.stack.limit < b.at + b.layout.frame → Goes ending s (Perform (End n) ∷ k) m (c + 32)
     goes_short less =
         ⊎_elim (λ (none : m.limit < m.base + 4).
-        goes_full ending s (Perform (End n) ∷ k) m (c + 32) limit.Stack (leaving ∙ yes _ _ _ (lt-ltb m.limit (m.base + 4) none)) short (omega arith))
+        goes_full ending s (Perform (End n) ∷ k) m (c + 32) limit.Stack (leaving ∙ yes _ _ _ (lt-ltb m.limit (m.base + 4) none)) (short, more) (omega arith))
         (λ (some : m.base + 4 ≤ m.limit).
         goes_after ending s (Perform (End n) ∷ k) m begun (c + 32) (c + 1) (leaves (omega (arith, shared.standing.limit_is, shared.standing.base_is, some)))
         (goes_full ending s (Perform (End n) ∷ k) begun (c + 1) limit.Stack
         (entering
         ∙ no _ _ _ (le-ltb (m.base + b.layout.frame) (m.base + 4) (omega (arith, comes.mark)))
         ∙ yes _ _ _ (lt-ltb m.limit (m.base + b.layout.frame) (omega (arith, shared.standing.limit_is, shared.standing.base_is, comes.at, less))))
-        short (omega arith))
+        (short, more) (omega arith))
         (omega arith)) (cases_lt m.limit (m.base + 4))
       where
-        short : fits (65535 - heap_words s.objects s.workspaces) (b ∷ bs) ≡ false
-        short = short_row (65535 - heap_words s.objects s.workspaces) (lt-leb (b.at + b.layout.frame) (65535 - heap_words s.objects s.workspaces) (omega (arith, less, shared.heap.rest)))
+        calls : chain ctx.library s.loaded s.activations k ≡ (b.layout.frame + 17) + 0
+        calls =
+            ap (λ (l : List ℕ). chain ctx.library l s.activations k) shared.loaded_are
+            ∙ ap (λ (acts : List Activation). chain ctx.library ctx.loaded acts k) shared.activations_are
+            ∙ items_cost beginning k Quiet next.start [] c outside next.then (known_costs ctx.library ctx.loaded ctx.table ctx.activations ctx.home b comes.known, tt)
+
+        short : IsShort ctx.library ctx.stack.base (record s { items = k; phase = Going })
+        short = record { less = omega (arith, less, shared.heap.rest, comes.at, calls) }
+
+        more : 1 < length s.activations
+        more = omega (arith, comes.later, slice_get_within ctx.activations b.activation comes.known.its comes.known.runs, ap length shared.activations_are)
 
     -- ---- with room
     module _ (room : b.at + b.layout.frame ≤ ctx.stack.limit) where
@@ -238,6 +242,7 @@ module _ (ctx : Setting) (f b : Frame) (bs : List Frame) where
                   callers = tt;
                   comes = each_comes ctx.library ctx.loaded ctx.table ctx.activations h x (λ r e. refl) (λ r e. refl) refl fixed_kept ctx.stack.base bs g.comes.1;
                   stands = (record { mark = comes.mark; below = omega (arith, comes.at, g.base_is); most = omega (arith, comes.at, g.base_is); own = λ i l. owner_own (b.at + i) (omega (arith, comes.at)) (omega (arith, l, g.base_is)) }, comes.at);
+                  links = subst (λ (es : List ℕ). Linked x.shadow ctx.activations b.activation b.at es []) (sym comes.chain) tt;
                   room = λ a from below. owner_free a (omega (arith, from, g.base_is)) below;
                   low = omega (arith, g.base_is, comes.at, room);
                   high = g.high;
@@ -265,9 +270,5 @@ module _ (ctx : Setting) (f b : Frame) (bs : List Frame) where
             fixed = fixed_kept;
           })
           (refl, omega arith)
-          (record {
-            bodies = λ n e. and_later (nat_le (b.at + b.layout.frame) n) (fits n bs) e;
-            all = λ n e. and_later (nat_le (f.at + f.layout.frame) n) (fits n (b ∷ bs)) e;
-          })
           (omega arith))
           (omega arith)

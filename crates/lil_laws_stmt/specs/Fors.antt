@@ -209,12 +209,12 @@ record Written (ctx : Setting) (s : Source) (m : State) (n : ℕ) (store : List 
 written_none : (ctx : Setting) (s : Source) (m : State) (n : ℕ) → Shared ctx s m → Written ctx s m n m.store ctx.home
 written_none ctx s m n shared = record { shared = shared; touch = untouched ctx.home ctx.stack.base ctx.stack.limit; rows = λ k p c a le r. r }
 
-written : (ctx : Setting) (s : Source) (m : State) (n : ℕ) {store : List ℕ} {x : Home} → Written ctx s m n store x → (i w : ℕ) → n ≤ i → i < ctx.stack.frame.layout.frame
+written : (ctx : Setting) (s : Source) (m : State) (n : ℕ) {store : List ℕ} {x : Home} → Written ctx s m n store x → (i w : ℕ) → n ≤ i → 0 < i → i < ctx.stack.frame.layout.frame
     → Written ctx s m n (set store (ctx.stack.frame.at + i) w) (shadowed x (ctx.stack.frame.at + i) w)
-written ctx s m n {store} {x} old i w above less =
+written ctx s m n {store} {x} old i w above some less =
     let there : State = record m { store = store } in
     record {
-      shared = shared_shadowed (at_home ctx x) s there old.shared i w less;
+      shared = shared_shadowed (at_home ctx x) s there old.shared i w less some;
       touch = touched ctx.home x (shadowed x (ctx.stack.frame.at + i) w) ctx.stack.base ctx.stack.limit old.touch (touches_shadowed (at_home ctx x) s there old.shared i w less);
       rows = λ k p c a le r. rows_shadowed (at_home ctx x) s there old.shared i w less k Quiet p [] c a (omega (arith, le, above)) (old.rows k p c a le r);
     }
@@ -389,9 +389,9 @@ module _ (ctx : Setting) where
             (omega arith))
             (omega arith)
         by_left (suc u) e =
-            let one = written ctx s m n (written_none ctx s m n shared) n (word_of first) (omega arith) (omega (arith, room)) in
-            let two = written ctx s m n one (n + 1) u (omega arith) (omega (arith, room)) in
-            let three = written ctx s m n two (n + 2) (word_of step) (omega arith) (omega (arith, room)) in
+            let one = written ctx s m n (written_none ctx s m n shared) n (word_of first) (omega arith) (omega arith) (omega (arith, room)) in
+            let two = written ctx s m n one (n + 1) u (omega arith) (omega arith) (omega (arith, room)) in
+            let three = written ctx s m n two (n + 2) (word_of step) (omega arith) (omega arith) (omega (arith, room)) in
             let x : Home = shadowed (shadowed (shadowed h (ctx.stack.frame.at + n) (word_of first)) (ctx.stack.frame.at + (n + 1)) u) (ctx.stack.frame.at + (n + 2)) (word_of step) in
             let store : List ℕ = set (set (set m.store (ctx.stack.frame.at + n) (word_of first)) (ctx.stack.frame.at + (n + 1)) u) (ctx.stack.frame.at + (n + 2)) (word_of step) in
             let begun : State = record m { place = row.turn; stack = []; store = store } in
@@ -457,8 +457,8 @@ module _ (ctx : Setting) where
         by_left (suc u) e fit small =
             let sum : (row.words.now + word_of step) % 65536 ≡ word_of z = row.next_is ∙ omega (arith, word_small (compared_as (base_of kind)) z (has_type (base_of kind) z (ordinal_base (base_of kind) row.round.known.base) fit.0)) in
             let fewer : suc u - 1 ≡ u = omega arith in
-            let one = written ctx s m n (written_none ctx s m n shared) (n + 1) u (omega arith) (omega (arith, room)) in
-            let two = written ctx s m n one n (word_of z) (omega arith) (omega (arith, room)) in
+            let one = written ctx s m n (written_none ctx s m n shared) (n + 1) u (omega arith) (omega arith) (omega (arith, room)) in
+            let two = written ctx s m n one n (word_of z) (omega arith) (omega arith) (omega (arith, room)) in
             let x : Home = shadowed (shadowed h (ctx.stack.frame.at + (n + 1)) u) (ctx.stack.frame.at + n) (word_of z) in
             let store : List ℕ = set (set m.store (ctx.stack.frame.at + (n + 1)) u) (ctx.stack.frame.at + n) (word_of z) in
             let turning : State = record m { place = row.turn; store = store } in

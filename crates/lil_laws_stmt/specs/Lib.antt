@@ -1,6 +1,8 @@
 pub mod Allocations
 pub mod Begins
+pub mod Births
 pub mod Blocks
+pub mod Calls
 pub mod Bodies
 pub mod Cases
 pub mod Changes

@@ -5,9 +5,9 @@ use Rattle.std.proofs.lemmas.Bool.{ne_eqb, cases_lt, cases_Bool, cases_eq}
 use Rattle.lil_resolved.specs.Kinds.{Objects, Kind, OfPointer}
 use Rattle.lil_resolved.specs.Scalars.{Scalar, ToObject}
 use Rattle.lil_resolved.specs.Shapes.{Shape, Absent, Word, words, is_there, part_at, offset, shape_at}
-use Rattle.lil_resolved.specs.Resolved.{Designator, New, shape_of}
+use Rattle.lil_resolved.specs.Resolved.{Designator, New}
 use Rattle.lil_meaning.specs.Cells.{Root, Global, Local, Object, Place, Cells, same_root, object_place, stored, alone, zero_in, zeros_under, targets_of, object_words, loaded_at}
-use Rattle.lil_meaning.specs.Items.{Places, NewAt, Do, Item, Value, PlaceOf, Fill, Perform, Going, Activation, Source, heap_words}
+use Rattle.lil_meaning.specs.Items.{Places, NewAt, Do, Item, Value, Fill, Perform, Going, Activation, Source, heap_words}
 use Rattle.lil_meaning.specs.Steps.{next, owner_of, target_of, made}
 use Rattle.lil_asm.specs.declared.instr.Instr.TheVariants.{Liw}
 use Rattle.lil_mcode.specs.declared.machine.Event.{Event}
@@ -15,14 +15,15 @@ use Rattle.lil_mcode.specs.declared.machine.Event.TheVariants.{Went}
 use Rattle.lil_mcode.specs.State.{State}
 use Rattle.lil_frames.specs.Words.{cleared}
 use Rattle.lil_mcode.specs.Table.{going}
-use Rattle.lil_table.specs.Rows.{Access, access_of}
+use Rattle.lil_table.specs.Rows.{Access}
 use Rattle.lil_match.specs.Parts.{yes, no, part_fits, word_long}
 use Rattle.lil_match.specs.Homes.{Of, Own, Fixed, Free, of_free, Home, extends_self, lives, address, shape_there, Refers, IsWord, is_word_kept, zero_is, Mem, mem_stored, scalar_owned, same_root_eq, same_root_refl}
+use Rattle.lil_match.specs.Costs.{shared_cost}
 use Rattle.lil_match.specs.Goes.{IsHeap, Shared, Goes}
 use Rattle.lil_match.specs.Waits.{Setting, frame_of, laid_out, Quiet, AtPlace, Around, Reach, Rows, HasPlace, Waiting}
 use Rattle.lil_match.specs.Kept.{place_lives}
 use Rattle.lil_match.specs.Closing.{closed}
-use Rattle.lil_match.specs.Steps.{at_once, pushes, lands_on, goes_none, located_goes}
+use Rattle.lil_match.specs.Steps.{pushes, located_goes}
 use Rattle.lil_laws_place.specs.Codes.{inside, addressed, leads}
 use Rattle.lil_laws_stmt.specs.Painting.{of_own, painted, painted_there, painted_beside}
 use Rattle.lil_laws_stmt.specs.Blocks as block
@@ -116,7 +117,7 @@ module _ (ctx : Setting) where
       more = ap (λ (u : Shape). heap_words (s.objects ++ u ∷ []) s.workspaces) target_is ∙ (let e : heap_words (s.objects ++ target ∷ []) s.workspaces ≡ heap_words s.objects s.workspaces + (words target + 2) = omega (arith, objects_more s.objects target) in e)
 
       goes_short : m.limit - m.top < words (shape_at l.scope.targets n) + 2 → Goes ctx s items taking (c + 1)
-      goes_short less = block.goes_short ctx s items k m c a shared place low (words target) row.part.by.0 row.part.by.2.0 row.part.by.2.1 more less
+      goes_short less = block.goes_short ctx s items k m c a shared place low (words target) row.part.by.0 row.part.by.2.0 row.part.by.2.1 more (shared_cost ctx s m shared k _ _ _ _ _ row.then) less
 
       -- ---- with room
       module _ (room : words (shape_at l.scope.targets n) + 2 ≤ m.limit - m.top) where

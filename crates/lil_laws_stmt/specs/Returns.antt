@@ -1,7 +1,7 @@
 -- The end of a procedure: a return to the frame below.
-use Rattle.std.proofs.Common.{◌≡◌, ℕ, ◌+◌, ◌-◌, ◌<◌, ◌≤◌, ◌⊎◌, inl, inr, Bool, true, false, Some, List, [], ◌∷◌, ◌++◌, get_or, refl, sym, ap, ◌∙◌, subst, arith}
-use Rattle.std.specs.Prelude.{is_some, nat_le, ◌&&◌}
-use Rattle.std.proofs.lemmas.Bool.{ne_eqb, lt-ltb, le-leb, leb-true, and_from}
+use Rattle.std.proofs.Common.{◌≡◌, ℕ, ◌+◌, ◌-◌, ◌<◌, ◌≤◌, ◌⊎◌, inl, inr, Some, List, [], ◌∷◌, ◌++◌, get_or, refl, sym, ap, ◌∙◌, subst, arith}
+use Rattle.std.specs.Prelude.{is_some}
+use Rattle.std.proofs.lemmas.Bool.{ne_eqb, lt-ltb, le-leb, and_from}
 use Rattle.lil_resolved.specs.Shapes.{offset}
 use Rattle.lil_meaning.specs.Cells.{Root}
 use Rattle.lil_meaning.specs.Items.{End, Item, Perform, Source}
@@ -12,20 +12,12 @@ use Rattle.lil_table.specs.Rows.{IsAt}
 use Rattle.lil_match.specs.Running.{running, advanced}
 use Rattle.lil_match.specs.Parts.{yes, no}
 use Rattle.lil_match.specs.Homes.{Of, Own, Fixed, own_fixed, Free, Home, extends_self, Mem, is_word_kept}
-use Rattle.lil_match.specs.Goes.{OwnWords, Stands, fits, Shared, Goes}
+use Rattle.lil_match.specs.Goes.{OwnWords, Stands, Shared, Goes}
 use Rattle.lil_match.specs.Waits.{Quiet, Frame, Setting, at_home, with_frames, Rows, RowsOf, Back}
 use Rattle.lil_match.specs.Known.{known_kept, each_known, each_comes}
 use Rattle.lil_match.specs.Kept.{EachAbove, first_words, stands_above, all_above, stands_kept, rows_kept}
 use Rattle.lil_match.specs.Steps.{advances, at_step, rows_ahead, goes_one_in}
 use Rattle.lil_laws_stmt.specs.Painting.{own_free, free_fixed, of_own, painted, painted_there, painted_beside, Side, Before, Between, Behind', side}
-
--- where the lower of two ends doesn't fit, the higher one doesn't
-lower_fits : (low high n : ℕ) (x : Bool) → low ≤ high → (nat_le low n && x) ≡ false → (nat_le high n && x) ≡ false
-lower_fits low high n x le e = by (nat_le high n) refl
-  where
-    by : (b : Bool) → nat_le high n ≡ b → (b && x) ≡ false
-    by false h = refl
-    by true h = sym (ap (λ (y : Bool). y && x) (le-leb low n (omega (arith, le, leb-true high n h)))) ∙ e
 
 module _ (ctx : Setting) (f g : Frame) (gs bs : List Frame) where
   abbrev called : Setting
@@ -142,6 +134,7 @@ module _ (ctx : Setting) (f g : Frame) (gs bs : List Frame) where
                 comes = each_comes ctx.library ctx.loaded ctx.table ctx.activations h x (λ r e. refl) (λ r e. refl) refl fixed_kept ctx.stack.base bs g'.comes;
                 stands = subst (λ (t : ℕ). Stands x.owner base t g gs) (sym g'.frame_is)
                     (stands_kept h.owner x.owner base f.at g gs (λ a from below. beside_is a (inl below)) g'.stands.1);
+                links = g'.links.1;
                 room = λ a from below. room a (omega (arith, from, g'.frame_is)) below (side f.at m.top a);
                 low = omega (arith, g'.frame_is, words.below, g'.low);
                 high = g'.high;
@@ -170,10 +163,6 @@ module _ (ctx : Setting) (f g : Frame) (gs bs : List Frame) where
           fixed = fixed_kept;
         })
         (refl, omega arith)
-        (record {
-          bodies = λ n e. e;
-          all = λ n e. lower_fits (g.at + g.layout.frame) (f.at + f.layout.frame) n (fits n bs) (omega (arith, under.below)) e;
-        })
         (omega arith)
       where
         room : (a : ℕ) → f.at ≤ a → a < ctx.stack.limit → Side f.at m.top a → x.owner a ≡ Free ctx.stack.base

@@ -1,16 +1,16 @@
 -- The rows of WITH: the place of its record is fixed, its statements are done, and it ends.
 use Rattle.std.proofs.Common.{ℕ, suc, ◌+◌, ◌<◌, List, [], ◌∷◌, ◌++◌, length, set, eqb, refl, sym, ap, ◌∙◌, subst, arith, eq-eqb}
 use Rattle.std.proofs.lemmas.Bool.{lt-ltb}
-use Rattle.lil_resolved.specs.Resolved.{Designator, Inside, Statements, shape_of}
+use Rattle.lil_resolved.specs.Resolved.{Designator, Inside, Statements}
 use Rattle.lil_resolved.specs.Shapes.{Shape}
 use Rattle.lil_meaning.specs.Cells.{Place}
-use Rattle.lil_meaning.specs.Items.{Places, Hold, Do, Holding, Item, Value, PlaceOf, Fill, Perform, Source, doing}
+use Rattle.lil_meaning.specs.Items.{Places, Hold, Do, Holding, Item, Value, Fill, Perform, Source, doing}
 use Rattle.lil_asm.specs.declared.instr.Instr.TheVariants.{Slw}
 use Rattle.lil_mcode.specs.declared.machine.Event.{Event}
 use Rattle.lil_mcode.specs.declared.machine.Event.TheVariants.{Went}
 use Rattle.lil_mcode.specs.State.{State}
 use Rattle.lil_mcode.specs.Table.{going}
-use Rattle.lil_table.specs.Rows.{holding, Access, access_of, loop_place}
+use Rattle.lil_table.specs.Rows.{holding, Access, loop_place}
 use Rattle.lil_match.specs.Running.{running}
 use Rattle.lil_match.specs.Parts.{yes}
 use Rattle.lil_match.specs.Homes.{Home, address, shadowed}
@@ -80,7 +80,7 @@ module _ (ctx : Setting) where
           machine = machine;
           is = refl;
           met = record {
-            shared = shared_laid outer (holding ctx.stack.frame.layout t n) (alike_holding ctx.stack.frame.layout t n) s machine (shared_shadowed ctx s m shared n w less);
+            shared = shared_laid outer (holding ctx.stack.frame.layout t n) (alike_holding ctx.stack.frame.layout t n) s machine (shared_shadowed ctx s m shared n w less (omega arith));
             around = around;
             ahead = rows_ahead inner (doing body after) r.kept [] c around
                 (body_rows inner body after r.kept r.end c around r.inner r.within
@@ -104,7 +104,6 @@ module _ (ctx : Setting) where
         })
         (touches_shadowed ctx s m shared n w less)
         (refl, omega arith)
-        (record { bodies = λ n e. e; all = λ n e. e })
         (omega arith))
         (omega arith)
 

@@ -1,17 +1,20 @@
 -- Matched states: the code at hand does the items that are left, the store has the cells, and frames stand one over another. One step of
 -- the source leads from one to the next.
-use Rattle.std.proofs.Common.{◌≡◌, ℕ, ◌+◌, ◌-◌, ◌<◌, ◌≤◌, ◌⊎◌, Bool, true, false, Option, Some, None, List, [], ◌∷◌, length, get_or, map}
-use Rattle.std.specs.Prelude.{slice_get, nat_le, ◌&&◌}
+use Rattle.std.proofs.Common.{◌≡◌, ℕ, ◌+◌, ◌<◌, ◌≤◌, ◌⊎◌, Bool, true, Option, Some, None, List, [], ◌∷◌, length, get_or, map}
+use Rattle.std.specs.Prelude.{slice_get}
 use Rattle.lil_base.specs.declared.fault.LimitKind.{LimitKind}
 use Rattle.lil_base.specs.declared.fault.LimitKind.TheVariants as limit
 use Rattle.lil_base.specs.declared.fault.TrapAt.{TrapAt}
-use Rattle.lil_resolved.specs.Resolved.{Resolved}
+use Rattle.lil_resolved.specs.Resolved.{Procedure, Resolved, procedure_by}
+use Rattle.lil_resolved.specs.Depth.{frame_words}
 use Rattle.lil_resolved.specs.Shapes.{Shape, is_there, shape_at}
 use Rattle.lil_meaning.specs.Cells.{Root, Global, Object, Cells, targets_of, loaded_at}
 use Rattle.lil_meaning.specs.World.{World, all_closed}
 use Rattle.lil_meaning.specs.Items.{Item, Activation, Workspace, Parked, Level, Phase, Going, Closing, Ended, Trapped, Source, heap_words}
-use Rattle.lil_meaning.specs.Steps.{next, owner_of, procedure_of, name_of, procedure_name}
+use Rattle.lil_meaning.specs.Need.{frame_of, chain_of}
+use Rattle.lil_meaning.specs.Steps.{next, owner_of, procedure_of, procedures_of, surrounding, name_of, procedure_name}
 use Rattle.lil_mcode.specs.State.{Module, StackRegisters, Kept, State, stack_of, module_at}
+use Rattle.lil_table.specs.Rows.{Layout, ProcedureRow, exactly}
 use Rattle.lil_match.specs.Running.{Finish, Running, Finished, TrappedBy, Limited, Run, mrun, running}
 use Rattle.lil_match.specs.Homes.{Owner, Own, Fixed, Free, Home, Extends, lives, Mem}
 use Rattle.lil_match.specs.Stutter.{stutter}
@@ -34,11 +37,6 @@ abbrev pub Stands : (ℕ → Owner) → ℕ → ℕ → Frame → List Frame →
 Stands owner base top f [] = OwnWords owner f top × (f.at ≡ base)
 Stands owner base top f (g ∷ gs) = OwnWords owner f top × Stands owner base f.at g gs
 
--- whether bodies that are to run have room below a limit
-abbrev pub fits : ℕ → List Frame → Bool
-fits limit [] = true
-fits limit (b ∷ bs) = nat_le (b.at + b.layout.frame) limit && fits limit bs
-
 abbrev pub number_of : Frame → ℕ
 number_of f = f.number
 
@@ -47,15 +45,71 @@ pub record HasName (procedures : List (ℕ × Option (List ℕ))) (p : ℕ) (nam
   pub entry : ℕ
   pub there : slice_get procedures p ≡ Some (entry, name)
 
+-- ---- activations and their frames
+-- the first list has all that the second has, by the same numbers
+abbrev pub Grows : (more activations : List Activation) → Type 0
+Grows more activations = (i : ℕ) (a : Activation) → slice_get activations i ≡ Some a → slice_get more i ≡ Some a
+
+abbrev pub Among : Frame → List Frame → Type 0
+Among f [] = ⊥
+Among f (g ∷ gs) = (f ≡ g) ⊎ Among f gs
+
+-- The activation around one whose frame begins at a word is that of procedure e, with others around it: it has one of the frames, and that
+-- word says where.
+pub record LinkedTo (shadow : ℕ → ℕ) (activations : List Activation) (a at e : ℕ) (es : List ℕ) (gs : List Frame) : Type 0 where
+  pub to : Frame
+  pub among : Among to gs
+  pub outer : surrounding activations a ≡ Some to.activation
+  pub chain : to.layout.chain ≡ e ∷ es
+  pub word : shadow at ≡ to.at
+
+-- none is around a procedure of the module
+abbrev pub Linked : (ℕ → ℕ) → List Activation → (a at : ℕ) → List ℕ → List Frame → Type 0
+Linked shadow activations a at [] gs = Unit {0}
+Linked shadow activations a at (p ∷ []) gs = Unit {0}
+Linked shadow activations a at (p ∷ e ∷ es) gs = LinkedTo shadow activations a at e es gs
+
+abbrev pub Chained : (ℕ → ℕ) → List Activation → Frame → List Frame → Type 0
+Chained shadow activations f [] = Linked shadow activations f.activation f.at f.layout.chain []
+Chained shadow activations f (g ∷ gs) = Linked shadow activations f.activation f.at f.layout.chain (g ∷ gs) × Chained shadow activations g gs
+
+-- layouts in one module
+pub record IsPart (l m : Layout) : Type 0 where
+  pub offsets : m.offsets ≡ l.offsets
+  pub targets : m.scope.targets ≡ l.scope.targets
+  pub variables : m.scope.variables ≡ l.scope.variables
+  pub words : m.words ≡ l.words
+  pub strings : m.strings ≡ l.strings
+  pub procedures : m.procedures ≡ l.procedures
+
+-- the layout of a procedure's frame, and its code at its entry
+pub record Entered (own : Module) (l : Layout) (p : ℕ) (its : Procedure) : Type 0 where
+  pub inner : Layout
+  pub part : IsPart l inner
+  pub frame : inner.frame ≡ frame_words its.body
+  pub chain : inner.chain ≡ p ∷ its.around
+  pub free : inner.held ≡ []
+  pub entry : ℕ
+  pub there : slice_get own.procedures p ≡ Some (entry, Some its.name)
+  pub code : ProcedureRow (record inner { target = exactly }) own.code its entry
+
+abbrev pub HasCodes : Module → Layout → Type 0
+HasCodes own l = (p : ℕ) (its : Procedure) → procedure_by l.procedures p ≡ Some its → Entered own l p its
+
 module _ (library : List Resolved) (loaded : List ℕ) (table : List Module) (activations : List Activation) (h : Home) where
   -- A frame's module is loaded, its activation runs in it, and its variables live where its layout says. The words of its strings, behind
   -- the variables, never change. Its pointers point to what the home says.
   pub record IsKnown (f : Frame) : Type 0 where
     pub known : module_at table f.number ≡ Some f.own
     pub named : name_of (loaded_at library loaded f.number) ≡ f.own.name
+    pub its : Activation
+    pub runs : slice_get activations f.activation ≡ Some its
     pub owner : owner_of (slice_get activations f.activation) ≡ f.number
     pub called : procedure_of (slice_get activations f.activation) ≡ f.procedure
     pub entered : HasName f.own.procedures f.procedure (procedure_name (loaded_at library loaded f.number) f.procedure)
+    pub size : f.layout.frame ≡ frame_of (loaded_at library loaded f.number) f.procedure
+    pub procedures : f.layout.procedures ≡ procedures_of (loaded_at library loaded f.number)
+    pub codes : HasCodes f.own f.layout
     pub variables : (x offset : ℕ) (t : Shape) → slice_get f.layout.offsets x ≡ Some offset → slice_get f.layout.scope.variables x ≡ Some t
         → (h.shape (Global f.number x) ≡ t) × (h.base (Global f.number x) ≡ f.own.base + offset)
     pub strings : (i : ℕ) → i < length f.layout.strings
@@ -68,11 +122,13 @@ module _ (library : List Resolved) (loaded : List ℕ) (table : List Module) (ac
   EachKnown [] = Unit {0}
   EachKnown (f ∷ fs) = IsKnown f × EachKnown fs
 
-  -- a body that is to run stands at the stack's base
+  -- a body that is to run stands at the stack's base, and isn't the first
   pub record Comes (low : ℕ) (b : Frame) : Type 0 where
     pub known : IsKnown b
+    pub later : 0 < b.activation
     pub at : b.at ≡ low
     pub mark : 4 ≤ b.layout.frame
+    pub chain : b.layout.chain ≡ []
 
   abbrev pub EachComes : ℕ → List Frame → Type 0
   EachComes low [] = Unit {0}
@@ -118,6 +174,7 @@ module _ (ctx : Setting) where
     pub callers : EachKnown library loaded table activations h st.callers
     pub comes : EachComes library loaded table activations h st.base st.bodies
     pub stands : Stands h.owner st.base r.top st.frame st.callers
+    pub links : Chained h.shadow activations st.frame st.callers
     pub room : (a : ℕ) → r.top ≤ a → a < st.limit → h.owner a ≡ Free st.base
     pub low : r.top ≤ st.limit
     pub high : st.limit ≤ 65535
@@ -173,24 +230,23 @@ module _ (ctx : Setting) where
   Lands Ended s run c = IsEnded s run
   Lands (Trapped t) s run c = ⊥
 
--- What is short at a limit, in a state of the source and in the next one: below the objects a body that is to run has no room, or below
--- those of the next state the frame that runs, with an expression stack and its length, has none.
-abbrev pub Short : Stack → Source → Source → LimitKind → Type 0
-Short y s t limit.Stack = fits (65535 - heap_words s.objects s.workspaces) y.bodies ≡ false
-Short y s t limit.Store = fits (65518 - heap_words t.objects t.workspaces) (y.frame ∷ y.bodies) ≡ false
-Short y s t _ = ⊥
+-- What a state of the source needs is more than the store has: what lies below the stack, the calls with an expression stack each, and the
+-- objects.
+pub record IsShort (library : List Resolved) (base : ℕ) (t : Source) : Type 0 where
+  pub less : 65535 < base + chain_of library t + heap_words t.objects t.workspaces
+
+-- the limit of the stack comes only at a call, or at a body behind another: there is more than one activation
+abbrev pub Short : List Resolved → (base : ℕ) → Source → LimitKind → Type 0
+Short library base t limit.Stack = IsShort library base t × (1 < length t.activations)
+Short library base t limit.Store = IsShort library base t
+Short library base t _ = ⊥
 
 -- the machine met a limit, with the same world
-pub record IsFull (y : Stack) (s t : Source) (run : Run) : Type 0 where
+pub record IsFull (library : List Resolved) (base : ℕ) (s t : Source) (run : Run) : Type 0 where
   pub kind : LimitKind
   pub finish : run.finish ≡ Limited kind
   pub world : run.world ≡ s.world
-  pub short : Short y s t kind
-
--- of two stacks the first has no frame more
-pub record Fewer (y st : Stack) : Type 0 where
-  pub bodies : (n : ℕ) → fits n y.bodies ≡ false → fits n st.bodies ≡ false
-  pub all : (n : ℕ) → fits n (y.frame ∷ y.bodies) ≡ false → fits n (st.frame ∷ st.bodies) ≡ false
+  pub short : Short library base t kind
 
 -- what a step of the stack between two words may change: the words between them and their owners, but those that never change, and no root
 -- or workspace that lives
@@ -208,13 +264,14 @@ pub record Touches (h h' : Home) (low high : ℕ) : Type 0 where
 pub record Goes (ctx : Setting) (s : Source) (k : List Item) (m : State) (budget : ℕ) : Type 0 where
   pub steps : ℕ
   pub later : ℕ
+  pub activations : List Activation
   pub home : Home
   pub stack : Stack
   pub quiet : (i : ℕ) → i < steps → IsStill s.world (mrun i (running m s.world))
-  pub lands : Lands (record ctx { home = home; stack = stack }) (next ctx.library (record s { items = k; phase = Going })).phase (next ctx.library (record s { items = k; phase = Going })) (mrun steps (running m s.world)) later
-      ⊎ IsFull ctx.stack (record s { items = k; phase = Going }) (next ctx.library (record s { items = k; phase = Going })) (mrun steps (running m s.world))
+  pub lands : Lands (record ctx { activations = activations; home = home; stack = stack }) (next ctx.library (record s { items = k; phase = Going })).phase (next ctx.library (record s { items = k; phase = Going })) (mrun steps (running m s.world)) later
+      ⊎ IsFull ctx.library ctx.stack.base (record s { items = k; phase = Going }) (next ctx.library (record s { items = k; phase = Going })) (mrun steps (running m s.world))
   pub touch : Touches ctx.home home ctx.stack.base ctx.stack.limit
   pub same : (stack.base ≡ ctx.stack.base) × (stack.limit ≤ ctx.stack.limit)
-  pub fewer : Fewer stack ctx.stack
+  pub grown : Grows activations ctx.activations
   pub cost : steps + later ≤ budget
   pub falls : steps ≡ 0 → stutter (next ctx.library (record s { items = k; phase = Going })).items < stutter k

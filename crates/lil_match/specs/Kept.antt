@@ -2,7 +2,7 @@
 use Rattle.std.proofs.Common.{◌≡◌, ℕ, suc, ◌+◌, ◌<◌, ◌≤◌, inl, inr, true, false, ◌||◌, eqb, List, [], ◌∷◌, ◌++◌, set, get_or, refl, sym, ap, ◌∙◌, subst, ⊎_elim, arith}
 use Rattle.std.proofs.lemmas.Bool.{ne_eqb}
 use Rattle.std.specs.List.{list_any}
-use Rattle.std.specs.Prelude.{Bool}
+use Rattle.std.specs.Prelude.{Bool, Option, Some, None, slice_get}
 use Rattle.lil_resolved.specs.Kinds.{Workspaces, Kind, OfCharacter, OfSet, OfPointer, numbers}
 use Rattle.lil_resolved.specs.Scalars.{Scalar, within}
 use Rattle.lil_resolved.specs.Resolved.{Resolved}
@@ -13,9 +13,10 @@ use Rattle.lil_mcode.specs.State.{Module, StackRegisters, State, stack_of}
 use Rattle.lil_table.specs.Rows.{Layout, holding, Access, OnTop, loop_place}
 use Rattle.lil_match.specs.Parts.{no}
 use Rattle.lil_match.specs.Homes.{word_for, word_kept, refers_kept, Refers, plain_refers, takes_plain, Extends, extends_self, lives, address, shape_there, Owner, Own, Fixed, own_fixed, Home, mem_shadowed, shadowed, replaced}
-use Rattle.lil_match.specs.Waits.{Mode, Quiet, ValueOf, AtPlace, Onward, Part, Around, outside, Frame, frames_of, Setting, at_home, moved, inside_with, with_frames, DatumOn, DataOn, sees, is_of, TurnsTask, Reaches, HasPlace, HasSet, needs, Behind, RowsOf, Rows}
+use Rattle.lil_match.specs.Waits.{Mode, Quiet, ValueOf, AtPlace, Onward, Part, Around, outside, Frame, frames_of, Setting, at_home, renewed, inside_with, with_frames, DatumOn, DataOn, sees, is_of, TurnsTask, Reaches, HasPlace, HasSet, needs, Behind, RowsOf, Rows}
 use Rattle.lil_match.specs.Known.{known_kept, each_known, each_comes}
-use Rattle.lil_match.specs.Goes.{OwnWords, Stands, EachComes, Standing, Shared, Touches}
+use Rattle.lil_meaning.specs.Steps.{outer_of, surrounding}
+use Rattle.lil_match.specs.Goes.{OwnWords, Stands, Grows, Linked, Chained, EachComes, Standing, Shared, Touches}
 
 -- homes that agree on the roots that live and that frames can name, and on the machine's own words from one place to another
 pub record Keeps (h x : Home) (fs : List Frame) (low top : ℕ) : Type 0 where
@@ -71,10 +72,10 @@ pub record IsMet (w v : Part) (r : w.Here) : Type 0 where
   pub part : v.Here
   pub onto : w.onto r ≡ v.onto part
 
-module _ (ctx : Setting) (x : Home) (n low top : ℕ) (keeps : Keeps ctx.home x (frames_of ctx.stack) low top) where
+module _ (ctx : Setting) (acts : List Activation) (x : Home) (n low top : ℕ) (keeps : Keeps ctx.home x (frames_of ctx.stack) low top) where
   open ctx use {home as h}
 
-  place_kept : (b : Access) (place : Place) (t : Shape) (stack below : List ℕ) → HasPlace ctx b place t stack below → HasPlace (moved ctx x n) b place t stack below
+  place_kept : (b : Access) (place : Place) (t : Shape) (stack below : List ℕ) → HasPlace ctx b place t stack below → HasPlace (renewed ctx acts x n) b place t stack below
   place_kept b place t stack below r =
       let alive = place_lives h place t r.living r.there in
       let same = keeps.shape place.root r.seen alive in
@@ -93,10 +94,10 @@ module _ (ctx : Setting) (x : Home) (n low top : ℕ) (keeps : Keeps ctx.home x 
   refers : (k : Kind) (v : Scalar) → Refers h k v → Refers x k v
   refers = refers_kept h x (λ o e. keeps.base (Object o) refl e) (λ o e. keeps.shape (Object o) refl e) keeps.targets keeps.workspaces
 
-  set_kept : (u : Scalar) (stack below : List ℕ) → HasSet ctx u stack below → HasSet (moved ctx x n) u stack below
+  set_kept : (u : Scalar) (stack below : List ℕ) → HasSet ctx u stack below → HasSet (renewed ctx acts x n) u stack below
   set_kept u stack below r = record { fits = r.fits; is = r.is ∙ ap (λ (w : ℕ). w ∷ below) (word OfSet u r.fits tt) }
 
-  datum_kept : (d : Datum) (stack below : List ℕ) → DatumOn ctx d stack below → DatumOn (moved ctx x n) d stack below
+  datum_kept : (d : Datum) (stack below : List ℕ) → DatumOn ctx d stack below → DatumOn (renewed ctx acts x n) d stack below
   datum_kept (Scalars v) stack below r = r
   datum_kept (Opens place high) stack below r =
       let has = place_kept OnTop place (Row (suc high) (Word OfCharacter)) (address h place ∷ below) below r.has in
@@ -105,11 +106,11 @@ module _ (ctx : Setting) (x : Home) (n low top : ℕ) (keeps : Keeps ctx.home x 
   datum_kept (Places place) stack below r = absurd r
   datum_kept (Wholes u) stack below r = absurd r
 
-  data_kept : (ds : List Datum) (stack below : List ℕ) → DataOn ctx ds stack below → DataOn (moved ctx x n) ds stack below
+  data_kept : (ds : List Datum) (stack below : List ℕ) → DataOn ctx ds stack below → DataOn (renewed ctx acts x n) ds stack below
   data_kept [] stack below r = r
   data_kept (d ∷ ds) stack below r = (r.0, datum_kept d r.0 below r.1, data_kept ds stack r.0 r.2)
 
-  met : (t : Mode) (i : Item) (p : ℕ) (stack : List ℕ) (a : Around) → (r : (needs ctx t i p stack a).Here) → IsMet (needs ctx t i p stack a) (needs (moved ctx x n) t i p stack a) r
+  met : (t : Mode) (i : Item) (p : ℕ) (stack : List ℕ) (a : Around) → (r : (needs ctx t i p stack a).Here) → IsMet (needs ctx t i p stack a) (needs (renewed ctx acts x n) t i p stack a) r
   met Quiet (Value (Scalars v)) p stack a r =
       record {
         part = record { kind = r.kind; fits = r.fits; refers = refers r.kind v r.refers; below = r.below; is = r.is ∙ ap (λ (w : ℕ). w ∷ r.below) (word r.kind v r.fits r.refers) };
@@ -296,24 +297,26 @@ keeps_around ctx before x shape n low top less is le keeps =
     }
 
 -- what the rows of items give in another home
-abbrev pub Stays : List Item → Setting → Home → (limit low : ℕ) → Type 0
-Stays k ctx x n low =
+abbrev pub Stays : List Item → Setting → List Activation → Home → (limit low : ℕ) → Type 0
+Stays k ctx acts x n low =
     (t : Mode) (p : ℕ) (stack : List ℕ) (c : ℕ) (a : Around) → Keeps ctx.home x (frames_of ctx.stack) low (ctx.stack.frame.at + loop_place a.taken)
-    → Rows ctx k t p stack c a → Rows (moved ctx x n) k t p stack c a
+    → Rows ctx k t p stack c a → Rows (renewed ctx acts x n) k t p stack c a
 
-abbrev pub Again : List Item → Setting → Home → (limit low : ℕ) → Type 0
-Again k ctx x n low = EachAbove low (frames_of ctx.stack) → Stays k ctx x n low
+abbrev pub Again : List Item → Setting → List Activation → Home → (limit low : ℕ) → Type 0
+Again k ctx acts x n low = EachAbove low (frames_of ctx.stack) → Stays k ctx acts x n low
 
-behind_kept : (k : List Item) (rows : (ctx : Setting) (x : Home) (n low : ℕ) → Again k ctx x n low) (ctx : Setting) (x : Home) (n low c : ℕ) → EachAbove low (frames_of ctx.stack)
+behind_kept : (k : List Item) (acts : List Activation) (rows : (ctx : Setting) (x : Home) (n low : ℕ) → Again k ctx acts x n low) (ctx : Setting) (x : Home) (n low c : ℕ) → EachAbove low (frames_of ctx.stack)
     → Keeps ctx.home x (frames_of ctx.stack) low (ctx.stack.frame.at + 4) → Behind ctx k (RowsOf k) c ctx.stack.callers ctx.stack.bodies
-    → Behind (moved ctx x n) k (RowsOf k) c ctx.stack.callers ctx.stack.bodies
-behind_kept k rows ctx x n low c above keeps r = by ctx.stack.callers ctx.stack.bodies above keeps r
+    → Behind (renewed ctx acts x n) k (RowsOf k) c ctx.stack.callers ctx.stack.bodies
+behind_kept k acts rows ctx x n low c above keeps r = by ctx.stack.callers ctx.stack.bodies above keeps r
   where
     by : (gs bs : List Frame) → EachAbove low (ctx.stack.frame ∷ (gs ++ bs)) → Keeps ctx.home x (ctx.stack.frame ∷ (gs ++ bs)) low (ctx.stack.frame.at + 4) → Behind ctx k (RowsOf k) c gs bs
-        → Behind (moved ctx x n) k (RowsOf k) c gs bs
+        → Behind (renewed ctx acts x n) k (RowsOf k) c gs bs
     by (g ∷ gs) bs above keeps r =
         let from : low ≤ ctx.stack.frame.at + 1 = omega (arith, r.under, above.1.0) in
         record {
+          before = r.before;
+          called = r.called;
           outer = r.outer;
           under = r.under;
           frame = keeps.shadow (ctx.stack.frame.at + 1) from (omega arith) ∙ r.frame;
@@ -324,6 +327,7 @@ behind_kept k rows ctx x n low c above keeps r = by ctx.stack.callers ctx.stack.
         }
     by [] (b ∷ bs) above keeps r =
         record {
+          body = r.body;
           low = r.low;
           start = r.start;
           enter = r.enter;
@@ -333,9 +337,9 @@ behind_kept k rows ctx x n low c above keeps r = by ctx.stack.callers ctx.stack.
     by [] [] above keeps r = r
 
 -- THE law of what is left to do
-pub rows_kept : (k : List Item) (ctx : Setting) (x : Home) (n low : ℕ) → Again k ctx x n low
-rows_kept [] ctx x n low above t p stack c a keeps r = absurd r
-rows_kept (Perform (Looping body) ∷ k) ctx x n low above t p stack c a keeps r =
+pub rows_renewed : (k : List Item) (ctx : Setting) (acts : List Activation) (x : Home) (n low : ℕ) → Again k ctx acts x n low
+rows_renewed [] ctx acts x n low above t p stack c a keeps r = absurd r
+rows_renewed (Perform (Looping body) ∷ k) ctx acts x n low above t p stack c a keeps r =
     let w = r.there in
     record {
       start = r.start;
@@ -352,20 +356,20 @@ rows_kept (Perform (Looping body) ∷ k) ctx x n low above t p stack c a keeps r
         back = w.back;
         again = w.again;
         within = w.within;
-        then = rows_kept k ctx x n low above Quiet w.end [] r.later w.outer
+        then = rows_renewed k ctx acts x n low above Quiet w.end [] r.later w.outer
             (keeps_lower ctx.home x (frames_of ctx.stack) low (ctx.stack.frame.at + loop_place a.taken) (ctx.stack.frame.at + loop_place w.outer.taken) (omega (arith, ap (λ (o : Around). o.taken) w.is)) keeps)
             w.then;
       };
       count = r.count;
     }
-rows_kept (Perform (Turns v kind z step left body) ∷ k) ctx x n low above t p stack c a keeps r =
-    record { start = r.start; jumps = r.jumps; later = r.later; way = r.way; there = by (rows_kept k ctx x n low above) r.there; count = r.count }
+rows_renewed (Perform (Turns v kind z step left body) ∷ k) ctx acts x n low above t p stack c a keeps r =
+    record { start = r.start; jumps = r.jumps; later = r.later; way = r.way; there = by (rows_renewed k ctx acts x n low above) r.there; count = r.count }
   where
     at : ℕ
     at = ctx.stack.frame.at
 
-    by : Stays k ctx x n low → TurnsTask ctx v kind z step left body (Rows ctx k) t r.start stack r.later a
-        → TurnsTask (moved ctx x n) v kind z step left body (Rows (moved ctx x n) k) t r.start stack r.later a
+    by : Stays k ctx acts x n low → TurnsTask ctx v kind z step left body (Rows ctx k) t r.start stack r.later a
+        → TurnsTask (renewed ctx acts x n) v kind z step left body (Rows (renewed ctx acts x n) k) t r.start stack r.later a
     by rest (inl w) = inl (record {
       quiet = w.quiet;
       from = w.from;
@@ -407,7 +411,7 @@ rows_kept (Perform (Turns v kind z step left body) ∷ k) ctx x n low above t p 
               (keeps_lower ctx.home x (frames_of ctx.stack) low (ctx.stack.frame.at + loop_place a.taken) (ctx.stack.frame.at + loop_place w.outer.taken) (omega (arith, inner)) keeps)
               w.then;
         })
-rows_kept (Perform (Holding place) ∷ k) ctx x n low above t p stack c a keeps r =
+rows_renewed (Perform (Holding place) ∷ k) ctx acts x n low above t p stack c a keeps r =
     let w = r.there in
     let inner : a.taken ≡ suc w.outer.taken = ap (λ (o : Around). o.taken) w.around in
     let alive = place_lives ctx.home place w.shape w.living w.there in
@@ -425,22 +429,22 @@ rows_kept (Perform (Holding place) ∷ k) ctx x n low above t p stack c a keeps 
         empty = w.empty;
         outer = w.outer;
         around = w.around;
-        before = moved w.before x n;
+        before = renewed w.before acts x n;
         shape = w.shape;
-        is = ap (λ (c : Setting). moved c x n) w.is;
+        is = ap (λ (c : Setting). renewed c acts x n) w.is;
         room = w.room;
         seen = w.seen;
         living = ap (λ (t : Shape). part_at t place.path) same ∙ w.living;
         there = w.there;
         word = keeps.shadow (ctx.stack.frame.at + loop_place w.outer.taken) (omega (arith, above.0)) (omega (arith, inner)) ∙ w.word ∙ at;
-        then = rows_kept k w.before x n low outer Quiet r.start [] r.later w.outer
+        then = rows_renewed k w.before acts x n low outer Quiet r.start [] r.later w.outer
             (keeps_around ctx w.before x w.shape (loop_place w.outer.taken) low (ctx.stack.frame.at + loop_place a.taken) (w.before.stack.frame.at + loop_place w.outer.taken) w.is
             (omega (arith, inner, frame)) keeps)
             w.then;
       };
       count = r.count;
     }
-rows_kept (Perform (End e) ∷ k) ctx x n low above t p stack c a keeps r =
+rows_renewed (Perform (End e) ∷ k) ctx acts x n low above t p stack c a keeps r =
     let w = r.there in
     record {
       start = r.start;
@@ -455,13 +459,13 @@ rows_kept (Perform (End e) ∷ k) ctx x n low above t p stack c a keeps r =
         free = w.free;
         end = w.end;
         leave = w.leave;
-        behind = behind_kept k (λ y z i l. rows_kept k y z i l) ctx x n low r.later above
+        behind = behind_kept k acts (λ y z i l. rows_renewed k y acts z i l) ctx x n low r.later above
             (keeps_lower ctx.home x (frames_of ctx.stack) low (ctx.stack.frame.at + loop_place a.taken) (ctx.stack.frame.at + 4) (omega arith) keeps) w.behind;
       };
       count = r.count;
     }
-rows_kept (i ∷ k) ctx x n low above t p stack c a keeps r =
-    let m = met ctx x n low (ctx.stack.frame.at + loop_place a.taken) keeps t i r.start stack a r.there.part in
+rows_renewed (i ∷ k) ctx acts x n low above t p stack c a keeps r =
+    let m = met ctx acts x n low (ctx.stack.frame.at + loop_place a.taken) keeps t i r.start stack a r.there.part in
     record {
       start = r.start;
       jumps = r.jumps;
@@ -469,11 +473,15 @@ rows_kept (i ∷ k) ctx x n low above t p stack c a keeps r =
       way = r.way;
       there = record {
         part = m.part;
-        then = subst (λ (o : Onward). Rows (moved ctx x n) k o.mode o.place o.stack r.later a) m.onto
-            (rows_kept k ctx x n low above _ _ _ r.later a keeps r.there.then);
+        then = subst (λ (o : Onward). Rows (renewed ctx acts x n) k o.mode o.place o.stack r.later a) m.onto
+            (rows_renewed k ctx acts x n low above _ _ _ r.later a keeps r.there.then);
       };
       count = r.count;
     }
+
+-- the same with the same activations
+pub rows_kept : (k : List Item) (ctx : Setting) (x : Home) (n low : ℕ) → Again k ctx (ctx.activations) x n low
+rows_kept k ctx x n low = rows_renewed k ctx (ctx.activations) x n low
 
 -- ---- frames
 pub first_words : (owner : ℕ → Owner) (base top : ℕ) (f : Frame) (gs : List Frame) → Stands owner base top f gs → OwnWords owner f top
@@ -524,6 +532,27 @@ loops_fit (Perform (Holding place) ∷ k) ctx t p stack c a mark r =
 loops_fit (Perform (End n) ∷ k) ctx t p stack c a mark r = omega (arith, ap (λ (o : Around). o.taken) r.there.alone, mark)
 loops_fit (i ∷ k) ctx t p stack c a mark r = loops_fit k ctx _ _ _ _ _ mark r.there.then
 
+-- activations stay linked as long as the first words of their frames stay
+linked_kept : (old new : ℕ → ℕ) (acts more : List Activation) → Grows more acts → (a at : ℕ) (es : List ℕ) (gs : List Frame) → new at ≡ old at → Linked old acts a at es gs → Linked new more a at es gs
+linked_kept old new acts more grows a at [] gs same l = tt
+linked_kept old new acts more grows a at (p ∷ []) gs same l = tt
+linked_kept old new acts more grows a at (p ∷ e ∷ es) gs same l =
+    record { to = l.to; among = l.among; outer = outer_kept (slice_get acts a) refl l.outer; chain = l.chain; word = same ∙ l.word }
+  where
+    outer_kept : (o : Option Activation) → slice_get acts a ≡ o → outer_of o ≡ Some l.to.activation → surrounding more a ≡ Some l.to.activation
+    outer_kept None e f = cc
+    outer_kept (Some b) e f = ap outer_of (grows a b e) ∙ f
+
+pub chained_kept : (old new : ℕ → ℕ) (acts more : List Activation) → Grows more acts → (owner : ℕ → Owner) (base top : ℕ) (f : Frame) (gs : List Frame) → Stands owner base top f gs
+    → ((a : ℕ) → base ≤ a → a ≤ f.at → new a ≡ old a) → Chained old acts f gs → Chained new more f gs
+chained_kept old new acts more grows owner base top f [] stands same c =
+    linked_kept old new acts more grows f.activation f.at f.layout.chain [] (same f.at (stands_above owner base top f [] [] stands tt).0 (omega arith)) c
+chained_kept old new acts more grows owner base top f (g ∷ gs) stands same c =
+    let low = first_words owner base f.at g gs stands.1 in (
+      linked_kept old new acts more grows f.activation f.at f.layout.chain (g ∷ gs) (same f.at (stands_above owner base top f (g ∷ gs) [] stands tt).0 (omega arith)) c.0,
+      chained_kept old new acts more grows owner base f.at g gs stands.1 (λ a from below. same a from (omega (arith, below, low.below))) c.1,
+    )
+
 -- ---- one of the running frame's own words is set
 module _ (ctx : Setting) (s : Source) (m : State) (shared : Shared ctx s m) (i w : ℕ) (less : i < ctx.stack.frame.layout.frame) where
   open ctx use {home as h, stack as st}
@@ -553,8 +582,8 @@ module _ (ctx : Setting) (s : Source) (m : State) (shared : Shared ctx s m) (i w
   fixed_kept : (a : ℕ) → h.owner a ≡ Fixed → (h.owner a ≡ Fixed) × (replaced h.shadow at w a ≡ h.shadow a)
   fixed_kept a e = (e, other_word a (λ same. own_fixed (sym own_word ∙ ap h.owner same ∙ e)))
 
-  pub shared_shadowed : Shared (at_home ctx (shadowed ctx.home (ctx.stack.frame.at + i) w)) s (record m { store = set m.store (ctx.stack.frame.at + i) w })
-  shared_shadowed =
+  pub shared_shadowed : 0 < i → Shared (at_home ctx (shadowed ctx.home (ctx.stack.frame.at + i) w)) s (record m { store = set m.store (ctx.stack.frame.at + i) w })
+  shared_shadowed some =
       let g = shared.standing in
       record {
         mem = mem_shadowed h s.cells m.store at w own_word (omega (arith, own_inside.1, g.high)) shared.mem;
@@ -571,6 +600,7 @@ module _ (ctx : Setting) (s : Source) (m : State) (shared : Shared ctx s m) (i w
           callers = each_known ctx.library ctx.loaded ctx.table ctx.activations h (shadowed h at w) (λ r e. refl) (λ r e. refl) refl fixed_kept st.callers g.callers;
           comes = each_comes ctx.library ctx.loaded ctx.table ctx.activations h (shadowed h at w) (λ r e. refl) (λ r e. refl) refl fixed_kept st.base st.bodies g.comes;
           stands = g.stands;
+          links = chained_kept h.shadow (replaced h.shadow at w) ctx.activations ctx.activations (λ j b e. e) h.owner st.base m.top st.frame st.callers g.stands (λ a from below. other_word a (λ e. omega (arith, e, below, some))) g.links;
           room = g.room;
           low = g.low;
           high = g.high;

@@ -1,15 +1,12 @@
 -- What is around the running frame's WITHs: the same but for the records that its layout holds.
-use Rattle.std.proofs.Common.{◌≡◌, ℕ, ◌+◌, ◌-◌, false, inl, inr, ⊎_elim, List, [], ◌∷◌, length, get_or, refl, sym, ap, ◌∙◌, subst, arith}
-use Rattle.std.specs.Prelude.{slice_get, nat_le, ◌&&◌}
-use Rattle.lil_base.specs.declared.fault.LimitKind.{LimitKind}
-use Rattle.lil_base.specs.declared.fault.LimitKind.TheVariants as limit
+use Rattle.std.proofs.Common.{◌≡◌, ℕ, ◌+◌, List, [], ◌∷◌, length, get_or, refl, sym, ap, ◌∙◌, subst, arith}
+use Rattle.std.specs.Prelude.{slice_get}
 use Rattle.lil_resolved.specs.Shapes.{Shape}
-use Rattle.lil_meaning.specs.Items.{Item, Going, Source, heap_words}
-use Rattle.lil_meaning.specs.Steps.{next}
-use Rattle.lil_mcode.specs.State.{State, StackRegisters, stack_of}
+use Rattle.lil_meaning.specs.Items.{Item, Source}
+use Rattle.lil_resolved.specs.Resolved.{Procedure, procedure_by}
+use Rattle.lil_mcode.specs.State.{Module, State, StackRegisters, stack_of}
 use Rattle.lil_table.specs.Rows.{Layout, holding}
-use Rattle.lil_match.specs.Running.{Run}
-use Rattle.lil_match.specs.Goes.{OwnWords, Stands, fits, IsKnown, Standing, Shared, Short, IsFull, Goes}
+use Rattle.lil_match.specs.Goes.{OwnWords, Stands, Linked, Chained, IsPart, HasCodes, IsKnown, Standing, Shared, Goes}
 use Rattle.lil_match.specs.Waits.{Frame, Setting, inside_with}
 
 -- the running frame with another layout
@@ -24,12 +21,36 @@ pub record IsAlike (l m : Layout) : Type 0 where
   pub words : m.words ≡ l.words
   pub strings : m.strings ≡ l.strings
   pub frame : m.frame ≡ l.frame
+  pub procedures : m.procedures ≡ l.procedures
+  pub chain : m.chain ≡ l.chain
 
 pub alike_back : (l m : Layout) → IsAlike l m → IsAlike m l
-alike_back l m a = record { offsets = sym a.offsets; targets = sym a.targets; variables = sym a.variables; words = sym a.words; strings = sym a.strings; frame = sym a.frame }
+alike_back l m a = record { offsets = sym a.offsets; targets = sym a.targets; variables = sym a.variables; words = sym a.words; strings = sym a.strings; frame = sym a.frame; procedures = sym a.procedures; chain = sym a.chain }
 
 pub alike_holding : (l : Layout) (t : Shape) (n : ℕ) → IsAlike l (holding l t n)
-alike_holding l t n = record { offsets = refl; targets = refl; variables = refl; words = refl; strings = refl; frame = refl }
+alike_holding l t n = record { offsets = refl; targets = refl; variables = refl; words = refl; strings = refl; frame = refl; procedures = refl; chain = refl }
+
+-- the codes of procedures are those of any layout in the module
+pub codes_part : (own : Module) (l m : Layout) → IsPart l m → HasCodes own l → HasCodes own m
+codes_part own l m part codes p its is =
+    let e = codes p its (ap (λ (ps : List Procedure). procedure_by ps p) (sym part.procedures) ∙ is) in
+    record {
+      inner = e.inner;
+      part = record {
+        offsets = e.part.offsets ∙ sym part.offsets;
+        targets = e.part.targets ∙ sym part.targets;
+        variables = e.part.variables ∙ sym part.variables;
+        words = e.part.words ∙ sym part.words;
+        strings = e.part.strings ∙ sym part.strings;
+        procedures = e.part.procedures ∙ sym part.procedures;
+      };
+      frame = e.frame;
+      chain = e.chain;
+      free = e.free;
+      entry = e.entry;
+      there = e.there;
+      code = e.code;
+    }
 
 module _ (ctx : Setting) (m : Layout) (alike : IsAlike ctx.stack.frame.layout m) where
   abbrev f : Frame
@@ -42,9 +63,14 @@ module _ (ctx : Setting) (m : Layout) (alike : IsAlike ctx.stack.frame.layout m)
   known_laid k = record {
     known = k.known;
     named = k.named;
+    its = k.its;
+    runs = k.runs;
     owner = k.owner;
     called = k.called;
     entered = k.entered;
+    size = alike.frame ∙ k.size;
+    procedures = alike.procedures ∙ k.procedures;
+    codes = codes_part ctx.stack.frame.own ctx.stack.frame.layout m (record { offsets = alike.offsets; targets = alike.targets; variables = alike.variables; words = alike.words; strings = alike.strings; procedures = alike.procedures }) k.codes;
     variables = λ x o t at typed. k.variables x o t (ap (λ (os : List ℕ). slice_get os x) (sym alike.offsets) ∙ at) (ap (λ (ts : List Shape). slice_get ts x) (sym alike.variables) ∙ typed);
     strings = λ i less.
         let old = k.strings i (omega (arith, less, ap length alike.strings)) in
@@ -64,6 +90,10 @@ module _ (ctx : Setting) (m : Layout) (alike : IsAlike ctx.stack.frame.layout m)
   stands_laid base top [] s = (words_laid top s.0, s.1)
   stands_laid base top (y ∷ gs) s = (words_laid top s.0, s.1)
 
+  links_laid : (gs : List Frame) → Chained ctx.home.shadow ctx.activations ctx.stack.frame gs → Chained ctx.home.shadow ctx.activations (record (ctx.stack.frame) { layout = m }) gs
+  links_laid [] c = subst (λ (es : List ℕ). Linked ctx.home.shadow ctx.activations f.activation f.at es []) (sym alike.chain) c
+  links_laid (y ∷ gs) c = (subst (λ (es : List ℕ). Linked ctx.home.shadow ctx.activations f.activation f.at es (y ∷ gs)) (sym alike.chain) c.0, c.1)
+
   standing_laid : (r : StackRegisters) → Standing ctx r → Standing (with_layout ctx m) r
   standing_laid r s = record {
     frame_is = s.frame_is;
@@ -74,6 +104,7 @@ module _ (ctx : Setting) (m : Layout) (alike : IsAlike ctx.stack.frame.layout m)
     callers = s.callers;
     comes = s.comes;
     stands = stands_laid ctx.stack.base r.top ctx.stack.callers s.stands;
+    links = links_laid ctx.stack.callers s.links;
     room = s.room;
     low = s.low;
     high = s.high;
@@ -93,30 +124,19 @@ module _ (ctx : Setting) (m : Layout) (alike : IsAlike ctx.stack.frame.layout m)
     levels = shared.levels;
   }
 
-  -- the frame is as long
-  frame_laid : (n : ℕ) (bs : List Frame) → fits n (ctx.stack.frame ∷ bs) ≡ false → fits n (record (ctx.stack.frame) { layout = m } ∷ bs) ≡ false
-  frame_laid n bs e = ap (λ (w : ℕ). nat_le (ctx.stack.frame.at + w) n && fits n bs) alike.frame ∙ e
-
-  full_laid : (s t : Source) (run : Run) → IsFull ctx.stack s t run → IsFull (with_layout ctx m).stack s t run
-  full_laid s t run f = record { kind = f.kind; finish = f.finish; world = f.world; short = by f.kind f.short }
-    where
-      by : (kind : LimitKind) → Short ctx.stack s t kind → Short (with_layout ctx m).stack s t kind
-      by limit.Stack e = e
-      by limit.Store e = frame_laid (65518 - heap_words t.objects t.workspaces) ctx.stack.bodies e
-      by _ e = e
-
   -- a step from one is a step from the other
   pub goes_laid : (s : Source) (k : List Item) (x : State) (budget : ℕ) → Goes ctx s k x budget → Goes (with_layout ctx m) s k x budget
   goes_laid s k x budget y = record {
     steps = y.steps;
     later = y.later;
+    activations = y.activations;
     home = y.home;
     stack = y.stack;
     quiet = y.quiet;
-    lands = ⊎_elim (λ l. inl l) (λ f. inr (full_laid (record s { items = k; phase = Going }) (next ctx.library (record s { items = k; phase = Going })) _ f)) y.lands;
+    lands = y.lands;
     touch = y.touch;
     same = y.same;
-    fewer = record { bodies = y.fewer.bodies; all = λ n e. frame_laid n ctx.stack.bodies (y.fewer.all n e) };
+    grown = y.grown;
     cost = y.cost;
     falls = y.falls;
   }
@@ -128,13 +148,13 @@ pub record IsAround (before ctx : Setting) : Type 0 where
   pub alike : IsAlike before.stack.frame.layout layout
 
 pub around_self : (ctx : Setting) → IsAround ctx ctx
-around_self ctx = record { layout = ctx.stack.frame.layout; is = refl; alike = record { offsets = refl; targets = refl; variables = refl; words = refl; strings = refl; frame = refl } }
+around_self ctx = record { layout = ctx.stack.frame.layout; is = refl; alike = record { offsets = refl; targets = refl; variables = refl; words = refl; strings = refl; frame = refl; procedures = refl; chain = refl } }
 
 pub around_more : (before mid ctx : Setting) (t : Shape) (n : ℕ) → ctx ≡ inside_with mid t n → IsAround before mid → IsAround before ctx
 around_more before mid ctx t n is a = record {
   layout = holding a.layout t n;
   is = is ∙ ap (λ (c : Setting). inside_with c t n) a.is;
-  alike = record { offsets = a.alike.offsets; targets = a.alike.targets; variables = a.alike.variables; words = a.alike.words; strings = a.alike.strings; frame = a.alike.frame };
+  alike = record { offsets = a.alike.offsets; targets = a.alike.targets; variables = a.alike.variables; words = a.alike.words; strings = a.alike.strings; frame = a.alike.frame; procedures = a.alike.procedures; chain = a.alike.chain };
 }
 
 pub shared_around : (before ctx : Setting) → IsAround before ctx → (s : Source) (x : State) → Shared ctx s x → Shared before s x

@@ -1,5 +1,7 @@
 pub mod Arithmetic
+pub mod Climbs
 pub mod Closing
+pub mod Costs
 pub mod Goes
 pub mod Homes
 pub mod Kept

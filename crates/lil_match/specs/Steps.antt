@@ -8,7 +8,7 @@ use Rattle.lil_resolved.specs.Depth.{depth, place_depth}
 use Rattle.lil_resolved.specs.Shapes.{is_there}
 use Rattle.lil_meaning.specs.Cells.{Cells, Root, Global, Local, Object}
 use Rattle.lil_meaning.specs.World.{World}
-use Rattle.lil_meaning.specs.Items.{Hole, Evaluate, PlaceOf, Fill, Item, Going, Source}
+use Rattle.lil_meaning.specs.Items.{Hole, Evaluate, PlaceOf, Fill, Item, Activation, Going, Source}
 use Rattle.lil_meaning.specs.Steps.{next}
 use Rattle.lil_asm.specs.declared.instr.Instr.{Instr}
 use Rattle.lil_asm.specs.declared.instr.Instr.TheVariants.{Jmp}
@@ -20,7 +20,7 @@ use Rattle.lil_table.specs.Rows.{IsAt, access_of, PlaceAt, ExpressionAt}
 use Rattle.lil_match.specs.Running.{Run, mrun, running, react, advanced}
 use Rattle.lil_match.specs.Parts.{yes}
 use Rattle.lil_match.specs.Homes.{Home, extends_self, lives, Mem}
-use Rattle.lil_match.specs.Goes.{IsProgram, Shared, GoesOn, Lands, IsStill, Touches, Short, IsFull, Fewer, Goes}
+use Rattle.lil_match.specs.Goes.{IsProgram, Shared, GoesOn, Lands, IsStill, Touches, Short, IsFull, Grows, Goes}
 use Rattle.lil_match.specs.Stutter.{stutter}
 use Rattle.lil_match.specs.Waits.{Stack, Setting, frame_of, laid_out, at_home, Mode, Quiet, ValueOf, AtPlace, Around, Reach, Jumps, AfterJumps, Rows, Ahead, Waiting}
 
@@ -31,9 +31,9 @@ advances m w r e = ap (λ (x : Event × State). react x.0 x.1 (running m w)) e
 pub pushes : (w q : ℕ) (m : State) → length m.stack < 16 → push_row w q m ≡ (Went, going m q (w ∷ m.stack))
 pushes w q m room = yes _ _ _ (lt-ltb (length m.stack) 16 room)
 
--- a stack that stays
-pub no_more : (y : Stack) → Fewer y y
-no_more y = record { bodies = λ n e. e; all = λ n e. e }
+-- activations that stay
+pub grows_self : (acts : List Activation) → Grows acts acts
+grows_self acts i a e = e
 
 -- a home that stays
 pub untouched : (h : Home) (low high : ℕ) → Touches h h low high
@@ -109,7 +109,7 @@ module _ (ctx : Setting) where
   -- within a budget, and so within a larger one
   pub goes_more : (s : Source) (k : List Item) (m : State) (less more : ℕ) → Goes ctx s k m less → less ≤ more → Goes ctx s k m more
   goes_more s k m less more g rises =
-      record { steps = g.steps; later = g.later; home = g.home; stack = g.stack; quiet = g.quiet; lands = g.lands; touch = g.touch; same = g.same; fewer = g.fewer; cost = omega (arith, g.cost, rises); falls = g.falls }
+      record { steps = g.steps; later = g.later; activations = g.activations; home = g.home; stack = g.stack; quiet = g.quiet; lands = g.lands; touch = g.touch; same = g.same; grown = g.grown; cost = omega (arith, g.cost, rises); falls = g.falls }
 
   -- no step of the machine
   pub goes_none : (s : Source) (k : List Item) (m : State) (budget c : ℕ) → LandsAt s k (running m s.world) c → c ≤ budget
@@ -118,10 +118,11 @@ module _ (ctx : Setting) where
     steps = 0;
     later = c;
     quiet = λ i less. absurd (omega arith);
+    activations = ctx.activations;
     home = h;
     stack = st;
     lands = inl lands;
-    fewer = no_more st;
+    grown = grows_self ctx.activations;
     touch = untouched h st.base st.limit;
     same = (refl, omega arith);
     cost = omega (arith, less);
@@ -160,19 +161,24 @@ module _ (ctx : Setting) where
       (omega arith)
       (subst (λ (y : Source). stutter y.items < stutter items) (sym becomes) lighter)
 
-  -- one step, to another home and stack
-  pub goes_one_in : (s : Source) (k : List Item) (m : State) (x : Home) (y : Stack) (budget c : ℕ) (run : Run) → advanced (running m s.world) ≡ run → LandsIn x y s k run c
-      → Touches h x st.base st.limit → (y.base ≡ st.base) × (y.limit ≤ st.limit) → Fewer y st → c + 1 ≤ budget → Goes ctx s k m budget
-  goes_one_in s k m x y budget c run e lands touch same fewer less = record {
+  abbrev pub LandsWith : List Activation → Home → Stack → Source → List Item → Run → ℕ → Type 0
+  LandsWith acts x y s k run c =
+      Lands (record ctx { activations = acts; home = x; stack = y }) (next library (record s { items = k; phase = Going })).phase (next library (record s { items = k; phase = Going })) run c
+
+  -- one step, to another home and stack, with more activations
+  pub goes_one_grown : (s : Source) (k : List Item) (m : State) (acts : List Activation) (x : Home) (y : Stack) (budget c : ℕ) (run : Run) → advanced (running m s.world) ≡ run → LandsWith acts x y s k run c
+      → Touches h x st.base st.limit → (y.base ≡ st.base) × (y.limit ≤ st.limit) → Grows acts ctx.activations → c + 1 ≤ budget → Goes ctx s k m budget
+  goes_one_grown s k m acts x y budget c run e lands touch same grown less = record {
     steps = 1;
     later = c;
+    activations = acts;
     home = x;
     stack = y;
     quiet = quiet;
-    lands = inl (subst (λ (r : Run). LandsIn x y s k r c) (sym e) lands);
+    lands = inl (subst (λ (r : Run). LandsWith acts x y s k r c) (sym e) lands);
     touch = touch;
     same = same;
-    fewer = fewer;
+    grown = grown;
     cost = omega (arith, less);
     falls = λ e. absurd (omega arith);
   }
@@ -181,24 +187,30 @@ module _ (ctx : Setting) where
       quiet zero less = record { world = refl; finish = refl }
       quiet (suc i) less = absurd (omega arith)
 
+  -- one step, to another home and stack
+  pub goes_one_in : (s : Source) (k : List Item) (m : State) (x : Home) (y : Stack) (budget c : ℕ) (run : Run) → advanced (running m s.world) ≡ run → LandsIn x y s k run c
+      → Touches h x st.base st.limit → (y.base ≡ st.base) × (y.limit ≤ st.limit) → c + 1 ≤ budget → Goes ctx s k m budget
+  goes_one_in s k m x y budget c run e lands touch same less = goes_one_grown s k m ctx.activations x y budget c run e lands touch same (grows_self ctx.activations) less
+
   -- one step
   pub goes_one : (s : Source) (k : List Item) (m : State) (budget c : ℕ) (run : Run) → advanced (running m s.world) ≡ run → LandsAt s k run c → c + 1 ≤ budget
       → Goes ctx s k m budget
-  goes_one s k m budget c run e lands less = goes_one_in s k m h st budget c run e lands (untouched h st.base st.limit) (refl, omega arith) (no_more st) less
+  goes_one s k m budget c run e lands less = goes_one_in s k m h st budget c run e lands (untouched h st.base st.limit) (refl, omega arith) less
 
   -- one step to a limit
   pub goes_full : (s : Source) (k : List Item) (m : State) (budget : ℕ) (kind : LimitKind) → mstep m ≡ (Limit kind, m)
-      → Short st (record s { items = k; phase = Going }) (next library (record s { items = k; phase = Going })) kind → 1 ≤ budget → Goes ctx s k m budget
+      → Short library st.base (next library (record s { items = k; phase = Going })) kind → 1 ≤ budget → Goes ctx s k m budget
   goes_full s k m budget kind e short less = record {
     steps = 1;
     later = 0;
+    activations = ctx.activations;
     home = h;
     stack = st;
     quiet = quiet;
-    lands = inr (subst (λ (r : Run). IsFull st (record s { items = k; phase = Going }) (next library (record s { items = k; phase = Going })) r) (sym (advances m s.world (Limit kind, m) e)) (record { kind = kind; finish = refl; world = refl; short = short }));
+    lands = inr (subst (λ (r : Run). IsFull library st.base (record s { items = k; phase = Going }) (next library (record s { items = k; phase = Going })) r) (sym (advances m s.world (Limit kind, m) e)) (record { kind = kind; finish = refl; world = refl; short = short }));
     touch = untouched h st.base st.limit;
     same = (refl, omega arith);
-    fewer = no_more st;
+    grown = grows_self ctx.activations;
     cost = omega (arith, less);
     falls = λ e. absurd (omega arith);
   }
@@ -214,11 +226,12 @@ module _ (ctx : Setting) where
     steps = suc g.steps;
     later = g.later;
     quiet = quiet;
+    activations = g.activations;
     home = g.home;
     stack = g.stack;
-    lands = ⊎_elim (λ l. inl (subst (λ (r : Run). LandsIn g.home g.stack s k (mrun g.steps r) g.later) (sym e) l))
-        (λ f. inr (subst (λ (r : Run). IsFull st (record s { items = k; phase = Going }) (next library (record s { items = k; phase = Going })) (mrun g.steps r)) (sym e) f)) g.lands;
-    fewer = g.fewer;
+    lands = ⊎_elim (λ l. inl (subst (λ (r : Run). LandsWith g.activations g.home g.stack s k (mrun g.steps r) g.later) (sym e) l))
+        (λ f. inr (subst (λ (r : Run). IsFull library st.base (record s { items = k; phase = Going }) (next library (record s { items = k; phase = Going })) (mrun g.steps r)) (sym e) f)) g.lands;
+    grown = g.grown;
     touch = touched h x g.home st.base st.limit first g.touch;
     same = g.same;
     cost = omega (arith, less, g.cost);

@@ -155,6 +155,10 @@ at_home ctx h = record ctx { home = h }
 abbrev pub moved : Setting → Home → ℕ → Setting
 moved ctx x n = record ctx { home = x; stack = record (ctx.stack) { limit = n } }
 
+-- the same with more activations too
+abbrev pub renewed : Setting → List Activation → Home → ℕ → Setting
+renewed ctx more x n = record ctx { activations = more; home = x; stack = record (ctx.stack) { limit = n } }
+
 -- inside of a WITH too: the running frame's layout has its record, of this shape, whose address is in this word
 abbrev pub inside_with : Setting → Shape → ℕ → Setting
 inside_with ctx t n = record ctx { stack = record (ctx.stack) { frame = record (ctx.stack.frame) { layout = holding ctx.stack.frame.layout t n } } }
@@ -797,6 +801,7 @@ module _ (ctx : Setting) where
 
   -- the body that is to run next begins by its ENT, and then come its items
   pub record NextBody (b : Frame) (rest : Reach) (c : ℕ) : Type 0 where
+    pub body : active.procedure ≡ 0
     pub low : b.at ≤ active.at
     pub start : ℕ
     pub enter : IsAt b.own.code (body_entry b.own) (Ent b.layout.frame) start
@@ -804,6 +809,8 @@ module _ (ctx : Setting) where
 
   -- the frame under this one goes on where the mark says, with its own FORs around
   pub record Back (g : Frame) (rest : Reach) (c : ℕ) : Type 0 where
+    pub before : ℕ
+    pub called : active.procedure ≡ suc before
     pub outer : Around
     pub under : g.at + loop_place outer.taken ≤ active.at
     pub frame : h.shadow (active.at + 1) ≡ g.at

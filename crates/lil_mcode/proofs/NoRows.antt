@@ -3,7 +3,7 @@ use Rattle.std.proofs.Common.{◌≡◌, ◌≢◌, ℕ, ◌+◌, ◌/◌, ◌<�
 use Rattle.std.proofs.lemmas.Bool.{cases_lt, eqb-true}
 use Rattle.std.proofs.lemmas.Bool.Decides.{nat_tests}
 use Rattle.lil_asm.specs.declared.instr.Instr.{Instr}
-use Rattle.lil_asm.specs.declared.instr.Instr.TheVariants.{Lew, Sew, Lnw, Snw, Lae, Lan, Mrk, Psm, Cll, Clx, Clf, Cpy, Rst}
+use Rattle.lil_asm.specs.declared.instr.Instr.TheVariants.{Lew, Sew, Lnw, Snw, Lae, Lan, Psm, Clx, Clf, Cpy, Rst}
 use Rattle.lil_asm.specs.Bytes.{word_at, with_byte, with_word, with_two_words, with_byte_word, with_call, row, row_of_digit, row_2, row_6, row_7}
 use Rattle.lil_mcode.specs.State.{Module, State}
 use Rattle.lil_mcode.specs.Table.{bad, act, performed}
@@ -72,15 +72,15 @@ module _ (s : State) (m : Module) where
       (test b 0x2e _ _ (λ e. byte_word_bad Lae (λ n w q. refl) code p)
       (test b 0x2f _ _ (λ e. byte_word_bad Lan (λ n w q. refl) code p) refl)))))))))))))))
 
-  row_6_bad : (b : ℕ) (code : List ℕ) (p : ℕ) → b ≢ 104 → b ≢ 106 → IsBad (row_6 b code p)
+  row_6_bad : (b : ℕ) (code : List ℕ) (p : ℕ) → b ≢ 97 → b ≢ 101 → b ≢ 104 → b ≢ 106 → IsBad (row_6 b code p)
   unfolding row_6
-  row_6_bad b code p ent rtn =
+  row_6_bad b code p mrk cll ent rtn =
       test b 0x60 _ _ (λ e. refl)
-      (test b 0x61 _ _ (λ e. byte_bad Mrk (λ n q. refl) code p)
+      (test b 0x61 _ _ (λ e. absurd (mrk e))
       (test b 0x62 _ _ (λ e. refl)
       (test b 0x63 _ _ (λ e. refl)
       (test b 0x64 _ _ (λ e. word_bad Psm (λ w q. refl) code p)
-      (test b 0x65 _ _ (λ e. byte_word_bad Cll (λ n w q. refl) code p)
+      (test b 0x65 _ _ (λ e. absurd (cll e))
       (test b 0x66 _ _ (λ e. call_bad code p)
       (test b 0x67 _ _ (λ e. word_bad Clf (λ w q. refl) code p)
       (test b 0x68 _ _ (λ e. absurd (ent e))
@@ -114,8 +114,8 @@ module _ (s : State) (m : Module) where
   far_bad b code p low high lal lag = of_digit b 2 code p (omega arith) (row_2_bad b code p low lal lag)
 
   -- calls
-  pub call_row_bad : (b : ℕ) (code : List ℕ) (p : ℕ) → 96 ≤ b → b ≤ 111 → b ≢ 104 → b ≢ 106 → IsBad (row b code p)
-  call_row_bad b code p low high ent rtn = of_digit b 6 code p (omega arith) (row_6_bad b code p ent rtn)
+  pub call_row_bad : (b : ℕ) (code : List ℕ) (p : ℕ) → 96 ≤ b → b ≤ 111 → b ≢ 97 → b ≢ 101 → b ≢ 104 → b ≢ 106 → IsBad (row b code p)
+  call_row_bad b code p low high mrk cll ent rtn = of_digit b 6 code p (omega arith) (row_6_bad b code p mrk cll ent rtn)
 
   -- coroutines
   pub coroutine_bad : (b : ℕ) (code : List ℕ) (p : ℕ) → 123 ≤ b → b ≤ 124 → IsBad (row b code p)

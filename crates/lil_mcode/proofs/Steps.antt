@@ -1,5 +1,5 @@
 -- A step is the row of the instruction that was fetched.
-use Rattle.std.proofs.Common.{◌≡◌, ℕ, zero, suc, ◌+◌, ◌≤◌, ◌&&◌, nat_lt, nat_le, List, [], ◌∷◌, ◌++◌, ◌<◌, length, map, Option, None, Some, slice_get, take, drop, option_map, is_some, refl, sym, ap, ◌∙◌, subst, arith}
+use Rattle.std.proofs.Common.{◌≡◌, ℕ, zero, suc, ◌+◌, ◌≤◌, ◌&&◌, nat_lt, nat_le, List, [], ◌∷◌, ◌++◌, ◌<◌, length, map, Option, None, Some, slice_get, take, drop, option_map, is_some, refl, sym, ap, ◌∙◌, subst, arith, ◌-◌}
 use Rattle.std.proofs.lemmas.Bool.Decides.{nat_tests}
 use Rattle.std.proofs.lemmas.List.{length-map, length-append}
 use Rattle.std.proofs.lemmas.Option.{slice_get-map}
@@ -8,7 +8,7 @@ use Rattle.lil_asm.specs.declared.instr.Instr.TheVariants.{Liw}
 use Rattle.lil_mcode.specs.declared.processor.LoadedModule.{LoadedModule}
 use Rattle.lil_asm.specs.Bytes.{decoded}
 use Rattle.lil_mcode.specs.State.{Module, State, module_at}
-use Rattle.lil_mcode.specs.Table.{act, performed, fetched}
+use Rattle.lil_mcode.specs.Table.{act, performed, fetched, frame_out, link_word}
 use Rattle.lil_mcode.specs.Loaded.{part_of, module_of, loaded_at, Lies, IsPartOf, Runs}
 use Rattle.lil_mcode.specs.Fetch.{code_in, base_in, running_code, based, current}
 
@@ -120,3 +120,8 @@ runs_more loaded more n start size base h =
     let long = length-append loaded more in
     let P : Option LoadedModule → Type 0 = λ o. IsPartOf o start size base in
     (omega arith, subst P (sym (loaded_front loaded more n known)) h.1)
+
+-- a link of a procedure that isn't the module's
+pub link_more : (n : ℕ) (s : State) → 0 < n → link_word n s ≡ frame_out s.store s.frame (n - 1)
+link_more zero s some = absurd (omega arith)
+link_more (suc n) s some = ap (frame_out s.store s.frame) (let e : n ≡ suc n - 1 = omega arith in e)

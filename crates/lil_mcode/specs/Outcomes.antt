@@ -14,7 +14,7 @@ use Rattle.lil_mcode.specs.declared.machine.Event.{Event}
 use Rattle.lil_mcode.specs.declared.machine.Event.TheVariants.{Went, Request, LevelEnded, Trap, Limit, BadCode}
 use Rattle.lil_mcode.specs.Control.{above}
 use Rattle.lil_mcode.specs.State.{Module, State, module_at}
-use Rattle.lil_mcode.specs.Table.{one_more, one_less, address_row, place_row, fetch_row, put_row, move_row, member_row, store_row, going, bad, mstep, act, fetched, performed, result_row, on_one, on_two, on_three, push_row, load_row, jump, chosen_row, begun_row, turn_row, called_trap, trap_row, array_lies, request_row, leave_row, end_row, body_row, return_row}
+use Rattle.lil_mcode.specs.Table.{one_more, one_less, address_row, place_row, fetch_row, put_row, move_row, member_row, store_row, going, bad, mstep, act, fetched, performed, result_row, on_one, on_two, on_three, push_row, load_row, jump, chosen_row, begun_row, turn_row, called_trap, trap_row, array_lies, request_row, leave_row, end_row, body_row, return_row, stacked_row, called_row, link_word, entry_in}
 
 -- a property that each outcome of a row at s has: it goes on, asks with its words on the stack and its array in the store, or changes
 -- nothing
@@ -119,6 +119,13 @@ module _ (s : State) (P : Event × State → Type 0) (p : Holds s P) where
   leave_has : P (leave_row s)
   leave_has = either (s.frame == s.base) _ _ (end_has s.bodies) (return_has _ _ _)
 
+  stacked_has : (ws : List ℕ) (q : ℕ) (rest : List ℕ) → P (stacked_row ws q rest s)
+  stacked_has ws q rest = either (nat_lt s.limit (s.top + length ws)) _ _ (p.limit _) (p.on _)
+
+  called_has : (at q : ℕ) (e : Option ℕ) → P (called_row at q s e)
+  called_has at q None = p.bad
+  called_has at q (Some e) = p.on _
+
   act_has : (i : Instr) (q : ℕ) (m : Module) → P (act i q m s)
   act_has (Liw w) q m = push_has w q
   act_has (Lib w) q m = push_has w q
@@ -185,11 +192,11 @@ module _ (s : State) (P : Event × State → Type 0) (p : Holds s P) where
   act_has (Ent w) q m = either (nat_lt (s.frame + w) s.top) _ _ p.bad (either (nat_lt s.limit (s.frame + w)) _ _ (p.limit _) (p.on _))
   act_has Rtn q m = leave_has
   act_has Sav q m = p.bad
-  act_has (Mrk n) q m = p.bad
+  act_has (Mrk n) q m = stacked_has (link_word n s ∷ 0 ∷ 0 ∷ 0 ∷ []) q s.stack
   act_has Mrf q m = p.bad
   act_has Psh q m = p.bad
   act_has (Psm w) q m = p.bad
-  act_has (Cll n w) q m = p.bad
+  act_has (Cll n w) q m = either (nat_le (s.frame + 8 + w) s.top && (length s.stack == 0)) _ _ (called_has (s.top - w - 4) q (entry_in (module_at s.modules s.running) n)) p.bad
   act_has (Clx v n w) q m = p.bad
   act_has (Clf w) q m = p.bad
   act_has (Cpy v w) q m = p.bad

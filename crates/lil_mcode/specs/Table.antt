@@ -1,5 +1,5 @@
 -- The instruction table: what each instruction does. Bad code is tested before traps, and traps before limits; none of them changes the state.
-use Rattle.std.specs.Prelude.{ℕ, ◌+◌, ◌-◌, ◌*◌, ◌%◌, ℤ, Bool, true, not, List, [], ◌∷◌, length, Option, Some, None, Result, Ok, Err, ◌&&◌, nat_lt, nat_le, ◌==◌, if◌then◌else◌, slice_index, slice_set, is_some, int_lt}
+use Rattle.std.specs.Prelude.{ℕ, zero, suc, ◌+◌, ◌-◌, ◌*◌, ◌%◌, ℤ, Bool, true, not, List, [], ◌∷◌, length, Option, Some, None, Result, Ok, Err, ◌&&◌, nat_lt, nat_le, ◌==◌, if◌then◌else◌, slice_get, slice_index, slice_set, is_some, option_map, int_lt}
 use Rattle.lil_base.specs.Words.{Whole, Cardinal, Integer, sum, difference, product, quotient, remainder, negation, absolute, between, number_of, word_of}
 use Rattle.lil_base.specs.declared.fault.ArithFault.{ArithFault}
 use Rattle.lil_base.specs.Sets.{has, union, minus, meet, apart, span, is_within}
@@ -8,7 +8,7 @@ use Rattle.lil_base.specs.declared.fault.TrapKind.{TrapKind}
 use Rattle.lil_base.specs.declared.fault.TrapKind.TheVariants as trap
 use Rattle.lil_base.specs.declared.fault.LimitKind.TheVariants as limit
 use Rattle.lil_asm.specs.declared.instr.Instr.{Instr}
-use Rattle.lil_asm.specs.declared.instr.Instr.TheVariants.{Liw, Lib, Dup, Drp, Swp, Lis, Llw, Llb, Slw, Slb, Lgw, Lgb, Sgw, Sgb, Lal, Lag, Ldi, Sti, Ldf, Adf, Mov, Mvz, Nlt, Ixc, Ixo, Rgc, Rgi, Cap, Adc, Sbc, Mlc, Dvc, Mdc, Adi, Sbi, Mli, Dvi, Mdi, Ngi, Abi, Uni, Dif, Its, Sym, Sin, Spn, Icl, Ecl, Sle, Not, Equ, Neq, Lsc, Lec, Lsi, Lei, Ent, Rtn, Jmp, Jpf, Jan, Jor, Jms, Jfs, Cas, Fri, Frn, Trp, Alc, Svc}
+use Rattle.lil_asm.specs.declared.instr.Instr.TheVariants.{Liw, Lib, Dup, Drp, Swp, Lis, Llw, Llb, Slw, Slb, Lgw, Lgb, Sgw, Sgb, Lal, Lag, Ldi, Sti, Ldf, Adf, Mov, Mvz, Nlt, Ixc, Ixo, Rgc, Rgi, Cap, Adc, Sbc, Mlc, Dvc, Mdc, Adi, Sbi, Mli, Dvi, Mdi, Ngi, Abi, Uni, Dif, Its, Sym, Sin, Spn, Icl, Ecl, Sle, Not, Equ, Neq, Lsc, Lec, Lsi, Lei, Mrk, Cll, Ent, Rtn, Jmp, Jpf, Jan, Jor, Jms, Jfs, Cas, Fri, Frn, Trp, Alc, Svc}
 use Rattle.lil_mcode.specs.declared.machine.Event.{Event}
 use Rattle.lil_mcode.specs.declared.machine.Event.TheVariants.{Went, Request, LevelEnded, Trap, Limit, BadCode}
 use Rattle.lil_asm.specs.Requests.{request_words}
@@ -232,6 +232,45 @@ abbrev pub trap_row : State → Option TrapKind → Event × State
 trap_row s None = bad s
 trap_row s (Some k) = (Trap k, s)
 
+-- ---- calls
+-- the frame so many static links out
+abbrev pub frame_out : List ℕ → ℕ → ℕ → ℕ
+frame_out store frame zero = frame
+frame_out store frame (suc n) = slice_index store (frame_out store frame n)
+
+-- the first word of a mark: the frame in which the called procedure was declared, or 0 for one of the module
+abbrev pub link_word : ℕ → State → ℕ
+link_word zero s = 0
+link_word (suc n) s = frame_out s.store s.frame n
+
+-- words go to the stack of frames
+abbrev pub stacked_row : List ℕ → ℕ → List ℕ → State → Event × State
+stacked_row ws q rest s =
+    if nat_lt s.limit (s.top + length ws) then (Limit limit.Stack, s)
+    else (Went, record s { place = q; stack = rest; top = s.top + length ws; store = spliced s.store s.top ws })
+
+abbrev pub mark_row : ℕ → ℕ → State → Event × State
+mark_row n q s = stacked_row (link_word n s ∷ 0 ∷ 0 ∷ 0 ∷ []) q s.stack s
+
+-- the entry of a procedure of a module
+abbrev pub its_entry : ℕ × Option (List ℕ) → ℕ
+its_entry p = p.0
+
+abbrev pub entry_in : Option Module → ℕ → Option ℕ
+entry_in None p = None
+entry_in (Some m) p = option_map its_entry (slice_get m.procedures p)
+
+-- a frame begins at a word; its mark says where the return goes on
+abbrev pub called_row : ℕ → ℕ → State → Option ℕ → Event × State
+called_row at q s None = bad s
+called_row at q s (Some e) = (Went, record s { place = e; frame = at; store = spliced s.store (at + 1) (s.frame ∷ q ∷ s.running ∷ []) })
+
+abbrev pub call_row : ℕ → ℕ → ℕ → State → Event × State
+call_row p a q s =
+    if nat_le (s.frame + 8 + a) s.top && (length s.stack == 0)
+    then called_row (s.top - a - 4) q s (entry_in (module_at s.modules s.running) p)
+    else bad s
+
 abbrev pub enter_row : ℕ → ℕ → State → Event × State
 enter_row w q s =
     if nat_lt (s.frame + w) s.top then bad s
@@ -346,6 +385,8 @@ act Lsc q m s = compare_row (less Cardinal) q s s.stack
 act Lec q m s = compare_row (at_most Cardinal) q s s.stack
 act Lsi q m s = compare_row (less Integer) q s s.stack
 act Lei q m s = compare_row (at_most Integer) q s s.stack
+act (Mrk n) q m s = mark_row n q s
+act (Cll p a) q m s = call_row p a q s
 act (Ent w) q m s = enter_row w q s
 act Rtn q m s = leave_row s
 act (Jmp t) q m s = jump m t s s
@@ -360,7 +401,7 @@ act (Frn o t) q m s = again_row m (s.frame + o) t q s
 act (Trp k) q m s = trap_row s (called_trap k)
 act Alc q m s = on_two s s.stack (take_row q s)
 act (Svc r) q m s = request_row r q s (request_words r)
--- the rows of calls, of other frames and modules, and of coroutines aren't built yet
+-- the other rows of calls, and those of other frames and modules and of coroutines aren't built yet
 act _ q m s = bad s
 
 abbrev pub performed : State → Module → Option (Instr × ℕ) → Event × State

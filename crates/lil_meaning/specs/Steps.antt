@@ -1,5 +1,5 @@
 -- One step: the first item becomes what its row shows, or a value goes into the hole of the next item.
-use Rattle.std.specs.Prelude.{ℕ, zero, suc, ◌+◌, ◌-◌, ◌/◌, ℤ, pos, negsuc, ◌+ℤ◌, ◌-ℤ◌, int_lt, nat_abs, Bool, true, false, not, ◌&&◌, ◌||◌, nat_le, List, [], ◌∷◌, ◌++◌, map, length, take, Option, Some, None, option_map, Result, Ok, Err, slice_get, if◌then◌else◌}
+use Rattle.std.specs.Prelude.{ℕ, zero, suc, ◌+◌, ◌-◌, ◌/◌, ℤ, pos, negsuc, ◌+ℤ◌, ◌-ℤ◌, int_lt, nat_abs, Bool, true, false, not, ◌&&◌, ◌||◌, nat_le, List, [], ◌∷◌, ◌++◌, map, length, take, Option, Some, None, option_map, option_and_then, Result, Ok, Err, slice_get, if◌then◌else◌}
 use Rattle.std.specs.List.{list_any}
 use Rattle.lil_base.specs.Words.{Whole, Cardinal, sum, difference, product, quotient, remainder, negation, absolute, whole_rest, is_zero, between}
 use Rattle.lil_base.specs.Traps.{arith_trap}
@@ -14,7 +14,7 @@ use Rattle.lil_base.specs.declared.operator.TwoOp.TheVariants.{Equal, Unequal, L
 use Rattle.lil_resolved.specs.Kinds.{Kind, OfWhole, OfTruth, OfCharacter, OfEnumeration, OfRange, is_set, is_pointer, nat_of, position}
 use Rattle.lil_resolved.specs.Members.{same_members, included, is_in, united, without, shared_members, unshared, from_to}
 use Rattle.lil_resolved.specs.Scalars.{Scalar, Number, Truth, Character, SetOf, ToObject, ToWorkspace, Nothing, same_reference, within, scalar_word, value_with, ordinal_of, truth_number, truth_of, members_of}
-use Rattle.lil_resolved.specs.Resolved.{Designator, Variable, Held, Field, Element, Follow, Function, Abs, Cap, Chr, Odd, Ord, Val, Expression, Constant, Taken, One, Two, Short, Apply, With, WithSpan, Argument, ByValue, OfArray, OfText, Label, Statement, Assign, Copy, Text, Change, Member, New, Allocate, Request, If, Case, While, Repeat, Loop, Exit, Halt, Return, For, Inside, Statements, Arms, NoElse, Else, Arm, Procedure, Resolved, counted_as}
+use Rattle.lil_resolved.specs.Resolved.{Designator, Variable, Held, Field, Element, Follow, Function, Abs, Cap, Chr, Odd, Ord, Val, Expression, Constant, Taken, One, Two, Short, Apply, With, WithSpan, Argument, ByValue, OfArray, OfText, Label, Statement, Assign, Copy, Text, Change, Member, New, Allocate, Request, If, Case, While, Repeat, Loop, Exit, Halt, Return, Call, For, Inside, Statements, Arms, NoElse, Else, Arm, Procedure, Resolved, procedure_by, counted_as}
 use Rattle.lil_resolved.specs.Shapes.{Shape, shape_at}
 use Rattle.lil_meaning.specs.Cells.{Cells, Global, Place, under, part_of, object_place, stored, got, alone, text_under, zeros_under, targets_of, loaded_at}
 use Rattle.lil_meaning.specs.World.{World, Given, Single, Characters, serve, closing}
@@ -378,6 +378,43 @@ fill library (Scalars v) h k s = filled library h v k s
 fill library (Places p) h k s = filled_place library h p k s
 fill library _ h k s = s
 
+-- ---- calls
+-- the activation around another one
+abbrev pub outer_of : Option Activation → Option ℕ
+outer_of None = None
+outer_of (Some a) = a.outer
+
+abbrev pub surrounding : List Activation → ℕ → Option ℕ
+surrounding acts a = outer_of (slice_get acts a)
+
+-- the activation so many levels out of another one
+abbrev pub level_out : List Activation → ℕ → ℕ → Option ℕ
+level_out acts a zero = Some a
+level_out acts a (suc n) = option_and_then (surrounding acts) (level_out acts a n)
+
+-- that around a called procedure which is declared so many levels out
+abbrev pub declaring : List Activation → ℕ → ℕ → Option ℕ
+declaring acts a zero = None
+declaring acts a (suc n) = level_out acts a n
+
+abbrev pub procedures_of : Option Resolved → List Procedure
+procedures_of None = []
+procedures_of (Some m) = m.procedures
+
+-- a procedure begins: its activation, its statements and its end
+abbrev pub entered : Option Procedure → Activation → List Item → Source → Source
+entered None a k s = s
+entered (Some q) a k s = record s { activations = s.activations ++ a ∷ []; items = doing q.body (Perform (End (length s.activations)) ∷ k) }
+
+-- the activation of a procedure that the one at hand calls
+abbrev pub called_by : List Activation → (owner here p n : ℕ) → Activation
+called_by acts owner here p n = record { owner = owner; procedure = p; outer = declaring acts here n; slots = [] }
+
+abbrev pub called : List Resolved → (p n : ℕ) → List Item → Source → Source
+called library p n k s =
+    entered (procedure_by (procedures_of (loaded_at library s.loaded (owner_of (slice_get s.activations (current k))))) p)
+    (called_by s.activations (owner_of (slice_get s.activations (current k))) (current k) p n) k s
+
 abbrev pub did : List Resolved → Statement → List Item → Source → Source
 did library (Assign d kind e) k s = with_items s (PlaceOf d ∷ Fill (SetTo kind e) ∷ k)
 did library (Copy d from) k s = with_items s (PlaceOf d ∷ Fill (CopyTo from) ∷ k)
@@ -395,6 +432,7 @@ did library (Change down d kind e) k s = with_items s (PlaceOf d ∷ Fill (Chang
 did library (Member out d kind e) k s = with_items s (PlaceOf d ∷ Fill (MemberBy out kind e) ∷ k)
 did library Halt k s = trapped library s trap.Halted
 did library Return k s = with_items s (returned k)
+did library (Call p n) k s = called library p n k s
 did library Exit k s = with_items s (exited k)
 did library (For x kind a b step body) k s = with_items s (Evaluate a ∷ Fill (StartOf x kind b step body) ∷ k)
 

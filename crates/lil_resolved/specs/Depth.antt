@@ -1,6 +1,6 @@
 -- The words that a body takes: those of the expression stack, and those of its frame.
 use Rattle.std.specs.Prelude.{ℕ, ◌+◌, max}
-use Rattle.lil_resolved.specs.Resolved.{Designator, Variable, Held, Field, Element, Follow, Function, Odd, Expression, Constant, Taken, One, Two, Short, Apply, With, WithSpan, Statement, Assign, Copy, Text, Change, Member, New, Allocate, Request, If, Case, While, Repeat, Loop, Exit, Halt, Return, For, Inside, Statements, Empty, Then, Arms, NoElse, Else, Arm}
+use Rattle.lil_resolved.specs.Resolved.{Designator, Variable, Held, Field, Element, Follow, Function, Odd, Expression, Constant, Taken, One, Two, Short, Apply, With, WithSpan, Statement, Assign, Copy, Text, Change, Member, New, Allocate, Request, If, Case, While, Repeat, Loop, Exit, Halt, Return, Call, For, Inside, Statements, Empty, Then, Arms, NoElse, Else, Arm}
 
 -- how many words of the expression stack the code of a standard function takes, its argument's included
 abbrev pub function_depth : Function → ℕ
@@ -45,6 +45,7 @@ abbrev mutual
   statement_words Exit = 0
   statement_words Halt = 0
   statement_words Return = 0
+  statement_words (Call p n) = 0
   statement_words (For x k a b step body) = 3 + body_words body
   statement_words (Inside d body) = 1 + body_words body
 

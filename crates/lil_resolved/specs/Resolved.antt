@@ -1,5 +1,5 @@
 -- Resolved modules: each name is replaced by the thing that it means, and each constant expression by its value.
-use Rattle.std.specs.Prelude.{ℕ, ℤ, Bool, true, false, List, [], ◌∷◌}
+use Rattle.std.specs.Prelude.{ℕ, zero, suc, ℤ, Bool, true, false, List, [], ◌∷◌, Option, None, slice_get}
 use Rattle.lil_base.specs.Words.{Whole, Cardinal}
 use Rattle.lil_base.specs.declared.operator.OneOp.{OneOp}
 use Rattle.lil_base.specs.declared.operator.TwoOp.{TwoOp}
@@ -89,6 +89,8 @@ mutual
     Halt : Statement
     -- RETURN in a body
     Return : Statement
+    -- a call of a procedure without parameters, by its number, which is declared so many levels out; those of the module are 0 levels out
+    Call : (p n : ℕ) → Statement
     -- FOR x := a TO b BY step DO body END, with a variable of a kind
     For : (x : ℕ) (k : Kind) (a b : Expression) (step : ℤ) (body : Statements) → Statement
     -- WITH d DO body END
@@ -110,9 +112,16 @@ abbrev pub in_order : List Statement → Statements
 in_order [] = Empty
 in_order (s ∷ ss) = Then s (in_order ss)
 
--- a procedure, of which there is the name alone yet
+-- a procedure: its name, the procedures around it by their numbers, the innermost first, and its statements
 pub record Procedure : Type 0 where
   pub name : List ℕ
+  pub around : List ℕ
+  pub body : Statements
+
+-- a procedure by its number, from 1
+abbrev pub procedure_by : List Procedure → ℕ → Option Procedure
+procedure_by ps zero = None
+procedure_by ps (suc n) = slice_get ps n
 
 pub record Resolved : Type 0 where
   pub name : List ℕ

@@ -10,7 +10,7 @@ pub use Rattle.lil_resolved.specs.Kinds.{is_base, is_ordinal, is_set, is_whole, 
 use Rattle.lil_resolved.specs.Kinds.{Objects, Workspaces, Kind, OfWhole, OfTruth, OfCharacter, OfSet, OfPointer, base_of, numbers}
 use Rattle.lil_resolved.specs.Scalars.{within, is_literal, scalar_of, ordinal_of}
 use Rattle.lil_resolved.specs.Shapes.{Shape, Word, Row, Scope, with_held, outermost, shape_at, is_there, count_of}
-use Rattle.lil_resolved.specs.Resolved.{Designator, Variable, Held, Field, Element, Follow, Function, Abs, Cap, Chr, Odd, Ord, Val, Expression, Constant, Taken, One, Two, Short, Apply, With, WithSpan, Label, Argument, ByValue, OfArray, OfText, Statement, Assign, Copy, Text, Change, Member, New, Allocate, Request, If, Case, While, Repeat, Loop, Exit, Halt, Return, For, Inside, Statements, Empty, Then, Arms, NoElse, Else, Arm, Resolved, kind_of, right_kind, counted_as, shape_of}
+use Rattle.lil_resolved.specs.Resolved.{Designator, Variable, Held, Field, Element, Follow, Function, Abs, Cap, Chr, Odd, Ord, Val, Expression, Constant, Taken, One, Two, Short, Apply, With, WithSpan, Label, Argument, ByValue, OfArray, OfText, Statement, Assign, Copy, Text, Change, Member, New, Allocate, Request, If, Case, While, Repeat, Loop, Exit, Halt, Return, Call, For, Inside, Statements, Empty, Then, Arms, NoElse, Else, Arm, Resolved, kind_of, right_kind, counted_as, shape_of}
 use Rattle.lil_resolved.specs.Depth.{place_depth, depth}
 
 -- an operator takes operands of this kind, and IN a left one
@@ -214,6 +214,7 @@ abbrev mutual
   IsSoundStatement ts looping Exit = looping ≡ true
   IsSoundStatement ts looping Halt = Unit {0}
   IsSoundStatement ts looping Return = Unit {0}
+  IsSoundStatement ts looping (Call p n) = ⊥
   IsSoundStatement ts looping (For x k a b step body) = IsSoundVariable ts x k × IsSoundValue ts a k × IsSoundWhole ts b (base_of k) × IsStep step × IsSoundBody ts looping body
   IsSoundStatement ts looping (Inside d body) = IsSoundHeld ts d × IsSoundBody (with_held ts (shape_of ts d)) looping body
 

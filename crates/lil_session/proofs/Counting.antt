@@ -1,5 +1,5 @@
 -- What the machine did, by the answer of its run.
-use Rattle.std.proofs.Common.{◌≡◌, ◌≢◌, inl, inr, ℕ, true, false, List, Option, refl, sym, ap, ◌∙◌, subst, arith}
+use Rattle.std.proofs.Common.{◌≡◌, ◌≢◌, inl, inr, ℕ, true, false, List, [], Option, refl, sym, ap, ◌∙◌, subst, arith}
 use Rattle.lil_base.specs.declared.fault.LimitKind.{LimitKind}
 use Rattle.lil_base.specs.declared.fault.TrapKind.{TrapKind}
 use Rattle.lil_resolved.specs.Resolved.{Resolved}
@@ -23,7 +23,7 @@ use Rattle.lil_session.specs.Report.{is_fixed}
 use Rattle.lil_session.proofs.Enough.{enough}
 use Rattle.lil_session.proofs.Spent.{spent_at}
 
-module _ (p : Resolved) (strings code : List ℕ) (small : IsSmall p strings) (t : Translates p strings code) (steps : ℕ) (old new : Option (List ℕ)) (w : World) where
+module _ (p : Resolved) (strings code : List ℕ) (small : IsSmall p strings) (t : Translates p strings code) (bare : p.procedures ≡ []) (steps : ℕ) (old new : Option (List ℕ)) (w : World) where
   abbrev start : State
   start = (loaded p strings code).state
 
@@ -43,8 +43,8 @@ module _ (p : Resolved) (strings code : List ℕ) (small : IsSmall p strings) (t
     shown = λ _. ran.shown;
     cut = λ is. absurd (no_cut is);
     spent = λ on. spent (ran.finish ∙ on);
-    limited = λ k is. spent_at p strings code small t w steps old new k (sym ran.finish ∙ full k is) ran.shown;
-    enough = λ is. enough p strings code small t w steps (sym ran.finish ∙ goes is);
+    limited = λ k is. spent_at p strings code small t bare w steps old new k (sym ran.finish ∙ full k is) ran.shown;
+    enough = λ is. enough p strings code small t bare w steps (sym ran.finish ∙ goes is);
   }
 
   pub machine_end : (machine : Machine) (e : Ending) (s : Status) → HasRun start machine.state steps (finish_of e) old new w → EndingAnswers machine e s → MachineAnswers p w steps old new s

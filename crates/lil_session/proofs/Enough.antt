@@ -14,7 +14,7 @@ use Rattle.lil_laws.specs.Loading.{loaded}
 use Rattle.lil_meaning.specs.Runs.{state_of}
 use Rattle.lil_laws.specs.Whole.{claimed}
 use Rattle.lil_laws.specs.Alone.{loaded_state, correct}
-use Rattle.lil_session.proofs.Screens.{after_first}
+use Rattle.lil_laws.specs.Serves.{after_first}
 
 -- a state that goes on came from one that went on
 going_before : (library : List Resolved) (s : Source) (p : Phase) → s.waiting ≡ [] → s.phase ≡ p → (next library s).phase ≡ Going → p ≡ Going
@@ -39,10 +39,10 @@ going_until library zero n s none le h = going_first library n s none h
 going_until library (suc m) zero s none le h = absurd (omega arith)
 going_until library (suc m) (suc n) s none le h = going_until library m n (next library s) (after_first library 1 s none) (omega arith) h
 
-module _ (p : Resolved) (strings code : List ℕ) (small : IsSmall p strings) (t : Translates p strings code) where
+module _ (p : Resolved) (strings code : List ℕ) (small : IsSmall p strings) (t : Translates p strings code) (bare : p.procedures ≡ []) where
   -- where the machine runs on after a budget, the meaning does after as many steps as the budget is enough for
   pub enough : (w : World) (steps : ℕ) → (mrun steps (running (loaded p strings code).state w)).finish ≡ Running → (m : ℕ) → 32 * m + 64 ≤ steps → (state_of p w m).phase ≡ Going
   enough w steps runs m le =
-      let c = correct p strings code small t w steps in
-      let here = ap (λ (s : State). (mrun steps (running s w)).finish) (sym (loaded_state p strings code small t)) ∙ runs in
+      let c = correct p strings code small t bare w steps in
+      let here = ap (λ (s : State). (mrun steps (running s w)).finish) (sym (loaded_state p strings code small t bare)) ∙ runs in
       going_until (p ∷ []) m c.n (begun (p ∷ []) (0 ∷ []) (1 ∷ []) w) refl (omega (arith, le, c.far (λ k e. let r = here in cc))) (claimed Running c.agrees here)

@@ -1,5 +1,5 @@
 -- A limit comes only where the objects and workspaces of the meaning take more words than the store has.
-use Rattle.std.proofs.Common.{◌≡◌, ℕ, List, Option, sym, ap, ◌∙◌}
+use Rattle.std.proofs.Common.{◌≡◌, ℕ, List, [], Option, sym, ap, ◌∙◌}
 use Rattle.lil_base.specs.declared.fault.LimitKind.{LimitKind}
 use Rattle.lil_resolved.specs.Resolved.{Resolved}
 use Rattle.lil_resolved.specs.Sizes.{IsSmall}
@@ -13,12 +13,12 @@ use Rattle.lil_laws.specs.Whole.{claimed}
 use Rattle.lil_laws.specs.Alone.{loaded_state, correct}
 use Rattle.lil_session.specs.Counted.{IsSpentAt}
 
-module _ (p : Resolved) (strings code : List ℕ) (small : IsSmall p strings) (t : Translates p strings code) where
+module _ (p : Resolved) (strings code : List ℕ) (small : IsSmall p strings) (t : Translates p strings code) (bare : p.procedures ≡ []) where
   pub spent_at : (w : World) (steps : ℕ) (old new : Option (List ℕ)) (k : LimitKind) → (mrun steps (running (loaded p strings code).state w)).finish ≡ Limited k
       → new ≡ followed_by old (mrun steps (running (loaded p strings code).state w)).world.screen → IsSpentAt p w strings old new k
   spent_at w steps old new k is shown =
-      let c = correct p strings code small t w steps in
-      let same = ap (λ (s : State). mrun steps (running s w)) (loaded_state p strings code small t) in
+      let c = correct p strings code small t bare w steps in
+      let same = ap (λ (s : State). mrun steps (running s w)) (loaded_state p strings code small t bare) in
       record {
         n = c.n;
         shown = shown ∙ ap (λ (r : Run). followed_by old r.world.screen) same ∙ ap (λ (x : World). followed_by old x.screen) c.agrees.world;

@@ -1,6 +1,6 @@
 -- The translation table: which bytes from one place to another are a translation of a part. It has one row for each construct. A jump has
 -- the word of its target's place: the place itself, or in code that is too long for that the place cut to 16 bits.
-use Rattle.std.specs.Prelude.{◌≡◌, ℕ, zero, suc, ◌+◌, ◌-◌, ◌*◌, ◌%◌, ◌<◌, ◌≤◌, max, ℤ, Bool, true, false, List, [], ◌∷◌, ◌++◌, length, map, get_or, Option, Some, None, slice_get, cond}
+use Rattle.std.specs.Prelude.{◌≡◌, ℕ, zero, suc, ◌+◌, ◌-◌, ◌*◌, ◌%◌, ◌<◌, ◌≤◌, max, ℤ, Bool, true, false, List, [], ◌∷◌, ◌++◌, length, drop, map, get_or, Option, Some, None, slice_get, cond}
 use Rattle.lil_base.specs.Words.{Whole, Cardinal, Integer, word_of}
 use Rattle.lil_base.specs.declared.operator.OneOp.{OneOp}
 use Rattle.lil_base.specs.declared.operator.OneOp.TheVariants as one
@@ -9,11 +9,11 @@ use Rattle.lil_base.specs.declared.operator.TwoOp.TheVariants.{Equal, Unequal, L
 use Rattle.lil_resolved.specs.Kinds.{Objects, Workspaces, Kind, OfWhole, OfTruth, OfCharacter, OfSet, OfPointer, base_of, is_base, is_ordinal, is_set, is_plain, is_element, takes_value, stores_value, compared_as, covers, shared, outside_turns, least, numbers}
 use Rattle.lil_resolved.specs.Scalars.{Scalar, is_literal, scalar_word}
 use Rattle.lil_resolved.specs.Shapes.{Shape, Word, Row, Scope, outermost, with_held, words, is_there, part_at, offset, all_words, offsets_from, shape_at, element_of}
-use Rattle.lil_resolved.specs.Resolved.{Designator, Variable, Held, Field, Element, Follow, Function, Abs, Cap, Chr, Odd, Ord, Val, Expression, Constant, Taken, One, Two, Short, Apply, With, WithSpan, Argument, ByValue, OfArray, OfText, Label, Statement, Assign, Copy, Text, Change, Member, New, Allocate, Request, If, Case, While, Repeat, Loop, Exit, Halt, Return, For, Inside, Statements, Empty, Then, Arms, NoElse, Else, Arm, Resolved, kind_of, right_kind, counted_as, shape_of}
+use Rattle.lil_resolved.specs.Resolved.{Designator, Variable, Held, Field, Element, Follow, Function, Abs, Cap, Chr, Odd, Ord, Val, Expression, Constant, Taken, One, Two, Short, Apply, With, WithSpan, Argument, ByValue, OfArray, OfText, Label, Statement, Assign, Copy, Text, Change, Member, New, Allocate, Request, If, Case, While, Repeat, Loop, Exit, Halt, Return, Call, For, Inside, Statements, Empty, Then, Arms, NoElse, Else, Arm, Procedure, Resolved, procedure_by, kind_of, right_kind, counted_as, shape_of}
 use Rattle.lil_resolved.specs.Depth.{place_depth, depth, frame_words}
 use Rattle.lil_resolved.specs.Sound.{takes_one, takes_two, takes_function, IsScalar, IsSoundLabel, IsStep, is_text, request_parameters, parameter_of}
 use Rattle.lil_asm.specs.declared.instr.Instr.{Instr}
-use Rattle.lil_asm.specs.declared.instr.Instr.TheVariants.{Liw, Dup, Drp, Llw, Slw, Lgw, Sgw, Lag, Ldi, Sti, Ldf, Adf, Mov, Mvz, Nlt, Ixc, Swp, Rgc, Rgi, Cap, Adc, Sbc, Mlc, Dvc, Mdc, Adi, Sbi, Mli, Dvi, Mdi, Ngi, Abi, Uni, Dif, Its, Sym, Sin, Spn, Icl, Ecl, Sle, Not, Equ, Neq, Lsc, Lec, Lsi, Lei, Ent, Rtn, Jmp, Jpf, Jan, Jor, Cas, Fri, Frn, Trp, Alc, Svc}
+use Rattle.lil_asm.specs.declared.instr.Instr.TheVariants.{Liw, Dup, Drp, Llw, Slw, Lgw, Sgw, Lag, Ldi, Sti, Ldf, Adf, Mov, Mvz, Nlt, Ixc, Swp, Rgc, Rgi, Cap, Adc, Sbc, Mlc, Dvc, Mdc, Adi, Sbi, Mli, Dvi, Mdi, Ngi, Abi, Uni, Dif, Its, Sym, Sin, Spn, Icl, Ecl, Sle, Not, Equ, Neq, Lsc, Lec, Lsi, Lei, Mrk, Cll, Ent, Rtn, Jmp, Jpf, Jan, Jor, Cas, Fri, Frn, Trp, Alc, Svc}
 use Rattle.lil_asm.specs.Bytes.{word_at, decoded}
 use Rattle.lil_asm.specs.Requests.{request_words}
 
@@ -28,6 +28,9 @@ pub record Layout : Type 0 where
   pub strings : List ℕ
   pub frame : ℕ
   pub target : ℕ → ℕ
+  -- the procedures of the module, and that at hand with those around it, by their numbers, the innermost first; none is around the body
+  pub procedures : List Procedure
+  pub chain : List ℕ
 
 -- a place as it is, and cut to 16 bits
 abbrev pub exactly : ℕ → ℕ
@@ -45,6 +48,8 @@ layout_by target strings m = record {
   strings = strings;
   frame = frame_words m.body;
   target = target;
+  procedures = m.procedures;
+  chain = [];
 }
 
 abbrev pub layout_of : List ℕ → Resolved → Layout
@@ -661,6 +666,20 @@ pub record CaseRow (l : Layout) (code : List ℕ) (e : Expression) (arms : ℕ �
   pub choice : IsAt code choices (Cas count (l.target other)) entries
   pub whole : q ≡ entries + 6 * count
 
+-- the procedures around one that is declared so many levels out of that at hand
+abbrev pub Declared : List ℕ → ℕ → List ℕ → Type 0
+Declared chain zero around = around ≡ []
+Declared chain (suc n) around = (n < length chain) × (around ≡ drop n chain)
+
+-- a mark, and a call
+pub record CallRow (l : Layout) (code : List ℕ) (x n p q : ℕ) : Type 0 where
+  pub its : Procedure
+  pub known : procedure_by l.procedures x ≡ Some its
+  pub declared : Declared l.chain n its.around
+  pub middle : ℕ
+  pub mark : IsAt code p (Mrk n) middle
+  pub call : IsAt code middle (Cll x 0) q
+
 -- the first word of a FOR or a WITH in the frame, where those around it take n words
 abbrev pub loop_place : ℕ → ℕ
 loop_place n = 4 + n
@@ -761,6 +780,7 @@ abbrev mutual
   StatementAt l code n exit Exit p q = ExitRow code exit p q
   StatementAt l code n exit Halt p q = IsAt code p (Trp 9) q
   StatementAt l code n exit Return p q = IsAt code p Rtn q
+  StatementAt l code n exit (Call x i) p q = CallRow l code x i p q
   StatementAt l code n exit (For x k a b step body) p q = ForRow l code n x k a b step (BodyAt l code (3 + n) exit body) p q
   StatementAt l code n exit (Inside d body) p q = InsideRow l code n d (BodyAt (holding l (shape_of l.scope d) (loop_place n)) code (suc n) exit body) p q
 
@@ -774,13 +794,25 @@ abbrev mutual
   ArmsAt l code n exit k (Else body) leave other table p t w = ElseRow l code leave other table (BodyAt l code n exit body) p w
   ArmsAt l code n exit k (Arm labels body rest) leave other table p t w = ArmRow l code k leave labels (BodyAt l code n exit body) (ArmsAt l code n exit k rest leave other table) p t w
 
+-- code of a procedure from its entry on: its frame, its statements, and the return
+pub record ProcedureRow (l : Layout) (code : List ℕ) (its : Procedure) (entry : ℕ) : Type 0 where
+  pub start : ℕ
+  pub end : ℕ
+  pub after : ℕ
+  pub enter : IsAt code entry (Ent (frame_words its.body)) start
+  pub body : BodyAt l code 0 None its.body start end
+  pub leave : IsAt code end Rtn after
+
 -- code of a program module: its frame, its statements, and the return
 pub record TranslatesBy (l : Layout) (m : Resolved) (code : List ℕ) : Type 0 where
   pub start : ℕ
   pub end : ℕ
   pub enter : IsAt code 0 (Ent (frame_words m.body)) start
   pub body : BodyAt l code 0 None m.body start end
-  pub leave : IsAt code end Rtn (length code)
+  pub after : ℕ
+  pub leave : IsAt code end Rtn after
+  -- procedures stand behind the body
+  pub whole : m.procedures ≡ [] → after ≡ length code
 
 -- the strings and the code of a program module, whose jumps have the places themselves
 abbrev pub Translates : Resolved → List ℕ → List ℕ → Type 0

@@ -82,11 +82,13 @@ module _ (r : RModule) (d : Draft) (sound : IsSound (module_of r)) (measured : I
         end = t.end;
         enter = t.enter;
         body = t.body sound (omega arith);
+        after = length code;
         leave = subst (λ (q : ℕ). IsAt code t.end Rtn q) (sym (written_long (settled_word d.places) d.bytes d.jumps)) t.leave;
+        whole = λ bare. refl;
       }
 
   pub settled_long : length code ≡ code_size m
-  settled_long = module_long (layout_by cut d.strings m) m code (settled_translates cut (λ l q h. refl))
+  settled_long = module_long (layout_by cut d.strings m) m code refl (settled_translates cut (λ l q h. refl))
 
   pub draft_long : length d.bytes ≡ code_size m
   draft_long = sym (written_long (settled_word d.places) d.bytes d.jumps) ∙ settled_long

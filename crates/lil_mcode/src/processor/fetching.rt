@@ -2,8 +2,8 @@
 
 ghost use Rattle.std.specs.Prelude.{◌≡◌, ◌+◌, ◌*◌, ◌<◌, ◌≤◌, ◌^◌, length, drop, take, slice_get, OnSome, IfSome, IfNone, None, Some};
 ghost use Rattle.std.specs.Option.{option_copied};
-ghost use Rattle.lil_asm.specs.Bytes.{word_at, two_words_at, with_entries, with_loop, row, row_0, row_2, row_3, row_4, row_5, row_6, row_7};
-ghost use Rattle.lil_asm.specs.declared.instr.Instr.TheVariants.{Cas, Fri};
+ghost use Rattle.lil_asm.specs.Bytes.{word_at, two_words_at, with_entries, with_loop, with_byte_word, row, row_0, row_2, row_3, row_4, row_5, row_6, row_7};
+ghost use Rattle.lil_asm.specs.declared.instr.Instr.TheVariants.{Cas, Cll, Fri};
 ghost use Rattle.lil_mcode.specs.Fetch.{running_code, running_base, current};
 ghost use Rattle.lil_mcode.specs.Loaded.{loaded_at, IsPartOf};
 ghost use Rattle.lil_mcode.specs.Table.{mstep, performed};
@@ -107,6 +107,19 @@ impl Processor {
         Some((count, other))
     }
 
+    /// A byte and a word behind the first byte, which stands at a place.
+    #[inline(always)]
+    pub(super) fn byte_and_word(&self, place: usize) -> Option<(u8, u16)>
+        requires { place < 65535 }
+        ensures some { IfSome result (λ o. with_byte_word Cll (running_code self.now) place ≡ Some (Cll o.0 o.1, place + 4)) }
+        ensures none { IfNone result (with_byte_word Cll (running_code self.now) place ≡ None) }
+        ensures within { OnSome result (place + 3 < 65535) }
+    {
+        let first = self.byte(place + 1)?;
+        let second = self.word(place + 2)?;
+        Some((first, second))
+    }
+
     /// The operands of a loop's head, whose first byte stands at a place.
     #[inline(always)]
     pub(super) fn loop_operands(&self, place: usize) -> Option<(u16, u8, u16)>
@@ -133,7 +146,9 @@ impl Processor {
             0x7b..=0x7c => Event::BadCode,
             0x6b..=0x6f => Event::BadCode,
             0x69 => Event::BadCode,
-            0x60..=0x67 => Event::BadCode,
+            0x60 => Event::BadCode,
+            0x62..=0x64 => Event::BadCode,
+            0x66..=0x67 => Event::BadCode,
             0x4c..=0x4f => Event::BadCode,
             0x3c..=0x3f => Event::BadCode,
             0x2e..=0x2f => Event::BadCode,
@@ -311,6 +326,18 @@ impl Processor {
             0x5d => self.compare(Comparison::AtMostCardinal, (place + 1) as u16),
             0x5e => self.compare(Comparison::LessInteger, (place + 1) as u16),
             0x5f => self.compare(Comparison::AtMostInteger, (place + 1) as u16),
+            0x61 => {
+                let Some(b) = self.byte(place + 1) else {
+                    return Event::BadCode;
+                };
+                self.mark(b, (place + 2) as u16)
+            }
+            0x65 => {
+                let Some((b, w)) = self.byte_and_word(place) else {
+                    return Event::BadCode;
+                };
+                self.call(b, w, (place + 4) as u16)
+            }
             0x68 => {
                 let Some(w) = self.word(place + 1) else {
                     return Event::BadCode;

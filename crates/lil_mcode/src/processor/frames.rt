@@ -1,9 +1,9 @@
-//! The rows of frames: the mark and the words of a body, and returns.
+//! The rows of frames: the mark and the words of a body, marks and calls of procedures, and returns.
 
 ghost use Rattle.std.specs.Prelude.{◌≡◌, ◌+◌, ◌*◌, ◌<◌, ◌≤◌, ◌∷◌, length, false, option_map, OnSome, Some, []};
 ghost use Rattle.lil_mcode.specs.State.{module_at, body_entry};
 ghost use Rattle.lil_frames.specs.Words.{spliced};
-ghost use Rattle.lil_mcode.specs.Table.{enter_row, leave_row, end_row, return_row};
+ghost use Rattle.lil_mcode.specs.Table.{enter_row, leave_row, end_row, return_row, frame_out, link_word, mark_row, entry_in, call_row};
 
 use super::Processor;
 use super::fetching::loaded;
@@ -38,6 +38,73 @@ impl Processor {
         self.memory.clear_words(self.top, end);
         self.top = end as u16;
         self.place = next;
+        Event::Went
+    }
+
+    /// The frame so many links out from the running one.
+    fn outer_frame(&self, links: u8) -> u16
+        ensures { result ≡ frame_out self.now.store self.now.frame links }
+    {
+        let mut frame = self.frame;
+        for k in 0..links {
+            frame = self.memory.word(frame);
+        }
+        frame
+    }
+
+    /// The first word of the mark of a procedure that is declared so many levels out.
+    #[tactic(auto, using(crate::proofs::Steps::link_more))]
+    fn link(&self, levels: u8) -> u16
+        ensures { result ≡ link_word levels self.now }
+    {
+        if levels == 0 {
+            return 0;
+        }
+        self.outer_frame(levels - 1)
+    }
+
+    /// The mark of a call comes to the stack.
+    pub(super) fn mark(&mut self, levels: u8, next: u16) -> Event
+        ensures { mark_row levels next self.old ≡ (result, self.new) }
+    {
+        let end = u32::from(self.top) + 4;
+        if u32::from(self.memory.lowest()) < end {
+            return Event::Limit(LimitKind::Stack);
+        }
+        let link = self.link(levels);
+        self.memory.set_words(self.top, &[link, 0, 0, 0]);
+        self.top = end as u16;
+        self.place = next;
+        Event::Went
+    }
+
+    /// Where a procedure of the running module begins.
+    fn entry_of(&self, procedure: u8) -> Option<u16>
+        ensures { result ≡ entry_in (module_at self.now.modules self.now.running) procedure }
+    {
+        let module = loaded(self.modules.as_slice(), self.running)?;
+        let found = module.procedures.as_slice().get(usize::from(procedure))?;
+        Some(found.0)
+    }
+
+    /// A procedure is called, with a mark and so many words of arguments above it.
+    pub(super) fn call(&mut self, procedure: u8, words: u16, next: u16) -> Event
+        ensures { call_row procedure words next self.old ≡ (result, self.new) }
+    {
+        if u32::from(self.top) < u32::from(self.frame) + 8 + u32::from(words) {
+            return Event::BadCode;
+        }
+        if self.stack.len() != 0 {
+            return Event::BadCode;
+        }
+        let Some(entry) = self.entry_of(procedure) else {
+            return Event::BadCode;
+        };
+        let at = self.top - words - 4;
+        self.memory
+            .set_words(at + 1, &[self.frame, next, u16::from(self.running)]);
+        self.frame = at;
+        self.place = entry;
         Event::Went
     }
 

@@ -19,15 +19,15 @@ use Rattle.lil_session.proofs.Counting.{machine_end, machine_cut}
 use Rattle.lil_session.proofs.run.run_program.Goals as goal
 
 -- the machine that was loaded stands where the program begins
-from_begin : (p : Resolved) (strings code : List ℕ) (small : IsSmall p strings) (t : Translates p strings code) (m : Machine) → m ≡ loaded p strings code → m.state ≡ begins p strings code small t
-from_begin p strings code small t m is = ap (λ (x : Machine). x.state) is ∙ loaded_state p strings code small t
+from_begin : (p : Resolved) (strings code : List ℕ) (small : IsSmall p strings) (t : Translates p strings code) (bare : p.procedures ≡ []) (m : Machine) → m ≡ loaded p strings code → m.state ≡ begins p strings code small t bare
+from_begin p strings code small t bare m is = ap (λ (x : Machine). x.state) is ∙ loaded_state p strings code small t bare
 
 -- what is known of a run from the machine that was loaded
 abbrev Ran : State → State → ℕ → Finish → Option (List ℕ) → Option (List ℕ) → Type 0
 Ran start end steps f old new = (w : World) → w.screen ≡ [] → HasRun start end steps f old new w
 
-ran_from : (p : Resolved) (strings code : List ℕ) (small : IsSmall p strings) (t : Translates p strings code) (m : Machine) → m ≡ loaded p strings code → (end : State) (steps : ℕ) (f : Finish) (old new : Option (List ℕ)) → Ran m.state end steps f old new → Ran (begins p strings code small t) end steps f old new
-ran_from p strings code small t m is end steps f old new ran = subst (λ (s : State). Ran s end steps f old new) (from_begin p strings code small t m is) ran
+ran_from : (p : Resolved) (strings code : List ℕ) (small : IsSmall p strings) (t : Translates p strings code) (bare : p.procedures ≡ []) (m : Machine) → m ≡ loaded p strings code → (end : State) (steps : ℕ) (f : Finish) (old new : Option (List ℕ)) → Ran m.state end steps f old new → Ran (begins p strings code small t bare) end steps f old new
+ran_from p strings code small t bare m is end steps f old new ran = subst (λ (s : State). Ran s end steps f old new) (from_begin p strings code small t bare m is) ran
 
 pub returns-in_default-clause-shows : goal.returns-in_default-clause-shows
 returns-in_default-clause-shows g c = λ w e. shows_none (module_of c.args.m.now) w (g.S.Sink.written c.args.screen.now) Memory e (λ f. cc) tt
@@ -38,13 +38,13 @@ returns-in_default-clause-machine g c = λ w e. inl refl
 pub returns-in-Err-clause-shows : goal.returns-in-Err-clause-shows
 returns-in-Err-clause-shows g c =
     let p = module_of c.args.m.now in
-    let is = from_begin p c.args.strings.now c.args.code.now c.requires.small c.requires.translates c.in-Ok.machine c.in-Ok.ensures in
-    λ w e. shows_cut p c.args.strings.now c.args.code.now c.requires.small c.requires.translates c.args.steps (g.S.Sink.written c.args.screen.now) (g.S.Sink.written c.run_machine.new.screen) w
+    let is = from_begin p c.args.strings.now c.args.code.now c.requires.small c.requires.translates refl c.in-Ok.machine c.in-Ok.ensures in
+    λ w e. shows_cut p c.args.strings.now c.args.code.now c.requires.small c.requires.translates refl c.args.steps (g.S.Sink.written c.args.screen.now) (g.S.Sink.written c.run_machine.new.screen) w
     (subst (λ (s : State). IsCut s c.args.steps (g.S.Sink.written c.args.screen.now) (g.S.Sink.written c.run_machine.new.screen) w) is (c.in-Err.ensures.cut w e))
 
 pub returns-in-Err-clause-machine : goal.returns-in-Err-clause-machine
 returns-in-Err-clause-machine g c = λ w e.
-    machine_cut (module_of c.args.m.now) c.args.strings.now c.args.code.now c.requires.small c.requires.translates c.args.steps (g.S.Sink.written c.args.screen.now) (g.S.Sink.written c.run_machine.new.screen) w
+    machine_cut (module_of c.args.m.now) c.args.strings.now c.args.code.now c.requires.small c.requires.translates refl c.args.steps (g.S.Sink.written c.args.screen.now) (g.S.Sink.written c.run_machine.new.screen) w
     (subst (λ (s : State). IsCut s c.args.steps (g.S.Sink.written c.args.screen.now) (g.S.Sink.written c.run_machine.new.screen) w) (ap (λ (m : Machine). m.state) c.in-Ok.ensures) (c.in-Err.ensures.cut w e))
 
 pub answer-requires : goal.answer-requires
@@ -54,8 +54,8 @@ answer-requires g c =
     let code = c.args.code.now in
     let old = g.S.Sink.written c.args.screen.now in
     let new = g.S.Sink.written c.run_machine.new.screen in
-    let ran = ran_from p strings code c.requires.small c.requires.translates c.in-Ok.machine c.in-Ok.ensures c.run_machine.new.machine.state c.args.steps (finish_of c.in-Ok-run_machine.end) old new c.in-Ok-run_machine.ensures.ran in
-    possible p strings code c.requires.small c.requires.translates c.args.steps old new c.run_machine.new.machine c.in-Ok-run_machine.end ran c.in-Ok-run_machine.ensures.at
+    let ran = ran_from p strings code c.requires.small c.requires.translates refl c.in-Ok.machine c.in-Ok.ensures c.run_machine.new.machine.state c.args.steps (finish_of c.in-Ok-run_machine.end) old new c.in-Ok-run_machine.ensures.ran in
+    possible p strings code c.requires.small c.requires.translates refl c.args.steps old new c.run_machine.new.machine c.in-Ok-run_machine.end ran c.in-Ok-run_machine.ensures.at
 
 pub returns-clause-shows : goal.returns-clause-shows
 returns-clause-shows g c =
@@ -64,8 +64,8 @@ returns-clause-shows g c =
     let code = c.args.code.now in
     let old = g.S.Sink.written c.args.screen.now in
     let new = g.S.Sink.written c.run_machine.new.screen in
-    let ran = ran_from p strings code c.requires.small c.requires.translates c.in-Ok.machine c.in-Ok.ensures c.run_machine.new.machine.state c.args.steps (finish_of c.in-Ok-run_machine.end) old new c.in-Ok-run_machine.ensures.ran in
-    λ w e. shows_end p strings code c.requires.small c.requires.translates c.args.steps old new c.run_machine.new.machine c.in-Ok-run_machine.end c.answer.result w (ran w e) c.answer.ensures c.in-Ok-run_machine.ensures.at
+    let ran = ran_from p strings code c.requires.small c.requires.translates refl c.in-Ok.machine c.in-Ok.ensures c.run_machine.new.machine.state c.args.steps (finish_of c.in-Ok-run_machine.end) old new c.in-Ok-run_machine.ensures.ran in
+    λ w e. shows_end p strings code c.requires.small c.requires.translates refl c.args.steps old new c.run_machine.new.machine c.in-Ok-run_machine.end c.answer.result w (ran w e) c.answer.ensures c.in-Ok-run_machine.ensures.at
 
 pub returns-clause-answer : goal.returns-clause-answer
 returns-clause-answer g c =
@@ -74,8 +74,8 @@ returns-clause-answer g c =
     let code = c.args.code.now in
     let old = g.S.Sink.written c.args.screen.now in
     let new = g.S.Sink.written c.run_machine.new.screen in
-    let ran = ran_from p strings code c.requires.small c.requires.translates c.in-Ok.machine c.in-Ok.ensures c.run_machine.new.machine.state c.args.steps (finish_of c.in-Ok-run_machine.end) old new c.in-Ok-run_machine.ensures.ran in
-    λ w e ok. means_end p strings code c.requires.small c.requires.translates c.args.steps old new c.run_machine.new.machine c.in-Ok-run_machine.end c.answer.result w (ran w e) c.answer.ensures c.in-Ok-run_machine.ensures.at ok
+    let ran = ran_from p strings code c.requires.small c.requires.translates refl c.in-Ok.machine c.in-Ok.ensures c.run_machine.new.machine.state c.args.steps (finish_of c.in-Ok-run_machine.end) old new c.in-Ok-run_machine.ensures.ran in
+    λ w e ok. means_end p strings code c.requires.small c.requires.translates refl c.args.steps old new c.run_machine.new.machine c.in-Ok-run_machine.end c.answer.result w (ran w e) c.answer.ensures c.in-Ok-run_machine.ensures.at ok
 
 pub returns-clause-kinds : goal.returns-clause-kinds
 returns-clause-kinds g c =
@@ -84,15 +84,15 @@ returns-clause-kinds g c =
     let code = c.args.code.now in
     let old = g.S.Sink.written c.args.screen.now in
     let new = g.S.Sink.written c.run_machine.new.screen in
-    let ran = ran_from p strings code c.requires.small c.requires.translates c.in-Ok.machine c.in-Ok.ensures c.run_machine.new.machine.state c.args.steps (finish_of c.in-Ok-run_machine.end) old new c.in-Ok-run_machine.ensures.ran in
-    let can = possible p strings code c.requires.small c.requires.translates c.args.steps old new c.run_machine.new.machine c.in-Ok-run_machine.end ran c.in-Ok-run_machine.ensures.at in
-    kind_end p strings code c.requires.small c.requires.translates c.args.steps old new c.run_machine.new.machine c.in-Ok-run_machine.end c.answer.result can c.answer.ensures
+    let ran = ran_from p strings code c.requires.small c.requires.translates refl c.in-Ok.machine c.in-Ok.ensures c.run_machine.new.machine.state c.args.steps (finish_of c.in-Ok-run_machine.end) old new c.in-Ok-run_machine.ensures.ran in
+    let can = possible p strings code c.requires.small c.requires.translates refl c.args.steps old new c.run_machine.new.machine c.in-Ok-run_machine.end ran c.in-Ok-run_machine.ensures.at in
+    kind_end p strings code c.requires.small c.requires.translates refl c.args.steps old new c.run_machine.new.machine c.in-Ok-run_machine.end c.answer.result can c.answer.ensures
 
 pub returns-clause-machine : goal.returns-clause-machine
 returns-clause-machine g c = λ w e.
-    machine_end (module_of c.args.m.now) c.args.strings.now c.args.code.now c.requires.small c.requires.translates c.args.steps (g.S.Sink.written c.args.screen.now) (g.S.Sink.written c.run_machine.new.screen) w c.run_machine.new.machine c.in-Ok-run_machine.end c.answer.result
+    machine_end (module_of c.args.m.now) c.args.strings.now c.args.code.now c.requires.small c.requires.translates refl c.args.steps (g.S.Sink.written c.args.screen.now) (g.S.Sink.written c.run_machine.new.screen) w c.run_machine.new.machine c.in-Ok-run_machine.end c.answer.result
     (subst (λ (m : Machine). HasRun m.state c.run_machine.new.machine.state c.args.steps (finish_of c.in-Ok-run_machine.end) (g.S.Sink.written c.args.screen.now) (g.S.Sink.written c.run_machine.new.screen) w) c.in-Ok.ensures (c.in-Ok-run_machine.ensures.ran w e)) c.answer.ensures
 
 pub returns-clause-cause : goal.returns-clause-cause
 returns-clause-cause g c =
-    blames_end (module_of c.args.m.now) c.args.strings.now c.args.code.now c.requires.small c.requires.translates c.args.steps (g.S.Sink.written c.args.screen.now) (g.S.Sink.written c.run_machine.new.screen) c.run_machine.new.machine c.in-Ok-run_machine.end c.answer.result (g.S.Sink.faults c.args.screen.now) (g.S.Sink.faults c.run_machine.new.screen) c.answer.ensures c.in-Ok-run_machine.ensures.cause.quiet
+    blames_end (module_of c.args.m.now) c.args.strings.now c.args.code.now c.requires.small c.requires.translates refl c.args.steps (g.S.Sink.written c.args.screen.now) (g.S.Sink.written c.run_machine.new.screen) c.run_machine.new.machine c.in-Ok-run_machine.end c.answer.result (g.S.Sink.faults c.args.screen.now) (g.S.Sink.faults c.run_machine.new.screen) c.answer.ensures c.in-Ok-run_machine.ensures.cause.quiet

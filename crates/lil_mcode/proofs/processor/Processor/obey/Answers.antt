@@ -16,20 +16,30 @@ returns-in-46-to-47 c =
     let s = c.args.self.now in
     far_bad s (current s) c.args.first (running_code s) c.args.place (omega arith) (omega arith) (omega arith) (omega arith)
 
-pub returns-in-96-to-103 : goal.returns-in-96-to-103
-returns-in-96-to-103 c =
+pub returns-in-96 : goal.returns-in-96
+returns-in-96 c =
     let s = c.args.self.now in
-    call_row_bad s (current s) c.args.first (running_code s) c.args.place (omega arith) (omega arith) (omega arith) (omega arith)
+    call_row_bad s (current s) c.args.first (running_code s) c.args.place (omega arith) (omega arith) (omega arith) (omega arith) (omega arith) (omega arith)
+
+pub returns-in-98-to-100 : goal.returns-in-98-to-100
+returns-in-98-to-100 c =
+    let s = c.args.self.now in
+    call_row_bad s (current s) c.args.first (running_code s) c.args.place (omega arith) (omega arith) (omega arith) (omega arith) (omega arith) (omega arith)
+
+pub returns-in-102-to-103 : goal.returns-in-102-to-103
+returns-in-102-to-103 c =
+    let s = c.args.self.now in
+    call_row_bad s (current s) c.args.first (running_code s) c.args.place (omega arith) (omega arith) (omega arith) (omega arith) (omega arith) (omega arith)
 
 pub returns-in-105 : goal.returns-in-105
 returns-in-105 c =
     let s = c.args.self.now in
-    call_row_bad s (current s) c.args.first (running_code s) c.args.place (omega arith) (omega arith) (omega arith) (omega arith)
+    call_row_bad s (current s) c.args.first (running_code s) c.args.place (omega arith) (omega arith) (omega arith) (omega arith) (omega arith) (omega arith)
 
 pub returns-in-107-to-111 : goal.returns-in-107-to-111
 returns-in-107-to-111 c =
     let s = c.args.self.now in
-    call_row_bad s (current s) c.args.first (running_code s) c.args.place (omega arith) (omega arith) (omega arith) (omega arith)
+    call_row_bad s (current s) c.args.first (running_code s) c.args.place (omega arith) (omega arith) (omega arith) (omega arith) (omega arith) (omega arith)
 
 pub returns-in-123-to-124 : goal.returns-in-123-to-124
 returns-in-123-to-124 c =

@@ -1,0 +1,560 @@
+-- Calls of procedures: a mark, the call, and the words of the frame.
+use Rattle.std.proofs.Common.{◌≡◌, ℕ, zero, suc, ◌+◌, ◌-◌, ◌<◌, ◌≤◌, ◌⊎◌, inl, inr, Option, Some, None, List, [], ◌∷◌, ◌++◌, length, drop, get_or, refl, sym, ap, ◌∙◌, subst, ⊎_elim, arith, eq-eqb}
+use Rattle.std.specs.Prelude.{slice_get, option_map}
+use Rattle.std.proofs.lemmas.Bool.{lt-ltb, le-ltb, le-leb, cases_lt, and_from}
+use Rattle.std.proofs.lemmas.Option.{slice_get_within}
+use Rattle.lil_base.specs.declared.fault.LimitKind.TheVariants as limit
+use Rattle.lil_resolved.specs.Shapes.{Shape, offset}
+use Rattle.lil_resolved.specs.Resolved.{Procedure, Call, Statements, Empty, Then, Resolved, procedure_by}
+use Rattle.lil_resolved.specs.Depth.{frame_words}
+use Rattle.lil_meaning.specs.Cells.{loaded_at}
+use Rattle.lil_meaning.specs.Items.{Do, End, Item, Perform, Activation, Going, Source, doing}
+use Rattle.lil_meaning.specs.Need.{frame_by, frame_of, cost, unless_body, with_callers, chain}
+use Rattle.lil_meaning.specs.Steps.{next, current, owner_of, procedure_of, procedures_of, procedure_name, its_name, outer_of, surrounding, level_out, declaring, entered, called_by}
+use Rattle.lil_asm.specs.declared.instr.Instr.TheVariants.{Mrk, Cll, Ent, Rtn}
+use Rattle.lil_mcode.specs.State.{Module, State, stack_of, module_at}
+use Rattle.lil_frames.specs.Words.{spliced, zeros, cleared}
+use Rattle.lil_mcode.specs.Table.{mstep, frame_out, link_word, mark_row, its_entry, entry_in, called_row, enter_row}
+use Rattle.lil_table.specs.Rows.{Declared, loop_place}
+use Rattle.lil_match.specs.Running.{running, advanced}
+use Rattle.lil_match.specs.Parts.{yes, no}
+use Rattle.lil_match.specs.Homes.{Own, Fixed, own_fixed, Free, Home, extends_self, Mem, is_word_kept, of_free, scalar_owned}
+use Rattle.lil_match.specs.Splices.{spliced_length, spliced_before, spliced_there, spliced_after, zeros_length}
+use Rattle.lil_match.specs.Goes.{OwnWords, Grows, Linked, Entered, IsKnown, Shared, IsShort, Lands, Goes}
+use Rattle.lil_match.specs.Waits.{Quiet, Around, outside, Frame, Stack, frames_of, Setting, frame_of as frame_at, laid_out, renewed, Rows, Ahead, Waiting}
+use Rattle.lil_match.specs.Known.{known_kept, each_known, each_comes, known_grown, each_grown, comes_grown}
+use Rattle.lil_match.specs.Kept.{EachAbove, first_words, stack_above, stands_kept, chained_kept, loops_fit, rows_renewed}
+use Rattle.lil_match.specs.Laid.{codes_part}
+use Rattle.lil_match.specs.Costs.{cost_of, known_costs, each_costs, items_cost, top_low}
+use Rattle.lil_match.specs.Climbs.{Climbs, climbs, first_own}
+use Rattle.lil_match.specs.Closing.{closed}
+use Rattle.lil_match.specs.Orders.{instr_within}
+use Rattle.lil_match.specs.Steps.{advances, at_step, at_once, rows_ahead, goes_after, goes_full, goes_one_grown}
+use Rattle.lil_laws_stmt.specs.Painting.{free_fixed, painted, painted_there, painted_beside, Side, Before, Between, Behind', side}
+use Rattle.lil_laws_stmt.specs.Control.{body_rows}
+
+-- ---- lists of activations
+last_there : (xs : List Activation) (a : Activation) → slice_get (xs ++ a ∷ []) (length xs) ≡ Some a
+last_there [] a = refl
+last_there (x ∷ xs) a = last_there xs a
+
+none_activation : (a : Activation) → None ≡ Some a → ⊥
+none_activation a e = cc
+
+others_there : (xs ys : List Activation) → Grows (xs ++ ys) xs
+others_there [] ys i a e = absurd (none_activation a e)
+others_there (x ∷ xs) ys zero a e = e
+others_there (x ∷ xs) ys (suc i) a e = others_there xs ys i a e
+
+-- ---- procedures
+none_procedure : (q : Procedure) → None ≡ Some q → ⊥
+none_procedure q e = cc
+
+-- a procedure's number isn't that of the body
+pub record Numbered (p : ℕ) : Type 0 where
+  pub before : ℕ
+  pub is : p ≡ suc before
+
+numbered : (ps : List Procedure) (p : ℕ) (q : Procedure) → procedure_by ps p ≡ Some q → Numbered p
+numbered ps zero q e = absurd (none_procedure q e)
+numbered ps (suc p) q e = record { before = p; is = refl }
+
+frame_known : (o : Option Resolved) (p : ℕ) (q : Procedure) → procedure_by (procedures_of o) p ≡ Some q → frame_of o p ≡ frame_words q.body
+frame_known o zero q e = absurd (none_procedure q e)
+frame_known None (suc p) q e = absurd (none_procedure q e)
+frame_known (Some m) (suc p) q e = ap frame_by e
+
+name_known : (o : Option Resolved) (p : ℕ) (q : Procedure) → procedure_by (procedures_of o) p ≡ Some q → procedure_name o p ≡ Some q.name
+name_known o zero q e = absurd (none_procedure q e)
+name_known None (suc p) q e = absurd (none_procedure q e)
+name_known (Some m) (suc p) q e = ap (option_map its_name) e
+
+doing_chain : (library : List Resolved) (loaded : List ℕ) (acts : List Activation) (b : Statements) (k : List Item) → chain library loaded acts (doing b k) ≡ chain library loaded acts k
+doing_chain library loaded acts Empty k = refl
+doing_chain library loaded acts (Then s ss) k = doing_chain library loaded acts ss k
+
+pub record One (xs : List ℕ) (i : ℕ) : Type 0 where
+  pub here : ℕ
+  pub rest : List ℕ
+  pub is : drop i xs ≡ here ∷ rest
+
+one_left : (xs : List ℕ) (i : ℕ) → i < length xs → One xs i
+one_left [] i less = absurd (omega (arith, less))
+one_left (x ∷ xs) zero less = record { here = x; rest = xs; is = refl }
+one_left (x ∷ xs) (suc i) less = let r = one_left xs i (omega (arith, less)) in record { here = r.here; rest = r.rest; is = r.is }
+
+module _ (ctx : Setting) where
+  open ctx use {library, loaded, table, activations, home as h, stack as st}
+  open frame_at ctx use {own}
+  open laid_out ctx use {layout as l}
+
+  module _ (s : Source) (k : List Item) (m : State) (c : ℕ) (a : Around) (shared : Shared ctx s m) (proc levels : ℕ)
+      (row : Waiting ctx (Perform (Do (Call proc levels))) (Rows ctx k) Quiet m.place m.stack c a) where
+    abbrev items : List Item
+    items = Perform (Do (Call proc levels)) ∷ k
+
+    abbrev now : Source
+    now = record s { items = Perform (Do (Call proc levels)) ∷ k; phase = Going }
+
+    abbrev back : ℕ
+    back = row.part.end
+
+    known : IsKnown ctx.library ctx.loaded ctx.table ctx.activations ctx.home ctx.stack.frame
+    known = shared.standing.known
+
+    close : current k ≡ ctx.stack.frame.activation
+    close = closed ctx k _ _ _ _ _ row.then
+
+    -- what is called, on both sides
+    abbrev its : Procedure
+    its = row.part.here.its
+
+    abbrev size : ℕ
+    size = frame_words row.part.here.its.body
+
+    pub code : Entered ctx.stack.frame.own ctx.stack.frame.layout proc row.part.here.its
+    code = shared.standing.known.codes proc row.part.here.its row.part.here.known
+
+    owner_is : owner_of (slice_get s.activations (current k)) ≡ ctx.stack.frame.number
+    owner_is =
+        ap (λ (i : ℕ). owner_of (slice_get s.activations i)) close
+        ∙ ap (λ (z : List Activation). owner_of (slice_get z ctx.stack.frame.activation)) shared.activations_are
+        ∙ known.owner
+
+    abbrev new : Activation
+    new = called_by s.activations (owner_of (slice_get s.activations (current k))) (current k) proc levels
+
+    abbrev all : List Activation
+    all = ctx.activations ++ called_by s.activations (owner_of (slice_get s.activations (current k))) (current k) proc levels ∷ []
+
+    abbrev entering : Source
+    entering = record s {
+      activations = s.activations ++ called_by s.activations (owner_of (slice_get s.activations (current k))) (current k) proc levels ∷ [];
+      items = doing row.part.here.its.body (Perform (End (length s.activations)) ∷ k);
+      phase = Going;
+    }
+
+    listed : procedure_by (procedures_of (loaded_at ctx.library ctx.loaded ctx.stack.frame.number)) proc ≡ Some row.part.here.its
+    listed = ap (λ (ps : List Procedure). procedure_by ps proc) (sym known.procedures) ∙ row.part.here.known
+
+    becomes : next ctx.library now ≡ entering
+    becomes =
+        ap (λ (o : Option Procedure). entered o new k now) (
+        ap (λ (i : ℕ). procedure_by (procedures_of (loaded_at ctx.library s.loaded i)) proc) owner_is
+        ∙ ap (λ (ns : List ℕ). procedure_by (procedures_of (loaded_at ctx.library ns ctx.stack.frame.number)) proc) shared.loaded_are
+        ∙ listed
+        )
+
+    grows : Grows all ctx.activations
+    grows = others_there ctx.activations (new ∷ [])
+
+    runs : slice_get all (length s.activations) ≡ Some new
+    runs = ap (λ (z : List Activation). slice_get all (length z)) shared.activations_are ∙ last_there ctx.activations new
+
+    number : Numbered proc
+    number = numbered l.procedures proc row.part.here.its row.part.here.known
+
+    -- ---- where all stands
+    words : OwnWords ctx.home.owner ctx.stack.frame m.top
+    words = first_words h.owner st.base m.top st.frame st.callers shared.standing.stands
+
+    above : (ctx.stack.base ≤ ctx.stack.frame.at) × EachAbove (ctx.stack.base + 4) (frames_of ctx.stack)
+    above = stack_above ctx (stack_of m) shared.standing
+
+    loops : loop_place a.taken ≤ ctx.stack.frame.layout.frame
+    loops = loops_fit k ctx Quiet row.part.end [] c a words.mark row.then
+
+    -- ---- the machine
+    abbrev marked : State
+    marked = record m { place = row.part.here.middle; top = m.top + 4; store = spliced m.store m.top (link_word levels m ∷ 0 ∷ 0 ∷ 0 ∷ []) }
+
+    abbrev called : State
+    called = record m { place = code.entry; frame = m.top; top = m.top + 4; store = spliced (spliced m.store m.top (link_word levels m ∷ 0 ∷ 0 ∷ 0 ∷ [])) (m.top + 1) (m.frame ∷ row.part.end ∷ m.running ∷ []) }
+
+    abbrev inside : State
+    inside = record m { place = code.code.start; frame = m.top; top = m.top + frame_words row.part.here.its.body; store = cleared called.store (m.top + 4) (m.top + frame_words row.part.here.its.body) }
+
+    marking : mstep m ≡ mark_row levels row.part.here.middle m
+    marking = at_step ctx m shared.program (Mrk levels) row.part.here.middle row.part.here.mark
+
+    marks : m.top + 4 ≤ m.limit → advanced (running m s.world) ≡ running marked s.world
+    marks room = advances m s.world _ (marking ∙ no _ _ _ (le-ltb m.limit (m.top + 4) room))
+
+    entry_is : entry_in (module_at m.modules m.running) proc ≡ Some code.entry
+    entry_is =
+        ap (λ (o : Option Module). entry_in o proc)
+        (ap (λ (ms : List Module). module_at ms m.running) shared.program.table_is ∙ ap (module_at ctx.table) shared.program.running_is ∙ shared.program.known)
+        ∙ ap (option_map its_entry) code.there
+
+    calls : advanced (running marked s.world) ≡ running called s.world
+    calls = advances marked s.world _ (
+        at_step ctx marked shared.program (Cll proc 0) row.part.end row.part.here.call
+        ∙ yes _ _ _ (and_from _ _ (le-leb (m.frame + 8 + 0) (m.top + 4) (omega (arith, shared.standing.frame_is, words.mark, words.below))) (eq-eqb (length m.stack) 0 (ap length row.part.empty)))
+        ∙ ap (called_row (m.top + 4 - 0 - 4) row.part.end marked) entry_is
+        ∙ ap (λ (at : ℕ). called_row at row.part.end marked (Some code.entry)) (let e : m.top + 4 - 0 - 4 ≡ m.top = omega arith in e)
+        )
+
+    enters : mstep called ≡ enter_row (frame_words row.part.here.its.body) code.code.start called
+    enters = at_step ctx called shared.program (Ent (frame_words row.part.here.its.body)) code.code.start code.code.enter
+
+    -- ---- without room
+    -- what the next state needs
+    calls_cost : chain ctx.library s.loaded entering.activations entering.items ≡ (frame_words row.part.here.its.body + 17) + cost_of (ctx.stack.frame ∷ ctx.stack.callers)
+    calls_cost =
+        doing_chain ctx.library s.loaded entering.activations row.part.here.its.body (Perform (End (length s.activations)) ∷ k)
+        ∙ ap (λ (z : List Activation). chain ctx.library s.loaded (z ++ new ∷ []) (Perform (End (length s.activations)) ∷ k)) shared.activations_are
+        ∙ ap (λ (ns : List ℕ). chain ctx.library ns all (Perform (End (length s.activations)) ∷ k)) shared.loaded_are
+        ∙ ap (λ (o : Option Activation). cost ctx.library ctx.loaded o + with_callers o (chain ctx.library ctx.loaded all k)) runs
+        ∙ ap (λ (p : ℕ). cost ctx.library ctx.loaded (Some new) + unless_body p (chain ctx.library ctx.loaded all k)) number.is
+        ∙ ap (λ (i : ℕ). (frame_of (loaded_at ctx.library ctx.loaded i) proc + 17) + chain ctx.library ctx.loaded all k) owner_is
+        ∙ ap (λ (w : ℕ). (w + 17) + chain ctx.library ctx.loaded all k) (frame_known (loaded_at ctx.library ctx.loaded ctx.stack.frame.number) proc row.part.here.its listed)
+        ∙ ap (λ (w : ℕ). (frame_words row.part.here.its.body + 17) + w) under
+      where
+        under : chain ctx.library ctx.loaded all k ≡ cost_of (ctx.stack.frame ∷ ctx.stack.callers)
+        under =
+            items_cost (renewed ctx all ctx.home ctx.stack.limit) k Quiet row.part.end [] c a
+            (rows_renewed k ctx all ctx.home ctx.stack.limit (ctx.stack.base + 4) above.1 Quiet row.part.end [] c a
+            (record { shadow = λ i from below. refl; base = λ r e l. refl; shape = λ r e l. refl; targets = refl; workspaces = extends_self ctx.home.workspaces })
+            row.then) (
+              known_costs ctx.library ctx.loaded ctx.table all ctx.home ctx.stack.frame (known_grown ctx.library ctx.loaded ctx.table ctx.activations all ctx.home grows ctx.stack.frame known),
+              each_costs ctx.library ctx.loaded ctx.table all ctx.home ctx.stack.callers (each_grown ctx.library ctx.loaded ctx.table ctx.activations all ctx.home grows ctx.stack.callers shared.standing.callers),
+            )
+
+    short : m.limit < m.top + frame_words row.part.here.its.body → IsShort ctx.library ctx.stack.base (next ctx.library now)
+    short less = subst (IsShort ctx.library ctx.stack.base) (sym becomes) (record {
+      less = omega (arith, calls_cost, less, shared.heap.rest, shared.standing.limit_is, top_low h.owner st.base m.top st.frame st.callers shared.standing.stands);
+    })
+
+    more : 1 < length (next ctx.library now).activations
+    more = subst (λ (t : Source). 1 < length t.activations) (sym becomes) (
+        let one = slice_get_within ctx.activations ctx.stack.frame.activation known.its known.runs in
+        let all_more = slice_get_within (s.activations ++ new ∷ []) (length s.activations) new (last_there s.activations new) in
+        omega (arith, one, all_more, ap length shared.activations_are)
+        )
+
+    -- ---- with room
+    module _ (room : m.top + frame_words row.part.here.its.body ≤ ctx.stack.limit) where
+      abbrev lo : ℕ
+      lo = m.top
+
+      abbrev hi : ℕ
+      hi = m.top + frame_words row.part.here.its.body
+
+      abbrev first : List ℕ
+      first = link_word levels m ∷ 0 ∷ 0 ∷ 0 ∷ []
+
+      abbrev second : List ℕ
+      second = m.frame ∷ row.part.end ∷ m.running ∷ []
+
+      abbrev blank : List ℕ
+      blank = zeros (m.top + frame_words row.part.here.its.body - (m.top + 4))
+
+      blank_long : length (zeros (m.top + frame_words row.part.here.its.body - (m.top + 4))) ≡ m.top + frame_words row.part.here.its.body - (m.top + 4)
+      blank_long = zeros_length (m.top + frame_words row.part.here.its.body - (m.top + 4))
+
+      low : m.top + frame_words row.part.here.its.body ≤ 65535
+      low = omega (arith, room, shared.standing.high)
+
+      first_room : m.top + length first ≤ length m.store
+      first_room = omega (arith, shared.mem.long, low)
+
+      first_long : length marked.store ≡ 65536
+      first_long = spliced_length m.store m.top first first_room ∙ shared.mem.long
+
+      second_room : m.top + 1 + length second ≤ length marked.store
+      second_room = omega (arith, first_long, low)
+
+      second_long : length called.store ≡ 65536
+      second_long = spliced_length marked.store (m.top + 1) second second_room ∙ first_long
+
+      third_room : m.top + 4 + length blank ≤ length called.store
+      third_room = omega (arith, second_long, low, blank_long)
+
+      long : length inside.store ≡ 65536
+      long = spliced_length called.store (m.top + 4) blank third_room ∙ second_long
+
+      stays : (i : ℕ) → (i < m.top) ⊎ (m.top + frame_words row.part.here.its.body ≤ i) → get_or inside.store i 0 ≡ get_or m.store i 0
+      stays i (inl z) =
+          spliced_before called.store (m.top + 4) blank i third_room (omega (arith, z))
+          ∙ spliced_before marked.store (m.top + 1) second i second_room (omega (arith, z))
+          ∙ spliced_before m.store m.top first i first_room z
+      stays i (inr z) =
+          spliced_after called.store (m.top + 4) blank i third_room (omega (arith, z, blank_long))
+          ∙ spliced_after marked.store (m.top + 1) second i second_room (omega (arith, z))
+          ∙ spliced_after m.store m.top first i first_room (omega (arith, z))
+
+      link_there : get_or inside.store m.top 0 ≡ link_word levels m
+      link_there =
+          spliced_before called.store (m.top + 4) blank m.top third_room (omega arith)
+          ∙ spliced_before marked.store (m.top + 1) second m.top second_room (omega arith)
+          ∙ ap (λ (i : ℕ). get_or marked.store i 0) (let e : m.top ≡ m.top + 0 = omega arith in e)
+          ∙ spliced_there m.store m.top first 0 first_room (omega arith)
+
+      mark_there : (i : ℕ) → i < 3 → get_or inside.store (m.top + 1 + i) 0 ≡ get_or second i 0
+      mark_there i less =
+          spliced_before called.store (m.top + 4) blank (m.top + 1 + i) third_room (omega (arith, less))
+          ∙ spliced_there marked.store (m.top + 1) second i second_room (omega (arith, less))
+
+      -- the frame's words are the machine's own
+      abbrev x : Home
+      x = record (ctx.home) {
+        owner = painted ctx.home.owner m.top (m.top + frame_words row.part.here.its.body) (λ i. Own);
+        shadow = painted ctx.home.shadow m.top (m.top + frame_words row.part.here.its.body) (λ i. get_or inside.store i 0);
+      }
+
+      abbrev Beside : ℕ → Type 0
+      Beside i = (i < m.top) ⊎ ((m.top ≤ i) × (m.top + frame_words row.part.here.its.body ≤ i))
+
+      owner_own : (i : ℕ) → m.top ≤ i → i < m.top + frame_words row.part.here.its.body → x.owner i ≡ Own
+      owner_own i from below = painted_there ctx.home.owner m.top (m.top + frame_words row.part.here.its.body) (λ j. Own) i from below
+
+      owner_beside : (i : ℕ) → Beside i → x.owner i ≡ ctx.home.owner i
+      owner_beside i o = painted_beside ctx.home.owner m.top (m.top + frame_words row.part.here.its.body) (λ j. Own) i o
+
+      shadow_there : (i : ℕ) → m.top ≤ i → i < m.top + frame_words row.part.here.its.body → x.shadow i ≡ get_or inside.store i 0
+      shadow_there i from below = painted_there ctx.home.shadow m.top (m.top + frame_words row.part.here.its.body) (λ j. get_or inside.store j 0) i from below
+
+      shadow_beside : (i : ℕ) → Beside i → x.shadow i ≡ ctx.home.shadow i
+      shadow_beside i o = painted_beside ctx.home.shadow m.top (m.top + frame_words row.part.here.its.body) (λ j. get_or inside.store j 0) i o
+
+      was_free : (i : ℕ) → m.top ≤ i → i < m.top + frame_words row.part.here.its.body → ctx.home.owner i ≡ Free ctx.stack.base
+      was_free i from below = shared.standing.room i from (omega (arith, below, room))
+
+      -- a word that isn't free lies beside them
+      used : (i : ℕ) → (ctx.home.owner i ≡ Free ctx.stack.base → ⊥) → Beside i
+      used i some = by (side m.top (m.top + frame_words row.part.here.its.body) i)
+        where
+          by : Side m.top (m.top + frame_words row.part.here.its.body) i → Beside i
+          by (Before z) = inl z
+          by (Between z y) = absurd (some (was_free i z y))
+          by (Behind' z y) = inr (z, y)
+
+      stays_beside : (i : ℕ) → Beside i → get_or inside.store i 0 ≡ get_or m.store i 0
+      stays_beside i (inl z) = stays i (inl z)
+      stays_beside i (inr z) = stays i (inr z.1)
+
+      fixed_kept : (i : ℕ) → ctx.home.owner i ≡ Fixed → (x.owner i ≡ Fixed) × (x.shadow i ≡ ctx.home.shadow i)
+      fixed_kept i is =
+          let o = used i (λ free. free_fixed ctx.stack.base (sym free ∙ is)) in
+          (owner_beside i o ∙ is, shadow_beside i o)
+
+      mem : Mem x s.cells inside.store
+      mem = record {
+        owned = λ r i less. let o = used (h.base r + i) (λ free. of_free r ctx.stack.base (sym (shared.mem.owned r i less) ∙ free)) in owner_beside (h.base r + i) o ∙ shared.mem.owned r i less;
+        inside = shared.mem.inside;
+        holds = λ r q j e.
+            let old = shared.mem.holds r q j e in
+            let o = used (h.base r + offset (h.shape r) q) (λ free. of_free r ctx.stack.base (sym (scalar_owned h s.cells m.store r q j shared.mem e).0 ∙ free)) in
+            is_word_kept h x (λ i z. refl) (λ i z. refl) refl (extends_self h.workspaces) j (s.cells r q) (get_or inside.store (h.base r + offset (h.shape r) q) 0)
+            (record { word = stays_beside (h.base r + offset (h.shape r) q) o ∙ old.word; fits = old.fits; refers = old.refers });
+        kept = λ i own. kept i own (side m.top (m.top + frame_words row.part.here.its.body) i);
+        fixed = λ i is. fixed_there i is (side m.top (m.top + frame_words row.part.here.its.body) i);
+        long = long;
+      }
+        where
+          kept : (i : ℕ) → x.owner i ≡ Own → Side m.top (m.top + frame_words row.part.here.its.body) i → get_or inside.store i 0 ≡ x.shadow i
+          kept i own (Before z) = stays i (inl z) ∙ shared.mem.kept i (sym (owner_beside i (inl z)) ∙ own) ∙ sym (shadow_beside i (inl z))
+          kept i own (Between z y) = sym (shadow_there i z y)
+          kept i own (Behind' z y) = stays i (inr y) ∙ shared.mem.kept i (sym (owner_beside i (inr (z, y))) ∙ own) ∙ sym (shadow_beside i (inr (z, y)))
+
+          fixed_there : (i : ℕ) → x.owner i ≡ Fixed → Side m.top (m.top + frame_words row.part.here.its.body) i → get_or inside.store i 0 ≡ x.shadow i
+          fixed_there i is (Before z) = stays i (inl z) ∙ shared.mem.fixed i (sym (owner_beside i (inl z)) ∙ is) ∙ sym (shadow_beside i (inl z))
+          fixed_there i is (Between z y) = absurd (own_fixed (sym (owner_own i z y) ∙ is))
+          fixed_there i is (Behind' z y) = stays i (inr y) ∙ shared.mem.fixed i (sym (owner_beside i (inr (z, y))) ∙ is) ∙ sym (shadow_beside i (inr (z, y)))
+
+      -- ---- the new frame
+      abbrev frame : Frame
+      frame = record {
+        activation = length s.activations;
+        number = ctx.stack.frame.number;
+        procedure = proc;
+        own = ctx.stack.frame.own;
+        layout = code.inner;
+        at = m.top;
+        back = row.part.end;
+      }
+
+      abbrev stack : Stack
+      stack = record (ctx.stack) { frame = frame; callers = ctx.stack.frame ∷ ctx.stack.callers }
+
+      abbrev within : Setting
+      within = record ctx { activations = all; home = x; stack = stack }
+
+      new_known : IsKnown ctx.library ctx.loaded ctx.table all x frame
+      new_known =
+          let kept = known_kept ctx.library ctx.loaded ctx.table ctx.activations h x (λ r e. refl) (λ r e. refl) refl fixed_kept ctx.stack.frame known in
+          record {
+            known = known.known;
+            named = known.named;
+            its = new;
+            runs = runs;
+            owner = ap owner_of runs ∙ owner_is;
+            called = ap procedure_of runs;
+            entered = record { entry = code.entry; there = code.there ∙ ap (λ (n : Option (List ℕ)). Some (code.entry, n)) (sym (name_known (loaded_at ctx.library ctx.loaded ctx.stack.frame.number) proc row.part.here.its listed)) };
+            size = code.frame ∙ sym (frame_known (loaded_at ctx.library ctx.loaded ctx.stack.frame.number) proc row.part.here.its listed);
+            procedures = code.part.procedures ∙ known.procedures;
+            codes = codes_part ctx.stack.frame.own ctx.stack.frame.layout code.inner code.part known.codes;
+            variables = λ v o t at typed.
+                kept.variables v o t (ap (λ (os : List ℕ). slice_get os v) (sym code.part.offsets) ∙ at) (ap (λ (ts : List Shape). slice_get ts v) (sym code.part.variables) ∙ typed);
+            strings = λ i less.
+                let old = kept.strings i (omega (arith, less, ap length code.part.strings)) in
+                let at : ctx.stack.frame.own.base + (ctx.stack.frame.layout.words + i) ≡ ctx.stack.frame.own.base + (code.inner.words + i) = omega (arith, code.part.words) in (
+                  ap x.owner (sym at) ∙ old.0,
+                  ap x.shadow (sym at) ∙ old.1 ∙ ap (λ (ws : List ℕ). get_or ws i 0) (sym code.part.strings),
+                );
+            inside = omega (arith, known.inside, code.part.words, ap length code.part.strings);
+            targets = code.part.targets ∙ known.targets;
+            own_targets = known.own_targets;
+          }
+
+      -- its first word says where the frame of the activation around it begins
+      linked : (n : ℕ) → levels ≡ n → Declared ctx.stack.frame.layout.chain n row.part.here.its.around
+          → Linked x.shadow all (length s.activations) m.top (proc ∷ row.part.here.its.around) (ctx.stack.frame ∷ ctx.stack.callers)
+      linked zero e d = subst (λ (es : List ℕ). Linked x.shadow all (length s.activations) m.top (proc ∷ es) (ctx.stack.frame ∷ ctx.stack.callers)) (sym d) tt
+      linked (suc i) e d =
+          let one = one_left ctx.stack.frame.layout.chain i d.0 in
+          let up : Climbs ctx.activations m.store ctx.stack.frame ctx.stack.callers i =
+          climbs h.shadow ctx.activations m.store st.frame st.callers shared.standing.links
+          (λ g among. shared.mem.kept g.at (first_own h.owner st.base m.top st.frame st.callers shared.standing.stands g among)) i d.0 in
+          subst (λ (es : List ℕ). Linked x.shadow all (length s.activations) m.top (proc ∷ es) (ctx.stack.frame ∷ ctx.stack.callers)) (sym (d.1 ∙ one.is))
+          (record {
+            to = up.to;
+            among = up.among;
+            outer = ap outer_of runs
+                ∙ ap (declaring s.activations (current k)) e
+                ∙ ap (λ (b : ℕ). level_out s.activations b i) close
+                ∙ ap (λ (z : List Activation). level_out z ctx.stack.frame.activation i) shared.activations_are
+                ∙ up.level;
+            chain = up.chain ∙ one.is;
+            word = shadow_there m.top (omega arith) (omega arith)
+                ∙ link_there
+                ∙ ap (λ (n : ℕ). link_word n m) e
+                ∙ ap (λ (b : ℕ). frame_out m.store b i) shared.standing.frame_is
+                ∙ up.reached;
+          })
+
+      enters_it : advanced (running called s.world) ≡ running inside s.world
+      enters_it = advances called s.world _ (
+          enters
+          ∙ no _ _ _ (le-ltb (m.top + frame_words row.part.here.its.body) (m.top + 4) (omega arith))
+          ∙ no _ _ _ (le-ltb m.limit (m.top + frame_words row.part.here.its.body) (omega (arith, room, shared.standing.limit_is)))
+          )
+
+      below_same : (i : ℕ) → i < m.top → x.owner i ≡ ctx.home.owner i
+      below_same i z = owner_beside i (inl z)
+
+      left : Rows (renewed ctx all x ctx.stack.limit) k Quiet row.part.end [] c a
+      left =
+          rows_renewed k ctx all x ctx.stack.limit (ctx.stack.base + 4) above.1 Quiet row.part.end [] c a
+          (record {
+            shadow = λ i from below. shadow_beside i (inl (omega (arith, below, loops, words.below)));
+            base = λ r e z. refl;
+            shape = λ r e z. refl;
+            targets = refl;
+            workspaces = extends_self h.workspaces;
+          })
+          row.then
+
+      pub goes_in : Goes ctx s items called (c + 30)
+      goes_in =
+          let g = shared.standing in
+          goes_one_grown ctx s items called all x stack (c + 30) c (running inside s.world) enters_it
+          (subst (λ (t : Source). Lands within t.phase t (running inside s.world) c) (sym becomes)
+          (record {
+            machine = inside;
+            is = refl;
+            met = record {
+              shared = record {
+                mem = mem;
+                heap = shared.heap;
+                program = record { table_is = shared.program.table_is; known = shared.program.known; running_is = shared.program.running_is; marked_is = shared.program.marked_is };
+                standing = record {
+                  frame_is = refl;
+                  base_is = g.base_is;
+                  limit_is = g.limit_is;
+                  bodies_are = g.bodies_are;
+                  known = new_known;
+                  callers = (
+                    known_grown ctx.library ctx.loaded ctx.table ctx.activations all x grows ctx.stack.frame (known_kept ctx.library ctx.loaded ctx.table ctx.activations h x (λ r e. refl) (λ r e. refl) refl fixed_kept ctx.stack.frame known),
+                    each_grown ctx.library ctx.loaded ctx.table ctx.activations all x grows ctx.stack.callers (each_known ctx.library ctx.loaded ctx.table ctx.activations h x (λ r e. refl) (λ r e. refl) refl fixed_kept ctx.stack.callers g.callers),
+                  );
+                  comes = comes_grown ctx.library ctx.loaded ctx.table ctx.activations all x grows ctx.stack.base ctx.stack.bodies (each_comes ctx.library ctx.loaded ctx.table ctx.activations h x (λ r e. refl) (λ r e. refl) refl fixed_kept ctx.stack.base ctx.stack.bodies g.comes);
+                  stands = (
+                    record {
+                      mark = omega (arith, code.frame);
+                      below = omega (arith, code.frame);
+                      most = omega (arith, code.frame);
+                      own = λ i z. owner_own (m.top + i) (omega arith) z;
+                    },
+                    stands_kept h.owner x.owner st.base m.top st.frame st.callers (λ i from below. below_same i below) g.stands,
+                  );
+                  links = (
+                    subst (λ (es : List ℕ). Linked x.shadow all (length s.activations) m.top es (ctx.stack.frame ∷ ctx.stack.callers)) (sym code.chain) (linked levels refl row.part.here.declared),
+                    chained_kept h.shadow x.shadow ctx.activations all grows h.owner st.base m.top st.frame st.callers g.stands (λ i from below. shadow_beside i (inl (omega (arith, below, words.mark, words.below)))) g.links,
+                  );
+                  room = λ i from below. owner_beside i (inr (omega (arith, from), from)) ∙ g.room i (omega (arith, from)) below;
+                  low = room;
+                  high = g.high;
+                };
+                activations_are = ap (λ (z : List Activation). z ++ new ∷ []) shared.activations_are;
+                loaded_are = shared.loaded_are;
+                levels = shared.levels;
+                parked_are = shared.parked_are;
+                kept_are = shared.kept_are;
+              };
+              around = outside;
+              ahead = subst (λ (z : List ℕ). Ahead within entering.items Quiet code.code.start z c outside) (sym row.part.empty)
+                  (rows_ahead within entering.items code.code.start [] c outside
+                  (body_rows within row.part.here.its.body (Perform (End (length s.activations)) ∷ k) code.code.start code.code.end c outside code.code.body (instr_within own.code code.code.end Rtn code.code.after code.code.leave)
+                  (at_once within _ Quiet code.code.end [] c outside
+                  (record {
+                    quiet = refl;
+                    empty = refl;
+                    activation = refl;
+                    alone = refl;
+                    free = code.free;
+                    end = code.code.after;
+                    leave = code.code.leave;
+                    behind = record {
+                      before = number.before;
+                      called = number.is;
+                      outer = a;
+                      under = omega (arith, loops, words.below);
+                      frame = shadow_there (m.top + 1) (omega arith) (omega arith) ∙ ap (λ (i : ℕ). get_or inside.store i 0) (let e : m.top + 1 ≡ m.top + 1 + 0 = omega arith in e) ∙ mark_there 0 (omega arith) ∙ g.frame_is;
+                      place = shadow_there (m.top + 2) (omega arith) (omega arith) ∙ ap (λ (i : ℕ). get_or inside.store i 0) (let e : m.top + 2 ≡ m.top + 1 + 1 = omega arith in e) ∙ mark_there 1 (omega arith);
+                      module' = shadow_there (m.top + 3) (omega arith) (omega arith) ∙ ap (λ (i : ℕ). get_or inside.store i 0) (let e : m.top + 3 ≡ m.top + 1 + 2 = omega arith in e) ∙ mark_there 2 (omega arith) ∙ shared.program.running_is;
+                      then = left;
+                    };
+                  }))));
+            };
+          }))
+          (record {
+            owner = λ i o. owner_beside i (⊎_elim (λ (z : i < ctx.stack.base). inl (omega (arith, z, above.0, words.below))) (λ (z : ctx.stack.limit ≤ i). inr (omega (arith, z, room), omega (arith, z, room))) o);
+            shadow = λ i o. shadow_beside i (⊎_elim (λ (z : i < ctx.stack.base). inl (omega (arith, z, above.0, words.below))) (λ (z : ctx.stack.limit ≤ i). inr (omega (arith, z, room), omega (arith, z, room))) o);
+            base = λ r e. refl;
+            shape = λ r e. refl;
+            targets = refl;
+            workspaces = extends_self h.workspaces;
+            fixed = fixed_kept;
+          })
+          (refl, omega arith)
+          grows
+          (omega arith)
+
+    pub call_goes : Goes ctx s (Perform (Do (Call proc levels)) ∷ k) m (c + 32)
+    call_goes =
+        ⊎_elim (λ (less : m.limit < m.top + 4).
+        goes_full ctx s items m (c + 32) limit.Stack (marking ∙ yes _ _ _ (lt-ltb m.limit (m.top + 4) less)) (short (omega (arith, less)), more) (omega arith))
+        (λ (some : m.top + 4 ≤ m.limit).
+        goes_after ctx s items m marked (c + 32) (c + 31) (marks some)
+        (goes_after ctx s items marked called (c + 31) (c + 30) calls
+        (⊎_elim (λ (less : m.limit < m.top + frame_words row.part.here.its.body).
+        goes_full ctx s items called (c + 30) limit.Stack
+        (enters
+        ∙ no _ _ _ (le-ltb (m.top + frame_words row.part.here.its.body) (m.top + 4) (omega arith))
+        ∙ yes _ _ _ (lt-ltb m.limit (m.top + frame_words row.part.here.its.body) less))
+        (short less, more) (omega arith))
+        (λ (fits : m.top + frame_words row.part.here.its.body ≤ m.limit). goes_in (omega (arith, fits, shared.standing.limit_is)))
+        (cases_lt m.limit (m.top + frame_words row.part.here.its.body)))
+        (omega arith))
+        (omega arith)) (cases_lt m.limit (m.top + 4))
