@@ -6,7 +6,8 @@ use Rattle.lil_resolved.specs.Resolved.{Resolved}
 use Rattle.lil_resolved.specs.Sizes.{IsSmall}
 use Rattle.lil_meaning.specs.World.{World}
 use Rattle.lil_meaning.specs.Items.{Phase}
-use Rattle.lil_mcode.specs.State.{Module, State}
+use Rattle.lil_meaning.specs.Runs.{state_of}
+use Rattle.lil_mcode.specs.State.{State}
 use Rattle.lil_mcode.specs.Calls.{Machine}
 use Rattle.lil_session.specs.declared.run.Ending.{Ending}
 use Rattle.lil_session.specs.declared.run.Ending.TheVariants as ending
@@ -14,26 +15,37 @@ use Rattle.lil_session.specs.declared.status.Status.{Status}
 use Rattle.lil_session.specs.declared.status.Status.TheVariants as a
 use Rattle.lil_table.specs.Rows.{Translates}
 use Rattle.lil_session.specs.Running.{finish_of, HasRun, IsCut}
-use Rattle.lil_match.specs.Running.{Finish, Running, TrappedBy, Limited}
+use Rattle.lil_match.specs.Running.{Finish, Running, TrappedBy, Limited, mrun, running}
 use Rattle.lil_session.specs.Loaded.{EndingAnswers}
-use Rattle.lil_laws.specs.Loading.{loaded}
-use Rattle.lil_session.specs.Outcome.{settled, Allowed, IsOver}
+use Rattle.lil_laws.specs.Loading.{IsSpent, loaded}
+use Rattle.lil_laws.specs.Whole.{claimed}
+use Rattle.lil_laws.specs.Alone.{loaded_state, correct}
+use Rattle.lil_session.specs.Outcome.{settled}
 use Rattle.lil_session.specs.Counted.{IsEnd, FinishAnswers, MachineRan, MachineAnswers}
+use Rattle.lil_session.specs.Headline.{Allowed, IsOver}
 use Rattle.lil_session.specs.Report.{is_fixed}
-use Rattle.lil_session.proofs.Enough.{enough}
-use Rattle.lil_session.proofs.Spent.{spent_at}
 
 module _ (p : Resolved) (strings code : List ℕ) (small : IsSmall p strings) (t : Translates p strings code) (bare : p.procedures ≡ []) (steps : ℕ) (old new : Option (List ℕ)) (w : World) where
   abbrev start : State
   start = (loaded p strings code).state
 
+  -- the state of the meaning that the run has come to
+  abbrev so_far : ℕ
+  so_far = (correct p strings code small t bare w steps).n
+
+  -- a limit comes only where that state comes to it
+  spent_at : (k : LimitKind) → (mrun steps (running start w)).finish ≡ Limited k → IsSpent p strings k (state_of p w so_far)
+  spent_at k is =
+      let same = ap (λ (s : State). (mrun steps (running s w)).finish) (loaded_state p strings code small t bare) in
+      claimed (Limited k) (correct p strings code small t bare w steps).agrees (sym same ∙ is)
+
   same_limit : (k j : LimitKind) → a.Limit k ≡ a.Limit j → Limited k ≡ Limited j
   same_limit k j is = cc
 
   -- a run that took its budget or came to its end
-  ran_all : (end : State) (f : Finish) (s : Status) → HasRun start end steps f old new w → FinishAnswers s steps steps f → (f ≡ Running → settled s ≡ true → s ≡ a.StepsSpent) → (s ≡ a.StepsSpent → f ≡ Running) → ((k : LimitKind) → s ≡ a.Limit k → f ≡ Limited k) → s ≢ a.ScreenFault
-      → MachineRan p w steps old new s
-  ran_all end f s ran fits spent goes full no_cut = record {
+  ran_all : (end : State) (f : Finish) (s : Status) → HasRun start end steps f old new w → FinishAnswers s steps steps f → (f ≡ Running → settled s ≡ true → s ≡ a.StepsSpent) → ((k : LimitKind) → s ≡ a.Limit k → f ≡ Limited k) → s ≢ a.ScreenFault
+      → MachineRan p w so_far steps old new s
+  ran_all end f s ran fits spent full no_cut = record {
     strings = strings;
     code = code;
     translates = t;
@@ -43,28 +55,27 @@ module _ (p : Resolved) (strings code : List ℕ) (small : IsSmall p strings) (t
     shown = λ _. ran.shown;
     cut = λ is. absurd (no_cut is);
     spent = λ on. spent (ran.finish ∙ on);
-    limited = λ k is. spent_at p strings code small t bare w steps old new k (sym ran.finish ∙ full k is) ran.shown;
-    enough = λ is. enough p strings code small t bare w steps (sym ran.finish ∙ goes is);
+    limited = λ k is. spent_at k (sym ran.finish ∙ full k is);
   }
 
-  pub machine_end : (machine : Machine) (e : Ending) (s : Status) → HasRun start machine.state steps (finish_of e) old new w → EndingAnswers machine e s → MachineAnswers p w steps old new s
+  pub machine_end : (machine : Machine) (e : Ending) (s : Status) → HasRun start machine.state steps (finish_of e) old new w → EndingAnswers machine e s → MachineAnswers p w so_far steps old new s
   machine_end machine ending.Done s ran is =
-      subst (λ (x : Status). MachineAnswers p w steps old new x) (sym is) (ran_all machine.state (finish_of ending.Done) a.Done ran refl (λ goes ok. cc) (λ is. cc) (λ k is. cc) (λ is. cc))
+      subst (λ (x : Status). MachineAnswers p w so_far steps old new x) (sym is) (ran_all machine.state (finish_of ending.Done) a.Done ran refl (λ goes ok. cc) (λ k is. cc) (λ is. cc))
   machine_end machine (ending.Trapped k) s ran (inl memory) =
-      subst (λ (x : Status). MachineAnswers p w steps old new x) (sym memory) (inr (ran_all machine.state (finish_of (ending.Trapped k)) a.Memory ran tt (λ goes ok. cc) (λ is. cc) (λ k is. cc) (λ is. cc)))
+      subst (λ (x : Status). MachineAnswers p w so_far steps old new x) (sym memory) (inr (ran_all machine.state (finish_of (ending.Trapped k)) a.Memory ran tt (λ goes ok. cc) (λ k is. cc) (λ is. cc)))
   machine_end machine (ending.Trapped k) s ran (inr (u, is, it)) =
-      subst (λ (x : Status). MachineAnswers p w steps old new x) (sym is)
-      (ran_all machine.state (finish_of (ending.Trapped k)) (a.Trapped u) ran (ap (λ (x : TrapKind). TrappedBy x) (sym it.same)) (λ goes ok. cc) (λ is. cc) (λ k is. cc) (λ is. cc))
+      subst (λ (x : Status). MachineAnswers p w so_far steps old new x) (sym is)
+      (ran_all machine.state (finish_of (ending.Trapped k)) (a.Trapped u) ran (ap (λ (x : TrapKind). TrappedBy x) (sym it.same)) (λ goes ok. cc) (λ k is. cc) (λ is. cc))
   machine_end machine (ending.Limited k) s ran is =
-      subst (λ (x : Status). MachineAnswers p w steps old new x) (sym is)
-      (ran_all machine.state (finish_of (ending.Limited k)) (a.Limit k) ran refl (λ goes ok. cc) (λ is. cc) (λ j is. same_limit k j is) (λ is. cc))
+      subst (λ (x : Status). MachineAnswers p w so_far steps old new x) (sym is)
+      (ran_all machine.state (finish_of (ending.Limited k)) (a.Limit k) ran refl (λ goes ok. cc) (λ j is. same_limit k j is) (λ is. cc))
   machine_end machine ending.Spent s ran is =
-      subst (λ (x : Status). MachineAnswers p w steps old new x) (sym is) (ran_all machine.state (finish_of ending.Spent) a.StepsSpent ran (refl, refl) (λ goes ok. refl) (λ is. refl) (λ k is. cc) (λ is. cc))
+      subst (λ (x : Status). MachineAnswers p w so_far steps old new x) (sym is) (ran_all machine.state (finish_of ending.Spent) a.StepsSpent ran (refl, refl) (λ goes ok. refl) (λ k is. cc) (λ is. cc))
   machine_end machine _ s ran is = absurd is
 
   -- a run that the screen stopped: its request failed
-  pub machine_cut : IsCut start steps old new w → MachineAnswers p w steps old new a.ScreenFault
-  machine_cut cut = record {
+  pub machine_cut : (n : ℕ) → IsCut start steps old new w → MachineAnswers p w n steps old new a.ScreenFault
+  machine_cut n cut = record {
     strings = strings;
     code = code;
     translates = t;
@@ -75,12 +86,11 @@ module _ (p : Resolved) (strings code : List ℕ) (small : IsSmall p strings) (t
     cut = λ is. cut.refused;
     spent = λ goes ok. cc;
     limited = λ k is. cc;
-    enough = λ is. cc;
   }
 
 -- an answer whose lines failed, or that wanted memory for them, comes from the same run
-module _ (p : Resolved) (w : World) (steps : ℕ) (old new : Option (List ℕ)) where
-  pub ran_settled : (s : Status) → settled s ≡ true → MachineAnswers p w steps old new s → MachineRan p w steps old new s
+module _ (p : Resolved) (w : World) (n steps : ℕ) (old new : Option (List ℕ)) where
+  pub ran_settled : (s : Status) → settled s ≡ true → MachineAnswers p w n steps old new s → MachineRan p w n steps old new s
   ran_settled a.Done is ran = ran
   ran_settled (a.Trapped t) is ran = ran
   ran_settled (a.Limit k) is ran = ran
@@ -92,7 +102,7 @@ module _ (p : Resolved) (w : World) (steps : ℕ) (old new : Option (List ℕ)) 
   ran_settled _ is ran = absurd ran
 
   -- memory is wanted for the lines of a trap alone: those of Done, of a limit and of a spent budget are fixed
-  pub ran_memory : (s : Status) → is_fixed s ≡ false → MachineAnswers p w steps old new s → MachineRan p w steps old new a.Memory
+  pub ran_memory : (s : Status) → is_fixed s ≡ false → MachineAnswers p w n steps old new s → MachineRan p w n steps old new a.Memory
   ran_memory (a.Trapped t) made ran = record {
     strings = ran.strings;
     code = ran.code;
@@ -104,7 +114,6 @@ module _ (p : Resolved) (w : World) (steps : ℕ) (old new : Option (List ℕ)) 
     cut = λ is. cc;
     spent = λ goes ok. cc;
     limited = λ k is. cc;
-    enough = λ spent. cc;
   }
   ran_memory a.Done made ran = cc
   ran_memory (a.Limit k) made ran = cc
@@ -116,7 +125,7 @@ module _ (p : Resolved) (w : World) (steps : ℕ) (old new : Option (List ℕ)) 
   ran_memory _ made ran = absurd ran
 
   -- and the meaning is over there
-  pub over_where : (s : Status) (e : Phase) → is_fixed s ≡ false → MachineAnswers p w steps old new s → Allowed s e → IsOver e
+  pub over_where : (s : Status) (e : Phase) → is_fixed s ≡ false → MachineAnswers p w n steps old new s → Allowed s e → IsOver e
   over_where (a.Trapped t) e made ran allowed = subst IsOver (sym allowed) tt
   over_where a.Done e made ran allowed = cc
   over_where (a.Limit k) e made ran allowed = cc

@@ -15,8 +15,9 @@ use Rattle.lil_volume.specs.Told.{Files, FileIs, followed_by}
 use Rattle.lil_session.specs.declared.status.Status.{Status}
 use Rattle.lil_session.specs.declared.status.Status.TheVariants as a
 use Rattle.lil_session.specs.Words.{mod_file}
-use Rattle.lil_session.specs.Outcome.{cuts, settled, gives_way, with_writes, Allowed, Answers, EndsSo, SourceAnswers, TextAnswers, Blames, Devices, Finds, HasFault, HasMeaning, Headline, IsRunAnswer, IsRunnable, MeansAnswer, ReadsOne, Runs, Shows}
+use Rattle.lil_session.specs.Outcome.{cuts, settled, gives_way, Answers, EndsSo, SourceAnswers, TextAnswers, Blames, Devices, Finds, HasFault, HasMeaning, IsRunAnswer, IsRunnable, MeansAnswer, ReadsOne, Runs}
 use Rattle.lil_session.specs.Counted.{MachineAnswers}
+use Rattle.lil_session.specs.Headline.{with_writes, Allowed, Headline, Shows}
 use Rattle.lil_session.specs.Answered.{TextRan, CommandRan, IsAnswer, IsUnrun}
 use Rattle.lil_session.proofs.Agree.{texts_agree}
 use Rattle.lil_session.proofs.Screens.{after_grows, after_writes}
@@ -26,20 +27,22 @@ followed_none None more none = refl
 followed_none (Some xs) more none = ap (λ (l : List ℕ). Some l) (sym (ap (λ (l : List ℕ). xs ++ l) none ∙ append-nil xs))
 
 -- before the first step
-pub shows_none : (p : Resolved) (w : World) (old : Option (List ℕ)) (s : Status) → w.screen ≡ [] → s ≢ a.ScreenFault → Allowed s Going → Shows p w old old s
-shows_none p w old s none no_screen ends = record {
+pub shows_none : (p : Resolved) (w : World) (steps : ℕ) (old : Option (List ℕ)) (s : Status) → w.screen ≡ [] → s ≢ a.ScreenFault → s ≢ a.StepsSpent → Allowed s Going → MachineAnswers p w 0 steps old old s → Shows p w steps old old s
+shows_none p w steps old s none no_screen no_steps ends machine = record {
   n = 0;
   shown = record {
     whole = λ _. followed_none old w.screen none;
     cut = λ fault. absurd (no_screen fault);
     ends = ends;
     stops = λ _. inl refl;
+    far = λ spent. absurd (no_steps spent);
+    machine = machine;
   };
 }
 
 -- a run that shows so, and takes no keys and writes no files
-pub headline_of : (p : Resolved) (w : World) (before after : Devices) (s : Status) → Finds before.files before.keys w → Shows p w before.shown after.shown s → after.keys ≡ before.keys → after.files ≡ before.files → Headline p w before after s
-headline_of p w before after s finds shows same_keys same_files = record {
+pub headline_of : (p : Resolved) (w : World) (steps : ℕ) (before after : Devices) (s : Status) → Finds before.files before.keys w → Shows p w steps before.shown after.shown s → after.keys ≡ before.keys → after.files ≡ before.files → Headline p w steps before after s
+headline_of p w steps before after s finds shows same_keys same_files = record {
   n = shows.n;
   shown = shows.shown;
   keys = same_keys ∙ finds.keys_told ∙ ap (λ (l : List ℕ). Some l) (sym (after_grows (p ∷ []) shows.n (begun (p ∷ []) (0 ∷ []) (1 ∷ []) w)).keys);
@@ -72,8 +75,7 @@ ran_not name steps before files faults s cause same later asked = record {
   fault_is = λ f is. absurd (no is refl);
   kinds = comes;
   not_report = λ is. absurd (no is refl);
-  headline = λ w p finds runs. headline_of p w before (record before { files = files; volume_faults = faults }) s finds (shows_none p w before.shown s finds.nothing_shown no_screen allowed) refl same;
-  machine = λ w p finds runs. unrun w p;
+  headline = λ w p finds runs. headline_of p w steps before (record before { files = files; volume_faults = faults }) s finds (shows_none p w steps before.shown s finds.nothing_shown no_screen no_steps allowed (unrun w p)) refl same;
   nothing = λ _. refl;
   called = inl (refl, refl);
   asked = asked;
@@ -110,14 +112,23 @@ ran_not name steps before files faults s cause same later asked = record {
     no_screen : s ≡ a.ScreenFault → ⊥
     no_screen is = elim cause [ inl memory ↦ memory_or_screen (sym memory ∙ is) | inr fault ↦ volume_or_screen (sym fault.0 ∙ is) ]
 
+    memory_or_steps : a.Memory ≡ a.StepsSpent → ⊥
+    memory_or_steps is = cc
+
+    volume_or_steps : a.VolumeFault ≡ a.StepsSpent → ⊥
+    volume_or_steps is = cc
+
+    no_steps : s ≡ a.StepsSpent → ⊥
+    no_steps is = elim cause [ inl memory ↦ memory_or_steps (sym memory ∙ is) | inr fault ↦ volume_or_steps (sym fault.0 ∙ is) ]
+
     comes : IsAnswer s
     comes = elim cause [ inl memory ↦ subst (λ (t : Status). IsAnswer t) (sym memory) tt | inr fault ↦ subst (λ (t : Status). IsAnswer t) (sym fault.0) tt ]
 
     allowed : Allowed s Going
     allowed = elim cause [ inl memory ↦ subst (λ (t : Status). Allowed t Going) (sym memory) tt | inr fault ↦ subst (λ (t : Status). Allowed t Going) (sym fault.0) tt ]
 
-    unrun : (w : World) (p : Resolved) → MachineAnswers p w steps before.shown before.shown s
-    unrun w p = elim cause [ inl memory ↦ subst (λ (t : Status). MachineAnswers p w steps before.shown before.shown t) (sym memory) (inl refl) | inr fault ↦ subst (λ (t : Status). MachineAnswers p w steps before.shown before.shown t) (sym fault.0) refl ]
+    unrun : (w : World) (p : Resolved) → MachineAnswers p w 0 steps before.shown before.shown s
+    unrun w p = elim cause [ inl memory ↦ subst (λ (t : Status). MachineAnswers p w 0 steps before.shown before.shown t) (sym memory) (inl refl) | inr fault ↦ subst (λ (t : Status). MachineAnswers p w 0 steps before.shown before.shown t) (sym fault.0) refl ]
 
     rose : s ≡ a.VolumeFault → Rose before.volume_faults faults
     rose is = elim cause [ inl memory ↦ absurd (memory_or_volume (sym memory ∙ is)) | inr fault ↦ fault.1 ]
@@ -143,7 +154,6 @@ text_not file text steps old faults fault unique has = record {
   fault_where = λ f also stays. ap a.SourceFault (unique.fault fault f has also);
   kinds = inl (fault, refl);
   shows = λ w p blank runs. absurd (unique.apart fault p has runs);
-  machine = λ w p blank runs. absurd (unique.apart fault p has runs);
   nothing = λ f same. refl;
   called = inl (refl, refl);
   cause = record { later = omega arith; rose = λ same. cc; quiet = inl refl };
@@ -158,8 +168,7 @@ text_memory file text steps old faults = record {
   fault_only = λ f same. absurd (no_fault f same);
   fault_where = λ f has gives. absurd (no_true (sym gives));
   kinds = inr tt;
-  shows = λ w p blank also. shows_none p w old a.Memory blank (λ is. cc) tt;
-  machine = λ w p blank also. inl refl;
+  shows = λ w p blank also. shows_none p w steps old a.Memory blank (λ is. cc) (λ is. cc) tt (inl refl);
   nothing = λ f same. refl;
   called = inl (refl, refl);
   cause = record { later = omega arith; rose = λ same. cc; quiet = inl refl };
@@ -174,18 +183,17 @@ text_memory file text steps old faults = record {
 
 -- a text that has a meaning was run
 pub text_ran : (file text : List ℕ) (m : Resolved) (steps : ℕ) (old : Option (List ℕ)) (old_faults : ℕ) (new : Option (List ℕ)) (new_faults : ℕ) (s : Status) → ReadsOne file text → HasMeaning file text m
-    → ((w : World) → w.screen ≡ [] → Shows m w old new s)
+    → ((w : World) → w.screen ≡ [] → Shows m w steps old new s)
     → ((w : World) → w.screen ≡ [] → settled s ≡ true → (cuts s ≡ true) ⊎ MeansAnswer m w s)
-    → IsRunAnswer s → ((w : World) → w.screen ≡ [] → MachineAnswers m w steps old new s) → Blames a.ScreenFault old_faults new_faults s → (s ≡ a.ScreenFault) ⊎ (new_faults ≡ old_faults)
+    → IsRunAnswer s → Blames a.ScreenFault old_faults new_faults s → (s ≡ a.ScreenFault) ⊎ (new_faults ≡ old_faults)
     → TextRan file text steps old old_faults new new_faults s
-text_ran file text m steps old old_faults new new_faults s unique meaning shows answer kinds machine cause told = record {
+text_ran file text m steps old old_faults new new_faults s unique meaning shows answer kinds cause told = record {
   one = λ settles. unique;
   answer = λ w none is. either (answer w none is);
   fault_only = λ f is. absurd (no_fault f is);
   fault_where = λ f has stays. absurd (unique.apart f m has meaning);
   kinds = inr kinds;
-  shows = λ w p none also. subst (λ (r : Resolved). Shows r w old new s) (unique.means m p meaning also) (shows w none);
-  machine = λ w p none also. subst (λ (r : Resolved). MachineAnswers r w steps old new s) (unique.means m p meaning also) (machine w none);
+  shows = λ w p none also. subst (λ (r : Resolved). Shows r w steps old new s) (unique.means m p meaning also) (shows w none);
   nothing = λ f is. absurd (no_fault f is);
   called = inr (m, meaning);
   cause = cause;
@@ -217,8 +225,7 @@ source_ran file text steps before files faults shown screen_faults s is same qui
   fault_is = λ f fault. (file, text, refl, ran.fault_only f fault);
   kinds = comes ran.kinds;
   not_report = λ report. absurd (no report (λ f e. cc) (λ h. h));
-  headline = λ w p finds runs. headline_of p w before (record before { files = files; volume_faults = faults; shown = shown; screen_faults = screen_faults }) s finds (ran.shows w p finds.nothing_shown (meaning_here w p finds runs)) refl same;
-  machine = λ w p finds runs. ran.machine w p finds.nothing_shown (meaning_here w p finds runs);
+  headline = λ w p finds runs. headline_of p w steps before (record before { files = files; volume_faults = faults; shown = shown; screen_faults = screen_faults }) s finds (ran.shows w p finds.nothing_shown (meaning_here w p finds runs)) refl same;
   nothing = quietly ran.kinds;
   called = called ran.called;
   asked = inl quiet;

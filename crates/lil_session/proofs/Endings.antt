@@ -1,5 +1,5 @@
 -- What the run of a translation shows, and how it ends.
-use Rattle.std.proofs.Common.{◌≡◌, ◌≢◌, ℕ, zero, suc, true, ◌<◌, ◌≤◌, Option, Some, None, List, [], ◌∷◌, ◌++◌, refl, sym, ap, ◌∙◌, subst, ◌⊎◌, inl, inr, arith, append_assoc}
+use Rattle.std.proofs.Common.{◌≡◌, ◌≢◌, ℕ, zero, suc, ◌+◌, ◌*◌, true, ◌<◌, ◌≤◌, Option, Some, None, List, [], ◌∷◌, ◌++◌, refl, sym, ap, ◌∙◌, subst, ◌⊎◌, inl, inr, arith, append_assoc}
 use Rattle.std.proofs.lemmas.Bool.{cases_lt}
 use Rattle.std.proofs.lemmas.List.{append-nil, append_cancel_left}
 use Rattle.std.specs.Ordering.{nat_cmp}
@@ -11,7 +11,7 @@ use Rattle.lil_base.specs.declared.fault.TrapKind.{TrapKind}
 use Rattle.lil_base.specs.declared.fault.TrapAt.{TrapAt}
 use Rattle.lil_resolved.specs.Resolved.{Resolved}
 use Rattle.lil_meaning.specs.World.{World}
-use Rattle.lil_meaning.specs.Items.{Phase, Trapped, Source}
+use Rattle.lil_meaning.specs.Items.{Phase, Going, Trapped, Source}
 use Rattle.lil_volume.specs.Told.{followed_by, FollowedByPrefix}
 use Rattle.lil_mcode.specs.declared.machine.Event.{Event}
 use Rattle.lil_mcode.specs.State.{Module, State, module_at}
@@ -28,14 +28,17 @@ use Rattle.lil_session.specs.Running.{finish_of, HasRun, IsCut, IsRefused}
 use Rattle.lil_match.specs.Running.{Finish, Running, Finished, TrappedBy, Limited, Broken, Run, mrun, running, react, advanced, unless_over}
 use Rattle.lil_session.specs.Loaded.{IsIn, IsTrapOf, EndingAnswers, IsPossible}
 use Rattle.lil_laws.specs.Loading.{body_alone}
-use Rattle.lil_session.specs.Outcome.{cuts, settled, Shows, Allowed, EndsSo, IsOver, MeansAnswer, IsRunAnswer, Blames}
+use Rattle.lil_session.specs.Outcome.{cuts, settled, EndsSo, MeansAnswer, IsRunAnswer, Blames}
+use Rattle.lil_session.specs.Headline.{Shows, Allowed, IsOver}
 use Rattle.lil_meaning.specs.Runs.{begun, state_of}
 use Rattle.lil_session.proofs.Screens.{next_piece, later_grows}
 use Rattle.lil_session.proofs.Pieces.{nothing_first}
 use Rattle.lil_session.proofs.Cuts.{later_grown, ends_later, whole_piece}
+use Rattle.lil_session.proofs.Enough.{enough}
+use Rattle.lil_session.proofs.Counting.{machine_end, machine_cut}
 use Rattle.lil_laws.specs.Whole.{TrapsIn, claimed, mrun_add}
 use Rattle.lil_laws.specs.Reaching.{Reaches}
-use Rattle.lil_laws.specs.Alone.{table, own, own_traps, begins, store_alone, correct, reached, alone_traps}
+use Rattle.lil_laws.specs.Alone.{table, own, own_traps, begins, loaded_state, store_alone, correct, reached, alone_traps}
 
 -- some world in which nothing was shown
 some_world : World
@@ -121,7 +124,7 @@ module _ (p : Resolved) (strings code : List ℕ) (small : IsSmall p strings) (t
     allowed (ending.Trapped k) s w ran (inl memory) at = subst (λ (y : Status). Allowed y (there w)) (sym memory) tt
     allowed (ending.Trapped k) s w ran (inr (u, is, it)) at = subst (λ (y : Status). Allowed y (there w)) (sym is) (one_trap machine k (there w) (at k refl) (traps k w ran) u it)
     allowed (ending.Limited k) s w ran is at = subst (λ (y : Status). Allowed y (there w)) (sym is) tt
-    allowed ending.Spent s w ran is at = subst (λ (y : Status). Allowed y (there w)) (sym is) tt
+    allowed ending.Spent s w ran is at = subst (λ (y : Status). Allowed y (there w)) (sym is) (claimed Running (correct p strings code small t bare w steps).agrees (sym ran.finish))
     allowed _ s w ran is at = absurd is
 
     no_fault : (e : Ending) (s : Status) → EndingAnswers machine e s → s ≢ a.ScreenFault
@@ -137,8 +140,17 @@ module _ (p : Resolved) (strings code : List ℕ) (small : IsSmall p strings) (t
     stops ending.Spent s w ran is memory = absurd (let e = sym is ∙ memory in cc)
     stops _ s w ran is memory = absurd is
 
+    -- where the budget is spent, that is far enough
+    far : (e : Ending) (s : Status) (w : World) → Ran e w → EndingAnswers machine e s → s ≡ a.StepsSpent → (m : ℕ) → 32 * m + 64 ≤ steps
+        → (m ≤ (correct p strings code small t bare w steps).n) × ((state_of p w m).phase ≡ Going)
+    far ending.Spent s w ran is spent m le = enough p strings code small t bare w steps (sym ran.finish) m le
+    far (ending.Trapped k) s w ran (inl memory) spent m le = absurd (let e = sym memory ∙ spent in cc)
+    far (ending.Trapped k) s w ran (inr (u, is, it)) spent m le = absurd (let e = sym is ∙ spent in cc)
+    far ending.Broken s w ran is spent m le = absurd is
+    far _ s w ran is spent m le = absurd (let e = sym is ∙ spent in cc)
+
     -- what is shown is what a state of the meaning has shown, and the answer is that state's
-    pub shows_end : (e : Ending) (s : Status) (w : World) → Ran e w → EndingAnswers machine e s → Looked e → Shows p w old new s
+    pub shows_end : (e : Ending) (s : Status) (w : World) → Ran e w → EndingAnswers machine e s → Looked e → Shows p w steps old new s
     shows_end e s w ran is at =
         let c = correct p strings code small t bare w steps in
         record {
@@ -148,6 +160,10 @@ module _ (p : Resolved) (strings code : List ℕ) (small : IsSmall p strings) (t
             cut = λ fault. absurd (no_fault e s is fault);
             ends = allowed e s w ran is at;
             stops = λ memory. inr (stops e s w ran is memory);
+            far = far e s w ran is;
+            machine =
+                machine_end p strings code small t bare steps old new w machine e s
+                (subst (λ (x : State). HasRun x machine.state steps (finish_of e) old new w) (sym (loaded_state p strings code small t bare)) ran) is;
           };
         }
 
@@ -198,7 +214,7 @@ module _ (p : Resolved) (strings code : List ℕ) (small : IsSmall p strings) (t
     at = ap (λ (x : World). x.screen) (correct p strings code small t bare w cut.done).agrees.world
 
     cut_at : (n : ℕ) (piece : List ℕ) → (state_of p w (suc n)).world.screen ≡ (state_of p w n).world.screen ++ piece
-        → FollowedByPrefix (followed_by old (state_of p w n).world.screen) piece new → Shows p w old new a.ScreenFault
+        → FollowedByPrefix (followed_by old (state_of p w n).world.screen) piece new → Shows p w steps old new a.ScreenFault
     cut_at n piece adds prefix = record {
       n = n;
       shown = record {
@@ -206,6 +222,10 @@ module _ (p : Resolved) (strings code : List ℕ) (small : IsSmall p strings) (t
         cut = λ _. record { piece = piece; adds = adds; prefix = prefix };
         ends = tt;
         stops = λ memory. cc;
+        far = λ spent. cc;
+        machine =
+            machine_cut p strings code small t bare steps old new w n
+            (subst (λ (x : State). IsCut x steps old new w) (sym (loaded_state p strings code small t bare)) cut);
       };
     }
 
@@ -233,7 +253,7 @@ module _ (p : Resolved) (strings code : List ℕ) (small : IsSmall p strings) (t
         by (inr limited) (inl far) = there (omega (arith, far, r.within))
         by (inr (k, limited)) (inr le) = absurd (less k limited le)
 
-    by_piece : (piece : List ℕ) → (mrun (suc cut.done) from).world.screen ≡ shown ++ piece → FollowedByPrefix (followed_by old run.world.screen) piece new → Shows p w old new a.ScreenFault
+    by_piece : (piece : List ℕ) → (mrun (suc cut.done) from).world.screen ≡ shown ++ piece → FollowedByPrefix (followed_by old run.world.screen) piece new → Shows p w steps old new a.ScreenFault
     by_piece [] behind prefix =
         let more = later_grows (p ∷ []) so_far (suc so_far) first (omega arith) in
         cut_at so_far more.piece more.adds (nothing_first (followed_by old shown) new more.piece (subst (λ (l : List ℕ). FollowedByPrefix (followed_by old l) [] new) at prefix))
@@ -246,7 +266,7 @@ module _ (p : Resolved) (strings code : List ℕ) (small : IsSmall p strings) (t
         cut_at f.m piece (f.behind ∙ ap (λ (l : List ℕ). l ++ f.first) (sym f.before) ∙ ap (λ (l : List ℕ). (state_of p w f.m).world.screen ++ l) is)
         (subst (λ (l : List ℕ). FollowedByPrefix (followed_by old l) piece new) (at ∙ sym f.before) prefix)
 
-    pub shows_cut : Shows p w old new a.ScreenFault
+    pub shows_cut : Shows p w steps old new a.ScreenFault
     shows_cut =
         let next_run : mrun (suc cut.done) from ≡ advanced run = mrun_add cut.done (suc cut.done) 1 from (omega arith) in
         let behind : (mrun (suc cut.done) from).world.screen ≡ shown ++ cut.refused.piece =

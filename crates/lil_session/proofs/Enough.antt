@@ -7,13 +7,11 @@ use Rattle.lil_meaning.specs.World.{World, closing}
 use Rattle.lil_meaning.specs.Items.{Level, Phase, Going, Closing, Source}
 use Rattle.lil_meaning.specs.Steps.{next, by_phase, level_of, left_by, over, over_by}
 use Rattle.lil_meaning.specs.Runs.{after, begun}
-use Rattle.lil_mcode.specs.State.{State}
 use Rattle.lil_table.specs.Rows.{Translates}
 use Rattle.lil_match.specs.Running.{Running, mrun, running}
-use Rattle.lil_laws.specs.Loading.{loaded}
 use Rattle.lil_meaning.specs.Runs.{state_of}
 use Rattle.lil_laws.specs.Whole.{claimed}
-use Rattle.lil_laws.specs.Alone.{loaded_state, correct}
+use Rattle.lil_laws.specs.Alone.{begins, correct}
 use Rattle.lil_laws.specs.Serves.{after_first}
 
 -- a state that goes on came from one that went on
@@ -40,9 +38,10 @@ going_until library (suc m) zero s none le h = absurd (omega arith)
 going_until library (suc m) (suc n) s none le h = going_until library m n (next library s) (after_first library 1 s none) (omega arith) h
 
 module _ (p : Resolved) (strings code : List ℕ) (small : IsSmall p strings) (t : Translates p strings code) (bare : p.procedures ≡ []) where
-  -- where the machine runs on after a budget, the meaning does after as many steps as the budget is enough for
-  pub enough : (w : World) (steps : ℕ) → (mrun steps (running (loaded p strings code).state w)).finish ≡ Running → (m : ℕ) → 32 * m + 64 ≤ steps → (state_of p w m).phase ≡ Going
+  -- where the machine runs on after a budget, the meaning has come at least as far as the budget is enough for, and went on there
+  pub enough : (w : World) (steps : ℕ) → (mrun steps (running (begins p strings code small t bare) w)).finish ≡ Running → (m : ℕ) → 32 * m + 64 ≤ steps
+      → (m ≤ (correct p strings code small t bare w steps).n) × ((state_of p w m).phase ≡ Going)
   enough w steps runs m le =
       let c = correct p strings code small t bare w steps in
-      let here = ap (λ (s : State). (mrun steps (running s w)).finish) (sym (loaded_state p strings code small t bare)) ∙ runs in
-      going_until (p ∷ []) m c.n (begun (p ∷ []) (0 ∷ []) (1 ∷ []) w) refl (omega (arith, le, c.far (λ k e. let r = here in cc))) (claimed Running c.agrees here)
+      let within : m ≤ c.n = omega (arith, le, c.far (λ k e. let r = runs in cc)) in
+      (within, going_until (p ∷ []) m c.n (begun (p ∷ []) (0 ∷ []) (1 ∷ []) w) refl within (claimed Running c.agrees runs))

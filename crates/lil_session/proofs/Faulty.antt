@@ -81,7 +81,7 @@ module _ (file text : List ℕ) (apart : (u : Tree) (f : SourceFault) → Reads 
       carried_by (Refused f) is (inl same, (shown, faults)) =
           at_old shown faults (subst (λ s. TextRan file text steps old old_faults old old_faults s) (sym same) (text_not file text steps old old_faults f (unit_one one u reads) (inr (u, (reads, is)))))
       carried_by (Refused f) is (inr same, (shown, faults)) = at_old shown faults (subst (λ s. TextRan file text steps old old_faults old old_faults s) (sym same) (text_memory file text steps old old_faults))
-      carried_by (Means p) is ran = text_ran file text p steps old old_faults new new_faults s (unit_one one u reads) (u, (reads, is)) ran.shows ran.answer ran.kinds ran.machine ran.cause ran.told
+      carried_by (Means p) is ran = text_ran file text p steps old old_faults new new_faults s (unit_one one u reads) (u, (reads, is)) ran.shows ran.answer ran.kinds ran.cause ran.told
 
       pub text_carried : Carried (says file u) steps old old_faults new new_faults s → TextRan file text steps old old_faults new new_faults s
       text_carried c = carried_by (says file u) refl c
@@ -90,10 +90,9 @@ module _ (file text : List ℕ) (apart : (u : Tree) (f : SourceFault) → Reads 
 pub carried_memory : (v : Verdict) (steps : ℕ) (old : Option (List ℕ)) (faults : ℕ) → Carried v steps old faults old faults a.Memory
 carried_memory (Refused f) steps old faults = (inr refl, (refl, refl))
 carried_memory (Means p) steps old faults = record {
-  shows = λ w blank. shows_none p w old a.Memory blank (λ is. cc) tt;
+  shows = λ w blank. shows_none p w steps old a.Memory blank (λ is. cc) (λ is. cc) tt (inl refl);
   answer = λ w blank settles. absurd (cc);
   kinds = tt;
-  machine = λ w blank. inl refl;
   cause = record { later = omega arith; rose = λ same. absurd (cc); quiet = inl refl };
   told = inr refl;
 }

@@ -9,7 +9,6 @@ mod Endings
 mod Enough
 mod Pieces
 mod Screens
-mod Spent
 mod Stays
 mod Telling
 mod Turns

@@ -8,8 +8,9 @@ use Rattle.lil_meaning.specs.Runs.{state_of}
 use Rattle.lil_volume.specs.Told.{followed_by}
 use Rattle.lil_session.specs.declared.status.Status.{Status}
 use Rattle.lil_session.specs.declared.status.Status.TheVariants as a
-use Rattle.lil_session.specs.Outcome.{cuts, settled, gives_way, Allowed, Answers, Blames, EndsSo, Finds, Headline, IsOver, Runs}
+use Rattle.lil_session.specs.Outcome.{cuts, settled, gives_way, Answers, Blames, EndsSo, Finds, Runs}
 use Rattle.lil_session.specs.Counted.{MachineAnswers}
+use Rattle.lil_session.specs.Headline.{Allowed, Headline, IsOver}
 use Rattle.lil_session.specs.Report.{status_lines, is_fixed, Became}
 use Rattle.lil_session.specs.Answered.{IsAnswer, IsUnrun, Call, CommandReported, Answered}
 use Rattle.lil_session.proofs.Counting.{ran_settled, ran_memory, over_where}
@@ -70,36 +71,34 @@ module _ {call : Call} {result : Status} (told : CommandReported call result) wh
   no_screen ok is = both_ways (settled inner) (ap settled is) ok
 
   module _ (w : World) (p : Resolved) (finds : Finds call.before.files call.before.keys w) (runs : Runs call.name w p) where
-    h : Headline p w call.before call.after inner
+    h : Headline p w call.steps call.before call.after inner
     h = told.ran.headline w p finds runs
 
     -- the headline of an answer that came in the place of a settled one
-    turned_headline : (s : Status) → settled inner ≡ true → s ≢ a.ScreenFault → Allowed s (state_of p w h.n).phase → (s ≡ a.Memory → IsOver (state_of p w h.n).phase) → Headline p w call.before call.after s
-    turned_headline s ok other ends stops = record {
+    turned_headline : (s : Status) → settled inner ≡ true → s ≢ a.ScreenFault → s ≢ a.StepsSpent → Allowed s (state_of p w h.n).phase → (s ≡ a.Memory → IsOver (state_of p w h.n).phase)
+        → MachineAnswers p w h.n call.steps call.before.shown call.after.shown s → Headline p w call.steps call.before call.after s
+    turned_headline s ok other not_spent ends stops machine = record {
       n = h.n;
       shown = record {
         whole = λ _. h.shown.whole (no_screen ok);
         cut = λ fault. absurd (other fault);
         ends = ends;
         stops = λ memory. inr (stops memory);
+        far = λ spent. absurd (not_spent spent);
+        machine = machine;
       };
       keys = h.keys;
       files = h.files;
     }
 
-    m : MachineAnswers p w call.steps call.before.shown call.after.shown inner
-    m = told.ran.machine w p finds runs
-
-    headline : Headline p w call.before call.after result
+    headline : Headline p w call.steps call.before call.after result
     headline =
-        by_report (λ (s : Status). Headline p w call.before call.after s) h (λ ok lines. turned_headline a.ReportFault ok (λ is. cc) tt (λ is. cc))
-        (λ ok made. turned_headline a.Memory ok (λ is. cc) tt (λ is. over_where p w call.steps call.before.shown call.after.shown inner (state_of p w h.n).phase made m h.shown.ends))
-
-    machine : MachineAnswers p w call.steps call.before.shown call.after.shown result
-    machine =
-        by_report (λ (s : Status). MachineAnswers p w call.steps call.before.shown call.after.shown s) m
-        (λ ok lines. (inner, ok, lines, ran_settled p w call.steps call.before.shown call.after.shown inner ok m))
-        (λ ok made. inr (ran_memory p w call.steps call.before.shown call.after.shown inner made m))
+        by_report (λ (s : Status). Headline p w call.steps call.before call.after s) h
+        (λ ok lines.
+        turned_headline a.ReportFault ok (λ is. cc) (λ is. cc) tt (λ is. cc) (inner, ok, lines, ran_settled p w h.n call.steps call.before.shown call.after.shown inner ok h.shown.machine))
+        (λ ok made.
+        turned_headline a.Memory ok (λ is. cc) (λ is. cc) tt (λ is. over_where p w h.n call.steps call.before.shown call.after.shown inner (state_of p w h.n).phase made h.shown.machine h.shown.ends)
+        (inr (ran_memory p w h.n call.steps call.before.shown call.after.shown inner made h.shown.machine)))
 
     ends_where : (n : ℕ) (s : Status) → EndsSo (state_of p w n).phase s → settled result ≡ true → (cuts result ≡ true) ⊎ (result ≡ s)
     ends_where n s ends ok =
@@ -149,7 +148,6 @@ module _ {call : Call} {result : Status} (told : CommandReported call result) wh
   answered = record {
     headline = headline;
     answer = answer;
-    machine = machine;
     usage_only = λ is. told.ran.usage_only (inner_is a.Usage (λ e. cc) (λ e. cc) is);
     usage_where = λ none ok. result_is a.Usage ok (told.ran.usage_where none);
     no_file_only = λ m file held is. told.ran.no_file_only m file held (inner_is (a.NoFile file) (λ e. cc) (λ e. cc) is);
@@ -185,7 +183,7 @@ module _ {call : Call} {result : Status} (told : CommandReported call result) wh
       (cut_settled cut).1,
       told.ran.answer w finds (cut_settled cut).0,
       told.reported.cut cut,
-      λ p runs. (h w p finds runs, ran_settled p w call.steps call.before.shown call.after.shown inner (cut_settled cut).0 (m w p finds runs)),
+      λ p runs. h w p finds runs,
     );
     reported = told;
   }

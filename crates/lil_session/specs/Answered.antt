@@ -13,8 +13,8 @@ use Rattle.lil_volume.specs.Told.{Files, followed_by, FollowedByPrefix}
 use Rattle.lil_session.specs.declared.status.Status.{Status}
 use Rattle.lil_session.specs.declared.status.Status.TheVariants as a
 use Rattle.lil_session.specs.Words.{mod_file}
-use Rattle.lil_session.specs.Outcome.{Answers, Blames, Devices, EndsSo, Finds, HasFault, HasMeaning, Headline, IsRunAnswer, IsRunnable, ReadsOne, ReportBlames, MeansAnswer, Runs, Shows, TextAnswers, Verdict, Refused, Means, cuts, gives_way, settled}
-use Rattle.lil_session.specs.Counted.{MachineAnswers, MachineRan}
+use Rattle.lil_session.specs.Outcome.{Answers, Blames, Devices, EndsSo, Finds, HasFault, HasMeaning, IsRunAnswer, IsRunnable, ReadsOne, ReportBlames, MeansAnswer, Runs, TextAnswers, Verdict, Refused, Means, cuts, gives_way, settled}
+use Rattle.lil_session.specs.Headline.{Headline, Shows}
 use Rattle.lil_session.specs.Report.{Reported, status_lines}
 
 -- the answers of the program: all but those of what isn't built; of the limits that of the store alone
@@ -45,10 +45,9 @@ IsUnrun _ = ⊥
 
 -- A module was run.
 pub record ModuleRan (p : Resolved) (steps : ℕ) (old : Option (List ℕ)) (old_faults : ℕ) (new : Option (List ℕ)) (new_faults : ℕ) (status : Status) : Type 0 where
-  pub shows : (w : World) → w.screen ≡ [] → Shows p w old new status
+  pub shows : (w : World) → w.screen ≡ [] → Shows p w steps old new status
   pub answer : (w : World) → w.screen ≡ [] → settled status ≡ true → (cuts status ≡ true) ⊎ MeansAnswer p w status
   pub kinds : IsRunAnswer status
-  pub machine : (w : World) → w.screen ≡ [] → MachineAnswers p w steps old new status
   pub cause : Blames a.ScreenFault old_faults new_faults status
   pub told : (status ≡ a.ScreenFault) ⊎ (new_faults ≡ old_faults)
 
@@ -64,8 +63,7 @@ pub record TextRan (file text : List ℕ) (steps : ℕ) (old : Option (List ℕ)
   pub fault_only : (f : SourceFault) → status ≡ a.SourceFault f → HasFault file text f
   pub fault_where : (f : SourceFault) → HasFault file text f → gives_way status ≡ false → status ≡ a.SourceFault f
   pub kinds : ((f : SourceFault) × (status ≡ a.SourceFault f)) ⊎ IsRunAnswer status
-  pub shows : (w : World) (p : Resolved) → w.screen ≡ [] → HasMeaning file text p → Shows p w old new status
-  pub machine : (w : World) (p : Resolved) → w.screen ≡ [] → HasMeaning file text p → MachineAnswers p w steps old new status
+  pub shows : (w : World) (p : Resolved) → w.screen ≡ [] → HasMeaning file text p → Shows p w steps old new status
   pub nothing : (f : SourceFault) → status ≡ a.SourceFault f → new ≡ old
   pub called : ((new ≡ old) × (new_faults ≡ old_faults)) ⊎ ((p : Resolved) × HasMeaning file text p)
   pub cause : Blames a.ScreenFault old_faults new_faults status
@@ -95,9 +93,7 @@ pub record CommandRan (name : Option (List ℕ)) (steps : ℕ) (before after : D
   pub kinds : IsAnswer status
   pub not_report : status ≢ a.ReportFault
   -- what a text with a meaning shows
-  pub headline : (w : World) (p : Resolved) → Finds before.files before.keys w → Runs name w p → Headline p w before after status
-  -- what the machine did for it
-  pub machine : (w : World) (p : Resolved) → Finds before.files before.keys w → Runs name w p → MachineAnswers p w steps before.shown after.shown status
+  pub headline : (w : World) (p : Resolved) → Finds before.files before.keys w → Runs name w p → Headline p w steps before after status
   -- nothing is shown where nothing was run
   pub nothing : IsUnrun status → after.shown ≡ before.shown
   -- the screen is called only where a text with a meaning was found, and the volume only where the words name a module
@@ -134,13 +130,12 @@ pub record CommandReported (call : Call) (result : Status) : Type 0 where
 -- WHAT HOLDS OF EACH ANSWER of a command, whatever the devices do. A field that begins with a world speaks of devices that tell their
 -- files and keys.
 pub record Answered (call : Call) (result : Status) : Type 0 where
-  -- What a text with a meaning shows, and how it ends, is what its meaning says.
-  pub headline : (w : World) (p : Resolved) → Finds call.before.files call.before.keys w → Runs call.name w p → Headline p w call.before call.after result
+  -- What a text with a meaning shows, and how it ends, is what its meaning says. The machine ran a translation of it within the budget; the
+  -- steps are spent exactly where that has no end, and only where the meaning is far enough; and a limit comes only where the meaning needs
+  -- more words than there are.
+  pub headline : (w : World) (p : Resolved) → Finds call.before.files call.before.keys w → Runs call.name w p → Headline p w call.steps call.before call.after result
   -- Unless a device fails, memory is refused or the run is cut short, the answer is the command's.
   pub answer : (w : World) → Finds call.before.files call.before.keys w → settled result ≡ true → (cuts result ≡ true) ⊎ Answers call.name w result
-  -- The machine ran a translation of the text within the budget; the steps are spent exactly where that has no end, and the limit of the
-  -- store comes only where the objects and workspaces of the meaning take more words than there are.
-  pub machine : (w : World) (p : Resolved) → Finds call.before.files call.before.keys w → Runs call.name w p → MachineAnswers p w call.steps call.before.shown call.after.shown result
   -- Usage comes exactly where the words name no module.
   pub usage_only : result ≡ a.Usage → call.name ≡ None
   pub usage_where : call.name ≡ None → settled result ≡ true → result ≡ a.Usage
@@ -188,6 +183,6 @@ pub record Answered (call : Call) (result : Status) : Type 0 where
   pub report_prefix : result ≡ a.ReportFault → (s : Status) × (settled s ≡ true) × (s ≢ a.Done) × IsAnswer s × FollowedByPrefix call.old (status_lines call.file s) call.new
   pub report_fault : (w : World) → Finds call.before.files call.before.keys w → result ≡ a.ReportFault
       → (s : Status) × (settled s ≡ true) × (s ≢ a.Done) × ((cuts s ≡ true) ⊎ Answers call.name w s) × FollowedByPrefix call.old (status_lines call.file s) call.new
-      × ((p : Resolved) → Runs call.name w p → Headline p w call.before call.after s × MachineRan p w call.steps call.before.shown call.after.shown s)
+      × ((p : Resolved) → Runs call.name w p → Headline p w call.steps call.before call.after s)
   -- It was done with some answer, whose lines were then written.
   pub reported : CommandReported call result

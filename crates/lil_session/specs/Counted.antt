@@ -1,9 +1,8 @@
 -- What the machine did, counted in instructions, and the answer of it.
-use Rattle.std.specs.Prelude.{◌≡◌, ◌≢◌, ◌⊎◌, ℕ, suc, ◌+◌, ◌*◌, ◌≤◌, true, List, Option, ⊤}
+use Rattle.std.specs.Prelude.{◌≡◌, ◌≢◌, ◌⊎◌, ℕ, suc, ◌≤◌, true, List, Option, ⊤}
 use Rattle.lil_base.specs.declared.fault.LimitKind.{LimitKind}
 use Rattle.lil_resolved.specs.Resolved.{Resolved}
 use Rattle.lil_meaning.specs.World.{World}
-use Rattle.lil_meaning.specs.Items.{Going}
 use Rattle.lil_volume.specs.Told.{followed_by}
 use Rattle.lil_session.specs.declared.status.Status.{Status}
 use Rattle.lil_session.specs.declared.status.Status.TheVariants as a
@@ -32,14 +31,9 @@ FinishAnswers a.ScreenFault steps done f = (suc done ≤ steps) × (f ≡ Runnin
 FinishAnswers a.Memory steps done f = IsEnd f
 FinishAnswers _ steps done f = ⊥
 
--- What is shown is what the state behind n steps of the meaning has shown, and the object or workspace of the next one has no room left.
-pub record IsSpentAt (p : Resolved) (w : World) (strings : List ℕ) (old new : Option (List ℕ)) (k : LimitKind) : Type 0 where
-  pub n : ℕ
-  pub shown : new ≡ followed_by old (state_of p w n).world.screen
-  pub spent : IsSpent p strings k (state_of p w n)
-
--- What the machine did: a translation of the module was loaded with its strings and ran for some instructions within the budget.
-pub record MachineRan (p : Resolved) (w : World) (steps : ℕ) (old new : Option (List ℕ)) (status : Status) : Type 0 where
+-- What the machine did where the meaning came to the state behind n steps: a translation of the module was loaded with its strings and ran
+-- for some instructions within the budget.
+pub record MachineRan (p : Resolved) (w : World) (n steps : ℕ) (old new : Option (List ℕ)) (status : Status) : Type 0 where
   pub strings : List ℕ
   pub code : List ℕ
   pub translates : Translates p strings code
@@ -52,20 +46,18 @@ pub record MachineRan (p : Resolved) (w : World) (steps : ℕ) (old new : Option
   pub cut : status ≡ a.ScreenFault → IsRefused (mrun done (running (loaded p strings code).state w)).machine (followed_by old (mrun done (running (loaded p strings code).state w)).world.screen) new
   -- where the whole budget brings no end, a settled answer is StepsSpent
   pub spent : (mrun steps (running (loaded p strings code).state w)).finish ≡ Running → settled status ≡ true → status ≡ a.StepsSpent
-  -- a limit comes only where data, frame, objects and workspaces take more words than the store has
-  pub limited : (k : LimitKind) → status ≡ a.Limit k → IsSpentAt p w strings old new k
-  -- 32 instructions a step of the meaning, and 64 more, are enough: where they are spent, it goes on
-  pub enough : status ≡ a.StepsSpent → (m : ℕ) → 32 * m + 64 ≤ steps → (state_of p w m).phase ≡ Going
+  -- a limit comes only where data, and the calls, objects and workspaces of the next state, take more words than the store has
+  pub limited : (k : LimitKind) → status ≡ a.Limit k → IsSpent p strings k (state_of p w n)
 
 -- What the machine did, by the answer of a command that runs a text with a meaning: nothing where the volume failed, and nothing, or the
 -- whole run, where memory was wanted. After a fault of the report it did what the answer says whose lines were written.
-abbrev pub MachineAnswers : Resolved → World → ℕ → Option (List ℕ) → Option (List ℕ) → Status → Type 0
-MachineAnswers p w steps old new a.Done = MachineRan p w steps old new a.Done
-MachineAnswers p w steps old new (a.Trapped t) = MachineRan p w steps old new (a.Trapped t)
-MachineAnswers p w steps old new (a.Limit k) = MachineRan p w steps old new (a.Limit k)
-MachineAnswers p w steps old new a.StepsSpent = MachineRan p w steps old new a.StepsSpent
-MachineAnswers p w steps old new a.ScreenFault = MachineRan p w steps old new a.ScreenFault
-MachineAnswers p w steps old new a.Memory = (new ≡ old) ⊎ MachineRan p w steps old new a.Memory
-MachineAnswers p w steps old new a.VolumeFault = new ≡ old
-MachineAnswers p w steps old new a.ReportFault = (s : Status) × (settled s ≡ true) × (s ≢ a.Done) × MachineRan p w steps old new s
-MachineAnswers p w steps old new _ = ⊥
+abbrev pub MachineAnswers : Resolved → World → (n steps : ℕ) → Option (List ℕ) → Option (List ℕ) → Status → Type 0
+MachineAnswers p w n steps old new a.Done = MachineRan p w n steps old new a.Done
+MachineAnswers p w n steps old new (a.Trapped t) = MachineRan p w n steps old new (a.Trapped t)
+MachineAnswers p w n steps old new (a.Limit k) = MachineRan p w n steps old new (a.Limit k)
+MachineAnswers p w n steps old new a.StepsSpent = MachineRan p w n steps old new a.StepsSpent
+MachineAnswers p w n steps old new a.ScreenFault = MachineRan p w n steps old new a.ScreenFault
+MachineAnswers p w n steps old new a.Memory = (new ≡ old) ⊎ MachineRan p w n steps old new a.Memory
+MachineAnswers p w n steps old new a.VolumeFault = new ≡ old
+MachineAnswers p w n steps old new a.ReportFault = (s : Status) × (settled s ≡ true) × (s ≢ a.Done) × MachineRan p w n steps old new s
+MachineAnswers p w n steps old new _ = ⊥

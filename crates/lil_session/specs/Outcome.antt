@@ -1,5 +1,5 @@
 -- How an answer, what the devices hold and their counts go together.
-use Rattle.std.specs.Prelude.{◌≡◌, ◌≢◌, ◌⊎◌, ℕ, suc, ◌≤◌, nat_le, min, Bool, true, false, List, [], ◌∷◌, ◌++◌, Option, Some, None, if◌then◌else◌, ⊤}
+use Rattle.std.specs.Prelude.{◌≡◌, ◌⊎◌, ℕ, ◌≤◌, nat_le, min, Bool, true, false, List, [], Option, Some, None, if◌then◌else◌, ⊤}
 use Rattle.std.specs.FinMap.{get}
 use Rattle.lil_base.specs.Faults.{fault, code_too_long}
 use Rattle.lil_base.specs.declared.fault.Place.{Place}
@@ -18,10 +18,10 @@ use Rattle.lil_report.specs.declared.report.Fault.{Fault as Checked}
 use Rattle.lil_interfaces.specs.Interfaces.{residents}
 use Rattle.lil_check_unit.specs.Units.{module_of as resolved, program_fault, told}
 use Rattle.lil_meaning.specs.World.{World}
-use Rattle.lil_meaning.specs.Items.{Source, Phase, Going, Closing, Ended, Trapped}
+use Rattle.lil_meaning.specs.Items.{Phase, Going, Closing, Ended, Trapped}
 use Rattle.lil_meaning.specs.Runs.{state_of}
 use Rattle.lil_volume.specs.Causes.{Rose}
-use Rattle.lil_volume.specs.Told.{Files, FileIs, with_file, followed_by, FollowedByPrefix}
+use Rattle.lil_volume.specs.Told.{Files, FileIs}
 use Rattle.lil_session.specs.declared.status.Status.{Status}
 use Rattle.lil_session.specs.declared.status.Status.TheVariants as a
 use Rattle.lil_session.specs.Words.{mod_file}
@@ -198,52 +198,6 @@ pub record IsRunnable (name : Option (List ℕ)) (files : Option Files) : Type 0
   pub there : FileIs files (mod_file file) (Some text)
   pub means : Resolved
   pub meaning : HasMeaning file text means
-
--- files after a list of writes
-abbrev pub with_writes : Option Files → List (List ℕ × List ℕ) → Option Files
-with_writes files [] = files
-with_writes files (x ∷ xs) = with_writes (with_file files x.0 x.1) xs
-
--- an answer that says how a run ended agrees with the state of the meaning
-abbrev pub Allowed : Status → Phase → Type 0
-Allowed a.Done e = e ≡ Ended
-Allowed (a.Trapped t) e = e ≡ Trapped t
-Allowed _ e = Unit {0}
-
--- a meaning that is over
-abbrev pub IsOver : Phase → Type 0
-IsOver Ended = ⊤
-IsOver (Trapped t) = ⊤
-IsOver _ = ⊥
-
--- A prefix of the piece that the step from s to t adds to the screen stands behind what s has shown.
-pub record IsCutAt (s t : Source) (old new : Option (List ℕ)) : Type 0 where
-  pub piece : List ℕ
-  pub adds : t.world.screen ≡ s.world.screen ++ piece
-  pub prefix : FollowedByPrefix (followed_by old s.world.screen) piece new
-
--- What is shown is what the state behind n steps of the meaning has shown.
-pub record Shown (p : Resolved) (w : World) (n : ℕ) (old new : Option (List ℕ)) (status : Status) : Type 0 where
-  pub whole : status ≢ a.ScreenFault → new ≡ followed_by old (state_of p w n).world.screen
-  -- where the screen failed, a prefix of the piece that the next step adds may stand behind it
-  pub cut : status ≡ a.ScreenFault → IsCutAt (state_of p w n) (state_of p w (suc n)) old new
-  pub ends : Allowed status (state_of p w n).phase
-  -- memory is wanted before anything is shown, or after the end
-  pub stops : status ≡ a.Memory → (new ≡ old) ⊎ IsOver (state_of p w n).phase
-
--- THE HEADLINE. What was shown, the keys and the files are those of the state behind n steps of the meaning; where the screen failed, a
--- prefix of the piece that the next step adds may stand behind it. The answer Done comes only where that state has ended, and a trap
--- only where it has trapped with it.
-pub record Headline (p : Resolved) (w : World) (before after : Devices) (status : Status) : Type 0 where
-  pub n : ℕ
-  pub shown : Shown p w n before.shown after.shown status
-  pub keys : after.keys ≡ Some (state_of p w n).world.keys
-  pub files : after.files ≡ with_writes before.files (state_of p w n).world.writes
-
--- the same of the screen alone
-pub record Shows (p : Resolved) (w : World) (old new : Option (List ℕ)) (status : Status) : Type 0 where
-  pub n : ℕ
-  pub shown : Shown p w n old new status
 
 -- the answers of a run within a budget of steps; of the limits of the machine that of the store alone
 abbrev pub IsRunAnswer : Status → Type 0

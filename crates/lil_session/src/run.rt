@@ -10,8 +10,8 @@ ghost use Rattle.lil_resolved.specs.Sizes.{IsSmall, code_size};
 ghost use Rattle.lil_resolved.specs.Shapes.{all_words};
 ghost use Rattle.lil_table.specs.Rows.{Translates};
 ghost use Rattle.lil_session.specs.Running.{finish_of, finish_by, IsStep, IsRefused, HasRun, IsCut};
-ghost use Rattle.lil_session.specs.Outcome.{cuts, settled, Blames, Shows, MeansAnswer, IsRunAnswer};
-ghost use Rattle.lil_session.specs.Counted.{MachineAnswers};
+ghost use Rattle.lil_session.specs.Outcome.{cuts, settled, Blames, MeansAnswer, IsRunAnswer};
+ghost use Rattle.lil_session.specs.Headline.{Shows};
 ghost use Rattle.std.specs.Option.{option_copied};
 ghost use Rattle.lil_session.specs.Loaded.{IsIn, IsTrapOf, EndingAnswers, IsPossible};
 ghost use Rattle.lil_laws.specs.Loading.{loaded};
@@ -156,10 +156,9 @@ pub(crate) fn run_program<S: Sink>(
     requires small { IsSmall (module_of m.now) strings.now }
     requires counted { m.now.words ≡ all_words (module_of m.now).variables }
     requires long { length code.now ≡ code_size (module_of m.now) }
-    ensures shows { (w : World) → w.screen ≡ [] → Shows (module_of m.now) w (S.written screen.old) (S.written screen.new) result }
+    ensures shows { (w : World) → w.screen ≡ [] → Shows (module_of m.now) w steps (S.written screen.old) (S.written screen.new) result }
     ensures answer { (w : World) → w.screen ≡ [] → settled result ≡ true → (cuts result ≡ true) ⊎ MeansAnswer (module_of m.now) w result }
     ensures kinds { IsRunAnswer result }
-    ensures machine { (w : World) → w.screen ≡ [] → MachineAnswers (module_of m.now) w steps (S.written screen.old) (S.written screen.new) result }
     ensures cause { Blames Status.ScreenFault (S.faults screen.old) (S.faults screen.new) result }
     ensures told { (result ≡ Status.ScreenFault) ⊎ (S.faults screen.new ≡ S.faults screen.old) }
 {

@@ -1,5 +1,4 @@
-use Rattle.std.proofs.Common.{◌≡◌, inl, ℕ, List, Option, [], refl, sym, ap, ◌∙◌, subst}
-use Rattle.lil_base.specs.declared.fault.TrapKind.{TrapKind}
+use Rattle.std.proofs.Common.{◌≡◌, inl, ℕ, List, Option, [], refl, ap, ◌∙◌, subst}
 use Rattle.lil_resolved.specs.Views.{module_of}
 use Rattle.lil_meaning.specs.World.{World}
 use Rattle.lil_resolved.specs.Resolved.{Resolved}
@@ -8,14 +7,12 @@ use Rattle.lil_table.specs.Rows.{Translates}
 use Rattle.lil_match.specs.Running.{Finish}
 use Rattle.lil_mcode.specs.State.{State}
 use Rattle.lil_mcode.specs.Calls.{Machine}
-use Rattle.lil_session.specs.declared.run.Ending.TheVariants as ending
 use Rattle.lil_session.specs.declared.status.Status.TheVariants.{Memory}
 use Rattle.lil_session.specs.Running.{IsCut, HasRun, finish_of}
 use Rattle.lil_laws.specs.Loading.{loaded}
 use Rattle.lil_session.proofs.Doing.{shows_none}
 use Rattle.lil_laws.specs.Alone.{begins, loaded_state}
 use Rattle.lil_session.proofs.Endings.{possible, shows_end, means_end, kind_end, blames_end, shows_cut}
-use Rattle.lil_session.proofs.Counting.{machine_end, machine_cut}
 use Rattle.lil_session.proofs.run.run_program.Goals as goal
 
 -- the machine that was loaded stands where the program begins
@@ -30,10 +27,7 @@ ran_from : (p : Resolved) (strings code : List ℕ) (small : IsSmall p strings) 
 ran_from p strings code small t bare m is end steps f old new ran = subst (λ (s : State). Ran s end steps f old new) (from_begin p strings code small t bare m is) ran
 
 pub returns-in_default-clause-shows : goal.returns-in_default-clause-shows
-returns-in_default-clause-shows g c = λ w e. shows_none (module_of c.args.m.now) w (g.S.Sink.written c.args.screen.now) Memory e (λ f. cc) tt
-
-pub returns-in_default-clause-machine : goal.returns-in_default-clause-machine
-returns-in_default-clause-machine g c = λ w e. inl refl
+returns-in_default-clause-shows g c = λ w e. shows_none (module_of c.args.m.now) w c.args.steps (g.S.Sink.written c.args.screen.now) Memory e (λ f. cc) (λ f. cc) tt (inl refl)
 
 pub returns-in-Err-clause-shows : goal.returns-in-Err-clause-shows
 returns-in-Err-clause-shows g c =
@@ -41,11 +35,6 @@ returns-in-Err-clause-shows g c =
     let is = from_begin p c.args.strings.now c.args.code.now c.requires.small c.requires.translates refl c.in-Ok.machine c.in-Ok.ensures in
     λ w e. shows_cut p c.args.strings.now c.args.code.now c.requires.small c.requires.translates refl c.args.steps (g.S.Sink.written c.args.screen.now) (g.S.Sink.written c.run_machine.new.screen) w
     (subst (λ (s : State). IsCut s c.args.steps (g.S.Sink.written c.args.screen.now) (g.S.Sink.written c.run_machine.new.screen) w) is (c.in-Err.ensures.cut w e))
-
-pub returns-in-Err-clause-machine : goal.returns-in-Err-clause-machine
-returns-in-Err-clause-machine g c = λ w e.
-    machine_cut (module_of c.args.m.now) c.args.strings.now c.args.code.now c.requires.small c.requires.translates refl c.args.steps (g.S.Sink.written c.args.screen.now) (g.S.Sink.written c.run_machine.new.screen) w
-    (subst (λ (s : State). IsCut s c.args.steps (g.S.Sink.written c.args.screen.now) (g.S.Sink.written c.run_machine.new.screen) w) (ap (λ (m : Machine). m.state) c.in-Ok.ensures) (c.in-Err.ensures.cut w e))
 
 pub answer-requires : goal.answer-requires
 answer-requires g c =
@@ -87,11 +76,6 @@ returns-clause-kinds g c =
     let ran = ran_from p strings code c.requires.small c.requires.translates refl c.in-Ok.machine c.in-Ok.ensures c.run_machine.new.machine.state c.args.steps (finish_of c.in-Ok-run_machine.end) old new c.in-Ok-run_machine.ensures.ran in
     let can = possible p strings code c.requires.small c.requires.translates refl c.args.steps old new c.run_machine.new.machine c.in-Ok-run_machine.end ran c.in-Ok-run_machine.ensures.at in
     kind_end p strings code c.requires.small c.requires.translates refl c.args.steps old new c.run_machine.new.machine c.in-Ok-run_machine.end c.answer.result can c.answer.ensures
-
-pub returns-clause-machine : goal.returns-clause-machine
-returns-clause-machine g c = λ w e.
-    machine_end (module_of c.args.m.now) c.args.strings.now c.args.code.now c.requires.small c.requires.translates refl c.args.steps (g.S.Sink.written c.args.screen.now) (g.S.Sink.written c.run_machine.new.screen) w c.run_machine.new.machine c.in-Ok-run_machine.end c.answer.result
-    (subst (λ (m : Machine). HasRun m.state c.run_machine.new.machine.state c.args.steps (finish_of c.in-Ok-run_machine.end) (g.S.Sink.written c.args.screen.now) (g.S.Sink.written c.run_machine.new.screen) w) c.in-Ok.ensures (c.in-Ok-run_machine.ensures.ran w e)) c.answer.ensures
 
 pub returns-clause-cause : goal.returns-clause-cause
 returns-clause-cause g c =

@@ -15,4 +15,4 @@ returns-in-Ok g c =
     let e = c.run_program.ensures in
     subst (λ v. Carried v c.args.steps (g.S.Sink.written c.args.screen.now) (g.S.Sink.faults c.args.screen.now) (g.S.Sink.written c.run_program.new.screen) (g.S.Sink.faults c.run_program.new.screen) c.run_program.result)
     (sym (coded_short c.args.name (module_of c.args.m.now) c.in-Ok.ensures.short))
-    (record { shows = e.shows; answer = e.answer; kinds = e.kinds; machine = e.machine; cause = e.cause; told = e.told })
+    (record { shows = e.shows; answer = e.answer; kinds = e.kinds; cause = e.cause; told = e.told })
