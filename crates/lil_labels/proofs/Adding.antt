@@ -1,5 +1,5 @@
 -- Bytes that are added to a draft.
-use Rattle.std.proofs.Common.{◌≡◌, ℕ, ◌+◌, List, [], ◌∷◌, ◌++◌, length, Option, refl, sym, ap, ◌∙◌, subst, arith, length-append, append_assoc}
+use Rattle.std.proofs.Common.{◌≡◌, ℕ, ◌+◌, List, [], ◌∷◌, ◌++◌, length, Option, refl, sym, ap, ◌∙◌, subst, arith, length-append, append-nil, append_assoc}
 use Rattle.std.specs.Prelude.{slice_get}
 use Rattle.lil_base.specs.Fields.{bytes16}
 use Rattle.lil_asm.specs.declared.instr.Instr.{Instr}
@@ -22,6 +22,7 @@ emits_bytes : (old new : Draft) (more : (ℕ → ℕ) → List ℕ) (T : Meaning
     → ((x : Final) → HasBytes x.code (length old.bytes) (more x.word) → T x (length old.bytes) (length old.bytes + length (more x.word))) → Emits old new T
 emits_bytes old new more T tables strings same added f = record {
   same = tables;
+  strings = strings ∙ sym (append-nil old.strings);
   keeps = λ l h. ap (λ (ps : List (Option ℕ)). slice_get ps l) same ∙ h;
   made = omega (arith, ap (λ (ps : List (Option ℕ)). length ps) same);
   back = λ x fits. record {

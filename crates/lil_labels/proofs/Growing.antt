@@ -1,14 +1,15 @@
 -- Labels and strings that are added to a draft.
-use Rattle.std.proofs.Common.{◌≡◌, ℕ, zero, suc, ◌+◌, ◌<◌, true, List, [], ◌∷◌, ◌++◌, length, get_or, Option, Some, None, refl, sym, ap, ◌∙◌, subst, arith, length-append, append_assoc}
+use Rattle.std.proofs.Common.{◌≡◌, ℕ, zero, suc, ◌+◌, ◌<◌, true, List, [], ◌∷◌, ◌++◌, length, get_or, Option, Some, None, refl, sym, ap, ◌∙◌, subst, arith, length-append, append-nil, append_assoc}
 use Rattle.std.specs.Prelude.{slice_get}
 use Rattle.std.proofs.lemmas.Option.{slice_get_within}
 use Rattle.std.proofs.lemmas.List.{get_or_append_left, get_or-append-add}
 use Rattle.lil_resolved.specs.Sound.{is_text}
+use Rattle.lil_resolved.specs.Strings.{words_of}
 use Rattle.lil_table.specs.Rows.{Layout, HasText, text_words}
 use Rattle.lil_labels.specs.declared.buffer.Jump.{Jump}
 use Rattle.lil_labels.specs.Entries.{get_front, get_last}
 use Rattle.lil_labels.specs.Tables.{Tables}
-use Rattle.lil_labels.specs.Drafts.{Draft, Emits, Nothing, Makes, words_of, Saying}
+use Rattle.lil_labels.specs.Drafts.{Draft, Adds, Emits, Nothing, Makes, Saying}
 
 -- ---- labels
 module _ (tables : Tables) (strings bytes : List ℕ) (places more : List (Option ℕ)) (js : List Jump) (old : Draft) (view : record { tables = tables; strings = strings; bytes = bytes; places = places; jumps = js } ≡ old) (is : more ≡ places ++ None ∷ []) where
@@ -23,6 +24,7 @@ module _ (tables : Tables) (strings bytes : List ℕ) (places more : List (Optio
       subst (λ (d : Draft). Emits d labelled Nothing) view
       (record {
         same = refl;
+        strings = sym (append-nil strings);
         keeps = λ l h. kept l None h;
         made = omega (arith, ap (λ (ps : List (Option ℕ)). length ps) is, length-append places (None ∷ []));
         back = λ x fits. record { same = fits.same; more = fits.more; strings = fits.strings; rest = fits.rest; begins = fits.begins; placed = λ l q h. fits.placed l q (kept l (Some q) h) };
@@ -63,12 +65,13 @@ module _ (tables : Tables) (strings bytes all : List ℕ) (places : List (Option
   abbrev said : Draft
   said = record { tables = tables; strings = all; bytes = bytes; places = places; jumps = js }
 
-  pub string_says : (cs ws : List ℕ) (offset : ℕ) → ws ≡ words_of cs → all ≡ strings ++ ws → offset ≡ tables.words + length strings → Emits old said (Saying cs offset)
+  pub string_says : (cs ws : List ℕ) (offset : ℕ) → ws ≡ words_of cs → all ≡ strings ++ ws → offset ≡ tables.words + length strings → Adds (words_of cs) old said (Saying cs offset)
   string_says cs ws offset made is lies =
       let grown : all ≡ strings ++ words_of cs = is ∙ ap (λ (ws : List ℕ). strings ++ ws) made in
-      subst (λ (d : Draft). Emits d said (Saying cs offset)) view
+      subst (λ (d : Draft). Adds (words_of cs) d said (Saying cs offset)) view
       (record {
         same = refl;
+        strings = grown;
         keeps = λ l h. h;
         made = omega arith;
         back = λ x fits. record {

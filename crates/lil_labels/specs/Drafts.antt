@@ -81,21 +81,21 @@ pub record Fits (d : Draft) (x : Final) : Type 0 where
 abbrev pub Meaning : Type 1
 Meaning = Final → Span
 
--- What was added means this in each final code, and places no label that was made before.
-pub record Emits (old new : Draft) (T : Meaning) : Type 0 where
+-- What was added means this in each final code, has these words of strings, and places no label that was made before.
+pub record Adds (words : List ℕ) (old new : Draft) (T : Meaning) : Type 0 where
   pub same : new.tables ≡ old.tables
+  pub strings : new.strings ≡ old.strings ++ words
   pub keeps : (l : ℕ) → IsOpen old l → IsOpen new l
   pub made : length old.places ≤ length new.places
   pub back : (x : Final) → Fits new x → Fits old x
   pub meant : (x : Final) → Fits new x → T x (length old.bytes) (length new.bytes)
 
+-- what has no strings
+abbrev pub Emits : Draft → Draft → Meaning → Type 0
+Emits old new T = Adds [] old new T
+
 abbrev pub Nothing : Meaning
 Nothing x p q = p ≡ q
-
--- the words of a string: one a character, and a 0 where it has none
-abbrev pub words_of : List ℕ → List ℕ
-words_of [] = 0 ∷ []
-words_of (c ∷ cs) = c ∷ cs
 
 -- no code, and a string that lies from an offset on in the data
 abbrev pub Saying : List ℕ → ℕ → Meaning

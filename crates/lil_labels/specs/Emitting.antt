@@ -1,5 +1,5 @@
 -- How pieces of code that are emitted one behind another make one piece.
-use Rattle.std.proofs.Common.{◌≡◌, ◌≢◌, ℕ, zero, suc, ◌<◌, ◌≤◌, List, [], ◌∷◌, ◌++◌, drop, length, Option, Some, None, refl, sym, ap, ◌∙◌, subst, arith, length-append, Result, Ok, Err, OnOk}
+use Rattle.std.proofs.Common.{◌≡◌, ◌≢◌, ℕ, zero, suc, ◌<◌, ◌≤◌, List, [], ◌∷◌, ◌++◌, drop, length, Option, Some, None, refl, sym, ap, ◌∙◌, subst, arith, length-append, append-nil, append_assoc, Result, Ok, Err, OnOk}
 use Rattle.std.specs.Prelude.{slice_get, slice_set}
 use Rattle.std.proofs.lemmas.Option.{slice_get_within}
 use Rattle.std.proofs.lemmas.List.{length-set}
@@ -7,16 +7,17 @@ use Rattle.lil_resolved.specs.Shapes.{Shape}
 use Rattle.lil_table.specs.Rows.{holding}
 use Rattle.lil_labels.specs.declared.buffer.HeldRecord.{HeldRecord}
 use Rattle.lil_labels.specs.Tables.{Tables, shape_held}
-use Rattle.lil_labels.specs.Drafts.{Draft, inside, outside, written, code_of, Final, Fits, Meaning, Emits, Nothing, Marking, Makes, Places}
+use Rattle.lil_labels.specs.Drafts.{Draft, inside, outside, written, code_of, Final, Fits, Meaning, Adds, Emits, Nothing, Marking, Makes, Places}
 use Rattle.lil_labels.specs.Settling.{written_long}
 
 pub emits_none : (d : Draft) → Emits d d Nothing
-emits_none d = record { same = refl; keeps = λ l h. h; made = omega arith; back = λ x fits. fits; meant = λ x fits. refl }
+emits_none d = record { same = refl; strings = sym (append-nil d.strings); keeps = λ l h. h; made = omega arith; back = λ x fits. fits; meant = λ x fits. refl }
 
 -- a piece behind a piece
-pub emits_then : (a b c : Draft) (T U : Meaning) → Emits a b T → Emits b c U → Emits a c (λ x p q. T x p (length b.bytes) × U x (length b.bytes) q)
-emits_then a b c T U t u = record {
+pub emits_then : {us vs : List ℕ} (a b c : Draft) (T U : Meaning) → Adds us a b T → Adds vs b c U → Adds (us ++ vs) a c (λ x p q. T x p (length b.bytes) × U x (length b.bytes) q)
+emits_then {us = us} {vs = vs} a b c T U t u = record {
   same = u.same ∙ t.same;
+  strings = u.strings ∙ ap (λ (ws : List ℕ). ws ++ vs) t.strings ∙ append_assoc a.strings us vs;
   keeps = λ l h. u.keeps l (t.keeps l h);
   made = omega (arith, t.made, u.made);
   back = λ x fits. t.back x (u.back x fits);
@@ -24,17 +25,22 @@ emits_then a b c T U t u = record {
 }
 
 -- the same piece with another meaning that follows
-pub emits_as : (a b : Draft) (T U : Meaning) → ((x : Final) → T x (length a.bytes) (length b.bytes) → U x (length a.bytes) (length b.bytes)) → Emits a b T → Emits a b U
-emits_as a b T U f t = record { same = t.same; keeps = t.keeps; made = t.made; back = t.back; meant = λ x fits. f x (t.meant x fits) }
+pub emits_as : {ws : List ℕ} (a b : Draft) (T U : Meaning) → ((x : Final) → T x (length a.bytes) (length b.bytes) → U x (length a.bytes) (length b.bytes)) → Adds ws a b T → Adds ws a b U
+emits_as a b T U f t = record { same = t.same; strings = t.strings; keeps = t.keeps; made = t.made; back = t.back; meant = λ x fits. f x (t.meant x fits) }
+
+-- the same piece with the same words of strings, said in another way
+pub adds_as : {us vs : List ℕ} (a b : Draft) (T : Meaning) → us ≡ vs → Adds us a b T → Adds vs a b T
+adds_as a b T is = subst (λ (ws : List ℕ). Adds ws a b T) is
 
 -- its tables are those of the final code
-pub emits_tied : (a b : Draft) (T : Meaning) → Emits a b T → Emits a b (λ x p q. T x p q × (x.tables ≡ a.tables))
-emits_tied a b T t = record { same = t.same; keeps = t.keeps; made = t.made; back = t.back; meant = λ x fits. (t.meant x fits, fits.same ∙ t.same) }
+pub emits_tied : {ws : List ℕ} (a b : Draft) (T : Meaning) → Adds ws a b T → Adds ws a b (λ x p q. T x p q × (x.tables ≡ a.tables))
+emits_tied a b T t = record { same = t.same; strings = t.strings; keeps = t.keeps; made = t.made; back = t.back; meant = λ x fits. (t.meant x fits, fits.same ∙ t.same) }
 
 -- it lies within the final code
-pub emits_within : (a b : Draft) (T : Meaning) → Emits a b T → Emits a b (λ x p q. T x p q × (q ≤ length x.code))
+pub emits_within : {ws : List ℕ} (a b : Draft) (T : Meaning) → Adds ws a b T → Adds ws a b (λ x p q. T x p q × (q ≤ length x.code))
 emits_within a b T t = record {
   same = t.same;
+  strings = t.strings;
   keeps = t.keeps;
   made = t.made;
   back = t.back;
@@ -54,7 +60,7 @@ set_other (x ∷ xs) (suc k) zero v h = refl
 set_other (x ∷ xs) (suc k) (suc l) v h = set_other xs k l v (λ e. h (ap suc e))
 
 -- a label that was made in the piece gets its place at the end of it
-pub emits_here : (a b c : Draft) (T : Meaning) (l : ℕ) → Emits a b T → length a.places ≤ l → Places b c l → Emits a c (λ x p q. T x p q × (x.word l ≡ x.layout.target q))
+pub emits_here : {ws : List ℕ} (a b c : Draft) (T : Meaning) (l : ℕ) → Adds ws a b T → length a.places ≤ l → Places b c l → Adds ws a c (λ x p q. T x p q × (x.word l ≡ x.layout.target q))
 emits_here a b c T l t new put =
     let place : Option ℕ = Some (length b.bytes) in
     let at : (k : ℕ) → slice_get c.places k ≡ slice_get (slice_set b.places l place) k = λ k. ap (λ (ps : List (Option ℕ)). slice_get ps k) put.places in
@@ -70,6 +76,7 @@ emits_here a b c T l t new put =
     } in
     record {
       same = put.tables ∙ t.same;
+      strings = put.strings ∙ t.strings;
       keeps = λ k h. let within = slice_get_within a.places k None h in other k (λ (e : k ≡ l). omega (arith, within, e, new)) ∙ t.keeps k h;
       made = omega (arith, t.made, ap (λ (ps : List (Option ℕ)). length ps) put.places, length-set b.places l place);
       back = λ x fits. t.back x (earlier x fits);
@@ -84,11 +91,11 @@ mark_emits a b c l t makes put =
     emits_as a c _ (Marking l) (λ x h. (h.0, h.1 ∙ ap x.layout.target (sym h.0))) (emits_here a b c Nothing l t (omega (arith, makes.is)) put)
 
 -- a piece behind a new label
-pub emits_fresh : (a b c : Draft) (T : Meaning) → Emits a b Nothing → Emits b c T → Emits a c T
+pub emits_fresh : {ws : List ℕ} (a b c : Draft) (T : Meaning) → Emits a b Nothing → Adds ws b c T → Adds ws a c T
 emits_fresh a b c T new t = emits_as a c _ T (λ x h. subst (λ (p : ℕ). T x p (length c.bytes)) (sym h.0) h.1) (emits_then a b c Nothing T new t)
 
 -- a piece behind a label that has its place there
-pub emits_mark : (a b c : Draft) (l : ℕ) (T : Meaning) → Emits a b (Marking l) → Emits b c T → Emits a c (λ x p q. (x.word l ≡ x.layout.target p) × T x p q)
+pub emits_mark : {ws : List ℕ} (a b c : Draft) (l : ℕ) (T : Meaning) → Emits a b (Marking l) → Adds ws b c T → Adds ws a c (λ x p q. (x.word l ≡ x.layout.target p) × T x p q)
 emits_mark a b c l T mark t = emits_as a c _ _ (λ x h. (h.0.1, subst (λ (p : ℕ). T x p (length c.bytes)) (sym h.0.0) h.1)) (emits_then a b c (Marking l) T mark t)
 
 -- ---- inside of a WITH
@@ -113,12 +120,12 @@ inside_of h x = record {
 }
 
 -- a piece that is emitted inside of a WITH means there what it says
-pub emits_inside : (h : HeldRecord) (a b c d : Draft) (T : Meaning) → b ≡ inside h a → Emits b c T → d ≡ outside c → Emits a d (λ x p q. T (inside_of h x) p q)
-emits_inside h a b c d T enter t leave =
-    subst (λ (d : Draft). Emits a d (λ x p q. T (inside_of h x) p q)) (sym leave)
-    (between (subst (λ (b : Draft). Emits b c T) enter t))
+pub emits_inside : {ws : List ℕ} (h : HeldRecord) (a b c d : Draft) (T : Meaning) → b ≡ inside h a → Adds ws b c T → d ≡ outside c → Adds ws a d (λ x p q. T (inside_of h x) p q)
+emits_inside {ws = ws} h a b c d T enter t leave =
+    subst (λ (d : Draft). Adds ws a d (λ x p q. T (inside_of h x) p q)) (sym leave)
+    (between (subst (λ (b : Draft). Adds ws b c T) enter t))
   where
-    between : Emits (inside h a) c T → Emits a (outside c) (λ x p q. T (inside_of h x) p q)
+    between : Adds ws (inside h a) c T → Adds ws a (outside c) (λ x p q. T (inside_of h x) p q)
     between t =
         let restored : (outside c).tables ≡ a.tables = ap (λ (ts : Tables). record ts { held = drop 1 ts.held }) t.same in
         let within : (x : Final) → Fits (outside c) x → Fits c (inside_of h x) = λ x fits. record {
@@ -131,6 +138,7 @@ emits_inside h a b c d T enter t leave =
         } in
         record {
           same = restored;
+          strings = t.strings;
           keeps = t.keeps;
           made = t.made;
           back = λ x fits.

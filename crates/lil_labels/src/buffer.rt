@@ -3,10 +3,11 @@
 ghost use Rattle.std.specs.Prelude.{◌≡◌, ℕ, ◌+◌, ◌≤◌, [], length, slice_get, Some, IfOk, OnOk};
 ghost use Rattle.lil_asm.specs.Bytes.{Sayable};
 ghost use Rattle.lil_resolved.specs.Shapes.{words, shape_at};
+ghost use Rattle.lil_resolved.specs.Strings.{words_of};
 ghost use Rattle.lil_resolved.specs.Views.{AreMeasured, shapes_of};
 ghost use Rattle.lil_labels.specs.Tables as tables;
 ghost use Rattle.lil_labels.specs.Tables.{target_by, variable_by, part_in, part_by, elements_in, elements_by, last_in, last_by, below, plain_words_by, held_by};
-ghost use Rattle.lil_labels.specs.Drafts.{empty, inside, outside, words_of, aimed, code_of, settled_word, Emits, Nothing, Saying, Doing, AreSayable, DoingAll, Choosing, Marking, Entering, IsOpen, Makes, Places, Notes};
+ghost use Rattle.lil_labels.specs.Drafts.{empty, inside, outside, aimed, code_of, settled_word, Adds, Emits, Nothing, Saying, Doing, AreSayable, DoingAll, Choosing, Marking, Entering, IsOpen, Makes, Places, Notes};
 
 use lil_asm::{Instr, encode, encode_entry};
 use lil_base::{Bytes, Memory};
@@ -306,7 +307,7 @@ impl<'m> CodeBuffer<'m> {
     /// One string more, and its offset in the module's data, in words: it lies behind the variables and the strings before.
     pub fn string(&mut self, text: &[u8]) -> Result<u16, Memory>
         ensures short { IfOk result (λ offset. length text.now ≤ 32000) }
-        ensures says { IfOk result (λ offset. Emits self.old self.new (Saying text.now offset)) }
+        ensures says { IfOk result (λ offset. Adds (words_of text.now) self.old self.new (Saying text.now offset)) }
     {
         let words = text_words(self.alloc, text)?;
         let offset = usize::from(self.words) + self.strings.len();

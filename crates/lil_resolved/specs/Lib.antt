@@ -10,4 +10,5 @@ pub mod Scalars
 pub mod Shapes
 pub mod Sizes
 pub mod Sound
+pub mod Strings
 pub mod Views

@@ -1,5 +1,5 @@
 -- The code of CASE.
-use Rattle.std.proofs.Common.{◌≡◌, ℕ, zero, suc, ◌+◌, ◌*◌, ◌<◌, ◌≤◌, Bool, true, List, [], ◌∷◌, ◌++◌, length, map, take, get_or, Option, Some, None, refl, sym, ap, ◌∙◌, subst, arith}
+use Rattle.std.proofs.Common.{◌≡◌, ℕ, zero, suc, ◌+◌, ◌*◌, ◌<◌, ◌≤◌, Bool, true, List, [], ◌∷◌, ◌++◌, length, map, take, get_or, Option, Some, None, refl, sym, ap, ◌∙◌, subst, arith, append-nil}
 use Rattle.std.specs.Option.{is_some, option_map}
 use Rattle.std.proofs.lemmas.List.{take_more, length-take-le}
 use Rattle.lil_base.specs.Words.{word_of}
@@ -12,16 +12,19 @@ use Rattle.lil_resolved.specs.Kinds.{Kind, compared_as, is_ordinal}
 use Rattle.lil_resolved.specs.Resolved.{Label, Arms, kind_of}
 use Rattle.lil_resolved.specs.Views.{expression_of, statement_of, statements_of, label_of, else_of, arms_of}
 use Rattle.lil_resolved.specs.Depth.{arms_words}
+use Rattle.lil_resolved.specs.Strings.{body_strings, arms_strings}
 use Rattle.lil_resolved.specs.Sound.{IsSoundLabel, AreSoundLabels, AreSoundArms}
 use Rattle.lil_resolved.specs.Forms.{case_is, arm_is}
 use Rattle.lil_asm.specs.declared.instr.Instr.TheVariants.{Jmp, Cas, Trp}
 use Rattle.lil_table.specs.Rows.{IsAt, EntriesAt, ArmsAt, loop_place}
 use Rattle.lil_table.specs.LabelLaws.{label_in}
-use Rattle.lil_labels.specs.Drafts.{Draft, Final, EntryAt, ChoiceAt, Entering, Meaning, Emits, Nothing, Doing, Choosing, Marking, Makes, Places}
-use Rattle.lil_labels.specs.Emitting.{emits_then, emits_as, emits_within, emits_here, emits_fresh, emits_mark}
+use Rattle.lil_labels.specs.Drafts.{Draft, Final, EntryAt, ChoiceAt, Entering, Meaning, Adds, Emits, Nothing, Doing, Choosing, Marking, Makes, Places}
+use Rattle.lil_labels.specs.Emitting.{emits_then, emits_as, adds_as, emits_within, emits_here, emits_fresh, emits_mark}
 use Rattle.lil_expr.specs.Generating.{Value}
 use Rattle.lil_stmt.specs.Generating.{Body, Each, paired, ArmPart, ArmBody, Trapping, ElsePart, HasWords, LabelEntry, ArmLabels, ChoiceOf, entries}
 use Rattle.lil_stmt.proofs.Words.{in_word}
+use Rattle.lil_stmt.proofs.Counting.{take_next}
+use Rattle.lil_stmt.proofs.Strings.{case_strings}
 use Rattle.lil_stmt.proofs.Storing.{whole}
 use Rattle.lil_stmt.proofs.Stating.{one_emitted}
 
@@ -35,13 +38,10 @@ each_one : {A : Type 0} (P : A → Meaning) (xs : List A) (a : A) (x : Final) (p
 each_one P [] a x p m q h t = (q, subst (λ (p : ℕ). P a x p q) (sym h) t, refl)
 each_one P (b ∷ xs) a x p m q h t = (h.0, h.1, each_one P xs a x h.0 m q h.2 t)
 
-each_emitted : {A : Type 0} (P : A → Meaning) (xs ys : List A) (y : A) (a b c : Draft) → ys ≡ xs ++ y ∷ [] → Emits a b (Each P xs) → Emits b c (P y) → Emits a c (Each P ys)
-each_emitted P xs ys y a b c is t u =
-    subst (λ ys. Emits a c (Each P ys)) (sym is)
+each_emitted : {us vs : List ℕ} {A : Type 0} (P : A → Meaning) (xs ys : List A) (y : A) (a b c : Draft) → ys ≡ xs ++ y ∷ [] → Adds us a b (Each P xs) → Adds vs b c (P y) → Adds (us ++ vs) a c (Each P ys)
+each_emitted {us = us} {vs = vs} P xs ys y a b c is t u =
+    subst (λ ys. Adds (us ++ vs) a c (Each P ys)) (sym is)
     (emits_as a c _ (Each P (xs ++ y ∷ [])) (λ x h. each_one P xs y x (length a.bytes) (length b.bytes) (length c.bytes) h.0 h.1) (emits_then a b c _ _ t u))
-
-take_next : {X : Type 0} (xs : List X) (i : ℕ) (x : X) → i < length xs → x ≡ get_or xs i x → take (i + 1) xs ≡ take i xs ++ x ∷ []
-take_next xs i x inside is = take_more xs i x inside ∙ ap (λ y. take i xs ++ y ∷ []) (sym is)
 
 paired_one : (arms : List RArm) (ls : List ℕ) (a : RArm) (l : ℕ) → length ls ≡ length arms → paired (arms ++ a ∷ []) (ls ++ l ∷ []) ≡ paired arms ls ++ (a, l) ∷ []
 paired_one [] [] a l h = refl
@@ -60,8 +60,8 @@ next_label_emitted arm labels i d low high a b c inside low_is high_is so_far ne
     (subst (λ (w : ℕ). EntryAt x.code low w (x.word arm) (length b.bytes) (length c.bytes)) (high_is words) entry)) next)
 
 -- the next of a list of arms
-pub next_arm_emitted : (P : RArm × ℕ → Meaning) (arms : List RArm) (ls ks : List ℕ) (i : ℕ) (arm : RArm) (l : ℕ) (a b c : Draft) → i < length arms → arm ≡ get_or arms i arm → length ls ≡ i → ks ≡ ls ++ l ∷ []
-    → Emits a b (Each P (paired (take i arms) ls)) → Emits b c (P (arm, l)) → Emits a c (Each P (paired (take (i + 1) arms) ks))
+pub next_arm_emitted : {us vs : List ℕ} (P : RArm × ℕ → Meaning) (arms : List RArm) (ls ks : List ℕ) (i : ℕ) (arm : RArm) (l : ℕ) (a b c : Draft) → i < length arms → arm ≡ get_or arms i arm → length ls ≡ i → ks ≡ ls ++ l ∷ []
+    → Adds us a b (Each P (paired (take i arms) ls)) → Adds vs b c (P (arm, l)) → Adds (us ++ vs) a c (Each P (paired (take (i + 1) arms) ks))
 next_arm_emitted P arms ls ks i arm l a b c inside is long more so_far next =
     let full : length ls ≡ length (take i arms) = omega (arith, long, length-take-le i arms (omega arith)) in
     each_emitted P (paired (take i arms) ls) (paired (take (i + 1) arms) ks) (arm, l) a b c
@@ -74,10 +74,11 @@ entries_one (b ∷ arms) a = omega (arith, entries_one arms a)
 pub entries_next : (arms : List RArm) (i : ℕ) (a : RArm) → i < length arms → a ≡ get_or arms i a → entries (take (i + 1) arms) ≡ entries (take i arms) + length a.labels
 entries_next arms i a inside is = ap entries (take_next arms i a inside is) ∙ entries_one (take i arms) a
 
-pub arm_emitted : (n : ℕ) (exit : Option ℕ) (leave label : ℕ) (ss : List RStmt) (a b c d : Draft) → Emits a b (Marking label) → Emits b c (Body n exit (statements_of ss)) → Emits c d (Doing (λ w. Jmp (w leave)))
-    → Emits a d (ArmPart n exit leave label (statements_of ss))
+pub arm_emitted : (n : ℕ) (exit : Option ℕ) (leave label : ℕ) (ss : List RStmt) (a b c d : Draft) → Emits a b (Marking label) → Adds (body_strings (statements_of ss)) b c (Body n exit (statements_of ss)) → Emits c d (Doing (λ w. Jmp (w leave)))
+    → Adds (body_strings (statements_of ss)) a d (ArmPart n exit leave label (statements_of ss))
 arm_emitted n exit leave label ss a b c d mark body jump =
-    emits_as a d _ (ArmPart n exit leave label (statements_of ss)) (λ x t. record { end = length c.bytes; named = t.0; here = t.1.0; jump = t.1.1 }) (emits_mark a b d label _ mark (emits_then b c d _ _ body jump))
+    adds_as a d _ (append-nil (body_strings (statements_of ss)))
+    (emits_as a d _ (ArmPart n exit leave label (statements_of ss)) (λ x t. record { end = length c.bytes; named = t.0; here = t.1.0; jump = t.1.1 }) (emits_mark a b d label _ mark (emits_then b c d _ _ body jump)))
 
 pub trap_marked : (label : ℕ) (a b c : Draft) → Emits a b (Marking label) → Emits b c (Doing (λ w. Trp 7)) → Emits a c (Trapping label)
 trap_marked label a b c mark trap = emits_mark a b c label _ mark trap
@@ -161,10 +162,12 @@ table_long x k (a ∷ arms) (l ∷ ls) other looping t u base sound long table =
 -- the value, a jump to the table, the exit, the arms, what stands behind ELSE, and the table
 pub case_emitted : (n : ℕ) (exit : Option ℕ) (value : RExpr) (arms : List RArm) (otherwise : Option (List RStmt)) (labels : List ℕ) (table end leave other : ℕ) (d0 d1 d2 d3 d4 d5 d6 d7 d8 d9 d10 d11 : Draft)
     → Emits d0 d1 Nothing → Makes d0 d1 table → Emits d1 d2 Nothing → Makes d1 d2 end → Emits d2 d3 (Value (expression_of value)) → Emits d3 d4 (Doing (λ w. Jmp (w table))) → Emits d4 d5 (Marking leave)
-    → Emits d5 d6 (Doing (λ w. Jmp (w end))) → length labels ≡ length arms → Emits d6 d7 (Each (ArmBody n exit leave) (paired arms labels)) → Emits d7 d8 (ElsePart n exit leave other otherwise)
-    → Places d8 d9 table → Emits d9 d10 (ChoiceOf arms labels other) → Places d10 d11 end → Emits d0 d11 (Body n exit (statement_of (s.Case value arms otherwise)))
+    → Emits d5 d6 (Doing (λ w. Jmp (w end))) → length labels ≡ length arms → Adds (arms_strings (arms_of arms None)) d6 d7 (Each (ArmBody n exit leave) (paired arms labels)) → Adds (arms_strings (else_of otherwise)) d7 d8 (ElsePart n exit leave other otherwise)
+    → Places d8 d9 table → Emits d9 d10 (ChoiceOf arms labels other) → Places d10 d11 end → Adds (body_strings (statement_of (s.Case value arms otherwise))) d0 d11 (Body n exit (statement_of (s.Case value arms otherwise)))
 case_emitted n exit value arms otherwise labels table end leave other d0 d1 d2 d3 d4 d5 d6 d7 d8 d9 d10 d11 n1 m1 n2 m2 test go exit_at out long bodies els put_table choice put_end =
+    let bodies_strings = arms_strings (arms_of arms None) ++ arms_strings (else_of otherwise) in
     one_emitted n exit _ _ d0 d11 (case_is value arms otherwise)
+    (adds_as d0 d11 _ (append-nil bodies_strings ∙ case_strings arms otherwise)
     (emits_as d0 d11 _ _
     (λ x t sound room.
     let k = kind_of (expression_of value) in
@@ -197,4 +200,4 @@ case_emitted n exit value arms otherwise labels table end leave other d0 d1 d2 d
     (emits_then d2 d3 d8 _ _ test (emits_then d3 d4 d8 _ _ go (emits_mark d4 d5 d8 leave _ exit_at (emits_then d5 d6 d8 _ _ out (emits_then d6 d7 d8 _ _ bodies els)))))))
     (omega (arith, m1.is)) put_table)
     (emits_within d9 d10 _ choice))
-    (omega (arith, m2.is, n1.made)) put_end))
+    (omega (arith, m2.is, n1.made)) put_end)))

@@ -1,4 +1,5 @@
 pub mod Counting
+pub mod Strings
 pub mod Storing
 pub mod Placing
 pub mod Starting

@@ -1,5 +1,5 @@
 -- The code of values with their tests, of arguments, of requests and of EXIT.
-use Rattle.std.proofs.Common.{◌≡◌, ℕ, ◌+◌, ◌<◌, ◌≤◌, Bool, ◌||◌, List, [], ◌∷◌, length, map, drop, get_or, Option, Some, refl, sym, ap, ◌∙◌, subst, arith}
+use Rattle.std.proofs.Common.{◌≡◌, ℕ, ◌+◌, ◌<◌, ◌≤◌, Bool, ◌||◌, List, [], ◌∷◌, ◌++◌, length, map, drop, get_or, Option, Some, refl, sym, ap, ◌∙◌, subst, arith, append-nil}
 use Rattle.std.specs.Option.{option_map}
 use Rattle.std.proofs.lemmas.List.{drop_all}
 use Rattle.lil_resolved.specs.declared.resolved.RArgument.{RArgument}
@@ -10,11 +10,12 @@ use Rattle.lil_resolved.specs.Shapes.{Scope}
 use Rattle.lil_resolved.specs.Resolved.{Expression, Argument, ByValue, OfArray, OfText, Request, Exit, kind_of}
 use Rattle.lil_resolved.specs.Views.{request_number, argument_of}
 use Rattle.lil_resolved.specs.Sound.{IsSoundWhole, IsSoundValue, IsSoundStored, Parameter, Single, Characters, parameter_of, request_parameters}
+use Rattle.lil_resolved.specs.Strings.{arguments_strings}
 use Rattle.lil_asm.specs.declared.instr.Instr.TheVariants.{Jmp, Svc}
 use Rattle.lil_asm.specs.Requests.{request_words}
 use Rattle.lil_table.specs.Rows.{InstrsAt, WholeRow, argument_words, arguments_words, test_code}
-use Rattle.lil_labels.specs.Drafts.{Draft, Final, Meaning, Emits, Doing, DoingAll}
-use Rattle.lil_labels.specs.Emitting.{emits_none, emits_then, emits_as}
+use Rattle.lil_labels.specs.Drafts.{Draft, Final, Meaning, Adds, Emits, Doing, DoingAll}
+use Rattle.lil_labels.specs.Emitting.{emits_none, emits_then, emits_as, adds_as}
 use Rattle.lil_expr.specs.Generating.{Value}
 use Rattle.lil_stmt.specs.Generating.{Stored, Argued, Passed, Stated}
 use Rattle.lil_stmt.proofs.Counting.{left_from}
@@ -43,8 +44,8 @@ value_emitted e k j a b c typed value test =
 abbrev pub Passing : ℕ → List Argument → List Argument → Meaning
 Passing n rest all x p q = (r : ℕ) → Passed n rest x q r → Passed 0 all x p r
 
-pub next_argument : (given : List RArgument) (i n : ℕ) (g : RArgument) (all : List Argument) (a b c : Draft) → i < length given → g ≡ get_or given i g
-    → Emits a b (Passing n (map argument_of (drop i given)) all) → Emits b c (Argued (argument_of g)) → Emits a c (Passing (argument_words (argument_of g) + n) (map argument_of (drop (i + 1) given)) all)
+pub next_argument : {us vs : List ℕ} (given : List RArgument) (i n : ℕ) (g : RArgument) (all : List Argument) (a b c : Draft) → i < length given → g ≡ get_or given i g
+    → Adds us a b (Passing n (map argument_of (drop i given)) all) → Adds vs b c (Argued (argument_of g)) → Adds (us ++ vs) a c (Passing (argument_words (argument_of g) + n) (map argument_of (drop (i + 1) given)) all)
 next_argument given i n g all a b c inside is so_far next =
     let w = argument_words (argument_of g) in
     emits_as a c _ (Passing (w + n) (map argument_of (drop (i + 1) given)) all)
@@ -56,7 +57,7 @@ next_argument given i n g all a b c inside is so_far next =
 pub first_argument : (d : Draft) (given : List Argument) → Emits d d (Passing 0 given given)
 first_argument d given = emits_as d d _ (Passing 0 given given) (λ x same r rest. rest) (emits_none d)
 
-pub all_arguments : (given : List RArgument) (i n : ℕ) (all : List Argument) (a b : Draft) → length given ≤ i → Emits a b (Passing n (map argument_of (drop i given)) all) → Emits a b (Passed 0 all)
+pub all_arguments : {us : List ℕ} (given : List RArgument) (i n : ℕ) (all : List Argument) (a b : Draft) → length given ≤ i → Adds us a b (Passing n (map argument_of (drop i given)) all) → Adds us a b (Passed 0 all)
 all_arguments given i n all a b past =
     emits_as a b _ (Passed 0 all)
     (λ x t. t (length b.bytes) (subst (λ (left : List RArgument). Passed n (map argument_of left) x (length b.bytes) (length b.bytes)) (sym (drop_all i given past)) (λ sound low. refl)))
@@ -95,13 +96,14 @@ request_known r given known = by r known
     by q.WriteOct e = fits _ 2 e refl (omega arith)
     by q.WriteHex e = fits _ 2 e refl (omega arith)
 
-pub request_emitted : (r : RRequest) (number : ℕ) (given : List Argument) (n : ℕ) (exit : Option ℕ) (a b c : Draft) → number ≡ request_number r → Emits a b (Passed 0 given) → Emits b c (Doing (λ w. Svc number))
-    → Emits a c (Stated n exit (Request (request_number r) given))
+pub request_emitted : (r : RRequest) (number : ℕ) (given : List Argument) (n : ℕ) (exit : Option ℕ) (a b c : Draft) → number ≡ request_number r → Adds (arguments_strings given) a b (Passed 0 given) → Emits b c (Doing (λ w. Svc number))
+    → Adds (arguments_strings given) a c (Stated n exit (Request (request_number r) given))
 request_emitted r number given n exit a b c is arguments by =
     let called = subst (λ (number : ℕ). Emits b c (Doing (λ w. Svc number))) is by in
-    emits_as a c _ (Stated n exit (Request (request_number r) given))
+    adds_as a c _ (append-nil (arguments_strings given))
+    (emits_as a c _ (Stated n exit (Request (request_number r) given))
     (λ x t sound room. let known = request_known r given sound.0 in record { middle = length b.bytes; takes = sound.0; words = known.0; arguments = t.0 sound.1 (omega (arith, known.1)); by = t.1 })
-    (emits_then a b c _ _ arguments called)
+    (emits_then a b c _ _ arguments called))
 
 -- ---- EXIT
 pub exit_emitted : (n to : ℕ) (exit : Option ℕ) (a b : Draft) → exit ≡ Some to → Emits a b (Doing (λ w. Jmp (w to))) → Emits a b (Stated n exit Exit)

@@ -1,5 +1,5 @@
 -- The code of strings, and of arguments.
-use Rattle.std.proofs.Common.{◌≡◌, ℕ, ◌-◌, min, List, [], ◌∷◌, length, map, Option, Some, None, refl, sym, ap, ◌∙◌, subst, arith}
+use Rattle.std.proofs.Common.{◌≡◌, ℕ, ◌-◌, min, List, [], ◌∷◌, length, map, Option, Some, None, refl, sym, ap, ◌∙◌, subst, arith, append-nil}
 use Rattle.std.specs.Prelude.{slice_get}
 use Rattle.lil_resolved.specs.declared.shapes.RShape.{RShape}
 use Rattle.lil_resolved.specs.declared.shapes.RShape.TheVariants as r
@@ -7,13 +7,14 @@ use Rattle.lil_resolved.specs.Kinds.{Kind, OfCharacter}
 use Rattle.lil_resolved.specs.Shapes.{Shape, Absent, Word, Row, words, is_there, shape_at, fields_of, count_of}
 use Rattle.lil_resolved.specs.Resolved.{Designator, Expression, ByValue, OfArray, OfText, Text}
 use Rattle.lil_resolved.specs.Views.{number_of, shape_with, shapes_of, AreMeasured}
+use Rattle.lil_resolved.specs.Strings.{words_of}
 use Rattle.lil_asm.specs.declared.instr.Instr.{Instr}
 use Rattle.lil_asm.specs.declared.instr.Instr.TheVariants.{Lag, Liw, Mvz}
 use Rattle.lil_table.specs.Rows.{IsAt, text_words}
 use Rattle.lil_labels.specs.Entries.{entry, absent, small_at}
 use Rattle.lil_labels.specs.Tables.{Tables, elements_in, elements_by}
-use Rattle.lil_labels.specs.Drafts.{Draft, Final, Emits, Saying, Doing, DoingAll}
-use Rattle.lil_labels.specs.Emitting.{emits_then, emits_as, emits_tied}
+use Rattle.lil_labels.specs.Drafts.{Draft, Final, Adds, Emits, Saying, Doing, DoingAll}
+use Rattle.lil_labels.specs.Emitting.{emits_then, emits_as, adds_as, emits_tied}
 use Rattle.lil_stmt.specs.Generating.{Stored, Addressed, Argued, Stated}
 use Rattle.lil_stmt.proofs.Storing.{stored}
 
@@ -62,14 +63,15 @@ text_at d cs m offset characters zeros n exit x p start behind last q end long f
     }
 
 pub text_emitted : (d : Designator) (cs : List ℕ) (m offset characters zeros n : ℕ) (exit : Option ℕ) (c0 c1 c2 c3 : Draft) → characters ≡ length cs → zeros ≡ min ((elements_by (slice_get c2.tables.shapes m)).count - characters) 65535
-    → Emits c0 c1 (Addressed d m) → Emits c1 c2 (Saying cs offset) → Emits c2 c3 (DoingAll (Lag offset ∷ Mvz characters zeros ∷ [])) → Emits c0 c3 (Stated n exit (Text d cs))
+    → Emits c0 c1 (Addressed d m) → Adds (words_of cs) c1 c2 (Saying cs offset) → Emits c2 c3 (DoingAll (Lag offset ∷ Mvz characters zeros ∷ [])) → Adds (words_of cs) c0 c3 (Stated n exit (Text d cs))
 text_emitted d cs m offset characters zeros n exit c0 c1 c2 c3 long filled place text move =
-    emits_as c0 c3 _ (Stated n exit (Text d cs))
+    adds_as c0 c3 _ (append-nil (words_of cs))
+    (emits_as c0 c3 _ (Stated n exit (Text d cs))
     (λ x t.
     let moves = t.1.1.0 in
     let filled_now = filled ∙ ap (λ (ts : Tables). min ((elements_by (slice_get ts.shapes m)).count - characters) 65535) (sym t.1.1.1) in
     text_at d cs m offset characters zeros n exit x _ _ _ moves.0 _ moves.2.0 long filled_now t.0 t.1.0 moves.1 moves.2.1 moves.2.2)
-    (emits_then c0 c1 c3 _ _ place (emits_then c1 c2 c3 _ _ text (emits_tied c2 c3 _ move)))
+    (emits_then c0 c1 c3 _ _ place (emits_then c1 c2 c3 _ _ text (emits_tied c2 c3 _ move))))
 
 -- ---- arguments
 pub value_argued : (k : Kind) (e : Expression) (a b : Draft) → Emits a b (Stored e k) → Emits a b (Argued (ByValue k e))
@@ -103,8 +105,9 @@ string_at cs offset high x p start middle last q is text address by ends = λ n 
   by = subst (λ (q : ℕ). IsAt x.code middle (Liw (text_words cs - 1)) q) ends (subst (λ (w : ℕ). IsAt x.code middle (Liw w) last) is by);
 }
 
-pub text_argued : (cs : List ℕ) (offset high : ℕ) (a b c : Draft) → high ≡ length cs - 1 → Emits a b (Saying cs offset) → Emits b c (DoingAll (Lag offset ∷ Liw high ∷ [])) → Emits a c (Argued (OfText cs))
+pub text_argued : (cs : List ℕ) (offset high : ℕ) (a b c : Draft) → high ≡ length cs - 1 → Adds (words_of cs) a b (Saying cs offset) → Emits b c (DoingAll (Lag offset ∷ Liw high ∷ [])) → Adds (words_of cs) a c (Argued (OfText cs))
 text_argued cs offset high a b c is text by =
-    emits_as a c _ (Argued (OfText cs))
+    adds_as a c _ (append-nil (words_of cs))
+    (emits_as a c _ (Argued (OfText cs))
     (λ x t. string_at cs offset high x _ _ t.1.0 t.1.2.0 _ (omega (arith, is)) t.0 t.1.1 t.1.2.1 t.1.2.2)
-    (emits_then a b c _ _ text by)
+    (emits_then a b c _ _ text by))

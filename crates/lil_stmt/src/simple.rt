@@ -4,9 +4,10 @@ ghost use Rattle.std.specs.Prelude.{◌≡◌, ℕ, Option, map, OnOk};
 ghost use Rattle.lil_resolved.specs.Resolved as resolved;
 ghost use Rattle.lil_resolved.specs.Resolved.{Assign, Copy, Change, Member, New, Allocate, Exit};
 ghost use Rattle.lil_resolved.specs.Views.{kind_view, place_of, is_down, is_out, is_back, request_number, argument_of, expression_of};
+ghost use Rattle.lil_resolved.specs.Strings.{words_of, argument_strings, arguments_strings};
 ghost use Rattle.lil_asm.specs.Bytes.{Sayable};
 ghost use Rattle.lil_table.specs.Rows.{member_code, allocate_code};
-ghost use Rattle.lil_labels.specs.Drafts.{DoingAll, Emits};
+ghost use Rattle.lil_labels.specs.Drafts.{DoingAll, Adds, Emits};
 ghost use Rattle.lil_stmt.specs.Generating.{Stated, Stored, Argued, Passed};
 
 use crate::kinds::{change_instr, counted_base};
@@ -63,7 +64,7 @@ pub(crate) fn emit_text(
     place: &RPlace,
     text: &Text,
 ) -> Result<(), Memory>
-    ensures { OnOk result ((n : ℕ) (exit : Option ℕ) → Emits code.old code.new (Stated n exit (resolved.Text (place_of place.now) text.now))) }
+    ensures { OnOk result ((n : ℕ) (exit : Option ℕ) → Adds (words_of text.now) code.old code.new (Stated n exit (resolved.Text (place_of place.now) text.now))) }
 {
     let shape = emit_address_of(code, place)?;
     let offset = code.string(text.as_slice())?;
@@ -170,7 +171,7 @@ pub(crate) fn emit_request(
     request: RRequest,
     given: &[RArgument],
 ) -> Result<(), Memory>
-    ensures { OnOk result ((n : ℕ) (exit : Option ℕ) → Emits code.old code.new (Stated n exit (resolved.Request (request_number request) (map argument_of given.now)))) }
+    ensures { OnOk result ((n : ℕ) (exit : Option ℕ) → Adds (arguments_strings (map argument_of given.now)) code.old code.new (Stated n exit (resolved.Request (request_number request) (map argument_of given.now)))) }
 {
     emit_arguments(code, given)?;
     code.put(Instr::Svc(request_code(request)))
@@ -178,7 +179,7 @@ pub(crate) fn emit_request(
 
 /// Appends the code of arguments, each with its test.
 fn emit_arguments(code: &mut CodeBuffer<'_>, given: &[RArgument]) -> Result<(), Memory>
-    ensures { OnOk result (Emits code.old code.new (Passed 0 (map argument_of given.now))) }
+    ensures { OnOk result (Adds (arguments_strings (map argument_of given.now)) code.old code.new (Passed 0 (map argument_of given.now))) }
 {
     for argument in given {
         emit_argument(code, argument)?;
@@ -189,7 +190,7 @@ fn emit_arguments(code: &mut CodeBuffer<'_>, given: &[RArgument]) -> Result<(), 
 /// Appends the code of an argument: a value and its test; or the address of an array or of a string, and the number of its
 /// last element.
 fn emit_argument(code: &mut CodeBuffer<'_>, argument: &RArgument) -> Result<(), Memory>
-    ensures { OnOk result (Emits code.old code.new (Argued (argument_of argument.now))) }
+    ensures { OnOk result (Adds (argument_strings (argument_of argument.now)) code.old code.new (Argued (argument_of argument.now))) }
 {
     match argument {
         RArgument::Value(kind, value) => emit_value(code, value, *kind),

@@ -1,9 +1,10 @@
 //! The code of resolved statements.
 
-ghost use Rattle.std.specs.Prelude.{◌≡◌, true, length, IfOk, OnOk};
+ghost use Rattle.std.specs.Prelude.{◌≡◌, [], None, true, length, IfOk, OnOk};
 ghost use Rattle.lil_resolved.specs.Resolved.{While, Repeat, Loop, For, Inside};
-ghost use Rattle.lil_resolved.specs.Views.{variable_kind, expression_of, place_of, statement_of, statements_of, guard_of};
-ghost use Rattle.lil_labels.specs.Drafts.{Emits};
+ghost use Rattle.lil_resolved.specs.Views.{variable_kind, expression_of, place_of, statement_of, statements_of, guard_of, guards_of, arms_of};
+ghost use Rattle.lil_resolved.specs.Strings.{body_strings, arms_strings};
+ghost use Rattle.lil_labels.specs.Drafts.{Adds, Emits};
 ghost use Rattle.lil_stmt.specs.Generating.{Stated, Body, Turning, Each, ArmPart, ArmBody, Trapping, nothing_before, guards_before, paired};
 ghost use Rattle.lil_stmt.specs.Forms.{is_simple, is_case};
 
@@ -33,7 +34,7 @@ pub struct Around {
 /// Appends the code of statements, one behind another.
 #[cycle(emitting)]
 pub fn emit_body(code: &mut CodeBuffer<'_>, body: &[RStmt], around: Around) -> Result<(), Memory>
-    ensures { OnOk result (Emits code.old code.new (Body around.words around.exit (statements_of body.now))) }
+    ensures { OnOk result (Adds (body_strings (statements_of body.now)) code.old code.new (Body around.words around.exit (statements_of body.now))) }
 {
     for statement in body {
         emit_statement(code, statement, around)?;
@@ -48,7 +49,7 @@ fn emit_statement(
     statement: &RStmt,
     around: Around,
 ) -> Result<(), Memory>
-    ensures { OnOk result (Emits code.old code.new (Body around.words around.exit (statement_of statement.now))) }
+    ensures { OnOk result (Adds (body_strings (statement_of statement.now)) code.old code.new (Body around.words around.exit (statement_of statement.now))) }
 {
     match statement {
         RStmt::If(guards, otherwise) => {
@@ -72,7 +73,7 @@ fn emit_statement(
 /// Appends the code of a statement that holds no others.
 fn emit_simple(code: &mut CodeBuffer<'_>, statement: &RStmt, around: Around) -> Result<(), Memory>
     requires { is_simple statement.now ≡ true }
-    ensures { OnOk result (Emits code.old code.new (Body around.words around.exit (statement_of statement.now))) }
+    ensures { OnOk result (Adds (body_strings (statement_of statement.now)) code.old code.new (Body around.words around.exit (statement_of statement.now))) }
 {
     match statement {
         RStmt::Assign(place, kind, value) => emit_assign(code, place, *kind, value),
@@ -94,7 +95,7 @@ fn emit_simple(code: &mut CodeBuffer<'_>, statement: &RStmt, around: Around) -> 
 #[cycle(emitting)]
 fn emit_case(code: &mut CodeBuffer<'_>, statement: &RStmt, around: Around) -> Result<(), Memory>
     requires { is_case statement.now ≡ true }
-    ensures { OnOk result (Emits code.old code.new (Body around.words around.exit (statement_of statement.now))) }
+    ensures { OnOk result (Adds (body_strings (statement_of statement.now)) code.old code.new (Body around.words around.exit (statement_of statement.now))) }
 {
     let RStmt::Case(value, arms, otherwise) = statement else {
         unreachable!()
@@ -123,7 +124,7 @@ fn emit_guards(
     end: u32,
     around: Around,
 ) -> Result<(), Memory>
-    ensures { OnOk result (Emits code.old code.new (Turning around.words around.exit end nothing_before (guards_before guards.now))) }
+    ensures { OnOk result (Adds (body_strings (guards_of guards.now [])) code.old code.new (Turning around.words around.exit end nothing_before (guards_before guards.now))) }
 {
     for guard in guards {
         emit_guard(code, guard, end, around)?;
@@ -140,7 +141,7 @@ fn emit_guard(
     end: u32,
     around: Around,
 ) -> Result<(), Memory>
-    ensures { OnOk result (Emits code.old code.new (Turning around.words around.exit end nothing_before (guard_of guard.now))) }
+    ensures { OnOk result (Adds (body_strings (statements_of guard.now.body)) code.old code.new (Turning around.words around.exit end nothing_before (guard_of guard.now))) }
 {
     emit_expression(code, &guard.condition)?;
     let other = code.fresh()?;
@@ -159,7 +160,7 @@ fn emit_arms(
     around: Around,
 ) -> Result<Vec<u32>, Memory>
     ensures many { IfOk result (λ labels. length labels.items ≡ length arms.now) }
-    ensures emits { IfOk result (λ labels. Emits code.old code.new (Each (ArmBody around.words around.exit leave) (paired arms.now labels.items))) }
+    ensures emits { IfOk result (λ labels. Adds (arms_strings (arms_of arms.now None)) code.old code.new (Each (ArmBody around.words around.exit leave) (paired arms.now labels.items))) }
 {
     let mut labels = Vec::new(code.alloc());
     for arm in arms {
@@ -177,7 +178,7 @@ fn emit_arm(
     leave: u32,
     around: Around,
 ) -> Result<u32, Memory>
-    ensures { IfOk result (λ label. Emits code.old code.new (ArmPart around.words around.exit leave label (statements_of body.now))) }
+    ensures { IfOk result (λ label. Adds (body_strings (statements_of body.now)) code.old code.new (ArmPart around.words around.exit leave label (statements_of body.now))) }
 {
     let label = code.mark()?;
     emit_body(code, body, around)?;
@@ -203,7 +204,7 @@ fn emit_while(
     condition: &RExpr,
     around: Around,
 ) -> Result<(), Memory>
-    ensures { OnOk result (Emits code.old code.new (Stated around.words around.exit (While (expression_of condition.now) (statements_of body.now)))) }
+    ensures { OnOk result (Adds (body_strings (statements_of body.now)) code.old code.new (Stated around.words around.exit (While (expression_of condition.now) (statements_of body.now)))) }
 {
     let again = code.mark()?;
     emit_expression(code, condition)?;
@@ -222,7 +223,7 @@ fn emit_repeat(
     condition: &RExpr,
     around: Around,
 ) -> Result<(), Memory>
-    ensures { OnOk result (Emits code.old code.new (Stated around.words around.exit (Repeat (statements_of body.now) (expression_of condition.now)))) }
+    ensures { OnOk result (Adds (body_strings (statements_of body.now)) code.old code.new (Stated around.words around.exit (Repeat (statements_of body.now) (expression_of condition.now)))) }
 {
     let again = code.mark()?;
     emit_body(code, body, around)?;
@@ -233,7 +234,7 @@ fn emit_repeat(
 /// Appends the code of a LOOP: the statements, and a jump back. EXITs in it jump behind that.
 #[cycle(emitting)]
 fn emit_loop(code: &mut CodeBuffer<'_>, body: &[RStmt], around: Around) -> Result<(), Memory>
-    ensures { OnOk result (Emits code.old code.new (Stated around.words around.exit (Loop (statements_of body.now)))) }
+    ensures { OnOk result (Adds (body_strings (statements_of body.now)) code.old code.new (Stated around.words around.exit (Loop (statements_of body.now)))) }
 {
     let again = code.mark()?;
     let end = code.fresh()?;
@@ -258,7 +259,7 @@ fn emit_for(
     step: i16,
     around: Around,
 ) -> Result<(), Memory>
-    ensures { OnOk result (Emits code.old code.new (Stated around.words around.exit (For variable.number (variable_kind variable) (expression_of from.now) (expression_of to.now) step (statements_of body.now)))) }
+    ensures { OnOk result (Adds (body_strings (statements_of body.now)) code.old code.new (Stated around.words around.exit (For variable.number (variable_kind variable) (expression_of from.now) (expression_of to.now) step (statements_of body.now)))) }
 {
     emit_expression(code, from)?;
     emit_expression(code, to)?;
@@ -289,7 +290,7 @@ fn emit_with(
     place: &RPlace,
     around: Around,
 ) -> Result<(), Memory>
-    ensures { OnOk result (Emits code.old code.new (Stated around.words around.exit (Inside (place_of place.now) (statements_of body.now)))) }
+    ensures { OnOk result (Adds (body_strings (statements_of body.now)) code.old code.new (Stated around.words around.exit (Inside (place_of place.now) (statements_of body.now)))) }
 {
     let shape = emit_address_of(code, place)?;
     let word = loop_place(around.words);

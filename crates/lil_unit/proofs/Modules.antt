@@ -1,21 +1,23 @@
 -- The code of a whole module, settled.
-use Rattle.std.proofs.Common.{◌≡◌, ℕ, zero, suc, ◌+◌, ◌%◌, ◌≤◌, List, [], ◌∷◌, length, Some, None, refl, sym, ap, ◌∙◌, subst, arith, append-nil}
+use Rattle.std.proofs.Common.{◌≡◌, ℕ, zero, suc, ◌+◌, ◌%◌, ◌≤◌, List, [], ◌∷◌, ◌++◌, length, Some, None, refl, sym, ap, ◌∙◌, subst, arith, append-nil}
 use Rattle.std.specs.Prelude.{slice_get, map}
+use Rattle.std.specs.List.{flat_map}
 use Rattle.std.proofs.lemmas.Option.{none-some, same_Some}
 use Rattle.lil_resolved.specs.declared.resolved.RModule.{RModule}
 use Rattle.lil_resolved.specs.declared.resolved.RDeclared.{RDeclared}
 use Rattle.lil_resolved.specs.declared.shapes.RShape.{RShape}
 use Rattle.lil_resolved.specs.Shapes.{words, all_words, offsets_from}
-use Rattle.lil_resolved.specs.Resolved.{Resolved}
+use Rattle.lil_resolved.specs.Resolved.{Procedure, Resolved}
+use Rattle.lil_resolved.specs.Strings.{body_strings, procedure_strings, module_strings}
 use Rattle.lil_resolved.specs.Views.{offset_of, shape_declared, module_of, IsMeasured}
 use Rattle.lil_resolved.specs.Sizes.{frame_words, code_size, IsSound}
 use Rattle.lil_asm.specs.declared.instr.Instr.TheVariants.{Ent, Rtn}
 use Rattle.lil_table.specs.Rows.{IsAt, TranslatesBy, Translates, layout_by, exactly, cut}
 use Rattle.lil_table.specs.Lengths.{module_long}
 use Rattle.lil_labels.specs.Tables.{Tables, Describe}
-use Rattle.lil_labels.specs.Drafts.{Draft, empty, Final, Fits, Emits, Doing, code_of, settled_word, word_in}
+use Rattle.lil_labels.specs.Drafts.{Draft, empty, Final, Fits, Adds, Emits, Doing, code_of, settled_word, word_in}
 use Rattle.lil_labels.specs.Settling.{written_long}
-use Rattle.lil_labels.specs.Emitting.{emits_then, emits_as}
+use Rattle.lil_labels.specs.Emitting.{emits_then, emits_as, adds_as}
 use Rattle.lil_stmt.specs.Generating.{Body}
 use Rattle.lil_unit.specs.Framing.{Framed}
 
@@ -31,15 +33,16 @@ lies_within ts (w ∷ vs) first (suc x) v h e =
     let rest : map offset_of vs ≡ offsets_from (first + words (shape_declared ts w)) (map (shape_declared ts) vs) = cc in
     omega (arith, lies_within ts vs (first + words (shape_declared ts w)) x v rest e)
 
-pub framed : (ts : List RShape) (us : List ℕ) (vs : List RDeclared) (all : ℕ) (m : Resolved) (words : ℕ) (a b c : Draft) → words ≡ frame_words m.body → Emits (empty ts us vs all) a (Doing (λ w. Ent words)) → Emits a b (Body 0 None m.body) → Emits b c (Doing (λ w. Rtn))
-    → Emits (empty ts us vs all) c (Framed m)
-framed ts us vs all m words a b c is enter body leave =
-    emits_as (empty ts us vs all) c _ (Framed m)
+pub framed : (ts : List RShape) (us : List ℕ) (vs : List RDeclared) (all : ℕ) (m : Resolved) (words : ℕ) (a b c : Draft) → words ≡ frame_words m.body → m.procedures ≡ [] → Emits (empty ts us vs all) a (Doing (λ w. Ent words)) → Adds (body_strings m.body) a b (Body 0 None m.body) → Emits b c (Doing (λ w. Rtn))
+    → Adds (module_strings m) (empty ts us vs all) c (Framed m)
+framed ts us vs all m words a b c is alone enter body leave =
+    adds_as (empty ts us vs all) c _ (ap (λ (ps : List Procedure). body_strings m.body ++ flat_map procedure_strings ps) (sym alone))
+    (emits_as (empty ts us vs all) c _ (Framed m)
     (λ x t. record { start = length a.bytes; end = length b.bytes; enter = subst (λ (w : ℕ). IsAt x.code 0 (Ent w) (length a.bytes)) is t.0; body = t.1.0; leave = t.1.1 })
-    (emits_then (empty ts us vs all) a c _ _ enter (emits_then a b c _ _ body leave))
+    (emits_then (empty ts us vs all) a c _ _ enter (emits_then a b c _ _ body leave)))
 
 module _ (r : RModule) (d : Draft) (sound : IsSound (module_of r)) (measured : IsMeasured r) (few : r.words ≤ 32000) (frame : frame_words (module_of r).body ≤ 65535)
-    (emitted : Emits (empty r.shapes r.targets r.variables r.words) d (Framed (module_of r))) where
+    (emitted : Adds (module_strings (module_of r)) (empty r.shapes r.targets r.variables r.words) d (Framed (module_of r))) where
   abbrev m : Resolved
   m = module_of r
 
@@ -93,6 +96,9 @@ module _ (r : RModule) (d : Draft) (sound : IsSound (module_of r)) (measured : I
   pub draft_long : length d.bytes ≡ code_size m
   draft_long = sym (written_long (settled_word d.places) d.bytes d.jumps) ∙ settled_long
 
+  pub strings_are : d.strings ≡ module_strings m
+  strings_are = emitted.strings
+
   -- where the code is short, that is with the places as they are
-  pub exact : ((l q : ℕ) → slice_get d.places l ≡ Some (Some q) → q ≤ 32767) → Translates m d.strings code
-  exact small = settled_translates exactly (λ l q h. omega (arith, small l q h))
+  pub exact : ((l q : ℕ) → slice_get d.places l ≡ Some (Some q) → q ≤ 32767) → Translates m (module_strings m) code
+  exact small = subst (λ (strings : List ℕ). Translates m strings code) strings_are (settled_translates exactly (λ l q h. omega (arith, small l q h)))

@@ -1,7 +1,8 @@
 use Rattle.std.proofs.Common.{List, ℕ, ap, subst, arith}
 use Rattle.lil_resolved.specs.declared.shapes.RElements.{RElements}
 use Rattle.lil_resolved.specs.Views.{place_of}
-use Rattle.lil_labels.specs.Drafts.{Emits, Saying}
+use Rattle.lil_resolved.specs.Strings.{words_of}
+use Rattle.lil_labels.specs.Drafts.{Adds, Saying}
 use Rattle.lil_labels.specs.Emitting.{with_ok}
 use Rattle.lil_stmt.proofs.Texts.{text_emitted}
 use Rattle.lil_stmt.proofs.simple.emit_text.Goals as goal
@@ -9,7 +10,7 @@ use Rattle.lil_stmt.proofs.simple.emit_text.Goals as goal
 pub returns : goal.returns
 returns c =
     let offset = c.in_ok-offset.offset in
-    let says = subst (λ (cs : List ℕ). Emits c.emit_address_of.new.code c.string.new.self (Saying cs offset)) c.as_slice.ensures c.in_ok-offset.ensures.says in
+    let says = subst (λ (cs : List ℕ). Adds (words_of cs) c.emit_address_of.new.code c.string.new.self (Saying cs offset)) c.as_slice.ensures c.in_ok-offset.ensures.says in
     let known = ap (λ (e : RElements). e.count) c.elements-count.ensures in
     with_ok c.put_all.result
     (λ h n exit. text_emitted (place_of c.args.place.now) c.args.text.now c.in_ok-shape.shape offset c.len-characters.result c.min-zeros.result n exit _ _ _ _ c.len-characters.ensures

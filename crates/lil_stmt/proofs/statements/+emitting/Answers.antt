@@ -1,5 +1,7 @@
-use Rattle.std.proofs.Common.{rules, ℕ, ◌≡◌, ◌+◌, ◌≤◌, suc, ℤ, pos, negsuc, ◌≤ℤ◌, w16, List, [], ◌∷◌, length, length-append, Option, sym, ap, ◌∙◌, subst, arith, OnOk}
+use Rattle.std.proofs.Common.{rules, ℕ, ◌≡◌, ◌+◌, ◌≤◌, suc, take, ℤ, pos, negsuc, ◌≤ℤ◌, w16, List, [], ◌∷◌, length, length-append, Option, None, sym, ap, ◌∙◌, subst, arith, OnOk}
 use mir.Val.{SFits}
+use Rattle.std.specs.List.{flat_map}
+use Rattle.std.proofs.lemmas.List.{take_all}
 use Rattle.std.proofs.lemmas.Int.{to_z-of_z}
 use Rattle.lil_base.specs.Words.{word_of}
 use Rattle.lil_resolved.specs.declared.resolved.RStmt.{RStmt}
@@ -8,14 +10,16 @@ use Rattle.lil_resolved.specs.declared.resolved.RGuard.{RGuard}
 use Rattle.lil_resolved.specs.declared.shapes.RField.{RField}
 use Rattle.lil_resolved.specs.Kinds.{base_of, compared_as, covers, outside_turns}
 use Rattle.lil_resolved.specs.Resolved.{Statements, kind_of}
-use Rattle.lil_resolved.specs.Views.{kind_view, expression_of, place_of, statement_of, statements_of}
+use Rattle.lil_resolved.specs.Views.{kind_view, expression_of, place_of, statement_of, statements_of, guards_of, else_of, arms_of}
+use Rattle.lil_resolved.specs.Strings.{body_strings, arms_strings}
 use Rattle.lil_resolved.specs.Forms.{if_is}
-use Rattle.lil_labels.specs.Drafts.{Draft, Emits}
-use Rattle.lil_labels.specs.Emitting.{with_ok}
+use Rattle.lil_labels.specs.Drafts.{Draft, Adds, Emits}
+use Rattle.lil_labels.specs.Emitting.{with_ok, adds_as}
 use Rattle.lil_expr.specs.Numbers.{number_word}
 use Rattle.lil_stmt.specs.Generating.{Body, Each, paired, ArmPart, ArmBody, ElsePart, ChoiceOf, Aligning, Turning, nothing_before, guards_before}
-use Rattle.lil_stmt.proofs.Stating.{next_emitted, while_emitted, repeat_emitted, loop_emitted, guard_emitted, if_emitted, for_emitted, with_emitted}
+use Rattle.lil_stmt.proofs.Stating.{next_emitted, all_emitted, all_guards_emitted, while_emitted, repeat_emitted, loop_emitted, guard_emitted, if_emitted, for_emitted, with_emitted}
 use Rattle.lil_stmt.proofs.Arms.{next_arm_emitted, case_emitted}
+use Rattle.lil_stmt.proofs.Strings.{arm_part, parts_next, parts_all, arms_parts}
 use Rattle.lil_stmt.proofs.statements.+emitting.Goals as goal
 use Rattle.lil_stmt.proofs.statements.+emitting.Goals.{emit_case-in-None+in_ok-other-in-None, emit_case-in-Some+in_ok-other-in-Some}
 
@@ -23,9 +27,15 @@ pub emit_body-loop-statement-preserved : goal.emit_body-loop-statement-preserved
 emit_body-loop-statement-preserved t c =
     next_emitted c.args.around.words c.args.around.exit c.args.body.now c.loop-statement.statement-index c.statement-item.result _ _ _ _ c.loop-statement-test.true c.statement-item.is c.loop-statement.invariant c.in_ok-emit_statement.ensures
 
+pub emit_body-returns : goal.emit_body-returns
+emit_body-returns t c = all_emitted c.args.around.words c.args.around.exit c.args.body.now c.loop-statement.statement-index _ _ _ c.loop-statement-test.false c.loop-statement.invariant
+
+pub emit_guards-returns : goal.emit_guards-returns
+emit_guards-returns t c = all_guards_emitted c.args.around.words c.args.around.exit c.args.end c.args.guards.now c.loop-guard.guard-index _ _ _ c.loop-guard-test.false c.loop-guard.invariant
+
 pub emit_guard-returns : goal.emit_guard-returns
 emit_guard-returns t c =
-    let body = subst (λ (ss : List RStmt). Emits c.jump.new.self c.emit_body.new.code (Body c.args.around.words c.args.around.exit (statements_of ss))) c.as_slice.ensures c.in_ok-emit_body.ensures in
+    let body = subst (λ (ss : List RStmt). Adds (body_strings (statements_of ss)) c.jump.new.self c.emit_body.new.code (Body c.args.around.words c.args.around.exit (statements_of ss))) c.as_slice.ensures c.in_ok-emit_body.ensures in
     with_ok c.here.result
     (guard_emitted c.args.around.words c.args.around.exit c.args.guard.now c.args.end c.in_ok-other.other _ _ _ _ _ _ _
     c.in_ok-emit_expression.ensures c.in_ok-other.ensures.emits c.in_ok-other.ensures.makes c.in_ok-jump.ensures body c.in_ok-jump-2.ensures)
@@ -83,21 +93,29 @@ pub emit_arms-loop-arm-preserved : goal.emit_arms-loop-arm-preserved
 emit_arms-loop-arm-preserved t c =
     let n = c.args.around.words in
     let exit = c.args.around.exit in
-    let mine = subst (λ (ss : List RStmt). Emits c.loop-arm.code c.emit_arm.new.code (ArmPart n exit c.args.leave c.in_ok-label.label (statements_of ss))) c.as_slice.ensures c.in_ok-label.ensures in
+    let mine = subst (λ (ss : List RStmt). Adds (body_strings (statements_of ss)) c.loop-arm.code c.emit_arm.new.code (ArmPart n exit c.args.leave c.in_ok-label.label (statements_of ss))) c.as_slice.ensures c.in_ok-label.ensures in
     record {
       many = omega (arith, ap length c.in_ok-push.ensures.items, length-append c.loop-arm.labels.items (c.in_ok-label.label ∷ []), c.loop-arm.invariant.many);
-      emits = next_arm_emitted (ArmBody n exit c.args.leave) c.args.arms.now c.loop-arm.labels.items _ c.loop-arm.arm-index c.arm-item.result c.in_ok-label.label _ _ _ c.loop-arm-test.true c.arm-item.is
-          c.loop-arm.invariant.many c.in_ok-push.ensures.items c.loop-arm.invariant.emits mine;
+      emits = adds_as _ _ _ (parts_next arm_part c.args.arms.now c.loop-arm.arm-index c.arm-item.result c.loop-arm-test.true c.arm-item.is) (next_arm_emitted (ArmBody n exit c.args.leave) c.args.arms.now c.loop-arm.labels.items _ c.loop-arm.arm-index c.arm-item.result c.in_ok-label.label _ _ _ c.loop-arm-test.true c.arm-item.is
+          c.loop-arm.invariant.many c.in_ok-push.ensures.items c.loop-arm.invariant.emits mine);
     }
+
+pub emit_arms-returns-clause-emits : goal.emit_arms-returns-clause-emits
+emit_arms-returns-clause-emits t c =
+    let arms = c.args.arms.now in
+    let i = c.loop-arm.arm-index in
+    let labels = c.loop-arm.labels.items in
+    let each = subst (λ (some : List RArm). Adds (flat_map arm_part (take i arms)) c.args.code.now c.loop-arm.code (Each (ArmBody c.args.around.words c.args.around.exit c.args.leave) (paired some labels))) (take_all i arms c.loop-arm-test.false) c.loop-arm.invariant.emits in
+    adds_as _ _ _ (parts_all arm_part arms i c.loop-arm-test.false ∙ arms_parts arms) each
 
 pub emit_statement-returns-in_ok-emit_body-in-If : goal.emit_statement-returns-in_ok-emit_body-in-If
 emit_statement-returns-in_ok-emit_body-in-If t c =
     let n = c.args.around.words in
     let exit = c.args.around.exit in
     let end = c.in_ok-end-in-If in
-    let guards = subst (λ (gs : List RGuard). Emits c.fresh.new.self c.emit_guards.new.code (Turning n exit end.end nothing_before (guards_before gs))) c.as_slice.ensures c.in_ok-emit_guards-in-If.ensures in
-    let otherwise = subst (λ (ss : List RStmt). Emits c.emit_guards.new.code c.emit_body.new.code (Body n exit (statements_of ss))) c.as_slice-in-If.ensures c.in_ok-emit_body-in-If.ensures in
-    subst (λ (ss : Statements). OnOk c.here.result (Emits c.args.code.now c.here.new.self (Body n exit ss))) (sym (ap statement_of c.in-If.is ∙ if_is c.in-If.guards c.in-If.otherwise))
+    let guards = subst (λ (gs : List RGuard). Adds (body_strings (guards_of gs [])) c.fresh.new.self c.emit_guards.new.code (Turning n exit end.end nothing_before (guards_before gs))) c.as_slice.ensures c.in_ok-emit_guards-in-If.ensures in
+    let otherwise = subst (λ (ss : List RStmt). Adds (body_strings (statements_of ss)) c.emit_guards.new.code c.emit_body.new.code (Body n exit (statements_of ss))) c.as_slice-in-If.ensures c.in_ok-emit_body-in-If.ensures in
+    subst (λ (ss : Statements). OnOk c.here.result (Adds (body_strings ss) c.args.code.now c.here.new.self (Body n exit ss))) (sym (ap statement_of c.in-If.is ∙ if_is c.in-If.guards c.in-If.otherwise))
     (with_ok c.here.result (if_emitted n exit c.in-If.guards c.in-If.otherwise end.end _ _ _ _ _ end.ensures.emits end.ensures.makes guards otherwise) c.here.ensures)
 
 pub emit_case-returns : goal.emit_case-returns
@@ -109,19 +127,19 @@ emit_case-returns t c =
     let leave = c.in_ok-leave.leave in
     let other = c.match-otherwise.other in
     let long = c.in_ok-labels.ensures.many ∙ ap (λ (arms : List RArm). length arms) c.as_slice.ensures in
-    let bodies = subst (λ (arms : List RArm). Emits c.jump-2.new.self c.emit_arms.new.code (Each (ArmBody n exit leave) (paired arms ls))) c.as_slice.ensures c.in_ok-labels.ensures.emits in
-    let els : Emits c.emit_arms.new.code c.match-otherwise.code (ElsePart n exit leave other c.in-Case.otherwise) = elim c.match-otherwise.branch [
-      | emit_case-in-None+in_ok-other-in-None w ↦ subst (λ (d : Draft). Emits c.emit_arms.new.code d (ElsePart n exit leave other c.in-Case.otherwise)) (sym w.code-is)
-          (subst (λ (l : ℕ). Emits c.emit_arms.new.code w.emit_no_arm.new.code (ElsePart n exit leave l c.in-Case.otherwise)) (sym w.other-is)
-          (subst (λ (o : Option (List RStmt)). Emits c.emit_arms.new.code w.emit_no_arm.new.code (ElsePart n exit leave w.in_ok-other-in-None.other o)) (sym w.in-None.is) w.in_ok-other-in-None.ensures))
-      | emit_case-in-Some+in_ok-other-in-Some w ↦ subst (λ (d : Draft). Emits c.emit_arms.new.code d (ElsePart n exit leave other c.in-Case.otherwise)) (sym w.code-is)
-          (subst (λ (l : ℕ). Emits c.emit_arms.new.code w.emit_arm.new.code (ElsePart n exit leave l c.in-Case.otherwise)) (sym w.other-is)
-          (subst (λ (o : Option (List RStmt)). Emits c.emit_arms.new.code w.emit_arm.new.code (ElsePart n exit leave w.in_ok-other-in-Some.other o)) (sym w.in-Some.is)
-          (subst (λ (ss : List RStmt). Emits c.emit_arms.new.code w.emit_arm.new.code (ArmPart n exit leave w.in_ok-other-in-Some.other (statements_of ss))) w.as_slice-in-Some.ensures w.in_ok-other-in-Some.ensures)))
+    let bodies = subst (λ (arms : List RArm). Adds (arms_strings (arms_of arms None)) c.jump-2.new.self c.emit_arms.new.code (Each (ArmBody n exit leave) (paired arms ls))) c.as_slice.ensures c.in_ok-labels.ensures.emits in
+    let els : Adds (arms_strings (else_of c.in-Case.otherwise)) c.emit_arms.new.code c.match-otherwise.code (ElsePart n exit leave other c.in-Case.otherwise) = elim c.match-otherwise.branch [
+      | emit_case-in-None+in_ok-other-in-None w ↦ subst (λ (d : Draft). Adds (arms_strings (else_of c.in-Case.otherwise)) c.emit_arms.new.code d (ElsePart n exit leave other c.in-Case.otherwise)) (sym w.code-is)
+          (subst (λ (l : ℕ). Adds (arms_strings (else_of c.in-Case.otherwise)) c.emit_arms.new.code w.emit_no_arm.new.code (ElsePart n exit leave l c.in-Case.otherwise)) (sym w.other-is)
+          (subst (λ (o : Option (List RStmt)). Adds (arms_strings (else_of o)) c.emit_arms.new.code w.emit_no_arm.new.code (ElsePart n exit leave w.in_ok-other-in-None.other o)) (sym w.in-None.is) w.in_ok-other-in-None.ensures))
+      | emit_case-in-Some+in_ok-other-in-Some w ↦ subst (λ (d : Draft). Adds (arms_strings (else_of c.in-Case.otherwise)) c.emit_arms.new.code d (ElsePart n exit leave other c.in-Case.otherwise)) (sym w.code-is)
+          (subst (λ (l : ℕ). Adds (arms_strings (else_of c.in-Case.otherwise)) c.emit_arms.new.code w.emit_arm.new.code (ElsePart n exit leave l c.in-Case.otherwise)) (sym w.other-is)
+          (subst (λ (o : Option (List RStmt)). Adds (arms_strings (else_of o)) c.emit_arms.new.code w.emit_arm.new.code (ElsePart n exit leave w.in_ok-other-in-Some.other o)) (sym w.in-Some.is)
+          (subst (λ (ss : List RStmt). Adds (body_strings (statements_of ss)) c.emit_arms.new.code w.emit_arm.new.code (ArmPart n exit leave w.in_ok-other-in-Some.other (statements_of ss))) w.as_slice-in-Some.ensures w.in_ok-other-in-Some.ensures)))
     ] in
     let choice = subst (λ (ls : List ℕ). Emits c.here.new.self c.emit_choice.new.code (ChoiceOf arms ls other)) c.as_slice-3.ensures.value
     (subst (λ (arms : List RArm). Emits c.here.new.self c.emit_choice.new.code (ChoiceOf arms c.as_slice-3.result.now other)) c.as_slice-2.ensures c.in_ok-emit_choice.ensures) in
-    subst (λ (s : RStmt). OnOk c.here-2.result (Emits c.args.code.now c.here-2.new.self (Body n exit (statement_of s)))) (sym c.in-Case.is)
+    subst (λ (s : RStmt). OnOk c.here-2.result (Adds (body_strings (statement_of s)) c.args.code.now c.here-2.new.self (Body n exit (statement_of s)))) (sym c.in-Case.is)
     (with_ok c.here-2.result
     (case_emitted n exit c.in-Case.value arms c.in-Case.otherwise ls c.in_ok-table.table c.in_ok-end.end leave other _ _ _ _ _ _ _ _ _ _ _ _
     c.in_ok-table.ensures.emits c.in_ok-table.ensures.makes c.in_ok-end.ensures.emits c.in_ok-end.ensures.makes c.in_ok-emit_expression.ensures

@@ -3,8 +3,9 @@ use Rattle.lil_resolved.specs.declared.resolved.RArgument.{RArgument}
 use Rattle.lil_resolved.specs.Resolved as resolved
 use Rattle.lil_resolved.specs.Resolved.{Halt, Return}
 use Rattle.lil_resolved.specs.Views.{request_number, argument_of, statement_of}
+use Rattle.lil_resolved.specs.Strings.{arguments_strings}
 use Rattle.lil_resolved.specs.Forms.{assign_is, copy_is, text_is, change_is, member_changed_is, new_is, allocate_is, request_is, halt_is, return_is}
-use Rattle.lil_labels.specs.Drafts.{Emits}
+use Rattle.lil_labels.specs.Drafts.{Adds}
 use Rattle.lil_labels.specs.Emitting.{emits_as, with_ok}
 use Rattle.lil_stmt.specs.Generating.{Stated}
 use Rattle.lil_stmt.proofs.Stating.{one_emitted}
@@ -65,7 +66,7 @@ returns-in-Request c =
     let exit = c.args.around.exit in
     let form = λ (given : List RArgument). resolved.Request (request_number c.in-Request.request) (map argument_of given) in
     let is = ap statement_of c.in-Request.is ∙ request_is c.in-Request.request c.in-Request.given in
-    let by = subst (λ (given : List RArgument). OnOk c.emit_request.result ((n : ℕ) (exit : Option ℕ) → Emits c.args.code.now c.emit_request.new.code (Stated n exit (form given)))) c.as_slice.ensures c.emit_request.ensures in
+    let by = subst (λ (given : List RArgument). OnOk c.emit_request.result ((n : ℕ) (exit : Option ℕ) → Adds (arguments_strings (map argument_of given)) c.args.code.now c.emit_request.new.code (Stated n exit (form given)))) c.as_slice.ensures c.emit_request.ensures in
     with_ok c.emit_request.result (λ h. one_emitted n exit (form c.in-Request.given) _ _ _ is (h n exit)) by
 
 pub returns-in-Halt : goal.returns-in-Halt

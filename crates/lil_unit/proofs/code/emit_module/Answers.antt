@@ -1,11 +1,12 @@
-use Rattle.std.proofs.Common.{◌≡◌, ℕ, List, None, ap, ◌∙◌, subst}
+use Rattle.std.proofs.Common.{◌≡◌, ℕ, List, None, refl, ap, ◌∙◌, subst}
 use Rattle.lil_resolved.specs.declared.resolved.RDeclared.{RDeclared}
 use Rattle.lil_resolved.specs.declared.resolved.RStmt.{RStmt}
 use Rattle.lil_resolved.specs.declared.shapes.RShape.{RShape}
 use Rattle.lil_resolved.specs.Depth.{frame_words}
 use Rattle.lil_resolved.specs.Views.{statements_of, module_of}
+use Rattle.lil_resolved.specs.Strings.{body_strings}
 use Rattle.lil_asm.specs.declared.instr.Instr.TheVariants.{Ent}
-use Rattle.lil_labels.specs.Drafts.{Draft, empty, Emits, Doing}
+use Rattle.lil_labels.specs.Drafts.{Draft, empty, Adds, Emits, Doing}
 use Rattle.lil_stmt.specs.Generating.{Body}
 use Rattle.lil_unit.proofs.Modules.{framed}
 use Rattle.lil_unit.proofs.code.emit_module.Goals as goal
@@ -21,5 +22,5 @@ returns-clause-emits c =
     ∙ ap (λ (us : List ℕ). empty m.shapes us c.as_slice-3.result.now m.words) c.as_slice-2.ensures
     ∙ ap (λ (vs : List RDeclared). empty m.shapes m.targets vs m.words) c.as_slice-3.ensures in
     let enter = subst (λ (d : Draft). Emits d c.put.new.self (Doing (λ w. Ent words))) new c.in_ok-put.ensures in
-    let body = subst (λ (ss : List RStmt). Emits c.put.new.self c.emit_body.new.code (Body 0 None (statements_of ss))) c.as_slice-body.ensures c.in_ok-emit_body.ensures in
-    framed m.shapes m.targets m.variables m.words (module_of m) words _ _ _ is enter body c.in_ok-put-2.ensures
+    let body = subst (λ (ss : List RStmt). Adds (body_strings (statements_of ss)) c.put.new.self c.emit_body.new.code (Body 0 None (statements_of ss))) c.as_slice-body.ensures c.in_ok-emit_body.ensures in
+    framed m.shapes m.targets m.variables m.words (module_of m) words _ _ _ is refl enter body c.in_ok-put-2.ensures
