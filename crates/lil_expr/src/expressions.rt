@@ -168,7 +168,8 @@ fn emit_operation(code: &mut CodeBuffer<'_>, operation: &ROperation) -> Result<(
             let end = code.fresh()?;
             code.jump(aim, end)?;
             emit_expression(code, &operation.operand)?;
-            code.here(end)
+            code.here(end);
+            Ok(())
         }
         // the operand has the kind of the value before it, or is the set of IN
         None => {

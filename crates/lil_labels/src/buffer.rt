@@ -29,8 +29,8 @@ pub struct HeldRecord {
 /// Two bytes of the code, from a place on, that are to hold the place of a label.
 #[derive(Clone, Copy)]
 pub struct Jump {
-    label: u32,
-    at: u32,
+    label: usize,
+    at: usize,
 }
 
 /// The instructions that lead to a label, without it; but CAS, which has entries behind it.
@@ -190,7 +190,7 @@ pub struct CodeBuffer<'m> {
     strings: Vec<u16>,
     held: VecDeque<HeldRecord>,
     bytes: Bytes,
-    places: Vec<Option<u32>>,
+    places: Vec<Option<usize>>,
     jumps: Vec<Jump>,
 }
 
@@ -360,7 +360,7 @@ impl<'m> CodeBuffer<'m> {
     }
 
     /// One instruction more, which leads to a label.
-    pub fn jump(&mut self, aim: Aim, label: u32) -> Result<(), Memory>
+    pub fn jump(&mut self, aim: Aim, label: usize) -> Result<(), Memory>
         ensures { OnOk result (Emits self.old self.new (Doing (λ word. aimed aim (word label)))) }
     {
         encode(&mut self.bytes, unaimed(aim))?;
@@ -368,7 +368,7 @@ impl<'m> CodeBuffer<'m> {
     }
 
     /// A CAS more, which leads to a label where none of so many entries does. They are to follow.
-    pub fn choose(&mut self, count: u16, label: u32) -> Result<(), Memory>
+    pub fn choose(&mut self, count: u16, label: usize) -> Result<(), Memory>
         ensures { OnOk result (Emits self.old self.new (Choosing count label)) }
     {
         encode(&mut self.bytes, Instr::Cas(count, 0))?;
@@ -376,7 +376,7 @@ impl<'m> CodeBuffer<'m> {
     }
 
     /// An entry of CAS more, which leads to a label.
-    pub fn entry(&mut self, low: u16, high: u16, label: u32) -> Result<(), Memory>
+    pub fn entry(&mut self, low: u16, high: u16, label: usize) -> Result<(), Memory>
         ensures { OnOk result (Emits self.old self.new (Entering low high label)) }
     {
         encode_entry(&mut self.bytes, low, high, 0)?;
@@ -384,53 +384,40 @@ impl<'m> CodeBuffer<'m> {
     }
 
     /// A new label. It has no place yet.
-    pub fn fresh(&mut self) -> Result<u32, Memory>
+    pub fn fresh(&mut self) -> Result<usize, Memory>
         ensures emits { IfOk result (λ label. Emits self.old self.new Nothing) }
         ensures makes { IfOk result (λ label. Makes self.old self.new label) }
     {
         let label = self.places.len();
-        if label > 4_294_967_295 {
-            return Err(Memory);
-        }
         self.places.push(None)?;
-        Ok(label as u32)
+        Ok(label)
     }
 
     /// A new label, with its place at the end of the code so far.
-    pub fn mark(&mut self) -> Result<u32, Memory>
+    pub fn mark(&mut self) -> Result<usize, Memory>
         ensures { IfOk result (λ label. Emits self.old self.new (Marking label)) }
     {
         let label = self.fresh()?;
-        self.here(label)?;
+        self.here(label);
         Ok(label)
     }
 
     /// Gives a label its place at the end of the code so far.
-    pub fn here(&mut self, label: u32) -> Result<(), Memory>
+    pub fn here(&mut self, label: usize)
         requires { IsOpen self.old label }
-        ensures { OnOk result (Places self.old self.new label) }
+        ensures { Places self.old self.new label }
     {
         let place = self.bytes.len();
-        if place > 4_294_967_295 {
-            return Err(Memory);
-        }
-        self.places[label as usize] = Some(place as u32);
-        Ok(())
+        self.places[label] = Some(place);
     }
 
     /// The last two bytes are to hold the place of a label.
-    fn note(&mut self, label: u32) -> Result<(), Memory>
+    fn note(&mut self, label: usize) -> Result<(), Memory>
         requires { 2 ≤ length self.old.bytes }
         ensures { OnOk result (Notes self.old self.new label) }
     {
         let at = self.bytes.len() - 2;
-        if at > 4_294_967_295 {
-            return Err(Memory);
-        }
-        self.jumps.push(Jump {
-            label,
-            at: at as u32,
-        })?;
+        self.jumps.push(Jump { label, at })?;
         Ok(())
     }
 
@@ -441,7 +428,7 @@ impl<'m> CodeBuffer<'m> {
         let mut code = Vec::from_slice(alloc, self.bytes.as_slice())?;
         for jump in &self.jumps {
             let word = self.word(jump.label);
-            let at = jump.at as usize;
+            let at = jump.at;
             code[at] = (word / 256) as u8;
             code[at + 1] = (word % 256) as u8;
         }
@@ -449,10 +436,10 @@ impl<'m> CodeBuffer<'m> {
     }
 
     /// What a jump to a label has: its place, or 0 where it has none.
-    fn word(&self, label: u32) -> u16
+    fn word(&self, label: usize) -> u16
         ensures { result ≡ settled_word self.now.places label }
     {
-        match self.places.get(label as usize) {
+        match self.places.get(label) {
             Some(Some(place)) => (*place % 65_536) as u16,
             _ => 0,
         }

@@ -14,8 +14,8 @@ use lil_resolved::{RArm, RLabel};
 pub(crate) fn emit_choice(
     code: &mut CodeBuffer<'_>,
     arms: &[RArm],
-    labels: &[u32],
-    other: u32,
+    labels: &[usize],
+    other: usize,
 ) -> Result<(), Memory>
     requires { length labels.now ≡ length arms.now }
     ensures { OnOk result (Emits code.old code.new (ChoiceOf arms.now labels.now other)) }
@@ -44,7 +44,7 @@ fn entry_count(arms: &[RArm]) -> Result<u16, Memory>
 }
 
 /// Appends the entries of arms, which stand at labels of the code.
-fn emit_table(code: &mut CodeBuffer<'_>, arms: &[RArm], labels: &[u32]) -> Result<(), Memory>
+fn emit_table(code: &mut CodeBuffer<'_>, arms: &[RArm], labels: &[usize]) -> Result<(), Memory>
     requires { length labels.now ≡ length arms.now }
     ensures { OnOk result (Emits code.old code.new (Each ArmLabels (paired arms.now labels.now))) }
 {
@@ -55,7 +55,7 @@ fn emit_table(code: &mut CodeBuffer<'_>, arms: &[RArm], labels: &[u32]) -> Resul
 }
 
 /// Appends an entry for each label, which leads to the arm.
-fn emit_labels(code: &mut CodeBuffer<'_>, labels: &[RLabel], arm: u32) -> Result<(), Memory>
+fn emit_labels(code: &mut CodeBuffer<'_>, labels: &[RLabel], arm: usize) -> Result<(), Memory>
     ensures { OnOk result (Emits code.old code.new (Each (LabelEntry arm) labels.now)) }
 {
     for label in labels {

@@ -44,7 +44,7 @@ pub(crate) fn emit_align(
     kind: RKind,
     from: &RExpr,
     step: i16,
-    end: u32,
+    end: usize,
 ) -> Result<(), Memory>
     ensures { OnOk result (Emits code.old code.new (Aligning (kinds.covers (base_of (kind_view kind)) (kind_of (expression_of from.now))) (kinds.outside_turns (kinds.compared_as (base_of (kind_view kind))) step) end)) }
 {
@@ -59,7 +59,7 @@ pub(crate) fn emit_align(
 
 /// Appends the test that a start is a number of both types of whole numbers, where another start drops both bounds and
 /// leads to a label.
-fn emit_leave(code: &mut CodeBuffer<'_>, end: u32) -> Result<(), Memory>
+fn emit_leave(code: &mut CodeBuffer<'_>, end: usize) -> Result<(), Memory>
     ensures { OnOk result (Emits code.old code.new (Leaving end)) }
 {
     code.put_all(&[Instr::Swp, Instr::Dup, Instr::Liw(0), Instr::Lsi])?;
@@ -67,6 +67,6 @@ fn emit_leave(code: &mut CodeBuffer<'_>, end: u32) -> Result<(), Memory>
     code.jump(Aim::IfFalse, other)?;
     code.put_all(&[Instr::Drp, Instr::Drp])?;
     code.jump(Aim::Always, end)?;
-    code.here(other)?;
+    code.here(other);
     code.put(Instr::Swp)
 }

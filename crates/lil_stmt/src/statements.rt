@@ -28,7 +28,7 @@ use lil_resolved::{RArm, RExpr, RGuard, RPlace, RStmt, RVariable};
 #[derive(Clone, Copy)]
 pub struct Around {
     pub words: u32,
-    pub exit: Option<u32>,
+    pub exit: Option<usize>,
 }
 
 /// Appends the code of statements, one behind another.
@@ -56,7 +56,8 @@ fn emit_statement(
             let end = code.fresh()?;
             emit_guards(code, guards.as_slice(), end, around)?;
             emit_body(code, otherwise.as_slice(), around)?;
-            code.here(end)
+            code.here(end);
+            Ok(())
         }
         RStmt::Case(_, _, _) => emit_case(code, statement, around),
         RStmt::While(condition, body) => emit_while(code, body.as_slice(), condition, around),
@@ -111,9 +112,10 @@ fn emit_case(code: &mut CodeBuffer<'_>, statement: &RStmt, around: Around) -> Re
         None => emit_no_arm(code)?,
         Some(body) => emit_arm(code, body.as_slice(), leave, around)?,
     };
-    code.here(table)?;
+    code.here(table);
     emit_choice(code, arms.as_slice(), labels.as_slice(), other)?;
-    code.here(end)
+    code.here(end);
+    Ok(())
 }
 
 /// Appends the code of the guards of an IF that ends at a label.
@@ -121,7 +123,7 @@ fn emit_case(code: &mut CodeBuffer<'_>, statement: &RStmt, around: Around) -> Re
 fn emit_guards(
     code: &mut CodeBuffer<'_>,
     guards: &[RGuard],
-    end: u32,
+    end: usize,
     around: Around,
 ) -> Result<(), Memory>
     ensures { OnOk result (Adds (body_strings (guards_of guards.now [])) code.old code.new (Turning around.words around.exit end nothing_before (guards_before guards.now))) }
@@ -138,7 +140,7 @@ fn emit_guards(
 fn emit_guard(
     code: &mut CodeBuffer<'_>,
     guard: &RGuard,
-    end: u32,
+    end: usize,
     around: Around,
 ) -> Result<(), Memory>
     ensures { OnOk result (Adds (body_strings (statements_of guard.now.body)) code.old code.new (Turning around.words around.exit end nothing_before (guard_of guard.now))) }
@@ -148,7 +150,8 @@ fn emit_guard(
     code.jump(Aim::IfFalse, other)?;
     emit_body(code, guard.body.as_slice(), around)?;
     code.jump(Aim::Always, end)?;
-    code.here(other)
+    code.here(other);
+    Ok(())
 }
 
 /// Appends the bodies of arms, each with a jump to the exit, and gives the labels of their places.
@@ -156,9 +159,9 @@ fn emit_guard(
 fn emit_arms(
     code: &mut CodeBuffer<'_>,
     arms: &[RArm],
-    leave: u32,
+    leave: usize,
     around: Around,
-) -> Result<Vec<u32>, Memory>
+) -> Result<Vec<usize>, Memory>
     ensures many { IfOk result (λ labels. length labels.items ≡ length arms.now) }
     ensures emits { IfOk result (λ labels. Adds (arms_strings (arms_of arms.now None)) code.old code.new (Each (ArmBody around.words around.exit leave) (paired arms.now labels.items))) }
 {
@@ -175,9 +178,9 @@ fn emit_arms(
 fn emit_arm(
     code: &mut CodeBuffer<'_>,
     body: &[RStmt],
-    leave: u32,
+    leave: usize,
     around: Around,
-) -> Result<u32, Memory>
+) -> Result<usize, Memory>
     ensures { IfOk result (λ label. Adds (body_strings (statements_of body.now)) code.old code.new (ArmPart around.words around.exit leave label (statements_of body.now))) }
 {
     let label = code.mark()?;
@@ -188,7 +191,7 @@ fn emit_arm(
 
 /// Appends the trap of a CASE without ELSE. It gives the label of its place.
 #[tactic(auto, using(crate::proofs::Arms::trap_marked))]
-fn emit_no_arm(code: &mut CodeBuffer<'_>) -> Result<u32, Memory>
+fn emit_no_arm(code: &mut CodeBuffer<'_>) -> Result<usize, Memory>
     ensures { IfOk result (λ label. Emits code.old code.new (Trapping label)) }
 {
     let label = code.mark()?;
@@ -212,7 +215,8 @@ fn emit_while(
     code.jump(Aim::IfFalse, end)?;
     emit_body(code, body, around)?;
     code.jump(Aim::Always, again)?;
-    code.here(end)
+    code.here(end);
+    Ok(())
 }
 
 /// Appends the code of a REPEAT: the statements, the condition, and a jump back where it is FALSE.
@@ -244,7 +248,8 @@ fn emit_loop(code: &mut CodeBuffer<'_>, body: &[RStmt], around: Around) -> Resul
     };
     emit_body(code, body, inside)?;
     code.jump(Aim::Always, again)?;
-    code.here(end)
+    code.here(end);
+    Ok(())
 }
 
 /// Appends the code of a FOR: the first value, the last, what brings the first to the type of the last, the step, and the
@@ -279,7 +284,8 @@ fn emit_for(
     };
     emit_body(code, body, inside)?;
     code.jump(Aim::Turn(place), turn)?;
-    code.here(end)
+    code.here(end);
+    Ok(())
 }
 
 /// Appends the code of a WITH: the address of its record, which goes to a word of the frame, and the statements.

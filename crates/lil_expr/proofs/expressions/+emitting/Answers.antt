@@ -81,7 +81,7 @@ emit_operation-returns-in_ok-emit_expression-in-Some t c =
     let o = out-ROperation c.args.operation.now in
     let end = c.in_ok-end-in-Some in
     let jumps : aim_of o.operator ≡ Some c.in-Some.aim = sym c.jump_over.ensures ∙ c.in-Some.is in
-    with_ok c.here.result (short_operation c.args.operation.now c.in-Some.aim end.end _ _ _ _ _ jumps end.ensures.emits end.ensures.makes c.in_ok-jump-in-Some.ensures c.in_ok-emit_expression-in-Some.ensures) c.here.ensures
+    short_operation c.args.operation.now c.in-Some.aim end.end _ _ _ _ _ jumps end.ensures.emits end.ensures.makes c.in_ok-jump-in-Some.ensures c.in_ok-emit_expression-in-Some.ensures c.here.ensures
 
 pub emit_operation-returns-in_ok-emit_expression-in-None : goal.emit_operation-returns-in_ok-emit_expression-in-None
 emit_operation-returns-in_ok-emit_expression-in-None t c =

@@ -1,4 +1,4 @@
-use Rattle.std.proofs.Common.{rules, ℕ, ◌≡◌, ◌+◌, ◌≤◌, suc, take, ℤ, pos, negsuc, ◌≤ℤ◌, w16, List, [], ◌∷◌, length, length-append, Option, None, sym, ap, ◌∙◌, subst, arith, OnOk}
+use Rattle.std.proofs.Common.{rules, ℕ, ◌≡◌, ◌+◌, ◌≤◌, suc, take, ℤ, pos, negsuc, ◌≤ℤ◌, w16, List, [], ◌∷◌, length, length-append, Option, None, sym, ap, ◌∙◌, subst, arith}
 use mir.Val.{SFits}
 use Rattle.std.specs.List.{flat_map}
 use Rattle.std.proofs.lemmas.List.{take_all}
@@ -36,16 +36,14 @@ emit_guards-returns t c = all_guards_emitted c.args.around.words c.args.around.e
 pub emit_guard-returns : goal.emit_guard-returns
 emit_guard-returns t c =
     let body = subst (λ (ss : List RStmt). Adds (body_strings (statements_of ss)) c.jump.new.self c.emit_body.new.code (Body c.args.around.words c.args.around.exit (statements_of ss))) c.as_slice.ensures c.in_ok-emit_body.ensures in
-    with_ok c.here.result
-    (guard_emitted c.args.around.words c.args.around.exit c.args.guard.now c.args.end c.in_ok-other.other _ _ _ _ _ _ _
-    c.in_ok-emit_expression.ensures c.in_ok-other.ensures.emits c.in_ok-other.ensures.makes c.in_ok-jump.ensures body c.in_ok-jump-2.ensures)
+    guard_emitted c.args.around.words c.args.around.exit c.args.guard.now c.args.end c.in_ok-other.other _ _ _ _ _ _ _
+    c.in_ok-emit_expression.ensures c.in_ok-other.ensures.emits c.in_ok-other.ensures.makes c.in_ok-jump.ensures body c.in_ok-jump-2.ensures
     c.here.ensures
 
 pub emit_while-returns : goal.emit_while-returns
 emit_while-returns t c =
-    with_ok c.here.result
-    (while_emitted c.args.around.words c.args.around.exit (expression_of c.args.condition.now) (statements_of c.args.body.now) c.in_ok-again.again c.in_ok-end.end _ _ _ _ _ _ _ _
-    c.in_ok-again.ensures c.in_ok-emit_expression.ensures c.in_ok-end.ensures.emits c.in_ok-end.ensures.makes c.in_ok-jump.ensures c.in_ok-emit_body.ensures c.in_ok-jump-2.ensures)
+    while_emitted c.args.around.words c.args.around.exit (expression_of c.args.condition.now) (statements_of c.args.body.now) c.in_ok-again.again c.in_ok-end.end _ _ _ _ _ _ _ _
+    c.in_ok-again.ensures c.in_ok-emit_expression.ensures c.in_ok-end.ensures.emits c.in_ok-end.ensures.makes c.in_ok-jump.ensures c.in_ok-emit_body.ensures c.in_ok-jump-2.ensures
     c.here.ensures
 
 pub emit_repeat-returns : goal.emit_repeat-returns
@@ -57,9 +55,8 @@ emit_repeat-returns t c =
 
 pub emit_loop-returns : goal.emit_loop-returns
 emit_loop-returns t c =
-    with_ok c.here.result
-    (loop_emitted c.args.around.words c.args.around.exit (statements_of c.args.body.now) c.in_ok-again.again c.in_ok-end.end _ _ _ _ _ _
-    c.in_ok-again.ensures c.in_ok-end.ensures.emits c.in_ok-end.ensures.makes c.in_ok-emit_body.ensures c.in_ok-jump.ensures)
+    loop_emitted c.args.around.words c.args.around.exit (statements_of c.args.body.now) c.in_ok-again.again c.in_ok-end.end _ _ _ _ _ _
+    c.in_ok-again.ensures c.in_ok-end.ensures.emits c.in_ok-end.ensures.makes c.in_ok-emit_body.ensures c.in_ok-jump.ensures
     c.here.ensures
 
 pub emit_for-returns : goal.emit_for-returns
@@ -75,11 +72,10 @@ emit_for-returns t c =
     let align = subst (λ (z : ℤ). Emits c.fresh.new.self c.emit_align.new.code (Aligning (covers (base_of k) j) (outside_turns (compared_as (base_of k)) z) c.in_ok-end.end)) same c.in_ok-emit_align.ensures in
     let inner : n ≤ 65535 → c.saturating_add.result ≡ 3 + n = λ low. omega (arith, low, c.saturating_add.ensures) in
     let lies = ap (λ (f : RField). f.offset) c.variable-lies.ensures in
-    with_ok c.here.result
-    (for_emitted n c.args.around.exit c.args.variable.number k (expression_of c.args.from.now) (expression_of c.args.to.now) c.args.step (statements_of c.args.body.now)
+    for_emitted n c.args.around.exit c.args.variable.number k (expression_of c.args.from.now) (expression_of c.args.to.now) c.args.step (statements_of c.args.body.now)
     c.word_of_number.result c.loop_place-place.result c.loop_sign.result c.variable-lies.result.offset c.saturating_add.result c.in_ok-end.end c.in_ok-turn.turn _ _ _ _ _ _ _ _ _ _ _ _ _ _ stepped c.loop_place-place.ensures c.loop_sign.ensures lies inner
     c.in_ok-emit_expression.ensures c.in_ok-emit_expression-2.ensures c.in_ok-end.ensures.emits c.in_ok-end.ensures.makes align c.in_ok-put.ensures c.in_ok-jump.ensures c.in_ok-turn.ensures
-    c.in_ok-put-2.ensures c.in_ok-emit_turn_test.ensures c.in_ok-put-3.ensures c.in_ok-emit_body.ensures c.in_ok-jump-2.ensures)
+    c.in_ok-put-2.ensures c.in_ok-emit_turn_test.ensures c.in_ok-put-3.ensures c.in_ok-emit_body.ensures c.in_ok-jump-2.ensures
     c.here.ensures
 
 pub emit_with-returns : goal.emit_with-returns
@@ -115,8 +111,8 @@ emit_statement-returns-in_ok-emit_body-in-If t c =
     let end = c.in_ok-end-in-If in
     let guards = subst (λ (gs : List RGuard). Adds (body_strings (guards_of gs [])) c.fresh.new.self c.emit_guards.new.code (Turning n exit end.end nothing_before (guards_before gs))) c.as_slice.ensures c.in_ok-emit_guards-in-If.ensures in
     let otherwise = subst (λ (ss : List RStmt). Adds (body_strings (statements_of ss)) c.emit_guards.new.code c.emit_body.new.code (Body n exit (statements_of ss))) c.as_slice-in-If.ensures c.in_ok-emit_body-in-If.ensures in
-    subst (λ (ss : Statements). OnOk c.here.result (Adds (body_strings ss) c.args.code.now c.here.new.self (Body n exit ss))) (sym (ap statement_of c.in-If.is ∙ if_is c.in-If.guards c.in-If.otherwise))
-    (with_ok c.here.result (if_emitted n exit c.in-If.guards c.in-If.otherwise end.end _ _ _ _ _ end.ensures.emits end.ensures.makes guards otherwise) c.here.ensures)
+    subst (λ (ss : Statements). Adds (body_strings ss) c.args.code.now c.here.new.self (Body n exit ss)) (sym (ap statement_of c.in-If.is ∙ if_is c.in-If.guards c.in-If.otherwise))
+    (if_emitted n exit c.in-If.guards c.in-If.otherwise end.end _ _ _ _ _ end.ensures.emits end.ensures.makes guards otherwise c.here.ensures)
 
 pub emit_case-returns : goal.emit_case-returns
 emit_case-returns t c =
@@ -139,9 +135,8 @@ emit_case-returns t c =
     ] in
     let choice = subst (λ (ls : List ℕ). Emits c.here.new.self c.emit_choice.new.code (ChoiceOf arms ls other)) c.as_slice-3.ensures.value
     (subst (λ (arms : List RArm). Emits c.here.new.self c.emit_choice.new.code (ChoiceOf arms c.as_slice-3.result.now other)) c.as_slice-2.ensures c.in_ok-emit_choice.ensures) in
-    subst (λ (s : RStmt). OnOk c.here-2.result (Adds (body_strings (statement_of s)) c.args.code.now c.here-2.new.self (Body n exit (statement_of s)))) (sym c.in-Case.is)
-    (with_ok c.here-2.result
+    subst (λ (s : RStmt). Adds (body_strings (statement_of s)) c.args.code.now c.here-2.new.self (Body n exit (statement_of s))) (sym c.in-Case.is)
     (case_emitted n exit c.in-Case.value arms c.in-Case.otherwise ls c.in_ok-table.table c.in_ok-end.end leave other _ _ _ _ _ _ _ _ _ _ _ _
     c.in_ok-table.ensures.emits c.in_ok-table.ensures.makes c.in_ok-end.ensures.emits c.in_ok-end.ensures.makes c.in_ok-emit_expression.ensures
-    c.in_ok-jump.ensures c.in_ok-leave.ensures c.in_ok-jump-2.ensures long bodies els c.in_ok-here.ensures choice)
+    c.in_ok-jump.ensures c.in_ok-leave.ensures c.in_ok-jump-2.ensures long bodies els c.here.ensures choice
     c.here-2.ensures)
