@@ -1,6 +1,14 @@
--- The requests of SVC.
-use Rattle.std.specs.Prelude.{ℕ, Option, None, Some, ◌==◌, ◌||◌, if◌then◌else◌}
+-- The words of requests.
+use Rattle.std.specs.Prelude.{ℕ}
+use Rattle.lil_base.specs.declared.request.Request.{Request}
+use Rattle.lil_base.specs.declared.request.Request.TheVariants.{Write, WriteString, WriteLn, WriteCard, WriteInt, WriteOct, WriteHex}
 
--- how many words of the expression stack a request takes, where there is such a request
-abbrev pub request_words : ℕ → Option ℕ
-request_words r = if r == 2 then Some 1 else (if r == 4 then Some 0 else (if r == 3 || r == 5 || r == 6 || r == 7 || r == 8 then Some 2 else None))
+-- how many words of the expression stack a request takes
+abbrev pub request_words : Request → ℕ
+request_words Write = 1
+request_words WriteString = 2
+request_words WriteLn = 0
+request_words WriteCard = 2
+request_words WriteInt = 2
+request_words WriteOct = 2
+request_words WriteHex = 2

@@ -2,6 +2,7 @@ pub mod Faults
 pub mod Fields
 pub mod Laws
 pub mod Names
+pub mod Requests
 pub mod SetLaws
 pub mod Sets
 pub mod Traps

@@ -9,6 +9,7 @@ mod items;
 mod memory;
 mod name;
 mod operator;
+mod request;
 mod sets;
 mod words;
 
@@ -23,6 +24,7 @@ pub use items::{Items, same_bytes};
 pub use memory::Memory;
 pub use name::{FileName, Name};
 pub use operator::{OneOp, TwoOp};
+pub use request::Request;
 pub use sets::{set_either, set_has, set_meet, set_minus, set_span, set_union, set_within};
 pub use words::{
     abs_int, add_card, add_int, div_card, div_int, mod_card, mod_int, mul_card, mul_int, neg_int,

@@ -1,11 +1,14 @@
--- The characters of an array from one on, and what WriteString is given by its two words.
-use Rattle.std.proofs.Common.{◌≡◌, ◌≢◌, ℕ, suc, ◌+◌, ◌-◌, ◌%◌, ◌==◌, ◌<◌, ◌≤◌, Bool, true, false, if◌then◌else◌, List, [], ◌∷◌, ◌++◌, length, map, take, reverse, slice_get, Some, refl, sym, ap, ◌∙◌, subst, arith, append_assoc}
+-- The characters of an array from one on, and what requests are given by their words.
+use Rattle.std.proofs.Common.{◌≡◌, ◌≢◌, ℕ, suc, ◌+◌, ◌-◌, ◌%◌, ◌==◌, ◌<◌, ◌≤◌, Bool, true, false, if◌then◌else◌, List, [], ◌∷◌, ◌++◌, length, map, take, reverse, slice_get, Some, refl, sym, ap, ◌∙◌, arith, append_assoc}
 use Rattle.std.proofs.lemmas.Bool.{leb-true, ne_eqb}
 use Rattle.std.proofs.lemmas.List.{append-nil}
 use Rattle.std.proofs.lemmas.Option.{get_or_from_slice_get}
+use Rattle.lil_base.specs.Requests.{takes_array}
+use Rattle.lil_base.specs.declared.request.Request.{Request}
+use Rattle.lil_base.specs.declared.request.Request.TheVariants.{Write, WriteString, WriteLn, WriteCard, WriteInt, WriteOct, WriteHex}
 use Rattle.lil_asm.specs.Requests.{request_words}
 use Rattle.lil_mcode.specs.Table.{array_lies}
-use Rattle.lil_meaning.specs.World.{Given, Single, Characters, byte_of, before_end, characters_at, array_at, given_by, piece_of, shown_by, first_word, second_word, first_text}
+use Rattle.lil_meaning.specs.World.{Single, byte_of, before_end, characters_at, given_by, piece_of, first_word, second_word}
 
 -- what so many words of a store show from one on
 abbrev pub shown_from : List ℕ → ℕ → ℕ → List ℕ
@@ -58,60 +61,65 @@ none_left store text whole at end past before =
     let none : end - at ≡ 0 = omega arith in
     sym (append-nil text) ∙ ap (λ (k : ℕ). text ++ shown_from store at k) (sym none) ∙ before
 
--- WriteString has two words: the array's address and the number of its last element
-two_words : (r n : ℕ) → r ≡ 3 → request_words r ≡ Some n → n ≡ 2
-two_words r n is has = let two : Some 2 ≡ Some n = ap request_words (sym is) ∙ has in cc
-
-abbrev IsGiven : List ℕ → ℕ → ℕ → ℕ → Type 0
+-- what stands on a stack for an array: its address, and above it the number of its last element
+abbrev pub IsGiven : List ℕ → ℕ → ℕ → ℕ → Type 0
 IsGiven stack count x y = (x ≡ first_word (map Single (reverse (take count stack)))) × (y ≡ second_word (map Single (reverse (take count stack))))
 
-lies_by : (stack : List ℕ) (address high : ℕ) → 2 ≤ length stack → array_lies 3 stack ≡ true → IsGiven stack 2 address high → address + high ≤ 65535
+lies_by : (stack : List ℕ) (address high : ℕ) → 2 ≤ length stack → array_lies WriteString stack ≡ true → IsGiven stack 2 address high → address + high ≤ 65535
 lies_by [] address high two lies given = absurd (omega arith)
 lies_by (y ∷ []) address high two lies given = absurd (omega arith)
 lies_by (y ∷ x ∷ stack) address high two lies given =
     let within : x + y ≤ 65535 = leb-true (x + y) 65535 lies in
     omega (arith, given.0, given.1)
 
-pub string_lies : (r n count address high : ℕ) (stack : List ℕ) → r ≡ 3 → request_words r ≡ Some n → n ≤ length stack → array_lies r stack ≡ true
-    → request_words r ≡ Some count → address ≡ first_word (map Single (reverse (take count stack)))
-    → high ≡ second_word (map Single (reverse (take count stack))) → address + high ≤ 65535
-string_lies r n count address high stack is has there lies own first second =
-    let Given_by : ℕ → Type 0 = λ k. IsGiven stack k address high in
-    lies_by stack address high (omega (arith, two_words r n is has)) (ap (λ (k : ℕ). array_lies k stack) (sym is) ∙ lies) (subst Given_by (two_words r count is own) (first, second))
+pub string_lies : (r : Request) (address high : ℕ) (stack : List ℕ) → takes_array r ≡ true → request_words r ≤ length stack → array_lies r stack ≡ true
+    → IsGiven stack (request_words r) address high → address + high ≤ 65535
+string_lies WriteString address high stack array there lies given = lies_by stack address high there lies given
+string_lies Write address high stack array there lies given = cc
+string_lies WriteLn address high stack array there lies given = cc
+string_lies WriteCard address high stack array there lies given = cc
+string_lies WriteInt address high stack array there lies given = cc
+string_lies WriteOct address high stack array there lies given = cc
+string_lies WriteHex address high stack array there lies given = cc
 
 shown_by_two : (stack store : List ℕ) (address high : ℕ) → 2 ≤ length stack → IsGiven stack 2 address high
-    → map byte_of (before_end (characters_at store address (suc high))) ≡ piece_of 3 (given_by 3 store (reverse (take 2 stack)))
+    → map byte_of (before_end (characters_at store address (suc high))) ≡ piece_of WriteString (given_by WriteString store (reverse (take 2 stack)))
 shown_by_two [] store address high two given = absurd (omega arith)
 shown_by_two (y ∷ []) store address high two given = absurd (omega arith)
 shown_by_two (y ∷ x ∷ stack) store address high two given =
     ap (λ (k : ℕ). map byte_of (before_end (characters_at store k (suc high)))) given.0
     ∙ ap (λ (k : ℕ). map byte_of (before_end (characters_at store x (suc k)))) given.1
 
-pub string_shown : (r n count address high : ℕ) (stack store store' : List ℕ) → r ≡ 3 → request_words r ≡ Some n → n ≤ length stack
-    → request_words r ≡ Some count → address ≡ first_word (map Single (reverse (take count stack)))
-    → high ≡ second_word (map Single (reverse (take count stack))) → store' ≡ store
-    → map byte_of (before_end (characters_at store' address (suc high))) ≡ piece_of r (given_by r store (reverse (take n stack)))
-string_shown r n count address high stack store store' is has there own first second same =
-    let Given_by : ℕ → Type 0 = λ k. IsGiven stack k address high in
-    let two = two_words r n is has in
-    ap (λ (s : List ℕ). map byte_of (before_end (characters_at s address (suc high)))) same
-    ∙ shown_by_two stack store address high (omega arith) (subst Given_by (two_words r count is own) (first, second))
-    ∙ ap (λ (k : ℕ). piece_of k (given_by k store (reverse (take 2 stack)))) (sym is)
-    ∙ ap (λ (k : ℕ). piece_of r (given_by r store (reverse (take k stack)))) (sym two)
+pub string_shown : (r : Request) (address high : ℕ) (stack store store' : List ℕ) → takes_array r ≡ true → request_words r ≤ length stack
+    → IsGiven stack (request_words r) address high → store' ≡ store
+    → map byte_of (before_end (characters_at store' address (suc high))) ≡ piece_of r (given_by r store (reverse (take (request_words r) stack)))
+string_shown r address high stack store store' array there given same =
+    ap (λ (s : List ℕ). map byte_of (before_end (characters_at s address (suc high)))) same ∙ by r array there given
+  where
+    by : (r : Request) → takes_array r ≡ true → request_words r ≤ length stack → IsGiven stack (request_words r) address high
+        → map byte_of (before_end (characters_at store address (suc high))) ≡ piece_of r (given_by r store (reverse (take (request_words r) stack)))
+    by WriteString array there given = shown_by_two stack store address high there given
+    by Write array there given = cc
+    by WriteLn array there given = cc
+    by WriteCard array there given = cc
+    by WriteInt array there given = cc
+    by WriteOct array there given = cc
+    by WriteHex array there given = cc
 
 -- each other request is given its words
-words_given : (r : ℕ) (store words : List ℕ) → r ≢ 3 → shown_by r (first_word (map Single words)) (second_word (map Single words)) ≡ piece_of r (given_by r store words)
-words_given r store words other =
-    sym (ap (λ (string : Bool).
-    let given : List Given = if string then Characters (array_at store words) ∷ [] else map Single words in
-    if string then map byte_of (before_end (first_text given)) else shown_by r (first_word given) (second_word given))
-    (ne_eqb r 3 other))
+words_given : (r : Request) (store words : List ℕ) → takes_array r ≡ false
+    → piece_of r (Single (first_word (map Single words)) ∷ Single (second_word (map Single words)) ∷ []) ≡ piece_of r (given_by r store words)
+words_given Write store words alone = refl
+words_given WriteString store words alone = cc
+words_given WriteLn store words alone = refl
+words_given WriteCard store words alone = refl
+words_given WriteInt store words alone = refl
+words_given WriteOct store words alone = refl
+words_given WriteHex store words alone = refl
 
-pub words_shown : (r count n x y : ℕ) (stack store : List ℕ) → r ≢ 3 → count ≡ n
-    → x ≡ first_word (map Single (reverse (take count stack))) → y ≡ second_word (map Single (reverse (take count stack)))
-    → shown_by r x y ≡ piece_of r (given_by r store (reverse (take n stack)))
-words_shown r count n x y stack store other same first second =
-    let given : ℕ → List Given = λ k. map Single (reverse (take k stack)) in
-    ap (λ (k : ℕ). shown_by r k y) first ∙ ap (shown_by r (first_word (given count))) second
-    ∙ ap (λ (k : ℕ). shown_by r (first_word (given k)) (second_word (given k))) same
-    ∙ words_given r store (reverse (take n stack)) other
+pub words_shown : (r : Request) (x y : ℕ) (stack store : List ℕ) → takes_array r ≡ false → IsGiven stack (request_words r) x y
+    → piece_of r (Single x ∷ Single y ∷ []) ≡ piece_of r (given_by r store (reverse (take (request_words r) stack)))
+words_shown r x y stack store alone given =
+    ap (λ (k : ℕ). piece_of r (Single k ∷ Single y ∷ [])) given.0
+    ∙ ap (λ (k : ℕ). piece_of r (Single (first_word (map Single (reverse (take (request_words r) stack)))) ∷ Single k ∷ [])) given.1
+    ∙ words_given r store (reverse (take (request_words r) stack)) alone

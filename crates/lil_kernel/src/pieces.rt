@@ -1,10 +1,12 @@
 //! What each request shows.
 
-ghost use Rattle.std.specs.Prelude.{◌≡◌, ◌≤◌, ◌%◌, [], ◌∷◌, length};
-ghost use Rattle.lil_meaning.specs.World.{byte_of, shown_by, filled as filled_text};
+ghost use Rattle.std.specs.Prelude.{◌≡◌, ◌≤◌, ◌%◌, [], ◌∷◌, length, false};
+ghost use Rattle.lil_base.specs.Requests.{takes_array};
+ghost use Rattle.lil_meaning.specs.World.{Single, byte_of, piece_of, filled as filled_text};
 
 use crate::numbers::{natural, signed};
 use arrayvec::ArrayVec;
+use lil_base::Request;
 
 /// The most columns that a number is filled to.
 const MOST_COLUMNS: usize = 80;
@@ -54,18 +56,19 @@ fn filled(columns: u16, text: &[u8]) -> Piece
     piece
 }
 
-/// The piece that a request for words alone shows, by its number and its first and its second word; a word
-/// that it doesn't take is not read. It is empty for each other number.
-pub fn piece(number: u8, first: u16, second: u16) -> Piece
-    ensures { result.items ≡ shown_by number first second }
+/// The piece that a request for words alone shows, by its first and its second word; a word that it doesn't take is
+/// not read.
+pub fn piece(request: Request, first: u16, second: u16) -> Piece
+    requires { takes_array request ≡ false }
+    ensures { result.items ≡ piece_of request (Single first ∷ Single second ∷ []) }
 {
-    match number {
-        2 => one_byte(shown_byte(first)),
-        4 => one_byte(LINE_END),
-        5 => filled(second, natural(10, first).as_slice()),
-        6 => filled(second, signed(first).as_slice()),
-        7 => filled(second, natural(8, first).as_slice()),
-        8 => filled(second, natural(16, first).as_slice()),
-        _ => Piece::new(),
+    match request {
+        Request::Write => one_byte(shown_byte(first)),
+        Request::WriteString => unreachable!(),
+        Request::WriteLn => one_byte(LINE_END),
+        Request::WriteCard => filled(second, natural(10, first).as_slice()),
+        Request::WriteInt => filled(second, signed(first).as_slice()),
+        Request::WriteOct => filled(second, natural(8, first).as_slice()),
+        Request::WriteHex => filled(second, natural(16, first).as_slice()),
     }
 }

@@ -1,6 +1,6 @@
 //! Serving a request of the machine.
 
-ghost use Rattle.std.specs.Prelude.{◌≡◌, ℕ, ◌≤◌, length, map, take, drop, reverse, true, Some, OnOk, OnErr};
+ghost use Rattle.std.specs.Prelude.{◌≡◌, ◌≤◌, length, map, take, drop, reverse, true, OnOk, OnErr};
 ghost use Rattle.lil_asm.specs.Requests.{request_words};
 ghost use Rattle.lil_mcode.specs.Table.{array_lies};
 ghost use Rattle.lil_meaning.specs.World.{Single, given_by, piece_of, first_word, second_word};
@@ -9,7 +9,8 @@ ghost use Rattle.lil_volume.specs.Told.{followed_by, FollowedByPrefix};
 
 use crate::pieces::piece;
 use crate::strings::put_string;
-use lil_mcode::{Machine, WRITE_STRING, words_of_request};
+use lil_base::Request;
+use lil_mcode::{Machine, words_of_request};
 use lil_volume::{Sink, SinkFailed};
 
 /// The first and the second of the words that a request finds on the expression stack, whose top
@@ -32,20 +33,22 @@ fn words(machine: &Machine, count: u8) -> (u16, u16)
 ///
 /// # Errors
 /// The screen did not take the whole piece. The words are taken all the same.
-pub fn serve<S: Sink>(number: u8, machine: &mut Machine, screen: &mut S) -> Result<(), SinkFailed>
-    requires { (n : ℕ) × (request_words number ≡ Some n) × (n ≤ length machine.old.state.stack) × (array_lies number machine.old.state.stack ≡ true) }
-    ensures machine { (n : ℕ) × (request_words number ≡ Some n) × (machine.new ≡ record machine.old { state = record machine.old.state { stack = drop n machine.old.state.stack } }) }
-    ensures ok { OnOk result ((n : ℕ) → request_words number ≡ Some n → S.written screen.new ≡ followed_by (S.written screen.old) (piece_of number (given_by number machine.old.state.store (reverse (take n machine.old.state.stack))))) }
-    ensures err { OnErr result ((n : ℕ) → request_words number ≡ Some n → FollowedByPrefix (S.written screen.old) (piece_of number (given_by number machine.old.state.store (reverse (take n machine.old.state.stack)))) (S.written screen.new)) }
+pub fn serve<S: Sink>(
+    request: Request,
+    machine: &mut Machine,
+    screen: &mut S,
+) -> Result<(), SinkFailed>
+    requires { (request_words request ≤ length machine.old.state.stack) × (array_lies request machine.old.state.stack ≡ true) }
+    ensures machine { machine.new ≡ record machine.old { state = record machine.old.state { stack = drop (request_words request) machine.old.state.stack } } }
+    ensures ok { OnOk result (S.written screen.new ≡ followed_by (S.written screen.old) (piece_of request (given_by request machine.old.state.store (reverse (take (request_words request) machine.old.state.stack))))) }
+    ensures err { OnErr result (FollowedByPrefix (S.written screen.old) (piece_of request (given_by request machine.old.state.store (reverse (take (request_words request) machine.old.state.stack)))) (S.written screen.new)) }
     ensures cause { HasCause (S.faults screen.old) (S.faults screen.new) result }
 {
-    let Some(count) = words_of_request(number) else {
-        unreachable!();
-    };
+    let count = words_of_request(request);
     let (first, second) = words(machine, count);
     machine.drop_arguments(count);
-    if number == WRITE_STRING {
+    if request.takes_array() {
         return put_string(machine, first, second, screen);
     }
-    screen.put(piece(number, first, second).as_slice())
+    screen.put(piece(request, first, second).as_slice())
 }

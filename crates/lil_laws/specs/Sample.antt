@@ -1,6 +1,7 @@
 -- A module with a procedure in another one, its code, and what follows: the laws of calls speak of something.
 use Rattle.std.proofs.Common.{◌≡◌, ℕ, zero, suc, ◌+◌, ◌<◌, ◌≤◌, Option, Some, None, List, [], ◌∷◌, refl, sym, ap, subst, arith}
 use Rattle.std.proofs.lemmas.Option.{none-some, same_Some}
+use Rattle.lil_base.specs.declared.request.Request.TheVariants.{WriteLn}
 use Rattle.lil_resolved.specs.Resolved.{Procedure, Resolved, procedure_by, Request, Call, Empty, Then}
 use Rattle.lil_meaning.specs.World.{World}
 use Rattle.lil_asm.specs.Bytes.{decoded, row_6, row_7}
@@ -11,7 +12,7 @@ use Rattle.lil_laws.specs.Start.{Body}
 
 -- PROCEDURE P; PROCEDURE Q; BEGIN WriteLn END Q; BEGIN Q END P; BEGIN P END
 abbrev inner : Procedure
-inner = record { name = 81 ∷ []; around = 1 ∷ []; body = Then (Request 4 []) Empty }
+inner = record { name = 81 ∷ []; around = 1 ∷ []; body = Then (Request WriteLn []) Empty }
 
 abbrev outer : Procedure
 outer = record { name = 80 ∷ []; around = []; body = Then (Call 2 1) Empty }

@@ -4,6 +4,7 @@ use Rattle.std.specs.Prelude.{ℤ, map, slice_get}
 use Rattle.lil_base.specs.Words.{Cardinal}
 use Rattle.lil_base.specs.declared.fault.TrapKind.{TrapKind}
 use Rattle.lil_base.specs.declared.fault.TrapAt.{TrapAt}
+use Rattle.lil_base.specs.declared.request.Request as request
 use Rattle.lil_resolved.specs.Kinds.{Kind, OfWhole, nat_of}
 use Rattle.lil_resolved.specs.Scalars.{Scalar, ToObject, within, value_with, ordinal_of}
 use Rattle.lil_resolved.specs.Resolved.{Designator, Held, Expression, Taken, Argument, ByValue, OfArray, OfText, Statement, Exit, Call, Statements, Procedure, procedure_by, Resolved, counted_as}
@@ -22,7 +23,7 @@ HasNone library = (loaded : List ℕ) (n : ℕ) → procedures_of (loaded_at lib
 abbrev pub Turns : Source → Source → Type 0
 Turns s t =
     (t.world ≡ s.world)
-    ⊎ (((r : ℕ) × (given : List Given) × (t.world ≡ (serve (level_of s) r given s.world).0))
+    ⊎ (((r : request.Request) × (given : List Given) × (t.world ≡ (serve (level_of s) r given s.world).0))
     ⊎ ((level : ℕ) × (closing level s.world ≡ Some t.world)))
 
 -- and where no level waits, none does then, nor does an activation begin without procedures
@@ -108,7 +109,7 @@ module _ (library : List Resolved) (s : Source) where
   did_serves Exit k = still refl refl refl
   did_serves _ k = still refl refl refl
 
-  passed_serves : (r : ℕ) (done : List Datum) (left : List Argument) (a : Argument) (k : List Item) → Serves library s (passed r done left a k s)
+  passed_serves : (r : request.Request) (done : List Datum) (left : List Argument) (a : Argument) (k : List Item) → Serves library s (passed r done left a k s)
   passed_serves r done left (ByValue kind e) k = still refl refl refl
   passed_serves r done left (OfArray d high) k = still refl refl refl
   passed_serves r done left (OfText cs) k = still refl refl refl

@@ -1,15 +1,18 @@
 -- The rows of requests and of their arguments.
-use Rattle.std.proofs.Common.{◌≡◌, ℕ, zero, suc, ◌+◌, ◌-◌, ◌%◌, ◌<◌, ◌≤◌, Bool, true, false, cond, Option, Some, None, List, [], ◌∷◌, ◌++◌, length, map, reverse, get_or, take, drop, inl, inr, ◌⊎◌, refl, sym, ap, ◌∙◌, subst, arith, append_assoc}
-use Rattle.std.specs.Prelude.{nat_le, nat_lt, ◌==◌, ◌||◌, if◌then◌else◌}
-use Rattle.std.proofs.lemmas.Bool.{le-leb, leb-true, lt-ltb, cases_lt, and_from, eqb-true}
+use Rattle.std.proofs.Common.{◌≡◌, ℕ, zero, suc, ◌+◌, ◌-◌, ◌%◌, ◌<◌, ◌≤◌, Bool, true, false, cond, List, [], ◌∷◌, ◌++◌, length, map, reverse, get_or, take, drop, inl, inr, ◌⊎◌, refl, sym, ap, ◌∙◌, subst, arith, append_assoc}
+use Rattle.std.specs.Prelude.{nat_le, nat_lt}
+use Rattle.std.proofs.lemmas.Bool.{le-leb, leb-true, lt-ltb, cases_lt, and_from}
 use Rattle.std.proofs.lemmas.List.{map-append, append-nil, reverse-append, take_all, drop_all, drop_more}
-use Rattle.std.proofs.lemmas.Option.{none-some, same_Some}
 use Rattle.lil_base.specs.declared.fault.TrapKind.TheVariants as trap
-use Rattle.lil_base.specs.Words.{Cardinal, Integer}
-use Rattle.lil_resolved.specs.Kinds.{Kind, OfWhole, OfCharacter}
+use Rattle.lil_base.specs.Requests.{request_number, request_found, takes_array}
+use Rattle.lil_base.specs.declared.request.Request.{Request}
+use Rattle.lil_base.specs.declared.request.Request.TheVariants.{Write, WriteString, WriteLn, WriteCard, WriteInt, WriteOct, WriteHex}
+use Rattle.lil_asm.specs.Requests.{request_words}
+use Rattle.lil_resolved.specs.Kinds.{Kind, OfCharacter}
 use Rattle.lil_resolved.specs.Scalars.{Scalar, Number, Truth, Character, SetOf, ToObject, ToWorkspace, ToProcedure, ToCoroutine, Nothing, within, scalar_word}
-use Rattle.lil_resolved.specs.Resolved.{Argument, ByValue, OfArray, OfText, Request, shape_of}
-use Rattle.lil_resolved.specs.Sound.{Parameter, Single as OneWord, Characters as OneArray, request_parameters, parameter_of, is_text}
+use Rattle.lil_resolved.specs.Resolved as resolved
+use Rattle.lil_resolved.specs.Resolved.{Argument, ByValue, OfArray, OfText, shape_of}
+use Rattle.lil_resolved.specs.Sound.{request_parameters, parameter_of, is_text}
 use Rattle.lil_resolved.specs.Shapes.{Shape, Absent, Word, Row, words, is_there, part_at, offset}
 use Rattle.lil_meaning.specs.Cells.{Place, part_of, got}
 use Rattle.lil_meaning.specs.World.{World, Given, Single, Characters, characters_at, array_at, given_by, serve}
@@ -19,7 +22,7 @@ use Rattle.lil_asm.specs.declared.instr.Instr.TheVariants.{Liw, Lag, Svc}
 use Rattle.lil_mcode.specs.State.{State}
 use Rattle.lil_mcode.specs.Table.{going, array_lies, request_row}
 use Rattle.lil_table.specs.Rows.{IsAt, ArgumentsAt, HasText, text_words, arguments_words, Access, access_of}
-use Rattle.lil_match.specs.Running.{Running, Run, running, requested, words_taken}
+use Rattle.lil_match.specs.Running.{Running, Run, running}
 use Rattle.lil_match.specs.Parts.{yes, no}
 use Rattle.lil_match.specs.Homes.{Home, text_character, word_for, plain_word, takes_plain, address, shape_there, place_inside, part_there}
 use Rattle.lil_match.specs.Goes.{Shared, Goes, Lands}
@@ -35,11 +38,11 @@ use Rattle.lil_laws_stmt.specs.Tasks.{value_within}
 
 -- ---- which arguments are arrays
 -- one of those that are left is at hand
-forms_more : (r : ℕ) (done : List Bool) (x : Argument) (left : List Argument) → TakesAll r done (x ∷ left) → TakesAll r (done ++ is_open (parameter_of x) ∷ []) left
+forms_more : (r : Request) (done : List Bool) (x : Argument) (left : List Argument) → TakesAll r done (x ∷ left) → TakesAll r (done ++ is_open (parameter_of x) ∷ []) left
 forms_more r done x left t =
-    record { parameters = t.parameters; are = t.are; same = t.same ∙ sym (append_assoc done (is_open (parameter_of x) ∷ []) (map is_open (map parameter_of left))) }
+    record { same = t.same ∙ sym (append_assoc done (is_open (parameter_of x) ∷ []) (map is_open (map parameter_of left))) }
 
-forms_done : (r : ℕ) (done : List Datum) (d : Datum) (left : List Argument) → TakesAll r (map is_array done ++ is_array d ∷ []) left → TakesAll r (map is_array (done ++ d ∷ [])) left
+forms_done : (r : Request) (done : List Datum) (d : Datum) (left : List Argument) → TakesAll r (map is_array done ++ is_array d ∷ []) left → TakesAll r (map is_array (done ++ d ∷ [])) left
 forms_done r done d left t = subst (λ (bs : List Bool). TakesAll r bs left) (sym (map-append is_array done (d ∷ []))) t
 
 -- WriteString takes one array, and no other request takes any
@@ -47,21 +50,14 @@ abbrev AreSingle : List Bool → Type 0
 AreSingle [] = Unit {0}
 AreSingle (b ∷ bs) = (b ≡ false) × AreSingle bs
 
-by_tests : (write string line int others : Bool) (ps : List Parameter) (a b c d e : Kind) → (write ≡ true → string ≡ false)
-    → (if write then Some (OneWord a ∷ []) else (if string then Some (OneArray ∷ []) else (if line then Some [] else (if int then Some (OneWord b ∷ OneWord c ∷ []) else (if others then Some (OneWord d ∷ OneWord e ∷ []) else None))))) ≡ Some ps
-    → (string ≡ true → map is_open ps ≡ true ∷ []) × (string ≡ false → AreSingle (map is_open ps))
-by_tests true true line int others ps a b c d e apart is = let clash : true ≡ false = apart refl in cc
-by_tests true false line int others ps a b c d e apart is = (λ h. cc, λ h. subst (λ (xs : List Parameter). AreSingle (map is_open xs)) (same_Some (OneWord a ∷ []) ps is) (refl, tt))
-by_tests false true line int others ps a b c d e apart is = (λ h. ap (map is_open) (sym (same_Some (OneArray ∷ []) ps is)), λ h. cc)
-by_tests false false true int others ps a b c d e apart is = (λ h. cc, λ h. subst (λ (xs : List Parameter). AreSingle (map is_open xs)) (same_Some [] ps is) tt)
-by_tests false false false true others ps a b c d e apart is = (λ h. cc, λ h. subst (λ (xs : List Parameter). AreSingle (map is_open xs)) (same_Some (OneWord b ∷ OneWord c ∷ []) ps is) (refl, (refl, tt)))
-by_tests false false false false true ps a b c d e apart is = (λ h. cc, λ h. subst (λ (xs : List Parameter). AreSingle (map is_open xs)) (same_Some (OneWord d ∷ OneWord e ∷ []) ps is) (refl, (refl, tt)))
-by_tests false false false false false ps a b c d e apart is = absurd (none-some ps is)
-
-forms_are : (r : ℕ) (ps : List Parameter) → request_parameters r ≡ Some ps → ((r == 3) ≡ true → map is_open ps ≡ true ∷ []) × ((r == 3) ≡ false → AreSingle (map is_open ps))
-forms_are r ps is =
-    by_tests (r == 2) (r == 3) (r == 4) (r == 6) (r == 5 || r == 7 || r == 8) ps OfCharacter (OfWhole Integer) (OfWhole Cardinal) (OfWhole Cardinal) (OfWhole Cardinal)
-    (λ two. ap (λ (n : ℕ). n == 3) (eqb-true r 2 two)) is
+forms_are : (r : Request) → (takes_array r ≡ true → map is_open (request_parameters r) ≡ true ∷ []) × (takes_array r ≡ false → AreSingle (map is_open (request_parameters r)))
+forms_are Write = (λ h. cc, λ h. (refl, tt))
+forms_are WriteString = (λ h. refl, λ h. cc)
+forms_are WriteLn = (λ h. cc, λ h. tt)
+forms_are WriteCard = (λ h. cc, λ h. (refl, (refl, tt)))
+forms_are WriteInt = (λ h. cc, λ h. (refl, (refl, tt)))
+forms_are WriteOct = (λ h. cc, λ h. (refl, (refl, tt)))
+forms_are WriteHex = (λ h. cc, λ h. (refl, (refl, tt)))
 
 -- ---- what arguments that are done give
 -- the characters of a string at an address
@@ -147,53 +143,53 @@ module _ (ctx : Setting) where
         by (c ∷ cs) text (inr none) = absurd (omega (arith, none))
 
     -- one array, as WriteString takes it
-    one_array : (r : ℕ) (d : Datum) (stack : List ℕ) → (r == 3) ≡ true → is_array d ≡ true → DatumOn ctx d stack []
+    one_array : (r : Request) (d : Datum) (stack : List ℕ) → takes_array r ≡ true → is_array d ≡ true → DatumOn ctx d stack []
         → (Characters (array_at m.store (reverse stack)) ≡ given_of s.cells d) × (array_lies r stack ≡ true)
-    one_array r (Opens place high) stack three e on =
+    one_array r (Opens place high) stack array e on =
         let low : address h place + words (Row (suc high) (Word OfCharacter)) ≤ 65535 = omega (arith, place_inside h s.cells m.store place shared.mem (ap is_there on.has.living), ap words on.has.living) in (
           ap (λ (x : List ℕ). Characters (array_at m.store (reverse x))) on.is
               ∙ ap (λ (b : ℕ). Characters (characters_at m.store b (suc high))) (let e : address h place ≡ address h place + 0 = omega arith in e)
               ∙ ap Characters (array_given place high 0 (suc high) on.has.living (omega arith)),
-          ap (array_lies r) on.is ∙ yes (r == 3) _ _ three ∙ le-leb (address h place + high) 65535 (omega (arith, low)),
+          ap (array_lies r) on.is ∙ yes (takes_array r) _ _ array ∙ le-leb (address h place + high) 65535 (omega (arith, low)),
         )
-    one_array r (Texts cs) stack three e on =
+    one_array r (Texts cs) stack array e on =
         let low = string_low ctx s m shared cs on.offset on.text in (
           ap (λ (x : List ℕ). Characters (array_at m.store (reverse x))) on.is ∙ ap Characters (string_given cs on.offset on.text),
-          ap (array_lies r) on.is ∙ yes (r == 3) _ _ three ∙ le-leb (own.base + on.offset + (text_words cs - 1)) 65535 (omega (arith, low)),
+          ap (array_lies r) on.is ∙ yes (takes_array r) _ _ array ∙ le-leb (own.base + on.offset + (text_words cs - 1)) 65535 (omega (arith, low)),
         )
-    one_array r (Scalars v) stack three e on = cc
-    one_array r (Places place) stack three e on = cc
-    one_array r (Wholes u) stack three e on = cc
+    one_array r (Scalars v) stack array e on = cc
+    one_array r (Places place) stack array e on = cc
+    one_array r (Wholes u) stack array e on = cc
 
     -- what a request finds is what its arguments give
-    pub record IsGiven (r : ℕ) (done : List Datum) : Type 0 where
+    pub record IsGiven (r : Request) (done : List Datum) : Type 0 where
       pub same : given_by r m.store (reverse m.stack) ≡ map (given_of s.cells) done
       pub lies : array_lies r m.stack ≡ true
 
-    other_lies : (r : ℕ) (stack : List ℕ) → (r == 3) ≡ false → array_lies r stack ≡ true
+    other_lies : (r : Request) (stack : List ℕ) → takes_array r ≡ false → array_lies r stack ≡ true
     other_lies r [] e = refl
     other_lies r (high ∷ []) e = refl
-    other_lies r (high ∷ address ∷ rest) e = no (r == 3) _ _ e
+    other_lies r (high ∷ address ∷ rest) e = no (takes_array r) _ _ e
 
-    all_given : (r : ℕ) (done : List Datum) → DataOn ctx done m.stack [] → TakesAll r (map is_array done) [] → IsGiven r done
-    all_given r done on forms = by (r == 3) refl
+    all_given : (r : Request) (done : List Datum) → DataOn ctx done m.stack [] → TakesAll r (map is_array done) [] → IsGiven r done
+    all_given r done on forms = by (takes_array r) refl
       where
-        are : map is_open forms.parameters ≡ map is_array done
+        are : map is_open (request_parameters r) ≡ map is_array done
         are = forms.same ∙ append-nil (map is_array done)
 
-        only : (ds : List Datum) (stack : List ℕ) → (r == 3) ≡ true → map is_array ds ≡ true ∷ [] → DataOn ctx ds stack [] → (Characters (array_at m.store (reverse stack)) ∷ [] ≡ map (given_of s.cells) ds) × (array_lies r stack ≡ true)
-        only [] stack three e on = cc
-        only (d ∷ []) stack three e on =
-            let one = one_array r d stack three (let first : is_array d ≡ true = cc in first) (subst (λ (x : List ℕ). DatumOn ctx d x []) (sym on.2) on.1) in
+        only : (ds : List Datum) (stack : List ℕ) → takes_array r ≡ true → map is_array ds ≡ true ∷ [] → DataOn ctx ds stack [] → (Characters (array_at m.store (reverse stack)) ∷ [] ≡ map (given_of s.cells) ds) × (array_lies r stack ≡ true)
+        only [] stack array e on = cc
+        only (d ∷ []) stack array e on =
+            let one = one_array r d stack array (let first : is_array d ≡ true = cc in first) (subst (λ (x : List ℕ). DatumOn ctx d x []) (sym on.2) on.1) in
             (ap (λ (g : Given). g ∷ []) one.0, one.1)
-        only (d ∷ f ∷ ds) stack three e on = cc
+        only (d ∷ f ∷ ds) stack array e on = cc
 
-        by : (b : Bool) → (r == 3) ≡ b → IsGiven r done
-        by true three =
-            let y = only done m.stack three (sym are ∙ (forms_are r forms.parameters forms.are).0 three) on in
-            record { same = yes (r == 3) _ _ three ∙ y.0; lies = y.1 }
+        by : (b : Bool) → takes_array r ≡ b → IsGiven r done
+        by true array =
+            let y = only done m.stack array (sym are ∙ (forms_are r).0 array) on in
+            record { same = yes (takes_array r) _ _ array ∙ y.0; lies = y.1 }
         by false other = record {
-          same = no (r == 3) _ _ other ∙ words_given done m.stack [] (subst AreSingle are ((forms_are r forms.parameters forms.are).1 other)) on;
+          same = no (takes_array r) _ _ other ∙ words_given done m.stack [] (subst AreSingle are ((forms_are r).1 other)) on;
           lies = other_lies r m.stack other;
         }
 
@@ -201,11 +197,11 @@ module _ (ctx : Setting) where
     abbrev Rest : Reach
     Rest = Rows ctx k
 
-    pub request_goes : (r : ℕ) (given : List Argument) → Waiting ctx (Perform (Do (Request r given))) Rest Quiet m.place m.stack c a
-        → Goes ctx s (Perform (Do (Request r given)) ∷ k) m (c + 32)
+    pub request_goes : (r : Request) (given : List Argument) → Waiting ctx (Perform (Do (resolved.Request r given))) Rest Quiet m.place m.stack c a
+        → Goes ctx s (Perform (Do (resolved.Request r given)) ∷ k) m (c + 32)
     request_goes r given row =
         let none : length m.stack ≡ 0 = ap length row.part.empty in
-        goes_none ctx s (Perform (Do (Request r given)) ∷ k) m (c + 32) c
+        goes_none ctx s (Perform (Do (resolved.Request r given)) ∷ k) m (c + 32) c
         (lands_on ctx s m shared (Perform (Passing r [] given) ∷ k) m.place m.stack c a
         (at_once ctx _ Quiet m.place m.stack c a
         (record {
@@ -213,8 +209,8 @@ module _ (ctx : Setting) where
             on = row.part.empty;
             middle = row.part.here.middle;
             given = subst (λ (n : ℕ). ArgumentsAt l own.code n given m.place row.part.here.middle) (sym none) row.part.here.arguments;
-            forms = record { parameters = map parameter_of given; are = row.part.here.takes; same = refl };
-            serve = record { words = row.part.here.words ∙ ap Some (let e : arguments_words given ≡ length m.stack + arguments_words given = omega (arith, none) in e); end = row.part.end; by = row.part.here.by; within = row.part.within };
+            forms = record { same = ap (map is_open) row.part.here.takes };
+            serve = record { words = row.part.here.words ∙ (let e : arguments_words given ≡ length m.stack + arguments_words given = omega (arith, none) in e); end = row.part.end; by = row.part.here.by; within = row.part.within };
           };
           then = row.then;
         })))
@@ -222,16 +218,16 @@ module _ (ctx : Setting) where
         (omega arith)
 
     -- behind an argument of so many words
-    abbrev Passed : ℕ → List Datum → Argument → List Argument → Type 0
+    abbrev Passed : Request → List Datum → Argument → List Argument → Type 0
     Passed r done x left = Waiting ctx (Perform (Passing r done (x ∷ left))) Rest Quiet m.place m.stack c a
 
-    pub passing_goes : (r : ℕ) (done : List Datum) (x : Argument) (left : List Argument) → Passed r done x left → Goes ctx s (Perform (Passing r done (x ∷ left)) ∷ k) m (c + 32)
+    pub passing_goes : (r : Request) (done : List Datum) (x : Argument) (left : List Argument) → Passed r done x left → Goes ctx s (Perform (Passing r done (x ∷ left)) ∷ k) m (c + 32)
     passing_goes r done (ByValue kind e) left row =
         let value = row.part.given.here.1 in
         let serve = row.part.serve in
         let rest : ArgumentsAt l own.code (suc (length m.stack)) left row.part.given.middle row.part.middle =
         subst (λ (n : ℕ). ArgumentsAt l own.code n left row.part.given.middle row.part.middle) (let e : 1 + length m.stack ≡ suc (length m.stack) = omega arith in e) row.part.given.then in
-        let behind = arguments_within l own.code (suc (length m.stack)) left row.part.given.middle row.part.middle rest (instr_within own.code row.part.middle (Svc r) serve.end serve.by) in
+        let behind = arguments_within l own.code (suc (length m.stack)) left row.part.given.middle row.part.middle rest (instr_within own.code row.part.middle (Svc (request_number r)) serve.end serve.by) in
         let count : length m.stack + (1 + arguments_words left) ≡ suc (length m.stack) + arguments_words left = omega arith in
         operand_goes ctx s k m c a shared (Perform (Passing r done (ByValue kind e ∷ left)) ∷ k) e (Pass r kind done left) refl (omega arith) value.middle value.value.value
         value.value.shallow
@@ -245,7 +241,7 @@ module _ (ctx : Setting) where
             middle = row.part.middle;
             given = rest;
             forms = forms_more r (map is_array done) (ByValue kind e) left row.part.forms;
-            serve = record { words = serve.words ∙ ap Some count; end = serve.end; by = serve.by; within = serve.within };
+            serve = record { words = serve.words ∙ count; end = serve.end; by = serve.by; within = serve.within };
           };
           then = row.then;
         })
@@ -271,7 +267,7 @@ module _ (ctx : Setting) where
                   middle = row.part.middle;
                   given = row.part.given.then;
                   forms = forms_more r (map is_array done) (OfArray d high) left row.part.forms;
-                  serve = record { words = serve.words ∙ ap Some count; end = serve.end; by = serve.by; within = serve.within };
+                  serve = record { words = serve.words ∙ count; end = serve.end; by = serve.by; within = serve.within };
                 };
                 then = row.then;
               });
@@ -301,7 +297,7 @@ module _ (ctx : Setting) where
             middle = row.part.middle;
             given = subst (λ (n : ℕ). ArgumentsAt l own.code n left row.part.given.middle row.part.middle) (let e : 2 + length m.stack ≡ length stack = omega arith in e) row.part.given.then;
             forms = forms_done r done (Texts cs) left (forms_more r (map is_array done) (OfText cs) left row.part.forms);
-            serve = record { words = serve.words ∙ ap Some count; end = serve.end; by = serve.by; within = serve.within };
+            serve = record { words = serve.words ∙ count; end = serve.end; by = serve.by; within = serve.within };
           };
           then = row.then;
         })))
@@ -311,7 +307,7 @@ module _ (ctx : Setting) where
         (omega arith)
 
     -- an array is there: its address, and the number of its last element
-    pub pass_array_goes : (r high : ℕ) (done : List Datum) (left : List Argument) (place : Place) (b : Access) (t : Shape) (below : List ℕ) → HasPlace ctx b place t m.stack below
+    pub pass_array_goes : (r : Request) (high : ℕ) (done : List Datum) (left : List Argument) (place : Place) (b : Access) (t : Shape) (below : List ℕ) → HasPlace ctx b place t m.stack below
         → Waiting ctx (Fill (PassArray r high done left)) Rest (AtPlace b t) m.place below c a → Goes ctx s (Value (Places place) ∷ Fill (PassArray r high done left) ∷ k) m (c + 32)
     pass_array_goes r high done left place b t below has row =
         let y = row.part in
@@ -333,7 +329,7 @@ module _ (ctx : Setting) where
             middle = y.middle;
             given = subst (λ (n : ℕ). ArgumentsAt l own.code n left y.last y.middle) count y.given;
             forms = forms_done r done (Opens place high) left y.forms;
-            serve = record { words = serve.words ∙ ap (λ (n : ℕ). Some (n + arguments_words left)) count; end = serve.end; by = serve.by; within = serve.within };
+            serve = record { words = serve.words ∙ ap (λ (n : ℕ). n + arguments_words left) count; end = serve.end; by = serve.by; within = serve.within };
           };
           then = row.then;
         })))
@@ -342,7 +338,7 @@ module _ (ctx : Setting) where
         (omega arith))
         (omega arith)
 
-    pub pass_goes : (r : ℕ) (to : Kind) (done : List Datum) (left : List Argument) (v : Scalar) (kind : Kind) → within kind v ≡ true → (below : List ℕ) → m.stack ≡ word_for h v ∷ below
+    pub pass_goes : (r : Request) (to : Kind) (done : List Datum) (left : List Argument) (v : Scalar) (kind : Kind) → within kind v ≡ true → (below : List ℕ) → m.stack ≡ word_for h v ∷ below
         → Waiting ctx (Fill (Pass r to done left)) Rest (ValueOf kind) m.place below c a → Goes ctx s (Value (Scalars v) ∷ Fill (Pass r to done left) ∷ k) m (c + 32)
     pass_goes r to done left v kind fit below is row =
         let items : List Item = Value (Scalars v) ∷ Fill (Pass r to done left) ∷ k in
@@ -367,7 +363,7 @@ module _ (ctx : Setting) where
             middle = row.part.middle;
             given = subst (λ (n : ℕ). ArgumentsAt l own.code n left row.part.tested row.part.middle) count row.part.given;
             forms = forms_done r done (Scalars v) left row.part.forms;
-            serve = record { words = serve.words ∙ ap (λ (n : ℕ). Some (n + arguments_words left)) count; end = serve.end; by = serve.by; within = serve.within };
+            serve = record { words = serve.words ∙ ap (λ (n : ℕ). n + arguments_words left) count; end = serve.end; by = serve.by; within = serve.within };
           };
           then = row.then;
         }))))
@@ -375,11 +371,12 @@ module _ (ctx : Setting) where
         (subst (λ (t : Source). stutter t.items < stutter items) (sym (ap becomes one)) falls))
         (omega arith)
 
-    pub serve_goes : (r : ℕ) (done : List Datum) → Waiting ctx (Perform (Passing r done [])) Rest Quiet m.place m.stack c a
+    pub serve_goes : (r : Request) (done : List Datum) → Waiting ctx (Perform (Passing r done [])) Rest Quiet m.place m.stack c a
         → Goes ctx s (Perform (Passing r done []) ∷ k) m (c + 32)
     serve_goes r done row =
-        let count : ℕ = length m.stack + 0 in
-        let by = subst (λ (p : ℕ). IsAt own.code p (Svc r) row.part.serve.end) (sym row.part.given) row.part.serve.by in
+        let count : ℕ = request_words r in
+        let all : count ≡ length m.stack = omega (arith, row.part.serve.words) in
+        let by = subst (λ (p : ℕ). IsAt own.code p (Svc (request_number r)) row.part.serve.end) (sym row.part.given) row.part.serve.by in
         let enough : nat_le count (length m.stack) ≡ true = le-leb count (length m.stack) (omega arith) in
         let none_left : drop count m.stack ≡ [] = drop_all count m.stack (omega arith) in
         let y = all_given s m shared r done row.part.on row.part.forms in
@@ -390,11 +387,10 @@ module _ (ctx : Setting) where
         let at : List ℕ → List Given → Run = λ x given. record { machine = record m { place = row.part.serve.end; stack = x }; world = (serve (level_of s) r given s.world).0; finish = Running } in
         goes_one ctx s (Perform (Passing r done []) ∷ k) m (c + 32) c (running machine w)
         (advances m s.world _ (
-        at_step ctx m shared.program (Svc r) row.part.serve.end by
-        ∙ ap (request_row r row.part.serve.end m) row.part.serve.words
+        at_step ctx m shared.program (Svc (request_number r)) row.part.serve.end by
+        ∙ ap (request_row row.part.serve.end m) (request_found r)
         ∙ yes _ _ _ (and_from _ _ enough y.lies)
         )
-        ∙ ap (λ (o : Option ℕ). requested r (words_taken o) (going m row.part.serve.end m.stack) (running m s.world)) row.part.serve.words
         ∙ ap (λ (x : List ℕ). at x (given_by r m.store (reverse (take count m.stack)))) none_left
         ∙ ap (at []) given)
         (record {

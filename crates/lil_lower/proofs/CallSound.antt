@@ -25,13 +25,13 @@ use Rattle.lil_resolved.specs.Depth.{place_depth}
 use Rattle.lil_resolved.specs.Resolved.{Designator, Expression, Argument, OfArray, OfText, Statements, kind_of, counted_as, shape_of}
 use Rattle.lil_resolved.specs.Sound.{Parameter, Single, Characters, is_ordinal, is_plain, takes_value, stores_value, is_element, is_text, request_parameters, parameter_of, IsSoundArgument, IsSoundArray, IsSoundTarget, IsSoundWhole, IsSoundValue, AreSoundArguments, IsSoundBody}
 use Rattle.lil_resolved.specs.Shapes.{Scope, is_there, shape_at}
-use Rattle.lil_resolved.specs.Views.{base_view, ranged_view, kind_view, request_number}
+use Rattle.lil_resolved.specs.Views.{base_view, ranged_view, kind_view}
 use Rattle.lil_resolved.specs.declared.resolved.RBase.{RBase}
 use Rattle.lil_resolved.specs.declared.resolved.RBase.TheVariants as b
 use Rattle.lil_resolved.specs.declared.resolved.RKind.{RKind}
 use Rattle.lil_resolved.specs.declared.resolved.RRange.{RRange}
-use Rattle.lil_resolved.specs.declared.resolved.RRequest.{RRequest}
-use Rattle.lil_resolved.specs.declared.resolved.RRequest.TheVariants as q
+use Rattle.lil_base.specs.declared.request.Request as request
+use Rattle.lil_base.specs.declared.request.Request.TheVariants as q
 use Rattle.lil_resolved.specs.declared.resolved.Direction.{Direction}
 use Rattle.lil_resolved.specs.declared.resolved.Direction.TheVariants.{Up, Down}
 use Rattle.lil_resolved.specs.declared.resolved.Membership.{Membership}
@@ -105,7 +105,7 @@ abbrev parameter : Formal → Parameter
 parameter (OfType k sort) = Single (base_view k)
 parameter OfCharacters = Characters
 
-parameters_are : (r : RRequest) → request_parameters (request_number r) ≡ Some (map parameter (s.parameters r))
+parameters_are : (r : request.Request) → request_parameters r ≡ map parameter (s.parameters r)
 parameters_are q.Write = refl
 parameters_are q.WriteString = refl
 parameters_are q.WriteLn = refl
@@ -353,18 +353,18 @@ module _ (m : RModule) (around : Around) (ts : Scope) (fits : Fits m around ts) 
   arguments_sound (p ∷ ps) [] = tt
   arguments_sound (p ∷ ps) (a ∷ xs) = linked_sound p ps (s.handed m around p a) (s.arguments m around ps xs) (one_sound p a) (arguments_sound ps xs)
 
-  requested_sound : (looping : Bool) (r : RRequest) (o : Option (List Argument)) → IfSome o (AllGiven (s.parameters r)) → Body looping (s.requested r o)
+  requested_sound : (looping : Bool) (r : request.Request) (o : Option (List Argument)) → IfSome o (AllGiven (s.parameters r)) → Body looping (s.requested r o)
   requested_sound looping r None h = tt
-  requested_sound looping r (Some given) h = ((parameters_are r ∙ ap Some (sym h.1), h.0), tt)
+  requested_sound looping r (Some given) h = ((parameters_are r ∙ sym h.1, h.0), tt)
 
-  request_sound : (looping : Bool) (o : Option RRequest) (xs : List RArgument) → Body looping (s.request m around o xs)
+  request_sound : (looping : Bool) (o : Option request.Request) (xs : List RArgument) → Body looping (s.request m around o xs)
   request_sound looping None xs = tt
   request_sound looping (Some r) xs = requested_sound looping r (s.arguments m around (s.parameters r) xs) (arguments_sound (s.parameters r) xs)
 
   pub called_sound : (looping : Bool) (c : RCallee) (xs : List RArgument) → Body looping (s.called m around c xs)
   called_sound looping c xs = by (s.resident_of c)
     where
-      over : (way : Option Allocation) (r : Option RRequest) → Body looping (s.called_by m around way r xs)
+      over : (way : Option Allocation) (r : Option request.Request) → Body looping (s.called_by m around way r xs)
       over (Some way) r = allocation_sound looping way xs
       over None r = request_sound looping r xs
 

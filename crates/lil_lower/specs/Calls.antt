@@ -20,11 +20,11 @@ use Rattle.lil_module.specs.declared.tree.ROperation.{ROperation}
 use Rattle.lil_resolved.specs.Resolved.{Expression, Argument, ByValue, OfArray, OfText, Assign, Copy, Text, Change, Member, New, Allocate, Request, Halt, Statements, Empty, Then, kind_of}
 use Rattle.lil_resolved.specs.Kinds.{OfWhole, OfPointer, Workspaces, same_pointer}
 use Rattle.lil_resolved.specs.Sound.{is_ordinal, takes_value, stores_value, is_element, is_text}
-use Rattle.lil_resolved.specs.Views.{base_view, kind_view, request_number, is_down, is_out, is_back}
+use Rattle.lil_resolved.specs.Views.{base_view, kind_view, is_down, is_out, is_back}
 use Rattle.lil_resolved.specs.declared.resolved.RBase.{RBase}
 use Rattle.lil_resolved.specs.declared.resolved.RBase.TheVariants as b
-use Rattle.lil_resolved.specs.declared.resolved.RRequest.{RRequest}
-use Rattle.lil_resolved.specs.declared.resolved.RRequest.TheVariants as q
+use Rattle.lil_base.specs.declared.request.Request as requests
+use Rattle.lil_base.specs.declared.request.Request.TheVariants as q
 use Rattle.lil_resolved.specs.declared.resolved.Direction.{Direction}
 use Rattle.lil_resolved.specs.declared.resolved.Direction.TheVariants.{Up, Down}
 use Rattle.lil_resolved.specs.declared.resolved.Membership.{Membership}
@@ -147,7 +147,7 @@ halted [] = Some (Then Halt Empty)
 halted (x ∷ xs) = None
 
 -- ---- calls of resident procedures
-abbrev pub request_of : Resident → Option RRequest
+abbrev pub request_of : Resident → Option requests.Request
 request_of resident.Read = None
 request_of resident.Write = Some q.Write
 request_of resident.WriteString = Some q.WriteString
@@ -166,12 +166,14 @@ pub data Formal : Type 0 where
   OfType : (k : RBase) (s : ℕ) → Formal
   OfCharacters : Formal
 
-abbrev pub parameters : RRequest → List Formal
+abbrev pub parameters : requests.Request → List Formal
 parameters q.Write = OfType b.Character char ∷ []
 parameters q.WriteString = OfCharacters ∷ []
 parameters q.WriteLn = []
 parameters q.WriteInt = OfType b.Integer integer ∷ OfType b.Cardinal cardinal ∷ []
-parameters _ = OfType b.Cardinal cardinal ∷ OfType b.Cardinal cardinal ∷ []
+parameters q.WriteCard = OfType b.Cardinal cardinal ∷ OfType b.Cardinal cardinal ∷ []
+parameters q.WriteOct = OfType b.Cardinal cardinal ∷ OfType b.Cardinal cardinal ∷ []
+parameters q.WriteHex = OfType b.Cardinal cardinal ∷ OfType b.Cardinal cardinal ∷ []
 
 abbrev pub resident_in : RCallee-F RArgument RCallee RExpr RSelector RDesignator RElement ROperation → Option Resident
 resident_in (x.RCallee::Procedure n) = None
@@ -190,8 +192,8 @@ abbrev pub linked : {A : Type 0} → Option A → Option (List A) → Option (Li
 linked (Some a) (Some rest) = Some (a ∷ rest)
 linked _ _ = None
 
-abbrev pub requested : RRequest → Option (List Argument) → Option Statements
-requested r (Some xs) = Some (Then (Request (request_number r) xs) Empty)
+abbrev pub requested : requests.Request → Option (List Argument) → Option Statements
+requested r (Some xs) = Some (Then (Request r xs) Empty)
 requested r None = None
 
 module _ (m : RModule) (around : Around) where
@@ -235,12 +237,12 @@ module _ (m : RModule) (around : Around) where
   allocation way (a ∷ n ∷ []) = allocated way (place a) (shallow ((argument m around n).lowers (own_or (argument m around n).own cardinal)))
   allocation way _ = None
 
-  abbrev pub request : Option RRequest → List RArgument → Option Statements
+  abbrev pub request : Option requests.Request → List RArgument → Option Statements
   request None xs = None
   request (Some r) xs = requested r (arguments (parameters r) xs)
 
   -- ALLOCATE and DEALLOCATE are no requests
-  abbrev pub called_by : Option Allocation → Option RRequest → List RArgument → Option Statements
+  abbrev pub called_by : Option Allocation → Option requests.Request → List RArgument → Option Statements
   called_by (Some way) r xs = allocation way xs
   called_by None r xs = request r xs
 

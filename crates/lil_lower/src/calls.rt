@@ -7,15 +7,15 @@ ghost use Rattle.lil_lower.specs.Calls as spec;
 
 use crate::allocations::{allocation, allocation_of};
 use crate::strings::string;
-use lil_base::{Items, Memory, beside};
+use lil_base::{Items, Memory, Request, beside};
 use lil_lower_type::takes_value;
 use lil_lower_value::{argument, argument_sort, own_or, shallow};
 use lil_module::{RArgument as Given, RCallee, RModule, Resident};
-use lil_resolved::{RArgument, RBase, RExpr, RKind, RRequest, RStmt, base as base_of};
+use lil_resolved::{RArgument, RBase, RExpr, RKind, RStmt, base as base_of};
 use lil_types::{CARDINAL, CHAR, INTEGER, TypeId};
 use std::alloc::Global;
 
-fn request_of(of: Resident) -> Option<RRequest>
+fn request_of(of: Resident) -> Option<Request>
     ensures { result ≡ spec.request_of of }
 {
     match of {
@@ -24,13 +24,13 @@ fn request_of(of: Resident) -> Option<RRequest>
         | Resident::Deallocate
         | Resident::NewProcess
         | Resident::Transfer => None,
-        Resident::Write => Some(RRequest::Write),
-        Resident::WriteString => Some(RRequest::WriteString),
-        Resident::WriteLn => Some(RRequest::WriteLn),
-        Resident::WriteCard => Some(RRequest::WriteCard),
-        Resident::WriteInt => Some(RRequest::WriteInt),
-        Resident::WriteOct => Some(RRequest::WriteOct),
-        Resident::WriteHex => Some(RRequest::WriteHex),
+        Resident::Write => Some(Request::Write),
+        Resident::WriteString => Some(Request::WriteString),
+        Resident::WriteLn => Some(Request::WriteLn),
+        Resident::WriteCard => Some(Request::WriteCard),
+        Resident::WriteInt => Some(Request::WriteInt),
+        Resident::WriteOct => Some(Request::WriteOct),
+        Resident::WriteHex => Some(Request::WriteHex),
     }
 }
 
@@ -178,25 +178,25 @@ fn arguments(
     alloc: Global,
     m: &RModule,
     around: &[TypeId],
-    request: RRequest,
+    request: Request,
     of: &[Given],
 ) -> Result<Option<Items<RArgument>>, Memory>
     requires { length m.now.variables ≤ 32000 }
     ensures { IfOk result (λ o. option_map (map view.argument_of) o ≡ spec.arguments m.now around.now (spec.parameters request) of.now) }
 {
     match request {
-        RRequest::Write => one_argument(alloc, m, around, RBase::Character, CHAR, of),
-        RRequest::WriteString => string_argument(alloc, m, around, of),
-        RRequest::WriteLn => Ok(no_arguments(alloc, of)),
-        RRequest::WriteInt => number_argument(alloc, m, around, RBase::Integer, INTEGER, of),
-        RRequest::WriteCard | RRequest::WriteOct | RRequest::WriteHex => {
+        Request::Write => one_argument(alloc, m, around, RBase::Character, CHAR, of),
+        Request::WriteString => string_argument(alloc, m, around, of),
+        Request::WriteLn => Ok(no_arguments(alloc, of)),
+        Request::WriteInt => number_argument(alloc, m, around, RBase::Integer, INTEGER, of),
+        Request::WriteCard | Request::WriteOct | Request::WriteHex => {
             number_argument(alloc, m, around, RBase::Cardinal, CARDINAL, of)
         }
     }
 }
 
 #[tactic(auto, using(lil_resolved::specs::Forms::request_is))]
-fn requested(request: RRequest, given: Option<Items<RArgument>>) -> Option<RStmt>
+fn requested(request: Request, given: Option<Items<RArgument>>) -> Option<RStmt>
     ensures { option_map view.statement_of result ≡ spec.requested request (option_map (map view.argument_of) given) }
 {
     match given {
@@ -210,7 +210,7 @@ fn request(
     alloc: Global,
     m: &RModule,
     around: &[TypeId],
-    request: Option<RRequest>,
+    request: Option<Request>,
     of: &[Given],
 ) -> Result<Option<RStmt>, Memory>
     requires { length m.now.variables ≤ 32000 }

@@ -1,11 +1,12 @@
 -- A run of the machine, with its world.
-use Rattle.std.specs.Prelude.{ℕ, zero, suc, List, [], length, take, drop, reverse, Option, Some, None}
+use Rattle.std.specs.Prelude.{ℕ, zero, suc, List, [], length, take, drop, reverse}
 use Rattle.lil_base.specs.declared.fault.TrapKind.{TrapKind}
 use Rattle.lil_base.specs.declared.fault.LimitKind.{LimitKind}
 use Rattle.lil_mcode.specs.declared.machine.Event.{Event}
 use Rattle.lil_mcode.specs.declared.machine.Event.TheVariants.{Went, Request, LevelEnded, Trap, Limit, BadCode}
 use Rattle.lil_mcode.specs.State.{State}
 use Rattle.lil_mcode.specs.Table.{mstep}
+use Rattle.lil_base.specs.declared.request.Request as request
 use Rattle.lil_asm.specs.Requests.{request_words}
 use Rattle.lil_meaning.specs.World.{World, Given, given_by, serve, all_closed}
 
@@ -22,13 +23,9 @@ pub record Run : Type 0 where
   pub world : World
   pub finish : Finish
 
-abbrev pub words_taken : Option ℕ → ℕ
-words_taken None = 0
-words_taken (Some n) = n
-
--- what a request finds, by how many words it has
-abbrev pub arguments : (r n : ℕ) → State → List Given
-arguments r n s = given_by r s.store (reverse (take n s.stack))
+-- what a request finds
+abbrev pub arguments : request.Request → State → List Given
+arguments r s = given_by r s.store (reverse (take (request_words r) s.stack))
 
 -- the number of the running level
 abbrev pub level_of : State → ℕ
@@ -46,8 +43,8 @@ replied n s answers w run = run
 abbrev pub served : ℕ → State → World × List Given → Run → Run
 served n s r run = replied n s r.1 r.0 run
 
-abbrev pub requested : ℕ → ℕ → State → Run → Run
-requested r n s run = served n s (serve (level_of s) r (arguments r n s) run.world) run
+abbrev pub requested : request.Request → State → Run → Run
+requested r s run = served (request_words r) s (serve (level_of s) r (arguments r s) run.world) run
 
 -- the run ends with its level, whose streams and channels are closed
 abbrev pub left : Finish → State → Run → Run
@@ -56,7 +53,7 @@ left f s run = record { machine = s; world = all_closed (level_of s) run.world; 
 -- what a step makes of a run
 abbrev pub react : Event → State → Run → Run
 react Went s run = record run { machine = s }
-react (Request r) s run = requested r (words_taken (request_words r)) s run
+react (Request r) s run = requested r s run
 react LevelEnded s run = left Finished s run
 react (Trap k) s run = left (TrappedBy k) s run
 react (Limit k) s run = record run { machine = s; finish = Limited k }

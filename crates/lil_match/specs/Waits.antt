@@ -17,6 +17,8 @@ use Rattle.lil_meaning.specs.Items.{Datum, Scalars, Places, Wholes, Opens, Texts
 use Rattle.lil_meaning.specs.Steps.{turns}
 use Rattle.lil_asm.specs.declared.instr.Instr.TheVariants.{Liw, Lag, Slw, Dup, Spn, Mov, Mvz, Nlt, Ixc, Ent, Rtn, Jmp, Alc, Svc}
 use Rattle.lil_mcode.specs.State.{Module, Kept, body_entry}
+use Rattle.lil_base.specs.Requests.{request_number}
+use Rattle.lil_base.specs.declared.request.Request as request
 use Rattle.lil_asm.specs.Requests.{request_words}
 use Rattle.lil_table.specs.Rows.{Layout, holding, exactly, HasText, text_words, arguments_words, IsAt, InstrsAt, one_code, two_code, test_code, function_code, Access, InData, OnTop, Behind as Past, further, access_of, address_code, allocate_code, load_code, ready_code, readied, held, store_code, again_code, held_twice, change_code, member_code, PlaceAt, ExpressionAt, WholeRow, ValueRow, ArgumentsAt, StatementAt, BodyAt, TurnsRow, RoundRow, loop_place, short_code}
 use Rattle.lil_match.specs.Homes.{word_for, Refers, Home, address, shape_there}
@@ -32,10 +34,8 @@ is_array (Texts cs) = true
 is_array _ = false
 
 -- the arguments of a request, those that are done, by whether they are arrays, and those that are left, are arrays where its parameters are
-pub record TakesAll (r : ℕ) (done : List Bool) (left : List Argument) : Type 0 where
-  pub parameters : List Parameter
-  pub are : request_parameters r ≡ Some parameters
-  pub same : map is_open parameters ≡ done ++ map is_open (map parameter_of left)
+pub record TakesAll (r : request.Request) (done : List Bool) (left : List Argument) : Type 0 where
+  pub same : map is_open (request_parameters r) ≡ done ++ map is_open (map parameter_of left)
 
 -- What comes from the items before: nothing, a value of a kind, or a place of a shape, by how the code has it.
 pub data Mode : Type 0 where
@@ -386,10 +386,10 @@ module _ (frame : Frame) where
     pub within : end < length own.code
 
   -- what follows the last argument of a request
-  pub record ServePart (r count p : ℕ) : Type 0 where
-    pub words : request_words r ≡ Some count
+  pub record ServePart (r : request.Request) (count p : ℕ) : Type 0 where
+    pub words : request_words r ≡ count
     pub end : ℕ
-    pub by : IsAt own.code p (Svc r) end
+    pub by : IsAt own.code p (Svc (request_number r)) end
     pub within : end < length own.code
 
   -- a string comes to the array
@@ -711,7 +711,7 @@ module _ (ctx : Setting) where
   DataOn (d ∷ ds) stack below = (middle : List ℕ) × DatumOn d middle below × DataOn ds stack middle
 
   -- the value of the next argument is there
-  pub record PassPart (j : Kind) (r : ℕ) (k : Kind) (done : List Datum) (left : List Argument) (p : ℕ) (stack : List ℕ) : Type 0 where
+  pub record PassPart (j : Kind) (r : request.Request) (k : Kind) (done : List Datum) (left : List Argument) (p : ℕ) (stack : List ℕ) : Type 0 where
     pub takes : takes_value k j ≡ true
     pub on : DataOn done stack []
     pub tested : ℕ
@@ -722,7 +722,7 @@ module _ (ctx : Setting) where
     pub serve : ServePart active r (suc (length stack) + arguments_words left) middle
 
   -- its place is there, an array
-  pub record PassArrayPart (b : Access) (t : Shape) (r high : ℕ) (done : List Datum) (left : List Argument) (p : ℕ) (stack : List ℕ) : Type 0 where
+  pub record PassArrayPart (b : Access) (t : Shape) (r : request.Request) (high : ℕ) (done : List Datum) (left : List Argument) (p : ℕ) (stack : List ℕ) : Type 0 where
     pub rows : t ≡ Row (suc high) (Word OfCharacter)
     pub room : length stack + 2 ≤ 16
     pub on : DataOn done stack []
@@ -735,7 +735,7 @@ module _ (ctx : Setting) where
     pub forms : TakesAll r (map is_array done ++ true ∷ []) left
     pub serve : ServePart active r (2 + length stack + arguments_words left) middle
 
-  pub record PassingPart (r : ℕ) (done : List Datum) (left : List Argument) (p : ℕ) (stack : List ℕ) : Type 0 where
+  pub record PassingPart (r : request.Request) (done : List Datum) (left : List Argument) (p : ℕ) (stack : List ℕ) : Type 0 where
     pub on : DataOn done stack []
     pub middle : ℕ
     pub given : ArgumentsAt l own.code (length stack) left p middle

@@ -9,6 +9,8 @@ use Rattle.lil_base.specs.declared.fault.LimitKind.{LimitKind}
 use Rattle.lil_asm.specs.declared.instr.Instr.{Instr}
 use Rattle.lil_asm.specs.declared.instr.Instr.TheVariants.{Liw, Lib, Dup, Drp, Swp, Lis, Llw, Llb, Slw, Slb, Lgw, Lgb, Sgw, Sgb, Lew, Sew, Lnw, Snw, Lal, Lag, Lae, Lan, Ldi, Sti, Ldf, Adf, Mov, Mvz, Nlt, Ixc, Ixo, Rgc, Rgi, Cap, Adc, Sbc, Mlc, Dvc, Mdc, Adi, Sbi, Mli, Dvi, Mdi, Ngi, Abi, Uni, Dif, Its, Sym, Sin, Spn, Icl, Ecl, Sle, Not, Equ, Neq, Lsc, Lec, Lsi, Lei, Sav, Mrk, Mrf, Psh, Psm, Cll, Clx, Clf, Ent, Cpy, Rtn, Rst, Jmp, Jpf, Jan, Jor, Jms, Jfs, Cas, Fri, Frn, Trp, Alc, Npr, Trf, Svc}
 use Rattle.lil_asm.specs.Bytes.{decoded}
+use Rattle.lil_base.specs.Requests.{request_with}
+use Rattle.lil_base.specs.declared.request.Request as request
 use Rattle.lil_asm.specs.Requests.{request_words}
 use Rattle.lil_mcode.specs.declared.machine.Event.{Event}
 use Rattle.lil_mcode.specs.declared.machine.Event.TheVariants.{Went, Request, LevelEnded, Trap, Limit, BadCode}
@@ -20,7 +22,7 @@ use Rattle.lil_mcode.specs.Table.{one_more, one_less, address_row, place_row, fe
 -- nothing
 pub record Holds (s : State) (P : Event × State → Type 0) : Type 0 where
   pub on : (t : State) → P (Went, t)
-  pub asked : (r n q : ℕ) → request_words r ≡ Some n → n ≤ length s.stack → array_lies r s.stack ≡ true → P (Request r, going s q s.stack)
+  pub asked : (r : request.Request) (q : ℕ) → request_words r ≤ length s.stack → array_lies r s.stack ≡ true → P (Request r, going s q s.stack)
   pub trap : (k : TrapKind) → P (Trap k, s)
   pub limit : (k : LimitKind) → P (Limit k, s)
   pub bad : P (BadCode, s)
@@ -95,15 +97,15 @@ module _ (s : State) (P : Event × State → Type 0) (p : Holds s P) where
   trap_has None = p.bad
   trap_has (Some k) = p.trap _
 
-  words_stay : (r n q : ℕ) (there lies : Bool) → nat_le n (length s.stack) ≡ there → array_lies r s.stack ≡ lies → request_words r ≡ Some n
+  words_stay : (r : request.Request) (q : ℕ) (there lies : Bool) → nat_le (request_words r) (length s.stack) ≡ there → array_lies r s.stack ≡ lies
       → P (if there && lies then (Request r, going s q s.stack) else bad s)
-  words_stay r n q true true h l e = p.asked r n q e (leb-true n (length s.stack) h) l
-  words_stay r n q true false h l e = p.bad
-  words_stay r n q false lies h l e = p.bad
+  words_stay r q true true h l = p.asked r q (leb-true (request_words r) (length s.stack) h) l
+  words_stay r q true false h l = p.bad
+  words_stay r q false lies h l = p.bad
 
-  request_has : (r q : ℕ) (words : Option ℕ) → request_words r ≡ words → P (request_row r q s words)
-  request_has r q None e = p.bad
-  request_has r q (Some n) e = words_stay r n q (nat_le n (length s.stack)) (array_lies r s.stack) refl refl e
+  request_has : (q : ℕ) (r : Option request.Request) → P (request_row q s r)
+  request_has q None = p.bad
+  request_has q (Some r) = words_stay r q (nat_le (request_words r) (length s.stack)) (array_lies r s.stack) refl refl
 
   body_has : (b : ℕ) (bodies : List ℕ) (m : Option Module) → P (body_row s b bodies m)
   body_has b bodies None = p.bad
@@ -214,7 +216,7 @@ module _ (s : State) (P : Event × State → Type 0) (p : Holds s P) where
   act_has Alc q m = two_has s.stack _ (λ a n rest. either (nat_lt a 65536) _ _ (either (nat_lt (s.limit - s.top) (n + 2)) _ _ (p.limit _) (p.on _)) p.bad)
   act_has Npr q m = p.bad
   act_has Trf q m = p.bad
-  act_has (Svc w) q m = request_has w q (request_words w) refl
+  act_has (Svc w) q m = request_has q (request_with w)
 
   performed_has : (m : Module) (o : Option (Instr × ℕ)) → P (performed s m o)
   performed_has m None = p.bad

@@ -1,5 +1,6 @@
 -- A request has its words on the expression stack, and its array in the store.
-use Rattle.std.proofs.Common.{◌≡◌, ℕ, ◌≤◌, length, true, Some, subst}
+use Rattle.std.proofs.Common.{◌≡◌, ◌≤◌, length, true, subst}
+use Rattle.lil_base.specs.declared.request.Request as request
 use Rattle.lil_asm.specs.Requests.{request_words}
 use Rattle.lil_mcode.specs.declared.machine.Event.{Event}
 use Rattle.lil_mcode.specs.declared.machine.Event.TheVariants.{Went, Request, LevelEnded, Trap, Limit, BadCode}
@@ -7,9 +8,9 @@ use Rattle.lil_mcode.specs.State.{State}
 use Rattle.lil_mcode.specs.Table.{array_lies, mstep}
 use Rattle.lil_mcode.specs.Outcomes.{step_has}
 
--- where an event is a request, its number has words, so many stand on the stack of t, and its array lies in the store
+-- where an event is a request, its words stand on the stack of t, and its array lies in the store
 abbrev pub Asks : Event → State → Type 0
-Asks (Request r) t = (n : ℕ) × (request_words r ≡ Some n) × (n ≤ length t.stack) × (array_lies r t.stack ≡ true)
+Asks (Request r) t = (request_words r ≤ length t.stack) × (array_lies r t.stack ≡ true)
 Asks Went t = Unit {0}
 Asks LevelEnded t = Unit {0}
 Asks (Trap k) t = Unit {0}
@@ -17,7 +18,7 @@ Asks (Limit k) t = Unit {0}
 Asks BadCode t = Unit {0}
 
 -- after a request its words stand on the stack, and its array lies in the store
-pub request_has : (s t : State) (r : ℕ) → mstep s ≡ (Request r, t) → (n : ℕ) × (request_words r ≡ Some n) × (n ≤ length t.stack) × (array_lies r t.stack ≡ true)
+pub request_has : (s t : State) (r : request.Request) → mstep s ≡ (Request r, t) → (request_words r ≤ length t.stack) × (array_lies r t.stack ≡ true)
 request_has s t r h =
     let P : Event × State → Type 0 = λ x. Asks x.0 x.1 in
-    subst P h (step_has s P (record { on = λ t. tt; asked = λ r n q e fits lies. (n, e, fits, lies); trap = λ k. tt; limit = λ k. tt; bad = tt; ended = tt }))
+    subst P h (step_has s P (record { on = λ t. tt; asked = λ r q fits lies. (fits, lies); trap = λ k. tt; limit = λ k. tt; bad = tt; ended = tt }))

@@ -23,7 +23,7 @@ stop_stays s t e is stops = (subst (λ (r : Event × State). Stays s r) is (step
     each : Holds s (Stays s)
     each = record {
       on = λ t. record { still = λ h. absurd h };
-      asked = λ r n q e h l. record { still = λ h. absurd h };
+      asked = λ r q h l. record { still = λ h. absurd h };
       trap = λ k. record { still = λ h. refl };
       limit = λ k. record { still = λ h. refl };
       bad = record { still = λ h. refl };

@@ -11,6 +11,8 @@ use Rattle.lil_asm.specs.declared.instr.Instr.{Instr}
 use Rattle.lil_asm.specs.declared.instr.Instr.TheVariants.{Liw, Lib, Dup, Drp, Swp, Lis, Llw, Llb, Slw, Slb, Lgw, Lgb, Sgw, Sgb, Lal, Lag, Ldi, Sti, Ldf, Adf, Mov, Mvz, Nlt, Ixc, Ixo, Rgc, Rgi, Cap, Adc, Sbc, Mlc, Dvc, Mdc, Adi, Sbi, Mli, Dvi, Mdi, Ngi, Abi, Uni, Dif, Its, Sym, Sin, Spn, Icl, Ecl, Sle, Not, Equ, Neq, Lsc, Lec, Lsi, Lei, Mrk, Cll, Ent, Rtn, Jmp, Jpf, Jan, Jor, Jms, Jfs, Cas, Fri, Frn, Trp, Alc, Svc}
 use Rattle.lil_mcode.specs.declared.machine.Event.{Event}
 use Rattle.lil_mcode.specs.declared.machine.Event.TheVariants.{Went, Request, LevelEnded, Trap, Limit, BadCode}
+use Rattle.lil_base.specs.Requests.{request_with, takes_array}
+use Rattle.lil_base.specs.declared.request.Request as request
 use Rattle.lil_asm.specs.Requests.{request_words}
 use Rattle.lil_asm.specs.Bytes.{decoded}
 use Rattle.lil_mcode.specs.Control.{above, chosen, loop_type, loop_words, turns, after_first}
@@ -311,8 +313,8 @@ leave_row s =
     else return_row s (slice_index s.store (s.frame + 1)) (slice_index s.store (s.frame + 2)) (slice_index s.store (s.frame + 3))
 
 -- the array of WriteString lies in the store: its address, and above it the number of its last element
-abbrev pub array_lies : ℕ → List ℕ → Bool
-array_lies r (high ∷ address ∷ rest) = if r == 3 then nat_le (address + high) 65535 else true
+abbrev pub array_lies : request.Request → List ℕ → Bool
+array_lies r (high ∷ address ∷ rest) = if takes_array r then nat_le (address + high) 65535 else true
 array_lies r _ = true
 
 -- a block of so many words is taken below the limit, with two more below it; its words become zero, and then its address goes to a place
@@ -323,9 +325,10 @@ take_row q s a n rest =
     else (Went, record s { place = q; stack = rest; limit = s.limit - (n + 2); store = slice_set (cleared s.store (s.limit - n) s.limit) a (s.limit - n) }))
     else bad s
 
-abbrev pub request_row : ℕ → ℕ → State → Option ℕ → Event × State
-request_row r q s None = bad s
-request_row r q s (Some n) = if nat_le n (length s.stack) && array_lies r s.stack then (Request r, going s q s.stack) else bad s
+-- a request; a number that none has is bad code
+abbrev pub request_row : ℕ → State → Option request.Request → Event × State
+request_row q s None = bad s
+request_row q s (Some r) = if nat_le (request_words r) (length s.stack) && array_lies r s.stack then (Request r, going s q s.stack) else bad s
 
 -- the row of an instruction of module m, where q is the place behind it
 abbrev pub act : Instr → ℕ → Module → State → Event × State
@@ -400,7 +403,7 @@ act (Fri o f t) q m s = on_three s s.stack (loop_row m (s.frame + o) f t q s)
 act (Frn o t) q m s = again_row m (s.frame + o) t q s
 act (Trp k) q m s = trap_row s (called_trap k)
 act Alc q m s = on_two s s.stack (take_row q s)
-act (Svc r) q m s = request_row r q s (request_words r)
+act (Svc r) q m s = request_row q s (request_with r)
 -- the other rows of calls, and those of other frames and modules and of coroutines aren't built yet
 act _ q m s = bad s
 

@@ -8,4 +8,4 @@ mod request;
 
 pub use lil_asm::{Instr, decode, encode, encode_entry};
 pub use machine::{CodeAt, Event, Machine};
-pub use request::{WRITE_STRING, words_of_request};
+pub use request::words_of_request;

@@ -8,7 +8,7 @@ ghost use Rattle.lil_mcode.specs.declared.machine.Event.TheVariants as event;
 ghost use Rattle.lil_mcode.specs.Calls.{fresh, counted, with_level, with_module, with_words, with_bodies, code_used, names_of, IsRunning};
 
 use crate::processor::Processor;
-use lil_base::{Bytes, LimitKind, Memory, Name, TrapKind};
+use lil_base::{Bytes, LimitKind, Memory, Name, Request, TrapKind};
 use std::alloc::Global;
 use std::marker::Model;
 
@@ -16,7 +16,7 @@ use std::marker::Model;
 #[derive(Clone, Copy, PartialEq, Eq)]
 pub enum Event {
     Went,
-    Request(u8),
+    Request(Request),
     LevelEnded,
     Trap(TrapKind),
     Limit(LimitKind),

@@ -2,13 +2,13 @@ ghost use Rattle.std.specs.Prelude.{◌≡◌, ◌+◌, ◌<◌, ◌≤◌, leng
 ghost use Rattle.lil_mcode.specs.Calls.{fresh};
 ghost use Rattle.lil_frames.specs.Words.{spliced};
 ghost use Rattle.lil_mcode.specs.Table.{array_lies, request_row};
-ghost use Rattle.lil_asm.specs.Requests.{request_words};
+ghost use Rattle.lil_base.specs.Requests.{request_with};
 
 use crate::arithmetic::{trap_of, truth_word};
 use crate::machine::Event;
-use crate::request::{WRITE_STRING, words_of_request};
+use crate::request::words_of_request;
 use arrayvec::ArrayVec;
-use lil_base::{Bytes, Memory, Name};
+use lil_base::{Bytes, Memory, Name, Request};
 use lil_frames::MainStore;
 use std::alloc::Global;
 use std::marker::Model;
@@ -163,23 +163,24 @@ impl Processor {
     }
 
     fn request(&mut self, number: u8, next: u16) -> Event
-        ensures { request_row number next self.old (request_words number) ≡ (result, self.new) }
+        ensures { request_row next self.old (request_with number) ≡ (result, self.new) }
     {
-        let Some(words) = words_of_request(number) else {
+        let Some(request) = Request::with_number(number) else {
             return Event::BadCode;
         };
-        if self.stack.len() < usize::from(words) || !self.array_lies(number) {
+        let words = words_of_request(request);
+        if self.stack.len() < usize::from(words) || !self.array_lies(request) {
             return Event::BadCode;
         }
         self.place = next;
-        Event::Request(number)
+        Event::Request(request)
     }
 
     /// The array that a request finds on the expression stack lies in the store. Only WriteString has one.
-    fn array_lies(&self, number: u8) -> bool
-        ensures { result ≡ array_lies number self.now.stack }
+    fn array_lies(&self, request: Request) -> bool
+        ensures { result ≡ array_lies request self.now.stack }
     {
-        if number != WRITE_STRING {
+        if !request.takes_array() {
             return true;
         }
         match self.two() {

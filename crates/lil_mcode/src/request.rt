@@ -1,21 +1,22 @@
-//! The requests of SVC.
+//! The words of requests.
 
 ghost use Rattle.std.specs.Prelude.{◌≡◌};
 ghost use Rattle.lil_asm.specs.Requests.{request_words};
 
-/// The number of WriteString.
-pub const WRITE_STRING: u8 = 3;
+use lil_base::Request;
 
 /// How many words of the expression stack a request takes: Write one, WriteLn none, WriteString an array's address
-/// and above it the number of the array's last element, and WriteCard, WriteInt, WriteOct and WriteHex two. None
-/// where the number is no request's.
-pub fn words_of_request(number: u8) -> Option<u8>
-    ensures { result ≡ request_words number }
+/// and above it the number of the array's last element, and WriteCard, WriteInt, WriteOct and WriteHex two.
+pub fn words_of_request(request: Request) -> u8
+    ensures { result ≡ request_words request }
 {
-    match number {
-        2 => Some(1),
-        4 => Some(0),
-        3 | 5 | 6 | 7 | 8 => Some(2),
-        _ => None,
+    match request {
+        Request::WriteLn => 0,
+        Request::Write => 1,
+        Request::WriteString
+        | Request::WriteCard
+        | Request::WriteInt
+        | Request::WriteOct
+        | Request::WriteHex => 2,
     }
 }

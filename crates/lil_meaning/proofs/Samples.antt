@@ -4,6 +4,7 @@ use Rattle.std.specs.Prelude.{Ok, Err, codes}
 use Rattle.lil_base.specs.Words.{Cardinal, Integer}
 use Rattle.lil_base.specs.declared.fault.TrapKind.TheVariants as trap
 use Rattle.lil_base.specs.declared.operator.TwoOp.TheVariants.{Equal, Less, AtLeast, Div, Mod}
+use Rattle.lil_base.specs.declared.request.Request.TheVariants.{Write, WriteCard, WriteInt, WriteOct, WriteHex}
 use Rattle.lil_resolved.specs.Kinds.{Kind, OfWhole, OfTruth, OfCharacter, OfRange}
 use Rattle.lil_resolved.specs.Scalars.{Scalar, Number, Truth, Character, SetOf, ToObject, Nothing, value_with}
 use Rattle.lil_resolved.specs.Resolved.{Designator, Variable, Field, Element, Chr, Val, Expression, Constant, Taken, ByValue, OfArray, OfText, Held, Statement, Assign, Text, Inside, Change, Request, Loop, Halt, Return, For, Statements, Empty, Then, Arms, NoElse, Else, Arm, Resolved, in_order}
@@ -83,7 +84,7 @@ abbrev program : List Statement → Resolved
 program statements = record { name = []; targets = []; names = (99 ∷ []) ∷ []; variables = Word kc ∷ []; procedures = []; body = in_order statements }
 
 abbrev writes_x : Statement
-writes_x = Request 2 (ByValue OfCharacter (Constant OfCharacter (Character 120)) ∷ [])
+writes_x = Request Write (ByValue OfCharacter (Constant OfCharacter (Character 120)) ∷ [])
 
 a_character : (w : World) → (state_of (program (writes_x ∷ [])) w 5).world.screen ≡ w.screen ++ 120 ∷ []
 a_character w = refl
@@ -170,6 +171,6 @@ an_end_behind_closings : (w : World) → (state_of (program []) (busy w) 4).phas
 an_end_behind_closings w = refl
 
 -- ---- pieces: a number with blanks before it, the least INTEGER, the greatest word in octal, and one in hexadecimal
-pieces : piece_of 5 (Single 17 ∷ Single 4 ∷ []) ∷ piece_of 6 (Single 32768 ∷ Single 1 ∷ []) ∷ piece_of 7 (Single 65535 ∷ Single 0 ∷ []) ∷ piece_of 8 (Single 48879 ∷ Single 5 ∷ []) ∷ []
+pieces : piece_of WriteCard (Single 17 ∷ Single 4 ∷ []) ∷ piece_of WriteInt (Single 32768 ∷ Single 1 ∷ []) ∷ piece_of WriteOct (Single 65535 ∷ Single 0 ∷ []) ∷ piece_of WriteHex (Single 48879 ∷ Single 5 ∷ []) ∷ []
     ≡ codes "  17" ∷ codes "-32768" ∷ codes "177777" ∷ codes " BEEF" ∷ []
 pieces = refl

@@ -2,6 +2,7 @@
 use Rattle.std.proofs.Common.{◌≡◌, ℕ, pos, List, [], ◌∷◌, ◌++◌, map, refl}
 use Rattle.lil_base.specs.Words.{Cardinal}
 use Rattle.lil_base.specs.declared.operator.TwoOp.TheVariants.{Plus, Times}
+use Rattle.lil_base.specs.declared.request.Request.TheVariants.{Write}
 use Rattle.lil_resolved.specs.Kinds.{Kind, OfWhole, OfCharacter}
 use Rattle.lil_resolved.specs.Scalars.{Number, Character}
 use Rattle.lil_resolved.specs.Resolved.{Designator, Variable, Chr, Expression, Constant, Taken, Two, Apply, Argument, ByValue, Assign, Request, Resolved, in_order}
@@ -33,7 +34,7 @@ abbrev given : List Argument
 given = ByValue OfCharacter (Apply Chr plus) ∷ []
 
 abbrev tour : Resolved
-tour = record { name = []; targets = []; names = []; variables = Word k ∷ []; procedures = []; body = in_order (Assign c k (n 7) ∷ Request 2 given ∷ []) }
+tour = record { name = []; targets = []; names = []; variables = Word k ∷ []; procedures = []; body = in_order (Assign c k (n 7) ∷ Request Write given ∷ []) }
 
 abbrev at : World → ℕ → Source
 at w i = state_of tour (record w { streams = []; channels = [] }) i
@@ -45,10 +46,10 @@ abbrev end : List Item
 end = Perform (End 0) ∷ []
 
 abbrev rest : List Item
-rest = Perform (Do (Request 2 given)) ∷ end
+rest = Perform (Do (Request Write given)) ∷ end
 
 abbrev pass : List Item
-pass = Fill (Pass 2 OfCharacter [] []) ∷ end
+pass = Fill (Pass Write OfCharacter [] []) ∷ end
 
 abbrev chr : List Item
 chr = Fill (ApplyTo Chr) ∷ pass
@@ -70,7 +71,7 @@ steps : (w : World) → map (left w) (0 ∷ 1 ∷ 2 ∷ 3 ∷ 4 ∷ 5 ∷ 6 ∷ 
     (Evaluate (n 7) ∷ Fill (StoreAt place k) ∷ rest) ∷
     (v 7 ∷ Fill (StoreAt place k) ∷ rest) ∷
     (rest) ∷
-    (Perform (Passing 2 [] given) ∷ end) ∷
+    (Perform (Passing Write [] given) ∷ end) ∷
     (Evaluate (Apply Chr plus) ∷ pass) ∷
     (Evaluate plus ∷ chr) ∷
     (Evaluate times ∷ sum) ∷
@@ -85,7 +86,7 @@ steps : (w : World) → map (left w) (0 ∷ 1 ∷ 2 ∷ 3 ∷ 4 ∷ 5 ∷ 6 ∷ 
     (v 2 ∷ Fill (RightOf Plus k (Number (pos 63))) ∷ chr) ∷
     (v 65 ∷ chr) ∷
     (Value (Scalars (Character 65)) ∷ pass) ∷
-    (Perform (Passing 2 (Scalars (Character 65) ∷ []) []) ∷ end) ∷
+    (Perform (Passing Write (Scalars (Character 65) ∷ []) []) ∷ end) ∷
     (end) ∷
     ([]) ∷
     []

@@ -3,6 +3,7 @@ use Rattle.std.specs.Prelude.{ℕ, ◌+◌, ℤ, Bool, List, [], ◌∷◌, Opti
 use Rattle.lil_base.specs.declared.fault.TrapAt.{TrapAt}
 use Rattle.lil_base.specs.declared.operator.OneOp.{OneOp}
 use Rattle.lil_base.specs.declared.operator.TwoOp.{TwoOp}
+use Rattle.lil_base.specs.declared.request.Request.{Request}
 use Rattle.lil_resolved.specs.Kinds.{Kind}
 use Rattle.lil_resolved.specs.Scalars.{Scalar}
 use Rattle.lil_resolved.specs.Resolved.{Designator, Function, Expression, Argument, Statement, Statements, Empty, Then, Arms}
@@ -76,9 +77,9 @@ pub data Hole : Type 0 where
   -- the number · joins or leaves the set at the place
   MemberAt : (out : Bool) (p : Place) (k : Kind) → Hole
   -- · is the next argument of the request
-  Pass : (r : ℕ) (k : Kind) (done : List Datum) (left : List Argument) → Hole
+  Pass : (r : Request) (k : Kind) (done : List Datum) (left : List Argument) → Hole
   -- the array ·, with this last element, is the next argument of the request
-  PassArray : (r high : ℕ) (done : List Datum) (left : List Argument) → Hole
+  PassArray : (r : Request) (high : ℕ) (done : List Datum) (left : List Argument) → Hole
   -- the first statements where · is TRUE, else the second
   Choose : (a b : Statements) → Hole
   -- the body and the whole WHILE again where · is TRUE
@@ -98,7 +99,7 @@ pub data Hole : Type 0 where
 pub data Task : Type 0 where
   Do : (s : Statement) → Task
   -- the arguments of a request that are done, and those that are left
-  Passing : (r : ℕ) (done : List Datum) (left : List Argument) → Task
+  Passing : (r : Request) (done : List Datum) (left : List Argument) → Task
   -- the condition of a REPEAT, behind its body
   Until : (body : Statements) (c : Expression) → Task
   -- the end of a LOOP's body, which begins again

@@ -11,6 +11,7 @@ use Rattle.lil_base.specs.declared.operator.OneOp.{OneOp}
 use Rattle.lil_base.specs.declared.operator.OneOp.TheVariants as one
 use Rattle.lil_base.specs.declared.operator.TwoOp.{TwoOp}
 use Rattle.lil_base.specs.declared.operator.TwoOp.TheVariants.{Equal, Unequal, Less, AtMost, Greater, AtLeast, In, Plus, Minus, Times, Slash, Div, Mod}
+use Rattle.lil_base.specs.declared.request.Request as request
 use Rattle.lil_resolved.specs.Kinds.{Kind, OfWhole, OfTruth, OfCharacter, OfEnumeration, OfRange, is_set, is_pointer, nat_of, position}
 use Rattle.lil_resolved.specs.Members.{same_members, included, is_in, united, without, shared_members, unshared, from_to}
 use Rattle.lil_resolved.specs.Scalars.{Scalar, Number, Truth, Character, SetOf, ToObject, ToWorkspace, Nothing, same_reference, within, scalar_word, value_with, ordinal_of, truth_number, truth_of, members_of}
@@ -455,7 +456,7 @@ given_of cells (Places p) = Characters []
 given_of cells (Wholes u) = Characters []
 
 -- the next argument of a request
-abbrev pub passed : ℕ → List Datum → List Argument → Argument → List Item → Source → Source
+abbrev pub passed : request.Request → List Datum → List Argument → Argument → List Item → Source → Source
 passed r done left (ByValue kind e) k s = with_items s (Evaluate e ∷ Fill (Pass r kind done left) ∷ k)
 passed r done left (OfArray d high) k s = with_items s (PlaceOf d ∷ Fill (PassArray r high done left) ∷ k)
 passed r done left (OfText cs) k s = with_items s (Perform (Passing r (done ++ Texts cs ∷ []) left) ∷ k)

@@ -4,6 +4,9 @@ use Rattle.std.specs.Ordering.{nat_cmp}
 use Rattle.std.specs.Cmp.Lexicographic.{slice_cmp}
 use Rattle.std.specs.FinMap.{FinMap, insert}
 use Rattle.lil_base.specs.Words.{Integer, number_of}
+use Rattle.lil_base.specs.Requests.{takes_array}
+use Rattle.lil_base.specs.declared.request.Request.{Request}
+use Rattle.lil_base.specs.declared.request.Request.TheVariants.{Write, WriteString, WriteLn, WriteCard, WriteInt, WriteOct, WriteHex}
 
 -- a finite map from names to bytes
 abbrev pub Files : Type 0
@@ -103,17 +106,6 @@ abbrev pub second_word : List Given → ℕ
 second_word [] = 0
 second_word (g ∷ gs) = first_word gs
 
--- The piece that a request with two words shows: Write a character, WriteLn a line end, WriteCard and WriteInt a number in decimal, WriteOct
--- in octal and WriteHex in hexadecimal, each filled to the columns that its second word says.
-abbrev pub shown_by : (r x y : ℕ) → List ℕ
-shown_by r x y =
-    if r == 2 then byte_of (x % 256) ∷ []
-    else (if r == 4 then 10 ∷ []
-    else (if r == 5 then filled y (natural 10 x)
-    else (if r == 6 then filled y (signed (number_of Integer x))
-    else (if r == 7 then filled y (natural 8 x)
-    else (if r == 8 then filled y (natural 16 x) else [])))))
-
 -- the characters of so many words of a store from one on
 abbrev pub characters_at : List ℕ → ℕ → ℕ → List ℕ
 characters_at store a zero = []
@@ -125,8 +117,8 @@ array_at store _ = []
 
 -- what a request is given by its words, in the order of its parameters: WriteString has an array, by its address and the number of its last
 -- element
-abbrev pub given_by : ℕ → List ℕ → List ℕ → List Given
-given_by r store ws = if r == 3 then Characters (array_at store ws) ∷ [] else map Single ws
+abbrev pub given_by : Request → List ℕ → List ℕ → List Given
+given_by r store ws = if takes_array r then Characters (array_at store ws) ∷ [] else map Single ws
 
 -- the characters before the first 0C, or all
 abbrev pub before_end : List ℕ → List ℕ
@@ -142,12 +134,20 @@ abbrev pub first_text : List Given → List ℕ
 first_text [] = []
 first_text (g ∷ gs) = text_in g
 
--- WriteString shows the characters of an array before the first 0C, or all
-abbrev pub piece_of : ℕ → List Given → List ℕ
-piece_of r given = if r == 3 then map byte_of (before_end (first_text given)) else shown_by r (first_word given) (second_word given)
+-- The piece that a request shows: Write a character, WriteString the characters of an array before the first 0C, or all, WriteLn a line end,
+-- WriteCard and WriteInt a number in decimal, WriteOct in octal and WriteHex in hexadecimal, each filled to the columns that its second word
+-- says.
+abbrev pub piece_of : Request → List Given → List ℕ
+piece_of Write given = byte_of (first_word given % 256) ∷ []
+piece_of WriteString given = map byte_of (before_end (first_text given))
+piece_of WriteLn given = 10 ∷ []
+piece_of WriteCard given = filled (second_word given) (natural 10 (first_word given))
+piece_of WriteInt given = filled (second_word given) (signed (number_of Integer (first_word given)))
+piece_of WriteOct given = filled (second_word given) (natural 8 (first_word given))
+piece_of WriteHex given = filled (second_word given) (natural 16 (first_word given))
 
 -- a request of a level: the world behind it, and what it answers. Those that only write answer nothing
-abbrev pub serve : (level r : ℕ) → List Given → World → World × List Given
+abbrev pub serve : (level : ℕ) → Request → List Given → World → World × List Given
 serve level r given w = (record w { screen = w.screen ++ piece_of r given }, [])
 
 -- ---- the end of a level: its streams are closed in the order of their numbers, and then its channels

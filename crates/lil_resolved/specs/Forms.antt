@@ -28,12 +28,12 @@ use Rattle.lil_resolved.specs.declared.resolved.RArm.{RArm}
 use Rattle.lil_resolved.specs.declared.resolved.RBase.{RBase}
 use Rattle.lil_resolved.specs.declared.resolved.RVariable.{RVariable}
 use Rattle.lil_resolved.specs.declared.resolved.RFunction.{RFunction}
-use Rattle.lil_resolved.specs.declared.resolved.RRequest.{RRequest}
+use Rattle.lil_base.specs.declared.request.Request as request
 use Rattle.lil_resolved.specs.declared.resolved.Direction.{Direction}
 use Rattle.lil_resolved.specs.declared.resolved.RArgument.{RArgument}
 use Rattle.lil_resolved.specs.Scalars.{scalar_of}
 use Rattle.lil_resolved.specs.Resolved.{Designator, Field, Element, Follow, Expression, Constant, Taken, Apply, With, WithSpan, Assign, Copy, Text, Change, Member, New, Allocate, Request, If, Case, While, Repeat, Loop, Exit, Halt, Return, For, Inside, Statements, Empty, Then, Arms, Arm, kind_of}
-use Rattle.lil_resolved.specs.Views.{base_view, kind_view, variable_kind, function_of, request_number, is_down, is_out, is_back, argument_of, root_view, one_of, two_of, chained, selected, with_members, empty_set, expression_layer, selector_layer, member_layer, operation_layer, place_layer, expression_of, selector_of, member_of, operation_of, place_of, label_of, statement_layer, arm_layer, guard_layer, statement_of, arm_of, guard_of, statements_of, guards_of, arms_of}
+use Rattle.lil_resolved.specs.Views.{base_view, kind_view, variable_kind, function_of, is_down, is_out, is_back, argument_of, root_view, one_of, two_of, chained, selected, with_members, empty_set, expression_layer, selector_layer, member_layer, operation_layer, place_layer, expression_of, selector_of, member_of, operation_of, place_of, label_of, statement_layer, arm_layer, guard_layer, statement_of, arm_of, guard_of, statements_of, guards_of, arms_of}
 
 -- a layer's value comes from the values of its parts
 rolled_value : (y : RExpr-F RExpr RMember RSelector ROperation RPlace) → expression_of (roll-RExpr y) ≡ expression_layer (map-RExpr RExpr RMember RSelector ROperation RPlace Expression (Kind → Expression → Expression) (Designator → Designator) (Expression → Expression) Designator expression_of member_of selector_of operation_of place_of y)
@@ -120,7 +120,7 @@ new_is p n = ap statement_of (sym (s.rolls-New p n)) ∙ rolled (o.New p n)
 pub allocate_is : (w : Allocation) (p : RPlace) (e : RExpr) → statement_of (s.Allocate w p e) ≡ Then (Allocate (is_back w) (place_of p) (expression_of e)) Empty
 allocate_is w p e = ap statement_of (sym (s.rolls-Allocate w p e)) ∙ rolled (o.Allocate w p e)
 
-pub request_is : (r : RRequest) (given : List RArgument) → statement_of (s.Request r given) ≡ Then (Request (request_number r) (map argument_of given)) Empty
+pub request_is : (r : request.Request) (given : List RArgument) → statement_of (s.Request r given) ≡ Then (Request r (map argument_of given)) Empty
 request_is r given = ap statement_of (sym (s.rolls-Request r given)) ∙ rolled (o.Request r given)
 
 pub if_is : (gs : List RGuard) (other : List RStmt) → statement_of (s.If gs other) ≡ guards_of gs other

@@ -4,6 +4,7 @@ use Rattle.lil_base.specs.Words.{Whole, Cardinal}
 use Rattle.lil_base.specs.declared.operator.OneOp.{OneOp}
 use Rattle.lil_base.specs.declared.operator.TwoOp.{TwoOp}
 use Rattle.lil_base.specs.declared.operator.TwoOp.TheVariants.{Equal, Unequal, Less, AtMost, Greater, AtLeast, In, Plus, Minus, Or, Times, Slash, Div, Mod, And}
+use Rattle.lil_base.specs.declared.request.Request as request
 use Rattle.lil_resolved.specs.Kinds.{Kind, OfWhole, OfTruth, OfCharacter, OfSet, base_of, compared_as}
 use Rattle.lil_resolved.specs.Scalars.{Scalar}
 use Rattle.lil_resolved.specs.Shapes.{Shape, Scope, part_at, shape_at, element_of}
@@ -78,7 +79,7 @@ mutual
     -- ALLOCATE(d, e) has the address at d lead to a new workspace of e words, DEALLOCATE(d, e) makes it NIL
     Allocate : (back : Bool) (d : Designator) (e : Expression) → Statement
     -- a call of the resident procedure with this request
-    Request : (r : ℕ) (given : List Argument) → Statement
+    Request : (r : request.Request) (given : List Argument) → Statement
     If : (c : Expression) (a b : Statements) → Statement
     Case : (e : Expression) (arms : Arms) → Statement
     While : (c : Expression) (body : Statements) → Statement

@@ -1,11 +1,13 @@
 -- Sound resolved modules: places have the kinds that their uses say, indexes choose from all elements, operands have their operator's kind, and constants fit theirs.
-use Rattle.std.specs.Prelude.{◌≡◌, ◌≢◌, ℕ, suc, ◌≤◌, ◌==◌, nat_le, length, ℤ, pos, negsuc, ◌≤ℤ◌, Bool, true, false, ◌&&◌, ◌||◌, List, [], ◌∷◌, map, Option, Some, None, slice_get, if◌then◌else◌}
+use Rattle.std.specs.Prelude.{◌≡◌, ◌≢◌, ℕ, suc, ◌≤◌, nat_le, length, ℤ, pos, negsuc, ◌≤ℤ◌, Bool, true, false, ◌&&◌, ◌||◌, List, [], ◌∷◌, map, Some, slice_get}
 use Rattle.std.specs.List.{list_all}
 use Rattle.lil_base.specs.Words.{Cardinal, Integer}
 use Rattle.lil_base.specs.declared.operator.OneOp.{OneOp}
 use Rattle.lil_base.specs.declared.operator.OneOp.TheVariants as one
 use Rattle.lil_base.specs.declared.operator.TwoOp.{TwoOp}
 use Rattle.lil_base.specs.declared.operator.TwoOp.TheVariants.{Equal, Unequal, Less, AtMost, Greater, AtLeast, In, Plus, Minus, Or, Times, Slash, Div, Mod, And}
+use Rattle.lil_base.specs.declared.request.Request as request
+use Rattle.lil_base.specs.declared.request.Request.TheVariants as r
 pub use Rattle.lil_resolved.specs.Kinds.{is_base, is_ordinal, is_set, is_whole, is_plain, is_element, alike, takes_value, stores_value}
 use Rattle.lil_resolved.specs.Kinds.{Objects, Workspaces, Kind, OfWhole, OfTruth, OfCharacter, OfSet, OfPointer, base_of, numbers}
 use Rattle.lil_resolved.specs.Scalars.{within, is_literal, scalar_of, ordinal_of}
@@ -173,13 +175,14 @@ pub data Parameter : Type 0 where
   Characters : Parameter
 
 -- the parameters of a request
-abbrev pub request_parameters : ℕ → Option (List Parameter)
-request_parameters r =
-    if r == 2 then Some (Single OfCharacter ∷ [])
-    else (if r == 3 then Some (Characters ∷ [])
-    else (if r == 4 then Some []
-    else (if r == 6 then Some (Single (OfWhole Integer) ∷ Single (OfWhole Cardinal) ∷ [])
-    else (if r == 5 || r == 7 || r == 8 then Some (Single (OfWhole Cardinal) ∷ Single (OfWhole Cardinal) ∷ []) else None))))
+abbrev pub request_parameters : request.Request → List Parameter
+request_parameters r.Write = Single OfCharacter ∷ []
+request_parameters r.WriteString = Characters ∷ []
+request_parameters r.WriteLn = []
+request_parameters r.WriteCard = Single (OfWhole Cardinal) ∷ Single (OfWhole Cardinal) ∷ []
+request_parameters r.WriteInt = Single (OfWhole Integer) ∷ Single (OfWhole Cardinal) ∷ []
+request_parameters r.WriteOct = Single (OfWhole Cardinal) ∷ Single (OfWhole Cardinal) ∷ []
+request_parameters r.WriteHex = Single (OfWhole Cardinal) ∷ Single (OfWhole Cardinal) ∷ []
 
 abbrev pub IsSoundArgument : Scope → Argument → Type 0
 IsSoundArgument ts (ByValue k e) = IsSoundValue ts e k
@@ -205,7 +208,7 @@ abbrev mutual
   IsSoundStatement ts looping (Member out d k e) = IsSoundTarget ts d OfSet × (is_element k ≡ true) × IsSoundValue ts e k
   IsSoundStatement ts looping (New d n) = IsSoundNew ts d n
   IsSoundStatement ts looping (Allocate back d e) = IsSoundTarget ts d (OfPointer Workspaces) × IsSoundValue ts e (OfWhole Cardinal)
-  IsSoundStatement ts looping (Request r given) = (request_parameters r ≡ Some (map parameter_of given)) × AreSoundArguments ts given
+  IsSoundStatement ts looping (Request r given) = (request_parameters r ≡ map parameter_of given) × AreSoundArguments ts given
   IsSoundStatement ts looping (If c a b) = IsSoundWhole ts c OfTruth × IsSoundBody ts looping a × IsSoundBody ts looping b
   IsSoundStatement ts looping (Case e arms) = (is_ordinal (kind_of e) ≡ true) × IsSoundWhole ts e (kind_of e) × AreSoundArms ts looping (kind_of e) arms
   IsSoundStatement ts looping (While c body) = IsSoundWhole ts c OfTruth × IsSoundBody ts looping body

@@ -16,8 +16,6 @@ use Rattle.lil_resolved.specs.declared.resolved.RKind.{RKind}
 use Rattle.lil_resolved.specs.declared.resolved.RVariable.{RVariable}
 use Rattle.lil_resolved.specs.declared.resolved.RFunction.{RFunction}
 use Rattle.lil_resolved.specs.declared.resolved.RFunction.TheVariants as f
-use Rattle.lil_resolved.specs.declared.resolved.RRequest.{RRequest}
-use Rattle.lil_resolved.specs.declared.resolved.RRequest.TheVariants as q
 use Rattle.lil_resolved.specs.declared.resolved.Direction.{Direction}
 use Rattle.lil_resolved.specs.declared.resolved.Direction.TheVariants as d
 use Rattle.lil_resolved.specs.declared.resolved.Membership.{Membership}
@@ -79,15 +77,6 @@ function_of f.Chr k = Chr
 function_of f.Odd k = Odd
 function_of f.Ord k = Ord
 function_of (f.Val j) k = Val (kind_view j)
-
-abbrev pub request_number : RRequest → ℕ
-request_number q.Write = 2
-request_number q.WriteString = 3
-request_number q.WriteLn = 4
-request_number q.WriteCard = 5
-request_number q.WriteInt = 6
-request_number q.WriteOct = 7
-request_number q.WriteHex = 8
 
 -- whether the number leaves
 abbrev pub is_out : Membership → Bool
@@ -227,7 +216,7 @@ statement_layer (o.Change way p k e) = Then (Change (is_down way) (place_of p) (
 statement_layer (o.Member m d k e) = Then (Member (is_out m) (place_of d) (kind_view k) (expression_of e)) Empty
 statement_layer (o.New p n) = Then (New (place_of p) n) Empty
 statement_layer (o.Allocate w p e) = Then (Allocate (is_back w) (place_of p) (expression_of e)) Empty
-statement_layer (o.Request r given) = Then (Request (request_number r) (map argument_of given)) Empty
+statement_layer (o.Request r given) = Then (Request r (map argument_of given)) Empty
 statement_layer (o.If gs ss) = guarded gs (all_of ss)
 statement_layer (o.Case e cases other) = Then (Case (expression_of e) (armed cases (otherwise_of other))) Empty
 statement_layer (o.While e ss) = Then (While (expression_of e) (all_of ss)) Empty

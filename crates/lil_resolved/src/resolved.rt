@@ -6,7 +6,7 @@ ghost use Rattle.lil_resolved.specs.Resolved.{kind_of, function_kind};
 ghost use Rattle.lil_resolved.specs.Views.{base_view, function_of, expression_of, place_of};
 
 use crate::{OneOp, RShape, TwoOp};
-use lil_base::{Boxed, Items, Name, Text};
+use lil_base::{Boxed, Items, Name, Request, Text};
 
 /// What values are: numbers of a type of whole numbers, truth values, characters, the constants of an enumeration with so
 /// many of them, sets of numbers from 0 to 15, pointers of the type with this number, or addresses of workspaces.
@@ -52,18 +52,6 @@ pub enum RFunction {
     Odd,
     Ord,
     Val(RKind),
-}
-
-/// A procedure of a resident module that only writes (Medos-2, Terminal and InOut).
-#[derive(Clone, Copy, PartialEq, Eq)]
-pub enum RRequest {
-    Write,
-    WriteString,
-    WriteLn,
-    WriteCard,
-    WriteInt,
-    WriteOct,
-    WriteHex,
 }
 
 /// Whether a variable's number grows, by INC, or falls, by DEC.
@@ -168,7 +156,7 @@ pub enum RStmt {
     Member(Membership, RPlace, RKind, RExpr),
     New(RPlace, usize),
     Allocate(Allocation, RPlace, RExpr),
-    Request(RRequest, Items<RArgument>),
+    Request(Request, Items<RArgument>),
     If(Items<RGuard>, Items<RStmt>),
     Case(RExpr, Items<RArm>, Option<Items<RStmt>>),
     While(RExpr, Items<RStmt>),

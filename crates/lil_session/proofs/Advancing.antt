@@ -1,5 +1,5 @@
 -- One step of a run, as it is shown.
-use Rattle.std.proofs.Common.{◌≡◌, ℕ, Option, Some, List, [], refl, sym, ap, ◌∙◌, subst}
+use Rattle.std.proofs.Common.{◌≡◌, ℕ, Option, List, [], refl, sym, ap, ◌∙◌, subst}
 use Rattle.std.proofs.lemmas.List.{append-nil}
 use Rattle.lil_meaning.specs.World.{World, serve, piece_of, all_closed}
 use Rattle.lil_meaning.specs.Closings.{all_screen}
@@ -9,9 +9,10 @@ use Rattle.lil_mcode.specs.declared.machine.Event.{Event}
 use Rattle.lil_mcode.specs.declared.machine.Event.TheVariants.{Request}
 use Rattle.lil_mcode.specs.State.{State}
 use Rattle.lil_mcode.specs.Table.{mstep}
+use Rattle.lil_base.specs.declared.request.Request as request
 use Rattle.lil_asm.specs.Requests.{request_words}
 use Rattle.lil_session.specs.Running.{IsStep, IsRefused}
-use Rattle.lil_match.specs.Running.{Finish, Running, Run, running, react, requested, words_taken, arguments, taken, level_of, left}
+use Rattle.lil_match.specs.Running.{Finish, Running, Run, running, react, arguments, taken, level_of, left}
 use Rattle.lil_match.specs.Steps.{advances}
 
 -- a step that shows nothing
@@ -35,29 +36,28 @@ step_left s t e f old step reacts w = record {
 }
 
 -- a step whose request was served
-pub step_writes : (s t t' : State) (q n : ℕ) (old new : Option (List ℕ)) → mstep s ≡ (Request q, t) → request_words q ≡ Some n → t' ≡ taken n t
-    → new ≡ followed_by old (piece_of q (arguments q n t)) → (w : World) → IsStep s t' Running old new w
-step_writes s t t' q n old new step has is shown w =
-    let at : Option ℕ → Run = λ o. requested q (words_taken o) t (running s w) in
-    let v : World = (serve (level_of t) q (arguments q n t) w).0 in
+pub step_writes : (s t t' : State) (q : request.Request) (old new : Option (List ℕ)) → mstep s ≡ (Request q, t) → t' ≡ taken (request_words q) t
+    → new ≡ followed_by old (piece_of q (arguments q t)) → (w : World) → IsStep s t' Running old new w
+step_writes s t t' q old new step is shown w =
+    let v : World = (serve (level_of t) q (arguments q t) w).0 in
     let after : State → Run = λ x. record { machine = x; world = v; finish = Running } in
     record {
       world = v;
-      run = advances s w (Request q, t) step ∙ ap at has ∙ ap after (sym is);
-      piece = piece_of q (arguments q n t);
+      run = advances s w (Request q, t) step ∙ ap after (sym is);
+      piece = piece_of q (arguments q t);
       adds = refl;
       shown = shown;
     }
 
 -- a step whose piece was refused
-pub step_refused : (s t : State) (q n : ℕ) (old new : Option (List ℕ)) → mstep s ≡ (Request q, t) → request_words q ≡ Some n
-    → FollowedByPrefix old (piece_of q (arguments q n t)) new → IsRefused s old new
-step_refused s t q n old new step has prefix = record {
-  number = q;
+pub step_refused : (s t : State) (q : request.Request) (old new : Option (List ℕ)) → mstep s ≡ (Request q, t)
+    → FollowedByPrefix old (piece_of q (arguments q t)) new → IsRefused s old new
+step_refused s t q old new step prefix = record {
+  request = q;
   asked = t;
   step = step;
-  piece = piece_of q (arguments q n t);
-  its = ap (λ (o : Option ℕ). piece_of q (arguments q (words_taken o) t)) (sym has);
+  piece = piece_of q (arguments q t);
+  its = refl;
   prefix = prefix;
 }
 

@@ -4,12 +4,11 @@ use Rattle.std.proofs.lemmas.Bool.{cases_lt}
 use Rattle.std.proofs.lemmas.List.{append-nil, append_cancel_left}
 use Rattle.lil_meaning.specs.World.{piece_of}
 use Rattle.lil_meaning.specs.Closings.{all_screen}
-use Rattle.lil_asm.specs.Requests.{request_words}
 use Rattle.lil_mcode.specs.declared.machine.Event.{Event}
 use Rattle.lil_mcode.specs.declared.machine.Event.TheVariants.{Went, Request, LevelEnded, Trap}
 use Rattle.lil_mcode.specs.State.{State}
 use Rattle.lil_mcode.specs.Table.{mstep}
-use Rattle.lil_match.specs.Running.{Finish, Running, Finished, Run, react, unless_over, advanced, mrun, words_taken, arguments, level_of}
+use Rattle.lil_match.specs.Running.{Finish, Running, Finished, Run, react, unless_over, advanced, mrun, arguments, level_of}
 use Rattle.lil_laws.specs.Whole.{mrun_add, run_rests, run_over}
 
 -- what is shown later is what was shown before, and more
@@ -17,7 +16,7 @@ abbrev Grown : List ℕ → List ℕ → Type 0
 Grown old new = (more : List ℕ) × (new ≡ old ++ more)
 
 react_grown : (e : Event) (s : State) (run : Run) → Grown run.world.screen (react e s run).world.screen
-react_grown (Request r) s run = (piece_of r (arguments r (words_taken (request_words r)) s), refl)
+react_grown (Request r) s run = (piece_of r (arguments r s), refl)
 react_grown Went s run = ([], sym (append-nil run.world.screen))
 react_grown LevelEnded s run = ([], all_screen (level_of s) run.world ∙ sym (append-nil run.world.screen))
 react_grown (Trap k) s run = ([], all_screen (level_of s) run.world ∙ sym (append-nil run.world.screen))

@@ -3,10 +3,10 @@ use Rattle.std.specs.Prelude.{◌≡◌, ℕ, suc, ◌≤◌, List, ◌++◌, Op
 use Rattle.lil_mcode.specs.declared.machine.Event.TheVariants.{Request}
 use Rattle.lil_mcode.specs.State.{State}
 use Rattle.lil_mcode.specs.Table.{mstep}
-use Rattle.lil_asm.specs.Requests.{request_words}
+use Rattle.lil_base.specs.declared.request.Request as requests
 use Rattle.lil_meaning.specs.World.{World, piece_of}
 use Rattle.lil_volume.specs.Told.{followed_by, FollowedByPrefix}
-use Rattle.lil_match.specs.Running.{Finish, Running, Finished, TrappedBy, Limited, Broken, words_taken, arguments, advanced, mrun, running}
+use Rattle.lil_match.specs.Running.{Finish, Running, Finished, TrappedBy, Limited, Broken, arguments, advanced, mrun, running}
 use Rattle.lil_session.specs.declared.run.Ending.{Ending}
 use Rattle.lil_session.specs.declared.run.Ending.TheVariants as ending
 
@@ -32,11 +32,11 @@ pub record IsStep (s t : State) (f : Finish) (old new : Option (List ℕ)) (w : 
 
 -- The step at hand is a request, and the screen refused the piece that it adds: a prefix of it was shown.
 pub record IsRefused (s : State) (old new : Option (List ℕ)) : Type 0 where
-  pub number : ℕ
+  pub request : requests.Request
   pub asked : State
-  pub step : mstep s ≡ (Request number, asked)
+  pub step : mstep s ≡ (Request request, asked)
   pub piece : List ℕ
-  pub its : piece ≡ piece_of number (arguments number (words_taken (request_words number)) asked)
+  pub its : piece ≡ piece_of request (arguments request asked)
   pub prefix : FollowedByPrefix old piece new
 
 -- at most so many steps, from s to t: what they add to the screen was shown

@@ -49,8 +49,8 @@ fn answered<S: Sink>(
 {
     match event {
         Event::Went => Ok(None),
-        Event::Request(number) => {
-            serve(number, machine, screen)?;
+        Event::Request(request) => {
+            serve(request, machine, screen)?;
             Ok(None)
         }
         Event::LevelEnded => Ok(Some(Ending::Done)),

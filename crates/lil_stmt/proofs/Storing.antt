@@ -3,12 +3,13 @@ use Rattle.std.proofs.Common.{◌≡◌, ℕ, ◌+◌, ◌<◌, ◌≤◌, Bool,
 use Rattle.std.specs.Option.{option_map}
 use Rattle.std.proofs.lemmas.List.{drop_all}
 use Rattle.lil_resolved.specs.declared.resolved.RArgument.{RArgument}
-use Rattle.lil_resolved.specs.declared.resolved.RRequest.{RRequest}
-use Rattle.lil_resolved.specs.declared.resolved.RRequest.TheVariants as q
+use Rattle.lil_base.specs.Requests.{request_number}
+use Rattle.lil_base.specs.declared.request.Request as request
+use Rattle.lil_base.specs.declared.request.Request.TheVariants as q
 use Rattle.lil_resolved.specs.Kinds.{Kind, same_pointer}
 use Rattle.lil_resolved.specs.Shapes.{Scope}
 use Rattle.lil_resolved.specs.Resolved.{Expression, Argument, ByValue, OfArray, OfText, Request, Exit, kind_of}
-use Rattle.lil_resolved.specs.Views.{request_number, argument_of}
+use Rattle.lil_resolved.specs.Views.{argument_of}
 use Rattle.lil_resolved.specs.Sound.{IsSoundWhole, IsSoundValue, IsSoundStored, Parameter, Single, Characters, parameter_of, request_parameters}
 use Rattle.lil_resolved.specs.Strings.{arguments_strings}
 use Rattle.lil_asm.specs.declared.instr.Instr.TheVariants.{Jmp, Svc}
@@ -78,30 +79,27 @@ parameters_long (OfArray d high ∷ given) = omega (arith, parameters_long given
 parameters_long (OfText cs ∷ given) = omega (arith, parameters_long given)
 
 -- a request takes as many words as its parameters are
-request_known : (r : RRequest) (given : List Argument) → request_parameters (request_number r) ≡ Some (map parameter_of given) → (request_words (request_number r) ≡ Some (arguments_words given)) × (arguments_words given ≤ 4)
-request_known r given known = by r known
+request_known : (r : request.Request) (given : List Argument) → request_parameters r ≡ map parameter_of given → (request_words r ≡ arguments_words given) × (arguments_words given ≤ 4)
+request_known r given known =
+    let words = by r in
+    let long : request_words r ≡ arguments_words given = sym words.0 ∙ ap all_parameters known ∙ parameters_long given in
+    (long, omega (arith, long, words.1))
   where
-    fits : (ps : List Parameter) (n : ℕ) → Some ps ≡ Some (map parameter_of given) → all_parameters ps ≡ n → n ≤ 4 → (Some n ≡ Some (arguments_words given)) × (arguments_words given ≤ 4)
-    fits ps n e m low =
-        let same : ps ≡ map parameter_of given = cc in
-        let long : n ≡ arguments_words given = sym m ∙ ap all_parameters same ∙ parameters_long given in
-        (ap Some long, omega (arith, long, low))
+    by : (r : request.Request) → (all_parameters (request_parameters r) ≡ request_words r) × (request_words r ≤ 4)
+    by q.Write = (refl, omega arith)
+    by q.WriteString = (refl, omega arith)
+    by q.WriteLn = (refl, omega arith)
+    by q.WriteCard = (refl, omega arith)
+    by q.WriteInt = (refl, omega arith)
+    by q.WriteOct = (refl, omega arith)
+    by q.WriteHex = (refl, omega arith)
 
-    by : (r : RRequest) → request_parameters (request_number r) ≡ Some (map parameter_of given) → (request_words (request_number r) ≡ Some (arguments_words given)) × (arguments_words given ≤ 4)
-    by q.Write e = fits _ 1 e refl (omega arith)
-    by q.WriteString e = fits _ 2 e refl (omega arith)
-    by q.WriteLn e = fits _ 0 e refl (omega arith)
-    by q.WriteCard e = fits _ 2 e refl (omega arith)
-    by q.WriteInt e = fits _ 2 e refl (omega arith)
-    by q.WriteOct e = fits _ 2 e refl (omega arith)
-    by q.WriteHex e = fits _ 2 e refl (omega arith)
-
-pub request_emitted : (r : RRequest) (number : ℕ) (given : List Argument) (n : ℕ) (exit : Option ℕ) (a b c : Draft) → number ≡ request_number r → Adds (arguments_strings given) a b (Passed 0 given) → Emits b c (Doing (λ w. Svc number))
-    → Adds (arguments_strings given) a c (Stated n exit (Request (request_number r) given))
+pub request_emitted : (r : request.Request) (number : ℕ) (given : List Argument) (n : ℕ) (exit : Option ℕ) (a b c : Draft) → number ≡ request_number r → Adds (arguments_strings given) a b (Passed 0 given) → Emits b c (Doing (λ w. Svc number))
+    → Adds (arguments_strings given) a c (Stated n exit (Request r given))
 request_emitted r number given n exit a b c is arguments by =
     let called = subst (λ (number : ℕ). Emits b c (Doing (λ w. Svc number))) is by in
     adds_as a c _ (append-nil (arguments_strings given))
-    (emits_as a c _ (Stated n exit (Request (request_number r) given))
+    (emits_as a c _ (Stated n exit (Request r given))
     (λ x t sound room. let known = request_known r given sound.0 in record { middle = length b.bytes; takes = sound.0; words = known.0; arguments = t.0 sound.1 (omega (arith, known.1)); by = t.1 })
     (emits_then a b c _ _ arguments called))
 

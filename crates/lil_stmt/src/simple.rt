@@ -3,7 +3,7 @@
 ghost use Rattle.std.specs.Prelude.{◌≡◌, ℕ, Option, map, OnOk};
 ghost use Rattle.lil_resolved.specs.Resolved as resolved;
 ghost use Rattle.lil_resolved.specs.Resolved.{Assign, Copy, Change, Member, New, Allocate, Exit};
-ghost use Rattle.lil_resolved.specs.Views.{kind_view, place_of, is_down, is_out, is_back, request_number, argument_of, expression_of};
+ghost use Rattle.lil_resolved.specs.Views.{kind_view, place_of, is_down, is_out, is_back, argument_of, expression_of};
 ghost use Rattle.lil_resolved.specs.Strings.{words_of, argument_strings, arguments_strings};
 ghost use Rattle.lil_asm.specs.Bytes.{Sayable};
 ghost use Rattle.lil_table.specs.Rows.{member_code, allocate_code};
@@ -14,11 +14,11 @@ use crate::kinds::{change_instr, counted_base};
 use crate::statements::Around;
 use crate::targets::{emit_address_of, emit_again, emit_store, emit_target, emit_under};
 use lil_asm::Instr;
-use lil_base::{Memory, Text};
+use lil_base::{Memory, Request, Text};
 use lil_expr::{emit_expression, emit_test};
 use lil_labels::{Aim, CodeBuffer};
 use lil_resolved::{
-    Allocation, Direction, Membership, RArgument, RBase, RExpr, RKind, RPlace, RRequest, base,
+    Allocation, Direction, Membership, RArgument, RBase, RExpr, RKind, RPlace, base,
 };
 
 /// Appends the code of a value that is to be stored where one of a kind is wanted, and its test.
@@ -168,13 +168,13 @@ fn emit_allocation(code: &mut CodeBuffer<'_>, allocation: Allocation) -> Result<
 /// Appends the code of a call of a resident procedure: the arguments, each with its test, and the request.
 pub(crate) fn emit_request(
     code: &mut CodeBuffer<'_>,
-    request: RRequest,
+    request: Request,
     given: &[RArgument],
 ) -> Result<(), Memory>
-    ensures { OnOk result ((n : ℕ) (exit : Option ℕ) → Adds (arguments_strings (map argument_of given.now)) code.old code.new (Stated n exit (resolved.Request (request_number request) (map argument_of given.now)))) }
+    ensures { OnOk result ((n : ℕ) (exit : Option ℕ) → Adds (arguments_strings (map argument_of given.now)) code.old code.new (Stated n exit (resolved.Request request (map argument_of given.now)))) }
 {
     emit_arguments(code, given)?;
-    code.put(Instr::Svc(request_code(request)))
+    code.put(Instr::Svc(request.number()))
 }
 
 /// Appends the code of arguments, each with its test.
@@ -203,21 +203,6 @@ fn emit_argument(code: &mut CodeBuffer<'_>, argument: &RArgument) -> Result<(), 
             let high = text.len().saturating_sub(1) as u16;
             code.put_all(&[Instr::Lag(offset), Instr::Liw(high)])
         }
-    }
-}
-
-/// The number of a request.
-fn request_code(request: RRequest) -> u8
-    ensures { result ≡ request_number request }
-{
-    match request {
-        RRequest::Write => 2,
-        RRequest::WriteString => 3,
-        RRequest::WriteLn => 4,
-        RRequest::WriteCard => 5,
-        RRequest::WriteInt => 6,
-        RRequest::WriteOct => 7,
-        RRequest::WriteHex => 8,
     }
 }
 

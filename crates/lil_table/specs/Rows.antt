@@ -6,6 +6,8 @@ use Rattle.lil_base.specs.declared.operator.OneOp.{OneOp}
 use Rattle.lil_base.specs.declared.operator.OneOp.TheVariants as one
 use Rattle.lil_base.specs.declared.operator.TwoOp.{TwoOp}
 use Rattle.lil_base.specs.declared.operator.TwoOp.TheVariants.{Equal, Unequal, Less, AtMost, Greater, AtLeast, In, Plus, Minus, Times, Slash, Div, Mod}
+use Rattle.lil_base.specs.declared.request.Request as request
+use Rattle.lil_base.specs.Requests.{request_number}
 use Rattle.lil_resolved.specs.Kinds.{Objects, Workspaces, Kind, OfWhole, OfTruth, OfCharacter, OfSet, OfPointer, base_of, is_base, is_ordinal, is_set, is_plain, is_element, takes_value, stores_value, compared_as, covers, shared, outside_turns, least, numbers}
 use Rattle.lil_resolved.specs.Scalars.{Scalar, is_literal, scalar_word}
 use Rattle.lil_resolved.specs.Shapes.{Shape, Word, Row, Scope, outermost, with_held, words, is_there, part_at, offset, all_words, offsets_from, shape_at, element_of}
@@ -560,12 +562,12 @@ abbrev pub ArgumentsAt : Layout → List ℕ → ℕ → List Argument → Span
 ArgumentsAt l code n [] p q = p ≡ q
 ArgumentsAt l code n (a ∷ given) p q = ArgumentRow (ArgumentAt l code n a) (ArgumentsAt l code (argument_words a + n) given) p q
 
-pub record RequestRow (l : Layout) (code : List ℕ) (r : ℕ) (given : List Argument) (p q : ℕ) : Type 0 where
+pub record RequestRow (l : Layout) (code : List ℕ) (r : request.Request) (given : List Argument) (p q : ℕ) : Type 0 where
   pub middle : ℕ
-  pub takes : request_parameters r ≡ Some (map parameter_of given)
-  pub words : request_words r ≡ Some (arguments_words given)
+  pub takes : request_parameters r ≡ map parameter_of given
+  pub words : request_words r ≡ arguments_words given
   pub arguments : ArgumentsAt l code 0 given p middle
-  pub by : IsAt code middle (Svc r) q
+  pub by : IsAt code middle (Svc (request_number r)) q
 
 -- the condition, a jump to the second part where it is FALSE, the first part, and a jump over the second
 pub record IfRow (l : Layout) (code : List ℕ) (c : Expression) (first second : Span) (p q : ℕ) : Type 0 where

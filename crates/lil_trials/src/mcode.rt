@@ -1,4 +1,4 @@
-use lil_base::{Bytes, Memory, Name, TrapKind};
+use lil_base::{Bytes, Memory, Name, Request, TrapKind};
 use lil_kernel::serve;
 use lil_mcode::{Event, Machine};
 use lil_volume::RamSink;
@@ -29,7 +29,7 @@ fn runs_many(rt: HostRuntime) {
     assert!(rt; event == Event::Went && done == 4);
     assert!(rt; machine.steps() == 4 && machine.place().place == 9);
     let (event, done) = machine.run(100);
-    assert!(rt; event == Event::Request(2) && done == 3);
+    assert!(rt; event == Event::Request(Request::Write) && done == 3);
     assert!(rt; machine.steps() == 7 && machine.place().place == 16);
     let (event, done) = machine.run(1);
     assert!(rt; event == Event::LevelEnded && done == 1);
@@ -79,7 +79,7 @@ const PASSES: [u8; 32] = [
 #[test]
 fn tests_arrays(rt: HostRuntime) {
     let (machine, event) = third(rt.alloc(), &LAST_WORD).expect(&rt, "memory");
-    assert!(rt; event == Event::Request(3) && machine.place().place == 6);
+    assert!(rt; event == Event::Request(Request::WriteString) && machine.place().place == 6);
     let (_, event) = third(rt.alloc(), &PASSES).expect(&rt, "memory");
     assert!(rt; event == Event::BadCode);
 }
@@ -104,8 +104,8 @@ fn shown(alloc: Global, words: &[u16; 2]) -> Result<RamSink, Memory> {
     let mut screen = RamSink::new(alloc, Bytes::new(alloc), Vec::new(alloc))?;
     machine.set_words(1, words);
     let (event, _) = machine.run(100);
-    if let Event::Request(number) = event {
-        serve(number, &mut machine, &mut screen).map_err(|_| Memory)?;
+    if let Event::Request(request) = event {
+        serve(request, &mut machine, &mut screen).map_err(|_| Memory)?;
     }
     Ok(screen)
 }

@@ -10,7 +10,7 @@ use Rattle.lil_session.proofs.run.answered.Goals as goal
 pub serve-requires : goal.serve-requires
 serve-requires g c =
     let t = c.args.machine.now.state in
-    request_has c.requires.0 t c.in-Request.number (as_event c.requires.0 t c.args.event (Request c.in-Request.number) c.requires.1 c.in-Request.is)
+    request_has c.requires.0 t c.in-Request.request (as_event c.requires.0 t c.args.event (Request c.in-Request.request) c.requires.1 c.in-Request.is)
 
 pub returns-in-Went-clause-step : goal.returns-in-Went-clause-step
 returns-in-Went-clause-step g c = λ u h.
@@ -40,19 +40,17 @@ returns-in-BadCode-clause-step g c = λ u h.
 pub returns-in_ok-serve-in-Request-clause-step : goal.returns-in_ok-serve-in-Request-clause-step
 returns-in_ok-serve-in-Request-clause-step g c = λ u h.
     let t = c.args.machine.now.state in
-    let q = c.in-Request.number in
+    let q = c.in-Request.request in
     let step = as_event u t c.args.event (Request q) h c.in-Request.is in
-    let words = c.serve.ensures.machine in
-    step_writes u t c.serve.new.machine.state q words.0 (g.S.Sink.written c.args.screen.now) (g.S.Sink.written c.serve.new.screen) step words.1
-    (ap (λ (m : Machine). m.state) words.2) (c.in_ok-serve-in-Request.ensures.ok words.0 words.1)
+    step_writes u t c.serve.new.machine.state q (g.S.Sink.written c.args.screen.now) (g.S.Sink.written c.serve.new.screen) step
+    (ap (λ (m : Machine). m.state) c.serve.ensures.machine) c.in_ok-serve-in-Request.ensures.ok
 
 pub returns-in_err-serve-in-Request-clause-refused : goal.returns-in_err-serve-in-Request-clause-refused
 returns-in_err-serve-in-Request-clause-refused g c =
     on_err c.from_residual.result
     (λ u h.
     let t = c.args.machine.now.state in
-    let q = c.in-Request.number in
+    let q = c.in-Request.request in
     let step = as_event u t c.args.event (Request q) h c.in-Request.is in
-    let words = c.serve.ensures.machine in
-    step_refused u t q words.0 (g.S.Sink.written c.args.screen.now) (g.S.Sink.written c.serve.new.screen) step words.1
-    (c.in_err-serve-in-Request.ensures.err words.0 words.1))
+    step_refused u t q (g.S.Sink.written c.args.screen.now) (g.S.Sink.written c.serve.new.screen) step
+    c.in_err-serve-in-Request.ensures.err)

@@ -7,4 +7,4 @@ use Rattle.lil_stmt.proofs.simple.emit_request.Goals as goal
 pub returns : goal.returns
 returns c =
     with_ok c.put.result
-    (λ h n exit. request_emitted c.args.request c.request_code.result (map argument_of c.args.given.now) n exit _ _ _ c.request_code.ensures c.in_ok-emit_arguments.ensures h) c.put.ensures
+    (λ h n exit. request_emitted c.args.request c.number.result (map argument_of c.args.given.now) n exit _ _ _ c.number.ensures c.in_ok-emit_arguments.ensures h) c.put.ensures

@@ -2,7 +2,7 @@ use Rattle.std.proofs.Common.{ℕ, List, map, Option, ap, ◌∙◌, subst, OnOk
 use Rattle.lil_resolved.specs.declared.resolved.RArgument.{RArgument}
 use Rattle.lil_resolved.specs.Resolved as resolved
 use Rattle.lil_resolved.specs.Resolved.{Halt, Return}
-use Rattle.lil_resolved.specs.Views.{request_number, argument_of, statement_of}
+use Rattle.lil_resolved.specs.Views.{argument_of, statement_of}
 use Rattle.lil_resolved.specs.Strings.{arguments_strings}
 use Rattle.lil_resolved.specs.Forms.{assign_is, copy_is, text_is, change_is, member_changed_is, new_is, allocate_is, request_is, halt_is, return_is}
 use Rattle.lil_labels.specs.Drafts.{Adds}
@@ -64,7 +64,7 @@ pub returns-in-Request : goal.returns-in-Request
 returns-in-Request c =
     let n = c.args.around.words in
     let exit = c.args.around.exit in
-    let form = λ (given : List RArgument). resolved.Request (request_number c.in-Request.request) (map argument_of given) in
+    let form = λ (given : List RArgument). resolved.Request c.in-Request.request (map argument_of given) in
     let is = ap statement_of c.in-Request.is ∙ request_is c.in-Request.request c.in-Request.given in
     let by = subst (λ (given : List RArgument). OnOk c.emit_request.result ((n : ℕ) (exit : Option ℕ) → Adds (arguments_strings (map argument_of given)) c.args.code.now c.emit_request.new.code (Stated n exit (form given)))) c.as_slice.ensures c.emit_request.ensures in
     with_ok c.emit_request.result (λ h. one_emitted n exit (form c.in-Request.given) _ _ _ is (h n exit)) by

@@ -10,4 +10,4 @@ serve-requires c =
     let ran = c.run-event.ensures.ran in
     let t = c.run-event.new.self.state in
     let P : Event → Type 0 = λ e. mstep ran.before ≡ (e, t) in
-    request_has ran.before t c.in-Request.number (subst P c.in-Request.is ran.last)
+    request_has ran.before t c.in-Request.request (subst P c.in-Request.is ran.last)
