@@ -7,7 +7,7 @@ use Rattle.lil_base.specs.declared.operator.OneOp.TheVariants as one
 use Rattle.lil_base.specs.declared.operator.TwoOp.{TwoOp}
 use Rattle.lil_base.specs.declared.operator.TwoOp.TheVariants.{Equal, Unequal}
 use Rattle.lil_resolved.specs.Kinds.{Pointee, Objects, Workspaces, Kind, OfTruth, OfPointer, OfRange, base_of, is_plain}
-use Rattle.lil_resolved.specs.Scalars.{Scalar, Truth, ToObject, ToWorkspace, Nothing, is_reference, is_literal, same_reference, within, scalar_word}
+use Rattle.lil_resolved.specs.Scalars.{Scalar, Truth, ToObject, ToWorkspace, Nil, is_reference, is_literal, same_reference, within, scalar_word}
 use Rattle.lil_resolved.specs.Shapes.{Shape, Word}
 use Rattle.lil_resolved.specs.Resolved.{Designator, Function, Expression, Constant, Taken, One, Two, Short, Apply, kind_of, is_relation, result_kind, right_kind, function_kind}
 use Rattle.lil_resolved.specs.Sound.{takes_two}
@@ -241,9 +241,9 @@ module _ (ctx : Setting) where
         by : (b : Bool) → (o == p) ≡ b → (h.base (Object o) == h.base (Object p)) ≡ b
         by true e = eq-eqb (h.base (Object o)) (h.base (Object p)) (ap (λ (i : ℕ). h.base (Object i)) (eqb-true o p e))
         by false e = ne_eqb (h.base (Object o)) (h.base (Object p)) (λ at. let clash = eq-eqb o p (shared.heap.apart o p ru.0 rv.0 at) in cc)
-    same_objects n (ToObject o) Nothing fu fv ru rv = ne_eqb (h.base (Object o)) 0 (λ at. omega (arith, at, shared.heap.above o ru.0))
-    same_objects n Nothing (ToObject p) fu fv ru rv = ne_eqb 0 (h.base (Object p)) (λ at. omega (arith, at, shared.heap.above p rv.0))
-    same_objects n Nothing Nothing fu fv ru rv = refl
+    same_objects n (ToObject o) Nil fu fv ru rv = ne_eqb (h.base (Object o)) 0 (λ at. omega (arith, at, shared.heap.above o ru.0))
+    same_objects n Nil (ToObject p) fu fv ru rv = ne_eqb 0 (h.base (Object p)) (λ at. omega (arith, at, shared.heap.above p rv.0))
+    same_objects n Nil Nil fu fv ru rv = refl
     same_objects n u v fu fv ru rv = cc
 
     same_spaces : (u v : Scalar) → within (OfPointer Workspaces) u ≡ true → within (OfPointer Workspaces) v ≡ true → Refers h (OfPointer Workspaces) u → Refers h (OfPointer Workspaces) v
@@ -253,9 +253,9 @@ module _ (ctx : Setting) where
         by : (b : Bool) → (o == p) ≡ b → (get_or h.workspaces o 0 == get_or h.workspaces p 0) ≡ b
         by true e = eq-eqb (get_or h.workspaces o 0) (get_or h.workspaces p 0) (ap (λ (i : ℕ). get_or h.workspaces i 0) (eqb-true o p e))
         by false e = ne_eqb (get_or h.workspaces o 0) (get_or h.workspaces p 0) (λ at. let clash = eq-eqb o p (shared.heap.distinct o p ru rv at) in cc)
-    same_spaces (ToWorkspace o) Nothing fu fv ru rv = ne_eqb (get_or h.workspaces o 0) 0 (λ at. omega (arith, at, shared.heap.clear o ru))
-    same_spaces Nothing (ToWorkspace p) fu fv ru rv = ne_eqb 0 (get_or h.workspaces p 0) (λ at. omega (arith, at, shared.heap.clear p rv))
-    same_spaces Nothing Nothing fu fv ru rv = refl
+    same_spaces (ToWorkspace o) Nil fu fv ru rv = ne_eqb (get_or h.workspaces o 0) 0 (λ at. omega (arith, at, shared.heap.clear o ru))
+    same_spaces Nil (ToWorkspace p) fu fv ru rv = ne_eqb 0 (get_or h.workspaces p 0) (λ at. omega (arith, at, shared.heap.clear p rv))
+    same_spaces Nil Nil fu fv ru rv = refl
     same_spaces u v fu fv ru rv = cc
 
     same_words : (to : Pointee) (u v : Scalar) → within (OfPointer to) u ≡ true → within (OfPointer to) v ≡ true → Refers h (OfPointer to) u → Refers h (OfPointer to) v

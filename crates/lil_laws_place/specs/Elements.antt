@@ -7,7 +7,7 @@ use Rattle.lil_base.specs.Words.{word_of}
 use Rattle.lil_base.specs.Laws.{in_range, bounds}
 use Rattle.lil_base.specs.declared.fault.TrapKind.TheVariants as trap
 use Rattle.lil_resolved.specs.Kinds.{Objects, Kind, OfPointer, base_of, is_base, takes_value, compared_as, least, greatest, nat_of, numbers, position}
-use Rattle.lil_resolved.specs.Scalars.{Scalar, ToObject, Nothing, within, scalar_word, ordinal_of}
+use Rattle.lil_resolved.specs.Scalars.{Scalar, ToObject, Nil, within, scalar_word, ordinal_of}
 use Rattle.lil_resolved.specs.Shapes.{Shape, Absent, Word, Row, words, is_there, part_at, offset, shape_by, shape_at, element_of}
 use Rattle.lil_resolved.specs.Resolved.{Designator, Variable, Held, Field, Element, Follow, Expression}
 use Rattle.lil_resolved.specs.Depth.{place_depth}
@@ -206,7 +206,7 @@ module _ (ctx : Setting) where
           (at_once ctx _ Quiet r.end (w ∷ below) c a
           (record { part = record { access = OnTop; shape = shape_at l.scope.targets r.number; below = below; has = object_has o refers }; then = row.then }))))
           (omega arith)
-      follows Nothing is fits refers =
+      follows Nil is fits refers =
           trap_goes ctx s pointing m shared row.part.loaded (0 ∷ below) trap.Nil (c + 1) (closed ctx k _ _ _ _ _ row.then)
           (ap (λ (v : Scalar). pointed library v k then) is)
           (at_step ctx (going m row.part.loaded (0 ∷ below)) shared.program Nlt row.part.end row.part.test)

@@ -5,7 +5,7 @@ use Rattle.std.proofs.lemmas.Bool.{cases_lt}
 use Rattle.lil_base.specs.Words.{Cardinal}
 use Rattle.lil_base.specs.declared.fault.TrapKind.TheVariants as trap
 use Rattle.lil_resolved.specs.Kinds.{Workspaces, Kind, OfWhole, OfPointer, nat_of}
-use Rattle.lil_resolved.specs.Scalars.{Scalar, Number, ToWorkspace, Nothing, within, scalar_word, ordinal_of}
+use Rattle.lil_resolved.specs.Scalars.{Scalar, Number, ToWorkspace, Nil, within, scalar_word, ordinal_of}
 use Rattle.lil_resolved.specs.Shapes.{Shape, Word, offset}
 use Rattle.lil_resolved.specs.Resolved.{Designator, Expression, Allocate}
 use Rattle.lil_meaning.specs.Cells.{Place, stored, alone}
@@ -135,7 +135,7 @@ module _ (ctx : Setting) where
             (pushes 0 r.by.2.0 (going m r.by.0 (address h place ∷ [])) (omega arith))
             (stored_goes ctx s returning m shared r.by.2.0 (0 ∷ address h place ∷ []) OnTop place (OfPointer Workspaces) (address h place ∷ [])
             (record { seen = has.seen; living = has.living; there = has.there; at = refl })
-            refl Nothing refl tt refl r.by.2.2.0 r.by.2.2.1 k (ap back_by one) c (c + 1) a
+            refl Nil refl tt refl r.by.2.2.0 r.by.2.2.1 k (ap back_by one) c (c + 1) a
             (subst (λ (q : ℕ). Rows ctx k Quiet q [] c a) (sym r.by.2.2.2) row.then)
             (omega arith))
             (omega arith))

@@ -9,7 +9,7 @@ use Rattle.lil_base.specs.declared.request.Request.{Request}
 use Rattle.lil_base.specs.declared.request.Request.TheVariants.{Write, WriteString, WriteLn, WriteCard, WriteInt, WriteOct, WriteHex}
 use Rattle.lil_asm.specs.Requests.{request_words}
 use Rattle.lil_resolved.specs.Kinds.{Kind, OfCharacter}
-use Rattle.lil_resolved.specs.Scalars.{Scalar, Number, Truth, Character, SetOf, ToObject, ToWorkspace, ToProcedure, ToCoroutine, Nothing, within, scalar_word}
+use Rattle.lil_resolved.specs.Scalars.{Scalar, Number, Truth, Character, SetOf, ToObject, ToWorkspace, ToProcedure, ToCoroutine, Nil, Nothing, within, scalar_word}
 use Rattle.lil_resolved.specs.Resolved as resolved
 use Rattle.lil_resolved.specs.Resolved.{Argument, ByValue, OfArray, OfText, shape_of}
 use Rattle.lil_resolved.specs.Sound.{request_parameters, parameter_of, is_text}
@@ -85,6 +85,7 @@ character_word h (ToObject o) e = cc
 character_word h (ToWorkspace w) e = cc
 character_word h (ToProcedure n p) e = cc
 character_word h (ToCoroutine n) e = cc
+character_word h Nil e = cc
 character_word h Nothing e = cc
 
 module _ (ctx : Setting) where

@@ -21,7 +21,7 @@ use Rattle.lil_module.specs.declared.tree.RDesignator.{RDesignator}
 use Rattle.lil_module.specs.declared.tree.RElement.{RElement}
 use Rattle.lil_module.specs.declared.tree.ROperation.{ROperation}
 use Rattle.lil_resolved.specs.Kinds.{Objects, Workspaces, OfPointer}
-use Rattle.lil_resolved.specs.Scalars.{Nothing, scalar_of}
+use Rattle.lil_resolved.specs.Scalars.{Nil, scalar_of}
 use Rattle.lil_resolved.specs.Resolved.{Expression, Constant, Taken, Apply, kind_of}
 use Rattle.lil_resolved.specs.Depth.{depth}
 use Rattle.lil_resolved.specs.Sound as sound
@@ -92,8 +92,8 @@ named (Some t) s = text t s
 named None s = None
 
 abbrev pub nil_by : Option RBase → Option Expression
-nil_by (Some (b.Pointer n)) = Some (Constant (OfPointer (Objects n)) Nothing)
-nil_by (Some b.Address) = Some (Constant (OfPointer Workspaces) Nothing)
+nil_by (Some (b.Pointer n)) = Some (Constant (OfPointer (Objects n)) Nil)
+nil_by (Some b.Address) = Some (Constant (OfPointer Workspaces) Nil)
 nil_by _ = None
 
 -- NIL as a pointer of the type, or as an address

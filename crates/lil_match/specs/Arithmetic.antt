@@ -8,7 +8,7 @@ use Rattle.lil_base.specs.declared.fault.ArithFault.{ArithFault}
 use Rattle.lil_base.specs.declared.fault.ArithFault.TheVariants.{DivZero}
 use Rattle.lil_base.specs.Laws.{bounds, number_of-word, kept_ok}
 use Rattle.lil_resolved.specs.Kinds.{Kind, OfWhole, OfTruth, OfCharacter, OfEnumeration, OfSet, OfPointer, is_base, compared_as}
-use Rattle.lil_resolved.specs.Scalars.{Scalar, Number, Truth, Character, SetOf, ToObject, ToWorkspace, Nothing, within, scalar_word, ordinal_of}
+use Rattle.lil_resolved.specs.Scalars.{Scalar, Number, Truth, Character, SetOf, ToObject, ToWorkspace, Nil, within, scalar_word, ordinal_of}
 use Rattle.lil_meaning.specs.Steps.{whole_of, is_same, is_other}
 use Rattle.lil_mcode.specs.Control.{above}
 
@@ -26,7 +26,7 @@ reads_ordinal (OfEnumeration n) (Number (pos z)) base h = refl
 reads_ordinal OfSet (SetOf s) base h = refl
 reads_ordinal (OfPointer to) (ToObject o) base h = refl
 reads_ordinal (OfPointer to) (ToWorkspace w) base h = refl
-reads_ordinal (OfPointer to) Nothing base h = refl
+reads_ordinal (OfPointer to) Nil base h = refl
 reads_ordinal k v base h = cc
 
 pub reads : (t : Whole) (v : Scalar) → within (OfWhole t) v ≡ true → number_of t (scalar_word v) ≡ whole_of v

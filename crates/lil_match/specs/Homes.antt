@@ -9,7 +9,7 @@ use Rattle.lil_base.specs.Sets.{set_word}
 use Rattle.lil_resolved.specs.Members.{no_members}
 use Rattle.lil_resolved.specs.MemberLaws.{word_none}
 use Rattle.lil_resolved.specs.Kinds.{Pointee, Objects, Workspaces, Kind, OfWhole, OfTruth, OfCharacter, OfEnumeration, OfSet, OfPointer, OfRange, base_of, is_plain, alike, takes_value}
-use Rattle.lil_resolved.specs.Scalars.{Scalar, Number, Truth, Character, SetOf, ToObject, ToWorkspace, Nothing, is_reference, within, scalar_word, ordinal_of, zero_of}
+use Rattle.lil_resolved.specs.Scalars.{Scalar, Number, Truth, Character, SetOf, ToObject, ToWorkspace, Nil, is_reference, within, scalar_word, ordinal_of, zero_of}
 use Rattle.lil_resolved.specs.Sound.{is_character, is_text}
 use Rattle.lil_resolved.specs.Shapes.{Shape, Absent, Word, Row, words, is_there, part_at, offset, shape_at}
 use Rattle.lil_meaning.specs.Cells.{Root, Global, Local, Object, Place, part_of, Cells, Under, under, rest_behind, at_rest, same_root, stored, alone, text_under}
@@ -97,13 +97,6 @@ pub plain_refers : (h : Home) (k : Kind) (v : Scalar) → is_plain k ≡ true �
 plain_refers h (OfRange base low high) v plain = plain_refers h base v plain
 plain_refers h (OfPointer n) v plain = cc
 plain_refers h _ v plain = tt
-
--- none points to nothing
-pub none_refers : (h : Home) (k : Kind) → Refers h k Nothing
-none_refers h (OfRange base low high) = none_refers h base
-none_refers h (OfPointer (Objects n)) = tt
-none_refers h (OfPointer Workspaces) = tt
-none_refers h _ = tt
 
 pub refers_base : (h : Home) (k : Kind) (v : Scalar) → Refers h k v → Refers h (base_of k) v
 refers_base h (OfRange base low high) v r = refers_base h base v r
@@ -215,7 +208,7 @@ module _ (h x : Home) (base : (o : ℕ) → is_there (h.shape (Object o)) ≡ tr
   pointer_kept : (to : Pointee) (v : Scalar) → within (OfPointer to) v ≡ true → Refers h (OfPointer to) v → word_for h v ≡ word_for x v
   pointer_kept (Objects n) (ToObject o) e r = sym (base o r.0)
   pointer_kept Workspaces (ToWorkspace w) e r = sym (workspaces w r).1
-  pointer_kept to Nothing e r = refl
+  pointer_kept to Nil e r = refl
   pointer_kept to v e r = cc
 
   plain_kept : (k : Kind) (v : Scalar) → is_plain k ≡ true → within k v ≡ true → word_for h v ≡ word_for x v

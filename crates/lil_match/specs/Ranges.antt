@@ -10,7 +10,7 @@ use Rattle.lil_base.specs.Sets as sets
 use Rattle.lil_base.specs.SetLaws.{set_below}
 use Rattle.lil_resolved.specs.MemberLaws.{word_of_set}
 use Rattle.lil_resolved.specs.Kinds.{Pointee, Objects, Workspaces, Kind, OfWhole, OfTruth, OfCharacter, OfEnumeration, OfSet, OfPointer, OfRange, base_of, is_base, is_ordinal, is_plain, same_pointee, same_pointer, takes_value, compared_as, lesser, larger, least, greatest}
-use Rattle.lil_resolved.specs.Scalars.{Scalar, Number, Truth, Character, SetOf, ToObject, ToWorkspace, Nothing, within, scalar_of, ordinal_of, value_with}
+use Rattle.lil_resolved.specs.Scalars.{Scalar, Number, Truth, Character, SetOf, ToObject, ToWorkspace, Nil, within, scalar_of, ordinal_of, value_with}
 
 -- a number is one of the kind's
 abbrev pub has : Kind → ℤ → Bool
@@ -144,7 +144,7 @@ fits_has (OfEnumeration n) (Number z) h = h
 fits_has OfSet (SetOf s) h = in_range (pos 0) (pos (sets.set_word s)) (pos 65535) (omega (arith, ints)) (omega (arith, ints, set_below s))
 fits_has (OfPointer to) (ToObject o) h = refl
 fits_has (OfPointer to) (ToWorkspace w) h = refl
-fits_has (OfPointer to) Nothing h = refl
+fits_has (OfPointer to) Nil h = refl
 fits_has (OfRange base low high) v h =
     let p = and_parts (within base v) (between low (ordinal_of v) high) h in
     has_range base low high (ordinal_of v) ∙ and_from (between low (ordinal_of v) high) (has base (ordinal_of v)) p.1 (fits_has base v p.0)

@@ -1,12 +1,12 @@
 -- Samples of the definitions, computed.
-use Rattle.std.proofs.Common.{◌≡◌, ℕ, pos, negsuc, Bool, true, false, List, [], ◌∷◌, ◌++◌, Some, None, refl}
-use Rattle.std.specs.Prelude.{Ok, Err, codes}
-use Rattle.lil_base.specs.Words.{Cardinal, Integer}
+use Rattle.std.proofs.Common.{◌≡◌, ℕ, pos, negsuc, Bool, true, false, List, [], ◌∷◌, ◌++◌, Some, None, refl, ap}
+use Rattle.std.specs.Prelude.{◌&&◌, Ok, Err, codes}
+use Rattle.lil_base.specs.Words.{Cardinal, Integer, between}
 use Rattle.lil_base.specs.declared.fault.TrapKind.TheVariants as trap
 use Rattle.lil_base.specs.declared.operator.TwoOp.TheVariants.{Equal, Less, AtLeast, Div, Mod}
 use Rattle.lil_base.specs.declared.request.Request.TheVariants.{Write, WriteCard, WriteInt, WriteOct, WriteHex}
-use Rattle.lil_resolved.specs.Kinds.{Kind, OfWhole, OfTruth, OfCharacter, OfRange}
-use Rattle.lil_resolved.specs.Scalars.{Scalar, Number, Truth, Character, SetOf, ToObject, Nothing, value_with}
+use Rattle.lil_resolved.specs.Kinds.{Workspaces, Kind, OfWhole, OfTruth, OfCharacter, OfPointer, OfRange}
+use Rattle.lil_resolved.specs.Scalars.{Scalar, Number, Truth, Character, SetOf, ToObject, Nil, Nothing, within, value_with}
 use Rattle.lil_resolved.specs.Resolved.{Designator, Variable, Field, Element, Chr, Val, Expression, Constant, Taken, ByValue, OfArray, OfText, Held, Statement, Assign, Text, Inside, Change, Request, Loop, Halt, Return, For, Statements, Empty, Then, Arms, NoElse, Else, Arm, Resolved, in_order}
 use Rattle.lil_resolved.specs.Shapes.{Shape, Word, Row, fields_of}
 use Rattle.lil_meaning.specs.Cells.{Global, got}
@@ -46,6 +46,14 @@ objects_are_no_characters m n = refl
 
 none_is_no_truth_value : applied Equal OfTruth Nothing (Truth false) ≡ Ok Nothing
 none_is_no_truth_value = refl
+
+-- ---- no value is of no kind, and it isn't NIL
+no_value : (k : Kind) → within k Nothing ≡ false
+no_value (OfRange base low high) = ap (λ (b : Bool). b && between low (pos 0) high) (no_value base)
+no_value _ = refl
+
+nil_is_a_value : applied Equal (OfPointer Workspaces) Nil Nil ∷ applied Equal (OfPointer Workspaces) Nil Nothing ∷ applied Equal (OfPointer Workspaces) Nothing Nothing ∷ [] ≡ Ok (Truth true) ∷ Ok (Truth false) ∷ Ok (Truth false) ∷ []
+nil_is_a_value = refl
 
 -- ---- CASE takes the first arm with the label, or what stands behind ELSE
 abbrev arms : Statements → Statements → Arms → Arms

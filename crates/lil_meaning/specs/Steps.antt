@@ -14,7 +14,7 @@ use Rattle.lil_base.specs.declared.operator.TwoOp.TheVariants.{Equal, Unequal, L
 use Rattle.lil_base.specs.declared.request.Request as request
 use Rattle.lil_resolved.specs.Kinds.{Kind, OfWhole, OfTruth, OfCharacter, OfEnumeration, OfRange, is_set, is_pointer, nat_of, position}
 use Rattle.lil_resolved.specs.Members.{same_members, included, is_in, united, without, shared_members, unshared, from_to}
-use Rattle.lil_resolved.specs.Scalars.{Scalar, Number, Truth, Character, SetOf, ToObject, ToWorkspace, Nothing, same_reference, within, scalar_word, value_with, ordinal_of, truth_number, truth_of, members_of}
+use Rattle.lil_resolved.specs.Scalars.{Scalar, Number, Truth, Character, SetOf, ToObject, ToWorkspace, Nil, Nothing, same_reference, within, scalar_word, value_with, ordinal_of, truth_number, truth_of, members_of}
 use Rattle.lil_resolved.specs.Resolved.{Designator, Variable, Held, Field, Element, Follow, Function, Abs, Cap, Chr, Odd, Ord, Val, Expression, Constant, Taken, One, Two, Short, Apply, With, WithSpan, Argument, ByValue, OfArray, OfText, Label, Statement, Assign, Copy, Text, Change, Member, New, Allocate, Request, If, Case, While, Repeat, Loop, Exit, Halt, Return, Call, For, Inside, Statements, Arms, NoElse, Else, Arm, Procedure, Resolved, procedure_by, counted_as}
 use Rattle.lil_resolved.specs.Shapes.{Shape, shape_at}
 use Rattle.lil_meaning.specs.Cells.{Cells, Global, Place, under, part_of, object_place, stored, got, alone, text_under, zeros_under, targets_of, loaded_at}
@@ -313,7 +313,7 @@ decided false b = not b
 -- a new workspace of so many words, to which the address at a place then leads; or it is NIL then
 abbrev pub allocated : Bool → ℕ → Place → List Item → Source → Source
 allocated false n p k s = record s { items = k; workspaces = s.workspaces ++ record { size = n; carries = None } ∷ []; cells = stored s.cells p (alone (ToWorkspace (length s.workspaces))) }
-allocated true n p k s = record s { items = k; cells = stored s.cells p (alone Nothing) }
+allocated true n p k s = record s { items = k; cells = stored s.cells p (alone Nil) }
 
 -- a scalar goes into a hole
 abbrev pub filled : List Resolved → Hole → Scalar → List Item → Source → Source
@@ -341,10 +341,11 @@ filled library (StartOf x kind b step body) v k s = with_items s (Evaluate b ∷
 filled library (LimitOf x kind u step body) v k s = with_items s (Perform (Turns x kind (ordinal_of u) step (turns (ordinal_of u) (ordinal_of v) step) body) ∷ k)
 filled library _ v k s = s
 
--- the object that a pointer points to, if it does
+-- the object that a pointer points to; NIL points to none
 abbrev pub pointed : List Resolved → Scalar → List Item → Source → Source
 pointed library (ToObject o) k s = with_items s (Value (Places (object_place o)) ∷ k)
-pointed library _ k s = trapped library s trap.Nil
+pointed library Nil k s = trapped library s trap.Nil
+pointed library _ k s = s
 
 -- what pointers of the module at hand point to
 abbrev pub target_of : List Resolved → Source → ℕ → Shape

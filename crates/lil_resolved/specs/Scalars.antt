@@ -5,7 +5,7 @@ use Rattle.lil_base.specs.Sets.{has, set_word}
 use Rattle.lil_resolved.specs.Members.{no_members}
 use Rattle.lil_resolved.specs.Kinds.{Pointee, Objects, Workspaces, Kind, OfWhole, OfTruth, OfCharacter, OfEnumeration, OfSet, OfPointer, OfRange}
 
--- a whole number, a truth value, a character, a set of numbers up to 15, a reference, or none
+-- a whole number, a truth value, a character, a set of numbers up to 15, a reference, or no value
 pub data Scalar : Type 0 where
   Number : (z : ℤ) → Scalar
   Truth : (b : Bool) → Scalar
@@ -15,6 +15,9 @@ pub data Scalar : Type 0 where
   ToWorkspace : (w : ℕ) → Scalar
   ToProcedure : (m p : ℕ) → Scalar
   ToCoroutine : (c : ℕ) → Scalar
+  -- the reference that leads nowhere
+  Nil : Scalar
+  -- no value: one of no kind
   Nothing : Scalar
 
 -- the number of a truth value
@@ -37,7 +40,7 @@ scalar_of OfTruth z = Truth (not (is_zero z))
 scalar_of OfCharacter z = Character (word_of z)
 scalar_of (OfEnumeration n) z = Number z
 scalar_of OfSet z = SetOf (has (word_of z))
-scalar_of (OfPointer to) z = Nothing
+scalar_of (OfPointer to) z = Nil
 scalar_of (OfRange base low high) z = scalar_of base z
 
 -- a reference leads to an object, or a workspace, as is wanted
@@ -54,7 +57,7 @@ within (OfEnumeration n) (Number z) = between (pos 0) z (pos (n - 1))
 within OfSet (SetOf s) = true
 within (OfPointer to) (ToObject o) = to_object to
 within (OfPointer to) (ToWorkspace w) = not (to_object to)
-within (OfPointer to) Nothing = true
+within (OfPointer to) Nil = true
 within (OfRange base low high) v = within base v && between low (ordinal_of v) high
 within _ _ = false
 
@@ -65,7 +68,7 @@ value_with OfTruth z = if between (pos 0) z (pos 1) then Some (Truth (not (is_ze
 value_with OfCharacter z = if between (pos 0) z (pos 255) then Some (Character (word_of z)) else None
 value_with (OfEnumeration n) z = if between (pos 0) z (pos (n - 1)) then Some (Number z) else None
 value_with OfSet z = if between (pos 0) z (pos 65535) then Some (SetOf (has (word_of z))) else None
-value_with (OfPointer to) z = if between (pos 0) z (pos 0) then Some Nothing else None
+value_with (OfPointer to) z = if between (pos 0) z (pos 0) then Some Nil else None
 value_with (OfRange base low high) z = if between low z high then value_with base z else None
 
 -- zero of a kind: what a fresh variable holds, also where its range leaves it out
@@ -75,7 +78,7 @@ zero_of OfTruth = Truth false
 zero_of OfCharacter = Character 0
 zero_of (OfEnumeration n) = Number (pos 0)
 zero_of OfSet = SetOf no_members
-zero_of (OfPointer to) = Nothing
+zero_of (OfPointer to) = Nil
 zero_of (OfRange base low high) = zero_of base
 
 abbrev pub is_reference : Scalar → Bool
@@ -87,11 +90,11 @@ is_reference _ = false
 abbrev pub is_literal : Kind → Scalar → Bool
 is_literal k v = within k v && not (is_reference v)
 
--- two references to one object or workspace, or two times none
+-- two references to one object or workspace, or two times NIL
 abbrev pub same_reference : Scalar → Scalar → Bool
 same_reference (ToObject m) (ToObject n) = m == n
 same_reference (ToWorkspace m) (ToWorkspace n) = m == n
-same_reference Nothing Nothing = true
+same_reference Nil Nil = true
 same_reference _ _ = false
 
 -- whether a truth value is TRUE
