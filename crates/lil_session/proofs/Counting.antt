@@ -4,6 +4,7 @@ use Rattle.lil_base.specs.declared.fault.LimitKind.{LimitKind}
 use Rattle.lil_base.specs.declared.fault.TrapKind.{TrapKind}
 use Rattle.lil_resolved.specs.Resolved.{Resolved}
 use Rattle.lil_resolved.specs.Sizes.{IsSmall}
+use Rattle.lil_resolved.specs.Strings.{module_strings}
 use Rattle.lil_meaning.specs.World.{World}
 use Rattle.lil_meaning.specs.Items.{Phase}
 use Rattle.lil_meaning.specs.Runs.{state_of}
@@ -25,19 +26,19 @@ use Rattle.lil_session.specs.Counted.{IsEnd, FinishAnswers, MachineRan, MachineA
 use Rattle.lil_session.specs.Headline.{Allowed, IsOver}
 use Rattle.lil_session.specs.Report.{is_fixed}
 
-module _ (p : Resolved) (strings code : List ℕ) (small : IsSmall p strings) (t : Translates p strings code) (bare : p.procedures ≡ []) (steps : ℕ) (old new : Option (List ℕ)) (w : World) where
+module _ (p : Resolved) (code : List ℕ) (small : IsSmall p (module_strings p)) (t : Translates p (module_strings p) code) (bare : p.procedures ≡ []) (steps : ℕ) (old new : Option (List ℕ)) (w : World) where
   abbrev start : State
-  start = (loaded p strings code).state
+  start = (loaded p (module_strings p) code).state
 
   -- the state of the meaning that the run has come to
   abbrev so_far : ℕ
-  so_far = (correct p strings code small t bare w steps).n
+  so_far = (correct p (module_strings p) code small t bare w steps).n
 
   -- a limit comes only where that state comes to it
-  spent_at : (k : LimitKind) → (mrun steps (running start w)).finish ≡ Limited k → IsSpent p strings k (state_of p w so_far)
+  spent_at : (k : LimitKind) → (mrun steps (running start w)).finish ≡ Limited k → IsSpent p (module_strings p) k (state_of p w so_far)
   spent_at k is =
-      let same = ap (λ (s : State). (mrun steps (running s w)).finish) (loaded_state p strings code small t bare) in
-      claimed (Limited k) (correct p strings code small t bare w steps).agrees (sym same ∙ is)
+      let same = ap (λ (s : State). (mrun steps (running s w)).finish) (loaded_state p (module_strings p) code small t bare) in
+      claimed (Limited k) (correct p (module_strings p) code small t bare w steps).agrees (sym same ∙ is)
 
   same_limit : (k j : LimitKind) → a.Limit k ≡ a.Limit j → Limited k ≡ Limited j
   same_limit k j is = cc
@@ -46,7 +47,6 @@ module _ (p : Resolved) (strings code : List ℕ) (small : IsSmall p strings) (t
   ran_all : (end : State) (f : Finish) (s : Status) → HasRun start end steps f old new w → FinishAnswers s steps steps f → (f ≡ Running → settled s ≡ true → s ≡ a.StepsSpent) → ((k : LimitKind) → s ≡ a.Limit k → f ≡ Limited k) → s ≢ a.ScreenFault
       → MachineRan p w so_far steps old new s
   ran_all end f s ran fits spent full no_cut = record {
-    strings = strings;
     code = code;
     translates = t;
     done = steps;
@@ -76,7 +76,6 @@ module _ (p : Resolved) (strings code : List ℕ) (small : IsSmall p strings) (t
   -- a run that the screen stopped: its request failed
   pub machine_cut : (n : ℕ) → IsCut start steps old new w → MachineAnswers p w n steps old new a.ScreenFault
   machine_cut n cut = record {
-    strings = strings;
     code = code;
     translates = t;
     done = cut.done;
@@ -104,7 +103,6 @@ module _ (p : Resolved) (w : World) (n steps : ℕ) (old new : Option (List ℕ)
   -- memory is wanted for the lines of a trap alone: those of Done, of a limit and of a spent budget are fixed
   pub ran_memory : (s : Status) → is_fixed s ≡ false → MachineAnswers p w n steps old new s → MachineRan p w n steps old new a.Memory
   ran_memory (a.Trapped t) made ran = record {
-    strings = ran.strings;
     code = ran.code;
     translates = ran.translates;
     done = ran.done;

@@ -7,6 +7,7 @@ ghost use Rattle.lil_volume.specs.Causes.{HasCause};
 ghost use Rattle.lil_base.specs.declared.fault.TrapKind.{TrapKind};
 ghost use Rattle.lil_session.specs.declared.run.Ending.TheVariants as ending;
 ghost use Rattle.lil_resolved.specs.Sizes.{IsSmall, code_size};
+ghost use Rattle.lil_resolved.specs.Strings.{module_strings};
 ghost use Rattle.lil_resolved.specs.Shapes.{all_words};
 ghost use Rattle.lil_table.specs.Rows.{Translates};
 ghost use Rattle.lil_session.specs.Running.{finish_of, finish_by, IsStep, IsRefused, HasRun, IsCut};
@@ -152,8 +153,9 @@ pub(crate) fn run_program<S: Sink>(
     steps: u64,
     screen: &mut S,
 ) -> Status
-    requires translates { Translates (module_of m.now) strings.now code.now }
-    requires small { IsSmall (module_of m.now) strings.now }
+    requires strings { strings.now ≡ module_strings (module_of m.now) }
+    requires translates { Translates (module_of m.now) (module_strings (module_of m.now)) code.now }
+    requires small { IsSmall (module_of m.now) (module_strings (module_of m.now)) }
     requires counted { m.now.words ≡ all_words (module_of m.now).variables }
     requires long { length code.now ≡ code_size (module_of m.now) }
     ensures shows { (w : World) → w.screen ≡ [] → Shows (module_of m.now) w steps (S.written screen.old) (S.written screen.new) result }

@@ -3,6 +3,7 @@ use Rattle.lil_resolved.specs.Views.{module_of}
 use Rattle.lil_meaning.specs.World.{World}
 use Rattle.lil_resolved.specs.Resolved.{Resolved}
 use Rattle.lil_resolved.specs.Sizes.{IsSmall}
+use Rattle.lil_resolved.specs.Strings.{module_strings}
 use Rattle.lil_table.specs.Rows.{Translates}
 use Rattle.lil_match.specs.Running.{Finish}
 use Rattle.lil_mcode.specs.State.{State}
@@ -32,51 +33,47 @@ returns-in_default-clause-shows g c = λ w e. shows_none (module_of c.args.m.now
 pub returns-in-Err-clause-shows : goal.returns-in-Err-clause-shows
 returns-in-Err-clause-shows g c =
     let p = module_of c.args.m.now in
-    let is = from_begin p c.args.strings.now c.args.code.now c.requires.small c.requires.translates refl c.in-Ok.machine c.in-Ok.ensures in
-    λ w e. shows_cut p c.args.strings.now c.args.code.now c.requires.small c.requires.translates refl c.args.steps (g.S.Sink.written c.args.screen.now) (g.S.Sink.written c.run_machine.new.screen) w
+    let is = from_begin p (module_strings p) c.args.code.now c.requires.small c.requires.translates refl c.in-Ok.machine (c.in-Ok.ensures ∙ ap (λ (strings : List ℕ). loaded p strings c.args.code.now) c.requires.strings) in
+    λ w e. shows_cut p c.args.code.now c.requires.small c.requires.translates refl c.args.steps (g.S.Sink.written c.args.screen.now) (g.S.Sink.written c.run_machine.new.screen) w
     (subst (λ (s : State). IsCut s c.args.steps (g.S.Sink.written c.args.screen.now) (g.S.Sink.written c.run_machine.new.screen) w) is (c.in-Err.ensures.cut w e))
 
 pub answer-requires : goal.answer-requires
 answer-requires g c =
     let p = module_of c.args.m.now in
-    let strings = c.args.strings.now in
     let code = c.args.code.now in
     let old = g.S.Sink.written c.args.screen.now in
     let new = g.S.Sink.written c.run_machine.new.screen in
-    let ran = ran_from p strings code c.requires.small c.requires.translates refl c.in-Ok.machine c.in-Ok.ensures c.run_machine.new.machine.state c.args.steps (finish_of c.in-Ok-run_machine.end) old new c.in-Ok-run_machine.ensures.ran in
-    possible p strings code c.requires.small c.requires.translates refl c.args.steps old new c.run_machine.new.machine c.in-Ok-run_machine.end ran c.in-Ok-run_machine.ensures.at
+    let ran = ran_from p (module_strings p) code c.requires.small c.requires.translates refl c.in-Ok.machine (c.in-Ok.ensures ∙ ap (λ (strings : List ℕ). loaded p strings code) c.requires.strings) c.run_machine.new.machine.state c.args.steps (finish_of c.in-Ok-run_machine.end) old new c.in-Ok-run_machine.ensures.ran in
+    possible p code c.requires.small c.requires.translates refl c.args.steps old new c.run_machine.new.machine c.in-Ok-run_machine.end ran c.in-Ok-run_machine.ensures.at
 
 pub returns-clause-shows : goal.returns-clause-shows
 returns-clause-shows g c =
     let p = module_of c.args.m.now in
-    let strings = c.args.strings.now in
     let code = c.args.code.now in
     let old = g.S.Sink.written c.args.screen.now in
     let new = g.S.Sink.written c.run_machine.new.screen in
-    let ran = ran_from p strings code c.requires.small c.requires.translates refl c.in-Ok.machine c.in-Ok.ensures c.run_machine.new.machine.state c.args.steps (finish_of c.in-Ok-run_machine.end) old new c.in-Ok-run_machine.ensures.ran in
-    λ w e. shows_end p strings code c.requires.small c.requires.translates refl c.args.steps old new c.run_machine.new.machine c.in-Ok-run_machine.end c.answer.result w (ran w e) c.answer.ensures c.in-Ok-run_machine.ensures.at
+    let ran = ran_from p (module_strings p) code c.requires.small c.requires.translates refl c.in-Ok.machine (c.in-Ok.ensures ∙ ap (λ (strings : List ℕ). loaded p strings code) c.requires.strings) c.run_machine.new.machine.state c.args.steps (finish_of c.in-Ok-run_machine.end) old new c.in-Ok-run_machine.ensures.ran in
+    λ w e. shows_end p code c.requires.small c.requires.translates refl c.args.steps old new c.run_machine.new.machine c.in-Ok-run_machine.end c.answer.result w (ran w e) c.answer.ensures c.in-Ok-run_machine.ensures.at
 
 pub returns-clause-answer : goal.returns-clause-answer
 returns-clause-answer g c =
     let p = module_of c.args.m.now in
-    let strings = c.args.strings.now in
     let code = c.args.code.now in
     let old = g.S.Sink.written c.args.screen.now in
     let new = g.S.Sink.written c.run_machine.new.screen in
-    let ran = ran_from p strings code c.requires.small c.requires.translates refl c.in-Ok.machine c.in-Ok.ensures c.run_machine.new.machine.state c.args.steps (finish_of c.in-Ok-run_machine.end) old new c.in-Ok-run_machine.ensures.ran in
-    λ w e ok. means_end p strings code c.requires.small c.requires.translates refl c.args.steps old new c.run_machine.new.machine c.in-Ok-run_machine.end c.answer.result w (ran w e) c.answer.ensures c.in-Ok-run_machine.ensures.at ok
+    let ran = ran_from p (module_strings p) code c.requires.small c.requires.translates refl c.in-Ok.machine (c.in-Ok.ensures ∙ ap (λ (strings : List ℕ). loaded p strings code) c.requires.strings) c.run_machine.new.machine.state c.args.steps (finish_of c.in-Ok-run_machine.end) old new c.in-Ok-run_machine.ensures.ran in
+    λ w e ok. means_end p code c.requires.small c.requires.translates refl c.args.steps old new c.run_machine.new.machine c.in-Ok-run_machine.end c.answer.result w (ran w e) c.answer.ensures c.in-Ok-run_machine.ensures.at ok
 
 pub returns-clause-kinds : goal.returns-clause-kinds
 returns-clause-kinds g c =
     let p = module_of c.args.m.now in
-    let strings = c.args.strings.now in
     let code = c.args.code.now in
     let old = g.S.Sink.written c.args.screen.now in
     let new = g.S.Sink.written c.run_machine.new.screen in
-    let ran = ran_from p strings code c.requires.small c.requires.translates refl c.in-Ok.machine c.in-Ok.ensures c.run_machine.new.machine.state c.args.steps (finish_of c.in-Ok-run_machine.end) old new c.in-Ok-run_machine.ensures.ran in
-    let can = possible p strings code c.requires.small c.requires.translates refl c.args.steps old new c.run_machine.new.machine c.in-Ok-run_machine.end ran c.in-Ok-run_machine.ensures.at in
-    kind_end p strings code c.requires.small c.requires.translates refl c.args.steps old new c.run_machine.new.machine c.in-Ok-run_machine.end c.answer.result can c.answer.ensures
+    let ran = ran_from p (module_strings p) code c.requires.small c.requires.translates refl c.in-Ok.machine (c.in-Ok.ensures ∙ ap (λ (strings : List ℕ). loaded p strings code) c.requires.strings) c.run_machine.new.machine.state c.args.steps (finish_of c.in-Ok-run_machine.end) old new c.in-Ok-run_machine.ensures.ran in
+    let can = possible p code c.requires.small c.requires.translates refl c.args.steps old new c.run_machine.new.machine c.in-Ok-run_machine.end ran c.in-Ok-run_machine.ensures.at in
+    kind_end p code c.requires.small c.requires.translates refl c.args.steps old new c.run_machine.new.machine c.in-Ok-run_machine.end c.answer.result can c.answer.ensures
 
 pub returns-clause-cause : goal.returns-clause-cause
 returns-clause-cause g c =
-    blames_end (module_of c.args.m.now) c.args.strings.now c.args.code.now c.requires.small c.requires.translates refl c.args.steps (g.S.Sink.written c.args.screen.now) (g.S.Sink.written c.run_machine.new.screen) c.run_machine.new.machine c.in-Ok-run_machine.end c.answer.result (g.S.Sink.faults c.args.screen.now) (g.S.Sink.faults c.run_machine.new.screen) c.answer.ensures c.in-Ok-run_machine.ensures.cause.quiet
+    blames_end (module_of c.args.m.now) c.args.code.now c.requires.small c.requires.translates refl c.args.steps (g.S.Sink.written c.args.screen.now) (g.S.Sink.written c.run_machine.new.screen) c.run_machine.new.machine c.in-Ok-run_machine.end c.answer.result (g.S.Sink.faults c.args.screen.now) (g.S.Sink.faults c.run_machine.new.screen) c.answer.ensures c.in-Ok-run_machine.ensures.cause.quiet
