@@ -1,5 +1,6 @@
 ghost use Rattle.std.specs.Prelude.{◌≡◌, [], ◌∷◌, ◌++◌, ◌<◌, length, slice_get, ◌↔◌, IsTrue, IfOk, OnOk, OnErr, OnSome, MatchOption};
 ghost use Rattle.std.specs.Option.{option_copied};
+ghost use Rattle.lil_base.specs.Lists as spec;
 
 use crate::Memory;
 use std::alloc::Global;
@@ -118,4 +119,21 @@ pub fn same_bytes(a: &[u8], b: &[u8]) -> bool
     ensures { IsTrue result ↔ (a.now ≡ b.now) }
 {
     a == b
+}
+
+/// One more behind all others, where all are there: None where one isn't. After a refusal both are dropped.
+pub fn joined<T: Drop>(all: Option<Items<T>>, one: Option<T>) -> Result<Option<Items<T>>, Memory>
+    ensures { IfOk result (λ o. o ≡ spec.joined all one) }
+{
+    let Some(all) = all else {
+        drop(one);
+        return Ok(None);
+    };
+    let Some(one) = one else {
+        drop(all);
+        return Ok(None);
+    };
+    let mut all = all;
+    all.push(one)?;
+    Ok(Some(all))
 }

@@ -11,6 +11,7 @@ mod name;
 mod operator;
 mod request;
 mod sets;
+mod shared;
 mod words;
 
 pub use boxed::Boxed;
@@ -20,12 +21,13 @@ pub use fault::{
 };
 pub use fields::{get16, get32, put16, put32};
 pub use found::beside;
-pub use items::{Items, same_bytes};
+pub use items::{Items, joined, same_bytes};
 pub use memory::Memory;
 pub use name::{FileName, Name};
 pub use operator::{OneOp, TwoOp};
 pub use request::Request;
 pub use sets::{set_either, set_has, set_meet, set_minus, set_span, set_union, set_within};
+pub use shared::Shared;
 pub use words::{
     abs_int, add_card, add_int, div_card, div_int, mod_card, mod_int, mul_card, mul_int, neg_int,
     sub_card, sub_int,

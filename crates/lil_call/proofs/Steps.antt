@@ -1,24 +1,23 @@
 -- One part of a call after the other.
-use Rattle.std.proofs.Common.{◌≡◌, ℕ, max, Bool, true, false, ◌&&◌, List, [], ◌∷◌, length, Option, None, Result, IfOk, subst, ap, sym, ◌∙◌}
+use Rattle.std.proofs.Common.{◌≡◌, ℕ, max, Bool, true, false, ◌&&◌, is_some, List, length, Option, None, Result, IfOk, subst, ap, sym, ◌∙◌}
 use Rattle.std.proofs.lemmas.Result.{IfOk-weaker}
 use Rattle.lil_base.specs.declared.fault.Place.{Place}
 use Rattle.lil_types.specs.Types.{Table}
-use Rattle.lil_module.specs.declared.tree.RArgument.{RArgument}
-use Rattle.lil_module.specs.declared.tree.RArgument.TheVariants as handed
-use Rattle.lil_module.specs.declared.tree.RStmt.{RStmt}
-use Rattle.lil_module.specs.declared.tree.Standard.{Standard}
+use Rattle.lil_declared.specs.declared.standard.Standard.{Standard}
+use Rattle.lil_resolved.specs.declared.resolved.RStmt.{RStmt}
 use Rattle.lil_report.specs.declared.report.Fault.{Fault}
 use Rattle.lil_report.specs.Told.{Row, after, Said}
 use Rattle.lil_report.specs.Laws.{said_after, said_as, said_to, said_map, said_pure}
 use Rattle.lil_kinds.specs.Forms.{result}
 use Rattle.lil_kinds.specs.declared.found.Found.{Found}
+use Rattle.lil_forms.specs.Arguments.{located_in}
 use Rattle.lil_call.specs.declared.call.Argument.{Argument}
 use Rattle.lil_call.specs.declared.call.Callee.{Callee}
 use Rattle.lil_call.specs.declared.passing.Passed.{Passed}
 use Rattle.lil_call.specs.declared.routines.Invoked.{Invoked}
-use Rattle.lil_call.specs.Passing.{place_or_value, nothing_passed, arguments_mean}
+use Rattle.lil_call.specs.Passing.{nothing_passed, arguments_mean}
 use Rattle.lil_call.specs.Functions.{standard_node, function_if, function_mean, of_all, ordinal_node, converted, converted_if, kept_if}
-use Rattle.lil_call.specs.Procedures.{procedure_if, procedure_mean, by_all, variable_node, operand_node, deep_node, done_if, with_variable, with_operand}
+use Rattle.lil_call.specs.Procedures.{procedure_if, procedure_mean, by_all, variable_node, operand_node, deep_node, done_if, variable_statement, operand_statement, with_variable, with_operand}
 use Rattle.lil_call.specs.Calls.{heading_node, depth_node, passed_if, routine_mean, call_found, routine_value, call_statement, routine_statement, value_of, statement_of}
 
 -- a part whose value is known, and what is built on that value
@@ -48,30 +47,30 @@ module _ (t : Table) (p : Place) (of : Standard) where
       → n ≡ length xs → Said (standard_node p false of n) r b s → b ≡ false → Said (procedure_mean t p of xs) r None s
   no_procedure xs n {b = b} {r = r} {s = s} e h i = said_at (standard_node p false of (length xs)) (procedure_if t p of xs) false (subst (λ n. Said (standard_node p false of n) r b s) e h) i (said_pure None s)
 
-  pub is_changed : (x : Found) {a b : Bool} {q : Option RStmt} {r s u : Option Fault} (c : Bool) (v : RArgument) (zs : List RArgument)
-      → Said (variable_node t of x) r a s → Said (deep_node p x.depth) s b u → c ≡ (a && b) → v ≡ place_or_value x.form → zs ≡ v ∷ [] → q ≡ done_if c of zs
+  pub is_changed : (x : Found) {a b : Bool} {q : Option RStmt} {r s u : Option Fault} (c : Bool) (v : Option RStmt)
+      → Said (variable_node t of x) r a s → Said (deep_node p x.depth) s b u → c ≡ (a && b) → v ≡ variable_statement t of (located_in x.form) → q ≡ done_if c v
       → Said (with_variable t p of x) r q u
-  is_changed x {a = a} {b = b} c v zs h g i j k e =
-      said_after (variable_node t of x) (λ a. after (deep_node p x.depth) (λ b. (done_if (a && b) of (place_or_value x.form ∷ []), []))) h
-      (said_to (said_map (λ b. done_if (a && b) of (place_or_value x.form ∷ [])) g) (e ∙ (λ n. done_if (i n) of ((k ∙ ap (λ v. v ∷ []) j) n))))
+  is_changed x {a = a} c v h g i j e =
+      said_after (variable_node t of x) _ h
+      (said_to (said_map (λ b. done_if (a && b) (variable_statement t of (located_in x.form))) g) (e ∙ (λ n. done_if (i n) (j n))))
 
-  pub is_joined : (x y : Found) {a b c : Bool} {q : Option RStmt} {r s u w : Option Fault} (d : Bool) (depth : ℕ) (v : RArgument) (zs : List RArgument)
+  pub is_joined : (x y : Found) {a b c : Bool} {q : Option RStmt} {r s u w : Option Fault} (d : Bool) (depth : ℕ) (v : Option RStmt)
       → Said (variable_node t of x) r a s → Said (operand_node t of x.kind y) s b u → Said (deep_node p depth) u c w → depth ≡ max x.depth y.depth
-      → d ≡ (a && (b && c)) → v ≡ place_or_value x.form → zs ≡ v ∷ handed.Value y.form ∷ [] → q ≡ done_if d of zs
+      → d ≡ (a && (b && c)) → v ≡ operand_statement t of (located_in x.form) y → q ≡ done_if d v
       → Said (with_operand t p of x y) r q w
-  is_joined x y {a = a} {b = b} {c = c} {u = u} {w = w} d depth v zs h g l m i j k e =
+  is_joined x y {a = a} {b = b} {c = c} {u = u} {w = w} d depth v h g l m i j e =
       said_after (variable_node t of x) _ h
       (said_after (operand_node t of x.kind y) _ g
-      (said_to (said_map (λ c. done_if (a && (b && c)) of (place_or_value x.form ∷ handed.Value y.form ∷ [])) (subst (λ n. Said (deep_node p n) u c w) m l)) (e ∙ (λ n. done_if (i n) of ((k ∙ ap (λ v. v ∷ handed.Value y.form ∷ []) j) n)))))
+      (said_to (said_map (λ c. done_if (a && (b && c)) (operand_statement t of (located_in x.form) y)) (subst (λ n. Said (deep_node p n) u c w) m l)) (e ∙ (λ n. done_if (i n) (j n)))))
 
 -- ---- calls of procedures
 module _ (t : Table) (p : Place) (v : Invoked) where
-  pub is_routine_call : (wanted : Bool) (xs : List Argument) (n : ℕ) (start : Passed) {b : Bool} {q : Passed} {o : Option Passed} {r s u w : Option Fault}
-      → n ≡ length xs → Said (heading_node t p wanted v.sort n) r b s → b ≡ true → start ≡ nothing_passed v.depth
-      → Said (arguments_mean t v.resident v.sort start xs) s q u → Said (depth_node p q) u o w → Said (routine_mean t p wanted v xs) r o w
-  is_routine_call wanted xs n start {b = b} {q = q} {r = r} {s = s} {u = u} e h i j g l =
+  pub is_routine_call : (wanted : Bool) (xs : List Argument) (n : ℕ) (is : Bool) (start : Passed) {b : Bool} {q : Passed} {o : Option Passed} {r s u w : Option Fault}
+      → n ≡ length xs → Said (heading_node t p wanted v.sort n) r b s → b ≡ true → is ≡ is_some v.resident → start ≡ nothing_passed v.depth
+      → Said (arguments_mean t is v.sort start xs) s q u → Said (depth_node p q) u o w → Said (routine_mean t p wanted v xs) r o w
+  is_routine_call wanted xs n is start {b = b} {q = q} {r = r} {s = s} {u = u} e h i k j g l =
       said_at (heading_node t p wanted v.sort (length xs)) (passed_if t p v xs) true (subst (λ n. Said (heading_node t p wanted v.sort n) r b s) e h) i
-      (said_after (arguments_mean t v.resident v.sort (nothing_passed v.depth) xs) (depth_node p) (subst (λ z. Said (arguments_mean t v.resident v.sort z xs) s q u) j g) l)
+      (said_after (arguments_mean t (is_some v.resident) v.sort (nothing_passed v.depth) xs) (depth_node p) (subst (λ z. Said z s q u) (λ n. arguments_mean t (k n) v.sort (j n) xs) g) l)
 
   pub no_routine_call : (wanted : Bool) (xs : List Argument) (n : ℕ) {b : Bool} {r s : Option Fault}
       → n ≡ length xs → Said (heading_node t p wanted v.sort n) r b s → b ≡ false → Said (routine_mean t p wanted v xs) r None s
@@ -79,8 +78,8 @@ module _ (t : Table) (p : Place) (v : Invoked) where
       said_at (heading_node t p wanted v.sort (length xs)) (passed_if t p v xs) false (subst (λ n. Said (heading_node t p wanted v.sort n) r b s) e h) i (said_pure None s)
 
   pub is_value_call : (xs : List Argument) {s : Option Passed} {o : Option Found} {r u : Option Fault} (sort : Option ℕ)
-      → Said (routine_mean t p true v xs) r s u → sort ≡ result t v.sort → o ≡ call_found p v sort s → Said (routine_value t p v xs) r o u
-  is_value_call xs {s = s} sort h i e = said_to (said_map (call_found p v (result t v.sort)) h) (e ∙ ap (λ sort. call_found p v sort s) i)
+      → Said (routine_mean t p true v xs) r s u → sort ≡ result t v.sort → o ≡ call_found p sort s → Said (routine_value t p v xs) r o u
+  is_value_call xs {s = s} sort h i e = said_to (said_map (call_found p (result t v.sort)) h) (e ∙ ap (λ sort. call_found p sort s) i)
 
   pub is_statement_call : (xs : List Argument) {s : Option Passed} {o : Option RStmt} {r u : Option Fault}
       → Said (routine_mean t p false v xs) r s u → o ≡ call_statement v s → Said (routine_statement t p v xs) r o u

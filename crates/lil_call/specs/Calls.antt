@@ -3,17 +3,16 @@ use Rattle.std.specs.Prelude.{ℕ, ◌==◌, nat_lt, Bool, true, false, not, is_
 use Rattle.lil_base.specs.declared.fault.Place.{Place}
 use Rattle.lil_base.specs.declared.fault.FaultKind.TheVariants.{ArgCount, NotCallable, ExprDeep}
 use Rattle.lil_types.specs.Types.{Table}
-use Rattle.lil_module.specs.declared.tree.RDesignator.{RDesignator}
-use Rattle.lil_module.specs.declared.tree.Resident.{Resident}
-use Rattle.lil_module.specs.declared.tree.RStmt.{RStmt}
-use Rattle.lil_module.specs.declared.tree.RStmt.TheVariants as statement
-use Rattle.lil_module.specs.declared.tree.RExpr.TheVariants as form
-use Rattle.lil_module.specs.declared.tree.RCallee.TheVariants as resolved
+use Rattle.lil_declared.specs.declared.standard.Resident.{Resident}
+use Rattle.lil_resolved.specs.declared.resolved.RStmt.{RStmt}
 use Rattle.lil_report.specs.Told.{Row, row, after}
 use Rattle.lil_scope.specs.declared.thing.Kind.TheVariants as kind
 use Rattle.lil_kinds.specs.Forms.{is_routine, arity, result}
+use Rattle.lil_kinds.specs.declared.found.Form.TheVariants as form
 use Rattle.lil_kinds.specs.declared.found.Found.{Found}
 use Rattle.lil_kinds.specs.declared.found.Standing.TheVariants as standing
+use Rattle.lil_forms.specs.Arguments.{called}
+use Rattle.lil_forms.specs.declared.arguments.Handed.{Handed}
 use Rattle.lil_call.specs.declared.call.Callee.{Callee}
 use Rattle.lil_call.specs.declared.call.Callee.TheVariants as callee
 use Rattle.lil_call.specs.declared.call.Argument.{Argument}
@@ -46,22 +45,28 @@ depth_node p s = (
 -- the arguments are looked at where their number is right
 abbrev pub passed_if : Table → Place → Invoked → List Argument → Bool → Option Passed × List Row
 passed_if t p v xs false = (None, [])
-passed_if t p v xs true = after (arguments_mean t v.resident v.sort (nothing_passed v.depth) xs) (depth_node p)
+passed_if t p v xs true = after (arguments_mean t (is_some v.resident) v.sort (nothing_passed v.depth) xs) (depth_node p)
 
 abbrev pub routine_mean : Table → Place → Bool → Invoked → List Argument → Option Passed × List Row
 routine_mean t p wanted v xs = after (heading_node t p wanted v.sort (length xs)) (passed_if t p v xs)
 
-abbrev pub call_found : Place → Invoked → Option ℕ → Option Passed → Option Found
-call_found p v None s = None
-call_found p v (Some sort) None = None
-call_found p v (Some sort) (Some s) = Some (record { form = form.Call v.form s.arguments; kind = kind.Of sort; first = p; depth = s.depth; standing = standing.Value })
+-- no code is made of a call that gives a value
+abbrev pub call_found : Place → Option ℕ → Option Passed → Option Found
+call_found p None s = None
+call_found p (Some sort) None = None
+call_found p (Some sort) (Some s) = Some (record { form = form.Nothing; kind = kind.Of sort; first = p; depth = s.depth; standing = standing.Value })
 
 abbrev pub routine_value : Table → Place → Invoked → List Argument → Option Found × List Row
-routine_value t p v xs = after (routine_mean t p true v xs) (λ s. (call_found p v (result t v.sort) s, []))
+routine_value t p v xs = after (routine_mean t p true v xs) (λ s. (call_found p (result t v.sort) s, []))
+
+-- code is made of calls of resident procedures alone
+abbrev pub call_of : Option Resident → Handed → Option RStmt
+call_of None h = None
+call_of (Some r) h = called r h
 
 abbrev pub call_statement : Invoked → Option Passed → Option RStmt
 call_statement v None = None
-call_statement v (Some s) = Some (statement.Call v.form s.arguments)
+call_statement v (Some s) = call_of v.resident s.handed
 
 abbrev pub routine_statement : Table → Place → Invoked → List Argument → Option RStmt × List Row
 routine_statement t p v xs = after (routine_mean t p false v xs) (λ s. (call_statement v s, []))
@@ -71,25 +76,25 @@ routine_statement t p v xs = after (routine_mean t p false v xs) (λ s. (call_st
 unfoldable pub no_call : {A : Type 0} → Place → Option A × List Row
 no_call p = (None, row true p NotCallable ∷ [])
 
-abbrev pub of_procedure : ℕ → ℕ → Invoked
-of_procedure n sort = record { form = resolved.Procedure n; sort = sort; depth = 1; resident = false }
+abbrev pub of_procedure : ℕ → Invoked
+of_procedure sort = record { sort = sort; depth = 1; resident = None }
 
-abbrev pub of_variable : RDesignator → ℕ → ℕ → Invoked
-of_variable d sort depth = record { form = resolved.Variable d; sort = sort; depth = depth; resident = false }
+abbrev pub of_variable : ℕ → ℕ → Invoked
+of_variable sort depth = record { sort = sort; depth = depth; resident = None }
 
 abbrev pub of_resident : Resident → ℕ → Invoked
-of_resident r sort = record { form = resolved.Resident r; sort = sort; depth = 1; resident = true }
+of_resident r sort = record { sort = sort; depth = 1; resident = Some r }
 
 abbrev pub value_of : Table → Place → Callee → List Argument → Option Found × List Row
-value_of t p (callee.Procedure n sort) xs = routine_value t p (of_procedure n sort) xs
-value_of t p (callee.Variable d sort depth) xs = routine_value t p (of_variable d sort depth) xs
+value_of t p (callee.Procedure sort) xs = routine_value t p (of_procedure sort) xs
+value_of t p (callee.Variable sort depth) xs = routine_value t p (of_variable sort depth) xs
 value_of t p (callee.Resident r sort) xs = routine_value t p (of_resident r sort) xs
 value_of t p (callee.Standard of) xs = function_mean t p of xs
 value_of t p callee.Other xs = no_call p
 
 abbrev pub statement_of : Table → Place → Callee → List Argument → Option RStmt × List Row
-statement_of t p (callee.Procedure n sort) xs = routine_statement t p (of_procedure n sort) xs
-statement_of t p (callee.Variable d sort depth) xs = routine_statement t p (of_variable d sort depth) xs
+statement_of t p (callee.Procedure sort) xs = routine_statement t p (of_procedure sort) xs
+statement_of t p (callee.Variable sort depth) xs = routine_statement t p (of_variable sort depth) xs
 statement_of t p (callee.Resident r sort) xs = routine_statement t p (of_resident r sort) xs
 statement_of t p (callee.Standard of) xs = procedure_mean t p of xs
 statement_of t p callee.Other xs = no_call p

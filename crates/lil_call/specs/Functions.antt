@@ -2,13 +2,9 @@
 use Rattle.std.specs.Prelude.{ℕ, ◌==◌, max, Bool, true, false, not, ◌&&◌, ◌||◌, if◌then◌else◌, List, [], ◌∷◌, length, Option, Some, None}
 use Rattle.lil_base.specs.declared.fault.Place.{Place}
 use Rattle.lil_base.specs.declared.fault.FaultKind.TheVariants.{WrongKind, Operands, ArgCount, NotCallable, ConstRange}
-use Rattle.lil_types.specs.Types.{Table, integer}
-use Rattle.lil_module.specs.declared.tree.RExpr.{RExpr}
-use Rattle.lil_module.specs.declared.tree.RExpr.TheVariants as form
-use Rattle.lil_module.specs.declared.tree.RArgument.{RArgument}
-use Rattle.lil_module.specs.declared.tree.RArgument.TheVariants as handed
-use Rattle.lil_module.specs.declared.tree.Standard.{Standard}
-use Rattle.lil_module.specs.declared.tree.Standard.TheVariants.{High, Max, Min, Val, Dec, Excl, Halt, Inc, Incl, New, Dispose}
+use Rattle.lil_types.specs.Types.{Table, integer, cardinal}
+use Rattle.lil_declared.specs.declared.standard.Standard.{Standard}
+use Rattle.lil_declared.specs.declared.standard.Standard.TheVariants.{Max, Min, Val, Dec, Excl, Halt, Inc, Incl, New, Dispose}
 use Rattle.lil_report.specs.Told.{Row, row, after}
 use Rattle.lil_scope.specs.declared.thing.Kind.{Kind}
 use Rattle.lil_scope.specs.declared.thing.Kind.TheVariants as kind
@@ -16,11 +12,14 @@ use Rattle.lil_kinds.specs.Kinds.{is_ordinal, is_constant}
 use Rattle.lil_kinds.specs.Operators.{function, extreme}
 use Rattle.lil_kinds.specs.declared.found.Applied.{Applied}
 use Rattle.lil_kinds.specs.declared.found.Applied.TheVariants.{Refused, Outside, Gives}
+use Rattle.lil_kinds.specs.declared.found.Form.{Form}
+use Rattle.lil_kinds.specs.declared.found.Form.TheVariants as form
 use Rattle.lil_kinds.specs.declared.found.Found.{Found}
 use Rattle.lil_kinds.specs.declared.found.Standing.TheVariants as standing
+use Rattle.lil_forms.specs.Operators.{value_form, applied, function_by}
+use Rattle.lil_forms.specs.Values.{typed}
 use Rattle.lil_call.specs.declared.call.Argument.{Argument}
 use Rattle.lil_call.specs.declared.call.Argument.TheVariants as argument
-use Rattle.lil_call.specs.Passing.{place_or_value}
 
 -- ---- which standard procedures there are
 abbrev pub is_function : Standard → Bool
@@ -60,24 +59,23 @@ standard_node p wanted of count = (
 )
 
 -- ---- the value of a function
-abbrev pub sort_of : Kind → ℕ
-sort_of (kind.Of n) = n
-sort_of _ = 0
+-- a function of a value; VAL gives values of a type
+abbrev pub function_form : Table → Standard → ℕ → Found → Form
+function_form t of sort x = value_form (applied (function_by t of sort) (typed t cardinal x))
 
--- a constant stands for the call that gives it
-abbrev pub function_form : Standard → List RArgument → Kind → RExpr
-function_form of xs (kind.Whole n) = form.Whole n
-function_form of xs (kind.Scalar sort word) = form.Scalar sort word
-function_form of xs k = form.Function of (sort_of k) xs
+-- a constant has no form
+abbrev pub kept_form : Form → Kind → Form
+kept_form f (kind.Of s) = f
+kept_form f _ = form.Nothing
 
 -- a constant has depth 1, a call of a standard function that of its operand
 abbrev pub function_depth : Kind → ℕ → ℕ
 function_depth k depth = if is_constant k then 1 else max 1 depth
 
-abbrev pub applied_value : Place → Standard → ℕ → List RArgument → Applied → Option Found
-applied_value p of depth xs Refused = None
-applied_value p of depth xs Outside = None
-applied_value p of depth xs (Gives k) = Some (record { form = function_form of xs k; kind = k; first = p; depth = function_depth k depth; standing = standing.Value })
+abbrev pub applied_value : Place → ℕ → Form → Applied → Option Found
+applied_value p depth f Refused = None
+applied_value p depth f Outside = None
+applied_value p depth f (Gives k) = Some (record { form = kept_form f k; kind = k; first = p; depth = function_depth k depth; standing = standing.Value })
 
 abbrev pub is_refused : Applied → Bool
 is_refused Refused = true
@@ -89,8 +87,8 @@ lies_outside _ = false
 
 -- 30 Operands: the function doesn't take the argument
 -- 50 ConstRange: the value lies outside the function's type
-unfoldable pub applied_node : Place → Standard → Place → ℕ → List RArgument → Applied → Option Found × List Row
-applied_node p of at depth xs a = (applied_value p of depth xs a, row (is_refused a) at Operands ∷ row (lies_outside a) at ConstRange ∷ [])
+unfoldable pub applied_node : Place → Place → ℕ → Form → Applied → Option Found × List Row
+applied_node p at depth f a = (applied_value p depth f a, row (is_refused a) at Operands ∷ row (lies_outside a) at ConstRange ∷ [])
 
 -- ---- its arguments
 -- 24 WrongKind: a type's name where a value is needed
@@ -102,17 +100,12 @@ unfoldable pub no_type : {A : Type 0} → Place → Option A × List Row
 no_type at = (None, row true at Operands ∷ [])
 
 abbrev pub of_type : Table → Place → Standard → Place → ℕ → Option Found × List Row
-of_type t p of at sort = if is_extreme of then applied_node p of at 1 (handed.Type sort ∷ []) (extreme t of sort) else no_value at
-
--- an open array is handed over as a place
-abbrev pub function_argument : Standard → RExpr → RArgument
-function_argument High x = place_or_value x
-function_argument _ x = handed.Value x
+of_type t p of at sort = if is_extreme of then applied_node p at 1 form.Nothing (extreme t of sort) else no_value at
 
 abbrev pub of_value : Table → Place → Standard → Found → Option Found × List Row
 of_value t p of x =
     if is_extreme of then no_type x.first
-    else applied_node p of x.first x.depth (function_argument of x.form ∷ []) (function t of integer x.kind)
+    else applied_node p x.first x.depth (function_form t of integer x) (function t of integer x.kind)
 
 abbrev pub of_one : Table → Place → Standard → Argument → Option Found × List Row
 of_one t p of (argument.Value None) = (None, [])
@@ -128,7 +121,7 @@ abbrev pub kept_if : Bool → Option Found → Option Found
 kept_if is o = if is then o else None
 
 abbrev pub converted : Table → Place → Standard → ℕ → Found → Option Found × List Row
-converted t p of sort x = applied_node p of x.first x.depth (handed.Type sort ∷ handed.Value x.form ∷ []) (function t of sort x.kind)
+converted t p of sort x = applied_node p x.first x.depth (function_form t of sort x) (function t of sort x.kind)
 
 abbrev pub converted_if : Table → Place → Standard → ℕ → Found → Bool → Option Found × List Row
 converted_if t p of sort x is = after (converted t p of sort x) (λ o. (kept_if is o, []))

@@ -3,16 +3,6 @@ use Rattle.std.specs.Prelude.{ℕ, ◌+◌, ◌==◌, nat_lt, max, Bool, true, f
 use Rattle.lil_base.specs.declared.fault.FaultKind.TheVariants.{Assign, VarArgument, ConstRange, WrongKind}
 use Rattle.lil_types.specs.Types.{Table, char, same}
 use Rattle.lil_types.specs.declared.table.Parameter.{Parameter}
-use Rattle.lil_module.specs.declared.tree.RExpr.{RExpr, RExpr-F, out-RExpr}
-use Rattle.lil_module.specs.declared.tree.RExpr.TheVariants as form
-use Rattle.lil_module.specs.declared.tree.RArgument.{RArgument}
-use Rattle.lil_module.specs.declared.tree.RArgument.TheOpen as part
-use Rattle.lil_module.specs.declared.tree.RCallee.{RCallee}
-use Rattle.lil_module.specs.declared.tree.RSelector.{RSelector}
-use Rattle.lil_module.specs.declared.tree.RDesignator.{RDesignator}
-use Rattle.lil_module.specs.declared.tree.RElement.{RElement}
-use Rattle.lil_module.specs.declared.tree.ROperation.{ROperation}
-use Rattle.lil_module.specs.declared.tree.RArgument.TheVariants as handed
 use Rattle.lil_report.specs.Told.{Row, row, walk}
 use Rattle.lil_scope.specs.declared.thing.Kind.{Kind}
 use Rattle.lil_scope.specs.declared.thing.Kind.TheVariants as kind
@@ -22,6 +12,7 @@ use Rattle.lil_kinds.specs.declared.forms.ArrayParts.{ArrayParts}
 use Rattle.lil_kinds.specs.declared.found.Found.{Found}
 use Rattle.lil_kinds.specs.declared.found.Standing.{Standing}
 use Rattle.lil_kinds.specs.declared.found.Standing.TheVariants.{Variable}
+use Rattle.lil_forms.specs.Arguments.{nothing_handed, handed_over}
 use Rattle.lil_call.specs.declared.call.Argument.{Argument}
 use Rattle.lil_call.specs.declared.call.Argument.TheVariants as argument
 use Rattle.lil_call.specs.declared.passing.Passed.{Passed}
@@ -87,29 +78,6 @@ is_outside t p a = not p.by_place && (not p.open_array && misses t p.sort a)
 abbrev pub is_right : Table → Parameter → Found → Bool
 is_right t p x = not (is_wrong_value t p x.kind) && (not (is_wrong_place t p x.standing x.kind) && not (is_outside t p x.kind))
 
--- ---- the resolved argument
--- a variable as a place, any other form as a value
-abbrev pub handed_in : RExpr-F RArgument RCallee RExpr RSelector RDesignator RElement ROperation → RArgument
-handed_in (part.Whole z) = handed.Value (form.Whole z)
-handed_in (part.Scalar s n) = handed.Value (form.Scalar s n)
-handed_in (part.Chars text) = handed.Value (form.Chars text)
-handed_in (part.Named n) = handed.Value (form.Named n)
-handed_in part.Nil = handed.Value form.Nil
-handed_in (part.SetOf s es) = handed.Value (form.SetOf s es)
-handed_in (part.RExpr::Value d) = handed.Place d
-handed_in (part.RExpr::Procedure n) = handed.Value (form.Procedure n)
-handed_in (part.Call c xs) = handed.Value (form.Call c xs)
-handed_in (part.Function f s xs) = handed.Value (form.Function f s xs)
-handed_in (part.One op s x) = handed.Value (form.One op s x)
-handed_in (part.Chain x os) = handed.Value (form.Chain x os)
-
-unfoldable pub place_or_value : RExpr → RArgument
-place_or_value x = handed_in (out-RExpr x)
-
--- an open array is handed over as a place, but for a text
-abbrev pub handed_over : Parameter → RExpr → RArgument
-handed_over p x = if p.by_place || p.open_array then place_or_value x else handed.Value x
-
 -- ---- depth
 -- beside so many words that lie below it; 13 stands for all depths above 12
 abbrev pub raised : ℕ → ℕ → ℕ
@@ -125,11 +93,12 @@ words_after resident p words = if resident then more_words p words else words
 
 -- ---- one argument after the other
 abbrev pub nothing_passed : ℕ → Passed
-nothing_passed depth = record { arguments = []; words = 0; depth = max 1 depth; is_right = true }
+nothing_passed depth = record { parameters = []; handed = nothing_handed; words = 0; depth = max 1 depth; is_right = true }
 
 abbrev pub with_argument : Table → Bool → Parameter → Passed → Found → Passed
 with_argument t resident p s x = record {
-  arguments = s.arguments ++ handed_over p x.form ∷ [];
+  parameters = s.parameters ++ p ∷ [];
+  handed = handed_over t p s.handed x;
   words = words_after resident p s.words;
   depth = max s.depth (raised s.words x.depth);
   is_right = s.is_right && is_right t p x;
@@ -156,7 +125,7 @@ argument_by t resident (Some p) s x = argument_node t resident p s x
 -- 24 WrongKind: a type's name where a value is needed
 unfoldable pub argument_step : Table → Bool → ℕ → Passed → Argument → Passed × List Row
 argument_step t resident sort s (argument.Value None) = (without_more s, [])
-argument_step t resident sort s (argument.Value (Some x)) = argument_by t resident (parameter t sort (length s.arguments)) s x
+argument_step t resident sort s (argument.Value (Some x)) = argument_by t resident (parameter t sort (length s.parameters)) s x
 argument_step t resident sort s (argument.Type p n) = (without_more s, row true p WrongKind ∷ [])
 
 abbrev pub arguments_mean : Table → Bool → ℕ → Passed → List Argument → Passed × List Row

@@ -4,21 +4,24 @@ use Rattle.lil_base.specs.declared.fault.Place.{Place}
 use Rattle.lil_base.specs.declared.fault.FaultKind.TheVariants.{Operands, VarArgument, NotPointer, Opaque, ConstRange, ExprDeep}
 use Rattle.lil_types.specs.Types.{Table, integer, cardinal, base}
 use Rattle.lil_types.specs.declared.table.Span.{Span}
-use Rattle.lil_module.specs.declared.tree.RStmt.{RStmt}
-use Rattle.lil_module.specs.declared.tree.RStmt.TheVariants as statement
-use Rattle.lil_module.specs.declared.tree.RArgument.{RArgument}
-use Rattle.lil_module.specs.declared.tree.RArgument.TheVariants as handed
-use Rattle.lil_module.specs.declared.tree.Standard.{Standard}
-use Rattle.lil_module.specs.declared.tree.Standard.TheVariants.{Dec, Excl, Inc, Incl, New, Dispose}
+use Rattle.lil_declared.specs.declared.standard.Standard.{Standard}
+use Rattle.lil_declared.specs.declared.standard.Standard.TheVariants.{Dec, Excl, Halt, Inc, Incl, New, Dispose}
 use Rattle.lil_report.specs.Told.{Row, row, after}
 use Rattle.lil_scope.specs.declared.thing.Kind.{Kind}
 use Rattle.lil_scope.specs.declared.thing.Kind.TheVariants as kind
 use Rattle.lil_kinds.specs.Forms.{target, set_base, element_span, is_opaque}
 use Rattle.lil_kinds.specs.Kinds.{compatible, is_ordinal, number}
 use Rattle.lil_kinds.specs.declared.found.Found.{Found}
+use Rattle.lil_kinds.specs.declared.found.Located.{Located}
+use Rattle.lil_resolved.specs.declared.resolved.Direction.TheVariants.{Up, Down}
+use Rattle.lil_resolved.specs.declared.resolved.Membership.TheVariants.{Joins, Leaves}
+use Rattle.lil_resolved.specs.declared.resolved.RStmt.{RStmt}
+use Rattle.lil_resolved.specs.declared.resolved.RStmt.TheVariants as statement
+use Rattle.lil_forms.specs.Arguments.{located_in}
+use Rattle.lil_forms.specs.Statements.{changed, changed_by_one, turned, created, disposed}
 use Rattle.lil_call.specs.declared.call.Argument.{Argument}
 use Rattle.lil_call.specs.declared.call.Argument.TheVariants as argument
-use Rattle.lil_call.specs.Passing.{is_variable, place_or_value}
+use Rattle.lil_call.specs.Passing.{is_variable}
 use Rattle.lil_call.specs.Functions.{standard_node, no_value}
 
 -- ---- which standard procedures there are
@@ -123,18 +126,40 @@ operand_node t of v x = (
 unfoldable pub deep_node : Place → ℕ → Bool × List Row
 deep_node p depth = (not (nat_lt 12 depth), row (nat_lt 12 depth) p ExprDeep ∷ [])
 
-abbrev pub done_if : Bool → Standard → List RArgument → Option RStmt
-done_if is of xs = if is then Some (statement.Procedure of xs) else None
+abbrev pub done_if : Bool → Option RStmt → Option RStmt
+done_if is s = if is then s else None
+
+-- INC and DEC by 1, NEW and DISPOSE
+abbrev pub variable_statement : Table → Standard → Option Located → Option RStmt
+variable_statement t Inc v = changed_by_one t Up v
+variable_statement t Dec v = changed_by_one t Down v
+variable_statement t New v = created t v
+variable_statement t Dispose v = disposed t v
+variable_statement t _ v = None
+
+-- INC and DEC by a number, INCL and EXCL
+abbrev pub operand_statement : Table → Standard → Option Located → Found → Option RStmt
+operand_statement t Inc v y = changed t Up v y
+operand_statement t Dec v y = changed t Down v y
+operand_statement t Incl v y = turned t Joins v y
+operand_statement t Excl v y = turned t Leaves v y
+operand_statement t _ v y = None
+
+-- HALT has no argument
+abbrev pub no_argument : Standard → Option RStmt
+no_argument Halt = Some statement.Halt
+no_argument _ = None
 
 abbrev pub with_variable : Table → Place → Standard → Found → Option RStmt × List Row
 with_variable t p of x =
-    after (variable_node t of x) (λ a. after (deep_node p x.depth) (λ b. (done_if (a && b) of (place_or_value x.form ∷ []), [])))
+    after (variable_node t of x) (λ a.
+    after (deep_node p x.depth) (λ b. (done_if (a && b) (variable_statement t of (located_in x.form)), [])))
 
 abbrev pub with_operand : Table → Place → Standard → Found → Found → Option RStmt × List Row
 with_operand t p of x y =
     after (variable_node t of x) (λ a.
     after (operand_node t of x.kind y) (λ b.
-    after (deep_node p (max x.depth y.depth)) (λ c. (done_if (a && (b && c)) of (place_or_value x.form ∷ handed.Value y.form ∷ []), []))))
+    after (deep_node p (max x.depth y.depth)) (λ c. (done_if (a && (b && c)) (operand_statement t of (located_in x.form) y), []))))
 
 abbrev pub by_one : Table → Place → Standard → Argument → Option RStmt × List Row
 by_one t p of (argument.Value None) = (None, [])
@@ -148,9 +173,8 @@ by_two t p of (argument.Value (Some x)) (argument.Value (Some y)) = with_operand
 by_two t p of (argument.Value (Some x)) (argument.Type at n) = no_value at
 by_two t p of (argument.Type at n) y = no_value at
 
--- HALT has no argument
 abbrev pub by_all : Table → Place → Standard → List Argument → Option RStmt × List Row
-by_all t p of [] = (Some (statement.Procedure of []), [])
+by_all t p of [] = (no_argument of, [])
 by_all t p of (x ∷ []) = by_one t p of x
 by_all t p of (x ∷ y ∷ ys) = by_two t p of x y
 

@@ -7,18 +7,19 @@ use crate::passing::all_have_values;
 use crate::procedures::procedure_call;
 use crate::routines::{Invoked, statement_call, value_call};
 use lil_base::{FaultKind, Items, Memory, Place};
+use lil_declared::{Resident, Standard};
 use lil_kinds::Found;
-use lil_module::{RCallee, RDesignator, RStmt, Resident, Standard};
 use lil_report::Report;
+use lil_resolved::RStmt;
 use lil_types::{TypeId, TypeTable};
 use std::alloc::Global;
 
-/// What is called: a procedure by its number and its procedure type; the value of a variable, with its type and its depth; a
-/// procedure of a resident module; a standard procedure; or what can't be called.
-#[derive(Drop)]
+/// What is called: a procedure, by its procedure type; the value of a variable, by its type and its depth; a procedure of a
+/// resident module; a standard procedure; or what can't be called.
+#[derive(Clone, Copy)]
 pub enum Callee {
-    Procedure(usize, TypeId),
-    Variable(RDesignator, TypeId, usize),
+    Procedure(TypeId),
+    Variable(TypeId, usize),
     Resident(Resident, TypeId),
     Standard(Standard),
     Other,
@@ -31,25 +32,23 @@ pub enum Argument {
     Type(Place, Option<TypeId>),
 }
 
-fn of_procedure(number: usize, sort: TypeId) -> Invoked
-    ensures { result ≡ spec.of_procedure number sort }
+fn of_procedure(sort: TypeId) -> Invoked
+    ensures { result ≡ spec.of_procedure sort }
 {
     Invoked {
-        form: RCallee::Procedure(number),
         sort,
         depth: 1,
-        resident: false,
+        resident: None,
     }
 }
 
-fn of_variable(designator: RDesignator, sort: TypeId, depth: usize) -> Invoked
-    ensures { result ≡ spec.of_variable designator sort depth }
+fn of_variable(sort: TypeId, depth: usize) -> Invoked
+    ensures { result ≡ spec.of_variable sort depth }
 {
     Invoked {
-        form: RCallee::Variable(designator),
         sort,
         depth,
-        resident: false,
+        resident: None,
     }
 }
 
@@ -57,10 +56,9 @@ fn of_resident(number: Resident, sort: TypeId) -> Invoked
     ensures { result ≡ spec.of_resident number sort }
 {
     Invoked {
-        form: RCallee::Resident(number),
         sort,
         depth: 1,
-        resident: true,
+        resident: Some(number),
     }
 }
 
@@ -84,12 +82,12 @@ fn value(
     ensures { IfOk result (λ o. Said (spec.value_of t.now first callee arguments) report.old o report.new) }
 {
     match callee {
-        Callee::Procedure(number, sort) => {
-            let v = of_procedure(number, sort);
+        Callee::Procedure(sort) => {
+            let v = of_procedure(sort);
             value_call(alloc, t, report, first, v, arguments)
         }
-        Callee::Variable(designator, sort, depth) => {
-            let v = of_variable(designator, sort, depth);
+        Callee::Variable(sort, depth) => {
+            let v = of_variable(sort, depth);
             value_call(alloc, t, report, first, v, arguments)
         }
         Callee::Resident(number, sort) => {
@@ -112,19 +110,19 @@ fn statement(
     ensures { IfOk result (λ o. Said (spec.statement_of t.now first callee arguments) report.old o report.new) }
 {
     match callee {
-        Callee::Procedure(number, sort) => {
-            let v = of_procedure(number, sort);
+        Callee::Procedure(sort) => {
+            let v = of_procedure(sort);
             statement_call(alloc, t, report, first, v, arguments)
         }
-        Callee::Variable(designator, sort, depth) => {
-            let v = of_variable(designator, sort, depth);
+        Callee::Variable(sort, depth) => {
+            let v = of_variable(sort, depth);
             statement_call(alloc, t, report, first, v, arguments)
         }
         Callee::Resident(number, sort) => {
             let v = of_resident(number, sort);
             statement_call(alloc, t, report, first, v, arguments)
         }
-        Callee::Standard(of) => procedure_call(alloc, t, report, first, of, arguments),
+        Callee::Standard(of) => Ok(procedure_call(t, report, first, of, arguments)),
         Callee::Other => Ok(no_call(report, first)),
     }
 }

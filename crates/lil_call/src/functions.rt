@@ -1,15 +1,15 @@
-ghost use Rattle.std.specs.Prelude.{◌≡◌, ◌∷◌, [], IfOk};
+ghost use Rattle.std.specs.Prelude.{◌≡◌, IfOk};
 ghost use Rattle.lil_report.specs.Told.{Said, after};
 ghost use Rattle.lil_call.specs.Functions as spec;
 
 use crate::call::Argument;
-use crate::passing::place_or_value;
-use lil_base::{Boxed, FaultKind, Items, Memory, Place, beside};
-use lil_kinds::{Applied, Found, Standing, extreme, function, is_constant, is_ordinal};
-use lil_module::{RArgument, RExpr, Standard};
+use lil_base::{FaultKind, Items, Memory, Place};
+use lil_declared::Standard;
+use lil_forms::{applied, function_by, typed, value_form};
+use lil_kinds::{Applied, Form, Found, Standing, extreme, function, is_constant, is_ordinal};
 use lil_report::Report;
 use lil_scope::Kind;
-use lil_types::{INTEGER, TypeId, TypeTable};
+use lil_types::{CARDINAL, INTEGER, TypeId, TypeTable};
 use std::alloc::Global;
 
 fn is_function(of: Standard) -> bool
@@ -75,23 +75,32 @@ pub(crate) fn standard(
     callable && counted
 }
 
-fn sort_of(a: Kind) -> TypeId
-    ensures { result ≡ spec.sort_of a }
+/// A function of a value; VAL gives values of the type `sort`.
+fn function_form(
+    alloc: Global,
+    t: &TypeTable,
+    of: Standard,
+    sort: TypeId,
+    x: Found,
+) -> Result<Form, Memory>
+    ensures { IfOk result (λ f. f ≡ spec.function_form t.now of sort x) }
 {
-    match a {
-        Kind::Of(n) => n,
-        _ => 0,
-    }
+    let function = function_by(t, of, sort);
+    let value = typed(t, CARDINAL, x);
+    let made = applied(alloc, function, value)?;
+    Ok(value_form(made))
 }
 
-/// A constant, or the call of a function.
-fn function_form(of: Standard, arguments: Items<RArgument>, kind: Kind) -> RExpr
-    ensures { result ≡ spec.function_form of arguments kind }
+/// A constant has no form.
+fn kept_form(form: Form, kind: Kind) -> Form
+    ensures { result ≡ spec.kept_form form kind }
 {
     match kind {
-        Kind::Whole(n) => RExpr::Whole(n),
-        Kind::Scalar(sort, word) => RExpr::Scalar(sort, word),
-        _ => RExpr::Function(of, sort_of(kind), arguments),
+        Kind::Of(_) => form,
+        _ => {
+            drop(form);
+            Form::Nothing
+        }
     }
 }
 
@@ -101,26 +110,21 @@ fn function_depth(kind: Kind, depth: usize) -> usize
     if is_constant(kind) { 1 } else { depth.max(1) }
 }
 
-fn applied_value(
-    alloc: Global,
-    first: Place,
-    of: Standard,
-    depth: usize,
-    arguments: Items<RArgument>,
-    a: Applied,
-) -> Result<Option<Found>, Memory>
-    ensures { IfOk result (λ o. o ≡ spec.applied_value first of depth arguments a) }
+fn applied_value(first: Place, depth: usize, form: Form, a: Applied) -> Option<Found>
+    ensures { result ≡ spec.applied_value first depth form a }
 {
     match a {
-        Applied::Refused => Ok(None),
-        Applied::Outside => Ok(None),
-        Applied::Gives(kind) => Ok(Some(Found {
-            form: Boxed::new(alloc, function_form(of, arguments, kind))?,
+        Applied::Refused | Applied::Outside => {
+            drop(form);
+            None
+        }
+        Applied::Gives(kind) => Some(Found {
+            form: kept_form(form, kind),
             kind,
             first,
             depth: function_depth(kind, depth),
             standing: Standing::Value,
-        })),
+        }),
     }
 }
 
@@ -144,21 +148,19 @@ fn lies_outside(a: Applied) -> bool
 
 /// What a function makes of its argument.
 #[tactic(auto, unfolding(crate::specs::Functions::applied_node, lil_report::specs::Told::tell))]
-fn applied(
-    alloc: Global,
+fn made(
     report: &mut Report,
     first: Place,
-    of: Standard,
     at: Place,
     depth: usize,
-    arguments: Items<RArgument>,
+    form: Form,
     a: Applied,
-) -> Result<Option<Found>, Memory>
-    ensures { IfOk result (λ o. Said (spec.applied_node first of at depth arguments a) report.old o report.new) }
+) -> Option<Found>
+    ensures { Said (spec.applied_node first at depth form a) report.old result report.new }
 {
     report.note(is_refused(a), at, FaultKind::Operands);
     report.note(lies_outside(a), at, FaultKind::ConstRange);
-    applied_value(alloc, first, of, depth, arguments, a)
+    applied_value(first, depth, form, a)
 }
 
 /// A type's name where a value is needed.
@@ -179,62 +181,22 @@ fn no_type(report: &mut Report, at: Place) -> Option<Found>
     None
 }
 
-pub(crate) fn listed(alloc: Global, x: RArgument) -> Result<Items<RArgument>, Memory>
-    ensures { IfOk result (λ xs. xs ≡ x ∷ []) }
-{
-    let mut xs = Items::new(alloc);
-    xs.push(x)?;
-    Ok(xs)
-}
-
-pub(crate) fn listed_two(
-    alloc: Global,
-    x: RArgument,
-    y: RArgument,
-) -> Result<Items<RArgument>, Memory>
-    ensures { IfOk result (λ xs. xs ≡ x ∷ y ∷ []) }
-{
-    let mut xs = Items::new(alloc);
-    let (y, _) = beside(y, xs.push(x))?;
-    xs.push(y)?;
-    Ok(xs)
-}
-
 /// MAX and MIN of a type.
 fn of_type(
-    alloc: Global,
     t: &TypeTable,
     report: &mut Report,
     first: Place,
     of: Standard,
     at: Place,
     sort: TypeId,
-) -> Result<Option<Found>, Memory>
-    ensures { IfOk result (λ o. Said (spec.of_type t.now first of at sort) report.old o report.new) }
+) -> Option<Found>
+    ensures { Said (spec.of_type t.now first of at sort) report.old result report.new }
 {
     if is_extreme(of) {
-        let arguments = listed(alloc, RArgument::Type(sort))?;
-        applied(
-            alloc,
-            report,
-            first,
-            of,
-            at,
-            1,
-            arguments,
-            extreme(t, of, sort),
-        )
+        let value = extreme(t, of, sort);
+        made(report, first, at, 1, Form::Nothing, value)
     } else {
-        Ok(no_value(report, at))
-    }
-}
-
-fn function_argument(of: Standard, x: RExpr) -> RArgument
-    ensures { result ≡ spec.function_argument of x }
-{
-    match of {
-        Standard::High => place_or_value(x),
-        _ => RArgument::Value(x),
+        no_value(report, at)
     }
 }
 
@@ -249,15 +211,14 @@ fn of_value(
 ) -> Result<Option<Found>, Memory>
     ensures { IfOk result (λ o. Said (spec.of_value t.now first of x) report.old o report.new) }
 {
+    let (at, depth) = (x.first, x.depth);
     if is_extreme(of) {
-        let at = x.first;
         drop(x);
         return Ok(no_type(report, at));
     }
-    let made = function(t, of, INTEGER, x.kind);
-    let (at, depth) = (x.first, x.depth);
-    let arguments = listed(alloc, function_argument(of, x.form.into_inner()))?;
-    applied(alloc, report, first, of, at, depth, arguments, made)
+    let value = function(t, of, INTEGER, x.kind);
+    let form = function_form(alloc, t, of, INTEGER, x)?;
+    Ok(made(report, first, at, depth, form, value))
 }
 
 #[tactic(auto, unfolding(lil_report::specs::Told::tell))]
@@ -275,7 +236,7 @@ fn of_one(
         Argument::Value(None) => Ok(None),
         Argument::Value(Some(x)) => of_value(alloc, t, report, first, of, x),
         Argument::Type(_, None) => Ok(None),
-        Argument::Type(at, Some(sort)) => of_type(alloc, t, report, first, of, at, sort),
+        Argument::Type(at, Some(sort)) => Ok(of_type(t, report, first, of, at, sort)),
     }
 }
 
@@ -311,11 +272,10 @@ fn converted(
 ) -> Result<Option<Found>, Memory>
     ensures { IfOk result (λ o. Said (spec.converted t.now first of sort x) report.old o report.new) }
 {
-    let made = function(t, of, sort, x.kind);
     let (at, depth) = (x.first, x.depth);
-    let value = RArgument::Value(x.form.into_inner());
-    let arguments = listed_two(alloc, RArgument::Type(sort), value)?;
-    applied(alloc, report, first, of, at, depth, arguments, made)
+    let value = function(t, of, sort, x.kind);
+    let form = function_form(alloc, t, of, sort, x)?;
+    Ok(made(report, first, at, depth, form, value))
 }
 
 /// VAL of a type and a value.

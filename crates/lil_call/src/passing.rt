@@ -3,19 +3,20 @@ ghost use Rattle.lil_report.specs.Told.{Said};
 ghost use Rattle.lil_call.specs.Passing as spec;
 
 use crate::call::Argument;
-use lil_base::{FaultKind, Items, Memory};
+use lil_base::{FaultKind, Items, Memory, beside};
+use lil_forms::{Handed, handed_over, nothing_handed};
 use lil_kinds::{ArrayParts, Found, Standing, array_parts, assignable, misses, parameter};
-use lil_module::{RArgument, RExpr};
 use lil_report::Report;
 use lil_scope::Kind;
 use lil_types::{CHAR, Parameter, TypeId, TypeTable, same};
 use std::alloc::Global;
 
-/// The arguments that were handed over so far: their forms, the words that lie below the next one, the greatest depth, and whether
-/// the parameters take them.
+/// The arguments so far: the parameters that have got one, what was handed over to them, the words that lie below the next one,
+/// the greatest depth, and whether the parameters take them.
 #[derive(Drop)]
 pub struct Passed {
-    pub arguments: Items<RArgument>,
+    pub parameters: Items<Parameter>,
+    pub handed: Handed,
     pub words: usize,
     pub depth: usize,
     pub is_right: bool,
@@ -139,41 +140,6 @@ fn is_outside(t: &TypeTable, p: Parameter, a: Kind) -> bool
     !p.by_place && !p.open_array && misses(t, p.sort, a)
 }
 
-/// A variable as a place, any other form as a value.
-#[tactic(auto, unfolding(crate::specs::Passing::place_or_value))]
-pub(crate) fn place_or_value(x: RExpr) -> RArgument
-    ensures { result ≡ spec.place_or_value x }
-{
-    match x {
-        RExpr::Whole(n) => RArgument::Value(RExpr::Whole(n)),
-        RExpr::Scalar(sort, word) => RArgument::Value(RExpr::Scalar(sort, word)),
-        RExpr::Chars(text) => RArgument::Value(RExpr::Chars(text)),
-        RExpr::Named(number) => RArgument::Value(RExpr::Named(number)),
-        RExpr::Nil => RArgument::Value(RExpr::Nil),
-        RExpr::SetOf(sort, elements) => RArgument::Value(RExpr::SetOf(sort, elements)),
-        RExpr::Value(designator) => RArgument::Place(designator),
-        RExpr::Procedure(number) => RArgument::Value(RExpr::Procedure(number)),
-        RExpr::Call(callee, arguments) => RArgument::Value(RExpr::Call(callee, arguments)),
-        RExpr::Function(of, sort, arguments) => {
-            RArgument::Value(RExpr::Function(of, sort, arguments))
-        }
-        RExpr::One(operator, sort, operand) => {
-            RArgument::Value(RExpr::One(operator, sort, operand))
-        }
-        RExpr::Chain(operand, operations) => RArgument::Value(RExpr::Chain(operand, operations)),
-    }
-}
-
-fn handed_over(p: Parameter, x: RExpr) -> RArgument
-    ensures { result ≡ spec.handed_over p x }
-{
-    if p.by_place || p.open_array {
-        place_or_value(x)
-    } else {
-        RArgument::Value(x)
-    }
-}
-
 fn raised(words: usize, depth: usize) -> usize
     ensures { result ≡ spec.raised words depth }
 {
@@ -210,7 +176,8 @@ pub(crate) fn nothing_passed(alloc: Global, depth: usize) -> Passed
     ensures { result ≡ spec.nothing_passed depth }
 {
     Passed {
-        arguments: Items::new(alloc),
+        parameters: Items::new(alloc),
+        handed: nothing_handed(alloc),
         words: 0,
         depth: depth.max(1),
         is_right: true,
@@ -221,7 +188,8 @@ fn without_more(s: Passed) -> Passed
     ensures { result ≡ spec.without_more s }
 {
     Passed {
-        arguments: s.arguments,
+        parameters: s.parameters,
+        handed: s.handed,
         words: s.words,
         depth: s.depth,
         is_right: false,
@@ -246,13 +214,18 @@ fn with_argument(
     report.note(wrong_value, x.first, FaultKind::Assign);
     report.note(wrong_place, x.first, FaultKind::VarArgument);
     report.note(outside, x.first, FaultKind::ConstRange);
-    let mut arguments = s.arguments;
-    arguments.push(handed_over(p, x.form.into_inner()))?;
+    let is_right = s.is_right && !wrong_value && !wrong_place && !outside;
+    let words = words_after(resident, p, s.words);
+    let depth = s.depth.max(raised(s.words, x.depth));
+    let (parameters, handed) = beside(s.parameters, handed_over(t, p, s.handed, x))?;
+    let mut parameters = parameters;
+    let (handed, _) = beside(handed, parameters.push(p))?;
     Ok(Passed {
-        arguments,
-        words: words_after(resident, p, s.words),
-        depth: s.depth.max(raised(s.words, x.depth)),
-        is_right: s.is_right && !wrong_value && !wrong_place && !outside,
+        parameters,
+        handed,
+        words,
+        depth,
+        is_right,
     })
 }
 
@@ -269,7 +242,7 @@ fn pass(
     ensures { IfOk result (λ o. Said (spec.argument_step t.now resident sort s x) report.old o report.new) }
 {
     match x {
-        Argument::Value(Some(x)) => match parameter(t, sort, s.arguments.len()) {
+        Argument::Value(Some(x)) => match parameter(t, sort, s.parameters.len()) {
             Some(p) => with_argument(t, report, resident, p, s, x),
             None => {
                 drop(x);

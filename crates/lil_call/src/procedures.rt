@@ -1,17 +1,20 @@
-ghost use Rattle.std.specs.Prelude.{◌≡◌, ◌&&◌, IfOk};
+ghost use Rattle.std.specs.Prelude.{◌≡◌, ◌&&◌};
 ghost use Rattle.lil_report.specs.Told.{Said};
 ghost use Rattle.lil_call.specs.Procedures as spec;
 
 use crate::call::Argument;
-use crate::functions::{listed, listed_two, no_value, standard};
-use crate::passing::{is_variable, place_or_value};
-use lil_base::{FaultKind, Items, Memory, Place};
-use lil_kinds::{Found, compatible, element_span, is_opaque, is_ordinal, number, set_base, target};
-use lil_module::{RArgument, RStmt, Standard};
+use crate::functions::{no_value, standard};
+use crate::passing::is_variable;
+use lil_base::{FaultKind, Items, Place};
+use lil_declared::Standard;
+use lil_forms::{changed, changed_by_one, created, disposed, located_in, turned};
+use lil_kinds::{
+    Found, Located, compatible, element_span, is_opaque, is_ordinal, number, set_base, target,
+};
 use lil_report::Report;
+use lil_resolved::{Direction, Membership, RStmt};
 use lil_scope::Kind;
 use lil_types::{CARDINAL, INTEGER, Span, TypeId, TypeTable, base};
-use std::alloc::Global;
 
 fn is_counting(of: Standard) -> bool
     ensures { result ≡ spec.is_counting of }
@@ -196,47 +199,85 @@ fn both(a: bool, b: bool) -> bool
     a && b
 }
 
-fn done_if(is: bool, of: Standard, arguments: Items<RArgument>) -> Option<RStmt>
-    ensures { result ≡ spec.done_if is of arguments }
+fn done_if(is: bool, statement: Option<RStmt>) -> Option<RStmt>
+    ensures { result ≡ spec.done_if is statement }
 {
     if is {
-        Some(RStmt::Procedure(of, arguments))
+        statement
     } else {
+        drop(statement);
         None
+    }
+}
+
+fn variable_statement(t: &TypeTable, of: Standard, v: Option<Located>) -> Option<RStmt>
+    ensures { result ≡ spec.variable_statement t.now of v }
+{
+    match of {
+        Standard::Inc => changed_by_one(t, Direction::Up, v),
+        Standard::Dec => changed_by_one(t, Direction::Down, v),
+        Standard::New => created(t, v),
+        Standard::Dispose => disposed(t, v),
+        _ => {
+            drop(v);
+            None
+        }
+    }
+}
+
+fn operand_statement(t: &TypeTable, of: Standard, v: Option<Located>, y: Found) -> Option<RStmt>
+    ensures { result ≡ spec.operand_statement t.now of v y }
+{
+    match of {
+        Standard::Inc => changed(t, Direction::Up, v, y),
+        Standard::Dec => changed(t, Direction::Down, v, y),
+        Standard::Incl => turned(t, Membership::Joins, v, y),
+        Standard::Excl => turned(t, Membership::Leaves, v, y),
+        _ => {
+            drop((v, y));
+            None
+        }
+    }
+}
+
+/// HALT has no argument.
+fn no_argument(of: Standard) -> Option<RStmt>
+    ensures { result ≡ spec.no_argument of }
+{
+    match of {
+        Standard::Halt => Some(RStmt::Halt),
+        _ => None,
     }
 }
 
 /// INC or DEC of a variable, NEW and DISPOSE.
 fn with_variable(
-    alloc: Global,
     t: &TypeTable,
     report: &mut Report,
     first: Place,
     of: Standard,
     x: Found,
-) -> Result<Option<RStmt>, Memory>
-    ensures { IfOk result (λ o. Said (spec.with_variable t.now first of x) report.old o report.new) }
+) -> Option<RStmt>
+    ensures { Said (spec.with_variable t.now first of x) report.old result report.new }
 {
     let a = changeable(t, report, of, &x);
     let b = shallow(report, first, x.depth);
     let is = both(a, b);
-    let form = x.form.into_inner();
-    let place = place_or_value(form);
-    let arguments = listed(alloc, place)?;
-    Ok(done_if(is, of, arguments))
+    let place = located_in(x.form);
+    let statement = variable_statement(t, of, place);
+    done_if(is, statement)
 }
 
 /// INC or DEC by a number, INCL and EXCL.
 fn with_operand(
-    alloc: Global,
     t: &TypeTable,
     report: &mut Report,
     first: Place,
     of: Standard,
     x: Found,
     y: Found,
-) -> Result<Option<RStmt>, Memory>
-    ensures { IfOk result (λ o. Said (spec.with_operand t.now first of x y) report.old o report.new) }
+) -> Option<RStmt>
+    ensures { Said (spec.with_operand t.now first of x y) report.old result report.new }
 {
     let a = changeable(t, report, of, &x);
     let b = taken(t, report, of, x.kind, &y);
@@ -244,103 +285,97 @@ fn with_operand(
     let c = shallow(report, first, depth);
     let rest = both(b, c);
     let is = both(a, rest);
-    let form = x.form.into_inner();
-    let place = place_or_value(form);
-    let value = y.form.into_inner();
-    let arguments = listed_two(alloc, place, RArgument::Value(value))?;
-    Ok(done_if(is, of, arguments))
+    let place = located_in(x.form);
+    let statement = operand_statement(t, of, place, y);
+    done_if(is, statement)
 }
 
 #[tactic(auto, unfolding(lil_report::specs::Told::tell))]
 fn by_one(
-    alloc: Global,
     t: &TypeTable,
     report: &mut Report,
     first: Place,
     of: Standard,
     x: Argument,
-) -> Result<Option<RStmt>, Memory>
-    ensures { IfOk result (λ o. Said (spec.by_one t.now first of x) report.old o report.new) }
+) -> Option<RStmt>
+    ensures { Said (spec.by_one t.now first of x) report.old result report.new }
 {
     match x {
-        Argument::Value(None) => Ok(None),
-        Argument::Value(Some(x)) => with_variable(alloc, t, report, first, of, x),
-        Argument::Type(at, _) => Ok(no_value(report, at)),
+        Argument::Value(None) => None,
+        Argument::Value(Some(x)) => with_variable(t, report, first, of, x),
+        Argument::Type(at, _) => no_value(report, at),
     }
 }
 
 #[tactic(auto, unfolding(lil_report::specs::Told::tell))]
 fn by_two(
-    alloc: Global,
     t: &TypeTable,
     report: &mut Report,
     first: Place,
     of: Standard,
     x: Argument,
     y: Argument,
-) -> Result<Option<RStmt>, Memory>
-    ensures { IfOk result (λ o. Said (spec.by_two t.now first of x y) report.old o report.new) }
+) -> Option<RStmt>
+    ensures { Said (spec.by_two t.now first of x y) report.old result report.new }
 {
     match x {
         Argument::Value(None) => {
             drop(y);
-            Ok(None)
+            None
         }
         Argument::Value(Some(x)) => match y {
             Argument::Value(None) => {
                 drop(x);
-                Ok(None)
+                None
             }
-            Argument::Value(Some(y)) => Ok(with_operand(alloc, t, report, first, of, x, y)?),
+            Argument::Value(Some(y)) => with_operand(t, report, first, of, x, y),
             Argument::Type(at, _) => {
                 drop(x);
-                Ok(no_value(report, at))
+                no_value(report, at)
             }
         },
         Argument::Type(at, _) => {
             drop(y);
-            Ok(no_value(report, at))
+            no_value(report, at)
         }
     }
 }
 
 #[tactic(auto, unfolding(lil_report::specs::Told::tell))]
 fn by_all(
-    alloc: Global,
     t: &TypeTable,
     report: &mut Report,
     first: Place,
     of: Standard,
     arguments: Items<Argument>,
-) -> Result<Option<RStmt>, Memory>
-    ensures { IfOk result (λ o. Said (spec.by_all t.now first of arguments) report.old o report.new) }
+) -> Option<RStmt>
+    ensures { Said (spec.by_all t.now first of arguments) report.old result report.new }
 {
     let mut left = arguments;
     match left.take_first() {
-        None => Ok(Some(RStmt::Procedure(of, Items::new(alloc)))),
+        None => no_argument(of),
         Some(x) => match left.take_first() {
-            None => by_one(alloc, t, report, first, of, x),
-            Some(y) => by_two(alloc, t, report, first, of, x, y),
+            None => by_one(t, report, first, of, x),
+            Some(y) => by_two(t, report, first, of, x, y),
         },
     }
 }
 
 /// A call of a standard procedure.
 pub(crate) fn procedure_call(
-    alloc: Global,
     t: &TypeTable,
     report: &mut Report,
     first: Place,
     of: Standard,
     arguments: Items<Argument>,
-) -> Result<Option<RStmt>, Memory>
-    ensures { IfOk result (λ o. Said (spec.procedure_mean t.now first of arguments) report.old o report.new) }
+) -> Option<RStmt>
+    ensures { Said (spec.procedure_mean t.now first of arguments) report.old result report.new }
 {
     let count = arguments.len();
     let ready = standard(report, first, false, of, count);
     if ready {
-        Ok(by_all(alloc, t, report, first, of, arguments)?)
+        by_all(t, report, first, of, arguments)
     } else {
-        Ok(None)
+        None
     }
 }

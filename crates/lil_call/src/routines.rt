@@ -5,21 +5,23 @@ ghost use Rattle.lil_call.specs.Calls as spec;
 use crate::call::Argument;
 use crate::functions::agrees;
 use crate::passing::{Passed, nothing_passed, pass_all};
-use lil_base::{Boxed, FaultKind, Items, Memory, Place};
-use lil_kinds::{Found, Standing, arity, is_routine, result};
-use lil_module::{RCallee, RExpr, RStmt};
+use lil_base::{FaultKind, Items, Memory, Place};
+use lil_declared::Resident;
+use lil_forms::{Handed, called};
+use lil_kinds::{Form, Found, Standing, arity, is_routine, result};
 use lil_report::Report;
+use lil_resolved::RStmt;
 use lil_scope::Kind;
 use lil_types::{TypeId, TypeTable};
 use std::alloc::Global;
 
-/// A procedure that is called: its form, its procedure type, the depth of its designator, and whether it is a resident module's.
-#[derive(Drop)]
+/// A procedure that is called: its procedure type, the depth of its designator, and which one of a resident module it is, if
+/// it is one.
+#[derive(Clone, Copy)]
 pub struct Invoked {
-    pub form: RCallee,
     pub sort: TypeId,
     pub depth: usize,
-    pub resident: bool,
+    pub resident: Option<Resident>,
 }
 
 fn is_callable(t: &TypeTable, wanted: bool, sort: TypeId) -> bool
@@ -67,49 +69,41 @@ fn routine(
     report: &mut Report,
     first: Place,
     wanted: bool,
-    v: &Invoked,
+    v: Invoked,
     arguments: Items<Argument>,
 ) -> Result<Option<Passed>, Memory>
-    ensures { IfOk result (λ o. Said (spec.routine_mean t.now first wanted v.now arguments) report.old o report.new) }
+    ensures { IfOk result (λ o. Said (spec.routine_mean t.now first wanted v arguments) report.old o report.new) }
 {
     let count = arguments.len();
     let ready = heading(t, report, first, wanted, v.sort, count);
     if ready {
         let start = nothing_passed(alloc, v.depth);
-        let passed = pass_all(t, report, v.resident, v.sort, start, arguments)?;
+        let resident = v.resident.is_some();
+        let passed = pass_all(t, report, resident, v.sort, start, arguments)?;
         Ok(not_deep(report, first, passed))
     } else {
         Ok(None)
     }
 }
 
-fn call_found(
-    alloc: Global,
-    first: Place,
-    v: Invoked,
-    sort: Option<TypeId>,
-    s: Option<Passed>,
-) -> Result<Option<Found>, Memory>
-    ensures { IfOk result (λ o. o ≡ spec.call_found first v sort s) }
+/// A call that gives a value, of which no code is made.
+fn call_found(first: Place, sort: Option<TypeId>, s: Option<Passed>) -> Option<Found>
+    ensures { result ≡ spec.call_found first sort s }
 {
+    let Some(s) = s else {
+        return None;
+    };
+    let depth = s.depth;
+    drop(s);
     match sort {
-        None => {
-            drop((v, s));
-            Ok(None)
-        }
-        Some(sort) => match s {
-            None => {
-                drop(v);
-                Ok(None)
-            }
-            Some(s) => Ok(Some(Found {
-                form: Boxed::new(alloc, RExpr::Call(v.form, s.arguments))?,
-                kind: Kind::Of(sort),
-                first,
-                depth: s.depth,
-                standing: Standing::Value,
-            })),
-        },
+        None => None,
+        Some(sort) => Some(Found {
+            form: Form::Nothing,
+            kind: Kind::Of(sort),
+            first,
+            depth,
+            standing: Standing::Value,
+        }),
     }
 }
 
@@ -124,21 +118,38 @@ pub(crate) fn value_call(
 ) -> Result<Option<Found>, Memory>
     ensures { IfOk result (λ o. Said (spec.routine_value t.now first v arguments) report.old o report.new) }
 {
-    let s = routine(alloc, t, report, first, true, &v, arguments)?;
+    let s = routine(alloc, t, report, first, true, v, arguments)?;
     let sort = result(t, v.sort);
-    let found = call_found(alloc, first, v, sort, s)?;
-    Ok(found)
+    Ok(call_found(first, sort, s))
+}
+
+/// Code is made of calls of resident procedures alone.
+fn call_of(resident: Option<Resident>, handed: Handed) -> Option<RStmt>
+    ensures { result ≡ spec.call_of resident handed }
+{
+    match resident {
+        None => {
+            drop(handed);
+            None
+        }
+        Some(resident) => called(resident, handed),
+    }
 }
 
 fn call_statement(v: Invoked, s: Option<Passed>) -> Option<RStmt>
     ensures { result ≡ spec.call_statement v s }
 {
     match s {
-        None => {
-            drop(v);
-            None
+        None => None,
+        Some(s) => {
+            let Passed {
+                parameters,
+                handed,
+                ..
+            } = s;
+            drop(parameters);
+            call_of(v.resident, handed)
         }
-        Some(s) => Some(RStmt::Call(v.form, s.arguments)),
     }
 }
 
@@ -153,6 +164,6 @@ pub(crate) fn statement_call(
 ) -> Result<Option<RStmt>, Memory>
     ensures { IfOk result (λ o. Said (spec.routine_statement t.now first v arguments) report.old o report.new) }
 {
-    let s = routine(alloc, t, report, first, false, &v, arguments)?;
+    let s = routine(alloc, t, report, first, false, v, arguments)?;
     Ok(call_statement(v, s))
 }

@@ -2,14 +2,6 @@
 use Rattle.std.specs.Prelude.{ℕ, length, not, List, [], ◌∷◌, ◌++◌, Option, Some, None, if◌then◌else◌}
 use Rattle.lil_base.specs.declared.fault.FaultKind.TheVariants.{NotConst}
 use Rattle.lil_language.specs.declared.unit.Constant.{Constant}
-use Rattle.lil_module.specs.declared.tree.RArgument.{RArgument}
-use Rattle.lil_module.specs.declared.tree.RCallee.{RCallee}
-use Rattle.lil_module.specs.declared.tree.RExpr.{RExpr, out-RExpr, RExpr-F}
-use Rattle.lil_module.specs.declared.tree.RSelector.{RSelector}
-use Rattle.lil_module.specs.declared.tree.RDesignator.{RDesignator}
-use Rattle.lil_module.specs.declared.tree.RElement.{RElement}
-use Rattle.lil_module.specs.declared.tree.ROperation.{ROperation}
-use Rattle.lil_module.specs.declared.tree.RArgument.TheOpen as x
 use Rattle.lil_report.specs.Told.{Row, row, after, walk}
 use Rattle.lil_scope.specs.declared.thing.Chars.{Chars}
 use Rattle.lil_scope.specs.declared.thing.Kind.{Kind}
@@ -19,6 +11,8 @@ use Rattle.lil_scope.specs.declared.thing.Thing.TheVariants as t
 use Rattle.lil_scope.specs.declared.env.Env.{Env}
 use Rattle.lil_scope.specs.Names.{bind}
 use Rattle.lil_kinds.specs.Kinds.{is_constant}
+use Rattle.lil_kinds.specs.declared.found.Form.{Form}
+use Rattle.lil_kinds.specs.declared.found.Form.TheVariants as form
 use Rattle.lil_kinds.specs.declared.found.Found.{Found}
 use Rattle.lil_check_value.specs.Values.{means}
 
@@ -29,26 +23,24 @@ Meant = Env × Thing
 abbrev pub with_text : Env → List ℕ → Env
 with_text e text = record e { texts = e.texts ++ text ∷ [] }
 
--- a text that is written is kept, and the name of one stands for the same text
-abbrev pub text_in : Env → Chars → RExpr-F RArgument RCallee RExpr RSelector RDesignator RElement ROperation → Meant
-text_in e c (x.Chars text) = (with_text e text, t.Named (length e.texts) c)
-text_in e c (x.Named n) = (e, t.Named n c)
-text_in e c _ = (e, t.Broken)
+-- the text of a constant is kept
+abbrev pub text_of : Env → Chars → Form → Meant
+text_of e c (form.Text text) = (with_text e text, t.Named (length e.texts) c)
+text_of e c form.Nothing = (e, t.Broken)
+text_of e c (form.Located p) = (e, t.Broken)
+text_of e c (form.Value x) = (e, t.Broken)
 
-abbrev pub text_of : Env → Chars → RExpr → Meant
-text_of e c form = text_in e c (out-RExpr form)
+abbrev pub constant_thing : Env → Form → Kind → Meant
+constant_thing e f (k.Whole v) = (e, t.Constant (k.Whole v))
+constant_thing e f (k.Scalar n w) = (e, t.Constant (k.Scalar n w))
+constant_thing e f (k.Chars c) = text_of e c f
+constant_thing e f k.Nil = (e, t.Broken)
+constant_thing e f (k.Of n) = (e, t.Broken)
+constant_thing e f (k.Open n) = (e, t.Broken)
+constant_thing e f (k.Routine n) = (e, t.Broken)
 
-abbrev pub constant_thing : Env → RExpr → Kind → Meant
-constant_thing e form (k.Whole v) = (e, t.Constant (k.Whole v))
-constant_thing e form (k.Scalar n w) = (e, t.Constant (k.Scalar n w))
-constant_thing e form (k.Chars c) = text_of e c form
-constant_thing e form k.Nil = (e, t.Broken)
-constant_thing e form (k.Of n) = (e, t.Broken)
-constant_thing e form (k.Open n) = (e, t.Broken)
-constant_thing e form (k.Routine n) = (e, t.Broken)
-
-abbrev pub if_constant : Env → RExpr → Kind → Meant
-if_constant e form kind = if is_constant kind then constant_thing e form kind else (e, t.Broken)
+abbrev pub if_constant : Env → Form → Kind → Meant
+if_constant e f kind = if is_constant kind then constant_thing e f kind else (e, t.Broken)
 
 -- 51 NotConst, at the first token of what is no constant: its name is broken
 unfoldable pub constant_node : Env → Option Found → Meant × List Row

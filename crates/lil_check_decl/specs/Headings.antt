@@ -4,8 +4,8 @@ use Rattle.lil_base.specs.declared.fault.FaultKind.TheVariants.{TooManyProcs}
 use Rattle.lil_text.specs.declared.tree.Ident.{Ident}
 use Rattle.lil_language.specs.declared.unit.Section.{Section}
 use Rattle.lil_language.specs.declared.unit.Heading.{Heading}
-use Rattle.lil_module.specs.declared.declared.Mode.{Mode}
-use Rattle.lil_module.specs.declared.declared.Mode.TheVariants.{Plain, Value, Place, OpenValue, OpenPlace}
+use Rattle.lil_declared.specs.declared.declared.Mode.{Mode}
+use Rattle.lil_declared.specs.declared.declared.Mode.TheVariants.{Plain, Value, Place, OpenValue, OpenPlace}
 use Rattle.lil_report.specs.Told.{Row, row, after, walk}
 use Rattle.lil_scope.specs.declared.thing.Thing.{Thing}
 use Rattle.lil_scope.specs.declared.thing.Thing.TheVariants as t

@@ -2,48 +2,39 @@ ghost use Rattle.std.specs.Prelude.{◌≡◌, IfOk};
 ghost use Rattle.lil_report.specs.Told.{Said, walk};
 ghost use Rattle.lil_check_decl.specs.Constants as spec;
 
-use lil_base::{FaultKind, Memory, Text};
+use lil_base::{FaultKind, Memory, Shared, Text};
 use lil_check_value::boxed_expression;
-use lil_kinds::{Found, is_constant};
+use lil_kinds::{Form, Found, is_constant};
 use lil_language::Constant;
-use lil_module::RExpr;
 use lil_report::Report;
 use lil_scope::{Chars, Env, Kind, Thing, bind};
 use std::alloc::Global;
 
-fn add_text(env: &mut Env, text: Text) -> Result<(), Memory>
+fn add_text(env: &mut Env, text: Shared<Text>) -> Result<(), Memory>
     ensures { IfOk result (λ o. env.new ≡ spec.with_text env.old text) }
 {
     env.texts.push(text)?;
     Ok(())
 }
 
-/// The name of a text, which is kept where it is written.
-fn text_thing(env: &mut Env, c: Chars, form: RExpr) -> Result<Thing, Memory>
+/// The name of a text, which is kept.
+fn text_thing(env: &mut Env, c: Chars, form: Form) -> Result<Thing, Memory>
     ensures { IfOk result (λ th. (env.new, th) ≡ spec.text_of env.old c form) }
 {
     match form {
-        RExpr::Chars(text) => {
+        Form::Text(text) => {
             let number = env.texts.len();
             add_text(env, text)?;
             Ok(Thing::Named(number, c))
         }
-        RExpr::Named(number) => Ok(Thing::Named(number, c)),
-        RExpr::Whole(_) => Ok(Thing::Broken),
-        RExpr::Scalar(_, _) => Ok(Thing::Broken),
-        RExpr::Nil => Ok(Thing::Broken),
-        RExpr::SetOf(_, _) => Ok(Thing::Broken),
-        RExpr::Value(_) => Ok(Thing::Broken),
-        RExpr::Procedure(_) => Ok(Thing::Broken),
-        RExpr::Call(_, _) => Ok(Thing::Broken),
-        RExpr::Function(_, _, _) => Ok(Thing::Broken),
-        RExpr::One(_, _, _) => Ok(Thing::Broken),
-        RExpr::Chain(_, _) => Ok(Thing::Broken),
+        Form::Nothing => Ok(Thing::Broken),
+        Form::Located(_) => Ok(Thing::Broken),
+        Form::Value(_) => Ok(Thing::Broken),
     }
 }
 
 /// What the name of a constant stands for.
-fn constant_thing(env: &mut Env, form: RExpr, kind: Kind) -> Result<Thing, Memory>
+fn constant_thing(env: &mut Env, form: Form, kind: Kind) -> Result<Thing, Memory>
     ensures { IfOk result (λ th. (env.new, th) ≡ spec.constant_thing env.old form kind) }
 {
     match kind {
@@ -78,7 +69,7 @@ fn constant_thing(env: &mut Env, form: RExpr, kind: Kind) -> Result<Thing, Memor
     }
 }
 
-fn if_constant(env: &mut Env, form: RExpr, kind: Kind) -> Result<Thing, Memory>
+fn if_constant(env: &mut Env, form: Form, kind: Kind) -> Result<Thing, Memory>
     ensures { IfOk result (λ th. (env.new, th) ≡ spec.if_constant env.old form kind) }
 {
     if is_constant(kind) {
@@ -98,7 +89,7 @@ fn constant_value(env: &mut Env, report: &mut Report, of: Option<Found>) -> Resu
     match of {
         Some(a) => {
             report.note(!is_constant(a.kind), a.first, FaultKind::NotConst);
-            let thing = if_constant(env, a.form.into_inner(), a.kind)?;
+            let thing = if_constant(env, a.form, a.kind)?;
             Ok(thing)
         }
         None => Ok(Thing::Broken),

@@ -1,4 +1,4 @@
-use lil_module::Mode;
+use lil_declared::Mode;
 
 /// Where variables are declared: the number of their block, its level, the procedure to which they belong, if it isn't the
 /// module, and whether they are parameters.

@@ -4,9 +4,9 @@ use Rattle.lil_base.specs.declared.fault.Place.{Place}
 use Rattle.lil_language.specs.declared.tree.Expr.{Expr}
 use Rattle.lil_language.specs.declared.tree.ForHead.{ForHead}
 use Rattle.lil_language.specs.declared.tree.Range.{Range}
-use Rattle.lil_module.specs.declared.tree.RExpr.{RExpr}
-use Rattle.lil_module.specs.declared.tree.RLabel.{RLabel}
-use Rattle.lil_module.specs.declared.tree.RStmt.{RStmt}
+use Rattle.lil_resolved.specs.declared.resolved.RExpr.{RExpr}
+use Rattle.lil_resolved.specs.declared.resolved.RLabel.{RLabel}
+use Rattle.lil_resolved.specs.declared.resolved.RStmt.{RStmt}
 use Rattle.lil_report.specs.declared.report.Fault.{Fault}
 use Rattle.lil_report.specs.Told.{Said}
 use Rattle.lil_report.specs.Laws.{said_to, said_after, said_map}

@@ -1,17 +1,15 @@
 -- What stands between FOR and DO.
-use Rattle.std.specs.Prelude.{◌-◌, ◌==◌, ℤ, pos, negsuc, int_lt, Bool, true, false, not, ◌&&◌, ◌||◌, List, [], ◌∷◌, Option, Some, None, if◌then◌else◌}
+use Rattle.std.specs.Prelude.{◌==◌, ℤ, pos, negsuc, int_lt, Bool, true, false, not, ◌&&◌, ◌||◌, List, [], ◌∷◌, Option, Some, None, if◌then◌else◌}
 use Rattle.lil_base.specs.declared.fault.Place.{Place}
 use Rattle.lil_base.specs.declared.fault.FaultKind.TheVariants.{Unknown, WrongKind, ForVariable, Assign, ConstRange, NotConst, Operands}
 use Rattle.lil_types.specs.Types.{Table}
 use Rattle.lil_language.specs.declared.tree.Expr.{Expr}
 use Rattle.lil_language.specs.declared.tree.ForHead.{ForHead}
-use Rattle.lil_module.specs.declared.declared.Mode.{Mode}
-use Rattle.lil_module.specs.declared.declared.Mode.TheVariants.{Plain}
-use Rattle.lil_module.specs.declared.tree.RExpr.{RExpr}
-use Rattle.lil_module.specs.declared.tree.RRoot.{RRoot}
-use Rattle.lil_module.specs.declared.tree.RRoot.TheVariants.{Global, Local}
-use Rattle.lil_module.specs.declared.tree.RStmt.{RStmt}
-use Rattle.lil_module.specs.declared.tree.RStmt.TheVariants as rs
+use Rattle.lil_declared.specs.declared.declared.Mode.{Mode}
+use Rattle.lil_declared.specs.declared.declared.Mode.TheVariants.{Plain}
+use Rattle.lil_resolved.specs.declared.resolved.RExpr.{RExpr}
+use Rattle.lil_resolved.specs.declared.resolved.RStmt.{RStmt}
+use Rattle.lil_resolved.specs.declared.resolved.RVariable.{RVariable}
 use Rattle.lil_report.specs.Told.{Row, row, after, pure}
 use Rattle.lil_scope.specs.declared.env.Env.{Env}
 use Rattle.lil_scope.specs.declared.thing.Kind.{Kind}
@@ -19,9 +17,10 @@ use Rattle.lil_scope.specs.declared.thing.Kind.TheVariants as k
 use Rattle.lil_scope.specs.declared.thing.Thing.{Thing}
 use Rattle.lil_scope.specs.declared.thing.Thing.TheVariants as t
 use Rattle.lil_scope.specs.declared.thing.Variable.{Variable}
-use Rattle.lil_scope.specs.Names.{level}
 use Rattle.lil_kinds.specs.declared.found.Found.{Found}
 use Rattle.lil_kinds.specs.Kinds.{assignable, misses, compatible, is_ordinal, is_constant}
+use Rattle.lil_forms.specs.Values.{typed}
+use Rattle.lil_forms.specs.Statements.{counter, start_of, limit_of, bounds_of, counted_with}
 use Rattle.lil_check_value.specs.declared.names.Looked.{Looked}
 use Rattle.lil_check_value.specs.declared.names.Looked.TheVariants as l
 use Rattle.lil_check_value.specs.Looks.{look}
@@ -59,12 +58,12 @@ is_unfit ts l.Nothing = false
 is_unfit ts (l.Field at n s) = true
 is_unfit ts (l.Thing th) = is_unfit_thing ts th
 
--- a variable of the module, or of an activation by the levels between it and the block at hand
-abbrev pub root_of : Env → Variable → RRoot
-root_of e v = if v.level == 1 then Global v.number else Local (level e - v.level) v.number
+-- a variable of the module; those of procedures have no code
+abbrev pub counting_with : Env → Variable → Option RVariable
+counting_with e v = if v.level == 1 then counter e.types e.variables v.number else None
 
 abbrev pub counter_thing : Env → Thing → Option Counter
-counter_thing e (t.Variable v) = Some (record { root = root_of e v; sort = v.sort })
+counter_thing e (t.Variable v) = Some (record { variable = counting_with e v; sort = v.sort })
 counter_thing e _ = None
 
 abbrev pub counter_of : Env → Looked → Option Counter
@@ -88,14 +87,14 @@ counter_node e p o = node (counter_tests e.types p o) (counter_of e o)
 -- 31 Assign, at `:=`
 -- 50 ConstRange
 unfoldable pub start_node : Table → Place → Option Counter → Option Found → Option RExpr × List Row
-start_node ts p (Some c) (Some a) = node (row (not (assignable ts c.sort a.kind)) p Assign ∷ row (misses ts c.sort a.kind) a.first ConstRange ∷ []) (Some a.form)
+start_node ts p (Some c) (Some a) = node (row (not (assignable ts c.sort a.kind)) p Assign ∷ row (misses ts c.sort a.kind) a.first ConstRange ∷ []) (start_of c.variable (typed ts c.sort a))
 start_node ts p (Some c) None = (None, [])
 start_node ts p None a = (None, [])
 
 -- ---- the last value is counted to
 -- 31 Assign: a limit that isn't compatible with the variable
 unfoldable pub limit_node : Table → Option Counter → Option Found → Option RExpr × List Row
-limit_node ts (Some c) (Some a) = node (row (not (compatible ts (k.Of c.sort) a.kind)) a.first Assign ∷ []) (Some a.form)
+limit_node ts (Some c) (Some a) = node (row (not (compatible ts (k.Of c.sort) a.kind)) a.first Assign ∷ []) (limit_of c.variable (typed ts c.sort a))
 limit_node ts (Some c) None = (None, [])
 limit_node ts None a = (None, [])
 
@@ -126,10 +125,8 @@ step_means e (Some x) = after (means e x) step_node
 
 -- ---- the whole head
 abbrev pub count_of : Option Counter → Option RExpr → Option RExpr → Option ℤ → Option Count
-count_of (Some c) (Some a) (Some b) (Some n) = Some (record { root = c.root; from = a; to = b; by = n })
-count_of (Some c) (Some a) (Some b) None = None
-count_of (Some c) (Some a) None n = None
-count_of (Some c) None b n = None
+count_of (Some c) a b (Some n) = Some (record { bounds = bounds_of c.variable a b; by = n })
+count_of (Some c) a b None = None
 count_of None a b n = None
 
 unfoldable pub count_means : Env → ForHead → Option Count × List Row
@@ -141,6 +138,6 @@ count_means e h =
     after (limit_node e.types c b) (λ b.
     after (step_means e h.by) (λ n. pure (count_of c a b n)))))))
 
-abbrev pub counted : Option Count → List RStmt → Option RStmt
-counted (Some c) ss = Some (rs.For c.root c.from c.to c.by ss)
+abbrev pub counted : Option Count → Option (List RStmt) → Option RStmt
+counted (Some c) ss = counted_with c.bounds c.by ss
 counted None ss = None

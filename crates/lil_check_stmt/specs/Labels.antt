@@ -2,11 +2,12 @@
 use Rattle.std.specs.Prelude.{ℤ, pos, int_lt, Bool, false, not, ◌&&◌, List, [], ◌∷◌, ◌++◌, Option, Some, None, if◌then◌else◌}
 use Rattle.std.specs.List.{list_any}
 use Rattle.lil_base.specs.declared.fault.FaultKind.TheVariants.{Assign, NotConst, EmptyRange, LabelTwice}
+use Rattle.lil_base.specs.Lists.{joined}
 use Rattle.lil_types.specs.declared.table.Span.{Span}
 use Rattle.lil_types.specs.Types.{Table, integer, cardinal, char, meets}
 use Rattle.lil_language.specs.declared.tree.Expr.{Expr}
 use Rattle.lil_language.specs.declared.tree.Range.{Range}
-use Rattle.lil_module.specs.declared.tree.RLabel.{RLabel}
+use Rattle.lil_resolved.specs.declared.resolved.RLabel.{RLabel}
 use Rattle.lil_report.specs.Told.{Row, row, after, pure, walk}
 use Rattle.lil_scope.specs.declared.env.Env.{Env}
 use Rattle.lil_scope.specs.declared.thing.Kind.{Kind}
@@ -89,18 +90,17 @@ high_means e seen selector a (Some x) = after (means e x) (λ b. range_node e.ty
 unfoldable pub label_means : Env → List RLabel → Option Kind → Range → Option RLabel × List Row
 label_means e seen selector r = after (means e r.low) (λ a. high_means e seen selector a r.high)
 
--- one with a fault is empty, as no label is that has a code
-abbrev pub missing : RLabel
-missing = record { low = pos 1; high = pos 0 }
+abbrev pub and_seen : List RLabel → Option RLabel → List RLabel
+and_seen seen (Some l) = seen ++ l ∷ []
+and_seen seen None = seen
 
--- the labels of all arms so far, and those of the arm at hand
+-- the labels of all arms so far, and those of the arm at hand, where none has a fault
 abbrev pub with_label : Labels → Option RLabel → Labels
-with_label ls (Some l) = record { seen = ls.seen ++ l ∷ []; own = ls.own ++ l ∷ [] }
-with_label ls None = record { seen = ls.seen; own = ls.own ++ missing ∷ [] }
+with_label ls o = record { seen = and_seen ls.seen o; own = joined ls.own o }
 
 abbrev pub label_step : Env → Option Kind → Labels → Range → Labels × List Row
 label_step e selector ls r = after (label_means e ls.seen selector r) (λ o. pure (with_label ls o))
 
 -- the labels of an arm, behind those of the arms before it
 abbrev pub labels_mean : Env → Option Kind → List RLabel → List Range → Labels × List Row
-labels_mean e selector seen rs = walk (label_step e selector) (record { seen = seen; own = [] }) rs
+labels_mean e selector seen rs = walk (label_step e selector) (record { seen = seen; own = Some [] }) rs

@@ -4,3 +4,4 @@ pub mod Counting
 pub mod Statements
 pub mod Stmts
 pub mod Whole
+pub mod StatementSound

@@ -1,24 +1,20 @@
 -- The nodes of statements: what they make of the values of their parts, and their tests.
 use Rattle.std.specs.Prelude.{ℕ, ◌==◌, Bool, true, false, not, ◌&&◌, is_some, List, [], ◌∷◌, Option, Some, None, if◌then◌else◌}
 use Rattle.lil_base.specs.declared.fault.Place.{Place}
-use Rattle.lil_base.specs.declared.fault.FaultKind.TheVariants.{Assign, ConstRange, Operands, NotRecord, ExitOutside, ReturnKind}
-use Rattle.lil_types.specs.Types.{Table, base, boolean}
-use Rattle.lil_module.specs.declared.tree.RExpr.{RExpr, RExpr-F, out-RExpr}
-use Rattle.lil_module.specs.declared.tree.RArgument.TheOpen as rx
-use Rattle.lil_module.specs.declared.tree.RArgument.{RArgument}
-use Rattle.lil_module.specs.declared.tree.RCallee.{RCallee}
-use Rattle.lil_module.specs.declared.tree.RSelector.{RSelector}
-use Rattle.lil_module.specs.declared.tree.RDesignator.{RDesignator}
-use Rattle.lil_module.specs.declared.tree.RElement.{RElement}
-use Rattle.lil_module.specs.declared.tree.ROperation.{ROperation}
-use Rattle.lil_module.specs.declared.tree.RStmt.{RStmt}
-use Rattle.lil_module.specs.declared.tree.RStmt.TheVariants as rs
+use Rattle.lil_base.specs.declared.fault.FaultKind.TheVariants.{Operands, Assign, NotRecord, ExitOutside, ReturnKind, ConstRange}
+use Rattle.lil_types.specs.Types.{Table, boolean, base}
+use Rattle.lil_resolved.specs.declared.resolved.RExpr.{RExpr}
+use Rattle.lil_resolved.specs.declared.resolved.RStmt.{RStmt}
+use Rattle.lil_resolved.specs.declared.resolved.RStmt.TheVariants as rs
 use Rattle.lil_report.specs.Told.{Row, row}
 use Rattle.lil_scope.specs.declared.thing.Kind.{Kind}
 use Rattle.lil_scope.specs.declared.thing.Kind.TheVariants as k
 use Rattle.lil_kinds.specs.declared.found.Found.{Found}
-use Rattle.lil_kinds.specs.Kinds.{assignable, misses, is_ordinal}
+use Rattle.lil_kinds.specs.declared.found.Located.{Located}
 use Rattle.lil_kinds.specs.Forms.{is_record}
+use Rattle.lil_kinds.specs.Kinds.{assignable, misses, is_ordinal}
+use Rattle.lil_forms.specs.Arguments.{located_in}
+use Rattle.lil_forms.specs.Statements.{assigned, condition, record_at}
 use Rattle.lil_check_stmt.specs.declared.nodes.Opened.{Opened}
 
 -- no test finds anything wrong
@@ -30,24 +26,6 @@ clear (r ∷ rs) = not r.wrong && clear rs
 abbrev pub node : {A : Type 0} → List Row → Option A → Option A × List Row
 node rs o = (if clear rs then o else None, rs)
 
--- the place of a variable
-abbrev pub place_in : RExpr-F RArgument RCallee RExpr RSelector RDesignator RElement ROperation → Option RDesignator
-place_in (rx.Whole z) = None
-place_in (rx.Scalar s n) = None
-place_in (rx.Chars text) = None
-place_in (rx.Named n) = None
-place_in rx.Nil = None
-place_in (rx.SetOf s es) = None
-place_in (rx.RExpr::Value d) = Some d
-place_in (rx.RExpr::Procedure n) = None
-place_in (rx.Call c xs) = None
-place_in (rx.Function f s xs) = None
-place_in (rx.One op s x) = None
-place_in (rx.Chain x os) = None
-
-unfoldable pub place_of : RExpr → Option RDesignator
-place_of x = place_in (out-RExpr x)
-
 -- ---- assignments. An open array as a whole takes nothing
 abbrev pub takes : Table → Kind → Kind → Bool
 takes t (k.Of s) v = assignable t s v
@@ -56,10 +34,6 @@ takes t _ v = false
 abbrev pub outside : Table → Kind → Kind → Bool
 outside t (k.Of s) v = misses t s v
 outside t _ v = false
-
-abbrev pub assignment : Option RDesignator → RExpr → Option RStmt
-assignment (Some d) x = Some (rs.Assign d x)
-assignment None x = None
 
 -- 31 Assign, at `:=`
 -- 50 ConstRange
@@ -70,7 +44,7 @@ assign_tests t p a v =
     ∷ []
 
 unfoldable pub assign_node : Table → Place → Option Found → Option Found → Option RStmt × List Row
-assign_node t p (Some a) (Some v) = node (assign_tests t p a v) (assignment (place_of a.form) v.form)
+assign_node t p (Some a) (Some v) = node (assign_tests t p a v) (assigned t (located_in a.form) v)
 assign_node t p (Some a) None = (None, [])
 assign_node t p None v = (None, [])
 
@@ -82,7 +56,7 @@ is_truth t _ = false
 
 -- 30 Operands: a condition that isn't BOOLEAN
 unfoldable pub condition_node : Table → Option Found → Option RExpr × List Row
-condition_node t (Some a) = node (row (not (is_truth t a.kind)) a.first Operands ∷ []) (Some a.form)
+condition_node t (Some a) = node (row (not (is_truth t a.kind)) a.first Operands ∷ []) (condition t a)
 condition_node t None = (None, [])
 
 -- ---- what a CASE selects by
@@ -96,17 +70,18 @@ abbrev pub is_record_kind : Table → Kind → Bool
 is_record_kind t (k.Of s) = is_record t s
 is_record_kind t _ = false
 
-abbrev pub opening_by : RDesignator → Kind → Option Opened
-opening_by d (k.Of s) = Some (record { place = d; sort = s })
-opening_by d _ = None
+-- a place of this very type
+abbrev pub of_type : ℕ → Option Located → Option Located
+of_type s None = None
+of_type s (Some p) = if p.sort == s then Some p else None
 
-abbrev pub opening : Option RDesignator → Kind → Option Opened
-opening (Some d) a = opening_by d a
-opening None a = None
+abbrev pub opening : Table → Found → Kind → Option Opened
+opening t a (k.Of s) = Some (record { place = of_type s (record_at t (located_in a.form)); sort = s })
+opening t a _ = None
 
 -- 36 NotRecord, at WITH
 unfoldable pub record_node : Table → Place → Option Found → Option Opened × List Row
-record_node t p (Some a) = node (row (not (is_record_kind t a.kind)) p NotRecord ∷ []) (opening (place_of a.form) a.kind)
+record_node t p (Some a) = node (row (not (is_record_kind t a.kind)) p NotRecord ∷ []) (opening t a a.kind)
 record_node t p None = (None, [])
 
 -- ---- EXIT
@@ -117,7 +92,7 @@ exit_node p looping = node (row (not looping) p ExitOutside ∷ []) (Some rs.Exi
 -- ---- RETURN, by the result type of the body, where it is that of a function
 -- 26 ReturnKind: a function returns without a value
 unfoldable pub end_node : Place → Option ℕ → Option RStmt × List Row
-end_node p result = node (row (is_some result) p ReturnKind ∷ []) (Some (rs.Return None))
+end_node p result = node (row (is_some result) p ReturnKind ∷ []) (Some rs.Return)
 
 -- 26 ReturnKind: a value in a body that is no function's
 -- 31 Assign, at RETURN
@@ -129,6 +104,7 @@ return_tests t p (Some s) v =
     ∷ row (misses t s v.kind) v.first ConstRange
     ∷ []
 
+-- a value that is returned has no code
 unfoldable pub return_node : Table → Place → Option ℕ → Option Found → Option RStmt × List Row
-return_node t p result (Some v) = node (return_tests t p result v) (Some (rs.Return (Some v.form)))
+return_node t p result (Some v) = (None, return_tests t p result v)
 return_node t p result None = (None, [])

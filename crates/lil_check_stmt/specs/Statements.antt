@@ -1,7 +1,8 @@
 -- What each form of statement means, from what its parts mean.
-use Rattle.std.specs.Prelude.{ℕ, Bool, true, List, [], ◌∷◌, ◌++◌, slice_get, Option, Some, None}
+use Rattle.std.specs.Prelude.{ℕ, pos, int_lt, Bool, true, List, [], ◌∷◌, ◌++◌, slice_get, Option, Some, None, if◌then◌else◌}
 use Rattle.lil_base.specs.declared.fault.Place.{Place}
-use Rattle.lil_types.specs.Types.{Table}
+use Rattle.lil_base.specs.Lists.{joined}
+use Rattle.lil_types.specs.Types.{Table, integer, cardinal}
 use Rattle.lil_language.specs.declared.tree.Expr.{Expr}
 use Rattle.lil_language.specs.declared.tree.Arm.{Arm}
 use Rattle.lil_language.specs.declared.tree.Guard.{Guard}
@@ -9,19 +10,21 @@ use Rattle.lil_language.specs.declared.tree.Stmt.{Stmt}
 use Rattle.lil_language.specs.declared.tree.Stmt.TheOpen as s
 use Rattle.lil_language.specs.declared.tree.Stmt.TheOpen.{Stmt-F, Arm-F, Guard-F}
 use Rattle.lil_language.specs.declared.tree.Stmt.TheFolds.{fold-Stmt, fold-Guard, fold-Arm}
-use Rattle.lil_module.specs.declared.declared.RProc.{RProc}
-use Rattle.lil_module.specs.declared.tree.RExpr.{RExpr}
-use Rattle.lil_module.specs.declared.tree.RExpr.TheVariants as r
-use Rattle.lil_module.specs.declared.tree.Standard.TheVariants.{Odd}
-use Rattle.lil_module.specs.declared.tree.RStmt.{RStmt}
-use Rattle.lil_module.specs.declared.tree.RStmt.TheVariants as rs
-use Rattle.lil_module.specs.declared.tree.RGuard.{RGuard, roll-RGuard}
-use Rattle.lil_module.specs.declared.tree.RArm.{RArm, roll-RArm}
+use Rattle.lil_declared.specs.declared.declared.RProc.{RProc}
+use Rattle.lil_resolved.specs.declared.resolved.RArm.{RArm}
+use Rattle.lil_resolved.specs.declared.resolved.RExpr.{RExpr}
+use Rattle.lil_resolved.specs.declared.resolved.RGuard.{RGuard}
+use Rattle.lil_resolved.specs.declared.resolved.RLabel.{RLabel}
+use Rattle.lil_resolved.specs.declared.resolved.RStmt.{RStmt}
 use Rattle.lil_report.specs.Told.{Row, after, pure, walk}
 use Rattle.lil_scope.specs.declared.env.Env.{Env}
 use Rattle.lil_scope.specs.declared.thing.Kind.{Kind}
+use Rattle.lil_scope.specs.declared.thing.Kind.TheVariants as k
 use Rattle.lil_kinds.specs.declared.found.Found.{Found}
 use Rattle.lil_kinds.specs.Forms.{result}
+use Rattle.lil_forms.specs.Values.{typed, ordinal}
+use Rattle.lil_forms.specs.Statements.{guard_of, conditional, repeated_while, repeated_until, looped, arm_of}
+use Rattle.lil_forms.specs.Statements as forms
 use Rattle.lil_check_value.specs.Values.{means, variable_means, call_means}
 use Rattle.lil_check_stmt.specs.declared.nodes.Opened.{Opened}
 use Rattle.lil_check_stmt.specs.declared.labels.Labels.{Labels}
@@ -36,41 +39,42 @@ Meaning = Env → Bool → Option RStmt × List Row
 
 -- a condition and the statements behind it
 abbrev pub GuardMeaning : Type 0
-GuardMeaning = Env → Bool → RGuard × List Row
+GuardMeaning = Env → Bool → Option RGuard × List Row
 
 -- an arm behind others, by what the CASE selects by
 abbrev pub ArmMeaning : Type 0
 ArmMeaning = Env → Bool → Option Kind → Arms → Arms × List Row
 
--- ---- lists: nothing is left out. In the place of what has a fault stands what has no code: a function as a statement, NIL as a condition
-abbrev pub or_missing : Option RStmt → RStmt
-or_missing (Some x) = x
-or_missing None = rs.Procedure Odd []
+-- ---- lists: they have code where all in them have
+abbrev pub list_step : Env → Bool → Option (List RStmt) → Meaning → Option (List RStmt) × List Row
+list_step e looping out m = after (m e looping) (λ o. pure (joined out o))
 
-abbrev pub with_one : List RStmt → Option RStmt → List RStmt
-with_one xs o = xs ++ or_missing o ∷ []
+abbrev pub list_means : Env → Bool → List Meaning → Option (List RStmt) × List Row
+list_means e looping ms = walk (list_step e looping) (Some []) ms
 
-abbrev pub list_step : Env → Bool → List RStmt → Meaning → List RStmt × List Row
-list_step e looping out m = after (m e looping) (λ o. pure (with_one out o))
+abbrev pub behind : Option (List RStmt) → Option (Option (List RStmt))
+behind None = None
+behind (Some ss) = Some (Some ss)
 
-abbrev pub list_means : Env → Bool → List Meaning → List RStmt × List Row
-list_means e looping ms = walk (list_step e looping) [] ms
+-- there is no ELSE, or one with statements
+abbrev pub else_means : Env → Bool → Option (List Meaning) → Option (Option (List RStmt)) × List Row
+else_means e looping None = pure (Some None)
+else_means e looping (Some ms) = after (list_means e looping ms) (λ ss. pure (behind ss))
 
-abbrev pub else_means : Env → Bool → Option (List Meaning) → Option (List RStmt) × List Row
-else_means e looping None = pure None
-else_means e looping (Some ms) = after (list_means e looping ms) (λ ss. pure (Some ss))
+abbrev pub guards_step : Env → Bool → Option (List RGuard) → GuardMeaning → Option (List RGuard) × List Row
+guards_step e looping out m = after (m e looping) (λ g. pure (joined out g))
 
-abbrev pub guards_step : Env → Bool → List RGuard → GuardMeaning → List RGuard × List Row
-guards_step e looping out m = after (m e looping) (λ g. pure (out ++ g ∷ []))
+abbrev pub guards_mean : Env → Bool → List GuardMeaning → Option (List RGuard) × List Row
+guards_mean e looping ms = walk (guards_step e looping) (Some []) ms
 
-abbrev pub guards_mean : Env → Bool → List GuardMeaning → List RGuard × List Row
-guards_mean e looping ms = walk (guards_step e looping) [] ms
+abbrev pub no_arms : Arms
+no_arms = record { seen = []; arms = Some [] }
 
 abbrev pub arms_step : Env → Bool → Option Kind → Arms → ArmMeaning → Arms × List Row
 arms_step e looping selector out m = m e looping selector out
 
 abbrev pub arms_mean : Env → Bool → Option Kind → List ArmMeaning → Arms × List Row
-arms_mean e looping selector ms = walk (arms_step e looping selector) (record { seen = []; arms = [] }) ms
+arms_mean e looping selector ms = walk (arms_step e looping selector) no_arms ms
 
 -- ---- parts
 abbrev pub condition_means : Env → Expr → Option RExpr × List Row
@@ -105,44 +109,41 @@ return_means e p None = end_node p (result_at e)
 return_means e p (Some x) = after (means e x) (λ v. return_node e.types p (result_at e) v)
 
 -- ---- what statements are made of the values of their parts
-abbrev pub or_nil : Option RExpr → RExpr
-or_nil (Some c) = c
-or_nil None = r.Nil
+-- the type of a selector that has none
+abbrev pub selector_type : Kind → ℕ
+selector_type (k.Whole z) = if int_lt z (pos 0) then integer else cardinal
+selector_type _ = cardinal
 
-abbrev pub guarded : Option RExpr → List RStmt → RGuard
-guarded c ss = roll-RGuard (record { condition = or_nil c; body = ss })
+abbrev pub selector_value : Table → Option Found → Option RExpr
+selector_value t None = None
+selector_value t (Some a) = ordinal (typed t (selector_type a.kind) a)
 
-abbrev pub selected : Option Found → List RArm → Option (List RStmt) → Option RStmt
-selected (Some a) arms other = Some (rs.Case a.form arms other)
-selected None arms other = None
+abbrev pub selected : Table → Option Found → Option (List RArm) → Option (Option (List RStmt)) → Option RStmt
+selected t v arms other = forms.selected (selector_value t v) arms other
 
-abbrev pub repeated_while : Option RExpr → List RStmt → Option RStmt
-repeated_while (Some c) ss = Some (rs.While c ss)
-repeated_while None ss = None
-
-abbrev pub repeated_until : List RStmt → Option RExpr → Option RStmt
-repeated_until ss (Some c) = Some (rs.Repeat ss c)
-repeated_until ss None = None
-
-abbrev pub with_record : Option Opened → List RStmt → Option RStmt
-with_record (Some r) ss = Some (rs.With r.place ss)
+abbrev pub with_record : Option Opened → Option (List RStmt) → Option RStmt
+with_record (Some r) ss = forms.within r.place ss
 with_record None ss = None
 
-abbrev pub with_arm : List RArm → Labels → List RStmt → Arms
-with_arm arms ls ss = record { seen = ls.seen; arms = arms ++ roll-RArm (record { labels = ls.own; body = ss }) ∷ [] }
+abbrev pub armed : Option (List RLabel) → Option (List RStmt) → Option RArm
+armed None ss = None
+armed (Some ls) ss = arm_of ls ss
+
+abbrev pub with_arm : Option (List RArm) → Labels → Option (List RStmt) → Arms
+with_arm arms ls ss = record { seen = ls.seen; arms = joined arms (armed ls.own ss) }
 
 -- ---- each form
 abbrev pub statement_layer : Stmt-F Meaning ArmMeaning GuardMeaning → Meaning
 statement_layer (s.Assign d p x) e looping = after (variable_means e d) (λ a. after (means e x) (λ v. assign_node e.types p a v))
 statement_layer (s.Call d xs) e looping = call_means e d xs
-statement_layer (s.If p gs other) e looping = after (guards_mean e looping gs) (λ gs. after (else_means e looping other) (λ ss. pure (Some (rs.If gs ss))))
+statement_layer (s.If p gs other) e looping = after (guards_mean e looping gs) (λ gs. after (else_means e looping other) (λ ss. pure (conditional gs ss)))
 statement_layer (s.Case p x arms other) e looping =
     after (selector_means e x) (λ v.
     after (arms_mean e looping (kind_of v) arms) (λ out.
-    after (else_means e looping other) (λ ss. pure (selected v out.arms ss))))
+    after (else_means e looping other) (λ ss. pure (selected e.types v out.arms ss))))
 statement_layer (s.While p x ms) e looping = after (condition_means e x) (λ c. after (list_means e looping ms) (λ ss. pure (repeated_while c ss)))
 statement_layer (s.Repeat p ms x) e looping = after (list_means e looping ms) (λ ss. after (condition_means e x) (λ c. pure (repeated_until ss c)))
-statement_layer (s.Loop p ms) e looping = after (list_means e true ms) (λ ss. pure (Some (rs.Loop ss)))
+statement_layer (s.Loop p ms) e looping = after (list_means e true ms) (λ ss. pure (looped ss))
 statement_layer (s.For p h ms) e looping = after (count_means e h) (λ c. after (list_means e looping ms) (λ ss. pure (counted c ss)))
 statement_layer (s.With p d ms) e looping =
     after (variable_means e d) (λ a.
@@ -152,7 +153,7 @@ statement_layer (s.Exit p) e looping = exit_node p looping
 statement_layer (s.Return p o) e looping = return_means e p o
 
 abbrev pub guard_layer : Guard-F Meaning ArmMeaning GuardMeaning → GuardMeaning
-guard_layer g e looping = after (condition_means e g.condition) (λ c. after (list_means e looping g.body) (λ ss. pure (guarded c ss)))
+guard_layer g e looping = after (condition_means e g.condition) (λ c. after (list_means e looping g.body) (λ ss. pure (guard_of c ss)))
 
 abbrev pub arm_layer : Arm-F Meaning ArmMeaning GuardMeaning → ArmMeaning
 arm_layer a e looping selector out = after (labels_mean e selector out.seen a.labels) (λ ls. after (list_means e looping a.body) (λ ss. pure (with_arm out.arms ls ss)))
@@ -167,17 +168,17 @@ unfoldable pub arm_means : Arm → ArmMeaning
 arm_means = fold-Arm Meaning ArmMeaning GuardMeaning statement_layer arm_layer guard_layer
 
 -- ---- the same of lists of trees
-abbrev pub statement_step : Env → Bool → List RStmt → Stmt → List RStmt × List Row
+abbrev pub statement_step : Env → Bool → Option (List RStmt) → Stmt → Option (List RStmt) × List Row
 statement_step e looping out x = list_step e looping out (statement_means x)
 
-unfoldable pub statements_mean : Env → Bool → List Stmt → List RStmt × List Row
-statements_mean e looping xs = walk (statement_step e looping) [] xs
+unfoldable pub statements_mean : Env → Bool → List Stmt → Option (List RStmt) × List Row
+statements_mean e looping xs = walk (statement_step e looping) (Some []) xs
 
-abbrev pub behind_else : Env → Bool → Option (List Stmt) → Option (List RStmt) × List Row
-behind_else e looping None = pure None
-behind_else e looping (Some xs) = after (statements_mean e looping xs) (λ ss. pure (Some ss))
+abbrev pub behind_else : Env → Bool → Option (List Stmt) → Option (Option (List RStmt)) × List Row
+behind_else e looping None = pure (Some None)
+behind_else e looping (Some xs) = after (statements_mean e looping xs) (λ ss. pure (behind ss))
 
-abbrev pub guard_step : Env → Bool → List RGuard → Guard → List RGuard × List Row
+abbrev pub guard_step : Env → Bool → Option (List RGuard) → Guard → Option (List RGuard) × List Row
 guard_step e looping out x = guards_step e looping out (guard_means x)
 
 abbrev pub arm_step : Env → Bool → Option Kind → Arms → Arm → Arms × List Row

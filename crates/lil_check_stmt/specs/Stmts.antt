@@ -1,12 +1,11 @@
 -- What the bodies of procedures and of a module mean, and the tests of their statements' nodes.
-use Rattle.std.specs.Prelude.{ℕ, false, List, [], ◌∷◌, ◌++◌, Option, Some, None}
+use Rattle.std.specs.Prelude.{false, List, [], ◌∷◌, ◌++◌, Option, Some, None}
 use Rattle.lil_language.specs.declared.unit.Decl.{Decl}
 use Rattle.lil_language.specs.declared.unit.Decl.TheOpen as d
 use Rattle.lil_language.specs.declared.unit.Decl.TheOpen.{Decl-F, Block-F}
 use Rattle.lil_language.specs.declared.unit.Decl.TheFolds.{fold-Decl}
 use Rattle.lil_language.specs.declared.tree.Stmt.{Stmt}
-use Rattle.lil_module.specs.declared.tree.RBody.{RBody}
-use Rattle.lil_module.specs.declared.tree.RStmt.{RStmt}
+use Rattle.lil_resolved.specs.declared.resolved.RStmt.{RStmt}
 use Rattle.lil_report.specs.Told.{Row, after, pure, walk}
 use Rattle.lil_scope.specs.declared.env.Env.{Env}
 use Rattle.lil_scope.specs.declared.thing.Routine.{Routine}
@@ -17,20 +16,24 @@ use Rattle.lil_check_stmt.specs.declared.stmt.Around.{Around}
 use Rattle.lil_check_stmt.specs.declared.stmt.Stated.{Stated}
 use Rattle.lil_check_stmt.specs.Statements.{statements_mean}
 
+-- the bodies of procedures, where they have code
+abbrev pub Bodies : Type 0
+Bodies = List (Option (List RStmt))
+
 -- a declaration in its block, behind the bodies of other procedures
 abbrev pub DeclMeaning : Type 0
-DeclMeaning = Env → List RBody → List RBody × List Row
+DeclMeaning = Env → Bodies → Bodies × List Row
 
 -- a block from inside, likewise
 abbrev pub BlockMeaning : Type 0
-BlockMeaning = Env → List RBody → Stated × List Row
+BlockMeaning = Env → Bodies → Stated × List Row
 
-abbrev pub stated : List RBody → List RStmt → Stated
+abbrev pub stated : Bodies → Option (List RStmt) → Stated
 stated bodies body = record { procedures = bodies; body = body }
 
 -- the procedures inside of a procedure come before it
-abbrev pub with_body : ℕ → Stated → List RBody
-with_body n s = s.procedures ++ record { procedure = n; body = s.body } ∷ []
+abbrev pub with_body : Stated → Bodies
+with_body s = s.procedures ++ s.body ∷ []
 
 abbrev pub routine_of : Option Thing → Option Routine
 routine_of (Some (Procedure r)) = Some r
@@ -42,7 +45,7 @@ back a f = record f { scopes = record f.scopes { outer = a.outer; inner = a.inne
 
 -- the block of a procedure sees all that the blocks around it declare, also behind it
 abbrev pub body_means : Option Routine → BlockMeaning → DeclMeaning
-body_means (Some r) block e out = after (block (inside r.block (Some r.number) e) out) (λ s. pure (with_body r.number s))
+body_means (Some r) block e out = after (block (inside r.block (Some r.number) e) out) (λ s. pure (with_body s))
 body_means None block e out = pure out
 
 abbrev pub decl_layer : Decl-F DeclMeaning BlockMeaning → DeclMeaning
@@ -52,7 +55,7 @@ decl_layer (d.VarsAre p xs) e out = pure out
 decl_layer (d.ProcIs h None) e out = pure out
 decl_layer (d.ProcIs h (Some block)) e out = body_means (routine_of (find e.scopes h.name.name)) block e out
 
-abbrev pub list_step : Env → List RBody → DeclMeaning → List RBody × List Row
+abbrev pub list_step : Env → Bodies → DeclMeaning → Bodies × List Row
 list_step e out m = m e out
 
 -- at last the block's own statements
@@ -62,11 +65,11 @@ block_layer b e out = after (walk (list_step e) out b.decls) (λ bodies. after (
 unfoldable pub decl_means : Decl → DeclMeaning
 decl_means = fold-Decl DeclMeaning BlockMeaning decl_layer block_layer
 
-abbrev pub decl_step : Env → List RBody → Decl → List RBody × List Row
+abbrev pub decl_step : Env → Bodies → Decl → Bodies × List Row
 decl_step e out x = list_step e out (decl_means x)
 
 -- a block over its trees
-abbrev pub block_means : Env → List RBody → List Decl → List Stmt → Stated × List Row
+abbrev pub block_means : Env → Bodies → List Decl → List Stmt → Stated × List Row
 block_means e out ds ss = after (walk (decl_step e) out ds) (λ bodies. after (statements_mean e false ss) (λ ss. pure (stated bodies ss)))
 
 unfoldable pub bodies_mean : Env → List Decl → List Stmt → Stated × List Row

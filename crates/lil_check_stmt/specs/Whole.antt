@@ -1,44 +1,41 @@
--- Nothing is left out: there are as many statements, guards, arms and labels as in the text, whatever the tests find.
-use Rattle.std.proofs.Common.{◌≡◌, ℕ, suc, ◌+◌, Bool, List, [], ◌∷◌, ◌++◌, length, Option, Some, None, ◌∙◌, arith, length-append}
-use Rattle.lil_language.specs.declared.tree.Arm.{Arm}
-use Rattle.lil_language.specs.declared.tree.Guard.{Guard}
-use Rattle.lil_language.specs.declared.tree.Range.{Range}
+-- Nothing is left out: statements that have code are as many as in the text.
+use Rattle.std.proofs.Common.{◌≡◌, ℕ, suc, ◌+◌, Bool, List, [], ◌∷◌, ◌++◌, length, Option, Some, None, IfSome, refl, arith, length-append}
+use Rattle.lil_base.specs.Lists.{joined}
 use Rattle.lil_language.specs.declared.tree.Stmt.{Stmt}
-use Rattle.lil_module.specs.declared.tree.RArm.{RArm, roll-RArm}
-use Rattle.lil_module.specs.declared.tree.RGuard.{RGuard}
-use Rattle.lil_module.specs.declared.tree.RLabel.{RLabel}
-use Rattle.lil_module.specs.declared.tree.RStmt.{RStmt}
-use Rattle.lil_report.specs.Told.{Row, after, pure, walk}
+use Rattle.lil_resolved.specs.declared.resolved.RStmt.{RStmt}
+use Rattle.lil_report.specs.Told.{Row, after, walk}
 use Rattle.lil_scope.specs.declared.env.Env.{Env}
-use Rattle.lil_scope.specs.declared.thing.Kind.{Kind}
-use Rattle.lil_check_stmt.specs.declared.labels.Labels.{Labels}
-use Rattle.lil_check_stmt.specs.Labels.{missing, label_means, with_label, label_step, labels_mean}
-use Rattle.lil_check_stmt.specs.Statements.{or_missing, guard_means, statement_means, statement_step, statements_mean, guard_step}
+use Rattle.lil_check_stmt.specs.Statements.{statement_means, statement_step, statements_mean}
 
-plain : (n : ℕ) → 0 + n ≡ n
-plain n = omega arith
+-- so many are there, if all are
+abbrev pub Has : {A : Type 0} → ℕ → Option (List A) → Type 0
+Has n o = IfSome o (λ xs. length xs ≡ n)
 
-one_more : {A : Type 0} (xs : List A) (x : A) → length (xs ++ x ∷ []) ≡ suc (length xs)
-one_more xs x = omega (arith, length-append xs (x ∷ []))
+one_more : {A : Type 0} (n : ℕ) (o : Option (List A)) (x : Option A) → Has n o → Has (suc n) (joined o x)
+one_more n (Some xs) (Some x) h = omega (arith, length-append xs (x ∷ []), h)
+one_more n (Some xs) None h = tt
+one_more n None x h = tt
 
--- a walk whose steps each make one item more
-walk_long : {S A : Type 0} (size : S → ℕ) (f : S → A → S × List Row) → ((s : S) (x : A) → size (f s x).0 ≡ suc (size s)) → (xs : List A) (s : S) → size (walk f s xs).0 ≡ size s + length xs
+more : (k n : ℕ) → suc k + n ≡ k + suc n
+more k n = omega arith
+
+all_more : (e : Env) (looping : Bool) (xs : List Stmt) (k : ℕ) (o : Option (List RStmt)) → Has k o → Has (k + length xs) (walk (statement_step e looping) o xs).0
 unfolding after
-walk_long size f one [] s = omega arith
-walk_long size f one (x ∷ xs) s = omega (arith, walk_long size f one xs (f s x).0, one s x)
+all_more e looping [] k o h = by o h
+  where
+    by : (o : Option (List RStmt)) → Has k o → Has (k + 0) o
+    by None h = tt
+    by (Some ss) h = omega (arith, h)
+all_more e looping (x ∷ xs) k o h = by (walk (statement_step e looping) (joined o (statement_means x e looping).0) xs).0 (all_more e looping xs (suc k) (joined o (statement_means x e looping).0) (one_more k o (statement_means x e looping).0 h))
+  where
+    by : (o : Option (List RStmt)) → Has (suc k + length xs) o → Has (k + suc (length xs)) o
+    by None h = tt
+    by (Some ss) h = omega (arith, h)
 
-pub statements_kept : (e : Env) (looping : Bool) (xs : List Stmt) → length (statements_mean e looping xs).0 ≡ length xs
-unfolding statements_mean after
-statements_kept e looping xs = walk_long length (statement_step e looping) (λ out x. one_more out (or_missing (statement_means x e looping).0)) xs [] ∙ plain (length xs)
-
-pub guards_kept : (e : Env) (looping : Bool) (gs : List Guard) → length (walk (guard_step e looping) [] gs).0 ≡ length gs
-unfolding after
-guards_kept e looping gs = walk_long length (guard_step e looping) (λ out g. one_more out (guard_means g e looping).0) gs [] ∙ plain (length gs)
-
-labelled : (ls : Labels) (o : Option RLabel) → length (with_label ls o).own ≡ suc (length ls.own)
-labelled ls (Some l) = one_more ls.own l
-labelled ls None = one_more ls.own missing
-
-pub labels_kept : (e : Env) (k : Option Kind) (seen : List RLabel) (rs : List Range) → length (labels_mean e k seen rs).0.own ≡ length rs
-unfolding after
-labels_kept e k seen rs = walk_long (λ (ls : Labels). length ls.own) (label_step e k) (λ ls r. labelled ls (label_means e ls.seen k r).0) rs (record { seen = seen; own = [] }) ∙ plain (length rs)
+pub statements_kept : (e : Env) (looping : Bool) (xs : List Stmt) → Has (length xs) (statements_mean e looping xs).0
+unfolding statements_mean
+statements_kept e looping xs = by (walk (statement_step e looping) (Some []) xs).0 (all_more e looping xs 0 (Some []) refl)
+  where
+    by : (o : Option (List RStmt)) → Has (0 + length xs) o → Has (length xs) o
+    by None h = tt
+    by (Some ss) h = omega (arith, h)

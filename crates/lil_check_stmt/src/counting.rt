@@ -1,33 +1,31 @@
 ghost use Rattle.std.specs.Prelude.{◌≡◌, IfOk};
-ghost use Rattle.std.specs.Option.{option_map};
 ghost use Rattle.lil_report.specs.Told.{Said};
 ghost use Rattle.lil_check_value.specs.Looks.{look as look_of};
 ghost use Rattle.lil_check_stmt.specs.Counting as spec;
 
-use crate::held::only_where;
 use lil_base::{Boxed, FaultKind, Items, Memory, Place, beside};
 use lil_check_value::{Looked, boxed_expression, look};
+use lil_declared::Mode;
+use lil_forms::{Bounds, bounds_of, counted_with, counter, limit_of, start_of, typed};
 use lil_kinds::{Found, assignable, compatible, is_constant, is_ordinal, misses};
 use lil_language::{Expr, ForHead};
-use lil_module::{Mode, RExpr, RRoot, RStmt};
 use lil_report::Report;
+use lil_resolved::{RExpr, RStmt, RVariable};
 use lil_scope::{Env, Kind, Thing, Variable};
 use lil_types::{TypeId, TypeTable};
 use std::alloc::Global;
 
-/// The variable of a FOR, and its type.
+/// The variable of a FOR, where it has code, and its type.
 #[derive(Clone, Copy)]
 pub(crate) struct Counter {
-    pub(crate) root: RRoot,
+    pub(crate) variable: Option<RVariable>,
     pub(crate) sort: TypeId,
 }
 
-/// What stands between FOR and DO: the variable, its first value, its last and the step.
+/// What stands between FOR and DO: the variable with its first value and its last, where all have code, and the step.
 #[derive(Drop)]
 pub(crate) struct Count {
-    pub(crate) root: RRoot,
-    pub(crate) from: Boxed<RExpr>,
-    pub(crate) to: Boxed<RExpr>,
+    pub(crate) bounds: Option<Bounds>,
     pub(crate) by: i32,
 }
 
@@ -91,14 +89,14 @@ fn is_unfit(t: &TypeTable, of: Looked) -> bool
     }
 }
 
-fn root_of(env: &Env, variable: Variable) -> RRoot
-    ensures { result ≡ spec.root_of env.now variable }
+/// A variable of the module; those of procedures have no code.
+fn counting_with(env: &Env, of: Variable) -> Option<RVariable>
+    ensures { result ≡ spec.counting_with env.now of }
 {
-    if variable.level == 1 {
-        RRoot::Global(variable.number)
+    if of.level == 1 {
+        counter(&env.types, env.variables.as_slice(), of.number)
     } else {
-        let levels = env.scopes.outer.len().saturating_sub(variable.level);
-        RRoot::Local(levels, variable.number)
+        None
     }
 }
 
@@ -107,7 +105,7 @@ fn counter_of(env: &Env, of: Looked) -> Option<Counter>
 {
     match of {
         Looked::Thing(Thing::Variable(variable)) => Some(Counter {
-            root: root_of(env, variable),
+            variable: counting_with(env, variable),
             sort: variable.sort,
         }),
         _ => None,
@@ -139,7 +137,7 @@ fn start(
     becomes: Place,
     counter: Option<Counter>,
     value: Option<Found>,
-) -> Option<Boxed<RExpr>>
+) -> Option<RExpr>
     ensures { Said (spec.start_node t.now becomes counter value) report.old result report.new }
 {
     match counter {
@@ -149,7 +147,12 @@ fn start(
                 let outside = misses(t, counter.sort, value.kind);
                 report.note(unlike, becomes, FaultKind::Assign);
                 report.note(outside, value.first, FaultKind::ConstRange);
-                only_where(!unlike && !outside, value.form)
+                if unlike || outside {
+                    drop(value);
+                    None
+                } else {
+                    start_of(counter.variable, typed(t, counter.sort, value))
+                }
             }
             None => None,
         },
@@ -167,7 +170,7 @@ fn limit(
     report: &mut Report,
     counter: Option<Counter>,
     value: Option<Found>,
-) -> Option<Boxed<RExpr>>
+) -> Option<RExpr>
     ensures { Said (spec.limit_node t.now counter value) report.old result report.new }
 {
     match counter {
@@ -175,7 +178,12 @@ fn limit(
             Some(value) => {
                 let unlike = !compatible(t, Kind::Of(counter.sort), value.kind);
                 report.note(unlike, value.first, FaultKind::Assign);
-                only_where(!unlike, value.form)
+                if unlike {
+                    drop(value);
+                    None
+                } else {
+                    limit_of(counter.variable, typed(t, counter.sort, value))
+                }
             }
             None => None,
         },
@@ -257,41 +265,20 @@ fn step_by(
     }
 }
 
-fn count_by(root: RRoot, from: Boxed<RExpr>, to: Boxed<RExpr>, by: Option<i32>) -> Option<Count>
-    ensures { result ≡ option_map (λ n. record { root = root; from = from; to = to; by = n }) by }
-{
-    match by {
-        Some(by) => Some(Count { root, from, to, by }),
-        None => {
-            drop((from, to));
-            None
-        }
-    }
-}
-
 fn count_of(
     counter: Option<Counter>,
-    from: Option<Boxed<RExpr>>,
-    to: Option<Boxed<RExpr>>,
+    from: Option<RExpr>,
+    to: Option<RExpr>,
     by: Option<i32>,
 ) -> Option<Count>
     ensures { result ≡ spec.count_of counter from to by }
 {
-    match counter {
-        Some(counter) => match from {
-            Some(from) => match to {
-                Some(to) => count_by(counter.root, from, to, by),
-                None => {
-                    drop(from);
-                    None
-                }
-            },
-            None => {
-                drop(to);
-                None
-            }
-        },
-        None => {
+    match (counter, by) {
+        (Some(counter), Some(by)) => Some(Count {
+            bounds: bounds_of(counter.variable, from, to),
+            by,
+        }),
+        _ => {
             drop((from, to));
             None
         }
@@ -318,11 +305,14 @@ pub(crate) fn counting(
 }
 
 /// A FOR, of its head and its statements.
-pub(crate) fn counted(count: Option<Count>, body: Items<RStmt>) -> Option<RStmt>
+pub(crate) fn counted(count: Option<Count>, body: Option<Items<RStmt>>) -> Option<RStmt>
     ensures { result ≡ spec.counted count body }
 {
     match count {
-        Some(count) => Some(RStmt::For(count.root, count.from, count.to, count.by, body)),
-        None => None,
+        Some(count) => counted_with(count.bounds, count.by, body),
+        None => {
+            drop(body);
+            None
+        }
     }
 }

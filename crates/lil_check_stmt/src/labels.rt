@@ -3,28 +3,28 @@ ghost use Rattle.std.specs.List.{list_any};
 ghost use Rattle.lil_report.specs.Told.{Said};
 ghost use Rattle.lil_check_stmt.specs.Labels as spec;
 
-use lil_base::{FaultKind, Items, Memory, beside};
+use lil_base::{FaultKind, Items, Memory, beside, joined};
 use lil_check_value::{boxed_expression, expression};
 use lil_kinds::{Found, compatible, is_constant, number};
 use lil_language::Range;
-use lil_module::{RArm, RLabel};
 use lil_report::Report;
+use lil_resolved::{RArm, RLabel};
 use lil_scope::{Env, Kind};
 use lil_types::{CARDINAL, CHAR, INTEGER, Span, TypeTable, meets};
 use std::alloc::Global;
 
-/// The labels of all arms so far, and those of the arm at hand.
+/// The labels of all arms so far, and those of the arm at hand, where none of them has a fault.
 #[derive(Drop)]
 pub(crate) struct Labels {
     pub(crate) seen: Items<RLabel>,
-    pub(crate) own: Items<RLabel>,
+    pub(crate) own: Option<Items<RLabel>>,
 }
 
-/// The arms of a CASE so far, and all their labels.
+/// The arms of a CASE so far, where all have code, and all their labels.
 #[derive(Drop)]
 pub(crate) struct Arms {
     pub(crate) seen: Items<RLabel>,
-    pub(crate) arms: Items<RArm>,
+    pub(crate) arms: Option<Items<RArm>>,
 }
 
 /// With what the labels have to be compatible.
@@ -203,20 +203,23 @@ fn label(
     }
 }
 
-fn add_label(labels: &mut Labels, label: Option<RLabel>) -> Result<(), Memory>
-    ensures { IfOk result (λ u. labels.new ≡ spec.with_label labels.old label) }
+fn and_seen(seen: Items<RLabel>, label: Option<RLabel>) -> Result<Items<RLabel>, Memory>
+    ensures { IfOk result (λ all. all ≡ spec.and_seen seen label) }
 {
-    match label {
-        Some(label) => {
-            labels.seen.push(label)?;
-            labels.own.push(label)?;
-            Ok(())
-        }
-        None => {
-            labels.own.push(RLabel { low: 1, high: 0 })?;
-            Ok(())
-        }
+    let mut seen = seen;
+    if let Some(label) = label {
+        seen.push(label)?;
     }
+    Ok(seen)
+}
+
+fn with_label(of: Labels, label: Option<RLabel>) -> Result<Labels, Memory>
+    ensures { IfOk result (λ ls. ls ≡ spec.with_label of label) }
+{
+    let Labels { seen, own } = of;
+    let (own, seen) = beside(own, and_seen(seen, label))?;
+    let (seen, own) = beside(seen, joined(own, label))?;
+    Ok(Labels { seen, own })
 }
 
 /// The labels of an arm, behind those of the arms before it.
@@ -232,11 +235,11 @@ pub(crate) fn labels_of_arm(
 {
     let mut labels = Labels {
         seen,
-        own: Items::new(alloc),
+        own: Some(Items::new(alloc)),
     };
     for one in of {
         let label = label(alloc, env, report, labels.seen.as_slice(), selector, one)?;
-        add_label(&mut labels, label)?;
+        labels = with_label(labels, label)?;
     }
     Ok(labels)
 }

@@ -2,7 +2,6 @@
 #![tactic(auto)]
 
 mod counting;
-mod held;
 mod labels;
 mod nodes;
 mod statements;

@@ -2,34 +2,13 @@ ghost use Rattle.std.specs.Prelude.{◌≡◌};
 ghost use Rattle.lil_report.specs.Told.{Said};
 ghost use Rattle.lil_check_stmt.specs.Nodes as spec;
 
-use crate::held::only_where;
-use lil_base::{Boxed, FaultKind, Place};
-use lil_kinds::{Found, assignable, is_ordinal, is_record, misses};
-use lil_module::{RDesignator, RExpr, RStmt};
+use lil_base::{FaultKind, Place};
+use lil_forms::{assigned, located_in, record_at};
+use lil_kinds::{Found, Located, assignable, is_ordinal, is_record, misses};
 use lil_report::Report;
+use lil_resolved::{RExpr, RStmt};
 use lil_scope::Kind;
 use lil_types::{BOOLEAN, TypeId, TypeTable, base};
-
-/// The place of a variable.
-#[tactic(auto, unfolding(crate::specs::Nodes::place_of))]
-fn place_of(form: RExpr) -> Option<RDesignator>
-    ensures { result ≡ spec.place_of form }
-{
-    match form {
-        RExpr::Whole(_) => None,
-        RExpr::Scalar(_, _) => None,
-        RExpr::Chars(_) => None,
-        RExpr::Named(_) => None,
-        RExpr::Nil => None,
-        RExpr::SetOf(_, _) => None,
-        RExpr::Value(place) => Some(place),
-        RExpr::Procedure(_) => None,
-        RExpr::Call(_, _) => None,
-        RExpr::Function(_, _, _) => None,
-        RExpr::One(_, _, _) => None,
-        RExpr::Chain(_, _) => None,
-    }
-}
 
 /// Whether a variable of this kind takes a value: an open array as a whole takes none.
 fn takes(t: &TypeTable, variable: Kind, value: Kind) -> bool
@@ -51,18 +30,6 @@ fn is_outside(t: &TypeTable, variable: Kind, value: Kind) -> bool
     }
 }
 
-fn assignment(place: Option<RDesignator>, value: Boxed<RExpr>) -> Option<RStmt>
-    ensures { result ≡ spec.assignment place value }
-{
-    match place {
-        Some(place) => Some(RStmt::Assign(place, value)),
-        None => {
-            drop(value);
-            None
-        }
-    }
-}
-
 /// An assignment of a value to a variable, at `:=`.
 #[tactic(auto, unfolding(crate::specs::Nodes::assign_node, lil_report::specs::Told::tell))]
 pub(crate) fn assign(
@@ -81,9 +48,11 @@ pub(crate) fn assign(
                 let outside = is_outside(t, variable.kind, value.kind);
                 report.note(unlike, becomes, FaultKind::Assign);
                 report.note(outside, value.first, FaultKind::ConstRange);
-                match only_where(!unlike && !outside, (variable.form, value.form)) {
-                    Some((place, value)) => assignment(place_of(place.into_inner()), value),
-                    None => None,
+                if !unlike && !outside {
+                    assigned(t, located_in(variable.form), value)
+                } else {
+                    drop((variable, value));
+                    None
                 }
             }
             None => {
@@ -110,18 +79,19 @@ fn is_truth(t: &TypeTable, kind: Kind) -> bool
 
 /// A condition.
 #[tactic(auto, unfolding(crate::specs::Nodes::condition_node, lil_report::specs::Told::tell))]
-pub(crate) fn condition(
-    t: &TypeTable,
-    report: &mut Report,
-    of: Option<Found>,
-) -> Option<Boxed<RExpr>>
+pub(crate) fn condition(t: &TypeTable, report: &mut Report, of: Option<Found>) -> Option<RExpr>
     ensures { Said (spec.condition_node t.now of) report.old result report.new }
 {
     match of {
         Some(of) => {
             let unlike = !is_truth(t, of.kind);
             report.note(unlike, of.first, FaultKind::Operands);
-            only_where(!unlike, of.form)
+            if unlike {
+                drop(of);
+                None
+            } else {
+                lil_forms::condition(t, of)
+            }
         }
         None => None,
     }
@@ -136,16 +106,21 @@ pub(crate) fn selector(t: &TypeTable, report: &mut Report, of: Option<Found>) ->
         Some(of) => {
             let unlike = !is_ordinal(t, of.kind);
             report.note(unlike, of.first, FaultKind::Operands);
-            only_where(!unlike, of)
+            if unlike {
+                drop(of);
+                None
+            } else {
+                Some(of)
+            }
         }
         None => None,
     }
 }
 
-/// The record of a WITH, and its type.
+/// The record of a WITH, where it has code, and its type.
 #[derive(Drop)]
 pub(crate) struct Opened {
-    pub(crate) place: RDesignator,
+    pub(crate) place: Option<Located>,
     pub(crate) sort: TypeId,
 }
 
@@ -158,15 +133,31 @@ fn is_record_kind(t: &TypeTable, kind: Kind) -> bool
     }
 }
 
-fn opening(place: Option<RDesignator>, kind: Kind) -> Option<Opened>
-    ensures { result ≡ spec.opening place kind }
+/// A place of this very type.
+fn of_type(sort: TypeId, of: Option<Located>) -> Option<Located>
+    ensures { result ≡ spec.of_type sort of }
 {
-    match place {
-        Some(place) => match kind {
-            Kind::Of(sort) => Some(Opened { place, sort }),
-            _ => None,
-        },
-        None => None,
+    match of {
+        Some(of) if of.sort == sort => Some(of),
+        rest => {
+            drop(rest);
+            None
+        }
+    }
+}
+
+fn opening(t: &TypeTable, of: Found) -> Option<Opened>
+    ensures { result ≡ spec.opening t.now of of.kind }
+{
+    match of.kind {
+        Kind::Of(sort) => Some(Opened {
+            place: of_type(sort, record_at(t, located_in(of.form))),
+            sort,
+        }),
+        _ => {
+            drop(of);
+            None
+        }
     }
 }
 
@@ -184,9 +175,11 @@ pub(crate) fn record_of(
         Some(of) => {
             let unlike = !is_record_kind(t, of.kind);
             report.note(unlike, at, FaultKind::NotRecord);
-            match only_where(!unlike, of.form) {
-                Some(form) => opening(place_of(form.into_inner()), of.kind),
-                None => None,
+            if unlike {
+                drop(of);
+                None
+            } else {
+                opening(t, of)
             }
         }
         None => None,
@@ -213,14 +206,10 @@ pub(crate) fn return_alone(
 {
     let wrong = result_type.is_some();
     report.note(wrong, at, FaultKind::ReturnKind);
-    if wrong {
-        None
-    } else {
-        Some(RStmt::Return(None))
-    }
+    if wrong { None } else { Some(RStmt::Return) }
 }
 
-/// A RETURN with a value.
+/// A RETURN with a value, which has no code.
 #[tactic(auto, unfolding(crate::specs::Nodes::return_node, lil_report::specs::Told::tell))]
 pub(crate) fn return_value(
     t: &TypeTable,
@@ -238,10 +227,8 @@ pub(crate) fn return_value(
                 let outside = misses(t, sort, value.kind);
                 report.note(unlike, at, FaultKind::Assign);
                 report.note(outside, value.first, FaultKind::ConstRange);
-                match only_where(!unlike && !outside, value.form) {
-                    Some(form) => Some(RStmt::Return(Some(form))),
-                    None => None,
-                }
+                drop(value);
+                None
             }
             None => {
                 drop(value);

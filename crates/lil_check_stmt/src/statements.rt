@@ -1,10 +1,10 @@
 ghost use Rattle.std.specs.Prelude.{◌≡◌, [], ◌∷◌, ◌++◌, slice_get, true, Some, IfOk, OnOk};
 ghost use Rattle.lil_scope.specs.declared.env.Env.{Env};
 ghost use Rattle.lil_report.specs.Told.{Said, walk, after, pure};
-ghost use Rattle.lil_module.specs.declared.tree.RStmt.TheVariants as rs;
 ghost use Rattle.lil_check_value.specs.Values.{means, variable_means};
 ghost use Rattle.lil_check_stmt.specs.Nodes.{assign_node, record_node};
 ghost use Rattle.lil_check_stmt.specs.Counting as heads;
+ghost use Rattle.lil_forms.specs.Statements as forms;
 ghost use Rattle.lil_check_stmt.specs.Statements as spec;
 
 use crate::counting::{counted, counting};
@@ -12,14 +12,17 @@ use crate::labels::{Arms, Labels, labels_of_arm};
 use crate::nodes::{
     Opened, assign, condition, exit, record_of, return_alone, return_value, selector,
 };
-use lil_base::{Boxed, Items, Memory, Place, beside};
+use lil_base::{Boxed, Items, Memory, Place, beside, joined};
 use lil_check_value::{boxed_expression, call, variable};
+use lil_forms::{
+    arm_of, conditional, guard_of, looped, ordinal, repeated_until, repeated_while, typed, within,
+};
 use lil_kinds::{Found, result};
 use lil_language::{Arm, Designator, Expr, ForHead, Guard, Stmt};
-use lil_module::{RArm, RExpr, RGuard, RStmt, Standard};
 use lil_report::Report;
+use lil_resolved::{RArm, RExpr, RGuard, RLabel, RStmt};
 use lil_scope::{Env, Kind};
-use lil_types::TypeId;
+use lil_types::{CARDINAL, INTEGER, TypeId, TypeTable};
 use std::alloc::Global;
 
 fn condition_of(
@@ -27,7 +30,7 @@ fn condition_of(
     env: &Env,
     report: &mut Report,
     x: &Boxed<Expr>,
-) -> Result<Option<Boxed<RExpr>>, Memory>
+) -> Result<Option<RExpr>, Memory>
     ensures { IfOk result (λ o. Said (spec.condition_means env.now x.now) report.old o report.new) }
 {
     let found = boxed_expression(alloc, env, report, x)?;
@@ -101,83 +104,84 @@ fn assigned(
     Ok(assign(&env.types, report, becomes, found, value))
 }
 
-/// A guard. A condition with a fault is NIL, which is none.
-fn guarded(
-    alloc: Global,
-    condition: Option<Boxed<RExpr>>,
-    body: Items<RStmt>,
-) -> Result<RGuard, Memory>
-    ensures { IfOk result (λ g. g ≡ spec.guarded condition body) }
+/// The type of a selector that has none.
+fn selector_type(kind: Kind) -> TypeId
+    ensures { result ≡ spec.selector_type kind }
 {
-    match condition {
-        Some(condition) => Ok(RGuard { condition, body }),
-        None => {
-            let (body, condition) = beside(body, Boxed::new(alloc, RExpr::Nil))?;
-            Ok(RGuard { condition, body })
+    match kind {
+        Kind::Whole(value) => { if value < 0 { INTEGER } else { CARDINAL } }
+        _ => CARDINAL,
+    }
+}
+
+fn selector_value(t: &TypeTable, of: Option<Found>) -> Option<RExpr>
+    ensures { result ≡ spec.selector_value t.now of }
+{
+    match of {
+        None => None,
+        Some(of) => {
+            let sort = selector_type(of.kind);
+            ordinal(typed(t, sort, of))
         }
     }
 }
 
-fn selected(found: Option<Found>, arms: Items<RArm>, other: Option<Items<RStmt>>) -> Option<RStmt>
-    ensures { result ≡ spec.selected found arms other }
+/// A CASE of what it selects by, its arms, and what stands behind ELSE, if there is one.
+fn selected(
+    t: &TypeTable,
+    found: Option<Found>,
+    arms: Option<Items<RArm>>,
+    other: Option<Option<Items<RStmt>>>,
+) -> Option<RStmt>
+    ensures { result ≡ spec.selected t.now found arms other }
 {
-    match found {
-        Some(found) => Some(RStmt::Case(found.form, arms, other)),
-        None => None,
-    }
+    lil_forms::selected(selector_value(t, found), arms, other)
 }
 
-fn repeated_while(condition: Option<Boxed<RExpr>>, body: Items<RStmt>) -> Option<RStmt>
-    ensures { result ≡ spec.repeated_while condition body }
-{
-    match condition {
-        Some(condition) => Some(RStmt::While(condition, body)),
-        None => None,
-    }
-}
-
-fn repeated_until(body: Items<RStmt>, condition: Option<Boxed<RExpr>>) -> Option<RStmt>
-    ensures { result ≡ spec.repeated_until body condition }
-{
-    match condition {
-        Some(condition) => Some(RStmt::Repeat(body, condition)),
-        None => None,
-    }
-}
-
-fn with_record(of: Option<Opened>, body: Items<RStmt>) -> Option<RStmt>
+fn with_record(of: Option<Opened>, body: Option<Items<RStmt>>) -> Option<RStmt>
     ensures { result ≡ spec.with_record of body }
 {
     match of {
-        Some(opened) => Some(RStmt::With(opened.place, body)),
-        None => None,
+        Some(opened) => within(opened.place, body),
+        None => {
+            drop(body);
+            None
+        }
     }
 }
 
-fn with_arm(arms: Items<RArm>, labels: Labels, body: Items<RStmt>) -> Result<Arms, Memory>
+fn armed(labels: Option<Items<RLabel>>, body: Option<Items<RStmt>>) -> Option<RArm>
+    ensures { result ≡ spec.armed labels body }
+{
+    match labels {
+        None => {
+            drop(body);
+            None
+        }
+        Some(labels) => arm_of(labels, body),
+    }
+}
+
+fn with_arm(
+    arms: Option<Items<RArm>>,
+    labels: Labels,
+    body: Option<Items<RStmt>>,
+) -> Result<Arms, Memory>
     ensures { IfOk result (λ a. a ≡ spec.with_arm arms labels body) }
 {
     let Labels { seen, own } = labels;
-    let mut arms = arms;
-    arms.push(RArm { labels: own, body })?;
+    let arm = armed(own, body);
+    let (seen, arms) = beside(seen, joined(arms, arm))?;
     Ok(Arms { seen, arms })
 }
 
-/// A statement, or in its place a function, which is none.
-fn or_missing(alloc: Global, one: Option<RStmt>) -> RStmt
-    ensures { result ≡ spec.or_missing one }
+fn behind(of: Option<Items<RStmt>>) -> Option<Option<Items<RStmt>>>
+    ensures { result ≡ spec.behind of }
 {
-    match one {
-        Some(one) => one,
-        None => RStmt::Procedure(Standard::Odd, Items::new(alloc)),
+    match of {
+        None => None,
+        Some(of) => Some(Some(of)),
     }
-}
-
-fn add_one(alloc: Global, out: &mut Items<RStmt>, one: Option<RStmt>) -> Result<(), Memory>
-    ensures { IfOk result (λ u. out.new ≡ spec.with_one out.old one) }
-{
-    out.push(or_missing(alloc, one))?;
-    Ok(())
 }
 
 /// Begins a WITH, where its record has a type.
@@ -225,11 +229,11 @@ fn statement(
         Stmt::If(_, guards, other) => {
             let guards = all_guards(alloc, env, report, looping, guards.as_slice())?;
             match other {
-                None => Ok(Some(RStmt::If(guards, None))),
+                None => Ok(conditional(alloc, guards, Some(None))),
                 Some(other) => {
                     let other = statements(alloc, env, report, looping, other.as_slice());
                     let (guards, other) = beside(guards, other)?;
-                    Ok(Some(RStmt::If(guards, Some(other))))
+                    Ok(conditional(alloc, guards, behind(other)))
                 }
             }
         }
@@ -239,11 +243,11 @@ fn statement(
             let arms = all_arms(alloc, env, report, looping, kind, arms.as_slice());
             let (found, arms) = beside(found, arms)?;
             match other {
-                None => Ok(selected(found, arms.arms, None)),
+                None => Ok(selected(&env.types, found, arms.arms, Some(None))),
                 Some(other) => {
                     let other = statements(alloc, env, report, looping, other.as_slice());
                     let ((found, arms), other) = beside((found, arms.arms), other)?;
-                    Ok(selected(found, arms, Some(other)))
+                    Ok(selected(&env.types, found, arms, behind(other)))
                 }
             }
         }
@@ -268,7 +272,7 @@ fn while_true(
     body: &Items<Stmt>,
     value: &Boxed<Expr>,
 ) -> Result<Option<RStmt>, Memory>
-    ensures said { IfOk result (λ o. Said (after (spec.condition_means env.old value.now) (λ c. after (spec.statements_mean env.old looping body.now) (λ ss. pure (spec.repeated_while c ss)))) report.old o report.new) }
+    ensures said { IfOk result (λ o. Said (after (spec.condition_means env.old value.now) (λ c. after (spec.statements_mean env.old looping body.now) (λ ss. pure (forms.repeated_while c ss)))) report.old o report.new) }
     ensures same { IfOk result (λ o. env.new ≡ env.old) }
 {
     let condition = condition_of(alloc, env, report, value)?;
@@ -286,7 +290,7 @@ fn until(
     body: &Items<Stmt>,
     value: &Boxed<Expr>,
 ) -> Result<Option<RStmt>, Memory>
-    ensures said { IfOk result (λ o. Said (after (spec.statements_mean env.old looping body.now) (λ ss. after (spec.condition_means env.old value.now) (λ c. pure (spec.repeated_until ss c)))) report.old o report.new) }
+    ensures said { IfOk result (λ o. Said (after (spec.statements_mean env.old looping body.now) (λ ss. after (spec.condition_means env.old value.now) (λ c. pure (forms.repeated_until ss c)))) report.old o report.new) }
     ensures same { IfOk result (λ o. env.new ≡ env.old) }
 {
     let body = statements(alloc, env, report, looping, body.as_slice())?;
@@ -301,11 +305,11 @@ fn endless(
     report: &mut Report,
     body: &Items<Stmt>,
 ) -> Result<Option<RStmt>, Memory>
-    ensures said { IfOk result (λ o. Said (after (spec.statements_mean env.old true body.now) (λ ss. pure (Some (rs.Loop ss)))) report.old o report.new) }
+    ensures said { IfOk result (λ o. Said (after (spec.statements_mean env.old true body.now) (λ ss. pure (forms.looped ss))) report.old o report.new) }
     ensures same { IfOk result (λ o. env.new ≡ env.old) }
 {
     let body = statements(alloc, env, report, true, body.as_slice())?;
-    Ok(Some(RStmt::Loop(body)))
+    Ok(looped(body))
 }
 
 #[cycle(statement)]
@@ -357,14 +361,14 @@ pub(crate) fn statements(
     report: &mut Report,
     looping: bool,
     of: &[Stmt],
-) -> Result<Items<RStmt>, Memory>
+) -> Result<Option<Items<RStmt>>, Memory>
     ensures said { IfOk result (λ o. Said (spec.statements_mean env.old looping of.now) report.old o report.new) }
     ensures same { IfOk result (λ o. env.new ≡ env.old) }
 {
-    let mut out = Items::new(alloc);
+    let mut out = Some(Items::new(alloc));
     for one in of {
-        let meant = statement(alloc, env, report, looping, one)?;
-        add_one(alloc, &mut out, meant)?;
+        let (before, meant) = beside(out, statement(alloc, env, report, looping, one))?;
+        out = joined(before, meant)?;
     }
     Ok(out)
 }
@@ -377,15 +381,14 @@ fn guard(
     report: &mut Report,
     looping: bool,
     of: &Guard,
-) -> Result<RGuard, Memory>
+) -> Result<Option<RGuard>, Memory>
     ensures said { IfOk result (λ o. Said (spec.guard_means of.now env.old looping) report.old o report.new) }
     ensures same { IfOk result (λ o. env.new ≡ env.old) }
 {
     let condition = condition_of(alloc, env, report, &of.condition)?;
     let body = statements(alloc, env, report, looping, of.body.as_slice());
     let (condition, body) = beside(condition, body)?;
-    let made = guarded(alloc, condition, body)?;
-    Ok(made)
+    Ok(guard_of(condition, body))
 }
 
 #[cycle(statement)]
@@ -395,14 +398,14 @@ fn all_guards(
     report: &mut Report,
     looping: bool,
     of: &[Guard],
-) -> Result<Items<RGuard>, Memory>
-    ensures said { IfOk result (λ o. Said (walk (spec.guard_step env.old looping) [] of.now) report.old o report.new) }
+) -> Result<Option<Items<RGuard>>, Memory>
+    ensures said { IfOk result (λ o. Said (walk (spec.guard_step env.old looping) (Some []) of.now) report.old o report.new) }
     ensures same { IfOk result (λ o. env.new ≡ env.old) }
 {
-    let mut out = Items::new(alloc);
+    let mut out = Some(Items::new(alloc));
     for one in of {
-        let meant = guard(alloc, env, report, looping, one)?;
-        out.push(meant)?;
+        let (before, meant) = beside(out, guard(alloc, env, report, looping, one))?;
+        out = joined(before, meant)?;
     }
     Ok(out)
 }
@@ -437,12 +440,12 @@ fn all_arms(
     kind: Option<Kind>,
     of: &[Arm],
 ) -> Result<Arms, Memory>
-    ensures said { IfOk result (λ o. Said (walk (spec.arm_step env.old looping kind) (record { seen = []; arms = [] }) of.now) report.old o report.new) }
+    ensures said { IfOk result (λ o. Said (walk (spec.arm_step env.old looping kind) spec.no_arms of.now) report.old o report.new) }
     ensures same { IfOk result (λ o. env.new ≡ env.old) }
 {
     let mut out = Arms {
         seen: Items::new(alloc),
-        arms: Items::new(alloc),
+        arms: Some(Items::new(alloc)),
     };
     for one in of {
         let more = arm(alloc, env, report, looping, kind, out, one)?;

@@ -6,16 +6,16 @@ ghost use Rattle.lil_check_stmt.specs.Stmts as spec;
 use crate::statements::statements;
 use lil_base::{Items, Memory};
 use lil_language::{Decl, Stmt};
-use lil_module::{RBody, RStmt};
 use lil_report::Report;
+use lil_resolved::RStmt;
 use lil_scope::{Env, Routine, Thing, Wait, Withs};
 use std::alloc::Global;
 
-/// The statements of all procedures that a block declares, and its own.
+/// The statements of all procedures that a block declares, and its own, each where they have code.
 #[derive(Drop)]
 pub struct Stated {
-    pub procedures: Items<RBody>,
-    pub body: Items<RStmt>,
+    pub procedures: Items<Option<Items<RStmt>>>,
+    pub body: Option<Items<RStmt>>,
 }
 
 fn routine_of(of: Option<Thing>) -> Option<Routine>
@@ -70,15 +70,12 @@ fn leave(env: &mut Env, around: Around)
     env.procedure = around.procedure;
 }
 
-fn with_body(number: usize, of: Stated) -> Result<Items<RBody>, Memory>
-    ensures { IfOk result (λ bs. bs ≡ spec.with_body number of) }
+fn with_body(of: Stated) -> Result<Items<Option<Items<RStmt>>>, Memory>
+    ensures { IfOk result (λ bs. bs ≡ spec.with_body of) }
 {
     let Stated { procedures, body } = of;
     let mut bodies = procedures;
-    bodies.push(RBody {
-        procedure: number,
-        body,
-    })?;
+    bodies.push(body)?;
     Ok(bodies)
 }
 
@@ -88,9 +85,9 @@ fn declaration(
     alloc: Global,
     env: &mut Env,
     report: &mut Report,
-    before: Items<RBody>,
+    before: Items<Option<Items<RStmt>>>,
     of: &Decl,
-) -> Result<Items<RBody>, Memory>
+) -> Result<Items<Option<Items<RStmt>>>, Memory>
     ensures said { IfOk result (λ bs. Said (spec.decl_step env.old before of.now) report.old bs report.new) }
     ensures same { IfOk result (λ bs. env.new ≡ env.old) }
 {
@@ -115,7 +112,7 @@ fn declaration(
                             inner.body.as_slice(),
                         )?;
                         leave(env, around);
-                        let bodies = with_body(found.number, stated)?;
+                        let bodies = with_body(stated)?;
                         Ok(bodies)
                     }
                 }
@@ -129,9 +126,9 @@ fn declarations(
     alloc: Global,
     env: &mut Env,
     report: &mut Report,
-    before: Items<RBody>,
+    before: Items<Option<Items<RStmt>>>,
     of: &[Decl],
-) -> Result<Items<RBody>, Memory>
+) -> Result<Items<Option<Items<RStmt>>>, Memory>
     ensures said { IfOk result (λ bs. Said (walk (spec.decl_step env.old) before of.now) report.old bs report.new) }
     ensures same { IfOk result (λ bs. env.new ≡ env.old) }
 {
@@ -149,7 +146,7 @@ fn block(
     alloc: Global,
     env: &mut Env,
     report: &mut Report,
-    before: Items<RBody>,
+    before: Items<Option<Items<RStmt>>>,
     decls: &[Decl],
     body: &[Stmt],
 ) -> Result<Stated, Memory>

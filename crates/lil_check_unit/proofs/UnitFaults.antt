@@ -5,19 +5,21 @@ use Rattle.lil_text.specs.declared.tree.Ident.{Ident}
 use Rattle.lil_language.specs.declared.unit.Unit.{Unit as Tree}
 use Rattle.lil_language.specs.declared.unit.Import.{Import}
 use Rattle.lil_report.specs.declared.report.Fault.{Fault}
-use Rattle.lil_report.specs.Least.{now_of, late_of, worse, Reports}
+use Rattle.lil_report.specs.Least.{now_of, late_of, when, worse, Reports}
 use Rattle.lil_report.specs.LeastLaws.{reports_tell}
 use Rattle.lil_report.specs.Told.{Said, Stands, tell}
 use Rattle.lil_report.specs.Laws.{said_after, tell_append}
-use Rattle.lil_module.specs.declared.declared.RModule.{RModule}
+use Rattle.lil_resolved.specs.Resolved.{Resolved}
 use Rattle.lil_scope.specs.declared.env.Env.{Env}
 use Rattle.lil_check_decl.specs.Decls.{decls_mean}
 use Rattle.lil_check_stmt.specs.Stmts.{bodies_mean}
+use Rattle.lil_check_stmt.specs.declared.stmt.Stated.{Stated}
 use Rattle.lil_interfaces.specs.declared.surface.Interface.{Interface}
 use Rattle.lil_interfaces.specs.declared.importing.Imported.{Imported}
 use Rattle.lil_interfaces.specs.Interfaces.{residents}
 use Rattle.lil_interfaces.specs.Imports.{nothing_imported, imports_mean, exports_mean}
-use Rattle.lil_check_unit.specs.Units.{first_of, declared, stated, resolved, module_of, worst, late_fault, last_of, unit_fault, imports_fault, program_fault, naming_rows, missing_row, missing_names, missing_by, missing_rows, data_rows, HasInterfaces}
+use Rattle.lil_check_unit.specs.Modules.{in_no_with, assembled}
+use Rattle.lil_check_unit.specs.Units.{first_of, declared, stated, module_of, worst, late_fault, data_fault, form_rows, last_of, unit_fault, imports_fault, program_fault, naming_rows, missing_row, missing_names, missing_by, missing_rows, data_rows, HasInterfaces}
 
 module _ (u : Tree) (is : List Interface) where
   pub is_declared : {s s' : Imported} {xs : List Import} {e f : Env} {r a b c : Option Fault} → s ≡ nothing_imported → xs ≡ u.head.imports → Said (imports_mean is s xs) r s' a → Said (decls_mean s'.env u.decls) a e b
@@ -34,17 +36,16 @@ module _ (u : Tree) (is : List Interface) where
     unfolding worst
     wrong_declarations wrong = ap (λ o. first_of o (now_of (tell None (stated is u).1))) (sym (wrong ∙ ap now_of first_is))
 
-    pub then_statements : None ≡ now_of s → worst u is ≡ now_of (tell None (bodies_mean e u.decls u.body).1)
+    pub then_statements : None ≡ now_of s → worst u is ≡ now_of (tell None (bodies_mean (in_no_with e) u.decls u.body).1)
     unfolding worst
-    then_statements fine = ap (λ o. first_of o (now_of (tell None (stated is u).1))) (sym (fine ∙ ap now_of first_is)) ∙ ap (λ e. now_of (tell None (bodies_mean e u.decls u.body).1)) (sym h.value)
+    then_statements fine = ap (λ o. first_of o (now_of (tell None (stated is u).1))) (sym (fine ∙ ap now_of first_is)) ∙ ap (λ e. now_of (tell None (bodies_mean (in_no_with e) u.decls u.body).1)) (sym h.value)
 
-    pub late_is : worse (late_of s) (late_of (tell None (bodies_mean e u.decls u.body).1)) ≡ late_fault u is
+    pub late_is : worse (late_of s) (late_of (tell None (bodies_mean (in_no_with e) u.decls u.body).1)) ≡ late_fault u is
     unfolding late_fault
-    late_is = λ j. worse (late_of (first_is j)) (late_of (tell None (bodies_mean (h.value j) u.decls u.body).1))
+    late_is = λ j. worse (late_of (first_is j)) (late_of (tell None (bodies_mean (in_no_with (h.value j)) u.decls u.body).1))
 
-    pub module_is : resolved u.head.name.name e (bodies_mean e u.decls u.body).0 ≡ module_of u is
-    unfolding module_of
-    module_is = ap (λ e. resolved u.head.name.name e (bodies_mean e u.decls u.body).0) h.value
+    pub stated_is : (bodies_mean (in_no_with e) u.decls u.body).0 ≡ (stated is u).0
+    stated_is = ap (λ e. (bodies_mean (in_no_with e) u.decls u.body).0) h.value
 
 -- ---- imports that have no interface
 tell_nil : (o : Option Fault) → tell o [] ≡ o
@@ -68,23 +69,40 @@ module _ (is : List Interface) (o : Option Fault) where
   pub all_imports : (xs : List Import) (i : ℕ) → length xs ≤ i → o ≡ tell o (missing_rows is (drop i xs))
   all_imports xs i le = sym (at_drop_all (λ xs. tell o (missing_rows is xs)) xs i le ∙ tell_nil o)
 
--- ---- a program
-module _ (u : Tree) (m : RModule) (o : Option Fault) where
-  pub wrong_data : {f : Fault} → tell None (data_rows u m) ≡ Some f → last_of u m o ≡ Some f
+-- ---- data and forms
+module _ (u : Tree) (e : Env) (b : Stated) (o : Option Fault) where
+  pub wrong_data : {f : Fault} → tell None (data_rows u e b) ≡ Some f → data_fault u e b o ≡ Some f
   wrong_data h = ap (λ d. first_of d o) h
 
-  pub then_late : tell None (data_rows u m) ≡ None → last_of u m o ≡ o
+  pub then_late : tell None (data_rows u e b) ≡ None → data_fault u e b o ≡ o
   then_late h = ap (λ d. first_of d o) h
 
+  pub wrong_last : (m : Option Resolved) {f : Fault} → data_fault u e b o ≡ Some f → last_of u e b o m ≡ Some f
+  wrong_last m h = ap (λ d. first_of d (tell None (form_rows u m))) h
+
+  pub wrong_form : (m : Option Resolved) {f : Fault} → data_fault u e b o ≡ None → m ≡ None → tell None (form_rows u None) ≡ Some f → last_of u e b o m ≡ Some f
+  wrong_form m h none k = ap (λ d. first_of d (tell None (form_rows u m))) h ∙ ap (λ m. tell None (form_rows u m)) none ∙ k
+
+  pub nothing_last : (m : Option Resolved) {r : Resolved} → data_fault u e b o ≡ None → Some r ≡ m → last_of u e b o m ≡ None
+  unfolding tell worse when
+  nothing_last m h is = ap (λ d. first_of d (tell None (form_rows u m))) h ∙ ap (λ m. tell None (form_rows u m)) (sym is)
+
+-- ---- a unit
 module _ (u : Tree) (is : List Interface) where
   pub wrong_unit : {f : Fault} → worst u is ≡ Some f → unit_fault u is ≡ Some f
   unfolding unit_fault
-  wrong_unit h = ap (λ o. first_of o (last_of u (module_of u is) (late_fault u is))) h
+  wrong_unit h = ap (λ o. first_of o (last_of u (declared is u).0 (stated is u).0 (late_fault u is) (module_of u is))) h
 
-  pub then_data : {m : RModule} {o : Option Fault} → worst u is ≡ None → m ≡ module_of u is → o ≡ late_fault u is → unit_fault u is ≡ last_of u m o
-  unfolding unit_fault
-  then_data h m o = ap (λ o. first_of o (last_of u (module_of u is) (late_fault u is))) h ∙ (λ j. last_of u (sym m j) (sym o j))
+  module _ {e : Env} {b : Stated} (there : e ≡ in_no_with (declared is u).0) (body : b ≡ (stated is u).0) where
+    pub module_is : assembled e.types e.variables u.head.name.name b.body ≡ module_of u is
+    unfolding module_of
+    module_is = λ j. assembled (there j).types (there j).variables u.head.name.name (body j).body
 
+    pub then_last : {o : Option Fault} → worst u is ≡ None → o ≡ late_fault u is → unit_fault u is ≡ last_of u e b o (assembled e.types e.variables u.head.name.name b.body)
+    unfolding unit_fault
+    then_last h late = ap (λ o. first_of o (last_of u (declared is u).0 (stated is u).0 (late_fault u is) (module_of u is))) h ∙ (λ j. last_of u (sym there j) (sym body j) (sym late j) (sym module_is j))
+
+-- ---- a program
 module _ (u : Tree) {is : List Interface} (same : is ≡ residents) where
   pub wrong_import : {f : Fault} → tell None (missing_rows is u.head.imports) ≡ Some f → imports_fault u ≡ Some f
   unfolding imports_fault

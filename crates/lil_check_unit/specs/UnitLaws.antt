@@ -7,7 +7,7 @@ use Rattle.lil_report.specs.Told.{Stands, tell}
 use Rattle.lil_report.specs.LeastLaws.{reports_tell, reports_now, reports_late, reports_worse}
 use Rattle.lil_interfaces.specs.declared.surface.Interface.{Interface}
 use Rattle.lil_interfaces.specs.Interfaces.{residents}
-use Rattle.lil_check_unit.specs.Units.{first_of, Speaks, declared, stated, module_of, worst, unit_fault, imports_fault, program_fault, late_fault, naming_rows, missing_rows, data_rows, Now, Late, LateInUnit, ClassesOfUnit, ClassesOfProgram}
+use Rattle.lil_check_unit.specs.Units.{first_of, Speaks, declared, stated, module_of, worst, data_fault, unit_fault, imports_fault, program_fault, late_fault, naming_rows, missing_rows, data_rows, form_rows, Now, Late, LateInUnit, ClassesOfUnit, ClassesOfProgram}
 
 pub speaks_first : (C : Fault → Type 0) (Cs : List (Fault → Type 0)) (a b : Option Fault) → Reports C a → Speaks Cs b → Speaks (C ∷ Cs) (first_of a b)
 speaks_first C Cs None b h k = inr (h, k)
@@ -33,9 +33,13 @@ none_behind None b h = h
 none_behind (Some f) b h = absurd (cc)
 
 module _ (u : Tree) (is : List Interface) where
-  pub unit_speaks : Speaks (ClassesOfUnit u is) (worst u is)
+  -- names, declarations and statements
+  abbrev NamesAndBodies : List (Fault → Type 0)
+  NamesAndBodies = Now (declared is u).1 ∷ Now (stated is u).1 ∷ []
+
+  worst_speaks : Speaks NamesAndBodies (worst u is)
   unfolding worst
-  unit_speaks = speaks_first _ (Now (stated is u).1 ∷ []) _ _ (reports_now _ _ (reports_tell (declared is u).1)) (speaks_last _ _ (reports_now _ _ (reports_tell (stated is u).1)))
+  worst_speaks = speaks_first _ (Now (stated is u).1 ∷ []) _ _ (reports_now _ _ (reports_tell (declared is u).1)) (speaks_last _ _ (reports_now _ _ (reports_tell (stated is u).1)))
 
   pub no_declared : worst u is ≡ None → now_of (tell None (declared is u).1) ≡ None
   unfolding worst
@@ -51,16 +55,19 @@ module _ (u : Tree) (is : List Interface) where
       (reports_late (Stands (declared is u).1) _ (reports_tell (declared is u).1) (no_declared h))
       (reports_late (Stands (stated is u).1) _ (reports_tell (stated is u).1) (no_stated h))
 
-  abbrev WholeClasses : List (Fault → Type 0)
-  WholeClasses = Now (declared is u).1 ∷ Now (stated is u).1 ∷ Stands (data_rows u (module_of u is)) ∷ LateInUnit u is ∷ []
+  abbrev DataAndLate : List (Fault → Type 0)
+  DataAndLate = Stands (data_rows u (declared is u).0 (stated is u).0) ∷ LateInUnit u is ∷ []
 
-  whole_speaks : Speaks WholeClasses (unit_fault u is)
+  data_speaks : worst u is ≡ None → Speaks DataAndLate (data_fault u (declared is u).0 (stated is u).0 (late_fault u is))
+  data_speaks h = speaks_first _ (LateInUnit u is ∷ []) _ _ (reports_tell (data_rows u (declared is u).0 (stated is u).0)) (speaks_last _ _ (late_speaks h))
+
+  pub unit_speaks : Speaks (ClassesOfUnit u is) (unit_fault u is)
   unfolding unit_fault
-  whole_speaks = speaks_behind (ClassesOfUnit u is) (Stands (data_rows u (module_of u is)) ∷ LateInUnit u is ∷ []) (worst u is) _ unit_speaks
-      (λ h. speaks_first _ (LateInUnit u is ∷ []) _ _ (reports_tell (data_rows u (module_of u is))) (speaks_last _ _ (late_speaks h)))
+  unit_speaks = speaks_behind NamesAndBodies (DataAndLate ++ Stands (form_rows u (module_of u is)) ∷ []) (worst u is) _ worst_speaks
+      (λ h. speaks_behind DataAndLate (Stands (form_rows u (module_of u is)) ∷ []) _ _ (data_speaks h) (λ k. speaks_last _ _ (reports_tell (form_rows u (module_of u is)))))
 
 pub program_speaks : (file : List ℕ) (u : Tree) → Speaks (ClassesOfProgram file u) (program_fault file u)
 unfolding program_fault imports_fault
 program_speaks file u =
-    speaks_first (Stands (naming_rows file u)) (Stands (missing_rows residents u.head.imports) ∷ WholeClasses u residents) _ (imports_fault u) (reports_tell (naming_rows file u))
-    (speaks_first (Stands (missing_rows residents u.head.imports)) (WholeClasses u residents) _ (unit_fault u residents) (reports_tell (missing_rows residents u.head.imports)) (whole_speaks u residents))
+    speaks_first (Stands (naming_rows file u)) (Stands (missing_rows residents u.head.imports) ∷ ClassesOfUnit u residents) _ (imports_fault u) (reports_tell (naming_rows file u))
+    (speaks_first (Stands (missing_rows residents u.head.imports)) (ClassesOfUnit u residents) _ (unit_fault u residents) (reports_tell (missing_rows residents u.head.imports)) (unit_speaks u residents))

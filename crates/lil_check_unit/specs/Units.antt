@@ -11,7 +11,7 @@ use Rattle.lil_language.specs.declared.unit.Import.{Import}
 use Rattle.lil_report.specs.declared.report.Fault.{Fault}
 use Rattle.lil_report.specs.Least.{number, is_late, now_of, late_of, worse, IsLeast}
 use Rattle.lil_report.specs.Told.{Row, row, Stands, after, tell}
-use Rattle.lil_module.specs.declared.declared.RModule.{RModule}
+use Rattle.lil_resolved.specs.Resolved.{Resolved}
 use Rattle.lil_scope.specs.declared.env.Env.{Env}
 use Rattle.lil_scope.specs.Names.{same}
 use Rattle.lil_layout.specs.Data.{data_words}
@@ -21,6 +21,7 @@ use Rattle.lil_check_stmt.specs.declared.stmt.Stated.{Stated}
 use Rattle.lil_interfaces.specs.declared.surface.Interface.{Interface}
 use Rattle.lil_interfaces.specs.Interfaces.{named, residents}
 use Rattle.lil_interfaces.specs.Imports.{nothing_imported, imports_mean, exports_mean}
+use Rattle.lil_check_unit.specs.Modules.{in_no_with, assembled}
 
 -- ---- classes: the first one that has a fault speaks
 abbrev pub first_of : Option Fault → Option Fault → Option Fault
@@ -86,22 +87,7 @@ unfoldable pub declared : List Interface → Tree → Env × List Row
 declared is u = after (imports_mean is nothing_imported u.head.imports) (λ s. after (decls_mean s.env u.decls) (λ e. exports_mean s.taken e u.head.exports))
 
 abbrev pub stated : List Interface → Tree → Stated × List Row
-stated is u = bodies_mean (declared is u).0 u.decls u.body
-
-abbrev pub resolved : List ℕ → Env → Stated → RModule
-resolved n e b = record {
-  name = n;
-  types = e.types;
-  texts = e.texts;
-  variables = e.variables;
-  procedures = e.procedures;
-  bodies = b.procedures;
-  body = b.body;
-}
-
--- what a unit without faults is resolved to
-unfoldable pub module_of : Tree → List Interface → RModule
-module_of u is = resolved u.head.name.name (declared is u).0 (stated is u).0
+stated is u = bodies_mean (in_no_with (declared is u).0) u.decls u.body
 
 abbrev pub Now : List Row → Fault → Type 0
 Now rs f = Stands rs f × (is_late f ≡ false)
@@ -110,12 +96,9 @@ Now rs f = Stands rs f × (is_late f ≡ false)
 unfoldable pub worst : Tree → List Interface → Option Fault
 worst u is = first_of (now_of (tell None (declared is u).1)) (now_of (tell None (stated is u).1))
 
-abbrev pub ClassesOfUnit : Tree → List Interface → List (Fault → Type 0)
-ClassesOfUnit u is = Now (declared is u).1 ∷ Now (stated is u).1 ∷ []
-
 -- ---- class 8. 61 DataTooLong: the data of the unit's module have more than 32,000 words
-abbrev pub data_rows : Tree → RModule → List Row
-data_rows u m = row (nat_lt 32000 (data_words m)) u.head.name.place DataTooLong ∷ []
+abbrev pub data_rows : Tree → Env → Stated → List Row
+data_rows u e b = row (nat_lt 32000 (data_words e.types e.variables b.procedures b.body)) u.head.name.place DataTooLong ∷ []
 
 -- ---- class 9: the late faults of declarations and statements
 abbrev pub Late : List Row → Fault → Type 0
@@ -127,29 +110,44 @@ LateInUnit u is f = Late (declared is u).1 f ⊎ Late (stated is u).1 f
 unfoldable pub late_fault : Tree → List Interface → Option Fault
 late_fault u is = worse (late_of (tell None (declared is u).1)) (late_of (tell None (stated is u).1))
 
--- ---- a program
--- the fault of classes 8 and 9, where m is its module and o its late fault
-abbrev pub last_of : Tree → RModule → Option Fault → Option Fault
-last_of u m o = first_of (tell None (data_rows u m)) o
+-- ---- class 10. 90 NotBuilt: the unit has a form of which no code is made
+abbrev pub form_rows : Tree → Option Resolved → List Row
+form_rows u m = row (is_none m) u.head.place NotBuilt ∷ []
 
--- the fault of a program, of classes 6 to 9
+-- the module that a unit without faults is
+unfoldable pub module_of : Tree → List Interface → Option Resolved
+module_of u is = assembled (declared is u).0.types (declared is u).0.variables u.head.name.name (stated is u).0.body
+
+-- ---- a unit
+-- the fault of classes 8 and 9, where o is the late fault
+abbrev pub data_fault : Tree → Env → Stated → Option Fault → Option Fault
+data_fault u e b o = first_of (tell None (data_rows u e b)) o
+
+-- the fault of classes 8 to 10, where m is its module
+abbrev pub last_of : Tree → Env → Stated → Option Fault → Option Resolved → Option Fault
+last_of u e b o m = first_of (data_fault u e b o) (tell None (form_rows u m))
+
+-- the fault of a unit, of classes 6 to 10
 unfoldable pub unit_fault : Tree → List Interface → Option Fault
-unit_fault u is = first_of (worst u is) (last_of u (module_of u is) (late_fault u is))
+unit_fault u is = first_of (worst u is) (last_of u (declared is u).0 (stated is u).0 (late_fault u is) (module_of u is))
 
--- the fault of a program, of classes 5 to 9
+abbrev pub ClassesOfUnit : Tree → List Interface → List (Fault → Type 0)
+ClassesOfUnit u is =
+    Now (declared is u).1
+    ∷ Now (stated is u).1
+    ∷ Stands (data_rows u (declared is u).0 (stated is u).0)
+    ∷ LateInUnit u is
+    ∷ Stands (form_rows u (module_of u is))
+    ∷ []
+
+-- ---- a program
+-- the fault of a program, of classes 5 to 10
 unfoldable pub imports_fault : Tree → Option Fault
 imports_fault u = first_of (tell None (missing_rows residents u.head.imports)) (unit_fault u residents)
 
--- the fault of a program in a file of this name, of classes 4 to 9
+-- the fault of a program in a file of this name, of classes 4 to 10
 unfoldable pub program_fault : List ℕ → Tree → Option Fault
 program_fault file u = first_of (tell None (naming_rows file u)) (imports_fault u)
 
 abbrev pub ClassesOfProgram : List ℕ → Tree → List (Fault → Type 0)
-ClassesOfProgram file u =
-    Stands (naming_rows file u)
-    ∷ Stands (missing_rows residents u.head.imports)
-    ∷ Now (declared residents u).1
-    ∷ Now (stated residents u).1
-    ∷ Stands (data_rows u (module_of u residents))
-    ∷ LateInUnit u residents
-    ∷ []
+ClassesOfProgram file u = Stands (naming_rows file u) ∷ Stands (missing_rows residents u.head.imports) ∷ ClassesOfUnit u residents

@@ -6,16 +6,16 @@ ghost use Rattle.lil_report.specs.Least.{now_of, late_of, worse};
 ghost use Rattle.lil_report.specs.Told.{Said, tell};
 ghost use Rattle.lil_check_stmt.specs.Stmts.{bodies_mean};
 ghost use Rattle.lil_interfaces.specs.Imports.{nothing_imported};
+ghost use Rattle.lil_check_unit.specs.Modules.{in_no_with};
 ghost use Rattle.lil_check_unit.specs.Units as spec;
 
-use lil_base::{Items, Memory, Name, SourceFault, beside};
+use lil_base::{Items, Memory, SourceFault, beside};
 use lil_check_decl::declarations;
 use lil_check_stmt::{Stated, bodies};
 use lil_interfaces::{Imported, Interfaces, exports, imports, start};
 use lil_language::Unit;
-use lil_module::RModule;
 use lil_report::{Fault, Report, worse};
-use lil_scope::Env;
+use lil_scope::{Env, Withs};
 use lil_text::ReadStop;
 use std::alloc::Global;
 
@@ -69,24 +69,11 @@ fn declared(
     Ok(so_far.env)
 }
 
-fn resolved(name: Name, env: Env, stated: Stated) -> RModule
-    ensures { result ≡ spec.resolved name env stated }
-{
-    RModule {
-        name,
-        types: env.types,
-        texts: env.texts,
-        variables: env.variables,
-        procedures: env.procedures,
-        bodies: stated.procedures,
-        body: stated.body,
-    }
-}
-
-/// A module without faults of names, declarations and statements, and the first form of its unit that isn't built.
+/// What a unit without faults of names, declarations and statements declares and states, and its first form that isn't built.
 #[derive(Drop)]
 pub(crate) struct Checked {
-    pub module: RModule,
+    pub declared: Env,
+    pub stated: Stated,
     pub late: Option<Fault>,
 }
 
@@ -97,31 +84,34 @@ fn with_statements(
     declared: Env,
     late: Option<Fault>,
 ) -> Result<Checked, ReadStop>
-    ensures right { IfOk result (λ c. (c.module ≡ spec.resolved u.now.head.name.name declared (bodies_mean declared u.now.decls u.now.body).0)
-        × (now_of (tell None (bodies_mean declared u.now.decls u.now.body).1) ≡ None)
-        × (c.late ≡ worse late (late_of (tell None (bodies_mean declared u.now.decls u.now.body).1)))) }
-    ensures wrong { (f : Told) → result ≡ Err (stop.Fault f) → (g : Found) × (now_of (tell None (bodies_mean declared u.now.decls u.now.body).1) ≡ Some g) × (f ≡ spec.told g) }
+    ensures right { IfOk result (λ c. (c.declared ≡ in_no_with declared) × (c.stated ≡ (bodies_mean (in_no_with declared) u.now.decls u.now.body).0)
+        × (now_of (tell None (bodies_mean (in_no_with declared) u.now.decls u.now.body).1) ≡ None)
+        × (c.late ≡ worse late (late_of (tell None (bodies_mean (in_no_with declared) u.now.decls u.now.body).1)))) }
+    ensures wrong { (f : Told) → result ≡ Err (stop.Fault f) → (g : Found) × (now_of (tell None (bodies_mean (in_no_with declared) u.now.decls u.now.body).1) ≡ Some g) × (f ≡ spec.told g) }
 {
     let mut env = declared;
+    env.withs = Withs::new(alloc);
     let mut report = Report::new();
     let stated = bodies(alloc, &mut env, &mut report, &u.decls, &u.body);
-    let found = beside(env, stated)?;
+    let (declared, stated) = beside(env, stated)?;
     match report.worst_now() {
         Some(fault) => {
-            drop(found);
+            drop(declared);
+            drop(stated);
             Err(told(fault))
         }
         None => {
             let late = worse(late, report.worst_late());
-            let (found, name) = beside(found, u.head.name.name.copy(alloc))?;
-            let (env, stated) = found;
-            let module = resolved(name, env, stated);
-            Ok(Checked { module, late })
+            Ok(Checked {
+                declared,
+                stated,
+                late,
+            })
         }
     }
 }
 
-/// The module that a unit is, with its first form that isn't built, or its fault of names, declarations and statements. Each
+/// What a unit declares and states, with its first form that isn't built, or its fault of names, declarations and statements. Each
 /// module that is imported has an interface.
 pub(crate) fn check_parts(
     alloc: Global,
@@ -129,8 +119,8 @@ pub(crate) fn check_parts(
     interfaces: &Interfaces,
 ) -> Result<Checked, ReadStop>
     requires { spec.HasInterfaces interfaces.now u.now }
-    ensures right { IfOk result (λ c. (c.module ≡ spec.module_of u.now interfaces.now) × (spec.worst u.now interfaces.now ≡ None)
-        × (c.late ≡ spec.late_fault u.now interfaces.now)) }
+    ensures right { IfOk result (λ c. (c.declared ≡ in_no_with (spec.declared interfaces.now u.now).0) × (c.stated ≡ (spec.stated interfaces.now u.now).0)
+        × (spec.worst u.now interfaces.now ≡ None) × (c.late ≡ spec.late_fault u.now interfaces.now)) }
     ensures wrong { (f : Told) → result ≡ Err (stop.Fault f) → (g : Found) × (spec.worst u.now interfaces.now ≡ Some g) × (f ≡ spec.told g) }
 {
     let mut report = Report::new();
@@ -141,21 +131,5 @@ pub(crate) fn check_parts(
             Err(told(fault))
         }
         None => with_statements(alloc, u, env, report.worst_late()),
-    }
-}
-
-/// The module that a unit is, or its fault of names, declarations and statements. The faults of imported and exported names and of
-/// declarations speak before those of statements, and of each kind the one at the least place, there the one of the least
-/// number. A form that isn't built is no fault here. Each module that is imported has an interface. The module keeps all of its unit,
-/// where no interface shows a name with a fault, or has a subrange.
-pub fn check_module(alloc: Global, u: &Unit, interfaces: &Interfaces) -> Result<RModule, ReadStop>
-    requires { spec.HasInterfaces interfaces.now u.now }
-    ensures right { IfOk result (λ m. (m ≡ spec.module_of u.now interfaces.now) × (spec.worst u.now interfaces.now ≡ None)) }
-    ensures wrong { (f : Told) → result ≡ Err (stop.Fault f) → (g : Found) × (spec.worst u.now interfaces.now ≡ Some g) × (f ≡ spec.told g) }
-    ensures least { spec.Speaks (spec.ClassesOfUnit u.now interfaces.now) (spec.worst u.now interfaces.now) }
-{
-    match check_parts(alloc, u, interfaces) {
-        Ok(checked) => Ok(checked.module),
-        Err(stop) => Err(stop),
     }
 }

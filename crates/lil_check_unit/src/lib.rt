@@ -1,8 +1,10 @@
-//! A unit as a whole: what it declares and states, and which fault of its names, declarations and statements speaks.
+//! A unit as a whole: the module that runs, or which fault of its names, declarations and statements speaks.
 #![tactic(auto)]
 
+mod assembling;
 mod checking;
+mod modules;
 mod programs;
 
-pub use checking::check_module;
+pub use modules::check_module;
 pub use programs::check_program;

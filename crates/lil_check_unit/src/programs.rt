@@ -1,19 +1,20 @@
-ghost use Rattle.std.specs.Prelude.{◌≡◌, ◌∷◌, [], Err, IfOk, None, Some, is_none, nat_lt};
+ghost use Rattle.std.specs.Prelude.{◌≡◌, ◌≤◌, ◌∷◌, [], Err, IfOk, None, Some, is_none};
 ghost use Rattle.lil_base.specs.declared.fault.SourceFault.{SourceFault as Told};
 ghost use Rattle.lil_text.specs.declared.stop.ReadStop.TheVariants as stop;
 ghost use Rattle.lil_report.specs.declared.report.Fault.{Fault as Found};
 ghost use Rattle.lil_report.specs.Told.{tell};
-ghost use Rattle.lil_layout.specs.Data.{data_words};
+ghost use Rattle.lil_resolved.specs.Sizes.{IsSound};
+ghost use Rattle.lil_resolved.specs.Views.{module_of, IsMeasured};
 ghost use Rattle.lil_interfaces.specs.Interfaces.{named, residents};
 ghost use Rattle.lil_check_unit.specs.Units as spec;
 
-use crate::checking::{Checked, check_parts, told};
+use crate::checking::told;
+use crate::modules::check_module;
 use lil_base::{FaultKind, Name};
 use lil_interfaces::{Interfaces, all_resident, named, same_name, same_text};
 use lil_language::{Import, Unit, UnitKind};
-use lil_layout::data_words;
-use lil_module::RModule;
 use lil_report::{Fault, Report};
+use lil_resolved::RModule;
 use lil_text::{Ident, ReadStop};
 use std::alloc::Global;
 
@@ -105,75 +106,31 @@ fn missing_fault(interfaces: &Interfaces, u: &Unit) -> Option<Fault>
     report.worst()
 }
 
-/// Whether the data of a module have more than 32,000 words.
-fn is_too_long(m: &RModule) -> bool
-    ensures { result ≡ nat_lt 32000 (data_words m.now) }
-{
-    data_words(m) > 32000
-}
-
-/// The fault of a module's data, where they are too long.
-#[tactic(auto, unfolding(lil_report::specs::Told::tell))]
-fn data_fault(u: &Unit, m: &RModule) -> Option<Fault>
-    ensures { result ≡ tell None (spec.data_rows u.now m.now) }
-{
-    let mut report = Report::new();
-    let too_long = is_too_long(m);
-    report.note(too_long, u.head.name.place, FaultKind::DataTooLong);
-    report.worst()
-}
-
-/// The fault of a module's data, else the first form that isn't built.
-fn last_fault(u: &Unit, checked: &Checked) -> Option<Fault>
-    ensures { result ≡ spec.last_of u.now checked.now.module checked.now.late }
-{
-    match data_fault(u, &checked.module) {
-        Some(fault) => Some(fault),
-        None => checked.late,
-    }
-}
-
-/// The module that a program is, unless its data are too long or it has a form that isn't built.
-fn with_data(u: &Unit, checked: Checked) -> Result<RModule, ReadStop>
-    ensures right { IfOk result (λ m. (m ≡ checked.module) × (spec.last_of u.now checked.module checked.late ≡ None)) }
-    ensures wrong { (f : Told) → result ≡ Err (stop.Fault f) → (g : Found) × (spec.last_of u.now checked.module checked.late ≡ Some g) × (f ≡ spec.told g) }
-{
-    match last_fault(u, &checked) {
-        Some(fault) => Err(told(fault)),
-        None => Ok(checked.module),
-    }
-}
-
-/// The module that a program is, or its fault, where each module that it imports has an interface.
-fn with_interfaces(alloc: Global, u: &Unit, interfaces: &Interfaces) -> Result<RModule, ReadStop>
-    requires { spec.HasInterfaces interfaces.now u.now }
-    ensures right { IfOk result (λ m. (m ≡ spec.module_of u.now interfaces.now) × (spec.unit_fault u.now interfaces.now ≡ None)) }
-    ensures wrong { (f : Told) → result ≡ Err (stop.Fault f) → (g : Found) × (spec.unit_fault u.now interfaces.now ≡ Some g) × (f ≡ spec.told g) }
-{
-    match check_parts(alloc, u, interfaces) {
-        Ok(checked) => with_data(u, checked),
-        Err(stop) => Err(stop),
-    }
-}
-
 /// The module that a program is, or its fault, where its kind and name are right.
 fn with_imports(alloc: Global, u: &Unit) -> Result<RModule, ReadStop>
-    ensures right { IfOk result (λ m. (m ≡ spec.module_of u.now residents) × (spec.imports_fault u.now ≡ None)) }
+    ensures right { IfOk result (λ m. (Some (module_of m) ≡ spec.module_of u.now residents) × (spec.imports_fault u.now ≡ None)) }
+    ensures sound { IfOk result (λ m. IsSound (module_of m)) }
+    ensures measured { IfOk result (λ m. IsMeasured m) }
+    ensures few { IfOk result (λ m. m.words ≤ 32000) }
     ensures wrong { (f : Told) → result ≡ Err (stop.Fault f) → (g : Found) × (spec.imports_fault u.now ≡ Some g) × (f ≡ spec.told g) }
 {
     let interfaces = all_resident(alloc)?;
     match missing_fault(&interfaces, u) {
         Some(fault) => Err(told(fault)),
-        None => with_interfaces(alloc, u, &interfaces),
+        None => check_module(alloc, u, &interfaces),
     }
 }
 
 /// The module that a program is, in the file of this name, or its fault: the unit's kind or name (80, 76, 77), else an import that
 /// isn't there (90), else imported names and declarations, else statements, else data that are too long (61), else a form that
-/// isn't built (90). Of each kind the one at the least place speaks, and there the one of the least number. The module keeps all of
-/// its unit: no name stands for a declaration with a fault, no statement is left out, and each procedure has its body.
+/// isn't built (90), told where it stands, and at last where the unit begins. Of each kind the one at the least place speaks, and
+/// there the one of the least number. The module keeps all of its unit: no name stands for a declaration with a fault, and no
+/// statement is left out. It is sound, and the words of its shapes and variables are counted.
 pub fn check_program(alloc: Global, file: &Name, u: &Unit) -> Result<RModule, ReadStop>
-    ensures right { IfOk result (λ m. (m ≡ spec.module_of u.now residents) × (spec.program_fault file.now u.now ≡ None)) }
+    ensures right { IfOk result (λ m. (Some (module_of m) ≡ spec.module_of u.now residents) × (spec.program_fault file.now u.now ≡ None)) }
+    ensures sound { IfOk result (λ m. IsSound (module_of m)) }
+    ensures measured { IfOk result (λ m. IsMeasured m) }
+    ensures few { IfOk result (λ m. m.words ≤ 32000) }
     ensures wrong { (f : Told) → result ≡ Err (stop.Fault f) → (g : Found) × (spec.program_fault file.now u.now ≡ Some g) × (f ≡ spec.told g) }
     ensures least { spec.Speaks (spec.ClassesOfProgram file.now u.now) (spec.program_fault file.now u.now) }
 {

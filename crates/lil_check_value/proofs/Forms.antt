@@ -88,13 +88,13 @@ module _ (e : Env) where
   opened : (x : Range) (h : Option Expr) → (out-Range x).high ≡ h → joins e x ≡ joins e (roll-Range (record { low = (out-Range x).low; high = h }))
   opened x h is = ap (joins e) (sym (roll-out-Range x)) ∙ (λ j. joins e (roll-Range (record { low = (out-Range x).low; high = is j })))
 
-  pub alone_is : (x : Range) (all : Option Elements) → (out-Range x).high ≡ None → joins e x all ≡ after (means e (out-Range x).low) (λ a. (joined_one all a, []))
+  pub alone_is : (x : Range) (n : Option ℕ) (all : Option Elements) → (out-Range x).high ≡ None → joins e x n all ≡ after (means e (out-Range x).low) (λ a. (joined_one e.types n all a, []))
   unfolding means
-  alone_is x all is = ap (λ m. m all) (opened x None is ∙ range_rolled (record { low = (out-Range x).low; high = None }))
+  alone_is x n all is = ap (λ m. m n all) (opened x None is ∙ range_rolled (record { low = (out-Range x).low; high = None }))
 
-  pub range_is : (x : Range) (high : Expr) (all : Option Elements) → (out-Range x).high ≡ Some high → joins e x all ≡ after (means e (out-Range x).low) (λ a. after (means e high) (λ b. (joined_range all a b, [])))
+  pub range_is : (x : Range) (high : Expr) (n : Option ℕ) (all : Option Elements) → (out-Range x).high ≡ Some high → joins e x n all ≡ after (means e (out-Range x).low) (λ a. after (means e high) (λ b. (joined_range e.types n all a b, [])))
   unfolding means
-  range_is x high all is = ap (λ m. m all) (opened x (Some high) is ∙ range_rolled (record { low = (out-Range x).low; high = Some high }))
+  range_is x high n all is = ap (λ m. m n all) (opened x (Some high) is ∙ range_rolled (record { low = (out-Range x).low; high = Some high }))
 
   -- ---- expressions
   pub whole_is : (p : Place) (n : ℕ) → means e (v.Whole p n) ≡ (Some (constant_found p (k.Whole (pos n))), [])
@@ -109,12 +109,12 @@ module _ (e : Env) where
   unfolding means
   chars_is p text = ap (λ x. (sense e x).value) (sym (v.rolls-Chars p text)) ∙ ap (λ m. m.value) (rolled (o.Chars p text))
 
-  pub set_is : (p : Place) (q : Option Qualident) (xs : List Range) → means e (v.SetOf p q xs) ≡ after (set_sort e q) (λ t. after (elements_mean e xs) (set_node e.types p t))
+  pub set_is : (p : Place) (q : Option Qualident) (xs : List Range) → means e (v.SetOf p q xs) ≡ after (set_sort e q) (λ t. after (elements_mean e t xs) (set_node e.types p t))
   unfolding means
   set_is p q xs = ap (λ x. (sense e x).value) (sym (v.rolls-SetOf p q xs)) ∙ (ap (λ m. m.value) (rolled (o.SetOf p q xs))
-      ∙ (λ j. after (set_sort e q) (λ t. after (walk_map (λ es j. j es) (joins e) (Some no_elements) xs j) (set_node e.types p t))))
+      ∙ (λ j. after (set_sort e q) (λ t. after (walk_map (λ es j. j t es) (joins e) (Some no_elements) xs j) (set_node e.types p t))))
 
-  pub desig_is : (p : Place) (d : Designator) → means e (v.Desig p d) ≡ after (reach_means e p d) value_node
+  pub desig_is : (p : Place) (d : Designator) → means e (v.Desig p d) ≡ after (reach_means e p d) (value_node e.texts)
   unfolding means reach_means
   desig_is p d = ap (λ x. (sense e x).value) (sym (v.rolls-Desig p d)) ∙ ap (λ m. m.value) (rolled (o.Desig p d))
 

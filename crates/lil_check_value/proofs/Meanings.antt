@@ -13,7 +13,7 @@ use Rattle.lil_language.specs.declared.tree.Designator.{Designator, out-Designat
 use Rattle.lil_language.specs.declared.tree.Operation.{Operation, out-Operation}
 use Rattle.lil_language.specs.declared.tree.Range.{Range, out-Range}
 use Rattle.lil_types.specs.Types.{char}
-use Rattle.lil_module.specs.declared.tree.RStmt.{RStmt}
+use Rattle.lil_resolved.specs.declared.resolved.RStmt.{RStmt}
 use Rattle.lil_report.specs.declared.report.Fault.{Fault}
 use Rattle.lil_report.specs.Told.{Said, walk}
 use Rattle.lil_report.specs.Laws.{said_as, said_to, said_value, said_after, said_map}
@@ -63,16 +63,16 @@ module _ (e : Env) {r : Option Fault} where
   is_operated p x a {b = b} {i = i} {s = s} {t = t} held h g = said_as (f.operation_is e p a x) (said_after _ _ (IfOk-at_ok (λ i. Said (means e (out-Operation x).operand) r i s) held.1 h)
       (subst (λ a. Said (two_node e.types p (out-Operation x).operator (out-Operation x).place a i) s b t) held.0 g))
 
-  pub is_alone : {E : Type 0} (x : Range) (all : Option Elements) {kept more : Option Elements} {found : Result (Option Found) E} {a : Option Found} {s : Option Fault} → (out-Range x).high ≡ None → (kept ≡ all) × (found ≡ Ok a)
-      → IfOk found (λ a. Said (means e (out-Range x).low) r a s) → more ≡ joined_one kept a → Said (joins e x all) r more s
-  is_alone x all {a = a} {s = s} is held h m = said_as (f.alone_is e x all is)
-      (said_to (said_map (joined_one all) (IfOk-at_ok (λ a. Said (means e (out-Range x).low) r a s) held.1 h)) (m ∙ ap (λ all. joined_one all a) held.0))
+  pub is_alone : {E : Type 0} (x : Range) (n : Option ℕ) (all : Option Elements) {kept more : Option Elements} {found : Result (Option Found) E} {a : Option Found} {s : Option Fault} → (out-Range x).high ≡ None → (kept ≡ all) × (found ≡ Ok a)
+      → IfOk found (λ a. Said (means e (out-Range x).low) r a s) → more ≡ joined_one e.types n kept a → Said (joins e x n all) r more s
+  is_alone x n all {a = a} {s = s} is held h m = said_as (f.alone_is e x n all is)
+      (said_to (said_map (joined_one e.types n all) (IfOk-at_ok (λ a. Said (means e (out-Range x).low) r a s) held.1 h)) (m ∙ ap (λ all. joined_one e.types n all a) held.0))
 
-  pub is_range : {E : Type 0} (x : Range) (high : Expr) (all : Option Elements) (s : Option Fault) {kept more : Option Elements} {both : Option Elements × Option Found} {low_found high_found : Result (Option Found) E} {a b : Option Found} {t : Option Fault}
+  pub is_range : {E : Type 0} (x : Range) (high : Expr) (n : Option ℕ) (all : Option Elements) (s : Option Fault) {kept more : Option Elements} {both : Option Elements × Option Found} {low_found high_found : Result (Option Found) E} {a b : Option Found} {t : Option Fault}
       → (out-Range x).high ≡ Some high → (kept ≡ all) × (low_found ≡ Ok a) → IfOk low_found (λ a. Said (means e (out-Range x).low) r a s) → (both ≡ (kept, a)) × (high_found ≡ Ok b) → IfOk high_found (λ b. Said (means e high) s b t)
-      → more ≡ joined_range both.0 both.1 b → Said (joins e x all) r more t
-  is_range x high all s {a = a} {b = b} {t = t} is held h held' g m = said_as (f.range_is e x high all is) (said_after _ _ (IfOk-at_ok (λ a. Said (means e (out-Range x).low) r a s) held.1 h)
-      (said_to (said_map (joined_range all a) (IfOk-at_ok (λ b. Said (means e high) s b t) held'.1 g)) ((m ∙ ap (λ both. joined_range both.0 both.1 b) held'.0) ∙ ap (λ all. joined_range all a b) held.0)))
+      → more ≡ joined_range e.types n both.0 both.1 b → Said (joins e x n all) r more t
+  is_range x high n all s {a = a} {b = b} {t = t} is held h held' g m = said_as (f.range_is e x high n all is) (said_after _ _ (IfOk-at_ok (λ a. Said (means e (out-Range x).low) r a s) held.1 h)
+      (said_to (said_map (joined_range e.types n all a) (IfOk-at_ok (λ b. Said (means e high) s b t) held'.1 g)) ((m ∙ ap (λ both. joined_range e.types n both.0 both.1 b) held'.0) ∙ ap (λ all. joined_range e.types n all a b) held.0)))
 
   -- ---- arguments
   pub is_typed : {of : Expr} {p : Place} (d : Designator) {a : Option Reached} {b : Argument} {s t : Option Fault} → of ≡ v.Desig p d → Said (reach_means e p d) r a s → Said (typed_node p a) s b t → Said (typed_means e of) r b t
@@ -100,10 +100,10 @@ module _ (e : Env) {r : Option Fault} where
     is_chars {p = p} {text = text} is h = said_as (ap (means e) is ∙ f.chars_is e p text) (said_value (ap Some h))
 
     pub is_set : {p : Place} {q : Option Qualident} (xs : List Range) {t : Option ℕ} {es : Option Elements} {a : Option Found} {s u w' : Option Fault} → of ≡ v.SetOf p q xs
-        → Said (set_sort e q) r t s → Said (elements_mean e xs) s es u → Said (set_node e.types p t es) u a w' → Said (means e of) r a w'
+        → Said (set_sort e q) r t s → Said (elements_mean e t xs) s es u → Said (set_node e.types p t es) u a w' → Said (means e of) r a w'
     is_set {p = p} {q = q} xs is h g l = said_as (ap (means e) is ∙ f.set_is e p q xs) (said_after _ _ h (said_after _ _ g l))
 
-    pub is_desig : {p : Place} (d : Designator) {o : Option Reached} {a : Option Found} {s t : Option Fault} → of ≡ v.Desig p d → Said (reach_means e p d) r o s → Said (value_node o) s a t → Said (means e of) r a t
+    pub is_desig : {p : Place} (d : Designator) {o : Option Reached} {a : Option Found} {s t : Option Fault} → of ≡ v.Desig p d → Said (reach_means e p d) r o s → Said (value_node e.texts o) s a t → Said (means e of) r a t
     is_desig {p = p} d is h g = said_as (ap (means e) is ∙ f.desig_is e p d) (said_after _ _ h g)
 
     pub is_one : {p : Place} {op : OneOp} {at : Place} (x : Expr) {a b : Option Found} {s t : Option Fault} → of ≡ v.One p op at x → Said (means e x) r a s → Said (one_node e.types p op at a) s b t → Said (means e of) r b t

@@ -1,15 +1,12 @@
 -- What designators reach: the variable, or the part of one, or what else a name means.
-use Rattle.std.specs.Prelude.{ℕ, ◌-◌, ◌==◌, is_none, Bool, true, false, not, ◌&&◌, List, [], ◌∷◌, ◌++◌, Option, Some, None, if◌then◌else◌}
+use Rattle.std.specs.Prelude.{ℕ, ◌==◌, is_none, Bool, true, false, not, ◌&&◌, List, [], ◌∷◌, Option, Some, None, if◌then◌else◌}
 use Rattle.lil_base.specs.declared.fault.Place.{Place}
 use Rattle.lil_base.specs.declared.fault.FaultKind.{FaultKind}
 use Rattle.lil_base.specs.declared.fault.FaultKind.TheVariants.{Unknown, NotExported, WrongKind, Assign, NotArray, NotRecord, NotPointer, NoField, Opaque, ConstRange, ExprDeep, NotBuilt}
 use Rattle.lil_text.specs.declared.tree.Ident.{Ident}
 use Rattle.lil_types.specs.Types.{Table, cardinal, char}
-use Rattle.lil_module.specs.declared.declared.Mode.{Mode}
-use Rattle.lil_module.specs.declared.declared.Mode.TheVariants as mode
-use Rattle.lil_module.specs.declared.tree.RRoot.{RRoot}
-use Rattle.lil_module.specs.declared.tree.RRoot.TheVariants as root
-use Rattle.lil_module.specs.declared.tree.RSelector.TheVariants as r
+use Rattle.lil_declared.specs.declared.declared.Mode.{Mode}
+use Rattle.lil_declared.specs.declared.declared.Mode.TheVariants as mode
 use Rattle.lil_report.specs.Told.{Row, row}
 use Rattle.lil_scope.specs.declared.thing.Kind.{Kind}
 use Rattle.lil_scope.specs.declared.thing.Kind.TheVariants as k
@@ -17,14 +14,17 @@ use Rattle.lil_scope.specs.declared.thing.Thing.{Thing}
 use Rattle.lil_scope.specs.declared.thing.Thing.TheVariants as t
 use Rattle.lil_scope.specs.declared.thing.Variable.{Variable}
 use Rattle.lil_scope.specs.declared.env.Env.{Env}
-use Rattle.lil_scope.specs.Names.{level, member}
+use Rattle.lil_scope.specs.Names.{member}
 use Rattle.lil_kinds.specs.declared.forms.ArrayParts.{ArrayParts}
 use Rattle.lil_kinds.specs.declared.forms.FieldAt.{FieldAt}
 use Rattle.lil_kinds.specs.declared.found.Found.{Found}
+use Rattle.lil_kinds.specs.declared.found.Located.{Located}
 use Rattle.lil_kinds.specs.declared.found.Standing.{Standing}
 use Rattle.lil_kinds.specs.declared.found.Standing.TheVariants as standing
 use Rattle.lil_kinds.specs.Forms.{array_parts, field, is_record, target, is_opaque}
 use Rattle.lil_kinds.specs.Kinds.{assignable, misses}
+use Rattle.lil_forms.specs.Places as places
+use Rattle.lil_forms.specs.Places.{variable_at, held_at}
 use Rattle.lil_check_value.specs.declared.names.Looked.{Looked}
 use Rattle.lil_check_value.specs.declared.names.Looked.TheVariants.{Nothing, Field, Thing as Declared}
 use Rattle.lil_check_value.specs.declared.designators.Part.{Part}
@@ -38,9 +38,9 @@ abbrev pub Reaches : Type 0
 Reaches = Option Reached × List Row
 
 -- ---- names
--- a variable of the module, or one of the activation that is so many levels out
-abbrev pub variable_root : ℕ → Variable → RRoot
-variable_root here v = if v.level == 1 then root.Global v.number else root.Local (here - v.level) v.number
+-- where a variable of the module lies; those of procedures have no code
+abbrev pub variable_place : Env → Variable → Option Located
+variable_place e v = if v.level == 1 then variable_at e.variables v.number else None
 
 abbrev pub kind_by : Mode → ℕ → Kind
 kind_by mode.Plain s = k.Of s
@@ -52,43 +52,47 @@ kind_by mode.OpenPlace s = k.Open s
 abbrev pub variable_kind : Variable → Kind
 variable_kind v = kind_by v.mode v.sort
 
--- a variable as a whole: the place where the designator begins, that of its name, with what it begins, and its kind
-abbrev pub whole_part : Place → Place → RRoot → Kind → Part
-whole_part p q begin kind = record { first = p; name = q; root = begin; selectors = []; kind = kind; depth = 1; standing = standing.Variable }
+-- a variable as a whole: the place where the designator begins, that of its name, where it lies, and its kind
+abbrev pub whole_part : Place → Place → Option Located → Kind → Part
+whole_part p q place kind = record { first = p; name = q; place = place; is_whole = true; kind = kind; depth = 1; standing = standing.Variable }
 
 abbrev pub named : Place → Place → Thing → Reached
 named p q x = reached.Other (record { first = p; name = q; thing = x })
 
 -- no value where the declaration of the name has a fault
-abbrev pub thing_reached : ℕ → Place → Place → Thing → Option Reached
-thing_reached here p q (t.Variable v) = Some (reached.Part (whole_part p q (variable_root here v) (variable_kind v)))
-thing_reached here p q t.Hidden = None
-thing_reached here p q t.Broken = None
-thing_reached here p q (t.Constant c) = Some (named p q (t.Constant c))
-thing_reached here p q (t.Named n c) = Some (named p q (t.Named n c))
-thing_reached here p q t.Nil = Some (named p q t.Nil)
-thing_reached here p q (t.Type s) = Some (named p q (t.Type s))
-thing_reached here p q (t.Procedure x) = Some (named p q (t.Procedure x))
-thing_reached here p q (t.Resident x s) = Some (named p q (t.Resident x s))
-thing_reached here p q (t.Standard x) = Some (named p q (t.Standard x))
-thing_reached here p q (t.Module b) = Some (named p q (t.Module b))
+abbrev pub thing_reached : Env → Place → Place → Thing → Option Reached
+thing_reached e p q (t.Variable v) = Some (reached.Part (whole_part p q (variable_place e v) (variable_kind v)))
+thing_reached e p q t.Hidden = None
+thing_reached e p q t.Broken = None
+thing_reached e p q (t.Constant c) = Some (named p q (t.Constant c))
+thing_reached e p q (t.Named n c) = Some (named p q (t.Named n c))
+thing_reached e p q t.Nil = Some (named p q t.Nil)
+thing_reached e p q (t.Type s) = Some (named p q (t.Type s))
+thing_reached e p q (t.Procedure x) = Some (named p q (t.Procedure x))
+thing_reached e p q (t.Resident x s) = Some (named p q (t.Resident x s))
+thing_reached e p q (t.Standard x) = Some (named p q (t.Standard x))
+thing_reached e p q (t.Module b) = Some (named p q (t.Module b))
 
-abbrev pub looked_reached : ℕ → Place → Place → Looked → Option Reached
-looked_reached here p q Nothing = None
-looked_reached here p q (Field w f s) = Some (reached.Part (whole_part p q (root.Field w f) (k.Of s)))
-looked_reached here p q (Declared x) = thing_reached here p q x
+-- a field of the record of a WITH
+abbrev pub held_field : Env → ℕ → ℕ → Option Located
+held_field e w f = places.field_of e.types f (held_at e.withs w)
+
+abbrev pub looked_reached : Env → Place → Place → Looked → Option Reached
+looked_reached e p q Nothing = None
+looked_reached e p q (Field w f s) = Some (reached.Part (whole_part p q (held_field e w f) (k.Of s)))
+looked_reached e p q (Declared x) = thing_reached e p q x
 
 -- a name at q in a designator that begins at p; where it is one of a module, the module's name stands at another place
-unfoldable pub name_node : ℕ → Place → Place → Place → Looked → Reaches
-name_node here p at q l = (
-  looked_reached here p q l,
+unfoldable pub name_node : Env → Place → Place → Place → Looked → Reaches
+name_node e p at q l = (
+  looked_reached e p q l,
   row (is_nothing l) q Unknown ∷ row (is_hidden l) q NotExported
       -- 90 NotBuilt
       ∷ row (not (is_built_name l)) at NotBuilt ∷ [],
 )
 
 abbrev pub root_means : Env → Place → Ident → Reaches
-root_means e p x = name_node (level e) p x.place x.place (look e x.name)
+root_means e p x = name_node e p x.place x.place (look e x.name)
 
 -- ---- selectors on what is no variable
 -- types and modules can't stand there, whatever is selected
@@ -111,19 +115,19 @@ abbrev pub field_of : Table → Kind → List ℕ → Option FieldAt
 field_of types (k.Of s) n = field types s n
 field_of types _ n = None
 
-abbrev pub with_field : Part → FieldAt → Part
-with_field a f = record a { selectors = a.selectors ++ r.Field f.number ∷ []; kind = k.Of f.sort; standing = standing.Variable }
+abbrev pub with_field : Table → Part → FieldAt → Part
+with_field types a f = record a { place = places.field_of types f.number a.place; is_whole = false; kind = k.Of f.sort; standing = standing.Variable }
 
-abbrev pub field_found : Part → Option FieldAt → Option Reached
-field_found a None = None
-field_found a (Some f) = Some (reached.Part (with_field a f))
+abbrev pub field_found : Table → Part → Option FieldAt → Option Reached
+field_found types a None = None
+field_found types a (Some f) = Some (reached.Part (with_field types a f))
 
-abbrev pub field_value : Bool → Part → Option FieldAt → Option Reached
-field_value is_record a o = if is_record then field_found a o else None
+abbrev pub field_value : Table → Bool → Part → Option FieldAt → Option Reached
+field_value types is_record a o = if is_record then field_found types a o else None
 
 unfoldable pub part_field : Table → Place → Ident → Part → Reaches
 part_field types dot x a = (
-  field_value (record_kind types a.kind) a (field_of types a.kind x.name),
+  field_value types (record_kind types a.kind) a (field_of types a.kind x.name),
   -- 36 NotRecord
   row (not (record_kind types a.kind)) dot NotRecord
       -- 38 NoField
@@ -136,7 +140,7 @@ module_block _ = None
 
 -- a name of a module is looked up there
 abbrev pub other_field_by : Env → Place → Ident → Named → Option ℕ → Reaches
-other_field_by e dot x o (Some b) = name_node (level e) o.first o.name x.place (looked_as (member e.scopes b x.name))
+other_field_by e dot x o (Some b) = name_node e o.first o.name x.place (looked_as (member e.scopes b x.name))
 other_field_by e dot x o None = (None, refused_rows o dot NotRecord)
 
 unfoldable pub other_field : Env → Place → Ident → Named → Reaches
@@ -158,8 +162,8 @@ parts_of types _ = None
 abbrev pub element_standing : ℕ → Standing
 element_standing s = if s == char then standing.Character else standing.Variable
 
-abbrev pub with_index : Part → Found → ArrayParts → ℕ → Part
-with_index a i parts d = record { first = a.first; name = a.name; root = a.root; selectors = a.selectors ++ r.Index i.form ∷ []; kind = k.Of parts.element; depth = d; standing = element_standing parts.element }
+abbrev pub with_index : Table → Part → Found → ArrayParts → ℕ → Part
+with_index types a i parts d = record { first = a.first; name = a.name; place = places.element_of types i a.place; is_whole = false; kind = k.Of parts.element; depth = d; standing = element_standing parts.element }
 
 abbrev pub deep_row : Option ℕ → Place → Row
 deep_row d p = row (is_none d) p ExprDeep
@@ -169,7 +173,7 @@ index_fits types parts kind = assignable types parts.index kind && not (misses t
 
 abbrev pub element_found : Table → Part → Found → ArrayParts → Option ℕ → Option Reached
 element_found types a i parts None = None
-element_found types a i parts (Some d) = if index_fits types parts i.kind then Some (reached.Part (with_index a i parts d)) else None
+element_found types a i parts (Some d) = if index_fits types parts i.kind then Some (reached.Part (with_index types a i parts d)) else None
 
 abbrev pub element_value : Table → Part → Found → Option ArrayParts → Option ℕ → Option Reached
 element_value types a i None d = None
@@ -209,19 +213,19 @@ abbrev pub target_of : Table → Kind → Option ℕ
 target_of types (k.Of s) = target types s
 target_of types _ = None
 
-abbrev pub with_follow : Part → ℕ → Part
-with_follow a s = record a { selectors = a.selectors ++ r.Follow ∷ []; kind = k.Of s; standing = standing.Variable }
+abbrev pub with_follow : Table → Part → ℕ → Part
+with_follow types a s = record a { place = places.target_of types a.place; is_whole = false; kind = k.Of s; standing = standing.Variable }
 
-abbrev pub target_found : Part → Option ℕ → Option Reached
-target_found a None = None
-target_found a (Some s) = Some (reached.Part (with_follow a s))
+abbrev pub target_found : Table → Part → Option ℕ → Option Reached
+target_found types a None = None
+target_found types a (Some s) = Some (reached.Part (with_follow types a s))
 
-abbrev pub target_value : Bool → Part → Option ℕ → Option Reached
-target_value is_opaque a o = if is_opaque then None else target_found a o
+abbrev pub target_value : Table → Bool → Part → Option ℕ → Option Reached
+target_value types is_opaque a o = if is_opaque then None else target_found types a o
 
 unfoldable pub part_follow : Table → Place → Part → Reaches
 part_follow types arrow a = (
-  target_value (opaque_kind types a.kind) a (target_of types a.kind),
+  target_value types (opaque_kind types a.kind) a (target_of types a.kind),
   -- 43 Opaque
   row (opaque_kind types a.kind) arrow Opaque
       -- 37 NotPointer

@@ -9,15 +9,15 @@ use Rattle.lil_language.specs.declared.tree.Designator.{Designator, out-Designat
 use Rattle.lil_language.specs.declared.tree.Selector.{Selector}
 use Rattle.lil_language.specs.declared.tree.Operation.{Operation}
 use Rattle.lil_language.specs.declared.tree.Range.{Range}
-use Rattle.lil_types.specs.Types.{char}
-use Rattle.lil_module.specs.declared.tree.RStmt.{RStmt}
-use Rattle.lil_module.specs.declared.tree.RExpr.TheVariants as r
-use Rattle.lil_module.specs.declared.tree.Standard.{Standard}
-use Rattle.lil_module.specs.declared.tree.Standard.TheVariants.{Max, Min, Val}
+use Rattle.lil_types.specs.Types.{Table, char}
+use Rattle.lil_resolved.specs.declared.resolved.RStmt.{RStmt}
+use Rattle.lil_declared.specs.declared.standard.Standard.{Standard}
+use Rattle.lil_declared.specs.declared.standard.Standard.TheVariants.{Max, Min, Val}
 use Rattle.lil_report.specs.Told.{Row, after, walk}
 use Rattle.lil_scope.specs.declared.thing.Chars.{Chars}
 use Rattle.lil_scope.specs.declared.thing.Kind.TheVariants as k
 use Rattle.lil_scope.specs.declared.env.Env.{Env}
+use Rattle.lil_kinds.specs.declared.found.Form.TheVariants as form
 use Rattle.lil_kinds.specs.declared.found.Found.{Found}
 use Rattle.lil_call.specs.declared.call.Callee.{Callee}
 use Rattle.lil_call.specs.declared.call.Callee.TheVariants as callee
@@ -54,7 +54,7 @@ abbrev pub Operates : Type 0
 Operates = Place → Option Chained → Option Chained × List Row
 
 abbrev pub Joins : Type 0
-Joins = Option Elements → Option Elements × List Row
+Joins = Option ℕ → Option Elements → Option Elements × List Row
 
 -- ---- texts
 abbrev pub first_of : List ℕ → ℕ
@@ -65,7 +65,7 @@ abbrev pub chars_of : List ℕ → Chars
 chars_of text = record { length = length text; first = first_of text }
 
 abbrev pub text_found : Place → List ℕ → Found
-text_found p text = plain_found p (r.Chars text) (k.Chars (chars_of text))
+text_found p text = plain_found p (form.Text text) (k.Chars (chars_of text))
 
 -- ---- arguments: the first of MAX, MIN and VAL should be a type's name
 abbrev pub standard_asks : Standard → Asked
@@ -117,8 +117,8 @@ abbrev pub expression_layer : Env → Expr-F Sense Step Way Operates Joins → S
 expression_layer e (x.Whole p n) = of_value (Some (constant_found p (k.Whole (pos n))), [])
 expression_layer e (x.Code p c) = of_value (Some (constant_found p (k.Scalar char c)), [])
 expression_layer e (x.Chars p text) = of_value (Some (text_found p text), [])
-expression_layer e (x.SetOf p q rs) = of_value (after (set_sort e q) (λ s. after (walk (λ es j. j es) (Some no_elements) rs) (set_node e.types p s)))
-expression_layer e (x.Desig p d) = record { value = after (d.reach p) value_node; typed = after (d.reach p) (typed_node p) }
+expression_layer e (x.SetOf p q rs) = of_value (after (set_sort e q) (λ s. after (walk (λ es j. j s es) (Some no_elements) rs) (set_node e.types p s)))
+expression_layer e (x.Desig p d) = record { value = after (d.reach p) (value_node e.texts); typed = after (d.reach p) (typed_node p) }
 expression_layer e (x.Call p d xs) = of_value (called e p d xs)
 expression_layer e (x.One p op at a) = of_value (after a.value (one_node e.types p op at))
 expression_layer e (x.Chain p a os) = of_value (chain_means p a.value os)
@@ -137,12 +137,12 @@ designator_layer e d = record { first = d.first.place; reach = λ p. after (root
 abbrev pub operation_layer : Env → Operation-F Sense Step Way Operates Joins → Operates
 operation_layer e o p a = after o.operand.value (two_node e.types p o.operator o.place a)
 
-abbrev pub joined : Meaning → Option Sense → Joins
-joined low None es = after low (λ a. (joined_one es a, []))
-joined low (Some high) es = after low (λ a. after high.value (λ b. (joined_range es a b, [])))
+abbrev pub joined : Table → Meaning → Option Sense → Joins
+joined types low None s es = after low (λ a. (joined_one types s es a, []))
+joined types low (Some high) s es = after low (λ a. after high.value (λ b. (joined_range types s es a b, [])))
 
 abbrev pub range_layer : Env → Range-F Sense Step Way Operates Joins → Joins
-range_layer e g = joined g.low.value g.high
+range_layer e g = joined e.types g.low.value g.high
 
 -- ---- the fold
 module _ (e : Env) where
@@ -180,11 +180,11 @@ step_means e o s = step e s o
 abbrev pub operation_means : Env → Place → Option Chained → Operation → Option Chained × List Row
 operation_means e p a o = operates e o p a
 
-abbrev pub joins_mean : Env → Option Elements → Range → Option Elements × List Row
-joins_mean e es g = joins e g es
+abbrev pub joins_mean : Env → Option ℕ → Option Elements → Range → Option Elements × List Row
+joins_mean e s es g = joins e g s es
 
-abbrev pub elements_mean : Env → List Range → Option Elements × List Row
-elements_mean e gs = walk (joins_mean e) (Some no_elements) gs
+abbrev pub elements_mean : Env → Option ℕ → List Range → Option Elements × List Row
+elements_mean e s gs = walk (joins_mean e s) (Some no_elements) gs
 
 -- where a designator begins
 abbrev pub begins : Designator → Place

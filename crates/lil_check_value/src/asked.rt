@@ -2,7 +2,7 @@ ghost use Rattle.std.specs.Prelude.{◌≡◌};
 ghost use Rattle.lil_check_value.specs.Values as spec;
 
 use lil_call::Callee;
-use lil_module::Standard;
+use lil_declared::Standard;
 
 /// Whether the first argument of a call should be a type's name.
 #[derive(Clone, Copy)]

@@ -1,15 +1,15 @@
-ghost use Rattle.std.specs.Prelude.{◌≡◌, ◌-◌, IfOk};
+ghost use Rattle.std.specs.Prelude.{◌≡◌, IfOk};
 ghost use Rattle.lil_report.specs.Told.{Said, tell};
-ghost use Rattle.lil_scope.specs.Names.{level as level_of};
 ghost use Rattle.lil_check_value.specs.Designators as spec;
 
 use crate::names::{Looked, is_built_name, is_hidden, is_nothing, look, looked_as};
-use lil_base::{FaultKind, Items, Memory, Name, Place};
+use lil_base::{FaultKind, Memory, Name, Place};
+use lil_declared::Mode;
+use lil_forms::{element_of, held_at, variable_at};
 use lil_kinds::{
-    ArrayParts, FieldAt, Found, Standing, array_parts, assignable, field, is_opaque, is_record,
-    misses, target,
+    ArrayParts, FieldAt, Found, Located, Standing, array_parts, assignable, field, is_opaque,
+    is_record, misses, target,
 };
-use lil_module::{Mode, RRoot, RSelector};
 use lil_operators::raised;
 use lil_report::Report;
 use lil_scope::{Env, Kind, Thing, Variable, find_in};
@@ -17,14 +17,14 @@ use lil_text::Ident;
 use lil_types::{CARDINAL, CHAR, TypeId, TypeTable};
 use std::alloc::Global;
 
-/// A variable or a part of one: where the designator begins, where its last name stands, with what it begins and what is
-/// selected, what is known of its value, its depth, and whether it is a character of an array.
+/// A variable or a part of one: where the designator begins, where its last name stands, the place that it names, where that
+/// has code, whether nothing is selected, what is known of its value, its depth, and whether it is a character of an array.
 #[derive(Drop)]
 pub struct Part {
     pub first: Place,
     pub name: Place,
-    pub root: RRoot,
-    pub selectors: Items<RSelector>,
+    pub place: Option<Located>,
+    pub is_whole: bool,
     pub kind: Kind,
     pub depth: usize,
     pub standing: Standing,
@@ -45,19 +45,14 @@ pub enum Reached {
     Other(Named),
 }
 
-fn levels_out(here: usize, level: usize) -> usize
-    ensures { result ≡ here - level }
-{
-    if here < level { 0 } else { here - level }
-}
-
-fn variable_root(here: usize, of: Variable) -> RRoot
-    ensures { result ≡ spec.variable_root here of }
+/// Where a variable of the module lies; those of procedures have no code.
+fn variable_place(alloc: Global, env: &Env, of: Variable) -> Option<Located>
+    ensures { result ≡ spec.variable_place env.now of }
 {
     if of.level == 1 {
-        RRoot::Global(of.number)
+        variable_at(alloc, env.variables.as_slice(), of.number)
     } else {
-        RRoot::Local(levels_out(here, of.level), of.number)
+        None
     }
 }
 
@@ -73,14 +68,14 @@ fn variable_kind(of: Variable) -> Kind
     }
 }
 
-fn whole_part(alloc: Global, first: Place, name: Place, root: RRoot, kind: Kind) -> Part
-    ensures { result ≡ spec.whole_part first name root kind }
+fn whole_part(first: Place, name: Place, place: Option<Located>, kind: Kind) -> Part
+    ensures { result ≡ spec.whole_part first name place kind }
 {
     Part {
         first,
         name,
-        root,
-        selectors: Items::new(alloc),
+        place,
+        is_whole: true,
         kind,
         depth: 1,
         standing: Standing::Variable,
@@ -90,19 +85,18 @@ fn whole_part(alloc: Global, first: Place, name: Place, root: RRoot, kind: Kind)
 /// What the name of a thing reaches.
 fn thing_reached(
     alloc: Global,
-    here: usize,
+    env: &Env,
     first: Place,
     name: Place,
     thing: Thing,
 ) -> Option<Reached>
-    ensures { result ≡ spec.thing_reached here first name thing }
+    ensures { result ≡ spec.thing_reached env.now first name thing }
 {
     match thing {
         Thing::Variable(of) => Some(Reached::Part(whole_part(
-            alloc,
             first,
             name,
-            variable_root(here, of),
+            variable_place(alloc, env, of),
             variable_kind(of),
         ))),
         Thing::Hidden => None,
@@ -111,25 +105,36 @@ fn thing_reached(
     }
 }
 
+/// A field of the record of a WITH.
+fn held_field(
+    alloc: Global,
+    env: &Env,
+    with: usize,
+    number: usize,
+) -> Result<Option<Located>, Memory>
+    ensures { IfOk result (λ p. p ≡ spec.held_field env.now with number) }
+{
+    let held = held_at(alloc, env.withs.as_slice(), with);
+    lil_forms::field_of(&env.types, number, held)
+}
+
 fn looked_reached(
     alloc: Global,
-    here: usize,
+    env: &Env,
     first: Place,
     name: Place,
     of: Looked,
-) -> Option<Reached>
-    ensures { result ≡ spec.looked_reached here first name of }
+) -> Result<Option<Reached>, Memory>
+    ensures { IfOk result (λ o. o ≡ spec.looked_reached env.now first name of) }
 {
     match of {
-        Looked::Nothing => None,
-        Looked::Field(with, number, sort) => Some(Reached::Part(whole_part(
-            alloc,
-            first,
-            name,
-            RRoot::Field(with, number),
-            Kind::Of(sort),
-        ))),
-        Looked::Thing(thing) => thing_reached(alloc, here, first, name, thing),
+        Looked::Nothing => Ok(None),
+        Looked::Field(with, number, sort) => {
+            let place = held_field(alloc, env, with, number)?;
+            let part = whole_part(first, name, place, Kind::Of(sort));
+            Ok(Some(Reached::Part(part)))
+        }
+        Looked::Thing(thing) => Ok(thing_reached(alloc, env, first, name, thing)),
     }
 }
 
@@ -137,25 +142,20 @@ fn looked_reached(
 #[tactic(auto, unfolding(crate::specs::Designators::name_node, lil_report::specs::Told::tell))]
 fn name_node(
     alloc: Global,
+    env: &Env,
     report: &mut Report,
-    here: usize,
     first: Place,
     at: Place,
     name: Place,
     of: Looked,
-) -> Option<Reached>
-    ensures { Said (spec.name_node here first at name of) report.old result report.new }
+) -> Result<Option<Reached>, Memory>
+    ensures { IfOk result (λ o. Said (spec.name_node env.now first at name of) report.old o report.new) }
 {
     report.note(is_nothing(of), name, FaultKind::Unknown);
     report.note(is_hidden(of), name, FaultKind::NotExported);
     report.note(!is_built_name(of), at, FaultKind::NotBuilt);
-    looked_reached(alloc, here, first, name, of)
-}
-
-fn level(env: &Env) -> usize
-    ensures { result ≡ level_of env.now }
-{
-    env.scopes.outer.len()
+    let value = looked_reached(alloc, env, first, name, of)?;
+    Ok(value)
 }
 
 /// The first name of a designator that begins at this place.
@@ -165,18 +165,12 @@ pub(crate) fn root(
     report: &mut Report,
     first: Place,
     of: &Ident,
-) -> Option<Reached>
-    ensures { Said (spec.root_means env.now first of.now) report.old result report.new }
+) -> Result<Option<Reached>, Memory>
+    ensures { IfOk result (λ o. Said (spec.root_means env.now first of.now) report.old o report.new) }
 {
-    name_node(
-        alloc,
-        report,
-        level(env),
-        first,
-        of.place,
-        of.place,
-        look(env, &of.name),
-    )
+    let looked = look(env, &of.name);
+    let value = name_node(alloc, env, report, first, of.place, of.place, looked)?;
+    Ok(value)
 }
 
 /// Whether a thing is a type or a module.
@@ -208,37 +202,34 @@ fn field_of(types: &TypeTable, kind: Kind, name: &Name) -> Option<FieldAt>
     }
 }
 
-fn with_field(of: Part, field: FieldAt) -> Result<Part, Memory>
-    ensures { IfOk result (λ a. a ≡ spec.with_field of field) }
+fn with_field(types: &TypeTable, of: Part, field: FieldAt) -> Result<Part, Memory>
+    ensures { IfOk result (λ a. a ≡ spec.with_field types.now of field) }
 {
-    let Part {
-        first,
-        name,
-        root,
-        selectors,
-        kind: _,
-        depth,
-        standing: _,
-    } = of;
-    let mut selectors = selectors;
-    selectors.push(RSelector::Field(field.number))?;
     Ok(Part {
-        first,
-        name,
-        root,
-        selectors,
+        first: of.first,
+        name: of.name,
+        place: lil_forms::field_of(types, field.number, of.place)?,
+        is_whole: false,
         kind: Kind::Of(field.sort),
-        depth,
+        depth: of.depth,
         standing: Standing::Variable,
     })
 }
 
-fn field_value(is_record: bool, of: Part, field: Option<FieldAt>) -> Result<Option<Reached>, Memory>
-    ensures { IfOk result (λ o. o ≡ spec.field_value is_record of field) }
+fn field_value(
+    types: &TypeTable,
+    is_record: bool,
+    of: Part,
+    field: Option<FieldAt>,
+) -> Result<Option<Reached>, Memory>
+    ensures { IfOk result (λ o. o ≡ spec.field_value types.now is_record of field) }
 {
     match field {
-        Some(field) if is_record => Ok(Some(Reached::Part(with_field(of, field)?))),
-        _ => Ok(None),
+        Some(field) if is_record => Ok(Some(Reached::Part(with_field(types, of, field)?))),
+        _ => {
+            drop(of);
+            Ok(None)
+        }
     }
 }
 
@@ -258,7 +249,7 @@ fn part_field(
     let absent = is_record && field.is_none();
     report.note(!is_record, dot, FaultKind::NotRecord);
     report.note(absent, name.place, FaultKind::NoField);
-    let value = field_value(is_record, of, field)?;
+    let value = field_value(types, is_record, of, field)?;
     Ok(value)
 }
 
@@ -280,24 +271,20 @@ fn other_field(
     dot: Place,
     name: &Ident,
     of: Named,
-) -> Option<Reached>
-    ensures { Said (spec.other_field env.now dot name.now of) report.old result report.new }
+) -> Result<Option<Reached>, Memory>
+    ensures { IfOk result (λ o. Said (spec.other_field env.now dot name.now of) report.old o report.new) }
 {
     match module_block(of.thing) {
-        Some(block) => name_node(
-            alloc,
-            report,
-            level(env),
-            of.first,
-            of.name,
-            name.place,
-            looked_as(find_in(&env.scopes, block, &name.name)),
-        ),
+        Some(block) => {
+            let looked = looked_as(find_in(&env.scopes, block, &name.name));
+            let value = name_node(alloc, env, report, of.first, of.name, name.place, looked)?;
+            Ok(value)
+        }
         None => {
             let misplaced = is_misplaced(of.thing);
             report.note(misplaced, of.name, FaultKind::WrongKind);
             report.note(!misplaced, dot, FaultKind::NotRecord);
-            None
+            Ok(None)
         }
     }
 }
@@ -320,7 +307,10 @@ pub(crate) fn field_node(
             let value = part_field(&env.types, report, dot, name, part)?;
             Ok(value)
         }
-        Some(Reached::Other(named)) => Ok(other_field(alloc, env, report, dot, name, named)),
+        Some(Reached::Other(named)) => {
+            let value = other_field(alloc, env, report, dot, name, named)?;
+            Ok(value)
+        }
     }
 }
 
@@ -347,25 +337,20 @@ fn element_standing(sort: TypeId) -> Standing
     }
 }
 
-fn with_index(of: Part, index: Found, parts: ArrayParts, depth: usize) -> Result<Part, Memory>
-    ensures { IfOk result (λ a. a ≡ spec.with_index of index parts depth) }
+fn with_index(
+    types: &TypeTable,
+    of: Part,
+    index: Found,
+    parts: ArrayParts,
+    depth: usize,
+) -> Result<Part, Memory>
+    ensures { IfOk result (λ a. a ≡ spec.with_index types.now of index parts depth) }
 {
-    let Part {
-        first,
-        name,
-        root,
-        selectors,
-        kind: _,
-        depth: _,
-        standing: _,
-    } = of;
-    let mut selectors = selectors;
-    selectors.push(RSelector::Index(index.form.into_inner()))?;
     Ok(Part {
-        first,
-        name,
-        root,
-        selectors,
+        first: of.first,
+        name: of.name,
+        place: element_of(types, index, of.place)?,
+        is_whole: false,
         kind: Kind::Of(parts.element),
         depth,
         standing: element_standing(parts.element),
@@ -390,7 +375,8 @@ fn element_value(
     match (parts, depth) {
         (Some(parts), Some(depth)) => {
             if index_fits(types, parts, index.kind) {
-                Ok(Some(Reached::Part(with_index(of, index, parts, depth)?)))
+                let part = with_index(types, of, index, parts, depth)?;
+                Ok(Some(Reached::Part(part)))
             } else {
                 drop((of, index));
                 Ok(None)
@@ -526,37 +512,34 @@ fn target_of(types: &TypeTable, kind: Kind) -> Option<TypeId>
     }
 }
 
-fn with_follow(of: Part, sort: TypeId) -> Result<Part, Memory>
-    ensures { IfOk result (λ a. a ≡ spec.with_follow of sort) }
+fn with_follow(types: &TypeTable, of: Part, sort: TypeId) -> Result<Part, Memory>
+    ensures { IfOk result (λ a. a ≡ spec.with_follow types.now of sort) }
 {
-    let Part {
-        first,
-        name,
-        root,
-        selectors,
-        kind: _,
-        depth,
-        standing: _,
-    } = of;
-    let mut selectors = selectors;
-    selectors.push(RSelector::Follow)?;
     Ok(Part {
-        first,
-        name,
-        root,
-        selectors,
+        first: of.first,
+        name: of.name,
+        place: lil_forms::target_of(types, of.place)?,
+        is_whole: false,
         kind: Kind::Of(sort),
-        depth,
+        depth: of.depth,
         standing: Standing::Variable,
     })
 }
 
-fn target_value(is_opaque: bool, of: Part, sort: Option<TypeId>) -> Result<Option<Reached>, Memory>
-    ensures { IfOk result (λ o. o ≡ spec.target_value is_opaque of sort) }
+fn target_value(
+    types: &TypeTable,
+    is_opaque: bool,
+    of: Part,
+    sort: Option<TypeId>,
+) -> Result<Option<Reached>, Memory>
+    ensures { IfOk result (λ o. o ≡ spec.target_value types.now is_opaque of sort) }
 {
     match sort {
-        Some(sort) if !is_opaque => Ok(Some(Reached::Part(with_follow(of, sort)?))),
-        _ => Ok(None),
+        Some(sort) if !is_opaque => Ok(Some(Reached::Part(with_follow(types, of, sort)?))),
+        _ => {
+            drop(of);
+            Ok(None)
+        }
     }
 }
 
@@ -575,7 +558,7 @@ fn part_follow(
     let no_pointer = !is_opaque && sort.is_none();
     report.note(is_opaque, arrow, FaultKind::Opaque);
     report.note(no_pointer, arrow, FaultKind::NotPointer);
-    let value = target_value(is_opaque, of, sort)?;
+    let value = target_value(types, is_opaque, of, sort)?;
     Ok(value)
 }
 

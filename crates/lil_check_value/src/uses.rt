@@ -1,32 +1,35 @@
-ghost use Rattle.std.specs.Prelude.{◌≡◌, IfOk};
+ghost use Rattle.std.specs.Prelude.{◌≡◌, IfOk, slice_get};
 ghost use Rattle.lil_report.specs.Told.{Said};
 ghost use Rattle.lil_check_value.specs.Uses as spec;
 
 use crate::designators::{Named, Part, Reached, is_misplaced};
-use lil_base::{Boxed, FaultKind, Memory, Place};
+use lil_base::{FaultKind, Items, Memory, Place, Shared, Text};
 use lil_call::{Argument, Callee};
-use lil_kinds::{Found, Standing};
-use lil_module::{RDesignator, RExpr};
+use lil_kinds::{Form, Found, Located};
 use lil_operators::{constant_found, plain_found};
 use lil_report::Report;
 use lil_scope::{Kind, Routine, Thing};
 use lil_types::TypeId;
-use std::alloc::Global;
 
-fn part_found(alloc: Global, of: Part) -> Result<Found, Memory>
-    ensures { IfOk result (λ a. a ≡ spec.part_found of) }
+fn located_form(of: Option<Located>) -> Form
+    ensures { result ≡ spec.located_form of }
 {
-    let designator = RDesignator {
-        root: of.root,
-        selectors: of.selectors,
-    };
-    Ok(Found {
-        form: Boxed::new(alloc, RExpr::Value(designator))?,
+    match of {
+        None => Form::Nothing,
+        Some(of) => Form::Located(of),
+    }
+}
+
+fn part_found(of: Part) -> Found
+    ensures { result ≡ spec.part_found of }
+{
+    Found {
+        form: located_form(of.place),
         kind: of.kind,
         first: of.first,
         depth: of.depth,
         standing: of.standing,
-    })
+    }
 }
 
 fn no_value(of: Thing) -> bool
@@ -40,73 +43,87 @@ fn no_value(of: Thing) -> bool
     }
 }
 
-fn routine_found(alloc: Global, first: Place, of: Routine) -> Result<Option<Found>, Memory>
-    ensures { IfOk result (λ o. o ≡ spec.routine_found first of) }
+fn routine_found(first: Place, of: Routine) -> Option<Found>
+    ensures { result ≡ spec.routine_found first of }
 {
     if of.level > 1 {
-        Ok(None)
+        None
     } else {
-        let form = RExpr::Procedure(of.number);
-        Ok(Some(plain_found(alloc, first, form, Kind::Routine(of.sort))?))
+        Some(constant_found(first, Kind::Routine(of.sort)))
     }
 }
 
-fn thing_found(alloc: Global, first: Place, of: Thing) -> Result<Option<Found>, Memory>
-    ensures { IfOk result (λ o. o ≡ spec.thing_found first of) }
+/// The text of a constant by its number among those of all constants.
+fn text_form(texts: &Items<Shared<Text>>, number: usize) -> Result<Form, Memory>
+    ensures { IfOk result (λ f. f ≡ spec.text_form (slice_get texts.now number)) }
+{
+    match texts.get(number) {
+        None => Ok(Form::Nothing),
+        Some(text) => Ok(Form::Text(text.share()?)),
+    }
+}
+
+fn thing_found(
+    texts: &Items<Shared<Text>>,
+    first: Place,
+    of: Thing,
+) -> Result<Option<Found>, Memory>
+    ensures { IfOk result (λ o. o ≡ spec.thing_found texts.now first of) }
 {
     match of {
-        Thing::Constant(kind) => Ok(Some(constant_found(alloc, first, kind)?)),
+        Thing::Constant(kind) => Ok(Some(constant_found(first, kind))),
         Thing::Named(number, chars) => {
-            let form = RExpr::Named(number);
-            Ok(Some(plain_found(alloc, first, form, Kind::Chars(chars))?))
+            let form = text_form(texts, number)?;
+            Ok(Some(plain_found(first, form, Kind::Chars(chars))))
         }
-        Thing::Nil => Ok(Some(plain_found(alloc, first, RExpr::Nil, Kind::Nil)?)),
-        Thing::Procedure(routine) => routine_found(alloc, first, routine),
+        Thing::Nil => Ok(Some(constant_found(first, Kind::Nil))),
+        Thing::Procedure(routine) => Ok(routine_found(first, routine)),
         _ => Ok(None),
     }
 }
 
 /// A name that is no variable, as a value.
 #[tactic(auto, unfolding(crate::specs::Uses::named_value, lil_report::specs::Told::tell))]
-fn named_value(alloc: Global, report: &mut Report, of: Named) -> Result<Option<Found>, Memory>
-    ensures { IfOk result (λ o. Said (spec.named_value of) report.old o report.new) }
+fn named_value(
+    texts: &Items<Shared<Text>>,
+    report: &mut Report,
+    of: Named,
+) -> Result<Option<Found>, Memory>
+    ensures { IfOk result (λ o. Said (spec.named_value texts.now of) report.old o report.new) }
 {
     report.note(is_misplaced(of.thing), of.name, FaultKind::WrongKind);
     report.note(no_value(of.thing), of.name, FaultKind::ProcValue);
-    thing_found(alloc, of.first, of.thing)
+    let found = thing_found(texts, of.first, of.thing)?;
+    Ok(found)
 }
 
 /// What a designator reaches, as a value.
 #[tactic(auto, unfolding(lil_report::specs::Told::tell))]
 pub(crate) fn value_node(
-    alloc: Global,
+    texts: &Items<Shared<Text>>,
     report: &mut Report,
     of: Option<Reached>,
 ) -> Result<Option<Found>, Memory>
-    ensures { IfOk result (λ o. Said (spec.value_node of) report.old o report.new) }
+    ensures { IfOk result (λ o. Said (spec.value_node texts.now of) report.old o report.new) }
 {
     match of {
         None => Ok(None),
-        Some(Reached::Part(part)) => Ok(Some(part_found(alloc, part)?)),
-        Some(Reached::Other(named)) => named_value(alloc, report, named),
+        Some(Reached::Part(part)) => Ok(Some(part_found(part))),
+        Some(Reached::Other(named)) => named_value(texts, report, named),
     }
 }
 
 /// What a designator reaches, as a variable.
 #[tactic(auto, unfolding(lil_report::specs::Told::tell))]
-pub(crate) fn variable_node(
-    alloc: Global,
-    report: &mut Report,
-    of: Option<Reached>,
-) -> Result<Option<Found>, Memory>
-    ensures { IfOk result (λ o. Said (spec.variable_node of) report.old o report.new) }
+pub(crate) fn variable_node(report: &mut Report, of: Option<Reached>) -> Option<Found>
+    ensures { Said (spec.variable_node of) report.old result report.new }
 {
     match of {
-        None => Ok(None),
-        Some(Reached::Part(part)) => Ok(Some(part_found(alloc, part)?)),
+        None => None,
+        Some(Reached::Part(part)) => Some(part_found(part)),
         Some(Reached::Other(named)) => {
             report.note(true, named.name, FaultKind::WrongKind);
-            Ok(None)
+            None
         }
     }
 }
@@ -115,14 +132,7 @@ fn part_callee(of: Part) -> Callee
     ensures { result ≡ spec.part_callee of.kind of }
 {
     match of.kind {
-        Kind::Of(sort) => Callee::Variable(
-            RDesignator {
-                root: of.root,
-                selectors: of.selectors,
-            },
-            sort,
-            of.depth,
-        ),
+        Kind::Of(sort) => Callee::Variable(sort, of.depth),
         _ => Callee::Other,
     }
 }
@@ -131,7 +141,7 @@ fn thing_callee(of: Thing) -> Option<Callee>
     ensures { result ≡ spec.thing_callee of }
 {
     match of {
-        Thing::Procedure(routine) => Some(Callee::Procedure(routine.number, routine.sort)),
+        Thing::Procedure(routine) => Some(Callee::Procedure(routine.sort)),
         Thing::Resident(resident, sort) => Some(Callee::Resident(resident, sort)),
         Thing::Standard(standard) => Some(Callee::Standard(standard)),
         Thing::Constant(_) => Some(Callee::Other),
@@ -175,38 +185,29 @@ fn no_type_in(of: Thing) -> bool
 }
 
 #[tactic(auto, unfolding(lil_report::specs::Told::tell))]
-fn part_typed(
-    alloc: Global,
-    report: &mut Report,
-    first: Place,
-    of: Part,
-) -> Result<Argument, Memory>
-    ensures { IfOk result (λ a. Said (spec.part_typed (spec.is_bare of.selectors) first of) report.old a report.new) }
+fn part_typed(report: &mut Report, first: Place, of: Part) -> Argument
+    ensures { Said (spec.part_typed of.is_whole first of) report.old result report.new }
 {
-    if of.selectors.is_empty() {
+    if of.is_whole {
         report.note(true, of.name, FaultKind::WrongKind);
-        Ok(Argument::Type(first, None))
+        drop(of);
+        Argument::Type(first, None)
     } else {
-        Ok(Argument::Value(Some(part_found(alloc, of)?)))
+        Argument::Value(Some(part_found(of)))
     }
 }
 
 /// What a designator reaches, where it should be a type's name.
 #[tactic(auto, unfolding(lil_report::specs::Told::tell))]
-pub(crate) fn typed_node(
-    alloc: Global,
-    report: &mut Report,
-    first: Place,
-    of: Option<Reached>,
-) -> Result<Argument, Memory>
-    ensures { IfOk result (λ a. Said (spec.typed_node first of) report.old a report.new) }
+pub(crate) fn typed_node(report: &mut Report, first: Place, of: Option<Reached>) -> Argument
+    ensures { Said (spec.typed_node first of) report.old result report.new }
 {
     match of {
-        None => Ok(Argument::Type(first, None)),
-        Some(Reached::Part(part)) => part_typed(alloc, report, first, part),
+        None => Argument::Type(first, None),
+        Some(Reached::Part(part)) => part_typed(report, first, part),
         Some(Reached::Other(named)) => {
             report.note(no_type_in(named.thing), named.name, FaultKind::WrongKind);
-            Ok(Argument::Type(first, type_in(named.thing)))
+            Argument::Type(first, type_in(named.thing))
         }
     }
 }

@@ -6,18 +6,18 @@ use crate::asked::{Asked, asks, asks_at};
 use crate::designators::{Reached, field_node, follow_node, index_node, root};
 use crate::set_types::set_sort;
 use crate::uses::{callee_node, typed_node, value_node, variable_node};
-use lil_base::{Boxed, Items, Memory, Place, Text, beside};
+use lil_base::{Boxed, Items, Memory, Place, Shared, Text, beside};
 use lil_call::{Argument, called, stated};
-use lil_kinds::Found;
+use lil_kinds::{Form, Found};
 use lil_language::{Designator, Expr, Operation, Range, Selector};
-use lil_module::{RExpr, RStmt};
 use lil_operators::{
     Chained, Elements, begun, chain_found, constant_found, joined_one, joined_range, no_elements,
     one_node, plain_found, set_node, two_node,
 };
 use lil_report::Report;
+use lil_resolved::RStmt;
 use lil_scope::{Chars, Env, Kind};
-use lil_types::CHAR;
+use lil_types::{CHAR, TypeId};
 use std::alloc::Global;
 
 fn first_of(text: &[u8]) -> u8
@@ -38,7 +38,8 @@ fn text_found(alloc: Global, first: Place, text: &Text) -> Result<Found, Memory>
         first: first_of(text.as_slice()),
     };
     let copy = Text::from_slice(alloc, text.as_slice())?;
-    plain_found(alloc, first, RExpr::Chars(copy), Kind::Chars(chars))
+    let form = Form::Text(Shared::new(alloc, copy)?);
+    Ok(plain_found(first, form, Kind::Chars(chars)))
 }
 
 /// The same value in parentheses that begin at this place.
@@ -133,7 +134,7 @@ fn reached(
 ) -> Result<Option<Reached>, Memory>
     ensures { IfOk result (λ o. Said (spec.reach_means env.now first of.now) report.old o report.new) }
 {
-    let begin = root(alloc, env, report, first, &of.first);
+    let begin = root(alloc, env, report, first, &of.first)?;
     let found = all_selected(alloc, env, report, begin, of.selectors.as_slice())?;
     Ok(found)
 }
@@ -167,26 +168,27 @@ fn operated(
     Ok(of)
 }
 
-/// Elements and one more.
+/// Elements of a set and one more.
 #[cycle(expression)]
 fn joined(
     alloc: Global,
     env: &Env,
     report: &mut Report,
+    sort: Option<TypeId>,
     of: Option<Elements>,
     element: &Range,
 ) -> Result<Option<Elements>, Memory>
-    ensures { IfOk result (λ o. Said (spec.joins env.now element.now of) report.old o report.new) }
+    ensures { IfOk result (λ o. Said (spec.joins env.now element.now sort of) report.old o report.new) }
 {
     let (of, low) = beside(of, expression(alloc, env, report, &element.low))?;
     match &element.high {
         None => {
-            let all = joined_one(of, low)?;
+            let all = joined_one(&env.types, sort, of, low)?;
             Ok(all)
         }
         Some(high) => {
             let (before, high) = beside((of, low), expression(alloc, env, report, high.get()))?;
-            let all = joined_range(alloc, before.0, before.1, high)?;
+            let all = joined_range(alloc, &env.types, sort, before.0, before.1, high)?;
             Ok(all)
         }
     }
@@ -198,13 +200,14 @@ fn elements(
     alloc: Global,
     env: &Env,
     report: &mut Report,
+    sort: Option<TypeId>,
     elements: &[Range],
 ) -> Result<Option<Elements>, Memory>
-    ensures { IfOk result (λ o. Said (spec.elements_mean env.now elements.now) report.old o report.new) }
+    ensures { IfOk result (λ o. Said (spec.elements_mean env.now sort elements.now) report.old o report.new) }
 {
     let mut all = Some(no_elements(alloc));
     for one in elements {
-        all = joined(alloc, env, report, all, one)?;
+        all = joined(alloc, env, report, sort, all, one)?;
     }
     Ok(all)
 }
@@ -217,8 +220,7 @@ fn typed(alloc: Global, env: &Env, report: &mut Report, of: &Expr) -> Result<Arg
     match of {
         Expr::Desig(first, designator) => {
             let of = reached(alloc, env, report, *first, designator)?;
-            let named = typed_node(alloc, report, *first, of)?;
-            Ok(named)
+            Ok(typed_node(report, *first, of))
         }
         _ => {
             let value = expression(alloc, env, report, of)?;
@@ -280,22 +282,21 @@ pub fn expression(
     match of {
         Expr::Whole(first, value) => {
             let kind = Kind::Whole(i32::from(*value));
-            Ok(Some(constant_found(alloc, *first, kind)?))
+            Ok(Some(constant_found(*first, kind)))
         }
         Expr::Code(first, code) => {
             let kind = Kind::Scalar(CHAR, u16::from(*code));
-            Ok(Some(constant_found(alloc, *first, kind)?))
+            Ok(Some(constant_found(*first, kind)))
         }
         Expr::Chars(first, text) => Ok(Some(text_found(alloc, *first, text)?)),
         Expr::SetOf(first, name, ranges) => {
             let sort = set_sort(env, report, name);
-            let all = elements(alloc, env, report, ranges.as_slice())?;
-            let value = set_node(alloc, &env.types, report, *first, sort, all)?;
-            Ok(value)
+            let all = elements(alloc, env, report, sort, ranges.as_slice())?;
+            Ok(set_node(&env.types, report, *first, sort, all))
         }
         Expr::Desig(first, designator) => {
             let of = reached(alloc, env, report, *first, designator)?;
-            let value = value_node(alloc, report, of)?;
+            let value = value_node(&env.texts, report, of)?;
             Ok(value)
         }
         Expr::Call(first, designator, actuals) => {
@@ -315,7 +316,7 @@ pub fn expression(
         }
         Expr::Chain(first, operand, operations) => {
             let a = expression(alloc, env, report, operand.get())?;
-            let begin = begun(alloc, a);
+            let begin = begun(a);
             let chain = operated(alloc, env, report, *first, begin, operations.as_slice())?;
             let value = chain_found(alloc, *first, chain)?;
             Ok(value)
@@ -347,8 +348,7 @@ pub fn variable(
 {
     let begin = of.first.place;
     let found = reached(alloc, env, report, begin, of)?;
-    let value = variable_node(alloc, report, found)?;
-    Ok(value)
+    Ok(variable_node(report, found))
 }
 
 /// What a call that is a statement means.

@@ -5,8 +5,8 @@ use Rattle.lil_types.specs.declared.table.Parameter.{Parameter}
 use Rattle.lil_types.specs.declared.table.TypeForm.TheVariants.{Procedure}
 use Rattle.lil_types.specs.Types.{Table, char, cardinal, integer, proc, address, process}
 use Rattle.lil_types.specs.Adding.{next, added, added_number}
-use Rattle.lil_module.specs.declared.tree.Resident.{Resident}
-use Rattle.lil_module.specs.declared.tree.Resident.TheVariants as r
+use Rattle.lil_declared.specs.declared.standard.Resident.{Resident}
+use Rattle.lil_declared.specs.declared.standard.Resident.TheVariants as r
 use Rattle.lil_scope.specs.declared.thing.Kind.TheVariants as k
 use Rattle.lil_scope.specs.declared.thing.Thing.{Thing}
 use Rattle.lil_scope.specs.declared.thing.Thing.TheVariants as t

@@ -2,7 +2,7 @@
 use Rattle.std.specs.Prelude.{ℕ, List, [], ◌∷◌, ◌++◌, map, None, codes}
 use Rattle.lil_base.specs.declared.fault.Place.{Place}
 use Rattle.lil_types.specs.Types.{boolean}
-use Rattle.lil_module.specs.declared.tree.Standard.TheVariants as s
+use Rattle.lil_declared.specs.declared.standard.Standard.TheVariants as s
 use Rattle.lil_scope.specs.declared.thing.Kind.TheVariants as k
 use Rattle.lil_scope.specs.declared.thing.Entry.{Entry}
 use Rattle.lil_scope.specs.declared.thing.Thing.{Thing}

@@ -7,7 +7,7 @@ ghost use Rattle.lil_interfaces.specs.Interfaces as spec;
 
 use crate::surface::{Exported, Interface, Interfaces, literal, same_text};
 use lil_base::{Items, Memory, Name, beside};
-use lil_module::Resident;
+use lil_declared::Resident;
 use lil_scope::{Kind, Thing};
 use lil_types::{
     ADDRESS, CARDINAL, CHAR, INTEGER, Origin, PROC, PROCESS, Parameter, TypeForm, TypeId,

@@ -5,7 +5,7 @@ ghost use Rattle.lil_interfaces.specs.Standard as spec;
 
 use crate::surface::literal;
 use lil_base::{Items, Memory, Place};
-use lil_module::Standard;
+use lil_declared::Standard;
 use lil_scope::{Blocks, Entry, Env, Kind, Scopes, Thing, Withs};
 use lil_types::{BITSET, BOOLEAN, CARDINAL, CHAR, INTEGER, PROC, TypeTable};
 use std::alloc::Global;

@@ -10,8 +10,8 @@ use Rattle.lil_types.specs.Folding.{Folded, folded_one, folded_two}
 use Rattle.lil_types.specs.declared.table.Span.{Span}
 use Rattle.lil_types.specs.declared.table.Const.{Const}
 use Rattle.lil_types.specs.declared.table.Const.TheVariants as const
-use Rattle.lil_module.specs.declared.tree.Standard.{Standard}
-use Rattle.lil_module.specs.declared.tree.Standard.TheVariants as standard
+use Rattle.lil_declared.specs.declared.standard.Standard.{Standard}
+use Rattle.lil_declared.specs.declared.standard.Standard.TheVariants as standard
 use Rattle.lil_scope.specs.declared.thing.Kind.{Kind}
 use Rattle.lil_scope.specs.declared.thing.Kind.TheVariants.{Whole, Scalar, Chars, Nil, Of, Open, Routine}
 use Rattle.lil_kinds.specs.declared.found.Applied.{Applied}

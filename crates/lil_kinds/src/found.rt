@@ -1,6 +1,7 @@
-use lil_base::{Boxed, Place};
-use lil_module::RExpr;
+use lil_base::{Place, Shared, Text};
+use lil_resolved::{RExpr, RPlace};
 use lil_scope::Kind;
+use lil_types::TypeId;
 
 /// Whether an expression is the place of a variable or of a part of one: a value is none, and a character of an ARRAY OF CHAR
 /// can't be handed over as a variable.
@@ -11,10 +12,27 @@ pub enum Standing {
     Character,
 }
 
-/// An expression that has a type: its resolved form, what is known of its value, its first token, and its depth.
+/// A variable or a part of one, and its type.
+#[derive(Drop)]
+pub struct Located {
+    pub place: RPlace,
+    pub sort: TypeId,
+}
+
+/// What is done to have the value of an expression: nothing, where it is a constant of which all is known, and where its
+/// form has no code; a string's characters are taken; the value at a place; or what is computed.
+#[derive(Drop)]
+pub enum Form {
+    Nothing,
+    Text(Shared<Text>),
+    Located(Located),
+    Value(RExpr),
+}
+
+/// An expression that has a type: its form, what is known of its value, its first token, and its depth.
 #[derive(Drop)]
 pub struct Found {
-    pub form: Boxed<RExpr>,
+    pub form: Form,
     pub kind: Kind,
     pub first: Place,
     pub depth: usize,

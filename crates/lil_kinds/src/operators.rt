@@ -10,7 +10,7 @@ use crate::relations::{
     word_number,
 };
 use lil_base::{OneOp, TwoOp};
-use lil_module::Standard;
+use lil_declared::Standard;
 use lil_scope::Kind;
 use lil_types::{
     BOOLEAN, CARDINAL, CHAR, Const, FoldStop, INTEGER, Span, TypeId, TypeTable, base, fold_one,

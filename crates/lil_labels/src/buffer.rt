@@ -232,10 +232,10 @@ impl<'m> CodeBuffer<'m> {
     }
 
     /// Where a variable lies, and the number of its shape; zeros where there is none.
-    pub fn variable(&self, number: u16) -> RField
+    pub fn variable(&self, number: usize) -> RField
         ensures { result ≡ variable_by (slice_get self.now.tables.variables number) }
     {
-        match self.variables.get(usize::from(number)) {
+        match self.variables.get(number) {
             Some(variable) => RField {
                 offset: variable.offset,
                 shape: variable.shape,

@@ -1,10 +1,9 @@
 -- How many words the data of a module take: its own variables, and the strings of all its statements.
-use Rattle.std.specs.Prelude.{ℕ, ◌+◌, [], Option, Some, None}
+use Rattle.std.specs.Prelude.{ℕ, ◌+◌, List, Option, Some, None}
 use Rattle.std.specs.List.{sum_by}
 use Rattle.lil_types.specs.Types.{Table, words}
-use Rattle.lil_module.specs.declared.declared.RModule.{RModule}
-use Rattle.lil_module.specs.declared.declared.RVar.{RVar}
-use Rattle.lil_module.specs.declared.tree.RBody.{RBody}
+use Rattle.lil_declared.specs.declared.declared.RVar.{RVar}
+use Rattle.lil_resolved.specs.declared.resolved.RStmt.{RStmt}
 use Rattle.lil_layout.specs.Strings.{body_words}
 
 abbrev pub words_by : ℕ → Option ℕ → ℕ
@@ -15,9 +14,11 @@ words_by n (Some owner) = 0
 abbrev pub variable_words : Table → RVar → ℕ
 variable_words t v = words_by (words t v.sort) v.owner
 
--- no WITH is around the statements of a procedure
-abbrev pub procedure_words : RModule → RBody → ℕ
-procedure_words m b = body_words m [] b.body
+-- those of the strings of statements: none where a form of them has no code
+abbrev pub text_words : Option (List RStmt) → ℕ
+text_words None = 0
+text_words (Some ss) = body_words ss
 
-unfoldable pub data_words : RModule → ℕ
-data_words m = sum_by (variable_words m.types) m.variables + (sum_by (procedure_words m) m.bodies + body_words m [] m.body)
+-- the statements of procedures, and those of the body, each where they have code
+unfoldable pub data_words : Table → List RVar → List (Option (List RStmt)) → Option (List RStmt) → ℕ
+data_words t vs procedures body = sum_by (variable_words t) vs + (sum_by text_words procedures + text_words body)

@@ -2,9 +2,10 @@ ghost use Rattle.std.specs.Prelude.{◌≡◌, min};
 ghost use Rattle.std.specs.List.{sum_by};
 ghost use Rattle.lil_layout.specs.Data as spec;
 
-use crate::places::Withs;
-use crate::statements::body_words;
-use lil_module::{RBody, RModule, RVar};
+use crate::strings::body_words;
+use lil_base::Items;
+use lil_declared::RVar;
+use lil_resolved::RStmt;
 use lil_types::{TypeTable, words};
 
 /// The words of a variable of the module itself; those of a procedure aren't there.
@@ -27,24 +28,38 @@ fn variables_words(t: &TypeTable, of: &[RVar]) -> u32
     sum
 }
 
-fn procedures_words(m: &RModule, of: &[RBody]) -> u32
-    ensures { result ≡ min (sum_by (spec.procedure_words m.now) of.now) 4294967295 }
+/// The words of the strings of statements, where they have code.
+fn text_words(of: &Option<Items<RStmt>>) -> u32
+    ensures { result ≡ min (spec.text_words of.now) 4294967295 }
+{
+    match of {
+        Some(body) => body_words(body.as_slice()),
+        None => 0,
+    }
+}
+
+fn procedures_words(of: &[Option<Items<RStmt>>]) -> u32
+    ensures { result ≡ min (sum_by spec.text_words of.now) 4294967295 }
 {
     let mut sum: u32 = 0;
     for one in of {
-        sum = sum.saturating_add(body_words(m, &Withs::Outermost, one.body.as_slice()));
+        sum = sum.saturating_add(text_words(one));
     }
     sum
 }
 
-/// How many words the data of a module take, its own variables and the strings of all its statements, or 4,294,967,295 where
-/// they are more.
+/// How many words the data of a module take, its own variables and the strings of its procedures' statements and of its
+/// body's, each where they have code, or 4,294,967,295 where they are more.
 #[tactic(auto, unfolding(crate::specs::Data::data_words))]
-pub fn data_words(m: &RModule) -> u32
-    ensures { result ≡ min (spec.data_words m.now) 4294967295 }
+pub fn data_words(
+    types: &TypeTable,
+    variables: &[RVar],
+    procedures: &[Option<Items<RStmt>>],
+    body: &Option<Items<RStmt>>,
+) -> u32
+    ensures { result ≡ min (spec.data_words types.now variables.now procedures.now body.now) 4294967295 }
 {
-    let variables = variables_words(&m.types, m.variables.as_slice());
-    let procedures = procedures_words(m, m.bodies.as_slice());
-    let own = body_words(m, &Withs::Outermost, m.body.as_slice());
-    variables.saturating_add(procedures.saturating_add(own))
+    let own = variables_words(types, variables);
+    let nested = procedures_words(procedures);
+    own.saturating_add(nested.saturating_add(text_words(body)))
 }

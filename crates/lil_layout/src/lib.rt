@@ -2,9 +2,6 @@
 #![tactic(auto)]
 
 mod data;
-mod expressions;
-mod places;
-mod statements;
-mod texts;
+mod strings;
 
 pub use data::data_words;

@@ -12,6 +12,6 @@ use Rattle.lil_operators.specs.declared.sets.Tally.{Tally}
 use Rattle.lil_operators.specs.Sets.{elements_tally, set_end, set_of}
 
 module _ {r s t : Option Fault} where
-  pub is_set_of : (types : Table) (p : Place) (n : ℕ) (es : Elements) {bs : List Bounds} {y : Tally} {a : Option Found} → bs ≡ es.bounds → Said (elements_tally types n bs) r y s → Said (set_end p n es.forms y) s a t
+  pub is_set_of : (types : Table) (p : Place) (n : ℕ) (es : Elements) {bs : List Bounds} {y : Tally} {a : Option Found} → bs ≡ es.bounds → Said (elements_tally types n bs) r y s → Said (set_end types p n es.forms y) s a t
       → Said (set_of types p n es) r a t
   is_set_of types p n es {y = y} is h g = said_after _ _ (subst (λ bs. Said (elements_tally types n bs) r y s) is h) g

@@ -1,4 +1,5 @@
 pub mod Constants
 pub mod Depths
+pub mod NodeSound
 pub mod Operations
 pub mod Sets

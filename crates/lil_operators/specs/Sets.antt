@@ -1,14 +1,17 @@
 -- Sets of elements that have values.
-use Rattle.std.specs.Prelude.{ℕ, ◌+◌, ◌-◌, ◌^◌, nat_lt, ℤ, pos, negsuc, int_lt, is_none, Bool, true, false, not, ◌&&◌, ◌||◌, List, [], ◌∷◌, ◌++◌, Option, Some, None, if◌then◌else◌, bit_or}
+use Rattle.std.specs.Prelude.{ℕ, ◌+◌, ◌-◌, ◌^◌, nat_lt, ℤ, pos, negsuc, int_lt, is_none, Bool, true, false, not, ◌&&◌, List, [], ◌∷◌, ◌++◌, Option, Some, None, if◌then◌else◌, bit_or}
 use Rattle.lil_base.specs.declared.fault.Place.{Place}
 use Rattle.lil_base.specs.declared.fault.FaultKind.TheVariants.{Operands, ConstRange, ExprDeep}
+use Rattle.lil_base.specs.Lists.{joined}
 use Rattle.lil_types.specs.Types.{Table}
-use Rattle.lil_module.specs.declared.tree.RExpr.{RExpr}
-use Rattle.lil_module.specs.declared.tree.RExpr.TheVariants as r
-use Rattle.lil_module.specs.declared.tree.RElement.{RElement, roll-RElement}
+use Rattle.lil_resolved.specs.declared.resolved.RMember.{RMember}
+use Rattle.lil_shapes.specs.declared.members.Members.{Members}
+use Rattle.lil_shapes.specs.Members.{members_at}
+use Rattle.lil_forms.specs.Operators.{single_by, span_by, set_form}
 use Rattle.lil_report.specs.Told.{Row, row, after, walk}
 use Rattle.lil_scope.specs.declared.thing.Kind.{Kind}
 use Rattle.lil_scope.specs.declared.thing.Kind.TheVariants as k
+use Rattle.lil_kinds.specs.declared.found.Form.TheVariants as form
 use Rattle.lil_kinds.specs.declared.found.Found.{Found}
 use Rattle.lil_kinds.specs.declared.found.Standing.TheVariants as standing
 use Rattle.lil_kinds.specs.Forms.{set_base, element_span}
@@ -20,27 +23,29 @@ use Rattle.lil_operators.specs.declared.sets.Tally.{Tally}
 use Rattle.lil_operators.specs.Depths.{raised}
 use Rattle.lil_operators.specs.Constants.{Meaning}
 
--- ---- elements: what is known of them, and what they are resolved to
+-- ---- elements: what is known of them, and what they are in the set
 abbrev pub operand_of : Found → Operand
 operand_of a = record { kind = a.kind; first = a.first; depth = a.depth }
 
-abbrev pub element_form : RExpr → Option RExpr → RElement
-element_form low high = roll-RElement (record { low = low; high = high })
-
-abbrev pub with_element : Elements → RElement → Operand → Option Operand → Elements
-with_element es form low high = record { forms = es.forms ++ form ∷ []; bounds = es.bounds ++ record { low = low; high = high } ∷ [] }
+abbrev pub with_element : Elements → Option RMember → Operand → Option Operand → Elements
+with_element es form low high = record { forms = joined es.forms form; bounds = es.bounds ++ record { low = low; high = high } ∷ [] }
 
 abbrev pub no_elements : Elements
-no_elements = record { forms = []; bounds = [] }
+no_elements = record { forms = Some []; bounds = [] }
 
--- elements and one more, where all of them have values: a value that stands alone, or the first and the last of several
-abbrev pub joined_one : Option Elements → Option Found → Option Elements
-joined_one (Some es) (Some a) = Some (with_element es (element_form a.form None) (operand_of a) None)
-joined_one _ _ = None
+-- what may be in a set, where its type is known
+abbrev pub kinds_of : Table → Option ℕ → Option Members
+kinds_of types None = None
+kinds_of types (Some s) = members_at types s
 
-abbrev pub joined_range : Option Elements → Option Found → Option Found → Option Elements
-joined_range (Some es) (Some a) (Some b) = Some (with_element es (element_form a.form (Some b.form)) (operand_of a) (Some (operand_of b)))
-joined_range _ _ _ = None
+-- elements of a set and one more, where all of them have values: a value that stands alone, or the first and the last of several
+abbrev pub joined_one : Table → Option ℕ → Option Elements → Option Found → Option Elements
+joined_one types s (Some es) (Some a) = Some (with_element es (single_by types (kinds_of types s) a) (operand_of a) None)
+joined_one types s _ _ = None
+
+abbrev pub joined_range : Table → Option ℕ → Option Elements → Option Found → Option Found → Option Elements
+joined_range types s (Some es) (Some a) (Some b) = Some (with_element es (span_by types (kinds_of types s) a b) (operand_of a) (Some (operand_of b)))
+joined_range types s _ _ _ = None
 
 -- ---- the tests of an element
 abbrev pub fits_base : Table → Option ℕ → Kind → Bool
@@ -102,23 +107,23 @@ unfoldable pub bounds_node : Table → ℕ → Tally → Bounds → Tally × Lis
 bounds_node types s y b = tally_by types s y b.low b.high
 
 -- ---- the whole set
-abbrev pub set_found : Place → ℕ → List RElement → Option ℕ → ℕ → Found
-set_found p s forms (Some w) d = record { form = r.Scalar s w; kind = k.Scalar s w; first = p; depth = 1; standing = standing.Value }
-set_found p s forms None d = record { form = r.SetOf s forms; kind = k.Of s; first = p; depth = d; standing = standing.Value }
+abbrev pub set_found : Table → Place → ℕ → Option (List RMember) → Option ℕ → ℕ → Found
+set_found types p s forms (Some w) d = record { form = form.Nothing; kind = k.Scalar s w; first = p; depth = 1; standing = standing.Value }
+set_found types p s forms None d = record { form = set_form types s forms; kind = k.Of s; first = p; depth = d; standing = standing.Value }
 
-abbrev pub set_given : Place → ℕ → List RElement → Tally → Option ℕ → Option Found
-set_given p s forms y None = None
-set_given p s forms y (Some d) = if y.fits then Some (set_found p s forms y.word d) else None
+abbrev pub set_given : Table → Place → ℕ → Option (List RMember) → Tally → Option ℕ → Option Found
+set_given types p s forms y None = None
+set_given types p s forms y (Some d) = if y.fits then Some (set_found types p s forms y.word d) else None
 
 -- 60 ExprDeep
-unfoldable pub set_end : Place → ℕ → List RElement → Tally → Meaning
-set_end p s forms y = (set_given p s forms y y.depth, row (is_none y.depth) p ExprDeep ∷ [])
+unfoldable pub set_end : Table → Place → ℕ → Option (List RMember) → Tally → Meaning
+set_end types p s forms y = (set_given types p s forms y y.depth, row (is_none y.depth) p ExprDeep ∷ [])
 
 abbrev pub elements_tally : Table → ℕ → List Bounds → Tally × List Row
 elements_tally types s bs = walk (bounds_node types s) no_tally bs
 
 abbrev pub set_of : Table → Place → ℕ → Elements → Meaning
-set_of types p s es = after (elements_tally types s es.bounds) (set_end p s es.forms)
+set_of types p s es = after (elements_tally types s es.bounds) (set_end types p s es.forms)
 
 abbrev pub set_node : Table → Place → Option ℕ → Option Elements → Meaning
 set_node types p None es = (None, [])

@@ -2,21 +2,27 @@ ghost use Rattle.std.specs.Prelude.{◌≡◌, IfOk};
 ghost use Rattle.lil_report.specs.Told.{Said};
 ghost use Rattle.lil_operators.specs.Operations as spec;
 
-use crate::constants::{constant_form, constant_found};
+use crate::constants::constant_found;
 use crate::depths::raised;
-use lil_base::{Boxed, FaultKind, Items, Memory, OneOp, Place, TwoOp, beside};
-use lil_kinds::{Applied, Found, Standing, one, operand_type, two};
-use lil_module::{RExpr, ROperation};
+use lil_base::{FaultKind, Memory, OneOp, Place, TwoOp};
+use lil_forms::{Built, chain_form, one_of, operated, typed, typed_by, value_form};
+use lil_kinds::{Applied, Form, Found, Standing, one, operand_type, set_base, two};
 use lil_report::Report;
 use lil_scope::Kind;
-use lil_types::{TypeId, TypeTable};
+use lil_types::{CARDINAL, TypeId, TypeTable};
 use std::alloc::Global;
 
-/// A chain so far: its first operand and the operations behind it, what is known of its value, and its depth.
+/// What a chain is so far: a first operand alone, by its form, or a value with operations in it, where it has a form.
+#[derive(Drop)]
+pub enum SoFar {
+    First(Form),
+    Behind(Option<Built>),
+}
+
+/// A chain so far: what it is, what is known of its value, and its depth.
 #[derive(Drop)]
 pub struct Chained {
-    pub begin: Boxed<RExpr>,
-    pub operations: Items<ROperation>,
+    pub so_far: SoFar,
     pub kind: Kind,
     pub depth: usize,
 }
@@ -41,14 +47,23 @@ fn is_outside(of: Applied) -> bool
     }
 }
 
-fn one_found(alloc: Global, first: Place, op: OneOp, a: Found, kind: Kind) -> Result<Found, Memory>
-    ensures { IfOk result (λ x. x ≡ spec.one_found first op a kind) }
+/// A value that an operator has, by its kind.
+fn one_found(
+    alloc: Global,
+    types: &TypeTable,
+    first: Place,
+    op: OneOp,
+    a: Found,
+    kind: Kind,
+) -> Result<Found, Memory>
+    ensures { IfOk result (λ x. x ≡ spec.one_found types.now first op a kind) }
 {
     match kind {
         Kind::Of(sort) => {
             let depth = a.depth;
+            let value = one_of(alloc, op, typed(types, sort, a))?;
             Ok(Found {
-                form: Boxed::new(alloc, RExpr::One(op, sort, a.form))?,
+                form: value_form(value),
                 kind,
                 first,
                 depth,
@@ -57,22 +72,23 @@ fn one_found(alloc: Global, first: Place, op: OneOp, a: Found, kind: Kind) -> Re
         }
         _ => {
             drop(a);
-            constant_found(alloc, first, kind)
+            Ok(constant_found(first, kind))
         }
     }
 }
 
 fn one_value(
     alloc: Global,
+    types: &TypeTable,
     first: Place,
     op: OneOp,
     a: Found,
     of: Applied,
 ) -> Result<Option<Found>, Memory>
-    ensures { IfOk result (λ x. x ≡ spec.one_value first op a of) }
+    ensures { IfOk result (λ x. x ≡ spec.one_value types.now first op a of) }
 {
     match of {
-        Applied::Gives(kind) => Ok(Some(one_found(alloc, first, op, a, kind)?)),
+        Applied::Gives(kind) => Ok(Some(one_found(alloc, types, first, op, a, kind)?)),
         _ => {
             drop(a);
             Ok(None)
@@ -96,7 +112,7 @@ fn one_applied(
     let of = one(types, op, a.kind);
     report.note(is_refused(of), at, FaultKind::Operands);
     report.note(is_outside(of), at, FaultKind::ConstArith);
-    let value = one_value(alloc, first, op, a, of)?;
+    let value = one_value(alloc, types, first, op, a, of)?;
     Ok(value)
 }
 
@@ -122,85 +138,93 @@ pub fn one_node(
     }
 }
 
-fn operation(operator: TwoOp, sort: TypeId, operand: RExpr) -> ROperation
-    ensures { result ≡ spec.operation operator sort operand }
-{
-    ROperation {
-        operator,
-        sort,
-        operand,
-    }
-}
-
 /// The first operand of a chain.
-pub fn begun(alloc: Global, of: Option<Found>) -> Option<Chained>
+pub fn begun(of: Option<Found>) -> Option<Chained>
     ensures { result ≡ spec.begun of }
 {
     match of {
         None => None,
         Some(a) => Some(Chained {
-            begin: a.form,
-            operations: Items::new(alloc),
+            so_far: SoFar::First(a.form),
             kind: a.kind,
             depth: a.depth,
         }),
     }
 }
 
-fn two_chained(
+fn or_cardinal(sort: Option<TypeId>) -> TypeId
+    ensures { result ≡ spec.or_cardinal sort }
+{
+    match sort {
+        Some(sort) => sort,
+        None => CARDINAL,
+    }
+}
+
+/// The type of a left operand that has none: that of the right one, or beside a set that of its members.
+fn left_type(types: &TypeTable, op: TwoOp, a: Kind, b: Kind) -> TypeId
+    ensures { result ≡ spec.left_type types.now op a b }
+{
+    match op {
+        TwoOp::In => or_cardinal(set_base(types, operand_type(types, op, a, b))),
+        _ => operand_type(types, op, a, b),
+    }
+}
+
+/// What stands before an operator, where the first operand gets a type by it.
+fn before(alloc: Global, types: &TypeTable, sort: TypeId, kind: Kind, of: SoFar) -> Option<Built>
+    ensures { result ≡ spec.before types.now sort kind of }
+{
+    match of {
+        SoFar::First(form) => lil_forms::begun(alloc, typed_by(types, sort, kind, form)),
+        SoFar::Behind(built) => built,
+    }
+}
+
+/// The operation with its operands.
+fn behind(
     alloc: Global,
-    more: ROperation,
+    types: &TypeTable,
+    op: TwoOp,
     a: Chained,
-    kind: Kind,
-    depth: usize,
-) -> Result<Chained, Memory>
-    ensures { IfOk result (λ x. x ≡ spec.two_chained more a kind depth) }
+    b: Found,
+) -> Result<Option<Built>, Memory>
+    ensures { IfOk result (λ x. x ≡ spec.behind types.now op a b) }
+{
+    let left = left_type(types, op, a.kind, b.kind);
+    let right = operand_type(types, op, a.kind, b.kind);
+    let built = before(alloc, types, left, a.kind, a.so_far);
+    operated(op, built, typed(types, right, b))
+}
+
+fn two_chained(built: Option<Built>, kind: Kind, depth: usize) -> Chained
+    ensures { result ≡ spec.two_chained built kind depth }
 {
     match kind {
-        Kind::Of(_) => {
-            let Chained {
-                begin,
-                operations,
-                kind: _,
-                depth: _,
-            } = a;
-            let mut operations = operations;
-            let (begin, _) = beside(begin, operations.push(more))?;
-            Ok(Chained {
-                begin,
-                operations,
-                kind,
-                depth,
-            })
-        }
+        Kind::Of(_) => Chained {
+            so_far: SoFar::Behind(built),
+            kind,
+            depth,
+        },
         _ => {
-            drop((more, a));
-            Ok(Chained {
-                begin: Boxed::new(alloc, constant_form(kind))?,
-                operations: Items::new(alloc),
+            drop(built);
+            Chained {
+                so_far: SoFar::First(Form::Nothing),
                 kind,
                 depth: 1,
-            })
+            }
         }
     }
 }
 
-fn two_value(
-    alloc: Global,
-    more: ROperation,
-    a: Chained,
-    of: Applied,
-    depth: Option<usize>,
-) -> Result<Option<Chained>, Memory>
-    ensures { IfOk result (λ x. x ≡ spec.two_value more a of depth) }
+fn two_value(built: Option<Built>, of: Applied, depth: Option<usize>) -> Option<Chained>
+    ensures { result ≡ spec.two_value built of depth }
 {
     match (of, depth) {
-        (Applied::Gives(kind), Some(depth)) => {
-            Ok(Some(two_chained(alloc, more, a, kind, depth)?))
-        }
+        (Applied::Gives(kind), Some(depth)) => Some(two_chained(built, kind, depth)),
         _ => {
-            drop((more, a));
-            Ok(None)
+            drop(built);
+            None
         }
     }
 }
@@ -220,14 +244,12 @@ fn two_applied(
     ensures { IfOk result (λ o. Said (spec.two_applied types.now first op at a b) report.old o report.new) }
 {
     let of = two(types, op, a.kind, b.kind);
-    let sort = operand_type(types, op, a.kind, b.kind);
     let depth = raised(a.depth, 1, b.depth);
     report.note(depth.is_none(), first, FaultKind::ExprDeep);
     report.note(is_refused(of), at, FaultKind::Operands);
     report.note(is_outside(of), at, FaultKind::ConstArith);
-    let more = operation(op, sort, b.form.into_inner());
-    let value = two_value(alloc, more, a, of, depth)?;
-    Ok(value)
+    let built = behind(alloc, types, op, a, b)?;
+    Ok(two_value(built, of, depth))
 }
 
 /// An operator with two operands.
@@ -253,17 +275,12 @@ pub fn two_node(
     }
 }
 
-fn chain_form(
-    alloc: Global,
-    begin: Boxed<RExpr>,
-    operations: Items<ROperation>,
-) -> Result<Boxed<RExpr>, Memory>
-    ensures { IfOk result (λ x. x ≡ spec.chain_form begin operations) }
+fn whole_form(alloc: Global, of: SoFar) -> Result<Form, Memory>
+    ensures { IfOk result (λ f. f ≡ spec.whole_form of) }
 {
-    if operations.is_empty() {
-        Ok(begin)
-    } else {
-        Ok(Boxed::new(alloc, RExpr::Chain(begin, operations))?)
+    match of {
+        SoFar::First(form) => Ok(form),
+        SoFar::Behind(built) => chain_form(alloc, built),
     }
 }
 
@@ -278,7 +295,7 @@ pub fn chain_found(
     match of {
         None => Ok(None),
         Some(a) => Ok(Some(Found {
-            form: chain_form(alloc, a.begin, a.operations)?,
+            form: whole_form(alloc, a.so_far)?,
             kind: a.kind,
             first,
             depth: a.depth,

@@ -2,12 +2,15 @@ ghost use Rattle.std.specs.Prelude.{◌≡◌, ◌≤◌, IfOk};
 ghost use Rattle.lil_report.specs.Told.{Said, tell};
 ghost use Rattle.lil_operators.specs.Sets as spec;
 
+use crate::constants::constant_found;
 use crate::depths::raised;
-use lil_base::{Boxed, FaultKind, Items, Memory, Place, beside};
+use lil_base::{Boxed, FaultKind, Items, Memory, Place, beside, joined};
+use lil_forms::{set_form, single_by, span_by};
 use lil_kinds::{Found, Standing, compatible, element_span, number, outside, set_base};
-use lil_module::{RElement, RExpr};
 use lil_report::Report;
+use lil_resolved::RMember;
 use lil_scope::Kind;
+use lil_shapes::{Members, members_at};
 use lil_types::{TypeId, TypeTable};
 use std::alloc::Global;
 
@@ -26,10 +29,10 @@ pub struct Bounds {
     pub high: Option<Boxed<Operand>>,
 }
 
-/// The elements of a set: their forms, and what is known of them.
+/// The elements of a set: their forms, where all of them have one, and what is known of them.
 #[derive(Drop)]
 pub struct Elements {
-    pub forms: Items<RElement>,
+    pub forms: Option<Items<RMember>>,
     pub bounds: Items<Bounds>,
 }
 
@@ -57,31 +60,30 @@ pub fn no_elements(alloc: Global) -> Elements
     ensures { result ≡ spec.no_elements }
 {
     Elements {
-        forms: Items::new(alloc),
+        forms: Some(Items::new(alloc)),
         bounds: Items::new(alloc),
     }
 }
 
 fn with_element(
     of: Elements,
-    form: RElement,
+    form: Option<RMember>,
     low: Operand,
     high: Option<Boxed<Operand>>,
 ) -> Result<Elements, Memory>
     ensures { IfOk result (λ x. x ≡ spec.with_element of form low high) }
 {
     let Elements { forms, bounds } = of;
-    let mut forms = forms;
     let mut bounds = bounds;
-    forms.push(form)?;
-    bounds.push(Bounds { low, high })?;
+    let ((forms, form), _) = beside((forms, form), bounds.push(Bounds { low, high }))?;
+    let (bounds, forms) = beside(bounds, joined(forms, form))?;
     Ok(Elements { forms, bounds })
 }
 
 fn with_range(
     alloc: Global,
     of: Elements,
-    form: RElement,
+    form: Option<RMember>,
     low: Operand,
     high: Operand,
 ) -> Result<Elements, Memory>
@@ -91,41 +93,51 @@ fn with_range(
     with_element(of, form, low, Some(high))
 }
 
-/// Elements and a value more.
-pub fn joined_one(of: Option<Elements>, low: Option<Found>) -> Result<Option<Elements>, Memory>
-    ensures { IfOk result (λ x. x ≡ spec.joined_one of low) }
+fn kinds_of(types: &TypeTable, sort: Option<TypeId>) -> Option<Members>
+    ensures { result ≡ spec.kinds_of types.now sort }
+{
+    match sort {
+        None => None,
+        Some(sort) => members_at(types, sort),
+    }
+}
+
+/// Elements of a set and a value more.
+pub fn joined_one(
+    types: &TypeTable,
+    sort: Option<TypeId>,
+    of: Option<Elements>,
+    low: Option<Found>,
+) -> Result<Option<Elements>, Memory>
+    ensures { IfOk result (λ x. x ≡ spec.joined_one types.now sort of low) }
 {
     match of.zip(low) {
         None => Ok(None),
         Some((of, low)) => {
             let a = operand_of(&low);
-            let form = RElement {
-                low: low.form.into_inner(),
-                high: None,
-            };
+            let form = single_by(types, kinds_of(types, sort), low);
             Ok(Some(with_element(of, form, a, None)?))
         }
     }
 }
 
-/// Elements, and all from one value to another.
+/// Elements of a set, and all from one value to another.
 pub fn joined_range(
     alloc: Global,
+    types: &TypeTable,
+    sort: Option<TypeId>,
     of: Option<Elements>,
     low: Option<Found>,
     high: Option<Found>,
 ) -> Result<Option<Elements>, Memory>
-    ensures { IfOk result (λ x. x ≡ spec.joined_range of low high) }
+    ensures { IfOk result (λ x. x ≡ spec.joined_range types.now sort of low high) }
 {
     match of.zip(low.zip(high)) {
         None => Ok(None),
         Some((of, (low, high))) => {
             let a = operand_of(&low);
             let b = operand_of(&high);
-            let form = RElement {
-                low: low.form.into_inner(),
-                high: Some(high.form),
-            };
+            let form = span_by(types, kinds_of(types, sort), low, high);
             Ok(Some(with_range(alloc, of, form, a, b)?))
         }
     }
@@ -272,85 +284,81 @@ fn elements_tally(types: &TypeTable, report: &mut Report, sort: TypeId, bounds: 
 }
 
 fn set_found(
-    alloc: Global,
+    types: &TypeTable,
     first: Place,
     sort: TypeId,
-    forms: Items<RElement>,
+    forms: Option<Items<RMember>>,
     word: Option<u16>,
     depth: usize,
-) -> Result<Found, Memory>
-    ensures { IfOk result (λ a. a ≡ spec.set_found first sort forms word depth) }
+) -> Found
+    ensures { result ≡ spec.set_found types.now first sort forms word depth }
 {
     match word {
-        Some(word) => Ok(Found {
-            form: Boxed::new(alloc, RExpr::Scalar(sort, word))?,
-            kind: Kind::Scalar(sort, word),
-            first,
-            depth: 1,
-            standing: Standing::Value,
-        }),
-        None => Ok(Found {
-            form: Boxed::new(alloc, RExpr::SetOf(sort, forms))?,
+        Some(word) => {
+            drop(forms);
+            constant_found(first, Kind::Scalar(sort, word))
+        }
+        None => Found {
+            form: set_form(types, sort, forms),
             kind: Kind::Of(sort),
             first,
             depth,
             standing: Standing::Value,
-        }),
+        },
     }
 }
 
 #[tactic(auto, unfolding(crate::specs::Sets::set_end, lil_report::specs::Told::tell))]
 fn set_end(
-    alloc: Global,
+    types: &TypeTable,
     report: &mut Report,
     first: Place,
     sort: TypeId,
-    forms: Items<RElement>,
+    forms: Option<Items<RMember>>,
     tally: Tally,
-) -> Result<Option<Found>, Memory>
-    ensures { IfOk result (λ o. Said (spec.set_end first sort forms tally) report.old o report.new) }
+) -> Option<Found>
+    ensures { Said (spec.set_end types.now first sort forms tally) report.old result report.new }
 {
     report.note(tally.depth.is_none(), first, FaultKind::ExprDeep);
     match tally.depth {
         Some(depth) if tally.fits => {
-            let found = set_found(alloc, first, sort, forms, tally.word, depth)?;
-            Ok(Some(found))
+            Some(set_found(types, first, sort, forms, tally.word, depth))
         }
-        _ => Ok(None),
+        _ => {
+            drop(forms);
+            None
+        }
     }
 }
 
 /// A set whose type and whose elements have values.
 #[tactic(auto, using(lil_report::specs::Laws::said_after))]
 fn set_given(
-    alloc: Global,
     types: &TypeTable,
     report: &mut Report,
     first: Place,
     sort: TypeId,
     elements: Elements,
-) -> Result<Option<Found>, Memory>
-    ensures { IfOk result (λ o. Said (spec.set_of types.now first sort elements) report.old o report.new) }
+) -> Option<Found>
+    ensures { Said (spec.set_of types.now first sort elements) report.old result report.new }
 {
     let tally = elements_tally(types, report, sort, elements.bounds.as_slice());
-    let found = set_end(alloc, report, first, sort, elements.forms, tally)?;
-    Ok(found)
+    set_end(types, report, first, sort, elements.forms, tally)
 }
 
 /// A set.
 #[tactic(auto, unfolding(lil_report::specs::Told::tell))]
 pub fn set_node(
-    alloc: Global,
     types: &TypeTable,
     report: &mut Report,
     first: Place,
     sort: Option<TypeId>,
     elements: Option<Elements>,
-) -> Result<Option<Found>, Memory>
-    ensures { IfOk result (λ o. Said (spec.set_node types.now first sort elements) report.old o report.new) }
+) -> Option<Found>
+    ensures { Said (spec.set_node types.now first sort elements) report.old result report.new }
 {
     match (sort, elements) {
-        (Some(sort), Some(elements)) => set_given(alloc, types, report, first, sort, elements),
-        _ => Ok(None),
+        (Some(sort), Some(elements)) => set_given(types, report, first, sort, elements),
+        _ => None,
     }
 }

@@ -6,7 +6,7 @@ ghost use Rattle.lil_resolved.specs.Resolved.{kind_of, function_kind};
 ghost use Rattle.lil_resolved.specs.Views.{base_view, function_of, expression_of, place_of};
 
 use crate::{OneOp, RShape, TwoOp};
-use lil_base::{Boxed, Items, Name, Request, Text};
+use lil_base::{Boxed, Items, Name, Request, Shared, Text};
 
 /// What values are: numbers of a type of whole numbers, truth values, characters, the constants of an enumeration with so
 /// many of them, sets of numbers from 0 to 15, pointers of the type with this number, or addresses of workspaces.
@@ -39,7 +39,7 @@ pub struct RKind {
 /// A variable of the module: its number, and its kind.
 #[derive(Clone, Copy)]
 pub struct RVariable {
-    pub number: u16,
+    pub number: usize,
     pub kind: RKind,
 }
 
@@ -102,7 +102,7 @@ pub struct ROperation {
 /// innermost is 0.
 #[derive(Clone, Copy)]
 pub enum RRoot {
-    Variable(u16),
+    Variable(usize),
     Held(usize),
 }
 
@@ -138,7 +138,7 @@ pub enum RMember {
 pub enum RArgument {
     Value(RKind, RExpr),
     Array(RPlace, u16),
-    Text(Text),
+    Text(Shared<Text>),
 }
 
 /// A resolved statement. A place that is stored to has its kind; a copy has its place, and that of what is copied; a string
@@ -151,7 +151,7 @@ pub enum RArgument {
 pub enum RStmt {
     Assign(RPlace, RKind, RExpr),
     Copy(RPlace, RPlace),
-    Text(RPlace, Text),
+    Text(RPlace, Shared<Text>),
     Change(Direction, RPlace, RKind, RExpr),
     Member(Membership, RPlace, RKind, RExpr),
     New(RPlace, usize),

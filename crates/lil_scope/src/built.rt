@@ -2,7 +2,7 @@ ghost use Rattle.std.specs.Prelude.{◌≡◌};
 ghost use Rattle.lil_scope.specs.Built as spec;
 
 use crate::thing::Thing;
-use lil_module::{Resident, Standard};
+use lil_declared::{Resident, Standard};
 use lil_types::{PROC, PROCESS};
 
 /// Whether a standard procedure or function is built.

@@ -2,8 +2,8 @@ ghost use Rattle.std.specs.Prelude.{◌≡◌, ◌++◌, ◌∷◌, [], length, 
 ghost use Rattle.std.specs.Option.{option_copied};
 
 use crate::scope::Scopes;
-use lil_base::{Items, Memory, Name, Place, Text};
-use lil_module::{RProc, RVar};
+use lil_base::{Items, Memory, Name, Place, Shared, Text};
+use lil_declared::{RProc, RVar};
 use lil_types::{TypeId, TypeTable};
 use std::alloc::Global;
 use std::marker::Model;
@@ -69,7 +69,7 @@ impl Withs {
 pub struct Env {
     pub scopes: Scopes,
     pub types: TypeTable,
-    pub texts: Items<Text>,
+    pub texts: Items<Shared<Text>>,
     pub variables: Items<RVar>,
     pub procedures: Items<RProc>,
     pub waits: Items<Wait>,

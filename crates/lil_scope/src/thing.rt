@@ -1,5 +1,5 @@
 use lil_base::Place;
-use lil_module::{Mode, Resident, Standard};
+use lil_declared::{Mode, Resident, Standard};
 use lil_types::TypeId;
 
 /// A text between two marks: how many characters it has, and its first one, 0 where it has none.

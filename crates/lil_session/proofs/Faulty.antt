@@ -9,19 +9,19 @@ use Rattle.lil_text.specs.declared.stop.ReadStop.TheVariants.{Fault, Memory}
 use Rattle.lil_resolved.specs.Resolved.{Resolved}
 use Rattle.lil_resolved.specs.Shapes.{all_words}
 use Rattle.lil_resolved.specs.Sizes.{code_size, IsSmall}
+use Rattle.lil_resolved.specs.Views.{module_of as resolved_of}
+use Rattle.lil_resolved.specs.declared.resolved.RModule.{RModule}
 use Rattle.lil_language.specs.declared.unit.Unit.{Unit as Tree}
 use Rattle.lil_language.specs.Units.{Reads, HasReadFault}
 use Rattle.lil_meaning.specs.World.{World}
 use Rattle.lil_session.specs.declared.status.Status.{Status}
 use Rattle.lil_session.specs.declared.status.Status.TheVariants as a
 use Rattle.lil_report.specs.declared.report.Fault.{Fault as Checked}
-use Rattle.lil_module.specs.declared.declared.RModule.{RModule as Checks}
 use Rattle.lil_interfaces.specs.Interfaces.{residents}
-use Rattle.lil_check_unit.specs.Units.{module_of as resolved, program_fault, told}
-use Rattle.lil_lower.specs.Lowered.{lowered}
+use Rattle.lil_check_unit.specs.Units.{module_of, program_fault, told}
 use Rattle.lil_unit.specs.declared.stop.GenStop.{GenStop}
 use Rattle.lil_unit.specs.declared.stop.GenStop.TheVariants as gen
-use Rattle.lil_session.specs.Outcome.{Verdict, Refused, Means, coded, lowered_says, checked_says, says, HasFault, HasMeaning, ReadsOne, stopped_by, ungenerated_by}
+use Rattle.lil_session.specs.Outcome.{Verdict, Refused, Means, coded, module_says, checked_says, says, HasFault, HasMeaning, ReadsOne, stopped_by, ungenerated_by}
 use Rattle.lil_session.specs.Answered.{Carried, ModuleRan, TextRan}
 use Rattle.lil_session.proofs.Doing.{shows_none, text_memory, text_not, text_ran}
 
@@ -130,12 +130,12 @@ module _ (file : List ℕ) (u : Tree) where
   carried_stopped (Fault f) h steps old faults = let p = h f refl in carried_fault f steps old faults (ap (λ o. checked_says u o) p.1 ∙ ap (λ f. Refused f) (sym p.2))
   carried_stopped Memory h steps old faults = carried_memory (says file u) steps old faults
 
-  says_checked : (m : Checks) → (m ≡ resolved u residents) × (program_fault file u ≡ None) → lowered_says u (lowered m) ≡ says file u
+  says_checked : (m : RModule) → (Some (resolved_of m) ≡ module_of u residents) × (program_fault file u ≡ None) → coded u.head.name.place (resolved_of m) ≡ says file u
   unfolding says
-  says_checked m h = ap (λ m. lowered_says u (lowered m)) h.0 ∙ sym (ap (λ o. checked_says u o) h.1)
+  says_checked m h = ap (λ o. module_says u o) h.0 ∙ sym (ap (λ o. checked_says u o) h.1)
 
-  pub carried_checked : (r : Result Checks ReadStop) (m : Checks) → r ≡ Ok m → IfOk r (λ m. (m ≡ resolved u residents) × (program_fault file u ≡ None))
+  pub carried_checked : (r : Result RModule ReadStop) (m : RModule) → r ≡ Ok m → IfOk r (λ m. (Some (resolved_of m) ≡ module_of u residents) × (program_fault file u ≡ None))
       → (steps : ℕ) (old : Option (List ℕ)) (old_faults : ℕ) (new : Option (List ℕ)) (new_faults : ℕ) (s : Status)
-      → Carried (lowered_says u (lowered m)) steps old old_faults new new_faults s → Carried (says file u) steps old old_faults new new_faults s
+      → Carried (coded u.head.name.place (resolved_of m)) steps old old_faults new new_faults s → Carried (says file u) steps old old_faults new new_faults s
   carried_checked r m is right steps old old_faults new new_faults s c =
-      subst (λ v. Carried v steps old old_faults new new_faults s) (says_checked m (subst (λ r. IfOk r (λ m. (m ≡ resolved u residents) × (program_fault file u ≡ None))) is right)) c
+      subst (λ v. Carried v steps old old_faults new new_faults s) (says_checked m (subst (λ r. IfOk r (λ m. (Some (resolved_of m) ≡ module_of u residents) × (program_fault file u ≡ None))) is right)) c

@@ -7,7 +7,6 @@ use Rattle.lil_base.specs.declared.fault.SourceFault.{SourceFault}
 use Rattle.lil_base.specs.declared.fault.LimitKind.TheVariants as limit
 use Rattle.lil_resolved.specs.Resolved.{Resolved}
 use Rattle.lil_resolved.specs.Sizes.{code_size}
-use Rattle.lil_lower.specs.Lowered.{lowered}
 use Rattle.lil_unit.specs.declared.stop.GenStop.{GenStop}
 use Rattle.lil_unit.specs.declared.stop.GenStop.TheVariants as gen
 use Rattle.lil_text.specs.declared.stop.ReadStop.{ReadStop}
@@ -16,7 +15,7 @@ use Rattle.lil_language.specs.declared.unit.Unit.{Unit as Tree}
 use Rattle.lil_language.specs.Units.{Reads, HasReadFault}
 use Rattle.lil_report.specs.declared.report.Fault.{Fault as Checked}
 use Rattle.lil_interfaces.specs.Interfaces.{residents}
-use Rattle.lil_check_unit.specs.Units.{module_of as resolved, program_fault, told}
+use Rattle.lil_check_unit.specs.Units.{module_of, program_fault, told}
 use Rattle.lil_meaning.specs.World.{World}
 use Rattle.lil_meaning.specs.Items.{Phase, Going, Closing, Ended, Trapped}
 use Rattle.lil_meaning.specs.Runs.{state_of}
@@ -130,16 +129,16 @@ pub data Verdict : Type 0 where
 abbrev pub coded : Place → Resolved → Verdict
 coded name p = if nat_le (code_size p) 32767 then Means p else Refused (code_too_long name (min (code_size p) 4294967295))
 
--- 90 NotBuilt, at the unit's first token: some form has no code yet
-abbrev pub lowered_says : Tree → Option Resolved → Verdict
-lowered_says u None = Refused (fault 90 u.head.place)
-lowered_says u (Some p) = coded u.head.name.place p
+-- a unit without faults has a module: 90 NotBuilt, at its first token, is the last of them
+abbrev pub module_says : Tree → Option Resolved → Verdict
+module_says u None = Refused (fault 90 u.head.place)
+module_says u (Some p) = coded u.head.name.place p
 
 abbrev pub checked_says : Tree → Option Checked → Verdict
 checked_says u (Some g) = Refused (told g)
-checked_says u None = lowered_says u (lowered (resolved u residents))
+checked_says u None = module_says u (module_of u residents)
 
--- what a unit in the file of this name says: the fault that its check tells, else that it has no code, else the module
+-- what a unit in the file of this name says: the fault that its check tells, else that its code is too long, else the module
 unfoldable pub says : List ℕ → Tree → Verdict
 says file u = checked_says u (program_fault file u)
 

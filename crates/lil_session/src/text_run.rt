@@ -1,20 +1,17 @@
 ghost use Rattle.std.specs.Prelude.{◌≡◌, ◌≤◌, length, Some, None, false};
 ghost use Rattle.lil_resolved.specs.Views.{module_of, IsMeasured};
 ghost use Rattle.lil_resolved.specs.Sizes.{IsSound};
-ghost use Rattle.lil_lower.specs.Lowered.{lowered};
 ghost use Rattle.lil_session.specs.Words.{mod_file, name_of_word};
-ghost use Rattle.lil_session.specs.Outcome.{devices, stopped_by, ungenerated_by, coded, lowered_says, says};
+ghost use Rattle.lil_session.specs.Outcome.{devices, stopped_by, ungenerated_by, coded, says};
 ghost use Rattle.lil_session.specs.Answered.{Carried, TextRan, CommandRan, CommandReported, Answered};
 
 use crate::report::write_report;
 use crate::run::run_program;
 use crate::words::named;
 use crate::{Channel, Options, Rack, Status};
-use lil_base::{FaultKind, Name, Place, SourceFault, Text};
+use lil_base::{Name, Place, SourceFault, Text};
 use lil_check_unit::check_program;
 use lil_language::Unit;
-use lil_lower::lower;
-use lil_module::RModule as Checked;
 use lil_read_unit::read;
 use lil_resolved::RModule;
 use lil_text::ReadStop;
@@ -64,30 +61,13 @@ fn run_module<S: Sink>(
     }
 }
 
-/// Runs a checked module, which this unit is, where code can be made of it.
-fn run_checked<S: Sink>(
-    alloc: Global,
-    unit: &Unit,
-    m: &Checked,
-    steps: u64,
-    screen: &mut S,
-) -> Status
-    ensures { Carried (lowered_says unit.now (lowered m.now)) steps (S.written screen.old) (S.faults screen.old) (S.written screen.new) (S.faults screen.new) result }
-{
-    match lower(alloc, m) {
-        Err(_) => Status::Memory,
-        Ok(None) => { Status::SourceFault(SourceFault::at(FaultKind::NotBuilt, unit.head.place)) }
-        Ok(Some(found)) => run_module(alloc, unit.head.name.place, &found, steps, screen),
-    }
-}
-
 /// Checks a unit in the file of this name, and runs it where it has no fault.
 fn run_unit<S: Sink>(alloc: Global, file: &Name, unit: &Unit, steps: u64, screen: &mut S) -> Status
     ensures { Carried (says file.now unit.now) steps (S.written screen.old) (S.faults screen.old) (S.written screen.new) (S.faults screen.new) result }
 {
     match check_program(alloc, file, unit) {
         Err(stop) => stopped(stop),
-        Ok(m) => run_checked(alloc, unit, &m, steps, screen),
+        Ok(m) => run_module(alloc, unit.head.name.place, &m, steps, screen),
     }
 }
 

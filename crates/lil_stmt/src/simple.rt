@@ -199,6 +199,7 @@ fn emit_argument(code: &mut CodeBuffer<'_>, argument: &RArgument) -> Result<(), 
             code.put(Instr::Liw(*high))
         }
         RArgument::Text(text) => {
+            let text = text.get();
             let offset = code.string(text.as_slice())?;
             let high = text.len().saturating_sub(1) as u16;
             code.put_all(&[Instr::Lag(offset), Instr::Liw(high)])

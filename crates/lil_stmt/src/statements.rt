@@ -79,7 +79,7 @@ fn emit_simple(code: &mut CodeBuffer<'_>, statement: &RStmt, around: Around) -> 
     match statement {
         RStmt::Assign(place, kind, value) => emit_assign(code, place, *kind, value),
         RStmt::Copy(place, from) => emit_copy(code, place, from),
-        RStmt::Text(place, text) => emit_text(code, place, text),
+        RStmt::Text(place, text) => emit_text(code, place, text.get()),
         RStmt::Change(way, place, kind, value) => emit_change(code, *way, place, *kind, value),
         RStmt::Member(way, place, kind, value) => emit_member(code, *way, place, *kind, value),
         RStmt::New(place, pointer) => emit_new(code, place, *pointer),

@@ -3,7 +3,8 @@ use Rattle.std.proofs.lemmas.Result.{IfOk-weaker}
 use Rattle.lil_report.specs.Least.{late_of, worse}
 use Rattle.lil_report.specs.Told.{tell}
 use Rattle.lil_check_stmt.specs.Stmts.{bodies_mean}
-use Rattle.lil_check_unit.proofs.UnitFaults.{wrong_declarations, then_statements, late_is, module_is}
+use Rattle.lil_check_unit.specs.Modules.{in_no_with}
+use Rattle.lil_check_unit.proofs.UnitFaults.{wrong_declarations, then_statements, late_is, stated_is}
 use Rattle.lil_check_unit.proofs.checking.check_parts.Goals as goal
 
 pub returns-in-Some-clause-wrong : goal.returns-in-Some-clause-wrong
@@ -15,9 +16,10 @@ pub returns-in-None-clause-right : goal.returns-in-None-clause-right
 returns-in-None-clause-right c =
     IfOk-weaker c.with_statements.result _ _
     (λ m p. (
-      p.0 ∙ module_is c.args.u.now c.args.interfaces.now c.new-report.ensures c.in_ok-env.ensures,
-      then_statements c.args.u.now c.args.interfaces.now c.new-report.ensures c.in_ok-env.ensures (sym c.in-None.is ∙ c.worst_now.ensures) ∙ p.1,
-      p.2 ∙ ap (λ o. worse o (late_of (tell None (bodies_mean c.in_ok-env.env c.args.u.now.decls c.args.u.now.body).1))) c.worst_late.ensures ∙ late_is c.args.u.now c.args.interfaces.now c.new-report.ensures c.in_ok-env.ensures,
+      p.0 ∙ ap in_no_with c.in_ok-env.ensures.value,
+      p.1 ∙ stated_is c.args.u.now c.args.interfaces.now c.new-report.ensures c.in_ok-env.ensures,
+      then_statements c.args.u.now c.args.interfaces.now c.new-report.ensures c.in_ok-env.ensures (sym c.in-None.is ∙ c.worst_now.ensures) ∙ p.2,
+      p.3 ∙ ap (λ o. worse o (late_of (tell None (bodies_mean (in_no_with c.in_ok-env.env) c.args.u.now.decls c.args.u.now.body).1))) c.worst_late.ensures ∙ late_is c.args.u.now c.args.interfaces.now c.new-report.ensures c.in_ok-env.ensures,
     ))
     c.with_statements.ensures.right
 

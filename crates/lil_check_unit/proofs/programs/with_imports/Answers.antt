@@ -9,16 +9,16 @@ returns-in-Some-clause-wrong c f e =
     let as_told = c.told.ensures in
     (c.in-Some.fault, wrong_import c.args.u.now c.in_ok-interfaces.ensures (sym c.missing_fault.ensures ∙ c.in-Some.is), cc)
 
-pub with_interfaces-requires : goal.with_interfaces-requires
-with_interfaces-requires c = has_interfaces c.in_ok-interfaces.interfaces c.args.u.now (sym c.missing_fault.ensures ∙ c.in-None.is)
+pub check_module-requires : goal.check_module-requires
+check_module-requires c = has_interfaces c.in_ok-interfaces.interfaces c.args.u.now (sym c.missing_fault.ensures ∙ c.in-None.is)
 
 pub returns-clause-right : goal.returns-clause-right
 returns-clause-right c =
-    IfOk-weaker c.with_interfaces.result _ _
+    IfOk-weaker c.check_module.result _ _
     (λ m p. (p.0 ∙ ap (module_of c.args.u.now) c.in_ok-interfaces.ensures, then_unit c.args.u.now c.in_ok-interfaces.ensures (sym c.missing_fault.ensures ∙ c.in-None.is) ∙ p.1))
-    c.with_interfaces.ensures.right
+    c.check_module.ensures.right
 
 pub returns-clause-wrong : goal.returns-clause-wrong
 returns-clause-wrong c f e =
-    let p = c.with_interfaces.ensures.wrong f e in
+    let p = c.check_module.ensures.wrong f e in
     (p.0, then_unit c.args.u.now c.in_ok-interfaces.ensures (sym c.missing_fault.ensures ∙ c.in-None.is) ∙ p.1, p.2)

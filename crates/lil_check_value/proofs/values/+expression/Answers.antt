@@ -28,11 +28,11 @@ pub elements-loop-one-init : goal.elements-loop-one-init
 elements-loop-one-init t c = said_value (search rules)
 
 pub elements-loop-one-preserved : goal.elements-loop-one-preserved
-elements-loop-one-preserved t c = said_more (joins_mean c.args.env.now) _ c.args.elements.now c.loop-one.one-index c.one-item.result c.loop-one-test.true (search rules) c.loop-one.invariant
+elements-loop-one-preserved t c = said_more (joins_mean c.args.env.now c.args.sort) _ c.args.elements.now c.loop-one.one-index c.one-item.result c.loop-one-test.true (search rules) c.loop-one.invariant
     (c.in_ok-all.ensures)
 
 pub elements-returns : goal.elements-returns
-elements-returns t c = said_all (joins_mean c.args.env.now) _ c.args.elements.now c.loop-one.one-index (omega arith) c.loop-one.invariant
+elements-returns t c = said_all (joins_mean c.args.env.now c.args.sort) _ c.args.elements.now c.loop-one.one-index (omega arith) c.loop-one.invariant
 
 pub indexed-loop-one-init : goal.indexed-loop-one-init
 indexed-loop-one-init t c = said_value refl
@@ -57,17 +57,17 @@ operated-returns t c = said_all (operation_means c.args.env.now c.args.first) _ 
 pub argument-returns-in_ok-value : goal.argument-returns-in_ok-value
 argument-returns-in_ok-value t c = is_plain c.args.env.now c.args.of.now c.if-asks.false c.in_ok-value.ensures
 
-pub expression-returns-in_ok-constant_found-in-Whole : goal.expression-returns-in_ok-constant_found-in-Whole
-expression-returns-in_ok-constant_found-in-Whole t c = is_whole c.args.env.now c.in-Whole.is (search rules)
+pub expression-returns-in-Whole : goal.expression-returns-in-Whole
+expression-returns-in-Whole t c = is_whole c.args.env.now c.in-Whole.is (search rules)
 
-pub expression-returns-in_ok-constant_found-in-Code : goal.expression-returns-in_ok-constant_found-in-Code
-expression-returns-in_ok-constant_found-in-Code t c = is_code c.args.env.now c.in-Code.is (search rules)
+pub expression-returns-in-Code : goal.expression-returns-in-Code
+expression-returns-in-Code t c = is_code c.args.env.now c.in-Code.is (search rules)
 
 pub expression-returns-in_ok-text_found-in-Chars : goal.expression-returns-in_ok-text_found-in-Chars
 expression-returns-in_ok-text_found-in-Chars t c = is_chars c.args.env.now c.in-Chars.is c.in_ok-text_found-in-Chars.ensures
 
-pub expression-returns-in_ok-value-in-SetOf : goal.expression-returns-in_ok-value-in-SetOf
-expression-returns-in_ok-value-in-SetOf t c = is_set c.args.env.now c.as_slice.result.now (search rules) c.set_sort-sort.ensures c.in_ok-all-in-SetOf.ensures c.in_ok-value-in-SetOf.ensures
+pub expression-returns-in_ok-all-in-SetOf : goal.expression-returns-in_ok-all-in-SetOf
+expression-returns-in_ok-all-in-SetOf t c = is_set c.args.env.now c.as_slice.result.now (search rules) c.set_sort-sort.ensures c.in_ok-all-in-SetOf.ensures c.set_node.ensures
 
 pub expression-returns-in_ok-value-in-Desig : goal.expression-returns-in_ok-value-in-Desig
 expression-returns-in_ok-value-in-Desig t c = is_desig c.args.env.now _ c.in-Desig.is c.in_ok-of-in-Desig.ensures c.in_ok-value-in-Desig.ensures
@@ -82,13 +82,13 @@ pub expression-returns-in_ok-value-in-Chain : goal.expression-returns-in_ok-valu
 expression-returns-in_ok-value-in-Chain t c = is_chain c.args.env.now c.get-in-Chain.result.now c.as_slice-in-Chain.result.now (search rules) c.in_ok-a-in-Chain.ensures c.begun-begin.ensures c.in_ok-chain-in-Chain.ensures c.in_ok-value-in-Chain.ensures
 
 pub joined-returns-in_ok-all-in-None : goal.joined-returns-in_ok-all-in-None
-joined-returns-in_ok-all-in-None t c = is_alone c.args.env.now c.args.element.now c.args.of c.in-None.is c.in_ok-of.ensures.ok c.expression.ensures c.in_ok-all-in-None.ensures
+joined-returns-in_ok-all-in-None t c = is_alone c.args.env.now c.args.element.now c.args.sort c.args.of c.in-None.is c.in_ok-of.ensures.ok c.expression.ensures c.in_ok-all-in-None.ensures
 
 pub joined-returns-in_ok-all-in-Some : goal.joined-returns-in_ok-all-in-Some
-joined-returns-in_ok-all-in-Some t c = is_range c.args.env.now c.args.element.now c.get.result.now c.args.of c.expression.new.report (search rules) c.in_ok-of.ensures.ok c.expression.ensures c.in_ok-before-in-Some.ensures.ok c.expression-in-Some.ensures c.in_ok-all-in-Some.ensures
+joined-returns-in_ok-all-in-Some t c = is_range c.args.env.now c.args.element.now c.get.result.now c.args.sort c.args.of c.expression.new.report (search rules) c.in_ok-of.ensures.ok c.expression.ensures c.in_ok-before-in-Some.ensures.ok c.expression-in-Some.ensures c.in_ok-all-in-Some.ensures
 
 pub reached-returns : goal.reached-returns
-reached-returns t c = is_reached c.args.env.now c.args.first c.args.of.now c.as_slice.result.now c.as_slice.ensures c.root-begin.ensures c.in_ok-found.ensures
+reached-returns t c = is_reached c.args.env.now c.args.first c.args.of.now c.as_slice.result.now c.as_slice.ensures c.in_ok-begin.ensures c.in_ok-found.ensures
 
 pub selected-returns-in_ok-found-in-Field : goal.selected-returns-in_ok-found-in-Field
 selected-returns-in_ok-found-in-Field t c = is_field c.args.env.now c.args.of c.in-Field.is c.in_ok-found-in-Field.ensures
@@ -99,8 +99,8 @@ selected-returns-in_ok-found-in-Index t c = is_index c.args.env.now c.args.of c.
 pub selected-returns-in_ok-found-in-Follow : goal.selected-returns-in_ok-found-in-Follow
 selected-returns-in_ok-found-in-Follow t c = is_follow c.args.env.now c.args.of c.in-Follow.is c.in_ok-found-in-Follow.ensures
 
-pub typed-returns-in_ok-named-in-Desig : goal.typed-returns-in_ok-named-in-Desig
-typed-returns-in_ok-named-in-Desig t c = is_typed c.args.env.now _ c.in-Desig.is c.in_ok-of-in-Desig.ensures c.in_ok-named-in-Desig.ensures
+pub typed-returns-in_ok-of-in-Desig : goal.typed-returns-in_ok-of-in-Desig
+typed-returns-in_ok-of-in-Desig t c = is_typed c.args.env.now _ c.in-Desig.is c.in_ok-of-in-Desig.ensures c.typed_node.ensures
 
 pub typed-returns-in_ok-value-in_default : goal.typed-returns-in_ok-value-in_default
 typed-returns-in_ok-value-in_default t c = is_valued c.args.env.now c.in_default.not-Desig c.in_ok-value-in_default.ensures

@@ -3,4 +3,4 @@ use Rattle.lil_check_value.proofs.Meanings.{is_variable}
 use Rattle.lil_check_value.proofs.values.variable.Goals as goal
 
 pub returns : goal.returns
-returns c = is_variable c.args.env.now c.args.of.now refl c.in_ok-found.ensures c.in_ok-value.ensures
+returns c = is_variable c.args.env.now c.args.of.now refl c.in_ok-found.ensures c.variable_node.ensures

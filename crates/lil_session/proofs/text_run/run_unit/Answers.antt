@@ -12,4 +12,4 @@ returns-in-Err g c =
 pub returns-in-Ok : goal.returns-in-Ok
 returns-in-Ok g c =
     carried_checked c.args.file.now c.args.unit.now c.check_program.result c.in-Ok.m c.in-Ok.is c.check_program.ensures.right
-    c.args.steps (g.S.Sink.written c.args.screen.now) (g.S.Sink.faults c.args.screen.now) (g.S.Sink.written c.run_checked.new.screen) (g.S.Sink.faults c.run_checked.new.screen) c.run_checked.result c.run_checked.ensures
+    c.args.steps (g.S.Sink.written c.args.screen.now) (g.S.Sink.faults c.args.screen.now) (g.S.Sink.written c.run_module.new.screen) (g.S.Sink.faults c.run_module.new.screen) c.run_module.result c.run_module.ensures

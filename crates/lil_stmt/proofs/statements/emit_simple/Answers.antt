@@ -2,8 +2,8 @@ use Rattle.std.proofs.Common.{ℕ, List, map, Option, ap, ◌∙◌, subst, OnOk
 use Rattle.lil_resolved.specs.declared.resolved.RArgument.{RArgument}
 use Rattle.lil_resolved.specs.Resolved as resolved
 use Rattle.lil_resolved.specs.Resolved.{Halt, Return}
-use Rattle.lil_resolved.specs.Views.{argument_of, statement_of}
-use Rattle.lil_resolved.specs.Strings.{arguments_strings}
+use Rattle.lil_resolved.specs.Views.{argument_of, place_of, statement_of}
+use Rattle.lil_resolved.specs.Strings.{words_of, arguments_strings}
 use Rattle.lil_resolved.specs.Forms.{assign_is, copy_is, text_is, change_is, member_changed_is, new_is, allocate_is, request_is, halt_is, return_is}
 use Rattle.lil_labels.specs.Drafts.{Adds}
 use Rattle.lil_labels.specs.Emitting.{emits_as, with_ok}
@@ -30,7 +30,8 @@ returns-in-Text c =
     let n = c.args.around.words in
     let exit = c.args.around.exit in
     let is = ap statement_of c.in-Text.is ∙ text_is c.in-Text.place c.in-Text.text in
-    with_ok c.emit_text.result (λ h. one_emitted n exit _ _ _ _ is (h n exit)) c.emit_text.ensures
+    let by = subst (λ (cs : List ℕ). OnOk c.emit_text.result ((n : ℕ) (exit : Option ℕ) → Adds (words_of cs) c.args.code.now c.emit_text.new.code (Stated n exit (resolved.Text (place_of c.in-Text.place) cs)))) c.get.ensures c.emit_text.ensures in
+    with_ok c.emit_text.result (λ h. one_emitted n exit _ _ _ _ is (h n exit)) by
 
 pub returns-in-Change : goal.returns-in-Change
 returns-in-Change c =

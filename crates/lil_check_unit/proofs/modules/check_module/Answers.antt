@@ -1,0 +1,43 @@
+use Rattle.std.proofs.Common.{◌∙◌}
+use Rattle.std.proofs.lemmas.Result.{IfOk-weaker}
+use Rattle.lil_resolved.specs.Views.{module_of as resolved_of}
+use Rattle.lil_check_unit.specs.Modules.{assembled}
+use Rattle.lil_check_unit.specs.UnitLaws.{unit_speaks}
+use Rattle.lil_check_unit.proofs.ModuleSound.{module_sound}
+use Rattle.lil_check_unit.proofs.UnitFaults.{wrong_unit, module_is, then_last, nothing_last}
+use Rattle.lil_check_unit.proofs.modules.check_module.Goals as goal
+
+pub returns-in-Ok-clause-right : goal.returns-in-Ok-clause-right
+returns-in-Ok-clause-right c =
+    let u = c.args.u.now in
+    let is = c.args.interfaces.now in
+    let of = c.in-Ok.ensures.right in
+    let made = c.in-Ok.checked in
+    IfOk-weaker c.with_data.result _ _
+    (λ m p. (
+      p.0 ∙ module_is u is of.0 of.1,
+      then_last u is of.0 of.1 of.2 of.3 ∙ nothing_last u made.declared made.stated made.late (assembled made.declared.types made.declared.variables u.head.name.name made.stated.body) p.1 p.0,
+    ))
+    c.with_data.ensures.right
+
+pub returns-in-Ok-clause-sound : goal.returns-in-Ok-clause-sound
+returns-in-Ok-clause-sound c =
+    let of = c.in-Ok.ensures.right in
+    IfOk-weaker c.with_data.result _ _ (λ m p. module_sound c.args.u.now c.args.interfaces.now (resolved_of m) (p.0 ∙ module_is c.args.u.now c.args.interfaces.now of.0 of.1)) c.with_data.ensures.right
+
+pub returns-in-Ok-clause-wrong : goal.returns-in-Ok-clause-wrong
+returns-in-Ok-clause-wrong c f e =
+    let of = c.in-Ok.ensures.right in
+    let p = c.with_data.ensures.wrong f e in
+    (p.0, then_last c.args.u.now c.args.interfaces.now of.0 of.1 of.2 of.3 ∙ p.1, p.2)
+
+pub returns-in-Ok-clause-least : goal.returns-in-Ok-clause-least
+returns-in-Ok-clause-least c = unit_speaks c.args.u.now c.args.interfaces.now
+
+pub returns-in-Err-clause-wrong : goal.returns-in-Err-clause-wrong
+returns-in-Err-clause-wrong c f e =
+    let p = c.in-Err.ensures.wrong f (cc) in
+    (p.0, wrong_unit c.args.u.now c.args.interfaces.now p.1, p.2)
+
+pub returns-in-Err-clause-least : goal.returns-in-Err-clause-least
+returns-in-Err-clause-least c = unit_speaks c.args.u.now c.args.interfaces.now

@@ -1,0 +1,35 @@
+-- The module that what is declared and stated makes.
+use Rattle.std.specs.Prelude.{ℕ, List, [], map, Option, Some, None}
+use Rattle.lil_types.specs.Types.{Table}
+use Rattle.lil_declared.specs.declared.declared.RVar.{RVar}
+use Rattle.lil_resolved.specs.Resolved.{Statements, Resolved}
+use Rattle.lil_resolved.specs.Shapes.{Shape}
+use Rattle.lil_resolved.specs.Views.{statements_of}
+use Rattle.lil_resolved.specs.declared.resolved.RStmt.{RStmt}
+use Rattle.lil_scope.specs.declared.env.Env.{Env}
+use Rattle.lil_shapes.specs.Measured.{variable_name}
+use Rattle.lil_shapes.specs.Pointers.{targets}
+use Rattle.lil_shapes.specs.Shaping.{shapes, variables_by}
+
+-- the statements of a block stand in no WITH
+abbrev pub in_no_with : Env → Env
+in_no_with e = record e { withs = [] }
+
+-- by the types and the variables
+module _ (t : Table) (vs : List RVar) where
+  abbrev pub module_with : List ℕ → (types variables : List Shape) → Statements → Resolved
+  module_with n types ts ss = record { name = n; targets = targets t types; names = map variable_name vs; variables = ts; procedures = []; body = ss }
+
+  -- where its variables lie, in at most 32,000 words
+  abbrev pub with_variables : List ℕ → List Shape → Option (List Shape) → List RStmt → Option Resolved
+  with_variables n types None ss = None
+  with_variables n types (Some ts) ss = Some (module_with n types ts (statements_of ss))
+
+  abbrev pub laid_out : List ℕ → Option (List Shape) → List RStmt → Option Resolved
+  laid_out n None ss = None
+  laid_out n (Some types) ss = with_variables n types (variables_by (Some types) vs) ss
+
+  -- none where a form has no code
+  abbrev pub assembled : List ℕ → Option (List RStmt) → Option Resolved
+  assembled n None = None
+  assembled n (Some ss) = laid_out n (shapes t) ss

@@ -1,0 +1,32 @@
+use lil_base::Name;
+use lil_types::TypeId;
+
+/// Whether a variable is a parameter, and how it is handed over: a value, a place, or an open array as the one or the
+/// other.
+#[derive(Clone, Copy, PartialEq, Eq)]
+pub enum Mode {
+    Plain,
+    Value,
+    Place,
+    OpenValue,
+    OpenPlace,
+}
+
+/// A variable: its type, or the type of its elements where it is an open array, and the procedure to which it belongs, if it is
+/// no variable of the module.
+#[derive(Drop)]
+pub struct RVar {
+    pub name: Name,
+    pub sort: TypeId,
+    pub mode: Mode,
+    pub owner: Option<usize>,
+}
+
+/// A procedure: its name, the procedure that declares it, if it isn't the module, and its procedure type. Its parameters
+/// are the first of its variables.
+#[derive(Drop)]
+pub struct RProc {
+    pub name: Name,
+    pub outer: Option<usize>,
+    pub sort: TypeId,
+}

@@ -1,0 +1,8 @@
+//! What a module declares, and what it finds declared: its variables and procedures, and those of the system.
+#![tactic(auto)]
+
+mod declared;
+mod standard;
+
+pub use declared::{Mode, RProc, RVar};
+pub use standard::{Resident, Standard};

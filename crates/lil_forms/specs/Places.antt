@@ -1,0 +1,98 @@
+-- The places that designators lead to, part by part, where code can be made of them.
+use Rattle.std.specs.Prelude.{ℕ, ◌-◌, nat_le, List, [], ◌∷◌, ◌++◌, length, slice_get, Option, Some, None, if◌then◌else◌}
+use Rattle.lil_types.specs.Types.{Table}
+use Rattle.lil_declared.specs.declared.declared.RVar.{RVar}
+use Rattle.lil_kinds.specs.declared.found.Found.{Found}
+use Rattle.lil_kinds.specs.declared.found.Located.{Located}
+use Rattle.lil_resolved.specs.Depth.{place_depth}
+use Rattle.lil_resolved.specs.Sound as sound
+use Rattle.lil_resolved.specs.Views.{kind_view, place_of}
+use Rattle.lil_resolved.specs.declared.resolved.RExpr.{RExpr}
+use Rattle.lil_resolved.specs.declared.resolved.RKind.{RKind}
+use Rattle.lil_resolved.specs.declared.resolved.RPlace.{RPlace, roll-RPlace, out-RPlace}
+use Rattle.lil_resolved.specs.declared.resolved.RRoot.{RRoot}
+use Rattle.lil_resolved.specs.declared.resolved.RRoot.TheVariants as root
+use Rattle.lil_resolved.specs.declared.resolved.RSelector.{RSelector}
+use Rattle.lil_resolved.specs.declared.resolved.RSelector.TheVariants as part
+use Rattle.lil_shapes.specs.declared.composites.ArrayParts.{ArrayParts}
+use Rattle.lil_shapes.specs.declared.pointers.Target.{Target}
+use Rattle.lil_shapes.specs.Bases.{kind_at}
+use Rattle.lil_shapes.specs.Composites.{field_at, array_at}
+use Rattle.lil_shapes.specs.Pointers.{target_at}
+use Rattle.lil_forms.specs.declared.places.Cell.{Cell}
+use Rattle.lil_forms.specs.Values.{value_kind, typed}
+
+-- ---- with what a designator begins
+abbrev pub at_root : RRoot → ℕ → Located
+at_root r s = record { place = roll-RPlace (record { root = r; selectors = [] }); sort = s }
+
+-- a variable of the module, by its number
+abbrev pub variable_by : ℕ → Option RVar → Option Located
+variable_by n None = None
+variable_by n (Some v) = Some (at_root (root.Variable n) v.sort)
+
+abbrev pub variable_at : List RVar → ℕ → Option Located
+variable_at vs n = variable_by n (slice_get vs n)
+
+-- the record of a WITH, by its number from the outermost, by the types of all around
+abbrev pub held_by : List ℕ → ℕ → Option ℕ → Option Located
+held_by around w None = None
+held_by around w (Some s) = Some (at_root (root.Held (length around - 1 - w)) s)
+
+abbrev pub held_at : List ℕ → ℕ → Option Located
+held_at around w = held_by around w (slice_get around w)
+
+-- ---- parts
+abbrev pub further : RPlace → RSelector → RPlace
+further p x = roll-RPlace (record { root = (out-RPlace p).root; selectors = (out-RPlace p).selectors ++ x ∷ [] })
+
+abbrev pub part_of : Located → RSelector → ℕ → Located
+part_of p x s = record { place = further p.place x; sort = s }
+
+-- a field, by its number
+abbrev pub field_by : ℕ → Located → Option ℕ → Option Located
+field_by i p None = None
+field_by i p (Some s) = Some (part_of p (part.Field i) s)
+
+abbrev pub field_of : Table → ℕ → Option Located → Option Located
+field_of t i None = None
+field_of t i (Some p) = field_by i p (field_at t p.sort i)
+
+-- an element, by an index that may be one of the kind of the indexes
+abbrev pub element_as : Located → ℕ → Option RKind → Option RExpr → Option Located
+element_as p s (Some j) (Some x) = if sound.takes_value (kind_view j) (value_kind x) then Some (part_of p (part.Index j x) s) else None
+element_as p s _ _ = None
+
+abbrev pub element_by : Table → Found → Located → Option ArrayParts → Option Located
+element_by t a p None = None
+element_by t a p (Some parts) = element_as p parts.element (kind_at t parts.index) (typed t parts.index a)
+
+abbrev pub element_of : Table → Found → Option Located → Option Located
+element_of t a None = None
+element_of t a (Some p) = element_by t a p (array_at t p.sort)
+
+-- what a pointer points to
+abbrev pub target_by : Located → Option Target → Option Located
+target_by p None = None
+target_by p (Some x) = Some (part_of p (part.Follow x.pointer) x.sort)
+
+abbrev pub target_of : Table → Option Located → Option Located
+target_of t None = None
+target_of t (Some p) = target_by p (target_at t p.sort)
+
+-- ---- places that stand alone: the expression stack has room for the code of their addresses
+unfoldable pub near : Option Located → Option Located
+near None = None
+near (Some p) = if nat_le (place_depth (place_of p.place)) 13 then Some p else None
+
+-- a place of a kind, and its type
+abbrev pub cell_as : Located → Option RKind → Option Cell
+cell_as p None = None
+cell_as p (Some j) = Some (record { place = p.place; kind = j; sort = p.sort })
+
+abbrev pub cell_by : Table → Option Located → Option Cell
+cell_by t None = None
+cell_by t (Some p) = cell_as p (kind_at t p.sort)
+
+unfoldable pub cell : Table → Option Located → Option Cell
+cell t p = cell_by t (near p)

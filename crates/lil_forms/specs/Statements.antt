@@ -1,0 +1,250 @@
+-- The forms of statements that have no statements in them, and of what stands around those in others.
+use Rattle.std.specs.Prelude.{ℕ, ◌==◌, nat_le, ℤ, pos, int_lt, Bool, not, ◌&&◌, List, [], length, slice_get, Option, Some, None, if◌then◌else◌}
+use Rattle.std.specs.List.{list_all}
+use Rattle.lil_base.specs.Words.{Integer, in_type, is_zero}
+use Rattle.lil_types.specs.Types.{Table, boolean}
+use Rattle.lil_declared.specs.declared.declared.RVar.{RVar}
+use Rattle.lil_kinds.specs.declared.found.Form.{Form}
+use Rattle.lil_kinds.specs.declared.found.Form.TheVariants as form
+use Rattle.lil_kinds.specs.declared.found.Found.{Found}
+use Rattle.lil_kinds.specs.declared.found.Located.{Located}
+use Rattle.lil_resolved.specs.Kinds as kinds
+use Rattle.lil_resolved.specs.Kinds.{OfWhole, OfTruth, OfSet, OfPointer, Workspaces}
+use Rattle.lil_resolved.specs.Sound as sound
+use Rattle.lil_resolved.specs.Views.{base_view, kind_view}
+use Rattle.lil_resolved.specs.declared.resolved.Allocation.{Allocation}
+use Rattle.lil_resolved.specs.declared.resolved.Direction.{Direction}
+use Rattle.lil_resolved.specs.declared.resolved.Membership.{Membership}
+use Rattle.lil_resolved.specs.declared.resolved.RBase.{RBase}
+use Rattle.lil_resolved.specs.declared.resolved.RArm.{RArm, roll-RArm, out-RArm}
+use Rattle.lil_resolved.specs.declared.resolved.RExpr.{RExpr}
+use Rattle.lil_resolved.specs.declared.resolved.RExpr.TheVariants as e
+use Rattle.lil_resolved.specs.declared.resolved.RGuard.{RGuard, roll-RGuard}
+use Rattle.lil_resolved.specs.declared.resolved.RKind.{RKind}
+use Rattle.lil_resolved.specs.declared.resolved.RLabel.{RLabel}
+use Rattle.lil_resolved.specs.declared.resolved.RStmt.{RStmt}
+use Rattle.lil_resolved.specs.declared.resolved.RStmt.TheVariants as s
+use Rattle.lil_resolved.specs.declared.resolved.RVariable.{RVariable}
+use Rattle.lil_shapes.specs.declared.members.Members.{Members}
+use Rattle.lil_shapes.specs.declared.pointers.Target.{Target}
+use Rattle.lil_shapes.specs.Bases.{kind_at}
+use Rattle.lil_shapes.specs.Characters.{characters_at}
+use Rattle.lil_shapes.specs.Composites.{composite_at}
+use Rattle.lil_shapes.specs.Members.{members_at}
+use Rattle.lil_shapes.specs.Operators.{counted, has_number, base_for, same_kind}
+use Rattle.lil_shapes.specs.Pointers.{target_of}
+use Rattle.lil_forms.specs.declared.places.Cell.{Cell}
+use Rattle.lil_forms.specs.declared.control.Bounds.{Bounds}
+use Rattle.lil_forms.specs.Values.{value_kind, nil, typed, exactly, fitting, storable}
+use Rattle.lil_forms.specs.Places.{near, cell}
+use Rattle.lil_forms.specs.Operators.{entered}
+
+-- ---- assignments
+abbrev pub stored_by : Cell → Option RExpr → Option RStmt
+stored_by c None = None
+stored_by c (Some x) = Some (s.Assign c.place c.kind x)
+
+-- a value goes to a place of a kind
+abbrev pub stored : Option Cell → Option RExpr → Option RStmt
+stored None x = None
+stored (Some c) x = stored_by c (storable (kind_view c.kind) x)
+
+-- all of a place goes to another of its type
+abbrev pub copied : Located → Option Located → Option RStmt
+copied p None = None
+copied p (Some q) = if q.sort == p.sort then Some (s.Copy p.place q.place) else None
+
+-- a string goes to an array of at least as many characters
+abbrev pub written_by : Located → List ℕ → Option ℕ → Option RStmt
+written_by p cs None = None
+written_by p cs (Some n) = if nat_le (length cs) n && sound.is_text cs then Some (s.Text p.place cs) else None
+
+abbrev pub composed_by : Table → Located → Form → Option RStmt
+composed_by t p form.Nothing = None
+composed_by t p (form.Text cs) = written_by p cs (characters_at t p.sort)
+composed_by t p (form.Located q) = copied p (near (Some q))
+composed_by t p (form.Value x) = None
+
+abbrev pub composed : Table → Option Located → Form → Option RStmt
+composed t None f = None
+composed t (Some p) f = composed_by t p f
+
+abbrev pub assigned_by : Table → Located → Found → Option RStmt
+assigned_by t p v = if composite_at t p.sort then composed t (near (Some p)) v.form else stored (cell t (Some p)) (typed t p.sort v)
+
+-- a value goes to a place, by the place's type
+unfoldable pub assigned : Table → Option Located → Found → Option RStmt
+assigned t None v = None
+assigned t (Some p) v = assigned_by t p v
+
+-- ---- INC and DEC of what is compared by its number
+abbrev pub whole_of : RKind → kinds.Kind
+whole_of j = OfWhole (kinds.compared_as (base_view j.base))
+
+abbrev pub changed_by : Direction → Cell → Option RExpr → Option RStmt
+changed_by way c None = None
+changed_by way c (Some x) = if kinds.is_ordinal (base_view c.kind.base) then Some (s.Change way c.place c.kind x) else None
+
+-- by a number of the type that goes with the place
+abbrev pub changed_with : Table → Direction → Option Cell → Found → Option RStmt
+changed_with t way None v = None
+changed_with t way (Some c) v = changed_by way c (exactly (whole_of c.kind) (typed t (counted c.kind.base) v))
+
+unfoldable pub changed : Table → Direction → Option Located → Found → Option RStmt
+changed t way p v = changed_with t way (cell t p) v
+
+-- by 1
+abbrev pub one_in : RKind → RExpr
+one_in j = e.Constant (base_for (whole_of j)) (pos 1)
+
+abbrev pub changed_at : Direction → Option Cell → Option RStmt
+changed_at way None = None
+changed_at way (Some c) = changed_by way c (Some (one_in c.kind))
+
+unfoldable pub changed_by_one : Table → Direction → Option Located → Option RStmt
+changed_by_one t way p = changed_at way (cell t p)
+
+-- ---- INCL and EXCL
+abbrev pub turned_by : Membership → Members → Cell → Option RExpr → Option RStmt
+turned_by way x c None = None
+turned_by way x c (Some v) = if same_kind (kind_view c.kind) OfSet && sound.is_element (kind_view x.kind) then Some (s.Member way c.place x.kind v) else None
+
+abbrev pub turned_in : Table → Membership → Option Members → Cell → Found → Option RStmt
+turned_in t way None c v = None
+turned_in t way (Some x) c v = turned_by way x c (entered t x v)
+
+abbrev pub turned_at : Table → Membership → Option Cell → Found → Option RStmt
+turned_at t way None v = None
+turned_at t way (Some c) v = turned_in t way (members_at t c.sort) c v
+
+-- a number joins the set at a place, or leaves it
+unfoldable pub turned : Table → Membership → Option Located → Found → Option RStmt
+turned t way p v = turned_at t way (cell t p) v
+
+-- ---- NEW and DISPOSE
+abbrev pub created_as : Cell → Option Target → Option RStmt
+created_as c None = None
+created_as c (Some x) = Some (s.New c.place x.pointer)
+
+abbrev pub created_at : Table → Option Cell → Option RStmt
+created_at t None = None
+created_at t (Some c) = created_as c (target_of t (kind_view c.kind))
+
+-- a pointer gets an object
+unfoldable pub created : Table → Option Located → Option RStmt
+created t p = created_at t (cell t p)
+
+abbrev pub disposed_at : Option Cell → Option RStmt
+disposed_at None = None
+disposed_at (Some c) = stored_by c (storable (kind_view c.kind) (nil (Some c.kind.base)))
+
+-- a pointer gets NIL
+unfoldable pub disposed : Table → Option Located → Option RStmt
+disposed t p = disposed_at (cell t p)
+
+-- ---- ALLOCATE and DEALLOCATE
+abbrev pub allocated_by : Allocation → Cell → Option RExpr → Option RStmt
+allocated_by way c None = None
+allocated_by way c (Some x) = if kinds.same_pointer (kind_view c.kind) (OfPointer Workspaces) then Some (s.Allocate way c.place x) else None
+
+-- an address gets a workspace of so many words, or gives it back
+unfoldable pub allocated : Allocation → Option Cell → Option RExpr → Option RStmt
+allocated way None x = None
+allocated way (Some c) x = allocated_by way c x
+
+-- ---- conditions, and what stands behind them
+-- a truth value
+unfoldable pub condition : Table → Found → Option RExpr
+condition t a = exactly OfTruth (typed t boolean a)
+
+abbrev pub guard_of : Option RExpr → Option (List RStmt) → Option RGuard
+guard_of (Some x) (Some ss) = Some (roll-RGuard (record { condition = x; body = ss }))
+guard_of _ _ = None
+
+-- without ELSE nothing stands behind it
+abbrev pub conditional : Option (List RGuard) → Option (Option (List RStmt)) → Option RStmt
+conditional (Some gs) (Some (Some ss)) = Some (s.If gs ss)
+conditional (Some gs) (Some None) = Some (s.If gs [])
+conditional _ _ = None
+
+abbrev pub repeated_while : Option RExpr → Option (List RStmt) → Option RStmt
+repeated_while (Some x) (Some ss) = Some (s.While x ss)
+repeated_while _ _ = None
+
+abbrev pub repeated_until : Option (List RStmt) → Option RExpr → Option RStmt
+repeated_until (Some ss) (Some x) = Some (s.Repeat ss x)
+repeated_until _ _ = None
+
+abbrev pub looped : Option (List RStmt) → Option RStmt
+looped None = None
+looped (Some ss) = Some (s.Loop ss)
+
+-- ---- WITH
+-- the record of a place
+abbrev pub record_by : Table → Option Located → Option Located
+record_by t None = None
+record_by t (Some p) = if composite_at t p.sort then Some p else None
+
+unfoldable pub record_at : Table → Option Located → Option Located
+record_at t p = record_by t (near p)
+
+abbrev pub within : Option Located → Option (List RStmt) → Option RStmt
+within (Some p) (Some ss) = Some (s.With p.place ss)
+within _ _ = None
+
+-- ---- CASE
+-- a label isn't empty, and its ends are numbers of values of the base
+abbrev pub label_fits : RBase → RLabel → Bool
+label_fits k l = not (int_lt l.high l.low) && (has_number k l.low && has_number k l.high)
+
+abbrev pub arm_fits : RBase → RArm → Bool
+arm_fits k a = list_all (label_fits k) (out-RArm a).labels
+
+abbrev pub arm_of : List RLabel → Option (List RStmt) → Option RArm
+arm_of ls None = None
+arm_of ls (Some ss) = Some (roll-RArm (record { labels = ls; body = ss }))
+
+abbrev pub selected_by : RExpr → List RArm → Option (List RStmt) → Option RStmt
+selected_by x arms other = if list_all (arm_fits (base_for (value_kind x))) arms then Some (s.Case x arms other) else None
+
+unfoldable pub selected : Option RExpr → Option (List RArm) → Option (Option (List RStmt)) → Option RStmt
+selected (Some x) (Some arms) (Some other) = selected_by x arms other
+selected _ _ _ = None
+
+-- ---- FOR
+abbrev pub counter_by : ℕ → Option RKind → Option RVariable
+counter_by n None = None
+counter_by n (Some j) = if kinds.is_ordinal (base_view j.base) then Some (record { number = n; kind = j }) else None
+
+abbrev pub counter_in : Table → ℕ → Option RVar → Option RVariable
+counter_in t n None = None
+counter_in t n (Some v) = counter_by n (kind_at t v.sort)
+
+-- a variable of the module, by its number, whose values are compared by their numbers
+unfoldable pub counter : Table → List RVar → ℕ → Option RVariable
+counter t vs n = counter_in t n (slice_get vs n)
+
+-- its first value may be stored in it, and its last is of its base
+abbrev pub start_of : Option RVariable → Option RExpr → Option RExpr
+start_of None x = None
+start_of (Some v) x = fitting (kind_view v.kind) x
+
+abbrev pub limit_of : Option RVariable → Option RExpr → Option RExpr
+limit_of None x = None
+limit_of (Some v) x = exactly (base_view v.kind.base) x
+
+abbrev pub bounds_of : Option RVariable → Option RExpr → Option RExpr → Option Bounds
+bounds_of (Some v) (Some a) (Some c) = Some (record { variable = v; from = a; to = c })
+bounds_of _ _ _ = None
+
+-- a step isn't zero, and is an INTEGER
+abbrev pub is_step : ℤ → Bool
+is_step z = not (is_zero z) && in_type Integer z
+
+abbrev pub counted_by : Bounds → ℤ → Option (List RStmt) → Option RStmt
+counted_by x z None = None
+counted_by x z (Some ss) = if is_step z then Some (s.For x.variable x.from x.to z ss) else None
+
+abbrev pub counted_with : Option Bounds → ℤ → Option (List RStmt) → Option RStmt
+counted_with None z ss = None
+counted_with (Some x) z ss = counted_by x z ss

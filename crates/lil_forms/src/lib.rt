@@ -1,0 +1,24 @@
+//! What phrases become of which code is made: places, values and statements, from what is known of their parts.
+#![tactic(auto)]
+
+mod arguments;
+mod control;
+mod operators;
+mod places;
+mod sets;
+mod statements;
+mod values;
+
+pub use arguments::{Handed, called, handed_over, located_in, nothing_handed};
+pub use control::{
+    Bounds, arm_of, bounds_of, condition, conditional, counted_with, counter, guard_of, limit_of,
+    looped, record_at, repeated_until, repeated_while, selected, start_of, within,
+};
+pub use operators::{
+    Built, applied, begun, chain_form, function_by, one_of, operated, set_form, single_by, span_by,
+    value_form,
+};
+pub use places::{Cell, cell_at, element_of, field_of, held_at, near, target_of, variable_at};
+pub use sets::{allocated, turned};
+pub use statements::{assigned, changed, changed_by_one, created, disposed};
+pub use values::{exactly, fitting, ordinal, storable, typed, typed_by};

@@ -1,4 +1,0 @@
-pub mod Branches
-pub mod Calls
-pub mod Lowered
-pub mod Parts
