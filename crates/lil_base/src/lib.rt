@@ -30,7 +30,7 @@ pub use sets::{set_either, set_has, set_meet, set_minus, set_span, set_union, se
 pub use shared::Shared;
 pub use words::{
     abs_int, add_card, add_int, div_card, div_int, mod_card, mod_int, mul_card, mul_int, neg_int,
-    sub_card, sub_int,
+    sub_card, sub_int, whole_product, whole_quotient, whole_rest,
 };
 
 /// A list of bytes.

@@ -1,5 +1,5 @@
-ghost use Rattle.std.specs.Prelude.{◌≡◌, pos};
-ghost use Rattle.lil_base.specs.Words.{Cardinal, Integer, kept, sum, difference, product, quotient, remainder, negation, absolute, cardinal_result};
+ghost use Rattle.std.specs.Prelude.{◌≡◌, ◌*ℤ◌, pos, false};
+ghost use Rattle.lil_base.specs.Words.{Cardinal, Integer, kept, sum, difference, product, quotient, remainder, negation, absolute, cardinal_result, is_zero, whole_quotient as spec_quotient, whole_rest as spec_rest};
 
 use crate::ArithFault;
 
@@ -21,6 +21,29 @@ fn integer(whole: i64) -> Result<i16, ArithFault>
         return Err(ArithFault::Overflow);
     }
     Ok(whole as i16)
+}
+
+/// The product of two whole numbers.
+pub fn whole_product(a: i32, b: i32) -> i64
+    ensures { result ≡ (a *ℤ b) }
+{
+    i64::from(a) * i64::from(b)
+}
+
+/// The quotient of two whole numbers, rounded toward zero.
+pub fn whole_quotient(a: i32, b: i32) -> i64
+    requires { is_zero b ≡ false }
+    ensures { result ≡ spec_quotient a b }
+{
+    i64::from(a) / i64::from(b)
+}
+
+/// What the quotient of two whole numbers leaves. It has the sign of the dividend.
+pub fn whole_rest(a: i32, b: i32) -> i64
+    requires { is_zero b ≡ false }
+    ensures { result ≡ spec_rest a b }
+{
+    i64::from(a) % i64::from(b)
 }
 
 /// The sum of two CARDINALs.
@@ -82,7 +105,7 @@ pub fn sub_int(a: i16, b: i16) -> Result<i16, ArithFault>
 pub fn mul_int(a: i16, b: i16) -> Result<i16, ArithFault>
     ensures { result ≡ product Integer a b }
 {
-    integer(i64::from(a) * i64::from(b))
+    integer(whole_product(i32::from(a), i32::from(b)))
 }
 
 /// The quotient of two INTEGERs, rounded toward zero.
@@ -92,17 +115,17 @@ pub fn div_int(a: i16, b: i16) -> Result<i16, ArithFault>
     if b == 0 {
         return Err(ArithFault::DivZero);
     }
-    integer(i64::from(a) / i64::from(b))
+    integer(whole_quotient(i32::from(a), i32::from(b)))
 }
 
-/// What the quotient of two INTEGERs leaves. It has the sign of the dividend.
+/// What the quotient of two INTEGERs leaves.
 pub fn mod_int(a: i16, b: i16) -> Result<i16, ArithFault>
     ensures { result ≡ remainder Integer a b }
 {
     if b == 0 {
         return Err(ArithFault::DivZero);
     }
-    integer(i64::from(a) % i64::from(b))
+    integer(whole_rest(i32::from(a), i32::from(b)))
 }
 
 /// An INTEGER with the other sign.

@@ -1,12 +1,12 @@
 ghost use Rattle.std.specs.Prelude.{◌≡◌, ◌||◌, not, int_lt, ◌*ℤ◌, Err, Option, Some, None};
-ghost use Rattle.lil_base.specs.Words.{whole_quotient, whole_rest};
+ghost use Rattle.lil_base.specs.Words as words;
 ghost use Rattle.lil_types.specs.Folding as spec;
 
 use crate::relations::{base, compatible, entry, same};
 use crate::table::{
     BITSET, BOOLEAN, CARDINAL, CHAR, Const, FoldStop, INTEGER, TypeForm, TypeId, TypeTable,
 };
-use lil_base::{OneOp, TwoOp, set_has};
+use lil_base::{OneOp, TwoOp, set_has, whole_product, whole_quotient, whole_rest};
 
 /// Operands that the operator doesn't take.
 const OPERANDS: FoldStop = FoldStop::Fault(30);
@@ -29,28 +29,22 @@ fn whole(v: i64) -> Result<Const, FoldStop>
     Ok(Const::Whole(v as i32))
 }
 
-fn product(m: i32, n: i32) -> i64
-    ensures { result ≡ (m *ℤ n) }
-{
-    i64::from(m) * i64::from(n)
-}
-
 fn quotient(m: i32, n: i32) -> Result<Const, FoldStop>
-    ensures { spec.folded_as result ≡ spec.divided n (whole_quotient m n) }
+    ensures { spec.folded_as result ≡ spec.divided n (words.whole_quotient m n) }
 {
     if n == 0 {
         return Err(ARITHMETIC);
     }
-    whole(i64::from(m) / i64::from(n))
+    whole(whole_quotient(m, n))
 }
 
 fn rest(m: i32, n: i32) -> Result<Const, FoldStop>
-    ensures { spec.folded_as result ≡ spec.divided n (whole_rest m n) }
+    ensures { spec.folded_as result ≡ spec.divided n (words.whole_rest m n) }
 {
     if n == 0 {
         return Err(ARITHMETIC);
     }
-    whole(i64::from(m) % i64::from(n))
+    whole(whole_rest(m, n))
 }
 
 fn equal(m: i32, n: i32) -> bool
@@ -65,7 +59,7 @@ fn wholes(op: TwoOp, m: i32, n: i32) -> Result<Const, FoldStop>
     match op {
         TwoOp::Plus => whole(i64::from(m) + i64::from(n)),
         TwoOp::Minus => whole(i64::from(m) - i64::from(n)),
-        TwoOp::Times => whole(product(m, n)),
+        TwoOp::Times => whole(whole_product(m, n)),
         TwoOp::Div => quotient(m, n),
         TwoOp::Mod => rest(m, n),
         TwoOp::Equal => truth(equal(m, n)),
