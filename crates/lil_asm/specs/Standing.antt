@@ -1,9 +1,9 @@
 -- The bytes of an instruction decode to it, wherever they stand.
-use Rattle.std.proofs.Common.{◌≡◌, ℕ, zero, suc, ◌+◌, ◌-◌, ◌*◌, ◌/◌, ◌%◌, ◌<◌, ◌≤◌, Option, Some, List, [], ◌∷◌, ◌++◌, length, refl, ap, ◌∙◌, subst, arith, append_assoc, length-append}
+use Rattle.std.proofs.Common.{◌≡◌, ℕ, ◌+◌, ◌-◌, ◌*◌, ◌/◌, ◌%◌, ◌<◌, ◌≤◌, Option, Some, List, [], ◌∷◌, ◌++◌, length, refl, ap, ◌∙◌, subst, arith, append_assoc, length-append}
 use Rattle.std.specs.Prelude.{slice_get, option_and_then}
 use Rattle.std.proofs.Math.Seq.{get_or-append_seam}
 use Rattle.std.proofs.lemmas.Bool.{le-leb}
-use Rattle.std.proofs.lemmas.Option.{slice_get-get_or, slice_get_within}
+use Rattle.std.proofs.lemmas.Option.{slice_get-get_or}
 use Rattle.lil_asm.specs.Bytes.{word_at, with_byte, with_word, with_two_words, with_byte_word, with_call, with_entries, with_loop, row, row_of_digit, row_0, row_2, row_3, row_4, row_5, row_6, row_7, decoded, bytes_of, entry_bytes, Sayable}
 use Rattle.lil_asm.specs.declared.instr.Instr.{Instr}
 use Rattle.lil_asm.specs.declared.instr.Instr.TheVariants.{Liw, Lib, Dup, Drp, Swp, Lis, Llw, Llb, Slw, Slb, Lgw, Lgb, Sgw, Sgb, Lew, Sew, Lnw, Snw, Lal, Lag, Lae, Lan, Ldi, Sti, Ldf, Adf, Mov, Mvz, Nlt, Ixc, Ixo, Rgc, Rgi, Cap, Adc, Sbc, Mlc, Dvc, Mdc, Adi, Sbi, Mli, Dvi, Mdi, Ngi, Abi, Uni, Dif, Its, Sym, Sin, Spn, Icl, Ecl, Sle, Not, Equ, Neq, Lsc, Lec, Lsi, Lei, Sav, Mrk, Mrf, Psh, Psm, Cll, Clx, Clf, Ent, Cpy, Rtn, Rst, Jmp, Jpf, Jan, Jor, Jms, Jfs, Cas, Fri, Frn, Trp, Alc, Npr, Trf, Svc}
@@ -29,25 +29,6 @@ pub has_in : (bytes code final : List ℕ) (p : ℕ) → HasBytes code p bytes �
 has_in [] code final p h a = tt
 has_in (b ∷ bytes) code final p h a =
     (a p (omega arith) (omega arith) ∙ h.0, has_in bytes code final (p + 1) h.1 (λ i from to. a i (omega arith) (omega arith)))
-
-get_some : (code : List ℕ) (i : ℕ) → i < length code → (b : ℕ) × (slice_get code i ≡ Some b)
-get_some [] i h = absurd (omega arith)
-get_some (b ∷ code) zero h = (b, refl)
-get_some (b ∷ code) (suc i) h = get_some code i (omega arith)
-
--- a code keeps its bytes when more come behind them
-pub get_before : (old more : List ℕ) (i : ℕ) → i < length old → slice_get (old ++ more) i ≡ slice_get old i
-get_before [] more i h = absurd (omega arith)
-get_before (b ∷ old) more zero h = refl
-get_before (b ∷ old) more (suc i) h = get_before old more i (omega arith)
-
--- a code that agrees on places that are in another has them too
-pub as_long : (code final : List ℕ) (p q : ℕ) → p < q → q ≤ length code → ((i : ℕ) → p ≤ i → i < q → slice_get final i ≡ slice_get code i) → q ≤ length final
-as_long code final p q some room a =
-    let last : ℕ = q - 1 in
-    let here = get_some code last (omega arith) in
-    let there : last < length final = slice_get_within final last here.0 (a last (omega arith) (omega arith) ∙ here.1) in
-    omega arith
 
 -- the same byte at a place that is written otherwise
 moved : (code : List ℕ) (p q b : ℕ) → p ≡ q → slice_get code p ≡ Some b → slice_get code q ≡ Some b

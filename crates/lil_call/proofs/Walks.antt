@@ -1,5 +1,5 @@
 -- Walks whose list is used up.
-use Rattle.std.proofs.Common.{◌≡◌, List, [], ◌∷◌, Option, refl, subst, ap, sym, ◌∙◌}
+use Rattle.std.proofs.Common.{◌≡◌, List, [], ◌∷◌, Option, subst, ap, sym, ◌∙◌}
 use Rattle.lil_report.specs.declared.report.Fault.{Fault}
 use Rattle.lil_report.specs.Told.{Row, tell, after, Said, walk}
 use Rattle.lil_report.specs.Laws.{tell_append}
@@ -10,9 +10,6 @@ pub record Ahead {S X : Type 0} (f : S → X → S × List Row) (a : S) (xs : Li
   pub told : tell r (walk f a xs).1 ≡ tell s (walk f b ys).1
 
 module _ {S X : Type 0} (f : S → X → S × List Row) where
-  pub ahead_start : (a : S) (xs : List X) (r : Option Fault) → Ahead f a xs r a xs r
-  ahead_start a xs r = record { value = refl; told = refl }
-
   step : (b : S) (y : X) (zs : List X) (s : Option Fault) (c : S) (u : Option Fault) → Said (f b y) s c u → Ahead f b (y ∷ zs) s c zs u
   unfolding after
   step b y zs s c u h = record {

@@ -8,7 +8,7 @@ use Rattle.lil_declared.specs.declared.declared.RVar.{RVar}
 use Rattle.lil_declared.specs.declared.standard.Resident.{Resident}
 use Rattle.lil_declared.specs.declared.standard.Standard.{Standard}
 use Rattle.lil_declared.specs.declared.standard.Standard.TheVariants.{Dec, Excl, Halt, Inc, Incl, New, Dispose}
-use Rattle.lil_resolved.specs.Shapes.{Scope}
+use Rattle.lil_resolved.specs.Kinds.{Scope}
 use Rattle.lil_resolved.specs.declared.resolved.Direction.TheVariants.{Up, Down}
 use Rattle.lil_resolved.specs.declared.resolved.Membership.TheVariants.{Joins, Leaves}
 use Rattle.lil_resolved.specs.declared.resolved.RStmt.{RStmt}
@@ -25,15 +25,13 @@ use Rattle.lil_kinds.specs.declared.found.Form.{Form}
 use Rattle.lil_kinds.specs.declared.found.Form.TheVariants as form
 use Rattle.lil_kinds.specs.declared.found.Found.{Found}
 use Rattle.lil_kinds.specs.declared.found.Located.{Located}
-use Rattle.lil_forms.specs.Values.{typed}
-use Rattle.lil_forms.specs.Operators.{applied, function_by}
-use Rattle.lil_forms.specs.Arguments.{located_in}
+use Rattle.lil_forms.specs.Values.{typed, applied, function_by}
+use Rattle.lil_forms.specs.Statements.{located_in}
 use Rattle.lil_forms.specs.FoundSound.{Fits, IsPlaced, FormSound, FoundSound}
 use Rattle.lil_forms.specs.ValueSound.{typed_sound}
-use Rattle.lil_forms.specs.OperatorSound as operators
-use Rattle.lil_forms.specs.StatementSound.{StatementSound, changed_sound, changed_by_one_sound, turned_sound, created_sound, disposed_sound}
+use Rattle.lil_forms.specs.ValueSound as operators
+use Rattle.lil_forms.specs.StatementSound.{StatementSound, changed_sound, changed_by_one_sound, turned_sound, created_sound, disposed_sound, HandedSound, nothing_sound, located_sound, handed_sound, called_sound}
 use Rattle.lil_forms.specs.ControlSound.{halt_sound}
-use Rattle.lil_forms.specs.ArgumentSound.{HandedSound, nothing_sound, located_sound, handed_sound, called_sound}
 use Rattle.lil_call.specs.declared.call.Argument.{Argument}
 use Rattle.lil_call.specs.declared.call.Argument.TheVariants as argument
 use Rattle.lil_call.specs.declared.call.Callee.{Callee}
@@ -41,8 +39,7 @@ use Rattle.lil_call.specs.declared.call.Callee.TheVariants as callee
 use Rattle.lil_call.specs.declared.passing.Passed.{Passed}
 use Rattle.lil_call.specs.declared.routines.Invoked.{Invoked}
 use Rattle.lil_call.specs.Passing.{all_have_values, nothing_passed, argument_node, argument_by, argument_step, arguments_mean}
-use Rattle.lil_call.specs.Functions.{is_extreme, standard_node, function_form, kept_form, applied_value, applied_node, no_value, no_type, of_type, of_value, of_one, ordinal_node, converted, converted_if, of_two, of_all, function_if, function_mean}
-use Rattle.lil_call.specs.Procedures.{variable_node, operand_node, deep_node, done_if, variable_statement, operand_statement, no_argument, with_variable, with_operand, by_one, by_two, by_all, procedure_if, procedure_mean}
+use Rattle.lil_call.specs.Procedures.{is_extreme, standard_node, function_form, kept_form, applied_value, applied_node, no_value, no_type, of_type, of_value, of_one, ordinal_node, converted, converted_if, of_two, of_all, function_if, function_mean, variable_node, operand_node, deep_node, done_if, variable_statement, operand_statement, no_argument, with_variable, with_operand, by_one, by_two, by_all, procedure_if, procedure_mean}
 use Rattle.lil_call.specs.Calls.{heading_node, depth_node, passed_if, routine_mean, call_found, routine_value, call_of, call_statement, routine_statement, no_call, of_procedure, of_variable, of_resident, value_of, statement_of, call_node, statement_node}
 
 module _ {t : Table} {vs : List RVar} {around : List ℕ} {ts : Scope} (fits : Fits t vs around ts) where

@@ -11,7 +11,7 @@ use Rattle.lil_kinds.specs.Forms.{is_routine, arity, result}
 use Rattle.lil_kinds.specs.declared.found.Form.TheVariants as form
 use Rattle.lil_kinds.specs.declared.found.Found.{Found}
 use Rattle.lil_kinds.specs.declared.found.Standing.TheVariants as standing
-use Rattle.lil_forms.specs.Arguments.{called}
+use Rattle.lil_forms.specs.Statements.{called}
 use Rattle.lil_forms.specs.declared.arguments.Handed.{Handed}
 use Rattle.lil_call.specs.declared.call.Callee.{Callee}
 use Rattle.lil_call.specs.declared.call.Callee.TheVariants as callee
@@ -19,8 +19,7 @@ use Rattle.lil_call.specs.declared.call.Argument.{Argument}
 use Rattle.lil_call.specs.declared.passing.Passed.{Passed}
 use Rattle.lil_call.specs.declared.routines.Invoked.{Invoked}
 use Rattle.lil_call.specs.Passing.{all_have_values, nothing_passed, arguments_mean}
-use Rattle.lil_call.specs.Functions.{agrees, function_mean}
-use Rattle.lil_call.specs.Procedures.{procedure_mean}
+use Rattle.lil_call.specs.Procedures.{agrees, function_mean, procedure_mean}
 
 -- ---- calls of procedures
 -- where a value is wanted a function is called, else a proper procedure

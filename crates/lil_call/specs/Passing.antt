@@ -12,7 +12,7 @@ use Rattle.lil_kinds.specs.declared.forms.ArrayParts.{ArrayParts}
 use Rattle.lil_kinds.specs.declared.found.Found.{Found}
 use Rattle.lil_kinds.specs.declared.found.Standing.{Standing}
 use Rattle.lil_kinds.specs.declared.found.Standing.TheVariants.{Variable}
-use Rattle.lil_forms.specs.Arguments.{nothing_handed, handed_over}
+use Rattle.lil_forms.specs.Statements.{nothing_handed, handed_over}
 use Rattle.lil_call.specs.declared.call.Argument.{Argument}
 use Rattle.lil_call.specs.declared.call.Argument.TheVariants as argument
 use Rattle.lil_call.specs.declared.passing.Passed.{Passed}

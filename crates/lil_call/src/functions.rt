@@ -1,6 +1,6 @@
 ghost use Rattle.std.specs.Prelude.{◌≡◌, IfOk};
 ghost use Rattle.lil_report.specs.Told.{Said, after};
-ghost use Rattle.lil_call.specs.Functions as spec;
+ghost use Rattle.lil_call.specs.Procedures as spec;
 
 use crate::call::Argument;
 use lil_base::{FaultKind, Items, Memory, Place};
@@ -58,7 +58,7 @@ pub(crate) fn agrees(wanted: bool, is: bool) -> bool
 }
 
 /// Whether a standard procedure may be called here, with so many arguments.
-#[tactic(auto, unfolding(crate::specs::Functions::standard_node, lil_report::specs::Told::tell))]
+#[tactic(auto, unfolding(crate::specs::Procedures::standard_node, lil_report::specs::Told::tell))]
 pub(crate) fn standard(
     report: &mut Report,
     first: Place,
@@ -147,7 +147,7 @@ fn lies_outside(a: Applied) -> bool
 }
 
 /// What a function makes of its argument.
-#[tactic(auto, unfolding(crate::specs::Functions::applied_node, lil_report::specs::Told::tell))]
+#[tactic(auto, unfolding(crate::specs::Procedures::applied_node, lil_report::specs::Told::tell))]
 fn made(
     report: &mut Report,
     first: Place,
@@ -164,7 +164,7 @@ fn made(
 }
 
 /// A type's name where a value is needed.
-#[tactic(auto, unfolding(crate::specs::Functions::no_value, lil_report::specs::Told::tell))]
+#[tactic(auto, unfolding(crate::specs::Procedures::no_value, lil_report::specs::Told::tell))]
 pub(crate) fn no_value<T>(report: &mut Report, at: Place) -> Option<T>
     ensures { Said (spec.no_value {A = T} at) report.old result report.new }
 {
@@ -173,7 +173,7 @@ pub(crate) fn no_value<T>(report: &mut Report, at: Place) -> Option<T>
 }
 
 /// A value where a type's name is needed.
-#[tactic(auto, unfolding(crate::specs::Functions::no_type, lil_report::specs::Told::tell))]
+#[tactic(auto, unfolding(crate::specs::Procedures::no_type, lil_report::specs::Told::tell))]
 fn no_type(report: &mut Report, at: Place) -> Option<Found>
     ensures { Said (spec.no_type at) report.old result report.new }
 {
@@ -240,7 +240,7 @@ fn of_one(
     }
 }
 
-#[tactic(auto, unfolding(crate::specs::Functions::ordinal_node, lil_report::specs::Told::tell))]
+#[tactic(auto, unfolding(crate::specs::Procedures::ordinal_node, lil_report::specs::Told::tell))]
 fn ordinal(t: &TypeTable, report: &mut Report, at: Place, sort: TypeId) -> bool
     ensures { Said (spec.ordinal_node t.now at sort) report.old result report.new }
 {

@@ -1,5 +1,5 @@
 -- What each form of declaration means, from what its parts mean.
-use Rattle.std.proofs.Common.{◌≡◌, ℕ, List, [], Option, Some, None, length, map, subst, sym, ap, ◌∙◌}
+use Rattle.std.proofs.Common.{◌≡◌, ℕ, List, Option, Some, None, length, subst, sym, ap, ◌∙◌}
 use Rattle.lil_base.specs.declared.fault.Place.{Place}
 use Rattle.lil_text.specs.declared.tree.Ident.{Ident}
 use Rattle.lil_text.specs.declared.tree.Qualident.{Qualident}
@@ -12,7 +12,7 @@ use Rattle.lil_language.specs.declared.unit.Decl.{Decl}
 use Rattle.lil_language.specs.declared.unit.Decl.TheVariants as d
 use Rattle.lil_language.specs.declared.unit.Block.{Block, out-Block}
 use Rattle.lil_language.specs.declared.unit.Decl.TheOpen as o
-use Rattle.lil_language.specs.declared.unit.Decl.TheOpen.{Decl-F, Block-F}
+use Rattle.lil_language.specs.declared.unit.Decl.TheOpen.{Decl-F}
 use Rattle.lil_language.specs.declared.unit.Decl.TheFolds.{map-Decl, fold-Block, fold-roll-Decl, fold_out-Block}
 use Rattle.lil_language.specs.declared.unit.Decl.TheViews.{roll-Decl}
 use Rattle.lil_report.specs.declared.report.Fault.{Fault}
@@ -23,13 +23,13 @@ use Rattle.lil_scope.specs.declared.env.Env.{Env}
 use Rattle.lil_scope.specs.declared.env.Wait.{Wait}
 use Rattle.lil_scope.specs.Names.{bind, inside, outside}
 use Rattle.lil_check_value.specs.Looks.{type_named}
-use Rattle.lil_check_type.specs.Made.{Made, type_node}
+use Rattle.lil_check_type.specs.Made.{Made}
 use Rattle.lil_check_type.specs.Sorts.{sort_means}
 use Rattle.lil_check_decl.specs.declared.home.Home.{Home}
 use Rattle.lil_check_decl.specs.declared.decl.Around.{Around}
 use Rattle.lil_check_decl.specs.Constants.{constant_step}
 use Rattle.lil_check_decl.specs.Headings.{here, variable_step, heading_means}
-use Rattle.lil_check_decl.specs.Decls.{form_means, type_thing, type_step, variables_step, bare, pointing, wait_step, settled, procedure_means, routine_means, decl_layer, block_layer, decl_means, decl_step, decls_mean, around, back}
+use Rattle.lil_check_decl.specs.Decls.{form_means, type_thing, type_step, variables_step, bare, pointing, wait_step, settled, procedure_means, decl_layer, block_layer, decl_means, decl_step, decls_mean, around, back}
 
 pub block_means : Block → Env → Env × List Row
 block_means = fold-Block (Env → Env × List Row) (Env → Env × List Row) decl_layer block_layer

@@ -1,5 +1,5 @@
 -- What constants, variables and headings mean, from what their parts mean.
-use Rattle.std.proofs.Common.{◌≡◌, ℕ, Bool, true, List, [], Option, Some, None, length, subst, sym, ap, ◌∙◌}
+use Rattle.std.proofs.Common.{◌≡◌, ℕ, true, List, Option, length, subst}
 use Rattle.lil_base.specs.declared.fault.FaultKind.TheVariants.{NotBuilt}
 use Rattle.lil_text.specs.declared.tree.Ident.{Ident}
 use Rattle.lil_language.specs.declared.unit.Constant.{Constant}
@@ -7,22 +7,21 @@ use Rattle.lil_language.specs.declared.unit.Section.{Section}
 use Rattle.lil_language.specs.declared.unit.Heading.{Heading}
 use Rattle.lil_types.specs.declared.table.TypeForm.{TypeForm}
 use Rattle.lil_report.specs.declared.report.Fault.{Fault}
-use Rattle.lil_report.specs.Told.{Row, row, noted, after, walk, Said}
-use Rattle.lil_report.specs.Laws.{said_as, said_to, said_after, said_map}
+use Rattle.lil_report.specs.Told.{row, noted, walk, Said}
+use Rattle.lil_report.specs.Laws.{said_to, said_after, said_map}
 use Rattle.lil_scope.specs.declared.thing.Thing.{Thing}
 use Rattle.lil_scope.specs.declared.env.Env.{Env}
 use Rattle.lil_scope.specs.Names.{bind, bind_at, with_block}
 use Rattle.lil_kinds.specs.declared.found.Found.{Found}
-use Rattle.lil_check_value.specs.Looks.{type_named}
-use Rattle.lil_check_value.specs.Unbuilt.{said_not_built}
+use Rattle.lil_check_value.specs.Looks.{type_named, said_not_built}
 use Rattle.lil_check_value.specs.Values.{means}
 use Rattle.lil_check_type.specs.declared.named.NamedType.{NamedType}
 use Rattle.lil_check_type.specs.declared.routines.Parameters.{Parameters}
 use Rattle.lil_check_type.specs.Made.{Made, form_node}
-use Rattle.lil_check_type.specs.Routines.{no_parameters, with_parameter, result_means, procedure_form}
+use Rattle.lil_check_type.specs.Records.{no_parameters, with_parameter, result_means, procedure_form}
 use Rattle.lil_check_decl.specs.declared.home.Home.{Home}
 use Rattle.lil_check_decl.specs.Constants.{Meant, constant_node, constant_step}
-use Rattle.lil_check_decl.specs.Headings.{variable_thing, with_variable, variable_step, section_home, Headed, parameter_step, section_step, home_at, procedure_thing, numbered_node, named_means, sections_mean, heading_type, heading_means}
+use Rattle.lil_check_decl.specs.Headings.{variable_thing, with_variable, variable_step, section_home, Headed, parameter_step, section_step, home_at, procedure_thing, numbered_node, named_means, heading_type, heading_means}
 
 module _ (e : Env) {r : Option Fault} where
   pub is_constant : (c : Constant) {o : Option Found} {m : Meant} {f : Env} {s t u : Option Fault} → Said (means e c.value) r o t → Said (constant_node e o) t m u → Said (bind m.0 c.name m.1) u f s → Said (constant_step e c) r f s

@@ -2,7 +2,7 @@
 use Rattle.std.specs.Prelude.{ℕ, length, not, List, [], ◌∷◌, ◌++◌, Option, Some, None, if◌then◌else◌}
 use Rattle.lil_base.specs.declared.fault.FaultKind.TheVariants.{NotConst}
 use Rattle.lil_language.specs.declared.unit.Constant.{Constant}
-use Rattle.lil_report.specs.Told.{Row, row, after, walk}
+use Rattle.lil_report.specs.Told.{Row, row, after}
 use Rattle.lil_scope.specs.declared.thing.Chars.{Chars}
 use Rattle.lil_scope.specs.declared.thing.Kind.{Kind}
 use Rattle.lil_scope.specs.declared.thing.Kind.TheVariants as k

@@ -1,5 +1,5 @@
 -- What declarations mean: what is declared behind them, and the tests of their nodes.
-use Rattle.std.specs.Prelude.{ℕ, length, List, [], ◌∷◌, Option, Some, None}
+use Rattle.std.specs.Prelude.{ℕ, length, List, [], Option, Some, None}
 use Rattle.lil_text.specs.declared.tree.Ident.{Ident}
 use Rattle.lil_text.specs.declared.tree.Qualident.{Qualident}
 use Rattle.lil_language.specs.declared.unit.Sort.{Sort}

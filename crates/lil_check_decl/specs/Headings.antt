@@ -11,12 +11,10 @@ use Rattle.lil_scope.specs.declared.thing.Thing.{Thing}
 use Rattle.lil_scope.specs.declared.thing.Thing.TheVariants as t
 use Rattle.lil_scope.specs.declared.env.Env.{Env}
 use Rattle.lil_scope.specs.Names.{bind, bind_at, with_block, level}
-use Rattle.lil_check_value.specs.Looks.{type_named}
-use Rattle.lil_check_value.specs.Unbuilt.{not_built}
+use Rattle.lil_check_value.specs.Looks.{type_named, not_built}
 use Rattle.lil_check_type.specs.declared.routines.Parameters.{Parameters}
 use Rattle.lil_check_type.specs.Made.{Made, form_node}
-use Rattle.lil_check_type.specs.Records.{sort_or}
-use Rattle.lil_check_type.specs.Routines.{no_parameters, with_parameter, result_means, procedure_form}
+use Rattle.lil_check_type.specs.Records.{sort_or, no_parameters, with_parameter, result_means, procedure_form}
 use Rattle.lil_check_decl.specs.declared.home.Home.{Home}
 
 -- ---- variables, by their number

@@ -1,7 +1,7 @@
 ghost use Rattle.std.specs.Prelude.{◌≡◌, length, IfOk};
 ghost use Rattle.lil_report.specs.Told.{Said, walk};
 ghost use Rattle.lil_scope.specs.Names as names;
-ghost use Rattle.lil_check_type.specs.Routines.{no_parameters};
+ghost use Rattle.lil_check_type.specs.Records.{no_parameters};
 ghost use Rattle.lil_check_decl.specs.Headings as spec;
 
 use crate::home::Home;

@@ -1,3 +1,2 @@
 pub mod Forms
 pub mod Nesting
-pub mod Parts

@@ -10,7 +10,7 @@ use Rattle.lil_language.specs.declared.unit.Variables.{Variables}
 use Rattle.lil_language.specs.declared.unit.Decl.{Decl}
 use Rattle.lil_language.specs.declared.unit.Decl.TheVariants as d
 use Rattle.lil_language.specs.declared.unit.Decl.TheOpen as layer
-use Rattle.lil_language.specs.declared.unit.Decl.TheOpen.{Decl-F, Block-F}
+use Rattle.lil_language.specs.declared.unit.Decl.TheOpen.{Decl-F}
 use Rattle.lil_language.specs.declared.unit.Decl.TheFolds.{map-Decl, fold-Block, fold-roll-Decl, fold-roll-Block}
 use Rattle.lil_language.specs.declared.unit.Decl.TheViews.{roll-Decl}
 use Rattle.lil_resolved.specs.declared.resolved.RStmt.{RStmt}

@@ -3,5 +3,7 @@ pub mod Labels
 pub mod Counting
 pub mod Statements
 pub mod Stmts
+pub mod Induction
 pub mod Whole
+pub mod WholeLaws
 pub mod StatementSound

@@ -13,8 +13,7 @@ use Rattle.lil_kinds.specs.declared.found.Found.{Found}
 use Rattle.lil_kinds.specs.declared.found.Located.{Located}
 use Rattle.lil_kinds.specs.Forms.{is_record}
 use Rattle.lil_kinds.specs.Kinds.{assignable, misses, is_ordinal}
-use Rattle.lil_forms.specs.Arguments.{located_in}
-use Rattle.lil_forms.specs.Statements.{assigned, condition, record_at}
+use Rattle.lil_forms.specs.Statements.{located_in, assigned, condition, record_at}
 use Rattle.lil_check_stmt.specs.declared.nodes.Opened.{Opened}
 
 -- no test finds anything wrong

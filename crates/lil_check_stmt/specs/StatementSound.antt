@@ -3,19 +3,17 @@ use Rattle.std.proofs.Common.{◌≡◌, ℕ, ℤ, Bool, true, false, List, [], 
 use Rattle.std.specs.Prelude.{◌==◌}
 use Rattle.lil_base.specs.declared.fault.Place.{Place}
 use Rattle.lil_language.specs.declared.tree.Expr.{Expr}
-use Rattle.lil_language.specs.declared.tree.Designator.{Designator}
 use Rattle.lil_language.specs.declared.tree.ForHead.{ForHead}
 use Rattle.lil_language.specs.declared.tree.Arm.{Arm, roll-Arm}
 use Rattle.lil_language.specs.declared.tree.Guard.{Guard, roll-Guard}
 use Rattle.lil_language.specs.declared.tree.Stmt.{Stmt}
 use Rattle.lil_language.specs.declared.tree.Stmt.TheOpen as s
 use Rattle.lil_language.specs.declared.tree.Stmt.TheOpen.{Stmt-F, Arm-F, Guard-F}
-use Rattle.lil_language.specs.declared.tree.Stmt.TheFolds.{map-Stmt, map-Arm, map-Guard, ind-Stmt, fold-roll-Stmt, fold-roll-Arm, fold-roll-Guard}
 use Rattle.lil_language.specs.declared.tree.Stmt.TheViews.{roll-Stmt}
 use Rattle.lil_types.specs.Types.{Table}
 use Rattle.lil_declared.specs.declared.declared.RVar.{RVar}
 use Rattle.lil_resolved.specs.Resolved.{shape_of}
-use Rattle.lil_resolved.specs.Shapes.{Scope, with_held}
+use Rattle.lil_resolved.specs.Kinds.{Scope, with_held}
 use Rattle.lil_resolved.specs.Views.{place_of}
 use Rattle.lil_resolved.specs.declared.resolved.RArm.{RArm}
 use Rattle.lil_resolved.specs.declared.resolved.RExpr.{RExpr}
@@ -35,18 +33,16 @@ use Rattle.lil_scope.specs.declared.thing.Variable.{Variable}
 use Rattle.lil_kinds.specs.declared.found.Found.{Found}
 use Rattle.lil_kinds.specs.declared.found.Located.{Located}
 use Rattle.lil_forms.specs.Values.{typed}
-use Rattle.lil_forms.specs.Arguments.{located_in}
-use Rattle.lil_forms.specs.Statements.{assigned, condition, conditional, record_at, counter, start_of, limit_of}
+use Rattle.lil_forms.specs.Statements.{located_in, assigned, condition, conditional, record_at, counter, start_of, limit_of}
 use Rattle.lil_forms.specs.FoundSound.{Fits, FoundSound, joined_fine, deeper}
 use Rattle.lil_forms.specs.ValueSound.{typed_sound, IsCompared, ordinal_sound}
-use Rattle.lil_forms.specs.StatementSound.{StatementSound, AllSound, joined_sound, assigned_sound}
+use Rattle.lil_forms.specs.StatementSound.{StatementSound, AllSound, joined_sound, assigned_sound, located_sound}
 use Rattle.lil_forms.specs.ControlSound as control
 use Rattle.lil_forms.specs.ControlSound.{IsCondition, GuardSound, OtherSound, WithSound, ArmSound, IsCounter, IsStart, IsLimit, BoundsSound, IsRecord, condition_sound, record_sound, exit_sound, return_sound}
-use Rattle.lil_forms.specs.ArgumentSound.{located_sound}
 use Rattle.lil_check_value.specs.declared.names.Looked.{Looked}
 use Rattle.lil_check_value.specs.declared.names.Looked.TheVariants as l
 use Rattle.lil_check_value.specs.Looks.{look}
-use Rattle.lil_check_value.specs.Values.{means, variable_means, call_means}
+use Rattle.lil_check_value.specs.Values.{means, variable_means}
 use Rattle.lil_check_value.specs.TreeSound.{means_sound, variable_sound, call_sound}
 use Rattle.lil_check_stmt.specs.declared.counting.Counter.{Counter}
 use Rattle.lil_check_stmt.specs.declared.counting.Count.{Count}
@@ -57,6 +53,7 @@ use Rattle.lil_check_stmt.specs.Nodes.{assign_node, condition_node, selector_nod
 use Rattle.lil_check_stmt.specs.Labels.{labels_mean}
 use Rattle.lil_check_stmt.specs.Counting.{counting_with, counter_thing, counter_of, counter_node, start_node, limit_node, step_means, count_of, count_means, counted}
 use Rattle.lil_check_stmt.specs.Statements.{Meaning, GuardMeaning, ArmMeaning, list_step, list_means, behind, else_means, guards_step, guards_mean, no_arms, arms_step, arms_mean, condition_means, selector_means, kind_of, within, result_at, return_means, selector_type, selector_value, selected, with_record, armed, with_arm, statement_layer, guard_layer, arm_layer, statement_means, guard_means, arm_means, statement_step, statements_mean}
+use Rattle.lil_check_stmt.specs.Induction.{meant, arm_meant, guard_meant, statement_rolled, arm_rolled, guard_rolled, bare, bare_arm, bare_guard, by_forms}
 
 -- what holds at the start of a walk, and from each step to the next, holds at its end
 walk_sound : {S X : Type 0} (P : S → Type 0) (IsFine : X → Type 0) (f : S → X → S × List Row) → ((s : S) (x : X) → P s → IsFine x → P (f s x).0) → (s : S) (xs : List X) → P s → AllFine IsFine xs → P (walk f s xs).0
@@ -284,19 +281,7 @@ each_guard : (xs : List GuardTree) → AllFine IsSoundGuard (map guard_means (ma
 each_guard [] = tt
 each_guard (x ∷ xs) = (x.1, each_guard xs)
 
-abbrev bare : Stmt-F Tree ArmTree GuardTree → Stmt-F Stmt Arm Guard
-bare = map-Stmt Tree ArmTree GuardTree Stmt Arm Guard (λ x. x.0) (λ x. x.0) (λ x. x.0)
-
-abbrev bare_arm : Arm-F Tree ArmTree GuardTree → Arm-F Stmt Arm Guard
-bare_arm = map-Arm Tree ArmTree GuardTree Stmt Arm Guard (λ x. x.0) (λ x. x.0) (λ x. x.0)
-
-abbrev bare_guard : Guard-F Tree ArmTree GuardTree → Guard-F Stmt Arm Guard
-bare_guard = map-Guard Tree ArmTree GuardTree Stmt Arm Guard (λ x. x.0) (λ x. x.0) (λ x. x.0)
-
 -- ---- each form
-abbrev meant : Stmt-F Tree ArmTree GuardTree → Stmt-F Meaning ArmMeaning GuardMeaning
-meant y = map-Stmt Stmt Arm Guard Meaning ArmMeaning GuardMeaning statement_means arm_means guard_means (bare y)
-
 abbrev means_of : List Tree → List Meaning
 means_of xs = map statement_means (map (λ x. x.0) xs)
 
@@ -320,7 +305,7 @@ module _ (e : Env) (ts : Scope) (fits : Fits e.types e.variables e.withs ts) (lo
   body : (xs : List Tree) → IfSome (list_means e looping (means_of xs)).0 (AllSound ts looping)
   body xs = list_sound e ts fits looping (means_of xs) (each xs)
 
-  layer_sound : (y : Stmt-F Tree ArmTree GuardTree) → Made ts looping (statement_layer (meant y) e looping).0
+  layer_sound : (y : Stmt-F Tree ArmTree GuardTree) → Made ts looping (statement_layer (meant (bare y)) e looping).0
   unfolding after
   layer_sound (s.Assign d p x) = assign_sound ts looping fits p (variable_means e d).0 (means e x).0 (variable_sound e ts fits d) (means_sound e ts fits x)
   layer_sound (s.Call d xs) = call_sound e ts fits looping d xs
@@ -337,29 +322,17 @@ module _ (e : Env) (ts : Scope) (fits : Fits e.types e.variables e.withs ts) (lo
   layer_sound (s.Return p None) = returned_sound ts looping e p None
   layer_sound (s.Return p (Some x)) = returned_sound ts looping e p (Some x)
 
-statement_rolled : (x : Stmt-F Stmt Arm Guard) → statement_means (roll-Stmt x) ≡ statement_layer (map-Stmt Stmt Arm Guard Meaning ArmMeaning GuardMeaning statement_means arm_means guard_means x)
-unfolding statement_means arm_means guard_means
-statement_rolled = fold-roll-Stmt Meaning ArmMeaning GuardMeaning statement_layer arm_layer guard_layer
-
-arm_rolled : (x : Arm-F Stmt Arm Guard) → arm_means (roll-Arm x) ≡ arm_layer (map-Arm Stmt Arm Guard Meaning ArmMeaning GuardMeaning statement_means arm_means guard_means x)
-unfolding statement_means arm_means guard_means
-arm_rolled = fold-roll-Arm Meaning ArmMeaning GuardMeaning statement_layer arm_layer guard_layer
-
-guard_rolled : (x : Guard-F Stmt Arm Guard) → guard_means (roll-Guard x) ≡ guard_layer (map-Guard Stmt Arm Guard Meaning ArmMeaning GuardMeaning statement_means arm_means guard_means x)
-unfolding statement_means arm_means guard_means
-guard_rolled = fold-roll-Guard Meaning ArmMeaning GuardMeaning statement_layer arm_layer guard_layer
-
 statement_holds : (y : Stmt-F Tree ArmTree GuardTree) → IsSound (statement_means (roll-Stmt (bare y)))
 statement_holds y = subst IsSound (sym (statement_rolled (bare y))) (λ e ts fits looping. layer_sound e ts fits looping y)
 
-arm_layer_sound : (y : Arm-F Tree ArmTree GuardTree) → IsSoundArm (arm_layer (map-Arm Stmt Arm Guard Meaning ArmMeaning GuardMeaning statement_means arm_means guard_means (bare_arm y)))
+arm_layer_sound : (y : Arm-F Tree ArmTree GuardTree) → IsSoundArm (arm_layer (arm_meant (bare_arm y)))
 unfolding after
 arm_layer_sound y e ts fits looping selector out h = arm_more ts looping out.arms (labels_mean e selector out.seen y.labels).0 (list_means e looping (means_of y.body)).0 h (body e ts fits looping y.body)
 
 arm_holds : (y : Arm-F Tree ArmTree GuardTree) → IsSoundArm (arm_means (roll-Arm (bare_arm y)))
 arm_holds y = subst IsSoundArm (sym (arm_rolled (bare_arm y))) (arm_layer_sound y)
 
-guard_layer_sound : (y : Guard-F Tree ArmTree GuardTree) → IsSoundGuard (guard_layer (map-Guard Stmt Arm Guard Meaning ArmMeaning GuardMeaning statement_means arm_means guard_means (bare_guard y)))
+guard_layer_sound : (y : Guard-F Tree ArmTree GuardTree) → IsSoundGuard (guard_layer (guard_meant (bare_guard y)))
 unfolding after
 guard_layer_sound y e ts fits looping = control.guard_sound ts looping (condition_means e y.condition).0 (list_means e looping (means_of y.body)).0 (condition_known e ts fits looping y.condition) (body e ts fits looping y.body)
 
@@ -368,10 +341,7 @@ guard_holds y = subst IsSoundGuard (sym (guard_rolled (bare_guard y))) (guard_la
 
 -- by induction
 statement_sound : (x : Stmt) → IsSound (statement_means x)
-statement_sound = ind-Stmt (λ x. IsSound (statement_means x)) (λ a. IsSoundArm (arm_means a)) (λ g. IsSoundGuard (guard_means g))
-    (λ x y is. subst (λ z. IsSound (statement_means (roll-Stmt z))) is (statement_holds y))
-    (λ a y is. subst (λ z. IsSoundArm (arm_means (roll-Arm z))) is (arm_holds y))
-    (λ g y is. subst (λ z. IsSoundGuard (guard_means (roll-Guard z))) is (guard_holds y))
+statement_sound = by_forms statement_holds arm_holds guard_holds
 
 pub statements_sound : (e : Env) (ts : Scope) → Fits e.types e.variables e.withs ts → (looping : Bool) (xs : List Stmt) → IfSome (statements_mean e looping xs).0 (AllSound ts looping)
 unfolding statements_mean after

@@ -1,41 +1,79 @@
--- Nothing is left out: statements that have code are as many as in the text.
-use Rattle.std.proofs.Common.{◌≡◌, ℕ, suc, ◌+◌, Bool, List, [], ◌∷◌, ◌++◌, length, Option, Some, None, IfSome, refl, arith, length-append}
-use Rattle.lil_base.specs.Lists.{joined}
+-- The extent of statements, in a text and in a module: how many statements there are, guards of IF, arms of CASE and labels of
+-- arms, however deep. Each counts 1.
+use Rattle.std.specs.Prelude.{ℕ, suc, ◌+◌, List, length, map, Option, Some, None}
+use Rattle.std.specs.List.{sum}
+use Rattle.lil_language.specs.declared.tree.Arm.{Arm}
+use Rattle.lil_language.specs.declared.tree.Guard.{Guard}
 use Rattle.lil_language.specs.declared.tree.Stmt.{Stmt}
+use Rattle.lil_language.specs.declared.tree.Stmt.TheOpen as s
+use Rattle.lil_language.specs.declared.tree.Stmt.TheOpen.{Stmt-F, Arm-F, Guard-F}
+use Rattle.lil_language.specs.declared.tree.Stmt.TheFolds.{fold-Stmt, fold-Arm, fold-Guard}
+use Rattle.lil_resolved.specs.declared.resolved.RArm.{RArm}
+use Rattle.lil_resolved.specs.declared.resolved.RGuard.{RGuard}
 use Rattle.lil_resolved.specs.declared.resolved.RStmt.{RStmt}
-use Rattle.lil_report.specs.Told.{Row, after, walk}
-use Rattle.lil_scope.specs.declared.env.Env.{Env}
-use Rattle.lil_check_stmt.specs.Statements.{statement_means, statement_step, statements_mean}
+use Rattle.lil_resolved.specs.declared.resolved.RStmt.TheOpen as r
+use Rattle.lil_resolved.specs.declared.resolved.RStmt.TheOpen.{RStmt-F, RArm-F, RGuard-F}
+use Rattle.lil_resolved.specs.declared.resolved.RStmt.TheFolds.{fold-RStmt, fold-RArm, fold-RGuard}
 
--- so many are there, if all are
-abbrev pub Has : {A : Type 0} → ℕ → Option (List A) → Type 0
-Has n o = IfSome o (λ xs. length xs ≡ n)
+-- what stands behind an ELSE, where there is one
+abbrev pub otherwise : Option (List ℕ) → ℕ
+otherwise None = 0
+otherwise (Some ns) = sum ns
 
-one_more : {A : Type 0} (n : ℕ) (o : Option (List A)) (x : Option A) → Has n o → Has (suc n) (joined o x)
-one_more n (Some xs) (Some x) h = omega (arith, length-append xs (x ∷ []), h)
-one_more n (Some xs) None h = tt
-one_more n None x h = tt
+-- ---- in a text, from the extents of its parts
+abbrev pub text_layer : Stmt-F ℕ ℕ ℕ → ℕ
+text_layer (s.If p guards other) = suc (sum guards + otherwise other)
+text_layer (s.Case p x arms other) = suc (sum arms + otherwise other)
+text_layer (s.While p x body) = suc (sum body)
+text_layer (s.Repeat p body x) = suc (sum body)
+text_layer (s.Loop p body) = suc (sum body)
+text_layer (s.For p h body) = suc (sum body)
+text_layer (s.With p d body) = suc (sum body)
+text_layer _ = 1
 
-more : (k n : ℕ) → suc k + n ≡ k + suc n
-more k n = omega arith
+abbrev pub text_arm_layer : Arm-F ℕ ℕ ℕ → ℕ
+text_arm_layer a = suc (length a.labels + sum a.body)
 
-all_more : (e : Env) (looping : Bool) (xs : List Stmt) (k : ℕ) (o : Option (List RStmt)) → Has k o → Has (k + length xs) (walk (statement_step e looping) o xs).0
-unfolding after
-all_more e looping [] k o h = by o h
-  where
-    by : (o : Option (List RStmt)) → Has k o → Has (k + 0) o
-    by None h = tt
-    by (Some ss) h = omega (arith, h)
-all_more e looping (x ∷ xs) k o h = by (walk (statement_step e looping) (joined o (statement_means x e looping).0) xs).0 (all_more e looping xs (suc k) (joined o (statement_means x e looping).0) (one_more k o (statement_means x e looping).0 h))
-  where
-    by : (o : Option (List RStmt)) → Has (suc k + length xs) o → Has (k + suc (length xs)) o
-    by None h = tt
-    by (Some ss) h = omega (arith, h)
+abbrev pub text_guard_layer : Guard-F ℕ ℕ ℕ → ℕ
+text_guard_layer g = suc (sum g.body)
 
-pub statements_kept : (e : Env) (looping : Bool) (xs : List Stmt) → Has (length xs) (statements_mean e looping xs).0
-unfolding statements_mean
-statements_kept e looping xs = by (walk (statement_step e looping) (Some []) xs).0 (all_more e looping xs 0 (Some []) refl)
-  where
-    by : (o : Option (List RStmt)) → Has (0 + length xs) o → Has (length xs) o
-    by None h = tt
-    by (Some ss) h = omega (arith, h)
+abbrev pub text_extent_of : Stmt → ℕ
+text_extent_of = fold-Stmt ℕ ℕ ℕ text_layer text_arm_layer text_guard_layer
+
+abbrev pub text_arm_extent : Arm → ℕ
+text_arm_extent = fold-Arm ℕ ℕ ℕ text_layer text_arm_layer text_guard_layer
+
+abbrev pub text_guard_extent : Guard → ℕ
+text_guard_extent = fold-Guard ℕ ℕ ℕ text_layer text_arm_layer text_guard_layer
+
+unfoldable pub text_extent : List Stmt → ℕ
+text_extent xs = sum (map text_extent_of xs)
+
+-- ---- in a module, likewise
+abbrev pub extent_layer : RStmt-F ℕ ℕ ℕ → ℕ
+extent_layer (r.If guards other) = suc (sum guards + sum other)
+extent_layer (r.Case x arms other) = suc (sum arms + otherwise other)
+extent_layer (r.While x body) = suc (sum body)
+extent_layer (r.Repeat body x) = suc (sum body)
+extent_layer (r.Loop body) = suc (sum body)
+extent_layer (r.For v from to by body) = suc (sum body)
+extent_layer (r.With p body) = suc (sum body)
+extent_layer _ = 1
+
+abbrev pub arm_extent_layer : RArm-F ℕ ℕ ℕ → ℕ
+arm_extent_layer a = suc (length a.labels + sum a.body)
+
+abbrev pub guard_extent_layer : RGuard-F ℕ ℕ ℕ → ℕ
+guard_extent_layer g = suc (sum g.body)
+
+abbrev pub extent_of : RStmt → ℕ
+extent_of = fold-RStmt ℕ ℕ ℕ extent_layer arm_extent_layer guard_extent_layer
+
+abbrev pub arm_extent : RArm → ℕ
+arm_extent = fold-RArm ℕ ℕ ℕ extent_layer arm_extent_layer guard_extent_layer
+
+abbrev pub guard_extent : RGuard → ℕ
+guard_extent = fold-RGuard ℕ ℕ ℕ extent_layer arm_extent_layer guard_extent_layer
+
+unfoldable pub extent : List RStmt → ℕ
+extent ss = sum (map extent_of ss)

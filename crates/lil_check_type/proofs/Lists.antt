@@ -1,5 +1,5 @@
 -- Lists that are searched from their begin, and arrays over several indexes.
-use Rattle.std.proofs.Common.{◌≡◌, ℕ, ◌+◌, ◌<◌, ◌≤◌, length, Bool, true, false, ◌||◌, List, [], ◌∷◌, ◌++◌, map, Option, drop, take, get_or, reverse, refl, sym, ap, subst, ◌∙◌}
+use Rattle.std.proofs.Common.{◌≡◌, ℕ, ◌+◌, ◌<◌, ◌≤◌, length, Bool, false, ◌||◌, List, [], ◌∷◌, ◌++◌, Option, drop, get_or, reverse, refl, sym, ap, subst, ◌∙◌}
 use Rattle.std.proofs.lemmas.List.{drop_more, drop_all, reverse-append}
 use Rattle.lil_base.specs.declared.fault.Place.{Place}
 use Rattle.lil_types.specs.declared.table.Span.{Span}
@@ -7,7 +7,7 @@ use Rattle.lil_types.specs.declared.table.Field.{Field}
 use Rattle.lil_types.specs.declared.table.TypeForm.{TypeForm}
 use Rattle.lil_types.specs.Types.{meets}
 use Rattle.lil_report.specs.declared.report.Fault.{Fault}
-use Rattle.lil_report.specs.Told.{Row, walk, Said}
+use Rattle.lil_report.specs.Told.{walk, Said}
 use Rattle.lil_report.specs.Laws.{said_value, said_after}
 use Rattle.lil_scope.specs.declared.env.Env.{Env}
 use Rattle.lil_scope.specs.Names.{same}

@@ -2,5 +2,4 @@ pub mod Made
 pub mod Bounds
 pub mod Simple
 pub mod Records
-pub mod Routines
 pub mod Sorts

@@ -1,13 +1,12 @@
 -- A type more in the table, and the parts of which one is made.
-use Rattle.std.specs.Prelude.{ℕ, nat_lt, length, Bool, true, false, not, List, [], ◌∷◌, Option, Some, None, is_none, is_some, if◌then◌else◌}
+use Rattle.std.specs.Prelude.{ℕ, List, [], ◌∷◌, Option, Some, None, is_none, is_some, if◌then◌else◌}
 use Rattle.lil_base.specs.declared.fault.Place.{Place}
 use Rattle.lil_base.specs.declared.fault.FaultKind.TheVariants.{WrongKind, DataTooLong}
-use Rattle.lil_types.specs.declared.table.Origin.{Origin}
 use Rattle.lil_types.specs.declared.table.Span.{Span}
 use Rattle.lil_types.specs.declared.table.Facts.{Facts}
 use Rattle.lil_types.specs.declared.table.TypeForm.{TypeForm}
 use Rattle.lil_types.specs.Types.{Table, known}
-use Rattle.lil_types.specs.Adding.{next, added, added_number}
+use Rattle.lil_types.specs.Adding.{own, added, added_number}
 use Rattle.lil_report.specs.Told.{Row, row}
 use Rattle.lil_scope.specs.declared.env.Env.{Env}
 
@@ -17,14 +16,6 @@ Made = Env × Option ℕ
 
 abbrev pub with_types : Env → Table → Env
 with_types e t = record e { types = t }
-
--- the number of the next type, 0 where there is none left
-abbrev pub next_number : Table → ℕ
-next_number t = if nat_lt 65519 (length t) then 0 else next t
-
--- a type of the unit's own
-abbrev pub own : Table → Origin
-own t = record { «module» = 0; number = next_number t }
 
 -- 61 DataTooLong, at the type's first token: it has more than 32,000 words, or there is no number left for it
 unfoldable pub type_node : Env → Place → TypeForm → Made × List Row

@@ -7,24 +7,23 @@ use Rattle.lil_language.specs.declared.unit.Simple.{Simple}
 use Rattle.lil_language.specs.declared.unit.Simple.TheVariants as simple
 use Rattle.lil_language.specs.declared.unit.Sort.{Sort}
 use Rattle.lil_language.specs.declared.unit.FieldList.{FieldList}
-use Rattle.lil_language.specs.declared.unit.Variant.{Variant, out-Variant}
+use Rattle.lil_language.specs.declared.unit.Variant.{Variant}
 use Rattle.lil_language.specs.declared.unit.FieldList.TheOpen as o
 use Rattle.lil_language.specs.declared.unit.FieldList.TheOpen.{FieldList-F, Sort-F, Variant-F}
 use Rattle.lil_language.specs.declared.unit.FieldList.TheFolds.{fold-FieldList, fold-Sort, fold-Variant}
 use Rattle.lil_types.specs.declared.table.Span.{Span}
 use Rattle.lil_types.specs.declared.table.TypeForm.{TypeForm}
 use Rattle.lil_types.specs.declared.table.TypeForm.TheVariants as form
-use Rattle.lil_report.specs.Told.{Row, row, pure, after, walk}
+use Rattle.lil_report.specs.Told.{Row, after, walk}
 use Rattle.lil_scope.specs.declared.env.Env.{Env}
 use Rattle.lil_scope.specs.declared.thing.Thing.{Thing}
 use Rattle.lil_scope.specs.declared.thing.Thing.TheVariants as t
 use Rattle.lil_scope.specs.Names.{find}
-use Rattle.lil_check_value.specs.Unbuilt.{not_built}
+use Rattle.lil_check_value.specs.Looks.{not_built}
 use Rattle.lil_check_type.specs.declared.records.Fields.{Fields}
 use Rattle.lil_check_type.specs.Made.{Made, type_node, form_node}
 use Rattle.lil_check_type.specs.Simple.{simple_means, index_means, set_means}
-use Rattle.lil_check_type.specs.Records.{no_fields, field_step, tag_means, label_step, record_form}
-use Rattle.lil_check_type.specs.Routines.{procedure_means}
+use Rattle.lil_check_type.specs.Records.{no_fields, field_step, tag_means, label_step, record_form, procedure_means}
 
 -- ---- arrays: those over the last indexes are the elements of those before
 abbrev pub index_step : Env × List (Option ℕ) → Simple → (Env × List (Option ℕ)) × List Row

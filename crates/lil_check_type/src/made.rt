@@ -5,19 +5,7 @@ ghost use Rattle.lil_check_type.specs.Made as spec;
 use lil_base::{FaultKind, Memory, Place};
 use lil_report::Report;
 use lil_scope::Env;
-use lil_types::{Origin, Span, TypeForm, TypeId, TypeTable, add, known};
-
-/// A type of the unit's own, by the number that it gets.
-fn own(t: &TypeTable) -> Origin
-    ensures { result ≡ spec.own t.now }
-{
-    let number = if t.len() > 65519 {
-        0
-    } else {
-        t.len() as TypeId + 16
-    };
-    Origin { module: 0, number }
-}
+use lil_types::{Span, TypeForm, TypeId, TypeTable, add, known, own};
 
 /// A type more: that is fault 61 at its first token, where it is too large.
 #[tactic(auto, unfolding(crate::specs::Made::type_node, lil_report::specs::Told::tell))]

@@ -1,6 +1,6 @@
 ghost use Rattle.std.specs.Prelude.{◌≡◌, IfOk, [], true};
 ghost use Rattle.lil_report.specs.Told.{Said, walk};
-ghost use Rattle.lil_check_type.specs.Routines as spec;
+ghost use Rattle.lil_check_type.specs.Records as spec;
 
 use crate::made::add_form;
 use crate::named::NamedType;
@@ -89,7 +89,7 @@ fn is_structure(t: &TypeTable, n: TypeId) -> bool
 }
 
 /// The type of a result, at its name.
-#[tactic(auto, unfolding(crate::specs::Routines::result_node, lil_report::specs::Told::tell))]
+#[tactic(auto, unfolding(crate::specs::Records::result_node, lil_report::specs::Told::tell))]
 fn simple_result(
     t: &TypeTable,
     report: &mut Report,

@@ -1,28 +1,32 @@
--- The module that a unit is is sound.
-use Rattle.std.proofs.Common.{◌≡◌, ℕ, false, List, [], Option, Some, None, IfSome, refl, sym, ap, subst, ◌∙◌}
+-- The module that a unit is is sound, and keeps all of its statements.
+use Rattle.std.proofs.Common.{◌≡◌, ◌≤◌, ℕ, false, List, Option, Some, None, IfSome, refl, sym, ap, subst, ◌∙◌}
+use Rattle.std.specs.Prelude.{nat_le}
+use Rattle.std.proofs.lemmas.Option.{cond_some}
 use Rattle.lil_types.specs.Types.{Table}
 use Rattle.lil_language.specs.declared.tree.Stmt.{Stmt}
 use Rattle.lil_language.specs.declared.unit.Decl.{Decl}
-use Rattle.lil_language.specs.declared.unit.Unit.{Unit as Tree}
 use Rattle.lil_declared.specs.declared.declared.RVar.{RVar}
 use Rattle.lil_resolved.specs.Resolved.{Resolved}
-use Rattle.lil_resolved.specs.Shapes.{Shape, outermost}
-use Rattle.lil_resolved.specs.Sizes.{IsSound}
-use Rattle.lil_resolved.specs.Sound.{IsSoundBody}
+use Rattle.lil_resolved.specs.Kinds.{Shape, outermost}
+use Rattle.lil_resolved.specs.Sound.{IsSound, IsSoundBody}
 use Rattle.lil_resolved.specs.Views.{statements_of}
 use Rattle.lil_resolved.specs.declared.resolved.RStmt.{RStmt}
 use Rattle.lil_shapes.specs.Pointers.{targets}
 use Rattle.lil_shapes.specs.Shaping as shaping
-use Rattle.lil_forms.specs.FoundSound.{Fits, outside}
+use Rattle.lil_forms.specs.FoundSound.{outside}
 use Rattle.lil_forms.specs.StatementSound.{AllSound, body_sound}
 use Rattle.lil_report.specs.Told.{after}
 use Rattle.lil_scope.specs.declared.env.Env.{Env}
 use Rattle.lil_check_stmt.specs.Statements.{statements_mean}
 use Rattle.lil_check_stmt.specs.Stmts.{bodies_mean}
+use Rattle.lil_check_stmt.specs.declared.stmt.Stated.{Stated}
 use Rattle.lil_check_stmt.specs.StatementSound.{statements_sound}
+use Rattle.lil_check_stmt.specs.Whole.{extent, text_extent}
+use Rattle.lil_check_stmt.specs.WholeLaws.{statements_kept}
 use Rattle.lil_interfaces.specs.declared.surface.Interface.{Interface}
-use Rattle.lil_check_unit.specs.Modules.{in_no_with, module_with, with_variables, laid_out, assembled}
+use Rattle.lil_check_unit.specs.Modules.{in_no_with, module_words, module_with, with_variables, laid_out, assembled}
 use Rattle.lil_check_unit.specs.Units.{declared, stated, module_of}
+use Rattle.lil_language.specs.declared.unit.Unit.{Unit as Tree}
 
 module _ (t : Table) (vs : List RVar) where
   -- whatever is reached, if statements are sound there, then so is their module
@@ -31,8 +35,8 @@ module _ (t : Table) (vs : List RVar) where
       → (o : Option (List Shape)) → shaping.variables_by (Some shapes) vs ≡ o → Some r ≡ with_variables t vs n shapes o ss → IsSound r
   over n r shapes types ss sound None is e = absurd (cc)
   over n r shapes types ss sound (Some ts) is e =
-      let same : r ≡ module_with t vs n shapes ts (statements_of ss) = cc in
-      subst IsSound (sym same) (sound ts is)
+      let m = module_with t vs n shapes ts (statements_of ss) in
+      subst IsSound (cond_some (nat_le (module_words m) 32000) m r (sym e)).1 (sound ts is)
 
   from : (n : List ℕ) (r : Resolved) (ss : List RStmt)
       → ((shapes ts : List Shape) → shaping.shapes t ≡ Some shapes → shaping.variables_by (Some shapes) vs ≡ Some ts → IsSoundBody (outermost (targets t shapes) ts) false (statements_of ss))
@@ -58,3 +62,9 @@ made_sound e ss n r (Some xs) is h = from e.types e.variables n r xs (body_kept 
 pub module_sound : (u : Tree) (is : List Interface) (r : Resolved) → Some r ≡ module_of u is → IsSound r
 unfolding module_of
 module_sound u is r h = made_sound (declared is u).0 u.body u.head.name.name r (stated is u).0.body (sym (body_is (in_no_with (declared is u).0) u.decls u.body)) h
+
+-- nothing of it is left out
+pub module_kept : (u : Tree) (is : List Interface) {b : Stated} {ss : List RStmt} → b ≡ (stated is u).0 → b.body ≡ Some ss → text_extent u.body ≤ extent ss
+module_kept u is {b = b} {ss = ss} same made =
+    let e = in_no_with (declared is u).0 in
+    subst (λ o. IfSome o (λ ss. text_extent u.body ≤ extent ss)) (sym (ap (λ (s : Stated). s.body) same ∙ body_is e u.decls u.body) ∙ made) (statements_kept e false u.body)

@@ -2,7 +2,6 @@
 use Rattle.std.proofs.Common.{◌≡◌, ℕ, ◌+◌, ◌<◌, ◌≤◌, List, [], ◌∷◌, ◌++◌, Option, Some, None, length, get_or, drop, subst, sym, ap, ◌∙◌, refl}
 use Rattle.std.proofs.lemmas.List.{at_drop_more, at_drop_all}
 use Rattle.lil_text.specs.declared.tree.Ident.{Ident}
-use Rattle.lil_language.specs.declared.unit.Unit.{Unit as Tree}
 use Rattle.lil_language.specs.declared.unit.Import.{Import}
 use Rattle.lil_report.specs.declared.report.Fault.{Fault}
 use Rattle.lil_report.specs.Least.{now_of, late_of, when, worse, Reports}
@@ -19,7 +18,8 @@ use Rattle.lil_interfaces.specs.declared.importing.Imported.{Imported}
 use Rattle.lil_interfaces.specs.Interfaces.{residents}
 use Rattle.lil_interfaces.specs.Imports.{nothing_imported, imports_mean, exports_mean}
 use Rattle.lil_check_unit.specs.Modules.{in_no_with, assembled}
-use Rattle.lil_check_unit.specs.Units.{first_of, declared, stated, module_of, worst, late_fault, data_fault, form_rows, last_of, unit_fault, imports_fault, program_fault, naming_rows, missing_row, missing_names, missing_by, missing_rows, data_rows, HasInterfaces}
+use Rattle.lil_check_unit.specs.Units.{first_of, declared, stated, module_of, worst, late_fault, data_fault, form_rows, names_fault, last_of, unit_fault, imports_fault, program_fault, naming_rows, missing_row, missing_names, missing_by, missing_rows, data_rows, HasInterfaces}
+use Rattle.lil_language.specs.declared.unit.Unit.{Unit as Tree}
 
 module _ (u : Tree) (is : List Interface) where
   pub is_declared : {s s' : Imported} {xs : List Import} {e f : Env} {r a b c : Option Fault} → s ≡ nothing_imported → xs ≡ u.head.imports → Said (imports_mean is s xs) r s' a → Said (decls_mean s'.env u.decls) a e b
@@ -32,13 +32,16 @@ module _ (u : Tree) (is : List Interface) where
     first_is : s ≡ tell None (declared is u).1
     first_is = h.told ∙ ap (λ r. tell r (declared is u).1) new
 
-    pub wrong_declarations : {f : Fault} → Some f ≡ now_of s → worst u is ≡ Some f
-    unfolding worst
-    wrong_declarations wrong = ap (λ o. first_of o (now_of (tell None (stated is u).1))) (sym (wrong ∙ ap now_of first_is))
+    names_is : {o : Option Fault} → o ≡ names_fault u e s → names_fault u (declared is u).0 (tell None (declared is u).1) ≡ o
+    names_is k = sym (k ∙ (λ j. names_fault u (h.value j) (first_is j)))
 
-    pub then_statements : None ≡ now_of s → worst u is ≡ now_of (tell None (bodies_mean (in_no_with e) u.decls u.body).1)
+    pub wrong_declarations : {f : Fault} → Some f ≡ names_fault u e s → worst u is ≡ Some f
     unfolding worst
-    then_statements fine = ap (λ o. first_of o (now_of (tell None (stated is u).1))) (sym (fine ∙ ap now_of first_is)) ∙ ap (λ e. now_of (tell None (bodies_mean (in_no_with e) u.decls u.body).1)) (sym h.value)
+    wrong_declarations wrong = ap (λ o. first_of o (now_of (tell None (stated is u).1))) (names_is wrong)
+
+    pub then_statements : None ≡ names_fault u e s → worst u is ≡ now_of (tell None (bodies_mean (in_no_with e) u.decls u.body).1)
+    unfolding worst
+    then_statements fine = ap (λ o. first_of o (now_of (tell None (stated is u).1))) (names_is fine) ∙ ap (λ e. now_of (tell None (bodies_mean (in_no_with e) u.decls u.body).1)) (sym h.value)
 
     pub late_is : worse (late_of s) (late_of (tell None (bodies_mean (in_no_with e) u.decls u.body).1)) ≡ late_fault u is
     unfolding late_fault

@@ -1,9 +1,10 @@
 -- The module that what is declared and stated makes.
-use Rattle.std.specs.Prelude.{ℕ, List, [], map, Option, Some, None}
+use Rattle.std.specs.Prelude.{ℕ, ◌+◌, nat_le, List, [], length, map, Option, Some, None, if◌then◌else◌}
 use Rattle.lil_types.specs.Types.{Table}
 use Rattle.lil_declared.specs.declared.declared.RVar.{RVar}
 use Rattle.lil_resolved.specs.Resolved.{Statements, Resolved}
-use Rattle.lil_resolved.specs.Shapes.{Shape}
+use Rattle.lil_resolved.specs.Kinds.{Shape, all_words}
+use Rattle.lil_resolved.specs.Sizes.{module_strings}
 use Rattle.lil_resolved.specs.Views.{statements_of}
 use Rattle.lil_resolved.specs.declared.resolved.RStmt.{RStmt}
 use Rattle.lil_scope.specs.declared.env.Env.{Env}
@@ -15,15 +16,23 @@ use Rattle.lil_shapes.specs.Shaping.{shapes, variables_by}
 abbrev pub in_no_with : Env → Env
 in_no_with e = record e { withs = [] }
 
+-- the words of a module's variables and strings
+abbrev pub module_words : Resolved → ℕ
+module_words m = all_words m.variables + length (module_strings m)
+
+-- a module that has at most 32,000 of them
+abbrev pub with_room : Resolved → Option Resolved
+with_room m = if nat_le (module_words m) 32000 then Some m else None
+
 -- by the types and the variables
 module _ (t : Table) (vs : List RVar) where
   abbrev pub module_with : List ℕ → (types variables : List Shape) → Statements → Resolved
   module_with n types ts ss = record { name = n; targets = targets t types; names = map variable_name vs; variables = ts; procedures = []; body = ss }
 
-  -- where its variables lie, in at most 32,000 words
+  -- where its variables lie, and its strings behind them
   abbrev pub with_variables : List ℕ → List Shape → Option (List Shape) → List RStmt → Option Resolved
   with_variables n types None ss = None
-  with_variables n types (Some ts) ss = Some (module_with n types ts (statements_of ss))
+  with_variables n types (Some ts) ss = with_room (module_with n types ts (statements_of ss))
 
   abbrev pub laid_out : List ℕ → Option (List Shape) → List RStmt → Option Resolved
   laid_out n None ss = None

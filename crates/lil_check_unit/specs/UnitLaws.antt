@@ -1,13 +1,13 @@
 -- The fault that is told of a unit is the least one of the first class that has any.
 use Rattle.std.proofs.Common.{◌≡◌, ℕ, List, [], ◌∷◌, ◌++◌, Option, Some, None, refl, ap, sym, subst, inl, inr}
-use Rattle.lil_language.specs.declared.unit.Unit.{Unit as Tree}
 use Rattle.lil_report.specs.declared.report.Fault.{Fault}
 use Rattle.lil_report.specs.Least.{now_of, Reports}
 use Rattle.lil_report.specs.Told.{Stands, tell}
 use Rattle.lil_report.specs.LeastLaws.{reports_tell, reports_now, reports_late, reports_worse}
 use Rattle.lil_interfaces.specs.declared.surface.Interface.{Interface}
 use Rattle.lil_interfaces.specs.Interfaces.{residents}
-use Rattle.lil_check_unit.specs.Units.{first_of, Speaks, declared, stated, module_of, worst, data_fault, unit_fault, imports_fault, program_fault, late_fault, naming_rows, missing_rows, data_rows, form_rows, Now, Late, LateInUnit, ClassesOfUnit, ClassesOfProgram}
+use Rattle.lil_check_unit.specs.Units.{first_of, Speaks, declared, stated, module_of, worst, data_fault, unit_fault, imports_fault, program_fault, late_fault, naming_rows, missing_rows, long_rows, names_fault, data_rows, form_rows, Now, Late, LateInUnit, ClassesOfUnit, ClassesOfProgram}
+use Rattle.lil_language.specs.declared.unit.Unit.{Unit as Tree}
 
 pub speaks_first : (C : Fault → Type 0) (Cs : List (Fault → Type 0)) (a b : Option Fault) → Reports C a → Speaks Cs b → Speaks (C ∷ Cs) (first_of a b)
 speaks_first C Cs None b h k = inr (h, k)
@@ -33,21 +33,27 @@ none_behind None b h = h
 none_behind (Some f) b h = absurd (cc)
 
 module _ (u : Tree) (is : List Interface) where
-  -- names, declarations and statements
+  -- names and declarations, and statements
+  abbrev Names : List (Fault → Type 0)
+  Names = Now (declared is u).1 ∷ Stands (long_rows u (declared is u).0) ∷ []
+
   abbrev NamesAndBodies : List (Fault → Type 0)
-  NamesAndBodies = Now (declared is u).1 ∷ Now (stated is u).1 ∷ []
+  NamesAndBodies = Names ++ Now (stated is u).1 ∷ []
+
+  names_speak : Speaks Names (names_fault u (declared is u).0 (tell None (declared is u).1))
+  names_speak = speaks_first _ (Stands (long_rows u (declared is u).0) ∷ []) _ _ (reports_now _ _ (reports_tell (declared is u).1)) (speaks_last _ _ (reports_tell (long_rows u (declared is u).0)))
 
   worst_speaks : Speaks NamesAndBodies (worst u is)
   unfolding worst
-  worst_speaks = speaks_first _ (Now (stated is u).1 ∷ []) _ _ (reports_now _ _ (reports_tell (declared is u).1)) (speaks_last _ _ (reports_now _ _ (reports_tell (stated is u).1)))
+  worst_speaks = speaks_behind Names (Now (stated is u).1 ∷ []) _ _ names_speak (λ h. speaks_last _ _ (reports_now _ _ (reports_tell (stated is u).1)))
 
   pub no_declared : worst u is ≡ None → now_of (tell None (declared is u).1) ≡ None
   unfolding worst
-  no_declared h = none_before _ _ h
+  no_declared h = none_before _ _ (none_before _ _ h)
 
   pub no_stated : worst u is ≡ None → now_of (tell None (stated is u).1) ≡ None
   unfolding worst
-  no_stated h = none_behind (now_of (tell None (declared is u).1)) _ h
+  no_stated h = none_behind (names_fault u (declared is u).0 (tell None (declared is u).1)) _ h
 
   late_speaks : worst u is ≡ None → Reports (LateInUnit u is) (late_fault u is)
   unfolding late_fault

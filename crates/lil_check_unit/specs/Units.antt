@@ -1,13 +1,14 @@
 -- A unit as a whole: what it is resolved to, and which fault speaks.
-use Rattle.std.specs.Prelude.{◌≡◌, ◌⊎◌, ℕ, nat_lt, Bool, true, false, not, ◌||◌, is_none, List, [], ◌∷◌, ◌++◌, Option, Some, None, codes}
+use Rattle.std.specs.Prelude.{◌≡◌, ◌⊎◌, ℕ, nat_lt, length, Bool, true, false, not, ◌||◌, is_none, List, [], ◌∷◌, ◌++◌, Option, Some, None, codes}
+use Rattle.std.specs.List.{list_any}
 use Rattle.lil_base.specs.declared.fault.FaultKind.TheVariants.{DataTooLong, ReservedModule, FileName, UnitKind, NotBuilt}
 use Rattle.lil_base.specs.declared.fault.SourceFault.{SourceFault}
 use Rattle.lil_base.specs.Faults.{fault}
 use Rattle.lil_text.specs.declared.tree.Ident.{Ident}
-use Rattle.lil_language.specs.declared.unit.Unit.{Unit as Tree}
-use Rattle.lil_language.specs.declared.unit.UnitKind.{UnitKind as Sort}
 use Rattle.lil_language.specs.declared.unit.UnitKind.TheVariants as kind
 use Rattle.lil_language.specs.declared.unit.Import.{Import}
+use Rattle.lil_types.specs.declared.table.TypeForm.{TypeForm}
+use Rattle.lil_types.specs.declared.table.TypeForm.TheVariants.{Enumeration}
 use Rattle.lil_report.specs.declared.report.Fault.{Fault}
 use Rattle.lil_report.specs.Least.{number, is_late, now_of, late_of, worse, IsLeast}
 use Rattle.lil_report.specs.Told.{Row, row, Stands, after, tell}
@@ -22,6 +23,8 @@ use Rattle.lil_interfaces.specs.declared.surface.Interface.{Interface}
 use Rattle.lil_interfaces.specs.Interfaces.{named, residents}
 use Rattle.lil_interfaces.specs.Imports.{nothing_imported, imports_mean, exports_mean}
 use Rattle.lil_check_unit.specs.Modules.{in_no_with, assembled}
+use Rattle.lil_language.specs.declared.unit.Unit.{Unit as Tree}
+use Rattle.lil_language.specs.declared.unit.UnitKind.{UnitKind as Sort}
 
 -- ---- classes: the first one that has a fault speaks
 abbrev pub first_of : Option Fault → Option Fault → Option Fault
@@ -82,7 +85,8 @@ missing_rows is (x ∷ xs) = missing_by is x.from x.names ++ missing_rows is xs
 abbrev pub HasInterfaces : List Interface → Tree → Type 0
 HasInterfaces is u = (f : Fault) → Stands (missing_rows is u.head.imports) f → ⊥
 
--- ---- classes 6 and 7: imported and exported names and declarations, and then statements. A late fault isn't of these classes
+-- ---- classes 6 and 7: imported and exported names and declarations, behind them an enumeration that is too long, and then
+-- statements. A late fault isn't of these classes
 unfoldable pub declared : List Interface → Tree → Env × List Row
 declared is u = after (imports_mean is nothing_imported u.head.imports) (λ s. after (decls_mean s.env u.decls) (λ e. exports_mean s.taken e u.head.exports))
 
@@ -92,9 +96,21 @@ stated is u = bodies_mean (in_no_with (declared is u).0) u.decls u.body
 abbrev pub Now : List Row → Fault → Type 0
 Now rs f = Stands rs f × (is_late f ≡ false)
 
+abbrev pub is_long : TypeForm → Bool
+is_long (Enumeration xs) = nat_lt 65535 (length xs)
+is_long _ = false
+
+-- 61 DataTooLong: an enumeration has more than 65,535 constants
+abbrev pub long_rows : Tree → Env → List Row
+long_rows u e = row (list_any (λ x. is_long x.form) e.types) u.head.name.place DataTooLong ∷ []
+
+-- the fault of class 6, where o is what its tests tell
+abbrev pub names_fault : Tree → Env → Option Fault → Option Fault
+names_fault u e o = first_of (now_of o) (tell None (long_rows u e))
+
 -- the fault of a unit, of classes 6 and 7
 unfoldable pub worst : Tree → List Interface → Option Fault
-worst u is = first_of (now_of (tell None (declared is u).1)) (now_of (tell None (stated is u).1))
+worst u is = first_of (names_fault u (declared is u).0 (tell None (declared is u).1)) (now_of (tell None (stated is u).1))
 
 -- ---- class 8. 61 DataTooLong: the data of the unit's module have more than 32,000 words
 abbrev pub data_rows : Tree → Env → Stated → List Row
@@ -134,6 +150,7 @@ unit_fault u is = first_of (worst u is) (last_of u (declared is u).0 (stated is 
 abbrev pub ClassesOfUnit : Tree → List Interface → List (Fault → Type 0)
 ClassesOfUnit u is =
     Now (declared is u).1
+    ∷ Stands (long_rows u (declared is u).0)
     ∷ Now (stated is u).1
     ∷ Stands (data_rows u (declared is u).0 (stated is u).0)
     ∷ LateInUnit u is

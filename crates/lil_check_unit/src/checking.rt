@@ -1,4 +1,5 @@
 ghost use Rattle.std.specs.Prelude.{◌≡◌, IfOk, Err, None, Some};
+ghost use Rattle.std.specs.List.{list_any};
 ghost use Rattle.lil_base.specs.declared.fault.SourceFault.{SourceFault as Told};
 ghost use Rattle.lil_text.specs.declared.stop.ReadStop.TheVariants as stop;
 ghost use Rattle.lil_report.specs.declared.report.Fault.{Fault as Found};
@@ -9,7 +10,7 @@ ghost use Rattle.lil_interfaces.specs.Imports.{nothing_imported};
 ghost use Rattle.lil_check_unit.specs.Modules.{in_no_with};
 ghost use Rattle.lil_check_unit.specs.Units as spec;
 
-use lil_base::{Items, Memory, SourceFault, beside};
+use lil_base::{FaultKind, Items, Memory, SourceFault, beside};
 use lil_check_decl::declarations;
 use lil_check_stmt::{Stated, bodies};
 use lil_interfaces::{Imported, Interfaces, exports, imports, start};
@@ -17,6 +18,7 @@ use lil_language::Unit;
 use lil_report::{Fault, Report, worse};
 use lil_scope::{Env, Withs};
 use lil_text::ReadStop;
+use lil_types::{TypeEntry, TypeForm};
 use std::alloc::Global;
 
 /// The fault as it is told.
@@ -67,6 +69,43 @@ fn declared(
     let outcome = declare(alloc, u, interfaces, &mut so_far, report);
     let (so_far, _) = beside(so_far, outcome)?;
     Ok(so_far.env)
+}
+
+fn is_long(form: &TypeForm) -> bool
+    ensures { result ≡ spec.is_long form.now }
+{
+    match form {
+        TypeForm::Enumeration(constants) => constants.len() > 65535,
+        _ => false,
+    }
+}
+
+/// Whether one of these types is an enumeration of more than 65,535 constants.
+fn has_long(types: &[TypeEntry]) -> bool
+    ensures { result ≡ list_any (λ x. spec.is_long x.form) types.now }
+{
+    types.iter().any(|of| is_long(&of.form))
+}
+
+/// The fault of an enumeration that has more than 65,535 constants.
+#[tactic(auto, unfolding(lil_report::specs::Told::tell))]
+fn constants_fault(u: &Unit, declared: &Env) -> Option<Fault>
+    ensures { result ≡ tell None (spec.long_rows u.now declared.now) }
+{
+    let mut report = Report::new();
+    let too_many = has_long(declared.types.as_slice());
+    report.note(too_many, u.head.name.place, FaultKind::DataTooLong);
+    report.worst()
+}
+
+/// The fault of a unit's names and declarations, behind their tests.
+fn names_fault(u: &Unit, declared: &Env, report: &Report) -> Option<Fault>
+    ensures { result ≡ spec.names_fault u.now declared.now report.now }
+{
+    match report.worst_now() {
+        Some(fault) => Some(fault),
+        None => constants_fault(u, declared),
+    }
 }
 
 /// What a unit without faults of names, declarations and statements declares and states, and its first form that isn't built.
@@ -125,7 +164,7 @@ pub(crate) fn check_parts(
 {
     let mut report = Report::new();
     let env = declared(alloc, u, interfaces, &mut report)?;
-    match report.worst_now() {
+    match names_fault(u, &env, &report) {
         Some(fault) => {
             drop(env);
             Err(told(fault))

@@ -4,9 +4,10 @@ ghost use Rattle.lil_text.specs.declared.stop.ReadStop.TheVariants as stop;
 ghost use Rattle.lil_report.specs.declared.report.Fault.{Fault as Found};
 ghost use Rattle.lil_report.specs.Told.{tell};
 ghost use Rattle.lil_layout.specs.Data.{data_words};
-ghost use Rattle.lil_resolved.specs.Sizes.{IsSound};
+ghost use Rattle.lil_resolved.specs.Sound.{IsSound};
 ghost use Rattle.lil_resolved.specs.Views.{module_of, IsMeasured};
-ghost use Rattle.lil_check_unit.specs.Modules.{assembled};
+ghost use Rattle.lil_check_stmt.specs.Whole.{extent, text_extent};
+ghost use Rattle.lil_check_unit.specs.Modules.{assembled, module_words};
 ghost use Rattle.lil_check_unit.specs.Units as spec;
 
 use crate::assembling::assembled;
@@ -68,8 +69,9 @@ fn form_fault(u: &Unit) -> Fault
 /// The module of what a unit without faults declares and states, unless it has a form without code.
 fn with_forms(alloc: Global, u: &Unit, of: Checked) -> Result<RModule, ReadStop>
     ensures right { IfOk result (λ m. Some (module_of m) ≡ assembled of.declared.types of.declared.variables u.now.head.name.name of.stated.body) }
+    ensures body { IfOk result (λ m. of.stated.body ≡ Some m.body) }
     ensures measured { IfOk result (λ m. IsMeasured m) }
-    ensures few { IfOk result (λ m. m.words ≤ 32000) }
+    ensures fits { IfOk result (λ m. module_words (module_of m) ≤ 32000) }
     ensures wrong { (f : Told) → result ≡ Err (stop.Fault f) → (g : Found) × (assembled of.declared.types of.declared.variables u.now.head.name.name of.stated.body ≡ None) × (tell None (spec.form_rows u.now None) ≡ Some g) × (f ≡ spec.told g) }
 {
     let Checked {
@@ -86,8 +88,9 @@ fn with_forms(alloc: Global, u: &Unit, of: Checked) -> Result<RModule, ReadStop>
 /// The module of what a unit without faults declares and states, unless its data are too long or it has a form that isn't built.
 fn with_data(alloc: Global, u: &Unit, of: Checked) -> Result<RModule, ReadStop>
     ensures right { IfOk result (λ m. (Some (module_of m) ≡ assembled of.declared.types of.declared.variables u.now.head.name.name of.stated.body) × (spec.data_fault u.now of.declared of.stated of.late ≡ None)) }
+    ensures body { IfOk result (λ m. of.stated.body ≡ Some m.body) }
     ensures measured { IfOk result (λ m. IsMeasured m) }
-    ensures few { IfOk result (λ m. m.words ≤ 32000) }
+    ensures fits { IfOk result (λ m. module_words (module_of m) ≤ 32000) }
     ensures wrong { (f : Told) → result ≡ Err (stop.Fault f) → (g : Found) × (spec.last_of u.now of.declared of.stated of.late (assembled of.declared.types of.declared.variables u.now.head.name.name of.stated.body) ≡ Some g) × (f ≡ spec.told g) }
 {
     match data_fault(u, &of) {
@@ -96,16 +99,18 @@ fn with_data(alloc: Global, u: &Unit, of: Checked) -> Result<RModule, ReadStop>
     }
 }
 
-/// The module that a unit is, or its fault. The faults of imported and exported names and of declarations speak before those of
-/// statements, these before data that are too long (61), and those before a form that isn't built (90), told where it stands, and
-/// at last where the unit begins. Of each kind the one at the least place speaks, and there the one of the least number. Each module
-/// that is imported has an interface. The module keeps all of its unit, where no interface shows a name with a fault.
+/// The module that a unit is, or its fault. The faults of imported and exported names and of declarations speak before an
+/// enumeration that is too long (61), that before statements, these before data that are too long (61), and those before a form
+/// that isn't built (90), told where it stands, and at last where the unit begins. Of each kind the one at the least place
+/// speaks, and there the one of the least number. Each module that is imported has an interface. The module keeps all of its
+/// unit, where no interface shows a name with a fault.
 pub fn check_module(alloc: Global, u: &Unit, interfaces: &Interfaces) -> Result<RModule, ReadStop>
     requires { spec.HasInterfaces interfaces.now u.now }
     ensures right { IfOk result (λ m. (Some (module_of m) ≡ spec.module_of u.now interfaces.now) × (spec.unit_fault u.now interfaces.now ≡ None)) }
+    ensures kept { IfOk result (λ m. text_extent u.now.body ≤ extent m.body) }
     ensures sound { IfOk result (λ m. IsSound (module_of m)) }
     ensures measured { IfOk result (λ m. IsMeasured m) }
-    ensures few { IfOk result (λ m. m.words ≤ 32000) }
+    ensures fits { IfOk result (λ m. module_words (module_of m) ≤ 32000) }
     ensures wrong { (f : Told) → result ≡ Err (stop.Fault f) → (g : Found) × (spec.unit_fault u.now interfaces.now ≡ Some g) × (f ≡ spec.told g) }
     ensures least { spec.Speaks (spec.ClassesOfUnit u.now interfaces.now) (spec.unit_fault u.now interfaces.now) }
 {

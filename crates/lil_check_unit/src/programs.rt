@@ -3,9 +3,11 @@ ghost use Rattle.lil_base.specs.declared.fault.SourceFault.{SourceFault as Told}
 ghost use Rattle.lil_text.specs.declared.stop.ReadStop.TheVariants as stop;
 ghost use Rattle.lil_report.specs.declared.report.Fault.{Fault as Found};
 ghost use Rattle.lil_report.specs.Told.{tell};
-ghost use Rattle.lil_resolved.specs.Sizes.{IsSound};
+ghost use Rattle.lil_resolved.specs.Sound.{IsSound};
 ghost use Rattle.lil_resolved.specs.Views.{module_of, IsMeasured};
 ghost use Rattle.lil_interfaces.specs.Interfaces.{named, residents};
+ghost use Rattle.lil_check_stmt.specs.Whole.{extent, text_extent};
+ghost use Rattle.lil_check_unit.specs.Modules.{module_words};
 ghost use Rattle.lil_check_unit.specs.Units as spec;
 
 use crate::checking::told;
@@ -109,9 +111,10 @@ fn missing_fault(interfaces: &Interfaces, u: &Unit) -> Option<Fault>
 /// The module that a program is, or its fault, where its kind and name are right.
 fn with_imports(alloc: Global, u: &Unit) -> Result<RModule, ReadStop>
     ensures right { IfOk result (λ m. (Some (module_of m) ≡ spec.module_of u.now residents) × (spec.imports_fault u.now ≡ None)) }
+    ensures kept { IfOk result (λ m. text_extent u.now.body ≤ extent m.body) }
     ensures sound { IfOk result (λ m. IsSound (module_of m)) }
     ensures measured { IfOk result (λ m. IsMeasured m) }
-    ensures few { IfOk result (λ m. m.words ≤ 32000) }
+    ensures fits { IfOk result (λ m. module_words (module_of m) ≤ 32000) }
     ensures wrong { (f : Told) → result ≡ Err (stop.Fault f) → (g : Found) × (spec.imports_fault u.now ≡ Some g) × (f ≡ spec.told g) }
 {
     let interfaces = all_resident(alloc)?;
@@ -121,16 +124,18 @@ fn with_imports(alloc: Global, u: &Unit) -> Result<RModule, ReadStop>
     }
 }
 
-/// The module that a program is, in the file of this name, or its fault: the unit's kind or name (80, 76, 77), else an import that
-/// isn't there (90), else imported names and declarations, else statements, else data that are too long (61), else a form that
-/// isn't built (90), told where it stands, and at last where the unit begins. Of each kind the one at the least place speaks, and
-/// there the one of the least number. The module keeps all of its unit: no name stands for a declaration with a fault, and no
-/// statement is left out. It is sound, and the words of its shapes and variables are counted.
+/// The module that a program is, in the file of this name, or its fault: the unit's kind or name (80, 76, 77), else an import
+/// that isn't there (90), else imported names and declarations, else an enumeration that is too long (61), else statements, else
+/// data that are too long (61), else a form that isn't built (90), told where it stands, and at last where the unit begins. Of
+/// each kind the one at the least place speaks, and there the one of the least number. The module keeps all of its unit: no name
+/// stands for a declaration with a fault, and no statement is left out. It is sound, and the words of its shapes and variables
+/// are counted.
 pub fn check_program(alloc: Global, file: &Name, u: &Unit) -> Result<RModule, ReadStop>
     ensures right { IfOk result (λ m. (Some (module_of m) ≡ spec.module_of u.now residents) × (spec.program_fault file.now u.now ≡ None)) }
+    ensures kept { IfOk result (λ m. text_extent u.now.body ≤ extent m.body) }
     ensures sound { IfOk result (λ m. IsSound (module_of m)) }
     ensures measured { IfOk result (λ m. IsMeasured m) }
-    ensures few { IfOk result (λ m. m.words ≤ 32000) }
+    ensures fits { IfOk result (λ m. module_words (module_of m) ≤ 32000) }
     ensures wrong { (f : Told) → result ≡ Err (stop.Fault f) → (g : Found) × (spec.program_fault file.now u.now ≡ Some g) × (f ≡ spec.told g) }
     ensures least { spec.Speaks (spec.ClassesOfProgram file.now u.now) (spec.program_fault file.now u.now) }
 {

@@ -1,38 +1,42 @@
 -- What each form of expression, selector, designator, operation and element means, from what its parts mean.
-use Rattle.std.proofs.Common.{◌≡◌, ℕ, Bool, true, false, List, [], ◌∷◌, ◌++◌, length, map, Option, None, Some, pos, refl, sym, ap, subst, ◌∙◌, ◌≢◌}
+use Rattle.std.proofs.Common.{◌≡◌, ◌∷◌, ◌++◌, ℕ, Bool, false, List, [], Option, Some, None, Result, Ok, IfOk, pos, subst, ap, ◌∙◌, ◌≢◌, length, true, map, refl, sym}
+use Rattle.std.proofs.lemmas.Result.{IfOk-at_ok}
 use Rattle.lil_base.specs.declared.fault.Place.{Place}
 use Rattle.lil_base.specs.declared.operator.OneOp.{OneOp}
 use Rattle.lil_text.specs.declared.tree.Ident.{Ident}
 use Rattle.lil_text.specs.declared.tree.Qualident.{Qualident}
 use Rattle.lil_language.specs.declared.tree.Expr.{Expr, out-Expr}
 use Rattle.lil_language.specs.declared.tree.Expr.TheVariants as v
-use Rattle.lil_language.specs.declared.tree.Expr.TheOpen as o
-use Rattle.lil_language.specs.declared.tree.Expr.TheOpen.{Expr-F, Selector-F, Designator-F, Operation-F, Range-F}
-use Rattle.lil_language.specs.declared.tree.Expr.TheFolds.{map-Expr, map-Selector, fold-roll-Expr, fold-roll-Selector, fold_out-Designator, fold_out-Operation, map-Range, fold-roll-Range}
-use Rattle.lil_language.specs.declared.tree.Expr.TheViews.{roll-Expr, roll-Selector, roll-out-Expr, roll-out-Range}
 use Rattle.lil_language.specs.declared.tree.Selector.{Selector}
 use Rattle.lil_language.specs.declared.tree.Selector.TheVariants as w
 use Rattle.lil_language.specs.declared.tree.Designator.{Designator, out-Designator}
 use Rattle.lil_language.specs.declared.tree.Operation.{Operation, out-Operation}
 use Rattle.lil_language.specs.declared.tree.Range.{Range, out-Range, roll-Range}
 use Rattle.lil_types.specs.Types.{char}
-use Rattle.lil_report.specs.Told.{after, walk}
-use Rattle.lil_report.specs.Laws.{walk_map}
+use Rattle.lil_resolved.specs.declared.resolved.RStmt.{RStmt}
+use Rattle.lil_report.specs.declared.report.Fault.{Fault}
+use Rattle.lil_report.specs.Told.{Said, walk, after}
+use Rattle.lil_report.specs.Laws.{said_as, said_to, said_value, said_after, said_map, walk_map}
 use Rattle.lil_scope.specs.declared.thing.Kind.TheVariants as k
 use Rattle.lil_scope.specs.declared.env.Env.{Env}
-use Rattle.lil_call.specs.Calls.{call_node}
+use Rattle.lil_kinds.specs.declared.found.Found.{Found}
+use Rattle.lil_call.specs.declared.call.Callee.{Callee}
+use Rattle.lil_call.specs.declared.call.Argument.{Argument}
+use Rattle.lil_call.specs.declared.call.Argument.TheVariants as argument
+use Rattle.lil_call.specs.Calls.{call_node, statement_node}
 use Rattle.lil_check_value.specs.declared.designators.Reached.{Reached}
 use Rattle.lil_operators.specs.declared.operations.Chained.{Chained}
 use Rattle.lil_operators.specs.declared.sets.Elements.{Elements}
 use Rattle.lil_check_value.specs.declared.asked.Asked.{Asked}
-use Rattle.lil_check_value.specs.Designators.{root_means, field_node, follow_node}
-use Rattle.lil_operators.specs.Constants.{constant_found}
-use Rattle.lil_check_value.specs.Uses.{value_node, callee_node, typed_node}
-use Rattle.lil_operators.specs.Operations.{one_node, begun, two_node, chain_found}
-use Rattle.lil_operators.specs.Sets.{set_node, no_elements, joined_one, joined_range}
-use Rattle.lil_check_value.specs.SetTypes.{set_sort}
+use Rattle.lil_check_value.specs.Designators.{root_means, field_node, index_node, follow_node, value_node, variable_node, callee_node, typed_node}
+use Rattle.lil_operators.specs.Operations.{constant_found, one_node, begun, two_node, chain_found, set_node, joined_one, joined_range, no_elements}
+use Rattle.lil_check_value.specs.Looks.{set_sort}
+use Rattle.lil_check_value.specs.Values.{step, joins, means, typed_means, variable_means, call_means, reach_means, index_means, step_means, operation_means, elements_mean, argument_in, argument_means, arguments_mean, begins, text_found, asks, asks_at, begun_at, Sense, Way, Step, Operates, Joins, expression_layer, selector_layer, designator_layer, operation_layer, range_layer, sense, way, operates, as_argument}
+use Rattle.lil_language.specs.declared.tree.Expr.TheOpen as o
+use Rattle.lil_language.specs.declared.tree.Expr.TheOpen.{Expr-F, Selector-F, Range-F}
+use Rattle.lil_language.specs.declared.tree.Expr.TheFolds.{map-Expr, map-Selector, fold-roll-Expr, fold-roll-Selector, fold_out-Designator, fold_out-Operation, map-Range, fold-roll-Range}
+use Rattle.lil_language.specs.declared.tree.Expr.TheViews.{roll-Expr, roll-Selector, roll-out-Expr, roll-out-Range}
 use Rattle.lil_check_value.specs.Values as s
-use Rattle.lil_check_value.specs.Values.{Sense, Way, Step, Operates, Joins, expression_layer, selector_layer, designator_layer, operation_layer, range_layer, sense, step, way, operates, joins, means, typed_means, reach_means, index_means, step_means, operation_means, joins_mean, elements_mean, argument_in, argument_means, arguments_mean, begins, text_found, as_argument, asks, asks_at, begun_at}
 
 abbrev pub is_name : Expr-F Expr Selector Designator Operation Range → Bool
 is_name (o.Whole p n) = false
@@ -169,3 +173,104 @@ module _ (e : Env) where
 
   pub typed_default : (x : Expr) → ((p : Place) (d : Designator) → x ≢ v.Desig p d) → typed_means e x ≡ as_argument (means e x)
   typed_default x other = subst (λ z. typed_means e z ≡ as_argument (means e z)) (roll-out-Expr x) (typed_other (out-Expr x) (typed_rolled (out-Expr x) (λ p d h. other p d (sym (roll-out-Expr x) ∙ h))))
+
+-- ---- what calls say of the forms, from what they say of the parts
+
+module _ (e : Env) {r : Option Fault} where
+  -- ---- selectors and designators
+  module _ {of : Selector} (a : Option Reached) {b : Option Reached} {s : Option Fault} where
+    pub is_field : {dot : Place} {i : Ident} → of ≡ w.Field dot i → Said (field_node e dot i a) r b s → Said (step e of a) r b s
+    is_field {dot = dot} {i = i} is h = said_as (ap (λ x. step e x a) is ∙ field_is e dot i a) h
+
+    pub is_index : (xs : List Expr) {bracket : Place} → of ≡ w.Index bracket xs → Said (walk (index_means e bracket) a xs) r b s → Said (step e of a) r b s
+    is_index xs {bracket = bracket} is h = said_as (ap (λ x. step e x a) is ∙ index_is e bracket xs a) h
+
+    pub is_follow : {arrow : Place} → of ≡ w.Follow arrow → Said (follow_node e.types arrow a) r b s → Said (step e of a) r b s
+    is_follow {arrow = arrow} is h = said_as (ap (λ x. step e x a) is ∙ follow_is e arrow a) h
+
+  pub is_reached : (p : Place) (d : Designator) (ss : List Selector) {a b : Option Reached} {s t : Option Fault} → ss ≡ (out-Designator d).selectors → Said (root_means e p (out-Designator d).first) r a s
+      → Said (walk (step_means e) a ss) s b t → Said (reach_means e p d) r b t
+  is_reached p d ss {a = a} {b = b} {s = s} {t = t} is h g = said_as (reach_is e p d) (said_after _ _ h (subst (λ ss. Said (walk (step_means e) a ss) s b t) is g))
+
+  -- ---- items of lists
+  pub is_indexed : {E : Type 0} (bracket : Place) (x : Expr) (a : Option Reached) {kept b : Option Reached} {found : Result (Option Found) E} {i : Option Found} {s t : Option Fault} → (kept ≡ a) × (found ≡ Ok i)
+      → IfOk found (λ i. Said (means e x) r i s) → Said (index_node e.types bracket kept i) s b t → Said (index_means e bracket a x) r b t
+  is_indexed bracket x a {b = b} {i = i} {s = s} {t = t} held h g = said_after _ _ (IfOk-at_ok (λ i. Said (means e x) r i s) held.1 h) (subst (λ a. Said (index_node e.types bracket a i) s b t) held.0 g)
+
+  pub is_operated : {E : Type 0} (p : Place) (x : Operation) (a : Option Chained) {kept b : Option Chained} {found : Result (Option Found) E} {i : Option Found} {s t : Option Fault} → (kept ≡ a) × (found ≡ Ok i)
+      → IfOk found (λ i. Said (means e (out-Operation x).operand) r i s) → Said (two_node e.types p (out-Operation x).operator (out-Operation x).place kept i) s b t → Said (operation_means e p a x) r b t
+  is_operated p x a {b = b} {i = i} {s = s} {t = t} held h g = said_as (operation_is e p a x) (said_after _ _ (IfOk-at_ok (λ i. Said (means e (out-Operation x).operand) r i s) held.1 h)
+      (subst (λ a. Said (two_node e.types p (out-Operation x).operator (out-Operation x).place a i) s b t) held.0 g))
+
+  pub is_alone : {E : Type 0} (x : Range) (n : Option ℕ) (all : Option Elements) {kept more : Option Elements} {found : Result (Option Found) E} {a : Option Found} {s : Option Fault} → (out-Range x).high ≡ None → (kept ≡ all) × (found ≡ Ok a)
+      → IfOk found (λ a. Said (means e (out-Range x).low) r a s) → more ≡ joined_one e.types n kept a → Said (joins e x n all) r more s
+  is_alone x n all {a = a} {s = s} is held h m = said_as (alone_is e x n all is)
+      (said_to (said_map (joined_one e.types n all) (IfOk-at_ok (λ a. Said (means e (out-Range x).low) r a s) held.1 h)) (m ∙ ap (λ all. joined_one e.types n all a) held.0))
+
+  pub is_range : {E : Type 0} (x : Range) (high : Expr) (n : Option ℕ) (all : Option Elements) (s : Option Fault) {kept more : Option Elements} {both : Option Elements × Option Found} {low_found high_found : Result (Option Found) E} {a b : Option Found} {t : Option Fault}
+      → (out-Range x).high ≡ Some high → (kept ≡ all) × (low_found ≡ Ok a) → IfOk low_found (λ a. Said (means e (out-Range x).low) r a s) → (both ≡ (kept, a)) × (high_found ≡ Ok b) → IfOk high_found (λ b. Said (means e high) s b t)
+      → more ≡ joined_range e.types n both.0 both.1 b → Said (joins e x n all) r more t
+  is_range x high n all s {a = a} {b = b} {t = t} is held h held' g m = said_as (range_is e x high n all is) (said_after _ _ (IfOk-at_ok (λ a. Said (means e (out-Range x).low) r a s) held.1 h)
+      (said_to (said_map (joined_range e.types n all a) (IfOk-at_ok (λ b. Said (means e high) s b t) held'.1 g)) ((m ∙ ap (λ both. joined_range e.types n both.0 both.1 b) held'.0) ∙ ap (λ all. joined_range e.types n all a b) held.0)))
+
+  -- ---- arguments
+  pub is_typed : {of : Expr} {p : Place} (d : Designator) {a : Option Reached} {b : Argument} {s t : Option Fault} → of ≡ v.Desig p d → Said (reach_means e p d) r a s → Said (typed_node p a) s b t → Said (typed_means e of) r b t
+  is_typed {p = p} d is h g = said_as (ap (typed_means e) is ∙ typed_desig e p d) (said_after _ _ h g)
+
+  pub is_valued : {of : Expr} {a : Option Found} {s : Option Fault} → ((p : Place) (d : Designator) → of ≢ v.Desig p d) → Said (means e of) r a s → Said (typed_means e of) r (argument.Value a) s
+  is_valued {of = of} other h = said_as (typed_default e of other) (said_map argument.Value h)
+
+  pub is_plain : (x : Expr) {asks' : Bool} {a : Option Found} {s : Option Fault} → asks' ≡ false → Said (means e x) r a s → Said (argument_in e asks' x) r (argument.Value a) s
+  is_plain x is h = said_as (ap (λ b. argument_in e b x) is) (said_map argument.Value h)
+
+  pub is_argument : (asked : Asked) (out all : List Argument) (x : Expr) {asks' : Bool} {a : Argument} {s : Option Fault} → asks' ≡ asks_at asked (length out)
+      → Said (argument_in e asks' x) r a s → all ≡ out ++ a ∷ [] → Said (argument_means e asked out x) r all s
+  is_argument asked out all x {a = a} {s = s} is h more = said_to (said_map (λ one. out ++ one ∷ []) (subst (λ z. Said (argument_in e z x) r a s) is h)) more
+
+  -- ---- expressions
+  module _ {of : Expr} where
+    pub is_whole : {p : Place} {n : ℕ} {a : Found} → of ≡ v.Whole p n → a ≡ constant_found p (k.Whole (pos n)) → Said (means e of) r (Some a) r
+    is_whole {p = p} {n = n} is h = said_as (ap (means e) is ∙ whole_is e p n) (said_value (ap Some h))
+
+    pub is_code : {p : Place} {c : ℕ} {a : Found} → of ≡ v.Code p c → a ≡ constant_found p (k.Scalar char c) → Said (means e of) r (Some a) r
+    is_code {p = p} {c = c} is h = said_as (ap (means e) is ∙ code_is e p c) (said_value (ap Some h))
+
+    pub is_chars : {p : Place} {text : List ℕ} {a : Found} → of ≡ v.Chars p text → a ≡ text_found p text → Said (means e of) r (Some a) r
+    is_chars {p = p} {text = text} is h = said_as (ap (means e) is ∙ chars_is e p text) (said_value (ap Some h))
+
+    pub is_set : {p : Place} {q : Option Qualident} (xs : List Range) {t : Option ℕ} {es : Option Elements} {a : Option Found} {s u w' : Option Fault} → of ≡ v.SetOf p q xs
+        → Said (set_sort e q) r t s → Said (elements_mean e t xs) s es u → Said (set_node e.types p t es) u a w' → Said (means e of) r a w'
+    is_set {p = p} {q = q} xs is h g l = said_as (ap (means e) is ∙ set_is e p q xs) (said_after _ _ h (said_after _ _ g l))
+
+    pub is_desig : {p : Place} (d : Designator) {o : Option Reached} {a : Option Found} {s t : Option Fault} → of ≡ v.Desig p d → Said (reach_means e p d) r o s → Said (value_node e.texts o) s a t → Said (means e of) r a t
+    is_desig {p = p} d is h g = said_as (ap (means e) is ∙ desig_is e p d) (said_after _ _ h g)
+
+    pub is_one : {p : Place} {op : OneOp} {at : Place} (x : Expr) {a b : Option Found} {s t : Option Fault} → of ≡ v.One p op at x → Said (means e x) r a s → Said (one_node e.types p op at a) s b t → Said (means e of) r b t
+    is_one {p = p} {op = op} {at = at} x is h g = said_as (ap (means e) is ∙ one_is e p op at x) (said_after _ _ h g)
+
+    pub is_chain : {p : Place} (x : Expr) (xs : List Operation) {a : Option Found} {c d : Option Chained} {b : Option Found} {s t : Option Fault} → of ≡ v.Chain p x xs → Said (means e x) r a s → c ≡ begun a
+        → Said (walk (operation_means e p) c xs) s d t → b ≡ chain_found p d → Said (means e of) r b t
+    is_chain {p = p} x xs {a = a} {d = d} {s = s} {t = t} is h begins' g m = said_as (ap (means e) is ∙ chain_is e p x xs)
+        (said_to (said_map (chain_found p) (said_after _ _ h (subst (λ c. Said (walk (operation_means e p) c xs) s d t) begins' g))) m)
+
+    pub is_call : {E : Type 0} {p q : Place} (d : Designator) (xs : List Expr) {o : Option Reached} {c kept : Option Callee} {asked : Asked} {found : Result (List Argument) E} {given : List Argument} {a b : Option Found} {s t u w' : Option Fault}
+        → of ≡ v.Call p d xs → q ≡ begins d → Said (reach_means e q d) r o s → Said (callee_node o) s c t → asked ≡ asks c → (kept ≡ c) × (found ≡ Ok given) → IfOk found (λ given. Said (arguments_mean e asked xs) t given u)
+        → Said (call_node e.types q kept given) u a w' → b ≡ begun_at p a → Said (means e of) r b w'
+    is_call {p = p} {q = q} d xs {o = o} {c = c} {asked = k'} {given = given} {a = a} {s = s} {t = t} {u = u} {w' = w'} is first h g asked held g' l m = said_as (ap (means e) is ∙ call_is e p d xs)
+        (said_after _ _ (said_after _ _ (subst (λ q. Said (reach_means e q d) r o s) first h) g)
+        (said_to (said_map (begun_at p) (said_after _ _ (subst (λ z. Said (arguments_mean e z xs) t given u) asked (IfOk-at_ok (λ given. Said (arguments_mean e k' xs) t given u) held.1 g'))
+        (subst (λ q. Said (call_node e.types q c given) u a w') first (subst (λ c. Said (call_node e.types q c given) u a w') held.0 l)))) m))
+
+  -- ---- a variable, and a call that is a statement
+  pub is_variable : {q : Place} (d : Designator) {o : Option Reached} {a : Option Found} {s t : Option Fault} → q ≡ begins d → Said (reach_means e q d) r o s → Said (variable_node o) s a t → Said (variable_means e d) r a t
+  unfolding variable_means
+  is_variable d {o = o} {s = s} first h g = said_after _ _ (subst (λ q. Said (reach_means e q d) r o s) first h) g
+
+  pub is_stated : {E : Type 0} {q : Place} (d : Designator) (xs : List Expr) {ys : List Expr} {o : Option Reached} {c kept : Option Callee} {asked : Asked} {found : Result (List Argument) E} {given : List Argument} {a : Option RStmt}
+      {s t u w' : Option Fault} → q ≡ begins d → ys ≡ xs → Said (reach_means e q d) r o s → Said (callee_node o) s c t → asked ≡ asks c → (kept ≡ c) × (found ≡ Ok given) → IfOk found (λ given. Said (arguments_mean e asked ys) t given u)
+      → Said (statement_node e.types q kept given) u a w' → Said (call_means e d xs) r a w'
+  unfolding call_means
+  is_stated {q = q} d xs {ys = ys} {o = o} {c = c} {asked = k'} {given = given} {a = a} {s = s} {t = t} {u = u} {w' = w'} first these h g asked held g' l =
+      said_after _ _ (said_after _ _ (subst (λ q. Said (reach_means e q d) r o s) first h) g)
+      (said_after _ _ (subst (λ z. Said (arguments_mean e z xs) t given u) asked (subst (λ ys. Said (arguments_mean e k' ys) t given u) these (IfOk-at_ok (λ given. Said (arguments_mean e k' ys) t given u) held.1 g')))
+      (subst (λ q. Said (statement_node e.types q c given) u a w') first (subst (λ c. Said (statement_node e.types q c given) u a w') held.0 l)))

@@ -7,8 +7,7 @@ use Rattle.lil_report.specs.Told.{Said}
 use Rattle.lil_report.specs.Laws.{said_as, said_after}
 use Rattle.lil_scope.specs.declared.env.Env.{Env}
 use Rattle.lil_check_value.specs.declared.names.Looked.{Looked}
-use Rattle.lil_check_value.specs.Looks.{look, module_node, member_type, type_by, type_named}
-use Rattle.lil_check_value.specs.SetTypes.{sort_node, set_sort}
+use Rattle.lil_check_value.specs.Looks.{look, module_node, member_type, type_by, type_named, sort_node, set_sort}
 
 module _ {r s t : Option Fault} where
   pub is_qualified : (e : Env) (q : Qualident) (m : Ident) {l : Looked} {b a : Option ℕ} → q.owner ≡ Some m → l ≡ look e m.name → Said (module_node m.place l) r b s → Said (member_type e m.place q.name b) s a t

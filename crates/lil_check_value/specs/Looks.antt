@@ -1,20 +1,33 @@
 -- What names mean where they stand.
-use Rattle.std.specs.Prelude.{ℕ, ◌+◌, Bool, true, false, not, List, [], ◌∷◌, Option, Some, None}
+use Rattle.std.specs.Prelude.{◌≡◌, true, List, ◌∷◌, Option, ℕ, is_none, Bool, false, [], Some, None, if◌then◌else◌, ◌+◌, not}
+use Rattle.std.proofs.Common.{◌∙◌, ap}
 use Rattle.lil_base.specs.declared.fault.Place.{Place}
-use Rattle.lil_base.specs.declared.fault.FaultKind.TheVariants.{Unknown, NotExported, WrongKind, NotBuilt}
-use Rattle.lil_text.specs.declared.tree.Ident.{Ident}
+use Rattle.lil_base.specs.declared.fault.FaultKind.TheVariants.{NotBuilt, WrongKind, Unknown, NotExported}
+use Rattle.lil_report.specs.declared.report.Fault.{Fault}
+use Rattle.lil_report.specs.Told.{Row, row, noted, tell, Said, after}
 use Rattle.lil_text.specs.declared.tree.Qualident.{Qualident}
-use Rattle.lil_types.specs.Types.{Table}
-use Rattle.lil_report.specs.Told.{Row, row, after}
+use Rattle.lil_types.specs.Types.{Table, bit_set}
+use Rattle.lil_scope.specs.declared.env.Env.{Env}
+use Rattle.lil_kinds.specs.Forms.{set_base, field}
+use Rattle.lil_text.specs.declared.tree.Ident.{Ident}
 use Rattle.lil_scope.specs.declared.thing.Thing.{Thing}
 use Rattle.lil_scope.specs.declared.thing.Thing.TheVariants as t
-use Rattle.lil_scope.specs.declared.env.Env.{Env}
 use Rattle.lil_scope.specs.Built.{built}
 use Rattle.lil_scope.specs.Names.{find, member}
 use Rattle.lil_kinds.specs.declared.forms.FieldAt.{FieldAt}
-use Rattle.lil_kinds.specs.Forms.{field}
 use Rattle.lil_check_value.specs.declared.names.Looked.{Looked}
 use Rattle.lil_check_value.specs.declared.names.Looked.TheVariants.{Nothing, Field, Thing as Declared}
+
+-- ---- phrases whose form isn't built
+
+-- 90 NotBuilt, at the phrase's first token: it means the same, and has this row before its own
+unfoldable pub not_built : {A : Type 0} → Place → A × List Row → A × List Row
+not_built p m = (m.0, row true p NotBuilt ∷ m.1)
+
+module _ {A : Type 0} where
+  pub said_not_built : (p : Place) {m : A × List Row} {r u s : Option Fault} {a : A} → u ≡ noted r (row true p NotBuilt) → Said m u a s → Said (not_built p m) r a s
+  unfolding not_built tell
+  said_not_built p {m = m} is h = record { value = h.value; told = h.told ∙ ap (λ u. tell u m.1) is }
 
 -- ---- the nearest WITH whose record has a field of this name comes before all declarations
 abbrev pub nearer : Option FieldAt → ℕ → Looked → Looked
@@ -119,3 +132,25 @@ type_by e (Some m) x = after (module_node m.place (look e m.name)) (member_type 
 
 unfoldable pub type_named : Env → Qualident → Option ℕ × List Row
 type_named e q = type_by e q.owner q.name
+
+-- ---- types of sets
+
+-- the set's type: BITSET where none is named
+abbrev pub is_no_set : Table → ℕ → Bool
+is_no_set types s = is_none (set_base types s)
+
+abbrev pub set_only : Table → Option ℕ → Option ℕ
+set_only types None = None
+set_only types (Some s) = if is_no_set types s then None else Some s
+
+abbrev pub no_set : Table → Option ℕ → Bool
+no_set types None = false
+no_set types (Some s) = is_no_set types s
+
+-- 24 WrongKind: a type that is no set
+unfoldable pub sort_node : Table → Place → Option ℕ → Option ℕ × List Row
+sort_node types p o = (set_only types o, row (no_set types o) p WrongKind ∷ [])
+
+abbrev pub set_sort : Env → Option Qualident → Option ℕ × List Row
+set_sort e None = (Some bit_set, [])
+set_sort e (Some q) = after (type_named e q) (sort_node e.types q.name.place)

@@ -3,7 +3,7 @@ use Rattle.std.proofs.Common.{ℕ, ◌==◌, Bool, true, false, List, slice_get,
 use Rattle.std.specs.Prelude.{nat_lt, if◌then◌else◌}
 use Rattle.lil_base.specs.declared.fault.Place.{Place}
 use Rattle.lil_text.specs.declared.tree.Ident.{Ident}
-use Rattle.lil_resolved.specs.Shapes.{Scope}
+use Rattle.lil_resolved.specs.Kinds.{Scope}
 use Rattle.lil_scope.specs.declared.thing.Kind.TheVariants as k
 use Rattle.lil_scope.specs.declared.thing.Routine.{Routine}
 use Rattle.lil_scope.specs.declared.thing.Thing.{Thing}
@@ -18,10 +18,9 @@ use Rattle.lil_kinds.specs.declared.found.Located.{Located}
 use Rattle.lil_shapes.specs.BaseLaws.{if_so, if_true}
 use Rattle.lil_forms.specs.Places.{variable_at, held_at}
 use Rattle.lil_forms.specs.FoundSound.{Fits, FormSound, FoundSound}
-use Rattle.lil_forms.specs.PlaceSound.{Lies, variable_sound, held_sound, field_sound, element_sound, target_sound}
+use Rattle.lil_forms.specs.ValueSound.{Lies, variable_sound, held_sound, field_sound, element_sound, target_sound}
 use Rattle.lil_call.specs.CallSound.{ArgumentSound}
-use Rattle.lil_operators.specs.Constants.{constant_found}
-use Rattle.lil_operators.specs.Depths.{raised}
+use Rattle.lil_operators.specs.Operations.{constant_found, raised}
 use Rattle.lil_check_value.specs.declared.names.Looked.{Looked}
 use Rattle.lil_check_value.specs.declared.names.Looked.TheVariants.{Nothing, Field, Thing as Declared}
 use Rattle.lil_check_value.specs.declared.designators.Part.{Part}
@@ -29,8 +28,7 @@ use Rattle.lil_check_value.specs.declared.designators.Named.{Named}
 use Rattle.lil_check_value.specs.declared.designators.Reached.{Reached}
 use Rattle.lil_check_value.specs.declared.designators.Reached.TheVariants as reached
 use Rattle.lil_check_value.specs.Looks.{look, looked_as}
-use Rattle.lil_check_value.specs.Designators.{variable_place, thing_reached, looked_reached, name_node, root_means, record_kind, field_of, field_found, part_field, module_block, other_field_by, other_field, field_node, parts_of, index_fits, with_index, element_found, element_value, part_index, other_index, index_node, opaque_kind, target_of, target_found, target_value, part_follow, other_follow, follow_node}
-use Rattle.lil_check_value.specs.Uses.{located_form, part_found, routine_found, text_form, thing_found, named_value, value_node, variable_node, part_typed, typed_node}
+use Rattle.lil_check_value.specs.Designators.{variable_place, thing_reached, looked_reached, name_node, root_means, record_kind, field_of, field_found, part_field, module_block, other_field_by, other_field, field_node, parts_of, index_fits, with_index, element_found, element_value, part_index, other_index, index_node, opaque_kind, target_of, target_found, target_value, part_follow, other_follow, follow_node, located_form, part_found, routine_found, text_form, thing_found, named_value, value_node, variable_node, part_typed, typed_node}
 
 module _ (e : Env) (ts : Scope) (fits : Fits e.types e.variables e.withs ts) where
   -- the place of a variable or of a part lies in what is reached

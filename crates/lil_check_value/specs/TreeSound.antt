@@ -10,7 +10,7 @@ use Rattle.lil_language.specs.declared.tree.Designator.{Designator, roll-Designa
 use Rattle.lil_language.specs.declared.tree.Selector.{Selector}
 use Rattle.lil_language.specs.declared.tree.Operation.{Operation, roll-Operation}
 use Rattle.lil_language.specs.declared.tree.Range.{Range, roll-Range}
-use Rattle.lil_resolved.specs.Shapes.{Scope}
+use Rattle.lil_resolved.specs.Kinds.{Scope}
 use Rattle.lil_report.specs.Told.{Row, after, walk}
 use Rattle.lil_scope.specs.declared.env.Env.{Env}
 use Rattle.lil_kinds.specs.declared.found.Found.{Found}
@@ -23,15 +23,12 @@ use Rattle.lil_call.specs.Calls.{call_node}
 use Rattle.lil_call.specs.CallSound.{ArgumentSound, call_node_sound, statement_node_sound}
 use Rattle.lil_operators.specs.declared.operations.Chained.{Chained}
 use Rattle.lil_operators.specs.declared.sets.Elements.{Elements}
-use Rattle.lil_operators.specs.Constants.{Meaning}
-use Rattle.lil_operators.specs.Operations.{begun}
-use Rattle.lil_operators.specs.Sets.{no_elements, set_node}
+use Rattle.lil_operators.specs.Operations.{Meaning, begun, no_elements, set_node}
 use Rattle.lil_operators.specs.NodeSound.{ChainedSound, ElementsSound, one_node_sound, begun_node_sound, two_node_sound, chain_found_sound, joined_one_sound, joined_range_sound, set_node_sound}
 use Rattle.lil_check_value.specs.declared.designators.Reached.{Reached}
 use Rattle.lil_check_value.specs.declared.asked.Asked.{Asked}
-use Rattle.lil_check_value.specs.Designators.{root_means}
-use Rattle.lil_check_value.specs.Uses.{callee_node}
-use Rattle.lil_check_value.specs.SetTypes.{set_sort}
+use Rattle.lil_check_value.specs.Designators.{root_means, callee_node}
+use Rattle.lil_check_value.specs.Looks.{set_sort}
 use Rattle.lil_check_value.specs.Values.{Sense, Way, Step, Operates, Joins, asks, asks_at, argument_by, argument_step, given, begun_at, call_of, called, chain_means, expression_layer, index_step, selector_layer, designator_layer, operation_layer, range_layer, sense, step, way, operates, joins, means, typed_means, reach_means, begins, argument_in, argument_means, arguments_mean, variable_means, call_means}
 use Rattle.lil_check_value.specs.ReachSound.{ReachedSound, root_sound, field_node_sound, index_node_sound, follow_node_sound, value_node_sound, variable_node_sound, typed_node_sound}
 

@@ -29,12 +29,9 @@ use Rattle.lil_operators.specs.declared.operations.Chained.{Chained}
 use Rattle.lil_operators.specs.declared.sets.Elements.{Elements}
 use Rattle.lil_check_value.specs.declared.asked.Asked.{Asked}
 use Rattle.lil_check_value.specs.declared.asked.Asked.TheVariants as asked
-use Rattle.lil_check_value.specs.Designators.{Reaches, root_means, field_node, index_node, follow_node}
-use Rattle.lil_operators.specs.Constants.{Meaning, constant_found, plain_found}
-use Rattle.lil_check_value.specs.Uses.{value_node, variable_node, callee_node, typed_node}
-use Rattle.lil_operators.specs.Operations.{one_node, begun, two_node, chain_found}
-use Rattle.lil_operators.specs.Sets.{no_elements, joined_one, joined_range, set_node}
-use Rattle.lil_check_value.specs.SetTypes.{set_sort}
+use Rattle.lil_check_value.specs.Designators.{Reaches, root_means, field_node, index_node, follow_node, value_node, variable_node, callee_node, typed_node}
+use Rattle.lil_operators.specs.Operations.{Meaning, constant_found, plain_found, one_node, begun, two_node, chain_found, no_elements, joined_one, joined_range, set_node}
+use Rattle.lil_check_value.specs.Looks.{set_sort}
 
 -- An expression means a value, and something as an argument where a type's name may stand. A selector leads from what is
 -- reached to what it selects. A designator has its first token, and reaches something, where it or its expression begins at

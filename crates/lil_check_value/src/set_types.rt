@@ -1,6 +1,6 @@
 ghost use Rattle.std.specs.Prelude.{◌≡◌};
 ghost use Rattle.lil_report.specs.Told.{Said};
-ghost use Rattle.lil_check_value.specs.SetTypes as spec;
+ghost use Rattle.lil_check_value.specs.Looks as spec;
 
 use crate::names::type_named;
 use lil_base::{FaultKind, Place};
@@ -17,7 +17,7 @@ fn is_no_set(types: &TypeTable, sort: TypeId) -> bool
 }
 
 /// A type's name before the braces.
-#[tactic(auto, unfolding(crate::specs::SetTypes::sort_node, lil_report::specs::Told::tell))]
+#[tactic(auto, unfolding(crate::specs::Looks::sort_node, lil_report::specs::Told::tell))]
 fn sort_node(
     types: &TypeTable,
     report: &mut Report,

@@ -1,6 +1,6 @@
 ghost use Rattle.std.specs.Prelude.{◌≡◌, IfOk, slice_get};
 ghost use Rattle.lil_report.specs.Told.{Said};
-ghost use Rattle.lil_check_value.specs.Uses as spec;
+ghost use Rattle.lil_check_value.specs.Designators as spec;
 
 use crate::designators::{Named, Part, Reached, is_misplaced};
 use lil_base::{FaultKind, Items, Memory, Place, Shared, Text};
@@ -83,7 +83,7 @@ fn thing_found(
 }
 
 /// A name that is no variable, as a value.
-#[tactic(auto, unfolding(crate::specs::Uses::named_value, lil_report::specs::Told::tell))]
+#[tactic(auto, unfolding(crate::specs::Designators::named_value, lil_report::specs::Told::tell))]
 fn named_value(
     texts: &Items<Shared<Text>>,
     report: &mut Report,

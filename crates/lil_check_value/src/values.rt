@@ -337,7 +337,7 @@ pub fn boxed_expression(
     Ok(found)
 }
 
-/// The variable, or part of one, that a designator means. Its form is a value of that place.
+/// The variable, or part of one, that a designator means. Its form is the place itself.
 pub fn variable(
     alloc: Global,
     env: &Env,

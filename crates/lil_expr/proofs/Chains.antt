@@ -1,19 +1,18 @@
 -- The code of a chain, operation by operation.
-use Rattle.std.proofs.Common.{◌≡◌, ℕ, ◌+◌, ◌<◌, ◌≤◌, Bool, true, false, Some, None, List, [], ◌∷◌, ◌++◌, map, take, length, get_or, refl, sym, ap, ◌∙◌, subst, arith}
-use Rattle.std.proofs.lemmas.List.{take_more, take_all, map-append}
+use Rattle.std.proofs.Common.{◌≡◌, ℕ, ◌+◌, ◌<◌, Bool, true, false, Some, None, List, [], ◌∷◌, ◌++◌, map, take, length, get_or, refl, sym, ap, ◌∙◌, subst, arith}
+use Rattle.std.proofs.lemmas.List.{take_more, map-append}
 use Rattle.lil_base.specs.declared.operator.TwoOp.{TwoOp}
 use Rattle.lil_base.specs.declared.operator.TwoOp.TheVariants.{Or, And}
 use Rattle.lil_resolved.specs.declared.resolved.ROperation.{ROperation, out-ROperation}
 use Rattle.lil_resolved.specs.Kinds.{Kind}
 use Rattle.lil_resolved.specs.Resolved.{Expression, Two, Short, kind_of}
-use Rattle.lil_resolved.specs.Forms.{operation_is}
-use Rattle.lil_resolved.specs.Views.{two_of, chained, expression_of, operation_of}
+use Rattle.lil_resolved.specs.Views.{operation_is, two_of, chained, expression_of, operation_of}
 use Rattle.lil_asm.specs.declared.instr.Instr.{Instr}
 use Rattle.lil_table.specs.Rows.{IsAt, InstrsAt, two_code, short_code}
 use Rattle.lil_labels.specs.declared.buffer.Aim.{Aim}
 use Rattle.lil_labels.specs.declared.buffer.Aim.TheVariants as aim
 use Rattle.lil_labels.specs.Drafts.{Draft, Emits, Nothing, Doing, DoingAll, Makes, Places, aimed}
-use Rattle.lil_labels.specs.Emitting.{emits_none, emits_then, emits_as, emits_here, emits_fresh}
+use Rattle.lil_labels.specs.Emitting.{emits_then, emits_as, emits_here, emits_fresh}
 use Rattle.lil_expr.specs.Generating.{Value, Operating, OperatingAll, aim_of}
 use Rattle.lil_expr.proofs.Operators.{two_right}
 
@@ -22,9 +21,6 @@ chained_more a [] f = refl
 chained_more a (g ∷ fs) f = chained_more (g a) fs f
 
 -- ---- one behind another
-pub no_operations : (d : Draft) → Emits d d (OperatingAll [])
-no_operations d = emits_as d d _ (OperatingAll []) (λ x same start a value. value) (emits_none d)
-
 pub next_operation : (os : List ROperation) (i : ℕ) (o : ROperation) (a b c : Draft) → i < length os → o ≡ get_or os i o → Emits a b (OperatingAll (take i os)) → Emits b c (Operating o) → Emits a c (OperatingAll (take (i + 1) os))
 next_operation os i o a b c inside is so_far next =
     let more : take (i + 1) os ≡ take i os ++ o ∷ [] = take_more os i o inside ∙ ap (λ x. take i os ++ x ∷ []) (sym is) in
@@ -34,9 +30,6 @@ next_operation os i o a b c inside is so_far next =
     emits_as a c _ (OperatingAll (take (i + 1) os))
     (λ x t start e value. subst (λ (e : Expression). Value e x start (length c.bytes)) (sym (all e)) (t.1 start (chained e (map operation_of (take i os))) (t.0 start e value)))
     (emits_then a b c _ _ so_far next)
-
-pub all_operations : (os : List ROperation) (i : ℕ) (a b : Draft) → length os ≤ i → Emits a b (OperatingAll (take i os)) → Emits a b (OperatingAll os)
-all_operations os i a b past = subst (λ (os : List ROperation). Emits a b (OperatingAll os)) (take_all i os past)
 
 -- ---- an operation: its operand behind a jump, or its operand and an instruction
 -- an operator whose left operand may decide

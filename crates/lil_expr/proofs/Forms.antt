@@ -1,8 +1,7 @@
 -- The code of expressions, form by form.
 use Rattle.std.proofs.Common.{◌≡◌, ℕ, Bool, true, false, not, ◌&&◌, List, length, map, refl, subst}
 use Rattle.lil_base.specs.declared.operator.OneOp.{OneOp}
-use Rattle.lil_resolved.specs.Kinds.{Kind}
-use Rattle.lil_resolved.specs.Scalars.{Scalar, scalar_word, within, is_literal, is_reference}
+use Rattle.lil_resolved.specs.Kinds.{Kind, Scalar, scalar_word, within, is_literal, is_reference}
 use Rattle.lil_resolved.specs.Resolved.{Function, Expression, Constant, One, Apply, kind_of}
 use Rattle.lil_resolved.specs.declared.resolved.ROperation.{ROperation}
 use Rattle.lil_resolved.specs.Views.{chained, operation_of}

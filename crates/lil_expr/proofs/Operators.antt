@@ -1,14 +1,12 @@
 -- The instructions of operators.
-use Rattle.std.proofs.Common.{◌≡◌, ◌≢◌, ℤ, Bool, false, cond, refl, ap, ◌∙◌}
-use Rattle.lil_base.specs.Words.{Whole, Cardinal, Integer}
+use Rattle.std.proofs.Common.{◌≡◌, ◌≢◌, Bool, false, cond, refl, ap, ◌∙◌}
 use Rattle.lil_base.specs.declared.operator.OneOp.{OneOp}
 use Rattle.lil_base.specs.declared.operator.OneOp.TheVariants as one
 use Rattle.lil_base.specs.declared.operator.TwoOp.{TwoOp}
 use Rattle.lil_base.specs.declared.operator.TwoOp.TheVariants.{In}
 use Rattle.lil_resolved.specs.Kinds.{Kind, OfSet, is_set, compared_as}
 use Rattle.lil_resolved.specs.Resolved.{right_kind}
-use Rattle.lil_asm.specs.Bytes.{Sayable}
-use Rattle.lil_table.specs.Rows.{one_code, number_code, set_code, two_code, range_code}
+use Rattle.lil_table.specs.Rows.{one_code, number_code, set_code, two_code}
 
 -- the kind chooses no code of these
 pub one_same : (o : OneOp) (k j : Kind) → one_code o k ≡ one_code o j
@@ -30,7 +28,3 @@ two_by_sets o other = by_kind o OfSet other
 pub two_right : (o : TwoOp) (k : Kind) → two_code o (right_kind o k) ≡ two_code o k
 two_right In k = refl
 two_right _ k = refl
-
-pub range_sayable : (t : Whole) (r : ℤ × ℤ) → Sayable (range_code t r)
-range_sayable Cardinal r = tt
-range_sayable Integer r = tt

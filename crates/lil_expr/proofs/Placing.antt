@@ -7,14 +7,12 @@ use Rattle.lil_resolved.specs.declared.resolved.RPlace.{RPlace, out-RPlace}
 use Rattle.lil_resolved.specs.declared.resolved.RSelector.{RSelector}
 use Rattle.lil_resolved.specs.declared.shapes.RField.{RField}
 use Rattle.lil_resolved.specs.declared.shapes.RElements.{RElements}
-use Rattle.lil_resolved.specs.Kinds.{Kind, least, numbers}
-use Rattle.lil_resolved.specs.Shapes.{Shape, words, is_there, part_at, offset, shape_by, shape_at, element_of}
+use Rattle.lil_resolved.specs.Kinds.{Kind, least, numbers, Shape, words, is_there, part_at, offset, shape_by, shape_at, element_of}
 use Rattle.lil_resolved.specs.Resolved.{Designator, Variable, Held, Field, Element, Follow, Expression, kind_of, shape_of}
 use Rattle.lil_resolved.specs.Sound.{IsSoundPlace}
-use Rattle.lil_resolved.specs.Views.{root_view, selected, selector_of, place_of, shapes_of}
-use Rattle.lil_resolved.specs.Forms.{place_is}
+use Rattle.lil_resolved.specs.Views.{root_view, selected, selector_of, place_of, shapes_of, place_is}
 use Rattle.lil_asm.specs.declared.instr.Instr.TheVariants.{Llw, Ixc, Nlt}
-use Rattle.lil_table.specs.Rows.{IsAt, InstrsAt, Access, InData, OnTop, Behind, further, offset_in, address_code, load_code, test_code}
+use Rattle.lil_table.specs.Rows.{cut, IsAt, InstrsAt, Access, InData, OnTop, Behind, further, offset_in, address_code, load_code, test_code}
 use Rattle.lil_labels.specs.Entries.{small_at}
 use Rattle.lil_labels.specs.declared.buffer.HeldRecord.{HeldRecord}
 use Rattle.lil_labels.specs.Tables.{Tables, target_by, variable_by, part_by, elements_by, held_by}
@@ -109,7 +107,7 @@ field_selected s i n a b f c form is moved =
     (emits_tied c c _ (emits_none c))
 
 -- ---- elements
-element_reached : (x : Final) (d : Designator) (k j : Kind) (e : Expression) (n w : ℕ) (a : Access) (es : RElements) (p found start middle tested q : ℕ) → es ≡ elements_by (slice_get x.tables.shapes n) → j ≡ kind_of e → w ≡ word_of (least k)
+element_reached : (x : Final) (d : Designator) (k j : Kind) (e : Expression) (n w : ℕ) (a : Access) (es : RElements) (p found start middle tested q : ℕ) → es ≡ elements_by (slice_get x.tables.shapes n) → j ≡ kind_of e → w ≡ cut (word_of (least k))
     → IsSoundPlace x.layout.scope (Element d k e) → is_there (element_of (shape_of x.layout.scope d)) ≡ true → ReachedAt d a n x p found → InstrsAt x.code (address_code a) found start → Value e x start middle
     → InstrsAt x.code (test_code k j) middle tested → IsAt x.code tested (Ixc w es.words) q → ReachedAt (Element d k e) OnTop es.shape x p q
 element_reached x d k j e n w a es p found start middle tested q is typed worded sound there r address value test element =
@@ -137,7 +135,7 @@ element_reached x d k j e n w a es p found start middle tested q is typed worded
       within = omega (arith, ap words elements.shape, small_at x.tables.shapes es.shape x.described.measured);
     }
 
-pub element_selected : (s : RSelector) (k j : Kind) (e : Expression) (n w : ℕ) (a : Access) (es : RElements) (c0 c1 c2 c3 c4 : Draft) → ((d : Designator) → selector_of s d ≡ Element d k e) → es ≡ elements_by (slice_get c0.tables.shapes n) → j ≡ kind_of e → w ≡ word_of (least k)
+pub element_selected : (s : RSelector) (k j : Kind) (e : Expression) (n w : ℕ) (a : Access) (es : RElements) (c0 c1 c2 c3 c4 : Draft) → ((d : Designator) → selector_of s d ≡ Element d k e) → es ≡ elements_by (slice_get c0.tables.shapes n) → j ≡ kind_of e → w ≡ cut (word_of (least k))
     → Emits c0 c1 (DoingAll (address_code a)) → Emits c1 c2 (Value e) → Emits c2 c3 (DoingAll (test_code k j)) → Emits c3 c4 (Doing (λ word. Ixc w es.words)) → Emits c0 c4 (Selecting s a n OnTop es.shape)
 element_selected s k j e n w a es c0 c1 c2 c3 c4 form is typed worded address value test element =
     emits_as c0 c4 _ (Selecting s a n OnTop es.shape)

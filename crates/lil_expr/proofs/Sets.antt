@@ -1,13 +1,12 @@
 -- The code of sets, member by member, and the words of sets.
-use Rattle.std.proofs.Common.{◌≡◌, ℕ, ◌+◌, ◌*◌, ◌/◌, ◌%◌, ◌<◌, ◌≤◌, ℤ, List, [], ◌∷◌, ◌++◌, map, take, length, get_or, ◌==◌, refl, sym, ap, ◌∙◌, subst, arith}
+use Rattle.std.proofs.Common.{◌≡◌, ℕ, ◌+◌, ◌*◌, ◌/◌, ◌%◌, ◌<◌, ℤ, List, [], ◌∷◌, ◌++◌, map, take, length, get_or, ◌==◌, refl, sym, ap, ◌∙◌, subst, arith}
 use Rattle.std.specs.Int.{bit_at}
-use Rattle.std.proofs.lemmas.List.{take_more, take_all, map-append}
+use Rattle.std.proofs.lemmas.List.{take_more, map-append}
 use Rattle.std.proofs.lemmas.Nat.Bits.{bit_at_cat_low}
 use Rattle.lil_base.specs.Sets.{has, set_word}
 use Rattle.lil_base.specs.Words.{word_of}
 use Rattle.lil_resolved.specs.declared.resolved.RMember.{RMember}
-use Rattle.lil_resolved.specs.Kinds.{Kind, OfSet}
-use Rattle.lil_resolved.specs.Scalars.{SetOf, scalar_of, scalar_word}
+use Rattle.lil_resolved.specs.Kinds.{Kind, OfSet, SetOf, scalar_of, scalar_word}
 use Rattle.lil_resolved.specs.Members.{no_members}
 use Rattle.lil_resolved.specs.MemberLaws.{word_same, word_of_set}
 use Rattle.lil_resolved.specs.Resolved.{Expression, With, WithSpan, kind_of}
@@ -15,7 +14,7 @@ use Rattle.lil_resolved.specs.Views.{empty_set, with_members, member_of}
 use Rattle.lil_asm.specs.declared.instr.Instr.TheVariants.{Liw, Dup, Spn}
 use Rattle.lil_table.specs.Rows.{InstrsAt, test_code}
 use Rattle.lil_labels.specs.Drafts.{Draft, Emits, Doing, DoingAll}
-use Rattle.lil_labels.specs.Emitting.{emits_none, emits_then, emits_as}
+use Rattle.lil_labels.specs.Emitting.{emits_then, emits_as}
 use Rattle.lil_expr.specs.Generating.{Value, Tested, Joining, JoiningAll}
 use Rattle.lil_expr.proofs.Forms.{constant_emitted}
 
@@ -98,9 +97,6 @@ with_more : (k : Kind) (s : Expression) (fs : List (Kind → Expression → Expr
 with_more k s [] f = refl
 with_more k s (g ∷ fs) f = with_more k (g k s) fs f
 
-pub no_members_join : (k : Kind) (d : Draft) → Emits d d (JoiningAll k [])
-no_members_join k d = emits_as d d _ (JoiningAll k []) (λ x same start s set. set) (emits_none d)
-
 pub next_member : (k : Kind) (ms : List RMember) (i : ℕ) (m : RMember) (a b c : Draft) → i < length ms → m ≡ get_or ms i m → Emits a b (JoiningAll k (take i ms)) → Emits b c (Joining k m) → Emits a c (JoiningAll k (take (i + 1) ms))
 next_member k ms i m a b c inside is so_far next =
     let more : take (i + 1) ms ≡ take i ms ++ m ∷ [] = take_more ms i m inside ∙ ap (λ y. take i ms ++ y ∷ []) (sym is) in
@@ -110,9 +106,6 @@ next_member k ms i m a b c inside is so_far next =
     emits_as a c _ (JoiningAll k (take (i + 1) ms))
     (λ x t start s set. subst (λ (e : Expression). Value e x start (length c.bytes)) (sym (all s)) (t.1 start (with_members k s (map member_of (take i ms))) (t.0 start s set)))
     (emits_then a b c _ _ so_far next)
-
-pub all_members : (k : Kind) (ms : List RMember) (i : ℕ) (a b : Draft) → length ms ≤ i → Emits a b (JoiningAll k (take i ms)) → Emits a b (JoiningAll k ms)
-all_members k ms i a b past = subst (λ (ms : List RMember). Emits a b (JoiningAll k ms)) (take_all i ms past)
 
 -- the empty set, and its members
 pub set_emitted : (k : Kind) (ms : List RMember) (a b c : Draft) → Emits a b (Doing (λ w. Liw 0)) → Emits b c (JoiningAll k ms) → Emits a c (Value (with_members k empty_set (map member_of ms)))

@@ -7,7 +7,7 @@ use Rattle.lil_resolved.specs.declared.shapes.RField.{RField}
 use Rattle.lil_resolved.specs.declared.shapes.RElements.{RElements}
 use Rattle.lil_resolved.specs.declared.shapes.RShape.{RShape}
 use Rattle.lil_resolved.specs.declared.shapes.RShape.TheVariants as r
-use Rattle.lil_resolved.specs.Shapes.{Shape, Absent, Join, Row, words, is_there, part_at, offset, shape_at, fields_of, element_of, count_of}
+use Rattle.lil_resolved.specs.Kinds.{Shape, Absent, Join, Row, words, is_there, part_at, offset, shape_at, fields_of, element_of, count_of}
 use Rattle.lil_resolved.specs.Views.{number_of, shape_with, shapes_of, AreMeasuredFields, IsMeasuredShape, AreMeasured}
 use Rattle.lil_labels.specs.Entries.{entry, absent}
 use Rattle.lil_labels.specs.Tables.{field_by, part_in, part_by, elements_in, elements_by}

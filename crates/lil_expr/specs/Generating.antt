@@ -5,8 +5,7 @@ use Rattle.lil_base.specs.declared.operator.TwoOp.TheVariants.{Or, And}
 use Rattle.lil_resolved.specs.declared.resolved.ROperation.{ROperation}
 use Rattle.lil_resolved.specs.declared.resolved.RSelector.{RSelector}
 use Rattle.lil_resolved.specs.declared.resolved.RMember.{RMember}
-use Rattle.lil_resolved.specs.Kinds.{Kind}
-use Rattle.lil_resolved.specs.Shapes.{words, is_there, shape_at}
+use Rattle.lil_resolved.specs.Kinds.{Kind, words, is_there, shape_at}
 use Rattle.lil_resolved.specs.Resolved.{Designator, Expression, kind_of, shape_of}
 use Rattle.lil_resolved.specs.Sound.{IsSoundPlace, IsSoundExpression}
 use Rattle.lil_resolved.specs.Views.{chained, operation_of, selector_of, member_of, with_members, shapes_of}

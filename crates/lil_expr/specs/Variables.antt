@@ -4,8 +4,7 @@ use Rattle.std.specs.Prelude.{slice_get}
 use Rattle.std.specs.Option.{option_map}
 use Rattle.std.proofs.lemmas.Option.{none-some, same_Some, slice_get-map}
 use Rattle.lil_resolved.specs.declared.resolved.RDeclared.{RDeclared}
-use Rattle.lil_resolved.specs.Kinds.{Kind}
-use Rattle.lil_resolved.specs.Shapes.{Shape, Word, is_there, shape_by, shape_at}
+use Rattle.lil_resolved.specs.Kinds.{Kind, Shape, Word, is_there, shape_by, shape_at}
 use Rattle.lil_resolved.specs.Sound.{IsSoundVariable}
 use Rattle.lil_resolved.specs.Views.{offset_of, shape_declared, shapes_of}
 use Rattle.lil_table.specs.Rows.{KnownRow}

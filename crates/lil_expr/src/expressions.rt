@@ -84,7 +84,7 @@ fn emit_selector(
         }
         RSelector::Index(kind, index) => {
             let elements = code.elements(at.shape);
-            let least = least_word(*kind)?;
+            let least = least_word(*kind);
             emit_address(code, at.access)?;
             emit_expression(code, index)?;
             emit_test(code, *kind, base(index))?;

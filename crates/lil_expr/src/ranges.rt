@@ -1,10 +1,10 @@
 //! The tests that a number is one of a kind.
 
-ghost use Rattle.std.specs.Prelude.{◌≡◌, ◌≤ℤ◌, pos, IfOk, OnOk};
+ghost use Rattle.std.specs.Prelude.{◌≡◌, ◌≤ℤ◌, pos, OnOk};
 ghost use Rattle.lil_base.specs.Words.{word_of};
 ghost use Rattle.lil_resolved.specs.Kinds as kinds;
 ghost use Rattle.lil_resolved.specs.Views.{base_view, kind_view};
-ghost use Rattle.lil_table.specs.Rows.{range_code, test_code};
+ghost use Rattle.lil_table.specs.Rows.{cut, range_code, test_code};
 ghost use Rattle.lil_labels.specs.Drafts.{DoingAll, Emits};
 
 use crate::numbers::word_of_number;
@@ -60,15 +60,11 @@ fn kind_greatest(kind: RKind) -> i32
     }
 }
 
-/// The word of the least number of a kind, where it has one: a kind that begins above 65535 has no values.
-pub(crate) fn least_word(kind: RKind) -> Result<u16, Memory>
-    ensures { IfOk result (λ word. word ≡ word_of (kinds.least (kind_view kind))) }
+/// The word of the least number of a kind, cut to 16 bits where it lies above 65535: such a kind has no values.
+pub(crate) fn least_word(kind: RKind) -> u16
+    ensures { result ≡ cut (word_of (kinds.least (kind_view kind))) }
 {
-    let least = kind_least(kind);
-    if least > 65_535 {
-        return Err(Memory);
-    }
-    Ok(word_of_number(least))
+    word_of_number(kind_least(kind))
 }
 
 fn larger(x: i32, y: i32) -> i32

@@ -10,13 +10,11 @@ use Rattle.lil_declared.specs.declared.declared.RVar.{RVar}
 use Rattle.lil_kinds.specs.declared.found.Found.{Found}
 use Rattle.lil_kinds.specs.declared.found.Located.{Located}
 use Rattle.lil_resolved.specs.Bases.{own_base}
-use Rattle.lil_resolved.specs.Kinds.{Kind, OfTruth, base_of}
-use Rattle.lil_resolved.specs.Forms.{if_is, case_is, while_is, repeat_is, loop_is, exit_is, halt_is, return_is, for_is, inside_is, guard_is, arm_is}
+use Rattle.lil_resolved.specs.Kinds.{Kind, OfTruth, base_of, Scope, with_held}
+use Rattle.lil_resolved.specs.Views.{if_is, case_is, while_is, repeat_is, loop_is, exit_is, halt_is, return_is, for_is, inside_is, guard_is, arm_is, base_view, kind_view, label_of, guarded, armed, else_of, expression_of, place_of, statements_of}
 use Rattle.lil_resolved.specs.Resolved.{Statements, Arms, shape_of}
 use Rattle.lil_resolved.specs.Sound.{is_ordinal, IsSoundVariable, IsSoundWhole, IsSoundValue, IsSoundHeld, IsSoundLabel, AreSoundLabels, IsStep, IsSoundBody, AreSoundArms}
-use Rattle.lil_resolved.specs.Shapes.{Scope, with_held}
 use Rattle.lil_resolved.specs.Views as views
-use Rattle.lil_resolved.specs.Views.{base_view, kind_view, label_of, guarded, armed, else_of, expression_of, place_of, statements_of}
 use Rattle.lil_resolved.specs.declared.resolved.RArm.{RArm, out-RArm}
 use Rattle.lil_resolved.specs.declared.resolved.RBase.{RBase}
 use Rattle.lil_resolved.specs.declared.resolved.RExpr.{RExpr}
@@ -26,8 +24,7 @@ use Rattle.lil_resolved.specs.declared.resolved.RLabel.{RLabel}
 use Rattle.lil_resolved.specs.declared.resolved.RStmt.{RStmt}
 use Rattle.lil_resolved.specs.declared.resolved.RStmt.TheVariants as s
 use Rattle.lil_resolved.specs.declared.resolved.RVariable.{RVariable}
-use Rattle.lil_shapes.specs.Bases.{kind_at}
-use Rattle.lil_shapes.specs.Composites.{composite_at}
+use Rattle.lil_shapes.specs.Bases.{kind_at, composite_at}
 use Rattle.lil_shapes.specs.Operators.{has_number, base_for}
 use Rattle.lil_shapes.specs.BaseLaws.{if_true, number_sound}
 use Rattle.lil_shapes.specs.ListLaws.{AllFine}
@@ -38,8 +35,7 @@ use Rattle.lil_forms.specs.Places.{near}
 use Rattle.lil_forms.specs.Statements.{condition, guard_of, conditional, repeated_while, repeated_until, looped, record_by, record_at, within, label_fits, arm_fits, arm_of, selected, counter_by, counter_in, counter, start_of, limit_of, bounds_of, is_step, counted_with}
 use Rattle.lil_forms.specs.Parts.{has_base}
 use Rattle.lil_forms.specs.FoundSound.{Fits, IsPlaced, Runs, FoundSound, has_shape, both_left, both_right}
-use Rattle.lil_forms.specs.ValueSound.{typed_sound, exactly_sound, fitting_sound, IsCompared}
-use Rattle.lil_forms.specs.PlaceSound.{IsNear, near_sound, composite_there, variable_lies}
+use Rattle.lil_forms.specs.ValueSound.{IsNear, near_sound, composite_there, variable_lies, typed_sound, exactly_sound, fitting_sound, IsCompared}
 use Rattle.lil_forms.specs.StatementSound.{StatementSound, AllSound, body_sound, made_sound}
 
 -- ---- labels and steps

@@ -12,7 +12,7 @@ use Rattle.lil_kinds.specs.declared.found.Form.TheVariants as form
 use Rattle.lil_kinds.specs.declared.found.Found.{Found}
 use Rattle.lil_kinds.specs.declared.found.Located.{Located}
 use Rattle.lil_resolved.specs.Resolved.{Designator, shape_of}
-use Rattle.lil_resolved.specs.Shapes.{Shape, Scope, is_there, outermost, with_held}
+use Rattle.lil_resolved.specs.Kinds.{Shape, Scope, is_there, outermost, with_held}
 use Rattle.lil_resolved.specs.Sound.{IsSoundPlace, IsSoundExpression}
 use Rattle.lil_resolved.specs.Views.{expression_of, place_of}
 use Rattle.lil_resolved.specs.declared.resolved.RExpr.{RExpr}

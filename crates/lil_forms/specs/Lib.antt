@@ -1,11 +1,6 @@
-pub mod ArgumentSound
-pub mod Arguments
 pub mod ControlSound
 pub mod FoundSound
-pub mod OperatorSound
-pub mod Operators
 pub mod Parts
-pub mod PlaceSound
 pub mod Places
 pub mod StatementSound
 pub mod Statements

@@ -6,8 +6,7 @@ use Rattle.lil_base.specs.declared.operator.TwoOp.TheVariants.{Equal, Unequal, L
 use Rattle.lil_resolved.specs.Bases.{own_base}
 use Rattle.lil_resolved.specs.Kinds.{Kind, OfWhole, OfSet, compared_as}
 use Rattle.lil_resolved.specs.Resolved.{Designator, Expression, kind_of, function_kind}
-use Rattle.lil_resolved.specs.Forms.{constant_is, taken_is, one_is, apply_is, chain_is, set_is, operation_is, place_is, member_is}
-use Rattle.lil_resolved.specs.Views.{base_view, kind_view, function_of, root_view, two_of, chained, selected, with_members, empty_set, expression_layer, selector_layer, member_layer, operation_layer, place_layer, expression_of, selector_of, member_of, operation_of, place_of}
+use Rattle.lil_resolved.specs.Views.{constant_is, taken_is, one_is, apply_is, chain_is, set_is, operation_is, place_is, member_is, base_view, kind_view, function_of, root_view, two_of, chained, selected, with_members, empty_set, expression_layer, selector_layer, member_layer, operation_layer, place_layer, expression_of, selector_of, member_of, operation_of, place_of}
 use Rattle.lil_resolved.specs.declared.resolved.RBase.{RBase}
 use Rattle.lil_resolved.specs.declared.resolved.RBase.TheVariants as b
 use Rattle.lil_resolved.specs.declared.resolved.RExpr.{RExpr}
@@ -23,10 +22,9 @@ use Rattle.lil_resolved.specs.declared.resolved.ROperation.{ROperation, out-ROpe
 use Rattle.lil_resolved.specs.declared.resolved.RPlace.{RPlace, roll-RPlace, out-RPlace}
 use Rattle.lil_resolved.specs.declared.resolved.RRoot.{RRoot}
 use Rattle.lil_resolved.specs.declared.resolved.RSelector.{RSelector}
-use Rattle.lil_shapes.specs.Operators.{base_for}
-use Rattle.lil_shapes.specs.OperatorLaws.{base_again}
+use Rattle.lil_shapes.specs.Operators.{base_for, base_again}
 use Rattle.lil_forms.specs.Places.{further}
-use Rattle.lil_forms.specs.Operators.{operation}
+use Rattle.lil_forms.specs.Values.{operation}
 
 -- ---- places
 selected_more : (d : Designator) (ss : List RSelector) (s : RSelector) → selected d (map selector_of (ss ++ s ∷ [])) ≡ selector_of s (selected d (map selector_of ss))

@@ -4,7 +4,7 @@ use Rattle.lil_types.specs.Types.{Table}
 use Rattle.lil_declared.specs.declared.declared.RVar.{RVar}
 use Rattle.lil_kinds.specs.declared.found.Found.{Found}
 use Rattle.lil_kinds.specs.declared.found.Located.{Located}
-use Rattle.lil_resolved.specs.Depth.{place_depth}
+use Rattle.lil_resolved.specs.Sizes.{place_depth}
 use Rattle.lil_resolved.specs.Sound as sound
 use Rattle.lil_resolved.specs.Views.{kind_view, place_of}
 use Rattle.lil_resolved.specs.declared.resolved.RExpr.{RExpr}
@@ -16,8 +16,7 @@ use Rattle.lil_resolved.specs.declared.resolved.RSelector.{RSelector}
 use Rattle.lil_resolved.specs.declared.resolved.RSelector.TheVariants as part
 use Rattle.lil_shapes.specs.declared.composites.ArrayParts.{ArrayParts}
 use Rattle.lil_shapes.specs.declared.pointers.Target.{Target}
-use Rattle.lil_shapes.specs.Bases.{kind_at}
-use Rattle.lil_shapes.specs.Composites.{field_at, array_at}
+use Rattle.lil_shapes.specs.Bases.{kind_at, field_at, array_at}
 use Rattle.lil_shapes.specs.Pointers.{target_at}
 use Rattle.lil_forms.specs.declared.places.Cell.{Cell}
 use Rattle.lil_forms.specs.Values.{value_kind, typed}

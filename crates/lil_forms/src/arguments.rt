@@ -1,6 +1,6 @@
 ghost use Rattle.std.specs.Prelude.{◌≡◌, IfOk, Some, true};
 ghost use Rattle.lil_resolved.specs.Sound.{is_text};
-ghost use Rattle.lil_forms.specs.Arguments as spec;
+ghost use Rattle.lil_forms.specs.Statements as spec;
 
 use crate::places::{Cell, cell_at, near};
 use crate::sets::allocated;
@@ -126,7 +126,7 @@ fn argument_given(t: &TypeTable, parameter: Parameter, of: Found) -> Option<RArg
 }
 
 /// One argument more, which has a value. It has no form where the value has none, and where its parameter has no code.
-#[tactic(auto, unfolding(crate::specs::Arguments::handed_over))]
+#[tactic(auto, unfolding(crate::specs::Statements::handed_over))]
 pub fn handed_over(
     t: &TypeTable,
     parameter: Parameter,
@@ -303,7 +303,7 @@ fn request(of: Option<Request>, handed: Handed) -> Option<RStmt>
 }
 
 /// A call of a resident procedure. None where an argument has no form, or the procedure has no code.
-#[tactic(auto, unfolding(crate::specs::Arguments::called))]
+#[tactic(auto, unfolding(crate::specs::Statements::called))]
 pub fn called(of: Resident, handed: Handed) -> Option<RStmt>
     ensures { result ≡ spec.called of handed }
 {

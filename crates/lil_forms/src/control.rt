@@ -150,7 +150,7 @@ pub fn arm_of(labels: Items<RLabel>, body: Option<Items<RStmt>>) -> Option<RArm>
 }
 
 /// A CASE of arms whose labels are all numbers of what it selects by.
-#[tactic(auto, unfolding(crate::specs::Statements::selected), using(lil_shapes::specs::OperatorLaws::base_again))]
+#[tactic(auto, unfolding(crate::specs::Statements::selected), using(lil_shapes::specs::Operators::base_again))]
 pub fn selected(
     by: Option<RExpr>,
     arms: Option<Items<RArm>>,

@@ -1,5 +1,5 @@
 ghost use Rattle.std.specs.Prelude.{◌≡◌, IfOk, Some};
-ghost use Rattle.lil_forms.specs.Operators as spec;
+ghost use Rattle.lil_forms.specs.Values as spec;
 
 use crate::values::{fitting, typed};
 use lil_base::{Boxed, Items, Memory, OneOp, TwoOp, beside};
@@ -47,7 +47,7 @@ pub fn one_of(alloc: Global, operator: OneOp, of: Option<RExpr>) -> Result<Optio
 }
 
 /// The first operand of a chain.
-#[tactic(auto, using(lil_shapes::specs::OperatorLaws::base_again))]
+#[tactic(auto, using(lil_shapes::specs::Operators::base_again))]
 pub fn begun(alloc: Global, of: Option<RExpr>) -> Option<Built>
     ensures { result ≡ spec.begun of }
 {

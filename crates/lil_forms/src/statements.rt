@@ -1,6 +1,6 @@
 ghost use Rattle.std.specs.Prelude.{◌≡◌, true, Some};
 ghost use Rattle.lil_resolved.specs.Sound.{is_text};
-ghost use Rattle.lil_shapes.specs.Characters as characters;
+ghost use Rattle.lil_shapes.specs.Bases as characters;
 ghost use Rattle.lil_forms.specs.Statements as spec;
 
 use crate::places::{Cell, cell_at, near};
@@ -126,7 +126,7 @@ pub fn changed(t: &TypeTable, way: Direction, of: Option<Located>, by: Found) ->
 }
 
 /// The number 1 of the type that goes with a kind.
-#[tactic(auto, using(lil_shapes::specs::OperatorLaws::base_again))]
+#[tactic(auto, using(lil_shapes::specs::Operators::base_again))]
 fn one_in(kind: RKind) -> RExpr
     ensures { result ≡ spec.one_in kind }
 {

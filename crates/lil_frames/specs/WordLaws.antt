@@ -2,7 +2,7 @@
 use Rattle.std.proofs.Common.{◌≡◌, ℕ, ◌+◌, ◌-◌, ◌≤◌, List, ◌++◌, length, take, drop, sym, ap, ◌∙◌, arith, length-take, length-drop, append_assoc}
 use Rattle.std.proofs.lemmas.List.{drop-drop, length-replicate, length-append, length-take-le, drop-append-le, take-append-le, drop-take, take-take, take_at, drop_at}
 use borrow.Rule.Slice.PartMut.{put_mid}
-use Rattle.lil_frames.specs.Words.{spliced, zeros, cleared}
+use Rattle.lil_frames.specs.Words.{spliced, zeros}
 
 pub length-zeros : (n : ℕ) → length (zeros n) ≡ n
 unfolding zeros
@@ -57,9 +57,3 @@ spliced_on store words more to room =
     ∙ ap (λ (t : List ℕ). front ++ (more ++ t)) last
     ∙ append_assoc (take to store) words (more ++ drop (to + length (words ++ more)) store)
     ∙ ap (λ (t : List ℕ). take to store ++ t) (sym (append_assoc words more (drop (to + length (words ++ more)) store)))
-
--- as many words as before
-pub length_cleared : (store : List ℕ) (from to : ℕ) → from ≤ to → to ≤ length store → length (cleared store from to) ≡ length store
-length_cleared store from to ordered within =
-    let n : length (zeros (to - from)) ≡ to - from = length-zeros (to - from) in
-    length_spliced store (zeros (to - from)) from (omega arith)

@@ -1,10 +1,9 @@
 -- Interfaces of modules, and those of the resident modules Terminal, InOut, Storage and SYSTEM.
-use Rattle.std.specs.Prelude.{ℕ, true, false, nat_lt, length, List, [], ◌∷◌, ◌++◌, Option, Some, None, if◌then◌else◌, codes}
-use Rattle.lil_types.specs.declared.table.Origin.{Origin}
+use Rattle.std.specs.Prelude.{ℕ, true, false, List, [], ◌∷◌, ◌++◌, Option, Some, None, if◌then◌else◌, codes}
 use Rattle.lil_types.specs.declared.table.Parameter.{Parameter}
 use Rattle.lil_types.specs.declared.table.TypeForm.TheVariants.{Procedure}
-use Rattle.lil_types.specs.Types.{Table, char, cardinal, integer, proc, address, process}
-use Rattle.lil_types.specs.Adding.{next, added, added_number}
+use Rattle.lil_types.specs.Types.{char, cardinal, integer, proc, address, process}
+use Rattle.lil_types.specs.Adding.{own, added, added_number}
 use Rattle.lil_declared.specs.declared.standard.Resident.{Resident}
 use Rattle.lil_declared.specs.declared.standard.Resident.TheVariants as r
 use Rattle.lil_scope.specs.declared.thing.Kind.TheVariants as k
@@ -81,13 +80,6 @@ empty n = record { name = n; types = []; names = [] }
 unfoldable pub with_shown : Interface → List ℕ → Thing → Interface
 with_shown i n x = record { name = i.name; types = i.types; names = i.names ++ shown n x ∷ [] }
 
--- the number that a table's next type gets in its own module
-abbrev pub own_number : Table → ℕ
-own_number t = if nat_lt 65519 (length t) then 0 else next t
-
-abbrev pub own_origin : Table → Origin
-own_origin t = record { «module» = 0; number = own_number t }
-
 abbrev pub with_resident : List Exported → List ℕ → Resident → Option ℕ → List Exported
 with_resident ns n r None = ns
 with_resident ns n r (Some sort) = ns ++ shown n (t.Resident r sort) ∷ []
@@ -96,7 +88,7 @@ with_resident ns n r (Some sort) = ns ++ shown n (t.Resident r sort) ∷ []
 unfoldable pub with_procedure : Interface → List ℕ → Resident → List Parameter → Interface
 with_procedure i n r ps = record {
   name = i.name;
-  types = added i.types (own_origin i.types) (Procedure ps None);
+  types = added i.types (own i.types) (Procedure ps None);
   names = with_resident i.names n r (added_number i.types (Procedure ps None));
 }
 

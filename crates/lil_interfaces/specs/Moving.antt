@@ -1,5 +1,5 @@
 -- What an interface says, in the numbers of a unit's table to which its types are added.
-use Rattle.std.specs.Prelude.{ℕ, ◌+◌, nat_lt, nat_le, Bool, true, false, map, List, [], ◌∷◌, Option, Some, None, if◌then◌else◌}
+use Rattle.std.specs.Prelude.{ℕ, ◌+◌, nat_lt, min, Bool, true, false, map, List, [], ◌∷◌, Option, Some, None, if◌then◌else◌}
 use Rattle.lil_types.specs.declared.table.Field.{Field}
 use Rattle.lil_types.specs.declared.table.Parameter.{Parameter}
 use Rattle.lil_types.specs.declared.table.TypeForm.{TypeForm}
@@ -15,9 +15,9 @@ use Rattle.lil_scope.specs.Names.{bound_at}
 use Rattle.lil_interfaces.specs.declared.surface.Exported.{Exported}
 use Rattle.lil_interfaces.specs.Standard.{Block, known}
 
--- ---- numbers: standard ones stay, and own ones move by as many as stood in the table before. No table has the number 65535
+-- ---- numbers: standard ones stay, and own ones move by as many as stood in the table before. No table has the number 4294967295
 abbrev pub moved : ℕ → ℕ → ℕ
-moved s n = if nat_lt n 16 then n else (if nat_le (s + n) 65535 then s + n else 65535)
+moved s n = if nat_lt n 16 then n else min (s + n) 4294967295
 
 abbrev pub moved_some : ℕ → Option ℕ → Option ℕ
 moved_some s None = None

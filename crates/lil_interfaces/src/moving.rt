@@ -16,11 +16,7 @@ fn moved(start: usize, number: TypeId) -> TypeId
     if number < 16 {
         return number;
     }
-    if start > 65535 {
-        return 65535;
-    }
-    let sum = start + usize::from(number);
-    if sum <= 65535 { sum as TypeId } else { 65535 }
+    start.saturating_add(number as usize).min(4_294_967_295) as TypeId
 }
 
 fn moved_some(start: usize, number: Option<TypeId>) -> Option<TypeId>

@@ -10,8 +10,8 @@ use lil_base::{Items, Memory, Name, beside};
 use lil_declared::Resident;
 use lil_scope::{Kind, Thing};
 use lil_types::{
-    ADDRESS, CARDINAL, CHAR, INTEGER, Origin, PROC, PROCESS, Parameter, TypeForm, TypeId,
-    TypeTable, add,
+    ADDRESS, CARDINAL, CHAR, INTEGER, PROC, PROCESS, Parameter, TypeForm, TypeId, TypeTable, add,
+    own,
 };
 use std::alloc::Global;
 
@@ -42,23 +42,6 @@ fn open_value(sort: TypeId) -> Parameter
         by_place: false,
         open_array: true,
         sort,
-    }
-}
-
-/// The origin of a table's next type, where it is the module's own.
-fn own_origin(t: &TypeTable) -> Origin
-    ensures { result ≡ spec.own_origin t.now }
-{
-    if t.len() > 65519 {
-        Origin {
-            module: 0,
-            number: 0,
-        }
-    } else {
-        Origin {
-            module: 0,
-            number: t.len() as TypeId + 16,
-        }
     }
 }
 
@@ -97,7 +80,7 @@ fn procedure(
 {
     let name = literal(alloc, name)?;
     let parameters = Items::from_slice(alloc, parameters)?;
-    let origin = own_origin(&of.types);
+    let origin = own(&of.types);
     let sort = add(&mut of.types, origin, TypeForm::Procedure(parameters, None))?;
     name_resident(&mut of.names, name, what, sort)?;
     Ok(())

@@ -26,9 +26,6 @@ all_left base number text none small = record {
 }
 
 module _ (base number : ℕ) (text : List ℕ) (rest : ℕ) (left : Left base number text rest) where
-  pub room : length text ≤ 5
-  room = omega (arith, left.count)
-
   -- one digit goes to the others
   pub next_left : 8 ≤ base → base ≤ rest → Left base number (text ++ digit (rest % base) ∷ []) (rest / base)
   next_left least more = by left.more left.count left.below left.same

@@ -1,10 +1,10 @@
 -- Labels and strings that are added to a draft.
-use Rattle.std.proofs.Common.{◌≡◌, ℕ, zero, suc, ◌+◌, ◌<◌, true, List, [], ◌∷◌, ◌++◌, length, get_or, Option, Some, None, refl, sym, ap, ◌∙◌, subst, arith, length-append, append-nil, append_assoc}
+use Rattle.std.proofs.Common.{◌≡◌, ℕ, zero, suc, ◌+◌, ◌%◌, ◌<◌, ◌≤◌, true, List, [], ◌∷◌, ◌++◌, length, get_or, Option, Some, None, refl, sym, ap, ◌∙◌, subst, arith, length-append, append-nil, append_assoc}
 use Rattle.std.specs.Prelude.{slice_get}
 use Rattle.std.proofs.lemmas.Option.{slice_get_within}
 use Rattle.std.proofs.lemmas.List.{get_or_append_left, get_or-append-add}
 use Rattle.lil_resolved.specs.Sound.{is_text}
-use Rattle.lil_resolved.specs.Strings.{words_of}
+use Rattle.lil_resolved.specs.Sizes.{words_of}
 use Rattle.lil_table.specs.Rows.{Layout, HasText, text_words}
 use Rattle.lil_labels.specs.declared.buffer.Jump.{Jump}
 use Rattle.lil_labels.specs.Entries.{get_front, get_last}
@@ -46,14 +46,15 @@ words_same [] zero h = refl
 words_same [] (suc i) h = refl
 words_same (c ∷ cs) i h = refl
 
-text_stands : (l : Layout) (strings more cs : List ℕ) (offset : ℕ) → l.strings ≡ strings ++ (words_of cs ++ more) → offset ≡ l.words + length strings → is_text cs ≡ true → HasText l cs offset
-text_stands l strings more cs offset begins is sound =
+text_stands : (l : Layout) (strings more cs : List ℕ) (offset : ℕ) → l.words + length l.strings ≤ 65535 → l.strings ≡ strings ++ (words_of cs ++ more) → offset ≡ (l.words + length strings) % 65536 → is_text cs ≡ true → HasText l cs offset
+text_stands l strings more cs offset room begins is sound =
     let ws = words_of cs in
+    let inside : length strings + text_words cs ≤ length l.strings = omega (arith, ap (λ (xs : List ℕ). length xs) begins, length-append strings (ws ++ more), length-append ws more, words_long cs) in
     record {
       text = sound;
       at = length strings;
-      is = is;
-      inside = omega (arith, ap (λ (xs : List ℕ). length xs) begins, length-append strings (ws ++ more), length-append ws more, words_long cs);
+      is = omega (arith, is, room, inside);
+      inside = inside;
       words = λ i h.
           ap (λ (xs : List ℕ). get_or xs (length strings + i) 0) begins
           ∙ get_or-append-add strings (ws ++ more) i 0
@@ -65,7 +66,7 @@ module _ (tables : Tables) (strings bytes all : List ℕ) (places : List (Option
   abbrev said : Draft
   said = record { tables = tables; strings = all; bytes = bytes; places = places; jumps = js }
 
-  pub string_says : (cs ws : List ℕ) (offset : ℕ) → ws ≡ words_of cs → all ≡ strings ++ ws → offset ≡ tables.words + length strings → Adds (words_of cs) old said (Saying cs offset)
+  pub string_says : (cs ws : List ℕ) (offset : ℕ) → ws ≡ words_of cs → all ≡ strings ++ ws → offset ≡ (tables.words + length strings) % 65536 → Adds (words_of cs) old said (Saying cs offset)
   string_says cs ws offset made is lies =
       let grown : all ≡ strings ++ words_of cs = is ∙ ap (λ (ws : List ℕ). strings ++ ws) made in
       subst (λ (d : Draft). Adds (words_of cs) d said (Saying cs offset)) view
@@ -84,8 +85,8 @@ module _ (tables : Tables) (strings bytes all : List ℕ) (places : List (Option
         };
         meant = λ x fits. (
           refl,
-          text_stands x.layout strings fits.more cs offset
+          text_stands x.layout strings fits.more cs offset x.room
               (fits.strings ∙ ap (λ (ws : List ℕ). ws ++ fits.more) grown ∙ append_assoc strings (words_of cs) fits.more)
-              (lies ∙ ap (λ (n : ℕ). n + length strings) (sym (x.described.words ∙ ap (λ (ts : Tables). ts.words) fits.same))),
+              (lies ∙ ap (λ (n : ℕ). (n + length strings) % 65536) (sym (x.described.words ∙ ap (λ (ts : Tables). ts.words) fits.same))),
         );
       })

@@ -6,7 +6,7 @@ use Rattle.std.proofs.lemmas.Option.{none-some, same_Some}
 use Rattle.lil_resolved.specs.declared.shapes.RField.{RField}
 use Rattle.lil_resolved.specs.declared.shapes.RShape.{RShape}
 use Rattle.lil_resolved.specs.declared.shapes.RShape.TheVariants as r
-use Rattle.lil_resolved.specs.Shapes.{Shape, words, shape_at, fields_of}
+use Rattle.lil_resolved.specs.Kinds.{Shape, words, shape_at, fields_of}
 use Rattle.lil_resolved.specs.Views.{number_of, shape_with, shapes_of, AreMeasuredFields, IsMeasuredShape, AreMeasured}
 use Rattle.lil_labels.specs.Entries.{entry, absent}
 use Rattle.lil_labels.specs.Tables.{last_in, last_by, below, plain_words, plain_words_by}

@@ -37,9 +37,8 @@ abbrev pub AreInside : ℕ → List Jump → Type 0
 AreInside n [] = Unit {0}
 AreInside n (j ∷ js) = (j.at + 2 ≤ n) × AreInside n js
 
--- the words of the variables and the strings, the bytes, the labels and the jumps go together
-pub record IsSound (words n : ℕ) (places : List (Option ℕ)) (jumps : List Jump) : Type 0 where
-  pub room : words ≤ 32000
+-- the bytes, the labels and the jumps go together
+pub record IsSound (n : ℕ) (places : List (Option ℕ)) (jumps : List Jump) : Type 0 where
   pub inside : AreInside n jumps
   pub behind : (l q : ℕ) → slice_get places l ≡ Some (Some q) → q ≤ n
 
@@ -59,14 +58,16 @@ code_of d word = written word d.bytes d.jumps
 abbrev pub IsOpen : Draft → ℕ → Type 0
 IsOpen d l = slice_get d.places l ≡ Some None
 
--- a final code, the tables that describe its layout, and the word that each label has there
+-- A final code, the tables that describe its layout, and the word that each label has there. The offsets of its data are words. Numbers up
+-- to the words of its frame and its bytes are written cut to 16 bits, where they aren't lower.
 pub record Final : Type 0 where
   pub tables : Tables
   pub layout : Layout
   pub described : Describe tables layout
-  pub framed : layout.frame ≤ 65535
+  pub room : layout.words + length layout.strings ≤ 65535
   pub word : ℕ → ℕ
   pub code : List ℕ
+  pub cuts : (n : ℕ) → n ≤ layout.frame + length code → layout.target n ≡ n % 65536
 
 -- the final code begins with this one, of the same module, its strings begin with these, and its labels have their places
 pub record Fits (d : Draft) (x : Final) : Type 0 where

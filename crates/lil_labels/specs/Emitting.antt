@@ -3,7 +3,7 @@ use Rattle.std.proofs.Common.{◌≡◌, ◌≢◌, ℕ, zero, suc, ◌<◌, ◌
 use Rattle.std.specs.Prelude.{slice_get, slice_set}
 use Rattle.std.proofs.lemmas.Option.{slice_get_within}
 use Rattle.std.proofs.lemmas.List.{length-set}
-use Rattle.lil_resolved.specs.Shapes.{Shape}
+use Rattle.lil_resolved.specs.Kinds.{Shape}
 use Rattle.lil_table.specs.Rows.{holding}
 use Rattle.lil_labels.specs.declared.buffer.HeldRecord.{HeldRecord}
 use Rattle.lil_labels.specs.Tables.{Tables, shape_held}
@@ -114,9 +114,10 @@ inside_of h x = record {
     held = ap (λ (ws : List ℕ). h.word ∷ ws) x.described.held;
     held_shapes = ap (λ (ts : List Shape). shape_held x.tables.shapes h ∷ ts) x.described.held_shapes;
   };
-  framed = x.framed;
+  room = x.room;
   word = x.word;
   code = x.code;
+  cuts = x.cuts;
 }
 
 -- a piece that is emitted inside of a WITH means there what it says

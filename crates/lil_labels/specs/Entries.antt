@@ -3,7 +3,7 @@ use Rattle.std.proofs.Common.{◌≡◌, ℕ, zero, suc, ◌+◌, ◌<◌, ◌�
 use Rattle.std.specs.Prelude.{slice_get}
 use Rattle.std.proofs.lemmas.Option.{none-some, same_Some, slice_get_past}
 use Rattle.lil_resolved.specs.declared.shapes.RShape.{RShape}
-use Rattle.lil_resolved.specs.Shapes.{Shape, Absent, words, shape_by, shape_at}
+use Rattle.lil_resolved.specs.Kinds.{Shape, Absent, words, shape_by, shape_at}
 use Rattle.lil_resolved.specs.Views.{shape_with, shapes_behind, shapes_of, IsMeasuredShape, AreMeasured}
 
 pub get_front : {A : Type 0} (xs ys : List A) (n : ℕ) → n < length xs → slice_get (xs ++ ys) n ≡ slice_get xs n

@@ -64,8 +64,8 @@ written_last word bytes front a b js j h is =
     ∙ append_assoc code front (w / 256 ∷ w % 256 ∷ [])
 
 -- ---- the invariant
-pub sound_more : (words m n : ℕ) (places : List (Option ℕ)) (js : List Jump) → m ≤ n → IsSound words m places js → IsSound words n places js
-sound_more words m n places js le h = record { room = h.room; inside = inside_more m n js le h.inside; behind = λ l q at. omega (arith, h.behind l q at) }
+pub sound_more : (m n : ℕ) (places : List (Option ℕ)) (js : List Jump) → m ≤ n → IsSound m places js → IsSound n places js
+sound_more m n places js le h = record { inside = inside_more m n js le h.inside; behind = λ l q at. omega (arith, h.behind l q at) }
 
-pub sound_one : (words n : ℕ) (places : List (Option ℕ)) (js ks : List Jump) (j : Jump) → j.at + 2 ≤ n → ks ≡ js ++ j ∷ [] → IsSound words n places js → IsSound words n places ks
-sound_one words n places js ks j le e h = record { room = h.room; inside = subst (AreInside n) (sym e) (inside_one n js j le h.inside); behind = h.behind }
+pub sound_one : (n : ℕ) (places : List (Option ℕ)) (js ks : List Jump) (j : Jump) → j.at + 2 ≤ n → ks ≡ js ++ j ∷ [] → IsSound n places js → IsSound n places ks
+sound_one n places js ks j le e h = record { inside = subst (AreInside n) (sym e) (inside_one n js j le h.inside); behind = h.behind }

@@ -5,7 +5,7 @@ use Rattle.lil_resolved.specs.declared.shapes.RField.{RField}
 use Rattle.lil_resolved.specs.declared.shapes.RElements.{RElements}
 use Rattle.lil_resolved.specs.declared.shapes.RShape.{RShape}
 use Rattle.lil_resolved.specs.declared.shapes.RShape.TheVariants as r
-use Rattle.lil_resolved.specs.Shapes.{Shape, words, shape_at}
+use Rattle.lil_resolved.specs.Kinds.{Shape, words, shape_at}
 use Rattle.lil_resolved.specs.Views.{AreMeasured, offset_of, shape_declared, shapes_of}
 use Rattle.lil_table.specs.Rows.{Layout}
 use Rattle.lil_labels.specs.declared.buffer.HeldRecord.{HeldRecord}

@@ -1,9 +1,9 @@
 //! Code whose jumps name labels. The labels become places when the code is settled.
 
-ghost use Rattle.std.specs.Prelude.{◌≡◌, ℕ, ◌+◌, ◌≤◌, [], length, slice_get, Some, IfOk, OnOk};
+ghost use Rattle.std.specs.Prelude.{◌≡◌, ℕ, ◌≤◌, [], length, slice_get, Some, IfOk, OnOk};
 ghost use Rattle.lil_asm.specs.Bytes.{Sayable};
-ghost use Rattle.lil_resolved.specs.Shapes.{words, shape_at};
-ghost use Rattle.lil_resolved.specs.Strings.{words_of};
+ghost use Rattle.lil_resolved.specs.Kinds.{words, shape_at};
+ghost use Rattle.lil_resolved.specs.Sizes.{words_of};
 ghost use Rattle.lil_resolved.specs.Views.{AreMeasured, shapes_of};
 ghost use Rattle.lil_labels.specs.Tables as tables;
 ghost use Rattle.lil_labels.specs.Tables.{target_by, variable_by, part_in, part_by, elements_in, elements_by, last_in, last_by, below, plain_words_by, held_by};
@@ -15,9 +15,6 @@ use lil_resolved::{RDeclared, RElements, RField, RShape};
 use std::alloc::Global;
 use std::collections::VecDeque;
 use std::marker::Model;
-
-/// How many words a module's variables and strings may have.
-const MOST_WORDS: usize = 32_000;
 
 /// The record of a WITH: the word of the frame that has its address, and the number of its shape.
 #[derive(Clone, Copy)]
@@ -195,14 +192,14 @@ pub struct CodeBuffer<'m> {
 }
 
 impl<'m> Model for CodeBuffer<'m> {
-    ghost use Rattle.std.specs.Prelude.{◌+◌, length};
+    ghost use Rattle.std.specs.Prelude.{length};
     ghost use Rattle.lil_labels.specs.Drafts.{Draft, IsSound};
 
     ghost Value = { Draft };
 
     ghost view = { λ c. record { tables = record { shapes = c.shapes.now; targets = c.targets.now; variables = c.variables.now; words = c.words; held = c.held.items }; strings = c.strings.items; bytes = c.bytes; places = c.places.items; jumps = c.jumps.items } };
 
-    ghost invariant = { λ c. IsSound (c.words + length c.strings.items) (length c.bytes) c.places.items c.jumps.items };
+    ghost invariant = { λ c. IsSound (length c.bytes) c.places.items c.jumps.items };
 }
 
 impl<'m> CodeBuffer<'m> {
@@ -214,7 +211,6 @@ impl<'m> CodeBuffer<'m> {
         variables: &'m [RDeclared],
         words: u16,
     ) -> CodeBuffer<'m>
-        requires { words ≤ 32000 }
         ensures { result ≡ empty shapes.now targets.now variables.now words }
     {
         CodeBuffer {
@@ -304,25 +300,20 @@ impl<'m> CodeBuffer<'m> {
         }
     }
 
-    /// One string more, and its offset in the module's data, in words: it lies behind the variables and the strings before.
+    /// One string more, and its offset in the module's data, in words, cut to 16 bits: it lies behind the variables and the
+    /// strings before.
     pub fn string(&mut self, text: &[u8]) -> Result<u16, Memory>
-        ensures short { IfOk result (λ offset. length text.now ≤ 32000) }
-        ensures says { IfOk result (λ offset. Adds (words_of text.now) self.old self.new (Saying text.now offset)) }
+        ensures { IfOk result (λ offset. Adds (words_of text.now) self.old self.new (Saying text.now offset)) }
     {
         let words = text_words(self.alloc, text)?;
-        let offset = usize::from(self.words) + self.strings.len();
-        // the data of a module that was checked are fewer words
-        if MOST_WORDS - offset < words.len() {
-            return Err(Memory);
-        }
+        let before = (self.strings.len() % 65_536) as u16;
         self.strings.extend_from_slice(words.as_slice())?;
-        Ok(offset as u16)
+        Ok(self.words.wrapping_add(before))
     }
 
-    /// The words of the strings, one behind another. With those of the variables they are at most 32,000.
+    /// The words of the strings, one behind another.
     pub fn strings(&self, alloc: Global) -> Result<Vec<u16>, Memory>
-        ensures is { IfOk result (λ strings. strings.items ≡ self.now.strings) }
-        ensures few { IfOk result (λ strings. self.now.tables.words + length strings.items ≤ 32000) }
+        ensures { IfOk result (λ strings. strings.items ≡ self.now.strings) }
     {
         Ok(Vec::from_slice(alloc, self.strings.as_slice())?)
     }

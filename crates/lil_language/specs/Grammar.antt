@@ -13,7 +13,7 @@ use Rattle.lil_text.specs.declared.tree.Ident.{Ident}
 use Rattle.lil_text.specs.declared.tree.Qualident.{Qualident}
 use Rattle.lil_text.specs.Nesting.{Limit}
 use Rattle.lil_grammar.specs.Steps.{Parser, pure, at}
-use Rattle.lil_syntax.specs.Terminals.{Kind as k, Kinds, among, Terminal as t}
+use Rattle.lil_syntax.specs.Terminals.{Kinds, among, Kind as k, Terminal as t}
 use Rattle.lil_syntax.specs.Syntax.{Syntax, give, one, part, ◌◃◌, ◌◂◌, ◌or◌, repeat, Grammar, Derived, begins, goes_on, reads, before, read}
 use Rattle.lil_language.specs.declared.tree.Expr.{Expr}
 use Rattle.lil_language.specs.declared.tree.Expr.TheVariants as e

@@ -6,47 +6,25 @@ use Rattle.std.proofs.lemmas.Option.{none-some, same_Some}
 use Rattle.lil_base.specs.declared.fault.TrapKind.{TrapKind}
 use Rattle.lil_base.specs.declared.fault.LimitKind.{LimitKind}
 use Rattle.lil_base.specs.declared.fault.LimitKind.TheVariants as limit
-use Rattle.lil_resolved.specs.Shapes.{all_words}
-use Rattle.lil_resolved.specs.Resolved.{Statement, Assign, If, Case, While, Repeat, Loop, For, Inside, Procedure, procedure_by, Statements, Empty, Then, Arms, NoElse, Else, Arm, Resolved}
-use Rattle.lil_resolved.specs.Depth.{statement_words, body_words, arms_words, frame_words}
-use Rattle.lil_resolved.specs.Sizes.{IsSmall, statement_size, body_size, arms_size}
+use Rattle.lil_resolved.specs.Kinds.{all_words}
+use Rattle.lil_resolved.specs.Resolved.{Procedure, procedure_by, Resolved}
+use Rattle.lil_resolved.specs.Sizes.{frame_words, IsSmall}
 use Rattle.lil_meaning.specs.World.{World}
 use Rattle.lil_meaning.specs.Items.{Phase, Trapped, Source}
 use Rattle.lil_meaning.specs.Steps.{next}
 use Rattle.lil_meaning.specs.Runs.{begun, state_of}
-use Rattle.lil_mcode.specs.State.{Module, State, module_at}
+use Rattle.lil_mcode.specs.Table.{Module, State, module_at}
 use Rattle.lil_table.specs.Rows.{Translates}
+use Rattle.lil_table.specs.Frames.{body_small}
+use Rattle.lil_match.specs.Goes.{Short}
 use Rattle.lil_match.specs.Running.{mrun, running}
 use Rattle.lil_match.specs.Parts.{yes}
-use Rattle.lil_match.specs.Goes.{Short}
 use Rattle.lil_laws.specs.Loading.{Compiled, IsSpent, entry_for, table_from, image, body_alone, loaded}
 use Rattle.lil_laws.specs.Whole.{TrapsIn, Unlimited, Agrees, agrees_more}
 use Rattle.lil_laws.specs.Reaching.{Reaches}
 use Rattle.lil_laws.specs.Serves.{next_serves, after_first, after_same, none_alone}
 use Rattle.lil_laws.specs.Start as all
 use Rattle.lil_laws.specs.Start.{Body}
-
--- the words of the FORs and WITHs are fewer than the bytes of the code
-mutual
-  statement_small : (s : Statement) → statement_words s ≤ statement_size s
-  statement_small (Assign d k e) = omega arith
-  statement_small (If c a b) = omega (arith, body_small a, body_small b)
-  statement_small (Case e arms) = omega (arith, arms_small arms)
-  statement_small (While c body) = omega (arith, body_small body)
-  statement_small (Repeat body c) = omega (arith, body_small body)
-  statement_small (Loop body) = omega (arith, body_small body)
-  statement_small (For d k a b step body) = omega (arith, body_small body)
-  statement_small (Inside d body) = omega (arith, body_small body)
-  statement_small _ = omega arith
-
-  body_small : (b : Statements) → body_words b ≤ body_size b
-  body_small Empty = omega arith
-  body_small (Then s ss) = omega (arith, statement_small s, body_small ss)
-
-  arms_small : (a : Arms) → arms_words a ≤ arms_size a
-  arms_small NoElse = omega arith
-  arms_small (Else body) = omega (arith, body_small body)
-  arms_small (Arm labels body rest) = omega (arith, body_small body, arms_small rest)
 
 none_in : (n : ℕ) (q : Procedure) → procedure_by [] n ≡ Some q → ⊥
 none_in zero q e = cc

@@ -3,10 +3,9 @@ use Rattle.std.proofs.Common.{◌≡◌, ℕ, zero, suc, ◌+◌, ◌-◌, ◌<�
 use Rattle.std.specs.Prelude.{slice_get, nat_lt, option_map, option_and_then}
 use Rattle.std.proofs.lemmas.Bool.{le-ltb, lt-ltb}
 use Rattle.std.proofs.lemmas.Option.{slice_get-map}
-use Rattle.lil_resolved.specs.Scalars.{zero_of}
-use Rattle.lil_resolved.specs.Shapes.{Shape, words, is_there, all_words, part_at, offset, offsets_from, shape_at}
+use Rattle.lil_resolved.specs.Kinds.{zero_of, Shape, words, is_there, all_words, part_at, offset, offsets_from, shape_at}
 use Rattle.lil_resolved.specs.Resolved.{Resolved}
-use Rattle.lil_meaning.specs.Cells.{Root, Global, Local, Object, loaded_at, variables_of, first_shape, zero_in, fresh_cells}
+use Rattle.lil_meaning.specs.Items.{Root, Global, Local, Object, loaded_at, variables_of, first_shape, zero_in, fresh_cells}
 use Rattle.lil_frames.specs.Words.{zeros, cleared}
 use Rattle.lil_match.specs.Parts.{yes, no, part_fits, word_long}
 use Rattle.lil_match.specs.Homes.{zero_is, Owner, Of, Own, Fixed, Free, Home, Mem}

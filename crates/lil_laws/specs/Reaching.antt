@@ -8,10 +8,10 @@ use Rattle.lil_meaning.specs.Closings.{all_screen}
 use Rattle.lil_meaning.specs.Items.{Item, Activation, Phase, Going, Closing, Ended, Trapped, Source}
 use Rattle.lil_meaning.specs.Steps.{next}
 use Rattle.lil_meaning.specs.Runs.{after}
-use Rattle.lil_mcode.specs.State.{State}
+use Rattle.lil_mcode.specs.Table.{State}
+use Rattle.lil_match.specs.Goes.{Shared, Lands, IsLeft}
 use Rattle.lil_match.specs.Running.{Finish, Finished, TrappedBy, Limited, Run, mrun, running}
 use Rattle.lil_match.specs.Homes.{Home}
-use Rattle.lil_match.specs.Goes.{Shared, Lands, IsLeft}
 use Rattle.lil_match.specs.Waits.{Stack, Setting, Quiet, Around, Ahead}
 use Rattle.lil_match.specs.Resting.{EachRests, each_rests}
 use Rattle.lil_laws.specs.Each.{each_step}

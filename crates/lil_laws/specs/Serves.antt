@@ -5,12 +5,10 @@ use Rattle.lil_base.specs.Words.{Cardinal}
 use Rattle.lil_base.specs.declared.fault.TrapKind.{TrapKind}
 use Rattle.lil_base.specs.declared.fault.TrapAt.{TrapAt}
 use Rattle.lil_base.specs.declared.request.Request as request
-use Rattle.lil_resolved.specs.Kinds.{Kind, OfWhole, nat_of}
-use Rattle.lil_resolved.specs.Scalars.{Scalar, ToObject, within, value_with, ordinal_of}
+use Rattle.lil_resolved.specs.Kinds.{Kind, OfWhole, nat_of, Scalar, ToObject, within, value_with, ordinal_of}
 use Rattle.lil_resolved.specs.Resolved.{Designator, Held, Expression, Taken, Argument, ByValue, OfArray, OfText, Statement, Exit, Call, Statements, Procedure, procedure_by, Resolved, counted_as}
-use Rattle.lil_meaning.specs.Cells.{Place, got, loaded_at}
+use Rattle.lil_meaning.specs.Items.{Place, got, loaded_at, Datum, Scalars, Places, Hole, Get, StoreAt, ChangeAt, OneOf, RightOf, ApplyTo, Pass, Pick, Task, Do, Passing, Item, Value, Evaluate, PlaceOf, Fill, Perform, Activation, Level, Phase, Going, Closing, Source}
 use Rattle.lil_meaning.specs.World.{World, Given, serve, closing}
-use Rattle.lil_meaning.specs.Items.{Datum, Scalars, Places, Hole, Get, StoreAt, ChangeAt, OneOf, RightOf, ApplyTo, Pass, Pick, Task, Do, Passing, Item, Value, Evaluate, PlaceOf, Fill, Perform, Activation, Level, Phase, Going, Closing, Source}
 use Rattle.lil_meaning.specs.Items as items
 use Rattle.lil_meaning.specs.Steps.{next, by_phase, first, given, fill, filled, filled_place, pointed, performed, did, entered, owner_of, procedures_of, current, turned_with, turned_on, picked, allocated, held_at, placed, passed, evaluated, answered, applied, one_applied, function_value, chosen, stored_with, value_of, changed, whole_of, given_of, level_of, over, left_by, leave}
 use Rattle.lil_meaning.specs.Runs.{after}

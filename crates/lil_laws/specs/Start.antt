@@ -3,25 +3,23 @@ use Rattle.std.proofs.Common.{◌≡◌, ℕ, zero, suc, ◌+◌, ◌-◌, ◌*�
 use Rattle.std.specs.Prelude.{slice_get, option_map}
 use Rattle.std.proofs.lemmas.Bool.{le-ltb}
 use Rattle.std.proofs.lemmas.Option.{same_Some}
-use Rattle.lil_resolved.specs.Shapes.{Shape, all_words, shape_by, shape_at}
+use Rattle.lil_resolved.specs.Kinds.{Shape, all_words, shape_by, shape_at}
 use Rattle.lil_resolved.specs.Resolved.{Resolved}
-use Rattle.lil_resolved.specs.Depth.{frame_words}
-use Rattle.lil_meaning.specs.Cells.{loaded_at, variables_of, targets_of}
+use Rattle.lil_resolved.specs.Sizes.{frame_words}
+use Rattle.lil_meaning.specs.Items.{loaded_at, variables_of, targets_of, Item, Perform, End, Activation, Source, doing}
 use Rattle.lil_meaning.specs.World.{World}
-use Rattle.lil_meaning.specs.Items.{Item, Perform, End, Activation, Source, doing}
 use Rattle.lil_meaning.specs.Need.{frame_of}
 use Rattle.lil_meaning.specs.Steps.{owner_of, procedure_of, procedures_of, name_of}
 use Rattle.lil_meaning.specs.Runs.{begun, bodies, body_of, body_activations, src}
 use Rattle.lil_asm.specs.declared.instr.Instr.TheVariants.{Ent, Rtn}
 use Rattle.lil_mcode.specs.declared.machine.Event.TheVariants.{Went}
-use Rattle.lil_mcode.specs.State.{State, first_entry}
+use Rattle.lil_mcode.specs.Table.{State, first_entry, fetched, performed}
 use Rattle.lil_frames.specs.Words.{zeros, cleared}
-use Rattle.lil_mcode.specs.Table.{fetched, performed}
 use Rattle.lil_table.specs.Rows.{IsAt, layout_of}
+use Rattle.lil_match.specs.Goes.{IsKnown, EachComes, Shared}
 use Rattle.lil_match.specs.Running.{Run, mrun, running, advanced}
 use Rattle.lil_match.specs.Parts.{no}
 use Rattle.lil_match.specs.Homes.{Home}
-use Rattle.lil_match.specs.Goes.{IsKnown, EachComes, Shared}
 use Rattle.lil_match.specs.Waits.{Frame, Setting, Quiet, outside, RowsOf, Rows, Ahead, Behind}
 use Rattle.lil_match.specs.Steps.{advances, at_once, rows_ahead}
 use Rattle.lil_match.specs.Orders.{instr_within}

@@ -10,11 +10,10 @@ use Rattle.lil_meaning.specs.Closings.{none_left, all_none, all_some, fewer_left
 use Rattle.lil_meaning.specs.Items.{Item, Activation, Level, Phase, Going, Closing, Ended, Trapped, Source}
 use Rattle.lil_meaning.specs.Steps.{next, by_phase, left_by, over, over_by}
 use Rattle.lil_meaning.specs.Runs.{after}
-use Rattle.lil_mcode.specs.State.{Module, State, module_at}
-use Rattle.lil_mcode.specs.Table.{mstep}
+use Rattle.lil_mcode.specs.Table.{Module, State, module_at, mstep}
+use Rattle.lil_match.specs.Goes.{HasName, Shared, Lands, IsStill, Short, IsFull, Goes}
 use Rattle.lil_match.specs.Running.{Finish, Running, Finished, TrappedBy, Limited, Broken, Run, mrun, running, react, advanced, unless_over}
 use Rattle.lil_match.specs.Homes.{Home}
-use Rattle.lil_match.specs.Goes.{HasName, Shared, Lands, IsStill, Short, IsFull, Goes}
 use Rattle.lil_match.specs.Stutter.{stutter}
 use Rattle.lil_match.specs.Waits.{Stack, Setting, Quiet, Around, Ahead}
 use Rattle.lil_match.specs.Resting.{EachRests, each_rests}

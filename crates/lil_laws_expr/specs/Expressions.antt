@@ -6,30 +6,25 @@ use Rattle.lil_base.specs.declared.operator.OneOp.{OneOp}
 use Rattle.lil_base.specs.declared.operator.OneOp.TheVariants as one
 use Rattle.lil_base.specs.declared.operator.TwoOp.{TwoOp}
 use Rattle.lil_base.specs.declared.operator.TwoOp.TheVariants.{Equal, Unequal}
-use Rattle.lil_resolved.specs.Kinds.{Pointee, Objects, Workspaces, Kind, OfTruth, OfPointer, OfRange, base_of, is_plain}
-use Rattle.lil_resolved.specs.Scalars.{Scalar, Truth, ToObject, ToWorkspace, Nil, is_reference, is_literal, same_reference, within, scalar_word}
-use Rattle.lil_resolved.specs.Shapes.{Shape, Word}
+use Rattle.lil_resolved.specs.Kinds.{Pointee, Objects, Workspaces, Kind, OfTruth, OfPointer, OfRange, base_of, is_plain, Scalar, Truth, ToObject, ToWorkspace, Nil, is_reference, is_literal, same_reference, within, scalar_word, Shape, Word}
 use Rattle.lil_resolved.specs.Resolved.{Designator, Function, Expression, Constant, Taken, One, Two, Short, Apply, kind_of, is_relation, result_kind, right_kind, function_kind}
 use Rattle.lil_resolved.specs.Sound.{takes_two}
-use Rattle.lil_meaning.specs.Cells.{Object, Place, got}
-use Rattle.lil_meaning.specs.Items.{Scalars, Places, Get, OneOf, LeftOf, RightOf, ShortOf, ApplyTo, Item, Value, Evaluate, Fill, Going, Source}
+use Rattle.lil_meaning.specs.Items.{Object, Place, got, Scalars, Places, Get, OneOf, LeftOf, RightOf, ShortOf, ApplyTo, Item, Value, Evaluate, Fill, Going, Source}
 use Rattle.lil_meaning.specs.Steps.{next, answered, with_items, applied, one_applied, function_value, current}
 use Rattle.lil_asm.specs.declared.instr.Instr.{Instr}
 use Rattle.lil_asm.specs.declared.instr.Instr.TheVariants.{Liw}
 use Rattle.lil_mcode.specs.declared.machine.Event.{Event}
 use Rattle.lil_mcode.specs.declared.machine.Event.TheVariants.{Went}
-use Rattle.lil_mcode.specs.State.{State}
-use Rattle.lil_mcode.specs.Table.{mstep, act, going, jump, on_one, and_row, or_row}
+use Rattle.lil_mcode.specs.Table.{State, mstep, act, going, jump, on_one, and_row, or_row}
 use Rattle.lil_table.specs.Rows.{InstrsAt, Access, load_code, one_code, two_code, function_code, short_code}
+use Rattle.lil_match.specs.Goes.{Shared, Goes, Lands}
 use Rattle.lil_match.specs.Running.{running, react}
 use Rattle.lil_match.specs.Parts.{yes}
 use Rattle.lil_match.specs.Homes.{word_for, Refers, plain_word, plain_refers, refers_base, shape_there}
 use Rattle.lil_match.specs.Stutter.{stutter}
-use Rattle.lil_match.specs.Goes.{Shared, Goes, Lands}
 use Rattle.lil_match.specs.Waits.{Setting, frame_of, laid_out, Mode, Quiet, ValueOf, AtPlace, Around, Reach, AfterJumps, Rows, HasPlace, Waiting}
-use Rattle.lil_match.specs.Steps.{advances, pushes, at_step, at_once, lands_on, goes_none, goes_one, goes_after, goes_more, operand_goes, located_goes}
+use Rattle.lil_match.specs.Steps.{advances, pushes, at_step, at_once, lands_on, goes_none, goes_one, goes_after, goes_more, operand_goes, located_goes, closed, both_trap}
 use Rattle.lil_match.specs.Orders.{instr_within, instrs_order, instrs_within, expression_stands, expression_within}
-use Rattle.lil_match.specs.Closing.{closed, both_trap}
 use Rattle.lil_laws_place.specs.Codes.{loads}
 use Rattle.lil_laws_place.specs.Elements.{place_some}
 use Rattle.lil_laws_expr.specs.Operators.{answer_row, Gives, Fits, one_plain, two_plain, right_plain, function_plain, ranged_none, pointer_gives, one_gives, one_fits, two_gives, two_length, two_fits, function_gives, function_fits, function_none, function_length}

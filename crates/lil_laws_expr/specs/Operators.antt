@@ -14,15 +14,14 @@ use Rattle.lil_base.specs.declared.operator.OneOp.{OneOp}
 use Rattle.lil_base.specs.declared.operator.OneOp.TheVariants as one
 use Rattle.lil_base.specs.declared.operator.TwoOp.{TwoOp}
 use Rattle.lil_base.specs.declared.operator.TwoOp.TheVariants.{Equal, Unequal, Less, AtMost, Greater, AtLeast, In, Plus, Minus, Times, Slash, Div, Mod}
-use Rattle.lil_resolved.specs.Kinds.{Pointee, Kind, OfWhole, OfTruth, OfCharacter, OfEnumeration, OfSet, OfPointer, OfRange, base_of, is_base, is_ordinal, is_set, is_whole, is_plain, compared_as, shared, covers}
+use Rattle.lil_resolved.specs.Kinds.{Pointee, Kind, OfWhole, OfTruth, OfCharacter, OfEnumeration, OfSet, OfPointer, OfRange, base_of, is_base, is_ordinal, is_set, is_whole, is_plain, compared_as, shared, covers, Scalar, Truth, Character, Number, SetOf, same_reference, within, scalar_of, scalar_word, ordinal_of, truth_number, truth_of, members_of}
 use Rattle.lil_base.specs.Sets as sets
 use Rattle.lil_base.specs.Sets.{has, set_word}
 use Rattle.lil_base.specs.SetLaws.{has_no}
 use Rattle.lil_resolved.specs.Members.{same_members, included, is_in, united, without, shared_members, unshared}
 use Rattle.lil_resolved.specs.MemberLaws.{words_equal, word_has, word_included, word_united, word_without, word_shared, word_unshared}
-use Rattle.lil_resolved.specs.Scalars.{Scalar, Truth, Character, Number, SetOf, same_reference, within, scalar_of, scalar_word, ordinal_of, truth_number, truth_of, members_of}
 use Rattle.lil_resolved.specs.Resolved.{Function, Abs, Cap, Chr, Odd, Ord, Val, is_relation, result_kind, right_kind, function_kind}
-use Rattle.lil_resolved.specs.Depth.{function_depth}
+use Rattle.lil_resolved.specs.Sizes.{function_depth}
 use Rattle.lil_resolved.specs.Sound.{takes_one, takes_two, takes_function}
 use Rattle.lil_meaning.specs.Steps.{whole_of, outcome, compared_number, relation_of, related, compared, set_value, applied, one_applied, capital, valued, ranged, function_value, is_same, is_other, is_at_most, is_greater, is_at_least}
 use Rattle.lil_asm.specs.declared.instr.Instr.{Instr}
@@ -30,12 +29,11 @@ use Rattle.lil_asm.specs.declared.instr.Instr.TheVariants as instr
 use Rattle.lil_asm.specs.declared.instr.Instr.TheVariants.{Liw, Swp, Adc, Sbc, Mlc, Dvc, Mdc, Adi, Sbi, Mli, Dvi, Mdi, Ngi, Abi, Not, Uni, Dif, Its, Sym, Sin, Sle, Equ, Neq}
 use Rattle.lil_mcode.specs.declared.machine.Event.{Event}
 use Rattle.lil_mcode.specs.declared.machine.Event.TheVariants.{Went, Trap}
-use Rattle.lil_mcode.specs.State.{Module, State}
-use Rattle.lil_mcode.specs.Table.{act, going, on_one, on_two, swap_row, result_row, two_row, sign_row, change_row, denied, compare_row, join_row, truth, equal, unequal, less, at_most, is_member}
+use Rattle.lil_mcode.specs.Table.{Module, State, act, going, on_one, on_two, swap_row, result_row, two_row, sign_row, change_row, denied, compare_row, join_row, truth, equal, unequal, less, at_most, is_member}
 use Rattle.lil_table.specs.Rows.{less_code, at_most_code, one_code, number_code, set_code, two_code, range_code, test_code, function_code}
 use Rattle.lil_match.specs.Arithmetic.{word_is, reads_ordinal, reads, same_words, other_is, sum_fits, difference_fits, product_fits, quotient_fits, remainder_fits, negation_fits, absolute_fits}
 use Rattle.lil_match.specs.Homes.{within_base}
-use Rattle.lil_match.specs.Ranges.{has as has_number, value_where, value_is, number_is, value_fits, fits_has, has_type, ordinal_base, ordinal_plain}
+use Rattle.lil_match.specs.Ranges.{value_where, value_is, number_is, value_fits, fits_has, has_type, ordinal_base, ordinal_plain, has as has_number}
 use Rattle.lil_match.specs.Tests.{covered, test_act}
 use Rattle.lil_match.specs.Steps.{pushes}
 

@@ -1,24 +1,20 @@
 -- The rows of set values: from a matched state the machine comes to a matched state.
 use Rattle.std.proofs.Common.{◌≡◌, ℕ, ◌+◌, ◌<◌, ◌≤◌, Bool, true, cond, List, [], ◌∷◌, length, refl, sym, ap, ◌∙◌, subst, arith}
 use Rattle.lil_base.specs.declared.fault.TrapKind.TheVariants as trap
-use Rattle.lil_resolved.specs.Kinds.{Kind, OfSet, takes_value}
-use Rattle.lil_resolved.specs.Scalars.{Scalar, within, scalar_word}
+use Rattle.lil_resolved.specs.Kinds.{Kind, OfSet, takes_value, Scalar, within, scalar_word}
 use Rattle.lil_resolved.specs.Resolved.{Expression, With, WithSpan, kind_of}
 use Rattle.lil_meaning.specs.Items.{Scalars, WithMember, MemberOf, WithMembers, MembersFrom, MembersTo, Item, Value, Evaluate, Fill, Going, Source}
 use Rattle.lil_meaning.specs.Steps.{next, trapped, with_items, with_span}
 use Rattle.lil_asm.specs.declared.instr.Instr.TheVariants.{Dup, Spn}
-use Rattle.lil_mcode.specs.State.{State}
-use Rattle.lil_mcode.specs.Table.{going}
+use Rattle.lil_mcode.specs.Table.{State, going}
 use Rattle.lil_table.specs.Rows.{IsAt, InstrsAt, test_code}
+use Rattle.lil_match.specs.Goes.{Shared, Goes, Lands}
 use Rattle.lil_match.specs.Running.{running}
 use Rattle.lil_match.specs.Homes.{word_for, plain_word, takes_plain}
-use Rattle.lil_match.specs.Goes.{Shared, Goes, Lands}
 use Rattle.lil_match.specs.Waits.{Setting, frame_of, laid_out, Quiet, ValueOf, Around, Reach, Rows, HasSet, Waiting}
-use Rattle.lil_match.specs.Steps.{advances, pushes, at_step, at_once, lands_on, goes_one, operand_goes, operand_exact}
+use Rattle.lil_match.specs.Steps.{advances, pushes, at_step, at_once, lands_on, goes_one, operand_goes, operand_exact, closed}
 use Rattle.lil_match.specs.Orders.{instrs_order, instr_within, instrs_within, expression_stands, expression_within}
-use Rattle.lil_match.specs.Closing.{closed}
-use Rattle.lil_laws_place.specs.Codes.{leads}
-use Rattle.lil_laws_place.specs.Stores.{tested}
+use Rattle.lil_laws_place.specs.Codes.{leads, tested}
 use Rattle.lil_laws_place.specs.Sets.{IsMember, member_is, span_act}
 
 module _ (ctx : Setting) where

@@ -3,37 +3,31 @@ use Rattle.std.proofs.Common.{◌≡◌, ℕ, ◌+◌, ◌*◌, ◌<◌, ◌≤�
 use Rattle.std.specs.Prelude.{ℤ, pos, negsuc, ◌≤ℤ◌, ◌-ℤ◌, ◌+ℤ◌, slice_get}
 use Rattle.std.proofs.lemmas.Bool.{lt-ltb, ne_eqb}
 use Rattle.std.proofs.lemmas.Int.{ints}
-use Rattle.lil_base.specs.Words.{word_of}
+use Rattle.lil_base.specs.Words.{Whole, Cardinal, Integer, in_type, word_of}
 use Rattle.lil_base.specs.Laws.{in_range, bounds}
 use Rattle.lil_base.specs.declared.fault.TrapKind.TheVariants as trap
-use Rattle.lil_resolved.specs.Kinds.{Objects, Kind, OfPointer, base_of, is_base, takes_value, compared_as, least, greatest, nat_of, numbers, position}
-use Rattle.lil_resolved.specs.Scalars.{Scalar, ToObject, Nil, within, scalar_word, ordinal_of}
-use Rattle.lil_resolved.specs.Shapes.{Shape, Absent, Word, Row, words, is_there, part_at, offset, shape_by, shape_at, element_of}
+use Rattle.lil_resolved.specs.Kinds.{Objects, Kind, OfPointer, base_of, is_base, takes_value, compared_as, least, greatest, nat_of, numbers, position, Scalar, ToObject, Nil, within, scalar_word, ordinal_of, Shape, Absent, Word, Row, words, is_there, part_at, offset, shape_by, shape_at, element_of}
 use Rattle.lil_resolved.specs.Resolved.{Designator, Variable, Held, Field, Element, Follow, Expression}
-use Rattle.lil_resolved.specs.Depth.{place_depth}
-use Rattle.lil_meaning.specs.Cells.{Global, Object, Place, object_place, part_of, got}
-use Rattle.lil_meaning.specs.Items.{Scalars, Places, Part, IndexBy, IndexAt, Pointed, Item, Value, PlaceOf, Fill, Going, Source}
+use Rattle.lil_resolved.specs.Sizes.{place_depth}
+use Rattle.lil_meaning.specs.Items.{Global, Object, Place, object_place, part_of, got, Scalars, Places, Part, IndexBy, IndexAt, Pointed, Item, Value, PlaceOf, Fill, Going, Source}
 use Rattle.lil_meaning.specs.Steps.{current, owner_of, held_at, pointed, trapped, with_items}
 use Rattle.lil_asm.specs.declared.instr.Instr.TheVariants.{Llw, Nlt, Ixc}
 use Rattle.lil_mcode.specs.declared.machine.Event.{Event}
 use Rattle.lil_mcode.specs.declared.machine.Event.TheVariants.{Went}
 use Rattle.lil_mcode.specs.Control.{above}
-use Rattle.lil_mcode.specs.State.{State}
-use Rattle.lil_mcode.specs.Table.{going, on_two, push_row, element_row}
-use Rattle.lil_table.specs.Rows.{Access, InData, OnTop, further, offset_in, access_of, load_code}
+use Rattle.lil_mcode.specs.Table.{State, going, on_two, push_row, element_row}
+use Rattle.lil_table.specs.Rows.{cut, Access, InData, OnTop, further, offset_in, access_of, load_code}
+use Rattle.lil_match.specs.Goes.{Shared, Goes, Lands}
 use Rattle.lil_match.specs.Running.{running}
 use Rattle.lil_match.specs.Parts.{yes, no}
 use Rattle.lil_match.specs.Homes.{word_for, Refers, plain_word, takes_plain, address, shape_there, part_there}
-use Rattle.lil_match.specs.Goes.{Shared, Goes, Lands}
 use Rattle.lil_match.specs.Waits.{Setting, frame_of, laid_out, Quiet, ValueOf, AtPlace, Around, Reach, Rows, HasPlace, Waiting}
 use Rattle.lil_match.specs.Orders.{instr_within, instrs_order, expression_stands}
 use Rattle.lil_match.specs.Ranges.{has, fits_has, has_type, has_base, takes_part, least_base}
 use Rattle.lil_match.specs.Arithmetic.{word_is, above_more}
 use Rattle.lil_match.specs.Kept.{own_low, own_read}
-use Rattle.lil_match.specs.Closing.{closed, held_here, variable_here}
-use Rattle.lil_match.specs.Steps.{advances, at_step, at_once, pushes, lands_on, goes_none, goes_one, goes_after, operand_exact, located_goes}
-use Rattle.lil_laws_place.specs.Codes.{inside, part_has, addressed, loads}
-use Rattle.lil_laws_place.specs.Stores.{trap_goes, tested}
+use Rattle.lil_match.specs.Steps.{closed, held_here, variable_here, advances, at_step, at_once, pushes, lands_on, goes_none, goes_one, goes_after, operand_exact, located_goes}
+use Rattle.lil_laws_place.specs.Codes.{inside, part_has, addressed, loads, trap_goes, tested}
 
 pub place_some : (d : Designator) → 1 ≤ place_depth d
 place_some (Variable x) = omega arith
@@ -51,10 +45,16 @@ fewer low z high a b = by (z -ℤ low) ((high -ℤ low) +ℤ pos 1) refl refl
     by (pos n) (negsuc m) d e = absurd (omega (arith, ints, a, b, d, e))
     by (negsuc n) e' d e = absurd (omega (arith, ints, a, b, d, e))
 
+-- the word of a number of a type has 16 bits
+cut_word : (t : Whole) (z : ℤ) → in_type t z ≡ true → cut (word_of z) ≡ word_of z
+cut_word t (negsuc n) h = omega arith
+cut_word Cardinal (pos n) h = omega (arith, ints, (bounds (pos 0) (pos n) (pos 65535) h).1)
+cut_word Integer (pos n) h = omega (arith, ints, (bounds (negsuc 32767) (pos n) (pos 32767) h).1)
+
 -- a value of an index's kind: its number is less than how many there are, and its word lies so far above that of the least one
 pub record IsIndex (k : Kind) (v : Scalar) : Type 0 where
   pub less : position k (ordinal_of v) < numbers k
-  pub above : above (word_of (least k)) (scalar_word v) ≡ position k (ordinal_of v)
+  pub above : above (cut (word_of (least k))) (scalar_word v) ≡ position k (ordinal_of v)
 
 index_is : (k j : Kind) (v : Scalar) → takes_value k j ≡ true → within k v ≡ true → IsIndex k v
 index_is k j v takes one =
@@ -65,9 +65,10 @@ index_is k j v takes one =
     let b = bounds (least k) o (greatest k) here in
     let w = bounds (least (base_of k)) o (greatest (base_of k)) wide in
     let first : has (base_of k) (least k) ≡ true = in_range (least (base_of k)) (least k) (greatest (base_of k)) (least_base k) (omega (arith, ints, b.0, w.1)) in
+    let typed = has_type (base_of k) (least k) base first in
     record {
       less = fewer (least k) o (greatest k) b.0 b.1;
-      above = ap (above (word_of (least k))) (word_is v) ∙ ap nat_of (above_more (compared_as (base_of k)) (least k) o (has_type (base_of k) (least k) base first) (has_type (base_of k) o base wide) b.0);
+      above = ap (λ (w : ℕ). above w (scalar_word v)) (cut_word (compared_as (base_of k)) (least k) typed) ∙ ap (above (word_of (least k))) (word_is v) ∙ ap nat_of (above_more (compared_as (base_of k)) (least k) o typed (has_type (base_of k) o base wide) b.0);
     }
 
 module _ (ctx : Setting) where
@@ -287,15 +288,15 @@ module _ (ctx : Setting) where
           let at : address h (part_of place x) ≡ address h place + x * words r.element = omega (arith, part.1, ap (λ (z : Shape). offset z (x ∷ [])) r.has.living) in
           let to : List ℕ = address h (part_of place x) ∷ r.below in
           let there : HasPlace ctx OnTop (part_of place x) r.element to r.below = record { seen = r.has.seen; living = living; there = r.there; at = refl } in
-          let sum : address h place + above (word_of (least kind)) (scalar_word v) * words r.element ≡ address h (part_of place x) =
+          let sum : address h place + above (cut (word_of (least kind))) (scalar_word v) * words r.element ≡ address h (part_of place x) =
           ap (λ (n : ℕ). address h place + n * words r.element) i.above ∙ sym at in
           let low = inside ctx s m shared OnTop (part_of place x) r.element to r.below there in
           let here : State = going m r.tested m.stack in
           goes_one ctx s items here (c + 1) c (running (going m r.end to) s.world)
           (advances here s.world _ (
-          at_step ctx here shared.program (Ixc (word_of (least kind)) (words r.element)) r.end r.by
-          ∙ ap (λ (y : List ℕ). on_two here y (element_row (word_of (least kind)) (words r.element) r.end here)) (word ∙ ap (λ (y : List ℕ). scalar_word v ∷ y) r.has.at)
-          ∙ yes _ _ _ (lt-ltb (address h place + above (word_of (least kind)) (scalar_word v) * words r.element) 65536 (omega (arith, low, sum)))
+          at_step ctx here shared.program (Ixc (cut (word_of (least kind))) (words r.element)) r.end r.by
+          ∙ ap (λ (y : List ℕ). on_two here y (element_row (cut (word_of (least kind))) (words r.element) r.end here)) (word ∙ ap (λ (y : List ℕ). scalar_word v ∷ y) r.has.at)
+          ∙ yes _ _ _ (lt-ltb (address h place + above (cut (word_of (least kind))) (scalar_word v) * words r.element) 65536 (omega (arith, low, sum)))
           ∙ ap (λ (n : ℕ). (Went, going m r.end (n ∷ r.below))) sum
           ))
           (subst (λ (y : Source). Lands ctx y.phase y (running (going m r.end to) s.world) c) (sym (ap becomes one))

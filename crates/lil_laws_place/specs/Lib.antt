@@ -1,4 +1,3 @@
 pub mod Codes
 pub mod Elements
 pub mod Sets
-pub mod Stores

@@ -6,16 +6,14 @@ use Rattle.std.proofs.lemmas.Int.{ints}
 use Rattle.lil_base.specs.Words.{word_of}
 use Rattle.lil_base.specs.Laws.{bounds}
 use Rattle.lil_base.specs.Sets.{set_word, union, minus, span}
-use Rattle.lil_resolved.specs.Kinds.{Kind, OfSet, is_element, least, greatest, nat_of}
+use Rattle.lil_resolved.specs.Kinds.{Kind, OfSet, is_element, least, greatest, nat_of, Scalar, SetOf, within, scalar_word, ordinal_of, members_of}
 use Rattle.lil_resolved.specs.Members.{united, without, from_to}
 use Rattle.lil_resolved.specs.MemberLaws.{word_united, word_without}
-use Rattle.lil_resolved.specs.Scalars.{Scalar, SetOf, within, scalar_word, ordinal_of, members_of}
 use Rattle.lil_meaning.specs.Steps.{with_span, with_member}
 use Rattle.lil_asm.specs.declared.instr.Instr.TheVariants.{Spn}
 use Rattle.lil_mcode.specs.declared.machine.Event.{Event}
 use Rattle.lil_mcode.specs.declared.machine.Event.TheVariants.{Went}
-use Rattle.lil_mcode.specs.State.{Module, State}
-use Rattle.lil_mcode.specs.Table.{act, going, one_more, one_less}
+use Rattle.lil_mcode.specs.Table.{Module, State, act, going, one_more, one_less}
 use Rattle.lil_match.specs.Arithmetic.{word_is}
 use Rattle.lil_match.specs.Parts.{no}
 use Rattle.lil_match.specs.Ranges.{fits_has}

@@ -4,17 +4,13 @@ use Rattle.std.specs.Prelude.{pos, negsuc}
 use Rattle.std.proofs.lemmas.Bool.{cases_lt}
 use Rattle.lil_base.specs.Words.{Cardinal}
 use Rattle.lil_base.specs.declared.fault.TrapKind.TheVariants as trap
-use Rattle.lil_resolved.specs.Kinds.{Workspaces, Kind, OfWhole, OfPointer, nat_of}
-use Rattle.lil_resolved.specs.Scalars.{Scalar, Number, ToWorkspace, Nil, within, scalar_word, ordinal_of}
-use Rattle.lil_resolved.specs.Shapes.{Shape, Word, offset}
+use Rattle.lil_resolved.specs.Kinds.{Workspaces, Kind, OfWhole, OfPointer, nat_of, Scalar, Number, ToWorkspace, Nil, within, scalar_word, ordinal_of, Shape, Word, offset}
 use Rattle.lil_resolved.specs.Resolved.{Designator, Expression, Allocate}
-use Rattle.lil_meaning.specs.Cells.{Place, stored, alone}
-use Rattle.lil_meaning.specs.Items.{Scalars, Places, AllocateBy, AllocateAt, Do, Item, Value, Fill, Perform, Going, Workspace, Source, workspace_words, heap_words}
+use Rattle.lil_meaning.specs.Items.{Place, stored, alone, Scalars, Places, AllocateBy, AllocateAt, Do, Item, Value, Fill, Perform, Going, Workspace, Source, workspace_words, heap_words}
 use Rattle.lil_meaning.specs.Steps.{next, trapped, allocated}
 use Rattle.lil_asm.specs.declared.instr.Instr.TheVariants.{Liw, Drp}
-use Rattle.lil_mcode.specs.State.{State}
+use Rattle.lil_mcode.specs.Table.{State, act, going}
 use Rattle.lil_frames.specs.Words.{cleared}
-use Rattle.lil_mcode.specs.Table.{act, going}
 use Rattle.lil_table.specs.Rows.{Access, OnTop, allocate_code}
 use Rattle.lil_match.specs.Homes.{Free, of_free, Home, Extends, word_for, plain_word, takes_plain, address, is_word_kept, Mem, mem_stored, scalar_owned}
 use Rattle.lil_match.specs.Costs.{shared_cost}
@@ -22,10 +18,8 @@ use Rattle.lil_meaning.specs.Need.{chain_of}
 use Rattle.lil_match.specs.Goes.{IsHeap, Shared, Goes}
 use Rattle.lil_match.specs.Waits.{Setting, frame_of, laid_out, Quiet, ValueOf, AtPlace, Around, Reach, Rows, HasPlace, Waiting}
 use Rattle.lil_match.specs.Orders.{instrs_order, expression_stands}
-use Rattle.lil_match.specs.Closing.{closed}
-use Rattle.lil_match.specs.Steps.{operand_exact, pushes, located_goes}
-use Rattle.lil_laws_place.specs.Codes.{inside, addressed, leads}
-use Rattle.lil_laws_place.specs.Stores.{tested, stored_goes}
+use Rattle.lil_match.specs.Steps.{closed, operand_exact, pushes, located_goes}
+use Rattle.lil_laws_place.specs.Codes.{inside, addressed, leads, tested, stored_goes}
 use Rattle.lil_laws_stmt.specs.Painting.{own_free, free_fixed}
 use Rattle.lil_laws_stmt.specs.Blocks as block
 

@@ -3,8 +3,7 @@ use Rattle.std.proofs.Common.{◌≡◌, ℕ, zero, suc, ◌+◌, ◌≤◌, ℤ
 use Rattle.std.proofs.lemmas.Bool.{lt-ltb, false_from_ne_true, true≢false}
 use Rattle.lil_base.specs.declared.fault.TrapKind.TheVariants as trap
 use Rattle.lil_base.specs.Words.{word_of}
-use Rattle.lil_resolved.specs.Kinds.{Kind, base_of, compared_as, covers, outside_turns}
-use Rattle.lil_resolved.specs.Scalars.{Scalar}
+use Rattle.lil_resolved.specs.Kinds.{Kind, base_of, compared_as, covers, outside_turns, Scalar}
 use Rattle.lil_resolved.specs.Resolved.{Statements}
 use Rattle.lil_meaning.specs.Items.{Turns, Item, Perform, Going, Source}
 use Rattle.lil_meaning.specs.Steps.{next, turned_with, turns}
@@ -12,18 +11,16 @@ use Rattle.lil_asm.specs.declared.instr.Instr.{Instr}
 use Rattle.lil_asm.specs.declared.instr.Instr.TheVariants.{Liw, Dup, Drp, Swp, Rgc, Lsi, Jmp, Jpf}
 use Rattle.lil_mcode.specs.declared.machine.Event.{Event}
 use Rattle.lil_mcode.specs.declared.machine.Event.TheVariants.{Went, Trap}
-use Rattle.lil_mcode.specs.State.{State}
-use Rattle.lil_mcode.specs.Table.{act, truth, going}
+use Rattle.lil_mcode.specs.Table.{State, act, truth, going}
 use Rattle.lil_table.specs.Rows.{IsAt, LeaveRow, AlignAt}
+use Rattle.lil_match.specs.Goes.{Shared, Goes, Lands}
 use Rattle.lil_match.specs.Running.{Run, running, react}
 use Rattle.lil_match.specs.Parts.{yes}
 use Rattle.lil_match.specs.Ranges.{has, has_base, value_none}
 use Rattle.lil_match.specs.Tests.{covered}
-use Rattle.lil_match.specs.Goes.{Shared, Goes, Lands}
 use Rattle.lil_match.specs.Waits.{Setting, frame_of, laid_out, Quiet, Around, Rows, BeginWaits}
 use Rattle.lil_match.specs.Orders.{instr_within}
-use Rattle.lil_match.specs.Closing.{closed, both_trap}
-use Rattle.lil_match.specs.Steps.{advances, at_step, rows_ahead, lands_on, goes_one, goes_after, goes_more}
+use Rattle.lil_match.specs.Steps.{closed, both_trap, advances, at_step, rows_ahead, lands_on, goes_one, goes_after, goes_more}
 use Rattle.lil_laws_stmt.specs.Starts.{is_small, small_has, IsOutside, outside, outside_none, outside_some, small_between, small_less}
 use Rattle.lil_laws_stmt.specs.Fors.{bounded_goes}
 

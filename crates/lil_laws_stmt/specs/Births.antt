@@ -1,13 +1,11 @@
 -- Words of a frame become variables of its activation, and go back with them.
-use Rattle.std.proofs.Common.{◌≡◌, ℕ, suc, ◌+◌, ◌-◌, ◌<◌, ◌≤◌, ◌⊎◌, inl, inr, Bool, true, false, cond, eqb, List, [], ◌∷◌, get_or, refl, sym, ap, ◌∙◌, subst, arith}
+use Rattle.std.proofs.Common.{◌≡◌, ℕ, suc, ◌+◌, ◌-◌, ◌<◌, ◌≤◌, ◌⊎◌, inl, inr, true, false, cond, eqb, List, [], ◌∷◌, get_or, refl, sym, ap, ◌∙◌, subst, arith}
 use Rattle.std.proofs.lemmas.Bool.{cases_Bool, ne_eqb, and_right}
-use Rattle.lil_resolved.specs.Kinds.{Kind}
-use Rattle.lil_resolved.specs.Scalars.{Scalar}
-use Rattle.lil_resolved.specs.Shapes.{Shape, Absent, Word, words, is_there, part_at, offset, all_words}
-use Rattle.lil_meaning.specs.Cells.{Root, Local, Place, Cells, Under, same_root, stored, zero_in, zeros_under}
+use Rattle.lil_resolved.specs.Kinds.{Kind, Scalar, Shape, Absent, Word, words, is_there, part_at, offset, all_words}
+use Rattle.lil_meaning.specs.Items.{Root, Local, Place, Cells, Under, same_root, stored, zero_in, zeros_under}
 use Rattle.lil_match.specs.Parts.{yes, no, part_fits, word_long}
-use Rattle.lil_match.specs.Homes.{Owner, Of, Own, Fixed, Free, Home, extends_self, Mem, IsWord, is_word_kept, zero_is, same_root_eq, fixed_of_none}
-use Rattle.lil_laws_stmt.specs.Painting.{own_free, free_fixed, of_own, painted, painted_there, painted_beside, Side, Before, Between, Behind', side}
+use Rattle.lil_match.specs.Homes.{Owner, Of, Own, Fixed, Home, extends_self, Mem, IsWord, is_word_kept, zero_is, same_root_eq, fixed_of_none}
+use Rattle.lil_laws_stmt.specs.Painting.{of_own, painted, painted_there, painted_beside, Side, Before, Between, Behind', side}
 
 -- a variable of an activation comes to life over words of the machine's own
 abbrev pub adopted : Home → Root → ℕ → Shape → Home
@@ -19,10 +17,6 @@ adopted h r b t = record h {
 
 abbrev pub local_place : (a x : ℕ) → Place
 local_place a x = record { root = Local a x; path = [] }
-
-no_part : (q : List ℕ) (k : Kind) → part_at Absent q ≡ Word k → ⊥
-no_part [] k e = cc
-no_part (i ∷ q) k e = cc
 
 module _ (h : Home) (cells : Cells) (store : List ℕ) (mem : Mem h cells store) (a x b : ℕ) (t : Shape) (u : Under) (unborn : h.shape (Local a x) ≡ Absent) (room : b + words t ≤ 65535)
     (own : (i : ℕ) → i < words t → h.owner (b + i) ≡ Own) (puts : (q : List ℕ) (k : Kind) → part_at t q ≡ Word k → IsWord h k (u q) (h.shadow (b + offset t q))) where
@@ -142,65 +136,3 @@ mem_born a x b (t ∷ ts) h cells store mem unborn own room =
       ap h.shadow (sym at) ∙ old.1,
     ))
     (omega (arith, room))
-
--- ---- a return
-abbrev pub of_activation : ℕ → Root → Bool
-of_activation a (Local c x) = eqb a c
-of_activation a _ = false
-
-abbrev pub released : Home → (from to base a : ℕ) → Home
-released h from to base a = record h {
-  shape = λ s. cond (of_activation a s) Absent (h.shape s);
-  owner = painted h.owner from to (λ i. Free base);
-}
-
-module _ (h : Home) (cells : Cells) (store : List ℕ) (mem : Mem h cells store) (from to base a : ℕ) (mine : (i : ℕ) (s : Root) → from ≤ i → i < to → h.owner i ≡ Of s → of_activation a s ≡ true) where
-  abbrev gone : Home
-  gone = released h from to base a
-
-  -- a root that stays
-  stays : (s : Root) → of_activation a s ≡ false → (i : ℕ) → h.owner i ≡ Of s → gone.owner i ≡ Of s
-  stays s alive i e = by (side from to i)
-    where
-      by : Side from to i → gone.owner i ≡ Of s
-      by (Before z) = painted_beside h.owner from to (λ j. Free base) i (inl z) ∙ e
-      by (Between z y) = absurd (let clash : true ≡ false = sym (mine i s z y e) ∙ alive in cc)
-      by (Behind' z y) = painted_beside h.owner from to (λ j. Free base) i (inr (z, y)) ∙ e
-
-  was : (i : ℕ) (o : Owner) → (Free base ≡ o → ⊥) → gone.owner i ≡ o → h.owner i ≡ o
-  was i o other e = by (side from to i)
-    where
-      by : Side from to i → h.owner i ≡ o
-      by (Before z) = sym (painted_beside h.owner from to (λ j. Free base) i (inl z)) ∙ e
-      by (Between z y) = absurd (other (sym (painted_there h.owner from to (λ j. Free base) i z y) ∙ e))
-      by (Behind' z y) = sym (painted_beside h.owner from to (λ j. Free base) i (inr (z, y))) ∙ e
-
-  lived : (s : Root) (q : List ℕ) (k : Kind) → part_at (cond (of_activation a s) Absent (h.shape s)) q ≡ Word k → of_activation a s ≡ false
-  lived s q k is = by (cases_Bool (of_activation a s))
-    where
-      by : (of_activation a s ≡ true) ⊎ (of_activation a s ≡ false) → of_activation a s ≡ false
-      by (inl e) = absurd (no_part q k (ap (λ (z : Shape). part_at z q) (sym (yes (of_activation a s) Absent (h.shape s) e)) ∙ is))
-      by (inr e) = e
-
-  -- the variables of an activation are gone, and its words in no use
-  pub mem_released : Mem (released h from to base a) cells store
-  mem_released = record {
-    owned = λ s i less. by s i less (cases_Bool (of_activation a s));
-    inside = λ s. low s (cases_Bool (of_activation a s));
-    holds = λ s q k is.
-        let alive = lived s q k is in
-        let same : cond (of_activation a s) Absent (h.shape s) ≡ h.shape s = no (of_activation a s) Absent (h.shape s) alive in
-        is_word_kept h gone (λ o l. refl) (λ o l. refl) refl (extends_self h.workspaces) k (cells s q) _
-        (subst (λ (z : Shape). IsWord h k (cells s q) (get_or store (h.base s + offset z q) 0)) (sym same) (mem.holds s q k (ap (λ (z : Shape). part_at z q) (sym same) ∙ is)));
-    kept = λ i e. mem.kept i (was i Own (λ z. own_free base (sym z)) e);
-    fixed = λ i e. mem.fixed i (was i Fixed (free_fixed base) e);
-    long = mem.long;
-  }
-    where
-      by : (s : Root) (i : ℕ) → i < words (cond (of_activation a s) Absent (h.shape s)) → (of_activation a s ≡ true) ⊎ (of_activation a s ≡ false) → gone.owner (h.base s + i) ≡ Of s
-      by s i less (inl e) = absurd (omega (arith, less, ap words (yes (of_activation a s) Absent (h.shape s) e)))
-      by s i less (inr e) = stays s e (h.base s + i) (mem.owned s i (omega (arith, less, ap words (no (of_activation a s) Absent (h.shape s) e))))
-
-      low : (s : Root) → (of_activation a s ≡ true) ⊎ (of_activation a s ≡ false) → h.base s + words (cond (of_activation a s) Absent (h.shape s)) ≤ 65535
-      low s (inl e) = omega (arith, mem.inside s, ap words (yes (of_activation a s) Absent (h.shape s) e))
-      low s (inr e) = omega (arith, mem.inside s, ap words (no (of_activation a s) Absent (h.shape s) e))

@@ -2,23 +2,21 @@
 use Rattle.std.proofs.Common.{◌≡◌, ℕ, ◌+◌, ◌-◌, ◌<◌, ◌≤◌, ◌⊎◌, inl, inr, true, List, [], ◌∷◌, length, get_or, set, refl, sym, ap, ◌∙◌, subst, ⊎_elim, arith}
 use Rattle.std.proofs.lemmas.Bool.{lt-ltb, le-ltb, cases_lt}
 use Rattle.lil_base.specs.declared.fault.LimitKind.TheVariants as limit
-use Rattle.lil_resolved.specs.Shapes.{Shape}
-use Rattle.lil_meaning.specs.Cells.{Root, Place, Cells}
-use Rattle.lil_meaning.specs.Items.{Item, Going, Workspace, Source, heap_words}
+use Rattle.lil_resolved.specs.Kinds.{Shape}
+use Rattle.lil_meaning.specs.Items.{Root, Place, Cells, Item, Going, Workspace, Source, heap_words}
 use Rattle.lil_meaning.specs.Need.{chain_of}
 use Rattle.lil_meaning.specs.Steps.{next}
 use Rattle.lil_asm.specs.declared.instr.Instr.TheVariants.{Alc}
 use Rattle.lil_mcode.specs.declared.machine.Event.{Event}
 use Rattle.lil_mcode.specs.declared.machine.Event.TheVariants.{Went}
-use Rattle.lil_mcode.specs.State.{State, stack_of}
+use Rattle.lil_mcode.specs.Table.{State, stack_of, going, mstep, take_row}
 use Rattle.lil_frames.specs.Words.{zeros, cleared}
-use Rattle.lil_mcode.specs.Table.{going, mstep, take_row}
 use Rattle.lil_table.specs.Rows.{IsAt}
+use Rattle.lil_match.specs.Goes.{OwnWords, IsHeap, Shared, Lands, Goes}
 use Rattle.lil_match.specs.Running.{running}
 use Rattle.lil_match.specs.Parts.{yes, no}
 use Rattle.lil_match.specs.Splices.{spliced_length, spliced_before, spliced_there, spliced_after, zeros_length, zeros_word}
 use Rattle.lil_match.specs.Homes.{Fixed, Free, Home, Extends, lives, address, Mem}
-use Rattle.lil_match.specs.Goes.{OwnWords, IsHeap, Shared, Lands, Goes}
 use Rattle.lil_match.specs.Costs.{cost_of, top_low}
 use Rattle.lil_match.specs.Waits.{Setting, frame_of, moved, Quiet, Around, Rows}
 use Rattle.lil_match.specs.Known.{known_kept, each_known, each_comes}
@@ -77,10 +75,6 @@ module _ (ctx : Setting) where
           by (inl z) e = inl z
           by (inr g) (inl z) = absurd (used (was_free i g z))
           by (inr g) (inr e) = inr (g, e)
-
-      -- the block is cleared
-      abbrev pub blank : List ℕ
-      blank = cleared m.store (ctx.stack.limit - words) ctx.stack.limit
 
       zero_long : length (zeros (st.limit - first)) ≡ words
       zero_long = omega (arith, zeros_length (st.limit - first), roomy)

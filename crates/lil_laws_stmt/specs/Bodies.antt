@@ -3,21 +3,19 @@ use Rattle.std.proofs.Common.{◌≡◌, ℕ, ◌+◌, ◌-◌, ◌<◌, ◌≤�
 use Rattle.std.proofs.lemmas.Bool.{le-ltb, lt-ltb, cases_lt}
 use Rattle.std.proofs.lemmas.Option.{slice_get_within}
 use Rattle.lil_base.specs.declared.fault.LimitKind.TheVariants as limit
-use Rattle.lil_resolved.specs.Shapes.{offset}
-use Rattle.lil_meaning.specs.Cells.{Root}
-use Rattle.lil_meaning.specs.Items.{End, Item, Perform, Activation, Going, Source}
+use Rattle.lil_resolved.specs.Kinds.{offset}
+use Rattle.lil_meaning.specs.Items.{Root, End, Item, Perform, Activation, Going, Source}
 use Rattle.lil_meaning.specs.Need.{chain}
 use Rattle.lil_asm.specs.declared.instr.Instr.TheVariants.{Ent, Rtn}
 use Rattle.lil_mcode.specs.declared.machine.Event.TheVariants.{Went}
-use Rattle.lil_mcode.specs.State.{Module, State, stack_of, module_at}
+use Rattle.lil_mcode.specs.Table.{Module, State, stack_of, module_at, mstep, end_row, body_row, begun_body, enter_row}
 use Rattle.lil_frames.specs.Words.{zeros, cleared}
-use Rattle.lil_mcode.specs.Table.{mstep, end_row, body_row, begun_body, enter_row}
 use Rattle.lil_table.specs.Rows.{IsAt}
+use Rattle.lil_match.specs.Goes.{OwnWords, Linked, Comes, Shared, IsShort, Goes, number_of}
 use Rattle.lil_match.specs.Running.{running, advanced}
 use Rattle.lil_match.specs.Parts.{yes, no}
 use Rattle.lil_match.specs.Homes.{Of, Own, Fixed, own_fixed, Free, Home, extends_self, Mem, is_word_kept, of_free, scalar_owned}
 use Rattle.lil_match.specs.Splices.{spliced_length, spliced_before, spliced_after, zeros_length}
-use Rattle.lil_match.specs.Goes.{OwnWords, Linked, Comes, Shared, IsShort, Goes, number_of}
 use Rattle.lil_match.specs.Costs.{known_costs, items_cost}
 use Rattle.lil_match.specs.Waits.{Quiet, outside, Frame, Setting, at_home, with_frames, RowsOf, NextBody}
 use Rattle.lil_match.specs.Known.{known_kept, each_comes}

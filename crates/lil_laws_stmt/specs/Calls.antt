@@ -4,32 +4,29 @@ use Rattle.std.specs.Prelude.{slice_get, option_map}
 use Rattle.std.proofs.lemmas.Bool.{lt-ltb, le-ltb, le-leb, cases_lt, and_from}
 use Rattle.std.proofs.lemmas.Option.{slice_get_within}
 use Rattle.lil_base.specs.declared.fault.LimitKind.TheVariants as limit
-use Rattle.lil_resolved.specs.Shapes.{Shape, offset}
+use Rattle.lil_resolved.specs.Kinds.{Shape, offset}
 use Rattle.lil_resolved.specs.Resolved.{Procedure, Call, Statements, Empty, Then, Resolved, procedure_by}
-use Rattle.lil_resolved.specs.Depth.{frame_words}
-use Rattle.lil_meaning.specs.Cells.{loaded_at}
-use Rattle.lil_meaning.specs.Items.{Do, End, Item, Perform, Activation, Going, Source, doing}
+use Rattle.lil_resolved.specs.Sizes.{frame_words}
+use Rattle.lil_meaning.specs.Items.{loaded_at, Do, End, Item, Perform, Activation, Going, Source, doing}
 use Rattle.lil_meaning.specs.Need.{frame_by, frame_of, cost, unless_body, with_callers, chain}
-use Rattle.lil_meaning.specs.Steps.{next, current, owner_of, procedure_of, procedures_of, procedure_name, its_name, outer_of, surrounding, level_out, declaring, entered, called_by}
+use Rattle.lil_meaning.specs.Steps.{next, current, owner_of, procedure_of, procedures_of, procedure_name, its_name, outer_of, level_out, declaring, entered, called_by}
 use Rattle.lil_asm.specs.declared.instr.Instr.TheVariants.{Mrk, Cll, Ent, Rtn}
-use Rattle.lil_mcode.specs.State.{Module, State, stack_of, module_at}
+use Rattle.lil_mcode.specs.Table.{Module, State, stack_of, module_at, mstep, frame_out, link_word, mark_row, its_entry, entry_in, called_row, enter_row}
 use Rattle.lil_frames.specs.Words.{spliced, zeros, cleared}
-use Rattle.lil_mcode.specs.Table.{mstep, frame_out, link_word, mark_row, its_entry, entry_in, called_row, enter_row}
 use Rattle.lil_table.specs.Rows.{Declared, loop_place}
+use Rattle.lil_match.specs.Goes.{OwnWords, Grows, Linked, Entered, IsKnown, Shared, IsShort, Lands, Goes}
 use Rattle.lil_match.specs.Running.{running, advanced}
 use Rattle.lil_match.specs.Parts.{yes, no}
 use Rattle.lil_match.specs.Homes.{Own, Fixed, own_fixed, Free, Home, extends_self, Mem, is_word_kept, of_free, scalar_owned}
 use Rattle.lil_match.specs.Splices.{spliced_length, spliced_before, spliced_there, spliced_after, zeros_length}
-use Rattle.lil_match.specs.Goes.{OwnWords, Grows, Linked, Entered, IsKnown, Shared, IsShort, Lands, Goes}
-use Rattle.lil_match.specs.Waits.{Quiet, Around, outside, Frame, Stack, frames_of, Setting, frame_of as frame_at, laid_out, renewed, Rows, Ahead, Waiting}
+use Rattle.lil_match.specs.Waits.{Quiet, Around, outside, Frame, Stack, frames_of, Setting, laid_out, renewed, Rows, Ahead, Waiting, frame_of as frame_at}
 use Rattle.lil_match.specs.Known.{known_kept, each_known, each_comes, known_grown, each_grown, comes_grown}
 use Rattle.lil_match.specs.Kept.{EachAbove, first_words, stack_above, stands_kept, chained_kept, loops_fit, rows_renewed}
 use Rattle.lil_match.specs.Laid.{codes_part}
 use Rattle.lil_match.specs.Costs.{cost_of, known_costs, each_costs, items_cost, top_low}
 use Rattle.lil_match.specs.Climbs.{Climbs, climbs, first_own}
-use Rattle.lil_match.specs.Closing.{closed}
+use Rattle.lil_match.specs.Steps.{closed, advances, at_step, at_once, rows_ahead, goes_after, goes_full, goes_one_grown}
 use Rattle.lil_match.specs.Orders.{instr_within}
-use Rattle.lil_match.specs.Steps.{advances, at_step, at_once, rows_ahead, goes_after, goes_full, goes_one_grown}
 use Rattle.lil_laws_stmt.specs.Painting.{free_fixed, painted, painted_there, painted_beside, Side, Before, Between, Behind', side}
 use Rattle.lil_laws_stmt.specs.Control.{body_rows}
 

@@ -4,8 +4,7 @@ use Rattle.std.proofs.lemmas.Int.{ints}
 use Rattle.std.proofs.lemmas.Bool.{lt-ltb, le-leb, lt-leb}
 use Rattle.lil_base.specs.Words.{Whole, Cardinal, Integer, least, greatest, between, in_type, word_of}
 use Rattle.lil_base.specs.declared.fault.TrapKind.TheVariants as trap
-use Rattle.lil_resolved.specs.Kinds.{Kind, is_plain, is_ordinal, compared_as}
-use Rattle.lil_resolved.specs.Scalars.{Scalar, within, ordinal_of}
+use Rattle.lil_resolved.specs.Kinds.{Kind, is_plain, is_ordinal, compared_as, Scalar, within, ordinal_of}
 use Rattle.lil_resolved.specs.Resolved.{Expression, Label, Case, Statements, Arms, NoElse, Else, Arm, kind_of}
 use Rattle.lil_meaning.specs.Items.{Scalars, Pick, Do, Item, Value, Fill, Perform, doing, Going, Source}
 use Rattle.lil_meaning.specs.Steps.{among, picked}
@@ -13,20 +12,18 @@ use Rattle.lil_meaning.specs.Steps as meaning
 use Rattle.lil_asm.specs.declared.instr.Instr.TheVariants.{Jmp, Cas, Trp}
 use Rattle.lil_mcode.specs.declared.machine.Event.TheVariants.{Trap}
 use Rattle.lil_mcode.specs.Control as machine
-use Rattle.lil_mcode.specs.State.{State}
-use Rattle.lil_mcode.specs.Table.{going, on_one, case_row, chosen_row}
+use Rattle.lil_mcode.specs.Table.{State, going, on_one, case_row, chosen_row}
 use Rattle.lil_table.specs.LabelLaws.{ordinal_in, label_in}
 use Rattle.lil_table.specs.Rows.{Layout, IsAt, BodyAt, EntriesAt, ArmsAt}
+use Rattle.lil_match.specs.Goes.{Shared, Goes, Lands}
 use Rattle.lil_match.specs.Running.{running, advanced, react}
 use Rattle.lil_match.specs.Parts.{yes}
 use Rattle.lil_match.specs.Homes.{word_for, plain_word}
-use Rattle.lil_match.specs.Goes.{Shared, Goes, Lands}
 use Rattle.lil_match.specs.Waits.{Setting, frame_of, laid_out, Quiet, ValueOf, Around, Reach, Rows, Waiting}
 use Rattle.lil_match.specs.Ranges.{ordinal_plain}
 use Rattle.lil_match.specs.Orders.{instr_within, body_within}
-use Rattle.lil_match.specs.Closing.{closed, both_trap}
+use Rattle.lil_match.specs.Steps.{closed, both_trap, advances, at_step, rows_jump, rows_ahead, lands_on, goes_one, goes_after, jumps_to, operand_goes}
 use Rattle.lil_match.specs.Arithmetic.{word_is, above_more}
-use Rattle.lil_match.specs.Steps.{advances, at_step, rows_jump, rows_ahead, lands_on, goes_one, goes_after, jumps_to, operand_goes}
 use Rattle.lil_laws_stmt.specs.Control.{body_rows}
 use Rattle.lil_base.specs.Laws.{bounds}
 

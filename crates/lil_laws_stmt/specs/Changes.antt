@@ -4,17 +4,13 @@ use Rattle.std.specs.Prelude.{ℤ}
 use Rattle.lil_base.specs.Words.{Whole, Cardinal, Integer, in_type, number_of, word_of}
 use Rattle.lil_base.specs.Traps.{arith_trap}
 use Rattle.lil_base.specs.declared.fault.ArithFault.{ArithFault}
-use Rattle.lil_resolved.specs.Kinds.{Kind, OfWhole, base_of, is_plain}
-use Rattle.lil_resolved.specs.Scalars.{Scalar, Number, within, scalar_of, scalar_word, ordinal_of}
+use Rattle.lil_resolved.specs.Kinds.{Kind, OfWhole, base_of, is_plain, Scalar, Number, within, scalar_of, scalar_word, ordinal_of, Shape, Word}
 use Rattle.lil_resolved.specs.Resolved.{Designator, Expression, Change, counted_as}
-use Rattle.lil_resolved.specs.Shapes.{Shape, Word}
-use Rattle.lil_meaning.specs.Cells.{Place, got}
-use Rattle.lil_meaning.specs.Items.{Scalars, Places, ChangeBy, ChangeAt, Do, Item, Value, Fill, Perform, Going, Source}
+use Rattle.lil_meaning.specs.Items.{Place, got, Scalars, Places, ChangeBy, ChangeAt, Do, Item, Value, Fill, Perform, Going, Source}
 use Rattle.lil_meaning.specs.Steps.{current, whole_of, changed, value_of, valued, stored_with}
 use Rattle.lil_asm.specs.declared.instr.Instr.{Instr}
 use Rattle.lil_asm.specs.declared.instr.Instr.TheVariants.{Adc, Sbc, Adi, Sbi}
-use Rattle.lil_mcode.specs.State.{Module, State}
-use Rattle.lil_mcode.specs.Table.{mstep, act, going, result_row, two_row}
+use Rattle.lil_mcode.specs.Table.{Module, State, mstep, act, going, result_row, two_row}
 use Rattle.lil_table.specs.Rows.{IsAt, InstrsAt, whole_code, Access, InData, OnTop, Behind, readied, store_code, under_code, change_operator, change_code, test_code}
 use Rattle.lil_match.specs.Homes.{word_for, base_plain, plain_word, plain_refers, address, IsWord}
 use Rattle.lil_match.specs.Goes.{Shared, Goes}
@@ -22,10 +18,8 @@ use Rattle.lil_match.specs.Waits.{Setting, frame_of, laid_out, Quiet, ValueOf, A
 use Rattle.lil_match.specs.Orders.{instrs_within}
 use Rattle.lil_match.specs.Arithmetic.{word_is, reads_ordinal, reads, sum_fits, difference_fits}
 use Rattle.lil_match.specs.Ranges.{has, value_is, value_none, value_fits, number_is}
-use Rattle.lil_match.specs.Closing.{closed}
-use Rattle.lil_match.specs.Steps.{advances, at_step, goes_after, operand_exact, located_goes}
-use Rattle.lil_laws_place.specs.Codes.{made_ready, readied_twice, twice_words, kept_twice, brings_under}
-use Rattle.lil_laws_place.specs.Stores.{trap_goes, number_tested, stored_goes}
+use Rattle.lil_match.specs.Steps.{closed, advances, at_step, goes_after, operand_exact, located_goes}
+use Rattle.lil_laws_place.specs.Codes.{made_ready, readied_twice, twice_words, kept_twice, brings_under, trap_goes, number_tested, stored_goes}
 
 -- the one instruction of the sum or the difference
 abbrev change_instr : Bool → Whole → Instr

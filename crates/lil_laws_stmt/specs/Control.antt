@@ -1,21 +1,19 @@
 -- The rows of IF, WHILE, REPEAT and LOOP.
 use Rattle.std.proofs.Common.{◌≡◌, ℕ, suc, ◌+◌, ◌<◌, ◌≤◌, Bool, true, false, cond, Some, List, [], ◌∷◌, length, refl, sym, ap, ◌∙◌, subst, arith}
 use Rattle.std.proofs.lemmas.Bool.{lt-ltb}
-use Rattle.lil_resolved.specs.Kinds.{Kind, OfTruth}
-use Rattle.lil_resolved.specs.Scalars.{Scalar, Truth, within, truth_number, truth_of}
+use Rattle.lil_resolved.specs.Kinds.{Kind, OfTruth, Scalar, Truth, within, truth_number, truth_of}
 use Rattle.lil_resolved.specs.Resolved.{Expression, If, While, Repeat, Loop, Statements, Empty, Then}
 use Rattle.lil_meaning.specs.Items.{Scalars, Hole, Choose, Turn, Again, Do, Until, Looping, Item, Value, Fill, Perform, doing, Going, Source}
 use Rattle.lil_meaning.specs.Steps.{next}
 use Rattle.lil_asm.specs.declared.instr.Instr.{Instr}
 use Rattle.lil_asm.specs.declared.instr.Instr.TheVariants.{Jmp, Jpf}
 use Rattle.lil_mcode.specs.declared.machine.Event.TheVariants.{Went}
-use Rattle.lil_mcode.specs.State.{State}
-use Rattle.lil_mcode.specs.Table.{going, on_one, false_row}
+use Rattle.lil_mcode.specs.Table.{State, going, on_one, false_row}
 use Rattle.lil_table.specs.Rows.{IsAt, StatementAt, BodyAt, ExpressionAt}
+use Rattle.lil_match.specs.Goes.{Shared, Goes, Lands}
 use Rattle.lil_match.specs.Running.{running, advanced}
 use Rattle.lil_match.specs.Parts.{yes}
 use Rattle.lil_match.specs.Homes.{word_for}
-use Rattle.lil_match.specs.Goes.{Shared, Goes, Lands}
 use Rattle.lil_match.specs.Stutter.{stutter, body_stutter}
 use Rattle.lil_match.specs.Waits.{Setting, frame_of, laid_out, Quiet, ValueOf, Around, Reach, Rows, Ahead, LoopingWaits, Waiting}
 use Rattle.lil_match.specs.Orders.{instr_within, expression_within, statement_within, body_within}

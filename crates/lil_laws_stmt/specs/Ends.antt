@@ -9,18 +9,16 @@ use Rattle.lil_meaning.specs.Items.{Do, Turns, Holding, End, Item, Perform, Leve
 use Rattle.lil_meaning.specs.Steps.{next, returned, left_by, over}
 use Rattle.lil_asm.specs.declared.instr.Instr.TheVariants.{Rtn, Trp}
 use Rattle.lil_mcode.specs.declared.machine.Event.TheVariants.{LevelEnded}
-use Rattle.lil_mcode.specs.State.{Module, Kept, State}
-use Rattle.lil_mcode.specs.Table.{end_row}
+use Rattle.lil_mcode.specs.Table.{Module, Kept, State, end_row}
 use Rattle.lil_table.specs.Rows.{IsAt, loop_place}
+use Rattle.lil_match.specs.Goes.{Stands, number_of, Shared, Lands, Goes}
 use Rattle.lil_match.specs.Running.{Finished, Run, running, advanced}
 use Rattle.lil_match.specs.Parts.{yes}
-use Rattle.lil_match.specs.Goes.{Stands, number_of, Shared, Lands, Goes}
 use Rattle.lil_match.specs.Stutter.{stutter}
 use Rattle.lil_match.specs.Waits.{Mode, Quiet, Around, outside, Frame, Setting, with_frames, RowsOf, Rows, Ahead, Behind, EndWaits, EndedWaits, Waiting}
-use Rattle.lil_match.specs.Closing.{closed}
+use Rattle.lil_match.specs.Steps.{closed, advances, at_step, at_once, lands_on, goes_none, goes_one}
 use Rattle.lil_match.specs.Laid.{IsAround, around_self, around_more, shared_around, goes_around}
-use Rattle.lil_match.specs.Steps.{advances, at_step, at_once, lands_on, goes_none, goes_one}
-use Rattle.lil_laws_place.specs.Stores.{trap_goes}
+use Rattle.lil_laws_place.specs.Codes.{trap_goes}
 use Rattle.lil_laws_stmt.specs.Returns.{goes_back}
 use Rattle.lil_laws_stmt.specs.Bodies.{goes_next, goes_short}
 

@@ -1,16 +1,14 @@
 -- The row of EXIT: the items up to the end of the LOOP around go, and the machine jumps to the place behind it.
 use Rattle.std.proofs.Common.{◌≡◌, ℕ, ◌+◌, ◌<◌, ◌≤◌, inl, inr, Some, None, List, [], ◌∷◌, length, refl, sym, ap, ◌∙◌, subst, arith}
 use Rattle.std.specs.Prelude.{ℤ}
-use Rattle.lil_resolved.specs.Kinds.{Kind}
+use Rattle.lil_resolved.specs.Kinds.{Kind, Shape}
 use Rattle.lil_resolved.specs.Resolved.{Exit, Statements}
-use Rattle.lil_resolved.specs.Shapes.{Shape}
 use Rattle.lil_meaning.specs.Items.{Do, Looping, Turns, Holding, End, Item, Perform, Source}
 use Rattle.lil_meaning.specs.Steps.{exited}
-use Rattle.lil_mcode.specs.State.{State}
-use Rattle.lil_mcode.specs.Table.{going}
+use Rattle.lil_mcode.specs.Table.{State, going}
 use Rattle.lil_table.specs.Rows.{loop_place}
-use Rattle.lil_match.specs.Running.{running}
 use Rattle.lil_match.specs.Goes.{Shared, Goes}
+use Rattle.lil_match.specs.Running.{running}
 use Rattle.lil_match.specs.Waits.{Setting, inside_with, frame_of, Mode, Quiet, Around, outside, Reach, TurnsTask, ItemWaits, RowsOf, Rows, Waiting}
 use Rattle.lil_match.specs.Laid.{IsAround, around_self, around_more, shared_around, goes_around}
 use Rattle.lil_match.specs.Steps.{jumps_to}

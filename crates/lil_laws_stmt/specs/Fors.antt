@@ -5,32 +5,27 @@ use Rattle.std.proofs.lemmas.Bool.{eq-eqb, lt-ltb, ne_eqb, and_from}
 use Rattle.lil_base.specs.declared.fault.TrapKind.TheVariants as trap
 use Rattle.lil_base.specs.Words.{Whole, Cardinal, Integer, word_of}
 use Rattle.lil_resolved.specs.Kinds as kinds
-use Rattle.lil_resolved.specs.Kinds.{Kind, base_of, is_plain, is_base, compared_as, covers, outside_turns}
-use Rattle.lil_resolved.specs.Scalars.{Scalar, within, scalar_word, scalar_of, ordinal_of}
-use Rattle.lil_resolved.specs.Shapes.{Word}
+use Rattle.lil_resolved.specs.Kinds.{Kind, base_of, is_plain, is_base, compared_as, covers, outside_turns, Scalar, within, scalar_word, scalar_of, ordinal_of, Word}
 use Rattle.lil_resolved.specs.Resolved.{Expression, For, Statements}
-use Rattle.lil_meaning.specs.Cells.{Global, Place, stored, alone}
-use Rattle.lil_meaning.specs.Items.{Scalars, StartOf, LimitOf, Do, Turns, Item, Value, Fill, Perform, doing, Going, Source}
+use Rattle.lil_meaning.specs.Items.{Global, Place, stored, alone, Scalars, StartOf, LimitOf, Do, Turns, Item, Value, Fill, Perform, doing, Going, Source}
 use Rattle.lil_meaning.specs.Steps.{current, owner_of, turned_with, turns}
 use Rattle.lil_asm.specs.declared.instr.Instr.{Instr}
 use Rattle.lil_asm.specs.declared.instr.Instr.TheVariants.{Liw, Swp, Llw, Sgw, Fri, Frn}
 use Rattle.lil_mcode.specs.declared.machine.Event.{Event}
 use Rattle.lil_mcode.specs.declared.machine.Event.TheVariants.{Went, Trap}
 use Rattle.lil_mcode.specs.Control.{after_first}
-use Rattle.lil_mcode.specs.State.{State}
-use Rattle.lil_mcode.specs.Table.{mstep, going, push_row, on_three, loop_row, begun_row, turn_row}
+use Rattle.lil_mcode.specs.Table.{State, mstep, going, push_row, on_three, loop_row, begun_row, turn_row}
 use Rattle.lil_table.specs.Rows.{InData, Layout, IsAt, InstrsAt, AlignAt, BodyAt, RoundRow, range_code, loop_place, loop_sign}
+use Rattle.lil_match.specs.Goes.{Shared, Touches, Goes, Lands}
 use Rattle.lil_match.specs.Running.{Run, running, react, advanced}
 use Rattle.lil_match.specs.Parts.{yes, no}
 use Rattle.lil_match.specs.Homes.{word_for, base_plain, takes_plain, plain_word, plain_refers, Home, Mem, scalar_owned, mem_stored, replaced, shadowed}
 use Rattle.lil_match.specs.Arithmetic.{word_is}
 use Rattle.lil_match.specs.Ranges.{has, value_is, value_none, number_is, value_fits, fits_has, has_type, ordinal_base, ordinal_plain}
 use Rattle.lil_match.specs.Tests.{covered, test_act}
-use Rattle.lil_match.specs.Goes.{Shared, Touches, Goes, Lands}
 use Rattle.lil_match.specs.Waits.{Setting, frame_of, laid_out, Quiet, ValueOf, Around, Reach, TurnsFit, Rows, at_home, LoopWords, NextWaits, HasPlace, Waiting}
 use Rattle.lil_match.specs.Orders.{instr_within, expression_within}
-use Rattle.lil_match.specs.Closing.{closed, variable_here, both_trap}
-use Rattle.lil_match.specs.Steps.{advances, pushes, at_step, at_once, rows_ahead, lands_on, goes_none, shared_with, untouched, touched, goes_one, goes_after_in, goes_after, goes_more, operand_goes}
+use Rattle.lil_match.specs.Steps.{closed, variable_here, both_trap, advances, pushes, at_step, at_once, rows_ahead, lands_on, goes_none, shared_with, untouched, touched, goes_one, goes_after_in, goes_after, goes_more, operand_goes}
 use Rattle.lil_match.specs.Kept as kept
 use Rattle.lil_match.specs.Kept.{shared_shadowed, touches_shadowed, rows_shadowed}
 use Rattle.lil_laws_stmt.specs.Control.{body_rows}

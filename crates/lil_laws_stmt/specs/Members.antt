@@ -2,28 +2,22 @@
 use Rattle.std.proofs.Common.{◌≡◌, ℕ, ◌+◌, Bool, true, false, cond, List, [], ◌∷◌, length, get_or, set, refl, sym, ap, ◌∙◌, subst, arith}
 use Rattle.std.proofs.lemmas.Bool.{lt-ltb, le-ltb}
 use Rattle.lil_base.specs.declared.fault.TrapKind.TheVariants as trap
-use Rattle.lil_resolved.specs.Kinds.{Kind, OfSet}
-use Rattle.lil_resolved.specs.Scalars.{Scalar, within, scalar_word}
-use Rattle.lil_resolved.specs.Shapes.{Shape, Word}
+use Rattle.lil_resolved.specs.Kinds.{Kind, OfSet, Scalar, within, scalar_word, Shape, Word}
 use Rattle.lil_resolved.specs.Resolved.{Designator, Expression, Member}
-use Rattle.lil_meaning.specs.Cells.{Place, got, stored, alone}
-use Rattle.lil_meaning.specs.Items.{Scalars, Places, MemberBy, MemberAt, Do, Item, Value, Fill, Perform, Going, Source}
+use Rattle.lil_meaning.specs.Items.{Place, got, stored, alone, Scalars, Places, MemberBy, MemberAt, Do, Item, Value, Fill, Perform, Going, Source}
 use Rattle.lil_meaning.specs.Steps.{trapped, with_member}
 use Rattle.lil_mcode.specs.declared.machine.Event.{Event}
 use Rattle.lil_mcode.specs.declared.machine.Event.TheVariants.{Went}
-use Rattle.lil_mcode.specs.State.{Module, State}
-use Rattle.lil_mcode.specs.Table.{act, going, on_two, member_row}
+use Rattle.lil_mcode.specs.Table.{Module, State, act, going, on_two, member_row}
 use Rattle.lil_table.specs.Rows.{Access, OnTop, member_code}
+use Rattle.lil_match.specs.Goes.{Shared, Goes, Lands}
 use Rattle.lil_match.specs.Running.{running}
 use Rattle.lil_match.specs.Parts.{yes, no}
 use Rattle.lil_match.specs.Homes.{word_for, plain_word, takes_plain, address, IsWord, Mem, mem_stored}
-use Rattle.lil_match.specs.Goes.{Shared, Goes, Lands}
 use Rattle.lil_match.specs.Waits.{Setting, frame_of, laid_out, Quiet, ValueOf, AtPlace, Around, Reach, Rows, HasPlace, Waiting}
 use Rattle.lil_match.specs.Orders.{instrs_order, instr_within, expression_stands}
-use Rattle.lil_match.specs.Closing.{closed}
-use Rattle.lil_match.specs.Steps.{advances, at_step, rows_ahead, shared_with, goes_one, operand_exact, located_goes}
-use Rattle.lil_laws_place.specs.Codes.{inside, addressed}
-use Rattle.lil_laws_place.specs.Stores.{tested}
+use Rattle.lil_match.specs.Steps.{closed, advances, at_step, rows_ahead, shared_with, goes_one, operand_exact, located_goes}
+use Rattle.lil_laws_place.specs.Codes.{inside, addressed, tested}
 use Rattle.lil_laws_place.specs.Sets.{IsMember, member_is, member_change, member_word}
 
 member_act : (out : Bool) (q : ℕ) (own : Module) (m : State) → act (member_code out) q own m ≡ on_two m m.stack (member_row (member_change out) q m)

@@ -2,19 +2,15 @@
 use Rattle.std.proofs.Common.{◌≡◌, ℕ, zero, suc, ◌+◌, ◌-◌, ◌<◌, ◌≤◌, ◌⊎◌, inl, inr, Bool, true, false, cond, List, [], ◌∷◌, ◌++◌, length, get_or, set, refl, sym, ap, ◌∙◌, subst, ⊎_elim, arith}
 use Rattle.std.specs.Prelude.{slice_get}
 use Rattle.std.proofs.lemmas.Bool.{ne_eqb, cases_lt, cases_Bool, cases_eq}
-use Rattle.lil_resolved.specs.Kinds.{Objects, Kind, OfPointer}
-use Rattle.lil_resolved.specs.Scalars.{Scalar, ToObject}
-use Rattle.lil_resolved.specs.Shapes.{Shape, Absent, Word, words, is_there, part_at, offset, shape_at}
+use Rattle.lil_resolved.specs.Kinds.{Objects, Kind, OfPointer, Scalar, ToObject, Shape, Absent, Word, words, is_there, part_at, offset, shape_at}
 use Rattle.lil_resolved.specs.Resolved.{Designator, New}
-use Rattle.lil_meaning.specs.Cells.{Root, Global, Local, Object, Place, Cells, same_root, object_place, stored, alone, zero_in, zeros_under, targets_of, object_words, loaded_at}
-use Rattle.lil_meaning.specs.Items.{Places, NewAt, Do, Item, Value, Fill, Perform, Going, Activation, Source, heap_words}
+use Rattle.lil_meaning.specs.Items.{Root, Global, Local, Object, Place, Cells, same_root, object_place, stored, alone, zero_in, zeros_under, targets_of, object_words, loaded_at, Places, NewAt, Do, Item, Value, Fill, Perform, Going, Activation, Source, heap_words}
 use Rattle.lil_meaning.specs.Steps.{next, owner_of, target_of, made}
 use Rattle.lil_asm.specs.declared.instr.Instr.TheVariants.{Liw}
 use Rattle.lil_mcode.specs.declared.machine.Event.{Event}
 use Rattle.lil_mcode.specs.declared.machine.Event.TheVariants.{Went}
-use Rattle.lil_mcode.specs.State.{State}
+use Rattle.lil_mcode.specs.Table.{State, going}
 use Rattle.lil_frames.specs.Words.{cleared}
-use Rattle.lil_mcode.specs.Table.{going}
 use Rattle.lil_table.specs.Rows.{Access}
 use Rattle.lil_match.specs.Parts.{yes, no, part_fits, word_long}
 use Rattle.lil_match.specs.Homes.{Of, Own, Fixed, Free, of_free, Home, extends_self, lives, address, shape_there, Refers, IsWord, is_word_kept, zero_is, Mem, mem_stored, scalar_owned, same_root_eq, same_root_refl}
@@ -22,8 +18,7 @@ use Rattle.lil_match.specs.Costs.{shared_cost}
 use Rattle.lil_match.specs.Goes.{IsHeap, Shared, Goes}
 use Rattle.lil_match.specs.Waits.{Setting, frame_of, laid_out, Quiet, AtPlace, Around, Reach, Rows, HasPlace, Waiting}
 use Rattle.lil_match.specs.Kept.{place_lives}
-use Rattle.lil_match.specs.Closing.{closed}
-use Rattle.lil_match.specs.Steps.{pushes, located_goes}
+use Rattle.lil_match.specs.Steps.{closed, pushes, located_goes}
 use Rattle.lil_laws_place.specs.Codes.{inside, addressed, leads}
 use Rattle.lil_laws_stmt.specs.Painting.{of_own, painted, painted_there, painted_beside}
 use Rattle.lil_laws_stmt.specs.Blocks as block

@@ -2,7 +2,7 @@
 use Rattle.std.proofs.Common.{◌≡◌, ℕ, ◌<◌, ◌≤◌, ◌⊎◌, inl, inr, cond, ◌∙◌}
 use Rattle.std.specs.Prelude.{nat_lt}
 use Rattle.std.proofs.lemmas.Bool.{lt-ltb, le-ltb, cases_lt}
-use Rattle.lil_meaning.specs.Cells.{Root}
+use Rattle.lil_meaning.specs.Items.{Root}
 use Rattle.lil_match.specs.Parts.{yes, no}
 use Rattle.lil_match.specs.Homes.{Of, Own, Fixed, Free}
 

@@ -8,31 +8,25 @@ use Rattle.lil_base.specs.Requests.{request_number, request_found, takes_array}
 use Rattle.lil_base.specs.declared.request.Request.{Request}
 use Rattle.lil_base.specs.declared.request.Request.TheVariants.{Write, WriteString, WriteLn, WriteCard, WriteInt, WriteOct, WriteHex}
 use Rattle.lil_asm.specs.Requests.{request_words}
-use Rattle.lil_resolved.specs.Kinds.{Kind, OfCharacter}
-use Rattle.lil_resolved.specs.Scalars.{Scalar, Number, Truth, Character, SetOf, ToObject, ToWorkspace, ToProcedure, ToCoroutine, Nil, Nothing, within, scalar_word}
+use Rattle.lil_resolved.specs.Kinds.{Kind, OfCharacter, Scalar, Number, Truth, Character, SetOf, ToObject, ToWorkspace, ToProcedure, ToCoroutine, Nil, Nothing, within, scalar_word, Shape, Absent, Word, Row, words, is_there, part_at, offset}
 use Rattle.lil_resolved.specs.Resolved as resolved
 use Rattle.lil_resolved.specs.Resolved.{Argument, ByValue, OfArray, OfText, shape_of}
 use Rattle.lil_resolved.specs.Sound.{request_parameters, parameter_of, is_text}
-use Rattle.lil_resolved.specs.Shapes.{Shape, Absent, Word, Row, words, is_there, part_at, offset}
-use Rattle.lil_meaning.specs.Cells.{Place, part_of, got}
+use Rattle.lil_meaning.specs.Items.{Place, part_of, got, Datum, Scalars, Places, Wholes, Opens, Texts, Pass, PassArray, Do, Passing, Item, Value, PlaceOf, Fill, Perform, Going, Source}
 use Rattle.lil_meaning.specs.World.{World, Given, Single, Characters, characters_at, array_at, given_by, serve}
-use Rattle.lil_meaning.specs.Items.{Datum, Scalars, Places, Wholes, Opens, Texts, Pass, PassArray, Do, Passing, Item, Value, PlaceOf, Fill, Perform, Going, Source}
 use Rattle.lil_meaning.specs.Steps.{trapped, with_items, character_of, characters_from, as_array, given_of, level_of}
 use Rattle.lil_asm.specs.declared.instr.Instr.TheVariants.{Liw, Lag, Svc}
-use Rattle.lil_mcode.specs.State.{State}
-use Rattle.lil_mcode.specs.Table.{going, array_lies, request_row}
+use Rattle.lil_mcode.specs.Table.{State, going, array_lies, request_row}
 use Rattle.lil_table.specs.Rows.{IsAt, ArgumentsAt, HasText, text_words, arguments_words, Access, access_of}
+use Rattle.lil_match.specs.Goes.{Shared, Goes, Lands}
 use Rattle.lil_match.specs.Running.{Running, Run, running}
 use Rattle.lil_match.specs.Parts.{yes, no}
 use Rattle.lil_match.specs.Homes.{Home, text_character, word_for, plain_word, takes_plain, address, shape_there, place_inside, part_there}
-use Rattle.lil_match.specs.Goes.{Shared, Goes, Lands}
 use Rattle.lil_match.specs.Stutter.{stutter}
 use Rattle.lil_match.specs.Waits.{Setting, frame_of, laid_out, Quiet, ValueOf, AtPlace, Around, Reach, Rows, HasPlace, is_open, is_array, TakesAll, DatumOn, DataOn, Waiting}
 use Rattle.lil_match.specs.Orders.{instr_within, arguments_within}
-use Rattle.lil_match.specs.Closing.{closed}
-use Rattle.lil_match.specs.Steps.{advances, at_step, at_once, pushes, rows_ahead, lands_on, goes_none, goes_one, operand_goes}
-use Rattle.lil_laws_place.specs.Codes.{leads, addressed}
-use Rattle.lil_laws_place.specs.Stores.{tested}
+use Rattle.lil_match.specs.Steps.{closed, advances, at_step, at_once, pushes, rows_ahead, lands_on, goes_none, goes_one, operand_goes}
+use Rattle.lil_laws_place.specs.Codes.{leads, addressed, tested}
 use Rattle.lil_laws_stmt.specs.Strings.{string_low, string_word}
 use Rattle.lil_laws_stmt.specs.Tasks.{value_within}
 

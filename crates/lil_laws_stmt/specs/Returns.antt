@@ -2,17 +2,15 @@
 use Rattle.std.proofs.Common.{◌≡◌, ℕ, ◌+◌, ◌-◌, ◌<◌, ◌≤◌, ◌⊎◌, inl, inr, Some, List, [], ◌∷◌, ◌++◌, get_or, refl, sym, ap, ◌∙◌, subst, arith}
 use Rattle.std.specs.Prelude.{is_some}
 use Rattle.std.proofs.lemmas.Bool.{ne_eqb, lt-ltb, le-leb, and_from}
-use Rattle.lil_resolved.specs.Shapes.{offset}
-use Rattle.lil_meaning.specs.Cells.{Root}
-use Rattle.lil_meaning.specs.Items.{End, Item, Perform, Source}
+use Rattle.lil_resolved.specs.Kinds.{offset}
+use Rattle.lil_meaning.specs.Items.{Root, End, Item, Perform, Source}
 use Rattle.lil_asm.specs.declared.instr.Instr.TheVariants.{Rtn}
-use Rattle.lil_mcode.specs.State.{Module, State, stack_of, module_at}
-use Rattle.lil_mcode.specs.Table.{return_row}
+use Rattle.lil_mcode.specs.Table.{Module, State, stack_of, module_at, return_row}
 use Rattle.lil_table.specs.Rows.{IsAt}
+use Rattle.lil_match.specs.Goes.{OwnWords, Stands, Shared, Goes}
 use Rattle.lil_match.specs.Running.{running, advanced}
 use Rattle.lil_match.specs.Parts.{yes, no}
 use Rattle.lil_match.specs.Homes.{Of, Own, Fixed, own_fixed, Free, Home, extends_self, Mem, is_word_kept}
-use Rattle.lil_match.specs.Goes.{OwnWords, Stands, Shared, Goes}
 use Rattle.lil_match.specs.Waits.{Quiet, Frame, Setting, at_home, with_frames, Rows, RowsOf, Back}
 use Rattle.lil_match.specs.Known.{known_kept, each_known, each_comes}
 use Rattle.lil_match.specs.Kept.{EachAbove, first_words, stands_above, all_above, stands_kept, rows_kept}
@@ -87,7 +85,7 @@ module _ (ctx : Setting) (f g : Frame) (gs bs : List Frame) where
       long = shared.mem.long;
     }
       where
-        by : (r : Root) (i : ℕ) → i < Rattle.lil_resolved.specs.Shapes.words (ctx.home.shape r) → Side f.at m.top (ctx.home.base r + i) → x.owner (ctx.home.base r + i) ≡ Of r
+        by : (r : Root) (i : ℕ) → i < Rattle.lil_resolved.specs.Kinds.words (ctx.home.shape r) → Side f.at m.top (ctx.home.base r + i) → x.owner (ctx.home.base r + i) ≡ Of r
         by r i l (Before z) = beside_is (ctx.home.base r + i) (inl z) ∙ shared.mem.owned r i l
         by r i l (Between z y) =
             absurd (of_own r (sym (shared.mem.owned r i l) ∙ ap ctx.home.owner (let e : ctx.home.base r + i ≡ f.at + (ctx.home.base r + i - f.at) = omega (arith, z) in e) ∙ words.own (ctx.home.base r + i - f.at) (omega (arith, z, y))))

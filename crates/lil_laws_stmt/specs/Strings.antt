@@ -3,19 +3,17 @@ use Rattle.std.proofs.Common.{◌≡◌, ℕ, ◌+◌, ◌-◌, ◌<◌, ◌≤�
 use Rattle.std.proofs.lemmas.Bool.{cases_lt, lt-ltb}
 use Rattle.std.proofs.lemmas.List.{get_or-take, get_or_append_left, get_or-append_right, get_or-drop, get_or_past, length-take-le}
 use Rattle.lil_resolved.specs.Resolved.{Designator, Text}
-use Rattle.lil_resolved.specs.Shapes.{Shape}
-use Rattle.lil_meaning.specs.Cells.{Place, stored, text_under}
-use Rattle.lil_meaning.specs.Items.{Places, TextTo, Do, Item, Value, Fill, Perform, Source}
+use Rattle.lil_resolved.specs.Kinds.{Shape}
+use Rattle.lil_meaning.specs.Items.{Place, stored, text_under, Places, TextTo, Do, Item, Value, Fill, Perform, Source}
 use Rattle.lil_asm.specs.declared.instr.Instr.TheVariants.{Lag, Mvz}
-use Rattle.lil_mcode.specs.State.{State}
+use Rattle.lil_mcode.specs.Table.{State, act, going}
 use Rattle.lil_frames.specs.Words.{spliced, zeros, moved}
-use Rattle.lil_mcode.specs.Table.{act, going}
 use Rattle.lil_table.specs.Rows.{HasText, text_words, Access}
+use Rattle.lil_match.specs.Goes.{Shared, Goes}
 use Rattle.lil_match.specs.Running.{running}
 use Rattle.lil_match.specs.Parts.{yes}
 use Rattle.lil_match.specs.Splices.{zeros_length, zeros_word}
 use Rattle.lil_match.specs.Homes.{address, Mem, mem_written}
-use Rattle.lil_match.specs.Goes.{Shared, Goes}
 use Rattle.lil_match.specs.Waits.{Setting, frame_of, laid_out, Quiet, AtPlace, Around, Reach, Rows, HasPlace, Waiting}
 use Rattle.lil_match.specs.Steps.{advances, at_step, pushes, rows_ahead, shared_with, goes_one, located_goes}
 use Rattle.lil_laws_place.specs.Codes.{leads, addressed, written}

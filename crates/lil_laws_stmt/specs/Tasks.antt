@@ -1,28 +1,22 @@
 -- The rows of assignments.
 use Rattle.std.proofs.Common.{◌≡◌, ℕ, ◌+◌, ◌<◌, Bool, true, false, cond, ◌||◌, List, [], ◌∷◌, length, take, drop, refl, sym, ap, ◌∙◌, subst, arith}
 use Rattle.lil_base.specs.declared.fault.TrapKind.TheVariants as trap
-use Rattle.lil_resolved.specs.Kinds.{Pointee, Kind, OfPointer, takes_value, same_pointer}
-use Rattle.lil_resolved.specs.Scalars.{Scalar, within}
+use Rattle.lil_resolved.specs.Kinds.{Pointee, Kind, OfPointer, takes_value, same_pointer, Scalar, within, Shape, words, is_there}
 use Rattle.lil_resolved.specs.Resolved.{Designator, Expression, Assign, Copy, kind_of, shape_of}
-use Rattle.lil_resolved.specs.Shapes.{Shape, words, is_there}
-use Rattle.lil_meaning.specs.Cells.{Place, stored, alone, under}
-use Rattle.lil_meaning.specs.Items.{Scalars, Places, SetTo, StoreAt, CopyTo, CopyFrom, Do, Item, Value, PlaceOf, Fill, Perform, Going, Source}
+use Rattle.lil_meaning.specs.Items.{Place, stored, alone, under, Scalars, Places, SetTo, StoreAt, CopyTo, CopyFrom, Do, Item, Value, PlaceOf, Fill, Perform, Going, Source}
 use Rattle.lil_meaning.specs.Steps.{trapped}
 use Rattle.lil_asm.specs.declared.instr.Instr.TheVariants.{Mov}
-use Rattle.lil_mcode.specs.State.{State}
+use Rattle.lil_mcode.specs.Table.{State, act, going}
 use Rattle.lil_frames.specs.Words.{spliced}
-use Rattle.lil_mcode.specs.Table.{act, going}
 use Rattle.lil_table.specs.Rows.{IsAt, InstrsAt, ValueRow, test_code, Access, access_of, readied, held, store_code}
+use Rattle.lil_match.specs.Goes.{Shared, Goes}
 use Rattle.lil_match.specs.Running.{running}
 use Rattle.lil_match.specs.Homes.{word_for, Refers, plain_word, plain_refers, takes_plain, address, Mem, mem_copied}
-use Rattle.lil_match.specs.Goes.{Shared, Goes}
 use Rattle.lil_match.specs.Waits.{Setting, frame_of, laid_out, Quiet, ValueOf, AtPlace, Around, Reach, Rows, Reaches, HasPlace, Waiting}
 use Rattle.lil_match.specs.Ranges.{pointers_same}
 use Rattle.lil_match.specs.Orders.{instr_within, instrs_order, expression_stands}
-use Rattle.lil_match.specs.Closing.{closed}
-use Rattle.lil_match.specs.Steps.{advances, at_step, at_once, rows_ahead, shared_with, lands_on, goes_none, goes_one, goes_more, operand_exact, located_goes}
-use Rattle.lil_laws_place.specs.Codes.{addressed, copied, made_ready, readied_twice, held_words}
-use Rattle.lil_laws_place.specs.Stores.{tested, stored_goes}
+use Rattle.lil_match.specs.Steps.{closed, advances, at_step, at_once, rows_ahead, shared_with, lands_on, goes_none, goes_one, goes_more, operand_exact, located_goes}
+use Rattle.lil_laws_place.specs.Codes.{addressed, copied, made_ready, readied_twice, held_words, tested, stored_goes}
 
 module _ (ctx : Setting) where
   open ctx use {library, table, home as h}

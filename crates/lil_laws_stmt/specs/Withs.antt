@@ -2,19 +2,17 @@
 use Rattle.std.proofs.Common.{ℕ, suc, ◌+◌, ◌<◌, List, [], ◌∷◌, ◌++◌, length, set, eqb, refl, sym, ap, ◌∙◌, subst, arith, eq-eqb}
 use Rattle.std.proofs.lemmas.Bool.{lt-ltb}
 use Rattle.lil_resolved.specs.Resolved.{Designator, Inside, Statements}
-use Rattle.lil_resolved.specs.Shapes.{Shape}
-use Rattle.lil_meaning.specs.Cells.{Place}
-use Rattle.lil_meaning.specs.Items.{Places, Hold, Do, Holding, Item, Value, Fill, Perform, Source, doing}
+use Rattle.lil_resolved.specs.Kinds.{Shape}
+use Rattle.lil_meaning.specs.Items.{Place, Places, Hold, Do, Holding, Item, Value, Fill, Perform, Source, doing}
 use Rattle.lil_asm.specs.declared.instr.Instr.TheVariants.{Slw}
 use Rattle.lil_mcode.specs.declared.machine.Event.{Event}
 use Rattle.lil_mcode.specs.declared.machine.Event.TheVariants.{Went}
-use Rattle.lil_mcode.specs.State.{State}
-use Rattle.lil_mcode.specs.Table.{going}
+use Rattle.lil_mcode.specs.Table.{State, going}
 use Rattle.lil_table.specs.Rows.{holding, Access, loop_place}
+use Rattle.lil_match.specs.Goes.{Shared, Goes}
 use Rattle.lil_match.specs.Running.{running}
 use Rattle.lil_match.specs.Parts.{yes}
 use Rattle.lil_match.specs.Homes.{Home, address, shadowed}
-use Rattle.lil_match.specs.Goes.{Shared, Goes}
 use Rattle.lil_match.specs.Waits.{Setting, frame_of, laid_out, at_home, inside_with, Quiet, AtPlace, Around, Reach, RowsOf, Rows, HasPlace, HoldingWaits, Waiting}
 use Rattle.lil_match.specs.Kept.{sees_laid, own_low, shared_shadowed, touches_shadowed, rows_shadowed}
 use Rattle.lil_match.specs.Laid.{alike_holding, shared_laid, IsAround, around_self, around_more, shared_around, goes_around}

@@ -11,10 +11,9 @@ use Rattle.lil_resolved.specs.declared.resolved.RExpr.{RExpr}
 use Rattle.lil_base.specs.declared.request.Request as request
 use Rattle.lil_resolved.specs.declared.resolved.RStmt.{RStmt}
 use Rattle.lil_resolved.specs.declared.resolved.RStmt.TheVariants as v
-use Rattle.lil_resolved.specs.Forms.{request_is, if_is, case_is, guard_is, arm_is}
+use Rattle.lil_resolved.specs.Views.{request_is, if_is, case_is, guard_is, arm_is, argument_of, statement_of, statements_of, guard_of, arm_of, joined, guarded, armed, arms_of, else_of}
 use Rattle.lil_resolved.specs.Resolved.{Statements, Empty, Then, Arms}
-use Rattle.lil_resolved.specs.Strings.{argument_strings, arguments_strings, statement_strings, body_strings, arms_strings}
-use Rattle.lil_resolved.specs.Views.{argument_of, statement_of, statements_of, guard_of, arm_of, joined, guarded, armed, arms_of, else_of}
+use Rattle.lil_resolved.specs.Sizes.{argument_strings, arguments_strings, statement_strings, body_strings, arms_strings}
 use Rattle.lil_layout.specs.Data.{text_words}
 use Rattle.lil_layout.specs.Strings.{argument_words, statement_words, body_words, guard_words, arm_words}
 

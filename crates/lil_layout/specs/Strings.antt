@@ -4,7 +4,7 @@ use Rattle.lil_resolved.specs.declared.resolved.RArgument.{RArgument}
 use Rattle.lil_resolved.specs.declared.resolved.RArm.{RArm}
 use Rattle.lil_resolved.specs.declared.resolved.RGuard.{RGuard}
 use Rattle.lil_resolved.specs.declared.resolved.RStmt.{RStmt}
-use Rattle.lil_resolved.specs.Strings.{argument_strings, body_strings}
+use Rattle.lil_resolved.specs.Sizes.{argument_strings, body_strings}
 use Rattle.lil_resolved.specs.Views.{argument_of, statement_of, statements_of}
 
 abbrev pub argument_words : RArgument → ℕ

@@ -5,3 +5,4 @@ mod data;
 mod strings;
 
 pub use data::data_words;
+pub use strings::body_words;

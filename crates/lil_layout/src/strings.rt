@@ -2,7 +2,7 @@
 
 ghost use Rattle.std.specs.Prelude.{◌≡◌, length, min};
 ghost use Rattle.std.specs.List.{sum_by};
-ghost use Rattle.lil_resolved.specs.Strings.{words_of};
+ghost use Rattle.lil_resolved.specs.Sizes.{words_of};
 ghost use Rattle.lil_layout.specs.Strings as spec;
 
 use lil_base::Text;
@@ -76,9 +76,9 @@ fn statement_words(of: &RStmt) -> u32
     }
 }
 
-/// The words of the strings in statements.
+/// The words of the strings in statements, or 4,294,967,295 where they are more.
 #[cycle(statement)]
-pub(crate) fn body_words(of: &[RStmt]) -> u32
+pub fn body_words(of: &[RStmt]) -> u32
     ensures { result ≡ min (spec.body_words of.now) 4294967295 }
 {
     let mut words: u32 = 0;

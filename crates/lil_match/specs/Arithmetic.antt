@@ -7,8 +7,7 @@ use Rattle.lil_base.specs.Words.{Whole, Cardinal, Integer, least, greatest, in_t
 use Rattle.lil_base.specs.declared.fault.ArithFault.{ArithFault}
 use Rattle.lil_base.specs.declared.fault.ArithFault.TheVariants.{DivZero}
 use Rattle.lil_base.specs.Laws.{bounds, number_of-word, kept_ok}
-use Rattle.lil_resolved.specs.Kinds.{Kind, OfWhole, OfTruth, OfCharacter, OfEnumeration, OfSet, OfPointer, is_base, compared_as}
-use Rattle.lil_resolved.specs.Scalars.{Scalar, Number, Truth, Character, SetOf, ToObject, ToWorkspace, Nil, within, scalar_word, ordinal_of}
+use Rattle.lil_resolved.specs.Kinds.{Kind, OfWhole, OfTruth, OfCharacter, OfEnumeration, OfSet, OfPointer, is_base, compared_as, Scalar, Number, Truth, Character, SetOf, ToObject, ToWorkspace, Nil, within, scalar_word, ordinal_of}
 use Rattle.lil_meaning.specs.Steps.{whole_of, is_same, is_other}
 use Rattle.lil_mcode.specs.Control.{above}
 
@@ -38,10 +37,6 @@ self_same x = grind (arith, ints)
 
 same_is : (x y : ℤ) → is_same x y ≡ true → x ≡ y
 same_is x y h = grind (arith, ints)
-
-pub whole_word : (t : Whole) (v : Scalar) → within (OfWhole t) v ≡ true → word_of (whole_of v) ≡ scalar_word v
-whole_word t (Number z) h = refl
-whole_word t v h = cc
 
 -- numbers that their words say are the same where their words are
 pub same_words : (t : Whole) (x y : ℤ) → number_of t (word_of x) ≡ x → number_of t (word_of y) ≡ y → (word_of x == word_of y) ≡ is_same x y

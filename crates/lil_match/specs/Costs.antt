@@ -2,11 +2,10 @@
 use Rattle.std.proofs.Common.{◌≡◌, ℕ, zero, suc, ◌+◌, ◌≤◌, ⊎_elim, List, [], ◌∷◌, Option, refl, sym, ap, ◌∙◌, subst, arith}
 use Rattle.std.specs.Prelude.{slice_get}
 use Rattle.lil_resolved.specs.Resolved.{Resolved}
-use Rattle.lil_meaning.specs.Cells.{loaded_at}
-use Rattle.lil_meaning.specs.Items.{Turns, Holding, End, Item, Perform, Activation, Source}
+use Rattle.lil_meaning.specs.Items.{loaded_at, Turns, Holding, End, Item, Perform, Activation, Source}
 use Rattle.lil_meaning.specs.Need.{frame_of, cost, unless_body, with_callers, chain}
 use Rattle.lil_meaning.specs.Steps.{owner_of, procedure_of}
-use Rattle.lil_mcode.specs.State.{Module, State}
+use Rattle.lil_mcode.specs.Table.{Module, State}
 use Rattle.lil_match.specs.Homes.{Owner, Home}
 use Rattle.lil_match.specs.Waits.{Mode, Quiet, Around, Frame, Setting, with_frames, Behind, RowsOf, Rows}
 use Rattle.lil_match.specs.Goes.{Stands, IsKnown, EachKnown, Shared}

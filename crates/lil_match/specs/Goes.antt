@@ -6,14 +6,13 @@ use Rattle.lil_base.specs.declared.fault.LimitKind.{LimitKind}
 use Rattle.lil_base.specs.declared.fault.LimitKind.TheVariants as limit
 use Rattle.lil_base.specs.declared.fault.TrapAt.{TrapAt}
 use Rattle.lil_resolved.specs.Resolved.{Procedure, Resolved, procedure_by}
-use Rattle.lil_resolved.specs.Depth.{frame_words}
-use Rattle.lil_resolved.specs.Shapes.{Shape, is_there, shape_at}
-use Rattle.lil_meaning.specs.Cells.{Root, Global, Object, Cells, targets_of, loaded_at}
+use Rattle.lil_resolved.specs.Sizes.{frame_words}
+use Rattle.lil_resolved.specs.Kinds.{Shape, is_there, shape_at}
+use Rattle.lil_meaning.specs.Items.{Root, Global, Object, Cells, targets_of, loaded_at, Item, Activation, Workspace, Parked, Level, Phase, Going, Closing, Ended, Trapped, Source, heap_words}
 use Rattle.lil_meaning.specs.World.{World, all_closed}
-use Rattle.lil_meaning.specs.Items.{Item, Activation, Workspace, Parked, Level, Phase, Going, Closing, Ended, Trapped, Source, heap_words}
 use Rattle.lil_meaning.specs.Need.{frame_of, chain_of}
 use Rattle.lil_meaning.specs.Steps.{next, owner_of, procedure_of, procedures_of, surrounding, name_of, procedure_name}
-use Rattle.lil_mcode.specs.State.{Module, StackRegisters, Kept, State, stack_of, module_at}
+use Rattle.lil_mcode.specs.Table.{Module, StackRegisters, Kept, State, stack_of, module_at}
 use Rattle.lil_table.specs.Rows.{Layout, ProcedureRow, exactly}
 use Rattle.lil_match.specs.Running.{Finish, Running, Finished, TrappedBy, Limited, Run, mrun, running}
 use Rattle.lil_match.specs.Homes.{Owner, Own, Fixed, Free, Home, Extends, lives, Mem}

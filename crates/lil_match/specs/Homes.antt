@@ -8,11 +8,9 @@ use Rattle.lil_base.specs.Words.{Cardinal, between}
 use Rattle.lil_base.specs.Sets.{set_word}
 use Rattle.lil_resolved.specs.Members.{no_members}
 use Rattle.lil_resolved.specs.MemberLaws.{word_none}
-use Rattle.lil_resolved.specs.Kinds.{Pointee, Objects, Workspaces, Kind, OfWhole, OfTruth, OfCharacter, OfEnumeration, OfSet, OfPointer, OfRange, base_of, is_plain, alike, takes_value}
-use Rattle.lil_resolved.specs.Scalars.{Scalar, Number, Truth, Character, SetOf, ToObject, ToWorkspace, Nil, is_reference, within, scalar_word, ordinal_of, zero_of}
+use Rattle.lil_resolved.specs.Kinds.{Pointee, Objects, Workspaces, Kind, OfWhole, OfTruth, OfCharacter, OfEnumeration, OfSet, OfPointer, OfRange, base_of, is_plain, alike, takes_value, Scalar, Number, Truth, Character, SetOf, ToObject, ToWorkspace, Nil, is_reference, within, scalar_word, ordinal_of, zero_of, Shape, Absent, Word, Row, words, is_there, part_at, offset, shape_at}
 use Rattle.lil_resolved.specs.Sound.{is_character, is_text}
-use Rattle.lil_resolved.specs.Shapes.{Shape, Absent, Word, Row, words, is_there, part_at, offset, shape_at}
-use Rattle.lil_meaning.specs.Cells.{Root, Global, Local, Object, Place, part_of, Cells, Under, under, rest_behind, at_rest, same_root, stored, alone, text_under}
+use Rattle.lil_meaning.specs.Items.{Root, Global, Local, Object, Place, part_of, Cells, Under, under, rest_behind, at_rest, same_root, stored, alone, text_under}
 use Rattle.lil_frames.specs.Words.{spliced}
 use Rattle.lil_match.specs.Parts.{yes, no, part_fits, part_append, offset_append, Inside, Outside, word_long, parts}
 use Rattle.lil_match.specs.Splices.{spliced_length, spliced_before, spliced_there, spliced_after}

@@ -3,13 +3,10 @@ use Rattle.std.proofs.Common.{◌≡◌, ℕ, suc, ◌+◌, ◌<◌, ◌≤◌, 
 use Rattle.std.proofs.lemmas.Bool.{ne_eqb}
 use Rattle.std.specs.List.{list_any}
 use Rattle.std.specs.Prelude.{Bool, Option, Some, None, slice_get}
-use Rattle.lil_resolved.specs.Kinds.{Workspaces, Kind, OfCharacter, OfSet, OfPointer, numbers}
-use Rattle.lil_resolved.specs.Scalars.{Scalar, within}
+use Rattle.lil_resolved.specs.Kinds.{Workspaces, Kind, OfCharacter, OfSet, OfPointer, numbers, Scalar, within, Shape, Absent, Word, Row, is_there, part_at, offset}
 use Rattle.lil_resolved.specs.Resolved.{Resolved}
-use Rattle.lil_resolved.specs.Shapes.{Shape, Absent, Word, Row, is_there, part_at, offset}
-use Rattle.lil_meaning.specs.Cells.{Root, Global, Local, Object, Place}
-use Rattle.lil_meaning.specs.Items.{Datum, Scalars, Places, Wholes, Opens, Texts, IndexAt, StoreAt, CopyFrom, ChangeAt, RightOf, MemberOf, MembersFrom, MembersTo, MemberAt, AllocateAt, Pass, PassArray, LimitOf, Passing, Looping, Turns, Holding, End, Item, Value, Fill, Perform, Activation, Source}
-use Rattle.lil_mcode.specs.State.{Module, StackRegisters, State, stack_of}
+use Rattle.lil_meaning.specs.Items.{Root, Global, Local, Object, Place, Datum, Scalars, Places, Wholes, Opens, Texts, IndexAt, StoreAt, CopyFrom, ChangeAt, RightOf, MemberOf, MembersFrom, MembersTo, MemberAt, AllocateAt, Pass, PassArray, LimitOf, Passing, Looping, Turns, Holding, End, Item, Value, Fill, Perform, Activation, Source}
+use Rattle.lil_mcode.specs.Table.{Module, StackRegisters, State, stack_of}
 use Rattle.lil_table.specs.Rows.{Layout, holding, Access, OnTop, loop_place}
 use Rattle.lil_match.specs.Parts.{no}
 use Rattle.lil_match.specs.Homes.{word_for, word_kept, refers_kept, Refers, plain_refers, takes_plain, Extends, extends_self, lives, address, shape_there, Owner, Own, Fixed, own_fixed, Home, mem_shadowed, shadowed, replaced}

@@ -1,9 +1,8 @@
 -- What is known of frames stays where homes agree on what it speaks of.
 use Rattle.std.proofs.Common.{◌≡◌, ℕ, ◌+◌, true, List, [], ◌∷◌, refl, sym, ap, ◌∙◌}
 use Rattle.lil_resolved.specs.Resolved.{Resolved}
-use Rattle.lil_meaning.specs.Cells.{Root, Global}
-use Rattle.lil_meaning.specs.Items.{Activation}
-use Rattle.lil_mcode.specs.State.{Module}
+use Rattle.lil_meaning.specs.Items.{Root, Global, Activation}
+use Rattle.lil_mcode.specs.Table.{Module}
 use Rattle.lil_match.specs.Homes.{Fixed, Home, lives}
 use Rattle.lil_match.specs.Waits.{Frame}
 use Rattle.lil_meaning.specs.Steps.{owner_of, procedure_of}

@@ -1,10 +1,10 @@
 -- What is around the running frame's WITHs: the same but for the records that its layout holds.
 use Rattle.std.proofs.Common.{◌≡◌, ℕ, ◌+◌, List, [], ◌∷◌, length, get_or, refl, sym, ap, ◌∙◌, subst, arith}
 use Rattle.std.specs.Prelude.{slice_get}
-use Rattle.lil_resolved.specs.Shapes.{Shape}
+use Rattle.lil_resolved.specs.Kinds.{Shape}
 use Rattle.lil_meaning.specs.Items.{Item, Source}
 use Rattle.lil_resolved.specs.Resolved.{Procedure, procedure_by}
-use Rattle.lil_mcode.specs.State.{Module, State, StackRegisters, stack_of}
+use Rattle.lil_mcode.specs.Table.{Module, State, StackRegisters, stack_of}
 use Rattle.lil_table.specs.Rows.{Layout, holding}
 use Rattle.lil_match.specs.Goes.{OwnWords, Stands, Linked, Chained, IsPart, HasCodes, IsKnown, Standing, Shared, Goes}
 use Rattle.lil_match.specs.Waits.{Frame, Setting, inside_with}

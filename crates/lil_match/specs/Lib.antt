@@ -1,6 +1,5 @@
 pub mod Arithmetic
 pub mod Climbs
-pub mod Closing
 pub mod Costs
 pub mod Goes
 pub mod Homes

@@ -2,9 +2,8 @@
 use Rattle.std.proofs.Common.{◌≡◌, ℕ, zero, suc, ◌+◌, ◌*◌, ◌<◌, ◌≤◌, Bool, true, false, cond, eqb, ltb, Some, None, List, [], ◌∷◌, ◌++◌, refl, sym, ap, ◌∙◌, ◌⊎◌, inl, inr, ⊎_elim, arith}
 use Rattle.std.proofs.lemmas.Bool.{eq-eqb, ne_eqb, cases_eq, lt-ltb, le-ltb, cases_lt, cases_order}
 use Rattle.std.proofs.lemmas.Nat.{row_fits}
-use Rattle.lil_resolved.specs.Kinds.{Kind}
-use Rattle.lil_resolved.specs.Shapes.{Shape, Absent, Word, Join, Row, words, is_there, part_at, offset}
-use Rattle.lil_meaning.specs.Cells.{rest_behind}
+use Rattle.lil_resolved.specs.Kinds.{Kind, Shape, Absent, Word, Join, Row, words, is_there, part_at, offset}
+use Rattle.lil_meaning.specs.Items.{rest_behind}
 
 pub yes : {A : Type 0} (b : Bool) (x y : A) → b ≡ true → cond b x y ≡ x
 yes b x y h = ap (λ (t : Bool). cond t x y) h

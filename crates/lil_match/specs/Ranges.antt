@@ -1,7 +1,7 @@
 -- The numbers of a kind: its values are those from its least to its greatest.
 use Rattle.std.proofs.Common.{◌≡◌, ℕ, zero, suc, ◌-◌, ◌==◌, Bool, true, false, cond, ◌&&◌, Some, None, refl, sym, ap, ◌∙◌, arith}
 use Rattle.std.specs.Prelude.{ℤ, pos, negsuc, ◌≤ℤ◌, int_lt, nat_le}
-use Rattle.std.proofs.lemmas.Bool.{and_parts, and_from, eq-eqb, eqb-true, leb-true}
+use Rattle.std.proofs.lemmas.Bool.{and_parts, and_from, eqb-true, leb-true}
 use Rattle.std.proofs.lemmas.Bool.Decides.{nat_tests}
 use Rattle.std.proofs.lemmas.Int.{ints}
 use Rattle.lil_base.specs.Words.{in_type, between}
@@ -9,8 +9,7 @@ use Rattle.lil_base.specs.Laws.{in_range, bounds}
 use Rattle.lil_base.specs.Sets as sets
 use Rattle.lil_base.specs.SetLaws.{set_below}
 use Rattle.lil_resolved.specs.MemberLaws.{word_of_set}
-use Rattle.lil_resolved.specs.Kinds.{Pointee, Objects, Workspaces, Kind, OfWhole, OfTruth, OfCharacter, OfEnumeration, OfSet, OfPointer, OfRange, base_of, is_base, is_ordinal, is_plain, same_pointee, same_pointer, takes_value, compared_as, lesser, larger, least, greatest}
-use Rattle.lil_resolved.specs.Scalars.{Scalar, Number, Truth, Character, SetOf, ToObject, ToWorkspace, Nil, within, scalar_of, ordinal_of, value_with}
+use Rattle.lil_resolved.specs.Kinds.{Pointee, Objects, Workspaces, Kind, OfWhole, OfTruth, OfCharacter, OfEnumeration, OfSet, OfPointer, OfRange, base_of, is_base, is_ordinal, is_plain, same_pointee, same_pointer, takes_value, compared_as, lesser, larger, least, greatest, Scalar, Number, Truth, Character, SetOf, ToObject, ToWorkspace, Nil, within, scalar_of, ordinal_of, value_with}
 
 -- a number is one of the kind's
 abbrev pub has : Kind → ℤ → Bool
@@ -219,16 +218,6 @@ takes_base OfCharacter OfCharacter h = refl
 takes_base (OfEnumeration m) (OfEnumeration n) h = (and_parts (m == n) (nat_le n 65535) h).1
 takes_base OfSet OfSet h = refl
 takes_base k j h = cc
-
--- a kind whose values are words, and no references, is that of values of its base
-pub takes_own : (k : Kind) → is_plain k ≡ true → is_base (base_of k) ≡ true → takes_value k (base_of k) ≡ true
-takes_own (OfRange base low high) plain h = takes_own base plain h
-takes_own (OfWhole t) plain h = refl
-takes_own OfTruth plain h = refl
-takes_own OfCharacter plain h = refl
-takes_own OfSet plain h = refl
-takes_own (OfPointer n) plain h = cc
-takes_own (OfEnumeration n) plain h = and_from (n == n) (nat_le n 65535) (eq-eqb n n refl) h
 
 -- so is the base of the kind where it is wanted
 pub takes_part : (k j : Kind) → takes_value k j ≡ true → is_base (base_of k) ≡ true

@@ -1,7 +1,7 @@
 -- The stacks that don't run: each lies apart from the one that runs, and a step of that one leaves them as they are.
 use Rattle.std.proofs.Common.{◌≡◌, ℕ, ◌+◌, ◌<◌, ◌≤◌, ◌⊎◌, inl, inr, List, [], ◌∷◌, ◌∙◌, ⊎_elim, arith}
 use Rattle.lil_meaning.specs.Items.{Activation, Parked}
-use Rattle.lil_mcode.specs.State.{Kept}
+use Rattle.lil_mcode.specs.Table.{Kept}
 use Rattle.lil_table.specs.Rows.{loop_place}
 use Rattle.lil_match.specs.Homes.{Home}
 use Rattle.lil_match.specs.Waits.{Quiet, Around, Stack, frames_of, Setting, Rows}

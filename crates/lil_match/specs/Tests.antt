@@ -5,12 +5,10 @@ use Rattle.std.proofs.lemmas.Int.{ints}
 use Rattle.lil_base.specs.Words.{Whole, Cardinal, Integer, in_type, between, number_of, word_of}
 use Rattle.lil_base.specs.Laws.{in_range, bounds, number_of-word}
 use Rattle.lil_base.specs.declared.fault.TrapKind.TheVariants as trap
-use Rattle.lil_resolved.specs.Kinds.{Kind, is_base, compared_as, lesser, larger, least, greatest, covers, shared}
-use Rattle.lil_resolved.specs.Scalars.{Scalar, within, scalar_word, ordinal_of}
+use Rattle.lil_resolved.specs.Kinds.{Kind, is_base, compared_as, lesser, larger, least, greatest, covers, shared, Scalar, within, scalar_word, ordinal_of}
 use Rattle.lil_mcode.specs.declared.machine.Event.{Event}
 use Rattle.lil_mcode.specs.declared.machine.Event.TheVariants.{Went, Trap}
-use Rattle.lil_mcode.specs.State.{Module, State}
-use Rattle.lil_mcode.specs.Table.{act, going, on_one, range_row}
+use Rattle.lil_mcode.specs.Table.{Module, State, act, going, on_one, range_row}
 use Rattle.lil_table.specs.Rows.{range_code}
 use Rattle.lil_match.specs.Arithmetic.{reads_ordinal}
 use Rattle.lil_match.specs.Ranges.{has, same_tests, larger_left, larger_right, larger_least, lesser_left, lesser_right, lesser_greatest, fits_has, has_type}

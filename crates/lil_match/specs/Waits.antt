@@ -6,21 +6,18 @@ use Rattle.std.specs.List.{list_any}
 use Rattle.lil_base.specs.Words.{Cardinal, between, word_of}
 use Rattle.lil_base.specs.declared.operator.OneOp.{OneOp}
 use Rattle.lil_base.specs.declared.operator.TwoOp.{TwoOp}
-use Rattle.lil_resolved.specs.Kinds.{Objects, Workspaces, Kind, OfWhole, OfTruth, OfCharacter, OfSet, OfPointer, base_of, is_base, is_plain, is_element, takes_value, stores_value, least, greatest, numbers}
-use Rattle.lil_resolved.specs.Scalars.{Scalar, within, scalar_word}
+use Rattle.lil_resolved.specs.Kinds.{Objects, Workspaces, Kind, OfWhole, OfTruth, OfCharacter, OfSet, OfPointer, base_of, is_base, is_plain, is_element, takes_value, stores_value, least, greatest, numbers, Scalar, within, scalar_word, Shape, Word, Row, words, is_there, part_at, offset, element_of, shape_at}
 use Rattle.lil_resolved.specs.Resolved.{Designator, Function, Expression, Argument, Statement, If, Case, While, Repeat, Loop, Statements, Arms, Resolved, kind_of, is_relation, result_kind, right_kind, function_kind, counted_as, shape_of}
-use Rattle.lil_resolved.specs.Depth.{place_depth, depth, function_depth}
+use Rattle.lil_resolved.specs.Sizes.{place_depth, depth, function_depth}
 use Rattle.lil_resolved.specs.Sound.{takes_one, takes_two, takes_function, Parameter, Single, Characters, request_parameters, parameter_of}
-use Rattle.lil_resolved.specs.Shapes.{Shape, Word, Row, words, is_there, part_at, offset, element_of, shape_at}
-use Rattle.lil_meaning.specs.Cells.{Root, Local, Place}
-use Rattle.lil_meaning.specs.Items.{Datum, Scalars, Places, Wholes, Opens, Texts, Get, Part as PartOf, IndexBy, IndexAt, Pointed, SetTo, StoreAt, CopyTo, CopyFrom, TextTo, NewAt, AllocateBy, AllocateAt, ChangeBy, ChangeAt, OneOf, LeftOf, RightOf, ShortOf, ApplyTo, WithMember, MemberOf, WithMembers, MembersFrom, MembersTo, MemberBy, MemberAt, Pass, PassArray, Choose, Turn, Again, Pick, Hold, StartOf, LimitOf, Do, Passing, Until, Looping, Turns, Holding, End, Item, Value, Evaluate, PlaceOf, Fill, Perform, Activation, Parked}
+use Rattle.lil_meaning.specs.Items.{Root, Local, Place, Datum, Scalars, Places, Wholes, Opens, Texts, Get, IndexBy, IndexAt, Pointed, SetTo, StoreAt, CopyTo, CopyFrom, TextTo, NewAt, AllocateBy, AllocateAt, ChangeBy, ChangeAt, OneOf, LeftOf, RightOf, ShortOf, ApplyTo, WithMember, MemberOf, WithMembers, MembersFrom, MembersTo, MemberBy, MemberAt, Pass, PassArray, Choose, Turn, Again, Pick, Hold, StartOf, LimitOf, Do, Passing, Until, Looping, Turns, Holding, End, Item, Value, Evaluate, PlaceOf, Fill, Perform, Activation, Parked, Part as PartOf}
 use Rattle.lil_meaning.specs.Steps.{turns}
 use Rattle.lil_asm.specs.declared.instr.Instr.TheVariants.{Liw, Lag, Slw, Dup, Spn, Mov, Mvz, Nlt, Ixc, Ent, Rtn, Jmp, Alc, Svc}
-use Rattle.lil_mcode.specs.State.{Module, Kept, body_entry}
+use Rattle.lil_mcode.specs.Table.{Module, Kept, body_entry}
 use Rattle.lil_base.specs.Requests.{request_number}
 use Rattle.lil_base.specs.declared.request.Request as request
 use Rattle.lil_asm.specs.Requests.{request_words}
-use Rattle.lil_table.specs.Rows.{Layout, holding, exactly, HasText, text_words, arguments_words, IsAt, InstrsAt, one_code, two_code, test_code, function_code, Access, InData, OnTop, Behind as Past, further, access_of, address_code, allocate_code, load_code, ready_code, readied, held, store_code, again_code, held_twice, change_code, member_code, PlaceAt, ExpressionAt, WholeRow, ValueRow, ArgumentsAt, StatementAt, BodyAt, TurnsRow, RoundRow, loop_place, short_code}
+use Rattle.lil_table.specs.Rows.{Layout, holding, cut, exactly, HasText, text_words, arguments_words, IsAt, InstrsAt, one_code, two_code, test_code, function_code, Access, InData, OnTop, further, access_of, address_code, allocate_code, load_code, ready_code, readied, held, store_code, again_code, held_twice, change_code, member_code, PlaceAt, ExpressionAt, WholeRow, ValueRow, ArgumentsAt, StatementAt, BodyAt, TurnsRow, RoundRow, loop_place, short_code, Behind as Past}
 use Rattle.lil_match.specs.Homes.{word_for, Refers, Home, address, shape_there}
 
 -- whether a parameter and a datum are open arrays
@@ -327,7 +324,7 @@ module _ (frame : Frame) where
     pub value : ExpressionAt l own.code e start middle
     pub shallow : length stack + 1 + depth e ≤ 16
     pub test : InstrsAt own.code (test_code k (kind_of e)) middle tested
-    pub by : IsAt own.code tested (Ixc (word_of (least k)) (words (element_of t))) end
+    pub by : IsAt own.code tested (Ixc (cut (word_of (least k))) (words (element_of t))) end
 
   pub record SetPart (b : Access) (t : Shape) (k : Kind) (e : Expression) (p : ℕ) (stack : List ℕ) : Type 0 where
     pub typed : t ≡ Word k
@@ -629,7 +626,7 @@ module _ (ctx : Setting) where
     pub tested : ℕ
     pub end : ℕ
     pub test : InstrsAt own.code (test_code k j) p tested
-    pub by : IsAt own.code tested (Ixc (word_of (least k)) (words element)) end
+    pub by : IsAt own.code tested (Ixc (cut (word_of (least k))) (words element)) end
 
   pub record StorePart (j : Kind) (place : Place) (k : Kind) (p : ℕ) (stack : List ℕ) : Type 0 where
     pub stores : stores_value k j ≡ true

@@ -2,7 +2,7 @@
 use Rattle.std.proofs.Common.{◌≡◌, ℕ, ◌+◌, ◌-◌, ◌≤◌, List, [], ◌∷◌, ◌++◌, length, map, drop, refl, sym, ap, ◌∙◌, arith}
 use Rattle.std.proofs.lemmas.List.{map-append, length-drop, length-take-le}
 use Rattle.lil_mcode.specs.declared.processor.LoadedModule.{LoadedModule}
-use Rattle.lil_mcode.specs.State.{Module}
+use Rattle.lil_mcode.specs.Table.{Module}
 use Rattle.lil_frames.specs.Words.{spliced}
 use Rattle.lil_mcode.specs.Loaded.{part_of, module_of, Lies}
 use Rattle.lil_mcode.specs.Calls.{code_used}

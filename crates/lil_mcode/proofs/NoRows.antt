@@ -5,8 +5,7 @@ use Rattle.std.proofs.lemmas.Bool.Decides.{nat_tests}
 use Rattle.lil_asm.specs.declared.instr.Instr.{Instr}
 use Rattle.lil_asm.specs.declared.instr.Instr.TheVariants.{Lew, Sew, Lnw, Snw, Lae, Lan, Psm, Clx, Clf, Cpy, Rst}
 use Rattle.lil_asm.specs.Bytes.{word_at, with_byte, with_word, with_two_words, with_byte_word, with_call, row, row_of_digit, row_2, row_6, row_7}
-use Rattle.lil_mcode.specs.State.{Module, State}
-use Rattle.lil_mcode.specs.Table.{bad, act, performed}
+use Rattle.lil_mcode.specs.Table.{Module, State, bad, act, performed}
 
 late_jump : (b : ℕ) (code : List ℕ) (p : ℕ) → 126 ≤ b → b ≤ 127 → row b code p ≡ None
 unfolding row_7

@@ -13,15 +13,6 @@ pub record Best (procedures : List (ℕ × Option (List ℕ))) (place n p : ℕ)
   pub some : (f : ℕ) → found ≡ Some f → (o : Option (List ℕ)) × (slice_get procedures p ≡ Some (f, o)) × (f ≤ place)
   pub best : (f : ℕ) → found ≡ Some f → (k e : ℕ) (o : Option (List ℕ)) → k < n → slice_get procedures k ≡ Some (e, o) → e ≤ place → (e ≤ f) × (e ≡ f → p ≤ k)
 
-pub best_start : (procedures : List (ℕ × Option (List ℕ))) (place : ℕ) → Best procedures place 0 0 None
-best_start procedures place = record {
-  low = omega arith;
-  none = λ _. refl;
-  above = λ k e o l. absurd (omega arith);
-  some = λ f h. cc;
-  best = λ f h. cc;
-}
-
 same_entry : (x : Option (ℕ × Option (List ℕ))) (a b : ℕ) (o n : Option (List ℕ)) → x ≡ Some (a, o) → x ≡ Some (b, n) → a ≡ b
 same_entry x a b o n h g = let e : (a, o) ≡ (b, n) = cc in ap (λ (z : ℕ × Option (List ℕ)). z.0) e
 

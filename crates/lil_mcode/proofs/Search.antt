@@ -1,18 +1,10 @@
 -- The search of the entries of CASE, one by one.
-use Rattle.std.proofs.Common.{◌≡◌, ℕ, zero, suc, ◌+◌, ◌-◌, ◌≤◌, true, false, List, Some, refl, ap, ◌∙◌, arith}
+use Rattle.std.proofs.Common.{◌≡◌, ℕ, zero, suc, ◌+◌, ◌-◌, ◌≤◌, false, List, refl, ap, ◌∙◌, arith}
 use Rattle.lil_asm.specs.Bytes.{Entry}
 use Rattle.lil_mcode.specs.Control.{chosen, is_in}
 
-pub chosen_here : (code : List ℕ) (n p x other low high target : ℕ) → Entry code p low high target → is_in low high x ≡ true → chosen code (suc n) p x other ≡ Some target
-chosen_here code n p x other low high target e h = rw (e.low_at, e.high_at, e.target_at, h) refl
-
 pub chosen_later : (code : List ℕ) (n p x other low high target : ℕ) → Entry code p low high target → is_in low high x ≡ false → chosen code (suc n) p x other ≡ chosen code n (p + 6) x other
 chosen_later code n p x other low high target e h = rw (e.low_at, e.high_at, e.target_at, h) refl
-
--- the same where the count is known as a number that isn't 0
-pub found_here : (code : List ℕ) (n p x other low high target : ℕ) → 1 ≤ n → Entry code p low high target → is_in low high x ≡ true → chosen code n p x other ≡ Some target
-found_here code zero p x other low high target some e h = absurd (omega arith)
-found_here code (suc n) p x other low high target some e h = chosen_here code n p x other low high target e h
 
 pub found_later : (code : List ℕ) (n p x other low high target : ℕ) → 1 ≤ n → Entry code p low high target → is_in low high x ≡ false → chosen code n p x other ≡ chosen code (n - 1) (p + 6) x other
 found_later code zero p x other low high target some e h = absurd (omega arith)

@@ -7,9 +7,8 @@ use Rattle.lil_asm.specs.declared.instr.Instr.{Instr}
 use Rattle.lil_asm.specs.declared.instr.Instr.TheVariants.{Liw}
 use Rattle.lil_mcode.specs.declared.processor.LoadedModule.{LoadedModule}
 use Rattle.lil_asm.specs.Bytes.{decoded}
-use Rattle.lil_mcode.specs.State.{Module, State, module_at}
-use Rattle.lil_mcode.specs.Table.{act, performed, fetched, frame_out, link_word}
-use Rattle.lil_mcode.specs.Loaded.{part_of, module_of, loaded_at, Lies, IsPartOf, Runs}
+use Rattle.lil_mcode.specs.Table.{Module, State, module_at, act, performed, fetched, frame_out, link_word}
+use Rattle.lil_mcode.specs.Loaded.{module_of, loaded_at, Lies, IsPartOf, Runs}
 use Rattle.lil_mcode.specs.Fetch.{code_in, base_in, running_code, based, current}
 
 based_acts : (i : Instr) (q : ℕ) (m : Module) (s : State) → act i q m s ≡ act i q (based m.base m.code) s
@@ -31,13 +30,6 @@ fetched_current s = fetched_in s (module_at s.modules s.running)
 pub module_at_loaded : (code : List ℕ) (loaded : List LoadedModule) (n : ℕ) → module_at (map (module_of code) loaded) n ≡ option_map (module_of code) (loaded_at loaded n)
 module_at_loaded code loaded zero = refl
 module_at_loaded code loaded (suc k) = slice_get-map (module_of code) loaded k
-
--- the code of the module with this number
-pub code_none : (code : List ℕ) (loaded : List LoadedModule) (n : ℕ) → loaded_at loaded n ≡ None → code_in (module_at (map (module_of code) loaded) n) ≡ []
-code_none code loaded n h = ap code_in (module_at_loaded code loaded n ∙ ap (option_map (module_of code)) h)
-
-pub code_some : (code : List ℕ) (loaded : List LoadedModule) (n : ℕ) (l : LoadedModule) → loaded_at loaded n ≡ Some l → code_in (module_at (map (module_of code) loaded) n) ≡ part_of code l
-code_some code loaded n l h = ap code_in (module_at_loaded code loaded n ∙ ap (option_map (module_of code)) h)
 
 some_within : (ms : List Module) (k : ℕ) → is_some (slice_get ms k) ≡ nat_lt k (length ms)
 some_within (m ∷ ms) (suc k) = grind (arith, nat_tests, some_within ms k)

@@ -1,8 +1,7 @@
 -- The machine with its counts, and what the calls of the loader and the kernel make of it.
 use Rattle.std.specs.Prelude.{◌≡◌, ℕ, ◌+◌, ◌-◌, ◌^◌, ◌<◌, ◌≤◌, min, List, [], ◌∷◌, ◌++◌, length, Bool, true, false, Option, None, Some, nat_le, if◌then◌else◌, option_and_then, slice_get}
-use Rattle.lil_mcode.specs.State.{Module, State, module_at, body_entry}
+use Rattle.lil_mcode.specs.Table.{Module, State, module_at, body_entry, begun_body}
 use Rattle.lil_frames.specs.Words.{zeros, spliced, cleared}
-use Rattle.lil_mcode.specs.Table.{begun_body}
 
 pub record Machine : Type 0 where
   pub state : State

@@ -1,6 +1,6 @@
 -- What a step reads of the running module.
 use Rattle.std.specs.Prelude.{ℕ, List, [], Option, None, Some}
-use Rattle.lil_mcode.specs.State.{Module, State, module_at}
+use Rattle.lil_mcode.specs.Table.{Module, State, module_at}
 
 -- the code of the running module
 abbrev pub code_in : Option Module → List ℕ

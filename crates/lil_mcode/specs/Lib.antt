@@ -7,6 +7,5 @@ pub mod Loaded
 pub mod Operators
 pub mod Outcomes
 pub mod Requests
-pub mod State
 pub mod Stops
 pub mod Table

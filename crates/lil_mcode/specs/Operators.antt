@@ -12,8 +12,7 @@ use Rattle.lil_mcode.specs.declared.arithmetic.Joining.{Joining}
 use Rattle.lil_mcode.specs.declared.arithmetic.Joining.TheVariants.{Union, Minus, Meet, Apart}
 use Rattle.lil_mcode.specs.declared.machine.Event.{Event}
 use Rattle.lil_mcode.specs.declared.machine.Event.TheVariants.{Went, Trap}
-use Rattle.lil_mcode.specs.State.{State}
-use Rattle.lil_mcode.specs.Table.{equal, unequal, less, at_most, is_member, going}
+use Rattle.lil_mcode.specs.Table.{State, equal, unequal, less, at_most, is_member, going}
 
 abbrev pub operator_of : Operator → Whole → ℤ → ℤ → Result ℤ ArithFault
 operator_of Sum = sum

@@ -15,8 +15,7 @@ use Rattle.lil_asm.specs.Requests.{request_words}
 use Rattle.lil_mcode.specs.declared.machine.Event.{Event}
 use Rattle.lil_mcode.specs.declared.machine.Event.TheVariants.{Went, Request, LevelEnded, Trap, Limit, BadCode}
 use Rattle.lil_mcode.specs.Control.{above}
-use Rattle.lil_mcode.specs.State.{Module, State, module_at}
-use Rattle.lil_mcode.specs.Table.{one_more, one_less, address_row, place_row, fetch_row, put_row, move_row, member_row, store_row, going, bad, mstep, act, fetched, performed, result_row, on_one, on_two, on_three, push_row, load_row, jump, chosen_row, begun_row, turn_row, called_trap, trap_row, array_lies, request_row, leave_row, end_row, body_row, return_row, stacked_row, called_row, link_word, entry_in}
+use Rattle.lil_mcode.specs.Table.{Module, State, module_at, one_more, one_less, address_row, place_row, fetch_row, put_row, move_row, member_row, store_row, going, bad, mstep, act, fetched, performed, result_row, on_one, on_two, on_three, push_row, load_row, jump, chosen_row, begun_row, turn_row, called_trap, trap_row, array_lies, request_row, leave_row, end_row, body_row, return_row, stacked_row, called_row, link_word, entry_in}
 
 -- a property that each outcome of a row at s has: it goes on, asks with its words on the stack and its array in the store, or changes
 -- nothing

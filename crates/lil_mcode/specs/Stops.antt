@@ -2,8 +2,7 @@
 use Rattle.std.proofs.Common.{◌≡◌, refl, subst}
 use Rattle.lil_mcode.specs.declared.machine.Event.{Event}
 use Rattle.lil_mcode.specs.declared.machine.Event.TheVariants.{Trap, Limit, BadCode}
-use Rattle.lil_mcode.specs.State.{State}
-use Rattle.lil_mcode.specs.Table.{mstep}
+use Rattle.lil_mcode.specs.Table.{State, mstep}
 use Rattle.lil_mcode.specs.Outcomes.{Holds, step_has}
 
 -- an event with which nothing was done

@@ -1,5 +1,5 @@
--- The instruction table: what each instruction does. Bad code is tested before traps, and traps before limits; none of them changes the state.
-use Rattle.std.specs.Prelude.{ℕ, zero, suc, ◌+◌, ◌-◌, ◌*◌, ◌%◌, ℤ, Bool, true, not, List, [], ◌∷◌, length, Option, Some, None, Result, Ok, Err, ◌&&◌, nat_lt, nat_le, ◌==◌, if◌then◌else◌, slice_get, slice_index, slice_set, is_some, option_map, int_lt}
+-- The machine: its state, and what each instruction does to it.
+use Rattle.std.specs.Prelude.{ℕ, zero, suc, List, [], ◌∷◌, Bool, Option, None, slice_get, ◌+◌, ◌-◌, ◌*◌, ◌%◌, ℤ, true, not, length, Some, Result, Ok, Err, ◌&&◌, nat_lt, nat_le, ◌==◌, if◌then◌else◌, slice_index, slice_set, is_some, option_map, int_lt}
 use Rattle.lil_base.specs.Words.{Whole, Cardinal, Integer, sum, difference, product, quotient, remainder, negation, absolute, between, number_of, word_of}
 use Rattle.lil_base.specs.declared.fault.ArithFault.{ArithFault}
 use Rattle.lil_base.specs.Sets.{has, union, minus, meet, apart, span, is_within}
@@ -16,8 +16,73 @@ use Rattle.lil_base.specs.declared.request.Request as request
 use Rattle.lil_asm.specs.Requests.{request_words}
 use Rattle.lil_asm.specs.Bytes.{decoded}
 use Rattle.lil_mcode.specs.Control.{above, chosen, loop_type, loop_words, turns, after_first}
-use Rattle.lil_mcode.specs.State.{Module, State, module_at, body_entry}
 use Rattle.lil_frames.specs.Words.{spliced, cleared, moved}
+
+-- ---- the state of the machine, without its count of steps
+
+-- A module that is loaded. The first of its procedures is the body, which has no name; each has its entry in the code.
+-- Its data frame has so many words from the base on.
+pub record Module : Type 0 where
+  pub name : List ℕ
+  pub procedures : List (ℕ × Option (List ℕ))
+  pub code : List ℕ
+  pub base : ℕ
+  pub words : ℕ
+
+-- the registers of a stack of frames: the running frame with its module's number, the first free word, the base and the limit, and the
+-- bodies that are to run behind the one at hand
+pub record StackRegisters : Type 0 where
+  pub running : ℕ
+  pub frame : ℕ
+  pub top : ℕ
+  pub base : ℕ
+  pub limit : ℕ
+  pub bodies : List ℕ
+
+-- what is kept of a coroutine that doesn't run: where it goes on, with no word on the expression stack
+pub record Kept : Type 0 where
+  pub place : ℕ
+  pub stack : StackRegisters
+
+pub record State : Type 0 where
+  -- the k-th has number k, from 1
+  pub modules : List Module
+  -- the number of the running module, and the place of the next instruction in its code
+  pub running : ℕ
+  pub place : ℕ
+  -- the expression stack, its top first
+  pub stack : List ℕ
+  pub store : List ℕ
+  -- The running frame, the first free word of the stack of frames, its base and its limit. That of the main stack is the first of the two
+  -- words below the lowest block, or 65,535.
+  pub frame : ℕ
+  pub top : ℕ
+  pub base : ℕ
+  pub limit : ℕ
+  -- the bodies of the level that are to run behind the one at hand
+  pub bodies : List ℕ
+  -- whether the first body has its mark
+  pub marked : Bool
+  -- the coroutines of the highest level that don't run, and for each level below it the one that began the next
+  pub parked : List Kept
+  pub waiting : List Kept
+
+-- the registers of the stack that runs
+abbrev pub stack_of : State → StackRegisters
+stack_of s = record { running = s.running; frame = s.frame; top = s.top; base = s.base; limit = s.limit; bodies = s.bodies }
+
+-- the module with this number
+abbrev pub module_at : List Module → ℕ → Option Module
+module_at modules zero = None
+module_at modules (suc k) = slice_get modules k
+
+-- the entry of the body of a module
+abbrev pub first_entry : List (ℕ × Option (List ℕ)) → ℕ
+first_entry [] = 0
+first_entry (p ∷ ps) = p.0
+
+abbrev pub body_entry : Module → ℕ
+body_entry m = first_entry m.procedures
 
 -- the same but for the place and the expression stack
 abbrev pub going : State → ℕ → List ℕ → State

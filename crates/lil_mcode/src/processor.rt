@@ -61,7 +61,7 @@ pub struct Processor {
 
 impl Model for Processor {
     ghost use Rattle.std.specs.Prelude.{◌≡◌, ◌≤◌, length, reverse, map, vec_len, vec_capacity, []};
-    ghost use Rattle.lil_mcode.specs.State.{State};
+    ghost use Rattle.lil_mcode.specs.Table.{State};
 
     ghost Value = { State };
 

@@ -5,13 +5,10 @@ use Rattle.lil_base.specs.Words.{Cardinal, Integer, between}
 use Rattle.lil_base.specs.declared.fault.TrapKind.TheVariants as trap
 use Rattle.lil_base.specs.declared.operator.TwoOp.TheVariants.{Equal, Less, AtLeast, Div, Mod}
 use Rattle.lil_base.specs.declared.request.Request.TheVariants.{Write, WriteCard, WriteInt, WriteOct, WriteHex}
-use Rattle.lil_resolved.specs.Kinds.{Workspaces, Kind, OfWhole, OfTruth, OfCharacter, OfPointer, OfRange}
-use Rattle.lil_resolved.specs.Scalars.{Scalar, Number, Truth, Character, SetOf, ToObject, Nil, Nothing, within, value_with}
-use Rattle.lil_resolved.specs.Resolved.{Designator, Variable, Field, Element, Chr, Val, Expression, Constant, Taken, ByValue, OfArray, OfText, Held, Statement, Assign, Text, Inside, Change, Request, Loop, Halt, Return, For, Statements, Empty, Then, Arms, NoElse, Else, Arm, Resolved, in_order}
-use Rattle.lil_resolved.specs.Shapes.{Shape, Word, Row, fields_of}
-use Rattle.lil_meaning.specs.Cells.{Global, got}
+use Rattle.lil_resolved.specs.Kinds.{Workspaces, Kind, OfWhole, OfTruth, OfCharacter, OfPointer, OfRange, Scalar, Number, Truth, Character, SetOf, ToObject, Nil, Nothing, within, value_with, Shape, Word, Row, fields_of}
+use Rattle.lil_resolved.specs.Resolved.{Designator, Variable, Field, Element, Chr, Val, Expression, Constant, Taken, ByValue, Statement, Assign, Change, Request, Loop, Halt, Return, For, Statements, Empty, Then, Arms, NoElse, Else, Arm, Resolved, in_order}
+use Rattle.lil_meaning.specs.Items.{Global, got, Looping, Turns, Item, Perform, Ended, Trapped}
 use Rattle.lil_meaning.specs.World.{World, Single, piece_of, Stream, Channel, OpenBy, Closed, all_closed}
-use Rattle.lil_meaning.specs.Items.{Looping, Turns, Item, Perform, Ended, Trapped}
 use Rattle.lil_meaning.specs.Steps.{applied, function_value, chosen, turns, exited}
 use Rattle.lil_meaning.specs.Runs.{state_of}
 

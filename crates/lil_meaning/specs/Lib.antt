@@ -1,4 +1,3 @@
-pub mod Cells
 pub mod Closings
 pub mod Items
 pub mod Need

@@ -1,9 +1,8 @@
 -- What the calls at hand need of the stack.
 use Rattle.std.specs.Prelude.{ℕ, zero, suc, ◌+◌, List, [], ◌∷◌, Option, Some, None, slice_get}
 use Rattle.lil_resolved.specs.Resolved.{Procedure, Resolved}
-use Rattle.lil_resolved.specs.Depth.{frame_words}
-use Rattle.lil_meaning.specs.Cells.{loaded_at}
-use Rattle.lil_meaning.specs.Items.{End, Item, Perform, Activation, Source}
+use Rattle.lil_resolved.specs.Sizes.{frame_words}
+use Rattle.lil_meaning.specs.Items.{loaded_at, End, Item, Perform, Activation, Source}
 
 -- how many words the frame of a procedure takes
 abbrev pub frame_by : Option Procedure → ℕ

@@ -1,9 +1,8 @@
 -- Runs of loaded modules: the state after n steps.
 use Rattle.std.specs.Prelude.{ℕ, zero, suc, List, [], ◌∷◌, Option, None, Some}
 use Rattle.lil_resolved.specs.Resolved.{Statements, Empty, Resolved}
-use Rattle.lil_meaning.specs.Cells.{loaded_at, fresh_cells}
-use Rattle.lil_meaning.specs.World.{World, Output, world_output}
-use Rattle.lil_meaning.specs.Items.{doing, End, Item, Perform, Activation, Going, Source}
+use Rattle.lil_meaning.specs.Items.{loaded_at, fresh_cells, doing, End, Item, Perform, Activation, Going, Source}
+use Rattle.lil_meaning.specs.World.{World}
 use Rattle.lil_meaning.specs.Steps.{next}
 
 abbrev pub body_of : Option Resolved → Statements
@@ -43,9 +42,6 @@ after library (suc n) s = after library n (next library s)
 
 abbrev pub src : List Resolved → (loaded order : List ℕ) → World → ℕ → Source
 src library loaded order w n = after library n (begun library loaded order w)
-
-abbrev pub out : Source → Output
-out s = world_output s.world
 
 -- the state of the meaning of a program module that is loaded alone, after n steps
 abbrev pub state_of : Resolved → World → ℕ → Source

@@ -12,14 +12,11 @@ use Rattle.lil_base.specs.declared.operator.OneOp.TheVariants as one
 use Rattle.lil_base.specs.declared.operator.TwoOp.{TwoOp}
 use Rattle.lil_base.specs.declared.operator.TwoOp.TheVariants.{Equal, Unequal, Less, AtMost, Greater, AtLeast, In, Plus, Minus, Times, Slash, Div, Mod}
 use Rattle.lil_base.specs.declared.request.Request as request
-use Rattle.lil_resolved.specs.Kinds.{Kind, OfWhole, OfTruth, OfCharacter, OfEnumeration, OfRange, is_set, is_pointer, nat_of, position}
+use Rattle.lil_resolved.specs.Kinds.{Kind, OfWhole, OfTruth, OfCharacter, OfEnumeration, OfRange, is_set, is_pointer, nat_of, position, Scalar, Number, Truth, Character, SetOf, ToObject, ToWorkspace, Nil, Nothing, same_reference, within, scalar_word, value_with, ordinal_of, truth_number, truth_of, members_of, Shape, shape_at}
 use Rattle.lil_resolved.specs.Members.{same_members, included, is_in, united, without, shared_members, unshared, from_to}
-use Rattle.lil_resolved.specs.Scalars.{Scalar, Number, Truth, Character, SetOf, ToObject, ToWorkspace, Nil, Nothing, same_reference, within, scalar_word, value_with, ordinal_of, truth_number, truth_of, members_of}
 use Rattle.lil_resolved.specs.Resolved.{Designator, Variable, Held, Field, Element, Follow, Function, Abs, Cap, Chr, Odd, Ord, Val, Expression, Constant, Taken, One, Two, Short, Apply, With, WithSpan, Argument, ByValue, OfArray, OfText, Label, Statement, Assign, Copy, Text, Change, Member, New, Allocate, Request, If, Case, While, Repeat, Loop, Exit, Halt, Return, Call, For, Inside, Statements, Arms, NoElse, Else, Arm, Procedure, Resolved, procedure_by, counted_as}
-use Rattle.lil_resolved.specs.Shapes.{Shape, shape_at}
-use Rattle.lil_meaning.specs.Cells.{Cells, Global, Place, under, part_of, object_place, stored, got, alone, text_under, zeros_under, targets_of, loaded_at}
+use Rattle.lil_meaning.specs.Items.{Cells, Global, Place, under, part_of, object_place, stored, got, alone, text_under, zeros_under, targets_of, loaded_at, Datum, Scalars, Places, Wholes, Opens, Texts, Hole, Get, Part, IndexBy, IndexAt, Pointed, SetTo, StoreAt, CopyTo, CopyFrom, TextTo, NewAt, AllocateBy, AllocateAt, ChangeBy, ChangeAt, OneOf, LeftOf, RightOf, ShortOf, ApplyTo, WithMember, MemberOf, WithMembers, MembersFrom, MembersTo, MemberBy, MemberAt, Pass, PassArray, Choose, Turn, Again, Pick, Hold, StartOf, LimitOf, Task, Do, Passing, Until, Looping, Turns, Holding, End, Item, Value, Evaluate, PlaceOf, Fill, Perform, doing, Activation, Parked, Level, Phase, Going, Closing, Ended, Trapped, Source}
 use Rattle.lil_meaning.specs.World.{World, Given, Single, Characters, serve, closing}
-use Rattle.lil_meaning.specs.Items.{Datum, Scalars, Places, Wholes, Opens, Texts, Hole, Get, Part, IndexBy, IndexAt, Pointed, SetTo, StoreAt, CopyTo, CopyFrom, TextTo, NewAt, AllocateBy, AllocateAt, ChangeBy, ChangeAt, OneOf, LeftOf, RightOf, ShortOf, ApplyTo, WithMember, MemberOf, WithMembers, MembersFrom, MembersTo, MemberBy, MemberAt, Pass, PassArray, Choose, Turn, Again, Pick, Hold, StartOf, LimitOf, Task, Do, Passing, Until, Looping, Turns, Holding, End, Item, Value, Evaluate, PlaceOf, Fill, Perform, doing, Activation, Parked, Level, Phase, Going, Closing, Ended, Trapped, Source}
 
 -- the activation at hand: that of the nearest end
 abbrev pub current : List Item → ℕ

@@ -9,7 +9,7 @@ use Rattle.lil_kinds.specs.declared.found.Found.{Found}
 use Rattle.lil_operators.specs.declared.sets.Bounds.{Bounds}
 use Rattle.lil_operators.specs.declared.sets.Elements.{Elements}
 use Rattle.lil_operators.specs.declared.sets.Tally.{Tally}
-use Rattle.lil_operators.specs.Sets.{elements_tally, set_end, set_of}
+use Rattle.lil_operators.specs.Operations.{elements_tally, set_end, set_of}
 
 module _ {r s t : Option Fault} where
   pub is_set_of : (types : Table) (p : Place) (n : ℕ) (es : Elements) {bs : List Bounds} {y : Tally} {a : Option Found} → bs ≡ es.bounds → Said (elements_tally types n bs) r y s → Said (set_end types p n es.forms y) s a t

@@ -6,11 +6,10 @@ use Rattle.lil_base.specs.declared.operator.TwoOp.{TwoOp}
 use Rattle.lil_types.specs.Types.{Table}
 use Rattle.lil_declared.specs.declared.declared.RVar.{RVar}
 use Rattle.lil_report.specs.Told.{after}
-use Rattle.lil_resolved.specs.Shapes.{Scope}
+use Rattle.lil_resolved.specs.Kinds.{Scope}
 use Rattle.lil_resolved.specs.declared.resolved.RMember.{RMember}
 use Rattle.lil_scope.specs.declared.thing.Kind.{Kind}
 use Rattle.lil_scope.specs.declared.thing.Kind.TheVariants as k
-use Rattle.lil_kinds.specs.declared.found.Form.TheVariants as form
 use Rattle.lil_kinds.specs.declared.found.Found.{Found}
 use Rattle.lil_kinds.specs.declared.found.Applied.{Applied}
 use Rattle.lil_kinds.specs.declared.found.Applied.TheVariants.{Refused, Outside, Gives}
@@ -18,29 +17,18 @@ use Rattle.lil_kinds.specs.Operators.{one, two, operand_type}
 use Rattle.lil_shapes.specs.BaseLaws.{if_true}
 use Rattle.lil_shapes.specs.ListLaws.{AllFine}
 use Rattle.lil_forms.specs.declared.operators.Built.{Built}
-use Rattle.lil_forms.specs.Values.{typed_by, typed}
-use Rattle.lil_forms.specs.Operators.{one_of, single_by, span_by}
+use Rattle.lil_forms.specs.Values.{typed_by, typed, one_of, single_by, span_by}
 use Rattle.lil_forms.specs.FoundSound.{Fits, FormSound, FoundSound, joined_fine}
-use Rattle.lil_forms.specs.ValueSound.{typed_sound}
-use Rattle.lil_forms.specs.OperatorSound.{one_sound, BuiltSound, begun_sound, operated_sound, IsMember, value_sound, chain_sound, single_sound, span_sound, MembersSound, set_sound}
+use Rattle.lil_forms.specs.ValueSound.{typed_sound, one_sound, BuiltSound, begun_sound, operated_sound, IsMember, value_sound, chain_sound, single_sound, span_sound, MembersSound, set_sound}
 use Rattle.lil_operators.specs.declared.operations.Chained.{Chained}
 use Rattle.lil_operators.specs.declared.operations.SoFar.{SoFar}
 use Rattle.lil_operators.specs.declared.operations.SoFar.TheVariants.{First, Behind}
 use Rattle.lil_operators.specs.declared.sets.Elements.{Elements}
 use Rattle.lil_operators.specs.declared.sets.Tally.{Tally}
-use Rattle.lil_operators.specs.Depths.{raised}
-use Rattle.lil_operators.specs.Constants.{plain_found, constant_found}
-use Rattle.lil_operators.specs.Operations.{one_found, one_value, one_applied, one_node, begun, left_type, before, behind, two_chained, two_given, two_value, two_applied, two_node, chain_found}
-use Rattle.lil_operators.specs.Sets.{no_elements, kinds_of, joined_one, joined_range, set_found, set_given, set_end, elements_tally, set_node}
+use Rattle.lil_operators.specs.Operations.{raised, plain_found, one_found, one_value, one_applied, one_node, begun, left_type, before, behind, two_chained, two_given, two_value, two_applied, two_node, chain_found, kinds_of, joined_one, joined_range, set_found, set_given, set_end, elements_tally, set_node}
 
 module _ {t : Table} {vs : List RVar} {around : List ℕ} {ts : Scope} (fits : Fits t vs around ts) where
   -- ---- constants
-  pub constant_found_sound : (p : Place) (kind : Kind) → FoundSound fits (constant_found p kind)
-  constant_found_sound p kind = tt
-
-  pub text_found_sound : (p : Place) (cs : List ℕ) (kind : Kind) → FoundSound fits (plain_found p (form.Text cs) kind)
-  text_found_sound p cs kind = tt
-
   -- ---- a sign or NOT
   one_found_sound : (p : Place) (op : OneOp) (a : Found) (kind : Kind) → FoundSound fits a → FoundSound fits (one_found t p op a kind)
   one_found_sound p op a (k.Of s) h = value_sound fits (one_of op (typed t s a)) (one_sound ts op (typed t s a) (typed_sound fits s a h))
@@ -111,9 +99,6 @@ module _ {t : Table} {vs : List RVar} {around : List ℕ} {ts : Scope} (fits : F
   -- elements that may be in sets of a type
   abbrev pub ElementsSound : Option ℕ → Elements → Type 0
   ElementsSound s es = IfSome es.forms (AllFine (IsMember ts (kinds_of t s)))
-
-  pub no_elements_sound : (s : Option ℕ) → ElementsSound s no_elements
-  no_elements_sound s = tt
 
   pub joined_one_sound : (s : Option ℕ) (es : Option Elements) (a : Option Found) → IfSome es (ElementsSound s) → IfSome a (FoundSound fits) → IfSome (joined_one t s es a) (ElementsSound s)
   joined_one_sound s (Some es) (Some a) h j = joined_fine (IsMember ts (kinds_of t s)) es.forms (single_by t (kinds_of t s) a) h (single_sound fits (kinds_of t s) a j)

@@ -1,5 +1,5 @@
 ghost use Rattle.std.specs.Prelude.{◌≡◌};
-ghost use Rattle.lil_operators.specs.Constants as spec;
+ghost use Rattle.lil_operators.specs.Operations as spec;
 
 use lil_base::Place;
 use lil_kinds::{Form, Found, Standing};

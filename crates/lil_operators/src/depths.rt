@@ -1,5 +1,5 @@
 ghost use Rattle.std.specs.Prelude.{◌≡◌, ◌≤◌};
-ghost use Rattle.lil_operators.specs.Depths as spec;
+ghost use Rattle.lil_operators.specs.Operations as spec;
 
 /// A depth, if an expression may have it.
 fn limited(depth: usize) -> Option<usize>

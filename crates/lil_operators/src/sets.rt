@@ -1,6 +1,6 @@
 ghost use Rattle.std.specs.Prelude.{◌≡◌, ◌≤◌, IfOk};
 ghost use Rattle.lil_report.specs.Told.{Said, tell};
-ghost use Rattle.lil_operators.specs.Sets as spec;
+ghost use Rattle.lil_operators.specs.Operations as spec;
 
 use crate::constants::constant_found;
 use crate::depths::raised;
@@ -245,7 +245,7 @@ fn range_tally(types: &TypeTable, sort: TypeId, tally: Tally, low: Operand, high
 }
 
 /// An element more.
-#[tactic(auto, unfolding(crate::specs::Sets::bounds_node, lil_report::specs::Told::tell))]
+#[tactic(auto, unfolding(crate::specs::Operations::bounds_node, lil_report::specs::Told::tell))]
 fn bounds_node(
     types: &TypeTable,
     report: &mut Report,
@@ -308,7 +308,7 @@ fn set_found(
     }
 }
 
-#[tactic(auto, unfolding(crate::specs::Sets::set_end, lil_report::specs::Told::tell))]
+#[tactic(auto, unfolding(crate::specs::Operations::set_end, lil_report::specs::Told::tell))]
 fn set_end(
     types: &TypeTable,
     report: &mut Report,

@@ -1,5 +1,5 @@
 -- The wrong names behind END of a declaration come from those of its parts, and the least of two lists is found one list after the other.
-use Rattle.std.proofs.Common.{◌≡◌, ℕ, ◌+◌, ◌<◌, ◌≤◌, length, List, [], ◌∷◌, ◌++◌, map, Option, None, Some, drop, get_or, refl, sym, ap, ◌∙◌, arith}
+use Rattle.std.proofs.Common.{◌≡◌, ℕ, ◌+◌, ◌<◌, ◌≤◌, length, List, [], ◌∷◌, ◌++◌, map, Option, Some, drop, get_or, refl, sym, ap, ◌∙◌}
 use Rattle.std.proofs.lemmas.List.{drop_more, drop_all}
 use Rattle.lil_base.specs.declared.fault.Place.{Place}
 use Rattle.lil_text.specs.declared.tree.Ident.{Ident}
@@ -10,11 +10,11 @@ use Rattle.lil_language.specs.declared.unit.Variables.{Variables}
 use Rattle.lil_language.specs.declared.unit.Decl.{Decl}
 use Rattle.lil_language.specs.declared.unit.Decl.TheVariants as d
 use Rattle.lil_language.specs.declared.unit.Decl.TheOpen as o
-use Rattle.lil_language.specs.declared.unit.Decl.TheOpen.{Decl-F, Block-F}
+use Rattle.lil_language.specs.declared.unit.Decl.TheOpen.{Decl-F}
 use Rattle.lil_language.specs.declared.unit.Decl.TheFolds.{map-Decl, fold-roll-Decl, fold_out-Block}
 use Rattle.lil_language.specs.declared.unit.Decl.TheViews.{roll-Decl}
 use Rattle.lil_language.specs.declared.unit.Block.{Block, out-Block}
-use Rattle.lil_language.specs.Units.{wrong_end, joined, ends_in, decl_layer, block_layer, decl_ends, block_ends, all_ends, least, sooner}
+use Rattle.lil_language.specs.Units.{wrong_end, joined, decl_layer, block_layer, decl_ends, block_ends, all_ends, least, sooner}
 
 pub least_append : (found : Option Place) (ps qs : List Place) → least found (ps ++ qs) ≡ least (least found ps) qs
 unfolding least
@@ -39,9 +39,6 @@ type_ends p xs = ap decl_ends (sym (d.rolls-TypeIs p xs)) ∙ rolled (o.TypeIs p
 
 pub variable_ends : (p : Place) (xs : List Variables) → decl_ends (d.VarsAre p xs) ≡ []
 variable_ends p xs = ap decl_ends (sym (d.rolls-VarsAre p xs)) ∙ rolled (o.VarsAre p xs)
-
-pub heading_ends : (h : Heading) → decl_ends (d.ProcIs h None) ≡ []
-heading_ends h = ap decl_ends (sym (d.rolls-ProcIs h None)) ∙ rolled (o.ProcIs h None)
 
 pub procedure_ends : (h : Heading) (b : Block) → decl_ends (d.ProcIs h (Some b)) ≡ block_ends b h.name
 procedure_ends h b = ap decl_ends (sym (d.rolls-ProcIs h (Some b))) ∙ rolled (o.ProcIs h (Some b))

@@ -1,15 +1,11 @@
 -- The least of some places, found one after the other.
-use Rattle.std.proofs.Common.{◌≡◌, ◌⊎◌, ℕ, ◌+◌, ◌<◌, ◌≤◌, nat_lt, subst, Bool, true, false, List, [], ◌∷◌, ◌++◌, Option, None, Some, if◌then◌else◌, refl, sym, ap, ◌∙◌, inl, inr, arith}
+use Rattle.std.proofs.Common.{◌≡◌, ◌⊎◌, ◌+◌, ◌<◌, ◌≤◌, nat_lt, subst, Bool, true, false, List, [], ◌∷◌, ◌++◌, None, Some, if◌then◌else◌, refl, sym, ap, ◌∙◌, inl, inr, arith}
 use Rattle.std.proofs.lemmas.Bool.{ltb-true, ltb-false, lt-ltb}
 use Rattle.lil_base.specs.declared.fault.Place.{Place}
 use Rattle.lil_language.specs.Units.{AllFrom, IsLeast, sooner, least}
 
 some_same : {p q : Place} → Some p ≡ Some q → q ≡ p
 some_same e = cc
-
-all_from : (n m : ℕ) (ps : List Place) → n ≤ m → AllFrom m ps → AllFrom n ps
-all_from n m [] less h = tt
-all_from n m (p ∷ ps) less h = (omega (arith, h.0), all_from n m ps less h.1)
 
 -- found before, or sooner among the others
 abbrev Found : Place → List Place → Place → Type 0

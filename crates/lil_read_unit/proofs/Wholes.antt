@@ -1,11 +1,11 @@
 -- What holds of the units of texts, from what holds of tokens.
-use Rattle.std.proofs.Common.{◌≡◌, ◌⊎◌, ℕ, List, subst, sym, inl, inr}
+use Rattle.std.proofs.Common.{◌≡◌, ◌⊎◌, ℕ, List, subst, inl, inr}
 use Rattle.lil_base.specs.declared.fault.SourceFault.{SourceFault}
 use Rattle.lil_text.specs.declared.token.Token.{Token}
 use Rattle.lil_text.specs.Lexical.{HasTokens, HasLexicalFault}
-use Rattle.lil_language.specs.declared.unit.Unit.{Unit as Tree}
 use Rattle.lil_language.specs.Units.{IsRightUnit, HasUnitFault, Reads, HasReadFault}
 use Rattle.lil_read_unit.proofs.Answering as by
+use Rattle.lil_language.specs.declared.unit.Unit.{Unit as Tree}
 
 module _ (text : List ℕ) (one : (ts us : List Token) → HasTokens text ts → HasTokens text us → ts ≡ us) where
   pub one_unit : (u v : Tree) → Reads text u → Reads text v → u ≡ v
@@ -20,9 +20,6 @@ module _ (text : List ℕ) (one : (ts us : List Token) → HasTokens text ts →
     pub fault_at : (ts : List Token) → HasTokens text ts → (f : SourceFault) → HasReadFault text f → HasUnitFault ts f
     fault_at ts cut f (inl k) = absurd (apart ts f cut k)
     fault_at ts cut f (inr k) = subst (λ ts. HasUnitFault ts f) (one k.0 ts k.1 cut) k.2
-
-  pub unit_at : (ts : List Token) → HasTokens text ts → (u : Tree) → Reads text u → IsRightUnit ts u
-  unit_at ts cut u h = subst (λ ts. IsRightUnit ts u) (one h.0 ts h.1 cut) h.2
 
 by_tokens : (text : List ℕ) (ts : List Token) → HasTokens text ts → ((u : Tree) × IsRightUnit ts u) ⊎ ((f : SourceFault) × HasUnitFault ts f) → ((u : Tree) × Reads text u) ⊎ ((f : SourceFault) × HasReadFault text f)
 by_tokens text ts cut (inl h) = inl (h.0, (ts, cut, h.1))

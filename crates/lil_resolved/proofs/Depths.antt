@@ -15,13 +15,11 @@ use Rattle.lil_resolved.specs.declared.resolved.RPlace.{RPlace, out-RPlace}
 use Rattle.lil_resolved.specs.declared.resolved.RRoot.{RRoot}
 use Rattle.lil_resolved.specs.declared.resolved.RRoot.TheVariants as t
 use Rattle.lil_resolved.specs.declared.resolved.RSelector.{RSelector, out-RSelector}
-use Rattle.lil_resolved.specs.declared.resolved.RSelector.TheVariants as l
 use Rattle.lil_resolved.specs.Kinds.{Kind, OfTruth, OfSet}
-use Rattle.lil_resolved.specs.Resolved.{Designator, Field, Element, Expression, kind_of}
-use Rattle.lil_resolved.specs.Depth.{place_depth, depth}
+use Rattle.lil_resolved.specs.Resolved.{Designator, Field, Expression, kind_of}
+use Rattle.lil_resolved.specs.Sizes.{place_depth, depth}
 use Rattle.lil_resolved.specs.Chains.{operations_depth, is_arithmetic, all_arithmetic, selector_depth, selector_depth_in, selectors_depth, member_depth, member_depth_in, members_depth}
-use Rattle.lil_resolved.specs.Forms.{chain_is, set_is, operation_is, place_is, selector_is, member_is}
-use Rattle.lil_resolved.specs.Views.{two_of, chained, selected, root_view, with_members, empty_set, kind_view, selector_layer, member_layer, expression_of, selector_of, member_of, operation_of, place_of}
+use Rattle.lil_resolved.specs.Views.{chain_is, set_is, operation_is, place_is, selector_is, member_is, two_of, chained, selected, root_view, with_members, empty_set, kind_view, selector_layer, member_layer, expression_of, selector_of, member_of, operation_of, place_of}
 
 two_depth : (o : TwoOp) (a b : Expression) → depth (two_of o a b) ≡ max (depth a) (1 + depth b)
 two_depth And a b = refl

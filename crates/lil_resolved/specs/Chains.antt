@@ -2,7 +2,7 @@
 use Rattle.std.specs.Prelude.{ℕ, ◌+◌, max, Bool, true, false, ◌&&◌, List, [], ◌∷◌}
 use Rattle.lil_base.specs.declared.operator.TwoOp.{TwoOp}
 use Rattle.lil_base.specs.declared.operator.TwoOp.TheVariants.{Plus, Minus, Times, Slash, Div, Mod}
-use Rattle.lil_resolved.specs.Depth.{depth}
+use Rattle.lil_resolved.specs.Sizes.{depth}
 use Rattle.lil_resolved.specs.Views.{expression_of}
 use Rattle.lil_resolved.specs.declared.resolved.RExpr.{RExpr}
 use Rattle.lil_resolved.specs.declared.resolved.RExpr.TheOpen as x

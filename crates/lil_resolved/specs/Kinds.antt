@@ -1,7 +1,9 @@
--- What sort of value a scalar variable, parameter or expression has.
-use Rattle.std.specs.Prelude.{ℕ, ◌-◌, ◌==◌, nat_le, ℤ, pos, negsuc, ◌+ℤ◌, ◌-ℤ◌, int_lt, Bool, true, false, not, ◌&&◌, ◌||◌, if◌then◌else◌}
-use Rattle.lil_base.specs.Words as words
-use Rattle.lil_base.specs.Words.{Whole, Cardinal, Integer}
+-- The sorts of values that scalar variables, parameters and expressions have, the scalars themselves, and the shapes of what lies in variables.
+use Rattle.std.specs.Prelude.{ℕ, zero, suc, ◌+◌, ◌*◌, Bool, true, false, List, [], ◌∷◌, Option, Some, None, slice_get, nat_lt, if◌then◌else◌, ◌-◌, ◌==◌, ℤ, pos, not, ◌&&◌, nat_le, negsuc, ◌+ℤ◌, ◌-ℤ◌, int_lt, ◌||◌}
+use Rattle.lil_base.specs.Words.{in_type, between, is_zero, word_of, Whole, Cardinal, Integer}
+use Rattle.lil_base.specs.Sets.{has, set_word}
+use Rattle.lil_resolved.specs.Members.{no_members}
+use Rattle.lil_base.specs.Words as type
 
 -- what the values of a kind of references lead to: objects of one type, by the number of the type of the pointers to them, or workspaces
 pub data Pointee : Type 0 where
@@ -103,7 +105,7 @@ larger x y = if int_lt x y then y else x
 
 -- the least and the greatest number of a kind's values
 abbrev pub least : Kind → ℤ
-least (OfWhole t) = words.least t
+least (OfWhole t) = type.least t
 least OfTruth = pos 0
 least OfCharacter = pos 0
 least (OfEnumeration n) = pos 0
@@ -112,7 +114,7 @@ least (OfPointer to) = pos 0
 least (OfRange base low high) = larger low (least base)
 
 abbrev pub greatest : Kind → ℤ
-greatest (OfWhole t) = words.greatest t
+greatest (OfWhole t) = type.greatest t
 greatest OfTruth = pos 1
 greatest OfCharacter = pos 255
 greatest (OfEnumeration n) = pos (n - 1)
@@ -151,3 +153,202 @@ numbers k = nat_of ((greatest k -ℤ least k) +ℤ pos 1)
 
 abbrev pub position : Kind → ℤ → ℕ
 position k z = nat_of (z -ℤ least k)
+
+-- ---- scalars: the values of cells and of expressions
+
+-- a whole number, a truth value, a character, a set of numbers up to 15, a reference, or no value
+pub data Scalar : Type 0 where
+  Number : (z : ℤ) → Scalar
+  Truth : (b : Bool) → Scalar
+  Character : (c : ℕ) → Scalar
+  SetOf : (s : ℕ → Bool) → Scalar
+  ToObject : (o : ℕ) → Scalar
+  ToWorkspace : (w : ℕ) → Scalar
+  ToProcedure : (m p : ℕ) → Scalar
+  ToCoroutine : (c : ℕ) → Scalar
+  -- the reference that leads nowhere
+  Nil : Scalar
+  -- no value: one of no kind
+  Nothing : Scalar
+
+-- the number of a truth value
+abbrev pub truth_number : Bool → ℕ
+truth_number false = 0
+truth_number true = 1
+
+-- the number of a value of a kind: that of a set is the sum of 2 ^ i of each i in it
+abbrev pub ordinal_of : Scalar → ℤ
+ordinal_of (Number z) = z
+ordinal_of (Truth b) = pos (truth_number b)
+ordinal_of (Character c) = pos c
+ordinal_of (SetOf s) = pos (set_word s)
+ordinal_of _ = pos 0
+
+-- the value with this number, where the kind has one
+abbrev pub scalar_of : Kind → ℤ → Scalar
+scalar_of (OfWhole t) z = Number z
+scalar_of OfTruth z = Truth (not (is_zero z))
+scalar_of OfCharacter z = Character (word_of z)
+scalar_of (OfEnumeration n) z = Number z
+scalar_of OfSet z = SetOf (has (word_of z))
+scalar_of (OfPointer to) z = Nil
+scalar_of (OfRange base low high) z = scalar_of base z
+
+-- a reference leads to an object, or a workspace, as is wanted
+abbrev pub to_object : Pointee → Bool
+to_object (Objects n) = true
+to_object Workspaces = false
+
+-- the value is one of the kind
+abbrev pub within : Kind → Scalar → Bool
+within (OfWhole t) (Number z) = in_type t z
+within OfTruth (Truth b) = true
+within OfCharacter (Character c) = nat_le c 255
+within (OfEnumeration n) (Number z) = between (pos 0) z (pos (n - 1))
+within OfSet (SetOf s) = true
+within (OfPointer to) (ToObject o) = to_object to
+within (OfPointer to) (ToWorkspace w) = not (to_object to)
+within (OfPointer to) Nil = true
+within (OfRange base low high) v = within base v && between low (ordinal_of v) high
+within _ _ = false
+
+-- the value of a kind that has this number, if the kind has one
+abbrev pub value_with : Kind → ℤ → Option Scalar
+value_with (OfWhole t) z = if in_type t z then Some (Number z) else None
+value_with OfTruth z = if between (pos 0) z (pos 1) then Some (Truth (not (is_zero z))) else None
+value_with OfCharacter z = if between (pos 0) z (pos 255) then Some (Character (word_of z)) else None
+value_with (OfEnumeration n) z = if between (pos 0) z (pos (n - 1)) then Some (Number z) else None
+value_with OfSet z = if between (pos 0) z (pos 65535) then Some (SetOf (has (word_of z))) else None
+value_with (OfPointer to) z = if between (pos 0) z (pos 0) then Some Nil else None
+value_with (OfRange base low high) z = if between low z high then value_with base z else None
+
+-- zero of a kind: what a fresh variable holds, also where its range leaves it out
+abbrev pub zero_of : Kind → Scalar
+zero_of (OfWhole t) = Number (pos 0)
+zero_of OfTruth = Truth false
+zero_of OfCharacter = Character 0
+zero_of (OfEnumeration n) = Number (pos 0)
+zero_of OfSet = SetOf no_members
+zero_of (OfPointer to) = Nil
+zero_of (OfRange base low high) = zero_of base
+
+abbrev pub is_reference : Scalar → Bool
+is_reference (ToObject o) = true
+is_reference (ToWorkspace w) = true
+is_reference _ = false
+
+-- a value of a kind that a text can name: NIL is the only reference
+abbrev pub is_literal : Kind → Scalar → Bool
+is_literal k v = within k v && not (is_reference v)
+
+-- two references to one object or workspace, or two times NIL
+abbrev pub same_reference : Scalar → Scalar → Bool
+same_reference (ToObject m) (ToObject n) = m == n
+same_reference (ToWorkspace m) (ToWorkspace n) = m == n
+same_reference Nil Nil = true
+same_reference _ _ = false
+
+-- whether a truth value is TRUE
+abbrev pub truth_of : Scalar → Bool
+truth_of (Truth b) = b
+truth_of _ = false
+
+-- the numbers that are in a set
+abbrev pub members_of : Scalar → ℕ → Bool
+members_of (SetOf s) = s
+members_of _ = no_members
+
+-- the word that a value is that isn't a reference; that of NIL is 0
+abbrev pub scalar_word : Scalar → ℕ
+scalar_word (Number z) = word_of z
+scalar_word (Truth b) = truth_number b
+scalar_word (Character c) = c
+scalar_word (SetOf s) = set_word s
+scalar_word _ = 0
+
+-- ---- shapes: which scalars lie in a variable or an object, by their paths, and how many words they take
+
+-- no cell, a scalar of a kind, no field, a field before others, or so many elements
+pub data Shape : Type 0 where
+  Absent : Shape
+  Word : (k : Kind) → Shape
+  Blank : Shape
+  Join : (first rest : Shape) → Shape
+  Row : (count : ℕ) (element : Shape) → Shape
+
+abbrev pub words : Shape → ℕ
+words Absent = 0
+words (Word k) = 1
+words Blank = 0
+words (Join a b) = words a + words b
+words (Row n t) = n * words t
+
+-- whether something lies there
+abbrev pub is_there : Shape → Bool
+is_there Absent = false
+is_there (Word k) = true
+is_there Blank = true
+is_there (Join a b) = true
+is_there (Row n t) = true
+
+-- what lies at the end of a path; a field's number counts the fields before it
+abbrev pub part_at : Shape → List ℕ → Shape
+part_at t [] = t
+part_at (Join a b) (zero ∷ p) = part_at a p
+part_at (Join a b) (suc x ∷ p) = part_at b (x ∷ p)
+part_at (Row n t) (x ∷ p) = if nat_lt x n then part_at t p else Absent
+part_at _ (x ∷ p) = Absent
+
+-- the words before it
+abbrev pub offset : Shape → List ℕ → ℕ
+offset t [] = 0
+offset (Join a b) (zero ∷ p) = offset a p
+offset (Join a b) (suc x ∷ p) = words a + offset b (x ∷ p)
+offset (Row n t) (x ∷ p) = x * words t + offset t p
+offset _ (x ∷ p) = 0
+
+-- the words of variables one behind another
+abbrev pub all_words : List Shape → ℕ
+all_words [] = 0
+all_words (t ∷ ts) = words t + all_words ts
+
+-- where each of them begins, from a place on
+abbrev pub offsets_from : ℕ → List Shape → List ℕ
+offsets_from n [] = []
+offsets_from n (t ∷ ts) = n ∷ offsets_from (n + words t) ts
+
+-- a shape by its number
+abbrev pub shape_by : Option Shape → Shape
+shape_by None = Absent
+shape_by (Some t) = t
+
+abbrev pub shape_at : List Shape → ℕ → Shape
+shape_at ts n = shape_by (slice_get ts n)
+
+-- fields one behind another
+abbrev pub fields_of : List Shape → Shape
+fields_of [] = Blank
+fields_of (t ∷ ts) = Join t (fields_of ts)
+
+-- what each element is, and how many there are
+abbrev pub element_of : Shape → Shape
+element_of (Row n t) = t
+element_of _ = Absent
+
+abbrev pub count_of : Shape → ℕ
+count_of (Row n t) = n
+count_of _ = 0
+
+-- what the names of a body reach: what its pointers point to, by the numbers of their types, the module's variables, and the records of the
+-- WITHs around, the innermost first
+pub record Scope : Type 0 where
+  pub targets : List Shape
+  pub variables : List Shape
+  pub held : List Shape
+
+abbrev pub outermost : (targets variables : List Shape) → Scope
+outermost targets variables = record { targets = targets; variables = variables; held = [] }
+
+-- inside of a WITH too
+abbrev pub with_held : Scope → Shape → Scope
+with_held ts t = record ts { held = t ∷ ts.held }

@@ -1,14 +1,9 @@
 pub mod Bases
 pub mod Chains
-pub mod Depth
-pub mod Forms
 pub mod Kinds
 pub mod MemberLaws
 pub mod Members
 pub mod Resolved
-pub mod Scalars
-pub mod Shapes
 pub mod Sizes
 pub mod Sound
-pub mod Strings
 pub mod Views

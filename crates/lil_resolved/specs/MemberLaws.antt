@@ -4,9 +4,9 @@ use Rattle.std.specs.Prelude.{pos, nat_lt}
 use Rattle.std.proofs.lemmas.Bool.{cases_lt}
 use Rattle.std.proofs.lemmas.Bool.Decides.{nat_tests}
 use Rattle.std.proofs.lemmas.Nat.Bits.{bit_at_above}
-use Rattle.lil_base.specs.Sets.{has, either, set_from, set_word, union, minus, meet, apart, span, is_within}
+use Rattle.lil_base.specs.Sets.{has, either, set_from, set_word, union, minus, meet, apart, is_within}
 use Rattle.lil_base.specs.SetLaws.{has_set, has_no, set_is}
-use Rattle.lil_resolved.specs.Members.{all_below, same_members, included, is_in, united, without, shared_members, unshared, from_to}
+use Rattle.lil_resolved.specs.Members.{all_below, same_members, included, is_in, united, without, shared_members, unshared}
 
 -- sets of the same numbers below 16 have one word
 from_same : (n : ℕ) (p q : ℕ → Bool) → ((i : ℕ) → i < n → p i ≡ q i) → set_from n p ≡ set_from n q

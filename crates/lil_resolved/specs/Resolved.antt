@@ -5,9 +5,7 @@ use Rattle.lil_base.specs.declared.operator.OneOp.{OneOp}
 use Rattle.lil_base.specs.declared.operator.TwoOp.{TwoOp}
 use Rattle.lil_base.specs.declared.operator.TwoOp.TheVariants.{Equal, Unequal, Less, AtMost, Greater, AtLeast, In, Plus, Minus, Or, Times, Slash, Div, Mod, And}
 use Rattle.lil_base.specs.declared.request.Request as request
-use Rattle.lil_resolved.specs.Kinds.{Kind, OfWhole, OfTruth, OfCharacter, OfSet, base_of, compared_as}
-use Rattle.lil_resolved.specs.Scalars.{Scalar}
-use Rattle.lil_resolved.specs.Shapes.{Shape, Scope, part_at, shape_at, element_of}
+use Rattle.lil_resolved.specs.Kinds.{Kind, OfWhole, OfTruth, OfCharacter, OfSet, base_of, compared_as, Scalar, Shape, Scope, part_at, shape_at, element_of}
 
 -- standard functions of one value
 pub data Function : Type 0 where

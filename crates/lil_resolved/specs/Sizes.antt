@@ -1,15 +1,128 @@
--- The bytes that code takes, and modules that are small. Depths, frames and soundness are passed on.
-use Rattle.std.specs.Prelude.{Bool, true, false, ℕ, ◌+◌, ◌*◌, ◌≤◌, ℤ, List, [], ◌∷◌, length, if◌then◌else◌}
+-- How much a module takes: words of the expression stack, of frames and of strings, and the bytes of its code; and modules that are small.
+use Rattle.std.specs.Prelude.{ℕ, List, [], ◌∷◌, ◌++◌, ◌+◌, max, Bool, true, false, ◌*◌, ◌≤◌, ℤ, length, if◌then◌else◌}
+use Rattle.std.specs.List.{flat_map}
+use Rattle.lil_resolved.specs.Resolved.{Argument, ByValue, OfArray, OfText, Statement, Assign, Copy, Text, Change, Member, New, Allocate, Request, If, Case, While, Repeat, Loop, Exit, Halt, Return, Call, For, Inside, Statements, Empty, Then, Arms, NoElse, Else, Arm, Procedure, Resolved, Designator, Variable, Held, Field, Element, Follow, Function, Odd, Expression, Constant, Taken, One, Two, Short, Apply, With, WithSpan, Abs, Cap, Chr, Ord, Val, kind_of, counted_as}
 use Rattle.lil_base.specs.declared.operator.OneOp.{OneOp}
 use Rattle.lil_base.specs.declared.operator.OneOp.TheVariants as one
 use Rattle.lil_base.specs.declared.operator.TwoOp.{TwoOp}
 use Rattle.lil_base.specs.declared.operator.TwoOp.TheVariants.{Greater, AtLeast}
-use Rattle.lil_resolved.specs.Resolved.{Designator, Variable, Held, Field, Element, Follow, Function, Abs, Cap, Chr, Odd, Ord, Val, Expression, Constant, Taken, One, Two, Short, Apply, With, WithSpan, Argument, ByValue, OfArray, OfText, Statement, Assign, Copy, Text, Change, Member, New, Allocate, Request, If, Case, While, Repeat, Loop, Exit, Halt, Return, Call, For, Inside, Statements, Empty, Then, Arms, NoElse, Else, Arm, Resolved, kind_of, counted_as}
 use Rattle.lil_base.specs.Words.{Cardinal, Integer}
-use Rattle.lil_resolved.specs.Kinds.{Kind, OfWhole, OfCharacter, base_of, compared_as, covers, outside_turns}
-use Rattle.lil_resolved.specs.Shapes.{all_words}
-pub use Rattle.lil_resolved.specs.Depth.{place_depth, depth, statement_words, body_words, arms_words, frame_words}
-pub use Rattle.lil_resolved.specs.Sound.{is_base, is_ordinal, is_set, is_whole, is_element, takes_one, takes_two, takes_value, stores_value, takes_function, IsSoundVariable, IsScalar, IsSoundPlace, IsSoundTarget, IsSoundCopy, IsSoundExpression, IsSoundWhole, IsSoundValue, IsSoundStored, IsSoundNew, request_parameters, IsSoundText, IsSoundArray, IsSoundHeld, IsSoundArgument, AreSoundArguments, IsSoundLabel, AreSoundLabels, IsStep, IsSoundStatement, IsSoundBody, AreSoundArms, IsSound}
+use Rattle.lil_resolved.specs.Kinds.{Kind, OfWhole, OfCharacter, base_of, compared_as, covers, outside_turns, all_words}
+
+-- ---- the words of the strings of statements, in the order of the text. Each use of a string has words of its own
+
+-- the words of a string: one a character, and a 0 where it has none
+abbrev pub words_of : List ℕ → List ℕ
+words_of [] = 0 ∷ []
+words_of (c ∷ cs) = c ∷ cs
+
+abbrev pub argument_strings : Argument → List ℕ
+argument_strings (ByValue k e) = []
+argument_strings (OfArray d high) = []
+argument_strings (OfText cs) = words_of cs
+
+abbrev pub arguments_strings : List Argument → List ℕ
+arguments_strings given = flat_map argument_strings given
+
+abbrev mutual
+  pub statement_strings : Statement → List ℕ
+  statement_strings (Assign d k e) = []
+  statement_strings (Copy d from) = []
+  statement_strings (Text d cs) = words_of cs
+  statement_strings (Change down d k e) = []
+  statement_strings (Member out d k e) = []
+  statement_strings (New d n) = []
+  statement_strings (Allocate back d e) = []
+  statement_strings (Request r given) = arguments_strings given
+  statement_strings (If c a b) = body_strings a ++ body_strings b
+  statement_strings (Case e arms) = arms_strings arms
+  statement_strings (While c body) = body_strings body
+  statement_strings (Repeat body c) = body_strings body
+  statement_strings (Loop body) = body_strings body
+  statement_strings Exit = []
+  statement_strings Halt = []
+  statement_strings Return = []
+  statement_strings (Call p n) = []
+  statement_strings (For x k a b step body) = body_strings body
+  statement_strings (Inside d body) = body_strings body
+
+  pub body_strings : Statements → List ℕ
+  body_strings Empty = []
+  body_strings (Then s ss) = statement_strings s ++ body_strings ss
+
+  pub arms_strings : Arms → List ℕ
+  arms_strings NoElse = []
+  arms_strings (Else body) = body_strings body
+  arms_strings (Arm labels body rest) = body_strings body ++ arms_strings rest
+
+abbrev pub procedure_strings : Procedure → List ℕ
+procedure_strings p = body_strings p.body
+
+-- those of a module: of its body, and then of its procedures by their numbers
+abbrev pub module_strings : Resolved → List ℕ
+module_strings m = body_strings m.body ++ flat_map procedure_strings m.procedures
+
+-- ---- the words that a body takes: those of the expression stack, and those of its frame
+
+-- how many words of the expression stack the code of a standard function takes, its argument's included
+abbrev pub function_depth : Function → ℕ
+function_depth Odd = 2
+function_depth _ = 1
+
+-- how many words of the expression stack a place and an expression take
+abbrev mutual
+  pub place_depth : Designator → ℕ
+  place_depth (Variable x) = 1
+  place_depth (Held w) = 1
+  place_depth (Field d i) = place_depth d
+  place_depth (Element d k e) = max (place_depth d) (2 + depth e)
+  place_depth (Follow d n) = place_depth d
+
+  pub depth : Expression → ℕ
+  depth (Constant k v) = 1
+  depth (Taken d k) = place_depth d
+  depth (One o k a) = depth a
+  depth (Two o k a b) = max (depth a) (1 + depth b)
+  depth (Short d a b) = max (depth a) (1 + depth b)
+  depth (Apply f a) = max (depth a) (function_depth f)
+  depth (With s k a) = max (depth s) (max 3 (1 + depth a))
+  depth (WithSpan s k a b) = max (depth s) (max (1 + depth a) (2 + depth b))
+
+-- how many words of the frame the FORs and the WITHs in statements take: three each FOR, and one each WITH
+abbrev mutual
+  pub statement_words : Statement → ℕ
+  statement_words (Assign d k e) = 0
+  statement_words (Copy d from) = 0
+  statement_words (Text d cs) = 0
+  statement_words (Change down d k e) = 0
+  statement_words (Member out d k e) = 0
+  statement_words (New d n) = 0
+  statement_words (Allocate back d e) = 0
+  statement_words (Request r given) = 0
+  statement_words (If c a b) = body_words a + body_words b
+  statement_words (Case e arms) = arms_words arms
+  statement_words (While c body) = body_words body
+  statement_words (Repeat body c) = body_words body
+  statement_words (Loop body) = body_words body
+  statement_words Exit = 0
+  statement_words Halt = 0
+  statement_words Return = 0
+  statement_words (Call p n) = 0
+  statement_words (For x k a b step body) = 3 + body_words body
+  statement_words (Inside d body) = 1 + body_words body
+
+  pub body_words : Statements → ℕ
+  body_words Empty = 0
+  body_words (Then s ss) = statement_words s + body_words ss
+
+  pub arms_words : Arms → ℕ
+  arms_words NoElse = 0
+  arms_words (Else body) = body_words body
+  arms_words (Arm labels body rest) = body_words body + arms_words rest
+
+-- the words of a body's frame: its mark, and those of its FORs and WITHs
+abbrev pub frame_words : Statements → ℕ
+frame_words body = 4 + body_words body
 
 -- how many bytes the code of an operator takes
 abbrev pub one_size : OneOp → ℕ

@@ -1,5 +1,5 @@
 ghost use Rattle.std.specs.Prelude.{◌≡◌, min, max};
-ghost use Rattle.lil_resolved.specs.Depth.{depth as depth_of, place_depth as place_depth_of, function_depth as function_depth_of};
+ghost use Rattle.lil_resolved.specs.Sizes.{depth as depth_of, place_depth as place_depth_of, function_depth as function_depth_of};
 ghost use Rattle.lil_resolved.specs.Chains as chain;
 ghost use Rattle.lil_resolved.specs.Kinds.{Kind, OfWhole, compared_as};
 ghost use Rattle.lil_resolved.specs.Resolved.{kind_of, function_kind};

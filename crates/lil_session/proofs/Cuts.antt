@@ -6,8 +6,7 @@ use Rattle.lil_meaning.specs.World.{piece_of}
 use Rattle.lil_meaning.specs.Closings.{all_screen}
 use Rattle.lil_mcode.specs.declared.machine.Event.{Event}
 use Rattle.lil_mcode.specs.declared.machine.Event.TheVariants.{Went, Request, LevelEnded, Trap}
-use Rattle.lil_mcode.specs.State.{State}
-use Rattle.lil_mcode.specs.Table.{mstep}
+use Rattle.lil_mcode.specs.Table.{State, mstep}
 use Rattle.lil_match.specs.Running.{Finish, Running, Finished, Run, react, unless_over, advanced, mrun, arguments, level_of}
 use Rattle.lil_laws.specs.Whole.{mrun_add, run_rests, run_over}
 

@@ -1,5 +1,5 @@
 -- What a command that was done says of its answer and its devices.
-use Rattle.std.proofs.Common.{◌≡◌, ◌≢◌, ◌⊎◌, inl, inr, ℕ, ◌≤◌, true, false, List, [], ◌∷◌, ◌++◌, Option, None, Some, MatchOption, Result, Ok, Err, refl, sym, ◌∙◌, ap, subst, arith}
+use Rattle.std.proofs.Common.{◌≡◌, ◌≢◌, ◌⊎◌, inl, inr, ℕ, ◌≤◌, true, false, List, [], ◌∷◌, ◌++◌, Option, None, Some, Result, Ok, Err, refl, sym, ◌∙◌, ap, subst, arith}
 use Rattle.std.specs.FinMap.{get}
 use Rattle.std.proofs.lemmas.Bool.{both_ways}
 use Rattle.std.proofs.lemmas.List.{append-nil}
@@ -135,12 +135,6 @@ ran_not name steps before files faults s cause same later asked = record {
 
     blamed : (s ≡ a.VolumeFault) ⊎ (s ≡ a.Memory)
     blamed = elim cause [ inl memory ↦ inr memory | inr fault ↦ inl fault.0 ]
-
-pub some_of : {M : Type 0} (P : Type 0) (Q : M → Type 0) (o : Option M) (m : M) → o ≡ Some m → MatchOption o P Q → Q m
-some_of {M} P Q o m is holds = subst (λ (x : Option M). MatchOption x P Q) is holds
-
-pub none_of : {M : Type 0} (P : Type 0) (Q : M → Type 0) (o : Option M) → o ≡ None → MatchOption o P Q → P
-none_of {M} P Q o is holds = subst (λ (x : Option M). MatchOption x P Q) is holds
 
 same_fault : (f g : SourceFault) → a.SourceFault f ≡ a.SourceFault g → f ≡ g
 same_fault f g same = cc

@@ -14,16 +14,14 @@ use Rattle.lil_meaning.specs.World.{World}
 use Rattle.lil_meaning.specs.Items.{Phase, Going, Trapped, Source}
 use Rattle.lil_volume.specs.Told.{followed_by, FollowedByPrefix}
 use Rattle.lil_mcode.specs.declared.machine.Event.{Event}
-use Rattle.lil_mcode.specs.State.{Module, State, module_at}
-use Rattle.lil_mcode.specs.Table.{mstep}
+use Rattle.lil_mcode.specs.Table.{Module, State, module_at, mstep}
 use Rattle.std.specs.Prelude.{slice_get, option_and_then}
 use Rattle.lil_mcode.specs.Calls.{Machine, IsRunning, names_of}
 use Rattle.lil_session.specs.declared.run.Ending.{Ending}
 use Rattle.lil_session.specs.declared.run.Ending.TheVariants as ending
 use Rattle.lil_session.specs.declared.status.Status.{Status}
 use Rattle.lil_session.specs.declared.status.Status.TheVariants as a
-use Rattle.lil_resolved.specs.Sizes.{IsSmall}
-use Rattle.lil_resolved.specs.Strings.{module_strings}
+use Rattle.lil_resolved.specs.Sizes.{IsSmall, module_strings}
 use Rattle.lil_table.specs.Rows.{Translates}
 use Rattle.lil_session.specs.Running.{finish_of, HasRun, IsCut, IsRefused}
 use Rattle.lil_match.specs.Running.{Finish, Running, Finished, TrappedBy, Limited, Broken, Run, mrun, running, react, advanced, unless_over}

@@ -1,5 +1,5 @@
 -- A text has one fault or one meaning, and what it says is carried out.
-use Rattle.std.proofs.Common.{◌≡◌, ◌⊎◌, ℕ, ◌+◌, ◌≤◌, ◌<◌, length, nat_le, min, Bool, true, false, List, [], Option, Some, None, Result, Ok, Err, IfOk, if◌then◌else◌, refl, sym, ap, subst, ◌∙◌, inl, inr, arith}
+use Rattle.std.proofs.Common.{◌≡◌, ◌⊎◌, ℕ, ◌+◌, ◌≤◌, ◌<◌, length, nat_le, min, Bool, true, false, List, Option, Some, None, Result, Ok, Err, IfOk, if◌then◌else◌, refl, sym, ap, subst, ◌∙◌, inl, inr, arith}
 use Rattle.std.proofs.lemmas.Bool.{leb-true, le-leb}
 use Rattle.lil_base.specs.declared.fault.Place.{Place}
 use Rattle.lil_base.specs.declared.fault.SourceFault.{SourceFault}
@@ -7,23 +7,22 @@ use Rattle.lil_base.specs.Faults.{fault, code_too_long}
 use Rattle.lil_text.specs.declared.stop.ReadStop.{ReadStop}
 use Rattle.lil_text.specs.declared.stop.ReadStop.TheVariants.{Fault, Memory}
 use Rattle.lil_resolved.specs.Resolved.{Resolved}
-use Rattle.lil_resolved.specs.Shapes.{all_words}
+use Rattle.lil_resolved.specs.Kinds.{all_words}
 use Rattle.lil_resolved.specs.Sizes.{code_size, IsSmall}
-use Rattle.lil_resolved.specs.Views.{module_of as resolved_of}
 use Rattle.lil_resolved.specs.declared.resolved.RModule.{RModule}
-use Rattle.lil_language.specs.declared.unit.Unit.{Unit as Tree}
 use Rattle.lil_language.specs.Units.{Reads, HasReadFault}
-use Rattle.lil_meaning.specs.World.{World}
 use Rattle.lil_session.specs.declared.status.Status.{Status}
 use Rattle.lil_session.specs.declared.status.Status.TheVariants as a
-use Rattle.lil_report.specs.declared.report.Fault.{Fault as Checked}
 use Rattle.lil_interfaces.specs.Interfaces.{residents}
 use Rattle.lil_check_unit.specs.Units.{module_of, program_fault, told}
 use Rattle.lil_unit.specs.declared.stop.GenStop.{GenStop}
 use Rattle.lil_unit.specs.declared.stop.GenStop.TheVariants as gen
 use Rattle.lil_session.specs.Outcome.{Verdict, Refused, Means, coded, module_says, checked_says, says, HasFault, HasMeaning, ReadsOne, stopped_by, ungenerated_by}
-use Rattle.lil_session.specs.Answered.{Carried, ModuleRan, TextRan}
+use Rattle.lil_session.specs.Answered.{Carried, TextRan}
 use Rattle.lil_session.proofs.Doing.{shows_none, text_memory, text_not, text_ran}
+use Rattle.lil_resolved.specs.Views.{module_of as resolved_of}
+use Rattle.lil_language.specs.declared.unit.Unit.{Unit as Tree}
+use Rattle.lil_report.specs.declared.report.Fault.{Fault as Checked}
 
 same_fault : (f g : SourceFault) → Refused f ≡ Refused g → f ≡ g
 same_fault f g e = cc

@@ -11,9 +11,7 @@ use Rattle.lil_unit.specs.declared.stop.GenStop.{GenStop}
 use Rattle.lil_unit.specs.declared.stop.GenStop.TheVariants as gen
 use Rattle.lil_text.specs.declared.stop.ReadStop.{ReadStop}
 use Rattle.lil_text.specs.declared.stop.ReadStop.TheVariants as why
-use Rattle.lil_language.specs.declared.unit.Unit.{Unit as Tree}
 use Rattle.lil_language.specs.Units.{Reads, HasReadFault}
-use Rattle.lil_report.specs.declared.report.Fault.{Fault as Checked}
 use Rattle.lil_interfaces.specs.Interfaces.{residents}
 use Rattle.lil_check_unit.specs.Units.{module_of, program_fault, told}
 use Rattle.lil_meaning.specs.World.{World}
@@ -24,6 +22,8 @@ use Rattle.lil_volume.specs.Told.{Files, FileIs}
 use Rattle.lil_session.specs.declared.status.Status.{Status}
 use Rattle.lil_session.specs.declared.status.Status.TheVariants as a
 use Rattle.lil_session.specs.Words.{mod_file}
+use Rattle.lil_language.specs.declared.unit.Unit.{Unit as Tree}
+use Rattle.lil_report.specs.declared.report.Fault.{Fault as Checked}
 
 -- the exit status of an answer
 abbrev pub code_of : Status → ℕ

@@ -1,6 +1,8 @@
-ghost use Rattle.std.specs.Prelude.{◌≡◌, ◌≤◌, length, Some, None, false};
+ghost use Rattle.std.specs.Prelude.{◌≡◌, ◌+◌, ◌≤◌, length, Some, None, false};
 ghost use Rattle.lil_resolved.specs.Views.{module_of, IsMeasured};
-ghost use Rattle.lil_resolved.specs.Sizes.{IsSound};
+ghost use Rattle.lil_resolved.specs.Sound.{IsSound};
+ghost use Rattle.lil_resolved.specs.Kinds.{all_words};
+ghost use Rattle.lil_resolved.specs.Sizes.{module_strings};
 ghost use Rattle.lil_session.specs.Words.{mod_file, name_of_word};
 ghost use Rattle.lil_session.specs.Outcome.{devices, stopped_by, ungenerated_by, coded, says};
 ghost use Rattle.lil_session.specs.Answered.{Carried, TextRan, CommandRan, CommandReported, Answered};
@@ -52,7 +54,7 @@ fn run_module<S: Sink>(
 ) -> Status
     requires sound { IsSound (module_of m.now) }
     requires measured { IsMeasured m.now }
-    requires few { m.now.words ≤ 32000 }
+    requires fits { all_words (module_of m.now).variables + length (module_strings (module_of m.now)) ≤ 32000 }
     ensures { Carried (coded name (module_of m.now)) steps (S.written screen.old) (S.faults screen.old) (S.written screen.new) (S.faults screen.new) result }
 {
     match generate(alloc, m) {

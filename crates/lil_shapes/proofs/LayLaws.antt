@@ -4,7 +4,7 @@ use Rattle.std.specs.Option.{option_map}
 use Rattle.std.proofs.lemmas.List.{map_push, map_more}
 use Rattle.std.proofs.lemmas.Option.{same_Some}
 use Rattle.lil_declared.specs.declared.declared.RVar.{RVar}
-use Rattle.lil_resolved.specs.Shapes.{Shape, words, is_there, all_words, offsets_from, shape_by, shape_at}
+use Rattle.lil_resolved.specs.Kinds.{Shape, words, is_there, all_words, offsets_from, shape_by, shape_at}
 use Rattle.lil_resolved.specs.Views.{name_of, offset_of, shape_declared}
 use Rattle.lil_resolved.specs.declared.resolved.RDeclared.{RDeclared}
 use Rattle.lil_shapes.specs.declared.laying.Laid.{Laid}

@@ -1,14 +1,14 @@
 -- Shapes one behind another: their words, one more at the end, and the shapes of records and of all types that are made.
 use Rattle.std.proofs.Common.{◌≡◌, ℕ, zero, suc, ◌+◌, ◌<◌, ◌≤◌, nat_le, List, [], ◌∷◌, ◌++◌, length, map, take, drop, get_or, slice_get, Option, None, Some, inl, inr, refl, sym, ap, subst, ◌∙◌, add-one, arith}
 use Rattle.std.specs.Option.{option_map}
-use Rattle.std.proofs.lemmas.Bool.{cond-true, cond-false, cases_lt}
+use Rattle.std.proofs.lemmas.Bool.{cond-false, cases_lt}
 use Rattle.std.proofs.lemmas.Bool.Decides.{nat_tests}
 use Rattle.std.proofs.lemmas.List.{map-append, map_push}
 use Rattle.std.proofs.lemmas.Option.{same_Some, slice_get_within}
 use Rattle.std.proofs.Math.Seq.{split_at}
 use Rattle.lil_types.specs.Types.{Table}
 use Rattle.lil_types.specs.declared.table.Field.{Field}
-use Rattle.lil_resolved.specs.Shapes.{Shape, words, all_words, offsets_from, shape_by, shape_at, fields_of}
+use Rattle.lil_resolved.specs.Kinds.{Shape, words, all_words, offsets_from, shape_by, shape_at, fields_of}
 use Rattle.lil_resolved.specs.Views.{number_of, shape_with, shapes_behind, shapes_of, AreMeasuredFields, IsMeasuredShape, AreMeasured}
 use Rattle.lil_resolved.specs.declared.shapes.RField.{RField}
 use Rattle.lil_resolved.specs.declared.shapes.RShape.{RShape}
@@ -170,7 +170,5 @@ none_on t n (suc k) h none = elim (cases_lt k n) [
 ]
 
 -- where a type has no shape, a module has none
-pub no_shapes : (t : Table) (n : ℕ) (before : List Shape) → length t ≤ 32000 → n < 16 + length t → shapes_below t n ≡ Some before → None ≡ shape t before n → None ≡ shapes t
-no_shapes t n before few h so_far none =
-    let stopped = none_on t (suc n) (16 + length t) (omega arith) (shapes_stop t n before so_far none) in
-    sym (cond-true (nat_le (length t) 32000) (shapes_below t (16 + length t)) None (grind (arith, nat_tests)) ∙ stopped)
+pub no_shapes : (t : Table) (n : ℕ) (before : List Shape) → n < 16 + length t → shapes_below t n ≡ Some before → None ≡ shape t before n → None ≡ shapes t
+no_shapes t n before h so_far none = sym (none_on t (suc n) (16 + length t) (omega arith) (shapes_stop t n before so_far none))

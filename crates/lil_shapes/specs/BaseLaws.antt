@@ -13,14 +13,11 @@ use Rattle.lil_types.specs.declared.table.TypeEntry.{TypeEntry}
 use Rattle.lil_resolved.specs.declared.resolved.RBase.{RBase}
 use Rattle.lil_resolved.specs.declared.resolved.RBase.TheVariants as b
 use Rattle.lil_resolved.specs.declared.resolved.RKind.{RKind}
-use Rattle.lil_resolved.specs.Kinds.{Pointee, Objects, Workspaces, Kind, OfTruth, OfCharacter, OfSet, OfPointer, is_base}
+use Rattle.lil_resolved.specs.Kinds.{Pointee, Objects, Workspaces, Kind, OfTruth, OfCharacter, OfSet, OfPointer, is_base, within, is_reference, is_literal, scalar_of, ordinal_of}
 use Rattle.lil_resolved.specs.MemberLaws.{word_of_set}
-use Rattle.lil_resolved.specs.Scalars.{within, is_reference, is_literal, scalar_of, ordinal_of}
 use Rattle.lil_resolved.specs.Views.{base_view}
-use Rattle.lil_shapes.specs.declared.members.Members.{Members}
 use Rattle.lil_shapes.specs.Bases.{standard, base_form, base_by, base_at, kind_form, kind_by, kind_over, kind_at}
 use Rattle.lil_shapes.specs.Operators.{has_number}
-use Rattle.lil_shapes.specs.Members.{members_with, bits, members_in, members_by, members_at}
 
 pub if_so : {A : Type 0} (P : A → Type 0) (b : Bool) (o : Option A) → (b ≡ true → IfSome o P) → IfSome (if b then o else None) P
 if_so P true o h = h refl
@@ -95,22 +92,6 @@ pub kind_base : (t : Table) (s : ℕ) (j : RKind) → kind_at t s ≡ Some j →
 kind_base t s j h = subst (λ o. IfSome o (λ j. base_at t (types.base t s) ≡ Some j.base)) h (over_base (base_at t (types.base t s)) (entry t s))
 
 -- ---- sets
--- a type of whose sets the members are known is one of sets
-set_entry : (t : Table) (s : ℕ) (e : Option TypeEntry) (x : Members) → members_by t e ≡ Some x → base_by s e ≡ Some b.Set
-set_entry t s None x h = absurd (none-some x h)
-set_entry t s (Some e) x h = by e.form h
-  where
-    by : (f : TypeForm) → members_in t f ≡ Some x → base_form s f ≡ Some b.Set
-    by (SetOf n) h = refl
-    by _ h = absurd (none-some x h)
-
-pub members_known : (t : Table) (s : ℕ) (x : Members) → members_at t s ≡ Some x → base_at t s ≡ Some b.Set
-members_known t s x h = by (s == bit_set) refl h
-  where
-    by : (is : Bool) → (s == bit_set) ≡ is → (if is then Some (members_with cardinal bits) else members_by t (entry t s)) ≡ Some x → base_at t s ≡ Some b.Set
-    by true is h = ap (base_at t) (same_sort s bit_set is)
-    by false is h = set_entry t s (entry t s) x h
-
 -- ---- numbers
 abbrev IsNumber : Kind → ℤ → Type 0
 IsNumber kind z = (within kind (scalar_of kind z) ≡ true) × (ordinal_of (scalar_of kind z) ≡ z)

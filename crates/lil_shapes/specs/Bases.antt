@@ -1,14 +1,65 @@
--- The generator's kinds of a module's types.
-use Rattle.std.specs.Prelude.{ℕ, ◌==◌, nat_le, Option, Some, None, length, if◌then◌else◌}
-use Rattle.lil_types.specs.Types.{Table, integer, cardinal, boolean, char, bit_set, address, entry, base}
-use Rattle.lil_types.specs.declared.table.Span.{Span}
+-- The kinds of the types of a module, what may be in sets, and the parts of types.
+use Rattle.std.specs.Prelude.{ℕ, Bool, true, false, slice_get, Option, Some, None, ◌==◌, pos, if◌then◌else◌, nat_le, length}
+use Rattle.std.specs.Option.{option_map}
+use Rattle.lil_types.specs.Types.{Table, entry, cardinal, bit_set, base, char, integer, boolean, address}
+use Rattle.lil_types.specs.declared.table.Field.{Field}
 use Rattle.lil_types.specs.declared.table.TypeForm.{TypeForm}
-use Rattle.lil_types.specs.declared.table.TypeForm.TheVariants.{Enumeration, Subrange, SetOf, Pointer}
+use Rattle.lil_types.specs.declared.table.TypeForm.TheVariants.{Array, Record, SetOf, Enumeration, Subrange, Pointer}
 use Rattle.lil_types.specs.declared.table.TypeEntry.{TypeEntry}
-use Rattle.lil_resolved.specs.declared.resolved.RBase.{RBase}
+use Rattle.lil_shapes.specs.declared.composites.ArrayParts.{ArrayParts}
 use Rattle.lil_resolved.specs.declared.resolved.RBase.TheVariants as b
-use Rattle.lil_resolved.specs.declared.resolved.RRange.{RRange}
 use Rattle.lil_resolved.specs.declared.resolved.RKind.{RKind}
+use Rattle.lil_shapes.specs.declared.members.Members.{Members}
+use Rattle.lil_resolved.specs.Kinds.{numbers}
+use Rattle.lil_resolved.specs.Views.{kind_view}
+use Rattle.lil_types.specs.declared.table.Span.{Span}
+use Rattle.lil_resolved.specs.declared.resolved.RBase.{RBase}
+use Rattle.lil_resolved.specs.declared.resolved.RRange.{RRange}
+
+-- ---- the parts of types: the fields of records, and the indexes and elements of arrays
+
+abbrev pub field_sort : Field → ℕ
+field_sort x = x.sort
+
+abbrev pub field_in : ℕ → TypeForm → Option ℕ
+field_in i (Record xs) = option_map field_sort (slice_get xs i)
+field_in i _ = None
+
+abbrev pub field_by : ℕ → Option TypeEntry → Option ℕ
+field_by i None = None
+field_by i (Some e) = field_in i e.form
+
+-- the type of a record's field, by its number
+abbrev pub field_at : Table → ℕ → ℕ → Option ℕ
+field_at t s i = field_by i (entry t s)
+
+abbrev pub array_in : TypeForm → Option ArrayParts
+array_in (Array i e) = Some (record { index = i; element = e })
+array_in _ = None
+
+abbrev pub array_by : Option TypeEntry → Option ArrayParts
+array_by None = None
+array_by (Some e) = array_in e.form
+
+-- the types of an array's indexes and elements
+abbrev pub array_at : Table → ℕ → Option ArrayParts
+array_at t s = array_by (entry t s)
+
+abbrev pub element_sort : ArrayParts → ℕ
+element_sort a = a.element
+
+abbrev pub is_composite : TypeForm → Bool
+is_composite (Array i e) = true
+is_composite (Record xs) = true
+is_composite _ = false
+
+abbrev pub composite_by : Option TypeEntry → Bool
+composite_by None = false
+composite_by (Some e) = is_composite e.form
+
+-- whether a type is an array or a record
+abbrev pub composite_at : Table → ℕ → Bool
+composite_at t s = composite_by (entry t s)
 
 -- ---- base types
 abbrev pub standard : ℕ → Option RBase
@@ -63,3 +114,37 @@ kind_over (Some k) e = kind_by k e
 -- the kind of a type's variables: a base type, or a subrange of one
 abbrev pub kind_at : Table → ℕ → Option RKind
 kind_at t s = kind_over (base_at t (base t s)) (entry t s)
+
+-- ---- arrays of characters: those whose elements are of CHAR itself
+
+abbrev pub numbers_of : RKind → ℕ
+numbers_of k = numbers (kind_view k)
+
+abbrev pub characters_in : Table → Option ArrayParts → Option ℕ
+characters_in t None = None
+characters_in t (Some parts) = if parts.element == char then option_map numbers_of (kind_at t parts.index) else None
+
+-- how many characters an array of a type has, None for any other type
+abbrev pub characters_at : Table → ℕ → Option ℕ
+characters_at t s = characters_in t (array_at t s)
+
+-- ---- what may be in a set: numbers of a kind, and their base type
+
+abbrev pub members_with : ℕ → RKind → Members
+members_with s k = record { kind = k; sort = s }
+
+-- the numbers from 0 to 15 as CARDINALs
+abbrev pub bits : RKind
+bits = record { base = b.Cardinal; range = Some (record { low = pos 0; high = pos 15 }) }
+
+abbrev pub members_in : Table → TypeForm → Option Members
+members_in t (SetOf n) = option_map (members_with (base t n)) (kind_at t n)
+members_in t _ = None
+
+abbrev pub members_by : Table → Option TypeEntry → Option Members
+members_by t None = None
+members_by t (Some e) = members_in t e.form
+
+-- what may be in the sets of a type, None for a type of other values
+abbrev pub members_at : Table → ℕ → Option Members
+members_at t s = if s == bit_set then Some (members_with cardinal bits) else members_by t (entry t s)

@@ -1,14 +1,9 @@
 pub mod BaseLaws
 pub mod Bases
-pub mod Characters
-pub mod Composites
-pub mod LaidLaws
 pub mod ListLaws
 pub mod Measured
-pub mod Members
 pub mod Operators
 pub mod Pointers
-pub mod OperatorLaws
 pub mod ShapeSound
 pub mod Shaping
 pub mod TargetSound

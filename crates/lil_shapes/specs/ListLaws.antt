@@ -1,10 +1,12 @@
 -- Lists of parts: whether all are there, and what they are together.
-use Rattle.std.proofs.Common.{◌≡◌, ℕ, zero, suc, ◌+◌, ◌<◌, ◌≤◌, List, [], ◌∷◌, ◌++◌, length, map, take, drop, get_or, slice_get, Option, None, Some, IfSome, sym, ap, subst, ◌∙◌, refl}
+use Rattle.std.proofs.Common.{◌≡◌, List, Some, None, ◌∙◌, sym, ap, ℕ, zero, suc, ◌+◌, ◌<◌, [], ◌∷◌, ◌++◌, length, map, take, drop, get_or, slice_get, Option, subst, refl}
+use Rattle.lil_shapes.specs.Shaping.{all_some}
 use Rattle.std.specs.Option.{option_map}
-use Rattle.std.proofs.lemmas.List.{take_more, take_all, map-append}
+use Rattle.std.proofs.lemmas.List.{take_more, map-append}
 use Rattle.std.proofs.lemmas.Option.{none-some, same_Some}
 use Rattle.std.proofs.Math.Seq.{split_at}
-use Rattle.lil_shapes.specs.Shaping.{all_some}
+
+-- ---- all variables that lie one behind another, in at most 32,000 words
 
 swapped : {A : Type 0} (o a : A) (found : Option (List A))
     → option_map (λ rest. o ∷ rest) (option_map (λ rest. rest ++ a ∷ []) found) ≡ option_map (λ rest. rest ++ a ∷ []) (option_map (λ rest. o ∷ rest) found)
@@ -57,15 +59,6 @@ module _ {X B : Type 0} (F : X → Option B) where
       ∙ some_push (map F (take i xs)) b
       ∙ ap (option_map (λ rest. rest ++ b ∷ [])) so_far
 
-  pub pushed : {R : Type 0} (V : R → B) (xs : List X) (i : ℕ) (x : X) (r : R) (found new : List R) → i < length xs → x ≡ get_or xs i x → Some (V r) ≡ F x → new ≡ found ++ r ∷ []
-      → all_some (map F (take i xs)) ≡ Some (map V found) → all_some (map F (take (i + 1) xs)) ≡ Some (map V new)
-  pushed V xs i x r found new h is there made so_far =
-      some_more xs i x (V r) (map V found) h is (sym there) so_far ∙ ap Some (sym (ap (map V) made ∙ map-append V found (r ∷ [])))
-
-  pub all_found : {R : Type 0} (V : R → B) (xs : List X) (i : ℕ) (found : List R) → length xs ≤ i → all_some (map F (take i xs)) ≡ Some (map V found)
-      → all_some (map F xs) ≡ Some (map V found)
-  all_found V xs i found h so_far = ap (λ ys. all_some (map F ys)) (sym (take_all i xs h)) ∙ so_far
-
   pub none_at : (xs : List X) (i : ℕ) (x : X) → i < length xs → x ≡ get_or xs i x → F x ≡ None → all_some (map F xs) ≡ None
   none_at xs i x h is gone =
       ap (λ ys. all_some (map F ys)) (split_at xs i x h ∙ ap (λ y. take i xs ++ y ∷ drop (suc i) xs) (sym is))
@@ -96,16 +89,3 @@ module _ {B : Type 0} (IsFine : B → Type 0) where
   abbrev pub AllFine : List B → Type 0
   AllFine [] = Unit {0}
   AllFine (b ∷ bs) = IsFine b × AllFine bs
-
-  abbrev pub AllIf : List (Option B) → Type 0
-  AllIf [] = Unit {0}
-  AllIf (b ∷ bs) = IfSome b IsFine × AllIf bs
-
-  linked_fine : (b : B) (bs : Option (List B)) → IsFine b → IfSome bs AllFine → IfSome (option_map (λ rest. b ∷ rest) bs) AllFine
-  linked_fine b None h j = tt
-  linked_fine b (Some bs) h j = (h, j)
-
-  pub some_fine : (bs : List (Option B)) → AllIf bs → IfSome (all_some bs) AllFine
-  some_fine [] h = tt
-  some_fine (None ∷ bs) h = tt
-  some_fine (Some b ∷ bs) h = linked_fine b (all_some bs) h.0 (some_fine bs h.1)

@@ -4,13 +4,11 @@ use Rattle.lil_types.specs.Types.{Table, entry}
 use Rattle.lil_types.specs.declared.table.TypeForm.{TypeForm}
 use Rattle.lil_types.specs.declared.table.TypeForm.TheVariants as form
 use Rattle.lil_types.specs.declared.table.TypeEntry.{TypeEntry}
-use Rattle.lil_resolved.specs.Kinds.{Objects, Kind, OfPointer}
-use Rattle.lil_resolved.specs.Shapes.{Shape, shape_at}
+use Rattle.lil_resolved.specs.Kinds.{Objects, Kind, OfPointer, Shape, shape_at}
 use Rattle.lil_resolved.specs.Views.{kind_view}
 use Rattle.lil_resolved.specs.declared.resolved.RKind.{RKind}
 use Rattle.lil_shapes.specs.declared.pointers.Target.{Target}
-use Rattle.lil_shapes.specs.Bases.{kind_at}
-use Rattle.lil_shapes.specs.Composites.{composite_at}
+use Rattle.lil_shapes.specs.Bases.{kind_at, composite_at}
 
 abbrev pub pointed_in : TypeForm → Option ℕ
 pointed_in (form.Pointer n) = Some n

@@ -8,14 +8,12 @@ use Rattle.lil_types.specs.declared.table.Field.{Field}
 use Rattle.lil_types.specs.declared.table.TypeForm.{TypeForm}
 use Rattle.lil_types.specs.declared.table.TypeForm.TheVariants.{Array, Record}
 use Rattle.lil_types.specs.declared.table.TypeEntry.{TypeEntry}
-use Rattle.lil_resolved.specs.Kinds.{numbers}
-use Rattle.lil_resolved.specs.Shapes.{Shape, Word, Row, words, is_there, all_words, part_at, fields_of, element_of, count_of}
+use Rattle.lil_resolved.specs.Kinds.{numbers, Shape, Word, Row, words, is_there, all_words, part_at, fields_of, element_of, count_of}
 use Rattle.lil_resolved.specs.Views.{kind_view}
 use Rattle.lil_resolved.specs.declared.resolved.RBase.{RBase}
 use Rattle.lil_resolved.specs.declared.resolved.RKind.{RKind}
 use Rattle.lil_shapes.specs.declared.composites.ArrayParts.{ArrayParts}
-use Rattle.lil_shapes.specs.Bases.{base_at, kind_form, kind_over, kind_at}
-use Rattle.lil_shapes.specs.Composites.{field_sort, field_in, field_by, field_at, array_in, array_by, array_at, is_composite, composite_by, composite_at}
+use Rattle.lil_shapes.specs.Bases.{base_at, kind_form, kind_over, kind_at, field_sort, field_in, field_by, field_at, array_in, array_by, array_at, is_composite, composite_by, composite_at}
 use Rattle.lil_shapes.specs.Shaping.{all_some, within, row, field_shape, shape_in, shape_by, shape, with_next, shapes_below}
 use Rattle.lil_shapes.specs.ListLaws.{some_at}
 

@@ -7,8 +7,7 @@ use Rattle.lil_types.specs.declared.table.TypeForm.{TypeForm}
 use Rattle.lil_types.specs.declared.table.TypeForm.TheVariants.{Array, Record}
 use Rattle.lil_types.specs.declared.table.TypeEntry.{TypeEntry}
 use Rattle.lil_declared.specs.declared.declared.RVar.{RVar}
-use Rattle.lil_resolved.specs.Kinds.{numbers}
-use Rattle.lil_resolved.specs.Shapes.{Shape, Absent, Word, Row, words, is_there, all_words, fields_of}
+use Rattle.lil_resolved.specs.Kinds.{numbers, Shape, Absent, Word, Row, words, is_there, all_words, fields_of}
 use Rattle.lil_resolved.specs.Views.{kind_view}
 use Rattle.lil_resolved.specs.declared.resolved.RKind.{RKind}
 use Rattle.lil_shapes.specs.Bases.{kind_at}
@@ -63,9 +62,9 @@ unfoldable pub shapes_below : Table → ℕ → Option (List Shape)
 shapes_below t zero = Some []
 shapes_below t (suc n) = with_next t n (shapes_below t n)
 
--- a module has at most 32,000 types of its own, from number 16 on
+-- a module has its own types from number 16 on
 abbrev pub shapes : Table → Option (List Shape)
-shapes t = if nat_le (length t) 32000 then shapes_below t (16 + length t) else None
+shapes t = shapes_below t (16 + length t)
 
 -- ---- variables
 abbrev pub there : Option Shape → Option Shape

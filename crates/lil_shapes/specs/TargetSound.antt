@@ -1,6 +1,6 @@
 -- What pointers point to lies there, by the shapes of all types.
 use Rattle.std.proofs.Common.{◌≡◌, ℕ, zero, suc, ◌+◌, ◌<◌, ◌≤◌, Bool, true, false, List, [], ◌∷◌, ◌++◌, length, get_or, slice_get, Option, None, Some, IfSome, if◌then◌else◌, inl, inr, refl, sym, ap, ◌∙◌, add-one, arith, true≢false}
-use Rattle.std.specs.Prelude.{◌-◌, ◌||◌, nat_lt, nat_le, is_some}
+use Rattle.std.specs.Prelude.{◌-◌, ◌||◌, nat_lt, is_some}
 use Rattle.std.specs.Option.{option_map}
 use Rattle.std.proofs.lemmas.Bool.{cases_lt}
 use Rattle.std.proofs.lemmas.Bool.Decides.{nat_tests}
@@ -9,16 +9,14 @@ use Rattle.std.proofs.lemmas.Option.{none-some, slice_get_within, slice_get-get_
 use Rattle.lil_types.specs.Types.{Table, entry, meant_by, facts_in, known}
 use Rattle.lil_types.specs.Types as types
 use Rattle.lil_types.specs.declared.table.TypeEntry.{TypeEntry}
-use Rattle.lil_resolved.specs.Kinds.{Objects, Kind, OfPointer}
-use Rattle.lil_resolved.specs.Shapes.{Shape, Absent, Word, is_there, shape_by, shape_at}
+use Rattle.lil_resolved.specs.Kinds.{Objects, Kind, OfPointer, Shape, Absent, Word, is_there, shape_by, shape_at}
 use Rattle.lil_resolved.specs.Views.{kind_view}
 use Rattle.lil_resolved.specs.declared.resolved.RKind.{RKind}
 use Rattle.lil_shapes.specs.declared.pointers.Target.{Target}
-use Rattle.lil_shapes.specs.Bases.{standard, base_by, base_at, kind_over, kind_at}
-use Rattle.lil_shapes.specs.BaseLaws.{if_true, if_some}
-use Rattle.lil_shapes.specs.Composites.{composite_by, composite_at}
+use Rattle.lil_shapes.specs.Bases.{standard, base_by, base_at, kind_over, kind_at, composite_by, composite_at}
+use Rattle.lil_shapes.specs.BaseLaws.{if_true}
 use Rattle.lil_shapes.specs.Pointers.{pointed_by, pointed, number_or, targets_below, targets, lies_at, target_with, target_of, target_by, target_at}
-use Rattle.lil_shapes.specs.Shaping.{shapes_below, shapes}
+use Rattle.lil_shapes.specs.Shaping.{shapes}
 use Rattle.lil_shapes.specs.ShapeSound.{HasShape, AllShaped, earlier, all_shaped, composite_shaped, word_shaped}
 
 -- ---- numbers of a table
@@ -85,7 +83,7 @@ target_below t (suc k) n h = elim (cases_lt n k) [
 
 -- ---- shapes
 pub all_known : (t : Table) (ts : List Shape) → shapes t ≡ Some ts → AllShaped t (16 + length t) ts
-all_known t ts h = all_shaped t (16 + length t) ts (if_some (nat_le (length t) 32000) (shapes_below t (16 + length t)) ts h).1
+all_known t ts h = all_shaped t (16 + length t) ts h
 
 -- a pointer to objects of a type
 pub record PointsTo (t : Table) (ts : List Shape) (s : Shape) (x : Target) : Type 0 where

@@ -44,7 +44,7 @@ fn base_form(sort: TypeId, form: &TypeForm) -> Option<RBase>
     match form {
         TypeForm::Enumeration(constants) => enumerated(constants.len()),
         TypeForm::SetOf(_) => Some(RBase::Set),
-        TypeForm::Pointer(_) => Some(RBase::Pointer(usize::from(sort))),
+        TypeForm::Pointer(_) => Some(RBase::Pointer(sort as usize)),
         _ => None,
     }
 }

@@ -1,5 +1,5 @@
 ghost use Rattle.std.specs.Prelude.{◌≡◌, Some};
-ghost use Rattle.lil_shapes.specs.Characters as spec;
+ghost use Rattle.lil_shapes.specs.Bases as spec;
 
 use crate::bases::kind_at;
 use crate::composites::{ArrayParts, array_at};

@@ -1,6 +1,6 @@
 ghost use Rattle.std.specs.Prelude.{◌≡◌};
 ghost use Rattle.std.specs.Option.{option_map};
-ghost use Rattle.lil_shapes.specs.Composites as spec;
+ghost use Rattle.lil_shapes.specs.Bases as spec;
 
 use lil_types::{TypeForm, TypeId, TypeTable, entry};
 

@@ -34,7 +34,7 @@ pub fn lay(alloc: Global, types: &Shaped, of: &[RVar]) -> Result<Option<Laid>, M
         variables.push(RDeclared {
             name,
             offset: words,
-            shape: usize::from(one.sort),
+            shape: one.sort as usize,
         })?;
         words = next;
     }

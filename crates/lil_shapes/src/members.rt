@@ -3,8 +3,7 @@ ghost use Rattle.std.specs.Option.{option_map};
 ghost use Rattle.lil_types.specs.Types as types;
 ghost use Rattle.lil_resolved.specs.Sound as sound;
 ghost use Rattle.lil_resolved.specs.Views.{kind_view};
-ghost use Rattle.lil_shapes.specs.Bases as bases;
-ghost use Rattle.lil_shapes.specs.Members as spec;
+ghost use Rattle.lil_shapes.specs.Bases as spec;
 
 use crate::bases::kind_at;
 use crate::shapes::{greatest_of, least_of};
@@ -32,7 +31,7 @@ fn bits() -> Members
 }
 
 fn members_of(t: &TypeTable, sort: TypeId) -> Option<Members>
-    ensures { result ≡ option_map (spec.members_with (types.base t.now sort)) (bases.kind_at t.now sort) }
+    ensures { result ≡ option_map (spec.members_with (types.base t.now sort)) (spec.kind_at t.now sort) }
 {
     match kind_at(t, sort) {
         None => None,

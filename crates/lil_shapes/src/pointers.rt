@@ -96,7 +96,7 @@ fn target_number(t: &TypeTable, number: usize) -> usize
 {
     match pointed(t, number) {
         None => number,
-        Some(target) => usize::from(target),
+        Some(target) => target as usize,
     }
 }
 

@@ -1,7 +1,7 @@
 ghost use Rattle.std.specs.Prelude.{◌≡◌, ◌≤◌, ◌≤ℤ◌, ◌++◌, [], ◌∷◌, map, pos, negsuc, slice_get, IfOk, IfSome, None};
 ghost use Rattle.std.specs.Option.{option_map};
 ghost use Rattle.lil_resolved.specs.Kinds as kinds;
-ghost use Rattle.lil_resolved.specs.Shapes.{words as words_of, fields_of};
+ghost use Rattle.lil_resolved.specs.Kinds.{words as words_of, fields_of};
 ghost use Rattle.lil_resolved.specs.Views.{kind_view};
 ghost use Rattle.lil_shapes.specs.Measured as measured;
 ghost use Rattle.lil_shapes.specs.Measured.{IsShaped, IsMade};
@@ -87,7 +87,7 @@ fn words_at(before: &Shaped, sort: TypeId) -> Option<u16>
     requires { IsShaped before.now }
     ensures { result ≡ option_map words_of (slice_get (measured.shapes_in before.now) sort) }
 {
-    match before.sizes.get(usize::from(sort)) {
+    match before.sizes.get(sort as usize) {
         None => None,
         Some(size) => Some(words_by(*size)),
     }
@@ -98,7 +98,7 @@ pub(crate) fn size_at(types: &Shaped, sort: TypeId) -> Option<u16>
     requires { IsShaped types.now }
     ensures { result ≡ option_map words_of (spec.there (slice_get (measured.shapes_in types.now) sort)) }
 {
-    match types.sizes.get(usize::from(sort)) {
+    match types.sizes.get(sort as usize) {
         None => None,
         Some(size) => *size,
     }
@@ -137,7 +137,7 @@ fn row(before: &Shaped, kind: Option<RKind>, element: TypeId) -> Option<Made>
         shape: RShape::Elements(RElements {
             count,
             words,
-            shape: usize::from(element),
+            shape: element as usize,
         }),
         size: Some(all as u16),
     })
@@ -160,7 +160,7 @@ fn fields(alloc: Global, before: &Shaped, of: &[Field]) -> Result<Option<Made>, 
         };
         found.push(RField {
             offset,
-            shape: usize::from(field.sort),
+            shape: field.sort as usize,
         })?;
         offset = next;
     }
@@ -240,15 +240,12 @@ fn added(before: Shaped, made: Made) -> Result<Shaped, Memory>
     Ok(Shaped { shapes, sizes })
 }
 
-/// The shapes of a module's types. None where one has none, as where it has more than 32,000 words, and where the table has
-/// more than 32,000 types. Memory where there is no room for them.
+/// The shapes of a module's types. None where one has none, as where it has more than 32,000 words. Memory where there is no
+/// room for them.
 pub fn all_shapes(alloc: Global, t: &TypeTable) -> Result<Option<Shaped>, Memory>
     ensures means { IfOk result (λ o. option_map measured.shapes_in o ≡ spec.shapes t.now) }
     ensures shaped { IfOk result (λ o. IfSome o IsShaped) }
 {
-    if t.len() > 32_000 {
-        return Ok(None);
-    }
     let end = 16 + t.len() as TypeId;
     let mut so_far = Shaped {
         shapes: Items::new(alloc),

@@ -7,9 +7,8 @@ use Rattle.lil_resolved.specs.declared.resolved.RStmt.TheVariants as s
 use Rattle.lil_resolved.specs.declared.resolved.RGuard.{RGuard}
 use Rattle.lil_resolved.specs.declared.resolved.RArm.{RArm}
 use Rattle.lil_resolved.specs.Resolved.{Statements, Empty, Then}
-use Rattle.lil_resolved.specs.Views.{joined, statement_of, statements_of, guards_of, else_of, arms_of}
-use Rattle.lil_resolved.specs.Depth.{body_words, arms_words}
-use Rattle.lil_resolved.specs.Forms.{if_is, case_is, guard_is, arm_is}
+use Rattle.lil_resolved.specs.Views.{joined, statement_of, statements_of, guards_of, else_of, arms_of, if_is, case_is, guard_is, arm_is}
+use Rattle.lil_resolved.specs.Sizes.{body_words, arms_words}
 
 -- what is left of a list from an item on
 pub left_from : {X : Type 0} (xs : List X) (i : ℕ) (x : X) → i < length xs → x ≡ get_or xs i x → drop i xs ≡ x ∷ drop (i + 1) xs

@@ -5,5 +5,4 @@ pub mod Placing
 pub mod Starting
 pub mod Stating
 pub mod Words
-pub mod Arms
 pub mod Texts

@@ -2,8 +2,7 @@
 use Rattle.std.proofs.Common.{◌≡◌, ℕ, ◌≤◌, Bool, List, [], ◌∷◌, ◌++◌, length, Option, refl, sym, ap, ◌∙◌, subst, arith}
 use Rattle.std.specs.Prelude.{slice_get}
 use Rattle.lil_base.specs.Words.{Cardinal}
-use Rattle.lil_resolved.specs.Kinds.{Kind, OfWhole}
-use Rattle.lil_resolved.specs.Shapes.{words, is_there, shape_at}
+use Rattle.lil_resolved.specs.Kinds.{Kind, OfWhole, words, is_there, shape_at}
 use Rattle.lil_resolved.specs.Resolved.{Designator, Expression, Assign, Copy, Change, Member, New, Allocate, counted_as}
 use Rattle.lil_resolved.specs.Views.{AreMeasured, shapes_of}
 use Rattle.lil_asm.specs.declared.instr.Instr.{Instr}
@@ -49,7 +48,7 @@ pub assign_emitted : (d : Designator) (k : Kind) (e : Expression) (target : Acce
     → Emits c0 c3 (Stated n exit (Assign d k e))
 assign_emitted d k e target n exit c0 c1 c2 c3 place value store =
     emits_as c0 c3 _ (Stated n exit (Assign d k e))
-    (λ x t sound room.
+    (λ x t many taken sound room.
     let at = t.0 k sound.0 in
     let ready = readied (access_of x.layout d) in
     record {
@@ -92,7 +91,7 @@ pub copy_emitted : (d from : Designator) (m k w n : ℕ) (exit : Option ℕ) (c0
     → Emits c2 c3 (Doing (λ word. Mov w)) → Emits c0 c3 (Stated n exit (Copy d from))
 copy_emitted d from m k w n exit c0 c1 c2 c3 sized place source move =
     emits_as c0 c3 _ (Stated n exit (Copy d from))
-    (λ x t sound room.
+    (λ x t many taken sound room.
     let at = t.0 sound.place sound.there in
     let other = t.1.0 sound.source (ap is_there sound.same ∙ sound.there) in
     record {
@@ -117,7 +116,7 @@ pub member_emitted : (out : Bool) (d : Designator) (k : Kind) (e : Expression) (
     → Emits c2 c3 (Doing (λ w. i)) → Emits c0 c3 (Stated n exit (Member out d k e))
 member_emitted out d k e i m n exit c0 c1 c2 c3 is place value by =
     emits_as c0 c3 _ (Stated n exit (Member out d k e))
-    (λ x t sound room.
+    (λ x t many taken sound room.
     let set = sound.0 in
     let at = t.0 set.place (ap is_there set.scalar.shape) in
     record {
@@ -140,7 +139,7 @@ pub new_emitted : (d : Designator) (i m w n : ℕ) (exit : Option ℕ) (c0 c1 c2
     → Emits c1 c2 (DoingAll (Liw w ∷ Alc ∷ [])) → Emits c0 c2 (Stated n exit (New d i))
 new_emitted d i m w n exit c0 c1 c2 sized place take =
     emits_as c0 c2 _ (Stated n exit (New d i))
-    (λ x t sound room.
+    (λ x t many taken sound room.
     let at = t.0 sound.place (ap is_there sound.shape) in
     let measured = subst (λ (ts : Tables). AreMeasured [] ts.shapes) t.1.1 x.described.measured in
     let tabled = sized measured ∙ ap (λ (ts : Tables). words (shape_at (shapes_of ts.shapes) (target_by (slice_get ts.targets i)))) (sym t.1.1) in
@@ -162,7 +161,7 @@ pub allocate_emitted : (back : Bool) (d : Designator) (e : Expression) (m n : �
     → Emits c2 c3 (DoingAll (allocate_code back)) → Emits c0 c3 (Stated n exit (Allocate back d e))
 allocate_emitted back d e m n exit c0 c1 c2 c3 place value by =
     emits_as c0 c3 _ (Stated n exit (Allocate back d e))
-    (λ x t sound room.
+    (λ x t many taken sound room.
     let target = sound.0 in
     let at = t.0 target.place (ap is_there target.scalar.shape) in
     record {
@@ -190,7 +189,7 @@ pub change_emitted : (down : Bool) (d : Designator) (k j : Kind) (e : Expression
     → Emits c5 c6 (DoingAll (test_code k j)) → Emits c6 c7 (Doing (λ w. store_code target)) → Emits c0 c7 (Stated n exit (Change down d k e))
 change_emitted down d k j e i target n exit c0 c1 c2 c3 c4 c5 c6 c7 computes typed place again value under compute test store =
     emits_as c0 c7 _ (Stated n exit (Change down d k e))
-    (λ x t sound room.
+    (λ x t many taken sound room.
     let at = t.0 k sound.0 in
     let ready = readied (access_of x.layout d) in
     let whole_is = whole_code (change_operator down) (counted_as k) in

@@ -1,18 +1,16 @@
 -- The code of values with their tests, of arguments, of requests and of EXIT.
-use Rattle.std.proofs.Common.{◌≡◌, ℕ, ◌+◌, ◌<◌, ◌≤◌, Bool, ◌||◌, List, [], ◌∷◌, ◌++◌, length, map, drop, get_or, Option, Some, refl, sym, ap, ◌∙◌, subst, arith, append-nil}
-use Rattle.std.specs.Option.{option_map}
+use Rattle.std.proofs.Common.{◌≡◌, ℕ, ◌+◌, ◌<◌, ◌≤◌, Bool, ◌||◌, List, [], ◌∷◌, ◌++◌, length, map, drop, get_or, Option, refl, sym, ap, ◌∙◌, subst, arith, append-nil}
 use Rattle.std.proofs.lemmas.List.{drop_all}
 use Rattle.lil_resolved.specs.declared.resolved.RArgument.{RArgument}
 use Rattle.lil_base.specs.Requests.{request_number}
 use Rattle.lil_base.specs.declared.request.Request as request
 use Rattle.lil_base.specs.declared.request.Request.TheVariants as q
-use Rattle.lil_resolved.specs.Kinds.{Kind, same_pointer}
-use Rattle.lil_resolved.specs.Shapes.{Scope}
-use Rattle.lil_resolved.specs.Resolved.{Expression, Argument, ByValue, OfArray, OfText, Request, Exit, kind_of}
+use Rattle.lil_resolved.specs.Kinds.{Kind, same_pointer, Scope}
+use Rattle.lil_resolved.specs.Resolved.{Expression, Argument, ByValue, OfArray, OfText, Request, kind_of}
 use Rattle.lil_resolved.specs.Views.{argument_of}
 use Rattle.lil_resolved.specs.Sound.{IsSoundWhole, IsSoundValue, IsSoundStored, Parameter, Single, Characters, parameter_of, request_parameters}
-use Rattle.lil_resolved.specs.Strings.{arguments_strings}
-use Rattle.lil_asm.specs.declared.instr.Instr.TheVariants.{Jmp, Svc}
+use Rattle.lil_resolved.specs.Sizes.{arguments_strings}
+use Rattle.lil_asm.specs.declared.instr.Instr.TheVariants.{Svc}
 use Rattle.lil_asm.specs.Requests.{request_words}
 use Rattle.lil_table.specs.Rows.{InstrsAt, WholeRow, argument_words, arguments_words, test_code}
 use Rattle.lil_labels.specs.Drafts.{Draft, Final, Meaning, Adds, Emits, Doing, DoingAll}
@@ -100,9 +98,7 @@ request_emitted r number given n exit a b c is arguments by =
     let called = subst (λ (number : ℕ). Emits b c (Doing (λ w. Svc number))) is by in
     adds_as a c _ (append-nil (arguments_strings given))
     (emits_as a c _ (Stated n exit (Request r given))
-    (λ x t sound room. let known = request_known r given sound.0 in record { middle = length b.bytes; takes = sound.0; words = known.0; arguments = t.0 sound.1 (omega (arith, known.1)); by = t.1 })
+    (λ x t many taken sound room. let known = request_known r given sound.0 in record { middle = length b.bytes; takes = sound.0; words = known.0; arguments = t.0 sound.1 (omega (arith, known.1)); by = t.1 })
     (emits_then a b c _ _ arguments called))
 
 -- ---- EXIT
-pub exit_emitted : (n to : ℕ) (exit : Option ℕ) (a b : Draft) → exit ≡ Some to → Emits a b (Doing (λ w. Jmp (w to))) → Emits a b (Stated n exit Exit)
-exit_emitted n to exit a b known = emits_as a b _ (Stated n exit Exit) (λ x jump sound room. record { to = x.word to; known = ap (option_map x.word) known; jump = jump })

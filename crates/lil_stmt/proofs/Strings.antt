@@ -9,9 +9,8 @@ use Rattle.lil_resolved.specs.declared.resolved.RStmt.{RStmt}
 use Rattle.lil_resolved.specs.declared.resolved.RGuard.{RGuard}
 use Rattle.lil_resolved.specs.declared.resolved.RArm.{RArm}
 use Rattle.lil_resolved.specs.Resolved.{Statements, Empty, Then}
-use Rattle.lil_resolved.specs.Views.{joined, argument_of, statement_of, statements_of, guards_of, else_of, arms_of}
-use Rattle.lil_resolved.specs.Strings.{argument_strings, arguments_strings, statement_strings, body_strings, arms_strings}
-use Rattle.lil_resolved.specs.Forms.{guard_is, arm_is}
+use Rattle.lil_resolved.specs.Views.{joined, argument_of, statement_of, statements_of, guards_of, else_of, arms_of, guard_is, arm_is}
+use Rattle.lil_resolved.specs.Sizes.{argument_strings, arguments_strings, statement_strings, body_strings, arms_strings}
 use Rattle.lil_stmt.proofs.Counting.{take_next}
 
 -- ---- the strings of an item of a list

@@ -1,22 +1,20 @@
 -- The code of strings, and of arguments.
-use Rattle.std.proofs.Common.{◌≡◌, ℕ, ◌-◌, min, List, [], ◌∷◌, length, map, Option, Some, None, refl, sym, ap, ◌∙◌, subst, arith, append-nil}
+use Rattle.std.proofs.Common.{◌≡◌, ℕ, ◌-◌, ◌%◌, min, List, [], ◌∷◌, length, map, Option, Some, None, refl, sym, ap, ◌∙◌, subst, arith, append-nil}
 use Rattle.std.specs.Prelude.{slice_get}
 use Rattle.lil_resolved.specs.declared.shapes.RShape.{RShape}
 use Rattle.lil_resolved.specs.declared.shapes.RShape.TheVariants as r
-use Rattle.lil_resolved.specs.Kinds.{Kind, OfCharacter}
-use Rattle.lil_resolved.specs.Shapes.{Shape, Absent, Word, Row, words, is_there, shape_at, fields_of, count_of}
-use Rattle.lil_resolved.specs.Resolved.{Designator, Expression, ByValue, OfArray, OfText, Text}
+use Rattle.lil_resolved.specs.Kinds.{OfCharacter, Shape, Absent, Word, Row, words, is_there, shape_at, fields_of, count_of}
+use Rattle.lil_resolved.specs.Resolved.{Designator, OfText, Text}
 use Rattle.lil_resolved.specs.Views.{number_of, shape_with, shapes_of, AreMeasured}
-use Rattle.lil_resolved.specs.Strings.{words_of}
+use Rattle.lil_resolved.specs.Sizes.{words_of}
 use Rattle.lil_asm.specs.declared.instr.Instr.{Instr}
 use Rattle.lil_asm.specs.declared.instr.Instr.TheVariants.{Lag, Liw, Mvz}
 use Rattle.lil_table.specs.Rows.{IsAt, text_words}
 use Rattle.lil_labels.specs.Entries.{entry, absent, small_at}
 use Rattle.lil_labels.specs.Tables.{Tables, elements_in, elements_by}
-use Rattle.lil_labels.specs.Drafts.{Draft, Final, Adds, Emits, Saying, Doing, DoingAll}
+use Rattle.lil_labels.specs.Drafts.{Draft, Final, Adds, Emits, Saying, DoingAll}
 use Rattle.lil_labels.specs.Emitting.{emits_then, emits_as, adds_as, emits_tied}
-use Rattle.lil_stmt.specs.Generating.{Stored, Addressed, Argued, Stated}
-use Rattle.lil_stmt.proofs.Storing.{stored}
+use Rattle.lil_stmt.specs.Generating.{Addressed, Argued, Stated}
 
 -- ---- arrays of the tables
 no_row : (ss : List Shape) (n : ℕ) (u : Shape) → fields_of ss ≡ Row n u → ⊥
@@ -37,14 +35,16 @@ counted ts m n u h e = by (slice_get ts m) refl
     by (Some t) is = let found = entry ts m t h is in counted_entry found.early t n u (sym found.is ∙ e)
 
 -- ---- strings that go to arrays
-text_at : (d : Designator) (cs : List ℕ) (m offset characters zeros n : ℕ) (exit : Option ℕ) (x : Final) (p start behind last q end : ℕ) → characters ≡ length cs → zeros ≡ min ((elements_by (slice_get x.tables.shapes m)).count - characters) 65535
+text_at : (d : Designator) (cs : List ℕ) (m offset characters zeros n : ℕ) (exit : Option ℕ) (x : Final) (p start behind last q end : ℕ) → characters ≡ length cs % 65536 → zeros ≡ min ((elements_by (slice_get x.tables.shapes m)).count - characters) 65535
     → Addressed d m x p start → Saying cs offset x start behind → IsAt x.code behind (Lag offset) last → IsAt x.code last (Mvz characters zeros) end → end ≡ q → Stated n exit (Text d cs) x p q
-text_at d cs m offset characters zeros n exit x p start behind last q end long filled address text source move ends sound room =
+text_at d cs m offset characters zeros n exit x p start behind last q end long filled address text source move ends many taken sound room =
     let at = address sound.place (ap is_there sound.shape) in
     let rows = at.shape ∙ sound.shape in
     let count = counted x.tables.shapes m sound.count (Word OfCharacter) x.described.measured rows in
     let small = small_at x.tables.shapes m x.described.measured in
-    let left : zeros ≡ sound.count - length cs = omega (arith, filled, count, long, small, ap words rows) in
+    let lies = text.1 sound.text in
+    let short : characters ≡ length cs = omega (arith, long, lies.inside, x.room) in
+    let left : zeros ≡ sound.count - length cs = omega (arith, filled, count, short, small, ap words rows) in
     record {
       found = at.found;
       start = start;
@@ -54,15 +54,15 @@ text_at d cs m offset characters zeros n exit x p start behind last q end long f
       rows = sound.shape;
       fits = sound.fits;
       shallow = omega (arith, sound.shallow);
-      text = text.1 sound.text;
+      text = lies;
       here = at.place;
       address = at.address;
       source = subst (λ (p : ℕ). IsAt x.code p (Lag offset) last) (sym text.0) source;
       by = subst (λ (q : ℕ). IsAt x.code last (Mvz (length cs) (sound.count - length cs)) q) ends
-          (subst (λ (i : Instr). IsAt x.code last i end) (ap (λ (n : ℕ). Mvz n zeros) long ∙ ap (Mvz (length cs)) left) move);
+          (subst (λ (i : Instr). IsAt x.code last i end) (ap (λ (n : ℕ). Mvz n zeros) short ∙ ap (Mvz (length cs)) left) move);
     }
 
-pub text_emitted : (d : Designator) (cs : List ℕ) (m offset characters zeros n : ℕ) (exit : Option ℕ) (c0 c1 c2 c3 : Draft) → characters ≡ length cs → zeros ≡ min ((elements_by (slice_get c2.tables.shapes m)).count - characters) 65535
+pub text_emitted : (d : Designator) (cs : List ℕ) (m offset characters zeros n : ℕ) (exit : Option ℕ) (c0 c1 c2 c3 : Draft) → characters ≡ length cs % 65536 → zeros ≡ min ((elements_by (slice_get c2.tables.shapes m)).count - characters) 65535
     → Emits c0 c1 (Addressed d m) → Adds (words_of cs) c1 c2 (Saying cs offset) → Emits c2 c3 (DoingAll (Lag offset ∷ Mvz characters zeros ∷ [])) → Adds (words_of cs) c0 c3 (Stated n exit (Text d cs))
 text_emitted d cs m offset characters zeros n exit c0 c1 c2 c3 long filled place text move =
     adds_as c0 c3 _ (append-nil (words_of cs))
@@ -74,38 +74,21 @@ text_emitted d cs m offset characters zeros n exit c0 c1 c2 c3 long filled place
     (emits_then c0 c1 c3 _ _ place (emits_then c1 c2 c3 _ _ text (emits_tied c2 c3 _ move))))
 
 -- ---- arguments
-pub value_argued : (k : Kind) (e : Expression) (a b : Draft) → Emits a b (Stored e k) → Emits a b (Argued (ByValue k e))
-value_argued k e a b = emits_as a b _ (Argued (ByValue k e)) (λ x t n sound low. (sound.takes, t n (stored x.layout.scope e k sound) (omega (arith, low))))
-
-pub array_argued : (d : Designator) (m high : ℕ) (a b c : Draft) → Emits a b (Addressed d m) → Emits b c (Doing (λ w. Liw high)) → Emits a c (Argued (OfArray d high))
-array_argued d m high a b c place by =
-    emits_as a c _ (Argued (OfArray d high))
-    (λ x t n sound low.
-    let at = t.0 sound.place (ap is_there sound.shape) in
-    record {
-      found = at.found;
-      start = length b.bytes;
-      rows = sound.shape;
-      shallow = omega (arith, sound.shallow, low);
-      room = omega (arith, low);
-      here = at.place;
-      address = at.address;
-      by = t.1;
-    })
-    (emits_then a b c _ _ place by)
-
-string_at : (cs : List ℕ) (offset high : ℕ) (x : Final) (p start middle last q : ℕ) → high ≡ text_words cs - 1 → Saying cs offset x p start → IsAt x.code start (Lag offset) middle → IsAt x.code middle (Liw high) last → last ≡ q
+string_at : (cs : List ℕ) (offset high : ℕ) (x : Final) (p start middle last q : ℕ) → high ≡ (text_words cs - 1) % 65536 → Saying cs offset x p start → IsAt x.code start (Lag offset) middle → IsAt x.code middle (Liw high) last → last ≡ q
     → Argued (OfText cs) x p q
-string_at cs offset high x p start middle last q is text address by ends = λ n sound low. record {
-  offset = offset;
-  start = middle;
-  room = omega (arith, low);
-  text = text.1 sound;
-  address = subst (λ (p : ℕ). IsAt x.code p (Lag offset) middle) (sym text.0) address;
-  by = subst (λ (q : ℕ). IsAt x.code middle (Liw (text_words cs - 1)) q) ends (subst (λ (w : ℕ). IsAt x.code middle (Liw w) last) is by);
-}
+string_at cs offset high x p start middle last q is text address by ends n sound low =
+    let lies = text.1 sound in
+    let last_is : high ≡ text_words cs - 1 = omega (arith, is, lies.inside, x.room) in
+    record {
+      offset = offset;
+      start = middle;
+      room = omega (arith, low);
+      text = lies;
+      address = subst (λ (p : ℕ). IsAt x.code p (Lag offset) middle) (sym text.0) address;
+      by = subst (λ (q : ℕ). IsAt x.code middle (Liw (text_words cs - 1)) q) ends (subst (λ (w : ℕ). IsAt x.code middle (Liw w) last) last_is by);
+    }
 
-pub text_argued : (cs : List ℕ) (offset high : ℕ) (a b c : Draft) → high ≡ length cs - 1 → Adds (words_of cs) a b (Saying cs offset) → Emits b c (DoingAll (Lag offset ∷ Liw high ∷ [])) → Adds (words_of cs) a c (Argued (OfText cs))
+pub text_argued : (cs : List ℕ) (offset high : ℕ) (a b c : Draft) → high ≡ (length cs - 1) % 65536 → Adds (words_of cs) a b (Saying cs offset) → Emits b c (DoingAll (Lag offset ∷ Liw high ∷ [])) → Adds (words_of cs) a c (Argued (OfText cs))
 text_argued cs offset high a b c is text by =
     adds_as a c _ (append-nil (words_of cs))
     (emits_as a c _ (Argued (OfText cs))

@@ -1,16 +1,15 @@
 -- What the code means that the generator of statements adds.
-use Rattle.std.specs.Prelude.{◌≡◌, ℕ, ◌+◌, ◌≤◌, pos, negsuc, ◌≤ℤ◌, Bool, true, List, [], ◌∷◌, length, map, Option, Some, None}
+use Rattle.std.specs.Prelude.{◌≡◌, ℕ, ◌+◌, ◌%◌, ◌≤◌, pos, negsuc, ◌≤ℤ◌, Bool, true, List, [], ◌∷◌, length, map, Option, Some, None}
 use Rattle.std.specs.Option.{is_some, option_map}
 use Rattle.lil_base.specs.Words.{word_of}
 use Rattle.lil_resolved.specs.declared.resolved.RStmt.{RStmt}
 use Rattle.lil_resolved.specs.declared.resolved.RGuard.{RGuard}
 use Rattle.lil_resolved.specs.declared.resolved.RArm.{RArm}
 use Rattle.lil_resolved.specs.declared.resolved.RLabel.{RLabel}
-use Rattle.lil_resolved.specs.Kinds.{Kind}
-use Rattle.lil_resolved.specs.Shapes.{is_there, shape_at}
+use Rattle.lil_resolved.specs.Kinds.{Kind, is_there, shape_at}
 use Rattle.lil_resolved.specs.Resolved.{Designator, Expression, Argument, Label, Statement, Statements, shape_of}
 use Rattle.lil_resolved.specs.Views.{guarded, guard_of, statements_of, label_of, shapes_of}
-use Rattle.lil_resolved.specs.Depth.{statement_words, body_words}
+use Rattle.lil_resolved.specs.Sizes.{statement_words, body_words}
 use Rattle.lil_resolved.specs.Sound.{IsSoundPlace, IsSoundTarget, IsSoundStored, IsSoundArgument, AreSoundArguments, IsSoundStatement, IsSoundBody}
 use Rattle.lil_asm.specs.declared.instr.Instr.TheVariants.{Jmp, Trp}
 use Rattle.lil_table.specs.Rows.{IsAt, InstrsAt, Access, access_of, address_code, ready_code, readied, PlaceAt, ValueRow, TargetRow, ArgumentsAt, argument_words, arguments_words, ArgumentAt, LeaveRow, AlignAt, StatementAt, BodyAt, loop_place}
@@ -51,15 +50,15 @@ pub record AddressAt (d : Designator) (n : ℕ) (x : Final) (p q : ℕ) : Type 0
 abbrev pub Addressed : Designator → ℕ → Meaning
 Addressed d n x p q = IsSoundPlace x.layout.scope d → is_there (shape_of x.layout.scope d) ≡ true → AddressAt d n x p q
 
--- Where the FORs and WITHs around it take n words of the frame, a sound statement has its code where the frame has room for its own. An EXIT
--- leads to a label.
+-- Where the FORs and WITHs around it take n words of the frame, which are these cut to 16 bits, a sound statement has its code where the
+-- frame has room for its own. An EXIT leads to a label.
 abbrev pub Stated : ℕ → Option ℕ → Statement → Meaning
-Stated n exit s x p q =
-    IsSoundStatement x.layout.scope (is_some exit) s → loop_place n + statement_words s ≤ x.layout.frame → StatementAt x.layout x.code n (option_map x.word exit) s p q
+Stated cut exit s x p q =
+    (n : ℕ) → n % 65536 ≡ cut → IsSoundStatement x.layout.scope (is_some exit) s → loop_place n + statement_words s ≤ x.layout.frame → StatementAt x.layout x.code n (option_map x.word exit) s p q
 
 -- the same of statements
 abbrev pub Body : ℕ → Option ℕ → Statements → Meaning
-Body n exit ss x p q = IsSoundBody x.layout.scope (is_some exit) ss → loop_place n + body_words ss ≤ x.layout.frame → BodyAt x.layout x.code n (option_map x.word exit) ss p q
+Body cut exit ss x p q = (n : ℕ) → n % 65536 ≡ cut → IsSoundBody x.layout.scope (is_some exit) ss → loop_place n + body_words ss ≤ x.layout.frame → BodyAt x.layout x.code n (option_map x.word exit) ss p q
 
 -- with the code of some statements behind it, it is the code of others
 abbrev pub Awaiting : ℕ → Option ℕ → Statements → Statements → Meaning
@@ -131,10 +130,10 @@ abbrev pub entries : List RArm → ℕ
 entries [] = 0
 entries (a ∷ arms) = length a.labels + entries arms
 
--- the instruction that chooses an arm, and its table
+-- the instruction that chooses an arm, with the number of entries cut to 16 bits, and its table
 pub record TableAt (arms : List RArm) (labels : List ℕ) (other : ℕ) (x : Final) (p q : ℕ) : Type 0 where
   pub start : ℕ
-  pub choice : ChoiceAt x.code (entries arms) (x.word other) p start
+  pub choice : ChoiceAt x.code (entries arms % 65536) (x.word other) p start
   pub table : Each ArmLabels (paired arms labels) x start q
 
 abbrev pub ChoiceOf : List RArm → List ℕ → ℕ → Meaning

@@ -1,6 +1,6 @@
 //! The table of a CASE.
 
-ghost use Rattle.std.specs.Prelude.{◌≡◌, length, IfOk, OnOk};
+ghost use Rattle.std.specs.Prelude.{◌≡◌, ◌%◌, length, OnOk};
 ghost use Rattle.lil_labels.specs.Drafts.{Emits};
 ghost use Rattle.lil_stmt.specs.Generating.{Each, LabelEntry, ArmLabels, ChoiceOf, paired, entries};
 
@@ -20,27 +20,20 @@ pub(crate) fn emit_choice(
     requires { length labels.now ≡ length arms.now }
     ensures { OnOk result (Emits code.old code.new (ChoiceOf arms.now labels.now other)) }
 {
-    let count = entry_count(arms)?;
+    let count = entry_count(arms);
     code.choose(count, other)?;
     emit_table(code, arms, labels)
 }
 
-/// How many entries the labels of arms have.
-fn entry_count(arms: &[RArm]) -> Result<u16, Memory>
-    ensures { IfOk result (λ count. count ≡ entries arms.now) }
+/// How many entries the labels of arms have, cut to 16 bits.
+fn entry_count(arms: &[RArm]) -> u16
+    ensures { result ≡ entries arms.now % 65536 }
 {
     let mut count: u16 = 0;
     for arm in arms {
-        let more = arm.labels.len();
-        if more > 65_535 {
-            return Err(Memory);
-        }
-        match count.checked_add(more as u16) {
-            Some(sum) => count = sum,
-            None => return Err(Memory),
-        }
+        count = count.wrapping_add((arm.labels.len() % 65_536) as u16);
     }
-    Ok(count)
+    count
 }
 
 /// Appends the entries of arms, which stand at labels of the code.

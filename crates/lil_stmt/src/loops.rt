@@ -1,54 +1,49 @@
-//! The words of the frame that the FORs and the WITHs in statements take: three each FOR, and one each WITH. They are
-//! counted up to 4,294,967,295.
+//! The words of the frame that the FORs and the WITHs in statements take: three each FOR, and one each WITH. All numbers of
+//! them are cut to 16 bits.
 
-ghost use Rattle.std.specs.Prelude.{◌≡◌, ◌+◌, ◌≤◌, [], None, min, IfOk};
+ghost use Rattle.std.specs.Prelude.{◌≡◌, ◌%◌, [], None};
 ghost use Rattle.lil_resolved.specs.Sizes as spec;
 ghost use Rattle.lil_resolved.specs.Views as view;
 ghost use Rattle.lil_table.specs.Rows as rows;
 
-use lil_base::Memory;
 use lil_resolved::{RArm, RGuard, RStmt};
 
-/// The words of the frame of statements, its mark and those of their FORs and WITHs, where 16 bits say them.
-pub fn frame_words(body: &[RStmt]) -> Result<u16, Memory>
-    ensures { IfOk result (λ words. words ≡ spec.frame_words (view.statements_of body.now)) }
+/// The words of the frame of statements, its mark and those of their FORs and WITHs.
+pub fn frame_words(body: &[RStmt]) -> u16
+    ensures { result ≡ spec.frame_words (view.statements_of body.now) % 65536 }
 {
-    let words = 4 + u64::from(body_words(body));
-    if words > 65_535 {
-        return Err(Memory);
-    }
-    Ok(words as u16)
+    body_words(body).wrapping_add(4)
 }
 
 /// Where a FOR or a WITH has its words in the frame, where those around it take so many.
-pub(crate) fn loop_place(words: u32) -> u16
-    ensures { rows.loop_place words ≤ 65535 → result ≡ rows.loop_place words }
+pub(crate) fn loop_place(words: u16) -> u16
+    ensures { result ≡ rows.loop_place words % 65536 }
 {
-    ((4 + u64::from(words)) % 65_536) as u16
+    words.wrapping_add(4)
 }
 
 /// The words of the FORs and WITHs in a statement, in one another too.
 #[cycle(counting)]
 #[tactic(auto, using(crate::proofs::Counting::if_words, crate::proofs::Counting::case_words))]
-fn statement_words(statement: &RStmt) -> u32
-    ensures { result ≡ min (spec.body_words (view.statement_of statement.now)) 4294967295 }
+fn statement_words(statement: &RStmt) -> u16
+    ensures { result ≡ spec.body_words (view.statement_of statement.now) % 65536 }
 {
     match statement {
         RStmt::If(guards, otherwise) => {
-            guards_words(guards.as_slice()).saturating_add(body_words(otherwise.as_slice()))
+            guards_words(guards.as_slice()).wrapping_add(body_words(otherwise.as_slice()))
         }
         RStmt::Case(_, arms, otherwise) => {
             let words = arms_words(arms.as_slice());
             match otherwise {
                 None => words,
-                Some(body) => words.saturating_add(body_words(body.as_slice())),
+                Some(body) => words.wrapping_add(body_words(body.as_slice())),
             }
         }
         RStmt::While(_, body) | RStmt::Repeat(body, _) | RStmt::Loop(body) => {
             body_words(body.as_slice())
         }
-        RStmt::For(_, _, _, _, body) => body_words(body.as_slice()).saturating_add(3),
-        RStmt::With(_, body) => body_words(body.as_slice()).saturating_add(1),
+        RStmt::For(_, _, _, _, body) => body_words(body.as_slice()).wrapping_add(3),
+        RStmt::With(_, body) => body_words(body.as_slice()).wrapping_add(1),
         RStmt::Assign(_, _, _)
         | RStmt::Copy(_, _)
         | RStmt::Text(_, _)
@@ -66,12 +61,12 @@ fn statement_words(statement: &RStmt) -> u32
 /// Those in statements.
 #[cycle(counting)]
 #[tactic(auto, using(crate::proofs::Counting::body_words_next))]
-fn body_words(body: &[RStmt]) -> u32
-    ensures { result ≡ min (spec.body_words (view.statements_of body.now)) 4294967295 }
+fn body_words(body: &[RStmt]) -> u16
+    ensures { result ≡ spec.body_words (view.statements_of body.now) % 65536 }
 {
-    let mut words: u32 = 0;
+    let mut words: u16 = 0;
     for statement in body {
-        words = words.saturating_add(statement_words(statement));
+        words = words.wrapping_add(statement_words(statement));
     }
     words
 }
@@ -79,12 +74,12 @@ fn body_words(body: &[RStmt]) -> u32
 /// Those in guards.
 #[cycle(counting)]
 #[tactic(auto, using(crate::proofs::Counting::guards_words_next))]
-fn guards_words(guards: &[RGuard]) -> u32
-    ensures { result ≡ min (spec.body_words (view.guards_of guards.now [])) 4294967295 }
+fn guards_words(guards: &[RGuard]) -> u16
+    ensures { result ≡ spec.body_words (view.guards_of guards.now []) % 65536 }
 {
-    let mut words: u32 = 0;
+    let mut words: u16 = 0;
     for guard in guards {
-        words = words.saturating_add(body_words(guard.body.as_slice()));
+        words = words.wrapping_add(body_words(guard.body.as_slice()));
     }
     words
 }
@@ -92,12 +87,12 @@ fn guards_words(guards: &[RGuard]) -> u32
 /// Those in the arms of a CASE.
 #[cycle(counting)]
 #[tactic(auto, using(crate::proofs::Counting::arms_words_next))]
-fn arms_words(arms: &[RArm]) -> u32
-    ensures { result ≡ min (spec.arms_words (view.arms_of arms.now None)) 4294967295 }
+fn arms_words(arms: &[RArm]) -> u16
+    ensures { result ≡ spec.arms_words (view.arms_of arms.now None) % 65536 }
 {
-    let mut words: u32 = 0;
+    let mut words: u16 = 0;
     for arm in arms {
-        words = words.saturating_add(body_words(arm.body.as_slice()));
+        words = words.wrapping_add(body_words(arm.body.as_slice()));
     }
     words
 }

@@ -4,7 +4,7 @@ ghost use Rattle.std.specs.Prelude.{◌≡◌, ℕ, Option, map, OnOk};
 ghost use Rattle.lil_resolved.specs.Resolved as resolved;
 ghost use Rattle.lil_resolved.specs.Resolved.{Assign, Copy, Change, Member, New, Allocate, Exit};
 ghost use Rattle.lil_resolved.specs.Views.{kind_view, place_of, is_down, is_out, is_back, argument_of, expression_of};
-ghost use Rattle.lil_resolved.specs.Strings.{words_of, argument_strings, arguments_strings};
+ghost use Rattle.lil_resolved.specs.Sizes.{words_of, argument_strings, arguments_strings};
 ghost use Rattle.lil_asm.specs.Bytes.{Sayable};
 ghost use Rattle.lil_table.specs.Rows.{member_code, allocate_code};
 ghost use Rattle.lil_labels.specs.Drafts.{DoingAll, Adds, Emits};
@@ -68,7 +68,7 @@ pub(crate) fn emit_text(
 {
     let shape = emit_address_of(code, place)?;
     let offset = code.string(text.as_slice())?;
-    let characters = text.len() as u16;
+    let characters = (text.len() % 65_536) as u16;
     let count = code.elements(shape).count;
     let zeros = count.saturating_sub(u32::from(characters)).min(65_535) as u16;
     code.put_all(&[Instr::Lag(offset), Instr::Mvz(characters, zeros)])
@@ -201,7 +201,7 @@ fn emit_argument(code: &mut CodeBuffer<'_>, argument: &RArgument) -> Result<(), 
         RArgument::Text(text) => {
             let text = text.get();
             let offset = code.string(text.as_slice())?;
-            let high = text.len().saturating_sub(1) as u16;
+            let high = (text.len().saturating_sub(1) % 65_536) as u16;
             code.put_all(&[Instr::Lag(offset), Instr::Liw(high)])
         }
     }

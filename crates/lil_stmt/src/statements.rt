@@ -3,7 +3,7 @@
 ghost use Rattle.std.specs.Prelude.{◌≡◌, [], None, true, length, IfOk, OnOk};
 ghost use Rattle.lil_resolved.specs.Resolved.{While, Repeat, Loop, For, Inside};
 ghost use Rattle.lil_resolved.specs.Views.{variable_kind, expression_of, place_of, statement_of, statements_of, guard_of, guards_of, arms_of};
-ghost use Rattle.lil_resolved.specs.Strings.{body_strings, arms_strings};
+ghost use Rattle.lil_resolved.specs.Sizes.{body_strings, arms_strings};
 ghost use Rattle.lil_labels.specs.Drafts.{Adds, Emits};
 ghost use Rattle.lil_stmt.specs.Generating.{Stated, Body, Turning, Each, ArmPart, ArmBody, Trapping, nothing_before, guards_before, paired};
 ghost use Rattle.lil_stmt.specs.Forms.{is_simple, is_case};
@@ -23,11 +23,11 @@ use lil_expr::{emit_expression, word_of_number};
 use lil_labels::{Aim, CodeBuffer};
 use lil_resolved::{RArm, RExpr, RGuard, RPlace, RStmt, RVariable};
 
-/// What stands around a statement: how many words of the frame the FORs and WITHs take, and the label of the place behind
-/// the LOOP, where there is one.
+/// What stands around a statement: how many words of the frame the FORs and WITHs take, cut to 16 bits, and the label of the
+/// place behind the LOOP, where there is one.
 #[derive(Clone, Copy)]
 pub struct Around {
-    pub words: u32,
+    pub words: u16,
     pub exit: Option<usize>,
 }
 
@@ -190,7 +190,7 @@ fn emit_arm(
 }
 
 /// Appends the trap of a CASE without ELSE. It gives the label of its place.
-#[tactic(auto, using(crate::proofs::Arms::trap_marked))]
+#[tactic(auto, using(crate::proofs::Stating::trap_marked))]
 fn emit_no_arm(code: &mut CodeBuffer<'_>) -> Result<usize, Memory>
     ensures { IfOk result (λ label. Emits code.old code.new (Trapping label)) }
 {
@@ -279,7 +279,7 @@ fn emit_for(
     let lies = code.variable(variable.number);
     code.put(Instr::Sgw(lies.offset))?;
     let inside = Around {
-        words: around.words.saturating_add(3),
+        words: around.words.wrapping_add(3),
         exit: around.exit,
     };
     emit_body(code, body, inside)?;
@@ -303,7 +303,7 @@ fn emit_with(
     code.put(Instr::Slw(word))?;
     code.hold(word, shape)?;
     let inside = Around {
-        words: around.words.saturating_add(1),
+        words: around.words.wrapping_add(1),
         exit: around.exit,
     };
     emit_body(code, body, inside)?;

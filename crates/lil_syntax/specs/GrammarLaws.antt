@@ -1,6 +1,5 @@
 -- What a reader of the grammar may rely on, for each syntax of it that one token decides.
-use Rattle.std.proofs.Common.{◌≡◌, ℕ, suc, true, length, List, None, Some, Result, Ok, Err, IfOk, IfErr, inl, inr}
-use Rattle.lil_base.specs.declared.fault.Place.{Place}
+use Rattle.std.proofs.Common.{◌≡◌, ℕ, true, List, Some, Result, Ok, Err, IfOk, IfErr, inl, inr}
 use Rattle.lil_text.specs.declared.token.Token.{Token}
 use Rattle.lil_base.specs.declared.fault.SourceFault.{SourceFault}
 use Rattle.lil_text.specs.declared.stop.ReadStop.{ReadStop}
@@ -8,7 +7,7 @@ use Rattle.lil_text.specs.declared.stop.ReadStop.TheVariants.{Fault, Memory}
 use Rattle.lil_text.specs.Nesting.{Limit, within}
 use Rattle.lil_grammar.specs.Steps.{syntax, nested, Outcome, Reads}
 use Rattle.lil_syntax.specs.Syntax.{Syntax, decided, goes_on, Grammar, Derived, parse, sound_at}
-use Rattle.lil_grammar.specs.Places.{Longest, RefusedAt, TooDeepAt, StopsAt, AnswersAt}
+use Rattle.lil_grammar.specs.Places.{Longest, StopsAt, AnswersAt}
 use Rattle.lil_grammar.specs.RulesUse as r
 use Rattle.lil_grammar.specs.RulesOne as o
 use Rattle.lil_grammar.specs.RulesExact as exact
@@ -28,28 +27,12 @@ module _ {N : Type 0} {Tree : N → Type 0} (G : Grammar Tree) (sound : (n : N) 
   pub unique : (l l' : Limit) (ts rest rest' : List Token) (x y : A) → Derived G s l ts rest x → Derived G s l' ts rest' y → Ends rest → Ends rest' → (x ≡ y) × (rest ≡ rest')
   unique = o.one_reading (Derived G s) (λ d. rule_of G sound d s by_one) (λ d. far_of G sound d s) (plain_of G sound s)
 
-  -- with more levels than tokens, all that the grammar derives is read
-  pub read_plain : (ts rest : List Token) (x : A) → Derived G s None ts rest x → Ends rest → parse G (suc (length ts)) s ts ≡ Ok (x, rest)
-  read_plain = o.reads_plain (Derived G s) (λ d. rule_of G sound d s by_one) (λ d. far_of G sound d s) (plain_of G sound s)
-
   module _ (d : ℕ) where
     pub is_derived : (ts : List Token) (x : A) (rest : List Token) → parse G d s ts ≡ Ok (x, rest) → Derived G s (within d) ts rest x
     is_derived = r.sound (rule_of G sound d s by_one) (Some 0)
 
-    pub is_plain : (ts : List Token) (x : A) (rest : List Token) → parse G d s ts ≡ Ok (x, rest) → Derived G s None ts rest x
-    is_plain = r.sound (rule_of G sound d s by_one) None
-
     pub is_read : (ts rest : List Token) (x : A) → Derived G s (within d) ts rest x → Ends rest → parse G d s ts ≡ Ok (x, rest)
     is_read = r.complete (rule_of G sound d s by_one)
-
-    pub is_longest : (ts : List Token) (x : A) (rest : List Token) → parse G d s ts ≡ Ok (x, rest) → Longest (Derived G s) ts rest
-    is_longest = r.longest (Derived G s) d (rule_of G sound d s by_one) (not_at_end (goes_on G.first G.goes s))
-
-    pub is_refused : (ts : List Token) (p : Place) → parse G d s ts ≡ Err (syntax p) → RefusedAt (Derived G s) d ts p
-    is_refused = r.refused_at (Derived G s) d (rule_of G sound d s by_one) (not_at_end (goes_on G.first G.goes s))
-
-    pub is_too_deep : (ts : List Token) (p : Place) → parse G d s ts ≡ Err (nested p) → TooDeepAt (Derived G s) d ts p
-    is_too_deep = r.too_deep_at (Derived G s) d (rule_of G sound d s by_one) (not_at_end (goes_on G.first G.goes s))
 
     -- it needs no memory
     pub never_memory : (ts : List Token) → parse G d s ts ≡ Err Memory → ⊥

@@ -13,7 +13,7 @@ use Rattle.lil_text.specs.declared.token.Word.TheVariants as w
 use Rattle.lil_text.specs.contracts.token.Word as word
 use Rattle.lil_text.specs.Operators
 use Rattle.lil_grammar.specs.Steps.{at, same_mark, is_mark, same_word, is_word, ident_by}
-use Rattle.lil_syntax.specs.Terminals.{Kind as c, Kinds, is_of, sample, among, apart, part_of, Terminal as t, Value, placed, number_by, code_by, chars_by, finish_by, taken_as, kinds_of}
+use Rattle.lil_syntax.specs.Terminals.{Kinds, is_of, sample, among, apart, part_of, Value, placed, number_by, code_by, chars_by, finish_by, taken_as, kinds_of, Kind as c, Terminal as t}
 use Rattle.lil_grammar.specs.Steps.{Not}
 
 -- ---- Bool

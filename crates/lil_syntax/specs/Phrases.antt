@@ -2,9 +2,6 @@
 use Rattle.std.specs.Prelude.{◌≡◌, List, ◌∷◌, Option, Some}
 use Rattle.lil_text.specs.declared.token.Token.{Token}
 
-abbrev pub Phrase : Type 0 → Type 1
-Phrase A = List Token → List Token → A → Type 0
-
 -- no tokens, which are x
 pub data Nothing {A : Type 0} (x : A) : List Token → List Token → A → Type 0 where
   nothing : {ts : List Token} {a : A} → a ≡ x → Nothing x ts ts a

@@ -137,13 +137,6 @@ module _ {N : Type 0} {Tree : N → Type 0} (G : Grammar Tree) where
   unfoldable pub parse : {A : Type 0} → ℕ → Syntax Tree A → Parser A
   parse d s = reads G.first G.goes (read d) s
 
-  -- the kinds of token that begin it and that go on with it
-  abbrev pub begins_with : {A : Type 0} → Syntax Tree A → Kinds
-  begins_with s = begins G.first G.goes s
-
-  abbrev pub goes_on_with : {A : Type 0} → Syntax Tree A → Kinds
-  goes_on_with s = goes_on G.first G.goes s
-
   -- what is tested of each production
   abbrev pub sound_at : N → Bool
   sound_at n =

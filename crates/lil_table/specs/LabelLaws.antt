@@ -3,8 +3,7 @@ use Rattle.std.proofs.Common.{◌≡◌, ◌-◌, pos, true, false, refl, sym, a
 use Rattle.std.proofs.lemmas.Int.{ints}
 use Rattle.std.proofs.lemmas.Bool.{leb-true}
 use Rattle.lil_base.specs.Words.{in_type}
-use Rattle.lil_resolved.specs.Kinds.{Kind, OfWhole, OfTruth, OfCharacter, OfEnumeration, is_ordinal, compared_as}
-use Rattle.lil_resolved.specs.Scalars.{Scalar, Number, Truth, Character, within, scalar_of, ordinal_of}
+use Rattle.lil_resolved.specs.Kinds.{Kind, OfWhole, OfTruth, OfCharacter, OfEnumeration, is_ordinal, compared_as, Scalar, Number, Truth, Character, within, scalar_of, ordinal_of}
 use Rattle.lil_resolved.specs.Resolved.{Label}
 use Rattle.lil_resolved.specs.Sound.{IsSoundLabel}
 use Rattle.lil_base.specs.Laws.{in_range, bounds}

@@ -1,22 +1,20 @@
--- How many bytes a translation has, however the places in its jumps are written.
-use Rattle.std.proofs.Common.{◌≡◌, ℕ, zero, suc, ◌+◌, ◌*◌, Bool, true, false, cond, if◌then◌else◌, List, [], ◌∷◌, ◌++◌, Option, Some, None, length, refl, sym, ap, ◌∙◌, arith}
+-- How many bytes a translation has, however places in jumps, words of frames and numbers of entries are written.
+use Rattle.std.proofs.Common.{◌≡◌, ℕ, zero, suc, ◌+◌, ◌*◌, Bool, true, false, cond, if◌then◌else◌, List, [], ◌∷◌, ◌++◌, Option, Some, None, length, refl, ap, ◌∙◌, arith}
 use Rattle.lil_base.specs.Words.{Whole, Cardinal, Integer, word_of}
 use Rattle.lil_base.specs.declared.operator.OneOp.{OneOp}
 use Rattle.lil_base.specs.declared.operator.OneOp.TheVariants as one
 use Rattle.lil_base.specs.declared.operator.TwoOp.{TwoOp}
-use Rattle.lil_base.specs.declared.operator.TwoOp.TheVariants.{Equal, Unequal, Less, AtMost, Greater, AtLeast, In, Plus, Minus, Times, Slash, Div, Mod, Or, And}
+use Rattle.lil_base.specs.declared.operator.TwoOp.TheVariants.{Equal, Unequal, Less, AtMost, Greater, AtLeast, In, Plus, Minus, Times, Slash, Or, And}
 use Rattle.lil_base.specs.Requests.{request_number}
-use Rattle.lil_resolved.specs.Kinds.{Kind, OfWhole, OfTruth, OfCharacter, OfEnumeration, OfSet, OfPointer, OfRange, base_of, compared_as, covers, shared, outside_turns}
+use Rattle.lil_resolved.specs.Kinds.{Kind, OfWhole, OfCharacter, OfSet, OfPointer, base_of, compared_as, covers, shared, outside_turns, words, shape_at}
 use Rattle.lil_resolved.specs.Resolved.{Designator, Variable, Held, Field, Element, Follow, Function, Abs, Cap, Chr, Odd, Ord, Val, Expression, Constant, Taken, One, Two, Short, Apply, With, WithSpan, Argument, ByValue, OfArray, OfText, Label, Statement, Assign, Copy, Text, Change, Member, New, Allocate, Request, If, Case, While, Repeat, Loop, Exit, Halt, Return, Call, For, Inside, Statements, Empty, Then, Arms, NoElse, Else, Arm, Resolved, kind_of, counted_as, shape_of}
-use Rattle.lil_resolved.specs.Shapes.{words, shape_at}
-use Rattle.lil_resolved.specs.Depth.{frame_words}
+use Rattle.lil_resolved.specs.Sizes.{frame_words, argument_size, one_size, two_size, test_size, function_size, Form, Direct, Exact, Beyond, field_form, form_of, address_size, load_size, ready_size, store_size, again_size, under_size, place_size, target_size, size, arguments_size, allocate_size, statement_size, body_size, arms_size, code_size}
 use Rattle.lil_resolved.specs.Sound.{takes_two}
-use Rattle.lil_resolved.specs.Sizes.{argument_size, one_size, two_size, test_size, function_size, Form, Direct, Exact, Beyond, field_form, form_of, address_size, load_size, ready_size, store_size, again_size, under_size, place_size, target_size, size, arguments_size, allocate_size, statement_size, body_size, arms_size, code_size}
 use Rattle.lil_asm.specs.declared.instr.Instr.{Instr}
 use Rattle.lil_asm.specs.declared.instr.Instr.TheVariants.{Liw, Lag, Dup, Drp, Nlt, Llw, Slw, Sgw, Swp, Rgc, Lsi, Spn, Mrk, Cll, Ent, Rtn, Jmp, Jpf, Cas, Fri, Frn, Trp, Alc, Svc}
 use Rattle.lil_asm.specs.Bytes.{bytes_of}
 use Rattle.lil_asm.specs.Decoding.{decoded_stands}
-use Rattle.lil_table.specs.Rows.{Layout, holding, argument_words, ArgumentAt, IsAt, InstrsAt, one_code, whole_code, number_code, two_code, range_code, test_code, function_code, Access, InData, OnTop, Behind, further, access_of, address_code, load_code, ready_code, readied, held, store_code, again_code, under_code, change_operator, change_code, member_code, allocate_code, short_code, loop_place, loop_sign, ValueRow, TargetRow, EntriesAt, AlignAt, PlaceAt, ExpressionAt, ArgumentsAt, StatementAt, BodyAt, ArmsAt, TranslatesBy}
+use Rattle.lil_table.specs.Rows.{Layout, holding, argument_words, ArgumentAt, IsAt, InstrsAt, one_code, whole_code, two_code, range_code, test_code, function_code, Access, InData, OnTop, Behind, further, access_of, address_code, load_code, ready_code, readied, held, store_code, again_code, under_code, change_operator, change_code, member_code, allocate_code, short_code, loop_place, loop_sign, ValueRow, TargetRow, EntriesAt, AlignAt, PlaceAt, ExpressionAt, ArgumentsAt, StatementAt, BodyAt, ArmsAt, TranslatesBy}
 
 -- the bytes of an instruction, and of several
 abbrev pub instr_size : Instr → ℕ
@@ -313,7 +311,7 @@ mutual
         instr_long code h.middle (Jmp (l.target h.choices)) h.exit h.dispatch,
         instr_long code h.exit (Jmp (l.target q)) h.start h.leave,
         arms_long l code n exit (kind_of e) arms h.exit h.other h.choices h.start h.entries h.count h.bodies,
-        instr_long code h.choices (Cas h.count (l.target h.other)) h.entries h.choice,
+        instr_long code h.choices (Cas (l.target h.count) (l.target h.other)) h.entries h.choice,
         h.whole,
       )
   statement_long l code n exit (While c body) p q h =
@@ -334,19 +332,19 @@ mutual
         expression_long l code b h.middle h.last h.limit.value,
         align_long l code (covers (base_of k) (kind_of a)) (outside_turns (compared_as (base_of k)) step) h.last t.aligned q t.align,
         instr_long code t.aligned (Liw (word_of step)) t.stepped t.load,
-        instr_long code t.stepped (Fri (loop_place n) (loop_sign (compared_as (base_of k))) (l.target q)) t.turn t.enter,
-        instr_long code t.turn (Llw (loop_place n)) r.loaded r.load,
+        instr_long code t.stepped (Fri (l.target (loop_place n)) (loop_sign (compared_as (base_of k))) (l.target q)) t.turn t.enter,
+        instr_long code t.turn (Llw (l.target (loop_place n))) r.loaded r.load,
         test_long code k (base_of k) r.loaded r.tested r.test,
         instr_long code r.tested (Sgw r.known.offset) r.start r.store,
         body_long l code (3 + n) exit body r.start r.end r.here,
-        instr_long code r.end (Frn (loop_place n) (l.target t.turn)) q r.next,
+        instr_long code r.end (Frn (l.target (loop_place n)) (l.target t.turn)) q r.next,
       )
   statement_long l code n exit (Inside d body) p q h =
       omega (
         arith,
         addressed_long l code d p h.found h.start h.here h.address,
-        instr_long code h.start (Slw (loop_place n)) h.kept h.keep,
-        body_long (holding l (shape_of l.scope d) (loop_place n)) code (suc n) exit body h.kept q h.within,
+        instr_long code h.start (Slw (l.target (loop_place n))) h.kept h.keep,
+        body_long (holding l (shape_of l.scope d) (l.target (loop_place n))) code (suc n) exit body h.kept q h.within,
       )
 
   pub body_long : (l : Layout) (code : List ℕ) (n : ℕ) (exit : Option ℕ) (ss : Statements) (p q : ℕ) → BodyAt l code n exit ss p q → q ≡ p + body_size ss
@@ -364,4 +362,4 @@ mutual
 -- any translation of a module without procedures has as many bytes as its size says
 pub module_long : (l : Layout) (m : Resolved) (code : List ℕ) → m.procedures ≡ [] → TranslatesBy l m code → length code ≡ code_size m
 module_long l m code bare h =
-    omega (arith, instr_long code 0 (Ent (frame_words m.body)) h.start h.enter, body_long l code 0 None m.body h.start h.end h.body, instr_long code h.end Rtn h.after h.leave, h.whole bare)
+    omega (arith, instr_long code 0 (Ent (l.target (frame_words m.body))) h.start h.enter, body_long l code 0 None m.body h.start h.end h.body, instr_long code h.end Rtn h.after h.leave, h.whole bare)

@@ -1,5 +1,6 @@
--- The translation table: which bytes from one place to another are a translation of a part. It has one row for each construct. A jump has
--- the word of its target's place: the place itself, or in code that is too long for that the place cut to 16 bits.
+-- The translation table: which bytes from one place to another are a translation of a part. It has one row for each construct. The place
+-- in a jump, the words of a frame and how many entries a table has are written as they are, or in code that is too long for that cut to 16
+-- bits.
 use Rattle.std.specs.Prelude.{◌≡◌, ℕ, zero, suc, ◌+◌, ◌-◌, ◌*◌, ◌%◌, ◌<◌, ◌≤◌, max, ℤ, Bool, true, false, List, [], ◌∷◌, ◌++◌, length, drop, map, get_or, Option, Some, None, slice_get, cond}
 use Rattle.lil_base.specs.Words.{Whole, Cardinal, Integer, word_of}
 use Rattle.lil_base.specs.declared.operator.OneOp.{OneOp}
@@ -8,11 +9,9 @@ use Rattle.lil_base.specs.declared.operator.TwoOp.{TwoOp}
 use Rattle.lil_base.specs.declared.operator.TwoOp.TheVariants.{Equal, Unequal, Less, AtMost, Greater, AtLeast, In, Plus, Minus, Times, Slash, Div, Mod}
 use Rattle.lil_base.specs.declared.request.Request as request
 use Rattle.lil_base.specs.Requests.{request_number}
-use Rattle.lil_resolved.specs.Kinds.{Objects, Workspaces, Kind, OfWhole, OfTruth, OfCharacter, OfSet, OfPointer, base_of, is_base, is_ordinal, is_set, is_plain, is_element, takes_value, stores_value, compared_as, covers, shared, outside_turns, least, numbers}
-use Rattle.lil_resolved.specs.Scalars.{Scalar, is_literal, scalar_word}
-use Rattle.lil_resolved.specs.Shapes.{Shape, Word, Row, Scope, outermost, with_held, words, is_there, part_at, offset, all_words, offsets_from, shape_at, element_of}
+use Rattle.lil_resolved.specs.Kinds.{Objects, Workspaces, Kind, OfWhole, OfTruth, OfCharacter, OfSet, OfPointer, base_of, is_ordinal, is_set, is_plain, is_element, takes_value, stores_value, compared_as, covers, shared, outside_turns, least, numbers, Scalar, is_literal, scalar_word, Shape, Word, Row, Scope, outermost, with_held, words, is_there, part_at, offset, all_words, offsets_from, shape_at, element_of}
 use Rattle.lil_resolved.specs.Resolved.{Designator, Variable, Held, Field, Element, Follow, Function, Abs, Cap, Chr, Odd, Ord, Val, Expression, Constant, Taken, One, Two, Short, Apply, With, WithSpan, Argument, ByValue, OfArray, OfText, Label, Statement, Assign, Copy, Text, Change, Member, New, Allocate, Request, If, Case, While, Repeat, Loop, Exit, Halt, Return, Call, For, Inside, Statements, Empty, Then, Arms, NoElse, Else, Arm, Procedure, Resolved, procedure_by, kind_of, right_kind, counted_as, shape_of}
-use Rattle.lil_resolved.specs.Depth.{place_depth, depth, frame_words}
+use Rattle.lil_resolved.specs.Sizes.{place_depth, depth, frame_words}
 use Rattle.lil_resolved.specs.Sound.{takes_one, takes_two, takes_function, IsScalar, IsSoundLabel, IsStep, is_text, request_parameters, parameter_of}
 use Rattle.lil_asm.specs.declared.instr.Instr.{Instr}
 use Rattle.lil_asm.specs.declared.instr.Instr.TheVariants.{Liw, Dup, Drp, Llw, Slw, Lgw, Sgw, Lag, Ldi, Sti, Ldf, Adf, Mov, Mvz, Nlt, Ixc, Swp, Rgc, Rgi, Cap, Adc, Sbc, Mlc, Dvc, Mdc, Adi, Sbi, Mli, Dvi, Mdi, Ngi, Abi, Uni, Dif, Its, Sym, Sin, Spn, Icl, Ecl, Sle, Not, Equ, Neq, Lsc, Lec, Lsi, Lei, Mrk, Cll, Ent, Rtn, Jmp, Jpf, Jan, Jor, Cas, Fri, Frn, Trp, Alc, Svc}
@@ -21,7 +20,7 @@ use Rattle.lil_asm.specs.Requests.{request_words}
 
 -- Where the variables of a module lie in its data frame, by their numbers; the shapes that names reach, and the words of the frame that
 -- have the addresses of the records of the WITHs around, the innermost first; how many words the variables take, and the words of the
--- strings behind them; the words of the body's frame; and how a place is written in a jump.
+-- strings behind them; the words of the body's frame; and how a place in a jump, words of a frame and a number of entries are written.
 pub record Layout : Type 0 where
   pub offsets : List ℕ
   pub scope : Scope
@@ -34,7 +33,7 @@ pub record Layout : Type 0 where
   pub procedures : List Procedure
   pub chain : List ℕ
 
--- a place as it is, and cut to 16 bits
+-- a number as it is, and cut to 16 bits
 abbrev pub exactly : ℕ → ℕ
 exactly q = q
 
@@ -349,7 +348,7 @@ pub record ElementRow (l : Layout) (code : List ℕ) (d : Designator) (k : Kind)
   pub address : InstrsAt code (address_code (access_of l d)) found start
   pub value : index start middle
   pub test : InstrsAt code (test_code k (kind_of e)) middle tested
-  pub by : IsAt code tested (Ixc (word_of (least k)) (words (element_of (shape_of l.scope d)))) q
+  pub by : IsAt code tested (Ixc (cut (word_of (least k))) (words (element_of (shape_of l.scope d)))) q
 
 -- a pointer's word, and the test that it isn't NIL
 pub record FollowRow (l : Layout) (code : List ℕ) (d : Designator) (n : ℕ) (pointer : Span) (p q : ℕ) : Type 0 where
@@ -665,7 +664,7 @@ pub record CaseRow (l : Layout) (code : List ℕ) (e : Expression) (arms : ℕ �
   pub dispatch : IsAt code middle (Jmp (l.target choices)) exit
   pub leave : IsAt code exit (Jmp (l.target q)) start
   pub bodies : arms exit other choices start entries count
-  pub choice : IsAt code choices (Cas count (l.target other)) entries
+  pub choice : IsAt code choices (Cas (l.target count) (l.target other)) entries
   pub whole : q ≡ entries + 6 * count
 
 -- the procedures around one that is declared so many levels out of that at hand
@@ -700,11 +699,11 @@ pub record RoundRow (l : Layout) (code : List ℕ) (n x : ℕ) (k : Kind) (step 
   pub end : ℕ
   pub room : loop_place n + 3 ≤ l.frame
   pub is_step : IsStep step
-  pub load : IsAt code turn (Llw (loop_place n)) loaded
+  pub load : IsAt code turn (Llw (l.target (loop_place n))) loaded
   pub test : InstrsAt code (test_code k (base_of k)) loaded tested
   pub store : IsAt code tested (Sgw known.offset) start
   pub here : body start end
-  pub next : IsAt code end (Frn (loop_place n) (l.target turn)) q
+  pub next : IsAt code end (Frn (l.target (loop_place n)) (l.target turn)) q
 
 -- a start that has no turn leaves the FOR
 pub record LeaveRow (l : Layout) (code : List ℕ) (p start q : ℕ) : Type 0 where
@@ -732,7 +731,7 @@ pub record TurnsRow (l : Layout) (code : List ℕ) (n x : ℕ) (k j : Kind) (ste
   pub turn : ℕ
   pub align : AlignAt l code (covers (base_of k) j) (outside_turns (compared_as (base_of k)) step) p aligned q
   pub load : IsAt code aligned (Liw (word_of step)) stepped
-  pub enter : IsAt code stepped (Fri (loop_place n) (loop_sign (compared_as (base_of k))) (l.target q)) turn
+  pub enter : IsAt code stepped (Fri (l.target (loop_place n)) (loop_sign (compared_as (base_of k))) (l.target q)) turn
   pub round : RoundRow l code n x k step body turn q
 
 -- both bounds and the turns: a start that may be stored in the variable, and a limit of the kind that the variable's was taken from
@@ -754,7 +753,7 @@ pub record InsideRow (l : Layout) (code : List ℕ) (n : ℕ) (d : Designator) (
   pub room : loop_place n + 1 ≤ l.frame
   pub here : PlaceAt l code d p found
   pub address : InstrsAt code (address_code (access_of l d)) found start
-  pub keep : IsAt code start (Slw (loop_place n)) kept
+  pub keep : IsAt code start (Slw (l.target (loop_place n))) kept
   pub within : body kept q
 
 pub record ThenRow (first rest : Span) (p q : ℕ) : Type 0 where
@@ -784,7 +783,7 @@ abbrev mutual
   StatementAt l code n exit Return p q = IsAt code p Rtn q
   StatementAt l code n exit (Call x i) p q = CallRow l code x i p q
   StatementAt l code n exit (For x k a b step body) p q = ForRow l code n x k a b step (BodyAt l code (3 + n) exit body) p q
-  StatementAt l code n exit (Inside d body) p q = InsideRow l code n d (BodyAt (holding l (shape_of l.scope d) (loop_place n)) code (suc n) exit body) p q
+  StatementAt l code n exit (Inside d body) p q = InsideRow l code n d (BodyAt (holding l (shape_of l.scope d) (l.target (loop_place n))) code (suc n) exit body) p q
 
   -- one behind another
   pub BodyAt : Layout → List ℕ → ℕ → Option ℕ → Statements → Span
@@ -801,7 +800,7 @@ pub record ProcedureRow (l : Layout) (code : List ℕ) (its : Procedure) (entry 
   pub start : ℕ
   pub end : ℕ
   pub after : ℕ
-  pub enter : IsAt code entry (Ent (frame_words its.body)) start
+  pub enter : IsAt code entry (Ent (l.target (frame_words its.body))) start
   pub body : BodyAt l code 0 None its.body start end
   pub leave : IsAt code end Rtn after
 
@@ -809,13 +808,13 @@ pub record ProcedureRow (l : Layout) (code : List ℕ) (its : Procedure) (entry 
 pub record TranslatesBy (l : Layout) (m : Resolved) (code : List ℕ) : Type 0 where
   pub start : ℕ
   pub end : ℕ
-  pub enter : IsAt code 0 (Ent (frame_words m.body)) start
+  pub enter : IsAt code 0 (Ent (l.target (frame_words m.body))) start
   pub body : BodyAt l code 0 None m.body start end
   pub after : ℕ
   pub leave : IsAt code end Rtn after
   -- procedures stand behind the body
   pub whole : m.procedures ≡ [] → after ≡ length code
 
--- the strings and the code of a program module, whose jumps have the places themselves
+-- the strings and the code of a program module, whose numbers are written as they are
 abbrev pub Translates : Resolved → List ℕ → List ℕ → Type 0
 Translates m strings code = TranslatesBy (layout_of strings m) m code

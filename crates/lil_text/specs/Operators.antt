@@ -1,5 +1,5 @@
 -- Which tokens are operators of which level, and which begin an expression or go on with one.
-use Rattle.std.specs.Prelude.{Bool, true, false, Option, Some, None}
+use Rattle.std.specs.Prelude.{Option, Some, None}
 use Rattle.lil_text.specs.declared.token.TokenKind.{TokenKind}
 use Rattle.lil_text.specs.declared.token.TokenKind.TheVariants as k
 use Rattle.lil_text.specs.declared.token.Word.TheVariants as w
@@ -41,10 +41,3 @@ abbrev pub sign : TokenKind → Option OneOp
 sign (k.Mark m.Plus) = Some one.Plus
 sign (k.Mark m.Minus) = Some one.Minus
 sign _ = None
-
--- a designator may go on with it
-abbrev pub selects : TokenKind → Bool
-selects (k.Mark m.Dot) = true
-selects (k.Mark m.OpenBracket) = true
-selects (k.Mark m.Arrow) = true
-selects _ = false

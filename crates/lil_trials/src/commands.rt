@@ -1182,6 +1182,52 @@ fn longest_sums(rt: HostRuntime) -> Result<(), Fail> {
     check_fault(&rt, alloc, b"once K.MOD", b"K.MOD", text, fault)
 }
 
+/// A program with so many types beside those of its imports: arrays of one element, and that of their index.
+fn arrays(alloc: Global, count: usize) -> Result<Bytes, Fail> {
+    let mut text = Bytes::from_slice(
+        alloc,
+        b"MODULE K; FROM InOut IMPORT Write; TYPE c=[0..0]; VAR a: ARRAY c",
+    )?;
+    for _ in 2..count {
+        text.extend(b",c")?;
+    }
+    text.extend(b" OF CHAR; BEGIN Write('x') END K.")?;
+    Ok(text)
+}
+
+/// What may stand behind the first letter of a name.
+const NAME_BYTES: &[u8; 62] = b"0123456789ABCDEFGHIJKLMNOPQRSTUVWXYZabcdefghijklmnopqrstuvwxyz";
+
+/// A program with an enumeration of so many constants, of which each has at most three letters and digits.
+fn enumeration(alloc: Global, count: usize) -> Result<Bytes, Fail> {
+    let mut text = Bytes::from_slice(alloc, b"MODULE K; TYPE T=(a")?;
+    for number in 1..count {
+        text.push(b',')?;
+        text.push(b'a' + (number % 26) as u8)?;
+        let mut rest = number / 26;
+        for _ in 0..2 {
+            if rest > 0 {
+                text.push(NAME_BYTES[rest % 62])?;
+                rest /= 62;
+            }
+        }
+    }
+    text.extend(b"); END K.")?;
+    Ok(text)
+}
+
+/// Types as many as a text holds, and the longest enumeration: one constant more is a fault.
+#[test]
+fn many_types(rt: HostRuntime) -> Result<(), Fail> {
+    let alloc = rt.alloc();
+    check_run(&rt, alloc, b"K", arrays(alloc, 32_001)?, b"x", None)?;
+    check_run(&rt, alloc, b"K", arrays(alloc, 131_000)?, b"x", None)?;
+    check_run(&rt, alloc, b"K", enumeration(alloc, 65_535)?, b"", None)?;
+    let text = enumeration(alloc, 65_536)?;
+    let fault = b"8: 61 DataTooLong";
+    check_fault(&rt, alloc, b"once K.MOD", b"K.MOD", text, fault)
+}
+
 /// The letters take 8 instructions: the frame, a word and a request for each, and the return. The endless loop takes an
 /// instruction for the frame, and three for each turn: a word, a request and a jump. Each with a budget of steps, the
 /// status, and what is shown.

@@ -25,10 +25,14 @@ abbrev pub limited : Option ℕ → Option ℕ
 limited None = None
 limited (Some words) = if nat_le words 32000 then Some words else None
 
+-- whether there is a number left, below 4294967295
+abbrev pub has_room : Table → Bool
+has_room t = nat_lt (length t) 4294967279
+
 -- the facts of a form as the next type of a table, None where its parts don't make a type, where it is too large, or where
 -- there is no number left
 abbrev pub next_facts : Table → TypeForm → Option Facts
-next_facts t form = if nat_lt 65519 (length t) then None else fitting (facts_of t (next t) form)
+next_facts t form = if has_room t then fitting (facts_of t (next t) form) else None
 
 abbrev pub number_by : Table → Option Facts → Option ℕ
 number_by t None = None
@@ -41,6 +45,14 @@ with_facts t origin form (Some f) = t ++ record { origin = origin; form = form; 
 -- the number of a form's type, where the table takes it
 abbrev pub added_number : Table → TypeForm → Option ℕ
 added_number t form = number_by t (next_facts t form)
+
+-- the number of the next type, 0 where there is none left
+abbrev pub next_number : Table → ℕ
+next_number t = if has_room t then next t else 0
+
+-- a next type of the module's own
+abbrev pub own : Table → Origin
+own t = record { «module» = 0; number = next_number t }
 
 -- the table with the type, where it takes it, and else as before
 abbrev pub added : Table → Origin → TypeForm → Table

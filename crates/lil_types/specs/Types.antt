@@ -1,5 +1,5 @@
 -- Types by their numbers: what each one is, when a table of them is sound, and which go together.
-use Rattle.std.specs.Prelude.{◌≡◌, ℕ, ◌+◌, ◌*◌, ◌-◌, ◌==◌, nat_lt, ℤ, pos, negsuc, int_lt, true, false, not, ◌+ℤ◌, ◌-ℤ◌, Bool, ◌&&◌, ◌||◌, List, [], ◌∷◌, ◌++◌, length, slice_get, slice_set, Option, Some, None, if◌then◌else◌, ⊤}
+use Rattle.std.specs.Prelude.{◌≡◌, ℕ, ◌+◌, ◌*◌, ◌-◌, ◌==◌, nat_lt, min, ℤ, pos, negsuc, int_lt, true, false, not, ◌+ℤ◌, ◌-ℤ◌, Bool, ◌&&◌, ◌||◌, List, [], ◌∷◌, ◌++◌, length, slice_get, slice_set, Option, Some, None, if◌then◌else◌, ⊤}
 use Rattle.lil_types.specs.declared.table.Span.{Span}
 use Rattle.lil_types.specs.declared.table.Facts.{Facts}
 use Rattle.lil_types.specs.declared.table.Field.{Field}
@@ -62,9 +62,6 @@ facts_in None None = None
 abbrev pub known : Table → ℕ → Option Facts
 known t n = facts_in (standard n) (entry t n)
 
-abbrev pub IsIn : Table → ℕ → Type 0
-IsIn t n = (f : Facts) × (known t n ≡ Some f)
-
 -- ---- the facts of a form, from those of its parts
 abbrev pub nat_of : ℤ → ℕ
 nat_of (pos n) = n
@@ -81,8 +78,9 @@ meets s u = not (int_lt s.high u.low) && not (int_lt u.high s.low)
 abbrev pub plain : ℕ → Facts
 plain n = facts n 1 None
 
+-- numbers of constants end at 65535, whatever their count
 abbrev pub enumeration_facts : ℕ → ℕ → Facts
-enumeration_facts n count = facts n 1 (Some (span (pos 0) (pos count -ℤ pos 1)))
+enumeration_facts n count = facts n 1 (Some (span (pos 0) (pos (min count 65536) -ℤ pos 1)))
 
 abbrev pub subrange_facts : Option Facts → Span → Option Facts
 subrange_facts (Some f) s = Some (facts f.base 1 (Some s))

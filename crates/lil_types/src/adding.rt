@@ -9,10 +9,7 @@ use lil_base::Memory;
 fn enumeration(n: TypeId, names: usize) -> Option<Facts>
     ensures { result ≡ spec.fitting (Some (types.enumeration_facts n names)) }
 {
-    if names > 65536 {
-        return None;
-    }
-    let high = names as i32 - 1;
+    let high = names.min(65536) as i32 - 1;
     Some(Facts::ordinal(n, 0, high))
 }
 
@@ -122,8 +119,29 @@ fn facts_of(t: &TypeTable, n: TypeId, form: &TypeForm) -> Option<Facts>
     }
 }
 
+/// The number of the next type, 0 where there is none left.
+fn next_number(t: &TypeTable) -> TypeId
+    ensures { result ≡ spec.next_number t.now }
+{
+    if t.len() < 4_294_967_279 {
+        t.len() as TypeId + 16
+    } else {
+        0
+    }
+}
+
+/// The origin of the next type, where it is the module's own.
+pub fn own(t: &TypeTable) -> Origin
+    ensures { result ≡ spec.own t.now }
+{
+    Origin {
+        module: 0,
+        number: next_number(t),
+    }
+}
+
 /// Appends a type, and gives its number. None where a part has no number in the table, an index isn't ordinal, the type has
-/// more than 32,000 words or values outside -32768 to 65535, or the table has no number left; then and after a refusal of
+/// more than 32,000 words or values outside -32768 to 65535, or the table has 4,294,967,279 types; then and after a refusal of
 /// memory the table is as before.
 pub fn add(t: &mut TypeTable, origin: Origin, form: TypeForm) -> Result<Option<TypeId>, Memory>
     ensures number { IfOk result (λ n. n ≡ spec.added_number t.old form) }
@@ -131,7 +149,7 @@ pub fn add(t: &mut TypeTable, origin: Origin, form: TypeForm) -> Result<Option<T
     ensures err { OnErr result (t.new ≡ t.old) }
     ensures sound { types.IsSound t.old → types.IsSound t.new }
 {
-    if t.len() > 65519 {
+    if t.len() >= 4_294_967_279 {
         return Ok(None);
     }
     let n = t.len() as TypeId + 16;

@@ -6,7 +6,7 @@ mod folding;
 mod relations;
 mod table;
 
-pub use adding::{add, values};
+pub use adding::{add, own, values};
 pub use folding::{fold_one, fold_two};
 pub use relations::{assignable, base, compatible, entry, known, same, words};
 pub use table::{

@@ -23,11 +23,7 @@ fn standard(n: TypeId) -> Option<Facts>
 pub fn entry(t: &TypeTable, n: TypeId) -> Option<&TypeEntry>
     ensures { option_copied result ≡ spec.entry t.now n }
 {
-    if n < 16 {
-        None
-    } else {
-        t.get(usize::from(n) - 16)
-    }
+    if n < 16 { None } else { t.get(n as usize - 16) }
 }
 
 /// What is known of a type, None where the table has no such number.

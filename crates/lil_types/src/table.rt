@@ -1,4 +1,4 @@
-ghost use Rattle.std.specs.Prelude.{◌≡◌, ◌++◌, ◌∷◌, ◌<◌, [], length, slice_get, Some, None, OnOk, OnErr, OnSome};
+ghost use Rattle.std.specs.Prelude.{◌≡◌, ◌++◌, ◌∷◌, ◌<◌, ◌≤◌, [], length, slice_get, Some, None, OnOk, OnErr, OnSome};
 ghost use Rattle.std.specs.Option.{option_copied};
 ghost use Rattle.lil_types.specs.Types.{facts, span, aimed, meets as spec_meets, is_pointer as is_pointer_form};
 
@@ -7,8 +7,8 @@ use std::alloc::Global;
 use std::marker::Model;
 
 /// The number of a type. The numbers 0 to 7 are INTEGER, CARDINAL, BOOLEAN, CHAR, BITSET, PROC, ADDRESS and PROCESS; those
-/// of a unit's table begin at 16, in the order in which the types are complete.
-pub type TypeId = u16;
+/// of a unit's table begin at 16, in the order in which the types are complete. The greatest number is no type's.
+pub type TypeId = u32;
 
 /// INTEGER, with the values -32768 to 32767.
 pub const INTEGER: TypeId = 0;
@@ -125,19 +125,21 @@ pub struct TypeEntry {
     pub facts: Facts,
 }
 
-/// The types of a unit, from number 16 on.
+/// The types of a unit, from number 16 on: at most 4,294,967,279.
 #[derive(Drop)]
 pub struct TypeTable {
     entries: Vec<TypeEntry>,
 }
 
 impl Model for TypeTable {
-    ghost use Rattle.std.specs.Prelude.{List};
+    ghost use Rattle.std.specs.Prelude.{◌≤◌, List, length};
     ghost use Rattle.lil_types.specs.declared.table.TypeEntry.{TypeEntry};
 
     ghost Value = { List TypeEntry };
 
     ghost view = { λ t. t.entries.items };
+
+    ghost invariant = { λ t. length t.entries.items ≤ 4294967279 };
 }
 
 fn is_pointer(form: &TypeForm) -> bool
@@ -161,9 +163,17 @@ impl TypeTable {
 
     /// How many types there are but the standard ones.
     pub fn len(&self) -> usize
-        ensures { result ≡ length self.now }
+        ensures number { result ≡ length self.now }
+        ensures most { result ≤ 4294967279 }
     {
         self.entries.len()
+    }
+
+    /// The types in their order.
+    pub fn as_slice(&self) -> &[TypeEntry]
+        ensures { result.now ≡ self.now }
+    {
+        self.entries.as_slice()
     }
 
     /// The type at a place of the table, from 0.
@@ -176,6 +186,7 @@ impl TypeTable {
 
     /// A type more, at the end. After a refusal the table is as before.
     pub(crate) fn push(&mut self, entry: TypeEntry) -> Result<(), Memory>
+        requires { length self.old < 4294967279 }
         ensures ok { OnOk result (self.new ≡ self.old ++ entry ∷ []) }
         ensures err { OnErr result (self.new ≡ self.old) }
     {
@@ -190,7 +201,7 @@ impl TypeTable {
         if pointer < 16 {
             return;
         }
-        let at = usize::from(pointer) - 16;
+        let at = pointer as usize - 16;
         if at < self.entries.len() && is_pointer(&self.entries[at].form) {
             self.entries[at].form = TypeForm::Pointer(target);
         }

@@ -6,14 +6,15 @@ use Rattle.std.proofs.lemmas.Option.{none-some, same_Some}
 use Rattle.lil_resolved.specs.declared.resolved.RModule.{RModule}
 use Rattle.lil_resolved.specs.declared.resolved.RDeclared.{RDeclared}
 use Rattle.lil_resolved.specs.declared.shapes.RShape.{RShape}
-use Rattle.lil_resolved.specs.Shapes.{words, all_words, offsets_from}
+use Rattle.lil_resolved.specs.Kinds.{words, all_words, offsets_from}
 use Rattle.lil_resolved.specs.Resolved.{Procedure, Resolved}
-use Rattle.lil_resolved.specs.Strings.{body_strings, procedure_strings, module_strings}
+use Rattle.lil_resolved.specs.Sizes.{body_strings, procedure_strings, module_strings, code_size, frame_words}
 use Rattle.lil_resolved.specs.Views.{offset_of, shape_declared, module_of, IsMeasured}
-use Rattle.lil_resolved.specs.Sizes.{frame_words, code_size, IsSound}
+use Rattle.lil_resolved.specs.Sound.{IsSound}
 use Rattle.lil_asm.specs.declared.instr.Instr.TheVariants.{Ent, Rtn}
 use Rattle.lil_table.specs.Rows.{IsAt, TranslatesBy, Translates, layout_by, exactly, cut}
 use Rattle.lil_table.specs.Lengths.{module_long}
+use Rattle.lil_table.specs.Frames.{body_small}
 use Rattle.lil_labels.specs.Tables.{Tables, Describe}
 use Rattle.lil_labels.specs.Drafts.{Draft, empty, Final, Fits, Adds, Emits, Doing, code_of, settled_word, word_in}
 use Rattle.lil_labels.specs.Settling.{written_long}
@@ -33,7 +34,7 @@ lies_within ts (w ∷ vs) first (suc x) v h e =
     let rest : map offset_of vs ≡ offsets_from (first + words (shape_declared ts w)) (map (shape_declared ts) vs) = cc in
     omega (arith, lies_within ts vs (first + words (shape_declared ts w)) x v rest e)
 
-pub framed : (ts : List RShape) (us : List ℕ) (vs : List RDeclared) (all : ℕ) (m : Resolved) (words : ℕ) (a b c : Draft) → words ≡ frame_words m.body → m.procedures ≡ [] → Emits (empty ts us vs all) a (Doing (λ w. Ent words)) → Adds (body_strings m.body) a b (Body 0 None m.body) → Emits b c (Doing (λ w. Rtn))
+pub framed : (ts : List RShape) (us : List ℕ) (vs : List RDeclared) (all : ℕ) (m : Resolved) (words : ℕ) (a b c : Draft) → words ≡ frame_words m.body % 65536 → m.procedures ≡ [] → Emits (empty ts us vs all) a (Doing (λ w. Ent words)) → Adds (body_strings m.body) a b (Body 0 None m.body) → Emits b c (Doing (λ w. Rtn))
     → Adds (module_strings m) (empty ts us vs all) c (Framed m)
 framed ts us vs all m words a b c is alone enter body leave =
     adds_as (empty ts us vs all) c _ (ap (λ (ps : List Procedure). body_strings m.body ++ flat_map procedure_strings ps) (sym alone))
@@ -41,7 +42,7 @@ framed ts us vs all m words a b c is alone enter body leave =
     (λ x t. record { start = length a.bytes; end = length b.bytes; enter = subst (λ (w : ℕ). IsAt x.code 0 (Ent w) (length a.bytes)) is t.0; body = t.1.0; leave = t.1.1 })
     (emits_then (empty ts us vs all) a c _ _ enter (emits_then a b c _ _ body leave)))
 
-module _ (r : RModule) (d : Draft) (sound : IsSound (module_of r)) (measured : IsMeasured r) (few : r.words ≤ 32000) (frame : frame_words (module_of r).body ≤ 65535)
+module _ (r : RModule) (d : Draft) (sound : IsSound (module_of r)) (measured : IsMeasured r) (fits : all_words (module_of r).variables + length (module_strings (module_of r)) ≤ 32000)
     (emitted : Adds (module_strings (module_of r)) (empty r.shapes r.targets r.variables r.words) d (Framed (module_of r))) where
   abbrev m : Resolved
   m = module_of r
@@ -55,7 +56,7 @@ module _ (r : RModule) (d : Draft) (sound : IsSound (module_of r)) (measured : I
     targets = refl;
     shapes = refl;
     offsets = sym measured.offsets;
-    within = λ x v at. omega (arith, lies_within r.shapes r.variables 0 x v measured.offsets at, measured.words, few);
+    within = λ x v at. omega (arith, lies_within r.shapes r.variables 0 x v measured.offsets at, fits);
     words = sym measured.words;
     held = refl;
     held_shapes = refl;
@@ -64,41 +65,48 @@ module _ (r : RModule) (d : Draft) (sound : IsSound (module_of r)) (measured : I
   abbrev code : List ℕ
   code = code_of d (settled_word d.places)
 
-  settled : (ℕ → ℕ) → Final
-  settled target = record {
+  pub strings_are : d.strings ≡ module_strings m
+  strings_are = emitted.strings
+
+  -- numbers are written cut to 16 bits
+  abbrev Cuts : (ℕ → ℕ) → Type 0
+  Cuts target = (n : ℕ) → n ≤ frame_words m.body + length code → target n ≡ n % 65536
+
+  settled : (target : ℕ → ℕ) → Cuts target → Final
+  settled target cuts = record {
     tables = tables;
     layout = layout_by target d.strings m;
     described = described target;
-    framed = frame;
+    room = omega (arith, fits, ap length strings_are);
     word = settled_word d.places;
     code = code;
+    cuts = cuts;
   }
 
   -- where each place has its word, the settled code is a translation
-  settled_translates : (target : ℕ → ℕ) → ((l q : ℕ) → slice_get d.places l ≡ Some (Some q) → q % 65536 ≡ target q) → TranslatesBy (layout_by target d.strings m) m code
+  settled_translates : (target : ℕ → ℕ) → Cuts target → ((l q : ℕ) → slice_get d.places l ≡ Some (Some q) → q % 65536 ≡ target q) → TranslatesBy (layout_by target d.strings m) m code
   unfolding settled
-  settled_translates target words =
-      let fits : Fits d (settled target) = record { same = sym emitted.same; more = []; strings = sym (append-nil d.strings); rest = []; begins = sym (append-nil code); placed = λ l q h. ap word_in h ∙ words l q h } in
-      let t = emitted.meant (settled target) fits in
+  settled_translates target cuts words =
+      let begins : Fits d (settled target cuts) = record { same = sym emitted.same; more = []; strings = sym (append-nil d.strings); rest = []; begins = sym (append-nil code); placed = λ l q h. ap word_in h ∙ words l q h } in
+      let t = emitted.meant (settled target cuts) begins in
       record {
         start = t.start;
         end = t.end;
-        enter = t.enter;
-        body = t.body sound (omega arith);
+        enter = subst (λ (w : ℕ). IsAt code 0 (Ent w) t.start) (sym (cuts (frame_words m.body) (omega arith))) t.enter;
+        body = t.body 0 refl sound (omega arith);
         after = length code;
         leave = subst (λ (q : ℕ). IsAt code t.end Rtn q) (sym (written_long (settled_word d.places) d.bytes d.jumps)) t.leave;
         whole = λ bare. refl;
       }
 
   pub settled_long : length code ≡ code_size m
-  settled_long = module_long (layout_by cut d.strings m) m code refl (settled_translates cut (λ l q h. refl))
+  settled_long = module_long (layout_by cut d.strings m) m code refl (settled_translates cut (λ n less. refl) (λ l q h. refl))
 
   pub draft_long : length d.bytes ≡ code_size m
   draft_long = sym (written_long (settled_word d.places) d.bytes d.jumps) ∙ settled_long
 
-  pub strings_are : d.strings ≡ module_strings m
-  strings_are = emitted.strings
-
-  -- where the code is short, that is with the places as they are
-  pub exact : ((l q : ℕ) → slice_get d.places l ≡ Some (Some q) → q ≤ 32767) → Translates m (module_strings m) code
-  exact small = subst (λ (strings : List ℕ). Translates m strings code) strings_are (settled_translates exactly (λ l q h. omega (arith, small l q h)))
+  -- where the code is short, that is with the numbers as they are
+  pub exact : length d.bytes ≤ 32767 → ((l q : ℕ) → slice_get d.places l ≡ Some (Some q) → q ≤ length d.bytes) → Translates m (module_strings m) code
+  exact short behind =
+      subst (λ (strings : List ℕ). Translates m strings code) strings_are
+      (settled_translates exactly (λ n less. omega (arith, less, body_small m.body, settled_long, draft_long, short)) (λ l q h. omega (arith, behind l q h, short)))

@@ -1,11 +1,11 @@
 //! The code of a program module: its frame, its statements, and the return.
 
 ghost use Rattle.std.specs.Prelude.{◌≡◌, ◌+◌, ◌<◌, ◌≤◌, ℕ, length, min, IfOk, Err};
-ghost use Rattle.lil_resolved.specs.Shapes.{all_words};
+ghost use Rattle.lil_resolved.specs.Kinds.{all_words};
 ghost use Rattle.lil_resolved.specs.Views.{IsMeasured, module_of};
 ghost use Rattle.lil_resolved.specs.Sizes as spec;
-ghost use Rattle.lil_resolved.specs.Sizes.{IsSound};
-ghost use Rattle.lil_resolved.specs.Strings.{module_strings};
+ghost use Rattle.lil_resolved.specs.Sound.{IsSound};
+ghost use Rattle.lil_resolved.specs.Sizes.{module_strings};
 ghost use Rattle.lil_table.specs.Rows.{Translates};
 ghost use Rattle.lil_labels.specs.Drafts.{Adds, empty};
 ghost use Rattle.lil_unit.specs.Framing.{Framed};
@@ -38,9 +38,7 @@ fn counted(bytes: usize) -> u32
 
 /// The code of a program module, with labels.
 fn emit_module<'m>(alloc: Global, m: &'m RModule) -> Result<CodeBuffer<'m>, Memory>
-    requires { m.now.words ≤ 32000 }
-    ensures frame { IfOk result (λ code. spec.frame_words (module_of m.now).body ≤ 65535) }
-    ensures emits { IfOk result (λ code. Adds (module_strings (module_of m.now)) (empty m.now.shapes m.now.targets m.now.variables m.now.words) code (Framed (module_of m.now))) }
+    ensures { IfOk result (λ code. Adds (module_strings (module_of m.now)) (empty m.now.shapes m.now.targets m.now.variables m.now.words) code (Framed (module_of m.now))) }
 {
     let body = m.body.as_slice();
     let around = Around {
@@ -54,20 +52,20 @@ fn emit_module<'m>(alloc: Global, m: &'m RModule) -> Result<CodeBuffer<'m>, Memo
         m.variables.as_slice(),
         m.words,
     );
-    code.put(Instr::Ent(frame_words(body)?))?;
+    code.put(Instr::Ent(frame_words(body)))?;
     emit_body(&mut code, body, around)?;
     code.put(Instr::Rtn)?;
     Ok(code)
 }
 
-/// The code and the strings of a program module, where the code has at most 32,767 bytes.
+/// The code and the strings of a program module, where the code has at most 32,767 bytes. Its variables and strings have at
+/// most 32,000 words.
 pub fn generate(alloc: Global, m: &RModule) -> Result<ModuleCode, GenStop>
     requires sound { IsSound (module_of m.now) }
     requires measured { IsMeasured m.now }
-    requires few { m.now.words ≤ 32000 }
+    requires fits { all_words (module_of m.now).variables + length (module_strings (module_of m.now)) ≤ 32000 }
     ensures strings { IfOk result (λ made. made.strings.items ≡ module_strings (module_of m.now)) }
     ensures translates { IfOk result (λ made. Translates (module_of m.now) (module_strings (module_of m.now)) made.code) }
-    ensures few { IfOk result (λ made. all_words (module_of m.now).variables + length (module_strings (module_of m.now)) ≤ 32000) }
     ensures long { IfOk result (λ made. length made.code ≡ spec.code_size (module_of m.now)) }
     ensures short { IfOk result (λ made. spec.code_size (module_of m.now) ≤ 32767) }
     ensures too_long { (bytes : ℕ) → result ≡ Err (GenStop.CodeTooLong bytes) → (32767 < spec.code_size (module_of m.now)) × (bytes ≡ min (spec.code_size (module_of m.now)) 4294967295) }

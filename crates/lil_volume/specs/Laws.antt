@@ -1,7 +1,7 @@
 -- What a sink holds after several pieces.
-use Rattle.std.proofs.Common.{◌≡◌, ℕ, List, [], ◌++◌, length, Option, None, Some, refl, sym, ◌∙◌, ap, arith, append_assoc}
-use Rattle.std.proofs.lemmas.List.{append-nil, take_all}
-use Rattle.lil_volume.specs.Told.{followed_by, FollowedByPrefix}
+use Rattle.std.proofs.Common.{◌≡◌, ℕ, List, [], ◌++◌, Option, None, Some, refl, ap, append_assoc}
+use Rattle.std.proofs.lemmas.List.{append-nil}
+use Rattle.lil_volume.specs.Told.{followed_by}
 
 -- two pieces are one
 pub followed_twice : (old : Option (List ℕ)) (a b : List ℕ) → followed_by (followed_by old a) b ≡ followed_by old (a ++ b)
@@ -12,8 +12,3 @@ followed_twice (Some bytes) a b = ap (λ (held : List ℕ). Some held) (append_a
 pub followed_nothing : (old : Option (List ℕ)) → followed_by old [] ≡ old
 followed_nothing None = refl
 followed_nothing (Some bytes) = ap (λ (held : List ℕ). Some held) (append-nil bytes)
-
--- the whole piece is a prefix of it
-pub all_taken : (old new : Option (List ℕ)) (piece : List ℕ) → new ≡ followed_by old piece → FollowedByPrefix old piece new
-all_taken old new piece whole =
-    (length piece, whole ∙ ap (λ (taken : List ℕ). followed_by old taken) (sym (take_all (length piece) piece (omega arith))))

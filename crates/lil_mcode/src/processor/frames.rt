@@ -1,9 +1,8 @@
 //! The rows of frames: the mark and the words of a body, marks and calls of procedures, and returns.
 
 ghost use Rattle.std.specs.Prelude.{◌≡◌, ◌+◌, ◌*◌, ◌<◌, ◌≤◌, ◌∷◌, length, false, option_map, OnSome, Some, []};
-ghost use Rattle.lil_mcode.specs.State.{module_at, body_entry};
+ghost use Rattle.lil_mcode.specs.Table.{module_at, body_entry, enter_row, leave_row, end_row, return_row, frame_out, link_word, mark_row, entry_in, call_row};
 ghost use Rattle.lil_frames.specs.Words.{spliced};
-ghost use Rattle.lil_mcode.specs.Table.{enter_row, leave_row, end_row, return_row, frame_out, link_word, mark_row, entry_in, call_row};
 
 use super::Processor;
 use super::fetching::loaded;

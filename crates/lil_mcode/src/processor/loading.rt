@@ -4,7 +4,7 @@ ghost use Rattle.std.specs.Prelude.{◌≡◌, ◌+◌, ◌<◌, ◌≤◌, ◌�
 ghost use Rattle.std.specs.Option.{option_copied};
 ghost use Rattle.lil_mcode.specs.Calls.{IsRunning, names_of, code_used};
 ghost use Rattle.lil_mcode.specs.Kept.{with_loaded, with_first, is_better};
-ghost use Rattle.lil_mcode.specs.State.{Module, module_at, first_entry};
+ghost use Rattle.lil_mcode.specs.Table.{Module, module_at, first_entry};
 ghost use Rattle.lil_frames.specs.Words.{spliced};
 
 use super::fetching::loaded;

@@ -1,4 +1,4 @@
-use Rattle.std.proofs.Common.{rules, refl, ap}
+use Rattle.std.proofs.Common.{rules, ap}
 use Rattle.lil_report.specs.Laws.{said_value, said_more}
 use Rattle.lil_check_decl.specs.Headings.{section_step}
 use Rattle.lil_check_decl.proofs.headings.sections.Goals as goal

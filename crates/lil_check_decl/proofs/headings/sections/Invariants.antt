@@ -1,6 +1,6 @@
 use Rattle.std.proofs.Common.{take}
 use Rattle.lil_report.specs.Told.{Said, walk}
-use Rattle.lil_check_type.specs.Routines.{no_parameters}
+use Rattle.lil_check_type.specs.Records.{no_parameters}
 use Rattle.lil_check_decl.specs.Headings.{Headed, section_step}
 use Rattle.lil_check_decl.proofs.headings.sections.Given as goal
 

@@ -1,6 +1,6 @@
 use Rattle.std.proofs.Common.{ap, ◌∙◌}
 use Rattle.lil_report.specs.Laws.{said_to}
-use Rattle.lil_check_stmt.proofs.Parts.{is_given, is_count}
+use Rattle.lil_check_stmt.proofs.Forms.{is_given, is_count}
 use Rattle.lil_check_stmt.proofs.counting.counting.Goals as goal
 
 pub returns : goal.returns

@@ -1,5 +1,5 @@
 use Rattle.lil_report.specs.Laws.{said_to}
-use Rattle.lil_check_stmt.proofs.Parts.{is_given, is_one, is_range}
+use Rattle.lil_check_stmt.proofs.Forms.{is_given, is_one, is_range}
 use Rattle.lil_check_stmt.proofs.labels.label.Goals as goal
 
 pub returns-in-None : goal.returns-in-None

@@ -1,7 +1,7 @@
 use Rattle.std.proofs.Common.{rules, arith}
 use Rattle.lil_check_stmt.specs.Labels.{label_step}
 use Rattle.lil_report.specs.Laws.{said_value, said_more, said_all}
-use Rattle.lil_check_stmt.proofs.Parts.{is_label}
+use Rattle.lil_check_stmt.proofs.Forms.{is_label}
 use Rattle.lil_check_stmt.proofs.labels.labels_of_arm.Goals as goal
 
 pub loop-one-init : goal.loop-one-init

@@ -1,5 +1,5 @@
 use Rattle.lil_report.specs.Laws.{said_to, said_after}
-use Rattle.lil_check_stmt.proofs.Parts.{is_given}
+use Rattle.lil_check_stmt.proofs.Forms.{is_given}
 use Rattle.lil_check_stmt.proofs.statements.assigned.Goals as goal
 
 pub returns : goal.returns

@@ -1,4 +1,4 @@
-use Rattle.lil_check_stmt.proofs.Parts.{is_value}
+use Rattle.lil_check_stmt.proofs.Forms.{is_value}
 use Rattle.lil_check_stmt.proofs.statements.returned.Goals as goal
 
 pub returns-in_ok-found-in-Some : goal.returns-in_ok-found-in-Some

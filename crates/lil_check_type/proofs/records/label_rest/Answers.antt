@@ -1,4 +1,4 @@
-use Rattle.lil_check_type.proofs.Parts.{is_two}
+use Rattle.lil_check_type.proofs.Forms.{is_two}
 use Rattle.lil_check_type.proofs.records.label_rest.Goals as goal
 
 pub returns-in_ok-labels-in-Some : goal.returns-in_ok-labels-in-Some

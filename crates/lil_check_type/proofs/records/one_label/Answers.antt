@@ -1,5 +1,5 @@
 use Rattle.std.proofs.Common.{refl}
-use Rattle.lil_check_type.proofs.Parts.{is_label}
+use Rattle.lil_check_type.proofs.Forms.{is_label}
 use Rattle.lil_check_type.proofs.records.one_label.Goals as goal
 
 pub returns : goal.returns

@@ -1,4 +1,4 @@
-use Rattle.lil_check_type.proofs.Parts.{is_tag}
+use Rattle.lil_check_type.proofs.Forms.{is_tag}
 use Rattle.lil_check_type.proofs.records.tag.Goals as goal
 
 pub returns : goal.returns

@@ -1,4 +1,4 @@
-use Rattle.lil_check_type.proofs.Parts.{is_formal}
+use Rattle.lil_check_type.proofs.Forms.{is_formal}
 use Rattle.lil_check_type.proofs.routines.formal.Goals as goal
 
 pub returns : goal.returns

@@ -1,6 +1,6 @@
-use Rattle.std.proofs.Common.{rules, refl}
+use Rattle.std.proofs.Common.{rules}
 use Rattle.lil_report.specs.Laws.{said_value, said_more}
-use Rattle.lil_check_type.specs.Routines.{formal_step}
+use Rattle.lil_check_type.specs.Records.{formal_step}
 use Rattle.lil_check_type.proofs.routines.formals.Goals as goal
 
 pub loop-one-init : goal.loop-one-init

@@ -1,4 +1,4 @@
-use Rattle.lil_check_type.proofs.Parts.{is_procedure}
+use Rattle.lil_check_type.proofs.Forms.{is_procedure}
 use Rattle.lil_check_type.proofs.routines.procedure.Goals as goal
 
 pub returns : goal.returns

@@ -1,7 +1,7 @@
 use Rattle.std.proofs.Common.{ap}
 use Rattle.lil_report.specs.Laws.{said_as}
-use Rattle.lil_check_type.proofs.Parts.{is_result}
-use Rattle.lil_check_type.specs.Routines.{result_means}
+use Rattle.lil_check_type.proofs.Forms.{is_result}
+use Rattle.lil_check_type.specs.Records.{result_means}
 use Rattle.lil_check_type.proofs.routines.result_type.Goals as goal
 
 pub returns-in-Some : goal.returns-in-Some

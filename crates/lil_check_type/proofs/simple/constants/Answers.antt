@@ -1,6 +1,6 @@
 use Rattle.std.proofs.Common.{rules, refl}
 use Rattle.lil_report.specs.Laws.{said_value, said_more}
-use Rattle.lil_check_type.proofs.Parts.{is_constant}
+use Rattle.lil_check_type.proofs.Forms.{is_constant}
 use Rattle.lil_check_type.specs.Simple.{constant_step}
 use Rattle.lil_check_type.proofs.simple.constants.Goals as goal
 

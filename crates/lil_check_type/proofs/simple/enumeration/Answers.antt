@@ -1,4 +1,4 @@
-use Rattle.lil_check_type.proofs.Parts.{is_enumeration}
+use Rattle.lil_check_type.proofs.Forms.{is_enumeration}
 use Rattle.lil_check_type.proofs.simple.enumeration.Goals as goal
 
 pub returns : goal.returns

@@ -1,4 +1,4 @@
-use Rattle.lil_check_type.proofs.Parts.{is_index}
+use Rattle.lil_check_type.proofs.Forms.{is_index}
 use Rattle.lil_check_type.proofs.simple.index.Goals as goal
 
 pub returns : goal.returns

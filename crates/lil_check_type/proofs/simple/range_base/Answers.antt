@@ -1,6 +1,6 @@
 use Rattle.std.proofs.Common.{ap}
 use Rattle.lil_report.specs.Laws.{said_as}
-use Rattle.lil_check_type.proofs.Parts.{is_base}
+use Rattle.lil_check_type.proofs.Forms.{is_base}
 use Rattle.lil_check_type.specs.Simple.{base_means}
 use Rattle.lil_check_type.proofs.simple.range_base.Goals as goal
 

@@ -1,4 +1,4 @@
-use Rattle.lil_check_type.proofs.Parts.{is_set}
+use Rattle.lil_check_type.proofs.Forms.{is_set}
 use Rattle.lil_check_type.proofs.simple.set.Goals as goal
 
 pub returns : goal.returns

@@ -1,4 +1,4 @@
-use Rattle.lil_check_type.proofs.Parts.{is_named, is_constants, is_range}
+use Rattle.lil_check_type.proofs.Forms.{is_named, is_constants, is_range}
 use Rattle.std.proofs.Common.{rules}
 use Rattle.lil_check_type.proofs.simple.simple.Goals as goal
 

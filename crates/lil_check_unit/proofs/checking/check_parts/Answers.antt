@@ -10,7 +10,7 @@ use Rattle.lil_check_unit.proofs.checking.check_parts.Goals as goal
 pub returns-in-Some-clause-wrong : goal.returns-in-Some-clause-wrong
 returns-in-Some-clause-wrong c f e =
     let as_told = c.told.ensures in
-    (c.in-Some.fault, wrong_declarations c.args.u.now c.args.interfaces.now c.new-report.ensures c.in_ok-env.ensures (sym c.in-Some.is ∙ c.worst_now.ensures), cc)
+    (c.in-Some.fault, wrong_declarations c.args.u.now c.args.interfaces.now c.new-report.ensures c.in_ok-env.ensures (sym c.in-Some.is ∙ c.names_fault.ensures), cc)
 
 pub returns-in-None-clause-right : goal.returns-in-None-clause-right
 returns-in-None-clause-right c =
@@ -18,7 +18,7 @@ returns-in-None-clause-right c =
     (λ m p. (
       p.0 ∙ ap in_no_with c.in_ok-env.ensures.value,
       p.1 ∙ stated_is c.args.u.now c.args.interfaces.now c.new-report.ensures c.in_ok-env.ensures,
-      then_statements c.args.u.now c.args.interfaces.now c.new-report.ensures c.in_ok-env.ensures (sym c.in-None.is ∙ c.worst_now.ensures) ∙ p.2,
+      then_statements c.args.u.now c.args.interfaces.now c.new-report.ensures c.in_ok-env.ensures (sym c.in-None.is ∙ c.names_fault.ensures) ∙ p.2,
       p.3 ∙ ap (λ o. worse o (late_of (tell None (bodies_mean (in_no_with c.in_ok-env.env) c.args.u.now.decls c.args.u.now.body).1))) c.worst_late.ensures ∙ late_is c.args.u.now c.args.interfaces.now c.new-report.ensures c.in_ok-env.ensures,
     ))
     c.with_statements.ensures.right
@@ -26,4 +26,4 @@ returns-in-None-clause-right c =
 pub returns-in-None-clause-wrong : goal.returns-in-None-clause-wrong
 returns-in-None-clause-wrong c f e =
     let p = c.with_statements.ensures.wrong f e in
-    (p.0, then_statements c.args.u.now c.args.interfaces.now c.new-report.ensures c.in_ok-env.ensures (sym c.in-None.is ∙ c.worst_now.ensures) ∙ p.1, p.2)
+    (p.0, then_statements c.args.u.now c.args.interfaces.now c.new-report.ensures c.in_ok-env.ensures (sym c.in-None.is ∙ c.names_fault.ensures) ∙ p.1, p.2)

@@ -1,11 +1,11 @@
 use Rattle.std.proofs.Common.{◌∙◌}
 use Rattle.std.proofs.lemmas.Result.{IfOk-weaker}
-use Rattle.lil_resolved.specs.Views.{module_of as resolved_of}
 use Rattle.lil_check_unit.specs.Modules.{assembled}
 use Rattle.lil_check_unit.specs.UnitLaws.{unit_speaks}
-use Rattle.lil_check_unit.proofs.ModuleSound.{module_sound}
+use Rattle.lil_check_unit.proofs.ModuleSound.{module_sound, module_kept}
 use Rattle.lil_check_unit.proofs.UnitFaults.{wrong_unit, module_is, then_last, nothing_last}
 use Rattle.lil_check_unit.proofs.modules.check_module.Goals as goal
+use Rattle.lil_resolved.specs.Views.{module_of as resolved_of}
 
 pub returns-in-Ok-clause-right : goal.returns-in-Ok-clause-right
 returns-in-Ok-clause-right c =
@@ -19,6 +19,9 @@ returns-in-Ok-clause-right c =
       then_last u is of.0 of.1 of.2 of.3 ∙ nothing_last u made.declared made.stated made.late (assembled made.declared.types made.declared.variables u.head.name.name made.stated.body) p.1 p.0,
     ))
     c.with_data.ensures.right
+
+pub returns-in-Ok-clause-kept : goal.returns-in-Ok-clause-kept
+returns-in-Ok-clause-kept c = IfOk-weaker c.with_data.result _ _ (λ m made. module_kept c.args.u.now c.args.interfaces.now c.in-Ok.ensures.right.1 made) c.with_data.ensures.body
 
 pub returns-in-Ok-clause-sound : goal.returns-in-Ok-clause-sound
 returns-in-Ok-clause-sound c =

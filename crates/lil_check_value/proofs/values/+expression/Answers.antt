@@ -1,7 +1,7 @@
 use Rattle.std.proofs.Common.{rules, refl, arith}
 use Rattle.lil_report.specs.Laws.{said_value, said_more, said_all}
 use Rattle.lil_check_value.specs.Values.{argument_means, step_means, joins_mean, index_means, operation_means}
-use Rattle.lil_check_value.proofs.Meanings.{is_field, is_index, is_follow, is_reached, is_indexed, is_operated, is_alone, is_range, is_typed, is_valued, is_plain, is_argument, is_whole, is_code, is_chars, is_set, is_desig, is_one, is_chain, is_call}
+use Rattle.lil_check_value.proofs.Forms.{is_field, is_index, is_follow, is_reached, is_indexed, is_operated, is_alone, is_range, is_typed, is_valued, is_plain, is_argument, is_whole, is_code, is_chars, is_set, is_desig, is_one, is_chain, is_call}
 use Rattle.lil_check_value.proofs.values.+expression.Goals as goal
 
 pub all_arguments-loop-one-init : goal.all_arguments-loop-one-init

@@ -1,6 +1,6 @@
 use Rattle.std.proofs.Common.{take, [], Some}
 use Rattle.lil_report.specs.Told.{Said, walk}
-use Rattle.lil_operators.specs.Sets.{no_elements}
+use Rattle.lil_operators.specs.Operations.{no_elements}
 use Rattle.lil_check_value.specs.Values as spec
 use Rattle.lil_check_value.proofs.values.+expression.Given as goal
 

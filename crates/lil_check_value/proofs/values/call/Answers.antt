@@ -1,5 +1,5 @@
 use Rattle.std.proofs.Common.{refl}
-use Rattle.lil_check_value.proofs.Meanings.{is_stated}
+use Rattle.lil_check_value.proofs.Forms.{is_stated}
 use Rattle.lil_check_value.proofs.values.call.Goals as goal
 
 pub returns : goal.returns

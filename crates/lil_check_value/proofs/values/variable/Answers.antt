@@ -1,5 +1,5 @@
 use Rattle.std.proofs.Common.{refl}
-use Rattle.lil_check_value.proofs.Meanings.{is_variable}
+use Rattle.lil_check_value.proofs.Forms.{is_variable}
 use Rattle.lil_check_value.proofs.values.variable.Goals as goal
 
 pub returns : goal.returns

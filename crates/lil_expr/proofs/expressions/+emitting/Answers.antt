@@ -2,8 +2,7 @@ use Rattle.std.proofs.Common.{◌≡◌, List, ap, sym, ◌∙◌, subst, OnOk, 
 use Rattle.lil_base.specs.Words.{Integer}
 use Rattle.lil_resolved.specs.Kinds.{Kind, OfWhole}
 use Rattle.lil_resolved.specs.Resolved.{Expression, kind_of}
-use Rattle.lil_resolved.specs.Views.{base_view, kind_view, root_view, function_of, expression_of, selector_of, member_of}
-use Rattle.lil_resolved.specs.Forms.{field_is, index_is, follow_is, one_is, chain_is, apply_is, set_is, single_is, span_is}
+use Rattle.lil_resolved.specs.Views.{base_view, kind_view, root_view, function_of, expression_of, selector_of, member_of, field_is, index_is, follow_is, one_is, chain_is, apply_is, set_is, single_is, span_is}
 use Rattle.lil_resolved.specs.declared.resolved.RExpr.{RExpr}
 use Rattle.lil_resolved.specs.declared.resolved.ROperation.{ROperation, out-ROperation}
 use Rattle.lil_resolved.specs.declared.resolved.RPlace.{out-RPlace}
@@ -108,8 +107,8 @@ emit_selector-returns-in-Field t c =
 
 pub emit_selector-returns-in_ok-put-in-Index : goal.emit_selector-returns-in_ok-put-in-Index
 emit_selector-returns-in_ok-put-in-Index t c =
-    element_selected c.args.selector.now (kind_view c.in-Index.kind) (base_view c.base.result) (expression_of c.in-Index.index) c.args.at.shape c.in_ok-least-in-Index.least (access_view c.args.at.access) c.elements-elements.result _ _ _ _ _
-    (λ d. ap (λ (s : RSelector). selector_of s d) c.in-Index.is ∙ index_is c.in-Index.kind c.in-Index.index d) c.elements-elements.ensures c.base.ensures c.in_ok-least-in-Index.ensures
+    element_selected c.args.selector.now (kind_view c.in-Index.kind) (base_view c.base.result) (expression_of c.in-Index.index) c.args.at.shape c.least_word-least.result (access_view c.args.at.access) c.elements-elements.result _ _ _ _ _
+    (λ d. ap (λ (s : RSelector). selector_of s d) c.in-Index.is ∙ index_is c.in-Index.kind c.in-Index.index d) c.elements-elements.ensures c.base.ensures c.least_word-least.ensures
     c.in_ok-emit_address-in-Index.ensures c.in_ok-emit_expression-in-Index.ensures c.in_ok-emit_test-in-Index.ensures c.in_ok-put-in-Index.ensures
 
 pub emit_selector-returns-in_ok-put-in-Follow : goal.emit_selector-returns-in_ok-put-in-Follow

@@ -1,5 +1,5 @@
 use Rattle.std.proofs.Common.{◌≡◌, ◌+◌, []}
-use Rattle.lil_resolved.specs.Shapes.{words, shape_at}
+use Rattle.lil_resolved.specs.Kinds.{words, shape_at}
 use Rattle.lil_resolved.specs.Views.{AreMeasured, shapes_of}
 use Rattle.lil_labels.proofs.buffer.words_at.Given as goal
 

@@ -1,6 +1,6 @@
 use Rattle.std.proofs.Common.{rules, refl, arith}
 use Rattle.lil_report.specs.Laws.{said_value, said_more, said_all}
-use Rattle.lil_operators.specs.Sets.{bounds_node}
+use Rattle.lil_operators.specs.Operations.{bounds_node}
 use Rattle.lil_operators.proofs.sets.elements_tally.Goals as goal
 
 pub loop-one-init : goal.loop-one-init

@@ -1,6 +1,6 @@
 use Rattle.std.proofs.Common.{take}
 use Rattle.lil_report.specs.Told.{Said, walk}
-use Rattle.lil_operators.specs.Sets.{bounds_node, no_tally}
+use Rattle.lil_operators.specs.Operations.{bounds_node, no_tally}
 use Rattle.lil_operators.proofs.sets.elements_tally.Given as goal
 
 abbrev pub invariant-loop-one : goal.invariant-loop-one

@@ -1,4 +1,4 @@
-use Rattle.std.proofs.Common.{arith, inl, inr}
+use Rattle.std.proofs.Common.{inr}
 use Rattle.lil_read_unit.proofs.Counting.{tokens_few}
 use Rattle.lil_read_unit.proofs.Wholes.{one_unit, apart_unit, whole_unit, fault_at}
 use Rattle.lil_read_unit.proofs.texts.read.Goals as goal

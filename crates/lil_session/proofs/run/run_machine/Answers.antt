@@ -1,5 +1,5 @@
 use Rattle.std.proofs.Common.{◌≡◌, ◌≢◌, ℕ, ◌+◌, ◌-◌, Option, Some, None, Ok, refl, sym, ap, subst, ◌∙◌, arith}
-use Rattle.lil_mcode.specs.State.{State}
+use Rattle.lil_mcode.specs.Table.{State}
 use Rattle.lil_mcode.specs.Calls.{Machine}
 use Rattle.lil_mcode.specs.Stops.{IsStop, stop_stays}
 use Rattle.lil_session.specs.declared.run.Ending.{Ending}

@@ -2,11 +2,10 @@ use Rattle.std.proofs.Common.{◌≡◌, inl, ℕ, List, Option, [], refl, ap, �
 use Rattle.lil_resolved.specs.Views.{module_of}
 use Rattle.lil_meaning.specs.World.{World}
 use Rattle.lil_resolved.specs.Resolved.{Resolved}
-use Rattle.lil_resolved.specs.Sizes.{IsSmall}
-use Rattle.lil_resolved.specs.Strings.{module_strings}
+use Rattle.lil_resolved.specs.Sizes.{IsSmall, module_strings}
 use Rattle.lil_table.specs.Rows.{Translates}
 use Rattle.lil_match.specs.Running.{Finish}
-use Rattle.lil_mcode.specs.State.{State}
+use Rattle.lil_mcode.specs.Table.{State}
 use Rattle.lil_mcode.specs.Calls.{Machine}
 use Rattle.lil_session.specs.declared.status.Status.TheVariants.{Memory}
 use Rattle.lil_session.specs.Running.{IsCut, HasRun, finish_of}

@@ -1,6 +1,6 @@
 use Rattle.std.proofs.Common.{◌≡◌, None, slice_get, refl, sym, ap, rules}
 use Rattle.std.specs.Option.{option_map}
-use Rattle.lil_resolved.specs.Shapes.{words}
+use Rattle.lil_resolved.specs.Kinds.{words}
 use Rattle.lil_shapes.specs.Measured.{shapes_in}
 use Rattle.lil_shapes.specs.Shaping.{within, there, lying}
 use Rattle.lil_shapes.proofs.LayLaws.{lying_none, variable_over, variable_laid}
@@ -21,4 +21,4 @@ returns-in_default-behind c =
 pub loop-one-preserved : goal.loop-one-preserved
 loop-one-preserved c =
     variable_laid c.args.types.now c.args.of.now c.loop-one.one-index c.one-item.result c.loop-one.variables c.loop-one.words c.in-Some.size c.loop-one-test.true (search rules) c.loop-one.invariant (search rules)
-    c.push.new.self (record { name = c.in_ok-name.name; offset = c.loop-one.words; shape = c.from.result }) c.in-Some-behind.next (search rules) (search rules) refl (search rules) (search rules)
+    c.push.new.self (record { name = c.in_ok-name.name; offset = c.loop-one.words; shape = c.one-item.result.sort }) c.in-Some-behind.next (search rules) (search rules) refl (search rules) (search rules)

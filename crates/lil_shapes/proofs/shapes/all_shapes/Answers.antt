@@ -7,7 +7,7 @@ pub loop-number-init : goal.loop-number-init
 loop-number-init c = none_shaped c.args.t.now (record { shapes = c.new.result; sizes = c.new-2.result }) c.new.ensures c.new-2.ensures
 
 pub returns-in-None-clause-means : goal.returns-in-None-clause-means
-returns-in-None-clause-means c = no_shapes c.args.t.now c.loop-number.number (shapes_in c.loop-number.so_far) (omega arith) (omega arith) c.loop-number.invariant.0 (search rules)
+returns-in-None-clause-means c = no_shapes c.args.t.now c.loop-number.number (shapes_in c.loop-number.so_far) (omega arith) c.loop-number.invariant.0 (search rules)
 
 pub loop-number-preserved : goal.loop-number-preserved
 loop-number-preserved c =

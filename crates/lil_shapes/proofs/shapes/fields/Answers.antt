@@ -1,7 +1,7 @@
 use Rattle.std.proofs.Common.{◌≡◌, Some, None, slice_get, refl, sym, ap, subst, rules, arith}
 use Rattle.std.specs.Option.{option_map}
 use Rattle.std.proofs.lemmas.List.{take_all}
-use Rattle.lil_resolved.specs.Shapes.{words, fields_of}
+use Rattle.lil_resolved.specs.Kinds.{words, fields_of}
 use Rattle.lil_resolved.specs.declared.shapes.RShape.TheVariants as r
 use Rattle.lil_shapes.specs.Measured.{shapes_in}
 use Rattle.lil_shapes.specs.Shaping.{within, field_shape}
@@ -24,7 +24,7 @@ returns-in_default-behind-clause-means c =
 pub loop-field-preserved : goal.loop-field-preserved
 loop-field-preserved c =
     field_found (shapes_in c.args.before.now) c.args.of.now c.loop-field.field-index c.field-item.result c.loop-field.found c.loop-field.offset c.in-Some.words c.loop-field-test.true (search rules) c.loop-field.invariant (search rules)
-    c.push.new.self (record { offset = c.loop-field.offset; shape = c.from.result }) c.in-Some-behind.next (search rules) refl (search rules) (search rules)
+    c.push.new.self (record { offset = c.loop-field.offset; shape = c.field-item.result.sort }) c.in-Some-behind.next (search rules) refl (search rules) (search rules)
 
 pub returns-clause-made : goal.returns-clause-made
 returns-clause-made c =

@@ -1,5 +1,5 @@
 use Rattle.lil_expr.specs.Numbers.{number_word}
-use Rattle.lil_stmt.proofs.Arms.{next_label_emitted}
+use Rattle.lil_stmt.proofs.Stating.{next_label_emitted}
 use Rattle.lil_stmt.proofs.cases.emit_labels.Goals as goal
 
 pub loop-label-preserved : goal.loop-label-preserved

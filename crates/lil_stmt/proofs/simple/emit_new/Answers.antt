@@ -1,5 +1,5 @@
 use Rattle.std.proofs.Common.{ℕ, ap, ◌∙◌}
-use Rattle.lil_resolved.specs.Shapes.{words, shape_at}
+use Rattle.lil_resolved.specs.Kinds.{words, shape_at}
 use Rattle.lil_resolved.specs.Views.{place_of, shapes_of}
 use Rattle.lil_labels.specs.Emitting.{with_ok}
 use Rattle.lil_stmt.proofs.Placing.{new_emitted}

@@ -1,4 +1,4 @@
-use Rattle.std.proofs.Common.{rules, ℕ, ◌≡◌, ◌+◌, ◌≤◌, suc, take, ℤ, pos, negsuc, ◌≤ℤ◌, w16, List, [], ◌∷◌, length, length-append, Option, None, sym, ap, ◌∙◌, subst, arith}
+use Rattle.std.proofs.Common.{rules, ℕ, ◌≡◌, take, ℤ, pos, negsuc, ◌≤ℤ◌, w16, List, [], ◌∷◌, length, length-append, Option, None, sym, ap, ◌∙◌, subst, arith}
 use mir.Val.{SFits}
 use Rattle.std.specs.List.{flat_map}
 use Rattle.std.proofs.lemmas.List.{take_all}
@@ -9,16 +9,14 @@ use Rattle.lil_resolved.specs.declared.resolved.RArm.{RArm}
 use Rattle.lil_resolved.specs.declared.resolved.RGuard.{RGuard}
 use Rattle.lil_resolved.specs.declared.shapes.RField.{RField}
 use Rattle.lil_resolved.specs.Kinds.{base_of, compared_as, covers, outside_turns}
-use Rattle.lil_resolved.specs.Resolved.{Statements, kind_of}
-use Rattle.lil_resolved.specs.Views.{kind_view, expression_of, place_of, statement_of, statements_of, guards_of, else_of, arms_of}
-use Rattle.lil_resolved.specs.Strings.{body_strings, arms_strings}
-use Rattle.lil_resolved.specs.Forms.{if_is}
+use Rattle.lil_resolved.specs.Resolved.{While, Repeat, Loop, For, Inside, Statements, Empty, Then, kind_of}
+use Rattle.lil_resolved.specs.Views.{kind_view, variable_kind, expression_of, place_of, statement_of, statements_of, guards_of, else_of, arms_of, if_is, while_is, repeat_is, loop_is, for_is, inside_is}
+use Rattle.lil_resolved.specs.Sizes.{body_strings, arms_strings}
 use Rattle.lil_labels.specs.Drafts.{Draft, Adds, Emits}
 use Rattle.lil_labels.specs.Emitting.{with_ok, adds_as}
 use Rattle.lil_expr.specs.Numbers.{number_word}
 use Rattle.lil_stmt.specs.Generating.{Body, Each, paired, ArmPart, ArmBody, ElsePart, ChoiceOf, Aligning, Turning, nothing_before, guards_before}
-use Rattle.lil_stmt.proofs.Stating.{next_emitted, all_emitted, all_guards_emitted, while_emitted, repeat_emitted, loop_emitted, guard_emitted, if_emitted, for_emitted, with_emitted}
-use Rattle.lil_stmt.proofs.Arms.{next_arm_emitted, case_emitted}
+use Rattle.lil_stmt.proofs.Stating.{one_emitted, next_emitted, all_emitted, all_guards_emitted, while_emitted, repeat_emitted, loop_emitted, guard_emitted, if_emitted, for_emitted, with_emitted, next_arm_emitted, case_emitted}
 use Rattle.lil_stmt.proofs.Strings.{arm_part, parts_next, parts_all, arms_parts}
 use Rattle.lil_stmt.proofs.statements.+emitting.Goals as goal
 use Rattle.lil_stmt.proofs.statements.+emitting.Goals.{emit_case-in-None+in_ok-other-in-None, emit_case-in-Some+in_ok-other-in-Some}
@@ -63,26 +61,22 @@ pub emit_for-returns : goal.emit_for-returns
 emit_for-returns t c =
     let k = kind_view c.args.variable.kind in
     let j = kind_of (expression_of c.args.from.now) in
-    let n = c.args.around.words in
     let small : SFits w16 c.args.step = search rules in
     let same = to_z-of_z w16 c.args.step small in
     let taken : c.from.result ≡ c.args.step = grind (arith, to_z-of_z) in
     let fits : (negsuc 32767 ≤ℤ c.from.result) × (c.from.result ≤ℤ pos 65535) = search rules in
     let stepped : c.word_of_number.result ≡ word_of c.args.step = number_word c.from.result c.word_of_number.result c.word_of_number.ensures.is fits ∙ ap word_of taken in
     let align = subst (λ (z : ℤ). Emits c.fresh.new.self c.emit_align.new.code (Aligning (covers (base_of k) j) (outside_turns (compared_as (base_of k)) z) c.in_ok-end.end)) same c.in_ok-emit_align.ensures in
-    let inner : n ≤ 65535 → c.saturating_add.result ≡ 3 + n = λ low. omega (arith, low, c.saturating_add.ensures) in
     let lies = ap (λ (f : RField). f.offset) c.variable-lies.ensures in
-    for_emitted n c.args.around.exit c.args.variable.number k (expression_of c.args.from.now) (expression_of c.args.to.now) c.args.step (statements_of c.args.body.now)
-    c.word_of_number.result c.loop_place-place.result c.loop_sign.result c.variable-lies.result.offset c.saturating_add.result c.in_ok-end.end c.in_ok-turn.turn _ _ _ _ _ _ _ _ _ _ _ _ _ _ stepped c.loop_place-place.ensures c.loop_sign.ensures lies inner
+    for_emitted c.args.around.words c.args.around.exit c.args.variable.number k (expression_of c.args.from.now) (expression_of c.args.to.now) c.args.step (statements_of c.args.body.now)
+    c.word_of_number.result c.loop_place-place.result c.loop_sign.result c.variable-lies.result.offset c.in_ok-end.end c.in_ok-turn.turn _ _ _ _ _ _ _ _ _ _ _ _ _ _ stepped c.loop_place-place.ensures c.loop_sign.ensures lies
     c.in_ok-emit_expression.ensures c.in_ok-emit_expression-2.ensures c.in_ok-end.ensures.emits c.in_ok-end.ensures.makes align c.in_ok-put.ensures c.in_ok-jump.ensures c.in_ok-turn.ensures
     c.in_ok-put-2.ensures c.in_ok-emit_turn_test.ensures c.in_ok-put-3.ensures c.in_ok-emit_body.ensures c.in_ok-jump-2.ensures
     c.here.ensures
 
 pub emit_with-returns : goal.emit_with-returns
 emit_with-returns t c =
-    let n = c.args.around.words in
-    let inner : n ≤ 65535 → c.saturating_add.result ≡ suc n = λ low. omega (arith, low, c.saturating_add.ensures) in
-    with_emitted n c.loop_place-word.result c.in_ok-shape.shape c.saturating_add.result c.args.around.exit (place_of c.args.place.now) (statements_of c.args.body.now) _ _ _ _ _ _ c.loop_place-word.ensures inner
+    with_emitted c.args.around.words c.loop_place-word.result c.in_ok-shape.shape c.args.around.exit (place_of c.args.place.now) (statements_of c.args.body.now) _ _ _ _ _ _ c.loop_place-word.ensures
     c.in_ok-shape.ensures c.in_ok-put.ensures c.in_ok-hold.ensures c.in_ok-emit_body.ensures c.release.ensures
 
 pub emit_arms-loop-arm-preserved : goal.emit_arms-loop-arm-preserved
@@ -113,6 +107,38 @@ emit_statement-returns-in_ok-emit_body-in-If t c =
     let otherwise = subst (λ (ss : List RStmt). Adds (body_strings (statements_of ss)) c.emit_guards.new.code c.emit_body.new.code (Body n exit (statements_of ss))) c.as_slice-in-If.ensures c.in_ok-emit_body-in-If.ensures in
     subst (λ (ss : Statements). Adds (body_strings ss) c.args.code.now c.here.new.self (Body n exit ss)) (sym (ap statement_of c.in-If.is ∙ if_is c.in-If.guards c.in-If.otherwise))
     (if_emitted n exit c.in-If.guards c.in-If.otherwise end.end _ _ _ _ _ end.ensures.emits end.ensures.makes guards otherwise c.here.ensures)
+
+pub emit_statement-returns-in-While : goal.emit_statement-returns-in-While
+emit_statement-returns-in-While t c =
+    let w = c.in-While in
+    let is = ap statement_of w.is ∙ while_is w.condition w.body ∙ ap (λ (ss : List RStmt). Then (While (expression_of w.condition) (statements_of ss)) Empty) (sym c.as_slice-in-While.ensures) in
+    with_ok c.emit_while.result (one_emitted c.args.around.words c.args.around.exit _ _ _ _ is) c.emit_while.ensures
+
+pub emit_statement-returns-in-Repeat : goal.emit_statement-returns-in-Repeat
+emit_statement-returns-in-Repeat t c =
+    let w = c.in-Repeat in
+    let is = ap statement_of w.is ∙ repeat_is w.body w.condition ∙ ap (λ (ss : List RStmt). Then (Repeat (statements_of ss) (expression_of w.condition)) Empty) (sym c.as_slice-in-Repeat.ensures) in
+    with_ok c.emit_repeat.result (one_emitted c.args.around.words c.args.around.exit _ _ _ _ is) c.emit_repeat.ensures
+
+pub emit_statement-returns-in-Loop : goal.emit_statement-returns-in-Loop
+emit_statement-returns-in-Loop t c =
+    let w = c.in-Loop in
+    let is = ap statement_of w.is ∙ loop_is w.body ∙ ap (λ (ss : List RStmt). Then (Loop (statements_of ss)) Empty) (sym c.as_slice-in-Loop.ensures) in
+    with_ok c.emit_loop.result (one_emitted c.args.around.words c.args.around.exit _ _ _ _ is) c.emit_loop.ensures
+
+pub emit_statement-returns-in-For : goal.emit_statement-returns-in-For
+emit_statement-returns-in-For t c =
+    let w = c.in-For in
+    let small : SFits w16 w.step = search rules in
+    let form = λ (z : ℤ) (ss : List RStmt). Then (For w.variable.number (variable_kind w.variable) (expression_of w.from) (expression_of w.to) z (statements_of ss)) Empty in
+    let is = ap statement_of w.is ∙ for_is w.variable w.from w.to w.step w.body ∙ ap (form w.step) (sym c.as_slice-in-For.ensures) ∙ ap (λ (z : ℤ). form z c.as_slice-in-For.result.now) (sym (to_z-of_z w16 w.step small)) in
+    with_ok c.emit_for.result (one_emitted c.args.around.words c.args.around.exit _ _ _ _ is) c.emit_for.ensures
+
+pub emit_statement-returns-in-With : goal.emit_statement-returns-in-With
+emit_statement-returns-in-With t c =
+    let w = c.in-With in
+    let is = ap statement_of w.is ∙ inside_is w.place w.body ∙ ap (λ (ss : List RStmt). Then (Inside (place_of w.place) (statements_of ss)) Empty) (sym c.as_slice-in-With.ensures) in
+    with_ok c.emit_with.result (one_emitted c.args.around.words c.args.around.exit _ _ _ _ is) c.emit_with.ensures
 
 pub emit_case-returns : goal.emit_case-returns
 emit_case-returns t c =

@@ -2,9 +2,8 @@ use Rattle.std.proofs.Common.{ℕ, List, map, Option, ap, ◌∙◌, subst, OnOk
 use Rattle.lil_resolved.specs.declared.resolved.RArgument.{RArgument}
 use Rattle.lil_resolved.specs.Resolved as resolved
 use Rattle.lil_resolved.specs.Resolved.{Halt, Return}
-use Rattle.lil_resolved.specs.Views.{argument_of, place_of, statement_of}
-use Rattle.lil_resolved.specs.Strings.{words_of, arguments_strings}
-use Rattle.lil_resolved.specs.Forms.{assign_is, copy_is, text_is, change_is, member_changed_is, new_is, allocate_is, request_is, halt_is, return_is}
+use Rattle.lil_resolved.specs.Views.{argument_of, place_of, statement_of, assign_is, copy_is, text_is, change_is, member_changed_is, new_is, allocate_is, request_is, exit_is, halt_is, return_is}
+use Rattle.lil_resolved.specs.Sizes.{words_of, arguments_strings}
 use Rattle.lil_labels.specs.Drafts.{Adds}
 use Rattle.lil_labels.specs.Emitting.{emits_as, with_ok}
 use Rattle.lil_stmt.specs.Generating.{Stated}
@@ -75,11 +74,18 @@ returns-in-Halt c =
     let n = c.args.around.words in
     let exit = c.args.around.exit in
     let is = ap statement_of c.in-Halt.is ∙ halt_is in
-    with_ok c.put.result (λ h. one_emitted n exit Halt _ _ _ is (emits_as _ _ _ (Stated n exit Halt) (λ x t sound room. t) h)) c.put.ensures
+    with_ok c.put.result (λ h. one_emitted n exit Halt _ _ _ is (emits_as _ _ _ (Stated n exit Halt) (λ x t many taken sound room. t) h)) c.put.ensures
 
 pub returns-in-Return : goal.returns-in-Return
 returns-in-Return c =
     let n = c.args.around.words in
     let exit = c.args.around.exit in
     let is = ap statement_of c.in-Return.is ∙ return_is in
-    with_ok c.put-in-Return.result (λ h. one_emitted n exit Return _ _ _ is (emits_as _ _ _ (Stated n exit Return) (λ x t sound room. t) h)) c.put-in-Return.ensures
+    with_ok c.put-in-Return.result (λ h. one_emitted n exit Return _ _ _ is (emits_as _ _ _ (Stated n exit Return) (λ x t many taken sound room. t) h)) c.put-in-Return.ensures
+
+pub returns-in-Exit : goal.returns-in-Exit
+returns-in-Exit c =
+    let n = c.args.around.words in
+    let exit = c.args.around.exit in
+    let is = ap statement_of c.in-Exit.is ∙ exit_is in
+    with_ok c.emit_exit.result (one_emitted n exit _ _ _ _ is) c.emit_exit.ensures

@@ -1,6 +1,5 @@
 use Rattle.std.proofs.Common.{◌≡◌, subst}
 use Rattle.lil_mcode.specs.declared.machine.Event.{Event}
-use Rattle.lil_mcode.specs.declared.machine.Event.TheVariants.{Request}
 use Rattle.lil_mcode.specs.Table.{mstep}
 use Rattle.lil_mcode.specs.Requests.{request_has}
 use Rattle.lil_trials.proofs.mcode.shown.Goals as goal

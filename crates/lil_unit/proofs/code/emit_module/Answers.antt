@@ -1,20 +1,19 @@
-use Rattle.std.proofs.Common.{◌≡◌, ℕ, List, None, refl, ap, ◌∙◌, subst}
+use Rattle.std.proofs.Common.{◌≡◌, ℕ, ◌%◌, List, None, refl, ap, ◌∙◌, subst}
 use Rattle.lil_resolved.specs.declared.resolved.RDeclared.{RDeclared}
 use Rattle.lil_resolved.specs.declared.resolved.RStmt.{RStmt}
 use Rattle.lil_resolved.specs.declared.shapes.RShape.{RShape}
-use Rattle.lil_resolved.specs.Depth.{frame_words}
+use Rattle.lil_resolved.specs.Sizes.{frame_words, body_strings}
 use Rattle.lil_resolved.specs.Views.{statements_of, module_of}
-use Rattle.lil_resolved.specs.Strings.{body_strings}
 use Rattle.lil_asm.specs.declared.instr.Instr.TheVariants.{Ent}
 use Rattle.lil_labels.specs.Drafts.{Draft, empty, Adds, Emits, Doing}
 use Rattle.lil_stmt.specs.Generating.{Body}
 use Rattle.lil_unit.proofs.Modules.{framed}
 use Rattle.lil_unit.proofs.code.emit_module.Goals as goal
 
-pub returns-clause-emits : goal.returns-clause-emits
-returns-clause-emits c =
-    let words = c.in_ok-frame_words.field-0 in
-    let is = c.in_ok-frame_words.ensures ∙ ap (λ (ss : List RStmt). frame_words (statements_of ss)) c.as_slice-body.ensures in
+pub returns : goal.returns
+returns c =
+    let words = c.frame_words.result in
+    let is = c.frame_words.ensures ∙ ap (λ (ss : List RStmt). frame_words (statements_of ss) % 65536) c.as_slice-body.ensures in
     let m = c.args.m.now in
     let new : c.new-code.result ≡ empty m.shapes m.targets m.variables m.words =
     c.new-code.ensures

@@ -1,35 +1,30 @@
 use Rattle.std.proofs.Common.{◌≡◌, ℕ, List, length, min, ap, sym, ◌∙◌, subst, arith}
 use Rattle.lil_resolved.specs.Views.{module_of}
-use Rattle.lil_resolved.specs.Strings.{module_strings}
+use Rattle.lil_resolved.specs.Sizes.{module_strings}
 use Rattle.lil_table.specs.Rows.{Translates}
-use Rattle.lil_labels.specs.Tables.{Tables}
 use Rattle.lil_unit.proofs.Modules.{settled_long, draft_long, strings_are, exact}
 use Rattle.lil_unit.proofs.code.generate.Goals as goal
 
 pub returns-then-bytes-gt-LONGEST-clause-too_long : goal.returns-then-bytes-gt-LONGEST-clause-too_long
 returns-then-bytes-gt-LONGEST-clause-too_long c bytes told =
-    let long = draft_long c.args.m.now c.in_ok-code.code c.requires.sound c.requires.measured c.requires.few c.in_ok-code.ensures.frame c.in_ok-code.ensures.emits in
+    let long = draft_long c.args.m.now c.in_ok-code.code c.requires.sound c.requires.measured c.requires.fits c.in_ok-code.ensures in
     let same : c.counted.result ≡ bytes = cc in
     (omega (arith, long, c.len-bytes.ensures.bytes, c.if-bytes-gt-LONGEST.true), sym same ∙ c.counted.ensures ∙ ap (λ (n : ℕ). min n 4294967295) (c.len-bytes.ensures.bytes ∙ long))
 
 pub returns-clause-strings : goal.returns-clause-strings
 returns-clause-strings c =
-    c.in_ok-strings.ensures.is ∙ strings_are c.args.m.now c.in_ok-code.code c.requires.sound c.requires.measured c.requires.few c.in_ok-code.ensures.frame c.in_ok-code.ensures.emits
+    c.in_ok-strings.ensures ∙ strings_are c.args.m.now c.in_ok-code.code c.requires.sound c.requires.measured c.requires.fits c.in_ok-code.ensures
 
 pub returns-clause-translates : goal.returns-clause-translates
 returns-clause-translates c =
     let m = module_of c.args.m.now in
     subst (λ (code : List ℕ). Translates m (module_strings m) code) (sym c.in_ok-settle.ensures)
-    (exact c.args.m.now c.in_ok-code.code c.requires.sound c.requires.measured c.requires.few c.in_ok-code.ensures.frame c.in_ok-code.ensures.emits (λ l q h. omega (arith, c.len-bytes.ensures.behind l q h, c.if-bytes-gt-LONGEST.false)))
-
-pub returns-clause-few : goal.returns-clause-few
-returns-clause-few c =
-    let strings = strings_are c.args.m.now c.in_ok-code.code c.requires.sound c.requires.measured c.requires.few c.in_ok-code.ensures.frame c.in_ok-code.ensures.emits in
-    omega (arith, c.in_ok-strings.ensures.few, ap length (c.in_ok-strings.ensures.is ∙ strings), ap (λ (ts : Tables). ts.words) c.in_ok-code.ensures.emits.same, c.requires.measured.words)
+    (exact c.args.m.now c.in_ok-code.code c.requires.sound c.requires.measured c.requires.fits c.in_ok-code.ensures (omega (arith, c.len-bytes.ensures.bytes, c.if-bytes-gt-LONGEST.false))
+    (λ l q h. omega (arith, c.len-bytes.ensures.behind l q h, c.len-bytes.ensures.bytes)))
 
 pub returns-clause-long : goal.returns-clause-long
-returns-clause-long c = ap length c.in_ok-settle.ensures ∙ settled_long c.args.m.now c.in_ok-code.code c.requires.sound c.requires.measured c.requires.few c.in_ok-code.ensures.frame c.in_ok-code.ensures.emits
+returns-clause-long c = ap length c.in_ok-settle.ensures ∙ settled_long c.args.m.now c.in_ok-code.code c.requires.sound c.requires.measured c.requires.fits c.in_ok-code.ensures
 
 pub returns-clause-short : goal.returns-clause-short
 returns-clause-short c =
-    omega (arith, draft_long c.args.m.now c.in_ok-code.code c.requires.sound c.requires.measured c.requires.few c.in_ok-code.ensures.frame c.in_ok-code.ensures.emits, c.len-bytes.ensures.bytes, c.if-bytes-gt-LONGEST.false)
+    omega (arith, draft_long c.args.m.now c.in_ok-code.code c.requires.sound c.requires.measured c.requires.fits c.in_ok-code.ensures, c.len-bytes.ensures.bytes, c.if-bytes-gt-LONGEST.false)

@@ -1,6 +1,6 @@
 use Rattle.std.proofs.Common.{◌≡◌, ℕ, List, Option, Some, None, length, sym, ap, ◌∙◌, subst, arith}
 use Rattle.lil_mcode.specs.declared.processor.LoadedModule.{LoadedModule}
-use Rattle.lil_mcode.specs.State.{Module, State, module_at}
+use Rattle.lil_mcode.specs.Table.{Module, State, module_at}
 use Rattle.lil_mcode.specs.Loaded.{Lies, loaded_at}
 use Rattle.lil_mcode.specs.Calls.{IsRunning}
 use Rattle.lil_mcode.proofs.Steps.{lies_loaded, loaded_is, not_loaded}

@@ -1,6 +1,6 @@
 use Rattle.std.proofs.Common.{◌≡◌, ℕ, ◌-◌, List, [], ◌∷◌, ◌++◌, length, drop, take, reverse, ap, refl, ◌∙◌, arith}
 use Rattle.std.proofs.lemmas.List.{length-reverse}
-use Rattle.lil_mcode.specs.State.{State}
+use Rattle.lil_mcode.specs.Table.{State}
 use Rattle.lil_mcode.proofs.Lists.{replaced}
 use Rattle.lil_mcode.proofs.processor.Processor.replace.Goals as goal
 

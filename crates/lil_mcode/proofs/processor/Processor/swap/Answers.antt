@@ -1,6 +1,6 @@
 use Rattle.std.proofs.Common.{◌≡◌, suc, length, drop, ap, arith, length-drop}
 use Rattle.std.proofs.lemmas.List.{length-reverse}
-use Rattle.lil_mcode.specs.State.{State}
+use Rattle.lil_mcode.specs.Table.{State}
 use Rattle.lil_mcode.proofs.processor.Processor.swap.Goals as goal
 
 pub push-requires : goal.push-requires
