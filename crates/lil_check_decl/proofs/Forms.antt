@@ -1,5 +1,6 @@
 -- What each form of declaration means, from what its parts mean.
-use Rattle.std.proofs.Common.{◌≡◌, ℕ, List, Option, Some, None, length, subst, sym, ap, ◌∙◌}
+use Rattle.std.proofs.Common.{◌≡◌, ℕ, true, List, Option, Some, None, length, subst, sym, ap, ◌∙◌}
+use Rattle.lil_base.specs.declared.fault.FaultKind.TheVariants.{NotBuilt}
 use Rattle.lil_base.specs.declared.fault.Place.{Place}
 use Rattle.lil_text.specs.declared.tree.Ident.{Ident}
 use Rattle.lil_text.specs.declared.tree.Qualident.{Qualident}
@@ -15,15 +16,16 @@ use Rattle.lil_language.specs.declared.unit.Decl.TheOpen as o
 use Rattle.lil_language.specs.declared.unit.Decl.TheOpen.{Decl-F}
 use Rattle.lil_language.specs.declared.unit.Decl.TheFolds.{map-Decl, fold-Block, fold-roll-Decl, fold_out-Block}
 use Rattle.lil_language.specs.declared.unit.Decl.TheViews.{roll-Decl}
+use Rattle.lil_types.specs.declared.table.TypeForm.TheVariants as form
 use Rattle.lil_report.specs.declared.report.Fault.{Fault}
-use Rattle.lil_report.specs.Told.{Row, after, walk, Said}
+use Rattle.lil_report.specs.Told.{Row, row, noted, after, walk, Said}
 use Rattle.lil_report.specs.Laws.{said_as, said_to, said_after, said_map, walk_map}
 use Rattle.lil_scope.specs.declared.thing.Thing.{Thing}
 use Rattle.lil_scope.specs.declared.env.Env.{Env}
 use Rattle.lil_scope.specs.declared.env.Wait.{Wait}
 use Rattle.lil_scope.specs.Names.{bind, inside, outside}
-use Rattle.lil_check_value.specs.Looks.{type_named}
-use Rattle.lil_check_type.specs.Made.{Made}
+use Rattle.lil_check_value.specs.Looks.{type_named, said_not_built}
+use Rattle.lil_check_type.specs.Made.{Made, type_node}
 use Rattle.lil_check_type.specs.Sorts.{sort_means}
 use Rattle.lil_check_decl.specs.declared.home.Home.{Home}
 use Rattle.lil_check_decl.specs.declared.decl.Around.{Around}
@@ -62,6 +64,9 @@ module _ (e : Env) {r : Option Fault} where
   -- ---- types and variables
   pub is_form : (i : Ident) {of : Option Sort} {x : Sort} {m : Made} {s : Option Fault} → of ≡ Some x → Said (sort_means e x) r m s → Said (form_means e i of) r m s
   is_form i is h = said_as (ap (form_means e i) is) h
+
+  pub is_opaque : (i : Ident) {of : Option Sort} {m : Made} {s u : Option Fault} → of ≡ None → u ≡ noted r (row true i.place NotBuilt) → Said (type_node e i.place (form.Opaque None)) u m s → Said (form_means e i of) r m s
+  is_opaque i is note h = said_as (ap (form_means e i) is) (said_not_built i.place note h)
 
   pub is_type : (x : TypeName) {m : Made} {t : Thing} {f : Env} {s u : Option Fault} → Said (form_means e x.name x.sort) r m u → t ≡ type_thing m.1 → Said (bind m.0 x.name t) u f s → Said (type_step e x) r f s
   is_type x {m = m} {f = f} {s = s} {u = u} h is k = said_after _ _ h (subst (λ t. Said (bind m.0 x.name t) u f s) is k)

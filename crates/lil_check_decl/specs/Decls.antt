@@ -18,21 +18,21 @@ use Rattle.lil_scope.specs.declared.thing.Thing.TheVariants as t
 use Rattle.lil_scope.specs.declared.env.Env.{Env}
 use Rattle.lil_scope.specs.declared.env.Wait.{Wait}
 use Rattle.lil_scope.specs.Names.{bind, inside, outside}
-use Rattle.lil_check_value.specs.Looks.{type_named}
+use Rattle.lil_check_value.specs.Looks.{type_named, not_built}
 use Rattle.lil_check_type.specs.Made.{Made, with_types, type_node}
 use Rattle.lil_check_type.specs.Sorts.{sort_means}
 use Rattle.lil_check_decl.specs.declared.decl.Around.{Around}
 use Rattle.lil_check_decl.specs.Constants.{constant_step}
 use Rattle.lil_check_decl.specs.Headings.{here, variable_step, heading_means}
 
--- ---- types. One without a form is opaque
+-- ---- types. 90 NotBuilt, at the name of one without a form: it is opaque
 abbrev pub type_thing : Option ℕ → Thing
 type_thing (Some n) = t.Type n
 type_thing None = t.Broken
 
 abbrev pub form_means : Env → Ident → Option Sort → Made × List Row
 form_means e i (Some x) = sort_means e x
-form_means e i None = type_node e i.place (form.Opaque None)
+form_means e i None = not_built i.place (type_node e i.place (form.Opaque None))
 
 -- a type, whose name is bound behind it
 abbrev pub type_step : Env → TypeName → Env × List Row

@@ -5,7 +5,7 @@ ghost use Rattle.lil_check_decl.specs.Decls as spec;
 
 use crate::constants::constants;
 use crate::headings::{heading, here, variables};
-use lil_base::{Items, Memory};
+use lil_base::{FaultKind, Items, Memory};
 use lil_check_type::{add_type, sort};
 use lil_check_value::type_named;
 use lil_language::{Decl, Sort, TypeName, Variables};
@@ -40,6 +40,7 @@ fn form(
             Ok(number)
         }
         None => {
+            report.note(true, name.place, FaultKind::NotBuilt);
             let number = add_type(env, report, name.place, TypeForm::Opaque(None))?;
             Ok(number)
         }

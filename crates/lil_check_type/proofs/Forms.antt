@@ -26,7 +26,7 @@ use Rattle.lil_check_type.specs.declared.records.Fields.{Fields}
 use Rattle.lil_check_type.specs.declared.routines.Parameters.{Parameters}
 use Rattle.lil_check_type.specs.Made.{Made, type_node, form_node, ordinal_node}
 use Rattle.lil_check_type.specs.Bounds.{bound_of, range_node, labels_node}
-use Rattle.lil_check_type.specs.Simple.{names_of, constant_thing, next_word, constant_step, enumeration_means, given, base_means, simple_means, simple_place, simple_first, index_means, base_node, set_means}
+use Rattle.lil_check_type.specs.Simple.{names_node, constant_thing, next_word, constant_step, enumeration_means, given, base_means, simple_means, simple_place, simple_first, index_means, base_node, set_means}
 use Rattle.lil_check_type.specs.Records.{tag_field, tag_means, label_rest, label_step, no_fields, field_step, record_form, no_parameters, with_parameter, formal_step, result_node, result_means, procedure_form, procedure_means}
 use Rattle.lil_base.specs.declared.fault.FaultKind.TheVariants.{NotBuilt}
 use Rattle.lil_language.specs.declared.unit.Sort.{Sort}
@@ -48,9 +48,9 @@ module _ (e : Env) {r : Option Fault} where
       → Said {A = Env × ℕ} (constant_step n (e, w) i) r (f, v) s
   is_constant n w i {f = f} {s = s} is h next = said_to (said_map (λ e. (e, next_word w)) (subst (λ t. Said (bind e i t) r f s) is h)) (λ j. (f, next j))
 
-  pub is_enumeration : (p : Place) (is : List Ident) {ns : List (List ℕ)} {m : Made} {f : Env} {w : ℕ} {s t : Option Fault} → ns ≡ names_of is → Said (type_node e p (form.Enumeration ns)) r m t
-      → Said {A = Env × ℕ} (walk (constant_step m.1) (m.0, 0) is) t (f, w) s → Said {A = Made} (enumeration_means e p is) r (f, m.1) s
-  is_enumeration p is {m = m} {t = t} names h k = said_after _ _ (subst (λ ns. Said (type_node e p (form.Enumeration ns)) r m t) names h) (said_map (λ s. (s.0, m.1)) k)
+  pub is_enumeration : (p : Place) (is : List Ident) {of : TypeForm} {m : Made} {f : Env} {w : ℕ} {s t u : Option Fault} → Said (names_node p is) r of t → Said (type_node e p of) t m u
+      → Said {A = Env × ℕ} (walk (constant_step m.1) (m.0, 0) is) u (f, w) s → Said {A = Made} (enumeration_means e p is) r (f, m.1) s
+  is_enumeration p is {m = m} h k l = said_after _ _ h (said_after _ _ k (said_map (λ s. (s.0, m.1)) l))
 
   -- ---- subranges
   pub is_base : (q : Qualident) {o n : Option ℕ} {b : NamedType} {s t : Option Fault} → Said (type_named e q) r o t → Said (ordinal_node e.types q.name.place o) t n s → b ≡ given n

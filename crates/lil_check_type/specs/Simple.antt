@@ -1,7 +1,7 @@
 -- Types that may be an index or a set's base.
-use Rattle.std.specs.Prelude.{ℕ, ◌+◌, nat_lt, pos, int_lt, Bool, false, not, ◌&&◌, List, [], ◌∷◌, map, Option, Some, None, if◌then◌else◌}
+use Rattle.std.specs.Prelude.{ℕ, ◌+◌, ◌==◌, nat_lt, pos, int_lt, Bool, false, not, ◌&&◌, List, [], ◌∷◌, length, map, Option, Some, None, if◌then◌else◌}
 use Rattle.lil_base.specs.declared.fault.Place.{Place}
-use Rattle.lil_base.specs.declared.fault.FaultKind.TheVariants.{SetBase}
+use Rattle.lil_base.specs.declared.fault.FaultKind.TheVariants.{SetBase, EmptyRange}
 use Rattle.lil_text.specs.declared.tree.Ident.{Ident}
 use Rattle.lil_text.specs.declared.tree.Qualident.{Qualident}
 use Rattle.lil_language.specs.declared.unit.Simple.{Simple}
@@ -31,15 +31,19 @@ abbrev pub constant_thing : Option ℕ → ℕ → Thing
 constant_thing (Some n) w = t.Constant (k.Scalar n w)
 constant_thing None w = t.Broken
 
--- the number of the next constant
+-- the number of the next constant. Numbers stop at 65535
 abbrev pub next_word : ℕ → ℕ
 next_word w = if nat_lt w 65535 then w + 1 else w
 
 abbrev pub constant_step : Option ℕ → Env × ℕ → Ident → (Env × ℕ) × List Row
 constant_step n s i = after (bind s.0 i (constant_thing n s.1)) (λ e. ((e, next_word s.1), []))
 
+-- 53 EmptyRange, at an enumeration's first token: it has no constant. The grammar gives none of these
+unfoldable pub names_node : Place → List Ident → TypeForm × List Row
+names_node p is = (form.Enumeration (names_of is), row (length is == 0) p EmptyRange ∷ [])
+
 abbrev pub enumeration_means : Env → Place → List Ident → Made × List Row
-enumeration_means e p is = after (type_node e p (form.Enumeration (names_of is))) (λ m. after (walk (constant_step m.1) (m.0, 0) is) (λ s. ((s.0, m.1), [])))
+enumeration_means e p is = after (names_node p is) (λ f. after (type_node e p f) (λ m. after (walk (constant_step m.1) (m.0, 0) is) (λ s. ((s.0, m.1), []))))
 
 -- ---- subranges
 abbrev pub given : Option ℕ → NamedType

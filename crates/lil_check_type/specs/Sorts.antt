@@ -1,5 +1,5 @@
 -- What types mean: their numbers, what is declared behind them, and the tests of their nodes.
-use Rattle.std.specs.Prelude.{ℕ, List, [], ◌∷◌, ◌++◌, reverse, Option, Some, None}
+use Rattle.std.specs.Prelude.{ℕ, ◌==◌, ◌||◌, List, [], ◌∷◌, ◌++◌, reverse, Option, Some, None, if◌then◌else◌}
 use Rattle.lil_base.specs.declared.fault.Place.{Place}
 use Rattle.lil_text.specs.declared.tree.Ident.{Ident}
 use Rattle.lil_text.specs.declared.tree.Qualident.{Qualident}
@@ -14,6 +14,7 @@ use Rattle.lil_language.specs.declared.unit.FieldList.TheFolds.{fold-FieldList, 
 use Rattle.lil_types.specs.declared.table.Span.{Span}
 use Rattle.lil_types.specs.declared.table.TypeForm.{TypeForm}
 use Rattle.lil_types.specs.declared.table.TypeForm.TheVariants as form
+use Rattle.lil_types.specs.Types.{proc, process}
 use Rattle.lil_report.specs.Told.{Row, after, walk}
 use Rattle.lil_scope.specs.declared.env.Env.{Env}
 use Rattle.lil_scope.specs.declared.thing.Thing.{Thing}
@@ -49,9 +50,9 @@ abbrev pub pointer_form : Option ℕ → Option TypeForm
 pointer_form (Some n) = Some (form.Pointer n)
 pointer_form None = None
 
--- until then it points to what the name stands for so far
+-- until then it points to what the name stands for so far, where something lies there
 abbrev pub target_so_far : Option Thing → ℕ
-target_so_far (Some (t.Type n)) = n
+target_so_far (Some (t.Type n)) = if n == proc || n == process then 0 else n
 target_so_far _ = 0
 
 abbrev pub waiting_means : Env → Place → Ident → Made × List Row

@@ -40,6 +40,21 @@ fn next_word(word: u16) -> u16
     if word < 65535 { word + 1 } else { word }
 }
 
+/// The form of an enumeration, which has a constant.
+#[tactic(auto, unfolding(crate::specs::Simple::names_node, lil_report::specs::Told::tell))]
+fn enumeration_form(
+    alloc: Global,
+    report: &mut Report,
+    place: Place,
+    names: &[Ident],
+) -> Result<TypeForm, Memory>
+    ensures { IfOk result (λ f. Said (spec.names_node place names.now) report.old f report.new) }
+{
+    let form = TypeForm::Enumeration(copy_names(alloc, names)?);
+    report.note(names.is_empty(), place, FaultKind::EmptyRange);
+    Ok(form)
+}
+
 /// The constants of an enumeration.
 fn constants(
     alloc: Global,
@@ -67,7 +82,7 @@ fn enumeration(
 ) -> Result<Option<TypeId>, Memory>
     ensures { IfOk result (λ o. Said (spec.enumeration_means env.old place names.now) report.old (env.new, o) report.new) }
 {
-    let form = TypeForm::Enumeration(copy_names(alloc, names)?);
+    let form = enumeration_form(alloc, report, place, names)?;
     let sort = add_type(env, report, place, form)?;
     constants(alloc, env, report, sort, names)?;
     Ok(sort)

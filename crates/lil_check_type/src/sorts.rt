@@ -11,7 +11,7 @@ use lil_language::{FieldList, Simple, Sort, Variant};
 use lil_report::Report;
 use lil_scope::{Env, Thing, Wait};
 use lil_text::Ident;
-use lil_types::{Span, TypeForm, TypeId};
+use lil_types::{PROC, PROCESS, Span, TypeForm, TypeId};
 use std::alloc::Global;
 
 /// The index types of an array.
@@ -78,13 +78,19 @@ fn target_so_far(of: Option<Thing>) -> TypeId
     ensures { result ≡ spec.target_so_far of }
 {
     match of {
-        Some(Thing::Type(sort)) => sort,
+        Some(Thing::Type(sort)) => {
+            if sort == PROC || sort == PROCESS {
+                0
+            } else {
+                sort
+            }
+        }
         _ => 0,
     }
 }
 
 /// A pointer type whose bare name is looked up at the block's end; until then it points to what the name stands for so
-/// far.
+/// far, where something lies there.
 fn waiting(
     alloc: Global,
     env: &mut Env,

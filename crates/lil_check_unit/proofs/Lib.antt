@@ -1,3 +1,4 @@
 mod Limits
 mod ModuleSound
+mod Right
 mod UnitFaults

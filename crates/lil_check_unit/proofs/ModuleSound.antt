@@ -45,7 +45,7 @@ module _ (t : Table) (vs : List RVar) where
   from n r ss sound (Some shapes) types e = over n r shapes types ss (λ ts. sound shapes ts types) (shaping.variables_by (Some shapes) vs) refl e
 
 -- the statements of a block
-body_is : (e : Env) (ds : List Decl) (ss : List Stmt) → (bodies_mean e ds ss).0.body ≡ (statements_mean e false ss).0
+pub body_is : (e : Env) (ds : List Decl) (ss : List Stmt) → (bodies_mean e ds ss).0.body ≡ (statements_mean e false ss).0
 unfolding bodies_mean statements_mean after
 body_is e ds ss = refl
 

@@ -18,7 +18,7 @@ use Rattle.lil_interfaces.specs.declared.importing.Imported.{Imported}
 use Rattle.lil_interfaces.specs.Interfaces.{residents}
 use Rattle.lil_interfaces.specs.Imports.{nothing_imported, imports_mean, exports_mean}
 use Rattle.lil_check_unit.specs.Modules.{in_no_with, assembled}
-use Rattle.lil_check_unit.specs.Units.{first_of, declared, stated, module_of, worst, late_fault, data_fault, form_rows, names_fault, last_of, unit_fault, imports_fault, program_fault, naming_rows, missing_row, missing_names, missing_by, missing_rows, data_rows, HasInterfaces}
+use Rattle.lil_check_unit.specs.Units.{first_of, declared, stated, module_of, worst, late_fault, data_fault, names_fault, unit_fault, imports_fault, program_fault, naming_rows, missing_row, missing_names, missing_by, missing_rows, data_rows, HasInterfaces}
 use Rattle.lil_language.specs.declared.unit.Unit.{Unit as Tree}
 
 module _ (u : Tree) (is : List Interface) where
@@ -72,7 +72,7 @@ module _ (is : List Interface) (o : Option Fault) where
   pub all_imports : (xs : List Import) (i : ℕ) → length xs ≤ i → o ≡ tell o (missing_rows is (drop i xs))
   all_imports xs i le = sym (at_drop_all (λ xs. tell o (missing_rows is xs)) xs i le ∙ tell_nil o)
 
--- ---- data and forms
+-- ---- data
 module _ (u : Tree) (e : Env) (b : Stated) (o : Option Fault) where
   pub wrong_data : {f : Fault} → tell None (data_rows u e b) ≡ Some f → data_fault u e b o ≡ Some f
   wrong_data h = ap (λ d. first_of d o) h
@@ -80,30 +80,20 @@ module _ (u : Tree) (e : Env) (b : Stated) (o : Option Fault) where
   pub then_late : tell None (data_rows u e b) ≡ None → data_fault u e b o ≡ o
   then_late h = ap (λ d. first_of d o) h
 
-  pub wrong_last : (m : Option Resolved) {f : Fault} → data_fault u e b o ≡ Some f → last_of u e b o m ≡ Some f
-  wrong_last m h = ap (λ d. first_of d (tell None (form_rows u m))) h
-
-  pub wrong_form : (m : Option Resolved) {f : Fault} → data_fault u e b o ≡ None → m ≡ None → tell None (form_rows u None) ≡ Some f → last_of u e b o m ≡ Some f
-  wrong_form m h none k = ap (λ d. first_of d (tell None (form_rows u m))) h ∙ ap (λ m. tell None (form_rows u m)) none ∙ k
-
-  pub nothing_last : (m : Option Resolved) {r : Resolved} → data_fault u e b o ≡ None → Some r ≡ m → last_of u e b o m ≡ None
-  unfolding tell worse when
-  nothing_last m h is = ap (λ d. first_of d (tell None (form_rows u m))) h ∙ ap (λ m. tell None (form_rows u m)) (sym is)
-
 -- ---- a unit
 module _ (u : Tree) (is : List Interface) where
   pub wrong_unit : {f : Fault} → worst u is ≡ Some f → unit_fault u is ≡ Some f
   unfolding unit_fault
-  wrong_unit h = ap (λ o. first_of o (last_of u (declared is u).0 (stated is u).0 (late_fault u is) (module_of u is))) h
+  wrong_unit h = ap (λ o. first_of o (data_fault u (declared is u).0 (stated is u).0 (late_fault u is))) h
 
   module _ {e : Env} {b : Stated} (there : e ≡ in_no_with (declared is u).0) (body : b ≡ (stated is u).0) where
     pub module_is : assembled e.types e.variables u.head.name.name b.body ≡ module_of u is
     unfolding module_of
     module_is = λ j. assembled (there j).types (there j).variables u.head.name.name (body j).body
 
-    pub then_last : {o : Option Fault} → worst u is ≡ None → o ≡ late_fault u is → unit_fault u is ≡ last_of u e b o (assembled e.types e.variables u.head.name.name b.body)
+    pub then_last : {o : Option Fault} → worst u is ≡ None → o ≡ late_fault u is → unit_fault u is ≡ data_fault u e b o
     unfolding unit_fault
-    then_last h late = ap (λ o. first_of o (last_of u (declared is u).0 (stated is u).0 (late_fault u is) (module_of u is))) h ∙ (λ j. last_of u (sym there j) (sym body j) (sym late j) (sym module_is j))
+    then_last h late = ap (λ o. first_of o (data_fault u (declared is u).0 (stated is u).0 (late_fault u is))) h ∙ (λ j. data_fault u (sym there j) (sym body j) (sym late j))
 
 -- ---- a program
 module _ (u : Tree) {is : List Interface} (same : is ≡ residents) where

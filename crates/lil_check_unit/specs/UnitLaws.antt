@@ -6,7 +6,7 @@ use Rattle.lil_report.specs.Told.{Stands, tell}
 use Rattle.lil_report.specs.LeastLaws.{reports_tell, reports_now, reports_late, reports_worse}
 use Rattle.lil_interfaces.specs.declared.surface.Interface.{Interface}
 use Rattle.lil_interfaces.specs.Interfaces.{residents}
-use Rattle.lil_check_unit.specs.Units.{first_of, Speaks, declared, stated, module_of, worst, data_fault, unit_fault, imports_fault, program_fault, late_fault, naming_rows, missing_rows, long_rows, names_fault, data_rows, form_rows, Now, Late, LateInUnit, ClassesOfUnit, ClassesOfProgram}
+use Rattle.lil_check_unit.specs.Units.{first_of, Speaks, declared, stated, worst, data_fault, unit_fault, imports_fault, program_fault, late_fault, naming_rows, missing_rows, long_rows, names_fault, data_rows, Now, Late, LateInUnit, ClassesOfUnit, ClassesOfProgram}
 use Rattle.lil_language.specs.declared.unit.Unit.{Unit as Tree}
 
 pub speaks_first : (C : Fault → Type 0) (Cs : List (Fault → Type 0)) (a b : Option Fault) → Reports C a → Speaks Cs b → Speaks (C ∷ Cs) (first_of a b)
@@ -69,8 +69,7 @@ module _ (u : Tree) (is : List Interface) where
 
   pub unit_speaks : Speaks (ClassesOfUnit u is) (unit_fault u is)
   unfolding unit_fault
-  unit_speaks = speaks_behind NamesAndBodies (DataAndLate ++ Stands (form_rows u (module_of u is)) ∷ []) (worst u is) _ worst_speaks
-      (λ h. speaks_behind DataAndLate (Stands (form_rows u (module_of u is)) ∷ []) _ _ (data_speaks h) (λ k. speaks_last _ _ (reports_tell (form_rows u (module_of u is)))))
+  unit_speaks = speaks_behind NamesAndBodies DataAndLate (worst u is) _ worst_speaks data_speaks
 
 pub program_speaks : (file : List ℕ) (u : Tree) → Speaks (ClassesOfProgram file u) (program_fault file u)
 unfolding program_fault imports_fault

@@ -126,11 +126,7 @@ LateInUnit u is f = Late (declared is u).1 f ⊎ Late (stated is u).1 f
 unfoldable pub late_fault : Tree → List Interface → Option Fault
 late_fault u is = worse (late_of (tell None (declared is u).1)) (late_of (tell None (stated is u).1))
 
--- ---- class 10. 90 NotBuilt: the unit has a form of which no code is made
-abbrev pub form_rows : Tree → Option Resolved → List Row
-form_rows u m = row (is_none m) u.head.place NotBuilt ∷ []
-
--- the module that a unit without faults is
+-- ---- the module of a unit that has no fault
 unfoldable pub module_of : Tree → List Interface → Option Resolved
 module_of u is = assembled (declared is u).0.types (declared is u).0.variables u.head.name.name (stated is u).0.body
 
@@ -139,13 +135,9 @@ module_of u is = assembled (declared is u).0.types (declared is u).0.variables u
 abbrev pub data_fault : Tree → Env → Stated → Option Fault → Option Fault
 data_fault u e b o = first_of (tell None (data_rows u e b)) o
 
--- the fault of classes 8 to 10, where m is its module
-abbrev pub last_of : Tree → Env → Stated → Option Fault → Option Resolved → Option Fault
-last_of u e b o m = first_of (data_fault u e b o) (tell None (form_rows u m))
-
--- the fault of a unit, of classes 6 to 10
+-- the fault of a unit, of classes 6 to 9
 unfoldable pub unit_fault : Tree → List Interface → Option Fault
-unit_fault u is = first_of (worst u is) (last_of u (declared is u).0 (stated is u).0 (late_fault u is) (module_of u is))
+unit_fault u is = first_of (worst u is) (data_fault u (declared is u).0 (stated is u).0 (late_fault u is))
 
 abbrev pub ClassesOfUnit : Tree → List Interface → List (Fault → Type 0)
 ClassesOfUnit u is =
@@ -154,15 +146,18 @@ ClassesOfUnit u is =
     ∷ Now (stated is u).1
     ∷ Stands (data_rows u (declared is u).0 (stated is u).0)
     ∷ LateInUnit u is
-    ∷ Stands (form_rows u (module_of u is))
     ∷ []
 
+-- something is there
+abbrev pub IsThere : {A : Type 0} → Option A → Type 0
+IsThere {A} o = (a : A) × (o ≡ Some a)
+
 -- ---- a program
--- the fault of a program, of classes 5 to 10
+-- the fault of a program, of classes 5 to 9
 unfoldable pub imports_fault : Tree → Option Fault
 imports_fault u = first_of (tell None (missing_rows residents u.head.imports)) (unit_fault u residents)
 
--- the fault of a program in a file of this name, of classes 4 to 10
+-- the fault of a program in a file of this name, of classes 4 to 9
 unfoldable pub program_fault : List ℕ → Tree → Option Fault
 program_fault file u = first_of (tell None (naming_rows file u)) (imports_fault u)
 

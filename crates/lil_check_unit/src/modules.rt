@@ -1,9 +1,10 @@
-ghost use Rattle.std.specs.Prelude.{◌≡◌, ◌≤◌, ◌∷◌, [], Err, IfOk, None, Some, nat_lt};
+ghost use Rattle.std.specs.Prelude.{◌≡◌, ◌≤◌, Err, IfOk, None, Some, nat_lt};
 ghost use Rattle.lil_base.specs.declared.fault.SourceFault.{SourceFault as Told};
 ghost use Rattle.lil_text.specs.declared.stop.ReadStop.TheVariants as stop;
 ghost use Rattle.lil_report.specs.declared.report.Fault.{Fault as Found};
 ghost use Rattle.lil_report.specs.Told.{tell};
 ghost use Rattle.lil_layout.specs.Data.{data_words};
+ghost use Rattle.lil_interfaces.specs.Interfaces.{residents};
 ghost use Rattle.lil_resolved.specs.Sound.{IsSound};
 ghost use Rattle.lil_resolved.specs.Views.{module_of, IsMeasured};
 ghost use Rattle.lil_check_stmt.specs.Whole.{extent, text_extent};
@@ -55,57 +56,37 @@ fn data_fault(u: &Unit, of: &Checked) -> Option<Fault>
     }
 }
 
-/// The fault of a module that has a form without code.
-#[tactic(auto, unfolding(lil_report::specs::Told::tell))]
-fn form_fault(u: &Unit) -> Fault
-    ensures { tell None (spec.form_rows u.now None) ≡ Some result }
-{
-    Fault {
-        kind: FaultKind::NotBuilt,
-        place: u.head.place,
-    }
-}
-
-/// The module of what a unit without faults declares and states, unless it has a form without code.
-fn with_forms(alloc: Global, u: &Unit, of: Checked) -> Result<RModule, ReadStop>
-    ensures right { IfOk result (λ m. Some (module_of m) ≡ assembled of.declared.types of.declared.variables u.now.head.name.name of.stated.body) }
-    ensures body { IfOk result (λ m. of.stated.body ≡ Some m.body) }
-    ensures measured { IfOk result (λ m. IsMeasured m) }
-    ensures fits { IfOk result (λ m. module_words (module_of m) ≤ 32000) }
-    ensures wrong { (f : Told) → result ≡ Err (stop.Fault f) → (g : Found) × (assembled of.declared.types of.declared.variables u.now.head.name.name of.stated.body ≡ None) × (tell None (spec.form_rows u.now None) ≡ Some g) × (f ≡ spec.told g) }
-{
-    let Checked {
-        declared,
-        stated,
-        late: _,
-    } = of;
-    match assembled(alloc, &u.head.name.name, &declared, stated.body)? {
-        Some(made) => Ok(made),
-        None => Err(told(form_fault(u))),
-    }
-}
-
 /// The module of what a unit without faults declares and states, unless its data are too long or it has a form that isn't built.
 fn with_data(alloc: Global, u: &Unit, of: Checked) -> Result<RModule, ReadStop>
+    requires { spec.data_fault u.now of.declared of.stated of.late ≡ None → spec.IsThere (assembled of.declared.types of.declared.variables u.now.head.name.name of.stated.body) }
     ensures right { IfOk result (λ m. (Some (module_of m) ≡ assembled of.declared.types of.declared.variables u.now.head.name.name of.stated.body) × (spec.data_fault u.now of.declared of.stated of.late ≡ None)) }
     ensures body { IfOk result (λ m. of.stated.body ≡ Some m.body) }
     ensures measured { IfOk result (λ m. IsMeasured m) }
     ensures fits { IfOk result (λ m. module_words (module_of m) ≤ 32000) }
-    ensures wrong { (f : Told) → result ≡ Err (stop.Fault f) → (g : Found) × (spec.last_of u.now of.declared of.stated of.late (assembled of.declared.types of.declared.variables u.now.head.name.name of.stated.body) ≡ Some g) × (f ≡ spec.told g) }
+    ensures wrong { (f : Told) → result ≡ Err (stop.Fault f) → (g : Found) × (spec.data_fault u.now of.declared of.stated of.late ≡ Some g) × (f ≡ spec.told g) }
 {
     match data_fault(u, &of) {
         Some(fault) => Err(told(fault)),
-        None => with_forms(alloc, u, of),
+        None => {
+            let Checked {
+                declared,
+                stated,
+                late: _,
+            } = of;
+            Ok(assembled(alloc, &u.head.name.name, &declared, stated.body)?)
+        }
     }
 }
 
 /// The module that a unit is, or its fault. The faults of imported and exported names and of declarations speak before an
 /// enumeration that is too long (61), that before statements, these before data that are too long (61), and those before a form
-/// that isn't built (90), told where it stands, and at last where the unit begins. Of each kind the one at the least place
-/// speaks, and there the one of the least number. Each module that is imported has an interface. The module keeps all of its
-/// unit, where no interface shows a name with a fault.
+/// that isn't built (90), told where it stands. Of each kind the one at the least place speaks, and there the one of the least
+/// number. A unit without a fault has a module, which keeps all of it. The interfaces are those of the resident modules, and each
+/// module that is imported has one.
 pub fn check_module(alloc: Global, u: &Unit, interfaces: &Interfaces) -> Result<RModule, ReadStop>
-    requires { spec.HasInterfaces interfaces.now u.now }
+    requires residents { interfaces.now ≡ residents }
+    requires imported { spec.HasInterfaces interfaces.now u.now }
+    ensures there { spec.unit_fault u.now interfaces.now ≡ None → spec.IsThere (spec.module_of u.now interfaces.now) }
     ensures right { IfOk result (λ m. (Some (module_of m) ≡ spec.module_of u.now interfaces.now) × (spec.unit_fault u.now interfaces.now ≡ None)) }
     ensures kept { IfOk result (λ m. text_extent u.now.body ≤ extent m.body) }
     ensures sound { IfOk result (λ m. IsSound (module_of m)) }

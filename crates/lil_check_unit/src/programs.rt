@@ -126,12 +126,12 @@ fn with_imports(alloc: Global, u: &Unit) -> Result<RModule, ReadStop>
 
 /// The module that a program is, in the file of this name, or its fault: the unit's kind or name (80, 76, 77), else an import
 /// that isn't there (90), else imported names and declarations, else an enumeration that is too long (61), else statements, else
-/// data that are too long (61), else a form that isn't built (90), told where it stands, and at last where the unit begins. Of
-/// each kind the one at the least place speaks, and there the one of the least number. The module keeps all of its unit: no name
-/// stands for a declaration with a fault, and no statement is left out. It is sound, and the words of its shapes and variables
-/// are counted.
+/// data that are too long (61), else a form that isn't built (90), told where it stands. Of each kind the one at the least place
+/// speaks, and there the one of the least number. A program without a fault has a module, which keeps all of its unit: no
+/// statement is left out. It is sound, and the words of its shapes and variables are counted.
 pub fn check_program(alloc: Global, file: &Name, u: &Unit) -> Result<RModule, ReadStop>
     ensures right { IfOk result (λ m. (Some (module_of m) ≡ spec.module_of u.now residents) × (spec.program_fault file.now u.now ≡ None)) }
+    ensures there { spec.program_fault file.now u.now ≡ None → spec.IsThere (spec.module_of u.now residents) }
     ensures kept { IfOk result (λ m. text_extent u.now.body ≤ extent m.body) }
     ensures sound { IfOk result (λ m. IsSound (module_of m)) }
     ensures measured { IfOk result (λ m. IsMeasured m) }

@@ -31,7 +31,7 @@ use Rattle.lil_check_value.specs.declared.asked.Asked.{Asked}
 use Rattle.lil_check_value.specs.Designators.{root_means, field_node, index_node, follow_node, value_node, variable_node, callee_node, typed_node}
 use Rattle.lil_operators.specs.Operations.{constant_found, one_node, begun, two_node, chain_found, set_node, joined_one, joined_range, no_elements}
 use Rattle.lil_check_value.specs.Looks.{set_sort}
-use Rattle.lil_check_value.specs.Values.{step, joins, means, typed_means, variable_means, call_means, reach_means, index_means, step_means, operation_means, elements_mean, argument_in, argument_means, arguments_mean, begins, text_found, asks, asks_at, begun_at, Sense, Way, Step, Operates, Joins, expression_layer, selector_layer, designator_layer, operation_layer, range_layer, sense, way, operates, as_argument}
+use Rattle.lil_check_value.specs.Values.{step, joins, means, typed_means, variable_means, call_means, reach_means, index_means, step_means, operation_means, elements_mean, argument_in, argument_means, arguments_mean, begins, whole_node, code_node, text_node, asks, asks_at, begun_at, Sense, Way, Step, Operates, Joins, expression_layer, selector_layer, designator_layer, operation_layer, range_layer, sense, way, operates, as_argument}
 use Rattle.lil_language.specs.declared.tree.Expr.TheOpen as o
 use Rattle.lil_language.specs.declared.tree.Expr.TheOpen.{Expr-F, Selector-F, Range-F}
 use Rattle.lil_language.specs.declared.tree.Expr.TheFolds.{map-Expr, map-Selector, fold-roll-Expr, fold-roll-Selector, fold_out-Designator, fold_out-Operation, map-Range, fold-roll-Range}
@@ -101,15 +101,15 @@ module _ (e : Env) where
   range_is x high n all is = ap (λ m. m n all) (opened x (Some high) is ∙ range_rolled (record { low = (out-Range x).low; high = Some high }))
 
   -- ---- expressions
-  pub whole_is : (p : Place) (n : ℕ) → means e (v.Whole p n) ≡ (Some (constant_found p (k.Whole (pos n))), [])
+  pub whole_is : (p : Place) (n : ℕ) → means e (v.Whole p n) ≡ whole_node p n
   unfolding means
   whole_is p n = ap (λ x. (sense e x).value) (sym (v.rolls-Whole p n)) ∙ ap (λ m. m.value) (rolled (o.Whole p n))
 
-  pub code_is : (p : Place) (c : ℕ) → means e (v.Code p c) ≡ (Some (constant_found p (k.Scalar char c)), [])
+  pub code_is : (p : Place) (c : ℕ) → means e (v.Code p c) ≡ code_node p c
   unfolding means
   code_is p c = ap (λ x. (sense e x).value) (sym (v.rolls-Code p c)) ∙ ap (λ m. m.value) (rolled (o.Code p c))
 
-  pub chars_is : (p : Place) (text : List ℕ) → means e (v.Chars p text) ≡ (Some (text_found p text), [])
+  pub chars_is : (p : Place) (text : List ℕ) → means e (v.Chars p text) ≡ text_node p text
   unfolding means
   chars_is p text = ap (λ x. (sense e x).value) (sym (v.rolls-Chars p text)) ∙ ap (λ m. m.value) (rolled (o.Chars p text))
 
@@ -229,14 +229,14 @@ module _ (e : Env) {r : Option Fault} where
 
   -- ---- expressions
   module _ {of : Expr} where
-    pub is_whole : {p : Place} {n : ℕ} {a : Found} → of ≡ v.Whole p n → a ≡ constant_found p (k.Whole (pos n)) → Said (means e of) r (Some a) r
-    is_whole {p = p} {n = n} is h = said_as (ap (means e) is ∙ whole_is e p n) (said_value (ap Some h))
+    pub is_whole : {p : Place} {n : ℕ} {a : Option Found} {s : Option Fault} → of ≡ v.Whole p n → Said (whole_node p n) r a s → Said (means e of) r a s
+    is_whole {p = p} {n = n} is h = said_as (ap (means e) is ∙ whole_is e p n) h
 
-    pub is_code : {p : Place} {c : ℕ} {a : Found} → of ≡ v.Code p c → a ≡ constant_found p (k.Scalar char c) → Said (means e of) r (Some a) r
-    is_code {p = p} {c = c} is h = said_as (ap (means e) is ∙ code_is e p c) (said_value (ap Some h))
+    pub is_code : {p : Place} {c : ℕ} {a : Option Found} {s : Option Fault} → of ≡ v.Code p c → Said (code_node p c) r a s → Said (means e of) r a s
+    is_code {p = p} {c = c} is h = said_as (ap (means e) is ∙ code_is e p c) h
 
-    pub is_chars : {p : Place} {text : List ℕ} {a : Found} → of ≡ v.Chars p text → a ≡ text_found p text → Said (means e of) r (Some a) r
-    is_chars {p = p} {text = text} is h = said_as (ap (means e) is ∙ chars_is e p text) (said_value (ap Some h))
+    pub is_chars : {p : Place} {text : List ℕ} {a : Option Found} {s : Option Fault} → of ≡ v.Chars p text → Said (text_node p text) r a s → Said (means e of) r a s
+    is_chars {p = p} {text = text} is h = said_as (ap (means e) is ∙ chars_is e p text) h
 
     pub is_set : {p : Place} {q : Option Qualident} (xs : List Range) {t : Option ℕ} {es : Option Elements} {a : Option Found} {s u w' : Option Fault} → of ≡ v.SetOf p q xs
         → Said (set_sort e q) r t s → Said (elements_mean e t xs) s es u → Said (set_node e.types p t es) u a w' → Said (means e of) r a w'

@@ -1,5 +1,6 @@
 -- What expressions mean: their value where they have a type, and the tests of their nodes.
-use Rattle.std.specs.Prelude.{ℕ, ◌==◌, pos, Bool, true, false, List, [], ◌∷◌, ◌++◌, length, Option, Some, None}
+use Rattle.std.specs.Prelude.{ℕ, ◌==◌, nat_lt, pos, Bool, true, false, not, List, [], ◌∷◌, ◌++◌, length, Option, Some, None}
+use Rattle.lil_base.specs.declared.fault.FaultKind.TheVariants.{ConstRange}
 use Rattle.lil_base.specs.declared.fault.Place.{Place}
 use Rattle.lil_language.specs.declared.tree.Expr.{Expr}
 use Rattle.lil_language.specs.declared.tree.Expr.TheOpen as x
@@ -13,7 +14,8 @@ use Rattle.lil_types.specs.Types.{Table, char}
 use Rattle.lil_resolved.specs.declared.resolved.RStmt.{RStmt}
 use Rattle.lil_declared.specs.declared.standard.Standard.{Standard}
 use Rattle.lil_declared.specs.declared.standard.Standard.TheVariants.{Max, Min, Val}
-use Rattle.lil_report.specs.Told.{Row, after, walk}
+use Rattle.lil_report.specs.Told.{Row, row, after, walk}
+use Rattle.lil_resolved.specs.Sound.{is_text}
 use Rattle.lil_scope.specs.declared.thing.Chars.{Chars}
 use Rattle.lil_scope.specs.declared.thing.Kind.TheVariants as k
 use Rattle.lil_scope.specs.declared.env.Env.{Env}
@@ -64,6 +66,16 @@ chars_of text = record { length = length text; first = first_of text }
 abbrev pub text_found : Place → List ℕ → Found
 text_found p text = plain_found p (form.Text text) (k.Chars (chars_of text))
 
+-- ---- literals. 50 ConstRange: a number that no word has, and a character that no byte has; no text says one
+unfoldable pub whole_node : Place → ℕ → Meaning
+whole_node p n = (Some (constant_found p (k.Whole (pos n))), row (nat_lt 65535 n) p ConstRange ∷ [])
+
+unfoldable pub code_node : Place → ℕ → Meaning
+code_node p c = (Some (constant_found p (k.Scalar char c)), row (nat_lt 255 c) p ConstRange ∷ [])
+
+unfoldable pub text_node : Place → List ℕ → Meaning
+text_node p text = (Some (text_found p text), row (not (is_text text)) p ConstRange ∷ [])
+
 -- ---- arguments: the first of MAX, MIN and VAL should be a type's name
 abbrev pub standard_asks : Standard → Asked
 standard_asks Max = asked.First
@@ -111,9 +123,9 @@ abbrev pub chain_means : Place → Meaning → List Operates → Meaning
 chain_means p a os = after (after a (λ a. walk (λ s o. o p s) (begun a) os)) (λ o. (chain_found p o, []))
 
 abbrev pub expression_layer : Env → Expr-F Sense Step Way Operates Joins → Sense
-expression_layer e (x.Whole p n) = of_value (Some (constant_found p (k.Whole (pos n))), [])
-expression_layer e (x.Code p c) = of_value (Some (constant_found p (k.Scalar char c)), [])
-expression_layer e (x.Chars p text) = of_value (Some (text_found p text), [])
+expression_layer e (x.Whole p n) = of_value (whole_node p n)
+expression_layer e (x.Code p c) = of_value (code_node p c)
+expression_layer e (x.Chars p text) = of_value (text_node p text)
 expression_layer e (x.SetOf p q rs) = of_value (after (set_sort e q) (λ s. after (walk (λ es j. j s es) (Some no_elements) rs) (set_node e.types p s)))
 expression_layer e (x.Desig p d) = record { value = after (d.reach p) (value_node e.texts); typed = after (d.reach p) (typed_node p) }
 expression_layer e (x.Call p d xs) = of_value (called e p d xs)

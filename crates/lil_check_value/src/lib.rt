@@ -3,6 +3,7 @@
 
 mod asked;
 mod designators;
+mod literals;
 mod names;
 mod set_types;
 mod uses;

@@ -4,43 +4,22 @@ ghost use Rattle.lil_check_value.specs.Values as spec;
 
 use crate::asked::{Asked, asks, asks_at};
 use crate::designators::{Reached, field_node, follow_node, index_node, root};
+use crate::literals::{code, text, whole};
 use crate::set_types::set_sort;
 use crate::uses::{callee_node, typed_node, value_node, variable_node};
-use lil_base::{Boxed, Items, Memory, Place, Shared, Text, beside};
+use lil_base::{Boxed, Items, Memory, Place, beside};
 use lil_call::{Argument, called, stated};
-use lil_kinds::{Form, Found};
+use lil_kinds::Found;
 use lil_language::{Designator, Expr, Operation, Range, Selector};
 use lil_operators::{
-    Chained, Elements, begun, chain_found, constant_found, joined_one, joined_range, no_elements,
-    one_node, plain_found, set_node, two_node,
+    Chained, Elements, begun, chain_found, joined_one, joined_range, no_elements, one_node,
+    set_node, two_node,
 };
 use lil_report::Report;
 use lil_resolved::RStmt;
-use lil_scope::{Chars, Env, Kind};
-use lil_types::{CHAR, TypeId};
+use lil_scope::Env;
+use lil_types::TypeId;
 use std::alloc::Global;
-
-fn first_of(text: &[u8]) -> u8
-    ensures { result ≡ spec.first_of text.now }
-{
-    match text {
-        [] => 0,
-        [first, ..] => *first,
-    }
-}
-
-/// A text between two marks.
-fn text_found(alloc: Global, first: Place, text: &Text) -> Result<Found, Memory>
-    ensures { IfOk result (λ a. a ≡ spec.text_found first text.now) }
-{
-    let chars = Chars {
-        length: text.len(),
-        first: first_of(text.as_slice()),
-    };
-    let copy = Text::from_slice(alloc, text.as_slice())?;
-    let form = Form::Text(Shared::new(alloc, copy)?);
-    Ok(plain_found(first, form, Kind::Chars(chars)))
-}
 
 /// The same value in parentheses that begin at this place.
 fn begun_at(first: Place, of: Option<Found>) -> Option<Found>
@@ -280,15 +259,12 @@ pub fn expression(
     ensures { IfOk result (λ o. Said (spec.means env.now of.now) report.old o report.new) }
 {
     match of {
-        Expr::Whole(first, value) => {
-            let kind = Kind::Whole(i32::from(*value));
-            Ok(Some(constant_found(*first, kind)))
+        Expr::Whole(first, value) => Ok(whole(report, *first, *value)),
+        Expr::Code(first, value) => Ok(code(report, *first, *value)),
+        Expr::Chars(first, value) => {
+            let found = text(alloc, report, *first, value)?;
+            Ok(found)
         }
-        Expr::Code(first, code) => {
-            let kind = Kind::Scalar(CHAR, u16::from(*code));
-            Ok(Some(constant_found(*first, kind)))
-        }
-        Expr::Chars(first, text) => Ok(Some(text_found(alloc, *first, text)?)),
         Expr::SetOf(first, name, ranges) => {
             let sort = set_sort(env, report, name);
             let all = elements(alloc, env, report, sort, ranges.as_slice())?;

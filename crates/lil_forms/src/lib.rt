@@ -20,5 +20,5 @@ pub use operators::{
 };
 pub use places::{Cell, cell_at, element_of, field_of, held_at, near, target_of, variable_at};
 pub use sets::{allocated, turned};
-pub use statements::{assigned, changed, changed_by_one, created, disposed};
+pub use statements::{assigned, changed, changed_by_one, created, disposed, note_characters};
 pub use values::{exactly, fitting, ordinal, storable, typed, typed_by};

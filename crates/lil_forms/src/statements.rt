@@ -42,7 +42,7 @@ fn copied(to: Located, from: Option<Located>) -> Option<RStmt>
 }
 
 /// Bytes are characters.
-pub(crate) fn note_characters(of: &[u8])
+pub fn note_characters(of: &[u8])
     ensures { is_text of.now ≡ true }
 {}
 

@@ -14,10 +14,10 @@ use Rattle.lil_language.specs.Units.{Reads, HasReadFault}
 use Rattle.lil_session.specs.declared.status.Status.{Status}
 use Rattle.lil_session.specs.declared.status.Status.TheVariants as a
 use Rattle.lil_interfaces.specs.Interfaces.{residents}
-use Rattle.lil_check_unit.specs.Units.{module_of, program_fault, told}
+use Rattle.lil_check_unit.specs.Units.{module_of, program_fault, told, IsThere}
 use Rattle.lil_unit.specs.declared.stop.GenStop.{GenStop}
 use Rattle.lil_unit.specs.declared.stop.GenStop.TheVariants as gen
-use Rattle.lil_session.specs.Outcome.{Verdict, Refused, Means, coded, module_says, checked_says, says, HasFault, HasMeaning, ReadsOne, stopped_by, ungenerated_by}
+use Rattle.lil_session.specs.Outcome.{Verdict, Refused, Means, Silent, coded, module_says, checked_says, says, HasFault, HasMeaning, ReadsOne, stopped_by, ungenerated_by}
 use Rattle.lil_session.specs.Answered.{Carried, TextRan}
 use Rattle.lil_session.proofs.Doing.{shows_none, text_memory, text_not, text_ran}
 use Rattle.lil_resolved.specs.Views.{module_of as resolved_of}
@@ -33,15 +33,27 @@ same_module p q e = cc
 two : (f : SourceFault) (p : Resolved) → Refused f ≡ Means p → ⊥
 two f p e = cc
 
+pub apart_refused : (f : SourceFault) → Refused f ≡ Silent → ⊥
+apart_refused f e = cc
+
+pub apart_means : (p : Resolved) → Means p ≡ Silent → ⊥
+apart_means p e = cc
+
 module _ (file text : List ℕ) (apart : (u : Tree) (f : SourceFault) → Reads text u → HasReadFault text f → ⊥) where
   -- a text that is a unit
-  pub unit_one : (one : (u v : Tree) → Reads text u → Reads text v → u ≡ v) (u : Tree) → Reads text u → ReadsOne file text
-  unit_one one u reads = record {
+  pub unit_one : (one : (u v : Tree) → Reads text u → Reads text v → u ≡ v) (u : Tree) → Reads text u → (says file u ≡ Silent → ⊥) → ReadsOne file text
+  unit_one one u reads speaks = record {
+    some = some (says file u) refl;
     means = λ p q h k. same_module p q (sym h.1.1 ∙ ap (λ v. says file v) (one h.0 k.0 h.1.0 k.1.0) ∙ k.1.1);
     fault = faults;
     apart = both;
   }
     where
+      some : (v : Verdict) → says file u ≡ v → ((f : SourceFault) × HasFault file text f) ⊎ ((p : Resolved) × HasMeaning file text p)
+      some (Refused f) is = inl (f, inr (u, (reads, is)))
+      some (Means p) is = inr (p, (u, (reads, is)))
+      some Silent is = absurd (speaks is)
+
       faults : (f g : SourceFault) → HasFault file text f → HasFault file text g → f ≡ g
       faults f g (inl h) k = absurd (apart u f reads h)
       faults f g (inr h) (inl k) = absurd (apart u g reads k)
@@ -53,7 +65,7 @@ module _ (file text : List ℕ) (apart : (u : Tree) (f : SourceFault) → Reads 
 
   -- a text whose fault is that of its bytes, its tokens or its names
   fault_one : (f : SourceFault) → HasReadFault text f → ((g : SourceFault) → HasReadFault text g → (Fault f ≡ Fault g) ⊎ (Fault f ≡ Memory)) → ReadsOne file text
-  fault_one f has exact = record { means = λ p q h k. absurd (apart h.0 f h.1.0 has); fault = λ g i h k. sym (here g h) ∙ here i k; apart = λ g p h k. apart k.0 f k.1.0 has }
+  fault_one f has exact = record { some = inl (f, inl has); means = λ p q h k. absurd (apart h.0 f h.1.0 has); fault = λ g i h k. sym (here g h) ∙ here i k; apart = λ g p h k. apart k.0 f k.1.0 has }
     where
       same : (g : SourceFault) → (Fault f ≡ Fault g) ⊎ (Fault f ≡ Memory) → f ≡ g
       same g (inl e) = cc
@@ -78,17 +90,19 @@ module _ (file text : List ℕ) (apart : (u : Tree) (f : SourceFault) → Reads 
 
       carried_by : (v : Verdict) → says file u ≡ v → Carried v steps old old_faults new new_faults s → TextRan file text steps old old_faults new new_faults s
       carried_by (Refused f) is (inl same, (shown, faults)) =
-          at_old shown faults (subst (λ s. TextRan file text steps old old_faults old old_faults s) (sym same) (text_not file text steps old old_faults f (unit_one one u reads) (inr (u, (reads, is)))))
+          at_old shown faults (subst (λ s. TextRan file text steps old old_faults old old_faults s) (sym same) (text_not file text steps old old_faults f (unit_one one u reads (λ e. apart_refused f (sym is ∙ e))) (inr (u, (reads, is)))))
       carried_by (Refused f) is (inr same, (shown, faults)) = at_old shown faults (subst (λ s. TextRan file text steps old old_faults old old_faults s) (sym same) (text_memory file text steps old old_faults))
-      carried_by (Means p) is ran = text_ran file text p steps old old_faults new new_faults s (unit_one one u reads) (u, (reads, is)) ran.shows ran.answer ran.kinds ran.cause ran.told
+      carried_by (Means p) is ran = text_ran file text p steps old old_faults new new_faults s (unit_one one u reads (λ e. apart_means p (sym is ∙ e))) (u, (reads, is)) ran.shows ran.answer ran.kinds ran.cause ran.told
+      carried_by Silent is c = absurd c
 
       pub text_carried : Carried (says file u) steps old old_faults new new_faults s → TextRan file text steps old old_faults new new_faults s
       text_carried c = carried_by (says file u) refl c
 
 -- ---- memory was wanted before anything was run
-pub carried_memory : (v : Verdict) (steps : ℕ) (old : Option (List ℕ)) (faults : ℕ) → Carried v steps old faults old faults a.Memory
-carried_memory (Refused f) steps old faults = (inr refl, (refl, refl))
-carried_memory (Means p) steps old faults = record {
+pub carried_memory : (v : Verdict) → (v ≡ Silent → ⊥) → (steps : ℕ) (old : Option (List ℕ)) (faults : ℕ) → Carried v steps old faults old faults a.Memory
+carried_memory Silent speaks steps old faults = absurd (speaks refl)
+carried_memory (Refused f) speaks steps old faults = (inr refl, (refl, refl))
+carried_memory (Means p) speaks steps old faults = record {
   shows = λ w blank. shows_none p w steps old a.Memory blank (λ is. cc) (λ is. cc) tt (inl refl);
   answer = λ w blank settles. absurd (cc);
   kinds = tt;
@@ -115,19 +129,35 @@ module _ (name : Place) (p : Resolved) where
       by true e = absurd (omega (arith, lt, leb-true (code_size p) 32767 e))
       by false e = refl
 
+  pub coded_speaks : coded name p ≡ Silent → ⊥
+  coded_speaks = by (nat_le (code_size p) 32767)
+    where
+      by : (b : Bool) → (if b then Means p else Refused (code_too_long name (min (code_size p) 4294967295))) ≡ Silent → ⊥
+      by true e = apart_means p e
+      by false e = apart_refused _ e
+
   -- no code was made
   pub carried_ungenerated : {T : Type 0} (r : Result T GenStop) (e : GenStop) → r ≡ Err e → ((bytes : ℕ) → r ≡ Err (gen.CodeTooLong bytes) → (32767 < code_size p) × (bytes ≡ min (code_size p) 4294967295))
       → (steps : ℕ) (old : Option (List ℕ)) (faults : ℕ) → Carried (coded name p) steps old faults old faults (ungenerated_by name e)
   carried_ungenerated {T} r (gen.CodeTooLong bytes) is long steps old faults = let h = long bytes is in carried_fault (code_too_long name bytes) steps old faults (coded_long bytes h.0 h.1)
-  carried_ungenerated {T} r gen.Memory is long steps old faults = carried_memory (coded name p) steps old faults
+  carried_ungenerated {T} r gen.Memory is long steps old faults = carried_memory (coded name p) coded_speaks steps old faults
 
 -- ---- by what the check found
 module _ (file : List ℕ) (u : Tree) where
-  pub carried_stopped : (e : ReadStop) → ((f : SourceFault) → e ≡ Fault f → (g : Checked) × (program_fault file u ≡ Some g) × (f ≡ told g))
+  -- a unit without a fault has a module, so it says something
+  speaks : (program_fault file u ≡ None → IsThere (module_of u residents)) → says file u ≡ Silent → ⊥
+  unfolding says
+  speaks there = by (program_fault file u) refl
+    where
+      by : (o : Option Checked) → program_fault file u ≡ o → checked_says u o ≡ Silent → ⊥
+      by (Some g) is e = apart_refused (told g) e
+      by None is e = let m = there is in coded_speaks u.head.name.place m.0 (sym (ap (module_says u) m.1) ∙ e)
+
+  pub carried_stopped : (program_fault file u ≡ None → IsThere (module_of u residents)) → (e : ReadStop) → ((f : SourceFault) → e ≡ Fault f → (g : Checked) × (program_fault file u ≡ Some g) × (f ≡ told g))
       → (steps : ℕ) (old : Option (List ℕ)) (faults : ℕ) → Carried (says file u) steps old faults old faults (stopped_by e)
   unfolding says
-  carried_stopped (Fault f) h steps old faults = let p = h f refl in carried_fault f steps old faults (ap (λ o. checked_says u o) p.1 ∙ ap (λ f. Refused f) (sym p.2))
-  carried_stopped Memory h steps old faults = carried_memory (says file u) steps old faults
+  carried_stopped there (Fault f) h steps old faults = let p = h f refl in carried_fault f steps old faults (ap (λ o. checked_says u o) p.1 ∙ ap (λ f. Refused f) (sym p.2))
+  carried_stopped there Memory h steps old faults = carried_memory (says file u) (speaks there) steps old faults
 
   says_checked : (m : RModule) → (Some (resolved_of m) ≡ module_of u residents) × (program_fault file u ≡ None) → coded u.head.name.place (resolved_of m) ≡ says file u
   unfolding says

@@ -1,6 +1,8 @@
 -- What holds of a command's answer once its lines were written.
-use Rattle.std.proofs.Common.{◌≡◌, ◌≢◌, ◌⊎◌, inl, inr, ℕ, true, false, refl, sym, ◌∙◌, ap, subst}
+use Rattle.std.proofs.Common.{◌≡◌, ◌≢◌, ◌⊎◌, inl, inr, ℕ, List, Some, true, false, refl, sym, ◌∙◌, ap, subst}
 use Rattle.std.proofs.lemmas.Bool.{both_ways}
+use Rattle.std.specs.FinMap.{get}
+use Rattle.lil_base.specs.declared.fault.SourceFault.{SourceFault}
 use Rattle.lil_resolved.specs.Resolved.{Resolved}
 use Rattle.lil_meaning.specs.World.{World}
 use Rattle.lil_meaning.specs.Items.{Phase}
@@ -8,7 +10,8 @@ use Rattle.lil_meaning.specs.Runs.{state_of}
 use Rattle.lil_volume.specs.Told.{followed_by}
 use Rattle.lil_session.specs.declared.status.Status.{Status}
 use Rattle.lil_session.specs.declared.status.Status.TheVariants as a
-use Rattle.lil_session.specs.Outcome.{cuts, settled, gives_way, Answers, Blames, EndsSo, Finds, Runs}
+use Rattle.lil_session.specs.Words.{mod_file}
+use Rattle.lil_session.specs.Outcome.{cuts, settled, gives_way, Answers, SourceAnswers, TextAnswers, Blames, EndsSo, Finds, HasFault, HasMeaning, MeansAnswer, Runs}
 use Rattle.lil_session.specs.Counted.{MachineAnswers}
 use Rattle.lil_session.specs.Headline.{Allowed, Headline, IsOver}
 use Rattle.lil_session.specs.Report.{status_lines, is_fixed, Became}
@@ -113,6 +116,18 @@ module _ {call : Call} {result : Status} (told : CommandReported call result) wh
       let same = same_settled ok in
       subst (λ (s : Status). (cuts s ≡ true) ⊎ Answers call.name w s) (sym same) (told.ran.answer w finds (ap settled (sym same) ∙ ok))
 
+  meant : (w : World) (x text : List ℕ) → Finds call.before.files call.before.keys w → call.name ≡ Some x → get w.files (mod_file x) ≡ Some text → ((f : SourceFault) → HasFault x text f → ⊥)
+      → settled result ≡ true → (cuts result ≡ true) ⊎ ((p : Resolved) × HasMeaning x text p × MeansAnswer p w result)
+  meant w x text finds named there fine ok = by (answer w finds ok)
+    where
+      of : TextAnswers x text w result → (cuts result ≡ true) ⊎ ((p : Resolved) × HasMeaning x text p × MeansAnswer p w result)
+      of (inl fault) = absurd (fine fault.0 fault.1)
+      of (inr end) = inr end
+
+      by : (cuts result ≡ true) ⊎ Answers call.name w result → (cuts result ≡ true) ⊎ ((p : Resolved) × HasMeaning x text p × MeansAnswer p w result)
+      by (inl cut) = inl cut
+      by (inr h) = of (subst (λ o. SourceAnswers x w o result) there (subst (λ n. Answers n w result) named h))
+
   comes : IsAnswer result
   comes = by_report IsAnswer told.ran.kinds (λ ok lines. tt) (λ ok made. tt)
 
@@ -148,6 +163,7 @@ module _ {call : Call} {result : Status} (told : CommandReported call result) wh
   answered = record {
     headline = headline;
     answer = answer;
+    meant = meant;
     usage_only = λ is. told.ran.usage_only (inner_is a.Usage (λ e. cc) (λ e. cc) is);
     usage_where = λ none ok. result_is a.Usage ok (told.ran.usage_where none);
     no_file_only = λ m file held is. told.ran.no_file_only m file held (inner_is (a.NoFile file) (λ e. cc) (λ e. cc) is);

@@ -13,7 +13,7 @@ use Rattle.lil_volume.specs.Told.{Files, followed_by, FollowedByPrefix}
 use Rattle.lil_session.specs.declared.status.Status.{Status}
 use Rattle.lil_session.specs.declared.status.Status.TheVariants as a
 use Rattle.lil_session.specs.Words.{mod_file}
-use Rattle.lil_session.specs.Outcome.{Answers, Blames, Devices, EndsSo, Finds, HasFault, HasMeaning, IsRunAnswer, IsRunnable, ReadsOne, ReportBlames, MeansAnswer, Runs, TextAnswers, Verdict, Refused, Means, cuts, gives_way, settled}
+use Rattle.lil_session.specs.Outcome.{Answers, Blames, Devices, EndsSo, Finds, HasFault, HasMeaning, IsRunAnswer, IsRunnable, ReadsOne, ReportBlames, MeansAnswer, Runs, TextAnswers, Verdict, Refused, Means, Silent, cuts, gives_way, settled}
 use Rattle.lil_session.specs.Headline.{Headline, Shows}
 use Rattle.lil_session.specs.Report.{Reported, status_lines}
 
@@ -55,6 +55,7 @@ pub record ModuleRan (p : Resolved) (steps : ℕ) (old : Option (List ℕ)) (old
 abbrev pub Carried : Verdict → ℕ → Option (List ℕ) → ℕ → Option (List ℕ) → ℕ → Status → Type 0
 Carried (Refused f) steps old old_faults new new_faults s = ((s ≡ a.SourceFault f) ⊎ (s ≡ a.Memory)) × ((new ≡ old) × (new_faults ≡ old_faults))
 Carried (Means p) steps old old_faults new new_faults s = ModuleRan p steps old old_faults new new_faults s
+Carried Silent steps old old_faults new new_faults s = ⊥
 
 -- The text of the file of this name was run where it has no fault.
 pub record TextRan (file text : List ℕ) (steps : ℕ) (old : Option (List ℕ)) (old_faults : ℕ) (new : Option (List ℕ)) (new_faults : ℕ) (status : Status) : Type 0 where
@@ -136,6 +137,9 @@ pub record Answered (call : Call) (result : Status) : Type 0 where
   pub headline : (w : World) (p : Resolved) → Finds call.before.files call.before.keys w → Runs call.name w p → Headline p w call.steps call.before call.after result
   -- Unless a device fails, memory is refused or the run is cut short, the answer is the command's.
   pub answer : (w : World) → Finds call.before.files call.before.keys w → settled result ≡ true → (cuts result ≡ true) ⊎ Answers call.name w result
+  -- So a text without a fault is answered by its meaning.
+  pub meant : (w : World) (x text : List ℕ) → Finds call.before.files call.before.keys w → call.name ≡ Some x → get w.files (mod_file x) ≡ Some text → ((f : SourceFault) → HasFault x text f → ⊥)
+      → settled result ≡ true → (cuts result ≡ true) ⊎ ((p : Resolved) × HasMeaning x text p × MeansAnswer p w result)
   -- Usage comes exactly where the words name no module.
   pub usage_only : result ≡ a.Usage → call.name ≡ None
   pub usage_where : call.name ≡ None → settled result ≡ true → result ≡ a.Usage

@@ -1,7 +1,7 @@
 -- How an answer, what the devices hold and their counts go together.
 use Rattle.std.specs.Prelude.{◌≡◌, ◌⊎◌, ℕ, ◌≤◌, nat_le, min, Bool, true, false, List, [], Option, Some, None, if◌then◌else◌, ⊤}
 use Rattle.std.specs.FinMap.{get}
-use Rattle.lil_base.specs.Faults.{fault, code_too_long}
+use Rattle.lil_base.specs.Faults.{code_too_long}
 use Rattle.lil_base.specs.declared.fault.Place.{Place}
 use Rattle.lil_base.specs.declared.fault.SourceFault.{SourceFault}
 use Rattle.lil_base.specs.declared.fault.LimitKind.TheVariants as limit
@@ -120,18 +120,19 @@ pub record MeansAnswer (p : Resolved) (w : World) (s : Status) : Type 0 where
   pub steps : ℕ
   pub ends : EndsSo (state_of p w steps).phase s
 
--- ---- what a unit says: it is refused with a fault, or means a module
+-- ---- what a unit says: it is refused with a fault, or means a module. One without a fault that has no module would say nothing: there
+-- is none
 pub data Verdict : Type 0 where
   Refused : (f : SourceFault) → Verdict
   Means : (p : Resolved) → Verdict
+  Silent : Verdict
 
 -- 64 CodeTooLong, at the unit's name: the code has more than 32,767 bytes
 abbrev pub coded : Place → Resolved → Verdict
 coded name p = if nat_le (code_size p) 32767 then Means p else Refused (code_too_long name (min (code_size p) 4294967295))
 
--- a unit without faults has a module: 90 NotBuilt, at its first token, is the last of them
 abbrev pub module_says : Tree → Option Resolved → Verdict
-module_says u None = Refused (fault 90 u.head.place)
+module_says u None = Silent
 module_says u (Some p) = coded u.head.name.place p
 
 abbrev pub checked_says : Tree → Option Checked → Verdict
@@ -160,8 +161,9 @@ abbrev pub ungenerated_by : Place → GenStop → Status
 ungenerated_by name (gen.CodeTooLong bytes) = a.SourceFault (code_too_long name bytes)
 ungenerated_by name gen.Memory = a.Memory
 
--- A text has one fault or one meaning.
+-- A text has one fault or one meaning: it has one of them, and no more.
 pub record ReadsOne (file text : List ℕ) : Type 0 where
+  pub some : ((f : SourceFault) × HasFault file text f) ⊎ ((p : Resolved) × HasMeaning file text p)
   pub means : (p q : Resolved) → HasMeaning file text p → HasMeaning file text q → p ≡ q
   pub fault : (f g : SourceFault) → HasFault file text f → HasFault file text g → f ≡ g
   pub apart : (f : SourceFault) (p : Resolved) → HasFault file text f → HasMeaning file text p → ⊥

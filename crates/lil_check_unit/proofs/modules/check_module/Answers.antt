@@ -1,24 +1,26 @@
 use Rattle.std.proofs.Common.{◌∙◌}
 use Rattle.std.proofs.lemmas.Result.{IfOk-weaker}
-use Rattle.lil_check_unit.specs.Modules.{assembled}
 use Rattle.lil_check_unit.specs.UnitLaws.{unit_speaks}
 use Rattle.lil_check_unit.proofs.ModuleSound.{module_sound, module_kept}
-use Rattle.lil_check_unit.proofs.UnitFaults.{wrong_unit, module_is, then_last, nothing_last}
+use Rattle.lil_check_unit.proofs.Right.{made_there, unit_there}
+use Rattle.lil_check_unit.proofs.UnitFaults.{wrong_unit, module_is, then_last}
 use Rattle.lil_check_unit.proofs.modules.check_module.Goals as goal
 use Rattle.lil_resolved.specs.Views.{module_of as resolved_of}
+
+pub with_data-requires : goal.with_data-requires
+with_data-requires c none =
+    let of = c.in-Ok.ensures.right in
+    made_there c.args.u.now c.requires.residents of.0 of.1 of.2 of.3 none
 
 pub returns-in-Ok-clause-right : goal.returns-in-Ok-clause-right
 returns-in-Ok-clause-right c =
     let u = c.args.u.now in
     let is = c.args.interfaces.now in
     let of = c.in-Ok.ensures.right in
-    let made = c.in-Ok.checked in
-    IfOk-weaker c.with_data.result _ _
-    (λ m p. (
-      p.0 ∙ module_is u is of.0 of.1,
-      then_last u is of.0 of.1 of.2 of.3 ∙ nothing_last u made.declared made.stated made.late (assembled made.declared.types made.declared.variables u.head.name.name made.stated.body) p.1 p.0,
-    ))
-    c.with_data.ensures.right
+    IfOk-weaker c.with_data.result _ _ (λ m p. (p.0 ∙ module_is u is of.0 of.1, then_last u is of.0 of.1 of.2 of.3 ∙ p.1)) c.with_data.ensures.right
+
+pub returns-in-Ok-clause-there : goal.returns-in-Ok-clause-there
+returns-in-Ok-clause-there c = unit_there c.args.u.now c.requires.residents
 
 pub returns-in-Ok-clause-kept : goal.returns-in-Ok-clause-kept
 returns-in-Ok-clause-kept c = IfOk-weaker c.with_data.result _ _ (λ m made. module_kept c.args.u.now c.args.interfaces.now c.in-Ok.ensures.right.1 made) c.with_data.ensures.body
@@ -36,6 +38,9 @@ returns-in-Ok-clause-wrong c f e =
 
 pub returns-in-Ok-clause-least : goal.returns-in-Ok-clause-least
 returns-in-Ok-clause-least c = unit_speaks c.args.u.now c.args.interfaces.now
+
+pub returns-in-Err-clause-there : goal.returns-in-Err-clause-there
+returns-in-Err-clause-there c = unit_there c.args.u.now c.requires.residents
 
 pub returns-in-Err-clause-wrong : goal.returns-in-Err-clause-wrong
 returns-in-Err-clause-wrong c f e =

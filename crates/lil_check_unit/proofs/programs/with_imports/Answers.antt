@@ -9,8 +9,8 @@ returns-in-Some-clause-wrong c f e =
     let as_told = c.told.ensures in
     (c.in-Some.fault, wrong_import c.args.u.now c.in_ok-interfaces.ensures (sym c.missing_fault.ensures ∙ c.in-Some.is), cc)
 
-pub check_module-requires : goal.check_module-requires
-check_module-requires c = has_interfaces c.in_ok-interfaces.interfaces c.args.u.now (sym c.missing_fault.ensures ∙ c.in-None.is)
+pub check_module-requires-clause-imported : goal.check_module-requires-clause-imported
+check_module-requires-clause-imported c = has_interfaces c.in_ok-interfaces.interfaces c.args.u.now (sym c.missing_fault.ensures ∙ c.in-None.is)
 
 pub returns-clause-right : goal.returns-clause-right
 returns-clause-right c =

@@ -58,13 +58,13 @@ pub argument-returns-in_ok-value : goal.argument-returns-in_ok-value
 argument-returns-in_ok-value t c = is_plain c.args.env.now c.args.of.now c.if-asks.false c.in_ok-value.ensures
 
 pub expression-returns-in-Whole : goal.expression-returns-in-Whole
-expression-returns-in-Whole t c = is_whole c.args.env.now c.in-Whole.is (search rules)
+expression-returns-in-Whole t c = is_whole c.args.env.now c.in-Whole.is c.whole.ensures
 
 pub expression-returns-in-Code : goal.expression-returns-in-Code
-expression-returns-in-Code t c = is_code c.args.env.now c.in-Code.is (search rules)
+expression-returns-in-Code t c = is_code c.args.env.now c.in-Code.is c.code.ensures
 
-pub expression-returns-in_ok-text_found-in-Chars : goal.expression-returns-in_ok-text_found-in-Chars
-expression-returns-in_ok-text_found-in-Chars t c = is_chars c.args.env.now c.in-Chars.is c.in_ok-text_found-in-Chars.ensures
+pub expression-returns-in_ok-found-in-Chars : goal.expression-returns-in_ok-found-in-Chars
+expression-returns-in_ok-found-in-Chars t c = is_chars c.args.env.now c.in-Chars.is c.in_ok-found-in-Chars.ensures
 
 pub expression-returns-in_ok-all-in-SetOf : goal.expression-returns-in_ok-all-in-SetOf
 expression-returns-in_ok-all-in-SetOf t c = is_set c.args.env.now c.as_slice.result.now (search rules) c.set_sort-sort.ensures c.in_ok-all-in-SetOf.ensures c.set_node.ensures

@@ -1,0 +1,2 @@
+//! The laws of calls in which no test finds a fault: they have values, and are statements.
+#![tactic(auto)]

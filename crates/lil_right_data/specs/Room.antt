@@ -1,0 +1,50 @@
+-- The variables and the strings of a module have room, where their words are few by its types.
+use Rattle.std.proofs.Common.{◌≡◌, ℕ, ◌+◌, ◌≤◌, true, List, [], ◌++◌, length, map, sum_by, flat_map, Some, None, if◌then◌else◌, refl, sym, ap, subst, ◌∙◌, append-nil, arith}
+use Rattle.lil_types.specs.Types.{Table}
+use Rattle.lil_types.specs.Types as types
+use Rattle.lil_declared.specs.declared.declared.RVar.{RVar}
+use Rattle.lil_resolved.specs.Kinds.{Shape, words, all_words}
+use Rattle.lil_resolved.specs.Resolved.{Resolved}
+use Rattle.lil_resolved.specs.Sizes.{body_strings, procedure_strings, module_strings}
+use Rattle.lil_resolved.specs.Views.{statements_of}
+use Rattle.lil_resolved.specs.declared.resolved.RStmt.{RStmt}
+use Rattle.lil_layout.specs.Data.{words_by, variable_words, data_words}
+use Rattle.lil_layout.specs.Strings.{body_words}
+use Rattle.lil_shapes.specs.ListLaws.{AllFine}
+use Rattle.lil_shapes.specs.Measured.{variable_name}
+use Rattle.lil_shapes.specs.Pointers.{targets, lies_at}
+use Rattle.lil_shapes.specs.Shaping.{all_some, there, lying, variables_by, shapes}
+use Rattle.lil_right_type.specs.Types.{IsTold}
+use Rattle.lil_right_type.specs.Words.{AreMeasured}
+use Rattle.lil_right_data.specs.Shapes.{AreSized, Fits, fine_all, all_there, within_so, shapes_there, lies_shape}
+
+-- something lies in a variable of the module itself
+abbrev pub IsLying : Table → RVar → Type 0
+IsLying t v = (lies_at t v.sort ≡ true) × (v.owner ≡ None)
+
+pub body_words_is : (m : Resolved) (ss : List RStmt) → m.procedures ≡ [] → m.body ≡ statements_of ss → length (module_strings m) ≡ body_words ss
+body_words_is m ss none is = (λ j. length (body_strings (is j) ++ flat_map procedure_strings (none j))) ∙ ap length (append-nil (body_strings (statements_of ss)))
+
+module _ (t : Table) (told : IsTold t) (measured : AreMeasured t) (vs : List RVar) (lie : AllFine (IsLying t) vs) where
+  pub variables_there : sum_by (variable_words t) vs ≤ 32000 → (ts : List Shape) × (variables_by (shapes t) vs ≡ Some ts) × (all_words ts ≤ sum_by (variable_words t) vs)
+  variables_there few =
+      let ts = all_there (lying ss.0) (variable_words t) vs (fine_all (IsLying t) (λ v. Fits (variable_words t v) (lying ss.0 v)) one vs lie) in
+      (ts.0, ap (λ o. variables_by o vs) ss.1 ∙ within_so ts.0 (all_some (map (lying ss.0) vs)) ts.1 (omega (arith, ts.2)), ts.2)
+    where
+      ss : (ss : List Shape) × (shapes t ≡ Some ss) × AreSized t ss
+      ss = shapes_there t told measured
+
+      one : (v : RVar) → IsLying t v → Fits (variable_words t v) (lying ss.0 v)
+      one v h =
+          let x = lies_shape t told ss.0 ss.1 v.sort h.0 in
+          (x.0, ap there x.1 ∙ ap (λ c. if c then Some x.0 else None) x.2, subst (λ o. words x.0 ≤ words_by (types.words t v.sort) o) (sym h.1) (ss.2 v.sort x.0 x.1))
+
+  -- the module of these variables and of statements
+  pub room : (n : List ℕ) (of : List Shape) (ss : List RStmt) → data_words t vs [] (Some ss) ≤ 32000
+      → (ts : List Shape) × (variables_by (shapes t) vs ≡ Some ts)
+      × (all_words ts + length (module_strings (record { name = n; targets = targets t of; names = map variable_name vs; variables = ts; procedures = []; body = statements_of ss })) ≤ 32000)
+  unfolding data_words
+  room n of ss few =
+      let ts = variables_there (omega arith) in
+      let m : Resolved = record { name = n; targets = targets t of; names = map variable_name vs; variables = ts.0; procedures = []; body = statements_of ss } in
+      (ts.0, ts.1, omega (arith, few, ts.2, body_words_is m ss refl refl))

@@ -1,0 +1,9 @@
+pub mod Aimed
+pub mod Constants
+pub mod Declarations
+pub mod Filled
+pub mod Imported
+pub mod Room
+pub mod Shown
+pub mod Things
+pub mod Told

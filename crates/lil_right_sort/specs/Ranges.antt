@@ -1,0 +1,245 @@
+-- Subranges in which no test finds a fault: they have a form, and their numbers are those of their base.
+use Rattle.std.proofs.Common.{◌≡◌, ℕ, zero, suc, ◌<◌, ◌≤◌, Bool, true, false, not, ◌||◌, ◌&&◌, Option, Some, None, if◌then◌else◌, refl, sym, ap, subst, ◌∙◌, arith, true≢false, ◌⊎◌, inl, inr}
+use Rattle.std.specs.Prelude.{◌==◌, ℤ, pos, negsuc, ◌≤ℤ◌, int_lt, is_some}
+use Rattle.std.proofs.lemmas.Int.{ints}
+use Rattle.std.proofs.lemmas.Option.{none-some, same_Some}
+use Rattle.std.proofs.lemmas.Bool.{and_parts}
+use Rattle.std.proofs.lemmas.Bool.Decides.{nat_tests}
+use Rattle.lil_base.specs.declared.fault.Place.{Place}
+use Rattle.lil_base.specs.Laws.{bounds}
+use Rattle.lil_base.specs.Words.{between, number_of, Integer}
+use Rattle.lil_types.specs.Types.{Table, entry, known, base, integer, cardinal, char}
+use Rattle.lil_types.specs.Types as types
+use Rattle.lil_types.specs.Folding.{fits}
+use Rattle.lil_types.specs.declared.table.Facts.{Facts}
+use Rattle.lil_types.specs.declared.table.Span.{Span}
+use Rattle.lil_types.specs.declared.table.TypeEntry.{TypeEntry}
+use Rattle.lil_types.specs.declared.table.TypeForm.{TypeForm}
+use Rattle.lil_types.specs.declared.table.TypeForm.TheVariants as form
+use Rattle.lil_scope.specs.declared.thing.Kind.{Kind}
+use Rattle.lil_scope.specs.declared.thing.Kind.TheVariants as k
+use Rattle.lil_kinds.specs.Forms.{span_in, span_of, is_routine_form}
+use Rattle.lil_kinds.specs.Kinds.{is_constant, word_number, number, suits, compatible}
+use Rattle.lil_kinds.specs.Kinds as kinds
+use Rattle.lil_kinds.specs.declared.found.Found.{Found}
+use Rattle.lil_resolved.specs.Kinds.{is_ordinal, least, greatest}
+use Rattle.lil_resolved.specs.Views.{base_view}
+use Rattle.lil_resolved.specs.declared.resolved.RBase.{RBase}
+use Rattle.lil_resolved.specs.declared.resolved.RBase.TheVariants as b
+use Rattle.lil_shapes.specs.BaseLaws.{same_sort, if_some}
+use Rattle.lil_shapes.specs.Bases.{base_by, base_form, base_at}
+use Rattle.lil_shapes.specs.Bases as shapes
+use Rattle.lil_shapes.specs.Operators.{has_number}
+use Rattle.lil_check_type.specs.declared.bounds.Bound.{Bound}
+use Rattle.lil_check_type.specs.declared.named.NamedType.{NamedType}
+use Rattle.lil_check_type.specs.declared.named.NamedType.TheVariants.{Absent, Given, Faulty}
+use Rattle.lil_check_type.specs.Bounds.{bound_of, type_below, range_base, alike, goes_down, span_by, span_between, bound_right, range_by, range_form, range_over, range_node}
+use Rattle.lil_right_type.specs.Right.{Right, IsThere, is_so}
+use Rattle.lil_right_type.specs.Types.{HasSpan, FormTold, IsTold, IsOrdinal, own_base, entry_base, entry_known, no_entry, known_ordinal, span_is}
+use Rattle.lil_right_type.specs.Parts.{base_itself}
+use Rattle.lil_right_type.specs.Found.{is_scalar, KindTold, IsFound}
+use Rattle.lil_right_sort.specs.Growth.{PartsTold}
+
+-- a form of types in which something lies, where its parts are told
+abbrev pub MadeOf : Table → TypeForm → Type 0
+MadeOf t form = PartsTold t form × (is_routine_form form ≡ false)
+
+-- the numbers of a type are those of a base
+abbrev pub HasBase : Table → ℕ → Type 0
+HasBase t n = (k : RBase) × (base_at t (base t n) ≡ Some k) × (is_ordinal (base_view k) ≡ true)
+
+-- the base that a subrange names
+abbrev pub NamedTold : Table → NamedType → Type 0
+NamedTold t Absent = Unit {0}
+NamedTold t (Given n) = HasSpan t n
+NamedTold t Faulty = ⊥
+
+module _ {A : Type 0} (P : A → Type 0) where
+  there : (o : Option A) (x : A) → o ≡ Some x → P x → IsThere P o
+  there o x is h = subst (IsThere P) (sym is) h
+
+standard_span : (n : ℕ) (k : RBase) → shapes.standard n ≡ Some k → is_ordinal (base_view k) ≡ true → (u : Span) × (span_in (types.standard n) ≡ Some u)
+standard_span zero k is h = (_, refl)
+standard_span (suc zero) k is h = (_, refl)
+standard_span (suc (suc zero)) k is h = (_, refl)
+standard_span (suc (suc (suc zero))) k is h = (_, refl)
+standard_span (suc (suc (suc (suc n)))) k is h = by (suc (suc (suc (suc n))) == 4) (suc (suc (suc (suc n))) == 6) refl refl
+  where
+    neither : (n : ℕ) → (suc (suc (suc (suc n))) == 4) ≡ false → (suc (suc (suc (suc n))) == 6) ≡ false → shapes.standard (suc (suc (suc (suc n)))) ≡ None
+    neither n set address = grind (arith, nat_tests)
+
+    by : (c d : Bool) → (suc (suc (suc (suc n))) == 4) ≡ c → (suc (suc (suc (suc n))) == 6) ≡ d → (u : Span) × (span_in (types.standard (suc (suc (suc (suc n))))) ≡ Some u)
+    by true d set address = absurd (true≢false (sym h ∙ ap (λ k. is_ordinal (base_view k)) (sym (same_Some b.Set k (sym (ap shapes.standard (same_sort _ 4 set)) ∙ is)))))
+    by false true set address = absurd (true≢false (sym h ∙ ap (λ k. is_ordinal (base_view k)) (sym (same_Some b.Address k (sym (ap shapes.standard (same_sort _ 6 address)) ∙ is)))))
+    by false false set address = absurd (none-some k (sym (neither n set address) ∙ is))
+
+module _ (t : Table) (told : IsTold t) where
+  pub span_base : (n : ℕ) → HasSpan t n → HasBase t n
+  span_base n h = let o : IsOrdinal t n h.0 = known_ordinal t told n h.0 h.1 in (o.kind.base, o.base, o.ordinal)
+
+  -- a type below which there is an ordinal base is ordinal
+  pub base_span : (n : ℕ) → HasBase t n → HasSpan t n
+  base_span n h = by (entry t n) refl
+    where
+      own : (e : TypeEntry) (form : TypeForm) → entry t n ≡ Some e → e.form ≡ form → e.facts.base ≡ n → base_form n form ≡ Some h.0
+      own e form is same base = sym (ap (base_by n) is ∙ ap (base_form n) same) ∙ sym (ap (base_at t) (entry_base t told n e is ∙ base)) ∙ h.1
+
+      in_form : (e : TypeEntry) (form : TypeForm) → entry t n ≡ Some e → e.form ≡ form → FormTold t n e.facts form → HasSpan t n
+      in_form e (form.Enumeration xs) is same j = (_, ap span_in (entry_known t n e is) ∙ ap (λ (f : Facts). f.span) j.0)
+      in_form e (form.Subrange m s) is same j = (s, ap span_in (entry_known t n e is) ∙ j.0)
+      in_form e (form.Array i m) is same j = absurd (none-some h.0 (own e _ is same j.0))
+      in_form e (form.Record xs) is same j = absurd (none-some h.0 (own e _ is same j.0))
+      in_form e (form.SetOf m) is same j = absurd (true≢false (sym h.2 ∙ ap (λ k. is_ordinal (base_view k)) (sym (same_Some b.Set h.0 (own e _ is same j.0)))))
+      in_form e (form.Pointer m) is same j = absurd (true≢false (sym h.2 ∙ ap (λ k. is_ordinal (base_view k)) (sym (same_Some (b.Pointer n) h.0 (own e _ is same j.0)))))
+      in_form e (form.Procedure ps r) is same j = absurd (none-some h.0 (own e _ is same j.0))
+      in_form e (form.Opaque o) is same j = absurd j
+
+      by : (o : Option TypeEntry) → entry t n ≡ o → HasSpan t n
+      by None is =
+          let s = standard_span n h.0 (sym (ap (base_by n) is) ∙ sym (ap (base_at t) (own_base t told n is)) ∙ h.1) h.2 in
+          (s.0, ap span_in (no_entry t n is) ∙ s.1)
+      by (Some e) is = in_form e e.form is refl (told n e is)
+
+  -- the base itself too
+  under_base : (n : ℕ) → HasBase t n → HasBase t (base t n)
+  under_base n h = (h.0, ap (base_at t) (base_itself t told (base t n) h.0 h.1).0 ∙ h.1, h.2)
+
+  spanned : (n : ℕ) → is_some (span_of t n) ≡ true → HasSpan t n
+  spanned n h = by (span_of t n) refl h
+    where
+      by : (o : Option Span) → span_of t n ≡ o → is_some o ≡ true → HasSpan t n
+      by None is j = absurd (true≢false (sym j))
+      by (Some u) is j = (u, sym (span_is t told n) ∙ is)
+
+  -- ---- constants that go together with a type
+  -- the type below is the one below that type, or both are whole
+  abbrev Beside : ℕ → Kind → Type 0
+  Beside n a = (m : ℕ) × (type_below t a ≡ Some m) × ((m ≡ base t n) ⊎ ((m < 2) × (base t n < 2)))
+
+  fits_whole : (n : ℕ) (v : ℤ) → fits n v ≡ true → n < 2
+  fits_whole n v h = by (n == integer) (n == cardinal) refl refl h
+    where
+      by : (c d : Bool) → (n == integer) ≡ c → (n == cardinal) ≡ d → (c && not (int_lt (pos 32767) v)) || (d && not (int_lt v (pos 0))) ≡ true → n < 2
+      by true d is at j = grind (arith, nat_tests)
+      by false true is at j = grind (arith, nat_tests)
+      by false false is at j = absurd (true≢false (sym j))
+
+  beside : (n : ℕ) (a : Kind) → is_constant a ≡ true → suits t n a ≡ true → Beside n a
+  unfolding is_constant suits
+  beside n (k.Whole (pos v)) c h = (cardinal, refl, inr (omega arith, fits_whole (base t n) (pos v) h))
+  beside n (k.Whole (negsuc v)) c h = (integer, refl, inr (omega arith, fits_whole (base t n) (negsuc v) h))
+  beside n (k.Scalar s w) c h = (base t s, refl, inl (sym (same_sort (base t n) (base t s) h)))
+  beside n (k.Chars x) c h = (char, refl, inl (sym (same_sort (base t n) char (and_parts (x.length == 1) (base t n == char) h).1)))
+  beside n _ c h = absurd (true≢false (sym c))
+
+  -- it has a number, which is one of the base's
+  number_is : (n : ℕ) (a : Kind) → KindTold t a → is_constant a ≡ true → suits t n a ≡ true → (of : HasBase t n) → (z : ℤ) × (number t a ≡ Some z) × (has_number of.0 z ≡ true)
+  unfolding is_constant suits number
+  number_is n (k.Whole v) told_kind c h of = (v, refl, whole (base t n) v h told_kind of.0 of.1)
+    where
+      whole : (n : ℕ) (v : ℤ) → fits n v ≡ true → between (negsuc 32767) v (pos 65535) ≡ true → (k : RBase) → base_at t n ≡ Some k → has_number k v ≡ true
+      whole n v fit within k is = by (n == integer) (n == cardinal) refl refl fit
+        where
+          ends : (negsuc 32767 ≤ℤ v) × (v ≤ℤ pos 65535)
+          ends = bounds (negsuc 32767) v (pos 65535) within
+
+          by : (c d : Bool) → (n == integer) ≡ c → (n == cardinal) ≡ d → (c && not (int_lt (pos 32767) v)) || (d && not (int_lt v (pos 0))) ≡ true → has_number k v ≡ true
+          by true true low high j = absurd (grind (arith, nat_tests))
+          by true false low high j = subst (λ k. has_number k v ≡ true) (same_Some b.Integer k (sym (ap (base_at t) (same_sort n integer low)) ∙ is)) (signed v ends.0 j)
+            where
+              signed : (v : ℤ) → negsuc 32767 ≤ℤ v → not (int_lt (pos 32767) v) || false ≡ true → has_number b.Integer v ≡ true
+              signed v from to = grind (arith, ints)
+          by false true low high j = subst (λ k. has_number k v ≡ true) (same_Some b.Cardinal k (sym (ap (base_at t) (same_sort n cardinal high)) ∙ is)) (natural v ends.1 j)
+            where
+              natural : (v : ℤ) → v ≤ℤ pos 65535 → not (int_lt v (pos 0)) ≡ true → has_number b.Cardinal v ≡ true
+              natural v to from = grind (arith, ints)
+          by false false low high j = absurd (true≢false (sym j))
+  number_is n (k.Scalar s w) told_kind c h of =
+      let same : told_kind.0 ≡ of.0 = same_Some told_kind.0 of.0 (sym told_kind.1 ∙ ap (base_at t) (sym (same_sort (base t n) (base t s) h)) ∙ of.1) in
+      let span : HasSpan t s = base_span s (told_kind.0, told_kind.1, ap (λ k. is_ordinal (base_view k)) same ∙ of.2) in (
+        pos w,
+        ap (λ o. if is_some o then Some (word_number t s w) else None) (span_is t told s ∙ span.1) ∙ ap (λ c. Some (if c then number_of Integer w else pos w)) (unsigned (base t s == integer) refl),
+        subst (λ k. has_number k (pos w) ≡ true) same told_kind.3,
+      )
+    where
+      unsigned : (c : Bool) → (base t s == integer) ≡ c → (base t s == integer) ≡ false
+      unsigned true is = absurd (true≢false (sym told_kind.2 ∙ ap is_scalar (sym (same_Some b.Integer told_kind.0 (sym (ap (base_at t) (same_sort (base t s) integer is)) ∙ told_kind.1)))))
+      unsigned false is = is
+  number_is n (k.Chars x) told_kind c h of =
+      let parts = and_parts (x.length == 1) (base t n == char) h in (
+        pos x.first,
+        ap (λ c. if c then Some (pos x.first) else None) parts.0,
+        subst (λ k. has_number k (pos x.first) ≡ true) (same_Some b.Character of.0 (sym (ap (base_at t) (same_sort (base t n) char parts.1)) ∙ of.1)) (code x.first told_kind),
+      )
+    where
+      code : (c : ℕ) → c ≤ 255 → has_number b.Character (pos c) ≡ true
+      code c h = grind (arith, nat_tests, ints)
+  number_is n _ told_kind c h of = absurd (true≢false (sym c))
+
+  -- ---- both bounds
+  alike_is : (n : ℕ) (a c : Kind) → Beside n a → Beside n c → alike (type_below t a) (type_below t c) ≡ true
+  alike_is n a c h j = (λ i. alike (h.1 i) (j.1 i)) ∙ elim h.2 [
+    | inl one ↦ elim j.2 [ inl other ↦ same h.0 j.0 (one ∙ sym other) | inr other ↦ let low : h.0 < 2 = omega (arith, one, other.1) in whole h.0 j.0 low other.0 ]
+    | inr one ↦ elim j.2 [ inl other ↦ let low : j.0 < 2 = omega (arith, other, one.1) in whole h.0 j.0 one.0 low | inr other ↦ whole h.0 j.0 one.0 other.0 ]
+  ]
+    where
+      same : (m n : ℕ) → m ≡ n → alike (Some m) (Some n) ≡ true
+      same m n is = grind (arith, nat_tests)
+
+      whole : (m n : ℕ) → m < 2 → n < 2 → alike (Some m) (Some n) ≡ true
+      whole m n h j = grind (arith, nat_tests)
+
+  range_law : (p : Place) (named : NamedType) (of : Option ℕ) (a c : Bound) → ((n : ℕ) → of ≡ Some n → HasBase t n) → KindTold t a.kind → KindTold t c.kind → Right (IsThere (MadeOf t)) (range_over t p named of a c)
+  unfolding compatible
+  range_law p named None a c under first last clear = absurd (true≢false clear.0)
+  range_law p named (Some n) a c under first last clear =
+      let suits_first : suits t n a.kind ≡ true = is_so (suits t n a.kind) clear.0 in
+      let suits_last : suits t n c.kind ≡ true = is_so (suits t n c.kind) clear.1.1.1.0 in
+      let constant_first : is_constant a.kind ≡ true = is_so (is_constant a.kind) clear.1.0 in
+      let constant_last : is_constant c.kind ≡ true = is_so (is_constant c.kind) clear.1.1.1.1.0 in
+      let of : HasBase t n = under n refl in
+      let low = number_is n a.kind first constant_first suits_first of in
+      let high = number_is n c.kind last constant_last suits_last of in
+      let both : alike (type_below t a.kind) (type_below t c.kind) ≡ true = alike_is n a.kind c.kind (beside n a.kind constant_first suits_first) (beside n c.kind constant_last suits_last) in
+      let up : int_lt high.0 low.0 ≡ false = sym (λ i. both i && goes_down (low.1 i) (high.1 i)) ∙ clear.1.1.1.1.1.1.0 in
+      let span : span_between t a.kind c.kind ≡ Some (types.span low.0 high.0) = (λ i. if both i then span_by (low.1 i) (high.1 i) else None) ∙ ap (λ c. if c then None else Some (types.span low.0 high.0)) up in
+      let right_first : bound_right t named (Some n) a.kind ≡ true = λ i. not (clear.0 i) && (constant_first i && not (clear.1.1.0 i)) in
+      let right_last : bound_right t named (Some n) c.kind ≡ true = λ i. not (clear.1.1.1.0 i) && (constant_last i && not (clear.1.1.1.1.1.0 i)) in
+      let low_ends = bounds (least (base_view of.0)) low.0 (greatest (base_view of.0)) low.2 in
+      let high_ends = bounds (least (base_view of.0)) high.0 (greatest (base_view of.0)) high.2 in
+      let based = under_base n of in
+      there (MadeOf t) (range_form t named (Some n) a.kind c.kind) (form.Subrange n (types.span low.0 high.0))
+      ((λ i. if right_first i && right_last i then range_by (Some n) (span_between t a.kind c.kind) else None) ∙ ap (range_by (Some n)) span)
+      (record { base = of.0; is = of.1; ordinal = of.2; least = low_ends.0; ordered = ordered low.0 high.0 up; greatest = high_ends.1 }, refl)
+    where
+      ordered : (x y : ℤ) → int_lt y x ≡ false → x ≤ℤ y
+      ordered x y h = omega (arith, ints)
+
+  -- ---- the base of the first bound
+  span_under : (s n : ℕ) → (if is_some (span_of t s) then Some (base t s) else None) ≡ Some n → HasBase t n
+  span_under s n h =
+      let parts = if_some (is_some (span_of t s)) (Some (base t s)) n h in
+      subst (HasBase t) (same_Some (base t s) n parts.1) (under_base s (span_base s (spanned s parts.0)))
+
+  first_base : (a : Kind) → KindTold t a → (n : ℕ) → range_base t Absent a ≡ Some n → HasBase t n
+  unfolding kinds.is_ordinal
+  first_base (k.Whole (pos v)) h n is = subst (HasBase t) (same_Some cardinal n is) (b.Cardinal, refl, refl)
+  first_base (k.Whole (negsuc v)) h n is = subst (HasBase t) (same_Some integer n is) (b.Integer, refl, refl)
+  first_base (k.Scalar s w) h n is = span_under s n is
+  first_base (k.Chars x) h n is = subst (HasBase t) (same_Some char n (if_some (x.length == 1) (Some char) n is).1) (b.Character, refl, refl)
+  first_base (k.Of s) h n is = span_under s n is
+  first_base k.Nil h n is = absurd (none-some n is)
+  first_base (k.Open s) h n is = absurd h
+  first_base (k.Routine s) h n is = absurd h
+
+  abbrev asked : Found → Bound
+  asked a = record { kind = a.kind; first = a.first }
+
+  pub range_right : (p : Place) (named : NamedType) (a c : Option Found) → NamedTold t named → IsThere (IsFound t) a → IsThere (IsFound t) c → Right (IsThere (MadeOf t)) (range_node t p named (bound_of a) (bound_of c))
+  range_right p Faulty a c h first last = absurd h
+  range_right p Absent None c h first last = absurd first
+  range_right p Absent (Some a) None h first last = absurd last
+  range_right p Absent (Some a) (Some c) h first last = range_law p Absent (range_base t Absent a.kind) (asked a) (asked c) (first_base a.kind first.kind) first.kind last.kind
+  range_right p (Given n) None c h first last = absurd first
+  range_right p (Given n) (Some a) None h first last = absurd last
+  range_right p (Given n) (Some a) (Some c) h first last = range_law p (Given n) (Some n) (asked a) (asked c) (λ m is. subst (HasBase t) (same_Some n m is) (span_base n h)) first.kind last.kind

@@ -1,0 +1,4 @@
+pub mod Assignments
+pub mod Counting
+pub mod Nodes
+pub mod Statements

@@ -1,0 +1,2 @@
+//! The laws of right statements: where no test finds a fault, they have forms.
+#![tactic(auto)]

@@ -1,0 +1,152 @@
+-- What is told of values: their kinds, and the forms that go with them.
+use Rattle.std.specs.Prelude.{◌≡◌, ℕ, ◌+◌, ◌≤◌, pos, negsuc, Bool, true, false, List, [], ◌∷◌, length, slice_get, Some, None}
+use Rattle.lil_base.specs.Words.{between}
+use Rattle.lil_types.specs.Types.{Table, base, char, cardinal, integer, address, proc, process}
+use Rattle.lil_types.specs.declared.table.Parameter.{Parameter}
+use Rattle.lil_declared.specs.declared.declared.Mode.TheVariants.{Plain}
+use Rattle.lil_declared.specs.declared.declared.RVar.{RVar}
+use Rattle.lil_declared.specs.declared.standard.Resident.{Resident}
+use Rattle.lil_declared.specs.declared.standard.Resident.TheVariants as r
+use Rattle.lil_scope.specs.Built.{built}
+use Rattle.lil_scope.specs.declared.env.Env.{Env}
+use Rattle.lil_scope.specs.declared.thing.Chars.{Chars}
+use Rattle.lil_scope.specs.declared.thing.Entry.{Entry}
+use Rattle.lil_scope.specs.declared.thing.Kind.{Kind}
+use Rattle.lil_scope.specs.declared.thing.Kind.TheVariants as k
+use Rattle.lil_scope.specs.declared.thing.Thing.{Thing}
+use Rattle.lil_scope.specs.declared.thing.Thing.TheVariants as t
+use Rattle.lil_kinds.specs.Forms.{parameters, result}
+use Rattle.lil_kinds.specs.declared.found.Form.{Form}
+use Rattle.lil_kinds.specs.declared.found.Form.TheVariants as form
+use Rattle.lil_kinds.specs.declared.found.Found.{Found}
+use Rattle.lil_kinds.specs.declared.found.Standing.{Standing}
+use Rattle.lil_kinds.specs.declared.found.Standing.TheVariants as standing
+use Rattle.lil_resolved.specs.Sizes.{place_depth, depth}
+use Rattle.lil_resolved.specs.Sound.{is_text}
+use Rattle.lil_resolved.specs.Views.{base_view, expression_of, place_of}
+use Rattle.lil_resolved.specs.declared.resolved.RBase.{RBase}
+use Rattle.lil_resolved.specs.declared.resolved.RBase.TheVariants as b
+use Rattle.lil_resolved.specs.declared.resolved.RExpr.{RExpr}
+use Rattle.lil_resolved.specs.declared.resolved.RKind.{RKind}
+use Rattle.lil_shapes.specs.Bases.{base_at, kind_at}
+use Rattle.lil_shapes.specs.ListLaws.{AllFine}
+use Rattle.lil_shapes.specs.Operators.{has_number}
+use Rattle.lil_shapes.specs.Pointers.{lies_at}
+use Rattle.lil_forms.specs.Values.{value_kind}
+use Rattle.lil_right_type.specs.Types.{IsTold}
+use Rattle.lil_right_type.specs.Words.{AreMeasured}
+
+-- ---- kinds
+-- a base whose constants are told by their words
+abbrev pub is_scalar : RBase → Bool
+is_scalar b.Cardinal = false
+is_scalar b.Integer = false
+is_scalar b.Truth = true
+is_scalar b.Character = true
+is_scalar (b.Enumeration n) = true
+is_scalar b.Set = true
+is_scalar (b.Pointer n) = false
+is_scalar b.Address = false
+
+-- a word is that of a value of a type
+abbrev pub HasWord : Table → ℕ → ℕ → Type 0
+HasWord t s w = (b : RBase) × (base_at t (base t s) ≡ Some b) × (is_scalar b ≡ true) × (has_number b (pos w) ≡ true)
+
+-- constants are within their types, and something lies in a variable of a value's type. There are no open arrays and no procedures
+abbrev pub KindTold : Table → Kind → Type 0
+KindTold t (k.Whole z) = between (negsuc 32767) z (pos 65535) ≡ true
+KindTold t (k.Scalar s w) = HasWord t s w
+KindTold t (k.Chars c) = c.first ≤ 255
+KindTold t k.Nil = Unit {0}
+KindTold t (k.Of s) = lies_at t s ≡ true
+KindTold t (k.Open s) = ⊥
+KindTold t (k.Routine s) = ⊥
+
+-- ---- forms
+abbrev pub TextTold : Chars → List ℕ → Type 0
+TextTold c cs = (length cs ≡ c.length) × (is_text cs ≡ true)
+
+-- a value of a type, whose code takes at most a word more than so many
+abbrev pub IsValue : Table → ℕ → ℕ → RExpr → Type 0
+IsValue t s d x = (j : RKind) × (kind_at t s ≡ Some j) × (value_kind x ≡ base_view j.base) × (depth (expression_of x) ≤ d + 1)
+
+-- a form goes with a kind at a depth
+abbrev pub GoesWith : Table → ℕ → Kind → Form → Type 0
+GoesWith t d (k.Whole z) f = Unit {0}
+GoesWith t d (k.Scalar s w) f = Unit {0}
+GoesWith t d (k.Chars c) form.Nothing = ⊥
+GoesWith t d (k.Chars c) (form.Text cs) = TextTold c cs
+GoesWith t d (k.Chars c) (form.Located p) = ⊥
+GoesWith t d (k.Chars c) (form.Value x) = ⊥
+GoesWith t d k.Nil f = Unit {0}
+GoesWith t d (k.Of s) form.Nothing = ⊥
+GoesWith t d (k.Of s) (form.Text cs) = ⊥
+GoesWith t d (k.Of s) (form.Located p) = (p.sort ≡ s) × (place_depth (place_of p.place) ≤ d + 1)
+GoesWith t d (k.Of s) (form.Value x) = IsValue t s d x
+GoesWith t d (k.Open s) f = ⊥
+GoesWith t d (k.Routine s) f = ⊥
+
+abbrev pub IsLocated : Form → Type 0
+IsLocated form.Nothing = ⊥
+IsLocated (form.Text cs) = ⊥
+IsLocated (form.Located p) = Unit {0}
+IsLocated (form.Value x) = ⊥
+
+abbrev pub IsPlaced : Kind → Form → Type 0
+IsPlaced (k.Of s) f = IsLocated f
+IsPlaced _ f = ⊥
+
+-- a variable is a place, and no constant
+abbrev pub HasPlace : Standing → Kind → Form → Type 0
+HasPlace standing.Value kind f = Unit {0}
+HasPlace standing.Variable kind f = IsPlaced kind f
+HasPlace standing.Character kind f = IsPlaced kind f
+
+pub record IsFound (t : Table) (a : Found) : Type 0 where
+  pub kind : KindTold t a.kind
+  pub form : GoesWith t a.depth a.kind a.form
+  pub place : HasPlace a.standing a.kind a.form
+  pub some : 1 ≤ a.depth
+  pub few : a.depth ≤ 12
+
+-- ---- names
+-- the parameters of each resident procedure
+abbrev pub value : ℕ → Parameter
+value s = record { by_place = false; open_array = false; sort = s }
+
+abbrev pub place : ℕ → Parameter
+place s = record { by_place = true; open_array = false; sort = s }
+
+abbrev pub signature : Resident → List Parameter
+signature r.Read = place char ∷ []
+signature r.Write = value char ∷ []
+signature r.WriteString = record { by_place = false; open_array = true; sort = char } ∷ []
+signature r.WriteLn = []
+signature r.WriteCard = value cardinal ∷ value cardinal ∷ []
+signature r.WriteInt = value integer ∷ value cardinal ∷ []
+signature r.WriteOct = value cardinal ∷ value cardinal ∷ []
+signature r.WriteHex = value cardinal ∷ value cardinal ∷ []
+signature r.Allocate = place address ∷ value cardinal ∷ []
+signature r.Deallocate = place address ∷ value cardinal ∷ []
+signature r.NewProcess = value proc ∷ value address ∷ value cardinal ∷ place process ∷ []
+signature r.Transfer = place process ∷ place process ∷ []
+
+-- what a name stands for is told, by the types, the variables and the texts of constants
+abbrev pub ThingTold : Table → List RVar → List (List ℕ) → Thing → Type 0
+ThingTold types vs texts (t.Constant kind) = KindTold types kind × GoesWith types 1 kind form.Nothing
+ThingTold types vs texts (t.Named n c) = (c.first ≤ 255) × ((cs : List ℕ) × (slice_get texts n ≡ Some cs) × TextTold c cs)
+ThingTold types vs texts t.Nil = Unit {0}
+ThingTold types vs texts (t.Variable v) = (v.level ≡ 1) × (v.mode ≡ Plain) × ((x : RVar) × (slice_get vs v.number ≡ Some x) × (x.sort ≡ v.sort)) × (lies_at types v.sort ≡ true)
+ThingTold types vs texts (t.Type s) = built (t.Type s) ≡ true → lies_at types s ≡ true
+ThingTold types vs texts (t.Procedure x) = ⊥
+ThingTold types vs texts (t.Resident x s) = (parameters types s ≡ signature x) × (result types s ≡ None)
+ThingTold types vs texts (t.Standard x) = Unit {0}
+ThingTold types vs texts (t.Module b) = Unit {0}
+ThingTold types vs texts t.Hidden = Unit {0}
+ThingTold types vs texts t.Broken = ⊥
+
+-- the names of all blocks and their types are told
+pub record EnvTold (e : Env) : Type 0 where
+  pub types : IsTold e.types
+  pub words : AreMeasured e.types
+  pub names : AllFine (AllFine (λ (x : List ℕ × Entry). ThingTold e.types e.variables e.texts x.1.thing)) e.scopes.blocks

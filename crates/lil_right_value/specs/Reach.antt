@@ -1,0 +1,368 @@
+-- What designators reach is told, and so is what is used of it.
+use Rattle.std.proofs.Common.{◌≡◌, ℕ, ◌+◌, ◌≤◌, Bool, true, false, not, ◌&&◌, [], slice_get, Option, Some, None, if◌then◌else◌, refl, sym, ap, subst, ◌∙◌, arith, true≢false}
+use Rattle.std.specs.Prelude.{◌==◌, max, is_none}
+use Rattle.lil_base.specs.declared.fault.Place.{Place}
+use Rattle.lil_base.specs.declared.fault.FaultKind.{FaultKind}
+use Rattle.lil_base.specs.declared.fault.FaultKind.TheVariants.{NotRecord, NotPointer}
+use Rattle.lil_text.specs.declared.tree.Ident.{Ident}
+use Rattle.lil_types.specs.Types.{Table}
+use Rattle.lil_scope.specs.Built.{built}
+use Rattle.lil_scope.specs.Names.{member}
+use Rattle.lil_scope.specs.declared.env.Env.{Env}
+use Rattle.lil_scope.specs.declared.thing.Kind.TheVariants as k
+use Rattle.lil_scope.specs.declared.thing.Thing.{Thing}
+use Rattle.lil_scope.specs.declared.thing.Thing.TheVariants as t
+use Rattle.lil_scope.specs.declared.thing.Variable.{Variable}
+use Rattle.lil_kinds.specs.Forms.{array_parts, field, is_record, target}
+use Rattle.lil_kinds.specs.Kinds.{assignable, misses}
+use Rattle.lil_kinds.specs.declared.forms.ArrayParts as checked
+use Rattle.lil_kinds.specs.declared.forms.FieldAt.{FieldAt}
+use Rattle.lil_kinds.specs.declared.found.Found.{Found}
+use Rattle.lil_kinds.specs.declared.found.Located.{Located}
+use Rattle.lil_kinds.specs.declared.found.Standing.{Standing}
+use Rattle.lil_kinds.specs.declared.found.Standing.TheVariants as standing
+use Rattle.lil_resolved.specs.Kinds.{takes_value}
+use Rattle.lil_resolved.specs.Sizes.{place_depth, depth}
+use Rattle.lil_resolved.specs.Views.{kind_view, expression_of, place_of, root_view, field_is as field_view, index_is, follow_is}
+use Rattle.lil_resolved.specs.declared.resolved.RExpr.{RExpr}
+use Rattle.lil_resolved.specs.declared.resolved.RKind.{RKind}
+use Rattle.lil_resolved.specs.declared.resolved.RPlace.{RPlace}
+use Rattle.lil_resolved.specs.declared.resolved.RRoot.{RRoot}
+use Rattle.lil_resolved.specs.declared.resolved.RRoot.TheVariants as root
+use Rattle.lil_resolved.specs.declared.resolved.RSelector.TheVariants as part
+use Rattle.lil_shapes.specs.Bases.{kind_at, array_at, field_at}
+use Rattle.lil_shapes.specs.Pointers.{lies_at, target_with, target_by}
+use Rattle.lil_forms.specs.Parts.{placed_is, further_is}
+use Rattle.lil_forms.specs.Places as places
+use Rattle.lil_forms.specs.Places.{at_root, further, variable_at, held_at, element_as, element_by}
+use Rattle.lil_forms.specs.Values.{value_kind, typed}
+use Rattle.lil_call.specs.declared.call.Argument.TheVariants as argument
+use Rattle.lil_operators.specs.Operations.{raised}
+use Rattle.lil_check_value.specs.declared.designators.Named.{Named}
+use Rattle.lil_check_value.specs.declared.designators.Part.{Part}
+use Rattle.lil_check_value.specs.declared.designators.Reached.{Reached}
+use Rattle.lil_check_value.specs.declared.designators.Reached.TheVariants as reached
+use Rattle.lil_check_value.specs.declared.names.Looked.{Looked}
+use Rattle.lil_check_value.specs.declared.names.Looked.TheVariants.{Nothing, Field, Thing as Declared}
+use Rattle.lil_check_value.specs.Looks.{look, looked_as, is_hidden_thing}
+use Rattle.lil_check_value.specs.Designators.{variable_place, kind_by, whole_part, thing_reached, held_field, name_node, root_means, is_misplaced, refused_rows, record_kind, field_of, field_found, field_value, part_field, module_block, other_field_by, other_field, field_node, parts_of, with_index, index_fits, element_found, element_value, index_rows, part_index, other_index, index_node, opaque_kind, target_of, target_found, target_value, part_follow, other_follow, follow_node, located_form, part_found, no_value, text_form, thing_found, named_value, value_node, variable_node, part_callee, thing_callee, callee_node, type_in, no_type_in, part_typed, typed_node}
+use Rattle.lil_right_call.specs.Told.{ArgumentTold, CalleeTold}
+use Rattle.lil_right_type.specs.Found.{KindTold, GoesWith, IsLocated, HasPlace, IsFound, ThingTold, EnvTold}
+use Rattle.lil_right_type.specs.Parts.{IsArray, IsPointer, array_is, field_is, target_is, never_opaque}
+use Rattle.lil_right_type.specs.Right.{Clear, Right, IsThere, is_so}
+use Rattle.lil_right_type.specs.Typed.{Suits, kept_if, assignable_stores, stores_suits}
+use Rattle.lil_right_type.specs.Types.{IsOrdinal, known_ordinal}
+use Rattle.lil_right_value.specs.Names.{LookTold, look_told, looked_told, member_told}
+use Rattle.lil_right_value.specs.Operators.{IsRaised, raised_is}
+
+-- ---- depths of places
+root_depth : (r : RRoot) (s : ℕ) → place_depth (place_of (at_root r s).place) ≡ 1
+root_depth r s = ap place_depth (placed_is r []) ∙ by r
+  where
+    by : (r : RRoot) → place_depth (root_view r) ≡ 1
+    by (root.Variable n) = refl
+    by (root.Held w) = refl
+
+field_depth : (p : RPlace) (i : ℕ) → place_depth (place_of (further p (part.Field i))) ≡ place_depth (place_of p)
+field_depth p i = ap place_depth (further_is p (part.Field i) ∙ field_view i (place_of p))
+
+follow_depth : (p : RPlace) (n : ℕ) → place_depth (place_of (further p (part.Follow n))) ≡ place_depth (place_of p)
+follow_depth p n = ap place_depth (further_is p (part.Follow n) ∙ follow_is n (place_of p))
+
+index_depth : (p : RPlace) (j : RKind) (x : RExpr) → place_depth (place_of (further p (part.Index j x))) ≡ max (place_depth (place_of p)) (2 + depth (expression_of x))
+index_depth p j x = ap place_depth (further_is p (part.Index j x) ∙ index_is j x (place_of p))
+
+-- a place of a type, to which so many words lead, or one more
+abbrev pub LiesAt : ℕ → ℕ → Located → Type 0
+LiesAt s d p = (p.sort ≡ s) × (place_depth (place_of p.place) ≤ d + 1)
+
+-- the place of a variable, or of a part of one, of a type
+pub record PartTold (t : Table) (a : Part) : Type 0 where
+  pub sort : ℕ
+  pub is : a.kind ≡ k.Of sort
+  pub lies : lies_at t sort ≡ true
+  pub place : IsThere (LiesAt sort a.depth) a.place
+  pub some : 1 ≤ a.depth
+  pub few : a.depth ≤ 12
+
+-- what is used of it
+part_told : (t : Table) (a : Part) → PartTold t a → IsFound t (part_found a) × IsLocated (located_form a.place)
+part_told t a h = (
+  record {
+    kind = subst (KindTold t) (sym h.is) h.lies;
+    form = subst (λ kind. GoesWith t a.depth kind (located_form a.place)) (sym h.is) (goes a.place h.place);
+    place = subst (λ kind. HasPlace a.standing kind (located_form a.place)) (sym h.is) (stands a.standing (located a.place h.place));
+    some = h.some;
+    few = h.few;
+  },
+  located a.place h.place,
+)
+  where
+    goes : (o : Option Located) → IsThere (LiesAt h.sort a.depth) o → GoesWith t a.depth (k.Of h.sort) (located_form o)
+    goes None j = j
+    goes (Some p) j = j
+
+    located : (o : Option Located) → IsThere (LiesAt h.sort a.depth) o → IsLocated (located_form o)
+    located None j = j
+    located (Some p) j = tt
+
+    stands : (x : Standing) → IsLocated (located_form a.place) → HasPlace x (k.Of h.sort) (located_form a.place)
+    stands standing.Value j = tt
+    stands standing.Variable j = j
+    stands standing.Character j = j
+
+-- what else a name means: it is built, and no variable
+abbrev pub is_other : Thing → Bool
+is_other (t.Variable v) = false
+is_other t.Hidden = false
+is_other t.Broken = false
+is_other _ = true
+
+module _ (e : Env) (told : EnvTold e) where
+  abbrev pub NamedTold : Thing → Type 0
+  NamedTold x = ThingTold e.types e.variables e.texts x × (built x ≡ true) × (is_other x ≡ true)
+
+  abbrev pub ReachedTold : Reached → Type 0
+  ReachedTold (reached.Part a) = PartTold e.types a
+  ReachedTold (reached.Other o) = NamedTold o.thing
+
+  -- ---- names
+  whole_told : (p q : Place) (o : Option Located) (s : ℕ) → lies_at e.types s ≡ true → IsThere (LiesAt s 1) o → PartTold e.types (whole_part p q o (k.Of s))
+  whole_told p q o s lies h = record { sort = s; is = refl; lies = lies; place = h; some = omega arith; few = omega arith }
+
+  variable_told : (p q : Place) (v : Variable) → ThingTold e.types e.variables e.texts (t.Variable v) → IsThere ReachedTold (thing_reached e p q (t.Variable v))
+  variable_told p q v h =
+      subst (λ mode. PartTold e.types (whole_part p q (variable_place e v) (kind_by mode v.sort))) (sym h.1)
+      (whole_told p q (variable_place e v) v.sort h.3
+      (subst (λ level. IsThere (LiesAt v.sort 1) (if level == 1 then variable_at e.variables v.number else None)) (sym h.0)
+      (subst (λ o. IsThere (LiesAt v.sort 1) (places.variable_by v.number o)) (sym h.2.1) (h.2.2, at_most (root_depth (root.Variable v.number) h.2.0.sort)))))
+    where
+      at_most : {n : ℕ} → n ≡ 1 → n ≤ 1 + 1
+      at_most is = omega (arith, is)
+
+  named_told : (p q : Place) (x : Thing) → ThingTold e.types e.variables e.texts x → built x ≡ true → is_hidden_thing x ≡ false → IsThere ReachedTold (thing_reached e p q x)
+  named_told p q (t.Variable v) h is seen = variable_told p q v h
+  named_told p q t.Hidden h is seen = absurd (true≢false seen)
+  named_told p q t.Broken h is seen = absurd h
+  named_told p q (t.Constant c) h is seen = (h, is, refl)
+  named_told p q (t.Named n c) h is seen = (h, is, refl)
+  named_told p q t.Nil h is seen = (h, is, refl)
+  named_told p q (t.Type s) h is seen = (h, is, refl)
+  named_told p q (t.Procedure x) h is seen = absurd h
+  named_told p q (t.Resident x s) h is seen = (h, is, refl)
+  named_told p q (t.Standard x) h is seen = (h, is, refl)
+  named_told p q (t.Module n) h is seen = (h, is, refl)
+
+  field_told : (s d i f : ℕ) (o : Option Located) → field_at e.types s i ≡ Some f → IsThere (LiesAt s d) o → IsThere (LiesAt f d) (places.field_of e.types i o)
+  field_told s d i f None at h = h
+  field_told s d i f (Some p) at h =
+      subst (λ o. IsThere (LiesAt f d) (places.field_by i p o)) (sym (ap (λ s. field_at e.types s i) h.0 ∙ at)) (refl, subst (λ n. n ≤ d + 1) (sym (field_depth p.place i)) h.1)
+
+  held_told : (w r : ℕ) → slice_get e.withs w ≡ Some r → IsThere (LiesAt r 1) (held_at e.withs w)
+  held_told w r at = subst (λ o. IsThere (LiesAt r 1) (places.held_by e.withs w o)) (sym at) (refl, at_most (root_depth (root.Held _) r))
+    where
+      at_most : {n : ℕ} → n ≡ 1 → n ≤ 1 + 1
+      at_most is = omega (arith, is)
+
+  name_right : (p at q : Place) (l : Looked) → LookTold e told l → Right (IsThere ReachedTold) (name_node e p at q l)
+  unfolding name_node
+  name_right p at q Nothing h clear = absurd (true≢false clear.0)
+  name_right p at q (Field w f s) h clear = whole_told p q (held_field e w f) s h.3 (field_told h.0 1 f s (held_at e.withs w) h.2 (held_told w h.0 h.1))
+  name_right p at q (Declared x) h clear = named_told p q x h (is_so (built x) clear.1.1.0) clear.1.0
+
+  pub root_right : (p : Place) (x : Ident) → Right (IsThere ReachedTold) (root_means e p x)
+  root_right p x = name_right p x.place x.place (look e x.name) (look_told e told x.name)
+
+  -- ---- fields
+  part_field_right : (dot : Place) (x : Ident) (a : Part) → PartTold e.types a → Right (IsThere ReachedTold) (part_field e.types dot x a)
+  unfolding part_field
+  part_field_right dot x a h clear = by (field e.types h.sort x.name) refl (ap (λ kind. record_kind e.types kind) (sym h.is) ∙ is_so (record_kind e.types a.kind) clear.0) clear.1.0
+    where
+      is_field : (o : Option FieldAt) → field e.types h.sort x.name ≡ o → field_of e.types a.kind x.name ≡ o
+      is_field o at = ap (λ kind. field_of e.types kind x.name) h.is ∙ at
+
+      by : (o : Option FieldAt) → field e.types h.sort x.name ≡ o → is_record e.types h.sort ≡ true → (record_kind e.types a.kind && is_none (field_of e.types a.kind x.name)) ≡ false
+          → IsThere ReachedTold (field_value e.types (record_kind e.types a.kind) a (field_of e.types a.kind x.name))
+      by None at rec miss = absurd (true≢false (sym (λ i. (ap (record_kind e.types) h.is ∙ rec) i && is_none (is_field None at i)) ∙ miss))
+      by (Some f) at rec miss =
+          let g = field_is e.types told.types h.sort x.name f at in
+          subst (λ c. IsThere ReachedTold (field_value e.types c a (field_of e.types a.kind x.name))) (sym (ap (record_kind e.types) h.is ∙ rec))
+          (subst (λ o. IsThere ReachedTold (field_found e.types a o)) (sym (is_field (Some f) at))
+          (record { sort = f.sort; is = refl; lies = g.1; place = field_told h.sort a.depth f.number f.sort a.place g.0 h.place; some = h.some; few = h.few }))
+
+  refused : {A : Type 0} (o : Named) (p : Place) (f : FaultKind) → Clear (refused_rows o p f) → A
+  refused o p f clear = absurd (both (is_misplaced o.thing) clear.0 clear.1.0)
+    where
+      both : (c : Bool) → c ≡ false → not c ≡ false → ⊥
+      both true h j = true≢false h
+      both false h j = true≢false j
+
+  other_field_right : (dot : Place) (x : Ident) (o : Named) → NamedTold o.thing → Right (IsThere ReachedTold) (other_field e dot x o)
+  unfolding other_field
+  other_field_right dot x o h = by (module_block o.thing)
+    where
+      by : (b : Option ℕ) → Right (IsThere ReachedTold) (other_field_by e dot x o b)
+      by (Some b) clear = name_right o.first o.name x.place (looked_as (member e.scopes b x.name)) (looked_told e told (member e.scopes b x.name) (member_told e told b x.name)) clear
+      by None clear = refused o dot NotRecord clear
+
+  pub field_right : (dot : Place) (x : Ident) (o : Option Reached) → IsThere ReachedTold o → Right (IsThere ReachedTold) (field_node e dot x o)
+  field_right dot x None h clear = h
+  field_right dot x (Some (reached.Part a)) h clear = part_field_right dot x a h clear
+  field_right dot x (Some (reached.Other o)) h clear = other_field_right dot x o h clear
+
+  -- ---- elements
+  element_told : (s d r : ℕ) (i : Found) (p : checked.ArrayParts) (o : Option Located) → IsArray e.types s p → IsFound e.types i → IsRaised d 2 i.depth r → assignable e.types p.index i.kind ≡ true → misses e.types p.index i.kind ≡ false
+      → IsThere (LiesAt s d) o → IsThere (LiesAt p.element r) (places.element_of e.types i o)
+  element_told s d r i p None g j deep so out h = h
+  element_told s d r i p (Some q) g j deep so out h =
+      let o : IsOrdinal e.types p.index g.span.0 = known_ordinal e.types told.types p.index g.span.0 g.span.1 in
+      subst (λ a. IsThere (LiesAt p.element r) (element_by e.types i q a)) (sym (ap (array_at e.types) h.0 ∙ g.at))
+      (subst (λ j. IsThere (LiesAt p.element r) (element_as q p.element j (typed e.types p.index i))) (sym o.at)
+      (chosen o.kind (typed e.types p.index i) (stores_suits o.kind i.depth _ o.ordinal (assignable_stores e.types told.types p.index o.kind i o.at j so out))))
+    where
+      deeper : (m n : ℕ) → m ≤ d + 1 → n ≤ i.depth + 1 → max m (2 + n) ≤ r + 1
+      deeper m n u v = omega (arith, deep.left, deep.right)
+
+      chosen : (j : RKind) (x : Option RExpr) → IsThere (Suits j i.depth) x → IsThere (LiesAt p.element r) (element_as q p.element (Some j) x)
+      chosen j None y = y
+      chosen j (Some x) y = kept_if (LiesAt p.element r) (takes_value (kind_view j) (value_kind x)) _ y.0 (refl, subst (λ n. n ≤ r + 1) (sym (index_depth q.place j x)) (deeper (place_depth (place_of q.place)) (depth (expression_of x)) h.1 y.1))
+
+  part_index_right : (bracket : Place) (a : Part) (i : Found) → PartTold e.types a → IsFound e.types i → Right (IsThere ReachedTold) (part_index e.types bracket a i)
+  unfolding part_index
+  part_index_right bracket a i h j clear = by (array_parts e.types h.sort) refl clear.1
+    where
+      are_parts : (o : Option checked.ArrayParts) → array_parts e.types h.sort ≡ o → parts_of e.types a.kind ≡ o
+      are_parts o at = ap (parts_of e.types) h.is ∙ at
+
+      by : (o : Option checked.ArrayParts) → array_parts e.types h.sort ≡ o → Clear (index_rows e.types bracket i.first i.kind (parts_of e.types a.kind)) → IsThere ReachedTold (element_value e.types a i (parts_of e.types a.kind) (raised a.depth 2 i.depth))
+      by None at rows = absurd (true≢false (subst (λ o. Clear (index_rows e.types bracket i.first i.kind o)) (are_parts None at) rows).0)
+      by (Some p) at rows =
+          let asked = subst (λ o. Clear (index_rows e.types bracket i.first i.kind o)) (are_parts (Some p) at) rows in
+          let so = is_so (assignable e.types p.index i.kind) asked.0 in
+          let deep = raised_is a.depth 2 i.depth clear.0 in
+          subst (λ o. IsThere ReachedTold (element_value e.types a i o (raised a.depth 2 i.depth))) (sym (are_parts (Some p) at))
+          (subst (λ d. IsThere ReachedTold (element_found e.types a i p d)) (sym deep.1)
+          (kept_if ReachedTold (index_fits e.types p i.kind) (reached.Part (with_index e.types a i p deep.0)) (λ l. so l && not (asked.1.0 l))
+          (record {
+            sort = p.element;
+            is = refl;
+            lies = (array_is e.types told.types h.sort p at).element;
+            place = element_told h.sort a.depth deep.0 i p a.place (array_is e.types told.types h.sort p at) j deep.2 so asked.1.0 h.place;
+            some = omega (arith, h.some, deep.2.left);
+            few = deep.2.few;
+          })))
+
+  other_index_right : (bracket : Place) (o : Named) (i : Found) → Right (IsThere ReachedTold) (other_index bracket o (Some i))
+  unfolding other_index
+  other_index_right bracket o i clear = absurd (both (is_misplaced o.thing) clear.0 clear.1.1.0)
+    where
+      both : (c : Bool) → c ≡ false → not c ≡ false → ⊥
+      both true h j = true≢false h
+      both false h j = true≢false j
+
+  pub index_right : (bracket : Place) (o : Option Reached) (i : Option Found) → IsThere ReachedTold o → IsThere (IsFound e.types) i → Right (IsThere ReachedTold) (index_node e.types bracket o i)
+  index_right bracket None i h j clear = h
+  index_right bracket (Some (reached.Part a)) None h j clear = j
+  index_right bracket (Some (reached.Other o)) None h j clear = absurd j
+  index_right bracket (Some (reached.Part a)) (Some i) h j clear = part_index_right bracket a i h j clear
+  index_right bracket (Some (reached.Other o)) (Some i) h j clear = other_index_right bracket o i clear
+
+  -- ---- what a pointer points to
+  pointed_told : (s d m : ℕ) (o : Option Located) → IsPointer e.types s m → IsThere (LiesAt s d) o → IsThere (LiesAt m d) (places.target_of e.types o)
+  pointed_told s d m None g h = h
+  pointed_told s d m (Some p) g h =
+      subst (λ o. IsThere (LiesAt m d) (places.target_by p (target_by e.types o))) (sym (ap (kind_at e.types) h.0 ∙ g.kind))
+      (subst (λ o. IsThere (LiesAt m d) (places.target_by p (target_with e.types s o))) (sym g.pointed)
+      (subst (λ c. IsThere (LiesAt m d) (places.target_by p (if c then Some (record { pointer = s; sort = m }) else None))) (sym g.target) (refl, subst (λ n. n ≤ d + 1) (sym (follow_depth p.place s)) h.1)))
+
+  part_follow_right : (arrow : Place) (a : Part) → PartTold e.types a → Right (IsThere ReachedTold) (part_follow e.types arrow a)
+  unfolding part_follow
+  part_follow_right arrow a h clear = by (target e.types h.sort) refl clear.1.0
+    where
+      clear_kind : opaque_kind e.types a.kind ≡ false
+      clear_kind = ap (opaque_kind e.types) h.is ∙ never_opaque e.types told.types h.sort
+
+      is_target : (o : Option ℕ) → target e.types h.sort ≡ o → target_of e.types a.kind ≡ o
+      is_target o at = ap (target_of e.types) h.is ∙ at
+
+      by : (o : Option ℕ) → target e.types h.sort ≡ o → (not (opaque_kind e.types a.kind) && is_none (target_of e.types a.kind)) ≡ false → IsThere ReachedTold (target_value e.types (opaque_kind e.types a.kind) a (target_of e.types a.kind))
+      by None at miss = absurd (true≢false (sym (λ i. not (clear_kind i) && is_none (is_target None at i)) ∙ miss))
+      by (Some m) at miss =
+          let g = target_is e.types told.types h.sort m at in
+          subst (λ c. IsThere ReachedTold (target_value e.types c a (target_of e.types a.kind))) (sym clear_kind)
+          (subst (λ o. IsThere ReachedTold (target_found e.types a o)) (sym (is_target (Some m) at))
+          (record { sort = m; is = refl; lies = g.target; place = pointed_told h.sort a.depth m a.place g h.place; some = h.some; few = h.few }))
+
+  pub follow_right : (arrow : Place) (o : Option Reached) → IsThere ReachedTold o → Right (IsThere ReachedTold) (follow_node e.types arrow o)
+  unfolding other_follow
+  follow_right arrow None h clear = h
+  follow_right arrow (Some (reached.Part a)) h clear = part_follow_right arrow a h clear
+  follow_right arrow (Some (reached.Other o)) h clear = refused o arrow NotPointer clear
+
+  -- ---- uses
+  thing_right : (o : Named) → NamedTold o.thing → Right (IsThere (IsFound e.types)) (named_value e.texts o)
+  unfolding named_value
+  thing_right o h clear = by o.thing h clear.0 clear.1.0
+    where
+      by : (x : Thing) → NamedTold x → is_misplaced x ≡ false → no_value x ≡ false → IsThere (IsFound e.types) (thing_found e.texts o.first x)
+      by (t.Constant kind) h c d = record { kind = h.0.0; form = h.0.1; place = tt; some = omega arith; few = omega arith }
+      by (t.Named n chars) h c d = record { kind = h.0.0; form = subst (λ o. GoesWith e.types 1 (k.Chars chars) (text_form o)) (sym h.0.1.1) h.0.1.2; place = tt; some = omega arith; few = omega arith }
+      by t.Nil h c d = record { kind = tt; form = tt; place = tt; some = omega arith; few = omega arith }
+      by (t.Variable v) h c d = absurd (true≢false (sym h.2))
+      by (t.Type s) h c d = absurd (true≢false c)
+      by (t.Procedure x) h c d = absurd h.0
+      by (t.Resident x s) h c d = absurd (true≢false d)
+      by (t.Standard x) h c d = absurd (true≢false d)
+      by (t.Module n) h c d = absurd (true≢false c)
+      by t.Hidden h c d = absurd (true≢false (sym h.2))
+      by t.Broken h c d = absurd h.0
+
+  pub value_right : (o : Option Reached) → IsThere ReachedTold o → Right (IsThere (IsFound e.types)) (value_node e.texts o)
+  value_right None h clear = h
+  value_right (Some (reached.Part a)) h clear = (part_told e.types a h).0
+  value_right (Some (reached.Other o)) h clear = thing_right o h clear
+
+  pub variable_right : (o : Option Reached) → IsThere ReachedTold o → Right (IsThere (λ a. IsFound e.types a × IsLocated a.form)) (variable_node o)
+  variable_right None h clear = h
+  variable_right (Some (reached.Part a)) h clear = part_told e.types a h
+  variable_right (Some (reached.Other o)) h clear = absurd (true≢false clear.0)
+
+  callee_told : (x : Thing) → NamedTold x → is_misplaced x ≡ false → IsThere (CalleeTold e.types) (thing_callee x)
+  callee_told (t.Constant kind) h c = tt
+  callee_told (t.Named n chars) h c = tt
+  callee_told t.Nil h c = tt
+  callee_told (t.Variable v) h c = absurd (true≢false (sym h.2))
+  callee_told (t.Type s) h c = absurd (true≢false c)
+  callee_told (t.Procedure x) h c = absurd h.0
+  callee_told (t.Resident x s) h c = (h.0.0, h.0.1, h.1)
+  callee_told (t.Standard x) h c = h.1
+  callee_told (t.Module n) h c = absurd (true≢false c)
+  callee_told t.Hidden h c = absurd (true≢false (sym h.2))
+  callee_told t.Broken h c = absurd h.0
+
+  pub called_right : (o : Option Reached) → IsThere ReachedTold o → Right (IsThere (CalleeTold e.types)) (callee_node o)
+  called_right None h clear = h
+  called_right (Some (reached.Part a)) h clear = subst (λ kind. CalleeTold e.types (part_callee kind a)) (sym h.is) h.lies
+  called_right (Some (reached.Other o)) h clear = callee_told o.thing h clear.0
+
+  type_told : (p : Place) (x : Thing) → NamedTold x → no_type_in x ≡ false → ArgumentTold e.types (argument.Type p (type_in x))
+  type_told p (t.Type s) h c = h.0 h.1
+  type_told p (t.Constant kind) h c = absurd (true≢false c)
+  type_told p (t.Named n chars) h c = absurd (true≢false c)
+  type_told p t.Nil h c = absurd (true≢false c)
+  type_told p (t.Variable v) h c = absurd (true≢false c)
+  type_told p (t.Procedure x) h c = absurd (true≢false c)
+  type_told p (t.Resident x s) h c = absurd (true≢false c)
+  type_told p (t.Standard x) h c = absurd (true≢false c)
+  type_told p (t.Module n) h c = absurd (true≢false c)
+  type_told p t.Hidden h c = absurd (true≢false c)
+  type_told p t.Broken h c = absurd (true≢false c)
+
+  pub typed_right : (p : Place) (o : Option Reached) → IsThere ReachedTold o → Right (ArgumentTold e.types) (typed_node p o)
+  typed_right p None h clear = h
+  typed_right p (Some (reached.Part a)) h clear = by a.is_whole clear
+    where
+      by : (c : Bool) → Right (ArgumentTold e.types) (part_typed c p a)
+      by true clear = absurd (true≢false clear.0)
+      by false clear = (part_told e.types a h).0
+  typed_right p (Some (reached.Other o)) h clear = type_told p o.thing h clear.0
