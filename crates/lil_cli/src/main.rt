@@ -7,28 +7,35 @@ ghost use Rattle.lil_session.specs.Report.{status_lines};
 use lil_base::{Memory, Text};
 use lil_session::{ErrorSink, FolderVolume, InputKeys, OutputSink, Rack, Sink, Status, lilith};
 use std::alloc::Global;
-use std::env;
-use std::io::{ErrorKind, Input};
+use std::env::{Env, FillError};
 use std::process::ExitCode;
 
-/// The words after the program's name, or none where one of them isn't UTF-8.
-fn words<R: env::Env + Alloc<A = Global>>(rt: &R) -> Result<Vec<Text>, Memory> {
-    let alloc = rt.alloc();
-    let mut words = Vec::new(alloc);
-    match env::args(rt) {
-        Ok(args) => {
-            for word in args.skip(1) {
-                words.push(Text::from_slice(alloc, word.as_bytes())?)?;
-            }
-            Ok(words)
-        }
-        Err(error) => {
-            if error.kind() == ErrorKind::OutOfMemory {
-                return Err(Memory);
-            }
-            Ok(words)
+/// The word at place `i` of the command line, or none where there is no more. Its bytes need not be UTF-8.
+fn word<R: Env>(rt: &R, alloc: Global, i: usize) -> Result<Option<Text>, Memory> {
+    let mut room = 256usize;
+    for _ in 0..usize::BITS {
+        let mut bytes = Vec::new(alloc);
+        bytes.resize(room, 0u8)?;
+        match rt.arg(i, bytes.as_mut_slice()) {
+            Ok(length) => return Ok(Some(Text::from_slice(alloc, &bytes[..length])?)),
+            Err(FillError::NotPresent) => return Ok(None),
+            Err(FillError::TooLong) => room = room.saturating_add(room),
         }
     }
+    Err(Memory)
+}
+
+/// The words after the program's name.
+fn words<R: Env + Alloc<A = Global>>(rt: &R) -> Result<Vec<Text>, Memory> {
+    let alloc = rt.alloc();
+    let mut words = Vec::new(alloc);
+    for i in 1..usize::MAX {
+        match word(rt, alloc, i)? {
+            Some(text) => words.push(text)?,
+            None => break,
+        }
+    }
+    Ok(words)
 }
 
 /// The line of an answer that comes before there are words for a command.
