@@ -13,10 +13,14 @@ use lil_volume::{Sink, SinkFailed};
 /// The most characters of an array: the words of the main store.
 const MOST_CHARACTERS: usize = 65_536;
 
+/// The most characters of an array for which room is made on the processor's stack in little time.
+const FEW_CHARACTERS: usize = 256;
+
 /// What an array of characters shows, by its address and the number of its last element: the characters before
 /// the first 0C, or all.
-fn string(machine: &Machine, address: u16, high: u16) -> ArrayVec<u8, MOST_CHARACTERS>
-    requires { address + high ≤ 65535 }
+fn string<const ROOM: usize>(machine: &Machine, address: u16, high: u16) -> ArrayVec<u8, ROOM>
+    requires lies { address + high ≤ 65535 }
+    requires room { suc high ≤ ROOM }
     ensures { result.items ≡ map byte_of (before_end (characters_at machine.now.state.store address (suc high))) }
 {
     let mut text = ArrayVec::new();
@@ -47,5 +51,8 @@ pub(crate) fn put_string<S: Sink>(
     ensures err { OnErr result (FollowedByPrefix (S.written screen.old) (map byte_of (before_end (characters_at machine.now.state.store address (suc high)))) (S.written screen.new)) }
     ensures cause { HasCause (S.faults screen.old) (S.faults screen.new) result }
 {
-    screen.put(string(machine, address, high).as_slice())
+    if usize::from(high) < FEW_CHARACTERS {
+        return screen.put(string::<FEW_CHARACTERS>(machine, address, high).as_slice());
+    }
+    screen.put(string::<MOST_CHARACTERS>(machine, address, high).as_slice())
 }

@@ -4,7 +4,7 @@ use Rattle.lil_kernel.proofs.Characters.{shown_from, next_shown, ended, none_lef
 use Rattle.lil_kernel.proofs.strings.string.Goals as goal
 
 pub loop-at-init : goal.loop-at-init
-loop-at-init c =
+loop-at-init g c =
     let store = c.args.machine.now.state.store in
     let from : c.from-at.result ≡ c.args.address = c.from-at.ensures in
     let count : c.from.result + c.from-2.result + 1 - c.from-at.result ≡ suc c.args.high = omega arith in
@@ -17,7 +17,7 @@ loop-at-init c =
     }
 
 pub loop-at-preserved : goal.loop-at-preserved
-loop-at-preserved c =
+loop-at-preserved g c =
     let store = c.args.machine.now.state.store in
     let l = c.loop-at in
     let end : ℕ = c.from.result + c.from-2.result + 1 in
@@ -30,13 +30,13 @@ loop-at-preserved c =
     }
 
 pub returns-then-word-eq0 : goal.returns-then-word-eq0
-returns-then-word-eq0 c =
+returns-then-word-eq0 g c =
     let store = c.args.machine.now.state.store in
     let l = c.loop-at in
     ended store l.text.items (shown_from store c.args.address (suc c.args.high)) l.at (c.from.result + c.from-2.result + 1) c.word-word.result c.word-word.ensures c.if-word-eq0.true c.loop-at-test.true l.invariant.whole
 
 pub returns : goal.returns
-returns c =
+returns g c =
     let store = c.args.machine.now.state.store in
     let l = c.loop-at in
     none_left store l.text.items (shown_from store c.args.address (suc c.args.high)) l.at (c.from.result + c.from-2.result + 1) c.loop-at-test.false l.invariant.whole
