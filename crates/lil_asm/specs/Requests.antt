@@ -1,7 +1,6 @@
 -- The words of requests.
 use Rattle.std.specs.Prelude.{ℕ}
-use Rattle.lil_base.specs.declared.request.Request.{Request}
-use Rattle.lil_base.specs.declared.request.Request.TheVariants.{Write, WriteString, WriteLn, WriteCard, WriteInt, WriteOct, WriteHex}
+use Rattle.lil_base.specs.declared.request.Request.{Request, TheVariants.{Write, WriteString, WriteLn, WriteCard, WriteInt, WriteOct, WriteHex}}
 
 -- how many words of the expression stack a request takes
 abbrev pub request_words : Request → ℕ

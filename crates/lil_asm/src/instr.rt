@@ -1,4 +1,4 @@
-ghost use Rattle.std.specs.Prelude.{◌≡◌, ◌+◌, ◌<◌, ◌^◌, length, OnSome};
+ghost use Rattle.std.specs.Prelude.{◌≡◌, ◌+◌, ◌<◌, ◌^◌, ℕ, Some, None, length, slice_get, OnSome, IfSome, IfNone};
 ghost use Rattle.lil_asm.specs.Bytes.{word_at, two_words_at, byte_word_at, with_byte, with_word, with_two_words, with_byte_word, with_call, with_entries, with_loop, row, row_0, row_2, row_3, row_4, row_5, row_6, row_7, decoded};
 
 /// One instruction, with its operands in the order of their bytes. Lis has its word, from 0 to 15, in its first byte.
@@ -108,24 +108,36 @@ pub fn word_of_bytes(code: &[u8], place: usize) -> Option<u16>
     Some(u16::from(code[place]) * 256 + u16::from(code[place + 1]))
 }
 
-/// Two words, one behind the other.
-fn two_words(code: &[u8], place: usize) -> Option<(u16, u16)>
-    requires { place < 2 ^ 32 + 2 }
-    ensures { result ≡ two_words_at code.now place }
+/// An instruction of two words.
+fn with_two_words<F: Fn(u16, u16) -> Instr>(
+    code: &[u8],
+    place: usize,
+    make: F,
+) -> Option<(Instr, usize)>
+    requires within { place < 2 ^ 32 }
+    requires callable { F.IsAlwaysCallable make }
+    ensures some { IfSome result (λ d. (v w : ℕ) × (word_at code.now (place + 1) ≡ Some v) × (word_at code.now (place + 3) ≡ Some w) × F.post make v w d.0 × (d.1 ≡ place + 5)) }
+    ensures none { IfNone result (two_words_at code.now (place + 1) ≡ None) }
 {
-    let first = word_of_bytes(code, place)?;
-    let second = word_of_bytes(code, place + 2)?;
-    Some((first, second))
+    let first = word_of_bytes(code, place + 1)?;
+    let second = word_of_bytes(code, place + 3)?;
+    Some((make(first, second), place + 5))
 }
 
-/// A byte, and a word behind it.
-fn byte_and_word(code: &[u8], place: usize) -> Option<(u8, u16)>
-    requires { place < 2 ^ 32 + 2 }
-    ensures { result ≡ byte_word_at code.now place }
+/// An instruction of a byte and a word.
+fn with_byte_and_word<F: Fn(u8, u16) -> Instr>(
+    code: &[u8],
+    place: usize,
+    make: F,
+) -> Option<(Instr, usize)>
+    requires within { place < 2 ^ 32 }
+    requires callable { F.IsAlwaysCallable make }
+    ensures some { IfSome result (λ d. (n w : ℕ) × (slice_get code.now (place + 1) ≡ Some n) × (word_at code.now (place + 2) ≡ Some w) × F.post make n w d.0 × (d.1 ≡ place + 4)) }
+    ensures none { IfNone result (byte_word_at code.now (place + 1) ≡ None) }
 {
-    let byte = *code.get(place)?;
-    let word = word_of_bytes(code, place + 1)?;
-    Some((byte, word))
+    let byte = *code.get(place + 1)?;
+    let word = word_of_bytes(code, place + 2)?;
+    Some((make(byte, word), place + 4))
 }
 
 #[tactic(auto, unfolding(crate::specs::Bytes::row_0))]
@@ -157,32 +169,14 @@ fn decode_places(first: u8, code: &[u8], place: usize) -> Option<(Instr, usize)>
         0x25 => Some((Instr::Lgb(*code.get(place + 1)?), place + 2)),
         0x26 => Some((Instr::Sgw(word_of_bytes(code, place + 1)?), place + 3)),
         0x27 => Some((Instr::Sgb(*code.get(place + 1)?), place + 2)),
-        0x28 => {
-            let (byte, word) = byte_and_word(code, place + 1)?;
-            Some((Instr::Lew(byte, word), place + 4))
-        }
-        0x29 => {
-            let (byte, word) = byte_and_word(code, place + 1)?;
-            Some((Instr::Sew(byte, word), place + 4))
-        }
-        0x2a => {
-            let (byte, word) = byte_and_word(code, place + 1)?;
-            Some((Instr::Lnw(byte, word), place + 4))
-        }
-        0x2b => {
-            let (byte, word) = byte_and_word(code, place + 1)?;
-            Some((Instr::Snw(byte, word), place + 4))
-        }
+        0x28 => with_byte_and_word(code, place, Instr::Lew),
+        0x29 => with_byte_and_word(code, place, Instr::Sew),
+        0x2a => with_byte_and_word(code, place, Instr::Lnw),
+        0x2b => with_byte_and_word(code, place, Instr::Snw),
         0x2c => Some((Instr::Lal(word_of_bytes(code, place + 1)?), place + 3)),
         0x2d => Some((Instr::Lag(word_of_bytes(code, place + 1)?), place + 3)),
-        0x2e => {
-            let (byte, word) = byte_and_word(code, place + 1)?;
-            Some((Instr::Lae(byte, word), place + 4))
-        }
-        0x2f => {
-            let (byte, word) = byte_and_word(code, place + 1)?;
-            Some((Instr::Lan(byte, word), place + 4))
-        }
+        0x2e => with_byte_and_word(code, place, Instr::Lae),
+        0x2f => with_byte_and_word(code, place, Instr::Lan),
         _ => None,
     }
 }
@@ -198,24 +192,12 @@ fn decode_tests(first: u8, code: &[u8], place: usize) -> Option<(Instr, usize)>
         0x32 => Some((Instr::Ldf(word_of_bytes(code, place + 1)?), place + 3)),
         0x33 => Some((Instr::Adf(word_of_bytes(code, place + 1)?), place + 3)),
         0x34 => Some((Instr::Mov(word_of_bytes(code, place + 1)?), place + 3)),
-        0x35 => {
-            let (first, second) = two_words(code, place + 1)?;
-            Some((Instr::Mvz(first, second), place + 5))
-        }
+        0x35 => with_two_words(code, place, Instr::Mvz),
         0x36 => Some((Instr::Nlt, place + 1)),
-        0x37 => {
-            let (first, second) = two_words(code, place + 1)?;
-            Some((Instr::Ixc(first, second), place + 5))
-        }
+        0x37 => with_two_words(code, place, Instr::Ixc),
         0x38 => Some((Instr::Ixo(word_of_bytes(code, place + 1)?), place + 3)),
-        0x39 => {
-            let (first, second) = two_words(code, place + 1)?;
-            Some((Instr::Rgc(first, second), place + 5))
-        }
-        0x3a => {
-            let (first, second) = two_words(code, place + 1)?;
-            Some((Instr::Rgi(first, second), place + 5))
-        }
+        0x39 => with_two_words(code, place, Instr::Rgc),
+        0x3a => with_two_words(code, place, Instr::Rgi),
         0x3b => Some((Instr::Cap, place + 1)),
         _ => None,
     }
@@ -290,17 +272,11 @@ fn decode_frames(first: u8, code: &[u8], place: usize) -> Option<(Instr, usize)>
         0x62 => Some((Instr::Mrf, place + 1)),
         0x63 => Some((Instr::Psh, place + 1)),
         0x64 => Some((Instr::Psm(word_of_bytes(code, place + 1)?), place + 3)),
-        0x65 => {
-            let (byte, word) = byte_and_word(code, place + 1)?;
-            Some((Instr::Cll(byte, word), place + 4))
-        }
+        0x65 => with_byte_and_word(code, place, Instr::Cll),
         0x66 => decode_external_call(code, place),
         0x67 => Some((Instr::Clf(word_of_bytes(code, place + 1)?), place + 3)),
         0x68 => Some((Instr::Ent(word_of_bytes(code, place + 1)?), place + 3)),
-        0x69 => {
-            let (first, second) = two_words(code, place + 1)?;
-            Some((Instr::Cpy(first, second), place + 5))
-        }
+        0x69 => with_two_words(code, place, Instr::Cpy),
         0x6a => Some((Instr::Rtn, place + 1)),
         0x6b => Some((Instr::Rst(*code.get(place + 1)?), place + 2)),
         _ => None,
@@ -343,10 +319,7 @@ fn decode_jumps(first: u8, code: &[u8], place: usize) -> Option<(Instr, usize)>
         0x75 => Some((Instr::Jfs(*code.get(place + 1)?), place + 2)),
         0x76 => decode_case(code, place),
         0x77 => decode_loop(code, place),
-        0x78 => {
-            let (first, second) = two_words(code, place + 1)?;
-            Some((Instr::Frn(first, second), place + 5))
-        }
+        0x78 => with_two_words(code, place, Instr::Frn),
         0x79 => Some((Instr::Trp(*code.get(place + 1)?), place + 2)),
         0x7a => Some((Instr::Alc, place + 1)),
         0x7b => Some((Instr::Npr, place + 1)),

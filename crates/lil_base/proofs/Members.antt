@@ -1,12 +1,8 @@
 -- What is in a set that was made by one operation on words.
-use Rattle.std.proofs.Common.{◌≡◌, ℕ, ◌+◌, ◌-◌, ◌*◌, ◌%◌, ◌^◌, ◌<◌, ◌≤◌, min, max, Bool, true, false, cond, not, ◌||◌, ◌&&◌, nat_le, ◌==◌, bit_and, bit_or, bit_xor, refl, ap, ◌∙◌, sym, arith, ⊎_elim}
+use Rattle.std.proofs.Common.{◌≡◌, ℕ, ◌+◌, ◌-◌, ◌*◌, ◌%◌, ◌^◌, ◌<◌, ◌≤◌, min, max, Bool, true, false, cond, not, ◌||◌, ◌&&◌, nat_le, ◌==◌, bit_and, bit_or, bit_xor, refl, ap, ◌∙◌, sym, arith, inl, inr}
 use Rattle.std.specs.Int.{bit_at, w16}
-use Rattle.std.proofs.lemmas.Bool.{cases_lt, eq-eqb}
-use Rattle.std.proofs.lemmas.Nat.{one_shl, pow_below, pow-add}
-use Rattle.std.proofs.lemmas.Bool.Decides.{nat_tests}
-use Rattle.std.proofs.lemmas.Nat.Bits.{bit_at-zero, bit_at_and, bit_at_or, bit_at_xor, bit_at_not, bit_at-lt, bit_at_above, bit_at_mask_inside, bit_at_mask_below, bit_at_mask_above}
-use Rattle.lil_base.specs.Sets.{has, either, union, minus, meet, apart, span}
-use Rattle.lil_base.specs.SetLaws.{set_is}
+use Rattle.std.proofs.lemmas.{Bool.{cases_lt, eq-eqb, Decides.nat_tests}, Nat.{one_shl, pow_below, pow-add, Bits.{bit_at-zero, bit_at_and, bit_at_or, bit_at_xor, bit_at_not, bit_at-lt, bit_at_above, bit_at_mask_inside, bit_at_mask_below, bit_at_mask_above}}}
+use Rattle.lil_base.specs.{Sets.{has, either, union, minus, meet, apart, span}, SetLaws.set_is}
 
 one_of : (x y : ℕ) → x < 2 → y < 2 → (max x y == 1) ≡ ((x == 1) || (y == 1))
 one_of x y p q = grind (arith, nat_tests)
@@ -38,11 +34,10 @@ has_not t i h k = rw (bit_at_not w16 t i h k) (not_one (bit_at t i) (bit_at-lt t
 
 -- `65535 - t` is t with each of its sixteen bits turned
 has_and_not : (s t i : ℕ) → s < 2 ^ 16 → t < 2 ^ 16 → has (bit_and s (65535 - t)) i ≡ (has s i && not (has t i))
-has_and_not s t i h k =
-    ⊎_elim
-    (λ (p : i < 16). has_and s (65535 - t) i ∙ ap (λ (b : Bool). has s i && b) (has_not t i k p))
-    (λ (p : 16 ≤ i). has_and s (65535 - t) i ∙ (ap (λ (b : Bool). b && has (65535 - t) i) (has_above s i h p) ∙ sym (ap (λ (b : Bool). b && not (has t i)) (has_above s i h p))))
-    (cases_lt i 16)
+has_and_not s t i h k = elim (cases_lt i 16) [
+  | inl p ↦ has_and s (65535 - t) i ∙ ap (λ (b : Bool). has s i && b) (has_not t i k p)
+  | inr p ↦ has_and s (65535 - t) i ∙ rw (has_above s i h p) refl
+]
 
 pub none_above : (s i : ℕ) → s < 2 ^ 16 → 16 ≤ i → false ≡ has s i
 none_above s i h k = sym (has_above s i h k)
@@ -52,14 +47,13 @@ bit_of x true h = eq-eqb x 1 h
 bit_of x false h = rw h refl
 
 mask_bit : (lo hi i : ℕ) → bit_at (2 ^ (hi + 1) - 2 ^ lo) i ≡ cond (nat_le lo i && nat_le i hi) 1 0
-mask_bit lo hi i =
-    ⊎_elim
-    (λ (p : i < lo). bit_at_mask_below lo (hi + 1) i p ∙ grind (arith, nat_tests))
-    (λ (p : lo ≤ i). ⊎_elim
-    (λ (q : i < hi + 1). bit_at_mask_inside lo (hi + 1) i p q ∙ grind (arith, nat_tests))
-    (λ (q : hi + 1 ≤ i). bit_at_mask_above lo (hi + 1) i q ∙ grind (arith, nat_tests))
-    (cases_lt i (hi + 1)))
-    (cases_lt i lo)
+mask_bit lo hi i = elim (cases_lt i lo) [
+  | inl p ↦ bit_at_mask_below lo (hi + 1) i p ∙ grind (arith, nat_tests)
+  | inr p ↦ elim (cases_lt i (hi + 1)) [
+    | inl q ↦ bit_at_mask_inside lo (hi + 1) i p q ∙ grind (arith, nat_tests)
+    | inr q ↦ bit_at_mask_above lo (hi + 1) i q ∙ grind (arith, nat_tests)
+  ]
+]
 
 double : (hi : ℕ) → hi ≤ 15 → 2 * 2 ^ hi % 4294967296 ≡ 2 ^ (hi + 1)
 double hi h = omega (arith, pow-add 2 hi 1, pow_below hi 16 (omega arith))

@@ -1,8 +1,6 @@
 -- The faults of source texts: their numbers and names.
 use Rattle.std.specs.Prelude.{ℕ, None, List, [], ◌==◌, if◌then◌else◌, codes}
-use Rattle.lil_base.specs.declared.fault.Place.{Place}
-use Rattle.lil_base.specs.declared.fault.SourceFault.{SourceFault}
-use Rattle.lil_base.specs.declared.fault.FaultKind.{FaultKind}
+use Rattle.lil_base.specs.declared.fault.{Place.Place, SourceFault.SourceFault, FaultKind.FaultKind}
 use Rattle.lil_base.specs.declared.fault.FaultKind.TheVariants.{BadChar, OpenComment, OpenString, BadNumber, NumberTooLarge, NameTooLong, Syntax, EndName, TooNested, Unknown, Twice, NotExported, WrongKind, ExitOutside, ReturnKind, ForVariable, Operands, Assign, ArgCount, VarArgument, NotCallable, NotArray, NotRecord, NotPointer, NoField, SetBase, ResultType, ProcValue, LabelTwice, Opaque, ConstRange, NotConst, ConstArith, EmptyRange, ExprDeep, DataTooLong, TooManyProcs, TextTooLong, ReservedModule, FileName, UnitKind, NotBuilt}
 
 abbrev pub fault_number : FaultKind → ℕ

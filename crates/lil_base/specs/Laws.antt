@@ -1,10 +1,7 @@
 -- What it says of a number to lie in a type, and what the results in that type are.
-use Rattle.std.proofs.Common.{◌≡◌, ℕ, ◌≤◌, ℤ, pos, negsuc, ◌-◌, ◌≤ℤ◌, int_lt, not, ◌&&◌, Bool, true, false, Ok, Err, refl, arith}
-use Rattle.std.proofs.lemmas.Int.{ints}
-use Rattle.std.proofs.lemmas.Bool.{cond-true}
-use Rattle.std.proofs.lemmas.Bool.Decides.{nat_tests}
-use Rattle.lil_base.specs.declared.fault.ArithFault.TheVariants.{Overflow}
-use Rattle.lil_base.specs.Words.{Whole, Cardinal, Integer, between, in_type, kept, number_of, word_of}
+use Rattle.std.proofs.Common.{◌≡◌, ℕ, ◌≤◌, ℤ, pos, negsuc, ◌≤ℤ◌, true, Ok, Err, refl, arith}
+use Rattle.std.proofs.lemmas.{Int.ints, Bool.{cond-true, Decides.nat_tests}}
+use Rattle.lil_base.specs.{declared.fault.ArithFault.TheVariants.Overflow, Words.{Whole, Cardinal, Integer, between, in_type, kept, number_of, word_of}}
 
 pub in_type_card : (n : ℕ) → n ≤ 65535 → in_type Cardinal (pos n) ≡ true
 in_type_card n h = grind arith
@@ -26,17 +23,7 @@ number_of-word Integer (negsuc n) h = grind (arith, nat_tests)
 
 -- a number that lies in a range lies between its ends
 pub bounds : (low z high : ℤ) → between low z high ≡ true → (low ≤ℤ z) × (z ≤ℤ high)
-bounds low z high h = by (int_lt z low) (int_lt high z) refl refl h
-  where
-    by : (a b : Bool) → int_lt z low ≡ a → int_lt high z ≡ b → (not a && not b) ≡ true → (low ≤ℤ z) × (z ≤ℤ high)
-    by false false e f g = (omega (arith, ints), omega (arith, ints))
-    by false true e f g = cc
-    by true b e f g = cc
+bounds low z high h = grind (arith, ints)
 
 pub in_range : (low z high : ℤ) → low ≤ℤ z → z ≤ℤ high → between low z high ≡ true
-in_range low z high a b = by (int_lt z low) (int_lt high z) refl refl
-  where
-    by : (c d : Bool) → int_lt z low ≡ c → int_lt high z ≡ d → (not c && not d) ≡ true
-    by false false e f = refl
-    by false true e f = absurd (omega (arith, ints))
-    by true d e f = absurd (omega (arith, ints))
+in_range low z high a b = grind (arith, ints)

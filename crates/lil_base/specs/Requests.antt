@@ -1,8 +1,7 @@
 -- Requests of programs to the system: the number of each in the code, and whether it takes an array.
 use Rattle.std.specs.Prelude.{ℕ, ◌==◌, Bool, true, false, List, [], ◌∷◌, Option, Some, None, if◌then◌else◌}
 use Rattle.std.proofs.Common.{◌≡◌, refl}
-use Rattle.lil_base.specs.declared.request.Request.{Request}
-use Rattle.lil_base.specs.declared.request.Request.TheVariants.{Write, WriteString, WriteLn, WriteCard, WriteInt, WriteOct, WriteHex}
+use Rattle.lil_base.specs.declared.request.Request.{Request, TheVariants.{Write, WriteString, WriteLn, WriteCard, WriteInt, WriteOct, WriteHex}}
 
 abbrev pub request_number : Request → ℕ
 request_number Write = 2
@@ -37,10 +36,5 @@ request_found WriteHex = refl
 
 -- whether it takes an open array of characters, and nothing else
 abbrev pub takes_array : Request → Bool
-takes_array Write = false
 takes_array WriteString = true
-takes_array WriteLn = false
-takes_array WriteCard = false
-takes_array WriteInt = false
-takes_array WriteOct = false
-takes_array WriteHex = false
+takes_array _ = false

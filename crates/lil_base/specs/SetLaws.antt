@@ -1,9 +1,7 @@
 -- A word is the set of the numbers that it has.
-use Rattle.std.proofs.Common.{◌≡◌, ℕ, zero, suc, ◌+◌, ◌*◌, ◌/◌, ◌^◌, ◌<◌, ◌≤◌, Bool, true, false, cond, ◌==◌, refl, sym, ap, ◌∙◌, arith, ⊎_elim, pow-suc}
+use Rattle.std.proofs.Common.{◌≡◌, ℕ, zero, suc, ◌+◌, ◌*◌, ◌/◌, ◌^◌, ◌<◌, ◌≤◌, Bool, true, false, cond, ◌==◌, refl, sym, ap, ◌∙◌, arith, inl, inr, pow-suc}
 use Rattle.std.specs.Int.{bit_at}
-use Rattle.std.proofs.lemmas.Bool.{cases_lt}
-use Rattle.std.proofs.lemmas.Nat.Bits.{bit_at_lowest, bit_at-suc, bit_at-lt, bit_at_above, same_from_bits}
-use Rattle.std.proofs.lemmas.Bool.Decides.{nat_tests}
+use Rattle.std.proofs.lemmas.{Bool.{cases_lt, Decides.nat_tests}, Nat.Bits.{bit_at_lowest, bit_at-suc, bit_at-lt, bit_at_above, same_from_bits}}
 use Rattle.lil_base.specs.Sets.{has, set_from, set_word}
 
 abbrev bit_of : Bool → ℕ
@@ -51,8 +49,7 @@ unfolding set_word
 set_is s p same none = same_from_bits s (set_word p) each
   where
     each : (i : ℕ) → bit_at s i ≡ bit_at (set_word p) i
-    each i =
-        ⊎_elim
-        (λ (h : i < 16). bit_is (bit_at s i) (p i) (bit_at-lt s i) (same i) ∙ sym (bit_from 16 i p h))
-        (λ (h : 16 ≤ i). bit_is (bit_at s i) false (bit_at-lt s i) (same i ∙ none i h) ∙ sym (bit_at_above (set_word p) 16 i (below_from 16 p) h))
-        (cases_lt i 16)
+    each i = elim (cases_lt i 16) [
+      | inl h ↦ bit_is (bit_at s i) (p i) (bit_at-lt s i) (same i) ∙ sym (bit_from 16 i p h)
+      | inr h ↦ bit_is (bit_at s i) false (bit_at-lt s i) (same i ∙ none i h) ∙ sym (bit_at_above (set_word p) 16 i (below_from 16 p) h)
+    ]

@@ -1,7 +1,6 @@
 -- Which trap an operation without result gives.
-use Rattle.lil_base.specs.declared.fault.ArithFault.{ArithFault}
+use Rattle.lil_base.specs.declared.fault.{ArithFault.ArithFault, TrapKind.TrapKind}
 use Rattle.lil_base.specs.declared.fault.ArithFault.TheVariants as a
-use Rattle.lil_base.specs.declared.fault.TrapKind.{TrapKind}
 use Rattle.lil_base.specs.declared.fault.TrapKind.TheVariants as t
 
 abbrev pub arith_trap : ArithFault → TrapKind

@@ -1,7 +1,6 @@
 -- Arithmetic in whole numbers: results are defined where they lie in the range of their type.
 use Rattle.std.specs.Prelude.{ℕ, ◌-◌, ℤ, pos, negsuc, ◌+ℤ◌, ◌-ℤ◌, ◌*ℤ◌, neg_ℤ, nat_abs, int_div, nat_eq, Bool, false, not, ◌&&◌, int_lt, nat_lt, Result, Ok, Err, if◌then◌else◌}
-use Rattle.lil_base.specs.declared.fault.ArithFault.{ArithFault}
-use Rattle.lil_base.specs.declared.fault.ArithFault.TheVariants.{Overflow, DivZero}
+use Rattle.lil_base.specs.declared.fault.ArithFault.{ArithFault, TheVariants.{Overflow, DivZero}}
 
 -- the two types of whole numbers
 pub data Whole : Type 0 where

@@ -25,14 +25,6 @@ impl<T> Boxed<T> {
     {
         &self.inner
     }
-
-    /// The value, and its block is given back.
-    pub fn into_inner(self) -> T
-        ensures { result ≡ self }
-    {
-        let Boxed { inner } = self;
-        Box::into_inner(inner)
-    }
 }
 
 impl<T: Drop> Boxed<T> {

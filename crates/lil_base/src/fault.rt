@@ -12,10 +12,6 @@ pub struct Place {
     pub offset: u32,
 }
 
-/// The number of a definition in its volume's book, from 1; 0 for programs and resident modules.
-#[derive(Clone, Copy, PartialEq, Eq)]
-pub struct Key(pub u32);
-
 /// A fault of a source text, with zeros where its number has no values.
 #[derive(Drop)]
 pub struct SourceFault {
@@ -30,89 +26,89 @@ pub struct SourceFault {
 #[derive(Clone, Copy, PartialEq, Eq)]
 pub enum FaultKind {
     /// A byte begins no token, or may not stand in a string.
-    BadChar,
+    BadChar = 1,
     /// A comment isn't closed.
-    OpenComment,
+    OpenComment = 2,
     /// A string isn't closed on its line.
-    OpenString,
+    OpenString = 3,
     /// A run of digits and letters is no number.
-    BadNumber,
+    BadNumber = 4,
     /// A number is above 65535, or a character's code above 377C.
-    NumberTooLarge,
+    NumberTooLarge = 5,
     /// A name has more than 64 characters.
-    NameTooLong,
+    NameTooLong = 6,
     /// The tokens go on with nothing that may stand there.
-    Syntax,
+    Syntax = 10,
     /// The name behind END is another than that of what ends there.
-    EndName,
+    EndName = 11,
     /// A part is nested too deep.
-    TooNested,
+    TooNested = 12,
     /// A name isn't declared where it is looked for.
-    Unknown,
+    Unknown = 20,
     /// A name is bound a second time in one block, list of fields or list of parameters.
-    Twice,
+    Twice = 21,
     /// A definition declares the name, but doesn't export it.
-    NotExported,
+    NotExported = 22,
     /// A name is of another kind than its place asks for.
-    WrongKind,
+    WrongKind = 24,
     /// EXIT stands in no LOOP.
-    ExitOutside,
+    ExitOutside = 25,
     /// RETURN has no value in a function, or has one elsewhere.
-    ReturnKind,
+    ReturnKind = 26,
     /// A FOR can't count with this variable.
-    ForVariable,
+    ForVariable = 27,
     /// An operator or standard procedure doesn't take operands of these types.
-    Operands,
+    Operands = 30,
     /// A value can't be assigned to what it is meant for.
-    Assign,
+    Assign = 31,
     /// A call has more or fewer arguments than there are parameters.
-    ArgCount,
+    ArgCount = 32,
     /// An argument is no variable of the parameter's type.
-    VarArgument,
+    VarArgument = 33,
     /// What is called is no procedure, or is of the other kind of procedure.
-    NotCallable,
+    NotCallable = 34,
     /// What has an index is no array.
-    NotArray,
+    NotArray = 35,
     /// What has a field, or stands behind WITH, is no record.
-    NotRecord,
+    NotRecord = 36,
     /// What is followed, or is given to NEW or DISPOSE, is no pointer.
-    NotPointer,
+    NotPointer = 37,
     /// The record has no field of this name.
-    NoField,
+    NoField = 38,
     /// The base of a set isn't ordinal, or has values outside 0 to 15.
-    SetBase,
+    SetBase = 39,
     /// The type of a result is an array or a record.
-    ResultType,
+    ResultType = 40,
     /// A nested, standard or resident procedure stands as a value.
-    ProcValue,
+    ProcValue = 41,
     /// A label's value stands before in the same CASE.
-    LabelTwice,
+    LabelTwice = 42,
     /// An opaque type of another module is followed, or given to NEW or DISPOSE.
-    Opaque,
+    Opaque = 43,
     /// A constant lies outside the range that it meets, or a step is zero.
-    ConstRange,
+    ConstRange = 50,
     /// An expression that must be constant isn't.
-    NotConst,
+    NotConst = 51,
     /// A constant result lies outside -32768 to 65535, or a constant divisor is zero.
-    ConstArith,
+    ConstArith = 52,
     /// The lower bound of a range is greater than its upper bound.
-    EmptyRange,
+    EmptyRange = 53,
     /// An expression takes more than 12 words of the expression stack.
-    ExprDeep,
+    ExprDeep = 60,
     /// A type, or a unit's data, has more than 32,000 words.
-    DataTooLong,
+    DataTooLong = 61,
     /// The module has a 251st procedure.
-    TooManyProcs,
+    TooManyProcs = 62,
     /// The text has more than 262,144 bytes.
-    TextTooLong,
+    TextTooLong = 65,
     /// The unit has the name of a resident module.
-    ReservedModule,
+    ReservedModule = 76,
     /// The unit's name isn't that of its file.
-    FileName,
+    FileName = 77,
     /// The unit is of another kind than its file or its command asks for.
-    UnitKind,
+    UnitKind = 80,
     /// The text has a form that isn't built.
-    NotBuilt,
+    NotBuilt = 90,
 }
 
 impl FaultKind {
@@ -120,50 +116,7 @@ impl FaultKind {
     pub fn number(self) -> u8
         ensures { result ≡ fault_number self }
     {
-        match self {
-            FaultKind::BadChar => 1,
-            FaultKind::OpenComment => 2,
-            FaultKind::OpenString => 3,
-            FaultKind::BadNumber => 4,
-            FaultKind::NumberTooLarge => 5,
-            FaultKind::NameTooLong => 6,
-            FaultKind::Syntax => 10,
-            FaultKind::EndName => 11,
-            FaultKind::TooNested => 12,
-            FaultKind::Unknown => 20,
-            FaultKind::Twice => 21,
-            FaultKind::NotExported => 22,
-            FaultKind::WrongKind => 24,
-            FaultKind::ExitOutside => 25,
-            FaultKind::ReturnKind => 26,
-            FaultKind::ForVariable => 27,
-            FaultKind::Operands => 30,
-            FaultKind::Assign => 31,
-            FaultKind::ArgCount => 32,
-            FaultKind::VarArgument => 33,
-            FaultKind::NotCallable => 34,
-            FaultKind::NotArray => 35,
-            FaultKind::NotRecord => 36,
-            FaultKind::NotPointer => 37,
-            FaultKind::NoField => 38,
-            FaultKind::SetBase => 39,
-            FaultKind::ResultType => 40,
-            FaultKind::ProcValue => 41,
-            FaultKind::LabelTwice => 42,
-            FaultKind::Opaque => 43,
-            FaultKind::ConstRange => 50,
-            FaultKind::NotConst => 51,
-            FaultKind::ConstArith => 52,
-            FaultKind::EmptyRange => 53,
-            FaultKind::ExprDeep => 60,
-            FaultKind::DataTooLong => 61,
-            FaultKind::TooManyProcs => 62,
-            FaultKind::TextTooLong => 65,
-            FaultKind::ReservedModule => 76,
-            FaultKind::FileName => 77,
-            FaultKind::UnitKind => 80,
-            FaultKind::NotBuilt => 90,
-        }
+        self as u8
     }
 }
 
@@ -330,15 +283,4 @@ pub enum LoadRefusal {
     DataFull(u32),
     /// A module is no program.
     NotProgram(Name),
-}
-
-/// Why bytes are no file of a format.
-#[derive(Clone, Copy, Debug, PartialEq, Eq, Error)]
-pub enum FormatStop {
-    /// The bytes go on with nothing of the format.
-    #[error("no file of the format at {offset}")]
-    Fault { offset: u32 },
-    /// Memory is wanting.
-    #[error("memory")]
-    Memory,
 }

@@ -16,10 +16,9 @@ mod words;
 
 pub use boxed::Boxed;
 pub use fault::{
-    ArithFault, CodePlace, FaultKind, FormatStop, Key, LimitKind, LoadRefusal, Place, SourceFault,
-    TrapAt, TrapKind,
+    ArithFault, CodePlace, FaultKind, LimitKind, LoadRefusal, Place, SourceFault, TrapAt, TrapKind,
 };
-pub use fields::{get16, get32, put16, put32};
+pub use fields::{get16, put16};
 pub use found::beside;
 pub use items::{Items, joined, same_bytes};
 pub use memory::Memory;
@@ -30,7 +29,7 @@ pub use sets::{set_either, set_has, set_meet, set_minus, set_span, set_union, se
 pub use shared::Shared;
 pub use words::{
     abs_int, add_card, add_int, div_card, div_int, mod_card, mod_int, mul_card, mul_int, neg_int,
-    sub_card, sub_int, whole_product, whole_quotient, whole_rest,
+    sub_card, sub_int, whole_difference, whole_product, whole_quotient, whole_rest, whole_sum,
 };
 
 /// A list of bytes.

@@ -4,13 +4,13 @@ ghost use Rattle.lil_base.specs.Requests.{request_number, request_with, takes_ar
 /// What a program asks of the system: a procedure of a resident module that only writes (Medos-2, Terminal and InOut).
 #[derive(Clone, Copy, PartialEq, Eq)]
 pub enum Request {
-    Write,
-    WriteString,
-    WriteLn,
-    WriteCard,
-    WriteInt,
-    WriteOct,
-    WriteHex,
+    Write = 2,
+    WriteString = 3,
+    WriteLn = 4,
+    WriteCard = 5,
+    WriteInt = 6,
+    WriteOct = 7,
+    WriteHex = 8,
 }
 
 impl Request {
@@ -18,15 +18,7 @@ impl Request {
     pub fn number(self) -> u8
         ensures { result ≡ request_number self }
     {
-        match self {
-            Request::Write => 2,
-            Request::WriteString => 3,
-            Request::WriteLn => 4,
-            Request::WriteCard => 5,
-            Request::WriteInt => 6,
-            Request::WriteOct => 7,
-            Request::WriteHex => 8,
-        }
+        self as u8
     }
 
     /// The request with a number; none where no request has it.
@@ -49,14 +41,6 @@ impl Request {
     pub fn takes_array(self) -> bool
         ensures { result ≡ takes_array self }
     {
-        match self {
-            Request::WriteString => true,
-            Request::Write
-            | Request::WriteLn
-            | Request::WriteCard
-            | Request::WriteInt
-            | Request::WriteOct
-            | Request::WriteHex => false,
-        }
+        matches!(self, Request::WriteString)
     }
 }

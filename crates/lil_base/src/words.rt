@@ -1,4 +1,4 @@
-ghost use Rattle.std.specs.Prelude.{◌≡◌, ◌*ℤ◌, pos, false};
+ghost use Rattle.std.specs.Prelude.{◌≡◌, ◌+ℤ◌, ◌-ℤ◌, ◌*ℤ◌, pos, false};
 ghost use Rattle.lil_base.specs.Words.{Cardinal, Integer, kept, sum, difference, product, quotient, remainder, negation, absolute, cardinal_result, is_zero, whole_quotient as spec_quotient, whole_rest as spec_rest};
 
 use crate::ArithFault;
@@ -21,6 +21,20 @@ fn integer(whole: i64) -> Result<i16, ArithFault>
         return Err(ArithFault::Overflow);
     }
     Ok(whole as i16)
+}
+
+/// The sum of two whole numbers.
+pub fn whole_sum(a: i32, b: i32) -> i64
+    ensures { result ≡ (a +ℤ b) }
+{
+    i64::from(a) + i64::from(b)
+}
+
+/// The difference of two whole numbers.
+pub fn whole_difference(a: i32, b: i32) -> i64
+    ensures { result ≡ (a -ℤ b) }
+{
+    i64::from(a) - i64::from(b)
 }
 
 /// The product of two whole numbers.

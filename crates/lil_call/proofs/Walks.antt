@@ -1,8 +1,6 @@
 -- Walks whose list is used up.
 use Rattle.std.proofs.Common.{◌≡◌, List, [], ◌∷◌, Option, subst, ap, sym, ◌∙◌}
-use Rattle.lil_report.specs.declared.report.Fault.{Fault}
-use Rattle.lil_report.specs.Told.{Row, tell, after, Said, walk}
-use Rattle.lil_report.specs.Laws.{tell_append}
+use Rattle.lil_report.specs.{declared.report.Fault.Fault, Told.{Row, tell, after, Said, walk}, Laws.tell_append}
 
 -- from a with xs left it comes to what it comes to from b with ys left
 pub record Ahead {S X : Type 0} (f : S → X → S × List Row) (a : S) (xs : List X) (r : Option Fault) (b : S) (ys : List X) (s : Option Fault) : Type 0 where

@@ -1,25 +1,17 @@
 -- What calls mean, from what is known of their arguments.
 use Rattle.std.specs.Prelude.{ℕ, ◌==◌, nat_lt, Bool, true, false, not, is_some, ◌&&◌, if◌then◌else◌, List, [], ◌∷◌, length, Option, Some, None}
-use Rattle.lil_base.specs.declared.fault.Place.{Place}
-use Rattle.lil_base.specs.declared.fault.FaultKind.TheVariants.{ArgCount, NotCallable, ExprDeep}
+use Rattle.lil_base.specs.declared.fault.{Place.Place, FaultKind.TheVariants.{ArgCount, NotCallable, ExprDeep}}
 use Rattle.lil_types.specs.Types.{Table}
 use Rattle.lil_declared.specs.declared.standard.Resident.{Resident}
 use Rattle.lil_resolved.specs.declared.resolved.RStmt.{RStmt}
 use Rattle.lil_report.specs.Told.{Row, row, after}
 use Rattle.lil_scope.specs.declared.thing.Kind.TheVariants as kind
-use Rattle.lil_kinds.specs.Forms.{is_routine, arity, result}
+use Rattle.lil_kinds.specs.{Forms.{is_routine, arity, result}, declared.found.Found.Found}
 use Rattle.lil_kinds.specs.declared.found.Form.TheVariants as form
-use Rattle.lil_kinds.specs.declared.found.Found.{Found}
 use Rattle.lil_kinds.specs.declared.found.Standing.TheVariants as standing
-use Rattle.lil_forms.specs.Statements.{called}
-use Rattle.lil_forms.specs.declared.arguments.Handed.{Handed}
-use Rattle.lil_call.specs.declared.call.Callee.{Callee}
+use Rattle.lil_forms.specs.{Statements.called, declared.arguments.Handed.Handed}
+use Rattle.lil_call.specs.{declared.{call.{Callee.Callee, Argument.Argument}, passing.Passed.Passed, routines.Invoked.Invoked}, Passing.{all_have_values, nothing_passed, arguments_mean}, Procedures.{agrees, function_mean, procedure_mean}}
 use Rattle.lil_call.specs.declared.call.Callee.TheVariants as callee
-use Rattle.lil_call.specs.declared.call.Argument.{Argument}
-use Rattle.lil_call.specs.declared.passing.Passed.{Passed}
-use Rattle.lil_call.specs.declared.routines.Invoked.{Invoked}
-use Rattle.lil_call.specs.Passing.{all_have_values, nothing_passed, arguments_mean}
-use Rattle.lil_call.specs.Procedures.{agrees, function_mean, procedure_mean}
 
 -- ---- calls of procedures
 -- where a value is wanted a function is called, else a proper procedure

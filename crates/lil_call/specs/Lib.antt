@@ -1,4 +1,3 @@
 pub mod Calls
 pub mod Passing
 pub mod Procedures
-pub mod CallSound

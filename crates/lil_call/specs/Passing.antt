@@ -1,21 +1,14 @@
 -- How arguments are handed over to the parameters of a procedure.
 use Rattle.std.specs.Prelude.{ℕ, ◌+◌, ◌==◌, nat_lt, max, Bool, true, false, not, ◌&&◌, ◌||◌, if◌then◌else◌, List, [], ◌∷◌, ◌++◌, length, Option, Some, None}
 use Rattle.lil_base.specs.declared.fault.FaultKind.TheVariants.{Assign, VarArgument, ConstRange, WrongKind}
-use Rattle.lil_types.specs.Types.{Table, char, same}
-use Rattle.lil_types.specs.declared.table.Parameter.{Parameter}
+use Rattle.lil_types.specs.{Types.{Table, char, same}, declared.table.Parameter.Parameter}
 use Rattle.lil_report.specs.Told.{Row, row, walk}
 use Rattle.lil_scope.specs.declared.thing.Kind.{Kind}
 use Rattle.lil_scope.specs.declared.thing.Kind.TheVariants as kind
-use Rattle.lil_kinds.specs.Forms.{array_parts, parameter}
-use Rattle.lil_kinds.specs.Kinds.{assignable, misses}
-use Rattle.lil_kinds.specs.declared.forms.ArrayParts.{ArrayParts}
-use Rattle.lil_kinds.specs.declared.found.Found.{Found}
-use Rattle.lil_kinds.specs.declared.found.Standing.{Standing}
-use Rattle.lil_kinds.specs.declared.found.Standing.TheVariants.{Variable}
+use Rattle.lil_kinds.specs.{Forms.{array_parts, parameter}, Kinds.{assignable, misses}, declared.{forms.ArrayParts.ArrayParts, found.{Found.Found, Standing.{Standing, TheVariants.Variable}}}}
 use Rattle.lil_forms.specs.Statements.{nothing_handed, handed_over}
-use Rattle.lil_call.specs.declared.call.Argument.{Argument}
+use Rattle.lil_call.specs.declared.{call.Argument.Argument, passing.Passed.Passed}
 use Rattle.lil_call.specs.declared.call.Argument.TheVariants as argument
-use Rattle.lil_call.specs.declared.passing.Passed.{Passed}
 
 -- ---- arguments that have no fault of their own
 abbrev pub has_value : Argument → Bool

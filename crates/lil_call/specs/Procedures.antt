@@ -1,33 +1,19 @@
 -- What calls of standard procedures and standard functions mean.
 use Rattle.std.specs.Prelude.{ℕ, ◌==◌, max, Bool, true, false, not, ◌&&◌, ◌||◌, if◌then◌else◌, List, [], ◌∷◌, length, Option, Some, None, ℤ, nat_lt, int_lt, is_none}
-use Rattle.lil_base.specs.declared.fault.Place.{Place}
-use Rattle.lil_base.specs.declared.fault.FaultKind.TheVariants.{WrongKind, Operands, ArgCount, NotCallable, ConstRange, VarArgument, NotPointer, Opaque, ExprDeep}
-use Rattle.lil_types.specs.Types.{Table, integer, cardinal, base}
-use Rattle.lil_declared.specs.declared.standard.Standard.{Standard}
-use Rattle.lil_declared.specs.declared.standard.Standard.TheVariants.{Max, Min, Val, Dec, Excl, Halt, Inc, Incl, New, Dispose}
+use Rattle.lil_base.specs.declared.fault.{Place.Place, FaultKind.TheVariants.{WrongKind, Operands, ArgCount, NotCallable, ConstRange, VarArgument, NotPointer, Opaque, ExprDeep}}
+use Rattle.lil_types.specs.{Types.{Table, integer, cardinal, base}, declared.table.Span.Span}
+use Rattle.lil_declared.specs.declared.standard.Standard.{Standard, TheVariants.{Max, Min, Val, Dec, Excl, Halt, Inc, Incl, New, Dispose}}
 use Rattle.lil_report.specs.Told.{Row, row, after}
 use Rattle.lil_scope.specs.declared.thing.Kind.{Kind}
 use Rattle.lil_scope.specs.declared.thing.Kind.TheVariants as kind
-use Rattle.lil_kinds.specs.Kinds.{is_ordinal, is_constant, compatible, number}
-use Rattle.lil_kinds.specs.Operators.{function, extreme}
-use Rattle.lil_kinds.specs.declared.found.Applied.{Applied}
-use Rattle.lil_kinds.specs.declared.found.Applied.TheVariants.{Refused, Outside, Gives}
-use Rattle.lil_kinds.specs.declared.found.Form.{Form}
+use Rattle.lil_kinds.specs.{Kinds.{is_ordinal, is_constant, compatible, number}, Operators.{function, extreme}, declared.found.{Applied.{Applied, TheVariants.{Refused, Outside, Gives}}, Form.Form, Found.Found, Located.Located}, Forms.{target, set_base, element_span, is_opaque}}
 use Rattle.lil_kinds.specs.declared.found.Form.TheVariants as form
-use Rattle.lil_kinds.specs.declared.found.Found.{Found}
 use Rattle.lil_kinds.specs.declared.found.Standing.TheVariants as standing
-use Rattle.lil_forms.specs.Values.{value_form, applied, function_by, typed}
-use Rattle.lil_call.specs.declared.call.Argument.{Argument}
+use Rattle.lil_forms.specs.{Values.{value_form, applied, function_by, typed}, Statements.{located_in, changed, changed_by_one, turned, created, disposed}}
+use Rattle.lil_call.specs.{declared.call.Argument.Argument, Passing.is_variable}
 use Rattle.lil_call.specs.declared.call.Argument.TheVariants as argument
-use Rattle.lil_types.specs.declared.table.Span.{Span}
-use Rattle.lil_kinds.specs.Forms.{target, set_base, element_span, is_opaque}
-use Rattle.lil_kinds.specs.declared.found.Located.{Located}
-use Rattle.lil_resolved.specs.declared.resolved.Direction.TheVariants.{Up, Down}
-use Rattle.lil_resolved.specs.declared.resolved.Membership.TheVariants.{Joins, Leaves}
-use Rattle.lil_resolved.specs.declared.resolved.RStmt.{RStmt}
+use Rattle.lil_resolved.specs.declared.resolved.{Direction.TheVariants.{Up, Down}, Membership.TheVariants.{Joins, Leaves}, RStmt.RStmt}
 use Rattle.lil_resolved.specs.declared.resolved.RStmt.TheVariants as statement
-use Rattle.lil_forms.specs.Statements.{located_in, changed, changed_by_one, turned, created, disposed}
-use Rattle.lil_call.specs.Passing.{is_variable}
 
 -- ---- what calls of standard functions mean
 

@@ -3,17 +3,11 @@ use Rattle.std.specs.Prelude.{ℕ, length, not, List, [], ◌∷◌, ◌++◌, O
 use Rattle.lil_base.specs.declared.fault.FaultKind.TheVariants.{NotConst}
 use Rattle.lil_language.specs.declared.unit.Constant.{Constant}
 use Rattle.lil_report.specs.Told.{Row, row, after}
-use Rattle.lil_scope.specs.declared.thing.Chars.{Chars}
-use Rattle.lil_scope.specs.declared.thing.Kind.{Kind}
+use Rattle.lil_scope.specs.{declared.{thing.{Chars.Chars, Kind.Kind, Thing.Thing}, env.Env.Env}, Names.bind}
 use Rattle.lil_scope.specs.declared.thing.Kind.TheVariants as k
-use Rattle.lil_scope.specs.declared.thing.Thing.{Thing}
 use Rattle.lil_scope.specs.declared.thing.Thing.TheVariants as t
-use Rattle.lil_scope.specs.declared.env.Env.{Env}
-use Rattle.lil_scope.specs.Names.{bind}
-use Rattle.lil_kinds.specs.Kinds.{is_constant}
-use Rattle.lil_kinds.specs.declared.found.Form.{Form}
+use Rattle.lil_kinds.specs.{Kinds.is_constant, declared.found.{Form.Form, Found.Found}}
 use Rattle.lil_kinds.specs.declared.found.Form.TheVariants as form
-use Rattle.lil_kinds.specs.declared.found.Found.{Found}
 use Rattle.lil_check_value.specs.Values.{means}
 
 -- what is declared behind a name, and the name's thing
@@ -26,18 +20,13 @@ with_text e text = record e { texts = e.texts ++ text ∷ [] }
 -- the text of a constant is kept
 abbrev pub text_of : Env → Chars → Form → Meant
 text_of e c (form.Text text) = (with_text e text, t.Named (length e.texts) c)
-text_of e c form.Nothing = (e, t.Broken)
-text_of e c (form.Located p) = (e, t.Broken)
-text_of e c (form.Value x) = (e, t.Broken)
+text_of e c _ = (e, t.Broken)
 
 abbrev pub constant_thing : Env → Form → Kind → Meant
 constant_thing e f (k.Whole v) = (e, t.Constant (k.Whole v))
 constant_thing e f (k.Scalar n w) = (e, t.Constant (k.Scalar n w))
 constant_thing e f (k.Chars c) = text_of e c f
-constant_thing e f k.Nil = (e, t.Broken)
-constant_thing e f (k.Of n) = (e, t.Broken)
-constant_thing e f (k.Open n) = (e, t.Broken)
-constant_thing e f (k.Routine n) = (e, t.Broken)
+constant_thing e f _ = (e, t.Broken)
 
 abbrev pub if_constant : Env → Form → Kind → Meant
 if_constant e f kind = if is_constant kind then constant_thing e f kind else (e, t.Broken)

@@ -1,29 +1,16 @@
 -- What declarations mean: what is declared behind them, and the tests of their nodes.
 use Rattle.std.specs.Prelude.{ℕ, length, List, [], Option, Some, None}
-use Rattle.lil_text.specs.declared.tree.Ident.{Ident}
-use Rattle.lil_text.specs.declared.tree.Qualident.{Qualident}
-use Rattle.lil_language.specs.declared.unit.Sort.{Sort}
-use Rattle.lil_language.specs.declared.unit.TypeName.{TypeName}
-use Rattle.lil_language.specs.declared.unit.Variables.{Variables}
-use Rattle.lil_language.specs.declared.unit.Heading.{Heading}
-use Rattle.lil_language.specs.declared.unit.Decl.{Decl}
+use Rattle.lil_text.specs.declared.tree.{Ident.Ident, Qualident.Qualident}
+use Rattle.lil_language.specs.declared.unit.{Sort.Sort, TypeName.TypeName, Variables.Variables, Heading.Heading, Decl.{Decl, TheOpen.{Decl-F, Block-F}, TheFolds.fold-Decl}}
 use Rattle.lil_language.specs.declared.unit.Decl.TheOpen as d
-use Rattle.lil_language.specs.declared.unit.Decl.TheOpen.{Decl-F, Block-F}
-use Rattle.lil_language.specs.declared.unit.Decl.TheFolds.{fold-Decl}
 use Rattle.lil_types.specs.declared.table.TypeForm.TheVariants as form
 use Rattle.lil_types.specs.Types.{aimed}
 use Rattle.lil_report.specs.Told.{Row, after, walk}
-use Rattle.lil_scope.specs.declared.thing.Thing.{Thing}
+use Rattle.lil_scope.specs.{declared.{thing.Thing.Thing, env.{Env.Env, Wait.Wait}}, Names.{bind, inside, outside}}
 use Rattle.lil_scope.specs.declared.thing.Thing.TheVariants as t
-use Rattle.lil_scope.specs.declared.env.Env.{Env}
-use Rattle.lil_scope.specs.declared.env.Wait.{Wait}
-use Rattle.lil_scope.specs.Names.{bind, inside, outside}
 use Rattle.lil_check_value.specs.Looks.{type_named, not_built}
-use Rattle.lil_check_type.specs.Made.{Made, with_types, type_node}
-use Rattle.lil_check_type.specs.Sorts.{sort_means}
-use Rattle.lil_check_decl.specs.declared.decl.Around.{Around}
-use Rattle.lil_check_decl.specs.Constants.{constant_step}
-use Rattle.lil_check_decl.specs.Headings.{here, variable_step, heading_means}
+use Rattle.lil_check_type.specs.{Made.{Made, with_types, type_node}, Sorts.sort_means}
+use Rattle.lil_check_decl.specs.{declared.decl.Around.Around, Constants.constant_step, Headings.{here, variable_step, heading_means}}
 
 -- ---- types. 90 NotBuilt, at the name of one without a form: it is opaque
 abbrev pub type_thing : Option ℕ → Thing

@@ -2,19 +2,13 @@
 use Rattle.std.specs.Prelude.{ℕ, ◌+◌, nat_le, length, Bool, true, false, List, [], ◌∷◌, ◌++◌, Option, Some, None}
 use Rattle.lil_base.specs.declared.fault.FaultKind.TheVariants.{TooManyProcs}
 use Rattle.lil_text.specs.declared.tree.Ident.{Ident}
-use Rattle.lil_language.specs.declared.unit.Section.{Section}
-use Rattle.lil_language.specs.declared.unit.Heading.{Heading}
-use Rattle.lil_declared.specs.declared.declared.Mode.{Mode}
-use Rattle.lil_declared.specs.declared.declared.Mode.TheVariants.{Plain, Value, Place, OpenValue, OpenPlace}
+use Rattle.lil_language.specs.declared.unit.{Section.Section, Heading.Heading}
+use Rattle.lil_declared.specs.declared.declared.Mode.{Mode, TheVariants.{Plain, Value, Place, OpenValue, OpenPlace}}
 use Rattle.lil_report.specs.Told.{Row, row, after, walk}
-use Rattle.lil_scope.specs.declared.thing.Thing.{Thing}
+use Rattle.lil_scope.specs.{declared.{thing.Thing.Thing, env.Env.Env}, Names.{bind, bind_at, with_block, level}}
 use Rattle.lil_scope.specs.declared.thing.Thing.TheVariants as t
-use Rattle.lil_scope.specs.declared.env.Env.{Env}
-use Rattle.lil_scope.specs.Names.{bind, bind_at, with_block, level}
 use Rattle.lil_check_value.specs.Looks.{type_named, not_built}
-use Rattle.lil_check_type.specs.declared.routines.Parameters.{Parameters}
-use Rattle.lil_check_type.specs.Made.{Made, form_node}
-use Rattle.lil_check_type.specs.Records.{sort_or, no_parameters, with_parameter, result_means, procedure_form}
+use Rattle.lil_check_type.specs.{declared.routines.Parameters.Parameters, Made.{Made, form_node}, Records.{sort_or, no_parameters, with_parameter, result_means, procedure_form}}
 use Rattle.lil_check_decl.specs.declared.home.Home.{Home}
 
 -- ---- variables, by their number

@@ -13,8 +13,7 @@ use std::alloc::Global;
 fn add_text(env: &mut Env, text: Shared<Text>) -> Result<(), Memory>
     ensures { IfOk result (λ o. env.new ≡ spec.with_text env.old text) }
 {
-    env.texts.push(text)?;
-    Ok(())
+    env.texts.push(text)
 }
 
 /// The name of a text, which is kept.
@@ -27,9 +26,7 @@ fn text_thing(env: &mut Env, c: Chars, form: Form) -> Result<Thing, Memory>
             add_text(env, text)?;
             Ok(Thing::Named(number, c))
         }
-        Form::Nothing => Ok(Thing::Broken),
-        Form::Located(_) => Ok(Thing::Broken),
-        Form::Value(_) => Ok(Thing::Broken),
+        _ => Ok(Thing::Broken),
     }
 }
 
@@ -38,34 +35,10 @@ fn constant_thing(env: &mut Env, form: Form, kind: Kind) -> Result<Thing, Memory
     ensures { IfOk result (λ th. (env.new, th) ≡ spec.constant_thing env.old form kind) }
 {
     match kind {
-        Kind::Whole(value) => {
-            drop(form);
-            Ok(Thing::Constant(Kind::Whole(value)))
-        }
-        Kind::Scalar(sort, word) => {
-            drop(form);
-            Ok(Thing::Constant(Kind::Scalar(sort, word)))
-        }
-        Kind::Chars(c) => {
-            let thing = text_thing(env, c, form)?;
-            Ok(thing)
-        }
-        Kind::Nil => {
-            drop(form);
-            Ok(Thing::Broken)
-        }
-        Kind::Of(_) => {
-            drop(form);
-            Ok(Thing::Broken)
-        }
-        Kind::Open(_) => {
-            drop(form);
-            Ok(Thing::Broken)
-        }
-        Kind::Routine(_) => {
-            drop(form);
-            Ok(Thing::Broken)
-        }
+        Kind::Whole(value) => Ok(Thing::Constant(Kind::Whole(value))),
+        Kind::Scalar(sort, word) => Ok(Thing::Constant(Kind::Scalar(sort, word))),
+        Kind::Chars(c) => text_thing(env, c, form),
+        _ => Ok(Thing::Broken),
     }
 }
 
@@ -73,10 +46,8 @@ fn if_constant(env: &mut Env, form: Form, kind: Kind) -> Result<Thing, Memory>
     ensures { IfOk result (λ th. (env.new, th) ≡ spec.if_constant env.old form kind) }
 {
     if is_constant(kind) {
-        let thing = constant_thing(env, form, kind)?;
-        Ok(thing)
+        constant_thing(env, form, kind)
     } else {
-        drop(form);
         Ok(Thing::Broken)
     }
 }
@@ -89,8 +60,7 @@ fn constant_value(env: &mut Env, report: &mut Report, of: Option<Found>) -> Resu
     match of {
         Some(a) => {
             report.note(!is_constant(a.kind), a.first, FaultKind::NotConst);
-            let thing = if_constant(env, a.form, a.kind)?;
-            Ok(thing)
+            if_constant(env, a.form, a.kind)
         }
         None => Ok(Thing::Broken),
     }
@@ -101,8 +71,7 @@ fn constant(alloc: Global, env: &mut Env, report: &mut Report, of: &Constant) ->
 {
     let found = boxed_expression(alloc, env, report, &of.value)?;
     let thing = constant_value(env, report, found)?;
-    bind(alloc, env, report, &of.name, thing)?;
-    Ok(())
+    bind(alloc, env, report, &of.name, thing)
 }
 
 /// Constants, each bound behind its expression.

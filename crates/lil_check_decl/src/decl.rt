@@ -25,6 +25,7 @@ fn type_thing(sort: Option<TypeId>) -> Thing
 }
 
 /// The form of a type; without one it is opaque.
+#[tactic(auto, using(lil_check_type::specs::Walks::walk_steps), unfolding(lil_check_value::specs::Looks::not_built, lil_report::specs::Told::after, lil_report::specs::Told::tell))]
 fn form(
     alloc: Global,
     env: &mut Env,
@@ -35,14 +36,10 @@ fn form(
     ensures { IfOk result (λ o. Said (spec.form_means env.old name.now of.now) report.old (env.new, o) report.new) }
 {
     match of {
-        Some(x) => {
-            let number = sort(alloc, env, report, x)?;
-            Ok(number)
-        }
+        Some(x) => sort(alloc, env, report, x),
         None => {
             report.note(true, name.place, FaultKind::NotBuilt);
-            let number = add_type(env, report, name.place, TypeForm::Opaque(None))?;
-            Ok(number)
+            add_type(env, report, name.place, TypeForm::Opaque(None))
         }
     }
 }
@@ -51,8 +48,7 @@ fn type_name(alloc: Global, env: &mut Env, report: &mut Report, of: &TypeName) -
     ensures { IfOk result (λ o. Said (spec.type_step env.old of.now) report.old env.new report.new) }
 {
     let number = form(alloc, env, report, &of.name, &of.sort)?;
-    bind(alloc, env, report, &of.name, type_thing(number))?;
-    Ok(())
+    bind(alloc, env, report, &of.name, type_thing(number))
 }
 
 /// Types, each bound behind its form.
@@ -75,8 +71,7 @@ fn variables_of(
 {
     let number = sort(alloc, env, report, &of.sort)?;
     let home = here(env);
-    variables(alloc, env, report, home, number, of.names.as_slice())?;
-    Ok(())
+    variables(alloc, env, report, home, number, of.names.as_slice())
 }
 
 fn all_variables(
@@ -186,22 +181,14 @@ fn leave(env: &mut Env, around: Around)
 
 /// Declarations of one kind, or a procedure. One of a definition has no block.
 #[cycle(declarations)]
+#[tactic(auto, using(crate::proofs::Forms::decl_steps), unfolding(lil_report::specs::Told::after, lil_report::specs::Told::tell))]
 fn decl(alloc: Global, env: &mut Env, report: &mut Report, of: &Decl) -> Result<(), Memory>
     ensures { IfOk result (λ o. Said (spec.decl_step env.old of.now) report.old env.new report.new) }
 {
     match of {
-        Decl::ConstIs(_, xs) => {
-            constants(alloc, env, report, xs.as_slice())?;
-            Ok(())
-        }
-        Decl::TypeIs(_, xs) => {
-            types(alloc, env, report, xs.as_slice())?;
-            Ok(())
-        }
-        Decl::VarsAre(_, xs) => {
-            all_variables(alloc, env, report, xs.as_slice())?;
-            Ok(())
-        }
+        Decl::ConstIs(_, xs) => constants(alloc, env, report, xs.as_slice()),
+        Decl::TypeIs(_, xs) => types(alloc, env, report, xs.as_slice()),
+        Decl::VarsAre(_, xs) => all_variables(alloc, env, report, xs.as_slice()),
         Decl::ProcIs(head, body) => {
             let number = env.procedures.len();
             let block = heading(alloc, env, report, head)?;
@@ -230,6 +217,7 @@ fn each_decl(alloc: Global, env: &mut Env, report: &mut Report, of: &[Decl]) -> 
 
 /// All that is declared behind the declarations of a block, those of the procedures in it included.
 #[cycle(declarations)]
+#[tactic(auto, using(lil_check_type::specs::Walks::walk_steps), unfolding(crate::specs::Decls::decls_mean, lil_report::specs::Told::after, lil_report::specs::Told::tell))]
 pub fn declarations(
     alloc: Global,
     env: &mut Env,
@@ -240,6 +228,5 @@ pub fn declarations(
 {
     each_decl(alloc, env, report, of.as_slice())?;
     let waits = take_waits(alloc, env);
-    settle_all(alloc, env, report, waits.as_slice())?;
-    Ok(())
+    settle_all(alloc, env, report, waits.as_slice())
 }

@@ -45,8 +45,7 @@ fn add_variable(
         sort: sort_or(sort),
         mode: home.mode,
         owner: home.owner,
-    })?;
-    Ok(())
+    })
 }
 
 /// A variable or parameter.
@@ -62,8 +61,7 @@ fn variable(
 {
     let thing = variable_thing(home, sort, env);
     bind_at(alloc, env, report, home.block, of, thing)?;
-    add_variable(alloc, env, home, sort, of)?;
-    Ok(())
+    add_variable(alloc, env, home, sort, of)
 }
 
 /// Variables of one type.
@@ -131,8 +129,7 @@ fn parameter(
 {
     let home = section_home(home, of);
     variable(alloc, env, report, home, sort, name)?;
-    add_parameter(parameters, of.by_place, of.open_array, sort)?;
-    Ok(())
+    add_parameter(parameters, of.by_place, of.open_array, sort)
 }
 
 fn parameters_of(
@@ -174,8 +171,7 @@ fn section(
         of,
         sort,
         of.names.as_slice(),
-    )?;
-    Ok(())
+    )
 }
 
 fn sections(
@@ -210,8 +206,7 @@ fn begin(alloc: Global, env: &mut Env) -> Result<usize, Memory>
     ensures number { IfOk result (λ n. n ≡ length env.old.scopes.blocks) }
     ensures more { IfOk result (λ n. env.new ≡ names.with_block env.old) }
 {
-    let number = env.scopes.blocks.begin(alloc)?;
-    Ok(number)
+    env.scopes.blocks.begin(alloc)
 }
 
 /// The procedure type of a heading.
@@ -225,8 +220,7 @@ fn heading_type(
 {
     let outcome = result_type(env, report, &of.result);
     let form = procedure_form(parameters, outcome);
-    let sort = add_form(env, report, of.place, form)?;
-    Ok(sort)
+    add_form(env, report, of.place, form)
 }
 
 fn procedure_thing(block: usize, sort: Option<TypeId>, env: &Env) -> Thing
@@ -263,8 +257,7 @@ fn add_procedure(
         name,
         outer,
         sort: procedure_sort(sort),
-    })?;
-    Ok(())
+    })
 }
 
 /// A procedure more: that is fault 62, where 250 stand before it.
@@ -280,8 +273,7 @@ fn numbered(
 {
     let many = env.procedures.len() >= 250;
     report.note(many, of.place, FaultKind::TooManyProcs);
-    add_procedure(alloc, env, sort, of)?;
-    Ok(())
+    add_procedure(alloc, env, sort, of)
 }
 
 /// The name of a procedure, behind its heading.
@@ -297,11 +289,11 @@ fn named(
 {
     let thing = procedure_thing(block, sort, env);
     bind(alloc, env, report, of, thing)?;
-    numbered(alloc, env, report, sort, of)?;
-    Ok(())
+    numbered(alloc, env, report, sort, of)
 }
 
 /// The heading of a procedure: its block has the number that is returned.
+#[tactic(auto, using(lil_check_type::specs::Walks::walk_steps), unfolding(lil_check_value::specs::Looks::not_built, lil_report::specs::Told::after, lil_report::specs::Told::tell))]
 pub fn heading(
     alloc: Global,
     env: &mut Env,

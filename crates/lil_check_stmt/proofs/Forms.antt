@@ -1,44 +1,20 @@
 -- What each form of statement means, from what its parts mean.
 use Rattle.std.proofs.Common.{◌≡◌, ℕ, ℤ, List, Option, Some, None, Result, Ok, Err, IfOk, subst, sym, Bool, true, [], map, refl, ap, ◌∙◌}
-use Rattle.lil_base.specs.declared.fault.Place.{Place}
-use Rattle.lil_language.specs.declared.tree.Expr.{Expr}
-use Rattle.lil_language.specs.declared.tree.ForHead.{ForHead}
-use Rattle.lil_language.specs.declared.tree.Range.{Range}
-use Rattle.lil_resolved.specs.declared.resolved.RExpr.{RExpr}
-use Rattle.lil_resolved.specs.declared.resolved.RLabel.{RLabel}
-use Rattle.lil_resolved.specs.declared.resolved.RStmt.{RStmt}
-use Rattle.lil_report.specs.declared.report.Fault.{Fault}
-use Rattle.lil_report.specs.Told.{Said, Row, after, pure, walk}
-use Rattle.lil_report.specs.Laws.{said_to, said_after, said_map, said_as, said_value, walk_map}
-use Rattle.lil_scope.specs.declared.env.Env.{Env}
-use Rattle.lil_scope.specs.declared.thing.Kind.{Kind}
+use Rattle.lil_base.specs.{declared.fault.Place.Place, Lists.joined}
+use Rattle.lil_language.specs.declared.tree.{Expr.Expr, ForHead.ForHead, Range.Range, Designator.Designator, Guard.Guard, Arm.Arm, Stmt.{Stmt, TheOpen.Stmt-F, TheFolds.{map-Stmt, fold-roll-Stmt, fold-roll-Guard, fold-roll-Arm}, TheViews.roll-Stmt}}
+use Rattle.lil_resolved.specs.declared.resolved.{RExpr.RExpr, RLabel.RLabel, RStmt.RStmt, RArm.RArm, RGuard.RGuard}
+use Rattle.lil_report.specs.{declared.report.Fault.Fault, Told.{Said, Row, after, pure, walk}, Laws.{said_to, said_after, said_map, said_as, said_value, walk_map}}
+use Rattle.lil_scope.specs.declared.{env.Env.Env, thing.Kind.Kind}
 use Rattle.lil_kinds.specs.declared.found.Found.{Found}
-use Rattle.lil_check_value.specs.declared.names.Looked.{Looked}
-use Rattle.lil_check_value.specs.Looks.{look}
-use Rattle.lil_check_value.specs.Values.{means, variable_means, call_means}
-use Rattle.lil_check_stmt.specs.declared.labels.Labels.{Labels}
-use Rattle.lil_check_stmt.specs.declared.counting.Counter.{Counter}
-use Rattle.lil_check_stmt.specs.declared.counting.Count.{Count}
-use Rattle.lil_check_stmt.specs.Labels.{one_node, range_node, high_means, label_means, with_label, label_step, labels_mean}
-use Rattle.lil_check_stmt.specs.Counting.{counter_node, start_node, limit_node, step_node, step_means, count_of, count_means, counted}
+use Rattle.lil_check_value.specs.{declared.names.Looked.Looked, Looks.look, Values.{means, variable_means, call_means}}
+use Rattle.lil_check_stmt.specs.{declared.{labels.Labels.Labels, counting.{Counter.Counter, Count.Count}}, Labels.{one_node, range_node, high_means, label_means, with_label, label_step, labels_mean}, Counting.{counter_node, start_node, limit_node, step_node, step_means, count_of, count_means, counted}}
 use Rattle.lil_check_stmt.specs.Nodes.{return_node, assign_node, record_node, exit_node}
 use Rattle.lil_check_stmt.specs.Statements.{result_at, return_means, behind, no_arms, Meaning, GuardMeaning, ArmMeaning, list_step, list_means, else_means, guards_step, guards_mean, arms_step, arms_mean, condition_means, selector_means, kind_of, within, selected, with_record, with_arm, statement_layer, guard_layer, arm_layer, statement_means, guard_means, arm_means, statement_step, statements_mean, behind_else, guard_step, arm_step}
-use Rattle.lil_language.specs.declared.tree.Designator.{Designator}
-use Rattle.lil_language.specs.declared.tree.Guard.{Guard}
-use Rattle.lil_language.specs.declared.tree.Arm.{Arm}
-use Rattle.lil_language.specs.declared.tree.Stmt.{Stmt}
+use Rattle.lil_check_stmt.specs.declared.{nodes.Opened.Opened, labels.Arms.Arms}
 use Rattle.lil_language.specs.declared.tree.Stmt.TheVariants as st
 use Rattle.lil_language.specs.declared.tree.Stmt.TheOpen as layer
-use Rattle.lil_language.specs.declared.tree.Stmt.TheOpen.{Stmt-F}
-use Rattle.lil_language.specs.declared.tree.Stmt.TheFolds.{map-Stmt, fold-roll-Stmt, fold-roll-Guard, fold-roll-Arm}
-use Rattle.lil_language.specs.declared.tree.Stmt.TheViews.{roll-Stmt}
-use Rattle.lil_base.specs.Lists.{joined}
 use Rattle.lil_types.specs.Types.{Table}
-use Rattle.lil_resolved.specs.declared.resolved.RArm.{RArm}
-use Rattle.lil_resolved.specs.declared.resolved.RGuard.{RGuard}
 use Rattle.lil_forms.specs.Statements.{guard_of, conditional, repeated_while, repeated_until, looped}
-use Rattle.lil_check_stmt.specs.declared.nodes.Opened.{Opened}
-use Rattle.lil_check_stmt.specs.declared.labels.Arms.{Arms}
 
 -- ---- what labels, the head of a FOR and a RETURN mean, from what their parts mean
 

@@ -1,29 +1,13 @@
 -- What bodies mean, from what declarations and blocks mean.
 use Rattle.std.proofs.Common.{◌≡◌, false, List, [], Option, Some, None, refl, subst, sym, ap, ◌∙◌}
 use Rattle.lil_base.specs.declared.fault.Place.{Place}
-use Rattle.lil_language.specs.declared.tree.Stmt.{Stmt}
-use Rattle.lil_language.specs.declared.unit.Block.{Block}
-use Rattle.lil_language.specs.declared.unit.Constant.{Constant}
-use Rattle.lil_language.specs.declared.unit.Heading.{Heading}
-use Rattle.lil_language.specs.declared.unit.TypeName.{TypeName}
-use Rattle.lil_language.specs.declared.unit.Variables.{Variables}
-use Rattle.lil_language.specs.declared.unit.Decl.{Decl}
+use Rattle.lil_language.specs.declared.{tree.Stmt.Stmt, unit.{Block.Block, Constant.Constant, Heading.Heading, TypeName.TypeName, Variables.Variables, Decl.{Decl, TheOpen.Decl-F, TheFolds.{map-Decl, fold-Block, fold-roll-Decl, fold-roll-Block}, TheViews.roll-Decl}}}
 use Rattle.lil_language.specs.declared.unit.Decl.TheVariants as d
 use Rattle.lil_language.specs.declared.unit.Decl.TheOpen as layer
-use Rattle.lil_language.specs.declared.unit.Decl.TheOpen.{Decl-F}
-use Rattle.lil_language.specs.declared.unit.Decl.TheFolds.{map-Decl, fold-Block, fold-roll-Decl, fold-roll-Block}
-use Rattle.lil_language.specs.declared.unit.Decl.TheViews.{roll-Decl}
 use Rattle.lil_resolved.specs.declared.resolved.RStmt.{RStmt}
-use Rattle.lil_report.specs.declared.report.Fault.{Fault}
-use Rattle.lil_report.specs.Told.{after, pure, walk, Said}
-use Rattle.lil_report.specs.Laws.{said_as, said_to, said_value, said_after, said_map, walk_map}
-use Rattle.lil_scope.specs.declared.env.Env.{Env}
-use Rattle.lil_scope.specs.declared.thing.Routine.{Routine}
-use Rattle.lil_scope.specs.declared.thing.Thing.{Thing}
-use Rattle.lil_scope.specs.Names.{find, inside}
-use Rattle.lil_check_stmt.specs.declared.stmt.Stated.{Stated}
-use Rattle.lil_check_stmt.specs.Statements.{statements_mean}
-use Rattle.lil_check_stmt.specs.Stmts.{Bodies, DeclMeaning, BlockMeaning, stated, with_body, routine_of, body_means, decl_layer, list_step, block_layer, decl_means, decl_step, block_means, bodies_mean}
+use Rattle.lil_report.specs.{declared.report.Fault.Fault, Told.{after, pure, walk, Said}, Laws.{said_as, said_to, said_value, said_after, said_map, walk_map}}
+use Rattle.lil_scope.specs.{declared.{env.Env.Env, thing.{Routine.Routine, Thing.Thing}}, Names.{find, inside}}
+use Rattle.lil_check_stmt.specs.{declared.stmt.Stated.Stated, Statements.statements_mean, Stmts.{Bodies, DeclMeaning, BlockMeaning, stated, with_body, routine_of, body_means, decl_layer, list_step, block_layer, decl_means, decl_step, block_means, bodies_mean}}
 
 block_meaning : Block → BlockMeaning
 block_meaning = fold-Block DeclMeaning BlockMeaning decl_layer block_layer

@@ -1,33 +1,19 @@
 -- What stands between FOR and DO.
 use Rattle.std.specs.Prelude.{◌==◌, ℤ, pos, negsuc, int_lt, Bool, true, false, not, ◌&&◌, ◌||◌, List, [], ◌∷◌, Option, Some, None, if◌then◌else◌}
-use Rattle.lil_base.specs.declared.fault.Place.{Place}
-use Rattle.lil_base.specs.declared.fault.FaultKind.TheVariants.{Unknown, WrongKind, ForVariable, Assign, ConstRange, NotConst, Operands}
+use Rattle.lil_base.specs.declared.fault.{Place.Place, FaultKind.TheVariants.{Unknown, WrongKind, ForVariable, Assign, ConstRange, NotConst, Operands}}
 use Rattle.lil_types.specs.Types.{Table}
-use Rattle.lil_language.specs.declared.tree.Expr.{Expr}
-use Rattle.lil_language.specs.declared.tree.ForHead.{ForHead}
-use Rattle.lil_declared.specs.declared.declared.Mode.{Mode}
-use Rattle.lil_declared.specs.declared.declared.Mode.TheVariants.{Plain}
-use Rattle.lil_resolved.specs.declared.resolved.RExpr.{RExpr}
-use Rattle.lil_resolved.specs.declared.resolved.RStmt.{RStmt}
-use Rattle.lil_resolved.specs.declared.resolved.RVariable.{RVariable}
+use Rattle.lil_language.specs.declared.tree.{Expr.Expr, ForHead.ForHead}
+use Rattle.lil_declared.specs.declared.declared.Mode.{Mode, TheVariants.Plain}
+use Rattle.lil_resolved.specs.declared.resolved.{RExpr.RExpr, RStmt.RStmt, RVariable.RVariable}
 use Rattle.lil_report.specs.Told.{Row, row, after, pure}
-use Rattle.lil_scope.specs.declared.env.Env.{Env}
-use Rattle.lil_scope.specs.declared.thing.Kind.{Kind}
+use Rattle.lil_scope.specs.declared.{env.Env.Env, thing.{Kind.Kind, Thing.Thing, Variable.Variable}}
 use Rattle.lil_scope.specs.declared.thing.Kind.TheVariants as k
-use Rattle.lil_scope.specs.declared.thing.Thing.{Thing}
 use Rattle.lil_scope.specs.declared.thing.Thing.TheVariants as t
-use Rattle.lil_scope.specs.declared.thing.Variable.{Variable}
-use Rattle.lil_kinds.specs.declared.found.Found.{Found}
-use Rattle.lil_kinds.specs.Kinds.{assignable, misses, compatible, is_ordinal, is_constant}
-use Rattle.lil_forms.specs.Values.{typed}
-use Rattle.lil_forms.specs.Statements.{counter, start_of, limit_of, bounds_of, counted_with}
-use Rattle.lil_check_value.specs.declared.names.Looked.{Looked}
+use Rattle.lil_kinds.specs.{declared.found.Found.Found, Kinds.{assignable, misses, compatible, is_ordinal, is_constant}}
+use Rattle.lil_forms.specs.{Values.typed, Statements.{counter, bounds_of, counted_with}}
+use Rattle.lil_check_value.specs.{declared.names.Looked.Looked, Looks.look, Values.means}
 use Rattle.lil_check_value.specs.declared.names.Looked.TheVariants as l
-use Rattle.lil_check_value.specs.Looks.{look}
-use Rattle.lil_check_value.specs.Values.{means}
-use Rattle.lil_check_stmt.specs.declared.counting.Counter.{Counter}
-use Rattle.lil_check_stmt.specs.declared.counting.Count.{Count}
-use Rattle.lil_check_stmt.specs.Nodes.{node}
+use Rattle.lil_check_stmt.specs.{declared.counting.{Counter.Counter, Count.Count}, Nodes.node}
 
 -- ---- the variable
 abbrev pub is_nothing : Looked → Bool
@@ -87,14 +73,14 @@ counter_node e p o = node (counter_tests e.types p o) (counter_of e o)
 -- 31 Assign, at `:=`
 -- 50 ConstRange
 unfoldable pub start_node : Table → Place → Option Counter → Option Found → Option RExpr × List Row
-start_node ts p (Some c) (Some a) = node (row (not (assignable ts c.sort a.kind)) p Assign ∷ row (misses ts c.sort a.kind) a.first ConstRange ∷ []) (start_of c.variable (typed ts c.sort a))
+start_node ts p (Some c) (Some a) = (typed ts c.sort a, row (not (assignable ts c.sort a.kind)) p Assign ∷ row (misses ts c.sort a.kind) a.first ConstRange ∷ [])
 start_node ts p (Some c) None = (None, [])
 start_node ts p None a = (None, [])
 
 -- ---- the last value is counted to
 -- 31 Assign: a limit that isn't compatible with the variable
 unfoldable pub limit_node : Table → Option Counter → Option Found → Option RExpr × List Row
-limit_node ts (Some c) (Some a) = node (row (not (compatible ts (k.Of c.sort) a.kind)) a.first Assign ∷ []) (limit_of c.variable (typed ts c.sort a))
+limit_node ts (Some c) (Some a) = (typed ts c.sort a, row (not (compatible ts (k.Of c.sort) a.kind)) a.first Assign ∷ [])
 limit_node ts (Some c) None = (None, [])
 limit_node ts None a = (None, [])
 
@@ -115,7 +101,7 @@ is_no_step _ = false
 -- 30 Operands: a constant that is no whole number
 -- 50 ConstRange: zero, or a number that no INTEGER has
 unfoldable pub step_node : Option Found → Option ℤ × List Row
-step_node (Some a) = node (row (not (is_constant a.kind)) a.first NotConst ∷ row (is_other_constant a.kind) a.first Operands ∷ row (is_no_step a.kind) a.first ConstRange ∷ []) (step_of a.kind)
+step_node (Some a) = (step_of a.kind, row (not (is_constant a.kind)) a.first NotConst ∷ row (is_other_constant a.kind) a.first Operands ∷ row (is_no_step a.kind) a.first ConstRange ∷ [])
 step_node None = (None, [])
 
 -- without BY it is 1

@@ -1,11 +1,6 @@
 -- Induction over the statements of a text: what holds of each form that is made of trees of which it holds, holds of each tree.
 use Rattle.std.proofs.Common.{◌≡◌, subst}
-use Rattle.lil_language.specs.declared.tree.Arm.{Arm, roll-Arm}
-use Rattle.lil_language.specs.declared.tree.Guard.{Guard, roll-Guard}
-use Rattle.lil_language.specs.declared.tree.Stmt.{Stmt}
-use Rattle.lil_language.specs.declared.tree.Stmt.TheOpen.{Stmt-F, Arm-F, Guard-F}
-use Rattle.lil_language.specs.declared.tree.Stmt.TheFolds.{map-Stmt, map-Arm, map-Guard, ind-Stmt, fold-roll-Stmt, fold-roll-Arm, fold-roll-Guard}
-use Rattle.lil_language.specs.declared.tree.Stmt.TheViews.{roll-Stmt}
+use Rattle.lil_language.specs.declared.tree.{Arm.{Arm, roll-Arm}, Guard.{Guard, roll-Guard}, Stmt.{Stmt, TheOpen.{Stmt-F, Arm-F, Guard-F}, TheFolds.{map-Stmt, map-Arm, map-Guard, ind-Stmt, fold-roll-Stmt, fold-roll-Arm, fold-roll-Guard}, TheViews.roll-Stmt}}
 use Rattle.lil_check_stmt.specs.Statements.{Meaning, GuardMeaning, ArmMeaning, statement_layer, guard_layer, arm_layer, statement_means, guard_means, arm_means}
 
 -- ---- what a form means comes from what its parts mean

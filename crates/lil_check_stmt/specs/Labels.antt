@@ -1,22 +1,16 @@
 -- The labels of a CASE: which values each stands for, and their tests.
 use Rattle.std.specs.Prelude.{ℤ, pos, int_lt, Bool, false, not, ◌&&◌, List, [], ◌∷◌, ◌++◌, Option, Some, None, if◌then◌else◌}
 use Rattle.std.specs.List.{list_any}
-use Rattle.lil_base.specs.declared.fault.FaultKind.TheVariants.{Assign, NotConst, EmptyRange, LabelTwice}
-use Rattle.lil_base.specs.Lists.{joined}
-use Rattle.lil_types.specs.declared.table.Span.{Span}
-use Rattle.lil_types.specs.Types.{Table, integer, cardinal, char, meets}
-use Rattle.lil_language.specs.declared.tree.Expr.{Expr}
-use Rattle.lil_language.specs.declared.tree.Range.{Range}
+use Rattle.lil_base.specs.{declared.fault.FaultKind.TheVariants.{Assign, NotConst, EmptyRange, LabelTwice}, Lists.joined}
+use Rattle.lil_types.specs.{declared.table.Span.Span, Types.{Table, integer, cardinal, char, meets}}
+use Rattle.lil_language.specs.declared.tree.{Expr.Expr, Range.Range}
 use Rattle.lil_resolved.specs.declared.resolved.RLabel.{RLabel}
 use Rattle.lil_report.specs.Told.{Row, row, after, pure, walk}
-use Rattle.lil_scope.specs.declared.env.Env.{Env}
-use Rattle.lil_scope.specs.declared.thing.Kind.{Kind}
+use Rattle.lil_scope.specs.declared.{env.Env.Env, thing.Kind.Kind}
 use Rattle.lil_scope.specs.declared.thing.Kind.TheVariants as k
-use Rattle.lil_kinds.specs.declared.found.Found.{Found}
-use Rattle.lil_kinds.specs.Kinds.{compatible, is_constant, number}
+use Rattle.lil_kinds.specs.{declared.found.Found.Found, Kinds.{compatible, is_constant, number}}
 use Rattle.lil_check_value.specs.Values.{means}
-use Rattle.lil_check_stmt.specs.declared.labels.Labels.{Labels}
-use Rattle.lil_check_stmt.specs.Nodes.{node}
+use Rattle.lil_check_stmt.specs.{declared.labels.Labels.Labels, Nodes.node}
 
 -- with what the labels have to be compatible: beside a whole constant with CARDINAL where it isn't negative, else with INTEGER,
 -- and beside a text with CHAR

@@ -6,4 +6,3 @@ pub mod Stmts
 pub mod Induction
 pub mod Whole
 pub mod WholeLaws
-pub mod StatementSound

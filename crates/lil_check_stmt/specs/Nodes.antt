@@ -1,19 +1,14 @@
 -- The nodes of statements: what they make of the values of their parts, and their tests.
 use Rattle.std.specs.Prelude.{ℕ, ◌==◌, Bool, true, false, not, ◌&&◌, is_some, List, [], ◌∷◌, Option, Some, None, if◌then◌else◌}
-use Rattle.lil_base.specs.declared.fault.Place.{Place}
-use Rattle.lil_base.specs.declared.fault.FaultKind.TheVariants.{Operands, Assign, NotRecord, ExitOutside, ReturnKind, ConstRange}
+use Rattle.lil_base.specs.declared.fault.{Place.Place, FaultKind.TheVariants.{Operands, Assign, NotRecord, ExitOutside, ReturnKind, ConstRange}}
 use Rattle.lil_types.specs.Types.{Table, boolean, base}
-use Rattle.lil_resolved.specs.declared.resolved.RExpr.{RExpr}
-use Rattle.lil_resolved.specs.declared.resolved.RStmt.{RStmt}
+use Rattle.lil_resolved.specs.declared.resolved.{RExpr.RExpr, RStmt.RStmt}
 use Rattle.lil_resolved.specs.declared.resolved.RStmt.TheVariants as rs
 use Rattle.lil_report.specs.Told.{Row, row}
 use Rattle.lil_scope.specs.declared.thing.Kind.{Kind}
 use Rattle.lil_scope.specs.declared.thing.Kind.TheVariants as k
-use Rattle.lil_kinds.specs.declared.found.Found.{Found}
-use Rattle.lil_kinds.specs.declared.found.Located.{Located}
-use Rattle.lil_kinds.specs.Forms.{is_record}
-use Rattle.lil_kinds.specs.Kinds.{assignable, misses, is_ordinal}
-use Rattle.lil_forms.specs.Statements.{located_in, assigned, condition, record_at}
+use Rattle.lil_kinds.specs.{declared.found.{Form.Form, Found.Found}, Forms.is_record, Kinds.{assignable, misses, is_ordinal}}
+use Rattle.lil_forms.specs.{Values.typed, Statements.{located_in, assigned}}
 use Rattle.lil_check_stmt.specs.declared.nodes.Opened.{Opened}
 
 -- no test finds anything wrong
@@ -21,7 +16,7 @@ abbrev pub clear : List Row → Bool
 clear [] = true
 clear (r ∷ rs) = not r.wrong && clear rs
 
--- a node with a fault has no value
+-- a node with a fault has no value, where others are tested by it
 abbrev pub node : {A : Type 0} → List Row → Option A → Option A × List Row
 node rs o = (if clear rs then o else None, rs)
 
@@ -43,7 +38,7 @@ assign_tests t p a v =
     ∷ []
 
 unfoldable pub assign_node : Table → Place → Option Found → Option Found → Option RStmt × List Row
-assign_node t p (Some a) (Some v) = node (assign_tests t p a v) (assigned t (located_in a.form) v)
+assign_node t p (Some a) (Some v) = (assigned t (located_in a.form) v, assign_tests t p a v)
 assign_node t p (Some a) None = (None, [])
 assign_node t p None v = (None, [])
 
@@ -55,7 +50,7 @@ is_truth t _ = false
 
 -- 30 Operands: a condition that isn't BOOLEAN
 unfoldable pub condition_node : Table → Option Found → Option RExpr × List Row
-condition_node t (Some a) = node (row (not (is_truth t a.kind)) a.first Operands ∷ []) (condition t a)
+condition_node t (Some a) = (typed t boolean a, row (not (is_truth t a.kind)) a.first Operands ∷ [])
 condition_node t None = (None, [])
 
 -- ---- what a CASE selects by
@@ -69,29 +64,24 @@ abbrev pub is_record_kind : Table → Kind → Bool
 is_record_kind t (k.Of s) = is_record t s
 is_record_kind t _ = false
 
--- a place of this very type
-abbrev pub of_type : ℕ → Option Located → Option Located
-of_type s None = None
-of_type s (Some p) = if p.sort == s then Some p else None
-
-abbrev pub opening : Table → Found → Kind → Option Opened
-opening t a (k.Of s) = Some (record { place = of_type s (record_at t (located_in a.form)); sort = s })
-opening t a _ = None
+abbrev pub opening : Kind → Form → Option Opened
+opening (k.Of s) f = Some (record { place = located_in f; sort = s })
+opening _ f = None
 
 -- 36 NotRecord, at WITH
 unfoldable pub record_node : Table → Place → Option Found → Option Opened × List Row
-record_node t p (Some a) = node (row (not (is_record_kind t a.kind)) p NotRecord ∷ []) (opening t a a.kind)
+record_node t p (Some a) = node (row (not (is_record_kind t a.kind)) p NotRecord ∷ []) (opening a.kind a.form)
 record_node t p None = (None, [])
 
 -- ---- EXIT
 -- 25 ExitOutside
 unfoldable pub exit_node : Place → Bool → Option RStmt × List Row
-exit_node p looping = node (row (not looping) p ExitOutside ∷ []) (Some rs.Exit)
+exit_node p looping = (Some rs.Exit, row (not looping) p ExitOutside ∷ [])
 
 -- ---- RETURN, by the result type of the body, where it is that of a function
 -- 26 ReturnKind: a function returns without a value
 unfoldable pub end_node : Place → Option ℕ → Option RStmt × List Row
-end_node p result = node (row (is_some result) p ReturnKind ∷ []) (Some rs.Return)
+end_node p result = (Some rs.Return, row (is_some result) p ReturnKind ∷ [])
 
 -- 26 ReturnKind: a value in a body that is no function's
 -- 31 Assign, at RETURN

@@ -1,37 +1,19 @@
 -- What each form of statement means, from what its parts mean.
 use Rattle.std.specs.Prelude.{ℕ, pos, int_lt, Bool, true, List, [], ◌∷◌, ◌++◌, slice_get, Option, Some, None, if◌then◌else◌}
-use Rattle.lil_base.specs.declared.fault.Place.{Place}
-use Rattle.lil_base.specs.Lists.{joined}
+use Rattle.lil_base.specs.{declared.fault.Place.Place, Lists.joined}
 use Rattle.lil_types.specs.Types.{Table, integer, cardinal}
-use Rattle.lil_language.specs.declared.tree.Expr.{Expr}
-use Rattle.lil_language.specs.declared.tree.Arm.{Arm}
-use Rattle.lil_language.specs.declared.tree.Guard.{Guard}
-use Rattle.lil_language.specs.declared.tree.Stmt.{Stmt}
+use Rattle.lil_language.specs.declared.tree.{Expr.Expr, Arm.Arm, Guard.Guard, Stmt.{Stmt, TheOpen.{Stmt-F, Arm-F, Guard-F}, TheFolds.{fold-Stmt, fold-Guard, fold-Arm}}}
 use Rattle.lil_language.specs.declared.tree.Stmt.TheOpen as s
-use Rattle.lil_language.specs.declared.tree.Stmt.TheOpen.{Stmt-F, Arm-F, Guard-F}
-use Rattle.lil_language.specs.declared.tree.Stmt.TheFolds.{fold-Stmt, fold-Guard, fold-Arm}
 use Rattle.lil_declared.specs.declared.declared.RProc.{RProc}
-use Rattle.lil_resolved.specs.declared.resolved.RArm.{RArm}
-use Rattle.lil_resolved.specs.declared.resolved.RExpr.{RExpr}
-use Rattle.lil_resolved.specs.declared.resolved.RGuard.{RGuard}
-use Rattle.lil_resolved.specs.declared.resolved.RLabel.{RLabel}
-use Rattle.lil_resolved.specs.declared.resolved.RStmt.{RStmt}
+use Rattle.lil_resolved.specs.declared.resolved.{RArm.RArm, RExpr.RExpr, RGuard.RGuard, RLabel.RLabel, RStmt.RStmt}
 use Rattle.lil_report.specs.Told.{Row, after, pure, walk}
-use Rattle.lil_scope.specs.declared.env.Env.{Env}
-use Rattle.lil_scope.specs.declared.thing.Kind.{Kind}
+use Rattle.lil_scope.specs.declared.{env.Env.Env, thing.Kind.Kind}
 use Rattle.lil_scope.specs.declared.thing.Kind.TheVariants as k
-use Rattle.lil_kinds.specs.declared.found.Found.{Found}
-use Rattle.lil_kinds.specs.Forms.{result}
-use Rattle.lil_forms.specs.Values.{typed, ordinal}
-use Rattle.lil_forms.specs.Statements.{guard_of, conditional, repeated_while, repeated_until, looped, arm_of}
+use Rattle.lil_kinds.specs.{declared.found.Found.Found, Forms.result}
+use Rattle.lil_forms.specs.{Values.typed, Statements.{guard_of, conditional, repeated_while, repeated_until, looped, arm_of}}
 use Rattle.lil_forms.specs.Statements as forms
 use Rattle.lil_check_value.specs.Values.{means, variable_means, call_means}
-use Rattle.lil_check_stmt.specs.declared.nodes.Opened.{Opened}
-use Rattle.lil_check_stmt.specs.declared.labels.Labels.{Labels}
-use Rattle.lil_check_stmt.specs.declared.labels.Arms.{Arms}
-use Rattle.lil_check_stmt.specs.Nodes.{assign_node, condition_node, selector_node, record_node, exit_node, end_node, return_node}
-use Rattle.lil_check_stmt.specs.Labels.{labels_mean}
-use Rattle.lil_check_stmt.specs.Counting.{count_means, counted}
+use Rattle.lil_check_stmt.specs.{declared.{nodes.Opened.Opened, labels.{Labels.Labels, Arms.Arms}}, Nodes.{assign_node, condition_node, selector_node, record_node, exit_node, end_node, return_node}, Labels.labels_mean, Counting.{count_means, counted}}
 
 -- a statement in its surroundings, inside of a LOOP or not
 abbrev pub Meaning : Type 0
@@ -116,7 +98,7 @@ selector_type _ = cardinal
 
 abbrev pub selector_value : Table → Option Found → Option RExpr
 selector_value t None = None
-selector_value t (Some a) = ordinal (typed t (selector_type a.kind) a)
+selector_value t (Some a) = typed t (selector_type a.kind) a
 
 abbrev pub selected : Table → Option Found → Option (List RArm) → Option (Option (List RStmt)) → Option RStmt
 selected t v arms other = forms.selected (selector_value t v) arms other

@@ -1,20 +1,11 @@
 -- What the bodies of procedures and of a module mean, and the tests of their statements' nodes.
 use Rattle.std.specs.Prelude.{false, List, [], ◌∷◌, ◌++◌, Option, Some, None}
-use Rattle.lil_language.specs.declared.unit.Decl.{Decl}
+use Rattle.lil_language.specs.declared.{unit.Decl.{Decl, TheOpen.{Decl-F, Block-F}, TheFolds.fold-Decl}, tree.Stmt.Stmt}
 use Rattle.lil_language.specs.declared.unit.Decl.TheOpen as d
-use Rattle.lil_language.specs.declared.unit.Decl.TheOpen.{Decl-F, Block-F}
-use Rattle.lil_language.specs.declared.unit.Decl.TheFolds.{fold-Decl}
-use Rattle.lil_language.specs.declared.tree.Stmt.{Stmt}
 use Rattle.lil_resolved.specs.declared.resolved.RStmt.{RStmt}
 use Rattle.lil_report.specs.Told.{Row, after, pure, walk}
-use Rattle.lil_scope.specs.declared.env.Env.{Env}
-use Rattle.lil_scope.specs.declared.thing.Routine.{Routine}
-use Rattle.lil_scope.specs.declared.thing.Thing.{Thing}
-use Rattle.lil_scope.specs.declared.thing.Thing.TheVariants.{Procedure}
-use Rattle.lil_scope.specs.Names.{find, inside}
-use Rattle.lil_check_stmt.specs.declared.stmt.Around.{Around}
-use Rattle.lil_check_stmt.specs.declared.stmt.Stated.{Stated}
-use Rattle.lil_check_stmt.specs.Statements.{statements_mean}
+use Rattle.lil_scope.specs.{declared.{env.Env.Env, thing.{Routine.Routine, Thing.{Thing, TheVariants.Procedure}}}, Names.{find, inside}}
+use Rattle.lil_check_stmt.specs.{declared.stmt.{Around.Around, Stated.Stated}, Statements.statements_mean}
 
 -- the bodies of procedures, where they have code
 abbrev pub Bodies : Type 0

@@ -2,18 +2,10 @@
 -- arms, however deep. Each counts 1.
 use Rattle.std.specs.Prelude.{ℕ, suc, ◌+◌, List, length, map, Option, Some, None}
 use Rattle.std.specs.List.{sum}
-use Rattle.lil_language.specs.declared.tree.Arm.{Arm}
-use Rattle.lil_language.specs.declared.tree.Guard.{Guard}
-use Rattle.lil_language.specs.declared.tree.Stmt.{Stmt}
+use Rattle.lil_language.specs.declared.tree.{Arm.Arm, Guard.Guard, Stmt.{Stmt, TheOpen.{Stmt-F, Arm-F, Guard-F}, TheFolds.{fold-Stmt, fold-Arm, fold-Guard}}}
 use Rattle.lil_language.specs.declared.tree.Stmt.TheOpen as s
-use Rattle.lil_language.specs.declared.tree.Stmt.TheOpen.{Stmt-F, Arm-F, Guard-F}
-use Rattle.lil_language.specs.declared.tree.Stmt.TheFolds.{fold-Stmt, fold-Arm, fold-Guard}
-use Rattle.lil_resolved.specs.declared.resolved.RArm.{RArm}
-use Rattle.lil_resolved.specs.declared.resolved.RGuard.{RGuard}
-use Rattle.lil_resolved.specs.declared.resolved.RStmt.{RStmt}
+use Rattle.lil_resolved.specs.declared.resolved.{RArm.RArm, RGuard.RGuard, RStmt.{RStmt, TheOpen.{RStmt-F, RArm-F, RGuard-F}, TheFolds.{fold-RStmt, fold-RArm, fold-RGuard}}}
 use Rattle.lil_resolved.specs.declared.resolved.RStmt.TheOpen as r
-use Rattle.lil_resolved.specs.declared.resolved.RStmt.TheOpen.{RStmt-F, RArm-F, RGuard-F}
-use Rattle.lil_resolved.specs.declared.resolved.RStmt.TheFolds.{fold-RStmt, fold-RArm, fold-RGuard}
 
 -- what stands behind an ELSE, where there is one
 abbrev pub otherwise : Option (List ℕ) → ℕ

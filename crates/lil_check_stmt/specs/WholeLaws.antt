@@ -1,45 +1,20 @@
 -- Nothing is left out: statements that have a form have at least the extent that they have in the text.
 use Rattle.std.proofs.Common.{◌≡◌, ℕ, suc, ◌+◌, ◌≤◌, Bool, true, List, [], ◌∷◌, length, map, Option, Some, None, IfSome, refl, sym, ap, subst, ◌∙◌, arith}
-use Rattle.std.specs.List.{sum, list_all}
-use Rattle.std.proofs.lemmas.List.{map-append}
-use Rattle.std.proofs.lemmas.List.Sums.{sum_by-cons, sum_by_push}
+use Rattle.std.specs.List.{sum}
+use Rattle.std.proofs.lemmas.List.{map-append, Sums.{sum_by-cons, sum_by_push}}
 use Rattle.lil_base.specs.Lists.{joined}
-use Rattle.lil_language.specs.declared.tree.Range.{Range}
-use Rattle.lil_language.specs.declared.tree.Arm.{Arm}
-use Rattle.lil_language.specs.declared.tree.Guard.{Guard}
-use Rattle.lil_language.specs.declared.tree.Stmt.{Stmt}
+use Rattle.lil_language.specs.declared.tree.{Range.Range, Arm.Arm, Guard.Guard, Stmt.{Stmt, TheOpen.{Stmt-F, Arm-F, Guard-F}, TheFolds.{map-Stmt, map-Arm, map-Guard, fold-roll-Stmt, fold-roll-Arm, fold-roll-Guard}}}
 use Rattle.lil_language.specs.declared.tree.Stmt.TheOpen as s
-use Rattle.lil_language.specs.declared.tree.Stmt.TheOpen.{Stmt-F, Arm-F, Guard-F}
-use Rattle.lil_language.specs.declared.tree.Stmt.TheFolds.{map-Stmt, map-Arm, map-Guard, fold-roll-Stmt, fold-roll-Arm, fold-roll-Guard}
-use Rattle.lil_resolved.specs.declared.resolved.RArm.{RArm}
-use Rattle.lil_resolved.specs.declared.resolved.RExpr.{RExpr}
-use Rattle.lil_resolved.specs.declared.resolved.RGuard.{RGuard}
-use Rattle.lil_resolved.specs.declared.resolved.RLabel.{RLabel}
-use Rattle.lil_resolved.specs.declared.resolved.RStmt.{RStmt}
+use Rattle.lil_resolved.specs.declared.resolved.{RArm.RArm, RExpr.RExpr, RGuard.RGuard, RLabel.RLabel, RStmt.{RStmt, TheOpen.RStmt-F, TheFolds.{map-RStmt, ind-RStmt, fold-roll-RStmt, fold-roll-RArm, fold-roll-RGuard}, TheViews.roll-RStmt}}
 use Rattle.lil_resolved.specs.declared.resolved.RStmt.TheVariants as r
 use Rattle.lil_resolved.specs.declared.resolved.RStmt.TheOpen as o
-use Rattle.lil_resolved.specs.declared.resolved.RStmt.TheOpen.{RStmt-F}
-use Rattle.lil_resolved.specs.declared.resolved.RStmt.TheFolds.{map-RStmt, ind-RStmt, fold-roll-RStmt, fold-roll-RArm, fold-roll-RGuard}
-use Rattle.lil_resolved.specs.declared.resolved.RStmt.TheViews.{roll-RStmt}
-use Rattle.lil_report.specs.Told.{Row, after, walk}
-use Rattle.lil_report.specs.Laws.{walk_map}
-use Rattle.lil_shapes.specs.BaseLaws.{if_true}
-use Rattle.lil_shapes.specs.ListLaws.{map_of_map}
-use Rattle.lil_shapes.specs.Operators.{base_for}
-use Rattle.lil_scope.specs.declared.env.Env.{Env}
-use Rattle.lil_scope.specs.declared.thing.Kind.{Kind}
+use Rattle.lil_report.specs.{Told.{Row, after, walk}, Laws.walk_map}
+use Rattle.lil_shapes.specs.{BaseLaws.if_true, ListLaws.map_of_map}
+use Rattle.lil_scope.specs.declared.{env.Env.Env, thing.Kind.Kind}
 use Rattle.lil_kinds.specs.declared.found.Located.{Located}
-use Rattle.lil_forms.specs.declared.control.Bounds.{Bounds}
-use Rattle.lil_forms.specs.Statements.{guard_of, conditional, repeated_while, repeated_until, looped, within, arm_fits, selected, is_step, counted_with}
-use Rattle.lil_forms.specs.Values.{value_kind}
+use Rattle.lil_forms.specs.{declared.control.Bounds.Bounds, Statements.{guard_of, conditional, repeated_while, repeated_until, looped, within, selected, is_step, counted_with}}
 use Rattle.lil_check_value.specs.Values.{means, variable_means, call_means}
-use Rattle.lil_check_stmt.specs.declared.counting.Count.{Count}
-use Rattle.lil_check_stmt.specs.declared.labels.Arms.{Arms}
-use Rattle.lil_check_stmt.specs.declared.labels.Labels.{Labels}
-use Rattle.lil_check_stmt.specs.declared.nodes.Opened.{Opened}
-use Rattle.lil_check_stmt.specs.Nodes.{assign_node, record_node, exit_node}
-use Rattle.lil_check_stmt.specs.Labels.{label_means, label_step, labels_mean}
-use Rattle.lil_check_stmt.specs.Counting.{count_means, counted}
+use Rattle.lil_check_stmt.specs.{declared.{counting.Count.Count, labels.{Arms.Arms, Labels.Labels}, nodes.Opened.Opened}, Nodes.{assign_node, record_node, exit_node}, Labels.{label_means, label_step, labels_mean}, Counting.{count_means, counted}}
 use Rattle.lil_check_stmt.specs.Statements.{Meaning, GuardMeaning, ArmMeaning, list_step, list_means, behind, else_means, guards_step, guards_mean, no_arms, arms_step, arms_mean, condition_means, selector_means, selector_value, kind_of, return_means, with_record, armed, statement_layer, guard_layer, arm_layer, statement_means, guard_means, arm_means, statement_step, statements_mean, within as inside}
 use Rattle.lil_check_stmt.specs.Induction.{meant, arm_meant, guard_meant, statement_rolled, arm_rolled, guard_rolled, bare, bare_arm, bare_guard, by_forms}
 use Rattle.lil_check_stmt.specs.Whole.{text_layer, text_arm_layer, text_guard_layer, text_extent_of, text_arm_extent, text_guard_extent, text_extent, extent_layer, arm_extent_layer, guard_extent_layer, extent_of, arm_extent, guard_extent, extent}
@@ -102,9 +77,8 @@ if_kept m n (Some gs) (Some (Some ss)) h j = from (counts _ (r.rolls-If gs ss)) 
 if_kept m n _ _ h j = tt
 
 case_kept : (m n : ℕ) (x : Option RExpr) (arms : Option (List RArm)) (other : Option (Option (List RStmt))) → Has arm_extent m arms → Other n other → Of (suc (m + n)) (selected x arms other)
-unfolding selected
-case_kept m n (Some x) (Some arms) (Some None) h j = if_true (λ y. suc (m + n) ≤ extent_of y) (list_all (arm_fits (base_for (value_kind x))) arms) _ (λ e. from (counts _ (r.rolls-Case x arms None)) (omega (arith, h, j)))
-case_kept m n (Some x) (Some arms) (Some (Some ss)) h j = if_true (λ y. suc (m + n) ≤ extent_of y) (list_all (arm_fits (base_for (value_kind x))) arms) _ (λ e. from (counts _ (r.rolls-Case x arms (Some ss))) (omega (arith, h, j)))
+case_kept m n (Some x) (Some arms) (Some None) h j = from (counts _ (r.rolls-Case x arms None)) (omega (arith, h, j))
+case_kept m n (Some x) (Some arms) (Some (Some ss)) h j = from (counts _ (r.rolls-Case x arms (Some ss))) (omega (arith, h, j))
 case_kept m n _ _ _ h j = tt
 
 while_kept : (n : ℕ) (x : Option RExpr) (o : Option (List RStmt)) → Has extent_of n o → Of (suc n) (repeated_while x o)

@@ -6,7 +6,7 @@ ghost use Rattle.lil_check_stmt.specs.Counting as spec;
 use lil_base::{Boxed, FaultKind, Items, Memory, Place, beside};
 use lil_check_value::{Looked, boxed_expression, look};
 use lil_declared::Mode;
-use lil_forms::{Bounds, bounds_of, counted_with, counter, limit_of, start_of, typed};
+use lil_forms::{Bounds, bounds_of, counted_with, counter, typed};
 use lil_kinds::{Found, assignable, compatible, is_constant, is_ordinal, misses};
 use lil_language::{Expr, ForHead};
 use lil_report::Report;
@@ -147,12 +147,7 @@ fn start(
                 let outside = misses(t, counter.sort, value.kind);
                 report.note(unlike, becomes, FaultKind::Assign);
                 report.note(outside, value.first, FaultKind::ConstRange);
-                if unlike || outside {
-                    drop(value);
-                    None
-                } else {
-                    start_of(counter.variable, typed(t, counter.sort, value))
-                }
+                typed(t, counter.sort, value)
             }
             None => None,
         },
@@ -178,12 +173,7 @@ fn limit(
             Some(value) => {
                 let unlike = !compatible(t, Kind::Of(counter.sort), value.kind);
                 report.note(unlike, value.first, FaultKind::Assign);
-                if unlike {
-                    drop(value);
-                    None
-                } else {
-                    limit_of(counter.variable, typed(t, counter.sort, value))
-                }
+                typed(t, counter.sort, value)
             }
             None => None,
         },
@@ -236,9 +226,6 @@ fn step(report: &mut Report, of: &Option<Found>) -> Option<i32>
             report.note(open, of.first, FaultKind::NotConst);
             report.note(other, of.first, FaultKind::Operands);
             report.note(outside, of.first, FaultKind::ConstRange);
-            if open || other || outside {
-                return None;
-            }
             step_of(of.kind)
         }
         None => None,

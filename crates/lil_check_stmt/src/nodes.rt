@@ -3,8 +3,8 @@ ghost use Rattle.lil_report.specs.Told.{Said};
 ghost use Rattle.lil_check_stmt.specs.Nodes as spec;
 
 use lil_base::{FaultKind, Place};
-use lil_forms::{assigned, located_in, record_at};
-use lil_kinds::{Found, Located, assignable, is_ordinal, is_record, misses};
+use lil_forms::{assigned, located_in, typed};
+use lil_kinds::{Form, Found, Located, assignable, is_ordinal, is_record, misses};
 use lil_report::Report;
 use lil_resolved::{RExpr, RStmt};
 use lil_scope::Kind;
@@ -48,12 +48,7 @@ pub(crate) fn assign(
                 let outside = is_outside(t, variable.kind, value.kind);
                 report.note(unlike, becomes, FaultKind::Assign);
                 report.note(outside, value.first, FaultKind::ConstRange);
-                if !unlike && !outside {
-                    assigned(t, located_in(variable.form), value)
-                } else {
-                    drop((variable, value));
-                    None
-                }
+                assigned(t, located_in(variable.form), value)
             }
             None => {
                 drop(variable);
@@ -86,12 +81,7 @@ pub(crate) fn condition(t: &TypeTable, report: &mut Report, of: Option<Found>) -
         Some(of) => {
             let unlike = !is_truth(t, of.kind);
             report.note(unlike, of.first, FaultKind::Operands);
-            if unlike {
-                drop(of);
-                None
-            } else {
-                lil_forms::condition(t, of)
-            }
+            typed(t, BOOLEAN, of)
         }
         None => None,
     }
@@ -133,29 +123,16 @@ fn is_record_kind(t: &TypeTable, kind: Kind) -> bool
     }
 }
 
-/// A place of this very type.
-fn of_type(sort: TypeId, of: Option<Located>) -> Option<Located>
-    ensures { result ≡ spec.of_type sort of }
+fn opening(kind: Kind, form: Form) -> Option<Opened>
+    ensures { result ≡ spec.opening kind form }
 {
-    match of {
-        Some(of) if of.sort == sort => Some(of),
-        rest => {
-            drop(rest);
-            None
-        }
-    }
-}
-
-fn opening(t: &TypeTable, of: Found) -> Option<Opened>
-    ensures { result ≡ spec.opening t.now of of.kind }
-{
-    match of.kind {
+    match kind {
         Kind::Of(sort) => Some(Opened {
-            place: of_type(sort, record_at(t, located_in(of.form))),
+            place: located_in(form),
             sort,
         }),
         _ => {
-            drop(of);
+            drop(form);
             None
         }
     }
@@ -179,7 +156,7 @@ pub(crate) fn record_of(
                 drop(of);
                 None
             } else {
-                opening(t, of)
+                opening(of.kind, of.form)
             }
         }
         None => None,
@@ -192,7 +169,7 @@ pub(crate) fn exit(report: &mut Report, at: Place, looping: bool) -> Option<RStm
     ensures { Said (spec.exit_node at looping) report.old result report.new }
 {
     report.note(!looping, at, FaultKind::ExitOutside);
-    if looping { Some(RStmt::Exit) } else { None }
+    Some(RStmt::Exit)
 }
 
 /// A RETURN without a value, where a function has this result.
@@ -204,9 +181,8 @@ pub(crate) fn return_alone(
 ) -> Option<RStmt>
     ensures { Said (spec.end_node at result_type) report.old result report.new }
 {
-    let wrong = result_type.is_some();
-    report.note(wrong, at, FaultKind::ReturnKind);
-    if wrong { None } else { Some(RStmt::Return) }
+    report.note(result_type.is_some(), at, FaultKind::ReturnKind);
+    Some(RStmt::Return)
 }
 
 /// A RETURN with a value, which has no code.

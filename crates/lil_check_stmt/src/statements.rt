@@ -15,7 +15,7 @@ use crate::nodes::{
 use lil_base::{Boxed, Items, Memory, Place, beside, joined};
 use lil_check_value::{boxed_expression, call, variable};
 use lil_forms::{
-    arm_of, conditional, guard_of, looped, ordinal, repeated_until, repeated_while, typed, within,
+    arm_of, conditional, guard_of, looped, repeated_until, repeated_while, typed, within,
 };
 use lil_kinds::{Found, result};
 use lil_language::{Arm, Designator, Expr, ForHead, Guard, Stmt};
@@ -121,7 +121,7 @@ fn selector_value(t: &TypeTable, of: Option<Found>) -> Option<RExpr>
         None => None,
         Some(of) => {
             let sort = selector_type(of.kind);
-            ordinal(typed(t, sort, of))
+            typed(t, sort, of)
         }
     }
 }

@@ -2,19 +2,10 @@
 use Rattle.std.proofs.Common.{◌≡◌, ℕ, ◌+◌, ◌<◌, ◌≤◌, length, Bool, false, ◌||◌, List, [], ◌∷◌, ◌++◌, Option, drop, get_or, reverse, refl, sym, ap, subst, ◌∙◌}
 use Rattle.std.proofs.lemmas.List.{drop_more, drop_all, reverse-append}
 use Rattle.lil_base.specs.declared.fault.Place.{Place}
-use Rattle.lil_types.specs.declared.table.Span.{Span}
-use Rattle.lil_types.specs.declared.table.Field.{Field}
-use Rattle.lil_types.specs.declared.table.TypeForm.{TypeForm}
-use Rattle.lil_types.specs.Types.{meets}
-use Rattle.lil_report.specs.declared.report.Fault.{Fault}
-use Rattle.lil_report.specs.Told.{walk, Said}
-use Rattle.lil_report.specs.Laws.{said_value, said_after}
-use Rattle.lil_scope.specs.declared.env.Env.{Env}
-use Rattle.lil_scope.specs.Names.{same}
-use Rattle.lil_check_type.specs.Made.{Made, form_node}
-use Rattle.lil_check_type.specs.Bounds.{has_value_of}
-use Rattle.lil_check_type.specs.Records.{has_field}
-use Rattle.lil_check_type.specs.Sorts.{array_form, array_step}
+use Rattle.lil_types.specs.{declared.table.{Span.Span, Field.Field, TypeForm.TypeForm}, Types.meets}
+use Rattle.lil_report.specs.{declared.report.Fault.Fault, Told.{walk, Said}, Laws.{said_value, said_after}}
+use Rattle.lil_scope.specs.{declared.env.Env.Env, Names.same}
+use Rattle.lil_check_type.specs.{Made.{Made, form_node}, Bounds.has_value_of, Records.has_field, Sorts.{array_form, array_step}}
 
 left_from : {X : Type 0} (xs : List X) (i : ℕ) (x : X) → i < length xs → x ≡ get_or xs i x → drop i xs ≡ x ∷ drop (i + 1) xs
 left_from xs i x inside is = drop_more xs i x inside ∙ ap (λ y. y ∷ drop (i + 1) xs) (sym is)

@@ -1,19 +1,13 @@
 -- Constants that stand for values of an ordinal type: bounds of subranges, and labels.
 use Rattle.std.specs.Prelude.{ℕ, ◌==◌, nat_lt, ℤ, pos, negsuc, int_lt, Bool, true, false, not, ◌&&◌, ◌||◌, List, [], ◌∷◌, ◌++◌, Option, Some, None, if◌then◌else◌}
-use Rattle.lil_base.specs.declared.fault.Place.{Place}
-use Rattle.lil_base.specs.declared.fault.FaultKind.TheVariants.{Assign, LabelTwice, ConstRange, NotConst, EmptyRange}
-use Rattle.lil_types.specs.declared.table.Span.{Span}
-use Rattle.lil_types.specs.declared.table.TypeForm.{TypeForm}
+use Rattle.lil_base.specs.declared.fault.{Place.Place, FaultKind.TheVariants.{Assign, LabelTwice, ConstRange, NotConst, EmptyRange}}
+use Rattle.lil_types.specs.{declared.table.{Span.Span, TypeForm.TypeForm}, Types.{Table, integer, cardinal, char, base, span, meets}}
 use Rattle.lil_types.specs.declared.table.TypeForm.TheVariants as form
-use Rattle.lil_types.specs.Types.{Table, integer, cardinal, char, base, span, meets}
 use Rattle.lil_report.specs.Told.{Row, row}
 use Rattle.lil_scope.specs.declared.thing.Kind.{Kind}
 use Rattle.lil_scope.specs.declared.thing.Kind.TheVariants as k
-use Rattle.lil_kinds.specs.Kinds.{compatible, misses, is_ordinal, is_constant, number}
-use Rattle.lil_kinds.specs.declared.found.Found.{Found}
-use Rattle.lil_check_type.specs.declared.bounds.Bound.{Bound}
-use Rattle.lil_check_type.specs.declared.named.NamedType.{NamedType}
-use Rattle.lil_check_type.specs.declared.named.NamedType.TheVariants.{Absent, Given, Faulty}
+use Rattle.lil_kinds.specs.{Kinds.{compatible, misses, is_ordinal, is_constant, number}, declared.found.Found.Found}
+use Rattle.lil_check_type.specs.declared.{bounds.Bound.Bound, named.NamedType.{NamedType, TheVariants.{Absent, Given, Faulty}}}
 
 -- what is asked of the operand that stands as a bound or label
 abbrev pub bound_of : Option Found → Option Bound
@@ -30,10 +24,8 @@ abbrev pub type_below : Table → Kind → Option ℕ
 type_below t (k.Whole v) = Some (whole_type v)
 type_below t (k.Scalar n w) = Some (base t n)
 type_below t (k.Chars c) = Some char
-type_below t k.Nil = None
 type_below t (k.Of n) = Some (base t n)
-type_below t (k.Open n) = None
-type_below t (k.Routine n) = None
+type_below t _ = None
 
 -- the base of a subrange: the type that it names, or the one below its first bound, which is then ordinal
 abbrev pub range_base : Table → NamedType → Kind → Option ℕ
@@ -49,27 +41,23 @@ is_unlike t None b = true
 -- a bound outside of the type that a subrange names
 abbrev pub is_outside : Table → NamedType → Kind → Bool
 is_outside t (Given n) b = misses t n b
-is_outside t Absent b = false
-is_outside t Faulty b = false
+is_outside t _ b = false
 
 -- ---- two bounds. Any two whole numbers can be compared, and else values of one type
 abbrev pub alike : Option ℕ → Option ℕ → Bool
 alike (Some m) (Some n) = m == n || (nat_lt m 2 && nat_lt n 2)
-alike (Some m) None = false
-alike None n = false
+alike _ _ = false
 
 abbrev pub goes_down : Option ℤ → Option ℤ → Bool
 goes_down (Some m) (Some n) = int_lt n m
-goes_down (Some m) None = false
-goes_down None n = false
+goes_down _ _ = false
 
 abbrev pub is_empty : Table → Kind → Kind → Bool
 is_empty t a b = alike (type_below t a) (type_below t b) && goes_down (number t a) (number t b)
 
 abbrev pub span_by : Option ℤ → Option ℤ → Option Span
 span_by (Some m) (Some n) = if int_lt n m then None else Some (span m n)
-span_by (Some m) None = None
-span_by None n = None
+span_by _ _ = None
 
 -- all values from one constant to another
 abbrev pub span_between : Table → Kind → Kind → Option Span
@@ -91,8 +79,7 @@ bound_right t named of b = not (is_unlike t of b) && (is_constant b && not (is_o
 -- ---- subranges
 abbrev pub range_by : Option ℕ → Option Span → Option TypeForm
 range_by (Some n) (Some s) = Some (form.Subrange n s)
-range_by (Some n) None = None
-range_by None s = None
+range_by _ _ = None
 
 abbrev pub range_form : Table → NamedType → Option ℕ → Kind → Kind → Option TypeForm
 range_form t named of a b = if bound_right t named of a && bound_right t named of b then range_by of (span_between t a b) else None
@@ -105,13 +92,9 @@ abbrev pub range_over : Table → Place → NamedType → Option ℕ → Bound �
 range_over t p named of a b = (range_form t named of a.kind b.kind, range_rows t p named of a b)
 
 abbrev pub range_node : Table → Place → NamedType → Option Bound → Option Bound → Option TypeForm × List Row
-range_node t p Faulty a b = (None, [])
 range_node t p Absent (Some a) (Some b) = range_over t p Absent (range_base t Absent a.kind) a b
-range_node t p Absent (Some a) None = (None, [])
-range_node t p Absent None b = (None, [])
 range_node t p (Given n) (Some a) (Some b) = range_over t p (Given n) (range_base t (Given n) a.kind) a b
-range_node t p (Given n) (Some a) None = (None, [])
-range_node t p (Given n) None b = (None, [])
+range_node t p _ _ _ = (None, [])
 
 -- ---- labels: the values of those before, and of one more
 abbrev pub has_value_of : List Span → Span → Bool
@@ -132,13 +115,10 @@ twice_row us s p = row (stands_before us s) p LabelTwice
 
 unfoldable pub label_node : Table → Option ℕ → List Span → Option Bound → List Span × List Row
 label_node t (Some n) us (Some a) = (with_span us (span_between t a.kind a.kind), constant_rows t (Some n) a ++ twice_row us (span_between t a.kind a.kind) a.first ∷ [])
-label_node t (Some n) us None = (us, [])
-label_node t None us a = (us, [])
+label_node t _ us _ = (us, [])
 
 -- 53 EmptyRange, at the first token of labels from one to another: the first is greater
 unfoldable pub labels_node : Table → Option ℕ → List Span → Option Bound → Option Bound → List Span × List Row
 labels_node t (Some n) us (Some a) (Some b) =
     (with_span us (span_between t a.kind b.kind), constant_rows t (Some n) a ++ constant_rows t (Some n) b ++ twice_row us (span_between t a.kind b.kind) a.first ∷ row (is_empty t a.kind b.kind) a.first EmptyRange ∷ [])
-labels_node t (Some n) us (Some a) None = (us, [])
-labels_node t (Some n) us None b = (us, [])
-labels_node t None us a b = (us, [])
+labels_node t _ us _ _ = (us, [])

@@ -1,3 +1,4 @@
+pub mod Walks
 pub mod Made
 pub mod Bounds
 pub mod Simple

@@ -1,14 +1,10 @@
 -- A type more in the table, and the parts of which one is made.
 use Rattle.std.specs.Prelude.{ℕ, List, [], ◌∷◌, Option, Some, None, is_none, is_some, if◌then◌else◌}
-use Rattle.lil_base.specs.declared.fault.Place.{Place}
-use Rattle.lil_base.specs.declared.fault.FaultKind.TheVariants.{WrongKind, DataTooLong}
-use Rattle.lil_types.specs.declared.table.Span.{Span}
-use Rattle.lil_types.specs.declared.table.Facts.{Facts}
-use Rattle.lil_types.specs.declared.table.TypeForm.{TypeForm}
-use Rattle.lil_types.specs.Types.{Table, known}
-use Rattle.lil_types.specs.Adding.{own, added, added_number}
+use Rattle.lil_base.specs.declared.fault.{Place.Place, FaultKind.TheVariants.{WrongKind, DataTooLong}}
+use Rattle.lil_types.specs.{declared.table.{Span.Span, TypeForm.TypeForm}, Types.{Table, known}, Adding.{own, added, added_number}}
 use Rattle.lil_report.specs.Told.{Row, row}
 use Rattle.lil_scope.specs.declared.env.Env.{Env}
+use Rattle.lil_kinds.specs.Forms.{span_in}
 
 -- what is declared behind a type, and its number, if it has no fault
 abbrev pub Made : Type 0
@@ -27,10 +23,6 @@ form_node e p (Some form) = type_node e p form
 form_node e p None = ((e, None), [])
 
 -- ---- ordinal types
-abbrev pub span_in : Option Facts → Option Span
-span_in (Some f) = f.span
-span_in None = None
-
 -- the values of an ordinal type, None for any other
 abbrev pub span_of : Table → ℕ → Option Span
 span_of t n = span_in (known t n)

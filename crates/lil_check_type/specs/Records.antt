@@ -1,30 +1,15 @@
 -- Fields of records, the labels of their variants, and the parameters and results of procedures.
 use Rattle.std.specs.Prelude.{ℕ, Bool, true, false, ◌||◌, List, [], ◌∷◌, ◌++◌, Option, Some, None, is_some, if◌then◌else◌, ◌&&◌}
-use Rattle.lil_base.specs.declared.fault.Place.{Place}
-use Rattle.lil_base.specs.declared.fault.FaultKind.TheVariants.{ResultType, Twice}
-use Rattle.lil_text.specs.declared.tree.Qualident.{Qualident}
-use Rattle.lil_language.specs.declared.unit.Formal.{Formal}
-use Rattle.lil_types.specs.declared.table.TypeForm.{TypeForm}
+use Rattle.lil_base.specs.declared.fault.{Place.Place, FaultKind.TheVariants.{ResultType, Twice}}
+use Rattle.lil_text.specs.declared.tree.{Qualident.Qualident, Ident.Ident}
+use Rattle.lil_language.specs.declared.{unit.Formal.Formal, tree.{Expr.Expr, Range.{Range, out-Range}}}
+use Rattle.lil_types.specs.{declared.table.{TypeForm.TypeForm, Span.Span, Field.Field}, Types.Table}
 use Rattle.lil_types.specs.declared.table.TypeForm.TheVariants as form
-use Rattle.lil_types.specs.Types.{Table}
 use Rattle.lil_report.specs.Told.{Row, row, after, walk}
-use Rattle.lil_scope.specs.declared.env.Env.{Env}
+use Rattle.lil_scope.specs.{declared.env.Env.Env, Names.same}
 use Rattle.lil_kinds.specs.Forms.{array_parts, is_record}
-use Rattle.lil_check_value.specs.Looks.{type_named}
-use Rattle.lil_check_type.specs.declared.named.NamedType.{NamedType}
-use Rattle.lil_check_type.specs.declared.named.NamedType.TheVariants.{Absent, Given, Faulty}
-use Rattle.lil_check_type.specs.declared.routines.Parameters.{Parameters}
-use Rattle.lil_check_type.specs.Made.{Made, form_node, ordinal_node}
-use Rattle.lil_text.specs.declared.tree.Ident.{Ident}
-use Rattle.lil_language.specs.declared.tree.Expr.{Expr}
-use Rattle.lil_language.specs.declared.tree.Range.{Range, out-Range}
-use Rattle.lil_types.specs.declared.table.Span.{Span}
-use Rattle.lil_types.specs.declared.table.Field.{Field}
-use Rattle.lil_scope.specs.Names.{same}
-use Rattle.lil_check_value.specs.Values.{means}
-use Rattle.lil_check_type.specs.declared.records.Fields.{Fields}
-use Rattle.lil_check_type.specs.declared.bounds.Bound.{Bound}
-use Rattle.lil_check_type.specs.Bounds.{bound_of, label_node, labels_node}
+use Rattle.lil_check_value.specs.{Looks.type_named, Values.means}
+use Rattle.lil_check_type.specs.{declared.{named.NamedType.{NamedType, TheVariants.{Absent, Given, Faulty}}, routines.Parameters.Parameters, records.Fields.Fields, bounds.Bound.Bound}, Made.{Made, form_node, ordinal_node}, Bounds.{bound_of, label_node, labels_node}}
 
 -- ---- parameters and results of procedures
 

@@ -1,27 +1,17 @@
 -- Types that may be an index or a set's base.
 use Rattle.std.specs.Prelude.{ℕ, ◌+◌, ◌==◌, nat_lt, pos, int_lt, Bool, false, not, ◌&&◌, List, [], ◌∷◌, length, map, Option, Some, None, if◌then◌else◌}
-use Rattle.lil_base.specs.declared.fault.Place.{Place}
-use Rattle.lil_base.specs.declared.fault.FaultKind.TheVariants.{SetBase, EmptyRange}
-use Rattle.lil_text.specs.declared.tree.Ident.{Ident}
-use Rattle.lil_text.specs.declared.tree.Qualident.{Qualident}
+use Rattle.lil_base.specs.declared.fault.{Place.Place, FaultKind.TheVariants.{SetBase, EmptyRange}}
+use Rattle.lil_text.specs.declared.tree.{Ident.Ident, Qualident.Qualident}
 use Rattle.lil_language.specs.declared.unit.Simple.{Simple}
 use Rattle.lil_language.specs.declared.unit.Simple.TheVariants as simple
-use Rattle.lil_types.specs.declared.table.Span.{Span}
-use Rattle.lil_types.specs.declared.table.TypeForm.{TypeForm}
+use Rattle.lil_types.specs.{declared.table.{Span.Span, TypeForm.TypeForm}, Types.Table}
 use Rattle.lil_types.specs.declared.table.TypeForm.TheVariants as form
-use Rattle.lil_types.specs.Types.{Table}
 use Rattle.lil_report.specs.Told.{Row, row, after, walk}
 use Rattle.lil_scope.specs.declared.thing.Kind.TheVariants as k
-use Rattle.lil_scope.specs.declared.thing.Thing.{Thing}
+use Rattle.lil_scope.specs.{declared.{thing.Thing.Thing, env.Env.Env}, Names.bind}
 use Rattle.lil_scope.specs.declared.thing.Thing.TheVariants as t
-use Rattle.lil_scope.specs.declared.env.Env.{Env}
-use Rattle.lil_scope.specs.Names.{bind}
-use Rattle.lil_check_value.specs.Looks.{type_named}
-use Rattle.lil_check_value.specs.Values.{means}
-use Rattle.lil_check_type.specs.declared.named.NamedType.{NamedType}
-use Rattle.lil_check_type.specs.declared.named.NamedType.TheVariants.{Absent, Given, Faulty}
-use Rattle.lil_check_type.specs.Made.{Made, type_node, form_node, span_of, ordinal_node}
-use Rattle.lil_check_type.specs.Bounds.{bound_of, range_node}
+use Rattle.lil_check_value.specs.{Looks.type_named, Values.means}
+use Rattle.lil_check_type.specs.{declared.named.NamedType.{NamedType, TheVariants.{Absent, Given, Faulty}}, Made.{Made, type_node, form_node, span_of, ordinal_node}, Bounds.{bound_of, range_node}}
 
 -- ---- enumerations: each constant is bound in the block at hand, behind itself
 abbrev pub names_of : List Ident → List (List ℕ)

@@ -1,30 +1,17 @@
 -- What types mean: their numbers, what is declared behind them, and the tests of their nodes.
-use Rattle.std.specs.Prelude.{ℕ, ◌==◌, ◌||◌, List, [], ◌∷◌, ◌++◌, reverse, Option, Some, None, if◌then◌else◌}
+use Rattle.std.specs.Prelude.{◌≡◌, ℕ, ◌==◌, ◌||◌, List, [], ◌∷◌, ◌++◌, reverse, Option, Some, None, if◌then◌else◌}
 use Rattle.lil_base.specs.declared.fault.Place.{Place}
-use Rattle.lil_text.specs.declared.tree.Ident.{Ident}
-use Rattle.lil_text.specs.declared.tree.Qualident.{Qualident}
-use Rattle.lil_language.specs.declared.unit.Simple.{Simple}
+use Rattle.lil_text.specs.declared.tree.{Ident.Ident, Qualident.Qualident}
+use Rattle.lil_language.specs.declared.unit.{Simple.Simple, Sort.Sort, FieldList.{FieldList, TheOpen.{FieldList-F, Sort-F, Variant-F}, TheFolds.{fold-FieldList, fold-Sort, fold-Variant, map-FieldList, map-Sort, map-Variant, fold-roll-FieldList, fold-roll-Sort, fold-roll-Variant}, TheViews.{roll-FieldList, roll-Sort}}, Variant.{Variant, roll-Variant}}
 use Rattle.lil_language.specs.declared.unit.Simple.TheVariants as simple
-use Rattle.lil_language.specs.declared.unit.Sort.{Sort}
-use Rattle.lil_language.specs.declared.unit.FieldList.{FieldList}
-use Rattle.lil_language.specs.declared.unit.Variant.{Variant}
 use Rattle.lil_language.specs.declared.unit.FieldList.TheOpen as o
-use Rattle.lil_language.specs.declared.unit.FieldList.TheOpen.{FieldList-F, Sort-F, Variant-F}
-use Rattle.lil_language.specs.declared.unit.FieldList.TheFolds.{fold-FieldList, fold-Sort, fold-Variant}
-use Rattle.lil_types.specs.declared.table.Span.{Span}
-use Rattle.lil_types.specs.declared.table.TypeForm.{TypeForm}
+use Rattle.lil_types.specs.{declared.table.{Span.Span, TypeForm.TypeForm}, Types.{proc, process}}
 use Rattle.lil_types.specs.declared.table.TypeForm.TheVariants as form
-use Rattle.lil_types.specs.Types.{proc, process}
 use Rattle.lil_report.specs.Told.{Row, after, walk}
-use Rattle.lil_scope.specs.declared.env.Env.{Env}
-use Rattle.lil_scope.specs.declared.thing.Thing.{Thing}
+use Rattle.lil_scope.specs.{declared.{env.Env.Env, thing.Thing.Thing}, Names.find}
 use Rattle.lil_scope.specs.declared.thing.Thing.TheVariants as t
-use Rattle.lil_scope.specs.Names.{find}
 use Rattle.lil_check_value.specs.Looks.{not_built}
-use Rattle.lil_check_type.specs.declared.records.Fields.{Fields}
-use Rattle.lil_check_type.specs.Made.{Made, type_node, form_node}
-use Rattle.lil_check_type.specs.Simple.{simple_means, index_means, set_means}
-use Rattle.lil_check_type.specs.Records.{no_fields, field_step, tag_means, label_step, record_form, procedure_means}
+use Rattle.lil_check_type.specs.{declared.records.Fields.Fields, Made.{Made, type_node, form_node}, Simple.{simple_means, index_means, set_means}, Records.{no_fields, field_step, tag_means, label_step, record_form, procedure_means}}
 
 -- ---- arrays: those over the last indexes are the elements of those before
 abbrev pub index_step : Env × List (Option ℕ) → Simple → (Env × List (Option ℕ)) × List Row
@@ -32,8 +19,7 @@ index_step s x = after (index_means s.0 x) (λ m. ((m.0, s.1 ++ m.1 ∷ []), [])
 
 abbrev pub array_form : Option ℕ → Option ℕ → Option TypeForm
 array_form (Some i) (Some n) = Some (form.Array i n)
-array_form (Some i) None = None
-array_form None n = None
+array_form _ _ = None
 
 abbrev pub array_step : Place → Made → Option ℕ → Made × List Row
 array_step p m i = form_node m.0 p (array_form i m.1)
@@ -69,8 +55,7 @@ bare_by (Some owner) i = None
 -- the name that a type is, if it is one alone
 abbrev pub bare_name : Simple → Option Ident
 bare_name (simple.Named q) = bare_by q.owner q.name
-bare_name (simple.Enumeration p is) = None
-bare_name (simple.Subrange p q x y) = None
+bare_name _ = None
 
 -- ---- what a type means, what fields add to those before them, and what a variant adds to those before it and to the labels
 pub record Sense : Type 0 where
@@ -129,6 +114,19 @@ fields_sense = fold-FieldList FieldSense Sense VariantSense field_layer sort_lay
 
 unfoldable pub variant_sense : Variant → VariantSense
 variant_sense = fold-Variant FieldSense Sense VariantSense field_layer sort_layer variant_layer
+
+-- each as its layer says
+pub fields_rolled : (x : FieldList-F FieldList Sort Variant) → fields_sense (roll-FieldList x) ≡ field_layer (map-FieldList FieldList Sort Variant FieldSense Sense VariantSense fields_sense sense variant_sense x)
+unfolding sense fields_sense variant_sense
+fields_rolled = fold-roll-FieldList FieldSense Sense VariantSense field_layer sort_layer variant_layer
+
+pub sort_rolled : (x : Sort-F FieldList Sort Variant) → sense (roll-Sort x) ≡ sort_layer (map-Sort FieldList Sort Variant FieldSense Sense VariantSense fields_sense sense variant_sense x)
+unfolding sense fields_sense variant_sense
+sort_rolled = fold-roll-Sort FieldSense Sense VariantSense field_layer sort_layer variant_layer
+
+pub variant_rolled : (x : Variant-F FieldList Sort Variant) → variant_sense (roll-Variant x) ≡ variant_layer (map-Variant FieldList Sort Variant FieldSense Sense VariantSense fields_sense sense variant_sense x)
+unfolding sense fields_sense variant_sense
+variant_rolled = fold-roll-Variant FieldSense Sense VariantSense field_layer sort_layer variant_layer
 
 abbrev pub sort_means : Env → Sort → Made × List Row
 sort_means e x = (sense x).means e

@@ -20,13 +20,11 @@ pub struct Bound {
 pub fn bound_of(a: Option<Found>) -> Option<Bound>
     ensures { result ≡ spec.bound_of a }
 {
-    match a {
-        Some(a) => Some(Bound {
-            kind: a.kind,
-            first: a.first,
-        }),
-        None => None,
-    }
+    let a = a?;
+    Some(Bound {
+        kind: a.kind,
+        first: a.first,
+    })
 }
 
 fn whole_type(value: i32) -> TypeId
@@ -43,10 +41,8 @@ fn type_below(t: &TypeTable, of: Kind) -> Option<TypeId>
         Kind::Whole(value) => Some(whole_type(value)),
         Kind::Scalar(n, _) => Some(base(t, n)),
         Kind::Chars(_) => Some(CHAR),
-        Kind::Nil => None,
         Kind::Of(n) => Some(base(t, n)),
-        Kind::Open(_) => None,
-        Kind::Routine(_) => None,
+        _ => None,
     }
 }
 
@@ -81,8 +77,7 @@ fn is_outside(t: &TypeTable, named: NamedType, b: Kind) -> bool
 {
     match named {
         NamedType::Given(n) => misses(t, n, b),
-        NamedType::Absent => false,
-        NamedType::Faulty => false,
+        _ => false,
     }
 }
 
@@ -114,15 +109,12 @@ fn is_empty(t: &TypeTable, a: Kind, b: Kind) -> bool
 fn span_by(low: Option<i32>, high: Option<i32>) -> Option<Span>
     ensures { result ≡ spec.span_by low high }
 {
-    match (low, high) {
-        (Some(low), Some(high)) => {
-            if high < low {
-                None
-            } else {
-                Some(Span { low, high })
-            }
-        }
-        _ => None,
+    let low = low?;
+    let high = high?;
+    if high < low {
+        None
+    } else {
+        Some(Span { low, high })
     }
 }
 
@@ -138,7 +130,6 @@ fn span_between(t: &TypeTable, a: Kind, b: Kind) -> Option<Span>
 }
 
 /// The tests of a bound or label.
-#[tactic(auto, unfolding(lil_report::specs::Told::tell))]
 fn constant_tests(t: &TypeTable, report: &mut Report, of: Option<TypeId>, b: Bound)
     ensures { report.new ≡ tell report.old (spec.constant_rows t.now of b) }
 {
@@ -147,7 +138,6 @@ fn constant_tests(t: &TypeTable, report: &mut Report, of: Option<TypeId>, b: Bou
 }
 
 /// The tests of a bound.
-#[tactic(auto, unfolding(lil_report::specs::Told::tell))]
 fn bound_tests(t: &TypeTable, report: &mut Report, named: NamedType, of: Option<TypeId>, b: Bound)
     ensures { report.new ≡ tell report.old (spec.bound_rows t.now named of b) }
 {
@@ -164,10 +154,7 @@ fn bound_right(t: &TypeTable, named: NamedType, of: Option<TypeId>, b: Kind) -> 
 fn range_by(of: Option<TypeId>, span: Option<Span>) -> Option<TypeForm>
     ensures { result ≡ spec.range_by of span }
 {
-    match (of, span) {
-        (Some(n), Some(span)) => Some(TypeForm::Subrange(n, span)),
-        _ => None,
-    }
+    Some(TypeForm::Subrange(of?, span?))
 }
 
 fn range_form(
@@ -187,7 +174,6 @@ fn range_form(
 }
 
 /// The tests of a subrange.
-#[tactic(auto, unfolding(lil_report::specs::Told::tell))]
 fn range_tests(
     t: &TypeTable,
     report: &mut Report,
@@ -221,7 +207,6 @@ fn range_over(
 }
 
 /// A subrange, if its base and bounds have no fault.
-#[tactic(auto, unfolding(lil_report::specs::Told::tell))]
 pub fn range(
     t: &TypeTable,
     report: &mut Report,
@@ -233,13 +218,9 @@ pub fn range(
     ensures { Said (spec.range_node t.now place named a b) report.old result report.new }
 {
     match (named, a, b) {
-        (NamedType::Faulty, _, _) => None,
         (NamedType::Absent, Some(a), Some(b)) => range_over(t, report, place, named, a, b),
-        (NamedType::Absent, Some(_), None) => None,
-        (NamedType::Absent, None, _) => None,
         (NamedType::Given(_), Some(a), Some(b)) => range_over(t, report, place, named, a, b),
-        (NamedType::Given(_), Some(_), None) => None,
-        (NamedType::Given(_), None, _) => None,
+        _ => None,
     }
 }
 
@@ -288,8 +269,7 @@ pub fn label(
             constant_tests(t, report, tag, a);
             let span = span_between(t, a.kind, a.kind);
             report.note(stands_before(before, span), a.first, FaultKind::LabelTwice);
-            add_span(before, span)?;
-            Ok(())
+            add_span(before, span)
         }
         _ => Ok(()),
     }
@@ -314,8 +294,7 @@ pub fn labels(
             let span = span_between(t, a.kind, b.kind);
             report.note(stands_before(before, span), a.first, FaultKind::LabelTwice);
             report.note(is_empty(t, a.kind, b.kind), a.first, FaultKind::EmptyRange);
-            add_span(before, span)?;
-            Ok(())
+            add_span(before, span)
         }
         _ => Ok(()),
     }

@@ -1,5 +1,5 @@
 //! What types mean, and which faults they have.
-#![tactic(auto)]
+#![tactic(auto, using(crate::specs::Walks::walk_steps), unfolding(lil_report::specs::Told::after, lil_report::specs::Told::tell))]
 
 mod bounds;
 mod made;

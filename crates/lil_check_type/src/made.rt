@@ -24,7 +24,6 @@ pub fn add_type(
 }
 
 /// A type more, if its parts have no fault.
-#[tactic(auto, unfolding(lil_report::specs::Told::tell))]
 pub fn add_form(
     env: &mut Env,
     report: &mut Report,
@@ -34,10 +33,7 @@ pub fn add_form(
     ensures { IfOk result (λ o. Said (spec.form_node env.old place form) report.old (env.new, o) report.new) }
 {
     match form {
-        Some(form) => {
-            let number = add_type(env, report, place, form)?;
-            Ok(number)
-        }
+        Some(form) => add_type(env, report, place, form),
         None => Ok(None),
     }
 }
@@ -46,10 +42,7 @@ pub fn add_form(
 pub fn span_of(t: &TypeTable, n: TypeId) -> Option<Span>
     ensures { result ≡ spec.span_of t.now n }
 {
-    match known(t, n) {
-        Some(facts) => facts.span,
-        None => None,
-    }
+    known(t, n)?.span
 }
 
 /// A type that must be ordinal, at its name.
@@ -62,12 +55,8 @@ pub fn ordinal(
 ) -> Option<TypeId>
     ensures { Said (spec.ordinal_node t.now place sort) report.old result report.new }
 {
-    match sort {
-        Some(n) => {
-            let span = span_of(t, n);
-            report.note(span.is_none(), place, FaultKind::WrongKind);
-            if span.is_some() { Some(n) } else { None }
-        }
-        None => None,
-    }
+    let n = sort?;
+    let span = span_of(t, n);
+    report.note(span.is_none(), place, FaultKind::WrongKind);
+    if span.is_some() { Some(n) } else { None }
 }

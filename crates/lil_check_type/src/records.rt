@@ -86,8 +86,7 @@ fn add_field(
 {
     let twice = has_field(fields.list.as_slice(), &of.name);
     report.note(twice, of.place, FaultKind::Twice);
-    push_field(alloc, fields, &of.name, sort)?;
-    Ok(())
+    push_field(alloc, fields, &of.name, sort)
 }
 
 /// Fields of one type.
@@ -106,7 +105,6 @@ pub fn add_fields(
     Ok(())
 }
 
-#[tactic(auto, unfolding(lil_report::specs::Told::tell))]
 fn tag_field(
     alloc: Global,
     report: &mut Report,
@@ -117,10 +115,7 @@ fn tag_field(
     ensures { IfOk result (λ o. Said (spec.tag_field fields.old name.now sort) report.old fields.new report.new) }
 {
     match name {
-        Some(name) => {
-            add_field(alloc, report, fields, sort, name)?;
-            Ok(())
-        }
+        Some(name) => add_field(alloc, report, fields, sort, name),
         None => {
             fields.right = right_still(fields.right, sort);
             Ok(())
@@ -159,13 +154,9 @@ fn label_rest(
     match high {
         Some(y) => {
             let b = boxed_expression(alloc, env, report, y)?;
-            labels(&env.types, report, tag, before, a, bound_of(b))?;
-            Ok(())
+            labels(&env.types, report, tag, before, a, bound_of(b))
         }
-        None => {
-            label(&env.types, report, tag, before, a)?;
-            Ok(())
-        }
+        None => label(&env.types, report, tag, before, a),
     }
 }
 
@@ -181,8 +172,7 @@ fn one_label(
     ensures { IfOk result (λ o. Said (spec.label_step env.now tag before.old of.now) report.old before.new report.new) }
 {
     let a = expression(alloc, env, report, &of.low)?;
-    label_rest(alloc, env, report, tag, before, bound_of(a), &of.high)?;
-    Ok(())
+    label_rest(alloc, env, report, tag, before, bound_of(a), &of.high)
 }
 
 /// The labels of a variant.

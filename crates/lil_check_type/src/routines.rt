@@ -63,8 +63,7 @@ fn formal(
     ensures { IfOk result (λ o. Said (spec.formal_step env.now parameters.old of.now) report.old parameters.new report.new) }
 {
     let sort = type_named(env, report, &of.sort);
-    add_parameter(parameters, of.by_place, of.open_array, sort)?;
-    Ok(())
+    add_parameter(parameters, of.by_place, of.open_array, sort)
 }
 
 fn formals(
@@ -113,7 +112,6 @@ fn simple_result(
 }
 
 /// The type of a result, if there is one.
-#[tactic(auto, unfolding(lil_report::specs::Told::tell))]
 pub fn result_type(env: &Env, report: &mut Report, of: &Option<Qualident>) -> NamedType
     ensures { Said (spec.result_means env.now of.now) report.old result report.new }
 {
@@ -154,6 +152,5 @@ pub fn procedure(
     let parameters = formals(alloc, env, report, of)?;
     let outcome = result_type(env, report, outcome);
     let form = procedure_form(parameters, outcome);
-    let sort = add_form(env, report, place, form)?;
-    Ok(sort)
+    add_form(env, report, place, form)
 }

@@ -98,7 +98,6 @@ fn given(sort: Option<TypeId>) -> NamedType
 }
 
 /// The base that a subrange names.
-#[tactic(auto, unfolding(lil_report::specs::Told::tell))]
 fn range_base(env: &Env, report: &mut Report, of: &Option<Qualident>) -> NamedType
     ensures { Said (spec.base_means env.now of.now) report.old result report.new }
 {
@@ -113,6 +112,7 @@ fn range_base(env: &Env, report: &mut Report, of: &Option<Qualident>) -> NamedTy
 }
 
 /// What a type that may be an index or a set's base means.
+#[tactic(auto, using(crate::specs::Walks::walk_steps), unfolding(crate::specs::Simple::simple_means, lil_report::specs::Told::after, lil_report::specs::Told::tell))]
 pub fn simple(
     alloc: Global,
     env: &mut Env,
@@ -123,10 +123,13 @@ pub fn simple(
 {
     match of {
         Simple::Named(q) => Ok(type_named(env, report, q)),
-        Simple::Enumeration(place, names) => {
-            let sort = enumeration(alloc, env, report, *place, names.as_slice())?;
-            Ok(sort)
-        }
+        Simple::Enumeration(place, names) => enumeration(
+            alloc,
+            env,
+            report,
+            *place,
+            names.as_slice(),
+        ),
         Simple::Subrange(place, q, x, y) => {
             let named = range_base(env, report, q);
             let a = boxed_expression(alloc, env, report, x)?;
@@ -201,14 +204,10 @@ fn set_base(
 ) -> Option<TypeForm>
     ensures { Said (spec.base_node t.now place sort) report.old result report.new }
 {
-    match sort {
-        Some(n) => {
-            let is = is_short(span_of(t, n));
-            report.note(!is, place, FaultKind::SetBase);
-            if is { Some(TypeForm::SetOf(n)) } else { None }
-        }
-        None => None,
-    }
+    let n = sort?;
+    let is = is_short(span_of(t, n));
+    report.note(!is, place, FaultKind::SetBase);
+    if is { Some(TypeForm::SetOf(n)) } else { None }
 }
 
 /// A set type.
@@ -223,6 +222,5 @@ pub fn set(
 {
     let sort = simple(alloc, env, report, of)?;
     let form = set_base(&env.types, report, simple_first(of), sort);
-    let sort = add_form(env, report, place, form)?;
-    Ok(sort)
+    add_form(env, report, place, form)
 }

@@ -34,10 +34,7 @@ fn indexes(
 fn array_form(index: Option<TypeId>, element: Option<TypeId>) -> Option<TypeForm>
     ensures { result ≡ spec.array_form index element }
 {
-    match (index, element) {
-        (Some(index), Some(element)) => Some(TypeForm::Array(index, element)),
-        _ => None,
-    }
+    Some(TypeForm::Array(index?, element?))
 }
 
 /// The array types over these indexes, the last one first.
@@ -109,10 +106,7 @@ fn waiting(
 fn pointer_form(target: Option<TypeId>) -> Option<TypeForm>
     ensures { result ≡ spec.pointer_form target }
 {
-    match target {
-        Some(target) => Some(TypeForm::Pointer(target)),
-        None => None,
-    }
+    Some(TypeForm::Pointer(target?))
 }
 
 fn bare_by<'a>(owner: &Option<Ident>, name: &'a Ident) -> Option<&'a Ident>
@@ -129,12 +123,12 @@ fn bare_name(of: &Simple) -> Option<&Ident>
 {
     match of {
         Simple::Named(q) => bare_by(&q.owner, &q.name),
-        Simple::Enumeration(_, _) => None,
-        Simple::Subrange(_, _, _, _) => None,
+        _ => None,
     }
 }
 
 /// The name that a type is, if it is one alone.
+#[tactic(auto, using(crate::proofs::Forms::sort_steps), unfolding(lil_report::specs::Told::after, lil_report::specs::Told::tell))]
 fn bare(of: &Sort) -> Option<&Ident>
     ensures { MatchOption result ((spec.sense of.now).name ≡ None) (λ i. (spec.sense of.now).name ≡ Some i.now) }
 {
@@ -150,6 +144,7 @@ fn bare(of: &Sort) -> Option<&Ident>
 
 /// What a type means: its number, None where something in it is wrong.
 #[cycle(sorts)]
+#[tactic(auto, using(crate::proofs::Forms::sort_steps), unfolding(lil_check_value::specs::Looks::not_built, lil_report::specs::Told::after, lil_report::specs::Told::tell))]
 pub fn sort(
     alloc: Global,
     env: &mut Env,
@@ -159,10 +154,7 @@ pub fn sort(
     ensures { IfOk result (λ o. Said (spec.sort_means env.old of.now) report.old (env.new, o) report.new) }
 {
     match of {
-        Sort::Scalar(x) => {
-            let sort = simple(alloc, env, report, x)?;
-            Ok(sort)
-        }
+        Sort::Scalar(x) => simple(alloc, env, report, x),
         Sort::ArrayOf(place, xs, y) => {
             let indexes = indexes(alloc, env, report, xs.as_slice())?;
             let element = sort(alloc, env, report, y.get())?;
@@ -173,18 +165,14 @@ pub fn sort(
             let sort = record_of(alloc, env, report, *place, lists.as_slice())?;
             Ok(sort)
         }
-        Sort::SetOver(place, x) => {
-            let sort = set(alloc, env, report, *place, x)?;
-            Ok(sort)
-        }
+        Sort::SetOver(place, x) => set(alloc, env, report, *place, x),
         Sort::PointerTo(place, y) => {
             let sort = pointer(alloc, env, report, *place, y.get())?;
             Ok(sort)
         }
         Sort::ProcedureOf(place, formals, outcome) => {
             report.note(true, *place, FaultKind::NotBuilt);
-            let sort = procedure(alloc, env, report, *place, formals.as_slice(), outcome)?;
-            Ok(sort)
+            procedure(alloc, env, report, *place, formals.as_slice(), outcome)
         }
     }
 }
@@ -201,14 +189,10 @@ fn pointer(
     ensures { IfOk result (λ o. Said (spec.pointer_means place (spec.sense of.now).name (spec.sense of.now).means env.old) report.old (env.new, o) report.new) }
 {
     match bare(of) {
-        Some(name) => {
-            let sort = waiting(alloc, env, report, place, name)?;
-            Ok(sort)
-        }
+        Some(name) => waiting(alloc, env, report, place, name),
         None => {
             let target = sort(alloc, env, report, of)?;
-            let sort = add_form(env, report, place, pointer_form(target))?;
-            Ok(sort)
+            add_form(env, report, place, pointer_form(target))
         }
     }
 }
@@ -225,8 +209,7 @@ fn record_of(
 {
     let mut fields = Fields::new(alloc);
     each_list(alloc, env, report, &mut fields, of)?;
-    let sort = add_form(env, report, place, record_form(fields))?;
-    Ok(sort)
+    add_form(env, report, place, record_form(fields))
 }
 
 #[cycle(sorts)]
@@ -247,6 +230,7 @@ fn each_list(
 
 /// Fields of one type, or variants.
 #[cycle(sorts)]
+#[tactic(auto, using(crate::proofs::Forms::sort_steps), unfolding(lil_report::specs::Told::after, lil_report::specs::Told::tell))]
 fn list(
     alloc: Global,
     env: &mut Env,
@@ -259,8 +243,7 @@ fn list(
     match of {
         FieldList::Fields(names, x) => {
             let sort = sort(alloc, env, report, x)?;
-            add_fields(alloc, report, fields, sort, names.as_slice())?;
-            Ok(())
+            add_fields(alloc, report, fields, sort, names.as_slice())
         }
         FieldList::Variants(_, name, q, variants, others) => {
             let tag = tag(alloc, env, report, fields, name, q)?;
@@ -296,6 +279,7 @@ fn each_variant(
 }
 
 #[cycle(sorts)]
+#[tactic(auto, using(crate::proofs::Forms::sort_steps), unfolding(lil_report::specs::Told::after, lil_report::specs::Told::tell))]
 fn variant(
     alloc: Global,
     env: &mut Env,
@@ -308,6 +292,5 @@ fn variant(
     ensures { IfOk result (λ o. Said (spec.variant_step tag ((env.old, fields.old), before.old) of.now) report.old ((env.new, fields.new), before.new) report.new) }
 {
     variant_labels(alloc, env, report, tag, before, of.labels.as_slice())?;
-    each_list(alloc, env, report, fields, of.fields.as_slice())?;
-    Ok(())
+    each_list(alloc, env, report, fields, of.fields.as_slice())
 }

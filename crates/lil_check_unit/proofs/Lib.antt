@@ -1,4 +1,4 @@
 mod Limits
-mod ModuleSound
+mod Kept
 mod Right
 mod UnitFaults

@@ -1,45 +1,29 @@
--- A unit in which no test finds a fault has a module.
-use Rattle.std.proofs.Common.{◌≡◌, ◌≤◌, ℕ, zero, suc, Bool, true, false, List, [], ◌∷◌, length, slice_get, Option, Some, None, if◌then◌else◌, inl, inr, refl, sym, ap, subst, ◌∙◌, arith, true≢false}
+-- A unit in which no test finds a fault has a module, and it is sound.
+use Rattle.std.proofs.Common.{◌≡◌, ◌≤◌, ℕ, zero, suc, Bool, true, false, List, [], ◌∷◌, length, slice_get, sum_by, Option, Some, None, if◌then◌else◌, inl, inr, refl, sym, ap, subst, ◌∙◌, arith, true≢false}
 use Rattle.std.specs.Prelude.{◌||◌, ◌-◌, nat_lt, nat_le}
 use Rattle.std.specs.List.{list_any}
-use Rattle.std.proofs.lemmas.Bool.Decides.{nat_tests}
-use Rattle.std.proofs.lemmas.Option.{none-some, same_Some}
-use Rattle.lil_types.specs.Types.{Table}
-use Rattle.lil_types.specs.declared.table.TypeEntry.{TypeEntry}
-use Rattle.lil_types.specs.declared.table.TypeForm.{TypeForm}
-use Rattle.lil_types.specs.declared.table.TypeForm.TheVariants.{Enumeration}
-use Rattle.lil_report.specs.declared.report.Fault.{Fault}
-use Rattle.lil_report.specs.Least.{is_late, now_of, late_of, worse, Reports}
-use Rattle.lil_report.specs.LeastLaws.{reports_tell}
-use Rattle.lil_report.specs.Told.{Row, Stands, tell, after, walk}
-use Rattle.lil_language.specs.declared.unit.Unit.{Unit as Tree}
-use Rattle.lil_resolved.specs.Views.{statements_of}
-use Rattle.lil_resolved.specs.declared.resolved.RStmt.{RStmt}
+use Rattle.std.proofs.lemmas.{Bool.Decides.nat_tests, Option.{none-some, same_Some}}
+use Rattle.lil_types.specs.{Types.Table, declared.table.{TypeEntry.TypeEntry, TypeForm.{TypeForm, TheVariants.Enumeration}}}
+use Rattle.lil_report.specs.{declared.report.Fault.Fault, Least.{is_late, now_of, late_of, worse, Reports}, LeastLaws.reports_tell, Told.{Row, Stands, tell, after, walk}}
+use Rattle.lil_language.specs.declared.{unit.{Unit.Unit as Tree, Decl.Decl}, tree.Stmt.Stmt}
+use Rattle.lil_resolved.specs.{Kinds.{Shape, Scope, all_words, outermost}, Resolved.Resolved, Sound.IsSound, Views.statements_of, declared.resolved.RStmt.RStmt}
 use Rattle.lil_declared.specs.declared.declared.RVar.{RVar}
-use Rattle.lil_shapes.specs.ListLaws.{AllFine}
-use Rattle.lil_shapes.specs.Shaping.{variables_by}
+use Rattle.lil_shapes.specs.{ListLaws.AllFine, Pointers.targets, Shaping.variables_by}
+use Rattle.lil_shapes.specs.Shaping as shaping
+use Rattle.lil_forms.specs.{Scopes.outside, StatementSound.{AllSound, body_sound}}
 use Rattle.lil_scope.specs.declared.env.Env.{Env}
-use Rattle.lil_layout.specs.Data.{data_words}
-use Rattle.lil_language.specs.declared.tree.Stmt.{Stmt}
-use Rattle.lil_language.specs.declared.unit.Decl.{Decl}
-use Rattle.lil_check_stmt.specs.Statements.{statements_mean}
-use Rattle.lil_check_stmt.specs.Stmts.{decl_step, bodies_mean}
-use Rattle.lil_check_stmt.specs.declared.stmt.Stated.{Stated}
-use Rattle.lil_interfaces.specs.declared.surface.Interface.{Interface}
-use Rattle.lil_interfaces.specs.Interfaces.{residents}
-use Rattle.lil_right_type.specs.Right.{Clear, clear_left, clear_right, IsThere}
-use Rattle.lil_right_type.specs.Types.{IsTold}
-use Rattle.lil_right_type.specs.Words.{AreMeasured}
+use Rattle.lil_layout.specs.Data.{variable_words, data_words}
+use Rattle.lil_check_stmt.specs.{Statements.statements_mean, Stmts.{decl_step, bodies_mean}, declared.stmt.Stated.Stated}
+use Rattle.lil_interfaces.specs.{declared.surface.Interface.Interface, Interfaces.residents}
+use Rattle.lil_right_type.specs.{Right.{Clear, clear_left, clear_right, IsThere}, Types.IsTold, Words.AreMeasured}
 use Rattle.lil_right_stmt.specs.Statements.{statements_right}
-use Rattle.lil_right_data.specs.Room.{IsLying, room}
-use Rattle.lil_right_data.specs.Shapes.{shapes_there}
+use Rattle.lil_right_data.specs.{Room.{IsLying, variables_there, room}, Shapes.shapes_there}
 use Rattle.lil_right_sort.specs.Growth.{Few, Declared}
 use Rattle.lil_right_decl.specs.Told.{declared_told}
-use Rattle.lil_check_unit.specs.Modules.{in_no_with, module_words, module_with, with_variables, laid_out, assembled}
-use Rattle.lil_check_unit.specs.Units as units
-use Rattle.lil_check_unit.specs.Units.{first_of, declared, stated, is_long, long_rows, names_fault, worst, late_fault, data_rows, data_fault, unit_fault, imports_fault, program_fault, naming_rows, missing_rows, module_of}
+use Rattle.lil_check_unit.specs.{Modules.{in_no_with, module_words, module_with, with_variables, laid_out, assembled}, Units.{first_of, declared, stated, is_long, long_rows, names_fault, worst, late_fault, data_rows, data_fault, unit_fault, imports_fault, program_fault, naming_rows, missing_rows, module_of}}
 use Rattle.lil_check_unit.specs.UnitLaws.{none_before, none_behind, no_declared, no_stated}
-use Rattle.lil_check_unit.proofs.ModuleSound.{body_is}
+use Rattle.lil_check_unit.specs.Units as units
+use Rattle.lil_check_unit.proofs.Kept.{body_is}
 
 -- ---- no test finds a fault where none is told
 clear_of : (rs : List Row) → tell None rs ≡ None → Clear rs
@@ -99,14 +83,24 @@ are_few t h n e xs at form = by (nat_lt n 16) at
     by false at = short e.form form (not_any (λ (x : TypeEntry). is_long x.form) t h (n - 16) e at)
 
 -- ---- the module
+abbrev pub Meant : Option Resolved → Type 0
+Meant o = (m : Resolved) × (o ≡ Some m) × IsSound m
+
 module _ (t : Table) (told : IsTold t) (words : AreMeasured t) (vs : List RVar) (lie : AllFine (IsLying t) vs) where
-  made : (n : List ℕ) (ss : List RStmt) → data_words t vs [] (Some ss) ≤ 32000 → units.IsThere (assembled t vs n (Some ss))
-  made n ss few =
+  -- what lies in its variables
+  reached : sum_by (variable_words t) vs ≤ 32000 → (shapes ts : List Shape) × (shaping.shapes t ≡ Some shapes) × (variables_by (Some shapes) vs ≡ Some ts) × (all_words ts ≤ sum_by (variable_words t) vs)
+  reached few =
       let all = shapes_there t told words in
-      let r = room t told words vs lie n all.0 ss few in
-      let m = module_with t vs n all.0 r.0 (statements_of ss) in
-      let fits : nat_le (module_words m) 32000 ≡ true = grind (arith, nat_tests, r.2) in
-      (m, ap (λ o. laid_out t vs n o ss) all.1 ∙ ap (λ o. with_variables t vs n all.0 o ss) (ap (λ o. variables_by o vs) (sym all.1) ∙ r.1) ∙ ap (λ c. if c then Some m else None) fits)
+      let v = variables_there t told words vs lie few in
+      (all.0, v.0, all.1, ap (λ o. variables_by o vs) (sym all.1) ∙ v.1, v.2)
+
+  made : (n : List ℕ) (ss : List RStmt) (shapes ts : List Shape) → shaping.shapes t ≡ Some shapes → variables_by (Some shapes) vs ≡ Some ts → all_words ts ≤ sum_by (variable_words t) vs → data_words t vs [] (Some ss) ≤ 32000
+      → AllSound (outermost (targets t shapes) ts) false ss → Meant (assembled t vs n (Some ss))
+  made n ss shapes ts all variables low few sound =
+      let m = module_with t vs n shapes ts (statements_of ss) in
+      let r = room t told words vs lie n shapes ts ss low few in
+      let fits : nat_le (module_words m) 32000 ≡ true = grind (arith, nat_tests, r) in
+      (m, ap (λ o. laid_out t vs n o ss) all ∙ ap (λ o. with_variables t vs n shapes o ss) variables ∙ ap (λ c. if c then Some m else None) fits, body_sound (outermost (targets t shapes) ts) false ss sound)
 
 at_most : (n : ℕ) → nat_lt 32000 n ≡ false → n ≤ 32000
 at_most n h = grind (arith, nat_tests, h)
@@ -116,6 +110,10 @@ fewer : (t : Table) (vs : List RVar) (ps : List (Option (List RStmt))) (body : O
 unfolding data_words
 fewer t vs ps body h = omega (arith, h)
 
+variables_few : (t : Table) (vs : List RVar) (ps : List (Option (List RStmt))) (body : Option (List RStmt)) → data_words t vs ps body ≤ 32000 → sum_by (variable_words t) vs ≤ 32000
+unfolding data_words
+variables_few t vs ps body h = omega (arith, h)
+
 body_clear : (e : Env) (ds : List Decl) (ss : List Stmt) → Clear (bodies_mean e ds ss).1 → Clear (statements_mean e false ss).1
 unfolding bodies_mean after
 body_clear e ds ss clear = clear_left (statements_mean e false ss).1 [] (clear_right (walk (decl_step e) [] ds).1 _ clear)
@@ -124,12 +122,12 @@ module _ (u : Tree) where
   abbrev now : Env
   now = (declared residents u).0
 
-  right_there : {e : Env} {b : Stated} {o : Option Fault} → e ≡ in_no_with now → b ≡ (stated residents u).0 → worst u residents ≡ None → o ≡ late_fault u residents → data_fault u e b o ≡ None → units.IsThere (assembled e.types e.variables u.head.name.name b.body)
+  right_there : {e : Env} {b : Stated} {o : Option Fault} → e ≡ in_no_with now → b ≡ (stated residents u).0 → worst u residents ≡ None → o ≡ late_fault u residents → data_fault u e b o ≡ None → Meant (assembled e.types e.variables u.head.name.name b.body)
   unfolding worst late_fault declared
   right_there {e} {b} {o} there body right late none =
-      subst (λ (e : Env). units.IsThere (assembled e.types e.variables u.head.name.name b.body)) (sym there)
-      (subst (λ (b : Stated). units.IsThere (assembled now.types now.variables u.head.name.name b.body)) (sym body)
-      (by (stated residents u).0.body (subst (IsThere (λ ss. Unit {0})) (sym stated_body) body_there) few))
+      subst (λ (e : Env). Meant (assembled e.types e.variables u.head.name.name b.body)) (sym there)
+      (subst (λ (b : Stated). Meant (assembled now.types now.variables u.head.name.name b.body)) (sym body)
+      (by (stated residents u).0.body (subst (IsThere (AllSound scope false)) (sym stated_body) body_there) few))
     where
       no_late : late_fault u residents ≡ None
       no_late = sym late ∙ none_behind (tell None (data_rows u e b)) o none
@@ -149,26 +147,34 @@ module _ (u : Tree) where
       stated_body : (stated residents u).0.body ≡ (statements_mean (in_no_with now) false u.body).0
       stated_body = body_is (in_no_with now) u.decls u.body
 
-      body_there : IsThere (λ ss. Unit {0}) (statements_mean (in_no_with now) false u.body).0
-      body_there = statements_right (in_no_with now) (record { types = is_declared.told.types; words = is_declared.told.words; names = is_declared.told.names }) is_declared.procedure false u.body (body_clear (in_no_with now) u.decls u.body stated_clear)
-
       few : data_words now.types now.variables (stated residents u).0.procedures (stated residents u).0.body ≤ 32000
       few = at_most _ (subst (λ (b : Stated). nat_lt 32000 (data_words now.types now.variables b.procedures b.body) ≡ false) body
           (subst (λ (e : Env). nat_lt 32000 (data_words e.types e.variables b.procedures b.body) ≡ false) there (clear_of (data_rows u e b) (none_before (tell None (data_rows u e b)) o none)).0))
 
-      by : (o : Option (List RStmt)) → IsThere (λ ss. Unit {0}) o → data_words now.types now.variables (stated residents u).0.procedures o ≤ 32000 → units.IsThere (assembled now.types now.variables u.head.name.name o)
+      lies : (shapes ts : List Shape) × (shaping.shapes now.types ≡ Some shapes) × (variables_by (Some shapes) now.variables ≡ Some ts) × (all_words ts ≤ sum_by (variable_words now.types) now.variables)
+      lies = reached now.types is_declared.told.types is_declared.told.words now.variables is_declared.variables (variables_few now.types now.variables _ _ few)
+
+      scope : Scope
+      scope = outermost (targets now.types lies.0) lies.1
+
+      body_there : IsThere (AllSound scope false) (statements_mean (in_no_with now) false u.body).0
+      body_there = statements_right (in_no_with now) scope (outside now.types now.variables lies.0 lies.1 lies.2 lies.3) (record { types = is_declared.told.types; words = is_declared.told.words; names = is_declared.told.names })
+          is_declared.procedure false u.body (body_clear (in_no_with now) u.decls u.body stated_clear)
+
+      by : (o : Option (List RStmt)) → IsThere (AllSound scope false) o → data_words now.types now.variables (stated residents u).0.procedures o ≤ 32000 → Meant (assembled now.types now.variables u.head.name.name o)
       by None h few = absurd h
-      by (Some ss) h few = made now.types is_declared.told.types is_declared.told.words now.variables is_declared.variables u.head.name.name ss (fewer now.types now.variables (stated residents u).0.procedures (Some ss) few)
+      by (Some ss) h few =
+          made now.types is_declared.told.types is_declared.told.words now.variables is_declared.variables u.head.name.name ss lies.0 lies.1 lies.2 lies.3 lies.4 (fewer now.types now.variables (stated residents u).0.procedures (Some ss) few) h
 
   module _ {is : List Interface} (same : is ≡ residents) where
     pub made_there : {e : Env} {b : Stated} {o : Option Fault} → e ≡ in_no_with (declared is u).0 → b ≡ (stated is u).0 → worst u is ≡ None → o ≡ late_fault u is → data_fault u e b o ≡ None
-        → units.IsThere (assembled e.types e.variables u.head.name.name b.body)
+        → Meant (assembled e.types e.variables u.head.name.name b.body)
     made_there there body right late none =
         right_there (there ∙ ap (λ is. in_no_with (declared is u).0) same) (body ∙ ap (λ is. (stated is u).0) same) (ap (worst u) (sym same) ∙ right) (late ∙ ap (late_fault u) same) none
 
     pub unit_there : unit_fault u is ≡ None → units.IsThere (module_of u is)
     unfolding unit_fault module_of
-    unit_there h = made_there refl refl (none_before (worst u is) _ h) refl (none_behind (worst u is) _ h)
+    unit_there h = let m = made_there refl refl (none_before (worst u is) _ h) refl (none_behind (worst u is) _ h) in (m.0, m.1)
 
 pub program_there : (file : List ℕ) (u : Tree) → program_fault file u ≡ None → units.IsThere (module_of u residents)
 unfolding program_fault imports_fault

@@ -2,24 +2,14 @@
 use Rattle.std.proofs.Common.{◌≡◌, ℕ, ◌+◌, ◌<◌, ◌≤◌, List, [], ◌∷◌, ◌++◌, Option, Some, None, length, get_or, drop, subst, sym, ap, ◌∙◌, refl}
 use Rattle.std.proofs.lemmas.List.{at_drop_more, at_drop_all}
 use Rattle.lil_text.specs.declared.tree.Ident.{Ident}
-use Rattle.lil_language.specs.declared.unit.Import.{Import}
-use Rattle.lil_report.specs.declared.report.Fault.{Fault}
-use Rattle.lil_report.specs.Least.{now_of, late_of, when, worse, Reports}
-use Rattle.lil_report.specs.LeastLaws.{reports_tell}
-use Rattle.lil_report.specs.Told.{Said, Stands, tell}
-use Rattle.lil_report.specs.Laws.{said_after, tell_append}
+use Rattle.lil_language.specs.declared.unit.{Import.Import, Unit.Unit as Tree}
+use Rattle.lil_report.specs.{declared.report.Fault.Fault, Least.{now_of, late_of, when, worse, Reports}, LeastLaws.reports_tell, Told.{Said, Stands, tell}, Laws.{said_after, tell_append}}
 use Rattle.lil_resolved.specs.Resolved.{Resolved}
 use Rattle.lil_scope.specs.declared.env.Env.{Env}
 use Rattle.lil_check_decl.specs.Decls.{decls_mean}
-use Rattle.lil_check_stmt.specs.Stmts.{bodies_mean}
-use Rattle.lil_check_stmt.specs.declared.stmt.Stated.{Stated}
-use Rattle.lil_interfaces.specs.declared.surface.Interface.{Interface}
-use Rattle.lil_interfaces.specs.declared.importing.Imported.{Imported}
-use Rattle.lil_interfaces.specs.Interfaces.{residents}
-use Rattle.lil_interfaces.specs.Imports.{nothing_imported, imports_mean, exports_mean}
-use Rattle.lil_check_unit.specs.Modules.{in_no_with, assembled}
-use Rattle.lil_check_unit.specs.Units.{first_of, declared, stated, module_of, worst, late_fault, data_fault, names_fault, unit_fault, imports_fault, program_fault, naming_rows, missing_row, missing_names, missing_by, missing_rows, data_rows, HasInterfaces}
-use Rattle.lil_language.specs.declared.unit.Unit.{Unit as Tree}
+use Rattle.lil_check_stmt.specs.{Stmts.bodies_mean, declared.stmt.Stated.Stated}
+use Rattle.lil_interfaces.specs.{declared.{surface.Interface.Interface, importing.Imported.Imported}, Interfaces.residents, Imports.{nothing_imported, imports_mean, exports_mean}}
+use Rattle.lil_check_unit.specs.{Modules.{in_no_with, assembled}, Units.{first_of, declared, stated, module_of, worst, late_fault, data_fault, names_fault, unit_fault, imports_fault, program_fault, naming_rows, missing_row, missing_names, missing_by, missing_rows, data_rows, HasInterfaces}}
 
 module _ (u : Tree) (is : List Interface) where
   pub is_declared : {s s' : Imported} {xs : List Import} {e f : Env} {r a b c : Option Fault} → s ≡ nothing_imported → xs ≡ u.head.imports → Said (imports_mean is s xs) r s' a → Said (decls_mean s'.env u.decls) a e b

@@ -2,15 +2,9 @@
 use Rattle.std.specs.Prelude.{ℕ, ◌+◌, nat_le, List, [], length, map, Option, Some, None, if◌then◌else◌}
 use Rattle.lil_types.specs.Types.{Table}
 use Rattle.lil_declared.specs.declared.declared.RVar.{RVar}
-use Rattle.lil_resolved.specs.Resolved.{Statements, Resolved}
-use Rattle.lil_resolved.specs.Kinds.{Shape, all_words}
-use Rattle.lil_resolved.specs.Sizes.{module_strings}
-use Rattle.lil_resolved.specs.Views.{statements_of}
-use Rattle.lil_resolved.specs.declared.resolved.RStmt.{RStmt}
+use Rattle.lil_resolved.specs.{Resolved.{Statements, Resolved}, Kinds.{Shape, all_words}, Sizes.module_strings, Views.statements_of, declared.resolved.RStmt.RStmt}
 use Rattle.lil_scope.specs.declared.env.Env.{Env}
-use Rattle.lil_shapes.specs.Measured.{variable_name}
-use Rattle.lil_shapes.specs.Pointers.{targets}
-use Rattle.lil_shapes.specs.Shaping.{shapes, variables_by}
+use Rattle.lil_shapes.specs.{Measured.variable_name, Pointers.targets, Shaping.{shapes, variables_by}}
 
 -- the statements of a block stand in no WITH
 abbrev pub in_no_with : Env → Env

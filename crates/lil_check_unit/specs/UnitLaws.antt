@@ -1,11 +1,7 @@
 -- The fault that is told of a unit is the least one of the first class that has any.
 use Rattle.std.proofs.Common.{◌≡◌, ℕ, List, [], ◌∷◌, ◌++◌, Option, Some, None, refl, ap, sym, subst, inl, inr}
-use Rattle.lil_report.specs.declared.report.Fault.{Fault}
-use Rattle.lil_report.specs.Least.{now_of, Reports}
-use Rattle.lil_report.specs.Told.{Stands, tell}
-use Rattle.lil_report.specs.LeastLaws.{reports_tell, reports_now, reports_late, reports_worse}
-use Rattle.lil_interfaces.specs.declared.surface.Interface.{Interface}
-use Rattle.lil_interfaces.specs.Interfaces.{residents}
+use Rattle.lil_report.specs.{declared.report.Fault.Fault, Least.{now_of, Reports}, Told.{Stands, tell}, LeastLaws.{reports_tell, reports_now, reports_late, reports_worse}}
+use Rattle.lil_interfaces.specs.{declared.surface.Interface.Interface, Interfaces.residents}
 use Rattle.lil_check_unit.specs.Units.{first_of, Speaks, declared, stated, worst, data_fault, unit_fault, imports_fault, program_fault, late_fault, naming_rows, missing_rows, long_rows, names_fault, data_rows, Now, Late, LateInUnit, ClassesOfUnit, ClassesOfProgram}
 use Rattle.lil_language.specs.declared.unit.Unit.{Unit as Tree}
 

@@ -1,30 +1,19 @@
 -- A unit as a whole: what it is resolved to, and which fault speaks.
 use Rattle.std.specs.Prelude.{◌≡◌, ◌⊎◌, ℕ, nat_lt, length, Bool, true, false, not, ◌||◌, is_none, List, [], ◌∷◌, ◌++◌, Option, Some, None, codes}
 use Rattle.std.specs.List.{list_any}
-use Rattle.lil_base.specs.declared.fault.FaultKind.TheVariants.{DataTooLong, ReservedModule, FileName, UnitKind, NotBuilt}
-use Rattle.lil_base.specs.declared.fault.SourceFault.{SourceFault}
-use Rattle.lil_base.specs.Faults.{fault}
+use Rattle.lil_base.specs.{declared.fault.{FaultKind.TheVariants.{DataTooLong, ReservedModule, FileName, UnitKind, NotBuilt}, SourceFault.SourceFault}, Faults.fault}
 use Rattle.lil_text.specs.declared.tree.Ident.{Ident}
 use Rattle.lil_language.specs.declared.unit.UnitKind.TheVariants as kind
-use Rattle.lil_language.specs.declared.unit.Import.{Import}
-use Rattle.lil_types.specs.declared.table.TypeForm.{TypeForm}
-use Rattle.lil_types.specs.declared.table.TypeForm.TheVariants.{Enumeration}
-use Rattle.lil_report.specs.declared.report.Fault.{Fault}
-use Rattle.lil_report.specs.Least.{number, is_late, now_of, late_of, worse, IsLeast}
-use Rattle.lil_report.specs.Told.{Row, row, Stands, after, tell}
+use Rattle.lil_language.specs.declared.unit.{Import.Import, Unit.Unit as Tree, UnitKind.UnitKind as Sort}
+use Rattle.lil_types.specs.declared.table.TypeForm.{TypeForm, TheVariants.Enumeration}
+use Rattle.lil_report.specs.{declared.report.Fault.Fault, Least.{number, is_late, now_of, late_of, worse, IsLeast}, Told.{Row, row, Stands, after, tell}}
 use Rattle.lil_resolved.specs.Resolved.{Resolved}
-use Rattle.lil_scope.specs.declared.env.Env.{Env}
-use Rattle.lil_scope.specs.Names.{same}
+use Rattle.lil_scope.specs.{declared.env.Env.Env, Names.same}
 use Rattle.lil_layout.specs.Data.{data_words}
 use Rattle.lil_check_decl.specs.Decls.{decls_mean}
-use Rattle.lil_check_stmt.specs.Stmts.{bodies_mean}
-use Rattle.lil_check_stmt.specs.declared.stmt.Stated.{Stated}
-use Rattle.lil_interfaces.specs.declared.surface.Interface.{Interface}
-use Rattle.lil_interfaces.specs.Interfaces.{named, residents}
-use Rattle.lil_interfaces.specs.Imports.{nothing_imported, imports_mean, exports_mean}
+use Rattle.lil_check_stmt.specs.{Stmts.bodies_mean, declared.stmt.Stated.Stated}
+use Rattle.lil_interfaces.specs.{declared.surface.Interface.Interface, Interfaces.{named, residents}, Imports.{nothing_imported, imports_mean, exports_mean}}
 use Rattle.lil_check_unit.specs.Modules.{in_no_with, assembled}
-use Rattle.lil_language.specs.declared.unit.Unit.{Unit as Tree}
-use Rattle.lil_language.specs.declared.unit.UnitKind.{UnitKind as Sort}
 
 -- ---- classes: the first one that has a fault speaks
 abbrev pub first_of : Option Fault → Option Fault → Option Fault

@@ -1,10 +1,8 @@
 ghost use Rattle.std.specs.Prelude.{◌≡◌, ◌≤◌, ◌∷◌, [], Err, IfOk, None, Some, is_none};
 ghost use Rattle.lil_base.specs.declared.fault.SourceFault.{SourceFault as Told};
 ghost use Rattle.lil_text.specs.declared.stop.ReadStop.TheVariants as stop;
-ghost use Rattle.lil_report.specs.declared.report.Fault.{Fault as Found};
-ghost use Rattle.lil_report.specs.Told.{tell};
-ghost use Rattle.lil_resolved.specs.Sound.{IsSound};
-ghost use Rattle.lil_resolved.specs.Views.{module_of, IsMeasured};
+ghost use Rattle.lil_report.specs.{declared.report.Fault.Fault as Found, Told.tell};
+ghost use Rattle.lil_resolved.specs.{Sound.IsSound, Views.{module_of, IsMeasured}};
 ghost use Rattle.lil_interfaces.specs.Interfaces.{named, residents};
 ghost use Rattle.lil_check_stmt.specs.Whole.{extent, text_extent};
 ghost use Rattle.lil_check_unit.specs.Modules.{module_words};

@@ -1,41 +1,24 @@
 -- What each form of expression, selector, designator, operation and element means, from what its parts mean.
 use Rattle.std.proofs.Common.{◌≡◌, ◌∷◌, ◌++◌, ℕ, Bool, false, List, [], Option, Some, None, Result, Ok, IfOk, pos, subst, ap, ◌∙◌, ◌≢◌, length, true, map, refl, sym}
 use Rattle.std.proofs.lemmas.Result.{IfOk-at_ok}
-use Rattle.lil_base.specs.declared.fault.Place.{Place}
-use Rattle.lil_base.specs.declared.operator.OneOp.{OneOp}
-use Rattle.lil_text.specs.declared.tree.Ident.{Ident}
-use Rattle.lil_text.specs.declared.tree.Qualident.{Qualident}
-use Rattle.lil_language.specs.declared.tree.Expr.{Expr, out-Expr}
+use Rattle.lil_base.specs.declared.{fault.Place.Place, operator.OneOp.OneOp}
+use Rattle.lil_text.specs.declared.tree.{Ident.Ident, Qualident.Qualident}
+use Rattle.lil_language.specs.declared.tree.{Expr.{Expr, out-Expr, TheOpen.{Expr-F, Selector-F, Range-F}}, Selector.Selector, Designator.{Designator, out-Designator}, Operation.{Operation, out-Operation}, Range.{Range, out-Range, roll-Range}}
+use Rattle.lil_language.specs.declared.tree.Expr.{TheFolds.{map-Expr, map-Selector, fold-roll-Expr, fold-roll-Selector, fold_out-Designator, fold_out-Operation, map-Range, fold-roll-Range}, TheViews.{roll-Expr, roll-Selector, roll-out-Expr, roll-out-Range}}
 use Rattle.lil_language.specs.declared.tree.Expr.TheVariants as v
-use Rattle.lil_language.specs.declared.tree.Selector.{Selector}
 use Rattle.lil_language.specs.declared.tree.Selector.TheVariants as w
-use Rattle.lil_language.specs.declared.tree.Designator.{Designator, out-Designator}
-use Rattle.lil_language.specs.declared.tree.Operation.{Operation, out-Operation}
-use Rattle.lil_language.specs.declared.tree.Range.{Range, out-Range, roll-Range}
 use Rattle.lil_types.specs.Types.{char}
 use Rattle.lil_resolved.specs.declared.resolved.RStmt.{RStmt}
-use Rattle.lil_report.specs.declared.report.Fault.{Fault}
-use Rattle.lil_report.specs.Told.{Said, walk, after}
-use Rattle.lil_report.specs.Laws.{said_as, said_to, said_value, said_after, said_map, walk_map}
+use Rattle.lil_report.specs.{declared.report.Fault.Fault, Told.{Said, walk, after}, Laws.{said_as, said_to, said_value, said_after, said_map, walk_map}}
 use Rattle.lil_scope.specs.declared.thing.Kind.TheVariants as k
 use Rattle.lil_scope.specs.declared.env.Env.{Env}
 use Rattle.lil_kinds.specs.declared.found.Found.{Found}
-use Rattle.lil_call.specs.declared.call.Callee.{Callee}
-use Rattle.lil_call.specs.declared.call.Argument.{Argument}
+use Rattle.lil_call.specs.{declared.call.{Callee.Callee, Argument.Argument}, Calls.{call_node, statement_node}}
 use Rattle.lil_call.specs.declared.call.Argument.TheVariants as argument
-use Rattle.lil_call.specs.Calls.{call_node, statement_node}
-use Rattle.lil_check_value.specs.declared.designators.Reached.{Reached}
-use Rattle.lil_operators.specs.declared.operations.Chained.{Chained}
-use Rattle.lil_operators.specs.declared.sets.Elements.{Elements}
-use Rattle.lil_check_value.specs.declared.asked.Asked.{Asked}
-use Rattle.lil_check_value.specs.Designators.{root_means, field_node, index_node, follow_node, value_node, variable_node, callee_node, typed_node}
-use Rattle.lil_operators.specs.Operations.{constant_found, one_node, begun, two_node, chain_found, set_node, joined_one, joined_range, no_elements}
-use Rattle.lil_check_value.specs.Looks.{set_sort}
+use Rattle.lil_check_value.specs.{declared.{designators.Reached.Reached, asked.Asked.Asked}, Designators.{root_means, field_node, index_node, follow_node, value_node, variable_node, callee_node, typed_node}, Looks.set_sort}
 use Rattle.lil_check_value.specs.Values.{step, joins, means, typed_means, variable_means, call_means, reach_means, index_means, step_means, operation_means, elements_mean, argument_in, argument_means, arguments_mean, begins, whole_node, code_node, text_node, asks, asks_at, begun_at, Sense, Way, Step, Operates, Joins, expression_layer, selector_layer, designator_layer, operation_layer, range_layer, sense, way, operates, as_argument}
+use Rattle.lil_operators.specs.{declared.{operations.Chained.Chained, sets.Elements.Elements}, Operations.{constant_found, one_node, begun, two_node, chain_found, set_node, joined_one, joined_range, no_elements}}
 use Rattle.lil_language.specs.declared.tree.Expr.TheOpen as o
-use Rattle.lil_language.specs.declared.tree.Expr.TheOpen.{Expr-F, Selector-F, Range-F}
-use Rattle.lil_language.specs.declared.tree.Expr.TheFolds.{map-Expr, map-Selector, fold-roll-Expr, fold-roll-Selector, fold_out-Designator, fold_out-Operation, map-Range, fold-roll-Range}
-use Rattle.lil_language.specs.declared.tree.Expr.TheViews.{roll-Expr, roll-Selector, roll-out-Expr, roll-out-Range}
 use Rattle.lil_check_value.specs.Values as s
 
 abbrev pub is_name : Expr-F Expr Selector Designator Operation Range → Bool

@@ -1,13 +1,9 @@
 -- Qualified names of types, and sets of named types.
 use Rattle.std.proofs.Common.{◌≡◌, ℕ, Option, Some, subst, ap}
-use Rattle.lil_text.specs.declared.tree.Ident.{Ident}
-use Rattle.lil_text.specs.declared.tree.Qualident.{Qualident}
-use Rattle.lil_report.specs.declared.report.Fault.{Fault}
-use Rattle.lil_report.specs.Told.{Said}
-use Rattle.lil_report.specs.Laws.{said_as, said_after}
+use Rattle.lil_text.specs.declared.tree.{Ident.Ident, Qualident.Qualident}
+use Rattle.lil_report.specs.{declared.report.Fault.Fault, Told.Said, Laws.{said_as, said_after}}
 use Rattle.lil_scope.specs.declared.env.Env.{Env}
-use Rattle.lil_check_value.specs.declared.names.Looked.{Looked}
-use Rattle.lil_check_value.specs.Looks.{look, module_node, member_type, type_by, type_named, sort_node, set_sort}
+use Rattle.lil_check_value.specs.{declared.names.Looked.Looked, Looks.{look, module_node, member_type, type_by, type_named, sort_node, set_sort}}
 
 module _ {r s t : Option Fault} where
   pub is_qualified : (e : Env) (q : Qualident) (m : Ident) {l : Looked} {b a : Option ℕ} → q.owner ≡ Some m → l ≡ look e m.name → Said (module_node m.place l) r b s → Said (member_type e m.place q.name b) s a t

@@ -1,45 +1,25 @@
 -- What designators reach: the variable, or the part of one, or what else a name means; and what that is where it is used.
 use Rattle.std.specs.Prelude.{ℕ, nat_lt, Bool, true, false, List, [], ◌∷◌, slice_get, Option, Some, None, if◌then◌else◌, ◌==◌, is_none, not, ◌&&◌}
-use Rattle.lil_base.specs.declared.fault.Place.{Place}
-use Rattle.lil_base.specs.declared.fault.FaultKind.TheVariants.{WrongKind, ProcValue, Unknown, NotExported, Assign, NotArray, NotRecord, NotPointer, NoField, Opaque, ConstRange, ExprDeep, NotBuilt}
+use Rattle.lil_base.specs.declared.fault.{Place.Place, FaultKind.{FaultKind, TheVariants.{WrongKind, ProcValue, Unknown, NotExported, Assign, NotArray, NotRecord, NotPointer, NoField, Opaque, ConstRange, ExprDeep, NotBuilt}}}
 use Rattle.lil_report.specs.Told.{Row, row}
-use Rattle.lil_scope.specs.declared.thing.Kind.{Kind}
+use Rattle.lil_scope.specs.{declared.{thing.{Kind.Kind, Routine.Routine, Thing.Thing, Variable.Variable}, env.Env.Env}, Names.member}
 use Rattle.lil_scope.specs.declared.thing.Kind.TheVariants as k
-use Rattle.lil_scope.specs.declared.thing.Routine.{Routine}
-use Rattle.lil_scope.specs.declared.thing.Thing.{Thing}
 use Rattle.lil_scope.specs.declared.thing.Thing.TheVariants as t
-use Rattle.lil_kinds.specs.declared.found.Form.{Form}
+use Rattle.lil_kinds.specs.{declared.{found.{Form.Form, Found.Found, Located.Located, Standing.Standing}, forms.{ArrayParts.ArrayParts, FieldAt.FieldAt}}, Forms.{array_parts, field, is_record, target, is_opaque}, Kinds.{assignable, misses}}
 use Rattle.lil_kinds.specs.declared.found.Form.TheVariants as form
-use Rattle.lil_kinds.specs.declared.found.Found.{Found}
-use Rattle.lil_kinds.specs.declared.found.Located.{Located}
 use Rattle.lil_kinds.specs.declared.found.Standing.TheVariants as standing
-use Rattle.lil_call.specs.declared.call.Callee.{Callee}
+use Rattle.lil_call.specs.declared.call.{Callee.Callee, Argument.Argument}
 use Rattle.lil_call.specs.declared.call.Callee.TheVariants as callee
-use Rattle.lil_call.specs.declared.call.Argument.{Argument}
 use Rattle.lil_call.specs.declared.call.Argument.TheVariants as argument
 use Rattle.lil_operators.specs.Operations.{Meaning, plain_found, constant_found, raised}
-use Rattle.lil_check_value.specs.declared.designators.Part.{Part}
-use Rattle.lil_check_value.specs.declared.designators.Named.{Named}
-use Rattle.lil_check_value.specs.declared.designators.Reached.{Reached}
+use Rattle.lil_check_value.specs.{declared.{designators.{Part.Part, Named.Named, Reached.Reached}, names.Looked.{Looked, TheVariants.{Nothing, Field, Thing as Declared}}}, Looks.{look, looked_as, is_nothing, is_hidden, is_built_name}}
 use Rattle.lil_check_value.specs.declared.designators.Reached.TheVariants as reached
-use Rattle.lil_base.specs.declared.fault.FaultKind.{FaultKind}
 use Rattle.lil_text.specs.declared.tree.Ident.{Ident}
 use Rattle.lil_types.specs.Types.{Table, cardinal, char}
 use Rattle.lil_declared.specs.declared.declared.Mode.{Mode}
 use Rattle.lil_declared.specs.declared.declared.Mode.TheVariants as mode
-use Rattle.lil_scope.specs.declared.thing.Variable.{Variable}
-use Rattle.lil_scope.specs.declared.env.Env.{Env}
-use Rattle.lil_scope.specs.Names.{member}
-use Rattle.lil_kinds.specs.declared.forms.ArrayParts.{ArrayParts}
-use Rattle.lil_kinds.specs.declared.forms.FieldAt.{FieldAt}
-use Rattle.lil_kinds.specs.declared.found.Standing.{Standing}
-use Rattle.lil_kinds.specs.Forms.{array_parts, field, is_record, target, is_opaque}
-use Rattle.lil_kinds.specs.Kinds.{assignable, misses}
 use Rattle.lil_forms.specs.Places as places
 use Rattle.lil_forms.specs.Places.{variable_at, held_at}
-use Rattle.lil_check_value.specs.declared.names.Looked.{Looked}
-use Rattle.lil_check_value.specs.declared.names.Looked.TheVariants.{Nothing, Field, Thing as Declared}
-use Rattle.lil_check_value.specs.Looks.{look, looked_as, is_nothing, is_hidden, is_built_name}
 
 abbrev pub Reaches : Type 0
 Reaches = Option Reached × List Row

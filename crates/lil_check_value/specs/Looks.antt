@@ -1,22 +1,14 @@
 -- What names mean where they stand.
 use Rattle.std.specs.Prelude.{◌≡◌, true, List, ◌∷◌, Option, ℕ, is_none, Bool, false, [], Some, None, if◌then◌else◌, ◌+◌, not}
 use Rattle.std.proofs.Common.{◌∙◌, ap}
-use Rattle.lil_base.specs.declared.fault.Place.{Place}
-use Rattle.lil_base.specs.declared.fault.FaultKind.TheVariants.{NotBuilt, WrongKind, Unknown, NotExported}
-use Rattle.lil_report.specs.declared.report.Fault.{Fault}
-use Rattle.lil_report.specs.Told.{Row, row, noted, tell, Said, after}
-use Rattle.lil_text.specs.declared.tree.Qualident.{Qualident}
+use Rattle.lil_base.specs.declared.fault.{Place.Place, FaultKind.TheVariants.{NotBuilt, WrongKind, Unknown, NotExported}}
+use Rattle.lil_report.specs.{declared.report.Fault.Fault, Told.{Row, row, noted, tell, Said, after}}
+use Rattle.lil_text.specs.declared.tree.{Qualident.Qualident, Ident.Ident}
 use Rattle.lil_types.specs.Types.{Table, bit_set}
-use Rattle.lil_scope.specs.declared.env.Env.{Env}
-use Rattle.lil_kinds.specs.Forms.{set_base, field}
-use Rattle.lil_text.specs.declared.tree.Ident.{Ident}
-use Rattle.lil_scope.specs.declared.thing.Thing.{Thing}
+use Rattle.lil_scope.specs.{declared.{env.Env.Env, thing.Thing.Thing}, Built.built, Names.{find, member}}
+use Rattle.lil_kinds.specs.{Forms.{set_base, field}, declared.forms.FieldAt.FieldAt}
 use Rattle.lil_scope.specs.declared.thing.Thing.TheVariants as t
-use Rattle.lil_scope.specs.Built.{built}
-use Rattle.lil_scope.specs.Names.{find, member}
-use Rattle.lil_kinds.specs.declared.forms.FieldAt.{FieldAt}
-use Rattle.lil_check_value.specs.declared.names.Looked.{Looked}
-use Rattle.lil_check_value.specs.declared.names.Looked.TheVariants.{Nothing, Field, Thing as Declared}
+use Rattle.lil_check_value.specs.declared.names.Looked.{Looked, TheVariants.{Nothing, Field, Thing as Declared}}
 
 -- ---- phrases whose form isn't built
 

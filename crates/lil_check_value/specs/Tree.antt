@@ -1,36 +1,20 @@
 -- What is true of the nodes of expressions is true of expressions, by induction.
 use Rattle.std.proofs.Common.{◌≡◌, ℕ, Bool, true, false, List, [], ◌∷◌, ◌++◌, length, map, Option, None, Some, sym, subst}
-use Rattle.lil_base.specs.declared.fault.Place.{Place}
-use Rattle.lil_base.specs.declared.operator.OneOp.{OneOp}
-use Rattle.lil_base.specs.declared.operator.TwoOp.{TwoOp}
-use Rattle.lil_text.specs.declared.tree.Ident.{Ident}
-use Rattle.lil_text.specs.declared.tree.Qualident.{Qualident}
-use Rattle.lil_language.specs.declared.tree.Expr.{Expr}
+use Rattle.lil_base.specs.declared.{fault.Place.Place, operator.{OneOp.OneOp, TwoOp.TwoOp}}
+use Rattle.lil_text.specs.declared.tree.{Ident.Ident, Qualident.Qualident}
+use Rattle.lil_language.specs.declared.tree.Expr.{Expr, TheOpen.{Expr-F, Selector-F, Designator-F, Operation-F, Range-F}, TheFolds.{map-Expr, map-Selector, map-Designator, map-Operation, map-Range, fold-roll-Expr, fold-roll-Selector, fold-roll-Designator, fold-roll-Operation, fold-roll-Range, ind-Expr, ind-Designator}, TheViews.{roll-Expr, roll-Selector}}
+use Rattle.lil_language.specs.declared.tree.{Designator.{Designator, roll-Designator}, Selector.Selector, Operation.{Operation, roll-Operation}, Range.{Range, roll-Range}}
 use Rattle.lil_language.specs.declared.tree.Expr.TheOpen as x
-use Rattle.lil_language.specs.declared.tree.Expr.TheOpen.{Expr-F, Selector-F, Designator-F, Operation-F, Range-F}
-use Rattle.lil_language.specs.declared.tree.Expr.TheFolds.{map-Expr, map-Selector, map-Designator, map-Operation, map-Range, fold-roll-Expr, fold-roll-Selector, fold-roll-Designator, fold-roll-Operation, fold-roll-Range, ind-Expr, ind-Designator}
-use Rattle.lil_language.specs.declared.tree.Expr.TheViews.{roll-Expr, roll-Selector}
-use Rattle.lil_language.specs.declared.tree.Designator.{Designator, roll-Designator}
-use Rattle.lil_language.specs.declared.tree.Selector.{Selector}
-use Rattle.lil_language.specs.declared.tree.Operation.{Operation, roll-Operation}
-use Rattle.lil_language.specs.declared.tree.Range.{Range, roll-Range}
 use Rattle.lil_report.specs.Told.{Row, after, walk}
 use Rattle.lil_resolved.specs.declared.resolved.RStmt.{RStmt}
 use Rattle.lil_scope.specs.declared.env.Env.{Env}
 use Rattle.lil_kinds.specs.declared.found.Found.{Found}
 use Rattle.lil_shapes.specs.ListLaws.{AllFine}
-use Rattle.lil_forms.specs.FoundSound.{fine_more}
-use Rattle.lil_call.specs.declared.call.Callee.{Callee}
-use Rattle.lil_call.specs.declared.call.Argument.{Argument}
+use Rattle.lil_forms.specs.Scopes.{fine_more}
+use Rattle.lil_call.specs.{declared.call.{Callee.Callee, Argument.Argument}, Calls.{call_node, statement_node}}
 use Rattle.lil_call.specs.declared.call.Argument.TheVariants as argument
-use Rattle.lil_call.specs.Calls.{call_node, statement_node}
-use Rattle.lil_operators.specs.declared.operations.Chained.{Chained}
-use Rattle.lil_operators.specs.declared.sets.Elements.{Elements}
-use Rattle.lil_operators.specs.Operations.{Meaning, one_node, begun, two_node, chain_found, no_elements, joined_one, joined_range, set_node}
-use Rattle.lil_check_value.specs.declared.designators.Reached.{Reached}
-use Rattle.lil_check_value.specs.declared.asked.Asked.{Asked}
-use Rattle.lil_check_value.specs.Designators.{root_means, field_node, index_node, follow_node, value_node, variable_node, callee_node, typed_node}
-use Rattle.lil_check_value.specs.Looks.{set_sort}
+use Rattle.lil_operators.specs.{declared.{operations.Chained.Chained, sets.Elements.Elements}, Operations.{Meaning, one_node, begun, two_node, chain_found, no_elements, joined_one, joined_range, set_node}}
+use Rattle.lil_check_value.specs.{declared.{designators.Reached.Reached, asked.Asked.Asked}, Designators.{root_means, field_node, index_node, follow_node, value_node, variable_node, callee_node, typed_node}, Looks.set_sort}
 use Rattle.lil_check_value.specs.Values.{Sense, Way, Step, Operates, Joins, asks, asks_at, as_argument, argument_by, argument_step, given, begun_at, call_of, called, of_value, chain_means, expression_layer, index_step, selector_layer, designator_layer, operation_layer, joined, range_layer, sense, step, way, operates, joins, means, typed_means, reach_means, begins, argument_in, argument_means, arguments_mean, variable_means, call_means}
 
 -- what is true of phrases, from what is true of their values: of one without tests, and of one after another

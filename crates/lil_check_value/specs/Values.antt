@@ -1,39 +1,22 @@
 -- What expressions mean: their value where they have a type, and the tests of their nodes.
 use Rattle.std.specs.Prelude.{ℕ, ◌==◌, nat_lt, pos, Bool, true, false, not, List, [], ◌∷◌, ◌++◌, length, Option, Some, None}
-use Rattle.lil_base.specs.declared.fault.FaultKind.TheVariants.{ConstRange}
-use Rattle.lil_base.specs.declared.fault.Place.{Place}
-use Rattle.lil_language.specs.declared.tree.Expr.{Expr}
+use Rattle.lil_base.specs.declared.fault.{FaultKind.TheVariants.ConstRange, Place.Place}
+use Rattle.lil_language.specs.declared.tree.{Expr.{Expr, TheOpen.{Expr-F, Selector-F, Designator-F, Operation-F, Range-F}, TheFolds.{fold-Expr, fold-Selector, fold-Designator, fold-Operation, fold-Range}}, Designator.{Designator, out-Designator}, Selector.Selector, Operation.Operation, Range.Range}
 use Rattle.lil_language.specs.declared.tree.Expr.TheOpen as x
-use Rattle.lil_language.specs.declared.tree.Expr.TheOpen.{Expr-F, Selector-F, Designator-F, Operation-F, Range-F}
-use Rattle.lil_language.specs.declared.tree.Expr.TheFolds.{fold-Expr, fold-Selector, fold-Designator, fold-Operation, fold-Range}
-use Rattle.lil_language.specs.declared.tree.Designator.{Designator, out-Designator}
-use Rattle.lil_language.specs.declared.tree.Selector.{Selector}
-use Rattle.lil_language.specs.declared.tree.Operation.{Operation}
-use Rattle.lil_language.specs.declared.tree.Range.{Range}
 use Rattle.lil_types.specs.Types.{Table, char}
-use Rattle.lil_resolved.specs.declared.resolved.RStmt.{RStmt}
-use Rattle.lil_declared.specs.declared.standard.Standard.{Standard}
-use Rattle.lil_declared.specs.declared.standard.Standard.TheVariants.{Max, Min, Val}
+use Rattle.lil_resolved.specs.{declared.resolved.RStmt.RStmt, Sound.is_text}
+use Rattle.lil_declared.specs.declared.standard.Standard.{Standard, TheVariants.{Max, Min, Val}}
 use Rattle.lil_report.specs.Told.{Row, row, after, walk}
-use Rattle.lil_resolved.specs.Sound.{is_text}
-use Rattle.lil_scope.specs.declared.thing.Chars.{Chars}
+use Rattle.lil_scope.specs.declared.{thing.Chars.Chars, env.Env.Env}
 use Rattle.lil_scope.specs.declared.thing.Kind.TheVariants as k
-use Rattle.lil_scope.specs.declared.env.Env.{Env}
 use Rattle.lil_kinds.specs.declared.found.Form.TheVariants as form
 use Rattle.lil_kinds.specs.declared.found.Found.{Found}
-use Rattle.lil_call.specs.declared.call.Callee.{Callee}
+use Rattle.lil_call.specs.{declared.call.{Callee.Callee, Argument.Argument}, Calls.{call_node, statement_node}}
 use Rattle.lil_call.specs.declared.call.Callee.TheVariants as callee
-use Rattle.lil_call.specs.declared.call.Argument.{Argument}
 use Rattle.lil_call.specs.declared.call.Argument.TheVariants as argument
-use Rattle.lil_call.specs.Calls.{call_node, statement_node}
-use Rattle.lil_check_value.specs.declared.designators.Reached.{Reached}
-use Rattle.lil_operators.specs.declared.operations.Chained.{Chained}
-use Rattle.lil_operators.specs.declared.sets.Elements.{Elements}
-use Rattle.lil_check_value.specs.declared.asked.Asked.{Asked}
+use Rattle.lil_check_value.specs.{declared.{designators.Reached.Reached, asked.Asked.Asked}, Designators.{Reaches, root_means, field_node, index_node, follow_node, value_node, variable_node, callee_node, typed_node}, Looks.set_sort}
+use Rattle.lil_operators.specs.{declared.{operations.Chained.Chained, sets.Elements.Elements}, Operations.{Meaning, constant_found, plain_found, one_node, begun, two_node, chain_found, no_elements, joined_one, joined_range, set_node}}
 use Rattle.lil_check_value.specs.declared.asked.Asked.TheVariants as asked
-use Rattle.lil_check_value.specs.Designators.{Reaches, root_means, field_node, index_node, follow_node, value_node, variable_node, callee_node, typed_node}
-use Rattle.lil_operators.specs.Operations.{Meaning, constant_found, plain_found, one_node, begun, two_node, chain_found, no_elements, joined_one, joined_range, set_node}
-use Rattle.lil_check_value.specs.Looks.{set_sort}
 
 -- An expression means a value, and something as an argument where a type's name may stand. A selector leads from what is
 -- reached to what it selects. A designator has its first token, and reaches something, where it or its expression begins at

@@ -1,35 +1,20 @@
 -- The code of a chain, operation by operation.
-use Rattle.std.proofs.Common.{◌≡◌, ℕ, ◌+◌, ◌<◌, Bool, true, false, Some, None, List, [], ◌∷◌, ◌++◌, map, take, length, get_or, refl, sym, ap, ◌∙◌, subst, arith}
-use Rattle.std.proofs.lemmas.List.{take_more, map-append}
-use Rattle.lil_base.specs.declared.operator.TwoOp.{TwoOp}
-use Rattle.lil_base.specs.declared.operator.TwoOp.TheVariants.{Or, And}
-use Rattle.lil_resolved.specs.declared.resolved.ROperation.{ROperation, out-ROperation}
-use Rattle.lil_resolved.specs.Kinds.{Kind}
-use Rattle.lil_resolved.specs.Resolved.{Expression, Two, Short, kind_of}
-use Rattle.lil_resolved.specs.Views.{operation_is, two_of, chained, expression_of, operation_of}
+use Rattle.std.proofs.Common.{◌≡◌, ℕ, Bool, true, false, Some, None, List, [], ◌∷◌, map, length, refl, sym, ap, ◌∙◌, subst}
+use Rattle.lil_base.specs.declared.operator.TwoOp.{TwoOp, TheVariants.{Or, And}}
+use Rattle.lil_resolved.specs.{declared.resolved.ROperation.{ROperation, out-ROperation}, Kinds.Kind, Resolved.{Expression, Two, Short, kind_of}, Views.{operation_is, two_of, chained, expression_of, operation_of}}
 use Rattle.lil_asm.specs.declared.instr.Instr.{Instr}
 use Rattle.lil_table.specs.Rows.{IsAt, InstrsAt, two_code, short_code}
-use Rattle.lil_labels.specs.declared.buffer.Aim.{Aim}
+use Rattle.lil_labels.specs.{declared.buffer.Aim.Aim, Drafts.{Draft, Final, Emits, Nothing, Doing, DoingAll, Each, Makes, Ends, aimed}, Emitting.{emits_then, emits_as, emits_here, emits_fresh}}
 use Rattle.lil_labels.specs.declared.buffer.Aim.TheVariants as aim
-use Rattle.lil_labels.specs.Drafts.{Draft, Emits, Nothing, Doing, DoingAll, Makes, Places, aimed}
-use Rattle.lil_labels.specs.Emitting.{emits_then, emits_as, emits_here, emits_fresh}
-use Rattle.lil_expr.specs.Generating.{Value, Operating, OperatingAll, aim_of}
+use Rattle.lil_expr.specs.Generating.{Value, Operating, aim_of}
 use Rattle.lil_expr.proofs.Operators.{two_right}
 
-chained_more : (a : Expression) (fs : List (Expression → Expression)) (f : Expression → Expression) → chained a (fs ++ f ∷ []) ≡ f (chained a fs)
-chained_more a [] f = refl
-chained_more a (g ∷ fs) f = chained_more (g a) fs f
+operations_chain : (os : List ROperation) (x : Final) (p q start : ℕ) (a : Expression) → Each Operating os x p q → Value a x start p → Value (chained a (map operation_of os)) x start q
+operations_chain [] x p q start a h value = subst (Value a x start) h value
+operations_chain (o ∷ os) x p q start a h value = operations_chain os x h.0 q start (operation_of o a) h.2 (h.1 start a value)
 
--- ---- one behind another
-pub next_operation : (os : List ROperation) (i : ℕ) (o : ROperation) (a b c : Draft) → i < length os → o ≡ get_or os i o → Emits a b (OperatingAll (take i os)) → Emits b c (Operating o) → Emits a c (OperatingAll (take (i + 1) os))
-next_operation os i o a b c inside is so_far next =
-    let more : take (i + 1) os ≡ take i os ++ o ∷ [] = take_more os i o inside ∙ ap (λ x. take i os ++ x ∷ []) (sym is) in
-    let all : (e : Expression) → chained e (map operation_of (take (i + 1) os)) ≡ operation_of o (chained e (map operation_of (take i os))) = λ e.
-    ap (λ (os : List ROperation). chained e (map operation_of os)) more
-    ∙ (ap (chained e) (map-append operation_of (take i os) (o ∷ [])) ∙ chained_more e (map operation_of (take i os)) (operation_of o)) in
-    emits_as a c _ (OperatingAll (take (i + 1) os))
-    (λ x t start e value. subst (λ (e : Expression). Value e x start (length c.bytes)) (sym (all e)) (t.1 start (chained e (map operation_of (take i os))) (t.0 start e value)))
-    (emits_then a b c _ _ so_far next)
+pub chain_emitted : (e : Expression) (os : List ROperation) (a b c : Draft) → Emits a b (Value e) → Emits b c (Each Operating os) → Emits a c (Value (chained e (map operation_of os)))
+chain_emitted e os a b c first rest = emits_as a c _ (Value (chained e (map operation_of os))) (λ x t. operations_chain os x _ _ (length a.bytes) e t.1 t.0) (emits_then a b c _ _ first rest)
 
 -- ---- an operation: its operand behind a jump, or its operand and an instruction
 -- an operator whose left operand may decide
@@ -50,23 +35,18 @@ two_is And a b h = absurd (cc)
 two_is _ a b h = refl
 
 pub short_operation : (o : ROperation) (i : Aim) (end : ℕ) (c0 c1 c2 c3 c4 : Draft) → aim_of (out-ROperation o).operator ≡ Some i → Emits c0 c1 Nothing → Makes c0 c1 end → Emits c1 c2 (Doing (λ word. aimed i (word end)))
-    → Emits c2 c3 (Value (expression_of (out-ROperation o).operand)) → Places c3 c4 end → Emits c0 c4 (Operating o)
+    → Emits c2 c3 (Value (expression_of (out-ROperation o).operand)) → Ends c3 c4 end → Emits c0 c4 (Operating o)
 short_operation o i end c0 c1 c2 c3 c4 known new makes jump right put =
     let b = expression_of (out-ROperation o).operand in
     emits_as c0 c4 _ (Operating o)
     (λ x t start a value.
     let short = short_is (out-ROperation o).operator i a b known in
     subst (λ (e : Expression). Value e x start (length c4.bytes)) (sym (operation_is o a ∙ short.is))
-    (λ sound. record {
-      middle = length c0.bytes;
-      start = length c2.bytes;
-      left_typed = sound.0;
-      right_typed = sound.1;
-      first = value sound.2;
-      test = subst (λ (w : ℕ). IsAt x.code (length c0.bytes) (short_code short.decides w) (length c2.bytes)) t.1 (subst (λ (i : Instr). IsAt x.code (length c0.bytes) i (length c2.bytes)) (short.code (x.word end)) t.0.0);
-      second = t.0.1 sound.3;
-    }))
-    (emits_here c0 c3 c4 _ end (emits_fresh c0 c1 c3 _ new (emits_then c1 c2 c3 _ _ jump right)) (omega (arith, makes.is)) put)
+    (λ sound.
+    let aims = subst (λ (i : Instr). IsAt x.code (length c0.bytes) i (length c2.bytes)) (short.code (x.word end)) t.0.0 in
+    let test = subst (λ (w : ℕ). IsAt x.code (length c0.bytes) (short_code short.decides w) (length c2.bytes)) t.1 aims in
+    search (sound, value sound.2, test, t.0.1 sound.3)))
+    (emits_here c0 c3 c4 _ end (emits_fresh c0 c1 c3 _ new (emits_then c1 c2 c3 _ _ jump right)) makes.apart put)
 
 pub two_operation : (o : ROperation) (k : Kind) (c0 c1 c2 : Draft) → aim_of (out-ROperation o).operator ≡ None → k ≡ kind_of (expression_of (out-ROperation o).operand)
     → Emits c0 c1 (Value (expression_of (out-ROperation o).operand)) → Emits c1 c2 (DoingAll (two_code (out-ROperation o).operator k)) → Emits c0 c2 (Operating o)
@@ -75,14 +55,7 @@ two_operation o k c0 c1 c2 known typed right by =
     let operator = (out-ROperation o).operator in
     emits_as c0 c2 _ (Operating o)
     (λ x t start a value. subst (λ (e : Expression). Value e x start (length c2.bytes)) (sym (operation_is o a ∙ two_is operator a b known))
-    (λ sound. record {
-      middle = length c0.bytes;
-      last = length c1.bytes;
-      takes = sound.0;
-      left_typed = sound.1;
-      right_typed = sound.2;
-      first = value sound.3;
-      second = t.0 sound.4;
-      by = subst (λ (is : List Instr). InstrsAt x.code is (length c1.bytes) (length c2.bytes)) (ap (two_code operator) (typed ∙ sound.2) ∙ two_right operator (kind_of a)) t.1;
-    }))
+    (λ sound.
+    let by = subst (λ (is : List Instr). InstrsAt x.code is (length c1.bytes) (length c2.bytes)) (ap (two_code operator) (typed ∙ sound.2) ∙ two_right operator (kind_of a)) t.1 in
+    search (sound, value sound.3, t.0 sound.4, by)))
     (emits_then c0 c1 c2 _ _ right by)

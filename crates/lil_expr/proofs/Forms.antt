@@ -1,16 +1,11 @@
 -- The code of expressions, form by form.
-use Rattle.std.proofs.Common.{◌≡◌, ℕ, Bool, true, false, not, ◌&&◌, List, length, map, refl, subst}
+use Rattle.std.proofs.Common.{◌≡◌, ℕ, Bool, true, false, not, ◌&&◌, length, refl, subst}
 use Rattle.lil_base.specs.declared.operator.OneOp.{OneOp}
-use Rattle.lil_resolved.specs.Kinds.{Kind, Scalar, scalar_word, within, is_literal, is_reference}
-use Rattle.lil_resolved.specs.Resolved.{Function, Expression, Constant, One, Apply, kind_of}
-use Rattle.lil_resolved.specs.declared.resolved.ROperation.{ROperation}
-use Rattle.lil_resolved.specs.Views.{chained, operation_of}
-use Rattle.lil_asm.specs.declared.instr.Instr.{Instr}
+use Rattle.lil_resolved.specs.{Kinds.{Kind, Scalar, scalar_word, within, is_literal, is_reference}, Resolved.{Function, Expression, Constant, One, Apply, kind_of}}
 use Rattle.lil_asm.specs.declared.instr.Instr.TheVariants.{Liw}
-use Rattle.lil_table.specs.Rows.{IsAt, InstrsAt, one_code, function_code}
-use Rattle.lil_labels.specs.Drafts.{Draft, Emits, Doing, DoingAll}
-use Rattle.lil_labels.specs.Emitting.{emits_then, emits_as}
-use Rattle.lil_expr.specs.Generating.{Value, OperatingAll}
+use Rattle.lil_table.specs.Rows.{IsAt, one_code, function_code}
+use Rattle.lil_labels.specs.{Drafts.{Draft, Emits, Doing, DoingAll}, Emitting.{emits_then, emits_as}}
+use Rattle.lil_expr.specs.Generating.{Value}
 use Rattle.lil_expr.proofs.Operators.{one_same}
 
 -- a literal is a value of its kind
@@ -28,18 +23,9 @@ constant_emitted k v w a b is =
 pub one_emitted : (o : OneOp) (k : Kind) (e : Expression) (a b c : Draft) → Emits a b (Value e) → Emits b c (DoingAll (one_code o k)) → Emits a c (Value (One o (kind_of e) e))
 one_emitted o k e a b c value by =
     emits_as a c _ (Value (One o (kind_of e) e))
-    (λ x t sound. record {
-      middle = length b.bytes;
-      takes = sound.0;
-      typed = refl;
-      first = t.0 sound.2;
-      by = subst (λ (is : List Instr). InstrsAt x.code is (length b.bytes) (length c.bytes)) (one_same o k (kind_of e)) t.1;
-    })
+    (λ x t sound. search (sound, t.0 sound.2, rw (one_same o k (kind_of e)) at t.1))
     (emits_then a b c _ _ value by)
 
 pub apply_emitted : (f : Function) (e : Expression) (a b c : Draft) → Emits a b (Value e) → Emits b c (DoingAll (function_code f (kind_of e))) → Emits a c (Value (Apply f e))
 apply_emitted f e a b c value by =
     emits_as a c _ (Value (Apply f e)) (λ x t sound. record { middle = length b.bytes; takes = sound.0; first = t.0 sound.1; by = t.1 }) (emits_then a b c _ _ value by)
-
-pub chain_emitted : (e : Expression) (os : List ROperation) (a b c : Draft) → Emits a b (Value e) → Emits b c (OperatingAll os) → Emits a c (Value (chained e (map operation_of os)))
-chain_emitted e os a b c first rest = emits_as a c _ (Value (chained e (map operation_of os))) (λ x t. t.1 (length a.bytes) e t.0) (emits_then a b c _ _ first rest)

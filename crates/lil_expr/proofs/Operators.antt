@@ -1,11 +1,8 @@
 -- The instructions of operators.
 use Rattle.std.proofs.Common.{◌≡◌, ◌≢◌, Bool, false, cond, refl, ap, ◌∙◌}
-use Rattle.lil_base.specs.declared.operator.OneOp.{OneOp}
+use Rattle.lil_base.specs.declared.operator.{OneOp.OneOp, TwoOp.{TwoOp, TheVariants.In}}
 use Rattle.lil_base.specs.declared.operator.OneOp.TheVariants as one
-use Rattle.lil_base.specs.declared.operator.TwoOp.{TwoOp}
-use Rattle.lil_base.specs.declared.operator.TwoOp.TheVariants.{In}
-use Rattle.lil_resolved.specs.Kinds.{Kind, OfSet, is_set, compared_as}
-use Rattle.lil_resolved.specs.Resolved.{right_kind}
+use Rattle.lil_resolved.specs.{Kinds.{Kind, OfSet, is_set, compared_as}, Resolved.right_kind}
 use Rattle.lil_table.specs.Rows.{one_code, number_code, set_code, two_code}
 
 -- the kind chooses no code of these

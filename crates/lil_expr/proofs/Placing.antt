@@ -1,26 +1,14 @@
 -- The code of places, part by part.
 use Rattle.std.proofs.Common.{◌≡◌, ℕ, ◌+◌, ◌<◌, ◌≤◌, true, List, [], ◌∷◌, ◌++◌, map, take, length, get_or, Option, Some, None, refl, sym, ap, ◌∙◌, subst, arith}
 use Rattle.std.specs.Prelude.{slice_get}
-use Rattle.std.proofs.lemmas.List.{take_more, take_all, map-append}
+use Rattle.std.proofs.lemmas.List.{take_all, map-append}
 use Rattle.lil_base.specs.Words.{word_of}
-use Rattle.lil_resolved.specs.declared.resolved.RPlace.{RPlace, out-RPlace}
-use Rattle.lil_resolved.specs.declared.resolved.RSelector.{RSelector}
-use Rattle.lil_resolved.specs.declared.shapes.RField.{RField}
-use Rattle.lil_resolved.specs.declared.shapes.RElements.{RElements}
-use Rattle.lil_resolved.specs.Kinds.{Kind, least, numbers, Shape, words, is_there, part_at, offset, shape_by, shape_at, element_of}
-use Rattle.lil_resolved.specs.Resolved.{Designator, Variable, Held, Field, Element, Follow, Expression, kind_of, shape_of}
-use Rattle.lil_resolved.specs.Sound.{IsSoundPlace}
-use Rattle.lil_resolved.specs.Views.{root_view, selected, selector_of, place_of, shapes_of, place_is}
+use Rattle.lil_resolved.specs.{declared.{resolved.{RPlace.{RPlace, out-RPlace}, RSelector.RSelector}, shapes.{RField.RField, RElements.RElements}}, Kinds.{Kind, least, numbers, Shape, words, is_there, part_at, offset, shape_by, shape_at, element_of}, Resolved.{Designator, Variable, Held, Field, Element, Follow, Expression, kind_of, shape_of}}
+use Rattle.lil_resolved.specs.{Sound.IsSoundPlace, Views.{root_view, selected, selector_of, place_of, shapes_of, place_is}}
 use Rattle.lil_asm.specs.declared.instr.Instr.TheVariants.{Llw, Ixc, Nlt}
-use Rattle.lil_table.specs.Rows.{cut, IsAt, InstrsAt, Access, InData, OnTop, Behind, further, offset_in, address_code, load_code, test_code}
-use Rattle.lil_labels.specs.Entries.{small_at}
-use Rattle.lil_labels.specs.declared.buffer.HeldRecord.{HeldRecord}
-use Rattle.lil_labels.specs.Tables.{Tables, target_by, variable_by, part_by, elements_by, held_by}
-use Rattle.lil_labels.specs.Drafts.{Draft, Final, Emits, Doing, DoingAll}
-use Rattle.lil_labels.specs.Emitting.{emits_none, emits_then, emits_as, emits_tied}
-use Rattle.lil_expr.specs.Accesses.{words_in}
-use Rattle.lil_expr.specs.Generating.{Value, ReachedAt, Found, Selecting}
-use Rattle.lil_expr.specs.Variables.{standing, kept, pointed}
+use Rattle.lil_table.specs.Rows.{cut, IsAt, InstrsAt, Access, InData, OnTop, further, offset_in, address_code, load_code, test_code}
+use Rattle.lil_labels.specs.{Entries.small_at, declared.buffer.HeldRecord.HeldRecord, Tables.{Tables, target_by, variable_by, part_by, elements_by, held_by}, Drafts.{Draft, Final, Emits, Doing, DoingAll}, Emitting.{emits_none, emits_then, emits_as, emits_tied, take_next}}
+use Rattle.lil_expr.specs.{Accesses.words_in, Generating.{Value, ReachedAt, Found, Selecting}, Variables.{standing, kept, pointed}}
 use Rattle.lil_expr.proofs.Tables.{whole_there, array_there, row_is, part_within, PartIs, part_is, ElementsAre, elements_are}
 
 -- ---- variables
@@ -28,74 +16,44 @@ there_is : (o : Option Shape) → is_there (shape_by o) ≡ true → (t : Shape)
 there_is None h = absurd (cc)
 there_is (Some t) h = (t, refl, h)
 
-variable_reached : (x : Final) (v : ℕ) (f : RField) (p q : ℕ) → f ≡ variable_by (slice_get x.tables.variables v) → is_there (shape_at x.layout.scope.variables v) ≡ true → p ≡ q → ReachedAt (Variable v) (InData f.offset) f.shape x p q
-variable_reached x v f p q is there stays =
-    let known = there_is (slice_get x.layout.scope.variables v) there in
-    let s = standing x v known.0 known.1 in
-    let same : f ≡ variable_by (Some s.variable) = is ∙ ap variable_by s.there in
-    let lies : f.offset ≡ s.variable.offset = ap (λ (f : RField). f.offset) same in
-    let number : f.shape ≡ s.variable.shape = ap (λ (f : RField). f.shape) same in
-    record {
-      place = record { offset = s.variable.offset; shape = known.0; at = s.offset; typed = known.1; there = known.2; stays = stays };
-      access = ap InData lies ∙ ap (λ (o : Option ℕ). InData (offset_in o)) (sym s.offset);
-      shape = ap (shape_at (shapes_of x.tables.shapes)) number ∙ s.shape ∙ ap shape_by (sym known.1);
-      within = omega (arith, x.described.within v s.variable s.there, lies, ap words s.shape, ap (λ (o : Option Shape). words (shape_by o)) known.1);
-    }
-
 pub variable_found : (v : ℕ) (f : RField) (d : Draft) → f ≡ variable_by (slice_get d.tables.variables v) → Emits d d (Found (Variable v) (InData f.offset) f.shape)
 variable_found v f d is =
     emits_as d d _ (Found (Variable v) (InData f.offset) f.shape)
-    (λ x t sound there. variable_reached x v f _ _ (is ∙ ap (λ (ts : Tables). variable_by (slice_get ts.variables v)) (sym t.1)) there t.0)
+    (λ x t sound there.
+    let known = there_is (slice_get x.layout.scope.variables v) there in
+    let s = standing x v known.0 known.1 in
+    let same : f ≡ variable_by (Some s.variable) = is ∙ ap (λ (ts : Tables). variable_by (slice_get ts.variables v)) (sym t.1) ∙ ap variable_by s.there in
+    let lies : f.offset ≡ s.variable.offset = ap (λ (f : RField). f.offset) same in
+    let number : f.shape ≡ s.variable.shape = ap (λ (f : RField). f.shape) same in
+    record {
+      place = record { offset = s.variable.offset; shape = known.0; at = s.offset; typed = known.1; there = known.2; stays = t.0 };
+      access = ap InData lies ∙ ap (λ (o : Option ℕ). InData (offset_in o)) (sym s.offset);
+      shape = ap (shape_at (shapes_of x.tables.shapes)) number ∙ s.shape ∙ ap shape_by (sym known.1);
+      within = omega (arith, x.described.within v s.variable s.there, lies, ap words s.shape, ap (λ (o : Option Shape). words (shape_by o)) known.1);
+    })
     (emits_tied d d _ (emits_none d))
 
 -- ---- the records of WITHs
-held_reached : (x : Final) (w : ℕ) (h : HeldRecord) (p q : ℕ) → h ≡ held_by (slice_get x.tables.held w) → IsSoundPlace x.layout.scope (Held w) → IsAt x.code p (Llw h.word) q → ReachedAt (Held w) OnTop h.shape x p q
-held_reached x w h p q is sound load =
-    let k = kept x w sound.0 sound.1 in
-    let same : h ≡ k.held = is ∙ ap held_by k.there in
-    let number : h.shape ≡ k.held.shape = ap (λ (h : HeldRecord). h.shape) same in
-    let lies : shape_at (shapes_of x.tables.shapes) h.shape ≡ shape_at x.layout.scope.held w = ap (shape_at (shapes_of x.tables.shapes)) number ∙ k.shape ∙ ap shape_by (sym sound.1) in
-    record {
-      place = record {
-        word = k.held.word;
-        shape = sound.0;
-        at = k.word;
-        typed = sound.1;
-        there = sound.2;
-        load = subst (λ (h : HeldRecord). IsAt x.code p (Llw h.word) q) same load;
-      };
-      access = refl;
-      shape = lies;
-      within = omega (arith, ap words lies, small_at x.tables.shapes h.shape x.described.measured);
-    }
-
 pub held_found : (w : ℕ) (h : HeldRecord) (c d : Draft) → h ≡ held_by (slice_get c.tables.held w) → Emits c d (Doing (λ word. Llw h.word)) → Emits c d (Found (Held w) OnTop h.shape)
 held_found w h c d is load =
     emits_as c d _ (Found (Held w) OnTop h.shape)
-    (λ x t sound there. held_reached x w h _ _ (is ∙ ap (λ (ts : Tables). held_by (slice_get ts.held w)) (sym t.1)) sound t.0)
+    (λ x t sound there.
+    let k = kept x w sound.0 sound.1 in
+    let same : h ≡ k.held = is ∙ ap (λ (ts : Tables). held_by (slice_get ts.held w)) (sym t.1) ∙ ap held_by k.there in
+    let number : h.shape ≡ k.held.shape = ap (λ (h : HeldRecord). h.shape) same in
+    let lies : shape_at (shapes_of x.tables.shapes) h.shape ≡ shape_at x.layout.scope.held w = ap (shape_at (shapes_of x.tables.shapes)) number ∙ k.shape ∙ ap shape_by (sym sound.1) in
+    let loaded = subst (λ (h : HeldRecord). IsAt x.code (length c.bytes) (Llw h.word) (length d.bytes)) same t.0 in
+    record {
+      place = record { word = k.held.word; shape = sound.0; at = k.word; typed = sound.1; there = sound.2; load = loaded };
+      access = refl;
+      shape = lies;
+      within = omega (arith, ap words lies, small_at x.tables.shapes h.shape x.described.measured);
+    })
     (emits_tied c d _ load)
 
 -- ---- fields
 words_further : (n : ℕ) (a : Access) → words_in (further n a) ≡ words_in a + n
-words_further n (InData o) = refl
-words_further n OnTop = omega arith
-words_further n (Behind o) = refl
-
-field_reached : (x : Final) (d : Designator) (i n : ℕ) (a b : Access) (f : RField) (p q : ℕ) → f ≡ part_by (slice_get x.tables.shapes n) i → (words_in a + f.offset ≤ 65535 → b ≡ further f.offset a)
-    → is_there (part_at (shape_of x.layout.scope d) (i ∷ [])) ≡ true → ReachedAt d a n x p q → ReachedAt (Field d i) b f.shape x p q
-field_reached x d i n a b f p q is moved there r =
-    let t = shape_of x.layout.scope d in
-    let table = shapes_of x.tables.shapes in
-    let found = part_is x.tables.shapes n i x.described.measured (ap (λ (t : Shape). is_there (part_at t (i ∷ []))) r.shape ∙ there) in
-    let part : PartIs table t i f = subst (λ (t : Shape). PartIs table t i f) r.shape (subst (λ (f : RField). PartIs table (shape_at table n) i f) (sym is) found) in
-    let inside = part_within t i there in
-    let goes : b ≡ further f.offset a = moved (omega (arith, r.within, inside, part.lies)) in
-    record {
-      place = record { there = there; here = r.place };
-      access = goes ∙ ap (λ (o : ℕ). further o a) part.lies ∙ ap (further (offset t (i ∷ []))) r.access;
-      shape = part.shape;
-      within = omega (arith, ap words_in goes, words_further f.offset a, part.lies, inside, r.within);
-    }
+words_further n a = grind arith
 
 pub field_selected : (s : RSelector) (i n : ℕ) (a b : Access) (f : RField) (c : Draft) → ((d : Designator) → selector_of s d ≡ Field d i) → f ≡ part_by (slice_get c.tables.shapes n) i → (words_in a + f.offset ≤ 65535 → b ≡ further f.offset a)
     → Emits c c (Selecting s a n b f.shape)
@@ -103,7 +61,20 @@ field_selected s i n a b f c form is moved =
     emits_as c c _ (Selecting s a n b f.shape)
     (λ x t start d place.
     subst (λ (e : Designator). Found e b f.shape x start (length c.bytes)) (sym (form d))
-    (λ sound there. field_reached x d i n a b f start (length c.bytes) (is ∙ ap (λ (ts : Tables). part_by (slice_get ts.shapes n) i) (sym t.1)) moved there (place sound (whole_there (shape_of x.layout.scope d) i there))))
+    (λ sound there.
+    let r = place sound (whole_there (shape_of x.layout.scope d) i there) in
+    let table = shapes_of x.tables.shapes in
+    let found = part_is x.tables.shapes n i x.described.measured (ap (λ (t : Shape). is_there (part_at t (i ∷ []))) r.shape ∙ there) in
+    let same : f ≡ part_by (slice_get x.tables.shapes n) i = is ∙ ap (λ (ts : Tables). part_by (slice_get ts.shapes n) i) (sym t.1) in
+    let part : PartIs table (shape_of x.layout.scope d) i f = subst (λ (t : Shape). PartIs table t i f) r.shape (subst (λ (f : RField). PartIs table (shape_at table n) i f) (sym same) found) in
+    let inside = part_within (shape_of x.layout.scope d) i there in
+    let goes : b ≡ further f.offset a = moved (omega (arith, r.within, inside, part.lies)) in
+    record {
+      place = record { there = there; here = r.place };
+      access = goes ∙ ap (λ (o : ℕ). further o a) part.lies ∙ ap (further (offset (shape_of x.layout.scope d) (i ∷ []))) r.access;
+      shape = part.shape;
+      within = omega (arith, ap words_in goes, words_further f.offset a, part.lies, inside, r.within);
+    }))
     (emits_tied c c _ (emits_none c))
 
 -- ---- elements
@@ -115,21 +86,11 @@ element_reached x d k j e n w a es p found start middle tested q is typed worded
     let table = shapes_of x.tables.shapes in
     let known = elements_are x.tables.shapes n x.described.measured (ap (λ (t : Shape). is_there (element_of t)) r.shape ∙ there) in
     let elements : ElementsAre table t es = subst (λ (t : Shape). ElementsAre table t es) r.shape (subst (λ (es : RElements). ElementsAre table (shape_at table n) es) (sym is) known) in
+    let at = subst (λ (a : Access). InstrsAt x.code (address_code a) found start) r.access address in
+    let tests = subst (λ (j : Kind). InstrsAt x.code (test_code k j) middle tested) typed test in
+    let by = subst (λ (w : ℕ). IsAt x.code tested (Ixc w (words (element_of t))) q) worded (subst (λ (m : ℕ). IsAt x.code tested (Ixc w m) q) elements.sized element) in
     record {
-      place = record {
-        found = found;
-        start = start;
-        middle = middle;
-        tested = tested;
-        rows = row_is t (numbers k) there sound.0;
-        there = there;
-        takes = sound.1;
-        here = r.place;
-        address = subst (λ (a : Access). InstrsAt x.code (address_code a) found start) r.access address;
-        value = value sound.3;
-        test = subst (λ (j : Kind). InstrsAt x.code (test_code k j) middle tested) typed test;
-        by = subst (λ (w : ℕ). IsAt x.code tested (Ixc w (words (element_of t))) q) worded (subst (λ (m : ℕ). IsAt x.code tested (Ixc w m) q) elements.sized element);
-      };
+      place = search (row_is t (numbers k) there sound.0, there, sound, r.place, at, value sound.3, tests, by);
       access = refl;
       shape = elements.shape;
       within = omega (arith, ap words elements.shape, small_at x.tables.shapes es.shape x.described.measured);
@@ -146,34 +107,23 @@ element_selected s k j e n w a es c0 c1 c2 c3 c4 form is typed worded address va
     (emits_tied c0 c4 _ (emits_then c0 c1 c4 _ _ address (emits_then c1 c2 c4 _ _ value (emits_then c2 c3 c4 _ _ test element))))
 
 -- ---- what pointers point to
-follow_reached : (x : Final) (d : Designator) (i n m : ℕ) (a : Access) (p found loaded q : ℕ) → m ≡ target_by (slice_get x.tables.targets i) → IsSoundPlace x.layout.scope (Follow d i) → ReachedAt d a n x p found
-    → IsAt x.code found (load_code a) loaded → IsAt x.code loaded Nlt q → ReachedAt (Follow d i) OnTop m x p q
-follow_reached x d i n m a p found loaded q is sound r load test =
-    let table = shapes_of x.tables.shapes in
-    let lies : shape_at table m ≡ shape_at x.layout.scope.targets i = ap (shape_at table) is ∙ pointed x i sound.1 in
-    record {
-      place = record {
-        found = found;
-        loaded = loaded;
-        typed = sound.0;
-        there = sound.1;
-        here = r.place;
-        load = subst (λ (a : Access). IsAt x.code found (load_code a) loaded) r.access load;
-        test = test;
-      };
-      access = refl;
-      shape = lies;
-      within = omega (arith, ap words lies, small_at x.tables.shapes m x.described.measured);
-    }
-
 pub follow_selected : (s : RSelector) (i n m : ℕ) (a : Access) (c0 c1 c2 : Draft) → ((d : Designator) → selector_of s d ≡ Follow d i) → m ≡ target_by (slice_get c0.tables.targets i)
     → Emits c0 c1 (Doing (λ word. load_code a)) → Emits c1 c2 (Doing (λ word. Nlt)) → Emits c0 c2 (Selecting s a n OnTop m)
 follow_selected s i n m a c0 c1 c2 form is load test =
     emits_as c0 c2 _ (Selecting s a n OnTop m)
     (λ x t start d place.
     subst (λ (e : Designator). Found e OnTop m x start (length c2.bytes)) (sym (form d))
-    (λ sound there. follow_reached x d i n m a start _ _ _ (is ∙ ap (λ (ts : Tables). target_by (slice_get ts.targets i)) (sym t.1)) sound
-    (place sound.2 (ap is_there sound.0)) t.0.0 t.0.1))
+    (λ sound there.
+    let r = place sound.2 (ap is_there sound.0) in
+    let table = shapes_of x.tables.shapes in
+    let lies : shape_at table m ≡ shape_at x.layout.scope.targets i = ap (shape_at table) (is ∙ ap (λ (ts : Tables). target_by (slice_get ts.targets i)) (sym t.1)) ∙ pointed x i sound.1 in
+    let loaded = subst (λ (a : Access). IsAt x.code (length c0.bytes) (load_code a) (length c1.bytes)) r.access t.0.0 in
+    record {
+      place = record { found = length c0.bytes; loaded = length c1.bytes; typed = sound.0; there = sound.1; here = r.place; load = loaded; test = t.0.1 };
+      access = refl;
+      shape = lies;
+      within = omega (arith, ap words lies, small_at x.tables.shapes m x.described.measured);
+    }))
     (emits_tied c0 c2 _ (emits_then c0 c1 c2 _ _ load test))
 
 -- ---- one behind another
@@ -185,9 +135,8 @@ pub next_selector : (ss : List RSelector) (i : ℕ) (root : Designator) (s : RSe
     → Emits c1 c2 (Selecting s a n b m) → Emits c0 c2 (Found (selected root (map selector_of (take (i + 1) ss))) b m)
 next_selector ss i root s a b n m c0 c1 c2 inside is so_far next =
     let d = selected root (map selector_of (take i ss)) in
-    let more : take (i + 1) ss ≡ take i ss ++ s ∷ [] = take_more ss i s inside ∙ ap (λ y. take i ss ++ y ∷ []) (sym is) in
     let all : selected root (map selector_of (take (i + 1) ss)) ≡ selector_of s d =
-    ap (λ (ss : List RSelector). selected root (map selector_of ss)) more
+    ap (λ (ss : List RSelector). selected root (map selector_of ss)) (take_next ss i s inside is)
     ∙ (ap (selected root) (map-append selector_of (take i ss) (s ∷ [])) ∙ selected_more root (map selector_of (take i ss)) (selector_of s)) in
     emits_as c0 c2 _ (Found (selected root (map selector_of (take (i + 1) ss))) b m)
     (λ x t. subst (λ (d : Designator). Found d b m x (length c0.bytes) (length c2.bytes)) (sym all) (t.1 (length c0.bytes) d t.0))

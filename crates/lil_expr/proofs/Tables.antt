@@ -1,16 +1,10 @@
 -- What stands in the tables of a module: shapes by their numbers, their parts and their elements.
 use Rattle.std.proofs.Common.{◌≡◌, ℕ, zero, suc, ◌+◌, ◌*◌, ◌<◌, ◌≤◌, Bool, true, false, if◌then◌else◌, List, [], ◌∷◌, map, length, Option, Some, None, refl, sym, ap, ◌∙◌, subst, arith}
 use Rattle.std.specs.Prelude.{slice_get, nat_lt}
-use Rattle.std.proofs.lemmas.Bool.{ltb-true}
-use Rattle.std.proofs.lemmas.Nat.{mul-le}
-use Rattle.lil_resolved.specs.declared.shapes.RField.{RField}
-use Rattle.lil_resolved.specs.declared.shapes.RElements.{RElements}
-use Rattle.lil_resolved.specs.declared.shapes.RShape.{RShape}
+use Rattle.std.proofs.lemmas.{Bool.ltb-true, Nat.mul-le}
+use Rattle.lil_resolved.specs.{declared.shapes.{RField.RField, RElements.RElements, RShape.RShape}, Kinds.{Shape, Absent, Join, Row, words, is_there, part_at, offset, shape_at, fields_of, element_of, count_of}, Views.{number_of, shape_with, shapes_of, AreMeasuredFields, IsMeasuredShape, AreMeasured}}
 use Rattle.lil_resolved.specs.declared.shapes.RShape.TheVariants as r
-use Rattle.lil_resolved.specs.Kinds.{Shape, Absent, Join, Row, words, is_there, part_at, offset, shape_at, fields_of, element_of, count_of}
-use Rattle.lil_resolved.specs.Views.{number_of, shape_with, shapes_of, AreMeasuredFields, IsMeasuredShape, AreMeasured}
-use Rattle.lil_labels.specs.Entries.{entry, absent}
-use Rattle.lil_labels.specs.Tables.{field_by, part_in, part_by, elements_in, elements_by}
+use Rattle.lil_labels.specs.{Entries.{entry, absent}, Tables.{field_by, part_in, part_by, elements_in, elements_by}}
 
 -- ---- shapes
 pub whole_there : (t : Shape) (i : ℕ) → is_there (part_at t (i ∷ [])) ≡ true → is_there t ≡ true

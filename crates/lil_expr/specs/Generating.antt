@@ -1,18 +1,10 @@
 -- What the code means that the generator of expressions adds.
-use Rattle.std.specs.Prelude.{◌≡◌, ℕ, ◌+◌, ◌≤◌, true, List, map, Option, Some, None}
-use Rattle.lil_base.specs.declared.operator.TwoOp.{TwoOp}
-use Rattle.lil_base.specs.declared.operator.TwoOp.TheVariants.{Or, And}
-use Rattle.lil_resolved.specs.declared.resolved.ROperation.{ROperation}
-use Rattle.lil_resolved.specs.declared.resolved.RSelector.{RSelector}
-use Rattle.lil_resolved.specs.declared.resolved.RMember.{RMember}
-use Rattle.lil_resolved.specs.Kinds.{Kind, words, is_there, shape_at}
-use Rattle.lil_resolved.specs.Resolved.{Designator, Expression, kind_of, shape_of}
-use Rattle.lil_resolved.specs.Sound.{IsSoundPlace, IsSoundExpression}
-use Rattle.lil_resolved.specs.Views.{chained, operation_of, selector_of, member_of, with_members, shapes_of}
+use Rattle.std.specs.Prelude.{◌≡◌, ℕ, ◌+◌, ◌≤◌, true, Option, Some, None}
+use Rattle.lil_base.specs.declared.operator.TwoOp.{TwoOp, TheVariants.{Or, And}}
+use Rattle.lil_resolved.specs.{declared.resolved.{ROperation.ROperation, RSelector.RSelector, RMember.RMember}, Kinds.{Kind, words, is_there, shape_at}, Resolved.{Designator, Expression, kind_of, shape_of}, Sound.{IsSoundPlace, IsSoundExpression}, Views.{operation_of, selector_of, member_of, shapes_of}}
 use Rattle.lil_table.specs.Rows.{InstrsAt, test_code, Access, access_of, PlaceAt, ExpressionAt}
-use Rattle.lil_labels.specs.declared.buffer.Aim.{Aim}
+use Rattle.lil_labels.specs.{declared.buffer.Aim.Aim, Drafts.{Final, Meaning}}
 use Rattle.lil_labels.specs.declared.buffer.Aim.TheVariants as aim
-use Rattle.lil_labels.specs.Drafts.{Final, Meaning}
 use Rattle.lil_expr.specs.Accesses.{words_in}
 
 -- a sound expression has its code
@@ -29,19 +21,13 @@ pub record TestedAt (k : Kind) (e : Expression) (x : Final) (p q : ℕ) : Type 0
 abbrev pub Tested : Kind → Expression → Meaning
 Tested k e x p q = IsSoundExpression x.layout.scope e → TestedAt k e x p q
 
--- behind the code of any set, it makes it that of the set with the member too, or with all
+-- behind the code of any set, it makes it that of the set with the member too
 abbrev pub Joining : Kind → RMember → Meaning
 Joining k m x p q = (start : ℕ) (s : Expression) → Value s x start p → Value (member_of m k s) x start q
 
-abbrev pub JoiningAll : Kind → List RMember → Meaning
-JoiningAll k ms x p q = (start : ℕ) (s : Expression) → Value s x start p → Value (with_members k s (map member_of ms)) x start q
-
--- behind the code of any value, it makes it that of the operation's value, or of the last
+-- behind the code of any value, it makes it that of the operation's value
 abbrev pub Operating : ROperation → Meaning
 Operating o x p q = (start : ℕ) (a : Expression) → Value a x start p → Value (operation_of o a) x start q
-
-abbrev pub OperatingAll : List ROperation → Meaning
-OperatingAll os x p q = (start : ℕ) (a : Expression) → Value a x start p → Value (chained a (map operation_of os)) x start q
 
 -- the code of a place: how code has it, a number of its shape in the tables, and that 16 bits say where its words lie
 pub record ReachedAt (d : Designator) (a : Access) (n : ℕ) (x : Final) (p q : ℕ) : Type 0 where

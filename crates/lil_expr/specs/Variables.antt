@@ -3,14 +3,9 @@ use Rattle.std.proofs.Common.{◌≡◌, ℕ, true, List, Option, Some, None, re
 use Rattle.std.specs.Prelude.{slice_get}
 use Rattle.std.specs.Option.{option_map}
 use Rattle.std.proofs.lemmas.Option.{none-some, same_Some, slice_get-map}
-use Rattle.lil_resolved.specs.declared.resolved.RDeclared.{RDeclared}
-use Rattle.lil_resolved.specs.Kinds.{Kind, Shape, Word, is_there, shape_by, shape_at}
-use Rattle.lil_resolved.specs.Sound.{IsSoundVariable}
-use Rattle.lil_resolved.specs.Views.{offset_of, shape_declared, shapes_of}
+use Rattle.lil_resolved.specs.{declared.resolved.RDeclared.RDeclared, Kinds.{Kind, Shape, Word, is_there, shape_by, shape_at}, Sound.IsSoundVariable, Views.{offset_of, shape_declared, shapes_of}}
 use Rattle.lil_table.specs.Rows.{KnownRow}
-use Rattle.lil_labels.specs.declared.buffer.HeldRecord.{HeldRecord}
-use Rattle.lil_labels.specs.Tables.{variable_by, target_by, word_held, shape_held}
-use Rattle.lil_labels.specs.Drafts.{Final}
+use Rattle.lil_labels.specs.{declared.buffer.HeldRecord.HeldRecord, Tables.{variable_by, target_by, word_held, shape_held}, Drafts.Final}
 
 -- what a mapped item was made of
 mapped : {A B : Type 0} (f : A → B) (o : Option A) (b : B) → option_map f o ≡ Some b → (a : A) × (o ≡ Some a) × (f a ≡ b)

@@ -2,12 +2,10 @@
 
 ghost use Rattle.std.specs.Prelude.{◌≡◌, IfOk, OnOk};
 ghost use Rattle.lil_base.specs.Words as words;
-ghost use Rattle.lil_resolved.specs.Kinds.{OfWhole};
-ghost use Rattle.lil_resolved.specs.Views.{base_view, kind_view, expression_of, place_of};
+ghost use Rattle.lil_resolved.specs.{Kinds.OfWhole, Views.{base_view, kind_view, expression_of, place_of}};
 ghost use Rattle.lil_table.specs.Rows.{two_code, one_code, number_code, set_code};
-ghost use Rattle.lil_labels.specs.Drafts.{DoingAll, Emits};
-ghost use Rattle.lil_expr.specs.Accesses.{access_view};
-ghost use Rattle.lil_expr.specs.Generating.{Found, Selecting, Value, Tested, Joining, JoiningAll, Operating, OperatingAll, aim_of};
+ghost use Rattle.lil_labels.specs.Drafts.{DoingAll, Each, Emits};
+ghost use Rattle.lil_expr.specs.{Accesses.access_view, Generating.{Found, Selecting, Value, Tested, Joining, Operating, aim_of}};
 
 use crate::functions::emit_function;
 use crate::numbers::constant_word;
@@ -110,7 +108,7 @@ fn emit_selector(
 /// stack before it.
 #[cycle(emitting)]
 fn emit_members(code: &mut CodeBuffer<'_>, kind: RKind, members: &[RMember]) -> Result<(), Memory>
-    ensures { OnOk result (Emits code.old code.new (JoiningAll (kind_view kind) members.now)) }
+    ensures { OnOk result (Emits code.old code.new (Each (Joining (kind_view kind)) members.now)) }
 {
     for member in members {
         emit_member(code, kind, member)?;
@@ -143,13 +141,14 @@ fn emit_tested(code: &mut CodeBuffer<'_>, kind: RKind, value: &RExpr) -> Result<
     ensures { OnOk result (Emits code.old code.new (Tested (kind_view kind) (expression_of value.now))) }
 {
     emit_expression(code, value)?;
-    emit_test(code, kind, base(value))
+    emit_test(code, kind, base(value))?;
+    Ok(())
 }
 
 /// Appends the code of operations, each on the value that stands on the expression stack before it.
 #[cycle(emitting)]
 fn emit_operations(code: &mut CodeBuffer<'_>, operations: &[ROperation]) -> Result<(), Memory>
-    ensures { OnOk result (Emits code.old code.new (OperatingAll operations.now)) }
+    ensures { OnOk result (Emits code.old code.new (Each Operating operations.now)) }
 {
     for operation in operations {
         emit_operation(code, operation)?;

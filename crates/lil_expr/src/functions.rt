@@ -1,9 +1,8 @@
 //! The code of standard functions.
 
 ghost use Rattle.std.specs.Prelude.{◌≡◌, OnOk};
-ghost use Rattle.lil_resolved.specs.Kinds.{compared_as};
+ghost use Rattle.lil_resolved.specs.{Kinds.compared_as, Views.{base_view, function_of, kind_view}};
 ghost use Rattle.lil_resolved.specs.Resolved as resolved;
-ghost use Rattle.lil_resolved.specs.Views.{base_view, function_of, kind_view};
 ghost use Rattle.lil_table.specs.Rows.{function_code};
 ghost use Rattle.lil_labels.specs.Drafts.{DoingAll, Emits};
 

@@ -2,8 +2,7 @@
 
 ghost use Rattle.std.specs.Prelude.{◌≡◌, ◌%◌, pos, ◌≤ℤ◌, true};
 ghost use Rattle.lil_base.specs.Words.{word_of};
-ghost use Rattle.lil_resolved.specs.Kinds.{scalar_of, scalar_word, within};
-ghost use Rattle.lil_resolved.specs.Views.{base_view};
+ghost use Rattle.lil_resolved.specs.{Kinds.{scalar_of, scalar_word, within}, Views.base_view};
 
 use lil_resolved::RBase;
 

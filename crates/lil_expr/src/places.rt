@@ -5,8 +5,7 @@ ghost use Rattle.lil_resolved.specs.Views.{root_view};
 ghost use Rattle.lil_table.specs.Rows as rows;
 ghost use Rattle.lil_table.specs.Rows.{address_code, load_code};
 ghost use Rattle.lil_labels.specs.Drafts.{Doing, DoingAll, Emits};
-ghost use Rattle.lil_expr.specs.Accesses.{access_view, words_in};
-ghost use Rattle.lil_expr.specs.Generating.{Found};
+ghost use Rattle.lil_expr.specs.{Accesses.{access_view, words_in}, Generating.Found};
 
 use lil_asm::Instr;
 use lil_base::Memory;

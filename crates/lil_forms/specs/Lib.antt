@@ -1,8 +1,8 @@
-pub mod ControlSound
-pub mod FoundSound
 pub mod Parts
 pub mod Places
+pub mod Properties
+pub mod Scopes
+pub mod Soundness
 pub mod StatementSound
 pub mod Statements
-pub mod ValueSound
 pub mod Values

@@ -1,25 +1,13 @@
 -- The places that designators lead to, part by part, where code can be made of them.
-use Rattle.std.specs.Prelude.{ℕ, ◌-◌, nat_le, List, [], ◌∷◌, ◌++◌, length, slice_get, Option, Some, None, if◌then◌else◌}
+use Rattle.std.specs.Prelude.{ℕ, ◌-◌, List, [], ◌∷◌, ◌++◌, length, slice_get, Option, Some, None}
 use Rattle.lil_types.specs.Types.{Table}
 use Rattle.lil_declared.specs.declared.declared.RVar.{RVar}
-use Rattle.lil_kinds.specs.declared.found.Found.{Found}
-use Rattle.lil_kinds.specs.declared.found.Located.{Located}
-use Rattle.lil_resolved.specs.Sizes.{place_depth}
-use Rattle.lil_resolved.specs.Sound as sound
-use Rattle.lil_resolved.specs.Views.{kind_view, place_of}
-use Rattle.lil_resolved.specs.declared.resolved.RExpr.{RExpr}
-use Rattle.lil_resolved.specs.declared.resolved.RKind.{RKind}
-use Rattle.lil_resolved.specs.declared.resolved.RPlace.{RPlace, roll-RPlace, out-RPlace}
-use Rattle.lil_resolved.specs.declared.resolved.RRoot.{RRoot}
+use Rattle.lil_kinds.specs.declared.found.{Found.Found, Located.Located}
+use Rattle.lil_resolved.specs.declared.resolved.{RExpr.RExpr, RKind.RKind, RPlace.{RPlace, roll-RPlace, out-RPlace}, RRoot.RRoot, RSelector.RSelector}
 use Rattle.lil_resolved.specs.declared.resolved.RRoot.TheVariants as root
-use Rattle.lil_resolved.specs.declared.resolved.RSelector.{RSelector}
 use Rattle.lil_resolved.specs.declared.resolved.RSelector.TheVariants as part
-use Rattle.lil_shapes.specs.declared.composites.ArrayParts.{ArrayParts}
-use Rattle.lil_shapes.specs.declared.pointers.Target.{Target}
-use Rattle.lil_shapes.specs.Bases.{kind_at, field_at, array_at}
-use Rattle.lil_shapes.specs.Pointers.{target_at}
-use Rattle.lil_forms.specs.declared.places.Cell.{Cell}
-use Rattle.lil_forms.specs.Values.{value_kind, typed}
+use Rattle.lil_shapes.specs.{declared.{composites.ArrayParts.ArrayParts, pointers.Target.Target}, Bases.{kind_at, field_at, array_at}, Pointers.target_at}
+use Rattle.lil_forms.specs.{declared.places.Cell.Cell, Values.typed}
 
 -- ---- with what a designator begins
 abbrev pub at_root : RRoot → ℕ → Located
@@ -57,9 +45,9 @@ abbrev pub field_of : Table → ℕ → Option Located → Option Located
 field_of t i None = None
 field_of t i (Some p) = field_by i p (field_at t p.sort i)
 
--- an element, by an index that may be one of the kind of the indexes
+-- an element, by an index
 abbrev pub element_as : Located → ℕ → Option RKind → Option RExpr → Option Located
-element_as p s (Some j) (Some x) = if sound.takes_value (kind_view j) (value_kind x) then Some (part_of p (part.Index j x) s) else None
+element_as p s (Some j) (Some x) = Some (part_of p (part.Index j x) s)
 element_as p s _ _ = None
 
 abbrev pub element_by : Table → Found → Located → Option ArrayParts → Option Located
@@ -79,19 +67,11 @@ abbrev pub target_of : Table → Option Located → Option Located
 target_of t None = None
 target_of t (Some p) = target_by p (target_at t p.sort)
 
--- ---- places that stand alone: the expression stack has room for the code of their addresses
-unfoldable pub near : Option Located → Option Located
-near None = None
-near (Some p) = if nat_le (place_depth (place_of p.place)) 13 then Some p else None
-
--- a place of a kind, and its type
+-- ---- places of a kind, and their types
 abbrev pub cell_as : Located → Option RKind → Option Cell
 cell_as p None = None
 cell_as p (Some j) = Some (record { place = p.place; kind = j; sort = p.sort })
 
-abbrev pub cell_by : Table → Option Located → Option Cell
-cell_by t None = None
-cell_by t (Some p) = cell_as p (kind_at t p.sort)
-
 unfoldable pub cell : Table → Option Located → Option Cell
-cell t p = cell_by t (near p)
+cell t None = None
+cell t (Some p) = cell_as p (kind_at t p.sort)

@@ -1,112 +1,56 @@
 -- The forms of statements that have no statements in them, of what stands around those in others, and of arguments and calls.
-use Rattle.std.specs.Prelude.{ℕ, zero, suc, nat_le, Bool, true, false, ◌&&◌, List, [], ◌∷◌, Option, Some, None, if◌then◌else◌, ◌==◌, ℤ, pos, int_lt, not, length, slice_get}
-use Rattle.lil_base.specs.Lists.{joined}
-use Rattle.lil_types.specs.Types.{Table, boolean}
-use Rattle.lil_types.specs.declared.table.Parameter.{Parameter}
-use Rattle.lil_declared.specs.declared.standard.Resident.{Resident}
+use Rattle.std.specs.Prelude.{ℕ, zero, suc, nat_le, Bool, true, false, ◌&&◌, List, [], ◌∷◌, Option, Some, None, if◌then◌else◌, ◌==◌, ℤ, pos, not, slice_get}
+use Rattle.lil_base.specs.{Lists.joined, Words.{Integer, in_type, is_zero}}
+use Rattle.lil_types.specs.{Types.Table, declared.table.Parameter.Parameter}
+use Rattle.lil_declared.specs.declared.{standard.Resident.Resident, declared.RVar.RVar}
 use Rattle.lil_declared.specs.declared.standard.Resident.TheVariants as resident
-use Rattle.lil_kinds.specs.declared.found.Form.{Form}
+use Rattle.lil_kinds.specs.declared.found.{Form.Form, Found.Found, Located.Located}
 use Rattle.lil_kinds.specs.declared.found.Form.TheVariants as form
-use Rattle.lil_kinds.specs.declared.found.Found.{Found}
-use Rattle.lil_kinds.specs.declared.found.Located.{Located}
-use Rattle.lil_resolved.specs.Kinds.{OfWhole, OfTruth, OfSet, OfPointer, Workspaces}
-use Rattle.lil_base.specs.Words.{Cardinal, Integer, in_type, is_zero}
-use Rattle.lil_resolved.specs.Sound as sound
-use Rattle.lil_resolved.specs.Views.{kind_view, base_view}
-use Rattle.lil_resolved.specs.declared.resolved.Allocation.{Allocation}
-use Rattle.lil_resolved.specs.declared.resolved.Allocation.TheVariants.{Takes, GivesBack}
-use Rattle.lil_resolved.specs.declared.resolved.RArgument.{RArgument}
+use Rattle.lil_resolved.specs.Views.{kind_view}
+use Rattle.lil_resolved.specs.declared.resolved.{Allocation.{Allocation, TheVariants.{Takes, GivesBack}}, Direction.Direction, Membership.Membership, RArgument.RArgument, RArm.{RArm, roll-RArm}, RExpr.RExpr, RGuard.{RGuard, roll-RGuard}, RKind.RKind, RLabel.RLabel, RStmt.RStmt, RVariable.RVariable}
 use Rattle.lil_resolved.specs.declared.resolved.RArgument.TheVariants as given
-use Rattle.lil_resolved.specs.declared.resolved.RBase.{RBase}
-use Rattle.lil_resolved.specs.declared.resolved.RBase.TheVariants as b
-use Rattle.lil_resolved.specs.declared.resolved.RExpr.{RExpr}
-use Rattle.lil_resolved.specs.declared.resolved.RKind.{RKind}
+use Rattle.lil_resolved.specs.declared.resolved.RExpr.TheVariants as e
+use Rattle.lil_resolved.specs.declared.resolved.RStmt.TheVariants as s
 use Rattle.lil_base.specs.declared.request.Request as requests
 use Rattle.lil_base.specs.declared.request.Request.TheVariants as q
-use Rattle.lil_resolved.specs.declared.resolved.RStmt.{RStmt}
-use Rattle.lil_resolved.specs.declared.resolved.RStmt.TheVariants as s
-use Rattle.lil_shapes.specs.Bases.{kind_at, characters_at, members_at, composite_at}
-use Rattle.lil_shapes.specs.Operators.{same_kind, counted, has_number, base_for}
-use Rattle.lil_forms.specs.declared.arguments.Handed.{Handed}
-use Rattle.lil_forms.specs.declared.places.Cell.{Cell}
-use Rattle.lil_forms.specs.Values.{typed, fitting, value_kind, nil, exactly, storable, entered}
-use Rattle.lil_forms.specs.Places.{near, cell}
-use Rattle.std.specs.List.{list_all}
-use Rattle.lil_declared.specs.declared.declared.RVar.{RVar}
-use Rattle.lil_resolved.specs.Kinds as kinds
-use Rattle.lil_resolved.specs.declared.resolved.Direction.{Direction}
-use Rattle.lil_resolved.specs.declared.resolved.Membership.{Membership}
-use Rattle.lil_resolved.specs.declared.resolved.RArm.{RArm, roll-RArm, out-RArm}
-use Rattle.lil_resolved.specs.declared.resolved.RExpr.TheVariants as e
-use Rattle.lil_resolved.specs.declared.resolved.RGuard.{RGuard, roll-RGuard}
-use Rattle.lil_resolved.specs.declared.resolved.RLabel.{RLabel}
-use Rattle.lil_resolved.specs.declared.resolved.RVariable.{RVariable}
-use Rattle.lil_shapes.specs.declared.members.Members.{Members}
-use Rattle.lil_shapes.specs.declared.pointers.Target.{Target}
-use Rattle.lil_shapes.specs.Pointers.{target_of}
-use Rattle.lil_forms.specs.declared.control.Bounds.{Bounds}
+use Rattle.lil_shapes.specs.{Bases.{kind_at, characters_at, members_at, composite_at}, Operators.{counted, counted_base}, declared.{members.Members.Members, pointers.Target.Target}, Pointers.target_of}
+use Rattle.lil_forms.specs.{declared.{arguments.Handed.Handed, control.Bounds.Bounds, places.Cell.Cell}, Values.typed, Places.cell}
 
 -- ---- assignments
-abbrev pub stored_by : Cell → Option RExpr → Option RStmt
-stored_by c None = None
-stored_by c (Some x) = Some (s.Assign c.place c.kind x)
-
 -- a value goes to a place of a kind
 abbrev pub stored : Option Cell → Option RExpr → Option RStmt
-stored None x = None
-stored (Some c) x = stored_by c (storable (kind_view c.kind) x)
+stored (Some c) (Some x) = Some (s.Assign c.place c.kind x)
+stored _ _ = None
 
--- all of a place goes to another of its type
-abbrev pub copied : Located → Option Located → Option RStmt
-copied p None = None
-copied p (Some q) = if q.sort == p.sort then Some (s.Copy p.place q.place) else None
-
--- a string goes to an array of at least as many characters
-abbrev pub written_by : Located → List ℕ → Option ℕ → Option RStmt
-written_by p cs None = None
-written_by p cs (Some n) = if nat_le (length cs) n && sound.is_text cs then Some (s.Text p.place cs) else None
-
-abbrev pub composed_by : Table → Located → Form → Option RStmt
-composed_by t p form.Nothing = None
-composed_by t p (form.Text cs) = written_by p cs (characters_at t p.sort)
-composed_by t p (form.Located q) = copied p (near (Some q))
-composed_by t p (form.Value x) = None
-
-abbrev pub composed : Table → Option Located → Form → Option RStmt
-composed t None f = None
-composed t (Some p) f = composed_by t p f
-
-abbrev pub assigned_by : Table → Located → Found → Option RStmt
-assigned_by t p v = if composite_at t p.sort then composed t (near (Some p)) v.form else stored (cell t (Some p)) (typed t p.sort v)
+-- a string, or all of another place, goes to a place
+abbrev pub composed : Located → Form → Option RStmt
+composed p form.Nothing = None
+composed p (form.Text cs) = Some (s.Text p.place cs)
+composed p (form.Located q) = Some (s.Copy p.place q.place)
+composed p (form.Value x) = None
 
 -- a value goes to a place, by the place's type
 unfoldable pub assigned : Table → Option Located → Found → Option RStmt
 assigned t None v = None
-assigned t (Some p) v = assigned_by t p v
+assigned t (Some p) v = if composite_at t p.sort then composed p v.form else stored (cell t (Some p)) (typed t p.sort v)
 
--- ---- INC and DEC of what is compared by its number
-abbrev pub whole_of : RKind → kinds.Kind
-whole_of j = OfWhole (kinds.compared_as (base_view j.base))
-
+-- ---- INC and DEC
+-- by a number of the type that goes with the place
 abbrev pub changed_by : Direction → Cell → Option RExpr → Option RStmt
 changed_by way c None = None
-changed_by way c (Some x) = if kinds.is_ordinal (base_view c.kind.base) then Some (s.Change way c.place c.kind x) else None
+changed_by way c (Some x) = Some (s.Change way c.place c.kind x)
 
--- by a number of the type that goes with the place
 abbrev pub changed_with : Table → Direction → Option Cell → Found → Option RStmt
 changed_with t way None v = None
-changed_with t way (Some c) v = changed_by way c (exactly (whole_of c.kind) (typed t (counted c.kind.base) v))
+changed_with t way (Some c) v = changed_by way c (typed t (counted c.kind.base) v)
 
 unfoldable pub changed : Table → Direction → Option Located → Found → Option RStmt
 changed t way p v = changed_with t way (cell t p) v
 
 -- by 1
-abbrev pub one_in : RKind → RExpr
-one_in j = e.Constant (base_for (whole_of j)) (pos 1)
-
 abbrev pub changed_at : Direction → Option Cell → Option RStmt
 changed_at way None = None
-changed_at way (Some c) = changed_by way c (Some (one_in c.kind))
+changed_at way (Some c) = Some (s.Change way c.place c.kind (e.Constant (counted_base c.kind.base) (pos 1)))
 
 unfoldable pub changed_by_one : Table → Direction → Option Located → Option RStmt
 changed_by_one t way p = changed_at way (cell t p)
@@ -114,11 +58,11 @@ changed_by_one t way p = changed_at way (cell t p)
 -- ---- INCL and EXCL
 abbrev pub turned_by : Membership → Members → Cell → Option RExpr → Option RStmt
 turned_by way x c None = None
-turned_by way x c (Some v) = if same_kind (kind_view c.kind) OfSet && sound.is_element (kind_view x.kind) then Some (s.Member way c.place x.kind v) else None
+turned_by way x c (Some v) = Some (s.Member way c.place x.kind v)
 
 abbrev pub turned_in : Table → Membership → Option Members → Cell → Found → Option RStmt
 turned_in t way None c v = None
-turned_in t way (Some x) c v = turned_by way x c (entered t x v)
+turned_in t way (Some x) c v = turned_by way x c (typed t x.sort v)
 
 abbrev pub turned_at : Table → Membership → Option Cell → Found → Option RStmt
 turned_at t way None v = None
@@ -143,27 +87,19 @@ created t p = created_at t (cell t p)
 
 abbrev pub disposed_at : Option Cell → Option RStmt
 disposed_at None = None
-disposed_at (Some c) = stored_by c (storable (kind_view c.kind) (nil (Some c.kind.base)))
+disposed_at (Some c) = Some (s.Assign c.place c.kind (e.Constant c.kind.base (pos 0)))
 
 -- a pointer gets NIL
 unfoldable pub disposed : Table → Option Located → Option RStmt
 disposed t p = disposed_at (cell t p)
 
 -- ---- ALLOCATE and DEALLOCATE
-abbrev pub allocated_by : Allocation → Cell → Option RExpr → Option RStmt
-allocated_by way c None = None
-allocated_by way c (Some x) = if kinds.same_pointer (kind_view c.kind) (OfPointer Workspaces) then Some (s.Allocate way c.place x) else None
-
 -- an address gets a workspace of so many words, or gives it back
-unfoldable pub allocated : Allocation → Option Cell → Option RExpr → Option RStmt
-allocated way None x = None
-allocated way (Some c) x = allocated_by way c x
+abbrev pub allocated : Allocation → Option Cell → Option RExpr → Option RStmt
+allocated way (Some c) (Some x) = Some (s.Allocate way c.place x)
+allocated way _ _ = None
 
 -- ---- conditions, and what stands behind them
--- a truth value
-unfoldable pub condition : Table → Found → Option RExpr
-condition t a = exactly OfTruth (typed t boolean a)
-
 abbrev pub guard_of : Option RExpr → Option (List RStmt) → Option RGuard
 guard_of (Some x) (Some ss) = Some (roll-RGuard (record { condition = x; body = ss }))
 guard_of _ _ = None
@@ -187,58 +123,31 @@ looped None = None
 looped (Some ss) = Some (s.Loop ss)
 
 -- ---- WITH
--- the record of a place
-abbrev pub record_by : Table → Option Located → Option Located
-record_by t None = None
-record_by t (Some p) = if composite_at t p.sort then Some p else None
-
-unfoldable pub record_at : Table → Option Located → Option Located
-record_at t p = record_by t (near p)
-
 abbrev pub within : Option Located → Option (List RStmt) → Option RStmt
 within (Some p) (Some ss) = Some (s.With p.place ss)
 within _ _ = None
 
 -- ---- CASE
--- a label isn't empty, and its ends are numbers of values of the base
-abbrev pub label_fits : RBase → RLabel → Bool
-label_fits k l = not (int_lt l.high l.low) && (has_number k l.low && has_number k l.high)
-
-abbrev pub arm_fits : RBase → RArm → Bool
-arm_fits k a = list_all (label_fits k) (out-RArm a).labels
-
 abbrev pub arm_of : List RLabel → Option (List RStmt) → Option RArm
 arm_of ls None = None
 arm_of ls (Some ss) = Some (roll-RArm (record { labels = ls; body = ss }))
 
-abbrev pub selected_by : RExpr → List RArm → Option (List RStmt) → Option RStmt
-selected_by x arms other = if list_all (arm_fits (base_for (value_kind x))) arms then Some (s.Case x arms other) else None
-
-unfoldable pub selected : Option RExpr → Option (List RArm) → Option (Option (List RStmt)) → Option RStmt
-selected (Some x) (Some arms) (Some other) = selected_by x arms other
+abbrev pub selected : Option RExpr → Option (List RArm) → Option (Option (List RStmt)) → Option RStmt
+selected (Some x) (Some arms) (Some other) = Some (s.Case x arms other)
 selected _ _ _ = None
 
 -- ---- FOR
 abbrev pub counter_by : ℕ → Option RKind → Option RVariable
 counter_by n None = None
-counter_by n (Some j) = if kinds.is_ordinal (base_view j.base) then Some (record { number = n; kind = j }) else None
+counter_by n (Some j) = Some (record { number = n; kind = j })
 
 abbrev pub counter_in : Table → ℕ → Option RVar → Option RVariable
 counter_in t n None = None
 counter_in t n (Some v) = counter_by n (kind_at t v.sort)
 
--- a variable of the module, by its number, whose values are compared by their numbers
+-- a variable of the module, by its number
 unfoldable pub counter : Table → List RVar → ℕ → Option RVariable
 counter t vs n = counter_in t n (slice_get vs n)
-
--- its first value may be stored in it, and its last is of its base
-abbrev pub start_of : Option RVariable → Option RExpr → Option RExpr
-start_of None x = None
-start_of (Some v) x = fitting (kind_view v.kind) x
-
-abbrev pub limit_of : Option RVariable → Option RExpr → Option RExpr
-limit_of None x = None
-limit_of (Some v) x = exactly (base_view v.kind.base) x
 
 abbrev pub bounds_of : Option RVariable → Option RExpr → Option RExpr → Option Bounds
 bounds_of (Some v) (Some a) (Some c) = Some (record { variable = v; from = a; to = c })
@@ -269,14 +178,13 @@ abbrev pub array_as : Located → Option ℕ → Option RArgument
 array_as p None = None
 array_as p (Some last) = Some (given.Array p.place last)
 
-abbrev pub array_given : Table → Option Located → Option RArgument
-array_given t None = None
-array_given t (Some p) = array_as p (last_of (characters_at t p.sort))
+abbrev pub array_given : Table → Located → Option RArgument
+array_given t p = array_as p (last_of (characters_at t p.sort))
 
 abbrev pub string_given : Table → Form → Option RArgument
 string_given t form.Nothing = None
-string_given t (form.Text cs) = if sound.is_text cs then Some (given.Text cs) else None
-string_given t (form.Located p) = array_given t (near (Some p))
+string_given t (form.Text cs) = Some (given.Text cs)
+string_given t (form.Located p) = array_given t p
 string_given t (form.Value x) = None
 
 -- ---- values
@@ -286,7 +194,7 @@ value_as j (Some x) = Some (given.Value j x)
 
 abbrev pub value_by : Table → ℕ → Option RKind → Found → Option RArgument
 value_by t s None a = None
-value_by t s (Some j) a = value_as j (fitting (kind_view j) (typed t s a))
+value_by t s (Some j) a = value_as j (typed t s a)
 
 -- ---- what a call is handed
 abbrev pub nothing_handed : Handed
@@ -331,45 +239,10 @@ allocation_of resident.Allocate = Some Takes
 allocation_of resident.Deallocate = Some GivesBack
 allocation_of _ = None
 
--- an argument of a kind, or an array of characters
-abbrev pub is_value : RKind → RArgument → Bool
-is_value j (given.Value i x) = same_kind (kind_view i) (kind_view j)
-is_value j _ = false
-
-abbrev pub is_string : RArgument → Bool
-is_string (given.Value j x) = false
-is_string (given.Array p last) = true
-is_string (given.Text cs) = true
-
-abbrev pub plain : RBase → RKind
-plain k = record { base = k; range = None }
-
--- the arguments of a request are those of its parameters
-abbrev pub takes_number : RBase → List RArgument → Bool
-takes_number k (x ∷ y ∷ []) = is_value (plain k) x && is_value (plain b.Cardinal) y
-takes_number k _ = false
-
-abbrev pub takes_one : (RArgument → Bool) → List RArgument → Bool
-takes_one f (x ∷ []) = f x
-takes_one f _ = false
-
-abbrev pub takes_none : List RArgument → Bool
-takes_none [] = true
-takes_none (x ∷ xs) = false
-
-abbrev pub takes : requests.Request → List RArgument → Bool
-takes q.Write xs = takes_one (is_value (plain b.Character)) xs
-takes q.WriteString xs = takes_one is_string xs
-takes q.WriteLn xs = takes_none xs
-takes q.WriteCard xs = takes_number b.Cardinal xs
-takes q.WriteInt xs = takes_number b.Integer xs
-takes q.WriteOct xs = takes_number b.Cardinal xs
-takes q.WriteHex xs = takes_number b.Cardinal xs
-
 -- ---- calls
 abbrev pub requested : requests.Request → Option (List RArgument) → Option RStmt
 requested r None = None
-requested r (Some xs) = if takes r xs then Some (s.Request r xs) else None
+requested r (Some xs) = Some (s.Request r xs)
 
 abbrev pub request : Option requests.Request → Handed → Option RStmt
 request None h = None
@@ -380,17 +253,17 @@ abbrev pub only : {A : Type 0} → Option (List A) → Option A
 only (Some (x ∷ [])) = Some x
 only _ = None
 
--- a number of words is a CARDINAL's
-abbrev pub words_in : RArgument → Option RExpr
-words_in (given.Value j x) = fitting (OfWhole Cardinal) (Some x)
-words_in _ = None
+-- the value that an argument is
+abbrev pub value_in : RArgument → Option RExpr
+value_in (given.Value j x) = Some x
+value_in _ = None
 
-abbrev pub words_of : Option RArgument → Option RExpr
-words_of None = None
-words_of (Some a) = words_in a
+abbrev pub value_of : Option RArgument → Option RExpr
+value_of None = None
+value_of (Some a) = value_in a
 
 abbrev pub allocation : Allocation → Handed → Option RStmt
-allocation way h = allocated way (only h.places) (words_of (only h.arguments))
+allocation way h = allocated way (only h.places) (value_of (only h.arguments))
 
 abbrev pub called_by : Option Allocation → Option requests.Request → Handed → Option RStmt
 called_by (Some way) r h = allocation way h

@@ -1,16 +1,14 @@
-ghost use Rattle.std.specs.Prelude.{◌≡◌, IfOk, Some, true};
-ghost use Rattle.lil_resolved.specs.Sound.{is_text};
+ghost use Rattle.std.specs.Prelude.{◌≡◌, IfOk};
 ghost use Rattle.lil_forms.specs.Statements as spec;
 
-use crate::places::{Cell, cell_at, near};
+use crate::places::{Cell, cell_at};
 use crate::sets::allocated;
-use crate::statements::note_characters;
-use crate::values::{fitting, typed};
+use crate::values::typed;
 use lil_base::{Items, Memory, Request, beside, joined};
 use lil_declared::Resident;
 use lil_kinds::{Form, Found, Located};
-use lil_resolved::{Allocation, RArgument, RBase, RExpr, RKind, RStmt};
-use lil_shapes::{characters_at, kind_at, same_base};
+use lil_resolved::{Allocation, RArgument, RExpr, RKind, RStmt};
+use lil_shapes::{characters_at, kind_at};
 use lil_types::{Parameter, TypeId, TypeTable};
 use std::alloc::Global;
 
@@ -42,12 +40,9 @@ fn last_of(count: Option<u32>) -> Option<u16>
     }
 }
 
-fn array_given(t: &TypeTable, of: Option<Located>) -> Option<RArgument>
+fn array_given(t: &TypeTable, of: Located) -> Option<RArgument>
     ensures { result ≡ spec.array_given t.now of }
 {
-    let Some(of) = of else {
-        return None;
-    };
     match last_of(characters_at(t, of.sort)) {
         None => {
             drop(of);
@@ -62,11 +57,8 @@ fn string_given(t: &TypeTable, of: Form) -> Option<RArgument>
     ensures { result ≡ spec.string_given t.now of }
 {
     match of {
-        Form::Text(text) => {
-            note_characters(text.get().as_slice());
-            Some(RArgument::Text(text))
-        }
-        Form::Located(place) => array_given(t, near(Some(place))),
+        Form::Text(text) => Some(RArgument::Text(text)),
+        Form::Located(place) => array_given(t, place),
         rest => {
             drop(rest);
             None
@@ -82,7 +74,7 @@ fn value_by(t: &TypeTable, sort: TypeId, kind: Option<RKind>, of: Found) -> Opti
         drop(of);
         return None;
     };
-    match fitting(kind, typed(t, sort, of)) {
+    match typed(t, sort, of) {
         None => None,
         Some(value) => Some(RArgument::Value(kind, value)),
     }
@@ -176,87 +168,12 @@ fn allocation_of(of: Resident) -> Option<Allocation>
     }
 }
 
-fn is_value(base: RBase, of: &RArgument) -> bool
-    ensures { result ≡ spec.is_value (spec.plain base) of.now }
+/// The value that an argument is.
+fn value_in(of: RArgument) -> Option<RExpr>
+    ensures { result ≡ spec.value_in of }
 {
     match of {
-        RArgument::Value(kind, _) => kind.range.is_none() && same_base(kind.base, base),
-        _ => false,
-    }
-}
-
-fn is_string(of: &RArgument) -> bool
-    ensures { result ≡ spec.is_string of.now }
-{
-    match of {
-        RArgument::Value(_, _) => false,
-        RArgument::Array(_, _) | RArgument::Text(_) => true,
-    }
-}
-
-fn takes_number(base: RBase, of: &[RArgument]) -> bool
-    ensures { result ≡ spec.takes_number base of.now }
-{
-    match of {
-        [number, columns] => is_value(base, number) && is_value(RBase::Cardinal, columns),
-        _ => false,
-    }
-}
-
-fn takes_value(base: RBase, of: &[RArgument]) -> bool
-    ensures { result ≡ spec.takes_one (spec.is_value (spec.plain base)) of.now }
-{
-    match of {
-        [value] => is_value(base, value),
-        _ => false,
-    }
-}
-
-fn takes_string(of: &[RArgument]) -> bool
-    ensures { result ≡ spec.takes_one spec.is_string of.now }
-{
-    match of {
-        [text] => is_string(text),
-        _ => false,
-    }
-}
-
-/// Whether arguments are those of a request's parameters.
-fn takes(request: Request, of: &[RArgument]) -> bool
-    ensures { result ≡ spec.takes request of.now }
-{
-    match request {
-        Request::Write => takes_value(RBase::Character, of),
-        Request::WriteString => takes_string(of),
-        Request::WriteLn => of.is_empty(),
-        Request::WriteInt => takes_number(RBase::Integer, of),
-        Request::WriteCard | Request::WriteOct | Request::WriteHex => {
-            takes_number(RBase::Cardinal, of)
-        }
-    }
-}
-
-fn requested(request: Request, of: Option<Items<RArgument>>) -> Option<RStmt>
-    ensures { result ≡ spec.requested request of }
-{
-    match of {
-        Some(of) if takes(request, of.as_slice()) => Some(RStmt::Request(request, of)),
-        rest => {
-            drop(rest);
-            None
-        }
-    }
-}
-
-fn words_in(of: RArgument) -> Option<RExpr>
-    ensures { result ≡ spec.words_in of }
-{
-    let cardinal = RKind {
-        base: RBase::Cardinal,
-        range: None,
-    };
-    match of {
-        RArgument::Value(_, value) => fitting(cardinal, Some(value)),
+        RArgument::Value(_, value) => Some(value),
         rest => {
             drop(rest);
             None
@@ -287,7 +204,7 @@ fn allocation(way: Allocation, of: Handed) -> Option<RStmt>
     let Handed { places, arguments } = of;
     let words = match only(arguments) {
         None => None,
-        Some(argument) => words_in(argument),
+        Some(argument) => value_in(argument),
     };
     allocated(way, only(places), words)
 }
@@ -295,11 +212,10 @@ fn allocation(way: Allocation, of: Handed) -> Option<RStmt>
 fn request(of: Option<Request>, handed: Handed) -> Option<RStmt>
     ensures { result ≡ spec.request of handed }
 {
-    let Some(request) = of else {
-        drop(handed);
-        return None;
-    };
-    requested(request, handed.arguments)
+    match of.zip(handed.arguments) {
+        None => None,
+        Some((request, arguments)) => Some(RStmt::Request(request, arguments)),
+    }
 }
 
 /// A call of a resident procedure. None where an argument has no form, or the procedure has no code.

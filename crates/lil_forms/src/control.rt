@@ -1,15 +1,12 @@
 ghost use Rattle.std.specs.Prelude.{◌≡◌, Some, None, if◌then◌else◌};
-ghost use Rattle.std.specs.List.{list_all};
 ghost use Rattle.lil_forms.specs.Statements as spec;
 
-use crate::places::near;
-use crate::values::{exactly, fitting, typed};
 use lil_base::Items;
 use lil_declared::RVar;
-use lil_kinds::{Found, Located};
-use lil_resolved::{RArm, RBase, RExpr, RGuard, RKind, RLabel, RStmt, RVariable, base as base_of};
-use lil_shapes::{composite_at, has_number, is_ordinal, kind_at};
-use lil_types::{BOOLEAN, TypeTable};
+use lil_kinds::Located;
+use lil_resolved::{RArm, RExpr, RGuard, RLabel, RStmt, RVariable};
+use lil_shapes::kind_at;
+use lil_types::TypeTable;
 use std::alloc::Global;
 
 /// The variable of a FOR, its first value and its last.
@@ -18,14 +15,6 @@ pub struct Bounds {
     pub variable: RVariable,
     pub from: RExpr,
     pub to: RExpr,
-}
-
-/// The value of a condition.
-#[tactic(auto, unfolding(crate::specs::Statements::condition))]
-pub fn condition(t: &TypeTable, of: Found) -> Option<RExpr>
-    ensures { result ≡ spec.condition t.now of }
-{
-    exactly(RBase::Truth, typed(t, BOOLEAN, of))
 }
 
 /// A condition and the statements behind it.
@@ -85,26 +74,6 @@ pub fn looped(body: Option<Items<RStmt>>) -> Option<RStmt>
     }
 }
 
-fn record_by(t: &TypeTable, of: Option<Located>) -> Option<Located>
-    ensures { result ≡ spec.record_by t.now of }
-{
-    match of {
-        Some(of) if composite_at(t, of.sort) => Some(of),
-        rest => {
-            drop(rest);
-            None
-        }
-    }
-}
-
-/// The record of a WITH, whose place stands alone.
-#[tactic(auto, unfolding(crate::specs::Statements::record_at))]
-pub fn record_at(t: &TypeTable, of: Option<Located>) -> Option<Located>
-    ensures { result ≡ spec.record_at t.now of }
-{
-    record_by(t, near(of))
-}
-
 /// A WITH.
 pub fn within(of: Option<Located>, body: Option<Items<RStmt>>) -> Option<RStmt>
     ensures { result ≡ spec.within of body }
@@ -113,27 +82,6 @@ pub fn within(of: Option<Located>, body: Option<Items<RStmt>>) -> Option<RStmt>
         None => None,
         Some((of, body)) => Some(RStmt::With(of.place, body)),
     }
-}
-
-fn label_fits(base: RBase, of: &RLabel) -> bool
-    ensures { result ≡ spec.label_fits base of.now }
-{
-    !(of.high < of.low) && (has_number(base, of.low) && has_number(base, of.high))
-}
-
-fn arm_fits(base: RBase, of: &RArm) -> bool
-    ensures { result ≡ spec.arm_fits base of.now }
-{
-    of.labels
-        .as_slice()
-        .iter()
-        .all(|label| label_fits(base, label))
-}
-
-fn all_fit(base: RBase, of: &[RArm]) -> bool
-    ensures { result ≡ list_all (spec.arm_fits base) of.now }
-{
-    of.iter().all(|arm| arm_fits(base, arm))
 }
 
 /// The labels of an arm, and the statements behind them.
@@ -149,8 +97,7 @@ pub fn arm_of(labels: Items<RLabel>, body: Option<Items<RStmt>>) -> Option<RArm>
     }
 }
 
-/// A CASE of arms whose labels are all numbers of what it selects by.
-#[tactic(auto, unfolding(crate::specs::Statements::selected), using(lil_shapes::specs::Operators::base_again))]
+/// A CASE.
 pub fn selected(
     by: Option<RExpr>,
     arms: Option<Items<RArm>>,
@@ -160,60 +107,21 @@ pub fn selected(
 {
     match by.zip(arms.zip(other)) {
         None => None,
-        Some((by, (arms, other))) => {
-            if all_fit(base_of(&by), arms.as_slice()) {
-                Some(RStmt::Case(by, arms, other))
-            } else {
-                drop((by, arms, other));
-                None
-            }
-        }
+        Some((by, (arms, other))) => Some(RStmt::Case(by, arms, other)),
     }
 }
 
-fn counter_by(number: usize, kind: Option<RKind>) -> Option<RVariable>
-    ensures { result ≡ spec.counter_by number kind }
-{
-    match kind {
-        Some(kind) if is_ordinal(kind.base) => Some(RVariable { number, kind }),
-        _ => None,
-    }
-}
-
-/// A variable of the module by its number, with which a FOR may count.
+/// A variable of the module by its number, with which a FOR counts.
 #[tactic(auto, unfolding(crate::specs::Statements::counter))]
 pub fn counter(t: &TypeTable, variables: &[RVar], number: usize) -> Option<RVariable>
     ensures { result ≡ spec.counter t.now variables.now number }
 {
     match variables.get(number) {
         None => None,
-        Some(variable) => counter_by(number, kind_at(t, variable.sort)),
-    }
-}
-
-/// The first value of a FOR, which may be stored in its variable.
-pub fn start_of(variable: Option<RVariable>, value: Option<RExpr>) -> Option<RExpr>
-    ensures { result ≡ spec.start_of variable value }
-{
-    match variable {
-        None => {
-            drop(value);
-            None
-        }
-        Some(variable) => fitting(variable.kind, value),
-    }
-}
-
-/// The last value of a FOR, which is of its variable's base.
-pub fn limit_of(variable: Option<RVariable>, value: Option<RExpr>) -> Option<RExpr>
-    ensures { result ≡ spec.limit_of variable value }
-{
-    match variable {
-        None => {
-            drop(value);
-            None
-        }
-        Some(variable) => exactly(variable.kind.base, value),
+        Some(variable) => match kind_at(t, variable.sort) {
+            None => None,
+            Some(kind) => Some(RVariable { number, kind }),
+        },
     }
 }
 

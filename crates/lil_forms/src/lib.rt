@@ -11,14 +11,14 @@ mod values;
 
 pub use arguments::{Handed, called, handed_over, located_in, nothing_handed};
 pub use control::{
-    Bounds, arm_of, bounds_of, condition, conditional, counted_with, counter, guard_of, limit_of,
-    looped, record_at, repeated_until, repeated_while, selected, start_of, within,
+    Bounds, arm_of, bounds_of, conditional, counted_with, counter, guard_of, looped,
+    repeated_until, repeated_while, selected, within,
 };
 pub use operators::{
     Built, applied, begun, chain_form, function_by, one_of, operated, set_form, single_by, span_by,
     value_form,
 };
-pub use places::{Cell, cell_at, element_of, field_of, held_at, near, target_of, variable_at};
+pub use places::{Cell, cell_at, element_of, field_of, held_at, target_of, variable_at};
 pub use sets::{allocated, turned};
 pub use statements::{assigned, changed, changed_by_one, created, disposed, note_characters};
-pub use values::{exactly, fitting, ordinal, storable, typed, typed_by};
+pub use values::{typed, typed_by};

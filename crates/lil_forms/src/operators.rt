@@ -1,24 +1,20 @@
 ghost use Rattle.std.specs.Prelude.{◌≡◌, IfOk, Some};
 ghost use Rattle.lil_forms.specs.Values as spec;
 
-use crate::values::{fitting, typed};
+use crate::values::typed;
 use lil_base::{Boxed, Items, Memory, OneOp, TwoOp, beside};
 use lil_declared::Standard;
 use lil_kinds::{Form, Found};
-use lil_resolved::{RBase, RExpr, RFunction, RMember, ROperation, base as base_of};
-use lil_shapes::{
-    Members, is_element, kind_at, members_at, result_base, right_base, same_base, takes_function,
-    takes_one, takes_two,
-};
+use lil_resolved::{RExpr, RFunction, RMember, ROperation};
+use lil_shapes::{Members, kind_at, members_at};
 use lil_types::{TypeId, TypeTable};
 use std::alloc::Global;
 
-/// A chain so far: its first operand, the operations behind it, and what its value is.
+/// A chain so far: its first operand, and the operations behind it.
 #[derive(Drop)]
 pub struct Built {
     pub begin: RExpr,
     pub operations: Items<ROperation>,
-    pub base: RBase,
 }
 
 /// The form of a value, where there is one.
@@ -31,64 +27,40 @@ pub fn value_form(of: Option<RExpr>) -> Form
     }
 }
 
-/// A sign or NOT, where it takes the value.
+/// A sign or NOT of a value.
 pub fn one_of(alloc: Global, operator: OneOp, of: Option<RExpr>) -> Result<Option<RExpr>, Memory>
     ensures { IfOk result (λ x. x ≡ spec.one_of operator of) }
 {
     match of {
-        Some(of) if takes_one(operator, base_of(&of)) => {
-            Ok(Some(RExpr::One(operator, Boxed::new(alloc, of)?)))
-        }
-        rest => {
-            drop(rest);
-            Ok(None)
-        }
+        None => Ok(None),
+        Some(of) => Ok(Some(RExpr::One(operator, Boxed::new(alloc, of)?))),
     }
 }
 
 /// The first operand of a chain.
-#[tactic(auto, using(lil_shapes::specs::Operators::base_again))]
 pub fn begun(alloc: Global, of: Option<RExpr>) -> Option<Built>
     ensures { result ≡ spec.begun of }
 {
     match of {
         None => None,
-        Some(begin) => {
-            let base = base_of(&begin);
-            Some(Built {
-                begin,
-                operations: Items::new(alloc),
-                base,
-            })
-        }
+        Some(begin) => Some(Built {
+            begin,
+            operations: Items::new(alloc),
+        }),
     }
-}
-
-fn takes_operand(operator: TwoOp, base: RBase, operand: &RExpr) -> bool
-    ensures { result ≡ spec.takes_operand operator base operand.now }
-{
-    takes_two(operator, base) && same_base(base_of(operand), right_base(operator, base))
 }
 
 fn with_operation(operator: TwoOp, before: Built, operand: RExpr) -> Result<Built, Memory>
     ensures { IfOk result (λ b. b ≡ spec.with_operation operator before operand) }
 {
-    let Built {
-        begin,
-        operations,
-        base,
-    } = before;
+    let Built { begin, operations } = before;
     let mut operations = operations;
     let pushed = operations.push(ROperation { operator, operand });
     let (begin, _) = beside(begin, pushed)?;
-    Ok(Built {
-        begin,
-        operations,
-        base: result_base(operator, base),
-    })
+    Ok(Built { begin, operations })
 }
 
-/// An operation behind those before it, where its operands are of one base, or a set behind IN.
+/// An operation behind those before it.
 pub fn operated(
     operator: TwoOp,
     before: Option<Built>,
@@ -96,19 +68,9 @@ pub fn operated(
 ) -> Result<Option<Built>, Memory>
     ensures { IfOk result (λ b. b ≡ spec.operated operator before operand) }
 {
-    let Some(before) = before else {
-        drop(operand);
-        return Ok(None);
-    };
-    let Some(operand) = operand else {
-        drop(before);
-        return Ok(None);
-    };
-    if takes_operand(operator, before.base, &operand) {
-        Ok(Some(with_operation(operator, before, operand)?))
-    } else {
-        drop((before, operand));
-        Ok(None)
+    match before.zip(operand) {
+        None => Ok(None),
+        Some((before, operand)) => Ok(Some(with_operation(operator, before, operand)?)),
     }
 }
 
@@ -119,22 +81,12 @@ pub fn chain_form(alloc: Global, of: Option<Built>) -> Result<Form, Memory>
     let Some(of) = of else {
         return Ok(Form::Nothing);
     };
-    let Built {
-        begin,
-        operations,
-        base: _,
-    } = of;
+    let Built { begin, operations } = of;
     let (operations, begin) = beside(operations, Boxed::new(alloc, begin))?;
     Ok(Form::Value(RExpr::Chain(begin, operations)))
 }
 
-pub(crate) fn entered(t: &TypeTable, members: Members, of: Found) -> Option<RExpr>
-    ensures { result ≡ spec.entered t.now members of }
-{
-    fitting(members.kind, typed(t, members.sort, of))
-}
-
-/// A number that is in a set, where it may be among its members.
+/// A number that is in a set of such members.
 pub fn single_by(t: &TypeTable, members: Option<Members>, of: Found) -> Option<RMember>
     ensures { result ≡ spec.single_by t.now members of }
 {
@@ -142,7 +94,7 @@ pub fn single_by(t: &TypeTable, members: Option<Members>, of: Found) -> Option<R
         drop(of);
         return None;
     };
-    match entered(t, members, of) {
+    match typed(t, members.sort, of) {
         None => None,
         Some(of) => Some(RMember::Single(of)),
     }
@@ -157,7 +109,7 @@ fn span(low: Option<RExpr>, high: Option<RExpr>) -> Option<RMember>
     }
 }
 
-/// All numbers from one to another, where both may be among a set's members.
+/// All numbers from one to another in a set of such members.
 pub fn span_by(t: &TypeTable, members: Option<Members>, low: Found, high: Found) -> Option<RMember>
     ensures { result ≡ spec.span_by t.now members low high }
 {
@@ -165,8 +117,8 @@ pub fn span_by(t: &TypeTable, members: Option<Members>, low: Found, high: Found)
         drop((low, high));
         return None;
     };
-    let low = entered(t, members, low);
-    let high = entered(t, members, high);
+    let low = typed(t, members.sort, low);
+    let high = typed(t, members.sort, high);
     span(low, high)
 }
 
@@ -174,19 +126,9 @@ pub fn span_by(t: &TypeTable, members: Option<Members>, low: Found, high: Found)
 pub fn set_form(t: &TypeTable, sort: TypeId, of: Option<Items<RMember>>) -> Form
     ensures { result ≡ spec.set_form t.now sort of }
 {
-    match (members_at(t, sort), of) {
-        (Some(members), Some(of)) => {
-            if is_element(members.kind) {
-                Form::Value(RExpr::Set(members.kind, of))
-            } else {
-                drop(of);
-                Form::Nothing
-            }
-        }
-        rest => {
-            drop(rest);
-            Form::Nothing
-        }
+    match members_at(t, sort).zip(of) {
+        None => Form::Nothing,
+        Some((members, of)) => Form::Value(RExpr::Set(members.kind, of)),
     }
 }
 
@@ -208,7 +150,7 @@ pub fn function_by(t: &TypeTable, of: Standard, sort: TypeId) -> Option<RFunctio
     }
 }
 
-/// A function of a value, where it takes it.
+/// A function of a value.
 pub fn applied(
     alloc: Global,
     function: Option<RFunction>,
@@ -216,18 +158,8 @@ pub fn applied(
 ) -> Result<Option<RExpr>, Memory>
     ensures { IfOk result (λ x. x ≡ spec.applied function of) }
 {
-    match (function, of) {
-        (Some(function), Some(of)) => {
-            if takes_function(function, base_of(&of)) {
-                Ok(Some(RExpr::Apply(function, Boxed::new(alloc, of)?)))
-            } else {
-                drop(of);
-                Ok(None)
-            }
-        }
-        rest => {
-            drop(rest);
-            Ok(None)
-        }
+    match function.zip(of) {
+        None => Ok(None),
+        Some((function, of)) => Ok(Some(RExpr::Apply(function, Boxed::new(alloc, of)?))),
     }
 }

@@ -5,8 +5,8 @@ use crate::values::typed;
 use lil_base::{Items, Memory, beside};
 use lil_declared::RVar;
 use lil_kinds::{Found, Located};
-use lil_resolved::{RExpr, RKind, RPlace, RRoot, RSelector, base as base_of, place_depth};
-use lil_shapes::{ArrayParts, array_at, field_at, kind_at, takes_value, target_at};
+use lil_resolved::{RExpr, RKind, RPlace, RRoot, RSelector};
+use lil_shapes::{ArrayParts, array_at, field_at, kind_at, target_at};
 use lil_types::{TypeId, TypeTable};
 use std::alloc::Global;
 
@@ -91,19 +91,12 @@ fn element_as(
 ) -> Result<Option<Located>, Memory>
     ensures { IfOk result (λ p. p ≡ spec.element_as of sort kind index) }
 {
-    match (kind, index) {
-        (Some(kind), Some(index)) => {
-            if takes_value(kind, base_of(&index)) {
-                Ok(Some(part_of(of, RSelector::Index(kind, index), sort)?))
-            } else {
-                drop((of, index));
-                Ok(None)
-            }
-        }
-        rest => {
-            drop((of, rest));
+    match kind.zip(index) {
+        None => {
+            drop(of);
             Ok(None)
         }
+        Some((kind, index)) => Ok(Some(part_of(of, RSelector::Index(kind, index), sort)?)),
     }
 }
 
@@ -120,7 +113,7 @@ fn element_by(
     element_as(of, parts.element, kind, index)
 }
 
-/// An element by an index, None where the place is no array or the index can't be one of its kind.
+/// An element by an index, None where the place is no array.
 pub fn element_of(
     t: &TypeTable,
     index: Found,
@@ -157,22 +150,10 @@ pub fn target_of(t: &TypeTable, of: Option<Located>) -> Result<Option<Located>, 
     }
 }
 
-/// A place for whose address the expression stack has room: 13 words.
-#[tactic(auto, unfolding(crate::specs::Places::near))]
-pub fn near(of: Option<Located>) -> Option<Located>
-    ensures { result ≡ spec.near of }
-{
-    match of {
-        Some(of) if place_depth(&of.place) <= 13 => Some(of),
-        rest => {
-            drop(rest);
-            None
-        }
-    }
-}
-
-fn cell_by(t: &TypeTable, of: Option<Located>) -> Option<Cell>
-    ensures { result ≡ spec.cell_by t.now of }
+/// A place of a kind, None where its type has none.
+#[tactic(auto, unfolding(crate::specs::Places::cell))]
+pub fn cell_at(t: &TypeTable, of: Option<Located>) -> Option<Cell>
+    ensures { result ≡ spec.cell t.now of }
 {
     let Some(of) = of else {
         return None;
@@ -188,12 +169,4 @@ fn cell_by(t: &TypeTable, of: Option<Located>) -> Option<Cell>
             sort: of.sort,
         }),
     }
-}
-
-/// A place that stands alone, where it is one of a kind.
-#[tactic(auto, unfolding(crate::specs::Places::cell))]
-pub fn cell_at(t: &TypeTable, of: Option<Located>) -> Option<Cell>
-    ensures { result ≡ spec.cell t.now of }
-{
-    cell_by(t, near(of))
 }

@@ -1,41 +1,14 @@
 ghost use Rattle.std.specs.Prelude.{◌≡◌};
-ghost use Rattle.lil_resolved.specs.Kinds.{OfSet, OfPointer, Workspaces, same_pointer};
-ghost use Rattle.lil_shapes.specs.Operators.{same_kind};
-ghost use Rattle.lil_resolved.specs.Views.{kind_view};
 ghost use Rattle.lil_forms.specs.Statements as spec;
 
-use crate::operators::entered;
 use crate::places::{Cell, cell_at};
+use crate::values::typed;
 use lil_kinds::{Found, Located};
-use lil_resolved::{Allocation, Membership, RBase, RExpr, RKind, RStmt};
-use lil_shapes::{Members, is_element, members_at};
+use lil_resolved::{Allocation, Membership, RExpr, RStmt};
+use lil_shapes::members_at;
 use lil_types::TypeTable;
 
-/// Whether the values of a kind are sets.
-fn is_set(kind: RKind) -> bool
-    ensures { result ≡ same_kind (kind_view kind) OfSet }
-{
-    match (kind.range, kind.base) {
-        (None, RBase::Set) => true,
-        _ => false,
-    }
-}
-
-fn turned_by(way: Membership, members: Members, cell: Cell, of: Option<RExpr>) -> Option<RStmt>
-    ensures { result ≡ spec.turned_by way members cell of }
-{
-    match of {
-        Some(of) if is_set(cell.kind) && is_element(members.kind) => {
-            Some(RStmt::Member(way, cell.place, members.kind, of))
-        }
-        rest => {
-            drop((cell, rest));
-            None
-        }
-    }
-}
-
-/// A number joins the set at a place, by INCL, or leaves it, by EXCL. None where there is no set or no such number.
+/// A number joins the set at a place, by INCL, or leaves it, by EXCL.
 #[tactic(auto, unfolding(crate::specs::Statements::turned))]
 pub fn turned(t: &TypeTable, way: Membership, set: Option<Located>, of: Found) -> Option<RStmt>
     ensures { result ≡ spec.turned t.now way set of }
@@ -44,42 +17,25 @@ pub fn turned(t: &TypeTable, way: Membership, set: Option<Located>, of: Found) -
         drop(of);
         return None;
     };
-    match members_at(t, cell.sort) {
+    let Some(members) = members_at(t, cell.sort) else {
+        drop((cell, of));
+        return None;
+    };
+    match typed(t, members.sort, of) {
         None => {
-            drop((cell, of));
+            drop(cell);
             None
         }
-        Some(members) => {
-            let of = entered(t, members, of);
-            turned_by(way, members, cell, of)
-        }
-    }
-}
-
-/// Whether the values of a kind are addresses.
-fn is_address(kind: RKind) -> bool
-    ensures { result ≡ same_pointer (kind_view kind) (OfPointer Workspaces) }
-{
-    match (kind.range, kind.base) {
-        (None, RBase::Address) => true,
-        _ => false,
+        Some(of) => Some(RStmt::Member(way, cell.place, members.kind, of)),
     }
 }
 
 /// ALLOCATE and DEALLOCATE: an address at a place gets a workspace of so many words, or is NIL again.
-#[tactic(auto, unfolding(crate::specs::Statements::allocated))]
 pub fn allocated(way: Allocation, of: Option<Cell>, words: Option<RExpr>) -> Option<RStmt>
     ensures { result ≡ spec.allocated way of words }
 {
-    let Some(cell) = of else {
-        drop(words);
-        return None;
-    };
-    match words {
-        Some(words) if is_address(cell.kind) => Some(RStmt::Allocate(way, cell.place, words)),
-        rest => {
-            drop((cell, rest));
-            None
-        }
+    match of.zip(words) {
+        None => None,
+        Some((cell, words)) => Some(RStmt::Allocate(way, cell.place, words)),
     }
 }

@@ -1,7 +1,6 @@
 -- Blocks that lie apart, one more of them, and some of them gone.
 use Rattle.std.proofs.Common.{◌≡◌, ℕ, suc, ◌+◌, ◌-◌, ◌*◌, ◌≤◌, Bool, true, false, List, [], ◌∷◌, ◌++◌, length, Some, None, slice_get, nat_lt, if◌then◌else◌, refl, sym, ap, ◌∙◌, arith}
-use Rattle.lil_frames.specs.declared.blocks.Block.{Block}
-use Rattle.lil_frames.specs.Blocks.{lowest_of, Apart, of_lower}
+use Rattle.lil_frames.specs.{declared.blocks.Block.Block, Blocks.{lowest_of, Apart, of_lower}}
 
 pub lowest_more : (above : ℕ) (bs : List Block) (b : Block) → lowest_of above (bs ++ b ∷ []) ≡ b.at - 2
 lowest_more above [] b = refl

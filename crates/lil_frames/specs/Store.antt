@@ -1,9 +1,6 @@
 -- The main store, and what is done to it.
 use Rattle.std.specs.Prelude.{ℕ, ◌+◌, ◌-◌, List, [], ◌∷◌, ◌++◌, Result, Ok, Err, nat_lt, if◌then◌else◌}
-use Rattle.lil_frames.specs.declared.blocks.Block.{Block}
-use Rattle.lil_frames.specs.declared.store.StoreFull.{StoreFull}
-use Rattle.lil_frames.specs.Words.{zeros, cleared}
-use Rattle.lil_frames.specs.Blocks.{lowest_of, of_lower}
+use Rattle.lil_frames.specs.{declared.{blocks.Block.Block, store.StoreFull.StoreFull}, Words.{zeros, cleared}, Blocks.{lowest_of, of_lower}}
 
 -- its words, the blocks that are taken, and how many levels are open
 pub record Store : Type 0 where

@@ -12,6 +12,7 @@ pub struct Block {
 }
 
 /// The first of the two words below the lowest block.
+#[tactic(auto, using(crate::proofs::BlockLaws::lowest_last))]
 pub fn lowest_of_blocks(blocks: &[Block]) -> u16
     ensures { result ≡ lowest_of 65535 blocks.now }
 {

@@ -1,7 +1,5 @@
 ghost use Rattle.std.specs.Prelude.{◌≡◌, ◌+◌, ◌-◌, ◌<◌, ◌≤◌, length, slice_get, slice_index, slice_set, Some, IfOk};
-ghost use Rattle.lil_frames.specs.Words.{spliced, cleared, moved};
-ghost use Rattle.lil_frames.specs.Blocks.{Apart, size_at};
-ghost use Rattle.lil_frames.specs.Store.{empty, lowest, with_words, opened, closed, taken};
+ghost use Rattle.lil_frames.specs.{Words.{spliced, cleared, moved}, Blocks.{Apart, size_at}, Store.{empty, lowest, with_words, opened, closed, taken}};
 
 use crate::blocks::{Block, drop_level, lowest_of_blocks, put_block, size_of_block};
 use crate::words::{clear, copy_words, move_words, zero_words};
@@ -121,6 +119,7 @@ impl MainStore {
     }
 
     /// The highest level ends, and its blocks go back.
+    #[tactic(auto, using(crate::proofs::BlockLaws::apart_lower))]
     pub fn close_level(&mut self)
         requires { 1 ≤ self.old.levels }
         ensures { self.new ≡ closed self.old }
@@ -135,6 +134,7 @@ impl MainStore {
     /// # Errors
     ///
     /// `StoreFull` where the block and the two words below it are more than the free ones. Nothing changes then.
+    #[tactic(auto, using(crate::proofs::BlockLaws::lowest_more, crate::proofs::BlockLaws::apart_more, crate::proofs::BlockLaws::apart_room))]
     pub fn allocate(&mut self, top: u32, words: u16) -> Result<u16, StoreFull>
         ensures taken { taken top words self.old ≡ (result, self.new) }
         ensures below { IfOk result (λ at. lowest self.new ≡ at - 2) }

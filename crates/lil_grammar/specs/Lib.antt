@@ -1,3 +1,4 @@
+pub mod Phrases
 pub mod Places
 pub mod Rules
 pub mod RulesExact
@@ -5,7 +6,6 @@ pub mod RulesFar
 pub mod RulesLimit
 pub mod RulesLists
 pub mod RulesMany
-pub mod RulesOne
 pub mod RulesTokens
 pub mod RulesUse
 pub mod Steps

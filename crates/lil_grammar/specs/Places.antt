@@ -1,10 +1,7 @@
 -- Where a phrase of a grammar stops, and where it does not go on: the exact places of the faults.
 use Rattle.std.specs.Prelude.{◌≡◌, ◌⊎◌, ℕ, suc, length, List, [], ◌∷◌, ◌++◌, Some, None, Ok, Err}
 use Rattle.lil_base.specs.declared.fault.Place.{Place}
-use Rattle.lil_text.specs.declared.token.Token.{Token}
-use Rattle.lil_text.specs.declared.stop.ReadStop.{ReadStop}
-use Rattle.lil_text.specs.declared.stop.ReadStop.TheVariants.{Fault, Memory}
-use Rattle.lil_text.specs.Nesting.{Limit, within}
+use Rattle.lil_text.specs.{declared.{token.Token.Token, stop.ReadStop.{ReadStop, TheVariants.{Fault, Memory}}}, Nesting.{Limit, within}}
 use Rattle.lil_grammar.specs.Steps.{Outcome, first, place_of, syntax, nested}
 
 abbrev pub Grammar : Type 0 → Type 1

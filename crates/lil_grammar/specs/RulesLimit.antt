@@ -1,12 +1,7 @@
 -- The limit of nesting: a part one level in, and the refusal of any part where no level is left.
-use Rattle.std.proofs.Common.{◌≡◌, ◌⊎◌, ℕ, zero, suc, ◌≤◌, Bool, true, false, List, [], ◌∷◌, length, Some, None, Ok, Err, refl, subst, ap, sym, ◌∙◌, inl, inr, arith}
-use Rattle.lil_text.specs.declared.token.Token.{Token}
-use Rattle.lil_text.specs.declared.token.TokenKind.{TokenKind}
-use Rattle.lil_text.specs.declared.stop.ReadStop.{ReadStop}
-use Rattle.lil_text.specs.Nesting.{Limit, Inside, unlimited, one_less, after}
-use Rattle.lil_grammar.specs.Steps.{syntax, nested, Parser, first, place_of, at, either_by, refuse, too_deep, shallow}
-use Rattle.lil_grammar.specs.Rules.{Late, IsFree, Relation, Fell, Rule, Begins, err_same}
-use Rattle.lil_grammar.specs.RulesTokens.{at_same, place_same}
+use Rattle.std.proofs.Common.{◌≡◌, ◌⊎◌, ℕ, zero, suc, ◌≤◌, Bool, true, false, List, [], ◌∷◌, length, Some, None, refl, ap, ◌∙◌, inl, inr}
+use Rattle.lil_text.specs.{declared.token.{Token.Token, TokenKind.TokenKind}, Nesting.{Limit, Inside, unlimited, one_less, after}}
+use Rattle.lil_grammar.specs.{Steps.{Parser, first, place_of, at, either_by, refuse, too_deep, shallow}, Rules.{Late, IsFree, Relation, Answered, Rule, Begins}, RulesTokens.by_first}
 
 -- at most n parts in one another
 abbrev pub limit : ℕ → Late → Limit
@@ -21,33 +16,15 @@ pub inside_free : (n : ℕ) (late : Late) (ts : List Token) → IsFree late (len
 inside_free n None ts h = unlimited
 inside_free n (Some late) ts h = after h
 
-pub some_same : {A : Type 0} {x y : A} → Some x ≡ Some y → x ≡ y
-some_same e = cc
-
-inside_some : {l inner : Limit} {ts : List Token} → Inside l ts inner → (n late : ℕ) → l ≡ Some (n, late) → ((m : ℕ) × (n ≡ suc m) × (inner ≡ Some (m, late))) ⊎ (length ts ≤ late × (inner ≡ None))
-inside_some unlimited n late e = absurd (cc)
-inside_some (one_less {n = m} {late = late'}) n late e = let p = some_same e in inl (m, sym (ap (λ p. p.0) p), ap (λ late. Some (m, late)) (ap (λ p. p.1) p))
-inside_some (after {ts = ts} h) n late e = inr (subst (λ late. length ts ≤ late) (ap (λ p. p.1) (some_same e)) h, refl)
-
-inside_none : {l inner : Limit} {ts : List Token} → Inside l ts inner → l ≡ None → inner ≡ None
-inside_none unlimited e = refl
-inside_none one_less e = absurd (cc)
-inside_none (after h) e = absurd (cc)
-
 -- where a part may begin, and what then holds inside it
 pub inside_next_is : (n : ℕ) (late : Late) (ts : List Token) (inner : Limit) → Inside (limit (suc n) late) ts inner → (inner ≡ limit n late) ⊎ (IsFree late (length ts) × (inner ≡ None))
-inside_next_is n None ts inner i = inl (inside_none i refl)
-inside_next_is n (Some late) ts inner i = elim (inside_some i (suc n) late refl) [
-  | inl h ↦ let e : h.0 ≡ n = omega (arith, h.1) in inl (h.2 ∙ ap (λ m. Some (m, late)) e)
-  | inr h ↦ inr h
-]
+inside_next_is n None ts inner unlimited = inl refl
+inside_next_is n (Some late) ts inner one_less = inl refl
+inside_next_is n (Some late) ts inner (after h) = inr (h, refl)
 
 pub inside_zero_is : (late : Late) (ts : List Token) (inner : Limit) → Inside (limit zero late) ts inner → IsFree late (length ts) × (inner ≡ None)
-inside_zero_is None ts inner i = (tt, inside_none i refl)
-inside_zero_is (Some late) ts inner i = elim (inside_some i zero late refl) [
-  | inl h ↦ absurd (omega (arith, h.1))
-  | inr h ↦ h
-]
+inside_zero_is None ts inner unlimited = (tt, refl)
+inside_zero_is (Some late) ts inner (after h) = (h, refl)
 
 -- ---- no part may begin
 module _ {A : Type 0} (test : TokenKind → Bool) (R : Relation A) (F : List Token → Type 0)
@@ -57,46 +34,40 @@ module _ {A : Type 0} (test : TokenKind → Bool) (R : Relation A) (F : List Tok
   abbrev by_test : Bool → Parser A
   by_test = either_by too_deep refuse
 
-  none_read : (b : Bool) (ts : List Token) (a : A) (rest : List Token) → by_test b ts ≡ Ok (a, rest) → ⊥
-  none_read true ts a rest is = absurd (cc)
-  none_read false ts a rest is = absurd (cc)
+  same_by : (b : Bool) (t : Token) (ts us : List Token) → by_test b (t ∷ ts) ≡ by_test b (t ∷ us)
+  unfolding place_of
+  same_by true t ts us = refl
+  same_by false t ts us = refl
 
-  error_again : (b : Bool) (ts : List Token) (e : ReadStop) → by_test b ts ≡ Err e → (more : List Token) → first more ≡ first ts → by_test b more ≡ Err e
-  error_again true ts e is more h = ap (λ p. Err (nested p)) (place_same more ts h) ∙ is
-  error_again false ts e is more h = ap (λ p. Err (syntax p)) (place_same more ts h) ∙ is
+  again : (more ts : List Token) → first more ≡ first ts → shallow test more ≡ by_test (at test ts) ts
+  unfolding at
+  again = by_first (λ more ts. shallow test more ≡ by_test (at test ts) ts) refl (λ t more ts. same_by (test t.what) t more ts)
 
-  abbrev none_left : Parser A
-  none_left = shallow test
-
-  again : (ts : List Token) (e : ReadStop) → none_left ts ≡ Err e → (more : List Token) → first more ≡ first ts → none_left more ≡ Err e
-  again ts e is more h = ap (λ b. by_test b more) (at_same test more ts h) ∙ error_again (at test ts) ts e is more h
-
-  fell_by : (ts : List Token) (e : ReadStop) → none_left ts ≡ Err e → (b : Bool) → at test ts ≡ b → by_test b ts ≡ Err e → Fell none_left R F ts e
+  answered_by : (ts : List Token) (b : Bool) → at test ts ≡ b → Answered (shallow test) R F ts (by_test b ts)
   unfolding at place_of
-  fell_by [] e is true begun h = absurd (cc)
-  fell_by (t ∷ ts) e is true begun h = record {
+  answered_by [] true begun = absurd (cc)
+  answered_by (t ∷ ts) true begun = record {
     front = [];
     rest = t ∷ ts;
     on = t ∷ [];
     cut = refl;
-    again = again (t ∷ ts) e is;
+    again = λ more h. again more (t ∷ ts) h ∙ ap (λ b. by_test b (t ∷ ts)) begun;
     begins = each t begun;
-    why = inr (record { token = t; tail = ts; one = refl; cut = refl; is = sym (err_same h); keeps_none = λ more late rest a k f. free late (t ∷ more) rest a k });
+    why = inr (record { token = t; tail = ts; one = refl; cut = refl; is = refl; keeps_none = λ more late rest a k f. free late (t ∷ more) rest a k });
   }
-  fell_by ts e is false begun h = record {
+  answered_by ts false begun = record {
     front = [];
     rest = ts;
     on = [];
     cut = refl;
-    again = again ts e is;
+    again = λ more h. again more ts h ∙ ap (λ b. by_test b ts) begun;
     begins = some;
-    why = inl (record { none = refl; is = sym (err_same h); at_end = refl });
+    why = inl (record { none = refl; is = refl; at_end = refl });
   }
 
   pub rule_shallow : Rule (shallow test) R F
   rule_shallow = record {
-    took = λ ts a rest is. absurd (none_read (at test ts) ts a rest is);
-    fell = λ ts e is. fell_by ts e is (at test ts) refl is;
+    answered = λ ts. answered_by ts (at test ts) refl;
     reaches = λ late ts rest a h f. inl (place_of ts, ap (λ b. by_test b ts) (begins late ts rest a h));
     some = some;
   }

@@ -1,18 +1,11 @@
 -- The rule of repetition, as long as a turn begins.
-use Rattle.std.proofs.Common.{◌≡◌, ◌⊎◌, ℕ, zero, suc, ◌≤◌, ◌<◌, Bool, true, false, List, [], ◌∷◌, length, None, Ok, Err, refl, subst, ap, sym, ◌∙◌, inl, inr, arith}
-use Rattle.lil_text.specs.declared.token.Token.{Token}
-use Rattle.lil_text.specs.declared.token.TokenKind.{TokenKind}
-use Rattle.lil_text.specs.declared.stop.ReadStop.{ReadStop}
-use Rattle.lil_grammar.specs.Steps.{Outcome, Parser, and_then, ◌>>=◌, pure, at, either_by, loop, many}
-use Rattle.lil_grammar.specs.Rules.{Late, Relation, Took, Fell, Rule, Reaches, Begins, Nested, err_same, bind_ok, Then, ◌▸◌, AtOnce, Opens, then_took, first_fell, second_fell, then_reaches, Choice, chosen, choice_took, choice_fell, took_as, fell_as}
-use Rattle.lil_grammar.specs.RulesTokens.{Anything, Same, nothing, rule_pure, at_same, never_at_once}
-
-pub data Star {S : Type 0} (D : S → Relation S) (late : Late) : S → List Token → List Token → S → Type 0 where
-  stop : {s : S} {ts : List Token} → Star D late s ts ts s
-  go_on : {s s' s'' : S} {ts mid rest : List Token} → D s late ts mid s' → Star D late s' mid rest s'' → Star D late s ts rest s''
+use Rattle.std.proofs.Common.{◌≡◌, ℕ, zero, suc, ◌≤◌, ◌<◌, Bool, true, false, List, [], ◌∷◌, length, Ok, Err, refl, subst, ap, sym, ◌∙◌, inl, inr, arith}
+use Rattle.lil_text.specs.declared.token.{Token.Token, TokenKind.TokenKind}
+use Rattle.lil_grammar.specs.{Steps.{Outcome, Parser, and_then, ◌>>=◌, pure, at, either_by, loop, many}, Phrases.{nothing, ◌▸◌, left, right, Star, stop, go_on}, RulesTokens.{Same, rule_pure}, RulesLists.{Opens, Or, either_answered}}
+use Rattle.lil_grammar.specs.Rules.{Late, Relation, Answered, Reached, Reaches, Rule, Begins, Then, then_answered, then_reaches, answered_as}
 
 abbrev pub Turns : {S : Type 0} → (S → Relation S) → S → Relation S
-Turns D s late ts rest x = Star D late s ts rest x
+Turns D s late = Star (λ s. D s late) s
 
 module _ {S : Type 0} (test : TokenKind → Bool) (turn : S → Parser S)
     (shrinks : (s : S) (ts : List Token) (s' : S) (mid : List Token) → turn s ts ≡ Ok (s', mid) → length mid < length ts) where
@@ -49,99 +42,52 @@ module _ {S : Type 0} (test : TokenKind → Bool) (turn : S → Parser S)
       (over : (ts : List Token) → F ts → at test ts ≡ false)
       (goes : (ts : List Token) → at test ts ≡ true → E ts) (stops : (ts : List Token) → F ts → E ts)
       (ends : F []) (each : (s : S) (t : Token) → test t.what ≡ true → Opens (D s) t) where
-    pub between : {late : Late} {s : S} {ts rest : List Token} {x : S} → Star D late s ts rest x → F rest → E ts
+    between : {late : Late} {s : S} {ts rest : List Token} {x : S} → Turns D s late ts rest x → F rest → E ts
     between (stop {ts = ts}) e = stops ts e
     between {late} (go_on {s = s} {s' = s'} {ts = ts} {mid = mid} h more) e = goes ts (begins late s ts mid s' h)
 
-    abbrev One : S → Bool → Relation S
-    One s true = Then (D s) (Turns D)
-    One s false = Same s
+    to_turns : {late : Late} {s : S} {ts rest : List Token} {x : S} → Or (Then (D s) (Turns D)) (Same s) late ts rest x → Turns D s late ts rest x
+    to_turns (left (h ▸ k)) = go_on h k
+    to_turns {late} {s} {ts} (right (nothing e)) = subst (λ x. Turns D s late ts ts x) (sym e) stop
 
-    one_turns : {late : Late} {s : S} {ts rest : List Token} {x : S} (b : Bool) → One s b late ts rest x → Star D late s ts rest x
-    one_turns true (h ▸ k) = go_on h k
-    one_turns {late} {s} {ts} {rest} false (nothing e) = subst (λ x. Star D late s ts ts x) (sym e) stop
+    from_turns : {late : Late} {s : S} {ts rest : List Token} {x : S} → Turns D s late ts rest x → Or (Then (D s) (Turns D)) (Same s) late ts rest x
+    from_turns stop = right (nothing refl)
+    from_turns (go_on h more) = left (h ▸ more)
 
-    to_turns : (s : S) (late : Late) (ts rest : List Token) (x : S) → Choice (One s) late ts rest x → Star D late s ts rest x
-    to_turns s late ts rest x (chosen b h) = one_turns b h
-
-    from_turns : {late : Late} {s : S} {ts rest : List Token} {x : S} → Star D late s ts rest x → Choice (One s) late ts rest x
-    from_turns stop = chosen false (nothing refl)
-    from_turns (go_on h more) = chosen true (h ▸ more)
-
-    abbrev EndsOne : Bool → List Token → Type 0
-    EndsOne true = F
-    EndsOne false = Anything
-
-    ends_of : (b : Bool) (rest : List Token) → F rest → EndsOne b rest
-    ends_of true rest e = e
-    ends_of false rest e = tt
-
-    only : (s : S) (late : Late) (ts rest : List Token) (b : Bool) (x : S) → One s b late ts rest x → F rest → at test ts ≡ b
-    only s late ts rest true x (◌▸◌ {mid = mid} {a = s'} h k) e = begins late s ts mid s' h
-    only s late ts rest false x (nothing same) e = over ts e
-
-    none_taken : (s : S) (b : Bool) (x : S) → One s b None [] [] x → at test [] ≡ b
-    none_taken s b x h = only s None [] [] b x h ends
-
-    took_by : (s : S) (ts : List Token) (x : S) (rest : List Token) → ((s' : S) (mid : List Token) → length mid < length ts → many test turn s' mid ≡ Ok (x, rest) → Took (many test turn s') (Turns D s') mid x rest)
-        → (b : Bool) → at test ts ≡ b → step (many test turn) s b ts ≡ Ok (x, rest) → Took (many test turn s) (Turns D s) ts x rest
-    took_by s ts x rest deeper true is e =
-        let y = bind_ok (turn s ts) (many test turn) (x, rest) e in
-        took_as (many_is s) (to_turns s)
-        (choice_took (at test) (at_same test) (step (many test turn) s) (One s) (none_taken s) is
-        (then_took (turn s) (D s) (many test turn) (Turns D) ((rules s).took ts y.0.0 y.0.1 y.1) (deeper y.0.0 y.0.1 (shrinks s ts y.0.0 y.0.1 y.1) y.2)))
-    took_by s ts x rest deeper false is e =
-        took_as (many_is s) (to_turns s) (choice_took (at test) (at_same test) (step (many test turn) s) (One s) (none_taken s) is ((rule_pure s).took ts x rest e))
-
-    took_from : (n : ℕ) (s : S) (ts : List Token) (x : S) (rest : List Token) → length ts ≤ n → many test turn s ts ≡ Ok (x, rest) → Took (many test turn s) (Turns D s) ts x rest
-    took_from zero s ts x rest h is = took_by s ts x rest (λ s' mid less e. absurd (omega arith)) (at test ts) refl (sym (many_is s ts) ∙ is)
-    took_from (suc n) s ts x rest h is = took_by s ts x rest (λ s' mid less e. took_from n s' mid x rest (omega arith) e) (at test ts) refl (sym (many_is s ts) ∙ is)
+    reaches : {late : Late} {s : S} {ts rest : List Token} {x : S} → Turns D s late ts rest x → F rest → Reached (many test turn s ts) x rest
+    reaches (stop {s = s} {ts = ts}) e = inr (many_is s ts ∙ ap (λ b. step (many test turn) s b ts) (over ts e))
+    reaches {late} (go_on {s = s} {s' = s'} {s'' = x} {ts = ts} {mid = mid} {rest = rest} h more) e =
+        subst (λ o. Reached o x rest) (sym (many_is s ts ∙ ap (λ b. step (many test turn) s b ts) (begins late s ts mid s' h)))
+        (then_reaches (turn s) (D s) (many test turn) (Turns D) ((rules s).reaches late ts mid s' h (between more e)) (reaches more e))
 
     turns_some : (s : S) → Begins (Turns D s) [] []
     turns_some s = record { more = []; tree = s; derives = λ ts late free. stop }
 
-    reaches : {late : Late} {s : S} {ts rest : List Token} {x : S} → Star D late s ts rest x → F rest → Nested (many test turn s ts) ⊎ (many test turn s ts ≡ Ok (x, rest))
-    reaches (stop {s = s} {ts = ts}) e = inr (many_is s ts ∙ ap (λ b. step (many test turn) s b ts) (over ts e))
-    reaches {late} (go_on {s = s} {s' = s'} {s'' = x} {ts = ts} {mid = mid} {rest = rest} h more) e =
-        subst (λ o. Nested o ⊎ (o ≡ Ok (x, rest))) (sym (many_is s ts ∙ ap (λ b. step (many test turn) s b ts) (begins late s ts mid s' h)))
-        (then_reaches (turn s) (D s) (many test turn) (Turns D) ((rules s).reaches late ts mid s' h (between more e)) (reaches more e))
+    module _ (s : S) where
+      inner : (late : Late) (ts rest : List Token) (s' x : S) → Turns D s' late ts rest x → F rest → E ts
+      inner late ts rest s' x h e = between h e
 
-    -- a turn is not refused at its first token
-    at_once : (s : S) (b : Bool) → AtOnce (at test) (at_same test) (step (many test turn) s) (One s) b
-    unfolding at
-    at_once s false = inl refl
-    at_once s true = inr (inr (never_at_once test opens one_reaches ends))
-      where
-        opens : (t : Token) → test t.what ≡ true → Opens (Then (D s) (Turns D)) t
-        opens t h = let o = each s t h in (o.0, o.1, o.2 ▸ stop)
+      first_turn : (late : Late) (ts rest : List Token) (x : S) → Then (D s) (Turns D) late ts rest x → at test ts ≡ true
+      first_turn late ts rest x (◌▸◌ {mid = mid} {a = s'} h k) = begins late s ts mid s' h
 
-        one_reaches : Reaches (turn s >>= many test turn) (Then (D s) (Turns D)) F
-        one_reaches late ts rest x (◌▸◌ {mid = mid} {a = s'} h k) e = then_reaches (turn s) (D s) (many test turn) (Turns D) ((rules s).reaches late ts mid s' h (between k e)) (reaches k e)
+      no_turn : (late : Late) (ts rest : List Token) (x : S) → Same s late ts rest x → F rest → at test ts ≡ false
+      no_turn late ts rest x (nothing same) e = over ts e
 
-    fell_by : (s : S) (ts : List Token) (e : ReadStop) → ((s' : S) (mid : List Token) → length mid < length ts → many test turn s' mid ≡ Err e → Fell (many test turn s') (Turns D s') F mid e)
-        → (b : Bool) → at test ts ≡ b → step (many test turn) s b ts ≡ Err e → Fell (many test turn s) (Turns D s) F ts e
-    fell_by s ts e deeper true is d = turned (go (turn s ts) refl d)
-      where
-        turned : Fell (turn s >>= many test turn) (Then (D s) (Turns D)) F ts e → Fell (many test turn s) (Turns D s) F ts e
-        turned y = fell_as (many_is s) (to_turns s) (λ late ts rest x h. inl (from_turns h)) (λ rest e. e)
-            (choice_fell (at test) (at_same test) (step (many test turn) s) (One s) EndsOne F (only s) ends_of (at_once s) is y)
+      opens : (t : Token) → test t.what ≡ true → Opens (Then (D s) (Turns D)) t
+      opens t h = let o = each s t h in (o.0, o.1, o.2 ▸ stop)
 
-        inner : (late : Late) (ts rest : List Token) (s' x : S) → Star D late s' ts rest x → F rest → E ts
-        inner late ts rest s' x h e = between h e
+      turn_reaches : Reaches (turn s >>= many test turn) (Then (D s) (Turns D)) F
+      turn_reaches late ts rest x (◌▸◌ {mid = mid} {a = s'} h k) e = then_reaches (turn s) (D s) (many test turn) (Turns D) ((rules s).reaches late ts mid s' h (between k e)) (reaches k e)
 
-        go : (o : Outcome S) → turn s ts ≡ o → and_then o (many test turn) ≡ Err e → Fell (turn s >>= many test turn) (Then (D s) (Turns D)) F ts e
-        go (Err d) so is = first_fell (turn s) (D s) (many test turn) (Turns D) E F inner turns_some ((rules s).fell ts e (so ∙ ap (λ d. Err d) (err_same is)))
-        go (Ok y) so is = second_fell (turn s) (D s) (many test turn) (Turns D) E F inner F (λ rest e. e) (rules s).reaches ((rules s).took ts y.0 y.1 so) (deeper y.0 y.1 (shrinks s ts y.0 y.1 so) is)
-    fell_by s ts e deeper false is d = absurd (cc)
+      answered_by : (ts : List Token) → ((s' : S) (mid : List Token) → length mid < length ts → Answered (many test turn s') (Turns D s') F mid (many test turn s' mid)) → Answered (many test turn s) (Turns D s) F ts (many test turn s ts)
+      answered_by ts deeper = answered_as (many_is s) (λ late ts rest x h. to_turns h) (λ late ts rest x h. inl (from_turns h)) (λ rest e. e) ts
+          (either_answered test F first_turn no_turn (λ rest e. e) (λ rest e. tt) ends opens turn_reaches (rule_pure s).reaches ts
+          (λ is. then_answered (turn s) (D s) (many test turn) (Turns D) E F inner (rules s).reaches (λ s'. F) (λ s' rest e. e) turns_some ((rules s).answered ts) (λ s' mid is. deeper s' mid (shrinks s ts s' mid is)))
+          (λ is. (rule_pure s).answered ts))
 
-    fell_from : (n : ℕ) (s : S) (ts : List Token) (e : ReadStop) → length ts ≤ n → many test turn s ts ≡ Err e → Fell (many test turn s) (Turns D s) F ts e
-    fell_from zero s ts e h is = fell_by s ts e (λ s' mid less d. absurd (omega arith)) (at test ts) refl (sym (many_is s ts) ∙ is)
-    fell_from (suc n) s ts e h is = fell_by s ts e (λ s' mid less d. fell_from n s' mid e (omega arith) d) (at test ts) refl (sym (many_is s ts) ∙ is)
+    answered_to : (n : ℕ) (s : S) (ts : List Token) → length ts ≤ n → Answered (many test turn s) (Turns D s) F ts (many test turn s ts)
+    answered_to zero s ts h = answered_by s ts (λ s' mid less. absurd (omega arith))
+    answered_to (suc n) s ts h = answered_by s ts (λ s' mid less. answered_to n s' mid (omega arith))
 
     pub rule_many : (s : S) → Rule (many test turn s) (Turns D s) F
-    rule_many s = record {
-      took = λ ts x rest is. took_from (length ts) s ts x rest (omega arith) is;
-      fell = λ ts e is. fell_from (length ts) s ts e (omega arith) is;
-      reaches = λ late ts rest x h e. reaches h e;
-      some = turns_some s;
-    }
+    rule_many s = record { answered = λ ts. answered_to (length ts) s ts (omega arith); reaches = λ late ts rest x h e. reaches h e; some = turns_some s }

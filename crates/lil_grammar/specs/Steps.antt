@@ -1,19 +1,11 @@
 -- What a parser reads from, and the steps that every rule is made of.
 use Rattle.std.specs.Prelude.{◌≡◌, ◌≢◌, ℕ, zero, suc, length, Bool, true, false, if◌then◌else◌, List, [], ◌∷◌, Option, Some, None, Result, Ok, Err}
 use denote.Enum.Bare.{sameb}
-use Rattle.lil_base.specs.declared.fault.Place.{Place}
-use Rattle.lil_base.specs.Faults.{fault}
-use Rattle.lil_text.specs.declared.token.Token.{Token}
-use Rattle.lil_text.specs.declared.token.TokenKind.{TokenKind}
+use Rattle.lil_base.specs.{declared.fault.Place.Place, Faults.fault}
+use Rattle.lil_text.specs.{declared.{token.{Token.Token, TokenKind.TokenKind, Mark.Mark, Word.Word}, tree.Ident.Ident, stop.ReadStop.{ReadStop, TheVariants.{Fault, Memory}}}, Trees.ident}
 use Rattle.lil_text.specs.declared.token.TokenKind.TheVariants as k
-use Rattle.lil_text.specs.declared.token.Mark.{Mark}
 use Rattle.lil_text.specs.contracts.token.Mark as mark
-use Rattle.lil_text.specs.declared.token.Word.{Word}
 use Rattle.lil_text.specs.contracts.token.Word as word
-use Rattle.lil_text.specs.declared.tree.Ident.{Ident}
-use Rattle.lil_text.specs.declared.stop.ReadStop.{ReadStop}
-use Rattle.lil_text.specs.declared.stop.ReadStop.TheVariants.{Fault, Memory}
-use Rattle.lil_text.specs.Trees.{ident}
 
 -- fault 10, and fault 12
 unfoldable pub syntax : Place → ReadStop
@@ -47,6 +39,10 @@ pure a = λ ts. Ok (a, ts)
 abbrev pub first : List Token → Option Token
 first [] = None
 first (t ∷ ts) = Some t
+
+abbrev pub what : List Token → Option TokenKind
+what [] = None
+what (t ∷ ts) = Some t.what
 
 unfoldable pub place_of : List Token → Place
 place_of [] = record { line = 0; column = 0; offset = 0 }

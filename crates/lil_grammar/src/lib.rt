@@ -4,5 +4,5 @@
 mod fault;
 mod reader;
 
-pub use fault::{nested, syntax};
+pub use fault::syntax;
 pub use reader::Reader;

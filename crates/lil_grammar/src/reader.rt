@@ -3,7 +3,7 @@ ghost use Rattle.std.specs.Option.{option_copied};
 ghost use Rattle.lil_grammar.specs.Steps as spec;
 ghost use Rattle.lil_grammar.specs.Steps.{Reads};
 
-use crate::fault::syntax;
+use crate::fault::{nested, syntax};
 use lil_base::Place;
 use lil_text::{Ident, Mark, ReadStop, Token, TokenKind, Word};
 use std::alloc::Global;
@@ -73,6 +73,17 @@ impl<'t> Reader<'t> {
         }
     }
 
+    /// The fault where no part may begin, whether one would or not.
+    pub fn shallow<T>(&self, begins: bool) -> Result<T, ReadStop>
+        ensures { Reads (spec.either_by spec.too_deep spec.refuse begins self.now) result self.now }
+    {
+        if begins {
+            Err(nested(self.place()))
+        } else {
+            Err(syntax(self.place()))
+        }
+    }
+
     /// Goes past the next token.
     #[tactic(auto, unfolding(crate::specs::Steps::next))]
     pub fn skip(&mut self)
@@ -83,11 +94,14 @@ impl<'t> Reader<'t> {
         }
     }
 
-    /// The next token, if one is left.
-    pub fn token(&self) -> Option<&'t Token>
-        ensures { option_copied result ≡ spec.first self.now }
+    /// What the next token is, if one is left.
+    pub fn what(&self) -> Option<&'t TokenKind>
+        ensures { option_copied result ≡ spec.what self.now }
     {
-        self.rest.first()
+        match self.rest {
+            [] => None,
+            [t, ..] => Some(&t.what),
+        }
     }
 
     /// Whether the next token is this mark.
@@ -95,10 +109,7 @@ impl<'t> Reader<'t> {
     pub fn sees(&self, mark: Mark) -> bool
         ensures { result ≡ spec.at (spec.is_mark mark) self.now }
     {
-        match self.rest {
-            [] => false,
-            [t, ..] => is_mark(mark, &t.what),
-        }
+        matches!(self.what(), Some(what) if is_mark(mark, what))
     }
 
     /// Whether the next token is this word.
@@ -106,10 +117,7 @@ impl<'t> Reader<'t> {
     pub fn sees_word(&self, word: Word) -> bool
         ensures { result ≡ spec.at (spec.is_word word) self.now }
     {
-        match self.rest {
-            [] => false,
-            [t, ..] => is_word(word, &t.what),
-        }
+        matches!(self.what(), Some(what) if is_word(word, what))
     }
 
     /// Takes this mark, at its place.

@@ -2,16 +2,11 @@
 use Rattle.std.proofs.Common.{◌≡◌, ℕ, List, Option, Some, None, subst, ap}
 use Rattle.lil_text.specs.declared.tree.Ident.{Ident}
 use Rattle.lil_language.specs.declared.unit.Import.{Import}
-use Rattle.lil_report.specs.declared.report.Fault.{Fault}
-use Rattle.lil_report.specs.Told.{Said, walk}
-use Rattle.lil_report.specs.Laws.{said_as, said_after}
-use Rattle.lil_scope.specs.declared.thing.Thing.{Thing}
+use Rattle.lil_report.specs.{declared.report.Fault.Fault, Told.{Said, walk}, Laws.{said_as, said_after}}
+use Rattle.lil_scope.specs.{declared.thing.Thing.Thing, Names.member}
 use Rattle.lil_scope.specs.declared.thing.Thing.TheVariants as t
-use Rattle.lil_scope.specs.Names.{member}
-use Rattle.lil_interfaces.specs.declared.surface.Interface.{Interface}
+use Rattle.lil_interfaces.specs.{declared.{surface.Interface.Interface, importing.Imported.Imported}, Imports.{entered, found_node, take_node, name_step, module_step, import_step, import_by}}
 use Rattle.lil_interfaces.specs.declared.importing.Source.TheVariants as from
-use Rattle.lil_interfaces.specs.declared.importing.Imported.{Imported}
-use Rattle.lil_interfaces.specs.Imports.{entered, found_node, take_node, name_step, module_step, import_step, import_by}
 
 module _ (s : Imported) {r : Option Fault} where
   pub is_name : (b : ℕ) (i : Ident) {o : Option Thing} {x : Thing} {w : Imported} {q u : Option Fault} → o ≡ member s.env.scopes b i.name

@@ -1,4 +1,3 @@
-mod AddedTypes
 mod Blocks
 mod ImportForms
 mod Residents

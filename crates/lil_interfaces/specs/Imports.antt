@@ -4,20 +4,10 @@ use Rattle.lil_base.specs.declared.fault.FaultKind.TheVariants.{Unknown, Twice, 
 use Rattle.lil_text.specs.declared.tree.Ident.{Ident}
 use Rattle.lil_language.specs.declared.unit.Import.{Import}
 use Rattle.lil_report.specs.Told.{Row, row, after, walk}
-use Rattle.lil_scope.specs.declared.env.Env.{Env}
-use Rattle.lil_scope.specs.declared.thing.Thing.{Thing}
+use Rattle.lil_scope.specs.{declared.{env.Env.Env, thing.Thing.Thing}, Built.built, Names.{same, entry, member, bound_at, with_block, with_blocks}}
 use Rattle.lil_scope.specs.declared.thing.Thing.TheVariants as t
-use Rattle.lil_scope.specs.Built.{built}
-use Rattle.lil_scope.specs.Names.{same, entry, member, bound_at, with_block, with_blocks}
-use Rattle.lil_interfaces.specs.declared.surface.Interface.{Interface}
-use Rattle.lil_interfaces.specs.declared.importing.Source.{Source}
+use Rattle.lil_interfaces.specs.{declared.{surface.Interface.Interface, importing.{Source.Source, Taken.Taken, Entered.Entered, Imported.Imported}}, Interfaces.named, Moving.{with_types, with_names}, Standard.start}
 use Rattle.lil_interfaces.specs.declared.importing.Source.TheVariants as from
-use Rattle.lil_interfaces.specs.declared.importing.Taken.{Taken}
-use Rattle.lil_interfaces.specs.declared.importing.Entered.{Entered}
-use Rattle.lil_interfaces.specs.declared.importing.Imported.{Imported}
-use Rattle.lil_interfaces.specs.Interfaces.{named}
-use Rattle.lil_interfaces.specs.Moving.{with_types, with_names}
-use Rattle.lil_interfaces.specs.Standard.{start}
 
 -- ---- modules. Each has one block for the names of its interface, begun where the unit imports it first
 abbrev pub block_of : List Entered → List ℕ → Option ℕ
@@ -56,23 +46,14 @@ abbrev pub source_of : List Taken → List ℕ → Option Source
 source_of [] n = None
 source_of (x ∷ xs) n = if same n x.name then Some x.source else source_of xs n
 
-abbrev pub same_source : Source → Source → Bool
-same_source from.Itself from.Itself = true
-same_source (from.Block a) (from.Block b) = a == b
-same_source from.Itself (from.Block b) = false
-same_source (from.Block a) from.Itself = false
-
 abbrev pub comes_from : Option Source → Source → Bool
-comes_from None b = false
-comes_from (Some a) b = same_source a b
-
-abbrev pub is_type : Thing → ℕ → Bool
-is_type (t.Type a) b = a == b
-is_type _ b = false
+comes_from (Some from.Itself) from.Itself = true
+comes_from (Some (from.Block a)) (from.Block b) = a == b
+comes_from _ _ = false
 
 abbrev pub same_type : Thing → Thing → Bool
-same_type a (t.Type b) = is_type a b
-same_type a _ = false
+same_type (t.Type a) (t.Type b) = a == b
+same_type _ _ = false
 
 -- whether a name stands for another thing: there is what it stands for, and where that comes from
 abbrev pub stands_for_another : Option Thing → Option Source → Source → Thing → Bool
@@ -95,8 +76,7 @@ take_node q i s x = (
 
 abbrev pub is_hidden : Option Thing → Bool
 is_hidden (Some t.Hidden) = true
-is_hidden (Some _) = false
-is_hidden None = false
+is_hidden _ = false
 
 abbrev pub thing_or_broken : Option Thing → Thing
 thing_or_broken (Some t.Hidden) = t.Broken
@@ -139,8 +119,7 @@ nothing_imported = record { env = start; modules = []; taken = [] }
 -- ---- 20 Unknown: EXPORT lists a name that the definition doesn't declare itself
 abbrev pub declared_here : Option Thing → Option Source → Bool
 declared_here (Some x) None = true
-declared_here (Some x) (Some q) = false
-declared_here None o = false
+declared_here _ _ = false
 
 unfoldable pub export_step : List Taken → Env → Ident → Env × List Row
 export_step ts e i = (e, row (not (declared_here (member e.scopes e.scopes.inner i.name) (source_of ts i.name))) i.place Unknown ∷ [])

@@ -1,17 +1,12 @@
 -- Interfaces of modules, and those of the resident modules Terminal, InOut, Storage and SYSTEM.
 use Rattle.std.specs.Prelude.{ℕ, true, false, List, [], ◌∷◌, ◌++◌, Option, Some, None, if◌then◌else◌, codes}
-use Rattle.lil_types.specs.declared.table.Parameter.{Parameter}
-use Rattle.lil_types.specs.declared.table.TypeForm.TheVariants.{Procedure}
-use Rattle.lil_types.specs.Types.{char, cardinal, integer, proc, address, process}
-use Rattle.lil_types.specs.Adding.{own, added, added_number}
+use Rattle.lil_types.specs.{declared.table.{Parameter.Parameter, TypeForm.TheVariants.Procedure}, Types.{char, cardinal, integer, proc, address, process}, Adding.{own, added, added_number}}
 use Rattle.lil_declared.specs.declared.standard.Resident.{Resident}
 use Rattle.lil_declared.specs.declared.standard.Resident.TheVariants as r
 use Rattle.lil_scope.specs.declared.thing.Kind.TheVariants as k
-use Rattle.lil_scope.specs.declared.thing.Thing.{Thing}
+use Rattle.lil_scope.specs.{declared.thing.Thing.Thing, Names.same}
 use Rattle.lil_scope.specs.declared.thing.Thing.TheVariants as t
-use Rattle.lil_scope.specs.Names.{same}
-use Rattle.lil_interfaces.specs.declared.surface.Interface.{Interface}
-use Rattle.lil_interfaces.specs.declared.surface.Exported.{Exported}
+use Rattle.lil_interfaces.specs.declared.surface.{Interface.Interface, Exported.Exported}
 
 -- the interface of this name
 abbrev pub named : List Interface → List ℕ → Option Interface

@@ -1,19 +1,10 @@
 -- What an interface says, in the numbers of a unit's table to which its types are added.
 use Rattle.std.specs.Prelude.{ℕ, ◌+◌, nat_lt, min, Bool, true, false, map, List, [], ◌∷◌, Option, Some, None, if◌then◌else◌}
-use Rattle.lil_types.specs.declared.table.Field.{Field}
-use Rattle.lil_types.specs.declared.table.Parameter.{Parameter}
-use Rattle.lil_types.specs.declared.table.TypeForm.{TypeForm}
-use Rattle.lil_types.specs.declared.table.TypeForm.TheVariants.{Enumeration, Subrange, Array, Record, SetOf, Pointer, Procedure, Opaque}
-use Rattle.lil_types.specs.declared.table.TypeEntry.{TypeEntry}
-use Rattle.lil_types.specs.Types.{Table}
-use Rattle.lil_types.specs.Adding.{added}
-use Rattle.lil_scope.specs.declared.thing.Kind.{Kind}
+use Rattle.lil_types.specs.{declared.table.{Field.Field, Parameter.Parameter, TypeForm.{TypeForm, TheVariants.{Enumeration, Subrange, Array, Record, SetOf, Pointer, Procedure, Opaque}}, TypeEntry.TypeEntry}, Types.Table, Adding.added}
+use Rattle.lil_scope.specs.{declared.thing.{Kind.Kind, Thing.Thing}, Names.bound_at}
 use Rattle.lil_scope.specs.declared.thing.Kind.TheVariants as k
-use Rattle.lil_scope.specs.declared.thing.Thing.{Thing}
 use Rattle.lil_scope.specs.declared.thing.Thing.TheVariants as t
-use Rattle.lil_scope.specs.Names.{bound_at}
-use Rattle.lil_interfaces.specs.declared.surface.Exported.{Exported}
-use Rattle.lil_interfaces.specs.Standard.{Block, known}
+use Rattle.lil_interfaces.specs.{declared.surface.Exported.Exported, Standard.{Block, known}}
 
 -- ---- numbers: standard ones stay, and own ones move by as many as stood in the table before. No table has the number 4294967295
 abbrev pub moved : ℕ → ℕ → ℕ
@@ -41,26 +32,19 @@ moved_form s (Opaque o) = Opaque (moved_some s o)
 
 -- ---- things
 abbrev pub moved_kind : ℕ → Kind → Kind
-moved_kind s (k.Whole v) = k.Whole v
 moved_kind s (k.Scalar n w) = k.Scalar (moved s n) w
-moved_kind s (k.Chars c) = k.Chars c
-moved_kind s k.Nil = k.Nil
 moved_kind s (k.Of n) = k.Of (moved s n)
 moved_kind s (k.Open n) = k.Open (moved s n)
 moved_kind s (k.Routine n) = k.Routine (moved s n)
+moved_kind s kind = kind
 
 abbrev pub moved_thing : ℕ → Thing → Thing
 moved_thing s (t.Constant kind) = t.Constant (moved_kind s kind)
-moved_thing s (t.Named i c) = t.Named i c
-moved_thing s t.Nil = t.Nil
 moved_thing s (t.Variable v) = t.Variable (record { number = v.number; level = v.level; sort = moved s v.sort; mode = v.mode })
 moved_thing s (t.Type n) = t.Type (moved s n)
 moved_thing s (t.Procedure p) = t.Procedure (record { number = p.number; block = p.block; level = p.level; sort = moved s p.sort })
 moved_thing s (t.Resident r n) = t.Resident r (moved s n)
-moved_thing s (t.Standard f) = t.Standard f
-moved_thing s (t.Module b) = t.Module b
-moved_thing s t.Hidden = t.Hidden
-moved_thing s t.Broken = t.Broken
+moved_thing s x = x
 
 -- a name that isn't exported is hidden
 abbrev pub seen_by : ℕ → Bool → Thing → Thing
@@ -70,10 +54,6 @@ seen_by s false x = t.Hidden
 -- ---- the types of an interface at the end of a table. They keep their numbers in their module, which is that of the import m
 unfoldable pub with_type : ℕ → ℕ → Table → TypeEntry → Table
 with_type m s t e = added t (record { «module» = m; number = e.origin.number }) (moved_form s e.form)
-
-abbrev pub with_type_or : ℕ → ℕ → Table → Option TypeEntry → Table
-with_type_or m s t None = t
-with_type_or m s t (Some e) = with_type m s t e
 
 abbrev pub with_types : ℕ → ℕ → Table → List TypeEntry → Table
 with_types m s t [] = t

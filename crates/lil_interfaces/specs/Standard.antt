@@ -4,11 +4,8 @@ use Rattle.lil_base.specs.declared.fault.Place.{Place}
 use Rattle.lil_types.specs.Types.{boolean}
 use Rattle.lil_declared.specs.declared.standard.Standard.TheVariants as s
 use Rattle.lil_scope.specs.declared.thing.Kind.TheVariants as k
-use Rattle.lil_scope.specs.declared.thing.Entry.{Entry}
-use Rattle.lil_scope.specs.declared.thing.Thing.{Thing}
+use Rattle.lil_scope.specs.{declared.{thing.{Entry.Entry, Thing.Thing}, env.Env.Env}, Names.{entry, bound_at}}
 use Rattle.lil_scope.specs.declared.thing.Thing.TheVariants as t
-use Rattle.lil_scope.specs.declared.env.Env.{Env}
-use Rattle.lil_scope.specs.Names.{entry, bound_at}
 
 abbrev pub Block : Type 0
 Block = List (List ℕ × Entry)

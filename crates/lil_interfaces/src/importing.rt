@@ -1,7 +1,6 @@
 ghost use Rattle.std.specs.Prelude.{◌≡◌, IfOk, length};
 ghost use Rattle.std.specs.Option.{option_copied};
 ghost use Rattle.lil_report.specs.Told.{Said, walk};
-ghost use Rattle.lil_scope.specs.Names.{with_block};
 ghost use Rattle.lil_interfaces.specs.Imports as spec;
 
 use crate::moving::{add_names, add_types};
@@ -67,11 +66,7 @@ fn source_of(taken: &[Taken], name: &Name) -> Option<Source>
 fn next_import(modules: &[Entered]) -> u8
     ensures { result ≡ spec.next_import modules.now }
 {
-    if modules.len() < 255 {
-        modules.len() as u8 + 1
-    } else {
-        255
-    }
+    modules.len().min(254) as u8 + 1
 }
 
 /// The types and names of an interface, the import of this number.
@@ -100,13 +95,6 @@ fn fill(
             Ok(())
         }
     }
-}
-
-fn begin(alloc: Global, env: &mut Env) -> Result<(), Memory>
-    ensures { IfOk result (λ n. env.new ≡ with_block env.old) }
-{
-    env.scopes.blocks.begin(alloc)?;
-    Ok(())
 }
 
 /// A module that isn't imported before: its block has the next number.
@@ -146,22 +134,13 @@ fn enter(
     }
 }
 
-fn same_source(a: Source, b: Source) -> bool
-    ensures { result ≡ spec.same_source a b }
-{
-    match (a, b) {
-        (Source::Itself, Source::Itself) => true,
-        (Source::Block(a), Source::Block(b)) => a == b,
-        _ => false,
-    }
-}
-
 fn comes_from(before: Option<Source>, from: Source) -> bool
     ensures { result ≡ spec.comes_from before «from» }
 {
-    match before {
-        Some(before) => same_source(before, from),
-        None => false,
+    match (before, from) {
+        (Some(Source::Itself), Source::Itself) => true,
+        (Some(Source::Block(a)), Source::Block(b)) => a == b,
+        _ => false,
     }
 }
 
@@ -184,11 +163,7 @@ fn stands_for_another(
 {
     match there {
         None => false,
-        Some(there) => {
-            let again = comes_from(before, from);
-            let same = same_type(there, thing);
-            !(again || same)
-        }
+        Some(there) => !(comes_from(before, from) || same_type(there, thing)),
     }
 }
 
@@ -228,18 +203,14 @@ fn take(
 fn is_hidden(of: Option<Thing>) -> bool
     ensures { result ≡ spec.is_hidden of }
 {
-    match of {
-        Some(Thing::Hidden) => true,
-        _ => false,
-    }
+    matches!(of, Some(Thing::Hidden))
 }
 
 fn thing_or_broken(of: Option<Thing>) -> Thing
     ensures { result ≡ spec.thing_or_broken of }
 {
     match of {
-        None => Thing::Broken,
-        Some(Thing::Hidden) => Thing::Broken,
+        None | Some(Thing::Hidden) => Thing::Broken,
         Some(thing) => thing,
     }
 }
@@ -362,10 +333,7 @@ pub fn imports(
 fn declared_here(there: Option<Thing>, from: Option<Source>) -> bool
     ensures { result ≡ spec.declared_here there «from» }
 {
-    match (there, from) {
-        (Some(_), None) => true,
-        _ => false,
-    }
+    there.is_some() && from.is_none()
 }
 
 /// A name that a definition exports: where the definition doesn't declare it, that is fault 20.

@@ -1,4 +1,4 @@
-ghost use Rattle.std.specs.Prelude.{◌≡◌, IfOk, map, slice_get};
+ghost use Rattle.std.specs.Prelude.{◌≡◌, IfOk, map};
 ghost use Rattle.lil_interfaces.specs.Moving as spec;
 
 use crate::standard::known;
@@ -32,9 +32,8 @@ fn moved_parameter(start: usize, of: Parameter) -> Parameter
     ensures { result ≡ spec.moved_parameter start of }
 {
     Parameter {
-        by_place: of.by_place,
-        open_array: of.open_array,
         sort: moved(start, of.sort),
+        ..of
     }
 }
 
@@ -52,21 +51,15 @@ fn moved_parameters(
     Ok(all)
 }
 
-fn moved_field(alloc: Global, start: usize, of: &Field) -> Result<Field, Memory>
-    ensures { IfOk result (λ f. f ≡ spec.moved_field start of.now) }
-{
-    Ok(Field {
-        name: of.name.copy(alloc)?,
-        sort: moved(start, of.sort),
-    })
-}
-
 fn moved_fields(alloc: Global, start: usize, of: &[Field]) -> Result<Items<Field>, Memory>
     ensures { IfOk result (λ fs. fs ≡ map (spec.moved_field start) of.now) }
 {
     let mut all = Items::new(alloc);
     for one in of {
-        all.push(moved_field(alloc, start, one)?)?;
+        all.push(Field {
+            name: one.name.copy(alloc)?,
+            sort: moved(start, one.sort),
+        })?;
     }
     Ok(all)
 }
@@ -109,35 +102,11 @@ fn moved_kind(start: usize, of: Kind) -> Kind
     ensures { result ≡ spec.moved_kind start of }
 {
     match of {
-        Kind::Whole(value) => Kind::Whole(value),
         Kind::Scalar(sort, word) => Kind::Scalar(moved(start, sort), word),
-        Kind::Chars(chars) => Kind::Chars(chars),
-        Kind::Nil => Kind::Nil,
         Kind::Of(sort) => Kind::Of(moved(start, sort)),
         Kind::Open(sort) => Kind::Open(moved(start, sort)),
         Kind::Routine(sort) => Kind::Routine(moved(start, sort)),
-    }
-}
-
-fn moved_variable(start: usize, of: Variable) -> Variable
-    ensures { result ≡ record { number = of.number; level = of.level; sort = spec.moved start of.sort; mode = of.mode } }
-{
-    Variable {
-        number: of.number,
-        level: of.level,
-        sort: moved(start, of.sort),
-        mode: of.mode,
-    }
-}
-
-fn moved_routine(start: usize, of: Routine) -> Routine
-    ensures { result ≡ record { number = of.number; block = of.block; level = of.level; sort = spec.moved start of.sort } }
-{
-    Routine {
-        number: of.number,
-        block: of.block,
-        level: of.level,
-        sort: moved(start, of.sort),
+        _ => of,
     }
 }
 
@@ -146,26 +115,17 @@ fn moved_thing(start: usize, of: Thing) -> Thing
 {
     match of {
         Thing::Constant(kind) => Thing::Constant(moved_kind(start, kind)),
-        Thing::Named(number, chars) => Thing::Named(number, chars),
-        Thing::Nil => Thing::Nil,
-        Thing::Variable(variable) => Thing::Variable(moved_variable(start, variable)),
+        Thing::Variable(variable) => Thing::Variable(Variable {
+            sort: moved(start, variable.sort),
+            ..variable
+        }),
         Thing::Type(sort) => Thing::Type(moved(start, sort)),
-        Thing::Procedure(routine) => Thing::Procedure(moved_routine(start, routine)),
+        Thing::Procedure(routine) => Thing::Procedure(Routine {
+            sort: moved(start, routine.sort),
+            ..routine
+        }),
         Thing::Resident(request, sort) => Thing::Resident(request, moved(start, sort)),
-        Thing::Standard(function) => Thing::Standard(function),
-        Thing::Module(block) => Thing::Module(block),
-        Thing::Hidden => Thing::Hidden,
-        Thing::Broken => Thing::Broken,
-    }
-}
-
-fn seen_by(start: usize, shown: bool, of: Thing) -> Thing
-    ensures { result ≡ spec.seen_by start shown of }
-{
-    if shown {
-        moved_thing(start, of)
-    } else {
-        Thing::Hidden
+        _ => of,
     }
 }
 
@@ -189,23 +149,6 @@ fn add_type(
     Ok(())
 }
 
-/// The type at a place of an interface's table, where there is one, at the end of another table.
-fn add_type_at(
-    alloc: Global,
-    to: &mut TypeTable,
-    number: u8,
-    start: usize,
-    of: &TypeTable,
-    at: usize,
-) -> Result<(), Memory>
-    ensures { IfOk result (λ u. to.new ≡ spec.with_type_or number start to.old (slice_get of.now at)) }
-{
-    match of.get(at) {
-        Some(entry) => add_type(alloc, to, number, start, entry),
-        None => Ok(()),
-    }
-}
-
 /// The types of an interface, the import of this number, at the end of a table that had `start` types.
 pub(crate) fn add_types(
     alloc: Global,
@@ -216,8 +159,8 @@ pub(crate) fn add_types(
 ) -> Result<(), Memory>
     ensures { IfOk result (λ u. to.new ≡ spec.with_types number start to.old of.now) }
 {
-    for at in 0..of.len() {
-        add_type_at(alloc, to, number, start, of, at)?;
+    for entry in of.as_slice() {
+        add_type(alloc, to, number, start, entry)?;
     }
     Ok(())
 }
@@ -233,7 +176,11 @@ fn add_name(
 ) -> Result<(), Memory>
     ensures { IfOk result (λ u. to.new ≡ spec.with_name start block to.old of.now) }
 {
-    let seen = seen_by(start, of.shown, of.what);
+    let seen = if of.shown {
+        moved_thing(start, of.what)
+    } else {
+        Thing::Hidden
+    };
     to.declare(alloc, block, &of.name, known(seen))?;
     Ok(())
 }

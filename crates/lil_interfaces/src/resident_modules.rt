@@ -30,39 +30,7 @@ fn place(sort: TypeId) -> Parameter
 {
     Parameter {
         by_place: true,
-        open_array: false,
-        sort,
-    }
-}
-
-fn open_value(sort: TypeId) -> Parameter
-    ensures { result ≡ spec.open_value sort }
-{
-    Parameter {
-        by_place: false,
-        open_array: true,
-        sort,
-    }
-}
-
-fn name_resident(
-    names: &mut Items<Exported>,
-    name: Name,
-    what: Resident,
-    sort: Option<TypeId>,
-) -> Result<(), Memory>
-    ensures { IfOk result (λ u. names.new ≡ spec.with_resident names.old name what sort) }
-{
-    match sort {
-        Some(sort) => {
-            names.push(Exported {
-                shown: true,
-                name,
-                what: Thing::Resident(what, sort),
-            })?;
-            Ok(())
-        }
-        None => Ok(()),
+        ..value(sort)
     }
 }
 
@@ -81,8 +49,13 @@ fn procedure(
     let name = literal(alloc, name)?;
     let parameters = Items::from_slice(alloc, parameters)?;
     let origin = own(&of.types);
-    let sort = add(&mut of.types, origin, TypeForm::Procedure(parameters, None))?;
-    name_resident(&mut of.names, name, what, sort)?;
+    if let Some(sort) = add(&mut of.types, origin, TypeForm::Procedure(parameters, None))? {
+        of.names.push(Exported {
+            shown: true,
+            name,
+            what: Thing::Resident(what, sort),
+        })?;
+    }
     Ok(())
 }
 
@@ -118,7 +91,10 @@ fn common_procedures(alloc: Global, of: &mut Interface) -> Result<(), Memory>
 {
     let variable = [place(CHAR)];
     let character = [value(CHAR)];
-    let characters = [open_value(CHAR)];
+    let characters = [Parameter {
+        open_array: true,
+        ..value(CHAR)
+    }];
     procedure(alloc, of, b"Read", Resident::Read, &variable)?;
     procedure(alloc, of, b"Write", Resident::Write, &character)?;
     procedure(

@@ -1,6 +1,5 @@
 ghost use Rattle.std.specs.Prelude.{◌≡◌, ◌∷◌, [], IfOk, true};
 ghost use Rattle.lil_base.specs.Names.{is_name};
-ghost use Rattle.lil_scope.specs.declared.thing.Thing.TheVariants as t;
 ghost use Rattle.lil_interfaces.specs.Standard as spec;
 
 use crate::surface::literal;
@@ -33,13 +32,6 @@ fn put(alloc: Global, blocks: &mut Blocks, name: &[u8], thing: Thing) -> Result<
     Ok(())
 }
 
-fn put_standard(alloc: Global, blocks: &mut Blocks, name: &[u8], of: Standard) -> Result<(), Memory>
-    requires { is_name name.now ≡ true }
-    ensures { IfOk result (λ u. blocks.new ≡ spec.put blocks.old name.now (t.Standard of)) }
-{
-    put(alloc, blocks, name, Thing::Standard(of))
-}
-
 fn standard_types(alloc: Global, blocks: &mut Blocks) -> Result<(), Memory>
     ensures { IfOk result (λ u. blocks.new ≡ spec.puts blocks.old spec.standard_types) }
 {
@@ -66,28 +58,33 @@ fn standard_constants(alloc: Global, blocks: &mut Blocks) -> Result<(), Memory>
 fn standard_functions(alloc: Global, blocks: &mut Blocks) -> Result<(), Memory>
     ensures { IfOk result (λ u. blocks.new ≡ spec.puts blocks.old spec.standard_functions) }
 {
-    put_standard(alloc, blocks, b"ABS", Standard::Abs)?;
-    put_standard(alloc, blocks, b"CAP", Standard::Cap)?;
-    put_standard(alloc, blocks, b"CHR", Standard::Chr)?;
-    put_standard(alloc, blocks, b"HIGH", Standard::High)?;
-    put_standard(alloc, blocks, b"MAX", Standard::Max)?;
-    put_standard(alloc, blocks, b"MIN", Standard::Min)?;
-    put_standard(alloc, blocks, b"ODD", Standard::Odd)?;
-    put_standard(alloc, blocks, b"ORD", Standard::Ord)?;
-    put_standard(alloc, blocks, b"VAL", Standard::Val)?;
+    put(alloc, blocks, b"ABS", Thing::Standard(Standard::Abs))?;
+    put(alloc, blocks, b"CAP", Thing::Standard(Standard::Cap))?;
+    put(alloc, blocks, b"CHR", Thing::Standard(Standard::Chr))?;
+    put(alloc, blocks, b"HIGH", Thing::Standard(Standard::High))?;
+    put(alloc, blocks, b"MAX", Thing::Standard(Standard::Max))?;
+    put(alloc, blocks, b"MIN", Thing::Standard(Standard::Min))?;
+    put(alloc, blocks, b"ODD", Thing::Standard(Standard::Odd))?;
+    put(alloc, blocks, b"ORD", Thing::Standard(Standard::Ord))?;
+    put(alloc, blocks, b"VAL", Thing::Standard(Standard::Val))?;
     Ok(())
 }
 
 fn standard_procedures(alloc: Global, blocks: &mut Blocks) -> Result<(), Memory>
     ensures { IfOk result (λ u. blocks.new ≡ spec.puts blocks.old spec.standard_procedures) }
 {
-    put_standard(alloc, blocks, b"DEC", Standard::Dec)?;
-    put_standard(alloc, blocks, b"EXCL", Standard::Excl)?;
-    put_standard(alloc, blocks, b"HALT", Standard::Halt)?;
-    put_standard(alloc, blocks, b"INC", Standard::Inc)?;
-    put_standard(alloc, blocks, b"INCL", Standard::Incl)?;
-    put_standard(alloc, blocks, b"NEW", Standard::New)?;
-    put_standard(alloc, blocks, b"DISPOSE", Standard::Dispose)?;
+    put(alloc, blocks, b"DEC", Thing::Standard(Standard::Dec))?;
+    put(alloc, blocks, b"EXCL", Thing::Standard(Standard::Excl))?;
+    put(alloc, blocks, b"HALT", Thing::Standard(Standard::Halt))?;
+    put(alloc, blocks, b"INC", Thing::Standard(Standard::Inc))?;
+    put(alloc, blocks, b"INCL", Thing::Standard(Standard::Incl))?;
+    put(alloc, blocks, b"NEW", Thing::Standard(Standard::New))?;
+    put(
+        alloc,
+        blocks,
+        b"DISPOSE",
+        Thing::Standard(Standard::Dispose),
+    )?;
     Ok(())
 }
 

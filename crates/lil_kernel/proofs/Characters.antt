@@ -1,11 +1,7 @@
 -- The characters of an array from one on, and what requests are given by their words.
-use Rattle.std.proofs.Common.{◌≡◌, ◌≢◌, ℕ, suc, ◌+◌, ◌-◌, ◌%◌, ◌==◌, ◌<◌, ◌≤◌, Bool, true, false, if◌then◌else◌, List, [], ◌∷◌, ◌++◌, length, map, take, reverse, slice_get, Some, refl, sym, ap, ◌∙◌, arith, append_assoc}
-use Rattle.std.proofs.lemmas.Bool.{leb-true, ne_eqb}
-use Rattle.std.proofs.lemmas.List.{append-nil}
-use Rattle.std.proofs.lemmas.Option.{get_or_from_slice_get}
-use Rattle.lil_base.specs.Requests.{takes_array}
-use Rattle.lil_base.specs.declared.request.Request.{Request}
-use Rattle.lil_base.specs.declared.request.Request.TheVariants.{Write, WriteString, WriteLn, WriteCard, WriteInt, WriteOct, WriteHex}
+use Rattle.std.proofs.Common.{◌≡◌, ◌≢◌, ℕ, suc, ◌+◌, ◌-◌, ◌%◌, ◌==◌, ◌<◌, ◌≤◌, true, false, List, [], ◌∷◌, ◌++◌, length, map, take, reverse, slice_get, Some, refl, sym, ap, ◌∙◌, arith, append_assoc}
+use Rattle.std.proofs.lemmas.{Bool.{leb-true, ne_eqb}, List.append-nil, Option.get_or_from_slice_get}
+use Rattle.lil_base.specs.{Requests.takes_array, declared.request.Request.{Request, TheVariants.{WriteString}}}
 use Rattle.lil_asm.specs.Requests.{request_words}
 use Rattle.lil_mcode.specs.Table.{array_lies}
 use Rattle.lil_meaning.specs.World.{Single, byte_of, before_end, characters_at, given_by, piece_of, first_word, second_word}
@@ -19,19 +15,13 @@ first_shown store at n w here = ap (λ (x : ℕ). map byte_of (before_end (x % 2
 
 -- nothing from the end on
 pub ends : (store : List ℕ) (at n w : ℕ) → slice_get store at ≡ Some w → w % 256 ≡ 0 → shown_from store at (suc n) ≡ []
-ends store at n w here end =
-    first_shown store at n w here
-    ∙ ap (λ (c : ℕ). map byte_of (before_end (c ∷ characters_at store (suc at) n))) end
-
-by_test : (c : ℕ) (cs : List ℕ) (test : Bool) → test ≡ false → map byte_of (if test then [] else c ∷ before_end cs) ≡ byte_of c ∷ map byte_of (before_end cs)
-by_test c cs false h = refl
-by_test c cs true h = cc
+ends store at n w here end = first_shown store at n w here ∙ rw end refl
 
 -- one character, and those behind it
 pub goes_on : (store : List ℕ) (at n w : ℕ) → slice_get store at ≡ Some w → w % 256 ≢ 0 → shown_from store at (suc n) ≡ byte_of (w % 256) ∷ shown_from store (suc at) n
 goes_on store at n w here more =
     let no : (w % 256 == 0) ≡ false = ne_eqb (w % 256) 0 more in
-    first_shown store at n w here ∙ by_test (w % 256) (characters_at store (suc at) n) (w % 256 == 0) no
+    first_shown store at n w here ∙ rw no refl
 
 -- one more character comes to the text, and the others are left
 pub next_shown : (store text whole : List ℕ) (at end w : ℕ) → slice_get store at ≡ Some w → w % 256 ≢ 0 → at < end
@@ -61,65 +51,37 @@ none_left store text whole at end past before =
     let none : end - at ≡ 0 = omega arith in
     sym (append-nil text) ∙ ap (λ (k : ℕ). text ++ shown_from store at k) (sym none) ∙ before
 
--- what stands on a stack for an array: its address, and above it the number of its last element
-abbrev pub IsGiven : List ℕ → ℕ → ℕ → ℕ → Type 0
-IsGiven stack count x y = (x ≡ first_word (map Single (reverse (take count stack)))) × (y ≡ second_word (map Single (reverse (take count stack))))
+-- the first two of the words that a request finds on a stack, so many in all: for an array its address and the number of its last element
+pub record IsGiven (r : Request) (stack : List ℕ) (count x y : ℕ) : Type 0 where
+  pub all : count ≡ request_words r
+  pub first : x ≡ first_word (map Single (reverse (take count stack)))
+  pub second : y ≡ second_word (map Single (reverse (take count stack)))
 
-lies_by : (stack : List ℕ) (address high : ℕ) → 2 ≤ length stack → array_lies WriteString stack ≡ true → IsGiven stack 2 address high → address + high ≤ 65535
-lies_by [] address high two lies given = absurd (omega arith)
-lies_by (y ∷ []) address high two lies given = absurd (omega arith)
-lies_by (y ∷ x ∷ stack) address high two lies given =
+pub string_lies : (r : Request) (count address high : ℕ) (stack : List ℕ) → takes_array r ≡ true → request_words r ≤ length stack → array_lies r stack ≡ true
+    → IsGiven r stack count address high → address + high ≤ 65535
+string_lies WriteString count address high (y ∷ x ∷ stack) array there lies given =
     let within : x + y ≤ 65535 = leb-true (x + y) 65535 lies in
-    omega (arith, given.0, given.1)
+    omega (arith, rw (given.all) at given.first, rw (given.all) at given.second)
+string_lies WriteString count address high _ array there lies given = absurd (omega arith)
+string_lies _ count address high stack array there lies given = cc
 
-pub string_lies : (r : Request) (address high : ℕ) (stack : List ℕ) → takes_array r ≡ true → request_words r ≤ length stack → array_lies r stack ≡ true
-    → IsGiven stack (request_words r) address high → address + high ≤ 65535
-string_lies WriteString address high stack array there lies given = lies_by stack address high there lies given
-string_lies Write address high stack array there lies given = cc
-string_lies WriteLn address high stack array there lies given = cc
-string_lies WriteCard address high stack array there lies given = cc
-string_lies WriteInt address high stack array there lies given = cc
-string_lies WriteOct address high stack array there lies given = cc
-string_lies WriteHex address high stack array there lies given = cc
-
-shown_by_two : (stack store : List ℕ) (address high : ℕ) → 2 ≤ length stack → IsGiven stack 2 address high
-    → map byte_of (before_end (characters_at store address (suc high))) ≡ piece_of WriteString (given_by WriteString store (reverse (take 2 stack)))
-shown_by_two [] store address high two given = absurd (omega arith)
-shown_by_two (y ∷ []) store address high two given = absurd (omega arith)
-shown_by_two (y ∷ x ∷ stack) store address high two given =
-    ap (λ (k : ℕ). map byte_of (before_end (characters_at store k (suc high)))) given.0
-    ∙ ap (λ (k : ℕ). map byte_of (before_end (characters_at store x (suc k)))) given.1
-
-pub string_shown : (r : Request) (address high : ℕ) (stack store store' : List ℕ) → takes_array r ≡ true → request_words r ≤ length stack
-    → IsGiven stack (request_words r) address high → store' ≡ store
+pub string_shown : (r : Request) (count address high : ℕ) (stack store store' : List ℕ) → takes_array r ≡ true → request_words r ≤ length stack
+    → IsGiven r stack count address high → store' ≡ store
     → map byte_of (before_end (characters_at store' address (suc high))) ≡ piece_of r (given_by r store (reverse (take (request_words r) stack)))
-string_shown r address high stack store store' array there given same =
-    ap (λ (s : List ℕ). map byte_of (before_end (characters_at s address (suc high)))) same ∙ by r array there given
-  where
-    by : (r : Request) → takes_array r ≡ true → request_words r ≤ length stack → IsGiven stack (request_words r) address high
-        → map byte_of (before_end (characters_at store address (suc high))) ≡ piece_of r (given_by r store (reverse (take (request_words r) stack)))
-    by WriteString array there given = shown_by_two stack store address high there given
-    by Write array there given = cc
-    by WriteLn array there given = cc
-    by WriteCard array there given = cc
-    by WriteInt array there given = cc
-    by WriteOct array there given = cc
-    by WriteHex array there given = cc
+string_shown WriteString count address high (y ∷ x ∷ stack) store store' array there given same =
+    let first : address ≡ x = rw (given.all) at given.first in
+    let second : high ≡ y = rw (given.all) at given.second in
+    ap (λ (held : List ℕ). map byte_of (before_end (characters_at held address (suc high)))) same ∙ rw (first, second) refl
+string_shown WriteString count address high _ store store' array there given same = absurd (omega arith)
+string_shown _ count address high stack store store' array there given same = cc
 
 -- each other request is given its words
 words_given : (r : Request) (store words : List ℕ) → takes_array r ≡ false
     → piece_of r (Single (first_word (map Single words)) ∷ Single (second_word (map Single words)) ∷ []) ≡ piece_of r (given_by r store words)
-words_given Write store words alone = refl
 words_given WriteString store words alone = cc
-words_given WriteLn store words alone = refl
-words_given WriteCard store words alone = refl
-words_given WriteInt store words alone = refl
-words_given WriteOct store words alone = refl
-words_given WriteHex store words alone = refl
+words_given _ store words alone = refl
 
-pub words_shown : (r : Request) (x y : ℕ) (stack store : List ℕ) → takes_array r ≡ false → IsGiven stack (request_words r) x y
+pub words_shown : (r : Request) (count x y : ℕ) (stack store : List ℕ) → takes_array r ≡ false → IsGiven r stack count x y
     → piece_of r (Single x ∷ Single y ∷ []) ≡ piece_of r (given_by r store (reverse (take (request_words r) stack)))
-words_shown r x y stack store alone given =
-    ap (λ (k : ℕ). piece_of r (Single k ∷ Single y ∷ [])) given.0
-    ∙ ap (λ (k : ℕ). piece_of r (Single (first_word (map Single (reverse (take (request_words r) stack)))) ∷ Single k ∷ [])) given.1
-    ∙ words_given r store (reverse (take (request_words r) stack)) alone
+words_shown r count x y stack store alone given =
+    rw (given.first, given.second, given.all) (words_given r store (reverse (take (request_words r) stack)) alone)

@@ -1,8 +1,6 @@
 -- The digits of a number, from the last one on.
 use Rattle.std.proofs.Common.{◌≡◌, ℕ, zero, suc, ◌+◌, ◌*◌, ◌/◌, ◌%◌, ◌<◌, ◌≤◌, Bool, if◌then◌else◌, List, [], ◌∷◌, ◌++◌, length, reverse, sym, ap, ◌∙◌, arith, append_assoc, length-append}
-use Rattle.std.proofs.lemmas.Bool.{lt-ltb, le-ltb}
-use Rattle.std.proofs.lemmas.List.{append-nil, reverse-append}
-use Rattle.std.proofs.lemmas.Nat.{div_below, mul-le}
+use Rattle.std.proofs.lemmas.{Bool.{lt-ltb, le-ltb}, List.{append-nil, reverse-append}, Nat.{div_below, mul-le}}
 use Rattle.lil_meaning.specs.World.{digit, digits, natural}
 
 -- what is below has at most so many digits more than one, to each base of at least 8

@@ -22,6 +22,7 @@ fn digit(value: u16) -> u8
 }
 
 /// The digits of a number to a base from 8 to 16, the last one first.
+#[tactic(auto, using(crate::proofs::Digits::all_left, crate::proofs::Digits::next_left, crate::proofs::Digits::none_left))]
 fn digits_backward(base: u16, number: u16) -> Text
     requires least { 8 ≤ base }
     requires most { base ≤ 16 }

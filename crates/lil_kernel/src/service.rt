@@ -4,8 +4,7 @@ ghost use Rattle.std.specs.Prelude.{◌≡◌, ◌≤◌, length, map, take, dro
 ghost use Rattle.lil_asm.specs.Requests.{request_words};
 ghost use Rattle.lil_mcode.specs.Table.{array_lies};
 ghost use Rattle.lil_meaning.specs.World.{Single, given_by, piece_of, first_word, second_word};
-ghost use Rattle.lil_volume.specs.Causes.{HasCause};
-ghost use Rattle.lil_volume.specs.Told.{followed_by, FollowedByPrefix};
+ghost use Rattle.lil_volume.specs.{Causes.HasCause, Told.{followed_by, FollowedByPrefix}};
 
 use crate::pieces::piece;
 use crate::strings::put_string;
@@ -33,6 +32,7 @@ fn words(machine: &Machine, count: u8) -> (u16, u16)
 ///
 /// # Errors
 /// The screen did not take the whole piece. The words are taken all the same.
+#[tactic(auto, using(crate::proofs::Characters::string_lies, crate::proofs::Characters::string_shown, crate::proofs::Characters::words_shown))]
 pub fn serve<S: Sink>(
     request: Request,
     machine: &mut Machine,

@@ -2,8 +2,7 @@
 
 ghost use Rattle.std.specs.Prelude.{◌≡◌, suc, ◌+◌, ◌≤◌, map, OnOk, OnErr};
 ghost use Rattle.lil_meaning.specs.World.{byte_of, before_end, characters_at};
-ghost use Rattle.lil_volume.specs.Causes.{HasCause};
-ghost use Rattle.lil_volume.specs.Told.{followed_by, FollowedByPrefix};
+ghost use Rattle.lil_volume.specs.{Causes.HasCause, Told.{followed_by, FollowedByPrefix}};
 
 use crate::pieces::shown_byte;
 use arrayvec::ArrayVec;
@@ -18,6 +17,7 @@ const FEW_CHARACTERS: usize = 256;
 
 /// What an array of characters shows, by its address and the number of its last element: the characters before
 /// the first 0C, or all.
+#[tactic(auto, using(crate::proofs::Characters::next_shown, crate::proofs::Characters::ended, crate::proofs::Characters::none_left))]
 fn string<const ROOM: usize>(machine: &Machine, address: u16, high: u16) -> ArrayVec<u8, ROOM>
     requires lies { address + high ≤ 65535 }
     requires room { suc high ≤ ROOM }

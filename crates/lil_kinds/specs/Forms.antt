@@ -1,16 +1,8 @@
 -- The parts of types. An opaque type that has another in its implementation is that type.
 use Rattle.std.specs.Prelude.{ℕ, ◌+◌, ◌==◌, nat_eq, pos, Bool, true, false, ◌||◌, List, [], ◌∷◌, length, slice_get, Option, Some, None, is_some, if◌then◌else◌}
 use Rattle.std.specs.Cmp.Lexicographic.{pointwise}
-use Rattle.lil_types.specs.Types.{Table, char, cardinal, bit_set, proc, address, span, entry, known, meant}
-use Rattle.lil_types.specs.declared.table.Span.{Span}
-use Rattle.lil_types.specs.declared.table.Facts.{Facts}
-use Rattle.lil_types.specs.declared.table.Field.{Field}
-use Rattle.lil_types.specs.declared.table.Parameter.{Parameter}
-use Rattle.lil_types.specs.declared.table.TypeEntry.{TypeEntry}
-use Rattle.lil_types.specs.declared.table.TypeForm.{TypeForm}
-use Rattle.lil_types.specs.declared.table.TypeForm.TheVariants.{Array, Record, SetOf, Pointer, Procedure, Opaque}
-use Rattle.lil_kinds.specs.declared.forms.ArrayParts.{ArrayParts}
-use Rattle.lil_kinds.specs.declared.forms.FieldAt.{FieldAt}
+use Rattle.lil_types.specs.{Types.{Table, char, cardinal, bit_set, proc, address, span, entry, known, meant}, declared.table.{Span.Span, Facts.Facts, Field.Field, Parameter.Parameter, TypeEntry.TypeEntry, TypeForm.{TypeForm, TheVariants.{Array, Record, SetOf, Pointer, Procedure, Opaque}}}}
+use Rattle.lil_kinds.specs.declared.forms.{ArrayParts.ArrayParts, FieldAt.FieldAt}
 
 -- ---- what is known of a type
 abbrev pub form_in : Option TypeEntry → Option TypeForm

@@ -1,14 +1,9 @@
 -- How kinds of operands go together.
 use Rattle.std.specs.Prelude.{ℕ, ◌==◌, nat_le, ℤ, pos, Bool, true, false, not, ◌&&◌, ◌||◌, List, [], ◌∷◌, Option, Some, None, is_some, if◌then◌else◌}
 use Rattle.lil_base.specs.Words.{number_of, Integer, between}
-use Rattle.lil_types.specs.Types.{Table, integer, char, base, same, is_whole, values}
-use Rattle.lil_types.specs.Folding.{fits}
-use Rattle.lil_types.specs.declared.table.Span.{Span}
-use Rattle.lil_types.specs.declared.table.Parameter.{Parameter}
-use Rattle.lil_scope.specs.declared.thing.Kind.{Kind}
-use Rattle.lil_scope.specs.declared.thing.Kind.TheVariants.{Whole, Scalar, Chars, Nil, Of, Open, Routine}
-use Rattle.lil_kinds.specs.declared.forms.ArrayParts.{ArrayParts}
-use Rattle.lil_kinds.specs.Forms.{array_parts, span_of, has_nil, is_routine, parameters, result}
+use Rattle.lil_types.specs.{Types.{Table, integer, char, base, same, is_whole, values}, Folding.fits, declared.table.{Span.Span, Parameter.Parameter}}
+use Rattle.lil_scope.specs.declared.thing.Kind.{Kind, TheVariants.{Whole, Scalar, Chars, Nil, Of, Routine}}
+use Rattle.lil_kinds.specs.{declared.forms.ArrayParts.ArrayParts, Forms.{array_parts, span_of, has_nil, is_routine, parameters, result}}
 
 -- ---- operands by themselves
 -- the type of an operand, where it has one
@@ -26,20 +21,15 @@ unfoldable pub is_constant : Kind → Bool
 is_constant (Whole n) = true
 is_constant (Scalar s w) = true
 is_constant (Chars c) = true
-is_constant Nil = false
-is_constant (Of s) = false
-is_constant (Open e) = false
-is_constant (Routine s) = false
+is_constant _ = false
 
 -- a text of one character stands for the character
 unfoldable pub is_ordinal : Table → Kind → Bool
 is_ordinal t (Whole n) = true
 is_ordinal t (Scalar s w) = is_some (span_of t s)
 is_ordinal t (Chars c) = c.length == 1
-is_ordinal t Nil = false
 is_ordinal t (Of s) = is_some (span_of t s)
-is_ordinal t (Open e) = false
-is_ordinal t (Routine s) = false
+is_ordinal t _ = false
 
 -- the number that a word says as a value of a type
 abbrev pub word_number : Table → ℕ → ℕ → ℤ
@@ -50,10 +40,7 @@ unfoldable pub number : Table → Kind → Option ℤ
 number t (Whole n) = Some n
 number t (Scalar s w) = if is_some (span_of t s) then Some (word_number t s w) else None
 number t (Chars c) = if c.length == 1 then Some (pos c.first) else None
-number t Nil = None
-number t (Of s) = None
-number t (Open e) = None
-number t (Routine s) = None
+number t _ = None
 
 -- ---- compatible operands
 -- whether a value of type s is compatible with an operand: a whole constant by its value, a text of one character with
@@ -64,8 +51,7 @@ suits t s (Scalar r w) = base t s == base t r
 suits t s (Chars c) = c.length == 1 && base t s == char
 suits t s Nil = has_nil t s
 suits t s (Of r) = base t s == base t r
-suits t s (Open e) = false
-suits t s (Routine r) = false
+suits t s _ = false
 
 abbrev pub compatible_by : Table → Option ℕ → Option ℕ → Kind → Kind → Bool
 compatible_by t (Some s) r a b = suits t s b
@@ -120,10 +106,9 @@ unfoldable pub passes : Table → ℕ → Kind → Bool
 passes t to (Whole n) = is_whole t to
 passes t to (Scalar s w) = is_whole t to && is_whole t s
 passes t to (Chars c) = holds t to c.length
-passes t to Nil = false
 passes t to (Of s) = is_whole t to && is_whole t s
-passes t to (Open e) = false
 passes t to (Routine s) = conforms t s to
+passes t to _ = false
 
 unfoldable pub assignable : Table → ℕ → Kind → Bool
 assignable t to b = compatible t (Of to) b || passes t to b
@@ -138,12 +123,7 @@ outside (Some s) (Some z) = not (between s.low z s.high)
 -- the number that a constant has beside a type: a text of one character is a character beside CHAR alone
 unfoldable pub number_beside : Table → ℕ → Kind → Option ℤ
 number_beside t to (Chars c) = if base t to == char then number t (Chars c) else None
-number_beside t to (Whole n) = Some n
-number_beside t to (Scalar s w) = number t (Scalar s w)
-number_beside t to Nil = None
-number_beside t to (Of s) = None
-number_beside t to (Open e) = None
-number_beside t to (Routine s) = None
+number_beside t to b = number t b
 
 -- 50 ConstRange
 unfoldable pub misses : Table → ℕ → Kind → Bool

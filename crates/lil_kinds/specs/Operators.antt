@@ -1,23 +1,14 @@
 -- What operators and standard functions make of kinds of operands.
 use Rattle.std.specs.Prelude.{ℕ, ◌==◌, ◌%◌, ℤ, pos, ◌-ℤ◌, nat_abs, Bool, true, false, ◌&&◌, ◌||◌, Option, Some, None, is_some, Ok, Err, if◌then◌else◌}
-use Rattle.lil_base.specs.Words.{between, word_of}
-use Rattle.lil_base.specs.declared.operator.OneOp.{OneOp}
+use Rattle.lil_base.specs.{Words.{between, word_of}, declared.operator.{OneOp.OneOp, TwoOp.TwoOp}}
 use Rattle.lil_base.specs.declared.operator.OneOp.TheVariants as sign
-use Rattle.lil_base.specs.declared.operator.TwoOp.{TwoOp}
 use Rattle.lil_base.specs.declared.operator.TwoOp.TheVariants as op
-use Rattle.lil_types.specs.Types.{Table, integer, cardinal, boolean, char, base, same, is_whole}
-use Rattle.lil_types.specs.Folding.{Folded, folded_one, folded_two}
-use Rattle.lil_types.specs.declared.table.Span.{Span}
-use Rattle.lil_types.specs.declared.table.Const.{Const}
+use Rattle.lil_types.specs.{Types.{Table, integer, cardinal, boolean, char, base, same, is_whole}, Folding.{Folded, folded_one, folded_two}, declared.table.{Span.Span, Const.Const}}
 use Rattle.lil_types.specs.declared.table.Const.TheVariants as const
 use Rattle.lil_declared.specs.declared.standard.Standard.{Standard}
 use Rattle.lil_declared.specs.declared.standard.Standard.TheVariants as standard
-use Rattle.lil_scope.specs.declared.thing.Kind.{Kind}
-use Rattle.lil_scope.specs.declared.thing.Kind.TheVariants.{Whole, Scalar, Chars, Nil, Of, Open, Routine}
-use Rattle.lil_kinds.specs.declared.found.Applied.{Applied}
-use Rattle.lil_kinds.specs.declared.found.Applied.TheVariants.{Refused, Outside, Gives}
-use Rattle.lil_kinds.specs.Forms.{span_of, set_base, has_nil}
-use Rattle.lil_kinds.specs.Kinds.{sort_of, is_whole_constant, is_ordinal, word_number, number, compatible, outside}
+use Rattle.lil_scope.specs.declared.thing.Kind.{Kind, TheVariants.{Whole, Scalar, Chars, Of, Open}}
+use Rattle.lil_kinds.specs.{declared.found.Applied.{Applied, TheVariants.{Refused, Outside, Gives}}, Forms.{span_of, set_base, has_nil}, Kinds.{sort_of, is_whole_constant, is_ordinal, word_number, number, compatible, outside}}
 
 -- ---- operations on constants
 -- an operand as a constant: one of a whole type is its number, and a text of one character is the character
@@ -25,10 +16,7 @@ unfoldable pub constant : Table → Kind → Option Const
 constant t (Whole n) = Some (const.Whole n)
 constant t (Scalar s w) = Some (if is_whole t s then const.Whole (word_number t s w) else const.Scalar s w)
 constant t (Chars c) = if c.length == 1 then Some (const.Scalar char c.first) else None
-constant t Nil = None
-constant t (Of s) = None
-constant t (Open e) = None
-constant t (Routine s) = None
+constant t _ = None
 
 abbrev pub applied : Folded → Applied
 applied (Ok (const.Whole n)) = Gives (Whole n)
@@ -203,29 +191,13 @@ function t standard.High sort a = gives_where (is_open a) cardinal
 function t standard.Odd sort a = where_taken (is_number t a) (value_by boolean oddness (number t a))
 function t standard.Ord sort a = where_taken (is_ordinal t a) (converted t cardinal a)
 function t standard.Val sort a = where_taken (is_some (span_of t sort) && is_ordinal t a) (converted t sort a)
-function t standard.Max sort a = Refused
-function t standard.Min sort a = Refused
-function t standard.Dec sort a = Refused
-function t standard.Excl sort a = Refused
-function t standard.Halt sort a = Refused
-function t standard.Inc sort a = Refused
-function t standard.Incl sort a = Refused
-function t standard.New sort a = Refused
-function t standard.Dispose sort a = Refused
+function t _ sort a = Refused
 
 -- ---- the ends of a type
-abbrev pub end_of : Standard → Span → Option ℤ
-end_of standard.Min s = Some s.low
-end_of standard.Max s = Some s.high
-end_of _ s = None
-
-abbrev pub end_by : Table → ℕ → Option ℤ → Applied
-end_by t sort None = Refused
-end_by t sort (Some n) = constant_of t sort n
-
 abbrev pub extreme_by : Table → Standard → ℕ → Option Span → Applied
-extreme_by t of sort None = Refused
-extreme_by t of sort (Some s) = end_by t sort (end_of of s)
+extreme_by t standard.Min sort (Some s) = constant_of t sort s.low
+extreme_by t standard.Max sort (Some s) = constant_of t sort s.high
+extreme_by t _ sort _ = Refused
 
 -- 30 Operands where the type isn't ordinal
 unfoldable pub extreme : Table → Standard → ℕ → Applied

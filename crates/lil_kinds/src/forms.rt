@@ -1,12 +1,11 @@
 ghost use Rattle.std.specs.Prelude.{◌≡◌};
 ghost use Rattle.std.specs.Option.{option_copied};
-ghost use Rattle.lil_types.specs.Types.{meant as meant_type, other_of as other_type};
 ghost use Rattle.lil_kinds.specs.Forms as spec;
 
 use lil_base::Name;
 use lil_types::{
     ADDRESS, BITSET, CARDINAL, CHAR, Field, PROC, Parameter, Span, TypeForm, TypeId, TypeTable,
-    entry, known,
+    entry, known, meant,
 };
 
 /// The index type and the element type of an array.
@@ -21,25 +20,6 @@ pub struct ArrayParts {
 pub struct FieldAt {
     pub number: usize,
     pub sort: TypeId,
-}
-
-fn other_of(n: TypeId, form: &TypeForm) -> TypeId
-    ensures { result ≡ other_type n form.now }
-{
-    match form {
-        TypeForm::Opaque(Some(other)) => *other,
-        _ => n,
-    }
-}
-
-/// The type that a number means: that of its implementation, where it is an opaque type that has one.
-fn meant(t: &TypeTable, n: TypeId) -> TypeId
-    ensures { result ≡ meant_type t.now n }
-{
-    match entry(t, n) {
-        Some(e) => other_of(n, &e.form),
-        None => n,
-    }
 }
 
 /// How a type is built, None for a standard type.
@@ -64,26 +44,17 @@ pub fn span_of(t: &TypeTable, n: TypeId) -> Option<Span>
     }
 }
 
-fn array_of(form: &TypeForm) -> Option<ArrayParts>
-    ensures { result ≡ spec.array_of form.now }
-{
-    match form {
-        TypeForm::Array(index, element) => Some(ArrayParts {
-            index: *index,
-            element: *element,
-        }),
-        _ => None,
-    }
-}
-
 /// The parts of an array type, None for any other.
 #[tactic(auto, unfolding(crate::specs::Forms::array_parts))]
 pub fn array_parts(t: &TypeTable, n: TypeId) -> Option<ArrayParts>
     ensures { result ≡ spec.array_parts t.now n }
 {
     match shape(t, n) {
-        Some(form) => array_of(form),
-        None => None,
+        Some(TypeForm::Array(index, element)) => Some(ArrayParts {
+            index: *index,
+            element: *element,
+        }),
+        _ => None,
     }
 }
 
@@ -110,32 +81,14 @@ fn field_in(fields: &[Field], name: &[u8]) -> Option<FieldAt>
     None
 }
 
-fn field_of(name: &Name, form: &TypeForm) -> Option<FieldAt>
-    ensures { result ≡ spec.field_of name.now form.now }
-{
-    match form {
-        TypeForm::Record(fields) => field_in(fields.as_slice(), name.as_slice()),
-        _ => None,
-    }
-}
-
 /// The field of this name, None where the type is no record or has no such field.
 #[tactic(auto, unfolding(crate::specs::Forms::field))]
 pub fn field(t: &TypeTable, n: TypeId, name: &Name) -> Option<FieldAt>
     ensures { result ≡ spec.field t.now n name.now }
 {
     match shape(t, n) {
-        Some(form) => field_of(name, form),
-        None => None,
-    }
-}
-
-fn is_record_form(form: &TypeForm) -> bool
-    ensures { result ≡ spec.is_record_form form.now }
-{
-    match form {
-        TypeForm::Record(_) => true,
-        _ => false,
+        Some(TypeForm::Record(fields)) => field_in(fields.as_slice(), name.as_slice()),
+        _ => None,
     }
 }
 
@@ -144,19 +97,7 @@ fn is_record_form(form: &TypeForm) -> bool
 pub fn is_record(t: &TypeTable, n: TypeId) -> bool
     ensures { result ≡ spec.is_record t.now n }
 {
-    match shape(t, n) {
-        Some(form) => is_record_form(form),
-        None => false,
-    }
-}
-
-fn target_of(form: &TypeForm) -> Option<TypeId>
-    ensures { result ≡ spec.target_of form.now }
-{
-    match form {
-        TypeForm::Pointer(target) => Some(*target),
-        _ => None,
-    }
+    matches!(shape(t, n), Some(TypeForm::Record(_)))
 }
 
 /// The type to which a pointer type points, None for any other.
@@ -165,17 +106,8 @@ pub fn target(t: &TypeTable, n: TypeId) -> Option<TypeId>
     ensures { result ≡ spec.target t.now n }
 {
     match shape(t, n) {
-        Some(form) => target_of(form),
-        None => None,
-    }
-}
-
-fn is_opaque_form(form: &TypeForm) -> bool
-    ensures { result ≡ spec.is_opaque_form form.now }
-{
-    match form {
-        TypeForm::Opaque(_) => true,
-        _ => false,
+        Some(TypeForm::Pointer(target)) => Some(*target),
+        _ => None,
     }
 }
 
@@ -184,10 +116,7 @@ fn is_opaque_form(form: &TypeForm) -> bool
 pub fn is_opaque(t: &TypeTable, n: TypeId) -> bool
     ensures { result ≡ spec.is_opaque t.now n }
 {
-    match shape(t, n) {
-        Some(form) => is_opaque_form(form),
-        None => false,
-    }
+    matches!(shape(t, n), Some(TypeForm::Opaque(_)))
 }
 
 /// Whether the type has the value NIL: it is a pointer type, an opaque type, or ADDRESS.
@@ -198,29 +127,14 @@ pub fn has_nil(t: &TypeTable, n: TypeId) -> bool
     meant(t, n) == ADDRESS || target(t, n).is_some() || is_opaque(t, n)
 }
 
-fn has_characters(parts: Option<ArrayParts>) -> bool
-    ensures { result ≡ spec.has_characters parts }
-{
-    match parts {
-        Some(parts) => parts.element == CHAR,
-        None => false,
-    }
-}
-
 /// Whether the type is an array whose elements are CHAR itself.
 #[tactic(auto, unfolding(crate::specs::Forms::is_char_array))]
 pub fn is_char_array(t: &TypeTable, n: TypeId) -> bool
     ensures { result ≡ spec.is_char_array t.now n }
 {
-    has_characters(array_parts(t, n))
-}
-
-fn set_of(form: &TypeForm) -> Option<TypeId>
-    ensures { result ≡ spec.set_of form.now }
-{
-    match form {
-        TypeForm::SetOf(base) => Some(*base),
-        _ => None,
+    match array_parts(t, n) {
+        Some(parts) => parts.element == CHAR,
+        None => false,
     }
 }
 
@@ -228,8 +142,8 @@ fn own_base(t: &TypeTable, n: TypeId) -> Option<TypeId>
     ensures { result ≡ spec.of_form spec.set_of (spec.shape t.now n) }
 {
     match shape(t, n) {
-        Some(form) => set_of(form),
-        None => None,
+        Some(TypeForm::SetOf(base)) => Some(*base),
+        _ => None,
     }
 }
 
@@ -258,36 +172,12 @@ pub fn element_span(t: &TypeTable, n: TypeId) -> Option<Span>
     }
 }
 
-fn is_routine_form(form: &TypeForm) -> bool
-    ensures { result ≡ spec.is_routine_form form.now }
-{
-    match form {
-        TypeForm::Procedure(_, _) => true,
-        _ => false,
-    }
-}
-
 /// Whether the type is a procedure type.
 #[tactic(auto, unfolding(crate::specs::Forms::is_routine))]
 pub fn is_routine(t: &TypeTable, n: TypeId) -> bool
     ensures { result ≡ spec.is_routine t.now n }
 {
-    if meant(t, n) == PROC {
-        return true;
-    }
-    match shape(t, n) {
-        Some(form) => is_routine_form(form),
-        None => false,
-    }
-}
-
-fn parameters_of(form: &TypeForm) -> &[Parameter]
-    ensures { result.now ≡ spec.parameters_of form.now }
-{
-    match form {
-        TypeForm::Procedure(parameters, _) => parameters.as_slice(),
-        _ => &[],
-    }
+    meant(t, n) == PROC || matches!(shape(t, n), Some(TypeForm::Procedure(_, _)))
 }
 
 /// The parameters of a procedure type: PROC has none.
@@ -296,8 +186,8 @@ pub fn parameters(t: &TypeTable, n: TypeId) -> &[Parameter]
     ensures { result.now ≡ spec.parameters t.now n }
 {
     match shape(t, n) {
-        Some(form) => parameters_of(form),
-        None => &[],
+        Some(TypeForm::Procedure(parameters, _)) => parameters.as_slice(),
+        _ => &[],
     }
 }
 
@@ -317,22 +207,13 @@ pub fn parameter(t: &TypeTable, n: TypeId, at: usize) -> Option<Parameter>
     parameters(t, n).get(at).copied()
 }
 
-fn result_of(form: &TypeForm) -> Option<TypeId>
-    ensures { result ≡ spec.result_of form.now }
-{
-    match form {
-        TypeForm::Procedure(_, result) => *result,
-        _ => None,
-    }
-}
-
 /// The type of what a function gives, None for a proper procedure.
 #[tactic(auto, unfolding(crate::specs::Forms::result))]
 pub fn result(t: &TypeTable, n: TypeId) -> Option<TypeId>
     ensures { result ≡ spec.result t.now n }
 {
     match shape(t, n) {
-        Some(form) => result_of(form),
-        None => None,
+        Some(TypeForm::Procedure(_, result)) => *result,
+        _ => None,
     }
 }

@@ -1,13 +1,13 @@
 ghost use Rattle.std.specs.Prelude.{◌≡◌, ◌≤◌};
 ghost use Rattle.std.specs.Option.{option_copied};
 ghost use Rattle.lil_base.specs.Words.{between, number_of, Integer};
-ghost use Rattle.lil_types.specs.Types as types;
-ghost use Rattle.lil_types.specs.Folding.{fits as fits_type};
 ghost use Rattle.lil_kinds.specs.Kinds as spec;
 
-use crate::forms::{ArrayParts, array_parts, has_nil, is_routine, parameters, result, span_of};
+use crate::forms::{array_parts, has_nil, is_routine, parameters, result, span_of};
 use lil_scope::Kind;
-use lil_types::{CARDINAL, CHAR, INTEGER, Parameter, Span, TypeId, TypeTable, base, same, values};
+use lil_types::{
+    CHAR, INTEGER, Parameter, Span, TypeId, TypeTable, base, fits, is_whole, same, values,
+};
 
 /// The type of an operand, where it has one.
 pub(crate) fn sort_of(a: Kind) -> Option<TypeId>
@@ -22,24 +22,7 @@ pub(crate) fn sort_of(a: Kind) -> Option<TypeId>
 pub(crate) fn is_whole_constant(a: Kind) -> bool
     ensures { result ≡ spec.is_whole_constant a }
 {
-    match a {
-        Kind::Whole(_) => true,
-        _ => false,
-    }
-}
-
-/// Whether the type is INTEGER, CARDINAL or a subrange of one.
-pub(crate) fn is_whole(t: &TypeTable, a: TypeId) -> bool
-    ensures { result ≡ types.is_whole t.now a }
-{
-    base(t, a) < 2
-}
-
-/// Whether a whole constant goes with a type of this base.
-fn fits(b: TypeId, m: i32) -> bool
-    ensures { result ≡ fits_type b m }
-{
-    (b == INTEGER && m <= 32767) || (b == CARDINAL && m >= 0)
+    matches!(a, Kind::Whole(_))
 }
 
 /// Whether a value of type `sort` is compatible with an operand.
@@ -89,16 +72,6 @@ fn same_parameters(t: &TypeTable, xs: &[Parameter], ys: &[Parameter]) -> bool
     true
 }
 
-fn same_result(t: &TypeTable, r: Option<TypeId>, s: Option<TypeId>) -> bool
-    ensures { result ≡ spec.same_result t.now r s }
-{
-    match (r, s) {
-        (Some(r), Some(s)) => same(t, r, s),
-        (None, None) => true,
-        (Some(_), None) | (None, Some(_)) => false,
-    }
-}
-
 /// Whether a procedure of type `s` is a value of procedure type `r`.
 #[tactic(auto, unfolding(crate::specs::Kinds::conforms))]
 fn conforms(t: &TypeTable, s: TypeId, r: TypeId) -> bool
@@ -107,25 +80,11 @@ fn conforms(t: &TypeTable, s: TypeId, r: TypeId) -> bool
     is_routine(t, s)
         && is_routine(t, r)
         && same_parameters(t, parameters(t, s), parameters(t, r))
-        && same_result(t, result(t, s), result(t, r))
-}
-
-fn has_room(span: Option<Span>, count: usize) -> bool
-    ensures { result ≡ spec.has_room span count }
-{
-    match span {
-        Some(span) => count as u64 <= values(span.low, span.high),
-        None => false,
-    }
-}
-
-fn holds_by(t: &TypeTable, parts: Option<ArrayParts>, count: usize) -> bool
-    ensures { result ≡ spec.holds_by t.now parts count }
-{
-    match parts {
-        Some(parts) => parts.element == CHAR && has_room(span_of(t, parts.index), count),
-        None => false,
-    }
+        && match (result(t, s), result(t, r)) {
+            (Some(s), Some(r)) => same(t, s, r),
+            (None, None) => true,
+            _ => false,
+        }
 }
 
 /// Whether a type is an ARRAY OF CHAR with at least so many elements.
@@ -133,7 +92,13 @@ fn holds_by(t: &TypeTable, parts: Option<ArrayParts>, count: usize) -> bool
 fn holds(t: &TypeTable, to: TypeId, count: usize) -> bool
     ensures { result ≡ spec.holds t.now to count }
 {
-    holds_by(t, array_parts(t, to), count)
+    match array_parts(t, to) {
+        Some(parts) if parts.element == CHAR => match span_of(t, parts.index) {
+            Some(span) => count as u64 <= values(span.low, span.high),
+            None => false,
+        },
+        _ => false,
+    }
 }
 
 /// Whether a value is assignable without being compatible.
@@ -176,21 +141,13 @@ pub fn outside(span: Option<Span>, number: Option<i32>) -> bool
 }
 
 /// The number that a constant has beside a type.
-#[tactic(auto, unfolding(crate::specs::Kinds::number_beside))]
+#[tactic(auto, unfolding(crate::specs::Kinds::number_beside, crate::specs::Kinds::number))]
 fn number_beside(t: &TypeTable, to: TypeId, b: Kind) -> Option<i32>
     ensures { result ≡ spec.number_beside t.now to b }
 {
     match b {
-        Kind::Whole(n) => Some(n),
-        Kind::Scalar(_, _) => number(t, b),
-        Kind::Chars(_) => {
-            if base(t, to) == CHAR {
-                number(t, b)
-            } else {
-                None
-            }
-        }
-        _ => None,
+        Kind::Chars(_) if base(t, to) != CHAR => None,
+        _ => number(t, b),
     }
 }
 
@@ -220,28 +177,15 @@ pub fn is_ordinal(t: &TypeTable, a: Kind) -> bool
 pub fn is_constant(a: Kind) -> bool
     ensures { result ≡ spec.is_constant a }
 {
-    match a {
-        Kind::Whole(_) | Kind::Scalar(_, _) | Kind::Chars(_) => true,
-        Kind::Nil | Kind::Of(_) | Kind::Open(_) | Kind::Routine(_) => false,
-    }
-}
-
-fn signed(word: u16) -> i32
-    ensures { result ≡ number_of Integer word }
-{
-    if word < 32768 {
-        i32::from(word)
-    } else {
-        i32::from(word) - 65536
-    }
+    matches!(a, Kind::Whole(_) | Kind::Scalar(_, _) | Kind::Chars(_))
 }
 
 /// The number that a word says as a value of a type.
 pub(crate) fn word_number(t: &TypeTable, sort: TypeId, word: u16) -> i32
     ensures { result ≡ spec.word_number t.now sort word }
 {
-    if base(t, sort) == INTEGER {
-        signed(word)
+    if base(t, sort) == INTEGER && word >= 32768 {
+        i32::from(word) - 65536
     } else {
         i32::from(word)
     }
@@ -254,20 +198,8 @@ pub fn number(t: &TypeTable, a: Kind) -> Option<i32>
 {
     match a {
         Kind::Whole(n) => Some(n),
-        Kind::Scalar(sort, word) => {
-            if span_of(t, sort).is_some() {
-                Some(word_number(t, sort, word))
-            } else {
-                None
-            }
-        }
-        Kind::Chars(text) => {
-            if text.length == 1 {
-                Some(i32::from(text.first))
-            } else {
-                None
-            }
-        }
+        Kind::Scalar(sort, word) if span_of(t, sort).is_some() => Some(word_number(t, sort, word)),
+        Kind::Chars(text) if text.length == 1 => Some(i32::from(text.first)),
         _ => None,
     }
 }

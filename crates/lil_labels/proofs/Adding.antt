@@ -2,16 +2,9 @@
 use Rattle.std.proofs.Common.{◌≡◌, ℕ, ◌+◌, List, [], ◌∷◌, ◌++◌, length, Option, refl, sym, ap, ◌∙◌, subst, arith, length-append, append-nil, append_assoc}
 use Rattle.std.specs.Prelude.{slice_get}
 use Rattle.lil_base.specs.Fields.{bytes16}
-use Rattle.lil_asm.specs.declared.instr.Instr.{Instr}
-use Rattle.lil_asm.specs.declared.instr.Instr.TheVariants.{Cas}
-use Rattle.lil_asm.specs.Bytes.{bytes_of, entry_bytes, Sayable}
-use Rattle.lil_asm.specs.Standing.{HasBytes, appended_has, decodes, cas_decodes, entry_stands}
-use Rattle.lil_labels.specs.declared.buffer.Jump.{Jump}
-use Rattle.lil_labels.specs.declared.buffer.Aim.{Aim}
+use Rattle.lil_asm.specs.{declared.instr.Instr.{Instr, TheVariants.{Jmp, Jpf, Jan, Jor, Fri, Frn}}, Bytes.{bytes_of, Sayable}, Standing.{HasBytes, appended_has, decodes}}
+use Rattle.lil_labels.specs.{declared.buffer.{Jump.Jump, Aim.Aim}, Tables.Tables, Drafts.{Draft, AreInside, written, code_of, Final, Meaning, Emits, Doing, Notes, aimed}, Settling.{written_long, written_before, written_last}}
 use Rattle.lil_labels.specs.declared.buffer.Aim.TheVariants as aim
-use Rattle.lil_labels.specs.Tables.{Tables}
-use Rattle.lil_labels.specs.Drafts.{Draft, AreInside, written, code_of, Final, Meaning, Emits, Doing, Choosing, Entering, Notes, aimed}
-use Rattle.lil_labels.specs.Settling.{written_long, written_before, written_last}
 
 has_front : (code : List ℕ) (p : ℕ) (a b : List ℕ) → HasBytes code p (a ++ b) → HasBytes code p a
 has_front code p [] b h = tt
@@ -41,23 +34,6 @@ emits_bytes old new more T tables strings same added f = record {
       subst (λ (q : ℕ). T x (length old.bytes) q) ends (f x (subst (λ (p : ℕ). HasBytes x.code p (more x.word)) (written_long x.word old.bytes old.jumps) has));
 }
 
--- the bytes of an instruction end with its label's word
-record EndsWithWord (i : Aim) : Type 0 where
-  front : List ℕ
-  high : ℕ
-  low : ℕ
-  is : bytes_of (aimed i 0) ≡ front ++ high ∷ low ∷ []
-  aims : (w : ℕ) → bytes_of (aimed i w) ≡ front ++ bytes16 w
-  say : (w : ℕ) → Sayable (aimed i w)
-
-ends_with_word : (i : Aim) → EndsWithWord i
-ends_with_word aim.Always = record { front = 0x70 ∷ []; high = 0; low = 0; is = refl; aims = λ w. refl; say = λ w. tt }
-ends_with_word aim.IfFalse = record { front = 0x71 ∷ []; high = 0; low = 0; is = refl; aims = λ w. refl; say = λ w. tt }
-ends_with_word aim.And = record { front = 0x72 ∷ []; high = 0; low = 0; is = refl; aims = λ w. refl; say = λ w. tt }
-ends_with_word aim.Or = record { front = 0x73 ∷ []; high = 0; low = 0; is = refl; aims = λ w. refl; say = λ w. tt }
-ends_with_word (aim.Enter o s) = record { front = 0x77 ∷ (bytes16 o ++ s ∷ []); high = 0; low = 0; is = refl; aims = λ w. refl; say = λ w. tt }
-ends_with_word (aim.Turn o) = record { front = 0x78 ∷ bytes16 o; high = 0; low = 0; is = refl; aims = λ w. refl; say = λ w. tt }
-
 module _ (tables : Tables) (strings bytes new : List ℕ) (places : List (Option ℕ)) (js : List Jump) (old : Draft) (view : record { tables = tables; strings = strings; bytes = bytes; places = places; jumps = js } ≡ old) (inside : AreInside (length bytes) js) where
   abbrev first : Draft
   first = record { tables = tables; strings = strings; bytes = bytes; places = places; jumps = js }
@@ -73,33 +49,19 @@ module _ (tables : Tables) (strings bytes new : List ℕ) (places : List (Option
       (λ x has. decodes i x.code (length bytes) say has))
 
   -- bytes more, the last two of which are a label's
-  noted_code : (front : List ℕ) (a b : ℕ) (last : Draft) (label : ℕ) → new ≡ bytes ++ (front ++ a ∷ b ∷ []) → Notes second last label
-      → (word : ℕ → ℕ) → code_of last word ≡ written word bytes js ++ (front ++ bytes16 (word label))
-  noted_code front a b last label e notes word =
+  pub noted_emits : (front : List ℕ) (last : Draft) (label : ℕ) (T : Meaning) → new ≡ bytes ++ (front ++ 0 ∷ 0 ∷ []) → Notes second last label
+      → ((x : Final) → HasBytes x.code (length bytes) (front ++ bytes16 (x.word label)) → T x (length bytes) (length bytes + length (front ++ bytes16 (x.word label)))) → Emits old last T
+  noted_emits front last label T e notes =
       let j : Jump = record { label = label; at = notes.at } in
-      let is : notes.at + 2 ≡ length (bytes ++ (front ++ a ∷ b ∷ [])) = notes.is ∙ ap length e in
-      ap (λ (c : List ℕ). written word c last.jumps) (notes.bytes ∙ e)
-      ∙ ap (λ (ks : List Jump). written word (bytes ++ (front ++ a ∷ b ∷ [])) ks) notes.jumps
-      ∙ written_last word bytes front a b js j inside is
+      let is : notes.at + 2 ≡ length (bytes ++ (front ++ 0 ∷ 0 ∷ [])) = notes.is ∙ ap length e in
+      subst (λ (d : Draft). ((x : Final) → HasBytes x.code (length bytes) (front ++ bytes16 (x.word label)) → T x (length bytes) (length bytes + length (front ++ bytes16 (x.word label)))) → Emits d last T) view
+      (emits_bytes first last (λ word. front ++ bytes16 (word label)) T notes.tables notes.strings notes.places
+      (λ word. ap (λ (c : List ℕ). written word c last.jumps) (notes.bytes ∙ e) ∙ ap (written word (bytes ++ (front ++ 0 ∷ 0 ∷ []))) notes.jumps ∙ written_last word bytes front 0 0 js j inside is))
 
   pub jump_emits : (i : Aim) (last : Draft) (label : ℕ) → new ≡ bytes ++ bytes_of (aimed i 0) → Notes second last label → Emits old last (Doing (λ word. aimed i (word label)))
-  jump_emits i last label e notes =
-      let at = ends_with_word i in
-      subst (λ (d : Draft). Emits d last (Doing (λ word. aimed i (word label)))) view
-      (emits_bytes first last (λ word. bytes_of (aimed i (word label))) (Doing (λ word. aimed i (word label))) notes.tables notes.strings notes.places
-      (λ word. noted_code at.front at.high at.low last label (e ∙ ap (λ (b : List ℕ). bytes ++ b) at.is) notes word ∙ ap (λ (b : List ℕ). written word bytes js ++ b) (sym (at.aims (word label))))
-      (λ x has. decodes (aimed i (x.word label)) x.code (length bytes) (at.say (x.word label)) has))
-
-  pub choose_emits : (count label : ℕ) (last : Draft) → new ≡ bytes ++ bytes_of (Cas count 0) → Notes second last label → Emits old last (Choosing count label)
-  choose_emits count label last e notes =
-      subst (λ (d : Draft). Emits d last (Choosing count label)) view
-      (emits_bytes first last (λ word. bytes_of (Cas count (word label))) (Choosing count label) notes.tables notes.strings notes.places
-      (λ word. noted_code (0x76 ∷ bytes16 count) 0 0 last label e notes word)
-      (λ x has. record { behind = refl; at = λ room. cas_decodes count (x.word label) x.code (length bytes) has room }))
-
-  pub entry_emits : (low high label : ℕ) (last : Draft) → new ≡ bytes ++ entry_bytes low high 0 → Notes second last label → Emits old last (Entering low high label)
-  entry_emits low high label last e notes =
-      subst (λ (d : Draft). Emits d last (Entering low high label)) view
-      (emits_bytes first last (λ word. entry_bytes low high (word label)) (Entering low high label) notes.tables notes.strings notes.places
-      (λ word. noted_code (bytes16 low ++ bytes16 high) 0 0 last label e notes word)
-      (λ x has. record { entry = entry_stands x.code (length bytes) low high (x.word label) has; behind = refl }))
+  jump_emits aim.Always last label e notes = noted_emits (0x70 ∷ []) last label _ e notes (λ x has. decodes (Jmp (x.word label)) x.code (length bytes) tt has)
+  jump_emits aim.IfFalse last label e notes = noted_emits (0x71 ∷ []) last label _ e notes (λ x has. decodes (Jpf (x.word label)) x.code (length bytes) tt has)
+  jump_emits aim.And last label e notes = noted_emits (0x72 ∷ []) last label _ e notes (λ x has. decodes (Jan (x.word label)) x.code (length bytes) tt has)
+  jump_emits aim.Or last label e notes = noted_emits (0x73 ∷ []) last label _ e notes (λ x has. decodes (Jor (x.word label)) x.code (length bytes) tt has)
+  jump_emits (aim.Enter o s) last label e notes = noted_emits (0x77 ∷ (bytes16 o ++ s ∷ [])) last label _ e notes (λ x has. decodes (Fri o s (x.word label)) x.code (length bytes) tt has)
+  jump_emits (aim.Turn o) last label e notes = noted_emits (0x78 ∷ bytes16 o) last label _ e notes (λ x has. decodes (Frn o (x.word label)) x.code (length bytes) tt has)

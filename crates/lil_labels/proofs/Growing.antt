@@ -1,15 +1,10 @@
 -- Labels and strings that are added to a draft.
 use Rattle.std.proofs.Common.{◌≡◌, ℕ, zero, suc, ◌+◌, ◌%◌, ◌<◌, ◌≤◌, true, List, [], ◌∷◌, ◌++◌, length, get_or, Option, Some, None, refl, sym, ap, ◌∙◌, subst, arith, length-append, append-nil, append_assoc}
 use Rattle.std.specs.Prelude.{slice_get}
-use Rattle.std.proofs.lemmas.Option.{slice_get_within}
-use Rattle.std.proofs.lemmas.List.{get_or_append_left, get_or-append-add}
-use Rattle.lil_resolved.specs.Sound.{is_text}
-use Rattle.lil_resolved.specs.Sizes.{words_of}
+use Rattle.std.proofs.lemmas.{Option.slice_get_within, List.{get_or_append_left, get_or-append-add}}
+use Rattle.lil_resolved.specs.{Sound.is_text, Sizes.words_of}
 use Rattle.lil_table.specs.Rows.{Layout, HasText, text_words}
-use Rattle.lil_labels.specs.declared.buffer.Jump.{Jump}
-use Rattle.lil_labels.specs.Entries.{get_front, get_last}
-use Rattle.lil_labels.specs.Tables.{Tables}
-use Rattle.lil_labels.specs.Drafts.{Draft, Adds, Emits, Nothing, Makes, Saying}
+use Rattle.lil_labels.specs.{declared.buffer.Jump.Jump, Entries.{get_front, get_last}, Tables.Tables, Drafts.{Draft, Adds, Emits, Nothing, Makes, Saying}}
 
 -- ---- labels
 module _ (tables : Tables) (strings bytes : List ℕ) (places more : List (Option ℕ)) (js : List Jump) (old : Draft) (view : record { tables = tables; strings = strings; bytes = bytes; places = places; jumps = js } ≡ old) (is : more ≡ places ++ None ∷ []) where
@@ -34,7 +29,11 @@ module _ (tables : Tables) (strings bytes : List ℕ) (places more : List (Optio
   pub label_made : (l : ℕ) → l ≡ length places → Makes old labelled l
   label_made l e =
       subst (λ (d : Draft). Makes d labelled l) view
-      (record { is = e; fresh = ap (slice_get more) e ∙ ap (λ (ps : List (Option ℕ)). slice_get ps (length places)) is ∙ get_last places None })
+      (record {
+        is = e;
+        fresh = ap (slice_get more) e ∙ ap (λ (ps : List (Option ℕ)). slice_get ps (length places)) is ∙ get_last places None;
+        apart = λ k h same. let within = slice_get_within places k None h in omega (arith, within, same, e);
+      })
 
 -- ---- strings
 words_long : (cs : List ℕ) → length (words_of cs) ≡ text_words cs

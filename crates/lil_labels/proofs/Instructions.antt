@@ -1,7 +1,6 @@
 -- Instructions that are added one behind another.
 use Rattle.std.proofs.Common.{ℕ, zero, suc, ◌<◌, List, [], ◌∷◌, length, get_or, arith}
-use Rattle.lil_asm.specs.declared.instr.Instr.{Instr}
-use Rattle.lil_asm.specs.Bytes.{Sayable}
+use Rattle.lil_asm.specs.{declared.instr.Instr.Instr, Bytes.Sayable}
 use Rattle.lil_table.specs.Rows.{InstrsAt}
 use Rattle.lil_labels.specs.Drafts.{Meaning, AreSayable}
 

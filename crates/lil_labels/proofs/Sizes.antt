@@ -1,15 +1,10 @@
 -- How many words the shapes of a table take.
 use Rattle.std.proofs.Common.{◌≡◌, ◌≢◌, ℕ, ◌+◌, ◌-◌, ◌*◌, ◌<◌, ◌≤◌, Bool, true, false, if◌then◌else◌, List, [], ◌∷◌, map, length, Option, Some, None, refl, sym, ap, ◌∙◌, subst, arith}
 use Rattle.std.specs.Prelude.{slice_get, nat_lt}
-use Rattle.std.proofs.lemmas.Bool.{ltb-true, lt-ltb}
-use Rattle.std.proofs.lemmas.Option.{none-some, same_Some}
-use Rattle.lil_resolved.specs.declared.shapes.RField.{RField}
-use Rattle.lil_resolved.specs.declared.shapes.RShape.{RShape}
+use Rattle.std.proofs.lemmas.{Bool.{ltb-true, lt-ltb}, Option.{none-some, same_Some}}
+use Rattle.lil_resolved.specs.{declared.shapes.{RField.RField, RShape.RShape}, Kinds.{Shape, words, shape_at, fields_of}, Views.{number_of, shape_with, shapes_of, AreMeasuredFields, IsMeasuredShape, AreMeasured}}
 use Rattle.lil_resolved.specs.declared.shapes.RShape.TheVariants as r
-use Rattle.lil_resolved.specs.Kinds.{Shape, words, shape_at, fields_of}
-use Rattle.lil_resolved.specs.Views.{number_of, shape_with, shapes_of, AreMeasuredFields, IsMeasuredShape, AreMeasured}
-use Rattle.lil_labels.specs.Entries.{entry, absent}
-use Rattle.lil_labels.specs.Tables.{last_in, last_by, below, plain_words, plain_words_by}
+use Rattle.lil_labels.specs.{Entries.{entry, absent}, Tables.{last_in, last_by, below, plain_words, plain_words_by}}
 
 -- ---- the last field
 -- all words are those before a field and its own

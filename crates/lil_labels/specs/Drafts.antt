@@ -1,16 +1,9 @@
 -- Code that is being written with labels. What is said of it holds in each final code that begins with it, whatever words its labels have.
-use Rattle.std.specs.Prelude.{◌≡◌, ℕ, ◌+◌, ◌*◌, ◌/◌, ◌%◌, ◌≤◌, true, List, [], ◌∷◌, ◌++◌, drop, length, Option, Some, None, slice_get, slice_set}
-use Rattle.lil_asm.specs.declared.instr.Instr.{Instr}
-use Rattle.lil_asm.specs.declared.instr.Instr.TheVariants.{Jmp, Jpf, Jan, Jor, Cas, Fri, Frn}
-use Rattle.lil_asm.specs.Bytes.{Entry, Sayable}
-use Rattle.lil_resolved.specs.declared.resolved.RDeclared.{RDeclared}
-use Rattle.lil_resolved.specs.declared.shapes.RShape.{RShape}
-use Rattle.lil_resolved.specs.Sound.{is_text}
+use Rattle.std.specs.Prelude.{◌≡◌, ◌≢◌, ℕ, ◌+◌, ◌*◌, ◌/◌, ◌%◌, ◌≤◌, true, List, [], ◌∷◌, ◌++◌, drop, length, Option, Some, None, slice_get, slice_set}
+use Rattle.lil_asm.specs.{declared.instr.Instr.{Instr, TheVariants.{Jmp, Jpf, Jan, Jor, Cas, Fri, Frn}}, Bytes.{Entry, Sayable}}
+use Rattle.lil_resolved.specs.{declared.{resolved.RDeclared.RDeclared, shapes.RShape.RShape}, Sound.is_text}
 use Rattle.lil_table.specs.Rows.{Layout, Span, IsAt, InstrsAt, HasText}
-use Rattle.lil_labels.specs.declared.buffer.HeldRecord.{HeldRecord}
-use Rattle.lil_labels.specs.Tables.{Tables, Describe}
-use Rattle.lil_labels.specs.declared.buffer.Jump.{Jump}
-use Rattle.lil_labels.specs.declared.buffer.Aim.{Aim}
+use Rattle.lil_labels.specs.{declared.buffer.{HeldRecord.HeldRecord, Jump.Jump, Aim.Aim}, Tables.{Tables, Describe}}
 use Rattle.lil_labels.specs.declared.buffer.Aim.TheVariants as aim
 
 -- the tables of the module, the words of the strings, the bytes, the place of each label that has one, and the jumps
@@ -114,6 +107,11 @@ AreSayable (i ∷ is) = Sayable i × AreSayable is
 abbrev pub DoingAll : List Instr → Meaning
 DoingAll is x p q = InstrsAt x.code is p q
 
+-- one behind another
+abbrev pub Each : {A : Type 0} → (A → Meaning) → List A → Meaning
+Each P [] x p q = p ≡ q
+Each P (a ∷ rest) x p q = (m : ℕ) × P a x p m × Each P rest x m q
+
 -- CAS, which stands there where the code has its entries
 pub record ChoiceAt (code : List ℕ) (count other p q : ℕ) : Type 0 where
   pub behind : q ≡ p + 5
@@ -134,10 +132,11 @@ pub record EntryAt (code : List ℕ) (low high target p q : ℕ) : Type 0 where
 abbrev pub Entering : ℕ → ℕ → ℕ → Meaning
 Entering low high label x p q = EntryAt x.code low high (x.word label) p q
 
--- a new label
+-- a new label, which no open one was
 pub record Makes (old new : Draft) (l : ℕ) : Type 0 where
   pub is : l ≡ length old.places
   pub fresh : IsOpen new l
+  pub apart : (k : ℕ) → IsOpen old k → k ≢ l
 
 -- an open label gets the place of the end
 pub record Places (old new : Draft) (l : ℕ) : Type 0 where
@@ -147,6 +146,16 @@ pub record Places (old new : Draft) (l : ℕ) : Type 0 where
   pub jumps : new.jumps ≡ old.jumps
   pub places : new.places ≡ slice_set old.places l (Some (length old.bytes))
   pub was : IsOpen old l
+
+-- no code, at the end of which a label has its place, in each final code
+pub record Ends (old new : Draft) (l : ℕ) : Type 0 where
+  pub same : new.tables ≡ old.tables
+  pub strings : new.strings ≡ old.strings
+  pub long : length new.bytes ≡ length old.bytes
+  pub keeps : (k : ℕ) → k ≢ l → IsOpen old k → IsOpen new k
+  pub made : length old.places ≤ length new.places
+  pub back : (x : Final) → Fits new x → Fits old x
+  pub named : (x : Final) → Fits new x → x.word l ≡ x.layout.target (length new.bytes)
 
 -- the instruction that leads to a label, with its word
 abbrev pub aimed : Aim → ℕ → Instr

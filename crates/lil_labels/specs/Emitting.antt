@@ -1,14 +1,10 @@
 -- How pieces of code that are emitted one behind another make one piece.
-use Rattle.std.proofs.Common.{◌≡◌, ◌≢◌, ℕ, zero, suc, ◌<◌, ◌≤◌, List, [], ◌∷◌, ◌++◌, drop, length, Option, Some, None, refl, sym, ap, ◌∙◌, subst, arith, length-append, append-nil, append_assoc, Result, Ok, Err, OnOk}
+use Rattle.std.proofs.Common.{◌≡◌, ◌≢◌, ℕ, zero, suc, ◌+◌, ◌<◌, ◌≤◌, List, [], ◌∷◌, ◌++◌, take, drop, length, get_or, Option, Some, None, refl, sym, ap, ◌∙◌, subst, arith, length-append, append-nil, append_assoc, Result, Ok, Err, OnOk}
 use Rattle.std.specs.Prelude.{slice_get, slice_set}
-use Rattle.std.proofs.lemmas.Option.{slice_get_within}
-use Rattle.std.proofs.lemmas.List.{length-set}
+use Rattle.std.proofs.lemmas.{Option.slice_get_within, List.{length-set, take_more}}
 use Rattle.lil_resolved.specs.Kinds.{Shape}
 use Rattle.lil_table.specs.Rows.{holding}
-use Rattle.lil_labels.specs.declared.buffer.HeldRecord.{HeldRecord}
-use Rattle.lil_labels.specs.Tables.{Tables, shape_held}
-use Rattle.lil_labels.specs.Drafts.{Draft, inside, outside, written, code_of, Final, Fits, Meaning, Adds, Emits, Nothing, Marking, Makes, Places}
-use Rattle.lil_labels.specs.Settling.{written_long}
+use Rattle.lil_labels.specs.{declared.buffer.HeldRecord.HeldRecord, Tables.{Tables, shape_held}, Drafts.{Draft, inside, outside, written, code_of, IsOpen, Final, Fits, Meaning, Adds, Emits, Nothing, Each, Marking, Places, Ends}, Settling.written_long}
 
 pub emits_none : (d : Draft) → Emits d d Nothing
 emits_none d = record { same = refl; strings = sym (append-nil d.strings); keeps = λ l h. h; made = omega arith; back = λ x fits. fits; meant = λ x fits. refl }
@@ -24,9 +20,12 @@ emits_then {us = us} {vs = vs} a b c T U t u = record {
   meant = λ x fits. (t.meant x (u.back x fits), u.meant x fits);
 }
 
--- the same piece with another meaning that follows
+-- the same piece with another meaning that follows in a final code that fits
+emits_fits : {ws : List ℕ} (a b : Draft) (T U : Meaning) → ((x : Final) → Fits b x → T x (length a.bytes) (length b.bytes) → U x (length a.bytes) (length b.bytes)) → Adds ws a b T → Adds ws a b U
+emits_fits a b T U f t = record { same = t.same; strings = t.strings; keeps = t.keeps; made = t.made; back = t.back; meant = λ x fits. f x fits (t.meant x fits) }
+
 pub emits_as : {ws : List ℕ} (a b : Draft) (T U : Meaning) → ((x : Final) → T x (length a.bytes) (length b.bytes) → U x (length a.bytes) (length b.bytes)) → Adds ws a b T → Adds ws a b U
-emits_as a b T U f t = record { same = t.same; strings = t.strings; keeps = t.keeps; made = t.made; back = t.back; meant = λ x fits. f x (t.meant x fits) }
+emits_as a b T U f = emits_fits a b T U (λ x fits. f x)
 
 -- the same piece with the same words of strings, said in another way
 pub adds_as : {us vs : List ℕ} (a b : Draft) (T : Meaning) → us ≡ vs → Adds us a b T → Adds vs a b T
@@ -34,18 +33,11 @@ adds_as a b T is = subst (λ (ws : List ℕ). Adds ws a b T) is
 
 -- its tables are those of the final code
 pub emits_tied : {ws : List ℕ} (a b : Draft) (T : Meaning) → Adds ws a b T → Adds ws a b (λ x p q. T x p q × (x.tables ≡ a.tables))
-emits_tied a b T t = record { same = t.same; strings = t.strings; keeps = t.keeps; made = t.made; back = t.back; meant = λ x fits. (t.meant x fits, fits.same ∙ t.same) }
+emits_tied a b T t = emits_fits a b T _ (λ x fits h. (h, fits.same ∙ t.same)) t
 
 -- it lies within the final code
 pub emits_within : {ws : List ℕ} (a b : Draft) (T : Meaning) → Adds ws a b T → Adds ws a b (λ x p q. T x p q × (q ≤ length x.code))
-emits_within a b T t = record {
-  same = t.same;
-  strings = t.strings;
-  keeps = t.keeps;
-  made = t.made;
-  back = t.back;
-  meant = λ x fits. (t.meant x fits, omega (arith, ap length fits.begins, length-append (code_of b x.word) fits.rest, written_long x.word b.bytes b.jumps));
-}
+emits_within a b T = emits_fits a b T _ (λ x fits h. (h, omega (arith, ap length fits.begins, length-append (code_of b x.word) fits.rest, written_long x.word b.bytes b.jumps)))
 
 set_get : (xs : List (Option ℕ)) (l : ℕ) (v : Option ℕ) → l < length xs → slice_get (slice_set xs l v) l ≡ Some v
 set_get [] l v h = absurd (omega arith)
@@ -59,36 +51,40 @@ set_other (x ∷ xs) zero (suc l) v h = refl
 set_other (x ∷ xs) (suc k) zero v h = refl
 set_other (x ∷ xs) (suc k) (suc l) v h = set_other xs k l v (λ e. h (ap suc e))
 
--- a label that was made in the piece gets its place at the end of it
-pub emits_here : {ws : List ℕ} (a b c : Draft) (T : Meaning) (l : ℕ) → Adds ws a b T → length a.places ≤ l → Places b c l → Adds ws a c (λ x p q. T x p q × (x.word l ≡ x.layout.target q))
-emits_here a b c T l t new put =
+-- a label that gets its place has it in each final code
+pub ends_here : (b c : Draft) (l : ℕ) → Places b c l → Ends b c l
+ends_here b c l put =
     let place : Option ℕ = Some (length b.bytes) in
     let at : (k : ℕ) → slice_get c.places k ≡ slice_get (slice_set b.places l place) k = λ k. ap (λ (ps : List (Option ℕ)). slice_get ps k) put.places in
     let other : (k : ℕ) → k ≢ l → slice_get c.places k ≡ slice_get b.places k = λ k ne. at k ∙ set_other b.places k l place ne in
     let same : (word : ℕ → ℕ) → code_of c word ≡ code_of b word = λ word. ap (λ (bs : List ℕ). written word bs c.jumps) put.bytes ∙ ap (written word b.bytes) put.jumps in
-    let earlier : (x : Final) → Fits c x → Fits b x = λ x fits. record {
-      same = fits.same ∙ put.tables;
-      more = fits.more;
-      strings = fits.strings ∙ ap (λ (ws : List ℕ). ws ++ fits.more) put.strings;
-      rest = fits.rest;
-      begins = fits.begins ∙ ap (λ (code : List ℕ). code ++ fits.rest) (same x.word);
-      placed = λ k q h. fits.placed k q (other k (λ (e : k ≡ l). cc (h, e, put.was)) ∙ h);
-    } in
     record {
-      same = put.tables ∙ t.same;
-      strings = put.strings ∙ t.strings;
-      keeps = λ k h. let within = slice_get_within a.places k None h in other k (λ (e : k ≡ l). omega (arith, within, e, new)) ∙ t.keeps k h;
-      made = omega (arith, t.made, ap (λ (ps : List (Option ℕ)). length ps) put.places, length-set b.places l place);
-      back = λ x fits. t.back x (earlier x fits);
-      meant = λ x fits.
-          subst (λ (q : ℕ). T x (length a.bytes) q × (x.word l ≡ x.layout.target q)) (sym (ap length put.bytes))
-          (t.meant x (earlier x fits), fits.placed l (length b.bytes) (at l ∙ set_get b.places l place (slice_get_within b.places l None put.was)));
+      same = put.tables;
+      strings = put.strings;
+      long = ap length put.bytes;
+      keeps = λ k ne h. other k ne ∙ h;
+      made = omega (arith, ap (λ (ps : List (Option ℕ)). length ps) put.places, length-set b.places l place);
+      back = λ x fits. record {
+        same = fits.same ∙ put.tables;
+        more = fits.more;
+        strings = fits.strings ∙ ap (λ (ws : List ℕ). ws ++ fits.more) put.strings;
+        rest = fits.rest;
+        begins = fits.begins ∙ ap (λ (code : List ℕ). code ++ fits.rest) (same x.word);
+        placed = λ k q h. fits.placed k q (other k (λ (e : k ≡ l). cc (h, e, put.was)) ∙ h);
+      };
+      named = λ x fits. fits.placed l (length b.bytes) (at l ∙ set_get b.places l place (slice_get_within b.places l None put.was)) ∙ ap x.layout.target (sym (ap length put.bytes));
     }
 
--- a new label at the end of the code
-pub mark_emits : (a b c : Draft) (l : ℕ) → Emits a b Nothing → Makes a b l → Places b c l → Emits a c (Marking l)
-mark_emits a b c l t makes put =
-    emits_as a c _ (Marking l) (λ x h. (h.0, h.1 ∙ ap x.layout.target (sym h.0))) (emits_here a b c Nothing l t (omega (arith, makes.is)) put)
+-- a label that was made in the piece gets its place at the end of it
+pub emits_here : {ws : List ℕ} (a b c : Draft) (T : Meaning) (l : ℕ) → Adds ws a b T → ((k : ℕ) → IsOpen a k → k ≢ l) → Ends b c l → Adds ws a c (λ x p q. T x p q × (x.word l ≡ x.layout.target q))
+emits_here a b c T l t apart end = record {
+  same = end.same ∙ t.same;
+  strings = end.strings ∙ t.strings;
+  keeps = λ k h. end.keeps k (apart k h) (t.keeps k h);
+  made = omega (arith, t.made, end.made);
+  back = λ x fits. t.back x (end.back x fits);
+  meant = λ x fits. (subst (λ (q : ℕ). T x (length a.bytes) q) (sym end.long) (t.meant x (end.back x fits)), end.named x fits);
+}
 
 -- a piece behind a new label
 pub emits_fresh : {ws : List ℕ} (a b c : Draft) (T : Meaning) → Emits a b Nothing → Adds ws b c T → Adds ws a c T
@@ -97,6 +93,24 @@ emits_fresh a b c T new t = emits_as a c _ T (λ x h. subst (λ (p : ℕ). T x p
 -- a piece behind a label that has its place there
 pub emits_mark : {ws : List ℕ} (a b c : Draft) (l : ℕ) (T : Meaning) → Emits a b (Marking l) → Adds ws b c T → Adds ws a c (λ x p q. (x.word l ≡ x.layout.target p) × T x p q)
 emits_mark a b c l T mark t = emits_as a c _ _ (λ x h. (h.0.1, subst (λ (p : ℕ). T x p (length c.bytes)) (sym h.0.0) h.1)) (emits_then a b c (Marking l) T mark t)
+
+-- ---- one behind another
+each_one : {A : Type 0} (P : A → Meaning) (xs : List A) (a : A) (x : Final) (p m q : ℕ) → Each P xs x p m → P a x m q → Each P (xs ++ a ∷ []) x p q
+each_one P [] a x p m q h t = (q, subst (λ (p : ℕ). P a x p q) (sym h) t, refl)
+each_one P (b ∷ xs) a x p m q h t = (h.0, h.1, each_one P xs a x h.0 m q h.2 t)
+
+pub each_more : {us vs : List ℕ} {A : Type 0} (P : A → Meaning) (xs ys : List A) (y : A) (a b c : Draft) → ys ≡ xs ++ y ∷ [] → Adds us a b (Each P xs) → Adds vs b c (P y) → Adds (us ++ vs) a c (Each P ys)
+each_more {us = us} {vs = vs} P xs ys y a b c is t u =
+    subst (λ ys. Adds (us ++ vs) a c (Each P ys)) (sym is)
+    (emits_as a c _ (Each P (xs ++ y ∷ [])) (λ x h. each_one P xs y x (length a.bytes) (length b.bytes) (length c.bytes) h.0 h.1) (emits_then a b c _ _ t u))
+
+-- the items before the next one
+pub take_next : {X : Type 0} (xs : List X) (i : ℕ) (x : X) → i < length xs → x ≡ get_or xs i x → take (i + 1) xs ≡ take i xs ++ x ∷ []
+take_next xs i x inside is = take_more xs i x inside ∙ ap (λ y. take i xs ++ y ∷ []) (sym is)
+
+-- the next of a list
+pub each_next : {us vs : List ℕ} {A : Type 0} (P : A → Meaning) (xs : List A) (i : ℕ) (y : A) (a b c : Draft) → i < length xs → y ≡ get_or xs i y → Adds us a b (Each P (take i xs)) → Adds vs b c (P y) → Adds (us ++ vs) a c (Each P (take (i + 1) xs))
+each_next P xs i y a b c inside is = each_more P (take i xs) (take (i + 1) xs) y a b c (take_next xs i y inside is)
 
 -- ---- inside of a WITH
 -- the same final code, inside of a WITH too

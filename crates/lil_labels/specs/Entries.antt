@@ -2,9 +2,7 @@
 use Rattle.std.proofs.Common.{◌≡◌, ℕ, zero, suc, ◌+◌, ◌<◌, ◌≤◌, List, [], ◌∷◌, ◌++◌, length, Option, Some, None, refl, sym, ap, ◌∙◌, subst, arith, length-append}
 use Rattle.std.specs.Prelude.{slice_get}
 use Rattle.std.proofs.lemmas.Option.{none-some, same_Some, slice_get_past}
-use Rattle.lil_resolved.specs.declared.shapes.RShape.{RShape}
-use Rattle.lil_resolved.specs.Kinds.{Shape, Absent, words, shape_by, shape_at}
-use Rattle.lil_resolved.specs.Views.{shape_with, shapes_behind, shapes_of, IsMeasuredShape, AreMeasured}
+use Rattle.lil_resolved.specs.{declared.shapes.RShape.RShape, Kinds.{Shape, Absent, words, shape_by, shape_at}, Views.{shape_with, shapes_behind, shapes_of, IsMeasuredShape, AreMeasured}}
 
 pub get_front : {A : Type 0} (xs ys : List A) (n : ℕ) → n < length xs → slice_get (xs ++ ys) n ≡ slice_get xs n
 get_front [] ys n h = absurd (omega arith)

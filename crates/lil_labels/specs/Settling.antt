@@ -1,10 +1,8 @@
 -- Words that are written over bytes.
 use Rattle.std.proofs.Common.{◌≡◌, ℕ, ◌+◌, ◌/◌, ◌%◌, ◌<◌, ◌≤◌, List, [], ◌∷◌, ◌++◌, length, Option, refl, sym, ap, ◌∙◌, subst, arith, length-append, append_assoc}
 use Rattle.std.specs.Prelude.{slice_set}
-use Rattle.std.proofs.lemmas.List.{length-set, set-append_left}
-use Rattle.std.proofs.Math.Seq.{set-append_seam}
-use Rattle.lil_labels.specs.declared.buffer.Jump.{Jump}
-use Rattle.lil_labels.specs.Drafts.{AreInside, IsSound, with_word, written}
+use Rattle.std.proofs.{lemmas.List.{length-set, set-append_left}, Math.Seq.set-append_seam}
+use Rattle.lil_labels.specs.{declared.buffer.Jump.Jump, Drafts.{AreInside, IsSound, with_word, written}}
 
 with_word_long : (bytes : List ℕ) (at w : ℕ) → length (with_word bytes at w) ≡ length bytes
 with_word_long bytes at w = length-set (slice_set bytes at (w / 256)) (at + 1) (w % 256) ∙ length-set bytes at (w / 256)

@@ -1,12 +1,7 @@
 -- The tables of a module: where its variables lie, what its shapes have, and to what its pointers point; and the records of the WITHs around.
 use Rattle.std.specs.Prelude.{◌≡◌, ℕ, ◌+◌, ◌-◌, ◌*◌, ◌≤◌, min, List, [], length, Option, Some, None, map, slice_get, nat_lt, if◌then◌else◌}
-use Rattle.lil_resolved.specs.declared.resolved.RDeclared.{RDeclared}
-use Rattle.lil_resolved.specs.declared.shapes.RField.{RField}
-use Rattle.lil_resolved.specs.declared.shapes.RElements.{RElements}
-use Rattle.lil_resolved.specs.declared.shapes.RShape.{RShape}
+use Rattle.lil_resolved.specs.{declared.{resolved.RDeclared.RDeclared, shapes.{RField.RField, RElements.RElements, RShape.RShape}}, Kinds.{Shape, words, shape_at}, Views.{AreMeasured, offset_of, shape_declared, shapes_of}}
 use Rattle.lil_resolved.specs.declared.shapes.RShape.TheVariants as r
-use Rattle.lil_resolved.specs.Kinds.{Shape, words, shape_at}
-use Rattle.lil_resolved.specs.Views.{AreMeasured, offset_of, shape_declared, shapes_of}
 use Rattle.lil_table.specs.Rows.{Layout}
 use Rattle.lil_labels.specs.declared.buffer.HeldRecord.{HeldRecord}
 

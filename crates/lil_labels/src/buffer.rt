@@ -2,12 +2,9 @@
 
 ghost use Rattle.std.specs.Prelude.{◌≡◌, ℕ, ◌≤◌, [], length, slice_get, Some, IfOk, OnOk};
 ghost use Rattle.lil_asm.specs.Bytes.{Sayable};
-ghost use Rattle.lil_resolved.specs.Kinds.{words, shape_at};
-ghost use Rattle.lil_resolved.specs.Sizes.{words_of};
-ghost use Rattle.lil_resolved.specs.Views.{AreMeasured, shapes_of};
+ghost use Rattle.lil_resolved.specs.{Kinds.{words, shape_at}, Sizes.words_of, Views.{AreMeasured, shapes_of}};
 ghost use Rattle.lil_labels.specs.Tables as tables;
-ghost use Rattle.lil_labels.specs.Tables.{target_by, variable_by, part_in, part_by, elements_in, elements_by, last_in, last_by, below, plain_words_by, held_by};
-ghost use Rattle.lil_labels.specs.Drafts.{empty, inside, outside, aimed, code_of, settled_word, Adds, Emits, Nothing, Saying, Doing, AreSayable, DoingAll, Choosing, Marking, Entering, IsOpen, Makes, Places, Notes};
+ghost use Rattle.lil_labels.specs.{Tables.{target_by, variable_by, part_in, part_by, elements_in, elements_by, last_in, last_by, below, plain_words_by, held_by}, Drafts.{empty, inside, outside, aimed, code_of, settled_word, Adds, Emits, Nothing, Saying, Doing, AreSayable, DoingAll, Choosing, Marking, Entering, IsOpen, Makes, Places, Ends, Notes}};
 
 use lil_asm::{Instr, encode, encode_entry};
 use lil_base::{Bytes, Memory};
@@ -396,7 +393,8 @@ impl<'m> CodeBuffer<'m> {
     /// Gives a label its place at the end of the code so far.
     pub fn here(&mut self, label: usize)
         requires { IsOpen self.old label }
-        ensures { Places self.old self.new label }
+        ensures places { Places self.old self.new label }
+        ensures ends { Ends self.old self.new label }
     {
         let place = self.bytes.len();
         self.places[label] = Some(place);

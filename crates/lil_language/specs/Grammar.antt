@@ -3,51 +3,22 @@
 use Rattle.std.specs.Prelude.{◌≡◌, ℕ, Bool, false, List, [], ◌∷◌, ◌++◌, Option, Some, None}
 use Rattle.lil_base.specs.declared.fault.Place.{Place}
 use Rattle.lil_base.specs.declared.operator.OneOp.TheVariants as o
-use Rattle.lil_text.specs.declared.token.Token.{Token}
-use Rattle.lil_text.specs.declared.token.TokenKind.{TokenKind}
-use Rattle.lil_text.specs.declared.token.Mark.{Mark}
+use Rattle.lil_text.specs.{declared.{token.{Token.Token, TokenKind.TokenKind, Mark.Mark, Word.Word}, tree.{Ident.Ident, Qualident.Qualident}}, Nesting.Limit}
 use Rattle.lil_text.specs.declared.token.Mark.TheVariants as m
-use Rattle.lil_text.specs.declared.token.Word.{Word}
 use Rattle.lil_text.specs.declared.token.Word.TheVariants as w
-use Rattle.lil_text.specs.declared.tree.Ident.{Ident}
-use Rattle.lil_text.specs.declared.tree.Qualident.{Qualident}
-use Rattle.lil_text.specs.Nesting.{Limit}
 use Rattle.lil_grammar.specs.Steps.{Parser, pure, at}
-use Rattle.lil_syntax.specs.Terminals.{Kinds, among, Kind as k, Terminal as t}
-use Rattle.lil_syntax.specs.Syntax.{Syntax, give, one, part, ◌◃◌, ◌◂◌, ◌or◌, repeat, Grammar, Derived, begins, goes_on, reads, before, read}
-use Rattle.lil_language.specs.declared.tree.Expr.{Expr}
+use Rattle.lil_syntax.specs.{Terminals.{Kinds, among, Kind as k, Terminal as t}, Syntax.{Syntax, give, one, part, ◌◃◌, ◌◂◌, ◌or◌, repeat, Grammar, Derived, begins, goes_on, reads, before, read}}
+use Rattle.lil_language.specs.declared.{tree.{Expr.Expr, Operation.Operation, Range.Range, Designator.Designator, Selector.Selector, Stmt.Stmt, Guard.Guard, Arm.Arm, ForHead.ForHead}, unit.{Simple.Simple, Sort.Sort, FieldList.FieldList, Variant.Variant, Formal.Formal, Section.Section, Heading.Heading, Constant.Constant, TypeName.TypeName}}
+use Rattle.lil_language.specs.{declared.unit.{Variables.Variables, Decl.Decl, Import.Import, Head.Head, Unit.Unit}, Trees.{qualident, range, designator, guard, arm, for_head, listed, begun_at, operation, chained, qualident_place}}
 use Rattle.lil_language.specs.declared.tree.Expr.TheVariants as e
-use Rattle.lil_language.specs.declared.tree.Operation.{Operation}
-use Rattle.lil_language.specs.declared.tree.Range.{Range}
-use Rattle.lil_language.specs.declared.tree.Designator.{Designator}
-use Rattle.lil_language.specs.declared.tree.Selector.{Selector}
 use Rattle.lil_language.specs.declared.tree.Selector.TheVariants as sel
-use Rattle.lil_language.specs.declared.tree.Stmt.{Stmt}
 use Rattle.lil_language.specs.declared.tree.Stmt.TheVariants as st
-use Rattle.lil_language.specs.declared.tree.Guard.{Guard}
-use Rattle.lil_language.specs.declared.tree.Arm.{Arm}
-use Rattle.lil_language.specs.declared.tree.ForHead.{ForHead}
-use Rattle.lil_language.specs.declared.unit.Simple.{Simple}
 use Rattle.lil_language.specs.declared.unit.Simple.TheVariants as si
-use Rattle.lil_language.specs.declared.unit.Sort.{Sort}
 use Rattle.lil_language.specs.declared.unit.Sort.TheVariants as so
-use Rattle.lil_language.specs.declared.unit.FieldList.{FieldList}
 use Rattle.lil_language.specs.declared.unit.FieldList.TheVariants as fi
-use Rattle.lil_language.specs.declared.unit.Variant.{Variant}
-use Rattle.lil_language.specs.declared.unit.Formal.{Formal}
-use Rattle.lil_language.specs.declared.unit.Section.{Section}
-use Rattle.lil_language.specs.declared.unit.Heading.{Heading}
-use Rattle.lil_language.specs.declared.unit.Constant.{Constant}
-use Rattle.lil_language.specs.declared.unit.TypeName.{TypeName}
-use Rattle.lil_language.specs.declared.unit.Variables.{Variables}
-use Rattle.lil_language.specs.declared.unit.Decl.{Decl}
 use Rattle.lil_language.specs.declared.unit.Decl.TheVariants as de
-use Rattle.lil_language.specs.declared.unit.Import.{Import}
-use Rattle.lil_language.specs.declared.unit.Head.{Head}
 use Rattle.lil_language.specs.declared.unit.UnitKind.TheVariants as uk
-use Rattle.lil_language.specs.declared.unit.Unit.{Unit}
 use Rattle.lil_language.specs.Trees as tree
-use Rattle.lil_language.specs.Trees.{qualident, range, designator, guard, arm, for_head, listed, begun_at, operation, chained, qualident_place}
 
 -- the parts that count as nested: expressions, factors behind NOT, statements, types, a record's CASE, and procedures
 pub data Part : Type 0 where

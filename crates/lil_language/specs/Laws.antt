@@ -1,18 +1,11 @@
 -- What a function that reads by a syntax of the grammar may rely on, and how it goes into a part.
 use Rattle.std.proofs.Common.{◌≡◌, ◌⊎◌, ℕ, suc, ◌-◌, ◌<◌, true, false, List, [], Result, Ok, Err, IfOk, IfErr, refl, ap, subst, sym, inl, inr, arith}
-use Rattle.lil_text.specs.declared.token.Token.{Token}
+use Rattle.lil_text.specs.{declared.{token.Token.Token, stop.ReadStop.{ReadStop, TheVariants.{Fault, Memory}}}, Nesting.{Limit, within}}
 use Rattle.lil_base.specs.declared.fault.SourceFault.{SourceFault}
-use Rattle.lil_text.specs.declared.stop.ReadStop.{ReadStop}
-use Rattle.lil_text.specs.declared.stop.ReadStop.TheVariants.{Fault, Memory}
-use Rattle.lil_text.specs.Nesting.{Limit, within}
-use Rattle.lil_grammar.specs.Steps.{Outcome, and_then, pure, at, either_by, Reads, shallow}
-use Rattle.lil_grammar.specs.Places.{Longest, StopsAt, AnswersAt}
-use Rattle.lil_syntax.specs.Terminals.{among}
-use Rattle.lil_syntax.specs.Syntax.{◌or◌, decided, parse, reads, before, read}
-use Rattle.lil_grammar.specs.Rules.{ok_err}
+use Rattle.lil_grammar.specs.{Steps.{Outcome, and_then, pure, at, either_by, Reads, shallow}, Places.{Longest, StopsAt, AnswersAt}, Rules.ok_err}
+use Rattle.lil_syntax.specs.{Terminals.among, Syntax.{◌or◌, decided, parse, reads, before, read}}
 use Rattle.lil_syntax.specs.GrammarLaws as laws
-use Rattle.lil_language.specs.Grammar.{Of, Part, Tree, Derives, Ends, applied, put_to, reading, turns, grammar, first, goes, produced}
-use Rattle.lil_language.specs.Sound.{sound}
+use Rattle.lil_language.specs.{Grammar.{Of, Part, Tree, Derives, Ends, applied, put_to, reading, turns, grammar, first, goes, produced}, Sound.sound}
 
 module _ {A : Type 0} (s : Of A) (by_one : decided first goes s ≡ true) (d : ℕ) (ts new : List Token) (result : Result A ReadStop) (reads : Reads (reading d s ts) result new) where
   pub found : IfOk result (λ x. Derives s (within d) ts new x)

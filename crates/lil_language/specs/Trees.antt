@@ -1,35 +1,11 @@
 -- The nodes of trees as the grammar makes them, and where they begin.
 use Rattle.std.specs.Prelude.{ℕ, Bool, true, false, List, [], ◌∷◌, Option, Some, None}
-use Rattle.lil_base.specs.declared.fault.Place.{Place}
-use Rattle.lil_base.specs.declared.operator.TwoOp.{TwoOp}
-use Rattle.lil_text.specs.declared.tree.Ident.{Ident}
-use Rattle.lil_text.specs.declared.tree.Qualident.{Qualident}
-use Rattle.lil_language.specs.declared.tree.Expr.{Expr, out-Expr, Expr-F}
+use Rattle.lil_base.specs.declared.{fault.Place.Place, operator.TwoOp.TwoOp}
+use Rattle.lil_text.specs.declared.tree.{Ident.Ident, Qualident.Qualident}
+use Rattle.lil_language.specs.declared.{tree.{Expr.{Expr, out-Expr, Expr-F}, Operation.{Operation, roll-Operation}, Range.{Range, roll-Range}, Designator.{Designator, roll-Designator}, Selector.Selector, Stmt.Stmt, Guard.{Guard, roll-Guard}, Arm.{Arm, roll-Arm}, ForHead.ForHead}, unit.{UnitKind.UnitKind, Import.Import, Formal.Formal, Section.Section}}
+use Rattle.lil_language.specs.declared.unit.{Heading.Heading, Sort.Sort, FieldList.FieldList, Variant.{Variant, roll-Variant}, Constant.Constant, TypeName.TypeName, Variables.Variables, Decl.Decl, Block.{Block, roll-Block}, Head.Head, Unit.Unit}
 use Rattle.lil_language.specs.declared.tree.Expr.TheVariants as e
 use Rattle.lil_language.specs.declared.tree.Expr.TheOpen as o
-use Rattle.lil_language.specs.declared.tree.Operation.{Operation, roll-Operation}
-use Rattle.lil_language.specs.declared.tree.Range.{Range, roll-Range}
-use Rattle.lil_language.specs.declared.tree.Designator.{Designator, roll-Designator}
-use Rattle.lil_language.specs.declared.tree.Selector.{Selector}
-use Rattle.lil_language.specs.declared.tree.Stmt.{Stmt}
-use Rattle.lil_language.specs.declared.tree.Guard.{Guard, roll-Guard}
-use Rattle.lil_language.specs.declared.tree.Arm.{Arm, roll-Arm}
-use Rattle.lil_language.specs.declared.tree.ForHead.{ForHead}
-use Rattle.lil_language.specs.declared.unit.UnitKind.{UnitKind}
-use Rattle.lil_language.specs.declared.unit.Import.{Import}
-use Rattle.lil_language.specs.declared.unit.Formal.{Formal}
-use Rattle.lil_language.specs.declared.unit.Section.{Section}
-use Rattle.lil_language.specs.declared.unit.Heading.{Heading}
-use Rattle.lil_language.specs.declared.unit.Sort.{Sort}
-use Rattle.lil_language.specs.declared.unit.FieldList.{FieldList}
-use Rattle.lil_language.specs.declared.unit.Variant.{Variant, roll-Variant}
-use Rattle.lil_language.specs.declared.unit.Constant.{Constant}
-use Rattle.lil_language.specs.declared.unit.TypeName.{TypeName}
-use Rattle.lil_language.specs.declared.unit.Variables.{Variables}
-use Rattle.lil_language.specs.declared.unit.Decl.{Decl}
-use Rattle.lil_language.specs.declared.unit.Block.{Block, roll-Block}
-use Rattle.lil_language.specs.declared.unit.Head.{Head}
-use Rattle.lil_language.specs.declared.unit.Unit.{Unit}
 
 abbrev pub qualident : Option Ident → Ident → Qualident
 qualident owner name = record { owner = owner; name = name }

@@ -1,22 +1,12 @@
 -- Which unit the tokens of a text are, and which fault they have where they are none.
 use Rattle.std.specs.Prelude.{◌≡◌, ◌⊎◌, ℕ, ◌+◌, ◌-◌, ◌≤◌, nat_lt, List, [], ◌∷◌, ◌++◌, length, Option, Some, None, if◌then◌else◌, ⊤}
 use Rattle.std.specs.Str.{bytes_eq}
-use Rattle.lil_base.specs.declared.fault.Place.{Place}
-use Rattle.lil_base.specs.declared.fault.SourceFault.{SourceFault}
-use Rattle.lil_base.specs.Faults.{fault}
-use Rattle.lil_text.specs.declared.token.Token.{Token}
-use Rattle.lil_text.specs.declared.tree.Ident.{Ident}
+use Rattle.lil_base.specs.{declared.fault.{Place.Place, SourceFault.SourceFault}, Faults.fault}
+use Rattle.lil_text.specs.{declared.{token.Token.Token, tree.Ident.Ident}, Nesting.within, Lexical.{HasTokens, HasLexicalFault}}
 use Rattle.lil_text.specs.declared.stop.ReadStop.TheVariants as why
-use Rattle.lil_text.specs.Nesting.{within}
-use Rattle.lil_text.specs.Lexical.{HasTokens, HasLexicalFault}
 use Rattle.lil_grammar.specs.Places.{StopsAt}
-use Rattle.lil_language.specs.declared.unit.Decl.{Decl}
+use Rattle.lil_language.specs.{declared.unit.{Decl.{Decl, TheOpen.{Decl-F, Block-F}, TheFolds.{fold-Decl, fold-Block}}, Block.Block, Unit.Unit}, Grammar.{Derives, text}}
 use Rattle.lil_language.specs.declared.unit.Decl.TheOpen as o
-use Rattle.lil_language.specs.declared.unit.Decl.TheOpen.{Decl-F, Block-F}
-use Rattle.lil_language.specs.declared.unit.Decl.TheFolds.{fold-Decl, fold-Block}
-use Rattle.lil_language.specs.declared.unit.Block.{Block}
-use Rattle.lil_language.specs.declared.unit.Unit.{Unit}
-use Rattle.lil_language.specs.Grammar.{Derives, text}
 
 -- so many parts may lie in one another
 abbrev pub deepest : ℕ

@@ -1,30 +1,16 @@
 -- From a program module that is loaded alone.
 use Rattle.std.proofs.Common.{◌≡◌, ℕ, zero, suc, ◌+◌, ◌*◌, ◌<◌, ◌≤◌, inl, inr, ⊎_elim, true, Option, Some, None, List, [], ◌∷◌, length, refl, sym, ap, ◌∙◌, arith}
 use Rattle.std.specs.Prelude.{nat_le, slice_get}
-use Rattle.std.proofs.lemmas.Bool.{le-leb}
-use Rattle.std.proofs.lemmas.Option.{none-some, same_Some}
-use Rattle.lil_base.specs.declared.fault.TrapKind.{TrapKind}
-use Rattle.lil_base.specs.declared.fault.LimitKind.{LimitKind}
+use Rattle.std.proofs.lemmas.{Bool.le-leb, Option.{none-some, same_Some}}
+use Rattle.lil_base.specs.declared.fault.{TrapKind.TrapKind, LimitKind.LimitKind}
 use Rattle.lil_base.specs.declared.fault.LimitKind.TheVariants as limit
-use Rattle.lil_resolved.specs.Kinds.{all_words}
-use Rattle.lil_resolved.specs.Resolved.{Procedure, procedure_by, Resolved}
-use Rattle.lil_resolved.specs.Sizes.{frame_words, IsSmall}
-use Rattle.lil_meaning.specs.World.{World}
-use Rattle.lil_meaning.specs.Items.{Phase, Trapped, Source}
-use Rattle.lil_meaning.specs.Steps.{next}
-use Rattle.lil_meaning.specs.Runs.{begun, state_of}
+use Rattle.lil_resolved.specs.{Kinds.all_words, Resolved.{Procedure, procedure_by, Resolved}, Sizes.{frame_words, IsSmall}}
+use Rattle.lil_meaning.specs.{World.World, Items.{Phase, Trapped, Source}, Steps.next, Runs.{begun, state_of}}
 use Rattle.lil_mcode.specs.Table.{Module, State, module_at}
-use Rattle.lil_table.specs.Rows.{Translates}
-use Rattle.lil_table.specs.Frames.{body_small}
-use Rattle.lil_match.specs.Goes.{Short}
-use Rattle.lil_match.specs.Running.{mrun, running}
-use Rattle.lil_match.specs.Parts.{yes}
-use Rattle.lil_laws.specs.Loading.{Compiled, IsSpent, entry_for, table_from, image, body_alone, loaded}
-use Rattle.lil_laws.specs.Whole.{TrapsIn, Unlimited, Agrees, agrees_more}
-use Rattle.lil_laws.specs.Reaching.{Reaches}
-use Rattle.lil_laws.specs.Serves.{next_serves, after_first, after_same, none_alone}
+use Rattle.lil_table.specs.{Rows.Translates, Frames.body_small}
+use Rattle.lil_match.specs.{Goes.Short, Running.{mrun, running}, Parts.yes}
+use Rattle.lil_laws.specs.{Loading.{Compiled, IsSpent, entry_for, table_from, image, body_alone, loaded}, Whole.{TrapsIn, Unlimited, Agrees, agrees_more}, Reaching.Reaches, Serves.{next_serves, after_first, after_same, none_alone}, Start.Body}
 use Rattle.lil_laws.specs.Start as all
-use Rattle.lil_laws.specs.Start.{Body}
 
 none_in : (n : ℕ) (q : Procedure) → procedure_by [] n ≡ Some q → ⊥
 none_in zero q e = cc

@@ -1,39 +1,21 @@
 -- One step of the source, from any matched state.
 use Rattle.std.proofs.Common.{◌≡◌, ℕ, ◌+◌, true, false, List, [], ◌∷◌, refl, ◌⊎◌, ⊎_elim, arith}
 use Rattle.std.specs.Prelude.{ℤ}
-use Rattle.lil_resolved.specs.Kinds.{Kind, Scalar, within, Shape}
-use Rattle.lil_resolved.specs.Resolved.{Designator, Variable, Held, Field, Element, Follow, Expression, Constant, Taken, One, Two, Short, Apply, With, WithSpan, Assign, Copy, Text, Inside, Change, Member, New, Allocate, Request, If, Case, While, Repeat, Loop, Exit, Halt, Return, Call, For, Statements}
+use Rattle.lil_resolved.specs.{Kinds.{Kind, Scalar, within}, Resolved.{Designator, Variable, Held, Field, Element, Follow, Expression, Constant, Taken, One, Two, Short, Apply, With, WithSpan, Assign, Copy, Text, Inside, Change, Member, New, Allocate, Request, If, Case, While, Repeat, Loop, Exit, Halt, Return, Call, For, Statements}}
 use Rattle.lil_meaning.specs.Items.{Place, Scalars, Places, Wholes, Opens, Texts, Hole, Get, Part, IndexBy, IndexAt, Pointed, SetTo, StoreAt, CopyTo, CopyFrom, TextTo, NewAt, AllocateBy, AllocateAt, ChangeBy, ChangeAt, OneOf, LeftOf, RightOf, ShortOf, ApplyTo, WithMember, MemberOf, WithMembers, MembersFrom, MembersTo, MemberBy, MemberAt, Pass, PassArray, Choose, Turn, Again, Pick, Hold, StartOf, LimitOf, Task, Do, Passing, Until, Looping, Turns, Holding, End, Item, Value, Evaluate, PlaceOf, Fill, Perform, Source}
 use Rattle.lil_mcode.specs.Table.{State, going}
-use Rattle.lil_table.specs.Rows.{Access}
-use Rattle.lil_match.specs.Homes.{word_for, Refers}
-use Rattle.lil_match.specs.Goes.{Shared, Goes}
-use Rattle.lil_match.specs.Waits.{Setting, frame_of, Mode, Quiet, ValueOf, AtPlace, Around, Reach, AfterJumps, BeginWaits, NextWaits, ItemWaits, RowsOf, Rows, Ahead, HasPlace, Waiting}
-use Rattle.lil_match.specs.Steps.{jumped}
+use Rattle.lil_match.specs.{Homes.{word_for, Refers}, Goes.{Shared, Goes}, Waits.{Setting, frame_of, Mode, Quiet, ValueOf, AtPlace, Around, Reach, AfterJumps, BeginWaits, NextWaits, ItemWaits, RowsOf, Rows, Ahead, Designates, Waiting}, Steps.jumped}
 use Rattle.lil_laws_place.specs.Elements.{variable_goes, held_goes, field_goes, element_goes, follow_goes, pointed_goes, part_goes, index_by_goes, index_at_goes}
-use Rattle.lil_laws_expr.specs.Expressions.{constant_goes, taken_goes, one_goes, two_goes, short_begins, apply_goes, get_goes, one_of_goes, left_goes, right_goes, short_of_goes, apply_of_goes}
-use Rattle.lil_laws_expr.specs.Sets.{with_goes, with_span_goes, with_member_goes, member_of_goes, with_members_goes, members_from_goes, members_to_goes}
-use Rattle.lil_laws_stmt.specs.Tasks.{copy_goes, copy_to_goes, copy_from_goes, assign_goes, set_goes, store_goes}
-use Rattle.lil_laws_stmt.specs.Requests.{request_goes, passing_goes, pass_goes, pass_array_goes, serve_goes}
-use Rattle.lil_laws_stmt.specs.Strings.{text_goes, text_to_goes}
-use Rattle.lil_laws_stmt.specs.News.{new_goes, new_at_goes}
-use Rattle.lil_laws_stmt.specs.Withs.{inside_goes, hold_goes, holding_goes}
-use Rattle.lil_laws_stmt.specs.Control.{if_goes, choose_goes, while_goes, turn_goes, repeat_goes, until_goes, again_goes, loop_goes, looping_goes}
-use Rattle.lil_laws_stmt.specs.Changes.{change_goes, change_by_goes, change_at_goes}
-use Rattle.lil_laws_stmt.specs.Exits.{exit_goes}
-use Rattle.lil_laws_stmt.specs.Calls.{call_goes}
-use Rattle.lil_laws_stmt.specs.Members.{member_goes, member_by_goes, member_at_goes}
-use Rattle.lil_laws_stmt.specs.Ends.{halt_goes, return_goes, end_goes, ended_goes}
-use Rattle.lil_laws_stmt.specs.Allocations.{allocate_goes, allocate_by_goes, allocate_at_goes, deallocate_at_goes}
-use Rattle.lil_laws_stmt.specs.Cases.{case_goes, pick_goes}
-use Rattle.lil_laws_stmt.specs.Fors.{for_goes, start_goes, limit_goes, next_goes}
-use Rattle.lil_laws_stmt.specs.Begins.{begin_goes}
+use Rattle.lil_laws_expr.specs.{Expressions.{constant_goes, taken_goes, one_goes, two_goes, short_begins, apply_goes, get_goes, one_of_goes, left_goes, right_goes, short_of_goes, apply_of_goes}, Sets.{with_goes, with_span_goes, with_member_goes, member_of_goes, with_members_goes, members_from_goes, members_to_goes}}
+use Rattle.lil_laws_stmt.specs.{Tasks.{copy_goes, copy_to_goes, copy_from_goes, assign_goes, set_goes, store_goes}, Requests.{request_goes, passing_goes, pass_goes, pass_array_goes, serve_goes}, Strings.{text_goes, text_to_goes}, News.{new_goes, new_at_goes}, Withs.{inside_goes, hold_goes, holding_goes}}
+use Rattle.lil_laws_stmt.specs.{Control.{if_goes, choose_goes, while_goes, turn_goes, repeat_goes, until_goes, again_goes, loop_goes, looping_goes}, Changes.{change_goes, change_by_goes, change_at_goes}, Exits.exit_goes, Calls.call_goes, Members.{member_goes, member_by_goes, member_at_goes}, Ends.{halt_goes, return_goes, end_goes, ended_goes}}
+use Rattle.lil_laws_stmt.specs.{Allocations.{allocate_goes, allocate_by_goes, allocate_at_goes, deallocate_at_goes}, Cases.{case_goes, pick_goes}, Fors.{for_goes, start_goes, limit_goes, next_goes}, Begins.begin_goes}
 
 value_quiet : (k : Kind) → ValueOf k ≡ Quiet → ⊥
 value_quiet k e = cc
 
-place_quiet : (b : Access) (t : Shape) → AtPlace b t ≡ Quiet → ⊥
-place_quiet b t e = cc
+place_quiet : (d : Designator) → AtPlace d ≡ Quiet → ⊥
+place_quiet d e = cc
 
 module _ (ctx : Setting) where
   open ctx use {library, table, home as h}
@@ -69,23 +51,23 @@ module _ (ctx : Setting) where
     scalar_step v o kind fits refers below is r = absurd r.part
 
     -- a place goes into a hole
-    place_step : (place : Place) (o : Hole) (b : Access) (t : Shape) (below : List ℕ) → HasPlace ctx b place t m.stack below
-        → Waiting ctx (Fill o) (Rows ctx k) (AtPlace b t) m.place below c a → Goes ctx s (Value (Places place) ∷ Fill o ∷ k) m (c + 32)
-    place_step place Get b t below has r = get_goes ctx s k m c a shared place b t below has r
-    place_step place (Part i) b t below has r = part_goes ctx s k m c a shared place i b t below has r
-    place_step place (IndexBy j e) b t below has r = index_by_goes ctx s k m c a shared place j e b t below has r
-    place_step place (SetTo j e) b t below has r = set_goes ctx s k m c a shared j e place b t below has r
-    place_step place (CopyTo from) b t below has r = copy_to_goes ctx s k m c a shared from place b t below has r
-    place_step place (CopyFrom to) b t below has r = copy_from_goes ctx s k m c a shared to place b t below has r
-    place_step place Pointed b t below has r = pointed_goes ctx s k m c a shared place b t below has r
-    place_step place (NewAt n) b t below has r = new_at_goes ctx s k m c a shared n place b t below has r
-    place_step place (AllocateBy back e) b t below has r = allocate_by_goes ctx s k m c a shared back e place b t below has r
-    place_step place (TextTo cs) b t below has r = text_to_goes ctx s k m c a shared cs place b t below has r
-    place_step place (PassArray q high done left) b t below has r = pass_array_goes ctx s k m c a shared q high done left place b t below has r
-    place_step place (Hold body) b t below has r = hold_goes ctx s k m c a shared body place b t below has r
-    place_step place (MemberBy out j e) b t below has r = member_by_goes ctx s k m c a shared out j e place b t below has r
-    place_step place (ChangeBy down j e) b t below has r = change_by_goes ctx s k m c a shared down j e place b t below has r
-    place_step place o b t below has r = absurd r.part
+    place_step : (place : Place) (o : Hole) (d : Designator) (below : List ℕ) → Designates ctx d place m.stack below
+        → Waiting ctx (Fill o) (Rows ctx k) (AtPlace d) m.place below c a → Goes ctx s (Value (Places place) ∷ Fill o ∷ k) m (c + 32)
+    place_step place Get d below has r = get_goes ctx s k m c a shared place d below has r
+    place_step place (Part i) d below has r = part_goes ctx s k m c a shared place i d below has r
+    place_step place (IndexBy j e) d below has r = index_by_goes ctx s k m c a shared place j e d below has r
+    place_step place (SetTo j e) d below has r = set_goes ctx s k m c a shared j e place d below has r
+    place_step place (CopyTo from) d below has r = copy_to_goes ctx s k m c a shared from place d below has r
+    place_step place (CopyFrom to) d below has r = copy_from_goes ctx s k m c a shared to place d below has r
+    place_step place Pointed d below has r = pointed_goes ctx s k m c a shared place d below has r
+    place_step place (NewAt n) d below has r = new_at_goes ctx s k m c a shared n place d below has r
+    place_step place (AllocateBy back e) d below has r = allocate_by_goes ctx s k m c a shared back e place d below has r
+    place_step place (TextTo cs) d below has r = text_to_goes ctx s k m c a shared cs place d below has r
+    place_step place (PassArray q high done left) d below has r = pass_array_goes ctx s k m c a shared q high done left place d below has r
+    place_step place (Hold body) d below has r = hold_goes ctx s k m c a shared body place d below has r
+    place_step place (MemberBy out j e) d below has r = member_by_goes ctx s k m c a shared out j e place d below has r
+    place_step place (ChangeBy down j e) d below has r = change_by_goes ctx s k m c a shared down j e place d below has r
+    place_step place o d below has r = absurd r.part
 
     designator_step : (d : Designator) → Waiting ctx (PlaceOf d) (Rows ctx k) Quiet m.place m.stack c a → Goes ctx s (PlaceOf d ∷ k) m (c + 32)
     designator_step (Variable x) r = variable_goes ctx s k m c a shared x r
@@ -163,9 +145,9 @@ module _ (ctx : Setting) where
   place_row : (s : Source) (m : State) (c : ℕ) (a : Around) → Shared ctx s m → (place : Place) (i : Item) (k : List Item)
       → Waiting ctx (Value (Places place)) (Rows ctx (i ∷ k)) Quiet m.place m.stack c a → Goes ctx s (Value (Places place) ∷ i ∷ k) m (c + 32)
   place_row s m c a shared place (Fill o) k r =
-      from_there s m c a shared (Value (Places place) ∷ Fill o ∷ k) (Waiting ctx (Fill o) (Rows ctx k)) (AtPlace r.part.access r.part.shape) r.part.below r.then
-      (place_step s k (going m r.then.start m.stack) r.then.later a shared place o r.part.access r.part.shape r.part.below r.part.has r.then.there)
-  place_row s m c a shared place (Perform t) k r = absurd (no_task t k (AtPlace r.part.access r.part.shape) _ _ _ _ (place_quiet r.part.access r.part.shape) r.then.there)
+      from_there s m c a shared (Value (Places place) ∷ Fill o ∷ k) (Waiting ctx (Fill o) (Rows ctx k)) (AtPlace r.part.of) r.part.below r.then
+      (place_step s k (going m r.then.start m.stack) r.then.later a shared place o r.part.of r.part.below r.part.has r.then.there)
+  place_row s m c a shared place (Perform t) k r = absurd (no_task t k (AtPlace r.part.of) _ _ _ _ (place_quiet r.part.of) r.then.there)
   place_row s m c a shared place i k r = absurd r.then.there.part
 
   -- an item at whose code the machine is

@@ -2,15 +2,10 @@
 use Rattle.std.specs.Prelude.{◌≡◌, ◌⊎◌, true, ℕ, suc, ◌+◌, ◌<◌, List, [], ◌∷◌, length, Option, None, Some, slice_get}
 use Rattle.lil_base.specs.declared.fault.LimitKind.{LimitKind}
 use Rattle.lil_base.specs.declared.fault.LimitKind.TheVariants as limit
-use Rattle.lil_resolved.specs.Kinds.{all_words}
-use Rattle.lil_resolved.specs.Sizes.{frame_words}
-use Rattle.lil_meaning.specs.Items.{Source, heap_words}
-use Rattle.lil_meaning.specs.Need.{chain_of}
-use Rattle.lil_meaning.specs.Steps.{next}
-use Rattle.lil_resolved.specs.Resolved.{Procedure, Resolved, procedure_by}
-use Rattle.lil_mcode.specs.Table.{Module, State}
+use Rattle.lil_resolved.specs.{Kinds.all_words, Sizes.frame_words, Resolved.{Procedure, Resolved, procedure_by}}
+use Rattle.lil_meaning.specs.{Items.{Source, heap_words}, Need.chain_of, Steps.next}
+use Rattle.lil_mcode.specs.{Table.{Module, State}, Calls.{Machine, fresh, with_level, with_module, with_words, with_bodies}}
 use Rattle.lil_frames.specs.Words.{spliced, zeros, cleared}
-use Rattle.lil_mcode.specs.Calls.{Machine, fresh, with_level, with_module, with_words, with_bodies}
 use Rattle.lil_table.specs.Rows.{ProcedureRow, Translates, layout_of}
 
 -- the code of a procedure at its entry in the table

@@ -1,15 +1,11 @@
 -- Where the variables and the strings of loaded modules lie, and that their fresh cells are there.
 use Rattle.std.proofs.Common.{◌≡◌, ℕ, zero, suc, ◌+◌, ◌-◌, ◌<◌, ◌≤◌, cond, Option, Some, None, List, [], ◌∷◌, length, map, get_or, refl, sym, ap, ◌∙◌, subst, arith}
 use Rattle.std.specs.Prelude.{slice_get, nat_lt, option_map, option_and_then}
-use Rattle.std.proofs.lemmas.Bool.{le-ltb, lt-ltb}
-use Rattle.std.proofs.lemmas.Option.{slice_get-map}
-use Rattle.lil_resolved.specs.Kinds.{zero_of, Shape, words, is_there, all_words, part_at, offset, offsets_from, shape_at}
-use Rattle.lil_resolved.specs.Resolved.{Resolved}
+use Rattle.std.proofs.lemmas.{Bool.{le-ltb, lt-ltb}, Option.slice_get-map}
+use Rattle.lil_resolved.specs.{Kinds.{zero_of, Shape, words, is_there, all_words, part_at, offset, offsets_from, shape_at}, Resolved.Resolved}
 use Rattle.lil_meaning.specs.Items.{Root, Global, Local, Object, loaded_at, variables_of, first_shape, zero_in, fresh_cells}
 use Rattle.lil_frames.specs.Words.{zeros, cleared}
-use Rattle.lil_match.specs.Parts.{yes, no, part_fits, word_long}
-use Rattle.lil_match.specs.Homes.{zero_is, Owner, Of, Own, Fixed, Free, Home, Mem}
-use Rattle.lil_match.specs.Splices.{spliced_length, spliced_before, spliced_there, zeros_length, zeros_word}
+use Rattle.lil_match.specs.{Parts.{yes, no, part_fits, word_long}, Homes.{zero_is, Owner, Of, Own, Fixed, Free, Home, Mem}, Splices.{spliced_length, spliced_before, spliced_there, zeros_length, zeros_word}}
 use Rattle.lil_laws.specs.Loading.{Compiled, text_of, data_of, data_end, entry_for, table_from, numbers_from, one_placed, data_placed}
 
 -- the first word of a module's data

@@ -1,21 +1,11 @@
 -- A run shows all that the meaning does, unless it meets a limit.
 use Rattle.std.proofs.Common.{◌≡◌, ◌⊎◌, inl, inr, ⊎_elim, ℕ, zero, suc, ◌+◌, ◌≤◌, Option, Some, None, List, refl, sym, ap, ◌∙◌, subst, arith}
-use Rattle.lil_base.specs.declared.fault.LimitKind.{LimitKind}
-use Rattle.lil_base.specs.declared.fault.TrapAt.{TrapAt}
+use Rattle.lil_base.specs.declared.fault.{LimitKind.LimitKind, TrapAt.TrapAt}
 use Rattle.lil_resolved.specs.Resolved.{Resolved}
-use Rattle.lil_meaning.specs.World.{World}
-use Rattle.lil_meaning.specs.Closings.{all_screen}
-use Rattle.lil_meaning.specs.Items.{Item, Activation, Phase, Going, Closing, Ended, Trapped, Source}
-use Rattle.lil_meaning.specs.Steps.{next}
-use Rattle.lil_meaning.specs.Runs.{after}
+use Rattle.lil_meaning.specs.{World.World, Closings.all_screen, Items.{Item, Activation, Phase, Going, Closing, Ended, Trapped, Source}, Steps.next, Runs.after}
 use Rattle.lil_mcode.specs.Table.{State}
-use Rattle.lil_match.specs.Goes.{Shared, Lands, IsLeft}
-use Rattle.lil_match.specs.Running.{Finish, Finished, TrappedBy, Limited, Run, mrun, running}
-use Rattle.lil_match.specs.Homes.{Home}
-use Rattle.lil_match.specs.Waits.{Stack, Setting, Quiet, Around, Ahead}
-use Rattle.lil_match.specs.Resting.{EachRests, each_rests}
-use Rattle.lil_laws.specs.Each.{each_step}
-use Rattle.lil_laws.specs.Whole.{mrun_add, source_rests, ended_rests, closed_screen}
+use Rattle.lil_match.specs.{Goes.{Shared, Lands, IsLeft}, Running.{Finish, Finished, TrappedBy, Limited, Run, mrun, running}, Homes.Home, Waits.{Stack, Setting, Quiet, Around, Ahead}, Resting.{EachRests, each_rests}}
+use Rattle.lil_laws.specs.{Each.each_step, Whole.{mrun_add, source_rests, ended_rests, closed_screen}}
 
 -- After some number of steps the run has shown what the source has after n: it has come to that state, or to an earlier one at a limit.
 pub record Reaches (library : List Resolved) (s : Source) (run : Run) (n : ℕ) : Type 0 where

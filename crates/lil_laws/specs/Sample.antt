@@ -6,9 +6,8 @@ use Rattle.lil_resolved.specs.Resolved.{Procedure, Resolved, procedure_by, Reque
 use Rattle.lil_meaning.specs.World.{World}
 use Rattle.lil_asm.specs.Bytes.{decoded, row_6, row_7}
 use Rattle.lil_table.specs.Rows.{Translates}
-use Rattle.lil_laws.specs.Loading.{Compiled, EntryRow, HasEntries}
+use Rattle.lil_laws.specs.{Loading.{Compiled, EntryRow, HasEntries}, Start.Body}
 use Rattle.lil_laws.specs.Start as all
-use Rattle.lil_laws.specs.Start.{Body}
 
 -- PROCEDURE P; PROCEDURE Q; BEGIN WriteLn END Q; BEGIN Q END P; BEGIN P END
 abbrev inner : Procedure

@@ -1,17 +1,13 @@
 -- What one step of the meaning changes of the world, of the levels and of the activations.
 use Rattle.std.proofs.Common.{◌≡◌, ◌⊎◌, inl, inr, ℕ, zero, suc, Bool, true, false, if◌then◌else◌, List, [], ◌∷◌, Result, Ok, Err, Option, Some, None, refl, sym, ap, ◌∙◌, option_and_then}
 use Rattle.std.specs.Prelude.{ℤ, map, slice_get}
-use Rattle.lil_base.specs.Words.{Cardinal}
-use Rattle.lil_base.specs.declared.fault.TrapKind.{TrapKind}
-use Rattle.lil_base.specs.declared.fault.TrapAt.{TrapAt}
+use Rattle.lil_base.specs.{Words.Cardinal, declared.fault.{TrapKind.TrapKind, TrapAt.TrapAt}}
 use Rattle.lil_base.specs.declared.request.Request as request
-use Rattle.lil_resolved.specs.Kinds.{Kind, OfWhole, nat_of, Scalar, ToObject, within, value_with, ordinal_of}
-use Rattle.lil_resolved.specs.Resolved.{Designator, Held, Expression, Taken, Argument, ByValue, OfArray, OfText, Statement, Exit, Call, Statements, Procedure, procedure_by, Resolved, counted_as}
-use Rattle.lil_meaning.specs.Items.{Place, got, loaded_at, Datum, Scalars, Places, Hole, Get, StoreAt, ChangeAt, OneOf, RightOf, ApplyTo, Pass, Pick, Task, Do, Passing, Item, Value, Evaluate, PlaceOf, Fill, Perform, Activation, Level, Phase, Going, Closing, Source}
-use Rattle.lil_meaning.specs.World.{World, Given, serve, closing}
-use Rattle.lil_meaning.specs.Items as items
+use Rattle.lil_resolved.specs.{Kinds.{Kind, OfWhole, nat_of, Scalar, ToObject, within, value_with, ordinal_of}, Resolved.{Designator, Held, Expression, Taken, Argument, ByValue, OfArray, OfText, Statement, Exit, Call, Statements, Procedure, procedure_by, Resolved, counted_as}}
+use Rattle.lil_meaning.specs.{Items.{Place, got, loaded_at, Datum, Scalars, Places, Hole, Get, StoreAt, ChangeAt, OneOf, RightOf, ApplyTo, Pass, Pick, Task, Do, Passing, Item, Value, Evaluate, PlaceOf, Fill, Perform, Activation, Level, Phase, Going, Closing, Source}, World.{World, Given, serve, closing}}
 use Rattle.lil_meaning.specs.Steps.{next, by_phase, first, given, fill, filled, filled_place, pointed, performed, did, entered, owner_of, procedures_of, current, turned_with, turned_on, picked, allocated, held_at, placed, passed, evaluated, answered, applied, one_applied, function_value, chosen, stored_with, value_of, changed, whole_of, given_of, level_of, over, left_by, leave}
 use Rattle.lil_meaning.specs.Runs.{after}
+use Rattle.lil_meaning.specs.Items as items
 
 -- no module of the library has procedures
 abbrev pub HasNone : List Resolved → Type 0

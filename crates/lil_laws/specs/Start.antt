@@ -1,34 +1,17 @@
 -- From loaded modules, whose bodies run one behind another.
 use Rattle.std.proofs.Common.{◌≡◌, ℕ, zero, suc, ◌+◌, ◌-◌, ◌*◌, ◌<◌, ◌≤◌, Option, Some, None, List, [], ◌∷◌, length, map, get_or, refl, sym, ap, ◌∙◌, subst, arith}
 use Rattle.std.specs.Prelude.{slice_get, option_map}
-use Rattle.std.proofs.lemmas.Bool.{le-ltb}
-use Rattle.std.proofs.lemmas.Option.{same_Some}
-use Rattle.lil_resolved.specs.Kinds.{Shape, all_words, shape_by, shape_at}
-use Rattle.lil_resolved.specs.Resolved.{Resolved}
-use Rattle.lil_resolved.specs.Sizes.{frame_words}
-use Rattle.lil_meaning.specs.Items.{loaded_at, variables_of, targets_of, Item, Perform, End, Activation, Source, doing}
-use Rattle.lil_meaning.specs.World.{World}
-use Rattle.lil_meaning.specs.Need.{frame_of}
-use Rattle.lil_meaning.specs.Steps.{owner_of, procedure_of, procedures_of, name_of}
-use Rattle.lil_meaning.specs.Runs.{begun, bodies, body_of, body_activations, src}
+use Rattle.std.proofs.lemmas.{Bool.le-ltb, Option.same_Some}
+use Rattle.lil_resolved.specs.{Kinds.{Shape, all_words, shape_by, shape_at}, Resolved.Resolved, Sizes.frame_words}
+use Rattle.lil_meaning.specs.{Items.{loaded_at, variables_of, targets_of, Item, Perform, End, Activation, Source, doing}, World.World, Need.frame_of, Steps.{owner_of, procedure_of, procedures_of, name_of}, Runs.{begun, bodies, body_of, body_activations, src}}
 use Rattle.lil_asm.specs.declared.instr.Instr.TheVariants.{Ent, Rtn}
-use Rattle.lil_mcode.specs.declared.machine.Event.TheVariants.{Went}
-use Rattle.lil_mcode.specs.Table.{State, first_entry, fetched, performed}
+use Rattle.lil_mcode.specs.{declared.machine.Event.TheVariants.Went, Table.{State, first_entry, fetched, performed}}
 use Rattle.lil_frames.specs.Words.{zeros, cleared}
 use Rattle.lil_table.specs.Rows.{IsAt, layout_of}
-use Rattle.lil_match.specs.Goes.{IsKnown, EachComes, Shared}
-use Rattle.lil_match.specs.Running.{Run, mrun, running, advanced}
-use Rattle.lil_match.specs.Parts.{no}
-use Rattle.lil_match.specs.Homes.{Home}
-use Rattle.lil_match.specs.Waits.{Frame, Setting, Quiet, outside, RowsOf, Rows, Ahead, Behind}
-use Rattle.lil_match.specs.Steps.{advances, at_once, rows_ahead}
-use Rattle.lil_match.specs.Orders.{instr_within}
-use Rattle.lil_match.specs.Splices.{spliced_length, spliced_before, zeros_length}
+use Rattle.lil_match.specs.{Goes.{IsKnown, EachComes, Shared}, Running.{Run, mrun, running, advanced}, Parts.no, Homes.Home, Waits.{Frame, Setting, Quiet, outside, RowsOf, Rows, Ahead, Behind}, Steps.{advances, at_once, rows_ahead}, Orders.instr_within, Splices.{spliced_length, spliced_before, zeros_length}}
 use Rattle.lil_laws_stmt.specs.Control.{body_rows}
-use Rattle.lil_laws.specs.Loading.{Compiled, HasEntries, text_of, data_end, entry_for, table_from, numbers_from, data_placed, image}
-use Rattle.lil_laws.specs.Placing.{place_from, variable_from, text_at, table_there, variable_offset, HasData, data_length, has_data, string_fixed, strings_low, home, owner_own, owner_free, mem}
-use Rattle.lil_laws.specs.Whole.{Unlimited, Agrees, limits, still_agrees, follows}
-use Rattle.lil_laws.specs.Reaching.{Reaches, reaches_before, reaches}
+use Rattle.lil_laws.specs.{Loading.{Compiled, HasEntries, text_of, data_end, entry_for, table_from, numbers_from, data_placed, image}, Placing.{place_from, variable_from, text_at, table_there, variable_offset, HasData, data_length, has_data, string_fixed, strings_low, home, owner_own, owner_free, mem}}
+use Rattle.lil_laws.specs.{Whole.{Unlimited, Agrees, limits, still_agrees, follows}, Reaching.{Reaches, reaches_before, reaches}}
 
 -- one of the modules, whose body runs
 pub record Body (os : List Compiled) : Type 0 where
@@ -132,7 +115,7 @@ module _ (os : List Compiled) where
           let e = entries b.index b.its b.there p q there in
           record {
             inner = record (layout_of b.its.strings b.its.text) { frame = frame_words q.body; chain = p ∷ q.around };
-            part = record { offsets = refl; targets = refl; variables = refl; words = refl; strings = refl; procedures = refl };
+            part = refl;
             frame = refl;
             chain = refl;
             free = refl;

@@ -1,22 +1,11 @@
 -- Whole runs: after any number of steps, the machine has shown what some state of the meaning has.
 use Rattle.std.proofs.Common.{◌≡◌, ◌≢◌, ℕ, zero, suc, ◌+◌, ◌-◌, ◌*◌, ◌<◌, ◌≤◌, List, [], length, Option, Some, None, refl, sym, ap, ◌∙◌, subst, ⊎_elim, arith, zero-add, suc-add}
 use Rattle.std.proofs.lemmas.Bool.{cases_lt}
-use Rattle.lil_base.specs.declared.fault.TrapKind.{TrapKind}
-use Rattle.lil_base.specs.declared.fault.LimitKind.{LimitKind}
-use Rattle.lil_base.specs.declared.fault.TrapAt.{TrapAt}
+use Rattle.lil_base.specs.declared.fault.{TrapKind.TrapKind, LimitKind.LimitKind, TrapAt.TrapAt}
 use Rattle.lil_resolved.specs.Resolved.{Resolved}
-use Rattle.lil_meaning.specs.World.{World, closing, closings_left, all_closed}
-use Rattle.lil_meaning.specs.Closings.{none_left, all_none, all_some, fewer_left, some_left, closing_shuts}
-use Rattle.lil_meaning.specs.Items.{Item, Activation, Level, Phase, Going, Closing, Ended, Trapped, Source}
-use Rattle.lil_meaning.specs.Steps.{next, by_phase, left_by, over, over_by}
-use Rattle.lil_meaning.specs.Runs.{after}
+use Rattle.lil_meaning.specs.{World.{World, closing, closings_left, all_closed}, Closings.{none_left, all_none, all_some, fewer_left, some_left, closing_shuts}, Items.{Item, Activation, Level, Phase, Going, Closing, Ended, Trapped, Source}, Steps.{next, by_phase, left_by, over, over_by}, Runs.after}
 use Rattle.lil_mcode.specs.Table.{Module, State, module_at, mstep}
-use Rattle.lil_match.specs.Goes.{HasName, Shared, Lands, IsStill, Short, IsFull, Goes}
-use Rattle.lil_match.specs.Running.{Finish, Running, Finished, TrappedBy, Limited, Broken, Run, mrun, running, react, advanced, unless_over}
-use Rattle.lil_match.specs.Homes.{Home}
-use Rattle.lil_match.specs.Stutter.{stutter}
-use Rattle.lil_match.specs.Waits.{Stack, Setting, Quiet, Around, Ahead}
-use Rattle.lil_match.specs.Resting.{EachRests, each_rests}
+use Rattle.lil_match.specs.{Goes.{HasName, Shared, Lands, IsStill, Short, IsFull, Goes}, Running.{Finish, Running, Finished, TrappedBy, Limited, Broken, Run, mrun, running, react, advanced, unless_over}, Homes.Home, Stutter.stutter, Waits.{Stack, Setting, Quiet, Around, Ahead}, Resting.{EachRests, each_rests}}
 use Rattle.lil_laws.specs.Each.{each_step}
 
 -- a state that has trapped, in a procedure of the module of the table that runs

@@ -1,41 +1,22 @@
 -- The machine's operators on words are the meaning's on scalars.
-use Rattle.std.proofs.Common.{◌≡◌, ℕ, zero, suc, ◌==◌, ◌≢◌, ◌<◌, ◌≤◌, length, arith, Bool, true, false, cond, not, ◌||◌, Option, Some, None, Result, Ok, Err, List, [], ◌∷◌, refl, sym, ap, ◌∙◌, subst}
-use Rattle.std.proofs.lemmas.Nat.{mod_below}
-use Rattle.std.proofs.lemmas.Bool.{and_parts, true≢false}
-use Rattle.std.proofs.lemmas.Bool.Decides.{nat_tests}
-use Rattle.std.proofs.lemmas.Int.{ints, quot-rem}
+use Rattle.std.proofs.Common.{◌≡◌, ℕ, suc, ◌==◌, ◌≢◌, ◌<◌, ◌≤◌, length, arith, Bool, true, false, cond, not, ◌||◌, Option, Some, None, Result, Ok, Err, List, [], ◌∷◌, refl, sym, ap, ◌∙◌, subst}
+use Rattle.std.proofs.lemmas.{Nat.mod_below, Bool.{and_parts, true≢false, Decides.nat_tests}, Int.{ints, quot-rem}}
 use Rattle.std.specs.Prelude.{ℤ, pos, negsuc, neg_ℤ, int_lt, int_rem, nat_le, ◌%◌, ◌-◌, ◌+◌}
-use Rattle.lil_base.specs.Words.{Whole, Cardinal, Integer, least, greatest, in_type, is_zero, kept, whole_rest, sum, difference, product, quotient, remainder, negation, absolute, number_of, word_of}
-use Rattle.lil_base.specs.Laws.{in_type_card, kept_in, bounds}
-use Rattle.lil_base.specs.declared.fault.ArithFault.{ArithFault}
-use Rattle.lil_base.specs.declared.fault.TrapKind.{TrapKind}
+use Rattle.lil_base.specs.{Words.{Whole, Cardinal, Integer, least, greatest, in_type, is_zero, kept, whole_rest, sum, difference, product, quotient, remainder, negation, absolute, number_of, word_of}, Laws.{in_type_card, kept_in, bounds}, declared.{fault.{ArithFault.ArithFault, TrapKind.TrapKind}, operator.{OneOp.OneOp, TwoOp.TwoOp}}}
+use Rattle.lil_base.specs.{declared.operator.TwoOp.TheVariants.{Equal, Unequal, Less, AtMost, Greater, AtLeast, In, Plus, Minus, Times, Slash, Div, Mod}, Sets.{has, set_word}, SetLaws.has_no}
 use Rattle.lil_base.specs.declared.fault.TrapKind.TheVariants as trap
-use Rattle.lil_base.specs.declared.operator.OneOp.{OneOp}
 use Rattle.lil_base.specs.declared.operator.OneOp.TheVariants as one
-use Rattle.lil_base.specs.declared.operator.TwoOp.{TwoOp}
-use Rattle.lil_base.specs.declared.operator.TwoOp.TheVariants.{Equal, Unequal, Less, AtMost, Greater, AtLeast, In, Plus, Minus, Times, Slash, Div, Mod}
 use Rattle.lil_resolved.specs.Kinds.{Pointee, Kind, OfWhole, OfTruth, OfCharacter, OfEnumeration, OfSet, OfPointer, OfRange, base_of, is_base, is_ordinal, is_set, is_whole, is_plain, compared_as, shared, covers, Scalar, Truth, Character, Number, SetOf, same_reference, within, scalar_of, scalar_word, ordinal_of, truth_number, truth_of, members_of}
-use Rattle.lil_base.specs.Sets as sets
-use Rattle.lil_base.specs.Sets.{has, set_word}
-use Rattle.lil_base.specs.SetLaws.{has_no}
-use Rattle.lil_resolved.specs.Members.{same_members, included, is_in, united, without, shared_members, unshared}
-use Rattle.lil_resolved.specs.MemberLaws.{words_equal, word_has, word_included, word_united, word_without, word_shared, word_unshared}
-use Rattle.lil_resolved.specs.Resolved.{Function, Abs, Cap, Chr, Odd, Ord, Val, is_relation, result_kind, right_kind, function_kind}
-use Rattle.lil_resolved.specs.Sizes.{function_depth}
+use Rattle.lil_resolved.specs.{Members.{same_members, included, is_in, united, without, shared_members, unshared}, MemberLaws.{words_equal, word_has, word_included, word_united, word_without, word_shared, word_unshared}, Resolved.{Function, Abs, Cap, Chr, Odd, Ord, Val, is_relation, result_kind, right_kind, function_kind}, Sizes.function_depth}
 use Rattle.lil_resolved.specs.Sound.{takes_one, takes_two, takes_function}
+use Rattle.lil_base.specs.Sets as sets
 use Rattle.lil_meaning.specs.Steps.{whole_of, outcome, compared_number, relation_of, related, compared, set_value, applied, one_applied, capital, valued, ranged, function_value, is_same, is_other, is_at_most, is_greater, is_at_least}
-use Rattle.lil_asm.specs.declared.instr.Instr.{Instr}
+use Rattle.lil_asm.specs.declared.instr.Instr.{Instr, TheVariants.{Liw, Swp, Adc, Sbc, Mlc, Dvc, Mdc, Adi, Sbi, Mli, Dvi, Mdi, Ngi, Abi, Not, Uni, Dif, Its, Sym, Sin, Sle, Equ, Neq}}
 use Rattle.lil_asm.specs.declared.instr.Instr.TheVariants as instr
-use Rattle.lil_asm.specs.declared.instr.Instr.TheVariants.{Liw, Swp, Adc, Sbc, Mlc, Dvc, Mdc, Adi, Sbi, Mli, Dvi, Mdi, Ngi, Abi, Not, Uni, Dif, Its, Sym, Sin, Sle, Equ, Neq}
-use Rattle.lil_mcode.specs.declared.machine.Event.{Event}
-use Rattle.lil_mcode.specs.declared.machine.Event.TheVariants.{Went, Trap}
-use Rattle.lil_mcode.specs.Table.{Module, State, act, going, on_one, on_two, swap_row, result_row, two_row, sign_row, change_row, denied, compare_row, join_row, truth, equal, unequal, less, at_most, is_member}
+use Rattle.lil_mcode.specs.{declared.machine.Event.{Event, TheVariants.{Went, Trap}}, Table.{Module, State, act, going, on_one, on_two, swap_row, result_row, two_row, sign_row, change_row, denied, compare_row, join_row, truth, equal, unequal, less, at_most, is_member}}
 use Rattle.lil_table.specs.Rows.{less_code, at_most_code, one_code, number_code, set_code, two_code, range_code, test_code, function_code}
-use Rattle.lil_match.specs.Arithmetic.{word_is, reads_ordinal, reads, same_words, other_is, sum_fits, difference_fits, product_fits, quotient_fits, remainder_fits, negation_fits, absolute_fits}
-use Rattle.lil_match.specs.Homes.{within_base}
-use Rattle.lil_match.specs.Ranges.{value_where, value_is, number_is, value_fits, fits_has, has_type, ordinal_base, ordinal_plain, has as has_number}
-use Rattle.lil_match.specs.Tests.{covered, test_act}
-use Rattle.lil_match.specs.Steps.{pushes}
+use Rattle.lil_match.specs.{Arithmetic.{word_is, reads_ordinal, reads, same_words, other_is, sum_fits, difference_fits, product_fits, quotient_fits, remainder_fits, negation_fits, absolute_fits}, Homes.within_base, Ranges.{value_where, value_is, number_is, value_fits, fits_has, has_type, ordinal_base, ordinal_plain, has as has_number}}
+use Rattle.lil_match.specs.{Tests.{covered, test_act}, Steps.pushes}
 
 -- the word of a value in place of its operands, which stood above others, or its trap
 abbrev pub answer_row : State → ℕ → List ℕ → Result Scalar TrapKind → Event × State
@@ -147,14 +128,10 @@ module _ (k : Kind) (u v : Scalar) (ordinal : is_ordinal k ≡ true) (left : wit
   relation_fits r = subst (Fits OfTruth) (sym (relates r)) refl
 
   same_less : less (compared_as k) (scalar_word u) (scalar_word v) ≡ int_lt (ordinal_of u) (ordinal_of v)
-  same_less =
-      ap (λ (z : ℤ). int_lt z (number_of (compared_as k) (scalar_word v))) (reads_ordinal k u base left)
-      ∙ ap (int_lt (ordinal_of u)) (reads_ordinal k v base right)
+  same_less = cc (reads_ordinal k u base left, reads_ordinal k v base right)
 
   same_at_most : at_most (compared_as k) (scalar_word u) (scalar_word v) ≡ is_at_most (ordinal_of u) (ordinal_of v)
-  same_at_most =
-      ap (λ (z : ℤ). not (int_lt (number_of (compared_as k) (scalar_word v)) z)) (reads_ordinal k u base left)
-      ∙ ap (λ (z : ℤ). not (int_lt z (ordinal_of u))) (reads_ordinal k v base right)
+  same_at_most = cc (reads_ordinal k u base left, reads_ordinal k v base right)
 
   same_equal : (scalar_word u == scalar_word v) ≡ is_same (ordinal_of u) (ordinal_of v)
   same_equal =
@@ -373,17 +350,7 @@ one_fits o k v takes fits = cc
 
 pub two_fits : (o : TwoOp) (k : Kind) (u v : Scalar) → takes_two o k ≡ true → within k u ≡ true → within (right_kind o k) v ≡ true → Fits (result_kind (is_relation o) k) (applied o k u v)
 two_fits In k u v takes left right = refl
-two_fits Equal OfSet u v takes left right = refl
-two_fits Unequal OfSet u v takes left right = refl
-two_fits AtMost OfSet u v takes left right = refl
-two_fits AtLeast OfSet u v takes left right = refl
-two_fits Plus OfSet u v takes left right = refl
-two_fits Minus OfSet u v takes left right = refl
-two_fits Times OfSet u v takes left right = refl
-two_fits Slash OfSet u v takes left right = refl
 two_fits o OfSet u v takes left right = cc
-two_fits Equal (OfPointer n) u v takes left right = refl
-two_fits Unequal (OfPointer n) u v takes left right = refl
 two_fits o (OfPointer n) u v takes left right = cc
 two_fits Equal k u v takes left right = relation_fits k u v takes left right is_same
 two_fits Unequal k u v takes left right = relation_fits k u v takes left right is_other
@@ -486,14 +453,10 @@ rest_is z = let e = quot-rem z (pos 2) in omega (arith, ints)
 
 -- whether that is zero
 one_bit : (r : ℕ) → r < 2 → r ≡ truth_number (not (is_zero (pos r)))
-one_bit zero h = refl
-one_bit (suc zero) h = refl
-one_bit (suc (suc r)) h = absurd (omega arith)
+one_bit r h = grind (arith, ints, nat_tests)
 
 one_bit_below : (r : ℕ) → r < 2 → r ≡ truth_number (not (is_zero (neg_ℤ (pos r))))
-one_bit_below zero h = refl
-one_bit_below (suc zero) h = refl
-one_bit_below (suc (suc r)) h = absurd (omega arith)
+one_bit_below r h = grind (arith, ints, nat_tests)
 
 -- a number is odd where its word is
 odd_word : (t : Whole) (z : ℤ) → in_type t z ≡ true → word_of z % 2 ≡ truth_number (not (is_zero (int_rem z (pos 2))))

@@ -3,25 +3,14 @@ use Rattle.std.proofs.Common.{◌≡◌, ℕ, ◌+◌, ◌≤◌, Bool, true, fa
 use Rattle.lil_base.specs.declared.fault.TrapKind.{TrapKind}
 use Rattle.lil_base.specs.declared.fault.TrapKind.TheVariants as trap
 use Rattle.lil_resolved.specs.Kinds.{Kind, is_base, takes_value, compared_as, covers, shared, Scalar, within, scalar_word, ordinal_of, Word, OfCharacter, Shape, Row, words, part_at, offset, is_there}
-use Rattle.lil_meaning.specs.Items.{Place, stored, alone, Item, Going, Source, part_of}
-use Rattle.lil_meaning.specs.Steps.{next, current, trapped}
-use Rattle.lil_mcode.specs.declared.machine.Event.{Event}
-use Rattle.lil_mcode.specs.declared.machine.Event.TheVariants.{Went, Trap}
-use Rattle.lil_mcode.specs.Table.{State, mstep, going, act, on_one, on_two, double_row, push_row, fetch_row, put_row, store_row, further_row}
+use Rattle.lil_meaning.specs.{Items.{Place, stored, alone, Item, Going, Source, part_of}, Steps.{next, current, trapped}}
+use Rattle.lil_mcode.specs.{declared.machine.Event.{Event, TheVariants.{Went, Trap}}, Table.{State, mstep, going, act, on_one, on_two, double_row, push_row, fetch_row, put_row, store_row, further_row}}
 use Rattle.lil_table.specs.Rows.{IsAt, InstrsAt, range_code, test_code, Access, readied, store_code, InData, OnTop, Behind, further, address_code, load_code, ready_code, held, again_code, held_twice, under_code}
-use Rattle.lil_match.specs.Goes.{Shared, Goes, Lands}
-use Rattle.lil_match.specs.Running.{Run, running, react}
-use Rattle.lil_match.specs.Parts.{yes}
-use Rattle.lil_match.specs.Homes.{word_for, Refers, address, Mem, mem_stored, shape_there, place_inside, part_there}
-use Rattle.lil_match.specs.Waits.{Setting, frame_of, Quiet, Around, Rows, HasPlace, doubled}
-use Rattle.lil_match.specs.Ranges.{has, fits_has, taken_where, takes_base}
-use Rattle.lil_match.specs.Tests.{covered, test_act}
-use Rattle.lil_match.specs.Steps.{both_trap, advances, at_step, rows_ahead, shared_with, goes_one, goes_after, goes_more, pushes}
+use Rattle.lil_match.specs.{Goes.{Shared, Goes, Lands}, Running.{Run, running, react}, Parts.yes, Homes.{word_for, Refers, address, Mem, mem_stored, shape_there, place_inside, part_there}, Waits.{Setting, frame_of, Quiet, Around, Rows, HasPlace, doubled}, Ranges.{has, fits_has, taken_where, takes_base}, Tests.{covered, test_act}}
+use Rattle.lil_match.specs.{Steps.{both_trap, advances, at_step, rows_ahead, shared_with, goes_one_within, goes_after, goes_more, pushes}, Splices.block_alone}
 use Rattle.std.proofs.lemmas.Bool.{lt-ltb, le-leb, and_from}
-use Rattle.lil_asm.specs.declared.instr.Instr.{Instr}
-use Rattle.lil_asm.specs.declared.instr.Instr.TheVariants.{Dup, Swp, Lgw, Lag, Ldi, Adf, Mov, Mvz}
+use Rattle.lil_asm.specs.declared.instr.Instr.{Instr, TheVariants.{Dup, Swp, Lgw, Lag, Ldi, Adf, Mov, Mvz}}
 use Rattle.lil_frames.specs.Words.{spliced, moved}
-use Rattle.lil_match.specs.Splices.{block_alone}
 
 top_behind : (o : ℕ) → OnTop ≡ Behind o → ⊥
 top_behind o e = cc
@@ -236,7 +225,7 @@ module _ (ctx : Setting) where
         → Goes ctx s items here budget
     trap_goes kind budget close source machine less =
         let run : Run = react (Trap kind) here (running here s.world) in
-        goes_one ctx s items here budget 0 run (advances here s.world _ machine)
+        goes_one_within ctx s items here budget 0 run (advances here s.world _ machine)
         (subst (λ (t : Source). Lands ctx t.phase t run 0) (sym source)
         (both_trap ctx s items here kind all close))
         (omega (arith, less))
@@ -284,7 +273,7 @@ module _ (ctx : Setting) where
         let store : List ℕ = set m.store (address h place) (word_for h v) in
         let mem : Mem h (stored s.cells place (alone v)) store = mem_stored h s.cells m.store place k v all.mem has.living fits refers in
         let machine : State = record m { place = end; stack = []; store = store } in
-        goes_one ctx s items here budget c (running machine s.world)
+        goes_one_within ctx s items here budget c (running machine s.world)
         (advances here s.world _ (
         at_step ctx here all.program (store_code b) end at
         ∙ puts ctx s here all b place k under has ready (word_for h v) is end

@@ -1,32 +1,17 @@
 -- The rows of places: of variables, fields and elements.
 use Rattle.std.proofs.Common.{◌≡◌, ℕ, ◌+◌, ◌*◌, ◌<◌, ◌≤◌, Bool, true, cond, ltb, Option, Some, List, [], ◌∷◌, refl, sym, ap, ◌∙◌, subst, arith}
 use Rattle.std.specs.Prelude.{ℤ, pos, negsuc, ◌≤ℤ◌, ◌-ℤ◌, ◌+ℤ◌, slice_get}
-use Rattle.std.proofs.lemmas.Bool.{lt-ltb, ne_eqb}
-use Rattle.std.proofs.lemmas.Int.{ints}
-use Rattle.lil_base.specs.Words.{Whole, Cardinal, Integer, in_type, word_of}
-use Rattle.lil_base.specs.Laws.{in_range, bounds}
+use Rattle.std.proofs.lemmas.{Bool.{lt-ltb, ne_eqb}, Int.ints}
+use Rattle.lil_base.specs.{Words.{Whole, Cardinal, Integer, in_type, word_of}, Laws.{in_range, bounds}}
 use Rattle.lil_base.specs.declared.fault.TrapKind.TheVariants as trap
 use Rattle.lil_resolved.specs.Kinds.{Objects, Kind, OfPointer, base_of, is_base, takes_value, compared_as, least, greatest, nat_of, numbers, position, Scalar, ToObject, Nil, within, scalar_word, ordinal_of, Shape, Absent, Word, Row, words, is_there, part_at, offset, shape_by, shape_at, element_of}
-use Rattle.lil_resolved.specs.Resolved.{Designator, Variable, Held, Field, Element, Follow, Expression}
-use Rattle.lil_resolved.specs.Sizes.{place_depth}
-use Rattle.lil_meaning.specs.Items.{Global, Object, Place, object_place, part_of, got, Scalars, Places, Part, IndexBy, IndexAt, Pointed, Item, Value, PlaceOf, Fill, Going, Source}
-use Rattle.lil_meaning.specs.Steps.{current, owner_of, held_at, pointed, trapped, with_items}
+use Rattle.lil_resolved.specs.{Resolved.{Designator, Variable, Held, Field, Element, Follow, Expression, shape_of}, Sizes.place_depth}
+use Rattle.lil_meaning.specs.{Items.{Global, Object, Place, object_place, part_of, got, Scalars, Places, Part, IndexBy, IndexAt, Pointed, Item, Value, PlaceOf, Fill, Going, Source}, Steps.{current, owner_of, held_at, pointed, trapped, with_items}}
 use Rattle.lil_asm.specs.declared.instr.Instr.TheVariants.{Llw, Nlt, Ixc}
-use Rattle.lil_mcode.specs.declared.machine.Event.{Event}
-use Rattle.lil_mcode.specs.declared.machine.Event.TheVariants.{Went}
-use Rattle.lil_mcode.specs.Control.{above}
-use Rattle.lil_mcode.specs.Table.{State, going, on_two, push_row, element_row}
-use Rattle.lil_table.specs.Rows.{cut, Access, InData, OnTop, further, offset_in, access_of, load_code}
-use Rattle.lil_match.specs.Goes.{Shared, Goes, Lands}
-use Rattle.lil_match.specs.Running.{running}
-use Rattle.lil_match.specs.Parts.{yes, no}
-use Rattle.lil_match.specs.Homes.{word_for, Refers, plain_word, takes_plain, address, shape_there, part_there}
-use Rattle.lil_match.specs.Waits.{Setting, frame_of, laid_out, Quiet, ValueOf, AtPlace, Around, Reach, Rows, HasPlace, Waiting}
-use Rattle.lil_match.specs.Orders.{instr_within, instrs_order, expression_stands}
-use Rattle.lil_match.specs.Ranges.{has, fits_has, has_type, has_base, takes_part, least_base}
-use Rattle.lil_match.specs.Arithmetic.{word_is, above_more}
-use Rattle.lil_match.specs.Kept.{own_low, own_read}
-use Rattle.lil_match.specs.Steps.{closed, held_here, variable_here, advances, at_step, at_once, pushes, lands_on, goes_none, goes_one, goes_after, operand_exact, located_goes}
+use Rattle.lil_mcode.specs.{declared.machine.Event.{Event, TheVariants.Went}, Control.above, Table.{State, going, on_two, push_row, element_row}}
+use Rattle.lil_table.specs.Rows.{cut, InData, OnTop, offset_in, access_of, load_code}
+use Rattle.lil_match.specs.{Goes.{Shared, Goes, Lands}, Running.running, Parts.{yes, no}, Homes.{word_for, Refers, plain_word, takes_plain, address, shape_there, part_there}, Waits.{Setting, frame_of, laid_out, Quiet, ValueOf, AtPlace, Around, Reach, Rows, HasPlace, Designates, Waiting}, Orders.{instr_within, instrs_order, expression_stands}}
+use Rattle.lil_match.specs.{Ranges.{has, fits_has, has_type, has_base, takes_part, least_base}, Arithmetic.{word_is, above_more}, Kept.{own_low, own_read}, Steps.{closed, held_here, variable_here, advances, at_step, at_once, pushes, lands_on, goes_none, goes_one, goes_after, operand_exact, located_goes}}
 use Rattle.lil_laws_place.specs.Codes.{inside, part_has, addressed, loads, trap_goes, tested}
 
 pub place_some : (d : Designator) → 1 ≤ place_depth d
@@ -38,12 +23,7 @@ place_some (Follow d n) = place_some d
 
 -- ---- the number of an element is less than how many there are
 fewer : (low z high : ℤ) → low ≤ℤ z → z ≤ℤ high → nat_of (z -ℤ low) < nat_of ((high -ℤ low) +ℤ pos 1)
-fewer low z high a b = by (z -ℤ low) ((high -ℤ low) +ℤ pos 1) refl refl
-  where
-    by : (d e : ℤ) → z -ℤ low ≡ d → (high -ℤ low) +ℤ pos 1 ≡ e → nat_of d < nat_of e
-    by (pos n) (pos m) d e = omega (arith, ints, a, b, d, e)
-    by (pos n) (negsuc m) d e = absurd (omega (arith, ints, a, b, d, e))
-    by (negsuc n) e' d e = absurd (omega (arith, ints, a, b, d, e))
+fewer low z high a b = grind (arith, ints)
 
 -- the word of a number of a type has 16 bits
 cut_word : (t : Whole) (z : ℤ) → in_type t z ≡ true → cut (word_of z) ≡ word_of z
@@ -88,14 +68,13 @@ module _ (ctx : Setting) where
         let typed : slice_get l.scope.variables x ≡ Some (shape_at l.scope.variables x) = named.typed ∙ ap Some (sym (ap shape_by named.typed)) in
         let known : HasPlace ctx (InData (offset_in (slice_get l.offsets x))) now (shape_at l.scope.variables x) m.stack m.stack =
         variable_here ctx s k m shared x (offset_in (slice_get l.offsets x)) (shape_at l.scope.variables x) (closed ctx k _ _ _ _ _ row.then) at typed (ap is_there (ap shape_by named.typed) ∙ named.there) m.stack in
-        goes_none ctx s (PlaceOf (Variable x) ∷ k) m (c + 32) c
+        goes_none ctx s (PlaceOf (Variable x) ∷ k) m 32 c
         (lands_on ctx s m shared (Value (Places now) ∷ k) m.place m.stack c a
         (at_once ctx _ Quiet m.place m.stack c a
         (record {
-          part = record { access = access_of l (Variable x); shape = shape_at l.scope.variables x; below = m.stack; has = known };
-          then = subst (λ (q : ℕ). Rest (AtPlace (access_of l (Variable x)) (shape_at l.scope.variables x)) q m.stack c a) (sym named.stays) row.then;
+          part = record { of = Variable x; below = m.stack; has = known };
+          then = subst (λ (q : ℕ). Rest (AtPlace (Variable x)) q m.stack c a) (sym named.stays) row.then;
         })))
-        (omega arith)
         (omega arith)
 
     -- the record of a WITH: the word of the frame that has its address is loaded
@@ -109,7 +88,7 @@ module _ (ctx : Setting) where
         let now : Source = record s { items = PlaceOf (Held w) ∷ k; phase = Going } in
         let stack : List ℕ = address h found.place ∷ m.stack in
         let machine : State = going m row.part.end stack in
-        goes_one ctx s (PlaceOf (Held w) ∷ k) m (c + 32) c (running machine s.world)
+        goes_one ctx s (PlaceOf (Held w) ∷ k) m 31 c (running machine s.world)
         (advances m s.world _ (
         at_step ctx m shared.program (Llw r.word) row.part.end r.load
         ∙ yes _ _ _ (lt-ltb (m.frame + r.word) 65536 (own_low ctx s m shared r.word 0 y.low))
@@ -119,10 +98,9 @@ module _ (ctx : Setting) where
         (lands_on ctx s m shared (Value (Places found.place) ∷ k) row.part.end stack c a
         (at_once ctx _ Quiet row.part.end stack c a
         (record {
-          part = record { access = OnTop; shape = t; below = m.stack; has = record { seen = y.seen; living = y.living; there = y.there; at = refl } };
+          part = record { of = Held w; below = m.stack; has = record { seen = y.seen; living = y.living; there = y.there; at = refl } };
           then = row.then;
         }))))
-        (omega arith)
 
     pub field_goes : (d : Designator) (i : ℕ) → Waiting ctx (PlaceOf (Field d i)) Rest Quiet m.place m.stack c a → Goes ctx s (PlaceOf (Field d i) ∷ k) m (c + 32)
     field_goes d i row =
@@ -133,36 +111,19 @@ module _ (ctx : Setting) where
     element_goes d kind e row =
         let r = row.part.here in
         located_goes ctx s k m c a shared (PlaceOf (Element d kind e) ∷ k) d (IndexBy kind e) refl (omega arith) r.found r.here (omega (arith, row.part.shallow))
-        (record {
-          part = record {
-            rows = r.rows;
-            there = r.there;
-            takes = r.takes;
-            start = r.start;
-            middle = r.middle;
-            tested = r.tested;
-            end = row.part.end;
-            address = r.address;
-            value = r.value;
-            shallow = omega (arith, row.part.shallow);
-            test = r.test;
-            by = r.by;
-          };
-          then = row.then;
-        })
+        (record { part = record { from = m.place; did = row.part; at = refl }; then = row.then })
 
     -- the record is there
-    pub part_goes : (place : Place) (i : ℕ) (b : Access) (t : Shape) (below : List ℕ) → HasPlace ctx b place t m.stack below → Waiting ctx (Fill (Part i)) Rest (AtPlace b t) m.place below c a
+    pub part_goes : (place : Place) (i : ℕ) (d : Designator) (below : List ℕ) → Designates ctx d place m.stack below → Waiting ctx (Fill (Part i)) Rest (AtPlace d) m.place below c a
         → Goes ctx s (Value (Places place) ∷ Fill (Part i) ∷ k) m (c + 32)
-    part_goes place i b t below is row =
-        goes_none ctx s (Value (Places place) ∷ Fill (Part i) ∷ k) m (c + 32) c
+    part_goes place i d below is row =
+        goes_none ctx s (Value (Places place) ∷ Fill (Part i) ∷ k) m 32 c
         (lands_on ctx s m shared (Value (Places (part_of place i)) ∷ k) m.place m.stack c a
         (at_once ctx _ Quiet m.place m.stack c a
         (record {
-          part = record { access = further (offset t (i ∷ [])) b; shape = part_at t (i ∷ []); below = below; has = part_has ctx b place t m.stack below is i row.part };
+          part = record { of = Field d i; below = below; has = part_has ctx (access_of l d) place (shape_of l.scope d) m.stack below is i row.part };
           then = row.then;
         })))
-        (omega arith)
         (omega arith)
 
     -- what a pointer points to
@@ -170,13 +131,10 @@ module _ (ctx : Setting) where
     follow_goes d n row =
         let r = row.part.here in
         located_goes ctx s k m c a shared (PlaceOf (Follow d n) ∷ k) d Pointed refl (omega arith) r.found r.here row.part.shallow
-        (record {
-          part = record { number = n; typed = r.typed; there = r.there; loaded = r.loaded; end = row.part.end; load = r.load; test = r.test; shallow = omega (arith, row.part.shallow, place_some d) };
-          then = row.then;
-        })
+        (record { part = record { number = n; from = m.place; did = row.part; at = refl }; then = row.then })
 
     -- the pointer is there: its word is loaded, and isn't that of NIL
-    module _ (place : Place) (b : Access) (t : Shape) (below : List ℕ) (has : HasPlace ctx b place t m.stack below) (row : Waiting ctx (Fill Pointed) Rest (AtPlace b t) m.place below c a) where
+    module _ (place : Place) (d : Designator) (below : List ℕ) (has : Designates ctx d place m.stack below) (row : Waiting ctx (Fill Pointed) Rest (AtPlace d) m.place below c a) where
       abbrev pointing : List Item
       pointing = Value (Places place) ∷ Fill Pointed ∷ k
 
@@ -190,68 +148,67 @@ module _ (ctx : Setting) where
           record {
             seen = refl;
             living = refers.1 ∙ ap (λ (ts : List Shape). shape_at ts row.part.number) (sym shared.standing.known.targets);
-            there = row.part.there;
+            there = row.part.did.here.there;
             at = ap (λ (w : ℕ). w ∷ below) at;
           }
 
       follows : (v : Scalar) → got s.cells place ≡ v → within (OfPointer (Objects row.part.number)) v ≡ true → Refers h (OfPointer (Objects row.part.number)) v
-          → Goes ctx s (Value (Places place) ∷ Fill Pointed ∷ k) (going m row.part.loaded (word_for h v ∷ below)) (c + 1)
+          → Goes ctx s (Value (Places place) ∷ Fill Pointed ∷ k) (going m row.part.did.here.loaded (word_for h v ∷ below)) (c + 1)
       follows (ToObject o) is fits refers =
-          let r = row.part in
+          let r = row.part.did in
           let w : ℕ = h.base (Object o) in
           let some : (w ≡ 0) → ⊥ = λ none. omega (arith, none, shared.heap.above o refers.0) in
-          goes_one ctx s pointing (going m r.loaded (w ∷ below)) (c + 1) c (running (going m r.end (w ∷ below)) s.world)
-          (advances (going m r.loaded (w ∷ below)) s.world _ (at_step ctx (going m r.loaded (w ∷ below)) shared.program Nlt r.end r.test ∙ no _ _ _ (ne_eqb w 0 some)))
+          goes_one ctx s pointing (going m r.here.loaded (w ∷ below)) 0 c (running (going m r.end (w ∷ below)) s.world)
+          (advances (going m r.here.loaded (w ∷ below)) s.world _ (at_step ctx (going m r.here.loaded (w ∷ below)) shared.program Nlt r.end r.here.test ∙ no _ _ _ (ne_eqb w 0 some)))
           (subst (λ (v : Scalar). Lands ctx (pointed library v k then).phase (pointed library v k then) (running (going m r.end (w ∷ below)) s.world) c) (sym is)
           (lands_on ctx s m shared (Value (Places (object_place o)) ∷ k) r.end (w ∷ below) c a
           (at_once ctx _ Quiet r.end (w ∷ below) c a
-          (record { part = record { access = OnTop; shape = shape_at l.scope.targets r.number; below = below; has = object_has o refers }; then = row.then }))))
-          (omega arith)
+          (record { part = record { of = Follow d row.part.number; below = below; has = object_has o refers }; then = row.then }))))
       follows Nil is fits refers =
-          trap_goes ctx s pointing m shared row.part.loaded (0 ∷ below) trap.Nil (c + 1) (closed ctx k _ _ _ _ _ row.then)
+          trap_goes ctx s pointing m shared row.part.did.here.loaded (0 ∷ below) trap.Nil (c + 1) (closed ctx k _ _ _ _ _ row.then)
           (ap (λ (v : Scalar). pointed library v k then) is)
-          (at_step ctx (going m row.part.loaded (0 ∷ below)) shared.program Nlt row.part.end row.part.test)
+          (at_step ctx (going m row.part.did.here.loaded (0 ∷ below)) shared.program Nlt row.part.did.end row.part.did.here.test)
           (omega arith)
       follows v is fits refers = cc
 
       pub pointed_goes : Goes ctx s (Value (Places place) ∷ Fill Pointed ∷ k) m (c + 32)
       pointed_goes =
           let r = row.part in
-          let living : shape_there h place ≡ Word (OfPointer (Objects r.number)) = has.living ∙ r.typed in
-          let here : HasPlace ctx b place (Word (OfPointer (Objects r.number))) m.stack below = record { seen = has.seen; living = living; there = refl; at = has.at } in
+          let living : shape_there h place ≡ Word (OfPointer (Objects r.number)) = has.living ∙ r.did.here.typed in
+          let here : HasPlace ctx (access_of l d) place (Word (OfPointer (Objects r.number))) m.stack below = record { seen = has.seen; living = living; there = refl; at = has.at } in
           let word = shared.mem.holds place.root place.path (OfPointer (Objects r.number)) living in
-          goes_after ctx s pointing m (going m r.loaded (word_for h (got s.cells place) ∷ below)) (c + 32) (c + 1)
+          goes_after ctx s pointing m (going m r.did.here.loaded (word_for h (got s.cells place) ∷ below)) (c + 32) (c + 1)
           (advances m s.world _ (
-          at_step ctx m shared.program (load_code b) r.loaded r.load
-          ∙ loads ctx s m shared b place (OfPointer (Objects r.number)) below here r.shallow r.loaded
-          ∙ ap (λ (w : ℕ). let e : Event × State = (Went, going m r.loaded (w ∷ below)) in e) word.word
+          at_step ctx m shared.program (load_code (access_of l d)) r.did.here.loaded (rw r.at r.did.here.load)
+          ∙ loads ctx s m shared (access_of l d) place (OfPointer (Objects r.number)) below here (omega (arith, r.did.shallow, place_some d)) r.did.here.loaded
+          ∙ ap (λ (w : ℕ). let e : Event × State = (Went, going m r.did.here.loaded (w ∷ below)) in e) word.word
           ))
           (follows (got s.cells place) refl word.fits word.refers)
           (omega arith)
 
     -- the array is there: its address, and then the index
-    pub index_by_goes : (place : Place) (kind : Kind) (e : Expression) (b : Access) (t : Shape) (below : List ℕ) → HasPlace ctx b place t m.stack below
-        → Waiting ctx (Fill (IndexBy kind e)) Rest (AtPlace b t) m.place below c a → Goes ctx s (Value (Places place) ∷ Fill (IndexBy kind e) ∷ k) m (c + 32)
-    index_by_goes place kind e b t below is row =
-        let r = row.part in
+    pub index_by_goes : (place : Place) (kind : Kind) (e : Expression) (d : Designator) (below : List ℕ) → Designates ctx d place m.stack below
+        → Waiting ctx (Fill (IndexBy kind e)) Rest (AtPlace d) m.place below c a → Goes ctx s (Value (Places place) ∷ Fill (IndexBy kind e) ∷ k) m (c + 32)
+    index_by_goes place kind e d below is row =
+        let did = row.part.did in
+        let r = did.here in
         let items : List Item = Value (Places place) ∷ Fill (IndexBy kind e) ∷ k in
         let at : State = going m r.start (address h place ∷ below) in
         let value = expression_stands l own.code e r.start r.middle r.value in
         let test = instrs_order own.code _ r.middle r.tested r.test value.1 in
-        addressed ctx s items m shared b place t m.stack below is (omega (arith, r.shallow)) m.place r.start (c + 32) c r.address
-        (operand_exact ctx s k at c a shared items e (IndexAt place kind) refl (omega arith) r.middle r.value (omega (arith, r.shallow))
-        (omega (arith, test.0, instr_within own.code r.tested _ r.end r.by))
+        addressed ctx s items m shared (access_of l d) place (shape_of l.scope d) m.stack below is (omega (arith, did.shallow)) m.place r.start (c + 32) c (rw row.part.at r.address)
+        (operand_exact ctx s k at c a shared items e (IndexAt place kind) refl (omega arith) r.middle r.value (omega (arith, did.shallow))
+        (omega (arith, test.0, instr_within own.code r.tested _ did.end r.by))
         (record {
           part = record {
-            takes = r.takes;
-            element = element_of t;
+            of = d;
+            index = e;
+            same = refl;
+            from = row.part.from;
             below = below;
+            did = did;
+            at = refl;
             has = record { seen = is.seen; living = is.living ∙ r.rows; there = refl; at = refl };
-            there = r.there;
-            tested = r.tested;
-            end = r.end;
-            test = r.test;
-            by = r.by;
           };
           then = row.then;
         }))
@@ -269,45 +226,50 @@ module _ (ctx : Setting) where
       abbrev x : ℕ
       x = position kind (ordinal_of v)
 
+      abbrev element : Shape
+      element = element_of (shape_of l.scope row.part.of)
+
       abbrev t : Shape
-      t = Row (numbers kind) row.part.element
+      t = Row (numbers kind) (element_of (shape_of l.scope row.part.of))
+
+      takes : takes_value kind j ≡ true
+      takes = ap (takes_value kind) row.part.same ∙ row.part.did.here.takes
 
       word : m.stack ≡ scalar_word v ∷ below
-      word = is ∙ ap (λ (w : ℕ). w ∷ below) (plain_word h j v (takes_plain kind j row.part.takes).1 fit)
+      word = is ∙ ap (λ (w : ℕ). w ∷ below) (plain_word h j v (takes_plain kind j takes).1 fit)
 
       abbrev becomes : Bool → Source
       becomes b = cond b (with_items now (Value (Places (part_of place x)) ∷ k)) (trapped library now trap.Range)
 
-      chosen : within kind v ≡ true → Goes ctx s items (going m row.part.tested m.stack) (c + 1)
+      chosen : within kind v ≡ true → Goes ctx s items (going m row.part.did.here.tested m.stack) (c + 1)
       chosen one =
           let r = row.part in
-          let i = index_is kind j v r.takes one in
-          let is_element : part_at t (x ∷ []) ≡ r.element = yes (ltb x (numbers kind)) r.element Absent (lt-ltb x (numbers kind) i.less) in
+          let i = index_is kind j v takes one in
+          let is_element : part_at t (x ∷ []) ≡ element = yes (ltb x (numbers kind)) element Absent (lt-ltb x (numbers kind) i.less) in
           let part = part_there h place x (ap is_there r.has.living) in
-          let living : shape_there h (part_of place x) ≡ r.element = part.0 ∙ ap (λ (z : Shape). part_at z (x ∷ [])) r.has.living ∙ is_element in
-          let at : address h (part_of place x) ≡ address h place + x * words r.element = omega (arith, part.1, ap (λ (z : Shape). offset z (x ∷ [])) r.has.living) in
+          let living : shape_there h (part_of place x) ≡ element = part.0 ∙ ap (λ (z : Shape). part_at z (x ∷ [])) r.has.living ∙ is_element in
+          let at : address h (part_of place x) ≡ address h place + x * words element = omega (arith, part.1, ap (λ (z : Shape). offset z (x ∷ [])) r.has.living) in
           let to : List ℕ = address h (part_of place x) ∷ r.below in
-          let there : HasPlace ctx OnTop (part_of place x) r.element to r.below = record { seen = r.has.seen; living = living; there = r.there; at = refl } in
-          let sum : address h place + above (cut (word_of (least kind))) (scalar_word v) * words r.element ≡ address h (part_of place x) =
-          ap (λ (n : ℕ). address h place + n * words r.element) i.above ∙ sym at in
-          let low = inside ctx s m shared OnTop (part_of place x) r.element to r.below there in
-          let here : State = going m r.tested m.stack in
-          goes_one ctx s items here (c + 1) c (running (going m r.end to) s.world)
+          let there : HasPlace ctx OnTop (part_of place x) element to r.below = record { seen = r.has.seen; living = living; there = r.did.here.there; at = refl } in
+          let sum : address h place + above (cut (word_of (least kind))) (scalar_word v) * words element ≡ address h (part_of place x) =
+          ap (λ (n : ℕ). address h place + n * words element) i.above ∙ sym at in
+          let low = inside ctx s m shared OnTop (part_of place x) element to r.below there in
+          let here : State = going m r.did.here.tested m.stack in
+          goes_one ctx s items here 0 c (running (going m r.did.end to) s.world)
           (advances here s.world _ (
-          at_step ctx here shared.program (Ixc (cut (word_of (least kind))) (words r.element)) r.end r.by
-          ∙ ap (λ (y : List ℕ). on_two here y (element_row (cut (word_of (least kind))) (words r.element) r.end here)) (word ∙ ap (λ (y : List ℕ). scalar_word v ∷ y) r.has.at)
-          ∙ yes _ _ _ (lt-ltb (address h place + above (cut (word_of (least kind))) (scalar_word v) * words r.element) 65536 (omega (arith, low, sum)))
-          ∙ ap (λ (n : ℕ). (Went, going m r.end (n ∷ r.below))) sum
+          at_step ctx here shared.program (Ixc (cut (word_of (least kind))) (words element)) r.did.end r.did.here.by
+          ∙ ap (λ (y : List ℕ). on_two here y (element_row (cut (word_of (least kind))) (words element) r.did.end here)) (word ∙ ap (λ (y : List ℕ). scalar_word v ∷ y) r.has.at)
+          ∙ yes _ _ _ (lt-ltb (address h place + above (cut (word_of (least kind))) (scalar_word v) * words element) 65536 (omega (arith, low, sum)))
+          ∙ ap (λ (n : ℕ). (Went, going m r.did.end (n ∷ r.below))) sum
           ))
-          (subst (λ (y : Source). Lands ctx y.phase y (running (going m r.end to) s.world) c) (sym (ap becomes one))
-          (lands_on ctx s m shared (Value (Places (part_of place x)) ∷ k) r.end to c a
-          (at_once ctx _ Quiet r.end to c a (record { part = record { access = OnTop; shape = r.element; below = r.below; has = there }; then = row.then }))))
-          (omega arith)
+          (subst (λ (y : Source). Lands ctx y.phase y (running (going m r.did.end to) s.world) c) (sym (ap becomes one))
+          (lands_on ctx s m shared (Value (Places (part_of place x)) ∷ k) r.did.end to c a
+          (at_once ctx _ Quiet r.did.end to c a (record { part = record { of = Element r.of kind r.index; below = r.below; has = there }; then = row.then }))))
 
       pub index_at_goes : Goes ctx s (Value (Scalars v) ∷ Fill (IndexAt place kind) ∷ k) m (c + 32)
       index_at_goes =
-          tested ctx s items m shared m.place m.stack kind j v row.part.takes fit below word
-          row.part.tested (c + 32) (c + 1) row.part.test (closed ctx k _ _ _ _ _ row.then)
+          tested ctx s items m shared m.place m.stack kind j v takes fit below word
+          row.part.did.here.tested (c + 32) (c + 1) (rw (row.part.at, row.part.same) row.part.did.here.test) (closed ctx k _ _ _ _ _ row.then)
           (λ out. ap becomes out)
           chosen
           (omega arith)

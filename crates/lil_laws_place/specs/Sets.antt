@@ -1,24 +1,15 @@
 -- The words of sets, and of the numbers that they get or lose.
 use Rattle.std.proofs.Common.{◌≡◌, ℕ, ◌≤◌, Bool, true, false, not, ◌&&◌, List, ◌∷◌, refl, sym, ap, ◌∙◌, arith}
 use Rattle.std.specs.Prelude.{ℤ, pos, negsuc, ◌≤ℤ◌, int_lt, nat_le, nat_lt}
-use Rattle.std.proofs.lemmas.Bool.{and_parts, le-ltb}
-use Rattle.std.proofs.lemmas.Int.{ints}
-use Rattle.lil_base.specs.Words.{word_of}
-use Rattle.lil_base.specs.Laws.{bounds}
-use Rattle.lil_base.specs.Sets.{set_word, union, minus, span}
-use Rattle.lil_resolved.specs.Kinds.{Kind, OfSet, is_element, least, greatest, nat_of, Scalar, SetOf, within, scalar_word, ordinal_of, members_of}
-use Rattle.lil_resolved.specs.Members.{united, without, from_to}
-use Rattle.lil_resolved.specs.MemberLaws.{word_united, word_without}
+use Rattle.std.proofs.lemmas.{Bool.{and_parts, le-ltb}, Int.ints}
+use Rattle.lil_base.specs.{Words.word_of, Laws.bounds, Sets.{set_word, union, minus, span}}
+use Rattle.lil_resolved.specs.{Kinds.{Kind, OfSet, is_element, least, greatest, nat_of, Scalar, SetOf, within, scalar_word, ordinal_of, members_of}, Members.{united, without, from_to}, MemberLaws.{word_united, word_without}}
 use Rattle.lil_meaning.specs.Steps.{with_span, with_member}
 use Rattle.lil_asm.specs.declared.instr.Instr.TheVariants.{Spn}
-use Rattle.lil_mcode.specs.declared.machine.Event.{Event}
-use Rattle.lil_mcode.specs.declared.machine.Event.TheVariants.{Went}
-use Rattle.lil_mcode.specs.Table.{Module, State, act, going, one_more, one_less}
-use Rattle.lil_match.specs.Arithmetic.{word_is}
-use Rattle.lil_match.specs.Parts.{no}
-use Rattle.lil_match.specs.Ranges.{fits_has}
+use Rattle.lil_mcode.specs.{declared.machine.Event.{Event, TheVariants.Went}, Table.{Module, State, act, going, one_more, one_less}}
+use Rattle.lil_match.specs.{Arithmetic.word_is, Parts.no, Ranges.fits_has}
 
-not_true : (b : Bool) → not b ≡ true → b ≡ false
+pub not_true : (b : Bool) → not b ≡ true → b ≡ false
 not_true false h = refl
 not_true true h = cc
 

@@ -4,23 +4,16 @@ use Rattle.std.specs.Prelude.{pos, negsuc}
 use Rattle.std.proofs.lemmas.Bool.{cases_lt}
 use Rattle.lil_base.specs.Words.{Cardinal}
 use Rattle.lil_base.specs.declared.fault.TrapKind.TheVariants as trap
-use Rattle.lil_resolved.specs.Kinds.{Workspaces, Kind, OfWhole, OfPointer, nat_of, Scalar, Number, ToWorkspace, Nil, within, scalar_word, ordinal_of, Shape, Word, offset}
-use Rattle.lil_resolved.specs.Resolved.{Designator, Expression, Allocate}
-use Rattle.lil_meaning.specs.Items.{Place, stored, alone, Scalars, Places, AllocateBy, AllocateAt, Do, Item, Value, Fill, Perform, Going, Workspace, Source, workspace_words, heap_words}
-use Rattle.lil_meaning.specs.Steps.{next, trapped, allocated}
+use Rattle.lil_resolved.specs.{Kinds.{Workspaces, Kind, OfWhole, OfPointer, nat_of, takes_value, Scalar, Number, ToWorkspace, Nil, within, scalar_word, ordinal_of, Word}, Resolved.{Designator, Expression, Allocate, shape_of}}
+use Rattle.lil_meaning.specs.{Items.{Place, stored, alone, Scalars, Places, AllocateBy, AllocateAt, Do, Item, Value, Fill, Perform, Going, Workspace, Source, workspace_words, heap_words}, Steps.{next, trapped, allocated}, Need.chain_of}
 use Rattle.lil_asm.specs.declared.instr.Instr.TheVariants.{Liw, Drp}
 use Rattle.lil_mcode.specs.Table.{State, act, going}
 use Rattle.lil_frames.specs.Words.{cleared}
-use Rattle.lil_table.specs.Rows.{Access, OnTop, allocate_code}
-use Rattle.lil_match.specs.Homes.{Free, of_free, Home, Extends, word_for, plain_word, takes_plain, address, is_word_kept, Mem, mem_stored, scalar_owned}
-use Rattle.lil_match.specs.Costs.{shared_cost}
-use Rattle.lil_meaning.specs.Need.{chain_of}
-use Rattle.lil_match.specs.Goes.{IsHeap, Shared, Goes}
-use Rattle.lil_match.specs.Waits.{Setting, frame_of, laid_out, Quiet, ValueOf, AtPlace, Around, Reach, Rows, HasPlace, Waiting}
-use Rattle.lil_match.specs.Orders.{instrs_order, expression_stands}
+use Rattle.lil_table.specs.Rows.{InstrsAt, OnTop, access_of, allocate_code, test_code}
+use Rattle.lil_match.specs.{Homes.{Home, Extends, word_for, plain_word, takes_plain, address, Mem, mem_stored, Stays, Turns, mem_turned}, Costs.shared_cost, Goes.{IsHeap, Shared, Goes}, Waits.{Setting, frame_of, laid_out, Quiet, ValueOf, AtPlace, Around, Reach, Rows, Designates, placed, Waiting}, Orders.{instrs_order, expression_stands}}
 use Rattle.lil_match.specs.Steps.{closed, operand_exact, pushes, located_goes}
 use Rattle.lil_laws_place.specs.Codes.{inside, addressed, leads, tested, stored_goes}
-use Rattle.lil_laws_stmt.specs.Painting.{own_free, free_fixed}
+use Rattle.lil_laws_stmt.specs.Painting.{own_free}
 use Rattle.lil_laws_stmt.specs.Blocks as block
 
 -- the word of a CARDINAL is its number
@@ -63,44 +56,29 @@ module _ (ctx : Setting) where
     allocate_goes back d e row =
         let r = row.part.here in
         located_goes ctx s k m c a shared (Perform (Do (Allocate back d e)) ∷ k) d (AllocateBy back e) refl (omega arith) r.found r.here (omega (arith, r.shallow, ap length row.part.empty))
-        (record {
-          part = record {
-            typed = r.typed;
-            empty = row.part.empty;
-            takes = r.takes;
-            start = r.start;
-            middle = r.middle;
-            end = row.part.end;
-            address = r.address;
-            value = r.value;
-            by = r.by;
-            within = row.part.within;
-          };
-          then = row.then;
-        })
+        (record { part = placed ctx.stack.frame (Allocate back d e) a (λ p q r. r.found) m.place m.stack row.part; then = row.then })
 
     -- the place is there: its address, and then the number of words
-    pub allocate_by_goes : (back : Bool) (e : Expression) (place : Place) (b : Access) (t : Shape) (below : List ℕ) → HasPlace ctx b place t m.stack below
-        → Waiting ctx (Fill (AllocateBy back e)) Rest (AtPlace b t) m.place below c a → Goes ctx s (Value (Places place) ∷ Fill (AllocateBy back e) ∷ k) m (c + 32)
-    allocate_by_goes back e place b t below has row =
-        let r = row.part in
+    pub allocate_by_goes : (back : Bool) (e : Expression) (place : Place) (d : Designator) (below : List ℕ) → Designates ctx d place m.stack below
+        → Waiting ctx (Fill (AllocateBy back e)) Rest (AtPlace d) m.place below c a → Goes ctx s (Value (Places place) ∷ Fill (AllocateBy back e) ∷ k) m (c + 32)
+    allocate_by_goes back e place d below has row =
+        let amid = row.part.amid in
+        let r = amid.here in
         let items : List Item = Value (Places place) ∷ Fill (AllocateBy back e) ∷ k in
         let at : State = going m r.start (address h place ∷ below) in
         let value = expression_stands l own.code e r.start r.value.middle r.value.value.value in
         let test = instrs_order own.code _ r.value.middle r.middle r.value.test value.1 in
-        let code = instrs_order own.code (allocate_code back) r.middle r.end r.by (omega (arith, test.0)) in
-        addressed ctx s items m shared b place t m.stack below has (omega (arith, ap length r.empty)) m.place r.start (c + 32) c r.address
-        (operand_exact ctx s k at c a shared items e (AllocateAt back place) refl (omega arith) r.value.middle r.value.value.value (omega (arith, r.value.value.shallow, ap length r.empty))
-        (omega (arith, test.0, code.0, r.within))
+        let code = instrs_order own.code (allocate_code back) r.middle amid.end r.by (omega (arith, test.0)) in
+        addressed ctx s items m shared (access_of l d) place (shape_of l.scope d) m.stack below has (omega (arith, ap length row.part.empty)) m.place r.start (c + 32) c (rw amid.at r.address)
+        (operand_exact ctx s k at c a shared items e (AllocateAt back place) refl (omega arith) r.value.middle r.value.value.value (omega (arith, r.value.value.shallow, ap length row.part.empty))
+        (omega (arith, test.0, code.0, amid.within))
         (record {
           part = record {
-            takes = r.takes;
-            has = record { seen = has.seen; living = has.living ∙ r.typed; there = refl; at = ap (λ (x : List ℕ). address h place ∷ x) r.empty };
-            tested = r.middle;
-            end = r.end;
-            test = r.value.test;
-            by = r.by;
-            within = r.within;
+            of = d;
+            value = e;
+            same = refl;
+            amid = record { from = amid.from; end = amid.end; here = r; within = amid.within; at = refl };
+            has = record { seen = has.seen; living = has.living ∙ r.typed; there = refl; at = ap (λ (x : List ℕ). address h place ∷ x) row.part.empty };
           };
           then = row.then;
         }))
@@ -108,6 +86,13 @@ module _ (ctx : Setting) where
 
     -- the number of words is there
     module _ (place : Place) (v : Scalar) (j : Kind) (fit : within j v ≡ true) (below : List ℕ) (is : m.stack ≡ word_for h v ∷ below) where
+      -- the test of the number
+      takes : (back : Bool) → Waiting ctx (Fill (AllocateAt back place)) Rest (ValueOf j) m.place below c a → takes_value (OfWhole Cardinal) j ≡ true
+      takes back row = ap (takes_value (OfWhole Cardinal)) row.part.same ∙ row.part.amid.here.takes
+
+      test : (back : Bool) (row : Waiting ctx (Fill (AllocateAt back place)) Rest (ValueOf j) m.place below c a) → InstrsAt own.code (test_code (OfWhole Cardinal) j) m.place row.part.amid.here.middle
+      test back row = rw (row.part.amid.at, row.part.same) row.part.amid.here.value.test
+
       -- DEALLOCATE drops it
       module _ (row : Waiting ctx (Fill (AllocateAt true place)) Rest (ValueOf j) m.place below c a) where
         abbrev returning : List Item
@@ -117,14 +102,14 @@ module _ (ctx : Setting) where
         back_by b = cond b (allocated true (nat_of (ordinal_of v)) place k (record s { items = returning; phase = Going })) (trapped library (record s { items = returning; phase = Going }) trap.Range)
 
         word_back : m.stack ≡ scalar_word v ∷ below
-        word_back = is ∙ ap (λ (w : ℕ). w ∷ below) (plain_word h j v (takes_plain (OfWhole Cardinal) j row.part.takes).1 fit)
+        word_back = is ∙ ap (λ (w : ℕ). w ∷ below) (plain_word h j v (takes_plain (OfWhole Cardinal) j (takes true row)).1 fit)
 
-        given_back : within (OfWhole Cardinal) v ≡ true → Goes ctx s returning (going m row.part.tested m.stack) (c + 3)
+        given_back : within (OfWhole Cardinal) v ≡ true → Goes ctx s returning (going m row.part.amid.here.middle m.stack) (c + 3)
         given_back one =
-            let r = row.part in
-            let has = r.has in
-            leads ctx s returning m shared Drp r.tested r.by.0 m.stack (address h place ∷ []) (c + 3) (c + 2) r.by.1
-            (ap (λ (x : List ℕ). act Drp r.by.0 own (going m r.tested x)) (word_back ∙ ap (λ (x : List ℕ). scalar_word v ∷ x) has.at))
+            let r = row.part.amid.here in
+            let has = row.part.has in
+            leads ctx s returning m shared Drp r.middle r.by.0 m.stack (address h place ∷ []) (c + 3) (c + 2) r.by.1
+            (ap (λ (x : List ℕ). act Drp r.by.0 own (going m r.middle x)) (word_back ∙ ap (λ (x : List ℕ). scalar_word v ∷ x) has.at))
             (leads ctx s returning m shared (Liw 0) r.by.0 r.by.2.0 (address h place ∷ []) (0 ∷ address h place ∷ []) (c + 2) (c + 1) r.by.2.1
             (pushes 0 r.by.2.0 (going m r.by.0 (address h place ∷ [])) (omega arith))
             (stored_goes ctx s returning m shared r.by.2.0 (0 ∷ address h place ∷ []) OnTop place (OfPointer Workspaces) (address h place ∷ [])
@@ -137,8 +122,8 @@ module _ (ctx : Setting) where
 
         pub deallocate_at_goes : Goes ctx s (Value (Scalars v) ∷ Fill (AllocateAt true place) ∷ k) m (c + 32)
         deallocate_at_goes =
-            tested ctx s returning m shared m.place m.stack (OfWhole Cardinal) j v row.part.takes fit below word_back
-            row.part.tested (c + 32) (c + 3) row.part.test (closed ctx k _ _ _ _ _ row.then)
+            tested ctx s returning m shared m.place m.stack (OfWhole Cardinal) j v (takes true row) fit below word_back
+            row.part.amid.here.middle (c + 32) (c + 3) (test true row) (closed ctx k _ _ _ _ _ row.then)
             (λ out. ap back_by out)
             given_back
             (omega arith)
@@ -162,7 +147,7 @@ module _ (ctx : Setting) where
         takes_by b = cond b (allocated false (nat_of (ordinal_of v)) place k now) (trapped library now trap.Range)
 
         word : m.stack ≡ scalar_word v ∷ below
-        word = is ∙ ap (λ (w : ℕ). w ∷ below) (plain_word h j v (takes_plain (OfWhole Cardinal) j row.part.takes).1 fit)
+        word = is ∙ ap (λ (w : ℕ). w ∷ below) (plain_word h j v (takes_plain (OfWhole Cardinal) j (takes false row)).1 fit)
 
         low : address h place + 1 ≤ 65535
         low = inside ctx s m shared OnTop place (Word (OfPointer Workspaces)) below [] row.part.has
@@ -175,11 +160,11 @@ module _ (ctx : Setting) where
           becomes = ap takes_by one
 
           abbrev taking : State
-          taking = going m row.part.tested (nat_of (ordinal_of v) ∷ address h place ∷ [])
+          taking = going m row.part.amid.here.middle (nat_of (ordinal_of v) ∷ address h place ∷ [])
 
           goes_short : m.limit - m.top < n + 2 → Goes ctx s items taking (c + 1)
           goes_short less =
-              block.goes_short ctx s items k m c a shared place low n row.part.tested row.part.by.0 row.part.by.1
+              block.goes_short ctx s items k m c a shared place low n row.part.amid.here.middle row.part.amid.here.by.0 row.part.amid.here.by.1
               (ap (λ (t : Source). heap_words t.objects t.workspaces) becomes ∙ (let e : heap_words s.objects workspaces ≡ heap_words s.objects s.workspaces + (n + 2) = omega (arith, more) in e))
               (ap (chain_of library) becomes ∙ shared_cost ctx s m shared k _ _ _ _ _ row.then)
               less
@@ -195,31 +180,26 @@ module _ (ctx : Setting) where
             x = record (ctx.home) { workspaces = ctx.home.workspaces ++ (ctx.stack.limit - nat_of (ordinal_of v)) ∷ [] }
 
             roomy : m.top + (n + 2) ≤ st.limit
-            roomy = block.roomy ctx s items k m c a shared place low n row.part.tested row.part.by.0 row.part.by.1 room
-
-            beside : (i : ℕ) → (h.owner i ≡ Free st.base → ⊥) → (i < first) ⊎ ((first ≤ i) × (st.limit ≤ i))
-            beside = block.beside ctx s items k m c a shared place low n row.part.tested row.part.by.0 row.part.by.1 room
+            roomy = block.roomy ctx s items k m c a shared place low n row.part.amid.here.middle row.part.amid.here.by.0 row.part.amid.here.by.1 room
 
             abbrev blank : List ℕ
             blank = cleared m.store (ctx.stack.limit - nat_of (ordinal_of v)) ctx.stack.limit
 
             blank_beside : (i : ℕ) → (i < first) ⊎ ((first ≤ i) × (st.limit ≤ i)) → get_or blank i 0 ≡ get_or m.store i 0
-            blank_beside = block.blank_beside ctx s items k m c a shared place low n row.part.tested row.part.by.0 row.part.by.1 room
+            blank_beside = block.blank_beside ctx s items k m c a shared place low n row.part.amid.here.middle row.part.amid.here.by.0 row.part.amid.here.by.1 room
 
             -- the block's words are nobody's
             mem_blank : Mem x s.cells blank
-            mem_blank = record {
-              owned = shared.mem.owned;
-              inside = shared.mem.inside;
-              holds = λ r q i e.
-                  let old = shared.mem.holds r q i e in
-                  let mine = (scalar_owned h s.cells m.store r q i shared.mem e).0 in
-                  is_word_kept h x (λ o alive. refl) (λ o alive. refl) refl (extended h.workspaces first) i (s.cells r q) (get_or blank (h.base r + offset (h.shape r) q) 0)
-                  (record { word = blank_beside (h.base r + offset (h.shape r) q) (beside (h.base r + offset (h.shape r) q) (λ free. of_free r st.base (sym mine ∙ free))) ∙ old.word; fits = old.fits; refers = old.refers });
-              kept = λ i mine. blank_beside i (beside i (λ free. own_free st.base (sym mine ∙ free))) ∙ shared.mem.kept i mine;
-              fixed = λ i mine. blank_beside i (beside i (λ free. free_fixed st.base (sym free ∙ mine))) ∙ shared.mem.fixed i mine;
-              long = block.blank_long ctx s items k m c a shared place low n row.part.tested row.part.by.0 row.part.by.1 room ∙ shared.mem.long;
-            }
+            mem_blank =
+                mem_turned h m.store blank h.owner h.shadow x.workspaces (λ i. by i (cases_lt i first) (cases_lt i st.limit)) s.cells shared.mem (extended h.workspaces first)
+                (block.blank_long ctx s items k m c a shared place low n row.part.amid.here.middle row.part.amid.here.by.0 row.part.amid.here.by.1 room)
+              where
+                by : (i : ℕ) → (i < first) ⊎ (first ≤ i) → (i < st.limit) ⊎ (st.limit ≤ i) → Stays h x m.store blank i ⊎ Turns h x blank i
+                by i (inl z) e = inl (record { owner = refl; shadow = refl; word = blank_beside i (inl z) })
+                by i (inr g) (inr e) = inl (record { owner = refl; shadow = refl; word = blank_beside i (inr (g, e)) })
+                by i (inr g) (inl e) =
+                    let free = shared.standing.room i (omega (arith, g, roomy)) e in
+                    inr (record { before = inr (st.base, free); after = inr (st.base, free); word = λ own. absurd (own_free st.base (sym own ∙ free)) })
 
             -- the workspace's address
             new_word : get_or x.workspaces (length s.workspaces) 0 ≡ first
@@ -267,7 +247,7 @@ module _ (ctx : Setting) where
 
             goes_roomy : Goes ctx s items taking (c + 1)
             goes_roomy =
-                block.goes_roomy ctx s items k m c a shared place low n row.part.tested row.part.by.0 row.part.by.1 room x (stored s.cells place (alone (ToWorkspace (length s.workspaces)))) s.objects workspaces
+                block.goes_roomy ctx s items k m c a shared place low n row.part.amid.here.middle row.part.amid.here.by.0 row.part.amid.here.by.1 room x (stored s.cells place (alone (ToWorkspace (length s.workspaces)))) s.objects workspaces
                 (record {
                   base = λ r e. refl;
                   shape = λ r e. refl;
@@ -279,18 +259,18 @@ module _ (ctx : Setting) where
                   heap = heap;
                 })
                 becomes
-                (subst (λ (q : ℕ). Rows ctx k Quiet q [] c a) (sym row.part.by.2) row.then)
+                (subst (λ (q : ℕ). Rows ctx k Quiet q [] c a) (sym row.part.amid.here.by.2) row.then)
 
-          taken : Goes ctx s items (going m row.part.tested m.stack) (c + 1)
+          taken : Goes ctx s items (going m row.part.amid.here.middle m.stack) (c + 1)
           taken =
               let w : m.stack ≡ n ∷ address h place ∷ [] = word ∙ ap (λ (z : ℕ). z ∷ below) (cardinal_word v one) ∙ ap (λ (z : List ℕ). n ∷ z) row.part.has.at in
-              subst (λ (z : List ℕ). Goes ctx s items (going m row.part.tested z) (c + 1)) (sym w)
+              subst (λ (z : List ℕ). Goes ctx s items (going m row.part.amid.here.middle z) (c + 1)) (sym w)
               (⊎_elim (λ less. goes_short less) (λ more. goes_roomy more) (cases_lt (m.limit - m.top) (n + 2)))
 
         pub allocate_at_goes : Goes ctx s (Value (Scalars v) ∷ Fill (AllocateAt false place) ∷ k) m (c + 32)
         allocate_at_goes =
-            tested ctx s items m shared m.place m.stack (OfWhole Cardinal) j v row.part.takes fit below word
-            row.part.tested (c + 32) (c + 1) row.part.test (closed ctx k _ _ _ _ _ row.then)
+            tested ctx s items m shared m.place m.stack (OfWhole Cardinal) j v (takes false row) fit below word
+            row.part.amid.here.middle (c + 32) (c + 1) (test false row) (closed ctx k _ _ _ _ _ row.then)
             (λ out. ap takes_by out)
             taken
             (omega arith)

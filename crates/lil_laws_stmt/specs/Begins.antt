@@ -1,28 +1,15 @@
 -- The beginning of the turns of a FOR, from any start.
-use Rattle.std.proofs.Common.{◌≡◌, ℕ, zero, suc, ◌+◌, ◌≤◌, ℤ, ◌+ℤ◌, Bool, true, false, cond, not, Option, List, [], ◌∷◌, length, refl, sym, ap, ◌∙◌, subst, arith}
+use Rattle.std.proofs.Common.{◌≡◌, ℕ, zero, suc, ◌+◌, ℤ, ◌+ℤ◌, Bool, true, false, cond, not, Option, List, [], ◌∷◌, length, refl, sym, ap, ◌∙◌, subst, arith}
 use Rattle.std.proofs.lemmas.Bool.{lt-ltb, false_from_ne_true, true≢false}
 use Rattle.lil_base.specs.declared.fault.TrapKind.TheVariants as trap
 use Rattle.lil_base.specs.Words.{word_of}
-use Rattle.lil_resolved.specs.Kinds.{Kind, base_of, compared_as, covers, outside_turns, Scalar}
-use Rattle.lil_resolved.specs.Resolved.{Statements}
-use Rattle.lil_meaning.specs.Items.{Turns, Item, Perform, Going, Source}
-use Rattle.lil_meaning.specs.Steps.{next, turned_with, turns}
-use Rattle.lil_asm.specs.declared.instr.Instr.{Instr}
-use Rattle.lil_asm.specs.declared.instr.Instr.TheVariants.{Liw, Dup, Drp, Swp, Rgc, Lsi, Jmp, Jpf}
-use Rattle.lil_mcode.specs.declared.machine.Event.{Event}
-use Rattle.lil_mcode.specs.declared.machine.Event.TheVariants.{Went, Trap}
-use Rattle.lil_mcode.specs.Table.{State, act, truth, going}
+use Rattle.lil_resolved.specs.{Kinds.{Kind, base_of, compared_as, covers, outside_turns, Scalar}, Resolved.Statements}
+use Rattle.lil_meaning.specs.{Items.{Turns, Item, Perform, Going, Source}, Steps.{next, turned_with, turns}}
+use Rattle.lil_asm.specs.declared.instr.Instr.{Instr, TheVariants.{Liw, Dup, Drp, Swp, Rgc, Lsi, Jmp, Jpf}}
+use Rattle.lil_mcode.specs.{declared.machine.Event.{Event, TheVariants.{Went, Trap}}, Table.{State, act, truth, going}}
 use Rattle.lil_table.specs.Rows.{IsAt, LeaveRow, AlignAt}
-use Rattle.lil_match.specs.Goes.{Shared, Goes, Lands}
-use Rattle.lil_match.specs.Running.{Run, running, react}
-use Rattle.lil_match.specs.Parts.{yes}
-use Rattle.lil_match.specs.Ranges.{has, has_base, value_none}
-use Rattle.lil_match.specs.Tests.{covered}
-use Rattle.lil_match.specs.Waits.{Setting, frame_of, laid_out, Quiet, Around, Rows, BeginWaits}
-use Rattle.lil_match.specs.Orders.{instr_within}
-use Rattle.lil_match.specs.Steps.{closed, both_trap, advances, at_step, rows_ahead, lands_on, goes_one, goes_after, goes_more}
-use Rattle.lil_laws_stmt.specs.Starts.{is_small, small_has, IsOutside, outside, outside_none, outside_some, small_between, small_less}
-use Rattle.lil_laws_stmt.specs.Fors.{bounded_goes}
+use Rattle.lil_match.specs.{Goes.{Shared, Goes, Lands}, Running.{Run, running, react}, Parts.yes, Ranges.{has, has_base, value_none}, Tests.covered, Waits.{Setting, frame_of, laid_out, Quiet, Around, Rows, BeginWaits}, Orders.instr_within, Steps.{closed, both_trap, advances, at_step, rows_ahead, lands_on, goes_one, goes_after, goes_more}}
+use Rattle.lil_laws_stmt.specs.{Starts.{is_small, small_has, IsOutside, outside, outside_none, outside_some, small_between, small_less}, Fors.bounded_goes}
 
 module _ (ctx : Setting) where
   open ctx use {library, table, home as h}
@@ -43,15 +30,15 @@ module _ (ctx : Setting) where
     at p stack = going m p stack
 
     -- an instruction that changes the place and the expression stack alone
-    leads : (i : Instr) (p gap q : ℕ) (stack next : List ℕ) (budget rest : ℕ) → IsAt own.code p i gap → act i gap own (at p stack) ≡ (Went, at q next) → Goes ctx s here (at q next) rest → rest + 1 ≤ budget
-        → Goes ctx s here (at p stack) budget
-    leads i p gap q stack next budget rest stands row goes less =
-        goes_after ctx s here (at p stack) (at q next) budget rest (advances (at p stack) s.world _ (at_step ctx (at p stack) shared.program i gap stands ∙ row)) goes less
+    leads : (i : Instr) (p gap q : ℕ) (stack next : List ℕ) (rest spare : ℕ) → IsAt own.code p i gap → act i gap own (at p stack) ≡ (Went, at q next) → Goes ctx s here (at q next) (c + rest)
+        → Goes ctx s here (at p stack) (c + (rest + (1 + spare)))
+    leads i p gap q stack next rest spare stands row goes =
+        goes_after ctx s here (at p stack) (at q next) (c + (rest + (1 + spare))) (c + rest) (advances (at p stack) s.world _ (at_step ctx (at p stack) shared.program i gap stands ∙ row)) goes (omega arith)
 
     -- one that goes on behind itself
-    does : (i : Instr) (p q : ℕ) (stack next : List ℕ) (budget rest : ℕ) → IsAt own.code p i q → act i q own (at p stack) ≡ (Went, at q next) → Goes ctx s here (at q next) rest → rest + 1 ≤ budget
-        → Goes ctx s here (at p stack) budget
-    does i p q stack next budget rest stands row goes less = leads i p q q stack next budget rest stands row goes less
+    does : (i : Instr) (p q : ℕ) (stack next : List ℕ) (rest spare : ℕ) → IsAt own.code p i q → act i q own (at p stack) ≡ (Went, at q next) → Goes ctx s here (at q next) (c + rest)
+        → Goes ctx s here (at p stack) (c + (rest + (1 + spare)))
+    does i p q stack next rest spare stands row goes = leads i p q q stack next rest spare stands row goes
 
     -- both bounds are numbers of one kind
     aligned : has base first ≡ true → Goes ctx s here (at row.turns.aligned (word_of row.limit ∷ word_of first ∷ [])) (c + 24)
@@ -107,16 +94,13 @@ module _ (ctx : Setting) where
 
             by : (b : Bool) → has base first ≡ b → Goes ctx s here (at p (word_of first ∷ word_of row.limit ∷ [])) (c + 31)
             by true e =
-                does (Rgc 0 32767) p q (word_of first ∷ word_of row.limit ∷ []) (word_of first ∷ word_of row.limit ∷ []) (c + 31) (c + 30) one (does_test true e)
-                (does Swp q r (word_of first ∷ word_of row.limit ∷ []) (word_of row.limit ∷ word_of first ∷ []) (c + 30) (c + 24) two refl
-                (subst (λ (z : ℕ). Goes ctx s here (at z (word_of row.limit ∷ word_of first ∷ [])) (c + 24)) (sym last) (aligned e))
-                (omega arith))
-                (omega arith)
+                does (Rgc 0 32767) p q (word_of first ∷ word_of row.limit ∷ []) (word_of first ∷ word_of row.limit ∷ []) 30 0 one (does_test true e)
+                (does Swp q r (word_of first ∷ word_of row.limit ∷ []) (word_of row.limit ∷ word_of first ∷ []) 24 5 two refl
+                (subst (λ (z : ℕ). Goes ctx s here (at z (word_of row.limit ∷ word_of first ∷ [])) (c + 24)) (sym last) (aligned e)))
             by false e =
-                goes_one ctx s here (at p (word_of first ∷ word_of row.limit ∷ [])) (c + 31) c _
+                goes_one ctx s here (at p (word_of first ∷ word_of row.limit ∷ [])) 30 c _
                 (advances (at p (word_of first ∷ word_of row.limit ∷ [])) s.world _ (at_step ctx (at p (word_of first ∷ word_of row.limit ∷ [])) shared.program (Rgc 0 32767) q one ∙ does_test false e))
                 (traps left (sym row.count) e p (word_of first ∷ word_of row.limit ∷ []))
-                (omega arith)
 
       -- ---- a start outside has no turn
       module _ (way : outside_turns (compared_as base) step ≡ false) (leave : LeaveRow l own.code m.place row.turns.aligned row.end) where
@@ -128,48 +112,38 @@ module _ (ctx : Setting) where
 
         jumps : (b : Bool) → has base first ≡ b → Goes ctx s here (at leave.tested (truth (not b) ∷ word_of first ∷ word_of row.limit ∷ [])) (c + 28)
         jumps true e =
-            leads (Jpf leave.other) leave.tested leave.skip leave.other (0 ∷ word_of first ∷ word_of row.limit ∷ []) (word_of first ∷ word_of row.limit ∷ []) (c + 28) (c + 27) leave.jump
+            leads (Jpf leave.other) leave.tested leave.skip leave.other (0 ∷ word_of first ∷ word_of row.limit ∷ []) (word_of first ∷ word_of row.limit ∷ []) 27 0 leave.jump
             (yes _ _ _ (lt-ltb leave.other (length own.code) (instr_within own.code leave.other Swp row.turns.aligned leave.back)))
-            (does Swp leave.other row.turns.aligned (word_of first ∷ word_of row.limit ∷ []) (word_of row.limit ∷ word_of first ∷ []) (c + 27) (c + 24) leave.back refl (aligned e) (omega arith))
-            (omega arith)
+            (does Swp leave.other row.turns.aligned (word_of first ∷ word_of row.limit ∷ []) (word_of row.limit ∷ word_of first ∷ []) 24 2 leave.back refl (aligned e))
         jumps false e =
-            does (Jpf leave.other) leave.tested leave.skip (1 ∷ word_of first ∷ word_of row.limit ∷ []) (word_of first ∷ word_of row.limit ∷ []) (c + 28) (c + 27) leave.jump refl
-            (does Drp leave.skip leave.drop.0 (word_of first ∷ word_of row.limit ∷ []) (word_of row.limit ∷ []) (c + 27) (c + 26) leave.drop.1 refl
-            (does Drp leave.drop.0 leave.drop.2.0 (word_of row.limit ∷ []) [] (c + 26) (c + 25) leave.drop.2.1 refl
-            (goes_one ctx s here (at leave.drop.2.0 []) (c + 25) c (running (at row.end []) s.world)
+            does (Jpf leave.other) leave.tested leave.skip (1 ∷ word_of first ∷ word_of row.limit ∷ []) (word_of first ∷ word_of row.limit ∷ []) 27 0 leave.jump refl
+            (does Drp leave.skip leave.drop.0 (word_of first ∷ word_of row.limit ∷ []) (word_of row.limit ∷ []) 26 0 leave.drop.1 refl
+            (does Drp leave.drop.0 leave.drop.2.0 (word_of row.limit ∷ []) [] 25 0 leave.drop.2.1 refl
+            (goes_one ctx s here (at leave.drop.2.0 []) 24 c (running (at row.end []) s.world)
             (advances (at leave.drop.2.0 []) s.world _ (
             at_step ctx (at leave.drop.2.0 []) shared.program (Jmp row.end) leave.other (subst (λ (q : ℕ). IsAt own.code q (Jmp row.end) leave.other) (sym leave.drop.2.2) leave.leave)
             ∙ yes _ _ _ (lt-ltb row.end (length own.code) row.within)
             ))
-            (leaves left (sym row.count) e)
-            (omega arith))
-            (omega arith))
-            (omega arith))
-            (omega arith)
+            (leaves left (sym row.count) e))))
 
         -- whether the start's word is small is looked at
         looks : Goes ctx s here (at m.place (word_of row.limit ∷ word_of first ∷ [])) (c + 32)
         looks =
             let w : ℕ = word_of first in
             let b : ℕ = word_of row.limit in
-            does Swp m.place leave.look.0 (b ∷ w ∷ []) (w ∷ b ∷ []) (c + 32) (c + 31) leave.look.1 refl
-            (does Dup leave.look.0 leave.look.2.0 (w ∷ b ∷ []) (w ∷ w ∷ b ∷ []) (c + 31) (c + 30) leave.look.2.1 refl
-            (does (Liw 0) leave.look.2.0 leave.look.2.2.0 (w ∷ w ∷ b ∷ []) (0 ∷ w ∷ w ∷ b ∷ []) (c + 30) (c + 29) leave.look.2.2.1 refl
-            (does Lsi leave.look.2.2.0 leave.look.2.2.2.0 (0 ∷ w ∷ w ∷ b ∷ []) (truth (not (has base first)) ∷ w ∷ b ∷ []) (c + 29) (c + 28) leave.look.2.2.2.1
+            does Swp m.place leave.look.0 (b ∷ w ∷ []) (w ∷ b ∷ []) 31 0 leave.look.1 refl
+            (does Dup leave.look.0 leave.look.2.0 (w ∷ b ∷ []) (w ∷ w ∷ b ∷ []) 30 0 leave.look.2.1 refl
+            (does (Liw 0) leave.look.2.0 leave.look.2.2.0 (w ∷ w ∷ b ∷ []) (0 ∷ w ∷ w ∷ b ∷ []) 29 0 leave.look.2.2.1 refl
+            (does Lsi leave.look.2.2.0 leave.look.2.2.2.0 (0 ∷ w ∷ w ∷ b ∷ []) (truth (not (has base first)) ∷ w ∷ b ∷ []) 28 0 leave.look.2.2.2.1
             (ap (λ (y : Bool). let r : Event × State = (Went, at leave.look.2.2.2.0 (truth y ∷ w ∷ b ∷ [])) in r) (small_less first ∙ ap not (sym small)))
-            (subst (λ (q : ℕ). Goes ctx s here (at q (truth (not (has base first)) ∷ w ∷ b ∷ [])) (c + 28)) (sym leave.look.2.2.2.2) (jumps (has base first) refl))
-            (omega arith))
-            (omega arith))
-            (omega arith))
-            (omega arith)
+            (subst (λ (q : ℕ). Goes ctx s here (at q (truth (not (has base first)) ∷ w ∷ b ∷ [])) (c + 28)) (sym leave.look.2.2.2.2) (jumps (has base first) refl)))))
 
     -- whichever way a start of another type goes
     other_goes : (apart : covers base row.from ≡ false) (b : Bool) → outside_turns (compared_as base) step ≡ b → AlignAt l own.code false b m.place row.turns.aligned row.end
         → Goes ctx s here (at m.place (word_of row.limit ∷ word_of first ∷ [])) (c + 32)
     other_goes apart true way align =
-        does Swp m.place align.0 (word_of row.limit ∷ word_of first ∷ []) (word_of first ∷ word_of row.limit ∷ []) (c + 32) (c + 31) align.1 refl
+        does Swp m.place align.0 (word_of row.limit ∷ word_of first ∷ []) (word_of first ∷ word_of row.limit ∷ []) 31 0 align.1 refl
         (tested apart way (has base first) refl align.0 align.2.0 align.2.2.0 align.2.1 align.2.2.1 align.2.2.2)
-        (omega arith)
     other_goes apart false way align = looks apart way align
 
     by_kind : (b : Bool) → covers base row.from ≡ b → AlignAt l own.code b (outside_turns (compared_as base) step) m.place row.turns.aligned row.end

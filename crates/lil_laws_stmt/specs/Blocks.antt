@@ -3,25 +3,13 @@ use Rattle.std.proofs.Common.{◌≡◌, ℕ, ◌+◌, ◌-◌, ◌<◌, ◌≤�
 use Rattle.std.proofs.lemmas.Bool.{lt-ltb, le-ltb, cases_lt}
 use Rattle.lil_base.specs.declared.fault.LimitKind.TheVariants as limit
 use Rattle.lil_resolved.specs.Kinds.{Shape}
-use Rattle.lil_meaning.specs.Items.{Root, Place, Cells, Item, Going, Workspace, Source, heap_words}
-use Rattle.lil_meaning.specs.Need.{chain_of}
-use Rattle.lil_meaning.specs.Steps.{next}
+use Rattle.lil_meaning.specs.{Items.{Root, Place, Cells, Item, Going, Workspace, Source, heap_words}, Need.chain_of, Steps.next}
 use Rattle.lil_asm.specs.declared.instr.Instr.TheVariants.{Alc}
-use Rattle.lil_mcode.specs.declared.machine.Event.{Event}
-use Rattle.lil_mcode.specs.declared.machine.Event.TheVariants.{Went}
-use Rattle.lil_mcode.specs.Table.{State, stack_of, going, mstep, take_row}
+use Rattle.lil_mcode.specs.{declared.machine.Event.{Event, TheVariants.Went}, Table.{State, stack_of, going, mstep, take_row}}
 use Rattle.lil_frames.specs.Words.{zeros, cleared}
 use Rattle.lil_table.specs.Rows.{IsAt}
-use Rattle.lil_match.specs.Goes.{OwnWords, IsHeap, Shared, Lands, Goes}
-use Rattle.lil_match.specs.Running.{running}
-use Rattle.lil_match.specs.Parts.{yes, no}
-use Rattle.lil_match.specs.Splices.{spliced_length, spliced_before, spliced_there, spliced_after, zeros_length, zeros_word}
-use Rattle.lil_match.specs.Homes.{Fixed, Free, Home, Extends, lives, address, Mem}
-use Rattle.lil_match.specs.Costs.{cost_of, top_low}
-use Rattle.lil_match.specs.Waits.{Setting, frame_of, moved, Quiet, Around, Rows}
-use Rattle.lil_match.specs.Known.{known_kept, each_known, each_comes}
-use Rattle.lil_match.specs.Kept.{first_words, stack_above, stands_kept, chained_kept, rows_kept}
-use Rattle.lil_match.specs.Steps.{advances, at_step, rows_ahead, goes_one_in, goes_full}
+use Rattle.lil_match.specs.{Goes.{OwnWords, IsHeap, Shared, Lands, Goes}, Running.running, Parts.{yes, no}, Splices.{spliced_length, spliced_before, spliced_there, spliced_after, zeros_length, zeros_word}, Homes.{Fixed, Free, Home, Extends, lives, address, Mem}, Costs.{cost_of, top_low}, Waits.{Setting, frame_of, moved, Quiet, Around, Rows}}
+use Rattle.lil_match.specs.{Known.{known_kept, each_known, each_comes}, Kept.{first_words, stack_above, stands_kept, chained_kept, rows_kept}, Steps.{advances, at_step, rows_ahead, goes_one_in, goes_full}}
 use Rattle.lil_laws_stmt.specs.Painting.{free_fixed}
 
 module _ (ctx : Setting) where
@@ -147,9 +135,9 @@ module _ (ctx : Setting) where
                     base_is = g.base_is;
                     limit_is = ap (λ (i : ℕ). i - (words + 2)) g.limit_is;
                     bodies_are = g.bodies_are;
-                    known = known_kept ctx.library ctx.loaded ctx.table ctx.activations h x filled.base filled.shape filled.targets fixed_kept st.frame g.known;
-                    callers = each_known ctx.library ctx.loaded ctx.table ctx.activations h x filled.base filled.shape filled.targets fixed_kept st.callers g.callers;
-                    comes = each_comes ctx.library ctx.loaded ctx.table ctx.activations h x filled.base filled.shape filled.targets fixed_kept st.base st.bodies g.comes;
+                    known = known_kept ctx.library ctx.loaded ctx.table ctx.activations ctx.activations (λ i b e. e) h x filled.base filled.shape filled.targets fixed_kept st.frame g.known;
+                    callers = each_known ctx.library ctx.loaded ctx.table ctx.activations ctx.activations (λ i b e. e) h x filled.base filled.shape filled.targets fixed_kept st.callers g.callers;
+                    comes = each_comes ctx.library ctx.loaded ctx.table ctx.activations ctx.activations (λ i b e. e) h x filled.base filled.shape filled.targets fixed_kept st.base st.bodies g.comes;
                     stands = stands_kept h.owner x.owner st.base m.top st.frame st.callers (λ i from less. filled.owner i (inl (omega (arith, less, roomy)))) g.stands;
                     links = chained_kept h.shadow x.shadow ctx.activations ctx.activations (λ i b e. e) h.owner st.base m.top st.frame st.callers g.stands (λ i from below. filled.shadow i) g.links;
                     room = λ i from less. filled.owner i (inl (omega (arith, less, roomy))) ∙ g.room i from (omega (arith, less, roomy));

@@ -1,27 +1,15 @@
 -- The end of a body that others follow: the next one begins.
 use Rattle.std.proofs.Common.{◌≡◌, ℕ, ◌+◌, ◌-◌, ◌<◌, ◌≤◌, ◌⊎◌, inl, inr, Some, List, [], ◌∷◌, length, map, get_or, refl, sym, ap, ◌∙◌, subst, ⊎_elim, arith, eq-eqb}
-use Rattle.std.proofs.lemmas.Bool.{le-ltb, lt-ltb, cases_lt}
-use Rattle.std.proofs.lemmas.Option.{slice_get_within}
+use Rattle.std.proofs.lemmas.{Bool.{le-ltb, lt-ltb, cases_lt}, Option.slice_get_within}
 use Rattle.lil_base.specs.declared.fault.LimitKind.TheVariants as limit
-use Rattle.lil_resolved.specs.Kinds.{offset}
-use Rattle.lil_meaning.specs.Items.{Root, End, Item, Perform, Activation, Going, Source}
-use Rattle.lil_meaning.specs.Need.{chain}
+use Rattle.lil_meaning.specs.{Items.{End, Item, Perform, Activation, Going, Source}, Need.chain}
 use Rattle.lil_asm.specs.declared.instr.Instr.TheVariants.{Ent, Rtn}
-use Rattle.lil_mcode.specs.declared.machine.Event.TheVariants.{Went}
-use Rattle.lil_mcode.specs.Table.{Module, State, stack_of, module_at, mstep, end_row, body_row, begun_body, enter_row}
+use Rattle.lil_mcode.specs.{declared.machine.Event.TheVariants.Went, Table.{Module, State, stack_of, module_at, mstep, end_row, body_row, begun_body, enter_row}}
 use Rattle.lil_frames.specs.Words.{zeros, cleared}
 use Rattle.lil_table.specs.Rows.{IsAt}
-use Rattle.lil_match.specs.Goes.{OwnWords, Linked, Comes, Shared, IsShort, Goes, number_of}
-use Rattle.lil_match.specs.Running.{running, advanced}
-use Rattle.lil_match.specs.Parts.{yes, no}
-use Rattle.lil_match.specs.Homes.{Of, Own, Fixed, own_fixed, Free, Home, extends_self, Mem, is_word_kept, of_free, scalar_owned}
-use Rattle.lil_match.specs.Splices.{spliced_length, spliced_before, spliced_after, zeros_length}
-use Rattle.lil_match.specs.Costs.{known_costs, items_cost}
-use Rattle.lil_match.specs.Waits.{Quiet, outside, Frame, Setting, at_home, with_frames, RowsOf, NextBody}
-use Rattle.lil_match.specs.Known.{known_kept, each_comes}
-use Rattle.lil_match.specs.Kept.{all_above, rows_kept}
-use Rattle.lil_match.specs.Steps.{advances, at_step, rows_ahead, goes_one_in, goes_full, goes_after}
-use Rattle.lil_laws_stmt.specs.Painting.{own_free, free_fixed, of_own, painted, painted_there, painted_beside, Side, Before, Between, Behind', side}
+use Rattle.lil_match.specs.{Goes.{OwnWords, Linked, Comes, Shared, IsShort, Goes, number_of}, Running.{running, advanced}, Parts.{yes, no}, Homes.{Own, Fixed, Free, Home, extends_self, Mem, Ours, Stays, Turns, mem_turned, fixed_turned}, Splices.{spliced_length, spliced_before, spliced_after, zeros_length}, Costs.{known_costs, items_cost}}
+use Rattle.lil_match.specs.{Waits.{Quiet, outside, Frame, Setting, at_home, with_frames, RowsOf, NextBody}, Known.{known_kept, each_comes}, Kept.{all_above, rows_kept}, Steps.{advances, at_step, rows_ahead, goes_one_in, goes_full, goes_after}}
+use Rattle.lil_laws_stmt.specs.Painting.{own_free, painted, painted_there, painted_beside, Side, Before, Between, Behind', side}
 
 module _ (ctx : Setting) (f b : Frame) (bs : List Frame) where
   abbrev ending : Setting
@@ -132,27 +120,12 @@ module _ (ctx : Setting) (f b : Frame) (bs : List Frame) where
       shadow_beside : (a : ℕ) → (a < ctx.stack.base) ⊎ ((ctx.stack.base ≤ a) × (ctx.stack.base + b.layout.frame ≤ a)) → x.shadow a ≡ ctx.home.shadow a
       shadow_beside a o = painted_beside ctx.home.shadow ctx.stack.base (ctx.stack.base + b.layout.frame) (λ a. get_or entered.store a 0) a o
 
-      -- no root's word is one of the stack
-      no_root : (r : Root) (a : ℕ) → ctx.stack.base ≤ a → a < ctx.stack.limit → ctx.home.owner a ≡ Of r → ⊥
-      no_root r a from below is =
+      -- all words of the stack are ours
+      was_ours : (a : ℕ) → ctx.stack.base ≤ a → a < ctx.stack.limit → Ours (ctx.home.owner a)
+      was_ours a from below =
           ⊎_elim (λ (l : a < m.top).
-          of_own r (sym is ∙ ap ctx.home.owner (let e : a ≡ f.at + (a - f.at) = omega (arith, from, shared.standing.stands.1) in e) ∙ words.own (a - f.at) (omega (arith, from, l, shared.standing.stands.1))))
-          (λ (g : m.top ≤ a). of_free r ctx.stack.base (sym is ∙ shared.standing.room a g below)) (cases_lt a m.top)
-
-      -- nor one that never changes
-      no_fixed : (a : ℕ) → ctx.stack.base ≤ a → a < ctx.stack.limit → ctx.home.owner a ≡ Fixed → ⊥
-      no_fixed a from below is =
-          ⊎_elim (λ (l : a < m.top).
-          own_fixed (sym (words.own (a - f.at) (omega (arith, from, l, shared.standing.stands.1))) ∙ ap ctx.home.owner (let e : f.at + (a - f.at) ≡ a = omega (arith, from, shared.standing.stands.1) in e) ∙ is))
-          (λ (g : m.top ≤ a). free_fixed ctx.stack.base (sym (shared.standing.room a g below) ∙ is)) (cases_lt a m.top)
-
-      fixed_kept : (a : ℕ) → ctx.home.owner a ≡ Fixed → (x.owner a ≡ Fixed) × (x.shadow a ≡ ctx.home.shadow a)
-      fixed_kept a is =
-          ⊎_elim (λ (l : a < ctx.stack.base). (owner_beside a (inl l) ∙ is, shadow_beside a (inl l)))
-          (λ (g : ctx.stack.base ≤ a).
-          ⊎_elim (λ (l : a < ctx.stack.limit). absurd (no_fixed a g l is))
-          (λ (o : ctx.stack.limit ≤ a). (owner_beside a (inr o) ∙ is, shadow_beside a (inr (g, omega (arith, o, comes.at, room))))) (cases_lt a ctx.stack.limit))
-          (cases_lt a ctx.stack.base)
+          inl (ap ctx.home.owner (let e : a ≡ f.at + (a - f.at) = omega (arith, from, shared.standing.stands.1) in e) ∙ words.own (a - f.at) (omega (arith, from, l, shared.standing.stands.1))))
+          (λ (g : m.top ≤ a). inr (ctx.stack.base, shared.standing.room a g below)) (cases_lt a m.top)
 
       based : (m.base ≡ ctx.stack.base) × (m.base + b.layout.frame < 65536)
       based = (shared.standing.base_is, omega (arith, shared.standing.base_is, comes.at, room, shared.standing.high))
@@ -174,41 +147,20 @@ module _ (ctx : Setting) (f b : Frame) (bs : List Frame) where
           spliced_after begun.store (m.base + 4) zero_words a (omega (arith, mark_long, zero_long, based.1, comes.mark)) (omega (arith, zero_long, g, based.0, comes.mark))
           ∙ spliced_after m.store m.base mark a (omega (arith, shared.mem.long, based.1, comes.mark)) (omega (arith, g, based.0, comes.mark))
 
-      -- where a word lies that isn't the stack's
-      outside_is : (a : ℕ) (r : Root) → ctx.home.owner a ≡ Of r → (a < ctx.stack.base) ⊎ (ctx.stack.limit ≤ a)
-      outside_is a r is = ⊎_elim (λ (l : a < ctx.stack.base). inl l) (λ (g : ctx.stack.base ≤ a). ⊎_elim (λ (l : a < ctx.stack.limit). absurd (no_root r a g l is)) (λ (o : ctx.stack.limit ≤ a). inr o) (cases_lt a ctx.stack.limit)) (cases_lt a ctx.stack.base)
+      each : (a : ℕ) → Stays h x m.store entered.store a ⊎ Turns h x entered.store a
+      each a = by (side ctx.stack.base (ctx.stack.base + b.layout.frame) a) (cases_lt a ctx.stack.limit)
+        where
+          by : Side ctx.stack.base (ctx.stack.base + b.layout.frame) a → (a < ctx.stack.limit) ⊎ (ctx.stack.limit ≤ a) → Stays h x m.store entered.store a ⊎ Turns h x entered.store a
+          by (Before l) o = inl (record { owner = owner_beside a (inl l); shadow = shadow_beside a (inl l); word = stays a (inl l) })
+          by (Between g l) o = inr (record { before = was_ours a g (omega (arith, l, comes.at, room)); after = inl (owner_own a g l); word = λ own. sym (shadow_there a g l) })
+          by (Behind' g l) (inl o) = inr (record { before = was_ours a g o; after = inr (ctx.stack.base, owner_free a l o); word = λ own. absurd (own_free ctx.stack.base (sym own ∙ owner_free a l o)) })
+          by (Behind' g l) (inr o) = inl (record { owner = owner_beside a (inr o); shadow = shadow_beside a (inr (g, l)); word = stays a (inr l) })
 
       mem : Mem x s.cells entered.store
-      mem = record {
-        owned = λ r i l. owner_beside (h.base r + i) (outside_is (h.base r + i) r (shared.mem.owned r i l)) ∙ shared.mem.owned r i l;
-        inside = shared.mem.inside;
-        holds = λ r q j e.
-            let old = shared.mem.holds r q j e in
-            let a : ℕ = h.base r + offset (h.shape r) q in
-            let at = outside_is (h.base r + offset (h.shape r) q) r (scalar_owned h s.cells m.store r q j shared.mem e).0 in
-            is_word_kept h x (λ o l. refl) (λ o l. refl) refl (extends_self h.workspaces) j (s.cells r q) (get_or entered.store (h.base r + offset (h.shape r) q) 0)
-            (record {
-              word = stays (h.base r + offset (h.shape r) q) (⊎_elim (λ (l : h.base r + offset (h.shape r) q < ctx.stack.base). inl l) (λ (g : ctx.stack.limit ≤ h.base r + offset (h.shape r) q). inr (omega (arith, g, comes.at, room))) at)
-                  ∙ old.word;
-              fits = old.fits;
-              refers = old.refers;
-            });
-        fixed = λ a own. fixed_there a own (side ctx.stack.base (ctx.stack.base + b.layout.frame) a) (cases_lt a ctx.stack.limit);
-        kept = λ a own. kept a own (side ctx.stack.base (ctx.stack.base + b.layout.frame) a) (cases_lt a ctx.stack.limit);
-        long = long;
-      }
-        where
-          fixed_there : (a : ℕ) → x.owner a ≡ Fixed → Side ctx.stack.base (ctx.stack.base + b.layout.frame) a → (a < ctx.stack.limit) ⊎ (ctx.stack.limit ≤ a) → get_or entered.store a 0 ≡ x.shadow a
-          fixed_there a e (Before l) o = stays a (inl l) ∙ shared.mem.fixed a (sym (owner_beside a (inl l)) ∙ e) ∙ sym (shadow_beside a (inl l))
-          fixed_there a e (Between g l) o = absurd (own_fixed (sym (owner_own a g l) ∙ e))
-          fixed_there a e (Behind' g l) (inl o) = absurd (free_fixed ctx.stack.base (sym (owner_free a l o) ∙ e))
-          fixed_there a e (Behind' g l) (inr o) = stays a (inr l) ∙ shared.mem.fixed a (sym (owner_beside a (inr o)) ∙ e) ∙ sym (shadow_beside a (inr (g, l)))
+      mem = mem_turned h m.store entered.store x.owner x.shadow h.workspaces each s.cells shared.mem (extends_self h.workspaces) (long ∙ sym shared.mem.long)
 
-          kept : (a : ℕ) → x.owner a ≡ Own → Side ctx.stack.base (ctx.stack.base + b.layout.frame) a → (a < ctx.stack.limit) ⊎ (ctx.stack.limit ≤ a) → get_or entered.store a 0 ≡ x.shadow a
-          kept a own (Before l) o = stays a (inl l) ∙ shared.mem.kept a (sym (owner_beside a (inl l)) ∙ own) ∙ sym (shadow_beside a (inl l))
-          kept a own (Between g l) o = sym (shadow_there a g l)
-          kept a own (Behind' g l) (inl o) = absurd (own_free ctx.stack.base (sym own ∙ owner_free a l o))
-          kept a own (Behind' g l) (inr o) = stays a (inr l) ∙ shared.mem.kept a (sym (owner_beside a (inr o)) ∙ own) ∙ sym (shadow_beside a (inr (g, l)))
+      fixed_kept : (a : ℕ) → ctx.home.owner a ≡ Fixed → (x.owner a ≡ Fixed) × (x.shadow a ≡ ctx.home.shadow a)
+      fixed_kept = fixed_turned h m.store entered.store x.owner x.shadow h.workspaces each
 
       enters : advanced (running begun s.world) ≡ running entered s.world
       enters =
@@ -236,9 +188,9 @@ module _ (ctx : Setting) (f b : Frame) (bs : List Frame) where
                   base_is = g.base_is;
                   limit_is = g.limit_is;
                   bodies_are = refl;
-                  known = known_kept ctx.library ctx.loaded ctx.table ctx.activations h x (λ r e. refl) (λ r e. refl) refl fixed_kept b comes.known;
+                  known = known_kept ctx.library ctx.loaded ctx.table ctx.activations ctx.activations (λ i b e. e) h x (λ r e. refl) (λ r e. refl) refl fixed_kept b comes.known;
                   callers = tt;
-                  comes = each_comes ctx.library ctx.loaded ctx.table ctx.activations h x (λ r e. refl) (λ r e. refl) refl fixed_kept ctx.stack.base bs g.comes.1;
+                  comes = each_comes ctx.library ctx.loaded ctx.table ctx.activations ctx.activations (λ i b e. e) h x (λ r e. refl) (λ r e. refl) refl fixed_kept ctx.stack.base bs g.comes.1;
                   stands = (record { mark = comes.mark; below = omega (arith, comes.at, g.base_is); most = omega (arith, comes.at, g.base_is); own = λ i l. owner_own (b.at + i) (omega (arith, comes.at)) (omega (arith, l, g.base_is)) }, comes.at);
                   links = subst (λ (es : List ℕ). Linked x.shadow ctx.activations b.activation b.at es []) (sym comes.chain) tt;
                   room = λ a from below. owner_free a (omega (arith, from, g.base_is)) below;

@@ -1,34 +1,18 @@
 -- Calls of procedures: a mark, the call, and the words of the frame.
-use Rattle.std.proofs.Common.{◌≡◌, ℕ, zero, suc, ◌+◌, ◌-◌, ◌<◌, ◌≤◌, ◌⊎◌, inl, inr, Option, Some, None, List, [], ◌∷◌, ◌++◌, length, drop, get_or, refl, sym, ap, ◌∙◌, subst, ⊎_elim, arith, eq-eqb}
+use Rattle.std.proofs.Common.{◌≡◌, ℕ, zero, suc, ◌+◌, ◌-◌, ◌<◌, ◌≤◌, ◌⊎◌, inl, inr, Option, Some, None, List, [], ◌∷◌, ◌++◌, length, get_or, drop-cons, refl, sym, ap, ◌∙◌, subst, ⊎_elim, arith, eq-eqb}
 use Rattle.std.specs.Prelude.{slice_get, option_map}
-use Rattle.std.proofs.lemmas.Bool.{lt-ltb, le-ltb, le-leb, cases_lt, and_from}
-use Rattle.std.proofs.lemmas.Option.{slice_get_within}
+use Rattle.std.proofs.lemmas.{Bool.{lt-ltb, le-ltb, le-leb, cases_lt, and_from}, Option.slice_get_within}
 use Rattle.lil_base.specs.declared.fault.LimitKind.TheVariants as limit
-use Rattle.lil_resolved.specs.Kinds.{Shape, offset}
-use Rattle.lil_resolved.specs.Resolved.{Procedure, Call, Statements, Empty, Then, Resolved, procedure_by}
-use Rattle.lil_resolved.specs.Sizes.{frame_words}
-use Rattle.lil_meaning.specs.Items.{loaded_at, Do, End, Item, Perform, Activation, Going, Source, doing}
-use Rattle.lil_meaning.specs.Need.{frame_by, frame_of, cost, unless_body, with_callers, chain}
-use Rattle.lil_meaning.specs.Steps.{next, current, owner_of, procedure_of, procedures_of, procedure_name, its_name, outer_of, level_out, declaring, entered, called_by}
+use Rattle.lil_resolved.specs.{Resolved.{Procedure, Call, Statements, Empty, Then, Resolved, procedure_by}, Sizes.frame_words}
+use Rattle.lil_meaning.specs.{Items.{loaded_at, Do, End, Item, Perform, Activation, Going, Source, doing}, Need.{frame_by, frame_of, cost, unless_body, with_callers, chain}, Steps.{next, current, owner_of, procedure_of, procedures_of, procedure_name, its_name, outer_of, level_out, declaring, entered, called_by}}
 use Rattle.lil_asm.specs.declared.instr.Instr.TheVariants.{Mrk, Cll, Ent, Rtn}
 use Rattle.lil_mcode.specs.Table.{Module, State, stack_of, module_at, mstep, frame_out, link_word, mark_row, its_entry, entry_in, called_row, enter_row}
 use Rattle.lil_frames.specs.Words.{spliced, zeros, cleared}
 use Rattle.lil_table.specs.Rows.{Declared, loop_place}
-use Rattle.lil_match.specs.Goes.{OwnWords, Grows, Linked, Entered, IsKnown, Shared, IsShort, Lands, Goes}
-use Rattle.lil_match.specs.Running.{running, advanced}
-use Rattle.lil_match.specs.Parts.{yes, no}
-use Rattle.lil_match.specs.Homes.{Own, Fixed, own_fixed, Free, Home, extends_self, Mem, is_word_kept, of_free, scalar_owned}
-use Rattle.lil_match.specs.Splices.{spliced_length, spliced_before, spliced_there, spliced_after, zeros_length}
-use Rattle.lil_match.specs.Waits.{Quiet, Around, outside, Frame, Stack, frames_of, Setting, laid_out, renewed, Rows, Ahead, Waiting, frame_of as frame_at}
-use Rattle.lil_match.specs.Known.{known_kept, each_known, each_comes, known_grown, each_grown, comes_grown}
-use Rattle.lil_match.specs.Kept.{EachAbove, first_words, stack_above, stands_kept, chained_kept, loops_fit, rows_renewed}
-use Rattle.lil_match.specs.Laid.{codes_part}
-use Rattle.lil_match.specs.Costs.{cost_of, known_costs, each_costs, items_cost, top_low}
-use Rattle.lil_match.specs.Climbs.{Climbs, climbs, first_own}
-use Rattle.lil_match.specs.Steps.{closed, advances, at_step, at_once, rows_ahead, goes_after, goes_full, goes_one_grown}
-use Rattle.lil_match.specs.Orders.{instr_within}
-use Rattle.lil_laws_stmt.specs.Painting.{free_fixed, painted, painted_there, painted_beside, Side, Before, Between, Behind', side}
-use Rattle.lil_laws_stmt.specs.Control.{body_rows}
+use Rattle.lil_match.specs.{Goes.{OwnWords, Grows, Linked, Entered, IsKnown, Shared, IsShort, Lands, Goes}, Running.{running, advanced}, Parts.{yes, no}, Homes.{Own, Fixed, Free, Home, extends_self, Mem, Stays, Turns, mem_turned, fixed_turned}, Splices.{spliced_length, spliced_before, spliced_there, spliced_after, zeros_length}}
+use Rattle.lil_match.specs.{Waits.{Quiet, Around, outside, Frame, Stack, frames_of, Setting, laid_out, renewed, Rows, Ahead, Waiting, frame_of as frame_at}, Known.{known_kept, each_known, each_comes}, Kept.{EachAbove, first_words, stack_above, stands_kept, chained_kept, loops_fit, rows_renewed}, Laid.known_part}
+use Rattle.lil_match.specs.{Costs.{cost_of, known_costs, each_costs, items_cost, top_low}, Climbs.{Climbs, climbs, first_own}, Steps.{closed, advances, at_step, at_once, rows_ahead, goes_after, goes_full, goes_one_grown}, Orders.instr_within}
+use Rattle.lil_laws_stmt.specs.{Painting.{painted, painted_there, painted_beside, Side, Before, Between, Behind', side}, Control.body_rows}
 
 -- ---- lists of activations
 last_there : (xs : List Activation) (a : Activation) → slice_get (xs ++ a ∷ []) (length xs) ≡ Some a
@@ -70,16 +54,6 @@ doing_chain : (library : List Resolved) (loaded : List ℕ) (acts : List Activat
 doing_chain library loaded acts Empty k = refl
 doing_chain library loaded acts (Then s ss) k = doing_chain library loaded acts ss k
 
-pub record One (xs : List ℕ) (i : ℕ) : Type 0 where
-  pub here : ℕ
-  pub rest : List ℕ
-  pub is : drop i xs ≡ here ∷ rest
-
-one_left : (xs : List ℕ) (i : ℕ) → i < length xs → One xs i
-one_left [] i less = absurd (omega (arith, less))
-one_left (x ∷ xs) zero less = record { here = x; rest = xs; is = refl }
-one_left (x ∷ xs) (suc i) less = let r = one_left xs i (omega (arith, less)) in record { here = r.here; rest = r.rest; is = r.is }
-
 module _ (ctx : Setting) where
   open ctx use {library, loaded, table, activations, home as h, stack as st}
   open frame_at ctx use {own}
@@ -113,10 +87,7 @@ module _ (ctx : Setting) where
     code = shared.standing.known.codes proc row.part.here.its row.part.here.known
 
     owner_is : owner_of (slice_get s.activations (current k)) ≡ ctx.stack.frame.number
-    owner_is =
-        ap (λ (i : ℕ). owner_of (slice_get s.activations i)) close
-        ∙ ap (λ (z : List Activation). owner_of (slice_get z ctx.stack.frame.activation)) shared.activations_are
-        ∙ known.owner
+    owner_is = cc (close, shared.activations_are, known.owner)
 
     abbrev new : Activation
     new = called_by s.activations (owner_of (slice_get s.activations (current k))) (current k) proc levels
@@ -213,8 +184,8 @@ module _ (ctx : Setting) where
             (rows_renewed k ctx all ctx.home ctx.stack.limit (ctx.stack.base + 4) above.1 Quiet row.part.end [] c a
             (record { shadow = λ i from below. refl; base = λ r e l. refl; shape = λ r e l. refl; targets = refl; workspaces = extends_self ctx.home.workspaces })
             row.then) (
-              known_costs ctx.library ctx.loaded ctx.table all ctx.home ctx.stack.frame (known_grown ctx.library ctx.loaded ctx.table ctx.activations all ctx.home grows ctx.stack.frame known),
-              each_costs ctx.library ctx.loaded ctx.table all ctx.home ctx.stack.callers (each_grown ctx.library ctx.loaded ctx.table ctx.activations all ctx.home grows ctx.stack.callers shared.standing.callers),
+              known_costs ctx.library ctx.loaded ctx.table all ctx.home ctx.stack.frame (known_kept ctx.library ctx.loaded ctx.table ctx.activations all grows ctx.home ctx.home (λ r e. refl) (λ r e. refl) refl (λ i e. (e, refl)) ctx.stack.frame known),
+              each_costs ctx.library ctx.loaded ctx.table all ctx.home ctx.stack.callers (each_known ctx.library ctx.loaded ctx.table ctx.activations all grows ctx.home ctx.home (λ r e. refl) (λ r e. refl) refl (λ i e. (e, refl)) ctx.stack.callers shared.standing.callers),
             )
 
     short : m.limit < m.top + frame_words row.part.here.its.body → IsShort ctx.library ctx.stack.base (next ctx.library now)
@@ -317,47 +288,19 @@ module _ (ctx : Setting) where
       was_free : (i : ℕ) → m.top ≤ i → i < m.top + frame_words row.part.here.its.body → ctx.home.owner i ≡ Free ctx.stack.base
       was_free i from below = shared.standing.room i from (omega (arith, below, room))
 
-      -- a word that isn't free lies beside them
-      used : (i : ℕ) → (ctx.home.owner i ≡ Free ctx.stack.base → ⊥) → Beside i
-      used i some = by (side m.top (m.top + frame_words row.part.here.its.body) i)
+      each : (i : ℕ) → Stays h x m.store inside.store i ⊎ Turns h x inside.store i
+      each i = by (side m.top (m.top + frame_words row.part.here.its.body) i)
         where
-          by : Side m.top (m.top + frame_words row.part.here.its.body) i → Beside i
-          by (Before z) = inl z
-          by (Between z y) = absurd (some (was_free i z y))
-          by (Behind' z y) = inr (z, y)
-
-      stays_beside : (i : ℕ) → Beside i → get_or inside.store i 0 ≡ get_or m.store i 0
-      stays_beside i (inl z) = stays i (inl z)
-      stays_beside i (inr z) = stays i (inr z.1)
-
-      fixed_kept : (i : ℕ) → ctx.home.owner i ≡ Fixed → (x.owner i ≡ Fixed) × (x.shadow i ≡ ctx.home.shadow i)
-      fixed_kept i is =
-          let o = used i (λ free. free_fixed ctx.stack.base (sym free ∙ is)) in
-          (owner_beside i o ∙ is, shadow_beside i o)
+          by : Side m.top (m.top + frame_words row.part.here.its.body) i → Stays h x m.store inside.store i ⊎ Turns h x inside.store i
+          by (Before z) = inl (record { owner = owner_beside i (inl z); shadow = shadow_beside i (inl z); word = stays i (inl z) })
+          by (Between z y) = inr (record { before = inr (ctx.stack.base, was_free i z y); after = inl (owner_own i z y); word = λ own. sym (shadow_there i z y) })
+          by (Behind' z y) = inl (record { owner = owner_beside i (inr (z, y)); shadow = shadow_beside i (inr (z, y)); word = stays i (inr y) })
 
       mem : Mem x s.cells inside.store
-      mem = record {
-        owned = λ r i less. let o = used (h.base r + i) (λ free. of_free r ctx.stack.base (sym (shared.mem.owned r i less) ∙ free)) in owner_beside (h.base r + i) o ∙ shared.mem.owned r i less;
-        inside = shared.mem.inside;
-        holds = λ r q j e.
-            let old = shared.mem.holds r q j e in
-            let o = used (h.base r + offset (h.shape r) q) (λ free. of_free r ctx.stack.base (sym (scalar_owned h s.cells m.store r q j shared.mem e).0 ∙ free)) in
-            is_word_kept h x (λ i z. refl) (λ i z. refl) refl (extends_self h.workspaces) j (s.cells r q) (get_or inside.store (h.base r + offset (h.shape r) q) 0)
-            (record { word = stays_beside (h.base r + offset (h.shape r) q) o ∙ old.word; fits = old.fits; refers = old.refers });
-        kept = λ i own. kept i own (side m.top (m.top + frame_words row.part.here.its.body) i);
-        fixed = λ i is. fixed_there i is (side m.top (m.top + frame_words row.part.here.its.body) i);
-        long = long;
-      }
-        where
-          kept : (i : ℕ) → x.owner i ≡ Own → Side m.top (m.top + frame_words row.part.here.its.body) i → get_or inside.store i 0 ≡ x.shadow i
-          kept i own (Before z) = stays i (inl z) ∙ shared.mem.kept i (sym (owner_beside i (inl z)) ∙ own) ∙ sym (shadow_beside i (inl z))
-          kept i own (Between z y) = sym (shadow_there i z y)
-          kept i own (Behind' z y) = stays i (inr y) ∙ shared.mem.kept i (sym (owner_beside i (inr (z, y))) ∙ own) ∙ sym (shadow_beside i (inr (z, y)))
+      mem = mem_turned h m.store inside.store x.owner x.shadow h.workspaces each s.cells shared.mem (extends_self h.workspaces) (long ∙ sym shared.mem.long)
 
-          fixed_there : (i : ℕ) → x.owner i ≡ Fixed → Side m.top (m.top + frame_words row.part.here.its.body) i → get_or inside.store i 0 ≡ x.shadow i
-          fixed_there i is (Before z) = stays i (inl z) ∙ shared.mem.fixed i (sym (owner_beside i (inl z)) ∙ is) ∙ sym (shadow_beside i (inl z))
-          fixed_there i is (Between z y) = absurd (own_fixed (sym (owner_own i z y) ∙ is))
-          fixed_there i is (Behind' z y) = stays i (inr y) ∙ shared.mem.fixed i (sym (owner_beside i (inr (z, y))) ∙ is) ∙ sym (shadow_beside i (inr (z, y)))
+      fixed_kept : (i : ℕ) → ctx.home.owner i ≡ Fixed → (x.owner i ≡ Fixed) × (x.shadow i ≡ ctx.home.shadow i)
+      fixed_kept = fixed_turned h m.store inside.store x.owner x.shadow h.workspaces each
 
       -- ---- the new frame
       abbrev frame : Frame
@@ -379,41 +322,21 @@ module _ (ctx : Setting) where
 
       new_known : IsKnown ctx.library ctx.loaded ctx.table all x frame
       new_known =
-          let kept = known_kept ctx.library ctx.loaded ctx.table ctx.activations h x (λ r e. refl) (λ r e. refl) refl fixed_kept ctx.stack.frame known in
-          record {
-            known = known.known;
-            named = known.named;
-            its = new;
-            runs = runs;
-            owner = ap owner_of runs ∙ owner_is;
-            called = ap procedure_of runs;
-            entered = record { entry = code.entry; there = code.there ∙ ap (λ (n : Option (List ℕ)). Some (code.entry, n)) (sym (name_known (loaded_at ctx.library ctx.loaded ctx.stack.frame.number) proc row.part.here.its listed)) };
-            size = code.frame ∙ sym (frame_known (loaded_at ctx.library ctx.loaded ctx.stack.frame.number) proc row.part.here.its listed);
-            procedures = code.part.procedures ∙ known.procedures;
-            codes = codes_part ctx.stack.frame.own ctx.stack.frame.layout code.inner code.part known.codes;
-            variables = λ v o t at typed.
-                kept.variables v o t (ap (λ (os : List ℕ). slice_get os v) (sym code.part.offsets) ∙ at) (ap (λ (ts : List Shape). slice_get ts v) (sym code.part.variables) ∙ typed);
-            strings = λ i less.
-                let old = kept.strings i (omega (arith, less, ap length code.part.strings)) in
-                let at : ctx.stack.frame.own.base + (ctx.stack.frame.layout.words + i) ≡ ctx.stack.frame.own.base + (code.inner.words + i) = omega (arith, code.part.words) in (
-                  ap x.owner (sym at) ∙ old.0,
-                  ap x.shadow (sym at) ∙ old.1 ∙ ap (λ (ws : List ℕ). get_or ws i 0) (sym code.part.strings),
-                );
-            inside = omega (arith, known.inside, code.part.words, ap length code.part.strings);
-            targets = code.part.targets ∙ known.targets;
-            own_targets = known.own_targets;
-          }
+          let kept = known_kept ctx.library ctx.loaded ctx.table ctx.activations ctx.activations (λ i b e. e) h x (λ r e. refl) (λ r e. refl) refl fixed_kept ctx.stack.frame known in
+          known_part ctx.library ctx.loaded ctx.table ctx.activations all x ctx.stack.frame code.inner (length s.activations) proc m.top row.part.end code.part new runs (ap owner_of runs ∙ owner_is) (ap procedure_of runs)
+          (record { entry = code.entry; there = code.there ∙ ap (λ (n : Option (List ℕ)). Some (code.entry, n)) (sym (name_known (loaded_at ctx.library ctx.loaded ctx.stack.frame.number) proc row.part.here.its listed)) })
+          (code.frame ∙ sym (frame_known (loaded_at ctx.library ctx.loaded ctx.stack.frame.number) proc row.part.here.its listed)) kept
 
       -- its first word says where the frame of the activation around it begins
       linked : (n : ℕ) → levels ≡ n → Declared ctx.stack.frame.layout.chain n row.part.here.its.around
           → Linked x.shadow all (length s.activations) m.top (proc ∷ row.part.here.its.around) (ctx.stack.frame ∷ ctx.stack.callers)
       linked zero e d = subst (λ (es : List ℕ). Linked x.shadow all (length s.activations) m.top (proc ∷ es) (ctx.stack.frame ∷ ctx.stack.callers)) (sym d) tt
       linked (suc i) e d =
-          let one = one_left ctx.stack.frame.layout.chain i d.0 in
+          let one = drop-cons ctx.stack.frame.layout.chain i 0 d.0 in
           let up : Climbs ctx.activations m.store ctx.stack.frame ctx.stack.callers i =
           climbs h.shadow ctx.activations m.store st.frame st.callers shared.standing.links
           (λ g among. shared.mem.kept g.at (first_own h.owner st.base m.top st.frame st.callers shared.standing.stands g among)) i d.0 in
-          subst (λ (es : List ℕ). Linked x.shadow all (length s.activations) m.top (proc ∷ es) (ctx.stack.frame ∷ ctx.stack.callers)) (sym (d.1 ∙ one.is))
+          subst (λ (es : List ℕ). Linked x.shadow all (length s.activations) m.top (proc ∷ es) (ctx.stack.frame ∷ ctx.stack.callers)) (sym (d.1 ∙ one))
           (record {
             to = up.to;
             among = up.among;
@@ -422,7 +345,7 @@ module _ (ctx : Setting) where
                 ∙ ap (λ (b : ℕ). level_out s.activations b i) close
                 ∙ ap (λ (z : List Activation). level_out z ctx.stack.frame.activation i) shared.activations_are
                 ∙ up.level;
-            chain = up.chain ∙ one.is;
+            chain = up.chain ∙ one;
             word = shadow_there m.top (omega arith) (omega arith)
                 ∙ link_there
                 ∙ ap (λ (n : ℕ). link_word n m) e
@@ -472,10 +395,10 @@ module _ (ctx : Setting) where
                   bodies_are = g.bodies_are;
                   known = new_known;
                   callers = (
-                    known_grown ctx.library ctx.loaded ctx.table ctx.activations all x grows ctx.stack.frame (known_kept ctx.library ctx.loaded ctx.table ctx.activations h x (λ r e. refl) (λ r e. refl) refl fixed_kept ctx.stack.frame known),
-                    each_grown ctx.library ctx.loaded ctx.table ctx.activations all x grows ctx.stack.callers (each_known ctx.library ctx.loaded ctx.table ctx.activations h x (λ r e. refl) (λ r e. refl) refl fixed_kept ctx.stack.callers g.callers),
+                    known_kept ctx.library ctx.loaded ctx.table ctx.activations all grows h x (λ r e. refl) (λ r e. refl) refl fixed_kept ctx.stack.frame known,
+                    each_known ctx.library ctx.loaded ctx.table ctx.activations all grows h x (λ r e. refl) (λ r e. refl) refl fixed_kept ctx.stack.callers g.callers,
                   );
-                  comes = comes_grown ctx.library ctx.loaded ctx.table ctx.activations all x grows ctx.stack.base ctx.stack.bodies (each_comes ctx.library ctx.loaded ctx.table ctx.activations h x (λ r e. refl) (λ r e. refl) refl fixed_kept ctx.stack.base ctx.stack.bodies g.comes);
+                  comes = each_comes ctx.library ctx.loaded ctx.table ctx.activations all grows h x (λ r e. refl) (λ r e. refl) refl fixed_kept ctx.stack.base ctx.stack.bodies g.comes;
                   stands = (
                     record {
                       mark = omega (arith, code.frame);

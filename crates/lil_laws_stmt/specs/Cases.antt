@@ -1,64 +1,24 @@
 -- The row of CASE: the table's first entry that has the word is that of the arm with the label.
-use Rattle.std.proofs.Common.{◌≡◌, ℕ, zero, suc, ◌+◌, ◌<◌, ℤ, pos, negsuc, ◌+ℤ◌, ◌-ℤ◌, ◌≤ℤ◌, ◌<ℤ◌, int_lt, Bool, true, false, cond, not, ◌&&◌, ◌||◌, Option, None, Some, List, [], ◌∷◌, length, refl, sym, ap, ◌∙◌, subst, arith}
-use Rattle.std.proofs.lemmas.Int.{ints}
-use Rattle.std.proofs.lemmas.Bool.{lt-ltb, le-leb, lt-leb}
-use Rattle.lil_base.specs.Words.{Whole, Cardinal, Integer, least, greatest, between, in_type, word_of}
+use Rattle.std.proofs.Common.{◌≡◌, ℕ, zero, suc, ◌+◌, ◌<◌, ℤ, ◌≤ℤ◌, Bool, true, false, cond, ◌||◌, Option, None, Some, List, [], ◌∷◌, length, refl, sym, ap, ◌∙◌, subst, arith}
+use Rattle.std.proofs.lemmas.{Int.ints, Bool.{lt-ltb, Decides.nat_tests}}
+use Rattle.lil_base.specs.{Words.{Whole, Cardinal, Integer, between, in_type, word_of}}
 use Rattle.lil_base.specs.declared.fault.TrapKind.TheVariants as trap
-use Rattle.lil_resolved.specs.Kinds.{Kind, is_plain, is_ordinal, compared_as, Scalar, within, ordinal_of}
-use Rattle.lil_resolved.specs.Resolved.{Expression, Label, Case, Statements, Arms, NoElse, Else, Arm, kind_of}
-use Rattle.lil_meaning.specs.Items.{Scalars, Pick, Do, Item, Value, Fill, Perform, doing, Going, Source}
-use Rattle.lil_meaning.specs.Steps.{among, picked}
+use Rattle.lil_resolved.specs.{Kinds.{Kind, is_plain, is_ordinal, compared_as, Scalar, within, ordinal_of}, Resolved.{Expression, Label, Case, Statements, Arms, NoElse, Else, Arm, kind_of}}
+use Rattle.lil_meaning.specs.{Items.{Scalars, Pick, Do, Item, Value, Fill, Perform, doing, Going, Source}, Steps.{among, picked}}
 use Rattle.lil_meaning.specs.Steps as meaning
 use Rattle.lil_asm.specs.declared.instr.Instr.TheVariants.{Jmp, Cas, Trp}
-use Rattle.lil_mcode.specs.declared.machine.Event.TheVariants.{Trap}
+use Rattle.lil_mcode.specs.{declared.machine.Event.TheVariants.Trap, Table.{State, going, on_one, case_row, chosen_row}}
 use Rattle.lil_mcode.specs.Control as machine
-use Rattle.lil_mcode.specs.Table.{State, going, on_one, case_row, chosen_row}
-use Rattle.lil_table.specs.LabelLaws.{ordinal_in, label_in}
-use Rattle.lil_table.specs.Rows.{Layout, IsAt, BodyAt, EntriesAt, ArmsAt}
-use Rattle.lil_match.specs.Goes.{Shared, Goes, Lands}
-use Rattle.lil_match.specs.Running.{running, advanced, react}
-use Rattle.lil_match.specs.Parts.{yes}
-use Rattle.lil_match.specs.Homes.{word_for, plain_word}
-use Rattle.lil_match.specs.Waits.{Setting, frame_of, laid_out, Quiet, ValueOf, Around, Reach, Rows, Waiting}
-use Rattle.lil_match.specs.Ranges.{ordinal_plain}
-use Rattle.lil_match.specs.Orders.{instr_within, body_within}
-use Rattle.lil_match.specs.Steps.{closed, both_trap, advances, at_step, rows_jump, rows_ahead, lands_on, goes_one, goes_after, jumps_to, operand_goes}
-use Rattle.lil_match.specs.Arithmetic.{word_is, above_more}
+use Rattle.lil_table.specs.{LabelLaws.{ordinal_in, label_in}, Rows.{Layout, IsAt, BodyAt, EntriesAt, ArmsAt}}
+use Rattle.lil_match.specs.{Goes.{Shared, Goes, Lands}, Running.{running, advanced, react}, Parts.yes, Homes.{word_for, plain_word}, Waits.{Setting, frame_of, laid_out, Quiet, ValueOf, Around, Reach, Rows, Waiting}, Ranges.ordinal_plain, Orders.{instr_within, body_within}}
+use Rattle.lil_match.specs.{Steps.{closed, both_trap, advances, at_step, rows_jump, rows_ahead, lands_on, goes_one, goes_one_within, goes_after, jumps_to, operand_goes}, Arithmetic.{word_is}}
 use Rattle.lil_laws_stmt.specs.Control.{body_rows}
-use Rattle.lil_base.specs.Laws.{bounds}
-
-above_less : (t : Whole) (low z : ℤ) → in_type t low ≡ true → in_type t z ≡ true → z <ℤ low → pos (machine.above (word_of low) (word_of z)) +ℤ low ≡ z +ℤ pos 65536
-above_less t low z first second order = by t low z (bounds (least t) low (greatest t) first) (bounds (least t) z (greatest t) second) order
-  where
-    by : (t : Whole) (low z : ℤ) → (least t ≤ℤ low) × (low ≤ℤ greatest t) → (least t ≤ℤ z) × (z ≤ℤ greatest t) → z <ℤ low → pos (machine.above (word_of low) (word_of z)) +ℤ low ≡ z +ℤ pos 65536
-    by Cardinal (pos a) (pos b) l u order = omega (arith, ints)
-    by Cardinal (negsuc a) z l u order = absurd (omega (arith, ints))
-    by Cardinal (pos a) (negsuc b) l u order = absurd (omega (arith, ints))
-    by Integer (pos a) (pos b) l u order = omega (arith, ints)
-    by Integer (pos a) (negsuc b) l u order = omega (arith, ints)
-    by Integer (negsuc a) (pos b) l u order = absurd (omega (arith, ints))
-    by Integer (negsuc a) (negsuc b) l u order = omega (arith, ints)
 
 -- the machine's test of a range is the meaning's
 test_is : (t : Whole) (low high z : ℤ) → in_type t low ≡ true → in_type t high ≡ true → in_type t z ≡ true → low ≤ℤ high
     → machine.is_in (word_of low) (word_of high) (word_of z) ≡ between low z high
-test_is t low high z first second third order = by (int_lt z low) (int_lt high z) refl refl
-  where
-    width : pos (machine.above (word_of low) (word_of high)) ≡ high -ℤ low
-    width = above_more t low high first second order
-
-    by : (a b : Bool) → int_lt z low ≡ a → int_lt high z ≡ b → machine.is_in (word_of low) (word_of high) (word_of z) ≡ (not a && not b)
-    by true b e f =
-        let d = above_less t low z first third (omega (arith, ints)) in
-        let u = bounds (least t) high (greatest t) second in
-        let v = bounds (least t) z (greatest t) third in
-        lt-leb _ _ (beyond t u.1 v.0 d)
-      where
-        beyond : (t : Whole) → high ≤ℤ greatest t → least t ≤ℤ z → pos (machine.above (word_of low) (word_of z)) +ℤ low ≡ z +ℤ pos 65536 → machine.above (word_of low) (word_of high) < machine.above (word_of low) (word_of z)
-        beyond Cardinal u v d = omega (arith, ints, width)
-        beyond Integer u v d = omega (arith, ints, width)
-    by false true e f = let d = above_more t low z first third (omega (arith, ints)) in lt-leb _ _ (omega (arith, ints, width))
-    by false false e f = let d = above_more t low z first third (omega (arith, ints)) in le-leb _ _ (omega (arith, ints, width))
+test_is Cardinal low high z first second third order = grind (arith, ints, nat_tests)
+test_is Integer low high z first second third order = grind (arith, ints, nat_tests)
 
 module _ (code : List ℕ) (k : Kind) (base : is_ordinal k ≡ true) (z : ℤ) (inside : in_type (compared_as k) z ≡ true) (other to : ℕ) (rest : ℕ → ℕ → Type 0) where
   -- an entry of the arm has the word, or the search goes on behind its entries
@@ -158,7 +118,7 @@ module _ (ctx : Setting) where
             let ends : end < length own.code = instr_within own.code end (Jmp row.part.did.here.exit) gap leave in
             let out : Source = record s { items = items; phase = Going } in
             goes_after ctx s items m choosing (c + 32) (c + 31) dispatched
-            (goes_one ctx s items choosing (c + 31) (suc (suc c)) (running (going m start []) s.world)
+            (goes_one_within ctx s items choosing (c + 31) (suc (suc c)) (running (going m start []) s.world)
             (chooses start target (body_within l own.code (a.taken) a.exit body start end here ends))
             (subst (λ (b : Option Statements). Lands ctx (picked library b k out).phase (picked library b k out) (running (going m start []) s.world) (suc (suc c))) (sym e)
             (lands_on ctx s m shared (doing body k) start [] (suc (suc c)) a
@@ -174,10 +134,9 @@ module _ (ctx : Setting) where
             goes_after ctx s items m choosing (c + 32) (c + 31) dispatched
             (goes_after ctx s items choosing n (c + 31) (c + 30)
             (chooses start target (instr_within own.code start (Trp 7) gap trap_there))
-            (goes_one ctx s items n (c + 30) c (react (Trap trap.Case) n (running n s.world))
+            (goes_one ctx s items n 29 c (react (Trap trap.Case) n (running n s.world))
             (advances n s.world _ (at_step ctx n shared.program (Trp 7) gap trap_there))
             (subst (λ (b : Option Statements). Lands ctx (picked library b k out).phase (picked library b k out) (react (Trap trap.Case) n (running n s.world)) c) (sym e)
-            (both_trap ctx out items n trap.Case shared (closed ctx k _ _ _ _ _ row.then)))
-            (omega arith))
+            (both_trap ctx out items n trap.Case shared (closed ctx k _ _ _ _ _ row.then))))
             (omega arith))
             (omega arith)

@@ -1,23 +1,13 @@
 -- The rows of IF, WHILE, REPEAT and LOOP.
 use Rattle.std.proofs.Common.{◌≡◌, ℕ, suc, ◌+◌, ◌<◌, ◌≤◌, Bool, true, false, cond, Some, List, [], ◌∷◌, length, refl, sym, ap, ◌∙◌, subst, arith}
 use Rattle.std.proofs.lemmas.Bool.{lt-ltb}
-use Rattle.lil_resolved.specs.Kinds.{Kind, OfTruth, Scalar, Truth, within, truth_number, truth_of}
-use Rattle.lil_resolved.specs.Resolved.{Expression, If, While, Repeat, Loop, Statements, Empty, Then}
-use Rattle.lil_meaning.specs.Items.{Scalars, Hole, Choose, Turn, Again, Do, Until, Looping, Item, Value, Fill, Perform, doing, Going, Source}
-use Rattle.lil_meaning.specs.Steps.{next}
-use Rattle.lil_asm.specs.declared.instr.Instr.{Instr}
-use Rattle.lil_asm.specs.declared.instr.Instr.TheVariants.{Jmp, Jpf}
-use Rattle.lil_mcode.specs.declared.machine.Event.TheVariants.{Went}
-use Rattle.lil_mcode.specs.Table.{State, going, on_one, false_row}
+use Rattle.lil_resolved.specs.{Kinds.{Kind, OfTruth, Scalar, Truth, within, truth_number, truth_of}, Resolved.{Expression, If, While, Repeat, Loop, Statements, Empty, Then}}
+use Rattle.lil_meaning.specs.{Items.{Scalars, Hole, Choose, Turn, Again, Do, Until, Looping, Item, Value, Fill, Perform, doing, Going, Source}, Steps.next}
+use Rattle.lil_asm.specs.declared.instr.Instr.{Instr, TheVariants.{Jmp, Jpf}}
+use Rattle.lil_mcode.specs.{declared.machine.Event.TheVariants.Went, Table.{State, going, on_one, false_row}}
 use Rattle.lil_table.specs.Rows.{IsAt, StatementAt, BodyAt, ExpressionAt}
-use Rattle.lil_match.specs.Goes.{Shared, Goes, Lands}
-use Rattle.lil_match.specs.Running.{running, advanced}
-use Rattle.lil_match.specs.Parts.{yes}
-use Rattle.lil_match.specs.Homes.{word_for}
-use Rattle.lil_match.specs.Stutter.{stutter, body_stutter}
-use Rattle.lil_match.specs.Waits.{Setting, frame_of, laid_out, Quiet, ValueOf, Around, Reach, Rows, Ahead, LoopingWaits, Waiting}
-use Rattle.lil_match.specs.Orders.{instr_within, expression_within, statement_within, body_within}
-use Rattle.lil_match.specs.Steps.{advances, at_step, at_once, rows_jump, rows_ahead, lands_on, goes_none, goes_one, jumps_to, operand_goes}
+use Rattle.lil_match.specs.{Goes.{Shared, Goes, Lands}, Running.{running, advanced}, Parts.yes, Homes.word_for, Stutter.{stutter, body_stutter}, Waits.{Setting, frame_of, laid_out, Quiet, ValueOf, Around, Reach, Rows, Ahead, LoopingWaits, Waiting}, Orders.{instr_within, expression_within, statement_within, body_within}}
+use Rattle.lil_match.specs.Steps.{advances, at_step, at_once, rows_jump, rows_ahead, lands_on, goes_none, goes_one_within, jumps_to, operand_goes}
 
 -- a value of the kind of truth values is one
 is_truth : (v : Scalar) → within OfTruth v ≡ true → v ≡ Truth (truth_of v)
@@ -54,7 +44,7 @@ module _ (ctx : Setting) where
       → next library (record s { items = i; phase = Going }) ≡ record s { items = after; phase = Going } → advanced (running m s.world) ≡ running (going m q []) s.world
       → Rows ctx after Quiet q [] later a → later + 1 ≤ budget → Goes ctx s i m budget
   goes_to s m shared i after q budget later a source machine rows less =
-      goes_one ctx s i m budget later (running (going m q []) s.world) machine
+      goes_one_within ctx s i m budget later (running (going m q []) s.world) machine
       (subst (λ (t : Source). Lands ctx t.phase t (running (going m q []) s.world) later) (sym source)
       (lands_on ctx s m shared after q [] later a (rows_ahead ctx after q [] later a rows)))
       less
@@ -93,11 +83,11 @@ module _ (ctx : Setting) where
     if_goes x first second row =
         operand_goes ctx s k m c a shared (Perform (Do (If x first second)) ∷ k) x (Choose first second) refl (omega arith) row.part.here.middle row.part.here.condition.value (omega (arith, row.part.here.condition.shallow, ap length row.part.empty))
         (instr_within own.code row.part.here.middle (Jpf row.part.here.other) row.part.here.start row.part.here.jump)
-        (record { part = record { same = row.part.here.condition.typed; of = x; from = m.place; did = row.part; at = refl }; then = row.then })
+        (record { part = record { of = x; same = refl; from = m.place; did = row.part; at = refl }; then = row.then })
 
     pub choose_goes : (first second : Statements) (v : Scalar) (kind : Kind) → within kind v ≡ true → (below : List ℕ) → m.stack ≡ word_for h v ∷ below
         → Waiting ctx (Fill (Choose first second)) Rest (ValueOf kind) m.place below c a → Claim (Value (Scalars v) ∷ Fill (Choose first second) ∷ k)
-    choose_goes first second v kind fits below is row = by_truth (Choose first second) v kind fits below is row.part.same row.part.did.empty by
+    choose_goes first second v kind fits below is row = by_truth (Choose first second) v kind fits below is (row.part.same ∙ row.part.did.here.condition.typed) row.part.did.empty by
       where
         other_within : row.part.did.here.other < length own.code
         other_within = body_within l own.code (a.taken) a.exit second row.part.did.here.other row.part.did.end row.part.did.here.otherwise row.part.did.within
@@ -149,19 +139,18 @@ module _ (ctx : Setting) where
 
     pub repeat_goes : (body : Statements) (x : Expression) → Waiting ctx (Perform (Do (Repeat body x))) Rest Quiet m.place m.stack c a → Claim (Perform (Do (Repeat body x)) ∷ k)
     repeat_goes body x row =
-        goes_none ctx s (Perform (Do (Repeat body x)) ∷ k) m (c + 32) c
+        goes_none ctx s (Perform (Do (Repeat body x)) ∷ k) m 32 c
         (lands_on ctx s m shared (doing body (Perform (Until body x) ∷ k)) m.place m.stack c a
         (body_here body (Perform (Until body x) ∷ k) row.part.here.end a row.part.empty row.part.here.here (expression_within l own.code x row.part.here.end row.part.here.middle row.part.here.condition.value)
         (at_once ctx _ Quiet row.part.here.end [] c a
-        (record { part = record { from = m.place; did = record { empty = refl; end = row.part.end; here = row.part.here; within = row.part.within }; at = refl }; then = row.then }))))
-        (omega arith)
+        (record { part = record { empty = refl; amid = record { from = m.place; end = row.part.end; here = row.part.here; within = row.part.within; at = refl } }; then = row.then }))))
         (omega (arith, doing_stutter body (Perform (Until body x) ∷ k)))
 
     pub until_goes : (body : Statements) (x : Expression) → Waiting ctx (Perform (Until body x)) Rest Quiet m.place m.stack c a → Claim (Perform (Until body x) ∷ k)
     until_goes body x row =
-        operand_goes ctx s k m c a shared (Perform (Until body x) ∷ k) x (Again body x) refl (omega arith) row.part.did.here.middle (subst (λ (p : ℕ). ExpressionAt l own.code x p row.part.did.here.middle) (sym row.part.at) row.part.did.here.condition.value) (omega (arith, row.part.did.here.condition.shallow, ap length row.part.did.empty))
-        (instr_within own.code row.part.did.here.middle (Jpf row.part.from) row.part.did.end row.part.did.here.back)
-        (record { part = record { same = row.part.did.here.condition.typed; from = row.part.from; did = row.part.did; at = refl }; then = row.then })
+        operand_goes ctx s k m c a shared (Perform (Until body x) ∷ k) x (Again body x) refl (omega arith) row.part.amid.here.middle (subst (λ (p : ℕ). ExpressionAt l own.code x p row.part.amid.here.middle) (sym row.part.amid.at) row.part.amid.here.condition.value) (omega (arith, row.part.amid.here.condition.shallow, ap length row.part.empty))
+        (instr_within own.code row.part.amid.here.middle (Jpf row.part.amid.from) row.part.amid.end row.part.amid.here.back)
+        (record { part = record { same = row.part.amid.here.condition.typed; from = row.part.amid.from; did = record { empty = row.part.empty; end = row.part.amid.end; here = row.part.amid.here; within = row.part.amid.within }; at = refl }; then = row.then })
 
     pub again_goes : (body : Statements) (x : Expression) (v : Scalar) (kind : Kind) → within kind v ≡ true → (below : List ℕ) → m.stack ≡ word_for h v ∷ below
         → Waiting ctx (Fill (Again body x)) Rest (ValueOf kind) m.place below c a → Claim (Value (Scalars v) ∷ Fill (Again body x) ∷ k)
@@ -206,12 +195,11 @@ module _ (ctx : Setting) where
 
     pub loop_goes : (body : Statements) → Waiting ctx (Perform (Do (Loop body))) Rest Quiet m.place m.stack c a → Claim (Perform (Do (Loop body)) ∷ k)
     loop_goes body row =
-        goes_none ctx s (Perform (Do (Loop body)) ∷ k) m (c + 32) c
+        goes_none ctx s (Perform (Do (Loop body)) ∷ k) m 32 c
         (lands_on ctx s m shared (doing body (Perform (Looping body) ∷ k)) m.place m.stack c (inside_loop row.part.end a)
         (body_here body (Perform (Looping body) ∷ k) row.part.here.end (inside_loop row.part.end a) row.part.empty row.part.here.here
         (instr_within own.code row.part.here.end (Jmp m.place) row.part.end row.part.here.back)
         (looping_row body m.place row.part.end a row.part.here row.part.within row.then)))
-        (omega arith)
         (omega (arith, doing_stutter body (Perform (Looping body) ∷ k)))
 
     pub looping_goes : (body : Statements) → LoopingWaits ctx.stack.frame body Rest Quiet m.place m.stack c a → Claim (Perform (Looping body) ∷ k)

@@ -3,24 +3,14 @@ use Rattle.std.proofs.Common.{◌≡◌, ℕ, suc, ◌+◌, ◌<◌, ◌≤◌, 
 use Rattle.std.proofs.lemmas.Bool.{cases_lt}
 use Rattle.lil_base.specs.declared.fault.TrapKind.TheVariants as trap
 use Rattle.lil_resolved.specs.Resolved.{Halt, Return}
-use Rattle.lil_meaning.specs.World.{World, closing, all_closed}
-use Rattle.lil_meaning.specs.Closings.{all_none, all_some}
-use Rattle.lil_meaning.specs.Items.{Do, Turns, Holding, End, Item, Perform, Level, Going, Closing, Ended, Source}
-use Rattle.lil_meaning.specs.Steps.{next, returned, left_by, over}
+use Rattle.lil_meaning.specs.{World.{World, closing, all_closed}, Closings.{all_none, all_some}, Items.{Do, Turns, Holding, End, Item, Perform, Level, Going, Closing, Ended, Source}, Steps.{next, returned, left_by, over}}
 use Rattle.lil_asm.specs.declared.instr.Instr.TheVariants.{Rtn, Trp}
-use Rattle.lil_mcode.specs.declared.machine.Event.TheVariants.{LevelEnded}
-use Rattle.lil_mcode.specs.Table.{Module, Kept, State, end_row}
+use Rattle.lil_mcode.specs.{declared.machine.Event.TheVariants.LevelEnded, Table.{Module, Kept, State, end_row}}
 use Rattle.lil_table.specs.Rows.{IsAt, loop_place}
-use Rattle.lil_match.specs.Goes.{Stands, number_of, Shared, Lands, Goes}
-use Rattle.lil_match.specs.Running.{Finished, Run, running, advanced}
-use Rattle.lil_match.specs.Parts.{yes}
-use Rattle.lil_match.specs.Stutter.{stutter}
-use Rattle.lil_match.specs.Waits.{Mode, Quiet, Around, outside, Frame, Setting, with_frames, RowsOf, Rows, Ahead, Behind, EndWaits, EndedWaits, Waiting}
-use Rattle.lil_match.specs.Steps.{closed, advances, at_step, at_once, lands_on, goes_none, goes_one}
+use Rattle.lil_match.specs.{Goes.{Stands, number_of, Shared, Lands, Goes}, Running.{Finished, Run, running, advanced}, Parts.yes, Stutter.stutter, Waits.{Mode, Quiet, Around, outside, Frame, Setting, with_frames, RowsOf, Rows, Ahead, Behind, EndWaits, EndedWaits, Waiting}, Steps.{closed, advances, at_step, at_once, lands_on, goes_none, goes_none_within, goes_one_within}}
 use Rattle.lil_match.specs.Laid.{IsAround, around_self, around_more, shared_around, goes_around}
 use Rattle.lil_laws_place.specs.Codes.{trap_goes}
-use Rattle.lil_laws_stmt.specs.Returns.{goes_back}
-use Rattle.lil_laws_stmt.specs.Bodies.{goes_next, goes_short}
+use Rattle.lil_laws_stmt.specs.{Returns.goes_back, Bodies.{goes_next, goes_short}}
 
 returned_less : (k : List Item) → stutter (returned k) ≤ stutter k
 returned_less [] = omega arith
@@ -47,11 +37,10 @@ module _ (ctx : Setting) where
           (λ (room : b.at + b.layout.frame ≤ ctx.stack.limit). goes_next ctx ctx.stack.frame b bs s m there n k c row.end row.leave next room)
           (cases_lt ctx.stack.limit (b.at + b.layout.frame))
       by [] [] there last =
-          goes_none (with_frames ctx ctx.stack.frame [] []) s (Perform (End n) ∷ k) m (c + 32) c
+          goes_none (with_frames ctx ctx.stack.frame [] []) s (Perform (End n) ∷ k) m 32 c
           (lands_on (with_frames ctx ctx.stack.frame [] []) s m there k m.place m.stack c a
           (subst (λ (x : List Item). Ahead (with_frames ctx ctx.stack.frame [] []) x Quiet m.place m.stack c a) (sym last)
           (record { empty = row.empty; callers = refl; bodies = refl; end = row.end; leave = row.leave })))
-          (omega arith)
           (omega arith)
 
   -- nothing is left
@@ -82,7 +71,7 @@ module _ (ctx : Setting) where
       first_level = ap (λ (l : List Level). left_by None (closing (suc (length l)) s.world) now) shared.levels.none
 
       ends : (t : Source) → next ctx.library now ≡ t → Lands ctx t.phase t run 0 → Goes ctx s [] m (c + 32)
-      ends t is lands = goes_one ctx s [] m (c + 32) 0 run leaves (subst (λ (t : Source). Lands ctx t.phase t run 0) (sym is) lands) (omega arith)
+      ends t is lands = goes_one_within ctx s [] m (c + 32) 0 run leaves (subst (λ (t : Source). Lands ctx t.phase t run 0) (sym is) lands) (omega arith)
 
       by : (o : Option World) → closing 1 s.world ≡ o → Goes ctx s [] m (c + 32)
       by (Some w) e =
@@ -144,7 +133,7 @@ return_goes ctx s k m c a shared row =
     let r = returns ctx k _ _ _ _ _ row.then in
     let code : ctx.stack.frame.own ≡ r.before.stack.frame.own = ap (λ (x : Setting). x.stack.frame.own) r.deep.is in
     goes_around r.before ctx r.deep s (Perform (Do Return) ∷ k) m (c + 32)
-    (goes_none r.before s (Perform (Do Return) ∷ k) m (c + 32) r.later
+    (goes_none_within r.before s (Perform (Do Return) ∷ k) m (c + 32) r.later
     (lands_on r.before s m (shared_around r.before ctx r.deep s m shared) (returned k) m.place m.stack r.later outside
     (subst (λ (x : List Item). Ahead r.before x Quiet m.place m.stack r.later outside) (sym r.is)
     (at_once r.before _ Quiet m.place m.stack r.later outside

@@ -1,18 +1,12 @@
 -- The turns of a FOR: the machine counts them as the meaning does, each value fits, and the words follow one another as the values do.
-use Rattle.std.proofs.Common.{◌≡◌, ℕ, zero, suc, ◌+◌, ◌-◌, ◌*◌, ◌/◌, ◌%◌, ◌<◌, ◌≤◌, ℤ, pos, negsuc, ◌+ℤ◌, ◌-ℤ◌, nat_abs, int_lt, int_div, Bool, true, false, cond, ◌==◌, refl, sym, ap, ◌∙◌, subst, ⊎_elim, arith}
-use Rattle.std.proofs.lemmas.Int.{ints}
-use Rattle.std.proofs.lemmas.Bool.{ne_eqb, cases_lt, le-ltb}
-use Rattle.std.proofs.Math.Nat.{mul-div-le, div-le_self}
-use Rattle.lil_base.specs.Words.{Whole, Cardinal, Integer, in_type, number_of, word_of}
-use Rattle.lil_base.specs.Laws.{number_of-word, bounds, in_range}
-use Rattle.lil_resolved.specs.Kinds.{Kind, is_base, compared_as, least, greatest}
-use Rattle.lil_resolved.specs.Sound.{IsStep}
+use Rattle.std.proofs.Common.{◌≡◌, ℕ, zero, suc, ◌+◌, ◌-◌, ◌*◌, ◌/◌, ◌%◌, ◌<◌, ◌≤◌, ℤ, pos, negsuc, ◌+ℤ◌, ◌-ℤ◌, nat_abs, int_lt, int_div, Bool, true, false, cond, ◌==◌, refl, sym, ap, ◌∙◌, subst, arith}
+use Rattle.std.proofs.{lemmas.{Int.ints, Bool.{ne_eqb, le-ltb}}, Math.Nat.{mul-div-le, div-le_self}}
+use Rattle.lil_base.specs.{Words.{Whole, Cardinal, Integer, in_type, number_of, word_of}, Laws.{number_of-word, bounds, in_range}}
+use Rattle.lil_resolved.specs.{Kinds.{Kind, is_base, compared_as}, Sound.IsStep}
 use Rattle.lil_meaning.specs.Steps as meaning
 use Rattle.lil_mcode.specs.Control as machine
 use Rattle.lil_table.specs.Rows.{loop_sign}
-use Rattle.lil_match.specs.Parts.{no}
-use Rattle.lil_match.specs.Ranges.{has, has_type}
-use Rattle.lil_match.specs.Waits.{TurnsFit}
+use Rattle.lil_match.specs.{Parts.no, Ranges.{has, has_type}, Waits.TurnsFit}
 
 -- a number in its type has a word of 16 bits
 pub word_small : (t : Whole) (z : ℤ) → in_type t z ≡ true → word_of z < 65536
@@ -22,19 +16,7 @@ word_small _ _ h = omega arith
 
 -- the word of what is left of n, less k and one
 less_word : (n k : ℕ) → n < 65536 → k < 65536 → (n + (65535 - k)) % 65536 ≡ word_of (pos n +ℤ negsuc k) % 65536
-less_word n k small less = ⊎_elim below above (cases_lt n (suc k))
-  where
-    below : n < suc k → (n + (65535 - k)) % 65536 ≡ word_of (pos n +ℤ negsuc k) % 65536
-    below h =
-        let e : pos n +ℤ negsuc k ≡ negsuc (k - n) = omega (arith, ints) in
-        let d : n + (65535 - k) ≡ 65535 - (k - n) = omega arith in
-        ap (λ (w : ℕ). w % 65536) d ∙ ap (λ (z : ℤ). word_of z % 65536) (sym e)
-
-    above : suc k ≤ n → (n + (65535 - k)) % 65536 ≡ word_of (pos n +ℤ negsuc k) % 65536
-    above h =
-        let e : pos n +ℤ negsuc k ≡ pos (n - suc k) = omega (arith, ints) in
-        let d : (n + (65535 - k)) % 65536 ≡ (n - suc k) % 65536 = omega arith in
-        d ∙ ap (λ (z : ℤ). word_of z % 65536) (sym e)
+less_word n k small less = grind (arith, ints)
 
 negative_small : (t : Whole) (n : ℕ) → in_type t (negsuc n) ≡ true → n < 32768
 negative_small Cardinal n h = cc
@@ -44,14 +26,8 @@ negative_small Integer n h = let b = bounds (negsuc 32767) (negsuc n) (pos 32767
 pub next_word : (t : Whole) (z step : ℤ) → in_type t z ≡ true → IsStep step → (word_of z + word_of step) % 65536 ≡ word_of (z +ℤ step) % 65536
 next_word t (pos n) (pos k) h s = refl
 next_word t (pos n) (negsuc k) h s = less_word n k (word_small t (pos n) h) (omega (arith, ints, s.lower))
-next_word t (negsuc n) (pos k) h s =
-    ap (λ (w : ℕ). w % 65536) (let e : 65535 - n + k ≡ k + (65535 - n) = omega arith in e)
-    ∙ less_word k n (omega (arith, ints, s.upper)) (omega (arith, negative_small t n h))
-next_word t (negsuc n) (negsuc k) h s =
-    let a : n < 32768 = negative_small t n h in
-    let b : k < 32768 = omega (arith, ints, s.lower) in
-    let e : 65535 - n + (65535 - k) ≡ 65536 + (65535 - suc (n + k)) = omega arith in
-    ap (λ (w : ℕ). w % 65536) e ∙ omega arith
+next_word t (negsuc n) (pos k) h s = grind (arith, ints, s.upper, negative_small t n h)
+next_word t (negsuc n) (negsuc k) h s = grind (arith, ints, s.lower, negative_small t n h)
 
 -- a step's word isn't zero
 pub step_some : (step : ℤ) → IsStep step → (word_of step == 0) ≡ false
@@ -105,9 +81,7 @@ fits_up k n zero d x few low high = tt
 fits_up k n (suc left) d x few low high =
     let e : n * suc left ≡ n + n * left = omega arith in
     let same : (x +ℤ pos n) +ℤ pos (d - n) ≡ x +ℤ pos d = omega (arith, ints) in
-    let l = bounds (least k) x (greatest k) low in
-    let u = bounds (least k) (x +ℤ pos d) (greatest k) high in
-    let here : has k (x +ℤ pos n) ≡ true = in_range (least k) (x +ℤ pos n) (greatest k) (omega (arith, ints, l.0)) (omega (arith, ints, u.1)) in
+    let here : has k (x +ℤ pos n) ≡ true = grind (arith, ints) in
     (here, fits_up k n left (d - n) (x +ℤ pos n) (omega arith) here (ap (has k) same ∙ high))
 
 fits_down : (k : Kind) (n left d : ℕ) (x : ℤ) → suc n * left ≤ d → has k x ≡ true → has k (x -ℤ pos d) ≡ true → TurnsFit k (x +ℤ negsuc n) (negsuc n) left
@@ -115,9 +89,7 @@ fits_down k n zero d x few low high = tt
 fits_down k n (suc left) d x few low high =
     let e : suc n * suc left ≡ suc n + suc n * left = omega arith in
     let same : (x +ℤ negsuc n) -ℤ pos (d - suc n) ≡ x -ℤ pos d = omega (arith, ints) in
-    let l = bounds (least k) x (greatest k) low in
-    let u = bounds (least k) (x -ℤ pos d) (greatest k) high in
-    let here : has k (x +ℤ negsuc n) ≡ true = in_range (least k) (x +ℤ negsuc n) (greatest k) (omega (arith, ints, u.0)) (omega (arith, ints, l.1)) in
+    let here : has k (x +ℤ negsuc n) ≡ true = grind (arith, ints) in
     (here, fits_down k n left (d - suc n) (x +ℤ negsuc n) (omega arith) here (ap (has k) same ∙ high))
 
 -- the turns behind the first one come as far as the distance of the bounds at most
@@ -133,14 +105,8 @@ climbed a b n left = by (int_lt b a) refl
 
 -- numbers of a type lie less than 65536 apart
 apart : (t : Whole) (a b : ℤ) (d : ℕ) → in_type t a ≡ true → in_type t b ≡ true → b -ℤ a ≡ pos d → d < 65536
-apart Cardinal a b d low high e =
-    let l = bounds (pos 0) a (pos 65535) low in
-    let u = bounds (pos 0) b (pos 65535) high in
-    omega (arith, ints, l.0, u.1, e)
-apart Integer a b d low high e =
-    let l = bounds (negsuc 32767) a (pos 32767) low in
-    let u = bounds (negsuc 32767) b (pos 32767) high in
-    omega (arith, ints, l.0, u.1, e)
+apart Cardinal a b d low high e = grind (arith, ints)
+apart Integer a b d low high e = grind (arith, ints)
 
 -- the turns behind the first one have numbers of the kind, and are fewer than 65536
 pub turns_few : (k : Kind) (a b step : ℤ) (left : ℕ) → is_base k ≡ true → has k a ≡ true → has k b ≡ true → meaning.turns a b step ≡ suc left → TurnsFit k (a +ℤ step) step left × (left < 65536)

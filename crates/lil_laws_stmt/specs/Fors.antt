@@ -1,35 +1,20 @@
 -- The rows of FOR.
-use Rattle.std.proofs.Common.{◌≡◌, ℕ, zero, suc, ◌+◌, ◌-◌, ◌%◌, ◌<◌, ◌≤◌, ℤ, ◌+ℤ◌, Bool, true, false, cond, eqb, not, Option, List, [], ◌∷◌, length, get_or, set, refl, sym, ap, ◌∙◌, subst, inl, inr, arith}
+use Rattle.std.proofs.Common.{◌≡◌, ℕ, zero, suc, ◌+◌, ◌-◌, ◌%◌, ◌<◌, ◌≤◌, ℤ, ◌+ℤ◌, Bool, true, false, cond, not, Option, List, [], ◌∷◌, length, get_or, set, refl, sym, ap, ◌∙◌, subst, inl, inr, arith}
 use Rattle.std.specs.Prelude.{nat_lt, slice_get}
-use Rattle.std.proofs.lemmas.Bool.{eq-eqb, lt-ltb, ne_eqb, and_from}
+use Rattle.std.proofs.lemmas.Bool.{lt-ltb, ne_eqb, and_from, Decides.nat_tests}
 use Rattle.lil_base.specs.declared.fault.TrapKind.TheVariants as trap
 use Rattle.lil_base.specs.Words.{Whole, Cardinal, Integer, word_of}
 use Rattle.lil_resolved.specs.Kinds as kinds
-use Rattle.lil_resolved.specs.Kinds.{Kind, base_of, is_plain, is_base, compared_as, covers, outside_turns, Scalar, within, scalar_word, scalar_of, ordinal_of, Word}
-use Rattle.lil_resolved.specs.Resolved.{Expression, For, Statements}
-use Rattle.lil_meaning.specs.Items.{Global, Place, stored, alone, Scalars, StartOf, LimitOf, Do, Turns, Item, Value, Fill, Perform, doing, Going, Source}
-use Rattle.lil_meaning.specs.Steps.{current, owner_of, turned_with, turns}
-use Rattle.lil_asm.specs.declared.instr.Instr.{Instr}
-use Rattle.lil_asm.specs.declared.instr.Instr.TheVariants.{Liw, Swp, Llw, Sgw, Fri, Frn}
-use Rattle.lil_mcode.specs.declared.machine.Event.{Event}
-use Rattle.lil_mcode.specs.declared.machine.Event.TheVariants.{Went, Trap}
-use Rattle.lil_mcode.specs.Control.{after_first}
-use Rattle.lil_mcode.specs.Table.{State, mstep, going, push_row, on_three, loop_row, begun_row, turn_row}
+use Rattle.lil_resolved.specs.{Kinds.{Kind, base_of, is_plain, is_base, compared_as, covers, outside_turns, Scalar, within, scalar_word, scalar_of, ordinal_of, Word}, Resolved.{Expression, For, Statements, kind_of}}
+use Rattle.lil_meaning.specs.{Items.{Global, Place, stored, alone, Scalars, StartOf, LimitOf, Do, Turns, Item, Value, Fill, Perform, doing, Going, Source}, Steps.{current, owner_of, turned_with, turns}}
+use Rattle.lil_asm.specs.declared.instr.Instr.{Instr, TheVariants.{Liw, Swp, Llw, Sgw, Fri, Frn}}
+use Rattle.lil_mcode.specs.{declared.machine.Event.{Event, TheVariants.{Went, Trap}}, Control.after_first, Table.{State, mstep, going, push_row, on_three, loop_row, begun_row, turn_row}}
 use Rattle.lil_table.specs.Rows.{InData, Layout, IsAt, InstrsAt, AlignAt, BodyAt, RoundRow, range_code, loop_place, loop_sign}
-use Rattle.lil_match.specs.Goes.{Shared, Touches, Goes, Lands}
-use Rattle.lil_match.specs.Running.{Run, running, react, advanced}
-use Rattle.lil_match.specs.Parts.{yes, no}
-use Rattle.lil_match.specs.Homes.{word_for, base_plain, takes_plain, plain_word, plain_refers, Home, Mem, scalar_owned, mem_stored, replaced, shadowed}
-use Rattle.lil_match.specs.Arithmetic.{word_is}
-use Rattle.lil_match.specs.Ranges.{has, value_is, value_none, number_is, value_fits, fits_has, has_type, ordinal_base, ordinal_plain}
-use Rattle.lil_match.specs.Tests.{covered, test_act}
-use Rattle.lil_match.specs.Waits.{Setting, frame_of, laid_out, Quiet, ValueOf, Around, Reach, TurnsFit, Rows, at_home, LoopWords, NextWaits, HasPlace, Waiting}
-use Rattle.lil_match.specs.Orders.{instr_within, expression_within}
-use Rattle.lil_match.specs.Steps.{closed, variable_here, both_trap, advances, pushes, at_step, at_once, rows_ahead, lands_on, goes_none, shared_with, untouched, touched, goes_one, goes_after_in, goes_after, goes_more, operand_goes}
+use Rattle.lil_match.specs.{Goes.{Shared, Touches, Goes, Lands}, Running.{Run, running, react, advanced}, Parts.{yes, no}, Homes.{word_for, base_plain, takes_plain, plain_word, plain_refers, Home, Mem, scalar_owned, mem_stored, replaced, shadowed}, Arithmetic.word_is}
+use Rattle.lil_match.specs.{Ranges.{has, value_is, value_none, number_is, value_fits, fits_has, has_type, ordinal_base, ordinal_plain}, Tests.{covered, test_act}, Waits.{Setting, frame_of, laid_out, Quiet, ValueOf, Around, Reach, TurnsFit, Rows, at_home, LoopWords, NextWaits, HasPlace, Waiting}, Orders.{instr_within, expression_within}}
+use Rattle.lil_match.specs.{Steps.{closed, variable_here, both_trap, advances, pushes, at_step, at_once, rows_ahead, lands_on, goes_none, shared_with, untouched, touched, goes_one, goes_after_in, goes_after, goes_more, operand_goes}, Kept.{shared_shadowed, touches_shadowed, rows_shadowed}}
 use Rattle.lil_match.specs.Kept as kept
-use Rattle.lil_match.specs.Kept.{shared_shadowed, touches_shadowed, rows_shadowed}
-use Rattle.lil_laws_stmt.specs.Control.{body_rows}
-use Rattle.lil_laws_stmt.specs.ForWords.{word_small, next_word, step_some, turns_read, turns_few}
+use Rattle.lil_laws_stmt.specs.{Control.body_rows, ForWords.{word_small, next_word, step_some, turns_read, turns_few}}
 
 -- the word of a value says its number
 value_word : (h : Home) (k : Kind) (v : Scalar) → is_plain k ≡ true → within k v ≡ true → word_for h v ≡ word_of (ordinal_of v)
@@ -131,7 +116,7 @@ module _ (ctx : Setting) where
             within = ends;
             then = then;
           }))) in
-          goes_one ctx s items (holding round.tested) (c + 18) c (running machine s.world)
+          goes_one ctx s items (holding round.tested) 17 c (running machine s.world)
           (advances (holding round.tested) s.world _ (
           at_step ctx (holding round.tested) shared.program (Sgw offset) round.start round.store
           ∙ yes _ _ _ (lt-ltb (own.base + offset) 65536 small_there)
@@ -147,7 +132,6 @@ module _ (ctx : Setting) where
                   (subst (λ (st : List ℕ). Rows ctx after Quiet round.start st c inner) (sym empty) rows);
             };
           }))
-          (omega arith)
 
       -- what the instruction that tests does
       abbrev outcome : Bool → Event × State
@@ -168,11 +152,10 @@ module _ (ctx : Setting) where
           (omega arith)
       tested false none here =
           let run : Run = react (Trap trap.Range) (holding round.loaded) (running (holding round.loaded) s.world) in
-          goes_one ctx s items (holding round.loaded) (c + 19) c run
+          goes_one ctx s items (holding round.loaded) 18 c run
           (advances (holding round.loaded) s.world _ (tests here ∙ ap outcome none))
           (subst (λ (o : Option Scalar). Lands ctx (turned_there o).phase (turned_there o) run c) (sym (value_none kind z none))
           (both_trap ctx s items (holding round.loaded) trap.Range shared (closed ctx k Quiet end [] c a then)))
-          (omega arith)
 
       -- where each number of the base is the kind's there is no test
       by_test : (b : Bool) → covers kind base ≡ b → InstrsAt own.code (cond b [] (test ∷ [])) round.loaded round.tested → Goes ctx s items (holding round.loaded) (c + 19)
@@ -214,36 +197,18 @@ written ctx s m n {store} {x} old i w above some less =
       rows = λ k p c a le r. rows_shadowed (at_home ctx x) s there old.shared i w less k Quiet p [] c a (omega (arith, le, above)) (old.rows k p c a le r);
     }
 
--- a word that was set, and another one
-set_there : (f : ℕ → ℕ) (a w b : ℕ) → a ≡ b → replaced f a w b ≡ w
-set_there f a w b e = yes (eqb a b) w (f b) (eq-eqb a b e)
-
-set_beside : (f : ℕ → ℕ) (a w b : ℕ) → (a ≡ b → ⊥) → replaced f a w b ≡ f b
-set_beside f a w b d = no (eqb a b) w (f b) (ne_eqb a b d)
-
 -- the three words of a FOR that begins, and of one that turns
 begun_words : (f : ℕ → ℕ) (at n p q r : ℕ)
     → (replaced (replaced (replaced f (at + n) p) (at + (n + 1)) q) (at + (n + 2)) r (at + n) ≡ p)
     × (replaced (replaced (replaced f (at + n) p) (at + (n + 1)) q) (at + (n + 2)) r (at + n + 1) ≡ q)
     × (replaced (replaced (replaced f (at + n) p) (at + (n + 1)) q) (at + (n + 2)) r (at + n + 2) ≡ r)
-begun_words f at n p q r =
-    let one : ℕ → ℕ = replaced f (at + n) p in
-    let two : ℕ → ℕ = replaced one (at + (n + 1)) q in (
-      set_beside two (at + (n + 2)) r (at + n) (λ d. omega (arith, d)) ∙ set_beside one (at + (n + 1)) q (at + n) (λ d. omega (arith, d)) ∙ set_there f (at + n) p (at + n) refl,
-      set_beside two (at + (n + 2)) r (at + n + 1) (λ d. omega (arith, d)) ∙ set_there one (at + (n + 1)) q (at + n + 1) (omega arith),
-      set_there two (at + (n + 2)) r (at + n + 2) (omega arith),
-    )
+begun_words f at n p q r = (grind (arith, nat_tests), grind (arith, nat_tests), grind (arith, nat_tests))
 
 turned_words : (f : ℕ → ℕ) (at n p q : ℕ)
     → (replaced (replaced f (at + (n + 1)) q) (at + n) p (at + n) ≡ p)
     × (replaced (replaced f (at + (n + 1)) q) (at + n) p (at + n + 1) ≡ q)
     × (replaced (replaced f (at + (n + 1)) q) (at + n) p (at + n + 2) ≡ f (at + n + 2))
-turned_words f at n p q =
-    let one : ℕ → ℕ = replaced f (at + (n + 1)) q in (
-      set_there one (at + n) p (at + n) refl,
-      set_beside one (at + n) p (at + n + 1) (λ d. omega (arith, d)) ∙ set_there f (at + (n + 1)) q (at + n + 1) (omega arith),
-      set_beside one (at + n) p (at + n + 2) (λ d. omega (arith, d)) ∙ set_beside f (at + (n + 1)) q (at + n + 2) (λ d. omega (arith, d)),
-    )
+turned_words f at n p q = (grind (arith, nat_tests), grind (arith, nat_tests), grind (arith, nat_tests))
 
 module _ (ctx : Setting) where
   open ctx use {library, table, home as h}
@@ -259,36 +224,23 @@ module _ (ctx : Setting) where
     for_goes x kind first limit step body row =
         operand_goes ctx s k m c a shared (Perform (Do (For x kind first limit step body)) ∷ k) first (StartOf x kind limit step body) refl (omega arith) row.part.here.middle row.part.here.first.value (omega (arith, row.part.here.first.shallow, ap length row.part.empty))
         (expression_within l own.code limit row.part.here.middle row.part.here.last row.part.here.limit.value)
-        (record {
-          part = record {
-            takes = row.part.here.takes;
-            empty = row.part.empty;
-            last = row.part.here.last;
-            end = row.part.end;
-            limit = row.part.here.limit;
-            turns = row.part.here.turns;
-            within = row.part.within;
-          };
-          then = row.then;
-        })
+        (record { part = record { of = first; same = refl; from = m.place; did = row.part; at = refl }; then = row.then })
 
     pub start_goes : (x : ℕ) (to : Kind) (limit : Expression) (step : ℤ) (body : Statements) (v : Scalar) (kind : Kind) → within kind v ≡ true → (below : List ℕ) → m.stack ≡ word_for h v ∷ below
         → Waiting ctx (Fill (StartOf x to limit step body)) Left (ValueOf kind) m.place below c a → Goes ctx s (Value (Scalars v) ∷ Fill (StartOf x to limit step body) ∷ k) m (c + 32)
     start_goes x to limit step body v kind fit below is row =
-        let stack : m.stack ≡ word_for h v ∷ [] = is ∙ ap (λ (st : List ℕ). word_for h v ∷ st) row.part.empty in
-        operand_goes ctx s k m c a shared (Value (Scalars v) ∷ Fill (StartOf x to limit step body) ∷ k) limit (LimitOf x to v step body) refl (omega arith) row.part.last row.part.limit.value (omega (arith, row.part.limit.shallow, ap length stack))
-        (align_within l own.code (covers (base_of to) kind) (outside_turns (compared_as (base_of to)) step) row.part.last row.part.turns.aligned row.part.end row.part.turns.align
-        (instr_within own.code row.part.turns.aligned (Liw (word_of step)) row.part.turns.stepped row.part.turns.load))
+        let did = row.part.did in
+        let here = did.here in
+        let stack : m.stack ≡ word_for h v ∷ [] = is ∙ ap (λ (st : List ℕ). word_for h v ∷ st) did.empty in
+        operand_goes ctx s k m c a shared (Value (Scalars v) ∷ Fill (StartOf x to limit step body) ∷ k) limit (LimitOf x to v step body) refl (omega arith) here.last (rw row.part.at here.limit.value) (omega (arith, here.limit.shallow, ap length stack))
+        (align_within l own.code (covers (base_of to) (kind_of row.part.of)) (outside_turns (compared_as (base_of to)) step) here.last here.turns.aligned did.end here.turns.align
+        (instr_within own.code here.turns.aligned (Liw (word_of step)) here.turns.stepped here.turns.load))
         (record {
           part = record {
-            same = row.part.limit.typed;
-            from = kind;
-            takes = row.part.takes;
-            fits = fit;
-            stack_is = stack;
-            end = row.part.end;
-            turns = row.part.turns;
-            within = row.part.within;
+            first = row.part.of;
+            row = record { of = limit; same = refl; from = row.part.from; did = record { empty = refl; end = did.end; here = here; within = did.within }; at = refl };
+            fits = ap (λ (j : Kind). within j v) (sym row.part.same) ∙ fit;
+            is = stack;
           };
           then = row.then;
         })
@@ -296,28 +248,30 @@ module _ (ctx : Setting) where
     pub limit_goes : (x : ℕ) (to : Kind) (u : Scalar) (step : ℤ) (body : Statements) (v : Scalar) (kind : Kind) → within kind v ≡ true → (below : List ℕ) → m.stack ≡ word_for h v ∷ below
         → Waiting ctx (Fill (LimitOf x to u step body)) Left (ValueOf kind) m.place below c a → Goes ctx s (Value (Scalars v) ∷ Fill (LimitOf x to u step body) ∷ k) m (c + 32)
     limit_goes x to u step body v kind fit below is row =
-        let same_kind : kind ≡ base_of to = row.part.same in
+        let r = row.part in
+        let did = r.row.did in
+        let from : Kind = kind_of r.first in
+        let same_kind : kind ≡ base_of to = r.row.same ∙ did.here.limit.typed in
         let fits : within (base_of to) v ≡ true = ap (λ (j : Kind). within j v) (sym same_kind) ∙ fit in
-        goes_none ctx s (Value (Scalars v) ∷ Fill (LimitOf x to u step body) ∷ k) m (c + 32) c
+        goes_none ctx s (Value (Scalars v) ∷ Fill (LimitOf x to u step body) ∷ k) m 32 c
         (lands_on ctx s m shared (Perform (Turns x to (ordinal_of u) step (turns (ordinal_of u) (ordinal_of v) step) body) ∷ k) m.place m.stack c a
         (at_once ctx _ Quiet m.place m.stack c a
         (inl (record {
           quiet = refl;
-          from = row.part.from;
-          takes = row.part.takes;
+          from = from;
+          takes = did.here.takes;
           limit = ordinal_of v;
-          fits = fits_has row.part.from u row.part.fits;
+          fits = fits_has from u r.fits;
           limit_fits = fits_has (base_of to) v fits;
-          stack_is = is ∙ ap (λ (st : List ℕ). word_for h v ∷ st) row.part.stack_is
-              ∙ ap (λ (w : ℕ). w ∷ word_for h u ∷ []) (value_word h (base_of to) v (base_plain to ∙ (takes_plain to row.part.from row.part.takes).0) fits)
-              ∙ ap (λ (w : ℕ). word_of (ordinal_of v) ∷ w ∷ []) (value_word h row.part.from u (takes_plain to row.part.from row.part.takes).1 row.part.fits);
+          stack_is = is ∙ ap (λ (st : List ℕ). word_for h v ∷ st) r.is
+              ∙ ap (λ (w : ℕ). w ∷ word_for h u ∷ []) (value_word h (base_of to) v (base_plain to ∙ (takes_plain to from did.here.takes).0) fits)
+              ∙ ap (λ (w : ℕ). word_of (ordinal_of v) ∷ w ∷ []) (value_word h from u (takes_plain to from did.here.takes).1 r.fits);
           count = refl;
-          end = row.part.end;
-          turns = row.part.turns;
-          within = row.part.within;
+          end = did.end;
+          turns = rw r.row.at did.here.turns;
+          within = did.within;
           then = row.then;
         }))))
-        (omega arith)
         (omega arith)
 
     -- both bounds are numbers of one kind, and their words stand on the expression stack
@@ -378,10 +332,9 @@ module _ (ctx : Setting) where
         by_left : (u : ℕ) → turns first row.limit step ≡ u → Goes ctx s (Perform (Turns x' kind first step u body) ∷ k) m (c + 24)
         by_left zero e =
             goes_after ctx s (Perform (Turns x' kind first step zero body) ∷ k) m stepped (c + 24) (c + 23) pushed
-            (goes_one ctx s (Perform (Turns x' kind first step zero body) ∷ k) stepped (c + 23) c (running (going m row.end []) s.world)
+            (goes_one ctx s (Perform (Turns x' kind first step zero body) ∷ k) stepped 22 c (running (going m row.end []) s.world)
             (advances stepped s.world _ (enters zero e ∙ yes _ _ _ (lt-ltb row.end (length own.code) row.within)))
-            (lands_on ctx s m shared k row.end [] c a (rows_ahead ctx k row.end [] c a row.then))
-            (omega arith))
+            (lands_on ctx s m shared k row.end [] c a (rows_ahead ctx k row.end [] c a row.then)))
             (omega arith)
         by_left (suc u) e =
             let one = written ctx s m n (written_none ctx s m n shared) n (word_of first) (omega arith) (omega arith) (omega (arith, room)) in
@@ -443,12 +396,11 @@ module _ (ctx : Setting) where
 
         by_left : (u : ℕ) → left ≡ u → TurnsFit (base_of kind) z step u → u < 65536 → Goes ctx s (Perform (Turns x' kind z step u body) ∷ k) m (c + 32)
         by_left zero e fit small =
-            goes_one ctx s (Perform (Turns x' kind z step zero body) ∷ k) m (c + 32) c (running (going m row.end m.stack) s.world)
+            goes_one ctx s (Perform (Turns x' kind z step zero body) ∷ k) m 31 c (running (going m row.end m.stack) s.world)
             (advances m s.world _ (again zero e))
             (lands_on ctx s m shared k row.end m.stack c row.outer
             (rows_ahead ctx k row.end m.stack c row.outer
             (subst (λ (st : List ℕ). Left Quiet row.end st c row.outer) (sym row.empty) row.then)))
-            (omega arith)
         by_left (suc u) e fit small =
             let sum : (row.words.now + word_of step) % 65536 ≡ word_of z = row.next_is ∙ omega (arith, word_small (compared_as (base_of kind)) z (has_type (base_of kind) z (ordinal_base (base_of kind) row.round.known.base) fit.0)) in
             let fewer : suc u - 1 ≡ u = omega arith in

@@ -1,26 +1,16 @@
 -- The rows of NEW: a block is taken below the limit, and the pointer gets its address.
-use Rattle.std.proofs.Common.{◌≡◌, ℕ, zero, suc, ◌+◌, ◌-◌, ◌<◌, ◌≤◌, ◌⊎◌, inl, inr, Bool, true, false, cond, List, [], ◌∷◌, ◌++◌, length, get_or, set, refl, sym, ap, ◌∙◌, subst, ⊎_elim, arith}
-use Rattle.std.specs.Prelude.{slice_get}
-use Rattle.std.proofs.lemmas.Bool.{ne_eqb, cases_lt, cases_Bool, cases_eq}
-use Rattle.lil_resolved.specs.Kinds.{Objects, Kind, OfPointer, Scalar, ToObject, Shape, Absent, Word, words, is_there, part_at, offset, shape_at}
-use Rattle.lil_resolved.specs.Resolved.{Designator, New}
-use Rattle.lil_meaning.specs.Items.{Root, Global, Local, Object, Place, Cells, same_root, object_place, stored, alone, zero_in, zeros_under, targets_of, object_words, loaded_at, Places, NewAt, Do, Item, Value, Fill, Perform, Going, Activation, Source, heap_words}
-use Rattle.lil_meaning.specs.Steps.{next, owner_of, target_of, made}
+use Rattle.std.proofs.Common.{◌≡◌, ℕ, zero, suc, ◌+◌, ◌-◌, ◌<◌, ◌≤◌, ◌⊎◌, inl, inr, Bool, true, false, List, [], ◌∷◌, ◌++◌, length, get_or, set, refl, sym, ap, ◌∙◌, subst, ⊎_elim, arith}
+use Rattle.std.proofs.lemmas.Bool.{ne_eqb, cases_lt, cases_eq}
+use Rattle.lil_resolved.specs.{Kinds.{Objects, OfPointer, ToObject, Shape, Absent, Word, words, is_there, part_at, offset, shape_at}, Resolved.{Designator, New, shape_of}}
+use Rattle.lil_meaning.specs.{Items.{Root, Global, Local, Object, Place, Cells, same_root, object_place, stored, alone, zero_in, zeros_under, object_words, Places, NewAt, Do, Item, Value, Fill, Perform, Going, Source, heap_words}, Steps.{next, target_of, made}}
 use Rattle.lil_asm.specs.declared.instr.Instr.TheVariants.{Liw}
-use Rattle.lil_mcode.specs.declared.machine.Event.{Event}
-use Rattle.lil_mcode.specs.declared.machine.Event.TheVariants.{Went}
-use Rattle.lil_mcode.specs.Table.{State, going}
+use Rattle.lil_mcode.specs.{declared.machine.Event.{Event, TheVariants.Went}, Table.{State, going}}
 use Rattle.lil_frames.specs.Words.{cleared}
-use Rattle.lil_table.specs.Rows.{Access}
-use Rattle.lil_match.specs.Parts.{yes, no, part_fits, word_long}
-use Rattle.lil_match.specs.Homes.{Of, Own, Fixed, Free, of_free, Home, extends_self, lives, address, shape_there, Refers, IsWord, is_word_kept, zero_is, Mem, mem_stored, scalar_owned, same_root_eq, same_root_refl}
-use Rattle.lil_match.specs.Costs.{shared_cost}
-use Rattle.lil_match.specs.Goes.{IsHeap, Shared, Goes}
-use Rattle.lil_match.specs.Waits.{Setting, frame_of, laid_out, Quiet, AtPlace, Around, Reach, Rows, HasPlace, Waiting}
-use Rattle.lil_match.specs.Kept.{place_lives}
-use Rattle.lil_match.specs.Steps.{closed, pushes, located_goes}
+use Rattle.lil_table.specs.Rows.{access_of}
+use Rattle.lil_match.specs.{Parts.{yes, no, part_fits, word_long}, Homes.{Of, Free, Home, extends_self, lives, address, shape_there, Refers, zero_is, Mem, mem_stored, same_root_refl}, Costs.shared_cost, Goes.{IsHeap, Shared, Goes}}
+use Rattle.lil_match.specs.{Waits.{Setting, frame_of, laid_out, Quiet, AtPlace, Around, Reach, Rows, Designates, placed, Waiting}, Kept.place_lives, Steps.{closed, pushes, located_goes}}
 use Rattle.lil_laws_place.specs.Codes.{inside, addressed, leads}
-use Rattle.lil_laws_stmt.specs.Painting.{of_own, painted, painted_there, painted_beside}
+use Rattle.lil_laws_stmt.specs.{Births.{adopted, mem_adopted}, Painting.painted_beside}
 use Rattle.lil_laws_stmt.specs.Blocks as block
 
 -- ---- one object more
@@ -55,13 +45,10 @@ module _ (ctx : Setting) where
     new_goes d n row =
         let r = row.part.here in
         located_goes ctx s k m c a shared (Perform (Do (New d n)) ∷ k) d (NewAt n) refl (omega arith) r.found r.here (omega (arith, r.shallow, ap length row.part.empty))
-        (record {
-          part = record { typed = r.typed; there = r.there; empty = row.part.empty; start = r.start; end = row.part.end; address = r.address; by = r.by; within = row.part.within };
-          then = row.then;
-        })
+        (record { part = placed ctx.stack.frame (New d n) a (λ p q r. r.found) m.place m.stack row.part; then = row.then })
 
     -- the pointer is there
-    module _ (n : ℕ) (place : Place) (b : Access) (t : Shape) (below : List ℕ) (has : HasPlace ctx b place t m.stack below) (row : Waiting ctx (Fill (NewAt n)) Rest (AtPlace b t) m.place below c a) where
+    module _ (n : ℕ) (place : Place) (d : Designator) (below : List ℕ) (has : Designates ctx d place m.stack below) (row : Waiting ctx (Fill (NewAt n)) Rest (AtPlace d) m.place below c a) where
       -- the new object's number, its shape, and its first word
       abbrev o : ℕ
       o = length s.objects
@@ -83,51 +70,41 @@ module _ (ctx : Setting) where
 
       -- the instruction that takes the block is next
       abbrev before : ℕ
-      before = row.part.by.0
+      before = row.part.amid.here.by.0
 
       abbrev taking : State
-      taking = going m row.part.by.0 (words (shape_at l.scope.targets n) ∷ address h place ∷ [])
+      taking = going m row.part.amid.here.by.0 (words (shape_at l.scope.targets n) ∷ address h place ∷ [])
 
       -- what the meaning makes is what the layout says
       target_is : target_of library now n ≡ shape_at l.scope.targets n
       target_is =
           let f = shared.standing.known in
-          ap (λ (ts : List Shape). shape_at ts n) (
-          ap (λ (i : ℕ). targets_of (loaded_at library s.loaded (owner_of (slice_get s.activations i)))) (closed ctx k _ _ _ _ _ row.then)
-          ∙ ap (λ (all : List Activation). targets_of (loaded_at library s.loaded (owner_of (slice_get all st.frame.activation)))) shared.activations_are
-          ∙ ap (λ (i : ℕ). targets_of (loaded_at library s.loaded i)) f.owner
-          ∙ ap (λ (ns : List ℕ). targets_of (loaded_at library ns st.frame.number)) shared.loaded_are
-          ∙ f.own_targets
-          ∙ sym f.targets
-          )
+          let here = closed ctx k _ _ _ _ _ row.then in
+          cc (here, shared.activations_are, f.owner, shared.loaded_are, f.own_targets, f.targets)
 
       abbrev after : Shape → Source
       after u = made u place k now
 
       low : address h place + 1 ≤ 65535
-      low = omega (arith, inside ctx s m shared b place t m.stack below has, ap words row.part.typed)
+      low = omega (arith, inside ctx s m shared (access_of l d) place (shape_of l.scope d) m.stack below has, ap words row.part.amid.here.typed)
 
       -- the next state has one object more
       more : heap_words (next library now).objects (next library now).workspaces ≡ heap_words s.objects s.workspaces + (words (shape_at l.scope.targets n) + 2)
       more = ap (λ (u : Shape). heap_words (s.objects ++ u ∷ []) s.workspaces) target_is ∙ (let e : heap_words (s.objects ++ target ∷ []) s.workspaces ≡ heap_words s.objects s.workspaces + (words target + 2) = omega (arith, objects_more s.objects target) in e)
 
       goes_short : m.limit - m.top < words (shape_at l.scope.targets n) + 2 → Goes ctx s items taking (c + 1)
-      goes_short less = block.goes_short ctx s items k m c a shared place low (words target) row.part.by.0 row.part.by.2.0 row.part.by.2.1 more (shared_cost ctx s m shared k _ _ _ _ _ row.then) less
+      goes_short less = block.goes_short ctx s items k m c a shared place low (words target) row.part.amid.here.by.0 row.part.amid.here.by.2.0 row.part.amid.here.by.2.1 more (shared_cost ctx s m shared k _ _ _ _ _ row.then) less
 
       -- ---- with room
       module _ (room : words (shape_at l.scope.targets n) + 2 ≤ m.limit - m.top) where
         roomy : m.top + (words (shape_at l.scope.targets n) + 2) ≤ st.limit
-        roomy = block.roomy ctx s items k m c a shared place low (words target) row.part.by.0 row.part.by.2.0 row.part.by.2.1 room
+        roomy = block.roomy ctx s items k m c a shared place low (words target) row.part.amid.here.by.0 row.part.amid.here.by.2.0 row.part.amid.here.by.2.1 room
 
         abbrev is_new : Root → Bool
         is_new r = same_root (Object o) r
 
         abbrev x : Home
-        x = record (ctx.home) {
-          base = λ r. cond (same_root (Object (length s.objects)) r) (ctx.stack.limit - words (shape_at ctx.stack.frame.layout.scope.targets n)) (ctx.home.base r);
-          shape = λ r. cond (same_root (Object (length s.objects)) r) (shape_at ctx.stack.frame.layout.scope.targets n) (ctx.home.shape r);
-          owner = painted ctx.home.owner (ctx.stack.limit - words (shape_at ctx.stack.frame.layout.scope.targets n)) ctx.stack.limit (λ a. Of (Object (length s.objects)));
-        }
+        x = adopted ctx.home (Object (length s.objects)) (ctx.stack.limit - words (shape_at ctx.stack.frame.layout.scope.targets n)) (shape_at ctx.stack.frame.layout.scope.targets n)
 
         -- a root that lives isn't the new one
         old_root : (r : Root) → lives h r ≡ true → same_root (Object o) r ≡ false
@@ -148,93 +125,40 @@ module _ (ctx : Setting) where
         shape_new = yes (same_root (Object o) (Object o)) target (h.shape (Object o)) (same_root_refl (Object o))
 
         beside : (i : ℕ) → (h.owner i ≡ Free st.base → ⊥) → (i < first) ⊎ ((first ≤ i) × (st.limit ≤ i))
-        beside = block.beside ctx s items k m c a shared place low (words target) row.part.by.0 row.part.by.2.0 row.part.by.2.1 room
+        beside = block.beside ctx s items k m c a shared place low (words target) row.part.amid.here.by.0 row.part.amid.here.by.2.0 row.part.amid.here.by.2.1 room
 
         owner_beside : (i : ℕ) → (i < first) ⊎ ((first ≤ i) × (st.limit ≤ i)) → x.owner i ≡ h.owner i
-        owner_beside i e = painted_beside h.owner first st.limit (λ a. Of (Object o)) i e
+        owner_beside i e = painted_beside h.owner first (first + words target) (λ a. Of (Object o)) i (⊎_elim (λ z. inl z) (λ g. inr (g.0, omega (arith, g.1, roomy))) e)
 
         -- ---- the block is cleared
         abbrev blank : List ℕ
         blank = cleared m.store (ctx.stack.limit - words (shape_at ctx.stack.frame.layout.scope.targets n)) ctx.stack.limit
 
         blank_beside : (i : ℕ) → (i < first) ⊎ ((first ≤ i) × (st.limit ≤ i)) → get_or blank i 0 ≡ get_or m.store i 0
-        blank_beside = block.blank_beside ctx s items k m c a shared place low (words target) row.part.by.0 row.part.by.2.0 row.part.by.2.1 room
+        blank_beside = block.blank_beside ctx s items k m c a shared place low (words target) row.part.amid.here.by.0 row.part.amid.here.by.2.0 row.part.amid.here.by.2.1 room
 
         blank_there : (i : ℕ) → i < words target → get_or blank (first + i) 0 ≡ 0
-        blank_there = block.blank_there ctx s items k m c a shared place low (words target) row.part.by.0 row.part.by.2.0 row.part.by.2.1 room
+        blank_there = block.blank_there ctx s items k m c a shared place low (words target) row.part.amid.here.by.0 row.part.amid.here.by.2.0 row.part.amid.here.by.2.1 room
 
         blank_long : length blank ≡ length m.store
-        blank_long = block.blank_long ctx s items k m c a shared place low (words target) row.part.by.0 row.part.by.2.0 row.part.by.2.1 room
+        blank_long = block.blank_long ctx s items k m c a shared place low (words target) row.part.amid.here.by.0 row.part.amid.here.by.2.0 row.part.amid.here.by.2.1 room
 
         abbrev fresh : Cells
         fresh = stored s.cells (object_place (length s.objects)) (zeros_under (shape_at ctx.stack.frame.layout.scope.targets n))
 
         mem_blank : Mem x fresh blank
-        mem_blank = record {
-          owned = λ r i less. owned r i less (cases_Bool (same_root (Object o) r));
-          inside = λ r. inside_by r (cases_Bool (same_root (Object o) r));
-          holds = λ r q j e. holds r q j e (cases_Bool (same_root (Object o) r));
-          kept = λ i own. kept i own (cases_lt i first) (cases_lt i st.limit);
-          fixed = λ i own. fixed i own (cases_lt i first) (cases_lt i st.limit);
-          long = blank_long ∙ shared.mem.long;
-        }
-          where
-            apart : (r : Root) (i : ℕ) → h.owner i ≡ Of r → (i < first) ⊎ ((first ≤ i) × (st.limit ≤ i))
-            apart r i is = beside i (λ free. of_free r st.base (sym is ∙ free))
-
-            owned : (r : Root) (i : ℕ) → i < words (x.shape r) → (same_root (Object o) r ≡ true) ⊎ (same_root (Object o) r ≡ false) → x.owner (x.base r + i) ≡ Of r
-            owned r i less (inl e) =
-                let is : Object o ≡ r = same_root_eq (Object o) r e in
-                let at : x.base r + i ≡ first + i = omega (arith, ap x.base (sym is), base_new) in
-                let small : i < words target = omega (arith, less, ap (λ (z : Root). words (x.shape z)) (sym is), ap words shape_new) in
-                ap x.owner at ∙ painted_there h.owner first st.limit (λ a. Of (Object o)) (first + i) (omega arith) (omega (arith, small, roomy)) ∙ ap Of is
-            owned r i less (inr e) =
-                let at : x.base r + i ≡ h.base r + i = omega (arith, base_old r e) in
-                let was = shared.mem.owned r i (omega (arith, less, ap words (shape_old r e))) in
-                ap x.owner at ∙ owner_beside (h.base r + i) (apart r (h.base r + i) was) ∙ was
-
-            inside_by : (r : Root) → (same_root (Object o) r ≡ true) ⊎ (same_root (Object o) r ≡ false) → x.base r + words (x.shape r) ≤ 65535
-            inside_by r (inl e) =
-                let is : Object o ≡ r = same_root_eq (Object o) r e in
-                omega (arith, ap x.base (sym is), base_new, ap (λ (z : Root). words (x.shape z)) (sym is), ap words shape_new, roomy, shared.standing.high)
-            inside_by r (inr e) = omega (arith, base_old r e, ap words (shape_old r e), shared.mem.inside r)
-
-            holds : (r : Root) (q : List ℕ) (j : Kind) → part_at (x.shape r) q ≡ Word j → (same_root (Object o) r ≡ true) ⊎ (same_root (Object o) r ≡ false)
-                → IsWord x j (fresh r q) (get_or blank (x.base r + offset (x.shape r) q) 0)
-            holds r q j e (inl new) =
-                let is : Object o ≡ r = same_root_eq (Object o) r new in
-                let shape : x.shape r ≡ target = ap x.shape (sym is) ∙ shape_new in
-                let part : part_at target q ≡ Word j = ap (λ (z : Shape). part_at z q) (sym shape) ∙ e in
-                let small : offset target q < words target = omega (arith, part_fits target q (ap is_there part), word_long (part_at target q) j part) in
-                let at : x.base r + offset (x.shape r) q ≡ first + offset target q = omega (arith, ap x.base (sym is), base_new, ap (λ (z : Shape). offset z q) shape) in
-                zero_is x j (fresh r q) (get_or blank (x.base r + offset (x.shape r) q) 0)
-                (yes (same_root (Object o) r) (zeros_under target q) (s.cells r q) new ∙ ap zero_in part)
-                (ap (λ (z : ℕ). get_or blank z 0) at ∙ blank_there (offset target q) small)
-            holds r q j e (inr old) =
-                let part : part_at (h.shape r) q ≡ Word j = ap (λ (z : Shape). part_at z q) (sym (shape_old r old)) ∙ e in
-                let was = shared.mem.holds r q j part in
-                let at : x.base r + offset (x.shape r) q ≡ h.base r + offset (h.shape r) q = omega (arith, base_old r old, ap (λ (z : Shape). offset z q) (shape_old r old)) in
-                let value : s.cells r q ≡ fresh r q = sym (no (same_root (Object o) r) (zeros_under target q) (s.cells r q) old) in
-                let same : get_or m.store (h.base r + offset (h.shape r) q) 0 ≡ get_or blank (x.base r + offset (x.shape r) q) 0 =
-                sym (ap (λ (z : ℕ). get_or blank z 0) at ∙ blank_beside (h.base r + offset (h.shape r) q) (apart r (h.base r + offset (h.shape r) q) (scalar_owned h s.cells m.store r q j shared.mem part).0)) in
-                subst (λ (w : ℕ). IsWord x j (fresh r q) w) same
-                (subst (λ (v : Scalar). IsWord x j v (get_or m.store (h.base r + offset (h.shape r) q) 0)) value
-                (is_word_kept h x (λ p alive. base_old (Object p) (old_root (Object p) alive)) (λ p alive. shape_old (Object p) (old_root (Object p) alive)) refl (extends_self h.workspaces) j (s.cells r q)
-                (get_or m.store (h.base r + offset (h.shape r) q) 0) was))
-
-            kept : (i : ℕ) → x.owner i ≡ Own → (i < first) ⊎ (first ≤ i) → (i < st.limit) ⊎ (st.limit ≤ i) → get_or blank i 0 ≡ h.shadow i
-            kept i own (inl z) e = blank_beside i (inl z) ∙ shared.mem.kept i (sym (owner_beside i (inl z)) ∙ own)
-            kept i own (inr g) (inl z) = absurd (of_own (Object o) (sym (painted_there h.owner first st.limit (λ a. Of (Object o)) i g z) ∙ own))
-            kept i own (inr g) (inr e) = blank_beside i (inr (g, e)) ∙ shared.mem.kept i (sym (owner_beside i (inr (g, e))) ∙ own)
-
-            fixed : (i : ℕ) → x.owner i ≡ Fixed → (i < first) ⊎ (first ≤ i) → (i < st.limit) ⊎ (st.limit ≤ i) → get_or blank i 0 ≡ h.shadow i
-            fixed i own (inl z) e = blank_beside i (inl z) ∙ shared.mem.fixed i (sym (owner_beside i (inl z)) ∙ own)
-            fixed i own (inr g) (inl z) = absurd (Rattle.lil_match.specs.Homes.fixed_of_none (Object o) (sym (painted_there h.owner first st.limit (λ a. Of (Object o)) i g z) ∙ own))
-            fixed i own (inr g) (inr e) = blank_beside i (inr (g, e)) ∙ shared.mem.fixed i (sym (owner_beside i (inr (g, e))) ∙ own)
+        mem_blank =
+            mem_adopted h s.cells m.store blank shared.mem (Object o) first target (zeros_under target) (shared.heap.born o ∙ unborn s.objects) (omega (arith, roomy, shared.standing.high))
+            (λ i from below. inr (st.base, shared.standing.room i (omega (arith, from, roomy)) (omega (arith, below, roomy))))
+            (λ i e. blank_beside i (⊎_elim (λ z. inl z) (λ g. inr (g.0, omega (arith, g.1, roomy))) e))
+            (λ q k is.
+            let small : offset target q < words target = omega (arith, part_fits target q (ap is_there is), word_long (part_at target q) k is) in
+            zero_is x k (zeros_under target q) (get_or blank (first + offset target q) 0) (ap zero_in is) (blank_there (offset target q) small))
+            blank_long
 
         -- ---- and the pointer gets its address
         alive : lives h place.root ≡ true
-        alive = place_lives h place t has.living has.there
+        alive = place_lives h place (shape_of l.scope d) has.living has.there
 
         here_is : (x.base place.root ≡ h.base place.root) × (x.shape place.root ≡ h.shape place.root)
         here_is = (base_old place.root (old_root place.root alive), shape_old place.root (old_root place.root alive))
@@ -243,10 +167,10 @@ module _ (ctx : Setting) where
         address_is = omega (arith, here_is.0, ap (λ (z : Shape). offset z place.path) here_is.1)
 
         living : shape_there x place ≡ Word (OfPointer (Objects n))
-        living = ap (λ (z : Shape). part_at z place.path) here_is.1 ∙ has.living ∙ row.part.typed
+        living = ap (λ (z : Shape). part_at z place.path) here_is.1 ∙ has.living ∙ row.part.amid.here.typed
 
         refers : Refers x (OfPointer (Objects n)) (ToObject o)
-        refers = (ap is_there shape_new ∙ row.part.there, shape_new ∙ ap (λ (ts : List Shape). shape_at ts n) shared.standing.known.targets)
+        refers = (ap is_there shape_new ∙ row.part.amid.here.there, shape_new ∙ ap (λ (ts : List Shape). shape_at ts n) shared.standing.known.targets)
 
         abbrev store : List ℕ
         store = set blank (address h place) (ctx.stack.limit - words (shape_at ctx.stack.frame.layout.scope.targets n))
@@ -294,7 +218,7 @@ module _ (ctx : Setting) where
 
         goes_roomy : Goes ctx s items taking (c + 1)
         goes_roomy =
-            block.goes_roomy ctx s items k m c a shared place low (words target) row.part.by.0 row.part.by.2.0 row.part.by.2.1 room x (stored fresh place (alone (ToObject o))) (s.objects ++ target ∷ []) s.workspaces
+            block.goes_roomy ctx s items k m c a shared place low (words target) row.part.amid.here.by.0 row.part.amid.here.by.2.0 row.part.amid.here.by.2.1 room x (stored fresh place (alone (ToObject o))) (s.objects ++ target ∷ []) s.workspaces
             (record {
               base = λ r e. base_old r (old_root r e);
               shape = λ r e. shape_old r (old_root r e);
@@ -306,15 +230,15 @@ module _ (ctx : Setting) where
               heap = heap;
             })
             (ap (λ (u : Shape). made u place k now) target_is)
-            (subst (λ (q : ℕ). Rows ctx k Quiet q [] c a) (sym row.part.by.2.2) row.then)
+            (subst (λ (q : ℕ). Rows ctx k Quiet q [] c a) (sym row.part.amid.here.by.2.2) row.then)
 
       pub new_at_goes : Goes ctx s (Value (Places place) ∷ Fill (NewAt n) ∷ k) m (c + 32)
       new_at_goes =
-          let r = row.part in
-          addressed ctx s items m shared b place t m.stack below has (omega (arith, ap length r.empty)) m.place r.start (c + 32) (c + 2) r.address
+          let r = row.part.amid.here in
+          addressed ctx s items m shared (access_of l d) place (shape_of l.scope d) m.stack below has (omega (arith, ap length row.part.empty)) m.place r.start (c + 32) (c + 2) (rw row.part.amid.at r.address)
           (leads ctx s items m shared (Liw (words target)) r.start r.by.0 (address h place ∷ below) (words target ∷ address h place ∷ []) (c + 2) (c + 1) r.by.1
-          (pushes (words target) r.by.0 (going m r.start (address h place ∷ below)) (omega (arith, ap length r.empty))
-          ∙ ap (λ (z : List ℕ). let e : Event × State = (Went, going m r.by.0 (words target ∷ address h place ∷ z)) in e) r.empty)
+          (pushes (words target) r.by.0 (going m r.start (address h place ∷ below)) (omega (arith, ap length row.part.empty))
+          ∙ ap (λ (z : List ℕ). let e : Event × State = (Went, going m r.by.0 (words target ∷ address h place ∷ z)) in e) row.part.empty)
           (⊎_elim (λ less. goes_short less) (λ more. goes_roomy more) (cases_lt (m.limit - m.top) (words target + 2)))
           (omega arith))
           (omega arith)

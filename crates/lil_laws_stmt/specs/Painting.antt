@@ -3,8 +3,7 @@ use Rattle.std.proofs.Common.{◌≡◌, ℕ, ◌<◌, ◌≤◌, ◌⊎◌, inl
 use Rattle.std.specs.Prelude.{nat_lt}
 use Rattle.std.proofs.lemmas.Bool.{lt-ltb, le-ltb, cases_lt}
 use Rattle.lil_meaning.specs.Items.{Root}
-use Rattle.lil_match.specs.Parts.{yes, no}
-use Rattle.lil_match.specs.Homes.{Of, Own, Fixed, Free}
+use Rattle.lil_match.specs.{Parts.{yes, no}, Homes.{Of, Own, Fixed, Free}}
 
 pub own_free : (b : ℕ) → Own ≡ Free b → ⊥
 own_free b e = cc

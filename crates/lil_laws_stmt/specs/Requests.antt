@@ -1,34 +1,19 @@
 -- The rows of requests and of their arguments.
 use Rattle.std.proofs.Common.{◌≡◌, ℕ, zero, suc, ◌+◌, ◌-◌, ◌%◌, ◌<◌, ◌≤◌, Bool, true, false, cond, List, [], ◌∷◌, ◌++◌, length, map, reverse, get_or, take, drop, inl, inr, ◌⊎◌, refl, sym, ap, ◌∙◌, subst, arith, append_assoc}
 use Rattle.std.specs.Prelude.{nat_le, nat_lt}
-use Rattle.std.proofs.lemmas.Bool.{le-leb, leb-true, lt-ltb, cases_lt, and_from}
-use Rattle.std.proofs.lemmas.List.{map-append, append-nil, reverse-append, take_all, drop_all, drop_more}
+use Rattle.std.proofs.lemmas.{Bool.{le-leb, leb-true, lt-ltb, cases_lt, and_from}, List.{map-append, append-nil, reverse-append, take_all, drop_all, drop_more}}
 use Rattle.lil_base.specs.declared.fault.TrapKind.TheVariants as trap
-use Rattle.lil_base.specs.Requests.{request_number, request_found, takes_array}
-use Rattle.lil_base.specs.declared.request.Request.{Request}
-use Rattle.lil_base.specs.declared.request.Request.TheVariants.{Write, WriteString, WriteLn, WriteCard, WriteInt, WriteOct, WriteHex}
-use Rattle.lil_asm.specs.Requests.{request_words}
-use Rattle.lil_resolved.specs.Kinds.{Kind, OfCharacter, Scalar, Number, Truth, Character, SetOf, ToObject, ToWorkspace, ToProcedure, ToCoroutine, Nil, Nothing, within, scalar_word, Shape, Absent, Word, Row, words, is_there, part_at, offset}
+use Rattle.lil_base.specs.{Requests.{request_number, request_found, takes_array}, declared.request.Request.{Request, TheVariants.{Write, WriteString, WriteLn, WriteCard, WriteInt, WriteOct, WriteHex}}}
+use Rattle.lil_asm.specs.{Requests.request_words, declared.instr.Instr.TheVariants.{Liw, Lag, Svc}}
+use Rattle.lil_resolved.specs.{Kinds.{Kind, OfCharacter, Scalar, Character, within, scalar_word, Shape, Absent, Word, Row, words, is_there, part_at, offset}, Resolved.{Designator, Argument, ByValue, OfArray, OfText, shape_of}, Sound.{request_parameters, parameter_of, is_text}}
 use Rattle.lil_resolved.specs.Resolved as resolved
-use Rattle.lil_resolved.specs.Resolved.{Argument, ByValue, OfArray, OfText, shape_of}
-use Rattle.lil_resolved.specs.Sound.{request_parameters, parameter_of, is_text}
-use Rattle.lil_meaning.specs.Items.{Place, part_of, got, Datum, Scalars, Places, Wholes, Opens, Texts, Pass, PassArray, Do, Passing, Item, Value, PlaceOf, Fill, Perform, Going, Source}
-use Rattle.lil_meaning.specs.World.{World, Given, Single, Characters, characters_at, array_at, given_by, serve}
-use Rattle.lil_meaning.specs.Steps.{trapped, with_items, character_of, characters_from, as_array, given_of, level_of}
-use Rattle.lil_asm.specs.declared.instr.Instr.TheVariants.{Liw, Lag, Svc}
+use Rattle.lil_meaning.specs.{Items.{Place, part_of, got, Datum, Scalars, Places, Wholes, Opens, Texts, Pass, PassArray, Do, Passing, Item, Value, PlaceOf, Fill, Perform, Going, Source}, World.{World, Given, Single, Characters, characters_at, array_at, given_by, serve}, Steps.{trapped, with_items, character_of, characters_from, as_array, given_of, level_of}}
 use Rattle.lil_mcode.specs.Table.{State, going, array_lies, request_row}
-use Rattle.lil_table.specs.Rows.{IsAt, ArgumentsAt, HasText, text_words, arguments_words, Access, access_of}
-use Rattle.lil_match.specs.Goes.{Shared, Goes, Lands}
-use Rattle.lil_match.specs.Running.{Running, Run, running}
-use Rattle.lil_match.specs.Parts.{yes, no}
-use Rattle.lil_match.specs.Homes.{Home, text_character, word_for, plain_word, takes_plain, address, shape_there, place_inside, part_there}
-use Rattle.lil_match.specs.Stutter.{stutter}
-use Rattle.lil_match.specs.Waits.{Setting, frame_of, laid_out, Quiet, ValueOf, AtPlace, Around, Reach, Rows, HasPlace, is_open, is_array, TakesAll, DatumOn, DataOn, Waiting}
-use Rattle.lil_match.specs.Orders.{instr_within, arguments_within}
-use Rattle.lil_match.specs.Steps.{closed, advances, at_step, at_once, pushes, rows_ahead, lands_on, goes_none, goes_one, operand_goes}
+use Rattle.lil_table.specs.Rows.{IsAt, ArgumentsAt, HasText, text_words, argument_words, arguments_words, access_of}
+use Rattle.lil_match.specs.{Goes.{Shared, Goes, Lands}, Running.{Running, Run, running}, Parts.{yes, no}, Homes.{Home, text_character, word_for, plain_word, takes_plain, address, shape_there, place_inside, part_there}, Stutter.stutter}
+use Rattle.lil_match.specs.{Waits.{Setting, frame_of, laid_out, Quiet, ValueOf, AtPlace, Around, Reach, Rows, Designates, is_open, is_array, TakesAll, DatumOn, DataOn, LeftPart, Waiting}, Orders.{instr_within, arguments_within}, Steps.{closed, advances, at_step, at_once, pushes, rows_ahead, lands_on, goes_none, goes_none_within, goes_one, operand_goes}}
 use Rattle.lil_laws_place.specs.Codes.{leads, addressed, tested}
-use Rattle.lil_laws_stmt.specs.Strings.{string_low, string_word}
-use Rattle.lil_laws_stmt.specs.Tasks.{value_within}
+use Rattle.lil_laws_stmt.specs.{Strings.{string_low, string_word}, Tasks.value_within}
 
 -- ---- which arguments are arrays
 -- one of those that are left is at hand
@@ -72,15 +57,7 @@ text_first (c ∷ cs) some = refl
 -- a word that holds a character
 character_word : (h : Home) (v : Scalar) → within OfCharacter v ≡ true → word_for h v % 256 ≡ character_of v
 character_word h (Character c) e = let small = leb-true c 255 e in omega (arith, small)
-character_word h (Number z) e = cc
-character_word h (Truth b) e = cc
-character_word h (SetOf x) e = cc
-character_word h (ToObject o) e = cc
-character_word h (ToWorkspace w) e = cc
-character_word h (ToProcedure n p) e = cc
-character_word h (ToCoroutine n) e = cc
-character_word h Nil e = cc
-character_word h Nothing e = cc
+character_word h v e = cc
 
 module _ (ctx : Setting) where
   open ctx use {library, table, home as h}
@@ -91,6 +68,25 @@ module _ (ctx : Setting) where
   data_more : (ds : List Datum) (d : Datum) (below old new : List ℕ) → DataOn ctx ds old below → DatumOn ctx d new old → DataOn ctx (ds ++ d ∷ []) new below
   data_more [] d below old new r e = (new, subst (DatumOn ctx d new) r e, refl)
   data_more (x ∷ ds) d below old new r e = (r.0, r.1, data_more ds d r.0 old new r.2 e)
+
+  -- the first of those that are left is at hand, and is done
+  abbrev left_more : (r : Request) (done : List Bool) (x : Argument) (left : List Argument) (count p : ℕ) (y : LeftPart ctx.stack.frame r done (x ∷ left) count p)
+      → LeftPart ctx.stack.frame r (done ++ is_open (parameter_of x) ∷ []) left (argument_words x + count) y.given.middle
+  left_more r done x left count p y = record {
+    middle = y.middle;
+    given = y.given.then;
+    forms = forms_more r done x left y.forms;
+    serve = record { words = y.serve.words ∙ (let e : count + (argument_words x + arguments_words left) ≡ argument_words x + count + arguments_words left = omega arith in e); end = y.serve.end; by = y.serve.by; within = y.serve.within };
+  }
+
+  abbrev left_done : (r : Request) (done : List Datum) (d : Datum) (left : List Argument) (count more p : ℕ) → count ≡ more → LeftPart ctx.stack.frame r (map is_array done ++ is_array d ∷ []) left count p
+      → LeftPart ctx.stack.frame r (map is_array (done ++ d ∷ [])) left more p
+  left_done r done d left count more p e y = record {
+    middle = y.middle;
+    given = subst (λ (n : ℕ). ArgumentsAt l own.code n left p y.middle) e y.given;
+    forms = forms_done r done d left y.forms;
+    serve = record { words = y.serve.words ∙ ap (λ (n : ℕ). n + arguments_words left) e; end = y.serve.end; by = y.serve.by; within = y.serve.within };
+  }
 
   module _ (s : Source) (m : State) (shared : Shared ctx s m) where
     -- words alone
@@ -196,20 +192,21 @@ module _ (ctx : Setting) where
         → Goes ctx s (Perform (Do (resolved.Request r given)) ∷ k) m (c + 32)
     request_goes r given row =
         let none : length m.stack ≡ 0 = ap length row.part.empty in
-        goes_none ctx s (Perform (Do (resolved.Request r given)) ∷ k) m (c + 32) c
+        goes_none ctx s (Perform (Do (resolved.Request r given)) ∷ k) m 32 c
         (lands_on ctx s m shared (Perform (Passing r [] given) ∷ k) m.place m.stack c a
         (at_once ctx _ Quiet m.place m.stack c a
         (record {
           part = record {
             on = row.part.empty;
-            middle = row.part.here.middle;
-            given = subst (λ (n : ℕ). ArgumentsAt l own.code n given m.place row.part.here.middle) (sym none) row.part.here.arguments;
-            forms = record { same = ap (map is_open) row.part.here.takes };
-            serve = record { words = row.part.here.words ∙ (let e : arguments_words given ≡ length m.stack + arguments_words given = omega (arith, none) in e); end = row.part.end; by = row.part.here.by; within = row.part.within };
+            rest = record {
+              middle = row.part.here.middle;
+              given = subst (λ (n : ℕ). ArgumentsAt l own.code n given m.place row.part.here.middle) (sym none) row.part.here.arguments;
+              forms = record { same = ap (map is_open) row.part.here.takes };
+              serve = record { words = row.part.here.words ∙ (let e : arguments_words given ≡ length m.stack + arguments_words given = omega (arith, none) in e); end = row.part.end; by = row.part.here.by; within = row.part.within };
+            };
           };
           then = row.then;
         })))
-        (omega arith)
         (omega arith)
 
     -- behind an argument of so many words
@@ -218,81 +215,67 @@ module _ (ctx : Setting) where
 
     pub passing_goes : (r : Request) (done : List Datum) (x : Argument) (left : List Argument) → Passed r done x left → Goes ctx s (Perform (Passing r done (x ∷ left)) ∷ k) m (c + 32)
     passing_goes r done (ByValue kind e) left row =
-        let value = row.part.given.here.1 in
-        let serve = row.part.serve in
-        let rest : ArgumentsAt l own.code (suc (length m.stack)) left row.part.given.middle row.part.middle =
-        subst (λ (n : ℕ). ArgumentsAt l own.code n left row.part.given.middle row.part.middle) (let e : 1 + length m.stack ≡ suc (length m.stack) = omega arith in e) row.part.given.then in
-        let behind = arguments_within l own.code (suc (length m.stack)) left row.part.given.middle row.part.middle rest (instr_within own.code row.part.middle (Svc (request_number r)) serve.end serve.by) in
-        let count : length m.stack + (1 + arguments_words left) ≡ suc (length m.stack) + arguments_words left = omega arith in
+        let rest = row.part.rest in
+        let value = rest.given.here.1 in
+        let behind = arguments_within l own.code (1 + length m.stack) left rest.given.middle rest.middle rest.given.then (instr_within own.code rest.middle (Svc (request_number r)) rest.serve.end rest.serve.by) in
         operand_goes ctx s k m c a shared (Perform (Passing r done (ByValue kind e ∷ left)) ∷ k) e (Pass r kind done left) refl (omega arith) value.middle value.value.value
         value.value.shallow
-        (value_within ctx (length m.stack) e kind m.place row.part.given.middle value behind)
+        (value_within ctx (length m.stack) e kind m.place rest.given.middle value behind)
         (record {
           part = record {
-            takes = row.part.given.here.0;
+            takes = rest.given.here.0;
             on = row.part.on;
-            tested = row.part.given.middle;
+            tested = rest.given.middle;
             test = value.test;
-            middle = row.part.middle;
-            given = rest;
-            forms = forms_more r (map is_array done) (ByValue kind e) left row.part.forms;
-            serve = record { words = serve.words ∙ count; end = serve.end; by = serve.by; within = serve.within };
+            rest = left_more r (map is_array done) (ByValue kind e) left (length m.stack) m.place rest;
           };
           then = row.then;
         })
     passing_goes r done (OfArray d high) left row =
-        let y = row.part.given.here in
-        let serve = row.part.serve in
-        let count : length m.stack + (2 + arguments_words left) ≡ 2 + length m.stack + arguments_words left = omega arith in
-        goes_none ctx s (Perform (Passing r done (OfArray d high ∷ left)) ∷ k) m (c + 32) c
+        let rest = row.part.rest in
+        let y = rest.given.here in
+        goes_none ctx s (Perform (Passing r done (OfArray d high ∷ left)) ∷ k) m 32 c
         (lands_on ctx s m shared (PlaceOf d ∷ Fill (PassArray r high done left) ∷ k) m.place m.stack c a
         (at_once ctx _ Quiet m.place m.stack c a
         (record {
           part = record { end = y.found; here = y.here; shallow = y.shallow };
-          then = at_once ctx _ (AtPlace (access_of l d) (shape_of l.scope d)) y.found m.stack c a
+          then = at_once ctx _ (AtPlace d) y.found m.stack c a
               (record {
                 part = record {
                   rows = y.rows;
                   room = y.room;
                   on = row.part.on;
                   start = y.start;
-                  last = row.part.given.middle;
+                  last = rest.given.middle;
                   address = y.address;
                   by = y.by;
-                  middle = row.part.middle;
-                  given = row.part.given.then;
-                  forms = forms_more r (map is_array done) (OfArray d high) left row.part.forms;
-                  serve = record { words = serve.words ∙ count; end = serve.end; by = serve.by; within = serve.within };
+                  rest = left_more r (map is_array done) (OfArray d high) left (length m.stack) m.place rest;
                 };
                 then = row.then;
               });
         })))
         (omega arith)
-        (omega arith)
     passing_goes r done (OfText cs) left row =
-        let y = row.part.given.here in
-        let serve = row.part.serve in
+        let rest = row.part.rest in
+        let y = rest.given.here in
         let from : ℕ = own.base + y.offset in
         let stack : List ℕ = (text_words cs - 1) ∷ from ∷ m.stack in
         let low = string_low ctx s m shared cs y.offset y.text in
         let after : List Item = Perform (Passing r (done ++ Texts cs ∷ []) left) ∷ k in
         let items : List Item = Perform (Passing r done (OfText cs ∷ left)) ∷ k in
-        let here : State = going m row.part.given.middle stack in
-        let count : length m.stack + (2 + arguments_words left) ≡ length stack + arguments_words left = omega arith in
+        let here : State = going m rest.given.middle stack in
+        let count : 2 + length m.stack ≡ length stack = omega arith in
         leads ctx s items m shared (Lag y.offset) m.place y.start m.stack (from ∷ m.stack) (c + 32) (c + 1) y.address
         (yes _ _ _ (lt-ltb (own.base + y.offset) 65536 (omega (arith, low))) ∙ pushes from y.start m (omega (arith, y.room)))
-        (leads ctx s items m shared (Liw (text_words cs - 1)) y.start row.part.given.middle (from ∷ m.stack) stack (c + 1) c y.by
-        (pushes (text_words cs - 1) row.part.given.middle (going m y.start (from ∷ m.stack)) (omega (arith, y.room)))
-        (goes_none ctx s items here c c
-        (lands_on ctx s m shared after row.part.given.middle stack c a
-        (at_once ctx _ Quiet row.part.given.middle stack c a
+        (leads ctx s items m shared (Liw (text_words cs - 1)) y.start rest.given.middle (from ∷ m.stack) stack (c + 1) c y.by
+        (pushes (text_words cs - 1) rest.given.middle (going m y.start (from ∷ m.stack)) (omega (arith, y.room)))
+        (goes_none_within ctx s items here c c
+        (lands_on ctx s m shared after rest.given.middle stack c a
+        (at_once ctx _ Quiet rest.given.middle stack c a
         (record {
           part = record {
             on = data_more done (Texts cs) [] m.stack stack row.part.on (record { offset = y.offset; text = y.text; is = refl });
-            middle = row.part.middle;
-            given = subst (λ (n : ℕ). ArgumentsAt l own.code n left row.part.given.middle row.part.middle) (let e : 2 + length m.stack ≡ length stack = omega arith in e) row.part.given.then;
-            forms = forms_done r done (Texts cs) left (forms_more r (map is_array done) (OfText cs) left row.part.forms);
-            serve = record { words = serve.words ∙ count; end = serve.end; by = serve.by; within = serve.within };
+            rest = left_done r done (Texts cs) left (2 + length m.stack) (length stack) rest.given.middle count (left_more r (map is_array done) (OfText cs) left (length m.stack) m.place rest);
           };
           then = row.then;
         })))
@@ -302,29 +285,25 @@ module _ (ctx : Setting) where
         (omega arith)
 
     -- an array is there: its address, and the number of its last element
-    pub pass_array_goes : (r : Request) (high : ℕ) (done : List Datum) (left : List Argument) (place : Place) (b : Access) (t : Shape) (below : List ℕ) → HasPlace ctx b place t m.stack below
-        → Waiting ctx (Fill (PassArray r high done left)) Rest (AtPlace b t) m.place below c a → Goes ctx s (Value (Places place) ∷ Fill (PassArray r high done left) ∷ k) m (c + 32)
-    pass_array_goes r high done left place b t below has row =
+    pub pass_array_goes : (r : Request) (high : ℕ) (done : List Datum) (left : List Argument) (place : Place) (d : Designator) (below : List ℕ) → Designates ctx d place m.stack below
+        → Waiting ctx (Fill (PassArray r high done left)) Rest (AtPlace d) m.place below c a → Goes ctx s (Value (Places place) ∷ Fill (PassArray r high done left) ∷ k) m (c + 32)
+    pass_array_goes r high done left place d below has row =
         let y = row.part in
-        let serve = y.serve in
         let items : List Item = Value (Places place) ∷ Fill (PassArray r high done left) ∷ k in
         let after : List Item = Perform (Passing r (done ++ Opens place high ∷ []) left) ∷ k in
         let stack : List ℕ = high ∷ address h place ∷ below in
         let count : 2 + length below ≡ length stack = omega arith in
-        addressed ctx s items m shared b place t m.stack below has (omega (arith, y.room)) m.place y.start (c + 32) (c + 1) y.address
+        addressed ctx s items m shared (access_of l d) place (shape_of l.scope d) m.stack below has (omega (arith, y.room)) m.place y.start (c + 32) (c + 1) y.address
         (leads ctx s items m shared (Liw high) y.start y.last (address h place ∷ below) stack (c + 1) c y.by
         (pushes high y.last (going m y.start (address h place ∷ below)) (omega (arith, y.room)))
-        (goes_none ctx s items (going m y.last stack) c c
+        (goes_none_within ctx s items (going m y.last stack) c c
         (lands_on ctx s m shared after y.last stack c a
         (at_once ctx _ Quiet y.last stack c a
         (record {
           part = record {
             on = data_more done (Opens place high) [] below stack y.on
                 (record { has = record { seen = has.seen; living = has.living ∙ y.rows; there = refl; at = refl }; is = refl });
-            middle = y.middle;
-            given = subst (λ (n : ℕ). ArgumentsAt l own.code n left y.last y.middle) count y.given;
-            forms = forms_done r done (Opens place high) left y.forms;
-            serve = record { words = serve.words ∙ ap (λ (n : ℕ). n + arguments_words left) count; end = serve.end; by = serve.by; within = serve.within };
+            rest = left_done r done (Opens place high) left (2 + length below) (length stack) y.last count y.rest;
           };
           then = row.then;
         })))
@@ -341,24 +320,20 @@ module _ (ctx : Setting) where
         let after : List Item = Perform (Passing r (done ++ Scalars v ∷ []) left) ∷ k in
         let becomes : Bool → Source = λ b. cond b (with_items now after) (trapped library now trap.Range) in
         let stack_is : m.stack ≡ scalar_word v ∷ below = is ∙ ap (λ (w : ℕ). w ∷ below) (plain_word h kind v (takes_plain to kind row.part.takes).1 fit) in
-        let count : suc (length below) ≡ length m.stack = sym (ap length stack_is) in
-        let serve = row.part.serve in
+        let count : 1 + length below ≡ length m.stack = omega (arith, ap length stack_is) in
         let falls : stutter after < stutter items = omega arith in
         tested ctx s items m shared m.place m.stack to kind v row.part.takes fit below stack_is
         row.part.tested (c + 32) c row.part.test (closed ctx k _ _ _ _ _ row.then)
         (λ out. ap becomes out)
         (λ one.
-        goes_none ctx s items (going m row.part.tested m.stack) c c
+        goes_none_within ctx s items (going m row.part.tested m.stack) c c
         (subst (λ (t : Source). Lands ctx t.phase t (running (going m row.part.tested m.stack) s.world) c) (sym (ap becomes one))
         (lands_on ctx s m shared after row.part.tested m.stack c a
         (at_once ctx _ Quiet row.part.tested m.stack c a
         (record {
           part = record {
             on = data_more done (Scalars v) [] below m.stack row.part.on stack_is;
-            middle = row.part.middle;
-            given = subst (λ (n : ℕ). ArgumentsAt l own.code n left row.part.tested row.part.middle) count row.part.given;
-            forms = forms_done r done (Scalars v) left row.part.forms;
-            serve = record { words = serve.words ∙ ap (λ (n : ℕ). n + arguments_words left) count; end = serve.end; by = serve.by; within = serve.within };
+            rest = left_done r done (Scalars v) left (1 + length below) (length m.stack) row.part.tested count row.part.rest;
           };
           then = row.then;
         }))))
@@ -370,20 +345,20 @@ module _ (ctx : Setting) where
         → Goes ctx s (Perform (Passing r done []) ∷ k) m (c + 32)
     serve_goes r done row =
         let count : ℕ = request_words r in
-        let all : count ≡ length m.stack = omega (arith, row.part.serve.words) in
-        let by = subst (λ (p : ℕ). IsAt own.code p (Svc (request_number r)) row.part.serve.end) (sym row.part.given) row.part.serve.by in
+        let all : count ≡ length m.stack = omega (arith, row.part.rest.serve.words) in
+        let by = subst (λ (p : ℕ). IsAt own.code p (Svc (request_number r)) row.part.rest.serve.end) (sym row.part.rest.given) row.part.rest.serve.by in
         let enough : nat_le count (length m.stack) ≡ true = le-leb count (length m.stack) (omega arith) in
         let none_left : drop count m.stack ≡ [] = drop_all count m.stack (omega arith) in
-        let y = all_given s m shared r done row.part.on row.part.forms in
+        let y = all_given s m shared r done row.part.on row.part.rest.forms in
         let given : given_by r m.store (reverse (take count m.stack)) ≡ map (given_of s.cells) done =
         ap (λ (x : List ℕ). given_by r m.store (reverse x)) (take_all count m.stack (omega arith)) ∙ y.same in
-        let machine : State = record m { place = row.part.serve.end; stack = [] } in
+        let machine : State = record m { place = row.part.rest.serve.end; stack = [] } in
         let w : World = (serve (level_of s) r (map (given_of s.cells) done) s.world).0 in
-        let at : List ℕ → List Given → Run = λ x given. record { machine = record m { place = row.part.serve.end; stack = x }; world = (serve (level_of s) r given s.world).0; finish = Running } in
-        goes_one ctx s (Perform (Passing r done []) ∷ k) m (c + 32) c (running machine w)
+        let at : List ℕ → List Given → Run = λ x given. record { machine = record m { place = row.part.rest.serve.end; stack = x }; world = (serve (level_of s) r given s.world).0; finish = Running } in
+        goes_one ctx s (Perform (Passing r done []) ∷ k) m 31 c (running machine w)
         (advances m s.world _ (
-        at_step ctx m shared.program (Svc (request_number r)) row.part.serve.end by
-        ∙ ap (request_row row.part.serve.end m) (request_found r)
+        at_step ctx m shared.program (Svc (request_number r)) row.part.rest.serve.end by
+        ∙ ap (request_row row.part.rest.serve.end m) (request_found r)
         ∙ yes _ _ _ (and_from _ _ enough y.lies)
         )
         ∙ ap (λ (x : List ℕ). at x (given_by r m.store (reverse (take count m.stack)))) none_left
@@ -394,7 +369,6 @@ module _ (ctx : Setting) where
           met = record {
             shared = shared;
             around = a;
-            ahead = rows_ahead ctx k row.part.serve.end [] c a row.then;
+            ahead = rows_ahead ctx k row.part.rest.serve.end [] c a row.then;
           };
         })
-        (omega arith)

@@ -2,20 +2,13 @@
 use Rattle.std.proofs.Common.{◌≡◌, ℕ, ◌+◌, ◌-◌, ◌<◌, ◌≤◌, ◌⊎◌, inl, inr, Some, List, [], ◌∷◌, ◌++◌, get_or, refl, sym, ap, ◌∙◌, subst, arith}
 use Rattle.std.specs.Prelude.{is_some}
 use Rattle.std.proofs.lemmas.Bool.{ne_eqb, lt-ltb, le-leb, and_from}
-use Rattle.lil_resolved.specs.Kinds.{offset}
-use Rattle.lil_meaning.specs.Items.{Root, End, Item, Perform, Source}
+use Rattle.lil_meaning.specs.Items.{End, Item, Perform, Source}
 use Rattle.lil_asm.specs.declared.instr.Instr.TheVariants.{Rtn}
 use Rattle.lil_mcode.specs.Table.{Module, State, stack_of, module_at, return_row}
 use Rattle.lil_table.specs.Rows.{IsAt}
-use Rattle.lil_match.specs.Goes.{OwnWords, Stands, Shared, Goes}
-use Rattle.lil_match.specs.Running.{running, advanced}
-use Rattle.lil_match.specs.Parts.{yes, no}
-use Rattle.lil_match.specs.Homes.{Of, Own, Fixed, own_fixed, Free, Home, extends_self, Mem, is_word_kept}
-use Rattle.lil_match.specs.Waits.{Quiet, Frame, Setting, at_home, with_frames, Rows, RowsOf, Back}
-use Rattle.lil_match.specs.Known.{known_kept, each_known, each_comes}
-use Rattle.lil_match.specs.Kept.{EachAbove, first_words, stands_above, all_above, stands_kept, rows_kept}
-use Rattle.lil_match.specs.Steps.{advances, at_step, rows_ahead, goes_one_in}
-use Rattle.lil_laws_stmt.specs.Painting.{own_free, free_fixed, of_own, painted, painted_there, painted_beside, Side, Before, Between, Behind', side}
+use Rattle.lil_match.specs.{Goes.{OwnWords, Stands, Shared, Goes}, Running.{running, advanced}, Parts.{yes, no}, Homes.{Own, Fixed, Free, Home, extends_self, Mem, Stays, Turns, mem_turned, fixed_turned}, Waits.{Quiet, Frame, Setting, at_home, with_frames, Rows, RowsOf, Back}, Known.{known_kept, each_known, each_comes}}
+use Rattle.lil_match.specs.{Kept.{EachAbove, first_words, stands_above, all_above, stands_kept, rows_kept}, Steps.{advances, at_step, rows_ahead, goes_one_in}}
+use Rattle.lil_laws_stmt.specs.Painting.{painted, painted_there, painted_beside, Side, Before, Between, Behind', side}
 
 module _ (ctx : Setting) (f g : Frame) (gs bs : List Frame) where
   abbrev called : Setting
@@ -73,42 +66,22 @@ module _ (ctx : Setting) (f g : Frame) (gs bs : List Frame) where
         (and_from _ _ (le-leb (g.at + 4) m.frame (omega (arith, shared.standing.frame_is, under.mark, under.below))) (ap is_some there))))
         )
 
-    mem : Mem x s.cells m.store
-    mem = record {
-      owned = λ r i l. by r i l (side f.at m.top (h.base r + i));
-      inside = shared.mem.inside;
-      holds = λ r q j e.
-          let old = shared.mem.holds r q j e in
-          is_word_kept h x (λ o l. refl) (λ o l. refl) refl (extends_self h.workspaces) j (s.cells r q) (get_or m.store (h.base r + offset (h.shape r) q) 0) old;
-      kept = λ a own. kept a own (side f.at m.top a);
-      fixed = λ a e. fixed_there a e (side f.at m.top a);
-      long = shared.mem.long;
-    }
+    each : (a : ℕ) → Stays h x m.store m.store a ⊎ Turns h x m.store a
+    each a = by (side f.at m.top a)
       where
-        by : (r : Root) (i : ℕ) → i < Rattle.lil_resolved.specs.Kinds.words (ctx.home.shape r) → Side f.at m.top (ctx.home.base r + i) → x.owner (ctx.home.base r + i) ≡ Of r
-        by r i l (Before z) = beside_is (ctx.home.base r + i) (inl z) ∙ shared.mem.owned r i l
-        by r i l (Between z y) =
-            absurd (of_own r (sym (shared.mem.owned r i l) ∙ ap ctx.home.owner (let e : ctx.home.base r + i ≡ f.at + (ctx.home.base r + i - f.at) = omega (arith, z) in e) ∙ words.own (ctx.home.base r + i - f.at) (omega (arith, z, y))))
-        by r i l (Behind' z y) = beside_is (ctx.home.base r + i) (inr (z, y)) ∙ shared.mem.owned r i l
+        by : Side f.at m.top a → Stays h x m.store m.store a ⊎ Turns h x m.store a
+        by (Before z) = inl (record { owner = beside_is a (inl z); shadow = refl; word = refl })
+        by (Between z y) =
+            let own : ctx.home.owner a ≡ Own = ap ctx.home.owner (let e : a ≡ f.at + (a - f.at) = omega (arith, z) in e) ∙ words.own (a - f.at) (omega (arith, z, y)) in
+            inr (record { before = inl own; after = inr (ctx.stack.base, there_is a z y); word = λ mine. shared.mem.kept a own })
+        by (Behind' z y) = inl (record { owner = beside_is a (inr (z, y)); shadow = refl; word = refl })
 
-        kept : (a : ℕ) → x.owner a ≡ Own → Side f.at m.top a → get_or m.store a 0 ≡ ctx.home.shadow a
-        kept a own (Before z) = shared.mem.kept a (sym (beside_is a (inl z)) ∙ own)
-        kept a own (Between z y) = absurd (own_free ctx.stack.base (sym own ∙ there_is a z y))
-        kept a own (Behind' z y) = shared.mem.kept a (sym (beside_is a (inr (z, y))) ∙ own)
-
-        fixed_there : (a : ℕ) → x.owner a ≡ Fixed → Side f.at m.top a → get_or m.store a 0 ≡ ctx.home.shadow a
-        fixed_there a e (Before z) = shared.mem.fixed a (sym (beside_is a (inl z)) ∙ e)
-        fixed_there a e (Between z y) = absurd (free_fixed ctx.stack.base (sym (there_is a z y) ∙ e))
-        fixed_there a e (Behind' z y) = shared.mem.fixed a (sym (beside_is a (inr (z, y))) ∙ e)
+    mem : Mem x s.cells m.store
+    mem = mem_turned h m.store m.store x.owner x.shadow h.workspaces each s.cells shared.mem (extends_self h.workspaces) refl
 
     -- a word that never changes isn't the frame's
     fixed_kept : (a : ℕ) → ctx.home.owner a ≡ Fixed → (x.owner a ≡ Fixed) × (ctx.home.shadow a ≡ ctx.home.shadow a)
-    fixed_kept a is = (by (side f.at m.top a), refl)
-      where
-        by : Side f.at m.top a → x.owner a ≡ Fixed
-        by (Before z) = beside_is a (inl z) ∙ is
-        by (Between z y) = absurd (own_fixed (sym (words.own (a - f.at) (omega (arith, z, y))) ∙ ap ctx.home.owner (let e : f.at + (a - f.at) ≡ a = omega (arith, z) in e) ∙ is))
-        by (Behind' z y) = beside_is a (inr (z, y)) ∙ is
+    fixed_kept = fixed_turned h m.store m.store x.owner x.shadow h.workspaces each
 
     pub goes_back : Goes called s (Perform (End n) ∷ k) m (c + 32)
     goes_back =
@@ -127,9 +100,9 @@ module _ (ctx : Setting) (f g : Frame) (gs bs : List Frame) where
                 base_is = g'.base_is;
                 limit_is = g'.limit_is;
                 bodies_are = g'.bodies_are;
-                known = known_kept ctx.library ctx.loaded ctx.table ctx.activations h x (λ r e. refl) (λ r e. refl) refl fixed_kept g g'.callers.0;
-                callers = each_known ctx.library ctx.loaded ctx.table ctx.activations h x (λ r e. refl) (λ r e. refl) refl fixed_kept gs g'.callers.1;
-                comes = each_comes ctx.library ctx.loaded ctx.table ctx.activations h x (λ r e. refl) (λ r e. refl) refl fixed_kept ctx.stack.base bs g'.comes;
+                known = known_kept ctx.library ctx.loaded ctx.table ctx.activations ctx.activations (λ i b e. e) h x (λ r e. refl) (λ r e. refl) refl fixed_kept g g'.callers.0;
+                callers = each_known ctx.library ctx.loaded ctx.table ctx.activations ctx.activations (λ i b e. e) h x (λ r e. refl) (λ r e. refl) refl fixed_kept gs g'.callers.1;
+                comes = each_comes ctx.library ctx.loaded ctx.table ctx.activations ctx.activations (λ i b e. e) h x (λ r e. refl) (λ r e. refl) refl fixed_kept ctx.stack.base bs g'.comes;
                 stands = subst (λ (t : ℕ). Stands x.owner base t g gs) (sym g'.frame_is)
                     (stands_kept h.owner x.owner base f.at g gs (λ a from below. beside_is a (inl below)) g'.stands.1);
                 links = g'.links.1;

@@ -1,16 +1,11 @@
 -- The start of a FOR of another type of whole numbers than its limit.
-use Rattle.std.proofs.Common.{◌≡◌, ℕ, zero, suc, ◌-◌, ◌==◌, Bool, true, false, cond, not, refl, sym, ◌∙◌, subst, arith}
+use Rattle.std.proofs.Common.{◌≡◌, ℕ, zero, suc, ◌-◌, ◌==◌, Bool, true, false, not, refl, sym, ◌∙◌, subst, arith}
 use Rattle.std.specs.Prelude.{ℤ, pos, negsuc, int_lt, nat_lt, nat_le}
-use Rattle.std.proofs.lemmas.Bool.{and_parts, eqb-true, lt-ltb, le-ltb, true≢false}
-use Rattle.std.proofs.lemmas.Bool.Decides.{nat_tests}
-use Rattle.std.proofs.lemmas.Int.{ints}
-use Rattle.lil_base.specs.Words.{Whole, Cardinal, Integer, between, number_of, word_of}
-use Rattle.lil_base.specs.Laws.{in_range, bounds}
-use Rattle.lil_resolved.specs.Kinds.{Kind, OfWhole, OfTruth, OfCharacter, OfEnumeration, OfSet, OfRange, base_of, takes_value, compared_as, covers, outside_turns}
-use Rattle.lil_resolved.specs.Sound.{IsStep}
+use Rattle.std.proofs.lemmas.{Bool.{and_parts, eqb-true, lt-ltb, true≢false, Decides.nat_tests}, Int.ints}
+use Rattle.lil_base.specs.{Words.{Whole, Cardinal, Integer, between, number_of, word_of}, Laws.{bounds}}
+use Rattle.lil_resolved.specs.{Kinds.{Kind, OfWhole, OfTruth, OfCharacter, OfEnumeration, OfSet, OfRange, base_of, takes_value, compared_as, covers, outside_turns}, Sound.IsStep}
 use Rattle.lil_meaning.specs.Steps.{turns}
-use Rattle.lil_match.specs.Parts.{yes, no}
-use Rattle.lil_match.specs.Ranges.{has}
+use Rattle.lil_match.specs.{Parts.{yes, no}, Ranges.has}
 
 no_less : (x : ℤ) → not (int_lt x x) ≡ true
 no_less x = grind (arith, ints)
@@ -24,12 +19,8 @@ is_small z = nat_lt (word_of z) 32768
 -- it is one of the limit's numbers where its word is small
 pub small_has : (k j : Kind) (z : ℤ) → takes_value k j ≡ true → covers (base_of k) j ≡ false → has j z ≡ true → has (base_of k) z ≡ is_small z
 small_has (OfRange base low high) j z takes apart there = small_has base j z takes apart there
-small_has (OfWhole Cardinal) (OfWhole Integer) (pos n) takes apart there =
-    let b = bounds (negsuc 32767) (pos n) (pos 32767) there in
-    in_range (pos 0) (pos n) (pos 65535) (omega (arith, ints)) (omega (arith, ints, b.1)) ∙ sym (lt-ltb n 32768 (omega (arith, ints, b.1)))
-small_has (OfWhole Cardinal) (OfWhole Integer) (negsuc n) takes apart there =
-    let b = bounds (negsuc 32767) (negsuc n) (pos 32767) there in
-    sym (le-ltb (65535 - n) 32768 (omega (arith, ints, b.0)))
+small_has (OfWhole Cardinal) (OfWhole Integer) (pos n) takes apart there = grind (arith, nat_tests, ints)
+small_has (OfWhole Cardinal) (OfWhole Integer) (negsuc n) takes apart there = grind (arith, nat_tests, ints)
 small_has (OfWhole Integer) (OfWhole Cardinal) (pos n) takes apart there = grind (arith, nat_tests)
 small_has (OfWhole Integer) (OfWhole Cardinal) (negsuc n) takes apart there = cc
 small_has (OfWhole Cardinal) (OfWhole Cardinal) z takes apart there = cc
@@ -53,15 +44,7 @@ outside (OfWhole Cardinal) (OfWhole Integer) (pos n) b takes apart there none li
     absurd (true≢false (sym (small_has (OfWhole Cardinal) (OfWhole Integer) (pos n) takes apart there ∙ lt-ltb n 32768 (let c = bounds (negsuc 32767) (pos n) (pos 32767) there in omega (arith, ints, c.1))) ∙ none))
 outside (OfWhole Cardinal) (OfWhole Integer) (negsuc n) (pos m) takes apart there none limit = refl
 outside (OfWhole Cardinal) (OfWhole Integer) (negsuc n) (negsuc m) takes apart there none limit = cc
-outside (OfWhole Integer) (OfWhole Cardinal) (pos n) b takes apart there none limit =
-    let c = bounds (negsuc 32767) b (pos 32767) limit in
-    by (int_lt b (pos n)) refl
-  where
-    by : (d : Bool) → int_lt b (pos n) ≡ d → int_lt b (pos n) ≡ true
-    by true e = e
-    by false e =
-        let c = bounds (negsuc 32767) b (pos 32767) limit in
-        absurd (true≢false (sym (in_range (negsuc 32767) (pos n) (pos 32767) (omega (arith, ints)) (omega (arith, ints, e, c.1))) ∙ none))
+outside (OfWhole Integer) (OfWhole Cardinal) (pos n) b takes apart there none limit = grind (arith, ints)
 outside (OfWhole Integer) (OfWhole Cardinal) (negsuc n) b takes apart there none limit = cc
 outside (OfEnumeration m) (OfEnumeration n) a b takes apart there none limit =
     let p = and_parts (m == n) (nat_le n 65535) takes in
@@ -76,10 +59,7 @@ outside k j a b takes apart there none limit = cc
 -- it has no turn, or one
 pub outside_none : (t : Whole) (a b step : ℤ) → IsOutside t a b → outside_turns t step ≡ false → IsStep step → turns a b step ≡ 0
 outside_none Cardinal a b (pos zero) lies way s = absurd (s.some refl)
-outside_none Cardinal a b (pos (suc n)) lies way s = absurd (true≢false (sym positive ∙ way))
-  where
-    positive : int_lt (pos 0) (pos (suc n)) ≡ true
-    positive = grind (arith, ints)
+outside_none Cardinal a b (pos (suc n)) lies way s = grind (arith, ints)
 outside_none Cardinal a b (negsuc n) lies way s = yes (int_lt a b) _ _ lies
 outside_none Integer a b (pos n) lies way s = yes (int_lt b a) _ _ lies
 outside_none Integer a b (negsuc n) lies way s = cc
@@ -90,10 +70,7 @@ outside_some Cardinal a b (pos n) lies way none =
     let more = sym (no (int_lt b a) _ _ other) ∙ none in
     omega (arith, more)
 outside_some Cardinal a b (negsuc n) lies way none = absurd (let e : true ≡ false = sym way in true≢false e)
-outside_some Integer a b (pos n) lies way none = absurd (let e : true ≡ false = sym way ∙ negative in true≢false e)
-  where
-    negative : int_lt (pos n) (pos 0) ≡ false
-    negative = grind (arith, ints)
+outside_some Integer a b (pos n) lies way none = grind (arith, ints)
 outside_some Integer a b (negsuc n) lies way none =
     let other : int_lt a b ≡ false = grind (arith, ints) in
     let more = sym (no (int_lt a b) _ _ other) ∙ none in
@@ -104,11 +81,4 @@ pub small_between : (z : ℤ) → between (pos 0) (pos (word_of z)) (pos 32767) 
 small_between z = grind (arith, nat_tests)
 
 pub small_less : (z : ℤ) → int_lt (number_of Integer (word_of z)) (pos 0) ≡ not (is_small z)
-small_less z = by (is_small z) refl
-  where
-    below : int_lt (pos (word_of z)) (pos 0) ≡ false
-    below = grind (arith, ints)
-
-    by : (b : Bool) → is_small z ≡ b → int_lt (cond b (pos (word_of z)) (negsuc (65535 - word_of z))) (pos 0) ≡ not b
-    by true e = below
-    by false e = refl
+small_less z = grind (arith, ints, nat_tests)

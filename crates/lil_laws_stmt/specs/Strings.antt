@@ -1,21 +1,13 @@
 -- What the words of strings are, and the rows of a string that goes to an array.
 use Rattle.std.proofs.Common.{◌≡◌, ℕ, ◌+◌, ◌-◌, ◌<◌, ◌≤◌, List, [], ◌∷◌, length, get_or, take, drop, refl, sym, ap, ◌∙◌, ⊎_elim, arith, length-append, length-drop}
-use Rattle.std.proofs.lemmas.Bool.{cases_lt, lt-ltb}
-use Rattle.std.proofs.lemmas.List.{get_or-take, get_or_append_left, get_or-append_right, get_or-drop, get_or_past, length-take-le}
-use Rattle.lil_resolved.specs.Resolved.{Designator, Text}
-use Rattle.lil_resolved.specs.Kinds.{Shape}
+use Rattle.std.proofs.lemmas.{Bool.{cases_lt, lt-ltb}, List.{get_or-take, get_or_append_left, get_or-append_right, get_or-drop, get_or_past, length-take-le}}
+use Rattle.lil_resolved.specs.{Resolved.{Designator, Text, shape_of}}
 use Rattle.lil_meaning.specs.Items.{Place, stored, text_under, Places, TextTo, Do, Item, Value, Fill, Perform, Source}
 use Rattle.lil_asm.specs.declared.instr.Instr.TheVariants.{Lag, Mvz}
 use Rattle.lil_mcode.specs.Table.{State, act, going}
 use Rattle.lil_frames.specs.Words.{spliced, zeros, moved}
-use Rattle.lil_table.specs.Rows.{HasText, text_words, Access}
-use Rattle.lil_match.specs.Goes.{Shared, Goes}
-use Rattle.lil_match.specs.Running.{running}
-use Rattle.lil_match.specs.Parts.{yes}
-use Rattle.lil_match.specs.Splices.{zeros_length, zeros_word}
-use Rattle.lil_match.specs.Homes.{address, Mem, mem_written}
-use Rattle.lil_match.specs.Waits.{Setting, frame_of, laid_out, Quiet, AtPlace, Around, Reach, Rows, HasPlace, Waiting}
-use Rattle.lil_match.specs.Steps.{advances, at_step, pushes, rows_ahead, shared_with, goes_one, located_goes}
+use Rattle.lil_table.specs.Rows.{HasText, text_words, access_of}
+use Rattle.lil_match.specs.{Goes.{Shared, Goes}, Running.running, Parts.yes, Splices.{zeros_length, zeros_word}, Homes.{address, Mem, mem_written}, Waits.{Setting, frame_of, laid_out, Quiet, AtPlace, Around, Reach, Rows, Designates, placed, Waiting}, Steps.{advances, at_step, pushes, rows_ahead, shared_with, goes_one, located_goes}}
 use Rattle.lil_laws_place.specs.Codes.{leads, addressed, written}
 
 module _ (ctx : Setting) where
@@ -42,24 +34,7 @@ module _ (ctx : Setting) where
     text_goes d cs row =
         let r = row.part.here in
         located_goes ctx s k m c a shared (Perform (Do (Text d cs)) ∷ k) d (TextTo cs) refl (omega arith) r.found r.here (omega (arith, r.shallow, ap length row.part.empty))
-        (record {
-          part = record {
-            count = r.count;
-            rows = r.rows;
-            fits = r.fits;
-            empty = row.part.empty;
-            offset = r.offset;
-            text = r.text;
-            start = r.start;
-            last = r.last;
-            end = row.part.end;
-            address = r.address;
-            source = r.source;
-            by = r.by;
-            within = row.part.within;
-          };
-          then = row.then;
-        })
+        (record { part = placed ctx.stack.frame (Text d cs) a (λ p q r. r.found) m.place m.stack row.part; then = row.then })
 
     -- the words that come to an array are those of the string, and zeros behind them
     front_long : (cs : List ℕ) (offset : ℕ) → HasText l cs offset → length (take (length cs) (drop (own.base + offset) m.store)) ≡ length cs
@@ -93,34 +68,34 @@ module _ (ctx : Setting) where
         (cases_lt i (length cs))
 
     -- the array is there
-    pub text_to_goes : (cs : List ℕ) (place : Place) (b : Access) (t : Shape) (below : List ℕ) → HasPlace ctx b place t m.stack below
-        → Waiting ctx (Fill (TextTo cs)) Rest (AtPlace b t) m.place below c a → Goes ctx s (Value (Places place) ∷ Fill (TextTo cs) ∷ k) m (c + 32)
-    text_to_goes cs place b t below has row =
-        let r = row.part in
+    pub text_to_goes : (cs : List ℕ) (place : Place) (d : Designator) (below : List ℕ) → Designates ctx d place m.stack below
+        → Waiting ctx (Fill (TextTo cs)) Rest (AtPlace d) m.place below c a → Goes ctx s (Value (Places place) ∷ Fill (TextTo cs) ∷ k) m (c + 32)
+    text_to_goes cs place d below has row =
+        let amid = row.part.amid in
+        let r = amid.here in
         let items : List Item = Value (Places place) ∷ Fill (TextTo cs) ∷ k in
         let from : ℕ = own.base + r.offset in
         let low : own.base + r.offset + text_words cs ≤ 65535 = string_low s m shared cs r.offset r.text in
         let ws : List ℕ = moved m.store (own.base + r.offset) (length cs) (r.count - length cs) in
         let here : State = going m r.last (from ∷ address h place ∷ below) in
         let store : List ℕ = spliced m.store (address h place) ws in
-        let machine : State = record m { place = r.end; stack = []; store = store } in
+        let machine : State = record m { place = amid.end; stack = []; store = store } in
         let mem : Mem h (stored s.cells place (text_under cs)) store =
         mem_written h s.cells m.store place r.count cs ws shared.mem (has.living ∙ r.rows) r.text.text (moved_long cs r.offset r.count r.text r.fits) (λ i less. moved_word cs r.offset r.count r.text i less) in
-        addressed ctx s items m shared b place t m.stack below has (omega (arith, ap length r.empty)) m.place r.start (c + 32) (c + 2) r.address
+        addressed ctx s items m shared (access_of l d) place (shape_of l.scope d) m.stack below has (omega (arith, ap length row.part.empty)) m.place r.start (c + 32) (c + 2) (rw amid.at r.address)
         (leads ctx s items m shared (Lag r.offset) r.start r.last (address h place ∷ below) (from ∷ address h place ∷ below) (c + 2) (c + 1) r.source
         (yes _ _ _ (lt-ltb (own.base + r.offset) 65536 (omega (arith, low)))
-        ∙ pushes from r.last (going m r.start (address h place ∷ below)) (omega (arith, ap length r.empty)))
-        (goes_one ctx s items here (c + 1) c (running machine s.world)
+        ∙ pushes from r.last (going m r.start (address h place ∷ below)) (omega (arith, ap length row.part.empty)))
+        (goes_one ctx s items here 0 c (running machine s.world)
         (advances here s.world _ (
-        at_step ctx here shared.program (Mvz (length cs) (r.count - length cs)) r.end r.by
-        ∙ ap (λ (x : List ℕ). act (Mvz (length cs) (r.count - length cs)) r.end own (going m r.last (from ∷ address h place ∷ x))) r.empty
-        ∙ written ctx s m shared place r.count cs (has.living ∙ r.rows) r.fits from (omega (arith, low)) r.last r.end
+        at_step ctx here shared.program (Mvz (length cs) (r.count - length cs)) amid.end r.by
+        ∙ ap (λ (x : List ℕ). act (Mvz (length cs) (r.count - length cs)) amid.end own (going m r.last (from ∷ address h place ∷ x))) row.part.empty
+        ∙ written ctx s m shared place r.count cs (has.living ∙ r.rows) r.fits from (omega (arith, low)) r.last amid.end
         ))
         (record {
           machine = machine;
           is = refl;
-          met = record { shared = shared_with ctx s m shared mem; around = a; ahead = rows_ahead ctx k r.end [] c a row.then };
-        })
-        (omega arith))
+          met = record { shared = shared_with ctx s m shared mem; around = a; ahead = rows_ahead ctx k amid.end [] c a row.then };
+        }))
         (omega arith))
         (omega arith)

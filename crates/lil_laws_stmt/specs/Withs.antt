@@ -1,22 +1,13 @@
 -- The rows of WITH: the place of its record is fixed, its statements are done, and it ends.
 use Rattle.std.proofs.Common.{ℕ, suc, ◌+◌, ◌<◌, List, [], ◌∷◌, ◌++◌, length, set, eqb, refl, sym, ap, ◌∙◌, subst, arith, eq-eqb}
 use Rattle.std.proofs.lemmas.Bool.{lt-ltb}
-use Rattle.lil_resolved.specs.Resolved.{Designator, Inside, Statements}
-use Rattle.lil_resolved.specs.Kinds.{Shape}
+use Rattle.lil_resolved.specs.{Resolved.{Designator, Inside, Statements, shape_of}, Kinds.Shape}
 use Rattle.lil_meaning.specs.Items.{Place, Places, Hold, Do, Holding, Item, Value, Fill, Perform, Source, doing}
 use Rattle.lil_asm.specs.declared.instr.Instr.TheVariants.{Slw}
-use Rattle.lil_mcode.specs.declared.machine.Event.{Event}
-use Rattle.lil_mcode.specs.declared.machine.Event.TheVariants.{Went}
-use Rattle.lil_mcode.specs.Table.{State, going}
-use Rattle.lil_table.specs.Rows.{holding, Access, loop_place}
-use Rattle.lil_match.specs.Goes.{Shared, Goes}
-use Rattle.lil_match.specs.Running.{running}
-use Rattle.lil_match.specs.Parts.{yes}
-use Rattle.lil_match.specs.Homes.{Home, address, shadowed}
-use Rattle.lil_match.specs.Waits.{Setting, frame_of, laid_out, at_home, inside_with, Quiet, AtPlace, Around, Reach, RowsOf, Rows, HasPlace, HoldingWaits, Waiting}
-use Rattle.lil_match.specs.Kept.{sees_laid, own_low, shared_shadowed, touches_shadowed, rows_shadowed}
-use Rattle.lil_match.specs.Laid.{alike_holding, shared_laid, IsAround, around_self, around_more, shared_around, goes_around}
-use Rattle.lil_match.specs.Steps.{advances, at_step, at_once, rows_ahead, lands_on, goes_none, goes_one_in, located_goes}
+use Rattle.lil_mcode.specs.{declared.machine.Event.{Event, TheVariants.Went}, Table.{State, going}}
+use Rattle.lil_table.specs.Rows.{holding, access_of, loop_place}
+use Rattle.lil_match.specs.{Goes.{Shared, Goes}, Running.running, Parts.yes, Homes.{Home, address, shadowed}, Waits.{Setting, frame_of, laid_out, at_home, inside_with, Quiet, AtPlace, Around, Reach, RowsOf, Rows, Designates, placed, HoldingWaits, Waiting}, Kept.{sees_laid, own_low, shared_shadowed, touches_shadowed, rows_shadowed}}
+use Rattle.lil_match.specs.{Laid.{shared_laid, IsAround, around_self, around_more, shared_around, goes_around}, Steps.{advances, at_step, at_once, rows_ahead, lands_on, goes_none, goes_one_in, located_goes}}
 use Rattle.lil_laws_place.specs.Codes.{addressed}
 use Rattle.lil_laws_stmt.specs.Control.{body_rows}
 
@@ -33,27 +24,15 @@ module _ (ctx : Setting) where
     inside_goes d body row =
         let r = row.part.here in
         located_goes ctx s k m c a shared (Perform (Do (Inside d body)) ∷ k) d (Hold body) refl (omega arith) r.found r.here (omega (arith, r.shallow, ap length row.part.empty))
-        (record {
-          part = record {
-            there = r.there;
-            empty = row.part.empty;
-            room = r.room;
-            start = r.start;
-            kept = r.kept;
-            end = row.part.end;
-            address = r.address;
-            keep = r.keep;
-            inner = r.within;
-            within = row.part.within;
-          };
-          then = row.then;
-        })
+        (record { part = placed ctx.stack.frame (Inside d body) a (λ p q r. r.found) m.place m.stack row.part; then = row.then })
 
     -- the place is there: its address goes to the frame, and then come the statements
-    pub hold_goes : (body : Statements) (place : Place) (b : Access) (t : Shape) (below : List ℕ) → HasPlace ctx b place t m.stack below
-        → Waiting ctx (Fill (Hold body)) Rest (AtPlace b t) m.place below c a → Goes ctx s (Value (Places place) ∷ Fill (Hold body) ∷ k) m (c + 32)
-    hold_goes body place b t below has row =
-        let r = row.part in
+    pub hold_goes : (body : Statements) (place : Place) (d : Designator) (below : List ℕ) → Designates ctx d place m.stack below
+        → Waiting ctx (Fill (Hold body)) Rest (AtPlace d) m.place below c a → Goes ctx s (Value (Places place) ∷ Fill (Hold body) ∷ k) m (c + 32)
+    hold_goes body place d below has row =
+        let t : Shape = shape_of l.scope d in
+        let amid = row.part.amid in
+        let r = amid.here in
         let n : ℕ = loop_place a.taken in
         let w : ℕ = address h place in
         let less : loop_place a.taken < l.frame = omega (arith, r.room) in
@@ -65,24 +44,24 @@ module _ (ctx : Setting) where
         let after : List Item = Perform (Holding place) ∷ k in
         let here : State = going m r.start (w ∷ below) in
         let machine : State = record m { place = r.kept; stack = []; store = set m.store (ctx.stack.frame.at + n) w } in
-        let stays : Rows outer k Quiet r.end [] c a = rows_shadowed ctx s m shared n w less k Quiet r.end [] c a (omega arith) row.then in
-        addressed ctx s items m shared b place t m.stack below has (omega (arith, ap length r.empty)) m.place r.start (c + 32) (c + 1) r.address
+        let stays : Rows outer k Quiet amid.end [] c a = rows_shadowed ctx s m shared n w less k Quiet amid.end [] c a (omega arith) row.then in
+        addressed ctx s items m shared (access_of l d) place t m.stack below has (omega (arith, ap length row.part.empty)) m.place r.start (c + 32) (c + 1) (rw amid.at r.address)
         (goes_one_in ctx s items here x inner.stack (c + 1) c (running machine s.world)
         (advances here s.world _ (
         at_step ctx here shared.program (Slw n) r.kept r.keep
         ∙ yes _ _ _ (lt-ltb (m.frame + n) 65536 (own_low ctx s m shared n w less))
         ∙ ap (λ (f : ℕ). let e : Event × State = (Went, record m { place = r.kept; stack = below; store = set m.store (f + n) w }) in e) shared.standing.frame_is
-        ∙ ap (λ (z : List ℕ). let e : Event × State = (Went, record m { place = r.kept; stack = z; store = set m.store (ctx.stack.frame.at + n) w }) in e) r.empty
+        ∙ ap (λ (z : List ℕ). let e : Event × State = (Went, record m { place = r.kept; stack = z; store = set m.store (ctx.stack.frame.at + n) w }) in e) row.part.empty
         ))
         (record {
           machine = machine;
           is = refl;
           met = record {
-            shared = shared_laid outer (holding ctx.stack.frame.layout t n) (alike_holding ctx.stack.frame.layout t n) s machine (shared_shadowed ctx s m shared n w less (omega arith));
+            shared = shared_laid outer (holding ctx.stack.frame.layout t n) refl s machine (shared_shadowed ctx s m shared n w less (omega arith));
             around = around;
             ahead = rows_ahead inner (doing body after) r.kept [] c around
-                (body_rows inner body after r.kept r.end c around r.inner r.within
-                (at_once inner _ Quiet r.end [] c around
+                (body_rows inner body after r.kept amid.end c around r.within amid.within
+                (at_once inner _ Quiet amid.end [] c around
                 (record {
                   quiet = refl;
                   empty = refl;
@@ -111,8 +90,7 @@ module _ (ctx : Setting) where
         let before : Setting = row.before in
         let around : IsAround before ctx = around_more before before ctx row.shape (loop_place row.outer.taken) row.is (around_self before) in
         goes_around before ctx around s (Perform (Holding place) ∷ k) m (c + 32)
-        (goes_none before s (Perform (Holding place) ∷ k) m (c + 32) c
+        (goes_none before s (Perform (Holding place) ∷ k) m 32 c
         (lands_on before s m (shared_around before ctx around s m shared) k m.place m.stack c row.outer
         (rows_ahead before k m.place m.stack c row.outer (subst (λ (x : List ℕ). Rows before k Quiet m.place x c row.outer) (sym row.empty) row.then)))
-        (omega arith)
         (omega arith))

@@ -1,21 +1,12 @@
 -- How many words the strings of each form of statement take, as sums over its lists.
 use Rattle.std.proofs.Common.{◌≡◌, ℕ, ◌+◌, List, [], ◌∷◌, ◌++◌, length, map, Option, Some, None, refl, ap, ◌∙◌, arith, length-append}
 use Rattle.std.specs.List.{sum_by}
-use Rattle.std.proofs.lemmas.List.Concat.{length-flat_map}
-use Rattle.std.proofs.lemmas.List.Folds.{flat_map-map}
-use Rattle.std.proofs.lemmas.List.Sums.{sum_by-cons}
-use Rattle.lil_resolved.specs.declared.resolved.RArgument.{RArgument}
-use Rattle.lil_resolved.specs.declared.resolved.RArm.{RArm}
-use Rattle.lil_resolved.specs.declared.resolved.RGuard.{RGuard}
-use Rattle.lil_resolved.specs.declared.resolved.RExpr.{RExpr}
-use Rattle.lil_base.specs.declared.request.Request as request
-use Rattle.lil_resolved.specs.declared.resolved.RStmt.{RStmt}
-use Rattle.lil_resolved.specs.declared.resolved.RStmt.TheVariants as v
-use Rattle.lil_resolved.specs.Views.{request_is, if_is, case_is, guard_is, arm_is, argument_of, statement_of, statements_of, guard_of, arm_of, joined, guarded, armed, arms_of, else_of}
-use Rattle.lil_resolved.specs.Resolved.{Statements, Empty, Then, Arms}
+use Rattle.std.proofs.lemmas.List.{Concat.length-flat_map, Folds.flat_map-map, Sums.sum_by-cons}
+use Rattle.lil_resolved.specs.{declared.resolved.{RArgument.RArgument, RArm.RArm, RGuard.RGuard, RExpr.RExpr, RStmt.RStmt}, Views.{request_is, if_is, case_is, guard_is, arm_is, argument_of, statement_of, statements_of, guard_of, arm_of, joined, guarded, armed, arms_of, else_of}, Resolved.{Statements, Empty, Then, Arms}}
 use Rattle.lil_resolved.specs.Sizes.{argument_strings, arguments_strings, statement_strings, body_strings, arms_strings}
-use Rattle.lil_layout.specs.Data.{text_words}
-use Rattle.lil_layout.specs.Strings.{argument_words, statement_words, body_words, guard_words, arm_words}
+use Rattle.lil_base.specs.declared.request.Request as request
+use Rattle.lil_resolved.specs.declared.resolved.RStmt.TheVariants as v
+use Rattle.lil_layout.specs.{Data.text_words, Strings.{argument_words, statement_words, body_words, guard_words, arm_words}}
 
 -- ---- arguments
 given_words : (given : List RArgument) → length (arguments_strings (map argument_of given)) ≡ sum_by argument_words given

@@ -1,11 +1,6 @@
 -- How many words the strings of arguments and of statements take.
 use Rattle.std.specs.Prelude.{ℕ, List, length}
-use Rattle.lil_resolved.specs.declared.resolved.RArgument.{RArgument}
-use Rattle.lil_resolved.specs.declared.resolved.RArm.{RArm}
-use Rattle.lil_resolved.specs.declared.resolved.RGuard.{RGuard}
-use Rattle.lil_resolved.specs.declared.resolved.RStmt.{RStmt}
-use Rattle.lil_resolved.specs.Sizes.{argument_strings, body_strings}
-use Rattle.lil_resolved.specs.Views.{argument_of, statement_of, statements_of}
+use Rattle.lil_resolved.specs.{declared.resolved.{RArgument.RArgument, RArm.RArm, RGuard.RGuard, RStmt.RStmt}, Sizes.{argument_strings, body_strings}, Views.{argument_of, statement_of, statements_of}}
 
 abbrev pub argument_words : RArgument → ℕ
 argument_words a = length (argument_strings (argument_of a))

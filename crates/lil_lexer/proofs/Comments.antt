@@ -1,43 +1,13 @@
 -- Comments, byte by byte, and as they are defined.
-use Rattle.std.proofs.Common.{◌≡◌, ℕ, zero, suc, ◌+◌, ◌-◌, ◌<◌, ◌≤◌, Bool, true, false, cond, ◌&&◌, ◌==◌, List, [], ◌∷◌, ◌++◌, length, get_or, drop, Option, Some, None, refl, subst, ap, sym, ◌∙◌, arith, add-one, drop-cons, length-drop, append_assoc}
+use Rattle.std.proofs.Common.{◌≡◌, ℕ, zero, suc, Bool, true, false, cond, ◌==◌, List, [], ◌∷◌, ◌++◌, Option, Some, refl, ap, sym, ◌∙◌, append_assoc}
 use Rattle.std.proofs.lemmas.Bool.{eqb-true, and_parts}
-use Rattle.std.proofs.lemmas.List.{drop_all}
 use Rattle.lil_text.specs.Lexical.{opens, closes, IsAlone, IsInside, close, nested, other}
-use Rattle.lil_lexer.specs.Pieces.{after_comment, len_before, comment_len}
+use Rattle.lil_lexer.specs.Pieces.{after_comment}
 
 -- what a comment's end leaves, inside so many others
 abbrev pub closed : ℕ → List ℕ → Option (List ℕ)
 closed depth rest = elim depth [ zero ↦ Some rest | suc d ↦ after_comment 0 d rest ]
 
--- ---- in a loop over the bytes
-last : (before depth b : ℕ) (bs : List ℕ) → opens before b ≡ false → closes before b ≡ true → depth ≡ 0 → after_comment before depth (b ∷ bs) ≡ Some bs
-last before depth b bs o k d =
-    ap (λ (n : ℕ). after_comment before n (b ∷ bs)) d
-    ∙ (ap (λ (t : Bool). cond t (after_comment 0 1 bs) (cond (closes before b) (Some bs) (after_comment b 0 bs))) o
-    ∙ ap (λ (t : Bool). cond t (Some bs) (after_comment b 0 bs)) k)
-
-module _ (inside : List ℕ) (before at : ℕ) where
-  pub ends_here : (depth : ℕ) → after_comment before depth (drop at inside) ≡ after_comment 0 0 inside → at < length inside → opens before (get_or inside at 0) ≡ false
-      → closes before (get_or inside at 0) ≡ true → depth ≡ 0 → Some (at + 1) ≡ comment_len inside
-  unfolding comment_len
-  ends_here depth same h o k d = ap (λ (n : ℕ). Some n) count ∙ ap (λ (o : Option (List ℕ)). len_before inside o) here
-    where
-      here : Some (drop (at + 1) inside) ≡ after_comment 0 0 inside
-      here =
-          ap (λ (n : ℕ). Some (drop n inside)) (add-one at)
-          ∙ (sym (last before depth (get_or inside at 0) (drop (suc at) inside) o k d)
-          ∙ (ap (λ (bs : List ℕ). after_comment before depth bs) (sym (drop-cons inside at 0 h)) ∙ same))
-
-      count : at + 1 ≡ length inside - length (drop (at + 1) inside)
-      count = omega (arith, length-drop (at + 1) inside, h)
-
-  pub never_ends : (depth : ℕ) → after_comment before depth (drop at inside) ≡ after_comment 0 0 inside → length inside ≤ at → None ≡ comment_len inside
-  unfolding comment_len
-  never_ends depth same h =
-      let e = ap (λ (bs : List ℕ). after_comment before depth bs) (drop_all at inside h) in
-      ap (λ (o : Option (List ℕ)). len_before inside o) (sym e ∙ same)
-
--- ---- the definition
 -- the insides of so many comments and one more, one after another
 abbrev Insides : ℕ → List ℕ → List ℕ → Type 0
 Insides zero bs rest = IsInside bs rest
@@ -51,24 +21,17 @@ one_more : (d b : ℕ) (bs rest : List ℕ) → IsAlone b bs → Insides d bs re
 one_more zero b bs rest a h = other a h
 one_more (suc d) b bs rest a h = (h.0, other a h.1, h.2)
 
-two_bytes : (b c n m : ℕ) (bs : List ℕ) → ((b == n) && (c == m)) ≡ true → (n ∷ m ∷ bs) ≡ (b ∷ c ∷ bs)
-two_bytes b c n m bs h =
-    let t = and_parts (b == n) (c == m) h in
-    let x = eqb-true b n t.0 in
-    let y = eqb-true c m t.1 in
-    cc
-
 abbrev Sound : List ℕ → List ℕ → Type 0
 Sound bs rest = ((d : ℕ) → after_comment 0 d bs ≡ Some rest → Insides d bs rest) × ((p d : ℕ) → after_comment p d bs ≡ Some rest → Insides d (p ∷ bs) rest)
 
 close_here : (d : ℕ) (bs rest : List ℕ) → Sound bs rest → closed d bs ≡ Some rest → Insides d (42 ∷ 41 ∷ bs) rest
-close_here zero bs rest h e = let same : bs ≡ rest = cc in subst (λ (rest : List ℕ). IsInside (42 ∷ 41 ∷ bs) rest) same close
+close_here zero bs rest h e = let same : rest ≡ bs = cc in rw same close
 close_here (suc d) bs rest h e = (bs, close, h.0 d e)
 
 sound_by : (p c d : ℕ) (bs rest : List ℕ) → Sound bs rest → (o k : Bool) → opens p c ≡ o → closes p c ≡ k
     → cond o (after_comment 0 (suc d) bs) (cond k (closed d bs) (after_comment c d bs)) ≡ Some rest → Insides d (p ∷ c ∷ bs) rest
-sound_by p c d bs rest h true k is is' e = subst (λ (text : List ℕ). Insides d text rest) (two_bytes p c 40 42 bs is) (open_more d bs rest (h.0 (suc d) e))
-sound_by p c d bs rest h false true is is' e = subst (λ (text : List ℕ). Insides d text rest) (two_bytes p c 42 41 bs is') (close_here d bs rest h e)
+sound_by p c d bs rest h true k is is' e = let t = and_parts (p == 40) (c == 42) is in rw (eqb-true p 40 t.0, eqb-true c 42 t.1) (open_more d bs rest (h.0 (suc d) e))
+sound_by p c d bs rest h false true is is' e = let t = and_parts (p == 42) (c == 41) is' in rw (eqb-true p 42 t.0, eqb-true c 41 t.1) (close_here d bs rest h e)
 sound_by p c d bs rest h false false is is' e = one_more d p (c ∷ bs) rest (is, is') (h.1 c d e)
 
 sound : (bs rest : List ℕ) → Sound bs rest
@@ -80,9 +43,7 @@ comment_sound bs rest e = (sound bs rest).0 0 e
 
 alone : (b d : ℕ) (bs : List ℕ) → IsAlone b bs → after_comment b d bs ≡ after_comment 0 d bs
 alone b d [] h = refl
-alone b d (c ∷ bs) h =
-    ap (λ (t : Bool). cond t (after_comment 0 (suc d) bs) (cond (closes b c) (closed d bs) (after_comment c d bs))) h.0
-    ∙ ap (λ (t : Bool). cond t (closed d bs) (after_comment c d bs)) h.1
+alone b d (c ∷ bs) h = rw (h.0, h.1)
 
 pub comment_complete : {bs rest : List ℕ} → IsInside bs rest → (d : ℕ) → after_comment 0 d bs ≡ closed d rest
 comment_complete close d = refl

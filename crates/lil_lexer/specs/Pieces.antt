@@ -1,18 +1,10 @@
 -- What a text begins with, as a function of the text: a token, a blank or comment, or a fault.
-use Rattle.std.specs.Prelude.{◌≡◌, ℕ, zero, suc, ◌+◌, ◌-◌, ◌<◌, ◌^◌, ◌==◌, nat_lt, nat_le, Bool, false, List, [], ◌∷◌, ◌++◌, length, take, drop, codes, Option, Some, None, Result, Ok, Err, if◌then◌else◌}
+use Rattle.std.specs.Prelude.{◌≡◌, ℕ, zero, suc, ◌+◌, ◌-◌, ◌<◌, ◌≤◌, ◌^◌, ◌==◌, ◌&&◌, nat_lt, Bool, false, List, [], ◌∷◌, ◌++◌, length, take, drop, get_or, Option, Some, None, Result, Ok, Err, if◌then◌else◌}
 use Rattle.std.specs.List.{list_all, prefix_len}
-use Rattle.std.specs.Str.{bytes_eq}
-use Rattle.lil_base.specs.Names.{is_letter, is_digit, is_name_byte, is_name}
-use Rattle.lil_base.specs.declared.fault.Place.{Place}
-use Rattle.lil_base.specs.declared.fault.SourceFault.{SourceFault}
-use Rattle.lil_text.specs.declared.token.TokenKind.{TokenKind}
+use Rattle.lil_base.specs.{Names.{is_letter, is_digit, is_name_byte, is_name}, declared.fault.{Place.Place, SourceFault.SourceFault}, Faults.fault}
+use Rattle.lil_text.specs.{declared.{token.{TokenKind.TokenKind, Word.Word}, stop.ReadStop.ReadStop}, Cuts.{is_blank, word_among, all_words}, Lexical.{opens, closes, is_octal_digit, is_hex_digit, value, fits, is_quote, goes_on, is_string_byte, pair, single, after_byte, behind, IsPiece, IsFault}}
 use Rattle.lil_text.specs.declared.token.TokenKind.TheVariants as k
-use Rattle.lil_text.specs.declared.token.Word.{Word}
-use Rattle.lil_text.specs.declared.stop.ReadStop.{ReadStop}
 use Rattle.lil_text.specs.declared.stop.ReadStop.TheVariants as why
-use Rattle.lil_text.specs.Cuts.{is_blank, word_among, all_words}
-use Rattle.lil_base.specs.Faults.{fault}
-use Rattle.lil_text.specs.Lexical.{opens, closes, is_octal_digit, is_hex_digit, value, is_quote, goes_on, is_string_byte, pair, single, after_byte, behind, IsPiece}
 use Rattle.lil_lexer.specs.declared.pieces.Piece.{Piece}
 
 -- what code returns, beside an outcome that knows no want of memory
@@ -25,6 +17,10 @@ Reads outcome (Err why.Memory) = Unit {0}
 abbrev pub HasRoom : Place → ℕ → Type 0
 HasRoom p n = (p.line + n < 2 ^ 32) × (p.column + n < 2 ^ 32) × (p.offset + n < 2 ^ 32)
 
+-- the second place is so many bytes behind the first at most
+abbrev pub IsWithin : Place → Place → ℕ → Type 0
+IsWithin p q n = (q.line ≤ p.line + n) × (q.column ≤ p.column + n) × (q.offset ≤ p.offset + n)
+
 -- the text begins with this piece
 pub record Begins (text : List ℕ) (y : Piece) : Type 0 where
   pub front : List ℕ
@@ -32,6 +28,14 @@ pub record Begins (text : List ℕ) (y : Piece) : Type 0 where
   pub cut : text ≡ front ++ rest
   pub len : y.len ≡ length front
   pub is : IsPiece front rest y.what
+  pub some : 0 < y.len
+  pub within : y.len ≤ length text
+
+-- the text at a place begins with what was found, or the fault stands there
+abbrev pub Found : Place → List ℕ → Result Piece ReadStop → Type 0
+Found p text (Ok y) = Begins text y
+Found p text (Err (why.Fault f)) = IsFault p text f
+Found p text (Err why.Memory) = Unit {0}
 
 abbrev pub token : TokenKind → ℕ → Result Piece SourceFault
 token what n = Ok (record { what = Some what; len = n })
@@ -51,16 +55,9 @@ after_comment before depth (b ∷ bs) =
     if opens before b then after_comment 0 (suc depth) bs
     else (if closes before b then elim depth [ zero ↦ Some bs | suc d ↦ after_comment 0 d bs ] else after_comment b depth bs)
 
-abbrev pub len_before : List ℕ → Option (List ℕ) → Option ℕ
-len_before text None = None
-len_before text (Some rest) = Some (length text - length rest)
-
-unfoldable pub comment_len : List ℕ → Option ℕ
-comment_len inside = len_before inside (after_comment 0 0 inside)
-
-abbrev pub comment_piece : Place → Option ℕ → Result Piece SourceFault
-comment_piece p None = Err (fault 2 p)
-comment_piece p (Some n) = skipped (n + 2)
+abbrev pub comment_piece : Place → List ℕ → Option (List ℕ) → Result Piece SourceFault
+comment_piece p inside None = Err (fault 2 p)
+comment_piece p inside (Some rest) = skipped (length inside - length rest + 2)
 
 -- ---- words and names
 abbrev pub word_or_name : List ℕ → Place → Option Word → Result Piece SourceFault
@@ -74,30 +71,32 @@ name_piece name p = word_or_name name p (word_among all_words name)
 unfoldable pub run_len : List ℕ → ℕ
 run_len text = let n = prefix_len is_hex_digit text in if begins_with 72 (drop n text) then n + 1 else n
 
-unfoldable pub value_within : ℕ → ℕ → List ℕ → Option ℕ
-value_within base limit ds = if nat_le (value base ds) limit then Some (value base ds) else None
+abbrev pub number : ℕ → List ℕ → Option TokenKind
+number base ds = Some (k.Number (value base ds))
 
-abbrev pub number : ℕ → List ℕ → Place → Result TokenKind SourceFault
-number base ds p = elim (value_within base 65535 ds) [ None ↦ Err (fault 5 p) | Some n ↦ Ok (k.Number n) ]
+abbrev pub code : List ℕ → Option TokenKind
+code ds = Some (k.CharCode (value 8 ds))
 
-abbrev pub code : List ℕ → Place → Result TokenKind SourceFault
-code ds p = elim (value_within 8 255 ds) [ None ↦ Err (fault 5 p) | Some n ↦ Ok (k.CharCode n) ]
+-- what a run says, by its last byte
+unfoldable pub says : List ℕ → Option TokenKind
+says run =
+    let last = get_or run (length run - 1) 0 in
+    let digits = take (length run - 1) run in
+    if (last == 72) && list_all is_hex_digit digits then number 16 digits
+    else (if (last == 66) && list_all is_octal_digit digits then number 8 digits
+    else (if (last == 67) && list_all is_octal_digit digits then code digits
+    else (if list_all is_digit run then number 10 run else None)))
 
-unfoldable pub numeral : List ℕ → Place → Result TokenKind SourceFault
-numeral run p =
-    let hex = prefix_len is_hex_digit run in
-    let octal = prefix_len is_octal_digit run in
-    if bytes_eq (drop hex run) (codes "H") then number 16 (take hex run) p
-    else (if bytes_eq (drop octal run) (codes "B") then number 8 (take octal run) p
-    else (if bytes_eq (drop octal run) (codes "C") then code (take octal run) p
-    else (if list_all is_digit run then number 10 run p else Err (fault 4 p))))
+abbrev pub judged : Place → Option TokenKind → Result TokenKind SourceFault
+judged p None = Err (fault 4 p)
+judged p (Some what) = if fits what then Ok what else Err (fault 5 p)
 
 abbrev pub with_len : ℕ → Result TokenKind SourceFault → Result Piece SourceFault
 with_len n (Ok what) = token what n
 with_len n (Err f) = Err f
 
 unfoldable pub number_piece : List ℕ → Place → Result Piece SourceFault
-number_piece run p = with_len (length run) (numeral run p)
+number_piece run p = with_len (length run) (judged p (says run))
 
 -- ---- strings
 unfoldable pub line_piece : ℕ → List ℕ → Place → Result Piece SourceFault
@@ -121,7 +120,7 @@ pair_piece b p (Some what) = token what 2
 
 unfoldable pub mark_piece : ℕ → List ℕ → Place → Result Piece SourceFault
 mark_piece b [] p = single_piece p (single b)
-mark_piece b (c ∷ cs) p = if opens b c then comment_piece p (comment_len cs) else pair_piece b p (pair b c)
+mark_piece b (c ∷ cs) p = if opens b c then comment_piece p cs (after_comment 0 0 cs) else pair_piece b p (pair b c)
 
 -- ---- the first piece
 unfoldable pub piece : List ℕ → Place → Result Piece SourceFault

@@ -1,7 +1,6 @@
 -- A table of spellings and words, looked through from its start.
 use Rattle.std.specs.Prelude.{ℕ, List, [], ◌∷◌, Option, Some, None, if◌then◌else◌}
-use Rattle.std.specs.Borrow.{Bor}
-use Rattle.std.specs.Str.{bytes_eq}
+use Rattle.std.specs.{Borrow.Bor, Str.bytes_eq}
 use Rattle.lil_text.specs.declared.token.Word.{Word}
 
 abbrev pub look_up : List (Bor (List ℕ) × Word) → List ℕ → Option Word

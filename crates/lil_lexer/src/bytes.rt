@@ -106,11 +106,16 @@ pub(crate) fn hex_len(text: &[u8]) -> usize
     text.iter().take_while(|b| is_hex_digit(**b)).count()
 }
 
-pub(crate) fn octal_len(text: &[u8]) -> usize
-    ensures len { result ≡ prefix_len lexical.is_octal_digit text.now }
-    ensures within { result ≤ length text.now }
+pub(crate) fn all_hex(text: &[u8]) -> bool
+    ensures { result ≡ list_all lexical.is_hex_digit text.now }
 {
-    text.iter().take_while(|b| is_octal_digit(**b)).count()
+    text.iter().all(|b| is_hex_digit(*b))
+}
+
+pub(crate) fn all_octal(text: &[u8]) -> bool
+    ensures { result ≡ list_all lexical.is_octal_digit text.now }
+{
+    text.iter().all(|b| is_octal_digit(*b))
 }
 
 pub(crate) fn all_digits(text: &[u8]) -> bool

@@ -1,7 +1,6 @@
-ghost use Rattle.std.specs.Prelude.{◌≡◌, ◌≤◌, ◌⊎◌, List, [], ◌++◌, length, IfOk};
+ghost use Rattle.std.specs.Prelude.{◌≡◌, ◌⊎◌, List, [], ◌++◌, IfOk};
 ghost use Rattle.lil_base.specs.declared.fault.SourceFault.{SourceFault};
-ghost use Rattle.lil_text.specs.declared.token.Token.{Token};
-ghost use Rattle.lil_text.specs.Lexical.{longest_text, before, HasTokens, HasLexicalFault};
+ghost use Rattle.lil_text.specs.{declared.token.Token.Token, Lexical.{before, HasTokens, HasLexicalFault}};
 
 use crate::pieces::{Piece, behind, next_piece, stop};
 use lil_base::{FaultKind, Items, Memory, Place, Text};
@@ -30,18 +29,21 @@ fn with_token(found: Tokens, what: Option<TokenKind>, place: Place) -> Result<To
 }
 
 fn cut(alloc: Global, text: &[u8]) -> Result<Tokens, ReadStop>
-    requires { length text.now ≤ longest_text }
     ensures found { IfOk result (λ ts. HasTokens text.now ts) }
     ensures fault { (f : SourceFault) → result ≡ Err (ReadStop.Fault f) → HasLexicalFault text.now f }
 {
+    if LONGEST_TEXT < text.len() {
+        return Err(stop(FaultKind::TextTooLong, START));
+    }
     let mut found = Items::new(alloc);
     let mut place = START;
     let mut rest = text;
     while !rest.is_empty() {
         let Piece { what, len } = next_piece(alloc, rest, place)?;
         found = with_token(found, what, place)?;
-        place = behind(place, &rest[..len]);
-        rest = &rest[len..];
+        let (front, left) = rest.split_at(len);
+        place = behind(place, front);
+        rest = left;
     }
     Ok(with_token(found, Some(TokenKind::Finish), place)?)
 }
@@ -58,8 +60,5 @@ pub fn tokens(alloc: Global, t: &Text) -> Result<Tokens, ReadStop>
     ensures apart { (ts : List Token) (f : SourceFault) → HasTokens t.now ts → HasLexicalFault t.now f → ⊥ }
     ensures one { (ts us : List Token) → HasTokens t.now ts → HasTokens t.now us → ts ≡ us }
 {
-    if LONGEST_TEXT < t.len() {
-        return Err(stop(FaultKind::TextTooLong, START));
-    }
     cut(alloc, t.as_slice())
 }

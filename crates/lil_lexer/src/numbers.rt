@@ -1,9 +1,9 @@
-ghost use Rattle.std.specs.Prelude.{◌≡◌, ◌≤◌, ◌+◌, length, IfSome};
+ghost use Rattle.std.specs.Prelude.{◌≡◌, ◌≤◌, ◌<◌, ◌+◌, length, IfSome, MatchOption};
 ghost use Rattle.lil_text.specs.Lexical as lexical;
 ghost use Rattle.lil_lexer.specs.Pieces as spec;
 ghost use Rattle.lil_lexer.specs.Pieces.{Reads};
 
-use crate::bytes::{all_digits, begins_with, digit_value, hex_len, octal_len};
+use crate::bytes::{all_digits, all_hex, all_octal, begins_with, digit_value, hex_len};
 use crate::pieces::stop;
 use lil_base::{FaultKind, Place};
 use lil_text::{ReadStop, TokenKind};
@@ -23,11 +23,11 @@ pub(crate) fn run_len(text: &[u8]) -> usize
 }
 
 /// What digits say to a base, or None above the limit.
-#[tactic(auto, unfolding(crate::specs::Pieces::value_within))]
+#[tactic(auto, using(crate::proofs::Values::grows, std::proofs::lemmas::Grind::common_steps))]
 fn value_within(base: u32, limit: u32, digits: &[u8]) -> Option<u32>
     requires base { (1 ≤ base) × (base ≤ 16) }
     requires limit { limit ≤ 65535 }
-    ensures value { result ≡ spec.value_within base limit digits.now }
+    ensures value { MatchOption result (limit < lexical.value base digits.now) (λ value. value ≡ lexical.value base digits.now) }
     ensures within { IfSome result (λ value. value ≤ limit) }
 {
     let mut value: u32 = 0;
@@ -42,7 +42,7 @@ fn value_within(base: u32, limit: u32, digits: &[u8]) -> Option<u32>
 
 fn number(base: u32, digits: &[u8], place: Place) -> Result<TokenKind, ReadStop>
     requires { (1 ≤ base) × (base ≤ 16) }
-    ensures { Reads (spec.number base digits.now place) result }
+    ensures { Reads (spec.judged place (spec.number base digits.now)) result }
 {
     match value_within(base, 65535, digits) {
         None => Err(stop(FaultKind::NumberTooLarge, place)),
@@ -51,7 +51,7 @@ fn number(base: u32, digits: &[u8], place: Place) -> Result<TokenKind, ReadStop>
 }
 
 fn code(digits: &[u8], place: Place) -> Result<TokenKind, ReadStop>
-    ensures { Reads (spec.code digits.now place) result }
+    ensures { Reads (spec.judged place (spec.code digits.now)) result }
 {
     match value_within(8, 255, digits) {
         None => Err(stop(FaultKind::NumberTooLarge, place)),
@@ -60,21 +60,15 @@ fn code(digits: &[u8], place: Place) -> Result<TokenKind, ReadStop>
 }
 
 /// What a run says that begins with a digit.
-#[tactic(auto, unfolding(crate::specs::Pieces::numeral))]
+#[tactic(auto, unfolding(crate::specs::Pieces::says))]
 pub(crate) fn numeral(run: &[u8], place: Place) -> Result<TokenKind, ReadStop>
-    ensures { Reads (spec.numeral run.now place) result }
+    ensures { Reads (spec.judged place (spec.says run.now)) result }
 {
-    let hex = hex_len(run);
-    let octal = octal_len(run);
-    if &run[hex..] == b"H".as_slice() {
-        number(16, &run[..hex], place)
-    } else if &run[octal..] == b"B".as_slice() {
-        number(8, &run[..octal], place)
-    } else if &run[octal..] == b"C".as_slice() {
-        code(&run[..octal], place)
-    } else if all_digits(run) {
-        number(10, run, place)
-    } else {
-        Err(stop(FaultKind::BadNumber, place))
+    match run {
+        [digits @ .., b'H'] if all_hex(digits) => number(16, digits, place),
+        [digits @ .., b'B'] if all_octal(digits) => number(8, digits, place),
+        [digits @ .., b'C'] if all_octal(digits) => code(digits, place),
+        _ if all_digits(run) => number(10, run, place),
+        _ => Err(stop(FaultKind::BadNumber, place)),
     }
 }

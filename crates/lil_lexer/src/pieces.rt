@@ -1,11 +1,9 @@
-ghost use Rattle.std.specs.Prelude.{◌≡◌, ◌≤◌, ◌<◌, ◌+◌, length, IfSome, IfOk};
+ghost use Rattle.std.specs.Prelude.{◌≡◌, ◌≤◌, ◌<◌, ◌+◌, length, None, Some, IfSome};
 ghost use Rattle.lil_base.specs.Faults.{fault, fault_number};
-ghost use Rattle.lil_base.specs.declared.fault.SourceFault.{SourceFault};
 ghost use Rattle.lil_text.specs.Lexical as lexical;
-ghost use Rattle.lil_text.specs.Lexical.{IsFault};
 ghost use Rattle.lil_text.specs.declared.stop.ReadStop.TheVariants as why;
 ghost use Rattle.lil_lexer.specs.Pieces as spec;
-ghost use Rattle.lil_lexer.specs.Pieces.{Reads, HasRoom, Begins};
+ghost use Rattle.lil_lexer.specs.Pieces.{Reads, HasRoom, IsWithin, Found};
 
 use crate::bytes::{
     begins_with, closes, is_blank, is_digit, is_letter, is_quote, line_len, name_len, opens,
@@ -68,9 +66,7 @@ fn after_byte(place: Place, b: u8) -> Place
 pub(crate) fn behind(place: Place, bytes: &[u8]) -> Place
     requires { HasRoom place (length bytes.now) }
     ensures value { result ≡ lexical.behind place bytes.now }
-    ensures line { result.line ≤ place.line + length bytes.now }
-    ensures column { result.column ≤ place.column + length bytes.now }
-    ensures offset { result.offset ≤ place.offset + length bytes.now }
+    ensures within { IsWithin place result (length bytes.now) }
 {
     let mut at = place;
     for b in bytes {
@@ -79,36 +75,39 @@ pub(crate) fn behind(place: Place, bytes: &[u8]) -> Place
     at
 }
 
-/// How many bytes a comment takes behind its `(*`, or None where it isn't closed.
-fn comment_len(inside: &[u8]) -> Option<usize>
-    ensures value { result ≡ spec.comment_len inside.now }
-    ensures within { IfSome result (λ len. len ≤ length inside.now) }
+/// What is behind a comment, from behind its `(*` on, or None where it isn't closed.
+fn after_comment(inside: &[u8]) -> Option<&[u8]>
+    ensures none { result ≡ None → spec.after_comment 0 0 inside.now ≡ None }
+    ensures some { IfSome result (λ rest. spec.after_comment 0 0 inside.now ≡ Some rest.now) }
+    ensures within { IfSome result (λ rest. length rest.now ≤ length inside.now) }
 {
     let mut depth: usize = 0;
     let mut before: u8 = 0;
-    for (at, b) in inside.iter().enumerate() {
+    let mut left = inside;
+    while let [b, rest @ ..] = left {
         if opens(before, *b) {
             depth += 1;
             before = 0;
         } else if closes(before, *b) {
             if depth == 0 {
-                return Some(at + 1);
+                return Some(rest);
             }
             depth -= 1;
             before = 0;
         } else {
             before = *b;
         }
+        left = rest;
     }
     None
 }
 
 fn comment_piece(inside: &[u8], place: Place) -> Result<Piece, ReadStop>
-    ensures { Reads (spec.comment_piece place (spec.comment_len inside.now)) result }
+    ensures { Reads (spec.comment_piece place inside.now (spec.after_comment 0 0 inside.now)) result }
 {
-    match comment_len(inside) {
+    match after_comment(inside) {
         None => Err(stop(FaultKind::OpenComment, place)),
-        Some(len) => skipped(len + 2),
+        Some(rest) => skipped(inside.len() - rest.len() + 2),
     }
 }
 
@@ -266,10 +265,7 @@ fn piece_at(alloc: Global, text: &[u8], place: Place) -> Result<Piece, ReadStop>
 pub(crate) fn next_piece(alloc: Global, text: &[u8], place: Place) -> Result<Piece, ReadStop>
     requires some { 0 < length text.now }
     requires room { HasRoom place (length text.now) }
-    ensures found { IfOk result (λ y. Begins text.now y) }
-    ensures fault { (f : SourceFault) → result ≡ Err (ReadStop.Fault f) → IsFault place text.now f }
-    ensures goes_on { IfOk result (λ y. 0 < y.len) }
-    ensures within { IfOk result (λ y. y.len ≤ length text.now) }
+    ensures { Found place text.now result }
 {
     piece_at(alloc, text, place)
 }

@@ -1,12 +1,8 @@
 -- The words of values say their numbers, and results lie in their type.
-use Rattle.std.proofs.Common.{◌≡◌, ◌==◌, Bool, true, false, cond, not, ◌&&◌, ◌||◌, Result, Ok, Err, refl, sym, ap, ◌∙◌, ◌⊎◌, inl, inr, arith}
-use Rattle.std.specs.Prelude.{ℤ, pos, negsuc, ◌-ℤ◌, ◌≤ℤ◌, int_lt, nat_abs}
-use Rattle.std.proofs.lemmas.Bool.{cases_Bool, eqb-true, eq-eqb, false_from_ne_true, true≢false}
-use Rattle.std.proofs.lemmas.Int.{ints}
-use Rattle.lil_base.specs.Words.{Whole, Cardinal, Integer, least, greatest, in_type, is_zero, kept, sum, difference, product, quotient, remainder, negation, absolute, number_of, word_of}
-use Rattle.lil_base.specs.declared.fault.ArithFault.{ArithFault}
-use Rattle.lil_base.specs.declared.fault.ArithFault.TheVariants.{DivZero}
-use Rattle.lil_base.specs.Laws.{bounds, number_of-word, kept_ok}
+use Rattle.std.proofs.Common.{◌≡◌, ◌==◌, Bool, true, false, cond, not, Result, Ok, Err, refl, sym, ap, ◌∙◌, arith}
+use Rattle.std.specs.Prelude.{ℤ, pos, ◌-ℤ◌, ◌≤ℤ◌, nat_abs}
+use Rattle.std.proofs.lemmas.{Int.ints}
+use Rattle.lil_base.specs.{Words.{Whole, Cardinal, Integer, in_type, is_zero, kept, sum, difference, product, quotient, remainder, negation, absolute, number_of, word_of}, declared.fault.ArithFault.{ArithFault, TheVariants.DivZero}, Laws.{number_of-word, kept_ok}}
 use Rattle.lil_resolved.specs.Kinds.{Kind, OfWhole, OfTruth, OfCharacter, OfEnumeration, OfSet, OfPointer, is_base, compared_as, Scalar, Number, Truth, Character, SetOf, ToObject, ToWorkspace, Nil, within, scalar_word, ordinal_of}
 use Rattle.lil_meaning.specs.Steps.{whole_of, is_same, is_other}
 use Rattle.lil_mcode.specs.Control.{above}
@@ -40,25 +36,10 @@ same_is x y h = grind (arith, ints)
 
 -- numbers that their words say are the same where their words are
 pub same_words : (t : Whole) (x y : ℤ) → number_of t (word_of x) ≡ x → number_of t (word_of y) ≡ y → (word_of x == word_of y) ≡ is_same x y
-same_words t x y first second = by (cases_Bool (is_same x y))
-  where
-    by : (is_same x y ≡ true) ⊎ (is_same x y ≡ false) → (word_of x == word_of y) ≡ is_same x y
-    by (inl e) = eq-eqb (word_of x) (word_of y) (ap word_of (same_is x y e)) ∙ sym e
-    by (inr e) =
-        false_from_ne_true (word_of x == word_of y)
-        (λ h.
-        let one : word_of x ≡ word_of y = eqb-true (word_of x) (word_of y) h in
-        let same : x ≡ y = sym first ∙ ap (number_of t) one ∙ second in
-        true≢false (sym (self_same x) ∙ ap (is_same x) same ∙ e))
-        ∙ sym e
+same_words t x y first second = grind (arith, ints)
 
 pub other_is : (x y : ℤ) → is_other x y ≡ not (is_same x y)
-other_is x y = by (int_lt x y) (int_lt y x)
-  where
-    by : (a b : Bool) → (a || b) ≡ not (not a && not b)
-    by true b = refl
-    by false true = refl
-    by false false = refl
+other_is x y = grind (arith, ints)
 
 -- a result lies in its type
 kept_fits : (t : Whole) (z y : ℤ) → kept t z ≡ Ok y → in_type t y ≡ true
@@ -97,13 +78,5 @@ absolute_fits t x z e = kept_fits t (pos (nat_abs x)) z e
 
 -- how far a word lies above another one
 pub above_more : (t : Whole) (low z : ℤ) → in_type t low ≡ true → in_type t z ≡ true → low ≤ℤ z → pos (above (word_of low) (word_of z)) ≡ z -ℤ low
-above_more t low z first second order = by t low z (bounds (least t) low (greatest t) first) (bounds (least t) z (greatest t) second) order
-  where
-    by : (t : Whole) (low z : ℤ) → (least t ≤ℤ low) × (low ≤ℤ greatest t) → (least t ≤ℤ z) × (z ≤ℤ greatest t) → low ≤ℤ z → pos (above (word_of low) (word_of z)) ≡ z -ℤ low
-    by Cardinal (pos a) (pos b) l u order = omega (arith, ints)
-    by Cardinal (negsuc a) z l u order = absurd (omega (arith, ints))
-    by Cardinal (pos a) (negsuc b) l u order = absurd (omega (arith, ints))
-    by Integer (pos a) (pos b) l u order = omega (arith, ints)
-    by Integer (pos a) (negsuc b) l u order = absurd (omega (arith, ints))
-    by Integer (negsuc a) (pos b) l u order = omega (arith, ints)
-    by Integer (negsuc a) (negsuc b) l u order = omega (arith, ints)
+above_more Cardinal low z first second order = grind (arith, ints)
+above_more Integer low z first second order = grind (arith, ints)

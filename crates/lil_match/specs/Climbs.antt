@@ -1,28 +1,9 @@
 -- The frame so many static links out is that of the activation so many levels out.
-use Rattle.std.proofs.Common.{◌≡◌, ℕ, zero, suc, ◌+◌, ◌<◌, inl, inr, Some, List, [], ◌∷◌, length, drop, get_or, refl, sym, ap, ◌∙◌, subst, arith}
+use Rattle.std.proofs.Common.{◌≡◌, ℕ, zero, suc, ◌+◌, ◌<◌, inl, inr, Some, List, [], ◌∷◌, length, drop, get_or, drop-cons, refl, sym, ap, ◌∙◌, subst, arith}
 use Rattle.std.specs.Prelude.{slice_index, option_and_then}
-use Rattle.lil_meaning.specs.Items.{Activation}
-use Rattle.lil_meaning.specs.Steps.{surrounding, level_out}
+use Rattle.lil_meaning.specs.{Items.Activation, Steps.{surrounding, level_out}}
 use Rattle.lil_mcode.specs.Table.{frame_out}
-use Rattle.lil_match.specs.Homes.{Owner, Own}
-use Rattle.lil_match.specs.Waits.{Frame}
-use Rattle.lil_match.specs.Goes.{Stands, Among, LinkedTo, Linked, Chained}
-
--- what is left of a list that has another item behind the i-th
-pub record Two (xs : List ℕ) (i : ℕ) : Type 0 where
-  pub here : ℕ
-  pub then : ℕ
-  pub rest : List ℕ
-  pub is : drop i xs ≡ here ∷ then ∷ rest
-  pub next : drop (suc i) xs ≡ then ∷ rest
-
-pub two_left : (xs : List ℕ) (i : ℕ) → suc i < length xs → Two xs i
-two_left [] i less = absurd (omega (arith, less))
-two_left (x ∷ []) zero less = absurd (omega (arith, less))
-two_left (x ∷ y ∷ xs) zero less = record { here = x; then = y; rest = xs; is = refl; next = refl }
-two_left (x ∷ xs) (suc i) less =
-    let r = two_left xs i (omega (arith, less)) in
-    record { here = r.here; then = r.then; rest = r.rest; is = r.is; next = r.next }
+use Rattle.lil_match.specs.{Homes.{Owner, Own}, Waits.Frame, Goes.{Stands, Among, LinkedTo, Linked, Chained}}
 
 -- the links of one of the frames, whose frames below are some of them
 pub record LinkedAt (shadow : ℕ → ℕ) (acts : List Activation) (fs : List Frame) (to : Frame) : Type 0 where
@@ -61,14 +42,14 @@ module _ (shadow : ℕ → ℕ) (acts : List Activation) (store : List ℕ) (f :
   climbs zero less = record { to = f; among = inl refl; level = refl; chain = refl; reached = refl }
   climbs (suc i) less =
       let c = climbs i (omega (arith, less)) in
-      let two = two_left f.layout.chain i less in
+      let next = drop-cons f.layout.chain (suc i) 0 less in
       let l = linked_at shadow acts f gs chained c.to c.among in
-      let link : LinkedTo shadow acts c.to.activation c.to.at two.then two.rest l.under =
-      subst (λ (es : List ℕ). Linked shadow acts c.to.activation c.to.at es l.under) (c.chain ∙ two.is) l.link in
+      let link : LinkedTo shadow acts c.to.activation c.to.at (get_or f.layout.chain (suc i) 0) (drop (suc (suc i)) f.layout.chain) l.under =
+      subst (λ (es : List ℕ). Linked shadow acts c.to.activation c.to.at es l.under) (c.chain ∙ drop-cons f.layout.chain i 0 (omega (arith, less)) ∙ ap (λ (es : List ℕ). get_or f.layout.chain i 0 ∷ es) next) l.link in
       record {
         to = link.to;
         among = l.within link.to link.among;
         level = ap (option_and_then (surrounding acts)) c.level ∙ link.outer;
-        chain = link.chain ∙ sym two.next;
+        chain = link.chain ∙ sym next;
         reached = ap (slice_index store) c.reached ∙ kept c.to c.among ∙ link.word;
       }

@@ -2,13 +2,9 @@
 use Rattle.std.proofs.Common.{◌≡◌, ℕ, zero, suc, ◌+◌, ◌≤◌, ⊎_elim, List, [], ◌∷◌, Option, refl, sym, ap, ◌∙◌, subst, arith}
 use Rattle.std.specs.Prelude.{slice_get}
 use Rattle.lil_resolved.specs.Resolved.{Resolved}
-use Rattle.lil_meaning.specs.Items.{loaded_at, Turns, Holding, End, Item, Perform, Activation, Source}
-use Rattle.lil_meaning.specs.Need.{frame_of, cost, unless_body, with_callers, chain}
-use Rattle.lil_meaning.specs.Steps.{owner_of, procedure_of}
+use Rattle.lil_meaning.specs.{Items.{loaded_at, Turns, Holding, End, Item, Perform, Activation, Source}, Need.{frame_of, cost, unless_body, with_callers, chain}, Steps.{owner_of, procedure_of}}
 use Rattle.lil_mcode.specs.Table.{Module, State}
-use Rattle.lil_match.specs.Homes.{Owner, Home}
-use Rattle.lil_match.specs.Waits.{Mode, Quiet, Around, Frame, Setting, with_frames, Behind, RowsOf, Rows}
-use Rattle.lil_match.specs.Goes.{Stands, IsKnown, EachKnown, Shared}
+use Rattle.lil_match.specs.{Homes.{Owner, Home}, Waits.{Mode, Quiet, Around, Frame, Setting, with_frames, Behind, RowsOf, Rows}, Goes.{Stands, IsKnown, EachKnown, Shared}}
 
 abbrev pub cost_of : List Frame → ℕ
 cost_of [] = 0
@@ -55,27 +51,16 @@ items_cost ctx (Perform (Holding place) ∷ k) t p stack c a r e =
     (items_cost w.before k _ _ _ _ _ w.then (record { takes = inner.0.takes; rest = inner.0.rest }, inner.1))
 items_cost ctx (Perform (End n) ∷ k) t p stack c a r e =
     ap (λ (i : ℕ). cost ctx.library ctx.loaded (slice_get ctx.activations i) + with_callers (slice_get ctx.activations i) (chain ctx.library ctx.loaded ctx.activations k)) r.there.activation
-    ∙ by ctx.stack.callers ctx.stack.bodies e.1 r.there.behind (λ g gs bs p a back rest. items_cost (with_frames ctx g gs bs) k Quiet p [] r.later a back rest)
+    ∙ ap (λ (n : ℕ). n + with_callers (slice_get ctx.activations ctx.stack.frame.activation) (chain ctx.library ctx.loaded ctx.activations k)) e.0.takes
+    ∙ ap (λ (n : ℕ). (ctx.stack.frame.layout.frame + 17) + n) (by ctx.stack.callers ctx.stack.bodies e.1 r.there.behind (λ g gs bs p a back rest. items_cost (with_frames ctx g gs bs) k Quiet p [] r.later a back rest))
   where
     by : (gs bs : List Frame) → EachCosts ctx.library ctx.loaded ctx.activations gs → Behind ctx k (RowsOf k) r.later gs bs
         → ((g : Frame) (gs bs : List Frame) (p : ℕ) (a : Around) → Rows (with_frames ctx g gs bs) k Quiet p [] r.later a → EachCosts ctx.library ctx.loaded ctx.activations (g ∷ gs) → chain ctx.library ctx.loaded ctx.activations k ≡ cost_of (g ∷ gs))
-        → cost ctx.library ctx.loaded (slice_get ctx.activations ctx.stack.frame.activation) + with_callers (slice_get ctx.activations ctx.stack.frame.activation) (chain ctx.library ctx.loaded ctx.activations k) ≡ (ctx.stack.frame.layout.frame + 17) + cost_of gs
-    by (g ∷ gs) bs each back under =
-        let rest : with_callers (slice_get ctx.activations ctx.stack.frame.activation) (chain ctx.library ctx.loaded ctx.activations k) ≡ chain ctx.library ctx.loaded ctx.activations k =
-        e.0.rest (chain ctx.library ctx.loaded ctx.activations k) ∙ ap (λ (p : ℕ). unless_body p (chain ctx.library ctx.loaded ctx.activations k)) back.called in
-        let inner : chain ctx.library ctx.loaded ctx.activations k ≡ cost_of (g ∷ gs) = under g gs bs _ _ back.then each in
-        ap (λ (n : ℕ). n + with_callers (slice_get ctx.activations ctx.stack.frame.activation) (chain ctx.library ctx.loaded ctx.activations k)) e.0.takes
-        ∙ ap (λ (n : ℕ). (ctx.stack.frame.layout.frame + 17) + n) (rest ∙ inner)
-    by [] (b ∷ bs) each next under =
-        let rest : with_callers (slice_get ctx.activations ctx.stack.frame.activation) (chain ctx.library ctx.loaded ctx.activations k) ≡ 0 =
-        e.0.rest (chain ctx.library ctx.loaded ctx.activations k) ∙ ap (λ (p : ℕ). unless_body p (chain ctx.library ctx.loaded ctx.activations k)) next.body in
-        ap (λ (n : ℕ). n + with_callers (slice_get ctx.activations ctx.stack.frame.activation) (chain ctx.library ctx.loaded ctx.activations k)) e.0.takes
-        ∙ ap (λ (n : ℕ). (ctx.stack.frame.layout.frame + 17) + n) rest
+        → with_callers (slice_get ctx.activations ctx.stack.frame.activation) (chain ctx.library ctx.loaded ctx.activations k) ≡ cost_of gs
+    by (g ∷ gs) bs each back under = e.0.rest (chain ctx.library ctx.loaded ctx.activations k) ∙ ap (λ (p : ℕ). unless_body p (chain ctx.library ctx.loaded ctx.activations k)) back.called ∙ under g gs bs _ _ back.then each
+    by [] (b ∷ bs) each next under = e.0.rest (chain ctx.library ctx.loaded ctx.activations k) ∙ ap (λ (p : ℕ). unless_body p (chain ctx.library ctx.loaded ctx.activations k)) next.body
     by [] [] each last under =
-        let rest : with_callers (slice_get ctx.activations ctx.stack.frame.activation) (chain ctx.library ctx.loaded ctx.activations k) ≡ 0 =
-        e.0.rest (chain ctx.library ctx.loaded ctx.activations k) ∙ ap (λ (i : List Item). unless_body ctx.stack.frame.procedure (chain ctx.library ctx.loaded ctx.activations i)) last ∙ none_left ctx.stack.frame.procedure in
-        ap (λ (n : ℕ). n + with_callers (slice_get ctx.activations ctx.stack.frame.activation) (chain ctx.library ctx.loaded ctx.activations k)) e.0.takes
-        ∙ ap (λ (n : ℕ). (ctx.stack.frame.layout.frame + 17) + n) rest
+        e.0.rest (chain ctx.library ctx.loaded ctx.activations k) ∙ ap (λ (i : List Item). unless_body ctx.stack.frame.procedure (chain ctx.library ctx.loaded ctx.activations i)) last ∙ none_left ctx.stack.frame.procedure
 items_cost ctx (i ∷ k) t p stack c a r e = items_cost ctx k _ _ _ _ _ r.there.then e
 
 -- frames take no more than they cost

@@ -2,22 +2,13 @@
 -- the source leads from one to the next.
 use Rattle.std.proofs.Common.{◌≡◌, ℕ, ◌+◌, ◌<◌, ◌≤◌, ◌⊎◌, Bool, true, Option, Some, None, List, [], ◌∷◌, length, get_or, map}
 use Rattle.std.specs.Prelude.{slice_get}
-use Rattle.lil_base.specs.declared.fault.LimitKind.{LimitKind}
+use Rattle.lil_base.specs.declared.fault.{LimitKind.LimitKind, TrapAt.TrapAt}
 use Rattle.lil_base.specs.declared.fault.LimitKind.TheVariants as limit
-use Rattle.lil_base.specs.declared.fault.TrapAt.{TrapAt}
-use Rattle.lil_resolved.specs.Resolved.{Procedure, Resolved, procedure_by}
-use Rattle.lil_resolved.specs.Sizes.{frame_words}
-use Rattle.lil_resolved.specs.Kinds.{Shape, is_there, shape_at}
-use Rattle.lil_meaning.specs.Items.{Root, Global, Object, Cells, targets_of, loaded_at, Item, Activation, Workspace, Parked, Level, Phase, Going, Closing, Ended, Trapped, Source, heap_words}
-use Rattle.lil_meaning.specs.World.{World, all_closed}
-use Rattle.lil_meaning.specs.Need.{frame_of, chain_of}
-use Rattle.lil_meaning.specs.Steps.{next, owner_of, procedure_of, procedures_of, surrounding, name_of, procedure_name}
+use Rattle.lil_resolved.specs.{Resolved.{Procedure, Resolved, procedure_by}, Sizes.frame_words, Kinds.{Shape, is_there, shape_at}}
+use Rattle.lil_meaning.specs.{Items.{Root, Global, Object, Cells, targets_of, loaded_at, Item, Activation, Workspace, Parked, Level, Phase, Going, Closing, Ended, Trapped, Source, heap_words}, World.{World, all_closed}, Need.{frame_of, chain_of}, Steps.{next, owner_of, procedure_of, procedures_of, surrounding, name_of, procedure_name}}
 use Rattle.lil_mcode.specs.Table.{Module, StackRegisters, Kept, State, stack_of, module_at}
 use Rattle.lil_table.specs.Rows.{Layout, ProcedureRow, exactly}
-use Rattle.lil_match.specs.Running.{Finish, Running, Finished, TrappedBy, Limited, Run, mrun, running}
-use Rattle.lil_match.specs.Homes.{Owner, Own, Fixed, Free, Home, Extends, lives, Mem}
-use Rattle.lil_match.specs.Stutter.{stutter}
-use Rattle.lil_match.specs.Waits.{Frame, Stack, Setting, Quiet, Around, Ahead}
+use Rattle.lil_match.specs.{Running.{Finish, Running, Finished, TrappedBy, Limited, Run, mrun, running}, Homes.{Owner, Own, Fixed, Free, Home, Extends, lives, Mem}, Stutter.stutter, Waits.{Frame, Stack, Setting, Quiet, Around, Ahead}}
 
 -- a run that has shown no more, and goes on
 pub record IsStill (w : World) (run : Run) : Type 0 where
@@ -72,14 +63,12 @@ abbrev pub Chained : (ℕ → ℕ) → List Activation → Frame → List Frame 
 Chained shadow activations f [] = Linked shadow activations f.activation f.at f.layout.chain []
 Chained shadow activations f (g ∷ gs) = Linked shadow activations f.activation f.at f.layout.chain (g ∷ gs) × Chained shadow activations g gs
 
--- layouts in one module
-pub record IsPart (l m : Layout) : Type 0 where
-  pub offsets : m.offsets ≡ l.offsets
-  pub targets : m.scope.targets ≡ l.scope.targets
-  pub variables : m.scope.variables ≡ l.scope.variables
-  pub words : m.words ≡ l.words
-  pub strings : m.strings ≡ l.strings
-  pub procedures : m.procedures ≡ l.procedures
+-- what a layout says of the module alone, and layouts in one module
+abbrev pub module_part : Layout → Layout
+module_part l = record l { scope = record (l.scope) { held = [] }; held = []; frame = 0; target = exactly; chain = [] }
+
+abbrev pub IsPart : Layout → Layout → Type 0
+IsPart l m = module_part m ≡ module_part l
 
 -- the layout of a procedure's frame, and its code at its entry
 pub record Entered (own : Module) (l : Layout) (p : ℕ) (its : Procedure) : Type 0 where

@@ -1,19 +1,14 @@
 -- Where the meaning's cells lie in the store.
 use Rattle.std.proofs.Common.{◌≡◌, ℕ, zero, suc, ◌+◌, ◌-◌, ◌*◌, ◌<◌, ◌≤◌, Bool, true, false, eqb, List, [], ◌∷◌, ◌++◌, length, get_or, set, take, drop, refl, sym, ap, ◌∙◌, subst, ◌⊎◌, inl, inr, ⊎_elim, arith, length-set, length-drop}
-use Rattle.std.proofs.lemmas.Bool.{eq-eqb, ltb-true, ne_eqb, cases_Bool, cases_eq, cases_lt, eqb-true, and_parts, and_from}
-use Rattle.std.proofs.lemmas.List.{get_or-set_same, get_or-set_other, get_or-take, get_or-drop, length-take-le}
+use Rattle.std.proofs.lemmas.{Bool.{eq-eqb, ltb-true, ne_eqb, cases_Bool, cases_eq, cases_lt, eqb-true, and_parts, and_from}, List.{get_or-set_same, get_or-set_other, get_or-take, get_or-drop, length-take-le}, Int.ints}
 use Rattle.std.specs.Prelude.{◌==◌, pos, nat_lt, nat_le, if◌then◌else◌}
-use Rattle.std.proofs.lemmas.Int.{ints}
-use Rattle.lil_base.specs.Words.{Cardinal, between}
-use Rattle.lil_base.specs.Sets.{set_word}
-use Rattle.lil_resolved.specs.Members.{no_members}
-use Rattle.lil_resolved.specs.MemberLaws.{word_none}
+use Rattle.lil_base.specs.{Words.{Cardinal, between}, Sets.set_word}
+use Rattle.lil_resolved.specs.{Members.no_members, MemberLaws.word_none}
 use Rattle.lil_resolved.specs.Kinds.{Pointee, Objects, Workspaces, Kind, OfWhole, OfTruth, OfCharacter, OfEnumeration, OfSet, OfPointer, OfRange, base_of, is_plain, alike, takes_value, Scalar, Number, Truth, Character, SetOf, ToObject, ToWorkspace, Nil, is_reference, within, scalar_word, ordinal_of, zero_of, Shape, Absent, Word, Row, words, is_there, part_at, offset, shape_at}
 use Rattle.lil_resolved.specs.Sound.{is_character, is_text}
 use Rattle.lil_meaning.specs.Items.{Root, Global, Local, Object, Place, part_of, Cells, Under, under, rest_behind, at_rest, same_root, stored, alone, text_under}
 use Rattle.lil_frames.specs.Words.{spliced}
-use Rattle.lil_match.specs.Parts.{yes, no, part_fits, part_append, offset_append, Inside, Outside, word_long, parts}
-use Rattle.lil_match.specs.Splices.{spliced_length, spliced_before, spliced_there, spliced_after}
+use Rattle.lil_match.specs.{Parts.{yes, no, part_fits, part_append, offset_append, Inside, Outside, word_long, parts}, Splices.{spliced_length, spliced_before, spliced_there, spliced_after}}
 
 -- whose a word of the store is: a root's, the machine's own, one that never changes, or in no use, as room of the stack with this base
 pub data Owner : Type 0 where
@@ -131,16 +126,8 @@ pub record Mem (h : Home) (cells : Cells) (store : List ℕ) : Type 0 where
   pub long : length store ≡ 65536
 
 pub same_root_eq : (a b : Root) → same_root a b ≡ true → a ≡ b
-same_root_eq (Global m x) (Global n y) h =
-    let p = and_parts (eqb m n) (eqb x y) h in
-    let e : m ≡ n = eqb-true m n p.0 in
-    let d : x ≡ y = eqb-true x y p.1 in
-    cc
-same_root_eq (Local m x) (Local n y) h =
-    let p = and_parts (eqb m n) (eqb x y) h in
-    let e : m ≡ n = eqb-true m n p.0 in
-    let d : x ≡ y = eqb-true x y p.1 in
-    cc
+same_root_eq (Global m x) (Global n y) h = let p = and_parts (eqb m n) (eqb x y) h in cc (eqb-true m n p.0, eqb-true x y p.1)
+same_root_eq (Local m x) (Local n y) h = let p = and_parts (eqb m n) (eqb x y) h in cc (eqb-true m n p.0, eqb-true x y p.1)
 same_root_eq (Object m) (Object n) h = ap Object (eqb-true m n h)
 same_root_eq _ _ h = cc
 
@@ -423,6 +410,58 @@ mem_written h cells store to count cs ws mem there text long same =
         }
     by room (i ∷ j ∷ q) k e = absurd (absent_no k (element i (j ∷ q) k e).1)
 
+-- a word that is the machine's own, or in no use
+abbrev pub Ours : Owner → Type 0
+Ours o = (o ≡ Own) ⊎ ((b : ℕ) × (o ≡ Free b))
+
+pub ours_root : (o : Owner) (r : Root) → Ours o → o ≡ Of r → ⊥
+ours_root o r (inl e) f = cc
+ours_root o r (inr (b, e)) f = cc
+
+pub ours_fixed : (o : Owner) → Ours o → o ≡ Fixed → ⊥
+ours_fixed o (inl e) f = cc
+ours_fixed o (inr (b, e)) f = cc
+
+-- a word stays as it is in another home and another store, or is ours before and afterwards
+pub record Stays (h x : Home) (store new : List ℕ) (a : ℕ) : Type 0 where
+  pub owner : x.owner a ≡ h.owner a
+  pub shadow : x.shadow a ≡ h.shadow a
+  pub word : get_or new a 0 ≡ get_or store a 0
+
+pub record Turns (h x : Home) (new : List ℕ) (a : ℕ) : Type 0 where
+  pub before : Ours (h.owner a)
+  pub after : Ours (x.owner a)
+  pub word : x.owner a ≡ Own → get_or new a 0 ≡ x.shadow a
+
+abbrev pub turned : Home → (ℕ → Owner) → (ℕ → ℕ) → List ℕ → Home
+turned h owner shadow workspaces = record h { owner = owner; shadow = shadow; workspaces = workspaces }
+
+-- THE law of the machine's words: those that turn change no cell, and none that never changes
+module _ (h : Home) (store new : List ℕ) (owner : ℕ → Owner) (shadow : ℕ → ℕ) (workspaces : List ℕ)
+    (each : (a : ℕ) → Stays h (turned h owner shadow workspaces) store new a ⊎ Turns h (turned h owner shadow workspaces) new a) where
+  stays : (a : ℕ) → (Ours (h.owner a) → ⊥) → Stays h (turned h owner shadow workspaces) store new a
+  stays a other = ⊎_elim (λ s. s) (λ t. absurd (other t.before)) (each a)
+
+  pub fixed_turned : (a : ℕ) → h.owner a ≡ Fixed → (owner a ≡ Fixed) × (shadow a ≡ h.shadow a)
+  fixed_turned a is = let s = stays a (λ ours. ours_fixed (h.owner a) ours is) in (s.owner ∙ is, s.shadow)
+
+  pub mem_turned : (cells : Cells) → Mem h cells store → Extends workspaces h.workspaces → length new ≡ length store → Mem (turned h owner shadow workspaces) cells new
+  mem_turned cells mem extends long = record {
+    owned = λ r i less. let was = mem.owned r i less in let s = of_root (h.base r + i) r was in s.owner ∙ was;
+    inside = mem.inside;
+    holds = λ r q k e.
+        let old = mem.holds r q k e in
+        let s = of_root (h.base r + offset (h.shape r) q) r (scalar_owned h cells store r q k mem e).0 in
+        is_word_kept h (turned h owner shadow workspaces) (λ o l. refl) (λ o l. refl) refl extends k (cells r q) (get_or new (h.base r + offset (h.shape r) q) 0)
+        (record { word = s.word ∙ old.word; fits = old.fits; refers = old.refers });
+    kept = λ a own. ⊎_elim (λ s. s.word ∙ mem.kept a (sym s.owner ∙ own) ∙ sym s.shadow) (λ t. t.word own) (each a);
+    fixed = λ a is. ⊎_elim (λ s. s.word ∙ mem.fixed a (sym s.owner ∙ is) ∙ sym s.shadow) (λ t. absurd (ours_fixed (owner a) t.after is)) (each a);
+    long = long ∙ mem.long;
+  }
+    where
+      of_root : (a : ℕ) (r : Root) → h.owner a ≡ Of r → Stays h (turned h owner shadow workspaces) store new a
+      of_root a r is = stays a (λ ours. ours_root (h.owner a) r ours is)
+
 -- a function that is another number at one place
 abbrev pub replaced : (ℕ → ℕ) → ℕ → ℕ → ℕ → ℕ
 replaced f a w b = if a == b then w else f b
@@ -433,20 +472,12 @@ shadowed h a w = record h { shadow = replaced h.shadow a w }
 
 -- one of the machine's own words that is set changes no cell
 pub mem_shadowed : (h : Home) (cells : Cells) (store : List ℕ) (a w : ℕ) → h.owner a ≡ Own → a < 65536 → Mem h cells store → Mem (shadowed h a w) cells (set store a w)
-mem_shadowed h cells store a w own small mem = record {
-  owned = mem.owned;
-  inside = mem.inside;
-  holds = λ r q k e.
-      let old = mem.holds r q k e in
-      let other : h.base r + offset (h.shape r) q ≡ a → ⊥ = λ at. own_of_none r (sym (scalar_owned h cells store r q k mem e).0 ∙ ap h.owner at ∙ own) in
-      is_word_kept h (shadowed h a w) (λ o l. refl) (λ o l. refl) refl (extends_self h.workspaces) k (cells r q) (get_or (set store a w) (h.base r + offset (h.shape r) q) 0)
-      (record { word = get_or-set_other store a (h.base r + offset (h.shape r) q) w 0 other ∙ old.word; fits = old.fits; refers = old.refers });
-  kept = λ b mine. by b (mem.kept b mine) (cases_eq a b);
-  fixed = λ b mine. by b (mem.fixed b mine) (cases_eq a b);
-  long = length-set store a w ∙ mem.long;
-}
+mem_shadowed h cells store a w own small mem =
+    mem_turned h store (set store a w) h.owner (replaced h.shadow a w) h.workspaces (λ b. by b (cases_eq a b)) cells mem (extends_self h.workspaces) (length-set store a w)
   where
-    by : (b : ℕ) → get_or store b 0 ≡ h.shadow b → (a ≡ b) ⊎ (a ≡ b → ⊥) → get_or (set store a w) b 0 ≡ replaced h.shadow a w b
-    by b old (inl e) =
-        ap (λ (x : ℕ). get_or (set store a w) x 0) (sym e) ∙ get_or-set_same store a w 0 (omega (arith, small, mem.long)) ∙ sym (yes (eqb a b) w (h.shadow b) (eq-eqb a b e))
-    by b old (inr d) = get_or-set_other store a b w 0 (λ e. d (sym e)) ∙ old ∙ sym (no (eqb a b) w (h.shadow b) (ne_eqb a b d))
+    by : (b : ℕ) → (a ≡ b) ⊎ (a ≡ b → ⊥) → Stays h (shadowed h a w) store (set store a w) b ⊎ Turns h (shadowed h a w) (set store a w) b
+    by b (inl e) =
+        let ours : h.owner b ≡ Own = ap h.owner (sym e) ∙ own in
+        let word : get_or (set store a w) b 0 ≡ w = ap (λ (x : ℕ). get_or (set store a w) x 0) (sym e) ∙ get_or-set_same store a w 0 (omega (arith, small, mem.long)) in
+        inr (record { before = inl ours; after = inl ours; word = λ own. word ∙ sym (yes (eqb a b) w (h.shadow b) (eq-eqb a b e)) })
+    by b (inr d) = inl (record { owner = refl; shadow = no (eqb a b) w (h.shadow b) (ne_eqb a b d); word = get_or-set_other store a b w 0 (λ e. d (sym e)) })

@@ -3,16 +3,13 @@ use Rattle.std.proofs.Common.{◌≡◌, ℕ, suc, ◌+◌, ◌<◌, ◌≤◌, 
 use Rattle.std.proofs.lemmas.Bool.{ne_eqb}
 use Rattle.std.specs.List.{list_any}
 use Rattle.std.specs.Prelude.{Bool, Option, Some, None, slice_get}
-use Rattle.lil_resolved.specs.Kinds.{Workspaces, Kind, OfCharacter, OfSet, OfPointer, numbers, Scalar, within, Shape, Absent, Word, Row, is_there, part_at, offset}
-use Rattle.lil_resolved.specs.Resolved.{Resolved}
+use Rattle.lil_resolved.specs.{Kinds.{Workspaces, Kind, OfCharacter, OfSet, OfPointer, Scalar, within, Shape, Absent, Word, Row, is_there, part_at, offset}, Resolved.{Resolved, kind_of}}
 use Rattle.lil_meaning.specs.Items.{Root, Global, Local, Object, Place, Datum, Scalars, Places, Wholes, Opens, Texts, IndexAt, StoreAt, CopyFrom, ChangeAt, RightOf, MemberOf, MembersFrom, MembersTo, MemberAt, AllocateAt, Pass, PassArray, LimitOf, Passing, Looping, Turns, Holding, End, Item, Value, Fill, Perform, Activation, Source}
+use Rattle.lil_meaning.specs.Steps.{outer_of, surrounding}
 use Rattle.lil_mcode.specs.Table.{Module, StackRegisters, State, stack_of}
 use Rattle.lil_table.specs.Rows.{Layout, holding, Access, OnTop, loop_place}
-use Rattle.lil_match.specs.Parts.{no}
-use Rattle.lil_match.specs.Homes.{word_for, word_kept, refers_kept, Refers, plain_refers, takes_plain, Extends, extends_self, lives, address, shape_there, Owner, Own, Fixed, own_fixed, Home, mem_shadowed, shadowed, replaced}
-use Rattle.lil_match.specs.Waits.{Mode, Quiet, ValueOf, AtPlace, Onward, Part, Around, outside, Frame, frames_of, Setting, at_home, renewed, inside_with, with_frames, DatumOn, DataOn, sees, is_of, TurnsTask, Reaches, HasPlace, HasSet, needs, Behind, RowsOf, Rows}
-use Rattle.lil_match.specs.Known.{known_kept, each_known, each_comes}
-use Rattle.lil_meaning.specs.Steps.{outer_of, surrounding}
+use Rattle.lil_match.specs.{Parts.no, Homes.{word_for, word_kept, refers_kept, Refers, plain_refers, takes_plain, Extends, extends_self, lives, address, shape_there, Owner, Own, Fixed, own_fixed, Home, mem_shadowed, shadowed, replaced}}
+use Rattle.lil_match.specs.{Waits.{Mode, Quiet, ValueOf, AtPlace, Reach, AfterJumps, Onward, Part, Around, outside, Frame, frames_of, Setting, at_home, renewed, inside_with, with_frames, DatumOn, DataOn, sees, is_of, TurnsTask, Reaches, HasPlace, HasSet, needs, Behind, RowsOf, Rows}, Known.{known_kept, each_known, each_comes}}
 use Rattle.lil_match.specs.Goes.{OwnWords, Stands, Grows, Linked, Chained, EachComes, Standing, Shared, Touches}
 
 -- homes that agree on the roots that live and that frames can name, and on the machine's own words from one place to another
@@ -114,163 +111,52 @@ module _ (ctx : Setting) (acts : List Activation) (x : Home) (n low top : ℕ) (
         onto = refl;
       }
   met Quiet (Value (Places place)) p stack a r =
-      record { part = record { access = r.access; shape = r.shape; below = r.below; has = place_kept r.access place r.shape stack r.below r.has }; onto = refl }
+      record { part = record { of = r.of; below = r.below; has = place_kept _ place _ stack r.below r.has }; onto = refl }
   met (ValueOf j) (Fill (IndexAt place k)) p stack a r =
-      record {
-        part = record {
-          takes = r.takes;
-          element = r.element;
-          below = r.below;
-          has = place_kept OnTop place (Row (numbers k) r.element) stack r.below r.has;
-          there = r.there;
-          tested = r.tested;
-          end = r.end;
-          test = r.test;
-          by = r.by;
-        };
-        onto = refl;
-      }
-  met (AtPlace b t) (Fill (CopyFrom to)) p stack a r =
-      record { part = record { has = place_kept OnTop to t stack [] r.has; last = r.last; end = r.end; address = r.address; by = r.by; within = r.within }; onto = refl }
+      record { part = record { of = r.of; index = r.index; same = r.same; from = r.from; below = r.below; did = r.did; at = r.at; has = place_kept OnTop place _ stack r.below r.has }; onto = refl }
+  met (AtPlace d) (Fill (CopyFrom to)) p stack a r =
+      record { part = record { of = r.of; amid = r.amid; has = place_kept OnTop to _ stack [] r.has }; onto = refl }
   met (ValueOf j) (Fill (MemberAt out place k)) p stack a r =
-      record {
-        part = record {
-          element = r.element;
-          takes = r.takes;
-          has = place_kept OnTop place (Word OfSet) stack [] r.has;
-          tested = r.tested;
-          end = r.end;
-          test = r.test;
-          by = r.by;
-          within = r.within;
-        };
-        onto = refl;
-      }
+      record { part = record { of = r.of; value = r.value; same = r.same; amid = r.amid; has = place_kept OnTop place (Word OfSet) stack [] r.has }; onto = refl }
   met (ValueOf j) (Fill (AllocateAt back place)) p stack a r =
-      record {
-        part = record {
-          takes = r.takes;
-          has = place_kept OnTop place (Word (OfPointer Workspaces)) stack [] r.has;
-          tested = r.tested;
-          end = r.end;
-          test = r.test;
-          by = r.by;
-          within = r.within;
-        };
-        onto = refl;
-      }
+      record { part = record { of = r.of; value = r.value; same = r.same; amid = r.amid; has = place_kept OnTop place (Word (OfPointer Workspaces)) stack [] r.has }; onto = refl }
   met (ValueOf j) (Fill (MemberOf u k)) p stack a r =
-      record {
-        part = record {
-          element = r.element;
-          takes = r.takes;
-          below = r.below;
-          set = set_kept u stack r.below r.set;
-          room = r.room;
-          tested = r.tested;
-          end = r.end;
-          test = r.test;
-          by = r.by;
-        };
-        onto = refl;
-      }
+      record { part = record { to = r.to; below = r.below; row = r.row; set = set_kept u stack r.below r.set }; onto = refl }
   met (ValueOf j) (Fill (MembersFrom u k f)) p stack a r =
-      record {
-        part = record {
-          element = r.element;
-          takes = r.takes;
-          takes_last = r.takes_last;
-          below = r.below;
-          set = set_kept u stack r.below r.set;
-          tested = r.tested;
-          last = r.last;
-          after = r.after;
-          end = r.end;
-          test = r.test;
-          last_value = r.last_value;
-          last_shallow = r.last_shallow;
-          last_test = r.last_test;
-          by = r.by;
-        };
-        onto = refl;
-      }
+      record { part = record { to = r.to; below = r.below; row = r.row; set = set_kept u stack r.below r.set }; onto = refl }
   met (ValueOf j) (Fill (MembersTo u k v)) p stack a r =
       record {
         part = record {
-          element = r.element;
-          takes = r.takes;
+          to = r.to;
+          first = r.first;
+          below = r.below;
+          row = r.row;
           low_fits = r.low_fits;
           under = r.under;
-          is = r.is ∙ ap (λ (w : ℕ). w ∷ r.under) (word k v r.low_fits (plain_refers h k v (takes_plain k j r.takes).0));
-          below = r.below;
+          is = r.is ∙ ap (λ (w : ℕ). w ∷ r.under) (word k v r.low_fits (plain_refers h k v (takes_plain k _ r.row.did.here.takes_last).0));
           set = set_kept u r.under r.below r.set;
-          after = r.after;
-          end = r.end;
-          test = r.test;
-          by = r.by;
         };
         onto = refl;
       }
   met (ValueOf j) (Fill (RightOf o k u)) p stack a r =
-      record {
-        part = record { same = r.same; takes = r.takes; fits = r.fits; refers = refers k u r.refers; below = r.below; is = r.is ∙ ap (λ (w : ℕ). w ∷ r.below) (word k u r.fits r.refers); end = r.end; by = r.by };
-        onto = refl;
-      }
+      record { part = record { left = r.left; below = r.below; row = r.row; fits = r.fits; refers = refers k u r.refers; is = r.is ∙ ap (λ (w : ℕ). w ∷ r.below) (word k u r.fits r.refers) }; onto = refl }
   met (ValueOf j) (Fill (StoreAt place k)) p stack a r =
-      record {
-        part = record {
-          stores = r.stores;
-          access = r.access;
-          ready = r.ready;
-          has = place_kept r.access place (Word k) stack [] r.has;
-          middle = r.middle;
-          end = r.end;
-          test = r.test;
-          store = r.store;
-          within = r.within;
-        };
-        onto = refl;
-      }
+      record { part = record { of = r.of; value = r.value; same = r.same; amid = r.amid; has = place_kept _ place (Word k) stack [] r.has }; onto = refl }
   met (ValueOf j) (Fill (ChangeAt down place k)) p stack a r =
-      record {
-        part = record {
-          same = r.same;
-          base = r.base;
-          plain = r.plain;
-          access = r.access;
-          ready = r.ready;
-          once = r.once;
-          has = place_kept r.access place (Word k) r.once [] r.has;
-          twice = r.twice;
-          end = r.end;
-          by = r.by;
-          within = r.within;
-        };
-        onto = refl;
-      }
+      record { part = record { of = r.of; value = r.value; same = r.same; amid = r.amid; once = r.once; has = place_kept _ place (Word k) r.once [] r.has; twice = r.twice }; onto = refl }
   met (ValueOf j) (Fill (LimitOf i k v step body)) p stack a r =
-      record {
-        part = record {
-          same = r.same;
-          from = r.from;
-          takes = r.takes;
-          fits = r.fits;
-          stack_is = r.stack_is ∙ ap (λ (w : ℕ). w ∷ []) (word r.from v r.fits (plain_refers h r.from v (takes_plain k r.from r.takes).1));
-          end = r.end;
-          turns = r.turns;
-          within = r.within;
-        };
-        onto = refl;
-      }
+      let from : Kind = kind_of r.first in
+      let plain = plain_refers h from v (takes_plain k from r.row.did.here.takes).1 in
+      record { part = record { first = r.first; row = r.row; fits = r.fits; is = r.is ∙ ap (λ (w : ℕ). w ∷ []) (word from v r.fits plain) }; onto = refl }
   met (ValueOf j) (Fill (Pass q k done left)) p stack a r =
-      record { part = record { takes = r.takes; on = data_kept done stack [] r.on; tested = r.tested; test = r.test; middle = r.middle; given = r.given; forms = r.forms; serve = r.serve }; onto = refl }
-  met (AtPlace b t) (Fill (PassArray q high done left)) p stack a r =
+      record { part = record { takes = r.takes; on = data_kept done stack [] r.on; tested = r.tested; test = r.test; rest = r.rest }; onto = refl }
+  met (AtPlace d) (Fill (PassArray q high done left)) p stack a r =
       record {
-        part = record { rows = r.rows; room = r.room; on = data_kept done stack [] r.on; start = r.start; last = r.last; address = r.address; by = r.by; middle = r.middle; given = r.given; forms = r.forms; serve = r.serve };
+        part = record { rows = r.rows; room = r.room; on = data_kept done stack [] r.on; start = r.start; last = r.last; address = r.address; by = r.by; rest = r.rest };
         onto = refl;
       }
   met Quiet (Perform (Passing q done left)) p stack a r =
-      record { part = record { on = data_kept done stack [] r.on; middle = r.middle; given = r.given; forms = r.forms; serve = r.serve }; onto = refl }
+      record { part = record { on = data_kept done stack [] r.on; rest = r.rest }; onto = refl }
   met t i p stack a r = record { part = r; onto = refl }
 
 -- the roots that frames can name don't hang on a layout
@@ -333,34 +219,31 @@ behind_kept k acts rows ctx x n low c above keeps r = by ctx.stack.callers ctx.s
         }
     by [] [] above keeps r = r
 
+-- the jumps before a row are those before another one
+jumps_same : (code : List ℕ) (row other : Reach) (t : Mode) (p : ℕ) (stack : List ℕ) (c : ℕ) (a : Around) (r : AfterJumps code row t p stack c a) → other t r.start stack r.later a → AfterJumps code other t p stack c a
+jumps_same code row other t p stack c a r there = record { start = r.start; jumps = r.jumps; later = r.later; way = r.way; there = there; count = r.count }
+
 -- THE law of what is left to do
 pub rows_renewed : (k : List Item) (ctx : Setting) (acts : List Activation) (x : Home) (n low : ℕ) → Again k ctx acts x n low
 rows_renewed [] ctx acts x n low above t p stack c a keeps r = absurd r
 rows_renewed (Perform (Looping body) ∷ k) ctx acts x n low above t p stack c a keeps r =
     let w = r.there in
-    record {
-      start = r.start;
-      jumps = r.jumps;
-      later = r.later;
-      way = r.way;
-      there = record {
-        quiet = w.quiet;
-        empty = w.empty;
-        outer = w.outer;
-        top = w.top;
-        end = w.end;
-        is = w.is;
-        back = w.back;
-        again = w.again;
-        within = w.within;
-        then = rows_renewed k ctx acts x n low above Quiet w.end [] r.later w.outer
-            (keeps_lower ctx.home x (frames_of ctx.stack) low (ctx.stack.frame.at + loop_place a.taken) (ctx.stack.frame.at + loop_place w.outer.taken) (omega (arith, ap (λ (o : Around). o.taken) w.is)) keeps)
-            w.then;
-      };
-      count = r.count;
-    }
+    jumps_same ctx.stack.frame.own.code _ _ t p stack c a r (record {
+      quiet = w.quiet;
+      empty = w.empty;
+      outer = w.outer;
+      top = w.top;
+      end = w.end;
+      is = w.is;
+      back = w.back;
+      again = w.again;
+      within = w.within;
+      then = rows_renewed k ctx acts x n low above Quiet w.end [] r.later w.outer
+          (keeps_lower ctx.home x (frames_of ctx.stack) low (ctx.stack.frame.at + loop_place a.taken) (ctx.stack.frame.at + loop_place w.outer.taken) (omega (arith, ap (λ (o : Around). o.taken) w.is)) keeps)
+          w.then;
+    })
 rows_renewed (Perform (Turns v kind z step left body) ∷ k) ctx acts x n low above t p stack c a keeps r =
-    record { start = r.start; jumps = r.jumps; later = r.later; way = r.way; there = by (rows_renewed k ctx acts x n low above) r.there; count = r.count }
+    jumps_same ctx.stack.frame.own.code _ _ t p stack c a r (by (rows_renewed k ctx acts x n low above) r.there)
   where
     at : ℕ
     at = ctx.stack.frame.at
@@ -416,65 +299,44 @@ rows_renewed (Perform (Holding place) ∷ k) ctx acts x n low above t p stack c 
     let at : address ctx.home place ≡ address x place = omega (arith, keeps.base place.root w.seen alive, ap (λ (t : Shape). offset t place.path) same) in
     let outer : EachAbove low (frames_of w.before.stack) = subst (λ (c : Setting). EachAbove low (frames_of c.stack)) w.is above in
     let frame : ctx.stack.frame.at ≡ w.before.stack.frame.at = ap (λ (c : Setting). c.stack.frame.at) w.is in
-    record {
-      start = r.start;
-      jumps = r.jumps;
-      later = r.later;
-      way = r.way;
-      there = record {
-        quiet = w.quiet;
-        empty = w.empty;
-        outer = w.outer;
-        around = w.around;
-        before = renewed w.before acts x n;
-        shape = w.shape;
-        is = ap (λ (c : Setting). renewed c acts x n) w.is;
-        room = w.room;
-        seen = w.seen;
-        living = ap (λ (t : Shape). part_at t place.path) same ∙ w.living;
-        there = w.there;
-        word = keeps.shadow (ctx.stack.frame.at + loop_place w.outer.taken) (omega (arith, above.0)) (omega (arith, inner)) ∙ w.word ∙ at;
-        then = rows_renewed k w.before acts x n low outer Quiet r.start [] r.later w.outer
-            (keeps_around ctx w.before x w.shape (loop_place w.outer.taken) low (ctx.stack.frame.at + loop_place a.taken) (w.before.stack.frame.at + loop_place w.outer.taken) w.is
-            (omega (arith, inner, frame)) keeps)
-            w.then;
-      };
-      count = r.count;
-    }
+    jumps_same ctx.stack.frame.own.code _ _ t p stack c a r (record {
+      quiet = w.quiet;
+      empty = w.empty;
+      outer = w.outer;
+      around = w.around;
+      before = renewed w.before acts x n;
+      shape = w.shape;
+      is = ap (λ (c : Setting). renewed c acts x n) w.is;
+      room = w.room;
+      seen = w.seen;
+      living = ap (λ (t : Shape). part_at t place.path) same ∙ w.living;
+      there = w.there;
+      word = keeps.shadow (ctx.stack.frame.at + loop_place w.outer.taken) (omega (arith, above.0)) (omega (arith, inner)) ∙ w.word ∙ at;
+      then = rows_renewed k w.before acts x n low outer Quiet r.start [] r.later w.outer
+          (keeps_around ctx w.before x w.shape (loop_place w.outer.taken) low (ctx.stack.frame.at + loop_place a.taken) (w.before.stack.frame.at + loop_place w.outer.taken) w.is
+          (omega (arith, inner, frame)) keeps)
+          w.then;
+    })
 rows_renewed (Perform (End e) ∷ k) ctx acts x n low above t p stack c a keeps r =
     let w = r.there in
-    record {
-      start = r.start;
-      jumps = r.jumps;
-      later = r.later;
-      way = r.way;
-      there = record {
-        quiet = w.quiet;
-        empty = w.empty;
-        activation = w.activation;
-        alone = w.alone;
-        free = w.free;
-        end = w.end;
-        leave = w.leave;
-        behind = behind_kept k acts (λ y z i l. rows_renewed k y acts z i l) ctx x n low r.later above
-            (keeps_lower ctx.home x (frames_of ctx.stack) low (ctx.stack.frame.at + loop_place a.taken) (ctx.stack.frame.at + 4) (omega arith) keeps) w.behind;
-      };
-      count = r.count;
-    }
+    jumps_same ctx.stack.frame.own.code _ _ t p stack c a r (record {
+      quiet = w.quiet;
+      empty = w.empty;
+      activation = w.activation;
+      alone = w.alone;
+      free = w.free;
+      end = w.end;
+      leave = w.leave;
+      behind = behind_kept k acts (λ y z i l. rows_renewed k y acts z i l) ctx x n low r.later above
+          (keeps_lower ctx.home x (frames_of ctx.stack) low (ctx.stack.frame.at + loop_place a.taken) (ctx.stack.frame.at + 4) (omega arith) keeps) w.behind;
+    })
 rows_renewed (i ∷ k) ctx acts x n low above t p stack c a keeps r =
     let m = met ctx acts x n low (ctx.stack.frame.at + loop_place a.taken) keeps t i r.start stack a r.there.part in
-    record {
-      start = r.start;
-      jumps = r.jumps;
-      later = r.later;
-      way = r.way;
-      there = record {
-        part = m.part;
-        then = subst (λ (o : Onward). Rows (renewed ctx acts x n) k o.mode o.place o.stack r.later a) m.onto
-            (rows_renewed k ctx acts x n low above _ _ _ r.later a keeps r.there.then);
-      };
-      count = r.count;
-    }
+    jumps_same ctx.stack.frame.own.code _ _ t p stack c a r (record {
+      part = m.part;
+      then = subst (λ (o : Onward). Rows (renewed ctx acts x n) k o.mode o.place o.stack r.later a) m.onto
+          (rows_renewed k ctx acts x n low above _ _ _ r.later a keeps r.there.then);
+    })
 
 -- the same with the same activations
 pub rows_kept : (k : List Item) (ctx : Setting) (x : Home) (n low : ℕ) → Again k ctx (ctx.activations) x n low
@@ -593,9 +455,9 @@ module _ (ctx : Setting) (s : Source) (m : State) (shared : Shared ctx s m) (i w
           base_is = g.base_is;
           limit_is = g.limit_is;
           bodies_are = g.bodies_are;
-          known = known_kept ctx.library ctx.loaded ctx.table ctx.activations h (shadowed h at w) (λ r e. refl) (λ r e. refl) refl fixed_kept st.frame g.known;
-          callers = each_known ctx.library ctx.loaded ctx.table ctx.activations h (shadowed h at w) (λ r e. refl) (λ r e. refl) refl fixed_kept st.callers g.callers;
-          comes = each_comes ctx.library ctx.loaded ctx.table ctx.activations h (shadowed h at w) (λ r e. refl) (λ r e. refl) refl fixed_kept st.base st.bodies g.comes;
+          known = known_kept ctx.library ctx.loaded ctx.table ctx.activations ctx.activations (λ i b e. e) h (shadowed h at w) (λ r e. refl) (λ r e. refl) refl fixed_kept st.frame g.known;
+          callers = each_known ctx.library ctx.loaded ctx.table ctx.activations ctx.activations (λ i b e. e) h (shadowed h at w) (λ r e. refl) (λ r e. refl) refl fixed_kept st.callers g.callers;
+          comes = each_comes ctx.library ctx.loaded ctx.table ctx.activations ctx.activations (λ i b e. e) h (shadowed h at w) (λ r e. refl) (λ r e. refl) refl fixed_kept st.base st.bodies g.comes;
           stands = g.stands;
           links = chained_kept h.shadow (replaced h.shadow at w) ctx.activations ctx.activations (λ j b e. e) h.owner st.base m.top st.frame st.callers g.stands (λ a from below. other_word a (λ e. omega (arith, e, below, some))) g.links;
           room = g.room;

@@ -1,47 +1,15 @@
--- What is known of frames stays where homes agree on what it speaks of.
+-- What is known of frames stays where homes agree on what it speaks of, and where there are more activations.
 use Rattle.std.proofs.Common.{◌≡◌, ℕ, ◌+◌, true, List, [], ◌∷◌, refl, sym, ap, ◌∙◌}
 use Rattle.lil_resolved.specs.Resolved.{Resolved}
-use Rattle.lil_meaning.specs.Items.{Root, Global, Activation}
+use Rattle.lil_meaning.specs.{Items.{Root, Global, Activation}, Steps.{owner_of, procedure_of}}
 use Rattle.lil_mcode.specs.Table.{Module}
-use Rattle.lil_match.specs.Homes.{Fixed, Home, lives}
-use Rattle.lil_match.specs.Waits.{Frame}
-use Rattle.lil_meaning.specs.Steps.{owner_of, procedure_of}
-use Rattle.lil_match.specs.Goes.{IsKnown, EachKnown, EachComes, Grows}
+use Rattle.lil_match.specs.{Homes.{Fixed, Home, lives}, Waits.Frame, Goes.{IsKnown, EachKnown, EachComes, Grows}}
 
-module _ (library : List Resolved) (loaded : List ℕ) (table : List Module) (activations : List Activation) (h x : Home) (base : (r : Root) → lives h r ≡ true → x.base r ≡ h.base r) (shape : (r : Root) → lives h r ≡ true → x.shape r ≡ h.shape r)
-    (targets : x.targets ≡ h.targets)
+module _ (library : List Resolved) (loaded : List ℕ) (table : List Module) (activations more : List Activation) (grows : Grows more activations) (h x : Home)
+    (base : (r : Root) → lives h r ≡ true → x.base r ≡ h.base r) (shape : (r : Root) → lives h r ≡ true → x.shape r ≡ h.shape r) (targets : x.targets ≡ h.targets)
     (fixed : (a : ℕ) → h.owner a ≡ Fixed → (x.owner a ≡ Fixed) × (x.shadow a ≡ h.shadow a)) where
-  pub known_kept : (f : Frame) → IsKnown library loaded table activations h f → IsKnown library loaded table activations x f
-  known_kept f g = record {
-    known = g.known;
-    named = g.named;
-    its = g.its;
-    runs = g.runs;
-    owner = g.owner;
-    called = g.called;
-    entered = g.entered;
-    size = g.size;
-    procedures = g.procedures;
-    codes = g.codes;
-    variables = λ n o k offset kind. let v = g.variables n o k offset kind in (shape (Global f.number n) refl ∙ v.0, base (Global f.number n) refl ∙ v.1);
-    strings = λ i less. let s = g.strings i less in let y = fixed (f.own.base + (f.layout.words + i)) s.0 in (y.0, y.1 ∙ s.1);
-    inside = g.inside;
-    targets = g.targets ∙ sym targets;
-    own_targets = g.own_targets ∙ sym targets;
-  }
-
-  pub each_known : (fs : List Frame) → EachKnown library loaded table activations h fs → EachKnown library loaded table activations x fs
-  each_known [] e = tt
-  each_known (f ∷ fs) e = (known_kept f e.0, each_known fs e.1)
-
-  pub each_comes : (low : ℕ) (fs : List Frame) → EachComes library loaded table activations h low fs → EachComes library loaded table activations x low fs
-  each_comes low [] e = tt
-  each_comes low (f ∷ fs) e = (record { known = known_kept f e.0.known; later = e.0.later; at = e.0.at; mark = e.0.mark; chain = e.0.chain }, each_comes low fs e.1)
-
--- there may be more activations
-module _ (library : List Resolved) (loaded : List ℕ) (table : List Module) (activations more : List Activation) (h : Home) (grows : Grows more activations) where
-  pub known_grown : (f : Frame) → IsKnown library loaded table activations h f → IsKnown library loaded table more h f
-  known_grown f g =
+  pub known_kept : (f : Frame) → IsKnown library loaded table activations h f → IsKnown library loaded table more x f
+  known_kept f g =
       let there = grows f.activation g.its g.runs in
       record {
         known = g.known;
@@ -54,17 +22,17 @@ module _ (library : List Resolved) (loaded : List ℕ) (table : List Module) (ac
         size = g.size;
         procedures = g.procedures;
         codes = g.codes;
-        variables = g.variables;
-        strings = g.strings;
+        variables = λ n o k offset kind. let v = g.variables n o k offset kind in (shape (Global f.number n) refl ∙ v.0, base (Global f.number n) refl ∙ v.1);
+        strings = λ i less. let s = g.strings i less in let y = fixed (f.own.base + (f.layout.words + i)) s.0 in (y.0, y.1 ∙ s.1);
         inside = g.inside;
-        targets = g.targets;
-        own_targets = g.own_targets;
+        targets = g.targets ∙ sym targets;
+        own_targets = g.own_targets ∙ sym targets;
       }
 
-  pub each_grown : (fs : List Frame) → EachKnown library loaded table activations h fs → EachKnown library loaded table more h fs
-  each_grown [] e = tt
-  each_grown (f ∷ fs) e = (known_grown f e.0, each_grown fs e.1)
+  pub each_known : (fs : List Frame) → EachKnown library loaded table activations h fs → EachKnown library loaded table more x fs
+  each_known [] e = tt
+  each_known (f ∷ fs) e = (known_kept f e.0, each_known fs e.1)
 
-  pub comes_grown : (low : ℕ) (fs : List Frame) → EachComes library loaded table activations h low fs → EachComes library loaded table more h low fs
-  comes_grown low [] e = tt
-  comes_grown low (f ∷ fs) e = (record { known = known_grown f e.0.known; later = e.0.later; at = e.0.at; mark = e.0.mark; chain = e.0.chain }, comes_grown low fs e.1)
+  pub each_comes : (low : ℕ) (fs : List Frame) → EachComes library loaded table activations h low fs → EachComes library loaded table more x low fs
+  each_comes low [] e = tt
+  each_comes low (f ∷ fs) e = (record { known = known_kept f e.0.known; later = e.0.later; at = e.0.at; mark = e.0.mark; chain = e.0.chain }, each_comes low fs e.1)

@@ -1,98 +1,84 @@
 -- What is around the running frame's WITHs: the same but for the records that its layout holds.
-use Rattle.std.proofs.Common.{◌≡◌, ℕ, ◌+◌, List, [], ◌∷◌, length, get_or, refl, sym, ap, ◌∙◌, subst, arith}
+use Rattle.std.proofs.Common.{◌≡◌, ℕ, ◌+◌, Some, List, [], ◌∷◌, length, get_or, refl, sym, ap, ◌∙◌, subst, arith}
 use Rattle.std.specs.Prelude.{slice_get}
-use Rattle.lil_resolved.specs.Kinds.{Shape}
-use Rattle.lil_meaning.specs.Items.{Item, Source}
-use Rattle.lil_resolved.specs.Resolved.{Procedure, procedure_by}
+use Rattle.lil_resolved.specs.{Kinds.Shape, Resolved.{Resolved, procedure_by}}
+use Rattle.lil_meaning.specs.{Items.{Item, Activation, Source, loaded_at}, Need.frame_of, Steps.{owner_of, procedure_of, procedure_name}}
 use Rattle.lil_mcode.specs.Table.{Module, State, StackRegisters, stack_of}
 use Rattle.lil_table.specs.Rows.{Layout, holding}
-use Rattle.lil_match.specs.Goes.{OwnWords, Stands, Linked, Chained, IsPart, HasCodes, IsKnown, Standing, Shared, Goes}
-use Rattle.lil_match.specs.Waits.{Frame, Setting, inside_with}
+use Rattle.lil_match.specs.{Homes.Home, Goes.{HasName, OwnWords, Stands, Linked, Chained, IsPart, module_part, HasCodes, IsKnown, Standing, Shared, Goes}, Waits.{Frame, Setting, inside_with}}
 
 -- the running frame with another layout
 abbrev pub with_layout : Setting → Layout → Setting
 with_layout ctx l = record ctx { stack = record (ctx.stack) { frame = record (ctx.stack.frame) { layout = l } } }
 
 -- layouts that differ in the records of WITHs alone
-pub record IsAlike (l m : Layout) : Type 0 where
-  pub offsets : m.offsets ≡ l.offsets
-  pub targets : m.scope.targets ≡ l.scope.targets
-  pub variables : m.scope.variables ≡ l.scope.variables
-  pub words : m.words ≡ l.words
-  pub strings : m.strings ≡ l.strings
-  pub frame : m.frame ≡ l.frame
-  pub procedures : m.procedures ≡ l.procedures
-  pub chain : m.chain ≡ l.chain
+abbrev pub plain : Layout → Layout
+plain l = record l { scope = record (l.scope) { held = [] }; held = [] }
 
-pub alike_back : (l m : Layout) → IsAlike l m → IsAlike m l
-alike_back l m a = record { offsets = sym a.offsets; targets = sym a.targets; variables = sym a.variables; words = sym a.words; strings = sym a.strings; frame = sym a.frame; procedures = sym a.procedures; chain = sym a.chain }
-
-pub alike_holding : (l : Layout) (t : Shape) (n : ℕ) → IsAlike l (holding l t n)
-alike_holding l t n = record { offsets = refl; targets = refl; variables = refl; words = refl; strings = refl; frame = refl; procedures = refl; chain = refl }
+abbrev pub IsAlike : Layout → Layout → Type 0
+IsAlike l m = plain m ≡ plain l
 
 -- the codes of procedures are those of any layout in the module
 pub codes_part : (own : Module) (l m : Layout) → IsPart l m → HasCodes own l → HasCodes own m
 codes_part own l m part codes p its is =
-    let e = codes p its (ap (λ (ps : List Procedure). procedure_by ps p) (sym part.procedures) ∙ is) in
-    record {
-      inner = e.inner;
-      part = record {
-        offsets = e.part.offsets ∙ sym part.offsets;
-        targets = e.part.targets ∙ sym part.targets;
-        variables = e.part.variables ∙ sym part.variables;
-        words = e.part.words ∙ sym part.words;
-        strings = e.part.strings ∙ sym part.strings;
-        procedures = e.part.procedures ∙ sym part.procedures;
-      };
-      frame = e.frame;
-      chain = e.chain;
-      free = e.free;
-      entry = e.entry;
-      there = e.there;
-      code = e.code;
-    }
+    let e = codes p its (ap (λ (y : Layout). procedure_by y.procedures p) (sym part) ∙ is) in
+    record { inner = e.inner; part = e.part ∙ sym part; frame = e.frame; chain = e.chain; free = e.free; entry = e.entry; there = e.there; code = e.code }
+
+-- what is known of a frame is known of another one of the module
+module _ (library : List Resolved) (loaded : List ℕ) (table : List Module) (acts more : List Activation) (h : Home) (f : Frame) (m : Layout) (activation procedure at back : ℕ) (part : IsPart f.layout m) where
+  strings : m.strings ≡ f.layout.strings
+  strings = ap (λ (y : Layout). y.strings) part
+
+  words : m.words ≡ f.layout.words
+  words = ap (λ (y : Layout). y.words) part
+
+  pub known_part : (its : Activation) → slice_get more activation ≡ Some its → owner_of (slice_get more activation) ≡ f.number → procedure_of (slice_get more activation) ≡ procedure
+      → HasName f.own.procedures procedure (procedure_name (loaded_at library loaded f.number) procedure) → m.frame ≡ frame_of (loaded_at library loaded f.number) procedure → IsKnown library loaded table acts h f
+      → IsKnown library loaded table more h (record { activation = activation; number = f.number; procedure = procedure; own = f.own; layout = m; at = at; back = back })
+  known_part its runs owner called entered size k = record {
+    known = k.known;
+    named = k.named;
+    its = its;
+    runs = runs;
+    owner = owner;
+    called = called;
+    entered = entered;
+    size = size;
+    procedures = ap (λ (y : Layout). y.procedures) part ∙ k.procedures;
+    codes = codes_part f.own f.layout m part k.codes;
+    variables = λ x o t at typed. k.variables x o t (ap (λ (y : Layout). slice_get y.offsets x) (sym part) ∙ at) (ap (λ (y : Layout). slice_get y.scope.variables x) (sym part) ∙ typed);
+    strings = λ i less.
+        let old = k.strings i (omega (arith, less, ap length strings)) in
+        let at : f.own.base + (f.layout.words + i) ≡ f.own.base + (m.words + i) = omega (arith, words) in
+        (ap h.owner (sym at) ∙ old.0, ap h.shadow (sym at) ∙ old.1 ∙ ap (λ (ws : List ℕ). get_or ws i 0) (sym strings));
+    inside = omega (arith, k.inside, words, ap length strings);
+    targets = ap (λ (y : Layout). y.scope.targets) part ∙ k.targets;
+    own_targets = k.own_targets;
+  }
 
 module _ (ctx : Setting) (m : Layout) (alike : IsAlike ctx.stack.frame.layout m) where
   abbrev f : Frame
   f = ctx.stack.frame
 
-  abbrev g : Frame
-  g = record (ctx.stack.frame) { layout = m }
+  same_frame : m.frame ≡ ctx.stack.frame.layout.frame
+  same_frame = ap (λ (y : Layout). y.frame) alike
+
+  same_chain : m.chain ≡ ctx.stack.frame.layout.chain
+  same_chain = ap (λ (y : Layout). y.chain) alike
 
   known_laid : IsKnown ctx.library ctx.loaded ctx.table ctx.activations ctx.home ctx.stack.frame → IsKnown ctx.library ctx.loaded ctx.table ctx.activations ctx.home (record (ctx.stack.frame) { layout = m })
-  known_laid k = record {
-    known = k.known;
-    named = k.named;
-    its = k.its;
-    runs = k.runs;
-    owner = k.owner;
-    called = k.called;
-    entered = k.entered;
-    size = alike.frame ∙ k.size;
-    procedures = alike.procedures ∙ k.procedures;
-    codes = codes_part ctx.stack.frame.own ctx.stack.frame.layout m (record { offsets = alike.offsets; targets = alike.targets; variables = alike.variables; words = alike.words; strings = alike.strings; procedures = alike.procedures }) k.codes;
-    variables = λ x o t at typed. k.variables x o t (ap (λ (os : List ℕ). slice_get os x) (sym alike.offsets) ∙ at) (ap (λ (ts : List Shape). slice_get ts x) (sym alike.variables) ∙ typed);
-    strings = λ i less.
-        let old = k.strings i (omega (arith, less, ap length alike.strings)) in
-        let at : f.own.base + (f.layout.words + i) ≡ f.own.base + (m.words + i) = omega (arith, alike.words) in (
-          ap ctx.home.owner (sym at) ∙ old.0,
-          ap ctx.home.shadow (sym at) ∙ old.1 ∙ ap (λ (ws : List ℕ). get_or ws i 0) (sym alike.strings),
-        );
-    inside = omega (arith, k.inside, alike.words, ap length alike.strings);
-    targets = alike.targets ∙ k.targets;
-    own_targets = k.own_targets;
-  }
+  known_laid k = known_part ctx.library ctx.loaded ctx.table ctx.activations ctx.activations ctx.home f m f.activation f.procedure f.at f.back (ap module_part alike) k.its k.runs k.owner k.called k.entered (same_frame ∙ k.size) k
 
   words_laid : (top : ℕ) → OwnWords ctx.home.owner ctx.stack.frame top → OwnWords ctx.home.owner (record (ctx.stack.frame) { layout = m }) top
-  words_laid top w = record { mark = omega (arith, w.mark, alike.frame); below = omega (arith, w.below, alike.frame); most = omega (arith, w.most, alike.frame); own = w.own }
+  words_laid top w = record { mark = omega (arith, w.mark, same_frame); below = omega (arith, w.below, same_frame); most = omega (arith, w.most, same_frame); own = w.own }
 
   stands_laid : (base top : ℕ) (gs : List Frame) → Stands ctx.home.owner base top ctx.stack.frame gs → Stands ctx.home.owner base top (record (ctx.stack.frame) { layout = m }) gs
   stands_laid base top [] s = (words_laid top s.0, s.1)
   stands_laid base top (y ∷ gs) s = (words_laid top s.0, s.1)
 
   links_laid : (gs : List Frame) → Chained ctx.home.shadow ctx.activations ctx.stack.frame gs → Chained ctx.home.shadow ctx.activations (record (ctx.stack.frame) { layout = m }) gs
-  links_laid [] c = subst (λ (es : List ℕ). Linked ctx.home.shadow ctx.activations f.activation f.at es []) (sym alike.chain) c
-  links_laid (y ∷ gs) c = (subst (λ (es : List ℕ). Linked ctx.home.shadow ctx.activations f.activation f.at es (y ∷ gs)) (sym alike.chain) c.0, c.1)
+  links_laid [] c = subst (λ (es : List ℕ). Linked ctx.home.shadow ctx.activations f.activation f.at es []) (sym same_chain) c
+  links_laid (y ∷ gs) c = (subst (λ (es : List ℕ). Linked ctx.home.shadow ctx.activations f.activation f.at es (y ∷ gs)) (sym same_chain) c.0, c.1)
 
   standing_laid : (r : StackRegisters) → Standing ctx r → Standing (with_layout ctx m) r
   standing_laid r s = record {
@@ -148,18 +134,18 @@ pub record IsAround (before ctx : Setting) : Type 0 where
   pub alike : IsAlike before.stack.frame.layout layout
 
 pub around_self : (ctx : Setting) → IsAround ctx ctx
-around_self ctx = record { layout = ctx.stack.frame.layout; is = refl; alike = record { offsets = refl; targets = refl; variables = refl; words = refl; strings = refl; frame = refl; procedures = refl; chain = refl } }
+around_self ctx = record { layout = ctx.stack.frame.layout; is = refl; alike = refl }
 
 pub around_more : (before mid ctx : Setting) (t : Shape) (n : ℕ) → ctx ≡ inside_with mid t n → IsAround before mid → IsAround before ctx
 around_more before mid ctx t n is a = record {
   layout = holding a.layout t n;
   is = is ∙ ap (λ (c : Setting). inside_with c t n) a.is;
-  alike = record { offsets = a.alike.offsets; targets = a.alike.targets; variables = a.alike.variables; words = a.alike.words; strings = a.alike.strings; frame = a.alike.frame; procedures = a.alike.procedures; chain = a.alike.chain };
+  alike = a.alike;
 }
 
 pub shared_around : (before ctx : Setting) → IsAround before ctx → (s : Source) (x : State) → Shared ctx s x → Shared before s x
 shared_around before ctx a s x shared =
-    shared_laid (with_layout before a.layout) before.stack.frame.layout (alike_back before.stack.frame.layout a.layout a.alike) s x (subst (λ (c : Setting). Shared c s x) a.is shared)
+    shared_laid (with_layout before a.layout) before.stack.frame.layout (sym a.alike) s x (subst (λ (c : Setting). Shared c s x) a.is shared)
 
 pub goes_around : (before ctx : Setting) → IsAround before ctx → (s : Source) (k : List Item) (x : State) (budget : ℕ) → Goes before s k x budget → Goes ctx s k x budget
 goes_around before ctx a s k x budget g = subst (λ (c : Setting). Goes c s k x budget) (sym a.is) (goes_laid before a.layout a.alike s k x budget g)

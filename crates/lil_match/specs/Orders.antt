@@ -1,11 +1,8 @@
 -- Where parts stand: behind their start, and within the code.
 use Rattle.std.proofs.Common.{ℕ, ◌<◌, ◌≤◌, List, [], ◌∷◌, length, Option, arith}
 use Rattle.lil_resolved.specs.Resolved.{Expression, Constant, Taken, One, Two, Short, Apply, With, WithSpan, Argument, ByValue, OfArray, OfText, Statement, Statements, kind_of}
-use Rattle.lil_asm.specs.declared.instr.Instr.{Instr}
-use Rattle.lil_asm.specs.declared.instr.Instr.TheVariants.{Liw, Lag, Dup, Spn}
-use Rattle.lil_asm.specs.Decoding.{decoded_stands}
-use Rattle.lil_table.specs.Lengths.{instrs_long, place_long, statement_long, body_long}
-use Rattle.lil_table.specs.Rows.{Layout, IsAt, InstrsAt, one_code, two_code, test_code, function_code, access_of, address_code, ExpressionAt, ArgumentAt, ArgumentsAt, StatementAt, BodyAt, short_code}
+use Rattle.lil_asm.specs.{declared.instr.Instr.{Instr, TheVariants.{Liw, Lag, Dup, Spn}}, Decoding.decoded_stands}
+use Rattle.lil_table.specs.{Lengths.{instrs_long, place_long, statement_long, body_long}, Rows.{Layout, IsAt, InstrsAt, one_code, two_code, test_code, function_code, access_of, address_code, ExpressionAt, ArgumentAt, ArgumentsAt, StatementAt, BodyAt, short_code}}
 
 pub instr_order : (code : List ℕ) (p : ℕ) (i : Instr) (q : ℕ) → IsAt code p i q → (p < q) × (q ≤ length code)
 instr_order code p i q h =

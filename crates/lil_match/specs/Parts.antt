@@ -1,7 +1,6 @@
 -- The parts of a shape: each lies within the whole, and two that aren't one under the other lie apart.
 use Rattle.std.proofs.Common.{◌≡◌, ℕ, zero, suc, ◌+◌, ◌*◌, ◌<◌, ◌≤◌, Bool, true, false, cond, eqb, ltb, Some, None, List, [], ◌∷◌, ◌++◌, refl, sym, ap, ◌∙◌, ◌⊎◌, inl, inr, ⊎_elim, arith}
-use Rattle.std.proofs.lemmas.Bool.{eq-eqb, ne_eqb, cases_eq, lt-ltb, le-ltb, cases_lt, cases_order}
-use Rattle.std.proofs.lemmas.Nat.{row_fits}
+use Rattle.std.proofs.lemmas.{Bool.{eq-eqb, ne_eqb, lt-ltb, le-ltb, cases_lt, cases_order, Decides.nat_tests}, Nat.row_fits}
 use Rattle.lil_resolved.specs.Kinds.{Kind, Shape, Absent, Word, Join, Row, words, is_there, part_at, offset}
 use Rattle.lil_meaning.specs.Items.{rest_behind}
 
@@ -67,11 +66,7 @@ pub record Outside (t : Shape) (d q : List ℕ) : Type 0 where
   pub apart : (offset t q < offset t d) ⊎ (offset t d + words (part_at t d) ≤ offset t q)
 
 eqb_suc : (x y : ℕ) → eqb (suc x) (suc y) ≡ eqb x y
-eqb_suc x y = by (cases_eq x y)
-  where
-    by : (x ≡ y) ⊎ (x ≡ y → ⊥) → eqb (suc x) (suc y) ≡ eqb x y
-    by (inl e) = eq-eqb (suc x) (suc y) (ap suc e) ∙ sym (eq-eqb x y e)
-    by (inr d) = ne_eqb (suc x) (suc y) (λ e. d (omega arith)) ∙ sym (ne_eqb x y d)
+eqb_suc x y = grind (arith, nat_tests)
 
 pub word_long : (t : Shape) (k : Kind) → t ≡ Word k → 1 ≤ words t
 word_long t k e = omega (arith, ap words e)

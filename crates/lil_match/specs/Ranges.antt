@@ -1,82 +1,23 @@
 -- The numbers of a kind: its values are those from its least to its greatest.
-use Rattle.std.proofs.Common.{◌≡◌, ℕ, zero, suc, ◌-◌, ◌==◌, Bool, true, false, cond, ◌&&◌, Some, None, refl, sym, ap, ◌∙◌, arith}
-use Rattle.std.specs.Prelude.{ℤ, pos, negsuc, ◌≤ℤ◌, int_lt, nat_le}
-use Rattle.std.proofs.lemmas.Bool.{and_parts, and_from, eqb-true, leb-true}
-use Rattle.std.proofs.lemmas.Bool.Decides.{nat_tests}
-use Rattle.std.proofs.lemmas.Int.{ints}
-use Rattle.lil_base.specs.Words.{in_type, between}
-use Rattle.lil_base.specs.Laws.{in_range, bounds}
+use Rattle.std.proofs.Common.{◌≡◌, ℕ, zero, suc, ◌==◌, Bool, true, false, cond, ◌&&◌, Some, None, refl, sym, ap, ◌∙◌, arith}
+use Rattle.std.specs.Prelude.{ℤ, pos, negsuc, ◌≤ℤ◌, nat_le}
+use Rattle.std.proofs.lemmas.{Bool.{and_parts, and_from, eqb-true, leb-true, Decides.nat_tests}, Int.ints}
+use Rattle.lil_base.specs.{Words.{in_type, between}, Laws.{in_range, bounds}, SetLaws.set_below}
 use Rattle.lil_base.specs.Sets as sets
-use Rattle.lil_base.specs.SetLaws.{set_below}
 use Rattle.lil_resolved.specs.MemberLaws.{word_of_set}
-use Rattle.lil_resolved.specs.Kinds.{Pointee, Objects, Workspaces, Kind, OfWhole, OfTruth, OfCharacter, OfEnumeration, OfSet, OfPointer, OfRange, base_of, is_base, is_ordinal, is_plain, same_pointee, same_pointer, takes_value, compared_as, lesser, larger, least, greatest, Scalar, Number, Truth, Character, SetOf, ToObject, ToWorkspace, Nil, within, scalar_of, ordinal_of, value_with}
+use Rattle.lil_resolved.specs.Kinds.{Pointee, Objects, Workspaces, Kind, OfWhole, OfTruth, OfCharacter, OfEnumeration, OfSet, OfPointer, OfRange, base_of, is_base, is_ordinal, is_plain, same_pointee, same_pointer, takes_value, compared_as, larger, least, greatest, Scalar, Number, Truth, Character, SetOf, ToObject, ToWorkspace, Nil, within, scalar_of, ordinal_of, value_with}
 
 -- a number is one of the kind's
 abbrev pub has : Kind → ℤ → Bool
 has k z = between (least k) z (greatest k)
 
--- ---- the lesser and the larger of two
-pub larger_left : (x y : ℤ) → x ≤ℤ larger x y
-larger_left x y = by (int_lt x y) refl
-  where
-    by : (b : Bool) → int_lt x y ≡ b → x ≤ℤ cond b y x
-    by true e = omega (arith, ints)
-    by false e = omega (arith, ints)
-
+-- the larger of two
 pub larger_right : (x y : ℤ) → y ≤ℤ larger x y
-larger_right x y = by (int_lt x y) refl
-  where
-    by : (b : Bool) → int_lt x y ≡ b → y ≤ℤ cond b y x
-    by true e = omega (arith, ints)
-    by false e = omega (arith, ints)
-
-pub larger_least : (x y z : ℤ) → x ≤ℤ z → y ≤ℤ z → larger x y ≤ℤ z
-larger_least x y z a b = by (int_lt x y)
-  where
-    by : (c : Bool) → cond c y x ≤ℤ z
-    by true = b
-    by false = a
-
-pub lesser_left : (x y : ℤ) → lesser x y ≤ℤ x
-lesser_left x y = by (int_lt y x) refl
-  where
-    by : (b : Bool) → int_lt y x ≡ b → cond b y x ≤ℤ x
-    by true e = omega (arith, ints)
-    by false e = omega (arith, ints)
-
-pub lesser_right : (x y : ℤ) → lesser x y ≤ℤ y
-lesser_right x y = by (int_lt y x) refl
-  where
-    by : (b : Bool) → int_lt y x ≡ b → cond b y x ≤ℤ y
-    by true e = omega (arith, ints)
-    by false e = omega (arith, ints)
-
-pub lesser_greatest : (x y z : ℤ) → z ≤ℤ x → z ≤ℤ y → z ≤ℤ lesser x y
-lesser_greatest x y z a b = by (int_lt y x)
-  where
-    by : (c : Bool) → z ≤ℤ cond c y x
-    by true = b
-    by false = a
-
--- ---- tests of numbers
-pub same_tests : (a b : Bool) → (a ≡ true → b ≡ true) → (b ≡ true → a ≡ true) → a ≡ b
-same_tests true b f g = sym (f refl)
-same_tests false true f g = g refl
-same_tests false false f g = refl
+larger_right x y = grind (arith, ints)
 
 -- a number lies in a part exactly where it lies in the range and in what the part was taken from
 pub has_range : (base : Kind) (low high z : ℤ) → has (OfRange base low high) z ≡ (between low z high && has base z)
-has_range base low high z = same_tests _ _
-    (λ h.
-    let b = bounds (larger low (least base)) z (lesser high (greatest base)) h in
-    and_from (between low z high) (has base z)
-    (in_range low z high (omega (arith, ints, b.0, larger_left low (least base))) (omega (arith, ints, b.1, lesser_left high (greatest base))))
-    (in_range (least base) z (greatest base) (omega (arith, ints, b.0, larger_right low (least base))) (omega (arith, ints, b.1, lesser_right high (greatest base)))))
-    (λ h.
-    let p = and_parts (between low z high) (has base z) h in
-    let a = bounds low z high p.0 in
-    let b = bounds (least base) z (greatest base) p.1 in
-    in_range (larger low (least base)) z (lesser high (greatest base)) (larger_least low (least base) z a.0 b.0) (lesser_greatest high (greatest base) z a.1 b.1))
+has_range base low high z = grind (arith, ints)
 
 -- ---- values
 -- the value with a number is there exactly where the number is the kind's
@@ -180,10 +121,7 @@ pub has_type : (j : Kind) (z : ℤ) → is_base j ≡ true → has j z ≡ true 
 has_type (OfWhole t) z base h = h
 has_type OfTruth z base h = let b = bounds (pos 0) z (pos 1) h in in_range (pos 0) z (pos 65535) b.0 (omega (arith, ints, b.1))
 has_type OfCharacter z base h = let b = bounds (pos 0) z (pos 255) h in in_range (pos 0) z (pos 65535) b.0 (omega (arith, ints, b.1))
-has_type (OfEnumeration n) z base h =
-    let b = bounds (pos 0) z (pos (n - 1)) h in
-    let e = leb-true n 65535 base in
-    in_range (pos 0) z (pos 65535) b.0 (omega (arith, ints, b.1, e))
+has_type (OfEnumeration n) z base h = grind (arith, ints, nat_tests)
 has_type OfSet z base h = h
 has_type (OfPointer n) z base h = let b = bounds (pos 0) z (pos 0) h in in_range (pos 0) z (pos 65535) b.0 (omega (arith, ints, b.1))
 has_type (OfRange part low high) z base h = cc
@@ -191,16 +129,7 @@ has_type (OfRange part low high) z base h = cc
 -- ---- a value of one kind where another is wanted
 -- a value that may be stored is one of the kind where its number is
 pub taken_where : (k j : Kind) (v : Scalar) → takes_value k j ≡ true → within j v ≡ true → within k v ≡ has k (ordinal_of v)
-taken_where (OfRange base low high) j v takes fits =
-    swapped (within base v) (between low (ordinal_of v) high)
-    ∙ ap (λ (b : Bool). between low (ordinal_of v) high && b) (taken_where base j v takes fits)
-    ∙ sym (has_range base low high (ordinal_of v))
-  where
-    swapped : (a b : Bool) → (a && b) ≡ (b && a)
-    swapped true true = refl
-    swapped true false = refl
-    swapped false true = refl
-    swapped false false = refl
+taken_where (OfRange base low high) j v takes fits = grind (arith, ints, taken_where base j v takes fits, has_range base low high (ordinal_of v))
 taken_where (OfWhole s) (OfWhole t) (Number z) takes fits = refl
 taken_where OfTruth OfTruth (Truth true) takes fits = refl
 taken_where OfTruth OfTruth (Truth false) takes fits = refl

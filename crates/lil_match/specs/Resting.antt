@@ -3,11 +3,7 @@ use Rattle.std.proofs.Common.{◌≡◌, ℕ, ◌+◌, ◌<◌, ◌≤◌, ◌�
 use Rattle.lil_meaning.specs.Items.{Activation, Parked}
 use Rattle.lil_mcode.specs.Table.{Kept}
 use Rattle.lil_table.specs.Rows.{loop_place}
-use Rattle.lil_match.specs.Homes.{Home}
-use Rattle.lil_match.specs.Waits.{Quiet, Around, Stack, frames_of, Setting, Rows}
-use Rattle.lil_match.specs.Goes.{OwnWords, Grows, Standing, Touches}
-use Rattle.lil_match.specs.Known.{known_kept, each_known, each_comes, known_grown, each_grown, comes_grown}
-use Rattle.lil_match.specs.Kept.{first_words, stack_above, EachAbove, stands_kept, chained_kept, loops_fit, rows_renewed}
+use Rattle.lil_match.specs.{Homes.Home, Waits.{Quiet, Around, Stack, frames_of, Setting, Rows}, Goes.{OwnWords, Grows, Standing, Touches}, Known.{known_kept, each_known, each_comes}, Kept.{first_words, stack_above, EachAbove, stands_kept, chained_kept, loops_fit, rows_renewed}}
 
 -- the same with another stack
 abbrev pub on_stack : Setting → Stack → Setting
@@ -38,9 +34,9 @@ rests_kept ctx more x y grows touch same p r rests = record {
     base_is = g.base_is;
     limit_is = g.limit_is;
     bodies_are = g.bodies_are;
-    known = known_grown ctx.library ctx.loaded ctx.table ctx.activations more x grows d.frame (known_kept ctx.library ctx.loaded ctx.table ctx.activations ctx.home x touch.base touch.shape touch.targets touch.fixed d.frame g.known);
-    callers = each_grown ctx.library ctx.loaded ctx.table ctx.activations more x grows d.callers (each_known ctx.library ctx.loaded ctx.table ctx.activations ctx.home x touch.base touch.shape touch.targets touch.fixed d.callers g.callers);
-    comes = comes_grown ctx.library ctx.loaded ctx.table ctx.activations more x grows d.base d.bodies (each_comes ctx.library ctx.loaded ctx.table ctx.activations ctx.home x touch.base touch.shape touch.targets touch.fixed d.base d.bodies g.comes);
+    known = known_kept ctx.library ctx.loaded ctx.table ctx.activations more grows ctx.home x touch.base touch.shape touch.targets touch.fixed d.frame g.known;
+    callers = each_known ctx.library ctx.loaded ctx.table ctx.activations more grows ctx.home x touch.base touch.shape touch.targets touch.fixed d.callers g.callers;
+    comes = each_comes ctx.library ctx.loaded ctx.table ctx.activations more grows ctx.home x touch.base touch.shape touch.targets touch.fixed d.base d.bodies g.comes;
     stands = stands_kept ctx.home.owner x.owner d.base r.stack.top d.frame d.callers (λ a from below. touch.owner a (far a from (omega (arith, below, g.low)))) g.stands;
     links = chained_kept ctx.home.shadow x.shadow ctx.activations more grows ctx.home.owner d.base r.stack.top d.frame d.callers g.stands (λ a from below. touch.shadow a (far a from (omega (arith, below, words.below, words.mark, g.low)))) g.links;
     room = λ a from below. touch.owner a (far a (omega (arith, from, high.0, words.below)) below) ∙ g.room a from below;

@@ -1,10 +1,7 @@
 -- A run of the machine, with its world.
 use Rattle.std.specs.Prelude.{ℕ, zero, suc, List, [], length, take, drop, reverse}
-use Rattle.lil_base.specs.declared.fault.TrapKind.{TrapKind}
-use Rattle.lil_base.specs.declared.fault.LimitKind.{LimitKind}
-use Rattle.lil_mcode.specs.declared.machine.Event.{Event}
-use Rattle.lil_mcode.specs.declared.machine.Event.TheVariants.{Went, Request, LevelEnded, Trap, Limit, BadCode}
-use Rattle.lil_mcode.specs.Table.{State, mstep}
+use Rattle.lil_base.specs.declared.fault.{TrapKind.TrapKind, LimitKind.LimitKind}
+use Rattle.lil_mcode.specs.{declared.machine.Event.{Event, TheVariants.{Went, Request, LevelEnded, Trap, Limit, BadCode}}, Table.{State, mstep}}
 use Rattle.lil_base.specs.declared.request.Request as request
 use Rattle.lil_asm.specs.Requests.{request_words}
 use Rattle.lil_meaning.specs.World.{World, Given, given_by, serve, all_closed}

@@ -1,30 +1,16 @@
 -- One step of the source from steps of the machine, and the activation at hand from any row.
 use Rattle.std.proofs.Common.{◌≡◌, ℕ, zero, suc, ◌+◌, ◌<◌, Option, Some, None, List, [], ◌∷◌, ◌++◌, length, true, ⊎_elim, refl, sym, ap, ◌∙◌, subst, arith, ◌≤◌, inl, inr}
 use Rattle.std.specs.Prelude.{slice_get}
-use Rattle.std.proofs.lemmas.Option.{same_Some}
-use Rattle.lil_base.specs.declared.fault.TrapKind.{TrapKind}
-use Rattle.lil_resolved.specs.Kinds.{Shape, is_there}
-use Rattle.lil_meaning.specs.Items.{Global, Place, loaded_at, Looping, Turns, Holding, End, Item, Perform, Activation, Going, Source, Cells, Root, Local, Object, Hole, Evaluate, PlaceOf, Fill}
-use Rattle.lil_meaning.specs.World.{all_closed, World}
-use Rattle.lil_meaning.specs.Steps.{current, held_in, owner_of, procedure_of, name_of, procedure_name, trap_at, trapped, next}
-use Rattle.lil_mcode.specs.declared.machine.Event.TheVariants.{Trap, Went, Limit}
-use Rattle.lil_mcode.specs.Table.{Kept, State, Module, module_at, mstep, act, fetched, performed, going, push_row}
-use Rattle.lil_table.specs.Rows.{InData, holding, loop_place, IsAt, access_of, PlaceAt, ExpressionAt}
-use Rattle.lil_match.specs.Goes.{HasName, Shared, IsTrapped, IsProgram, GoesOn, Lands, IsStill, Touches, Short, IsFull, Grows, Goes}
-use Rattle.lil_match.specs.Running.{running, react, Run, mrun, advanced}
-use Rattle.lil_match.specs.Homes.{address, shape_there, Home, extends_self, lives, Mem}
-use Rattle.lil_match.specs.Kept.{sees_laid}
-use Rattle.lil_match.specs.Waits.{Setting, frames_of, inside_with, sees, Mode, Around, RowsOf, Rows, HasPlace, HoldingWaits, Stack, frame_of, laid_out, at_home, Quiet, ValueOf, AtPlace, Reach, Jumps, AfterJumps, Ahead, Waiting}
-use Rattle.std.proofs.lemmas.Bool.{lt-ltb}
-use Rattle.lil_base.specs.declared.fault.LimitKind.{LimitKind}
+use Rattle.std.proofs.lemmas.{Option.same_Some, Bool.lt-ltb}
+use Rattle.lil_base.specs.declared.fault.{TrapKind.TrapKind, LimitKind.LimitKind}
+use Rattle.lil_resolved.specs.{Kinds.{Shape, is_there}, Resolved.{Designator, Expression, kind_of}, Sizes.{depth, place_depth}}
+use Rattle.lil_meaning.specs.{Items.{Global, Place, loaded_at, Turns, Holding, End, Item, Perform, Activation, Going, Source, Cells, Root, Local, Object, Hole, Evaluate, PlaceOf, Fill}, World.{all_closed, World}, Steps.{current, held_in, owner_of, procedure_of, procedure_name, trap_at, trapped, next}}
+use Rattle.lil_mcode.specs.{declared.machine.Event.{Event, TheVariants.{Trap, Went, Limit}}, Table.{Kept, State, Module, module_at, mstep, act, fetched, performed, going, push_row}}
+use Rattle.lil_table.specs.Rows.{InData, holding, loop_place, IsAt, PlaceAt, ExpressionAt}
+use Rattle.lil_match.specs.{Goes.{HasName, Shared, IsTrapped, IsProgram, GoesOn, Lands, IsStill, Touches, Short, IsFull, Grows, Goes}, Running.{running, react, Run, mrun, advanced}, Homes.{address, shape_there, Home, extends_self, lives, Mem}, Kept.sees_laid}
+use Rattle.lil_match.specs.{Waits.{Setting, frames_of, inside_with, sees, Mode, Around, RowsOf, Rows, HasPlace, HoldingWaits, Stack, frame_of, laid_out, at_home, Quiet, ValueOf, AtPlace, Reach, Jumps, AfterJumps, Ahead, Waiting}, Parts.yes, Stutter.stutter}
 use Rattle.lil_base.specs.declared.fault.LimitKind.TheVariants as limit
-use Rattle.lil_resolved.specs.Resolved.{Designator, Expression, kind_of, shape_of}
-use Rattle.lil_resolved.specs.Sizes.{depth, place_depth}
-use Rattle.lil_asm.specs.declared.instr.Instr.{Instr}
-use Rattle.lil_asm.specs.declared.instr.Instr.TheVariants.{Jmp}
-use Rattle.lil_mcode.specs.declared.machine.Event.{Event}
-use Rattle.lil_match.specs.Parts.{yes}
-use Rattle.lil_match.specs.Stutter.{stutter}
+use Rattle.lil_asm.specs.declared.instr.Instr.{Instr, TheVariants.Jmp}
 
 -- ---- the activation at hand, from any row
 
@@ -44,9 +30,9 @@ pub record Held (ctx : Setting) (place : Place) (shape : Shape) (word : ℕ) : T
   pub address : ctx.home.shadow (ctx.stack.frame.at + word) ≡ address ctx.home place
   pub low : word < ctx.stack.frame.layout.frame
 
-pub record HeldHere (ctx : Setting) (k : List Item) (w : ℕ) (shape : Shape) (word : ℕ) : Type 0 where
+pub record HeldHere (ctx : Setting) (there : Option Place) (shape : Shape) (word : ℕ) : Type 0 where
   pub place : Place
-  pub found : held_in k w ≡ Some place
+  pub found : there ≡ Some place
   pub held : Held ctx place shape word
 
 -- a WITH more around
@@ -69,13 +55,10 @@ none_in [] w word e h = no_word word h
 none_in (x ∷ xs) w word e h = cc
 
 pub held_here : (ctx : Setting) (k : List Item) (t : Mode) (p : ℕ) (stack : List ℕ) (c : ℕ) (a : Around) → Rows ctx k t p stack c a → (w word : ℕ) (shape : Shape)
-    → slice_get ctx.stack.frame.layout.held w ≡ Some word → slice_get ctx.stack.frame.layout.scope.held w ≡ Some shape → HeldHere ctx k w shape word
+    → slice_get ctx.stack.frame.layout.held w ≡ Some word → slice_get ctx.stack.frame.layout.scope.held w ≡ Some shape → HeldHere ctx (held_in k w) shape word
 held_here ctx [] t p stack c a r w word shape at typed = absurd r
 held_here ctx (Perform (Turns x kind z step left body) ∷ k) t p stack c a r w word shape at typed =
-    ⊎_elim (λ b. let h = held_here ctx k _ _ _ _ _ b.then w word shape at typed in again h) (λ n. let h = held_here ctx k _ _ _ _ _ n.then w word shape at typed in again h) r.there
-  where
-    again : HeldHere ctx k w shape word → HeldHere ctx (Perform (Turns x kind z step left body) ∷ k) w shape word
-    again h = record { place = h.place; found = h.found; held = h.held }
+    ⊎_elim (λ b. held_here ctx k _ _ _ _ _ b.then w word shape at typed) (λ n. held_here ctx k _ _ _ _ _ n.then w word shape at typed) r.there
 held_here ctx (Perform (Holding place) ∷ k) t p stack c a r w word shape at typed =
     by (λ v at typed. held_here r.there.before k _ _ _ _ _ r.there.then v word shape at typed) w at typed
   where
@@ -88,8 +71,8 @@ held_here ctx (Perform (Holding place) ∷ k) t p stack c a r w word shape at ty
     scope_is : ctx.stack.frame.layout.scope.held ≡ r.there.shape ∷ r.there.before.stack.frame.layout.scope.held
     scope_is = ap (λ (c : Setting). c.stack.frame.layout.scope.held) r.there.is
 
-    by : ((v : ℕ) → slice_get r.there.before.stack.frame.layout.held v ≡ Some word → slice_get r.there.before.stack.frame.layout.scope.held v ≡ Some shape → HeldHere r.there.before k v shape word)
-        → (w : ℕ) → slice_get ctx.stack.frame.layout.held w ≡ Some word → slice_get ctx.stack.frame.layout.scope.held w ≡ Some shape → HeldHere ctx (Perform (Holding place) ∷ k) w shape word
+    by : ((v : ℕ) → slice_get r.there.before.stack.frame.layout.held v ≡ Some word → slice_get r.there.before.stack.frame.layout.scope.held v ≡ Some shape → HeldHere r.there.before (held_in k v) shape word)
+        → (w : ℕ) → slice_get ctx.stack.frame.layout.held w ≡ Some word → slice_get ctx.stack.frame.layout.scope.held w ≡ Some shape → HeldHere ctx (held_in (Perform (Holding place) ∷ k) w) shape word
     by inner zero at typed =
         let word_is : loop_place y.outer.taken ≡ word = same_Some (loop_place y.outer.taken) word (sym (ap (λ (l : List ℕ). slice_get l 0) held_is) ∙ at) in
         let shape_is : r.there.shape ≡ shape = same_Some r.there.shape shape (sym (ap (λ (l : List Shape). slice_get l 0) scope_is) ∙ typed) in
@@ -108,12 +91,7 @@ held_here ctx (Perform (Holding place) ∷ k) t p stack c a r w word shape at ty
         let h = inner v (sym (ap (λ (l : List ℕ). slice_get l (suc v)) held_is) ∙ at) (sym (ap (λ (l : List Shape). slice_get l (suc v)) scope_is) ∙ typed) in
         record { place = h.place; found = h.found; held = held_inside ctx y.before h.place shape y.shape (loop_place y.outer.taken) word y.is h.held }
 held_here ctx (Perform (End n) ∷ k) t p stack c a r w word shape at typed = absurd (none_in ctx.stack.frame.layout.held w word r.there.free at)
-held_here ctx (Perform (Looping body) ∷ k) t p stack c a r w word shape at typed =
-    let h = held_here ctx k _ _ _ _ _ r.there.then w word shape at typed in
-    record { place = h.place; found = h.found; held = h.held }
-held_here ctx (i ∷ k) t p stack c a r w word shape at typed =
-    let h = held_here ctx k _ _ _ _ _ r.there.then w word shape at typed in
-    record { place = h.place; found = h.found; held = h.held }
+held_here ctx (i ∷ k) t p stack c a r w word shape at typed = held_here ctx k _ _ _ _ _ r.there.then w word shape at typed
 
 module _ (ctx : Setting) where
   open ctx use {library, loaded, stack as st}
@@ -131,19 +109,10 @@ module _ (ctx : Setting) where
         table_is = shared.program.table_is;
         running_is = shared.program.running_is;
         known = f.known;
-        name =
-            ap (λ (a : Option Activation). name_of (loaded_at library s.loaded (owner_of a))) at
-            ∙ ap (λ (n : ℕ). name_of (loaded_at library s.loaded n)) f.owner
-            ∙ ap (λ (l : List ℕ). name_of (loaded_at library l st.frame.number)) shared.loaded_are
-            ∙ f.named;
+        name = cc (at, f.owner, shared.loaded_are, f.named);
         procedure =
             subst (HasName st.frame.own.procedures st.frame.procedure)
-            (sym (
-            ap (λ (a : Option Activation). procedure_name (loaded_at library s.loaded (owner_of a)) (procedure_of a)) at
-            ∙ ap (λ (n : ℕ). procedure_name (loaded_at library s.loaded n) (procedure_of here)) f.owner
-            ∙ ap (λ (l : List ℕ). procedure_name (loaded_at library l st.frame.number) (procedure_of here)) shared.loaded_are
-            ∙ ap (procedure_name (loaded_at library loaded st.frame.number)) f.called
-            ))
+            (let same : procedure_name (loaded_at library loaded st.frame.number) st.frame.procedure ≡ procedure_name (loaded_at library s.loaded (owner_of (slice_get s.activations (current k)))) (procedure_of (slice_get s.activations (current k))) = cc (at, f.owner, f.called, shared.loaded_are) in same)
             f.entered;
       }
 
@@ -248,9 +217,9 @@ module _ (ctx : Setting) where
       record { steps = g.steps; later = g.later; activations = g.activations; home = g.home; stack = g.stack; quiet = g.quiet; lands = g.lands; touch = g.touch; same = g.same; grown = g.grown; cost = omega (arith, g.cost, rises); falls = g.falls }
 
   -- no step of the machine
-  pub goes_none : (s : Source) (k : List Item) (m : State) (budget c : ℕ) → LandsAt s k (running m s.world) c → c ≤ budget
+  pub goes_none_within : (s : Source) (k : List Item) (m : State) (budget c : ℕ) → LandsAt s k (running m s.world) c → c ≤ budget
       → stutter (next library (record s { items = k; phase = Going })).items < stutter k → Goes ctx s k m budget
-  goes_none s k m budget c lands less falls = record {
+  goes_none_within s k m budget c lands less falls = record {
     steps = 0;
     later = c;
     quiet = λ i less. absurd (omega arith);
@@ -265,12 +234,16 @@ module _ (ctx : Setting) where
     falls = λ e. falls;
   }
 
+  -- the same with steps to spare
+  pub goes_none : (s : Source) (k : List Item) (m : State) (spare c : ℕ) → LandsAt s k (running m s.world) c → stutter (next library (record s { items = k; phase = Going })).items < stutter k → Goes ctx s k m (c + spare)
+  goes_none s k m spare c lands falls = goes_none_within s k m (c + spare) c lands (omega arith) falls
+
   -- no step of the machine: an expression is to come, and then a hole
   pub operand_exact : (s : Source) (k : List Item) (m : State) (c : ℕ) (a : Around) → Shared ctx s m → (items : List Item) (e : Expression) (o : Hole)
       → next library (record s { items = items; phase = Going }) ≡ record s { items = Evaluate e ∷ Fill o ∷ k; phase = Going } → stutter (Evaluate e ∷ Fill o ∷ k) < stutter items → (middle : ℕ)
       → ExpressionAt l own.code e m.place middle → length m.stack + depth e ≤ 16 → middle < length own.code → Waiting ctx (Fill o) (Rows ctx k) (ValueOf (kind_of e)) middle m.stack c a → Goes ctx s items m c
   operand_exact s k m c a shared items e o becomes lighter middle here shallow within row =
-      goes_none s items m c c
+      goes_none_within s items m c c
       (subst (λ (y : Source). Lands ctx y.phase y (running m s.world) c) (sym becomes)
       (lands_on s m shared (Evaluate e ∷ Fill o ∷ k) m.place m.stack c a
       (at_once _ Quiet m.place m.stack c a
@@ -287,9 +260,9 @@ module _ (ctx : Setting) where
   -- no step of the machine: a place is to come, and then a hole
   pub located_goes : (s : Source) (k : List Item) (m : State) (c : ℕ) (a : Around) → Shared ctx s m → (items : List Item) (d : Designator) (o : Hole)
       → next library (record s { items = items; phase = Going }) ≡ record s { items = PlaceOf d ∷ Fill o ∷ k; phase = Going } → stutter (PlaceOf d ∷ Fill o ∷ k) < stutter items → (found : ℕ)
-      → PlaceAt l own.code d m.place found → length m.stack + place_depth d ≤ 16 → Waiting ctx (Fill o) (Rows ctx k) (AtPlace (access_of l d) (shape_of l.scope d)) found m.stack c a → Goes ctx s items m (c + 32)
+      → PlaceAt l own.code d m.place found → length m.stack + place_depth d ≤ 16 → Waiting ctx (Fill o) (Rows ctx k) (AtPlace d) found m.stack c a → Goes ctx s items m (c + 32)
   located_goes s k m c a shared items d o becomes lighter found here shallow row =
-      goes_none s items m (c + 32) c
+      goes_none_within s items m (c + 32) c
       (subst (λ (y : Source). Lands ctx y.phase y (running m s.world) c) (sym becomes)
       (lands_on s m shared (PlaceOf d ∷ Fill o ∷ k) m.place m.stack c a
       (at_once _ Quiet m.place m.stack c a
@@ -329,9 +302,13 @@ module _ (ctx : Setting) where
   goes_one_in s k m x y budget c run e lands touch same less = goes_one_grown s k m ctx.activations x y budget c run e lands touch same (grows_self ctx.activations) less
 
   -- one step
-  pub goes_one : (s : Source) (k : List Item) (m : State) (budget c : ℕ) (run : Run) → advanced (running m s.world) ≡ run → LandsAt s k run c → c + 1 ≤ budget
+  pub goes_one_within : (s : Source) (k : List Item) (m : State) (budget c : ℕ) (run : Run) → advanced (running m s.world) ≡ run → LandsAt s k run c → c + 1 ≤ budget
       → Goes ctx s k m budget
-  goes_one s k m budget c run e lands less = goes_one_in s k m h st budget c run e lands (untouched h st.base st.limit) (refl, omega arith) less
+  goes_one_within s k m budget c run e lands less = goes_one_in s k m h st budget c run e lands (untouched h st.base st.limit) (refl, omega arith) less
+
+  -- the same with steps to spare
+  pub goes_one : (s : Source) (k : List Item) (m : State) (spare c : ℕ) (run : Run) → advanced (running m s.world) ≡ run → LandsAt s k run c → Goes ctx s k m (c + (1 + spare))
+  goes_one s k m spare c run e lands = goes_one_within s k m (c + (1 + spare)) c run e lands (omega arith)
 
   -- one step to a limit
   pub goes_full : (s : Source) (k : List Item) (m : State) (budget : ℕ) (kind : LimitKind) → mstep m ≡ (Limit kind, m)

@@ -1,29 +1,17 @@
 -- The test that a value may be stored where one of a kind is wanted.
-use Rattle.std.proofs.Common.{◌≡◌, ℕ, Bool, true, false, cond, not, ◌&&◌, List, ◌∷◌, refl, ap, ◌∙◌, arith}
-use Rattle.std.specs.Prelude.{ℤ, pos, ◌≤ℤ◌, int_lt}
+use Rattle.std.proofs.Common.{◌≡◌, ℕ, Bool, true, false, cond, List, ◌∷◌, refl, ap, ◌∙◌, arith}
+use Rattle.std.specs.Prelude.{ℤ, pos, int_lt}
 use Rattle.std.proofs.lemmas.Int.{ints}
-use Rattle.lil_base.specs.Words.{Whole, Cardinal, Integer, in_type, between, number_of, word_of}
-use Rattle.lil_base.specs.Laws.{in_range, bounds, number_of-word}
+use Rattle.lil_base.specs.{Words.{Whole, Cardinal, Integer, in_type, between, number_of, word_of}, Laws.{number_of-word}}
 use Rattle.lil_base.specs.declared.fault.TrapKind.TheVariants as trap
 use Rattle.lil_resolved.specs.Kinds.{Kind, is_base, compared_as, lesser, larger, least, greatest, covers, shared, Scalar, within, scalar_word, ordinal_of}
-use Rattle.lil_mcode.specs.declared.machine.Event.{Event}
-use Rattle.lil_mcode.specs.declared.machine.Event.TheVariants.{Went, Trap}
-use Rattle.lil_mcode.specs.Table.{Module, State, act, going, on_one, range_row}
+use Rattle.lil_mcode.specs.{declared.machine.Event.{Event, TheVariants.{Went, Trap}}, Table.{Module, State, act, going, on_one, range_row}}
 use Rattle.lil_table.specs.Rows.{range_code}
-use Rattle.lil_match.specs.Arithmetic.{reads_ordinal}
-use Rattle.lil_match.specs.Ranges.{has, same_tests, larger_left, larger_right, larger_least, lesser_left, lesser_right, lesser_greatest, fits_has, has_type}
+use Rattle.lil_match.specs.{Arithmetic.reads_ordinal, Ranges.{has, fits_has, has_type}}
 
 -- where each number is the kind's, that of a value is
 pub covered : (k j : Kind) (z : ℤ) → covers k j ≡ true → has j z ≡ true → has k z ≡ true
-covered k j z h there = by (int_lt (least j) (least k)) (int_lt (greatest k) (greatest j)) refl refl h
-  where
-    b : (least j ≤ℤ z) × (z ≤ℤ greatest j)
-    b = bounds (least j) z (greatest j) there
-
-    by : (c d : Bool) → int_lt (least j) (least k) ≡ c → int_lt (greatest k) (greatest j) ≡ d → (not c && not d) ≡ true → has k z ≡ true
-    by false false e f g = in_range (least k) z (greatest k) (omega (arith, ints, e, b.0)) (omega (arith, ints, f, b.1))
-    by false true e f g = cc
-    by true d e f g = cc
+covered k j z h there = grind (arith, ints)
 
 -- the numbers that a kind and a base share
 module _ (k j : Kind) (z : ℤ) (there : has j z ≡ true) where
@@ -33,9 +21,6 @@ module _ (k j : Kind) (z : ℤ) (there : has j z ≡ true) where
   abbrev high : ℤ
   high = lesser (greatest k) (greatest j)
 
-  b : (least j ≤ℤ z) × (z ≤ℤ greatest j)
-  b = bounds (least j) z (greatest j) there
-
   -- they are numbers of the type as which words are compared
   shared_type : is_base j ≡ true → (in_type (compared_as j) (shared k j).0 ≡ true) × (in_type (compared_as j) (shared k j).1 ≡ true)
   shared_type base = by (int_lt high low) refl
@@ -44,35 +29,13 @@ module _ (k j : Kind) (z : ℤ) (there : has j z ≡ true) where
       none Cardinal = (refl, refl)
       none Integer = (refl, refl)
 
-      lower : least j ≤ℤ low
-      lower = larger_right (least k) (least j)
-
-      upper : high ≤ℤ greatest j
-      upper = lesser_right (greatest k) (greatest j)
-
       by : (e : Bool) → int_lt high low ≡ e → (in_type (compared_as j) (cond {A = ℤ × ℤ} e (pos 1, pos 0) (low, high)).0 ≡ true) × (in_type (compared_as j) (cond {A = ℤ × ℤ} e (pos 1, pos 0) (low, high)).1 ≡ true)
       by true is = none (compared_as j)
-      by false is = (
-        has_type j low base (in_range (least j) low (greatest j) lower (omega (arith, ints, is, upper))),
-        has_type j high base (in_range (least j) high (greatest j) (omega (arith, ints, is, lower)) upper),
-      )
+      by false is = (has_type j low base (grind (arith, ints)), has_type j high base (grind (arith, ints)))
 
   -- a number of the base lies between them where it is the kind's
   shared_test : between (shared k j).0 z (shared k j).1 ≡ has k z
-  shared_test = by (int_lt high low) refl
-    where
-      wide : has k z ≡ true → (low ≤ℤ z) × (z ≤ℤ high)
-      wide h = let c = bounds (least k) z (greatest k) h in (larger_least (least k) (least j) z c.0 b.0, lesser_greatest (greatest k) (greatest j) z c.1 b.1)
-
-      narrow : low ≤ℤ z → z ≤ℤ high → has k z ≡ true
-      narrow c d = in_range (least k) z (greatest k) (omega (arith, ints, c, larger_left (least k) (least j))) (omega (arith, ints, d, lesser_left (greatest k) (greatest j)))
-
-      none : between (pos 1) z (pos 0) ≡ true → ⊥
-      none h = let c = bounds (pos 1) z (pos 0) h in omega (arith, ints, c.0, c.1)
-
-      by : (e : Bool) → int_lt high low ≡ e → between (cond {A = ℤ × ℤ} e (pos 1, pos 0) (low, high)).0 z (cond {A = ℤ × ℤ} e (pos 1, pos 0) (low, high)).1 ≡ has k z
-      by true is = same_tests _ _ (λ h. absurd (none h)) (λ h. let w = wide h in absurd (omega (arith, ints, is, w.0, w.1)))
-      by false is = same_tests _ _ (λ h. let c = bounds low z high h in narrow c.0 c.1) (λ h. let w = wide h in in_range low z high w.0 w.1)
+  shared_test = grind (arith, ints)
 
 -- the instruction that tests
 range_act : (t : Whole) (x y : ℤ) (q : ℕ) (own : Module) (m : State) → act (range_code t (x, y)) q own m ≡ on_one m m.stack (range_row t (word_of x) (word_of y) q m)

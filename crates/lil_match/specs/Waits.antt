@@ -1,23 +1,18 @@
 -- What items need from the code: where they stand, and where the items behind them go on. This speaks of homes and of the expression
 -- stack, and never of the store or of the cells.
-use Rattle.std.proofs.Common.{◌≡◌, ℕ, zero, suc, ◌+◌, ◌-◌, ◌%◌, ◌<◌, ◌≤◌, ◌⊎◌, true, false, Some, None, List, [], ◌∷◌, ◌++◌, length, map, Bool}
+use Rattle.std.proofs.Common.{◌≡◌, ℕ, zero, suc, ◌+◌, ◌-◌, ◌%◌, ◌<◌, ◌≤◌, ◌⊎◌, true, false, Some, None, List, [], ◌∷◌, ◌++◌, length, map, Bool, refl}
 use Rattle.std.specs.Prelude.{ℤ, ◌+ℤ◌, Option, ◌==◌}
 use Rattle.std.specs.List.{list_any}
-use Rattle.lil_base.specs.Words.{Cardinal, between, word_of}
-use Rattle.lil_base.specs.declared.operator.OneOp.{OneOp}
-use Rattle.lil_base.specs.declared.operator.TwoOp.{TwoOp}
-use Rattle.lil_resolved.specs.Kinds.{Objects, Workspaces, Kind, OfWhole, OfTruth, OfCharacter, OfSet, OfPointer, base_of, is_base, is_plain, is_element, takes_value, stores_value, least, greatest, numbers, Scalar, within, scalar_word, Shape, Word, Row, words, is_there, part_at, offset, element_of, shape_at}
-use Rattle.lil_resolved.specs.Resolved.{Designator, Function, Expression, Argument, Statement, If, Case, While, Repeat, Loop, Statements, Arms, Resolved, kind_of, is_relation, result_kind, right_kind, function_kind, counted_as, shape_of}
-use Rattle.lil_resolved.specs.Sizes.{place_depth, depth, function_depth}
-use Rattle.lil_resolved.specs.Sound.{takes_one, takes_two, takes_function, Parameter, Single, Characters, request_parameters, parameter_of}
+use Rattle.lil_base.specs.{Words.{between, word_of}, declared.operator.{TwoOp.TwoOp}, Requests.request_number}
+use Rattle.lil_resolved.specs.Kinds.{Workspaces, Kind, OfTruth, OfCharacter, OfSet, OfPointer, base_of, takes_value, least, greatest, numbers, Scalar, within, scalar_word, Shape, Word, Row, is_there, part_at, element_of}
+use Rattle.lil_resolved.specs.{Resolved.{Designator, Field, Element, Follow, Expression, Taken, One, Two, Short, Apply, With, WithSpan, Argument, Statement, Assign, Copy, Text, Change, Member, New, Allocate, Inside, If, Case, While, Repeat, Loop, For, Statements, Resolved, kind_of, is_relation, result_kind, function_kind, shape_of}, Sizes.{place_depth, depth}}
+use Rattle.lil_resolved.specs.Sound.{Parameter, Single, Characters, request_parameters, parameter_of}
 use Rattle.lil_meaning.specs.Items.{Root, Local, Place, Datum, Scalars, Places, Wholes, Opens, Texts, Get, IndexBy, IndexAt, Pointed, SetTo, StoreAt, CopyTo, CopyFrom, TextTo, NewAt, AllocateBy, AllocateAt, ChangeBy, ChangeAt, OneOf, LeftOf, RightOf, ShortOf, ApplyTo, WithMember, MemberOf, WithMembers, MembersFrom, MembersTo, MemberBy, MemberAt, Pass, PassArray, Choose, Turn, Again, Pick, Hold, StartOf, LimitOf, Do, Passing, Until, Looping, Turns, Holding, End, Item, Value, Evaluate, PlaceOf, Fill, Perform, Activation, Parked, Part as PartOf}
 use Rattle.lil_meaning.specs.Steps.{turns}
-use Rattle.lil_asm.specs.declared.instr.Instr.TheVariants.{Liw, Lag, Slw, Dup, Spn, Mov, Mvz, Nlt, Ixc, Ent, Rtn, Jmp, Alc, Svc}
+use Rattle.lil_asm.specs.{declared.instr.Instr.TheVariants.{Liw, Ent, Rtn, Jmp, Svc}, Requests.request_words}
 use Rattle.lil_mcode.specs.Table.{Module, Kept, body_entry}
-use Rattle.lil_base.specs.Requests.{request_number}
 use Rattle.lil_base.specs.declared.request.Request as request
-use Rattle.lil_asm.specs.Requests.{request_words}
-use Rattle.lil_table.specs.Rows.{Layout, holding, cut, exactly, HasText, text_words, arguments_words, IsAt, InstrsAt, one_code, two_code, test_code, function_code, Access, InData, OnTop, further, access_of, address_code, allocate_code, load_code, ready_code, readied, held, store_code, again_code, held_twice, change_code, member_code, PlaceAt, ExpressionAt, WholeRow, ValueRow, ArgumentsAt, StatementAt, BodyAt, TurnsRow, RoundRow, loop_place, short_code, Behind as Past}
+use Rattle.lil_table.specs.Rows.{Layout, holding, exactly, HasText, text_words, arguments_words, IsAt, InstrsAt, test_code, Access, InData, OnTop, access_of, address_code, readied, PlaceAt, ExpressionAt, ArgumentsAt, StatementAt, BodyAt, TurnsRow, RoundRow, loop_place, Behind as Past}
 use Rattle.lil_match.specs.Homes.{word_for, Refers, Home, address, shape_there}
 
 -- whether a parameter and a datum are open arrays
@@ -34,11 +29,11 @@ is_array _ = false
 pub record TakesAll (r : request.Request) (done : List Bool) (left : List Argument) : Type 0 where
   pub same : map is_open (request_parameters r) ≡ done ++ map is_open (map parameter_of left)
 
--- What comes from the items before: nothing, a value of a kind, or a place of a shape, by how the code has it.
+-- What comes from the items before: nothing, a value of a kind, or the place of a designator, as the code has it.
 pub data Mode : Type 0 where
   Quiet : Mode
   ValueOf : (k : Kind) → Mode
-  AtPlace : (b : Access) (t : Shape) → Mode
+  AtPlace : (d : Designator) → Mode
 
 -- the address of a place on an expression stack with others below it, over the data from a word on
 abbrev pub Reaches : (data' : ℕ) → Access → ℕ → List ℕ → List ℕ → Type 0
@@ -192,195 +187,59 @@ module _ (frame : Frame) where
     pub here : StatementAt l own.code (a.taken) a.exit s p end
     pub within : end < length own.code
 
+  -- an item in the midst of a statement, at a place of its row
+  pub record AmidPart (s : Statement) (a : Around) (to : (p q : ℕ) → StatementAt l own.code (a.taken) a.exit s p q → ℕ) (p : ℕ) : Type 0 where
+    pub from : ℕ
+    pub end : ℕ
+    pub here : StatementAt l own.code (a.taken) a.exit s from end
+    pub within : end < length own.code
+    pub at : p ≡ to from end here
+
+  -- behind the first place that the statement names
+  pub record PlacedPart (s : Statement) (a : Around) (to : (p q : ℕ) → StatementAt l own.code (a.taken) a.exit s p q → ℕ) (p : ℕ) (stack : List ℕ) : Type 0 where
+    pub empty : stack ≡ []
+    pub amid : AmidPart s a to p
+
+  abbrev pub placed : (s : Statement) (a : Around) (to : (p q : ℕ) → StatementAt l own.code (a.taken) a.exit s p q → ℕ) (p : ℕ) (stack : List ℕ) (did : DoPart s p stack a) → PlacedPart s a to (to p did.end did.here) stack
+  placed s a to p stack did = record { empty = did.empty; amid = record { from = p; end = did.end; here = did.here; within = did.within; at = refl } }
+
   pub record EvaluatePart (e : Expression) (p : ℕ) (stack : List ℕ) : Type 0 where
     pub end : ℕ
     pub here : ExpressionAt l own.code e p end
     pub shallow : length stack + depth e ≤ 16
     pub within : end < length own.code
 
-  pub record OnePart (j : Kind) (o : OneOp) (k : Kind) (p : ℕ) : Type 0 where
-    pub same : j ≡ k
-    pub takes : takes_one o k ≡ true
-    pub end : ℕ
-    pub by : InstrsAt own.code (one_code o k) p end
-
-  pub record LeftPart (j : Kind) (o : TwoOp) (k : Kind) (f : Expression) (p : ℕ) (stack : List ℕ) : Type 0 where
-    pub same : j ≡ k
-    pub takes : takes_two o k ≡ true
-    pub typed : kind_of f ≡ right_kind o k
-    pub middle : ℕ
-    pub end : ℕ
-    pub here : ExpressionAt l own.code f p middle
-    pub shallow : length stack + 1 + depth f ≤ 16
-    pub by : InstrsAt own.code (two_code o k) middle end
-
-  -- a jump over the right operand
-  pub record ShortPart (j : Kind) (d : Bool) (f : Expression) (p : ℕ) (stack : List ℕ) : Type 0 where
-    pub same : j ≡ OfTruth
-    pub typed : kind_of f ≡ OfTruth
-    pub start : ℕ
-    pub end : ℕ
-    pub by : IsAt own.code p (short_code d end) start
-    pub here : ExpressionAt l own.code f start end
-    pub shallow : length stack + depth f ≤ 16
-    pub within : end < length own.code
-
-  pub record ApplyPart (j : Kind) (f : Function) (p : ℕ) (stack : List ℕ) : Type 0 where
-    pub takes : takes_function f j ≡ true
-    pub shallow : length stack + function_depth f ≤ 16
-    pub end : ℕ
-    pub by : InstrsAt own.code (function_code f j) p end
-
-  -- a number of a kind that a set gets is to come, above the set
-  pub record WithPart (j k : Kind) (e : Expression) (p : ℕ) (stack : List ℕ) : Type 0 where
-    pub same : j ≡ OfSet
-    pub element : is_element k ≡ true
-    pub takes : takes_value k (kind_of e) ≡ true
-    pub middle : ℕ
-    pub tested : ℕ
-    pub end : ℕ
-    pub value : ExpressionAt l own.code e p middle
-    pub shallow : length stack + 1 + depth e ≤ 16
-    pub room : length stack + 3 ≤ 16
-    pub test : InstrsAt own.code (test_code k (kind_of e)) middle tested
-    pub by : InstrsAt own.code (Dup ∷ Spn ∷ []) tested end
-
-  -- so are the first and the last of several
-  pub record WithsPart (j k : Kind) (e f : Expression) (p : ℕ) (stack : List ℕ) : Type 0 where
-    pub same : j ≡ OfSet
-    pub element : is_element k ≡ true
-    pub takes : takes_value k (kind_of e) ≡ true
-    pub takes_last : takes_value k (kind_of f) ≡ true
-    pub middle : ℕ
-    pub tested : ℕ
-    pub last : ℕ
-    pub after : ℕ
-    pub end : ℕ
-    pub value : ExpressionAt l own.code e p middle
-    pub shallow : length stack + 1 + depth e ≤ 16
-    pub test : InstrsAt own.code (test_code k (kind_of e)) middle tested
-    pub last_value : ExpressionAt l own.code f tested last
-    pub last_shallow : length stack + 2 + depth f ≤ 16
-    pub last_test : InstrsAt own.code (test_code k (kind_of f)) last after
-    pub by : IsAt own.code after Spn end
+  -- an item in the midst of an expression, behind an operand
+  pub record OperandPart (whole : Expression → Expression) (to : (e : Expression) (p q : ℕ) → ExpressionAt l own.code (whole e) p q → ℕ) (j : Kind) (p : ℕ) (stack : List ℕ) : Type 0 where
+    pub of : Expression
+    pub same : j ≡ kind_of of
+    pub from : ℕ
+    pub did : EvaluatePart (whole of) from stack
+    pub at : p ≡ to of from did.end did.here
 
   pub record PlacePart (d : Designator) (p : ℕ) (stack : List ℕ) : Type 0 where
     pub end : ℕ
     pub here : PlaceAt l own.code d p end
     pub shallow : length stack + place_depth d ≤ 16
 
-  pub record GetPart (b : Access) (t : Shape) (p : ℕ) (stack : List ℕ) : Type 0 where
+  -- the value at a place, or what a pointer there points to
+  pub record GetPart (d : Designator) (p : ℕ) (stack : List ℕ) : Type 0 where
     pub kind : Kind
-    pub typed : t ≡ Word kind
-    pub end : ℕ
-    pub load : IsAt own.code p (load_code b) end
-    pub shallow : length stack + 1 ≤ 16
+    pub from : ℕ
+    pub did : EvaluatePart (Taken d kind) from stack
+    pub at : p ≡ did.here.found
 
-  -- the pointer at the place is followed
-  pub record PointedPart (b : Access) (t : Shape) (p : ℕ) (stack : List ℕ) : Type 0 where
+  pub record PointedPart (d : Designator) (p : ℕ) (stack : List ℕ) : Type 0 where
     pub number : ℕ
-    pub typed : t ≡ Word (OfPointer (Objects number))
-    pub there : is_there (shape_at l.scope.targets number) ≡ true
-    pub loaded : ℕ
-    pub end : ℕ
-    pub load : IsAt own.code p (load_code b) loaded
-    pub test : IsAt own.code loaded Nlt end
-    pub shallow : length stack + 1 ≤ 16
-
-  -- the pointer at the place gets an object
-  pub record NewPart (b : Access) (t : Shape) (n p : ℕ) (stack : List ℕ) : Type 0 where
-    pub typed : t ≡ Word (OfPointer (Objects n))
-    pub there : is_there (shape_at l.scope.targets n) ≡ true
-    pub empty : stack ≡ []
-    pub start : ℕ
-    pub end : ℕ
-    pub address : InstrsAt own.code (address_code b) p start
-    pub by : InstrsAt own.code (Liw (words (shape_at l.scope.targets n)) ∷ Alc ∷ []) start end
-    pub within : end < length own.code
-
-  -- the number of words of a workspace is to come
-  pub record AllocateByPart (b : Access) (t : Shape) (back : Bool) (e : Expression) (p : ℕ) (stack : List ℕ) : Type 0 where
-    pub typed : t ≡ Word (OfPointer Workspaces)
-    pub empty : stack ≡ []
-    pub takes : takes_value (OfWhole Cardinal) (kind_of e) ≡ true
-    pub start : ℕ
-    pub middle : ℕ
-    pub end : ℕ
-    pub address : InstrsAt own.code (address_code b) p start
-    pub value : ValueRow l own.code 1 e (OfWhole Cardinal) start middle
-    pub by : InstrsAt own.code (allocate_code back) middle end
-    pub within : end < length own.code
+    pub from : ℕ
+    pub did : PlacePart (Follow d number) from stack
+    pub at : p ≡ did.here.found
 
   -- the index of an element is to come
-  pub record IndexByPart (b : Access) (t : Shape) (k : Kind) (e : Expression) (p : ℕ) (stack : List ℕ) : Type 0 where
-    pub rows : t ≡ Row (numbers k) (element_of t)
-    pub there : is_there (element_of t) ≡ true
-    pub takes : takes_value k (kind_of e) ≡ true
-    pub start : ℕ
-    pub middle : ℕ
-    pub tested : ℕ
-    pub end : ℕ
-    pub address : InstrsAt own.code (address_code b) p start
-    pub value : ExpressionAt l own.code e start middle
-    pub shallow : length stack + 1 + depth e ≤ 16
-    pub test : InstrsAt own.code (test_code k (kind_of e)) middle tested
-    pub by : IsAt own.code tested (Ixc (cut (word_of (least k))) (words (element_of t))) end
-
-  pub record SetPart (b : Access) (t : Shape) (k : Kind) (e : Expression) (p : ℕ) (stack : List ℕ) : Type 0 where
-    pub typed : t ≡ Word k
-    pub empty : stack ≡ []
-    pub start : ℕ
-    pub middle : ℕ
-    pub end : ℕ
-    pub ready : InstrsAt own.code (ready_code b) p start
-    pub value : ValueRow l own.code (held (readied b)) e k start middle
-    pub store : IsAt own.code middle (store_code (readied b)) end
-    pub within : end < length own.code
-
-  -- the place of what is copied is to come
-  pub record CopyToPart (b : Access) (t : Shape) (from : Designator) (p : ℕ) (stack : List ℕ) : Type 0 where
-    pub same : shape_of l.scope from ≡ t
-    pub empty : stack ≡ []
-    pub shallow : 1 + place_depth from ≤ 16
-    pub start : ℕ
-    pub middle : ℕ
-    pub last : ℕ
-    pub end : ℕ
-    pub address : InstrsAt own.code (address_code b) p start
-    pub source : PlaceAt l own.code from start middle
-    pub source_address : InstrsAt own.code (address_code (access_of l from)) middle last
-    pub by : IsAt own.code last (Mov (words t)) end
-    pub within : end < length own.code
-
-  -- the number that a set gets or loses is to come
-  pub record MemberByPart (b : Access) (t : Shape) (out : Bool) (k : Kind) (e : Expression) (p : ℕ) (stack : List ℕ) : Type 0 where
-    pub typed : t ≡ Word OfSet
-    pub empty : stack ≡ []
-    pub element : is_element k ≡ true
-    pub takes : takes_value k (kind_of e) ≡ true
-    pub start : ℕ
-    pub middle : ℕ
-    pub end : ℕ
-    pub address : InstrsAt own.code (address_code b) p start
-    pub value : ValueRow l own.code 1 e k start middle
-    pub by : IsAt own.code middle (member_code out) end
-    pub within : end < length own.code
-
-  -- the number that INC or DEC takes is to come
-  pub record ChangeByPart (b : Access) (t : Shape) (down : Bool) (k : Kind) (e : Expression) (p : ℕ) (stack : List ℕ) : Type 0 where
-    pub typed : t ≡ Word k
-    pub empty : stack ≡ []
-    pub base : is_base (base_of k) ≡ true
-    pub plain : is_plain k ≡ true
-    pub start : ℕ
-    pub kept : ℕ
-    pub middle : ℕ
-    pub end : ℕ
-    pub ready : InstrsAt own.code (ready_code b) p start
-    pub again : InstrsAt own.code (again_code (readied b)) start kept
-    pub value : WholeRow l own.code (held_twice (readied b)) e (OfWhole (counted_as k)) kept middle
-    pub by : InstrsAt own.code (change_code down k (readied b)) middle end
-    pub within : end < length own.code
+  pub record IndexByPart (d : Designator) (k : Kind) (e : Expression) (p : ℕ) (stack : List ℕ) : Type 0 where
+    pub from : ℕ
+    pub did : PlacePart (Element d k e) from stack
+    pub at : p ≡ did.here.found
 
   -- what follows the last argument of a request
   pub record ServePart (r : request.Request) (count p : ℕ) : Type 0 where
@@ -389,61 +248,27 @@ module _ (frame : Frame) where
     pub by : IsAt own.code p (Svc (request_number r)) end
     pub within : end < length own.code
 
-  -- a string comes to the array
-  pub record TextPart (b : Access) (t : Shape) (cs : List ℕ) (p : ℕ) (stack : List ℕ) : Type 0 where
-    pub count : ℕ
-    pub rows : t ≡ Row count (Word OfCharacter)
-    pub fits : length cs ≤ count
-    pub empty : stack ≡ []
-    pub offset : ℕ
-    pub text : HasText l cs offset
-    pub start : ℕ
-    pub last : ℕ
-    pub end : ℕ
-    pub address : InstrsAt own.code (address_code b) p start
-    pub source : IsAt own.code start (Lag offset) last
-    pub by : IsAt own.code last (Mvz (length cs) (count - length cs)) end
-    pub within : end < length own.code
+  -- the arguments of a request that are left, above so many words, and what follows the last one
+  pub record LeftPart (r : request.Request) (done : List Bool) (left : List Argument) (count p : ℕ) : Type 0 where
+    pub middle : ℕ
+    pub given : ArgumentsAt l own.code count left p middle
+    pub forms : TakesAll r done left
+    pub serve : ServePart r (count + arguments_words left) middle
 
-  -- the record of a WITH is there
-  pub record HoldPart (b : Access) (t : Shape) (body : Statements) (p : ℕ) (stack : List ℕ) (a : Around) : Type 0 where
-    pub there : is_there t ≡ true
-    pub empty : stack ≡ []
-    pub room : loop_place a.taken + 1 ≤ l.frame
-    pub start : ℕ
-    pub kept : ℕ
-    pub end : ℕ
-    pub address : InstrsAt own.code (address_code b) p start
-    pub keep : IsAt own.code start (Slw (loop_place a.taken)) kept
-    pub inner : BodyAt (holding l t (loop_place a.taken)) own.code (suc (a.taken)) a.exit body kept end
-    pub within : end < length own.code
-
-  -- a choice of two parts
-  pub record ChoosePart (j : Kind) (first second : Statements) (p : ℕ) (stack : List ℕ) (a : Around) : Type 0 where
-    pub same : j ≡ OfTruth
+  -- behind an expression of a statement
+  pub record ValuePart (a : Around) (whole : Expression → Statement) (to : (e : Expression) (p q : ℕ) → StatementAt l own.code (a.taken) a.exit (whole e) p q → ℕ) (j : Kind) (p : ℕ) (stack : List ℕ) : Type 0 where
     pub of : Expression
+    pub same : j ≡ kind_of of
     pub from : ℕ
-    pub did : DoPart (If of first second) from stack a
-    pub at : p ≡ did.here.middle
+    pub did : DoPart (whole of) from stack a
+    pub at : p ≡ to of from did.end did.here
 
-  -- the condition of a WHILE is there
-  pub record TurnPart (j : Kind) (e : Expression) (body : Statements) (p : ℕ) (stack : List ℕ) (a : Around) : Type 0 where
+  -- behind the condition of a loop
+  pub record TestPart (s : Statement) (a : Around) (to : (p q : ℕ) → StatementAt l own.code (a.taken) a.exit s p q → ℕ) (j : Kind) (p : ℕ) (stack : List ℕ) : Type 0 where
     pub same : j ≡ OfTruth
     pub from : ℕ
-    pub did : DoPart (While e body) from stack a
-    pub at : p ≡ did.here.middle
-
-  -- the condition of a REPEAT is to come, or is there
-  pub record UntilPart (body : Statements) (e : Expression) (p : ℕ) (stack : List ℕ) (a : Around) : Type 0 where
-    pub from : ℕ
-    pub did : DoPart (Repeat body e) from stack a
-    pub at : p ≡ did.here.end
-
-  pub record AgainPart (j : Kind) (body : Statements) (e : Expression) (p : ℕ) (stack : List ℕ) (a : Around) : Type 0 where
-    pub same : j ≡ OfTruth
-    pub from : ℕ
-    pub did : DoPart (Repeat body e) from stack a
-    pub at : p ≡ did.here.middle
+    pub did : DoPart s from stack a
+    pub at : p ≡ to from did.end did.here
 
   -- the end of a LOOP's body: what is around the body, and what is around the LOOP
   pub record LoopingWaits (body : Statements) (rest : Reach) (t : Mode) (p : ℕ) (stack : List ℕ) (c : ℕ) (a : Around) : Type 0 where
@@ -457,24 +282,6 @@ module _ (frame : Frame) where
     pub again : StatementAt l own.code (outer.taken) outer.exit (Loop body) top end
     pub within : end < length own.code
     pub then : rest Quiet end [] c outer
-
-  -- the selector of a CASE is there
-  pub record PickPart (j : Kind) (arms : Arms) (p : ℕ) (stack : List ℕ) (a : Around) : Type 0 where
-    pub of : Expression
-    pub same : j ≡ kind_of of
-    pub from : ℕ
-    pub did : DoPart (Case of arms) from stack a
-    pub at : p ≡ did.here.middle
-
-  -- the start of a FOR is there, and then its limit
-  pub record StartPart (j : Kind) (x : ℕ) (k : Kind) (b : Expression) (step : ℤ) (body : Statements) (p : ℕ) (stack : List ℕ) (a : Around) : Type 0 where
-    pub takes : takes_value k j ≡ true
-    pub empty : stack ≡ []
-    pub last : ℕ
-    pub end : ℕ
-    pub limit : WholeRow l own.code 1 b (base_of k) p last
-    pub turns : TurnsRow l own.code (a.taken) x k j step (BodyAt l own.code (3 + a.taken) a.exit body) last end
-    pub within : end < length own.code
 
 -- what they need of the home too
 module _ (ctx : Setting) where
@@ -493,14 +300,12 @@ module _ (ctx : Setting) where
     pub is : stack ≡ word_for h v ∷ below
 
   pub record RightPart (j : Kind) (o : TwoOp) (k : Kind) (u : Scalar) (p : ℕ) (stack : List ℕ) : Type 0 where
-    pub same : j ≡ right_kind o k
-    pub takes : takes_two o k ≡ true
+    pub left : Expression
+    pub below : List ℕ
+    pub row : OperandPart active (Two o k left) (λ f p q r. r.last) j p below
     pub fits : within k u ≡ true
     pub refers : Refers h k u
-    pub below : List ℕ
     pub is : stack ≡ word_for h u ∷ below
-    pub end : ℕ
-    pub by : InstrsAt own.code (two_code o k) p end
 
   -- a set on an expression stack
   pub record HasSet (u : Scalar) (stack below : List ℕ) : Type 0 where
@@ -509,56 +314,35 @@ module _ (ctx : Setting) where
 
   -- the number that a set gets is there
   pub record MemberPart (j : Kind) (u : Scalar) (k : Kind) (p : ℕ) (stack : List ℕ) : Type 0 where
-    pub element : is_element k ≡ true
-    pub takes : takes_value k j ≡ true
+    pub to : Expression
     pub below : List ℕ
+    pub row : OperandPart active (With to k) (λ e p q r. r.middle) j p below
     pub set : HasSet u stack below
-    pub room : length below + 3 ≤ 16
-    pub tested : ℕ
-    pub end : ℕ
-    pub test : InstrsAt own.code (test_code k j) p tested
-    pub by : InstrsAt own.code (Dup ∷ Spn ∷ []) tested end
 
   -- the first of the numbers is there, and the last is to come
   pub record FromPart (j : Kind) (u : Scalar) (k : Kind) (f : Expression) (p : ℕ) (stack : List ℕ) : Type 0 where
-    pub element : is_element k ≡ true
-    pub takes : takes_value k j ≡ true
-    pub takes_last : takes_value k (kind_of f) ≡ true
+    pub to : Expression
     pub below : List ℕ
+    pub row : OperandPart active (λ e. WithSpan to k e f) (λ e p q r. r.middle) j p below
     pub set : HasSet u stack below
-    pub tested : ℕ
-    pub last : ℕ
-    pub after : ℕ
-    pub end : ℕ
-    pub test : InstrsAt own.code (test_code k j) p tested
-    pub last_value : ExpressionAt l own.code f tested last
-    pub last_shallow : length below + 2 + depth f ≤ 16
-    pub last_test : InstrsAt own.code (test_code k (kind_of f)) last after
-    pub by : IsAt own.code after Spn end
 
   -- both are there
   pub record ToPart (j : Kind) (u : Scalar) (k : Kind) (v : Scalar) (p : ℕ) (stack : List ℕ) : Type 0 where
-    pub element : is_element k ≡ true
-    pub takes : takes_value k j ≡ true
+    pub to : Expression
+    pub first : Expression
+    pub below : List ℕ
+    pub row : OperandPart active (WithSpan to k first) (λ f p q r. r.last) j p below
     pub low_fits : within k v ≡ true
     pub under : List ℕ
     pub is : stack ≡ word_for h v ∷ under
-    pub below : List ℕ
     pub set : HasSet u under below
-    pub after : ℕ
-    pub end : ℕ
-    pub test : InstrsAt own.code (test_code k j) p after
-    pub by : IsAt own.code after Spn end
 
+  -- the limit of a FOR is there
   pub record LimitPart (j : Kind) (x : ℕ) (k : Kind) (v : Scalar) (step : ℤ) (body : Statements) (p : ℕ) (stack : List ℕ) (a : Around) : Type 0 where
-    pub same : j ≡ base_of k
-    pub from : Kind
-    pub takes : takes_value k from ≡ true
-    pub fits : within from v ≡ true
-    pub stack_is : stack ≡ word_for h v ∷ []
-    pub end : ℕ
-    pub turns : TurnsRow l own.code (a.taken) x k from step (BodyAt l own.code (3 + a.taken) a.exit body) p end
-    pub within : end < length own.code
+    pub first : Expression
+    pub row : ValuePart active a (λ b. For x k first b step body) (λ b p q r. r.last) j p []
+    pub fits : within (kind_of first) v ≡ true
+    pub is : stack ≡ word_for h v ∷ []
 
   -- the turns of a FOR are to begin: its bounds stand on the expression stack
   pub record BeginWaits (x : ℕ) (k : Kind) (first step : ℤ) (left : ℕ) (body : Statements) (rest : Reach) (t : Mode) (p : ℕ) (stack : List ℕ) (c : ℕ) (a : Around) : Type 0 where
@@ -610,78 +394,65 @@ module _ (ctx : Setting) where
     pub there : is_there t ≡ true
     pub at : Reaches own.base b (address h place) stack below
 
+  -- the place of a designator
+  abbrev pub Designates : Designator → Place → List ℕ → List ℕ → Type 0
+  Designates d place stack below = HasPlace (access_of l d) place (shape_of l.scope d) stack below
+
   pub record FoundPart (place : Place) (stack : List ℕ) : Type 0 where
-    pub access : Access
-    pub shape : Shape
+    pub of : Designator
     pub below : List ℕ
-    pub has : HasPlace access place shape stack below
+    pub has : Designates of place stack below
 
   -- the index of an element is there
   pub record IndexAtPart (j : Kind) (place : Place) (k : Kind) (p : ℕ) (stack : List ℕ) : Type 0 where
-    pub takes : takes_value k j ≡ true
-    pub element : Shape
+    pub of : Designator
+    pub index : Expression
+    pub same : j ≡ kind_of index
+    pub from : ℕ
     pub below : List ℕ
-    pub has : HasPlace OnTop place (Row (numbers k) element) stack below
-    pub there : is_there element ≡ true
-    pub tested : ℕ
-    pub end : ℕ
-    pub test : InstrsAt own.code (test_code k j) p tested
-    pub by : IsAt own.code tested (Ixc (cut (word_of (least k))) (words element)) end
+    pub did : PlacePart active (Element of k index) from below
+    pub at : p ≡ did.here.middle
+    pub has : HasPlace OnTop place (Row (numbers k) (element_of (shape_of l.scope of))) stack below
 
-  pub record StorePart (j : Kind) (place : Place) (k : Kind) (p : ℕ) (stack : List ℕ) : Type 0 where
-    pub stores : stores_value k j ≡ true
-    pub access : Access
-    pub ready : readied access ≡ access
-    pub has : HasPlace access place (Word k) stack []
-    pub middle : ℕ
-    pub end : ℕ
-    pub test : InstrsAt own.code (test_code k j) p middle
-    pub store : IsAt own.code middle (store_code access) end
-    pub within : end < length own.code
+  -- the value that is stored is there
+  pub record StorePart (j : Kind) (place : Place) (k : Kind) (p : ℕ) (stack : List ℕ) (a : Around) : Type 0 where
+    pub of : Designator
+    pub value : Expression
+    pub same : j ≡ kind_of value
+    pub amid : AmidPart active (Assign of k value) a (λ p q r. r.value.middle) p
+    pub has : HasPlace (readied (access_of l of)) place (Word k) stack []
 
   -- the place of what is copied is there
-  pub record CopyFromPart (b : Access) (t : Shape) (to : Place) (p : ℕ) (stack : List ℕ) : Type 0 where
-    pub has : HasPlace OnTop to t stack []
-    pub last : ℕ
-    pub end : ℕ
-    pub address : InstrsAt own.code (address_code b) p last
-    pub by : IsAt own.code last (Mov (words t)) end
-    pub within : end < length own.code
+  pub record CopyFromPart (from : Designator) (to : Place) (p : ℕ) (stack : List ℕ) (a : Around) : Type 0 where
+    pub of : Designator
+    pub amid : AmidPart active (Copy of from) a (λ p q r. r.middle) p
+    pub has : HasPlace OnTop to (shape_of l.scope from) stack []
 
   -- the number that a set gets or loses is there
-  pub record MemberAtPart (j : Kind) (out : Bool) (place : Place) (k : Kind) (p : ℕ) (stack : List ℕ) : Type 0 where
-    pub element : is_element k ≡ true
-    pub takes : takes_value k j ≡ true
+  pub record MemberAtPart (j : Kind) (out : Bool) (place : Place) (k : Kind) (p : ℕ) (stack : List ℕ) (a : Around) : Type 0 where
+    pub of : Designator
+    pub value : Expression
+    pub same : j ≡ kind_of value
+    pub amid : AmidPart active (Member out of k value) a (λ p q r. r.value.middle) p
     pub has : HasPlace OnTop place (Word OfSet) stack []
-    pub tested : ℕ
-    pub end : ℕ
-    pub test : InstrsAt own.code (test_code k j) p tested
-    pub by : IsAt own.code tested (member_code out) end
-    pub within : end < length own.code
 
   -- the number of words of a workspace is there
-  pub record AllocateAtPart (j : Kind) (back : Bool) (place : Place) (p : ℕ) (stack : List ℕ) : Type 0 where
-    pub takes : takes_value (OfWhole Cardinal) j ≡ true
+  pub record AllocateAtPart (j : Kind) (back : Bool) (place : Place) (p : ℕ) (stack : List ℕ) (a : Around) : Type 0 where
+    pub of : Designator
+    pub value : Expression
+    pub same : j ≡ kind_of value
+    pub amid : AmidPart active (Allocate back of value) a (λ p q r. r.value.middle) p
     pub has : HasPlace OnTop place (Word (OfPointer Workspaces)) stack []
-    pub tested : ℕ
-    pub end : ℕ
-    pub test : InstrsAt own.code (test_code (OfWhole Cardinal) j) p tested
-    pub by : InstrsAt own.code (allocate_code back) tested end
-    pub within : end < length own.code
 
   -- the number that INC or DEC takes is there
-  pub record ChangePart (j : Kind) (down : Bool) (place : Place) (k : Kind) (p : ℕ) (stack : List ℕ) : Type 0 where
-    pub same : j ≡ OfWhole (counted_as k)
-    pub base : is_base (base_of k) ≡ true
-    pub plain : is_plain k ≡ true
-    pub access : Access
-    pub ready : readied access ≡ access
+  pub record ChangePart (j : Kind) (down : Bool) (place : Place) (k : Kind) (p : ℕ) (stack : List ℕ) (a : Around) : Type 0 where
+    pub of : Designator
+    pub value : Expression
+    pub same : j ≡ kind_of value
+    pub amid : AmidPart active (Change down of k value) a (λ p q r. r.middle) p
     pub once : List ℕ
-    pub has : HasPlace access place (Word k) once []
-    pub twice : stack ≡ doubled access once
-    pub end : ℕ
-    pub by : InstrsAt own.code (change_code down k access) p end
-    pub within : end < length own.code
+    pub has : HasPlace (readied (access_of l of)) place (Word k) once []
+    pub twice : stack ≡ doubled (readied (access_of l of)) once
 
   -- an array, as the address and the number of the last element that an open array is
   pub record ArrayOn (place : Place) (high : ℕ) (stack below : List ℕ) : Type 0 where
@@ -713,77 +484,68 @@ module _ (ctx : Setting) where
     pub on : DataOn done stack []
     pub tested : ℕ
     pub test : InstrsAt own.code (test_code k j) p tested
-    pub middle : ℕ
-    pub given : ArgumentsAt l own.code (suc (length stack)) left tested middle
-    pub forms : TakesAll r (map is_array done ++ false ∷ []) left
-    pub serve : ServePart active r (suc (length stack) + arguments_words left) middle
+    pub rest : LeftPart active r (map is_array done ++ false ∷ []) left (1 + length stack) tested
 
   -- its place is there, an array
-  pub record PassArrayPart (b : Access) (t : Shape) (r : request.Request) (high : ℕ) (done : List Datum) (left : List Argument) (p : ℕ) (stack : List ℕ) : Type 0 where
-    pub rows : t ≡ Row (suc high) (Word OfCharacter)
+  pub record PassArrayPart (d : Designator) (r : request.Request) (high : ℕ) (done : List Datum) (left : List Argument) (p : ℕ) (stack : List ℕ) : Type 0 where
+    pub rows : shape_of l.scope d ≡ Row (suc high) (Word OfCharacter)
     pub room : length stack + 2 ≤ 16
     pub on : DataOn done stack []
     pub start : ℕ
     pub last : ℕ
-    pub address : InstrsAt own.code (address_code b) p start
+    pub address : InstrsAt own.code (address_code (access_of l d)) p start
     pub by : IsAt own.code start (Liw high) last
-    pub middle : ℕ
-    pub given : ArgumentsAt l own.code (2 + length stack) left last middle
-    pub forms : TakesAll r (map is_array done ++ true ∷ []) left
-    pub serve : ServePart active r (2 + length stack + arguments_words left) middle
+    pub rest : LeftPart active r (map is_array done ++ true ∷ []) left (2 + length stack) last
 
   pub record PassingPart (r : request.Request) (done : List Datum) (left : List Argument) (p : ℕ) (stack : List ℕ) : Type 0 where
     pub on : DataOn done stack []
-    pub middle : ℕ
-    pub given : ArgumentsAt l own.code (length stack) left p middle
-    pub forms : TakesAll r (map is_array done) left
-    pub serve : ServePart active r (length stack + arguments_words left) middle
+    pub rest : LeftPart active r (map is_array done) left (length stack) p
 
   -- what an item needs, by what comes from the items before
   abbrev pub needs : Mode → Item → ℕ → List ℕ → Around → Part
   needs Quiet (Value (Scalars v)) p stack a = part (ScalarPart v stack) (λ r. on (ValueOf r.kind) p r.below)
-  needs Quiet (Value (Places place)) p stack a = part (FoundPart place stack) (λ r. on (AtPlace r.access r.shape) p r.below)
+  needs Quiet (Value (Places place)) p stack a = part (FoundPart place stack) (λ r. on (AtPlace r.of) p r.below)
   needs Quiet (Evaluate e) p stack a = part (EvaluatePart active e p stack) (λ r. on (ValueOf (kind_of e)) r.end stack)
-  needs Quiet (PlaceOf d) p stack a = part (PlacePart active d p stack) (λ r. on (AtPlace (access_of l d) (shape_of l.scope d)) r.end stack)
+  needs Quiet (PlaceOf d) p stack a = part (PlacePart active d p stack) (λ r. on (AtPlace d) r.end stack)
   needs Quiet (Perform (Do s)) p stack a = part (DoPart active s p stack a) (λ r. on Quiet r.end [])
-  needs Quiet (Perform (Passing q done left)) p stack a = part (PassingPart q done left p stack) (λ r. on Quiet r.serve.end [])
-  needs Quiet (Perform (Until body e)) p stack a = part (UntilPart active body e p stack a) (λ r. on Quiet r.did.end [])
-  needs (AtPlace b t) (Fill Get) p stack a = part (GetPart active b t p stack) (λ r. on (ValueOf (base_of r.kind)) r.end stack)
-  needs (AtPlace b t) (Fill (PartOf i)) p stack a = part (is_there (part_at t (i ∷ [])) ≡ true) (λ r. on (AtPlace (further (offset t (i ∷ [])) b) (part_at t (i ∷ []))) p stack)
-  needs (AtPlace b t) (Fill (IndexBy k e)) p stack a = part (IndexByPart active b t k e p stack) (λ r. on (AtPlace OnTop (element_of t)) r.end stack)
-  needs (AtPlace b t) (Fill Pointed) p stack a = part (PointedPart active b t p stack) (λ r. on (AtPlace OnTop (shape_at l.scope.targets r.number)) r.end stack)
-  needs (AtPlace b t) (Fill (NewAt n)) p stack a = part (NewPart active b t n p stack) (λ r. on Quiet r.end [])
-  needs (AtPlace b t) (Fill (AllocateBy back e)) p stack a = part (AllocateByPart active b t back e p stack) (λ r. on Quiet r.end [])
-  needs (AtPlace b t) (Fill (SetTo k e)) p stack a = part (SetPart active b t k e p stack) (λ r. on Quiet r.end [])
-  needs (AtPlace b t) (Fill (CopyTo from)) p stack a = part (CopyToPart active b t from p stack) (λ r. on Quiet r.end [])
-  needs (AtPlace b t) (Fill (CopyFrom to)) p stack a = part (CopyFromPart b t to p stack) (λ r. on Quiet r.end [])
-  needs (AtPlace b t) (Fill (TextTo cs)) p stack a = part (TextPart active b t cs p stack) (λ r. on Quiet r.end [])
-  needs (AtPlace b t) (Fill (PassArray q high done left)) p stack a = part (PassArrayPart b t q high done left p stack) (λ r. on Quiet r.serve.end [])
-  needs (AtPlace b t) (Fill (Hold body)) p stack a = part (HoldPart active b t body p stack a) (λ r. on Quiet r.end [])
-  needs (AtPlace b t) (Fill (ChangeBy down k e)) p stack a = part (ChangeByPart active b t down k e p stack) (λ r. on Quiet r.end [])
-  needs (AtPlace b t) (Fill (MemberBy out k e)) p stack a = part (MemberByPart active b t out k e p stack) (λ r. on Quiet r.end [])
-  needs (ValueOf j) (Fill (MemberAt out place k)) p stack a = part (MemberAtPart j out place k p stack) (λ r. on Quiet r.end [])
-  needs (ValueOf j) (Fill (AllocateAt back place)) p stack a = part (AllocateAtPart j back place p stack) (λ r. on Quiet r.end [])
-  needs (ValueOf j) (Fill (WithMember k e)) p stack a = part (WithPart active j k e p stack) (λ r. on (ValueOf OfSet) r.end stack)
-  needs (ValueOf j) (Fill (MemberOf u k)) p stack a = part (MemberPart j u k p stack) (λ r. on (ValueOf OfSet) r.end r.below)
-  needs (ValueOf j) (Fill (WithMembers k e f)) p stack a = part (WithsPart active j k e f p stack) (λ r. on (ValueOf OfSet) r.end stack)
-  needs (ValueOf j) (Fill (MembersFrom u k f)) p stack a = part (FromPart j u k f p stack) (λ r. on (ValueOf OfSet) r.end r.below)
-  needs (ValueOf j) (Fill (MembersTo u k v)) p stack a = part (ToPart j u k v p stack) (λ r. on (ValueOf OfSet) r.end r.below)
-  needs (ValueOf j) (Fill (IndexAt place k)) p stack a = part (IndexAtPart j place k p stack) (λ r. on (AtPlace OnTop r.element) r.end r.below)
-  needs (ValueOf j) (Fill (ChangeAt down place k)) p stack a = part (ChangePart j down place k p stack) (λ r. on Quiet r.end [])
-  needs (ValueOf j) (Fill (StoreAt place k)) p stack a = part (StorePart j place k p stack) (λ r. on Quiet r.end [])
-  needs (ValueOf j) (Fill (OneOf o k)) p stack a = part (OnePart active j o k p) (λ r. on (ValueOf k) r.end stack)
-  needs (ValueOf j) (Fill (LeftOf o k f)) p stack a = part (LeftPart active j o k f p stack) (λ r. on (ValueOf (result_kind (is_relation o) k)) r.end stack)
-  needs (ValueOf j) (Fill (RightOf o k u)) p stack a = part (RightPart j o k u p stack) (λ r. on (ValueOf (result_kind (is_relation o) k)) r.end r.below)
-  needs (ValueOf j) (Fill (ShortOf d f)) p stack a = part (ShortPart active j d f p stack) (λ r. on (ValueOf OfTruth) r.end stack)
-  needs (ValueOf j) (Fill (ApplyTo f)) p stack a = part (ApplyPart active j f p stack) (λ r. on (ValueOf (function_kind f)) r.end stack)
-  needs (ValueOf j) (Fill (Pass q k done left)) p stack a = part (PassPart j q k done left p stack) (λ r. on Quiet r.serve.end [])
-  needs (ValueOf j) (Fill (Choose first second)) p stack a = part (ChoosePart active j first second p stack a) (λ r. on Quiet r.did.end [])
-  needs (ValueOf j) (Fill (Turn e body)) p stack a = part (TurnPart active j e body p stack a) (λ r. on Quiet r.did.end [])
-  needs (ValueOf j) (Fill (Again body e)) p stack a = part (AgainPart active j body e p stack a) (λ r. on Quiet r.did.end [])
-  needs (ValueOf j) (Fill (Pick arms)) p stack a = part (PickPart active j arms p stack a) (λ r. on Quiet r.did.end [])
-  needs (ValueOf j) (Fill (StartOf x k b step body)) p stack a = part (StartPart active j x k b step body p stack a) (λ r. on Quiet r.end [])
-  needs (ValueOf j) (Fill (LimitOf x k v step body)) p stack a = part (LimitPart j x k v step body p stack a) (λ r. on Quiet r.end [])
+  needs Quiet (Perform (Passing q done left)) p stack a = part (PassingPart q done left p stack) (λ r. on Quiet r.rest.serve.end [])
+  needs Quiet (Perform (Until body e)) p stack a = part (PlacedPart active (Repeat body e) a (λ p q r. r.end) p stack) (λ r. on Quiet r.amid.end [])
+  needs (AtPlace d) (Fill Get) p stack a = part (GetPart active d p stack) (λ r. on (ValueOf (base_of r.kind)) r.did.end stack)
+  needs (AtPlace d) (Fill (PartOf i)) p stack a = part (is_there (part_at (shape_of l.scope d) (i ∷ [])) ≡ true) (λ r. on (AtPlace (Field d i)) p stack)
+  needs (AtPlace d) (Fill (IndexBy k e)) p stack a = part (IndexByPart active d k e p stack) (λ r. on (AtPlace (Element d k e)) r.did.end stack)
+  needs (AtPlace d) (Fill Pointed) p stack a = part (PointedPart active d p stack) (λ r. on (AtPlace (Follow d r.number)) r.did.end stack)
+  needs (AtPlace d) (Fill (NewAt n)) p stack a = part (PlacedPart active (New d n) a (λ p q r. r.found) p stack) (λ r. on Quiet r.amid.end [])
+  needs (AtPlace d) (Fill (AllocateBy back e)) p stack a = part (PlacedPart active (Allocate back d e) a (λ p q r. r.found) p stack) (λ r. on Quiet r.amid.end [])
+  needs (AtPlace d) (Fill (SetTo k e)) p stack a = part (PlacedPart active (Assign d k e) a (λ p q r. r.target.found) p stack) (λ r. on Quiet r.amid.end [])
+  needs (AtPlace d) (Fill (CopyTo from)) p stack a = part (PlacedPart active (Copy d from) a (λ p q r. r.found) p stack) (λ r. on Quiet r.amid.end [])
+  needs (AtPlace d) (Fill (CopyFrom to)) p stack a = part (CopyFromPart d to p stack a) (λ r. on Quiet r.amid.end [])
+  needs (AtPlace d) (Fill (TextTo cs)) p stack a = part (PlacedPart active (Text d cs) a (λ p q r. r.found) p stack) (λ r. on Quiet r.amid.end [])
+  needs (AtPlace d) (Fill (PassArray q high done left)) p stack a = part (PassArrayPart d q high done left p stack) (λ r. on Quiet r.rest.serve.end [])
+  needs (AtPlace d) (Fill (Hold body)) p stack a = part (PlacedPart active (Inside d body) a (λ p q r. r.found) p stack) (λ r. on Quiet r.amid.end [])
+  needs (AtPlace d) (Fill (ChangeBy down k e)) p stack a = part (PlacedPart active (Change down d k e) a (λ p q r. r.target.found) p stack) (λ r. on Quiet r.amid.end [])
+  needs (AtPlace d) (Fill (MemberBy out k e)) p stack a = part (PlacedPart active (Member out d k e) a (λ p q r. r.found) p stack) (λ r. on Quiet r.amid.end [])
+  needs (ValueOf j) (Fill (MemberAt out place k)) p stack a = part (MemberAtPart j out place k p stack a) (λ r. on Quiet r.amid.end [])
+  needs (ValueOf j) (Fill (AllocateAt back place)) p stack a = part (AllocateAtPart j back place p stack a) (λ r. on Quiet r.amid.end [])
+  needs (ValueOf j) (Fill (WithMember k e)) p stack a = part (OperandPart active (λ u. With u k e) (λ u p q r. r.start) j p stack) (λ r. on (ValueOf OfSet) r.did.end stack)
+  needs (ValueOf j) (Fill (MemberOf u k)) p stack a = part (MemberPart j u k p stack) (λ r. on (ValueOf OfSet) r.row.did.end r.below)
+  needs (ValueOf j) (Fill (WithMembers k e f)) p stack a = part (OperandPart active (λ u. WithSpan u k e f) (λ u p q r. r.start) j p stack) (λ r. on (ValueOf OfSet) r.did.end stack)
+  needs (ValueOf j) (Fill (MembersFrom u k f)) p stack a = part (FromPart j u k f p stack) (λ r. on (ValueOf OfSet) r.row.did.end r.below)
+  needs (ValueOf j) (Fill (MembersTo u k v)) p stack a = part (ToPart j u k v p stack) (λ r. on (ValueOf OfSet) r.row.did.end r.below)
+  needs (ValueOf j) (Fill (IndexAt place k)) p stack a = part (IndexAtPart j place k p stack) (λ r. on (AtPlace (Element r.of k r.index)) r.did.end r.below)
+  needs (ValueOf j) (Fill (ChangeAt down place k)) p stack a = part (ChangePart j down place k p stack a) (λ r. on Quiet r.amid.end [])
+  needs (ValueOf j) (Fill (StoreAt place k)) p stack a = part (StorePart j place k p stack a) (λ r. on Quiet r.amid.end [])
+  needs (ValueOf j) (Fill (OneOf o k)) p stack a = part (OperandPart active (One o k) (λ e p q r. r.middle) j p stack) (λ r. on (ValueOf k) r.did.end stack)
+  needs (ValueOf j) (Fill (LeftOf o k f)) p stack a = part (OperandPart active (λ e. Two o k e f) (λ e p q r. r.middle) j p stack) (λ r. on (ValueOf (result_kind (is_relation o) k)) r.did.end stack)
+  needs (ValueOf j) (Fill (RightOf o k u)) p stack a = part (RightPart j o k u p stack) (λ r. on (ValueOf (result_kind (is_relation o) k)) r.row.did.end r.below)
+  needs (ValueOf j) (Fill (ShortOf d f)) p stack a = part (OperandPart active (λ e. Short d e f) (λ e p q r. r.middle) j p stack) (λ r. on (ValueOf OfTruth) r.did.end stack)
+  needs (ValueOf j) (Fill (ApplyTo f)) p stack a = part (OperandPart active (Apply f) (λ e p q r. r.middle) j p stack) (λ r. on (ValueOf (function_kind f)) r.did.end stack)
+  needs (ValueOf j) (Fill (Pass q k done left)) p stack a = part (PassPart j q k done left p stack) (λ r. on Quiet r.rest.serve.end [])
+  needs (ValueOf j) (Fill (Choose first second)) p stack a = part (ValuePart active a (λ e. If e first second) (λ e p q r. r.middle) j p stack) (λ r. on Quiet r.did.end [])
+  needs (ValueOf j) (Fill (Turn e body)) p stack a = part (TestPart active (While e body) a (λ p q r. r.middle) j p stack) (λ r. on Quiet r.did.end [])
+  needs (ValueOf j) (Fill (Again body e)) p stack a = part (TestPart active (Repeat body e) a (λ p q r. r.middle) j p stack) (λ r. on Quiet r.did.end [])
+  needs (ValueOf j) (Fill (Pick arms)) p stack a = part (ValuePart active a (λ e. Case e arms) (λ e p q r. r.middle) j p stack) (λ r. on Quiet r.did.end [])
+  needs (ValueOf j) (Fill (StartOf x k b step body)) p stack a = part (ValuePart active a (λ e. For x k e b step body) (λ e p q r. r.middle) j p stack) (λ r. on Quiet r.did.end [])
+  needs (ValueOf j) (Fill (LimitOf x k v step body)) p stack a = part (LimitPart j x k v step body p stack a) (λ r. on Quiet r.row.did.end [])
   needs t i p stack a = never
 
   abbrev pub Waiting : Item → Reach → Reach

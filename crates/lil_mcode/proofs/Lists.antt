@@ -1,7 +1,6 @@
 -- Reversed lists.
 use Rattle.std.proofs.Common.{◌≡◌, ℕ, ◌-◌, ◌≤◌, List, [], ◌∷◌, ◌++◌, length, take, drop, reverse, sym, ap, ◌∙◌, arith}
-use Rattle.std.proofs.lemmas.List.{reverse-append, length-reverse, take-append-drop, length-drop}
-use Rattle.std.proofs.Math.Seq.{drop-append_seam}
+use Rattle.std.proofs.{lemmas.List.{reverse-append, length-reverse, take-append-drop, length-drop}, Math.Seq.drop-append_seam}
 
 pub drop_reverse : (k : ℕ) (xs : List ℕ) → k ≤ length xs → drop k (reverse xs) ≡ reverse (take (length xs - k) xs)
 drop_reverse k xs h =

@@ -1,12 +1,8 @@
 -- One more module behind those that are loaded.
 use Rattle.std.proofs.Common.{◌≡◌, ℕ, ◌+◌, ◌-◌, ◌≤◌, List, [], ◌∷◌, ◌++◌, length, map, drop, refl, sym, ap, ◌∙◌, arith}
 use Rattle.std.proofs.lemmas.List.{map-append, length-drop, length-take-le}
-use Rattle.lil_mcode.specs.declared.processor.LoadedModule.{LoadedModule}
-use Rattle.lil_mcode.specs.Table.{Module}
-use Rattle.lil_frames.specs.Words.{spliced}
-use Rattle.lil_mcode.specs.Loaded.{part_of, module_of, Lies}
-use Rattle.lil_mcode.specs.Calls.{code_used}
-use Rattle.lil_frames.specs.WordLaws.{before_spliced, at_spliced}
+use Rattle.lil_mcode.specs.{declared.processor.LoadedModule.LoadedModule, Table.Module, Loaded.{part_of, module_of, Lies}, Calls.code_used}
+use Rattle.lil_frames.specs.{Words.spliced, WordLaws.{before_spliced, at_spliced}}
 use Rattle.lil_mcode.proofs.Steps.{lies_up}
 
 -- the same module with another code

@@ -1,15 +1,8 @@
 -- A step is the row of the instruction that was fetched.
 use Rattle.std.proofs.Common.{◌≡◌, ℕ, zero, suc, ◌+◌, ◌≤◌, ◌&&◌, nat_lt, nat_le, List, [], ◌∷◌, ◌++◌, ◌<◌, length, map, Option, None, Some, slice_get, take, drop, option_map, is_some, refl, sym, ap, ◌∙◌, subst, arith, ◌-◌}
-use Rattle.std.proofs.lemmas.Bool.Decides.{nat_tests}
-use Rattle.std.proofs.lemmas.List.{length-map, length-append}
-use Rattle.std.proofs.lemmas.Option.{slice_get-map}
-use Rattle.lil_asm.specs.declared.instr.Instr.{Instr}
-use Rattle.lil_asm.specs.declared.instr.Instr.TheVariants.{Liw}
-use Rattle.lil_mcode.specs.declared.processor.LoadedModule.{LoadedModule}
-use Rattle.lil_asm.specs.Bytes.{decoded}
-use Rattle.lil_mcode.specs.Table.{Module, State, module_at, act, performed, fetched, frame_out, link_word}
-use Rattle.lil_mcode.specs.Loaded.{module_of, loaded_at, Lies, IsPartOf, Runs}
-use Rattle.lil_mcode.specs.Fetch.{code_in, base_in, running_code, based, current}
+use Rattle.std.proofs.lemmas.{Bool.Decides.nat_tests, List.{length-map, length-append}, Option.slice_get-map}
+use Rattle.lil_asm.specs.{declared.instr.Instr.{Instr, TheVariants.Liw}, Bytes.decoded}
+use Rattle.lil_mcode.specs.{declared.processor.LoadedModule.LoadedModule, Table.{Module, State, module_at, act, performed, fetched, frame_out, link_word}, Loaded.{module_of, loaded_at, Lies, IsPartOf, Runs}, Fetch.{code_in, base_in, running_code, based, current}}
 
 based_acts : (i : Instr) (q : ℕ) (m : Module) (s : State) → act i q m s ≡ act i q (based m.base m.code) s
 based_acts (Liw w) q m s = refl

@@ -1,12 +1,9 @@
 -- Results as words, and the step of a loop that goes down.
 use Rattle.std.proofs.Common.{◌≡◌, ℕ, ◌-◌, ◌<◌, ◌≤◌, ℤ, pos, negsuc, ◌-ℤ◌, neg_ℤ, int_lt, nat_lt, FitsSigned, to_z, of_z, Bool, true, false, if◌then◌else◌, Result, Ok, Err, arith, refl, sym, ap, subst, ◌∙◌}
 use Rattle.std.specs.Int.{w16, w32}
-use Rattle.std.proofs.lemmas.Int.{ints}
-use Rattle.std.proofs.lemmas.Bool.{cond-true, ltb-true, ltb-false}
-use Rattle.lil_base.specs.declared.fault.ArithFault.{ArithFault}
-use Rattle.lil_base.specs.Words.{Whole, Cardinal, Integer, number_of, cardinal_result}
-use Rattle.lil_mcode.specs.Control.{turns, turns_up}
-use Rattle.lil_mcode.specs.Operators.{word_result}
+use Rattle.std.proofs.lemmas.{Int.ints, Bool.{cond-true, ltb-true, ltb-false}}
+use Rattle.lil_base.specs.{declared.fault.ArithFault.ArithFault, Words.{Whole, Cardinal, Integer, number_of, cardinal_result}}
+use Rattle.lil_mcode.specs.{Control.{turns, turns_up}, Operators.word_result}
 
 pub of_cardinal : (r : Result ℕ ArithFault) (v : Result ℤ ArithFault) → cardinal_result r ≡ v → r ≡ word_result v
 of_cardinal (Ok n) v h = cc

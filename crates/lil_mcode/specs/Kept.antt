@@ -1,8 +1,7 @@
 -- What the calls of the loader make of the state alone.
 use Rattle.std.specs.Prelude.{ℕ, ◌+◌, ◌&&◌, nat_le, nat_lt, Bool, List, [], ◌∷◌, ◌++◌, Option, None, Some}
-use Rattle.lil_mcode.specs.Table.{State, Module, module_at}
+use Rattle.lil_mcode.specs.{Table.{State, Module, module_at}, Calls.begun_state}
 use Rattle.lil_frames.specs.Words.{cleared}
-use Rattle.lil_mcode.specs.Calls.{begun_state}
 
 -- one more module behind the others
 abbrev pub with_loaded : State → Module → State

@@ -1,7 +1,6 @@
 -- How the tables of the machine make the modules that are loaded.
 use Rattle.std.specs.Prelude.{◌≡◌, ℕ, zero, suc, ◌+◌, ◌≤◌, List, [], ◌∷◌, length, take, drop, Option, None, Some, slice_get}
-use Rattle.lil_mcode.specs.declared.processor.LoadedModule.{LoadedModule}
-use Rattle.lil_mcode.specs.Table.{Module}
+use Rattle.lil_mcode.specs.{declared.processor.LoadedModule.LoadedModule, Table.Module}
 
 -- the part of the code store that is a module's code
 abbrev pub part_of : List ℕ → LoadedModule → List ℕ

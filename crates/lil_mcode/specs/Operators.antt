@@ -1,18 +1,8 @@
 -- What the operators and comparisons of the processor compute.
 use Rattle.std.specs.Prelude.{ℕ, ℤ, Bool, List, ◌∷◌, Result, Ok, Err}
-use Rattle.lil_base.specs.Words.{Whole, Cardinal, Integer, sum, difference, product, quotient, remainder, word_of}
-use Rattle.lil_base.specs.Sets.{union, minus, meet, apart, is_within}
-use Rattle.lil_base.specs.Traps.{arith_trap}
-use Rattle.lil_base.specs.declared.fault.ArithFault.{ArithFault}
-use Rattle.lil_mcode.specs.declared.arithmetic.Operator.{Operator}
-use Rattle.lil_mcode.specs.declared.arithmetic.Operator.TheVariants.{Sum, Difference, Product, Quotient, Remainder}
-use Rattle.lil_mcode.specs.declared.arithmetic.Comparison.{Comparison}
-use Rattle.lil_mcode.specs.declared.arithmetic.Comparison.TheVariants.{Equal, Unequal, LessCardinal, AtMostCardinal, LessInteger, AtMostInteger, Member, Within}
-use Rattle.lil_mcode.specs.declared.arithmetic.Joining.{Joining}
-use Rattle.lil_mcode.specs.declared.arithmetic.Joining.TheVariants.{Union, Minus, Meet, Apart}
-use Rattle.lil_mcode.specs.declared.machine.Event.{Event}
-use Rattle.lil_mcode.specs.declared.machine.Event.TheVariants.{Went, Trap}
-use Rattle.lil_mcode.specs.Table.{State, equal, unequal, less, at_most, is_member, going}
+use Rattle.lil_base.specs.{Words.{Whole, Cardinal, Integer, sum, difference, product, quotient, remainder, word_of}, Sets.{union, minus, meet, apart, is_within}, Traps.arith_trap, declared.fault.ArithFault.ArithFault}
+use Rattle.lil_mcode.specs.declared.{arithmetic.{Operator.{Operator, TheVariants.{Sum, Difference, Product, Quotient, Remainder}}, Comparison.{Comparison, TheVariants.{Equal, Unequal, LessCardinal, AtMostCardinal, LessInteger, AtMostInteger, Member, Within}}, Joining.{Joining, TheVariants.{Union, Minus, Meet, Apart}}}, machine.Event.Event}
+use Rattle.lil_mcode.specs.{declared.machine.Event.TheVariants.{Went, Trap}, Table.{State, equal, unequal, less, at_most, is_member, going}}
 
 abbrev pub operator_of : Operator → Whole → ℤ → ℤ → Result ℤ ArithFault
 operator_of Sum = sum

@@ -2,10 +2,7 @@
 use Rattle.std.proofs.Common.{◌≡◌, ◌≤◌, length, true, subst}
 use Rattle.lil_base.specs.declared.request.Request as request
 use Rattle.lil_asm.specs.Requests.{request_words}
-use Rattle.lil_mcode.specs.declared.machine.Event.{Event}
-use Rattle.lil_mcode.specs.declared.machine.Event.TheVariants.{Went, Request, LevelEnded, Trap, Limit, BadCode}
-use Rattle.lil_mcode.specs.Table.{State, array_lies, mstep}
-use Rattle.lil_mcode.specs.Outcomes.{step_has}
+use Rattle.lil_mcode.specs.{declared.machine.Event.{Event, TheVariants.{Went, Request, LevelEnded, Trap, Limit, BadCode}}, Table.{State, array_lies, mstep}, Outcomes.step_has}
 
 -- where an event is a request, its words stand on the stack of t, and its array lies in the store
 abbrev pub Asks : Event → State → Type 0

@@ -1,9 +1,6 @@
 -- A trap, a limit and bad code change nothing.
 use Rattle.std.proofs.Common.{◌≡◌, refl, subst}
-use Rattle.lil_mcode.specs.declared.machine.Event.{Event}
-use Rattle.lil_mcode.specs.declared.machine.Event.TheVariants.{Trap, Limit, BadCode}
-use Rattle.lil_mcode.specs.Table.{State, mstep}
-use Rattle.lil_mcode.specs.Outcomes.{Holds, step_has}
+use Rattle.lil_mcode.specs.{declared.machine.Event.{Event, TheVariants.{Trap, Limit, BadCode}}, Table.{State, mstep}, Outcomes.{Holds, step_has}}
 
 -- an event with which nothing was done
 abbrev pub IsStop : Event → Type 0

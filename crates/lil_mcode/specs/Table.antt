@@ -1,21 +1,13 @@
 -- The machine: its state, and what each instruction does to it.
 use Rattle.std.specs.Prelude.{ℕ, zero, suc, List, [], ◌∷◌, Bool, Option, None, slice_get, ◌+◌, ◌-◌, ◌*◌, ◌%◌, ℤ, true, not, length, Some, Result, Ok, Err, ◌&&◌, nat_lt, nat_le, ◌==◌, if◌then◌else◌, slice_index, slice_set, is_some, option_map, int_lt}
-use Rattle.lil_base.specs.Words.{Whole, Cardinal, Integer, sum, difference, product, quotient, remainder, negation, absolute, between, number_of, word_of}
-use Rattle.lil_base.specs.declared.fault.ArithFault.{ArithFault}
-use Rattle.lil_base.specs.Sets.{has, union, minus, meet, apart, span, is_within}
-use Rattle.lil_base.specs.Traps.{arith_trap}
-use Rattle.lil_base.specs.declared.fault.TrapKind.{TrapKind}
+use Rattle.lil_base.specs.{Words.{Whole, Cardinal, Integer, sum, difference, product, quotient, remainder, negation, absolute, between, number_of, word_of}, declared.fault.{ArithFault.ArithFault, TrapKind.TrapKind}, Sets.{has, union, minus, meet, apart, span, is_within}, Traps.arith_trap, Requests.{request_with, takes_array}}
 use Rattle.lil_base.specs.declared.fault.TrapKind.TheVariants as trap
 use Rattle.lil_base.specs.declared.fault.LimitKind.TheVariants as limit
 use Rattle.lil_asm.specs.declared.instr.Instr.{Instr}
 use Rattle.lil_asm.specs.declared.instr.Instr.TheVariants.{Liw, Lib, Dup, Drp, Swp, Lis, Llw, Llb, Slw, Slb, Lgw, Lgb, Sgw, Sgb, Lal, Lag, Ldi, Sti, Ldf, Adf, Mov, Mvz, Nlt, Ixc, Ixo, Rgc, Rgi, Cap, Adc, Sbc, Mlc, Dvc, Mdc, Adi, Sbi, Mli, Dvi, Mdi, Ngi, Abi, Uni, Dif, Its, Sym, Sin, Spn, Icl, Ecl, Sle, Not, Equ, Neq, Lsc, Lec, Lsi, Lei, Mrk, Cll, Ent, Rtn, Jmp, Jpf, Jan, Jor, Jms, Jfs, Cas, Fri, Frn, Trp, Alc, Svc}
-use Rattle.lil_mcode.specs.declared.machine.Event.{Event}
-use Rattle.lil_mcode.specs.declared.machine.Event.TheVariants.{Went, Request, LevelEnded, Trap, Limit, BadCode}
-use Rattle.lil_base.specs.Requests.{request_with, takes_array}
+use Rattle.lil_asm.specs.{Requests.request_words, Bytes.decoded}
+use Rattle.lil_mcode.specs.{declared.machine.Event.{Event, TheVariants.{Went, Request, LevelEnded, Trap, Limit, BadCode}}, Control.{above, chosen, loop_type, loop_words, turns, after_first}}
 use Rattle.lil_base.specs.declared.request.Request as request
-use Rattle.lil_asm.specs.Requests.{request_words}
-use Rattle.lil_asm.specs.Bytes.{decoded}
-use Rattle.lil_mcode.specs.Control.{above, chosen, loop_type, loop_words, turns, after_first}
 use Rattle.lil_frames.specs.Words.{spliced, cleared, moved}
 
 -- ---- the state of the machine, without its count of steps

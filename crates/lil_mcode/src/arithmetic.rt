@@ -1,11 +1,8 @@
 //! Operators and comparisons on words.
 
 ghost use Rattle.std.specs.Prelude.{◌≡◌, ◌≢◌, pos, ◌-ℤ◌, ◌<ℤ◌, ◌≤ℤ◌};
-ghost use Rattle.lil_base.specs.Words.{Cardinal, Integer, number_of, word_of};
-ghost use Rattle.lil_base.specs.Traps.{arith_trap};
-ghost use Rattle.lil_mcode.specs.Control.{loop_type, turns_up, turns, after_first};
-ghost use Rattle.lil_mcode.specs.Operators.{operator_of, comparison_of, joined_by, word_result};
-ghost use Rattle.lil_mcode.specs.Table.{capital, truth};
+ghost use Rattle.lil_base.specs.{Words.{Cardinal, Integer, number_of, word_of}, Traps.arith_trap};
+ghost use Rattle.lil_mcode.specs.{Control.{loop_type, turns_up, turns, after_first}, Operators.{operator_of, comparison_of, joined_by, word_result}, Table.{capital, truth}};
 
 use lil_base::{
     ArithFault, TrapKind, add_card, add_int, div_card, div_int, mod_card, mod_int, mul_card,

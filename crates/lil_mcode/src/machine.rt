@@ -1,10 +1,7 @@
 ghost use Rattle.std.specs.Prelude.{◌≡◌, ◌+◌, ◌-◌, ◌^◌, min, ◌<◌, ◌≤◌, ◌⊎◌, length, drop, slice_get, true, false, Some, None, IfOk, IfSome, IfNone};
-ghost use Rattle.std.specs.List.{All};
-ghost use Rattle.std.specs.Option.{option_copied};
-ghost use Rattle.lil_mcode.specs.Table.{Module, module_at, mstep};
-ghost use Rattle.lil_mcode.specs.Going.{Ran};
+ghost use Rattle.std.specs.{List.All, Option.option_copied};
+ghost use Rattle.lil_mcode.specs.{Table.{Module, module_at, mstep}, Going.Ran, Calls.{fresh, counted, with_level, with_module, with_words, with_bodies, code_used, names_of, IsRunning}};
 ghost use Rattle.lil_mcode.specs.declared.machine.Event.TheVariants as event;
-ghost use Rattle.lil_mcode.specs.Calls.{fresh, counted, with_level, with_module, with_words, with_bodies, code_used, names_of, IsRunning};
 
 use crate::processor::Processor;
 use lil_base::{Bytes, LimitKind, Memory, Name, Request, TrapKind};

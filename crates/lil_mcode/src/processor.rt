@@ -1,7 +1,6 @@
 ghost use Rattle.std.specs.Prelude.{◌≡◌, ◌+◌, ◌<◌, ◌≤◌, length, vec_len, vec_capacity, false, drop, slice_get, IfOk, Some};
-ghost use Rattle.lil_mcode.specs.Calls.{fresh};
+ghost use Rattle.lil_mcode.specs.{Calls.fresh, Table.{array_lies, request_row}};
 ghost use Rattle.lil_frames.specs.Words.{spliced};
-ghost use Rattle.lil_mcode.specs.Table.{array_lies, request_row};
 ghost use Rattle.lil_base.specs.Requests.{request_with};
 
 use crate::arithmetic::{trap_of, truth_word};

@@ -1,16 +1,11 @@
 -- Samples of the definitions, computed.
 use Rattle.std.proofs.Common.{◌≡◌, ℕ, pos, negsuc, Bool, true, false, List, [], ◌∷◌, ◌++◌, Some, None, refl, ap}
 use Rattle.std.specs.Prelude.{◌&&◌, Ok, Err, codes}
-use Rattle.lil_base.specs.Words.{Cardinal, Integer, between}
+use Rattle.lil_base.specs.{Words.{Cardinal, Integer, between}, declared.{operator.TwoOp.TheVariants.{Equal, Less, AtLeast, Div, Mod}, request.Request.TheVariants.{Write, WriteCard, WriteInt, WriteOct, WriteHex}}}
 use Rattle.lil_base.specs.declared.fault.TrapKind.TheVariants as trap
-use Rattle.lil_base.specs.declared.operator.TwoOp.TheVariants.{Equal, Less, AtLeast, Div, Mod}
-use Rattle.lil_base.specs.declared.request.Request.TheVariants.{Write, WriteCard, WriteInt, WriteOct, WriteHex}
 use Rattle.lil_resolved.specs.Kinds.{Workspaces, Kind, OfWhole, OfTruth, OfCharacter, OfPointer, OfRange, Scalar, Number, Truth, Character, SetOf, ToObject, Nil, Nothing, within, value_with, Shape, Word, Row, fields_of}
 use Rattle.lil_resolved.specs.Resolved.{Designator, Variable, Field, Element, Chr, Val, Expression, Constant, Taken, ByValue, Statement, Assign, Change, Request, Loop, Halt, Return, For, Statements, Empty, Then, Arms, NoElse, Else, Arm, Resolved, in_order}
-use Rattle.lil_meaning.specs.Items.{Global, got, Looping, Turns, Item, Perform, Ended, Trapped}
-use Rattle.lil_meaning.specs.World.{World, Single, piece_of, Stream, Channel, OpenBy, Closed, all_closed}
-use Rattle.lil_meaning.specs.Steps.{applied, function_value, chosen, turns, exited}
-use Rattle.lil_meaning.specs.Runs.{state_of}
+use Rattle.lil_meaning.specs.{Items.{Global, got, Looping, Turns, Item, Perform, Ended, Trapped}, World.{World, Single, piece_of, Stream, Channel, OpenBy, Closed, all_closed}, Steps.{applied, function_value, chosen, turns, exited}, Runs.state_of}
 
 -- ---- the turns of FOR: up to the greatest number, none downward, down by two, and past the limit
 turn_counts : turns (pos 65534) (pos 65535) (pos 1) ∷ turns (pos 3) (pos 1) (pos 1) ∷ turns (pos 5) (pos 1) (negsuc 1) ∷ turns (pos 1) (pos 6) (pos 2) ∷ [] ≡ 2 ∷ 0 ∷ 3 ∷ 3 ∷ []

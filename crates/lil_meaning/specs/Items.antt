@@ -1,11 +1,7 @@
 -- Cells, which hold the scalars of variables, and the items that are left to do.
 use Rattle.std.specs.Prelude.{ℕ, zero, suc, ◌+◌, ◌==◌, Bool, false, ◌&&◌, List, [], ◌∷◌, ◌++◌, Option, Some, None, get_or, slice_get, option_and_then, if◌then◌else◌, ℤ}
-use Rattle.lil_resolved.specs.Kinds.{Scalar, Character, Nothing, zero_of, Shape, Absent, Word, words, part_at, shape_at, Kind}
-use Rattle.lil_resolved.specs.Resolved.{Resolved, Designator, Function, Expression, Argument, Statement, Statements, Empty, Then, Arms}
-use Rattle.lil_base.specs.declared.fault.TrapAt.{TrapAt}
-use Rattle.lil_base.specs.declared.operator.OneOp.{OneOp}
-use Rattle.lil_base.specs.declared.operator.TwoOp.{TwoOp}
-use Rattle.lil_base.specs.declared.request.Request.{Request}
+use Rattle.lil_resolved.specs.{Kinds.{Scalar, Character, Nothing, zero_of, Shape, Absent, Word, words, part_at, shape_at, Kind}, Resolved.{Resolved, Designator, Function, Expression, Argument, Statement, Statements, Empty, Then, Arms}}
+use Rattle.lil_base.specs.declared.{fault.TrapAt.TrapAt, operator.{OneOp.OneOp, TwoOp.TwoOp}, request.Request.Request}
 use Rattle.lil_meaning.specs.World.{World}
 
 -- ---- cells: what each variable and object holds, by its root and the fields and positions from there

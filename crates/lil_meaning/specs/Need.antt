@@ -1,7 +1,6 @@
 -- What the calls at hand need of the stack.
 use Rattle.std.specs.Prelude.{ℕ, zero, suc, ◌+◌, List, [], ◌∷◌, Option, Some, None, slice_get}
-use Rattle.lil_resolved.specs.Resolved.{Procedure, Resolved}
-use Rattle.lil_resolved.specs.Sizes.{frame_words}
+use Rattle.lil_resolved.specs.{Resolved.{Procedure, Resolved}, Sizes.frame_words}
 use Rattle.lil_meaning.specs.Items.{loaded_at, End, Item, Perform, Activation, Source}
 
 -- how many words the frame of a procedure takes

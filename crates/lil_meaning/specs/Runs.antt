@@ -1,9 +1,7 @@
 -- Runs of loaded modules: the state after n steps.
 use Rattle.std.specs.Prelude.{ℕ, zero, suc, List, [], ◌∷◌, Option, None, Some}
 use Rattle.lil_resolved.specs.Resolved.{Statements, Empty, Resolved}
-use Rattle.lil_meaning.specs.Items.{loaded_at, fresh_cells, doing, End, Item, Perform, Activation, Going, Source}
-use Rattle.lil_meaning.specs.World.{World}
-use Rattle.lil_meaning.specs.Steps.{next}
+use Rattle.lil_meaning.specs.{Items.{loaded_at, fresh_cells, doing, End, Item, Perform, Activation, Going, Source}, World.World, Steps.next}
 
 abbrev pub body_of : Option Resolved → Statements
 body_of None = Empty

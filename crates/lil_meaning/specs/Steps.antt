@@ -1,16 +1,10 @@
 -- One step: the first item becomes what its row shows, or a value goes into the hole of the next item.
 use Rattle.std.specs.Prelude.{ℕ, zero, suc, ◌+◌, ◌-◌, ◌/◌, ℤ, pos, negsuc, ◌+ℤ◌, ◌-ℤ◌, int_lt, nat_abs, Bool, true, false, not, ◌&&◌, ◌||◌, nat_le, List, [], ◌∷◌, ◌++◌, map, length, take, Option, Some, None, option_map, option_and_then, Result, Ok, Err, slice_get, if◌then◌else◌}
 use Rattle.std.specs.List.{list_any}
-use Rattle.lil_base.specs.Words.{Whole, Cardinal, sum, difference, product, quotient, remainder, negation, absolute, whole_rest, is_zero, between}
-use Rattle.lil_base.specs.Traps.{arith_trap}
-use Rattle.lil_base.specs.declared.fault.ArithFault.{ArithFault}
-use Rattle.lil_base.specs.declared.fault.TrapKind.{TrapKind}
-use Rattle.lil_base.specs.declared.fault.TrapKind.TheVariants as trap
-use Rattle.lil_base.specs.declared.fault.TrapAt.{TrapAt}
-use Rattle.lil_base.specs.declared.operator.OneOp.{OneOp}
-use Rattle.lil_base.specs.declared.operator.OneOp.TheVariants as one
-use Rattle.lil_base.specs.declared.operator.TwoOp.{TwoOp}
+use Rattle.lil_base.specs.{Words.{Whole, Cardinal, sum, difference, product, quotient, remainder, negation, absolute, whole_rest, is_zero, between}, Traps.arith_trap, declared.{fault.{ArithFault.ArithFault, TrapKind.TrapKind, TrapAt.TrapAt}, operator.{OneOp.OneOp, TwoOp.TwoOp}}}
 use Rattle.lil_base.specs.declared.operator.TwoOp.TheVariants.{Equal, Unequal, Less, AtMost, Greater, AtLeast, In, Plus, Minus, Times, Slash, Div, Mod}
+use Rattle.lil_base.specs.declared.fault.TrapKind.TheVariants as trap
+use Rattle.lil_base.specs.declared.operator.OneOp.TheVariants as one
 use Rattle.lil_base.specs.declared.request.Request as request
 use Rattle.lil_resolved.specs.Kinds.{Kind, OfWhole, OfTruth, OfCharacter, OfEnumeration, OfRange, is_set, is_pointer, nat_of, position, Scalar, Number, Truth, Character, SetOf, ToObject, ToWorkspace, Nil, Nothing, same_reference, within, scalar_word, value_with, ordinal_of, truth_number, truth_of, members_of, Shape, shape_at}
 use Rattle.lil_resolved.specs.Members.{same_members, included, is_in, united, without, shared_members, unshared, from_to}

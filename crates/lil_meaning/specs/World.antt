@@ -1,12 +1,7 @@
 -- The world outside a program: keys, screen, files, streams and channels, and what a request does to it.
 use Rattle.std.specs.Prelude.{ℕ, zero, suc, ◌+◌, ◌-◌, ◌/◌, ◌%◌, ◌==◌, min, nat_lt, ℤ, pos, negsuc, Bool, true, false, List, [], ◌∷◌, ◌++◌, map, length, get_or, replicate, Option, Some, None, option_map, if◌then◌else◌}
-use Rattle.std.specs.Ordering.{nat_cmp}
-use Rattle.std.specs.Cmp.Lexicographic.{slice_cmp}
-use Rattle.std.specs.FinMap.{FinMap, insert}
-use Rattle.lil_base.specs.Words.{Integer, number_of}
-use Rattle.lil_base.specs.Requests.{takes_array}
-use Rattle.lil_base.specs.declared.request.Request.{Request}
-use Rattle.lil_base.specs.declared.request.Request.TheVariants.{Write, WriteString, WriteLn, WriteCard, WriteInt, WriteOct, WriteHex}
+use Rattle.std.specs.{Ordering.nat_cmp, Cmp.Lexicographic.slice_cmp, FinMap.{FinMap, insert}}
+use Rattle.lil_base.specs.{Words.{Integer, number_of}, Requests.takes_array, declared.request.Request.{Request, TheVariants.{Write, WriteString, WriteLn, WriteCard, WriteInt, WriteOct, WriteHex}}}
 
 -- a finite map from names to bytes
 abbrev pub Files : Type 0

@@ -1,2 +1,1 @@
-pub mod NodeSound
 pub mod Operations

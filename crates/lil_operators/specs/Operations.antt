@@ -1,37 +1,18 @@
 -- Operators and sets over operands that have values.
 use Rattle.std.specs.Prelude.{ℕ, ◌+◌, nat_lt, Option, Some, None, if◌then◌else◌, List, ◌-◌, ◌^◌, ℤ, pos, negsuc, int_lt, is_none, Bool, true, false, not, ◌&&◌, [], ◌∷◌, ◌++◌, bit_or}
-use Rattle.lil_base.specs.declared.fault.Place.{Place}
+use Rattle.lil_base.specs.{declared.{fault.{Place.Place, FaultKind.TheVariants.{Operands, ConstRange, ExprDeep, ConstArith}}, operator.{OneOp.OneOp, TwoOp.{TwoOp, TheVariants.In}}}, Lists.joined}
 use Rattle.lil_report.specs.Told.{Row, row, after, walk}
 use Rattle.lil_scope.specs.declared.thing.Kind.{Kind}
-use Rattle.lil_kinds.specs.declared.found.Form.{Form}
+use Rattle.lil_kinds.specs.{declared.found.{Form.Form, Found.Found, Applied.{Applied, TheVariants.{Refused, Outside, Gives}}}, Forms.{set_base, element_span}, Kinds.{compatible, number, outside}, Operators.{one, two, operand_type}}
 use Rattle.lil_kinds.specs.declared.found.Form.TheVariants as form
-use Rattle.lil_kinds.specs.declared.found.Found.{Found}
 use Rattle.lil_kinds.specs.declared.found.Standing.TheVariants as standing
-use Rattle.lil_base.specs.declared.fault.FaultKind.TheVariants.{Operands, ConstRange, ExprDeep, ConstArith}
-use Rattle.lil_base.specs.Lists.{joined}
 use Rattle.lil_types.specs.Types.{Table, cardinal}
 use Rattle.lil_resolved.specs.declared.resolved.RMember.{RMember}
-use Rattle.lil_shapes.specs.declared.members.Members.{Members}
-use Rattle.lil_shapes.specs.Bases.{members_at}
-use Rattle.lil_forms.specs.Values.{single_by, span_by, set_form, typed_by, typed, value_form, one_of, operated, chain_form}
+use Rattle.lil_shapes.specs.{declared.members.Members.Members, Bases.members_at}
+use Rattle.lil_forms.specs.{Values.{single_by, span_by, set_form, typed_by, typed, value_form, one_of, operated, chain_form}, declared.operators.Built.Built}
 use Rattle.lil_scope.specs.declared.thing.Kind.TheVariants as k
-use Rattle.lil_kinds.specs.Forms.{set_base, element_span}
-use Rattle.lil_kinds.specs.Kinds.{compatible, number, outside}
-use Rattle.lil_operators.specs.declared.sets.Operand.{Operand}
-use Rattle.lil_operators.specs.declared.sets.Bounds.{Bounds}
-use Rattle.lil_operators.specs.declared.sets.Elements.{Elements}
-use Rattle.lil_operators.specs.declared.sets.Tally.{Tally}
-use Rattle.lil_base.specs.declared.operator.OneOp.{OneOp}
-use Rattle.lil_base.specs.declared.operator.TwoOp.{TwoOp}
-use Rattle.lil_base.specs.declared.operator.TwoOp.TheVariants.{In}
-use Rattle.lil_kinds.specs.declared.found.Applied.{Applied}
-use Rattle.lil_kinds.specs.declared.found.Applied.TheVariants.{Refused, Outside, Gives}
-use Rattle.lil_kinds.specs.Operators.{one, two, operand_type}
-use Rattle.lil_forms.specs.declared.operators.Built.{Built}
+use Rattle.lil_operators.specs.declared.{sets.{Operand.Operand, Bounds.Bounds, Elements.Elements, Tally.Tally}, operations.{Chained.Chained, SoFar.{SoFar, TheVariants.{First, Behind}}}}
 use Rattle.lil_forms.specs.Values as forms
-use Rattle.lil_operators.specs.declared.operations.Chained.{Chained}
-use Rattle.lil_operators.specs.declared.operations.SoFar.{SoFar}
-use Rattle.lil_operators.specs.declared.operations.SoFar.TheVariants.{First, Behind}
 
 -- ---- depths of expressions: one above 12 has no value
 

@@ -1,29 +1,16 @@
-ghost use Rattle.lil_grammar.specs.Steps as steps;
 ghost use Rattle.lil_grammar.specs.Steps.{Reads};
 ghost use Rattle.lil_syntax.specs.Syntax.{read};
-ghost use Rattle.lil_syntax.specs.Terminals.{among};
 ghost use Rattle.lil_language.specs.Grammar as spec;
 
 use crate::lookahead::{sees_decl, sees_definition_decl};
 use crate::part::{constant_part, definition_type_part, type_part, variable_part};
 use crate::procedure_heading::{definition_heading, heading};
 use lil_base::{Items, beside};
-use lil_grammar::{Reader, nested, syntax};
+use lil_grammar::Reader;
 use lil_language::{Block, Decl, Stmt};
 use lil_read_stmt::statements;
 use lil_text::{Mark, ReadStop, Word};
 use std::alloc::Global;
-
-/// Where no more parts may lie in one another: the fault of a procedure here.
-fn deep_procedure(reader: &Reader<'_>) -> Result<Decl, ReadStop>
-    ensures { Reads (steps.shallow (among (spec.first spec.procedure)) reader.now) result reader.now }
-{
-    if reader.sees_word(Word::Procedure) {
-        Err(nested(reader.place()))
-    } else {
-        Err(syntax(reader.place()))
-    }
-}
 
 /// A procedure, with at most `depth` parts in one another.
 #[cycle(declaration)]
@@ -32,7 +19,7 @@ fn procedure(alloc: Global, reader: &mut Reader<'_>, depth: u8) -> Result<Decl, 
     ensures { Reads (read spec.grammar depth spec.procedure reader.old) result reader.new }
 {
     if depth == 0 {
-        return deep_procedure(reader);
+        return reader.shallow(reader.sees_word(Word::Procedure));
     }
     a_procedure(alloc, reader, depth - 1)
 }
@@ -60,7 +47,7 @@ fn procedure_part(alloc: Global, reader: &mut Reader<'_>, depth: u8) -> Result<D
 }
 
 #[cycle(declaration)]
-#[tactic(auto, using(lil_syntax::specs::Choices::choices), unfolding(lil_language::specs::Grammar::reading, lil_language::specs::Grammar::decl, lil_language::specs::Grammar::constant_part, lil_language::specs::Grammar::type_part, lil_language::specs::Grammar::variable_part, lil_syntax::specs::Syntax::reads, lil_syntax::specs::Syntax::before))]
+#[tactic(auto, using(lil_language::specs::Laws::ways), unfolding(lil_language::specs::Grammar::decl, lil_language::specs::Grammar::constant_part, lil_language::specs::Grammar::type_part, lil_language::specs::Grammar::variable_part))]
 fn decl(alloc: Global, reader: &mut Reader<'_>, depth: u8) -> Result<Decl, ReadStop>
     ensures { Reads (spec.reading depth spec.decl reader.old) result reader.new }
 {
@@ -120,7 +107,7 @@ pub fn block(
     Ok(both)
 }
 
-#[tactic(auto, using(lil_syntax::specs::Choices::choices), unfolding(lil_language::specs::Grammar::reading, lil_language::specs::Grammar::definition_decl, lil_language::specs::Grammar::constant_part, lil_language::specs::Grammar::definition_type_part, lil_language::specs::Grammar::variable_part, lil_syntax::specs::Syntax::reads, lil_syntax::specs::Syntax::before))]
+#[tactic(auto, using(lil_language::specs::Laws::ways), unfolding(lil_language::specs::Grammar::definition_decl, lil_language::specs::Grammar::constant_part, lil_language::specs::Grammar::definition_type_part, lil_language::specs::Grammar::variable_part))]
 fn definition_decl(alloc: Global, reader: &mut Reader<'_>, depth: u8) -> Result<Decl, ReadStop>
     ensures { Reads (spec.reading depth spec.definition_decl reader.old) result reader.new }
 {

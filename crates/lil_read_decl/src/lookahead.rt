@@ -1,7 +1,6 @@
 ghost use Rattle.std.specs.Prelude.{◌≡◌};
 ghost use Rattle.lil_grammar.specs.Steps.{at};
-ghost use Rattle.lil_syntax.specs.Syntax.{begins};
-ghost use Rattle.lil_syntax.specs.Terminals.{among};
+ghost use Rattle.lil_syntax.specs.{Syntax.begins, Terminals.among};
 ghost use Rattle.lil_language.specs.Grammar as spec;
 
 use lil_grammar::Reader;
@@ -12,14 +11,10 @@ use lil_text::{TokenKind, Word};
 pub fn sees_section(reader: &Reader<'_>) -> bool
     ensures { result ≡ at (among (begins spec.first spec.goes spec.sections)) reader.now }
 {
-    match reader.token() {
-        Some(t) => match &t.what {
-            TokenKind::Ident(_) => true,
-            TokenKind::Word(Word::Var) => true,
-            _ => false,
-        },
-        None => false,
-    }
+    matches!(
+        reader.what(),
+        Some(TokenKind::Ident(_) | TokenKind::Word(Word::Var))
+    )
 }
 
 /// Whether a declaration is next.
@@ -27,16 +22,10 @@ pub fn sees_section(reader: &Reader<'_>) -> bool
 pub fn sees_decl(reader: &Reader<'_>) -> bool
     ensures { result ≡ at (among (begins spec.first spec.goes spec.decl)) reader.now }
 {
-    match reader.token() {
-        Some(t) => match &t.what {
-            TokenKind::Word(Word::Const) => true,
-            TokenKind::Word(Word::TypeWord) => true,
-            TokenKind::Word(Word::Var) => true,
-            TokenKind::Word(Word::Procedure) => true,
-            _ => false,
-        },
-        None => false,
-    }
+    matches!(
+        reader.what(),
+        Some(TokenKind::Word(Word::Const | Word::TypeWord | Word::Var | Word::Procedure))
+    )
 }
 
 /// Whether a declaration of a definition is next.
@@ -44,14 +33,8 @@ pub fn sees_decl(reader: &Reader<'_>) -> bool
 pub fn sees_definition_decl(reader: &Reader<'_>) -> bool
     ensures { result ≡ at (among (begins spec.first spec.goes spec.definition_decl)) reader.now }
 {
-    match reader.token() {
-        Some(t) => match &t.what {
-            TokenKind::Word(Word::Const) => true,
-            TokenKind::Word(Word::TypeWord) => true,
-            TokenKind::Word(Word::Var) => true,
-            TokenKind::Word(Word::Procedure) => true,
-            _ => false,
-        },
-        None => false,
-    }
+    matches!(
+        reader.what(),
+        Some(TokenKind::Word(Word::Const | Word::TypeWord | Word::Var | Word::Procedure))
+    )
 }

@@ -1,17 +1,12 @@
 -- A repetition that adds at the end gives the same behind one more item in front.
 use Rattle.std.proofs.Common.{◌≡◌, ℕ, zero, suc, length, Bool, true, false, List, [], ◌∷◌, ◌++◌, Option, Result, Ok, Err, refl, ap, sym, subst, ◌∙◌}
 use Rattle.lil_base.specs.declared.fault.Place.{Place}
-use Rattle.lil_text.specs.declared.token.Token.{Token}
-use Rattle.lil_text.specs.declared.token.TokenKind.{TokenKind}
-use Rattle.lil_text.specs.declared.tree.Ident.{Ident}
-use Rattle.lil_text.specs.declared.stop.ReadStop.{ReadStop}
+use Rattle.lil_text.specs.declared.{token.{Token.Token, TokenKind.TokenKind}, tree.Ident.Ident, stop.ReadStop.ReadStop}
 use Rattle.lil_grammar.specs.Steps.{Outcome, Parser, and_then, ◌>>=◌, pure, at, either_by, loop, many, Reads}
 use Rattle.lil_syntax.specs.Syntax.{give, ◌◃◌, reads, before}
-use Rattle.lil_language.specs.declared.tree.Expr.{Expr}
-use Rattle.lil_language.specs.declared.tree.Selector.{Selector}
+use Rattle.lil_language.specs.{declared.tree.{Expr.Expr, Selector.Selector}, Grammar.{reading, applied, put_to, field_selected, turns, selector, selectors, call, field_path}}
 use Rattle.lil_language.specs.declared.tree.Selector.TheVariants as sel
 use Rattle.lil_language.specs.Trees as tree
-use Rattle.lil_language.specs.Grammar.{reading, applied, put_to, field_selected, turns, selector, selectors, call, field_path}
 use Rattle.lil_read_expr.specs.Selected.{more_selectors, selected_on}
 
 module _ {A : Type 0} (test : TokenKind → Bool) (p : Parser A) (x : A) where

@@ -3,10 +3,8 @@ use Rattle.std.specs.Prelude.{ℕ, List}
 use Rattle.lil_text.specs.declared.tree.Ident.{Ident}
 use Rattle.lil_grammar.specs.Steps.{Parser, ◌>>=◌, pure, many}
 use Rattle.lil_syntax.specs.Syntax.{give, ◌◃◌}
-use Rattle.lil_language.specs.declared.tree.Expr.{Expr}
-use Rattle.lil_language.specs.declared.tree.Selector.{Selector}
+use Rattle.lil_language.specs.{declared.tree.{Expr.Expr, Selector.Selector}, Grammar.{reading, turns, turned, with_last, selector, call}}
 use Rattle.lil_language.specs.Trees as tree
-use Rattle.lil_language.specs.Grammar.{reading, turns, turned, with_last, selector, call}
 
 unfoldable pub more_selectors : ℕ → List Selector → Parser (List Selector)
 more_selectors d ss = many (turns (give (λ s. s) ◃ selector)) (turned d (give (λ s. s) ◃ selector) with_last) ss

@@ -5,15 +5,15 @@ ghost use Rattle.lil_language.specs.Grammar as spec;
 use crate::forms::{chained, compared, one};
 use crate::lists::bit_set;
 use crate::literals::literal;
-use crate::lookahead::{
-    begins_addition, begins_comparison, begins_multiplication, deep_expression, deep_factor,
-    sees_literal,
-};
+use crate::lookahead::{sees_expression, sees_factor, sees_literal};
 use crate::named::named;
 use lil_base::{Boxed, Items, OneOp, beside};
 use lil_grammar::Reader;
 use lil_language::{Expr, Operation, begun_at};
-use lil_syntax::{addition, multiplication, relation, sees_sign, sign};
+use lil_syntax::{
+    addition, multiplication, relation, sees_addition, sees_multiplication, sees_relation,
+    sees_sign, sign,
+};
 use lil_text::{Mark, ReadStop, Word};
 use std::alloc::Global;
 
@@ -24,7 +24,7 @@ pub fn expr(alloc: Global, reader: &mut Reader<'_>, depth: u8) -> Result<Expr, R
     ensures { Reads (read spec.grammar depth spec.expression reader.old) result reader.new }
 {
     if depth == 0 {
-        return deep_expression(reader);
+        return reader.shallow(sees_expression(reader));
     }
     related(alloc, reader, depth - 1)
 }
@@ -48,18 +48,18 @@ fn operand(alloc: Global, reader: &mut Reader<'_>, depth: u8) -> Result<Expr, Re
     ensures { Reads (read spec.grammar depth spec.operand reader.old) result reader.new }
 {
     if depth == 0 {
-        return deep_factor(reader);
+        return reader.shallow(sees_factor(reader));
     }
     factor(alloc, reader, depth - 1)
 }
 
 #[cycle(expr)]
-#[tactic(auto, unfolding(lil_language::specs::Grammar::reading, lil_language::specs::Grammar::relation, lil_syntax::specs::Syntax::reads, lil_syntax::specs::Syntax::before))]
+#[tactic(auto, unfolding(lil_language::specs::Grammar::reading, lil_language::specs::Grammar::relation, lil_language::specs::Grammar::comparison, lil_syntax::specs::Syntax::reads, lil_syntax::specs::Syntax::before))]
 fn related(alloc: Global, reader: &mut Reader<'_>, depth: u8) -> Result<Expr, ReadStop>
     ensures { Reads (spec.reading depth spec.relation reader.old) result reader.new }
 {
     let first = sum(alloc, reader, depth)?;
-    if begins_comparison(reader) {
+    if sees_relation(reader) {
         let (first, comparison) = beside(first, comparison(alloc, reader, depth))?;
         Ok(compared(alloc, first, comparison)?)
     } else {
@@ -92,7 +92,7 @@ fn sum(alloc: Global, reader: &mut Reader<'_>, depth: u8) -> Result<Expr, ReadSt
 }
 
 #[cycle(expr)]
-#[tactic(auto, using(lil_grammar::specs::Turns::turns), unfolding(lil_language::specs::Grammar::reading, lil_language::specs::Grammar::additions, lil_syntax::specs::Syntax::reads, lil_syntax::specs::Syntax::before, lil_grammar::specs::Steps::many))]
+#[tactic(auto, using(lil_grammar::specs::Turns::turns), unfolding(lil_language::specs::Grammar::reading, lil_language::specs::Grammar::additions, lil_language::specs::Grammar::addition, lil_syntax::specs::Syntax::reads, lil_syntax::specs::Syntax::before, lil_grammar::specs::Steps::many))]
 fn additions(
     alloc: Global,
     reader: &mut Reader<'_>,
@@ -102,7 +102,7 @@ fn additions(
 {
     let mut found = Items::new(alloc);
     for _turn in 0..reader.left() {
-        if !begins_addition(reader) {
+        if !sees_addition(reader) {
             return Ok(found);
         }
         let next = an_addition(alloc, reader, depth)?;
@@ -150,7 +150,7 @@ fn term(alloc: Global, reader: &mut Reader<'_>, depth: u8) -> Result<Expr, ReadS
 }
 
 #[cycle(expr)]
-#[tactic(auto, using(lil_grammar::specs::Turns::turns), unfolding(lil_language::specs::Grammar::reading, lil_language::specs::Grammar::multiplications, lil_syntax::specs::Syntax::reads, lil_syntax::specs::Syntax::before, lil_grammar::specs::Steps::many))]
+#[tactic(auto, using(lil_grammar::specs::Turns::turns), unfolding(lil_language::specs::Grammar::reading, lil_language::specs::Grammar::multiplications, lil_language::specs::Grammar::multiplication, lil_syntax::specs::Syntax::reads, lil_syntax::specs::Syntax::before, lil_grammar::specs::Steps::many))]
 fn multiplications(
     alloc: Global,
     reader: &mut Reader<'_>,
@@ -160,7 +160,7 @@ fn multiplications(
 {
     let mut found = Items::new(alloc);
     for _turn in 0..reader.left() {
-        if !begins_multiplication(reader) {
+        if !sees_multiplication(reader) {
             return Ok(found);
         }
         let next = a_multiplication(alloc, reader, depth)?;

@@ -101,7 +101,6 @@ fn with_field(
 }
 
 #[cycle(expr)]
-#[tactic(auto, using(lil_language::specs::Laws::applied_twice_ways), unfolding(lil_language::specs::Grammar::behind_field, lil_language::specs::Grammar::field_set, lil_language::specs::Grammar::elements))]
 fn behind_field(
     alloc: Global,
     reader: &mut Reader<'_>,

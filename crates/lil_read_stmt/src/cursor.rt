@@ -1,12 +1,8 @@
 ghost use Rattle.std.specs.Prelude.{List, Ok, IfOk, IfErr};
-ghost use Rattle.lil_text.specs.declared.token.Token.{Token as Each};
-ghost use Rattle.lil_text.specs.Nesting.{within};
-ghost use Rattle.lil_grammar.specs.Places.{Longest, StopsAt};
-ghost use Rattle.lil_grammar.specs.Steps.{Reads};
-ghost use Rattle.lil_language.specs.declared.tree.Expr.{Expr as Tree};
-ghost use Rattle.lil_language.specs.declared.tree.Stmt.{Stmt as Statement};
+ghost use Rattle.lil_text.specs.{declared.token.Token.Token as Each, Nesting.within};
+ghost use Rattle.lil_grammar.specs.{Places.{Longest, StopsAt}, Steps.Reads};
+ghost use Rattle.lil_language.specs.{declared.tree.{Expr.Expr as Tree, Stmt.Stmt as Statement}, Grammar.{Derives, Ends, reading}};
 ghost use Rattle.lil_language.specs.Grammar as spec;
-ghost use Rattle.lil_language.specs.Grammar.{Derives, Ends, reading};
 
 use crate::statement::statements;
 use lil_base::Items;

@@ -1,12 +1,11 @@
 ghost use Rattle.lil_grammar.specs.Steps.{Reads};
 ghost use Rattle.lil_language.specs.Grammar as spec;
 
-use crate::lookahead::sees_arm;
 use crate::statement::statements;
 use lil_base::{Items, beside};
 use lil_grammar::Reader;
 use lil_language::{Arm, Guard, Stmt};
-use lil_read_expr::{add_read, boxed_expr, labels};
+use lil_read_expr::{add_read, boxed_expr, labels, sees_expression};
 use lil_text::{Mark, ReadStop, Word};
 use std::alloc::Global;
 
@@ -88,11 +87,11 @@ fn an_arm(alloc: Global, reader: &mut Reader<'_>, depth: u8) -> Result<Arm, Read
 
 /// An arm, where one stands here.
 #[cycle(stmt)]
-#[tactic(auto, unfolding(lil_language::specs::Grammar::reading, lil_language::specs::Grammar::some_arm, lil_syntax::specs::Syntax::reads, lil_syntax::specs::Syntax::before))]
+#[tactic(auto, unfolding(lil_language::specs::Grammar::reading, lil_language::specs::Grammar::some_arm, lil_language::specs::Grammar::an_arm, lil_language::specs::Grammar::labels, lil_language::specs::Grammar::element, lil_syntax::specs::Syntax::reads, lil_syntax::specs::Syntax::before))]
 fn some_arm(alloc: Global, reader: &mut Reader<'_>, depth: u8) -> Result<Option<Arm>, ReadStop>
     ensures { Reads (spec.reading depth spec.some_arm reader.old) result reader.new }
 {
-    if sees_arm(reader) {
+    if sees_expression(reader) {
         let found = an_arm(alloc, reader, depth)?;
         Ok(Some(found))
     } else {

@@ -3,7 +3,7 @@ ghost use Rattle.lil_syntax.specs.Syntax.{read};
 ghost use Rattle.lil_language.specs.Grammar as spec;
 
 use crate::forms::choice_form;
-use crate::lookahead::{deep_form, sees_choice, sees_loop, sees_other_word, sees_statement};
+use crate::lookahead::{sees_choice, sees_loop, sees_other_word, sees_statement};
 use crate::loops::loops_form;
 use crate::simple::{exit_form, named_form, return_form};
 use lil_base::{Items, beside};
@@ -58,7 +58,7 @@ fn form(alloc: Global, reader: &mut Reader<'_>, depth: u8) -> Result<Stmt, ReadS
     ensures { Reads (read spec.grammar depth spec.form reader.old) result reader.new }
 {
     if depth == 0 {
-        return deep_form(reader);
+        return reader.shallow(sees_statement(reader));
     }
     a_form(alloc, reader, depth - 1)
 }

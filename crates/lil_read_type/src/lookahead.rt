@@ -1,7 +1,6 @@
 ghost use Rattle.std.specs.Prelude.{◌≡◌};
 ghost use Rattle.lil_grammar.specs.Steps.{at};
-ghost use Rattle.lil_syntax.specs.Terminals.{among};
-ghost use Rattle.lil_syntax.specs.Syntax.{begins};
+ghost use Rattle.lil_syntax.specs.{Terminals.among, Syntax.begins};
 ghost use Rattle.lil_language.specs.Grammar as spec;
 
 use lil_grammar::Reader;
@@ -12,20 +11,16 @@ use lil_text::{Mark, TokenKind, Word};
 pub fn sees_sort(reader: &Reader<'_>) -> bool
     ensures { result ≡ at (among (spec.first spec.sort)) reader.now }
 {
-    match reader.token() {
-        Some(t) => match &t.what {
-            TokenKind::Ident(_) => true,
-            TokenKind::Mark(Mark::Open) => true,
-            TokenKind::Mark(Mark::OpenBracket) => true,
-            TokenKind::Word(Word::Array) => true,
-            TokenKind::Word(Word::Record) => true,
-            TokenKind::Word(Word::Set) => true,
-            TokenKind::Word(Word::Pointer) => true,
-            TokenKind::Word(Word::Procedure) => true,
-            _ => false,
-        },
-        None => false,
-    }
+    matches!(
+        reader.what(),
+        Some(
+            TokenKind::Ident(_)
+                | TokenKind::Mark(Mark::Open | Mark::OpenBracket)
+                | TokenKind::Word(
+                    Word::Array | Word::Record | Word::Set | Word::Pointer | Word::Procedure
+                )
+        )
+    )
 }
 
 /// Whether an array, a record or a set is next.
@@ -33,15 +28,10 @@ pub fn sees_sort(reader: &Reader<'_>) -> bool
 pub fn sees_structured(reader: &Reader<'_>) -> bool
     ensures { result ≡ at (among (begins spec.first spec.goes spec.structured)) reader.now }
 {
-    match reader.token() {
-        Some(t) => match &t.what {
-            TokenKind::Word(Word::Array) => true,
-            TokenKind::Word(Word::Record) => true,
-            TokenKind::Word(Word::Set) => true,
-            _ => false,
-        },
-        None => false,
-    }
+    matches!(
+        reader.what(),
+        Some(TokenKind::Word(Word::Array | Word::Record | Word::Set))
+    )
 }
 
 /// Whether fields are next.
@@ -49,14 +39,10 @@ pub fn sees_structured(reader: &Reader<'_>) -> bool
 pub fn sees_fields(reader: &Reader<'_>) -> bool
     ensures { result ≡ at (among (begins spec.first spec.goes spec.a_fieldlist)) reader.now }
 {
-    match reader.token() {
-        Some(t) => match &t.what {
-            TokenKind::Ident(_) => true,
-            TokenKind::Word(Word::Case) => true,
-            _ => false,
-        },
-        None => false,
-    }
+    matches!(
+        reader.what(),
+        Some(TokenKind::Ident(_) | TokenKind::Word(Word::Case))
+    )
 }
 
 /// Whether a parameter of a procedure type is next.
@@ -64,13 +50,8 @@ pub fn sees_fields(reader: &Reader<'_>) -> bool
 pub fn sees_formal(reader: &Reader<'_>) -> bool
     ensures { result ≡ at (among (begins spec.first spec.goes spec.formals)) reader.now }
 {
-    match reader.token() {
-        Some(t) => match &t.what {
-            TokenKind::Ident(_) => true,
-            TokenKind::Word(Word::Var) => true,
-            TokenKind::Word(Word::Array) => true,
-            _ => false,
-        },
-        None => false,
-    }
+    matches!(
+        reader.what(),
+        Some(TokenKind::Ident(_) | TokenKind::Word(Word::Var | Word::Array))
+    )
 }

@@ -72,7 +72,7 @@ fn enumeration(alloc: Global, reader: &mut Reader<'_>, depth: u8) -> Result<Simp
 }
 
 /// A type that may be an index or a base.
-#[tactic(auto, using(lil_syntax::specs::Choices::choices), unfolding(lil_language::specs::Grammar::reading, lil_language::specs::Grammar::simple, lil_language::specs::Grammar::enumeration, lil_language::specs::Grammar::unnamed, lil_language::specs::Grammar::bounds, lil_syntax::specs::Syntax::reads, lil_syntax::specs::Syntax::before))]
+#[tactic(auto, using(lil_language::specs::Laws::ways), unfolding(lil_language::specs::Grammar::simple, lil_language::specs::Grammar::enumeration, lil_language::specs::Grammar::unnamed, lil_language::specs::Grammar::bounds))]
 pub fn simple(alloc: Global, reader: &mut Reader<'_>, depth: u8) -> Result<Simple, ReadStop>
     ensures { Reads (spec.reading depth spec.simple reader.old) result reader.new }
 {

@@ -1,40 +1,16 @@
-ghost use Rattle.lil_grammar.specs.Steps as steps;
 ghost use Rattle.lil_grammar.specs.Steps.{Reads};
 ghost use Rattle.lil_syntax.specs.Syntax.{read};
-ghost use Rattle.lil_syntax.specs.Terminals.{among};
 ghost use Rattle.lil_language.specs.Grammar as spec;
 
 use crate::lookahead::{sees_fields, sees_sort, sees_structured};
 use crate::ordinal::{simple, simples};
 use crate::parameter::formal_part;
 use lil_base::{Boxed, Items, beside};
-use lil_grammar::{Reader, nested, syntax};
+use lil_grammar::Reader;
 use lil_language::{FieldList, Sort, Variant};
 use lil_read_expr::{add_read, labels, names, qualident, sees_expression};
 use lil_text::{Ident, Mark, Qualident, ReadStop, Word};
 use std::alloc::Global;
-
-/// Where no more parts may lie in one another: the fault of a type here.
-fn deep_sort(reader: &Reader<'_>) -> Result<Sort, ReadStop>
-    ensures { Reads (steps.shallow (among (spec.first spec.sort)) reader.now) result reader.now }
-{
-    if sees_sort(reader) {
-        Err(nested(reader.place()))
-    } else {
-        Err(syntax(reader.place()))
-    }
-}
-
-/// Where no more parts may lie in one another: the fault of a record's CASE here.
-fn deep_case(reader: &Reader<'_>) -> Result<FieldList, ReadStop>
-    ensures { Reads (steps.shallow (among (spec.first spec.record_case)) reader.now) result reader.now }
-{
-    if reader.sees_word(Word::Case) {
-        Err(nested(reader.place()))
-    } else {
-        Err(syntax(reader.place()))
-    }
-}
 
 /// A type, with at most `depth` parts in one another.
 #[cycle(sort)]
@@ -43,13 +19,13 @@ pub fn sort(alloc: Global, reader: &mut Reader<'_>, depth: u8) -> Result<Sort, R
     ensures { Reads (read spec.grammar depth spec.sort reader.old) result reader.new }
 {
     if depth == 0 {
-        return deep_sort(reader);
+        return reader.shallow(sees_sort(reader));
     }
     a_sort(alloc, reader, depth - 1)
 }
 
 #[cycle(sort)]
-#[tactic(auto, using(lil_syntax::specs::Choices::choices), unfolding(lil_language::specs::Grammar::reading, lil_language::specs::Grammar::a_sort, lil_language::specs::Grammar::pointer, lil_language::specs::Grammar::procedure_type, lil_syntax::specs::Syntax::reads, lil_syntax::specs::Syntax::before))]
+#[tactic(auto, using(lil_language::specs::Laws::ways), unfolding(lil_language::specs::Grammar::a_sort, lil_language::specs::Grammar::pointer, lil_language::specs::Grammar::procedure_type))]
 fn a_sort(alloc: Global, reader: &mut Reader<'_>, depth: u8) -> Result<Sort, ReadStop>
     ensures { Reads (spec.reading depth (spec.produced spec.sort) reader.old) result reader.new }
 {
@@ -65,7 +41,7 @@ fn a_sort(alloc: Global, reader: &mut Reader<'_>, depth: u8) -> Result<Sort, Rea
 }
 
 #[cycle(sort)]
-#[tactic(auto, using(lil_syntax::specs::Choices::choices), unfolding(lil_language::specs::Grammar::reading, lil_language::specs::Grammar::structured, lil_language::specs::Grammar::array, lil_language::specs::Grammar::record_type, lil_syntax::specs::Syntax::reads, lil_syntax::specs::Syntax::before))]
+#[tactic(auto, using(lil_language::specs::Laws::ways), unfolding(lil_language::specs::Grammar::structured, lil_language::specs::Grammar::array, lil_language::specs::Grammar::record_type))]
 fn structured(alloc: Global, reader: &mut Reader<'_>, depth: u8) -> Result<Sort, ReadStop>
     ensures { Reads (spec.reading depth spec.structured reader.old) result reader.new }
 {
@@ -152,14 +128,14 @@ fn record_case(alloc: Global, reader: &mut Reader<'_>, depth: u8) -> Result<Fiel
     ensures { Reads (read spec.grammar depth spec.record_case reader.old) result reader.new }
 {
     if depth == 0 {
-        return deep_case(reader);
+        return reader.shallow(reader.sees_word(Word::Case));
     }
     field_variants(alloc, reader, depth - 1)
 }
 
 /// Fields of one type, or a record's CASE.
 #[cycle(sort)]
-#[tactic(auto, using(lil_syntax::specs::Choices::choices), unfolding(lil_language::specs::Grammar::reading, lil_language::specs::Grammar::a_fieldlist, lil_syntax::specs::Syntax::reads, lil_syntax::specs::Syntax::before))]
+#[tactic(auto, unfolding(lil_language::specs::Grammar::reading, lil_language::specs::Grammar::a_fieldlist, lil_syntax::specs::Syntax::reads, lil_syntax::specs::Syntax::before))]
 fn a_fieldlist(alloc: Global, reader: &mut Reader<'_>, depth: u8) -> Result<FieldList, ReadStop>
     ensures { Reads (spec.reading depth spec.a_fieldlist reader.old) result reader.new }
 {
@@ -320,7 +296,7 @@ fn named_tag(
 }
 
 /// A record's tag: its name, where it has one, and its type.
-#[tactic(auto, using(lil_syntax::specs::Choices::choices), unfolding(lil_language::specs::Grammar::reading, lil_language::specs::Grammar::tag, lil_language::specs::Grammar::unnamed_tag, lil_syntax::specs::Syntax::reads, lil_syntax::specs::Syntax::before))]
+#[tactic(auto, using(lil_language::specs::Laws::ways), unfolding(lil_language::specs::Grammar::tag, lil_language::specs::Grammar::unnamed_tag))]
 fn tag(
     alloc: Global,
     reader: &mut Reader<'_>,

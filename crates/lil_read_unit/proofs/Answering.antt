@@ -1,22 +1,12 @@
 -- What a reader of units answers, by what the reader of the whole text answered.
 use Rattle.std.proofs.Common.{◌≡◌, ◌⊎◌, ℕ, List, [], ◌∷◌, ◌++◌, Option, None, Some, Result, Ok, Err, IfOk, IfErr, refl, subst, sym, ap, ◌∙◌, inl, inr}
-use Rattle.lil_base.specs.declared.fault.Place.{Place}
-use Rattle.lil_base.specs.declared.fault.SourceFault.{SourceFault}
-use Rattle.lil_base.specs.Faults.{fault}
-use Rattle.lil_text.specs.declared.token.Token.{Token}
-use Rattle.lil_text.specs.declared.stop.ReadStop.{ReadStop}
-use Rattle.lil_text.specs.declared.stop.ReadStop.TheVariants.{Fault, Memory}
-use Rattle.lil_text.specs.Nesting.{within}
-use Rattle.lil_grammar.specs.Steps.{Reads, at}
-use Rattle.lil_grammar.specs.Places.{StopsAt}
-use Rattle.lil_grammar.specs.Rules.{ok_same}
-use Rattle.lil_language.specs.Grammar.{Derives, Ends, reading, text}
-use Rattle.lil_language.specs.Sound.{text_decided}
+use Rattle.lil_base.specs.{declared.fault.{Place.Place, SourceFault.SourceFault}, Faults.fault}
+use Rattle.lil_text.specs.{declared.{token.Token.Token, stop.ReadStop.{ReadStop, TheVariants.{Fault, Memory}}}, Nesting.within}
+use Rattle.lil_grammar.specs.{Steps.{Reads, at}, Places.StopsAt, Rules.ok_same}
+use Rattle.lil_language.specs.{Grammar.{Derives, Ends, reading, text}, Sound.text_decided, Units.{deepest, token_count, IsUnit, IsRightUnit, HasUnitFault, wrong_ends, least}, declared.unit.Unit.Unit as Tree}
 use Rattle.lil_language.specs.Laws as laws
-use Rattle.lil_language.specs.Units.{deepest, token_count, IsUnit, IsRightUnit, HasUnitFault, wrong_ends, least}
 use Rattle.lil_read_unit.specs.Settled.{ended, settled}
 use Rattle.lil_read_unit.proofs.Soonest.{least_is, is_least, none_least}
-use Rattle.lil_language.specs.declared.unit.Unit.{Unit as Tree}
 
 -- anything may stand behind the end of a text
 any_end : (n : ℕ) (ts : List Token) → Ends (text n) ts

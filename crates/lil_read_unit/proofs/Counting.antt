@@ -1,11 +1,9 @@
 -- A text has no more tokens than bytes, and its end.
 use Rattle.std.proofs.Common.{◌≡◌, ℕ, ◌+◌, ◌≤◌, refl, List, [], ◌∷◌, ◌++◌, length, length-append, Option, Some, None, ap, arith}
 use Rattle.lil_base.specs.declared.fault.Place.{Place}
-use Rattle.lil_text.specs.declared.token.Token.{Token}
-use Rattle.lil_text.specs.declared.token.TokenKind.{TokenKind}
+use Rattle.lil_text.specs.{declared.token.{Token.Token, TokenKind.TokenKind}, Lexical.{IsRun, IsPiece, CutsTo, HasTokens, before}}
 use Rattle.lil_text.specs.declared.token.TokenKind.TheVariants as k
 use Rattle.lil_text.specs.Lexical as x
-use Rattle.lil_text.specs.Lexical.{IsRun, IsPiece, CutsTo, HasTokens, before}
 
 run_some : {run rest : List ℕ} → IsRun run rest → 1 ≤ length run
 run_some (x.plain _ _ _) = omega arith

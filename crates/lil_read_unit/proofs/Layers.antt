@@ -3,18 +3,9 @@ use Rattle.std.proofs.Common.{◌≡◌, ℕ, ◌+◌, ◌<◌, ◌≤◌, lengt
 use Rattle.std.proofs.lemmas.List.{drop_more, drop_all}
 use Rattle.lil_base.specs.declared.fault.Place.{Place}
 use Rattle.lil_text.specs.declared.tree.Ident.{Ident}
-use Rattle.lil_language.specs.declared.unit.Heading.{Heading}
-use Rattle.lil_language.specs.declared.unit.Constant.{Constant}
-use Rattle.lil_language.specs.declared.unit.TypeName.{TypeName}
-use Rattle.lil_language.specs.declared.unit.Variables.{Variables}
-use Rattle.lil_language.specs.declared.unit.Decl.{Decl}
+use Rattle.lil_language.specs.{declared.unit.{Heading.Heading, Constant.Constant, TypeName.TypeName, Variables.Variables, Decl.{Decl, TheOpen.Decl-F, TheFolds.{map-Decl, fold-roll-Decl, fold_out-Block}, TheViews.roll-Decl}, Block.{Block, out-Block}}, Units.{wrong_end, joined, decl_layer, block_layer, decl_ends, block_ends, all_ends, least, sooner}}
 use Rattle.lil_language.specs.declared.unit.Decl.TheVariants as d
 use Rattle.lil_language.specs.declared.unit.Decl.TheOpen as o
-use Rattle.lil_language.specs.declared.unit.Decl.TheOpen.{Decl-F}
-use Rattle.lil_language.specs.declared.unit.Decl.TheFolds.{map-Decl, fold-roll-Decl, fold_out-Block}
-use Rattle.lil_language.specs.declared.unit.Decl.TheViews.{roll-Decl}
-use Rattle.lil_language.specs.declared.unit.Block.{Block, out-Block}
-use Rattle.lil_language.specs.Units.{wrong_end, joined, decl_layer, block_layer, decl_ends, block_ends, all_ends, least, sooner}
 
 pub least_append : (found : Option Place) (ps qs : List Place) → least found (ps ++ qs) ≡ least (least found ps) qs
 unfolding least

@@ -1,6 +1,5 @@
 pub mod Answering
 pub mod Counting
-pub mod Firsts
 pub mod Layers
 pub mod Soonest
 pub mod Wholes

@@ -1,11 +1,9 @@
 -- What holds of the units of texts, from what holds of tokens.
 use Rattle.std.proofs.Common.{◌≡◌, ◌⊎◌, ℕ, List, subst, inl, inr}
 use Rattle.lil_base.specs.declared.fault.SourceFault.{SourceFault}
-use Rattle.lil_text.specs.declared.token.Token.{Token}
-use Rattle.lil_text.specs.Lexical.{HasTokens, HasLexicalFault}
-use Rattle.lil_language.specs.Units.{IsRightUnit, HasUnitFault, Reads, HasReadFault}
+use Rattle.lil_text.specs.{declared.token.Token.Token, Lexical.{HasTokens, HasLexicalFault}}
+use Rattle.lil_language.specs.{Units.{IsRightUnit, HasUnitFault, Reads, HasReadFault}, declared.unit.Unit.Unit as Tree}
 use Rattle.lil_read_unit.proofs.Answering as by
-use Rattle.lil_language.specs.declared.unit.Unit.{Unit as Tree}
 
 module _ (text : List ℕ) (one : (ts us : List Token) → HasTokens text ts → HasTokens text us → ts ≡ us) where
   pub one_unit : (u v : Tree) → Reads text u → Reads text v → u ≡ v

@@ -1,11 +1,8 @@
 -- The answer of a reader of units, by the unit that was read.
 use Rattle.std.specs.Prelude.{Option, None, Some, Result, Ok, Err}
-use Rattle.lil_base.specs.declared.fault.Place.{Place}
-use Rattle.lil_base.specs.Faults.{fault}
-use Rattle.lil_text.specs.declared.stop.ReadStop.{ReadStop}
-use Rattle.lil_text.specs.declared.stop.ReadStop.TheVariants.{Fault}
-use Rattle.lil_language.specs.Units.{wrong_ends, least}
-use Rattle.lil_language.specs.declared.unit.Unit.{Unit as Tree}
+use Rattle.lil_base.specs.{declared.fault.Place.Place, Faults.fault}
+use Rattle.lil_text.specs.declared.stop.ReadStop.{ReadStop, TheVariants.Fault}
+use Rattle.lil_language.specs.{Units.{wrong_ends, least}, declared.unit.Unit.Unit as Tree}
 
 -- the unit, or fault 11 at the place
 abbrev pub ended : Tree → Option Place → Result Tree ReadStop

@@ -1,8 +1,6 @@
-ghost use Rattle.std.specs.Prelude.{◌≡◌, [], ◌∷◌};
-ghost use Rattle.lil_text.specs.declared.token.Word.TheVariants as w;
+ghost use Rattle.std.specs.Prelude.{◌≡◌};
 ghost use Rattle.lil_grammar.specs.Steps as steps;
 ghost use Rattle.lil_grammar.specs.Steps.{Reads};
-ghost use Rattle.lil_syntax.specs.Terminals.{Kind as k, among};
 ghost use Rattle.lil_language.specs.Grammar as spec;
 
 use lil_base::{Items, beside};
@@ -45,7 +43,7 @@ fn import_all(alloc: Global, reader: &mut Reader<'_>, depth: u8) -> Result<Impor
 }
 
 /// An import.
-#[tactic(auto, using(lil_syntax::specs::Choices::choices), unfolding(lil_language::specs::Grammar::reading, lil_language::specs::Grammar::an_import, lil_language::specs::Grammar::import_from, lil_syntax::specs::Syntax::reads, lil_syntax::specs::Syntax::before))]
+#[tactic(auto, using(lil_language::specs::Laws::ways), unfolding(lil_language::specs::Grammar::an_import, lil_language::specs::Grammar::import_from))]
 fn an_import(alloc: Global, reader: &mut Reader<'_>, depth: u8) -> Result<Import, ReadStop>
     ensures { Reads (spec.reading depth spec.an_import reader.old) result reader.new }
 {
@@ -57,15 +55,15 @@ fn an_import(alloc: Global, reader: &mut Reader<'_>, depth: u8) -> Result<Import
 }
 
 /// Whether an import is next.
-#[tactic(auto, unfolding(lil_grammar::specs::Steps::at, lil_grammar::specs::Steps::same_word))]
+#[tactic(auto, unfolding(lil_grammar::specs::Steps::at, lil_grammar::specs::Steps::same_word, lil_language::specs::Grammar::an_import, lil_language::specs::Grammar::import_from, lil_language::specs::Grammar::import_all))]
 fn sees_import(reader: &Reader<'_>) -> bool
-    ensures { result ≡ steps.at (among (k.word w.From ∷ k.word w.Import ∷ [])) reader.now }
+    ensures { result ≡ steps.at (spec.turns spec.an_import) reader.now }
 {
     reader.sees_word(Word::From) || reader.sees_word(Word::Import)
 }
 
 /// The imports of a unit.
-#[tactic(auto, using(lil_grammar::specs::Turns::turns, crate::proofs::Firsts::import_next), unfolding(lil_language::specs::Grammar::reading, lil_language::specs::Grammar::imports, lil_syntax::specs::Syntax::reads, lil_syntax::specs::Syntax::before, lil_grammar::specs::Steps::many))]
+#[tactic(auto, using(lil_grammar::specs::Turns::turns), unfolding(lil_language::specs::Grammar::reading, lil_language::specs::Grammar::imports, lil_syntax::specs::Syntax::reads, lil_syntax::specs::Syntax::before, lil_grammar::specs::Steps::many))]
 pub fn imports(alloc: Global, reader: &mut Reader<'_>, depth: u8) -> Result<Items<Import>, ReadStop>
     ensures { Reads (spec.reading depth spec.imports reader.old) result reader.new }
 {
@@ -167,7 +165,7 @@ fn program_head(alloc: Global, reader: &mut Reader<'_>, depth: u8) -> Result<Hea
 }
 
 /// What stands before the declarations of a module.
-#[tactic(auto, using(lil_syntax::specs::Choices::choices), unfolding(lil_language::specs::Grammar::reading, lil_language::specs::Grammar::module_head, lil_language::specs::Grammar::implementation_head, lil_syntax::specs::Syntax::reads, lil_syntax::specs::Syntax::before))]
+#[tactic(auto, using(lil_language::specs::Laws::ways), unfolding(lil_language::specs::Grammar::module_head, lil_language::specs::Grammar::implementation_head))]
 pub fn module_head(alloc: Global, reader: &mut Reader<'_>, depth: u8) -> Result<Head, ReadStop>
     ensures { Reads (spec.reading depth spec.module_head reader.old) result reader.new }
 {

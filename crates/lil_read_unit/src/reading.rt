@@ -1,8 +1,7 @@
 ghost use Rattle.std.specs.Prelude.{◌≡◌, ◌⊎◌, ◌≤◌, List, length, Ok, Err, IfOk};
 ghost use Rattle.lil_base.specs.declared.fault.SourceFault.{SourceFault as Fault};
-ghost use Rattle.lil_language.specs.declared.unit.Unit.{Unit as Tree};
+ghost use Rattle.lil_language.specs.{declared.unit.Unit.Unit as Tree, Units.{IsRightUnit, HasUnitFault}};
 ghost use Rattle.lil_read_unit.specs.Settled.{settled};
-ghost use Rattle.lil_language.specs.Units.{IsRightUnit, HasUnitFault};
 
 use crate::ends::wrong_end;
 use crate::units::text;

@@ -1,7 +1,6 @@
 ghost use Rattle.std.specs.Prelude.{◌≡◌, ◌⊎◌, Ok, Err, IfOk};
 ghost use Rattle.lil_base.specs.declared.fault.SourceFault.{SourceFault as Fault};
-ghost use Rattle.lil_language.specs.declared.unit.Unit.{Unit as Tree};
-ghost use Rattle.lil_language.specs.Units.{Reads, HasReadFault};
+ghost use Rattle.lil_language.specs.{declared.unit.Unit.Unit as Tree, Units.{Reads, HasReadFault}};
 
 use crate::reading::unit;
 use lil_base::Text;

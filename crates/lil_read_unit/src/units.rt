@@ -60,7 +60,7 @@ fn other_unit(
 }
 
 /// A unit of so many tokens.
-#[tactic(auto, using(lil_syntax::specs::Choices::choices), unfolding(lil_language::specs::Grammar::reading, lil_language::specs::Grammar::unit, lil_language::specs::Grammar::definition, lil_language::specs::Grammar::definition_head, lil_syntax::specs::Syntax::reads, lil_syntax::specs::Syntax::before))]
+#[tactic(auto, using(lil_language::specs::Laws::ways), unfolding(lil_language::specs::Grammar::unit, lil_language::specs::Grammar::definition, lil_language::specs::Grammar::definition_head))]
 fn some_unit(
     alloc: Global,
     reader: &mut Reader<'_>,

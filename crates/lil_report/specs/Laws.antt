@@ -2,8 +2,7 @@
 use Rattle.std.proofs.Common.{◌≡◌, ℕ, List, [], ◌∷◌, ◌++◌, Option, refl, subst, ap, sym, ◌∙◌}
 use Rattle.std.proofs.Common.{◌+◌, ◌<◌, ◌≤◌, length, take, get_or, map}
 use Rattle.std.proofs.lemmas.List.{take_more, take_all}
-use Rattle.lil_report.specs.declared.report.Fault.{Fault}
-use Rattle.lil_report.specs.Told.{Row, noted, tell, after, Said, walk}
+use Rattle.lil_report.specs.{declared.report.Fault.Fault, Told.{Row, noted, tell, after, Said, walk}}
 
 pub tell_append : (o : Option Fault) (xs ys : List Row) → tell o (xs ++ ys) ≡ tell (tell o xs) ys
 unfolding tell

@@ -1,8 +1,6 @@
 -- The order of faults.
-use Rattle.std.specs.Prelude.{◌≡◌, ◌⊎◌, ℕ, ◌<◌, ◌≤◌, Bool, true, false, ◌||◌, ◌&&◌, nat_lt, nat_le, nat_eq, if◌then◌else◌, Option, Some, None}
-use Rattle.lil_base.specs.declared.fault.Place.{Place}
-use Rattle.lil_base.specs.declared.fault.FaultKind.{FaultKind}
-use Rattle.lil_base.specs.Faults.{fault_number}
+use Rattle.std.specs.Prelude.{◌≡◌, ℕ, Bool, true, false, ◌||◌, ◌&&◌, nat_lt, nat_le, nat_eq, if◌then◌else◌, Option, Some, None}
+use Rattle.lil_base.specs.{declared.fault.{Place.Place, FaultKind.FaultKind}, Faults.fault_number}
 use Rattle.lil_report.specs.declared.report.Fault.{Fault}
 
 abbrev pub number : Fault → ℕ
@@ -49,22 +47,9 @@ abbrev pub late_of : Option Fault → Option Fault
 late_of None = None
 late_of (Some f) = if is_late f then Some f else None
 
--- ---- the same order as types
-abbrev pub IsBefore : Fault → Fault → Type 0
-IsBefore f g = (f.place.offset < g.place.offset) ⊎ ((f.place.offset ≡ g.place.offset) × (number f ≤ number g))
-
-abbrev pub IsUpBy : Bool → Bool → Type 0 → Type 0
-IsUpBy false true P = Unit {0}
-IsUpBy true false P = ⊥
-IsUpBy false false P = P
-IsUpBy true true P = P
-
-abbrev pub IsUpTo : Fault → Fault → Type 0
-IsUpTo f g = IsUpBy (is_late f) (is_late g) (IsBefore f g)
-
 -- f is the least of the faults that F tells
 abbrev pub IsLeast : (Fault → Type 0) → Fault → Type 0
-IsLeast F f = F f × ((g : Fault) → F g → IsUpTo f g)
+IsLeast F f = F f × ((g : Fault) → F g → is_up_to f g ≡ true)
 
 -- the same where there may be none
 abbrev pub Reports : (Fault → Type 0) → Option Fault → Type 0

@@ -1,73 +1,30 @@
 -- The least of all faults.
-use Rattle.std.proofs.Common.{◌≡◌, ◌⊎◌, ℕ, ◌<◌, ◌≤◌, Bool, true, false, cond, List, [], ◌∷◌, Option, Some, None, if◌then◌else◌, refl, subst, sym, inl, inr, arith}
-use Rattle.std.proofs.Common.{ltb, leb, eqb, ◌||◌, ◌&&◌}
-use Rattle.std.proofs.lemmas.Bool.{cases_order, ltb-true, ltb-false, leb-true, leb-false, eqb-true, eqb-false, or_cases, and_parts}
-use Rattle.lil_base.specs.declared.fault.Place.{Place}
-use Rattle.lil_base.specs.declared.fault.FaultKind.{FaultKind}
-use Rattle.lil_report.specs.declared.report.Fault.{Fault}
-use Rattle.lil_report.specs.Least.{number, is_late, is_before, is_up_by, is_up_to, least, worse, when, now_of, late_of, IsBefore, IsUpBy, IsUpTo, IsLeast, Reports}
-use Rattle.lil_report.specs.Told.{Row, Stands, noted, tell}
+use Rattle.std.proofs.Common.{◌≡◌, ◌⊎◌, Bool, true, false, cond, List, [], ◌∷◌, Option, Some, None, if◌then◌else◌, refl, subst, sym, inl, inr, arith}
+use Rattle.std.proofs.lemmas.Bool.Decides.{nat_tests}
+use Rattle.lil_base.specs.declared.fault.{Place.Place, FaultKind.FaultKind}
+use Rattle.lil_report.specs.{declared.report.Fault.Fault, Least.{is_late, is_before, is_up_by, is_up_to, least, worse, when, now_of, late_of, IsLeast, Reports}, Told.{Row, Stands, noted, tell}}
 
--- ---- faults that are both late, or both not
-before_refl : (f : Fault) → IsBefore f f
-before_refl f = inr (refl, omega arith)
+-- ---- the order of faults
+before_no : (f g : Fault) → is_before f g ≡ false → is_before g f ≡ true
+before_no f g e = grind (arith, nat_tests)
 
-before_trans : (f g h : Fault) → IsBefore f g → IsBefore g h → IsBefore f h
-before_trans f g h (inl a) (inl b) = inl (omega arith)
-before_trans f g h (inl a) (inr b) = inl (omega arith)
-before_trans f g h (inr a) (inl b) = inl (omega arith)
-before_trans f g h (inr a) (inr b) = inr (omega arith, omega arith)
+before_trans : (f g h : Fault) → is_before f g ≡ true → is_before g h ≡ true → is_before f h ≡ true
+before_trans f g h p q = grind (arith, nat_tests)
 
-before_yes : (f g : Fault) → is_before f g ≡ true → IsBefore f g
-before_yes f g e = elim (or_cases _ _ e) [ inl h ↦ inl (ltb-true _ _ h) | inr h ↦ (let p = and_parts _ _ h in inr (eqb-true _ _ p.0, leb-true _ _ p.1)) ]
+no_by : (a b x y : Bool) → (x ≡ false → y ≡ true) → is_up_by a b x ≡ false → is_up_by b a y ≡ true
+no_by a b x y k e = grind arith
 
-module _ (a b m n : ℕ) where
-  no_by : (x y z : Bool) → ltb a b ≡ x → eqb a b ≡ y → leb m n ≡ z → (x || (y && z)) ≡ false → (b < a) ⊎ ((b ≡ a) × (n ≤ m))
-  no_by true y z i j k e = absurd (cc)
-  no_by false true true i j k e = absurd (cc)
-  no_by false true false i j k e = inr (omega (arith, eqb-true a b j), omega (arith, leb-false m n k))
-  no_by false false z i j k e = elim (cases_order a b) [ inl h ↦ absurd (eqb-false a b j h) | inr h ↦ inl (elim h [ inl u ↦ omega (arith, ltb-false a b i) | inr u ↦ u ]) ]
+pub up_no : (f g : Fault) → is_up_to f g ≡ false → is_up_to g f ≡ true
+up_no f g e = no_by (is_late f) (is_late g) (is_before f g) (is_before g f) (before_no f g) e
 
-before_no : (f g : Fault) → is_before f g ≡ false → IsBefore g f
-before_no f g e = no_by f.place.offset g.place.offset (number f) (number g) _ _ _ refl refl refl e
+pub up_refl : (f : Fault) → is_up_to f f ≡ true
+up_refl f = grind (arith, up_no f f)
 
--- ---- all faults: a late one comes behind one that isn't
-refl_by : {P : Type 0} (a : Bool) → P → IsUpBy a a P
-refl_by false p = p
-refl_by true p = p
+trans_by : (a b c x y z : Bool) → (x ≡ true → y ≡ true → z ≡ true) → is_up_by a b x ≡ true → is_up_by b c y ≡ true → is_up_by a c z ≡ true
+trans_by a b c x y z k p q = grind arith
 
-trans_by : {P Q R : Type 0} (a b c : Bool) → (P → Q → R) → IsUpBy a b P → IsUpBy b c Q → IsUpBy a c R
-trans_by false false false k p q = k p q
-trans_by false false true k p q = tt
-trans_by false true false k p q = absurd q
-trans_by false true true k p q = tt
-trans_by true false c k p q = absurd p
-trans_by true true false k p q = absurd q
-trans_by true true true k p q = k p q
-
-yes_by : {P : Type 0} (a b x : Bool) → (x ≡ true → P) → is_up_by a b x ≡ true → IsUpBy a b P
-yes_by false false x k e = k e
-yes_by false true x k e = tt
-yes_by true false x k e = absurd (cc)
-yes_by true true x k e = k e
-
-swap_by : {P : Type 0} (a b x : Bool) → (x ≡ false → P) → is_up_by a b x ≡ false → IsUpBy b a P
-swap_by false false x k e = k e
-swap_by false true x k e = absurd (cc)
-swap_by true false x k e = tt
-swap_by true true x k e = k e
-
-pub up_refl : (f : Fault) → IsUpTo f f
-up_refl f = refl_by (is_late f) (before_refl f)
-
-pub up_trans : (f g h : Fault) → IsUpTo f g → IsUpTo g h → IsUpTo f h
-up_trans f g h p q = trans_by (is_late f) (is_late g) (is_late h) (before_trans f g h) p q
-
-pub up_yes : (f g : Fault) → is_up_to f g ≡ true → IsUpTo f g
-up_yes f g e = yes_by (is_late f) (is_late g) (is_before f g) (before_yes f g) e
-
-pub up_no : (f g : Fault) → is_up_to f g ≡ false → IsUpTo g f
-up_no f g e = swap_by (is_late f) (is_late g) (is_before f g) (before_no f g) e
+pub up_trans : (f g h : Fault) → is_up_to f g ≡ true → is_up_to g h ≡ true → is_up_to f h ≡ true
+up_trans f g h p q = trans_by (is_late f) (is_late g) (is_late h) (is_before f g) (is_before g h) (is_before f h) (before_trans f g h) p q
 
 module _ (P : Fault → Type 0) (f g : Fault) where
   least_by : (b : Bool) → is_up_to f g ≡ b → (b ≡ true → P f) → (b ≡ false → P g) → P (cond b f g)
@@ -78,11 +35,11 @@ module _ (P : Fault → Type 0) (f g : Fault) where
   unfolding least
   least_is x y = least_by (is_up_to f g) refl x y
 
-pub least_left : (f g : Fault) → IsUpTo (least f g) f
-least_left f g = least_is (λ h. IsUpTo h f) f g (λ e. up_refl f) (λ e. up_no f g e)
+pub least_left : (f g : Fault) → is_up_to (least f g) f ≡ true
+least_left f g = least_is (λ h. is_up_to h f ≡ true) f g (λ e. up_refl f) (λ e. up_no f g e)
 
-pub least_right : (f g : Fault) → IsUpTo (least f g) g
-least_right f g = least_is (λ h. IsUpTo h g) f g (λ e. up_yes f g e) (λ e. up_refl g)
+pub least_right : (f g : Fault) → is_up_to (least f g) g ≡ true
+least_right f g = least_is (λ h. is_up_to h g ≡ true) f g (λ e. e) (λ e. up_refl g)
 
 -- ---- reports of a node's own faults
 module _ (F G : Fault → Type 0) where
@@ -102,7 +59,7 @@ module _ (F G : Fault → Type 0) where
 
 pub reports_when : (b : Bool) (p : Place) (n : FaultKind) → Reports (λ f. (b ≡ true) × (f ≡ record { place = p; kind = n })) (when b p n)
 unfolding when
-reports_when true p n = ((refl, refl), λ g h. subst (λ g. IsUpTo (record { place = p; kind = n }) g) (sym h.1) (up_refl (record { place = p; kind = n })))
+reports_when true p n = ((refl, refl), λ g h. subst (λ g. is_up_to (record { place = p; kind = n }) g ≡ true) (sym h.1) (up_refl (record { place = p; kind = n })))
 reports_when false p n = λ g h. absurd (cc)
 
 -- ---- what is told of tests is the least fault of those that stand
@@ -129,11 +86,14 @@ pub reports_tell : (rs : List Row) → Reports (Stands rs) (tell None rs)
 reports_tell rs = reports_as _ _ (tell None rs) (λ f h. elim h [ inl x ↦ absurd x | inr x ↦ x ]) (λ f h. inr h) (reports_from (λ f. ⊥) None rs (λ g h. h))
 
 -- ---- the faults that aren't late, and those that are
+late_last : (a b x : Bool) → a ≡ true → b ≡ false → is_up_by a b x ≡ true → ⊥
+late_last a b x e k h = grind arith
+
 module _ (F : Fault → Type 0) where
   -- of those that aren't late, the least is the least of all, unless that is late
   now_by : (f : Fault) (b : Bool) → is_late f ≡ b → IsLeast F f → Reports (λ g. F g × (is_late g ≡ false)) (if b then None else Some f)
   now_by f false e h = ((h.0, e), λ g k. h.1 g k.0)
-  now_by f true e h = λ g k. subst (λ a. IsUpBy a false (IsBefore f g)) e (subst (λ b. IsUpBy (is_late f) b (IsBefore f g)) k.1 (h.1 g k.0))
+  now_by f true e h = λ g k. late_last (is_late f) (is_late g) (is_before f g) e k.1 (h.1 g k.0)
 
   pub reports_now : (o : Option Fault) → Reports F o → Reports (λ g. F g × (is_late g ≡ false)) (now_of o)
   reports_now None h = λ g k. h g k.0

@@ -1,9 +1,7 @@
 -- The tests of a phrase, and the faults that stand in it.
 use Rattle.std.specs.Prelude.{◌≡◌, ◌⊎◌, Bool, true, List, [], ◌∷◌, ◌++◌, Option}
-use Rattle.lil_base.specs.declared.fault.Place.{Place}
-use Rattle.lil_base.specs.declared.fault.FaultKind.{FaultKind}
-use Rattle.lil_report.specs.declared.report.Fault.{Fault}
-use Rattle.lil_report.specs.Least.{worse, when}
+use Rattle.lil_base.specs.declared.fault.{Place.Place, FaultKind.FaultKind}
+use Rattle.lil_report.specs.{declared.report.Fault.Fault, Least.{worse, when}}
 
 -- a test of a node: what is wrong there is this fault
 pub record Row : Type 0 where

@@ -38,37 +38,15 @@ fn is_up_to(f: Fault, g: Fault) -> bool
     }
 }
 
-/// The one that speaks.
-#[tactic(auto, unfolding(crate::specs::Least::least))]
-fn least(f: Fault, g: Fault) -> Fault
-    ensures { result ≡ spec.least f g }
-{
-    if is_up_to(f, g) { f } else { g }
-}
-
 /// The one of two faults that speaks, if there is any.
-#[tactic(auto, unfolding(crate::specs::Least::worse))]
+#[tactic(auto, unfolding(crate::specs::Least::worse, crate::specs::Least::least))]
 pub fn worse(a: Option<Fault>, b: Option<Fault>) -> Option<Fault>
     ensures { result ≡ spec.worse a b }
 {
-    match a {
-        None => b,
-        Some(f) => match b {
-            None => Some(f),
-            Some(g) => Some(least(f, g)),
-        },
-    }
-}
-
-/// A fault at `place`, where `wrong`.
-#[tactic(auto, unfolding(crate::specs::Least::when))]
-fn when(wrong: bool, place: Place, kind: FaultKind) -> Option<Fault>
-    ensures { result ≡ spec.when wrong place kind }
-{
-    if wrong {
-        Some(Fault { place, kind })
-    } else {
-        None
+    match (a, b) {
+        (None, _) => b,
+        (Some(f), None) => Some(f),
+        (Some(f), Some(g)) => Some(if is_up_to(f, g) { f } else { g }),
     }
 }
 
@@ -108,8 +86,8 @@ impl Report {
         ensures { result ≡ spec.now_of self.now }
     {
         match self.worst {
-            Some(fault) => { if is_late(fault) { None } else { Some(fault) } }
-            None => None,
+            Some(fault) if !is_late(fault) => Some(fault),
+            _ => None,
         }
     }
 
@@ -118,15 +96,21 @@ impl Report {
         ensures { result ≡ spec.late_of self.now }
     {
         match self.worst {
-            Some(fault) => { if is_late(fault) { Some(fault) } else { None } }
-            None => None,
+            Some(fault) if is_late(fault) => Some(fault),
+            _ => None,
         }
     }
 
     /// One test more: where it finds something wrong, that is this fault.
+    #[tactic(auto, unfolding(crate::specs::Least::when))]
     pub fn note(&mut self, wrong: bool, place: Place, kind: FaultKind)
         ensures { self.new ≡ noted self.old (row wrong place kind) }
     {
-        self.worst = worse(self.worst, when(wrong, place, kind));
+        let found = if wrong {
+            Some(Fault { place, kind })
+        } else {
+            None
+        };
+        self.worst = worse(self.worst, found);
     }
 }

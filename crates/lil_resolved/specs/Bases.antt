@@ -1,11 +1,7 @@
 -- What a kind was taken from is its base.
 use Rattle.std.proofs.Common.{◌≡◌, Option, Some, None, refl}
-use Rattle.lil_resolved.specs.declared.resolved.RBase.{RBase}
+use Rattle.lil_resolved.specs.{declared.resolved.{RBase.RBase, RRange.RRange, RKind.RKind}, Kinds.base_of, Views.{base_view, ranged_view, kind_view}}
 use Rattle.lil_resolved.specs.declared.resolved.RBase.TheVariants as b
-use Rattle.lil_resolved.specs.declared.resolved.RRange.{RRange}
-use Rattle.lil_resolved.specs.declared.resolved.RKind.{RKind}
-use Rattle.lil_resolved.specs.Kinds.{base_of}
-use Rattle.lil_resolved.specs.Views.{base_view, ranged_view, kind_view}
 
 -- a base is no part of another kind
 pub own_base : (k : RKind) → base_of (kind_view k) ≡ base_view k.base

@@ -1,21 +1,11 @@
--- What the operations of a chain, the selectors of a place and the members of a set add to it.
-use Rattle.std.specs.Prelude.{ℕ, ◌+◌, max, Bool, true, false, ◌&&◌, List, [], ◌∷◌}
-use Rattle.lil_base.specs.declared.operator.TwoOp.{TwoOp}
-use Rattle.lil_base.specs.declared.operator.TwoOp.TheVariants.{Plus, Minus, Times, Slash, Div, Mod}
-use Rattle.lil_resolved.specs.Sizes.{depth}
-use Rattle.lil_resolved.specs.Views.{expression_of}
-use Rattle.lil_resolved.specs.declared.resolved.RExpr.{RExpr}
+-- What kind of values chains and sets have.
+use Rattle.std.proofs.Common.{◌≡◌, ℕ, ◌+◌, ◌<◌, Bool, true, false, ◌&&◌, if◌then◌else◌, List, [], ◌∷◌, map, drop, length, get_or, refl, sym, ap, ◌∙◌}
+use Rattle.std.proofs.lemmas.List.{drop_more}
+use Rattle.lil_base.specs.declared.operator.TwoOp.{TwoOp, TheVariants.{Plus, Minus, Times, Slash, Div, Mod, And}}
+use Rattle.lil_resolved.specs.{declared.resolved.{RExpr.{RExpr, TheOpen.{RSelector-F, RMember-F}, TheFolds.map-RMember}, ROperation.{ROperation, out-ROperation}, RMember.{RMember, out-RMember}, RKind.RKind, RPlace.RPlace, RSelector.RSelector}, Kinds.{Kind, OfTruth, OfSet}, Resolved.{Designator, Expression, kind_of}}
+use Rattle.lil_resolved.specs.Views.{chain_is, set_is, operation_is, member_is, two_of, chained, with_members, empty_set, kind_view, member_layer, expression_of, selector_of, member_of, operation_of, place_of}
+use Rattle.lil_resolved.specs.declared.resolved.RExpr.TheVariants as e
 use Rattle.lil_resolved.specs.declared.resolved.RExpr.TheOpen as x
-use Rattle.lil_resolved.specs.declared.resolved.RExpr.TheOpen.{RSelector-F, RMember-F}
-use Rattle.lil_resolved.specs.declared.resolved.ROperation.{ROperation, out-ROperation}
-use Rattle.lil_resolved.specs.declared.resolved.RPlace.{RPlace}
-use Rattle.lil_resolved.specs.declared.resolved.RSelector.{RSelector, out-RSelector}
-use Rattle.lil_resolved.specs.declared.resolved.RMember.{RMember, out-RMember}
-
--- how many words of the expression stack operations take, where each holds what stands before it
-abbrev pub operations_depth : List ROperation → ℕ
-operations_depth [] = 0
-operations_depth (o ∷ os) = max (1 + depth (expression_of (out-ROperation o).operand)) (operations_depth os)
 
 -- an operator whose value is of the kind of its operands
 abbrev pub is_arithmetic : TwoOp → Bool
@@ -31,27 +21,42 @@ abbrev pub all_arithmetic : List ROperation → Bool
 all_arithmetic [] = true
 all_arithmetic (o ∷ os) = is_arithmetic (out-ROperation o).operator && all_arithmetic os
 
--- how many words of the expression stack a selector takes beside what stands before it
-abbrev pub selector_depth_in : RSelector-F RExpr RMember RSelector ROperation RPlace → ℕ
-selector_depth_in (x.Field i) = 0
-selector_depth_in (x.Index k e) = 2 + depth (expression_of e)
-selector_depth_in (x.Follow n) = 0
+-- ---- chains
+two_kind : (o : TwoOp) (a b : Expression) → kind_of (two_of o a b) ≡ (if is_arithmetic o then kind_of a else OfTruth)
+two_kind And a b = refl
+two_kind _ a b = refl
 
-abbrev pub selector_depth : RSelector → ℕ
-selector_depth s = selector_depth_in (out-RSelector s)
+operation_kind : (o : ROperation) (a : Expression) → kind_of (operation_of o a) ≡ (if is_arithmetic (out-ROperation o).operator then kind_of a else OfTruth)
+operation_kind o a = ap kind_of (operation_is o a) ∙ two_kind (out-ROperation o).operator a (expression_of (out-ROperation o).operand)
 
-abbrev pub selectors_depth : List RSelector → ℕ
-selectors_depth [] = 0
-selectors_depth (s ∷ ss) = max (selector_depth s) (selectors_depth ss)
+twice : (b c : Bool) (k : Kind) → (if c then (if b then k else OfTruth) else OfTruth) ≡ (if b && c then k else OfTruth)
+twice true c k = refl
+twice false true k = refl
+twice false false k = refl
 
--- how many words of the expression stack a member takes beside the set of those before it
-abbrev pub member_depth_in : RMember-F RExpr RMember RSelector ROperation RPlace → ℕ
-member_depth_in (x.Single a) = max 3 (1 + depth (expression_of a))
-member_depth_in (x.Span a b) = max (1 + depth (expression_of a)) (2 + depth (expression_of b))
+chained_kind : (a : Expression) (os : List ROperation) → kind_of (chained a (map operation_of os)) ≡ (if all_arithmetic os then kind_of a else OfTruth)
+chained_kind a [] = refl
+chained_kind a (o ∷ os) =
+    chained_kind (operation_of o a) os ∙ ap (λ (k : Kind). if all_arithmetic os then k else OfTruth) (operation_kind o a)
+    ∙ twice (is_arithmetic (out-ROperation o).operator) (all_arithmetic os) (kind_of a)
 
-abbrev pub member_depth : RMember → ℕ
-member_depth m = member_depth_in (out-RMember m)
+pub chain_kind : (a : RExpr) (os : List ROperation) → kind_of (expression_of (e.Chain a os)) ≡ (if all_arithmetic os then kind_of (expression_of a) else OfTruth)
+chain_kind a os = ap kind_of (chain_is a os) ∙ chained_kind (expression_of a) os
 
-abbrev pub members_depth : List RMember → ℕ
-members_depth [] = 0
-members_depth (m ∷ ms) = max (member_depth m) (members_depth ms)
+-- what is left of operations from one on
+pub arithmetic_left : (os : List ROperation) (i : ℕ) (o : ROperation) → i < length os → o ≡ get_or os i o
+    → all_arithmetic (drop i os) ≡ (is_arithmetic (out-ROperation o).operator && all_arithmetic (drop (i + 1) os))
+arithmetic_left os i o inside is = ap all_arithmetic (drop_more os i o inside ∙ ap (λ y. y ∷ drop (i + 1) os) (sym is))
+
+-- ---- sets
+member_layer_kind : (y : RMember-F RExpr RMember RSelector ROperation RPlace) (k : Kind) (s : Expression)
+    → kind_of (member_layer (map-RMember RExpr RMember RSelector ROperation RPlace Expression (Kind → Expression → Expression) (Designator → Designator) (Expression → Expression) Designator expression_of member_of selector_of operation_of place_of y) k s) ≡ OfSet
+member_layer_kind (x.Single a) k s = refl
+member_layer_kind (x.Span a b) k s = refl
+
+with_kind : (k : Kind) (s : Expression) (ms : List RMember) → kind_of s ≡ OfSet → kind_of (with_members k s (map member_of ms)) ≡ OfSet
+with_kind k s [] h = h
+with_kind k s (m ∷ ms) h = with_kind k (member_of m k s) ms (ap kind_of (member_is m k s) ∙ member_layer_kind (out-RMember m) k s)
+
+pub set_kind : (k : RKind) (ms : List RMember) → kind_of (expression_of (e.Set k ms)) ≡ OfSet
+set_kind k ms = ap kind_of (set_is k ms) ∙ with_kind (kind_view k) empty_set ms refl

@@ -1,7 +1,6 @@
 -- The sorts of values that scalar variables, parameters and expressions have, the scalars themselves, and the shapes of what lies in variables.
 use Rattle.std.specs.Prelude.{ℕ, zero, suc, ◌+◌, ◌*◌, Bool, true, false, List, [], ◌∷◌, Option, Some, None, slice_get, nat_lt, if◌then◌else◌, ◌-◌, ◌==◌, ℤ, pos, not, ◌&&◌, nat_le, negsuc, ◌+ℤ◌, ◌-ℤ◌, int_lt, ◌||◌}
-use Rattle.lil_base.specs.Words.{in_type, between, is_zero, word_of, Whole, Cardinal, Integer}
-use Rattle.lil_base.specs.Sets.{has, set_word}
+use Rattle.lil_base.specs.{Words.{in_type, between, is_zero, word_of, Whole, Cardinal, Integer}, Sets.{has, set_word}}
 use Rattle.lil_resolved.specs.Members.{no_members}
 use Rattle.lil_base.specs.Words as type
 

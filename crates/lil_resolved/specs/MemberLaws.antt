@@ -1,11 +1,8 @@
 -- The words of sets.
 use Rattle.std.proofs.Common.{◌≡◌, ℕ, zero, suc, ◌+◌, ◌*◌, ◌<◌, ◌≤◌, Bool, true, false, not, ◌&&◌, ◌||◌, ◌==◌, cond, refl, sym, ap, ◌∙◌, arith, ⊎_elim}
 use Rattle.std.specs.Prelude.{pos, nat_lt}
-use Rattle.std.proofs.lemmas.Bool.{cases_lt}
-use Rattle.std.proofs.lemmas.Bool.Decides.{nat_tests}
-use Rattle.std.proofs.lemmas.Nat.Bits.{bit_at_above}
-use Rattle.lil_base.specs.Sets.{has, either, set_from, set_word, union, minus, meet, apart, is_within}
-use Rattle.lil_base.specs.SetLaws.{has_set, has_no, set_is}
+use Rattle.std.proofs.lemmas.{Bool.{cases_lt, Decides.nat_tests}, Nat.Bits.bit_at_above}
+use Rattle.lil_base.specs.{Sets.{has, either, set_from, set_word, union, minus, meet, apart, is_within}, SetLaws.{has_set, has_no, set_is}}
 use Rattle.lil_resolved.specs.Members.{all_below, same_members, included, is_in, united, without, shared_members, unshared}
 
 -- sets of the same numbers below 16 have one word

@@ -2,12 +2,9 @@
 use Rattle.std.specs.Prelude.{ℕ, List, [], ◌∷◌, ◌++◌, ◌+◌, max, Bool, true, false, ◌*◌, ◌≤◌, ℤ, length, if◌then◌else◌}
 use Rattle.std.specs.List.{flat_map}
 use Rattle.lil_resolved.specs.Resolved.{Argument, ByValue, OfArray, OfText, Statement, Assign, Copy, Text, Change, Member, New, Allocate, Request, If, Case, While, Repeat, Loop, Exit, Halt, Return, Call, For, Inside, Statements, Empty, Then, Arms, NoElse, Else, Arm, Procedure, Resolved, Designator, Variable, Held, Field, Element, Follow, Function, Odd, Expression, Constant, Taken, One, Two, Short, Apply, With, WithSpan, Abs, Cap, Chr, Ord, Val, kind_of, counted_as}
-use Rattle.lil_base.specs.declared.operator.OneOp.{OneOp}
-use Rattle.lil_base.specs.declared.operator.OneOp.TheVariants as one
-use Rattle.lil_base.specs.declared.operator.TwoOp.{TwoOp}
-use Rattle.lil_base.specs.declared.operator.TwoOp.TheVariants.{Greater, AtLeast}
-use Rattle.lil_base.specs.Words.{Cardinal, Integer}
 use Rattle.lil_resolved.specs.Kinds.{Kind, OfWhole, OfCharacter, base_of, compared_as, covers, outside_turns, all_words}
+use Rattle.lil_base.specs.{declared.operator.{OneOp.OneOp, TwoOp.{TwoOp, TheVariants.{Greater, AtLeast}}}, Words.{Cardinal, Integer}}
+use Rattle.lil_base.specs.declared.operator.OneOp.TheVariants as one
 
 -- ---- the words of the strings of statements, in the order of the text. Each use of a string has words of its own
 

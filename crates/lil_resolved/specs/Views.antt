@@ -1,57 +1,29 @@
 -- The views of the program's trees: which resolved module each one is, form by form.
 use Rattle.std.proofs.Common.{◌≡◌, ℕ, ℤ, List, map, Option, None, Some, sym, ap, ◌∙◌}
-use Rattle.lil_base.specs.declared.operator.OneOp.{OneOp}
-use Rattle.lil_resolved.specs.declared.resolved.RExpr.{RExpr}
+use Rattle.lil_base.specs.{declared.operator.{OneOp.OneOp, TwoOp.{TwoOp, TheVariants.{Equal, Unequal, Less, AtMost, Greater, AtLeast, In, Plus, Minus, Or, Times, Slash, Div, Mod, And}}}, Words.{Cardinal, Integer}}
+use Rattle.lil_resolved.specs.declared.resolved.RExpr.{RExpr, TheOpen.{RExpr-F, RMember-F, RSelector-F, ROperation-F, RPlace-F}}
+use Rattle.lil_resolved.specs.declared.resolved.RExpr.TheFolds.{map-RExpr, map-RSelector, map-RMember, fold-roll-RExpr, fold-roll-RMember, fold-roll-RSelector, fold_out-RSelector, fold_out-RMember, fold_out-ROperation, fold_out-RPlace, fold-RExpr, fold-RSelector, fold-RMember, fold-ROperation, fold-RPlace}
+use Rattle.lil_resolved.specs.declared.resolved.{RExpr.TheViews.{roll-RExpr, roll-RMember, roll-RSelector}, ROperation.{ROperation, out-ROperation}, RPlace.{RPlace, out-RPlace}, RSelector.{RSelector, out-RSelector}, RMember.{RMember, out-RMember}, Membership.Membership, Allocation.Allocation, RKind.RKind}
+use Rattle.lil_resolved.specs.{Kinds.{Kind, Objects, Workspaces, OfWhole, OfTruth, OfCharacter, OfEnumeration, OfSet, OfPointer, OfRange, compared_as, scalar_of, SetOf, Shape, Absent, Word, Row, all_words, offsets_from, shape_at, fields_of, words}, declared.resolved.RStmt.{RStmt, TheOpen.{RStmt-F, RArm-F, RGuard-F}}}
+use Rattle.lil_resolved.specs.declared.resolved.{RStmt.{TheFolds.{map-RStmt, fold-roll-RStmt, fold-roll-RArm, fold-roll-RGuard, fold-RStmt, fold-RArm, fold-RGuard}, TheViews.roll-RStmt}, RGuard.RGuard, RArm.RArm, RBase.RBase, RVariable.RVariable, RFunction.RFunction, Direction.Direction, RArgument.RArgument}
+use Rattle.lil_resolved.specs.Resolved.{Designator, Field, Element, Follow, Expression, Constant, Taken, Apply, With, WithSpan, Assign, Copy, Text, Change, Member, New, Allocate, Request, If, Case, While, Repeat, Loop, Exit, Halt, Return, For, Inside, Statements, Empty, Then, Arms, Arm, kind_of, Variable, Held, Function, Abs, Cap, Chr, Odd, Ord, Val, One, Two, Short, Argument, ByValue, OfArray, OfText, Label, NoElse, Else, Resolved}
+use Rattle.lil_resolved.specs.{Members.no_members, declared.{resolved.{RRange.RRange, RRoot.RRoot, RDeclared.RDeclared, RLabel.RLabel, RModule.RModule}, shapes.{RField.RField, RShape.RShape}}}
 use Rattle.lil_resolved.specs.declared.resolved.RExpr.TheVariants as e
 use Rattle.lil_resolved.specs.declared.resolved.RExpr.TheOpen as x
-use Rattle.lil_resolved.specs.declared.resolved.RExpr.TheOpen.{RExpr-F, RMember-F, RSelector-F, ROperation-F, RPlace-F}
-use Rattle.lil_resolved.specs.declared.resolved.RExpr.TheFolds.{map-RExpr, map-RSelector, map-RMember, fold-roll-RExpr, fold-roll-RMember, fold-roll-RSelector, fold_out-RSelector, fold_out-RMember, fold_out-ROperation, fold_out-RPlace, fold-RExpr, fold-RSelector, fold-RMember, fold-ROperation, fold-RPlace}
-use Rattle.lil_resolved.specs.declared.resolved.RExpr.TheViews.{roll-RExpr, roll-RMember, roll-RSelector}
-use Rattle.lil_resolved.specs.declared.resolved.ROperation.{ROperation, out-ROperation}
-use Rattle.lil_resolved.specs.declared.resolved.RPlace.{RPlace, out-RPlace}
-use Rattle.lil_resolved.specs.declared.resolved.RSelector.{RSelector, out-RSelector}
 use Rattle.lil_resolved.specs.declared.resolved.RSelector.TheVariants as l
-use Rattle.lil_resolved.specs.declared.resolved.RMember.{RMember, out-RMember}
 use Rattle.lil_resolved.specs.declared.resolved.RMember.TheVariants as c
-use Rattle.lil_resolved.specs.declared.resolved.Membership.{Membership}
-use Rattle.lil_resolved.specs.declared.resolved.Allocation.{Allocation}
-use Rattle.lil_resolved.specs.declared.resolved.RKind.{RKind}
-use Rattle.lil_resolved.specs.Kinds.{Kind, Objects, Workspaces, OfWhole, OfTruth, OfCharacter, OfEnumeration, OfSet, OfPointer, OfRange, compared_as, scalar_of, SetOf, Shape, Absent, Word, Row, all_words, offsets_from, shape_at, fields_of, words}
-use Rattle.lil_resolved.specs.declared.resolved.RStmt.{RStmt}
 use Rattle.lil_resolved.specs.declared.resolved.RStmt.TheVariants as s
 use Rattle.lil_resolved.specs.declared.resolved.RStmt.TheOpen as o
-use Rattle.lil_resolved.specs.declared.resolved.RStmt.TheOpen.{RStmt-F, RArm-F, RGuard-F}
-use Rattle.lil_resolved.specs.declared.resolved.RStmt.TheFolds.{map-RStmt, fold-roll-RStmt, fold-roll-RArm, fold-roll-RGuard, fold-RStmt, fold-RArm, fold-RGuard}
-use Rattle.lil_resolved.specs.declared.resolved.RStmt.TheViews.{roll-RStmt}
-use Rattle.lil_resolved.specs.declared.resolved.RGuard.{RGuard}
-use Rattle.lil_resolved.specs.declared.resolved.RArm.{RArm}
-use Rattle.lil_resolved.specs.declared.resolved.RBase.{RBase}
-use Rattle.lil_resolved.specs.declared.resolved.RVariable.{RVariable}
-use Rattle.lil_resolved.specs.declared.resolved.RFunction.{RFunction}
 use Rattle.lil_base.specs.declared.request.Request as request
-use Rattle.lil_resolved.specs.declared.resolved.Direction.{Direction}
-use Rattle.lil_resolved.specs.declared.resolved.RArgument.{RArgument}
-use Rattle.lil_resolved.specs.Resolved.{Designator, Field, Element, Follow, Expression, Constant, Taken, Apply, With, WithSpan, Assign, Copy, Text, Change, Member, New, Allocate, Request, If, Case, While, Repeat, Loop, Exit, Halt, Return, For, Inside, Statements, Empty, Then, Arms, Arm, kind_of, Variable, Held, Function, Abs, Cap, Chr, Odd, Ord, Val, One, Two, Short, Argument, ByValue, OfArray, OfText, Label, NoElse, Else, Resolved}
 use Rattle.std.specs.Prelude.{◌+◌, ◌<◌, ◌≤◌, Bool, [], ◌∷◌, ◌++◌, length, true, false}
-use Rattle.lil_base.specs.Words.{Cardinal, Integer}
-use Rattle.lil_resolved.specs.Members.{no_members}
-use Rattle.lil_base.specs.declared.operator.TwoOp.{TwoOp}
-use Rattle.lil_base.specs.declared.operator.TwoOp.TheVariants.{Equal, Unequal, Less, AtMost, Greater, AtLeast, In, Plus, Minus, Or, Times, Slash, Div, Mod, And}
 use Rattle.lil_resolved.specs.declared.resolved.RBase.TheVariants as b
-use Rattle.lil_resolved.specs.declared.resolved.RRange.{RRange}
 use Rattle.lil_resolved.specs.declared.resolved.RFunction.TheVariants as f
 use Rattle.lil_resolved.specs.declared.resolved.Direction.TheVariants as d
 use Rattle.lil_resolved.specs.declared.resolved.Membership.TheVariants as j
 use Rattle.lil_resolved.specs.declared.resolved.Allocation.TheVariants as w
-use Rattle.lil_resolved.specs.declared.resolved.RRoot.{RRoot}
 use Rattle.lil_resolved.specs.declared.resolved.RRoot.TheVariants as t
 use Rattle.lil_resolved.specs.declared.resolved.RArgument.TheVariants as g
-use Rattle.lil_resolved.specs.declared.resolved.RDeclared.{RDeclared}
-use Rattle.lil_resolved.specs.declared.shapes.RField.{RField}
-use Rattle.lil_resolved.specs.declared.shapes.RShape.{RShape}
 use Rattle.lil_resolved.specs.declared.shapes.RShape.TheVariants as r
-use Rattle.lil_resolved.specs.declared.resolved.RLabel.{RLabel}
-use Rattle.lil_resolved.specs.declared.resolved.RModule.{RModule}
 
 -- ---- kinds, functions and requests
 abbrev pub base_view : RBase → Kind

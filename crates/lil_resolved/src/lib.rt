@@ -8,6 +8,6 @@ pub use lil_base::{OneOp, TwoOp};
 pub use resolved::{
     Allocation, Direction, Membership, RArgument, RArm, RBase, RDeclared, RExpr, RFunction, RGuard,
     RKind, RLabel, RMember, RModule, ROperation, RPlace, RRange, RRoot, RSelector, RStmt,
-    RVariable, base, depth, place_depth, whole_base,
+    RVariable, base, whole_base,
 };
 pub use shapes::{RElements, RField, RShape};

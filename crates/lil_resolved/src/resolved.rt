@@ -1,9 +1,6 @@
-ghost use Rattle.std.specs.Prelude.{◌≡◌, min, max};
-ghost use Rattle.lil_resolved.specs.Sizes.{depth as depth_of, place_depth as place_depth_of, function_depth as function_depth_of};
+ghost use Rattle.std.specs.Prelude.{◌≡◌};
+ghost use Rattle.lil_resolved.specs.{Kinds.{OfWhole, compared_as}, Resolved.{kind_of, function_kind}, Views.{base_view, function_of, expression_of}};
 ghost use Rattle.lil_resolved.specs.Chains as chain;
-ghost use Rattle.lil_resolved.specs.Kinds.{Kind, OfWhole, compared_as};
-ghost use Rattle.lil_resolved.specs.Resolved.{kind_of, function_kind};
-ghost use Rattle.lil_resolved.specs.Views.{base_view, function_of, expression_of, place_of};
 
 use crate::{OneOp, RShape, TwoOp};
 use lil_base::{Boxed, Items, Name, Request, Shared, Text};
@@ -213,109 +210,10 @@ pub struct RModule {
     pub body: Items<RStmt>,
 }
 
-/// How many words of the expression stack the code of a standard function takes, its argument's included.
-fn function_depth(function: RFunction) -> u32
-    ensures { (k : Kind) → result ≡ function_depth_of (function_of function k) }
-{
-    match function {
-        RFunction::Odd => 2,
-        RFunction::Abs | RFunction::Cap | RFunction::Chr | RFunction::Ord | RFunction::Val(_) => 1,
-    }
-}
-
-/// How many words of the expression stack an expression takes, or 4,294,967,295 where they are more. It takes no memory.
-#[cycle(depth)]
-#[tactic(auto, using(crate::proofs::Depths::chain_depth, crate::proofs::Depths::set_depth))]
-pub fn depth(e: &RExpr) -> u32
-    ensures { result ≡ min (depth_of (expression_of e.now)) 4294967295 }
-{
-    match e {
-        RExpr::Constant(_, _) => 1,
-        RExpr::Taken(place, _) => place_depth(place),
-        RExpr::One(_, value) => depth(value.get()),
-        RExpr::Apply(function, value) => depth(value.get()).max(function_depth(*function)),
-        RExpr::Chain(first, operations) => {
-            depth(first.get()).max(operations_depth(operations.as_slice()))
-        }
-        RExpr::Set(_, members) => members_depth(members.as_slice()),
-    }
-}
-
-/// How many words a set takes, whose members come above those before.
-#[cycle(depth)]
-#[tactic(auto, using(crate::proofs::Depths::members_left))]
-fn members_depth(members: &[RMember]) -> u32
-    ensures { result ≡ min (max 1 (chain.members_depth members.now)) 4294967295 }
-{
-    let mut most: u32 = 1;
-    for member in members {
-        most = most.max(member_depth(member));
-    }
-    most
-}
-
-#[cycle(depth)]
-fn member_depth(member: &RMember) -> u32
-    ensures { result ≡ min (chain.member_depth member.now) 4294967295 }
-{
-    match member {
-        RMember::Single(value) => depth(value).saturating_add(1).max(3),
-        RMember::Span(low, high) => {
-            let first = depth(low).saturating_add(1);
-            first.max(depth(high).saturating_add(2))
-        }
-    }
-}
-
-/// How many words operations take, where each holds what stands before it.
-#[cycle(depth)]
-#[tactic(auto, using(crate::proofs::Depths::operations_left))]
-fn operations_depth(operations: &[ROperation]) -> u32
-    ensures { result ≡ min (chain.operations_depth operations.now) 4294967295 }
-{
-    let mut most: u32 = 0;
-    for operation in operations {
-        most = most.max(depth(&operation.operand).saturating_add(1));
-    }
-    most
-}
-
-/// How many words of the expression stack a place takes, or 4,294,967,295 where they are more. It takes no memory.
-#[cycle(depth)]
-#[tactic(auto, using(crate::proofs::Depths::place_is_deep))]
-pub fn place_depth(of: &RPlace) -> u32
-    ensures { result ≡ min (place_depth_of (place_of of.now)) 4294967295 }
-{
-    selectors_depth(of.selectors.as_slice())
-}
-
-/// How many words a root with selectors takes.
-#[cycle(depth)]
-#[tactic(auto, using(crate::proofs::Depths::selectors_left))]
-fn selectors_depth(selectors: &[RSelector]) -> u32
-    ensures { result ≡ min (max 1 (chain.selectors_depth selectors.now)) 4294967295 }
-{
-    let mut most: u32 = 1;
-    for selector in selectors {
-        most = most.max(selector_depth(selector));
-    }
-    most
-}
-
-#[cycle(depth)]
-fn selector_depth(selector: &RSelector) -> u32
-    ensures { result ≡ min (chain.selector_depth selector.now) 4294967295 }
-{
-    match selector {
-        RSelector::Field(_) | RSelector::Follow(_) => 0,
-        RSelector::Index(_, value) => depth(value).saturating_add(2),
-    }
-}
-
 /// The base of the values of an expression: that of a chain's first operand, where all its operators give values of their
 /// operands' kind.
 #[cycle(kinds)]
-#[tactic(auto, using(crate::proofs::Depths::chain_kind, crate::proofs::Depths::set_kind, crate::specs::Bases::own_base))]
+#[tactic(auto, using(crate::specs::Chains::chain_kind, crate::specs::Chains::set_kind, crate::specs::Bases::own_base))]
 pub fn base(e: &RExpr) -> RBase
     ensures { base_view result ≡ kind_of (expression_of e.now) }
 {
@@ -361,7 +259,7 @@ pub fn whole_base(base: RBase) -> RBase
 }
 
 /// Whether operations all compute, so that they leave a value of the kind that they begin with.
-#[tactic(auto, using(crate::proofs::Depths::arithmetic_left))]
+#[tactic(auto, using(crate::specs::Chains::arithmetic_left))]
 fn compute_all(operations: &[ROperation]) -> bool
     ensures { result ≡ chain.all_arithmetic operations.now }
 {

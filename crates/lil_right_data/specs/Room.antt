@@ -3,19 +3,10 @@ use Rattle.std.proofs.Common.{◌≡◌, ℕ, ◌+◌, ◌≤◌, true, List, []
 use Rattle.lil_types.specs.Types.{Table}
 use Rattle.lil_types.specs.Types as types
 use Rattle.lil_declared.specs.declared.declared.RVar.{RVar}
-use Rattle.lil_resolved.specs.Kinds.{Shape, words, all_words}
-use Rattle.lil_resolved.specs.Resolved.{Resolved}
-use Rattle.lil_resolved.specs.Sizes.{body_strings, procedure_strings, module_strings}
-use Rattle.lil_resolved.specs.Views.{statements_of}
-use Rattle.lil_resolved.specs.declared.resolved.RStmt.{RStmt}
-use Rattle.lil_layout.specs.Data.{words_by, variable_words, data_words}
-use Rattle.lil_layout.specs.Strings.{body_words}
-use Rattle.lil_shapes.specs.ListLaws.{AllFine}
-use Rattle.lil_shapes.specs.Measured.{variable_name}
-use Rattle.lil_shapes.specs.Pointers.{targets, lies_at}
-use Rattle.lil_shapes.specs.Shaping.{all_some, there, lying, variables_by, shapes}
-use Rattle.lil_right_type.specs.Types.{IsTold}
-use Rattle.lil_right_type.specs.Words.{AreMeasured}
+use Rattle.lil_resolved.specs.{Kinds.{Shape, words, all_words}, Resolved.Resolved, Sizes.{body_strings, procedure_strings, module_strings}, Views.statements_of, declared.resolved.RStmt.RStmt}
+use Rattle.lil_layout.specs.{Data.{words_by, variable_words, data_words}, Strings.body_words}
+use Rattle.lil_shapes.specs.{ListLaws.AllFine, Measured.variable_name, Pointers.{targets, lies_at}, Shaping.{all_some, there, lying, variables_by, shapes}}
+use Rattle.lil_right_type.specs.{Types.IsTold, Words.AreMeasured}
 use Rattle.lil_right_data.specs.Shapes.{AreSized, Fits, fine_all, all_there, within_so, shapes_there, lies_shape}
 
 -- something lies in a variable of the module itself
@@ -40,11 +31,9 @@ module _ (t : Table) (told : IsTold t) (measured : AreMeasured t) (vs : List RVa
           (x.0, ap there x.1 ∙ ap (λ c. if c then Some x.0 else None) x.2, subst (λ o. words x.0 ≤ words_by (types.words t v.sort) o) (sym h.1) (ss.2 v.sort x.0 x.1))
 
   -- the module of these variables and of statements
-  pub room : (n : List ℕ) (of : List Shape) (ss : List RStmt) → data_words t vs [] (Some ss) ≤ 32000
-      → (ts : List Shape) × (variables_by (shapes t) vs ≡ Some ts)
-      × (all_words ts + length (module_strings (record { name = n; targets = targets t of; names = map variable_name vs; variables = ts; procedures = []; body = statements_of ss })) ≤ 32000)
+  pub room : (n : List ℕ) (of ts : List Shape) (ss : List RStmt) → all_words ts ≤ sum_by (variable_words t) vs → data_words t vs [] (Some ss) ≤ 32000
+      → all_words ts + length (module_strings (record { name = n; targets = targets t of; names = map variable_name vs; variables = ts; procedures = []; body = statements_of ss })) ≤ 32000
   unfolding data_words
-  room n of ss few =
-      let ts = variables_there (omega arith) in
-      let m : Resolved = record { name = n; targets = targets t of; names = map variable_name vs; variables = ts.0; procedures = []; body = statements_of ss } in
-      (ts.0, ts.1, omega (arith, few, ts.2, body_words_is m ss refl refl))
+  room n of ts ss low few =
+      let m : Resolved = record { name = n; targets = targets t of; names = map variable_name vs; variables = ts; procedures = []; body = statements_of ss } in
+      omega (arith, few, low, body_words_is m ss refl refl)

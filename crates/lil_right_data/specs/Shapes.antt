@@ -2,30 +2,14 @@
 use Rattle.std.proofs.Common.{◌≡◌, ℕ, zero, suc, ◌+◌, ◌*◌, ◌≤◌, ◌<◌, Bool, true, false, ◌||◌, List, [], ◌∷◌, ◌++◌, length, map, get_or, slice_get, sum_by, Option, Some, None, if◌then◌else◌, inl, inr, refl, sym, ap, subst, ◌∙◌, arith, true≢false}
 use Rattle.std.specs.Prelude.{ℤ, pos, negsuc, ◌+ℤ◌, ◌-ℤ◌, ◌-◌, nat_lt, nat_le, is_some}
 use Rattle.std.specs.Option.{option_map}
-use Rattle.std.proofs.lemmas.Bool.{cases_lt}
-use Rattle.std.proofs.lemmas.Bool.Decides.{nat_tests}
-use Rattle.std.proofs.lemmas.List.Sums.{sum_by-cons}
-use Rattle.std.proofs.lemmas.Nat.{mul-le}
-use Rattle.std.proofs.lemmas.Option.{none-some, same_Some, slice_get_within, slice_get-get_or}
-use Rattle.lil_types.specs.Types.{Table, entry, known, sum_of, fields_words, values}
+use Rattle.std.proofs.lemmas.{Bool.{cases_lt, Decides.nat_tests}, List.Sums.sum_by-cons, Nat.mul-le, Option.{none-some, same_Some, slice_get_within, slice_get-get_or}}
+use Rattle.lil_types.specs.{Types.{Table, entry, known, sum_of, fields_words, values}, declared.table.{Facts.Facts, Field.Field, TypeEntry.TypeEntry, TypeForm.{TypeForm, TheVariants.{Array, Record}}}}
 use Rattle.lil_types.specs.Types as types
-use Rattle.lil_types.specs.declared.table.Facts.{Facts}
-use Rattle.lil_types.specs.declared.table.Field.{Field}
-use Rattle.lil_types.specs.declared.table.TypeEntry.{TypeEntry}
-use Rattle.lil_types.specs.declared.table.TypeForm.{TypeForm}
-use Rattle.lil_types.specs.declared.table.TypeForm.TheVariants.{Array, Record}
-use Rattle.lil_resolved.specs.Kinds.{numbers, least, greatest, Shape, Absent, Word, Row, words, is_there, all_words, fields_of}
+use Rattle.lil_resolved.specs.{Kinds.{numbers, least, greatest, Shape, Absent, Word, Row, words, is_there, all_words, fields_of}, Views.kind_view, declared.resolved.{RBase.RBase, RKind.RKind}}
 use Rattle.lil_resolved.specs.Kinds as kinds
-use Rattle.lil_resolved.specs.Views.{kind_view}
-use Rattle.lil_resolved.specs.declared.resolved.RBase.{RBase}
-use Rattle.lil_resolved.specs.declared.resolved.RKind.{RKind}
-use Rattle.lil_shapes.specs.Bases.{standard, base_by, base_at, kind_form, kind_over, kind_at, is_composite, composite_by, composite_at}
-use Rattle.lil_shapes.specs.ListLaws.{AllFine}
-use Rattle.lil_shapes.specs.Pointers.{lies_at}
-use Rattle.lil_shapes.specs.ShapeSound.{HasShape, at_end, all_shaped, composite_shaped, word_shaped}
+use Rattle.lil_shapes.specs.{Bases.{standard, base_by, base_at, kind_form, kind_over, kind_at, is_composite, composite_by, composite_at}, ListLaws.AllFine, Pointers.lies_at, ShapeSound.{HasShape, at_end, all_shaped, composite_shaped, word_shaped}}
 use Rattle.lil_shapes.specs.Shaping.{all_some, within, scalar, row, field_shape, shape_in, shape_by, shape, with_next, shapes_below, shapes}
-use Rattle.lil_right_type.specs.Types.{IsTold, own_base, known_ordinal, entry_known, no_entry}
-use Rattle.lil_right_type.specs.Words.{FormMeasured, AreMeasured}
+use Rattle.lil_right_type.specs.{Types.{IsTold, own_base, known_ordinal, entry_known, no_entry}, Words.{FormMeasured, AreMeasured}}
 
 -- ---- lists of shapes
 pub fine_all : {A : Type 0} (P Q : A → Type 0) → ((a : A) → P a → Q a) → (xs : List A) → AllFine P xs → AllFine Q xs

@@ -1,25 +1,19 @@
 -- Constants in whose declarations no test finds a fault are told.
-use Rattle.std.proofs.Common.{◌≡◌, ℕ, true, List, [], ◌∷◌, ◌++◌, Option, Some, None, refl, sym, subst, true≢false}
+use Rattle.std.proofs.Common.{◌≡◌, ℕ, true, List, [], ◌∷◌, ◌++◌, Option, Some, None, sym, subst, arith, true≢false}
 use Rattle.lil_text.specs.declared.tree.Ident.{Ident}
 use Rattle.lil_language.specs.declared.unit.Constant.{Constant}
 use Rattle.lil_report.specs.Told.{after}
-use Rattle.lil_scope.specs.Names.{bind, bind_at, entry}
-use Rattle.lil_scope.specs.declared.env.Env.{Env}
-use Rattle.lil_scope.specs.declared.thing.Kind.{Kind}
+use Rattle.lil_scope.specs.{Names.{bind, bind_at, entry}, declared.{env.Env.Env, thing.{Kind.Kind, Thing.Thing}}}
 use Rattle.lil_scope.specs.declared.thing.Kind.TheVariants as k
-use Rattle.lil_scope.specs.declared.thing.Thing.{Thing}
-use Rattle.lil_kinds.specs.Kinds.{is_constant}
-use Rattle.lil_kinds.specs.declared.found.Form.{Form}
+use Rattle.lil_kinds.specs.{Kinds.is_constant, declared.found.{Form.Form, Found.Found}}
 use Rattle.lil_kinds.specs.declared.found.Form.TheVariants as form
-use Rattle.lil_kinds.specs.declared.found.Found.{Found}
 use Rattle.lil_check_value.specs.Values.{means}
 use Rattle.lil_check_decl.specs.Constants.{Meant, with_text, if_constant, constant_node, constant_step}
 use Rattle.lil_shapes.specs.ShapeSound.{earlier}
-use Rattle.lil_right_type.specs.Right.{Right, IsThere, after_right, is_so}
-use Rattle.lil_right_type.specs.Found.{KindTold, GoesWith, IsFound}
+use Rattle.lil_forms.specs.Properties.{nothing}
+use Rattle.lil_right_type.specs.{Right.{Right, IsThere, after_right, is_so}, Found.{KindTold, GoesWith, IsKnown}}
 use Rattle.lil_right_value.specs.Values.{means_right}
-use Rattle.lil_right_sort.specs.Growth.{Few, Grown, Declared}
-use Rattle.lil_right_decl.specs.Things.{IsThing, bound_declared, more_declared, last_there}
+use Rattle.lil_right_sort.specs.{Growth.{Few, Grown, last_there, IsThing, Declared, bound_declared, more_declared}, Simple.Follows}
 
 -- what is declared behind e, where no test finds a fault
 abbrev pub Behind : Env → Env → Type 0
@@ -27,7 +21,7 @@ Behind e f = Grown e.types f.types × (Few f.types → Declared f)
 
 -- and a thing that may be bound there
 abbrev pub IsMeant : Env → Env → Thing → Type 0
-IsMeant e f x = Grown e.types f.types × (Few f.types → Declared f × IsThing f x)
+IsMeant e f x = Follows e f (IsThing f x)
 
 pub bind_behind : (e f : Env) (i : Ident) (x : Thing) → IsMeant e f x → Right (Behind e) (bind f i x)
 unfolding bind_at
@@ -40,7 +34,7 @@ module _ (e : Env) (h : Declared e) where
   text_declared : (cs : List ℕ) → Declared (with_text e cs)
   text_declared cs = more_declared e h e.variables (e.texts ++ cs ∷ []) (λ i v is. is) (λ i ds is. earlier e.texts (cs ∷ []) i ds is) h.variables
 
-  kind_meant : (d : ℕ) (kind : Kind) (f : Form) → is_constant kind ≡ true → KindTold e.types kind → GoesWith e.types d kind f → let m = if_constant e f kind in Declared m.0 × IsThing m.0 m.1
+  kind_meant : (d : ℕ) (kind : Kind) (f : Form) → is_constant kind ≡ true → KindTold e.types kind → GoesWith (nothing e.types e.variables e.withs) d kind f → let m = if_constant e f kind in Declared m.0 × IsThing m.0 m.1
   unfolding is_constant
   kind_meant d (k.Whole z) f is told goes = (h, ((told, tt), tt))
   kind_meant d (k.Scalar s w) f is told goes = (h, ((told, tt), tt))
@@ -53,13 +47,9 @@ module _ (e : Env) (h : Declared e) where
 
 same_types : (e : Env) (f : Form) (kind : Kind) → (if_constant e f kind).0.types ≡ e.types
 unfolding is_constant
-same_types e (form.Text cs) (k.Chars c) = refl
-same_types e form.Nothing (k.Chars c) = refl
-same_types e (form.Located p) (k.Chars c) = refl
-same_types e (form.Value x) (k.Chars c) = refl
-same_types e f _ = refl
+same_types e f kind = grind arith
 
-node_meant : (e f : Env) → Behind e f → (o : Option Found) → (Few f.types → IsThere (IsFound f.types) o) → Right (ConstantMeant e) (constant_node f o)
+node_meant : (e f : Env) → Behind e f → (o : Option Found) → (Few f.types → IsThere (IsKnown f) o) → Right (ConstantMeant e) (constant_node f o)
 unfolding constant_node
 node_meant e f b None there clear = (b.0, λ few. absurd (there few))
 node_meant e f b (Some a) there clear =
@@ -72,6 +62,6 @@ node_meant e f b (Some a) there clear =
     )
 
 pub constant_behind : (e f : Env) (c : Constant) → Behind e f → Right (Behind e) (constant_step f c)
-constant_behind e f c b = after_right (λ o. Few f.types → IsThere (IsFound f.types) o) (Behind e) (means f c.value) (λ o. after (constant_node f o) (λ m. bind m.0 c.name m.1))
-    (λ clear few. means_right f (b.1 few).told c.value clear)
+constant_behind e f c b = after_right (λ o. Few f.types → IsThere (IsKnown f) o) (Behind e) (means f c.value) (λ o. after (constant_node f o) (λ m. bind m.0 c.name m.1))
+    (λ clear few. means_right f (nothing f.types f.variables f.withs) (b.1 few).told c.value clear)
     (λ o there. after_right (ConstantMeant e) (Behind e) (constant_node f o) (λ m. bind m.0 c.name m.1) (node_meant e f b o there) (λ m meant. bind_behind e m.0 c.name m.1 meant))

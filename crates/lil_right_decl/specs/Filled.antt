@@ -1,37 +1,19 @@
 -- The types and names of an interface of resident procedures, where they are entered: they are told.
 use Rattle.std.proofs.Common.{◌≡◌, ℕ, zero, suc, ◌+◌, ◌<◌, true, map, List, [], ◌∷◌, length, slice_get, Some, None, if◌then◌else◌, refl, sym, ap, subst, ◌∙◌, arith, true≢false, inl, inr}
 use Rattle.std.specs.Prelude.{nat_lt}
-use Rattle.std.proofs.lemmas.Bool.Decides.{nat_tests}
-use Rattle.std.proofs.lemmas.List.{length_push}
-use Rattle.std.proofs.lemmas.Option.{none-some, same_Some, slice_get_within}
-use Rattle.lil_types.specs.Types.{Table, entry}
+use Rattle.std.proofs.lemmas.{Bool.Decides.nat_tests, List.length_push, Option.{none-some, same_Some, slice_get_within}}
+use Rattle.lil_types.specs.{Types.{Table, entry}, Adding.{next, next_facts, number_by, with_facts, added, added_number}, declared.table.{Origin.Origin, Parameter.Parameter, TypeEntry.TypeEntry, TypeForm.{TypeForm, TheVariants.Procedure}}}
 use Rattle.lil_types.specs.Types as types
-use Rattle.lil_types.specs.Adding.{next, next_facts, number_by, with_facts, added, added_number}
-use Rattle.lil_types.specs.declared.table.Origin.{Origin}
-use Rattle.lil_types.specs.declared.table.Parameter.{Parameter}
-use Rattle.lil_types.specs.declared.table.TypeEntry.{TypeEntry}
-use Rattle.lil_types.specs.declared.table.TypeForm.{TypeForm}
-use Rattle.lil_types.specs.declared.table.TypeForm.TheVariants.{Procedure}
-use Rattle.lil_declared.specs.declared.declared.RVar.{RVar}
-use Rattle.lil_declared.specs.declared.standard.Resident.{Resident}
+use Rattle.lil_declared.specs.declared.{declared.RVar.RVar, standard.Resident.Resident}
 use Rattle.lil_declared.specs.declared.standard.Resident.TheVariants as resident
-use Rattle.lil_scope.specs.Names.{with_blocks}
-use Rattle.lil_scope.specs.declared.env.Env.{Env}
-use Rattle.lil_scope.specs.declared.thing.Thing.{Thing}
+use Rattle.lil_scope.specs.{Names.with_blocks, declared.{env.Env.Env, thing.Thing.Thing}}
 use Rattle.lil_scope.specs.declared.thing.Thing.TheVariants as thing
 use Rattle.lil_resolved.specs.declared.resolved.RBase.TheVariants as b
 use Rattle.lil_shapes.specs.ListLaws.{AllFine}
-use Rattle.lil_interfaces.specs.declared.surface.Interface.{Interface}
-use Rattle.lil_interfaces.specs.declared.surface.Exported.{Exported}
-use Rattle.lil_interfaces.specs.Moving.{moved, moved_parameter, moved_kind, moved_form, seen_by, with_type, with_types, with_name, with_names}
-use Rattle.lil_interfaces.specs.Standard.{known}
-use Rattle.lil_interfaces.specs.Imports.{filled}
-use Rattle.lil_right_type.specs.Types.{IsTold}
-use Rattle.lil_right_type.specs.Words.{AreMeasured}
-use Rattle.lil_right_type.specs.Found.{signature, ThingTold}
-use Rattle.lil_right_sort.specs.Growth.{all_then, Few, few_before, Grown, grown_same, grown_more, PartsTold, added_grown, added_entry, added_told, entry_below, entry_shape, shape_parameters, IsIn, Declared, declared_grown}
+use Rattle.lil_interfaces.specs.{declared.surface.{Interface.Interface, Exported.Exported}, Moving.{moved, moved_parameter, moved_kind, moved_form, seen_by, with_type, with_types, with_name, with_names}, Standard.known, Imports.filled}
+use Rattle.lil_right_type.specs.{Types.IsTold, Words.AreMeasured, Found.{signature, ThingTold}}
+use Rattle.lil_right_sort.specs.Growth.{all_then, Few, few_before, Grown, grown_same, grown_more, grown_kept, PartsTold, added_grown, added_entry, added_told, entry_below, entry_shape, shape_parameters, IsIn, IsThing, Declared, declared_kept, bound_declared}
 use Rattle.lil_right_decl.specs.Shown.{IsHeading, IsResident, Shown}
-use Rattle.lil_right_decl.specs.Things.{IsThing, bound_declared}
 
 abbrev pub AreTold : Table → Type 0
 AreTold t = IsTold t × AreMeasured t
@@ -75,7 +57,7 @@ types_entered m s t (e ∷ es) all room =
       grown = grown_more t u (with_types m s u es) (added_grown t o form) rest.grown;
       count = let count = rest.count in omega arith;
       told = λ few told. rest.told few (heading_told t o all.0.0 form (all.0.1 s) fits (few_before u _ rest.grown few) told);
-      at = at u rest longer (first.0, rest.grown (next t) first.0 first.1, first.2);
+      at = at u rest longer (_, rest.grown (next t) _ first.1, refl);
     }
   where
     At : Table → ℕ → TypeEntry → Type 0
@@ -141,4 +123,4 @@ module _ (m b : ℕ) (e : Env) (i : Interface) (shown : Shown i) (room : length 
           let told : AreTold u = into.told few (before.told.types, before.told.words) in
           names_told (length e.types) b (record e { types = u }) i.names
           (all_then _ _ (λ (x : Exported) is. subst (λ c. IsThing (record e { types = u }) (seen_by (length e.types) c x.what)) (sym is.0) (thing_told (length e.types) i.types u e.variables e.texts told.0 at x.what is.1)) i.names shown.names)
-          (declared_grown e before u into.grown told.0 told.1)
+          (declared_kept e before u (grown_kept e.types u into.grown) told.0 told.1)

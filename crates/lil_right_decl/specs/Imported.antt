@@ -1,42 +1,25 @@
 -- What is declared behind imports in which no test finds a fault is told.
-use Rattle.std.proofs.Common.{◌≡◌, ℕ, ◌+◌, ◌≤◌, Bool, true, false, List, [], ◌∷◌, ◌++◌, length, slice_get, Option, Some, None, if◌then◌else◌, refl, sym, arith, true≢false}
-use Rattle.std.specs.Prelude.{◌-◌, nat_lt, is_none, not}
-use Rattle.std.proofs.lemmas.Option.{none-some}
+use Rattle.std.proofs.Common.{◌≡◌, ℕ, ◌+◌, ◌≤◌, true, false, List, [], ◌∷◌, ◌++◌, length, Option, Some, None, IfSome, refl, subst, arith, true≢false}
+use Rattle.std.specs.Prelude.{is_none, not, pos}
 use Rattle.lil_text.specs.declared.tree.Ident.{Ident}
 use Rattle.lil_language.specs.declared.unit.Import.{Import}
-use Rattle.lil_types.specs.Types.{entry}
-use Rattle.lil_types.specs.declared.table.TypeEntry.{TypeEntry}
-use Rattle.lil_scope.specs.Built.{built}
-use Rattle.lil_scope.specs.Names.{member, with_block}
+use Rattle.lil_types.specs.{Types.{entry, boolean}, declared.table.TypeEntry.TypeEntry}
+use Rattle.lil_scope.specs.{Built.built, Names.{member, with_block}, declared.env.Env.Env, declared.thing.{Entry.Entry, Thing.Thing}}
 use Rattle.lil_scope.specs.Names as names
-use Rattle.lil_scope.specs.declared.thing.Entry.{Entry}
-use Rattle.lil_scope.specs.declared.thing.Thing.{Thing}
 use Rattle.lil_scope.specs.declared.thing.Thing.TheVariants as thing
 use Rattle.lil_resolved.specs.declared.resolved.RBase.TheVariants as b
-use Rattle.lil_shapes.specs.ListLaws.{AllFine}
-use Rattle.lil_interfaces.specs.declared.importing.Entered.{Entered}
-use Rattle.lil_interfaces.specs.declared.importing.Imported.{Imported}
-use Rattle.lil_interfaces.specs.declared.importing.Source.{Source}
+use Rattle.lil_shapes.specs.{ListLaws.AllFine, Operators.has_number}
+use Rattle.lil_interfaces.specs.{declared.{importing.{Entered.Entered, Imported.Imported, Source.Source}, surface.Interface.Interface}, Interfaces.{named, residents, with_shown, with_procedure}}
+use Rattle.lil_interfaces.specs.{Imports.{block_of, next_import, filled, entered_by, entered, take_node, found_node, is_hidden, thing_or_broken, name_step, module_step, import_by, import_step, imports_mean, nothing_imported}, Standard.{standard_names, start}}
 use Rattle.lil_interfaces.specs.declared.importing.Source.TheVariants as from
-use Rattle.lil_interfaces.specs.declared.surface.Interface.{Interface}
-use Rattle.lil_interfaces.specs.Interfaces.{named, residents, with_shown, with_procedure}
-use Rattle.lil_interfaces.specs.Imports.{block_of, next_import, filled, entered_by, entered, take_node, found_node, is_hidden, thing_or_broken, name_step, module_step, import_by, import_step, imports_mean, nothing_imported}
-use Rattle.lil_interfaces.specs.Standard.{standard_names, start}
-use Rattle.lil_right_type.specs.Right.{Right, after_right}
-use Rattle.lil_right_type.specs.Found.{ThingTold}
-use Rattle.lil_right_sort.specs.Growth.{all_then, Few, IsIn, Declared}
-use Rattle.lil_right_decl.specs.Filled.{filled_told}
-use Rattle.lil_right_decl.specs.Room.{types_left, named_fine, none_more, entered_once}
-use Rattle.lil_right_decl.specs.Shown.{Shown, all_shown}
-use Rattle.lil_right_decl.specs.Things.{IsThing, bound_declared, begun_declared, member_is_thing, walk_keeps}
+use Rattle.lil_right_type.specs.{Right.{Right, after_right}, Found.{HasWord, ThingTold}}
+use Rattle.lil_right_sort.specs.{Growth.{all_then, Few, IsIn, IsThing, Declared, bound_declared, begun_declared}, Simple.walk_keeps}
+use Rattle.lil_right_value.specs.Names.{member_is}
+use Rattle.lil_right_decl.specs.{Filled.filled_told, Room.{types_left, named_fine, none_more, entered_once}, Shown.{Shown, all_shown}}
 
 -- ---- before the imports
 no_types : (n : ℕ) (e : TypeEntry) → entry [] n ≡ Some e → ⊥
-no_types n e is = by (nat_lt n 16) is
-  where
-    by : (c : Bool) → (if c then None else slice_get {X = TypeEntry} [] (n - 16)) ≡ Some e → ⊥
-    by true is = none-some e is
-    by false is = none-some e is
+no_types n e is = grind arith
 
 abbrev StandardTold : List ℕ × Entry → Type 0
 StandardTold x = ThingTold [] [] [] x.1.thing
@@ -44,66 +27,11 @@ StandardTold x = ThingTold [] [] [] x.1.thing
 abbrev StandardIn : List ℕ × Entry → Type 0
 StandardIn x = IsIn [] x.1.thing
 
+truth_told : (w : ℕ) → has_number b.Truth (pos w) ≡ true → HasWord [] boolean w
+truth_told w h = (b.Truth, refl, refl, h)
+
 standard_told : AllFine (λ x. StandardTold x × StandardIn x) standard_names
-standard_told =
-    -- the types, of which PROC isn't built
-    (
-      (λ so. refl, tt),
-      (
-        (λ so. refl, tt),
-        (
-          (λ so. refl, tt),
-          (
-            (λ so. refl, tt),
-            (
-              (λ so. refl, tt),
-              (
-                (λ so. absurd (true≢false (sym so)), tt),
-                -- TRUE, FALSE and NIL
-                (
-                  (((b.Truth, refl, refl, refl), tt), tt),
-                  (
-                    (((b.Truth, refl, refl, refl), tt), tt),
-                    (
-                      (tt, tt),
-                      -- functions and procedures
-                      (
-                        (tt, tt),
-                        (
-                          (tt, tt),
-                          (
-                            (tt, tt),
-                            (
-                              (tt, tt),
-                              (
-                                (tt, tt),
-                                (
-                                  (tt, tt),
-                                  (
-                                    (tt, tt),
-                                    (
-                                      (tt, tt),
-                                      (
-                                        (tt, tt),
-                                        ((tt, tt), ((tt, tt), ((tt, tt), ((tt, tt), ((tt, tt), ((tt, tt), ((tt, tt), tt))))))),
-                                      ),
-                                    ),
-                                  ),
-                                ),
-                              ),
-                            ),
-                          ),
-                        ),
-                      ),
-                    ),
-                  ),
-                ),
-              ),
-            ),
-          ),
-        ),
-      ),
-    )
+standard_told = search (truth_told) parts 40 fits 4000
 
 start_told : Declared start
 unfolding start
@@ -113,7 +41,6 @@ start_told = record {
   variables = tt;
   level = refl;
   procedure = refl;
-  withs = refl;
 }
 
 -- ---- the steps of imports
@@ -167,6 +94,10 @@ entered_told s n h = by (block_of s.modules n) refl
 take_told : (q : Source) (i : Ident) (s : Imported) (x : Thing) → IsImported s → IsTaken s x → Right IsImported (take_node q i s x)
 unfolding take_node
 take_told q i s x h j clear = record { told = λ few. bound_declared s.env (h.told few) s.env.scopes.inner i.name (names.entry x i.place) (j few); room = h.room }
+
+member_is_thing : (e : Env) → Declared e → (k : ℕ) (n : List ℕ) (x : Thing) → member e.scopes k n ≡ Some x → IsThing e x
+member_is_thing e h k n x is =
+    (subst (λ o. IfSome o (ThingTold e.types e.variables e.texts)) is (member_is (ThingTold e.types e.variables e.texts) e.scopes k n h.told.names), subst (λ o. IfSome o (IsIn e.types)) is (member_is (IsIn e.types) e.scopes k n h.residents))
 
 found_told : (s : Imported) (i : Ident) (k : ℕ) → IsImported s → Right (IsTaken s) (found_node i (member s.env.scopes k i.name))
 unfolding found_node

@@ -1,9 +1,7 @@
 pub mod Aimed
 pub mod Constants
-pub mod Declarations
 pub mod Filled
 pub mod Imported
 pub mod Room
 pub mod Shown
-pub mod Things
 pub mod Told

@@ -1,17 +1,11 @@
 -- Interfaces of resident modules: their types are those of their procedures, and each name of theirs is told by them.
 use Rattle.std.proofs.Common.{◌≡◌, ℕ, ◌+◌, true, List, slice_get, Some, None, refl, ◌⊎◌, inl, inr}
-use Rattle.lil_types.specs.Types.{Table, char, address, process}
-use Rattle.lil_types.specs.declared.table.Parameter.{Parameter}
-use Rattle.lil_types.specs.declared.table.TypeEntry.{TypeEntry}
-use Rattle.lil_types.specs.declared.table.TypeForm.TheVariants.{Procedure}
+use Rattle.lil_types.specs.{Types.{Table, char, address, process}, declared.table.{Parameter.Parameter, TypeEntry.TypeEntry, TypeForm.TheVariants.Procedure}}
 use Rattle.lil_scope.specs.declared.thing.Kind.TheVariants as k
 use Rattle.lil_scope.specs.declared.thing.Thing.{Thing}
 use Rattle.lil_scope.specs.declared.thing.Thing.TheVariants as t
 use Rattle.lil_shapes.specs.ListLaws.{AllFine}
-use Rattle.lil_interfaces.specs.declared.surface.Interface.{Interface}
-use Rattle.lil_interfaces.specs.declared.surface.Exported.{Exported}
-use Rattle.lil_interfaces.specs.Interfaces.{with_shown, with_procedure, terminal, in_out, storage, system, residents}
-use Rattle.lil_interfaces.specs.Moving.{moved_form}
+use Rattle.lil_interfaces.specs.{declared.surface.{Interface.Interface, Exported.Exported}, Interfaces.{with_shown, with_procedure, terminal, in_out, storage, system, residents}, Moving.moved_form}
 use Rattle.lil_right_type.specs.Found.{signature}
 
 -- a procedure type of standard types, without a result: it is the same in every table

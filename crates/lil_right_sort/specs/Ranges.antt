@@ -1,44 +1,24 @@
 -- Subranges in which no test finds a fault: they have a form, and their numbers are those of their base.
-use Rattle.std.proofs.Common.{◌≡◌, ℕ, zero, suc, ◌<◌, ◌≤◌, Bool, true, false, not, ◌||◌, ◌&&◌, Option, Some, None, if◌then◌else◌, refl, sym, ap, subst, ◌∙◌, arith, true≢false, ◌⊎◌, inl, inr}
+use Rattle.std.proofs.Common.{◌≡◌, ℕ, zero, suc, ◌<◌, ◌≤◌, Bool, true, false, not, ◌&&◌, List, Option, Some, None, if◌then◌else◌, refl, sym, ap, subst, ◌∙◌, arith, true≢false, ◌⊎◌, inl, inr}
 use Rattle.std.specs.Prelude.{◌==◌, ℤ, pos, negsuc, ◌≤ℤ◌, int_lt, is_some}
-use Rattle.std.proofs.lemmas.Int.{ints}
-use Rattle.std.proofs.lemmas.Option.{none-some, same_Some}
-use Rattle.std.proofs.lemmas.Bool.{and_parts}
-use Rattle.std.proofs.lemmas.Bool.Decides.{nat_tests}
-use Rattle.lil_base.specs.declared.fault.Place.{Place}
-use Rattle.lil_base.specs.Laws.{bounds}
-use Rattle.lil_base.specs.Words.{between, number_of, Integer}
-use Rattle.lil_types.specs.Types.{Table, entry, known, base, integer, cardinal, char}
+use Rattle.std.proofs.lemmas.{Int.ints, Option.{none-some, same_Some}, Bool.{and_parts, Decides.nat_tests}}
+use Rattle.lil_base.specs.{declared.fault.Place.Place, Laws.bounds, Words.{between, number_of, Integer}}
+use Rattle.lil_types.specs.{Types.{Table, entry, base, integer, cardinal, char}, Folding.fits, declared.table.{Facts.Facts, Origin.Origin, Span.Span, TypeEntry.TypeEntry, TypeForm.TypeForm}}
 use Rattle.lil_types.specs.Types as types
-use Rattle.lil_types.specs.Folding.{fits}
-use Rattle.lil_types.specs.declared.table.Facts.{Facts}
-use Rattle.lil_types.specs.declared.table.Span.{Span}
-use Rattle.lil_types.specs.declared.table.TypeEntry.{TypeEntry}
-use Rattle.lil_types.specs.declared.table.TypeForm.{TypeForm}
 use Rattle.lil_types.specs.declared.table.TypeForm.TheVariants as form
 use Rattle.lil_scope.specs.declared.thing.Kind.{Kind}
 use Rattle.lil_scope.specs.declared.thing.Kind.TheVariants as k
-use Rattle.lil_kinds.specs.Forms.{span_in, span_of, is_routine_form}
-use Rattle.lil_kinds.specs.Kinds.{is_constant, word_number, number, suits, compatible}
+use Rattle.lil_declared.specs.declared.declared.RVar.{RVar}
+use Rattle.lil_forms.specs.Properties.{Property}
+use Rattle.lil_kinds.specs.{Forms.{span_in, span_of, is_routine_form}, Kinds.{is_constant, word_number, number, suits, compatible}, declared.found.Found.Found}
 use Rattle.lil_kinds.specs.Kinds as kinds
-use Rattle.lil_kinds.specs.declared.found.Found.{Found}
-use Rattle.lil_resolved.specs.Kinds.{is_ordinal, least, greatest}
-use Rattle.lil_resolved.specs.Views.{base_view}
-use Rattle.lil_resolved.specs.declared.resolved.RBase.{RBase}
+use Rattle.lil_resolved.specs.{Kinds.{is_ordinal, least, greatest}, Views.base_view, declared.resolved.RBase.RBase}
 use Rattle.lil_resolved.specs.declared.resolved.RBase.TheVariants as b
-use Rattle.lil_shapes.specs.BaseLaws.{same_sort, if_some}
-use Rattle.lil_shapes.specs.Bases.{base_by, base_form, base_at}
+use Rattle.lil_shapes.specs.{BaseLaws.{same_sort, if_some}, Bases.{base_by, base_form, base_at}, Operators.has_number}
 use Rattle.lil_shapes.specs.Bases as shapes
-use Rattle.lil_shapes.specs.Operators.{has_number}
-use Rattle.lil_check_type.specs.declared.bounds.Bound.{Bound}
-use Rattle.lil_check_type.specs.declared.named.NamedType.{NamedType}
-use Rattle.lil_check_type.specs.declared.named.NamedType.TheVariants.{Absent, Given, Faulty}
-use Rattle.lil_check_type.specs.Bounds.{bound_of, type_below, range_base, alike, goes_down, span_by, span_between, bound_right, range_by, range_form, range_over, range_node}
-use Rattle.lil_right_type.specs.Right.{Right, IsThere, is_so}
-use Rattle.lil_right_type.specs.Types.{HasSpan, FormTold, IsTold, IsOrdinal, own_base, entry_base, entry_known, no_entry, known_ordinal, span_is}
-use Rattle.lil_right_type.specs.Parts.{base_itself}
-use Rattle.lil_right_type.specs.Found.{is_scalar, KindTold, IsFound}
-use Rattle.lil_right_sort.specs.Growth.{PartsTold}
+use Rattle.lil_check_type.specs.{declared.{bounds.Bound.Bound, named.NamedType.{NamedType, TheVariants.{Absent, Given, Faulty}}}, Bounds.{bound_of, type_below, range_base, alike, goes_down, span_by, span_between, bound_right, range_by, range_form, range_over, range_node}}
+use Rattle.lil_right_type.specs.{Right.{Right, IsThere, is_so}, Types.{HasSpan, FormTold, IsTold, IsOrdinal, own_base, entry_base, entry_known, no_entry, known_ordinal, span_is}, Parts.base_itself, Found.{is_scalar, KindTold, IsFound}}
+use Rattle.lil_right_sort.specs.Growth.{some_is, PartsTold}
 
 -- a form of types in which something lies, where its parts are told
 abbrev pub MadeOf : Table → TypeForm → Type 0
@@ -59,19 +39,21 @@ module _ {A : Type 0} (P : A → Type 0) where
   there o x is h = subst (IsThere P) (sym is) h
 
 standard_span : (n : ℕ) (k : RBase) → shapes.standard n ≡ Some k → is_ordinal (base_view k) ≡ true → (u : Span) × (span_in (types.standard n) ≡ Some u)
-standard_span zero k is h = (_, refl)
-standard_span (suc zero) k is h = (_, refl)
-standard_span (suc (suc zero)) k is h = (_, refl)
-standard_span (suc (suc (suc zero))) k is h = (_, refl)
-standard_span (suc (suc (suc (suc n)))) k is h = by (suc (suc (suc (suc n))) == 4) (suc (suc (suc (suc n))) == 6) refl refl
+standard_span n k is h = by n (low n k is h)
   where
-    neither : (n : ℕ) → (suc (suc (suc (suc n))) == 4) ≡ false → (suc (suc (suc (suc n))) == 6) ≡ false → shapes.standard (suc (suc (suc (suc n)))) ≡ None
-    neither n set address = grind (arith, nat_tests)
+    low : (n : ℕ) (k : RBase) → shapes.standard n ≡ Some k → is_ordinal (base_view k) ≡ true → n < 4
+    low n k is h = grind (arith, nat_tests)
 
-    by : (c d : Bool) → (suc (suc (suc (suc n))) == 4) ≡ c → (suc (suc (suc (suc n))) == 6) ≡ d → (u : Span) × (span_in (types.standard (suc (suc (suc (suc n))))) ≡ Some u)
-    by true d set address = absurd (true≢false (sym h ∙ ap (λ k. is_ordinal (base_view k)) (sym (same_Some b.Set k (sym (ap shapes.standard (same_sort _ 4 set)) ∙ is)))))
-    by false true set address = absurd (true≢false (sym h ∙ ap (λ k. is_ordinal (base_view k)) (sym (same_Some b.Address k (sym (ap shapes.standard (same_sort _ 6 address)) ∙ is)))))
-    by false false set address = absurd (none-some k (sym (neither n set address) ∙ is))
+    by : (n : ℕ) → n < 4 → (u : Span) × (span_in (types.standard n) ≡ Some u)
+    by zero h = (_, refl)
+    by (suc zero) h = (_, refl)
+    by (suc (suc zero)) h = (_, refl)
+    by (suc (suc (suc zero))) h = (_, refl)
+    by (suc (suc (suc (suc n)))) h = absurd (omega arith)
+
+-- a whole constant fits INTEGER, or CARDINAL
+fits_is : (n : ℕ) (v : ℤ) → fits n v ≡ true → ((n ≡ integer) × (v ≤ℤ pos 32767)) ⊎ ((n ≡ cardinal) × (pos 0 ≤ℤ v))
+fits_is n v h = grind (arith, nat_tests, ints)
 
 module _ (t : Table) (told : IsTold t) where
   pub span_base : (n : ℕ) → HasSpan t n → HasBase t n
@@ -81,35 +63,32 @@ module _ (t : Table) (told : IsTold t) where
   pub base_span : (n : ℕ) → HasBase t n → HasSpan t n
   base_span n h = by (entry t n) refl
     where
-      own : (e : TypeEntry) (form : TypeForm) → entry t n ≡ Some e → e.form ≡ form → e.facts.base ≡ n → base_form n form ≡ Some h.0
-      own e form is same base = sym (ap (base_by n) is ∙ ap (base_form n) same) ∙ sym (ap (base_at t) (entry_base t told n e is ∙ base)) ∙ h.1
+      own : (o : Origin) (f : Facts) (form : TypeForm) → entry t n ≡ Some (record { origin = o; form = form; facts = f }) → f.base ≡ n → base_form n form ≡ Some h.0
+      own o f form is base = sym (ap (base_by n) is) ∙ sym (ap (base_at t) (entry_base t told n _ is ∙ base)) ∙ h.1
 
-      in_form : (e : TypeEntry) (form : TypeForm) → entry t n ≡ Some e → e.form ≡ form → FormTold t n e.facts form → HasSpan t n
-      in_form e (form.Enumeration xs) is same j = (_, ap span_in (entry_known t n e is) ∙ ap (λ (f : Facts). f.span) j.0)
-      in_form e (form.Subrange m s) is same j = (s, ap span_in (entry_known t n e is) ∙ j.0)
-      in_form e (form.Array i m) is same j = absurd (none-some h.0 (own e _ is same j.0))
-      in_form e (form.Record xs) is same j = absurd (none-some h.0 (own e _ is same j.0))
-      in_form e (form.SetOf m) is same j = absurd (true≢false (sym h.2 ∙ ap (λ k. is_ordinal (base_view k)) (sym (same_Some b.Set h.0 (own e _ is same j.0)))))
-      in_form e (form.Pointer m) is same j = absurd (true≢false (sym h.2 ∙ ap (λ k. is_ordinal (base_view k)) (sym (same_Some (b.Pointer n) h.0 (own e _ is same j.0)))))
-      in_form e (form.Procedure ps r) is same j = absurd (none-some h.0 (own e _ is same j.0))
-      in_form e (form.Opaque o) is same j = absurd j
+      not_ordinal : (k : RBase) → is_ordinal (base_view k) ≡ false → Some k ≡ Some h.0 → ⊥
+      not_ordinal k other is = true≢false (sym h.2 ∙ ap (λ k. is_ordinal (base_view k)) (sym (same_Some k h.0 is)) ∙ other)
+
+      in_form : (o : Origin) (f : Facts) (form : TypeForm) → entry t n ≡ Some (record { origin = o; form = form; facts = f }) → FormTold t n f form → HasSpan t n
+      in_form o f (form.Enumeration xs) is j = (_, ap span_in (entry_known t n _ is) ∙ ap (λ (f : Facts). f.span) j.0)
+      in_form o f (form.Subrange m s) is j = (s, ap span_in (entry_known t n _ is) ∙ j.0)
+      in_form o f (form.SetOf m) is j = absurd (not_ordinal b.Set refl (own o f _ is j.0))
+      in_form o f (form.Pointer m) is j = absurd (not_ordinal (b.Pointer n) refl (own o f _ is j.0))
+      in_form o f (form.Opaque x) is j = absurd j
+      in_form o f form is j = absurd (none-some h.0 (own o f form is j.0))
 
       by : (o : Option TypeEntry) → entry t n ≡ o → HasSpan t n
       by None is =
           let s = standard_span n h.0 (sym (ap (base_by n) is) ∙ sym (ap (base_at t) (own_base t told n is)) ∙ h.1) h.2 in
           (s.0, ap span_in (no_entry t n is) ∙ s.1)
-      by (Some e) is = in_form e e.form is refl (told n e is)
+      by (Some e) is = in_form e.origin e.facts e.form is (told n e is)
 
   -- the base itself too
   under_base : (n : ℕ) → HasBase t n → HasBase t (base t n)
   under_base n h = (h.0, ap (base_at t) (base_itself t told (base t n) h.0 h.1).0 ∙ h.1, h.2)
 
   spanned : (n : ℕ) → is_some (span_of t n) ≡ true → HasSpan t n
-  spanned n h = by (span_of t n) refl h
-    where
-      by : (o : Option Span) → span_of t n ≡ o → is_some o ≡ true → HasSpan t n
-      by None is j = absurd (true≢false (sym j))
-      by (Some u) is j = (u, sym (span_is t told n) ∙ is)
+  spanned n h = let s = some_is (span_of t n) h in (s.0, sym (span_is t told n) ∙ s.1)
 
   -- ---- constants that go together with a type
   -- the type below is the one below that type, or both are whole
@@ -117,12 +96,7 @@ module _ (t : Table) (told : IsTold t) where
   Beside n a = (m : ℕ) × (type_below t a ≡ Some m) × ((m ≡ base t n) ⊎ ((m < 2) × (base t n < 2)))
 
   fits_whole : (n : ℕ) (v : ℤ) → fits n v ≡ true → n < 2
-  fits_whole n v h = by (n == integer) (n == cardinal) refl refl h
-    where
-      by : (c d : Bool) → (n == integer) ≡ c → (n == cardinal) ≡ d → (c && not (int_lt (pos 32767) v)) || (d && not (int_lt v (pos 0))) ≡ true → n < 2
-      by true d is at j = grind (arith, nat_tests)
-      by false true is at j = grind (arith, nat_tests)
-      by false false is at j = absurd (true≢false (sym j))
+  fits_whole n v h = omega (arith, fits_is n v h)
 
   beside : (n : ℕ) (a : Kind) → is_constant a ≡ true → suits t n a ≡ true → Beside n a
   unfolding is_constant suits
@@ -138,22 +112,19 @@ module _ (t : Table) (told : IsTold t) where
   number_is n (k.Whole v) told_kind c h of = (v, refl, whole (base t n) v h told_kind of.0 of.1)
     where
       whole : (n : ℕ) (v : ℤ) → fits n v ≡ true → between (negsuc 32767) v (pos 65535) ≡ true → (k : RBase) → base_at t n ≡ Some k → has_number k v ≡ true
-      whole n v fit within k is = by (n == integer) (n == cardinal) refl refl fit
+      whole n v fit within k is = elim (fits_is n v fit) [
+        | inl low ↦ subst (λ k. has_number k v ≡ true) (same_Some b.Integer k (sym (ap (base_at t) low.0) ∙ is)) (signed v ends.0 low.1)
+        | inr high ↦ subst (λ k. has_number k v ≡ true) (same_Some b.Cardinal k (sym (ap (base_at t) high.0) ∙ is)) (natural v ends.1 high.1)
+      ]
         where
           ends : (negsuc 32767 ≤ℤ v) × (v ≤ℤ pos 65535)
           ends = bounds (negsuc 32767) v (pos 65535) within
 
-          by : (c d : Bool) → (n == integer) ≡ c → (n == cardinal) ≡ d → (c && not (int_lt (pos 32767) v)) || (d && not (int_lt v (pos 0))) ≡ true → has_number k v ≡ true
-          by true true low high j = absurd (grind (arith, nat_tests))
-          by true false low high j = subst (λ k. has_number k v ≡ true) (same_Some b.Integer k (sym (ap (base_at t) (same_sort n integer low)) ∙ is)) (signed v ends.0 j)
-            where
-              signed : (v : ℤ) → negsuc 32767 ≤ℤ v → not (int_lt (pos 32767) v) || false ≡ true → has_number b.Integer v ≡ true
-              signed v from to = grind (arith, ints)
-          by false true low high j = subst (λ k. has_number k v ≡ true) (same_Some b.Cardinal k (sym (ap (base_at t) (same_sort n cardinal high)) ∙ is)) (natural v ends.1 j)
-            where
-              natural : (v : ℤ) → v ≤ℤ pos 65535 → not (int_lt v (pos 0)) ≡ true → has_number b.Cardinal v ≡ true
-              natural v to from = grind (arith, ints)
-          by false false low high j = absurd (true≢false (sym j))
+          signed : (v : ℤ) → negsuc 32767 ≤ℤ v → v ≤ℤ pos 32767 → has_number b.Integer v ≡ true
+          signed v from to = grind (arith, ints)
+
+          natural : (v : ℤ) → v ≤ℤ pos 65535 → pos 0 ≤ℤ v → has_number b.Cardinal v ≡ true
+          natural v to from = grind (arith, ints)
   number_is n (k.Scalar s w) told_kind c h of =
       let same : told_kind.0 ≡ of.0 = same_Some told_kind.0 of.0 (sym told_kind.1 ∙ ap (base_at t) (sym (same_sort (base t n) (base t s) h)) ∙ of.1) in
       let span : HasSpan t s = base_span s (told_kind.0, told_kind.1, ap (λ k. is_ordinal (base_view k)) same ∙ of.2) in (
@@ -235,11 +206,11 @@ module _ (t : Table) (told : IsTold t) where
   abbrev asked : Found → Bound
   asked a = record { kind = a.kind; first = a.first }
 
-  pub range_right : (p : Place) (named : NamedType) (a c : Option Found) → NamedTold t named → IsThere (IsFound t) a → IsThere (IsFound t) c → Right (IsThere (MadeOf t)) (range_node t p named (bound_of a) (bound_of c))
-  range_right p Faulty a c h first last = absurd h
-  range_right p Absent None c h first last = absurd first
-  range_right p Absent (Some a) None h first last = absurd last
-  range_right p Absent (Some a) (Some c) h first last = range_law p Absent (range_base t Absent a.kind) (asked a) (asked c) (first_base a.kind first.kind) first.kind last.kind
-  range_right p (Given n) None c h first last = absurd first
-  range_right p (Given n) (Some a) None h first last = absurd last
-  range_right p (Given n) (Some a) (Some c) h first last = range_law p (Given n) (Some n) (asked a) (asked c) (λ m is. subst (HasBase t) (same_Some n m is) (span_base n h)) first.kind last.kind
+  pub range_right : {vs : List RVar} {around : List ℕ} (P : Property t vs around) (p : Place) (named : NamedType) (a c : Option Found) → NamedTold t named → IsThere (IsFound P) a → IsThere (IsFound P) c → Right (IsThere (MadeOf t)) (range_node t p named (bound_of a) (bound_of c))
+  range_right P p Faulty a c h first last = absurd h
+  range_right P p Absent None c h first last = absurd first
+  range_right P p Absent (Some a) None h first last = absurd last
+  range_right P p Absent (Some a) (Some c) h first last = range_law p Absent (range_base t Absent a.kind) (asked a) (asked c) (first_base a.kind first.kind) first.kind last.kind
+  range_right P p (Given n) None c h first last = absurd first
+  range_right P p (Given n) (Some a) None h first last = absurd last
+  range_right P p (Given n) (Some a) (Some c) h first last = range_law p (Given n) (Some n) (asked a) (asked c) (λ m is. subst (HasBase t) (same_Some n m is) (span_base n h)) first.kind last.kind

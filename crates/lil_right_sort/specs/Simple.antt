@@ -1,85 +1,83 @@
 -- Types that may be an index or a set's base: where no test finds a fault something lies in them, and what is declared stays told.
-use Rattle.std.proofs.Common.{◌≡◌, ℕ, suc, ◌+◌, ◌<◌, ◌≤◌, true, false, not, List, [], ◌∷◌, length, Option, Some, None, if◌then◌else◌, refl, sym, ap, subst, ◌∙◌, arith, true≢false}
+use Rattle.std.proofs.Common.{◌≡◌, ℕ, suc, ◌+◌, ◌<◌, ◌≤◌, true, false, not, ◌&&◌, List, [], ◌∷◌, length, Option, Some, None, if◌then◌else◌, refl, sym, ap, subst, ◌∙◌, arith, true≢false}
 use Rattle.std.specs.Prelude.{ℤ, pos, ◌≤ℤ◌, int_lt, nat_le, is_none, is_some}
-use Rattle.std.proofs.lemmas.Int.{ints}
-use Rattle.std.proofs.lemmas.List.{length-map}
-use Rattle.std.proofs.lemmas.Bool.{and_parts}
-use Rattle.std.proofs.lemmas.Bool.Decides.{nat_tests}
+use Rattle.std.proofs.lemmas.{Int.ints, List.length-map, Bool.Decides.nat_tests}
 use Rattle.lil_base.specs.declared.fault.Place.{Place}
-use Rattle.lil_text.specs.declared.tree.Ident.{Ident}
-use Rattle.lil_text.specs.declared.tree.Qualident.{Qualident}
-use Rattle.lil_language.specs.declared.tree.Expr.{Expr}
-use Rattle.lil_language.specs.declared.unit.Simple.{Simple}
+use Rattle.lil_text.specs.declared.tree.{Ident.Ident, Qualident.Qualident}
+use Rattle.lil_language.specs.declared.{tree.Expr.Expr, unit.Simple.Simple}
 use Rattle.lil_language.specs.declared.unit.Simple.TheVariants as simple
-use Rattle.lil_types.specs.Types.{Table, entry, known, base}
-use Rattle.lil_types.specs.Adding.{own, added, added_number}
-use Rattle.lil_types.specs.declared.table.Facts.{Facts}
-use Rattle.lil_types.specs.declared.table.Span.{Span}
-use Rattle.lil_types.specs.declared.table.TypeEntry.{TypeEntry}
-use Rattle.lil_types.specs.declared.table.TypeForm.{TypeForm}
+use Rattle.lil_types.specs.{Types.{Table, entry, base}, Adding.{own, added, added_number}, declared.table.{Facts.Facts, Origin.Origin, Span.Span, TypeForm.TypeForm}}
 use Rattle.lil_types.specs.declared.table.TypeForm.TheVariants as form
-use Rattle.lil_report.specs.Told.{after, walk}
+use Rattle.lil_report.specs.Told.{Row, after, walk}
 use Rattle.lil_resolved.specs.declared.resolved.RBase.TheVariants as b
-use Rattle.lil_scope.specs.declared.env.Env.{Env}
-use Rattle.lil_scope.specs.Names.{bind, bind_at}
-use Rattle.lil_kinds.specs.Forms.{span_in}
-use Rattle.lil_shapes.specs.Bases.{base_by, base_form, base_at}
-use Rattle.lil_shapes.specs.Operators.{has_number}
-use Rattle.lil_check_value.specs.Looks.{type_named}
-use Rattle.lil_check_value.specs.Values.{means}
-use Rattle.lil_check_type.specs.Made.{Made, type_node, form_node, ordinal_node}
+use Rattle.lil_scope.specs.{declared.env.Env.Env, Names.{bind, bind_at}}
+use Rattle.lil_scope.specs.Names as names
+use Rattle.lil_shapes.specs.{Bases.{base_by, base_at}, Operators.has_number}
+use Rattle.lil_check_value.specs.{Looks.type_named, Values.means}
+use Rattle.lil_check_type.specs.{Made.{Made, type_node, form_node, ordinal_node}, Bounds.{bound_of, range_node}, Simple.{names_of, constant_thing, next_word, constant_step, names_node, enumeration_means, given, base_means, simple_means, simple_place, simple_first, index_means, is_short, base_node, set_means}}
 use Rattle.lil_check_type.specs.Made as made
-use Rattle.lil_check_type.specs.Bounds.{bound_of, range_node}
-use Rattle.lil_check_type.specs.Simple.{names_of, constant_thing, next_word, constant_step, names_node, enumeration_means, given, base_means, simple_means, simple_place, simple_first, index_means, is_short, base_node, set_means}
-use Rattle.lil_right_type.specs.Right.{Clear, Right, IsThere, clear_left, clear_right, after_right, is_so}
-use Rattle.lil_right_type.specs.Types.{HasSpan, FormTold, IsTold, entry_base}
-use Rattle.lil_right_type.specs.Found.{HasWord, IsFound}
-use Rattle.lil_right_value.specs.Values.{means_right}
-use Rattle.lil_right_sort.specs.Growth.{Few, Grown, grown_same, grown_more, few_before, added_grown, added_entry, added_lies, added_told, declared_added, Declared}
-use Rattle.lil_right_value.specs.Names.{Lies, named_lies}
-use Rattle.lil_right_sort.specs.Scopes.{bind_declared}
-use Rattle.lil_right_sort.specs.Ranges.{MadeOf, NamedTold, range_right}
+use Rattle.lil_forms.specs.Properties.{nothing}
+use Rattle.lil_right_type.specs.{Right.{Clear, Right, IsThere, clear_left, clear_right, after_right, is_so}, Types.{HasSpan, IsTold, entry_base}, Found.{HasWord, IsKnown}}
+use Rattle.lil_right_value.specs.{Values.means_right, Names.{Lies, named_lies}}
+use Rattle.lil_right_sort.specs.{Growth.{Few, Grown, grown_same, grown_more, few_before, Kept, grown_kept, added_grown, added_entry, added_lies, added_told, declared_added, bound_declared, Declared}, Ranges.{MadeOf, NamedTold, range_right}}
 
 -- what is declared at first is told, if all that is declared at last has few constants
 abbrev pub Begun : Env → Type 0
 Begun e = Few e.types → Declared e
 
+-- what is declared behind this, and true there
+abbrev pub Follows : Env → Env → Type 0 → Type 0
+Follows e f P = Grown e.types f.types × (Few f.types → Declared f × P)
+
+module _ (e f g : Env) (P Q R : Type 0) where
+  pub follows : Follows e f P → Follows f g Q → (IsTold f.types → Kept 0 f.types g.types → P → Q → R) → Follows e g R
+  follows h j both = (
+    grown_more e.types f.types g.types h.0 j.0,
+    λ few.
+        let before = h.1 (few_before f.types g.types j.0 few) in
+        let now = j.1 few in
+        (now.0, both before.0.told.types (grown_kept f.types g.types j.0) before.1 now.1),
+  )
+
 -- what a type declares, and the type itself
 abbrev pub SortTold : Env → Made → Type 0
-SortTold e m = Grown e.types m.0.types × (Few m.0.types → Declared m.0 × Lies m.0.types m.1)
+SortTold e m = Follows e m.0 (Lies m.0.types m.1)
 
 -- a type with an order
 abbrev pub IndexTold : Env → Made → Type 0
-IndexTold e m = Grown e.types m.0.types × (Few m.0.types → Declared m.0 × IsThere (HasSpan m.0.types) m.1)
+IndexTold e m = Follows e m.0 (IsThere (HasSpan m.0.types) m.1)
 
 pub sort_later : (e f : Env) (m : Made) → Grown e.types f.types → SortTold f m → SortTold e m
 sort_later e f m grown h = (grown_more e.types f.types m.0.types grown h.0, h.1)
+
+-- what each step keeps where it finds no fault
+module _ {S X : Type 0} (P : S → Type 0) (f : S → X → S × List Row) (keeps : (s : S) (x : X) → P s → Right P (f s x)) where
+  pub walk_keeps : (s : S) (xs : List X) → P s → Right P (walk f s xs)
+  walk_keeps s [] h clear = h
+  walk_keeps s (x ∷ xs) h clear = after_right P P (f s x) (λ s. walk f s xs) (keeps s x h) (λ t j. walk_keeps t xs j) clear
+
+there_is : {A : Type 0} (o : Option A) → is_none o ≡ false → (a : A) × (o ≡ Some a)
+there_is None h = absurd (true≢false h)
+there_is (Some a) h = (a, refl)
 
 module _ (e : Env) (begun : Begun e) where
   -- ---- a next type
   pub type_right : (p : Place) (form : TypeForm) → (Few e.types → MadeOf e.types form) → Right (SortTold e) (type_node e p form)
   unfolding type_node
-  type_right p form made clear = (grown, told)
+  type_right p form made clear = (
+    grown,
+    λ few.
+        let h : Declared e = begun (few_before e.types u grown few) in
+        let parts = made (few_before e.types u grown few) in
+        let n = there_is (added_number e.types form) clear.0 in
+        (declared_added e h (own e.types) form parts.0 few, subst (Lies u) (sym n.1) (added_lies e.types (own e.types) form h.told.types h.told.words parts.0 few parts.1 n.0 n.1)),
+  )
     where
       u : Table
       u = added e.types (own e.types) form
 
       grown : Grown e.types u
       grown = added_grown e.types (own e.types) form
-
-      told : Few u → Declared (record e { types = u }) × Lies u (added_number e.types form)
-      told few =
-          let before : Few e.types = few_before e.types u grown few in
-          let h : Declared e = begun before in
-          let parts = made before in
-          (declared_added e h (own e.types) form parts.0 few, by (added_number e.types form) refl clear.0)
-        where
-          by : (o : Option ℕ) → added_number e.types form ≡ o → is_none o ≡ false → Lies u o
-          by None is is_there = absurd (true≢false is_there)
-          by (Some n) is is_there =
-              let before : Few e.types = few_before e.types u grown few in
-              let h : Declared e = begun before in
-              added_lies e.types (own e.types) form h.told.types h.told.words (made before).0 few (made before).1 n is
 
   pub form_right : (p : Place) (o : Option TypeForm) → (Few e.types → IsThere (MadeOf e.types) o) → Right (SortTold e) (form_node e p o)
   form_right p None made clear = (grown_same e.types, λ few. absurd (made few))
@@ -89,57 +87,40 @@ module _ (e : Env) (begun : Begun e) where
   named_right q clear few = named_lies e (begun few).told q clear
 
 -- ---- ordinal types
-same_span : (o : Option Facts) → made.span_in o ≡ span_in o
-same_span None = refl
-same_span (Some f) = refl
-
-span_known : (t : Table) (n : ℕ) (s : Span) → made.span_of t n ≡ Some s → span_in (known t n) ≡ Some s
-span_known t n s is = sym (same_span (known t n)) ∙ is
-
 pub ordinal_right : (t : Table) (p : Place) (o : Option ℕ) → Right (λ r. Lies t o → IsThere (HasSpan t) r) (ordinal_node t p o)
 unfolding ordinal_node
 ordinal_right t p None clear h = absurd h
-ordinal_right t p (Some n) clear h = by (made.span_of t n) refl clear.0
-  where
-    by : (o : Option Span) → made.span_of t n ≡ o → is_none o ≡ false → IsThere (HasSpan t) (if is_some (made.span_of t n) then Some n else None)
-    by None is none = absurd (true≢false none)
-    by (Some s) is none = subst (λ c. IsThere (HasSpan t) (if c then Some n else None)) (sym (ap is_some is)) (s, span_known t n s is)
+ordinal_right t p (Some n) clear h =
+    let s = there_is (made.span_of t n) clear.0 in
+    subst (λ o. IsThere (HasSpan t) (if is_some o then Some n else None)) (sym s.1) (s.0, s.1)
 
 -- ---- sets
+short_is : (o : Option Span) → is_short o ≡ true → (s : Span) × (o ≡ Some s) × (pos 0 ≤ℤ s.low) × (s.high ≤ℤ pos 15)
+short_is None h = absurd (true≢false (sym h))
+short_is (Some s) h = let ends = within s.low s.high h in (s, refl, ends.0, ends.1)
+  where
+    within : (x y : ℤ) → (not (int_lt x (pos 0)) && not (int_lt (pos 15) y)) ≡ true → (pos 0 ≤ℤ x) × (y ≤ℤ pos 15)
+    within x y h = grind (arith, ints)
+
 pub base_right : (t : Table) (p : Place) (o : Option ℕ) → Right (λ f. Lies t o → IsThere (MadeOf t) f) (base_node t p o)
 unfolding base_node
 base_right t p None clear h = absurd h
-base_right t p (Some n) clear h = by (made.span_of t n) refl (is_so (is_short (made.span_of t n)) clear.0)
-  where
-    few : (s : Span) → is_short (Some s) ≡ true → (pos 0 ≤ℤ s.low) × (s.high ≤ℤ pos 15)
-    few s short = let parts = and_parts (not (int_lt s.low (pos 0))) (not (int_lt (pos 15) s.high)) short in (low s.low parts.0, high s.high parts.1)
-      where
-        low : (z : ℤ) → not (int_lt z (pos 0)) ≡ true → pos 0 ≤ℤ z
-        low z h = grind (arith, ints)
-
-        high : (z : ℤ) → not (int_lt (pos 15) z) ≡ true → z ≤ℤ pos 15
-        high z h = grind (arith, ints)
-
-    by : (o : Option Span) → made.span_of t n ≡ o → is_short o ≡ true → IsThere (MadeOf t) (if is_short (made.span_of t n) then Some (form.SetOf n) else None)
-    by None is short = absurd (true≢false (sym short))
-    by (Some s) is short =
-        subst (λ c. IsThere (MadeOf t) (if c then Some (form.SetOf n) else None)) (sym (ap is_short is ∙ short))
-        ((s, span_known t n s is, (few s short).0, (few s short).1), refl)
+base_right t p (Some n) clear h =
+    let short = is_so (is_short (made.span_of t n)) clear.0 in
+    let s = short_is (made.span_of t n) short in
+    subst (λ c. IsThere (MadeOf t) (if c then Some (form.SetOf n) else None)) (sym short) ((s.0, s.1, s.2, s.3), refl)
 
 -- ---- enumerations: their constants are words
-entry_words : (t : Table) → IsTold t → (n : ℕ) (e : TypeEntry) (xs : List (List ℕ)) → entry t n ≡ Some e → e.form ≡ form.Enumeration xs → (w : ℕ) → w < length xs → HasWord t n w
-entry_words t told n e xs is same w h = (b.Enumeration (length xs), at, refl, within w (length xs) h)
+entry_words : (t : Table) → IsTold t → (n : ℕ) (o : Origin) (f : Facts) (xs : List (List ℕ)) → entry t n ≡ Some (record { origin = o; form = form.Enumeration xs; facts = f }) → (w : ℕ) → w < length xs → HasWord t n w
+entry_words t told n o f xs is w h = (b.Enumeration (length xs), at, refl, within w (length xs) h)
   where
-    of : FormTold t n e.facts (form.Enumeration xs)
-    of = subst (FormTold t n e.facts) same (told n e is)
-
     fits : nat_le (length xs) 65535 ≡ true
-    fits = let few = of.2 in grind (arith, nat_tests)
+    fits = let few = (told n _ is).2 in grind (arith, nat_tests)
 
     at : base_at t (base t n) ≡ Some (b.Enumeration (length xs))
     at =
-        ap (base_at t) (entry_base t told n e is ∙ ap (λ (f : Facts). f.base) of.0)
-        ∙ ap (base_by n) is ∙ ap (base_form n) same ∙ ap (λ c. if c then Some (b.Enumeration (length xs)) else None) fits
+        ap (base_at t) (entry_base t told n _ is ∙ ap (λ (f : Facts). f.base) (told n _ is).0)
+        ∙ ap (base_by n) is ∙ ap (λ c. if c then Some (b.Enumeration (length xs)) else None) fits
 
     within : (w n : ℕ) → w < n → has_number (b.Enumeration n) (pos w) ≡ true
     within w n h = grind (arith, nat_tests, ints)
@@ -157,7 +138,7 @@ constants_right count n s (i ∷ is) h clear = constants_right count n (constant
   where
     step : (n : Option ℕ) → Declared s.0 → HasWords s.0.types count n → s.1 < count → Declared (bind s.0 i (constant_thing n s.1)).0
     step None d words below = absurd words
-    step (Some n) d words below = bind_declared s.0 s.0.scopes.inner i _ d (words s.1 below, tt) tt
+    step (Some n) d words below = bound_declared s.0 d s.0.scopes.inner i.name (names.entry (constant_thing (Some n) s.1) i.place) ((words s.1 below, tt), tt)
 
     later : (w n count : ℕ) → count ≤ 65535 → w + suc n ≤ count → next_word w + n ≤ count
     later w n count few h = grind (arith, nat_tests)
@@ -170,24 +151,22 @@ constants_right count n s (i ∷ is) h clear = constants_right count n (constant
 
 words_right : (e : Env) (begun : Begun e) (p : Place) (xs : List (List ℕ)) → 1 ≤ length xs → Right (λ m. Few m.0.types → HasWords m.0.types (length xs) m.1 × (length xs ≤ 65535)) (type_node e p (form.Enumeration xs))
 unfolding type_node
-words_right e begun p xs some clear few = by (added_number e.types of) refl clear.0
+words_right e begun p xs some clear few = (subst (HasWords u (length xs)) (sym n.1) (entry_words u told n.0 (own e.types) x.0 xs x.1), few n.0 _ xs x.1 refl)
   where
-    of : TypeForm
-    of = form.Enumeration xs
-
     u : Table
-    u = added e.types (own e.types) of
+    u = added e.types (own e.types) (form.Enumeration xs)
+
+    before : Declared e
+    before = begun (few_before e.types u (added_grown e.types (own e.types) (form.Enumeration xs)) few)
 
     told : IsTold u
-    told =
-        let before : Declared e = begun (few_before e.types u (added_grown e.types (own e.types) of) few) in
-        (added_told e.types (own e.types) of before.told.types before.told.words some few).0
+    told = (added_told e.types (own e.types) (form.Enumeration xs) before.told.types before.told.words some few).0
 
-    by : (o : Option ℕ) → added_number e.types of ≡ o → is_none o ≡ false → HasWords u (length xs) o × (length xs ≤ 65535)
-    by None is is_there = absurd (true≢false is_there)
-    by (Some n) is is_there =
-        let x = added_entry e.types (own e.types) of n is in
-        (entry_words u told n x.0 xs x.1 x.2, few n x.0 xs x.1 x.2)
+    n : (n : ℕ) × (added_number e.types (form.Enumeration xs) ≡ Some n)
+    n = there_is (added_number e.types (form.Enumeration xs)) clear.0
+
+    x : (f : Facts) × (entry u n.0 ≡ Some (record { origin = own e.types; form = form.Enumeration xs; facts = f }))
+    x = added_entry e.types (own e.types) (form.Enumeration xs) n.0 n.1
 
 enumeration_right : (e : Env) → Begun e → (p : Place) (is : List Ident) → Right (SortTold e) (enumeration_means e p is)
 unfolding after names_node
@@ -227,8 +206,8 @@ named_base_right e begun (Some q) =
     given_told None h = absurd h
     given_told (Some n) h = h
 
-expression_there : (e : Env) → Begun e → (x : Expr) → Right (λ a. Few e.types → IsThere (IsFound e.types) a) (means e x)
-expression_there e begun x clear few = means_right e (begun few).told x clear
+expression_there : (e : Env) → Begun e → (x : Expr) → Right (λ a. Few e.types → IsThere (IsKnown e) a) (means e x)
+expression_there e begun x clear few = means_right e (nothing e.types e.variables e.withs) (begun few).told x clear
 
 -- ---- all forms
 pub simple_right : (e : Env) → Begun e → (x : Simple) → Right (SortTold e) (simple_means e x)
@@ -237,10 +216,10 @@ simple_right e begun (simple.Named q) = after_right (λ o. Few e.types → Lies 
 simple_right e begun (simple.Enumeration p is) = enumeration_right e begun p is
 simple_right e begun (simple.Subrange p q x y) =
     after_right (λ n. Few e.types → NamedTold e.types n) (SortTold e) (base_means e q) _ (named_base_right e begun q)
-    (λ n h. after_right (λ a. Few e.types → IsThere (IsFound e.types) a) (SortTold e) (means e x) _ (expression_there e begun x)
-    (λ a first. after_right (λ c. Few e.types → IsThere (IsFound e.types) c) (SortTold e) (means e y) _ (expression_there e begun y)
+    (λ n h. after_right (λ a. Few e.types → IsThere (IsKnown e) a) (SortTold e) (means e x) _ (expression_there e begun x)
+    (λ a first. after_right (λ c. Few e.types → IsThere (IsKnown e) c) (SortTold e) (means e y) _ (expression_there e begun y)
     (λ c last. after_right (λ o. Few e.types → IsThere (MadeOf e.types) o) (SortTold e) (range_node e.types p n (bound_of a) (bound_of c)) (form_node e p)
-    (λ clear few. range_right e.types (begun few).told.types p n a c (h few) (first few) (last few) clear) (form_right e begun p))))
+    (λ clear few. range_right e.types (begun few).told.types (nothing e.types e.variables e.withs) p n a c (h few) (first few) (last few) clear) (form_right e begun p))))
 
 pub index_right : (e : Env) → Begun e → (x : Simple) → Right (IndexTold e) (index_means e x)
 index_right e begun x =

@@ -1,51 +1,24 @@
 -- The types that a right text declares: something lies in each of them, and what is declared before stays told, by induction.
-use Rattle.std.proofs.Common.{◌≡◌, ℕ, Bool, true, false, not, ◌||◌, ◌&&◌, List, [], ◌∷◌, map, reverse, Option, Some, None, IfSome, if◌then◌else◌, refl, sym, ap, subst, ◌∙◌, true≢false}
+use Rattle.std.proofs.Common.{◌≡◌, ℕ, Bool, true, false, not, ◌||◌, ◌&&◌, List, [], ◌∷◌, map, reverse, Option, Some, None, IfSome, if◌then◌else◌, refl, sym, ap, subst, true≢false}
 use Rattle.std.specs.Prelude.{◌==◌}
 use mathlib.Core.List.{reverse_aux}
 use Rattle.lil_base.specs.declared.fault.Place.{Place}
-use Rattle.lil_text.specs.declared.tree.Ident.{Ident}
-use Rattle.lil_text.specs.declared.tree.Qualident.{Qualident}
-use Rattle.lil_language.specs.declared.unit.Simple.{Simple}
-use Rattle.lil_language.specs.declared.unit.Sort.{Sort}
-use Rattle.lil_language.specs.declared.unit.FieldList.{FieldList}
-use Rattle.lil_language.specs.declared.unit.Variant.{Variant, roll-Variant}
+use Rattle.lil_text.specs.declared.tree.{Ident.Ident, Qualident.Qualident}
+use Rattle.lil_language.specs.declared.unit.{Simple.Simple, Sort.Sort, FieldList.{FieldList, TheOpen.{FieldList-F, Sort-F, Variant-F}, TheFolds.{map-FieldList, map-Sort, map-Variant, ind-Sort}, TheViews.{roll-FieldList, roll-Sort}}, Variant.{Variant, roll-Variant}}
 use Rattle.lil_language.specs.declared.unit.FieldList.TheOpen as o
-use Rattle.lil_language.specs.declared.unit.FieldList.TheOpen.{FieldList-F, Sort-F, Variant-F}
-use Rattle.lil_language.specs.declared.unit.FieldList.TheFolds.{map-FieldList, map-Sort, map-Variant, fold-roll-FieldList, fold-roll-Sort, fold-roll-Variant, ind-Sort}
-use Rattle.lil_language.specs.declared.unit.FieldList.TheViews.{roll-FieldList, roll-Sort}
-use Rattle.lil_types.specs.Types.{Table, proc, process}
-use Rattle.lil_types.specs.declared.table.Field.{Field}
+use Rattle.lil_types.specs.{Types.{Table, proc, process}, declared.table.Field.Field}
 use Rattle.lil_types.specs.declared.table.TypeForm.TheVariants as form
 use Rattle.lil_report.specs.Told.{Row, after, walk}
-use Rattle.lil_scope.specs.declared.env.Env.{Env}
-use Rattle.lil_scope.specs.declared.thing.Thing.{Thing}
+use Rattle.lil_scope.specs.{declared.{env.Env.Env, thing.Thing.Thing}, Names.find}
 use Rattle.lil_scope.specs.declared.thing.Thing.TheVariants as thing
-use Rattle.lil_scope.specs.Names.{find}
-use Rattle.lil_shapes.specs.ListLaws.{AllFine}
-use Rattle.lil_shapes.specs.Pointers.{lies_at}
-use Rattle.lil_forms.specs.FoundSound.{fine_more}
+use Rattle.lil_shapes.specs.{ListLaws.AllFine, Pointers.lies_at}
+use Rattle.lil_forms.specs.Scopes.{fine_more}
 use Rattle.lil_check_value.specs.Looks.{type_named, not_built}
-use Rattle.lil_check_type.specs.declared.records.Fields.{Fields}
-use Rattle.lil_check_type.specs.Made.{Made, type_node, form_node, ordinal_node}
-use Rattle.lil_check_type.specs.Simple.{index_means}
-use Rattle.lil_check_type.specs.Records.{no_fields, field_step, tag_field, tag_means, label_step, record_form}
-use Rattle.lil_check_type.specs.Sorts.{index_step, array_form, array_step, array_means, with_wait, pointer_form, target_so_far, waiting_means, pointer_means, Sense, Part, Cased, FieldSense, VariantSense, fields_by, else_by, named_fields, variants_by, case_fields, field_layer, variant_layer, sort_layer, sense, fields_sense, variant_sense, sort_means}
-use Rattle.lil_right_type.specs.Right.{Right, IsThere, after_right, walk_right}
-use Rattle.lil_right_type.specs.Types.{HasSpan, IsTold}
-use Rattle.lil_right_type.specs.Found.{ThingTold}
-use Rattle.lil_right_sort.specs.Growth.{all_then, Few, Grown, grown_same, grown_more, few_before, lies_stays, has_span_stays, span_lies, Declared, declared_waits}
+use Rattle.lil_check_type.specs.{declared.records.Fields.Fields, Made.{Made, type_node, form_node, ordinal_node}, Simple.index_means, Records.{no_fields, field_step, tag_field, tag_means, label_step, record_form}}
+use Rattle.lil_check_type.specs.Sorts.{index_step, array_form, array_step, array_means, with_wait, pointer_form, target_so_far, waiting_means, pointer_means, Sense, Part, Cased, FieldSense, VariantSense, fields_by, else_by, named_fields, variants_by, case_fields, field_layer, variant_layer, sense, fields_sense, variant_sense, fields_rolled, sort_rolled, variant_rolled, sort_layer, sort_means}
+use Rattle.lil_right_type.specs.{Right.{Right, IsThere, after_right, walk_right}, Types.{HasSpan, IsTold}, Found.ThingTold}
+use Rattle.lil_right_sort.specs.{Growth.{all_then, Few, grown_same, lies_stays, has_span_stays, span_lies, Kept, Declared, declared_waits}, Ranges.MadeOf, Simple.{Begun, Follows, follows, SortTold, IndexTold, sort_later, walk_keeps, type_right, form_right, named_right, ordinal_right, simple_right, index_right, set_right}}
 use Rattle.lil_right_value.specs.Names.{Lies, find_told}
-use Rattle.lil_right_sort.specs.Ranges.{MadeOf}
-use Rattle.lil_right_sort.specs.Simple.{Begun, SortTold, IndexTold, sort_later, type_right, form_right, named_right, ordinal_right, simple_right, index_right, set_right}
-
--- ---- walks that keep a property
-module _ {S X : Type 0} (P : S → Type 0) (f : S → X → S × List Row) (keeps : (s : S) (x : X) → P s → Right P (f s x)) where
-  each_right : (s : S) (xs : List X) → P s → Right P (walk f s xs)
-  each_right s xs h = walk_right P (λ x. Unit {0}) f (λ s x h any. keeps s x h) s xs h (any xs)
-    where
-      any : (xs : List X) → AllFine (λ x. Unit {0}) xs
-      any [] = tt
-      any (x ∷ xs) = (tt, any xs)
 
 reversed : {A : Type 0} (P : A → Type 0) (xs ys : List A) → AllFine P xs → AllFine P ys → AllFine P (reverse_aux xs ys)
 reversed P [] ys h j = j
@@ -57,18 +30,18 @@ abbrev Indexes : Type 0
 Indexes = Env × List (Option ℕ)
 
 abbrev IndexesTold : Env → Indexes → Type 0
-IndexesTold e s = Grown e.types s.0.types × (Few s.0.types → Declared s.0 × AllFine (λ o. IsThere (HasSpan s.0.types) o) s.1)
+IndexesTold e s = Follows e s.0 (AllFine (λ o. IsThere (HasSpan s.0.types) o) s.1)
 
-spans_stay : (t u : Table) → IsTold t → Grown t u → (os : List (Option ℕ)) → AllFine (λ o. IsThere (HasSpan t) o) os → AllFine (λ o. IsThere (HasSpan u) o) os
-spans_stay t u told grown = all_then _ _ one
+spans_stay : (t u : Table) → IsTold t → Kept 0 t u → (os : List (Option ℕ)) → AllFine (λ o. IsThere (HasSpan t) o) os → AllFine (λ o. IsThere (HasSpan u) o) os
+spans_stay t u told kept = all_then _ _ one
   where
     one : (o : Option ℕ) → IsThere (HasSpan t) o → IsThere (HasSpan u) o
     one None h = h
-    one (Some n) h = has_span_stays t u told grown n h
+    one (Some n) h = has_span_stays t u told kept n h
 
 -- the arrays over these indexes, before they are made
 abbrev ArraysTold : Env → List (Option ℕ) → Made → Type 0
-ArraysTold e os m = Grown e.types m.0.types × (Few m.0.types → Declared m.0 × Lies m.0.types m.1 × AllFine (λ o. IsThere (HasSpan m.0.types) o) os)
+ArraysTold e os m = Follows e m.0 (Lies m.0.types m.1 × AllFine (λ o. IsThere (HasSpan m.0.types) o) os)
 
 array_made : (t : Table) (i o : Option ℕ) → IsThere (HasSpan t) i → Lies t o → IsThere (MadeOf t) (array_form i o)
 array_made t None o h j = absurd h
@@ -76,26 +49,22 @@ array_made t (Some i) None h j = absurd j
 array_made t (Some i) (Some n) h j = ((h, j), refl)
 
 arrays_right : (e : Env) (p : Place) (os : List (Option ℕ)) (m : Made) → ArraysTold e os m → Right (SortTold e) (walk (array_step p) m os)
-arrays_right e p [] m h = λ clear. (h.0, λ few. ((h.1 few).0, (h.1 few).1))
+arrays_right e p [] m h = λ clear. (h.0, λ few. ((h.1 few).0, (h.1 few).1.0))
 arrays_right e p (i ∷ os) m h = after_right (ArraysTold e os) (SortTold e) (array_step p m i) (λ m. walk (array_step p) m os) step (arrays_right e p os)
   where
     step : Right (ArraysTold e os) (array_step p m i)
-    step clear =
-        let array : SortTold m.0 (array_step p m i).0 = form_right m.0 (λ few. (h.1 few).0) p (array_form i m.1) (λ few. array_made m.0.types i m.1 (h.1 few).2.0 (h.1 few).1) clear in (
-          grown_more e.types m.0.types _ h.0 array.0,
-          λ few.
-              let before = h.1 (few_before m.0.types _ array.0 few) in
-              ((array.1 few).0, (array.1 few).1, spans_stay m.0.types _ before.0.told.types array.0 os before.2.1),
-        )
+    step clear = follows e m.0 _ _ _ _ h
+        (form_right m.0 (λ few. (h.1 few).0) p (array_form i m.1) (λ few. let before = (h.1 few).1 in array_made m.0.types i m.1 before.1.0 before.0) clear)
+        (λ told kept before now. (now, spans_stay m.0.types _ told kept os before.1.1))
 
 -- ---- pointers
 target_lies : (e : Env) (o : Option Thing) → IfSome o (ThingTold e.types e.variables e.texts) → lies_at e.types (target_so_far o) ≡ true
 target_lies e None h = refl
-target_lies e (Some (thing.Type n)) h = by (n == proc || n == process) refl
+target_lies e (Some (thing.Type n)) h = by (n == proc || n == process) (λ is. h (ap not is))
   where
-    by : (c : Bool) → (n == proc || n == process) ≡ c → lies_at e.types (if n == proc || n == process then 0 else n) ≡ true
-    by true is = ap (λ c. lies_at e.types (if c then 0 else n)) is
-    by false is = ap (λ c. lies_at e.types (if c then 0 else n)) is ∙ h (ap not is)
+    by : (c : Bool) → (c ≡ false → lies_at e.types n ≡ true) → lies_at e.types (if c then 0 else n) ≡ true
+    by true there = refl
+    by false there = there refl
 target_lies e (Some _) h = refl
 
 wait_right : (e f : Env) (o : Option ℕ) (i : Ident) → SortTold e (f, o) → SortTold e (with_wait f o i, o)
@@ -113,10 +82,10 @@ abbrev FieldsTold : Table → Fields → Type 0
 FieldsTold t fs = (fs.right ≡ true) × AllFine (λ (x : Field). lies_at t x.sort ≡ true) fs.list
 
 abbrev PartTold : Env → Part → Type 0
-PartTold e q = Grown e.types q.0.types × (Few q.0.types → Declared q.0 × FieldsTold q.0.types q.1)
+PartTold e q = Follows e q.0 (FieldsTold q.0.types q.1)
 
-fields_stay : (t u : Table) → IsTold t → Grown t u → (fs : Fields) → FieldsTold t fs → FieldsTold u fs
-fields_stay t u told grown fs h = (h.0, all_then _ _ (λ (x : Field). lies_stays t u told grown x.sort) fs.list h.1)
+fields_stay : (t u : Table) → IsTold t → Kept 0 t u → (fs : Fields) → FieldsTold t fs → FieldsTold u fs
+fields_stay t u told kept fs h = (h.0, all_then _ _ (λ (x : Field). lies_stays t u told kept x.sort) fs.list h.1)
 
 field_right : (t : Table) (o : Option ℕ) → Lies t o → (fs : Fields) (i : Ident) → FieldsTold t fs → Right (FieldsTold t) (field_step o fs i)
 unfolding field_step
@@ -127,10 +96,11 @@ field_right t (Some n) h fs i j clear = ((λ k. j.0 k && true), fine_more (λ (x
 named_fields_right : (e : Env) (is : List Ident) (sort : Env → Made × List Row) → ((f : Env) → Begun f → Right (SortTold f) (sort f)) → (q : Part) → PartTold e q → Right (PartTold e) (named_fields is sort q)
 named_fields_right e is sort made q h =
     after_right (SortTold q.0) (PartTold e) (sort q.0) _ (made q.0 (λ few. (h.1 few).0))
-    (λ m j. after_right (λ fs. Few m.0.types → FieldsTold m.0.types fs) (PartTold e) (walk (field_step m.1) q.1 is) _
-    (each_right (λ fs. Few m.0.types → FieldsTold m.0.types fs) (field_step m.1) (λ fs i k clear few. field_right m.0.types m.1 (j.1 few).1 fs i (k few) clear) q.1 is
-    (λ few. let before = h.1 (few_before q.0.types m.0.types j.0 few) in fields_stay q.0.types m.0.types before.0.told.types j.0 q.1 before.1))
-    (λ fs k clear. (grown_more e.types q.0.types m.0.types h.0 j.0, λ few. ((j.1 few).0, k few))))
+    (λ m j.
+    let before : Follows e m.0 (Lies m.0.types m.1 × FieldsTold m.0.types q.1) = follows e q.0 m.0 _ _ _ h j (λ told kept fields there. (there, fields_stay q.0.types m.0.types told kept q.1 fields)) in
+    after_right (λ fs. Few m.0.types → FieldsTold m.0.types fs) (PartTold e) (walk (field_step m.1) q.1 is) _
+    (walk_keeps (λ fs. Few m.0.types → FieldsTold m.0.types fs) (field_step m.1) (λ fs i k clear few. field_right m.0.types m.1 (j.1 few).1 fs i (k few) clear) q.1 is (λ few. (before.1 few).1.1))
+    (λ fs k clear. (before.0, λ few. ((j.1 few).0, k few))))
 
 -- the tag of variants
 tag_right : (e : Env) → Begun e → (fs : Fields) (i : Option Ident) (q : Qualident) → (Few e.types → FieldsTold e.types fs) → Right (λ w. Few e.types → FieldsTold e.types w.0) (tag_means e fs i q)
@@ -189,10 +159,6 @@ bare_fields = map-FieldList Fielded Sorted Varied FieldList Sort Variant (λ x. 
 abbrev fields_meant : FieldList-F FieldList Sort Variant → FieldList-F FieldSense Sense VariantSense
 fields_meant = map-FieldList FieldList Sort Variant FieldSense Sense VariantSense fields_sense sense variant_sense
 
-fields_rolled : (x : FieldList-F FieldList Sort Variant) → fields_sense (roll-FieldList x) ≡ field_layer (fields_meant x)
-unfolding sense fields_sense variant_sense
-fields_rolled = fold-roll-FieldList FieldSense Sense VariantSense field_layer sort_layer variant_layer
-
 case_right : (e : Env) (i : Option Ident) (n : Qualident) (vs : List VariantSense) (others : Part → Part × List Row) → AllFine VariantRight vs → FieldRight others → (q : Part) → PartTold e q → Right (PartTold e) (case_fields i n (variants_by vs) others q)
 case_right e i n vs others all other q h =
     after_right (λ w. Few q.0.types → FieldsTold q.0.types w.0) (PartTold e) (tag_means q.0 q.1 i n) _ (tag_right q.0 (λ few. (h.1 few).0) q.1 i n (λ few. (h.1 few).1))
@@ -203,9 +169,6 @@ field_layer_right (o.Fields is s) e q h = named_fields_right e is (sense s.0).me
 field_layer_right (o.Variants p i n vs None) e q h = case_right e i n (map variant_sense (map (λ x. x.0) vs)) (else_by None) (each_varied vs) (λ e q h clear. h) q h
 field_layer_right (o.Variants p i n vs (Some fs)) e q h = case_right e i n (map variant_sense (map (λ x. x.0) vs)) (fields_by (map fields_sense (map (λ x. x.0) fs))) (each_varied vs) (fields_right (map fields_sense (map (λ x. x.0) fs)) (each_fielded fs)) q h
 
-fields_hold : (y : FieldList-F Fielded Sorted Varied) → FieldRight (fields_sense (roll-FieldList (bare_fields y)))
-fields_hold y = subst FieldRight (sym (fields_rolled (bare_fields y))) (field_layer_right y)
-
 -- ---- variants
 abbrev bare_variant : Variant-F Fielded Sorted Varied → Variant-F FieldList Sort Variant
 bare_variant = map-Variant Fielded Sorted Varied FieldList Sort Variant (λ x. x.0) (λ x. x.0) (λ x. x.0)
@@ -213,17 +176,10 @@ bare_variant = map-Variant Fielded Sorted Varied FieldList Sort Variant (λ x. x
 abbrev variant_meant : Variant-F FieldList Sort Variant → Variant-F FieldSense Sense VariantSense
 variant_meant = map-Variant FieldList Sort Variant FieldSense Sense VariantSense fields_sense sense variant_sense
 
-variant_rolled : (x : Variant-F FieldList Sort Variant) → variant_sense (roll-Variant x) ≡ variant_layer (variant_meant x)
-unfolding sense fields_sense variant_sense
-variant_rolled = fold-roll-Variant FieldSense Sense VariantSense field_layer sort_layer variant_layer
-
 variant_layer_right : (y : Variant-F Fielded Sorted Varied) → VariantRight (variant_layer (variant_meant (bare_variant y)))
 variant_layer_right y e n c h =
     after_right (λ us. Unit {0}) (λ (c : Cased). PartTold e c.0) (walk (label_step c.0.0 n) c.1 y.labels) _ (λ clear. tt)
     (λ us any. after_right (PartTold e) (λ (c : Cased). PartTold e c.0) (fields_by (map fields_sense (map (λ x. x.0) y.fields)) c.0) _ (fields_right (map fields_sense (map (λ x. x.0) y.fields)) (each_fielded y.fields) e c.0 h) (λ q j clear. j))
-
-variant_holds : (y : Variant-F Fielded Sorted Varied) → VariantRight (variant_sense (roll-Variant (bare_variant y)))
-variant_holds y = subst VariantRight (sym (variant_rolled (bare_variant y))) (variant_layer_right y)
 
 -- ---- types
 abbrev bare : Sort-F Fielded Sorted Varied → Sort-F FieldList Sort Variant
@@ -232,33 +188,18 @@ bare = map-Sort Fielded Sorted Varied FieldList Sort Variant (λ x. x.0) (λ x. 
 abbrev meant : Sort-F FieldList Sort Variant → Sort-F FieldSense Sense VariantSense
 meant = map-Sort FieldList Sort Variant FieldSense Sense VariantSense fields_sense sense variant_sense
 
-rolled : (x : Sort-F FieldList Sort Variant) → sense (roll-Sort x) ≡ sort_layer (meant x)
-unfolding sense fields_sense variant_sense
-rolled = fold-roll-Sort FieldSense Sense VariantSense field_layer sort_layer variant_layer
-
 indexes_right : (e : Env) → Begun e → (xs : List Simple) → Right (IndexesTold e) (walk index_step (e, []) xs)
-indexes_right e begun xs = each_right (IndexesTold e) index_step step (e, []) xs (grown_same e.types, λ few. (begun few, tt))
+indexes_right e begun xs = walk_keeps (IndexesTold e) index_step step (e, []) xs (grown_same e.types, λ few. (begun few, tt))
   where
     step : (s : Indexes) (x : Simple) → IndexesTold e s → Right (IndexesTold e) (index_step s x)
-    step s x h =
-        after_right (IndexTold s.0) (IndexesTold e) (index_means s.0 x) _ (index_right s.0 (λ few. (h.1 few).0) x)
-        (λ m j clear. (
-          grown_more e.types s.0.types m.0.types h.0 j.0,
-          λ few.
-              let before = h.1 (few_before s.0.types m.0.types j.0 few) in
-              ((j.1 few).0, fine_more (λ o. IsThere (HasSpan m.0.types) o) s.1 m.1 (spans_stay s.0.types m.0.types before.0.told.types j.0 s.1 before.1) (j.1 few).1),
-        ))
+    step s x h = after_right (IndexTold s.0) (IndexesTold e) (index_means s.0 x) _ (index_right s.0 (λ few. (h.1 few).0) x)
+        (λ m j clear. follows e s.0 m.0 _ _ _ h j (λ told kept before now. fine_more (λ o. IsThere (HasSpan m.0.types) o) s.1 m.1 (spans_stay s.0.types m.0.types told kept s.1 before) now))
 
 array_right : (e : Env) → Begun e → (p : Place) (xs : List Simple) (element : Env → Made × List Row) → ((f : Env) → Begun f → Right (SortTold f) (element f)) → Right (SortTold e) (array_means e p xs element)
 array_right e begun p xs element right =
     after_right (IndexesTold e) (SortTold e) (walk index_step (e, []) xs) _ (indexes_right e begun xs)
     (λ s h. after_right (SortTold s.0) (SortTold e) (element s.0) _ (right s.0 (λ few. (h.1 few).0))
-    (λ m j. arrays_right e p (reverse s.1) m (
-      grown_more e.types s.0.types m.0.types h.0 j.0,
-      λ few.
-          let before = h.1 (few_before s.0.types m.0.types j.0 few) in
-          ((j.1 few).0, (j.1 few).1, reversed (λ o. IsThere (HasSpan m.0.types) o) s.1 [] (spans_stay s.0.types m.0.types before.0.told.types j.0 s.1 before.1) tt),
-    )))
+    (λ m j. arrays_right e p (reverse s.1) m (follows e s.0 m.0 _ _ _ h j (λ told kept before now. (now, reversed (λ o. IsThere (HasSpan m.0.types) o) s.1 [] (spans_stay s.0.types m.0.types told kept s.1 before) tt)))))
 
 record_right : (e : Env) → Begun e → (p : Place) (fs : List FieldSense) → AllFine FieldRight fs → Right (SortTold e) (after (fields_by fs (e, no_fields)) (λ q. form_node q.0 p (record_form q.1)))
 record_right e begun p fs all =
@@ -287,15 +228,12 @@ layer_right (o.SetOver p x) e begun = set_right e begun p x
 layer_right (o.PointerTo p y) e begun = pointer_right e begun p (sense y.0).name (sense y.0).means y.1
 layer_right (o.ProcedureOf p fs q) e begun = λ clear. absurd (true≢false clear.0)
 
-holds : (y : Sort-F Fielded Sorted Varied) → SenseRight (sense (roll-Sort (bare y)))
-holds y = subst SenseRight (sym (rolled (bare y))) (layer_right y)
-
 -- ---- by induction
 sense_right : (x : Sort) → SenseRight (sense x)
 sense_right = ind-Sort (λ x. FieldRight (fields_sense x)) (λ x. SenseRight (sense x)) (λ x. VariantRight (variant_sense x))
-    (λ x y is. subst (λ z. FieldRight (fields_sense (roll-FieldList z))) is (fields_hold y))
-    (λ x y is. subst (λ z. SenseRight (sense (roll-Sort z))) is (holds y))
-    (λ x y is. subst (λ z. VariantRight (variant_sense (roll-Variant z))) is (variant_holds y))
+    (λ x y is. subst (λ z. FieldRight (fields_sense (roll-FieldList z))) is (subst FieldRight (sym (fields_rolled (bare_fields y))) (field_layer_right y)))
+    (λ x y is. subst (λ z. SenseRight (sense (roll-Sort z))) is (subst SenseRight (sym (sort_rolled (bare y))) (layer_right y)))
+    (λ x y is. subst (λ z. VariantRight (variant_sense (roll-Variant z))) is (subst VariantRight (sym (variant_rolled (bare_variant y))) (variant_layer_right y)))
 
 pub sort_right : (e : Env) → Begun e → (x : Sort) → Right (SortTold e) (sort_means e x)
 sort_right e begun x = sense_right x e begun

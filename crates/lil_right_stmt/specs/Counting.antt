@@ -1,116 +1,114 @@
 -- What stands between FOR and DO, where no test finds a fault: the variable, its first and its last value, and the step.
-use Rattle.std.proofs.Common.{◌≡◌, Bool, true, false, not, ◌||◌, List, Option, Some, None, if◌then◌else◌, refl, sym, ap, subst, ◌∙◌}
+use Rattle.std.proofs.Common.{◌≡◌, Bool, true, false, not, ◌||◌, ℕ, List, slice_get, Option, Some, None, if◌then◌else◌, refl, sym, ap, subst, ◌∙◌, arith, true≢false}
 use Rattle.std.specs.Prelude.{ℤ, pos, negsuc, ◌&&◌, ◌==◌, int_lt, is_some}
-use Rattle.std.proofs.lemmas.Int.{ints}
-use Rattle.std.proofs.lemmas.Bool.Decides.{nat_tests}
-use Rattle.std.proofs.Common.{arith}
-use Rattle.lil_base.specs.declared.fault.Place.{Place}
-use Rattle.lil_types.specs.Types.{Table}
-use Rattle.lil_types.specs.declared.table.Span.{Span}
-use Rattle.lil_resolved.specs.Kinds.{is_ordinal}
-use Rattle.lil_resolved.specs.Views.{base_view}
-use Rattle.lil_resolved.specs.declared.resolved.RExpr.{RExpr}
-use Rattle.lil_resolved.specs.declared.resolved.RStmt.{RStmt}
-use Rattle.lil_resolved.specs.declared.resolved.RStmt.TheVariants as rs
-use Rattle.lil_resolved.specs.declared.resolved.RVariable.{RVariable}
-use Rattle.lil_shapes.specs.BaseLaws.{kind_base}
-use Rattle.lil_shapes.specs.Bases.{kind_at}
-use Rattle.lil_scope.specs.declared.env.Env.{Env}
-use Rattle.lil_scope.specs.declared.thing.Kind.{Kind}
+use Rattle.std.proofs.lemmas.{Int.ints, Bool.Decides.nat_tests}
+use Rattle.lil_base.specs.{Laws.bounds, Words.{Integer, in_type, is_zero}, declared.fault.Place.Place}
+use Rattle.lil_types.specs.{Types.Table, declared.table.Span.Span}
+use Rattle.lil_resolved.specs.{Bases.own_base, Kinds.{Scope, base_of, is_ordinal}, Sound.{IsSoundVariable, IsSoundValue, IsSoundWhole, IsStep}, Views.{base_view, kind_view, expression_of, for_is}, declared.resolved.{RExpr.RExpr, RStmt.RStmt, RVariable.RVariable}}
+use Rattle.lil_shapes.specs.{BaseLaws.kind_base, Bases.kind_at, ShapeSound.word_shaped}
+use Rattle.lil_scope.specs.declared.{env.Env.Env, thing.{Kind.Kind, Variable.Variable}}
 use Rattle.lil_scope.specs.declared.thing.Kind.TheVariants as k
 use Rattle.lil_scope.specs.declared.thing.Thing.TheVariants as t
-use Rattle.lil_scope.specs.declared.thing.Variable.{Variable}
-use Rattle.lil_kinds.specs.Forms.{span_of}
-use Rattle.lil_kinds.specs.Kinds.{suits, compatible, assignable, misses, is_constant}
+use Rattle.lil_kinds.specs.{Forms.span_of, Kinds.{suits, compatible, assignable, misses, is_constant}, declared.found.Found.Found}
 use Rattle.lil_kinds.specs.Kinds as Kinds
-use Rattle.lil_kinds.specs.declared.found.Found.{Found}
-use Rattle.lil_forms.specs.declared.control.Bounds.{Bounds}
-use Rattle.lil_forms.specs.Statements.{counter_by, counter_in, counter, start_of, limit_of, bounds_of, is_step, counted_with}
-use Rattle.lil_forms.specs.Values.{typed}
+use Rattle.lil_forms.specs.{declared.control.Bounds.Bounds, Scopes.{Fits, has_shape, both_left, both_right}, Soundness.{soundness, variable_lies}, Statements.{counter_by, counter_in, counter, bounds_of, is_step, counted_with}, StatementSound.{StatementSound, AllSound, body_sound, made_sound}, Values.typed}
 use Rattle.lil_check_value.specs.declared.names.Looked.{Looked}
 use Rattle.lil_check_value.specs.declared.names.Looked.TheVariants as l
-use Rattle.lil_right_type.specs.Found.{IsFound, ThingTold, EnvTold}
-use Rattle.lil_right_type.specs.Right.{Right, IsThere, is_so, IsAny}
-use Rattle.lil_right_type.specs.Typed.{Yields, Suits, kept_if, suits_yields, exactly_yields, fitting_suits, stores_suits, assignable_stores}
-use Rattle.lil_right_type.specs.Types.{ordinal_is}
+use Rattle.lil_right_type.specs.{Found.{IsFound, ThingTold, EnvTold}, Right.{Right, IsThere, is_so}, Sound.{value_sound, whole_sound}, Typed.{Yields, Suits, kept_if, mapped, suits_yields, stores_suits, assignable_stores}, Types.ordinal_is}
 use Rattle.lil_check_stmt.specs.Counting.{is_nothing, is_other, is_plain, is_unfit, counting_with, counter_of, counter_node, start_node, limit_node, step_of, is_other_constant, is_no_step, step_node, count_of, counted}
 use Rattle.lil_right_value.specs.Names.{LookTold}
-use Rattle.lil_right_stmt.specs.Assignments.{any, node_right}
-use Rattle.lil_right_stmt.specs.Nodes.{Taken}
-
--- ---- the variable
--- a variable of the module, whose values have numbers
-abbrev pub IsCounter : Table → Taken count_of → Type 0
-IsCounter t c = (v : RVariable) × (c.variable ≡ Some v) × (kind_at t c.sort ≡ Some v.kind) × (is_ordinal (base_view v.kind.base) ≡ true)
+use Rattle.lil_right_stmt.specs.Nodes.{Taken, node_right}
 
 -- ---- the step
 steps : (z : ℤ) → ((not (int_lt z (pos 0)) && not (int_lt (pos 0) z)) || (int_lt z (negsuc 32767) || int_lt (pos 32767) z)) ≡ false → is_step z ≡ true
 steps (pos n) h = grind (arith, nat_tests, ints)
 steps (negsuc n) h = grind (arith, nat_tests, ints)
 
-abbrev pub IsStep : ℤ → Type 0
-IsStep z = is_step z ≡ true
+step_sound : (z : ℤ) → is_step z ≡ true → IsStep z
+step_sound z h =
+    let some = both_left (not (is_zero z)) (in_type Integer z) h in
+    let b = bounds (negsuc 32767) z (pos 32767) (both_right (not (is_zero z)) (in_type Integer z) h) in
+    record { some = λ e. true≢false (sym some ∙ ap (λ z. not (is_zero z)) e); lower = b.0; upper = b.1 }
 
-pub step_right : (a : Found) → Right (IsThere IsStep) (step_node (Some a))
+abbrev pub Steps : ℤ → Type 0
+Steps z = is_step z ≡ true
+
+pub step_right : (a : Found) → Right (IsThere Steps) (step_node (Some a))
 unfolding step_node is_constant
-step_right a = node_right IsStep (step_node (Some a)).1 (step_of a.kind) (λ clear. by a.kind clear.0 clear.1.0 clear.1.1.0)
+step_right a clear = by a.kind clear.0 clear.1.0 clear.1.1.0
   where
-    by : (kind : Kind) → not (is_constant kind) ≡ false → is_other_constant kind ≡ false → is_no_step kind ≡ false → IsThere IsStep (step_of kind)
+    by : (kind : Kind) → not (is_constant kind) ≡ false → is_other_constant kind ≡ false → is_no_step kind ≡ false → IsThere Steps (step_of kind)
     by (k.Whole z) constant other step = steps z step
     by _ constant other step = cc
 
 -- ---- the whole head
-abbrev pub IsCount : Taken counted → Type 0
-IsCount c = IsThere IsAny c.bounds × IsStep c.by
+module _ (e : Env) {ts : Scope} (fits : Fits e.types e.variables e.withs ts) (told : EnvTold e) where
+  -- a variable of the module, whose values have numbers
+  pub record IsCounter (c : Taken count_of) : Type 0 where
+    pub variable : RVariable
+    pub is : c.variable ≡ Some variable
+    pub at : kind_at e.types c.sort ≡ Some variable.kind
+    pub ordinal : is_ordinal (base_view variable.kind.base) ≡ true
+    pub sound : IsSoundVariable ts variable.number (kind_view variable.kind)
 
-pub counted_right : (c : Taken counted) (ss : List RStmt) → IsCount c → IsThere IsAny (counted (Some c) (Some ss))
-counted_right c ss h = by c.bounds h.0
-  where
-    by : (o : Option Bounds) → IsThere IsAny o → IsThere IsAny (counted_with o c.by (Some ss))
-    by None h = h
-    by (Some x) j = kept_if IsAny (is_step c.by) (rs.For x.variable x.from x.to c.by ss) h.1 tt
+  abbrev BoundsSound : Bounds → Type 0
+  BoundsSound x = IsSoundVariable ts x.variable.number (kind_view x.variable.kind) × IsSoundValue ts (expression_of x.from) (kind_view x.variable.kind) × IsSoundWhole ts (expression_of x.to) (base_of (kind_view x.variable.kind))
 
-module _ (e : Env) (told : EnvTold e) where
-  counts_with : (v : Variable) → ThingTold e.types e.variables e.texts (t.Variable v) → (o : Option Span) → span_of e.types v.sort ≡ o → is_some o ≡ true
-      → (x : RVariable) × (counting_with e v ≡ Some x) × (kind_at e.types v.sort ≡ Some x.kind) × (is_ordinal (base_view x.kind.base) ≡ true)
+  abbrev pub IsCount : Taken counted → Type 0
+  IsCount c = IsThere BoundsSound c.bounds × Steps c.by
+
+  pub counted_right : (looping : Bool) (c : Taken counted) (ss : List RStmt) → IsCount c → AllSound ts looping ss → IsThere (StatementSound ts looping) (counted (Some c) (Some ss))
+  counted_right looping c ss h all = by c.bounds h.0
+    where
+      by : (o : Option Bounds) → IsThere BoundsSound o → IsThere (StatementSound ts looping) (counted_with o c.by (Some ss))
+      by None h = h
+      by (Some x) j = kept_if (StatementSound ts looping) (is_step c.by) _ h.1 (made_sound ts looping _ _ (for_is x.variable x.from x.to c.by ss) (j.0, j.1, j.2, step_sound c.by h.1, body_sound ts looping ss all))
+
+  counts_with : (v : Variable) → ThingTold e.types e.variables e.texts (t.Variable v) → (o : Option Span) → span_of e.types v.sort ≡ o → is_some o ≡ true → IsCounter (record { variable = counting_with e v; sort = v.sort })
   unfolding counter
   counts_with v h None is some = cc
   counts_with v h (Some u) is some =
-      let o = ordinal_is e.types told.types v.sort u is in (
-        record { number = v.number; kind = o.kind },
-        ap (λ n. if n == 1 then counter e.types e.variables v.number else None) h.0 ∙ ap (counter_in e.types v.number) h.2.1 ∙ ap (counter_by v.number) (ap (kind_at e.types) h.2.2 ∙ o.at)
-            ∙ ap (λ c. if c then Some (record { number = v.number; kind = o.kind }) else None) o.ordinal,
-        o.at,
-        o.ordinal,
-      )
+      let o = ordinal_is e.types told.types v.sort u is in
+      let at : kind_at e.types h.2.0.sort ≡ Some o.kind = ap (kind_at e.types) h.2.2 ∙ o.at in
+      let lies = variable_lies fits v.number h.2.0 h.2.1 in
+      record {
+        variable = record { number = v.number; kind = o.kind };
+        is = ap (λ n. if n == 1 then counter e.types e.variables v.number else None) h.0 ∙ ap (counter_in e.types v.number) h.2.1 ∙ ap (counter_by v.number) at;
+        at = o.at;
+        ordinal = o.ordinal;
+        sound = record { known = lies.2 ∙ ap Some (word_shaped e.types fits.shapes h.2.0.sort lies.0 (has_shape fits h.2.0.sort lies.0 lies.1) o.kind at); base = ap is_ordinal (own_base o.kind) ∙ o.ordinal };
+      }
 
-  pub counter_right : (p : Place) (x : Looked) → LookTold e told x → Right (IsThere (IsCounter e.types)) (counter_node e p x)
+  pub counter_right : (p : Place) (x : Looked) → LookTold e told x → Right (IsThere IsCounter) (counter_node e p x)
   unfolding counter_node Kinds.is_ordinal
-  counter_right p x h = node_right (IsCounter e.types) (counter_node e p x).1 (counter_of e x) (λ clear. by x h clear.0 clear.1.0 clear.1.1.0)
+  counter_right p x h = node_right IsCounter (counter_node e p x).1 (counter_of e x) (λ clear. by x h clear.0 clear.1.0 clear.1.1.0)
     where
       second : (a c : Bool) → (a || c) ≡ false → c ≡ false
       second true c h = cc
       second false c h = h
 
-      by : (x : Looked) → LookTold e told x → is_nothing x ≡ false → is_other x ≡ false → is_unfit e.types x ≡ false → IsThere (IsCounter e.types) (counter_of e x)
+      by : (x : Looked) → LookTold e told x → is_nothing x ≡ false → is_other x ≡ false → is_unfit e.types x ≡ false → IsThere IsCounter (counter_of e x)
       by (l.Thing (t.Variable v)) h nothing other unfit = counts_with v h (span_of e.types v.sort) refl (is_so (Kinds.is_ordinal e.types (k.Of v.sort)) (second (not (is_plain v.mode)) _ unfit))
       by (l.Thing t.Broken) h nothing other unfit = absurd h
       by _ h nothing other unfit = cc
 
-  pub count_right : (c : Taken count_of) → IsCounter e.types c → (x y : RExpr) (z : ℤ) → IsStep z → IsThere IsCount (count_of (Some c) (Some x) (Some y) (Some z))
-  count_right c h x y z step = (subst (λ o. IsThere IsAny (bounds_of o (Some x) (Some y))) (sym h.1) tt, step)
+  module _ (c : Taken count_of) (h : IsCounter c) where
+    abbrev pub Starts : RExpr → Type 0
+    Starts x = IsSoundValue ts (expression_of x) (kind_view h.variable.kind)
 
-  module _ (c : Taken count_of) (h : IsCounter e.types c) (a : Found) (j : IsFound e.types a) where
-    pub start_right : (p : Place) → Right (IsThere IsAny) (start_node e.types p (Some c) (Some a))
-    unfolding start_node
-    start_right p = node_right IsAny (start_node e.types p (Some c) (Some a)).1 (start_of c.variable (typed e.types c.sort a)) (λ clear.
-        let value = typed e.types c.sort a in
-        subst (λ o. IsThere IsAny (start_of o value)) (sym h.1) (any (Suits h.0.kind a.depth) (start_of (Some h.0) value) (fitting_suits h.0.kind a.depth value j.few
-        (stores_suits h.0.kind a.depth value h.3 (assignable_stores e.types told.types c.sort h.0.kind a h.2 j (is_so (assignable e.types c.sort a.kind) clear.0) clear.1.0)))))
+    abbrev pub Ends : RExpr → Type 0
+    Ends x = IsSoundWhole ts (expression_of x) (base_of (kind_view h.variable.kind))
 
-    pub limit_right : Right (IsThere IsAny) (limit_node e.types (Some c) (Some a))
-    unfolding limit_node compatible
-    limit_right = node_right IsAny (limit_node e.types (Some c) (Some a)).1 (limit_of c.variable (typed e.types c.sort a)) (λ clear.
-        let value = typed e.types c.sort a in
-        subst (λ o. IsThere IsAny (limit_of o value)) (sym h.1) (any (Yields h.0.kind.base a.depth) (limit_of (Some h.0) value) (exactly_yields h.0.kind.base a.depth value j.few
-        (suits_yields e.types told.types c.sort h.0.kind.base a (kind_base e.types c.sort h.0.kind h.2) j (is_so (suits e.types c.sort a.kind) clear.0)))))
+    pub count_right : (x y : RExpr) (z : ℤ) → Starts x → Ends y → Steps z → IsThere IsCount (count_of (Some c) (Some x) (Some y) (Some z))
+    count_right x y z first last step = (subst (λ o. IsThere BoundsSound (bounds_of o (Some x) (Some y))) (sym h.is) (h.sound, first, last), step)
+
+    module _ (a : Found) (j : IsFound (soundness fits) a) where
+      pub start_right : (p : Place) → Right (IsThere Starts) (start_node e.types p (Some c) (Some a))
+      unfolding start_node
+      start_right p clear = mapped (Suits (soundness fits) h.variable.kind a.depth) Starts (typed e.types c.sort a) (value_sound fits a.depth j.few h.variable.kind)
+          (stores_suits (soundness fits) h.variable.kind a.depth _ h.ordinal (assignable_stores (soundness fits) told.types c.sort h.variable.kind a h.at j (is_so (assignable e.types c.sort a.kind) clear.0) clear.1.0))
+
+      pub limit_right : Right (IsThere Ends) (limit_node e.types (Some c) (Some a))
+      unfolding limit_node compatible
+      limit_right clear = mapped (Yields (soundness fits) h.variable.kind.base a.depth) Ends (typed e.types c.sort a) (λ x y. subst (IsSoundWhole ts (expression_of x)) (sym (own_base h.variable.kind)) (whole_sound fits a.depth j.few h.variable.kind.base x y))
+          (suits_yields (soundness fits) told.types c.sort h.variable.kind.base a (kind_base e.types c.sort h.variable.kind h.at) j (is_so (suits e.types c.sort a.kind) clear.0))

@@ -1,44 +1,25 @@
--- Statements in which no test finds a fault have forms.
-use Rattle.std.proofs.Common.{◌≡◌, Bool, true, List, [], ◌∷◌, map, Option, Some, None, refl, sym, subst}
-use Rattle.lil_base.specs.Lists.{joined}
-use Rattle.lil_base.specs.declared.fault.Place.{Place}
-use Rattle.lil_language.specs.declared.tree.Expr.{Expr}
-use Rattle.lil_language.specs.declared.tree.ForHead.{ForHead}
-use Rattle.lil_language.specs.declared.tree.Range.{Range}
-use Rattle.lil_language.specs.declared.tree.Arm.{Arm}
-use Rattle.lil_language.specs.declared.tree.Guard.{Guard}
-use Rattle.lil_language.specs.declared.tree.Stmt.{Stmt}
+-- Statements in which no test finds a fault are there, and sound in what lies in the variables and in the records of the WITHs around: by induction over the text.
+use Rattle.std.proofs.Common.{◌≡◌, ℕ, Bool, true, List, [], ◌∷◌, ◌++◌, map, Option, Some, None, refl, sym, subst}
+use Rattle.lil_base.specs.{Lists.joined, declared.fault.Place.Place}
+use Rattle.lil_language.specs.declared.tree.{Expr.Expr, ForHead.ForHead, Range.Range, Arm.Arm, Guard.Guard, Stmt.{Stmt, TheOpen.{Stmt-F, Arm-F, Guard-F}}}
 use Rattle.lil_language.specs.declared.tree.Stmt.TheOpen as s
-use Rattle.lil_language.specs.declared.tree.Stmt.TheOpen.{Stmt-F, Arm-F, Guard-F}
 use Rattle.lil_report.specs.Told.{Row, after, pure, walk}
-use Rattle.lil_resolved.specs.declared.resolved.RArm.{RArm}
-use Rattle.lil_resolved.specs.declared.resolved.RBase.{RBase}
-use Rattle.lil_resolved.specs.declared.resolved.RGuard.{RGuard}
-use Rattle.lil_resolved.specs.declared.resolved.RLabel.{RLabel}
-use Rattle.lil_resolved.specs.declared.resolved.RStmt.{RStmt}
+use Rattle.lil_resolved.specs.{Kinds.{Scope, OfTruth, with_held}, Resolved.{Statements, shape_of}, Sound.{IsSoundWhole, IsSoundBody}, Views.{if_is, while_is, repeat_is, loop_is, inside_is, guard_is, guarded, expression_of, place_of, statements_of}, declared.resolved.{RArm.RArm, RBase.RBase, RExpr.RExpr, RGuard.RGuard, RLabel.RLabel, RStmt.RStmt}}
+use Rattle.lil_resolved.specs.Views as views
 use Rattle.lil_shapes.specs.ListLaws.{AllFine}
-use Rattle.lil_scope.specs.declared.env.Env.{Env}
-use Rattle.lil_scope.specs.declared.thing.Kind.{Kind}
-use Rattle.lil_kinds.specs.declared.found.Found.{Found}
-use Rattle.lil_kinds.specs.declared.found.Located.{Located}
-use Rattle.lil_forms.specs.FoundSound.{fine_more}
-use Rattle.lil_forms.specs.Statements.{conditional, label_fits}
+use Rattle.lil_scope.specs.declared.{env.Env.Env, thing.Kind.Kind}
+use Rattle.lil_kinds.specs.declared.found.{Found.Found, Located.Located}
+use Rattle.lil_forms.specs.{Scopes.{Fits, fine_more, deeper}, Soundness.soundness, Statements.conditional, StatementSound.{StatementSound, AllSound, body_sound, made_sound}}
 use Rattle.lil_forms.specs.Statements as forms
-use Rattle.lil_check_value.specs.Looks.{look}
-use Rattle.lil_check_value.specs.Values.{means}
-use Rattle.lil_right_type.specs.Found.{IsFound, IsLocated, EnvTold}
-use Rattle.lil_right_type.specs.Right.{Right, IsThere, after_right, walk_right, IsAny}
-use Rattle.lil_check_stmt.specs.Nodes.{condition_node, return_node}
-use Rattle.lil_check_stmt.specs.Labels.{high_means, label_means, label_step, labels_mean, with_label}
-use Rattle.lil_check_stmt.specs.Counting.{step_node, step_means, count_means}
-use Rattle.lil_check_stmt.specs.Statements as statements
+use Rattle.lil_check_value.specs.{Looks.look, Values.means}
+use Rattle.lil_right_type.specs.{Found.{IsFound, IsLocated, EnvTold}, Right.{Right, IsThere, after_right, walk_right, IsAny}}
+use Rattle.lil_check_stmt.specs.{Nodes.{condition_node, return_node}, Labels.{high_means, label_means, label_step, labels_mean, with_label}, Counting.{step_node, step_means, count_means}}
 use Rattle.lil_check_stmt.specs.Statements.{Meaning, GuardMeaning, ArmMeaning, list_means, else_means, guards_mean, no_arms, arms_step, arms_mean, condition_means, selector_means, kind_of, within, result_by, result_at, return_means, selected, with_record, statement_layer, guard_layer, arm_layer, statement_means, guard_means, arm_means, statements_mean}
 use Rattle.lil_check_stmt.specs.Induction.{meant, arm_meant, guard_meant, statement_rolled, arm_rolled, guard_rolled, bare, bare_arm, bare_guard, by_forms}
-use Rattle.lil_right_value.specs.Names.{look_told}
-use Rattle.lil_right_value.specs.Values.{means_right, variable_means_right, call_means_right}
-use Rattle.lil_right_stmt.specs.Assignments.{any, assign_right}
-use Rattle.lil_right_stmt.specs.Counting.{IsCounter, IsStep, IsCount, step_right, counted_right, counter_right, start_right, limit_right, count_right}
-use Rattle.lil_right_stmt.specs.Nodes.{Taken, First, TypeOf, IsOpened, Selects, IsLabel, IsArm, exit_right, end_right, return_right, all_true, condition_right, record_right, selector_right, selected_right, one_right, range_right}
+use Rattle.lil_check_stmt.specs.Statements as statements
+use Rattle.lil_right_value.specs.{Names.look_told, Values.{means_right, variable_means_right, call_means_right}}
+use Rattle.lil_right_stmt.specs.{Assignments.assign_right, Counting.{IsCounter, IsCount, Starts, Ends, Steps, step_right, counted_right, counter_right, start_right, limit_right, count_right}}
+use Rattle.lil_right_stmt.specs.Nodes.{Taken, First, TypeOf, Opens, IsOpened, IsCondition, OtherSound, Selects, IsLabel, IsArm, labels_sound, exit_right, end_right, return_right, condition_right, record_right, selector_right, selected_right, one_right, range_right}
 
 -- ---- phrases behind a value that is there, and lists of what is there
 module _ {A B : Type 0} (P : A → Type 0) (Q : B → Type 0) where
@@ -62,41 +43,42 @@ all_of : {A : Type 0} (P : A → Type 0) (xs : List A) → ((x : A) → P x) →
 all_of P [] h = tt
 all_of P (x ∷ xs) h = (h x, all_of P xs h)
 
--- ---- records of WITHs, and what stands behind a condition
-within_right : (r : Taken within) (ss : List RStmt) → IsOpened r → IsThere IsAny (with_record (Some r) (Some ss))
-within_right r ss h = by r.place h
-  where
-    by : (o : Option Located) → IsThere IsAny o → IsThere IsAny (forms.within o (Some ss))
-    by None h = h
-    by (Some p) h = tt
+-- ---- a condition and the statements behind it
+abbrev GuardSound : Scope → Bool → RGuard → Type 0
+GuardSound ts looping g = IsSoundWhole ts (expression_of g.condition) OfTruth × AllSound ts looping g.body
 
-conditional_right : (gs : List RGuard) (other : Option (List RStmt)) → IsThere IsAny (conditional (Some gs) (Some other))
-conditional_right gs None = tt
-conditional_right gs (Some ss) = tt
+module _ (ts : Scope) (looping : Bool) where
+  guarded_sound : (gs : List RGuard) (other : Statements) → AllFine (GuardSound ts looping) gs → IsSoundBody ts looping other → IsSoundBody ts looping (guarded (map views.guard_of gs) other)
+  guarded_sound [] other h j = j
+  guarded_sound (g ∷ gs) other h j = subst (IsSoundBody ts looping) (sym (guard_is g (guarded (map views.guard_of gs) other))) ((h.0.0, body_sound ts looping g.body h.0.1, guarded_sound gs other h.1 j), tt)
+
+  conditional_right : (gs : List RGuard) (other : Option (List RStmt)) → AllFine (GuardSound ts looping) gs → OtherSound ts looping other → IsThere (StatementSound ts looping) (conditional (Some gs) (Some other))
+  conditional_right gs None h j = subst (IsSoundBody ts looping) (sym (if_is gs [])) (guarded_sound gs (statements_of []) h tt)
+  conditional_right gs (Some ss) h j = subst (IsSoundBody ts looping) (sym (if_is gs ss)) (guarded_sound gs (statements_of ss) h (body_sound ts looping ss j))
 
 -- ---- what the labels and the arms of a CASE are so far, by the base of what it selects by
 abbrev AreLabels : RBase → First with_label → Type 0
 AreLabels g ls = IsThere (AllFine (IsLabel g)) ls.own
 
-abbrev AreArms : RBase → TypeOf no_arms → Type 0
-AreArms g out = IsThere (AllFine (IsArm g)) out.arms
+abbrev AreArms : Scope → Bool → RBase → TypeOf no_arms → Type 0
+AreArms ts looping g out = IsThere (AllFine (IsArm ts looping g)) out.arms
 
 -- ---- what is right in all surroundings: a statement, or a guard, and an arm behind right ones
-abbrev IsRight : {A : Type 0} → (Env → Bool → Option A × List Row) → Type 0
-IsRight m = (e : Env) → EnvTold e → e.procedure ≡ None → (looping : Bool) → Right (IsThere IsAny) (m e looping)
+abbrev IsRight : {A : Type 0} → (Scope → Bool → A → Type 0) → (Env → Bool → Option A × List Row) → Type 0
+IsRight S m = (e : Env) (ts : Scope) → Fits e.types e.variables e.withs ts → EnvTold e → e.procedure ≡ None → (looping : Bool) → Right (IsThere (S ts looping)) (m e looping)
 
 abbrev IsRightArm : ArmMeaning → Type 0
-IsRightArm m = (e : Env) → EnvTold e → e.procedure ≡ None → (looping : Bool) (kind : Kind) (s : Selects e.types kind) (out : TypeOf no_arms) → AreArms s.over out → Right (AreArms s.over) (m e looping (Some kind) out)
+IsRightArm m = (e : Env) (ts : Scope) → Fits e.types e.variables e.withs ts → EnvTold e → e.procedure ≡ None → (looping : Bool) (kind : Kind) (s : Selects e.types kind) (out : TypeOf no_arms) → AreArms ts looping s.over out → Right (AreArms ts looping s.over) (m e looping (Some kind) out)
 
 -- ---- trees, each with its proof
 abbrev Tree : Type 0
-Tree = (x : Stmt) × IsRight (statement_means x)
+Tree = (x : Stmt) × IsRight StatementSound (statement_means x)
 
 abbrev ArmTree : Type 0
 ArmTree = (a : Arm) × IsRightArm (arm_means a)
 
 abbrev GuardTree : Type 0
-GuardTree = (g : Guard) × IsRight (guard_means g)
+GuardTree = (g : Guard) × IsRight GuardSound (guard_means g)
 
 module _ {X M : Type 0} (of : X → M) (P : M → Type 0) where
   abbrev meanings : List ((x : X) × P (of x)) → List M
@@ -107,36 +89,36 @@ module _ {X M : Type 0} (of : X → M) (P : M → Type 0) where
   each (x ∷ xs) = (x.1, each xs)
 
 abbrev means_of : List Tree → List Meaning
-means_of xs = meanings statement_means IsRight xs
+means_of xs = meanings statement_means (IsRight StatementSound) xs
 
 abbrev arms_of : List ArmTree → List ArmMeaning
 arms_of xs = meanings arm_means IsRightArm xs
 
 abbrev guards_of : List GuardTree → List GuardMeaning
-guards_of xs = meanings guard_means IsRight xs
+guards_of xs = meanings guard_means (IsRight GuardSound) xs
 
-module _ (e : Env) (told : EnvTold e) where
+module _ (e : Env) (ts : Scope) (fits : Fits e.types e.variables e.withs ts) (told : EnvTold e) where
   -- a value, and what stands behind it
-  behind_found : {B : Type 0} (Q : B → Type 0) (x : Expr) (k : Option Found → B × List Row) → ((a : Found) → IsFound e.types a → Right Q (k (Some a))) → Right Q (after (means e x) k)
-  behind_found Q x k = behind_right (IsFound e.types) Q (means e x) k (means_right e told x)
+  behind_found : {B : Type 0} (Q : B → Type 0) (x : Expr) (k : Option Found → B × List Row) → ((a : Found) → IsFound (soundness fits) a → Right Q (k (Some a))) → Right Q (after (means e x) k)
+  behind_found Q x k = behind_right (IsFound (soundness fits)) Q (means e x) k (means_right e (soundness fits) told x)
 
-  condition_there : (x : Expr) → Right (IsThere IsAny) (condition_means e x)
-  condition_there x = behind_found (IsThere IsAny) x (condition_node e.types) (condition_right e.types told.types)
+  condition_there : (x : Expr) → Right (IsThere (IsCondition fits told.types)) (condition_means e x)
+  condition_there x = behind_found (IsThere (IsCondition fits told.types)) x (condition_node e.types) (condition_right fits told.types)
 
   -- ---- FOR
-  step_there : (o : Option Expr) → Right (IsThere IsStep) (step_means e o)
+  step_there : (o : Option Expr) → Right (IsThere Steps) (step_means e o)
   step_there None = λ clear. refl
-  step_there (Some x) = behind_found (IsThere IsStep) x step_node (λ a h. step_right a)
+  step_there (Some x) = behind_found (IsThere Steps) x step_node (λ a h. step_right a)
 
-  count_there : (h : ForHead) → Right (IsThere IsCount) (count_means e h)
+  count_there : (h : ForHead) → Right (IsThere (IsCount e fits told)) (count_means e h)
   unfolding count_means
   count_there h =
-      behind_right (IsCounter e.types) (IsThere IsCount) _ _ (counter_right e told h.variable.place (look e h.variable.name) (look_told e told h.variable.name)) (λ c counter.
-      behind_found (IsThere IsCount) h.from _ (λ a i.
-      behind_right IsAny (IsThere IsCount) _ _ (start_right e told c counter a i h.becomes) (λ x first.
-      behind_found (IsThere IsCount) h.to _ (λ d j.
-      behind_right IsAny (IsThere IsCount) _ _ (limit_right e told c counter d j) (λ y last.
-      behind_right IsStep (IsThere IsCount) _ _ (step_there h.by) (λ z step clear. count_right e told c counter x y z step))))))
+      behind_right (IsCounter e fits told) (IsThere (IsCount e fits told)) _ _ (counter_right e fits told h.variable.place (look e h.variable.name) (look_told e told h.variable.name)) (λ c counter.
+      behind_found (IsThere (IsCount e fits told)) h.from _ (λ a i.
+      behind_right (Starts e fits told c counter) (IsThere (IsCount e fits told)) _ _ (start_right e fits told c counter a i h.becomes) (λ x first.
+      behind_found (IsThere (IsCount e fits told)) h.to _ (λ d j.
+      behind_right (Ends e fits told c counter) (IsThere (IsCount e fits told)) _ _ (limit_right e fits told c counter d j) (λ y last.
+      behind_right Steps (IsThere (IsCount e fits told)) _ _ (step_there h.by) (λ z step clear. count_right e fits told c counter x y z first last step))))))
 
   -- ---- the labels of an arm
   module _ (kind : Kind) (s : Selects e.types kind) where
@@ -144,9 +126,9 @@ module _ (e : Env) (told : EnvTold e) where
     unfolding label_means
     label_there before r = behind_found (IsThere (IsLabel s.over)) r.low _ (λ a h. by a h r.high)
       where
-        by : (a : Found) → IsFound e.types a → (o : Option Expr) → Right (IsThere (IsLabel s.over)) (high_means e before (Some kind) (Some a) o)
-        by a h None = one_right e.types told.types before kind s a h
-        by a h (Some x) = behind_found (IsThere (IsLabel s.over)) x _ (λ d j. range_right e.types told.types before kind s a d h j)
+        by : (a : Found) → IsFound (soundness fits) a → (o : Option Expr) → Right (IsThere (IsLabel s.over)) (high_means e before (Some kind) (Some a) o)
+        by a h None = one_right fits told.types before kind s a h
+        by a h (Some x) = behind_found (IsThere (IsLabel s.over)) x _ (λ d j. range_right fits told.types before kind s a d h j)
 
     labels_there : (before : List RLabel) (rs : List Range) → Right (AreLabels s.over) (labels_mean e (Some kind) before rs)
     labels_there before rs =
@@ -155,76 +137,97 @@ module _ (e : Env) (told : EnvTold e) where
         _ rs tt (all_of IsAny rs (λ r. tt))
 
 -- ---- each form
-module _ (e : Env) (told : EnvTold e) (none : e.procedure ≡ None) (looping : Bool) where
+module _ (e : Env) (ts : Scope) (fits : Fits e.types e.variables e.withs ts) (told : EnvTold e) (none : e.procedure ≡ None) (looping : Bool) where
   abbrev There : Option RStmt → Type 0
-  There = IsThere IsAny
+  There = IsThere (StatementSound ts looping)
 
   -- statements behind others
-  behind_body : {B : Type 0} (Q : B → Type 0) (xs : List Tree) (k : Option (List RStmt) → B × List Row) → ((ss : List RStmt) → Right Q (k (Some ss))) → Right Q (after (list_means e looping (means_of xs)) k)
-  behind_body Q xs k h = behind_right (AllFine IsAny) Q (list_means e looping (means_of xs)) k (list_right IsAny IsRight (λ m. m e looping) (λ m h. h e told none looping) (means_of xs) (each statement_means IsRight xs)) (λ ss all. h ss)
+  behind_body : {B : Type 0} (Q : B → Type 0) (xs : List Tree) (k : Option (List RStmt) → B × List Row) → ((ss : List RStmt) → AllSound ts looping ss → Right Q (k (Some ss))) → Right Q (after (list_means e looping (means_of xs)) k)
+  behind_body Q xs k = behind_right (AllSound ts looping) Q (list_means e looping (means_of xs)) k (list_right (StatementSound ts looping) (IsRight StatementSound) (λ m. m e looping) (λ m h. h e ts fits told none looping) (means_of xs) (each statement_means (IsRight StatementSound) xs))
 
-  else_there : (xs : List Tree) → Right (IsThere IsAny) (else_means e looping (Some (means_of xs)))
-  else_there xs = behind_body (IsThere IsAny) xs _ (λ ss clear. tt)
+  else_there : (xs : List Tree) → Right (IsThere (OtherSound ts looping)) (else_means e looping (Some (means_of xs)))
+  else_there xs = behind_body (IsThere (OtherSound ts looping)) xs _ (λ ss all clear. all)
 
-  if_there : (gs : List GuardTree) (other : Option (List Meaning)) → Right (IsThere IsAny) (else_means e looping other)
+  if_there : (gs : List GuardTree) (other : Option (List Meaning)) → Right (IsThere (OtherSound ts looping)) (else_means e looping other)
       → Right There (after (guards_mean e looping (guards_of gs)) (λ gs. after (else_means e looping other) (λ ss. pure (conditional gs ss))))
-  if_there gs other h = behind_right (AllFine IsAny) There _ _ (list_right IsAny IsRight (λ m. m e looping) (λ m h. h e told none looping) (guards_of gs) (each guard_means IsRight gs)) (λ gs all. behind_right IsAny There _ _ h (λ ss some clear. conditional_right gs ss))
+  if_there gs other h =
+      behind_right (AllFine (GuardSound ts looping)) There _ _ (list_right (GuardSound ts looping) (IsRight GuardSound) (λ m. m e looping) (λ m h. h e ts fits told none looping) (guards_of gs) (each guard_means (IsRight GuardSound) gs))
+      (λ gs all. behind_right (OtherSound ts looping) There _ _ h (λ ss some clear. conditional_right ts looping gs ss all some))
 
-  case_there : (x : Expr) (xs : List ArmTree) (other : Option (List Meaning)) → Right (IsThere IsAny) (else_means e looping other)
+  case_there : (x : Expr) (xs : List ArmTree) (other : Option (List Meaning)) → Right (IsThere (OtherSound ts looping)) (else_means e looping other)
       → Right There (after (selector_means e x) (λ v. after (arms_mean e looping (kind_of v) (arms_of xs)) (λ out. after (else_means e looping other) (λ ss. pure (selected e.types v out.arms ss)))))
   case_there x xs other h =
-      behind_right (λ a. IsFound e.types a × Selects e.types a.kind) There _ _ (behind_found e told (IsThere (λ a. IsFound e.types a × Selects e.types a.kind)) x _ (selector_right e.types told.types)) (λ a i.
-      after_right (AreArms i.1.over) There _ _ (walk_right (AreArms i.1.over) IsRightArm (arms_step e looping (Some a.kind)) (λ out m h j. j e told none looping a.kind i.1 out h) no_arms (arms_of xs) tt (each arm_means IsRightArm xs)) (λ out fits.
-      behind_right IsAny There _ _ h (λ ss some clear. by a i.0 i.1 out.arms fits ss)))
+      behind_right Selected There _ _ (behind_found e ts fits told (IsThere Selected) x _ (selector_right fits told.types)) (λ a i.
+      after_right (AreArms ts looping i.1.over) There _ _ (walk_right (AreArms ts looping i.1.over) IsRightArm (arms_step e looping (Some a.kind)) (λ out m h j. j e ts fits told none looping a.kind i.1 out h) no_arms (arms_of xs) tt (each arm_means IsRightArm xs)) (λ out arms.
+      behind_right (OtherSound ts looping) There _ _ h (λ ss some clear. by a i.0 i.1 out.arms arms ss some)))
     where
-      by : (a : Found) → IsFound e.types a → (s : Selects e.types a.kind) (o : Option (List RArm)) → IsThere (AllFine (IsArm s.over)) o → (ss : Option (List RStmt)) → There (selected e.types (Some a) o (Some ss))
-      by a h s None fits ss = absurd fits
-      by a h s (Some arms) fits ss = selected_right e.types told.types a h s arms ss fits
+      Selected : Found → Type 0
+      Selected a = IsFound (soundness fits) a × Selects e.types a.kind
+
+      by : (a : Found) → IsFound (soundness fits) a → (s : Selects e.types a.kind) (o : Option (List RArm)) → IsThere (AllFine (IsArm ts looping s.over)) o → (ss : Option (List RStmt)) → OtherSound ts looping ss → There (selected e.types (Some a) o (Some ss))
+      by a h s None arms ss some = absurd arms
+      by a h s (Some xs) arms ss some = selected_right fits told.types looping a h s xs ss arms some
 
   return_there : (p : Place) (o : Option Expr) → Right There (return_means e p o)
-  return_there p None = end_right p (result_at e)
-  return_there p (Some x) = behind_found e told There x _ (λ v h. subst (λ o. Right There (return_node e.types p (result_by e o) (Some v))) (sym none) (return_right e.types p v))
+  return_there p None = end_right ts looping p (result_at e)
+  return_there p (Some x) = behind_found e ts fits told There x _ (λ v h. subst (λ o. Right There (return_node e.types p (result_by e o) (Some v))) (sym none) (return_right e.types There p v))
 
-layer_right : (y : Stmt-F Tree ArmTree GuardTree) → IsRight (statement_layer (meant (bare y)))
-layer_right (s.Assign d p x) e told none looping =
-    behind_right (λ a. IsFound e.types a × IsLocated a.form) (IsThere IsAny) _ _ (variable_means_right e told d) (λ a h. behind_found e told (IsThere IsAny) x _ (λ v j. assign_right e.types told.types p a v h.0 h.1 j))
-layer_right (s.Call d xs) e told none looping = call_means_right e told d xs
-layer_right (s.If p gs None) e told none looping = if_there e told none looping gs None (λ clear. tt)
-layer_right (s.If p gs (Some xs)) e told none looping = if_there e told none looping gs (Some (means_of xs)) (else_there e told none looping xs)
-layer_right (s.Case p x as' None) e told none looping = case_there e told none looping x as' None (λ clear. tt)
-layer_right (s.Case p x as' (Some xs)) e told none looping = case_there e told none looping x as' (Some (means_of xs)) (else_there e told none looping xs)
-layer_right (s.While p x xs) e told none looping = behind_right IsAny (IsThere IsAny) _ _ (condition_there e told x) (λ c h. behind_body e told none looping (IsThere IsAny) xs _ (λ ss clear. tt))
-layer_right (s.Repeat p xs x) e told none looping = behind_body e told none looping (IsThere IsAny) xs _ (λ ss. behind_right IsAny (IsThere IsAny) _ _ (condition_there e told x) (λ c h clear. tt))
-layer_right (s.Loop p xs) e told none looping = behind_body e told none true (IsThere IsAny) xs _ (λ ss clear. tt)
-layer_right (s.For p h xs) e told none looping = behind_right IsCount (IsThere IsAny) _ _ (count_there e told h) (λ c count. behind_body e told none looping (IsThere IsAny) xs _ (λ ss clear. counted_right c ss count))
-layer_right (s.With p d xs) e told none looping =
-    behind_right (λ a. IsFound e.types a × IsLocated a.form) (IsThere IsAny) _ _ (variable_means_right e told d) (λ a h.
-    behind_right IsOpened (IsThere IsAny) _ _ (record_right e.types told.types p a h.0 h.1) (λ r opened.
-    behind_body (within (Some r) e) (record { types = told.types; words = told.words; names = told.names }) none looping (IsThere IsAny) xs _ (λ ss clear. within_right r ss opened)))
-layer_right (s.Exit p) e told none looping = exit_right p looping
-layer_right (s.Return p None) e told none looping = return_there e told none looping p None
-layer_right (s.Return p (Some x)) e told none looping = return_there e told none looping p (Some x)
+-- statements inside of a WITH
+with_there : (e : Env) (ts : Scope) (fits : Fits e.types e.variables e.withs ts) (told : EnvTold e) → e.procedure ≡ None → (looping : Bool) (r : Taken within) (xs : List Tree) → IsOpened fits told.types r
+    → Right (IsThere (StatementSound ts looping)) (after (list_means (within (Some r) e) looping (means_of xs)) (λ ss. pure (with_record (Some r) ss)))
+with_there e ts fits told none looping r xs h = by r.place h
+  where
+    by : (o : Option Located) → IsThere (Opens fits told.types r.sort) o → Right (IsThere (StatementSound ts looping)) (after (list_means (within (Some r) e) looping (means_of xs)) (λ ss. pure (forms.within o ss)))
+    by None h = absurd h
+    by (Some p) h =
+        let held = with_held ts (shape_of ts (place_of p.place)) in
+        behind_body (within (Some r) e) held (subst (λ s. Fits e.types e.variables (e.withs ++ s ∷ []) held) h.1 (deeper fits p h.0 h.2.there)) (record { types = told.types; words = told.words; names = told.names }) none looping
+        (IsThere (StatementSound ts looping)) xs _ (λ ss all clear. made_sound ts looping _ _ (inside_is p.place ss) (h.2, body_sound held looping ss all))
+
+layer_right : (y : Stmt-F Tree ArmTree GuardTree) → IsRight StatementSound (statement_layer (meant (bare y)))
+layer_right (s.Assign d p x) e ts fits told none looping =
+    behind_right (λ a. IsFound (soundness fits) a × IsLocated a.form) (IsThere (StatementSound ts looping)) _ _ (variable_means_right e (soundness fits) told d) (λ a h.
+    behind_found e ts fits told (IsThere (StatementSound ts looping)) x _ (λ v j. assign_right fits told.types looping p a v h.0 h.1 j))
+layer_right (s.Call d xs) e ts fits told none looping = call_means_right e fits told looping d xs
+layer_right (s.If p gs None) e ts fits told none looping = if_there e ts fits told none looping gs None (λ clear. tt)
+layer_right (s.If p gs (Some xs)) e ts fits told none looping = if_there e ts fits told none looping gs (Some (means_of xs)) (else_there e ts fits told none looping xs)
+layer_right (s.Case p x as' None) e ts fits told none looping = case_there e ts fits told none looping x as' None (λ clear. tt)
+layer_right (s.Case p x as' (Some xs)) e ts fits told none looping = case_there e ts fits told none looping x as' (Some (means_of xs)) (else_there e ts fits told none looping xs)
+layer_right (s.While p x xs) e ts fits told none looping =
+    behind_right (IsCondition fits told.types) (IsThere (StatementSound ts looping)) _ _ (condition_there e ts fits told x) (λ c h. behind_body e ts fits told none looping (IsThere (StatementSound ts looping)) xs _ (λ ss all clear. made_sound ts looping _ _ (while_is c ss) (h, body_sound ts looping ss all)))
+layer_right (s.Repeat p xs x) e ts fits told none looping =
+    behind_body e ts fits told none looping (IsThere (StatementSound ts looping)) xs _ (λ ss all. behind_right (IsCondition fits told.types) (IsThere (StatementSound ts looping)) _ _ (condition_there e ts fits told x) (λ c h clear. made_sound ts looping _ _ (repeat_is ss c) (body_sound ts looping ss all, h)))
+layer_right (s.Loop p xs) e ts fits told none looping = behind_body e ts fits told none true (IsThere (StatementSound ts looping)) xs _ (λ ss all clear. made_sound ts looping _ _ (loop_is ss) (body_sound ts true ss all))
+layer_right (s.For p h xs) e ts fits told none looping =
+    behind_right (IsCount e fits told) (IsThere (StatementSound ts looping)) _ _ (count_there e ts fits told h) (λ c count. behind_body e ts fits told none looping (IsThere (StatementSound ts looping)) xs _ (λ ss all clear. counted_right e fits told looping c ss count all))
+layer_right (s.With p d xs) e ts fits told none looping =
+    behind_right (λ a. IsFound (soundness fits) a × IsLocated a.form) (IsThere (StatementSound ts looping)) _ _ (variable_means_right e (soundness fits) told d) (λ a h.
+    behind_right (IsOpened fits told.types) (IsThere (StatementSound ts looping)) _ _ (record_right fits told.types p a h.0 h.1) (λ r opened. with_there e ts fits told none looping r xs opened))
+layer_right (s.Exit p) e ts fits told none looping = exit_right ts p looping
+layer_right (s.Return p None) e ts fits told none looping = return_there e ts fits told none looping p None
+layer_right (s.Return p (Some x)) e ts fits told none looping = return_there e ts fits told none looping p (Some x)
 
 arm_layer_right : (y : Arm-F Tree ArmTree GuardTree) → IsRightArm (arm_layer (arm_meant (bare_arm y)))
-arm_layer_right y e told none looping kind s out h =
-    after_right (AreLabels s.over) (AreArms s.over) _ _ (labels_there e told kind s out.seen y.labels) (λ ls fits.
-    behind_body e told none looping (AreArms s.over) y.body _ (λ ss clear. joined_right (IsArm s.over) out.arms _ h (armed ls.own ss fits)))
+arm_layer_right y e ts fits told none looping kind s out h =
+    after_right (AreLabels s.over) (AreArms ts looping s.over) _ _ (labels_there e ts fits told kind s out.seen y.labels) (λ ls labels.
+    behind_body e ts fits told none looping (AreArms ts looping s.over) y.body _ (λ ss all clear. joined_right (IsArm ts looping s.over) out.arms _ h (armed ls.own ss labels all)))
   where
-    armed : (o : Option (List RLabel)) (ss : List RStmt) → IsThere (AllFine (IsLabel s.over)) o → IsThere (IsArm s.over) (statements.armed o (Some ss))
-    armed None ss fits = fits
-    armed (Some ls) ss fits = all_true (label_fits s.over) ls fits
+    armed : (o : Option (List RLabel)) (ss : List RStmt) → IsThere (AllFine (IsLabel s.over)) o → AllSound ts looping ss → IsThere (IsArm ts looping s.over) (statements.armed o (Some ss))
+    armed None ss labels all = labels
+    armed (Some ls) ss labels all = (labels_sound ts looping s.over ls labels, all)
 
-guard_layer_right : (y : Guard-F Tree ArmTree GuardTree) → IsRight (guard_layer (guard_meant (bare_guard y)))
-guard_layer_right y e told none looping = behind_right IsAny (IsThere IsAny) _ _ (condition_there e told y.condition) (λ c h. behind_body e told none looping (IsThere IsAny) y.body _ (λ ss clear. tt))
+guard_layer_right : (y : Guard-F Tree ArmTree GuardTree) → IsRight GuardSound (guard_layer (guard_meant (bare_guard y)))
+guard_layer_right y e ts fits told none looping =
+    behind_right (IsCondition fits told.types) (IsThere (GuardSound ts looping)) _ _ (condition_there e ts fits told y.condition) (λ c h. behind_body e ts fits told none looping (IsThere (GuardSound ts looping)) y.body _ (λ ss all clear. (h, all)))
 
 -- by induction
-statement_right : (x : Stmt) → IsRight (statement_means x)
+statement_right : (x : Stmt) → IsRight StatementSound (statement_means x)
 statement_right = by_forms
-    (λ y. subst IsRight (sym (statement_rolled (bare y))) (layer_right y))
+    (λ y. subst (IsRight StatementSound) (sym (statement_rolled (bare y))) (layer_right y))
     (λ y. subst IsRightArm (sym (arm_rolled (bare_arm y))) (arm_layer_right y))
-    (λ y. subst IsRight (sym (guard_rolled (bare_guard y))) (guard_layer_right y))
+    (λ y. subst (IsRight GuardSound) (sym (guard_rolled (bare_guard y))) (guard_layer_right y))
 
-pub statements_right : (e : Env) → EnvTold e → e.procedure ≡ None → (looping : Bool) → (xs : List Stmt) → Right (IsThere (λ (ss : List RStmt). Unit {0})) (statements_mean e looping xs)
+pub statements_right : (e : Env) (ts : Scope) → Fits e.types e.variables e.withs ts → EnvTold e → e.procedure ≡ None → (looping : Bool) (xs : List Stmt) → Right (IsThere (AllSound ts looping)) (statements_mean e looping xs)
 unfolding statements_mean
-statements_right e told none looping xs clear =
-    any (AllFine IsAny) _ (list_right IsAny (λ x. IsRight (statement_means x)) (λ x. statement_means x e looping) (λ x h. h e told none looping) xs (all_of (λ x. IsRight (statement_means x)) xs statement_right) clear)
+statements_right e ts fits told none looping xs =
+    list_right (StatementSound ts looping) (λ x. IsRight StatementSound (statement_means x)) (λ x. statement_means x e looping) (λ x h. h e ts fits told none looping) xs (all_of (λ x. IsRight StatementSound (statement_means x)) xs statement_right)

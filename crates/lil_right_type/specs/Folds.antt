@@ -1,37 +1,20 @@
 -- What operators make of told constants is told.
 use Rattle.std.proofs.Common.{◌≡◌, ℕ, ◌≤◌, ◌<◌, Bool, true, false, ◌||◌, List, Option, Some, None, if◌then◌else◌, refl, sym, ap, subst, ◌∙◌, arith}
 use Rattle.std.specs.Prelude.{ℤ, pos, negsuc, neg_ℤ, ◌^◌, ◌==◌, int_lt, Ok, Err, bit_and, bit_or, bit_xor, ◌+ℤ◌, ◌-ℤ◌, ◌*ℤ◌}
-use Rattle.std.proofs.lemmas.Int.{ints}
-use Rattle.std.proofs.lemmas.Nat.{and_le_l, or_lt, xor_lt}
-use Rattle.std.proofs.lemmas.Option.{none-some, same_Some}
-use Rattle.lil_base.specs.Laws.{bounds, in_range}
-use Rattle.lil_base.specs.Words.{between, is_zero, whole_quotient, whole_rest}
-use Rattle.lil_base.specs.declared.operator.OneOp.{OneOp}
+use Rattle.std.proofs.lemmas.{Int.ints, Nat.{and_le_l, or_lt, xor_lt}, Option.{none-some, same_Some}}
+use Rattle.lil_base.specs.{Laws.{bounds, in_range}, Words.{between, is_zero, whole_quotient, whole_rest}, declared.operator.{OneOp.OneOp, TwoOp.TwoOp}}
 use Rattle.lil_base.specs.declared.operator.OneOp.TheVariants as one
-use Rattle.lil_base.specs.declared.operator.TwoOp.{TwoOp}
 use Rattle.lil_base.specs.declared.operator.TwoOp.TheVariants as two
-use Rattle.lil_types.specs.Types.{Table, base, boolean, char, bit_set, entry, same, is_whole}
+use Rattle.lil_types.specs.{Types.{Table, base, boolean, char, bit_set, entry, same, is_whole}, Folding.{Folded, truth, whole, wholes, ordinals, sets, base_of, base_in, set_base, is_member, in_set, scalars_by, scalars, is_whole_member, fits, whole_in, whole_and_scalar, folded_two, folded_one}, declared.table.{Const.Const, TypeEntry.TypeEntry}}
+use Rattle.lil_types.specs.declared.table.TypeForm.{TypeForm, TheVariants.SetOf}
 use Rattle.lil_types.specs.Types as types
-use Rattle.lil_types.specs.Folding.{Folded, truth, whole, wholes, ordinals, sets, base_of, base_in, set_base, is_member, in_set, scalars_by, scalars, is_whole_member, fits, whole_in, whole_and_scalar, folded_two, folded_one}
-use Rattle.lil_types.specs.declared.table.Const.{Const}
 use Rattle.lil_types.specs.declared.table.Const.TheVariants as const
-use Rattle.lil_types.specs.declared.table.TypeEntry.{TypeEntry}
-use Rattle.lil_types.specs.declared.table.TypeForm.{TypeForm}
-use Rattle.lil_types.specs.declared.table.TypeForm.TheVariants.{SetOf}
 use Rattle.lil_scope.specs.declared.thing.Kind.{Kind}
 use Rattle.lil_scope.specs.declared.thing.Kind.TheVariants as k
-use Rattle.lil_kinds.specs.Kinds.{word_number}
-use Rattle.lil_kinds.specs.Operators.{constant, applied}
-use Rattle.lil_kinds.specs.declared.found.Applied.{Applied}
-use Rattle.lil_kinds.specs.declared.found.Applied.TheVariants.{Refused, Outside, Gives}
+use Rattle.lil_kinds.specs.{Kinds.word_number, Operators.{constant, applied}, declared.found.Applied.{Applied, TheVariants.{Refused, Outside, Gives}}}
 use Rattle.lil_resolved.specs.declared.resolved.RBase.TheVariants as b
-use Rattle.lil_shapes.specs.BaseLaws.{same_sort}
-use Rattle.lil_shapes.specs.Bases.{base_at, base_by, base_form}
-use Rattle.lil_shapes.specs.Operators.{has_number}
-use Rattle.lil_right_type.specs.Found.{HasWord, KindTold}
-use Rattle.lil_right_type.specs.Parts.{base_itself}
-use Rattle.lil_right_type.specs.Typed.{whole_scalar, is_character_number}
-use Rattle.lil_right_type.specs.Types.{IsTold, own_base}
+use Rattle.lil_shapes.specs.{BaseLaws.same_sort, Bases.{base_at, base_by, base_form}, Operators.has_number}
+use Rattle.lil_right_type.specs.{Found.{HasWord, KindTold}, Parts.base_itself, Typed.{whole_scalar, is_character_number}, Types.{IsTold, own_base}}
 
 -- ---- constants
 abbrev pub ConstTold : Table → Const → Type 0

@@ -1,40 +1,20 @@
 -- What is told of values: their kinds, and the forms that go with them.
 use Rattle.std.specs.Prelude.{◌≡◌, ℕ, ◌+◌, ◌≤◌, pos, negsuc, Bool, true, false, List, [], ◌∷◌, length, slice_get, Some, None}
 use Rattle.lil_base.specs.Words.{between}
-use Rattle.lil_types.specs.Types.{Table, base, char, cardinal, integer, address, proc, process}
-use Rattle.lil_types.specs.declared.table.Parameter.{Parameter}
-use Rattle.lil_declared.specs.declared.declared.Mode.TheVariants.{Plain}
-use Rattle.lil_declared.specs.declared.declared.RVar.{RVar}
-use Rattle.lil_declared.specs.declared.standard.Resident.{Resident}
+use Rattle.lil_types.specs.{Types.{Table, base, char, cardinal, integer, address, proc, process}, declared.table.Parameter.Parameter}
+use Rattle.lil_declared.specs.declared.{declared.{Mode.TheVariants.Plain, RVar.RVar}, standard.Resident.Resident}
 use Rattle.lil_declared.specs.declared.standard.Resident.TheVariants as r
-use Rattle.lil_scope.specs.Built.{built}
-use Rattle.lil_scope.specs.declared.env.Env.{Env}
-use Rattle.lil_scope.specs.declared.thing.Chars.{Chars}
-use Rattle.lil_scope.specs.declared.thing.Entry.{Entry}
-use Rattle.lil_scope.specs.declared.thing.Kind.{Kind}
+use Rattle.lil_scope.specs.{Built.built, declared.{env.Env.Env, thing.{Chars.Chars, Entry.Entry, Kind.Kind, Thing.Thing}}}
 use Rattle.lil_scope.specs.declared.thing.Kind.TheVariants as k
-use Rattle.lil_scope.specs.declared.thing.Thing.{Thing}
 use Rattle.lil_scope.specs.declared.thing.Thing.TheVariants as t
-use Rattle.lil_kinds.specs.Forms.{parameters, result}
-use Rattle.lil_kinds.specs.declared.found.Form.{Form}
+use Rattle.lil_kinds.specs.{Forms.{parameters, result}, declared.found.{Form.Form, Found.Found, Located.Located, Standing.Standing}}
 use Rattle.lil_kinds.specs.declared.found.Form.TheVariants as form
-use Rattle.lil_kinds.specs.declared.found.Found.{Found}
-use Rattle.lil_kinds.specs.declared.found.Standing.{Standing}
 use Rattle.lil_kinds.specs.declared.found.Standing.TheVariants as standing
-use Rattle.lil_resolved.specs.Sizes.{place_depth, depth}
-use Rattle.lil_resolved.specs.Sound.{is_text}
-use Rattle.lil_resolved.specs.Views.{base_view, expression_of, place_of}
-use Rattle.lil_resolved.specs.declared.resolved.RBase.{RBase}
+use Rattle.lil_resolved.specs.{Sizes.{place_depth, depth}, Sound.is_text, Views.{base_view, expression_of, place_of}, declared.resolved.{RBase.RBase, RExpr.RExpr, RKind.RKind}}
 use Rattle.lil_resolved.specs.declared.resolved.RBase.TheVariants as b
-use Rattle.lil_resolved.specs.declared.resolved.RExpr.{RExpr}
-use Rattle.lil_resolved.specs.declared.resolved.RKind.{RKind}
-use Rattle.lil_shapes.specs.Bases.{base_at, kind_at}
-use Rattle.lil_shapes.specs.ListLaws.{AllFine}
-use Rattle.lil_shapes.specs.Operators.{has_number}
-use Rattle.lil_shapes.specs.Pointers.{lies_at}
-use Rattle.lil_forms.specs.Values.{value_kind}
-use Rattle.lil_right_type.specs.Types.{IsTold}
-use Rattle.lil_right_type.specs.Words.{AreMeasured}
+use Rattle.lil_shapes.specs.{Bases.{base_at, kind_at}, ListLaws.AllFine, Operators.has_number, Pointers.lies_at}
+use Rattle.lil_forms.specs.Properties.{Property, nothing, value_kind}
+use Rattle.lil_right_type.specs.{Types.IsTold, Words.AreMeasured}
 
 -- ---- kinds
 -- a base whose constants are told by their words
@@ -66,25 +46,49 @@ KindTold t (k.Routine s) = ⊥
 abbrev pub TextTold : Chars → List ℕ → Type 0
 TextTold c cs = (length cs ≡ c.length) × (is_text cs ≡ true)
 
--- a value of a type, whose code takes at most a word more than so many
-abbrev pub IsValue : Table → ℕ → ℕ → RExpr → Type 0
-IsValue t s d x = (j : RKind) × (kind_at t s ≡ Some j) × (value_kind x ≡ base_view j.base) × (depth (expression_of x) ≤ d + 1)
+-- a kind goes with no form: that of a number, a scalar or NIL
+abbrev pub IsBare : Kind → Type 0
+IsBare (k.Whole z) = Unit {0}
+IsBare (k.Scalar s w) = Unit {0}
+IsBare k.Nil = Unit {0}
+IsBare _ = ⊥
 
--- a form goes with a kind at a depth
-abbrev pub GoesWith : Table → ℕ → Kind → Form → Type 0
-GoesWith t d (k.Whole z) f = Unit {0}
-GoesWith t d (k.Scalar s w) f = Unit {0}
-GoesWith t d (k.Chars c) form.Nothing = ⊥
-GoesWith t d (k.Chars c) (form.Text cs) = TextTold c cs
-GoesWith t d (k.Chars c) (form.Located p) = ⊥
-GoesWith t d (k.Chars c) (form.Value x) = ⊥
-GoesWith t d k.Nil f = Unit {0}
-GoesWith t d (k.Of s) form.Nothing = ⊥
-GoesWith t d (k.Of s) (form.Text cs) = ⊥
-GoesWith t d (k.Of s) (form.Located p) = (p.sort ≡ s) × (place_depth (place_of p.place) ≤ d + 1)
-GoesWith t d (k.Of s) (form.Value x) = IsValue t s d x
-GoesWith t d (k.Open s) f = ⊥
-GoesWith t d (k.Routine s) f = ⊥
+module _ {t : Table} {vs : List RVar} {around : List ℕ} (P : Property t vs around) where
+  -- a value of a type with the property, whose code takes at most a word more than so many
+  pub record IsValue (s d : ℕ) (x : RExpr) : Type 0 where
+    pub as_kind : RKind
+    pub at : kind_at t s ≡ Some as_kind
+    pub kind : value_kind x ≡ base_view as_kind.base
+    pub deep : depth (expression_of x) ≤ d + 1
+    pub good : P.value x
+
+  -- a place of a type, likewise
+  pub record LiesAt (s d : ℕ) (p : Located) : Type 0 where
+    pub sort : p.sort ≡ s
+    pub deep : place_depth (place_of p.place) ≤ d + 1
+    pub good : P.place p
+
+  -- a form goes with a kind at a depth
+  abbrev pub GoesWith : ℕ → Kind → Form → Type 0
+  GoesWith d (k.Whole z) f = Unit {0}
+  GoesWith d (k.Scalar s w) f = Unit {0}
+  GoesWith d (k.Chars c) form.Nothing = ⊥
+  GoesWith d (k.Chars c) (form.Text cs) = TextTold c cs
+  GoesWith d (k.Chars c) (form.Located p) = ⊥
+  GoesWith d (k.Chars c) (form.Value x) = ⊥
+  GoesWith d k.Nil f = Unit {0}
+  GoesWith d (k.Of s) form.Nothing = ⊥
+  GoesWith d (k.Of s) (form.Text cs) = ⊥
+  GoesWith d (k.Of s) (form.Located p) = LiesAt s d p
+  GoesWith d (k.Of s) (form.Value x) = IsValue s d x
+  GoesWith d (k.Open s) f = ⊥
+  GoesWith d (k.Routine s) f = ⊥
+
+  pub bare : (d : ℕ) (kind : Kind) (f : Form) → IsBare kind → GoesWith d kind f
+  bare d (k.Whole z) f h = tt
+  bare d (k.Scalar s w) f h = tt
+  bare d k.Nil f h = tt
+  bare d _ f h = absurd h
 
 abbrev pub IsLocated : Form → Type 0
 IsLocated form.Nothing = ⊥
@@ -102,12 +106,16 @@ HasPlace standing.Value kind f = Unit {0}
 HasPlace standing.Variable kind f = IsPlaced kind f
 HasPlace standing.Character kind f = IsPlaced kind f
 
-pub record IsFound (t : Table) (a : Found) : Type 0 where
+pub record IsFound {t : Table} {vs : List RVar} {around : List ℕ} (P : Property t vs around) (a : Found) : Type 0 where
   pub kind : KindTold t a.kind
-  pub form : GoesWith t a.depth a.kind a.form
+  pub form : GoesWith P a.depth a.kind a.form
   pub place : HasPlace a.standing a.kind a.form
   pub some : 1 ≤ a.depth
   pub few : a.depth ≤ 12
+
+-- a value that is told, whatever lies in the variables
+abbrev pub IsKnown : Env → Found → Type 0
+IsKnown e a = IsFound (nothing e.types e.variables e.withs) a
 
 -- ---- names
 -- the parameters of each resident procedure
@@ -133,7 +141,7 @@ signature r.Transfer = place process ∷ place process ∷ []
 
 -- what a name stands for is told, by the types, the variables and the texts of constants
 abbrev pub ThingTold : Table → List RVar → List (List ℕ) → Thing → Type 0
-ThingTold types vs texts (t.Constant kind) = KindTold types kind × GoesWith types 1 kind form.Nothing
+ThingTold types vs texts (t.Constant kind) = KindTold types kind × IsBare kind
 ThingTold types vs texts (t.Named n c) = (c.first ≤ 255) × ((cs : List ℕ) × (slice_get texts n ≡ Some cs) × TextTold c cs)
 ThingTold types vs texts t.Nil = Unit {0}
 ThingTold types vs texts (t.Variable v) = (v.level ≡ 1) × (v.mode ≡ Plain) × ((x : RVar) × (slice_get vs v.number ≡ Some x) × (x.sort ≡ v.sort)) × (lies_at types v.sort ≡ true)

@@ -2,29 +2,14 @@
 use Rattle.std.proofs.Common.{◌≡◌, ℕ, zero, suc, ◌+◌, ◌<◌, Bool, true, false, not, ◌||◌, List, [], ◌∷◌, slice_get, Option, Some, None, if◌then◌else◌, refl, sym, ap, subst, ◌∙◌, arith, true≢false, ◌⊎◌, inl, inr}
 use Rattle.std.specs.Prelude.{ℤ, pos, ◌≤ℤ◌, ◌==◌, ◌&&◌, int_lt, is_some}
 use Rattle.std.specs.Option.{option_map}
-use Rattle.std.proofs.lemmas.Int.{ints}
-use Rattle.std.proofs.lemmas.Option.{none-some, same_Some}
-use Rattle.std.proofs.lemmas.Bool.Decides.{nat_tests}
-use Rattle.lil_types.specs.Types.{Table, entry, known, meant, base, is_whole, bit_set, proc, address, cardinal, integer, boolean, char}
+use Rattle.std.proofs.lemmas.{Int.ints, Option.{none-some, same_Some}, Bool.Decides.nat_tests}
+use Rattle.lil_types.specs.{Types.{Table, entry, known, meant, base, is_whole, bit_set, proc, address, cardinal, integer, boolean, char}, declared.table.{Facts.Facts, Field.Field, TypeEntry.TypeEntry, TypeForm.{TypeForm, TheVariants.{Enumeration, Subrange, Array, Record, SetOf, Pointer, Procedure, Opaque}}}}
 use Rattle.lil_types.specs.Types as types
-use Rattle.lil_types.specs.declared.table.Facts.{Facts}
-use Rattle.lil_types.specs.declared.table.Field.{Field}
-use Rattle.lil_types.specs.declared.table.TypeEntry.{TypeEntry}
-use Rattle.lil_types.specs.declared.table.TypeForm.{TypeForm}
-use Rattle.lil_types.specs.declared.table.TypeForm.TheVariants.{Enumeration, Subrange, Array, Record, SetOf, Pointer, Procedure, Opaque}
-use Rattle.lil_kinds.specs.Forms.{span_in, form_in, shape, of_form, is_form, array_of, array_parts, same_name, field_from, field_of, field, is_record_form, is_record, target_of, target, is_opaque_form, is_opaque, has_nil, set_of, set_base, is_routine_form, is_routine}
+use Rattle.lil_kinds.specs.{Forms.{span_in, form_in, shape, of_form, is_form, array_of, array_parts, same_name, field_from, field_of, field, is_record_form, is_record, target_of, target, is_opaque_form, is_opaque, has_nil, set_of, set_base, is_routine_form, is_routine}, declared.forms.FieldAt.FieldAt}
 use Rattle.lil_kinds.specs.declared.forms.ArrayParts as checked
-use Rattle.lil_kinds.specs.declared.forms.FieldAt.{FieldAt}
-use Rattle.lil_resolved.specs.Kinds.{is_ordinal, is_element, least, greatest}
-use Rattle.lil_resolved.specs.Views.{base_view, kind_view}
-use Rattle.lil_resolved.specs.declared.resolved.RBase.{RBase}
+use Rattle.lil_resolved.specs.{Kinds.{is_ordinal, is_element, least, greatest}, Views.{base_view, kind_view}, declared.resolved.{RBase.RBase, RKind.RKind}}
 use Rattle.lil_resolved.specs.declared.resolved.RBase.TheVariants as b
-use Rattle.lil_resolved.specs.declared.resolved.RKind.{RKind}
-use Rattle.lil_shapes.specs.BaseLaws.{same_sort}
-use Rattle.lil_shapes.specs.declared.members.Members.{Members}
-use Rattle.lil_shapes.specs.Bases.{plain, base_by, base_form, base_at, kind_form, kind_by, kind_over, kind_at, composite_at, composite_by, array_by, array_at, field_by, field_at, field_sort, bits, members_with, members_by, members_at}
-use Rattle.lil_shapes.specs.ListLaws.{AllFine}
-use Rattle.lil_shapes.specs.Pointers.{lies_at, pointed, pointed_by}
+use Rattle.lil_shapes.specs.{BaseLaws.same_sort, declared.members.Members.Members, Bases.{plain, base_by, base_form, base_at, kind_form, kind_by, kind_over, kind_at, composite_at, composite_by, array_by, array_at, field_by, field_at, field_sort, bits, members_with, members_by, members_at}, ListLaws.AllFine, Pointers.{lies_at, pointed, pointed_by}}
 use Rattle.lil_right_type.specs.Types.{FormTold, IsTold, IsOrdinal, HasSpan, meant_is, entry_base, own_base, known_ordinal, kind_is, entry_high, entry_known, no_entry, standard_whole}
 
 -- ---- a part of a form that is there

@@ -1,28 +1,14 @@
 -- Tables of types that are told: what is known of each type agrees with its values, and something lies in each of its parts.
 use Rattle.std.proofs.Common.{◌≡◌, ℕ, zero, suc, ◌≤◌, ◌<◌, Bool, true, false, List, length, slice_get, Option, Some, None, if◌then◌else◌, refl, sym, ap, subst, ◌∙◌, arith}
 use Rattle.std.specs.Prelude.{ℤ, pos, ◌≤ℤ◌, ◌-ℤ◌, ◌-◌, ◌==◌, nat_lt, nat_le, min}
-use Rattle.std.proofs.lemmas.Int.{ints}
-use Rattle.std.proofs.lemmas.Option.{none-some, same_Some}
-use Rattle.std.proofs.lemmas.Bool.Decides.{nat_tests}
-use Rattle.lil_types.specs.Types.{Table, entry, known, facts_in, enumeration_facts, other_of, meant_by, meant, base, is_whole, span, bit_set, proc, address, cardinal}
+use Rattle.std.proofs.lemmas.{Int.ints, Option.{none-some, same_Some}, Bool.Decides.nat_tests}
+use Rattle.lil_types.specs.{Types.{Table, entry, known, facts_in, enumeration_facts, other_of, meant_by, meant, base, is_whole, span, bit_set, proc, address, cardinal}, declared.table.{Facts.Facts, Field.Field, Span.Span, TypeEntry.TypeEntry, TypeForm.{TypeForm, TheVariants.{Enumeration, Subrange, Array, Record, SetOf, Pointer, Procedure, Opaque}}}}
 use Rattle.lil_types.specs.Types as types
-use Rattle.lil_types.specs.declared.table.Facts.{Facts}
-use Rattle.lil_types.specs.declared.table.Field.{Field}
-use Rattle.lil_types.specs.declared.table.Span.{Span}
-use Rattle.lil_types.specs.declared.table.TypeEntry.{TypeEntry}
-use Rattle.lil_types.specs.declared.table.TypeForm.{TypeForm}
-use Rattle.lil_types.specs.declared.table.TypeForm.TheVariants.{Enumeration, Subrange, Array, Record, SetOf, Pointer, Procedure, Opaque}
 use Rattle.lil_kinds.specs.Forms.{span_in, span_of}
-use Rattle.lil_resolved.specs.Kinds.{is_ordinal, least, greatest, larger, lesser}
+use Rattle.lil_resolved.specs.{Kinds.{is_ordinal, least, greatest, larger, lesser}, Views.{base_view, kind_view}, declared.resolved.{RBase.RBase, RKind.RKind}}
 use Rattle.lil_resolved.specs.Kinds as Kinds
-use Rattle.lil_resolved.specs.Views.{base_view, kind_view}
-use Rattle.lil_resolved.specs.declared.resolved.RBase.{RBase}
 use Rattle.lil_resolved.specs.declared.resolved.RBase.TheVariants as b
-use Rattle.lil_resolved.specs.declared.resolved.RKind.{RKind}
-use Rattle.lil_shapes.specs.BaseLaws.{same_sort}
-use Rattle.lil_shapes.specs.Bases.{plain, range_of, base_by, base_form, base_at, kind_form, kind_by, kind_over, kind_at}
-use Rattle.lil_shapes.specs.ListLaws.{AllFine}
-use Rattle.lil_shapes.specs.Pointers.{lies_at}
+use Rattle.lil_shapes.specs.{BaseLaws.same_sort, Bases.{plain, range_of, base_by, base_form, base_at, kind_form, kind_by, kind_over, kind_at}, ListLaws.AllFine, Pointers.lies_at}
 
 -- a type has a base whose values are compared by their numbers, and these are among them
 pub record HasNumbers (t : Table) (n : ℕ) (u : Span) : Type 0 where

@@ -1,12 +1,6 @@
 -- Tables of types whose words are measured: those of each type are those of its parts, which have lesser numbers.
 use Rattle.std.specs.Prelude.{◌≡◌, ℕ, ◌*◌, ◌<◌, ◌≤◌, Some}
-use Rattle.lil_types.specs.Types.{Table, entry, known, fields_words, values, words}
-use Rattle.lil_types.specs.declared.table.Facts.{Facts}
-use Rattle.lil_types.specs.declared.table.Field.{Field}
-use Rattle.lil_types.specs.declared.table.Span.{Span}
-use Rattle.lil_types.specs.declared.table.TypeEntry.{TypeEntry}
-use Rattle.lil_types.specs.declared.table.TypeForm.{TypeForm}
-use Rattle.lil_types.specs.declared.table.TypeForm.TheVariants.{Enumeration, Subrange, Array, Record, SetOf, Pointer, Procedure, Opaque}
+use Rattle.lil_types.specs.{Types.{Table, entry, known, fields_words, values, words}, declared.table.{Facts.Facts, Field.Field, Span.Span, TypeEntry.TypeEntry, TypeForm.{TypeForm, TheVariants.{Enumeration, Subrange, Array, Record, SetOf, Pointer, Procedure, Opaque}}}}
 use Rattle.lil_kinds.specs.Forms.{span_in}
 use Rattle.lil_shapes.specs.ListLaws.{AllFine}
 

@@ -1,57 +1,29 @@
 -- Operators over told operands: their values are told.
-use Rattle.std.proofs.Common.{◌≡◌, ℕ, ◌+◌, ◌≤◌, Bool, true, false, ◌&&◌, ◌||◌, map, Option, Some, None, if◌then◌else◌, refl, sym, ap, subst, ◌∙◌, arith, true≢false, inl, inr}
+use Rattle.std.proofs.Common.{◌≡◌, ℕ, ◌+◌, ◌≤◌, Bool, true, false, ◌&&◌, ◌||◌, List, [], ◌∷◌, ◌++◌, Option, Some, None, if◌then◌else◌, refl, sym, ap, subst, ◌∙◌, arith, true≢false, inl, inr}
 use Rattle.std.specs.Prelude.{◌==◌, max, nat_lt, is_some, is_none}
-use Rattle.std.proofs.lemmas.Option.{none-some, same_Some}
-use Rattle.std.proofs.lemmas.Bool.Decides.{nat_tests}
-use Rattle.lil_base.specs.declared.fault.Place.{Place}
-use Rattle.lil_base.specs.declared.operator.OneOp.{OneOp}
+use Rattle.std.proofs.lemmas.{Option.{none-some, same_Some}, Bool.Decides.nat_tests}
+use Rattle.lil_base.specs.declared.{fault.Place.Place, operator.{OneOp.OneOp, TwoOp.TwoOp}}
 use Rattle.lil_base.specs.declared.operator.OneOp.TheVariants as sign
-use Rattle.lil_base.specs.declared.operator.TwoOp.{TwoOp}
 use Rattle.lil_base.specs.declared.operator.TwoOp.TheVariants as op
-use Rattle.lil_types.specs.Types.{Table, entry, base, integer, cardinal, boolean, char, address, is_whole, same}
-use Rattle.lil_types.specs.Folding.{fits}
-use Rattle.lil_types.specs.declared.table.Const.{Const}
-use Rattle.lil_types.specs.declared.table.Span.{Span}
-use Rattle.lil_types.specs.declared.table.TypeEntry.{TypeEntry}
-use Rattle.lil_types.specs.declared.table.TypeForm.{TypeForm}
-use Rattle.lil_types.specs.declared.table.TypeForm.TheVariants.{Enumeration, Subrange, Array, Record, SetOf, Pointer, Procedure, Opaque}
+use Rattle.lil_types.specs.{Types.{Table, entry, base, integer, cardinal, boolean, char, address, is_whole, same}, Folding.fits, declared.table.{Const.Const, Span.Span, TypeEntry.TypeEntry, TypeForm.{TypeForm, TheVariants.{Enumeration, Subrange, Array, Record, SetOf, Pointer, Procedure, Opaque}}}}
 use Rattle.lil_types.specs.Types as types
+use Rattle.lil_declared.specs.declared.declared.RVar.{RVar}
 use Rattle.lil_scope.specs.declared.thing.Kind.{Kind}
 use Rattle.lil_scope.specs.declared.thing.Kind.TheVariants as k
-use Rattle.lil_kinds.specs.Forms.{span_of, set_base, has_nil}
-use Rattle.lil_kinds.specs.Kinds.{sort_of, is_whole_constant, is_ordinal, suits, compatible_by, compatible}
-use Rattle.lil_kinds.specs.Operators.{constant, gives_where, one_sort, one_value, one_by, one, either_sort, common, are_wholes, are_truths, are_ordinals, are_references, are_sets_by, are_sets, are_comparable, is_of, is_element_by, is_element, number_or_set, two_values, two_by, is_text, two, operand_type}
-use Rattle.lil_kinds.specs.declared.found.Applied.{Applied}
-use Rattle.lil_kinds.specs.declared.found.Applied.TheVariants.{Refused, Outside, Gives}
-use Rattle.lil_kinds.specs.declared.found.Found.{Found}
+use Rattle.lil_kinds.specs.{Forms.{span_of, set_base, has_nil}, Kinds.{sort_of, is_whole_constant, is_ordinal, suits, compatible_by, compatible}}
+use Rattle.lil_kinds.specs.{Operators.{constant, gives_where, one_sort, one_value, one_by, one, either_sort, common, are_wholes, are_truths, are_ordinals, are_references, are_sets_by, are_sets, are_comparable, is_of, is_element_by, is_element, number_or_set, two_values, two_by, is_text, two, operand_type}, declared.found.Applied.Applied}
+use Rattle.lil_kinds.specs.declared.found.{Applied.TheVariants.{Refused, Outside, Gives}, Found.Found}
 use Rattle.lil_resolved.specs.Kinds as kinds
-use Rattle.lil_resolved.specs.Resolved.{Expression, kind_of}
-use Rattle.lil_resolved.specs.Sizes.{depth}
+use Rattle.lil_resolved.specs.{Resolved.{Expression, kind_of}, Sizes.depth, Views.{base_view, expression_of, two_of, one_is, chain_is}, declared.resolved.{RBase.RBase, RExpr.RExpr}}
 use Rattle.lil_resolved.specs.Sound as sound
-use Rattle.lil_resolved.specs.Views.{base_view, expression_of, operation_of, two_of, chained, one_is, chain_is}
-use Rattle.lil_resolved.specs.declared.resolved.RBase.{RBase}
 use Rattle.lil_resolved.specs.declared.resolved.RBase.TheVariants as b
-use Rattle.lil_resolved.specs.declared.resolved.RExpr.{RExpr}
 use Rattle.lil_resolved.specs.declared.resolved.RExpr.TheVariants as e
-use Rattle.lil_shapes.specs.BaseLaws.{same_sort, base_words}
-use Rattle.lil_shapes.specs.Bases.{base_at, composite_at}
-use Rattle.lil_shapes.specs.Operators.{takes_two, result_base, right_base, same_kind, base_again, base_for, is_a_truth}
-use Rattle.lil_shapes.specs.Pointers.{lies_at}
-use Rattle.lil_forms.specs.FoundSound.{both_left, both_right}
-use Rattle.lil_forms.specs.Parts.{chained_more}
-use Rattle.lil_forms.specs.Values.{value_kind, typed_by, typed, value_form, one_of, operation, operated, takes_operand, with_operation}
+use Rattle.lil_shapes.specs.{BaseLaws.{same_sort, base_words}, Bases.{base_at, composite_at}, Operators.{takes_two, result_base, right_base, right_is, is_a_truth}, Pointers.lies_at}
+use Rattle.lil_forms.specs.{Scopes.{both_left, both_right}, Parts.chained_more, Properties.Property, Values.{typed_by, typed, value_form, one_of, operation, operated}, declared.operators.Built.Built}
 use Rattle.lil_forms.specs.Values as forms
-use Rattle.lil_forms.specs.declared.operators.Built.{Built}
-use Rattle.lil_operators.specs.declared.operations.Chained.{Chained}
-use Rattle.lil_operators.specs.declared.operations.SoFar.{SoFar}
-use Rattle.lil_operators.specs.declared.operations.SoFar.TheVariants.{First, Behind}
+use Rattle.lil_operators.specs.{declared.operations.{Chained.Chained, SoFar.{SoFar, TheVariants.{First, Behind}}}, Operations.{greater, limited, raised, one_found, one_applied, one_node, begun, or_cardinal, left_type, before, behind, two_chained, two_given, two_value, two_applied, two_node, whole_form, chain_found}}
 use Rattle.lil_operators.specs.Operations as Operations
-use Rattle.lil_operators.specs.Operations.{greater, limited, raised, one_found, one_applied, one_node, begun, or_cardinal, left_type, before, behind, two_chained, two_given, two_value, two_applied, two_node, whole_form, chain_found}
-use Rattle.lil_right_type.specs.Folds.{GivenTold, AppliedTold, constant_told, no_text, folded_two_told, folded_one_told, applied_told}
-use Rattle.lil_right_type.specs.Found.{KindTold, GoesWith, IsFound}
-use Rattle.lil_right_type.specs.Parts.{IsSet, base_itself, has_kind, has_nil_is, set_is}
-use Rattle.lil_right_type.specs.Right.{Right, IsThere}
-use Rattle.lil_right_type.specs.Typed.{Yields, either, kept_if, both, below_two, same_base, kind_yields, suits_yields}
+use Rattle.lil_right_type.specs.{Folds.{GivenTold, AppliedTold, constant_told, no_text, folded_two_told, folded_one_told, applied_told}, Found.{KindTold, IsValue, GoesWith, IsFound}, Parts.{IsSet, base_itself, has_kind, has_nil_is, set_is}, Right.{Right, IsThere}, Typed.{Yields, either, below_two, kind_yields, suits_yields}}
 use Rattle.lil_right_type.specs.Types.{IsTold, FormTold, IsOrdinal, entry_base, own_base, ordinal_is, meant_is}
 
 pub equal : (n : ℕ) → (n == n) ≡ true
@@ -82,20 +54,7 @@ raised_is a by' c h = by (nat_lt a (by' + c)) (nat_lt 12 (greater a (by' + c))) 
 
 two_depth : (o : TwoOp) (a c : Expression) → depth (two_of o a c) ≡ max (depth a) (1 + depth c)
 two_depth op.And a c = refl
-two_depth op.Or a c = refl
-two_depth op.Equal a c = refl
-two_depth op.Unequal a c = refl
-two_depth op.Less a c = refl
-two_depth op.AtMost a c = refl
-two_depth op.Greater a c = refl
-two_depth op.AtLeast a c = refl
-two_depth op.In a c = refl
-two_depth op.Plus a c = refl
-two_depth op.Minus a c = refl
-two_depth op.Times a c = refl
-two_depth op.Slash a c = refl
-two_depth op.Div a c = refl
-two_depth op.Mod a c = refl
+two_depth _ a c = refl
 
 two_kind : (o : TwoOp) (g : RBase) (a c : Expression) → takes_two o (base_view g) ≡ true → kind_of a ≡ base_view g → kind_of (two_of o a c) ≡ base_view (result_base o g)
 two_kind op.And g a c h is = sym (is_a_truth (base_view g) h)
@@ -113,9 +72,6 @@ two_kind op.Times g a c h is = is
 two_kind op.Slash g a c h is = is
 two_kind op.Div g a c h is = is
 two_kind op.Mod g a c h is = is
-
-abbrev pub whole_chain : Built → Expression
-whole_chain x = chained (expression_of x.begin) (map operation_of x.operations)
 
 module _ (t : Table) (told : IsTold t) where
   -- ---- types below types
@@ -216,35 +172,6 @@ module _ (t : Table) (told : IsTold t) where
       by (Some c) is y of = applied_told t told (OneTold o a) _ (folded_one_told t told o c (constant_told t told a h c is))
       by None is None of = subst (λ y. AppliedTold t (OneTold o a) (one_value t o y)) (sym of) tt
       by None is (Some s) of = subst (λ y. AppliedTold t (OneTold o a) (one_value t o y)) (sym of) (one_sort_told o a s of)
-
-  one_yields : (o : OneOp) (g : RBase) (d : ℕ) (x : Option RExpr) → sound.takes_one o (base_view g) ≡ true → IsThere (Yields g d) x → IsThere (Yields g d) (one_of o x)
-  one_yields o g d None h y = y
-  one_yields o g d (Some x) h y = kept_if (Yields g d) (sound.takes_one o (value_kind x)) (e.One o x) (ap (sound.takes_one o) y.0 ∙ h) (ap kind_of (one_is o x) ∙ y.0, subst (λ a. depth a ≤ d + 1) (sym (one_is o x)) y.1)
-
-  -- the form of a value of a type
-  pub value_goes : (s : ℕ) (g : RBase) (d : ℕ) (x : Option RExpr) → base_at t (base t s) ≡ Some g → IsThere (Yields g d) x → GoesWith t d (k.Of s) (value_form x)
-  value_goes s g d None is h = h
-  value_goes s g d (Some x) is h = let j = has_kind t told s g is in (j.0, j.1, h.0 ∙ sym (ap base_view j.2), h.1)
-
-  one_found_told : (p : Place) (o : OneOp) (a : Found) (kind : Kind) → IsFound t a → GivenTold t (OneTold o a.kind) kind → IsFound t (one_found t p o a kind)
-  one_found_told p o a (k.Of s) h g =
-      record { kind = lies_so s g.base g.is; form = value_goes s g.base a.depth (one_of o (typed t s a)) g.is (one_yields o g.base a.depth (typed t s a) g.takes (suits_yields t told s g.base a g.is h g.suits)); place = tt; some = h.some; few = h.few }
-  one_found_told p o a (k.Whole z) h g = record { kind = g; form = tt; place = tt; some = omega arith; few = omega arith }
-  one_found_told p o a (k.Scalar s w) h g = record { kind = g; form = tt; place = tt; some = omega arith; few = omega arith }
-  one_found_told p o a (k.Chars c) h g = absurd g
-  one_found_told p o a k.Nil h g = absurd g
-  one_found_told p o a (k.Open s) h g = absurd g
-  one_found_told p o a (k.Routine s) h g = absurd g
-
-  pub one_node_right : (p : Place) (o : OneOp) (at : Place) (a : Option Found) → IsThere (IsFound t) a → Right (IsThere (IsFound t)) (one_node t p o at a)
-  unfolding one_applied
-  one_node_right p o at None h clear = h
-  one_node_right p o at (Some a) h clear = by (one t o a.kind) refl (one_told o a.kind h.kind) clear.0 clear.1.0
-    where
-      by : (x : Applied) → one t o a.kind ≡ x → AppliedTold t (OneTold o a.kind) x → Operations.is_refused x ≡ false → Operations.is_outside x ≡ false → IsThere (IsFound t) (Operations.one_value t p o a x)
-      by Refused is g c d = absurd (true≢false c)
-      by Outside is g c d = absurd (true≢false d)
-      by (Gives kind) is g c d = one_found_told p o a kind h g
 
   -- ---- two operands: each is of a base that the operator takes
   pub record TwoTold (o : TwoOp) (a c : Kind) (s : ℕ) : Type 0 where
@@ -497,13 +424,47 @@ module _ (t : Table) (told : IsTold t) where
       texts true = tt
       texts false = by (constant t a) refl (constant t c) refl
 
+module _ {t : Table} {vs : List RVar} {around : List ℕ} (P : Property t vs around) (told : IsTold t) where
+  -- ---- a sign, or NOT
+  one_yields : (o : OneOp) (g : RBase) (d : ℕ) (x : Option RExpr) → sound.takes_one o (base_view g) ≡ true → IsThere (Yields P g d) x → IsThere (Yields P g d) (one_of o x)
+  one_yields o g d None h y = y
+  one_yields o g d (Some x) h y = (ap kind_of (one_is o x) ∙ y.0, subst (λ a. depth a ≤ d + 1) (sym (one_is o x)) y.1, P.one o x (ap (sound.takes_one o) y.0 ∙ h) y.2)
+
+  -- the form of a value of a type
+  value_goes : (s : ℕ) (g : RBase) (d : ℕ) (x : RExpr) → base_at t (base t s) ≡ Some g → Yields P g d x → IsValue P s d x
+  value_goes s g d x is h = let j = has_kind t told s g is in record { as_kind = j.0; at = j.1; kind = h.0 ∙ sym (ap base_view j.2); deep = h.1; good = h.2 }
+
+  form_goes : (s : ℕ) (g : RBase) (d : ℕ) (x : Option RExpr) → base_at t (base t s) ≡ Some g → IsThere (Yields P g d) x → GoesWith P d (k.Of s) (value_form x)
+  form_goes s g d None is h = h
+  form_goes s g d (Some x) is h = value_goes s g d x is h
+
+  one_found_told : (p : Place) (o : OneOp) (a : Found) (kind : Kind) → IsFound P a → GivenTold t (OneTold t told o a.kind) kind → IsFound P (one_found t p o a kind)
+  one_found_told p o a (k.Of s) h g =
+      record { kind = lies_so t told s g.base g.is; form = form_goes s g.base a.depth (one_of o (typed t s a)) g.is (one_yields o g.base a.depth (typed t s a) g.takes (suits_yields P told s g.base a g.is h g.suits)); place = tt; some = h.some; few = h.few }
+  one_found_told p o a (k.Whole z) h g = record { kind = g; form = tt; place = tt; some = omega arith; few = omega arith }
+  one_found_told p o a (k.Scalar s w) h g = record { kind = g; form = tt; place = tt; some = omega arith; few = omega arith }
+  one_found_told p o a (k.Chars c) h g = absurd g
+  one_found_told p o a k.Nil h g = absurd g
+  one_found_told p o a (k.Open s) h g = absurd g
+  one_found_told p o a (k.Routine s) h g = absurd g
+
+  pub one_node_right : (p : Place) (o : OneOp) (at : Place) (a : Option Found) → IsThere (IsFound P) a → Right (IsThere (IsFound P)) (one_node t p o at a)
+  unfolding one_applied
+  one_node_right p o at None h clear = h
+  one_node_right p o at (Some a) h clear = by (one t o a.kind) refl (one_told t told o a.kind h.kind) clear.0 clear.1.0
+    where
+      by : (x : Applied) → one t o a.kind ≡ x → AppliedTold t (OneTold t told o a.kind) x → Operations.is_refused x ≡ false → Operations.is_outside x ≡ false → IsThere (IsFound P) (Operations.one_value t p o a x)
+      by Refused is g c d = absurd (true≢false c)
+      by Outside is g c d = absurd (true≢false d)
+      by (Gives kind) is g c d = one_found_told p o a kind h g
+
   -- ---- chains
-  -- a chain so far is of a base, and takes at most a word more than so many
+  -- a chain so far is of a base, with the property, and takes at most a word more than so many
   abbrev pub IsBuilt : RBase → ℕ → Built → Type 0
-  IsBuilt g d x = (x.base ≡ g) × (kind_of (whole_chain x) ≡ base_view g) × (depth (whole_chain x) ≤ d + 1)
+  IsBuilt g d x = Yields P g d (e.Chain x.begin x.operations)
 
   abbrev pub SoFarTold : ℕ → Kind → SoFar → Type 0
-  SoFarTold d kind (First f) = GoesWith t d kind f
+  SoFarTold d kind (First f) = GoesWith P d kind f
   SoFarTold d kind (Behind o) = (s : ℕ) × (kind ≡ k.Of s) × ((g : RBase) × (base_at t (base t s) ≡ Some g) × IsThere (IsBuilt g d) o)
 
   pub record ChainTold (a : Chained) : Type 0 where
@@ -512,13 +473,13 @@ module _ (t : Table) (told : IsTold t) where
     pub some : 1 ≤ a.depth
     pub few : a.depth ≤ 12
 
-  pub begun_right : (a : Option Found) → IsThere (IsFound t) a → IsThere ChainTold (begun a)
+  pub begun_right : (a : Option Found) → IsThere (IsFound P) a → IsThere ChainTold (begun a)
   begun_right None h = h
   begun_right (Some a) h = record { kind = h.kind; so_far = h.form; some = h.some; few = h.few }
 
-  begun_built : (g : RBase) (d : ℕ) (x : Option RExpr) → IsThere (Yields g d) x → IsThere (IsBuilt g d) (forms.begun x)
+  begun_built : (g : RBase) (d : ℕ) (x : Option RExpr) → IsThere (Yields P g d) x → IsThere (IsBuilt g d) (forms.begun x)
   begun_built g d None h = h
-  begun_built g d (Some x) h = (ap base_for h.0 ∙ base_again g, h.0, h.1)
+  begun_built g d (Some x) h = (ap kind_of (chain_is x []) ∙ h.0, subst (λ a. depth a ≤ d + 1) (sym (chain_is x [])) h.1, P.begin x h.2)
 
   of_same : (r s : ℕ) → k.Of r ≡ k.Of s → r ≡ s
   of_same r s h = ap sort_in h
@@ -529,7 +490,7 @@ module _ (t : Table) (told : IsTold t) where
 
   before_built : (s : ℕ) (g : RBase) (d : ℕ) (kind : Kind) (x : SoFar) → base_at t (base t s) ≡ Some g → suits t s kind ≡ true → KindTold t kind → SoFarTold d kind x → IsThere (IsBuilt g d) (before t s kind x)
   unfolding suits
-  before_built s g d kind (First f) is so h goes = begun_built g d (typed_by t s kind f) (kind_yields t told s g d kind f is h goes so)
+  before_built s g d kind (First f) is so h goes = begun_built g d (typed_by t s kind f) (kind_yields P told s g d kind f is h goes so)
   before_built s g d kind (Behind o) is so h far =
       let same : base t s ≡ base t far.0 = based far.0 (subst (λ a. suits t s a ≡ true) far.1 so) in
       subst (λ g. IsThere (IsBuilt g d) o) (same_Some far.2.0 g (sym far.2.1 ∙ sym (ap (base_at t) same) ∙ is)) far.2.2
@@ -537,24 +498,24 @@ module _ (t : Table) (told : IsTold t) where
       based : (r : ℕ) → suits t s (k.Of r) ≡ true → base t s ≡ base t r
       based r h = same_sort (base t s) (base t r) h
 
-  operated_built : (o : TwoOp) (g : RBase) (a c d : ℕ) (x : Option Built) (y : Option RExpr) → takes_two o (base_view g) ≡ true → a ≤ d → 1 + c ≤ d → IsThere (IsBuilt g a) x → IsThere (Yields (right_base o g) c) y → IsThere (IsBuilt (result_base o g) d) (operated o x y)
+  operated_built : (o : TwoOp) (g : RBase) (a c d : ℕ) (x : Option Built) (y : Option RExpr) → takes_two o (base_view g) ≡ true → a ≤ d → 1 + c ≤ d → IsThere (IsBuilt g a) x → IsThere (Yields P (right_base o g) c) y → IsThere (IsBuilt (result_base o g) d) (operated o x y)
   operated_built o g a c d None y takes h j p q = p
   operated_built o g a c d (Some x) None takes h j p q = q
   operated_built o g a c d (Some x) (Some y) takes h j p q =
-      let more : whole_chain (with_operation o x y) ≡ two_of o (whole_chain x) (expression_of y) = chained_more (expression_of x.begin) x.operations o y in
-      let right : same_kind (value_kind y) (base_view (right_base o x.base)) ≡ true = (λ l. same_kind (q.0 l) (base_view (right_base o (p.0 l)))) ∙ same_base (right_base o g) in
-      kept_if (IsBuilt (result_base o g) d) (takes_operand o x.base y) (with_operation o x y) (both _ _ (ap (λ g. takes_two o (base_view g)) p.0 ∙ takes) right) (
-        ap (result_base o) p.0,
-        ap kind_of more ∙ two_kind o g (whole_chain x) (expression_of y) takes p.1,
-        subst (λ n. n ≤ d + 1) (sym (ap depth more ∙ two_depth o (whole_chain x) (expression_of y))) (at_most (depth (whole_chain x)) (depth (expression_of y)) p.2 q.1),
+      let before : Expression = expression_of (e.Chain x.begin x.operations) in
+      let more : expression_of (e.Chain x.begin (x.operations ++ operation o y ∷ [])) ≡ two_of o before (expression_of y) =
+      chain_is x.begin (x.operations ++ operation o y ∷ []) ∙ chained_more (expression_of x.begin) x.operations o y ∙ ap (λ a. two_of o a (expression_of y)) (sym (chain_is x.begin x.operations)) in (
+        ap kind_of more ∙ two_kind o g before (expression_of y) takes p.0,
+        subst (λ n. n ≤ d + 1) (sym (ap depth more ∙ two_depth o before (expression_of y))) (at_most (depth before) (depth (expression_of y)) p.1 q.1),
+        P.chain o x.begin x.operations g y p.0 takes (q.0 ∙ right_is o g) p.2 q.2,
       )
     where
       at_most : (m n : ℕ) → m ≤ a + 1 → n ≤ c + 1 → max m (1 + n) ≤ d + 1
       at_most m n u v = omega (arith, h, j)
 
-  chained_told : (o : TwoOp) (a : Chained) (c : Found) (d : ℕ) (kind : Kind) → ChainTold a → IsFound t c → IsRaised a.depth 1 c.depth d → GivenTold t (TwoTold o a.kind c.kind) kind → ChainTold (two_chained (behind t o a c) kind d)
+  chained_told : (o : TwoOp) (a : Chained) (c : Found) (d : ℕ) (kind : Kind) → ChainTold a → IsFound P c → IsRaised a.depth 1 c.depth d → GivenTold t (TwoTold t told o a.kind c.kind) kind → ChainTold (two_chained (behind t o a c) kind d)
   chained_told o a c d (k.Of s) h j r g = record {
-    kind = lies_so s (result_base o g.left) g.result;
+    kind = lies_so t told s (result_base o g.left) g.result;
     so_far = (
       s,
       refl,
@@ -563,7 +524,7 @@ module _ (t : Table) (told : IsTold t) where
         g.result,
         operated_built o g.left a.depth c.depth d _ _ g.takes r.left r.right
             (before_built (left_type t o a.kind c.kind) g.left a.depth a.kind a.so_far g.left_is g.left_suits h.kind h.so_far)
-            (suits_yields t told (operand_type t o a.kind c.kind) (right_base o g.left) c g.right_is j g.right_suits),
+            (suits_yields P told (operand_type t o a.kind c.kind) (right_base o g.left) c g.right_is j g.right_suits),
       ),
     );
     some = omega (arith, h.some, r.left);
@@ -576,31 +537,28 @@ module _ (t : Table) (told : IsTold t) where
   chained_told o a c d (k.Open s) h j r g = absurd g
   chained_told o a c d (k.Routine s) h j r g = absurd g
 
-  pub two_node_right : (p : Place) (o : TwoOp) (at : Place) (a : Option Chained) (c : Option Found) → IsThere ChainTold a → IsThere (IsFound t) c → Right (IsThere ChainTold) (two_node t p o at a c)
+  pub two_node_right : (p : Place) (o : TwoOp) (at : Place) (a : Option Chained) (c : Option Found) → IsThere ChainTold a → IsThere (IsFound P) c → Right (IsThere ChainTold) (two_node t p o at a c)
   unfolding two_applied
   two_node_right p o at None c h j clear = h
   two_node_right p o at (Some a) None h j clear = j
   two_node_right p o at (Some a) (Some c) h j clear =
       let r = raised_is a.depth 1 c.depth clear.0 in
-      by r.0 r.1 r.2 (two t o a.kind c.kind) refl (two_told o a.kind c.kind h.kind j.kind) clear.1.0 clear.1.1.0
+      by r.0 r.1 r.2 (two t o a.kind c.kind) refl (two_told t told o a.kind c.kind h.kind j.kind) clear.1.0 clear.1.1.0
     where
-      by : (d : ℕ) → raised a.depth 1 c.depth ≡ Some d → IsRaised a.depth 1 c.depth d → (x : Applied) → two t o a.kind c.kind ≡ x → AppliedTold t (TwoTold o a.kind c.kind) x → Operations.is_refused x ≡ false → Operations.is_outside x ≡ false
+      by : (d : ℕ) → raised a.depth 1 c.depth ≡ Some d → IsRaised a.depth 1 c.depth d → (x : Applied) → two t o a.kind c.kind ≡ x → AppliedTold t (TwoTold t told o a.kind c.kind) x → Operations.is_refused x ≡ false → Operations.is_outside x ≡ false
           → IsThere ChainTold (two_value (behind t o a c) x (raised a.depth 1 c.depth))
       by d deep r Refused is g u v = absurd (true≢false u)
       by d deep r Outside is g u v = absurd (true≢false v)
       by d deep r (Gives kind) is g u v = subst (λ n. IsThere ChainTold (two_given (behind t o a c) kind n)) (sym deep) (chained_told o a c d kind h j r g)
 
-  chain_form_goes : (s : ℕ) (g : RBase) (d : ℕ) (o : Option Built) → base_at t (base t s) ≡ Some g → IsThere (IsBuilt g d) o → GoesWith t d (k.Of s) (whole_form (Behind o))
-  chain_form_goes s g d None is h = h
-  chain_form_goes s g d (Some x) is h =
-      let j = has_kind t told s g is in
-      let whole = chain_is x.begin x.operations in
-      (j.0, j.1, ap kind_of whole ∙ h.1 ∙ sym (ap base_view j.2), subst (λ a. depth a ≤ d + 1) (sym whole) h.2)
-
-  whole_goes : (d : ℕ) (kind : Kind) (x : SoFar) → SoFarTold d kind x → GoesWith t d kind (whole_form x)
+  whole_goes : (d : ℕ) (kind : Kind) (x : SoFar) → SoFarTold d kind x → GoesWith P d kind (whole_form x)
   whole_goes d kind (First f) h = h
-  whole_goes d kind (Behind o) h = subst (λ kind. GoesWith t d kind (whole_form (Behind o))) (sym h.1) (chain_form_goes h.0 h.2.0 d o h.2.1 h.2.2)
+  whole_goes d kind (Behind o) h = subst (λ kind. GoesWith P d kind (whole_form (Behind o))) (sym h.1) (by o h.2.2)
+    where
+      by : (o : Option Built) → IsThere (IsBuilt h.2.0 d) o → GoesWith P d (k.Of h.0) (whole_form (Behind o))
+      by None j = j
+      by (Some x) j = value_goes h.0 h.2.0 d (e.Chain x.begin x.operations) h.2.1 j
 
-  pub chain_right : (p : Place) (a : Option Chained) → IsThere ChainTold a → IsThere (IsFound t) (chain_found p a)
+  pub chain_right : (p : Place) (a : Option Chained) → IsThere ChainTold a → IsThere (IsFound P) (chain_found p a)
   chain_right p None h = h
   chain_right p (Some a) h = record { kind = h.kind; form = whole_goes a.depth a.kind a.so_far h.so_far; place = tt; some = h.some; few = h.few }

@@ -1,59 +1,30 @@
 -- What designators reach is told, and so is what is used of it.
-use Rattle.std.proofs.Common.{◌≡◌, ℕ, ◌+◌, ◌≤◌, Bool, true, false, not, ◌&&◌, [], slice_get, Option, Some, None, if◌then◌else◌, refl, sym, ap, subst, ◌∙◌, arith, true≢false}
+use Rattle.std.proofs.Common.{◌≡◌, ℕ, ◌+◌, ◌≤◌, Bool, true, false, not, ◌&&◌, List, [], slice_get, Option, Some, None, if◌then◌else◌, refl, sym, ap, subst, ◌∙◌, arith, true≢false}
 use Rattle.std.specs.Prelude.{◌==◌, max, is_none}
-use Rattle.lil_base.specs.declared.fault.Place.{Place}
-use Rattle.lil_base.specs.declared.fault.FaultKind.{FaultKind}
-use Rattle.lil_base.specs.declared.fault.FaultKind.TheVariants.{NotRecord, NotPointer}
+use Rattle.lil_base.specs.declared.fault.{Place.Place, FaultKind.{FaultKind, TheVariants.{NotRecord, NotPointer}}}
 use Rattle.lil_text.specs.declared.tree.Ident.{Ident}
 use Rattle.lil_types.specs.Types.{Table}
-use Rattle.lil_scope.specs.Built.{built}
-use Rattle.lil_scope.specs.Names.{member}
-use Rattle.lil_scope.specs.declared.env.Env.{Env}
+use Rattle.lil_declared.specs.declared.declared.RVar.{RVar}
+use Rattle.lil_scope.specs.{Built.built, Names.member, declared.{env.Env.Env, thing.{Thing.Thing, Variable.Variable}}}
 use Rattle.lil_scope.specs.declared.thing.Kind.TheVariants as k
-use Rattle.lil_scope.specs.declared.thing.Thing.{Thing}
 use Rattle.lil_scope.specs.declared.thing.Thing.TheVariants as t
-use Rattle.lil_scope.specs.declared.thing.Variable.{Variable}
-use Rattle.lil_kinds.specs.Forms.{array_parts, field, is_record, target}
-use Rattle.lil_kinds.specs.Kinds.{assignable, misses}
+use Rattle.lil_kinds.specs.{Forms.{array_parts, field, is_record, target}, Kinds.{assignable, misses}, declared.{forms.FieldAt.FieldAt, found.{Found.Found, Located.Located, Standing.Standing}}}
 use Rattle.lil_kinds.specs.declared.forms.ArrayParts as checked
-use Rattle.lil_kinds.specs.declared.forms.FieldAt.{FieldAt}
-use Rattle.lil_kinds.specs.declared.found.Found.{Found}
-use Rattle.lil_kinds.specs.declared.found.Located.{Located}
-use Rattle.lil_kinds.specs.declared.found.Standing.{Standing}
 use Rattle.lil_kinds.specs.declared.found.Standing.TheVariants as standing
-use Rattle.lil_resolved.specs.Kinds.{takes_value}
-use Rattle.lil_resolved.specs.Sizes.{place_depth, depth}
-use Rattle.lil_resolved.specs.Views.{kind_view, expression_of, place_of, root_view, field_is as field_view, index_is, follow_is}
-use Rattle.lil_resolved.specs.declared.resolved.RExpr.{RExpr}
-use Rattle.lil_resolved.specs.declared.resolved.RKind.{RKind}
-use Rattle.lil_resolved.specs.declared.resolved.RPlace.{RPlace}
-use Rattle.lil_resolved.specs.declared.resolved.RRoot.{RRoot}
+use Rattle.lil_resolved.specs.{Sizes.{place_depth, depth}, Views.{expression_of, place_of, root_view, field_is as field_view, index_is, follow_is}, declared.resolved.{RExpr.RExpr, RKind.RKind, RPlace.RPlace, RRoot.RRoot}}
 use Rattle.lil_resolved.specs.declared.resolved.RRoot.TheVariants as root
 use Rattle.lil_resolved.specs.declared.resolved.RSelector.TheVariants as part
-use Rattle.lil_shapes.specs.Bases.{kind_at, array_at, field_at}
-use Rattle.lil_shapes.specs.Pointers.{lies_at, target_with, target_by}
-use Rattle.lil_forms.specs.Parts.{placed_is, further_is}
+use Rattle.lil_shapes.specs.{Bases.{kind_at, array_at, field_at}, Pointers.{lies_at, target_at, target_with, target_by}}
+use Rattle.lil_forms.specs.{Parts.{placed_is, further_is}, Places.{at_root, further, variable_at, held_at, element_as, element_by}, Properties.Property, Values.typed}
 use Rattle.lil_forms.specs.Places as places
-use Rattle.lil_forms.specs.Places.{at_root, further, variable_at, held_at, element_as, element_by}
-use Rattle.lil_forms.specs.Values.{value_kind, typed}
 use Rattle.lil_call.specs.declared.call.Argument.TheVariants as argument
 use Rattle.lil_operators.specs.Operations.{raised}
-use Rattle.lil_check_value.specs.declared.designators.Named.{Named}
-use Rattle.lil_check_value.specs.declared.designators.Part.{Part}
-use Rattle.lil_check_value.specs.declared.designators.Reached.{Reached}
-use Rattle.lil_check_value.specs.declared.designators.Reached.TheVariants as reached
-use Rattle.lil_check_value.specs.declared.names.Looked.{Looked}
-use Rattle.lil_check_value.specs.declared.names.Looked.TheVariants.{Nothing, Field, Thing as Declared}
-use Rattle.lil_check_value.specs.Looks.{look, looked_as, is_hidden_thing}
+use Rattle.lil_check_value.specs.{declared.{designators.{Named.Named, Part.Part, Reached.Reached}, names.Looked.{Looked, TheVariants.{Nothing, Field, Thing as Declared}}}, Looks.{look, looked_as, is_hidden_thing}}
 use Rattle.lil_check_value.specs.Designators.{variable_place, kind_by, whole_part, thing_reached, held_field, name_node, root_means, is_misplaced, refused_rows, record_kind, field_of, field_found, field_value, part_field, module_block, other_field_by, other_field, field_node, parts_of, with_index, index_fits, element_found, element_value, index_rows, part_index, other_index, index_node, opaque_kind, target_of, target_found, target_value, part_follow, other_follow, follow_node, located_form, part_found, no_value, text_form, thing_found, named_value, value_node, variable_node, part_callee, thing_callee, callee_node, type_in, no_type_in, part_typed, typed_node}
+use Rattle.lil_check_value.specs.declared.designators.Reached.TheVariants as reached
 use Rattle.lil_right_call.specs.Told.{ArgumentTold, CalleeTold}
-use Rattle.lil_right_type.specs.Found.{KindTold, GoesWith, IsLocated, HasPlace, IsFound, ThingTold, EnvTold}
-use Rattle.lil_right_type.specs.Parts.{IsArray, IsPointer, array_is, field_is, target_is, never_opaque}
-use Rattle.lil_right_type.specs.Right.{Clear, Right, IsThere, is_so}
-use Rattle.lil_right_type.specs.Typed.{Suits, kept_if, assignable_stores, stores_suits}
-use Rattle.lil_right_type.specs.Types.{IsOrdinal, known_ordinal}
-use Rattle.lil_right_value.specs.Names.{LookTold, look_told, looked_told, member_told}
-use Rattle.lil_right_value.specs.Operators.{IsRaised, raised_is}
+use Rattle.lil_right_type.specs.{Found.{KindTold, LiesAt, GoesWith, bare, IsLocated, HasPlace, IsFound, ThingTold, EnvTold}, Parts.{IsArray, IsPointer, array_is, field_is, target_is, never_opaque}, Right.{Clear, Right, IsThere, is_so}, Typed.{Suits, kept_if, assignable_stores, stores_suits}, Types.{IsOrdinal, known_ordinal}}
+use Rattle.lil_right_value.specs.{Names.{LookTold, look_told, looked_told, member_told}, Operators.{IsRaised, raised_is}}
 
 -- ---- depths of places
 root_depth : (r : RRoot) (s : ℕ) → place_depth (place_of (at_root r s).place) ≡ 1
@@ -72,25 +43,21 @@ follow_depth p n = ap place_depth (further_is p (part.Follow n) ∙ follow_is n 
 index_depth : (p : RPlace) (j : RKind) (x : RExpr) → place_depth (place_of (further p (part.Index j x))) ≡ max (place_depth (place_of p)) (2 + depth (expression_of x))
 index_depth p j x = ap place_depth (further_is p (part.Index j x) ∙ index_is j x (place_of p))
 
--- a place of a type, to which so many words lead, or one more
-abbrev pub LiesAt : ℕ → ℕ → Located → Type 0
-LiesAt s d p = (p.sort ≡ s) × (place_depth (place_of p.place) ≤ d + 1)
-
 -- the place of a variable, or of a part of one, of a type
-pub record PartTold (t : Table) (a : Part) : Type 0 where
+pub record PartTold {t : Table} {vs : List RVar} {around : List ℕ} (P : Property t vs around) (a : Part) : Type 0 where
   pub sort : ℕ
   pub is : a.kind ≡ k.Of sort
   pub lies : lies_at t sort ≡ true
-  pub place : IsThere (LiesAt sort a.depth) a.place
+  pub place : IsThere (LiesAt P sort a.depth) a.place
   pub some : 1 ≤ a.depth
   pub few : a.depth ≤ 12
 
 -- what is used of it
-part_told : (t : Table) (a : Part) → PartTold t a → IsFound t (part_found a) × IsLocated (located_form a.place)
-part_told t a h = (
+part_told : {t : Table} {vs : List RVar} {around : List ℕ} (P : Property t vs around) (a : Part) → PartTold P a → IsFound P (part_found a) × IsLocated (located_form a.place)
+part_told {t} P a h = (
   record {
     kind = subst (KindTold t) (sym h.is) h.lies;
-    form = subst (λ kind. GoesWith t a.depth kind (located_form a.place)) (sym h.is) (goes a.place h.place);
+    form = subst (λ kind. GoesWith P a.depth kind (located_form a.place)) (sym h.is) (goes a.place h.place);
     place = subst (λ kind. HasPlace a.standing kind (located_form a.place)) (sym h.is) (stands a.standing (located a.place h.place));
     some = h.some;
     few = h.few;
@@ -98,11 +65,11 @@ part_told t a h = (
   located a.place h.place,
 )
   where
-    goes : (o : Option Located) → IsThere (LiesAt h.sort a.depth) o → GoesWith t a.depth (k.Of h.sort) (located_form o)
+    goes : (o : Option Located) → IsThere (LiesAt P h.sort a.depth) o → GoesWith P a.depth (k.Of h.sort) (located_form o)
     goes None j = j
     goes (Some p) j = j
 
-    located : (o : Option Located) → IsThere (LiesAt h.sort a.depth) o → IsLocated (located_form o)
+    located : (o : Option Located) → IsThere (LiesAt P h.sort a.depth) o → IsLocated (located_form o)
     located None j = j
     located (Some p) j = tt
 
@@ -118,24 +85,24 @@ is_other t.Hidden = false
 is_other t.Broken = false
 is_other _ = true
 
-module _ (e : Env) (told : EnvTold e) where
+module _ (e : Env) (P : Property e.types e.variables e.withs) (told : EnvTold e) where
   abbrev pub NamedTold : Thing → Type 0
   NamedTold x = ThingTold e.types e.variables e.texts x × (built x ≡ true) × (is_other x ≡ true)
 
   abbrev pub ReachedTold : Reached → Type 0
-  ReachedTold (reached.Part a) = PartTold e.types a
+  ReachedTold (reached.Part a) = PartTold P a
   ReachedTold (reached.Other o) = NamedTold o.thing
 
   -- ---- names
-  whole_told : (p q : Place) (o : Option Located) (s : ℕ) → lies_at e.types s ≡ true → IsThere (LiesAt s 1) o → PartTold e.types (whole_part p q o (k.Of s))
+  whole_told : (p q : Place) (o : Option Located) (s : ℕ) → lies_at e.types s ≡ true → IsThere (LiesAt P s 1) o → PartTold P (whole_part p q o (k.Of s))
   whole_told p q o s lies h = record { sort = s; is = refl; lies = lies; place = h; some = omega arith; few = omega arith }
 
   variable_told : (p q : Place) (v : Variable) → ThingTold e.types e.variables e.texts (t.Variable v) → IsThere ReachedTold (thing_reached e p q (t.Variable v))
   variable_told p q v h =
-      subst (λ mode. PartTold e.types (whole_part p q (variable_place e v) (kind_by mode v.sort))) (sym h.1)
+      subst (λ mode. PartTold P (whole_part p q (variable_place e v) (kind_by mode v.sort))) (sym h.1)
       (whole_told p q (variable_place e v) v.sort h.3
-      (subst (λ level. IsThere (LiesAt v.sort 1) (if level == 1 then variable_at e.variables v.number else None)) (sym h.0)
-      (subst (λ o. IsThere (LiesAt v.sort 1) (places.variable_by v.number o)) (sym h.2.1) (h.2.2, at_most (root_depth (root.Variable v.number) h.2.0.sort)))))
+      (subst (λ level. IsThere (LiesAt P v.sort 1) (if level == 1 then variable_at e.variables v.number else None)) (sym h.0)
+      (subst (λ o. IsThere (LiesAt P v.sort 1) (places.variable_by v.number o)) (sym h.2.1) record { sort = h.2.2; deep = at_most (root_depth (root.Variable v.number) h.2.0.sort); good = P.variable v.number h.2.0 h.2.1 })))
     where
       at_most : {n : ℕ} → n ≡ 1 → n ≤ 1 + 1
       at_most is = omega (arith, is)
@@ -153,13 +120,14 @@ module _ (e : Env) (told : EnvTold e) where
   named_told p q (t.Standard x) h is seen = (h, is, refl)
   named_told p q (t.Module n) h is seen = (h, is, refl)
 
-  field_told : (s d i f : ℕ) (o : Option Located) → field_at e.types s i ≡ Some f → IsThere (LiesAt s d) o → IsThere (LiesAt f d) (places.field_of e.types i o)
+  field_told : (s d i f : ℕ) (o : Option Located) → field_at e.types s i ≡ Some f → IsThere (LiesAt P s d) o → IsThere (LiesAt P f d) (places.field_of e.types i o)
   field_told s d i f None at h = h
   field_told s d i f (Some p) at h =
-      subst (λ o. IsThere (LiesAt f d) (places.field_by i p o)) (sym (ap (λ s. field_at e.types s i) h.0 ∙ at)) (refl, subst (λ n. n ≤ d + 1) (sym (field_depth p.place i)) h.1)
+      subst (λ o. IsThere (LiesAt P f d) (places.field_by i p o)) (sym (ap (λ s. field_at e.types s i) h.sort ∙ at))
+      (record { sort = refl; deep = subst (λ n. n ≤ d + 1) (sym (field_depth p.place i)) h.deep; good = P.field p i f (ap (λ s. field_at e.types s i) h.sort ∙ at) h.good })
 
-  held_told : (w r : ℕ) → slice_get e.withs w ≡ Some r → IsThere (LiesAt r 1) (held_at e.withs w)
-  held_told w r at = subst (λ o. IsThere (LiesAt r 1) (places.held_by e.withs w o)) (sym at) (refl, at_most (root_depth (root.Held _) r))
+  held_told : (w r : ℕ) → slice_get e.withs w ≡ Some r → IsThere (LiesAt P r 1) (held_at e.withs w)
+  held_told w r at = subst (λ o. IsThere (LiesAt P r 1) (places.held_by e.withs w o)) (sym at) (record { sort = refl; deep = at_most (root_depth (root.Held _) r); good = P.held w r at })
     where
       at_most : {n : ℕ} → n ≡ 1 → n ≤ 1 + 1
       at_most is = omega (arith, is)
@@ -174,7 +142,7 @@ module _ (e : Env) (told : EnvTold e) where
   root_right p x = name_right p x.place x.place (look e x.name) (look_told e told x.name)
 
   -- ---- fields
-  part_field_right : (dot : Place) (x : Ident) (a : Part) → PartTold e.types a → Right (IsThere ReachedTold) (part_field e.types dot x a)
+  part_field_right : (dot : Place) (x : Ident) (a : Part) → PartTold P a → Right (IsThere ReachedTold) (part_field e.types dot x a)
   unfolding part_field
   part_field_right dot x a h clear = by (field e.types h.sort x.name) refl (ap (λ kind. record_kind e.types kind) (sym h.is) ∙ is_so (record_kind e.types a.kind) clear.0) clear.1.0
     where
@@ -211,23 +179,29 @@ module _ (e : Env) (told : EnvTold e) where
   field_right dot x (Some (reached.Other o)) h clear = other_field_right dot x o h clear
 
   -- ---- elements
-  element_told : (s d r : ℕ) (i : Found) (p : checked.ArrayParts) (o : Option Located) → IsArray e.types s p → IsFound e.types i → IsRaised d 2 i.depth r → assignable e.types p.index i.kind ≡ true → misses e.types p.index i.kind ≡ false
-      → IsThere (LiesAt s d) o → IsThere (LiesAt p.element r) (places.element_of e.types i o)
+  element_told : (s d r : ℕ) (i : Found) (p : checked.ArrayParts) (o : Option Located) → IsArray e.types s p → IsFound P i → IsRaised d 2 i.depth r → assignable e.types p.index i.kind ≡ true → misses e.types p.index i.kind ≡ false
+      → IsThere (LiesAt P s d) o → IsThere (LiesAt P p.element r) (places.element_of e.types i o)
   element_told s d r i p None g j deep so out h = h
   element_told s d r i p (Some q) g j deep so out h =
       let o : IsOrdinal e.types p.index g.span.0 = known_ordinal e.types told.types p.index g.span.0 g.span.1 in
-      subst (λ a. IsThere (LiesAt p.element r) (element_by e.types i q a)) (sym (ap (array_at e.types) h.0 ∙ g.at))
-      (subst (λ j. IsThere (LiesAt p.element r) (element_as q p.element j (typed e.types p.index i))) (sym o.at)
-      (chosen o.kind (typed e.types p.index i) (stores_suits o.kind i.depth _ o.ordinal (assignable_stores e.types told.types p.index o.kind i o.at j so out))))
+      let at : array_at e.types q.sort ≡ Some _ = ap (array_at e.types) h.sort ∙ g.at in
+      subst (λ a. IsThere (LiesAt P p.element r) (element_by e.types i q a)) (sym at)
+      (subst (λ j. IsThere (LiesAt P p.element r) (element_as q p.element j (typed e.types p.index i))) (sym o.at)
+      (chosen o.kind (typed e.types p.index i) at o.at (stores_suits P o.kind i.depth _ o.ordinal (assignable_stores P told.types p.index o.kind i o.at j so out))))
     where
       deeper : (m n : ℕ) → m ≤ d + 1 → n ≤ i.depth + 1 → max m (2 + n) ≤ r + 1
       deeper m n u v = omega (arith, deep.left, deep.right)
 
-      chosen : (j : RKind) (x : Option RExpr) → IsThere (Suits j i.depth) x → IsThere (LiesAt p.element r) (element_as q p.element (Some j) x)
-      chosen j None y = y
-      chosen j (Some x) y = kept_if (LiesAt p.element r) (takes_value (kind_view j) (value_kind x)) _ y.0 (refl, subst (λ n. n ≤ r + 1) (sym (index_depth q.place j x)) (deeper (place_depth (place_of q.place)) (depth (expression_of x)) h.1 y.1))
+      chosen : (j : RKind) (x : Option RExpr) → array_at e.types q.sort ≡ Some (record { index = p.index; element = p.element }) → kind_at e.types p.index ≡ Some j → IsThere (Suits P j i.depth) x
+          → IsThere (LiesAt P p.element r) (element_as q p.element (Some j) x)
+      chosen j None at kind y = y
+      chosen j (Some x) at kind y = record {
+        sort = refl;
+        deep = subst (λ n. n ≤ r + 1) (sym (index_depth q.place j x)) (deeper (place_depth (place_of q.place)) (depth (expression_of x)) h.deep y.1);
+        good = P.index q _ j x at kind y.0 h.good y.2;
+      }
 
-  part_index_right : (bracket : Place) (a : Part) (i : Found) → PartTold e.types a → IsFound e.types i → Right (IsThere ReachedTold) (part_index e.types bracket a i)
+  part_index_right : (bracket : Place) (a : Part) (i : Found) → PartTold P a → IsFound P i → Right (IsThere ReachedTold) (part_index e.types bracket a i)
   unfolding part_index
   part_index_right bracket a i h j clear = by (array_parts e.types h.sort) refl clear.1
     where
@@ -260,7 +234,7 @@ module _ (e : Env) (told : EnvTold e) where
       both true h j = true≢false h
       both false h j = true≢false j
 
-  pub index_right : (bracket : Place) (o : Option Reached) (i : Option Found) → IsThere ReachedTold o → IsThere (IsFound e.types) i → Right (IsThere ReachedTold) (index_node e.types bracket o i)
+  pub index_right : (bracket : Place) (o : Option Reached) (i : Option Found) → IsThere ReachedTold o → IsThere (IsFound P) i → Right (IsThere ReachedTold) (index_node e.types bracket o i)
   index_right bracket None i h j clear = h
   index_right bracket (Some (reached.Part a)) None h j clear = j
   index_right bracket (Some (reached.Other o)) None h j clear = absurd j
@@ -268,14 +242,14 @@ module _ (e : Env) (told : EnvTold e) where
   index_right bracket (Some (reached.Other o)) (Some i) h j clear = other_index_right bracket o i clear
 
   -- ---- what a pointer points to
-  pointed_told : (s d m : ℕ) (o : Option Located) → IsPointer e.types s m → IsThere (LiesAt s d) o → IsThere (LiesAt m d) (places.target_of e.types o)
+  pointed_told : (s d m : ℕ) (o : Option Located) → IsPointer e.types s m → IsThere (LiesAt P s d) o → IsThere (LiesAt P m d) (places.target_of e.types o)
   pointed_told s d m None g h = h
   pointed_told s d m (Some p) g h =
-      subst (λ o. IsThere (LiesAt m d) (places.target_by p (target_by e.types o))) (sym (ap (kind_at e.types) h.0 ∙ g.kind))
-      (subst (λ o. IsThere (LiesAt m d) (places.target_by p (target_with e.types s o))) (sym g.pointed)
-      (subst (λ c. IsThere (LiesAt m d) (places.target_by p (if c then Some (record { pointer = s; sort = m }) else None))) (sym g.target) (refl, subst (λ n. n ≤ d + 1) (sym (follow_depth p.place s)) h.1)))
+      let at : target_at e.types p.sort ≡ Some (record { pointer = s; sort = m }) =
+      ap (target_by e.types) (ap (kind_at e.types) h.sort ∙ g.kind) ∙ ap (target_with e.types s) g.pointed ∙ ap (λ c. if c then Some (record { pointer = s; sort = m }) else None) g.target in
+      subst (λ o. IsThere (LiesAt P m d) (places.target_by p o)) (sym at) (record { sort = refl; deep = subst (λ n. n ≤ d + 1) (sym (follow_depth p.place s)) h.deep; good = P.follow p _ at h.good })
 
-  part_follow_right : (arrow : Place) (a : Part) → PartTold e.types a → Right (IsThere ReachedTold) (part_follow e.types arrow a)
+  part_follow_right : (arrow : Place) (a : Part) → PartTold P a → Right (IsThere ReachedTold) (part_follow e.types arrow a)
   unfolding part_follow
   part_follow_right arrow a h clear = by (target e.types h.sort) refl clear.1.0
     where
@@ -300,13 +274,13 @@ module _ (e : Env) (told : EnvTold e) where
   follow_right arrow (Some (reached.Other o)) h clear = refused o arrow NotPointer clear
 
   -- ---- uses
-  thing_right : (o : Named) → NamedTold o.thing → Right (IsThere (IsFound e.types)) (named_value e.texts o)
+  thing_right : (o : Named) → NamedTold o.thing → Right (IsThere (IsFound P)) (named_value e.texts o)
   unfolding named_value
   thing_right o h clear = by o.thing h clear.0 clear.1.0
     where
-      by : (x : Thing) → NamedTold x → is_misplaced x ≡ false → no_value x ≡ false → IsThere (IsFound e.types) (thing_found e.texts o.first x)
-      by (t.Constant kind) h c d = record { kind = h.0.0; form = h.0.1; place = tt; some = omega arith; few = omega arith }
-      by (t.Named n chars) h c d = record { kind = h.0.0; form = subst (λ o. GoesWith e.types 1 (k.Chars chars) (text_form o)) (sym h.0.1.1) h.0.1.2; place = tt; some = omega arith; few = omega arith }
+      by : (x : Thing) → NamedTold x → is_misplaced x ≡ false → no_value x ≡ false → IsThere (IsFound P) (thing_found e.texts o.first x)
+      by (t.Constant kind) h c d = record { kind = h.0.0; form = bare P 1 kind _ h.0.1; place = tt; some = omega arith; few = omega arith }
+      by (t.Named n chars) h c d = record { kind = h.0.0; form = subst (λ o. GoesWith P 1 (k.Chars chars) (text_form o)) (sym h.0.1.1) h.0.1.2; place = tt; some = omega arith; few = omega arith }
       by t.Nil h c d = record { kind = tt; form = tt; place = tt; some = omega arith; few = omega arith }
       by (t.Variable v) h c d = absurd (true≢false (sym h.2))
       by (t.Type s) h c d = absurd (true≢false c)
@@ -317,14 +291,14 @@ module _ (e : Env) (told : EnvTold e) where
       by t.Hidden h c d = absurd (true≢false (sym h.2))
       by t.Broken h c d = absurd h.0
 
-  pub value_right : (o : Option Reached) → IsThere ReachedTold o → Right (IsThere (IsFound e.types)) (value_node e.texts o)
+  pub value_right : (o : Option Reached) → IsThere ReachedTold o → Right (IsThere (IsFound P)) (value_node e.texts o)
   value_right None h clear = h
-  value_right (Some (reached.Part a)) h clear = (part_told e.types a h).0
+  value_right (Some (reached.Part a)) h clear = (part_told P a h).0
   value_right (Some (reached.Other o)) h clear = thing_right o h clear
 
-  pub variable_right : (o : Option Reached) → IsThere ReachedTold o → Right (IsThere (λ a. IsFound e.types a × IsLocated a.form)) (variable_node o)
+  pub variable_right : (o : Option Reached) → IsThere ReachedTold o → Right (IsThere (λ a. IsFound P a × IsLocated a.form)) (variable_node o)
   variable_right None h clear = h
-  variable_right (Some (reached.Part a)) h clear = part_told e.types a h
+  variable_right (Some (reached.Part a)) h clear = part_told P a h
   variable_right (Some (reached.Other o)) h clear = absurd (true≢false clear.0)
 
   callee_told : (x : Thing) → NamedTold x → is_misplaced x ≡ false → IsThere (CalleeTold e.types) (thing_callee x)
@@ -345,7 +319,7 @@ module _ (e : Env) (told : EnvTold e) where
   called_right (Some (reached.Part a)) h clear = subst (λ kind. CalleeTold e.types (part_callee kind a)) (sym h.is) h.lies
   called_right (Some (reached.Other o)) h clear = callee_told o.thing h clear.0
 
-  type_told : (p : Place) (x : Thing) → NamedTold x → no_type_in x ≡ false → ArgumentTold e.types (argument.Type p (type_in x))
+  type_told : (p : Place) (x : Thing) → NamedTold x → no_type_in x ≡ false → ArgumentTold P (argument.Type p (type_in x))
   type_told p (t.Type s) h c = h.0 h.1
   type_told p (t.Constant kind) h c = absurd (true≢false c)
   type_told p (t.Named n chars) h c = absurd (true≢false c)
@@ -358,11 +332,11 @@ module _ (e : Env) (told : EnvTold e) where
   type_told p t.Hidden h c = absurd (true≢false c)
   type_told p t.Broken h c = absurd (true≢false c)
 
-  pub typed_right : (p : Place) (o : Option Reached) → IsThere ReachedTold o → Right (ArgumentTold e.types) (typed_node p o)
+  pub typed_right : (p : Place) (o : Option Reached) → IsThere ReachedTold o → Right (ArgumentTold P) (typed_node p o)
   typed_right p None h clear = h
   typed_right p (Some (reached.Part a)) h clear = by a.is_whole clear
     where
-      by : (c : Bool) → Right (ArgumentTold e.types) (part_typed c p a)
+      by : (c : Bool) → Right (ArgumentTold P) (part_typed c p a)
       by true clear = absurd (true≢false clear.0)
-      by false clear = (part_told e.types a h).0
+      by false clear = (part_told P a h).0
   typed_right p (Some (reached.Other o)) h clear = type_told p o.thing h clear.0

@@ -1,58 +1,36 @@
 -- Sets of told elements are told.
 use Rattle.std.proofs.Common.{◌≡◌, ℕ, ◌+◌, ◌≤◌, ◌<◌, Bool, true, false, not, ◌&&◌, List, [], ◌∷◌, ◌++◌, map, Option, Some, None, IfSome, if◌then◌else◌, refl, sym, ap, subst, ◌∙◌, arith, true≢false}
 use Rattle.std.specs.Prelude.{ℤ, pos, negsuc, ◌-◌, ◌^◌, ◌==◌, max, nat_lt, int_lt, is_none, bit_or}
-use Rattle.std.proofs.Math.Pow.{pow_mono, pow_pos}
-use Rattle.std.proofs.lemmas.Nat.{or_lt}
-use Rattle.std.proofs.lemmas.Int.{ints}
-use Rattle.std.proofs.lemmas.Option.{none-some, same_Some}
-use Rattle.lil_base.specs.Lists.{joined}
-use Rattle.lil_base.specs.declared.fault.Place.{Place}
+use Rattle.std.proofs.{Math.Pow.{pow_mono, pow_pos}, lemmas.{Nat.or_lt, Int.ints, Option.{none-some, same_Some}}}
+use Rattle.lil_base.specs.{Lists.joined, declared.fault.Place.Place}
 use Rattle.lil_text.specs.declared.tree.Qualident.{Qualident}
 use Rattle.lil_types.specs.Types.{Table, base, cardinal, bit_set}
+use Rattle.lil_declared.specs.declared.declared.RVar.{RVar}
 use Rattle.lil_report.specs.Told.{after, walk}
 use Rattle.lil_scope.specs.declared.env.Env.{Env}
 use Rattle.lil_scope.specs.declared.thing.Kind.TheVariants as k
-use Rattle.lil_kinds.specs.Forms.{set_base, shape, of_form, set_of as set_type_of}
+use Rattle.lil_kinds.specs.{Forms.{set_base, shape, of_form, set_of as set_type_of}, Kinds.{number, suits, compatible}, declared.found.Found.Found}
 use Rattle.lil_kinds.specs.declared.found.Form.TheVariants as form
-use Rattle.lil_kinds.specs.Kinds.{number, suits, compatible}
-use Rattle.lil_kinds.specs.declared.found.Found.{Found}
-use Rattle.lil_resolved.specs.Kinds.{OfSet, is_element}
+use Rattle.lil_resolved.specs.{Chains.set_kind, Kinds.{is_element, takes_value}, Resolved.Expression, Sizes.depth, Views.{kind_view, expression_of, member_of, with_members, empty_set, set_is, single_is, span_is}, declared.resolved.{RExpr.RExpr, RMember.RMember}}
 use Rattle.lil_resolved.specs.Kinds as kinds
-use Rattle.lil_resolved.specs.Resolved.{Expression, kind_of}
-use Rattle.lil_resolved.specs.Sizes.{depth}
-use Rattle.lil_resolved.specs.Views.{kind_view, expression_of, member_of, with_members, empty_set, set_is, single_is, span_is}
 use Rattle.lil_resolved.specs.declared.resolved.RBase.TheVariants as b
-use Rattle.lil_resolved.specs.declared.resolved.RExpr.{RExpr}
 use Rattle.lil_resolved.specs.declared.resolved.RExpr.TheVariants as e
-use Rattle.lil_resolved.specs.declared.resolved.RMember.{RMember}
 use Rattle.lil_resolved.specs.declared.resolved.RMember.TheVariants as m
-use Rattle.lil_shapes.specs.Bases.{base_at}
-use Rattle.lil_shapes.specs.declared.members.Members.{Members}
-use Rattle.lil_shapes.specs.ListLaws.{AllFine}
-use Rattle.lil_forms.specs.Values.{entered, single, span, single_by, span_by, set_by, set_form}
-use Rattle.lil_operators.specs.declared.sets.Bounds.{Bounds}
-use Rattle.lil_operators.specs.declared.sets.Elements.{Elements}
-use Rattle.lil_operators.specs.declared.sets.Operand.{Operand}
-use Rattle.lil_operators.specs.declared.sets.Tally.{Tally}
+use Rattle.lil_shapes.specs.{Bases.{base_at, members_at}, declared.members.Members.Members, ListLaws.AllFine}
+use Rattle.lil_forms.specs.{Properties.{Property, value_kind}, Values.{typed, single, span, single_by, span_by, set_by, set_form}}
+use Rattle.lil_operators.specs.declared.sets.{Bounds.Bounds, Elements.Elements, Operand.Operand, Tally.Tally}
 use Rattle.lil_operators.specs.Operations.{operand_of, with_element, no_elements, kinds_of, joined_one, joined_range, fits_base, operand_fits, operand_rows, span_word, is_member_number, member_number, members, with_members as with_word, deepened, no_tally, tally_by, bounds_node, set_found, set_given, set_end, elements_tally, set_node}
 use Rattle.lil_check_value.specs.Looks.{sort_node, set_sort}
-use Rattle.lil_right_type.specs.Folds.{word_set}
-use Rattle.lil_right_type.specs.Found.{KindTold, GoesWith, IsFound, EnvTold}
-use Rattle.lil_right_type.specs.Parts.{IsSet, set_is as set_type}
-use Rattle.lil_right_type.specs.Right.{Clear, Right, IsThere, clear_left, clear_right, is_so, after_right}
-use Rattle.lil_right_type.specs.Typed.{Suits, kept_if, suits_yields, yields_suits, fitting_suits}
-use Rattle.lil_right_type.specs.Types.{IsTold, meant_is}
-use Rattle.lil_right_value.specs.Names.{Lies, named_lies}
-use Rattle.lil_right_value.specs.Operators.{IsRaised, raised_is, lies_so, base_base, suits_below}
+use Rattle.lil_right_type.specs.{Folds.word_set, Found.{KindTold, GoesWith, IsFound, EnvTold}, Parts.{IsSet, set_is as set_type}, Right.{Clear, Right, IsThere, clear_left, clear_right, is_so, after_right}, Typed.{Suits, kept_if, suits_yields, yields_suits}, Types.{IsTold, meant_is}}
+use Rattle.lil_right_value.specs.{Names.{Lies, named_lies}, Operators.{IsRaised, raised_is, lies_so, base_base, suits_below}}
 
--- ---- members: each makes a set of a set, and deepens it by so many words
+-- ---- members: each deepens a set by so many words
 abbrev pub reach : Operand → Option Operand → ℕ
 reach a None = 1 + a.depth
 reach a (Some c) = max (1 + a.depth) (2 + c.depth)
 
-pub record Deepens (x : Bounds) (y : RMember) : Type 0 where
-  kind : (k : kinds.Kind) (s : Expression) → kind_of (member_of y k s) ≡ OfSet
-  deep : (k : kinds.Kind) (s : Expression) (d : ℕ) → depth s ≤ d + 1 → reach x.low x.high ≤ d → depth (member_of y k s) ≤ d + 1
+abbrev pub Deepens : Bounds → RMember → Type 0
+Deepens x y = (k : kinds.Kind) (s : Expression) (d : ℕ) → depth s ≤ d + 1 → reach x.low x.high ≤ d → depth (member_of y k s) ≤ d + 1
 
 abbrev pub Matches : List Bounds → List RMember → Type 0
 Matches [] [] = Unit {0}
@@ -70,30 +48,16 @@ all_deep : (k : kinds.Kind) (xs : List Bounds) (ys : List RMember) (s : Expressi
 all_deep k [] [] s d h j deep = deep
 all_deep k [] (y ∷ ys) s d h j deep = absurd h
 all_deep k (x ∷ xs) [] s d h j deep = absurd h
-all_deep k (x ∷ xs) (y ∷ ys) s d h j deep = all_deep k xs ys (member_of y k s) d h.1 j.1 (h.0.deep k s d deep j.0)
-
-all_sets : (k : kinds.Kind) (xs : List Bounds) (ys : List RMember) (s : Expression) → Matches xs ys → kind_of s ≡ OfSet → kind_of (with_members k s (map member_of ys)) ≡ OfSet
-all_sets k [] [] s h is = is
-all_sets k [] (y ∷ ys) s h is = absurd h
-all_sets k (x ∷ xs) [] s h is = absurd h
-all_sets k (x ∷ xs) (y ∷ ys) s h is = all_sets k xs ys (member_of y k s) h.1 (h.0.kind k s)
-
--- by what a member does to a set
-made_deepens : (x : Bounds) (y : RMember) (f : kinds.Kind → Expression → Expression) → member_of y ≡ f → ((k : kinds.Kind) (s : Expression) → kind_of (f k s) ≡ OfSet)
-    → ((k : kinds.Kind) (s : Expression) (d : ℕ) → depth s ≤ d + 1 → reach x.low x.high ≤ d → depth (f k s) ≤ d + 1) → Deepens x y
-made_deepens x y f is kind deep = record {
-  kind = λ k s. ap (λ f. kind_of (f k s)) is ∙ kind k s;
-  deep = λ k s d h j. subst (λ f. depth (f k s) ≤ d + 1) (sym is) (deep k s d h j);
-}
+all_deep k (x ∷ xs) (y ∷ ys) s d h j deep = all_deep k xs ys (member_of y k s) d h.1 j.1 (h.0 k s d deep j.0)
 
 single_deepens : (a : Operand) (x : RExpr) → 1 ≤ a.depth → depth (expression_of x) ≤ a.depth + 1 → Deepens (record { low = a; high = None }) (m.Single x)
-single_deepens a x some deep = made_deepens _ (m.Single x) _ (single_is x) (λ k s. refl) (λ k s d h j. at (depth s) (depth (expression_of x)) d deep h j)
+single_deepens a x some deep = λ k s d h j. subst (λ f. depth (f k s) ≤ d + 1) (sym (single_is x)) (at (depth s) (depth (expression_of x)) d deep h j)
   where
     at : (r n d : ℕ) → n ≤ a.depth + 1 → r ≤ d + 1 → 1 + a.depth ≤ d → max r (max 3 (1 + n)) ≤ d + 1
     at r n d u v w = omega (arith, some)
 
 span_deepens : (a c : Operand) (x y : RExpr) → depth (expression_of x) ≤ a.depth + 1 → depth (expression_of y) ≤ c.depth + 1 → Deepens (record { low = a; high = Some c }) (m.Span x y)
-span_deepens a c x y deep far = made_deepens _ (m.Span x y) _ (span_is x y) (λ k s. refl) (λ k s d h j. at (depth s) (depth (expression_of x)) (depth (expression_of y)) d deep far h j)
+span_deepens a c x y deep far = λ k s d h j. subst (λ f. depth (f k s) ≤ d + 1) (sym (span_is x y)) (at (depth s) (depth (expression_of x)) (depth (expression_of y)) d deep far h j)
   where
     at : (r n o d : ℕ) → n ≤ a.depth + 1 → o ≤ c.depth + 1 → r ≤ d + 1 → max (1 + a.depth) (2 + c.depth) ≤ d → max r (max (1 + n) (2 + o)) ≤ d + 1
     at r n o d t u v w = omega arith
@@ -114,79 +78,13 @@ module _ (t : Table) where
   abbrev pub IsSort : Option ℕ → Type 0
   IsSort o = IsThere (λ s. (n : ℕ) × (set_base t s ≡ Some n)) o
 
-  -- where all elements fit, the forms of all are there
-  pub record ElementsTold (s : ℕ) (es : Elements) : Type 0 where
-    pub forms : AllFine (AreFit s) es.bounds → IsThere (Matches es.bounds) es.forms
-
-  abbrev pub AreElements : Option ℕ → Option Elements → Type 0
-  AreElements None es = ⊥
-  AreElements (Some s) es = IsThere (ElementsTold s) es
-
-  pub no_elements_told : (s : Option ℕ) → IsSort s → AreElements s (Some no_elements)
-  no_elements_told None h = h
-  no_elements_told (Some s) h = record { forms = λ fit. tt }
-
   last_fine : {A : Type 0} (P : A → Type 0) (xs : List A) (x : A) → AllFine P (xs ++ x ∷ []) → AllFine P xs × P x
   last_fine P [] x h = (tt, h.0)
   last_fine P (y ∷ xs) x h = let l = last_fine P xs x h.1 in ((h.0, l.0), l.1)
 
-  joined_there : (xs : List Bounds) (x : Bounds) (ys : Option (List RMember)) (y : Option RMember) → IsThere (Matches xs) ys → IsThere (Deepens x) y → IsThere (Matches (xs ++ x ∷ [])) (joined ys y)
-  joined_there xs x None y h j = h
-  joined_there xs x (Some ys) None h j = j
-  joined_there xs x (Some ys) (Some y) h j = matches_more xs ys x y h j
-
-  pub more_told : (s : ℕ) (es : Elements) (a : Operand) (c : Option Operand) (y : Option RMember) → ElementsTold s es → (AreFit s (record { low = a; high = c }) → IsThere (Deepens (record { low = a; high = c })) y) → ElementsTold s (with_element es y a c)
-  more_told s es a c y h j = record { forms = λ fit. let l = last_fine (AreFit s) es.bounds (record { low = a; high = c }) fit in joined_there es.bounds _ es.forms y (h.forms l.0) (j l.1) }
-
   fits_left : (c d : Bool) → (c && d) ≡ true → c ≡ true
   fits_left true d h = refl
   fits_left false d h = cc
-
-  module _ (told : IsTold t) where
-    -- an element that fits is there
-    entered_there : (s n : ℕ) (a : Found) → set_base t s ≡ Some n → IsFound t a → operand_fits t s a.kind ≡ true → (x : Members) × (kinds_of t (Some s) ≡ Some x) × IsThere (Suits x.kind a.depth) (entered t x a)
-    unfolding compatible
-    entered_there s n a is h fit =
-        let g : IsSet t s n = set_type t told s n is in
-        let suits_n : suits t n a.kind ≡ true = ap (λ o. fits_base t o a.kind) (sym is) ∙ fits_left (fits_base t (set_base t s) a.kind) _ fit in
-        let suits_x : suits t g.members.sort a.kind ≡ true = subst (λ r. suits t r a.kind ≡ true) (sym g.sort) (suits_below t told n a.kind suits_n) in
-        let below : base_at t (base t g.members.sort) ≡ Some g.members.kind.base = ap (λ r. base_at t (base t r)) g.sort ∙ ap (base_at t) (base_base t told n) ∙ g.base in
-        (g.members, g.at, fitting_suits g.members.kind a.depth _ h.few (yields_suits g.members.kind a.depth _ g.ordinal (suits_yields t told g.members.sort g.members.kind.base a below h suits_x)))
-
-    single_there : (s n : ℕ) (a : Found) → set_base t s ≡ Some n → IsFound t a → AreFit s (record { low = operand_of a; high = None }) → IsThere (Deepens (record { low = operand_of a; high = None })) (single_by t (kinds_of t (Some s)) a)
-    single_there s n a is h fit =
-        let x = entered_there s n a is h fit.0 in subst (λ o. IsThere (Deepens (record { low = operand_of a; high = None })) (single_by t o a)) (sym x.1) (by x.0 (entered t x.0 a) x.2)
-      where
-        by : (x : Members) (y : Option RExpr) → IsThere (Suits x.kind a.depth) y → IsThere (Deepens (record { low = operand_of a; high = None })) (single y)
-        by x None j = j
-        by x (Some y) j = single_deepens (operand_of a) y h.some j.1
-
-    span_there : (s n : ℕ) (a c : Found) → set_base t s ≡ Some n → IsFound t a → IsFound t c → AreFit s (record { low = operand_of a; high = Some (operand_of c) }) → IsThere (Deepens (record { low = operand_of a; high = Some (operand_of c) })) (span_by t (kinds_of t (Some s)) a c)
-    span_there s n a c is h j fit =
-        let x = entered_there s n a is h fit.0 in
-        let y = entered_there s n c is j fit.1 in
-        subst (λ o. IsThere To (span_by t o a c)) (sym x.1) (by x.0 (entered t x.0 a) (entered t x.0 c) x.2 (subst (λ x. IsThere (Suits x.kind c.depth) (entered t x c)) (same_Some y.0 x.0 (sym y.1 ∙ x.1)) y.2))
-      where
-        To : RMember → Type 0
-        To = Deepens (record { low = operand_of a; high = Some (operand_of c) })
-
-        by : (x : Members) (y z : Option RExpr) → IsThere (Suits x.kind a.depth) y → IsThere (Suits x.kind c.depth) z → IsThere To (span y z)
-        by x None z u v = u
-        by x (Some y) None u v = v
-        by x (Some y) (Some z) u v = span_deepens (operand_of a) (operand_of c) y z u.1 v.1
-
-    pub joined_one_told : (s : Option ℕ) (es : Option Elements) (a : Option Found) → IsSort s → AreElements s es → IsThere (IsFound t) a → AreElements s (joined_one t s es a)
-    joined_one_told None es a h j i = h
-    joined_one_told (Some s) None a h j i = j
-    joined_one_told (Some s) (Some es) None h j i = i
-    joined_one_told (Some s) (Some es) (Some a) h j i = more_told s es (operand_of a) None _ j (single_there s h.0 a h.1 i)
-
-    pub joined_range_told : (s : Option ℕ) (es : Option Elements) (a c : Option Found) → IsSort s → AreElements s es → IsThere (IsFound t) a → IsThere (IsFound t) c → AreElements s (joined_range t s es a c)
-    joined_range_told None es a c h j i l = h
-    joined_range_told (Some s) None a c h j i l = j
-    joined_range_told (Some s) (Some es) None c h j i l = i
-    joined_range_told (Some s) (Some es) (Some a) None h j i l = l
-    joined_range_told (Some s) (Some es) (Some a) (Some c) h j i l = more_told s es (operand_of a) (Some (operand_of c)) _ j (span_there s h.0 a c h.1 i l)
 
   -- ---- what is known of all elements
   operand_fit : (s : ℕ) (a : Operand) → Clear (operand_rows t s a) → operand_fits t s a.kind ≡ true
@@ -284,43 +182,131 @@ module _ (t : Table) where
   all_words s y [] h = h
   all_words s y (x ∷ xs) h = all_words s (bounds_node t s y x).0 xs (word_node s y x h)
 
-module _ (t : Table) (told : IsTold t) where
-  -- ---- the whole set
-  value_told : (s n d : ℕ) (xs : List Bounds) (o : Option (List RMember)) → IsSet t s n → IsThere (Matches xs) o → AllFine (λ (x : Bounds). reach x.low x.high ≤ d) xs → 1 ≤ d → GoesWith t d (k.Of s) (set_form t s o)
-  value_told s n d xs None g h deep some = absurd h
-  value_told s n d xs (Some ys) g h deep some =
-      let value : GoesWith t d (k.Of s) (form.Value (e.Set g.members.kind ys)) = (_, g.kind, ap kind_of whole ∙ all_sets of xs ys empty_set h refl, subst (λ a. depth a ≤ d + 1) (sym whole) (all_deep of xs ys empty_set d h deep (omega (arith, some)))) in
-      subst (λ m. GoesWith t d (k.Of s) (set_by m (Some ys))) (sym g.at) (subst (λ c. GoesWith t d (k.Of s) (if c then form.Value (e.Set g.members.kind ys) else form.Nothing)) (sym g.element) value)
-    where
-      of : kinds.Kind
-      of = kind_view g.members.kind
+module _ {t : Table} {vs : List RVar} {around : List ℕ} (P : Property t vs around) where
+  -- members that match their bounds, of which a set has the property
+  abbrev pub AreMembers : ℕ → List Bounds → List RMember → Type 0
+  AreMembers s xs ys = Matches xs ys × ((x : Members) → members_at t s ≡ Some x → P.value (e.Set x.kind ys))
 
-      whole : expression_of (e.Set g.members.kind ys) ≡ with_members of empty_set (map member_of ys)
-      whole = set_is g.members.kind ys
+  -- where all elements fit, the forms of all are there
+  pub record ElementsTold (s : ℕ) (es : Elements) : Type 0 where
+    pub forms : AllFine (AreFit t s) es.bounds → IsThere (AreMembers s es.bounds) es.forms
 
-  set_told : (p : Place) (s n d : ℕ) (xs : List Bounds) (o : Option (List RMember)) (w : Option ℕ) → IsSet t s n → IsThere (Matches xs) o → AllFine (λ (x : Bounds). reach x.low x.high ≤ d) xs → 1 ≤ d → d ≤ 12 → IsWord t w → IsFound t (set_found t p s o w d)
-  set_told p s n d xs o (Some w) g h deep some few word = record { kind = word_set t told s w (ap (base_at t) g.own ∙ g.set) word; form = tt; place = tt; some = omega arith; few = omega arith }
-  set_told p s n d xs o None g h deep some few word = record { kind = lies_so t told s b.Set (ap (base_at t) g.own ∙ g.set); form = value_told s n d xs o g h deep some; place = tt; some = some; few = few }
+  abbrev pub AreElements : Option ℕ → Option Elements → Type 0
+  AreElements None es = ⊥
+  AreElements (Some s) es = IsThere (ElementsTold s) es
 
-  pub set_node_right : (p : Place) (s : Option ℕ) (es : Option Elements) → IsSort t s → AreElements t s es → Right (IsThere (IsFound t)) (set_node t p s es)
-  unfolding after set_end
-  set_node_right p None es h j clear = h
-  set_node_right p (Some s) None h j clear = j
-  set_node_right p (Some s) (Some es) h j clear =
-      by (elements_tally t s es.bounds).0 (fit.1 refl) (elements_tally t s es.bounds).0.depth refl (all_depths t s no_tally es.bounds) (all_words t s no_tally es.bounds (omega arith)) (clear_right (elements_tally t s es.bounds).1 _ clear).0
-    where
-      fit : AllFine (AreFit t s) es.bounds × (no_tally.fits ≡ true → (elements_tally t s es.bounds).0.fits ≡ true)
-      fit = all_fit t s no_tally es.bounds (clear_left (elements_tally t s es.bounds).1 _ clear)
+  pub no_elements_told : (s : Option ℕ) → IsSort t s → AreElements s (Some no_elements)
+  no_elements_told None h = h
+  no_elements_told (Some s) h = record { forms = λ fit. (tt, λ x is. P.empty x.kind) }
 
-      by : (z : Tally) → z.fits ≡ true → (o : Option ℕ) → z.depth ≡ o
-          → ((d : ℕ) → z.depth ≡ Some d → (r : ℕ) × (no_tally.depth ≡ Some r) × (r ≤ d) × AllFine (λ (x : Bounds). reach x.low x.high ≤ d) es.bounds × (r ≤ 12 → d ≤ 12)) → IsWord t z.word → is_none z.depth ≡ false
-          → IsThere (IsFound t) (set_given t p s es.forms z z.depth)
-      by z fits None is depths word deep = absurd (true≢false (ap is_none (sym is) ∙ deep))
-      by z fits (Some d) is depths word deep =
-          let g = depths d is in
-          let one : 1 ≡ g.0 = same_Some 1 g.0 g.1 in
-          subst (λ o. IsThere (IsFound t) (set_given t p s es.forms z o)) (sym is)
-          (kept_if (IsFound t) z.fits (set_found t p s es.forms z.word d) fits (set_told p s h.0 d es.bounds es.forms z.word (set_type t told s h.0 h.1) (j.forms fit.0) g.3 (omega (arith, one, g.2)) (g.4 (omega (arith, one))) word))
+  -- a member that deepens a set as its bounds say, and joins one with the property
+  abbrev Joins : ℕ → Bounds → RMember → Type 0
+  Joins s x y = Deepens x y × ((ys : List RMember) (m : Members) → members_at t s ≡ Some m → P.value (e.Set m.kind ys) → P.value (e.Set m.kind (ys ++ y ∷ [])))
+
+  joined_there : (s : ℕ) (xs : List Bounds) (x : Bounds) (ys : Option (List RMember)) (y : Option RMember) → IsThere (AreMembers s xs) ys → IsThere (Joins s x) y → IsThere (AreMembers s (xs ++ x ∷ [])) (joined ys y)
+  joined_there s xs x None y h j = h
+  joined_there s xs x (Some ys) None h j = j
+  joined_there s xs x (Some ys) (Some y) h j = (matches_more xs ys x y h.0 j.0, λ m is. j.1 ys m is (h.1 m is))
+
+  more_told : (s : ℕ) (es : Elements) (a : Operand) (c : Option Operand) (y : Option RMember) → ElementsTold s es → (AreFit t s (record { low = a; high = c }) → IsThere (Joins s (record { low = a; high = c })) y) → ElementsTold s (with_element es y a c)
+  more_told s es a c y h j = record { forms = λ fit. let l = last_fine t (AreFit t s) es.bounds (record { low = a; high = c }) fit in joined_there s es.bounds _ es.forms y (h.forms l.0) (j l.1) }
+
+  module _ (told : IsTold t) where
+    -- an element that fits is there
+    entered_there : (s n : ℕ) (a : Found) → IsSet t s n → IsFound P a → set_base t s ≡ Some n → operand_fits t s a.kind ≡ true → (x : Members) → members_at t s ≡ Some x → IsThere (Suits P x.kind a.depth) (typed t x.sort a)
+    unfolding compatible
+    entered_there s n a g h is fit x at =
+        let suits_n : suits t n a.kind ≡ true = ap (λ o. fits_base t o a.kind) (sym is) ∙ fits_left t (fits_base t (set_base t s) a.kind) _ fit in
+        let suits_x : suits t g.members.sort a.kind ≡ true = subst (λ r. suits t r a.kind ≡ true) (sym g.sort) (suits_below t told n a.kind suits_n) in
+        let below : base_at t (base t g.members.sort) ≡ Some g.members.kind.base = ap (λ r. base_at t (base t r)) g.sort ∙ ap (base_at t) (base_base t told n) ∙ g.base in
+        subst (λ x. IsThere (Suits P x.kind a.depth) (typed t x.sort a)) (same_Some g.members x (sym g.at ∙ at))
+        (yields_suits P g.members.kind a.depth _ g.ordinal (suits_yields P told g.members.sort g.members.kind.base a below h suits_x))
+
+    -- what may be in a set of the type, by one way in which it is known
+    one_of_them : {s n : ℕ} (g : IsSet t s n) (x : Members) → members_at t s ≡ Some x → is_element (kind_view x.kind) ≡ true
+    one_of_them g x is = subst (λ (x : Members). is_element (kind_view x.kind) ≡ true) (same_Some g.members x (sym g.at ∙ is)) g.element
+
+    taken : (x m : Members) (y : RExpr) → Some x ≡ Some m → takes_value (kind_view x.kind) (value_kind y) ≡ true → takes_value (kind_view m.kind) (value_kind y) ≡ true
+    taken x m y is h = subst (λ (m : Members). takes_value (kind_view m.kind) (value_kind y) ≡ true) (same_Some x m is) h
+
+    single_there : (s n : ℕ) (a : Found) → set_base t s ≡ Some n → IsFound P a → AreFit t s (record { low = operand_of a; high = None }) → IsThere (Joins s (record { low = operand_of a; high = None })) (single_by t (kinds_of t (Some s)) a)
+    single_there s n a is h fit = subst (λ o. IsThere (Joins s (record { low = operand_of a; high = None })) (single_by t o a)) (sym g.at) (by g.members g.at (typed t g.members.sort a) (entered_there s n a g h is fit.0 g.members g.at))
+      where
+        g : IsSet t s n
+        g = set_type t told s n is
+
+        by : (x : Members) → members_at t s ≡ Some x → (y : Option RExpr) → IsThere (Suits P x.kind a.depth) y → IsThere (Joins s (record { low = operand_of a; high = None })) (single y)
+        by x at None j = j
+        by x at (Some y) j = (
+          single_deepens (operand_of a) y h.some j.1,
+          λ ys m is good. P.single m.kind ys y (one_of_them g m is) (taken x m y (sym at ∙ is) j.0) good j.2,
+        )
+
+    span_there : (s n : ℕ) (a c : Found) → set_base t s ≡ Some n → IsFound P a → IsFound P c → AreFit t s (record { low = operand_of a; high = Some (operand_of c) }) → IsThere (Joins s (record { low = operand_of a; high = Some (operand_of c) })) (span_by t (kinds_of t (Some s)) a c)
+    span_there s n a c is h j fit =
+        subst (λ o. IsThere (Joins s (record { low = operand_of a; high = Some (operand_of c) })) (span_by t o a c)) (sym g.at)
+        (by g.members g.at (typed t g.members.sort a) (typed t g.members.sort c) (entered_there s n a g h is fit.0 g.members g.at) (entered_there s n c g j is fit.1 g.members g.at))
+      where
+        g : IsSet t s n
+        g = set_type t told s n is
+
+        by : (x : Members) → members_at t s ≡ Some x → (y z : Option RExpr) → IsThere (Suits P x.kind a.depth) y → IsThere (Suits P x.kind c.depth) z → IsThere (Joins s (record { low = operand_of a; high = Some (operand_of c) })) (span y z)
+        by x at None z u v = u
+        by x at (Some y) None u v = v
+        by x at (Some y) (Some z) u v = (
+          span_deepens (operand_of a) (operand_of c) y z u.1 v.1,
+          λ ys m is good. P.span m.kind ys y z (one_of_them g m is) (taken x m y (sym at ∙ is) u.0) (taken x m z (sym at ∙ is) v.0) good u.2 v.2,
+        )
+
+    pub joined_one_told : (s : Option ℕ) (es : Option Elements) (a : Option Found) → IsSort t s → AreElements s es → IsThere (IsFound P) a → AreElements s (joined_one t s es a)
+    joined_one_told None es a h j i = h
+    joined_one_told (Some s) None a h j i = j
+    joined_one_told (Some s) (Some es) None h j i = i
+    joined_one_told (Some s) (Some es) (Some a) h j i = more_told s es (operand_of a) None _ j (single_there s h.0 a h.1 i)
+
+    pub joined_range_told : (s : Option ℕ) (es : Option Elements) (a c : Option Found) → IsSort t s → AreElements s es → IsThere (IsFound P) a → IsThere (IsFound P) c → AreElements s (joined_range t s es a c)
+    joined_range_told None es a c h j i l = h
+    joined_range_told (Some s) None a c h j i l = j
+    joined_range_told (Some s) (Some es) None c h j i l = i
+    joined_range_told (Some s) (Some es) (Some a) None h j i l = l
+    joined_range_told (Some s) (Some es) (Some a) (Some c) h j i l = more_told s es (operand_of a) (Some (operand_of c)) _ j (span_there s h.0 a c h.1 i l)
+
+    -- ---- the whole set
+    value_told : (s n d : ℕ) (xs : List Bounds) (o : Option (List RMember)) → IsSet t s n → IsThere (AreMembers s xs) o → AllFine (λ (x : Bounds). reach x.low x.high ≤ d) xs → 1 ≤ d → GoesWith P d (k.Of s) (set_form t s o)
+    value_told s n d xs None g h deep some = absurd h
+    value_told s n d xs (Some ys) g h deep some =
+        let value : GoesWith P d (k.Of s) (form.Value (e.Set g.members.kind ys)) = record {
+          as_kind = _;
+          at = g.kind;
+          kind = set_kind g.members.kind ys;
+          deep = subst (λ a. depth a ≤ d + 1) (sym (set_is g.members.kind ys)) (all_deep (kind_view g.members.kind) xs ys empty_set d h.0 deep (omega (arith, some)));
+          good = h.1 g.members g.at;
+        } in
+        subst (λ m. GoesWith P d (k.Of s) (set_by m (Some ys))) (sym g.at) value
+
+    set_told : (p : Place) (s n d : ℕ) (xs : List Bounds) (o : Option (List RMember)) (w : Option ℕ) → IsSet t s n → IsThere (AreMembers s xs) o → AllFine (λ (x : Bounds). reach x.low x.high ≤ d) xs → 1 ≤ d → d ≤ 12 → IsWord t w → IsFound P (set_found t p s o w d)
+    set_told p s n d xs o (Some w) g h deep some few word = record { kind = word_set t told s w (ap (base_at t) g.own ∙ g.set) word; form = tt; place = tt; some = omega arith; few = omega arith }
+    set_told p s n d xs o None g h deep some few word = record { kind = lies_so t told s b.Set (ap (base_at t) g.own ∙ g.set); form = value_told s n d xs o g h deep some; place = tt; some = some; few = few }
+
+    pub set_node_right : (p : Place) (s : Option ℕ) (es : Option Elements) → IsSort t s → AreElements s es → Right (IsThere (IsFound P)) (set_node t p s es)
+    unfolding after set_end
+    set_node_right p None es h j clear = h
+    set_node_right p (Some s) None h j clear = j
+    set_node_right p (Some s) (Some es) h j clear =
+        by (elements_tally t s es.bounds).0 (fit.1 refl) (elements_tally t s es.bounds).0.depth refl (all_depths t s no_tally es.bounds) (all_words t s no_tally es.bounds (omega arith)) (clear_right (elements_tally t s es.bounds).1 _ clear).0
+      where
+        fit : AllFine (AreFit t s) es.bounds × (no_tally.fits ≡ true → (elements_tally t s es.bounds).0.fits ≡ true)
+        fit = all_fit t s no_tally es.bounds (clear_left (elements_tally t s es.bounds).1 _ clear)
+
+        by : (z : Tally) → z.fits ≡ true → (o : Option ℕ) → z.depth ≡ o
+            → ((d : ℕ) → z.depth ≡ Some d → (r : ℕ) × (no_tally.depth ≡ Some r) × (r ≤ d) × AllFine (λ (x : Bounds). reach x.low x.high ≤ d) es.bounds × (r ≤ 12 → d ≤ 12)) → IsWord t z.word → is_none z.depth ≡ false
+            → IsThere (IsFound P) (set_given t p s es.forms z z.depth)
+        by z fits None is depths word deep = absurd (true≢false (ap is_none (sym is) ∙ deep))
+        by z fits (Some d) is depths word deep =
+            let g = depths d is in
+            let one : 1 ≡ g.0 = same_Some 1 g.0 g.1 in
+            subst (λ o. IsThere (IsFound P) (set_given t p s es.forms z o)) (sym is)
+            (kept_if (IsFound P) z.fits (set_found t p s es.forms z.word d) fits (set_told p s h.0 d es.bounds es.forms z.word (set_type t told s h.0 h.1) (j.forms fit.0) g.3 (omega (arith, one, g.2)) (g.4 (omega (arith, one))) word))
 
 -- ---- the type of a set
 module _ (e : Env) (told : EnvTold e) where

@@ -1,14 +1,8 @@
 -- A block as an indexmap has it.
-use Rattle.std.proofs.Common.{◌≡◌, ℕ, Bool, true, false, not, cond, List, [], ◌∷◌, ◌++◌, map, Option, Some, None, is_some, is_none, refl, ap, sym, nat_eq}
-use Rattle.std.proofs.lemmas.Bool.{cond-true, cond-false}
+use Rattle.std.proofs.Common.{◌≡◌, ℕ, Bool, true, false, not, cond, List, [], ◌∷◌, ◌++◌, map, Option, Some, None, is_some, is_none, refl, ap, nat_eq}
 use Rattle.indexmap.specs.IndexMap.{insert_entry}
-use Rattle.std.specs.Cmp.Lexicographic.{pointwise}
-use Rattle.std.specs.Map.{lookup}
-use Rattle.std.specs.declared.vec.Vec.{Vec}
-use Rattle.std.specs.declared.alloc.Global.{Global}
-use Rattle.lil_base.specs.declared.fault.Place.{Place}
-use Rattle.lil_scope.specs.declared.thing.Entry.{Entry}
-use Rattle.lil_scope.specs.Names.{entry_in, place_of, place_in, same, is_new, bound}
+use Rattle.std.specs.{Cmp.Lexicographic.pointwise, Map.lookup, declared.{vec.Vec.Vec, alloc.Global.Global}}
+use Rattle.lil_scope.specs.{declared.thing.Entry.Entry, Names.{entry_in, place_of, place_in, same, is_new, bound}}
 
 pub look_map : (n : List ℕ) (es : List (Vec ℕ Global × Entry)) → lookup (λ k. pointwise nat_eq n k.items) es ≡ entry_in (map (λ p. (p.0.items, p.1)) es) n
 look_map n [] = refl
@@ -30,24 +24,13 @@ insert_map k t (e ∷ es) h = by (same k.items e.0.items) h (λ g. insert_map k 
     by false h rest = ap (λ z. see e ∷ z) (rest h)
 
 -- ---- names that stand in a block, and new ones
-none_by : (o : Option Entry) → place_of o ≡ None → o ≡ None
-none_by None h = refl
-none_by (Some e) h = absurd (cc)
-
-pub not_there : (b : List (List ℕ × Entry)) (n : List ℕ) → place_in b n ≡ None → entry_in b n ≡ None
-not_there b n h = none_by (entry_in b n) h
-
-some_by : (o : Option Entry) (q : Place) → place_of o ≡ Some q → is_none o ≡ false
-some_by None q h = absurd (cc)
-some_by (Some e) q h = refl
-
-pub bound_before : (b : List (List ℕ × Entry)) (n : List ℕ) (e : Entry) (q : Place) → place_in b n ≡ Some q → b ≡ bound b n e
+pub bound_before : (b : List (List ℕ × Entry)) (n : List ℕ) (e f : Entry) → entry_in b n ≡ Some f → b ≡ bound b n e
 unfolding is_new
-bound_before b n e q h = sym (cond-false (is_none (entry_in b n)) (b ++ (n, e) ∷ []) b (some_by (entry_in b n) q h))
+bound_before b n e f h = rw h refl
 
-pub bound_new : (b : List (List ℕ × Entry)) (n : List ℕ) (e : Entry) → place_in b n ≡ None → b ++ (n, e) ∷ [] ≡ bound b n e
+pub bound_new : (b : List (List ℕ × Entry)) (n : List ℕ) (e : Entry) → entry_in b n ≡ None → b ++ (n, e) ∷ [] ≡ bound b n e
 unfolding is_new
-bound_new b n e h = sym (cond-true (is_none (entry_in b n)) (b ++ (n, e) ∷ []) b (ap is_none (not_there b n h)))
+bound_new b n e h = rw h refl
 
 twice_by : (o : Option Entry) → is_some (place_of o) ≡ not (is_none o)
 twice_by None = refl

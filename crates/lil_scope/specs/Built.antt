@@ -1,9 +1,8 @@
 -- Whose names may stand in a program that runs.
 use Rattle.std.specs.Prelude.{◌==◌, Bool, true, false, not, ◌||◌}
 use Rattle.lil_types.specs.Types.{proc, process}
-use Rattle.lil_declared.specs.declared.standard.Standard.{Standard}
+use Rattle.lil_declared.specs.declared.standard.{Standard.Standard, Resident.Resident}
 use Rattle.lil_declared.specs.declared.standard.Standard.TheVariants as s
-use Rattle.lil_declared.specs.declared.standard.Resident.{Resident}
 use Rattle.lil_declared.specs.declared.standard.Resident.TheVariants as r
 use Rattle.lil_scope.specs.declared.thing.Thing.{Thing}
 use Rattle.lil_scope.specs.declared.thing.Thing.TheVariants as t

@@ -2,14 +2,10 @@
 -- and the place where it is bound.
 use Rattle.std.specs.Prelude.{ℕ, is_none, slice_get, slice_set, nat_lt, length, Bool, not, List, [], ◌∷◌, ◌++◌, Option, Some, None, if◌then◌else◌, nat_eq}
 use Rattle.std.specs.Cmp.Lexicographic.{pointwise}
-use Rattle.lil_base.specs.declared.fault.Place.{Place}
-use Rattle.lil_base.specs.declared.fault.FaultKind.TheVariants.{Twice}
+use Rattle.lil_base.specs.declared.fault.{Place.Place, FaultKind.TheVariants.Twice}
 use Rattle.lil_text.specs.declared.tree.Ident.{Ident}
 use Rattle.lil_report.specs.Told.{Row, row}
-use Rattle.lil_scope.specs.declared.thing.Entry.{Entry}
-use Rattle.lil_scope.specs.declared.thing.Thing.{Thing}
-use Rattle.lil_scope.specs.declared.env.Env.{Env}
-use Rattle.lil_scope.specs.declared.scope.Scopes.{Scopes}
+use Rattle.lil_scope.specs.declared.{thing.{Entry.Entry, Thing.Thing}, env.Env.Env, scope.Scopes.Scopes}
 
 abbrev pub same : List ℕ → List ℕ → Bool
 same a b = pointwise nat_eq a b

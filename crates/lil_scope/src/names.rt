@@ -11,18 +11,12 @@ use lil_text::Ident;
 use std::alloc::Global;
 
 /// The later one of two places of a text.
-fn later(p: Place, q: Place) -> Place
-    ensures { result ≡ spec.later p q }
-{
-    if p.offset < q.offset { q } else { p }
-}
-
 fn later_of(p: Place, before: Option<Place>) -> Place
     ensures { result ≡ spec.later_of p before }
 {
     match before {
-        Some(q) => later(p, q),
-        None => p,
+        Some(q) if p.offset < q.offset => q,
+        _ => p,
     }
 }
 

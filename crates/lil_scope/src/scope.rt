@@ -30,26 +30,6 @@ impl Block {
         self.names.get(name.as_slice()).copied()
     }
 
-    /// What a name stands for here.
-    pub fn find(&self, name: &Name) -> Option<Thing>
-        ensures { result ≡ spec.look_in self.now name.now }
-    {
-        match self.entry(name) {
-            Some(entry) => Some(entry.thing),
-            None => None,
-        }
-    }
-
-    /// Where a name is bound here.
-    fn place(&self, name: &Name) -> Option<Place>
-        ensures { result ≡ spec.place_in self.now name.now }
-    {
-        match self.entry(name) {
-            Some(entry) => Some(entry.place),
-            None => None,
-        }
-    }
-
     pub fn new(alloc: Global) -> Block
         ensures { result ≡ [] }
     {
@@ -68,8 +48,8 @@ impl Block {
         ensures told { IfOk result (λ before. before ≡ spec.place_in self.old name.now) }
         ensures entries { IfOk result (λ before. self.new ≡ spec.bound self.old name.now entry) }
     {
-        match self.place(name) {
-            Some(before) => Ok(Some(before)),
+        match self.entry(name) {
+            Some(before) => Ok(Some(before.place)),
             None => {
                 let key = Vec::from_slice(alloc, name.as_slice())?;
                 self.names.insert(key, entry)?;
@@ -117,16 +97,10 @@ impl Blocks {
         ensures { result ≡ spec.look_in (spec.block_at self.now number) name.now }
     {
         match self.list.get(number) {
-            Some(block) => block.find(name),
-            None => None,
-        }
-    }
-
-    fn place(&self, number: usize, name: &Name) -> Option<Place>
-        ensures { result ≡ spec.place_in (spec.block_at self.now number) name.now }
-    {
-        match self.list.get(number) {
-            Some(block) => block.place(name),
+            Some(block) => match block.entry(name) {
+                Some(entry) => Some(entry.thing),
+                None => None,
+            },
             None => None,
         }
     }
@@ -143,10 +117,9 @@ impl Blocks {
         ensures entries { IfOk result (λ before. self.new ≡ spec.bound_at self.old number name.now entry) }
     {
         if number < self.list.len() {
-            let before = self.list[number].declare(alloc, name, entry)?;
-            Ok(before)
+            self.list[number].declare(alloc, name, entry)
         } else {
-            Ok(self.place(number, name))
+            Ok(None)
         }
     }
 }

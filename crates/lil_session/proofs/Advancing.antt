@@ -1,18 +1,13 @@
 -- One step of a run, as it is shown.
 use Rattle.std.proofs.Common.{◌≡◌, ℕ, Option, List, [], refl, sym, ap, ◌∙◌, subst}
 use Rattle.std.proofs.lemmas.List.{append-nil}
-use Rattle.lil_meaning.specs.World.{World, serve, piece_of, all_closed}
-use Rattle.lil_meaning.specs.Closings.{all_screen}
-use Rattle.lil_volume.specs.Told.{followed_by, FollowedByPrefix}
-use Rattle.lil_volume.specs.Laws.{followed_nothing}
-use Rattle.lil_mcode.specs.declared.machine.Event.{Event}
-use Rattle.lil_mcode.specs.declared.machine.Event.TheVariants.{Request}
-use Rattle.lil_mcode.specs.Table.{State, mstep}
+use Rattle.lil_meaning.specs.{World.{World, serve, piece_of, all_closed}, Closings.all_screen}
+use Rattle.lil_volume.specs.{Told.{followed_by, FollowedByPrefix}, Laws.followed_nothing}
+use Rattle.lil_mcode.specs.{declared.machine.Event.{Event, TheVariants.Request}, Table.{State, mstep}}
 use Rattle.lil_base.specs.declared.request.Request as request
 use Rattle.lil_asm.specs.Requests.{request_words}
 use Rattle.lil_session.specs.Running.{IsStep, IsRefused}
-use Rattle.lil_match.specs.Running.{Finish, Running, Run, running, react, arguments, taken, level_of, left}
-use Rattle.lil_match.specs.Steps.{advances}
+use Rattle.lil_match.specs.{Running.{Finish, Running, Run, running, react, arguments, taken, level_of, left}, Steps.advances}
 
 -- a step that shows nothing
 pub step_quiet : (s t : State) (e : Event) (f : Finish) (old : Option (List ℕ)) → mstep s ≡ (e, t) → ((w : World) → react e t (running s w) ≡ record { machine = t; world = w; finish = f }) → (w : World) → IsStep s t f old old w

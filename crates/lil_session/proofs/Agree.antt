@@ -2,9 +2,8 @@
 use Rattle.std.proofs.Common.{◌≡◌, inl, inr, ℕ, List, ap, sym, ◌∙◌, subst}
 use Rattle.lil_resolved.specs.Resolved.{Resolved}
 use Rattle.lil_meaning.specs.World.{World}
-use Rattle.lil_session.specs.declared.status.Status.{Status}
+use Rattle.lil_session.specs.{declared.status.Status.Status, Outcome.{MeansAnswer, ReadsOne, TextAnswers}}
 use Rattle.lil_session.specs.declared.status.Status.TheVariants as a
-use Rattle.lil_session.specs.Outcome.{MeansAnswer, ReadsOne, TextAnswers}
 use Rattle.lil_session.proofs.Stays.{ends_agree}
 
 means_agree : (p : Resolved) (w : World) (x y : Status) → MeansAnswer p w x → MeansAnswer p w y → x ≡ y

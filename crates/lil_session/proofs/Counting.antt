@@ -1,29 +1,15 @@
 -- What the machine did, by the answer of its run.
 use Rattle.std.proofs.Common.{◌≡◌, ◌≢◌, inl, inr, ℕ, true, false, List, [], Option, refl, sym, ap, ◌∙◌, subst, arith}
-use Rattle.lil_base.specs.declared.fault.LimitKind.{LimitKind}
-use Rattle.lil_base.specs.declared.fault.TrapKind.{TrapKind}
-use Rattle.lil_resolved.specs.Resolved.{Resolved}
-use Rattle.lil_resolved.specs.Sizes.{IsSmall, module_strings}
-use Rattle.lil_meaning.specs.World.{World}
-use Rattle.lil_meaning.specs.Items.{Phase}
-use Rattle.lil_meaning.specs.Runs.{state_of}
-use Rattle.lil_mcode.specs.Table.{State}
-use Rattle.lil_mcode.specs.Calls.{Machine}
-use Rattle.lil_session.specs.declared.run.Ending.{Ending}
+use Rattle.lil_base.specs.declared.fault.{LimitKind.LimitKind, TrapKind.TrapKind}
+use Rattle.lil_resolved.specs.{Resolved.Resolved, Sizes.{IsSmall, module_strings}}
+use Rattle.lil_meaning.specs.{World.World, Items.Phase, Runs.state_of}
+use Rattle.lil_mcode.specs.{Table.State, Calls.Machine}
+use Rattle.lil_session.specs.{declared.{run.Ending.Ending, status.Status.Status}, Running.{finish_of, HasRun, IsCut}, Loaded.EndingAnswers, Outcome.settled, Counted.{IsEnd, FinishAnswers, MachineRan, MachineAnswers}, Headline.{Allowed, IsOver}, Report.is_fixed}
 use Rattle.lil_session.specs.declared.run.Ending.TheVariants as ending
-use Rattle.lil_session.specs.declared.status.Status.{Status}
 use Rattle.lil_session.specs.declared.status.Status.TheVariants as a
 use Rattle.lil_table.specs.Rows.{Translates}
-use Rattle.lil_session.specs.Running.{finish_of, HasRun, IsCut}
 use Rattle.lil_match.specs.Running.{Finish, Running, TrappedBy, Limited, mrun, running}
-use Rattle.lil_session.specs.Loaded.{EndingAnswers}
-use Rattle.lil_laws.specs.Loading.{IsSpent, loaded}
-use Rattle.lil_laws.specs.Whole.{claimed}
-use Rattle.lil_laws.specs.Alone.{loaded_state, correct}
-use Rattle.lil_session.specs.Outcome.{settled}
-use Rattle.lil_session.specs.Counted.{IsEnd, FinishAnswers, MachineRan, MachineAnswers}
-use Rattle.lil_session.specs.Headline.{Allowed, IsOver}
-use Rattle.lil_session.specs.Report.{is_fixed}
+use Rattle.lil_laws.specs.{Loading.{IsSpent, loaded}, Whole.claimed, Alone.{loaded_state, correct}}
 
 module _ (p : Resolved) (code : List ℕ) (small : IsSmall p (module_strings p)) (t : Translates p (module_strings p) code) (bare : p.procedures ≡ []) (steps : ℕ) (old new : Option (List ℕ)) (w : World) where
   abbrev start : State

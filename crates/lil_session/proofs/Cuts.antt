@@ -1,12 +1,8 @@
 -- The piece that one step of the machine shows is that of one step of the meaning.
 use Rattle.std.proofs.Common.{◌≡◌, ◌≢◌, ◌⊎◌, inl, inr, ℕ, zero, suc, ◌-◌, ◌<◌, ◌≤◌, List, [], ◌∷◌, ◌++◌, refl, sym, ap, ◌∙◌, arith, append_assoc}
-use Rattle.std.proofs.lemmas.Bool.{cases_lt}
-use Rattle.std.proofs.lemmas.List.{append-nil, append_cancel_left}
-use Rattle.lil_meaning.specs.World.{piece_of}
-use Rattle.lil_meaning.specs.Closings.{all_screen}
-use Rattle.lil_mcode.specs.declared.machine.Event.{Event}
-use Rattle.lil_mcode.specs.declared.machine.Event.TheVariants.{Went, Request, LevelEnded, Trap}
-use Rattle.lil_mcode.specs.Table.{State, mstep}
+use Rattle.std.proofs.lemmas.{Bool.cases_lt, List.{append-nil, append_cancel_left}}
+use Rattle.lil_meaning.specs.{World.piece_of, Closings.all_screen}
+use Rattle.lil_mcode.specs.{declared.machine.Event.{Event, TheVariants.{Went, Request, LevelEnded, Trap}}, Table.{State, mstep}}
 use Rattle.lil_match.specs.Running.{Finish, Running, Finished, Run, react, unless_over, advanced, mrun, arguments, level_of}
 use Rattle.lil_laws.specs.Whole.{mrun_add, run_rests, run_over}
 

@@ -1,26 +1,15 @@
 -- What a command that was done says of its answer and its devices.
 use Rattle.std.proofs.Common.{◌≡◌, ◌≢◌, ◌⊎◌, inl, inr, ℕ, ◌≤◌, true, false, List, [], ◌∷◌, ◌++◌, Option, None, Some, Result, Ok, Err, refl, sym, ◌∙◌, ap, subst, arith}
 use Rattle.std.specs.FinMap.{get}
-use Rattle.std.proofs.lemmas.Bool.{both_ways}
-use Rattle.std.proofs.lemmas.List.{append-nil}
+use Rattle.std.proofs.lemmas.{Bool.both_ways, List.append-nil}
 use Rattle.lil_base.specs.declared.fault.SourceFault.{SourceFault}
 use Rattle.lil_resolved.specs.Resolved.{Resolved}
-use Rattle.lil_meaning.specs.World.{World}
-use Rattle.lil_meaning.specs.Items.{Going}
-use Rattle.lil_meaning.specs.Runs.{begun, state_of}
-use Rattle.lil_volume.specs.Causes.{Rose, VolumeCause}
-use Rattle.lil_volume.specs.declared.outside.VolumeError.{VolumeError}
-use Rattle.lil_volume.specs.declared.outside.VolumeError.TheVariants.{Failed}
-use Rattle.lil_volume.specs.Told.{Files, FileIs, followed_by}
-use Rattle.lil_session.specs.declared.status.Status.{Status}
-use Rattle.lil_session.specs.declared.status.Status.TheVariants as a
-use Rattle.lil_session.specs.Words.{mod_file}
-use Rattle.lil_session.specs.Outcome.{cuts, settled, gives_way, Answers, EndsSo, SourceAnswers, TextAnswers, Blames, Devices, Finds, HasFault, HasMeaning, IsRunAnswer, IsRunnable, MeansAnswer, ReadsOne, Runs}
-use Rattle.lil_session.specs.Counted.{MachineAnswers}
-use Rattle.lil_session.specs.Headline.{with_writes, Allowed, Headline, Shows}
+use Rattle.lil_meaning.specs.{World.World, Items.Going, Runs.{begun, state_of}}
+use Rattle.lil_volume.specs.{Causes.{Rose, VolumeCause}, declared.outside.VolumeError.{VolumeError, TheVariants.Failed}, Told.{Files, FileIs, followed_by}}
+use Rattle.lil_session.specs.{declared.status.Status.Status, Words.mod_file, Outcome.{cuts, settled, gives_way, Answers, EndsSo, SourceAnswers, TextAnswers, Blames, Devices, Finds, HasFault, HasMeaning, IsRunAnswer, IsRunnable, MeansAnswer, ReadsOne, Runs}, Counted.MachineAnswers, Headline.{with_writes, Allowed, Headline, Shows}}
 use Rattle.lil_session.specs.Answered.{TextRan, CommandRan, IsAnswer, IsUnrun}
-use Rattle.lil_session.proofs.Agree.{texts_agree}
-use Rattle.lil_session.proofs.Screens.{after_grows, after_writes}
+use Rattle.lil_session.specs.declared.status.Status.TheVariants as a
+use Rattle.lil_session.proofs.{Agree.texts_agree, Screens.{after_grows, after_writes}}
 
 followed_none : (old : Option (List ℕ)) (more : List ℕ) → more ≡ [] → old ≡ followed_by old more
 followed_none None more none = refl

@@ -1,43 +1,20 @@
 -- What the run of a translation shows, and how it ends.
 use Rattle.std.proofs.Common.{◌≡◌, ◌≢◌, ℕ, zero, suc, ◌+◌, ◌*◌, true, ◌<◌, ◌≤◌, Option, Some, None, List, [], ◌∷◌, ◌++◌, refl, sym, ap, ◌∙◌, subst, ◌⊎◌, inl, inr, arith, append_assoc}
-use Rattle.std.proofs.lemmas.Bool.{cases_lt}
-use Rattle.std.proofs.lemmas.List.{append-nil, append_cancel_left}
-use Rattle.std.specs.Ordering.{nat_cmp}
-use Rattle.std.specs.Cmp.Lexicographic.{slice_cmp}
-use Rattle.std.specs.FinMap.{from_entries}
-use Rattle.std.proofs.lemmas.Option.{same_Some}
-use Rattle.lil_base.specs.declared.fault.LimitKind.{LimitKind}
-use Rattle.lil_base.specs.declared.fault.TrapKind.{TrapKind}
-use Rattle.lil_base.specs.declared.fault.TrapAt.{TrapAt}
-use Rattle.lil_resolved.specs.Resolved.{Resolved}
-use Rattle.lil_meaning.specs.World.{World}
-use Rattle.lil_meaning.specs.Items.{Phase, Going, Trapped, Source}
+use Rattle.std.proofs.lemmas.{Bool.cases_lt, List.{append-nil, append_cancel_left}, Option.same_Some}
+use Rattle.std.specs.{Ordering.nat_cmp, Cmp.Lexicographic.slice_cmp, FinMap.from_entries}
+use Rattle.lil_base.specs.declared.fault.{LimitKind.LimitKind, TrapKind.TrapKind, TrapAt.TrapAt}
+use Rattle.lil_resolved.specs.{Resolved.Resolved, Sizes.{IsSmall, module_strings}}
+use Rattle.lil_meaning.specs.{World.World, Items.{Phase, Going, Trapped, Source}, Runs.{begun, state_of}}
 use Rattle.lil_volume.specs.Told.{followed_by, FollowedByPrefix}
-use Rattle.lil_mcode.specs.declared.machine.Event.{Event}
-use Rattle.lil_mcode.specs.Table.{Module, State, module_at, mstep}
+use Rattle.lil_mcode.specs.{declared.machine.Event.Event, Table.{Module, State, module_at, mstep}, Calls.{Machine, IsRunning, names_of}}
 use Rattle.std.specs.Prelude.{slice_get, option_and_then}
-use Rattle.lil_mcode.specs.Calls.{Machine, IsRunning, names_of}
-use Rattle.lil_session.specs.declared.run.Ending.{Ending}
+use Rattle.lil_session.specs.{declared.{run.Ending.Ending, status.Status.Status}, Running.{finish_of, HasRun, IsCut, IsRefused}, Loaded.{IsIn, IsTrapOf, EndingAnswers, IsPossible}, Outcome.{cuts, settled, EndsSo, MeansAnswer, IsRunAnswer, Blames}, Headline.{Shows, Allowed, IsOver}}
 use Rattle.lil_session.specs.declared.run.Ending.TheVariants as ending
-use Rattle.lil_session.specs.declared.status.Status.{Status}
 use Rattle.lil_session.specs.declared.status.Status.TheVariants as a
-use Rattle.lil_resolved.specs.Sizes.{IsSmall, module_strings}
 use Rattle.lil_table.specs.Rows.{Translates}
-use Rattle.lil_session.specs.Running.{finish_of, HasRun, IsCut, IsRefused}
 use Rattle.lil_match.specs.Running.{Finish, Running, Finished, TrappedBy, Limited, Broken, Run, mrun, running, react, advanced, unless_over}
-use Rattle.lil_session.specs.Loaded.{IsIn, IsTrapOf, EndingAnswers, IsPossible}
-use Rattle.lil_laws.specs.Loading.{body_alone}
-use Rattle.lil_session.specs.Outcome.{cuts, settled, EndsSo, MeansAnswer, IsRunAnswer, Blames}
-use Rattle.lil_session.specs.Headline.{Shows, Allowed, IsOver}
-use Rattle.lil_meaning.specs.Runs.{begun, state_of}
-use Rattle.lil_session.proofs.Screens.{next_piece, later_grows}
-use Rattle.lil_session.proofs.Pieces.{nothing_first}
-use Rattle.lil_session.proofs.Cuts.{later_grown, ends_later, whole_piece}
-use Rattle.lil_session.proofs.Enough.{enough}
-use Rattle.lil_session.proofs.Counting.{machine_end, machine_cut}
-use Rattle.lil_laws.specs.Whole.{TrapsIn, claimed, mrun_add}
-use Rattle.lil_laws.specs.Reaching.{Reaches}
-use Rattle.lil_laws.specs.Alone.{table, own, own_traps, begins, loaded_state, store_alone, correct, reached, alone_traps}
+use Rattle.lil_laws.specs.{Loading.body_alone, Whole.{TrapsIn, claimed, mrun_add}, Reaching.Reaches, Alone.{table, own, own_traps, begins, loaded_state, store_alone, correct, reached, alone_traps}}
+use Rattle.lil_session.proofs.{Screens.{next_piece, later_grows}, Pieces.nothing_first, Cuts.{later_grown, ends_later, whole_piece}, Enough.enough, Counting.{machine_end, machine_cut}}
 
 -- some world in which nothing was shown
 some_world : World

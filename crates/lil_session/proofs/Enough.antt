@@ -1,18 +1,11 @@
 -- A budget of steps is spent only where the meaning goes on for long enough.
 use Rattle.std.proofs.Common.{◌≡◌, ℕ, zero, suc, ◌+◌, ◌*◌, ◌≤◌, Option, Some, None, List, [], ◌∷◌, refl, sym, ap, ◌∙◌, arith}
-use Rattle.lil_resolved.specs.Resolved.{Resolved}
-use Rattle.lil_resolved.specs.Sizes.{IsSmall}
+use Rattle.lil_resolved.specs.{Resolved.Resolved, Sizes.IsSmall}
 use Rattle.lil_base.specs.declared.fault.TrapAt.{TrapAt}
-use Rattle.lil_meaning.specs.World.{World, closing}
-use Rattle.lil_meaning.specs.Items.{Level, Phase, Going, Closing, Source}
-use Rattle.lil_meaning.specs.Steps.{next, by_phase, level_of, left_by, over, over_by}
-use Rattle.lil_meaning.specs.Runs.{after, begun}
+use Rattle.lil_meaning.specs.{World.{World, closing}, Items.{Level, Phase, Going, Closing, Source}, Steps.{next, by_phase, level_of, left_by, over, over_by}, Runs.{after, begun, state_of}}
 use Rattle.lil_table.specs.Rows.{Translates}
 use Rattle.lil_match.specs.Running.{Running, mrun, running}
-use Rattle.lil_meaning.specs.Runs.{state_of}
-use Rattle.lil_laws.specs.Whole.{claimed}
-use Rattle.lil_laws.specs.Alone.{begins, correct}
-use Rattle.lil_laws.specs.Serves.{after_first}
+use Rattle.lil_laws.specs.{Whole.claimed, Alone.{begins, correct}, Serves.after_first}
 
 -- a state that goes on came from one that went on
 going_before : (library : List Resolved) (s : Source) (p : Phase) → s.waiting ≡ [] → s.phase ≡ p → (next library s).phase ≡ Going → p ≡ Going

@@ -1,27 +1,17 @@
 -- A text has one fault or one meaning, and what it says is carried out.
 use Rattle.std.proofs.Common.{◌≡◌, ◌⊎◌, ℕ, ◌+◌, ◌≤◌, ◌<◌, length, nat_le, min, Bool, true, false, List, Option, Some, None, Result, Ok, Err, IfOk, if◌then◌else◌, refl, sym, ap, subst, ◌∙◌, inl, inr, arith}
 use Rattle.std.proofs.lemmas.Bool.{leb-true, le-leb}
-use Rattle.lil_base.specs.declared.fault.Place.{Place}
-use Rattle.lil_base.specs.declared.fault.SourceFault.{SourceFault}
-use Rattle.lil_base.specs.Faults.{fault, code_too_long}
-use Rattle.lil_text.specs.declared.stop.ReadStop.{ReadStop}
-use Rattle.lil_text.specs.declared.stop.ReadStop.TheVariants.{Fault, Memory}
-use Rattle.lil_resolved.specs.Resolved.{Resolved}
-use Rattle.lil_resolved.specs.Kinds.{all_words}
-use Rattle.lil_resolved.specs.Sizes.{code_size, IsSmall}
-use Rattle.lil_resolved.specs.declared.resolved.RModule.{RModule}
-use Rattle.lil_language.specs.Units.{Reads, HasReadFault}
-use Rattle.lil_session.specs.declared.status.Status.{Status}
+use Rattle.lil_base.specs.{declared.fault.{Place.Place, SourceFault.SourceFault}, Faults.{fault, code_too_long}}
+use Rattle.lil_text.specs.declared.stop.ReadStop.{ReadStop, TheVariants.{Fault, Memory}}
+use Rattle.lil_resolved.specs.{Resolved.Resolved, Kinds.all_words, Sizes.{code_size, IsSmall}, declared.resolved.RModule.RModule, Views.module_of as resolved_of}
+use Rattle.lil_language.specs.{Units.{Reads, HasReadFault}, declared.unit.Unit.Unit as Tree}
+use Rattle.lil_session.specs.{declared.status.Status.Status, Outcome.{Verdict, Refused, Means, Silent, coded, module_says, checked_says, says, HasFault, HasMeaning, ReadsOne, stopped_by, ungenerated_by}, Answered.{Carried, TextRan}}
 use Rattle.lil_session.specs.declared.status.Status.TheVariants as a
 use Rattle.lil_interfaces.specs.Interfaces.{residents}
 use Rattle.lil_check_unit.specs.Units.{module_of, program_fault, told, IsThere}
 use Rattle.lil_unit.specs.declared.stop.GenStop.{GenStop}
 use Rattle.lil_unit.specs.declared.stop.GenStop.TheVariants as gen
-use Rattle.lil_session.specs.Outcome.{Verdict, Refused, Means, Silent, coded, module_says, checked_says, says, HasFault, HasMeaning, ReadsOne, stopped_by, ungenerated_by}
-use Rattle.lil_session.specs.Answered.{Carried, TextRan}
 use Rattle.lil_session.proofs.Doing.{shows_none, text_memory, text_not, text_ran}
-use Rattle.lil_resolved.specs.Views.{module_of as resolved_of}
-use Rattle.lil_language.specs.declared.unit.Unit.{Unit as Tree}
 use Rattle.lil_report.specs.declared.report.Fault.{Fault as Checked}
 
 same_fault : (f g : SourceFault) → Refused f ≡ Refused g → f ≡ g

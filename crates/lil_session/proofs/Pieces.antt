@@ -1,8 +1,7 @@
 -- A piece that was put whole or was cut short.
 use Rattle.std.proofs.Common.{◌≡◌, ◌⊎◌, inl, inr, ℕ, zero, suc, List, [], length, take, refl, Option, Result, Ok, Err, OnOk, OnErr, sym, ◌∙◌, ap, arith}
 use Rattle.std.proofs.lemmas.List.{take_all}
-use Rattle.lil_volume.specs.Causes.{Rose}
-use Rattle.lil_volume.specs.Told.{followed_by, FollowedByPrefix}
+use Rattle.lil_volume.specs.{Causes.Rose, Told.{followed_by, FollowedByPrefix}}
 
 pub put_or_cut : {T E : Type 0} (old new : Option (List ℕ)) (piece : List ℕ) (r : Result T E) → OnOk r (new ≡ followed_by old piece) → OnErr r (FollowedByPrefix old piece new) → FollowedByPrefix old piece new
 put_or_cut old new piece (Ok x) whole cut = (length piece, whole ∙ ap (followed_by old) (sym (take_all (length piece) piece (omega arith))))

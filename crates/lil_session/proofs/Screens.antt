@@ -1,15 +1,9 @@
 -- Each step of the meaning adds a piece to the screen, and keeps the keys and the writes: no request reads or writes them yet.
 use Rattle.std.proofs.Common.{◌≡◌, ◌≢◌, ◌⊎◌, inl, inr, ℕ, zero, suc, ◌+◌, ◌-◌, ◌<◌, ◌≤◌, List, [], ◌∷◌, ◌++◌, Some, None, refl, sym, ap, ◌∙◌, subst, arith, append_assoc}
-use Rattle.std.proofs.lemmas.Bool.{cases_lt}
-use Rattle.std.proofs.lemmas.List.{append-nil, append_cancel_left}
+use Rattle.std.proofs.lemmas.{Bool.cases_lt, List.{append-nil, append_cancel_left}}
 use Rattle.lil_resolved.specs.Resolved.{Resolved}
-use Rattle.lil_meaning.specs.World.{World, piece_of}
-use Rattle.lil_meaning.specs.Closings.{closing_shuts, nothing_open}
-use Rattle.lil_meaning.specs.Items.{Source}
-use Rattle.lil_meaning.specs.Steps.{next}
-use Rattle.lil_meaning.specs.Runs.{after}
-use Rattle.lil_laws.specs.Whole.{after_sum}
-use Rattle.lil_laws.specs.Serves.{Turns, next_serves}
+use Rattle.lil_meaning.specs.{World.{World, piece_of}, Closings.{closing_shuts, nothing_open}, Items.Source, Steps.next, Runs.after}
+use Rattle.lil_laws.specs.{Whole.after_sum, Serves.{Turns, next_serves}}
 
 -- a later state has shown more, with the same keys
 pub record Grows (s t : Source) : Type 0 where

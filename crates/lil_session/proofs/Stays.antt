@@ -2,13 +2,9 @@
 use Rattle.std.proofs.Common.{◌≡◌, ◌⊎◌, inl, inr, ℕ, ◌+◌, ◌-◌, ◌<◌, ◌≤◌, List, [], ◌∷◌, refl, sym, ◌∙◌, ap, subst, arith}
 use Rattle.std.proofs.lemmas.Bool.{cases_lt}
 use Rattle.lil_resolved.specs.Resolved.{Resolved}
-use Rattle.lil_meaning.specs.World.{World}
-use Rattle.lil_meaning.specs.Items.{Phase, Ended, Trapped, Source}
-use Rattle.lil_meaning.specs.Steps.{by_phase, next}
-use Rattle.lil_meaning.specs.Runs.{begun, state_of}
+use Rattle.lil_meaning.specs.{World.World, Items.{Phase, Ended, Trapped, Source}, Steps.{by_phase, next}, Runs.{begun, state_of}}
 use Rattle.lil_laws.specs.Whole.{after_sum, source_rests}
-use Rattle.lil_session.specs.declared.status.Status.{Status}
-use Rattle.lil_session.specs.Outcome.{EndsSo}
+use Rattle.lil_session.specs.{declared.status.Status.Status, Outcome.EndsSo}
 
 still_at : (library : List Resolved) (s : Source) (e : Phase) (answer : Status) → s.phase ≡ e → EndsSo e answer → next library s ≡ s
 still_at library s Ended answer is ends = ap (λ (e : Phase). by_phase library e s) is

@@ -4,18 +4,11 @@ use Rattle.std.proofs.lemmas.Bool.{both_ways}
 use Rattle.std.specs.FinMap.{get}
 use Rattle.lil_base.specs.declared.fault.SourceFault.{SourceFault}
 use Rattle.lil_resolved.specs.Resolved.{Resolved}
-use Rattle.lil_meaning.specs.World.{World}
-use Rattle.lil_meaning.specs.Items.{Phase}
-use Rattle.lil_meaning.specs.Runs.{state_of}
+use Rattle.lil_meaning.specs.{World.World, Items.Phase, Runs.state_of}
 use Rattle.lil_volume.specs.Told.{followed_by}
-use Rattle.lil_session.specs.declared.status.Status.{Status}
-use Rattle.lil_session.specs.declared.status.Status.TheVariants as a
-use Rattle.lil_session.specs.Words.{mod_file}
-use Rattle.lil_session.specs.Outcome.{cuts, settled, gives_way, Answers, SourceAnswers, TextAnswers, Blames, EndsSo, Finds, HasFault, HasMeaning, MeansAnswer, Runs}
-use Rattle.lil_session.specs.Counted.{MachineAnswers}
-use Rattle.lil_session.specs.Headline.{Allowed, Headline, IsOver}
-use Rattle.lil_session.specs.Report.{status_lines, is_fixed, Became}
+use Rattle.lil_session.specs.{declared.status.Status.Status, Words.mod_file, Outcome.{cuts, settled, gives_way, Answers, SourceAnswers, TextAnswers, Blames, EndsSo, Finds, HasFault, HasMeaning, MeansAnswer, Runs}, Counted.MachineAnswers, Headline.{Allowed, Headline, IsOver}, Report.{status_lines, is_fixed, Became}}
 use Rattle.lil_session.specs.Answered.{IsAnswer, IsUnrun, Call, CommandReported, Answered}
+use Rattle.lil_session.specs.declared.status.Status.TheVariants as a
 use Rattle.lil_session.proofs.Counting.{ran_settled, ran_memory, over_where}
 
 settled_stays : (s : Status) → settled s ≡ true → gives_way s ≡ false

@@ -1,17 +1,11 @@
 -- A run, step by step.
 use Rattle.std.proofs.Common.{◌≡◌, ◌≢◌, ℕ, zero, suc, ◌+◌, ◌-◌, ◌<◌, option_and_then, Option, Some, None, Result, Ok, Err, OnErr, List, [], ◌++◌, refl, sym, ap, ◌∙◌, subst, arith}
 use Rattle.lil_meaning.specs.World.{World}
-use Rattle.lil_volume.specs.Told.{followed_by}
-use Rattle.lil_volume.specs.Laws.{followed_twice, followed_nothing}
-use Rattle.lil_mcode.specs.Table.{State, mstep}
-use Rattle.lil_mcode.specs.Going.{went, next, gone}
-use Rattle.lil_mcode.specs.declared.machine.Event.{Event}
-use Rattle.lil_mcode.specs.declared.machine.Event.TheVariants.{Went, Request, LevelEnded, Trap, Limit, BadCode}
-use Rattle.lil_session.specs.declared.run.Ending.{Ending}
+use Rattle.lil_volume.specs.{Told.followed_by, Laws.{followed_twice, followed_nothing}}
+use Rattle.lil_mcode.specs.{Table.{State, mstep}, Going.{went, next, gone}, declared.machine.Event.{Event, TheVariants.{Went, Request, LevelEnded, Trap, Limit, BadCode}}}
+use Rattle.lil_session.specs.{declared.run.Ending.Ending, Running.{finish_of, finish_by, IsStep, IsRefused, HasRun, IsCut}}
 use Rattle.lil_session.specs.declared.run.Ending.TheVariants as ending
-use Rattle.lil_session.specs.Running.{finish_of, finish_by, IsStep, IsRefused, HasRun, IsCut}
-use Rattle.lil_match.specs.Running.{Finish, Running, Run, mrun, running, advanced}
-use Rattle.lil_match.specs.Steps.{advances}
+use Rattle.lil_match.specs.{Running.{Finish, Running, Run, mrun, running, advanced}, Steps.advances}
 use Rattle.lil_laws.specs.Whole.{mrun_add, run_rests, run_over}
 
 pub on_err : {T E P : Type 0} (r : Result T E) → P → OnErr r P

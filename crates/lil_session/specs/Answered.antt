@@ -1,21 +1,13 @@
 -- A text was run, a command was done, its answer's lines were written, and what holds of the answer then.
 use Rattle.std.specs.Prelude.{◌≡◌, ◌≢◌, ◌⊎◌, ℕ, true, false, List, [], Option, Some, None, ⊤}
 use Rattle.std.specs.FinMap.{get}
-use Rattle.lil_base.specs.declared.fault.SourceFault.{SourceFault}
-use Rattle.lil_base.specs.declared.fault.TrapAt.{TrapAt}
+use Rattle.lil_base.specs.declared.fault.{SourceFault.SourceFault, TrapAt.TrapAt}
 use Rattle.lil_base.specs.declared.fault.LimitKind.TheVariants as limit
 use Rattle.lil_resolved.specs.Resolved.{Resolved}
-use Rattle.lil_meaning.specs.World.{World}
-use Rattle.lil_meaning.specs.Items.{Ended, Trapped}
-use Rattle.lil_meaning.specs.Runs.{state_of}
-use Rattle.lil_volume.specs.Causes.{Rose}
-use Rattle.lil_volume.specs.Told.{Files, followed_by, FollowedByPrefix}
-use Rattle.lil_session.specs.declared.status.Status.{Status}
+use Rattle.lil_meaning.specs.{World.World, Items.{Ended, Trapped}, Runs.state_of}
+use Rattle.lil_volume.specs.{Causes.Rose, Told.{Files, followed_by, FollowedByPrefix}}
+use Rattle.lil_session.specs.{declared.status.Status.Status, Words.mod_file, Outcome.{Answers, Blames, Devices, EndsSo, Finds, HasFault, HasMeaning, IsRunAnswer, IsRunnable, ReadsOne, ReportBlames, MeansAnswer, Runs, TextAnswers, Verdict, Refused, Means, Silent, cuts, gives_way, settled}, Headline.{Headline, Shows}, Report.{Reported, status_lines}}
 use Rattle.lil_session.specs.declared.status.Status.TheVariants as a
-use Rattle.lil_session.specs.Words.{mod_file}
-use Rattle.lil_session.specs.Outcome.{Answers, Blames, Devices, EndsSo, Finds, HasFault, HasMeaning, IsRunAnswer, IsRunnable, ReadsOne, ReportBlames, MeansAnswer, Runs, TextAnswers, Verdict, Refused, Means, Silent, cuts, gives_way, settled}
-use Rattle.lil_session.specs.Headline.{Headline, Shows}
-use Rattle.lil_session.specs.Report.{Reported, status_lines}
 
 -- the answers of the program: all but those of what isn't built; of the limits that of the store alone
 abbrev pub IsAnswer : Status → Type 0

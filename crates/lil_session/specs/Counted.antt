@@ -1,18 +1,14 @@
 -- What the machine did, counted in instructions, and the answer of it.
 use Rattle.std.specs.Prelude.{◌≡◌, ◌≢◌, ◌⊎◌, ℕ, suc, ◌≤◌, true, List, Option, ⊤}
 use Rattle.lil_base.specs.declared.fault.LimitKind.{LimitKind}
-use Rattle.lil_resolved.specs.Resolved.{Resolved}
-use Rattle.lil_resolved.specs.Sizes.{module_strings}
-use Rattle.lil_meaning.specs.World.{World}
+use Rattle.lil_resolved.specs.{Resolved.Resolved, Sizes.module_strings}
+use Rattle.lil_meaning.specs.{World.World, Runs.state_of}
 use Rattle.lil_volume.specs.Told.{followed_by}
-use Rattle.lil_session.specs.declared.status.Status.{Status}
+use Rattle.lil_session.specs.{declared.status.Status.Status, Outcome.settled, Running.IsRefused}
 use Rattle.lil_session.specs.declared.status.Status.TheVariants as a
 use Rattle.lil_table.specs.Rows.{Translates}
 use Rattle.lil_match.specs.Running.{Finish, Running, Finished, TrappedBy, Limited, mrun, running}
 use Rattle.lil_laws.specs.Loading.{IsSpent, loaded}
-use Rattle.lil_session.specs.Outcome.{settled}
-use Rattle.lil_session.specs.Running.{IsRefused}
-use Rattle.lil_meaning.specs.Runs.{state_of}
 
 -- a run that has come to its end
 abbrev pub IsEnd : Finish → Type 0

@@ -1,14 +1,10 @@
 -- THE HEADLINE: what a text with a meaning shows, and how far its meaning has come.
 use Rattle.std.specs.Prelude.{◌≡◌, ◌≢◌, ◌⊎◌, ℕ, suc, ◌+◌, ◌*◌, ◌≤◌, List, [], ◌∷◌, ◌++◌, Option, Some, ⊤}
 use Rattle.lil_resolved.specs.Resolved.{Resolved}
-use Rattle.lil_meaning.specs.World.{World}
-use Rattle.lil_meaning.specs.Items.{Source, Phase, Going, Ended, Trapped}
-use Rattle.lil_meaning.specs.Runs.{state_of}
+use Rattle.lil_meaning.specs.{World.World, Items.{Source, Phase, Going, Ended, Trapped}, Runs.state_of}
 use Rattle.lil_volume.specs.Told.{Files, with_file, followed_by, FollowedByPrefix}
-use Rattle.lil_session.specs.declared.status.Status.{Status}
+use Rattle.lil_session.specs.{declared.status.Status.Status, Outcome.Devices, Counted.MachineAnswers}
 use Rattle.lil_session.specs.declared.status.Status.TheVariants as a
-use Rattle.lil_session.specs.Outcome.{Devices}
-use Rattle.lil_session.specs.Counted.{MachineAnswers}
 
 -- files after a list of writes
 abbrev pub with_writes : Option Files → List (List ℕ × List ℕ) → Option Files

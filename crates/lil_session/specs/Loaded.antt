@@ -1,13 +1,10 @@
 -- What the ending of a run answers.
 use Rattle.std.specs.Prelude.{◌≡◌, ◌⊎◌, ℕ, List, Option, Some, slice_get}
-use Rattle.lil_base.specs.declared.fault.TrapKind.{TrapKind}
-use Rattle.lil_base.specs.declared.fault.TrapAt.{TrapAt}
+use Rattle.lil_base.specs.declared.fault.{TrapKind.TrapKind, TrapAt.TrapAt}
 use Rattle.lil_base.specs.declared.fault.LimitKind.TheVariants as limit
-use Rattle.lil_mcode.specs.Table.{Module, module_at}
-use Rattle.lil_mcode.specs.Calls.{Machine, IsRunning, names_of}
-use Rattle.lil_session.specs.declared.run.Ending.{Ending}
+use Rattle.lil_mcode.specs.{Table.{Module, module_at}, Calls.{Machine, IsRunning, names_of}}
+use Rattle.lil_session.specs.declared.{run.Ending.Ending, status.Status.Status}
 use Rattle.lil_session.specs.declared.run.Ending.TheVariants as ending
-use Rattle.lil_session.specs.declared.status.Status.{Status}
 use Rattle.lil_session.specs.declared.status.Status.TheVariants as answer
 
 -- the machine looked last at an instruction of this module, which has procedures

@@ -1,28 +1,20 @@
 -- How an answer, what the devices hold and their counts go together.
 use Rattle.std.specs.Prelude.{◌≡◌, ◌⊎◌, ℕ, ◌≤◌, nat_le, min, Bool, true, false, List, [], Option, Some, None, if◌then◌else◌, ⊤}
 use Rattle.std.specs.FinMap.{get}
-use Rattle.lil_base.specs.Faults.{code_too_long}
-use Rattle.lil_base.specs.declared.fault.Place.{Place}
-use Rattle.lil_base.specs.declared.fault.SourceFault.{SourceFault}
+use Rattle.lil_base.specs.{Faults.code_too_long, declared.fault.{Place.Place, SourceFault.SourceFault}}
 use Rattle.lil_base.specs.declared.fault.LimitKind.TheVariants as limit
-use Rattle.lil_resolved.specs.Resolved.{Resolved}
-use Rattle.lil_resolved.specs.Sizes.{code_size}
+use Rattle.lil_resolved.specs.{Resolved.Resolved, Sizes.code_size}
 use Rattle.lil_unit.specs.declared.stop.GenStop.{GenStop}
 use Rattle.lil_unit.specs.declared.stop.GenStop.TheVariants as gen
 use Rattle.lil_text.specs.declared.stop.ReadStop.{ReadStop}
 use Rattle.lil_text.specs.declared.stop.ReadStop.TheVariants as why
-use Rattle.lil_language.specs.Units.{Reads, HasReadFault}
+use Rattle.lil_language.specs.{Units.{Reads, HasReadFault}, declared.unit.Unit.Unit as Tree}
 use Rattle.lil_interfaces.specs.Interfaces.{residents}
 use Rattle.lil_check_unit.specs.Units.{module_of, program_fault, told}
-use Rattle.lil_meaning.specs.World.{World}
-use Rattle.lil_meaning.specs.Items.{Phase, Going, Closing, Ended, Trapped}
-use Rattle.lil_meaning.specs.Runs.{state_of}
-use Rattle.lil_volume.specs.Causes.{Rose}
-use Rattle.lil_volume.specs.Told.{Files, FileIs}
-use Rattle.lil_session.specs.declared.status.Status.{Status}
+use Rattle.lil_meaning.specs.{World.World, Items.{Phase, Going, Closing, Ended, Trapped}, Runs.state_of}
+use Rattle.lil_volume.specs.{Causes.Rose, Told.{Files, FileIs}}
+use Rattle.lil_session.specs.{declared.status.Status.Status, Words.mod_file}
 use Rattle.lil_session.specs.declared.status.Status.TheVariants as a
-use Rattle.lil_session.specs.Words.{mod_file}
-use Rattle.lil_language.specs.declared.unit.Unit.{Unit as Tree}
 use Rattle.lil_report.specs.declared.report.Fault.{Fault as Checked}
 
 -- the exit status of an answer

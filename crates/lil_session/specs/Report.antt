@@ -1,21 +1,12 @@
 -- The lines of the report, each with its byte 10, and how they are written.
 use Rattle.std.specs.Prelude.{◌≡◌, ◌≢◌, ◌⊎◌, ℕ, ◌==◌, if◌then◌else◌, ◌≤◌, Bool, true, false, List, [], ◌∷◌, ◌++◌, codes, decimal, Option, Some, None}
-use Rattle.lil_base.specs.Faults.{fault_name}
-use Rattle.lil_base.specs.declared.fault.SourceFault.{SourceFault}
-use Rattle.lil_base.specs.declared.fault.TrapAt.{TrapAt}
-use Rattle.lil_base.specs.declared.fault.CodePlace.{CodePlace}
-use Rattle.lil_base.specs.declared.fault.TrapKind.{TrapKind}
+use Rattle.lil_base.specs.{Faults.fault_name, declared.fault.{SourceFault.SourceFault, TrapAt.TrapAt, CodePlace.CodePlace, TrapKind.TrapKind, LimitKind.LimitKind, LoadRefusal.LoadRefusal}}
 use Rattle.lil_base.specs.declared.fault.TrapKind.TheVariants as trap
-use Rattle.lil_base.specs.declared.fault.LimitKind.{LimitKind}
 use Rattle.lil_base.specs.declared.fault.LimitKind.TheVariants as limit
-use Rattle.lil_base.specs.declared.fault.LoadRefusal.{LoadRefusal}
 use Rattle.lil_base.specs.declared.fault.LoadRefusal.TheVariants as load
-use Rattle.lil_volume.specs.Causes.{Rose}
-use Rattle.lil_volume.specs.Told.{followed_by, FollowedByPrefix}
-use Rattle.lil_session.specs.declared.status.Status.{Status}
+use Rattle.lil_volume.specs.{Causes.Rose, Told.{followed_by, FollowedByPrefix}}
+use Rattle.lil_session.specs.{declared.status.Status.Status, Outcome.{gives_way, settled, ReportBlames}, Words.once_word}
 use Rattle.lil_session.specs.declared.status.Status.TheVariants as a
-use Rattle.lil_session.specs.Outcome.{gives_way, settled, ReportBlames}
-use Rattle.lil_session.specs.Words.{once_word}
 
 abbrev pub trap_name : TrapKind → List ℕ
 trap_name trap.Range = codes "range"

@@ -1,7 +1,6 @@
 -- How a run goes on, is cut or ends, as the screen shows it.
 use Rattle.std.specs.Prelude.{◌≡◌, ℕ, suc, ◌≤◌, List, ◌++◌, Option, Some, None}
-use Rattle.lil_mcode.specs.declared.machine.Event.TheVariants.{Request}
-use Rattle.lil_mcode.specs.Table.{State, mstep}
+use Rattle.lil_mcode.specs.{declared.machine.Event.TheVariants.Request, Table.{State, mstep}}
 use Rattle.lil_base.specs.declared.request.Request as requests
 use Rattle.lil_meaning.specs.World.{World, piece_of}
 use Rattle.lil_volume.specs.Told.{followed_by, FollowedByPrefix}

@@ -1,6 +1,5 @@
 ghost use Rattle.std.specs.Prelude.{◌≡◌, ℕ, List, [], ◌∷◌, Option, Bool, true, IfOk, OnOk, OnErr};
-ghost use Rattle.lil_volume.specs.Causes.{HasCause};
-ghost use Rattle.lil_volume.specs.Told.{followed_by, KeyTaken as WordGiven};
+ghost use Rattle.lil_volume.specs.{Causes.HasCause, Told.{followed_by, KeyTaken as WordGiven}};
 
 use std::alloc::Global;
 use thiserror::Error;

@@ -1,8 +1,6 @@
 ghost use Rattle.std.specs.Prelude.{◌≡◌, ◌≢◌, ◌⊎◌, ◌≤◌, true, false};
-ghost use Rattle.lil_volume.specs.Causes.{Rose};
-ghost use Rattle.lil_volume.specs.Told.{followed_by, FollowedByPrefix};
-ghost use Rattle.lil_session.specs.Outcome.{gives_way};
-ghost use Rattle.lil_session.specs.Report.{is_fixed, Lined, Reported};
+ghost use Rattle.lil_volume.specs.{Causes.Rose, Told.{followed_by, FollowedByPrefix}};
+ghost use Rattle.lil_session.specs.{Outcome.gives_way, Report.{is_fixed, Lined, Reported}};
 
 use crate::Status;
 use crate::lines::made_lines;

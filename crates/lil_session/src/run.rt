@@ -1,18 +1,13 @@
 ghost use Rattle.std.specs.Prelude.{◌≡◌, ◌≢◌, ◌⊎◌, ◌≤◌, [], true, length, IfOk, OnErr, Ok, Some};
-ghost use Rattle.lil_resolved.specs.Views.{module_of};
+ghost use Rattle.lil_resolved.specs.{Views.module_of, Sizes.{IsSmall, code_size, module_strings}, Kinds.all_words};
 ghost use Rattle.lil_meaning.specs.World.{World};
 ghost use Rattle.lil_mcode.specs.Table.{Module, State, mstep};
 ghost use Rattle.lil_volume.specs.Causes.{HasCause};
 ghost use Rattle.lil_base.specs.declared.fault.TrapKind.{TrapKind};
 ghost use Rattle.lil_session.specs.declared.run.Ending.TheVariants as ending;
-ghost use Rattle.lil_resolved.specs.Sizes.{IsSmall, code_size, module_strings};
-ghost use Rattle.lil_resolved.specs.Kinds.{all_words};
 ghost use Rattle.lil_table.specs.Rows.{Translates};
-ghost use Rattle.lil_session.specs.Running.{finish_of, finish_by, IsStep, IsRefused, HasRun, IsCut};
-ghost use Rattle.lil_session.specs.Outcome.{cuts, settled, Blames, MeansAnswer, IsRunAnswer};
-ghost use Rattle.lil_session.specs.Headline.{Shows};
+ghost use Rattle.lil_session.specs.{Running.{finish_of, finish_by, IsStep, IsRefused, HasRun, IsCut}, Outcome.{cuts, settled, Blames, MeansAnswer, IsRunAnswer}, Headline.Shows, Loaded.{IsIn, IsTrapOf, EndingAnswers, IsPossible}};
 ghost use Rattle.std.specs.Option.{option_copied};
-ghost use Rattle.lil_session.specs.Loaded.{IsIn, IsTrapOf, EndingAnswers, IsPossible};
 ghost use Rattle.lil_laws.specs.Loading.{loaded};
 
 use crate::Status;

@@ -1,11 +1,6 @@
 ghost use Rattle.std.specs.Prelude.{◌≡◌, ◌+◌, ◌≤◌, length, Some, None, false};
-ghost use Rattle.lil_resolved.specs.Views.{module_of, IsMeasured};
-ghost use Rattle.lil_resolved.specs.Sound.{IsSound};
-ghost use Rattle.lil_resolved.specs.Kinds.{all_words};
-ghost use Rattle.lil_resolved.specs.Sizes.{module_strings};
-ghost use Rattle.lil_session.specs.Words.{mod_file, name_of_word};
-ghost use Rattle.lil_session.specs.Outcome.{devices, stopped_by, ungenerated_by, coded, says};
-ghost use Rattle.lil_session.specs.Answered.{Carried, TextRan, CommandRan, CommandReported, Answered};
+ghost use Rattle.lil_resolved.specs.{Views.{module_of, IsMeasured}, Sound.IsSound, Kinds.all_words, Sizes.module_strings};
+ghost use Rattle.lil_session.specs.{Words.{mod_file, name_of_word}, Outcome.{devices, stopped_by, ungenerated_by, coded, says}, Answered.{Carried, TextRan, CommandRan, CommandReported, Answered}};
 
 use crate::report::write_report;
 use crate::run::run_program;

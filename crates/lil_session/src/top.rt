@@ -1,8 +1,5 @@
 ghost use Rattle.std.specs.Prelude.{◌≡◌};
-ghost use Rattle.lil_session.specs.Words.{source_name};
-ghost use Rattle.lil_session.specs.Outcome.{devices};
-ghost use Rattle.lil_session.specs.Report.{file_of};
-ghost use Rattle.lil_session.specs.Answered.{Answered, CommandReported};
+ghost use Rattle.lil_session.specs.{Words.source_name, Outcome.devices, Report.file_of, Answered.{Answered, CommandReported}};
 
 use crate::report::write_report;
 use crate::text_run::report_once;

@@ -1,6 +1,5 @@
 ghost use Rattle.std.specs.Prelude.{◌≡◌, IfOk};
-ghost use Rattle.std.specs.Option.{option_copied};
-ghost use Rattle.std.specs.Str.{bytes_eq};
+ghost use Rattle.std.specs.{Option.option_copied, Str.bytes_eq};
 ghost use Rattle.lil_session.specs.Words.{name_of_word, once_word};
 
 use lil_base::{Memory, Name, Text};

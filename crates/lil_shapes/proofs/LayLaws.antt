@@ -1,17 +1,10 @@
 -- Variables one behind another, one more at the end.
 use Rattle.std.proofs.Common.{◌≡◌, ℕ, ◌+◌, ◌<◌, Bool, true, false, if◌then◌else◌, List, [], ◌∷◌, ◌++◌, length, map, take, get_or, slice_get, Option, None, Some, refl, sym, ap, subst, ◌∙◌, arith}
 use Rattle.std.specs.Option.{option_map}
-use Rattle.std.proofs.lemmas.List.{map_push, map_more}
-use Rattle.std.proofs.lemmas.Option.{same_Some}
+use Rattle.std.proofs.lemmas.{List.{map_push, map_more}, Option.same_Some}
 use Rattle.lil_declared.specs.declared.declared.RVar.{RVar}
-use Rattle.lil_resolved.specs.Kinds.{Shape, words, is_there, all_words, offsets_from, shape_by, shape_at}
-use Rattle.lil_resolved.specs.Views.{name_of, offset_of, shape_declared}
-use Rattle.lil_resolved.specs.declared.resolved.RDeclared.{RDeclared}
-use Rattle.lil_shapes.specs.declared.laying.Laid.{Laid}
-use Rattle.lil_shapes.specs.declared.shapes.Shaped.{Shaped}
-use Rattle.lil_shapes.specs.Measured.{behind, shapes_in, variable_name, shapes_laid, IsLaid}
-use Rattle.lil_shapes.specs.Shaping.{there, lying, variables_by}
-use Rattle.lil_shapes.specs.ListLaws.{some_more}
+use Rattle.lil_resolved.specs.{Kinds.{Shape, words, is_there, all_words, offsets_from, shape_by, shape_at}, Views.{name_of, offset_of, shape_declared}, declared.resolved.RDeclared.RDeclared}
+use Rattle.lil_shapes.specs.{declared.{laying.Laid.Laid, shapes.Shaped.Shaped}, Measured.{behind, shapes_in, variable_name, shapes_laid, IsLaid}, Shaping.{there, lying, variables_by}, ListLaws.some_more}
 use Rattle.lil_shapes.proofs.ShapeLaws.{words_more, offsets_more, behind_some, behind_none, too_much}
 
 -- variables so far, and how many words they take

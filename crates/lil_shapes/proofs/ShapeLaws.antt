@@ -1,23 +1,11 @@
 -- Shapes one behind another: their words, one more at the end, and the shapes of records and of all types that are made.
 use Rattle.std.proofs.Common.{◌≡◌, ℕ, zero, suc, ◌+◌, ◌<◌, ◌≤◌, nat_le, List, [], ◌∷◌, ◌++◌, length, map, take, drop, get_or, slice_get, Option, None, Some, inl, inr, refl, sym, ap, subst, ◌∙◌, add-one, arith}
 use Rattle.std.specs.Option.{option_map}
-use Rattle.std.proofs.lemmas.Bool.{cond-false, cases_lt}
-use Rattle.std.proofs.lemmas.Bool.Decides.{nat_tests}
-use Rattle.std.proofs.lemmas.List.{map-append, map_push}
-use Rattle.std.proofs.lemmas.Option.{same_Some, slice_get_within}
-use Rattle.std.proofs.Math.Seq.{split_at}
-use Rattle.lil_types.specs.Types.{Table}
-use Rattle.lil_types.specs.declared.table.Field.{Field}
-use Rattle.lil_resolved.specs.Kinds.{Shape, words, all_words, offsets_from, shape_by, shape_at, fields_of}
-use Rattle.lil_resolved.specs.Views.{number_of, shape_with, shapes_behind, shapes_of, AreMeasuredFields, IsMeasuredShape, AreMeasured}
-use Rattle.lil_resolved.specs.declared.shapes.RField.{RField}
-use Rattle.lil_resolved.specs.declared.shapes.RShape.{RShape}
+use Rattle.std.proofs.{lemmas.{Bool.{cond-false, cases_lt, Decides.nat_tests}, List.{map-append, map_push}, Option.{same_Some, slice_get_within}}, Math.Seq.split_at}
+use Rattle.lil_types.specs.{Types.Table, declared.table.Field.Field}
+use Rattle.lil_resolved.specs.{Kinds.{Shape, words, all_words, offsets_from, shape_by, shape_at, fields_of}, Views.{number_of, shape_with, shapes_behind, shapes_of, AreMeasuredFields, IsMeasuredShape, AreMeasured}, declared.shapes.{RField.RField, RShape.RShape}}
 use Rattle.lil_resolved.specs.declared.shapes.RShape.TheVariants as r
-use Rattle.lil_shapes.specs.declared.shapes.Made.{Made}
-use Rattle.lil_shapes.specs.declared.shapes.Shaped.{Shaped}
-use Rattle.lil_shapes.specs.Measured.{size_of, behind, shapes_in, shape_made, IsShaped, IsMade}
-use Rattle.lil_shapes.specs.Shaping.{all_some, within, field_shape, shape, with_next, shapes_below, shapes}
-use Rattle.lil_shapes.specs.ListLaws.{some_append, some_more}
+use Rattle.lil_shapes.specs.{declared.shapes.{Made.Made, Shaped.Shaped}, Measured.{size_of, behind, shapes_in, shape_made, IsShaped, IsMade}, Shaping.{all_some, within, field_shape, shape, with_next, shapes_below, shapes}, ListLaws.{some_append, some_more}}
 
 -- ---- words
 words_append : (ts us : List Shape) → all_words (ts ++ us) ≡ all_words ts + all_words us

@@ -2,9 +2,7 @@
 use Rattle.std.proofs.Common.{◌≡◌, ℕ, ◌+◌, ◌≤◌, List, [], ◌∷◌, ◌++◌, length, ap, ◌∙◌, refl, add-one, arith}
 use Rattle.std.proofs.lemmas.List.{length-map}
 use Rattle.lil_types.specs.Types.{Table}
-use Rattle.lil_shapes.specs.declared.shapes.Shaped.{Shaped}
-use Rattle.lil_shapes.specs.Measured.{size_of, shapes_in, IsShaped}
-use Rattle.lil_shapes.specs.Pointers.{pointed, number_or, targets_below}
+use Rattle.lil_shapes.specs.{declared.shapes.Shaped.Shaped, Measured.{size_of, shapes_in, IsShaped}, Pointers.{pointed, number_or, targets_below}}
 
 pub none_below : (t : Table) → targets_below t 0 ≡ []
 unfolding targets_below

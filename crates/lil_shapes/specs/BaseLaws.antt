@@ -1,23 +1,13 @@
 -- Bases and kinds of types: they have words, and a kind goes with its base type.
 use Rattle.std.proofs.Common.{◌≡◌, ℕ, ℤ, pos, negsuc, zero, suc, Bool, true, false, length, Option, None, Some, IfSome, if◌then◌else◌, not, ◌&&◌, refl, ap, subst, arith}
 use Rattle.std.specs.Prelude.{◌==◌, ◌≤ℤ◌, nat_le}
-use Rattle.std.proofs.lemmas.Int.{ints}
-use Rattle.std.proofs.lemmas.Option.{none-some}
-use Rattle.std.proofs.lemmas.Bool.Decides.{nat_tests}
+use Rattle.std.proofs.lemmas.{Int.ints, Option.none-some, Bool.Decides.nat_tests}
 use Rattle.lil_base.specs.Laws.{bounds}
-use Rattle.lil_types.specs.Types.{Table, integer, cardinal, boolean, char, bit_set, address, entry}
+use Rattle.lil_types.specs.{Types.{Table, integer, cardinal, boolean, char, bit_set, address, entry}, declared.table.{TypeForm.{TypeForm, TheVariants.{Enumeration, Subrange, Array, Record, SetOf, Pointer, Procedure, Opaque}}, TypeEntry.TypeEntry}}
 use Rattle.lil_types.specs.Types as types
-use Rattle.lil_types.specs.declared.table.TypeForm.{TypeForm}
-use Rattle.lil_types.specs.declared.table.TypeForm.TheVariants.{Enumeration, Subrange, Array, Record, SetOf, Pointer, Procedure, Opaque}
-use Rattle.lil_types.specs.declared.table.TypeEntry.{TypeEntry}
-use Rattle.lil_resolved.specs.declared.resolved.RBase.{RBase}
+use Rattle.lil_resolved.specs.{declared.resolved.{RBase.RBase, RKind.RKind}, Kinds.{Pointee, Objects, Workspaces, Kind, OfTruth, OfCharacter, OfSet, OfPointer, is_base, within, is_reference, is_literal, scalar_of, ordinal_of}, MemberLaws.word_of_set, Views.base_view}
 use Rattle.lil_resolved.specs.declared.resolved.RBase.TheVariants as b
-use Rattle.lil_resolved.specs.declared.resolved.RKind.{RKind}
-use Rattle.lil_resolved.specs.Kinds.{Pointee, Objects, Workspaces, Kind, OfTruth, OfCharacter, OfSet, OfPointer, is_base, within, is_reference, is_literal, scalar_of, ordinal_of}
-use Rattle.lil_resolved.specs.MemberLaws.{word_of_set}
-use Rattle.lil_resolved.specs.Views.{base_view}
-use Rattle.lil_shapes.specs.Bases.{standard, base_form, base_by, base_at, kind_form, kind_by, kind_over, kind_at}
-use Rattle.lil_shapes.specs.Operators.{has_number}
+use Rattle.lil_shapes.specs.{Bases.{standard, base_form, base_by, base_at, kind_form, kind_by, kind_over, kind_at}, Operators.has_number}
 
 pub if_so : {A : Type 0} (P : A → Type 0) (b : Bool) (o : Option A) → (b ≡ true → IfSome o P) → IfSome (if b then o else None) P
 if_so P true o h = h refl

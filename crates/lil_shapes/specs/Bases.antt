@@ -1,20 +1,10 @@
 -- The kinds of the types of a module, what may be in sets, and the parts of types.
 use Rattle.std.specs.Prelude.{ℕ, Bool, true, false, slice_get, Option, Some, None, ◌==◌, pos, if◌then◌else◌, nat_le, length}
 use Rattle.std.specs.Option.{option_map}
-use Rattle.lil_types.specs.Types.{Table, entry, cardinal, bit_set, base, char, integer, boolean, address}
-use Rattle.lil_types.specs.declared.table.Field.{Field}
-use Rattle.lil_types.specs.declared.table.TypeForm.{TypeForm}
-use Rattle.lil_types.specs.declared.table.TypeForm.TheVariants.{Array, Record, SetOf, Enumeration, Subrange, Pointer}
-use Rattle.lil_types.specs.declared.table.TypeEntry.{TypeEntry}
-use Rattle.lil_shapes.specs.declared.composites.ArrayParts.{ArrayParts}
+use Rattle.lil_types.specs.{Types.{Table, entry, cardinal, bit_set, base, char, integer, boolean, address}, declared.table.{Field.Field, TypeForm.{TypeForm, TheVariants.{Array, Record, SetOf, Enumeration, Subrange, Pointer}}, TypeEntry.TypeEntry, Span.Span}}
+use Rattle.lil_shapes.specs.declared.{composites.ArrayParts.ArrayParts, members.Members.Members}
 use Rattle.lil_resolved.specs.declared.resolved.RBase.TheVariants as b
-use Rattle.lil_resolved.specs.declared.resolved.RKind.{RKind}
-use Rattle.lil_shapes.specs.declared.members.Members.{Members}
-use Rattle.lil_resolved.specs.Kinds.{numbers}
-use Rattle.lil_resolved.specs.Views.{kind_view}
-use Rattle.lil_types.specs.declared.table.Span.{Span}
-use Rattle.lil_resolved.specs.declared.resolved.RBase.{RBase}
-use Rattle.lil_resolved.specs.declared.resolved.RRange.{RRange}
+use Rattle.lil_resolved.specs.{declared.resolved.{RKind.RKind, RBase.RBase, RRange.RRange}, Kinds.numbers, Views.kind_view}
 
 -- ---- the parts of types: the fields of records, and the indexes and elements of arrays
 

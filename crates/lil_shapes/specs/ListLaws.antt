@@ -2,9 +2,7 @@
 use Rattle.std.proofs.Common.{◌≡◌, List, Some, None, ◌∙◌, sym, ap, ℕ, zero, suc, ◌+◌, ◌<◌, [], ◌∷◌, ◌++◌, length, map, take, drop, get_or, slice_get, Option, subst, refl}
 use Rattle.lil_shapes.specs.Shaping.{all_some}
 use Rattle.std.specs.Option.{option_map}
-use Rattle.std.proofs.lemmas.List.{take_more, map-append}
-use Rattle.std.proofs.lemmas.Option.{none-some, same_Some}
-use Rattle.std.proofs.Math.Seq.{split_at}
+use Rattle.std.proofs.{lemmas.{List.{take_more, map-append}, Option.{none-some, same_Some}}, Math.Seq.split_at}
 
 -- ---- all variables that lie one behind another, in at most 32,000 words
 

@@ -1,12 +1,8 @@
 -- What shapes and variables that are made say, and that their words are counted.
 use Rattle.std.specs.Prelude.{◌≡◌, ℕ, ◌+◌, ◌≤◌, nat_le, List, [], map, Option, Some, None, if◌then◌else◌}
 use Rattle.lil_declared.specs.declared.declared.RVar.{RVar}
-use Rattle.lil_resolved.specs.Kinds.{Shape, words, is_there, all_words, offsets_from}
-use Rattle.lil_resolved.specs.Views.{shapes_of, shape_with, shape_declared, name_of, offset_of, IsMeasuredShape, AreMeasured}
-use Rattle.lil_shapes.specs.declared.laying.Laid.{Laid}
-use Rattle.lil_shapes.specs.declared.shapes.Made.{Made}
-use Rattle.lil_shapes.specs.declared.shapes.Shaped.{Shaped}
-use Rattle.lil_shapes.specs.Shaping.{all_some, lying}
+use Rattle.lil_resolved.specs.{Kinds.{Shape, words, is_there, all_words, offsets_from}, Views.{shapes_of, shape_with, shape_declared, name_of, offset_of, IsMeasuredShape, AreMeasured}}
+use Rattle.lil_shapes.specs.{declared.{laying.Laid.Laid, shapes.{Made.Made, Shaped.Shaped}}, Shaping.{all_some, lying}}
 
 -- how many words a shape takes, if it is there
 abbrev pub size_of : Shape → Option ℕ

@@ -1,14 +1,9 @@
 -- What pointers point to.
 use Rattle.std.specs.Prelude.{ℕ, zero, suc, Bool, ◌||◌, List, [], ◌∷◌, ◌++◌, length, map, is_some, Option, Some, None, if◌then◌else◌}
-use Rattle.lil_types.specs.Types.{Table, entry}
-use Rattle.lil_types.specs.declared.table.TypeForm.{TypeForm}
+use Rattle.lil_types.specs.{Types.{Table, entry}, declared.table.{TypeForm.TypeForm, TypeEntry.TypeEntry}}
 use Rattle.lil_types.specs.declared.table.TypeForm.TheVariants as form
-use Rattle.lil_types.specs.declared.table.TypeEntry.{TypeEntry}
-use Rattle.lil_resolved.specs.Kinds.{Objects, Kind, OfPointer, Shape, shape_at}
-use Rattle.lil_resolved.specs.Views.{kind_view}
-use Rattle.lil_resolved.specs.declared.resolved.RKind.{RKind}
-use Rattle.lil_shapes.specs.declared.pointers.Target.{Target}
-use Rattle.lil_shapes.specs.Bases.{kind_at, composite_at}
+use Rattle.lil_resolved.specs.{Kinds.{Objects, Kind, OfPointer, Shape, shape_at}, Views.kind_view, declared.resolved.RKind.RKind}
+use Rattle.lil_shapes.specs.{declared.pointers.Target.Target, Bases.{kind_at, composite_at}}
 
 abbrev pub pointed_in : TypeForm → Option ℕ
 pointed_in (form.Pointer n) = Some n

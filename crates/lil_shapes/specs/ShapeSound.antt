@@ -1,21 +1,10 @@
 -- What lies at the parts of a type, by the shapes of all types.
 use Rattle.std.proofs.Common.{◌≡◌, ℕ, zero, suc, ◌+◌, ◌*◌, nat_le, List, [], ◌∷◌, ◌++◌, length, map, slice_get, true, Option, None, Some, ◌⊎◌, inl, inr, refl, sym, ap, subst, ◌∙◌, add-one, true≢false}
 use Rattle.std.specs.Option.{option_map}
-use Rattle.std.proofs.lemmas.List.{length_push}
-use Rattle.std.proofs.lemmas.Option.{none-some, same_Some, cond_some}
-use Rattle.lil_types.specs.Types.{Table, entry, base}
-use Rattle.lil_types.specs.declared.table.Field.{Field}
-use Rattle.lil_types.specs.declared.table.TypeForm.{TypeForm}
-use Rattle.lil_types.specs.declared.table.TypeForm.TheVariants.{Array, Record}
-use Rattle.lil_types.specs.declared.table.TypeEntry.{TypeEntry}
-use Rattle.lil_resolved.specs.Kinds.{numbers, Shape, Word, Row, words, is_there, all_words, part_at, fields_of, element_of, count_of}
-use Rattle.lil_resolved.specs.Views.{kind_view}
-use Rattle.lil_resolved.specs.declared.resolved.RBase.{RBase}
-use Rattle.lil_resolved.specs.declared.resolved.RKind.{RKind}
-use Rattle.lil_shapes.specs.declared.composites.ArrayParts.{ArrayParts}
-use Rattle.lil_shapes.specs.Bases.{base_at, kind_form, kind_over, kind_at, field_sort, field_in, field_by, field_at, array_in, array_by, array_at, is_composite, composite_by, composite_at}
-use Rattle.lil_shapes.specs.Shaping.{all_some, within, row, field_shape, shape_in, shape_by, shape, with_next, shapes_below}
-use Rattle.lil_shapes.specs.ListLaws.{some_at}
+use Rattle.std.proofs.lemmas.{List.length_push, Option.{none-some, same_Some, cond_some}}
+use Rattle.lil_types.specs.{Types.{Table, entry, base}, declared.table.{Field.Field, TypeForm.{TypeForm, TheVariants.{Array, Record}}, TypeEntry.TypeEntry}}
+use Rattle.lil_resolved.specs.{Kinds.{numbers, Shape, Word, Row, words, is_there, all_words, part_at, fields_of, element_of, count_of}, Views.kind_view, declared.resolved.{RBase.RBase, RKind.RKind}}
+use Rattle.lil_shapes.specs.{declared.composites.ArrayParts.ArrayParts, Bases.{base_at, kind_form, kind_over, kind_at, field_sort, field_in, field_by, field_at, array_in, array_by, array_at, is_composite, composite_by, composite_at}, Shaping.{all_some, within, row, field_shape, shape_in, shape_by, shape, with_next, shapes_below}, ListLaws.some_at}
 
 -- ---- lists
 pub at_end : {A : Type 0} (xs : List A) (y x : A) (i : ℕ) → slice_get (xs ++ y ∷ []) i ≡ Some x → (slice_get xs i ≡ Some x) ⊎ ((i ≡ length xs) × (y ≡ x))

@@ -1,15 +1,9 @@
 -- What lies in variables of the types of a module: shapes by the types' numbers.
 use Rattle.std.specs.Prelude.{ℕ, zero, suc, ◌+◌, ◌*◌, nat_le, List, [], ◌∷◌, ◌++◌, length, map, slice_get, Option, Some, None, if◌then◌else◌}
 use Rattle.std.specs.Option.{option_map}
-use Rattle.lil_types.specs.Types.{Table, entry}
-use Rattle.lil_types.specs.declared.table.Field.{Field}
-use Rattle.lil_types.specs.declared.table.TypeForm.{TypeForm}
-use Rattle.lil_types.specs.declared.table.TypeForm.TheVariants.{Array, Record}
-use Rattle.lil_types.specs.declared.table.TypeEntry.{TypeEntry}
+use Rattle.lil_types.specs.{Types.{Table, entry}, declared.table.{Field.Field, TypeForm.{TypeForm, TheVariants.{Array, Record}}, TypeEntry.TypeEntry}}
 use Rattle.lil_declared.specs.declared.declared.RVar.{RVar}
-use Rattle.lil_resolved.specs.Kinds.{numbers, Shape, Absent, Word, Row, words, is_there, all_words, fields_of}
-use Rattle.lil_resolved.specs.Views.{kind_view}
-use Rattle.lil_resolved.specs.declared.resolved.RKind.{RKind}
+use Rattle.lil_resolved.specs.{Kinds.{numbers, Shape, Absent, Word, Row, words, is_there, all_words, fields_of}, Views.kind_view, declared.resolved.RKind.RKind}
 use Rattle.lil_shapes.specs.Bases.{kind_at}
 
 -- ---- lists

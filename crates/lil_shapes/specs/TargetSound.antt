@@ -2,21 +2,11 @@
 use Rattle.std.proofs.Common.{◌≡◌, ℕ, zero, suc, ◌+◌, ◌<◌, ◌≤◌, Bool, true, false, List, [], ◌∷◌, ◌++◌, length, get_or, slice_get, Option, None, Some, IfSome, if◌then◌else◌, inl, inr, refl, sym, ap, ◌∙◌, add-one, arith, true≢false}
 use Rattle.std.specs.Prelude.{◌-◌, ◌||◌, nat_lt, is_some}
 use Rattle.std.specs.Option.{option_map}
-use Rattle.std.proofs.lemmas.Bool.{cases_lt}
-use Rattle.std.proofs.lemmas.Bool.Decides.{nat_tests}
-use Rattle.std.proofs.lemmas.List.{length_push}
-use Rattle.std.proofs.lemmas.Option.{none-some, slice_get_within, slice_get-get_or, slice_get-map}
-use Rattle.lil_types.specs.Types.{Table, entry, meant_by, facts_in, known}
+use Rattle.std.proofs.lemmas.{Bool.{cases_lt, Decides.nat_tests}, List.length_push, Option.{none-some, slice_get_within, slice_get-get_or, slice_get-map}}
+use Rattle.lil_types.specs.{Types.{Table, entry, meant_by, facts_in, known}, declared.table.TypeEntry.TypeEntry}
 use Rattle.lil_types.specs.Types as types
-use Rattle.lil_types.specs.declared.table.TypeEntry.{TypeEntry}
-use Rattle.lil_resolved.specs.Kinds.{Objects, Kind, OfPointer, Shape, Absent, Word, is_there, shape_by, shape_at}
-use Rattle.lil_resolved.specs.Views.{kind_view}
-use Rattle.lil_resolved.specs.declared.resolved.RKind.{RKind}
-use Rattle.lil_shapes.specs.declared.pointers.Target.{Target}
-use Rattle.lil_shapes.specs.Bases.{standard, base_by, base_at, kind_over, kind_at, composite_by, composite_at}
-use Rattle.lil_shapes.specs.BaseLaws.{if_true}
-use Rattle.lil_shapes.specs.Pointers.{pointed_by, pointed, number_or, targets_below, targets, lies_at, target_with, target_of, target_by, target_at}
-use Rattle.lil_shapes.specs.Shaping.{shapes}
+use Rattle.lil_resolved.specs.{Kinds.{Objects, Kind, OfPointer, Shape, Absent, Word, is_there, shape_by, shape_at}, Views.kind_view, declared.resolved.RKind.RKind}
+use Rattle.lil_shapes.specs.{declared.pointers.Target.Target, Bases.{standard, base_by, base_at, kind_over, kind_at, composite_by, composite_at}, BaseLaws.if_true, Pointers.{pointed_by, pointed, number_or, targets_below, targets, lies_at, target_with, target_of, target_by, target_at}, Shaping.shapes}
 use Rattle.lil_shapes.specs.ShapeSound.{HasShape, AllShaped, earlier, all_shaped, composite_shaped, word_shaped}
 
 -- ---- numbers of a table

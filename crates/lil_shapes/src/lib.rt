@@ -14,10 +14,7 @@ pub use bases::{base_at, kind_at};
 pub use characters::characters_at;
 pub use composites::{ArrayParts, array_at, composite_at, element_sort, field_at};
 pub use laying::{Laid, lay};
-pub use members::{Members, is_element, members_at};
-pub use operators::{
-    counted, has_number, is_ordinal, result_base, right_base, same_base, stores_value,
-    takes_function, takes_one, takes_two, takes_value,
-};
+pub use members::{Members, members_at};
+pub use operators::{counted, counted_base};
 pub use pointers::{Target, all_targets, target_at, target_of, target_sort};
 pub use shapes::{Shaped, all_shapes};

@@ -1,12 +1,9 @@
 ghost use Rattle.std.specs.Prelude.{◌≡◌};
 ghost use Rattle.std.specs.Option.{option_map};
 ghost use Rattle.lil_types.specs.Types as types;
-ghost use Rattle.lil_resolved.specs.Sound as sound;
-ghost use Rattle.lil_resolved.specs.Views.{kind_view};
 ghost use Rattle.lil_shapes.specs.Bases as spec;
 
 use crate::bases::kind_at;
-use crate::shapes::{greatest_of, least_of};
 use lil_resolved::{RBase, RKind, RRange};
 use lil_types::{BITSET, CARDINAL, TypeForm, TypeId, TypeTable, base, entry};
 
@@ -62,11 +59,4 @@ pub fn members_at(t: &TypeTable, sort: TypeId) -> Option<Members>
         None => None,
         Some(entry) => members_in(t, &entry.form),
     }
-}
-
-/// Whether each number of a kind may be in a set.
-pub fn is_element(kind: RKind) -> bool
-    ensures { result ≡ sound.is_element (kind_view kind) }
-{
-    !(least_of(kind) < 0) && !(15 < greatest_of(kind))
 }

@@ -1,8 +1,7 @@
 ghost use Rattle.std.specs.Prelude.{◌≡◌, ◌≤◌, ◌≤ℤ◌, ◌++◌, [], ◌∷◌, map, pos, negsuc, slice_get, IfOk, IfSome, None};
 ghost use Rattle.std.specs.Option.{option_map};
 ghost use Rattle.lil_resolved.specs.Kinds as kinds;
-ghost use Rattle.lil_resolved.specs.Kinds.{words as words_of, fields_of};
-ghost use Rattle.lil_resolved.specs.Views.{kind_view};
+ghost use Rattle.lil_resolved.specs.{Kinds.{words as words_of, fields_of}, Views.kind_view};
 ghost use Rattle.lil_shapes.specs.Measured as measured;
 ghost use Rattle.lil_shapes.specs.Measured.{IsShaped, IsMade};
 ghost use Rattle.lil_shapes.specs.Shaping as spec;

@@ -1,22 +1,12 @@
 -- The words of the FORs and WITHs in statements, guards and arms, one by one.
-use Rattle.std.proofs.Common.{◌≡◌, ℕ, ◌+◌, ◌<◌, List, [], ◌∷◌, ◌++◌, length, take, drop, get_or, Option, None, sym, ap, ◌∙◌, arith}
-use Rattle.std.proofs.lemmas.List.{take_more, drop_more}
-use Rattle.lil_resolved.specs.declared.resolved.RExpr.{RExpr}
-use Rattle.lil_resolved.specs.declared.resolved.RStmt.{RStmt}
+use Rattle.std.proofs.Common.{◌≡◌, ℕ, ◌+◌, ◌<◌, List, [], ◌∷◌, length, drop, get_or, Option, None, sym, ap, ◌∙◌, arith}
+use Rattle.std.proofs.lemmas.List.{drop_more}
+use Rattle.lil_resolved.specs.{declared.resolved.{RExpr.RExpr, RStmt.RStmt, RGuard.RGuard, RArm.RArm}, Resolved.{Statements, Empty, Then}, Views.{joined, statement_of, statements_of, guards_of, else_of, arms_of, if_is, case_is, guard_is, arm_is}, Sizes.{body_words, arms_words}}
 use Rattle.lil_resolved.specs.declared.resolved.RStmt.TheVariants as s
-use Rattle.lil_resolved.specs.declared.resolved.RGuard.{RGuard}
-use Rattle.lil_resolved.specs.declared.resolved.RArm.{RArm}
-use Rattle.lil_resolved.specs.Resolved.{Statements, Empty, Then}
-use Rattle.lil_resolved.specs.Views.{joined, statement_of, statements_of, guards_of, else_of, arms_of, if_is, case_is, guard_is, arm_is}
-use Rattle.lil_resolved.specs.Sizes.{body_words, arms_words}
 
 -- what is left of a list from an item on
 pub left_from : {X : Type 0} (xs : List X) (i : ℕ) (x : X) → i < length xs → x ≡ get_or xs i x → drop i xs ≡ x ∷ drop (i + 1) xs
 left_from xs i x inside is = drop_more xs i x inside ∙ ap (λ y. y ∷ drop (i + 1) xs) (sym is)
-
--- the items before the next one
-pub take_next : {X : Type 0} (xs : List X) (i : ℕ) (x : X) → i < length xs → x ≡ get_or xs i x → take (i + 1) xs ≡ take i xs ++ x ∷ []
-take_next xs i x inside is = take_more xs i x inside ∙ ap (λ y. take i xs ++ y ∷ []) (sym is)
 
 pub joined_words : (a b : Statements) → body_words (joined a b) ≡ body_words a + body_words b
 joined_words Empty b = omega arith

@@ -1,35 +1,18 @@
 -- The code of statements, form by form.
-use Rattle.std.proofs.Common.{◌≡◌, ℕ, zero, suc, ◌+◌, ◌*◌, ◌%◌, ◌<◌, ◌≤◌, Bool, true, List, [], ◌∷◌, ◌++◌, length, map, take, get_or, Option, Some, None, refl, sym, ap, ◌∙◌, subst, arith, append-nil, ℤ, drop}
-use Rattle.std.specs.Option.{is_some, option_map}
-use Rattle.std.proofs.lemmas.List.{take_more, length-take-le, drop_all}
+use Rattle.std.proofs.Common.{◌≡◌, ℕ, zero, suc, ◌+◌, ◌*◌, ◌%◌, ◌<◌, ◌≤◌, Bool, true, List, [], ◌∷◌, ◌++◌, length, map, take, get_or, Option, Some, None, refl, sym, ap, ◌∙◌, subst, arith, append-nil, ℤ, Result, OnOk}
+use Rattle.std.specs.{Option.{is_some, option_map}, List.flat_map}
+use Rattle.std.proofs.lemmas.List.{take_more, take_all, length-take-le}
 use Rattle.lil_base.specs.Words.{word_of}
-use Rattle.lil_resolved.specs.declared.resolved.RExpr.{RExpr}
-use Rattle.lil_resolved.specs.declared.resolved.RStmt.{RStmt}
+use Rattle.lil_resolved.specs.{declared.resolved.{RExpr.RExpr, RStmt.RStmt, RArm.RArm, RLabel.RLabel}, Kinds.{Kind, compared_as, is_ordinal, OfTruth, base_of, covers, outside_turns, Shape, Scope, with_held, shape_at}, Resolved.{Label, Arms, kind_of, Designator, Expression, Statement, While, Repeat, Loop, For, Inside, Statements, Empty, Then, shape_of}}
+use Rattle.lil_resolved.specs.{Views.{expression_of, statement_of, statements_of, label_of, else_of, arms_of, case_is, arm_is, joined, guarded, guard_of, guards_of, shapes_of, guard_is}, Sizes.{arms_words, body_strings, arms_strings, statement_strings}, Sound.{IsSoundLabel, AreSoundLabels, AreSoundArms, IsSoundBody}, declared.resolved.RGuard.RGuard}
 use Rattle.lil_resolved.specs.declared.resolved.RStmt.TheVariants as s
-use Rattle.lil_resolved.specs.declared.resolved.RArm.{RArm}
-use Rattle.lil_resolved.specs.declared.resolved.RLabel.{RLabel}
-use Rattle.lil_resolved.specs.Kinds.{Kind, compared_as, is_ordinal, OfTruth, base_of, covers, outside_turns, Shape, Scope, with_held, shape_at}
-use Rattle.lil_resolved.specs.Resolved.{Label, Arms, kind_of, Designator, Expression, Statement, While, Repeat, Loop, For, Inside, Statements, Empty, Then, shape_of}
-use Rattle.lil_resolved.specs.Views.{expression_of, statement_of, statements_of, label_of, else_of, arms_of, case_is, arm_is, joined, guard_of, guards_of, shapes_of, guard_is}
-use Rattle.lil_resolved.specs.Sizes.{arms_words, body_strings, arms_strings, statement_strings}
-use Rattle.lil_resolved.specs.Sound.{IsSoundLabel, AreSoundLabels, AreSoundArms, IsSoundBody}
-use Rattle.lil_asm.specs.declared.instr.Instr.TheVariants.{Jmp, Cas, Trp, Liw, Llw, Slw, Sgw, Jpf, Fri, Frn}
-use Rattle.lil_table.specs.Rows.{IsAt, EntriesAt, ArmsAt, loop_place, Layout, holding, BodyAt, loop_sign, test_code}
-use Rattle.lil_table.specs.LabelLaws.{label_in}
-use Rattle.lil_labels.specs.Drafts.{Draft, Final, EntryAt, ChoiceAt, Entering, Meaning, Adds, Emits, Nothing, Doing, Choosing, Marking, Makes, Places, inside, outside, DoingAll}
-use Rattle.lil_labels.specs.Emitting.{emits_then, emits_as, adds_as, emits_within, emits_here, emits_fresh, emits_mark, emits_tied, inside_of, emits_inside}
-use Rattle.lil_expr.specs.Generating.{Value}
-use Rattle.lil_stmt.specs.Generating.{Body, Each, paired, ArmBody, Trapping, ElsePart, HasWords, LabelEntry, ArmLabels, ChoiceOf, entries, Addressed, Stated, Awaiting, Turning, Aligning, nothing_before, guards_before}
-use Rattle.lil_stmt.proofs.Words.{in_word}
-use Rattle.lil_stmt.proofs.Counting.{take_next, left_from, joined_words}
-use Rattle.lil_stmt.proofs.Strings.{case_strings, statement_part, guard_part, parts_next, parts_all, body_parts, guards_parts, if_strings}
-use Rattle.lil_stmt.proofs.Storing.{whole}
+use Rattle.lil_asm.specs.declared.instr.Instr.{Instr, TheVariants.{Jmp, Cas, Trp, Liw, Llw, Slw, Sgw, Jpf, Fri, Frn}}
+use Rattle.lil_table.specs.{Rows.{IsAt, EntriesAt, ArmsAt, loop_place, Layout, holding, BodyAt, loop_sign, test_code}, LabelLaws.label_in}
+use Rattle.lil_labels.specs.{Drafts.{Draft, Final, EntryAt, Entering, Meaning, Adds, Emits, Nothing, Doing, Each, Marking, Makes, Ends, inside, outside, DoingAll}, Emitting.{with_ok, take_next, each_more, emits_then, emits_as, adds_as, emits_within, emits_here, emits_fresh, emits_mark, emits_tied, emits_inside}, Tables.{Tables, variable_by}}
+use Rattle.lil_expr.specs.{Generating.Value, Variables.known_row}
+use Rattle.lil_stmt.specs.Generating.{Body, StatementPart, statement_part, GuardPart, guard_part, paired, ArmBody, arm_part, Trapping, ElsePart, HasWords, LabelEntry, ArmLabels, ChoiceOf, entries, Addressed, Stated, Aligning}
+use Rattle.lil_stmt.proofs.{Words.in_word, Counting.joined_words, Strings.{case_strings, body_parts, if_strings}, Storing.whole}
 use Rattle.std.specs.Prelude.{slice_get}
-use Rattle.std.specs.List.{flat_map}
-use Rattle.lil_resolved.specs.declared.resolved.RGuard.{RGuard}
-use Rattle.lil_asm.specs.declared.instr.Instr.{Instr}
-use Rattle.lil_labels.specs.Tables.{Tables, variable_by}
-use Rattle.lil_expr.specs.Variables.{known_row}
 
 -- ---- one behind another
 pub one_emitted : (n : ℕ) (exit : Option ℕ) (s : Statement) (ss : Statements) (a b : Draft) → ss ≡ Then s Empty → Adds (statement_strings s) a b (Stated n exit s) → Adds (body_strings ss) a b (Body n exit ss)
@@ -37,6 +20,10 @@ one_emitted n exit s ss a b is t =
     subst (λ (ss : Statements). Adds (body_strings ss) a b (Body n exit ss)) (sym is)
     (adds_as a b _ (sym (append-nil (statement_strings s)))
     (emits_as a b _ (Body n exit (Then s Empty)) (λ x t many taken sound room. record { middle = length b.bytes; here = t many taken sound.0 (omega (arith, room)); then = refl }) t))
+
+pub stated : {T E : Type 0} (r : Result T E) (n : ℕ) (exit : Option ℕ) (s : Statement) (ss : Statements) (a b : Draft) → ss ≡ Then s Empty → OnOk r ((n : ℕ) (exit : Option ℕ) → Adds (statement_strings s) a b (Stated n exit s))
+    → OnOk r (Adds (body_strings ss) a b (Body n exit ss))
+stated r n exit s ss a b is = with_ok r (λ h. one_emitted n exit s ss a b is (h n exit))
 
 sound_joined : (ts : Scope) (looping : Bool) (a b : Statements) → IsSoundBody ts looping (joined a b) → IsSoundBody ts looping a × IsSoundBody ts looping b
 sound_joined ts looping Empty b h = (tt, h)
@@ -46,119 +33,78 @@ joined_at : (l : Layout) (code : List ℕ) (n : ℕ) (exit : Option ℕ) (a b : 
 joined_at l code n exit Empty b p q r first rest = subst (λ (m : ℕ). BodyAt l code n exit b m r) (sym first) rest
 joined_at l code n exit (Then s a) b p q r first rest = record { middle = first.middle; here = first.here; then = joined_at l code n exit a b first.middle q r first.then rest }
 
--- the next of a list of statements
-pub next_emitted : (n : ℕ) (exit : Option ℕ) (ss : List RStmt) (i : ℕ) (s : RStmt) (all : Statements) (a b c : Draft) → i < length ss → s ≡ get_or ss i s
-    → Adds (flat_map statement_part (take i ss)) a b (Awaiting n exit (statements_of (drop i ss)) all) → Adds (body_strings (statement_of s)) b c (Body n exit (statement_of s))
-    → Adds (flat_map statement_part (take (i + 1) ss)) a c (Awaiting n exit (statements_of (drop (i + 1) ss)) all)
-next_emitted n exit ss i s all a b c inside is so_far next =
-    let rest = statements_of (drop (i + 1) ss) in
-    adds_as a c _ (parts_next statement_part ss i s inside is)
-    (emits_as a c _ (Awaiting n exit rest all)
-    (λ x t r more. t.0 r
-    (subst (λ (left : List RStmt). Body n exit (statements_of left) x (length b.bytes) r) (sym (left_from ss i s inside is))
-    (λ many taken sound room.
-    let parts = sound_joined x.layout.scope (is_some exit) (statement_of s) rest sound in
-    let loops = joined_words (statement_of s) rest in
-    joined_at x.layout x.code many _ (statement_of s) rest _ _ r (t.1 many taken parts.0 (omega (arith, loops, room))) (more many taken parts.1 (omega (arith, loops, room))))))
-    (emits_then a b c _ _ so_far next))
+body_at : (n : ℕ) (exit : Option ℕ) (ss : List RStmt) (x : Final) (p q : ℕ) → Each (StatementPart n exit) ss x p q → Body n exit (statements_of ss) x p q
+body_at n exit [] x p q h many taken sound room = h
+body_at n exit (s ∷ ss) x p q h many taken sound room =
+    let parts = sound_joined x.layout.scope (is_some exit) (statement_of s) (statements_of ss) sound in
+    let loops = joined_words (statement_of s) (statements_of ss) in
+    joined_at x.layout x.code many _ (statement_of s) (statements_of ss) p h.0 q (h.1 many taken parts.0 (omega (arith, loops, room))) (body_at n exit ss x h.0 q h.2 many taken parts.1 (omega (arith, loops, room)))
 
--- none is left
-pub all_emitted : (n : ℕ) (exit : Option ℕ) (ss : List RStmt) (i : ℕ) (all : Statements) (a b : Draft) → length ss ≤ i → Adds (flat_map statement_part (take i ss)) a b (Awaiting n exit (statements_of (drop i ss)) all)
-    → Adds (body_strings (statements_of ss)) a b (Body n exit all)
-all_emitted n exit ss i all a b past t =
-    adds_as a b _ (parts_all statement_part ss i past ∙ body_parts ss)
-    (emits_as a b _ (Body n exit all)
-    (λ x t. t (length b.bytes) (subst (λ (left : List RStmt). Body n exit (statements_of left) x (length b.bytes) (length b.bytes)) (sym (drop_all i ss past)) (λ many taken sound room. refl))) t)
+pub body_emitted : (n : ℕ) (exit : Option ℕ) (ss : List RStmt) (i : ℕ) (a b : Draft) → length ss ≤ i → Adds (flat_map statement_part (take i ss)) a b (Each (StatementPart n exit) (take i ss)) → Adds (body_strings (statements_of ss)) a b (Body n exit (statements_of ss))
+body_emitted n exit ss i a b past t =
+    let all = subst (λ (ss : List RStmt). Adds (flat_map statement_part ss) a b (Each (StatementPart n exit) ss)) (take_all i ss past) t in
+    adds_as a b _ (body_parts ss) (emits_as a b _ (Body n exit (statements_of ss)) (λ x h. body_at n exit ss x _ _ h) all)
 
 -- ---- loops
 module _ (n : ℕ) (exit : Option ℕ) (k : Expression) (s : Statements) where
   pub while_emitted : (again end : ℕ) (a b c d e f g h : Draft) → Emits a b (Marking again) → Emits b c (Value k) → Emits c d Nothing → Makes c d end → Emits d e (Doing (λ w. Jpf (w end)))
-      → Adds (body_strings s) e f (Body n exit s) → Emits f g (Doing (λ w. Jmp (w again))) → Places g h end → Adds (body_strings s) a h (Stated n exit (While k s))
+      → Adds (body_strings s) e f (Body n exit s) → Emits f g (Doing (λ w. Jmp (w again))) → Ends g h end → Adds (body_strings s) a h (Stated n exit (While k s))
   while_emitted again end a b c d e f g h mark test new makes jump body back put =
       adds_as a h _ (append-nil (body_strings s))
       (emits_as a h _ (Stated n exit (While k s))
-      (λ x t many taken sound room. record {
-        middle = length c.bytes;
-        start = length e.bytes;
-        end = length f.bytes;
-        condition = whole x 0 k OfTruth _ _ (omega arith) sound.0 t.0.1.0;
-        jump = subst (λ (w : ℕ). IsAt x.code (length c.bytes) (Jpf w) (length e.bytes)) t.1 t.0.1.1.0;
-        here = t.0.1.1.1.0 many taken sound.1 room;
-        back = subst (λ (w : ℕ). IsAt x.code (length f.bytes) (Jmp w) (length h.bytes)) t.0.0 t.0.1.1.1.1;
-      })
+      (λ x t many taken sound room.
+      search (whole x 0 k OfTruth _ _ (omega arith) sound.0 t.0.1.0, t.0.1.1.1.0 many taken sound.1 room, rw t.1 at t.0.1.1.0, rw t.0.0 at t.0.1.1.1.1))
       (emits_here a g h _ end
       (emits_mark a b g again _ mark (emits_then b c g _ _ test (emits_fresh c d g _ new (emits_then d e g _ _ jump (emits_then e f g _ _ body back)))))
-      (omega (arith, makes.is, mark.made, test.made)) put))
+      (λ k h. makes.apart k (test.keeps k (mark.keeps k h))) put))
 
   pub repeat_emitted : (again : ℕ) (a b c d e : Draft) → Emits a b (Marking again) → Adds (body_strings s) b c (Body n exit s) → Emits c d (Value k) → Emits d e (Doing (λ w. Jpf (w again)))
       → Adds (body_strings s) a e (Stated n exit (Repeat s k))
   repeat_emitted again a b c d e mark body test back =
       adds_as a e _ (append-nil (body_strings s))
       (emits_as a e _ (Stated n exit (Repeat s k))
-      (λ x t many taken sound room. record {
-        end = length c.bytes;
-        middle = length d.bytes;
-        here = t.1.0 many taken sound.0 room;
-        condition = whole x 0 k OfTruth _ _ (omega arith) sound.1 t.1.1.0;
-        back = subst (λ (w : ℕ). IsAt x.code (length d.bytes) (Jpf w) (length e.bytes)) t.0 t.1.1.1;
-      })
+      (λ x t many taken sound room.
+      search (t.1.0 many taken sound.0 room, whole x 0 k OfTruth _ _ (omega arith) sound.1 t.1.1.0, rw t.0 at t.1.1.1))
       (emits_mark a b e again _ mark (emits_then b c e _ _ body (emits_then c d e _ _ test back))))
 
 pub loop_emitted : (n : ℕ) (exit : Option ℕ) (s : Statements) (again end : ℕ) (a b c d e f : Draft)
-    → Emits a b (Marking again) → Emits b c Nothing → Makes b c end → Adds (body_strings s) c d (Body n (Some end) s) → Emits d e (Doing (λ w. Jmp (w again))) → Places e f end → Adds (body_strings s) a f (Stated n exit (Loop s))
+    → Emits a b (Marking again) → Emits b c Nothing → Makes b c end → Adds (body_strings s) c d (Body n (Some end) s) → Emits d e (Doing (λ w. Jmp (w again))) → Ends e f end → Adds (body_strings s) a f (Stated n exit (Loop s))
 loop_emitted n exit s again end a b c d e f mark new makes body back put =
     adds_as a f _ (append-nil (body_strings s))
     (emits_as a f _ (Stated n exit (Loop s))
-    (λ x t many taken sound room. record {
-      end = length d.bytes;
-      here = subst (λ (w : ℕ). BodyAt x.layout x.code many (Some w) s (length a.bytes) (length d.bytes)) t.1 (t.0.1.0 many taken sound room);
-      back = subst (λ (w : ℕ). IsAt x.code (length d.bytes) (Jmp w) (length f.bytes)) t.0.0 t.0.1.1;
-    })
-    (emits_here a e f _ end (emits_mark a b e again _ mark (emits_fresh b c e _ new (emits_then c d e _ _ body back))) (omega (arith, makes.is, mark.made)) put))
+    (λ x t many taken sound room.
+    search (rw t.1 at (t.0.1.0 many taken sound room), rw t.0.0 at t.0.1.1))
+    (emits_here a e f _ end (emits_mark a b e again _ mark (emits_fresh b c e _ new (emits_then c d e _ _ body back))) (λ k h. makes.apart k (mark.keeps k h)) put))
 
 -- ---- IF
 -- a guard before whatever statements end at a label
 pub guard_emitted : (n : ℕ) (exit : Option ℕ) (g : RGuard) (end other : ℕ) (a b c d e f h : Draft)
     → Emits a b (Value (expression_of g.condition)) → Emits b c Nothing → Makes b c other → Emits c d (Doing (λ w. Jpf (w other)))
-    → Adds (guard_part g) d e (Body n exit (statements_of g.body)) → Emits e f (Doing (λ w. Jmp (w end))) → Places f h other → Adds (guard_part g) a h (Turning n exit end nothing_before (guard_of g))
+    → Adds (guard_part g) d e (Body n exit (statements_of g.body)) → Emits e f (Doing (λ w. Jmp (w end))) → Ends f h other → Adds (guard_part g) a h (GuardPart n exit end g)
 guard_emitted n exit g end other a b c d e f h test new makes jump body skip put =
     adds_as a h _ (append-nil (guard_part g))
-    (emits_as a h _ (Turning n exit end nothing_before (guard_of g))
+    (emits_as a h _ (GuardPart n exit end g)
     (λ x t rest r ended more.
     subst (λ (ss : Statements). Body n exit ss x (length a.bytes) r) (sym (guard_is g rest))
     (λ many taken sound room. record {
       middle = r;
-      here = record {
-        middle = length b.bytes;
-        start = length d.bytes;
-        end = length e.bytes;
-        other = length h.bytes;
-        condition = whole x 0 _ OfTruth _ _ (omega arith) sound.0.0 t.0.0;
-        jump = subst (λ (w : ℕ). IsAt x.code (length b.bytes) (Jpf w) (length d.bytes)) t.1 t.0.1.0;
-        chosen = t.0.1.1.0 many taken sound.0.1 (omega (arith, room));
-        skip = subst (λ (w : ℕ). IsAt x.code (length e.bytes) (Jmp w) (length h.bytes)) ended t.0.1.1.1;
-        otherwise = more many taken sound.0.2 (omega (arith, room));
-      };
+      here = search (whole x 0 _ OfTruth _ _ (omega arith) sound.0.0 t.0.0, rw t.1 at t.0.1.0, t.0.1.1.0 many taken sound.0.1 (omega (arith, room)), rw ended at t.0.1.1.1, more many taken sound.0.2 (omega (arith, room)));
       then = refl;
     }))
-    (emits_here a f h _ other (emits_then a b f _ _ test (emits_fresh b c f _ new (emits_then c d f _ _ jump (emits_then d e f _ _ body skip)))) (omega (arith, makes.is, test.made)) put))
+    (emits_here a f h _ other (emits_then a b f _ _ test (emits_fresh b c f _ new (emits_then c d f _ _ jump (emits_then d e f _ _ body skip)))) (λ k h. makes.apart k (test.keeps k h)) put))
+
+guards_at : (n : ℕ) (exit : Option ℕ) (end : ℕ) (gs : List RGuard) (x : Final) (p q r : ℕ) (rest : Statements) → Each (GuardPart n exit end) gs x p q → x.word end ≡ x.layout.target r → Body n exit rest x q r → Body n exit (guarded (map guard_of gs) rest) x p r
+guards_at n exit end [] x p q r rest h ended more = subst (λ (p : ℕ). Body n exit rest x p r) (sym h) more
+guards_at n exit end (g ∷ gs) x p q r rest h ended more = h.1 (guarded (map guard_of gs) rest) r ended (guards_at n exit end gs x h.0 q r rest h.2 ended more)
 
 pub if_emitted : (n : ℕ) (exit : Option ℕ) (gs : List RGuard) (other : List RStmt) (end : ℕ) (a b c d e : Draft)
-    → Emits a b Nothing → Makes a b end → Adds (body_strings (guards_of gs [])) b c (Turning n exit end nothing_before (guards_before gs)) → Adds (body_strings (statements_of other)) c d (Body n exit (statements_of other)) → Places d e end
+    → Emits a b Nothing → Makes a b end → Adds (flat_map guard_part gs) b c (Each (GuardPart n exit end) gs) → Adds (body_strings (statements_of other)) c d (Body n exit (statements_of other)) → Ends d e end
     → Adds (body_strings (guards_of gs other)) a e (Body n exit (guards_of gs other))
 if_emitted n exit gs other end a b c d e new makes guards otherwise put =
     adds_as a e _ (if_strings gs other)
     (emits_as a e _ (Body n exit (guards_of gs other))
-    (λ x t. t.0.0 (statements_of other) _ t.1 t.0.1)
-    (emits_here a d e _ end (emits_fresh a b d _ new (emits_then b c d _ _ guards otherwise)) (omega (arith, makes.is)) put))
-
-module _ (n : ℕ) (exit : Option ℕ) (end : ℕ) (gs : List RGuard) where
-  pub all_guards_emitted : (i : ℕ) (all : Statements → Statements) (a b : Draft) → length gs ≤ i → Adds (flat_map guard_part (take i gs)) a b (Turning n exit end (guards_before (drop i gs)) all)
-      → Adds (body_strings (guards_of gs [])) a b (Turning n exit end nothing_before all)
-  all_guards_emitted i all a b past t =
-      adds_as a b _ (parts_all guard_part gs i past ∙ guards_parts gs)
-      (emits_as a b _ (Turning n exit end nothing_before all)
-      (λ x t rest r ended more. t rest r ended (subst (λ (left : List RGuard). Body n exit (guards_before left rest) x (length b.bytes) r) (sym (drop_all i gs past)) more)) t)
+    (λ x t. guards_at n exit end gs x _ _ _ (statements_of other) t.0.0 t.1 t.0.1)
+    (emits_here a d e _ end (emits_fresh a b d _ new (emits_then b c d _ _ guards otherwise)) makes.apart put))
 
 -- ---- FOR
 -- the store in a variable
@@ -176,7 +122,7 @@ module _ (n : ℕ) (exit : Option ℕ) (v : ℕ) (k : Kind) (from to : Expressio
       → sign ≡ loop_sign (compared_as (base_of k)) → offset ≡ (variable_by (slice_get c9.tables.variables v)).offset → Emits c0 c1 (Value from) → Emits c1 c2 (Value to) → Emits c2 c3 Nothing → Makes c2 c3 end
       → Emits c3 c4 (Aligning (covers (base_of k) (kind_of from)) (outside_turns (compared_as (base_of k)) step) end) → Emits c4 c5 (Doing (λ w. Liw word)) → Emits c5 c6 (Doing (λ w. Fri place sign (w end)))
       → Emits c6 c7 (Marking turn) → Emits c7 c8 (Doing (λ w. Llw place)) → Emits c8 c9 (DoingAll (test_code k (base_of k))) → Emits c9 c10 (Doing (λ w. Sgw offset)) → Adds (body_strings body) c10 c11 (Body ((n + 3) % 65536) exit body)
-      → Emits c11 c12 (Doing (λ w. Frn place (w turn))) → Places c12 c13 end → Adds (body_strings body) c0 c13 (Stated n exit (For v k from to step body))
+      → Emits c11 c12 (Doing (λ w. Frn place (w turn))) → Ends c12 c13 end → Adds (body_strings body) c0 c13 (Stated n exit (For v k from to step body))
   for_emitted word place sign offset end turn c0 c1 c2 c3 c4 c5 c6 c7 c8 c9 c10 c11 c12 c13 stepped placed signed lies first last new makes align load enter mark value test store here next put =
       adds_as c0 c13 _ (append-nil (body_strings body))
       (emits_as c0 c13 _ (Stated n exit (For v k from to step body))
@@ -228,39 +174,34 @@ module _ (n : ℕ) (exit : Option ℕ) (v : ℕ) (k : Kind) (from to : Expressio
       (emits_then c8 c9 c12 _ _ test
       (emits_then c9 c10 c12 _ _ (store_emitted v offset c9 c10 lies store)
       (emits_then c10 c11 c12 _ _ here next)))))))))))
-      (omega (arith, makes.is, first.made, last.made)) put))
+      (λ k h. makes.apart k (last.keeps k (first.keeps k h))) put))
 
 -- ---- WITH
-with_emitted_in : (n word m : ℕ) (exit : Option ℕ) (d : Designator) (body : Statements) (x : Final) (p kept start q : ℕ) → word ≡ loop_place n % 65536
-    → Addressed d m x p start → IsAt x.code start (Slw word) kept → Body ((n + 1) % 65536) exit body (inside_of (record { word = word; shape = m }) x) kept q → Stated n exit (Inside d body) x p q
-with_emitted_in n word m exit d body x p kept start q placed address keep here many taken sound room =
-    let at_place : word ≡ x.layout.target (loop_place many) = omega (arith, placed, taken, x.cuts (loop_place many) (omega (arith, room))) in
-    let within : suc many % 65536 ≡ (n + 1) % 65536 = omega (arith, taken) in
-    let at = address sound.0.place sound.0.there in
-    let t = shape_at (shapes_of x.tables.shapes) m in
-    let u = shape_of x.layout.scope d in
-    let outcome = option_map x.word exit in
-    let stands : BodyAt (holding x.layout t word) x.code (suc many) outcome body kept q = here (suc many) within (subst (λ (t : Shape). IsSoundBody (with_held x.layout.scope t) (is_some exit) body) (sym at.shape) sound.1) (omega (arith, room)) in
-    record {
-      found = at.found;
-      start = start;
-      kept = kept;
-      there = sound.0.there;
-      shallow = omega (arith, sound.0.shallow);
-      room = omega (arith, room);
-      here = at.place;
-      address = at.address;
-      keep = subst (λ (w : ℕ). IsAt x.code start (Slw w) kept) at_place keep;
-      within = subst (λ (w : ℕ). BodyAt (holding x.layout u w) x.code (suc many) outcome body kept q) at_place
-          (subst (λ (t : Shape). BodyAt (holding x.layout t word) x.code (suc many) outcome body kept q) at.shape stands);
-    }
-
 pub with_emitted : (n word m : ℕ) (exit : Option ℕ) (d : Designator) (body : Statements) (c0 c1 c2 c3 c4 c5 : Draft) → word ≡ loop_place n % 65536
     → Emits c0 c1 (Addressed d m) → Emits c1 c2 (Doing (λ w. Slw word)) → c3 ≡ inside (record { word = word; shape = m }) c2 → Adds (body_strings body) c3 c4 (Body ((n + 1) % 65536) exit body) → c5 ≡ outside c4
     → Adds (body_strings body) c0 c5 (Stated n exit (Inside d body))
 with_emitted n word m exit d body c0 c1 c2 c3 c4 c5 placed address keep enter here leave =
     emits_as c0 c5 _ (Stated n exit (Inside d body))
-    (λ x t. with_emitted_in n word m exit d body x _ _ _ _ placed t.0 t.1.0 t.1.1)
+    (λ x t many taken sound room.
+    let at_place : word ≡ x.layout.target (loop_place many) = omega (arith, placed, taken, x.cuts (loop_place many) (omega (arith, room))) in
+    let within : suc many % 65536 ≡ (n + 1) % 65536 = omega (arith, taken) in
+    let at = t.0 sound.0.place sound.0.there in
+    let outcome = option_map x.word exit in
+    let inner = subst (λ (t : Shape). IsSoundBody (with_held x.layout.scope t) (is_some exit) body) (sym at.shape) sound.1 in
+    let stands : BodyAt (holding x.layout (shape_at (shapes_of x.tables.shapes) m) word) x.code (suc many) outcome body (length c2.bytes) (length c5.bytes) = t.1.1 (suc many) within inner (omega (arith, room)) in
+    record {
+      found = at.found;
+      start = length c1.bytes;
+      kept = length c2.bytes;
+      there = sound.0.there;
+      shallow = omega (arith, sound.0.shallow);
+      room = omega (arith, room);
+      here = at.place;
+      address = at.address;
+      keep = subst (λ (w : ℕ). IsAt x.code (length c1.bytes) (Slw w) (length c2.bytes)) at_place t.1.0;
+      within = subst (λ (w : ℕ). BodyAt (holding x.layout (shape_of x.layout.scope d) w) x.code (suc many) outcome body (length c2.bytes) (length c5.bytes)) at_place
+          (subst (λ (t : Shape). BodyAt (holding x.layout t word) x.code (suc many) outcome body (length c2.bytes) (length c5.bytes)) at.shape stands);
+    })
     (emits_then c0 c1 c5 _ _ address (emits_then c1 c2 c5 _ _ keep (emits_inside (record { word = word; shape = m }) c2 c3 c4 c5 (Body ((n + 1) % 65536) exit body) enter here leave)))
 
 -- ---- the code of CASE
@@ -271,15 +212,6 @@ label_words k label base sound =
     record { low = in_word (compared_as k) label.low ends.0; high = in_word (compared_as k) label.high ends.1 }
 
 -- ---- one behind another
-each_one : {A : Type 0} (P : A → Meaning) (xs : List A) (a : A) (x : Final) (p m q : ℕ) → Each P xs x p m → P a x m q → Each P (xs ++ a ∷ []) x p q
-each_one P [] a x p m q h t = (q, subst (λ (p : ℕ). P a x p q) (sym h) t, refl)
-each_one P (b ∷ xs) a x p m q h t = (h.0, h.1, each_one P xs a x h.0 m q h.2 t)
-
-each_emitted : {us vs : List ℕ} {A : Type 0} (P : A → Meaning) (xs ys : List A) (y : A) (a b c : Draft) → ys ≡ xs ++ y ∷ [] → Adds us a b (Each P xs) → Adds vs b c (P y) → Adds (us ++ vs) a c (Each P ys)
-each_emitted {us = us} {vs = vs} P xs ys y a b c is t u =
-    subst (λ ys. Adds (us ++ vs) a c (Each P ys)) (sym is)
-    (emits_as a c _ (Each P (xs ++ y ∷ [])) (λ x h. each_one P xs y x (length a.bytes) (length b.bytes) (length c.bytes) h.0 h.1) (emits_then a b c _ _ t u))
-
 paired_one : (arms : List RArm) (ls : List ℕ) (a : RArm) (l : ℕ) → length ls ≡ length arms → paired (arms ++ a ∷ []) (ls ++ l ∷ []) ≡ paired arms ls ++ (a, l) ∷ []
 paired_one [] [] a l h = refl
 paired_one [] (k ∷ ls) a l h = absurd (omega arith)
@@ -291,7 +223,7 @@ pub next_label_emitted : (arm : ℕ) (labels : List RLabel) (i : ℕ) (d : RLabe
     → (HasWords (label_of (get_or labels i d)) → low ≡ word_of (get_or labels i d).low) → (HasWords (label_of (get_or labels i d)) → high ≡ word_of (get_or labels i d).high)
     → Emits a b (Each (LabelEntry arm) (take i labels)) → Emits b c (Entering low high arm) → Emits a c (Each (LabelEntry arm) (take (i + 1) labels))
 next_label_emitted arm labels i d low high a b c inside low_is high_is so_far next =
-    each_emitted (LabelEntry arm) (take i labels) (take (i + 1) labels) (get_or labels i d) a b c (take_more labels i d inside) so_far
+    each_more (LabelEntry arm) (take i labels) (take (i + 1) labels) (get_or labels i d) a b c (take_more labels i d inside) so_far
     (emits_as b c _ (LabelEntry arm (get_or labels i d))
     (λ x entry words. subst (λ (w : ℕ). EntryAt x.code w (word_of (get_or labels i d).high) (x.word arm) (length b.bytes) (length c.bytes)) (low_is words)
     (subst (λ (w : ℕ). EntryAt x.code low w (x.word arm) (length b.bytes) (length c.bytes)) (high_is words) entry)) next)
@@ -301,7 +233,7 @@ pub next_arm_emitted : {us vs : List ℕ} (P : RArm × ℕ → Meaning) (arms : 
     → Adds us a b (Each P (paired (take i arms) ls)) → Adds vs b c (P (arm, l)) → Adds (us ++ vs) a c (Each P (paired (take (i + 1) arms) ks))
 next_arm_emitted P arms ls ks i arm l a b c inside is long more so_far next =
     let full : length ls ≡ length (take i arms) = omega (arith, long, length-take-le i arms (omega arith)) in
-    each_emitted P (paired (take i arms) ls) (paired (take (i + 1) arms) ks) (arm, l) a b c
+    each_more P (paired (take i arms) ls) (paired (take (i + 1) arms) ks) (arm, l) a b c
     (ap (λ arms. paired arms ks) (take_next arms i arm inside is) ∙ ap (paired (take i arms ++ arm ∷ [])) more ∙ paired_one (take i arms) ls arm l full) so_far next
 
 entries_one : (arms : List RArm) (a : RArm) → entries (arms ++ a ∷ []) ≡ entries arms + length a.labels
@@ -313,13 +245,6 @@ entries_next arms i a inside is = ap entries (take_next arms i a inside is) ∙ 
 
 pub trap_marked : (label : ℕ) (a b c : Draft) → Emits a b (Marking label) → Emits b c (Doing (λ w. Trp 7)) → Emits a c (Trapping label)
 trap_marked label a b c mark trap = emits_mark a b c label _ mark trap
-
-pub choice_emitted : (count : ℕ) (arms : List RArm) (labels : List ℕ) (other : ℕ) (a b c : Draft) → count ≡ entries arms % 65536 → Emits a b (Choosing count other) → Emits b c (Each ArmLabels (paired arms labels))
-    → Emits a c (ChoiceOf arms labels other)
-choice_emitted count arms labels other a b c is choose table =
-    emits_as a c _ (ChoiceOf arms labels other)
-    (λ x t. record { start = length b.bytes; choice = subst (λ (n : ℕ). ChoiceAt x.code n (x.word other) (length a.bytes) (length b.bytes)) is t.0; table = t.1 })
-    (emits_then a b c _ _ choose table)
 
 -- ---- the row
 entries_at : (x : Final) (k : Kind) (labels : List RLabel) (arm to t u : ℕ) (rest : ℕ → ℕ → Type 0) (w n : ℕ) → n ≡ length labels + w → is_ordinal k ≡ true → AreSoundLabels k (map label_of labels) → x.word arm ≡ x.layout.target to
@@ -333,36 +258,24 @@ entries_at x k (r ∷ labels) arm to t u rest w (suc n) is base sound named h mo
       subst (λ (m : ℕ). EntriesAt x.code k (map label_of labels) (x.layout.target to) rest m n) at.behind (entries_at x k labels arm to h.0 u rest w n fewer base sound.1 named h.2 more),
     )
 
-module _ (x : Final) (n many : ℕ) (taken : many % 65536 ≡ n) (exit : Option ℕ) (leave label out : ℕ) (k : Kind) (other : Option (List RStmt)) where
-  else_named : (p q : ℕ) → ElsePart n exit leave label other x p q → x.word label ≡ x.layout.target p
-  else_named p q h = by other h
-    where
-      by : (other : Option (List RStmt)) → ElsePart n exit leave label other x p q → x.word label ≡ x.layout.target p
-      by None h = h.0
-      by (Some ss) h = h.named
+module _ (x : Final) (n many : ℕ) (taken : many % 65536 ≡ n) (exit : Option ℕ) (leave label out : ℕ) (k : Kind) where
+  else_named : (other : Option (List RStmt)) (p q : ℕ) → ElsePart n exit leave label other x p q → x.word label ≡ x.layout.target p
+  else_named None p q h = h.0
+  else_named (Some ss) p q h = h.named
 
-  else_at : (p q t : ℕ) → AreSoundArms x.layout.scope (is_some exit) k (else_of other) → loop_place many + arms_words (else_of other) ≤ x.layout.frame → x.word leave ≡ x.layout.target out
+  else_at : (other : Option (List RStmt)) (p q t : ℕ) → AreSoundArms x.layout.scope (is_some exit) k (else_of other) → loop_place many + arms_words (else_of other) ≤ x.layout.frame → x.word leave ≡ x.layout.target out
       → ElsePart n exit leave label other x p q → ArmsAt x.layout x.code many (option_map x.word exit) k (else_of other) out p q p t 0
-  else_at p q t sound room named h = by other sound room h
-    where
-      by : (other : Option (List RStmt)) → AreSoundArms x.layout.scope (is_some exit) k (else_of other) → loop_place many + arms_words (else_of other) ≤ x.layout.frame
-          → ElsePart n exit leave label other x p q → ArmsAt x.layout x.code many (option_map x.word exit) k (else_of other) out p q p t 0
-      by None sound room h = record { trap = h.1; is = refl; none = refl }
-      by (Some ss) sound room h = record {
-        end = h.end;
-        here = h.here many taken sound room;
-        leave = subst (λ (w : ℕ). IsAt x.code h.end (Jmp w) q) named h.jump;
-        is = refl;
-        none = refl;
-      }
+  else_at None p q t sound room named h = record { trap = h.1; is = refl; none = refl }
+  else_at (Some ss) p q t sound room named h =
+      record { end = h.end; here = h.here many taken sound room; leave = subst (λ (w : ℕ). IsAt x.code h.end (Jmp w) q) named h.jump; is = refl; none = refl }
 
-  arms_at : (arms : List RArm) (ls : List ℕ) (p m q t u : ℕ) → is_ordinal k ≡ true → AreSoundArms x.layout.scope (is_some exit) k (arms_of arms other) → loop_place many + arms_words (arms_of arms other) ≤ x.layout.frame
+  arms_at : (other : Option (List RStmt)) (arms : List RArm) (ls : List ℕ) (p m q t u : ℕ) → is_ordinal k ≡ true → AreSoundArms x.layout.scope (is_some exit) k (arms_of arms other) → loop_place many + arms_words (arms_of arms other) ≤ x.layout.frame
       → x.word leave ≡ x.layout.target out → length ls ≡ length arms → Each (ArmBody n exit leave) (paired arms ls) x p m → ElsePart n exit leave label other x m q → Each ArmLabels (paired arms ls) x t u
       → ArmsAt x.layout x.code many (option_map x.word exit) k (arms_of arms other) out m q p t (entries arms)
-  arms_at [] ls p m q t u base sound room named long bodies otherwise table =
-      subst (λ (p : ℕ). ArmsAt x.layout x.code many (option_map x.word exit) k (else_of other) out m q p t 0) (sym bodies) (else_at m q t sound room named otherwise)
-  arms_at (a ∷ arms) [] p m q t u base sound room named long bodies otherwise table = absurd (omega arith)
-  arms_at (a ∷ arms) (l ∷ ls) p m q t u base sound room named long bodies otherwise table =
+  arms_at other [] ls p m q t u base sound room named long bodies otherwise table =
+      subst (λ (p : ℕ). ArmsAt x.layout x.code many (option_map x.word exit) k (else_of other) out m q p t 0) (sym bodies) (else_at other m q t sound room named otherwise)
+  arms_at other (a ∷ arms) [] p m q t u base sound room named long bodies otherwise table = absurd (omega arith)
+  arms_at other (a ∷ arms) (l ∷ ls) p m q t u base sound room named long bodies otherwise table =
       let is = arm_is a (arms_of arms other) in
       let parts = subst (AreSoundArms x.layout.scope (is_some exit) k) is sound in
       let loops = ap arms_words is in
@@ -374,7 +287,7 @@ module _ (x : Final) (n many : ℕ) (taken : many % 65536 ≡ n) (exit : Option 
         here = bodies.1.here many taken parts.1 (omega (arith, room, loops));
         leave = subst (λ (w : ℕ). IsAt x.code bodies.1.end (Jmp w) bodies.0) named bodies.1.jump;
         entries = entries_at x k a.labels l p t table.0 (ArmsAt x.layout x.code many (option_map x.word exit) k (arms_of arms other) out m q bodies.0) (entries arms) _ refl base parts.0 bodies.1.named table.1
-            (arms_at arms ls bodies.0 m q table.0 u base parts.2 (omega (arith, room, loops)) named rest bodies.2 otherwise table.2);
+            (arms_at other arms ls bodies.0 m q table.0 u base parts.2 (omega (arith, room, loops)) named rest bodies.2 otherwise table.2);
       })
 
 labels_long : (x : Final) (k : Kind) (labels : List RLabel) (arm t u : ℕ) → is_ordinal k ≡ true → AreSoundLabels k (map label_of labels) → Each (LabelEntry arm) labels x t u → u ≡ t + 6 * length labels
@@ -393,10 +306,10 @@ table_long x k (a ∷ arms) (l ∷ ls) other looping t u base sound long table =
 -- the value, a jump to the table, the exit, the arms, what stands behind ELSE, and the table
 pub case_emitted : (n : ℕ) (exit : Option ℕ) (value : RExpr) (arms : List RArm) (otherwise : Option (List RStmt)) (labels : List ℕ) (table end leave other : ℕ) (d0 d1 d2 d3 d4 d5 d6 d7 d8 d9 d10 d11 : Draft)
     → Emits d0 d1 Nothing → Makes d0 d1 table → Emits d1 d2 Nothing → Makes d1 d2 end → Emits d2 d3 (Value (expression_of value)) → Emits d3 d4 (Doing (λ w. Jmp (w table))) → Emits d4 d5 (Marking leave)
-    → Emits d5 d6 (Doing (λ w. Jmp (w end))) → length labels ≡ length arms → Adds (arms_strings (arms_of arms None)) d6 d7 (Each (ArmBody n exit leave) (paired arms labels)) → Adds (arms_strings (else_of otherwise)) d7 d8 (ElsePart n exit leave other otherwise)
-    → Places d8 d9 table → Emits d9 d10 (ChoiceOf arms labels other) → Places d10 d11 end → Adds (body_strings (statement_of (s.Case value arms otherwise))) d0 d11 (Body n exit (statement_of (s.Case value arms otherwise)))
+    → Emits d5 d6 (Doing (λ w. Jmp (w end))) → length labels ≡ length arms → Adds (flat_map arm_part arms) d6 d7 (Each (ArmBody n exit leave) (paired arms labels)) → Adds (arms_strings (else_of otherwise)) d7 d8 (ElsePart n exit leave other otherwise)
+    → Ends d8 d9 table → Emits d9 d10 (ChoiceOf arms labels other) → Ends d10 d11 end → Adds (body_strings (statement_of (s.Case value arms otherwise))) d0 d11 (Body n exit (statement_of (s.Case value arms otherwise)))
 case_emitted n exit value arms otherwise labels table end leave other d0 d1 d2 d3 d4 d5 d6 d7 d8 d9 d10 d11 n1 m1 n2 m2 test go exit_at out long bodies els put_table choice put_end =
-    let bodies_strings = arms_strings (arms_of arms None) ++ arms_strings (else_of otherwise) in
+    let bodies_strings = flat_map arm_part arms ++ arms_strings (else_of otherwise) in
     one_emitted n exit _ _ d0 d11 (case_is value arms otherwise)
     (adds_as d0 d11 _ (append-nil bodies_strings ∙ case_strings arms otherwise)
     (emits_as d0 d11 _ _
@@ -430,6 +343,6 @@ case_emitted n exit value arms otherwise labels table end leave other d0 d1 d2 d
     (emits_here d0 d8 d9 _ table
     (emits_fresh d0 d1 d8 _ n1 (emits_fresh d1 d2 d8 _ n2
     (emits_then d2 d3 d8 _ _ test (emits_then d3 d4 d8 _ _ go (emits_mark d4 d5 d8 leave _ exit_at (emits_then d5 d6 d8 _ _ out (emits_then d6 d7 d8 _ _ bodies els)))))))
-    (omega (arith, m1.is)) put_table)
+    m1.apart put_table)
     (emits_within d9 d10 _ choice))
-    (omega (arith, m2.is, n1.made)) put_end)))
+    (λ k h. m2.apart k (n1.keeps k h)) put_end)))

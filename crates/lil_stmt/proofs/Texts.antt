@@ -1,19 +1,11 @@
 -- The code of strings, and of arguments.
 use Rattle.std.proofs.Common.{◌≡◌, ℕ, ◌-◌, ◌%◌, min, List, [], ◌∷◌, length, map, Option, Some, None, refl, sym, ap, ◌∙◌, subst, arith, append-nil}
 use Rattle.std.specs.Prelude.{slice_get}
-use Rattle.lil_resolved.specs.declared.shapes.RShape.{RShape}
+use Rattle.lil_resolved.specs.{declared.shapes.RShape.RShape, Kinds.{OfCharacter, Shape, Absent, Word, Row, words, is_there, shape_at, fields_of, count_of}, Resolved.{Designator, OfText, Text}, Views.{number_of, shape_with, shapes_of, AreMeasured}, Sizes.words_of}
 use Rattle.lil_resolved.specs.declared.shapes.RShape.TheVariants as r
-use Rattle.lil_resolved.specs.Kinds.{OfCharacter, Shape, Absent, Word, Row, words, is_there, shape_at, fields_of, count_of}
-use Rattle.lil_resolved.specs.Resolved.{Designator, OfText, Text}
-use Rattle.lil_resolved.specs.Views.{number_of, shape_with, shapes_of, AreMeasured}
-use Rattle.lil_resolved.specs.Sizes.{words_of}
-use Rattle.lil_asm.specs.declared.instr.Instr.{Instr}
-use Rattle.lil_asm.specs.declared.instr.Instr.TheVariants.{Lag, Liw, Mvz}
+use Rattle.lil_asm.specs.declared.instr.Instr.{Instr, TheVariants.{Lag, Liw, Mvz}}
 use Rattle.lil_table.specs.Rows.{IsAt, text_words}
-use Rattle.lil_labels.specs.Entries.{entry, absent, small_at}
-use Rattle.lil_labels.specs.Tables.{Tables, elements_in, elements_by}
-use Rattle.lil_labels.specs.Drafts.{Draft, Final, Adds, Emits, Saying, DoingAll}
-use Rattle.lil_labels.specs.Emitting.{emits_then, emits_as, adds_as, emits_tied}
+use Rattle.lil_labels.specs.{Entries.{entry, absent, small_at}, Tables.{Tables, elements_in, elements_by}, Drafts.{Draft, Final, Adds, Emits, Saying, DoingAll}, Emitting.{emits_then, emits_as, adds_as, emits_tied}}
 use Rattle.lil_stmt.specs.Generating.{Addressed, Argued, Stated}
 
 -- ---- arrays of the tables
@@ -74,23 +66,19 @@ text_emitted d cs m offset characters zeros n exit c0 c1 c2 c3 long filled place
     (emits_then c0 c1 c3 _ _ place (emits_then c1 c2 c3 _ _ text (emits_tied c2 c3 _ move))))
 
 -- ---- arguments
-string_at : (cs : List ℕ) (offset high : ℕ) (x : Final) (p start middle last q : ℕ) → high ≡ (text_words cs - 1) % 65536 → Saying cs offset x p start → IsAt x.code start (Lag offset) middle → IsAt x.code middle (Liw high) last → last ≡ q
-    → Argued (OfText cs) x p q
-string_at cs offset high x p start middle last q is text address by ends n sound low =
-    let lies = text.1 sound in
-    let last_is : high ≡ text_words cs - 1 = omega (arith, is, lies.inside, x.room) in
-    record {
-      offset = offset;
-      start = middle;
-      room = omega (arith, low);
-      text = lies;
-      address = subst (λ (p : ℕ). IsAt x.code p (Lag offset) middle) (sym text.0) address;
-      by = subst (λ (q : ℕ). IsAt x.code middle (Liw (text_words cs - 1)) q) ends (subst (λ (w : ℕ). IsAt x.code middle (Liw w) last) last_is by);
-    }
-
 pub text_argued : (cs : List ℕ) (offset high : ℕ) (a b c : Draft) → high ≡ (length cs - 1) % 65536 → Adds (words_of cs) a b (Saying cs offset) → Emits b c (DoingAll (Lag offset ∷ Liw high ∷ [])) → Adds (words_of cs) a c (Argued (OfText cs))
 text_argued cs offset high a b c is text by =
     adds_as a c _ (append-nil (words_of cs))
     (emits_as a c _ (Argued (OfText cs))
-    (λ x t. string_at cs offset high x _ _ t.1.0 t.1.2.0 _ (omega (arith, is)) t.0 t.1.1 t.1.2.1 t.1.2.2)
+    (λ x t n sound low.
+    let lies = t.0.1 sound in
+    let last_is : high ≡ text_words cs - 1 = omega (arith, is, lies.inside, x.room) in
+    record {
+      offset = offset;
+      start = t.1.0;
+      room = omega (arith, low);
+      text = lies;
+      address = subst (λ (p : ℕ). IsAt x.code p (Lag offset) t.1.0) (sym t.0.0) t.1.1;
+      by = subst (λ (q : ℕ). IsAt x.code t.1.0 (Liw (text_words cs - 1)) q) t.1.2.2 (subst (λ (w : ℕ). IsAt x.code t.1.0 (Liw w) t.1.2.0) last_is t.1.2.1);
+    })
     (emits_then a b c _ _ text by))

@@ -1,8 +1,7 @@
 -- The words of the numbers of values.
 use Rattle.std.proofs.Common.{◌≡◌, ℤ, pos, negsuc, ◌≤ℤ◌, true, arith}
 use Rattle.std.proofs.lemmas.Int.{ints}
-use Rattle.lil_base.specs.Words.{Whole, Cardinal, Integer, in_type}
-use Rattle.lil_base.specs.Laws.{bounds}
+use Rattle.lil_base.specs.{Words.{Whole, Cardinal, Integer, in_type}, Laws.bounds}
 
 -- the number of a value has a word of 16 bits
 pub in_word : (t : Whole) (z : ℤ) → in_type t z ≡ true → (negsuc 32767 ≤ℤ z) × (z ≤ℤ pos 65535)

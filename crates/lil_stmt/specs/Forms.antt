@@ -1,10 +1,7 @@
 -- Which form a statement has.
 use Rattle.std.specs.Prelude.{Bool, true, false}
-use Rattle.lil_resolved.specs.declared.resolved.RStmt.{RStmt, out-RStmt}
+use Rattle.lil_resolved.specs.declared.resolved.{RStmt.{RStmt, out-RStmt, TheOpen.RStmt-F}, RArm.RArm, RGuard.RGuard}
 use Rattle.lil_resolved.specs.declared.resolved.RStmt.TheOpen as o
-use Rattle.lil_resolved.specs.declared.resolved.RStmt.TheOpen.{RStmt-F}
-use Rattle.lil_resolved.specs.declared.resolved.RArm.{RArm}
-use Rattle.lil_resolved.specs.declared.resolved.RGuard.{RGuard}
 
 -- a statement that holds no others
 abbrev simple_layer : RStmt-F RStmt RArm RGuard → Bool

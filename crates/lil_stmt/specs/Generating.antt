@@ -1,19 +1,12 @@
 -- What the code means that the generator of statements adds.
-use Rattle.std.specs.Prelude.{◌≡◌, ℕ, ◌+◌, ◌%◌, ◌≤◌, pos, negsuc, ◌≤ℤ◌, Bool, true, List, [], ◌∷◌, length, map, Option, Some, None}
+use Rattle.std.specs.Prelude.{◌≡◌, ℕ, ◌+◌, ◌%◌, ◌≤◌, pos, negsuc, ◌≤ℤ◌, Bool, true, List, [], ◌∷◌, length, Option, Some, None}
 use Rattle.std.specs.Option.{is_some, option_map}
 use Rattle.lil_base.specs.Words.{word_of}
-use Rattle.lil_resolved.specs.declared.resolved.RStmt.{RStmt}
-use Rattle.lil_resolved.specs.declared.resolved.RGuard.{RGuard}
-use Rattle.lil_resolved.specs.declared.resolved.RArm.{RArm}
-use Rattle.lil_resolved.specs.declared.resolved.RLabel.{RLabel}
-use Rattle.lil_resolved.specs.Kinds.{Kind, is_there, shape_at}
-use Rattle.lil_resolved.specs.Resolved.{Designator, Expression, Argument, Label, Statement, Statements, shape_of}
-use Rattle.lil_resolved.specs.Views.{guarded, guard_of, statements_of, label_of, shapes_of}
-use Rattle.lil_resolved.specs.Sizes.{statement_words, body_words}
-use Rattle.lil_resolved.specs.Sound.{IsSoundPlace, IsSoundTarget, IsSoundStored, IsSoundArgument, AreSoundArguments, IsSoundStatement, IsSoundBody}
+use Rattle.lil_resolved.specs.{declared.resolved.{RArgument.RArgument, RStmt.RStmt, RGuard.RGuard, RArm.RArm, RLabel.RLabel}, Kinds.{Kind, is_there, shape_at}, Resolved.{Designator, Expression, Argument, Label, Statement, Statements, shape_of}, Views.{argument_of, statement_of, guard_of, statements_of, label_of, shapes_of}, Sizes.{argument_strings, body_strings, statement_words, body_words}}
+use Rattle.lil_resolved.specs.Sound.{IsSoundPlace, IsSoundTarget, IsSoundStored, IsSoundArgument, IsSoundStatement, IsSoundBody}
 use Rattle.lil_asm.specs.declared.instr.Instr.TheVariants.{Jmp, Trp}
-use Rattle.lil_table.specs.Rows.{IsAt, InstrsAt, Access, access_of, address_code, ready_code, readied, PlaceAt, ValueRow, TargetRow, ArgumentsAt, argument_words, arguments_words, ArgumentAt, LeaveRow, AlignAt, StatementAt, BodyAt, loop_place}
-use Rattle.lil_labels.specs.Drafts.{Final, Meaning, EntryAt, ChoiceAt}
+use Rattle.lil_table.specs.Rows.{IsAt, InstrsAt, Access, access_of, address_code, ready_code, readied, PlaceAt, ValueRow, TargetRow, argument_words, ArgumentAt, LeaveRow, AlignAt, StatementAt, BodyAt, loop_place}
+use Rattle.lil_labels.specs.Drafts.{Final, Meaning, Each, EntryAt, ChoiceAt}
 
 -- a sound value that is stored at a place of a kind has its code and its test, where up to 3 words of others stand below its own
 abbrev pub Stored : Expression → Kind → Meaning
@@ -23,9 +16,12 @@ Stored e k x p q = (n : ℕ) → IsSoundStored x.layout.scope e k → n ≤ 3 �
 abbrev pub Argued : Argument → Meaning
 Argued a x p q = (n : ℕ) → IsSoundArgument x.layout.scope a → n + argument_words a ≤ 4 → ArgumentAt x.layout x.code n a p q
 
--- the same of arguments, with n words of others below them
-abbrev pub Passed : ℕ → List Argument → Meaning
-Passed n given x p q = AreSoundArguments x.layout.scope given → n + arguments_words given ≤ 4 → ArgumentsAt x.layout x.code n given p q
+-- one of the arguments of a request, and the words of its strings
+abbrev pub ArgumentPart : RArgument → Meaning
+ArgumentPart g x p q = Argued (argument_of g) x p q
+
+abbrev pub argument_part : RArgument → List ℕ
+argument_part g = argument_strings (argument_of g)
 
 -- what makes a place ready for a store, and how code then has it
 abbrev pub Readied : Access → Access → Meaning
@@ -60,19 +56,19 @@ Stated cut exit s x p q =
 abbrev pub Body : ℕ → Option ℕ → Statements → Meaning
 Body cut exit ss x p q = (n : ℕ) → n % 65536 ≡ cut → IsSoundBody x.layout.scope (is_some exit) ss → loop_place n + body_words ss ≤ x.layout.frame → BodyAt x.layout x.code n (option_map x.word exit) ss p q
 
--- with the code of some statements behind it, it is the code of others
-abbrev pub Awaiting : ℕ → Option ℕ → Statements → Statements → Meaning
-Awaiting n exit rest all x p q = (r : ℕ) → Body n exit rest x q r → Body n exit all x p r
+-- a statement of a body, and the words of its strings
+abbrev pub StatementPart : ℕ → Option ℕ → RStmt → Meaning
+StatementPart n exit s x p q = Body n exit (statement_of s) x p q
 
--- the same of whatever statements end at a label
-abbrev pub Turning : ℕ → Option ℕ → ℕ → (Statements → Statements) → (Statements → Statements) → Meaning
-Turning n exit end from to x p q = (rest : Statements) (r : ℕ) → x.word end ≡ x.layout.target r → Body n exit (from rest) x q r → Body n exit (to rest) x p r
+abbrev pub statement_part : RStmt → List ℕ
+statement_part s = body_strings (statement_of s)
 
-abbrev pub nothing_before : Statements → Statements
-nothing_before ss = ss
+-- a guard before whatever statements end at a label, and the words of its strings
+abbrev pub GuardPart : ℕ → Option ℕ → ℕ → RGuard → Meaning
+GuardPart n exit end g x p q = (rest : Statements) (r : ℕ) → x.word end ≡ x.layout.target r → Body n exit rest x q r → Body n exit (guard_of g rest) x p r
 
-abbrev pub guards_before : List RGuard → Statements → Statements
-guards_before gs = guarded (map guard_of gs)
+abbrev pub guard_part : RGuard → List ℕ
+guard_part g = body_strings (statements_of g.body)
 
 -- in a FOR that ends at a label, what leaves it where its start isn't a number of both types of whole numbers
 abbrev pub Leaving : ℕ → Meaning
@@ -81,11 +77,6 @@ Leaving end x p q = (r : ℕ) → x.word end ≡ x.layout.target r → LeaveRow 
 -- what brings a start to its limit's type, by whether that is its own and whether another start has turns
 abbrev pub Aligning : (same turns : Bool) → ℕ → Meaning
 Aligning same turns end x p q = (r : ℕ) → x.word end ≡ x.layout.target r → AlignAt x.layout x.code same turns p q r
-
--- one behind another
-abbrev pub Each : {A : Type 0} → (A → Meaning) → List A → Meaning
-Each P [] x p q = p ≡ q
-Each P (a ∷ rest) x p q = (m : ℕ) × P a x p m × Each P rest x m q
 
 abbrev pub paired : List RArm → List ℕ → List (RArm × ℕ)
 paired [] ls = []
@@ -104,6 +95,9 @@ ArmPart n exit leave label ss x p q = ArmAt n exit leave label ss x p q
 
 abbrev pub ArmBody : ℕ → Option ℕ → ℕ → RArm × ℕ → Meaning
 ArmBody n exit leave a x p q = ArmAt n exit leave a.1 (statements_of a.0.body) x p q
+
+abbrev pub arm_part : RArm → List ℕ
+arm_part a = body_strings (statements_of a.body)
 
 -- the trap for values with no arm, with a label for its place
 abbrev pub Trapping : ℕ → Meaning

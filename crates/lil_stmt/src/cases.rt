@@ -1,8 +1,8 @@
 //! The table of a CASE.
 
 ghost use Rattle.std.specs.Prelude.{◌≡◌, ◌%◌, length, OnOk};
-ghost use Rattle.lil_labels.specs.Drafts.{Emits};
-ghost use Rattle.lil_stmt.specs.Generating.{Each, LabelEntry, ArmLabels, ChoiceOf, paired, entries};
+ghost use Rattle.lil_labels.specs.Drafts.{Each, Emits};
+ghost use Rattle.lil_stmt.specs.Generating.{LabelEntry, ArmLabels, ChoiceOf, paired, entries};
 
 use lil_base::Memory;
 use lil_expr::word_of_number;
@@ -22,7 +22,8 @@ pub(crate) fn emit_choice(
 {
     let count = entry_count(arms);
     code.choose(count, other)?;
-    emit_table(code, arms, labels)
+    emit_table(code, arms, labels)?;
+    Ok(())
 }
 
 /// How many entries the labels of arms have, cut to 16 bits.

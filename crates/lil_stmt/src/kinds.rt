@@ -2,9 +2,7 @@
 
 ghost use Rattle.std.specs.Prelude.{◌≡◌, [], ◌∷◌, OnOk};
 ghost use Rattle.lil_resolved.specs.Kinds as kinds;
-ghost use Rattle.lil_resolved.specs.Kinds.{OfWhole, base_of};
-ghost use Rattle.lil_resolved.specs.Resolved.{counted_as};
-ghost use Rattle.lil_resolved.specs.Views.{base_view, kind_view, is_down};
+ghost use Rattle.lil_resolved.specs.{Kinds.{OfWhole, base_of}, Resolved.counted_as, Views.{base_view, kind_view, is_down}};
 ghost use Rattle.lil_asm.specs.Bytes.{Sayable};
 ghost use Rattle.lil_table.specs.Rows as rows;
 ghost use Rattle.lil_table.specs.Rows.{change_operator, test_code, whole_code};

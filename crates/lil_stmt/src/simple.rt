@@ -1,14 +1,12 @@
 //! The code of statements without statements in them.
 
-ghost use Rattle.std.specs.Prelude.{◌≡◌, ℕ, Option, map, OnOk};
+ghost use Rattle.std.specs.{Prelude.{◌≡◌, ℕ, Option, map, OnOk}, List.flat_map};
 ghost use Rattle.lil_resolved.specs.Resolved as resolved;
-ghost use Rattle.lil_resolved.specs.Resolved.{Assign, Copy, Change, Member, New, Allocate, Exit};
-ghost use Rattle.lil_resolved.specs.Views.{kind_view, place_of, is_down, is_out, is_back, argument_of, expression_of};
-ghost use Rattle.lil_resolved.specs.Sizes.{words_of, argument_strings, arguments_strings};
+ghost use Rattle.lil_resolved.specs.{Resolved.{Assign, Copy, Change, Member, New, Allocate, Exit}, Views.{kind_view, place_of, is_down, is_out, is_back, argument_of, expression_of}, Sizes.{words_of, argument_strings, arguments_strings}};
 ghost use Rattle.lil_asm.specs.Bytes.{Sayable};
 ghost use Rattle.lil_table.specs.Rows.{member_code, allocate_code};
-ghost use Rattle.lil_labels.specs.Drafts.{DoingAll, Adds, Emits};
-ghost use Rattle.lil_stmt.specs.Generating.{Stated, Stored, Argued, Passed};
+ghost use Rattle.lil_labels.specs.Drafts.{DoingAll, Each, Adds, Emits};
+ghost use Rattle.lil_stmt.specs.Generating.{Stated, Stored, Argued, ArgumentPart, argument_part};
 
 use crate::kinds::{change_instr, counted_base};
 use crate::statements::Around;
@@ -22,11 +20,13 @@ use lil_resolved::{
 };
 
 /// Appends the code of a value that is to be stored where one of a kind is wanted, and its test.
+#[tactic(auto, using(crate::proofs::Storing::whole))]
 fn emit_value(code: &mut CodeBuffer<'_>, value: &RExpr, kind: RKind) -> Result<(), Memory>
     ensures { OnOk result (Emits code.old code.new (Stored (expression_of value.now) (kind_view kind))) }
 {
     emit_expression(code, value)?;
-    emit_test(code, kind, base(value))
+    emit_test(code, kind, base(value))?;
+    Ok(())
 }
 
 /// Appends the code of an assignment: the place, made ready, the value, its test, and the store.
@@ -54,7 +54,8 @@ pub(crate) fn emit_copy(
     let shape = emit_address_of(code, place)?;
     emit_address_of(code, from)?;
     let words = code.words(shape);
-    code.put(Instr::Mov(words))
+    code.put(Instr::Mov(words))?;
+    Ok(())
 }
 
 /// Appends the code of a string that goes to an array: the addresses of both, and the move of the characters, with zeros
@@ -97,6 +98,7 @@ pub(crate) fn emit_change(
 
 /// Appends the code of INCL or EXCL: the address of the set, the number, its test, and the instruction that puts it in or
 /// takes it out.
+#[tactic(auto, using(crate::proofs::Storing::stored))]
 pub(crate) fn emit_member(
     code: &mut CodeBuffer<'_>,
     membership: Membership,
@@ -108,7 +110,8 @@ pub(crate) fn emit_member(
 {
     emit_address_of(code, place)?;
     emit_value(code, number, kind)?;
-    code.put(member_instr(membership))
+    code.put(member_instr(membership))?;
+    Ok(())
 }
 
 /// The instruction by which a number joins a set, or leaves it.
@@ -124,6 +127,7 @@ fn member_instr(membership: Membership) -> Instr
 
 /// Appends the code of NEW: the address of the pointer, the words of what pointers of its type point to, and the instruction
 /// that takes a block of so many.
+#[tactic(auto, using(lil_expr::specs::Variables::pointed))]
 pub(crate) fn emit_new(
     code: &mut CodeBuffer<'_>,
     place: &RPlace,
@@ -133,11 +137,13 @@ pub(crate) fn emit_new(
 {
     emit_address_of(code, place)?;
     let words = code.words(code.target(pointer));
-    code.put_all(&[Instr::Liw(words), Instr::Alc])
+    code.put_all(&[Instr::Liw(words), Instr::Alc])?;
+    Ok(())
 }
 
 /// Appends the code of ALLOCATE or DEALLOCATE: the place of the address, the number of words, its test, and what gives the
 /// address a workspace of so many, or makes it NIL.
+#[tactic(auto, using(crate::proofs::Storing::stored))]
 pub(crate) fn emit_allocate(
     code: &mut CodeBuffer<'_>,
     allocation: Allocation,
@@ -152,7 +158,8 @@ pub(crate) fn emit_allocate(
     };
     emit_address_of(code, place)?;
     emit_value(code, words, cardinal)?;
-    emit_allocation(code, allocation)
+    emit_allocation(code, allocation)?;
+    Ok(())
 }
 
 /// Appends what takes a block for the address, of the words on the expression stack, or drops their number and stores NIL.
@@ -179,7 +186,7 @@ pub(crate) fn emit_request(
 
 /// Appends the code of arguments, each with its test.
 fn emit_arguments(code: &mut CodeBuffer<'_>, given: &[RArgument]) -> Result<(), Memory>
-    ensures { OnOk result (Adds (arguments_strings (map argument_of given.now)) code.old code.new (Passed 0 (map argument_of given.now))) }
+    ensures { OnOk result (Adds (flat_map argument_part given.now) code.old code.new (Each ArgumentPart given.now)) }
 {
     for argument in given {
         emit_argument(code, argument)?;

@@ -2,9 +2,7 @@
 
 ghost use Rattle.std.specs.Prelude.{◌≡◌, [], ◌∷◌, OnOk};
 ghost use Rattle.lil_resolved.specs.Kinds as kinds;
-ghost use Rattle.lil_resolved.specs.Kinds.{base_of};
-ghost use Rattle.lil_resolved.specs.Resolved.{kind_of};
-ghost use Rattle.lil_resolved.specs.Views.{kind_view, expression_of};
+ghost use Rattle.lil_resolved.specs.{Kinds.base_of, Resolved.kind_of, Views.{kind_view, expression_of}};
 ghost use Rattle.lil_labels.specs.Drafts.{Emits};
 ghost use Rattle.lil_stmt.specs.Generating.{Aligning, Leaving};
 

@@ -1,12 +1,9 @@
 //! The code of resolved statements.
 
-ghost use Rattle.std.specs.Prelude.{◌≡◌, [], None, true, length, IfOk, OnOk};
-ghost use Rattle.lil_resolved.specs.Resolved.{While, Repeat, Loop, For, Inside};
-ghost use Rattle.lil_resolved.specs.Views.{variable_kind, expression_of, place_of, statement_of, statements_of, guard_of, guards_of, arms_of};
-ghost use Rattle.lil_resolved.specs.Sizes.{body_strings, arms_strings};
-ghost use Rattle.lil_labels.specs.Drafts.{Adds, Emits};
-ghost use Rattle.lil_stmt.specs.Generating.{Stated, Body, Turning, Each, ArmPart, ArmBody, Trapping, nothing_before, guards_before, paired};
-ghost use Rattle.lil_stmt.specs.Forms.{is_simple, is_case};
+ghost use Rattle.std.specs.{Prelude.{◌≡◌, true, length, IfOk, OnOk}, List.flat_map};
+ghost use Rattle.lil_resolved.specs.{Resolved.{While, Repeat, Loop, For, Inside}, Views.{variable_kind, expression_of, place_of, statement_of, statements_of}, Sizes.body_strings};
+ghost use Rattle.lil_labels.specs.Drafts.{Each, Adds, Emits};
+ghost use Rattle.lil_stmt.specs.{Generating.{Stated, Body, GuardPart, guard_part, ArmPart, ArmBody, arm_part, Trapping, paired}, Forms.{is_simple, is_case}};
 
 use crate::cases::emit_choice;
 use crate::kinds::{emit_turn_test, loop_sign};
@@ -126,7 +123,7 @@ fn emit_guards(
     end: usize,
     around: Around,
 ) -> Result<(), Memory>
-    ensures { OnOk result (Adds (body_strings (guards_of guards.now [])) code.old code.new (Turning around.words around.exit end nothing_before (guards_before guards.now))) }
+    ensures { OnOk result (Adds (flat_map guard_part guards.now) code.old code.new (Each (GuardPart around.words around.exit end) guards.now)) }
 {
     for guard in guards {
         emit_guard(code, guard, end, around)?;
@@ -143,7 +140,7 @@ fn emit_guard(
     end: usize,
     around: Around,
 ) -> Result<(), Memory>
-    ensures { OnOk result (Adds (body_strings (statements_of guard.now.body)) code.old code.new (Turning around.words around.exit end nothing_before (guard_of guard.now))) }
+    ensures { OnOk result (Adds (guard_part guard.now) code.old code.new (GuardPart around.words around.exit end guard.now)) }
 {
     emit_expression(code, &guard.condition)?;
     let other = code.fresh()?;
@@ -163,7 +160,7 @@ fn emit_arms(
     around: Around,
 ) -> Result<Vec<usize>, Memory>
     ensures many { IfOk result (λ labels. length labels.items ≡ length arms.now) }
-    ensures emits { IfOk result (λ labels. Adds (arms_strings (arms_of arms.now None)) code.old code.new (Each (ArmBody around.words around.exit leave) (paired arms.now labels.items))) }
+    ensures emits { IfOk result (λ labels. Adds (flat_map arm_part arms.now) code.old code.new (Each (ArmBody around.words around.exit leave) (paired arms.now labels.items))) }
 {
     let mut labels = Vec::new(code.alloc());
     for arm in arms {

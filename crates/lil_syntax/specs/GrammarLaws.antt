@@ -1,19 +1,12 @@
 -- What a reader of the grammar may rely on, for each syntax of it that one token decides.
-use Rattle.std.proofs.Common.{◌≡◌, ℕ, true, List, Some, Result, Ok, Err, IfOk, IfErr, inl, inr}
-use Rattle.lil_text.specs.declared.token.Token.{Token}
+use Rattle.std.proofs.Common.{◌≡◌, ℕ, true, List, Some, Result, Ok, Err, IfOk, IfErr, subst, sym, inl, inr}
+use Rattle.lil_text.specs.{declared.{token.Token.Token, stop.ReadStop.{ReadStop, TheVariants.{Fault, Memory}}}, Nesting.{Limit, within}}
 use Rattle.lil_base.specs.declared.fault.SourceFault.{SourceFault}
-use Rattle.lil_text.specs.declared.stop.ReadStop.{ReadStop}
-use Rattle.lil_text.specs.declared.stop.ReadStop.TheVariants.{Fault, Memory}
-use Rattle.lil_text.specs.Nesting.{Limit, within}
-use Rattle.lil_grammar.specs.Steps.{syntax, nested, Outcome, Reads}
-use Rattle.lil_syntax.specs.Syntax.{Syntax, decided, goes_on, Grammar, Derived, parse, sound_at}
-use Rattle.lil_grammar.specs.Places.{Longest, StopsAt, AnswersAt}
+use Rattle.lil_grammar.specs.{Steps.{syntax, nested, Outcome, Reads}, Places.{Longest, StopsAt, AnswersAt}, Rules.fell}
+use Rattle.lil_syntax.specs.{Syntax.{Syntax, decided, goes_on, Grammar, Derived, parse, sound_at}, KindLaws.{NotAt, not_at_end}, GrammarRules.rule_of, GrammarFar.{far_of, plain_of}}
 use Rattle.lil_grammar.specs.RulesUse as r
-use Rattle.lil_grammar.specs.RulesOne as o
+use Rattle.lil_grammar.specs.RulesFar as o
 use Rattle.lil_grammar.specs.RulesExact as exact
-use Rattle.lil_syntax.specs.KindLaws.{NotAt, not_at_end}
-use Rattle.lil_syntax.specs.GrammarRules.{rule_of}
-use Rattle.lil_syntax.specs.GrammarFar.{far_of, plain_of}
 
 memory_fault : {f : SourceFault} → Memory ≡ Fault f → ⊥
 memory_fault e = absurd (cc)
@@ -37,7 +30,7 @@ module _ {N : Type 0} {Tree : N → Type 0} (G : Grammar Tree) (sound : (n : N) 
     -- it needs no memory
     pub never_memory : (ts : List Token) → parse G d s ts ≡ Err Memory → ⊥
     unfolding syntax nested
-    never_memory ts is = elim ((rule_of G sound d s by_one).fell ts Memory is).why [
+    never_memory ts is = elim (fell (rule_of G sound d s by_one) is).why [
       | inl h ↦ let e = h.is in memory_fault e
       | inr h ↦ let e = h.is in memory_fault e
     ]
@@ -47,15 +40,19 @@ module _ {N : Type 0} {Tree : N → Type 0} (G : Grammar Tree) (sound : (n : N) 
     exactly = exact.exactly (Derived G s) d (rule_of G sound d s by_one) (not_at_end (goes_on G.first G.goes s))
 
     -- ---- for a function that reads by it
-    module _ (ts new : List Token) (result : Result A ReadStop) (reads : Reads (parse G d s ts) result new) where
-      pub found : IfOk result (λ x. Derived G s (within d) ts new x)
-      found = r.reads_found (Derived G s) d (rule_of G sound d s by_one) (not_at_end (goes_on G.first G.goes s)) ts new result reads
+    module _ (ts new : List Token) where
+      pub found : (result : Result A ReadStop) → Reads (parse G d s ts) result new → IfOk result (λ x. Derived G s (within d) ts new x)
+      found (Ok x) h = is_derived ts x new h
+      found (Err e) h = tt
 
-      pub longest : IfOk result (λ x. Longest (Derived G s) ts new)
-      longest = r.reads_longest (Derived G s) d (rule_of G sound d s by_one) (not_at_end (goes_on G.first G.goes s)) ts new result reads
+      pub longest : (result : Result A ReadStop) → Reads (parse G d s ts) result new → IfOk result (λ x. Longest (Derived G s) ts new)
+      longest (Ok x) h = r.longest (Derived G s) d (rule_of G sound d s by_one) (not_at_end (goes_on G.first G.goes s)) ts x new h
+      longest (Err e) h = tt
 
-      pub only : (x : A) (rest : List Token) → Derived G s (within d) ts rest x → Ends rest → Reads (Ok (x, rest)) result new
-      only = r.reads_only (Derived G s) d (rule_of G sound d s by_one) (not_at_end (goes_on G.first G.goes s)) ts new result reads
+      pub only : (result : Result A ReadStop) → Reads (parse G d s ts) result new → (x : A) (rest : List Token) → Derived G s (within d) ts rest x → Ends rest → Reads (Ok (x, rest)) result new
+      only result reads x rest h e = subst (λ o. Reads o result new) (is_read ts rest x h e) reads
 
-      pub stops : IfErr result (λ e. StopsAt (Derived G s) d ts e)
-      stops = r.reads_exact (Derived G s) d (rule_of G sound d s by_one) (not_at_end (goes_on G.first G.goes s)) ts new result reads
+      pub stops : (result : Result A ReadStop) → Reads (parse G d s ts) result new → IfErr result (λ e. StopsAt (Derived G s) d ts e)
+      stops (Ok x) h = tt
+      stops (Err (Fault f)) h = r.stops_at (Derived G s) d (rule_of G sound d s by_one) (not_at_end (goes_on G.first G.goes s)) ts (Fault f) (h (λ e. memory_fault (sym e)))
+      stops (Err Memory) h = tt

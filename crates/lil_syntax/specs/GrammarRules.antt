@@ -1,14 +1,9 @@
 -- Each part of a sound grammar, at each nesting, and each syntax over it: the parser reads what the grammar derives, and stops exactly where nothing goes on.
-use Rattle.std.proofs.Common.{◌≡◌, ◌⊎◌, ℕ, zero, suc, ◌+◌, ◌-◌, ◌≤◌, Bool, true, false, ◌&&◌, not, List, [], ◌∷◌, ◌++◌, length, Some, None, refl, subst, inl, inr, arith}
-use Rattle.lil_text.specs.declared.token.Token.{Token}
-use Rattle.lil_text.specs.Nesting.{Limit, Inside, unlimited}
-use Rattle.lil_syntax.specs.Phrases.{Nothing, After, ◌▸◌, left, right, Star, stop, go_on}
-use Rattle.lil_syntax.specs.Terminals.{Kinds, among, part_of}
-use Rattle.lil_syntax.specs.Syntax.{Syntax, give, one, part, ◌◃◌, ◌◂◌, ◌or◌, repeat, Derives, nullable, begins, goes_on, decided, guarded, productive, Grammar, DerivesIn, Is, Derived, read, parse, sound_at}
-use Rattle.lil_grammar.specs.Rules.{Late, IsFree, Relation, Rule, Begins, rule_within}
-use Rattle.lil_grammar.specs.RulesLimit.{limit, inside_next, inside_free, inside_next_is, inside_zero_is, rule_shallow}
-use Rattle.lil_syntax.specs.KindLaws.{and_left, and_right, never, not_true, At, NotAt, at_part_of, not_part_of, part_of_is}
-use Rattle.lil_syntax.specs.SyntaxLaws.{Opened, Something, starts, produces, opens, derives_map}
+use Rattle.std.proofs.Common.{◌≡◌, ◌⊎◌, ℕ, zero, suc, ◌+◌, ◌≤◌, Bool, true, false, List, [], ◌∷◌, ◌++◌, length, Some, None, refl, subst, inl, inr, arith}
+use Rattle.std.proofs.lemmas.Bool.{and_parts, not-true}
+use Rattle.lil_text.specs.{declared.token.Token.Token, Nesting.{Limit, Inside, unlimited}}
+use Rattle.lil_grammar.specs.{Phrases.{Nothing, After, ◌▸◌, left, right, Star, stop, go_on}, Rules.{Late, IsFree, Relation, Rule, Begins, rule_within}, RulesLimit.{limit, inside_next, inside_free, inside_next_is, inside_zero_is, rule_shallow}}
+use Rattle.lil_syntax.specs.{Terminals.{Kinds, among, part_of}, Syntax.{Syntax, give, one, part, both, ◌or◌, repeat, Derives, nullable, begins, goes_on, decided, guarded, productive, Grammar, DerivesIn, Is, Derived, read, parse, sound_at}, KindLaws.{never, At, NotAt, at_part_of, not_part_of, part_of_is}, SyntaxLaws.{Behind, Opened, Something, starts, something, opens, star_map, derives_map}}
 use Rattle.lil_syntax.specs.SyntaxRules as by_syntax
 
 -- what is tested of a production, one by one
@@ -21,15 +16,6 @@ pub record Fine {N : Type 0} {Tree : N → Type 0} (G : Grammar Tree) (n : N) : 
   pub in_begins : part_of (G.first n) (begins G.first G.goes (G.production n)) ≡ true
   pub goes_in : part_of (goes_on G.first G.goes (G.production n)) (G.goes n) ≡ true
 
-split_all : (a b c d e f g : Bool) → a && (b && (c && (d && (e && (f && g))))) ≡ true → (a ≡ true) × (b ≡ true) × (c ≡ true) × (d ≡ true) × (e ≡ true) × (f ≡ true) × (g ≡ true)
-split_all a b c d e f g h =
-    let h₁ = and_right a (b && (c && (d && (e && (f && g))))) h in
-    let h₂ = and_right b (c && (d && (e && (f && g)))) h₁ in
-    let h₃ = and_right c (d && (e && (f && g))) h₂ in
-    let h₄ = and_right d (e && (f && g)) h₃ in
-    let h₅ = and_right e (f && g) h₄ in
-    (and_left a (b && (c && (d && (e && (f && g))))) h, and_left b (c && (d && (e && (f && g)))) h₁, and_left c (d && (e && (f && g))) h₂, and_left d (e && (f && g)) h₃, and_left e (f && g) h₄, and_left f g h₅, and_right f g h₅)
-
 pub not_starts : (cs : Kinds) (b : Bool) {ts rest : List Token} → b ≡ false → At cs ts ⊎ ((b ≡ true) × (ts ≡ rest)) → At cs ts
 not_starts cs b h (inl k) = k
 not_starts cs b h (inr k) = absurd (never k.0 h)
@@ -37,31 +23,30 @@ not_starts cs b h (inr k) = absurd (never k.0 h)
 module _ {N : Type 0} {Tree : N → Type 0} (G : Grammar Tree) (sound : (n : N) → sound_at G n ≡ true) where
   pub fine : (n : N) → Fine G n
   fine n =
-      let s = G.production n in
-      let h = split_all (not (nullable G.first G.goes s)) (decided G.first G.goes s) (guarded G.first G.goes s) (productive G.first G.goes s) (part_of (begins G.first G.goes s) (G.first n)) (part_of (G.first n) (begins G.first G.goes s)) (part_of (goes_on G.first G.goes s) (G.goes n)) (sound n) in
-      record { is_some = not_true (nullable G.first G.goes s) h.0; is_decided = h.1; is_guarded = h.2; is_productive = h.3; begins_in = h.4; in_begins = h.5; goes_in = h.6 }
+      let a = and_parts _ _ (sound n) in
+      let b = and_parts _ _ a.1 in
+      let c = and_parts _ _ b.1 in
+      let d = and_parts _ _ c.1 in
+      let e = and_parts _ _ d.1 in
+      let f = and_parts _ _ e.1 in
+      record { is_some = not-true _ a.0; is_decided = b.0; is_guarded = c.0; is_productive = d.0; begins_in = e.0; in_begins = f.0; goes_in = f.1 }
 
   -- ---- by how many parts lie in one another
-  taller : (h k : ℕ) (l : Limit) (n : N) (ts rest : List Token) (x : Tree n) → DerivesIn G h l n ts rest x → DerivesIn G (h + k) l n ts rest x
-  taller zero k l n ts rest x d = absurd d
-  taller (suc h) k l n ts rest x d =
-      let e : suc (h + k) ≡ suc h + k = omega arith in
-      subst (λ m. DerivesIn G m l n ts rest x) e (d.0, d.1, derives_map G.first G.goes (DerivesIn G h d.0) (DerivesIn G (h + k) d.0) (λ n ts rest x d'. taller h k d.0 n ts rest x d') (G.production n) ts rest x d.2)
-
-  taller_than : (h m : ℕ) → h ≤ m → (l : Limit) (n : N) (ts rest : List Token) (x : Tree n) → DerivesIn G h l n ts rest x → DerivesIn G m l n ts rest x
-  taller_than h m less l n ts rest x d = let e : h + (m - h) ≡ m = omega arith in subst (λ m. DerivesIn G m l n ts rest x) e (taller h (m - h) l n ts rest x d)
+  taller : (h m : ℕ) → h ≤ m → (l : Limit) (n : N) (ts rest : List Token) (x : Tree n) → DerivesIn G h l n ts rest x → DerivesIn G m l n ts rest x
+  taller zero m less l n ts rest x d = absurd d
+  taller (suc h) zero less l n ts rest x d = absurd (omega arith)
+  taller (suc h) (suc m) less l n ts rest x d = (d.0, d.1, derives_map G.first G.goes (DerivesIn G h d.0) (DerivesIn G m d.0) (taller h m (omega arith) d.0) (G.production n) ts rest x d.2)
 
   module _ (l : Limit) where
     abbrev High : {A : Type 0} → Syntax Tree A → List Token → List Token → A → Type 0
     High s ts rest x = (h : ℕ) × Derives (DerivesIn G h l) s ts rest x
 
     lift : {A : Type 0} (s : Syntax Tree A) (h m : ℕ) → h ≤ m → (ts rest : List Token) (x : A) → Derives (DerivesIn G h l) s ts rest x → Derives (DerivesIn G m l) s ts rest x
-    lift s h m less ts rest x d = derives_map G.first G.goes (DerivesIn G h l) (DerivesIn G m l) (taller_than h m less l) s ts rest x d
+    lift s h m less ts rest x d = derives_map G.first G.goes (DerivesIn G h l) (DerivesIn G m l) (taller h m less l) s ts rest x d
 
     star_lift : {S B : Type 0} (turn : Syntax Tree B) (add : S → B → S) (h m : ℕ) → h ≤ m → {s x : S} {ts rest : List Token}
         → Star (λ s. After (Derives (DerivesIn G h l) turn) (λ b. Nothing (add s b))) s ts rest x → Star (λ s. After (Derives (DerivesIn G m l) turn) (λ b. Nothing (add s b))) s ts rest x
-    star_lift turn add h m less stop = stop
-    star_lift turn add h m less (go_on {ts = ts} (◌▸◌ {mid = mid} {a = b} d e) more) = go_on (lift turn h m less ts mid b d ▸ e) (star_lift turn add h m less more)
+    star_lift turn add h m less d = star_map G.first G.goes (DerivesIn G h l) (DerivesIn G m l) (taller h m less l) turn add (lift turn h m less) d
 
     star_high : {S B : Type 0} (turn : Syntax Tree B) (add : S → B → S) → ((ts rest : List Token) (b : B) → Derives (Is G l) turn ts rest b → High turn ts rest b) → {s x : S} {ts rest : List Token}
         → Star (λ s. After (Derives (Is G l) turn) (λ b. Nothing (add s b))) s ts rest x → (h : ℕ) × Star (λ s. After (Derives (DerivesIn G h l) turn) (λ b. Nothing (add s b))) s ts rest x
@@ -76,14 +61,10 @@ module _ {N : Type 0} {Tree : N → Type 0} (G : Grammar Tree) (sound : (n : N) 
     high (give a) ts rest x d = (0, d)
     high (one t) ts rest x d = (0, d)
     high (part n) ts rest x d = d
-    high (g ◃ p) ts rest x (◌▸◌ {mid = mid} {a = f} d (◌▸◌ {mid = m} {a = a} k e)) =
-        let y = high g ts mid f d in
-        let z = high p mid m a k in
-        (y.0 + z.0, lift g y.0 (y.0 + z.0) (omega arith) ts mid f y.1 ▸ lift p z.0 (y.0 + z.0) (omega arith) mid m a z.1 ▸ e)
-    high (g ◂ p) ts rest x (◌▸◌ {mid = mid} {a = f} d (◌▸◌ {mid = m} {a = a} k e)) =
-        let y = high g ts mid f d in
-        let z = high p mid m a k in
-        (y.0 + z.0, lift g y.0 (y.0 + z.0) (omega arith) ts mid f y.1 ▸ lift p z.0 (y.0 + z.0) (omega arith) mid m a z.1 ▸ e)
+    high (both f p q) ts rest x (◌▸◌ {mid = mid} {a = a} d (◌▸◌ {mid = m} {a = b} k e)) =
+        let y = high p ts mid a d in
+        let z = high q mid m b k in
+        (y.0 + z.0, lift p y.0 (y.0 + z.0) (omega arith) ts mid a y.1 ▸ lift q z.0 (y.0 + z.0) (omega arith) mid m b z.1 ▸ e)
     high (p or q) ts rest x (left d) = let y = high p ts rest x d in (y.0, left y.1)
     high (p or q) ts rest x (right d) = let y = high q ts rest x d in (y.0, right y.1)
     high (repeat from p add turn) ts rest x (◌▸◌ {mid = mid} {a = a} d more) =
@@ -112,7 +93,7 @@ module _ {N : Type 0} {Tree : N → Type 0} (G : Grammar Tree) (sound : (n : N) 
   part_starts l n ts rest x d = starts_in d.0 l n ts rest x d.1
 
   pub part_some : (n : N) → Something (Is G None n)
-  part_some n = let y = produces G.first G.goes (Is G None) (G.production n) (fine n).is_productive in (y.0, y.1, λ rest. part_is None None n (y.0 ++ rest) rest y.1 unlimited (y.2 rest))
+  part_some n = let y = something G.first G.goes (Is G None) (G.production n) (inr (fine n).is_productive) in (y.0, y.1, λ rest. part_is None None n (y.0 ++ rest) rest y.1 unlimited (y.2 rest))
 
   pub part_opens : (u : Token) (n : N) → among (G.first n) u.what ≡ true → Opened (Is G None n) u
   part_opens u n h =
@@ -133,11 +114,8 @@ module _ {N : Type 0} {Tree : N → Type 0} (G : Grammar Tree) (sound : (n : N) 
       none_inside : {inner : Limit} → Inside None ts inner → inner ≡ None
       none_inside i = (inside_zero_is None ts _ i).1
 
-  begun : (n : N) → Begins (PartAt 0 n) [] []
-  begun n = let y = part_some n in record { more = y.0; tree = y.1; derives = λ s late free. free_part 0 late n (y.0 ++ s) s y.1 free (y.2 s) }
-
-  begun_with : (n : N) (u : Token) → among (G.first n) u.what ≡ true → Begins (PartAt 0 n) [] (u ∷ [])
-  begun_with n u h = let y = part_opens u n h in record { more = y.0; tree = y.1; derives = λ s late free. free_part 0 late n (u ∷ (y.0 ++ s)) s y.1 free (y.2 s) }
+  begun : (n : N) (front : List Token) → Behind front (Is G None n) → Begins (PartAt 0 n) [] front
+  begun n front y = record { more = y.0; tree = y.1; derives = λ s late free. free_part 0 late n (front ++ (y.0 ++ s)) s y.1 free (y.2 s) }
 
   module _ (d : ℕ) (n : N) where
     abbrev Produced : Relation (Tree n)
@@ -157,11 +135,11 @@ module _ {N : Type 0} {Tree : N → Type 0} (G : Grammar Tree) (sound : (n : N) 
 
   pub rule_part : (d : ℕ) (n : N) → Rule (read G d n) (PartAt d n) (NotAt (G.goes n))
   unfolding read
-  rule_part zero n = rule_shallow (among (G.first n)) (PartAt 0 n) (NotAt (G.goes n)) (λ late ts rest x h. part_starts (limit 0 late) n ts rest x h) (λ late ts rest x h. free_at_zero (Some late) n ts rest x h) (begun_with n) (begun n)
+  rule_part zero n = rule_shallow (among (G.first n)) (PartAt 0 n) (NotAt (G.goes n)) (λ late. part_starts (limit 0 late) n) (λ late. free_at_zero (Some late) n) (λ u h. begun n (u ∷ []) (part_opens u n h)) (begun n [] (part_some n))
   rule_part (suc d) n = rule_within (λ ts. refl) (to_part d n) (from_part d n) (λ rest e. not_part_of (goes_on G.first G.goes (G.production n)) (G.goes n) (fine n).goes_in rest e)
-      (by_syntax.rule G.first G.goes (read G d) (λ late n ts rest x. Is G (limit d late) n ts rest x) (rule_part d) (λ late n ts rest x h. part_starts (limit d late) n ts rest x h) part_some part_opens (G.production n) (fine n).is_decided)
+      (by_syntax.rule G.first G.goes (read G d) (λ late n ts rest x. Is G (limit d late) n ts rest x) (rule_part d) (λ late. part_starts (limit d late)) part_some part_opens (G.production n) (fine n).is_decided)
 
   -- a syntax of the grammar
   pub rule_of : {A : Type 0} (d : ℕ) (s : Syntax Tree A) → decided G.first G.goes s ≡ true → Rule (parse G d s) (λ late. Derived G s (limit d late)) (NotAt (goes_on G.first G.goes s))
   unfolding parse
-  rule_of d s h = by_syntax.rule G.first G.goes (read G d) (λ late n ts rest x. Is G (limit d late) n ts rest x) (rule_part d) (λ late n ts rest x h. part_starts (limit d late) n ts rest x h) part_some part_opens s h
+  rule_of d s h = by_syntax.rule G.first G.goes (read G d) (λ late n ts rest x. Is G (limit d late) n ts rest x) (rule_part d) (λ late. part_starts (limit d late)) part_some part_opens s h

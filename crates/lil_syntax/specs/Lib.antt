@@ -1,10 +1,7 @@
-pub mod Choices
-pub mod Forms
 pub mod GrammarFar
 pub mod GrammarLaws
 pub mod GrammarRules
 pub mod KindLaws
-pub mod Phrases
 pub mod Syntax
 pub mod SyntaxLaws
 pub mod SyntaxRules

@@ -1,32 +1,34 @@
 -- Grammars as data. What a syntax derives, how it is read, and the test that one token decides each step.
 use Rattle.std.specs.Prelude.{ℕ, zero, suc, Bool, true, false, ◌||◌, ◌&&◌, not, if◌then◌else◌, List, [], ◌++◌}
-use Rattle.lil_text.specs.declared.token.Token.{Token}
-use Rattle.lil_text.specs.Nesting.{Limit, Inside}
-use Rattle.lil_syntax.specs.Phrases.{Nothing, One, After, Either, Star}
+use Rattle.lil_text.specs.{declared.token.Token.Token, Nesting.{Limit, Inside}}
+use Rattle.lil_grammar.specs.{Steps.{Parser, ◌>>=◌, pure, token, either, many, shallow}, Phrases.{Nothing, One, After, Either, Star}}
 use Rattle.lil_syntax.specs.Terminals.{Kinds, among, apart, part_of, Terminal, Value, taken_as, kinds_of}
-use Rattle.lil_grammar.specs.Steps.{Parser, ◌>>=◌, pure, token, either, many, shallow}
 
 -- N: the parts that count as nested, and their trees
 pub data Syntax {N : Type 0} (Tree : N → Type 0) : Type 0 → Type 1 where
   give : {A : Type 0} → A → Syntax Tree A
   one : (t : Terminal) → Syntax Tree (Value t)
   part : (n : N) → Syntax Tree (Tree n)
-  ◌◃◌ : {A B : Type 0} → Syntax Tree (A → B) → Syntax Tree A → Syntax Tree B
-  ◌◂◌ : {A B : Type 0} → Syntax Tree B → Syntax Tree A → Syntax Tree B
+  both : {X A B : Type 0} → (X → A → B) → Syntax Tree X → Syntax Tree A → Syntax Tree B
   ◌or◌ : {A : Type 0} → Syntax Tree A → Syntax Tree A → Syntax Tree A
   repeat : {A B S : Type 0} → (A → S) → Syntax Tree A → (S → B → S) → Syntax Tree B → Syntax Tree S
 
-infixl 20 ◌◃◌
-infixl 20 ◌◂◌
 infixr 10 ◌or◌
 module _ {N : Type 0} {Tree : N → Type 0} where
+  infixl 20 ◌◃◌
+  abbrev pub ◌◃◌ : {A B : Type 0} → Syntax Tree (A → B) → Syntax Tree A → Syntax Tree B
+  g ◃ p = both (λ f a. f a) g p
+
+  infixl 20 ◌◂◌
+  abbrev pub ◌◂◌ : {A B : Type 0} → Syntax Tree B → Syntax Tree A → Syntax Tree B
+  g ◂ p = both (λ b a. b) g p
+
   -- ---- what it derives, by what its parts derive
   abbrev pub Derives : ((n : N) → List Token → List Token → Tree n → Type 0) → {A : Type 0} → Syntax Tree A → List Token → List Token → A → Type 0
   Derives D (give a) ts rest x = Nothing a ts rest x
   Derives D (one t) ts rest x = One (taken_as t) ts rest x
   Derives D (part n) ts rest x = D n ts rest x
-  Derives D (g ◃ p) ts rest x = After (Derives D g) (λ f. After (Derives D p) (λ a. Nothing (f a))) ts rest x
-  Derives D (g ◂ p) ts rest x = After (Derives D g) (λ b. After (Derives D p) (λ a. Nothing b)) ts rest x
+  Derives D (both f p q) ts rest x = After (Derives D p) (λ a. After (Derives D q) (λ b. Nothing (f a b))) ts rest x
   Derives D (p or q) ts rest x = Either (Derives D p) (Derives D q) ts rest x
   Derives D (repeat start p add turn) ts rest x = After (Derives D p) (λ a. Star (λ s. After (Derives D turn) (λ b. Nothing (add s b))) (start a)) ts rest x
 
@@ -36,8 +38,7 @@ module _ {N : Type 0} {Tree : N → Type 0} where
     nullable (give a) = true
     nullable (one t) = false
     nullable (part n) = false
-    nullable (g ◃ p) = nullable g && nullable p
-    nullable (g ◂ p) = nullable g && nullable p
+    nullable (both f p q) = nullable p && nullable q
     nullable (p or q) = nullable p || nullable q
     nullable (repeat start p add turn) = nullable p
 
@@ -45,8 +46,7 @@ module _ {N : Type 0} {Tree : N → Type 0} where
     begins (give a) = []
     begins (one t) = kinds_of t
     begins (part n) = first n
-    begins (g ◃ p) = begins g ++ (if nullable g then begins p else [])
-    begins (g ◂ p) = begins g ++ (if nullable g then begins p else [])
+    begins (both f p q) = begins p ++ (if nullable p then begins q else [])
     begins (p or q) = begins p ++ begins q
     begins (repeat start p add turn) = begins p ++ (if nullable p then begins turn else [])
 
@@ -54,8 +54,7 @@ module _ {N : Type 0} {Tree : N → Type 0} where
     goes_on (give a) = []
     goes_on (one t) = []
     goes_on (part n) = goes n
-    goes_on (g ◃ p) = goes_on p ++ (if nullable p then goes_on g else [])
-    goes_on (g ◂ p) = goes_on p ++ (if nullable p then goes_on g else [])
+    goes_on (both f p q) = goes_on q ++ (if nullable q then goes_on p else [])
     goes_on (p or q) = goes_on p ++ (goes_on q ++ (if nullable q then begins p else []))
     goes_on (repeat start p add turn) = begins turn ++ (goes_on turn ++ goes_on p)
 
@@ -64,8 +63,7 @@ module _ {N : Type 0} {Tree : N → Type 0} where
     decided (give a) = true
     decided (one t) = true
     decided (part n) = true
-    decided (g ◃ p) = decided g && (decided p && apart (begins p) (goes_on g))
-    decided (g ◂ p) = decided g && (decided p && apart (begins p) (goes_on g))
+    decided (both f p q) = decided p && (decided q && apart (begins q) (goes_on p))
     decided (p or q) = decided p && (decided q && (not (nullable p) && apart (begins q) (begins p)))
     decided (repeat start p add turn) = decided p && (decided turn && (not (nullable turn) && (apart (begins turn) (goes_on turn) && apart (begins turn) (goes_on p))))
 
@@ -74,8 +72,7 @@ module _ {N : Type 0} {Tree : N → Type 0} where
     guarded (give a) = true
     guarded (one t) = true
     guarded (part n) = false
-    guarded (g ◃ p) = guarded g && (if nullable g then guarded p else true)
-    guarded (g ◂ p) = guarded g && (if nullable g then guarded p else true)
+    guarded (both f p q) = guarded p && (if nullable p then guarded q else true)
     guarded (p or q) = guarded p && guarded q
     guarded (repeat start p add turn) = guarded p && (if nullable p then guarded turn else true)
 
@@ -84,8 +81,7 @@ module _ {N : Type 0} {Tree : N → Type 0} where
     productive (give a) = true
     productive (one t) = true
     productive (part n) = false
-    productive (g ◃ p) = productive g && productive p
-    productive (g ◂ p) = productive g && productive p
+    productive (both f p q) = productive p && productive q
     productive (p or q) = productive p || productive q
     productive (repeat start p add turn) = productive p
 
@@ -96,8 +92,7 @@ module _ {N : Type 0} {Tree : N → Type 0} where
       reads (give a) = pure a
       reads (one t) = token (taken_as t)
       reads (part n) = at_part n
-      reads (g ◃ p) = before g (λ f. reads p >>= (λ a. pure (f a)))
-      reads (g ◂ p) = before g (λ b. reads p >>= (λ a. pure b))
+      reads (both f p q) = before p (λ a. reads q >>= (λ b. pure (f a b)))
       reads (p or q) = either (among (begins first goes p)) (reads p) (reads q)
       reads (repeat start p add turn) = reads p >>= (λ a. many (among (begins first goes turn)) (λ s. before turn (λ b. pure (add s b))) (start a))
 
@@ -105,8 +100,7 @@ module _ {N : Type 0} {Tree : N → Type 0} where
       before (give a) k = k a
       before (one t) k = token (taken_as t) >>= k
       before (part n) k = at_part n >>= k
-      before (g ◃ p) k = before g (λ f. reads p >>= (λ a. k (f a)))
-      before (g ◂ p) k = before g (λ b. reads p >>= (λ a. k b))
+      before (both f p q) k = before p (λ a. reads q >>= (λ b. k (f a b)))
       before (p or q) k = either (among (begins first goes p)) (reads p) (reads q) >>= k
       before (repeat start p add turn) k = reads p >>= (λ a. many (among (begins first goes turn)) (λ s. before turn (λ b. pure (add s b))) (start a)) >>= k
 

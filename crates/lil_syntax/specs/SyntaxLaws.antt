@@ -1,19 +1,19 @@
 -- What holds of each syntax: with which tokens it begins, that it derives something, and how it is read in steps.
 use Rattle.std.proofs.Common.{◌≡◌, ◌⊎◌, Bool, true, false, ◌&&◌, if◌then◌else◌, List, [], ◌∷◌, ◌++◌, append_assoc, Ok, Err, refl, subst, ap, sym, ◌∙◌, inl, inr, true≢false}
-use Rattle.lil_text.specs.declared.token.Token.{Token}
-use Rattle.lil_text.specs.declared.token.TokenKind.{TokenKind}
-use Rattle.lil_syntax.specs.Phrases.{Nothing, nothing, One, takes, After, ◌▸◌, left, right, Star, stop, go_on}
-use Rattle.lil_syntax.specs.Terminals.{Kinds, among, Value, taken_as, kinds_of, Terminal}
-use Rattle.lil_grammar.specs.Steps.{Outcome, Parser, and_then, ◌>>=◌, pure, at}
-use Rattle.lil_syntax.specs.Syntax.{Syntax, give, one, part, ◌◃◌, ◌◂◌, ◌or◌, repeat, Derives, nullable, begins, guarded, productive, reads, before}
-use Rattle.lil_syntax.specs.KindLaws.{and_left, and_right, or_either, or_left, or_right, among_either, At, at_left, at_right, taken_kind, kind_taken, terminal_some}
+use Rattle.std.proofs.lemmas.Bool.{and_parts, or_cases, or_left, or_right}
+use Rattle.lil_text.specs.declared.token.{Token.Token, TokenKind.TokenKind}
+use Rattle.lil_grammar.specs.{Steps.{Outcome, Parser, and_then, ◌>>=◌, pure, at}, Phrases.{Nothing, nothing, One, takes, After, ◌▸◌, left, right, Star, stop, go_on}}
+use Rattle.lil_syntax.specs.{Terminals.{Kinds, among, Value, taken_as, kinds_of, Terminal}, Syntax.{Syntax, give, one, part, both, ◌or◌, repeat, Derives, nullable, begins, guarded, productive, reads, before}, KindLaws.{among_append, At, at_left, at_right, taken_kind, kind_taken, terminal_some}}
 
--- with a token, in which something begins
+-- tokens behind some, with which they are something
+abbrev pub Behind : {A : Type 0} → List Token → (List Token → List Token → A → Type 0) → Type 0
+Behind {A} front P = (more : List Token) × (x : A) × ((rest : List Token) → P (front ++ (more ++ rest)) rest x)
+
 abbrev pub Opened : {A : Type 0} → (List Token → List Token → A → Type 0) → Token → Type 0
-Opened {A} P u = (more : List Token) × (x : A) × ((rest : List Token) → P (u ∷ (more ++ rest)) rest x)
+Opened P u = Behind (u ∷ []) P
 
 abbrev pub Something : {A : Type 0} → (List Token → List Token → A → Type 0) → Type 0
-Something {A} P = (more : List Token) × (x : A) × ((rest : List Token) → P (more ++ rest) rest x)
+Something P = Behind [] P
 
 starts_one : (t : Terminal) {ts rest : List Token} {x : Value t} → One (taken_as t) ts rest x → At (kinds_of t) ts
 unfolding at
@@ -46,11 +46,11 @@ two_steps c (Err e) p k = refl
 
 may_left : {By : Type 0} (a b : Bool) → By ⊎ (a && b ≡ true) → By ⊎ (a ≡ true)
 may_left a b (inl by) = inl by
-may_left a b (inr h) = inr (and_left a b h)
+may_left a b (inr h) = inr (and_parts a b h).0
 
 may_right : {By : Type 0} (a b : Bool) → By ⊎ (a && b ≡ true) → By ⊎ (b ≡ true)
 may_right a b (inl by) = inl by
-may_right a b (inr h) = inr (and_right a b h)
+may_right a b (inr h) = inr (and_parts a b h).1
 
 may_if : {By : Type 0} (a b : Bool) → a ≡ true → By ⊎ ((if a then b else true) ≡ true) → By ⊎ (b ≡ true)
 may_if a b e (inl by) = inl by
@@ -75,15 +75,14 @@ module _ {N : Type 0} {Tree : N → Type 0} (first goes : N → Kinds) where
     starts (give a) ts rest x (nothing e) = inr (refl, refl)
     starts (one t) ts rest x h = inl (starts_one t h)
     starts (part n) ts rest x h = inl (part_starts n ts rest x h)
-    starts (g ◃ p) ts rest x (◌▸◌ {mid = mid} {a = f} h (◌▸◌ {a = a} k (nothing e))) = two_start (nullable first goes g) (nullable first goes p) (begins first goes g) (begins first goes p) (starts g ts mid f h) (starts p mid rest a k)
-    starts (g ◂ p) ts rest x (◌▸◌ {mid = mid} {a = b} h (◌▸◌ {a = a} k (nothing e))) = two_start (nullable first goes g) (nullable first goes p) (begins first goes g) (begins first goes p) (starts g ts mid b h) (starts p mid rest a k)
+    starts (both f p q) ts rest x (◌▸◌ {mid = mid} {a = a} h (◌▸◌ {a = b} k (nothing e))) = two_start (nullable first goes p) (nullable first goes q) (begins first goes p) (begins first goes q) (starts p ts mid a h) (starts q mid rest b k)
     starts (p or q) ts rest x (left h) = elim (starts p ts rest x h) [
       | inl k ↦ inl (at_left (begins first goes p) (begins first goes q) ts k)
-      | inr k ↦ inr (or_left (nullable first goes p) (nullable first goes q) k.0, k.1)
+      | inr k ↦ inr (or_left _ _ k.0, k.1)
     ]
     starts (p or q) ts rest x (right h) = elim (starts q ts rest x h) [
       | inl k ↦ inl (at_right (begins first goes p) (begins first goes q) ts k)
-      | inr k ↦ inr (or_right (nullable first goes p) (nullable first goes q) k.0, k.1)
+      | inr k ↦ inr (or_right _ _ k.0, k.1)
     ]
     starts (repeat start p add turn) ts rest x (◌▸◌ {mid = mid} {a = a} h more) =
         repeat_start (nullable first goes p) (begins first goes p) (begins first goes turn) (starts p ts mid a h) (star_starts turn add (λ ts rest b k. starts turn ts rest b k) more)
@@ -94,59 +93,38 @@ module _ {N : Type 0} {Tree : N → Type 0} (first goes : N → Kinds) where
     empties (give a) h = (a, λ ts. nothing refl)
     empties (one t) h = absurd (true≢false (sym h))
     empties (part n) h = absurd (true≢false (sym h))
-    empties (g ◃ p) h =
-        let f = empties g (and_left (nullable first goes g) (nullable first goes p) h) in
-        let a = empties p (and_right (nullable first goes g) (nullable first goes p) h) in
-        (f.0 a.0, λ ts. f.1 ts ▸ a.1 ts ▸ nothing refl)
-    empties (g ◂ p) h =
-        let f = empties g (and_left (nullable first goes g) (nullable first goes p) h) in
-        let a = empties p (and_right (nullable first goes g) (nullable first goes p) h) in
-        (f.0, λ ts. f.1 ts ▸ a.1 ts ▸ nothing refl)
-    empties (p or q) h = elim (or_either (nullable first goes p) (nullable first goes q) h) [
+    empties (both f p q) h =
+        let y = and_parts _ _ h in
+        let a = empties p y.0 in
+        let b = empties q y.1 in
+        (f a.0 b.0, λ ts. a.1 ts ▸ b.1 ts ▸ nothing refl)
+    empties (p or q) h = elim (or_cases _ _ h) [
       | inl k ↦ let a = empties p k in (a.0, λ ts. left (a.1 ts))
       | inr k ↦ let a = empties q k in (a.0, λ ts. right (a.1 ts))
     ]
     empties (repeat start p add turn) h = let a = empties p h in (start a.0, λ ts. a.1 ts ▸ stop)
 
-    -- ---- it is something, where its parts are
-    after_some : {A B C : Type 0} {P : List Token → List Token → A → Type 0} {Q : List Token → List Token → B → Type 0} (f : A → B → C) → Something P → Something Q → Something (After P (λ a. After Q (λ b. Nothing (f a b))))
-    after_some {P = P} {Q = Q} f x y = (
+    -- ---- it is something, and each token that begins it does
+    after_some : {A B C : Type 0} {P : List Token → List Token → A → Type 0} {Q : List Token → List Token → B → Type 0} (front : List Token) (f : A → B → C) → Behind front P → Something Q → Behind front (After P (λ a. After Q (λ b. Nothing (f a b))))
+    after_some {P = P} {Q = Q} front f x y = (
       x.0 ++ y.0,
       f x.1 y.1,
-      λ rest.
-          subst (λ ts. After P (λ a. After Q (λ b. Nothing (f a b))) ts rest (f x.1 y.1)) (sym (append_assoc x.0 y.0 rest)) (x.2 (y.0 ++ rest) ▸ y.2 rest ▸ nothing refl),
+      λ rest. subst (λ ts. After P (λ a. After Q (λ b. Nothing (f a b))) (front ++ ts) rest (f x.1 y.1)) (sym (append_assoc x.0 y.0 rest)) (x.2 (y.0 ++ rest) ▸ y.2 rest ▸ nothing refl),
     )
 
-    pub something : ((n : N) → Something (D n)) → {A : Type 0} (s : Syntax Tree A) → Something (Derives D s)
-    something each (give a) = ([], a, λ rest. nothing refl)
-    something each (one t) = let y = terminal_some t in (y.0 ∷ [], y.1, λ rest. takes y.2)
-    something each (part n) = each n
-    something each (g ◃ p) = after_some (λ f a. f a) (something each g) (something each p)
-    something each (g ◂ p) = after_some (λ b a. b) (something each g) (something each p)
-    something each (p or q) = let y = something each p in (y.0, y.1, λ rest. left (y.2 rest))
-    something each (repeat start p add turn) = let y = something each p in (y.0, start y.1, λ rest. y.2 rest ▸ stop)
-
-    -- without parts
-    pub produces : {A : Type 0} (s : Syntax Tree A) → productive first goes s ≡ true → Something (Derives D s)
-    produces (give a) h = ([], a, λ rest. nothing refl)
-    produces (one t) h = let y = terminal_some t in (y.0 ∷ [], y.1, λ rest. takes y.2)
-    produces (part n) h = absurd (true≢false (sym h))
-    produces (g ◃ p) h = after_some (λ f a. f a) (produces g (and_left (productive first goes g) (productive first goes p) h)) (produces p (and_right (productive first goes g) (productive first goes p) h))
-    produces (g ◂ p) h = after_some (λ b a. b) (produces g (and_left (productive first goes g) (productive first goes p) h)) (produces p (and_right (productive first goes g) (productive first goes p) h))
-    produces (p or q) h = elim (or_either (productive first goes p) (productive first goes q) h) [
-      | inl k ↦ let y = produces p k in (y.0, y.1, λ rest. left (y.2 rest))
-      | inr k ↦ let y = produces q k in (y.0, y.1, λ rest. right (y.2 rest))
+    -- where its parts are, or without parts
+    pub something : {A : Type 0} (s : Syntax Tree A) → ((n : N) → Something (D n)) ⊎ (productive first goes s ≡ true) → Something (Derives D s)
+    something (give a) by = ([], a, λ rest. nothing refl)
+    something (one t) by = let y = terminal_some t in (y.0 ∷ [], y.1, λ rest. takes y.2)
+    something (part n) (inl each) = each n
+    something (part n) (inr h) = absurd (true≢false (sym h))
+    something (both f p q) by = after_some [] f (something p (may_left _ _ by)) (something q (may_right _ _ by))
+    something (p or q) (inl each) = let y = something p (inl each) in (y.0, y.1, λ rest. left (y.2 rest))
+    something (p or q) (inr h) = elim (or_cases _ _ h) [
+      | inl k ↦ let y = something p (inr k) in (y.0, y.1, λ rest. left (y.2 rest))
+      | inr k ↦ let y = something q (inr k) in (y.0, y.1, λ rest. right (y.2 rest))
     ]
-    produces (repeat start p add turn) h = let y = produces p h in (y.0, start y.1, λ rest. y.2 rest ▸ stop)
-
-    -- ---- each token that begins it does
-    then_some : {A B C : Type 0} {P : List Token → List Token → A → Type 0} {Q : List Token → List Token → B → Type 0} {u : Token} (f : A → B → C) → Opened P u → Something Q → Opened (After P (λ a. After Q (λ b. Nothing (f a b)))) u
-    then_some {P = P} {Q = Q} {u = u} f x y = (
-      x.0 ++ y.0,
-      f x.1 y.1,
-      λ rest.
-          subst (λ ts. After P (λ a. After Q (λ b. Nothing (f a b))) (u ∷ ts) rest (f x.1 y.1)) (sym (append_assoc x.0 y.0 rest)) (x.2 (y.0 ++ rest) ▸ y.2 rest ▸ nothing refl),
-    )
+    something (repeat start p add turn) by = let y = something p by in (y.0, start y.1, λ rest. y.2 rest ▸ stop)
 
     -- by what its parts begin with, or where each stands behind a token
     pub opens : ((n : N) → Something (D n)) → (u : Token) → {A : Type 0} (s : Syntax Tree A) → ((n : N) → among (first n) u.what ≡ true → Opened (D n) u) ⊎ (guarded first goes s ≡ true)
@@ -154,35 +132,28 @@ module _ {N : Type 0} {Tree : N → Type 0} (first goes : N → Kinds) where
     opens each u (give a) by h = absurd (true≢false (sym h))
     opens each u (one t) by h = let y = kind_taken t u h in ([], y.0, λ rest. takes y.1)
     opens each u (part n) by h = elim by [ inl by ↦ by n h | inr none ↦ absurd (true≢false (sym none)) ]
-    opens each u (g ◃ p) by h = elim (among_either (begins first goes g) (if nullable first goes g then begins first goes p else []) u.what h) [
-      | inl k ↦ then_some (λ f a. f a) (opens each u g (may_left (guarded first goes g) (if nullable first goes g then guarded first goes p else true) by) k) (something each p)
-      | inr k ↦ let c = among_if (nullable first goes g) (begins first goes p) u.what k in
-          let f = empties g c.0 in
-          let a = opens each u p (may_if (nullable first goes g) (guarded first goes p) c.0 (may_right (guarded first goes g) (if nullable first goes g then guarded first goes p else true) by)) c.1 in
-          (a.0, f.0 a.1, λ rest. f.1 (u ∷ (a.0 ++ rest)) ▸ a.2 rest ▸ nothing refl)
+    opens each u (both f p q) by h = elim (or_cases _ _ (sym (among_append (begins first goes p) (if nullable first goes p then begins first goes q else []) u.what) ∙ h)) [
+      | inl k ↦ after_some (u ∷ []) f (opens each u p (may_left _ _ by) k) (something q (inl each))
+      | inr k ↦ let c = among_if (nullable first goes p) (begins first goes q) u.what k in
+          let a = empties p c.0 in
+          let b = opens each u q (may_if (nullable first goes p) (guarded first goes q) c.0 (may_right _ _ by)) c.1 in
+          (b.0, f a.0 b.1, λ rest. a.1 (u ∷ (b.0 ++ rest)) ▸ b.2 rest ▸ nothing refl)
     ]
-    opens each u (g ◂ p) by h = elim (among_either (begins first goes g) (if nullable first goes g then begins first goes p else []) u.what h) [
-      | inl k ↦ then_some (λ b a. b) (opens each u g (may_left (guarded first goes g) (if nullable first goes g then guarded first goes p else true) by) k) (something each p)
-      | inr k ↦ let c = among_if (nullable first goes g) (begins first goes p) u.what k in
-          let f = empties g c.0 in
-          let a = opens each u p (may_if (nullable first goes g) (guarded first goes p) c.0 (may_right (guarded first goes g) (if nullable first goes g then guarded first goes p else true) by)) c.1 in
-          (a.0, f.0, λ rest. f.1 (u ∷ (a.0 ++ rest)) ▸ a.2 rest ▸ nothing refl)
+    opens each u (p or q) by h = elim (or_cases _ _ (sym (among_append (begins first goes p) (begins first goes q) u.what) ∙ h)) [
+      | inl k ↦ let y = opens each u p (may_left _ _ by) k in (y.0, y.1, λ rest. left (y.2 rest))
+      | inr k ↦ let y = opens each u q (may_right _ _ by) k in (y.0, y.1, λ rest. right (y.2 rest))
     ]
-    opens each u (p or q) by h = elim (among_either (begins first goes p) (begins first goes q) u.what h) [
-      | inl k ↦ let y = opens each u p (may_left (guarded first goes p) (guarded first goes q) by) k in (y.0, y.1, λ rest. left (y.2 rest))
-      | inr k ↦ let y = opens each u q (may_right (guarded first goes p) (guarded first goes q) by) k in (y.0, y.1, λ rest. right (y.2 rest))
-    ]
-    opens each u (repeat start p add turn) by h = elim (among_either (begins first goes p) (if nullable first goes p then begins first goes turn else []) u.what h) [
-      | inl k ↦ let y = opens each u p (may_left (guarded first goes p) (if nullable first goes p then guarded first goes turn else true) by) k in (y.0, start y.1, λ rest. y.2 rest ▸ stop)
+    opens each u (repeat start p add turn) by h = elim (or_cases _ _ (sym (among_append (begins first goes p) (if nullable first goes p then begins first goes turn else []) u.what) ∙ h)) [
+      | inl k ↦ let y = opens each u p (may_left _ _ by) k in (y.0, start y.1, λ rest. y.2 rest ▸ stop)
       | inr k ↦ let c = among_if (nullable first goes p) (begins first goes turn) u.what k in
           let a = empties p c.0 in
-          let b = opens each u turn (may_if (nullable first goes p) (guarded first goes turn) c.0 (may_right (guarded first goes p) (if nullable first goes p then guarded first goes turn else true) by)) c.1 in
+          let b = opens each u turn (may_if (nullable first goes p) (guarded first goes turn) c.0 (may_right _ _ by)) c.1 in
           (b.0, add (start a.0) b.1, λ rest. a.1 (u ∷ (b.0 ++ rest)) ▸ go_on (b.2 rest ▸ nothing refl) stop)
     ]
 
   -- ---- by what another relation of its parts derives
   module _ (D D' : (n : N) → List Token → List Token → Tree n → Type 0) (to : (n : N) (ts rest : List Token) (x : Tree n) → D n ts rest x → D' n ts rest x) where
-    star_map : {S B : Type 0} (turn : Syntax Tree B) (add : S → B → S) → ((ts rest : List Token) (b : B) → Derives D turn ts rest b → Derives D' turn ts rest b)
+    pub star_map : {S B : Type 0} (turn : Syntax Tree B) (add : S → B → S) → ((ts rest : List Token) (b : B) → Derives D turn ts rest b → Derives D' turn ts rest b)
         → {s x : S} {ts rest : List Token} → Star (λ s. After (Derives D turn) (λ b. Nothing (add s b))) s ts rest x → Star (λ s. After (Derives D' turn) (λ b. Nothing (add s b))) s ts rest x
     star_map turn add each stop = stop
     star_map turn add each (go_on {ts = ts} {mid = mid} (◌▸◌ {mid = m} {a = b} h (nothing e)) more) = go_on (each ts m b h ▸ nothing e) (star_map turn add each more)
@@ -191,8 +162,7 @@ module _ {N : Type 0} {Tree : N → Type 0} (first goes : N → Kinds) where
     derives_map (give a) ts rest x h = h
     derives_map (one t) ts rest x h = h
     derives_map (part n) ts rest x h = to n ts rest x h
-    derives_map (g ◃ p) ts rest x (◌▸◌ {mid = mid} {a = f} h (◌▸◌ {mid = m} {a = a} k e)) = derives_map g ts mid f h ▸ derives_map p mid m a k ▸ e
-    derives_map (g ◂ p) ts rest x (◌▸◌ {mid = mid} {a = f} h (◌▸◌ {mid = m} {a = a} k e)) = derives_map g ts mid f h ▸ derives_map p mid m a k ▸ e
+    derives_map (both f p q) ts rest x (◌▸◌ {mid = mid} {a = a} h (◌▸◌ {mid = m} {a = b} k e)) = derives_map p ts mid a h ▸ derives_map q mid m b k ▸ e
     derives_map (p or q) ts rest x (left h) = left (derives_map p ts rest x h)
     derives_map (p or q) ts rest x (right h) = right (derives_map q ts rest x h)
     derives_map (repeat start p add turn) ts rest x (◌▸◌ {mid = mid} {a = a} h more) = derives_map p ts mid a h ▸ star_map turn add (λ ts rest b k. derives_map turn ts rest b k) more
@@ -204,13 +174,9 @@ module _ {N : Type 0} {Tree : N → Type 0} (first goes : N → Kinds) where
     before_is (give a) k ts = refl
     before_is (one t) k ts = refl
     before_is (part n) k ts = refl
-    before_is (g ◃ p) k ts =
-        before_is g (λ f. reads first goes at_part p >>= (λ a. k (f a))) ts
-        ∙ two_steps (λ f a. f a) (reads first goes at_part g ts) (reads first goes at_part p) k
-        ∙ ap (λ o. and_then o k) (sym (before_is g (λ f. reads first goes at_part p >>= (λ a. pure (f a))) ts))
-    before_is (g ◂ p) k ts =
-        before_is g (λ b. reads first goes at_part p >>= (λ a. k b)) ts
-        ∙ two_steps (λ b a. b) (reads first goes at_part g ts) (reads first goes at_part p) k
-        ∙ ap (λ o. and_then o k) (sym (before_is g (λ b. reads first goes at_part p >>= (λ a. pure b)) ts))
+    before_is (both f p q) k ts =
+        before_is p (λ a. reads first goes at_part q >>= (λ b. k (f a b))) ts
+        ∙ two_steps f (reads first goes at_part p ts) (reads first goes at_part q) k
+        ∙ ap (λ o. and_then o k) (sym (before_is p (λ a. reads first goes at_part q >>= (λ b. pure (f a b))) ts))
     before_is (p or q) k ts = refl
     before_is (repeat start p add turn) k ts = refl

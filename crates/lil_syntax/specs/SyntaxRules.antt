@@ -1,19 +1,9 @@
 -- Each syntax that one token decides has all the laws of its parts: its parser reads what it derives, and stops exactly where nothing goes on.
-use Rattle.std.proofs.Common.{◌≡◌, ◌⊎◌, ◌<◌, Bool, true, false, ◌&&◌, not, if◌then◌else◌, List, [], ◌∷◌, ◌++◌, length, length-append, append-nil, None, refl, subst, ap, sym, inl, inr, arith}
+use Rattle.std.proofs.Common.{◌≡◌, ◌⊎◌, ◌<◌, Bool, true, false, not, if◌then◌else◌, List, [], ◌∷◌, ◌++◌, length, length-append, append-nil, None, refl, subst, ap, sym, inl, inr, arith}
+use Rattle.std.proofs.lemmas.Bool.{and_parts, not-true}
 use Rattle.lil_text.specs.declared.token.Token.{Token}
-use Rattle.lil_syntax.specs.Phrases.{Nothing, nothing, After, ◌▸◌}
-use Rattle.lil_syntax.specs.Forms.{to_nothing, from_nothing, to_one, from_one, to_either, from_either, to_mapped, from_mapped, to_two, from_two, to_star, to_repeated, from_repeated}
-use Rattle.lil_grammar.specs.Rules as forms
-use Rattle.lil_grammar.specs.RulesTokens as token
-use Rattle.lil_syntax.specs.Terminals.{Kinds, among, apart, taken_as}
-use Rattle.lil_grammar.specs.Steps.{Parser, ◌>>=◌, pure, either, many}
-use Rattle.lil_syntax.specs.Syntax.{Syntax, give, one, part, ◌◃◌, ◌◂◌, ◌or◌, repeat, Derives, nullable, begins, goes_on, decided, reads, before}
-use Rattle.lil_grammar.specs.Rules.{Late, Relation, Rule, Took, Opens, Then, rule_then, rule_within, rule_as}
-use Rattle.lil_grammar.specs.RulesTokens.{Same, rule_pure, rule_token}
-use Rattle.lil_grammar.specs.RulesLists.{Or, rule_either, rule_map}
-use Rattle.lil_grammar.specs.RulesMany.{Turns, rule_many}
-use Rattle.lil_syntax.specs.KindLaws.{and_left, and_right, not_true, never, At, NotAt, at_apart, not_left, not_right, not_at_end, terminal_some}
-use Rattle.lil_syntax.specs.SyntaxLaws.{Starts, Opened, Something, star_starts, starts, opens, before_is}
+use Rattle.lil_grammar.specs.{Steps.{Parser, ◌>>=◌, pure, either, many}, Phrases.{Nothing, nothing, After, ◌▸◌}, Rules.{Late, Relation, Rule, Took, took, Then, rule_then, rule_within}, RulesTokens.{Same, rule_pure, rule_token}, RulesLists.{Opens, rule_either, rule_map}, RulesMany.{Turns, rule_many}}
+use Rattle.lil_syntax.specs.{Terminals.{Kinds, among, apart, taken_as}, Syntax.{Syntax, give, one, part, both, ◌or◌, repeat, Derives, nullable, begins, goes_on, decided, reads, before}, KindLaws.{never, At, NotAt, at_apart, not_left, not_right, not_at_end, terminal_some}, SyntaxLaws.{Starts, Opened, Something, star_starts, starts, opens, before_is}}
 
 -- what follows a part that may be no token
 if_true : (b : Bool) (cs : Kinds) (ts : List Token) → b ≡ true → NotAt (if b then cs else []) ts → NotAt cs ts
@@ -33,7 +23,7 @@ second_by b cs ds gs hs away {ts} {rest} (inr h) f = subst (λ ts. NotAt cs ts) 
 -- what is not nullable begins with a token
 begins_by : (cs : Kinds) (b : Bool) {ts rest : List Token} → not b ≡ true → At cs ts ⊎ ((b ≡ true) × (ts ≡ rest)) → At cs ts
 begins_by cs b h (inl k) = k
-begins_by cs b h (inr k) = absurd (never k.0 (not_true b h))
+begins_by cs b h (inr k) = absurd (never k.0 (not-true b h))
 
 opened_opens : {A : Type 0} (R : Relation A) (u : Token) → Opened (R None) u → Opens R u
 opened_opens R u y = (y.0, y.1, subst (λ ts. R None (u ∷ ts) [] y.1) (append-nil y.0) (y.2 []))
@@ -67,26 +57,23 @@ module _ {N : Type 0} {Tree : N → Type 0} (first goes : N → Kinds) (at_part 
   open_by : {A : Type 0} (s : Syntax Tree A) (u : Token) → among (begins first goes s) u.what ≡ true → Opens (Of s) u
   open_by s u h = opened_opens (Of s) u (opens first goes (D None) part_some u s (inl (part_opens u)) h)
 
-  rule_two : {X A B : Type 0} (g : Syntax Tree X) (p : Syntax Tree A) (c : X → A → B) → apart (begins first goes p) (goes_on first goes g) ≡ true → Rule (reads first goes at_part g) (Of g) (Ends g) → Rule (reads first goes at_part p) (Of p) (Ends p)
-      → Rule (reads first goes at_part g >>= (λ x. reads first goes at_part p >>= (λ a. pure (c x a)))) (Then (Of g) (λ x. Then (Of p) (λ a. Same (c x a)))) (NotAt (goes_on first goes p ++ (if nullable first goes p then goes_on first goes g else [])))
-  rule_two {X} {A} {B} g p c away x y = rule_then x (λ f. rule_map y (c f)) F inner (λ f rest e. not_left (goes_on first goes p) (if nullable first goes p then goes_on first goes g else []) rest e)
+  rule_both : {X A B : Type 0} (f : X → A → B) (p : Syntax Tree X) (q : Syntax Tree A) → apart (begins first goes q) (goes_on first goes p) ≡ true → Rule (reads first goes at_part p) (Of p) (Ends p) → Rule (reads first goes at_part q) (Of q) (Ends q)
+      → Rule (reads first goes at_part p >>= (λ a. reads first goes at_part q >>= (λ b. pure (f a b)))) (Of (both f p q)) (Ends (both f p q))
+  rule_both {X} {A} {B} f p q away x y = rule_then x (λ a. rule_map y (f a)) (Ends (both f p q)) inner (λ a rest e. not_left (goes_on first goes q) (if nullable first goes q then goes_on first goes p else []) rest e)
     where
-      F : List Token → Type 0
-      F = NotAt (goes_on first goes p ++ (if nullable first goes p then goes_on first goes g else []))
-
-      inner : (late : Late) (ts rest : List Token) (f : X) (b : B) → Then (Of p) (λ a. Same (c f a)) late ts rest b → NotAt (goes_on first goes p ++ (if nullable first goes p then goes_on first goes g else [])) rest → Ends g ts
-      inner late ts rest f b (forms.◌▸◌ {mid = mid} {a = a} h (token.nothing e)) e' = inner_by (nullable first goes p) (begins first goes p) (goes_on first goes p) (goes_on first goes g) away (start p late ts mid a h) e'
+      inner : (late : Late) (ts rest : List Token) (a : X) (b : B) → Then (Of q) (λ b. Same (f a b)) late ts rest b → Ends (both f p q) rest → Ends p ts
+      inner late ts rest a b (◌▸◌ {mid = mid} {a = b'} h (nothing e)) e' = inner_by (nullable first goes q) (begins first goes q) (goes_on first goes q) (goes_on first goes p) away (start q late ts mid b' h) e'
 
   rule_or : {A : Type 0} (p q : Syntax Tree A) → not (nullable first goes p) ≡ true → apart (begins first goes q) (begins first goes p) ≡ true
       → Rule (reads first goes at_part p) (Of p) (Ends p) → Rule (reads first goes at_part q) (Of q) (Ends q)
-      → Rule (either (among (begins first goes p)) (reads first goes at_part p) (reads first goes at_part q)) (Or (Of p) (Of q)) (Ends (p or q))
-  rule_or {A} p q some away x y = rule_either (among (begins first goes p)) (Ends (p or q)) x y
+      → Rule (either (among (begins first goes p)) (reads first goes at_part p) (reads first goes at_part q)) (Of (p or q)) (Ends (p or q))
+  rule_or {A} p q some away x y = rule_either (among (begins first goes p)) (Ends (p or q))
       (λ late ts rest a h. begins_by (begins first goes p) (nullable first goes p) some (start p late ts rest a h))
       (λ late ts rest a h e. second_by (nullable first goes q) (begins first goes p) (begins first goes q) (goes_on first goes p) (goes_on first goes q) away (start q late ts rest a h) e)
       (λ rest e. not_left (goes_on first goes p) (goes_on first goes q ++ (if nullable first goes q then begins first goes p else [])) rest e)
       (λ rest e. not_left (goes_on first goes q) (if nullable first goes q then begins first goes p else []) rest (not_right (goes_on first goes p) (goes_on first goes q ++ (if nullable first goes q then begins first goes p else [])) rest e))
       (not_at_end (goes_on first goes p ++ (goes_on first goes q ++ (if nullable first goes q then begins first goes p else []))))
-      (open_by p)
+      (open_by p) x.reaches y.reaches x y
 
   -- ---- repetition
   abbrev Turn : {S B : Type 0} → Syntax Tree B → (S → B → S) → S → Relation S
@@ -101,7 +88,7 @@ module _ {N : Type 0} {Tree : N → Type 0} (first goes : N → Kinds) (at_part 
     Over = NotAt (begins first goes turn ++ (goes_on first goes turn ++ more))
 
     rule_turn : (s : S) → Rule (turned turn add s) (Turn turn add s) (Ends turn)
-    rule_turn s = rule_within (before_is first goes at_part turn (λ b. pure (add s b))) (λ late ts rest x h. to_mapped h) (λ late ts rest x h. inl (from_mapped h)) (λ rest e. e) (rule_map y (add s))
+    rule_turn s = rule_within (before_is first goes at_part turn (λ b. pure (add s b))) (λ late ts rest x h. h) (λ late ts rest x h. inl h) (λ rest e. e) (rule_map y (add s))
 
     turn_begins : (late : Late) (s : S) (ts rest : List Token) (x : S) → Turn turn add s late ts rest x → At (begins first goes turn) ts
     turn_begins late s ts rest x (◌▸◌ {mid = mid} {a = b} h k) = begins_by (begins first goes turn) (nullable first goes turn) some (start turn late ts mid b h)
@@ -110,7 +97,7 @@ module _ {N : Type 0} {Tree : N → Type 0} (first goes : N → Kinds) (at_part 
     turn_opens s u h = let o = open_by turn u h in (o.0, add s o.1, o.2 ▸ nothing refl)
 
     rule_turns : (s : S) → Rule (many (among (begins first goes turn)) (turned turn add) s) (Turns (Turn turn add) s) Over
-    rule_turns = rule_many (among (begins first goes turn)) (turned turn add) (λ s ts s' mid is. shrinks_by (begins first goes turn) (λ late ts rest a h. turn_begins late s ts rest a h) ts s' mid ((rule_turn s).took ts s' mid is))
+    rule_turns = rule_many (among (begins first goes turn)) (turned turn add) (λ s ts s' mid is. shrinks_by (begins first goes turn) (λ late ts rest a h. turn_begins late s ts rest a h) ts s' mid (took (rule_turn s) is))
         (Turn turn add) (Ends turn) Over rule_turn turn_begins
         (λ ts e. not_left (begins first goes turn) (goes_on first goes turn ++ more) ts e)
         (λ ts h. at_apart (begins first goes turn) (goes_on first goes turn) away ts h)
@@ -120,7 +107,7 @@ module _ {N : Type 0} {Tree : N → Type 0} (first goes : N → Kinds) (at_part 
 
   rule_repeat : {A B S : Type 0} (from : A → S) (p : Syntax Tree A) (add : S → B → S) (turn : Syntax Tree B) → not (nullable first goes turn) ≡ true → apart (begins first goes turn) (goes_on first goes turn) ≡ true
       → apart (begins first goes turn) (goes_on first goes p) ≡ true → Rule (reads first goes at_part p) (Of p) (Ends p) → Rule (reads first goes at_part turn) (Of turn) (Ends turn)
-      → Rule (reads first goes at_part p >>= (λ a. many (among (begins first goes turn)) (turned turn add) (from a))) (Then (Of p) (λ a. Turns (Turn turn add) (from a))) (Ends (repeat from p add turn))
+      → Rule (reads first goes at_part p >>= (λ a. many (among (begins first goes turn)) (turned turn add) (from a))) (Of (repeat from p add turn)) (Ends (repeat from p add turn))
   rule_repeat {A} {B} {S} from p add turn some away away' x y = rule_then x (λ a. rule_turns turn add some away y (goes_on first goes p) (from a)) (Ends (repeat from p add turn)) inner (λ a rest e. e)
     where
       by : {ts rest : List Token} → At (begins first goes turn) ts ⊎ (ts ≡ rest) → Ends (repeat from p add turn) rest → Ends p ts
@@ -128,39 +115,25 @@ module _ {N : Type 0} {Tree : N → Type 0} (first goes : N → Kinds) (at_part 
       by {ts} {rest} (inr h) e = subst (λ ts. Ends p ts) (sym h) (not_right (goes_on first goes turn) (goes_on first goes p) rest (not_right (begins first goes turn) (goes_on first goes turn ++ goes_on first goes p) rest e))
 
       inner : (late : Late) (ts rest : List Token) (a : A) (b : S) → Turns (Turn turn add) (from a) late ts rest b → Ends (repeat from p add turn) rest → Ends p ts
-      inner late ts rest a b h e = by (star_starts first goes (D late) (part_starts late) turn add (start turn late) (to_star h)) e
+      inner late ts rest a b h e = by (star_starts first goes (D late) (part_starts late) turn add (start turn late) h) e
 
   pub rule : {A : Type 0} (s : Syntax Tree A) → decided first goes s ≡ true → Rule (reads first goes at_part s) (Of s) (Ends s)
   unfolding reads
-  rule (give a) h = rule_as (rule_pure a) (λ late ts rest x k. to_nothing k) (λ late ts rest x k. from_nothing k) (λ rest e. tt)
-  rule (one t) h = let y = terminal_some t in rule_as (rule_token (taken_as t) y.0 y.1 y.2) (λ late ts rest x k. to_one k) (λ late ts rest x k. from_one k) (λ rest e. tt)
+  rule (give a) h = rule_within (λ ts. refl) (λ late ts rest x k. k) (λ late ts rest x k. inl k) (λ rest e. tt) (rule_pure a)
+  rule (one t) h = let y = terminal_some t in rule_within (λ ts. refl) (λ late ts rest x k. k) (λ late ts rest x k. inl k) (λ rest e. tt) (rule_token (taken_as t) y.0 y.1 y.2)
   rule (part n) h = rules n
-  rule (g ◃ p) h =
-      let h' = and_right (decided first goes g) (decided first goes p && apart (begins first goes p) (goes_on first goes g)) h in
-      let x = rule g (and_left (decided first goes g) (decided first goes p && apart (begins first goes p) (goes_on first goes g)) h) in
-      let y = rule p (and_left (decided first goes p) (apart (begins first goes p) (goes_on first goes g)) h') in
-      rule_within (before_is first goes at_part g (λ f. reads first goes at_part p >>= (λ a. pure (f a)))) (λ late ts rest x h. to_two h) (λ late ts rest x h. inl (from_two h)) (λ rest e. e)
-      (rule_two g p (λ f a. f a) (and_right (decided first goes p) (apart (begins first goes p) (goes_on first goes g)) h') x y)
-  rule (g ◂ p) h =
-      let h' = and_right (decided first goes g) (decided first goes p && apart (begins first goes p) (goes_on first goes g)) h in
-      let x = rule g (and_left (decided first goes g) (decided first goes p && apart (begins first goes p) (goes_on first goes g)) h) in
-      let y = rule p (and_left (decided first goes p) (apart (begins first goes p) (goes_on first goes g)) h') in
-      rule_within (before_is first goes at_part g (λ b. reads first goes at_part p >>= (λ a. pure b))) (λ late ts rest x h. to_two h) (λ late ts rest x h. inl (from_two h)) (λ rest e. e)
-      (rule_two g p (λ b a. b) (and_right (decided first goes p) (apart (begins first goes p) (goes_on first goes g)) h') x y)
+  rule (both f p q) h =
+      let h₁ = and_parts _ _ h in
+      let h₂ = and_parts _ _ h₁.1 in
+      rule_within (before_is first goes at_part p (λ a. reads first goes at_part q >>= (λ b. pure (f a b)))) (λ late ts rest x k. k) (λ late ts rest x k. inl k) (λ rest e. e) (rule_both f p q h₂.1 (rule p h₁.0) (rule q h₂.0))
   rule (p or q) h =
-      let h₁ = and_right (decided first goes p) (decided first goes q && (not (nullable first goes p) && apart (begins first goes q) (begins first goes p))) h in
-      let h₂ = and_right (decided first goes q) (not (nullable first goes p) && apart (begins first goes q) (begins first goes p)) h₁ in
-      rule_as (rule_or p q (and_left (not (nullable first goes p)) (apart (begins first goes q) (begins first goes p)) h₂) (and_right (not (nullable first goes p)) (apart (begins first goes q) (begins first goes p)) h₂)
-      (rule p (and_left (decided first goes p) (decided first goes q && (not (nullable first goes p) && apart (begins first goes q) (begins first goes p))) h))
-      (rule q (and_left (decided first goes q) (not (nullable first goes p) && apart (begins first goes q) (begins first goes p)) h₁)))
-      (λ late ts rest x k. to_either k) (λ late ts rest x k. from_either k) (λ rest e. e)
+      let h₁ = and_parts _ _ h in
+      let h₂ = and_parts _ _ h₁.1 in
+      let h₃ = and_parts _ _ h₂.1 in
+      rule_or p q h₃.0 h₃.1 (rule p h₁.0) (rule q h₂.0)
   rule (repeat from p add turn) h =
-      let apart₁ : Bool = apart (begins first goes turn) (goes_on first goes turn) in
-      let apart₂ : Bool = apart (begins first goes turn) (goes_on first goes p) in
-      let some : Bool = not (nullable first goes turn) in
-      let h₁ = and_right (decided first goes p) (decided first goes turn && (some && (apart₁ && apart₂))) h in
-      let h₂ = and_right (decided first goes turn) (some && (apart₁ && apart₂)) h₁ in
-      let h₃ = and_right some (apart₁ && apart₂) h₂ in
-      rule_as (rule_repeat from p add turn (and_left some (apart₁ && apart₂) h₂) (and_left apart₁ apart₂ h₃) (and_right apart₁ apart₂ h₃)
-      (rule p (and_left (decided first goes p) (decided first goes turn && (some && (apart₁ && apart₂))) h)) (rule turn (and_left (decided first goes turn) (some && (apart₁ && apart₂)) h₁)))
-      (λ late ts rest x k. to_repeated k) (λ late ts rest x k. from_repeated k) (λ rest e. e)
+      let h₁ = and_parts _ _ h in
+      let h₂ = and_parts _ _ h₁.1 in
+      let h₃ = and_parts _ _ h₂.1 in
+      let h₄ = and_parts _ _ h₃.1 in
+      rule_repeat from p add turn h₃.0 h₄.0 h₄.1 (rule p h₁.0) (rule turn h₂.0)

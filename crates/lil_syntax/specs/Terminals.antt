@@ -1,18 +1,12 @@
 -- The kinds of token, and the tokens that a grammar takes.
-use Rattle.std.specs.Prelude.{ℕ, Bool, true, false, ◌||◌, ◌&&◌, not, List, [], ◌∷◌, Option, Some, None}
-use Rattle.lil_base.specs.declared.fault.Place.{Place}
-use Rattle.lil_text.specs.declared.token.Token.{Token}
-use Rattle.lil_text.specs.declared.token.TokenKind.{TokenKind}
+use Rattle.std.specs.Prelude.{ℕ, Bool, true, false, ◌||◌, ◌&&◌, not, if◌then◌else◌, List, [], ◌∷◌, Option, Some, None}
+use Rattle.lil_base.specs.declared.{fault.Place.Place, operator.{OneOp.OneOp, TwoOp.TwoOp}}
+use Rattle.lil_text.specs.declared.{token.{Token.Token, TokenKind.TokenKind, Mark.Mark, Word.Word}, tree.Ident.Ident}
 use Rattle.lil_text.specs.declared.token.TokenKind.TheVariants as k
-use Rattle.lil_text.specs.declared.token.Mark.{Mark}
-use Rattle.lil_text.specs.declared.token.Word.{Word}
 use Rattle.lil_text.specs.declared.token.Mark.TheVariants as m
 use Rattle.lil_text.specs.declared.token.Word.TheVariants as w
-use Rattle.lil_base.specs.declared.operator.OneOp.{OneOp}
-use Rattle.lil_base.specs.declared.operator.TwoOp.{TwoOp}
-use Rattle.lil_text.specs.declared.tree.Ident.{Ident}
 use Rattle.lil_text.specs.Operators
-use Rattle.lil_grammar.specs.Steps.{is_mark, is_word, mark_at, word_at, ident_at}
+use Rattle.lil_grammar.specs.Steps.{is_mark, is_word, ident_by}
 
 -- ---- kinds of token, and sets of them
 pub data Kind : Type 0 where
@@ -81,34 +75,22 @@ abbrev pub placed : {A : Type 0} → Place → Option A → Option (A × Place)
 placed p None = None
 placed p (Some a) = Some (a, p)
 
-abbrev pub number_by : Place → TokenKind → Option (Place × ℕ)
-number_by p (k.Number v) = Some (p, v)
-number_by p _ = None
+abbrev pub value_by : (x : Terminal) → Place → TokenKind → Option (Value x)
+value_by (mark m) p u = if is_mark m u then Some p else None
+value_by (word w) p u = if is_word w u then Some p else None
+value_by name p u = ident_by p u
+value_by number p (k.Number v) = Some (p, v)
+value_by code p (k.CharCode c) = Some (p, c)
+value_by chars p (k.Chars text) = Some (p, text)
+value_by finish p k.Finish = Some p
+value_by relation p u = placed p (Operators.relation u)
+value_by addition p u = placed p (Operators.addition u)
+value_by multiplication p u = placed p (Operators.multiplication u)
+value_by sign p u = placed p (Operators.sign u)
+value_by _ p u = None
 
-abbrev pub code_by : Place → TokenKind → Option (Place × ℕ)
-code_by p (k.CharCode c) = Some (p, c)
-code_by p _ = None
-
-abbrev pub chars_by : Place → TokenKind → Option (Place × List ℕ)
-chars_by p (k.Chars text) = Some (p, text)
-chars_by p _ = None
-
-abbrev pub finish_by : Place → TokenKind → Option Place
-finish_by p k.Finish = Some p
-finish_by p _ = None
-
-abbrev pub taken_as : (t : Terminal) → Token → Option (Value t)
-taken_as (mark m) t = mark_at m t
-taken_as (word w) t = word_at w t
-taken_as name t = ident_at t
-taken_as number t = number_by t.place t.what
-taken_as code t = code_by t.place t.what
-taken_as chars t = chars_by t.place t.what
-taken_as finish t = finish_by t.place t.what
-taken_as relation t = placed t.place (Operators.relation t.what)
-taken_as addition t = placed t.place (Operators.addition t.what)
-taken_as multiplication t = placed t.place (Operators.multiplication t.what)
-taken_as sign t = placed t.place (Operators.sign t.what)
+abbrev pub taken_as : (x : Terminal) → Token → Option (Value x)
+taken_as x t = value_by x t.place t.what
 
 abbrev pub kinds_of : Terminal → Kinds
 kinds_of (mark m) = Kind.mark m ∷ []

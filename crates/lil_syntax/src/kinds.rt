@@ -1,7 +1,5 @@
 ghost use Rattle.std.specs.Prelude.{◌≡◌};
 ghost use Rattle.lil_text.specs.Operators as operators;
-ghost use Rattle.lil_syntax.specs.Terminals.{among, kinds_of};
-ghost use Rattle.lil_syntax.specs.Terminals.{Terminal as t};
 
 use lil_text::{Mark, OneOp, TokenKind, TwoOp, Word};
 
@@ -56,36 +54,4 @@ pub fn sign_in(what: &TokenKind) -> Option<OneOp>
         TokenKind::Mark(Mark::Minus) => Some(OneOp::Minus),
         _ => None,
     }
-}
-
-/// Whether a multiplication is next.
-#[tactic(auto, unfolding(lil_grammar::specs::Steps::same_mark, lil_grammar::specs::Steps::same_word))]
-pub fn is_multiplication(what: &TokenKind) -> bool
-    ensures { result ≡ among (kinds_of t.multiplication) what.now }
-{
-    multiplication_in(what).is_some()
-}
-
-/// Whether an addition is next.
-#[tactic(auto, unfolding(lil_grammar::specs::Steps::same_mark, lil_grammar::specs::Steps::same_word))]
-pub fn is_addition(what: &TokenKind) -> bool
-    ensures { result ≡ among (kinds_of t.addition) what.now }
-{
-    addition_in(what).is_some()
-}
-
-/// Whether a relation is next.
-#[tactic(auto, unfolding(lil_grammar::specs::Steps::same_mark, lil_grammar::specs::Steps::same_word))]
-pub fn is_relation(what: &TokenKind) -> bool
-    ensures { result ≡ among (kinds_of t.relation) what.now }
-{
-    relation_in(what).is_some()
-}
-
-/// Whether a sign is next.
-#[tactic(auto, unfolding(lil_grammar::specs::Steps::same_mark, lil_grammar::specs::Steps::same_word))]
-pub fn is_sign(what: &TokenKind) -> bool
-    ensures { result ≡ among (kinds_of t.sign) what.now }
-{
-    sign_in(what).is_some()
 }

@@ -6,6 +6,6 @@ mod kinds;
 mod operand;
 
 pub use operand::{
-    addition, chars, code, finish, multiplication, number, relation, sees_addition, sees_chars,
-    sees_code, sees_multiplication, sees_name, sees_number, sees_relation, sees_sign, sign,
+    addition, chars, code, finish, multiplication, number, relation, sees_addition, sees_code,
+    sees_multiplication, sees_name, sees_number, sees_relation, sees_sign, sign,
 };

@@ -1,7 +1,6 @@
 -- A frame has no more words than its code has bytes.
 use Rattle.std.proofs.Common.{◌≤◌, arith}
-use Rattle.lil_resolved.specs.Resolved.{Statement, If, Case, While, Repeat, Loop, For, Inside, Statements, Empty, Then, Arms, NoElse, Else, Arm}
-use Rattle.lil_resolved.specs.Sizes.{statement_words, body_words, arms_words, statement_size, body_size, arms_size}
+use Rattle.lil_resolved.specs.{Resolved.{Statement, If, Case, While, Repeat, Loop, For, Inside, Statements, Empty, Then, Arms, NoElse, Else, Arm}, Sizes.{statement_words, body_words, arms_words, statement_size, body_size, arms_size}}
 
 mutual
   statement_small : (s : Statement) → statement_words s ≤ statement_size s

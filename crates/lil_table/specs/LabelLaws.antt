@@ -1,12 +1,8 @@
 -- The labels of a sound arm are numbers of the type as which words are compared.
 use Rattle.std.proofs.Common.{◌≡◌, ◌-◌, pos, true, false, refl, sym, ap, ◌∙◌, arith}
-use Rattle.std.proofs.lemmas.Int.{ints}
-use Rattle.std.proofs.lemmas.Bool.{leb-true}
-use Rattle.lil_base.specs.Words.{in_type}
-use Rattle.lil_resolved.specs.Kinds.{Kind, OfWhole, OfTruth, OfCharacter, OfEnumeration, is_ordinal, compared_as, Scalar, Number, Truth, Character, within, scalar_of, ordinal_of}
-use Rattle.lil_resolved.specs.Resolved.{Label}
-use Rattle.lil_resolved.specs.Sound.{IsSoundLabel}
-use Rattle.lil_base.specs.Laws.{in_range, bounds}
+use Rattle.std.proofs.lemmas.{Int.ints, Bool.leb-true}
+use Rattle.lil_base.specs.{Words.in_type, Laws.{in_range, bounds}}
+use Rattle.lil_resolved.specs.{Kinds.{Kind, OfWhole, OfTruth, OfCharacter, OfEnumeration, is_ordinal, compared_as, Scalar, Number, Truth, Character, within, scalar_of, ordinal_of}, Resolved.Label, Sound.IsSoundLabel}
 
 -- the number of a value of a kind is a number of the type as which the kind's words are compared
 pub ordinal_in : (k : Kind) (v : Scalar) → is_ordinal k ≡ true → within k v ≡ true → in_type (compared_as k) (ordinal_of v) ≡ true

@@ -2,21 +2,15 @@
 -- in a jump, the words of a frame and how many entries a table has are written as they are, or in code that is too long for that cut to 16
 -- bits.
 use Rattle.std.specs.Prelude.{◌≡◌, ℕ, zero, suc, ◌+◌, ◌-◌, ◌*◌, ◌%◌, ◌<◌, ◌≤◌, max, ℤ, Bool, true, false, List, [], ◌∷◌, ◌++◌, length, drop, map, get_or, Option, Some, None, slice_get, cond}
-use Rattle.lil_base.specs.Words.{Whole, Cardinal, Integer, word_of}
-use Rattle.lil_base.specs.declared.operator.OneOp.{OneOp}
+use Rattle.lil_base.specs.{Words.{Whole, Cardinal, Integer, word_of}, declared.operator.{OneOp.OneOp, TwoOp.{TwoOp, TheVariants.{Equal, Unequal, Less, AtMost, Greater, AtLeast, In, Plus, Minus, Times, Slash, Div, Mod}}}, Requests.request_number}
 use Rattle.lil_base.specs.declared.operator.OneOp.TheVariants as one
-use Rattle.lil_base.specs.declared.operator.TwoOp.{TwoOp}
-use Rattle.lil_base.specs.declared.operator.TwoOp.TheVariants.{Equal, Unequal, Less, AtMost, Greater, AtLeast, In, Plus, Minus, Times, Slash, Div, Mod}
 use Rattle.lil_base.specs.declared.request.Request as request
-use Rattle.lil_base.specs.Requests.{request_number}
 use Rattle.lil_resolved.specs.Kinds.{Objects, Workspaces, Kind, OfWhole, OfTruth, OfCharacter, OfSet, OfPointer, base_of, is_ordinal, is_set, is_plain, is_element, takes_value, stores_value, compared_as, covers, shared, outside_turns, least, numbers, Scalar, is_literal, scalar_word, Shape, Word, Row, Scope, outermost, with_held, words, is_there, part_at, offset, all_words, offsets_from, shape_at, element_of}
 use Rattle.lil_resolved.specs.Resolved.{Designator, Variable, Held, Field, Element, Follow, Function, Abs, Cap, Chr, Odd, Ord, Val, Expression, Constant, Taken, One, Two, Short, Apply, With, WithSpan, Argument, ByValue, OfArray, OfText, Label, Statement, Assign, Copy, Text, Change, Member, New, Allocate, Request, If, Case, While, Repeat, Loop, Exit, Halt, Return, Call, For, Inside, Statements, Empty, Then, Arms, NoElse, Else, Arm, Procedure, Resolved, procedure_by, kind_of, right_kind, counted_as, shape_of}
-use Rattle.lil_resolved.specs.Sizes.{place_depth, depth, frame_words}
-use Rattle.lil_resolved.specs.Sound.{takes_one, takes_two, takes_function, IsScalar, IsSoundLabel, IsStep, is_text, request_parameters, parameter_of}
+use Rattle.lil_resolved.specs.{Sizes.{place_depth, depth, frame_words}, Sound.{takes_one, takes_two, takes_function, IsScalar, IsSoundLabel, IsStep, is_text, request_parameters, parameter_of}}
 use Rattle.lil_asm.specs.declared.instr.Instr.{Instr}
 use Rattle.lil_asm.specs.declared.instr.Instr.TheVariants.{Liw, Dup, Drp, Llw, Slw, Lgw, Sgw, Lag, Ldi, Sti, Ldf, Adf, Mov, Mvz, Nlt, Ixc, Swp, Rgc, Rgi, Cap, Adc, Sbc, Mlc, Dvc, Mdc, Adi, Sbi, Mli, Dvi, Mdi, Ngi, Abi, Uni, Dif, Its, Sym, Sin, Spn, Icl, Ecl, Sle, Not, Equ, Neq, Lsc, Lec, Lsi, Lei, Mrk, Cll, Ent, Rtn, Jmp, Jpf, Jan, Jor, Cas, Fri, Frn, Trp, Alc, Svc}
-use Rattle.lil_asm.specs.Bytes.{word_at, decoded}
-use Rattle.lil_asm.specs.Requests.{request_words}
+use Rattle.lil_asm.specs.{Bytes.{word_at, decoded}, Requests.request_words}
 
 -- Where the variables of a module lie in its data frame, by their numbers; the shapes that names reach, and the words of the frame that
 -- have the addresses of the records of the WITHs around, the innermost first; how many words the variables take, and the words of the

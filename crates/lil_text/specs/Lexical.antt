@@ -1,17 +1,11 @@
 -- The tokens of a text: how it is cut from its start into its longest pieces, and which fault stands where no piece begins.
 use Rattle.std.specs.Prelude.{◌≡◌, ℕ, ◌+◌, ◌-◌, ◌*◌, ◌<◌, ◌≤◌, ◌==◌, nat_le, Bool, true, false, not, ◌||◌, ◌&&◌, List, [], ◌∷◌, ◌++◌, length, Option, Some, None, if◌then◌else◌}
 use Rattle.std.specs.List.{list_all}
-use Rattle.lil_base.specs.Faults.{fault}
-use Rattle.lil_base.specs.Names.{is_letter, is_digit, is_name_byte}
-use Rattle.lil_base.specs.declared.fault.Place.{Place}
-use Rattle.lil_base.specs.declared.fault.SourceFault.{SourceFault}
-use Rattle.lil_text.specs.declared.token.Token.{Token}
-use Rattle.lil_text.specs.declared.token.TokenKind.{TokenKind}
+use Rattle.lil_base.specs.{Faults.fault, Names.{is_letter, is_digit, is_name_byte}, declared.fault.{Place.Place, SourceFault.SourceFault}}
+use Rattle.lil_text.specs.{declared.token.{Token.Token, TokenKind.TokenKind, Word.Word}, Cuts.{is_blank, is_number_byte, Stops, word_among, all_words}}
 use Rattle.lil_text.specs.declared.token.TokenKind.TheVariants as k
-use Rattle.lil_text.specs.declared.token.Word.{Word}
 use Rattle.lil_text.specs.declared.token.Word.TheVariants as w
 use Rattle.lil_text.specs.declared.token.Mark.TheVariants as m
-use Rattle.lil_text.specs.Cuts.{is_blank, is_number_byte, Stops, word_among, all_words}
 
 -- ---- places
 abbrev pub start : Place

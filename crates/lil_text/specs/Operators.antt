@@ -4,9 +4,8 @@ use Rattle.lil_text.specs.declared.token.TokenKind.{TokenKind}
 use Rattle.lil_text.specs.declared.token.TokenKind.TheVariants as k
 use Rattle.lil_text.specs.declared.token.Word.TheVariants as w
 use Rattle.lil_text.specs.declared.token.Mark.TheVariants as m
-use Rattle.lil_base.specs.declared.operator.OneOp.{OneOp}
+use Rattle.lil_base.specs.declared.operator.{OneOp.OneOp, TwoOp.TwoOp}
 use Rattle.lil_base.specs.declared.operator.OneOp.TheVariants as one
-use Rattle.lil_base.specs.declared.operator.TwoOp.{TwoOp}
 use Rattle.lil_base.specs.declared.operator.TwoOp.TheVariants as two
 
 -- between sums

@@ -1,2 +1,1 @@
 mod Sums
-mod Wholes

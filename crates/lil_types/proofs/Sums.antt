@@ -1,11 +1,11 @@
--- The words of a record's fields, added up from the first one on, and tables that stay sound.
-use Rattle.std.proofs.Common.{◌≡◌, ℕ, ◌+◌, nat_le, Bool, true, false, ◌&&◌, List, [], ◌∷◌, ◌++◌, length, Option, Some, None, refl, append_assoc, arith}
-use Rattle.std.proofs.lemmas.List.{append-nil}
-use Rattle.std.proofs.lemmas.Bool.Decides.{nat_tests}
-use Rattle.lil_types.specs.declared.table.Facts.{Facts}
-use Rattle.lil_types.specs.declared.table.TypeEntry.{TypeEntry}
-use Rattle.lil_types.specs.Types.{Table, facts_of, record_facts, IsSound, IsSoundFrom}
-use Rattle.lil_types.specs.Adding.{fitting, is_short, limited}
+-- How many numbers a span has, the words of a record's fields, added up from the first one on, and tables that stay sound.
+use Rattle.std.proofs.Common.{◌≡◌, ℕ, ◌+◌, nat_le, ℤ, pos, negsuc, int_lt, nat_abs, Bool, true, false, ◌&&◌, List, [], ◌∷◌, ◌++◌, length, Option, Some, None, refl, append_assoc, arith}
+use Rattle.std.proofs.lemmas.{List.append-nil, Bool.Decides.nat_tests}
+use Rattle.lil_types.specs.{declared.table.{Facts.Facts, TypeEntry.TypeEntry}, Types.{Table, nat_of, facts_of, record_facts, IsSound, IsSoundFrom}, Adding.{fitting, is_short, limited}}
+
+pub no_less : (z : ℤ) → int_lt z (pos 0) ≡ false → nat_abs z ≡ nat_of z
+no_less (pos n) h = refl
+no_less (negsuc n) h = cc
 
 -- some words and, where they are known, more
 abbrev pub plus : ℕ → Option ℕ → Option ℕ

@@ -1,10 +1,6 @@
 -- One more type at a table's end: which forms it takes, and what is then known.
 use Rattle.std.specs.Prelude.{ℕ, ◌+◌, nat_le, nat_lt, pos, negsuc, int_lt, Bool, true, not, ◌&&◌, [], ◌∷◌, ◌++◌, length, Option, Some, None, if◌then◌else◌}
-use Rattle.lil_types.specs.declared.table.Origin.{Origin}
-use Rattle.lil_types.specs.declared.table.Span.{Span}
-use Rattle.lil_types.specs.declared.table.Facts.{Facts}
-use Rattle.lil_types.specs.declared.table.TypeForm.{TypeForm}
-use Rattle.lil_types.specs.Types.{Table, facts_of}
+use Rattle.lil_types.specs.{declared.table.{Origin.Origin, Span.Span, Facts.Facts, TypeForm.TypeForm}, Types.{Table, facts_of}}
 
 -- the number that the next type gets
 abbrev pub next : Table → ℕ

@@ -1,20 +1,10 @@
 -- Operations on constants: the constant that comes out, or the number of the fault, 30 for operands that the operator doesn't
 -- take and 52 for a result outside -32768 to 65535 and for a divisor that is zero.
 use Rattle.std.specs.Prelude.{ℕ, ◌-◌, ◌==◌, nat_le, nat_lt, ℤ, pos, negsuc, ◌+ℤ◌, ◌-ℤ◌, ◌*ℤ◌, neg_ℤ, int_lt, Bool, true, false, ◌&&◌, ◌||◌, not, List, [], ◌∷◌, Option, Some, None, Result, Ok, Err, if◌then◌else◌, bit_and, bit_or, bit_xor}
-use Rattle.lil_base.specs.declared.operator.OneOp.{OneOp}
+use Rattle.lil_base.specs.{declared.operator.{OneOp.OneOp, TwoOp.TwoOp}, Words.{is_zero, whole_quotient, whole_rest}, Sets.has}
 use Rattle.lil_base.specs.declared.operator.OneOp.TheVariants as one
-use Rattle.lil_base.specs.declared.operator.TwoOp.{TwoOp}
 use Rattle.lil_base.specs.declared.operator.TwoOp.TheVariants as two
-use Rattle.lil_base.specs.Words.{is_zero, whole_quotient, whole_rest}
-use Rattle.lil_base.specs.Sets.{has}
-use Rattle.lil_types.specs.declared.table.Const.{Const}
-use Rattle.lil_types.specs.declared.table.Const.TheVariants.{Whole, Scalar, Chars}
-use Rattle.lil_types.specs.declared.table.FoldStop.{FoldStop}
-use Rattle.lil_types.specs.declared.table.FoldStop.TheVariants.{Fault}
-use Rattle.lil_types.specs.declared.table.TypeEntry.{TypeEntry}
-use Rattle.lil_types.specs.declared.table.TypeForm.{TypeForm}
-use Rattle.lil_types.specs.declared.table.TypeForm.TheVariants.{SetOf}
-use Rattle.lil_types.specs.Types.{Table, integer, cardinal, boolean, char, bit_set, entry, base, same, compatible}
+use Rattle.lil_types.specs.{declared.table.{Const.{Const, TheVariants.{Whole, Scalar, Chars}}, FoldStop.{FoldStop, TheVariants.Fault}, TypeEntry.TypeEntry, TypeForm.{TypeForm, TheVariants.SetOf}}, Types.{Table, integer, cardinal, boolean, char, bit_set, entry, base, same, compatible}}
 
 -- a constant, or a fault's number
 abbrev pub Folded : Type 0

@@ -1,11 +1,6 @@
 -- Types by their numbers: what each one is, when a table of them is sound, and which go together.
 use Rattle.std.specs.Prelude.{◌≡◌, ℕ, ◌+◌, ◌*◌, ◌-◌, ◌==◌, nat_lt, min, ℤ, pos, negsuc, int_lt, true, false, not, ◌+ℤ◌, ◌-ℤ◌, Bool, ◌&&◌, ◌||◌, List, [], ◌∷◌, ◌++◌, length, slice_get, slice_set, Option, Some, None, if◌then◌else◌, ⊤}
-use Rattle.lil_types.specs.declared.table.Span.{Span}
-use Rattle.lil_types.specs.declared.table.Facts.{Facts}
-use Rattle.lil_types.specs.declared.table.Field.{Field}
-use Rattle.lil_types.specs.declared.table.TypeForm.{TypeForm}
-use Rattle.lil_types.specs.declared.table.TypeForm.TheVariants.{Enumeration, Subrange, Array, Record, SetOf, Pointer, Procedure, Opaque}
-use Rattle.lil_types.specs.declared.table.TypeEntry.{TypeEntry}
+use Rattle.lil_types.specs.declared.table.{Span.Span, Facts.Facts, Field.Field, TypeForm.{TypeForm, TheVariants.{Enumeration, Subrange, Array, Record, SetOf, Pointer, Procedure, Opaque}}, TypeEntry.TypeEntry}
 
 abbrev pub Table : Type 0
 Table = List TypeEntry

@@ -4,7 +4,7 @@ ghost use Rattle.lil_types.specs.Adding as spec;
 
 use crate::relations::known;
 use crate::table::{Facts, Field, Origin, Span, TypeEntry, TypeForm, TypeId, TypeTable};
-use lil_base::Memory;
+use lil_base::{Memory, whole_difference};
 
 fn enumeration(n: TypeId, names: usize) -> Option<Facts>
     ensures { result ≡ spec.fitting (Some (types.enumeration_facts n names)) }
@@ -25,19 +25,13 @@ fn subrange(of: Option<Facts>, span: Span) -> Option<Facts>
 }
 
 /// How many values a span of these ends has.
+#[tactic(auto, using(crate::proofs::Sums::no_less))]
 pub fn values(low: i32, high: i32) -> u64
     ensures number { result ≡ types.values (types.span low high) }
     ensures most { result ≤ 4294967296 }
 {
-    let count = i64::from(high) - i64::from(low) + 1;
+    let count = whole_difference(high, low) + 1;
     if count < 0 { 0 } else { count as u64 }
-}
-
-/// The words of an array.
-fn array_words(span: Span, words: u32) -> u64
-    ensures { result ≡ types.values span * words }
-{
-    values(span.low, span.high) * u64::from(words)
 }
 
 /// As many words as a type may have, None where there are more.
@@ -63,17 +57,23 @@ fn record_of(n: TypeId, words: Option<u32>) -> Option<Facts>
 fn array_of_span(n: TypeId, span: Span, element: Facts) -> Option<Facts>
     ensures { result ≡ spec.fitting (types.array_of_span n (Some span) element) }
 {
-    record_of(n, limited(array_words(span, element.words)))
+    let words = values(span.low, span.high) * u64::from(element.words);
+    record_of(n, limited(words))
 }
 
 fn array(n: TypeId, index: Option<Facts>, element: Option<Facts>) -> Option<Facts>
     ensures { result ≡ spec.fitting (types.array_facts n index element) }
 {
     match (index, element) {
-        (Some(index), Some(element)) => match index.span {
-            Some(span) => array_of_span(n, span, element),
-            None => None,
-        },
+        (
+            Some(
+                Facts {
+                    span: Some(span),
+                    ..
+                },
+            ),
+            Some(element),
+        ) => array_of_span(n, span, element),
         _ => None,
     }
 }

@@ -6,7 +6,9 @@ use crate::relations::{base, compatible, entry, same};
 use crate::table::{
     BITSET, BOOLEAN, CARDINAL, CHAR, Const, FoldStop, INTEGER, TypeForm, TypeId, TypeTable,
 };
-use lil_base::{OneOp, TwoOp, set_has, whole_product, whole_quotient, whole_rest};
+use lil_base::{
+    OneOp, TwoOp, set_has, whole_difference, whole_product, whole_quotient, whole_rest, whole_sum,
+};
 
 /// Operands that the operator doesn't take.
 const OPERANDS: FoldStop = FoldStop::Fault(30);
@@ -47,23 +49,17 @@ fn rest(m: i32, n: i32) -> Result<Const, FoldStop>
     whole(whole_rest(m, n))
 }
 
-fn equal(m: i32, n: i32) -> bool
-    ensures { result ≡ not (int_lt m n || int_lt n m) }
-{
-    m == n
-}
-
 fn wholes(op: TwoOp, m: i32, n: i32) -> Result<Const, FoldStop>
     ensures { spec.folded_as result ≡ spec.wholes op m n }
 {
     match op {
-        TwoOp::Plus => whole(i64::from(m) + i64::from(n)),
-        TwoOp::Minus => whole(i64::from(m) - i64::from(n)),
+        TwoOp::Plus => whole(whole_sum(m, n)),
+        TwoOp::Minus => whole(whole_difference(m, n)),
         TwoOp::Times => whole(whole_product(m, n)),
         TwoOp::Div => quotient(m, n),
         TwoOp::Mod => rest(m, n),
-        TwoOp::Equal => truth(equal(m, n)),
-        TwoOp::Unequal => truth(!equal(m, n)),
+        TwoOp::Equal => truth(m == n),
+        TwoOp::Unequal => truth(m != n),
         TwoOp::Less => truth(m < n),
         TwoOp::AtMost => truth(m <= n),
         TwoOp::Greater => truth(m > n),
@@ -118,15 +114,6 @@ fn sets(a: TypeId, op: TwoOp, x: u16, y: u16) -> Result<Const, FoldStop>
     }
 }
 
-fn base_of(t: &TypeTable, form: &TypeForm) -> Option<TypeId>
-    ensures { result ≡ spec.base_of t.now form.now }
-{
-    match form {
-        TypeForm::SetOf(b) => Some(base(t, *b)),
-        _ => None,
-    }
-}
-
 /// The base of a set type, None for any other.
 fn set_base(t: &TypeTable, a: TypeId) -> Option<TypeId>
     ensures { result ≡ spec.set_base t.now a }
@@ -135,7 +122,10 @@ fn set_base(t: &TypeTable, a: TypeId) -> Option<TypeId>
         return Some(CARDINAL);
     }
     match entry(t, a) {
-        Some(e) => base_of(t, &e.form),
+        Some(e) => match &e.form {
+            TypeForm::SetOf(b) => Some(base(t, *b)),
+            _ => None,
+        },
         None => None,
     }
 }
@@ -144,15 +134,6 @@ fn is_member(y: u16, x: u16) -> bool
     ensures { result ≡ spec.is_member y x }
 {
     x < 16 && set_has(y, x)
-}
-
-fn in_set(set: Option<TypeId>, b: TypeId, is: bool) -> Result<Const, FoldStop>
-    ensures { spec.folded_as result ≡ spec.in_set set b is }
-{
-    match set {
-        Some(c) if b == c => truth(is),
-        _ => Err(OPERANDS),
-    }
 }
 
 /// Of two values by their types and words, but for IN.
@@ -176,12 +157,16 @@ fn scalars(t: &TypeTable, op: TwoOp, a: (TypeId, u16), b: (TypeId, u16)) -> Resu
     ensures { spec.folded_as result ≡ spec.scalars t.now op a.0 a.1 b.0 b.1 }
 {
     match op {
-        TwoOp::In => in_set(set_base(t, b.0), base(t, a.0), is_member(b.1, a.1)),
+        TwoOp::In => match set_base(t, b.0) {
+            Some(c) if base(t, a.0) == c => truth(is_member(b.1, a.1)),
+            _ => Err(OPERANDS),
+        },
         _ => alike(t, op, a, b),
     }
 }
 
-fn fits(b: TypeId, m: i32) -> bool
+/// Whether a whole constant goes with a type of this base.
+pub fn fits(b: TypeId, m: i32) -> bool
     ensures { result ≡ spec.fits b m }
 {
     (b == INTEGER && m <= 32767) || (b == CARDINAL && m >= 0)
@@ -193,31 +178,15 @@ fn is_whole_member(y: u16, m: i32) -> bool
     m >= 0 && m < 16 && set_has(y, m as u16)
 }
 
-fn whole_in(set: Option<TypeId>, m: i32, y: u16) -> Result<Const, FoldStop>
-    ensures { spec.folded_as result ≡ spec.whole_in set m y }
-{
-    match set {
-        Some(c) if fits(c, m) => truth(is_whole_member(y, m)),
-        _ => Err(OPERANDS),
-    }
-}
-
 fn whole_and_scalar(t: &TypeTable, op: TwoOp, m: i32, b: (TypeId, u16)) -> Result<Const, FoldStop>
     ensures { spec.folded_as result ≡ spec.whole_and_scalar t.now op m b.0 b.1 }
 {
     match op {
-        TwoOp::In => whole_in(set_base(t, b.0), m, b.1),
+        TwoOp::In => match set_base(t, b.0) {
+            Some(c) if fits(c, m) => truth(is_whole_member(b.1, m)),
+            _ => Err(OPERANDS),
+        },
         _ => Err(OPERANDS),
-    }
-}
-
-/// The character that a string of one character stands for.
-fn alone(text: &[u8]) -> Option<u16>
-    ensures { result ≡ spec.alone text.now }
-{
-    match text {
-        [c] => Some(u16::from(*c)),
-        _ => None,
     }
 }
 
@@ -231,13 +200,13 @@ pub fn fold_two(t: &TypeTable, op: TwoOp, a: &Const, b: &Const) -> Result<Const,
         (Const::Whole(m), Const::Whole(n)) => wholes(op, *m, *n),
         (Const::Whole(m), Const::Scalar(b, y)) => whole_and_scalar(t, op, *m, (*b, *y)),
         (Const::Scalar(a, x), Const::Scalar(b, y)) => scalars(t, op, (*a, *x), (*b, *y)),
-        (Const::Chars(text), Const::Scalar(b, y)) => match alone(text.as_slice()) {
-            Some(c) => scalars(t, op, (CHAR, c), (*b, *y)),
-            None => Err(OPERANDS),
+        (Const::Chars(text), Const::Scalar(b, y)) => match text.as_slice() {
+            [c] => scalars(t, op, (CHAR, u16::from(*c)), (*b, *y)),
+            _ => Err(OPERANDS),
         },
-        (Const::Scalar(a, x), Const::Chars(text)) => match alone(text.as_slice()) {
-            Some(c) => scalars(t, op, (*a, *x), (CHAR, c)),
-            None => Err(OPERANDS),
+        (Const::Scalar(a, x), Const::Chars(text)) => match text.as_slice() {
+            [c] => scalars(t, op, (*a, *x), (CHAR, u16::from(*c))),
+            _ => Err(OPERANDS),
         },
         _ => Err(OPERANDS),
     }

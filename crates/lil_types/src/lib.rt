@@ -7,8 +7,8 @@ mod relations;
 mod table;
 
 pub use adding::{add, own, values};
-pub use folding::{fold_one, fold_two};
-pub use relations::{assignable, base, compatible, entry, known, same, words};
+pub use folding::{fits, fold_one, fold_two};
+pub use relations::{assignable, base, compatible, entry, is_whole, known, meant, same, words};
 pub use table::{
     ADDRESS, BITSET, BOOLEAN, CARDINAL, CHAR, Const, Facts, Field, FoldStop, INTEGER, Origin, PROC,
     PROCESS, Parameter, Span, TypeEntry, TypeForm, TypeId, TypeTable, meets,

@@ -30,30 +30,22 @@ pub fn entry(t: &TypeTable, n: TypeId) -> Option<&TypeEntry>
 pub fn known(t: &TypeTable, n: TypeId) -> Option<Facts>
     ensures { result ≡ spec.known t.now n }
 {
-    match standard(n) {
-        Some(facts) => Some(facts),
-        None => match entry(t, n) {
-            Some(e) => Some(e.facts),
-            None => None,
-        },
-    }
-}
-
-fn other_of(n: TypeId, form: &TypeForm) -> TypeId
-    ensures { result ≡ spec.other_of n form.now }
-{
-    match form {
-        TypeForm::Opaque(Some(other)) => *other,
-        _ => n,
+    match (standard(n), entry(t, n)) {
+        (Some(facts), _) => Some(facts),
+        (None, Some(e)) => Some(e.facts),
+        (None, None) => None,
     }
 }
 
 /// The type that a number means: that of its implementation, where it is an opaque type that has one.
-fn meant(t: &TypeTable, n: TypeId) -> TypeId
+pub fn meant(t: &TypeTable, n: TypeId) -> TypeId
     ensures { result ≡ spec.meant t.now n }
 {
     match entry(t, n) {
-        Some(e) => other_of(n, &e.form),
+        Some(e) => match &e.form {
+            TypeForm::Opaque(Some(other)) => *other,
+            _ => n,
+        },
         None => n,
     }
 }
@@ -83,7 +75,8 @@ pub fn compatible(t: &TypeTable, a: TypeId, b: TypeId) -> bool
     base(t, a) == base(t, b)
 }
 
-fn is_whole(t: &TypeTable, a: TypeId) -> bool
+/// Whether the type is INTEGER, CARDINAL or a subrange of one.
+pub fn is_whole(t: &TypeTable, a: TypeId) -> bool
     ensures { result ≡ spec.is_whole t.now a }
 {
     base(t, a) < 2

@@ -145,10 +145,7 @@ impl Model for TypeTable {
 fn is_pointer(form: &TypeForm) -> bool
     ensures { result ≡ is_pointer_form form.now }
 {
-    match form {
-        TypeForm::Pointer(_) => true,
-        _ => false,
-    }
+    matches!(form, TypeForm::Pointer(_))
 }
 
 impl TypeTable {

@@ -3,22 +3,10 @@ use Rattle.std.proofs.Common.{◌≡◌, ℕ, zero, suc, ◌+◌, ◌%◌, ◌�
 use Rattle.std.specs.Prelude.{slice_get, map}
 use Rattle.std.specs.List.{flat_map}
 use Rattle.std.proofs.lemmas.Option.{none-some, same_Some}
-use Rattle.lil_resolved.specs.declared.resolved.RModule.{RModule}
-use Rattle.lil_resolved.specs.declared.resolved.RDeclared.{RDeclared}
-use Rattle.lil_resolved.specs.declared.shapes.RShape.{RShape}
-use Rattle.lil_resolved.specs.Kinds.{words, all_words, offsets_from}
-use Rattle.lil_resolved.specs.Resolved.{Procedure, Resolved}
-use Rattle.lil_resolved.specs.Sizes.{body_strings, procedure_strings, module_strings, code_size, frame_words}
-use Rattle.lil_resolved.specs.Views.{offset_of, shape_declared, module_of, IsMeasured}
-use Rattle.lil_resolved.specs.Sound.{IsSound}
+use Rattle.lil_resolved.specs.{declared.{resolved.{RModule.RModule, RDeclared.RDeclared}, shapes.RShape.RShape}, Kinds.{words, all_words, offsets_from}, Resolved.{Procedure, Resolved}, Sizes.{body_strings, procedure_strings, module_strings, code_size, frame_words}, Views.{offset_of, shape_declared, module_of, IsMeasured}, Sound.IsSound}
 use Rattle.lil_asm.specs.declared.instr.Instr.TheVariants.{Ent, Rtn}
-use Rattle.lil_table.specs.Rows.{IsAt, TranslatesBy, Translates, layout_by, exactly, cut}
-use Rattle.lil_table.specs.Lengths.{module_long}
-use Rattle.lil_table.specs.Frames.{body_small}
-use Rattle.lil_labels.specs.Tables.{Tables, Describe}
-use Rattle.lil_labels.specs.Drafts.{Draft, empty, Final, Fits, Adds, Emits, Doing, code_of, settled_word, word_in}
-use Rattle.lil_labels.specs.Settling.{written_long}
-use Rattle.lil_labels.specs.Emitting.{emits_then, emits_as, adds_as}
+use Rattle.lil_table.specs.{Rows.{IsAt, TranslatesBy, Translates, layout_by, exactly, cut}, Lengths.module_long, Frames.body_small}
+use Rattle.lil_labels.specs.{Tables.{Tables, Describe}, Drafts.{Draft, empty, Final, Fits, Adds, Emits, Doing, code_of, settled_word, word_in}, Settling.written_long, Emitting.{emits_then, emits_as, adds_as}}
 use Rattle.lil_stmt.specs.Generating.{Body}
 use Rattle.lil_unit.specs.Framing.{Framed}
 

@@ -1,7 +1,6 @@
 -- What the code means that the generator of modules adds.
 use Rattle.std.specs.Prelude.{ℕ, ◌%◌, None}
-use Rattle.lil_resolved.specs.Resolved.{Resolved}
-use Rattle.lil_resolved.specs.Sizes.{frame_words}
+use Rattle.lil_resolved.specs.{Resolved.Resolved, Sizes.frame_words}
 use Rattle.lil_asm.specs.declared.instr.Instr.TheVariants.{Ent, Rtn}
 use Rattle.lil_table.specs.Rows.{IsAt}
 use Rattle.lil_labels.specs.Drafts.{Final, Meaning}

@@ -1,11 +1,8 @@
 //! The code of a program module: its frame, its statements, and the return.
 
 ghost use Rattle.std.specs.Prelude.{◌≡◌, ◌+◌, ◌<◌, ◌≤◌, ℕ, length, min, IfOk, Err};
-ghost use Rattle.lil_resolved.specs.Kinds.{all_words};
-ghost use Rattle.lil_resolved.specs.Views.{IsMeasured, module_of};
+ghost use Rattle.lil_resolved.specs.{Kinds.all_words, Views.{IsMeasured, module_of}, Sound.IsSound, Sizes.module_strings};
 ghost use Rattle.lil_resolved.specs.Sizes as spec;
-ghost use Rattle.lil_resolved.specs.Sound.{IsSound};
-ghost use Rattle.lil_resolved.specs.Sizes.{module_strings};
 ghost use Rattle.lil_table.specs.Rows.{Translates};
 ghost use Rattle.lil_labels.specs.Drafts.{Adds, empty};
 ghost use Rattle.lil_unit.specs.Framing.{Framed};

@@ -1,8 +1,6 @@
 -- Counts of faults, and what an answer says of them.
 use Rattle.std.specs.Prelude.{◌≡◌, ℕ, ◌+◌, ◌-◌, ◌^◌, ◌≤◌, min, Bool, true, false, Contains, Result, OnOk, OnErr, IsErrOf}
-use Rattle.lil_volume.specs.declared.schedule.Schedule.{Schedule}
-use Rattle.lil_volume.specs.declared.outside.VolumeError.{VolumeError}
-use Rattle.lil_volume.specs.declared.outside.VolumeError.TheVariants.{Failed}
+use Rattle.lil_volume.specs.declared.{schedule.Schedule.Schedule, outside.VolumeError.{VolumeError, TheVariants.Failed}}
 
 -- the next value of a count that stops at the greatest u64
 abbrev pub next_count : ℕ → ℕ

@@ -1,9 +1,6 @@
 -- What an object of the outside holds: Some of its content, or None where it does not tell.
 use Rattle.std.specs.Prelude.{◌≡◌, ℕ, List, [], ◌∷◌, ◌++◌, take, Option, None, Some, ⊤}
-use Rattle.std.specs.Ordering.{nat_cmp}
-use Rattle.std.specs.Cmp.Lexicographic.{slice_cmp}
-use Rattle.std.specs.Option.{option_map}
-use Rattle.std.specs.FinMap.{FinMap, get, insert}
+use Rattle.std.specs.{Ordering.nat_cmp, Cmp.Lexicographic.slice_cmp, Option.option_map, FinMap.{FinMap, get, insert}}
 
 -- the files of a volume: bytes by name
 abbrev pub Files : Type 0

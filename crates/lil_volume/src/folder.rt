@@ -1,6 +1,5 @@
 ghost use Rattle.std.specs.Prelude.{◌≡◌, ◌↔◌, ◌≤◌, None, Ok, true, false, IfOk, IfErr, IfSome, OnOk, IsTrue, length};
-ghost use Rattle.std.specs.Fs.{file_type, IsFile};
-ghost use Rattle.std.specs.IoError.{error_kind};
+ghost use Rattle.std.specs.{Fs.{file_type, IsFile}, IoError.error_kind};
 ghost use Rattle.lil_volume.specs.Causes.{VolumeCause};
 
 use crate::schedule::one_more;

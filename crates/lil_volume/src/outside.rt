@@ -1,7 +1,5 @@
 ghost use Rattle.std.specs.Prelude.{◌≡◌, ◌⊎◌, ℕ, List, Option, IfOk, OnOk, OnErr};
-ghost use Rattle.lil_volume.specs.declared.outside.VolumeError.TheVariants.{Memory as WantsMemory};
-ghost use Rattle.lil_volume.specs.Causes.{HasCause, VolumeCause};
-ghost use Rattle.lil_volume.specs.Told.{Files, FileIs, with_file, followed_by, FollowedByPrefix, KeyTaken};
+ghost use Rattle.lil_volume.specs.{declared.outside.VolumeError.TheVariants.Memory as WantsMemory, Causes.{HasCause, VolumeCause}, Told.{Files, FileIs, with_file, followed_by, FollowedByPrefix, KeyTaken}};
 
 use lil_base::{Bytes, FileName, Memory};
 use std::alloc::Global;

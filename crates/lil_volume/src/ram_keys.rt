@@ -1,6 +1,5 @@
 ghost use Rattle.std.specs.Prelude.{◌≡◌, ◌↔◌, Some, IfOk, OnErr, IsErr};
-ghost use Rattle.lil_volume.specs.Causes.{HasCause, IsListed, Scheduled};
-ghost use Rattle.lil_volume.specs.Told.{KeyTaken};
+ghost use Rattle.lil_volume.specs.{Causes.{HasCause, IsListed, Scheduled}, Told.KeyTaken};
 
 use crate::schedule::Schedule;
 use crate::{KeyFailed, Keyboard};

@@ -1,10 +1,6 @@
 ghost use Rattle.std.specs.Prelude.{◌≡◌, ◌↔◌, Some, IfOk, OnOk, OnErr, IsErrOf};
-ghost use Rattle.std.specs.Ordering.{nat_cmp};
-ghost use Rattle.std.specs.Cmp.Lexicographic.{slice_cmp};
-ghost use Rattle.std.specs.Option.{option_copied};
-ghost use Rattle.std.specs.FinMap.{from_entries, find, get};
-ghost use Rattle.lil_volume.specs.Causes.{VolumeCause, IsListed, Scheduled};
-ghost use Rattle.lil_volume.specs.Told.{FileIs, with_file};
+ghost use Rattle.std.specs.{Ordering.nat_cmp, Cmp.Lexicographic.slice_cmp, Option.option_copied, FinMap.{from_entries, find, get}};
+ghost use Rattle.lil_volume.specs.{Causes.{VolumeCause, IsListed, Scheduled}, Told.{FileIs, with_file}};
 
 use crate::schedule::Schedule;
 use crate::{Volume, VolumeError};

@@ -46,12 +46,8 @@ pub struct OutputSink<W: Write + Drop> {
     faults: u64,
 }
 
-/// The report: a sink over a writer of the host, which is flushed after each piece.
-#[derive(Drop)]
-pub struct ErrorSink<W: Write + Drop> {
-    report: W,
-    faults: u64,
-}
+/// The report is a sink of the same kind.
+pub type ErrorSink<W> = OutputSink<W>;
 
 impl<R: Read + Drop> InputKeys<R> {
     /// What the reader still gives, without faults so far.
@@ -68,15 +64,6 @@ impl<W: Write + Drop> OutputSink<W> {
         ensures { result.faults ≡ 0 }
     {
         OutputSink { output, faults: 0 }
-    }
-}
-
-impl<W: Write + Drop> ErrorSink<W> {
-    /// What is put goes to the writer. There are no faults so far.
-    pub fn new(report: W) -> ErrorSink<W>
-        ensures { result.faults ≡ 0 }
-    {
-        ErrorSink { report, faults: 0 }
     }
 }
 
@@ -109,23 +96,6 @@ impl<W: Write + Drop> Sink for OutputSink<W> {
         ensures bytes { OnOk result (Appends (W.contents self.old.output) (W.contents self.new.output) piece.now) }
     {
         if write_whole(&mut self.output, piece) {
-            return Ok(());
-        }
-        self.faults = one_more(self.faults);
-        Err(SinkFailed)
-    }
-}
-
-impl<W: Write + Drop> Sink for ErrorSink<W> {
-    ghost written = { λ _. None };
-
-    ghost faults = { λ s. s.faults };
-
-    fn put(&mut self, piece: &[u8]) -> Result<(), SinkFailed>
-        ensures cause { HasCause self.old.faults self.new.faults result }
-        ensures bytes { OnOk result (Appends (W.contents self.old.report) (W.contents self.new.report) piece.now) }
-    {
-        if write_whole(&mut self.report, piece) {
             return Ok(());
         }
         self.faults = one_more(self.faults);

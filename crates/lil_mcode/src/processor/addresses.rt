@@ -10,9 +10,10 @@ use crate::machine::Event;
 use lil_base::{LimitKind, TrapKind};
 
 impl Processor {
-    pub(super) fn push_address(&mut self, at: u32, next: u16) -> Event
-        ensures { address_row at next self.old ≡ (result, self.new) }
+    pub(super) fn push_address(&mut self, base: u16, offset: u16, next: u16) -> Event
+        ensures { address_row (base + offset) next self.old ≡ (result, self.new) }
     {
+        let at = u32::from(base) + u32::from(offset);
         if at >= 65536 {
             return Event::BadCode;
         }

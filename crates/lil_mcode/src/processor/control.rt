@@ -1,10 +1,8 @@
 //! The rows of jumps, CASE and FOR.
 
 ghost use Rattle.std.specs.Prelude.{◌≡◌, ◌<◌, ◌≤◌, ◌+◌, ◌*◌, ◌^◌, ◌∷◌, length, drop, MatchOption};
-ghost use Rattle.lil_mcode.specs.Control.{chosen, above, loop_words};
+ghost use Rattle.lil_mcode.specs.{Control.{chosen, above, loop_words}, Fetch.own, Table.{going, on_one, on_three, jump, false_row, and_row, or_row, case_row, loop_row, again_row, called_trap, trap_row}};
 ghost use Rattle.lil_frames.specs.Store.{with_words};
-ghost use Rattle.lil_mcode.specs.Fetch.{own};
-ghost use Rattle.lil_mcode.specs.Table.{going, on_one, on_three, jump, false_row, and_row, or_row, case_row, loop_row, again_row, called_trap, trap_row};
 
 use super::Processor;
 use crate::arithmetic::turns_left;
@@ -100,9 +98,8 @@ impl Processor {
         ))
     }
 
-    pub(super) fn begin_loop(&mut self, at: u32, kind: u8, to: u16, next: u16) -> Event
-        requires { at < 2 ^ 17 }
-        ensures { on_three self.old self.old.stack (loop_row (own self.old) at kind to next self.old) ≡ (result, self.new) }
+    pub(super) fn begin_loop(&mut self, offset: u16, kind: u8, to: u16, next: u16) -> Event
+        ensures { on_three self.old self.old.stack (loop_row (own self.old) (self.old.frame + offset) kind to next self.old) ≡ (result, self.new) }
     {
         let Some((first, last, step)) = self.three() else {
             return Event::BadCode;
@@ -113,6 +110,7 @@ impl Processor {
         match turns_left(kind, first, last, step) {
             None => self.jump(usize::from(to), 3),
             Some(left) => {
+                let at = u32::from(self.frame) + u32::from(offset);
                 if at + 2 >= 65536 {
                     return Event::BadCode;
                 }
@@ -123,10 +121,10 @@ impl Processor {
         }
     }
 
-    pub(super) fn turn(&mut self, at: u32, to: u16, next: u16) -> Event
-        requires { at < 2 ^ 17 }
-        ensures { again_row (own self.old) at to next self.old ≡ (result, self.new) }
+    pub(super) fn turn(&mut self, offset: u16, to: u16, next: u16) -> Event
+        ensures { again_row (own self.old) (self.old.frame + offset) to next self.old ≡ (result, self.new) }
     {
+        let at = u32::from(self.frame) + u32::from(offset);
         if at + 1 >= 65536 {
             return Event::BadCode;
         }

@@ -2,11 +2,8 @@
 
 ghost use Rattle.std.specs.Prelude.{◌≡◌, ◌+◌, ◌*◌, ◌<◌, ◌≤◌, ◌^◌, length, drop, take, slice_get, OnSome, IfSome, IfNone, None, Some};
 ghost use Rattle.std.specs.Option.{option_copied};
-ghost use Rattle.lil_asm.specs.Bytes.{word_at, two_words_at, with_entries, with_loop, with_byte_word, row, row_0, row_2, row_3, row_4, row_5, row_6, row_7};
-ghost use Rattle.lil_asm.specs.declared.instr.Instr.TheVariants.{Cas, Cll, Fri};
-ghost use Rattle.lil_mcode.specs.Fetch.{running_code, running_base, current};
-ghost use Rattle.lil_mcode.specs.Loaded.{loaded_at, IsPartOf};
-ghost use Rattle.lil_mcode.specs.Table.{mstep, performed};
+ghost use Rattle.lil_asm.specs.{Bytes.{word_at, two_words_at, with_entries, with_loop, with_byte_word, row, row_0, row_2, row_3, row_4, row_5, row_6, row_7}, declared.instr.Instr.TheVariants.{Cas, Cll, Fri}};
+ghost use Rattle.lil_mcode.specs.{Fetch.{running_code, running_base, current}, Loaded.{loaded_at, IsPartOf}, Table.{mstep, performed}};
 
 use super::{LoadedModule, Processor};
 use crate::arithmetic::{Comparison, Joining, Operator, trap_of, truth_word};
@@ -45,6 +42,7 @@ impl Processor {
 
     /// The code of the running module.
     #[inline(always)]
+    #[tactic(auto, using(crate::proofs::Steps::kept_within, crate::proofs::Steps::kept_code))]
     pub(super) fn running_code(&self) -> &[u8]
         ensures value { result.now ≡ running_code self.now }
         ensures short { length result.now < 65536 }
@@ -54,6 +52,7 @@ impl Processor {
 
     /// Where the data of the running module begins.
     #[inline(always)]
+    #[tactic(auto, using(crate::proofs::Steps::kept_base))]
     pub(super) fn data_base(&self) -> u16
         ensures { result ≡ running_base self.now }
     {
@@ -67,6 +66,15 @@ impl Processor {
         ensures within { OnSome result (at < 65535) }
     {
         self.running_code().get(at).copied()
+    }
+
+    /// A byte of the running module's code, as a word.
+    #[inline(always)]
+    fn short(&self, at: usize) -> Option<u16>
+        ensures value { result ≡ slice_get (running_code self.now) at }
+        ensures within { OnSome result (at < 65535) }
+    {
+        Some(u16::from(self.byte(at)?))
     }
 
     /// A word of the running module's code.
@@ -142,19 +150,6 @@ impl Processor {
         ensures { performed self.old (current self.old) (row first (running_code self.old) place) ≡ (result, self.new) }
     {
         match first {
-            0x7e..=0xff => Event::BadCode,
-            0x7b..=0x7c => Event::BadCode,
-            0x6b..=0x6f => Event::BadCode,
-            0x69 => Event::BadCode,
-            0x60 => Event::BadCode,
-            0x62..=0x64 => Event::BadCode,
-            0x66..=0x67 => Event::BadCode,
-            0x4c..=0x4f => Event::BadCode,
-            0x3c..=0x3f => Event::BadCode,
-            0x2e..=0x2f => Event::BadCode,
-            0x28..=0x2b => Event::BadCode,
-            0x06..=0x0f => Event::BadCode,
-            0x00 => Event::BadCode,
             0x01 => {
                 let Some(w) = self.word(place + 1) else {
                     return Event::BadCode;
@@ -162,10 +157,10 @@ impl Processor {
                 self.push(w, (place + 3) as u16)
             }
             0x02 => {
-                let Some(b) = self.byte(place + 1) else {
+                let Some(b) = self.short(place + 1) else {
                     return Event::BadCode;
                 };
-                self.push(u16::from(b), (place + 2) as u16)
+                self.push(b, (place + 2) as u16)
             }
             0x03 => self.double((place + 1) as u16),
             0x04 => self.drop_word((place + 1) as u16),
@@ -175,76 +170,61 @@ impl Processor {
                 let Some(w) = self.word(place + 1) else {
                     return Event::BadCode;
                 };
-                self.load(u32::from(self.frame) + u32::from(w), (place + 3) as u16)
+                self.load(self.frame, w, (place + 3) as u16)
             }
             0x21 => {
-                let Some(b) = self.byte(place + 1) else {
+                let Some(b) = self.short(place + 1) else {
                     return Event::BadCode;
                 };
-                self.load(u32::from(self.frame) + u32::from(b), (place + 2) as u16)
+                self.load(self.frame, b, (place + 2) as u16)
             }
             0x22 => {
                 let Some(w) = self.word(place + 1) else {
                     return Event::BadCode;
                 };
-                self.store(u32::from(self.frame) + u32::from(w), (place + 3) as u16)
+                self.store(self.frame, w, (place + 3) as u16)
             }
             0x23 => {
-                let Some(b) = self.byte(place + 1) else {
+                let Some(b) = self.short(place + 1) else {
                     return Event::BadCode;
                 };
-                self.store(u32::from(self.frame) + u32::from(b), (place + 2) as u16)
+                self.store(self.frame, b, (place + 2) as u16)
             }
             0x24 => {
                 let Some(w) = self.word(place + 1) else {
                     return Event::BadCode;
                 };
-                self.load(
-                    u32::from(self.data_base()) + u32::from(w),
-                    (place + 3) as u16,
-                )
+                self.load(self.data_base(), w, (place + 3) as u16)
             }
             0x25 => {
-                let Some(b) = self.byte(place + 1) else {
+                let Some(b) = self.short(place + 1) else {
                     return Event::BadCode;
                 };
-                self.load(
-                    u32::from(self.data_base()) + u32::from(b),
-                    (place + 2) as u16,
-                )
+                self.load(self.data_base(), b, (place + 2) as u16)
             }
             0x26 => {
                 let Some(w) = self.word(place + 1) else {
                     return Event::BadCode;
                 };
-                self.store(
-                    u32::from(self.data_base()) + u32::from(w),
-                    (place + 3) as u16,
-                )
+                self.store(self.data_base(), w, (place + 3) as u16)
             }
             0x27 => {
-                let Some(b) = self.byte(place + 1) else {
+                let Some(b) = self.short(place + 1) else {
                     return Event::BadCode;
                 };
-                self.store(
-                    u32::from(self.data_base()) + u32::from(b),
-                    (place + 2) as u16,
-                )
+                self.store(self.data_base(), b, (place + 2) as u16)
             }
             0x2c => {
                 let Some(w) = self.word(place + 1) else {
                     return Event::BadCode;
                 };
-                self.push_address(u32::from(self.frame) + u32::from(w), (place + 3) as u16)
+                self.push_address(self.frame, w, (place + 3) as u16)
             }
             0x2d => {
                 let Some(w) = self.word(place + 1) else {
                     return Event::BadCode;
                 };
-                self.push_address(
-                    u32::from(self.data_base()) + u32::from(w),
-                    (place + 3) as u16,
-                )
+                self.push_address(self.data_base(), w, (place + 3) as u16)
             }
             0x30 => self.fetch(0, (place + 1) as u16),
             0x31 => self.put_word((place + 1) as u16),
@@ -316,8 +296,8 @@ impl Processor {
             0x53 => self.join(Joining::Apart, (place + 1) as u16),
             0x54 => self.compare(Comparison::Member, (place + 1) as u16),
             0x55 => self.add_range((place + 1) as u16),
-            0x56 => self.include((place + 1) as u16),
-            0x57 => self.exclude((place + 1) as u16),
+            0x56 => self.change_member(Joining::Union, (place + 1) as u16),
+            0x57 => self.change_member(Joining::Minus, (place + 1) as u16),
             0x58 => self.compare(Comparison::Within, (place + 1) as u16),
             0x59 => self.deny((place + 1) as u16),
             0x5a => self.compare(Comparison::Equal, (place + 1) as u16),
@@ -391,22 +371,13 @@ impl Processor {
                 let Some((offset, kind, to)) = self.loop_operands(place) else {
                     return Event::BadCode;
                 };
-                self.begin_loop(
-                    u32::from(self.frame) + u32::from(offset),
-                    kind,
-                    to,
-                    (place + 6) as u16,
-                )
+                self.begin_loop(offset, kind, to, (place + 6) as u16)
             }
             0x78 => {
-                let Some((low, high)) = self.two_words(place + 1) else {
+                let Some((offset, to)) = self.two_words(place + 1) else {
                     return Event::BadCode;
                 };
-                self.turn(
-                    u32::from(self.frame) + u32::from(low),
-                    high,
-                    (place + 5) as u16,
-                )
+                self.turn(offset, to, (place + 5) as u16)
             }
             0x79 => {
                 let Some(b) = self.byte(place + 1) else {
@@ -421,6 +392,19 @@ impl Processor {
                 };
                 self.request(b, (place + 2) as u16)
             }
+            0x00
+            | 0x06..=0x0f
+            | 0x28..=0x2b
+            | 0x2e..=0x2f
+            | 0x3c..=0x3f
+            | 0x4c..=0x4f
+            | 0x60
+            | 0x62..=0x64
+            | 0x66..=0x67
+            | 0x69
+            | 0x6b..=0x6f
+            | 0x7b..=0x7c
+            | 0x7e..=0xff => Event::BadCode,
         }
     }
 }

@@ -2,9 +2,7 @@
 
 ghost use Rattle.std.specs.Prelude.{◌≡◌, ◌+◌, ◌<◌, ◌≤◌, ◌∷◌, ◌++◌, length, vec_len, vec_capacity, IfSome, IfNone, None, Some, []};
 ghost use Rattle.std.specs.Option.{option_copied};
-ghost use Rattle.lil_mcode.specs.Calls.{IsRunning, names_of, code_used};
-ghost use Rattle.lil_mcode.specs.Kept.{with_loaded, with_first, is_better};
-ghost use Rattle.lil_mcode.specs.Table.{Module, module_at, first_entry};
+ghost use Rattle.lil_mcode.specs.{Calls.{IsRunning, names_of, code_used}, Kept.{with_loaded, with_first, is_better}, Table.{Module, module_at, first_entry}};
 ghost use Rattle.lil_frames.specs.Words.{spliced};
 
 use super::fetching::loaded;
@@ -14,6 +12,7 @@ use lil_base::{Bytes, Name};
 
 impl Processor {
     /// The procedure of a module that runs at a place.
+    #[tactic(auto, using(crate::proofs::Steps::lies_loaded, crate::proofs::Steps::not_loaded))]
     pub fn procedure_at(&self, number: u8, place: u16) -> u8
         ensures { (m : Module) → module_at self.now.modules number ≡ Some m → IsRunning m.procedures place result }
     {

@@ -2,8 +2,7 @@
 
 ghost use Rattle.std.specs.Prelude.{◌≡◌, ◌<◌, ◌≤◌, length, drop, Some};
 ghost use Rattle.lil_base.specs.Words.{Cardinal, Integer, negation, absolute};
-ghost use Rattle.lil_mcode.specs.Operators.{operator_of, comparison_of, settled};
-ghost use Rattle.lil_mcode.specs.Table.{sign_row, change_row, capital, denied, on_one, two_row, compare_row};
+ghost use Rattle.lil_mcode.specs.{Operators.{operator_of, comparison_of, settled}, Table.{sign_row, change_row, capital, denied, on_one, two_row, compare_row}};
 
 use super::Processor;
 use crate::arithmetic::{

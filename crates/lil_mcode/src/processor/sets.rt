@@ -1,13 +1,13 @@
 //! The rows of sets.
 
 ghost use Rattle.std.specs.Prelude.{◌≡◌, ◌≤◌, length, drop};
-ghost use Rattle.lil_mcode.specs.Table.{join_row, range_set_row, member_row, one_more, one_less, on_two, on_three};
-ghost use Rattle.lil_mcode.specs.Operators.{joined_by};
+ghost use Rattle.lil_base.specs.Sets.{span};
+ghost use Rattle.lil_mcode.specs.{Table.{join_row, range_set_row, member_row, on_two, on_three}, Operators.joined_by};
 
 use super::Processor;
 use crate::arithmetic::{Joining, joined, trap_of, truth_word};
 use crate::machine::Event;
-use lil_base::{set_minus, set_span, set_union};
+use lil_base::{set_span, set_union};
 
 impl Processor {
     pub(super) fn join(&mut self, joining: Joining, next: u16) -> Event
@@ -33,8 +33,10 @@ impl Processor {
         Event::Went
     }
 
-    pub(super) fn include(&mut self, next: u16) -> Event
-        ensures { on_two self.old self.old.stack (member_row one_more next self.old) ≡ (result, self.new) }
+    /// A number comes to a set of the store, or goes from it.
+    #[inline(always)]
+    pub(super) fn change_member(&mut self, joining: Joining, next: u16) -> Event
+        ensures { on_two self.old self.old.stack (member_row (λ t x. joined_by joining t (span x x)) next self.old) ≡ (result, self.new) }
     {
         let Some((address, number)) = self.two() else {
             return Event::BadCode;
@@ -43,21 +45,8 @@ impl Processor {
             return Event::BadCode;
         }
         let set = self.memory.word(address);
-        self.put(address, set_union(set, set_span(number, number)), next);
-        Event::Went
-    }
-
-    pub(super) fn exclude(&mut self, next: u16) -> Event
-        ensures { on_two self.old self.old.stack (member_row one_less next self.old) ≡ (result, self.new) }
-    {
-        let Some((address, number)) = self.two() else {
-            return Event::BadCode;
-        };
-        if number > 15 {
-            return Event::BadCode;
-        }
-        let set = self.memory.word(address);
-        self.put(address, set_minus(set, set_span(number, number)), next);
+        let set = joined(joining, set, set_span(number, number));
+        self.put(address, set, next);
         Event::Went
     }
 }

@@ -1,6 +1,6 @@
 //! The rows of the expression stack and of words of the store.
 
-ghost use Rattle.std.specs.Prelude.{◌≡◌, ◌<◌, ◌≤◌, ◌∷◌, length, drop, slice_get, None, Some, MatchOption};
+ghost use Rattle.std.specs.Prelude.{◌≡◌, ◌+◌, ◌<◌, ◌≤◌, ◌∷◌, length, drop, slice_get, None, Some, MatchOption};
 ghost use Rattle.lil_base.specs.Words.{Cardinal, Integer};
 ghost use Rattle.lil_mcode.specs.Table.{going, push_row, load_row, store_row, range_row, double_row, drop_row, swap_row, on_one, on_two};
 
@@ -21,9 +21,10 @@ impl Processor {
         Event::Went
     }
 
-    pub(super) fn load(&mut self, at: u32, next: u16) -> Event
-        ensures { load_row at next self.old ≡ (result, self.new) }
+    pub(super) fn load(&mut self, base: u16, offset: u16, next: u16) -> Event
+        ensures { load_row (base + offset) next self.old ≡ (result, self.new) }
     {
+        let at = u32::from(base) + u32::from(offset);
         if at >= 65536 {
             return Event::BadCode;
         }
@@ -31,9 +32,10 @@ impl Processor {
         self.push(word, next)
     }
 
-    pub(super) fn store(&mut self, at: u32, next: u16) -> Event
-        ensures { on_one self.old self.old.stack (store_row at next self.old) ≡ (result, self.new) }
+    pub(super) fn store(&mut self, base: u16, offset: u16, next: u16) -> Event
+        ensures { on_one self.old self.old.stack (store_row (base + offset) next self.old) ≡ (result, self.new) }
     {
+        let at = u32::from(base) + u32::from(offset);
         if at >= 65536 {
             return Event::BadCode;
         }

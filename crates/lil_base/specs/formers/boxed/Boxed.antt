@@ -12,13 +12,10 @@ use denote.HolePlaces.{Recodes, struct_places, laid, one_value}
 use denote.Hole.Fix.{over}
 use denote.Param.Weighed.{Weighed}
 use denote.Model.Placed.{view_places}
-use Rattle.std.specs.declared.boxed.Box.{Box}
+use Rattle.std.specs.{declared.{boxed.Box.Box, alloc.Global.Global}, contracts.impls.GlobalAllocator.TheImpl.ghosts}
 use Rattle.std.specs.contracts.boxed.Box as box
-use Rattle.std.specs.declared.alloc.Global.{Global}
 use Rattle.std.specs.contracts.alloc.Global as global
-use Rattle.std.specs.contracts.impls.GlobalAllocator.TheImpl.{ghosts}
-use Rattle.lil_base.specs.declared.boxed.Boxed.TheInside.{Inside}
-use Rattle.lil_base.specs.declared.boxed.Boxed.TheView.{view, invariant}
+use Rattle.lil_base.specs.declared.boxed.Boxed.{TheInside.Inside, TheView.{view, invariant}}
 use Rattle.lil_base.specs.contracts.boxed.Boxed as outside
 use Rattle.lil_base.specs.contracts.boxed.Boxed.TheInside as inside
 

@@ -11,11 +11,9 @@ use denote.Hole.Fix.{over}
 use denote.Param.Weighed.{Weighed, w_list}
 use denote.Model.Placed.{view_places}
 use Rattle.std.specs.formers.vec.Vec as vec
-use Rattle.std.specs.declared.alloc.Global.{Global}
+use Rattle.std.specs.{declared.alloc.Global.Global, contracts.impls.GlobalAllocator.TheImpl.ghosts}
 use Rattle.std.specs.contracts.alloc.Global as global
-use Rattle.std.specs.contracts.impls.GlobalAllocator.TheImpl.{ghosts}
-use Rattle.lil_base.specs.declared.items.Items.TheInside.{Inside}
-use Rattle.lil_base.specs.declared.items.Items.TheView.{view, invariant}
+use Rattle.lil_base.specs.declared.items.Items.{TheInside.Inside, TheView.{view, invariant}}
 use Rattle.lil_base.specs.contracts.items.Items as outside
 use Rattle.lil_base.specs.contracts.items.Items.TheInside as inside
 

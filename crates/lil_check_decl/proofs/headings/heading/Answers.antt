@@ -1,4 +1,4 @@
-use Rattle.lil_check_decl.proofs.Parts.{is_heading}
+use Rattle.lil_check_decl.proofs.Forms.{is_heading}
 use Rattle.lil_check_decl.proofs.headings.heading.Goals as goal
 
 pub returns-clause-said : goal.returns-clause-said

@@ -1,8 +1,6 @@
 use Rattle.std.proofs.Common.{length, Option, reverse}
-use Rattle.lil_report.specs.declared.report.Fault.{Fault}
-use Rattle.lil_report.specs.Told.{Said, walk}
-use Rattle.lil_check_type.specs.Made.{Made}
-use Rattle.lil_check_type.specs.Sorts.{array_step}
+use Rattle.lil_report.specs.{declared.report.Fault.Fault, Told.{Said, walk}}
+use Rattle.lil_check_type.specs.{Made.Made, Sorts.array_step}
 use Rattle.lil_check_type.proofs.sorts.arrays.Given as goal
 
 -- what the arrays that are left come to is what all come to

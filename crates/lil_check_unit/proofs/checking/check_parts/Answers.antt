@@ -1,7 +1,6 @@
 use Rattle.std.proofs.Common.{None, sym, ap, ◌∙◌}
 use Rattle.std.proofs.lemmas.Result.{IfOk-weaker}
-use Rattle.lil_report.specs.Least.{late_of, worse}
-use Rattle.lil_report.specs.Told.{tell}
+use Rattle.lil_report.specs.{Least.{late_of, worse}, Told.tell}
 use Rattle.lil_check_stmt.specs.Stmts.{bodies_mean}
 use Rattle.lil_check_unit.specs.Modules.{in_no_with}
 use Rattle.lil_check_unit.proofs.UnitFaults.{wrong_declarations, then_statements, late_is, stated_is}

@@ -1,16 +1,14 @@
-use Rattle.std.proofs.Common.{◌∙◌}
-use Rattle.std.proofs.lemmas.Result.{IfOk-weaker}
+use Rattle.std.proofs.Common.{sym, subst, ◌∙◌}
+use Rattle.std.proofs.lemmas.{Option.same_Some, Result.IfOk-weaker}
 use Rattle.lil_check_unit.specs.UnitLaws.{unit_speaks}
-use Rattle.lil_check_unit.proofs.ModuleSound.{module_sound, module_kept}
-use Rattle.lil_check_unit.proofs.Right.{made_there, unit_there}
-use Rattle.lil_check_unit.proofs.UnitFaults.{wrong_unit, module_is, then_last}
+use Rattle.lil_check_unit.proofs.{Kept.module_kept, Right.{made_there, unit_there}, UnitFaults.{wrong_unit, module_is, then_last}}
 use Rattle.lil_check_unit.proofs.modules.check_module.Goals as goal
-use Rattle.lil_resolved.specs.Views.{module_of as resolved_of}
+use Rattle.lil_resolved.specs.{Sound.IsSound, Views.module_of as resolved_of}
 
 pub with_data-requires : goal.with_data-requires
 with_data-requires c none =
     let of = c.in-Ok.ensures.right in
-    made_there c.args.u.now c.requires.residents of.0 of.1 of.2 of.3 none
+    let m = made_there c.args.u.now c.requires.residents of.0 of.1 of.2 of.3 none in (m.0, m.1)
 
 pub returns-in-Ok-clause-right : goal.returns-in-Ok-clause-right
 returns-in-Ok-clause-right c =
@@ -28,7 +26,7 @@ returns-in-Ok-clause-kept c = IfOk-weaker c.with_data.result _ _ (λ m made. mod
 pub returns-in-Ok-clause-sound : goal.returns-in-Ok-clause-sound
 returns-in-Ok-clause-sound c =
     let of = c.in-Ok.ensures.right in
-    IfOk-weaker c.with_data.result _ _ (λ m p. module_sound c.args.u.now c.args.interfaces.now (resolved_of m) (p.0 ∙ module_is c.args.u.now c.args.interfaces.now of.0 of.1)) c.with_data.ensures.right
+    IfOk-weaker c.with_data.result _ _ (λ m p. let made = made_there c.args.u.now c.requires.residents of.0 of.1 of.2 of.3 p.1 in subst IsSound (same_Some made.0 (resolved_of m) (sym made.1 ∙ sym p.0)) made.2) c.with_data.ensures.right
 
 pub returns-in-Ok-clause-wrong : goal.returns-in-Ok-clause-wrong
 returns-in-Ok-clause-wrong c f e =

@@ -1,8 +1,7 @@
 use Rattle.std.proofs.Common.{sym, ◌∙◌}
 use Rattle.std.proofs.lemmas.Result.{IfOk-weaker}
 use Rattle.lil_check_unit.specs.UnitLaws.{program_speaks}
-use Rattle.lil_check_unit.proofs.Right.{program_there}
-use Rattle.lil_check_unit.proofs.UnitFaults.{wrong_name, then_imports}
+use Rattle.lil_check_unit.proofs.{Right.program_there, UnitFaults.{wrong_name, then_imports}}
 use Rattle.lil_check_unit.proofs.programs.check_program.Goals as goal
 
 pub returns-in-Some-clause-wrong : goal.returns-in-Some-clause-wrong

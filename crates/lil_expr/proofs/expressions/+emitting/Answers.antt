@@ -1,22 +1,11 @@
 use Rattle.std.proofs.Common.{◌≡◌, List, ap, sym, ◌∙◌, subst, OnOk, Some, None}
 use Rattle.lil_base.specs.Words.{Integer}
-use Rattle.lil_resolved.specs.Kinds.{Kind, OfWhole}
-use Rattle.lil_resolved.specs.Resolved.{Expression, kind_of}
-use Rattle.lil_resolved.specs.Views.{base_view, kind_view, root_view, function_of, expression_of, selector_of, member_of, field_is, index_is, follow_is, one_is, chain_is, apply_is, set_is, single_is, span_is}
-use Rattle.lil_resolved.specs.declared.resolved.RExpr.{RExpr}
-use Rattle.lil_resolved.specs.declared.resolved.ROperation.{ROperation, out-ROperation}
-use Rattle.lil_resolved.specs.declared.resolved.RPlace.{out-RPlace}
-use Rattle.lil_resolved.specs.declared.resolved.RSelector.{RSelector}
-use Rattle.lil_resolved.specs.declared.resolved.RMember.{RMember}
+use Rattle.lil_resolved.specs.{Kinds.{Kind, OfWhole}, Resolved.{Expression, kind_of}, Views.{base_view, kind_view, root_view, function_of, expression_of, selector_of, member_of, field_is, index_is, follow_is, one_is, chain_is, apply_is, set_is, single_is, span_is}, declared.resolved.{RExpr.RExpr, ROperation.{ROperation, out-ROperation}, RPlace.out-RPlace}}
+use Rattle.lil_resolved.specs.declared.resolved.{RSelector.RSelector, RMember.RMember}
 use Rattle.lil_table.specs.Rows.{function_code}
-use Rattle.lil_labels.specs.Drafts.{DoingAll, Emits}
-use Rattle.lil_labels.specs.Emitting.{with_ok}
-use Rattle.lil_expr.specs.Accesses.{access_view}
-use Rattle.lil_expr.specs.Generating.{Value, JoiningAll, OperatingAll, aim_of}
-use Rattle.lil_expr.proofs.Forms.{one_emitted, chain_emitted, apply_emitted}
-use Rattle.lil_expr.proofs.Chains.{next_operation, short_operation, two_operation}
-use Rattle.lil_expr.proofs.Sets.{tested_emitted, single_joins, span_joins, next_member, set_emitted}
-use Rattle.lil_expr.proofs.Placing.{field_selected, element_selected, follow_selected, next_selector, all_selectors}
+use Rattle.lil_labels.specs.{Drafts.{DoingAll, Each, Emits}, Emitting.{with_ok, each_next}}
+use Rattle.lil_expr.specs.{Accesses.access_view, Generating.{Value, Joining, Operating, aim_of}}
+use Rattle.lil_expr.proofs.{Forms.{one_emitted, apply_emitted}, Chains.{chain_emitted, short_operation, two_operation}, Sets.{single_joins, span_joins, set_emitted}, Placing.{field_selected, element_selected, follow_selected, next_selector, all_selectors}}
 use Rattle.lil_expr.proofs.expressions.+emitting.Goals as goal
 
 pub emit_expression-returns-in_ok-emit_expression-in-One : goal.emit_expression-returns-in_ok-emit_expression-in-One
@@ -30,7 +19,7 @@ pub emit_expression-returns-in_ok-emit_expression-in-Chain : goal.emit_expressio
 emit_expression-returns-in_ok-emit_expression-in-Chain t c =
     let is = ap expression_of c.in-Chain.is ∙ chain_is c.in-Chain.first c.in-Chain.operations in
     let first = subst (λ (e : RExpr). Emits c.args.code.now c.emit_expression-in-Chain.new.code (Value (expression_of e))) c.get-in-Chain.ensures c.in_ok-emit_expression-in-Chain.ensures in
-    let rest = subst (λ (os : List ROperation). OnOk c.emit_operations.result (Emits c.emit_expression-in-Chain.new.code c.emit_operations.new.code (OperatingAll os))) c.as_slice.ensures c.emit_operations.ensures in
+    let rest = subst (λ (os : List ROperation). OnOk c.emit_operations.result (Emits c.emit_expression-in-Chain.new.code c.emit_operations.new.code (Each Operating os))) c.as_slice.ensures c.emit_operations.ensures in
     subst (λ (e : Expression). OnOk c.emit_operations.result (Emits c.args.code.now c.emit_operations.new.code (Value e))) (sym is)
     (with_ok c.emit_operations.result (chain_emitted (expression_of c.in-Chain.first) c.in-Chain.operations _ _ _ first) rest)
 
@@ -47,13 +36,13 @@ pub emit_expression-returns-in_ok-put-in-Set : goal.emit_expression-returns-in_o
 emit_expression-returns-in_ok-put-in-Set t c =
     let k = kind_view c.in-Set.kind in
     let is = ap expression_of c.in-Set.is ∙ set_is c.in-Set.kind c.in-Set.members in
-    let rest = subst (λ (ms : List RMember). OnOk c.emit_members.result (Emits c.put-in-Set.new.self c.emit_members.new.code (JoiningAll k ms))) c.as_slice-in-Set.ensures c.emit_members.ensures in
+    let rest = subst (λ (ms : List RMember). OnOk c.emit_members.result (Emits c.put-in-Set.new.self c.emit_members.new.code (Each (Joining k) ms))) c.as_slice-in-Set.ensures c.emit_members.ensures in
     subst (λ (e : Expression). OnOk c.emit_members.result (Emits c.args.code.now c.emit_members.new.code (Value e))) (sym is)
     (with_ok c.emit_members.result (set_emitted k c.in-Set.members _ _ _ c.in_ok-put-in-Set.ensures) rest)
 
 pub emit_members-loop-member-preserved : goal.emit_members-loop-member-preserved
 emit_members-loop-member-preserved t c =
-    next_member (kind_view c.args.kind) c.args.members.now c.loop-member.member-index c.member-item.result _ _ _ c.loop-member-test.true c.member-item.is c.loop-member.invariant c.in_ok-emit_member.ensures
+    each_next (Joining (kind_view c.args.kind)) c.args.members.now c.loop-member.member-index c.member-item.result _ _ _ c.loop-member-test.true c.member-item.is c.loop-member.invariant c.in_ok-emit_member.ensures
 
 pub emit_member-returns-in_ok-emit_tested-in-Single : goal.emit_member-returns-in_ok-emit_tested-in-Single
 emit_member-returns-in_ok-emit_tested-in-Single t c =
@@ -70,17 +59,12 @@ emit_member-returns-in_ok-emit_tested-in-Span-2 t c =
     c.in_ok-emit_tested-in-Span.ensures c.in_ok-emit_tested-in-Span-2.ensures)
     c.put.ensures
 
-pub emit_tested-returns : goal.emit_tested-returns
-emit_tested-returns t c =
-    with_ok c.emit_test.result
-    (tested_emitted (kind_view c.args.kind) (base_view c.base.result) (expression_of c.args.value.now) _ _ _ c.base.ensures c.in_ok-emit_expression.ensures) c.emit_test.ensures
-
 pub emit_operation-returns-in_ok-emit_expression-in-Some : goal.emit_operation-returns-in_ok-emit_expression-in-Some
 emit_operation-returns-in_ok-emit_expression-in-Some t c =
     let o = out-ROperation c.args.operation.now in
     let end = c.in_ok-end-in-Some in
     let jumps : aim_of o.operator ≡ Some c.in-Some.aim = sym c.jump_over.ensures ∙ c.in-Some.is in
-    short_operation c.args.operation.now c.in-Some.aim end.end _ _ _ _ _ jumps end.ensures.emits end.ensures.makes c.in_ok-jump-in-Some.ensures c.in_ok-emit_expression-in-Some.ensures c.here.ensures
+    short_operation c.args.operation.now c.in-Some.aim end.end _ _ _ _ _ jumps end.ensures.emits end.ensures.makes c.in_ok-jump-in-Some.ensures c.in_ok-emit_expression-in-Some.ensures c.here.ensures.ends
 
 pub emit_operation-returns-in_ok-emit_expression-in-None : goal.emit_operation-returns-in_ok-emit_expression-in-None
 emit_operation-returns-in_ok-emit_expression-in-None t c =
@@ -89,7 +73,7 @@ emit_operation-returns-in_ok-emit_expression-in-None t c =
 
 pub emit_operations-loop-operation-preserved : goal.emit_operations-loop-operation-preserved
 emit_operations-loop-operation-preserved t c =
-    next_operation c.args.operations.now c.loop-operation.operation-index c.operation-item.result _ _ _ c.loop-operation-test.true c.operation-item.is c.loop-operation.invariant c.in_ok-emit_operation.ensures
+    each_next Operating c.args.operations.now c.loop-operation.operation-index c.operation-item.result _ _ _ c.loop-operation-test.true c.operation-item.is c.loop-operation.invariant c.in_ok-emit_operation.ensures
 
 pub emit_place-loop-selector-preserved : goal.emit_place-loop-selector-preserved
 emit_place-loop-selector-preserved t c =

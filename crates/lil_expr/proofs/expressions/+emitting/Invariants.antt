@@ -1,18 +1,16 @@
 use Rattle.std.proofs.Common.{map, take}
-use Rattle.lil_resolved.specs.declared.resolved.RPlace.{out-RPlace}
-use Rattle.lil_resolved.specs.Views.{kind_view, root_view, selected, selector_of}
-use Rattle.lil_labels.specs.Drafts.{Emits}
-use Rattle.lil_expr.specs.Accesses.{access_view}
-use Rattle.lil_expr.specs.Generating.{Found, JoiningAll, OperatingAll}
+use Rattle.lil_resolved.specs.{declared.resolved.RPlace.out-RPlace, Views.{kind_view, root_view, selected, selector_of}}
+use Rattle.lil_labels.specs.Drafts.{Each, Emits}
+use Rattle.lil_expr.specs.{Accesses.access_view, Generating.{Found, Joining, Operating}}
 use Rattle.lil_expr.proofs.expressions.+emitting.Given as goal
 
 -- the code so far is that of the operations so far
 abbrev pub invariant-emit_operations-loop-operation : goal.invariant-emit_operations-loop-operation
-invariant-emit_operations-loop-operation l = Emits l.initial.code l.code (OperatingAll (take l.operation-index l.operations))
+invariant-emit_operations-loop-operation l = Emits l.initial.code l.code (Each Operating (take l.operation-index l.operations))
 
 -- the code so far is that of the members so far
 abbrev pub invariant-emit_members-loop-member : goal.invariant-emit_members-loop-member
-invariant-emit_members-loop-member l = Emits l.initial.code l.code (JoiningAll (kind_view l.kind) (take l.member-index l.members))
+invariant-emit_members-loop-member l = Emits l.initial.code l.code (Each (Joining (kind_view l.kind)) (take l.member-index l.members))
 
 -- the code so far is that of the root with the selectors so far
 abbrev pub invariant-emit_place-loop-selector : goal.invariant-emit_place-loop-selector

@@ -1,6 +1,5 @@
 use Rattle.std.proofs.Common.{sym, subst}
-use Rattle.lil_resolved.specs.declared.resolved.RRoot.{RRoot}
-use Rattle.lil_resolved.specs.Views.{root_view}
+use Rattle.lil_resolved.specs.{declared.resolved.RRoot.RRoot, Views.root_view}
 use Rattle.lil_table.specs.Rows.{InData, OnTop}
 use Rattle.lil_labels.specs.Drafts.{Emits}
 use Rattle.lil_expr.specs.Generating.{Found}

@@ -1,6 +1,5 @@
 use Rattle.std.proofs.Common.{◌≡◌, ◌-◌, length, take, drop, ap, ◌∙◌, arith, length-take, length-drop}
-use Rattle.lil_frames.specs.Words.{zeros}
-use Rattle.lil_frames.specs.WordLaws.{length-zeros, put_mid-spliced}
+use Rattle.lil_frames.specs.{Words.zeros, WordLaws.{length-zeros, put_mid-spliced}}
 use Rattle.lil_frames.proofs.words.clear.Goals as goal
 
 pub returns : goal.returns

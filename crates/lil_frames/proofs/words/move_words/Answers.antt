@@ -1,7 +1,6 @@
 use Rattle.std.proofs.Common.{◌≡◌, ℕ, ◌+◌, ◌-◌, List, ◌++◌, length, take, drop, sym, ap, ◌∙◌, arith, length-drop, append_assoc}
 use Rattle.std.proofs.lemmas.List.{length-take-le}
-use Rattle.lil_frames.specs.Words.{spliced, zeros, cleared}
-use Rattle.lil_frames.specs.WordLaws.{spliced_on}
+use Rattle.lil_frames.specs.{Words.{spliced, zeros, cleared}, WordLaws.spliced_on}
 use Rattle.lil_frames.proofs.words.move_words.Goals as goal
 
 pub returns : goal.returns

@@ -1,6 +1,5 @@
 use Rattle.std.proofs.Common.{◌≡◌, [], ◌∷◌, ◌++◌, ap, ◌∙◌, List}
-use Rattle.lil_interfaces.specs.declared.surface.Interface.{Interface}
-use Rattle.lil_interfaces.specs.Interfaces.{terminal, in_out, storage, system}
+use Rattle.lil_interfaces.specs.{declared.surface.Interface.Interface, Interfaces.{terminal, in_out, storage, system}}
 use Rattle.lil_interfaces.proofs.resident_modules.push_all.Goals as goal
 
 -- one more behind what stands there

@@ -1,6 +1,5 @@
 use Rattle.std.proofs.Common.{◌≡◌, ap, false, Bool, true, ◌&&◌, List, [], ◌∷◌, length, refl, sym, suc}
-use Rattle.lil_types.specs.Types.{Table}
-use Rattle.lil_types.specs.declared.table.Parameter.{Parameter}
+use Rattle.lil_types.specs.{Types.Table, declared.table.Parameter.Parameter}
 use Rattle.lil_kinds.specs.Kinds.{same_parameter, same_parameters}
 use Rattle.lil_kinds.proofs.relations.same_parameters.Goals as goal
 

@@ -1,8 +1,7 @@
 use Rattle.std.proofs.Common.{◌≢◌, Option, Some, sym, ◌∙◌, subst, arith}
 use Rattle.std.specs.Prelude.{slice_get}
 use Rattle.lil_resolved.specs.declared.shapes.RField.{RField}
-use Rattle.lil_labels.specs.Entries.{small_at}
-use Rattle.lil_labels.specs.Tables.{last_by}
+use Rattle.lil_labels.specs.{Entries.small_at, Tables.last_by}
 use Rattle.lil_labels.proofs.Sizes.{lesser_shape, last_words, all_plain}
 use Rattle.lil_labels.proofs.buffer.words_at.Goals as goal
 

@@ -1,6 +1,5 @@
 use Rattle.std.proofs.Common.{◌≡◌, ◌+◌, []}
-use Rattle.lil_resolved.specs.Kinds.{words, shape_at}
-use Rattle.lil_resolved.specs.Views.{AreMeasured, shapes_of}
+use Rattle.lil_resolved.specs.{Kinds.{words, shape_at}, Views.{AreMeasured, shapes_of}}
 use Rattle.lil_labels.proofs.buffer.words_at.Given as goal
 
 -- the words so far and those of the shape that is reached are all words

@@ -1,7 +1,6 @@
 use Rattle.lil_syntax.specs.Syntax.{reads}
-use Rattle.lil_language.specs.Grammar.{expr, reading}
+use Rattle.lil_language.specs.{Grammar.{expr, reading}, Sound.expr_decided}
 use Rattle.lil_language.specs.Laws as laws
-use Rattle.lil_language.specs.Sound.{expr_decided}
 use Rattle.lil_read_stmt.proofs.cursor.read_expression.Goals as goal
 
 pub returns-clause-found : goal.returns-clause-found

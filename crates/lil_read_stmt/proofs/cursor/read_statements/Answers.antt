@@ -1,6 +1,5 @@
-use Rattle.lil_language.specs.Grammar.{statements}
+use Rattle.lil_language.specs.{Grammar.statements, Sound.statements_decided}
 use Rattle.lil_language.specs.Laws as laws
-use Rattle.lil_language.specs.Sound.{statements_decided}
 use Rattle.lil_read_stmt.proofs.cursor.read_statements.Goals as goal
 
 pub returns-clause-found : goal.returns-clause-found

@@ -1,8 +1,7 @@
 use Rattle.std.proofs.Common.{◌≡◌, ◌⊎◌, ◌-◌, Ok, Err, IfOk, subst, sym, ap, ◌∙◌}
 use Rattle.lil_text.specs.declared.stop.ReadStop.TheVariants.{Fault, Memory}
 use Rattle.lil_grammar.specs.Steps.{Reads}
-use Rattle.lil_language.specs.Grammar.{reading, text}
-use Rattle.lil_language.specs.Units.{deepest, token_count, IsRightUnit}
+use Rattle.lil_language.specs.{Grammar.{reading, text}, Units.{deepest, token_count, IsRightUnit}}
 use Rattle.lil_read_unit.proofs.Answering as by
 use Rattle.lil_read_unit.proofs.reading.unit.Goals as goal
 

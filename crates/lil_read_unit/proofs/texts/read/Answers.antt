@@ -1,6 +1,5 @@
 use Rattle.std.proofs.Common.{inr}
-use Rattle.lil_read_unit.proofs.Counting.{tokens_few}
-use Rattle.lil_read_unit.proofs.Wholes.{one_unit, apart_unit, whole_unit, fault_at}
+use Rattle.lil_read_unit.proofs.{Counting.tokens_few, Wholes.{one_unit, apart_unit, whole_unit, fault_at}}
 use Rattle.lil_read_unit.proofs.texts.read.Goals as goal
 
 pub returns-in_err-found-clause-one : goal.returns-in_err-found-clause-one

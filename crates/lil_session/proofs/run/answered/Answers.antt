@@ -1,10 +1,7 @@
 use Rattle.std.proofs.Common.{refl, ap}
-use Rattle.lil_mcode.specs.declared.machine.Event.TheVariants.{Went, Request, LevelEnded, Trap, Limit, BadCode}
-use Rattle.lil_mcode.specs.Calls.{Machine}
+use Rattle.lil_mcode.specs.{declared.machine.Event.TheVariants.{Went, Request, LevelEnded, Trap, Limit, BadCode}, Calls.Machine, Requests.request_has}
 use Rattle.lil_match.specs.Running.{Running, Finished, TrappedBy, Limited, Broken}
-use Rattle.lil_session.proofs.Advancing.{step_quiet, step_left, step_writes, step_refused, as_event}
-use Rattle.lil_mcode.specs.Requests.{request_has}
-use Rattle.lil_session.proofs.Turns.{on_err}
+use Rattle.lil_session.proofs.{Advancing.{step_quiet, step_left, step_writes, step_refused, as_event}, Turns.on_err}
 use Rattle.lil_session.proofs.run.answered.Goals as goal
 
 pub serve-requires : goal.serve-requires

@@ -1,10 +1,7 @@
 use Rattle.std.proofs.Common.{◌≡◌, ◌≢◌, ℕ, ◌+◌, ◌-◌, Option, Some, None, Ok, refl, sym, ap, subst, ◌∙◌, arith}
-use Rattle.lil_mcode.specs.Table.{State}
-use Rattle.lil_mcode.specs.Calls.{Machine}
-use Rattle.lil_mcode.specs.Stops.{IsStop, stop_stays}
-use Rattle.lil_session.specs.declared.run.Ending.{Ending}
+use Rattle.lil_mcode.specs.{Table.State, Calls.Machine, Stops.{IsStop, stop_stays}}
+use Rattle.lil_session.specs.{declared.run.Ending.Ending, Running.finish_of}
 use Rattle.lil_session.specs.declared.run.Ending.TheVariants as ending
-use Rattle.lil_session.specs.Running.{finish_of}
 use Rattle.lil_session.proofs.Turns.{Come, on_err, come_first, come_next, come_gone, run_ends, run_spent, run_cut, ending_over, ap_some, step_as, step_goes, is_none}
 use Rattle.lil_session.proofs.run.run_machine.Goals as goal
 

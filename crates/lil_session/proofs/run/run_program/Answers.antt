@@ -1,18 +1,12 @@
 use Rattle.std.proofs.Common.{◌≡◌, inl, ℕ, List, Option, [], refl, ap, ◌∙◌, subst}
-use Rattle.lil_resolved.specs.Views.{module_of}
+use Rattle.lil_resolved.specs.{Views.module_of, Resolved.Resolved, Sizes.{IsSmall, module_strings}}
 use Rattle.lil_meaning.specs.World.{World}
-use Rattle.lil_resolved.specs.Resolved.{Resolved}
-use Rattle.lil_resolved.specs.Sizes.{IsSmall, module_strings}
 use Rattle.lil_table.specs.Rows.{Translates}
 use Rattle.lil_match.specs.Running.{Finish}
-use Rattle.lil_mcode.specs.Table.{State}
-use Rattle.lil_mcode.specs.Calls.{Machine}
-use Rattle.lil_session.specs.declared.status.Status.TheVariants.{Memory}
-use Rattle.lil_session.specs.Running.{IsCut, HasRun, finish_of}
-use Rattle.lil_laws.specs.Loading.{loaded}
-use Rattle.lil_session.proofs.Doing.{shows_none}
-use Rattle.lil_laws.specs.Alone.{begins, loaded_state}
-use Rattle.lil_session.proofs.Endings.{possible, shows_end, means_end, kind_end, blames_end, shows_cut}
+use Rattle.lil_mcode.specs.{Table.State, Calls.Machine}
+use Rattle.lil_session.specs.{declared.status.Status.TheVariants.Memory, Running.{IsCut, HasRun, finish_of}}
+use Rattle.lil_laws.specs.{Loading.loaded, Alone.{begins, loaded_state}}
+use Rattle.lil_session.proofs.{Doing.shows_none, Endings.{possible, shows_end, means_end, kind_end, blames_end, shows_cut}}
 use Rattle.lil_session.proofs.run.run_program.Goals as goal
 
 -- the machine that was loaded stands where the program begins

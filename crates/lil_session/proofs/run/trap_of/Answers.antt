@@ -1,7 +1,6 @@
 use Rattle.std.proofs.Common.{◌≡◌, ℕ, Option, Some, None, sym, ap, ◌∙◌, List}
 use Rattle.std.specs.Prelude.{slice_get, option_and_then}
-use Rattle.lil_mcode.specs.Table.{Module}
-use Rattle.lil_mcode.specs.Calls.{names_of}
+use Rattle.lil_mcode.specs.{Table.Module, Calls.names_of}
 use Rattle.lil_session.proofs.Declared.{runs_there}
 use Rattle.lil_session.proofs.run.trap_of.Goals as goal
 

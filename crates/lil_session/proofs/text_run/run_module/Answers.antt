@@ -1,7 +1,6 @@
 use Rattle.std.proofs.Common.{sym, subst}
 use Rattle.lil_resolved.specs.Views.{module_of}
-use Rattle.lil_session.specs.Answered.{Carried}
-use Rattle.lil_session.specs.Outcome.{coded}
+use Rattle.lil_session.specs.{Answered.Carried, Outcome.coded}
 use Rattle.lil_session.proofs.Faulty.{carried_ungenerated, coded_short}
 use Rattle.lil_session.proofs.text_run.run_module.Goals as goal
 

@@ -1,7 +1,5 @@
 use Rattle.std.proofs.Common.{inl, refl, arith}
-use Rattle.lil_session.specs.declared.status.Status.TheVariants.{Memory}
-use Rattle.lil_session.specs.Words.{name_of_word}
-use Rattle.lil_session.specs.Outcome.{devices}
+use Rattle.lil_session.specs.{declared.status.Status.TheVariants.Memory, Words.name_of_word, Outcome.devices}
 use Rattle.lil_session.proofs.Doing.{ran_not}
 use Rattle.lil_session.proofs.text_run.run_once.Goals as goal
 

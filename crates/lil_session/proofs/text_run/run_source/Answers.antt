@@ -1,7 +1,5 @@
 use Rattle.std.proofs.Common.{inl, inr, Some, refl}
-use Rattle.lil_session.specs.declared.status.Status.TheVariants.{Memory, VolumeFault}
-use Rattle.lil_session.specs.Words.{mod_file}
-use Rattle.lil_session.specs.Outcome.{devices}
+use Rattle.lil_session.specs.{declared.status.Status.TheVariants.{Memory, VolumeFault}, Words.mod_file, Outcome.devices}
 use Rattle.lil_session.proofs.Doing.{ran_not, source_ran, file_read, failed_rises, quiet_of}
 use Rattle.lil_session.proofs.text_run.run_source.Goals as goal
 

@@ -1,12 +1,10 @@
 use Rattle.std.proofs.Common.{◌≡◌, ◌⊎◌, List, ℕ, Result, Ok, Err, IfOk, subst, sym, ap, ◌∙◌, inl, inr}
-use Rattle.lil_text.specs.declared.stop.ReadStop.{ReadStop}
-use Rattle.lil_text.specs.declared.stop.ReadStop.TheVariants.{Fault, Memory}
+use Rattle.lil_text.specs.declared.stop.ReadStop.{ReadStop, TheVariants.{Fault, Memory}}
 use Rattle.lil_base.specs.declared.fault.SourceFault.{SourceFault}
-use Rattle.lil_language.specs.Units.{Reads}
+use Rattle.lil_language.specs.{Units.Reads, declared.unit.Unit.Unit as Tree}
 use Rattle.lil_session.specs.Answered.{TextRan}
 use Rattle.lil_session.proofs.Faulty.{text_stopped, text_carried}
 use Rattle.lil_session.proofs.text_run.run_text.Goals as goal
-use Rattle.lil_language.specs.declared.unit.Unit.{Unit as Tree}
 
 refused_same : {e : ReadStop} {g : SourceFault} → (r : Result Tree ReadStop) → r ≡ Err e → (r ≡ Err (Fault g)) ⊎ (r ≡ Err Memory) → (e ≡ Fault g) ⊎ (e ≡ Memory)
 refused_same {e} {g} r is (inl h) = let same : e ≡ Fault g = cc in inl same

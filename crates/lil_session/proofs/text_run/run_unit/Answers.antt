@@ -1,6 +1,5 @@
 use Rattle.std.proofs.Common.{Err, subst, sym, ap, ◌∙◌}
-use Rattle.lil_session.specs.Answered.{Carried}
-use Rattle.lil_session.specs.Outcome.{says}
+use Rattle.lil_session.specs.{Answered.Carried, Outcome.says}
 use Rattle.lil_session.proofs.Faulty.{carried_stopped, carried_checked}
 use Rattle.lil_session.proofs.text_run.run_unit.Goals as goal
 

@@ -1,10 +1,8 @@
 use Rattle.std.proofs.Common.{◌≡◌, None, slice_get, refl, sym, ap, rules}
 use Rattle.std.specs.Option.{option_map}
 use Rattle.lil_resolved.specs.Kinds.{words}
-use Rattle.lil_shapes.specs.Measured.{shapes_in}
-use Rattle.lil_shapes.specs.Shaping.{within, there, lying}
+use Rattle.lil_shapes.specs.{Measured.shapes_in, Shaping.{within, there, lying}, ListLaws.none_at}
 use Rattle.lil_shapes.proofs.LayLaws.{lying_none, variable_over, variable_laid}
-use Rattle.lil_shapes.specs.ListLaws.{none_at}
 use Rattle.lil_shapes.proofs.laying.lay.Goals as goal
 
 pub returns-in_default : goal.returns-in_default

@@ -1,6 +1,5 @@
 use Rattle.std.proofs.Common.{◌≡◌, Some}
-use Rattle.lil_shapes.specs.Measured.{shapes_in, IsShaped}
-use Rattle.lil_shapes.specs.Shaping.{shapes_below}
+use Rattle.lil_shapes.specs.{Measured.{shapes_in, IsShaped}, Shaping.shapes_below}
 use Rattle.lil_shapes.proofs.shapes.all_shapes.Given as goal
 
 abbrev pub invariant-loop-number : goal.invariant-loop-number

@@ -3,9 +3,7 @@ use Rattle.std.specs.Option.{option_map}
 use Rattle.std.proofs.lemmas.List.{take_all}
 use Rattle.lil_resolved.specs.Kinds.{words, fields_of}
 use Rattle.lil_resolved.specs.declared.shapes.RShape.TheVariants as r
-use Rattle.lil_shapes.specs.Measured.{shapes_in}
-use Rattle.lil_shapes.specs.Shaping.{within, field_shape}
-use Rattle.lil_shapes.specs.ListLaws.{none_at}
+use Rattle.lil_shapes.specs.{Measured.shapes_in, Shaping.{within, field_shape}, ListLaws.none_at}
 use Rattle.lil_shapes.proofs.ShapeLaws.{AreFound, part_none, field_over, field_found, fields_made}
 use Rattle.lil_shapes.proofs.shapes.fields.Goals as goal
 

@@ -1,6 +1,6 @@
 use Rattle.std.proofs.Common.{take}
-use Rattle.lil_labels.specs.Drafts.{Emits}
-use Rattle.lil_stmt.specs.Generating.{Each, LabelEntry}
+use Rattle.lil_labels.specs.Drafts.{Each, Emits}
+use Rattle.lil_stmt.specs.Generating.{LabelEntry}
 use Rattle.lil_stmt.proofs.cases.emit_labels.Given as goal
 
 abbrev pub invariant-loop-label : goal.invariant-loop-label

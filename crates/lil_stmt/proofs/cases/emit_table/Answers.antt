@@ -1,8 +1,8 @@
 use Rattle.std.proofs.Common.{◌+◌, List, take, get_or, subst, arith}
 use Rattle.std.proofs.lemmas.List.{take_more, length-take-le}
 use Rattle.lil_resolved.specs.declared.resolved.RLabel.{RLabel}
-use Rattle.lil_labels.specs.Drafts.{Emits}
-use Rattle.lil_stmt.specs.Generating.{Each, LabelEntry, ArmLabels}
+use Rattle.lil_labels.specs.Drafts.{Each, Emits}
+use Rattle.lil_stmt.specs.Generating.{LabelEntry, ArmLabels}
 use Rattle.lil_stmt.proofs.Stating.{next_arm_emitted}
 use Rattle.lil_stmt.proofs.cases.emit_table.Goals as goal
 

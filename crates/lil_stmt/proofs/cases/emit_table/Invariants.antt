@@ -1,6 +1,6 @@
 use Rattle.std.proofs.Common.{take}
-use Rattle.lil_labels.specs.Drafts.{Emits}
-use Rattle.lil_stmt.specs.Generating.{Each, ArmLabels, paired}
+use Rattle.lil_labels.specs.Drafts.{Each, Emits}
+use Rattle.lil_stmt.specs.Generating.{ArmLabels, paired}
 use Rattle.lil_stmt.proofs.cases.emit_table.Given as goal
 
 abbrev pub invariant-loop-i : goal.invariant-loop-i

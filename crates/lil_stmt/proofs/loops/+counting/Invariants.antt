@@ -1,6 +1,5 @@
 use Rattle.std.proofs.Common.{◌≡◌, ◌+◌, ◌%◌, [], None, drop}
-use Rattle.lil_resolved.specs.Sizes.{body_words, arms_words}
-use Rattle.lil_resolved.specs.Views.{statements_of, guards_of, arms_of}
+use Rattle.lil_resolved.specs.{Sizes.{body_words, arms_words}, Views.{statements_of, guards_of, arms_of}}
 use Rattle.lil_stmt.proofs.loops.+counting.Given as goal
 
 -- the words so far and those of what is left are those of the whole, cut to 16 bits

@@ -1,9 +1,6 @@
 use Rattle.std.proofs.Common.{List, ℕ, length, sym, ap, subst, ◌∙◌, arith, OnOk}
-use Rattle.lil_resolved.specs.declared.resolved.RArgument.{RArgument}
-use Rattle.lil_resolved.specs.Views.{argument_of}
-use Rattle.lil_resolved.specs.Sizes.{words_of, argument_strings}
-use Rattle.lil_labels.specs.Drafts.{Adds, Saying}
-use Rattle.lil_labels.specs.Emitting.{with_ok}
+use Rattle.lil_resolved.specs.{declared.resolved.RArgument.RArgument, Views.argument_of, Sizes.{words_of, argument_strings}}
+use Rattle.lil_labels.specs.{Drafts.{Adds, Saying}, Emitting.with_ok}
 use Rattle.lil_stmt.specs.Generating.{Argued}
 use Rattle.lil_stmt.proofs.Texts.{text_argued}
 use Rattle.lil_stmt.proofs.simple.emit_argument.Goals as goal

@@ -1,9 +1,6 @@
 use Rattle.std.proofs.Common.{List, ℕ, ◌%◌, ap, subst, arith}
-use Rattle.lil_resolved.specs.declared.shapes.RElements.{RElements}
-use Rattle.lil_resolved.specs.Views.{place_of}
-use Rattle.lil_resolved.specs.Sizes.{words_of}
-use Rattle.lil_labels.specs.Drafts.{Adds, Saying}
-use Rattle.lil_labels.specs.Emitting.{with_ok}
+use Rattle.lil_resolved.specs.{declared.shapes.RElements.RElements, Views.place_of, Sizes.words_of}
+use Rattle.lil_labels.specs.{Drafts.{Adds, Saying}, Emitting.with_ok}
 use Rattle.lil_stmt.proofs.Texts.{text_emitted}
 use Rattle.lil_stmt.proofs.simple.emit_text.Goals as goal
 

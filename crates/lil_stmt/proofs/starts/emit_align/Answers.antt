@@ -1,9 +1,7 @@
 use Rattle.std.proofs.Common.{rules, w16, sym, ap, ◌∙◌}
 use mir.Val.{SFits}
 use Rattle.std.proofs.lemmas.Int.{to_z-of_z}
-use Rattle.lil_resolved.specs.Kinds.{base_of, compared_as, covers, outside_turns}
-use Rattle.lil_resolved.specs.Resolved.{kind_of}
-use Rattle.lil_resolved.specs.Views.{kind_view, expression_of}
+use Rattle.lil_resolved.specs.{Kinds.{base_of, compared_as, covers, outside_turns}, Resolved.kind_of, Views.{kind_view, expression_of}}
 use Rattle.lil_labels.specs.Emitting.{with_ok}
 use Rattle.lil_stmt.proofs.Starting.{trap_emitted}
 use Rattle.lil_stmt.proofs.starts.emit_align.Goals as goal

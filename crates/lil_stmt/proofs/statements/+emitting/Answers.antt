@@ -1,48 +1,39 @@
-use Rattle.std.proofs.Common.{rules, ℕ, ◌≡◌, take, ℤ, pos, negsuc, ◌≤ℤ◌, w16, List, [], ◌∷◌, length, length-append, Option, None, sym, ap, ◌∙◌, subst, arith}
+use Rattle.std.proofs.Common.{rules, ℕ, ◌≡◌, ℤ, pos, negsuc, ◌≤ℤ◌, w16, List, [], ◌∷◌, length, length-append, Option, sym, ap, ◌∙◌, subst, arith}
 use mir.Val.{SFits}
 use Rattle.std.specs.List.{flat_map}
-use Rattle.std.proofs.lemmas.List.{take_all}
 use Rattle.std.proofs.lemmas.Int.{to_z-of_z}
 use Rattle.lil_base.specs.Words.{word_of}
-use Rattle.lil_resolved.specs.declared.resolved.RStmt.{RStmt}
-use Rattle.lil_resolved.specs.declared.resolved.RArm.{RArm}
-use Rattle.lil_resolved.specs.declared.resolved.RGuard.{RGuard}
-use Rattle.lil_resolved.specs.declared.shapes.RField.{RField}
-use Rattle.lil_resolved.specs.Kinds.{base_of, compared_as, covers, outside_turns}
-use Rattle.lil_resolved.specs.Resolved.{While, Repeat, Loop, For, Inside, Statements, Empty, Then, kind_of}
-use Rattle.lil_resolved.specs.Views.{kind_view, variable_kind, expression_of, place_of, statement_of, statements_of, guards_of, else_of, arms_of, if_is, while_is, repeat_is, loop_is, for_is, inside_is}
-use Rattle.lil_resolved.specs.Sizes.{body_strings, arms_strings}
-use Rattle.lil_labels.specs.Drafts.{Draft, Adds, Emits}
-use Rattle.lil_labels.specs.Emitting.{with_ok, adds_as}
+use Rattle.lil_resolved.specs.{declared.{resolved.{RStmt.RStmt, RArm.RArm, RGuard.RGuard}, shapes.RField.RField}, Kinds.{base_of, compared_as, covers, outside_turns}, Resolved.{For, Statements, Empty, Then, kind_of}}
+use Rattle.lil_resolved.specs.{Views.{kind_view, variable_kind, expression_of, place_of, statement_of, statements_of, else_of, if_is, while_is, repeat_is, loop_is, for_is, inside_is}, Sizes.{body_strings, arms_strings}}
+use Rattle.lil_labels.specs.{Drafts.{Draft, Each, Adds, Emits}, Emitting.{with_ok, adds_as}}
 use Rattle.lil_expr.specs.Numbers.{number_word}
-use Rattle.lil_stmt.specs.Generating.{Body, Each, paired, ArmPart, ArmBody, ElsePart, ChoiceOf, Aligning, Turning, nothing_before, guards_before}
-use Rattle.lil_stmt.proofs.Stating.{one_emitted, next_emitted, all_emitted, all_guards_emitted, while_emitted, repeat_emitted, loop_emitted, guard_emitted, if_emitted, for_emitted, with_emitted, next_arm_emitted, case_emitted}
-use Rattle.lil_stmt.proofs.Strings.{arm_part, parts_next, parts_all, arms_parts}
-use Rattle.lil_stmt.proofs.statements.+emitting.Goals as goal
+use Rattle.lil_stmt.specs.Generating.{Body, StatementPart, statement_part, GuardPart, guard_part, paired, ArmPart, ArmBody, arm_part, ElsePart, ChoiceOf, Aligning}
+use Rattle.lil_stmt.proofs.{Stating.{one_emitted, body_emitted, while_emitted, repeat_emitted, loop_emitted, guard_emitted, if_emitted, for_emitted, with_emitted, next_arm_emitted, case_emitted}, Strings.{parts_next, next_part}}
 use Rattle.lil_stmt.proofs.statements.+emitting.Goals.{emit_case-in-None+in_ok-other-in-None, emit_case-in-Some+in_ok-other-in-Some}
+use Rattle.lil_stmt.proofs.statements.+emitting.Goals as goal
 
 pub emit_body-loop-statement-preserved : goal.emit_body-loop-statement-preserved
 emit_body-loop-statement-preserved t c =
-    next_emitted c.args.around.words c.args.around.exit c.args.body.now c.loop-statement.statement-index c.statement-item.result _ _ _ _ c.loop-statement-test.true c.statement-item.is c.loop-statement.invariant c.in_ok-emit_statement.ensures
+    next_part (StatementPart c.args.around.words c.args.around.exit) statement_part c.args.body.now c.loop-statement.statement-index c.statement-item.result _ _ _ c.loop-statement-test.true c.statement-item.is c.loop-statement.invariant c.in_ok-emit_statement.ensures
 
 pub emit_body-returns : goal.emit_body-returns
-emit_body-returns t c = all_emitted c.args.around.words c.args.around.exit c.args.body.now c.loop-statement.statement-index _ _ _ c.loop-statement-test.false c.loop-statement.invariant
+emit_body-returns t c = body_emitted c.args.around.words c.args.around.exit c.args.body.now c.loop-statement.statement-index _ _ c.loop-statement-test.false c.loop-statement.invariant
 
-pub emit_guards-returns : goal.emit_guards-returns
-emit_guards-returns t c = all_guards_emitted c.args.around.words c.args.around.exit c.args.end c.args.guards.now c.loop-guard.guard-index _ _ _ c.loop-guard-test.false c.loop-guard.invariant
+pub emit_guards-loop-guard-preserved : goal.emit_guards-loop-guard-preserved
+emit_guards-loop-guard-preserved t c =
+    next_part (GuardPart c.args.around.words c.args.around.exit c.args.end) guard_part c.args.guards.now c.loop-guard.guard-index c.guard-item.result _ _ _ c.loop-guard-test.true c.guard-item.is c.loop-guard.invariant c.in_ok-emit_guard.ensures
 
 pub emit_guard-returns : goal.emit_guard-returns
 emit_guard-returns t c =
-    let body = subst (λ (ss : List RStmt). Adds (body_strings (statements_of ss)) c.jump.new.self c.emit_body.new.code (Body c.args.around.words c.args.around.exit (statements_of ss))) c.as_slice.ensures c.in_ok-emit_body.ensures in
     guard_emitted c.args.around.words c.args.around.exit c.args.guard.now c.args.end c.in_ok-other.other _ _ _ _ _ _ _
-    c.in_ok-emit_expression.ensures c.in_ok-other.ensures.emits c.in_ok-other.ensures.makes c.in_ok-jump.ensures body c.in_ok-jump-2.ensures
-    c.here.ensures
+    c.in_ok-emit_expression.ensures c.in_ok-other.ensures.emits c.in_ok-other.ensures.makes c.in_ok-jump.ensures (rw c.as_slice.ensures at c.in_ok-emit_body.ensures) c.in_ok-jump-2.ensures
+    c.here.ensures.ends
 
 pub emit_while-returns : goal.emit_while-returns
 emit_while-returns t c =
     while_emitted c.args.around.words c.args.around.exit (expression_of c.args.condition.now) (statements_of c.args.body.now) c.in_ok-again.again c.in_ok-end.end _ _ _ _ _ _ _ _
     c.in_ok-again.ensures c.in_ok-emit_expression.ensures c.in_ok-end.ensures.emits c.in_ok-end.ensures.makes c.in_ok-jump.ensures c.in_ok-emit_body.ensures c.in_ok-jump-2.ensures
-    c.here.ensures
+    c.here.ensures.ends
 
 pub emit_repeat-returns : goal.emit_repeat-returns
 emit_repeat-returns t c =
@@ -55,7 +46,7 @@ pub emit_loop-returns : goal.emit_loop-returns
 emit_loop-returns t c =
     loop_emitted c.args.around.words c.args.around.exit (statements_of c.args.body.now) c.in_ok-again.again c.in_ok-end.end _ _ _ _ _ _
     c.in_ok-again.ensures c.in_ok-end.ensures.emits c.in_ok-end.ensures.makes c.in_ok-emit_body.ensures c.in_ok-jump.ensures
-    c.here.ensures
+    c.here.ensures.ends
 
 pub emit_for-returns : goal.emit_for-returns
 emit_for-returns t c =
@@ -72,7 +63,7 @@ emit_for-returns t c =
     c.word_of_number.result c.loop_place-place.result c.loop_sign.result c.variable-lies.result.offset c.in_ok-end.end c.in_ok-turn.turn _ _ _ _ _ _ _ _ _ _ _ _ _ _ stepped c.loop_place-place.ensures c.loop_sign.ensures lies
     c.in_ok-emit_expression.ensures c.in_ok-emit_expression-2.ensures c.in_ok-end.ensures.emits c.in_ok-end.ensures.makes align c.in_ok-put.ensures c.in_ok-jump.ensures c.in_ok-turn.ensures
     c.in_ok-put-2.ensures c.in_ok-emit_turn_test.ensures c.in_ok-put-3.ensures c.in_ok-emit_body.ensures c.in_ok-jump-2.ensures
-    c.here.ensures
+    c.here.ensures.ends
 
 pub emit_with-returns : goal.emit_with-returns
 emit_with-returns t c =
@@ -90,41 +81,27 @@ emit_arms-loop-arm-preserved t c =
           c.loop-arm.invariant.many c.in_ok-push.ensures.items c.loop-arm.invariant.emits mine);
     }
 
-pub emit_arms-returns-clause-emits : goal.emit_arms-returns-clause-emits
-emit_arms-returns-clause-emits t c =
-    let arms = c.args.arms.now in
-    let i = c.loop-arm.arm-index in
-    let labels = c.loop-arm.labels.items in
-    let each = subst (λ (some : List RArm). Adds (flat_map arm_part (take i arms)) c.args.code.now c.loop-arm.code (Each (ArmBody c.args.around.words c.args.around.exit c.args.leave) (paired some labels))) (take_all i arms c.loop-arm-test.false) c.loop-arm.invariant.emits in
-    adds_as _ _ _ (parts_all arm_part arms i c.loop-arm-test.false ∙ arms_parts arms) each
-
 pub emit_statement-returns-in_ok-emit_body-in-If : goal.emit_statement-returns-in_ok-emit_body-in-If
 emit_statement-returns-in_ok-emit_body-in-If t c =
     let n = c.args.around.words in
     let exit = c.args.around.exit in
     let end = c.in_ok-end-in-If in
-    let guards = subst (λ (gs : List RGuard). Adds (body_strings (guards_of gs [])) c.fresh.new.self c.emit_guards.new.code (Turning n exit end.end nothing_before (guards_before gs))) c.as_slice.ensures c.in_ok-emit_guards-in-If.ensures in
+    let guards = subst (λ (gs : List RGuard). Adds (flat_map guard_part gs) c.fresh.new.self c.emit_guards.new.code (Each (GuardPart n exit end.end) gs)) c.as_slice.ensures c.in_ok-emit_guards-in-If.ensures in
     let otherwise = subst (λ (ss : List RStmt). Adds (body_strings (statements_of ss)) c.emit_guards.new.code c.emit_body.new.code (Body n exit (statements_of ss))) c.as_slice-in-If.ensures c.in_ok-emit_body-in-If.ensures in
     subst (λ (ss : Statements). Adds (body_strings ss) c.args.code.now c.here.new.self (Body n exit ss)) (sym (ap statement_of c.in-If.is ∙ if_is c.in-If.guards c.in-If.otherwise))
-    (if_emitted n exit c.in-If.guards c.in-If.otherwise end.end _ _ _ _ _ end.ensures.emits end.ensures.makes guards otherwise c.here.ensures)
+    (if_emitted n exit c.in-If.guards c.in-If.otherwise end.end _ _ _ _ _ end.ensures.emits end.ensures.makes guards otherwise c.here.ensures.ends)
 
 pub emit_statement-returns-in-While : goal.emit_statement-returns-in-While
 emit_statement-returns-in-While t c =
-    let w = c.in-While in
-    let is = ap statement_of w.is ∙ while_is w.condition w.body ∙ ap (λ (ss : List RStmt). Then (While (expression_of w.condition) (statements_of ss)) Empty) (sym c.as_slice-in-While.ensures) in
-    with_ok c.emit_while.result (one_emitted c.args.around.words c.args.around.exit _ _ _ _ is) c.emit_while.ensures
+    with_ok c.emit_while.result (one_emitted c.args.around.words c.args.around.exit _ _ _ _ (ap statement_of c.in-While.is ∙ while_is _ _)) (rw c.as_slice-in-While.ensures at c.emit_while.ensures)
 
 pub emit_statement-returns-in-Repeat : goal.emit_statement-returns-in-Repeat
 emit_statement-returns-in-Repeat t c =
-    let w = c.in-Repeat in
-    let is = ap statement_of w.is ∙ repeat_is w.body w.condition ∙ ap (λ (ss : List RStmt). Then (Repeat (statements_of ss) (expression_of w.condition)) Empty) (sym c.as_slice-in-Repeat.ensures) in
-    with_ok c.emit_repeat.result (one_emitted c.args.around.words c.args.around.exit _ _ _ _ is) c.emit_repeat.ensures
+    with_ok c.emit_repeat.result (one_emitted c.args.around.words c.args.around.exit _ _ _ _ (ap statement_of c.in-Repeat.is ∙ repeat_is _ _)) (rw c.as_slice-in-Repeat.ensures at c.emit_repeat.ensures)
 
 pub emit_statement-returns-in-Loop : goal.emit_statement-returns-in-Loop
 emit_statement-returns-in-Loop t c =
-    let w = c.in-Loop in
-    let is = ap statement_of w.is ∙ loop_is w.body ∙ ap (λ (ss : List RStmt). Then (Loop (statements_of ss)) Empty) (sym c.as_slice-in-Loop.ensures) in
-    with_ok c.emit_loop.result (one_emitted c.args.around.words c.args.around.exit _ _ _ _ is) c.emit_loop.ensures
+    with_ok c.emit_loop.result (one_emitted c.args.around.words c.args.around.exit _ _ _ _ (ap statement_of c.in-Loop.is ∙ loop_is _)) (rw c.as_slice-in-Loop.ensures at c.emit_loop.ensures)
 
 pub emit_statement-returns-in-For : goal.emit_statement-returns-in-For
 emit_statement-returns-in-For t c =
@@ -136,9 +113,7 @@ emit_statement-returns-in-For t c =
 
 pub emit_statement-returns-in-With : goal.emit_statement-returns-in-With
 emit_statement-returns-in-With t c =
-    let w = c.in-With in
-    let is = ap statement_of w.is ∙ inside_is w.place w.body ∙ ap (λ (ss : List RStmt). Then (Inside (place_of w.place) (statements_of ss)) Empty) (sym c.as_slice-in-With.ensures) in
-    with_ok c.emit_with.result (one_emitted c.args.around.words c.args.around.exit _ _ _ _ is) c.emit_with.ensures
+    with_ok c.emit_with.result (one_emitted c.args.around.words c.args.around.exit _ _ _ _ (ap statement_of c.in-With.is ∙ inside_is _ _)) (rw c.as_slice-in-With.ensures at c.emit_with.ensures)
 
 pub emit_case-returns : goal.emit_case-returns
 emit_case-returns t c =
@@ -149,7 +124,7 @@ emit_case-returns t c =
     let leave = c.in_ok-leave.leave in
     let other = c.match-otherwise.other in
     let long = c.in_ok-labels.ensures.many ∙ ap (λ (arms : List RArm). length arms) c.as_slice.ensures in
-    let bodies = subst (λ (arms : List RArm). Adds (arms_strings (arms_of arms None)) c.jump-2.new.self c.emit_arms.new.code (Each (ArmBody n exit leave) (paired arms ls))) c.as_slice.ensures c.in_ok-labels.ensures.emits in
+    let bodies = subst (λ (arms : List RArm). Adds (flat_map arm_part arms) c.jump-2.new.self c.emit_arms.new.code (Each (ArmBody n exit leave) (paired arms ls))) c.as_slice.ensures c.in_ok-labels.ensures.emits in
     let els : Adds (arms_strings (else_of c.in-Case.otherwise)) c.emit_arms.new.code c.match-otherwise.code (ElsePart n exit leave other c.in-Case.otherwise) = elim c.match-otherwise.branch [
       | emit_case-in-None+in_ok-other-in-None w ↦ subst (λ (d : Draft). Adds (arms_strings (else_of c.in-Case.otherwise)) c.emit_arms.new.code d (ElsePart n exit leave other c.in-Case.otherwise)) (sym w.code-is)
           (subst (λ (l : ℕ). Adds (arms_strings (else_of c.in-Case.otherwise)) c.emit_arms.new.code w.emit_no_arm.new.code (ElsePart n exit leave l c.in-Case.otherwise)) (sym w.other-is)
@@ -164,5 +139,5 @@ emit_case-returns t c =
     subst (λ (s : RStmt). Adds (body_strings (statement_of s)) c.args.code.now c.here-2.new.self (Body n exit (statement_of s))) (sym c.in-Case.is)
     (case_emitted n exit c.in-Case.value arms c.in-Case.otherwise ls c.in_ok-table.table c.in_ok-end.end leave other _ _ _ _ _ _ _ _ _ _ _ _
     c.in_ok-table.ensures.emits c.in_ok-table.ensures.makes c.in_ok-end.ensures.emits c.in_ok-end.ensures.makes c.in_ok-emit_expression.ensures
-    c.in_ok-jump.ensures c.in_ok-leave.ensures c.in_ok-jump-2.ensures long bodies els c.here.ensures choice
-    c.here-2.ensures)
+    c.in_ok-jump.ensures c.in_ok-leave.ensures c.in_ok-jump-2.ensures long bodies els c.here.ensures.ends choice
+    c.here-2.ensures.ends)

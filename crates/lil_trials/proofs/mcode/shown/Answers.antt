@@ -1,7 +1,5 @@
 use Rattle.std.proofs.Common.{◌≡◌, subst}
-use Rattle.lil_mcode.specs.declared.machine.Event.{Event}
-use Rattle.lil_mcode.specs.Table.{mstep}
-use Rattle.lil_mcode.specs.Requests.{request_has}
+use Rattle.lil_mcode.specs.{declared.machine.Event.Event, Table.mstep, Requests.request_has}
 use Rattle.lil_trials.proofs.mcode.shown.Goals as goal
 
 pub serve-requires : goal.serve-requires

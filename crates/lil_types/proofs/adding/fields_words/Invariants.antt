@@ -1,6 +1,5 @@
 use Rattle.std.proofs.Common.{◌≡◌, drop, Some}
-use Rattle.lil_types.specs.Types.{fields_words}
-use Rattle.lil_types.specs.Adding.{limited}
+use Rattle.lil_types.specs.{Types.fields_words, Adding.limited}
 use Rattle.lil_types.proofs.Sums.{plus}
 use Rattle.lil_types.proofs.adding.fields_words.Given as goal
 

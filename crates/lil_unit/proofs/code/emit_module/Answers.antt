@@ -1,9 +1,5 @@
 use Rattle.std.proofs.Common.{◌≡◌, ℕ, ◌%◌, List, None, refl, ap, ◌∙◌, subst}
-use Rattle.lil_resolved.specs.declared.resolved.RDeclared.{RDeclared}
-use Rattle.lil_resolved.specs.declared.resolved.RStmt.{RStmt}
-use Rattle.lil_resolved.specs.declared.shapes.RShape.{RShape}
-use Rattle.lil_resolved.specs.Sizes.{frame_words, body_strings}
-use Rattle.lil_resolved.specs.Views.{statements_of, module_of}
+use Rattle.lil_resolved.specs.{declared.{resolved.{RDeclared.RDeclared, RStmt.RStmt}, shapes.RShape.RShape}, Sizes.{frame_words, body_strings}, Views.{statements_of, module_of}}
 use Rattle.lil_asm.specs.declared.instr.Instr.TheVariants.{Ent}
 use Rattle.lil_labels.specs.Drafts.{Draft, empty, Adds, Emits, Doing}
 use Rattle.lil_stmt.specs.Generating.{Body}

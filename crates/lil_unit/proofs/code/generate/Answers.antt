@@ -1,6 +1,5 @@
 use Rattle.std.proofs.Common.{◌≡◌, ℕ, List, length, min, ap, sym, ◌∙◌, subst, arith}
-use Rattle.lil_resolved.specs.Views.{module_of}
-use Rattle.lil_resolved.specs.Sizes.{module_strings}
+use Rattle.lil_resolved.specs.{Views.module_of, Sizes.module_strings}
 use Rattle.lil_table.specs.Rows.{Translates}
 use Rattle.lil_unit.proofs.Modules.{settled_long, draft_long, strings_are, exact}
 use Rattle.lil_unit.proofs.code.generate.Goals as goal

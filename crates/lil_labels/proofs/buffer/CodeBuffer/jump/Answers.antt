@@ -1,7 +1,6 @@
 use Rattle.std.proofs.Common.{◌++◌, ap, ◌∙◌}
 use Rattle.lil_asm.specs.Bytes.{bytes_of}
-use Rattle.lil_labels.specs.Settling.{sound_more}
-use Rattle.lil_labels.specs.Emitting.{with_ok}
+use Rattle.lil_labels.specs.{Settling.sound_more, Emitting.with_ok}
 use Rattle.lil_labels.proofs.Adding.{jump_emits}
 use Rattle.lil_labels.proofs.buffer.CodeBuffer.jump.Goals as goal
 

@@ -1,6 +1,5 @@
 use Rattle.std.proofs.Common.{length, ap, arith}
-use Rattle.lil_labels.specs.Drafts.{Draft}
-use Rattle.lil_labels.specs.Settling.{sound_one}
+use Rattle.lil_labels.specs.{Drafts.Draft, Settling.sound_one}
 use Rattle.lil_labels.proofs.buffer.CodeBuffer.note.Goals as goal
 
 pub invariant_of-self-2 : goal.invariant_of-self-2

@@ -1,5 +1,4 @@
-use Rattle.lil_labels.specs.Settling.{sound_more}
-use Rattle.lil_labels.specs.Emitting.{with_ok}
+use Rattle.lil_labels.specs.{Settling.sound_more, Emitting.with_ok}
 use Rattle.lil_labels.proofs.Adding.{put_emits}
 use Rattle.lil_labels.proofs.buffer.CodeBuffer.put.Goals as goal
 

@@ -1,7 +1,5 @@
 use Rattle.std.proofs.Common.{◌≡◌, suc, ◌-◌, sym, subst, arith}
-use Rattle.lil_mcode.specs.declared.machine.Event.TheVariants.{Went}
-use Rattle.lil_mcode.specs.Calls.{Machine}
-use Rattle.lil_mcode.specs.Going.{Ran}
+use Rattle.lil_mcode.specs.{declared.machine.Event.TheVariants.Went, Calls.Machine, Going.Ran}
 use Rattle.lil_mcode.proofs.machine.Machine.run.Goals as goal
 
 pub returns-clause-ran : goal.returns-clause-ran

@@ -1,7 +1,5 @@
 use Rattle.std.proofs.Common.{◌≡◌, ℕ, suc, Some}
-use Rattle.lil_mcode.specs.declared.machine.Event.TheVariants.{Went}
-use Rattle.lil_mcode.specs.Table.{State, mstep}
-use Rattle.lil_mcode.specs.Going.{gone}
+use Rattle.lil_mcode.specs.{declared.machine.Event.TheVariants.Went, Table.{State, mstep}, Going.gone}
 use Rattle.lil_mcode.proofs.machine.Machine.run.Given as goal
 
 -- the steps so far went on, and the last of them was noted

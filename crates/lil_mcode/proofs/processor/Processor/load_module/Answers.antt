@@ -1,13 +1,8 @@
 use Rattle.std.proofs.Common.{◌≡◌, ℕ, ◌+◌, List, [], ◌∷◌, ◌++◌, length, map, sym, ap, ◌∙◌, subst, refl, arith}
 use Rattle.std.proofs.lemmas.List.{length-map, length-append}
-use Rattle.lil_mcode.specs.declared.processor.LoadedModule.{LoadedModule}
-use Rattle.lil_mcode.specs.Table.{State}
-use Rattle.lil_frames.specs.Words.{spliced}
-use Rattle.lil_mcode.specs.Loaded.{module_of, Lies, Runs}
-use Rattle.lil_mcode.specs.Calls.{code_used}
-use Rattle.lil_frames.specs.WordLaws.{length_spliced}
-use Rattle.lil_mcode.proofs.Steps.{runs_more}
-use Rattle.lil_mcode.proofs.Loading.{used, loaded_more, lies_more}
+use Rattle.lil_mcode.specs.{declared.processor.LoadedModule.LoadedModule, Table.State, Loaded.{module_of, Lies, Runs}, Calls.code_used}
+use Rattle.lil_frames.specs.{Words.spliced, WordLaws.length_spliced}
+use Rattle.lil_mcode.proofs.{Steps.runs_more, Loading.{used, loaded_more, lies_more}}
 use Rattle.lil_mcode.proofs.processor.Processor.load_module.Goals as goal
 
 pub put_code-requires : goal.put_code-requires

@@ -1,8 +1,6 @@
 use Rattle.std.proofs.Common.{◌≡◌, List, length, ap, subst, arith}
 use Rattle.std.proofs.lemmas.List.{length-map}
-use Rattle.lil_mcode.specs.declared.processor.LoadedModule.{LoadedModule}
-use Rattle.lil_mcode.specs.Table.{State}
-use Rattle.lil_mcode.specs.Loaded.{IsPartOf, loaded_at}
+use Rattle.lil_mcode.specs.{declared.processor.LoadedModule.LoadedModule, Table.State, Loaded.{IsPartOf, loaded_at}}
 use Rattle.lil_mcode.proofs.processor.Processor.run_in.Goals as goal
 
 pub invariant_of-self : goal.invariant_of-self

@@ -1,9 +1,8 @@
 use Rattle.std.proofs.Common.{◌≡◌, ℕ, true, false, Some, slice_get, length, refl, sym, ◌∙◌, subst, arith}
 use Rattle.std.proofs.lemmas.Option.{slice_get_read}
 use Rattle.lil_mcode.specs.Kept.{is_better}
-use Rattle.lil_mcode.proofs.Running.{Best, best_taken, best_kept, best_runs}
+use Rattle.lil_mcode.proofs.{Running.{Best, best_taken, best_kept, best_runs}, processor.loading.running_procedure.Goals.{then-is_nearer, else-is_nearer}}
 use Rattle.lil_mcode.proofs.processor.loading.running_procedure.Goals as goal
-use Rattle.lil_mcode.proofs.processor.loading.running_procedure.Goals.{then-is_nearer, else-is_nearer}
 
 pub loop-k-preserved : goal.loop-k-preserved
 loop-k-preserved c =

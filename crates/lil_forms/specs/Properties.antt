@@ -1,0 +1,66 @@
+-- Properties of places and of expressions that come from their parts.
+use Rattle.std.proofs.Common.{◌≡◌, ℕ, ℤ, pos, true, List, [], ◌∷◌, ◌++◌, length, slice_get, Some}
+use Rattle.std.specs.Prelude.{◌-◌}
+use Rattle.lil_base.specs.declared.operator.{OneOp.OneOp, TwoOp.TwoOp}
+use Rattle.lil_types.specs.Types.{Table}
+use Rattle.lil_declared.specs.declared.declared.RVar.{RVar}
+use Rattle.lil_kinds.specs.declared.found.Located.{Located}
+use Rattle.lil_resolved.specs.{Resolved.{kind_of, right_kind}, Kinds.Kind, Sound.{takes_one, takes_value, takes_function, is_element}, Views.{base_view, kind_view, function_of, expression_of}}
+use Rattle.lil_resolved.specs.declared.resolved.{RBase.RBase, RExpr.RExpr, RFunction.RFunction, RKind.RKind, RMember.RMember, ROperation.ROperation}
+use Rattle.lil_resolved.specs.declared.resolved.RExpr.TheVariants as e
+use Rattle.lil_resolved.specs.declared.resolved.RMember.TheVariants as m
+use Rattle.lil_resolved.specs.declared.resolved.RRoot.TheVariants as root
+use Rattle.lil_resolved.specs.declared.resolved.RSelector.TheVariants as part
+use Rattle.lil_shapes.specs.{Bases.{kind_at, field_at, array_at}, Operators.{has_number, takes_two}, Pointers.target_at, declared.{composites.ArrayParts.ArrayParts, pointers.Target.Target}}
+use Rattle.lil_forms.specs.{Places.{at_root, part_of}, Values.operation}
+
+-- the kind of an expression's values
+abbrev pub value_kind : RExpr → Kind
+value_kind x = kind_of (expression_of x)
+
+-- one of what designators reach, and one of expressions, over a table of types, the variables and the records of the WITHs around
+pub record Property (t : Table) (vs : List RVar) (around : List ℕ) : Type 1 where
+  pub place : Located → Type 0
+  pub value : RExpr → Type 0
+  -- places
+  pub variable : (n : ℕ) (v : RVar) → slice_get vs n ≡ Some v → place (at_root (root.Variable n) v.sort)
+  pub held : (w s : ℕ) → slice_get around w ≡ Some s → place (at_root (root.Held (length around - 1 - w)) s)
+  pub field : (p : Located) (i s : ℕ) → field_at t p.sort i ≡ Some s → place p → place (part_of p (part.Field i) s)
+  pub index : (p : Located) (parts : ArrayParts) (j : RKind) (x : RExpr) → array_at t p.sort ≡ Some parts → kind_at t parts.index ≡ Some j → takes_value (kind_view j) (value_kind x) ≡ true → place p → value x
+      → place (part_of p (part.Index j x) parts.element)
+  pub follow : (p : Located) (x : Target) → target_at t p.sort ≡ Some x → place p → place (part_of p (part.Follow x.pointer) x.sort)
+  -- constants, what lies at places, a sign or NOT, and standard functions
+  pub constant : (k : RBase) (z : ℤ) → has_number k z ≡ true → value (e.Constant k z)
+  pub taken : (p : Located) (j : RKind) → kind_at t p.sort ≡ Some j → place p → value (e.Taken p.place j)
+  pub one : (op : OneOp) (x : RExpr) → takes_one op (value_kind x) ≡ true → value x → value (e.One op x)
+  pub apply : (g : RFunction) (x : RExpr) → takes_function (function_of g (value_kind x)) (value_kind x) ≡ true → value x → value (e.Apply g x)
+  -- chains, and one operation more
+  pub begin : (x : RExpr) → value x → value (e.Chain x [])
+  pub chain : (op : TwoOp) (a : RExpr) (os : List ROperation) (k : RBase) (x : RExpr) → value_kind (e.Chain a os) ≡ base_view k → takes_two op (base_view k) ≡ true → value_kind x ≡ right_kind op (base_view k)
+      → value (e.Chain a os) → value x → value (e.Chain a (os ++ operation op x ∷ []))
+  -- sets, and one member more
+  pub empty : (k : RKind) → value (e.Set k [])
+  pub single : (k : RKind) (ms : List RMember) (x : RExpr) → is_element (kind_view k) ≡ true → takes_value (kind_view k) (value_kind x) ≡ true → value (e.Set k ms) → value x → value (e.Set k (ms ++ m.Single x ∷ []))
+  pub span : (k : RKind) (ms : List RMember) (x y : RExpr) → is_element (kind_view k) ≡ true → takes_value (kind_view k) (value_kind x) ≡ true → takes_value (kind_view k) (value_kind y) ≡ true
+      → value (e.Set k ms) → value x → value y → value (e.Set k (ms ++ m.Span x y ∷ []))
+
+-- none at all
+abbrev pub nothing : (t : Table) (vs : List RVar) (around : List ℕ) → Property t vs around
+nothing t vs around = record {
+  place = λ p. Unit {0};
+  value = λ x. Unit {0};
+  variable = λ n v is. tt;
+  held = λ w s is. tt;
+  field = λ p i s is h. tt;
+  index = λ p parts j x at kind takes h i. tt;
+  follow = λ p x at h. tt;
+  constant = λ k z is. tt;
+  taken = λ p j is h. tt;
+  one = λ op x takes h. tt;
+  apply = λ g x takes h. tt;
+  begin = λ x h. tt;
+  chain = λ op a os k x is takes right h i. tt;
+  empty = λ k. tt;
+  single = λ k ms x of takes h i. tt;
+  span = λ k ms x y of takes last h i l. tt;
+}
