@@ -9,12 +9,11 @@ use Rattle.lil_kinds.specs.declared.found.Found.{Found}
 use Rattle.lil_check_value.specs.{declared.names.Looked.Looked, Looks.look, Values.{means, variable_means, call_means}}
 use Rattle.lil_check_stmt.specs.{declared.{labels.Labels.Labels, counting.{Counter.Counter, Count.Count}}, Labels.{one_node, range_node, high_means, label_means, with_label, label_step, labels_mean}, Counting.{counter_node, start_node, limit_node, step_node, step_means, count_of, count_means, counted}}
 use Rattle.lil_check_stmt.specs.Nodes.{return_node, assign_node, record_node, exit_node}
-use Rattle.lil_check_stmt.specs.Statements.{result_at, return_means, behind, no_arms, Meaning, GuardMeaning, ArmMeaning, list_step, list_means, else_means, guards_step, guards_mean, arms_step, arms_mean, condition_means, selector_means, kind_of, within, selected, with_record, with_arm, statement_layer, guard_layer, arm_layer, statement_means, guard_means, arm_means, statement_step, statements_mean, behind_else, guard_step, arm_step}
+use Rattle.lil_check_stmt.specs.Statements.{guard_of, conditional, repeated_while, repeated_until, looped, result_at, return_means, behind, no_arms, Meaning, GuardMeaning, ArmMeaning, list_step, list_means, else_means, guards_step, guards_mean, arms_step, arms_mean, condition_means, selector_means, kind_of, within, selected, with_record, with_arm, statement_layer, guard_layer, arm_layer, statement_means, guard_means, arm_means, statement_step, statements_mean, behind_else, guard_step, arm_step}
 use Rattle.lil_check_stmt.specs.declared.{nodes.Opened.Opened, labels.Arms.Arms}
 use Rattle.lil_language.specs.declared.tree.Stmt.TheVariants as st
 use Rattle.lil_language.specs.declared.tree.Stmt.TheOpen as layer
 use Rattle.lil_types.specs.Types.{Table}
-use Rattle.lil_forms.specs.Statements.{guard_of, conditional, repeated_while, repeated_until, looped}
 
 -- ---- what labels, the head of a FOR and a RETURN mean, from what their parts mean
 

@@ -1,19 +1,22 @@
 -- What stands between FOR and DO.
-use Rattle.std.specs.Prelude.{◌==◌, ℤ, pos, negsuc, int_lt, Bool, true, false, not, ◌&&◌, ◌||◌, List, [], ◌∷◌, Option, Some, None, if◌then◌else◌}
+use Rattle.std.specs.Prelude.{ℕ, ◌==◌, slice_get, ℤ, pos, negsuc, int_lt, Bool, true, false, not, ◌&&◌, ◌||◌, List, [], ◌∷◌, Option, Some, None, if◌then◌else◌}
+use Rattle.lil_base.specs.Words.{Integer, in_type, is_zero}
 use Rattle.lil_base.specs.declared.fault.{Place.Place, FaultKind.TheVariants.{Unknown, WrongKind, ForVariable, Assign, ConstRange, NotConst, Operands}}
 use Rattle.lil_types.specs.Types.{Table}
 use Rattle.lil_language.specs.declared.tree.{Expr.Expr, ForHead.ForHead}
-use Rattle.lil_declared.specs.declared.declared.Mode.{Mode, TheVariants.Plain}
-use Rattle.lil_resolved.specs.declared.resolved.{RExpr.RExpr, RStmt.RStmt, RVariable.RVariable}
+use Rattle.lil_declared.specs.declared.{declared.Mode.{Mode, TheVariants.Plain}, RVar.RVar}
+use Rattle.lil_resolved.specs.declared.resolved.{RExpr.RExpr, RKind.RKind, RStmt.RStmt, RVariable.RVariable}
+use Rattle.lil_resolved.specs.declared.resolved.RStmt.TheVariants as r
 use Rattle.lil_report.specs.Told.{Row, row, after, pure}
 use Rattle.lil_scope.specs.declared.{env.Env.Env, thing.{Kind.Kind, Thing.Thing, Variable.Variable}}
 use Rattle.lil_scope.specs.declared.thing.Kind.TheVariants as k
 use Rattle.lil_scope.specs.declared.thing.Thing.TheVariants as t
 use Rattle.lil_kinds.specs.{declared.found.Found.Found, Kinds.{assignable, misses, compatible, is_ordinal, is_constant}}
-use Rattle.lil_forms.specs.{Values.typed, Statements.{counter, bounds_of, counted_with}}
+use Rattle.lil_shapes.specs.Bases.{kind_at}
+use Rattle.lil_forms.specs.Values.{typed}
 use Rattle.lil_check_value.specs.{declared.names.Looked.Looked, Looks.look, Values.means}
 use Rattle.lil_check_value.specs.declared.names.Looked.TheVariants as l
-use Rattle.lil_check_stmt.specs.{declared.counting.{Counter.Counter, Count.Count}, Nodes.node}
+use Rattle.lil_check_stmt.specs.{declared.counting.{Bounds.Bounds, Counter.Counter, Count.Count}, Nodes.node}
 
 -- ---- the variable
 abbrev pub is_nothing : Looked → Bool
@@ -44,9 +47,21 @@ is_unfit ts l.Nothing = false
 is_unfit ts (l.Field at n s) = true
 is_unfit ts (l.Thing th) = is_unfit_thing ts th
 
--- a variable of the module; those of procedures have no code
+abbrev pub variable_by : ℕ → Option RKind → Option RVariable
+variable_by n None = None
+variable_by n (Some j) = Some (record { number = n; kind = j })
+
+abbrev pub variable_in : Table → ℕ → Option RVar → Option RVariable
+variable_in t n None = None
+variable_in t n (Some v) = variable_by n (kind_at t v.sort)
+
+-- a variable of the module, by its number
+unfoldable pub counted_variable : Table → List RVar → ℕ → Option RVariable
+counted_variable t vs n = variable_in t n (slice_get vs n)
+
+-- those of procedures have no code
 abbrev pub counting_with : Env → Variable → Option RVariable
-counting_with e v = if v.level == 1 then counter e.types e.variables v.number else None
+counting_with e v = if v.level == 1 then counted_variable e.types e.variables v.number else None
 
 abbrev pub counter_thing : Env → Thing → Option Counter
 counter_thing e (t.Variable v) = Some (record { variable = counting_with e v; sort = v.sort })
@@ -110,6 +125,10 @@ step_means e None = pure (Some (pos 1))
 step_means e (Some x) = after (means e x) step_node
 
 -- ---- the whole head
+abbrev pub bounds_of : Option RVariable → Option RExpr → Option RExpr → Option Bounds
+bounds_of (Some v) (Some a) (Some c) = Some (record { variable = v; from = a; to = c })
+bounds_of _ _ _ = None
+
 abbrev pub count_of : Option Counter → Option RExpr → Option RExpr → Option ℤ → Option Count
 count_of (Some c) a b (Some n) = Some (record { bounds = bounds_of c.variable a b; by = n })
 count_of (Some c) a b None = None
@@ -123,6 +142,18 @@ count_means e h =
     after (means e h.to) (λ b.
     after (limit_node e.types c b) (λ b.
     after (step_means e h.by) (λ n. pure (count_of c a b n)))))))
+
+-- a step isn't zero, and is an INTEGER
+abbrev pub is_step : ℤ → Bool
+is_step z = not (is_zero z) && in_type Integer z
+
+abbrev pub counted_by : Bounds → ℤ → Option (List RStmt) → Option RStmt
+counted_by x z None = None
+counted_by x z (Some ss) = if is_step z then Some (r.For x.variable x.from x.to z ss) else None
+
+abbrev pub counted_with : Option Bounds → ℤ → Option (List RStmt) → Option RStmt
+counted_with None z ss = None
+counted_with (Some x) z ss = counted_by x z ss
 
 abbrev pub counted : Option Count → Option (List RStmt) → Option RStmt
 counted (Some c) ss = counted_with c.bounds c.by ss

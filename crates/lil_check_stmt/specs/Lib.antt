@@ -5,4 +5,3 @@ pub mod Statements
 pub mod Stmts
 pub mod Induction
 pub mod Whole
-pub mod WholeLaws

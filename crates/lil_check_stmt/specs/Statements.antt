@@ -5,13 +5,13 @@ use Rattle.lil_types.specs.Types.{Table, integer, cardinal}
 use Rattle.lil_language.specs.declared.tree.{Expr.Expr, Arm.Arm, Guard.Guard, Stmt.{Stmt, TheOpen.{Stmt-F, Arm-F, Guard-F}, TheFolds.{fold-Stmt, fold-Guard, fold-Arm}}}
 use Rattle.lil_language.specs.declared.tree.Stmt.TheOpen as s
 use Rattle.lil_declared.specs.declared.declared.RProc.{RProc}
-use Rattle.lil_resolved.specs.declared.resolved.{RArm.RArm, RExpr.RExpr, RGuard.RGuard, RLabel.RLabel, RStmt.RStmt}
+use Rattle.lil_resolved.specs.declared.resolved.{RArm.{RArm, roll-RArm}, RExpr.RExpr, RGuard.{RGuard, roll-RGuard}, RLabel.RLabel, RStmt.RStmt}
+use Rattle.lil_resolved.specs.declared.resolved.RStmt.TheVariants as r
 use Rattle.lil_report.specs.Told.{Row, after, pure, walk}
 use Rattle.lil_scope.specs.declared.{env.Env.Env, thing.Kind.Kind}
 use Rattle.lil_scope.specs.declared.thing.Kind.TheVariants as k
-use Rattle.lil_kinds.specs.{declared.found.Found.Found, Forms.result}
-use Rattle.lil_forms.specs.{Values.typed, Statements.{guard_of, conditional, repeated_while, repeated_until, looped, arm_of}}
-use Rattle.lil_forms.specs.Statements as forms
+use Rattle.lil_kinds.specs.{declared.found.{Found.Found, Located.Located}, Forms.result}
+use Rattle.lil_forms.specs.Values.{typed}
 use Rattle.lil_check_value.specs.Values.{means, variable_means, call_means}
 use Rattle.lil_check_stmt.specs.{declared.{nodes.Opened.Opened, labels.{Labels.Labels, Arms.Arms}}, Nodes.{assign_node, condition_node, selector_node, record_node, exit_node, end_node, return_node}, Labels.labels_mean, Counting.{count_means, counted}}
 
@@ -26,6 +26,44 @@ GuardMeaning = Env → Bool → Option RGuard × List Row
 -- an arm behind others, by what the CASE selects by
 abbrev pub ArmMeaning : Type 0
 ArmMeaning = Env → Bool → Option Kind → Arms → Arms × List Row
+
+-- ---- the forms of statements with statements in them
+-- a condition and the statements behind it
+abbrev pub guard_of : Option RExpr → Option (List RStmt) → Option RGuard
+guard_of (Some x) (Some ss) = Some (roll-RGuard (record { condition = x; body = ss }))
+guard_of _ _ = None
+
+-- without ELSE nothing stands behind it
+abbrev pub conditional : Option (List RGuard) → Option (Option (List RStmt)) → Option RStmt
+conditional (Some gs) (Some (Some ss)) = Some (r.If gs ss)
+conditional (Some gs) (Some None) = Some (r.If gs [])
+conditional _ _ = None
+
+abbrev pub repeated_while : Option RExpr → Option (List RStmt) → Option RStmt
+repeated_while (Some x) (Some ss) = Some (r.While x ss)
+repeated_while _ _ = None
+
+abbrev pub repeated_until : Option (List RStmt) → Option RExpr → Option RStmt
+repeated_until (Some ss) (Some x) = Some (r.Repeat ss x)
+repeated_until _ _ = None
+
+abbrev pub looped : Option (List RStmt) → Option RStmt
+looped None = None
+looped (Some ss) = Some (r.Loop ss)
+
+-- ---- WITH
+abbrev pub inside : Option Located → Option (List RStmt) → Option RStmt
+inside (Some p) (Some ss) = Some (r.With p.place ss)
+inside _ _ = None
+
+-- ---- CASE
+abbrev pub arm_of : List RLabel → Option (List RStmt) → Option RArm
+arm_of ls None = None
+arm_of ls (Some ss) = Some (roll-RArm (record { labels = ls; body = ss }))
+
+abbrev pub selected_by : Option RExpr → Option (List RArm) → Option (Option (List RStmt)) → Option RStmt
+selected_by (Some x) (Some arms) (Some other) = Some (r.Case x arms other)
+selected_by _ _ _ = None
 
 -- ---- lists: they have code where all in them have
 abbrev pub list_step : Env → Bool → Option (List RStmt) → Meaning → Option (List RStmt) × List Row
@@ -101,10 +139,10 @@ selector_value t None = None
 selector_value t (Some a) = typed t (selector_type a.kind) a
 
 abbrev pub selected : Table → Option Found → Option (List RArm) → Option (Option (List RStmt)) → Option RStmt
-selected t v arms other = forms.selected (selector_value t v) arms other
+selected t v arms other = selected_by (selector_value t v) arms other
 
 abbrev pub with_record : Option Opened → Option (List RStmt) → Option RStmt
-with_record (Some r) ss = forms.within r.place ss
+with_record (Some r) ss = inside r.place ss
 with_record None ss = None
 
 abbrev pub armed : Option (List RLabel) → Option (List RStmt) → Option RArm

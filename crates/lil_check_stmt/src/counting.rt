@@ -1,17 +1,18 @@
-ghost use Rattle.std.specs.Prelude.{◌≡◌, IfOk};
+ghost use Rattle.std.specs.Prelude.{◌≡◌, Some, None, if◌then◌else◌, IfOk};
 ghost use Rattle.lil_report.specs.Told.{Said};
 ghost use Rattle.lil_check_value.specs.Looks.{look as look_of};
 ghost use Rattle.lil_check_stmt.specs.Counting as spec;
 
 use lil_base::{Boxed, FaultKind, Items, Memory, Place, beside};
 use lil_check_value::{Looked, boxed_expression, look};
-use lil_declared::Mode;
-use lil_forms::{Bounds, bounds_of, counted_with, counter, typed};
+use lil_declared::{Mode, RVar};
+use lil_forms::typed;
 use lil_kinds::{Found, assignable, compatible, is_constant, is_ordinal, misses};
 use lil_language::{Expr, ForHead};
 use lil_report::Report;
 use lil_resolved::{RExpr, RStmt, RVariable};
 use lil_scope::{Env, Kind, Thing, Variable};
+use lil_shapes::kind_at;
 use lil_types::{TypeId, TypeTable};
 use std::alloc::Global;
 
@@ -22,11 +23,75 @@ pub(crate) struct Counter {
     pub(crate) sort: TypeId,
 }
 
+/// The variable of a FOR, its first value and its last.
+#[derive(Drop)]
+pub(crate) struct Bounds {
+    pub(crate) variable: RVariable,
+    pub(crate) from: RExpr,
+    pub(crate) to: RExpr,
+}
+
 /// What stands between FOR and DO: the variable with its first value and its last, where all have code, and the step.
 #[derive(Drop)]
 pub(crate) struct Count {
     pub(crate) bounds: Option<Bounds>,
     pub(crate) by: i32,
+}
+
+/// A variable of the module by its number, with which a FOR counts.
+#[tactic(auto, unfolding(crate::specs::Counting::counted_variable))]
+fn counted_variable(t: &TypeTable, variables: &[RVar], number: usize) -> Option<RVariable>
+    ensures { result ≡ spec.counted_variable t.now variables.now number }
+{
+    match variables.get(number) {
+        None => None,
+        Some(variable) => match kind_at(t, variable.sort) {
+            None => None,
+            Some(kind) => Some(RVariable { number, kind }),
+        },
+    }
+}
+
+/// What a FOR counts, and from where to where.
+fn bounds_of(variable: Option<RVariable>, from: Option<RExpr>, to: Option<RExpr>) -> Option<Bounds>
+    ensures { result ≡ spec.bounds_of variable from to }
+{
+    match variable.zip(from.zip(to)) {
+        None => None,
+        Some((variable, (from, to))) => Some(Bounds { variable, from, to }),
+    }
+}
+
+/// A step: an INTEGER that isn't zero.
+fn integer_step(value: i32) -> Option<i16>
+    ensures { result ≡ (if spec.is_step value then Some value else None) }
+{
+    if value != 0 && (!(value < -32768) && !(32767 < value)) {
+        Some(value as i16)
+    } else {
+        None
+    }
+}
+
+/// A FOR by a step.
+fn counted_with(of: Option<Bounds>, by: i32, body: Option<Items<RStmt>>) -> Option<RStmt>
+    ensures { result ≡ spec.counted_with of by body }
+{
+    let Some(Bounds { variable, from, to }) = of else {
+        drop(body);
+        return None;
+    };
+    let Some(body) = body else {
+        drop((from, to));
+        return None;
+    };
+    match integer_step(by) {
+        None => {
+            drop((from, to, body));
+            None
+        }
+        Some(by) => Some(RStmt::For(variable, from, to, by, body)),
+    }
 }
 
 fn is_nothing(of: Looked) -> bool
@@ -94,7 +159,7 @@ fn counting_with(env: &Env, of: Variable) -> Option<RVariable>
     ensures { result ≡ spec.counting_with env.now of }
 {
     if of.level == 1 {
-        counter(&env.types, env.variables.as_slice(), of.number)
+        counted_variable(&env.types, env.variables.as_slice(), of.number)
     } else {
         None
     }

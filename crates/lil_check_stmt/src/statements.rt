@@ -4,7 +4,6 @@ ghost use Rattle.lil_report.specs.Told.{Said, walk, after, pure};
 ghost use Rattle.lil_check_value.specs.Values.{means, variable_means};
 ghost use Rattle.lil_check_stmt.specs.Nodes.{assign_node, record_node};
 ghost use Rattle.lil_check_stmt.specs.Counting as heads;
-ghost use Rattle.lil_forms.specs.Statements as forms;
 ghost use Rattle.lil_check_stmt.specs.Statements as spec;
 
 use crate::counting::{counted, counting};
@@ -14,16 +13,108 @@ use crate::nodes::{
 };
 use lil_base::{Boxed, Items, Memory, Place, beside, joined};
 use lil_check_value::{boxed_expression, call, variable};
-use lil_forms::{
-    arm_of, conditional, guard_of, looped, repeated_until, repeated_while, typed, within,
-};
-use lil_kinds::{Found, result};
+use lil_forms::typed;
+use lil_kinds::{Found, Located, result};
 use lil_language::{Arm, Designator, Expr, ForHead, Guard, Stmt};
 use lil_report::Report;
 use lil_resolved::{RArm, RExpr, RGuard, RLabel, RStmt};
 use lil_scope::{Env, Kind};
 use lil_types::{CARDINAL, INTEGER, TypeId, TypeTable};
 use std::alloc::Global;
+
+/// A condition and the statements behind it.
+fn guard_of(condition: Option<RExpr>, body: Option<Items<RStmt>>) -> Option<RGuard>
+    ensures { result ≡ spec.guard_of condition body }
+{
+    match condition.zip(body) {
+        None => None,
+        Some((condition, body)) => Some(RGuard { condition, body }),
+    }
+}
+
+/// An IF of guards and what stands behind ELSE, if there is one.
+fn conditional(
+    alloc: Global,
+    guards: Option<Items<RGuard>>,
+    other: Option<Option<Items<RStmt>>>,
+) -> Option<RStmt>
+    ensures { result ≡ spec.conditional guards other }
+{
+    match guards.zip(other) {
+        None => None,
+        Some((guards, other)) => match other {
+            Some(other) => Some(RStmt::If(guards, other)),
+            None => Some(RStmt::If(guards, Items::new(alloc))),
+        },
+    }
+}
+
+/// A WHILE.
+fn repeated_while(condition: Option<RExpr>, body: Option<Items<RStmt>>) -> Option<RStmt>
+    ensures { result ≡ spec.repeated_while condition body }
+{
+    match condition.zip(body) {
+        None => None,
+        Some((condition, body)) => Some(RStmt::While(condition, body)),
+    }
+}
+
+/// A REPEAT.
+fn repeated_until(body: Option<Items<RStmt>>, condition: Option<RExpr>) -> Option<RStmt>
+    ensures { result ≡ spec.repeated_until body condition }
+{
+    match body.zip(condition) {
+        None => None,
+        Some((body, condition)) => Some(RStmt::Repeat(body, condition)),
+    }
+}
+
+/// A LOOP.
+fn looped(body: Option<Items<RStmt>>) -> Option<RStmt>
+    ensures { result ≡ spec.looped body }
+{
+    match body {
+        None => None,
+        Some(body) => Some(RStmt::Loop(body)),
+    }
+}
+
+/// A WITH.
+fn inside(of: Option<Located>, body: Option<Items<RStmt>>) -> Option<RStmt>
+    ensures { result ≡ spec.inside of body }
+{
+    match of.zip(body) {
+        None => None,
+        Some((of, body)) => Some(RStmt::With(of.place, body)),
+    }
+}
+
+/// The labels of an arm, and the statements behind them.
+fn arm_of(labels: Items<RLabel>, body: Option<Items<RStmt>>) -> Option<RArm>
+    ensures { result ≡ spec.arm_of labels body }
+{
+    match body {
+        None => {
+            drop(labels);
+            None
+        }
+        Some(body) => Some(RArm { labels, body }),
+    }
+}
+
+/// A CASE of a value, its arms, and what stands behind ELSE, if there is one.
+fn selected_by(
+    by: Option<RExpr>,
+    arms: Option<Items<RArm>>,
+    other: Option<Option<Items<RStmt>>>,
+) -> Option<RStmt>
+    ensures { result ≡ spec.selected_by by arms other }
+{
+    match by.zip(arms.zip(other)) {
+        None => None,
+        Some((by, (arms, other))) => Some(RStmt::Case(by, arms, other)),
+    }
+}
 
 fn condition_of(
     alloc: Global,
@@ -135,14 +226,14 @@ fn selected(
 ) -> Option<RStmt>
     ensures { result ≡ spec.selected t.now found arms other }
 {
-    lil_forms::selected(selector_value(t, found), arms, other)
+    selected_by(selector_value(t, found), arms, other)
 }
 
 fn with_record(of: Option<Opened>, body: Option<Items<RStmt>>) -> Option<RStmt>
     ensures { result ≡ spec.with_record of body }
 {
     match of {
-        Some(opened) => within(opened.place, body),
+        Some(opened) => inside(opened.place, body),
         None => {
             drop(body);
             None
@@ -272,7 +363,7 @@ fn while_true(
     body: &Items<Stmt>,
     value: &Boxed<Expr>,
 ) -> Result<Option<RStmt>, Memory>
-    ensures said { IfOk result (λ o. Said (after (spec.condition_means env.old value.now) (λ c. after (spec.statements_mean env.old looping body.now) (λ ss. pure (forms.repeated_while c ss)))) report.old o report.new) }
+    ensures said { IfOk result (λ o. Said (after (spec.condition_means env.old value.now) (λ c. after (spec.statements_mean env.old looping body.now) (λ ss. pure (spec.repeated_while c ss)))) report.old o report.new) }
     ensures same { IfOk result (λ o. env.new ≡ env.old) }
 {
     let condition = condition_of(alloc, env, report, value)?;
@@ -290,7 +381,7 @@ fn until(
     body: &Items<Stmt>,
     value: &Boxed<Expr>,
 ) -> Result<Option<RStmt>, Memory>
-    ensures said { IfOk result (λ o. Said (after (spec.statements_mean env.old looping body.now) (λ ss. after (spec.condition_means env.old value.now) (λ c. pure (forms.repeated_until ss c)))) report.old o report.new) }
+    ensures said { IfOk result (λ o. Said (after (spec.statements_mean env.old looping body.now) (λ ss. after (spec.condition_means env.old value.now) (λ c. pure (spec.repeated_until ss c)))) report.old o report.new) }
     ensures same { IfOk result (λ o. env.new ≡ env.old) }
 {
     let body = statements(alloc, env, report, looping, body.as_slice())?;
@@ -305,7 +396,7 @@ fn endless(
     report: &mut Report,
     body: &Items<Stmt>,
 ) -> Result<Option<RStmt>, Memory>
-    ensures said { IfOk result (λ o. Said (after (spec.statements_mean env.old true body.now) (λ ss. pure (forms.looped ss))) report.old o report.new) }
+    ensures said { IfOk result (λ o. Said (after (spec.statements_mean env.old true body.now) (λ ss. pure (spec.looped ss))) report.old o report.new) }
     ensures same { IfOk result (λ o. env.new ≡ env.old) }
 {
     let body = statements(alloc, env, report, true, body.as_slice())?;

@@ -4,7 +4,7 @@ use Rattle.lil_language.specs.declared.{tree.Stmt.Stmt, unit.{Decl.Decl, Unit.Un
 use Rattle.lil_resolved.specs.declared.resolved.RStmt.{RStmt}
 use Rattle.lil_report.specs.Told.{after}
 use Rattle.lil_scope.specs.declared.env.Env.{Env}
-use Rattle.lil_check_stmt.specs.{Statements.statements_mean, Stmts.bodies_mean, declared.stmt.Stated.Stated, Whole.{extent, text_extent}, WholeLaws.statements_kept}
+use Rattle.lil_check_stmt.specs.{Statements.statements_mean, Stmts.bodies_mean, declared.stmt.Stated.Stated, Whole.{extent, text_extent, statements_kept}}
 use Rattle.lil_interfaces.specs.declared.surface.Interface.{Interface}
 use Rattle.lil_check_unit.specs.{Modules.in_no_with, Units.{declared, stated}}
 

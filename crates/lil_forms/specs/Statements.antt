@@ -1,20 +1,20 @@
--- The forms of statements that have no statements in them, of what stands around those in others, and of arguments and calls.
-use Rattle.std.specs.Prelude.{ℕ, zero, suc, nat_le, Bool, true, false, ◌&&◌, List, [], ◌∷◌, Option, Some, None, if◌then◌else◌, ◌==◌, ℤ, pos, not, slice_get}
-use Rattle.lil_base.specs.{Lists.joined, Words.{Integer, in_type, is_zero}}
+-- The forms of statements that have no statements in them, and of arguments and calls.
+use Rattle.std.specs.Prelude.{ℕ, zero, suc, nat_le, List, [], ◌∷◌, Option, Some, None, if◌then◌else◌, pos}
+use Rattle.lil_base.specs.Lists.{joined}
 use Rattle.lil_types.specs.{Types.Table, declared.table.Parameter.Parameter}
-use Rattle.lil_declared.specs.declared.{standard.Resident.Resident, declared.RVar.RVar}
+use Rattle.lil_declared.specs.declared.standard.Resident.{Resident}
 use Rattle.lil_declared.specs.declared.standard.Resident.TheVariants as resident
 use Rattle.lil_kinds.specs.declared.found.{Form.Form, Found.Found, Located.Located}
 use Rattle.lil_kinds.specs.declared.found.Form.TheVariants as form
 use Rattle.lil_resolved.specs.Views.{kind_view}
-use Rattle.lil_resolved.specs.declared.resolved.{Allocation.{Allocation, TheVariants.{Takes, GivesBack}}, Direction.Direction, Membership.Membership, RArgument.RArgument, RArm.{RArm, roll-RArm}, RExpr.RExpr, RGuard.{RGuard, roll-RGuard}, RKind.RKind, RLabel.RLabel, RStmt.RStmt, RVariable.RVariable}
+use Rattle.lil_resolved.specs.declared.resolved.{Allocation.{Allocation, TheVariants.{Takes, GivesBack}}, Direction.Direction, Membership.Membership, RArgument.RArgument, RExpr.RExpr, RKind.RKind, RStmt.RStmt}
 use Rattle.lil_resolved.specs.declared.resolved.RArgument.TheVariants as given
 use Rattle.lil_resolved.specs.declared.resolved.RExpr.TheVariants as e
 use Rattle.lil_resolved.specs.declared.resolved.RStmt.TheVariants as s
 use Rattle.lil_base.specs.declared.request.Request as requests
 use Rattle.lil_base.specs.declared.request.Request.TheVariants as q
 use Rattle.lil_shapes.specs.{Bases.{kind_at, characters_at, members_at, composite_at}, Operators.{counted, counted_base}, declared.{members.Members.Members, pointers.Target.Target}, Pointers.target_of}
-use Rattle.lil_forms.specs.{declared.{arguments.Handed.Handed, control.Bounds.Bounds, places.Cell.Cell}, Values.typed, Places.cell}
+use Rattle.lil_forms.specs.{declared.{arguments.Handed.Handed, places.Cell.Cell}, Values.typed, Places.cell}
 
 -- ---- assignments
 -- a value goes to a place of a kind
@@ -98,72 +98,6 @@ disposed t p = disposed_at (cell t p)
 abbrev pub allocated : Allocation → Option Cell → Option RExpr → Option RStmt
 allocated way (Some c) (Some x) = Some (s.Allocate way c.place x)
 allocated way _ _ = None
-
--- ---- conditions, and what stands behind them
-abbrev pub guard_of : Option RExpr → Option (List RStmt) → Option RGuard
-guard_of (Some x) (Some ss) = Some (roll-RGuard (record { condition = x; body = ss }))
-guard_of _ _ = None
-
--- without ELSE nothing stands behind it
-abbrev pub conditional : Option (List RGuard) → Option (Option (List RStmt)) → Option RStmt
-conditional (Some gs) (Some (Some ss)) = Some (s.If gs ss)
-conditional (Some gs) (Some None) = Some (s.If gs [])
-conditional _ _ = None
-
-abbrev pub repeated_while : Option RExpr → Option (List RStmt) → Option RStmt
-repeated_while (Some x) (Some ss) = Some (s.While x ss)
-repeated_while _ _ = None
-
-abbrev pub repeated_until : Option (List RStmt) → Option RExpr → Option RStmt
-repeated_until (Some ss) (Some x) = Some (s.Repeat ss x)
-repeated_until _ _ = None
-
-abbrev pub looped : Option (List RStmt) → Option RStmt
-looped None = None
-looped (Some ss) = Some (s.Loop ss)
-
--- ---- WITH
-abbrev pub within : Option Located → Option (List RStmt) → Option RStmt
-within (Some p) (Some ss) = Some (s.With p.place ss)
-within _ _ = None
-
--- ---- CASE
-abbrev pub arm_of : List RLabel → Option (List RStmt) → Option RArm
-arm_of ls None = None
-arm_of ls (Some ss) = Some (roll-RArm (record { labels = ls; body = ss }))
-
-abbrev pub selected : Option RExpr → Option (List RArm) → Option (Option (List RStmt)) → Option RStmt
-selected (Some x) (Some arms) (Some other) = Some (s.Case x arms other)
-selected _ _ _ = None
-
--- ---- FOR
-abbrev pub counter_by : ℕ → Option RKind → Option RVariable
-counter_by n None = None
-counter_by n (Some j) = Some (record { number = n; kind = j })
-
-abbrev pub counter_in : Table → ℕ → Option RVar → Option RVariable
-counter_in t n None = None
-counter_in t n (Some v) = counter_by n (kind_at t v.sort)
-
--- a variable of the module, by its number
-unfoldable pub counter : Table → List RVar → ℕ → Option RVariable
-counter t vs n = counter_in t n (slice_get vs n)
-
-abbrev pub bounds_of : Option RVariable → Option RExpr → Option RExpr → Option Bounds
-bounds_of (Some v) (Some a) (Some c) = Some (record { variable = v; from = a; to = c })
-bounds_of _ _ _ = None
-
--- a step isn't zero, and is an INTEGER
-abbrev pub is_step : ℤ → Bool
-is_step z = not (is_zero z) && in_type Integer z
-
-abbrev pub counted_by : Bounds → ℤ → Option (List RStmt) → Option RStmt
-counted_by x z None = None
-counted_by x z (Some ss) = if is_step z then Some (s.For x.variable x.from x.to z ss) else None
-
-abbrev pub counted_with : Option Bounds → ℤ → Option (List RStmt) → Option RStmt
-counted_with None z ss = None
-counted_with (Some x) z ss = counted_by x z ss
 
 -- ---- the forms of arguments, and of calls of resident procedures
 

@@ -2,7 +2,6 @@
 #![tactic(auto)]
 
 mod arguments;
-mod control;
 mod operators;
 mod places;
 mod sets;
@@ -10,10 +9,6 @@ mod statements;
 mod values;
 
 pub use arguments::{Handed, called, handed_over, located_in, nothing_handed};
-pub use control::{
-    Bounds, arm_of, bounds_of, conditional, counted_with, counter, guard_of, looped,
-    repeated_until, repeated_while, selected, within,
-};
 pub use operators::{
     Built, applied, begun, chain_form, function_by, one_of, operated, set_form, single_by, span_by,
     value_form,

@@ -7,7 +7,7 @@ use Rattle.lil_base.specs.declared.fault.LimitKind.TheVariants as limit
 use Rattle.lil_resolved.specs.{Kinds.all_words, Resolved.{Procedure, procedure_by, Resolved}, Sizes.{frame_words, IsSmall}}
 use Rattle.lil_meaning.specs.{World.World, Items.{Phase, Trapped, Source}, Steps.next, Runs.{begun, state_of}}
 use Rattle.lil_mcode.specs.Table.{Module, State, module_at}
-use Rattle.lil_table.specs.{Rows.Translates, Frames.body_small}
+use Rattle.lil_table.specs.{Rows.Translates, Lengths.body_small}
 use Rattle.lil_match.specs.{Goes.Short, Running.{mrun, running}, Parts.yes}
 use Rattle.lil_laws.specs.{Loading.{Compiled, IsSpent, entry_for, table_from, image, body_alone, loaded}, Whole.{TrapsIn, Unlimited, Agrees, agrees_more}, Reaching.Reaches, Serves.{next_serves, after_first, after_same, none_alone}, Start.Body}
 use Rattle.lil_laws.specs.Start as all

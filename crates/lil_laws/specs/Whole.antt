@@ -5,7 +5,7 @@ use Rattle.lil_base.specs.declared.fault.{TrapKind.TrapKind, LimitKind.LimitKind
 use Rattle.lil_resolved.specs.Resolved.{Resolved}
 use Rattle.lil_meaning.specs.{World.{World, closing, closings_left, all_closed}, Closings.{none_left, all_none, all_some, fewer_left, some_left, closing_shuts}, Items.{Item, Activation, Level, Phase, Going, Closing, Ended, Trapped, Source}, Steps.{next, by_phase, left_by, over, over_by}, Runs.after}
 use Rattle.lil_mcode.specs.Table.{Module, State, module_at, mstep}
-use Rattle.lil_match.specs.{Goes.{HasName, Shared, Lands, IsStill, Short, IsFull, Goes}, Running.{Finish, Running, Finished, TrappedBy, Limited, Broken, Run, mrun, running, react, advanced, unless_over}, Homes.Home, Stutter.stutter, Waits.{Stack, Setting, Quiet, Around, Ahead}, Resting.{EachRests, each_rests}}
+use Rattle.lil_match.specs.{Goes.{HasName, Shared, Lands, IsStill, Short, IsFull, Goes}, Running.{Finish, Running, Finished, TrappedBy, Limited, Broken, Run, mrun, running, react, advanced, unless_over}, Homes.Home, Waits.{stutter, Stack, Setting, Quiet, Around, Ahead}, Resting.{EachRests, each_rests}}
 use Rattle.lil_laws.specs.Each.{each_step}
 
 -- a state that has trapped, in a procedure of the module of the table that runs

@@ -9,7 +9,7 @@ use Rattle.lil_meaning.specs.{Items.{Object, Place, got, Scalars, Places, Get, O
 use Rattle.lil_asm.specs.declared.instr.Instr.{Instr, TheVariants.Liw}
 use Rattle.lil_mcode.specs.{declared.machine.Event.{Event, TheVariants.Went}, Table.{State, mstep, act, going, jump, on_one, and_row, or_row}}
 use Rattle.lil_table.specs.Rows.{InstrsAt, access_of, load_code, one_code, two_code, function_code, short_code}
-use Rattle.lil_match.specs.{Goes.{Shared, Goes, Lands}, Running.{running, react}, Parts.yes, Homes.{word_for, Refers, plain_word, plain_refers, refers_base, shape_there}, Stutter.stutter, Waits.{Setting, frame_of, laid_out, Mode, Quiet, ValueOf, AtPlace, Around, Reach, AfterJumps, Rows, HasPlace, Designates, RightPart, Waiting}}
+use Rattle.lil_match.specs.{Goes.{Shared, Goes, Lands}, Running.{running, react}, Parts.yes, Homes.{word_for, Refers, plain_word, plain_refers, refers_base, shape_there}, Waits.{stutter, Setting, frame_of, laid_out, Mode, Quiet, ValueOf, AtPlace, Around, Reach, AfterJumps, Rows, HasPlace, Designates, RightPart, Waiting}}
 use Rattle.lil_match.specs.{Steps.{advances, pushes, at_step, at_once, lands_on, goes_none, goes_one, goes_after, goes_more, operand_goes, located_goes, closed, both_trap}, Orders.{instr_within, instrs_order, instrs_within, expression_stands, expression_within}}
 use Rattle.lil_laws_place.specs.{Codes.loads, Elements.place_some, Sets.not_true}
 use Rattle.lil_laws_expr.specs.Operators.{answer_row, Gives, Fits, one_plain, two_plain, right_plain, function_plain, ranged_none, pointer_gives, one_gives, one_fits, two_gives, two_length, two_fits, function_gives, function_fits, function_none, function_length}

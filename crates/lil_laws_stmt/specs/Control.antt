@@ -6,7 +6,7 @@ use Rattle.lil_meaning.specs.{Items.{Scalars, Hole, Choose, Turn, Again, Do, Unt
 use Rattle.lil_asm.specs.declared.instr.Instr.{Instr, TheVariants.{Jmp, Jpf}}
 use Rattle.lil_mcode.specs.{declared.machine.Event.TheVariants.Went, Table.{State, going, on_one, false_row}}
 use Rattle.lil_table.specs.Rows.{IsAt, StatementAt, BodyAt, ExpressionAt}
-use Rattle.lil_match.specs.{Goes.{Shared, Goes, Lands}, Running.{running, advanced}, Parts.yes, Homes.word_for, Stutter.{stutter, body_stutter}, Waits.{Setting, frame_of, laid_out, Quiet, ValueOf, Around, Reach, Rows, Ahead, LoopingWaits, Waiting}, Orders.{instr_within, expression_within, statement_within, body_within}}
+use Rattle.lil_match.specs.{Goes.{Shared, Goes, Lands}, Running.{running, advanced}, Parts.yes, Homes.word_for, Waits.{stutter, body_stutter, Setting, frame_of, laid_out, Quiet, ValueOf, Around, Reach, Rows, Ahead, LoopingWaits, Waiting}, Orders.{instr_within, expression_within, statement_within, body_within}}
 use Rattle.lil_match.specs.Steps.{advances, at_step, at_once, rows_jump, rows_ahead, lands_on, goes_none, goes_one_within, jumps_to, operand_goes}
 
 -- a value of the kind of truth values is one

@@ -7,7 +7,7 @@ use Rattle.lil_meaning.specs.{World.{World, closing, all_closed}, Closings.{all_
 use Rattle.lil_asm.specs.declared.instr.Instr.TheVariants.{Rtn, Trp}
 use Rattle.lil_mcode.specs.{declared.machine.Event.TheVariants.LevelEnded, Table.{Module, Kept, State, end_row}}
 use Rattle.lil_table.specs.Rows.{IsAt, loop_place}
-use Rattle.lil_match.specs.{Goes.{Stands, number_of, Shared, Lands, Goes}, Running.{Finished, Run, running, advanced}, Parts.yes, Stutter.stutter, Waits.{Mode, Quiet, Around, outside, Frame, Setting, with_frames, RowsOf, Rows, Ahead, Behind, EndWaits, EndedWaits, Waiting}, Steps.{closed, advances, at_step, at_once, lands_on, goes_none, goes_none_within, goes_one_within}}
+use Rattle.lil_match.specs.{Goes.{Stands, number_of, Shared, Lands, Goes}, Running.{Finished, Run, running, advanced}, Parts.yes, Waits.{stutter, Mode, Quiet, Around, outside, Frame, Setting, with_frames, RowsOf, Rows, Ahead, Behind, EndWaits, EndedWaits, Waiting}, Steps.{closed, advances, at_step, at_once, lands_on, goes_none, goes_none_within, goes_one_within}}
 use Rattle.lil_match.specs.Laid.{IsAround, around_self, around_more, shared_around, goes_around}
 use Rattle.lil_laws_place.specs.Codes.{trap_goes}
 use Rattle.lil_laws_stmt.specs.{Returns.goes_back, Bodies.{goes_next, goes_short}}

@@ -10,7 +10,7 @@ use Rattle.lil_resolved.specs.Resolved as resolved
 use Rattle.lil_meaning.specs.{Items.{Place, part_of, got, Datum, Scalars, Places, Wholes, Opens, Texts, Pass, PassArray, Do, Passing, Item, Value, PlaceOf, Fill, Perform, Going, Source}, World.{World, Given, Single, Characters, characters_at, array_at, given_by, serve}, Steps.{trapped, with_items, character_of, characters_from, as_array, given_of, level_of}}
 use Rattle.lil_mcode.specs.Table.{State, going, array_lies, request_row}
 use Rattle.lil_table.specs.Rows.{IsAt, ArgumentsAt, HasText, text_words, argument_words, arguments_words, access_of}
-use Rattle.lil_match.specs.{Goes.{Shared, Goes, Lands}, Running.{Running, Run, running}, Parts.{yes, no}, Homes.{Home, text_character, word_for, plain_word, takes_plain, address, shape_there, place_inside, part_there}, Stutter.stutter}
+use Rattle.lil_match.specs.{Goes.{Shared, Goes, Lands}, Running.{Running, Run, running}, Parts.{yes, no}, Homes.{Home, text_character, word_for, plain_word, takes_plain, address, shape_there, place_inside, part_there}, Waits.stutter}
 use Rattle.lil_match.specs.{Waits.{Setting, frame_of, laid_out, Quiet, ValueOf, AtPlace, Around, Reach, Rows, Designates, is_open, is_array, TakesAll, DatumOn, DataOn, LeftPart, Waiting}, Orders.{instr_within, arguments_within}, Steps.{closed, advances, at_step, at_once, pushes, rows_ahead, lands_on, goes_none, goes_none_within, goes_one, operand_goes}}
 use Rattle.lil_laws_place.specs.Codes.{leads, addressed, tested}
 use Rattle.lil_laws_stmt.specs.{Strings.{string_low, string_word}, Tasks.value_within}

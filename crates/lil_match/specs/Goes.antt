@@ -8,7 +8,7 @@ use Rattle.lil_resolved.specs.{Resolved.{Procedure, Resolved, procedure_by}, Siz
 use Rattle.lil_meaning.specs.{Items.{Root, Global, Object, Cells, targets_of, loaded_at, Item, Activation, Workspace, Parked, Level, Phase, Going, Closing, Ended, Trapped, Source, heap_words}, World.{World, all_closed}, Need.{frame_of, chain_of}, Steps.{next, owner_of, procedure_of, procedures_of, surrounding, name_of, procedure_name}}
 use Rattle.lil_mcode.specs.Table.{Module, StackRegisters, Kept, State, stack_of, module_at}
 use Rattle.lil_table.specs.Rows.{Layout, ProcedureRow, exactly}
-use Rattle.lil_match.specs.{Running.{Finish, Running, Finished, TrappedBy, Limited, Run, mrun, running}, Homes.{Owner, Own, Fixed, Free, Home, Extends, lives, Mem}, Stutter.stutter, Waits.{Frame, Stack, Setting, Quiet, Around, Ahead}}
+use Rattle.lil_match.specs.{Running.{Finish, Running, Finished, TrappedBy, Limited, Run, mrun, running}, Homes.{Owner, Own, Fixed, Free, Home, Extends, lives, Mem}, Waits.{stutter, Frame, Stack, Setting, Quiet, Around, Ahead}}
 
 -- a run that has shown no more, and goes on
 pub record IsStill (w : World) (run : Run) : Type 0 where

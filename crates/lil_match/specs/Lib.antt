@@ -13,6 +13,5 @@ pub mod Resting
 pub mod Running
 pub mod Splices
 pub mod Steps
-pub mod Stutter
 pub mod Tests
 pub mod Waits

@@ -8,7 +8,7 @@ use Rattle.lil_meaning.specs.{Items.{Global, Place, loaded_at, Turns, Holding, E
 use Rattle.lil_mcode.specs.{declared.machine.Event.{Event, TheVariants.{Trap, Went, Limit}}, Table.{Kept, State, Module, module_at, mstep, act, fetched, performed, going, push_row}}
 use Rattle.lil_table.specs.Rows.{InData, holding, loop_place, IsAt, PlaceAt, ExpressionAt}
 use Rattle.lil_match.specs.{Goes.{HasName, Shared, IsTrapped, IsProgram, GoesOn, Lands, IsStill, Touches, Short, IsFull, Grows, Goes}, Running.{running, react, Run, mrun, advanced}, Homes.{address, shape_there, Home, extends_self, lives, Mem}, Kept.sees_laid}
-use Rattle.lil_match.specs.{Waits.{Setting, frames_of, inside_with, sees, Mode, Around, RowsOf, Rows, HasPlace, HoldingWaits, Stack, frame_of, laid_out, at_home, Quiet, ValueOf, AtPlace, Reach, Jumps, AfterJumps, Ahead, Waiting}, Parts.yes, Stutter.stutter}
+use Rattle.lil_match.specs.{Waits.{stutter, Setting, frames_of, inside_with, sees, Mode, Around, RowsOf, Rows, HasPlace, HoldingWaits, Stack, frame_of, laid_out, at_home, Quiet, ValueOf, AtPlace, Reach, Jumps, AfterJumps, Ahead, Waiting}, Parts.yes}
 use Rattle.lil_base.specs.declared.fault.LimitKind.TheVariants as limit
 use Rattle.lil_asm.specs.declared.instr.Instr.{Instr, TheVariants.Jmp}
 

@@ -1,4 +1,4 @@
-ghost use Rattle.std.specs.Prelude.{◌≡◌, ◌+◌, ◌-◌, ◌^◌, min, ◌<◌, ◌≤◌, ◌⊎◌, length, drop, slice_get, true, false, Some, None, IfOk, IfSome, IfNone};
+ghost use Rattle.std.specs.Prelude.{◌≡◌, ◌+◌, ◌-◌, ◌^◌, min, ◌<◌, ◌≤◌, length, drop, slice_get, true, false, Some, None, IfOk, IfSome, IfNone};
 ghost use Rattle.std.specs.{List.All, Option.option_copied};
 ghost use Rattle.lil_mcode.specs.{Table.{Module, module_at, mstep}, Going.Ran, Calls.{fresh, counted, with_level, with_module, with_words, with_bodies, code_used, names_of, IsRunning}};
 ghost use Rattle.lil_mcode.specs.declared.machine.Event.TheVariants as event;
@@ -72,11 +72,10 @@ impl Machine {
         })
     }
 
-    /// Opens a level above the others, and gives its number. Modules come to it until it begins.
+    /// Opens the first level, and gives its number, 1. Modules come to it until it begins. No further level can be opened:
+    /// its stack would lie over that of the first.
     pub fn open_level(&mut self) -> u8
-        requires room { length self.old.state.modules < 63 }
-        requires begun { (self.old.levels ≡ 0) ⊎ (self.old.begun ≡ true) }
-        requires fewer { self.old.levels < 63 }
+        requires first { self.old.levels ≡ 0 }
         ensures new { self.new ≡ with_level self.old }
         ensures number { result ≡ self.new.levels }
     {

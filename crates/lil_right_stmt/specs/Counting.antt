@@ -11,11 +11,11 @@ use Rattle.lil_scope.specs.declared.thing.Kind.TheVariants as k
 use Rattle.lil_scope.specs.declared.thing.Thing.TheVariants as t
 use Rattle.lil_kinds.specs.{Forms.span_of, Kinds.{suits, compatible, assignable, misses, is_constant}, declared.found.Found.Found}
 use Rattle.lil_kinds.specs.Kinds as Kinds
-use Rattle.lil_forms.specs.{declared.control.Bounds.Bounds, Scopes.{Fits, has_shape, both_left, both_right}, Soundness.{soundness, variable_lies}, Statements.{counter_by, counter_in, counter, bounds_of, is_step, counted_with}, StatementSound.{StatementSound, AllSound, body_sound, made_sound}, Values.typed}
+use Rattle.lil_forms.specs.{Scopes.{Fits, has_shape, both_left, both_right}, Soundness.{soundness, variable_lies}, StatementSound.{StatementSound, AllSound, body_sound, made_sound}, Values.typed}
 use Rattle.lil_check_value.specs.declared.names.Looked.{Looked}
 use Rattle.lil_check_value.specs.declared.names.Looked.TheVariants as l
 use Rattle.lil_right_type.specs.{Found.{IsFound, ThingTold, EnvTold}, Right.{Right, IsThere, is_so}, Sound.{value_sound, whole_sound}, Typed.{Yields, Suits, kept_if, mapped, suits_yields, stores_suits, assignable_stores}, Types.ordinal_is}
-use Rattle.lil_check_stmt.specs.Counting.{is_nothing, is_other, is_plain, is_unfit, counting_with, counter_of, counter_node, start_node, limit_node, step_of, is_other_constant, is_no_step, step_node, count_of, counted}
+use Rattle.lil_check_stmt.specs.Counting.{variable_by, variable_in, counted_variable, bounds_of, is_step, counted_with, is_nothing, is_other, is_plain, is_unfit, counting_with, counter_of, counter_node, start_node, limit_node, step_of, is_other_constant, is_no_step, step_node, count_of, counted}
 use Rattle.lil_right_value.specs.Names.{LookTold}
 use Rattle.lil_right_stmt.specs.Nodes.{Taken, node_right}
 
@@ -51,7 +51,7 @@ module _ (e : Env) {ts : Scope} (fits : Fits e.types e.variables e.withs ts) (to
     pub ordinal : is_ordinal (base_view variable.kind.base) ≡ true
     pub sound : IsSoundVariable ts variable.number (kind_view variable.kind)
 
-  abbrev BoundsSound : Bounds → Type 0
+  abbrev BoundsSound : Taken counted_with → Type 0
   BoundsSound x = IsSoundVariable ts x.variable.number (kind_view x.variable.kind) × IsSoundValue ts (expression_of x.from) (kind_view x.variable.kind) × IsSoundWhole ts (expression_of x.to) (base_of (kind_view x.variable.kind))
 
   abbrev pub IsCount : Taken counted → Type 0
@@ -60,12 +60,12 @@ module _ (e : Env) {ts : Scope} (fits : Fits e.types e.variables e.withs ts) (to
   pub counted_right : (looping : Bool) (c : Taken counted) (ss : List RStmt) → IsCount c → AllSound ts looping ss → IsThere (StatementSound ts looping) (counted (Some c) (Some ss))
   counted_right looping c ss h all = by c.bounds h.0
     where
-      by : (o : Option Bounds) → IsThere BoundsSound o → IsThere (StatementSound ts looping) (counted_with o c.by (Some ss))
+      by : (o : Option (Taken counted_with)) → IsThere BoundsSound o → IsThere (StatementSound ts looping) (counted_with o c.by (Some ss))
       by None h = h
       by (Some x) j = kept_if (StatementSound ts looping) (is_step c.by) _ h.1 (made_sound ts looping _ _ (for_is x.variable x.from x.to c.by ss) (j.0, j.1, j.2, step_sound c.by h.1, body_sound ts looping ss all))
 
   counts_with : (v : Variable) → ThingTold e.types e.variables e.texts (t.Variable v) → (o : Option Span) → span_of e.types v.sort ≡ o → is_some o ≡ true → IsCounter (record { variable = counting_with e v; sort = v.sort })
-  unfolding counter
+  unfolding counted_variable
   counts_with v h None is some = cc
   counts_with v h (Some u) is some =
       let o = ordinal_is e.types told.types v.sort u is in
@@ -73,7 +73,7 @@ module _ (e : Env) {ts : Scope} (fits : Fits e.types e.variables e.withs ts) (to
       let lies = variable_lies fits v.number h.2.0 h.2.1 in
       record {
         variable = record { number = v.number; kind = o.kind };
-        is = ap (λ n. if n == 1 then counter e.types e.variables v.number else None) h.0 ∙ ap (counter_in e.types v.number) h.2.1 ∙ ap (counter_by v.number) at;
+        is = ap (λ n. if n == 1 then counted_variable e.types e.variables v.number else None) h.0 ∙ ap (variable_in e.types v.number) h.2.1 ∙ ap (variable_by v.number) at;
         at = o.at;
         ordinal = o.ordinal;
         sound = record { known = lies.2 ∙ ap Some (word_shaped e.types fits.shapes h.2.0.sort lies.0 (has_shape fits h.2.0.sort lies.0 lies.1) o.kind at); base = ap is_ordinal (own_base o.kind) ∙ o.ordinal };

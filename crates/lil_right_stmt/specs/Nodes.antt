@@ -17,10 +17,9 @@ use Rattle.lil_kinds.specs.{Forms.{span_of, span_in, is_record}, Kinds.{suits, c
 use Rattle.lil_kinds.specs.Kinds as Kinds
 use Rattle.lil_kinds.specs.declared.found.Form.TheVariants as form
 use Rattle.lil_forms.specs.{Scopes.{Fits, both_right, both_left}, Soundness.{Lies, soundness, composite_there}, StatementSound.{StatementSound, AllSound, body_sound, made_sound}, Values.{typed_by, typed}}
-use Rattle.lil_forms.specs.Statements as forms
 use Rattle.lil_right_type.specs.{Found.{is_scalar, HasWord, KindTold, LiesAt, GoesWith, IsLocated, IsFound}, Parts.record_is, Right.{Clear, Right, IsThere, is_so}, Sound.whole_sound, Typed.{Yields, kept_if, mapped, fits_number, is_character_number, kind_yields, suits_yields}}
 use Rattle.lil_right_type.specs.Types.{IsTold, FormTold, HasSpan, own_base, entry_base, entry_known, no_entry, span_is, ordinal_is}
-use Rattle.lil_check_stmt.specs.{Labels.{against, is_empty_span, span, one_span, range_span, one_node, range_node}, Nodes.{clear, node, is_truth, condition_node, selector_node, is_record_kind, opening, record_node, exit_node, end_node, return_node}, Statements.{selector_type, selector_value, within}}
+use Rattle.lil_check_stmt.specs.{Labels.{against, is_empty_span, span, one_span, range_span, one_node, range_node}, Nodes.{clear, node, is_truth, condition_node, selector_node, is_record_kind, opening, record_node, exit_node, end_node, return_node}, Statements.{selected_by, selector_type, selector_value, within}}
 use Rattle.lil_right_stmt.specs.Assignments.{equal}
 
 -- ---- nodes that have no value where a test finds a fault
@@ -234,12 +233,12 @@ module _ {t : Table} {vs : List RVar} {around : List ℕ} {ts : Scope} (fits : F
 
   -- a value that is compared by its number, and arms whose labels are numbers of its base
   pub selected_right : (looping : Bool) (a : Found) → IsFound (soundness fits) a → (s : Selects t a.kind) (arms : List RArm) (other : Option (List RStmt)) → AllFine (IsArm ts looping s.over) arms → OtherSound ts looping other
-      → IsThere (StatementSound ts looping) (forms.selected (selector_value t (Some a)) (Some arms) (Some other))
+      → IsThere (StatementSound ts looping) (selected_by (selector_value t (Some a)) (Some arms) (Some other))
   unfolding typed
   selected_right looping a h s arms other all behind =
       by (selector_value t (Some a)) (subst (IsThere (Yields (soundness fits) s.over a.depth)) (sym (s.typed a.form)) (kind_yields (soundness fits) told s.sort s.over a.depth a.kind a.form s.at h.kind h.form s.own))
     where
-      by : (o : Option RExpr) → IsThere (Yields (soundness fits) s.over a.depth) o → IsThere (StatementSound ts looping) (forms.selected o (Some arms) (Some other))
+      by : (o : Option RExpr) → IsThere (Yields (soundness fits) s.over a.depth) o → IsThere (StatementSound ts looping) (selected_by o (Some arms) (Some other))
       by None y = absurd y
       by (Some x) y = made_sound ts looping _ _ (case_is x arms other) (
         ap is_ordinal y.0 ∙ s.ordinal,

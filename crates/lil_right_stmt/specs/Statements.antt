@@ -9,12 +9,11 @@ use Rattle.lil_resolved.specs.Views as views
 use Rattle.lil_shapes.specs.ListLaws.{AllFine}
 use Rattle.lil_scope.specs.declared.{env.Env.Env, thing.Kind.Kind}
 use Rattle.lil_kinds.specs.declared.found.{Found.Found, Located.Located}
-use Rattle.lil_forms.specs.{Scopes.{Fits, fine_more, deeper}, Soundness.soundness, Statements.conditional, StatementSound.{StatementSound, AllSound, body_sound, made_sound}}
-use Rattle.lil_forms.specs.Statements as forms
+use Rattle.lil_forms.specs.{Scopes.{Fits, fine_more, deeper}, Soundness.soundness, StatementSound.{StatementSound, AllSound, body_sound, made_sound}}
 use Rattle.lil_check_value.specs.{Looks.look, Values.means}
 use Rattle.lil_right_type.specs.{Found.{IsFound, IsLocated, EnvTold}, Right.{Right, IsThere, after_right, walk_right, IsAny}}
 use Rattle.lil_check_stmt.specs.{Nodes.{condition_node, return_node}, Labels.{high_means, label_means, label_step, labels_mean, with_label}, Counting.{step_node, step_means, count_means}}
-use Rattle.lil_check_stmt.specs.Statements.{Meaning, GuardMeaning, ArmMeaning, list_means, else_means, guards_mean, no_arms, arms_step, arms_mean, condition_means, selector_means, kind_of, within, result_by, result_at, return_means, selected, with_record, statement_layer, guard_layer, arm_layer, statement_means, guard_means, arm_means, statements_mean}
+use Rattle.lil_check_stmt.specs.Statements.{conditional, Meaning, GuardMeaning, ArmMeaning, list_means, else_means, guards_mean, no_arms, arms_step, arms_mean, condition_means, selector_means, kind_of, within, result_by, result_at, return_means, selected, with_record, statement_layer, guard_layer, arm_layer, statement_means, guard_means, arm_means, statements_mean}
 use Rattle.lil_check_stmt.specs.Induction.{meant, arm_meant, guard_meant, statement_rolled, arm_rolled, guard_rolled, bare, bare_arm, bare_guard, by_forms}
 use Rattle.lil_check_stmt.specs.Statements as statements
 use Rattle.lil_right_value.specs.{Names.look_told, Values.{means_right, variable_means_right, call_means_right}}
@@ -177,7 +176,7 @@ with_there : (e : Env) (ts : Scope) (fits : Fits e.types e.variables e.withs ts)
     → Right (IsThere (StatementSound ts looping)) (after (list_means (within (Some r) e) looping (means_of xs)) (λ ss. pure (with_record (Some r) ss)))
 with_there e ts fits told none looping r xs h = by r.place h
   where
-    by : (o : Option Located) → IsThere (Opens fits told.types r.sort) o → Right (IsThere (StatementSound ts looping)) (after (list_means (within (Some r) e) looping (means_of xs)) (λ ss. pure (forms.within o ss)))
+    by : (o : Option Located) → IsThere (Opens fits told.types r.sort) o → Right (IsThere (StatementSound ts looping)) (after (list_means (within (Some r) e) looping (means_of xs)) (λ ss. pure (statements.inside o ss)))
     by None h = absurd h
     by (Some p) h =
         let held = with_held ts (shape_of ts (place_of p.place)) in

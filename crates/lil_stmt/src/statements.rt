@@ -3,7 +3,7 @@
 ghost use Rattle.std.specs.{Prelude.{◌≡◌, true, length, IfOk, OnOk}, List.flat_map};
 ghost use Rattle.lil_resolved.specs.{Resolved.{While, Repeat, Loop, For, Inside}, Views.{variable_kind, expression_of, place_of, statement_of, statements_of}, Sizes.body_strings};
 ghost use Rattle.lil_labels.specs.Drafts.{Each, Adds, Emits};
-ghost use Rattle.lil_stmt.specs.{Generating.{Stated, Body, GuardPart, guard_part, ArmPart, ArmBody, arm_part, Trapping, paired}, Forms.{is_simple, is_case}};
+ghost use Rattle.lil_stmt.specs.{Generating.{Stated, Body, GuardPart, guard_part, ArmPart, ArmBody, arm_part, Trapping, paired}, Forms.is_case};
 
 use crate::cases::emit_choice;
 use crate::kinds::{emit_turn_test, loop_sign};
@@ -64,16 +64,6 @@ fn emit_statement(
             emit_for(code, body.as_slice(), *variable, from, to, *step, around)
         }
         RStmt::With(place, body) => emit_with(code, body.as_slice(), place, around),
-        _ => emit_simple(code, statement, around),
-    }
-}
-
-/// Appends the code of a statement that holds no others.
-fn emit_simple(code: &mut CodeBuffer<'_>, statement: &RStmt, around: Around) -> Result<(), Memory>
-    requires { is_simple statement.now ≡ true }
-    ensures { OnOk result (Adds (body_strings (statement_of statement.now)) code.old code.new (Body around.words around.exit (statement_of statement.now))) }
-{
-    match statement {
         RStmt::Assign(place, kind, value) => emit_assign(code, place, *kind, value),
         RStmt::Copy(place, from) => emit_copy(code, place, from),
         RStmt::Text(place, text) => emit_text(code, place, text.get()),
@@ -85,7 +75,6 @@ fn emit_simple(code: &mut CodeBuffer<'_>, statement: &RStmt, around: Around) -> 
         RStmt::Exit => emit_exit(code, around),
         RStmt::Halt => code.put(Instr::Trp(9)),
         RStmt::Return => code.put(Instr::Rtn),
-        _ => unreachable!(),
     }
 }
 

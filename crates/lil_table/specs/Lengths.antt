@@ -1,10 +1,10 @@
 -- How many bytes a translation has, however places in jumps, words of frames and numbers of entries are written.
-use Rattle.std.proofs.Common.{◌≡◌, ℕ, zero, suc, ◌+◌, ◌*◌, Bool, true, false, cond, if◌then◌else◌, List, [], ◌∷◌, ◌++◌, Option, Some, None, length, refl, ap, ◌∙◌, arith}
+use Rattle.std.proofs.Common.{◌≡◌, ℕ, zero, suc, ◌+◌, ◌*◌, ◌≤◌, Bool, true, false, cond, if◌then◌else◌, List, [], ◌∷◌, ◌++◌, Option, Some, None, length, refl, ap, ◌∙◌, arith}
 use Rattle.lil_base.specs.{Words.{Whole, Cardinal, Integer, word_of}, declared.operator.{OneOp.OneOp, TwoOp.{TwoOp, TheVariants.{Equal, Unequal, Less, AtMost, Greater, AtLeast, In, Plus, Minus, Times, Slash, Or, And}}}, Requests.request_number}
 use Rattle.lil_base.specs.declared.operator.OneOp.TheVariants as one
 use Rattle.lil_resolved.specs.Kinds.{Kind, OfWhole, OfCharacter, OfSet, OfPointer, base_of, compared_as, covers, shared, outside_turns, words, shape_at}
 use Rattle.lil_resolved.specs.Resolved.{Designator, Variable, Held, Field, Element, Follow, Function, Abs, Cap, Chr, Odd, Ord, Val, Expression, Constant, Taken, One, Two, Short, Apply, With, WithSpan, Argument, ByValue, OfArray, OfText, Label, Statement, Assign, Copy, Text, Change, Member, New, Allocate, Request, If, Case, While, Repeat, Loop, Exit, Halt, Return, Call, For, Inside, Statements, Empty, Then, Arms, NoElse, Else, Arm, Resolved, kind_of, counted_as, shape_of}
-use Rattle.lil_resolved.specs.Sizes.{frame_words, argument_size, one_size, two_size, test_size, function_size, Form, Direct, Exact, Beyond, field_form, form_of, address_size, load_size, ready_size, store_size, again_size, under_size, place_size, target_size, size, arguments_size, allocate_size, statement_size, body_size, arms_size, code_size}
+use Rattle.lil_resolved.specs.Sizes.{statement_words, body_words, arms_words, frame_words, argument_size, one_size, two_size, test_size, function_size, Form, Direct, Exact, Beyond, field_form, form_of, address_size, load_size, ready_size, store_size, again_size, under_size, place_size, target_size, size, arguments_size, allocate_size, statement_size, body_size, arms_size, code_size}
 use Rattle.lil_resolved.specs.Sound.{takes_two}
 use Rattle.lil_asm.specs.{declared.instr.Instr.{Instr, TheVariants.{Liw, Lag, Dup, Drp, Nlt, Llw, Slw, Sgw, Swp, Rgc, Lsi, Spn, Mrk, Cll, Ent, Rtn, Jmp, Jpf, Cas, Fri, Frn, Trp, Alc, Svc}}, Bytes.bytes_of, Decoding.decoded_stands}
 use Rattle.lil_table.specs.Rows.{Layout, holding, argument_words, ArgumentAt, IsAt, InstrsAt, one_code, whole_code, two_code, range_code, test_code, function_code, Access, InData, OnTop, Behind, further, access_of, address_code, load_code, ready_code, readied, held, store_code, again_code, under_code, change_operator, change_code, member_code, allocate_code, short_code, loop_place, loop_sign, ValueRow, TargetRow, EntriesAt, AlignAt, PlaceAt, ExpressionAt, ArgumentsAt, StatementAt, BodyAt, ArmsAt, TranslatesBy}
@@ -356,3 +356,24 @@ mutual
 pub module_long : (l : Layout) (m : Resolved) (code : List ℕ) → m.procedures ≡ [] → TranslatesBy l m code → length code ≡ code_size m
 module_long l m code bare h =
     omega (arith, instr_long code 0 (Ent (l.target (frame_words m.body))) h.start h.enter, body_long l code 0 None m.body h.start h.end h.body, instr_long code h.end Rtn h.after h.leave, h.whole bare)
+
+-- ---- a frame has no more words than its code has bytes
+mutual
+  statement_small : (s : Statement) → statement_words s ≤ statement_size s
+  statement_small (If c a b) = omega (arith, body_small a, body_small b)
+  statement_small (Case e arms) = omega (arith, arms_small arms)
+  statement_small (While c body) = omega (arith, body_small body)
+  statement_small (Repeat body c) = omega (arith, body_small body)
+  statement_small (Loop body) = omega (arith, body_small body)
+  statement_small (For d k a b step body) = omega (arith, body_small body)
+  statement_small (Inside d body) = omega (arith, body_small body)
+  statement_small _ = omega arith
+
+  pub body_small : (b : Statements) → body_words b ≤ body_size b
+  body_small Empty = omega arith
+  body_small (Then s ss) = omega (arith, statement_small s, body_small ss)
+
+  arms_small : (a : Arms) → arms_words a ≤ arms_size a
+  arms_small NoElse = omega arith
+  arms_small (Else body) = omega (arith, body_small body)
+  arms_small (Arm labels body rest) = omega (arith, body_small body, arms_small rest)

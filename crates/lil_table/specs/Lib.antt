@@ -1,4 +1,3 @@
 pub mod LabelLaws
 pub mod Lengths
-pub mod Frames
 pub mod Rows

@@ -5,7 +5,7 @@ use Rattle.std.specs.List.{flat_map}
 use Rattle.std.proofs.lemmas.Option.{none-some, same_Some}
 use Rattle.lil_resolved.specs.{declared.{resolved.{RModule.RModule, RDeclared.RDeclared}, shapes.RShape.RShape}, Kinds.{words, all_words, offsets_from}, Resolved.{Procedure, Resolved}, Sizes.{body_strings, procedure_strings, module_strings, code_size, frame_words}, Views.{offset_of, shape_declared, module_of, IsMeasured}, Sound.IsSound}
 use Rattle.lil_asm.specs.declared.instr.Instr.TheVariants.{Ent, Rtn}
-use Rattle.lil_table.specs.{Rows.{IsAt, TranslatesBy, Translates, layout_by, exactly, cut}, Lengths.module_long, Frames.body_small}
+use Rattle.lil_table.specs.{Rows.{IsAt, TranslatesBy, Translates, layout_by, exactly, cut}, Lengths.{module_long, body_small}}
 use Rattle.lil_labels.specs.{Tables.{Tables, Describe}, Drafts.{Draft, empty, Final, Fits, Adds, Emits, Doing, code_of, settled_word, word_in}, Settling.written_long, Emitting.{emits_then, emits_as, adds_as}}
 use Rattle.lil_stmt.specs.Generating.{Body}
 use Rattle.lil_unit.specs.Framing.{Framed}

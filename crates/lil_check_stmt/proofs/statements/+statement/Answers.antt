@@ -1,8 +1,7 @@
 use Rattle.std.proofs.Common.{rules, ◌∙◌, ap, sym, true, refl, arith}
 use Rattle.lil_base.specs.Lists.{joined}
 use Rattle.lil_report.specs.Laws.{said_to, said_value, said_more, said_all}
-use Rattle.lil_forms.specs.Statements.{conditional}
-use Rattle.lil_check_stmt.specs.Statements.{kind_of, selected, statement_step, guard_step, arm_step}
+use Rattle.lil_check_stmt.specs.Statements.{conditional, kind_of, selected, statement_step, guard_step, arm_step}
 use Rattle.lil_check_stmt.proofs.Forms.{is_given, on_ok, is_assign, is_call, is_if, is_case, is_while, is_repeat, is_loop, is_for, is_with, is_exit, is_return, of_while, of_repeat, of_loop, of_for, of_with, selected_as, no_else, is_else, is_guard, is_arm, is_statement, is_guard_more, is_arm_more, is_statements}
 use Rattle.lil_check_stmt.proofs.statements.+statement.Goals as goal
 

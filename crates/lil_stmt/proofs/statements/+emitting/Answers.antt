@@ -3,12 +3,12 @@ use mir.Val.{SFits}
 use Rattle.std.specs.List.{flat_map}
 use Rattle.std.proofs.lemmas.Int.{to_z-of_z}
 use Rattle.lil_base.specs.Words.{word_of}
-use Rattle.lil_resolved.specs.{declared.{resolved.{RStmt.RStmt, RArm.RArm, RGuard.RGuard}, shapes.RField.RField}, Kinds.{base_of, compared_as, covers, outside_turns}, Resolved.{For, Statements, Empty, Then, kind_of}}
-use Rattle.lil_resolved.specs.{Views.{kind_view, variable_kind, expression_of, place_of, statement_of, statements_of, else_of, if_is, while_is, repeat_is, loop_is, for_is, inside_is}, Sizes.{body_strings, arms_strings}}
-use Rattle.lil_labels.specs.{Drafts.{Draft, Each, Adds, Emits}, Emitting.{with_ok, adds_as}}
+use Rattle.lil_resolved.specs.{declared.{resolved.{RStmt.RStmt, RArm.RArm, RGuard.RGuard}, shapes.RField.RField}, Kinds.{base_of, compared_as, covers, outside_turns}, Resolved.{Halt, Return, For, Statements, Empty, Then, kind_of}}
+use Rattle.lil_resolved.specs.{Views.{kind_view, variable_kind, expression_of, place_of, statement_of, statements_of, else_of, if_is, while_is, repeat_is, loop_is, for_is, inside_is, assign_is, copy_is, text_is, change_is, member_changed_is, new_is, allocate_is, request_is, exit_is, halt_is, return_is}, Sizes.{body_strings, arms_strings}}
+use Rattle.lil_labels.specs.{Drafts.{Draft, Each, Adds, Emits}, Emitting.{emits_as, with_ok, adds_as}}
 use Rattle.lil_expr.specs.Numbers.{number_word}
-use Rattle.lil_stmt.specs.Generating.{Body, StatementPart, statement_part, GuardPart, guard_part, paired, ArmPart, ArmBody, arm_part, ElsePart, ChoiceOf, Aligning}
-use Rattle.lil_stmt.proofs.{Stating.{one_emitted, body_emitted, while_emitted, repeat_emitted, loop_emitted, guard_emitted, if_emitted, for_emitted, with_emitted, next_arm_emitted, case_emitted}, Strings.{parts_next, next_part}}
+use Rattle.lil_stmt.specs.Generating.{Body, Stated, StatementPart, statement_part, GuardPart, guard_part, paired, ArmPart, ArmBody, arm_part, ElsePart, ChoiceOf, Aligning}
+use Rattle.lil_stmt.proofs.{Stating.{one_emitted, stated, body_emitted, while_emitted, repeat_emitted, loop_emitted, guard_emitted, if_emitted, for_emitted, with_emitted, next_arm_emitted, case_emitted}, Strings.{parts_next, next_part}}
 use Rattle.lil_stmt.proofs.statements.+emitting.Goals.{emit_case-in-None+in_ok-other-in-None, emit_case-in-Some+in_ok-other-in-Some}
 use Rattle.lil_stmt.proofs.statements.+emitting.Goals as goal
 
@@ -114,6 +114,41 @@ emit_statement-returns-in-For t c =
 pub emit_statement-returns-in-With : goal.emit_statement-returns-in-With
 emit_statement-returns-in-With t c =
     with_ok c.emit_with.result (one_emitted c.args.around.words c.args.around.exit _ _ _ _ (ap statement_of c.in-With.is ∙ inside_is _ _)) (rw c.as_slice-in-With.ensures at c.emit_with.ensures)
+
+pub emit_statement-returns-in-Assign : goal.emit_statement-returns-in-Assign
+emit_statement-returns-in-Assign t c = stated c.emit_assign.result c.args.around.words c.args.around.exit _ _ _ _ (ap statement_of c.in-Assign.is ∙ assign_is _ _ _) c.emit_assign.ensures
+
+pub emit_statement-returns-in-Copy : goal.emit_statement-returns-in-Copy
+emit_statement-returns-in-Copy t c = stated c.emit_copy.result c.args.around.words c.args.around.exit _ _ _ _ (ap statement_of c.in-Copy.is ∙ copy_is _ _) c.emit_copy.ensures
+
+pub emit_statement-returns-in-Text : goal.emit_statement-returns-in-Text
+emit_statement-returns-in-Text t c = stated c.emit_text.result c.args.around.words c.args.around.exit _ _ _ _ (ap statement_of c.in-Text.is ∙ text_is _ _) (rw c.get.ensures at c.emit_text.ensures)
+
+pub emit_statement-returns-in-Change : goal.emit_statement-returns-in-Change
+emit_statement-returns-in-Change t c = stated c.emit_change.result c.args.around.words c.args.around.exit _ _ _ _ (ap statement_of c.in-Change.is ∙ change_is _ _ _ _) c.emit_change.ensures
+
+pub emit_statement-returns-in-Member : goal.emit_statement-returns-in-Member
+emit_statement-returns-in-Member t c = stated c.emit_member.result c.args.around.words c.args.around.exit _ _ _ _ (ap statement_of c.in-Member.is ∙ member_changed_is _ _ _ _) c.emit_member.ensures
+
+pub emit_statement-returns-in-New : goal.emit_statement-returns-in-New
+emit_statement-returns-in-New t c = stated c.emit_new.result c.args.around.words c.args.around.exit _ _ _ _ (ap statement_of c.in-New.is ∙ new_is _ _) c.emit_new.ensures
+
+pub emit_statement-returns-in-Allocate : goal.emit_statement-returns-in-Allocate
+emit_statement-returns-in-Allocate t c = stated c.emit_allocate.result c.args.around.words c.args.around.exit _ _ _ _ (ap statement_of c.in-Allocate.is ∙ allocate_is _ _ _) c.emit_allocate.ensures
+
+pub emit_statement-returns-in-Request : goal.emit_statement-returns-in-Request
+emit_statement-returns-in-Request t c = stated c.emit_request.result c.args.around.words c.args.around.exit _ _ _ _ (ap statement_of c.in-Request.is ∙ request_is _ _) (rw c.as_slice-in-Request.ensures at c.emit_request.ensures)
+
+pub emit_statement-returns-in-Halt : goal.emit_statement-returns-in-Halt
+emit_statement-returns-in-Halt t c =
+    with_ok c.put.result (λ h. one_emitted c.args.around.words c.args.around.exit Halt _ _ _ (ap statement_of c.in-Halt.is ∙ halt_is) (emits_as _ _ _ (Stated c.args.around.words c.args.around.exit Halt) (λ x t many taken sound room. t) h)) c.put.ensures
+
+pub emit_statement-returns-in-Return : goal.emit_statement-returns-in-Return
+emit_statement-returns-in-Return t c =
+    with_ok c.put-in-Return.result (λ h. one_emitted c.args.around.words c.args.around.exit Return _ _ _ (ap statement_of c.in-Return.is ∙ return_is) (emits_as _ _ _ (Stated c.args.around.words c.args.around.exit Return) (λ x t many taken sound room. t) h)) c.put-in-Return.ensures
+
+pub emit_statement-returns-in-Exit : goal.emit_statement-returns-in-Exit
+emit_statement-returns-in-Exit t c = with_ok c.emit_exit.result (one_emitted c.args.around.words c.args.around.exit _ _ _ _ (ap statement_of c.in-Exit.is ∙ exit_is)) c.emit_exit.ensures
 
 pub emit_case-returns : goal.emit_case-returns
 emit_case-returns t c =
