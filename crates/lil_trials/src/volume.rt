@@ -4,7 +4,7 @@ use lil_volume::{
     VolumeError,
 };
 use std::alloc::{Allocator, Global};
-use std::fs::{Metadata, OpenOptions};
+use std::fs::{File, Metadata, OpenOptions};
 use std::io::{ErrorKind, Read, Write};
 use std::os::unix::fs::symlink;
 use std::process::Abort;
@@ -202,6 +202,19 @@ fn each_piece_is_flushed(rt: HostRuntime) {
     assert!(rt; reported == 2);
 }
 
+/// The first names under which files are written before they get their own, and the last one.
+const BESIDE: [&str; 3] = ["lilith-new-1", "lilith-new-2", "lilith-new-16"];
+
+/// Whether nothing is left under these names.
+fn is_clear<R: Files>(files: &R) -> io::Result<bool> {
+    for name in BESIDE {
+        if fs::exists(files, name)? {
+            return Ok(false);
+        }
+    }
+    Ok(true)
+}
+
 #[test]
 fn a_folder(rt: HostRuntime) -> Result<(), Fail> {
     let alloc = rt.alloc();
@@ -215,7 +228,7 @@ fn a_folder(rt: HostRuntime) -> Result<(), Fail> {
     call_all(&rt, alloc, &mut volume, calls)?;
     fs::remove_file(&rt, "FOUND.TXT")?;
     assert!(rt; has(alloc, &mut volume, b"FOUND.TXT", None)?);
-    assert!(rt; !fs::exists(&rt, "lilith-new")?);
+    assert!(rt; is_clear(&rt)?);
     Ok(())
 }
 
@@ -239,7 +252,7 @@ fn names_that_are_no_files(rt: HostRuntime) -> Result<(), Fail> {
     fs::remove_file(&rt, "LINK.MOD")?;
     fs::remove_file(&rt, "NULL.MOD")?;
     fs::remove_dir(&rt, "X.MOD")?;
-    assert!(rt; !fs::exists(&rt, "lilith-new")?);
+    assert!(rt; is_clear(&rt)?);
     Ok(())
 }
 
@@ -262,38 +275,115 @@ fn links_to_files(rt: HostRuntime) -> Result<(), Fail> {
     Ok(())
 }
 
-/// Nothing is written where a link stands beside the file, and what an earlier write left there goes.
+/// A link beside the file stays, and what it leads to. Another name serves in its place.
 #[test]
 fn links_beside_files(rt: HostRuntime) -> Result<(), Fail> {
     let alloc = rt.alloc();
     let mut volume = FolderVolume::new(rt.clone()?);
-    assert!(rt; write_file(alloc, &mut volume, b"OLD.MOD", b"old")?);
-    symlink(&rt, "OLD.MOD", "lilith-new")?;
-    assert!(rt; !write_file(alloc, &mut volume, b"NEW.MOD", b"new")?);
-    fs::remove_file(&rt, "lilith-new")?;
+    fs::write(&rt, "OLD.MOD", "old")?;
+    symlink(&rt, "OLD.MOD", BESIDE[0])?;
     let calls = &[
+        Call::Write(b"NEW.MOD", b"new", true),
+        Call::Read(b"NEW.MOD", Some(b"new")),
         Call::Read(b"OLD.MOD", Some(b"old")),
-        Call::Read(b"NEW.MOD", None),
     ];
     call_all(&rt, alloc, &mut volume, calls)?;
-    fs::write(&rt, "lilith-new", "left")?;
+    assert!(rt; fs::symlink_metadata(&rt, BESIDE[0])?.is_symlink());
+    fs::remove_file(&rt, BESIDE[0])?;
+    fs::remove_file(&rt, "OLD.MOD")?;
+    fs::remove_file(&rt, "NEW.MOD")?;
+    assert!(rt; is_clear(&rt)?);
+    Ok(())
+}
+
+/// What a call that died has left beside goes with the next write, under whichever of the names it stands, and what one
+/// that lives holds locked stays.
+#[test]
+fn what_stands_beside(rt: HostRuntime) -> Result<(), Fail> {
+    let alloc = rt.alloc();
+    let mut volume = FolderVolume::new(rt.clone()?);
+    for name in BESIDE {
+        fs::write(&rt, name, "left")?;
+    }
+    assert!(rt; write_file(alloc, &mut volume, b"OLD.MOD", b"old")?);
+    assert!(rt; is_clear(&rt)?);
+    fs::write(&rt, BESIDE[0], "held")?;
+    let held = File::open(&rt, BESIDE[0])?;
+    held.lock()?;
     assert!(rt; write_file(alloc, &mut volume, b"OLD.MOD", b"new")?);
+    assert!(rt; has(alloc, &mut volume, b"OLD.MOD", Some(b"new"))?);
+    assert!(rt; fs::read_to_string(&rt, BESIDE[0])?.as_str() == "held");
+    fs::remove_file(&rt, BESIDE[0])?;
     fs::remove_file(&rt, "OLD.MOD")?;
     Ok(())
 }
 
-/// The files of the host, but that nothing can be renamed.
-#[derive(Drop)]
-struct Unnaming<R: Files + Drop> {
-    files: R,
+/// What happens where a file is to be renamed.
+trait Moment {
+    fn rename<R: Files<File = File>>(&self, files: &R, from: &str, to: &str) -> io::Result<()>;
 }
 
-impl<R: Files + Drop> Files for Unnaming<R> {
-    type File = R::File;
+/// It isn't renamed.
+#[derive(Drop)]
+struct Never;
+
+impl Moment for Never {
+    fn rename<R: Files<File = File>>(&self, _: &R, _: &str, _: &str) -> io::Result<()> {
+        Err(io::Error::from(ErrorKind::PermissionDenied))
+    }
+}
+
+/// The file of another call is renamed before it, from the one name to the other.
+#[derive(Drop)]
+struct Behind<'a> {
+    from: &'a str,
+    to: &'a str,
+}
+
+impl Moment for Behind<'_> {
+    fn rename<R: Files<File = File>>(&self, files: &R, from: &str, to: &str) -> io::Result<()> {
+        files.rename(self.from, self.to)?;
+        files.rename(from, to)
+    }
+}
+
+/// Another call writes OTHER.TXT, and renames this file too, when its own is whole.
+#[derive(Drop)]
+struct Amid {
+    alloc: Global,
+}
+
+impl Moment for Amid {
+    fn rename<R: Files<File = File>>(&self, files: &R, from: &str, to: &str) -> io::Result<()> {
+        let mut other = FolderVolume::new(Meeting {
+            files,
+            moment: Behind { from, to },
+        });
+        let (Ok(Some(name)), Ok(content)) = (
+            named(self.alloc, b"OTHER.TXT"),
+            Bytes::from_slice(self.alloc, b"other"),
+        ) else {
+            return Err(io::Error::from(ErrorKind::OutOfMemory));
+        };
+        // what became of both files is looked at afterwards
+        let _ = other.write(self.alloc, &name, &content);
+        Ok(())
+    }
+}
+
+/// The files of the host, where a rename is such a moment.
+#[derive(Drop)]
+struct Meeting<R: Files<File = File> + Drop, M: Moment + Drop> {
+    files: R,
+    moment: M,
+}
+
+impl<R: Files<File = File> + Drop, M: Moment + Drop> Files for Meeting<R, M> {
+    type File = File;
 
     type Dir = R::Dir;
 
-    fn open_file(&self, how: &OpenOptions, path: &str) -> io::Result<R::File> {
+    fn open_file(&self, how: &OpenOptions, path: &str) -> io::Result<File> {
         self.files.open_file(how, path)
     }
 
@@ -313,8 +403,8 @@ impl<R: Files + Drop> Files for Unnaming<R> {
         self.files.copy(from, to)
     }
 
-    fn rename(&self, _from: &str, _to: &str) -> io::Result<()> {
-        Err(io::Error::from(ErrorKind::PermissionDenied))
+    fn rename(&self, from: &str, to: &str) -> io::Result<()> {
+        self.moment.rename(&self.files, from, to)
     }
 
     fn remove_file(&self, path: &str) -> io::Result<()> {
@@ -338,11 +428,31 @@ impl<R: Files + Drop> Files for Unnaming<R> {
 #[test]
 fn a_file_that_gets_no_name(rt: HostRuntime) -> Result<(), Fail> {
     let alloc = rt.alloc();
-    let mut volume = FolderVolume::new(Unnaming { files: rt.clone()? });
+    let mut volume = FolderVolume::new(Meeting {
+        files: rt.clone()?,
+        moment: Never,
+    });
     fs::write(&rt, "KEPT.TXT", "old")?;
     assert!(rt; !write_file(alloc, &mut volume, b"KEPT.TXT", b"new")?);
     assert!(rt; has(alloc, &mut volume, b"KEPT.TXT", Some(b"old"))?);
-    assert!(rt; !fs::exists(&rt, "lilith-new")?);
+    assert!(rt; is_clear(&rt)?);
     fs::remove_file(&rt, "KEPT.TXT")?;
+    Ok(())
+}
+
+/// Two calls that write at once have a file each.
+#[test]
+fn two_calls_at_once(rt: HostRuntime) -> Result<(), Fail> {
+    let alloc = rt.alloc();
+    let mut volume = FolderVolume::new(Meeting {
+        files: rt.clone()?,
+        moment: Amid { alloc },
+    });
+    assert!(rt; write_file(alloc, &mut volume, b"MINE.TXT", b"mine")?);
+    assert!(rt; has(alloc, &mut volume, b"MINE.TXT", Some(b"mine"))?);
+    assert!(rt; has(alloc, &mut volume, b"OTHER.TXT", Some(b"other"))?);
+    assert!(rt; is_clear(&rt)?);
+    fs::remove_file(&rt, "MINE.TXT")?;
+    fs::remove_file(&rt, "OTHER.TXT")?;
     Ok(())
 }

@@ -1,4 +1,5 @@
-ghost use Rattle.std.specs.Prelude.{◌≡◌, ◌↔◌, ◌≤◌, None, Ok, true, false, IfOk, IfErr, IfSome, OnOk, IsTrue, length};
+ghost use Rattle.std.specs.Prelude.{◌≡◌, ◌↔◌, ◌≤◌, None, Ok, true, false, IfOk, IfErr, IfSome, IsOk, OnOk, IsErrOf, IsTrue, length};
+ghost use Rattle.std.specs.declared.fs.locks.TryLockError.TheVariants.{WouldBlock};
 ghost use Rattle.std.specs.{Fs.{file_type, IsFile}, IoError.error_kind};
 ghost use Rattle.lil_volume.specs.Causes.{VolumeCause};
 
@@ -7,29 +8,49 @@ use crate::streams::write_whole;
 use crate::{Volume, VolumeError};
 use lil_base::{Bytes, FileName};
 use std::alloc::Global;
-use std::fs::{File, Metadata};
+use std::fs::{File, Metadata, TryLockError};
 use std::io::{ErrorKind, Read};
+use std::os::unix::fs::MetadataExt;
 use std::rt::Files;
 use std::{fs, io, str};
 
 /// The most bytes of a file.
 const MOST_BYTES: usize = 16_777_216;
 
-/// A file is written under this name first and then renamed. For its hyphen it is no `FileName`.
-const BESIDE: &str = "lilith-new";
+/// A file is written under one of these names first and then renamed: as many calls may write in a
+/// folder at once. For their hyphens they are no `FileName`s.
+const BESIDE: [&str; 16] = [
+    "lilith-new-1",
+    "lilith-new-2",
+    "lilith-new-3",
+    "lilith-new-4",
+    "lilith-new-5",
+    "lilith-new-6",
+    "lilith-new-7",
+    "lilith-new-8",
+    "lilith-new-9",
+    "lilith-new-10",
+    "lilith-new-11",
+    "lilith-new-12",
+    "lilith-new-13",
+    "lilith-new-14",
+    "lilith-new-15",
+    "lilith-new-16",
+];
 
 /// The files of the current folder, of at most 16,777,216 bytes each. A link to a file is read as
 /// that file. A name of a folder, a pipe, a socket or a device is a fault of each call, and that of
 /// a link is a fault of a write. After a write that fails the file is as before. As with Medos-2's
-/// `Create` and `Rename` (Knudsen), a file gets its name when it is whole: it is written as
-/// `lilith-new`, in the place of a file of that name, and then renamed.
+/// `Create` and `Rename` (Knudsen), a file gets its name when it is whole: it is written under the
+/// first of 16 names `lilith-new-1` and on that is free, locked meanwhile, and then renamed. A file
+/// of these names that nobody holds locked was left there by a call that died, and is taken away.
 #[derive(Drop)]
-pub struct FolderVolume<R: Files + Drop> {
+pub struct FolderVolume<R: Files<File = File> + Drop> {
     runtime: R,
     faults: u64,
 }
 
-impl<R: Files + Drop> FolderVolume<R> {
+impl<R: Files<File = File> + Drop> FolderVolume<R> {
     /// The current folder, without faults so far.
     pub fn new(runtime: R) -> FolderVolume<R>
         ensures { result.faults ≡ 0 }
@@ -85,7 +106,7 @@ fn read_whole<F: Read + Drop>(alloc: Global, file: F) -> Result<Bytes, VolumeErr
     }
 }
 
-fn read_file<R: Files>(
+fn read_file<R: Files<File = File>>(
     runtime: &R,
     alloc: Global,
     name: &FileName,
@@ -109,26 +130,77 @@ fn read_file<R: Files>(
     }
 }
 
-/// Whether nothing stands under the name `lilith-new` any more. What an earlier write has left
-/// there is removed, and what is no file stays.
-fn clear_beside<R: Files>(runtime: &R) -> bool {
-    match is_there(fs::symlink_metadata(runtime, BESIDE)) {
-        Ok(true) => fs::remove_file(runtime, BESIDE).is_ok(),
-        Ok(false) => true,
-        Err(_) => false,
+/// Whether an open file is what stands under a name.
+fn stands<R: Files>(runtime: &R, file: &File, name: &str) -> bool {
+    match (file.metadata(), fs::symlink_metadata(runtime, name)) {
+        (Ok(own), Ok(found)) => own.dev() == found.dev() && own.ino() == found.ino(),
+        _ => false,
     }
 }
 
-/// Whether a new file `lilith-new` has these bytes.
-fn write_beside<R: Files>(runtime: &R, content: &[u8]) -> bool {
-    match File::create_new(runtime, BESIDE) {
-        Ok(mut file) => write_whole(&mut file, content),
-        Err(_) => false,
+/// Whether a file beside was left by a call that died: nobody else held it, so it could be locked,
+/// and it stands under its name still.
+fn is_left(locked: Result<(), TryLockError>, stands: bool) -> bool
+    ensures { IsTrue result ↔ (IsOk locked × IsTrue stands) }
+{
+    locked.is_ok() && stands
+}
+
+/// Whether a file beside that was just made is this call's own: no other call holds it, to take it
+/// away, and it stands under its name still. Where the host has no locks none is taken away.
+fn is_own(locked: Result<(), TryLockError>, stands: bool) -> bool
+    ensures { IsTrue result ↔ ((IsErrOf locked WouldBlock → ⊥) × IsTrue stands) }
+{
+    match locked {
+        Err(TryLockError::WouldBlock) => false,
+        Ok(()) | Err(TryLockError::Error(_)) => stands,
     }
+}
+
+/// Takes away what a call that died has left under this name. What is no file stays.
+fn take_left<R: Files<File = File>>(runtime: &R, name: &str) {
+    let Ok(true) = is_there(fs::symlink_metadata(runtime, name)) else {
+        return;
+    };
+    let Ok(file) = File::open(runtime, name) else {
+        return;
+    };
+    if is_left(file.try_lock(), stands(runtime, &file, name)) {
+        let _ = fs::remove_file(runtime, name);
+    }
+}
+
+/// A new file under this name, which no other call takes away as long as it is open.
+fn own_beside<R: Files<File = File>>(runtime: &R, name: &str) -> Option<File> {
+    let Ok(file) = File::create_new(runtime, name) else {
+        return None;
+    };
+    if is_own(file.try_lock(), stands(runtime, &file, name)) {
+        return Some(file);
+    }
+    None
+}
+
+/// Whether a file now has these bytes under its name. They are written beside it first.
+fn write_beside<R: Files<File = File>>(runtime: &R, path: &str, content: &[u8]) -> bool {
+    for name in BESIDE {
+        take_left(runtime, name);
+    }
+    for name in BESIDE {
+        if let Some(mut file) = own_beside(runtime, name) {
+            // the file is open until it has its name
+            if write_whole(&mut file, content) && fs::rename(runtime, name, path).is_ok() {
+                return true;
+            }
+            let _ = fs::remove_file(runtime, name);
+            return false;
+        }
+    }
+    false
 }
 
 /// Whether a file now has these bytes under its name. What is no file, or a link to one, stays.
-fn write_file<R: Files>(runtime: &R, name: &FileName, content: &[u8]) -> bool
+fn write_file<R: Files<File = File>>(runtime: &R, name: &FileName, content: &[u8]) -> bool
     ensures { IsTrue result → length content.now ≤ MOST_BYTES }
 {
     let Ok(path) = str::from_utf8(name.text().as_slice()) else {
@@ -137,17 +209,10 @@ fn write_file<R: Files>(runtime: &R, name: &FileName, content: &[u8]) -> bool
     if content.len() > MOST_BYTES || is_there(fs::symlink_metadata(runtime, path)).is_err() {
         return false;
     }
-    if !clear_beside(runtime) {
-        return false;
-    }
-    if write_beside(runtime, content) && fs::rename(runtime, BESIDE, path).is_ok() {
-        return true;
-    }
-    let _ = fs::remove_file(runtime, BESIDE);
-    false
+    write_beside(runtime, path, content)
 }
 
-impl<R: Files + Drop> Volume for FolderVolume<R> {
+impl<R: Files<File = File> + Drop> Volume for FolderVolume<R> {
     ghost files = { λ _. None };
 
     ghost faults = { λ v. v.faults };
