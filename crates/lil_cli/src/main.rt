@@ -8,7 +8,25 @@ use lil_base::{Memory, Text};
 use lil_session::{ErrorSink, FolderVolume, InputKeys, OutputSink, Rack, Sink, Status, lilith};
 use std::alloc::Global;
 use std::env::{Env, FillError};
+use std::fs::File;
+use std::os::fd::{AsRawFd, IntoRawFd};
 use std::process::ExitCode;
+use std::rt::Files;
+
+/// Opens those of the descriptors 0 to 2 that are closed to nothing, for reading alone: there are no keys, and what is
+/// put on the screen or the report fails as before. The host gives the lowest free number, so no file gets one of these.
+fn open_closed<R: Files<File = File>>(rt: &R) {
+    for _ in 0..3 {
+        let Ok(nothing) = File::open(rt, "/dev/null") else {
+            return;
+        };
+        if nothing.as_raw_fd() > 2 {
+            return;
+        }
+        // stays open
+        let _ = nothing.into_raw_fd();
+    }
+}
 
 /// The word at place `i` of the command line, or none where there is no more. Its bytes need not be UTF-8.
 fn word<R: Env>(rt: &R, alloc: Global, i: usize) -> Result<Option<Text>, Memory> {
@@ -46,6 +64,7 @@ fn memory_line() -> &'static [u8]
 }
 
 fn main(rt: HostRuntime) -> ExitCode {
+    open_closed(&rt);
     let alloc = rt.alloc();
     let mut report = ErrorSink::new(rt.stderr());
     let Ok(words) = words(&rt) else {
