@@ -1,16 +1,24 @@
 /* The programs of rate.sh for comparison: the same bytes of code (rate.h) on a plain interpreter in C, a switch over the first byte
    of each instruction. It has the instructions of that code and tests what the machine tests: the expression stack, addresses,
-   numbers and places. Its first word is the program's name. It prints how many instructions it did, the nanoseconds that the
-   fastest of its runs took, and the bytes of the code. With a number from 1 to 255 behind that word it does one run, with so many
-   turns of the outer loop; with `words` it does one and prints what the program made, word by word. */
+   numbers and places. Its first word is the program's name. It does one run, and prints how many instructions that did, the
+   nanoseconds of the processor that they took, and the bytes of the code. With a number from 1 to 255 behind that word the outer loop
+   has so many turns; with `words` it prints what the program made, word by word.
+   Its first word may also be `took`. Then it runs the command that the other words are, without keys, and prints the nanoseconds of
+   the processor that the command took from its start to its end, in the system too. Where that ends otherwise than with 0, so does
+   this. */
+#define _DEFAULT_SOURCE
 #include <stdint.h>
 #include <stdio.h>
 #include <stdlib.h>
 #include <string.h>
+#include <fcntl.h>
+#include <sys/resource.h>
+#include <sys/wait.h>
 #include <time.h>
+#include <unistd.h>
 #include "rate.h"
 
-enum { BUDGET = 10000000, RUNS = 15 };
+enum { BUDGET = 10000000 };
 
 enum ending { WENT, ENDED, SPENT, TRAPPED, LIMITED, BAD };
 
@@ -384,7 +392,7 @@ static enum ending run(struct machine *m)
 static uint64_t now(void)
 {
     struct timespec t;
-    clock_gettime(CLOCK_MONOTONIC, &t);
+    clock_gettime(CLOCK_PROCESS_CPUTIME_ID, &t);
     return (uint64_t)t.tv_sec * 1000000000 + (uint64_t)t.tv_nsec;
 }
 
@@ -393,39 +401,60 @@ static const struct program *named(const char *name)
     for (size_t k = 0; k < sizeof programs / sizeof programs[0]; k++)
         if (strcmp(programs[k].name, name) == 0)
             return &programs[k];
-    fprintf(stderr, "usage: rate NAME, turns of the outer loop or `words`\n");
+    fprintf(stderr, "usage: rate NAME, turns of the outer loop or `words`; or rate took COMMAND\n");
     exit(1);
 }
 
-/* the nanoseconds of the fastest of so many runs */
-static uint64_t fastest(struct machine *m, const struct program *p, int runs)
+/* the nanoseconds of the processor that a run took */
+static uint64_t timed(struct machine *m, const struct program *p)
 {
-    uint64_t best = UINT64_MAX;
-    while (runs-- > 0) {
-        begin(m, p);
-        uint64_t before = now();
-        enum ending e = run(m);
-        uint64_t took = now() - before;
-        if (e != ENDED) {
-            fprintf(stderr, "rate: %s ended otherwise\n", p->name);
-            exit(1);
-        }
-        if (took < best)
-            best = took;
+    begin(m, p);
+    uint64_t before = now();
+    enum ending e = run(m);
+    uint64_t took = now() - before;
+    if (e != ENDED) {
+        fprintf(stderr, "rate: %s ended otherwise\n", p->name);
+        exit(1);
     }
-    return best;
+    return took;
+}
+
+static uint64_t nanoseconds(struct timeval t)
+{
+    return (uint64_t)t.tv_sec * 1000000000 + (uint64_t)t.tv_usec * 1000;
+}
+
+/* runs a command and prints the nanoseconds of the processor that it took */
+static int took(char **command)
+{
+    pid_t child = fork();
+    if (child == 0) {
+        int nothing = open("/dev/null", O_RDWR);
+        dup2(nothing, 0);
+        dup2(nothing, 1);
+        execvp(command[0], command);
+        _exit(127);
+    }
+    int status;
+    struct rusage used;
+    if (child < 0 || wait4(child, &status, 0, &used) < 0 || status != 0)
+        return 1;
+    printf("%llu\n", (unsigned long long)(nanoseconds(used.ru_utime) + nanoseconds(used.ru_stime)));
+    return 0;
 }
 
 int main(int count, char **words)
 {
     static struct machine m;
+    if (count > 2 && strcmp(words[1], "took") == 0)
+        return took(words + 2);
     const struct program *p = named(count > 1 ? words[1] : "");
     int made = count > 2 && strcmp(words[2], "words") == 0;
     if (count > 2 && !made)
         p->code[p->turns] = (uint8_t)atoi(words[2]);
-    uint64_t best = fastest(&m, p, count > 2 ? 1 : RUNS);
+    uint64_t nanos = timed(&m, p);
     if (!made)
-        printf("%llu %llu %lu\n", (unsigned long long)m.steps, (unsigned long long)best, (unsigned long)p->length);
+        printf("%llu %llu %lu\n", (unsigned long long)m.steps, (unsigned long long)nanos, (unsigned long)p->length);
     for (uint32_t k = 0; made && k < p->made; k++)
         printf("%u\n", m.store[m.data + p->first + k]);
     return 0;

@@ -2,21 +2,22 @@
 # How many instructions a second the built program does, beside an interpreter in C of the same code, in one run.
 # The programs of rate/ are run through `lilith once`: Sum, two nested FORs with one addition in the inner one; Range, the same where
 # the sum's variable is of a subrange and is tested at each store; Counting, which sorts numbers by counting them; Records, which
-# sorts records by exchanging neighbours; and Nodes, which walks along a list. So is a program without statements. Their wall times
-# are taken in turn, so many times each; the difference of the least ones is what a program took, without the start. The program in
-# C (rate.c) has their bytes (rate.h) and measures itself, best of as many runs and more.
+# sorts records by exchanging neighbours; and Nodes, which walks along a list. Times are those of the processor, so that other work
+# beside counts little: the least of as many runs as TURNS says, 25 where it says nothing. A program, one without statements and the
+# one in C (rate.c, with their bytes in rate.h), as gcc makes it at -O2 and at -O3, are run in turn, so that what slows the machine
+# meets all. The difference of the first two is what a program took, without the start. At the end stand the ratios of all programs.
 # Before a program is timed it is compared with the one in C: its code has as many bytes, it does as many instructions, and what it
 # made is the same, word for word. Where one of these isn't so, that is said, and all ends with status 1.
 # Where valgrind is installed, it also prints how many instructions of the host both programs do for one of M-code: the difference
 # of two runs of different lengths, so that neither the start nor the end of a program counts.
-# Usage: bench/rate.sh, in a clone whose program is built (`cd examples && ../lilith once Hello.MOD` builds it). It takes no
-# arguments, wants gcc and awk, prints numbers and judges no time.
+# Usage: bench/rate.sh, in a clone whose program is built (`cd examples && ../lilith once Hello.MOD` builds it), or bench/rate.sh
+# PROGRAM with one that is built elsewhere. It wants gcc and awk, prints numbers and judges no time.
 set -u
-turns=9
+turns=${TURNS:-25}
 budget=10000000
 
 top=$(CDPATH= cd "$(dirname "$0")/.." && pwd -P) || exit 1
-program=$top/crates/lil_cli/out/lil_cli
+program=$(realpath "${1:-$top/crates/lil_cli/out/lil_cli}")
 if [ ! -x "$program" ]; then
     echo "rate: there is no built program; run 'cd examples && ../lilith once Hello.MOD' first" >&2
     exit 1
@@ -24,6 +25,7 @@ fi
 folder=$(mktemp -d) || exit 1
 trap 'rm -rf "$folder"' EXIT
 gcc -O2 -o "$folder/rate" "$top/bench/rate.c" || exit 1
+gcc -O3 -o "$folder/rate3" "$top/bench/rate.c" || exit 1
 cd "$folder" || exit 1
 echo "MODULE Empty; END Empty." >Empty.MOD
 
@@ -36,23 +38,32 @@ text() {
 padded="s/^BEGIN/VAR more: CARDINAL; flag: BOOLEAN; BEGIN/"
 writing="s/^CONST/FROM InOut IMPORT WriteCard, WriteLn; CONST/"
 
-# Runs a program, which ends with this status and this report, and how long that took, in nanoseconds
+# Runs a program, which ends with this status and this report
 ends() {
-    before=$(date +%s%N)
     "$program" once "$1.MOD" </dev/null >screen 2>report
     status=$?
-    after=$(date +%s%N)
     if [ "$status" -ne "$2" ] || [ "$(cat report)" != "$3" ]; then
         echo "rate: $name: $1 ended with status $status: $(cat report)" >&2
         exit 1
     fi
-    took=$((after - before))
+}
+
+# The lesser of two times, where 0 stands for none
+least() {
+    if [ "$1" -ne 0 ] && [ "$1" -le "$2" ]; then echo "$1"; else echo "$2"; fi
 }
 
 # The least time of a program so far: its name, and the least one before it or 0
 timed() {
-    ends "$1" 0 ""
-    if [ "$2" -ne 0 ] && [ "$2" -le "$took" ]; then took=$2; fi
+    took=$(./rate took "$program" once "$1.MOD") || exit 1
+    least "$2" "$took"
+}
+
+# The same of the one in C: which, the name, and the least time before
+timed_in_c() {
+    took=$("$1" "$2") || exit 1
+    took=${took#* }
+    least "$3" "${took%% *}"
 }
 
 # The instructions of the host that a command took
@@ -125,29 +136,39 @@ hosted() {
 
 # One program. Around its statements stand ENT and RTN; the empty program has these two alone, so they aren't counted.
 measured() {
-    c=$(./rate "$1") || exit 1
-    instructions=$((${c%% *} - 2))
-    c=${c#* }
-    compared "$1" "${c#* }" $((instructions + 2))
+    told=$(./rate "$1") || exit 1
+    instructions=$((${told%% *} - 2))
+    compared "$1" "${told##* }" $((instructions + 2))
     cp "$top/bench/rate/$1.MOD" .
     rate=0
     empty=0
+    c=0
+    c3=0
     turn=0
     while [ "$turn" -lt "$turns" ]; do
-        timed "$1" "$rate" && rate=$took
-        timed Empty "$empty" && empty=$took
+        rate=$(timed "$1" "$rate") || exit 1
+        empty=$(timed Empty "$empty") || exit 1
+        c=$(timed_in_c ./rate "$1" "$c") || exit 1
+        c3=$(timed_in_c ./rate3 "$1" "$c3") || exit 1
         turn=$((turn + 1))
     done
-    awk -v name="$1" -v n="$instructions" -v rate="$rate" -v empty="$empty" -v c="${c%% *}" 'BEGIN {
-        took = rate - empty
-        printf "%s: instructions %d, start %.3f ms\n", name, n, empty / 1e6
-        printf "%-7s %10.3f ms %12.0f a second\n", "lilith", took / 1e6, n / took * 1e9
-        printf "%-7s %10.3f ms %12.0f a second\n", "C", c / 1e6, n / c * 1e9
-        printf "ratio %.2f\n", took / c
-    }'
+    awk -v name="$1" -v n="$instructions" -v rate="$rate" -v empty="$empty" -v c="$c" -v c3="$c3" '
+        function line(what, took) {
+            printf "%-7s %10.3f ms %12.0f a second\n", what, took / 1e6, n / took * 1e9
+        }
+        BEGIN {
+            took = rate - empty
+            printf "%s: instructions %d, start %.3f ms\n", name, n, empty / 1e6
+            line("lilith", took)
+            line("C -O2", c)
+            line("C -O3", c3)
+            printf "%-9s %8.2f %8.2f\n", name, took / c, took / c3 >>"ratios"
+        }'
     if command -v valgrind >/dev/null; then hosted "$1"; fi
 }
 
 for name in Sum Range Counting Records Nodes; do
     measured "$name"
 done
+printf '%-9s %8s %8s\n' ratio "C -O2" "C -O3"
+cat ratios
