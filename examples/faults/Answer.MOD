@@ -1,0 +1,11 @@
+MODULE Answer;
+VAR n: CARDINAL;
+
+PROCEDURE Double(n: CARDINAL): CARDINAL;
+BEGIN
+  RETURN 2 * n
+END Double;
+
+BEGIN
+  Double(21)
+END Answer.

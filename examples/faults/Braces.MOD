@@ -1,0 +1,6 @@
+MODULE Braces;
+VAR n: CARDINAL;
+BEGIN
+  { set n }
+  n := 1
+END Braces.

@@ -1,0 +1,6 @@
+MODULE Column;
+FROM InOut IMPORT WriteCard, WriteLn;
+BEGIN
+  WriteCard(42);
+  WriteLn
+END Column.

@@ -1,0 +1,5 @@
+MODULE Curly;
+FROM InOut IMPORT WriteString;
+BEGIN
+  WriteString(“Hello”)
+END Curly.

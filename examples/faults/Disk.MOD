@@ -1,0 +1,6 @@
+MODULE Disk;
+FROM InOut IMPORT WriteLn;
+BEGIN
+  WriteLn
+END Disk.
+

@@ -1,0 +1,1 @@
+MODULE Lines;FROM InOut IMPORT WriteLn;BEGIN  WriteLnEND Lines.

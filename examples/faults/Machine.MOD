@@ -1,0 +1,6 @@
+MODULE Machine;
+FROM SYSTEM IMPORT WORD, ADR, TSIZE;
+VAR w: WORD;
+BEGIN
+  w := 0
+END Machine.

@@ -1,0 +1,5 @@
+MODULE Another;
+FROM InOut IMPORT WriteLn;
+BEGIN
+  WriteLn
+END Another.

@@ -1,0 +1,4 @@
+PROGRAM Pascal;
+BEGIN
+  writeln('Hello')
+END.

@@ -1,0 +1,6 @@
+MODULE Phrase;
+FROM Terminal IMPORT Write, WriteLn;
+BEGIN
+  Write("Good morning");
+  WriteLn
+END Phrase.

@@ -1,0 +1,5 @@
+MODULE Point;
+VAR n: CARDINAL;
+BEGIN
+  n := 1
+END Point

@@ -1,0 +1,5 @@
+MODULE Price;
+VAR price: REAL;
+BEGIN
+  price := 3.50
+END Price.

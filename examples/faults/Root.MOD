@@ -1,0 +1,6 @@
+MODULE Root;
+FROM MathLib0 IMPORT sqrt;
+FROM InOut IMPORT WriteLn;
+BEGIN
+  WriteLn
+END Root.

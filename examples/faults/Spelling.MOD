@@ -1,0 +1,6 @@
+MODULE Spelling;
+FROM InOut IMPORT WriteString, WriteLn;
+BEGIN
+  WriteString("Hello");
+  Writeln
+END Spelling.
