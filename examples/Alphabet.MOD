@@ -1,67 +1,35 @@
 MODULE Alphabet;
+(* The alphabet there and back, and Caesar's secret one: each letter becomes the one that stands three places later. *)
 
-FROM Terminal IMPORT Write;
+FROM InOut IMPORT Write, WriteLn;
 
-VAR letter, small, line: CARDINAL;
+CONST
+  shift = 3;
+  letters = 26;
+
+VAR
+  letter: CHAR;
+  secret: ARRAY ["A" .. "Z"] OF CHAR;
+  message: ARRAY [0 .. 15] OF CHAR;
+  i: CARDINAL;
 
 BEGIN
-  letter := 65;
-  small := 97 - 65;
-  line := 30;
+  FOR letter := "A" TO "Z" DO Write(letter) END;
+  WriteLn;
+  FOR letter := "z" TO "a" BY -1 DO Write(letter) END;
+  WriteLn;
 
-  Write(CHR(letter)); letter := letter + 1;
-  Write(CHR(letter)); letter := letter + 1;
-  Write(CHR(letter)); letter := letter + 1;
-  Write(CHR(letter)); letter := letter + 1;
-  Write(CHR(letter)); letter := letter + 1;
-  Write(CHR(letter)); letter := letter + 1;
-  Write(CHR(letter)); letter := letter + 1;
-  Write(CHR(letter)); letter := letter + 1;
-  Write(CHR(letter)); letter := letter + 1;
-  Write(CHR(letter)); letter := letter + 1;
-  Write(CHR(letter)); letter := letter + 1;
-  Write(CHR(letter)); letter := letter + 1;
-  Write(CHR(letter)); letter := letter + 1;
-  Write(CHR(letter)); letter := letter + 1;
-  Write(CHR(letter)); letter := letter + 1;
-  Write(CHR(letter)); letter := letter + 1;
-  Write(CHR(letter)); letter := letter + 1;
-  Write(CHR(letter)); letter := letter + 1;
-  Write(CHR(letter)); letter := letter + 1;
-  Write(CHR(letter)); letter := letter + 1;
-  Write(CHR(letter)); letter := letter + 1;
-  Write(CHR(letter)); letter := letter + 1;
-  Write(CHR(letter)); letter := letter + 1;
-  Write(CHR(letter)); letter := letter + 1;
-  Write(CHR(letter)); letter := letter + 1;
-  Write(CHR(letter)); letter := letter + 1;
-  Write(CHR(line));
+  FOR letter := "A" TO "Z" DO
+    secret[letter] := CHR((ORD(letter) - ORD("A") + shift) MOD letters + ORD("A"));
+    Write(secret[letter])
+  END;
+  WriteLn;
 
-  letter := letter - 1; Write(CHR(letter + small));
-  letter := letter - 1; Write(CHR(letter + small));
-  letter := letter - 1; Write(CHR(letter + small));
-  letter := letter - 1; Write(CHR(letter + small));
-  letter := letter - 1; Write(CHR(letter + small));
-  letter := letter - 1; Write(CHR(letter + small));
-  letter := letter - 1; Write(CHR(letter + small));
-  letter := letter - 1; Write(CHR(letter + small));
-  letter := letter - 1; Write(CHR(letter + small));
-  letter := letter - 1; Write(CHR(letter + small));
-  letter := letter - 1; Write(CHR(letter + small));
-  letter := letter - 1; Write(CHR(letter + small));
-  letter := letter - 1; Write(CHR(letter + small));
-  letter := letter - 1; Write(CHR(letter + small));
-  letter := letter - 1; Write(CHR(letter + small));
-  letter := letter - 1; Write(CHR(letter + small));
-  letter := letter - 1; Write(CHR(letter + small));
-  letter := letter - 1; Write(CHR(letter + small));
-  letter := letter - 1; Write(CHR(letter + small));
-  letter := letter - 1; Write(CHR(letter + small));
-  letter := letter - 1; Write(CHR(letter + small));
-  letter := letter - 1; Write(CHR(letter + small));
-  letter := letter - 1; Write(CHR(letter + small));
-  letter := letter - 1; Write(CHR(letter + small));
-  letter := letter - 1; Write(CHR(letter + small));
-  letter := letter - 1; Write(CHR(letter + small));
-  Write(CHR(line))
+  message := "VENI VIDI VICI";
+  i := 0;
+  WHILE message[i] # 0C DO
+    IF message[i] = " " THEN Write(" ") ELSE Write(secret[message[i]]) END;
+    INC(i)
+  END;
+  WriteLn
 END Alphabet.

@@ -1,32 +1,30 @@
 MODULE Bubble;
+(* Sorts the letters of a word by exchanging neighbours, and shows the word after each pass. In each pass the greatest
+   letter that isn't at its place yet rises to it, as a bubble does. *)
 
-FROM Terminal IMPORT Write;
+FROM InOut IMPORT WriteString, WriteLn;
 
-(* Sorts five numbers by exchanging neighbours, and draws them as bars after each pass. *)
-
-VAR a, b, c, d, e: CARDINAL;
-    bar, length, star, exchanges, hold: CARDINAL;
+VAR
+  word: ARRAY [0 .. 15] OF CHAR;
+  letter: CHAR;
+  i: CARDINAL;
+  sorted: BOOLEAN;
 
 BEGIN
-  a := 9; b := 4; c := 12; d := 1; e := 6;
+  word := "WORKSTATION";
   REPEAT
-    FOR bar := 1 TO 5 DO
-      CASE bar OF
-        1: length := a
-      | 2: length := b
-      | 3: length := c
-      | 4: length := d
-      | 5: length := e
+    WriteString(word);
+    WriteLn;
+    sorted := TRUE;
+    i := 1;
+    WHILE word[i] # 0C DO
+      IF word[i - 1] > word[i] THEN
+        letter := word[i];
+        word[i] := word[i - 1];
+        word[i - 1] := letter;
+        sorted := FALSE
       END;
-      FOR star := 1 TO length DO Write("*") END;
-      Write(CHR(36B))
-    END;
-    Write(CHR(36B));
-
-    exchanges := 0;
-    IF a > b THEN hold := a; a := b; b := hold; exchanges := exchanges + 1 END;
-    IF b > c THEN hold := b; b := c; c := hold; exchanges := exchanges + 1 END;
-    IF c > d THEN hold := c; c := d; d := hold; exchanges := exchanges + 1 END;
-    IF d > e THEN hold := d; d := e; e := hold; exchanges := exchanges + 1 END
-  UNTIL exchanges = 0
+      INC(i)
+    END
+  UNTIL sorted
 END Bubble.

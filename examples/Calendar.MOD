@@ -1,7 +1,7 @@
 MODULE Calendar;
 (* November 2026, a week on each line, with Monday first. *)
 
-FROM InOut IMPORT Write, WriteCard, WriteLn;
+FROM InOut IMPORT WriteCard, WriteString, WriteLn;
 
 TYPE
   Weekday = (Monday, Tuesday, Wednesday, Thursday, Friday, Saturday, Sunday);
@@ -17,22 +17,21 @@ VAR
 
 BEGIN
   FOR weekday := Monday TO Sunday DO
-    Write(" ");
     CASE weekday OF
-      Monday: Write("M"); Write("o") |
-      Tuesday: Write("T"); Write("u") |
-      Wednesday: Write("W"); Write("e") |
-      Thursday: Write("T"); Write("h") |
-      Friday: Write("F"); Write("r") |
-      Saturday: Write("S"); Write("a") |
-      Sunday: Write("S"); Write("u")
+      Monday: WriteString(" Mo") |
+      Tuesday: WriteString(" Tu") |
+      Wednesday: WriteString(" We") |
+      Thursday: WriteString(" Th") |
+      Friday: WriteString(" Fr") |
+      Saturday: WriteString(" Sa") |
+      Sunday: WriteString(" Su")
     END
   END;
   WriteLn;
 
   weekday := Monday;
   WHILE weekday < First DO
-    Write(" "); Write(" "); Write(" ");
+    WriteString("   ");
     INC(weekday)
   END;
   FOR day := 1 TO Length DO

@@ -1,27 +1,37 @@
 MODULE Greeting;
+(* A greeting in a frame that is as wide as its longest line. *)
 
-FROM Terminal IMPORT Write;
+FROM InOut IMPORT WriteString, WriteLn;
 
-VAR blank, comma, line: CARDINAL;
+CONST
+  last = 2;
+
+TYPE
+  Line = ARRAY [0 .. 39] OF CHAR;
+
+VAR
+  line: ARRAY [0 .. last] OF Line;
+  length: ARRAY [0 .. last] OF CARDINAL;
+  border: ARRAY [0 .. 41] OF CHAR;
+  longest, i, j: CARDINAL;
 
 BEGIN
-  blank := 32;
-  comma := 44;
-  line := 30;
+  line[0] := "Good morning, Lilith.";
+  line[1] := "How do you do?";
+  line[2] := "It is a long time since 1980.";
 
-  Write(CHR(71)); Write(CHR(111)); Write(CHR(111)); Write(CHR(100)); Write(CHR(blank));
+  (* all lengths are 0 at first, and 0C stands after the last character of a line *)
+  FOR i := 0 TO last DO
+    WHILE line[i][length[i]] # 0C DO INC(length[i]) END;
+    IF length[i] > longest THEN longest := length[i] END
+  END;
+  FOR j := 0 TO longest + 1 DO border[j] := "-" END;
 
-  Write(CHR(109)); Write(CHR(111)); Write(CHR(114)); Write(CHR(110)); Write(CHR(105));
-  Write(CHR(110)); Write(CHR(103)); Write(CHR(comma)); Write(CHR(blank));
-
-  Write(CHR(76)); Write(CHR(105)); Write(CHR(108)); Write(CHR(105)); Write(CHR(116));
-  Write(CHR(104)); Write(CHR(46)); Write(CHR(line));
-
-  Write(CHR(72)); Write(CHR(111)); Write(CHR(119)); Write(CHR(blank));
-
-  Write(CHR(100)); Write(CHR(111)); Write(CHR(blank));
-
-  Write(CHR(121)); Write(CHR(111)); Write(CHR(117)); Write(CHR(blank));
-
-  Write(CHR(100)); Write(CHR(111)); Write(CHR(63)); Write(CHR(line))
+  WriteString("+"); WriteString(border); WriteString("+"); WriteLn;
+  FOR i := 0 TO last DO
+    WriteString("| "); WriteString(line[i]);
+    FOR j := length[i] TO longest DO WriteString(" ") END;
+    WriteString("|"); WriteLn
+  END;
+  WriteString("+"); WriteString(border); WriteString("+"); WriteLn
 END Greeting.

@@ -1,33 +1,28 @@
 MODULE Steps;
+(* Sixteen steps of a row of cells. After a step a cell is dark if just one of its two neighbours was dark before.
+   One dark cell at the beginning is enough for triangles within triangles. *)
 
-FROM Terminal IMPORT Write;
+FROM InOut IMPORT Write, WriteLn;
 
-VAR a, b, c, d, e, blank, star, line: CARDINAL;
+CONST
+  steps = 16;
+  middle = 16;
+  last = 2 * middle;
+
+VAR
+  cells, before: ARRAY [0 .. last] OF BOOLEAN;
+  step, i: CARDINAL;
 
 BEGIN
-  blank := 32;
-  star := blank + 10;
-  line := 30;
-
-  a := blank; b := blank; c := blank; d := blank; e := blank;
-
-  a := b; b := c; c := d; d := e; e := star;
-  Write(CHR(a)); Write(CHR(b)); Write(CHR(c)); Write(CHR(d)); Write(CHR(e));
-  Write(CHR(line));
-
-  a := b; b := c; c := d; d := e; e := star;
-  Write(CHR(a)); Write(CHR(b)); Write(CHR(c)); Write(CHR(d)); Write(CHR(e));
-  Write(CHR(line));
-
-  a := b; b := c; c := d; d := e; e := star;
-  Write(CHR(a)); Write(CHR(b)); Write(CHR(c)); Write(CHR(d)); Write(CHR(e));
-  Write(CHR(line));
-
-  a := b; b := c; c := d; d := e; e := star;
-  Write(CHR(a)); Write(CHR(b)); Write(CHR(c)); Write(CHR(d)); Write(CHR(e));
-  Write(CHR(line));
-
-  a := b; b := c; c := d; d := e; e := star;
-  Write(CHR(a)); Write(CHR(b)); Write(CHR(c)); Write(CHR(d)); Write(CHR(e));
-  Write(CHR(line))
+  cells[middle] := TRUE;
+  FOR step := 1 TO steps DO
+    FOR i := 1 TO last - 1 DO
+      IF cells[i] THEN Write("*") ELSE Write(" ") END
+    END;
+    WriteLn;
+    before := cells;
+    FOR i := 1 TO last - 1 DO
+      cells[i] := before[i - 1] # before[i + 1]
+    END
+  END
 END Steps.

@@ -21,7 +21,7 @@ BEGIN
     WHILE (rhyme[i] # " ") AND (rhyme[i] # 0C) DO
       word[j] := rhyme[i]; INC(i); INC(j)
     END;
-    (* behind all entries with lesser words *)
+    (* after all entries with lesser words *)
     before := head;
     LOOP
       entry := before^.next; j := 0;

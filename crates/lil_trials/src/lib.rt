@@ -13,4 +13,6 @@ mod kernel;
 #[cfg(test)]
 mod mcode;
 #[cfg(test)]
+mod tour;
+#[cfg(test)]
 mod volume;

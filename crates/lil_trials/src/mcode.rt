@@ -4,15 +4,18 @@ use lil_mcode::{Event, Machine};
 use lil_volume::RamSink;
 use std::alloc::Global;
 
-// A machine at the body of a module with two data words.
-fn begun(alloc: Global, code: &[u8; 32]) -> Result<Machine, Memory> {
+// A machine at the body of a module with this code and so many data words.
+pub(crate) fn begun(alloc: Global, code: &[u8], data_words: u8) -> Result<Machine, Memory> {
+    if code.is_empty() || code.len() > 32_767 {
+        return Err(Memory);
+    }
     let mut machine = Machine::new(alloc)?;
     let name = Name::of_slice(alloc, b"Main")?.ok_or(Memory)?;
     let code = Bytes::from_slice(alloc, code)?;
     let procedures = vec![in alloc; (0u16, None)]?;
     let bodies = vec![in alloc; 1u8]?;
     machine.open_level();
-    machine.add_module(name, procedures, &code, 2);
+    machine.add_module(name, procedures, &code, u16::from(data_words));
     machine.begin(bodies);
     Ok(machine)
 }
@@ -24,7 +27,7 @@ fn runs_many(rt: HostRuntime) {
         0x68, 0, 5, 1, 0, 65, 0x26, 0, 1, 0x24, 0, 1, 1, 0, 2, 0x40, 0x7d, 2, 0x6a, 0, 0, 0, 0, 0,
         0, 0, 0, 0, 0, 0, 0, 0,
     ];
-    let mut machine = begun(rt.alloc(), &code).expect(&rt, "memory");
+    let mut machine = begun(rt.alloc(), &code, 2).expect(&rt, "memory");
     let (event, done) = machine.run(4);
     assert!(rt; event == Event::Went && done == 4);
     assert!(rt; machine.steps() == 4 && machine.place().place == 9);
@@ -49,7 +52,7 @@ const WRONG: [u8; 32] = [
 
 // A machine after two instructions of a code, and what its third one does.
 fn third(alloc: Global, code: &[u8; 32]) -> Result<(Machine, Event), Memory> {
-    let mut machine = begun(alloc, code)?;
+    let mut machine = begun(alloc, code, 2)?;
     let _ = machine.step();
     let _ = machine.step();
     let event = machine.step();
@@ -98,15 +101,21 @@ const ARRAYS: &[([u16; 2], &[u8])] = &[
     ([256, 72], b""),
 ];
 
-// What a module with these data words shows by its first request.
-fn shown(alloc: Global, words: &[u16; 2]) -> Result<RamSink, Memory> {
-    let mut machine = begun(alloc, &WRITES)?;
-    let mut screen = RamSink::new(alloc, Bytes::new(alloc), Vec::new(alloc))?;
-    machine.set_words(1, words);
+// Runs to the next request, and serves it. Nothing is shown where none comes.
+pub(crate) fn served(machine: &mut Machine, screen: &mut RamSink) -> Result<(), Memory> {
     let (event, _) = machine.run(100);
     if let Event::Request(request) = event {
-        serve(request, &mut machine, &mut screen).map_err(|_| Memory)?;
+        serve(request, machine, screen).map_err(|_| Memory)?;
     }
+    Ok(())
+}
+
+// What a module with these data words shows by its first request.
+fn shown(alloc: Global, words: &[u16; 2]) -> Result<RamSink, Memory> {
+    let mut machine = begun(alloc, &WRITES, 2)?;
+    let mut screen = RamSink::new(alloc, Bytes::new(alloc), Vec::new(alloc))?;
+    machine.set_words(1, words);
+    served(&mut machine, &mut screen)?;
     Ok(screen)
 }
 

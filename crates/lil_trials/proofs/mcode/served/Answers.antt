@@ -1,6 +1,6 @@
 use Rattle.std.proofs.Common.{◌≡◌, subst}
 use Rattle.lil_mcode.specs.{declared.machine.Event.Event, Table.mstep, Requests.request_has}
-use Rattle.lil_trials.proofs.mcode.shown.Goals as goal
+use Rattle.lil_trials.proofs.mcode.served.Goals as goal
 
 pub serve-requires : goal.serve-requires
 serve-requires c =

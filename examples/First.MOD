@@ -1,0 +1,5 @@
+MODULE First;
+FROM InOut IMPORT WriteString, WriteLn;
+BEGIN
+  WriteString("Good morning, Lilith."); WriteLn
+END First.
