@@ -71,13 +71,13 @@ impl<T> Items<T> {
 }
 
 impl<T: Drop> Items<T> {
-    /// One more at the end. After a refusal the list is as before. The first takes room for itself alone: most lists of a
-    /// tree have one item.
+    /// One more at the end. After a refusal the list is as before. The first four take room for themselves alone: most lists
+    /// of a tree have one item or two.
     pub fn push(&mut self, item: T) -> Result<(), Memory>
         ensures ok { OnOk result (self.new ≡ self.old ++ item ∷ []) }
         ensures err { OnErr result (self.new ≡ self.old) }
     {
-        if self.inner.is_empty() {
+        if self.inner.len() < 4 {
             self.inner.try_reserve_exact(1)?;
         }
         self.inner.push(item)?;
