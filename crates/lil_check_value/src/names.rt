@@ -1,4 +1,4 @@
-ghost use Rattle.std.specs.Prelude.{◌≡◌};
+ghost use Rattle.std.specs.Prelude.{◌≡◌, ◌+◌, ◌∷◌};
 ghost use Rattle.lil_report.specs.Told.{Said};
 ghost use Rattle.lil_check_value.specs.Looks as spec;
 
@@ -27,6 +27,25 @@ fn nearer(of: Option<FieldAt>, number: usize, outer: Looked) -> Looked
     }
 }
 
+/// What a name means inside of a WITH, from what it means outside. The record isn't searched where a WITH further inside has
+/// the same type.
+#[tactic(auto, using(crate::proofs::Nearest::adds_nothing))]
+fn inside(
+    types: &TypeTable,
+    name: &Name,
+    outer: Looked,
+    number: usize,
+    sort: TypeId,
+    inner: &[TypeId],
+) -> Looked
+    ensures { spec.in_withs types.now name.now result (number + 1) inner.now ≡ spec.in_withs types.now name.now outer number (sort ∷ inner.now) }
+{
+    if inner.contains(&sort) {
+        return outer;
+    }
+    nearer(field(types, sort, name), number, outer)
+}
+
 /// The field of the nearest WITH that has one of this name.
 fn in_withs(types: &TypeTable, withs: &[TypeId], name: &Name) -> Looked
     ensures { result ≡ spec.nearest types.now name.now withs.now }
@@ -34,7 +53,8 @@ fn in_withs(types: &TypeTable, withs: &[TypeId], name: &Name) -> Looked
     let mut found = Looked::Nothing;
     let mut number = 0;
     while number < withs.len() {
-        found = nearer(field(types, withs[number], name), number, found);
+        let inner = &withs[number + 1..];
+        found = inside(types, name, found, number, withs[number], inner);
         number += 1;
     }
     found

@@ -3,7 +3,7 @@ ghost use Rattle.lil_report.specs.Told.{Said};
 ghost use Rattle.lil_check_value.specs.Looks as spec;
 
 use crate::names::type_named;
-use lil_base::{FaultKind, Place};
+use lil_base::{Boxed, FaultKind, Place};
 use lil_kinds::set_base;
 use lil_report::Report;
 use lil_scope::Env;
@@ -41,12 +41,17 @@ fn sort_node(
 
 /// The type of a set.
 #[tactic(auto, unfolding(lil_report::specs::Told::tell))]
-pub(crate) fn set_sort(env: &Env, report: &mut Report, of: &Option<Qualident>) -> Option<TypeId>
+pub(crate) fn set_sort(
+    env: &Env,
+    report: &mut Report,
+    of: &Option<Boxed<Qualident>>,
+) -> Option<TypeId>
     ensures { Said (spec.set_sort env.now of.now) report.old result report.new }
 {
     match of {
         None => Some(BITSET),
-        Some(name) => {
+        Some(named) => {
+            let name = named.get();
             let sort = type_named(env, report, name);
             sort_node(&env.types, report, name.name.place, sort)
         }

@@ -184,7 +184,8 @@ fn elements(
 ) -> Result<Option<Elements>, Memory>
     ensures { IfOk result (λ o. Said (spec.elements_mean env.now sort elements.now) report.old o report.new) }
 {
-    let mut all = Some(no_elements(alloc));
+    let none = no_elements(alloc, elements.len())?;
+    let mut all = Some(none);
     for one in elements {
         all = joined(alloc, env, report, sort, all, one)?;
     }
@@ -276,8 +277,9 @@ pub fn expression(
             Ok(value)
         }
         Expr::Call(first, designator, actuals) => {
-            let begin = designator.first.place;
-            let of = reached(alloc, env, report, begin, designator)?;
+            let named = designator.get();
+            let begin = named.first.place;
+            let of = reached(alloc, env, report, begin, named)?;
             let callee = callee_node(report, of);
             let asked = asks(&callee);
             let all = all_arguments(alloc, env, report, asked, actuals.as_slice());

@@ -6,16 +6,17 @@ use lil_text::{Ident, Qualident};
 
 /// An expression (Programming in Modula-2, Expressions). The first place of each form is that of its first token;
 /// parentheses around it leave no node, but the form then begins at the outermost one. A sign or NOT has its own place
-/// behind that. A chain is a first operand and, from left to right, what operators do to it.
+/// behind that. A chain is a first operand and, from left to right, what operators do to it. What is long and rare has a
+/// block of its own, since each form takes as much memory as the longest.
 #[cycle(expression)]
 #[derive(Drop)]
 pub enum Expr {
     Whole(Place, u16),
     Code(Place, u8),
     Chars(Place, Text),
-    SetOf(Place, Option<Qualident>, Items<Range>),
+    SetOf(Place, Option<Boxed<Qualident>>, Items<Range>),
     Desig(Place, Designator),
-    Call(Place, Designator, Items<Expr>),
+    Call(Place, Boxed<Designator>, Items<Expr>),
     One(Place, OneOp, Place, Boxed<Expr>),
     Chain(Place, Boxed<Expr>, Items<Operation>),
 }

@@ -55,14 +55,16 @@ fn operand_of(of: &Found) -> Operand
     }
 }
 
-/// No elements yet.
-pub fn no_elements(alloc: Global) -> Elements
-    ensures { result ≡ spec.no_elements }
+/// No elements yet, with room for so many.
+pub fn no_elements(alloc: Global, count: usize) -> Result<Elements, Memory>
+    ensures { IfOk result (λ x. x ≡ spec.no_elements) }
 {
-    Elements {
-        forms: Some(Items::new(alloc)),
-        bounds: Items::new(alloc),
-    }
+    let forms = Vec::with_capacity(alloc, count)?;
+    let bounds = Vec::with_capacity(alloc, count)?;
+    Ok(Elements {
+        forms: Some(Items::of_vec(forms)),
+        bounds: Items::of_vec(bounds),
+    })
 }
 
 fn with_element(

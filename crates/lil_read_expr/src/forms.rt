@@ -46,13 +46,21 @@ pub fn one(alloc: Global, place: Place, operator: OneOp, operand: Expr) -> Resul
 }
 
 /// A name and what is selected of it, or a call of that.
-pub fn designated(first: Ident, selectors: Items<Selector>, arguments: Option<Items<Expr>>) -> Expr
-    ensures { result ≡ spec.named first selectors arguments }
+pub fn designated(
+    alloc: Global,
+    first: Ident,
+    selectors: Items<Selector>,
+    arguments: Option<Items<Expr>>,
+) -> Result<Expr, Memory>
+    ensures { IfOk result (λ x. x ≡ spec.named first selectors arguments) }
 {
     let place = first.place;
     let designator = Designator { first, selectors };
     match arguments {
-        None => Expr::Desig(place, designator),
-        Some(arguments) => Expr::Call(place, designator, arguments),
+        None => Ok(Expr::Desig(place, designator)),
+        Some(arguments) => {
+            let (arguments, designator) = beside(arguments, Boxed::new(alloc, designator))?;
+            Ok(Expr::Call(place, designator, arguments))
+        }
     }
 }

@@ -5,7 +5,7 @@ use crate::forms::{alone, designated};
 use crate::lists::{call, elements};
 use crate::lookahead::sees_part_selector;
 use crate::selectors::{part_selectors, selected_on};
-use lil_base::{Items, Place};
+use lil_base::{Boxed, Items, Place, beside};
 use lil_grammar::Reader;
 use lil_language::{Expr, Selector};
 use lil_text::{Ident, Mark, Qualident, ReadStop};
@@ -53,6 +53,7 @@ fn set_of(alloc: Global, reader: &mut Reader<'_>, depth: u8, first: Ident) -> Re
         owner: None,
         name: first,
     };
+    let (elements, sort) = beside(elements, Boxed::new(alloc, sort))?;
     Ok(Expr::SetOf(place, Some(sort), elements))
 }
 
@@ -67,7 +68,8 @@ fn name_alone(
     ensures { Reads (spec.reading depth (spec.applied first spec.name_call) reader.old) result reader.new }
 {
     let arguments = call(alloc, reader, depth)?;
-    Ok(designated(first, Items::new(alloc), arguments))
+    let found = designated(alloc, first, Items::new(alloc), arguments)?;
+    Ok(found)
 }
 
 #[cycle(expr)]
@@ -82,7 +84,8 @@ fn with_part(
 {
     let selectors = part_selectors(alloc, reader, depth)?;
     let arguments = call(alloc, reader, depth)?;
-    Ok(designated(first, selectors, arguments))
+    let found = designated(alloc, first, selectors, arguments)?;
+    Ok(found)
 }
 
 #[cycle(expr)]
@@ -136,6 +139,7 @@ fn field_set(
         owner: Some(first),
         name: field,
     };
+    let (elements, sort) = beside(elements, Boxed::new(alloc, sort))?;
     Ok(Expr::SetOf(start, Some(sort), elements))
 }
 

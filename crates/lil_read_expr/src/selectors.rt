@@ -105,7 +105,8 @@ pub fn selected_on(
 {
     let selectors = more_selectors(alloc, reader, depth, begun)?;
     let arguments = call(alloc, reader, depth)?;
-    Ok(designated(first, selectors, arguments))
+    let found = designated(alloc, first, selectors, arguments)?;
+    Ok(found)
 }
 
 /// A name and what is selected of it.

@@ -73,7 +73,7 @@ pub expression-returns-in_ok-value-in-Desig : goal.expression-returns-in_ok-valu
 expression-returns-in_ok-value-in-Desig t c = is_desig c.args.env.now _ c.in-Desig.is c.in_ok-of-in-Desig.ensures c.in_ok-value-in-Desig.ensures
 
 pub expression-returns-in_ok-value-in-Call : goal.expression-returns-in_ok-value-in-Call
-expression-returns-in_ok-value-in-Call t c = is_call c.args.env.now _ c.as_slice-in-Call.result.now (search rules) refl c.in_ok-of-in-Call.ensures c.callee_node-callee.ensures c.asks-asked.ensures c.in_ok-callee-in-Call.ensures.ok c.all_arguments-all.ensures c.in_ok-value-in-Call.ensures c.begun_at.ensures
+expression-returns-in_ok-value-in-Call t c = is_call c.args.env.now c.get-named.result.now c.as_slice-in-Call.result.now (search rules) refl c.in_ok-of-in-Call.ensures c.callee_node-callee.ensures c.asks-asked.ensures c.in_ok-callee-in-Call.ensures.ok c.all_arguments-all.ensures c.in_ok-value-in-Call.ensures c.begun_at.ensures
 
 pub expression-returns-in_ok-value-in-One : goal.expression-returns-in_ok-value-in-One
 expression-returns-in_ok-value-in-One t c = is_one c.args.env.now c.get.result.now (search rules) c.in_ok-a-in-One.ensures c.in_ok-value-in-One.ensures
