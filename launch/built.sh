@@ -3,7 +3,7 @@
 # What launchers and the gate both know of the built programs. They read this file, with the top folder in $top.
 
 # the programs that launchers run
-programs='lil_cli lil_explain'
+programs='lil_cli lil_explain lil_look'
 # beside the first: sums of them, and of what they were built from
 stamp=$top/crates/lil_cli/out/lilith-sources
 
