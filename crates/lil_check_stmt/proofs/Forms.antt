@@ -2,18 +2,19 @@
 use Rattle.std.proofs.Common.{◌≡◌, ℕ, ℤ, List, Option, Some, None, Result, Ok, Err, IfOk, subst, sym, Bool, true, [], map, refl, ap, ◌∙◌}
 use Rattle.lil_base.specs.{declared.fault.Place.Place, Lists.joined}
 use Rattle.lil_language.specs.declared.tree.{Expr.Expr, ForHead.ForHead, Range.Range, Designator.Designator, Guard.Guard, Arm.Arm, Stmt.{Stmt, TheOpen.Stmt-F, TheFolds.{map-Stmt, fold-roll-Stmt, fold-roll-Guard, fold-roll-Arm}, TheViews.roll-Stmt}}
-use Rattle.lil_resolved.specs.declared.resolved.{RExpr.RExpr, RLabel.RLabel, RStmt.RStmt, RArm.RArm, RGuard.RGuard}
+use Rattle.lil_resolved.specs.declared.resolved.{RExpr.RExpr, RStmt.RStmt, RArm.RArm, RGuard.RGuard}
 use Rattle.lil_report.specs.{declared.report.Fault.Fault, Told.{Said, Row, after, pure, walk}, Laws.{said_to, said_after, said_map, said_as, said_value, walk_map}}
 use Rattle.lil_scope.specs.declared.{env.Env.Env, thing.Kind.Kind}
 use Rattle.lil_kinds.specs.declared.found.Found.{Found}
 use Rattle.lil_check_value.specs.{declared.names.Looked.Looked, Looks.look, Values.{means, variable_means, call_means}}
-use Rattle.lil_check_stmt.specs.{declared.{labels.Labels.Labels, counting.{Counter.Counter, Count.Count}}, Labels.{one_node, range_node, high_means, label_means, with_label, label_step, labels_mean}, Counting.{counter_node, start_node, limit_node, step_node, step_means, count_of, count_means, counted}}
+use Rattle.lil_check_stmt.specs.{declared.{labels.Labels.Labels, counting.{Counter.Counter, Count.Count}}, Labels.{tag_of, with_label, label_step, labels_mean}, Counting.{counter_node, start_node, limit_node, step_node, step_means, count_of, count_means, counted}}
 use Rattle.lil_check_stmt.specs.Nodes.{return_node, assign_node, record_node, exit_node}
 use Rattle.lil_check_stmt.specs.Statements.{guard_of, conditional, repeated_while, repeated_until, looped, result_at, return_means, behind, no_arms, Meaning, GuardMeaning, ArmMeaning, list_step, list_means, else_means, guards_step, guards_mean, arms_step, arms_mean, condition_means, selector_means, kind_of, within, selected, with_record, with_arm, statement_layer, guard_layer, arm_layer, statement_means, guard_means, arm_means, statement_step, statements_mean, behind_else, guard_step, arm_step}
 use Rattle.lil_check_stmt.specs.declared.{nodes.Opened.Opened, labels.Arms.Arms}
 use Rattle.lil_language.specs.declared.tree.Stmt.TheVariants as st
 use Rattle.lil_language.specs.declared.tree.Stmt.TheOpen as layer
-use Rattle.lil_types.specs.Types.{Table}
+use Rattle.lil_types.specs.{declared.table.Span.Span, Types.Table}
+use Rattle.lil_check_type.specs.Labels.{label_means}
 
 -- ---- what labels, the head of a FOR and a RETURN mean, from what their parts mean
 
@@ -25,18 +26,9 @@ pub on_ok : {A E : Type 0} (P Q : A → Type 0) (r : Result A E) → ((a : A) �
 on_ok P Q (Ok a) more h = more a h
 on_ok P Q (Err e) more h = h
 
-module _ (e : Env) (seen : List RLabel) (k : Option Kind) (of : Range) {r : Option Fault} where
-  pub is_one : {a : Option Found} {o : Option RLabel} {s t : Option Fault} → Said (means e of.low) r a t → of.high ≡ None → Said (one_node e.types seen k a) t o s → Said (label_means e seen k of) r o s
-  unfolding label_means
-  is_one {a = a} {o = o} {s = s} {t = t} h none m = said_after _ _ h (subst (λ z. Said (high_means e seen k a z) t o s) (sym none) m)
-
-  pub is_range : (x : Expr) {a b : Option Found} {o : Option RLabel} {s t u : Option Fault} → Said (means e of.low) r a t → of.high ≡ Some x → Said (means e x) t b u → Said (range_node e.types seen k a b) u o s → Said (label_means e seen k of) r o s
-  unfolding label_means
-  is_range x {a = a} {o = o} {s = s} {t = t} h some m n = said_after _ _ h (subst (λ z. Said (high_means e seen k a z) t o s) (sym some) (said_after _ _ m n))
-
-pub is_label : (e : Env) (k : Option Kind) (ls : Labels) (of : Range) (seen : List RLabel) {o : Option RLabel} {more : Labels} {r s : Option Fault} → seen ≡ ls.seen → Said (label_means e seen k of) r o s → more ≡ with_label ls o
+pub is_label : (e : Env) (k : Option Kind) (ls : Labels) (of : Range) (n : Option ℕ) (seen : List Span) {o : Option Span} {more : Labels} {r s : Option Fault} → n ≡ tag_of e.types k → seen ≡ ls.seen → Said (label_means e n seen of) r o s → more ≡ with_label ls o
     → Said (label_step e k ls of) r more s
-is_label e k ls of seen {o = o} {r = r} {s = s} these h value = said_to (said_map (with_label ls) (subst (λ z. Said (label_means e z k of) r o s) these h)) value
+is_label e k ls of n seen {o = o} {r = r} {s = s} tag these h value = said_to (said_map (with_label ls) (subst (λ z. Said (label_means e (tag_of e.types k) z of) r o s) these (subst (λ n. Said (label_means e n seen of) r o s) tag h))) value
 
 pub is_count : (e : Env) (h : ForHead) {x : Looked} {c : Option Counter} {a b : Option Found} {from to : Option RExpr} {n : Option ℤ} {o : Option Count} {r s t u v w y : Option Fault} → x ≡ look e h.variable.name
     → Said (counter_node e h.variable.place x) r c s → Said (means e h.from) s a t → Said (start_node e.types h.becomes c a) t from u → Said (means e h.to) u b v → Said (limit_node e.types c b) v to w → Said (step_means e h.by) w n y

@@ -16,7 +16,8 @@ use Rattle.lil_shapes.specs.Bases.{kind_at}
 use Rattle.lil_forms.specs.Values.{typed}
 use Rattle.lil_check_value.specs.{declared.names.Looked.Looked, Looks.look, Values.means}
 use Rattle.lil_check_value.specs.declared.names.Looked.TheVariants as l
-use Rattle.lil_check_stmt.specs.{declared.counting.{Bounds.Bounds, Counter.Counter, Count.Count}, Nodes.node}
+use Rattle.lil_check_type.specs.Nodes.{node}
+use Rattle.lil_check_stmt.specs.declared.counting.{Bounds.Bounds, Counter.Counter, Count.Count}
 
 -- ---- the variable
 abbrev pub is_nothing : Looked → Bool

@@ -1,5 +1,5 @@
 -- The nodes of statements: what they make of the values of their parts, and their tests.
-use Rattle.std.specs.Prelude.{ℕ, ◌==◌, Bool, true, false, not, ◌&&◌, is_some, List, [], ◌∷◌, Option, Some, None, if◌then◌else◌}
+use Rattle.std.specs.Prelude.{ℕ, ◌==◌, Bool, true, false, not, is_some, List, [], ◌∷◌, Option, Some, None}
 use Rattle.lil_base.specs.declared.fault.{Place.Place, FaultKind.TheVariants.{Operands, Assign, NotRecord, ExitOutside, ReturnKind, ConstRange}}
 use Rattle.lil_types.specs.Types.{Table, boolean, base}
 use Rattle.lil_resolved.specs.declared.resolved.{RExpr.RExpr, RStmt.RStmt}
@@ -9,16 +9,8 @@ use Rattle.lil_scope.specs.declared.thing.Kind.{Kind}
 use Rattle.lil_scope.specs.declared.thing.Kind.TheVariants as k
 use Rattle.lil_kinds.specs.{declared.found.{Form.Form, Found.Found}, Forms.is_record, Kinds.{assignable, misses, is_ordinal}}
 use Rattle.lil_forms.specs.{Values.typed, Statements.{located_in, assigned}}
+use Rattle.lil_check_type.specs.Nodes.{node}
 use Rattle.lil_check_stmt.specs.declared.nodes.Opened.{Opened}
-
--- no test finds anything wrong
-abbrev pub clear : List Row → Bool
-clear [] = true
-clear (r ∷ rs) = not r.wrong && clear rs
-
--- a node with a fault has no value, where others are tested by it
-abbrev pub node : {A : Type 0} → List Row → Option A → Option A × List Row
-node rs o = (if clear rs then o else None, rs)
 
 -- ---- assignments. An open array as a whole takes nothing
 abbrev pub takes : Table → Kind → Kind → Bool

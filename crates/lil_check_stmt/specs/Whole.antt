@@ -8,6 +8,7 @@ use Rattle.lil_base.specs.Lists.{joined}
 use Rattle.lil_language.specs.declared.tree.{Range.Range, Arm.Arm, Guard.Guard, Stmt.{Stmt, TheOpen.{Stmt-F, Arm-F, Guard-F}, TheFolds.{fold-Stmt, fold-Arm, fold-Guard, map-Stmt, map-Arm, map-Guard, fold-roll-Stmt, fold-roll-Arm, fold-roll-Guard}}}
 use Rattle.lil_language.specs.declared.tree.Stmt.TheOpen as s
 use Rattle.lil_resolved.specs.declared.resolved.{RArm.RArm, RExpr.RExpr, RGuard.RGuard, RLabel.RLabel, RStmt.{RStmt, TheOpen.{RStmt-F, RArm-F, RGuard-F}, TheFolds.{fold-RStmt, fold-RArm, fold-RGuard, map-RStmt, ind-RStmt, fold-roll-RStmt, fold-roll-RArm, fold-roll-RGuard}, TheViews.roll-RStmt}}
+use Rattle.lil_types.specs.declared.table.Span.{Span}
 use Rattle.lil_resolved.specs.declared.resolved.RStmt.TheVariants as r
 use Rattle.lil_resolved.specs.declared.resolved.RStmt.TheOpen as o
 use Rattle.lil_report.specs.{Told.{Row, after, walk}, Laws.walk_map}
@@ -15,7 +16,8 @@ use Rattle.lil_shapes.specs.{BaseLaws.if_true, ListLaws.map_of_map}
 use Rattle.lil_scope.specs.declared.{env.Env.Env, thing.Kind.Kind}
 use Rattle.lil_kinds.specs.declared.found.Located.{Located}
 use Rattle.lil_check_value.specs.Values.{means, variable_means, call_means}
-use Rattle.lil_check_stmt.specs.{declared.{counting.{Bounds.Bounds, Count.Count}, labels.{Arms.Arms, Labels.Labels}, nodes.Opened.Opened}, Nodes.{assign_node, record_node, exit_node}, Labels.{label_means, label_step, labels_mean}, Counting.{count_means, is_step, counted_with, counted}}
+use Rattle.lil_check_type.specs.Labels.{label_means}
+use Rattle.lil_check_stmt.specs.{declared.{counting.{Bounds.Bounds, Count.Count}, labels.{Arms.Arms, Labels.Labels}, nodes.Opened.Opened}, Nodes.{assign_node, record_node, exit_node}, Labels.{tag_of, as_label, label_step, labels_mean}, Counting.{count_means, is_step, counted_with, counted}}
 use Rattle.lil_check_stmt.specs.Statements.{Meaning, GuardMeaning, ArmMeaning, guard_of, conditional, repeated_while, repeated_until, looped, inside, selected_by, list_step, list_means, behind, else_means, guards_step, guards_mean, no_arms, arms_step, arms_mean, condition_means, selector_means, selector_value, kind_of, return_means, with_record, armed, statement_layer, guard_layer, arm_layer, statement_means, guard_means, arm_means, statement_step, statements_mean, within}
 use Rattle.lil_check_stmt.specs.Induction.{meant, arm_meant, guard_meant, statement_rolled, arm_rolled, guard_rolled, bare, bare_arm, bare_guard, by_forms}
 
@@ -181,10 +183,10 @@ arm_kept : (m n : ℕ) (ls : Option (List RLabel)) (o : Option (List RStmt)) →
 arm_kept m n (Some ls) (Some ss) h j = from (fold-roll-RArm ℕ ℕ ℕ extent_layer arm_extent_layer guard_extent_layer (record { labels = ls; body = ss })) (omega (arith, ones ls, h, j))
 arm_kept m n _ _ h j = tt
 
-labels_kept : (e : Env) (k : Option Kind) (seen : List RLabel) (rs : List Range) → Has one (length rs) (labels_mean e k seen rs).0.own
+labels_kept : (e : Env) (k : Option Kind) (seen : List Span) (rs : List Range) → Has one (length rs) (labels_mean e k seen rs).0.own
 unfolding after
 labels_kept e k seen rs =
-    walked (λ n (ls : Labels). Has one n ls.own) one (label_step e k) (λ n ls r h. joined_has one n 1 ls.own (label_means e ls.seen k r).0 h (by (label_means e ls.seen k r).0)) rs 0 _ _ (omega (arith, ones rs)) (omega arith)
+    walked (λ n (ls : Labels). Has one n ls.own) one (label_step e k) (λ n ls r h. joined_has one n 1 ls.own (as_label (label_means e (tag_of e.types k) ls.seen r).0) h (by (as_label (label_means e (tag_of e.types k) ls.seen r).0))) rs 0 _ _ (omega (arith, ones rs)) (omega arith)
   where
     by : (o : Option RLabel) → IfSome o (λ l. 1 ≤ one l)
     by None = tt

@@ -13,20 +13,20 @@ use Rattle.lil_report.specs.{declared.report.Fault.Fault, Told.{after, walk, Sai
 use Rattle.lil_scope.specs.declared.env.Env.{Env}
 use Rattle.lil_kinds.specs.declared.found.Found.{Found}
 use Rattle.lil_check_value.specs.{Looks.not_built, Values.means}
-use Rattle.lil_check_type.specs.{declared.{bounds.Bound.Bound, named.NamedType.NamedType, records.Fields.Fields}, Walks.walk_steps, Made.{Made, form_node}, Bounds.{bound_of, range_node}, Simple.{base_means, simple_means, set_means}, Records.{label_step, tag_means, no_fields, record_form, procedure_means}}
+use Rattle.lil_check_type.specs.{declared.{bounds.Bound.Bound, named.NamedType.NamedType, records.Fields.Fields}, Walks.walk_steps, Made.{Made, form_node}, Bounds.{bound_of, range_node}, Simple.{base_means, simple_means, set_means}, Labels.{no_labels, label_step}, Records.{tag_means, no_fields, with_labels, record_node, procedure_means}}
 use Rattle.lil_check_type.specs.Sorts.{index_step, array_step, array_means, pointer_means, bare_name, Sense, Part, Cased, FieldSense, VariantSense, fields_by, named_fields, variants_by, case_fields, field_layer, variant_layer, sort_layer, sense, fields_sense, variant_sense, fields_rolled, sort_rolled, sort_means, list_step, lists_mean, others_mean, variants_mean, record_means}
 
 -- ---- lists of fields and of variants
 fields_are : (fs : List FieldList) (q : Part) → fields_by (map fields_sense fs) q ≡ lists_mean q fs
 fields_are fs q = walk_map (λ q f. f q) fields_sense q fs
 
-pub variant_is : (v : Variant) (n : Option ℕ) (c : Cased) → variant_sense v n c ≡ after (walk (label_step c.0.0 n) c.1 (out-Variant v).labels) (λ us. after (lists_mean c.0 (out-Variant v).fields) (λ q. ((q, us), [])))
+pub variant_is : (v : Variant) (n : Option ℕ) (c : Cased) → variant_sense v n c ≡ after (walk (label_step c.0.0 n) c.1 (out-Variant v).labels) (λ ls. after (lists_mean c.0 (out-Variant v).fields) (λ q. ((q, ls), [])))
 unfolding sense fields_sense variant_sense
 variant_is v n c = ap (λ m. m n c) (fold_out-Variant FieldSense Sense VariantSense field_layer sort_layer variant_layer v)
-    ∙ (λ j. after (walk (label_step c.0.0 n) c.1 (out-Variant v).labels) (λ us. after (fields_are (out-Variant v).fields c.0 j) (λ q. ((q, us), []))))
+    ∙ (λ j. after (walk (label_step c.0.0 n) c.1 (out-Variant v).labels) (λ ls. after (fields_are (out-Variant v).fields c.0 j) (λ q. ((q, ls), []))))
 
 variants_are : (vs : List Variant) (n : Option ℕ) (q : Part) → variants_by (map variant_sense vs) n q ≡ variants_mean vs n q
-variants_are vs n q = walk_map (λ c v. v n c) variant_sense (q, []) vs
+variants_are vs n q = walk_map (λ c v. v n c) variant_sense (q, no_labels) vs
 
 pub named_is : (is : List Ident) (x : Sort) (q : Part) → fields_sense (l.Fields is x) q ≡ named_fields is (sense x).means q
 named_is is x q = ap (λ m. m q) (ap fields_sense (sym (l.rolls-Fields is x)) ∙ fields_rolled (o.Fields is x))
@@ -46,7 +46,7 @@ array_is p xs y = ap sense (sym (v.rolls-ArrayOf p xs y)) ∙ sort_rolled (o.Arr
 
 pub record_is : (p : Place) (fs : List FieldList) → sense (v.RecordOf p fs) ≡ record { name = None; means = λ e. record_means e p fs }
 record_is p fs = ap sense (sym (v.rolls-RecordOf p fs)) ∙ sort_rolled (o.RecordOf p fs)
-    ∙ (λ j. record { name = None; means = λ e. after (fields_are fs (e, no_fields) j) (λ q. form_node q.0 p (record_form q.1)) })
+    ∙ (λ j. record { name = None; means = λ e. after (fields_are fs (e, no_fields) j) (λ q. record_node q.0 p q.1) })
 
 pub set_is : (p : Place) (x : Simple) → sense (v.SetOver p x) ≡ record { name = None; means = λ e. set_means e p x }
 set_is p x = ap sense (sym (v.rolls-SetOver p x)) ∙ sort_rolled (o.SetOver p x)
@@ -78,9 +78,10 @@ module _ (e : Env) {r : Option Fault} where
   pub is_pointer_to : {of : Sort} (y : Sort) {p : Place} {m : Made} {s : Option Fault} → of ≡ v.PointerTo p y → Said (pointer_means p (sense y).name (sense y).means e) r m s → Said (sort_means e of) r m s
   is_pointer_to y {p = p} is h = said_as (ap (sort_means e) is ∙ ap (λ s. s.means e) (pointer_is p y)) h
 
-  pub is_cases : (gs : Fields) (vs : List Variant) {p : Place} {i : Option Ident} {n : Qualident} (fs : Option (List FieldList)) {of : FieldList} {hs : Fields} {o : Option ℕ} {c : Cased} {q : Part} {s t u : Option Fault}
-      → of ≡ l.Variants p i n vs fs → Said {A = Fields × Option ℕ} (tag_means e gs i n) r (hs, o) t → Said (variants_mean vs o (e, hs)) t c u → Said (others_mean fs c.0) u q s → Said (list_step (e, gs) of) r q s
-  is_cases gs vs {p = p} {i = i} {n = n} fs eq h k m = said_as (ap (list_step (e, gs)) eq ∙ cases_are p i n vs fs (e, gs)) (said_after _ _ h (said_after _ _ k m))
+  pub is_cases : (gs : Fields) (vs : List Variant) {p : Place} {i : Option Ident} {n : Qualident} (fs : Option (List FieldList)) {of : FieldList} {hs ks : Fields} {o : Option ℕ} {c : Cased} {q : Part} {s t u : Option Fault}
+      → of ≡ l.Variants p i n vs fs → Said {A = Fields × Option ℕ} (tag_means e gs i n) r (hs, o) t → Said (variants_mean vs o (e, hs)) t c u → ks ≡ with_labels c.0.1 c.1 → Said (others_mean fs (c.0.0, ks)) u q s → Said (list_step (e, gs) of) r q s
+  is_cases gs vs {p = p} {i = i} {n = n} fs {c = c} {q = q} {s = s} {u = u} eq h k labels m = said_as (ap (list_step (e, gs)) eq ∙ cases_are p i n vs fs (e, gs))
+      (said_after _ _ h (said_after _ _ k (subst (λ ks. Said (others_mean fs (c.0.0, ks)) u q s) labels m)))
 
 module _ (q : Part) {r : Option Fault} where
   pub is_some : (fs : List FieldList) {of : Option (List FieldList)} {p : Part} {s : Option Fault} → of ≡ Some fs → Said (lists_mean q fs) r p s → Said (others_mean of q) r p s

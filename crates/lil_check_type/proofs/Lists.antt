@@ -1,14 +1,11 @@
--- Lists that are searched from their begin, and arrays over several indexes.
-use Rattle.std.proofs.Common.{◌≡◌, ℕ, ◌+◌, ◌<◌, ◌≤◌, length, Bool, false, ◌||◌, List, [], ◌∷◌, ◌++◌, Option, drop, get_or, reverse, refl, sym, ap, subst, ◌∙◌}
+-- Labels that are searched from their begin, and arrays over several indexes.
+use Rattle.std.proofs.Common.{◌≡◌, ℕ, ◌+◌, ◌<◌, ◌≤◌, length, Bool, true, false, not, ◌&&◌, ◌||◌, List, [], ◌∷◌, ◌++◌, Option, drop, get_or, reverse, refl, sym, ap, subst, ◌∙◌}
 use Rattle.std.proofs.lemmas.List.{drop_more, drop_all, reverse-append}
 use Rattle.lil_base.specs.declared.fault.Place.{Place}
-use Rattle.lil_types.specs.{declared.table.{Span.Span, Field.Field, TypeForm.TypeForm}, Types.meets}
+use Rattle.lil_types.specs.{declared.table.{Span.Span, TypeForm.TypeForm}, Types.meets}
 use Rattle.lil_report.specs.{declared.report.Fault.Fault, Told.{walk, Said}, Laws.{said_value, said_after}}
-use Rattle.lil_scope.specs.{declared.env.Env.Env, Names.same}
-use Rattle.lil_check_type.specs.{Made.{Made, form_node}, Bounds.has_value_of, Records.has_field, Sorts.{array_form, array_step}}
-
-left_from : {X : Type 0} (xs : List X) (i : ℕ) (x : X) → i < length xs → x ≡ get_or xs i x → drop i xs ≡ x ∷ drop (i + 1) xs
-left_from xs i x inside is = drop_more xs i x inside ∙ ap (λ y. y ∷ drop (i + 1) xs) (sym is)
+use Rattle.lil_scope.specs.declared.env.Env.{Env}
+use Rattle.lil_check_type.specs.{Made.{Made, form_node}, Labels.has_value_of, Sorts.{array_form, array_step}}
 
 -- ---- values of labels
 pub value_at : (us : List Span) (s : Span) (i : ℕ) (d : Span) {b : Bool} → i < length us → has_value_of us s ≡ has_value_of (drop i us) s → meets s (get_or us i d) ≡ b
@@ -17,14 +14,6 @@ value_at us s i d {b = b} inside h m = h ∙ ap (λ us. has_value_of us s) (drop
 
 pub no_value : (us : List Span) (s : Span) (i : ℕ) → length us ≤ i → has_value_of us s ≡ has_value_of (drop i us) s → has_value_of us s ≡ false
 no_value us s i done h = h ∙ ap (λ us. has_value_of us s) (drop_all i us done)
-
--- ---- names of fields
-pub field_at : (fs : List Field) (n : List ℕ) (i : ℕ) (f : Field) {b : Bool} → i < length fs → f ≡ get_or fs i f → has_field fs n ≡ has_field (drop i fs) n → same n f.name ≡ b
-    → has_field fs n ≡ (b || has_field (drop (i + 1) fs) n)
-field_at fs n i f {b = b} inside is h m = h ∙ ap (λ fs. has_field fs n) (left_from fs i f inside is) ∙ ap (λ b. b || has_field (drop (i + 1) fs) n) m
-
-pub no_field : (fs : List Field) (n : List ℕ) (i : ℕ) → length fs ≤ i → has_field fs n ≡ has_field (drop i fs) n → has_field fs n ≡ false
-no_field fs n i done h = h ∙ ap (λ fs. has_field fs n) (drop_all i fs done)
 
 -- ---- arrays
 module _ (p : Place) {r : Option Fault} where
@@ -37,3 +26,17 @@ module _ (p : Place) {r : Option Fault} where
 
   pub no_array : (m : Made) {left : List (Option ℕ)} → left ≡ [] → Said {A = Made} (walk (array_step p) m (reverse left)) r m r
   no_array m is = subst (λ xs. Said {A = Made} (walk (array_step p) m (reverse xs)) r m r) (sym is) (said_value refl)
+
+-- ---- no test of two labels finds a fault
+pub all_clear : (u c v d w e : Bool) {first last twice empty : Bool} → first ≡ (not u && (not c && true)) → last ≡ (not v && (not d && true)) → twice ≡ w → empty ≡ e
+    → (first && (last && (not twice && not empty))) ≡ (not u && (not c && (not v && (not d && (not w && (not e && true))))))
+all_clear u c v d w e h j k l = (λ i. h i && (j i && (not (k i) && not (l i)))) ∙ by u c v d w e
+  where
+    by : (u c v d w e : Bool) → ((not u && (not c && true)) && ((not v && (not d && true)) && (not w && not e))) ≡ (not u && (not c && (not v && (not d && (not w && (not e && true))))))
+    by true c v d w e = refl
+    by false true v d w e = refl
+    by false false true d w e = refl
+    by false false false true w e = refl
+    by false false false false true e = refl
+    by false false false false false true = refl
+    by false false false false false false = refl

@@ -1,7 +1,7 @@
 -- Constants that stand for values of an ordinal type: bounds of subranges, and labels.
 use Rattle.std.specs.Prelude.{ℕ, ◌==◌, nat_lt, ℤ, pos, negsuc, int_lt, Bool, true, false, not, ◌&&◌, ◌||◌, List, [], ◌∷◌, ◌++◌, Option, Some, None, if◌then◌else◌}
-use Rattle.lil_base.specs.declared.fault.{Place.Place, FaultKind.TheVariants.{Assign, LabelTwice, ConstRange, NotConst, EmptyRange}}
-use Rattle.lil_types.specs.{declared.table.{Span.Span, TypeForm.TypeForm}, Types.{Table, integer, cardinal, char, base, span, meets}}
+use Rattle.lil_base.specs.declared.fault.{Place.Place, FaultKind.TheVariants.{Assign, ConstRange, NotConst, EmptyRange}}
+use Rattle.lil_types.specs.{declared.table.{Span.Span, TypeForm.TypeForm}, Types.{Table, integer, cardinal, char, base, span}}
 use Rattle.lil_types.specs.declared.table.TypeForm.TheVariants as form
 use Rattle.lil_report.specs.Told.{Row, row}
 use Rattle.lil_scope.specs.declared.thing.Kind.{Kind}
@@ -95,30 +95,3 @@ abbrev pub range_node : Table → Place → NamedType → Option Bound → Optio
 range_node t p Absent (Some a) (Some b) = range_over t p Absent (range_base t Absent a.kind) a b
 range_node t p (Given n) (Some a) (Some b) = range_over t p (Given n) (range_base t (Given n) a.kind) a b
 range_node t p _ _ _ = (None, [])
-
--- ---- labels: the values of those before, and of one more
-abbrev pub has_value_of : List Span → Span → Bool
-has_value_of [] s = false
-has_value_of (u ∷ us) s = meets s u || has_value_of us s
-
-abbrev pub stands_before : List Span → Option Span → Bool
-stands_before us None = false
-stands_before us (Some s) = has_value_of us s
-
-abbrev pub with_span : List Span → Option Span → List Span
-with_span us None = us
-with_span us (Some s) = us ++ s ∷ []
-
--- 42 LabelTwice, at the label's first token: one of its values stands before in the same CASE
-abbrev pub twice_row : List Span → Option Span → Place → Row
-twice_row us s p = row (stands_before us s) p LabelTwice
-
-unfoldable pub label_node : Table → Option ℕ → List Span → Option Bound → List Span × List Row
-label_node t (Some n) us (Some a) = (with_span us (span_between t a.kind a.kind), constant_rows t (Some n) a ++ twice_row us (span_between t a.kind a.kind) a.first ∷ [])
-label_node t _ us _ = (us, [])
-
--- 53 EmptyRange, at the first token of labels from one to another: the first is greater
-unfoldable pub labels_node : Table → Option ℕ → List Span → Option Bound → Option Bound → List Span × List Row
-labels_node t (Some n) us (Some a) (Some b) =
-    (with_span us (span_between t a.kind b.kind), constant_rows t (Some n) a ++ constant_rows t (Some n) b ++ twice_row us (span_between t a.kind b.kind) a.first ∷ row (is_empty t a.kind b.kind) a.first EmptyRange ∷ [])
-labels_node t _ us _ _ = (us, [])

@@ -5,13 +5,13 @@ use Rattle.lil_text.specs.declared.tree.{Ident.Ident, Qualident.Qualident}
 use Rattle.lil_language.specs.declared.unit.{Simple.Simple, Sort.Sort, FieldList.{FieldList, TheOpen.{FieldList-F, Sort-F, Variant-F}, TheFolds.{fold-FieldList, fold-Sort, fold-Variant, map-FieldList, map-Sort, map-Variant, fold-roll-FieldList, fold-roll-Sort, fold-roll-Variant}, TheViews.{roll-FieldList, roll-Sort}}, Variant.{Variant, roll-Variant}}
 use Rattle.lil_language.specs.declared.unit.Simple.TheVariants as simple
 use Rattle.lil_language.specs.declared.unit.FieldList.TheOpen as o
-use Rattle.lil_types.specs.{declared.table.{Span.Span, TypeForm.TypeForm}, Types.{proc, process}}
+use Rattle.lil_types.specs.{declared.table.TypeForm.TypeForm, Types.{proc, process}}
 use Rattle.lil_types.specs.declared.table.TypeForm.TheVariants as form
 use Rattle.lil_report.specs.Told.{Row, after, walk}
 use Rattle.lil_scope.specs.{declared.{env.Env.Env, thing.Thing.Thing}, Names.find}
 use Rattle.lil_scope.specs.declared.thing.Thing.TheVariants as t
 use Rattle.lil_check_value.specs.Looks.{not_built}
-use Rattle.lil_check_type.specs.{declared.records.Fields.Fields, Made.{Made, type_node, form_node}, Simple.{simple_means, index_means, set_means}, Records.{no_fields, field_step, tag_means, label_step, record_form, procedure_means}}
+use Rattle.lil_check_type.specs.{declared.{records.Fields.Fields, labels.Labels.Labels}, Made.{Made, type_node, form_node}, Simple.{simple_means, index_means, set_means}, Labels.{no_labels, label_step}, Records.{no_fields, field_step, tag_means, with_labels, record_node, procedure_means}}
 
 -- ---- arrays: those over the last indexes are the elements of those before
 abbrev pub index_step : Env × List (Option ℕ) → Simple → (Env × List (Option ℕ)) × List Row
@@ -66,7 +66,7 @@ abbrev pub Part : Type 0
 Part = Env × Fields
 
 abbrev pub Cased : Type 0
-Cased = Part × List Span
+Cased = Part × Labels
 
 abbrev pub FieldSense : Type 0
 FieldSense = Part → Part × List Row
@@ -85,22 +85,26 @@ abbrev pub named_fields : List Ident → (Env → Made × List Row) → Part →
 named_fields is sort q = after (sort q.0) (λ m. after (walk (field_step m.1) q.1 is) (λ fs. ((m.0, fs), [])))
 
 abbrev pub variants_by : List VariantSense → Option ℕ → Part → Cased × List Row
-variants_by vs n q = walk (λ c v. v n c) (q, []) vs
+variants_by vs n q = walk (λ c v. v n c) (q, no_labels) vs
+
+-- the fields before ELSE, by the labels too
+abbrev pub labelled : Cased → Part
+labelled c = (c.0.0, with_labels c.0.1 c.1)
 
 abbrev pub case_fields : Option Ident → Qualident → (Option ℕ → Part → Cased × List Row) → (Part → Part × List Row) → Part → Part × List Row
-case_fields i q variants others p = after (tag_means p.0 p.1 i q) (λ w. after (variants w.1 (p.0, w.0)) (λ c. others c.0))
+case_fields i q variants others p = after (tag_means p.0 p.1 i q) (λ w. after (variants w.1 (p.0, w.0)) (λ c. others (labelled c)))
 
 abbrev pub field_layer : FieldList-F FieldSense Sense VariantSense → FieldSense
 field_layer (o.Fields is s) q = named_fields is s.means q
 field_layer (o.Variants p i n vs fs) q = case_fields i n (variants_by vs) (else_by fs) q
 
 abbrev pub variant_layer : Variant-F FieldSense Sense VariantSense → VariantSense
-variant_layer v n c = after (walk (label_step c.0.0 n) c.1 v.labels) (λ us. after (fields_by v.fields c.0) (λ q. ((q, us), [])))
+variant_layer v n c = after (walk (label_step c.0.0 n) c.1 v.labels) (λ ls. after (fields_by v.fields c.0) (λ q. ((q, ls), [])))
 
 abbrev pub sort_layer : Sort-F FieldSense Sense VariantSense → Sense
 sort_layer (o.Scalar x) = record { name = bare_name x; means = λ e. simple_means e x }
 sort_layer (o.ArrayOf p xs y) = record { name = None; means = λ e. array_means e p xs y.means }
-sort_layer (o.RecordOf p fs) = record { name = None; means = λ e. after (fields_by fs (e, no_fields)) (λ q. form_node q.0 p (record_form q.1)) }
+sort_layer (o.RecordOf p fs) = record { name = None; means = λ e. after (fields_by fs (e, no_fields)) (λ q. record_node q.0 p q.1) }
 sort_layer (o.SetOver p x) = record { name = None; means = λ e. set_means e p x }
 sort_layer (o.PointerTo p y) = record { name = None; means = λ e. pointer_means p y.name y.means e }
 -- 90 NotBuilt
@@ -146,7 +150,7 @@ abbrev pub variant_step : Option ℕ → Cased → Variant → Cased × List Row
 variant_step n c v = variant_sense v n c
 
 abbrev pub variants_mean : List Variant → Option ℕ → Part → Cased × List Row
-variants_mean vs n q = walk (variant_step n) (q, []) vs
+variants_mean vs n q = walk (variant_step n) (q, no_labels) vs
 
 abbrev pub record_means : Env → Place → List FieldList → Made × List Row
-record_means e p fs = after (lists_mean (e, no_fields) fs) (λ q. form_node q.0 p (record_form q.1))
+record_means e p fs = after (lists_mean (e, no_fields) fs) (λ q. record_node q.0 p q.1)

@@ -1,13 +1,14 @@
-ghost use Rattle.std.specs.Prelude.{◌≡◌, IfOk};
+ghost use Rattle.std.specs.Prelude.{◌≡◌};
 ghost use Rattle.lil_report.specs.Told.{Said, tell};
+ghost use Rattle.lil_check_type.specs.Nodes.{clear};
 ghost use Rattle.lil_check_type.specs.Bounds as spec;
 
 use crate::named::NamedType;
-use lil_base::{FaultKind, Items, Memory, Place};
+use lil_base::{FaultKind, Place};
 use lil_kinds::{Found, compatible, is_constant, is_ordinal, misses, number};
 use lil_report::Report;
 use lil_scope::Kind;
-use lil_types::{CARDINAL, CHAR, INTEGER, Span, TypeForm, TypeId, TypeTable, base, meets};
+use lil_types::{CARDINAL, CHAR, INTEGER, Span, TypeForm, TypeId, TypeTable, base};
 
 /// The operand that stands as a bound or label: what is known of it, and its first token.
 #[derive(Clone, Copy)]
@@ -34,7 +35,7 @@ fn whole_type(value: i32) -> TypeId
 }
 
 /// The type below an operand.
-fn type_below(t: &TypeTable, of: Kind) -> Option<TypeId>
+pub fn type_below(t: &TypeTable, of: Kind) -> Option<TypeId>
     ensures { result ≡ spec.type_below t.now of }
 {
     match of {
@@ -100,7 +101,7 @@ fn goes_down(low: Option<i32>, high: Option<i32>) -> bool
     }
 }
 
-fn is_empty(t: &TypeTable, a: Kind, b: Kind) -> bool
+pub fn is_empty(t: &TypeTable, a: Kind, b: Kind) -> bool
     ensures { result ≡ spec.is_empty t.now a b }
 {
     alike(type_below(t, a), type_below(t, b)) && goes_down(number(t, a), number(t, b))
@@ -119,7 +120,7 @@ fn span_by(low: Option<i32>, high: Option<i32>) -> Option<Span>
 }
 
 /// All values from one constant to another.
-fn span_between(t: &TypeTable, a: Kind, b: Kind) -> Option<Span>
+pub fn span_between(t: &TypeTable, a: Kind, b: Kind) -> Option<Span>
     ensures { result ≡ spec.span_between t.now a b }
 {
     if alike(type_below(t, a), type_below(t, b)) {
@@ -129,12 +130,16 @@ fn span_between(t: &TypeTable, a: Kind, b: Kind) -> Option<Span>
     }
 }
 
-/// The tests of a bound or label.
-fn constant_tests(t: &TypeTable, report: &mut Report, of: Option<TypeId>, b: Bound)
-    ensures { report.new ≡ tell report.old (spec.constant_rows t.now of b) }
+/// The tests of a bound or label: whether none of them finds a fault.
+pub fn constant_tests(t: &TypeTable, report: &mut Report, of: Option<TypeId>, b: Bound) -> bool
+    ensures told { report.new ≡ tell report.old (spec.constant_rows t.now of b) }
+    ensures right { result ≡ clear (spec.constant_rows t.now of b) }
 {
-    report.note(is_unlike(t, of, b.kind), b.first, FaultKind::Assign);
-    report.note(!is_constant(b.kind), b.first, FaultKind::NotConst);
+    let unlike = is_unlike(t, of, b.kind);
+    let constant = is_constant(b.kind);
+    report.note(unlike, b.first, FaultKind::Assign);
+    report.note(!constant, b.first, FaultKind::NotConst);
+    !unlike && constant
 }
 
 /// The tests of a bound.
@@ -221,81 +226,5 @@ pub fn range(
         (NamedType::Absent, Some(a), Some(b)) => range_over(t, report, place, named, a, b),
         (NamedType::Given(_), Some(a), Some(b)) => range_over(t, report, place, named, a, b),
         _ => None,
-    }
-}
-
-fn has_value_of(before: &[Span], s: Span) -> bool
-    ensures { result ≡ spec.has_value_of before.now s }
-{
-    for u in before {
-        if meets(s, *u) {
-            return true;
-        }
-    }
-    false
-}
-
-fn stands_before(before: &Items<Span>, s: Option<Span>) -> bool
-    ensures { result ≡ spec.stands_before before.now s }
-{
-    match s {
-        Some(s) => has_value_of(before.as_slice(), s),
-        None => false,
-    }
-}
-
-fn add_span(before: &mut Items<Span>, s: Option<Span>) -> Result<(), Memory>
-    ensures { IfOk result (λ o. before.new ≡ spec.with_span before.old s) }
-{
-    match s {
-        Some(s) => before.push(s),
-        None => Ok(()),
-    }
-}
-
-/// A label of one value, behind those of the same CASE.
-#[tactic(auto, unfolding(crate::specs::Bounds::label_node, lil_report::specs::Told::tell))]
-pub fn label(
-    t: &TypeTable,
-    report: &mut Report,
-    tag: Option<TypeId>,
-    before: &mut Items<Span>,
-    a: Option<Bound>,
-) -> Result<(), Memory>
-    ensures { IfOk result (λ o. Said (spec.label_node t.now tag before.old a) report.old before.new report.new) }
-{
-    match (tag, a) {
-        (Some(_), Some(a)) => {
-            constant_tests(t, report, tag, a);
-            let span = span_between(t, a.kind, a.kind);
-            report.note(stands_before(before, span), a.first, FaultKind::LabelTwice);
-            add_span(before, span)
-        }
-        _ => Ok(()),
-    }
-}
-
-/// A label from one value to another.
-#[tactic(auto, unfolding(crate::specs::Bounds::labels_node, lil_report::specs::Told::tell))]
-pub fn labels(
-    t: &TypeTable,
-    report: &mut Report,
-    tag: Option<TypeId>,
-    before: &mut Items<Span>,
-    a: Option<Bound>,
-    b: Option<Bound>,
-) -> Result<(), Memory>
-    ensures { IfOk result (λ o. Said (spec.labels_node t.now tag before.old a b) report.old before.new report.new) }
-{
-    match (tag, a, b) {
-        (Some(_), Some(a), Some(b)) => {
-            constant_tests(t, report, tag, a);
-            constant_tests(t, report, tag, b);
-            let span = span_between(t, a.kind, b.kind);
-            report.note(stands_before(before, span), a.first, FaultKind::LabelTwice);
-            report.note(is_empty(t, a.kind, b.kind), a.first, FaultKind::EmptyRange);
-            add_span(before, span)
-        }
-        _ => Ok(()),
     }
 }

@@ -2,6 +2,7 @@
 #![tactic(auto, using(crate::specs::Walks::walk_steps), unfolding(lil_report::specs::Told::after, lil_report::specs::Told::tell))]
 
 mod bounds;
+mod labels;
 mod made;
 mod named;
 mod records;
@@ -9,6 +10,8 @@ mod routines;
 mod simple;
 mod sorts;
 
+pub use bounds::type_below;
+pub use labels::label;
 pub use made::{add_form, add_type};
 pub use named::NamedType;
 pub use records::sort_or;

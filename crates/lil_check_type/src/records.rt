@@ -1,23 +1,80 @@
-ghost use Rattle.std.specs.Prelude.{◌≡◌, ◌&&◌, is_some, IfOk};
+ghost use Rattle.std.specs.Prelude.{◌≡◌, ◌&&◌, ◌++◌, ◌∷◌, [], is_some, IfOk};
 ghost use Rattle.lil_report.specs.Told.{Said, walk};
-ghost use Rattle.lil_language.specs.declared.tree.Range.{out-Range};
+ghost use Rattle.lil_check_type.specs.Labels.{label_step};
 ghost use Rattle.lil_check_type.specs.Records as spec;
 
-use crate::bounds::{Bound, bound_of, label, labels};
-use crate::made::ordinal;
-use lil_base::{Boxed, FaultKind, Items, Memory, Name};
-use lil_check_value::{boxed_expression, expression, type_named};
-use lil_language::{Expr, Range};
+use crate::labels::{Labels, add_label};
+use crate::made::{add_form, ordinal};
+use lil_base::{FaultKind, Items, Memory, Place};
+use lil_check_value::type_named;
+use lil_language::Range;
 use lil_report::Report;
-use lil_scope::Env;
+use lil_scope::{Block, Entry, Env, Thing};
 use lil_text::{Ident, Qualident};
-use lil_types::{Field, Span, TypeForm, TypeId};
+use lil_types::{Field, TypeForm, TypeId};
 use std::alloc::Global;
+use std::marker::Model;
 
-/// The fields of a record so far, and whether the types of all have no fault.
+/// Fields in their order, and a block of their names to look them up. Contracts see the list of the fields.
+#[derive(Drop)]
+pub struct NamedFields {
+    items: Items<Field>,
+    names: Block,
+}
+
+impl Model for NamedFields {
+    ghost use Rattle.std.specs.Prelude.{◌≡◌, List, ℕ, is_some};
+    ghost use Rattle.std.specs.List.{list_any};
+    ghost use Rattle.lil_types.specs.declared.table.Field.{Field};
+    ghost use Rattle.lil_scope.specs.Names.{entry_in, same};
+
+    ghost Value = { List Field };
+
+    ghost view = { λ f. f.items };
+
+    ghost invariant = { λ f. (n : List ℕ) → is_some (entry_in f.names n) ≡ list_any (λ (x : Field). same n x.name) f.items };
+}
+
+impl NamedFields {
+    pub fn new(alloc: Global) -> NamedFields
+        ensures { result ≡ [] }
+    {
+        NamedFields {
+            items: Items::new(alloc),
+            names: Block::new(alloc),
+        }
+    }
+
+    /// With a field more, and whether its name stood before.
+    fn with(self, alloc: Global, name: &Ident, sort: TypeId) -> Result<(bool, NamedFields), Memory>
+        ensures told { IfOk result (λ r. r.0 ≡ spec.has_field self name.now.name) }
+        ensures more { IfOk result (λ r. r.1 ≡ self ++ spec.field name.now.name sort ∷ []) }
+    {
+        let NamedFields { items, names } = self;
+        let mut items = items;
+        let mut names = names;
+        let entry = Entry {
+            thing: Thing::Type(sort),
+            place: name.place,
+        };
+        let before = names.declare(alloc, &name.name, entry)?;
+        let name = name.name.copy(alloc)?;
+        items.push(Field { name, sort })?;
+        Ok((before.is_some(), NamedFields { items, names }))
+    }
+
+    fn into_items(self) -> Items<Field>
+        ensures { result ≡ self }
+    {
+        self.items
+    }
+}
+
+/// The fields of a record so far, whether all have a type, and whether nothing else is wrong with them.
 #[derive(Drop)]
 pub struct Fields {
-    pub list: Items<Field>,
+    pub list: NamedFields,
+    pub typed: bool,
     pub right: bool,
 }
 
@@ -26,21 +83,11 @@ impl Fields {
         ensures { result ≡ spec.no_fields }
     {
         Fields {
-            list: Items::new(alloc),
+            list: NamedFields::new(alloc),
+            typed: true,
             right: true,
         }
     }
-}
-
-fn has_field(fields: &[Field], name: &Name) -> bool
-    ensures { result ≡ spec.has_field fields.now name.now }
-{
-    for field in fields {
-        if name.as_slice() == field.name.as_slice() {
-            return true;
-        }
-    }
-    false
 }
 
 /// The number of a type, 0 for one that has a fault.
@@ -50,27 +97,10 @@ pub fn sort_or(sort: Option<TypeId>) -> TypeId
     sort.unwrap_or(0)
 }
 
-fn right_still(right: bool, sort: Option<TypeId>) -> bool
-    ensures { result ≡ (right && is_some sort) }
+fn typed_still(typed: bool, sort: Option<TypeId>) -> bool
+    ensures { result ≡ (typed && is_some sort) }
 {
-    right && sort.is_some()
-}
-
-fn push_field(
-    alloc: Global,
-    fields: &mut Fields,
-    name: &Name,
-    sort: Option<TypeId>,
-) -> Result<(), Memory>
-    ensures { IfOk result (λ o. fields.new ≡ spec.with_field fields.old name.now sort) }
-{
-    let name = name.copy(alloc)?;
-    fields.list.push(Field {
-        name,
-        sort: sort_or(sort),
-    })?;
-    fields.right = right_still(fields.right, sort);
-    Ok(())
+    typed && sort.is_some()
 }
 
 /// A field more: that is fault 21, where its name stands before.
@@ -84,9 +114,13 @@ fn add_field(
 ) -> Result<(), Memory>
     ensures { IfOk result (λ o. Said (spec.field_step sort fields.old of.now) report.old fields.new report.new) }
 {
-    let twice = has_field(fields.list.as_slice(), &of.name);
+    let list = std::mem::replace(&mut fields.list, NamedFields::new(alloc));
+    let (twice, list) = list.with(alloc, of, sort_or(sort))?;
+    fields.list = list;
+    fields.typed = typed_still(fields.typed, sort);
+    fields.right = fields.right && !twice;
     report.note(twice, of.place, FaultKind::Twice);
-    push_field(alloc, fields, &of.name, sort)
+    Ok(())
 }
 
 /// Fields of one type.
@@ -117,7 +151,7 @@ fn tag_field(
     match name {
         Some(name) => add_field(alloc, report, fields, sort, name),
         None => {
-            fields.right = right_still(fields.right, sort);
+            fields.typed = typed_still(fields.typed, sort);
             Ok(())
         }
     }
@@ -140,65 +174,57 @@ pub fn tag(
     Ok(sort)
 }
 
-fn label_rest(
-    alloc: Global,
-    env: &Env,
-    report: &mut Report,
-    tag: Option<TypeId>,
-    before: &mut Items<Span>,
-    a: Option<Bound>,
-    high: &Option<Boxed<Expr>>,
-) -> Result<(), Memory>
-    ensures { IfOk result (λ o. Said (spec.label_rest env.now tag before.old a high.now) report.old before.new report.new) }
-{
-    match high {
-        Some(y) => {
-            let b = boxed_expression(alloc, env, report, y)?;
-            labels(&env.types, report, tag, before, a, bound_of(b))
-        }
-        None => label(&env.types, report, tag, before, a),
-    }
-}
-
-/// A label of a variant.
-fn one_label(
-    alloc: Global,
-    env: &Env,
-    report: &mut Report,
-    tag: Option<TypeId>,
-    before: &mut Items<Span>,
-    of: &Range,
-) -> Result<(), Memory>
-    ensures { IfOk result (λ o. Said (spec.label_step env.now tag before.old of.now) report.old before.new report.new) }
-{
-    let a = expression(alloc, env, report, &of.low)?;
-    label_rest(alloc, env, report, tag, before, bound_of(a), &of.high)
-}
-
 /// The labels of a variant.
 pub fn variant_labels(
     alloc: Global,
     env: &Env,
     report: &mut Report,
     tag: Option<TypeId>,
-    before: &mut Items<Span>,
+    before: &mut Labels,
     of: &[Range],
 ) -> Result<(), Memory>
-    ensures { IfOk result (λ o. Said (walk (spec.label_step env.now tag) before.old of.now) report.old before.new report.new) }
+    ensures { IfOk result (λ o. Said (walk (label_step env.now tag) before.old of.now) report.old before.new report.new) }
 {
     for one in of {
-        one_label(alloc, env, report, tag, before, one)?;
+        add_label(alloc, env, report, tag, before, one)?;
     }
     Ok(())
 }
 
+/// The fields of variants, once all labels of their CASE are known.
+pub fn end_labels(fields: &mut Fields, labels: Labels)
+    ensures { fields.new ≡ spec.with_labels fields.old labels }
+{
+    fields.right = fields.right && labels.right;
+}
+
 /// The record type of these fields.
-pub fn record_form(fields: Fields) -> Option<TypeForm>
+fn record_form(fields: Fields) -> Option<TypeForm>
     ensures { result ≡ spec.record_form fields }
 {
-    if fields.right {
-        Some(TypeForm::Record(fields.list))
+    if fields.typed {
+        Some(TypeForm::Record(fields.list.into_items()))
     } else {
         None
     }
+}
+
+fn if_right(right: bool, sort: Option<TypeId>) -> Option<TypeId>
+    ensures { result ≡ spec.if_right right sort }
+{
+    if right { sort } else { None }
+}
+
+/// A record of these fields. Where one is bound twice or a label has a fault it is tested for its length, and has no type.
+pub fn add_record(
+    env: &mut Env,
+    report: &mut Report,
+    place: Place,
+    fields: Fields,
+) -> Result<Option<TypeId>, Memory>
+    ensures { IfOk result (λ o. Said (spec.record_node env.old place fields) report.old (env.new, o) report.new) }
+{
+    let right = fields.right;
+    let sort = add_form(env, report, place, record_form(fields))?;
+    Ok(if_right(right, sort))
 }

@@ -2,16 +2,17 @@ ghost use Rattle.std.specs.Prelude.{◌≡◌, [], reverse, Some, None, IfOk, Ma
 ghost use Rattle.lil_report.specs.Told.{Said, walk};
 ghost use Rattle.lil_check_type.specs.Sorts as spec;
 
+use crate::labels::Labels;
 use crate::made::{add_form, add_type};
-use crate::records::{Fields, add_fields, record_form, tag, variant_labels};
+use crate::records::{Fields, add_fields, add_record, end_labels, tag, variant_labels};
 use crate::routines::procedure;
 use crate::simple::{index, set, simple};
-use lil_base::{FaultKind, Items, Memory, Place};
+use lil_base::{FaultKind, Memory, Place};
 use lil_language::{FieldList, Simple, Sort, Variant};
 use lil_report::Report;
 use lil_scope::{Env, Thing, Wait};
 use lil_text::Ident;
-use lil_types::{PROC, PROCESS, Span, TypeForm, TypeId};
+use lil_types::{PROC, PROCESS, TypeForm, TypeId};
 use std::alloc::Global;
 
 /// The index types of an array.
@@ -209,7 +210,7 @@ fn record_of(
 {
     let mut fields = Fields::new(alloc);
     each_list(alloc, env, report, &mut fields, of)?;
-    add_form(env, report, place, record_form(fields))
+    add_record(env, report, place, fields)
 }
 
 #[cycle(sorts)]
@@ -247,7 +248,8 @@ fn list(
         }
         FieldList::Variants(_, name, q, variants, others) => {
             let tag = tag(alloc, env, report, fields, name, q)?;
-            each_variant(alloc, env, report, fields, tag, variants.as_slice())?;
+            let labels = each_variant(alloc, env, report, fields, tag, variants.as_slice())?;
+            end_labels(fields, labels);
             match others {
                 Some(lists) => {
                     each_list(alloc, env, report, fields, lists.as_slice())?;
@@ -268,10 +270,10 @@ fn each_variant(
     fields: &mut Fields,
     tag: Option<TypeId>,
     of: &[Variant],
-) -> Result<Items<Span>, Memory>
-    ensures { IfOk result (λ us. Said (spec.variants_mean of.now tag (env.old, fields.old)) report.old ((env.new, fields.new), us) report.new) }
+) -> Result<Labels, Memory>
+    ensures { IfOk result (λ ls. Said (spec.variants_mean of.now tag (env.old, fields.old)) report.old ((env.new, fields.new), ls) report.new) }
 {
-    let mut before = Items::new(alloc);
+    let mut before = Labels::new(alloc);
     for one in of {
         variant(alloc, env, report, fields, &mut before, tag, one)?;
     }
@@ -285,7 +287,7 @@ fn variant(
     env: &mut Env,
     report: &mut Report,
     fields: &mut Fields,
-    before: &mut Items<Span>,
+    before: &mut Labels,
     tag: Option<TypeId>,
     of: &Variant,
 ) -> Result<(), Memory>

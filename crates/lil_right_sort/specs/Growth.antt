@@ -1,6 +1,6 @@
 -- Tables of types that grow: what is told of the types before stays, and a next type is told where its parts are.
 use Rattle.std.proofs.Common.{◌≡◌, ℕ, suc, zero, ◌<◌, ◌≤◌, Bool, true, false, ◌||◌, List, [], ◌∷◌, ◌++◌, length, slice_get, Option, Some, None, if◌then◌else◌, refl, sym, ap, subst, ◌∙◌, arith, true≢false, ◌⊎◌, inl, inr}
-use Rattle.std.specs.Prelude.{◌-◌, ◌*◌, pos, ◌≤ℤ◌, is_some}
+use Rattle.std.specs.Prelude.{◌*◌, pos, ◌≤ℤ◌, is_some}
 use Rattle.std.proofs.lemmas.{Option.{none-some, same_Some, slice_get_within}, Bool.Decides.nat_tests}
 use Rattle.lil_types.specs.{Types.{Table, entry, known, facts_in, meant, meant_by, base, words, words_by, values, fields_words, sum_of, record_facts, array_facts, facts_of}, Adding.{next, next_facts, fitting, with_facts, number_by, added, added_number}, declared.table.{Facts.Facts, Field.Field, Origin.Origin, Parameter.Parameter, Span.Span}}
 use Rattle.lil_types.specs.declared.table.{TypeEntry.TypeEntry, TypeForm.{TypeForm, TheVariants.{Enumeration, Subrange, Array, Record, SetOf, Pointer, Procedure, Opaque}}}
@@ -13,7 +13,6 @@ use Rattle.lil_scope.specs.{declared.{env.{Env.Env, Wait.Wait}, thing.{Entry.Ent
 use Rattle.lil_scope.specs.declared.thing.Kind.TheVariants as k
 use Rattle.lil_scope.specs.declared.thing.Thing.TheVariants as thing
 use Rattle.lil_kinds.specs.{Forms.{form_in, shape, span_in, is_routine_form, of_form, parameters, parameters_of, parameters_in, result, result_of}}
-use Rattle.lil_kinds.specs.declared.found.Form.TheVariants as form
 use Rattle.lil_shapes.specs.{BaseLaws.kind_base, Bases.{plain, base_by, base_form, base_at, kind_over, kind_at, is_composite, composite_at, composite_by}, ListLaws.AllFine, Pointers.lies_at, ShapeSound.{at_end, earlier}}
 use Rattle.lil_forms.specs.Scopes.{fine_more}
 use Rattle.lil_right_type.specs.{Types.{HasNumbers, HasSpan, FormTold, IsTold, IsOrdinal, meant_is, own_base, known_ordinal, entry_known}, Words.{FormMeasured, AreMeasured}, Parts.base_itself, Found.{KindTold, signature, ThingTold, EnvTold}}

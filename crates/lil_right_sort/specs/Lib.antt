@@ -1,4 +1,5 @@
 pub mod Growth
 pub mod Ranges
+pub mod Labels
 pub mod Simple
 pub mod Sorts

@@ -1,11 +1,12 @@
 -- Subranges in which no test finds a fault: they have a form, and their numbers are those of their base.
-use Rattle.std.proofs.Common.{◌≡◌, ℕ, zero, suc, ◌<◌, ◌≤◌, Bool, true, false, not, ◌&&◌, List, Option, Some, None, if◌then◌else◌, refl, sym, ap, subst, ◌∙◌, arith, true≢false, ◌⊎◌, inl, inr}
+use Rattle.std.proofs.Common.{◌≡◌, ℕ, zero, suc, ◌<◌, ◌≤◌, Bool, true, false, not, ◌&&◌, List, [], ◌∷◌, Option, Some, None, if◌then◌else◌, refl, sym, ap, subst, ◌∙◌, arith, true≢false, ◌⊎◌, inl, inr}
 use Rattle.std.specs.Prelude.{◌==◌, ℤ, pos, negsuc, ◌≤ℤ◌, int_lt, is_some}
 use Rattle.std.proofs.lemmas.{Int.ints, Option.{none-some, same_Some}, Bool.{and_parts, Decides.nat_tests}}
 use Rattle.lil_base.specs.{declared.fault.Place.Place, Laws.bounds, Words.{between, number_of, Integer}}
 use Rattle.lil_types.specs.{Types.{Table, entry, base, integer, cardinal, char}, Folding.fits, declared.table.{Facts.Facts, Origin.Origin, Span.Span, TypeEntry.TypeEntry, TypeForm.TypeForm}}
 use Rattle.lil_types.specs.Types as types
 use Rattle.lil_types.specs.declared.table.TypeForm.TheVariants as form
+use Rattle.lil_report.specs.Told.{Row}
 use Rattle.lil_scope.specs.declared.thing.Kind.{Kind}
 use Rattle.lil_scope.specs.declared.thing.Kind.TheVariants as k
 use Rattle.lil_declared.specs.declared.declared.RVar.{RVar}
@@ -16,8 +17,9 @@ use Rattle.lil_resolved.specs.{Kinds.{is_ordinal, least, greatest}, Views.base_v
 use Rattle.lil_resolved.specs.declared.resolved.RBase.TheVariants as b
 use Rattle.lil_shapes.specs.{BaseLaws.{same_sort, if_some}, Bases.{base_by, base_form, base_at}, Operators.has_number}
 use Rattle.lil_shapes.specs.Bases as shapes
-use Rattle.lil_check_type.specs.{declared.{bounds.Bound.Bound, named.NamedType.{NamedType, TheVariants.{Absent, Given, Faulty}}}, Bounds.{bound_of, type_below, range_base, alike, goes_down, span_by, span_between, bound_right, range_by, range_form, range_over, range_node}}
-use Rattle.lil_right_type.specs.{Right.{Right, IsThere, is_so}, Types.{HasSpan, FormTold, IsTold, IsOrdinal, own_base, entry_base, entry_known, no_entry, known_ordinal, span_is}, Parts.base_itself, Found.{is_scalar, KindTold, IsFound}}
+use Rattle.lil_check_type.specs.{declared.{bounds.Bound.Bound, named.NamedType.{NamedType, TheVariants.{Absent, Given, Faulty}}}, Nodes.{clear, node}, Bounds.{bound_of, type_below, range_base, alike, goes_down, is_empty, span_by, span_between, bound_right, range_by, range_form, range_over, range_node}}
+use Rattle.lil_check_type.specs.Labels as labels
+use Rattle.lil_right_type.specs.{Right.{Clear, Right, IsThere, is_so}, Types.{HasSpan, FormTold, IsTold, IsOrdinal, own_base, entry_base, entry_known, no_entry, known_ordinal, span_is}, Parts.base_itself, Found.{is_scalar, KindTold, IsFound}}
 use Rattle.lil_right_sort.specs.Growth.{some_is, PartsTold}
 
 -- a form of types in which something lies, where its parts are told
@@ -28,11 +30,25 @@ MadeOf t form = PartsTold t form × (is_routine_form form ≡ false)
 abbrev pub HasBase : Table → ℕ → Type 0
 HasBase t n = (k : RBase) × (base_at t (base t n) ≡ Some k) × (is_ordinal (base_view k) ≡ true)
 
+-- numbers of a base, from the lower to the higher one
+pub record Numbered (k : RBase) (s : Span) : Type 0 where
+  pub low : has_number k s.low ≡ true
+  pub high : has_number k s.high ≡ true
+  pub ordered : s.low ≤ℤ s.high
+
 -- the base that a subrange names
 abbrev pub NamedTold : Table → NamedType → Type 0
 NamedTold t Absent = Unit {0}
 NamedTold t (Given n) = HasSpan t n
 NamedTold t Faulty = ⊥
+
+-- ---- nodes that have no value where a test finds a fault
+is_clear : (rs : List Row) → Clear rs → clear rs ≡ true
+is_clear [] h = refl
+is_clear (r ∷ rs) h = λ i. not (h.0 i) && is_clear rs h.1 i
+
+pub node_right : {A : Type 0} (P : A → Type 0) (rs : List Row) (o : Option A) → (Clear rs → IsThere P o) → Right (IsThere P) (node rs o)
+node_right P rs o h clear = subst (λ c. IsThere P (if c then o else None)) (sym (is_clear rs clear)) (h clear)
 
 module _ {A : Type 0} (P : A → Type 0) where
   there : (o : Option A) (x : A) → o ≡ Some x → P x → IsThere P o
@@ -160,6 +176,22 @@ module _ (t : Table) (told : IsTold t) where
       whole : (m n : ℕ) → m < 2 → n < 2 → alike (Some m) (Some n) ≡ true
       whole m n h j = grind (arith, nat_tests)
 
+  -- all values between two that don't go down
+  pub between_is : (n : ℕ) (a c : Kind) (of : HasBase t n) → KindTold t a → KindTold t c → is_constant a ≡ true → suits t n a ≡ true → is_constant c ≡ true → suits t n c ≡ true → is_empty t a c ≡ false
+      → (s : Span) × (span_between t a c ≡ Some s) × Numbered of.0 s
+  between_is n a c of first last constant_first suits_first constant_last suits_last some =
+      let low = number_is n a first constant_first suits_first of in
+      let high = number_is n c last constant_last suits_last of in
+      let both : alike (type_below t a) (type_below t c) ≡ true = alike_is n a c (beside n a constant_first suits_first) (beside n c constant_last suits_last) in
+      let up : int_lt high.0 low.0 ≡ false = sym (λ i. both i && goes_down (low.1 i) (high.1 i)) ∙ some in (
+        types.span low.0 high.0,
+        (λ i. if both i then span_by (low.1 i) (high.1 i) else None) ∙ ap (λ c. if c then None else Some (types.span low.0 high.0)) up,
+        record { low = low.2; high = high.2; ordered = ordered low.0 high.0 up },
+      )
+    where
+      ordered : (x y : ℤ) → int_lt y x ≡ false → x ≤ℤ y
+      ordered x y h = omega (arith, ints)
+
   range_law : (p : Place) (named : NamedType) (of : Option ℕ) (a c : Bound) → ((n : ℕ) → of ≡ Some n → HasBase t n) → KindTold t a.kind → KindTold t c.kind → Right (IsThere (MadeOf t)) (range_over t p named of a c)
   unfolding compatible
   range_law p named None a c under first last clear = absurd (true≢false clear.0)
@@ -169,22 +201,44 @@ module _ (t : Table) (told : IsTold t) where
       let constant_first : is_constant a.kind ≡ true = is_so (is_constant a.kind) clear.1.0 in
       let constant_last : is_constant c.kind ≡ true = is_so (is_constant c.kind) clear.1.1.1.1.0 in
       let of : HasBase t n = under n refl in
-      let low = number_is n a.kind first constant_first suits_first of in
-      let high = number_is n c.kind last constant_last suits_last of in
-      let both : alike (type_below t a.kind) (type_below t c.kind) ≡ true = alike_is n a.kind c.kind (beside n a.kind constant_first suits_first) (beside n c.kind constant_last suits_last) in
-      let up : int_lt high.0 low.0 ≡ false = sym (λ i. both i && goes_down (low.1 i) (high.1 i)) ∙ clear.1.1.1.1.1.1.0 in
-      let span : span_between t a.kind c.kind ≡ Some (types.span low.0 high.0) = (λ i. if both i then span_by (low.1 i) (high.1 i) else None) ∙ ap (λ c. if c then None else Some (types.span low.0 high.0)) up in
+      let span = between_is n a.kind c.kind of first last constant_first suits_first constant_last suits_last clear.1.1.1.1.1.1.0 in
       let right_first : bound_right t named (Some n) a.kind ≡ true = λ i. not (clear.0 i) && (constant_first i && not (clear.1.1.0 i)) in
       let right_last : bound_right t named (Some n) c.kind ≡ true = λ i. not (clear.1.1.1.0 i) && (constant_last i && not (clear.1.1.1.1.1.0 i)) in
-      let low_ends = bounds (least (base_view of.0)) low.0 (greatest (base_view of.0)) low.2 in
-      let high_ends = bounds (least (base_view of.0)) high.0 (greatest (base_view of.0)) high.2 in
+      let low_ends = bounds (least (base_view of.0)) span.0.low (greatest (base_view of.0)) span.2.low in
+      let high_ends = bounds (least (base_view of.0)) span.0.high (greatest (base_view of.0)) span.2.high in
       let based = under_base n of in
-      there (MadeOf t) (range_form t named (Some n) a.kind c.kind) (form.Subrange n (types.span low.0 high.0))
-      ((λ i. if right_first i && right_last i then range_by (Some n) (span_between t a.kind c.kind) else None) ∙ ap (range_by (Some n)) span)
-      (record { base = of.0; is = of.1; ordinal = of.2; least = low_ends.0; ordered = ordered low.0 high.0 up; greatest = high_ends.1 }, refl)
-    where
-      ordered : (x y : ℤ) → int_lt y x ≡ false → x ≤ℤ y
-      ordered x y h = omega (arith, ints)
+      there (MadeOf t) (range_form t named (Some n) a.kind c.kind) (form.Subrange n span.0)
+      ((λ i. if right_first i && right_last i then range_by (Some n) (span_between t a.kind c.kind) else None) ∙ ap (range_by (Some n)) span.1)
+      (record { base = of.0; is = of.1; ordinal = of.2; least = low_ends.0; ordered = span.2.ordered; greatest = high_ends.1 }, refl)
+
+  -- ---- labels that go together with a type
+  module _ (us : List Span) (n : ℕ) (of : HasBase t n) where
+    pub one_right : (a : Bound) → KindTold t a.kind → Right (IsThere (Numbered of.0)) (labels.one_node t (Some n) us (Some a))
+    unfolding labels.one_node compatible
+    one_right a told_kind = node_right (Numbered of.0) (labels.one_rows t (Some n) us a) (span_between t a.kind a.kind) (λ clear.
+        let fits : suits t n a.kind ≡ true = is_so (suits t n a.kind) clear.0 in
+        let constant : is_constant a.kind ≡ true = is_so (is_constant a.kind) clear.1.0 in
+        let span = between_is n a.kind a.kind of told_kind told_kind constant fits constant fits (one_some a.kind) in
+        there (Numbered of.0) (span_between t a.kind a.kind) span.0 span.1 span.2)
+      where
+        not_below : (z : ℤ) → int_lt z z ≡ false
+        not_below z = grind (arith, ints)
+
+        same_number : (o : Option ℤ) → goes_down o o ≡ false
+        same_number None = refl
+        same_number (Some z) = not_below z
+
+        and_false : (c d : Bool) → d ≡ false → (c && d) ≡ false
+        and_false c d h = grind arith
+
+        one_some : (a : Kind) → is_empty t a a ≡ false
+        one_some a = and_false (alike (type_below t a) (type_below t a)) (goes_down (number t a) (number t a)) (same_number (number t a))
+
+    pub several_right : (a c : Bound) → KindTold t a.kind → KindTold t c.kind → Right (IsThere (Numbered of.0)) (labels.range_node t (Some n) us (Some a) (Some c))
+    unfolding labels.range_node compatible
+    several_right a c first last = node_right (Numbered of.0) (labels.range_rows t (Some n) us a c) (span_between t a.kind c.kind) (λ clear.
+        let span = between_is n a.kind c.kind of first last (is_so (is_constant a.kind) clear.1.0) (is_so (suits t n a.kind) clear.0) (is_so (is_constant c.kind) clear.1.1.1.0) (is_so (suits t n c.kind) clear.1.1.0) clear.1.1.1.1.1.0 in
+        there (Numbered of.0) (span_between t a.kind c.kind) span.0 span.1 span.2)
 
   -- ---- the base of the first bound
   span_under : (s n : ℕ) → (if is_some (span_of t s) then Some (base t s) else None) ≡ Some n → HasBase t n

@@ -1,9 +1,10 @@
 -- The types that a right text declares: something lies in each of them, and what is declared before stays told, by induction.
 use Rattle.std.proofs.Common.{◌≡◌, ℕ, Bool, true, false, not, ◌||◌, ◌&&◌, List, [], ◌∷◌, map, reverse, Option, Some, None, IfSome, if◌then◌else◌, refl, sym, ap, subst, true≢false}
-use Rattle.std.specs.Prelude.{◌==◌}
+use Rattle.std.specs.Prelude.{◌==◌, is_some}
 use mathlib.Core.List.{reverse_aux}
 use Rattle.lil_base.specs.declared.fault.Place.{Place}
 use Rattle.lil_text.specs.declared.tree.{Ident.Ident, Qualident.Qualident}
+use Rattle.lil_language.specs.declared.tree.Range.{Range}
 use Rattle.lil_language.specs.declared.unit.{Simple.Simple, Sort.Sort, FieldList.{FieldList, TheOpen.{FieldList-F, Sort-F, Variant-F}, TheFolds.{map-FieldList, map-Sort, map-Variant, ind-Sort}, TheViews.{roll-FieldList, roll-Sort}}, Variant.{Variant, roll-Variant}}
 use Rattle.lil_language.specs.declared.unit.FieldList.TheOpen as o
 use Rattle.lil_types.specs.{Types.{Table, proc, process}, declared.table.Field.Field}
@@ -14,10 +15,10 @@ use Rattle.lil_scope.specs.declared.thing.Thing.TheVariants as thing
 use Rattle.lil_shapes.specs.{ListLaws.AllFine, Pointers.lies_at}
 use Rattle.lil_forms.specs.Scopes.{fine_more}
 use Rattle.lil_check_value.specs.Looks.{type_named, not_built}
-use Rattle.lil_check_type.specs.{declared.records.Fields.Fields, Made.{Made, type_node, form_node, ordinal_node}, Simple.index_means, Records.{no_fields, field_step, tag_field, tag_means, label_step, record_form}}
-use Rattle.lil_check_type.specs.Sorts.{index_step, array_form, array_step, array_means, with_wait, pointer_form, target_so_far, waiting_means, pointer_means, Sense, Part, Cased, FieldSense, VariantSense, fields_by, else_by, named_fields, variants_by, case_fields, field_layer, variant_layer, sense, fields_sense, variant_sense, fields_rolled, sort_rolled, variant_rolled, sort_layer, sort_means}
+use Rattle.lil_check_type.specs.{declared.{records.Fields.Fields, labels.Labels.Labels}, Made.{Made, type_node, form_node, ordinal_node}, Simple.index_means, Labels.{no_labels, label_means, label_step}, Records.{no_fields, field_step, tag_field, tag_means, record_form, if_right, record_node}}
+use Rattle.lil_check_type.specs.Sorts.{index_step, array_form, array_step, array_means, with_wait, pointer_form, target_so_far, waiting_means, pointer_means, Sense, Part, Cased, FieldSense, VariantSense, fields_by, else_by, named_fields, variants_by, labelled, case_fields, field_layer, variant_layer, sense, fields_sense, variant_sense, fields_rolled, sort_rolled, variant_rolled, sort_layer, sort_means}
 use Rattle.lil_right_type.specs.{Right.{Right, IsThere, after_right, walk_right}, Types.{HasSpan, IsTold}, Found.ThingTold}
-use Rattle.lil_right_sort.specs.{Growth.{all_then, Few, grown_same, lies_stays, has_span_stays, span_lies, Kept, Declared, declared_waits}, Ranges.MadeOf, Simple.{Begun, Follows, follows, SortTold, IndexTold, sort_later, walk_keeps, type_right, form_right, named_right, ordinal_right, simple_right, index_right, set_right}}
+use Rattle.lil_right_sort.specs.{Growth.{all_then, Few, few_before, grown_same, lies_stays, has_span_stays, span_lies, Kept, Declared, declared_waits}, Ranges.{HasBase, Numbered, span_base, MadeOf}, Labels.label_right, Simple.{Begun, Follows, follows, SortTold, IndexTold, sort_later, walk_keeps, type_right, form_right, named_right, ordinal_right, simple_right, index_right, set_right}}
 use Rattle.lil_right_value.specs.Names.{Lies, find_told}
 
 reversed : {A : Type 0} (P : A → Type 0) (xs ys : List A) → AllFine P xs → AllFine P ys → AllFine P (reverse_aux xs ys)
@@ -79,18 +80,18 @@ waiting_right e begun p i =
 
 -- ---- records
 abbrev FieldsTold : Table → Fields → Type 0
-FieldsTold t fs = (fs.right ≡ true) × AllFine (λ (x : Field). lies_at t x.sort ≡ true) fs.list
+FieldsTold t fs = (fs.typed ≡ true) × (fs.right ≡ true) × AllFine (λ (x : Field). lies_at t x.sort ≡ true) fs.list
 
 abbrev PartTold : Env → Part → Type 0
 PartTold e q = Follows e q.0 (FieldsTold q.0.types q.1)
 
 fields_stay : (t u : Table) → IsTold t → Kept 0 t u → (fs : Fields) → FieldsTold t fs → FieldsTold u fs
-fields_stay t u told kept fs h = (h.0, all_then _ _ (λ (x : Field). lies_stays t u told kept x.sort) fs.list h.1)
+fields_stay t u told kept fs h = (h.0, h.1, all_then _ _ (λ (x : Field). lies_stays t u told kept x.sort) fs.list h.2)
 
 field_right : (t : Table) (o : Option ℕ) → Lies t o → (fs : Fields) (i : Ident) → FieldsTold t fs → Right (FieldsTold t) (field_step o fs i)
 unfolding field_step
 field_right t None h fs i j clear = absurd h
-field_right t (Some n) h fs i j clear = ((λ k. j.0 k && true), fine_more (λ (x : Field). lies_at t x.sort ≡ true) fs.list _ j.1 h)
+field_right t (Some n) h fs i j clear = ((λ k. j.0 k && true), (λ k. j.1 k && not (clear.0 k)), fine_more (λ (x : Field). lies_at t x.sort ≡ true) fs.list _ j.2 h)
 
 -- fields of one type
 named_fields_right : (e : Env) (is : List Ident) (sort : Env → Made × List Row) → ((f : Env) → Begun f → Right (SortTold f) (sort f)) → (q : Part) → PartTold e q → Right (PartTold e) (named_fields is sort q)
@@ -102,12 +103,15 @@ named_fields_right e is sort made q h =
     (walk_keeps (λ fs. Few m.0.types → FieldsTold m.0.types fs) (field_step m.1) (λ fs i k clear few. field_right m.0.types m.1 (j.1 few).1 fs i (k few) clear) q.1 is (λ few. (before.1 few).1.1))
     (λ fs k clear. (before.0, λ few. ((j.1 few).0, k few))))
 
--- the tag of variants
-tag_right : (e : Env) → Begun e → (fs : Fields) (i : Option Ident) (q : Qualident) → (Few e.types → FieldsTold e.types fs) → Right (λ w. Few e.types → FieldsTold e.types w.0) (tag_means e fs i q)
+-- the tag of variants has an order
+abbrev TagTold : Table → Fields × Option ℕ → Type 0
+TagTold t w = FieldsTold t w.0 × IsThere (HasSpan t) w.1
+
+tag_right : (e : Env) → Begun e → (fs : Fields) (i : Option Ident) (q : Qualident) → (Few e.types → FieldsTold e.types fs) → Right (λ w. Few e.types → TagTold e.types w) (tag_means e fs i q)
 tag_right e begun fs i q h =
-    after_right (λ o. Few e.types → Lies e.types o) (λ w. Few e.types → FieldsTold e.types w.0) (type_named e q) _ (named_right e begun q)
-    (λ o j. after_right (λ o. Few e.types → IsThere (HasSpan e.types) o) (λ w. Few e.types → FieldsTold e.types w.0) (ordinal_node e.types q.name.place o) _ (λ clear few. ordinal_right e.types q.name.place o clear (j few))
-    (λ n k. after_right (λ gs. Few e.types → FieldsTold e.types gs) (λ w. Few e.types → FieldsTold e.types w.0) (tag_field fs i n) _ (λ clear few. tagged i n (span_is (begun few) n (k few)) (h few) clear) (λ gs l clear. l)))
+    after_right (λ o. Few e.types → Lies e.types o) (λ w. Few e.types → TagTold e.types w) (type_named e q) _ (named_right e begun q)
+    (λ o j. after_right (λ o. Few e.types → IsThere (HasSpan e.types) o) (λ w. Few e.types → TagTold e.types w) (ordinal_node e.types q.name.place o) _ (λ clear few. ordinal_right e.types q.name.place o clear (j few))
+    (λ n k. after_right (λ gs. Few e.types → FieldsTold e.types gs) (λ w. Few e.types → TagTold e.types w) (tag_field fs i n) _ (λ clear few. tagged i n (span_is (begun few) n (k few)) (h few) clear) (λ gs l clear few. (l few, k few))))
   where
     span_is : Declared e → (o : Option ℕ) → IsThere (HasSpan e.types) o → Lies e.types o
     span_is d None h = h
@@ -116,7 +120,33 @@ tag_right e begun fs i q h =
     tagged : (i : Option Ident) (o : Option ℕ) → Lies e.types o → FieldsTold e.types fs → Right (FieldsTold e.types) (tag_field fs i o)
     tagged (Some i) o h j clear = field_right e.types o h fs i j clear
     tagged None None h j clear = absurd h
-    tagged None (Some n) h j clear = ((λ k. j.0 k && true), j.1)
+    tagged None (Some n) h j clear = ((λ k. j.0 k && true), j.1, j.2)
+
+-- ---- labels beside that tag
+all_there : {A : Type 0} (P : A → Type 0) (c : Bool) (o : Option A) → c ≡ true → IsThere P o → (c && is_some o) ≡ true
+all_there P c None is h = absurd h
+all_there P c (Some a) is h = λ k. is k && true
+
+label_there : (e : Env) → Declared e → (n : Option ℕ) → IsThere (HasSpan e.types) n → (ls : Labels) (r : Range) → ls.right ≡ true → Right (λ s. (ls.right && is_some s) ≡ true) (label_means e n ls.seen r)
+label_there e d None tag ls r is clear = absurd tag
+label_there e d (Some n) tag ls r is clear =
+    let of : HasBase e.types n = span_base e.types d.told.types n tag in
+    all_there (Numbered of.0) ls.right (label_means e (Some n) ls.seen r).0 is (label_right e d.told n of ls.seen r clear)
+
+labels_right : (e : Env) (n : Option ℕ) → (Few e.types → Declared e × IsThere (HasSpan e.types) n) → (ls : Labels) (rs : List Range) → (Few e.types → ls.right ≡ true) → Right (λ ls. Few e.types → ls.right ≡ true) (walk (label_step e n) ls rs)
+labels_right e n begun ls rs h = walk_keeps (λ (ls : Labels). Few e.types → ls.right ≡ true) (label_step e n) step ls rs h
+  where
+    step : (ls : Labels) (r : Range) → (Few e.types → ls.right ≡ true) → Right (λ ls. Few e.types → ls.right ≡ true) (label_step e n ls r)
+    step ls r h = after_right (λ s. Few e.types → (ls.right && is_some s) ≡ true) (λ ls. Few e.types → ls.right ≡ true) (label_means e n ls.seen r) _
+        (λ clear few. let d = begun few in label_there e d.0 n d.1 ls r (h few) clear) (λ s j clear. j)
+
+-- fields of variants and their labels, beside the tag
+abbrev CasedTold : Env → Option ℕ → Cased → Type 0
+CasedTold e n c = Follows e c.0.0 (FieldsTold c.0.0.types c.0.1 × (c.1.right ≡ true) × IsThere (HasSpan c.0.0.types) n)
+
+span_stays : (t u : Table) → IsTold t → Kept 0 t u → (n : Option ℕ) → IsThere (HasSpan t) n → IsThere (HasSpan u) n
+span_stays t u told kept None h = h
+span_stays t u told kept (Some n) h = has_span_stays t u told kept n h
 
 -- ---- what each form means
 abbrev SenseRight : Sense → Type 0
@@ -126,13 +156,13 @@ abbrev FieldRight : FieldSense → Type 0
 FieldRight f = (e : Env) (q : Part) → PartTold e q → Right (PartTold e) (f q)
 
 abbrev VariantRight : VariantSense → Type 0
-VariantRight v = (e : Env) (n : Option ℕ) (c : Cased) → PartTold e c.0 → Right (λ (c : Cased). PartTold e c.0) (v n c)
+VariantRight v = (e : Env) (n : Option ℕ) (c : Cased) → CasedTold e n c → Right (CasedTold e n) (v n c)
 
 fields_right : (fs : List FieldSense) → AllFine FieldRight fs → FieldRight (fields_by fs)
 fields_right fs all e q h = walk_right (PartTold e) FieldRight (λ q f. f q) (λ q f h right. right e q h) q fs h all
 
-variants_right : (vs : List VariantSense) → AllFine VariantRight vs → (e : Env) (n : Option ℕ) (q : Part) → PartTold e q → Right (λ (c : Cased). PartTold e c.0) (variants_by vs n q)
-variants_right vs all e n q h = walk_right (λ (c : Cased). PartTold e c.0) VariantRight (λ c v. v n c) (λ c v h right. right e n c h) (q, []) vs h all
+variants_right : (vs : List VariantSense) → AllFine VariantRight vs → (e : Env) (n : Option ℕ) (q : Part) → CasedTold e n (q, no_labels) → Right (CasedTold e n) (variants_by vs n q)
+variants_right vs all e n q h = walk_right (CasedTold e n) VariantRight (λ c v. v n c) (λ c v h right. right e n c h) (q, no_labels) vs h all
 
 -- ---- trees, each with its proof
 abbrev Fielded : Type 0
@@ -161,8 +191,11 @@ fields_meant = map-FieldList FieldList Sort Variant FieldSense Sense VariantSens
 
 case_right : (e : Env) (i : Option Ident) (n : Qualident) (vs : List VariantSense) (others : Part → Part × List Row) → AllFine VariantRight vs → FieldRight others → (q : Part) → PartTold e q → Right (PartTold e) (case_fields i n (variants_by vs) others q)
 case_right e i n vs others all other q h =
-    after_right (λ w. Few q.0.types → FieldsTold q.0.types w.0) (PartTold e) (tag_means q.0 q.1 i n) _ (tag_right q.0 (λ few. (h.1 few).0) q.1 i n (λ few. (h.1 few).1))
-    (λ w j. after_right (λ (c : Cased). PartTold e c.0) (PartTold e) (variants_by vs w.1 (q.0, w.0)) (λ c. others c.0) (variants_right vs all e w.1 (q.0, w.0) (h.0, λ few. ((h.1 few).0, j few))) (λ c. other e c.0))
+    after_right (λ w. Few q.0.types → TagTold q.0.types w) (PartTold e) (tag_means q.0 q.1 i n) _ (tag_right q.0 (λ few. (h.1 few).0) q.1 i n (λ few. (h.1 few).1))
+    (λ w j. after_right (CasedTold e w.1) (PartTold e) (variants_by vs w.1 (q.0, w.0)) (λ c. others (labelled c)) (variants_right vs all e w.1 (q.0, w.0) (h.0, λ few. ((h.1 few).0, ((j few).0, refl, (j few).1)))) (λ c k. other e (labelled c) (part w.1 c k)))
+  where
+    part : (n : Option ℕ) (c : Cased) → CasedTold e n c → PartTold e (labelled c)
+    part n c k = (k.0, λ few. let all = (k.1 few).1 in ((k.1 few).0, (all.0.0, (λ i. all.0.1 i && all.1 i), all.0.2)))
 
 field_layer_right : (y : FieldList-F Fielded Sorted Varied) → FieldRight (field_layer (fields_meant (bare_fields y)))
 field_layer_right (o.Fields is s) e q h = named_fields_right e is (sense s.0).means s.1 q h
@@ -178,8 +211,14 @@ variant_meant = map-Variant FieldList Sort Variant FieldSense Sense VariantSense
 
 variant_layer_right : (y : Variant-F Fielded Sorted Varied) → VariantRight (variant_layer (variant_meant (bare_variant y)))
 variant_layer_right y e n c h =
-    after_right (λ us. Unit {0}) (λ (c : Cased). PartTold e c.0) (walk (label_step c.0.0 n) c.1 y.labels) _ (λ clear. tt)
-    (λ us any. after_right (PartTold e) (λ (c : Cased). PartTold e c.0) (fields_by (map fields_sense (map (λ x. x.0) y.fields)) c.0) _ (fields_right (map fields_sense (map (λ x. x.0) y.fields)) (each_fielded y.fields) e c.0 h) (λ q j clear. j))
+    after_right (λ ls. Few c.0.0.types → ls.right ≡ true) (CasedTold e n) (walk (label_step c.0.0 n) c.1 y.labels) _
+    (labels_right c.0.0 n (λ few. ((h.1 few).0, (h.1 few).1.2)) c.1 y.labels (λ few. (h.1 few).1.1))
+    (λ ls right. after_right (PartTold c.0.0) (CasedTold e n) (fields_by (map fields_sense (map (λ x. x.0) y.fields)) c.0) _
+    (fields_right (map fields_sense (map (λ x. x.0) y.fields)) (each_fielded y.fields) c.0.0 c.0 (grown_same c.0.0.types, λ few. ((h.1 few).0, (h.1 few).1.0)))
+    (λ q j clear. follows e c.0.0 q.0 (Before ls) _ _ (h.0, λ few. ((h.1 few).0, (right few, (h.1 few).1.2))) j (λ told kept before now. (now, before.0, span_stays c.0.0.types q.0.types told kept n before.1))))
+  where
+    Before : Labels → Type 0
+    Before ls = (ls.right ≡ true) × IsThere (HasSpan c.0.0.types) n
 
 -- ---- types
 abbrev bare : Sort-F Fielded Sorted Varied → Sort-F FieldList Sort Variant
@@ -201,13 +240,14 @@ array_right e begun p xs element right =
     (λ s h. after_right (SortTold s.0) (SortTold e) (element s.0) _ (right s.0 (λ few. (h.1 few).0))
     (λ m j. arrays_right e p (reverse s.1) m (follows e s.0 m.0 _ _ _ h j (λ told kept before now. (now, reversed (λ o. IsThere (HasSpan m.0.types) o) s.1 [] (spans_stay s.0.types m.0.types told kept s.1 before) tt)))))
 
-record_right : (e : Env) → Begun e → (p : Place) (fs : List FieldSense) → AllFine FieldRight fs → Right (SortTold e) (after (fields_by fs (e, no_fields)) (λ q. form_node q.0 p (record_form q.1)))
+record_right : (e : Env) → Begun e → (p : Place) (fs : List FieldSense) → AllFine FieldRight fs → Right (SortTold e) (after (fields_by fs (e, no_fields)) (λ q. record_node q.0 p q.1))
 record_right e begun p fs all =
-    after_right (PartTold e) (SortTold e) (fields_by fs (e, no_fields)) _ (fields_right fs all e (e, no_fields) (grown_same e.types, λ few. (begun few, (refl, tt))))
-    (λ q h clear. sort_later e q.0 _ h.0 (form_right q.0 (λ few. (h.1 few).0) p (record_form q.1) (λ few. formed q.0.types q.1 (h.1 few).1) clear))
+    after_right (PartTold e) (SortTold e) (fields_by fs (e, no_fields)) _ (fields_right fs all e (e, no_fields) (grown_same e.types, λ few. (begun few, (refl, refl, tt))))
+    (λ q h. after_right (SortTold q.0) (SortTold e) (form_node q.0 p (record_form q.1)) _ (form_right q.0 (λ few. (h.1 few).0) p (record_form q.1) (λ few. formed q.0.types q.1 (h.1 few).1))
+    (λ m j clear. sort_later e q.0 (m.0, if_right q.1.right m.1) h.0 (j.0, λ few. ((j.1 few).0, subst (λ c. Lies m.0.types (if_right c m.1)) (sym (h.1 (few_before q.0.types m.0.types j.0 few)).1.1) (j.1 few).1))))
   where
     formed : (t : Table) (fs : Fields) → FieldsTold t fs → IsThere (MadeOf t) (record_form fs)
-    formed t fs h = subst (λ c. IsThere (MadeOf t) (if c then Some (form.Record fs.list) else None)) (sym h.0) (h.1, refl)
+    formed t fs h = subst (λ c. IsThere (MadeOf t) (if c then Some (form.Record fs.list) else None)) (sym h.0) (h.2, refl)
 
 pointer_right : (e : Env) → Begun e → (p : Place) (i : Option Ident) (target : Env → Made × List Row) → ((f : Env) → Begun f → Right (SortTold f) (target f)) → Right (SortTold e) (pointer_means p i target e)
 pointer_right e begun p (Some i) target right = waiting_right e begun p i

@@ -1,5 +1,5 @@
 -- Assignments in which no test finds a fault: what is assignable to the type of a place goes there.
-use Rattle.std.proofs.Common.{◌≡◌, ℕ, ◌+◌, ◌≤◌, Bool, true, false, not, ◌||◌, List, length, slice_get, Option, Some, None, if◌then◌else◌, refl, sym, ap, subst, ◌∙◌, arith, true≢false, inl, inr}
+use Rattle.std.proofs.Common.{◌≡◌, ℕ, ◌≤◌, Bool, true, false, not, ◌||◌, List, slice_get, Option, Some, None, if◌then◌else◌, refl, sym, ap, subst, ◌∙◌, arith, true≢false, inl, inr}
 use Rattle.std.specs.Prelude.{ℤ, pos, negsuc, ◌+ℤ◌, ◌-ℤ◌, ◌&&◌, ◌==◌, nat_le, is_some}
 use Rattle.std.specs.Option.{option_map}
 use Rattle.std.proofs.lemmas.{Option.{none-some, same_Some}, Bool.Decides.nat_tests}
@@ -8,7 +8,7 @@ use Rattle.lil_types.specs.Types as types
 use Rattle.lil_types.specs.Types.{Table, integer, cardinal, char, base, is_whole, values}
 use Rattle.lil_declared.specs.declared.declared.RVar.{RVar}
 use Rattle.lil_resolved.specs.Kinds as kinds
-use Rattle.lil_resolved.specs.{Kinds.Scope, Resolved.shape_of, Sizes.place_depth, Views.{assign_is, copy_is, text_is, kind_view, expression_of, place_of}, declared.resolved.{RBase.RBase, RExpr.RExpr, RKind.RKind, RStmt.RStmt}}
+use Rattle.lil_resolved.specs.{Kinds.Scope, Resolved.shape_of, Views.{assign_is, copy_is, text_is, place_of}, declared.resolved.{RBase.RBase, RExpr.RExpr, RKind.RKind, RStmt.RStmt}}
 use Rattle.lil_resolved.specs.declared.resolved.RBase.TheVariants as b
 use Rattle.lil_shapes.specs.{BaseLaws.{same_sort, kind_base}, Bases.{base_at, kind_at, composite_at, numbers_of, characters_in, characters_at}, Pointers.lies_at}
 use Rattle.lil_scope.specs.declared.thing.Kind.{Kind}
@@ -17,7 +17,7 @@ use Rattle.lil_kinds.specs.{Forms.array_parts, Kinds.{suits, compatible, passes,
 use Rattle.lil_kinds.specs.declared.found.Form.TheVariants as form
 use Rattle.lil_forms.specs.{Places.{cell_as, cell}, Scopes.{Fits, both_left, both_right}, Soundness.{soundness, composite_there, characters_lie}, Statements.{stored, composed, assigned, located_in}, StatementSound.{StatementSound, made_sound}, Values.typed}
 use Rattle.lil_right_type.specs.{Found.{KindTold, LiesAt, GoesWith, IsLocated, IsFound}, Parts.{no_kind, array_is, has_nil_is, whole_is, or_of}, Right.{Right, IsThere, is_so}, Sound.{stored_sound, target_sound}, Typed.{Stores, either, assignable_stores}, Types.{IsTold, HasSpan, known_ordinal, span_is}}
-use Rattle.lil_check_stmt.specs.Nodes.{takes, outside, assign_tests, assign_node}
+use Rattle.lil_check_stmt.specs.Nodes.{takes, outside, assign_node}
 
 -- ---- places
 same_count : (z : ℤ) → kinds.nat_of z ≡ types.nat_of z

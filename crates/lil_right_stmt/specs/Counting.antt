@@ -1,9 +1,9 @@
 -- What stands between FOR and DO, where no test finds a fault: the variable, its first and its last value, and the step.
-use Rattle.std.proofs.Common.{◌≡◌, Bool, true, false, not, ◌||◌, ℕ, List, slice_get, Option, Some, None, if◌then◌else◌, refl, sym, ap, subst, ◌∙◌, arith, true≢false}
+use Rattle.std.proofs.Common.{◌≡◌, Bool, true, false, not, ◌||◌, List, Option, Some, None, if◌then◌else◌, refl, sym, ap, subst, ◌∙◌, arith, true≢false}
 use Rattle.std.specs.Prelude.{ℤ, pos, negsuc, ◌&&◌, ◌==◌, int_lt, is_some}
 use Rattle.std.proofs.lemmas.{Int.ints, Bool.Decides.nat_tests}
 use Rattle.lil_base.specs.{Laws.bounds, Words.{Integer, in_type, is_zero}, declared.fault.Place.Place}
-use Rattle.lil_types.specs.{Types.Table, declared.table.Span.Span}
+use Rattle.lil_types.specs.{declared.table.Span.Span}
 use Rattle.lil_resolved.specs.{Bases.own_base, Kinds.{Scope, base_of, is_ordinal}, Sound.{IsSoundVariable, IsSoundValue, IsSoundWhole, IsStep}, Views.{base_view, kind_view, expression_of, for_is}, declared.resolved.{RExpr.RExpr, RStmt.RStmt, RVariable.RVariable}}
 use Rattle.lil_shapes.specs.{BaseLaws.kind_base, Bases.kind_at, ShapeSound.word_shaped}
 use Rattle.lil_scope.specs.declared.{env.Env.Env, thing.{Kind.Kind, Variable.Variable}}
@@ -17,7 +17,8 @@ use Rattle.lil_check_value.specs.declared.names.Looked.TheVariants as l
 use Rattle.lil_right_type.specs.{Found.{IsFound, ThingTold, EnvTold}, Right.{Right, IsThere, is_so}, Sound.{value_sound, whole_sound}, Typed.{Yields, Suits, kept_if, mapped, suits_yields, stores_suits, assignable_stores}, Types.ordinal_is}
 use Rattle.lil_check_stmt.specs.Counting.{variable_by, variable_in, counted_variable, bounds_of, is_step, counted_with, is_nothing, is_other, is_plain, is_unfit, counting_with, counter_of, counter_node, start_node, limit_node, step_of, is_other_constant, is_no_step, step_node, count_of, counted}
 use Rattle.lil_right_value.specs.Names.{LookTold}
-use Rattle.lil_right_stmt.specs.Nodes.{Taken, node_right}
+use Rattle.lil_right_sort.specs.Ranges.{node_right}
+use Rattle.lil_right_stmt.specs.Nodes.{Taken}
 
 -- ---- the step
 steps : (z : ℤ) → ((not (int_lt z (pos 0)) && not (int_lt (pos 0) z)) || (int_lt z (negsuc 32767) || int_lt (pos 32767) z)) ≡ false → is_step z ≡ true

@@ -1,10 +1,11 @@
 -- Statements in which no test finds a fault are there, and sound in what lies in the variables and in the records of the WITHs around: by induction over the text.
-use Rattle.std.proofs.Common.{◌≡◌, ℕ, Bool, true, List, [], ◌∷◌, ◌++◌, map, Option, Some, None, refl, sym, subst}
+use Rattle.std.proofs.Common.{◌≡◌, Bool, true, List, [], ◌∷◌, ◌++◌, map, Option, Some, None, refl, sym, subst}
 use Rattle.lil_base.specs.{Lists.joined, declared.fault.Place.Place}
 use Rattle.lil_language.specs.declared.tree.{Expr.Expr, ForHead.ForHead, Range.Range, Arm.Arm, Guard.Guard, Stmt.{Stmt, TheOpen.{Stmt-F, Arm-F, Guard-F}}}
 use Rattle.lil_language.specs.declared.tree.Stmt.TheOpen as s
+use Rattle.lil_types.specs.declared.table.Span.{Span}
 use Rattle.lil_report.specs.Told.{Row, after, pure, walk}
-use Rattle.lil_resolved.specs.{Kinds.{Scope, OfTruth, with_held}, Resolved.{Statements, shape_of}, Sound.{IsSoundWhole, IsSoundBody}, Views.{if_is, while_is, repeat_is, loop_is, inside_is, guard_is, guarded, expression_of, place_of, statements_of}, declared.resolved.{RArm.RArm, RBase.RBase, RExpr.RExpr, RGuard.RGuard, RLabel.RLabel, RStmt.RStmt}}
+use Rattle.lil_resolved.specs.{Kinds.{Scope, OfTruth, with_held}, Resolved.{Statements, shape_of}, Sound.{IsSoundWhole, IsSoundBody}, Views.{if_is, while_is, repeat_is, loop_is, inside_is, guard_is, guarded, expression_of, place_of, statements_of}, declared.resolved.{RArm.RArm, RBase.RBase, RGuard.RGuard, RLabel.RLabel, RStmt.RStmt}}
 use Rattle.lil_resolved.specs.Views as views
 use Rattle.lil_shapes.specs.ListLaws.{AllFine}
 use Rattle.lil_scope.specs.declared.{env.Env.Env, thing.Kind.Kind}
@@ -12,13 +13,15 @@ use Rattle.lil_kinds.specs.declared.found.{Found.Found, Located.Located}
 use Rattle.lil_forms.specs.{Scopes.{Fits, fine_more, deeper}, Soundness.soundness, StatementSound.{StatementSound, AllSound, body_sound, made_sound}}
 use Rattle.lil_check_value.specs.{Looks.look, Values.means}
 use Rattle.lil_right_type.specs.{Found.{IsFound, IsLocated, EnvTold}, Right.{Right, IsThere, after_right, walk_right, IsAny}}
-use Rattle.lil_check_stmt.specs.{Nodes.{condition_node, return_node}, Labels.{high_means, label_means, label_step, labels_mean, with_label}, Counting.{step_node, step_means, count_means}}
+use Rattle.lil_check_type.specs.Labels.{label_means}
+use Rattle.lil_check_stmt.specs.{Nodes.{condition_node, return_node}, Labels.{tag_of, as_label, label_step, labels_mean, with_label}, Counting.{step_node, step_means, count_means}}
 use Rattle.lil_check_stmt.specs.Statements.{conditional, Meaning, GuardMeaning, ArmMeaning, list_means, else_means, guards_mean, no_arms, arms_step, arms_mean, condition_means, selector_means, kind_of, within, result_by, result_at, return_means, selected, with_record, statement_layer, guard_layer, arm_layer, statement_means, guard_means, arm_means, statements_mean}
 use Rattle.lil_check_stmt.specs.Induction.{meant, arm_meant, guard_meant, statement_rolled, arm_rolled, guard_rolled, bare, bare_arm, bare_guard, by_forms}
 use Rattle.lil_check_stmt.specs.Statements as statements
 use Rattle.lil_right_value.specs.{Names.look_told, Values.{means_right, variable_means_right, call_means_right}}
+use Rattle.lil_right_sort.specs.{Ranges.Numbered, Labels.label_right}
 use Rattle.lil_right_stmt.specs.{Assignments.assign_right, Counting.{IsCounter, IsCount, Starts, Ends, Steps, step_right, counted_right, counter_right, start_right, limit_right, count_right}}
-use Rattle.lil_right_stmt.specs.Nodes.{Taken, First, TypeOf, Opens, IsOpened, IsCondition, OtherSound, Selects, IsLabel, IsArm, labels_sound, exit_right, end_right, return_right, condition_right, record_right, selector_right, selected_right, one_right, range_right}
+use Rattle.lil_right_stmt.specs.Nodes.{Taken, First, TypeOf, Opens, IsOpened, IsCondition, OtherSound, Selects, IsLabel, IsArm, labels_sound, exit_right, end_right, return_right, condition_right, record_right, selector_right, selected_right, as_sound}
 
 -- ---- phrases behind a value that is there, and lists of what is there
 module _ {A B : Type 0} (P : A → Type 0) (Q : B → Type 0) where
@@ -121,18 +124,14 @@ module _ (e : Env) (ts : Scope) (fits : Fits e.types e.variables e.withs ts) (to
 
   -- ---- the labels of an arm
   module _ (kind : Kind) (s : Selects e.types kind) where
-    label_there : (before : List RLabel) (r : Range) → Right (IsThere (IsLabel s.over)) (label_means e before (Some kind) r)
-    unfolding label_means
-    label_there before r = behind_found (IsThere (IsLabel s.over)) r.low _ (λ a h. by a h r.high)
-      where
-        by : (a : Found) → IsFound (soundness fits) a → (o : Option Expr) → Right (IsThere (IsLabel s.over)) (high_means e before (Some kind) (Some a) o)
-        by a h None = one_right fits told.types before kind s a h
-        by a h (Some x) = behind_found (IsThere (IsLabel s.over)) x _ (λ d j. range_right fits told.types before kind s a d h j)
+    -- they go together with a type of that base
+    tagged : (before : List Span) (r : Range) → Right (IsThere (Numbered s.over)) (label_means e (tag_of e.types (Some kind)) before r)
+    tagged before r = subst (λ o. Right (IsThere (Numbered s.over)) (label_means e o before r)) (sym s.tag) (label_right e told s.below (s.over, s.under, s.ordinal) before r)
 
-    labels_there : (before : List RLabel) (rs : List Range) → Right (AreLabels s.over) (labels_mean e (Some kind) before rs)
+    labels_there : (before : List Span) (rs : List Range) → Right (AreLabels s.over) (labels_mean e (Some kind) before rs)
     labels_there before rs =
         walk_right (AreLabels s.over) IsAny (label_step e (Some kind))
-        (λ ls r h j. after_right (IsThere (IsLabel s.over)) (AreLabels s.over) (label_means e ls.seen (Some kind) r) _ (label_there ls.seen r) (λ o i clear. joined_right (IsLabel s.over) ls.own o h i))
+        (λ ls r h j. after_right (IsThere (Numbered s.over)) (AreLabels s.over) (label_means e (tag_of e.types (Some kind)) ls.seen r) _ (tagged ls.seen r) (λ o i clear. joined_right (IsLabel s.over) ls.own (as_label o) h (as_sound s.over o i)))
         _ rs tt (all_of IsAny rs (λ r. tt))
 
 -- ---- each form

@@ -273,11 +273,45 @@ const CHECKED: &[(&[u8], &[u8])] = &[
     (b"CONST c=NIL;", b"18: 51 NotConst"),
     (b"CONST c=1 DIV 0;", b"20: 52 ConstArith"),
     (b"TYPE t=[1..0];", b"17: 53 EmptyRange"),
+    // labels of two types are never compared by number
+    (
+        b"TYPE r=RECORD CASE c:CARDINAL OF 200..\"a\":END END;",
+        b"48: 31 Assign",
+    ),
     (b"VAR a:ARRAY CARDINAL OF CHAR;", b"16: 61 DataTooLong"),
     // data above 32,000 words
     (
         b"VAR a,b:ARRAY[0..19999] OF CARDINAL;",
         b"8: 61 DataTooLong",
+    ),
+    // a record with a fault is tested for its length, and what is built of it isn't
+    (
+        b"VAR v:ARRAY[0..9] OF RECORD a,a:ARRAY[0..1999] OF CHAR END;",
+        b"40: 21 Twice",
+    ),
+    (
+        b"TYPE r=RECORD a,a:ARRAY[0..19999] OF CHAR END;",
+        b"17: 61 DataTooLong",
+    ),
+    (
+        b"VAR u:CARDINAL;v:ARRAY[0..9] OF RECORD a:ARRAY[0..3999] OF CHAR;CASE c:CARDINAL OF n: END END;",
+        b"93: 20 Unknown",
+    ),
+    (
+        b"VAR u:CARDINAL;v:ARRAY[0..9] OF RECORD a:ARRAY[0..3999] OF CHAR;CASE c:CARDINAL OF 'a': END END;",
+        b"93: 31 Assign",
+    ),
+    (
+        b"VAR u:CARDINAL;v:ARRAY[0..9] OF RECORD a:ARRAY[0..3999] OF CHAR;CASE c:CARDINAL OF 1:|1: END END;",
+        b"96: 42 LabelTwice",
+    ),
+    (
+        b"VAR u:CARDINAL;v:ARRAY[0..9] OF RECORD a:ARRAY[0..3999] OF CHAR;CASE c:CARDINAL OF u: END END;",
+        b"93: 51 NotConst",
+    ),
+    (
+        b"VAR u:CARDINAL;v:ARRAY[0..9] OF RECORD a:ARRAY[0..3999] OF CHAR;CASE c:CARDINAL OF 2..1: END END;",
+        b"93: 53 EmptyRange",
     ),
     // the later name in the text is the second, also where it is bound first
     (b"VAR x:(a,x);", b"19: 21 Twice"),
@@ -473,6 +507,8 @@ const REFUSED: &[(&[u8], &[u8])] = &[
     (b"CASE c OF 4 .. 1: END", b"78: 53 EmptyRange"),
     (b"CASE c OF -1: END", b"78: 31 Assign"),
     (b"CASE 65535 OF -1: END", b"82: 31 Assign"),
+    (b"CASE c OF 200 .. 'a': END", b"85: 31 Assign"),
+    (b"CASE c OF 0: | 0 .. TRUE: END", b"88: 31 Assign"),
     // operators, constants, and operands that aren't evaluated
     (b"c := 1 DIV 0", b"75: 52 ConstArith"),
     (b"c := 65535 + 1", b"79: 52 ConstArith"),

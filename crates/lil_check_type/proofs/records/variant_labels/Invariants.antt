@@ -1,6 +1,6 @@
 use Rattle.std.proofs.Common.{take}
 use Rattle.lil_report.specs.Told.{Said, walk}
-use Rattle.lil_check_type.specs.Records.{label_step}
+use Rattle.lil_check_type.specs.Labels.{label_step}
 use Rattle.lil_check_type.proofs.records.variant_labels.Given as goal
 
 abbrev pub invariant-loop-one : goal.invariant-loop-one

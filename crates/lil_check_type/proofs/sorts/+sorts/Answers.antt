@@ -3,7 +3,7 @@ use Rattle.lil_check_type.proofs.Forms.{is_array_of, is_record_of, is_pointer_to
 use Rattle.lil_check_type.proofs.sorts.+sorts.Goals as goal
 
 pub list-returns-in_ok-each_list-in-Some : goal.list-returns-in_ok-each_list-in-Some
-list-returns-in_ok-each_list-in-Some t c = is_cases _ c.args.fields.now c.as_slice-in-Variants.result.now {p = c.in-Variants.field-0} c.in-Variants.others (search rules) c.in_ok-tag-in-Variants.ensures c.in_ok-each_variant-in-Variants.ensures
+list-returns-in_ok-each_list-in-Some t c = is_cases _ c.args.fields.now c.as_slice-in-Variants.result.now {p = c.in-Variants.field-0} c.in-Variants.others (search rules) c.in_ok-tag-in-Variants.ensures c.in_ok-labels-in-Variants.ensures c.end_labels.ensures
     (is_some _ c.as_slice-in-Some.result.now (search rules) c.in_ok-each_list-in-Some.ensures)
 
 pub sort-returns-in_ok-sort-in-ArrayOf : goal.sort-returns-in_ok-sort-in-ArrayOf

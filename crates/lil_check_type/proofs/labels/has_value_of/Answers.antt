@@ -1,6 +1,6 @@
 use Rattle.std.proofs.Common.{refl, sym, ◌∙◌, arith}
 use Rattle.lil_check_type.proofs.Lists.{value_at, no_value}
-use Rattle.lil_check_type.proofs.bounds.has_value_of.Goals as goal
+use Rattle.lil_check_type.proofs.labels.has_value_of.Goals as goal
 
 pub loop-u-init : goal.loop-u-init
 loop-u-init c = refl
