@@ -26,9 +26,9 @@ pub on_ok : {A E : Type 0} (P Q : A → Type 0) (r : Result A E) → ((a : A) �
 on_ok P Q (Ok a) more h = more a h
 on_ok P Q (Err e) more h = h
 
-pub is_label : (e : Env) (k : Option Kind) (ls : Labels) (of : Range) (n : Option ℕ) (seen : List Span) {o : Option Span} {more : Labels} {r s : Option Fault} → n ≡ tag_of e.types k → seen ≡ ls.seen → Said (label_means e n seen of) r o s → more ≡ with_label ls o
+pub is_label : (e : Env) (k : Option Kind) (ls : Labels) (of : Range) (n : Option ℕ) {o : Option Span} {more : Labels} {r s : Option Fault} → n ≡ tag_of e.types k → Said (label_means e n ls.seen of) r o s → more ≡ with_label ls o
     → Said (label_step e k ls of) r more s
-is_label e k ls of n seen {o = o} {r = r} {s = s} tag these h value = said_to (said_map (with_label ls) (subst (λ z. Said (label_means e (tag_of e.types k) z of) r o s) these (subst (λ n. Said (label_means e n seen of) r o s) tag h))) value
+is_label e k ls of n {o = o} {r = r} {s = s} tag h value = said_to (said_map (with_label ls) (subst (λ n. Said (label_means e n ls.seen of) r o s) tag h)) value
 
 pub is_count : (e : Env) (h : ForHead) {x : Looked} {c : Option Counter} {a b : Option Found} {from to : Option RExpr} {n : Option ℤ} {o : Option Count} {r s t u v w y : Option Fault} → x ≡ look e h.variable.name
     → Said (counter_node e h.variable.place x) r c s → Said (means e h.from) s a t → Said (start_node e.types h.becomes c a) t from u → Said (means e h.to) u b v → Said (limit_node e.types c b) v to w → Said (step_means e h.by) w n y

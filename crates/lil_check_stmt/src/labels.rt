@@ -1,10 +1,9 @@
 ghost use Rattle.std.specs.Prelude.{◌≡◌, IfOk};
 ghost use Rattle.lil_report.specs.Told.{Said};
-ghost use Rattle.lil_check_type.specs.Labels.{with_span};
 ghost use Rattle.lil_check_stmt.specs.Labels as spec;
 
 use lil_base::{Items, Memory, beside, joined};
-use lil_check_type::{label, type_below};
+use lil_check_type::{Spans, label, type_below};
 use lil_language::Range;
 use lil_report::Report;
 use lil_resolved::{RArm, RLabel};
@@ -15,14 +14,14 @@ use std::alloc::Global;
 /// The values of the labels of all arms so far, and the labels of the arm at hand, where none of them has a fault.
 #[derive(Drop)]
 pub(crate) struct Labels {
-    pub(crate) seen: Items<Span>,
+    pub(crate) seen: Spans,
     pub(crate) own: Option<Items<RLabel>>,
 }
 
 /// The arms of a CASE so far, where all have code, and the values of all their labels.
 #[derive(Drop)]
 pub(crate) struct Arms {
-    pub(crate) seen: Items<Span>,
+    pub(crate) seen: Spans,
     pub(crate) arms: Option<Items<RArm>>,
 }
 
@@ -48,21 +47,11 @@ fn as_label(of: Option<Span>) -> Option<RLabel>
     }
 }
 
-fn and_span(seen: Items<Span>, span: Option<Span>) -> Result<Items<Span>, Memory>
-    ensures { IfOk result (λ all. all ≡ with_span seen span) }
-{
-    let mut seen = seen;
-    if let Some(span) = span {
-        seen.push(span)?;
-    }
-    Ok(seen)
-}
-
 fn with_label(of: Labels, span: Option<Span>) -> Result<Labels, Memory>
     ensures { IfOk result (λ ls. ls ≡ spec.with_label of span) }
 {
     let Labels { seen, own } = of;
-    let (own, seen) = beside(own, and_span(seen, span))?;
+    let (own, seen) = beside(own, seen.with(span))?;
     let (seen, own) = beside(seen, joined(own, as_label(span)))?;
     Ok(Labels { seen, own })
 }
@@ -73,7 +62,7 @@ pub(crate) fn labels_of_arm(
     env: &Env,
     report: &mut Report,
     selector: Option<Kind>,
-    seen: Items<Span>,
+    seen: Spans,
     of: &[Range],
 ) -> Result<Labels, Memory>
     ensures { IfOk result (λ ls. Said (spec.labels_mean env.now selector seen of.now) report.old ls report.new) }
@@ -84,7 +73,7 @@ pub(crate) fn labels_of_arm(
         own: Some(Items::new(alloc)),
     };
     for one in of {
-        let span = label(alloc, env, report, tag, labels.seen.as_slice(), one)?;
+        let span = label(alloc, env, report, tag, &labels.seen, one)?;
         labels = with_label(labels, span)?;
     }
     Ok(labels)

@@ -12,6 +12,7 @@ use crate::nodes::{
     Opened, assign, condition, exit, record_of, return_alone, return_value, selector,
 };
 use lil_base::{Boxed, Items, Memory, Place, beside, joined};
+use lil_check_type::Spans;
 use lil_check_value::{boxed_expression, call, variable};
 use lil_forms::typed;
 use lil_kinds::{Found, Located, result};
@@ -535,7 +536,7 @@ fn all_arms(
     ensures same { IfOk result (λ o. env.new ≡ env.old) }
 {
     let mut out = Arms {
-        seen: Items::new(alloc),
+        seen: Spans::new(alloc),
         arms: Some(Items::new(alloc)),
     };
     for one in of {

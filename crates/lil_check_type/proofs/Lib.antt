@@ -1,3 +1,4 @@
 pub mod Lists
 pub mod Forms
 mod FieldNames
+pub mod SortedSpans

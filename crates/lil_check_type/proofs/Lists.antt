@@ -5,7 +5,7 @@ use Rattle.lil_base.specs.declared.fault.Place.{Place}
 use Rattle.lil_types.specs.{declared.table.{Span.Span, TypeForm.TypeForm}, Types.meets}
 use Rattle.lil_report.specs.{declared.report.Fault.Fault, Told.{walk, Said}, Laws.{said_value, said_after}}
 use Rattle.lil_scope.specs.declared.env.Env.{Env}
-use Rattle.lil_check_type.specs.{Made.{Made, form_node}, Labels.has_value_of, Sorts.{array_form, array_step}}
+use Rattle.lil_check_type.specs.{Made.{Made, form_node}, SortedSpans.has_value_of, Sorts.{array_form, array_step}}
 
 -- ---- values of labels
 pub value_at : (us : List Span) (s : Span) (i : ℕ) (d : Span) {b : Bool} → i < length us → has_value_of us s ≡ has_value_of (drop i us) s → meets s (get_or us i d) ≡ b

@@ -1,18 +1,14 @@
 -- Labels of a CASE, in statements and in records: which values each stands for, and their tests.
-use Rattle.std.specs.Prelude.{ℕ, Bool, true, false, ◌||◌, ◌&&◌, List, [], ◌∷◌, ◌++◌, Option, Some, None, is_some}
+use Rattle.std.specs.Prelude.{ℕ, Bool, true, false, ◌&&◌, List, [], ◌∷◌, ◌++◌, Option, Some, None, is_some}
 use Rattle.lil_base.specs.declared.fault.{Place.Place, FaultKind.TheVariants.{LabelTwice, EmptyRange}}
 use Rattle.lil_language.specs.declared.tree.{Expr.Expr, Range.Range}
-use Rattle.lil_types.specs.{declared.table.Span.Span, Types.{Table, meets}}
+use Rattle.lil_types.specs.{declared.table.Span.Span, Types.Table}
 use Rattle.lil_report.specs.Told.{Row, row, after}
 use Rattle.lil_scope.specs.declared.env.Env.{Env}
 use Rattle.lil_check_value.specs.Values.{means}
-use Rattle.lil_check_type.specs.{declared.{bounds.Bound.Bound, labels.Labels.Labels}, Nodes.node, Bounds.{bound_of, is_empty, span_between, constant_rows}}
+use Rattle.lil_check_type.specs.{declared.{bounds.Bound.Bound, labels.Labels.Labels}, Nodes.node, Bounds.{bound_of, is_empty, span_between, constant_rows}, SortedSpans.has_value_of}
 
 -- ---- the values of the labels before
-abbrev pub has_value_of : List Span → Span → Bool
-has_value_of [] s = false
-has_value_of (u ∷ us) s = meets s u || has_value_of us s
-
 abbrev pub stands_before : List Span → Option Span → Bool
 stands_before us None = false
 stands_before us (Some s) = has_value_of us s

@@ -2,6 +2,7 @@ pub mod Walks
 pub mod Made
 pub mod Nodes
 pub mod Bounds
+pub mod SortedSpans
 pub mod Labels
 pub mod Simple
 pub mod Records

@@ -4,40 +4,21 @@ ghost use Rattle.lil_check_type.specs.Nodes.{clear};
 ghost use Rattle.lil_check_type.specs.Labels as spec;
 
 use crate::bounds::{Bound, bound_of, constant_tests, is_empty, span_between};
-use lil_base::{Boxed, FaultKind, Items, Memory};
+use crate::spans::Spans;
+use lil_base::{Boxed, FaultKind, Memory};
 use lil_check_value::{boxed_expression, expression};
 use lil_language::{Expr, Range};
 use lil_report::Report;
 use lil_scope::Env;
-use lil_types::{Span, TypeId, TypeTable, meets};
+use lil_types::{Span, TypeId, TypeTable};
 use std::alloc::Global;
 
-fn has_value_of(before: &[Span], s: Span) -> bool
-    ensures { result ≡ spec.has_value_of before.now s }
-{
-    for u in before {
-        if meets(s, *u) {
-            return true;
-        }
-    }
-    false
-}
-
-fn stands_before(before: &[Span], s: Option<Span>) -> bool
+fn stands_before(before: &Spans, s: Option<Span>) -> bool
     ensures { result ≡ spec.stands_before before.now s }
 {
     match s {
-        Some(s) => has_value_of(before, s),
+        Some(s) => before.has_value_of(s),
         None => false,
-    }
-}
-
-fn add_span(before: &mut Items<Span>, s: Option<Span>) -> Result<(), Memory>
-    ensures { IfOk result (λ o. before.new ≡ spec.with_span before.old s) }
-{
-    match s {
-        Some(s) => before.push(s),
-        None => Ok(()),
     }
 }
 
@@ -47,7 +28,7 @@ fn one(
     t: &TypeTable,
     report: &mut Report,
     of: Option<TypeId>,
-    before: &[Span],
+    before: &Spans,
     a: Option<Bound>,
 ) -> Option<Span>
     ensures { Said (spec.one_node t.now of before.now a) report.old result report.new }
@@ -76,7 +57,7 @@ fn range_tests(
     t: &TypeTable,
     report: &mut Report,
     of: Option<TypeId>,
-    before: &[Span],
+    before: &Spans,
     a: Bound,
     b: Bound,
 ) -> bool
@@ -98,7 +79,7 @@ fn range(
     t: &TypeTable,
     report: &mut Report,
     of: Option<TypeId>,
-    before: &[Span],
+    before: &Spans,
     a: Option<Bound>,
     b: Option<Bound>,
 ) -> Option<Span>
@@ -121,7 +102,7 @@ fn label_rest(
     env: &Env,
     report: &mut Report,
     of: Option<TypeId>,
-    before: &[Span],
+    before: &Spans,
     a: Option<Bound>,
     high: &Option<Boxed<Expr>>,
 ) -> Result<Option<Span>, Memory>
@@ -143,7 +124,7 @@ pub fn label(
     env: &Env,
     report: &mut Report,
     of: Option<TypeId>,
-    before: &[Span],
+    before: &Spans,
     label: &Range,
 ) -> Result<Option<Span>, Memory>
     ensures { IfOk result (λ s. Said (spec.label_means env.now of before.now label.now) report.old s report.new) }
@@ -155,7 +136,7 @@ pub fn label(
 /// The labels of a record's CASE so far: their values, and whether none has a fault.
 #[derive(Drop)]
 pub struct Labels {
-    pub seen: Items<Span>,
+    pub seen: Spans,
     pub right: bool,
 }
 
@@ -164,17 +145,19 @@ impl Labels {
         ensures { result ≡ spec.no_labels }
     {
         Labels {
-            seen: Items::new(alloc),
+            seen: Spans::new(alloc),
             right: true,
         }
     }
 }
 
-fn add_values(labels: &mut Labels, span: Option<Span>) -> Result<(), Memory>
+fn add_values(alloc: Global, labels: &mut Labels, span: Option<Span>) -> Result<(), Memory>
     ensures { IfOk result (λ o. labels.new ≡ spec.with_label labels.old span) }
 {
+    let seen = std::mem::replace(&mut labels.seen, Spans::new(alloc));
+    labels.seen = seen.with(span)?;
     labels.right = labels.right && span.is_some();
-    add_span(&mut labels.seen, span)
+    Ok(())
 }
 
 /// A label more.
@@ -188,6 +171,6 @@ pub fn add_label(
 ) -> Result<(), Memory>
     ensures { IfOk result (λ o. Said (spec.label_step env.now of labels.old one.now) report.old labels.new report.new) }
 {
-    let span = label(alloc, env, report, of, labels.seen.as_slice(), one)?;
-    add_values(labels, span)
+    let span = label(alloc, env, report, of, &labels.seen, one)?;
+    add_values(alloc, labels, span)
 }

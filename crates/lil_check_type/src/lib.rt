@@ -9,6 +9,7 @@ mod records;
 mod routines;
 mod simple;
 mod sorts;
+mod spans;
 
 pub use bounds::type_below;
 pub use labels::label;
@@ -17,3 +18,4 @@ pub use named::NamedType;
 pub use records::sort_or;
 pub use routines::{Parameters, add_parameter, procedure_form, result_type};
 pub use sorts::sort;
+pub use spans::Spans;
