@@ -1,23 +1,22 @@
 -- What each form of expression, selector, designator, operation and element means, from what its parts mean.
-use Rattle.std.proofs.Common.{◌≡◌, ◌∷◌, ◌++◌, ℕ, Bool, false, List, [], Option, Some, None, Result, Ok, IfOk, pos, subst, ap, ◌∙◌, ◌≢◌, length, true, map, refl, sym}
+use Rattle.std.proofs.Common.{◌≡◌, ◌∷◌, ◌++◌, ℕ, Bool, false, List, [], Option, Some, None, Result, Ok, IfOk, subst, take, get_or, ◌+◌, ◌<◌, ◌≤◌, ap, ◌∙◌, ◌≢◌, length, true, map, refl, sym}
 use Rattle.std.proofs.lemmas.Result.{IfOk-at_ok}
+use Rattle.std.proofs.lemmas.List.{take_all}
 use Rattle.lil_base.specs.declared.{fault.Place.Place, operator.OneOp.OneOp}
 use Rattle.lil_text.specs.declared.tree.{Ident.Ident, Qualident.Qualident}
 use Rattle.lil_language.specs.declared.tree.{Expr.{Expr, out-Expr, TheOpen.{Expr-F, Selector-F, Range-F}}, Selector.Selector, Designator.{Designator, out-Designator}, Operation.{Operation, out-Operation}, Range.{Range, out-Range, roll-Range}}
 use Rattle.lil_language.specs.declared.tree.Expr.{TheFolds.{map-Expr, map-Selector, fold-roll-Expr, fold-roll-Selector, fold_out-Designator, fold_out-Operation, map-Range, fold-roll-Range}, TheViews.{roll-Expr, roll-Selector, roll-out-Expr, roll-out-Range}}
 use Rattle.lil_language.specs.declared.tree.Expr.TheVariants as v
 use Rattle.lil_language.specs.declared.tree.Selector.TheVariants as w
-use Rattle.lil_types.specs.Types.{char}
 use Rattle.lil_resolved.specs.declared.resolved.RStmt.{RStmt}
-use Rattle.lil_report.specs.{declared.report.Fault.Fault, Told.{Said, walk, after}, Laws.{said_as, said_to, said_value, said_after, said_map, walk_map}}
-use Rattle.lil_scope.specs.declared.thing.Kind.TheVariants as k
+use Rattle.lil_report.specs.{declared.report.Fault.Fault, Told.{Said, walk, after}, Laws.{said_as, said_to, said_after, said_map, said_more, walk_map}}
 use Rattle.lil_scope.specs.declared.env.Env.{Env}
 use Rattle.lil_kinds.specs.declared.found.Found.{Found}
 use Rattle.lil_call.specs.{declared.call.{Callee.Callee, Argument.Argument}, Calls.{call_node, statement_node}}
 use Rattle.lil_call.specs.declared.call.Argument.TheVariants as argument
 use Rattle.lil_check_value.specs.{declared.{designators.Reached.Reached, asked.Asked.Asked}, Designators.{root_means, field_node, index_node, follow_node, value_node, variable_node, callee_node, typed_node}, Looks.set_sort}
-use Rattle.lil_check_value.specs.Values.{step, joins, means, typed_means, variable_means, call_means, reach_means, index_means, step_means, operation_means, elements_mean, argument_in, argument_means, arguments_mean, begins, whole_node, code_node, text_node, asks, asks_at, begun_at, Sense, Way, Step, Operates, Joins, expression_layer, selector_layer, designator_layer, operation_layer, range_layer, sense, way, operates, as_argument}
-use Rattle.lil_operators.specs.{declared.{operations.Chained.Chained, sets.Elements.Elements}, Operations.{constant_found, one_node, begun, two_node, chain_found, set_node, joined_one, joined_range, no_elements}}
+use Rattle.lil_check_value.specs.Values.{step, joins, means, typed_means, variable_means, call_means, reach_means, index_means, step_means, operation_means, joins_mean, elements_mean, argument_in, argument_means, arguments_mean, begins, whole_node, code_node, text_node, asks, asks_at, begun_at, Sense, Way, Step, Operates, Joins, expression_layer, selector_layer, designator_layer, operation_layer, range_layer, sense, way, operates, as_argument}
+use Rattle.lil_operators.specs.{declared.{operations.Chained.Chained, sets.Gathered.Gathered}, Operations.{Elements, one_node, begun, two_node, chain_found, set_node, joined_one, joined_range, no_elements, all_gathered, gathered_one, gathered_range, gathered_set}, Gathering.{Gathers, gathers, one_gathered, range_gathered, is_gathered}}
 use Rattle.lil_language.specs.declared.tree.Expr.TheOpen as o
 use Rattle.lil_check_value.specs.Values as s
 
@@ -185,16 +184,28 @@ module _ (e : Env) {r : Option Fault} where
   is_operated p x a {b = b} {i = i} {s = s} {t = t} held h g = said_as (operation_is e p a x) (said_after _ _ (IfOk-at_ok (λ i. Said (means e (out-Operation x).operand) r i s) held.1 h)
       (subst (λ a. Said (two_node e.types p (out-Operation x).operator (out-Operation x).place a i) s b t) held.0 g))
 
-  pub is_alone : {E : Type 0} (x : Range) (n : Option ℕ) (all : Option Elements) {kept more : Option Elements} {found : Result (Option Found) E} {a : Option Found} {s : Option Fault} → (out-Range x).high ≡ None → (kept ≡ all) × (found ≡ Ok a)
-      → IfOk found (λ a. Said (means e (out-Range x).low) r a s) → more ≡ joined_one e.types n kept a → Said (joins e x n all) r more s
-  is_alone x n all {a = a} {s = s} is held h m = said_as (alone_is e x n all is)
-      (said_to (said_map (joined_one e.types n all) (IfOk-at_ok (λ a. Said (means e (out-Range x).low) r a s) held.1 h)) (m ∙ ap (λ all. joined_one e.types n all a) held.0))
+  pub is_alone : {E : Type 0} (x : Range) (n : Option ℕ) (es : Option Elements) {g kept more : Option Gathered} {found : Result (Option Found) E} {a : Option Found} {s : Option Fault} → g ≡ all_gathered e.types n es → (out-Range x).high ≡ None → (kept ≡ g) × (found ≡ Ok a)
+      → IfOk found (λ a. Said (means e (out-Range x).low) r a s) → more ≡ gathered_one e.types n kept a → Gathers e.types n (joins e x n es) r more s
+  is_alone x n es {a = a} {s = s} known is held h m = gathers e.types n
+      (said_as (alone_is e x n es is) (said_map (joined_one e.types n es) (IfOk-at_ok (λ a. Said (means e (out-Range x).low) r a s) held.1 h)))
+      (m ∙ (ap (λ g. gathered_one e.types n g a) (held.0 ∙ known) ∙ sym (one_gathered e.types n es a)))
 
-  pub is_range : {E : Type 0} (x : Range) (high : Expr) (n : Option ℕ) (all : Option Elements) (s : Option Fault) {kept more : Option Elements} {both : Option Elements × Option Found} {low_found high_found : Result (Option Found) E} {a b : Option Found} {t : Option Fault}
-      → (out-Range x).high ≡ Some high → (kept ≡ all) × (low_found ≡ Ok a) → IfOk low_found (λ a. Said (means e (out-Range x).low) r a s) → (both ≡ (kept, a)) × (high_found ≡ Ok b) → IfOk high_found (λ b. Said (means e high) s b t)
-      → more ≡ joined_range e.types n both.0 both.1 b → Said (joins e x n all) r more t
-  is_range x high n all s {a = a} {b = b} {t = t} is held h held' g m = said_as (range_is e x high n all is) (said_after _ _ (IfOk-at_ok (λ a. Said (means e (out-Range x).low) r a s) held.1 h)
-      (said_to (said_map (joined_range e.types n all a) (IfOk-at_ok (λ b. Said (means e high) s b t) held'.1 g)) ((m ∙ ap (λ both. joined_range e.types n both.0 both.1 b) held'.0) ∙ ap (λ all. joined_range e.types n all a b) held.0)))
+  pub is_range : {E : Type 0} (x : Range) (high : Expr) (n : Option ℕ) (es : Option Elements) (s : Option Fault) {g kept more : Option Gathered} {both : Option Gathered × Option Found} {low_found high_found : Result (Option Found) E} {a b : Option Found} {t : Option Fault}
+      → g ≡ all_gathered e.types n es → (out-Range x).high ≡ Some high → (kept ≡ g) × (low_found ≡ Ok a) → IfOk low_found (λ a. Said (means e (out-Range x).low) r a s) → (both ≡ (kept, a)) × (high_found ≡ Ok b)
+      → IfOk high_found (λ b. Said (means e high) s b t) → more ≡ gathered_range e.types n both.0 both.1 b → Gathers e.types n (joins e x n es) r more t
+  is_range x high n es s {a = a} {b = b} {t = t} known is held h held' l m = gathers e.types n
+      (said_as (range_is e x high n es is) (said_after _ _ (IfOk-at_ok (λ a. Said (means e (out-Range x).low) r a s) held.1 h)
+      (said_map (joined_range e.types n es a) (IfOk-at_ok (λ b. Said (means e high) s b t) held'.1 l))))
+      (m ∙ (ap (λ both. gathered_range e.types n both.0 both.1 b) held'.0 ∙ (ap (λ g. gathered_range e.types n g a b) (held.0 ∙ known) ∙ sym (range_gathered e.types n es a b))))
+
+  pub is_gathered_more : (n : Option ℕ) (xs : List Range) (i : ℕ) (x : Range) {t u : Option Fault} {g more : Option Gathered} → i < length xs → x ≡ get_or xs i x → Gathers e.types n (walk (joins_mean e n) (Some no_elements) (take i xs)) r g t
+      → ((es : Option Elements) → g ≡ all_gathered e.types n es → Gathers e.types n (joins e x n es) t more u) → Gathers e.types n (walk (joins_mean e n) (Some no_elements) (take (i + 1) xs)) r more u
+  is_gathered_more n xs i x lt is all one =
+      let next = one (walk (joins_mean e n) (Some no_elements) (take i xs)).0 all.0 in
+      gathers e.types n (said_more (joins_mean e n) (Some no_elements) xs i x lt is all.1 next.1) next.0
+
+  pub is_gathered_all : (n : Option ℕ) (xs : List Range) (i : ℕ) {t : Option Fault} {g : Option Gathered} → length xs ≤ i → Gathers e.types n (walk (joins_mean e n) (Some no_elements) (take i xs)) r g t → Gathers e.types n (elements_mean e n xs) r g t
+  is_gathered_all n xs i {t = t} {g = g} le = subst (λ xs. Gathers e.types n (walk (joins_mean e n) (Some no_elements) xs) r g t) (take_all i xs le)
 
   -- ---- arguments
   pub is_typed : {of : Expr} {p : Place} (d : Designator) {a : Option Reached} {b : Argument} {s t : Option Fault} → of ≡ v.Desig p d → Said (reach_means e p d) r a s → Said (typed_node p a) s b t → Said (typed_means e of) r b t
@@ -221,9 +232,10 @@ module _ (e : Env) {r : Option Fault} where
     pub is_chars : {p : Place} {text : List ℕ} {a : Option Found} {s : Option Fault} → of ≡ v.Chars p text → Said (text_node p text) r a s → Said (means e of) r a s
     is_chars {p = p} {text = text} is h = said_as (ap (means e) is ∙ chars_is e p text) h
 
-    pub is_set : {p : Place} {q : Option Qualident} (xs : List Range) {t : Option ℕ} {es : Option Elements} {a : Option Found} {s u w' : Option Fault} → of ≡ v.SetOf p q xs
-        → Said (set_sort e q) r t s → Said (elements_mean e t xs) s es u → Said (set_node e.types p t es) u a w' → Said (means e of) r a w'
-    is_set {p = p} {q = q} xs is h g l = said_as (ap (means e) is ∙ set_is e p q xs) (said_after _ _ h (said_after _ _ g l))
+    pub is_set : {p : Place} {q : Option Qualident} (xs : List Range) {t : Option ℕ} {g : Option Gathered} {a : Option Found} {s u w' : Option Fault} → of ≡ v.SetOf p q xs
+        → Said (set_sort e q) r t s → Gathers e.types t (elements_mean e t xs) s g u → Said (gathered_set e.types p t g) u a w' → Said (means e of) r a w'
+    is_set {p = p} {q = q} xs {t = t} {a = a} {u = u} {w' = w'} is h all l = said_as (ap (means e) is ∙ set_is e p q xs) (said_after _ _ h (said_after _ _ all.1
+        (is_gathered e.types p t (elements_mean e t xs).0 (subst (λ g. Said (gathered_set e.types p t g) u a w') all.0 l))))
 
     pub is_desig : {p : Place} (d : Designator) {o : Option Reached} {a : Option Found} {s t : Option Fault} → of ≡ v.Desig p d → Said (reach_means e p d) r o s → Said (value_node e.texts o) s a t → Said (means e of) r a t
     is_desig {p = p} d is h g = said_as (ap (means e) is ∙ desig_is e p d) (said_after _ _ h g)

@@ -13,9 +13,9 @@ use Rattle.lil_shapes.specs.ListLaws.{AllFine}
 use Rattle.lil_forms.specs.Scopes.{fine_more}
 use Rattle.lil_call.specs.{declared.call.{Callee.Callee, Argument.Argument}, Calls.{call_node, statement_node}}
 use Rattle.lil_call.specs.declared.call.Argument.TheVariants as argument
-use Rattle.lil_operators.specs.{declared.{operations.Chained.Chained, sets.Elements.Elements}, Operations.{Meaning, one_node, begun, two_node, chain_found, no_elements, joined_one, joined_range, set_node}}
+use Rattle.lil_operators.specs.{declared.operations.Chained.Chained, Operations.{Elements, Meaning, one_node, begun, two_node, chain_found, no_elements, joined_one, joined_range, set_node}}
 use Rattle.lil_check_value.specs.{declared.{designators.Reached.Reached, asked.Asked.Asked}, Designators.{root_means, field_node, index_node, follow_node, value_node, variable_node, callee_node, typed_node}, Looks.set_sort}
-use Rattle.lil_check_value.specs.Values.{Sense, Way, Step, Operates, Joins, asks, asks_at, as_argument, argument_by, argument_step, given, begun_at, call_of, called, of_value, chain_means, expression_layer, index_step, selector_layer, designator_layer, operation_layer, joined, range_layer, sense, step, way, operates, joins, means, typed_means, reach_means, begins, argument_in, argument_means, arguments_mean, variable_means, call_means}
+use Rattle.lil_check_value.specs.Values.{Sense, Way, Step, Operates, Joins, asks, asks_at, as_argument, argument_by, argument_step, given, begun_at, call_of, called, of_value, chain_means, expression_layer, index_step, selector_layer, designator_layer, operation_layer, range_layer, sense, step, way, operates, joins, means, typed_means, reach_means, begins, argument_in, argument_means, arguments_mean, variable_means, call_means}
 
 -- what is true of phrases, from what is true of their values: of one without tests, and of one after another
 pub record Lifts (L : (A : Type 0) → (A → Type 0) → A × List Row → Type 0) : Type 1 where

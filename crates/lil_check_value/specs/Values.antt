@@ -15,7 +15,7 @@ use Rattle.lil_call.specs.{declared.call.{Callee.Callee, Argument.Argument}, Cal
 use Rattle.lil_call.specs.declared.call.Callee.TheVariants as callee
 use Rattle.lil_call.specs.declared.call.Argument.TheVariants as argument
 use Rattle.lil_check_value.specs.{declared.{designators.Reached.Reached, asked.Asked.Asked}, Designators.{Reaches, root_means, field_node, index_node, follow_node, value_node, variable_node, callee_node, typed_node}, Looks.set_sort}
-use Rattle.lil_operators.specs.{declared.{operations.Chained.Chained, sets.Elements.Elements}, Operations.{Meaning, constant_found, plain_found, one_node, begun, two_node, chain_found, no_elements, joined_one, joined_range, set_node}}
+use Rattle.lil_operators.specs.{declared.operations.Chained.Chained, Operations.{Elements, Meaning, constant_found, plain_found, one_node, begun, two_node, chain_found, no_elements, joined_one, joined_range, set_node}}
 use Rattle.lil_check_value.specs.declared.asked.Asked.TheVariants as asked
 
 -- An expression means a value, and something as an argument where a type's name may stand. A selector leads from what is

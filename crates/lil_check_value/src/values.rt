@@ -1,5 +1,6 @@
-ghost use Rattle.std.specs.Prelude.{◌≡◌, [], IfOk};
+ghost use Rattle.std.specs.Prelude.{◌≡◌, [], IfOk, Option};
 ghost use Rattle.lil_report.specs.Told.{Said, walk};
+ghost use Rattle.lil_operators.specs.{Operations.{Elements, all_gathered}, Gathering.Gathers};
 ghost use Rattle.lil_check_value.specs.Values as spec;
 
 use crate::asked::{Asked, asks, asks_at};
@@ -12,7 +13,7 @@ use lil_call::{Argument, called, stated};
 use lil_kinds::Found;
 use lil_language::{Designator, Expr, Operation, Range, Selector};
 use lil_operators::{
-    Chained, Elements, begun, chain_found, joined_one, joined_range, no_elements, one_node,
+    Chained, Gathered, begun, chain_found, joined_one, joined_range, no_elements, one_node,
     set_node, two_node,
 };
 use lil_report::Report;
@@ -154,10 +155,10 @@ fn joined(
     env: &Env,
     report: &mut Report,
     sort: Option<TypeId>,
-    of: Option<Elements>,
+    of: Option<Gathered>,
     element: &Range,
-) -> Result<Option<Elements>, Memory>
-    ensures { IfOk result (λ o. Said (spec.joins env.now element.now sort of) report.old o report.new) }
+) -> Result<Option<Gathered>, Memory>
+    ensures { IfOk result (λ o. (es : Option Elements) → of ≡ all_gathered env.now.types sort es → Gathers env.now.types sort (spec.joins env.now element.now sort es) report.old o report.new) }
 {
     let (of, low) = beside(of, expression(alloc, env, report, &element.low))?;
     match &element.high {
@@ -167,7 +168,7 @@ fn joined(
         }
         Some(high) => {
             let (before, high) = beside((of, low), expression(alloc, env, report, high.get()))?;
-            let all = joined_range(alloc, &env.types, sort, before.0, before.1, high)?;
+            let all = joined_range(&env.types, sort, before.0, before.1, high)?;
             Ok(all)
         }
     }
@@ -181,8 +182,8 @@ fn elements(
     report: &mut Report,
     sort: Option<TypeId>,
     elements: &[Range],
-) -> Result<Option<Elements>, Memory>
-    ensures { IfOk result (λ o. Said (spec.elements_mean env.now sort elements.now) report.old o report.new) }
+) -> Result<Option<Gathered>, Memory>
+    ensures { IfOk result (λ o. Gathers env.now.types sort (spec.elements_mean env.now sort elements.now) report.old o report.new) }
 {
     let none = no_elements(alloc, elements.len())?;
     let mut all = Some(none);

@@ -1,7 +1,7 @@
 -- Operators and sets over operands that have values.
 use Rattle.std.specs.Prelude.{ℕ, ◌+◌, nat_lt, Option, Some, None, if◌then◌else◌, List, ◌-◌, ◌^◌, ℤ, pos, negsuc, int_lt, is_none, Bool, true, false, not, ◌&&◌, [], ◌∷◌, ◌++◌, bit_or}
 use Rattle.lil_base.specs.{declared.{fault.{Place.Place, FaultKind.TheVariants.{Operands, ConstRange, ExprDeep, ConstArith}}, operator.{OneOp.OneOp, TwoOp.{TwoOp, TheVariants.In}}}, Lists.joined}
-use Rattle.lil_report.specs.Told.{Row, row, after, walk}
+use Rattle.lil_report.specs.{declared.report.Fault.Fault, Told.{Row, row, after, walk, tell}}
 use Rattle.lil_scope.specs.declared.thing.Kind.{Kind}
 use Rattle.lil_kinds.specs.{declared.found.{Form.Form, Found.Found, Applied.{Applied, TheVariants.{Refused, Outside, Gives}}}, Forms.{set_base, element_span}, Kinds.{compatible, number, outside}, Operators.{one, two, operand_type}}
 use Rattle.lil_kinds.specs.declared.found.Form.TheVariants as form
@@ -11,7 +11,7 @@ use Rattle.lil_resolved.specs.declared.resolved.RMember.{RMember}
 use Rattle.lil_shapes.specs.{declared.members.Members.Members, Bases.members_at}
 use Rattle.lil_forms.specs.{Values.{single_by, span_by, set_form, typed_by, typed, value_form, one_of, operated, chain_form}, declared.operators.Built.Built}
 use Rattle.lil_scope.specs.declared.thing.Kind.TheVariants as k
-use Rattle.lil_operators.specs.declared.{sets.{Operand.Operand, Bounds.Bounds, Elements.Elements, Tally.Tally}, operations.{Chained.Chained, SoFar.{SoFar, TheVariants.{First, Behind}}}}
+use Rattle.lil_operators.specs.declared.{sets.{Operand.Operand, Tally.Tally, Gathered.Gathered}, operations.{Chained.Chained, SoFar.{SoFar, TheVariants.{First, Behind}}}}
 use Rattle.lil_forms.specs.Values as forms
 
 -- ---- depths of expressions: one above 12 has no value
@@ -43,6 +43,16 @@ constant_found p kind = plain_found p form.Nothing kind
 -- ---- sets of elements that have values
 
 -- ---- elements: what is known of them, and what they are in the set
+-- an element: a value, or all from one to another
+pub record Bounds : Type 0 where
+  pub low : Operand
+  pub high : Option Operand
+
+-- the elements of a set: their forms, where all of them have one, and what is known of them
+pub record Elements : Type 0 where
+  pub forms : Option (List RMember)
+  pub bounds : List Bounds
+
 abbrev pub operand_of : Found → Operand
 operand_of a = record { kind = a.kind; first = a.first; depth = a.depth }
 
@@ -141,6 +151,37 @@ set_end types p s forms y = (set_given types p s forms y y.depth, row (is_none y
 abbrev pub elements_tally : Table → ℕ → List Bounds → Tally × List Row
 elements_tally types s bs = walk (bounds_node types s) no_tally bs
 
+-- ---- elements as they are gathered: all that the set asks of them, without the elements themselves
+-- where the set's type has a fault, an element has no tests
+abbrev pub bounds_in : Table → Option ℕ → Tally → Bounds → Tally × List Row
+bounds_in types None y b = (y, [])
+bounds_in types (Some s) y b = bounds_node types s y b
+
+abbrev pub gathered_by : Option (List RMember) → Option Fault → Tally × List Row → Gathered
+gathered_by forms r m = record { forms = forms; tally = m.0; report = tell r m.1 }
+
+abbrev pub gathered : Table → Option ℕ → Elements → Gathered
+gathered types s es = gathered_by es.forms None (walk (bounds_in types s) no_tally es.bounds)
+
+abbrev pub all_gathered : Table → Option ℕ → Option Elements → Option Gathered
+all_gathered types s None = None
+all_gathered types s (Some es) = Some (gathered types s es)
+
+-- the same, an element after the other
+abbrev pub none_gathered : Gathered
+none_gathered = gathered_by (Some []) None (no_tally, [])
+
+abbrev pub with_gathered : Table → Option ℕ → Gathered → Option RMember → Operand → Option Operand → Gathered
+with_gathered types s g form low high = gathered_by (joined g.forms form) g.report (bounds_in types s g.tally (record { low = low; high = high }))
+
+abbrev pub gathered_one : Table → Option ℕ → Option Gathered → Option Found → Option Gathered
+gathered_one types s (Some g) (Some a) = Some (with_gathered types s g (single_by types (kinds_of types s) a) (operand_of a) None)
+gathered_one types s _ _ = None
+
+abbrev pub gathered_range : Table → Option ℕ → Option Gathered → Option Found → Option Found → Option Gathered
+gathered_range types s (Some g) (Some a) (Some b) = Some (with_gathered types s g (span_by types (kinds_of types s) a b) (operand_of a) (Some (operand_of b)))
+gathered_range types s _ _ _ = None
+
 abbrev pub set_of : Table → Place → ℕ → Elements → Meaning
 set_of types p s es = after (elements_tally types s es.bounds) (set_end types p s es.forms)
 
@@ -148,6 +189,19 @@ abbrev pub set_node : Table → Place → Option ℕ → Option Elements → Mea
 set_node types p None es = (None, [])
 set_node types p (Some s) None = (None, [])
 set_node types p (Some s) (Some es) = set_of types p s es
+
+-- the same set of elements that were gathered: what their tests found is one test
+abbrev pub rows_of : Option Fault → List Row
+rows_of None = []
+rows_of (Some f) = row true f.place f.kind ∷ []
+
+abbrev pub gathered_of : Table → Place → ℕ → Gathered → Meaning
+gathered_of types p s g = after (g.tally, rows_of g.report) (set_end types p s g.forms)
+
+abbrev pub gathered_set : Table → Place → Option ℕ → Option Gathered → Meaning
+gathered_set types p None g = (None, [])
+gathered_set types p (Some s) None = (None, [])
+gathered_set types p (Some s) (Some g) = gathered_of types p s g
 
 abbrev pub is_refused : Applied → Bool
 is_refused Refused = true

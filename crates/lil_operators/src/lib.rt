@@ -9,4 +9,4 @@ mod sets;
 pub use constants::{constant_found, plain_found};
 pub use depths::raised;
 pub use operations::{Chained, begun, chain_found, one_node, two_node};
-pub use sets::{Bounds, Elements, Operand, Tally, joined_one, joined_range, no_elements, set_node};
+pub use sets::{Gathered, Operand, Tally, joined_one, joined_range, no_elements, set_node};

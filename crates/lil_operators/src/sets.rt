@@ -4,7 +4,7 @@ ghost use Rattle.lil_operators.specs.Operations as spec;
 
 use crate::constants::constant_found;
 use crate::depths::raised;
-use lil_base::{Boxed, FaultKind, Items, Memory, Place, beside, joined};
+use lil_base::{FaultKind, Items, Memory, Place, beside, joined};
 use lil_forms::{set_form, single_by, span_by};
 use lil_kinds::{Found, Standing, compatible, element_span, number, outside, set_base};
 use lil_report::Report;
@@ -22,20 +22,6 @@ pub struct Operand {
     pub depth: usize,
 }
 
-/// An element: a value, or all from one to another.
-#[derive(Drop)]
-pub struct Bounds {
-    pub low: Operand,
-    pub high: Option<Boxed<Operand>>,
-}
-
-/// The elements of a set: their forms, where all of them have one, and what is known of them.
-#[derive(Drop)]
-pub struct Elements {
-    pub forms: Option<Items<RMember>>,
-    pub bounds: Items<Bounds>,
-}
-
 /// What is known of elements together: whether all of them fit, the depth, None where it is too great, and the set's word, None
 /// where an element isn't constant.
 #[derive(Clone, Copy)]
@@ -43,6 +29,15 @@ pub struct Tally {
     pub fits: bool,
     pub depth: Option<usize>,
     pub word: Option<u16>,
+}
+
+/// The elements of a set so far: their forms, where all of them have one, what is known of them together, and the fault
+/// of their tests. That is kept apart, since it speaks only if each element has a value.
+#[derive(Drop)]
+pub struct Gathered {
+    pub forms: Option<Items<RMember>>,
+    pub tally: Tally,
+    pub report: Report,
 }
 
 fn operand_of(of: &Found) -> Operand
@@ -55,93 +50,12 @@ fn operand_of(of: &Found) -> Operand
     }
 }
 
-/// No elements yet, with room for so many.
-pub fn no_elements(alloc: Global, count: usize) -> Result<Elements, Memory>
-    ensures { IfOk result (λ x. x ≡ spec.no_elements) }
-{
-    let forms = Vec::with_capacity(alloc, count)?;
-    let bounds = Vec::with_capacity(alloc, count)?;
-    Ok(Elements {
-        forms: Some(Items::of_vec(forms)),
-        bounds: Items::of_vec(bounds),
-    })
-}
-
-fn with_element(
-    of: Elements,
-    form: Option<RMember>,
-    low: Operand,
-    high: Option<Boxed<Operand>>,
-) -> Result<Elements, Memory>
-    ensures { IfOk result (λ x. x ≡ spec.with_element of form low high) }
-{
-    let Elements { forms, bounds } = of;
-    let mut bounds = bounds;
-    let ((forms, form), _) = beside((forms, form), bounds.push(Bounds { low, high }))?;
-    let (bounds, forms) = beside(bounds, joined(forms, form))?;
-    Ok(Elements { forms, bounds })
-}
-
-fn with_range(
-    alloc: Global,
-    of: Elements,
-    form: Option<RMember>,
-    low: Operand,
-    high: Operand,
-) -> Result<Elements, Memory>
-    ensures { IfOk result (λ x. x ≡ spec.with_element of form low (Some high)) }
-{
-    let ((of, form), high) = beside((of, form), Boxed::new(alloc, high))?;
-    with_element(of, form, low, Some(high))
-}
-
 fn kinds_of(types: &TypeTable, sort: Option<TypeId>) -> Option<Members>
     ensures { result ≡ spec.kinds_of types.now sort }
 {
     match sort {
         None => None,
         Some(sort) => members_at(types, sort),
-    }
-}
-
-/// Elements of a set and a value more.
-pub fn joined_one(
-    types: &TypeTable,
-    sort: Option<TypeId>,
-    of: Option<Elements>,
-    low: Option<Found>,
-) -> Result<Option<Elements>, Memory>
-    ensures { IfOk result (λ x. x ≡ spec.joined_one types.now sort of low) }
-{
-    match of.zip(low) {
-        None => Ok(None),
-        Some((of, low)) => {
-            let a = operand_of(&low);
-            let form = single_by(types, kinds_of(types, sort), low);
-            Ok(Some(with_element(of, form, a, None)?))
-        }
-    }
-}
-
-/// Elements of a set, and all from one value to another.
-pub fn joined_range(
-    alloc: Global,
-    types: &TypeTable,
-    sort: Option<TypeId>,
-    of: Option<Elements>,
-    low: Option<Found>,
-    high: Option<Found>,
-) -> Result<Option<Elements>, Memory>
-    ensures { IfOk result (λ x. x ≡ spec.joined_range types.now sort of low high) }
-{
-    match of.zip(low.zip(high)) {
-        None => Ok(None),
-        Some((of, (low, high))) => {
-            let a = operand_of(&low);
-            let b = operand_of(&high);
-            let form = span_by(types, kinds_of(types, sort), low, high);
-            Ok(Some(with_range(alloc, of, form, a, b)?))
-        }
     }
 }
 
@@ -246,43 +160,129 @@ fn range_tally(types: &TypeTable, sort: TypeId, tally: Tally, low: Operand, high
     }
 }
 
-/// An element more.
+/// An element more: a value, or all from one to another.
 #[tactic(auto, unfolding(crate::specs::Operations::bounds_node, lil_report::specs::Told::tell))]
 fn bounds_node(
     types: &TypeTable,
     report: &mut Report,
     sort: TypeId,
     tally: Tally,
-    of: &Bounds,
+    low: Operand,
+    high: Option<Operand>,
 ) -> Tally
-    ensures { Said (spec.bounds_node types.now sort tally of.now) report.old result report.new }
+    ensures { Said (spec.bounds_node types.now sort tally (record { low = low; high = high })) report.old result report.new }
 {
-    match &of.high {
+    match high {
         None => {
-            test_operand(types, report, sort, of.low);
-            alone_tally(types, sort, tally, of.low)
+            test_operand(types, report, sort, low);
+            alone_tally(types, sort, tally, low)
         }
         Some(high) => {
-            test_operand(types, report, sort, of.low);
-            test_operand(types, report, sort, *high.get());
-            range_tally(types, sort, tally, of.low, *high.get())
+            test_operand(types, report, sort, low);
+            test_operand(types, report, sort, high);
+            range_tally(types, sort, tally, low, high)
         }
     }
 }
 
-/// All elements of a set.
-fn elements_tally(types: &TypeTable, report: &mut Report, sort: TypeId, bounds: &[Bounds]) -> Tally
-    ensures { Said (spec.elements_tally types.now sort bounds.now) report.old result report.new }
+/// The same, where the set's type may have a fault.
+#[tactic(auto, unfolding(lil_report::specs::Told::tell))]
+fn bounds_in(
+    types: &TypeTable,
+    report: &mut Report,
+    sort: Option<TypeId>,
+    tally: Tally,
+    low: Operand,
+    high: Option<Operand>,
+) -> Tally
+    ensures { Said (spec.bounds_in types.now sort tally (record { low = low; high = high })) report.old result report.new }
 {
-    let mut tally = Tally {
-        fits: true,
-        depth: Some(1),
-        word: Some(0),
-    };
-    for one in bounds {
-        tally = bounds_node(types, report, sort, tally, one);
+    match sort {
+        None => tally,
+        Some(sort) => bounds_node(types, report, sort, tally, low, high),
     }
-    tally
+}
+
+/// No elements yet, with room for so many.
+#[tactic(auto, unfolding(lil_report::specs::Told::tell))]
+pub fn no_elements(alloc: Global, count: usize) -> Result<Gathered, Memory>
+    ensures { IfOk result (λ x. x ≡ spec.none_gathered) }
+{
+    let forms = Vec::with_capacity(alloc, count)?;
+    Ok(Gathered {
+        forms: Some(Items::of_vec(forms)),
+        tally: Tally {
+            fits: true,
+            depth: Some(1),
+            word: Some(0),
+        },
+        report: Report::new(),
+    })
+}
+
+fn with_element(
+    types: &TypeTable,
+    sort: Option<TypeId>,
+    of: Gathered,
+    form: Option<RMember>,
+    low: Operand,
+    high: Option<Operand>,
+) -> Result<Gathered, Memory>
+    ensures { IfOk result (λ x. x ≡ spec.with_gathered types.now sort of form low high) }
+{
+    let Gathered {
+        forms,
+        tally,
+        report,
+    } = of;
+    let (report, forms) = beside(report, joined(forms, form))?;
+    let mut report = report;
+    let tally = bounds_in(types, &mut report, sort, tally, low, high);
+    Ok(Gathered {
+        forms,
+        tally,
+        report,
+    })
+}
+
+/// Elements of a set and a value more.
+pub fn joined_one(
+    types: &TypeTable,
+    sort: Option<TypeId>,
+    of: Option<Gathered>,
+    low: Option<Found>,
+) -> Result<Option<Gathered>, Memory>
+    ensures { IfOk result (λ x. x ≡ spec.gathered_one types.now sort of low) }
+{
+    match of.zip(low) {
+        None => Ok(None),
+        Some((of, low)) => {
+            let a = operand_of(&low);
+            let form = single_by(types, kinds_of(types, sort), low);
+            Ok(Some(with_element(types, sort, of, form, a, None)?))
+        }
+    }
+}
+
+/// Elements of a set, and all from one value to another.
+pub fn joined_range(
+    types: &TypeTable,
+    sort: Option<TypeId>,
+    of: Option<Gathered>,
+    low: Option<Found>,
+    high: Option<Found>,
+) -> Result<Option<Gathered>, Memory>
+    ensures { IfOk result (λ x. x ≡ spec.gathered_range types.now sort of low high) }
+{
+    match of.zip(low.zip(high)) {
+        None => Ok(None),
+        Some((of, (low, high))) => {
+            let a = operand_of(&low);
+            let b = operand_of(&high);
+            let form = span_by(types, kinds_of(types, sort), low, high);
+            Ok(Some(with_element(types, sort, of, form, a, Some(b))?))
+        }
+    }
 }
 
 fn set_found(
@@ -333,19 +333,29 @@ fn set_end(
     }
 }
 
+/// What other tests found.
+#[tactic(auto, unfolding(lil_report::specs::Told::tell))]
+fn note_all(report: &mut Report, others: &Report)
+    ensures { report.new ≡ tell report.old (spec.rows_of others.now) }
+{
+    match others.worst() {
+        None => (),
+        Some(fault) => report.note(true, fault.place, fault.kind),
+    }
+}
+
 /// A set whose type and whose elements have values.
-#[tactic(auto, using(lil_report::specs::Laws::said_after))]
 fn set_given(
     types: &TypeTable,
     report: &mut Report,
     first: Place,
     sort: TypeId,
-    elements: Elements,
+    elements: Gathered,
 ) -> Option<Found>
-    ensures { Said (spec.set_of types.now first sort elements) report.old result report.new }
+    ensures { Said (spec.gathered_of types.now first sort elements) report.old result report.new }
 {
-    let tally = elements_tally(types, report, sort, elements.bounds.as_slice());
-    set_end(types, report, first, sort, elements.forms, tally)
+    note_all(report, &elements.report);
+    set_end(types, report, first, sort, elements.forms, elements.tally)
 }
 
 /// A set.
@@ -355,9 +365,9 @@ pub fn set_node(
     report: &mut Report,
     first: Place,
     sort: Option<TypeId>,
-    elements: Option<Elements>,
+    elements: Option<Gathered>,
 ) -> Option<Found>
-    ensures { Said (spec.set_node types.now first sort elements) report.old result report.new }
+    ensures { Said (spec.gathered_set types.now first sort elements) report.old result report.new }
 {
     match (sort, elements) {
         (Some(sort), Some(elements)) => set_given(types, report, first, sort, elements),

@@ -18,8 +18,8 @@ use Rattle.lil_resolved.specs.declared.resolved.RExpr.TheVariants as e
 use Rattle.lil_resolved.specs.declared.resolved.RMember.TheVariants as m
 use Rattle.lil_shapes.specs.{Bases.{base_at, members_at}, declared.members.Members.Members, ListLaws.AllFine}
 use Rattle.lil_forms.specs.{Properties.{Property, value_kind}, Values.{typed, single, span, single_by, span_by, set_by, set_form}}
-use Rattle.lil_operators.specs.declared.sets.{Bounds.Bounds, Elements.Elements, Operand.Operand, Tally.Tally}
-use Rattle.lil_operators.specs.Operations.{operand_of, with_element, no_elements, kinds_of, joined_one, joined_range, fits_base, operand_fits, operand_rows, span_word, is_member_number, member_number, members, with_members as with_word, deepened, no_tally, tally_by, bounds_node, set_found, set_given, set_end, elements_tally, set_node}
+use Rattle.lil_operators.specs.declared.sets.{Operand.Operand, Tally.Tally}
+use Rattle.lil_operators.specs.Operations.{Bounds, Elements, operand_of, with_element, no_elements, kinds_of, joined_one, joined_range, fits_base, operand_fits, operand_rows, span_word, is_member_number, member_number, members, with_members as with_word, deepened, no_tally, tally_by, bounds_node, set_found, set_given, set_end, elements_tally, set_node}
 use Rattle.lil_check_value.specs.Looks.{sort_node, set_sort}
 use Rattle.lil_right_type.specs.{Folds.word_set, Found.{KindTold, GoesWith, IsFound, EnvTold}, Parts.{IsSet, set_is as set_type}, Right.{Clear, Right, IsThere, clear_left, clear_right, is_so, after_right}, Typed.{Suits, kept_if, suits_yields, yields_suits}, Types.{IsTold, meant_is}}
 use Rattle.lil_right_value.specs.{Names.{Lies, named_lies}, Operators.{IsRaised, raised_is, lies_so, base_base, suits_below}}

@@ -1,7 +1,8 @@
 use Rattle.std.proofs.Common.{rules, refl, arith}
 use Rattle.lil_report.specs.Laws.{said_value, said_more, said_all}
-use Rattle.lil_check_value.specs.Values.{argument_means, step_means, joins_mean, index_means, operation_means}
-use Rattle.lil_check_value.proofs.Forms.{is_field, is_index, is_follow, is_reached, is_indexed, is_operated, is_alone, is_range, is_typed, is_valued, is_plain, is_argument, is_whole, is_code, is_chars, is_set, is_desig, is_one, is_chain, is_call}
+use Rattle.lil_operators.specs.Gathering.{gathers}
+use Rattle.lil_check_value.specs.Values.{argument_means, step_means, index_means, operation_means}
+use Rattle.lil_check_value.proofs.Forms.{is_field, is_index, is_follow, is_reached, is_indexed, is_operated, is_alone, is_range, is_gathered_more, is_gathered_all, is_typed, is_valued, is_plain, is_argument, is_whole, is_code, is_chars, is_set, is_desig, is_one, is_chain, is_call}
 use Rattle.lil_check_value.proofs.values.+expression.Goals as goal
 
 pub all_arguments-loop-one-init : goal.all_arguments-loop-one-init
@@ -25,14 +26,13 @@ pub all_selected-returns : goal.all_selected-returns
 all_selected-returns t c = said_all (step_means c.args.env.now) _ c.args.selectors.now c.loop-one.one-index (omega arith) c.loop-one.invariant
 
 pub elements-loop-one-init : goal.elements-loop-one-init
-elements-loop-one-init t c = said_value (search rules)
+elements-loop-one-init t c = gathers c.args.env.now.types c.args.sort (said_value refl) (search rules)
 
 pub elements-loop-one-preserved : goal.elements-loop-one-preserved
-elements-loop-one-preserved t c = said_more (joins_mean c.args.env.now c.args.sort) _ c.args.elements.now c.loop-one.one-index c.one-item.result c.loop-one-test.true (search rules) c.loop-one.invariant
-    (c.in_ok-all.ensures)
+elements-loop-one-preserved t c = is_gathered_more c.args.env.now c.args.sort c.args.elements.now c.loop-one.one-index c.one-item.result c.loop-one-test.true (search rules) c.loop-one.invariant c.in_ok-all.ensures
 
 pub elements-returns : goal.elements-returns
-elements-returns t c = said_all (joins_mean c.args.env.now c.args.sort) _ c.args.elements.now c.loop-one.one-index (omega arith) c.loop-one.invariant
+elements-returns t c = is_gathered_all c.args.env.now c.args.sort c.args.elements.now c.loop-one.one-index (omega arith) c.loop-one.invariant
 
 pub indexed-loop-one-init : goal.indexed-loop-one-init
 indexed-loop-one-init t c = said_value refl
@@ -82,10 +82,10 @@ pub expression-returns-in_ok-value-in-Chain : goal.expression-returns-in_ok-valu
 expression-returns-in_ok-value-in-Chain t c = is_chain c.args.env.now c.get-in-Chain.result.now c.as_slice-in-Chain.result.now (search rules) c.in_ok-a-in-Chain.ensures c.begun-begin.ensures c.in_ok-chain-in-Chain.ensures c.in_ok-value-in-Chain.ensures
 
 pub joined-returns-in_ok-all-in-None : goal.joined-returns-in_ok-all-in-None
-joined-returns-in_ok-all-in-None t c = is_alone c.args.env.now c.args.element.now c.args.sort c.args.of c.in-None.is c.in_ok-of.ensures.ok c.expression.ensures c.in_ok-all-in-None.ensures
+joined-returns-in_ok-all-in-None t c = λ es known. is_alone c.args.env.now c.args.element.now c.args.sort es known c.in-None.is c.in_ok-of.ensures.ok c.expression.ensures c.in_ok-all-in-None.ensures
 
 pub joined-returns-in_ok-all-in-Some : goal.joined-returns-in_ok-all-in-Some
-joined-returns-in_ok-all-in-Some t c = is_range c.args.env.now c.args.element.now c.get.result.now c.args.sort c.args.of c.expression.new.report (search rules) c.in_ok-of.ensures.ok c.expression.ensures c.in_ok-before-in-Some.ensures.ok c.expression-in-Some.ensures c.in_ok-all-in-Some.ensures
+joined-returns-in_ok-all-in-Some t c = λ es known. is_range c.args.env.now c.args.element.now c.get.result.now c.args.sort es c.expression.new.report known (search rules) c.in_ok-of.ensures.ok c.expression.ensures c.in_ok-before-in-Some.ensures.ok c.expression-in-Some.ensures c.in_ok-all-in-Some.ensures
 
 pub reached-returns : goal.reached-returns
 reached-returns t c = is_reached c.args.env.now c.args.first c.args.of.now c.as_slice.result.now c.as_slice.ensures c.in_ok-begin.ensures c.in_ok-found.ensures
